@@ -1,0 +1,4 @@
+pub mod formers
+pub mod Signs
+pub mod Number
+pub mod SignAndMagnitude

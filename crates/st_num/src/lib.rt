@@ -1,0 +1,28 @@
+//! The base values of the language: numbers, names, places in a text, signs, rule ids and lists.
+//!
+//! The one idea: what contracts speak of is plain data. A `Row` is seen as the list of its elements,
+//! a `Boxed` as its value and a `Num` as a whole number, so that two trees are equal where their
+//! parts are, wherever they lie in memory.
+//!
+//! Read `row` and `num` first, with `specs/Number.antt`. The rules are in `docs/language.md`
+//! (signs, ids) and `docs/semantics.md` (numbers).
+#![tactic(auto)]
+
+mod boxed;
+mod compared;
+mod dim;
+mod mark;
+mod memory;
+mod num;
+mod row;
+mod rule;
+mod span;
+
+pub use boxed::Boxed;
+pub use dim::{Dim, Kind};
+pub use mark::Mark;
+pub use memory::NoMemory;
+pub use num::Num;
+pub use row::{Name, Row};
+pub use rule::RuleId;
+pub use span::Span;
