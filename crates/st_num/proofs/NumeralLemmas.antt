@@ -1,5 +1,5 @@
 -- Lemmas on spellings: digits one by one, the two kinds apart, and what a reader of digits says of a text.
-use Rattle.std.proofs.Common.{◌≡◌, refl, sym, subst, ap, ◌∙◌, ℕ, zero, suc, ◌+◌, ◌*◌, ◌^◌, ◌<◌, ◌≤◌, Bool, true, false, List, [], ◌∷◌, ◌++◌, length, take, drop, get_or, codes, nat_eq, Option, Some, None, Result, Ok, Err, IsNone, IfSome, IfOk, ◌⊎◌, inl, inr, ◌↔◌, ℤ, pos, negsuc, arith}
+use Rattle.std.proofs.Common.{◌≡◌, refl, sym, subst, ap, ◌∙◌, ℕ, zero, suc, ◌+◌, ◌*◌, ◌^◌, ◌<◌, ◌≤◌, true, false, List, [], ◌∷◌, ◌++◌, length, take, drop, get_or, codes, nat_eq, Option, Some, None, Result, Ok, Err, IsNone, IfSome, IfOk, inl, inr, ◌↔◌, ℤ, pos, negsuc, arith}
 use Rattle.std.proofs.Math.Nat.{mul-le-mul_left}
 use Rattle.std.proofs.lemmas.List.{take-append-drop}
 use Rattle.std.proofs.lemmas.Result.{IfOk-at_ok}
@@ -20,7 +20,11 @@ AllDigits-at radix (c ∷ digits) zero all within = all.0
 AllDigits-at radix (c ∷ digits) (suc i) all within = AllDigits-at radix digits i all.1 (omega (arith, within))
 
 -- one more digit behind a value, which stays out of range where it was so
-pub SomeIff-digit : (value result : Option ℕ) (radix digit so_far more : ℕ) → 1 ≤ radix → more ≡ so_far * radix + digit → SomeIff value (so_far < 2 ^ 128) so_far → (IsNone value → IsNone result) → IfSome value (λ n. SomeIff result (n * radix + digit < 2 ^ 128) (n * radix + digit)) → SomeIff result (more < 2 ^ 128) more
+pub SomeIff-digit : (value result : Option ℕ) (radix digit so_far more : ℕ) → 1 ≤ radix → more ≡ so_far * radix + digit
+    → SomeIff value (so_far < 2 ^ 128) so_far
+    → (IsNone value → IsNone result)
+    → IfSome value (λ n. SomeIff result (n * radix + digit < 2 ^ 128) (n * radix + digit))
+    → SomeIff result (more < 2 ^ 128) more
 SomeIff-digit (Some n) result radix digit so_far more positive is value none some =
     subst (λ m. SomeIff result (m < 2 ^ 128) m) (ap (λ k. k * radix + digit) value.1 ∙ sym is) some
 SomeIff-digit None (Some n) radix digit so_far more positive is value none some = absurd (cc (none refl))
@@ -57,13 +61,6 @@ module _ (text digits : List ℕ) (radix : ℕ) (result : Result ℕ NumFault) (
   said : (n : ℕ) → result ≡ Ok n → IsDigitsOf radix digits n × n < 2 ^ 128
   said n is = IfOk-at_ok (λ n. IsDigitsOf radix digits n × n < 2 ^ 128) is ok
 
-  spelled_value : (r : Result ℕ NumFault) → result ≡ r → (n : ℕ) → Spells text n → n < 2 ^ 128 → result ≡ Ok n
-  spelled_value (Ok m) is n spelled fits =
-      is ∙ ap Ok ((said m is).0.1 ∙ sym ((same n).0 spelled).1)
-  spelled_value (Err Large) is n spelled fits =
-      absurd (omega (arith, (large is).1, ((same n).0 spelled).1, fits))
-  spelled_value (Err Malformed) is n spelled fits = absurd (malformed is ((same n).0 spelled).0)
-
   spelled_large : (r : Result ℕ NumFault) → result ≡ r → (n : ℕ) → Spells text n → 2 ^ 128 ≤ n → result ≡ Err Large
   spelled_large (Ok m) is n spelled above =
       absurd (omega (arith, (said m is).0.1, (said m is).1, ((same n).0 spelled).1, above))
@@ -74,12 +71,6 @@ module _ (text digits : List ℕ) (radix : ℕ) (result : Result ℕ NumFault) (
   unspelled (Ok m) is none = absurd (none m ((same m).1 (said m is).0))
   unspelled (Err Large) is none = absurd (none _ ((same _).1 ((large is).0, refl)))
   unspelled (Err Malformed) is none = is
-
-  pub reads_value : (n : ℕ) → (result ≡ Ok n) ↔ (Spells text n × n < 2 ^ 128)
-  reads_value n = (
-      λ is. ((same n).1 (said n is).0, (said n is).1),
-      λ spelled. spelled_value result refl n spelled.0 spelled.1,
-    )
 
   pub reads_large : (result ≡ Err Large) ↔ ((n : ℕ) × Spells text n × 2 ^ 128 ≤ n)
   reads_large = (

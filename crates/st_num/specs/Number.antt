@@ -35,7 +35,8 @@ remainder a b = if nat_eq (unsigned_abs b) 0 then None else in_range (int_rem a 
 
 -- the quotient, where b is not zero and nothing remains
 abbrev pub quotient : ℤ → ℤ → Option ℤ
-quotient a b = if nat_eq (unsigned_abs b) 0 then None else (if nat_eq (unsigned_abs (int_rem a b)) 0 then in_range (int_div a b) else None)
+quotient a b = if nat_eq (unsigned_abs b) 0 then None
+    else (if nat_eq (unsigned_abs (int_rem a b)) 0 then in_range (int_div a b) else None)
 
 -- the power, where the exponent is not negative; with the exponent 0 it is 1
 abbrev pub power : ℤ → ℤ → Option ℤ

@@ -8,4 +8,5 @@ IsDigitsOf radix text n = IsNumeral radix text × (n ≡ digits_value radix text
 
 -- the text spells n: by decimal digits, or by `0x` and hexadecimal digits
 abbrev pub Spells : List ℕ → ℕ → Type 0
-Spells text n = IsDigitsOf 10 text n ⊎ ((digits : List ℕ) × (text ≡ codes "0x" ++ digits) × IsDigitsOf 16 digits n)
+Spells text n = IsDigitsOf 10 text n
+    ⊎ ((digits : List ℕ) × (text ≡ codes "0x" ++ digits) × IsDigitsOf 16 digits n)

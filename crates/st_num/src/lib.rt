@@ -19,6 +19,8 @@ mod numeral;
 mod row;
 mod rule;
 mod span;
+#[cfg(test)]
+mod tests;
 
 pub use arithmetic::{add, compare, div_exact, mul, pow, rem, sub};
 pub use boxed::Boxed;

@@ -22,7 +22,8 @@ pub enum NumFault {
 /// The number that the text spells. Leading zeros are read, also after `0x`.
 pub fn read_number(text: &[u8]) -> Result<u128, NumFault>
     ensures value { (n : ℕ) → (result ≡ Ok n) ↔ (Spells text.now n × (n < 2 ^ 128)) }
-    ensures large { (result ≡ Err NumFault.Large) ↔ ((n : ℕ) × Spells text.now n × (2 ^ 128 ≤ n)) }
+    ensures large { (result ≡ Err NumFault.Large)
+        ↔ ((n : ℕ) × Spells text.now n × (2 ^ 128 ≤ n)) }
     ensures malformed { (result ≡ Err NumFault.Malformed) ↔ ((n : ℕ) → ¬ (Spells text.now n)) }
 {
     match text.strip_prefix(b"0x") {
@@ -35,7 +36,8 @@ pub fn read_number(text: &[u8]) -> Result<u128, NumFault>
 fn read_digits(digits: &[u8], radix: u32) -> Result<u128, NumFault>
     requires { (2 ≤ radix) × (radix ≤ 36) }
     ensures ok { IfOk result (λ n. IsDigitsOf radix digits.now n × (n < 2 ^ 128)) }
-    ensures large { result ≡ Err NumFault.Large → IsNumeral radix digits.now × (2 ^ 128 ≤ digits_value radix digits.now) }
+    ensures large { result ≡ Err NumFault.Large →
+        IsNumeral radix digits.now × (2 ^ 128 ≤ digits_value radix digits.now) }
     ensures malformed { result ≡ Err NumFault.Malformed → ¬ (IsNumeral radix digits.now) }
 {
     if digits.is_empty() {
@@ -54,7 +56,8 @@ fn read_digits(digits: &[u8], radix: u32) -> Result<u128, NumFault>
 /// The value with one more digit behind, where both are in range.
 fn with_digit(value: Option<u128>, digit: u32, radix: u32) -> Option<u128>
     ensures none { IsNone value → IsNone result }
-    ensures some { IfSome value (λ n. SomeIff result (n * radix + digit < 2 ^ 128) (n * radix + digit)) }
+    ensures some { IfSome value (λ n.
+        SomeIff result (n * radix + digit < 2 ^ 128) (n * radix + digit)) }
 {
     value?.checked_mul(u128::from(radix))?.checked_add(u128::from(digit))
 }
@@ -64,7 +67,8 @@ fn with_digit(value: Option<u128>, digit: u32, radix: u32) -> Option<u128>
 /// Want of memory may leave the first part of the text behind what was there.
 pub fn print_number(n: Num, out: &mut Vec<u8>) -> Result<(), NoMemory>
     ensures ok { OnOk result (out.new.items ≡ out.old.items ++ signed_decimal n) }
-    ensures err { OnErr result ((k : ℕ) × (out.new.items ≡ out.old.items ++ take k (signed_decimal n))) }
+    ensures err { OnErr result ((k : ℕ)
+        × (out.new.items ≡ out.old.items ++ take k (signed_decimal n))) }
 {
     if n.is_negative() {
         out.push(b'-')?;

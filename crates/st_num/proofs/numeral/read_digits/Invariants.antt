@@ -1,4 +1,4 @@
-use Rattle.std.proofs.Common.{◌≡◌, ◌^◌, ◌<◌, take, IfSome, IsNone}
+use Rattle.std.proofs.Common.{◌^◌, ◌<◌, take}
 use Rattle.std.specs.Option.{SomeIff}
 use Rattle.std.specs.Str.Parse.{AllDigits, digits_value}
 use Rattle.st_num.proofs.numeral.read_digits.Given as goal
