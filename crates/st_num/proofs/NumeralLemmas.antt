@@ -37,6 +37,7 @@ Spells-hexadecimal text digits is n = (only, λ spelled. inr (digits, is, spelle
   where
     no_decimal : IsNumeral 10 (codes "0x" ++ digits) → ⊥
     no_decimal numeral = omega (arith, numeral.1.1.0)
+
     only : Spells text n → IsDigitsOf 16 digits n
     only (inl spelled) = absurd (no_decimal (subst (IsNumeral 10) is spelled.0))
     only (inr spelled) = subst (λ ds. IsDigitsOf 16 ds n) (cc) spelled.2
@@ -47,6 +48,7 @@ Spells-decimal text other n = (only, λ spelled. inl spelled)
   where
     prefixed : (digits : List ℕ) → text ≡ codes "0x" ++ digits → pointwise nat_eq (take 2 text) (codes "0x") ≡ true
     prefixed digits is = ap (λ t. pointwise nat_eq (take 2 t) (codes "0x")) is
+
     only : Spells text n → IsDigitsOf 10 text n
     only (inl spelled) = spelled
     only (inr spelled) = absurd (cc (prefixed spelled.0 spelled.1))
@@ -74,9 +76,9 @@ module _ (text digits : List ℕ) (radix : ℕ) (result : Result ℕ NumFault) (
 
   pub reads_large : (result ≡ Err Large) ↔ ((n : ℕ) × Spells text n × 2 ^ 128 ≤ n)
   reads_large = (
-      λ is. (digits_value radix digits, (same _).1 ((large is).0, refl), (large is).1),
-      λ spelled. spelled_large result refl spelled.0 spelled.1 spelled.2,
-    )
+    λ is. (digits_value radix digits, (same _).1 ((large is).0, refl), (large is).1),
+    λ spelled. spelled_large result refl spelled.0 spelled.1 spelled.2,
+  )
 
   pub reads_malformed : (result ≡ Err Malformed) ↔ ((n : ℕ) → Spells text n → ⊥)
   reads_malformed = (λ is n spelled. malformed is ((same n).0 spelled).0, unspelled result refl)

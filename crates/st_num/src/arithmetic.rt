@@ -8,6 +8,7 @@ ghost use Rattle.st_num.specs.Number.{sum, difference, product, quotient, remain
 use crate::Num;
 use std::cmp::Ordering;
 
+/// The sum, where it is in range.
 pub fn add(a: Num, b: Num) -> Option<Num>
     ensures { result ≡ sum a b }
 {
@@ -23,6 +24,7 @@ pub fn add(a: Num, b: Num) -> Option<Num>
     }
 }
 
+/// The difference, where it is in range.
 pub fn sub(a: Num, b: Num) -> Option<Num>
     ensures { result ≡ difference a b }
 {
@@ -36,6 +38,7 @@ fn opposite(a: Num) -> Num
     Num::signed(!a.is_negative(), a.magnitude())
 }
 
+/// The product, where it is in range.
 pub fn mul(a: Num, b: Num) -> Option<Num>
     ensures { result ≡ product a b }
 {
@@ -64,7 +67,7 @@ pub fn rem(a: Num, b: Num) -> Option<Num>
     Some(Num::signed(a.is_negative(), a.magnitude() % b.magnitude()))
 }
 
-/// The power, by repeated squaring.
+/// The power, where it is in range, by repeated squaring.
 pub fn pow(a: Num, b: Num) -> Option<Num>
     ensures { result ≡ power a b }
 {

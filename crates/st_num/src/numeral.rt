@@ -59,7 +59,8 @@ fn with_digit(value: Option<u128>, digit: u32, radix: u32) -> Option<u128>
     ensures some { IfSome value (λ n.
         SomeIff result (n * radix + digit < 2 ^ 128) (n * radix + digit)) }
 {
-    value?.checked_mul(u128::from(radix))?.checked_add(u128::from(digit))
+    let shifted = value?.checked_mul(u128::from(radix))?;
+    shifted.checked_add(u128::from(digit))
 }
 
 /// Appends the decimal text of the number, after `-` where it is negative.

@@ -1,6 +1,8 @@
 //! Numbers at the ends of their range, and their texts.
 
-use crate::{Num, NumFault, add, compare, div_exact, mul, pow, print_number, read_number, rem, sub};
+use crate::{
+    Num, NumFault, add, compare, div_exact, mul, pow, print_number, read_number, rem, sub,
+};
 use std::cmp::Ordering;
 use std::test::Fail;
 
@@ -19,7 +21,11 @@ fn operations_have_their_exact_result_or_none(rt: HostRuntime) {
     let cases = [
         ("2^128 - 1 + 1", add(plus(largest), plus(1)), None),
         ("3 + -5", add(plus(3), minus(5)), Some(minus(2))),
-        ("0 - (2^128 - 1)", sub(plus(0), plus(largest)), Some(minus(largest))),
+        (
+            "0 - (2^128 - 1)",
+            sub(plus(0), plus(largest)),
+            Some(minus(largest)),
+        ),
         ("-1 - (2^128 - 1)", sub(minus(1), plus(largest)), None),
         ("-3 * 4", mul(minus(3), plus(4)), Some(minus(12))),
         ("2^64 * 2^64", mul(plus(half), plus(half)), None),
@@ -32,7 +38,11 @@ fn operations_have_their_exact_result_or_none(rt: HostRuntime) {
         ("0 ^ 0", pow(plus(0), plus(0)), Some(plus(1))),
         ("2 ^ 127", pow(plus(2), plus(127)), Some(plus(1 << 127))),
         ("2 ^ 128", pow(plus(2), plus(128)), None),
-        ("-1 ^ (2^128 - 1)", pow(minus(1), plus(largest)), Some(minus(1))),
+        (
+            "-1 ^ (2^128 - 1)",
+            pow(minus(1), plus(largest)),
+            Some(minus(1)),
+        ),
         ("2 ^ -1", pow(plus(2), minus(1)), None),
     ];
     for (operation, result, want) in cases {
@@ -59,7 +69,10 @@ fn numbers_are_printed_in_decimal(rt: HostRuntime) -> Result<(), Fail> {
         (plus(0), "= 0"),
         (minus(7), "= -7"),
         (plus(u128::MAX), "= 340282366920938463463374607431768211455"),
-        (minus(u128::MAX), "= -340282366920938463463374607431768211455"),
+        (
+            minus(u128::MAX),
+            "= -340282366920938463463374607431768211455",
+        ),
     ];
     for (number, want) in cases {
         let mut out = Vec::from_slice(rt.alloc(), b"= ")?;
@@ -75,7 +88,10 @@ fn numbers_are_read_from_their_spellings(rt: HostRuntime) {
         ("0", Ok(0)),
         ("007", Ok(7)),
         ("340282366920938463463374607431768211455", Ok(u128::MAX)),
-        ("340282366920938463463374607431768211456", Err(NumFault::Large)),
+        (
+            "340282366920938463463374607431768211456",
+            Err(NumFault::Large),
+        ),
         ("0xaF", Ok(175)),
         ("0xffffffffffffffffffffffffffffffff", Ok(u128::MAX)),
         ("0x100000000000000000000000000000000", Err(NumFault::Large)),
@@ -85,7 +101,10 @@ fn numbers_are_read_from_their_spellings(rt: HostRuntime) {
         ("0X1", Err(NumFault::Malformed)),
         ("-1", Err(NumFault::Malformed)),
         ("+1", Err(NumFault::Malformed)),
-        ("999999999999999999999999999999999999999a", Err(NumFault::Malformed)),
+        (
+            "999999999999999999999999999999999999999a",
+            Err(NumFault::Malformed),
+        ),
     ];
     for (text, want) in cases {
         assert_eq!(rt; read_number(text.as_bytes()), want, "{text}");

@@ -18,9 +18,9 @@ pub returns-in_default-checked_mul : goal.returns-in_default-checked_mul
 returns-in_default-checked_mul c = λ fits.
     let kept = c.loop-left.invariant in
     let turned : Turned c.if-left-eq1.done c.loop-left.square (c.loop-left.left / 2) (c.args.base ^ c.args.exponent) = elim c.if-left-eq1.branch [
-        then-left-eq1+in-Some w ↦ Turned-odd c.loop-left.done _ _ _ _ w.if-left-eq1.true kept.whole kept.positive (w.done-is ∙ w.in-Some.ensures.1)
+      | then-left-eq1+in-Some w ↦ Turned-odd c.loop-left.done _ _ _ _ w.if-left-eq1.true kept.whole kept.positive (w.done-is ∙ w.in-Some.ensures.1)
       | else-left-eq1 w ↦ Turned-even c.loop-left.done _ _ _ _ w.if-left-eq1.false kept.whole kept.positive w.done-is
-      ] in
+    ] in
     let above : 2 ^ 128 ≤ c.args.base ^ c.args.exponent = square-overflows c.if-left-eq1.done c.loop-left.square (c.loop-left.left / 2) _ (2 ^ 128) (omega arith) c.if-left-gt0.true turned.positive turned.whole (omega (arith, c.in_default-checked_mul.ensures)) in
     omega (arith, above, fits)
 
@@ -28,15 +28,15 @@ pub loop-left-preserved-then-left-gt0 : goal.loop-left-preserved-then-left-gt0
 loop-left-preserved-then-left-gt0 c =
     let kept = c.loop-left.invariant in
     let turned : Turned c.if-left-eq1.done c.loop-left.square (c.loop-left.left / 2) (c.args.base ^ c.args.exponent) = elim c.if-left-eq1.branch [
-        then-left-eq1+in-Some w ↦ Turned-odd c.loop-left.done _ _ _ _ w.if-left-eq1.true kept.whole kept.positive (w.done-is ∙ w.in-Some.ensures.1)
+      | then-left-eq1+in-Some w ↦ Turned-odd c.loop-left.done _ _ _ _ w.if-left-eq1.true kept.whole kept.positive (w.done-is ∙ w.in-Some.ensures.1)
       | else-left-eq1 w ↦ Turned-even c.loop-left.done _ _ _ _ w.if-left-eq1.false kept.whole kept.positive w.done-is
-      ] in
+    ] in
     let is : c.in-Some-checked_mul.more ≡ c.loop-left.square * c.loop-left.square = c.in-Some-checked_mul.ensures.1 in
     record {
       whole = ap (λ x. c.if-left-eq1.done * x ^ (c.loop-left.left / 2)) is ∙ turned.whole;
       positive = λ more. turned.positive (factor-positive c.loop-left.square c.loop-left.square 1 (omega arith) (omega (arith, is, more)));
       small = elim c.if-left-eq1.branch [
-          then-left-eq1+in-Some w ↦ omega (arith, w.done-is, w.in-Some.ensures.1, w.in-Some.ensures.0)
+        | then-left-eq1+in-Some w ↦ omega (arith, w.done-is, w.in-Some.ensures.1, w.in-Some.ensures.0)
         | else-left-eq1 w ↦ omega (arith, w.done-is, kept.small)
-        ];
+      ];
     }

@@ -11,8 +11,11 @@ returns-in_err-extend_from_slice-clause-err c =
     let failed = err_from_is_err_and c.from_residual-in_err-extend_from_slice.result c.from_residual-in_err-extend_from_slice.ensures.1 in
     let kept : c.extend_from_slice.new.self.items ≡ c.if-is_negative.out.items = c.in_err-extend_from_slice.ensures.items in
     rw failed.1 (elim c.if-is_negative.branch [
-        then-is_negative+in_ok-push w ↦ (1, (
+      | then-is_negative+in_ok-push w ↦ (
+        1,
+        (
             let negative : below_zero c.args.n ≡ true = cc in
-            cc (kept, take-signed_decimal c.args.n negative, w.in_ok-push.ensures.items)))
+            cc (kept, take-signed_decimal c.args.n negative, w.in_ok-push.ensures.items)),
+      )
       | else-is_negative w ↦ (0, cc (kept, append-nil c.args.out.now.items))
-      ])
+    ])
