@@ -1,4 +1,4 @@
--- Numbers: the whole numbers whose magnitude is below 2 ^ 128, and the exact results of their operations.
+-- Numbers: the whole numbers whose magnitude is below 2 ^ 128, and what their operations give.
 use Rattle.std.specs.Prelude.{ℕ, ◌^◌, ◌<◌, Bool, true, false, Option, Some, None, nat_lt, nat_eq, if◌then◌else◌, ℤ, pos, negsuc, neg_ℤ, ◌+ℤ◌, ◌-ℤ◌, ◌*ℤ◌, unsigned_abs, int_div, int_rem}
 use Rattle.std.specs.Int.{int_pow}
 
