@@ -2,3 +2,4 @@ pub mod Order
 pub mod Evaluation
 pub mod Holding
 pub mod Derivation
+pub mod Small

@@ -10,6 +10,7 @@
 mod definition;
 mod expression;
 mod order;
+mod small;
 mod tree;
 mod ty;
 mod value;
@@ -19,6 +20,7 @@ pub use definition::{
 };
 pub use expression::{IlExp, IlPrem, Iteration, ListItem, PathSeg};
 pub use order::compare;
+pub use small::{Small, SmallRule};
 pub use tree::{Child, Tree};
 pub use ty::{NumTy, Ty};
 pub use value::{Env, Value};

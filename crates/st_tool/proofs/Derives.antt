@@ -19,10 +19,10 @@ use Rattle.st_il.specs.declared.value.Value.{Value}
 use Rattle.st_il.specs.declared.value.Value.TheVariants.{Case as CaseOf}
 use Rattle.st_il.specs.Derivation.{relations, rules_of, IsRelation, Derivable, IsValid, node, done}
 use Rattle.st_il.specs.Evaluation.{HasValue, HaveValues, case}
-use Rattle.st_tool.specs.declared.small.Small.{Small}
-use Rattle.st_tool.specs.declared.small.SmallRule.{SmallRule}
+use Rattle.st_il.specs.declared.small.Small.{Small}
+use Rattle.st_il.specs.declared.small.SmallRule.{SmallRule}
 use Rattle.st_tool.specs.Outcome.{atom_term}
-use Rattle.st_tool.specs.Small.{atom_exp, rule_def, il_of}
+use Rattle.st_il.specs.Small.{atom_exp, rule_def, il_of}
 use Rattle.st_tool.specs.Step.{Gives, IsLeastOf, IsAtMost}
 use Rattle.st_tool.specs.Transcript.{Term, IsStuck, IsNext}
 use Rattle.st_tool.proofs.Atoms.{atom_name, values_cmp-atoms}

@@ -5,10 +5,11 @@ use Rattle.std.specs.Cmp.Lexicographic.{pointwise}
 use Rattle.std.proofs.lemmas.Cmp.{nat_list_eq_equiv}
 use Rattle.st_num.specs.declared.memory.NoMemory.{NoMemory}
 use Rattle.st_tool.specs.declared.answer.Answer.{Answer}
-use Rattle.st_tool.specs.declared.small.Small.{Small}
+use Rattle.st_il.specs.declared.small.Small.{Small}
 use Rattle.st_tool.specs.declared.status.Status.TheVariants.{Unbuilt}
 use Rattle.st_tool.specs.Outcome.{RunsTo, IsRunnable, IsRunText, IsSmallTerm, HasNoTerm}
-use Rattle.st_tool.specs.Small.{IsTextOf, il_of}
+use Rattle.st_il.specs.Small.{il_of}
+use Rattle.st_tool.specs.SmallText.{IsTextOf}
 use Rattle.st_tool.specs.Texts.{unbuilt_text}
 
 abbrev NoRun : List ℕ → List ℕ → List ℕ → Type 0

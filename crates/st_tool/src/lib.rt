@@ -25,7 +25,6 @@ mod words;
 pub use answer::Answer;
 use answer::answer_words;
 pub use loads::Loaded;
-pub use small::{Small, SmallRule};
 use st_num::NoMemory;
 use st_outside::{Files, Sink, write_all_of};
 pub use status::Status;

@@ -3,7 +3,7 @@ use Rattle.st_num.specs.declared.memory.NoMemory.{NoMemory}
 use Rattle.st_tool.specs.declared.answer.Answer.{Answer}
 use Rattle.st_tool.specs.declared.transcript.Ending.TheVariants.{Stuck, Fuel}
 use Rattle.st_tool.specs.Outcome.{IsRunText, atom_term, default_fuel}
-use Rattle.st_tool.specs.Small.{il_of}
+use Rattle.st_il.specs.Small.{il_of}
 use Rattle.st_tool.specs.Texts.{term_line}
 use Rattle.st_tool.specs.Transcript.{EndsBy}
 use Rattle.st_tool.proofs.Atoms.{term_line-atom}

@@ -1,6 +1,6 @@
--- Small specifications: one syntax of atoms, and one relation whose rules have no premises. What their text is, line by line, and what internal language they mean.
-use Rattle.std.specs.Prelude.{◌≡◌, ℕ, ◌≤◌, ◌≢◌, length, List, [], ◌∷◌, ◌++◌, map, codes, All, Contains}
-use Rattle.std.specs.List.{flat_map, AllPairs}
+-- Small specifications in the internal language: one syntax of atoms, and one relation whose rules have no premises.
+use Rattle.std.specs.Prelude.{◌≡◌, ℕ, ◌≤◌, ◌≢◌, length, List, [], ◌∷◌, map, codes, All, Contains}
+use Rattle.std.specs.List.{AllPairs}
 use Rattle.st_il.specs.declared.definition.Alternative.TheVariants.{Case as CaseAlternative}
 use Rattle.st_il.specs.declared.definition.Il.{Il}
 use Rattle.st_il.specs.declared.definition.IlDef.{IlDef}
@@ -8,28 +8,9 @@ use Rattle.st_il.specs.declared.definition.IlDef.TheVariants.{Syntax, Relation, 
 use Rattle.st_il.specs.declared.definition.SyntaxBody.TheVariants.{Variant}
 use Rattle.st_il.specs.declared.expression.IlExp.{IlExp}
 use Rattle.st_il.specs.declared.expression.IlExp.TheVariants.{Case}
+use Rattle.st_il.specs.declared.small.Small.{Small}
+use Rattle.st_il.specs.declared.small.SmallRule.{SmallRule}
 use Rattle.st_il.specs.declared.ty.Ty.TheVariants.{Name}
-use Rattle.st_tool.specs.declared.small.Small.{Small}
-use Rattle.st_tool.specs.declared.small.SmallRule.{SmallRule}
-
--- the line `syntax x = | A | B ..`
-abbrev pub alternative_text : List ℕ → List ℕ
-alternative_text atom = codes " | " ++ atom
-
-abbrev pub syntax_line : List ℕ → List (List ℕ) → List ℕ
-syntax_line syntax atoms = codes "syntax " ++ syntax ++ codes " =" ++ flat_map alternative_text atoms ++ codes "\n"
-
--- the line `relation R: x ~> x`
-abbrev pub relation_line : List ℕ → List ℕ → List ℕ
-relation_line relation syntax = codes "relation " ++ relation ++ codes ": " ++ syntax ++ codes " ~> " ++ syntax ++ codes "\n"
-
--- a line `rule R/n: A ~> B`
-abbrev pub rule_line : List ℕ → SmallRule → List ℕ
-rule_line relation rule = codes "rule " ++ relation ++ codes "/" ++ rule.name ++ codes ": " ++ rule.from ++ codes " ~> " ++ rule.to ++ codes "\n"
-
--- the text: both first lines, and a line for each rule
-abbrev pub text_of : Small → List ℕ
-text_of s = syntax_line s.syntax s.atoms ++ relation_line s.relation s.syntax ++ flat_map (rule_line s.relation) s.rules
 
 -- words of letters of one case
 abbrev pub IsLower : ℕ → Type 0
@@ -74,11 +55,6 @@ pub record IsSmall (s : Small) : Type 0 where
   pub few_rules : length s.rules ≤ 65533
   pub distinct_rules : AreDistinct (rule_names s.rules)
 
--- the bytes are the text of this small specification
-pub record IsTextOf (s : Small) (bytes : List ℕ) : Type 0 where
-  pub small : IsSmall s
-  pub text : bytes ≡ text_of s
-
 -- its internal language: the syntax, the relation and the rules
 abbrev pub atom_exp : List ℕ → List ℕ → IlExp
 atom_exp syntax atom = Case syntax atom []
@@ -106,8 +82,8 @@ il_of s =
       defs = syntax_def s.syntax s.atoms ∷ relation_def s.relation s.syntax ∷ map (rule_def s.relation s.syntax) s.rules;
     }
 
--- the bytes are the text of a small specification that means this
-pub record SmallText (bytes : List ℕ) (il : Il) : Type 0 where
+-- an internal language that a small specification means
+pub record IsSmallIl (il : Il) : Type 0 where
   pub source : Small
-  pub is_text : IsTextOf source bytes
+  pub small : IsSmall source
   pub means : il ≡ il_of source
