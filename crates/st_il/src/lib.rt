@@ -13,6 +13,7 @@ mod order;
 mod small;
 mod tree;
 mod ty;
+mod type_rule;
 mod value;
 
 pub use definition::{
@@ -23,4 +24,5 @@ pub use order::compare;
 pub use small::{Small, SmallRule};
 pub use tree::{Child, Tree};
 pub use ty::{NumTy, Ty};
+pub use type_rule::TypeRule;
 pub use value::{Env, Value};

@@ -18,6 +18,8 @@ mod loads;
 mod small;
 mod status;
 mod step;
+#[cfg(test)]
+mod tests;
 mod text;
 mod transcript;
 mod words;
