@@ -11,6 +11,7 @@ mod definition;
 mod expression;
 mod order;
 mod small;
+mod small_il;
 mod tree;
 mod ty;
 mod type_rule;
@@ -22,6 +23,7 @@ pub use definition::{
 pub use expression::{IlExp, IlPrem, Iteration, ListItem, PathSeg};
 pub use order::compare;
 pub use small::{Small, SmallRule};
+pub use small_il::il_of_small;
 pub use tree::{Child, Tree};
 pub use ty::{NumTy, Ty};
 pub use type_rule::TypeRule;

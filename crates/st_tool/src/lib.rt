@@ -15,7 +15,7 @@ ghost use Rattle.st_tool.specs.Outcome.{Written};
 
 mod answer;
 mod loads;
-mod small;
+mod reader;
 mod status;
 mod step;
 #[cfg(test)]
