@@ -1,3 +1,6 @@
+pub mod Height
+pub mod Value
+pub mod Order
 pub mod Evaluation
 pub mod Holding
 pub mod Derivation
