@@ -1,0 +1,3 @@
+pub mod Induction
+pub mod OrderLemmas
+pub mod OrderLaws

@@ -1,6 +1,5 @@
 -- The height of a value: 1 without parts, else 1 more than its highest part.
-use Rattle.std.specs.Prelude.{ℕ, ◌+◌, List, [], ◌∷◌, map, Some, None}
-use Rattle.std.specs.Math.{max}
+use Rattle.std.specs.Prelude.{ℕ, ◌+◌, max, List, [], ◌∷◌, map, Some, None}
 use Rattle.st_il.specs.declared.value.Value.{Value, fold-Value}
 use Rattle.st_il.specs.declared.value.Value.TheOpen.{Value-F}
 

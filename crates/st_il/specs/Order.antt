@@ -61,6 +61,10 @@ value_cmp = fold-Value Compares compare_at
 abbrev pub values_cmp : List Value → List Value → Ordering
 values_cmp = slice_cmp value_cmp
 
+-- lists of fields, likewise
+abbrev pub fields_cmp : List (List ℕ × Value) → List (List ℕ × Value) → Ordering
+fields_cmp = slice_cmp (field_cmp value_cmp)
+
 abbrev pub Less : Value → Value → Type 0
 Less a b = value_cmp a b ≡ Below
 

@@ -21,7 +21,7 @@ pub use definition::{
     Alternative, ClauseDef, FunDef, Il, IlDef, Listed, RelationDef, RuleDef, SyntaxBody, SyntaxDef,
 };
 pub use expression::{IlExp, IlPrem, Iteration, ListItem, PathSeg};
-pub use order::compare;
+pub use order::{compare, compare_values};
 pub use same::{same_fields, same_value, same_values};
 pub use tree::{Child, Tree};
 pub use ty::{NumTy, Ty};
