@@ -41,7 +41,6 @@ level-map _ _ = refl
 pub value_cmp-levels : (x y : Value) → value_cmp x y ≡ level_cmp value_cmp (out-Value x) (out-Value y)
 value_cmp-levels x y = ap (λ f. f y) (fold_out-Value Compares compare_at x) ∙ level-map (out-Value x) (out-Value y)
 
-
 pub at_levels : (x y : Value) (p q : Value-F Value) → out-Value x ≡ p → out-Value y ≡ q → value_cmp x y ≡ level_cmp value_cmp p q
 at_levels x y p q e f = value_cmp-levels x y ∙ cc
 

@@ -73,10 +73,7 @@ pub fn copy_values(alloc: Global, values: &[Value]) -> Result<Row<Value>, NoMemo
 
 /// The same fields again.
 #[cycle(copy_value)]
-pub fn copy_fields(
-    alloc: Global,
-    fields: &[(Name, Value)],
-) -> Result<Row<(Name, Value)>, NoMemory>
+pub fn copy_fields(alloc: Global, fields: &[(Name, Value)]) -> Result<Row<(Name, Value)>, NoMemory>
     ensures { IfOk result (λ copies. copies ≡ fields.now) }
 {
     let mut copies = Row::new(alloc);

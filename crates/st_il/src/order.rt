@@ -59,11 +59,11 @@ fn compare_value(a: &Value, b: &Value) -> Ordering
 }
 
 #[cycle(compare)]
-fn compare_parts(a: &[Value], b: &[Value]) -> Ordering
-    ensures { result ≡ values_cmp a.now b.now }
+fn compare_parts(parts: &[Value], others: &[Value]) -> Ordering
+    ensures { result ≡ values_cmp parts.now others.now }
 {
-    for (i, part) in a.iter().enumerate() {
-        let Some(other) = b.get(i) else {
+    for (i, part) in parts.iter().enumerate() {
+        let Some(other) = others.get(i) else {
             return Ordering::Greater;
         };
         match compare_value(part, other) {
@@ -71,15 +71,15 @@ fn compare_parts(a: &[Value], b: &[Value]) -> Ordering
             unequal => return unequal,
         }
     }
-    a.len().cmp(&b.len())
+    parts.len().cmp(&others.len())
 }
 
 #[cycle(compare)]
-fn compare_fields(a: &[(Name, Value)], b: &[(Name, Value)]) -> Ordering
-    ensures { result ≡ fields_cmp a.now b.now }
+fn compare_fields(fields: &[(Name, Value)], others: &[(Name, Value)]) -> Ordering
+    ensures { result ≡ fields_cmp fields.now others.now }
 {
-    for (i, field) in a.iter().enumerate() {
-        let Some(other) = b.get(i) else {
+    for (i, field) in fields.iter().enumerate() {
+        let Some(other) = others.get(i) else {
             return Ordering::Greater;
         };
         match field.0.cmp(&other.0) {
@@ -91,7 +91,7 @@ fn compare_fields(a: &[(Name, Value)], b: &[(Name, Value)]) -> Ordering
             unequal => return unequal,
         }
     }
-    a.len().cmp(&b.len())
+    fields.len().cmp(&others.len())
 }
 
 /// Numbers, by size.

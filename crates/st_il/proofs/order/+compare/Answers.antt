@@ -5,11 +5,11 @@ use Rattle.st_il.proofs.order.+compare.Goals as goal
 
 pub compare_parts-returns : goal.compare_parts-returns
 compare_parts-returns t c =
-    c.cmp.ensures ∙ ended value_cmp c.args.a.now c.args.b.now c.loop-i.i c.loop-i-test.false c.loop-i.auto.i-end c.loop-i.invariant.within c.loop-i.invariant.rest
+    c.cmp.ensures ∙ ended value_cmp c.args.parts.now c.args.others.now c.loop-i.i c.loop-i-test.false c.loop-i.auto.i-end c.loop-i.invariant.within c.loop-i.invariant.rest
 
 pub compare_fields-returns : goal.compare_fields-returns
 compare_fields-returns t c =
-    c.cmp-2.ensures ∙ ended (field_cmp value_cmp) c.args.a.now c.args.b.now c.loop-i.i c.loop-i-test.false c.loop-i.auto.i-end c.loop-i.invariant.within c.loop-i.invariant.rest
+    c.cmp-2.ensures ∙ ended (field_cmp value_cmp) c.args.fields.now c.args.others.now c.loop-i.i c.loop-i-test.false c.loop-i.auto.i-end c.loop-i.invariant.within c.loop-i.invariant.rest
 
 pub compare_value-returns-in-Equal : goal.compare_value-returns-in-Equal
 compare_value-returns-in-Equal t c =
