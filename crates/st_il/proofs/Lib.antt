@@ -1,3 +1,5 @@
 pub mod Induction
 pub mod OrderLemmas
 pub mod OrderLaws
+pub mod TemplateForms
+pub mod ReadingComplete

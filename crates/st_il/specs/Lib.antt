@@ -1,6 +1,9 @@
 pub mod Height
 pub mod Value
 pub mod Order
+pub mod Notation
+pub mod Template
+pub mod Reading
 pub mod Evaluation
 pub mod Holding
 pub mod Derivation

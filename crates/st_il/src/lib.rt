@@ -11,10 +11,15 @@ mod copy;
 mod definition;
 mod expression;
 mod order;
+mod reading;
 mod same;
+mod template;
 mod tree;
 mod ty;
 mod value;
+mod word;
+#[cfg(test)]
+mod tests;
 
 pub use copy::{copy_fields, copy_ty, copy_tys, copy_value, copy_values};
 pub use definition::{
@@ -22,7 +27,9 @@ pub use definition::{
 };
 pub use expression::{IlExp, IlPrem, Iteration, ListItem, PathSeg};
 pub use order::{compare, compare_values};
+pub use reading::template_of;
 pub use same::{same_fields, same_value, same_values};
+pub use template::Template;
 pub use tree::{Child, Tree};
 pub use ty::{NumTy, Ty};
 pub use value::{Env, Value};
