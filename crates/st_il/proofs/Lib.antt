@@ -3,3 +3,4 @@ pub mod OrderLemmas
 pub mod OrderLaws
 pub mod TemplateForms
 pub mod ReadingComplete
+pub mod ReadingSound

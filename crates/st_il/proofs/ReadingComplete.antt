@@ -39,7 +39,7 @@ divides-range Arrow n e = let same : 11 ≡ n = cc in (omega arith, omega arith)
 divides-range DotDot n e = let same : 12 ≡ n = cc in (omega arith, omega arith)
 divides-range _ n e = absurd (cc)
 
-sign_level-range : (sign : Mark) → sign_level sign ≤ 12
+pub sign_level-range : (sign : Mark) → sign_level sign ≤ 12
 sign_level-range sign = go (role_of sign) refl
   where
     go : (r : Role) → role_of sign ≡ r → divided_at r ≤ 12

@@ -1,12 +1,13 @@
 -- Templates, and their tags: the words of a notation with one space between them.
-use Rattle.std.specs.Prelude.{◌≡◌, ℕ, ◌+◌, ◌≤◌, max, List, [], ◌∷◌, ◌++◌, flat_map, codes}
+use Rattle.std.specs.Prelude.{◌≡◌, ◌≢◌, ℕ, ◌+◌, ◌≤◌, max, List, [], ◌∷◌, ◌++◌, flat_map, codes}
 use Rattle.st_num.specs.Signs.{spelling}
 use Rattle.st_il.specs.declared.template.Template.{Template, fold-Template}
 use Rattle.st_il.specs.declared.template.Template.TheOpen.{Template-F}
 use Rattle.st_il.specs.declared.template.Word.{Word}
 use Rattle.st_il.specs.declared.template.Word.TheVariants as word
 use Rattle.st_il.specs.Height.{highest}
-use Rattle.st_il.specs.Notation.{closing, IsNotation}
+use Rattle.st_il.specs.declared.template.Role.TheVariants.{Other}
+use Rattle.st_il.specs.Notation.{role_of, closing, IsAtom, IsNotation}
 
 -- the height of a level whose parts have these heights
 abbrev pub template_height_at : Template-F ℕ → ℕ
@@ -43,6 +44,12 @@ abbrev pub written : Word → List ℕ
 written word.Hole = codes "%"
 written (word.Atom name) = name
 written (word.Sign sign) = spelling sign
+
+-- the word may stand in a tag
+abbrev pub IsWord : Word → Type 0
+IsWord word.Hole = Unit {0}
+IsWord (word.Atom name) = IsAtom name
+IsWord (word.Sign sign) = role_of sign ≢ Other
 
 -- words with one space between them
 abbrev pub spaced : List Word → List ℕ
