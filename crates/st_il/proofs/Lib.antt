@@ -4,3 +4,7 @@ pub mod OrderLaws
 pub mod TemplateForms
 pub mod ReadingComplete
 pub mod ReadingSound
+pub mod TagWords
+pub mod Atoms
+pub mod Tags
+pub mod ReadingLoop

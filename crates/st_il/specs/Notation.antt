@@ -1,5 +1,6 @@
 -- Notations with their types as holes: the levels of signs, atoms, and which trees are notations.
-use Rattle.std.specs.Prelude.{◌≡◌, ℕ, ◌+◌, ◌≤◌, ◌⊎◌, List, [], ◌∷◌, ◌++◌, length, if◌then◌else◌, ◌==◌}
+use Rattle.std.specs.Prelude.{◌≡◌, ℕ, ◌+◌, ◌≤◌, Bool, ◌||◌, IsTrue, List, [], ◌∷◌, ◌++◌, length, if◌then◌else◌, ◌==◌}
+use Rattle.std.specs.Char.{is_ascii_uppercase, is_ascii_digit}
 use Rattle.std.specs.List.{AllByRecursion}
 use Rattle.st_num.specs.declared.mark.Mark.{Mark}
 use Rattle.st_num.specs.declared.mark.Mark.TheVariants.{Turnstile, ReverseTurnstile, SquigglyArrowStar, SquigglyArrow, Colon, Subtype, Supertype, Approximately, Define, Semicolon, Arrow, DotDot, CloseParen, CloseBracket, CloseBrace, TickParen, TickBracket, TickBrace}
@@ -57,17 +58,14 @@ closing opening = closing_by opening (role_of opening)
 
 -- ---- notations
 
-abbrev pub IsUpper : ℕ → Type 0
-IsUpper byte = (65 ≤ byte) × (byte ≤ 90)
-
 -- a capital, a digit, `_` or `'`
-abbrev pub IsNameByte : ℕ → Type 0
-IsNameByte byte = IsUpper byte ⊎ ((48 ≤ byte) × (byte ≤ 57)) ⊎ (byte ≡ 95) ⊎ (byte ≡ 39)
+abbrev pub is_name_byte : ℕ → Bool
+is_name_byte byte = is_ascii_uppercase byte || is_ascii_digit byte || byte == 95 || byte == 39
 
 -- a name of capitals, as CONST or I32
 abbrev pub IsUpName : List ℕ → Type 0
 IsUpName [] = ⊥
-IsUpName (byte ∷ bytes) = IsUpper byte × AllByRecursion IsNameByte bytes
+IsUpName (byte ∷ bytes) = IsTrue (is_ascii_uppercase byte) × AllByRecursion (λ b. IsTrue (is_name_byte b)) bytes
 
 -- such a name, or several joined by dots, as LOCAL.GET
 pub data IsAtom : List ℕ → Type 0 where

@@ -14,6 +14,8 @@ use Rattle.st_il.specs.declared.template.Word.{Word}
 use Rattle.st_il.specs.declared.template.Word.TheVariants as word
 use Rattle.st_il.specs.declared.reading.Frame.{Frame}
 use Rattle.st_il.specs.declared.reading.Frame.TheVariants.{Open, Left, Elements}
+use Rattle.st_il.specs.declared.reading.State as code
+use Rattle.st_il.specs.declared.reading.State.TheVariants.{Due, Read}
 use Rattle.st_il.specs.Notation.{role_of, left_of, right_of}
 use Rattle.st_il.specs.Template.{template_height}
 
@@ -142,3 +144,12 @@ finish (read t fs) = option_and_then (λ p. whole p.0 p.1) (reduce 0 t fs)
 
 abbrev pub reads : State → List Word → Option Template
 reads st ws = option_and_then finish (run st ws)
+
+-- ---- in code the innermost frame is the last one
+
+abbrev pub state_of : code.State → State
+state_of (Due fs) = due (reverse fs)
+state_of (Read t fs) = read t (reverse fs)
+
+abbrev pub reversed : Template × List Frame → Template × List Frame
+reversed p = (p.0, reverse p.1)

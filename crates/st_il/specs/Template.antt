@@ -1,5 +1,6 @@
 -- Templates, and their tags: the words of a notation with one space between them.
 use Rattle.std.specs.Prelude.{◌≡◌, ◌≢◌, ℕ, ◌+◌, ◌≤◌, max, List, [], ◌∷◌, ◌++◌, flat_map, codes}
+use Rattle.std.specs.List.{AllByRecursion}
 use Rattle.st_num.specs.Signs.{spelling}
 use Rattle.st_il.specs.declared.template.Template.{Template, fold-Template}
 use Rattle.st_il.specs.declared.template.Template.TheOpen.{Template-F}
@@ -56,6 +57,12 @@ abbrev pub spaced : List Word → List ℕ
 spaced [] = []
 spaced (w ∷ []) = written w
 spaced (w ∷ v ∷ ws) = written w ++ 32 ∷ spaced (v ∷ ws)
+
+-- the words, one or more, are those of this tag
+pub record AreWords (ws : List Word) (tag : List ℕ) : Type 0 where
+  pub some : ws ≢ []
+  pub words : AllByRecursion IsWord ws
+  pub spelled : spaced ws ≡ tag
 
 -- the text of a template, with `%` for each hole and one space between all parts
 abbrev pub tag_of : Template → List ℕ

@@ -1,9 +1,16 @@
 //! The template of a tag. Words are read one after another; what is not finished yet waits in
 //! frames, the innermost last.
 
-ghost use Rattle.std.specs.Prelude.{◌≡◌};
+ghost use Rattle.std.specs.Prelude.{◌≡◌, [], IfOk, IfSome, IfNone, reverse};
+ghost use Rattle.std.specs.Option.{option_map, option_and_then};
+ghost use Rattle.st_il.specs.Reading as spec;
+ghost use Rattle.st_il.specs.Reading.{state_of, reversed};
+ghost use Rattle.st_il.specs.Template.{HasTag, HasOneTemplate};
+ghost use Rattle.st_il.specs.declared.template.Template.{Template};
 
-use crate::template::{Enclosure, Role, Word, role_of};
+use crate::template::{
+    Enclosure, Role, Word, is_within, left_of, level_of, right_of, role_of, sign_level,
+};
 use crate::word::words;
 use crate::Template;
 use st_num::{Boxed, Mark, Name, NoMemory, Row};
@@ -31,51 +38,83 @@ pub enum State {
 
 /// The template that has this tag.
 pub fn template_of(alloc: Global, tag: &Name) -> Result<Option<Template>, NoMemory>
+    ensures some { IfOk result (λ found. IfSome found (λ template. HasTag template tag.now)) }
+    ensures none { IfOk result (λ found. IfNone found ((template : Template) → HasTag template tag.now → ⊥)) }
+    ensures one { HasOneTemplate tag.now }
 {
-    let Some(words) = words(alloc, tag.as_slice())? else {
+    let found = read_tag(alloc, tag.as_slice())?;
+    Ok(found)
+}
+
+fn read_tag(alloc: Global, tag: &[u8]) -> Result<Option<Template>, NoMemory>
+    ensures some { IfOk result (λ found. IfSome found (λ template. HasTag template tag.now)) }
+    ensures none { IfOk result (λ found. IfNone found ((template : Template) → HasTag template tag.now → ⊥)) }
+{
+    let Some(words) = words(alloc, tag)? else {
         return Ok(None);
     };
+    let found = read_words(alloc, words.as_slice())?;
+    Ok(found)
+}
+
+/// The template of these words.
+fn read_words(alloc: Global, words: &[Word]) -> Result<Option<Template>, NoMemory>
+    ensures { IfOk result (λ found. found ≡ spec.reads (spec.due []) words.now) }
+{
     let mut state = State::Due(Row::new(alloc));
-    for word in words.into_vec() {
+    for word in words {
         let Some(next) = step(alloc, state, word)? else {
             return Ok(None);
         };
         state = next;
     }
-    finish(alloc, state)
+    let found = finish(alloc, state)?;
+    Ok(found)
 }
 
 /// Takes one more word, if it may stand there.
-fn step(alloc: Global, state: State, word: Word) -> Result<Option<State>, NoMemory>
+fn step(alloc: Global, state: State, word: &Word) -> Result<Option<State>, NoMemory>
+    ensures { IfOk result (λ next. option_map state_of next ≡ spec.step (state_of state) word.now) }
 {
-    match (state, word) {
-        (State::Due(frames), word) => begin(alloc, frames, word),
-        (State::Read(template, frames), Word::Sign(sign)) => match role_of(sign) {
-            Role::Divides(level) => divide(alloc, template, frames, sign, level),
+    match state {
+        State::Due(frames) => begin(alloc, frames, word),
+        State::Read(template, frames) => after(alloc, template, frames, word),
+    }
+}
+
+/// Takes a word behind an element.
+fn after(
+    alloc: Global,
+    template: Template,
+    frames: Row<Frame>,
+    word: &Word,
+) -> Result<Option<State>, NoMemory>
+    ensures { IfOk result (λ next. option_map state_of next ≡ spec.after template (reverse frames) word.now) }
+{
+    match word {
+        Word::Hole | Word::Atom(_) => begin(alloc, extend(alloc, template, frames)?, word),
+        Word::Sign(sign) => match role_of(*sign) {
+            Role::Divides(level) => divide(alloc, template, frames, *sign, level),
             Role::Closes(enclosure) => shut(alloc, template, frames, enclosure),
-            Role::Opens(_) | Role::Other => {
-                begin(alloc, extend(alloc, template, frames)?, Word::Sign(sign))
-            }
+            Role::Opens(_) | Role::Other => begin(alloc, extend(alloc, template, frames)?, word),
         },
-        (State::Read(template, frames), word) => {
-            begin(alloc, extend(alloc, template, frames)?, word)
-        }
     }
 }
 
 /// Takes a word where an operand is due.
-fn begin(alloc: Global, mut frames: Row<Frame>, word: Word) -> Result<Option<State>, NoMemory>
+fn begin(alloc: Global, mut frames: Row<Frame>, word: &Word) -> Result<Option<State>, NoMemory>
+    ensures { IfOk result (λ next. option_map state_of next ≡ spec.begin (reverse frames) word.now) }
 {
     match word {
         Word::Hole => Ok(Some(State::Read(Template::Hole, frames))),
-        Word::Atom(name) => Ok(Some(State::Read(Template::Atom(name), frames))),
-        Word::Sign(sign) => match role_of(sign) {
+        Word::Atom(name) => Ok(Some(State::Read(Template::Atom(name.copy(alloc)?), frames))),
+        Word::Sign(sign) => match role_of(*sign) {
             Role::Opens(enclosure) => {
-                frames.push(Frame::Open(sign, enclosure))?;
+                frames.push(Frame::Open(*sign, enclosure))?;
                 Ok(Some(State::Due(frames)))
             }
-            Role::Divides(_) if may_lack_left(sign) && is_outermost(&frames) => {
-                frames.push(Frame::Left(Template::Seq(Row::new(alloc)), sign))?;
+            Role::Divides(_) if may_lack_left(*sign) && is_outermost(&frames) => {
+                frames.push(Frame::Left(Template::Seq(Row::new(alloc)), *sign))?;
                 Ok(Some(State::Due(frames)))
             }
             _ => Ok(None),
@@ -85,6 +124,7 @@ fn begin(alloc: Global, mut frames: Row<Frame>, word: Word) -> Result<Option<Sta
 
 /// Whether the left side of this sign may be absent.
 fn may_lack_left(sign: Mark) -> bool
+    ensures { result ≡ spec.may_lack_left sign }
 {
     match sign {
         Mark::Turnstile => true,
@@ -94,6 +134,7 @@ fn may_lack_left(sign: Mark) -> bool
 
 /// Whether nothing waits between the innermost bracket and what is read.
 fn is_outermost(frames: &Row<Frame>) -> bool
+    ensures { result ≡ spec.is_outermost (reverse frames.now) }
 {
     match frames.as_slice().last() {
         None => true,
@@ -109,6 +150,7 @@ fn extend(
     template: Template,
     mut frames: Row<Frame>,
 ) -> Result<Row<Frame>, NoMemory>
+    ensures { IfOk result (λ extended. reverse extended ≡ spec.extend template (reverse frames)) }
 {
     let mut elements = match frames.pop() {
         Some(Frame::Elements(elements)) => elements,
@@ -131,11 +173,12 @@ fn divide(
     sign: Mark,
     level: u8,
 ) -> Result<Option<State>, NoMemory>
+    ensures { IfOk result (λ next. option_map state_of next ≡ option_and_then (spec.divide sign level) (spec.reduce level template (reverse frames))) }
 {
     let Some((left, mut frames)) = reduce(alloc, template, frames, level)? else {
         return Ok(None);
     };
-    if level_of(&left) < left_of(level) {
+    if u16::from(level_of(&left)) < left_of(level) {
         return Ok(None);
     }
     frames.push(Frame::Left(left, sign))?;
@@ -149,6 +192,7 @@ fn shut(
     frames: Row<Frame>,
     enclosure: Enclosure,
 ) -> Result<Option<State>, NoMemory>
+    ensures { IfOk result (λ next. option_map state_of next ≡ option_and_then (λ p. spec.shut enclosure p.0 p.1) (spec.reduce 0 template (reverse frames))) }
 {
     let Some((inside, mut frames)) = reduce(alloc, template, frames, 0)? else {
         return Ok(None);
@@ -167,6 +211,7 @@ fn shut(
 
 /// The whole template, if no bracket is open.
 fn finish(alloc: Global, state: State) -> Result<Option<Template>, NoMemory>
+    ensures { IfOk result (λ found. found ≡ spec.finish (state_of state)) }
 {
     let State::Read(template, frames) = state else {
         return Ok(None);
@@ -184,6 +229,7 @@ fn reduce(
     mut frames: Row<Frame>,
     level: u8,
 ) -> Result<Option<(Template, Row<Frame>)>, NoMemory>
+    ensures { IfOk result (λ found. option_map reversed found ≡ spec.reduce level template (reverse frames)) }
 {
     'frames: while let Some(frame) = frames.pop() {
         if !binds(&frame, level) {
@@ -200,16 +246,18 @@ fn reduce(
 
 /// Whether the frame binds what is read tighter than a sign of this level does.
 fn binds(frame: &Frame, level: u8) -> bool
+    ensures { result ≡ spec.binds frame.now level }
 {
     match frame {
         Frame::Open(_, _) => false,
-        Frame::Left(_, sign) => level < right_of(sign_level(*sign)),
+        Frame::Left(_, sign) => u16::from(level) < right_of(sign_level(*sign)),
         Frame::Elements(_) => true,
     }
 }
 
 /// The frame with what stands behind it.
 fn closed(alloc: Global, frame: Frame, template: Template) -> Result<Template, NoMemory>
+    ensures { IfOk result (λ whole. whole ≡ spec.closed frame template) }
 {
     match frame {
         Frame::Open(opening, _) => Ok(Template::Bracket(opening, Boxed::new(alloc, template)?)),
@@ -226,54 +274,7 @@ fn closed(alloc: Global, frame: Frame, template: Template) -> Result<Template, N
 
 /// The template, if it is not too high.
 fn limited(template: Template) -> Option<Template>
+    ensures { result ≡ spec.limited template }
 {
-    if height(&template) <= 100 { Some(template) } else { None }
-}
-
-#[cycle(height)]
-fn height(template: &Template) -> u64
-{
-    match template {
-        Template::Atom(_) | Template::Hole => 1,
-        Template::Seq(parts) => 1 + highest(parts.as_slice()),
-        Template::Infix(left, _, right) => 1 + height(left.get()).max(height(right.get())),
-        Template::Bracket(_, inside) => 1 + height(inside.get()),
-    }
-}
-
-#[cycle(height)]
-fn highest(parts: &[Template]) -> u64
-{
-    let mut most = 0;
-    for part in parts {
-        most = most.max(height(part));
-    }
-    most
-}
-
-fn level_of(template: &Template) -> u8
-{
-    match template {
-        Template::Atom(_) | Template::Hole | Template::Bracket(_, _) => 15,
-        Template::Seq(_) => 14,
-        Template::Infix(_, sign, _) => sign_level(*sign),
-    }
-}
-
-fn sign_level(sign: Mark) -> u8
-{
-    match role_of(sign) {
-        Role::Divides(level) => level,
-        _ => 0,
-    }
-}
-
-fn left_of(level: u8) -> u8
-{
-    if level == 10 { level } else { level + 1 }
-}
-
-fn right_of(level: u8) -> u8
-{
-    if level == 11 { level } else { level + 1 }
+    if is_within(&template, 100) { Some(template) } else { None }
 }
