@@ -4,6 +4,7 @@ pub mod Order
 pub mod Notation
 pub mod Template
 pub mod Reading
+pub mod Key
 pub mod Evaluation
 pub mod Holding
 pub mod Derivation

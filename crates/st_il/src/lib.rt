@@ -10,6 +10,7 @@
 mod copy;
 mod definition;
 mod expression;
+mod key;
 mod order;
 mod reading;
 mod same;
@@ -26,6 +27,7 @@ pub use definition::{
     Alternative, ClauseDef, FunDef, Il, IlDef, Listed, RelationDef, RuleDef, SyntaxBody, SyntaxDef,
 };
 pub use expression::{IlExp, IlPrem, Iteration, ListItem, PathSeg};
+pub use key::{Key, key_of, same_key};
 pub use order::{compare, compare_values};
 pub use reading::template_of;
 pub use same::{same_fields, same_value, same_values};
