@@ -1,6 +1,6 @@
+pub mod Order
 pub mod Height
 pub mod Value
-pub mod Order
 pub mod Notation
 pub mod Template
 pub mod Reading
@@ -8,3 +8,4 @@ pub mod Key
 pub mod Evaluation
 pub mod Holding
 pub mod Derivation
+pub mod Small

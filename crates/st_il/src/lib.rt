@@ -15,9 +15,12 @@ mod key;
 mod order;
 mod reading;
 mod same;
+mod small;
+mod small_il;
 mod template;
 mod tree;
 mod ty;
+mod type_rule;
 mod value;
 mod word;
 #[cfg(test)]
@@ -29,6 +32,8 @@ pub use definition::{
 };
 pub use expression::{IlExp, IlPrem, Iteration, ListItem, PathSeg};
 pub use height::is_within_height;
+pub use small::{Small, SmallRule};
+pub use small_il::il_of_small;
 pub use key::{Key, key_of, same_key};
 pub use order::{compare, compare_values};
 pub use reading::template_of;
@@ -36,4 +41,5 @@ pub use same::{same_env, same_fields, same_value, same_values};
 pub use template::Template;
 pub use tree::{Child, Tree};
 pub use ty::{NumTy, Ty};
+pub use type_rule::TypeRule;
 pub use value::{Env, Value};

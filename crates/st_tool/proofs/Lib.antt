@@ -1,0 +1,17 @@
+mod Lists
+mod Lines
+mod Atoms
+mod StepLemmas
+mod Derives
+mod TranscriptLemmas
+mod Loading
+mod Terms
+mod Runnable
+mod Outcomes
+mod WrittenLemmas
+mod ReaderWords
+mod ReaderRows
+mod ReaderLines
+mod ReaderForm
+mod ReaderNames
+mod ReaderCheck
