@@ -1,4 +1,5 @@
 pub mod Induction
+pub mod HeightLemmas
 pub mod OrderLemmas
 pub mod OrderLaws
 pub mod TemplateForms

@@ -22,3 +22,7 @@ height_at (Value-F.Opt (Some part)) = 1 + part
 
 abbrev pub height : Value → ℕ
 height = fold-Value ℕ height_at
+
+-- the heights of the values of fields
+abbrev pub field_heights : List (List ℕ × Value) → List ℕ
+field_heights = map (λ (field : List ℕ × Value). height field.1)

@@ -2,7 +2,7 @@
 
 ghost use Rattle.std.specs.Prelude.{◌≡◌, IfOk};
 
-use crate::{Ty, Value};
+use crate::{Env, Ty, Value};
 use st_num::{Boxed, Name, NoMemory, Row};
 use std::alloc::Global;
 
@@ -82,4 +82,12 @@ pub fn copy_fields(alloc: Global, fields: &[(Name, Value)]) -> Result<Row<(Name,
         copies.push((name, copy_value(alloc, &field.1)?))?;
     }
     Ok(copies)
+}
+
+/// The same environment again.
+pub fn copy_env(alloc: Global, env: &Env) -> Result<Env, NoMemory>
+    ensures { IfOk result (λ copy. copy ≡ env.now) }
+{
+    let entries = copy_fields(alloc, env.entries.as_slice())?;
+    Ok(Env { entries })
 }

@@ -10,6 +10,7 @@
 mod copy;
 mod definition;
 mod expression;
+mod height;
 mod key;
 mod order;
 mod reading;
@@ -25,15 +26,16 @@ mod type_rule;
 mod value;
 mod word;
 
-pub use copy::{copy_fields, copy_ty, copy_tys, copy_value, copy_values};
+pub use copy::{copy_env, copy_fields, copy_ty, copy_tys, copy_value, copy_values};
 pub use definition::{
     Alternative, ClauseDef, FunDef, Il, IlDef, Listed, RelationDef, RuleDef, SyntaxBody, SyntaxDef,
 };
 pub use expression::{IlExp, IlPrem, Iteration, ListItem, PathSeg};
+pub use height::is_within_height;
 pub use key::{Key, key_of, same_key};
 pub use order::{compare, compare_values};
 pub use reading::template_of;
-pub use same::{same_fields, same_value, same_values};
+pub use same::{same_env, same_fields, same_value, same_values};
 pub use small::{Small, SmallRule};
 pub use small_il::il_of_small;
 pub use template::Template;

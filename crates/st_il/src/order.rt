@@ -1,13 +1,11 @@
 //! The order of values.
 
 ghost use Rattle.std.specs.Prelude.{◌≡◌, ◌↔◌, ℕ, List, []};
-ghost use Rattle.std.specs.Ordering.{int_cmp};
-ghost use Rattle.std.specs.Cmp.Lexicographic.{slice_cmp};
 ghost use Rattle.st_il.specs.declared.value.Value.{out-Value};
 ghost use Rattle.st_il.specs.Order.{value_cmp, values_cmp, fields_cmp, text_cmp, kind_of, IsOrder};
 
 use crate::Value;
-use st_num::{Name, Num};
+use st_num::Name;
 use std::cmp::Ordering;
 
 /// The order of values, which is total. It takes no memory.
@@ -33,7 +31,7 @@ fn compare_value(a: &Value, b: &Value) -> Ordering
 {
     match (a, b) {
         (Value::Bool(truth), Value::Bool(other)) => truth.cmp(other),
-        (Value::Num(number), Value::Num(other)) => compare_numbers(*number, *other),
+        (Value::Num(number), Value::Num(other)) => number.cmp(other),
         (Value::Text(text), Value::Text(other)) => text.cmp(other),
         (Value::Case(tag, parts), Value::Case(other, others)) => match tag.cmp(other) {
             Ordering::Equal => compare_parts(parts.as_slice(), others.as_slice()),
@@ -92,18 +90,6 @@ fn compare_fields(fields: &[(Name, Value)], others: &[(Name, Value)]) -> Orderin
         }
     }
     fields.len().cmp(&others.len())
-}
-
-/// Numbers, by size.
-fn compare_numbers(a: Num, b: Num) -> Ordering
-    ensures { result ≡ int_cmp a b }
-{
-    match (a.is_negative(), b.is_negative()) {
-        (false, false) => a.magnitude().cmp(&b.magnitude()),
-        (false, true) => Ordering::Greater,
-        (true, false) => Ordering::Less,
-        (true, true) => b.magnitude().cmp(&a.magnitude()),
-    }
 }
 
 /// The place of a value's kind among the kinds.

@@ -2,7 +2,7 @@
 
 ghost use Rattle.std.specs.Prelude.{◌≡◌, ◌↔◌, IsTrue};
 
-use crate::Value;
+use crate::{Env, Value};
 use st_num::Name;
 
 /// Whether the values are equal. It takes no memory.
@@ -61,4 +61,11 @@ pub fn same_fields(a: &[(Name, Value)], b: &[(Name, Value)]) -> bool
         }
     }
     true
+}
+
+/// Whether the environments are equal. It takes no memory.
+pub fn same_env(a: &Env, b: &Env) -> bool
+    ensures { IsTrue result ↔ (a.now ≡ b.now) }
+{
+    same_fields(a.entries.as_slice(), b.entries.as_slice())
 }
