@@ -1,4 +1,4 @@
-use Rattle.std.proofs.Common.{◌≡◌, ◌∙◌, sym}
+use Rattle.std.proofs.Common.{◌∙◌, sym}
 use Rattle.std.specs.Cmp.Lexicographic.{same_text}
 use Rattle.st_tool.proofs.Runnable.{other_relation, no_term, runs_here, source_read, names_differ, relation_test, nothing_runs}
 use Rattle.st_tool.proofs.answer.run_files.Goals as goal
