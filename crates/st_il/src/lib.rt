@@ -7,20 +7,24 @@
 //! The language is told in `docs/internal-language.md`, its meaning in `docs/semantics.md`.
 #![tactic(auto)]
 
+mod copy;
 mod definition;
 mod expression;
 mod order;
+mod same;
 mod small;
 mod tree;
 mod ty;
 mod type_rule;
 mod value;
 
+pub use copy::{copy_fields, copy_ty, copy_tys, copy_value, copy_values};
 pub use definition::{
     Alternative, ClauseDef, FunDef, Il, IlDef, Listed, RelationDef, RuleDef, SyntaxBody, SyntaxDef,
 };
 pub use expression::{IlExp, IlPrem, Iteration, ListItem, PathSeg};
 pub use order::compare;
+pub use same::{same_fields, same_value, same_values};
 pub use small::{Small, SmallRule};
 pub use tree::{Child, Tree};
 pub use ty::{NumTy, Ty};
