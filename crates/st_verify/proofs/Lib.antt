@@ -1,3 +1,5 @@
 pub mod Values
 pub mod Cited
 pub mod FirstBroken
+pub mod Declared
+pub mod Judged
