@@ -3,3 +3,4 @@ pub mod Cited
 pub mod FirstBroken
 pub mod Declared
 pub mod Judged
+pub mod Soundness
