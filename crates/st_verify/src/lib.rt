@@ -7,8 +7,14 @@
 //! The rules are told in `docs/derivations.md`.
 #![tactic(auto)]
 
+mod accepted;
 mod fault;
+mod known;
+mod noted;
 mod notes;
+mod typed;
+mod verdict;
 
+pub use accepted::Accepted;
 pub use fault::{VerifyFault, VerifyRule};
-pub use notes::{Noted, Notes};
+pub use notes::{Judgement, Notes};
