@@ -8,11 +8,11 @@ ghost use Rattle.st_il.specs.Reading.{state_of, reversed};
 ghost use Rattle.st_il.specs.Template.{HasTag, HasOneTemplate};
 ghost use Rattle.st_il.specs.declared.template.Template.{Template};
 
+use crate::Template;
 use crate::template::{
     Enclosure, Role, Word, is_within, left_of, level_of, right_of, role_of, sign_level,
 };
 use crate::word::words;
-use crate::Template;
 use st_num::{Boxed, Mark, Name, NoMemory, Row};
 use std::alloc::Global;
 
@@ -145,11 +145,7 @@ fn is_outermost(frames: &Row<Frame>) -> bool
 }
 
 /// The template becomes an element of a sequence that goes on.
-fn extend(
-    alloc: Global,
-    template: Template,
-    mut frames: Row<Frame>,
-) -> Result<Row<Frame>, NoMemory>
+fn extend(alloc: Global, template: Template, mut frames: Row<Frame>) -> Result<Row<Frame>, NoMemory>
     ensures { IfOk result (λ extended. reverse extended ≡ spec.extend template (reverse frames)) }
 {
     let mut elements = match frames.pop() {
@@ -219,7 +215,11 @@ fn finish(alloc: Global, state: State) -> Result<Option<Template>, NoMemory>
     let Some((whole, frames)) = reduce(alloc, template, frames, 0)? else {
         return Ok(None);
     };
-    if frames.is_empty() { Ok(Some(whole)) } else { Ok(None) }
+    if frames.is_empty() {
+        Ok(Some(whole))
+    } else {
+        Ok(None)
+    }
 }
 
 /// Ends the frames that bind tighter than a sign of this level, but no bracket.
@@ -276,5 +276,9 @@ fn closed(alloc: Global, frame: Frame, template: Template) -> Result<Template, N
 fn limited(template: Template) -> Option<Template>
     ensures { result ≡ spec.limited template }
 {
-    if is_within(&template, 100) { Some(template) } else { None }
+    if is_within(&template, 100) {
+        Some(template)
+    } else {
+        None
+    }
 }

@@ -91,14 +91,22 @@ pub fn level_of(template: &Template) -> u8
 pub fn left_of(level: u8) -> u16
     ensures { result ≡ left_of level }
 {
-    if level == 10 { 10 } else { u16::from(level) + 1 }
+    if level == 10 {
+        10
+    } else {
+        u16::from(level) + 1
+    }
 }
 
 /// The level that is due at the right of a sign of this level.
 pub fn right_of(level: u8) -> u16
     ensures { result ≡ right_of level }
 {
-    if level == 11 { 11 } else { u16::from(level) + 1 }
+    if level == 11 {
+        11
+    } else {
+        u16::from(level) + 1
+    }
 }
 
 /// Whether the template is at most so high.

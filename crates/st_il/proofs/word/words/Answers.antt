@@ -16,6 +16,6 @@ pub words-preserved : goal.words-preserved
 words-preserved c =
     let is = some_word c.in_ok-word.field-0 c.in-Some.word c.split_word.result.0.now c.in-Some.is c.in_ok-word.ensures.some in
     let next =
-        next_word c.words.words c.push.new.self c.in-Some.word c.words.rest.now c.args.tag.now c.split_word.result.0.now c.in-Some-behind.others.now c.words.invariant.words c.words.invariant.led
-        (goes_there c.split_word.result.1 c.in-Some-behind.others c.words.rest.now c.split_word.result.0.now c.in-Some-behind.is c.split_word.ensures.whole) is.0 is.1 c.in_ok-push.ensures.ok in
+    next_word c.words.words c.push.new.self c.in-Some.word c.words.rest.now c.args.tag.now c.split_word.result.0.now c.in-Some-behind.others.now c.words.invariant.words c.words.invariant.led
+    (goes_there c.split_word.result.1 c.in-Some-behind.others c.words.rest.now c.split_word.result.0.now c.in-Some-behind.is c.split_word.ensures.whole) is.0 is.1 c.in_ok-push.ensures.ok in
     record { words = next.0; led = next.1 }
