@@ -1,5 +1,5 @@
 -- The heights of records.
-use Rattle.std.proofs.Common.{rules, ◌≡◌, ◌≢◌, refl, sym, ◌∙◌, ap, subst, ℕ, ◌+◌, ◌-◌, List, [], ◌∷◌, map, nat_le, Bool, arith}
+use Rattle.std.proofs.Common.{rules, ◌≡◌, ◌≢◌, refl, sym, ◌∙◌, ap, ℕ, ◌+◌, ◌-◌, List, [], ◌∷◌, map, nat_le, Bool, arith}
 use Rattle.std.proofs.lemmas.Bool.Decides.{nat_tests}
 use Rattle.st_il.specs.declared.value.Value.{Value, the_lemmas}
 use Rattle.st_il.specs.declared.value.Value.TheVariants as v

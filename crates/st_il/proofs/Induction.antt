@@ -1,8 +1,8 @@
 -- Induction over values: what holds of a value where it holds of its parts holds of every value.
 -- In code, a recursion through a list of pairs needs no measure where the list is the first parameter, as in `copy_fields(fields: &[(Name, Value)])`,
 -- and its loop passes on `&field.1`; the same with the list behind `alloc`. A function over one pair leaves its measure open: take the pair apart in the loop.
-use Rattle.std.proofs.Common.{◌≡◌, subst, List, [], ◌∷◌, ℕ, map}
-use Rattle.std.specs.Prelude.{Option, Some, None}
+use Rattle.std.proofs.Common.{subst, List, [], ◌∷◌, ℕ, map}
+use Rattle.std.specs.Prelude.{Some, None}
 use Rattle.st_il.specs.declared.value.Value.{Value, map-Value, ind-Value, roll-Value}
 use Rattle.st_il.specs.declared.value.Value.TheOpen.{Value-F}
 

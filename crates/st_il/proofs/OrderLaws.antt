@@ -1,6 +1,6 @@
 -- The order of values is total, and tells all values apart.
-use Rattle.std.proofs.Common.{◌≡◌, refl, sym, ◌∙◌, ap, subst, ℕ, zero, suc, ◌+◌, ◌<◌, ◌≤◌, max, List, [], ◌∷◌, map, Bool, true, false, arith}
-use Rattle.std.specs.Prelude.{Option, Some, None, ℤ, pos, ◌↔◌}
+use Rattle.std.proofs.Common.{◌≡◌, refl, sym, ◌∙◌, ap, subst, ℕ, zero, suc, ◌+◌, ◌≤◌, List, [], ◌∷◌, map, Bool, true, false, arith}
+use Rattle.std.specs.Prelude.{Some, None, ℤ, pos}
 use Rattle.std.specs.Ordering.{ordering_then, nat_cmp, int_cmp, bool_cmp, then_cmp, on}
 use Rattle.std.specs.Cmp.{IsTotalOrder}
 use Rattle.std.specs.Cmp.Lexicographic.{slice_cmp}
@@ -11,7 +11,7 @@ use Rattle.std.specs.declared.cmp.Ordering.TheVariants.{Less as Below, Equal, Gr
 use Rattle.st_il.specs.declared.value.Value.{Value, out-Value, roll-Value, out-roll-Value, roll-out-Value, fold-roll-Value, map-Value}
 use Rattle.st_il.specs.declared.value.Value.TheOpen.{Value-F}
 use Rattle.st_il.specs.Height.{height, height_at, highest}
-use Rattle.st_il.specs.Order.{level_cmp, field_cmp, option_cmp, text_cmp, kind_of, value_cmp, values_cmp, IsOrder}
+use Rattle.st_il.specs.Order.{level_cmp, field_cmp, text_cmp, kind_of, value_cmp, values_cmp, IsOrder}
 use Rattle.st_il.proofs.Induction.{Every, OfField, Parts, value-ind, every_value}
 use Rattle.st_il.proofs.OrderLemmas.{value_cmp-levels}
 

@@ -1,6 +1,6 @@
 -- Each notation of height at most 100 is read as itself.
-use Rattle.std.proofs.Common.{◌≡◌, refl, sym, ◌∙◌, ap, subst, ℕ, ◌+◌, ◌<◌, ◌≤◌, max, List, [], ◌∷◌, ◌++◌, map, length, append_assoc, append-nil, Bool, true, false, inl, inr, ◌⊎◌, arith}
-use Rattle.std.specs.Prelude.{Option, Some, None, ◌≢◌, ◌==◌, ◌&&◌, nat_le, nat_lt, if◌then◌else◌}
+use Rattle.std.proofs.Common.{◌≡◌, refl, sym, ◌∙◌, ap, subst, ℕ, ◌+◌, ◌<◌, ◌≤◌, max, List, [], ◌∷◌, ◌++◌, map, length, append_assoc, append-nil, true, false, arith}
+use Rattle.std.specs.Prelude.{Option, Some, None, nat_le, nat_lt, if◌then◌else◌}
 use Rattle.std.specs.Option.{option_map, option_and_then}
 use Rattle.std.proofs.lemmas.Bool.Decides.{nat_tests}
 use Rattle.st_num.specs.declared.mark.Mark.{Mark}
@@ -17,9 +17,9 @@ use Rattle.st_il.specs.declared.template.Word.TheVariants as word
 use Rattle.st_il.specs.declared.reading.Frame.{Frame}
 use Rattle.st_il.specs.declared.reading.Frame.TheVariants.{Open, Left, Elements}
 use Rattle.st_il.specs.Height.{highest}
-use Rattle.st_il.specs.Notation.{role_of, left_of, right_of, closing, closing_of, closing_by, IsAtom, IsNotation, atom, hole, bracket, sequence, divided, without_left, AreElements, none, more}
+use Rattle.st_il.specs.Notation.{role_of, left_of, right_of, closing, closing_of, closing_by, IsNotation, atom, hole, bracket, sequence, divided, without_left, AreElements, none, more}
 use Rattle.st_il.specs.Template.{words_of, template_height, IsTemplate}
-use Rattle.st_il.specs.Reading.{State, due, read, sign_level, divided_at, level_at, level_of, is_outermost, begin, begin_sign, extend, binds, closed, limited, reduce, divide, is_same, shut, after_sign, after, step, run, whole, finish, reads}
+use Rattle.st_il.specs.Reading.{State, due, read, sign_level, divided_at, level_at, level_of, is_outermost, begin_sign, extend, binds, closed, limited, reduce, divide, is_same, shut, after_sign, run, whole, finish, reads}
 use Rattle.st_il.proofs.TemplateForms.{words_all, words-Atom, words-Hole, words-Seq, words-Infix, words-Bracket, height-Seq, height-Infix, height-Bracket, level-Atom, level-Hole, level-Seq, level-Infix, level-Bracket}
 
 -- ---- levels

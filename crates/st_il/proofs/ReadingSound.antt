@@ -1,6 +1,6 @@
 -- What is read is a template, and its words are those that were read.
-use Rattle.std.proofs.Common.{◌≡◌, refl, sym, ◌∙◌, ap, subst, ℕ, ◌+◌, ◌<◌, ◌≤◌, max, List, [], ◌∷◌, ◌++◌, map, length, append_assoc, append-nil, Bool, true, false, inl, inr, ◌⊎◌, arith}
-use Rattle.std.specs.Prelude.{Option, Some, None, ◌==◌, ◌&&◌, nat_le, nat_lt, if◌then◌else◌}
+use Rattle.std.proofs.Common.{◌≡◌, refl, sym, ◌∙◌, ap, subst, ℕ, ◌+◌, ◌≤◌, List, [], ◌∷◌, ◌++◌, length, append_assoc, append-nil, Bool, true, false, inl, inr, ◌⊎◌, arith}
+use Rattle.std.specs.Prelude.{Option, Some, None, ◌&&◌, nat_le, if◌then◌else◌}
 use Rattle.std.specs.Option.{option_map, option_and_then}
 use Rattle.std.proofs.lemmas.Bool.Decides.{nat_tests}
 use Rattle.st_num.specs.declared.mark.Mark.{Mark}
@@ -15,11 +15,11 @@ use Rattle.st_il.specs.declared.template.Word.{Word}
 use Rattle.st_il.specs.declared.template.Word.TheVariants as word
 use Rattle.st_il.specs.declared.reading.Frame.{Frame}
 use Rattle.st_il.specs.declared.reading.Frame.TheVariants.{Open, Left, Elements}
-use Rattle.st_il.specs.Notation.{role_of, left_of, right_of, closing, closing_of, closing_by, IsAtom, IsNotation, atom, hole, bracket, sequence, divided, without_left, AreElements, none, more}
+use Rattle.st_il.specs.Notation.{role_of, left_of, right_of, closing, closing_of, closing_by, IsNotation, atom, hole, bracket, sequence, divided, without_left, AreElements, none, more}
 use Rattle.st_il.specs.Template.{words_of, template_height, IsTemplate, IsWord}
 use Rattle.std.specs.List.{AllByRecursion}
-use Rattle.st_il.specs.Reading.{State, due, read, sign_level, divided_at, level_of, may_lack_left, is_outermost, begin, begin_sign, extend, binds, closed, limited, reduce, divide, is_same, shut, after_sign, after, step, run, whole, finish, reads}
-use Rattle.st_il.proofs.TemplateForms.{words_all, words_all-append, words-Atom, words-Hole, words-Seq, words-Infix, words-Bracket, height-Atom, height-Hole, level-Atom, level-Hole, level-Seq, level-Infix, level-Bracket}
+use Rattle.st_il.specs.Reading.{State, due, read, sign_level, divided_at, level_of, may_lack_left, is_outermost, begin, begin_sign, extend, binds, closed, limited, reduce, divide, is_same, shut, after_sign, step, run, whole, finish, reads}
+use Rattle.st_il.proofs.TemplateForms.{words_all, words_all-append, words-Atom, words-Hole, words-Seq, words-Infix, words-Bracket, height-Atom, height-Hole, level-Seq, level-Infix}
 use Rattle.st_il.proofs.ReadingComplete.{divides-range, sign_level-range, right-gap}
 
 -- the words that led to a frame, and to a state

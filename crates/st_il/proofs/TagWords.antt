@@ -1,7 +1,7 @@
 -- A tag has at most one list of words.
-use Rattle.std.proofs.Common.{Bor, ◌≡◌, refl, sym, ◌∙◌, ap, subst, ℕ, ◌+◌, ◌<◌, ◌≤◌, List, [], ◌∷◌, ◌++◌, length, append_assoc, append-nil, Bool, true, false, inl, inr, ◌⊎◌, arith}
-use Rattle.std.specs.Prelude.{Option, Some, None, IfSome, IfNone, MatchOption, ◌≢◌, ◌==◌, ◌||◌, IsTrue, bytes_eq, codes, if◌then◌else◌, flat_map}
-use Rattle.std.specs.Char.{is_ascii_uppercase, is_ascii_digit}
+use Rattle.std.proofs.Common.{Bor, ◌≡◌, refl, sym, ◌∙◌, ap, subst, ℕ, List, [], ◌∷◌, ◌++◌, append_assoc, append-nil, Bool, true, false, arith}
+use Rattle.std.specs.Prelude.{Option, Some, None, IfSome, IfNone, MatchOption, ◌≢◌, ◌==◌, ◌||◌, IsTrue, bytes_eq, codes, if◌then◌else◌}
+use Rattle.std.specs.Char.{is_ascii_uppercase}
 use Rattle.std.specs.List.{All, AllByRecursion}
 use Rattle.std.proofs.lemmas.List.Elements.{All-head, All-tail}
 use Rattle.std.proofs.lemmas.Bool.Decides.{nat_tests}

@@ -1,17 +1,16 @@
 -- A tag has at most one template, and that is the one that is read.
-use Rattle.std.proofs.Common.{◌≡◌, refl, sym, ◌∙◌, ap, subst, ℕ, ◌≤◌, List, [], ◌∷◌, ◌++◌, arith}
+use Rattle.std.proofs.Common.{◌≡◌, refl, sym, ◌∙◌, ap, subst, ℕ, List, [], ◌∷◌, ◌++◌}
 use Rattle.std.specs.Prelude.{◌≢◌, Option, Some, None, IfSome, IfNone}
 use Rattle.std.specs.List.{AllByRecursion}
 use Rattle.st_num.specs.declared.mark.Mark.{Mark}
 use Rattle.st_num.specs.declared.mark.Mark.TheVariants.{Turnstile}
-use Rattle.st_il.specs.declared.template.Role.{Role}
 use Rattle.st_il.specs.declared.template.Role.TheVariants.{Divides, Opens, Closes, Other}
 use Rattle.st_il.specs.declared.template.Template.{Template}
 use Rattle.st_il.specs.declared.template.Template.TheVariants as template
 use Rattle.st_il.specs.declared.template.Word.{Word}
 use Rattle.st_il.specs.declared.template.Word.TheVariants as word
 use Rattle.st_il.specs.Notation.{role_of, closing, IsNotation, atom, hole, bracket, sequence, divided, without_left, AreElements, none, more}
-use Rattle.st_il.specs.Template.{words_of, tag_of, IsWord, AreWords, HasTag, HasOneTemplate}
+use Rattle.st_il.specs.Template.{words_of, IsWord, AreWords, HasTag, HasOneTemplate}
 use Rattle.st_il.specs.Reading.{due, reads}
 use Rattle.st_il.proofs.TemplateForms.{words_all, words-Atom, words-Hole, words-Seq, words-Infix, words-Bracket}
 use Rattle.st_il.proofs.ReadingComplete.{complete, closing-role}

@@ -1,5 +1,5 @@
 -- The words, heights and levels of the forms of templates.
-use Rattle.std.proofs.Common.{rules, ◌≡◌, refl, sym, ◌∙◌, ap, ℕ, ◌+◌, ◌<◌, ◌≤◌, max, List, [], ◌∷◌, ◌++◌, map, append_assoc, arith}
+use Rattle.std.proofs.Common.{rules, ◌≡◌, refl, sym, ◌∙◌, ap, ℕ, ◌+◌, max, List, [], ◌∷◌, ◌++◌, map, append_assoc}
 use Rattle.std.specs.Prelude.{flat_map}
 use Rattle.st_num.specs.declared.mark.Mark.{Mark}
 use Rattle.st_il.specs.declared.template.Template.{Template, the_lemmas}

@@ -1,5 +1,5 @@
 -- Values: of height at most 1,000, and all their texts, tags and field names are texts.
-use Rattle.std.specs.Prelude.{◌≡◌, ℕ, ◌≤◌, ◌⊎◌, List, [], ◌∷◌, ◌++◌, flat_map, map, Some, None, IsUtf8}
+use Rattle.std.specs.Prelude.{◌≡◌, ℕ, ◌≤◌, ◌⊎◌, List, [], ◌∷◌, flat_map, map, Some, None, IsUtf8}
 use Rattle.std.specs.List.{All}
 use Rattle.st_il.specs.declared.value.Value.{Value, fold-Value}
 use Rattle.st_il.specs.declared.value.Value.TheOpen.{Value-F}
