@@ -1,0 +1,4 @@
+pub mod Tables
+pub mod Texts
+pub mod Spelled
+pub mod Runs

@@ -1,0 +1,15 @@
+//! Tokens: what stands in a file, from its bytes.
+//!
+//! The one idea: blanks and comments stand between tokens, and each token is the longest that
+//! stands at its place. What a token is written as is a relation that knows no reading.
+//!
+//! Read `token` and `scan` first, with `specs/Spelling.antt`, `specs/Tokens.antt` and
+//! `specs/Faults.antt`. The rules are in `docs/language.md`, "Tokens".
+#![tactic(auto)]
+
+mod sign;
+mod token;
+mod word;
+
+pub use token::{LexFault, Token, TokenKind};
+pub use word::Word;
