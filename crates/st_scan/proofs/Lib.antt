@@ -2,3 +2,5 @@ pub mod Tables
 pub mod Texts
 pub mod Spelled
 pub mod Runs
+pub mod Gaps
+pub mod Places

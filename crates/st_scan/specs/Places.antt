@@ -1,7 +1,8 @@
 -- Places in a file.
-use Rattle.std.specs.Prelude.{ℕ, ◌+◌, ◌-◌, List, length, take, count_by}
+use Rattle.std.specs.Prelude.{◌≡◌, ℕ, ◌+◌, ◌-◌, List, length, take, count_by}
 use Rattle.std.specs.List.{after_last}
 use Rattle.st_num.specs.declared.span.Span.{Span}
+use Rattle.st_scan.specs.declared.place.Place.{Place}
 use Rattle.st_scan.specs.Bytes.{is_line_feed, begins_character}
 
 -- how many bytes of the file stand before its rest
@@ -21,3 +22,8 @@ abbrev pub place : ℕ → List ℕ → List ℕ → Span
 place number file rest =
     let before = take (offset file rest) file in
     record { file = number; line = line_behind before; column = column_behind before }
+
+-- the counts are those of what stands behind these bytes
+pub record IsBehind (before : List ℕ) (here : Place) : Type 0 where
+  pub line : here.line ≡ line_behind before
+  pub column : here.column ≡ column_behind before

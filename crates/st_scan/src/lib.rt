@@ -7,6 +7,8 @@
 //! `specs/Faults.antt`. The rules are in `docs/language.md`, "Tokens".
 #![tactic(auto)]
 
+mod gap;
+mod place;
 mod sign;
 mod token;
 mod word;
