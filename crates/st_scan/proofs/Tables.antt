@@ -1,9 +1,12 @@
 -- The tables of signs and words: each has all of them, and the longest signs come first.
-use Rattle.std.proofs.Common.{◌≡◌, ℕ, ◌+◌, ◌≤◌, ◌<◌, List, [], ◌∷◌, ◌++◌, length, get_or, Bool, true, false, Option, Some, None, refl, sym, ap, ◌∙◌, subst, if◌then◌else◌, arith, ◌⊎◌, inl, inr, not, ◌&&◌, ◌||◌, ◌==◌}
+use Rattle.std.proofs.Common.{◌≡◌, ℕ, ◌+◌, ◌≤◌, ◌<◌, List, [], ◌∷◌, ◌++◌, length, get_or, drop, Bool, true, false, Option, Some, None, refl, sym, ap, ◌∙◌, subst, if◌then◌else◌, arith, ◌⊎◌, inl, inr, not, ◌&&◌, ◌||◌, ◌==◌}
 use Rattle.std.specs.Str.{bytes_eq}
-use Rattle.std.proofs.lemmas.Bool.{eqb-true, agree_below_at}
-use Rattle.std.proofs.lemmas.Bool.Decides.{nat_tests}
-use Rattle.std.proofs.Math.Dec.{ltb}
+use Rattle.std.proofs.lemmas.Bool.{eqb-true, agree_below_at, cases_lt}
+use Rattle.std.proofs.lemmas.Bool.Decides.{nat_tests, Decides-eqb}
+use Rattle.std.proofs.lemmas.Slice.Eq.{starts_is}
+use Rattle.std.proofs.Math.Dec.{ltb, eqb}
+use Rattle.std.specs.List.{starts_with}
+use Rattle.st_scan.specs.Signs.{LongestSign}
 use Rattle.st_num.specs.Signs.{spelling}
 use Rattle.st_num.specs.declared.mark.Mark.{Mark}
 use Rattle.st_num.specs.declared.mark.Mark.TheVariants.{Turnstile, ReverseTurnstile, SquigglyArrowStar, SquigglyArrow, Colon, Subtype, Supertype, Approximately, Define, Semicolon, Arrow, DotDot, Ellipsis, PlusPlus, ExtendBy, Equal, NotEqual, Less, Greater, LessOrEqual, GreaterOrEqual, ElementOf, Tilde, And, Or, Implies, Equivalent, Plus, Minus, Star, Slash, Backslash, Caret, Question, Bar, Comma, DashDash, OpenParen, CloseParen, OpenBracket, CloseBracket, OpenBrace, CloseBrace, OpenArith, TickParen, TickBracket, TickBrace}
@@ -120,3 +123,15 @@ word_there _ = refl
 pub word_place_below : (w : Word) → word_place w < 18
 word_place_below Syntax = omega arith
 word_place_below _ = omega arith
+
+-- the sign at a place of the table, where no earlier one stands at the front
+pub sign_found : (bytes text : List ℕ) (i : ℕ) (r : Bool) → text ≡ spelling (get_or SIGNS i Turnstile) → r ≡ starts_with eqb bytes text → r ≡ true → ((k : ℕ) (rest : List ℕ) → k < i → ¬ (bytes ≡ spelling (get_or SIGNS k Turnstile) ++ rest)) → LongestSign bytes (get_or SIGNS i Turnstile)
+sign_found bytes text i r written is here before = record {
+  rest = drop (length text) bytes;
+  split = (starts_is Decides-eqb bytes text r is).0 here ∙ ap (λ t. t ++ drop (length text) bytes) written;
+  longest = λ other more e. no_longer other more e (cases_lt (sign_place other) i);
+}
+  where
+    no_longer : (other : Mark) (more : List ℕ) → bytes ≡ spelling other ++ more → (sign_place other < i) ⊎ (i ≤ sign_place other) → length (spelling other) ≤ length (spelling (get_or SIGNS i Turnstile))
+    no_longer other more e (inl h) = absurd (before (sign_place other) more h (e ∙ ap (λ m. spelling m ++ more) (sym (sign_there other))))
+    no_longer other more e (inr h) = signs_fall other i h

@@ -4,5 +4,6 @@ pub mod Numerals
 pub mod Spelling
 pub mod Gaps
 pub mod Places
+pub mod Signs
 pub mod Tokens
 pub mod Faults

@@ -8,6 +8,7 @@
 #![tactic(auto)]
 
 mod gap;
+mod name;
 mod place;
 mod sign;
 mod token;

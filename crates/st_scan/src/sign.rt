@@ -1,9 +1,12 @@
 //! The longest sign at a place.
 
+ghost use Rattle.std.specs.Prelude.{MatchOption};
+ghost use Rattle.st_scan.specs.Signs.{NoSign, LongestSign};
+
 use st_num::Mark;
 
 /// The signs, the longest first.
-pub(crate) const SIGNS: [Mark; 47] = [
+const SIGNS: [Mark; 47] = [
     Mark::SquigglyArrowStar,
     Mark::Ellipsis,
     Mark::ExtendBy,
@@ -52,3 +55,15 @@ pub(crate) const SIGNS: [Mark; 47] = [
     Mark::OpenBrace,
     Mark::CloseBrace,
 ];
+
+/// The longest sign at the front.
+pub(crate) fn sign_at(bytes: &[u8]) -> Option<Mark>
+    ensures { MatchOption result (NoSign bytes.now) (λ mark. LongestSign bytes.now mark) }
+{
+    for mark in &SIGNS {
+        if bytes.starts_with(mark.spelling().as_bytes()) {
+            return Some(*mark);
+        }
+    }
+    None
+}

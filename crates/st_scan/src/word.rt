@@ -1,6 +1,7 @@
 //! The reserved words.
 
-ghost use Rattle.std.specs.Prelude.{◌≡◌};
+ghost use Rattle.std.specs.Prelude.{◌≡◌, MatchOption};
+ghost use Rattle.st_scan.specs.Spelling.{IsReserved};
 ghost use Rattle.st_scan.specs.Words.{word_spelling};
 
 /// A name that the language keeps for itself.
@@ -55,7 +56,7 @@ impl Word {
 }
 
 /// The reserved words.
-pub(crate) const WORDS: [Word; 18] = [
+const WORDS: [Word; 18] = [
     Word::Syntax,
     Word::Relation,
     Word::Rule,
@@ -75,3 +76,15 @@ pub(crate) const WORDS: [Word; 18] = [
     Word::Rat,
     Word::Real,
 ];
+
+/// The word that is spelled so, where the name is reserved.
+pub(crate) fn word_of(name: &[u8]) -> Option<Word>
+    ensures { MatchOption result (¬ (IsReserved name.now)) (λ word. name.now ≡ word_spelling word) }
+{
+    for word in &WORDS {
+        if word.spelling().as_bytes() == name {
+            return Some(*word);
+        }
+    }
+    None
+}
