@@ -4,3 +4,4 @@ pub mod Spelled
 pub mod Runs
 pub mod Gaps
 pub mod Places
+pub mod Readings

@@ -20,6 +20,7 @@ use Rattle.st_scan.specs.Bytes.{is_letter, is_lower, is_digit, is_name_part, is_
 use Rattle.st_scan.specs.Words.{word_spelling}
 use Rattle.st_scan.specs.Numerals.{SpellsNumber, IsDigitsOf}
 use Rattle.st_scan.specs.Spelling.{Spells, is_name, begins_lower, has_lower, escaped, quoted, IsReserved}
+use Rattle.st_scan.specs.Readings.{begins_letter}
 use Rattle.st_scan.proofs.Texts.{head_or, tail_of, texts_unique, quoted_behind}
 
 -- ---- the kinds that begin in the same way
@@ -34,10 +35,6 @@ group (Text _) = 2
 group (Dot _) = 3
 group (Fun _) = 4
 group (Sign _) = 5
-
-abbrev pub begins_letter : List ℕ → Bool
-begins_letter [] = false
-begins_letter (b ∷ bs) = is_letter b
 
 -- which of them begin so
 abbrev pub group_at : List ℕ → ℕ

@@ -7,3 +7,4 @@ pub mod Places
 pub mod Signs
 pub mod Tokens
 pub mod Faults
+pub mod Readings

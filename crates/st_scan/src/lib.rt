@@ -10,6 +10,7 @@
 mod gap;
 mod name;
 mod place;
+mod read;
 mod sign;
 mod token;
 mod word;

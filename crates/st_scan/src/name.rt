@@ -1,8 +1,8 @@
 //! Names: how long they are, and of which kind.
 
-ghost use Rattle.std.specs.Prelude.{◌≡◌, ◌≤◌, length, take, drop, IsTrue, IfOk, List, ℕ};
-ghost use Rattle.std.specs.List.{prefix_len, list_any};
-ghost use Rattle.st_scan.specs.Bytes.{is_lower, is_letter, is_digit, is_name_part};
+ghost use Rattle.std.specs.Prelude.{◌≡◌, IsTrue, IfOk};
+ghost use Rattle.std.specs.List.{prefix_len, take_while};
+ghost use Rattle.st_scan.specs.Bytes.{is_lower, is_letter, is_name_part};
 ghost use Rattle.st_scan.specs.Spelling.{Spells, is_name, begins_lower, has_lower};
 
 use crate::word::word_of;
@@ -45,11 +45,19 @@ fn has_lower(bytes: &[u8]) -> bool
     bytes.iter().any(|byte| is_lower(*byte))
 }
 
-/// How many bytes at the front may stand in a name.
-pub(crate) fn name_length(bytes: &[u8]) -> usize
+/// How many bytes at the front may all stand in a name.
+fn name_length(bytes: &[u8]) -> usize
     ensures { result ≡ prefix_len is_name_part bytes.now }
 {
     bytes.iter().take_while(|byte| is_name_part(**byte)).count()
+}
+
+/// The longest front whose bytes may all stand in a name.
+pub(crate) fn name_front(bytes: &[u8]) -> &[u8]
+    ensures { result.now ≡ take_while is_name_part bytes.now }
+{
+    let length = name_length(bytes);
+    &bytes[..length]
 }
 
 /// The token that a name alone is.
