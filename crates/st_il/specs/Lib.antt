@@ -1,0 +1,4 @@
+pub mod Order
+pub mod Evaluation
+pub mod Holding
+pub mod Derivation

@@ -1,0 +1,11 @@
+mod Lists
+mod Lines
+mod Atoms
+mod StepLemmas
+mod Derives
+mod TranscriptLemmas
+mod Loading
+mod Terms
+mod Runnable
+mod Outcomes
+mod WrittenLemmas
