@@ -5,3 +5,4 @@ pub mod Runs
 pub mod Gaps
 pub mod Places
 pub mod Readings
+pub mod Numbers

@@ -18,7 +18,7 @@ use Rattle.st_scan.specs.declared.token.TokenKind.{TokenKind}
 use Rattle.st_scan.specs.declared.token.TokenKind.TheVariants.{Low, Up, Mix, Reserved, Number, Text, Dot, Fun, Sign}
 use Rattle.st_scan.specs.Bytes.{is_letter, is_lower, is_digit, is_name_part, is_text_byte}
 use Rattle.st_scan.specs.Words.{word_spelling}
-use Rattle.st_scan.specs.Numerals.{SpellsNumber, IsDigitsOf}
+use Rattle.st_num.specs.Numeral.{Spells as SpellsNumber, IsDigitsOf}
 use Rattle.st_scan.specs.Spelling.{Spells, is_name, begins_lower, has_lower, escaped, quoted, IsReserved}
 use Rattle.st_scan.specs.Readings.{begins_letter}
 use Rattle.st_scan.proofs.Texts.{head_or, tail_of, texts_unique, quoted_behind}

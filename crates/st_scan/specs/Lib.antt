@@ -1,10 +1,10 @@
 pub mod Bytes
 pub mod Words
-pub mod Numerals
 pub mod Spelling
 pub mod Gaps
 pub mod Places
 pub mod Signs
 pub mod Tokens
 pub mod Faults
+pub mod NumberFronts
 pub mod Readings

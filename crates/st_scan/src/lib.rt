@@ -9,6 +9,7 @@
 
 mod gap;
 mod name;
+mod number;
 mod place;
 mod read;
 mod sign;
