@@ -6,3 +6,4 @@ pub mod Gaps
 pub mod Places
 pub mod Readings
 pub mod Numbers
+pub mod TextReadings

@@ -16,8 +16,8 @@ use Rattle.st_scan.specs.Gaps.{opens_comment}
 use Rattle.st_scan.specs.Spelling.{Spells, is_name, begins_lower}
 use Rattle.st_scan.specs.Tokens.{Longest, IsInRange}
 use Rattle.st_scan.specs.Signs.{NoSign, LongestSign}
-use Rattle.st_scan.specs.Faults.{NoToken}
-use Rattle.st_scan.specs.Readings.{begins_letter, begins_digit, begins_quote, begins_dot, begins_fun, IsReading}
+use Rattle.st_scan.specs.Faults.{NoToken, IsQuote}
+use Rattle.st_scan.specs.Readings.{begins_letter, begins_digit, begins_quote, begins_dot, begins_fun, BeginsSign, IsReading}
 use Rattle.st_scan.proofs.Texts.{tail_of}
 use Rattle.st_scan.proofs.Spelled.{group, group_at, letter_group, spelled_group, as_word, as_dot, as_fun, as_sign}
 
@@ -178,6 +178,13 @@ sign_reading bytes m starts closed sign = record {
   in_range = tt;
   taken = refl;
 }
+
+pub begins_sign : (bytes : List ℕ) → BeginsSign bytes → group_at bytes ≡ 5
+begins_sign [] h = absurd (h.some refl)
+begins_sign (b ∷ bs) h = sign_starts b bs h.no_letter h.no_digit h.no_quote h.no_dot h.no_fun
+
+pub unquoted : (bytes : List ℕ) → begins_quote bytes ≡ false → (behind : List ℕ) → ¬ (IsQuote bytes behind)
+unquoted bytes e behind q = false≢true (sym e ∙ ap begins_quote q)
 
 pub unsigned_token : (bytes : List ℕ) → group_at bytes ≡ 5 → NoSign bytes → NoToken bytes
 unsigned_token bytes starts none text rest kind parted spelled =

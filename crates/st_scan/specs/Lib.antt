@@ -6,5 +6,6 @@ pub mod Places
 pub mod Signs
 pub mod Tokens
 pub mod Faults
+pub mod TextPieces
 pub mod NumberFronts
 pub mod Readings

@@ -1,9 +1,10 @@
 -- What is read at one place: a token with its length, or a fault with its distance.
 use Rattle.std.specs.Prelude.{◌≡◌, ◌≢◌, ℕ, ◌≤◌, List, [], ◌∷◌, ◌++◌, length, drop, Bool, false, ◌&&◌, ◌==◌, ⊤, IsTrue}
-use Rattle.st_scan.specs.Bytes.{is_letter, is_digit, is_text_byte}
-use Rattle.st_scan.specs.Spelling.{begins_lower, escaped}
+use Rattle.st_scan.specs.Bytes.{is_letter, is_digit}
+use Rattle.st_scan.specs.Gaps.{opens_comment}
+use Rattle.st_scan.specs.Spelling.{begins_lower}
 use Rattle.st_scan.specs.Tokens.{Longest, IsInRange}
-use Rattle.st_scan.specs.Faults.{Cause, is_wrong}
+use Rattle.st_scan.specs.Faults.{Cause}
 use Rattle.st_scan.specs.declared.read.Reading.{Reading}
 use Rattle.st_scan.specs.declared.read.Stop.{Stop}
 use Rattle.st_scan.specs.declared.read.Stop.TheVariants.{Refused, Memory}
@@ -29,6 +30,16 @@ begins_dot (b ∷ bs) = b == 46 && begins_letter bs
 abbrev pub begins_fun : List ℕ → Bool
 begins_fun [] = false
 begins_fun (b ∷ bs) = b == 36 && begins_lower bs
+
+-- no comment, and no token but a sign, begins there
+pub record BeginsSign (bytes : List ℕ) : Type 0 where
+  pub some : bytes ≢ []
+  pub no_comment : opens_comment bytes ≡ false
+  pub no_letter : begins_letter bytes ≡ false
+  pub no_digit : begins_digit bytes ≡ false
+  pub no_quote : begins_quote bytes ≡ false
+  pub no_dot : begins_dot bytes ≡ false
+  pub no_fun : begins_fun bytes ≡ false
 
 -- the token is the longest at the front, and it is so long
 pub record IsReading (bytes : List ℕ) (reading : Reading) : Type 0 where

@@ -13,6 +13,7 @@ mod number;
 mod place;
 mod read;
 mod sign;
+mod text;
 mod token;
 mod word;
 

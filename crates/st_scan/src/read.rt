@@ -2,11 +2,14 @@
 
 ghost use Rattle.std.specs.Prelude.{◌≡◌, ◌<◌, length, IsTrue, IfOk, MatchResult};
 ghost use Rattle.st_scan.specs.Gaps.{opens_comment};
-ghost use Rattle.st_scan.specs.Readings.{IsReading, Stops, begins_letter, begins_digit, begins_quote, begins_dot, begins_fun};
+ghost use Rattle.st_scan.specs.Readings.{IsReading, Stops, begins_letter, begins_digit, begins_quote, begins_dot, begins_fun, BeginsSign};
 ghost use Rattle.st_scan.specs.declared.read.Stop.TheVariants.{Memory};
 
+use crate::gap::opens_comment;
 use crate::name::{begins_lower, is_letter, kind_of_name, name_front};
+use crate::number::read_number;
 use crate::sign::sign_at;
+use crate::text::read_text;
 use crate::TokenKind;
 use st_num::{Name, NoMemory, RuleId};
 use std::alloc::Global;
@@ -112,4 +115,46 @@ fn read_fun(alloc: Global, bytes: &[u8]) -> Result<Reading, NoMemory>
         kind: TokenKind::Fun(Name::from_slice(alloc, name)?),
         length: name.len() + 1,
     })
+}
+
+/// The sign at the front, where nothing but a sign can stand.
+fn read_sign(bytes: &[u8]) -> Result<Reading, Stop>
+    requires { BeginsSign bytes.now }
+    ensures { MatchResult result (λ reading. IsReading bytes.now reading) (λ stop. Stops bytes.now stop) }
+{
+    match sign_at(bytes) {
+        Some(mark) => Ok(Reading {
+            kind: TokenKind::Sign(mark),
+            length: mark.spelling().len(),
+        }),
+        None => Err(Stop::Refused {
+            skipped: 0,
+            rule: RuleId::L1,
+        }),
+    }
+}
+
+/// The token at the front of what stands behind blanks and closed comments.
+pub(crate) fn read_token(alloc: Global, bytes: &[u8]) -> Result<Reading, Stop>
+    requires { 0 < length bytes.now }
+    ensures { MatchResult result (λ reading. IsReading bytes.now reading) (λ stop. Stops bytes.now stop) }
+{
+    if opens_comment(bytes) {
+        Err(Stop::Refused {
+            skipped: 0,
+            rule: RuleId::L2,
+        })
+    } else if begins_letter(bytes) {
+        Ok(read_name(alloc, bytes)?)
+    } else if begins_digit(bytes) {
+        read_number(bytes)
+    } else if begins_quote(bytes) {
+        read_text(alloc, bytes)
+    } else if begins_dot(bytes) {
+        Ok(read_dot(alloc, bytes)?)
+    } else if begins_fun(bytes) {
+        Ok(read_fun(alloc, bytes)?)
+    } else {
+        read_sign(bytes)
+    }
 }
