@@ -1,6 +1,5 @@
 -- One step through blanks and comments, as the loops take it.
-use Rattle.std.proofs.Common.{◌≡◌, ℕ, zero, suc, ◌+◌, ◌-◌, ◌≤◌, ◌<◌, List, [], ◌∷◌, ◌++◌, length, true, false, refl, sym, ap, ◌∙◌, if◌then◌else◌, arith, append_assoc}
-use Rattle.std.proofs.lemmas.Bool.{cases_Bool}
+use Rattle.std.proofs.Common.{◌≡◌, ℕ, zero, suc, ◌+◌, ◌-◌, ◌≤◌, ◌<◌, List, [], ◌∷◌, ◌++◌, length, Bool, true, false, refl, sym, ap, ◌∙◌, if◌then◌else◌, arith, append_assoc}
 use Rattle.st_scan.specs.Bytes.{is_blank, is_line_feed}
 use Rattle.st_scan.specs.Gaps.{opens, closes, starts_line, Within, between, line, comment, gap}
 
@@ -106,11 +105,48 @@ pub record IsEnd (bytes rest : List ℕ) : Type 0 where
   pub front : List ℕ
   pub joined : bytes ≡ front ++ rest
 
-pub end_same : (bytes : List ℕ) → IsEnd bytes bytes
-end_same bytes = record { front = []; joined = refl }
+end_tail : (whole : List ℕ) (b : ℕ) (bs : List ℕ) → IsEnd whole (b ∷ bs) → IsEnd whole bs
+end_tail whole b bs h = record { front = h.front ++ b ∷ []; joined = h.joined ∙ sym (append_assoc h.front (b ∷ []) bs) }
 
-pub end_more : (b : ℕ) (bytes rest : List ℕ) → IsEnd bytes rest → IsEnd (b ∷ bytes) rest
-end_more b bytes rest h = record { front = b ∷ h.front; joined = ap (λ u. b ∷ u) h.joined }
+-- where a comment that is open began
+abbrev Began : Within → List ℕ → Type 0
+Began between whole = Unit {0}
+Began line whole = Unit {0}
+Began (comment start n) whole = IsEnd whole start
 
-pub end_end : (bytes middle rest : List ℕ) → IsEnd bytes middle → IsEnd middle rest → IsEnd bytes rest
-end_end bytes middle rest h k = record { front = h.front ++ k.front; joined = h.joined ∙ ap (λ u. h.front ++ u) k.joined ∙ sym (append_assoc h.front k.front rest) }
+either : (whole : List ℕ) (t : Bool) (x y : List ℕ) → IsEnd whole x → IsEnd whole y → IsEnd whole (if t then x else y)
+either whole true x y p q = p
+either whole false x y p q = q
+
+gap_end : (w : Within) (bs whole : List ℕ) → IsEnd whole bs → Began w whole → IsEnd whole (gap w bs)
+unfolding gap
+gap_end between [] whole h s = h
+gap_end between (b ∷ []) whole h s = either whole (is_blank b) [] (b ∷ []) (end_tail whole b [] h) h
+gap_end between (b ∷ c ∷ bs) whole h s =
+    let tail = end_tail whole b (c ∷ bs) h in
+    let behind = end_tail whole c bs tail in
+    either whole (is_blank b) (gap between (c ∷ bs)) (if starts_line b c then gap line bs else if opens b c then gap (comment (b ∷ c ∷ bs) 0) bs else b ∷ c ∷ bs) (gap_end between (c ∷ bs) whole tail tt)
+      (either whole (starts_line b c) (gap line bs) (if opens b c then gap (comment (b ∷ c ∷ bs) 0) bs else b ∷ c ∷ bs) (gap_end line bs whole behind tt)
+        (either whole (opens b c) (gap (comment (b ∷ c ∷ bs) 0) bs) (b ∷ c ∷ bs) (gap_end (comment (b ∷ c ∷ bs) 0) bs whole behind h) h))
+gap_end line [] whole h s = h
+gap_end line (b ∷ bs) whole h s =
+    let tail = end_tail whole b bs h in
+    either whole (is_line_feed b) (gap between bs) (gap line bs) (gap_end between bs whole tail tt) (gap_end line bs whole tail tt)
+gap_end (comment start zero) [] whole h s = s
+gap_end (comment start (suc n)) [] whole h s = s
+gap_end (comment start zero) (b ∷ []) whole h s = s
+gap_end (comment start (suc n)) (b ∷ []) whole h s = s
+gap_end (comment start zero) (b ∷ c ∷ bs) whole h s =
+    let tail = end_tail whole b (c ∷ bs) h in
+    let behind = end_tail whole c bs tail in
+    either whole (closes b c) (gap between bs) (if opens b c then gap (comment start 1) bs else gap (comment start zero) (c ∷ bs)) (gap_end between bs whole behind tt)
+      (either whole (opens b c) (gap (comment start 1) bs) (gap (comment start zero) (c ∷ bs)) (gap_end (comment start 1) bs whole behind s) (gap_end (comment start zero) (c ∷ bs) whole tail s))
+gap_end (comment start (suc n)) (b ∷ c ∷ bs) whole h s =
+    let tail = end_tail whole b (c ∷ bs) h in
+    let behind = end_tail whole c bs tail in
+    either whole (closes b c) (gap (comment start n) bs) (if opens b c then gap (comment start (suc (suc n))) bs else gap (comment start (suc n)) (c ∷ bs)) (gap_end (comment start n) bs whole behind s)
+      (either whole (opens b c) (gap (comment start (suc (suc n))) bs) (gap (comment start (suc n)) (c ∷ bs)) (gap_end (comment start (suc (suc n))) bs whole behind s) (gap_end (comment start (suc n)) (c ∷ bs) whole tail s))
+
+-- what stands behind the gap ends the bytes
+pub gap_is_end : (bytes : List ℕ) → IsEnd bytes (gap between bytes)
+gap_is_end bytes = gap_end between bytes bytes (record { front = []; joined = refl }) tt

@@ -7,3 +7,4 @@ pub mod Places
 pub mod Readings
 pub mod Numbers
 pub mod TextReadings
+pub mod Steps

@@ -9,3 +9,4 @@ pub mod Faults
 pub mod TextPieces
 pub mod NumberFronts
 pub mod Readings
+pub mod Steps

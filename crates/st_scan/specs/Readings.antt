@@ -1,5 +1,5 @@
 -- What is read at one place: a token with its length, or a fault with its distance.
-use Rattle.std.specs.Prelude.{◌≡◌, ◌≢◌, ℕ, ◌≤◌, List, [], ◌∷◌, ◌++◌, length, drop, Bool, false, ◌&&◌, ◌==◌, ⊤, IsTrue}
+use Rattle.std.specs.Prelude.{◌≡◌, ◌≢◌, ℕ, ◌+◌, ◌≤◌, List, [], ◌∷◌, ◌++◌, length, drop, Bool, false, ◌&&◌, ◌==◌, ⊤, IsTrue}
 use Rattle.st_scan.specs.Bytes.{is_letter, is_digit}
 use Rattle.st_scan.specs.Gaps.{opens_comment}
 use Rattle.st_scan.specs.Spelling.{begins_lower}
@@ -53,3 +53,13 @@ pub record IsReading (bytes : List ℕ) (reading : Reading) : Type 0 where
 abbrev pub Stops : List ℕ → Stop → Type 0
 Stops bytes (Refused skipped rule) = Cause bytes (drop skipped bytes) rule × (skipped ≤ length bytes)
 Stops bytes Memory = ⊤
+
+-- the same fault, told from some bytes earlier
+abbrev pub farther : ℕ → Stop → Stop
+farther count (Refused skipped rule) = Refused (count + skipped) rule
+farther count Memory = Memory
+
+-- it stands within so many bytes
+abbrev pub IsWithin : ℕ → Stop → Type 0
+IsWithin limit (Refused skipped rule) = skipped ≤ limit
+IsWithin limit Memory = ⊤

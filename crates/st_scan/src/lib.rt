@@ -12,6 +12,7 @@ mod name;
 mod number;
 mod place;
 mod read;
+mod scan;
 mod sign;
 mod text;
 mod token;

@@ -55,7 +55,9 @@ impl Place {
     pub(crate) fn behind(self, bytes: &[u8]) -> Place
         requires lines { self.line + length bytes.now < 2 ^ 64 }
         requires columns { self.column + length bytes.now < 2 ^ 64 }
-        ensures { (before : List ℕ) → IsBehind before self → IsBehind (before ++ bytes.now) result }
+        ensures same { (before : List ℕ) → IsBehind before self → IsBehind (before ++ bytes.now) result }
+        ensures lines { result.line ≤ self.line + length bytes.now }
+        ensures columns { result.column ≤ self.column + length bytes.now }
     {
         let mut place = self;
         for byte in bytes {

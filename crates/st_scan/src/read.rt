@@ -1,8 +1,8 @@
 //! One token at a place behind blanks and comments.
 
-ghost use Rattle.std.specs.Prelude.{◌≡◌, ◌<◌, length, IsTrue, IfOk, MatchResult};
+ghost use Rattle.std.specs.Prelude.{◌≡◌, ◌-◌, ◌<◌, length, IsTrue, IfOk, MatchResult};
 ghost use Rattle.st_scan.specs.Gaps.{opens_comment};
-ghost use Rattle.st_scan.specs.Readings.{IsReading, Stops, begins_letter, begins_digit, begins_quote, begins_dot, begins_fun, BeginsSign};
+ghost use Rattle.st_scan.specs.Readings.{IsReading, Stops, begins_letter, begins_digit, begins_quote, begins_dot, begins_fun, BeginsSign, farther, IsWithin};
 ghost use Rattle.st_scan.specs.declared.read.Stop.TheVariants.{Memory};
 
 use crate::gap::opens_comment;
@@ -26,6 +26,22 @@ pub(crate) struct Reading {
 pub(crate) enum Stop {
     Refused { skipped: usize, rule: RuleId },
     Memory,
+}
+
+impl Stop {
+    /// The same fault, told from `count` bytes earlier.
+    pub(crate) fn farther(self, count: usize) -> Stop
+        requires { IsWithin (usize.MAX - count) self }
+        ensures { result ≡ farther count self }
+    {
+        match self {
+            Stop::Refused { skipped, rule } => Stop::Refused {
+                skipped: count + skipped,
+                rule,
+            },
+            Stop::Memory => Stop::Memory,
+        }
+    }
 }
 
 impl From<NoMemory> for Stop {

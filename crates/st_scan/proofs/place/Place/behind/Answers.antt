@@ -15,5 +15,5 @@ loop-byte-preserved c = record {
   columns = omega arith;
 }
 
-pub returns : goal.returns
-returns c = λ before h. subst (λ u. IsBehind (before ++ u) c.loop-byte.place) (take_all _ _ (omega arith)) (c.loop-byte.invariant.same before h)
+pub returns-clause-same : goal.returns-clause-same
+returns-clause-same c = λ before h. subst (λ u. IsBehind (before ++ u) c.loop-byte.place) (take_all _ _ (omega arith)) (c.loop-byte.invariant.same before h)
