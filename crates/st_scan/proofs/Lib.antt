@@ -8,3 +8,4 @@ pub mod Readings
 pub mod Numbers
 pub mod TextReadings
 pub mod Steps
+pub mod Answers

@@ -169,7 +169,7 @@ token_fault_unique number file here there r s a b =
     let meet = runs_meet number file file a.tokens b.tokens a.left b.left a.run b.run (cause_stuck number file a.left here r a.cause) (cause_stuck number file b.left there s b.cause) in
     cause_unique (gap between a.left) here there r s a.cause (subst (λ u. Cause (gap between u) there s) (sym meet.1) b.cause)
 
-valid_unique : (file : List ℕ) (n m : ℕ) → IsValidUpTo file n → IsValidUpTo file m → n ≡ m
+pub valid_unique : (file : List ℕ) (n m : ℕ) → IsValidUpTo file n → IsValidUpTo file m → n ≡ m
 valid_unique file n m a b = go (cases_order n m)
   where
     go : (n ≡ m) ⊎ ((n < m) ⊎ (m < n)) → n ≡ m

@@ -1,7 +1,8 @@
 -- One step from token to token.
-use Rattle.std.proofs.Common.{◌≡◌, ◌≢◌, ℕ, zero, suc, ◌+◌, ◌-◌, ◌≤◌, ◌<◌, List, [], ◌∷◌, ◌++◌, length, take, drop, Bool, true, false, refl, sym, ap, ◌∙◌, subst, arith, ◌==◌, append_assoc}
+use Rattle.std.proofs.Common.{◌≡◌, ◌≢◌, ℕ, zero, suc, ◌+◌, ◌-◌, ◌≤◌, ◌<◌, List, [], ◌∷◌, ◌++◌, length, take, drop, Bool, true, false, refl, sym, ap, ◌∙◌, subst, arith, ◌==◌, append_assoc, ◌⊎◌, inl, inr}
+use Rattle.std.proofs.lemmas.Bool.{false≢true, cases_lt}
 use Rattle.std.proofs.lemmas.Bool.Decides.{nat_tests}
-use Rattle.std.proofs.lemmas.List.{take_at, drop_at, take-append-drop, drop-drop, length-append}
+use Rattle.std.proofs.lemmas.List.{take_at, drop_at, drop_all, take-append-drop, drop-drop, length-append}
 use Rattle.std.proofs.lemmas.List.Prefix.{end_rest}
 use Rattle.st_num.specs.declared.span.Span.{Span}
 use Rattle.st_num.specs.declared.rule.RuleId.{RuleId}
@@ -10,14 +11,16 @@ use Rattle.st_scan.specs.declared.read.Reading.{Reading}
 use Rattle.st_scan.specs.declared.read.Stop.{Stop}
 use Rattle.st_scan.specs.declared.read.Stop.TheVariants.{Refused, Memory}
 use Rattle.st_scan.specs.declared.token.Token.{Token}
-use Rattle.st_scan.specs.Gaps.{gap, between}
+use Rattle.st_scan.specs.declared.token.TokenKind.TheVariants.{Number}
+use Rattle.st_scan.specs.Gaps.{gap, between, opens_comment}
 use Rattle.st_scan.specs.Places.{offset, place, IsBehind, line_behind, column_behind}
 use Rattle.st_scan.specs.Spelling.{Spells}
-use Rattle.st_scan.specs.Tokens.{Longest, Next, IsInRange}
-use Rattle.st_scan.specs.Faults.{Cause}
+use Rattle.st_scan.specs.Tokens.{Longest, Next, Run, IsInRange}
+use Rattle.st_scan.specs.Faults.{Cause, comment_open, text_open, text_wrong, large, no_token, is_wrong, TokenFault}
 use Rattle.st_scan.specs.Readings.{IsReading, Stops, farther, IsWithin}
-use Rattle.st_scan.specs.Steps.{IsAt, StopsNext}
+use Rattle.st_scan.specs.Steps.{IsAt, StopsNext, StopsFile}
 use Rattle.st_scan.proofs.Gaps.{gap_is_end}
+use Rattle.st_scan.proofs.Places.{line_short, column_short}
 use Rattle.st_scan.proofs.Spelled.{spelled_some}
 
 -- ---- the bytes before a rest
@@ -41,6 +44,17 @@ place_is number file here q s e at =
   where
     span_of : ℕ → ℕ → Span
     span_of line column = record { file = number; line = line; column = column }
+
+at_start : (file : List ℕ) (p : Place) → IsBehind [] p → IsAt file file p
+at_start file p h =
+    let is : take (offset file file) file ≡ [] = before_is file [] file refl in
+    record { split = ap (λ u. u ++ file) (sym is); behind = subst (λ u. IsBehind u p) (sym is) h }
+
+-- the place behind so many bytes from the start on
+pub at_skipped : (file : List ℕ) (n : ℕ) (p q : Place) → IsBehind [] p → ((before : List ℕ) → IsBehind before p → IsBehind (before ++ take n file) q) → IsAt file (drop n file) q
+at_skipped file n p q start moved =
+    let at : IsAt file file p = at_start file p start in
+    at_moves file file (take n file) (drop n file) p q at (sym (take-append-drop n file)) (moved (take (offset file file) file) at.behind)
 
 -- ---- the gap
 
@@ -103,3 +117,43 @@ stops_next rest here (Refused skipped rule) is s =
       ap (drop skipped) (subst (λ u. u ≡ drop (length rest - length u) rest) (sym is) (sym (gap_drop rest))) ∙ drop-drop skipped (length rest - length here) rest in
     (subst (λ u. Cause u (drop ((length rest - length here) + skipped) rest) rule) is (subst (λ u. Cause here u rule) same s.0), omega (arith, short, s.1))
 stops_next rest here Memory is s = tt
+
+-- ---- all tokens
+
+pub run_more : (number : ℕ) (file rest : List ℕ) (ts : List Token) (middle left : List ℕ) (t : Token) → Run number file rest ts middle → Next number file middle t left → Run number file rest (ts ++ t ∷ []) left
+run_more number file rest [] middle left t run next = (left, subst (λ u. Next number file u t left) (sym run) next, refl)
+run_more number file rest (u ∷ us) middle left t run next = (run.0, run.1, run_more number file run.0 us middle left t run.2 next)
+
+-- the counts at a rest
+pub at_bounds : (file rest : List ℕ) (p : Place) → IsAt file rest p → (p.line + length rest ≤ length file + 1) × (p.column + length rest ≤ length file + 1)
+at_bounds file rest p at =
+    let before : List ℕ = take (offset file rest) file in
+    let all : length file ≡ length (take (offset file rest) file) + length rest = ap length at.split ∙ length-append (take (offset file rest) file) rest in
+    (omega (arith, all, at.behind.line, line_short (take (offset file rest) file)), omega (arith, all, at.behind.column, column_short (take (offset file rest) file)))
+
+-- a fault is at something
+pub cause_here : (bytes here : List ℕ) (rule : RuleId) → Cause bytes here rule → here ≢ []
+cause_here bytes here rule (comment_open o) e = false≢true (ap opens_comment (sym e) ∙ o)
+cause_here bytes here rule (text_open behind q unclosed) e = absurd (cc (sym q ∙ e))
+cause_here bytes here rule (text_wrong behind text wrong q closed split right bad) e = false≢true (ap is_wrong (sym e) ∙ bad)
+cause_here bytes here rule (large text rest n long big) e = nothing text refl
+  where
+    nothing : (t : List ℕ) → text ≡ t → ⊥
+    nothing [] is = spelled_some (Number n) (subst (λ u. Spells u (Number n)) is long.spelled)
+    nothing (b ∷ bs) is = absurd (cc (sym (long.split ∙ ap (λ u. u ++ rest) is) ∙ e))
+cause_here bytes here rule (no_token some none closed quoteless) e = some e
+
+pub stops_file : (number : ℕ) (file rest : List ℕ) (ts : List Token) (p : Place) (stop : Stop) → IsAt file rest p → Run number file file ts rest → StopsNext rest stop → StopsFile number file (farther (length file - length rest) stop)
+stops_file number file rest ts p (Refused skipped rule) at run s =
+    let rest_is : drop (offset file rest) file ≡ rest = end_rest file rest (take (offset file rest) file) at.split in
+    let same : drop skipped rest ≡ drop (offset file rest + skipped) file = ap (drop skipped) (sym rest_is) ∙ drop-drop skipped (offset file rest) file in
+    let short : length rest ≤ length file = (omega (arith, ap length at.split, length-append (take (offset file rest) file) rest)) in
+    (record { tokens = ts; left = rest; run = run; cause = subst (λ u. Cause (gap between rest) u rule) same s.0 }, inside (cause_here (gap between rest) (drop skipped rest) rule s.0) (omega (arith, short)))
+  where
+    inside : drop skipped rest ≢ [] → length rest ≤ length file → offset file rest + skipped < length file
+    inside some short = go (cases_lt skipped (length rest))
+      where
+        go : (skipped < length rest) ⊎ (length rest ≤ skipped) → offset file rest + skipped < length file
+        go (inl h) = omega (arith, h, short)
+        go (inr h) = absurd (some (drop_all skipped rest h))
+stops_file number file rest ts p Memory at run s = tt

@@ -6,6 +6,7 @@ pub mod Places
 pub mod Signs
 pub mod Tokens
 pub mod Faults
+pub mod Answers
 pub mod TextPieces
 pub mod NumberFronts
 pub mod Readings

@@ -1,5 +1,6 @@
 -- One step from token to token, and all of them.
 use Rattle.std.specs.Prelude.{◌≡◌, ℕ, ◌≤◌, ◌<◌, List, [], ◌++◌, length, take, drop, ⊤}
+use Rattle.std.specs.Str.{IsUtf8, IsValidUpTo}
 use Rattle.st_scan.specs.Gaps.{gap, between}
 use Rattle.st_scan.specs.Places.{offset, IsBehind}
 use Rattle.st_scan.specs.Tokens.{Next, Run}
@@ -8,7 +9,7 @@ use Rattle.st_scan.specs.declared.place.Place.{Place}
 use Rattle.st_scan.specs.declared.token.Token.{Token}
 use Rattle.st_scan.specs.declared.read.Stop.{Stop}
 use Rattle.st_scan.specs.declared.read.Stop.TheVariants.{Refused, Memory}
-use Rattle.st_scan.specs.declared.scan.Step.{Step}
+use Rattle.st_scan.specs.declared.scanner.Step.{Step}
 
 -- the rest ends the file, and the counts are those of its place
 pub record IsAt (file rest : List ℕ) (here : Place) : Type 0 where
@@ -36,3 +37,9 @@ pub record ReadsAll (number : ℕ) (file : List ℕ) (tokens : List Token) : Typ
 abbrev pub StopsFile : ℕ → List ℕ → Stop → Type 0
 StopsFile number file (Refused skipped rule) = TokenFault number file (drop skipped file) rule × (skipped < length file)
 StopsFile number file Memory = ⊤
+
+-- so many bytes at the front are UTF-8, and no more of them
+pub record IsUtf8Length (bytes : List ℕ) (size : ℕ) : Type 0 where
+  pub within : size ≤ length bytes
+  pub whole : length bytes ≤ size → IsUtf8 bytes
+  pub part : size < length bytes → IsValidUpTo bytes size

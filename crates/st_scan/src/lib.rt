@@ -12,11 +12,12 @@ mod name;
 mod number;
 mod place;
 mod read;
-mod scan;
+mod scanner;
 mod sign;
 mod text;
 mod token;
 mod word;
 
+pub use scanner::scan;
 pub use token::{LexFault, Token, TokenKind};
 pub use word::Word;

@@ -6,7 +6,7 @@ use Rattle.st_scan.specs.Steps.{StopsNext, IsAt}
 use Rattle.st_scan.specs.Tokens.{Next}
 use Rattle.st_scan.specs.declared.token.Token.{Token}
 use Rattle.st_scan.proofs.Steps.{gap_short, token_next, at_here, at_moves, left_shorter, stops_next}
-use Rattle.st_scan.proofs.scan.read_next.Goals as goal
+use Rattle.st_scan.proofs.scanner.read_next.Goals as goal
 
 pub overflow_sub-gap : goal.overflow_sub-gap
 overflow_sub-gap c = subst (λ u. length u ≤ length c.args.rest.now) (sym c.skip_gap-here.ensures) (gap_short c.args.rest.now)
