@@ -47,7 +47,7 @@ module _ (number : ℕ) (file : List ℕ) (skipped size : ℕ) (rule : RuleId) (
   pub utf8_first : size ≤ skipped → FirstFault number file (place number file (drop size file)) L4
   utf8_first before = of_utf8 size (valid.part (omega arith)) refl
       (λ here other f. let same = (token_fault_unique number file here (drop skipped file) other rule f fault).0 in
-        subst (λ u. size ≤ offset file u) (sym same) (omega (arith, offset_of file skipped (omega arith))))
+      subst (λ u. size ≤ offset file u) (sym same) (omega (arith, offset_of file skipped (omega arith))))
 
   pub token_first : skipped < size → FirstFault number file (place number file (drop skipped file)) rule
   token_first before = of_token (drop skipped file) rule fault refl (λ n v. go n v (cases_lt size (length file)))

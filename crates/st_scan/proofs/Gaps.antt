@@ -126,8 +126,8 @@ gap_end between (b ∷ c ∷ bs) whole h s =
     let tail = end_tail whole b (c ∷ bs) h in
     let behind = end_tail whole c bs tail in
     either whole (is_blank b) (gap between (c ∷ bs)) (if starts_line b c then gap line bs else if opens b c then gap (comment (b ∷ c ∷ bs) 0) bs else b ∷ c ∷ bs) (gap_end between (c ∷ bs) whole tail tt)
-      (either whole (starts_line b c) (gap line bs) (if opens b c then gap (comment (b ∷ c ∷ bs) 0) bs else b ∷ c ∷ bs) (gap_end line bs whole behind tt)
-        (either whole (opens b c) (gap (comment (b ∷ c ∷ bs) 0) bs) (b ∷ c ∷ bs) (gap_end (comment (b ∷ c ∷ bs) 0) bs whole behind h) h))
+    (either whole (starts_line b c) (gap line bs) (if opens b c then gap (comment (b ∷ c ∷ bs) 0) bs else b ∷ c ∷ bs) (gap_end line bs whole behind tt)
+    (either whole (opens b c) (gap (comment (b ∷ c ∷ bs) 0) bs) (b ∷ c ∷ bs) (gap_end (comment (b ∷ c ∷ bs) 0) bs whole behind h) h))
 gap_end line [] whole h s = h
 gap_end line (b ∷ bs) whole h s =
     let tail = end_tail whole b bs h in
@@ -140,12 +140,12 @@ gap_end (comment start zero) (b ∷ c ∷ bs) whole h s =
     let tail = end_tail whole b (c ∷ bs) h in
     let behind = end_tail whole c bs tail in
     either whole (closes b c) (gap between bs) (if opens b c then gap (comment start 1) bs else gap (comment start zero) (c ∷ bs)) (gap_end between bs whole behind tt)
-      (either whole (opens b c) (gap (comment start 1) bs) (gap (comment start zero) (c ∷ bs)) (gap_end (comment start 1) bs whole behind s) (gap_end (comment start zero) (c ∷ bs) whole tail s))
+    (either whole (opens b c) (gap (comment start 1) bs) (gap (comment start zero) (c ∷ bs)) (gap_end (comment start 1) bs whole behind s) (gap_end (comment start zero) (c ∷ bs) whole tail s))
 gap_end (comment start (suc n)) (b ∷ c ∷ bs) whole h s =
     let tail = end_tail whole b (c ∷ bs) h in
     let behind = end_tail whole c bs tail in
     either whole (closes b c) (gap (comment start n) bs) (if opens b c then gap (comment start (suc (suc n))) bs else gap (comment start (suc n)) (c ∷ bs)) (gap_end (comment start n) bs whole behind s)
-      (either whole (opens b c) (gap (comment start (suc (suc n))) bs) (gap (comment start (suc n)) (c ∷ bs)) (gap_end (comment start (suc (suc n))) bs whole behind s) (gap_end (comment start (suc n)) (c ∷ bs) whole tail s))
+    (either whole (opens b c) (gap (comment start (suc (suc n))) bs) (gap (comment start (suc n)) (c ∷ bs)) (gap_end (comment start (suc (suc n))) bs whole behind s) (gap_end (comment start (suc n)) (c ∷ bs) whole tail s))
 
 -- what stands behind the gap ends the bytes
 pub gap_is_end : (bytes : List ℕ) → IsEnd bytes (gap between bytes)

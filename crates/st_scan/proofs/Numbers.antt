@@ -45,8 +45,8 @@ behind_prefix bytes digits other more e f = ap (λ u. tail_of (tail_of u)) (sym 
 pub no_hexadecimal : (bytes digits : List ℕ) → bytes ≡ codes "0x" ++ digits → prefix_len (digit_in 16) digits ≡ 0 → NoHexadecimal bytes
 no_hexadecimal bytes digits e none = record {
   never = λ other rest numeral f.
-    let short : length other ≤ prefix_len (digit_in 16) digits = subst (λ u. length other ≤ prefix_len (digit_in 16) u) (sym (behind_prefix bytes digits other rest e f)) (passing_short (digit_in 16) other rest (digits_all 16 other numeral.1)) in
-    absurd (omega (arith, short, none, numeral.0));
+      let short : length other ≤ prefix_len (digit_in 16) digits = subst (λ u. length other ≤ prefix_len (digit_in 16) u) (sym (behind_prefix bytes digits other rest e f)) (passing_short (digit_in 16) other rest (digits_all 16 other numeral.1)) in
+      absurd (omega (arith, short, none, numeral.0));
 }
 
 pub longest_hexadecimal : (bytes digits : List ℕ) (n : ℕ) → bytes ≡ codes "0x" ++ digits → n ≡ prefix_len (digit_in 16) digits → n ≢ 0 → LongestHexadecimal bytes (n + 2)
@@ -86,12 +86,12 @@ hexadecimal_number bytes size h = subst (LongestNumber bytes) (sym taken) (recor
 
     no_longer : (other more : List ℕ) (n : ℕ) → SpellsNumber other n → bytes ≡ other ++ more → length other ≤ length (codes "0x" ++ h.digits)
     no_longer other more n (inl s) parted =
-      let short : length other ≤ 1 = decimal_short other more (h.digits ++ h.rest) s.0 (sym parted ∙ h.split) in
-      let some : 1 ≤ length (codes "0x" ++ h.digits) = omega (arith, length-append (codes "0x") h.digits) in
-      omega (arith, short, some)
+        let short : length other ≤ 1 = decimal_short other more (h.digits ++ h.rest) s.0 (sym parted ∙ h.split) in
+        let some : 1 ≤ length (codes "0x" ++ h.digits) = omega (arith, length-append (codes "0x") h.digits) in
+        omega (arith, short, some)
     no_longer other more n (inr s) parted =
-      let short : length s.0 ≤ length h.digits = h.longest s.0 more s.2.0.1 (parted ∙ ap (λ u. u ++ more) s.1) in
-      omega (arith, short, ap length s.1, length-append (codes "0x") s.0, length-append (codes "0x") h.digits)
+        let short : length s.0 ≤ length h.digits = h.longest s.0 more s.2.0.1 (parted ∙ ap (λ u. u ++ more) s.1) in
+        omega (arith, short, ap length s.1, length-append (codes "0x") s.0, length-append (codes "0x") h.digits)
 
 digit_ten : (b : ℕ) → is_digit b ≡ true → digit_in 10 b ≡ true
 digit_ten b e = grind (arith, nat_tests)
@@ -130,9 +130,9 @@ number_longest bytes text n h e spelled = record {
   split = h.split;
   spelled = spelled;
   longest = λ other more another parted also.
-    let same : group another ≡ 1 = sym (spelled_group other more another also) ∙ ap group_at (sym parted) ∙ digit_starts bytes e in
-    let found = as_number other another same also in
-    h.longest other more found.0 found.2 parted;
+      let same : group another ≡ 1 = sym (spelled_group other more another also) ∙ ap group_at (sym parted) ∙ digit_starts bytes e in
+      let found = as_number other another same also in
+      h.longest other more found.0 found.2 parted;
   no_comment = digit_opens bytes e;
 }
 

@@ -89,13 +89,13 @@ name_reading bytes kind e spelled = record {
     split = front_split is_name_part bytes;
     spelled = spelled;
     longest = λ other more another parted also.
-      let first : 0 ≡ group another = sym (letter_starts bytes e) ∙ ap group_at parted ∙ spelled_group other more another also in
-      front_short is_name_part bytes other more parted (as_word other another (sym first) also);
+        let first : 0 ≡ group another = sym (letter_starts bytes e) ∙ ap group_at parted ∙ spelled_group other more another also in
+        front_short is_name_part bytes other more parted (as_word other another (sym first) also);
     no_comment = letter_opens bytes e;
   };
   in_range =
-    let first : 0 ≡ group kind = sym (letter_starts bytes e) ∙ ap group_at (front_split is_name_part bytes) ∙ spelled_group (take_while is_name_part bytes) (behind_front is_name_part bytes) kind spelled in
-    unranged kind (λ one. absurd (omega (arith, first, one)));
+      let first : 0 ≡ group kind = sym (letter_starts bytes e) ∙ ap group_at (front_split is_name_part bytes) ∙ spelled_group (take_while is_name_part bytes) (behind_front is_name_part bytes) kind spelled in
+      unranged kind (λ one. absurd (omega (arith, first, one)));
   taken = refl;
 }
 
@@ -112,13 +112,13 @@ sign_and_name sign behind kind apart spelled ranged alike = record {
     split = ap (λ u. sign ∷ u) (front_split is_name_part behind);
     spelled = spelled;
     longest = λ other more another parted also.
-      let same : group another ≡ group kind =
+        let same : group another ≡ group kind =
         sym (spelled_group other more another also) ∙ ap group_at (sym parted ∙ ap (λ u. sign ∷ u) (front_split is_name_part behind))
         ∙ spelled_group (sign ∷ take_while is_name_part behind) (behind_front is_name_part behind) kind spelled in
-      let found = alike other another same also in
-      let short : length found.0 ≤ length (take_while is_name_part behind) = front_short is_name_part behind found.0 more (ap tail_of (parted ∙ ap (λ u. u ++ more) found.1)) found.2 in
-      let long : length other ≡ suc (length found.0) = ap length found.1 in
-      omega (arith, short, long);
+        let found = alike other another same also in
+        let short : length found.0 ≤ length (take_while is_name_part behind) = front_short is_name_part behind found.0 more (ap tail_of (parted ∙ ap (λ u. u ++ more) found.1)) found.2 in
+        let long : length other ≡ suc (length found.0) = ap length found.1 in
+        omega (arith, short, long);
     no_comment = opens_first sign behind apart;
   };
   in_range = ranged;
@@ -130,16 +130,16 @@ dot_reading [] e = absurd (false≢true e)
 dot_reading (b ∷ bs) e =
     let both = and_parts (b == 46) (begins_letter bs) e in
     subst (λ s. IsReading (s ∷ bs) (record { kind = Dot (take_while is_name_part bs); length = length (take_while is_name_part bs) + 1 })) (sym (eqb-true b 46 both.0))
-      (sign_and_name 46 bs (Dot (take_while is_name_part bs)) (λ h. absurd (omega (arith, h))) (refl, front_name bs both.1) tt
-        (λ other another same also. let found = as_dot other another same also in (found.0, found.2, found.3)))
+    (sign_and_name 46 bs (Dot (take_while is_name_part bs)) (λ h. absurd (omega (arith, h))) (refl, front_name bs both.1) tt
+    (λ other another same also. let found = as_dot other another same also in (found.0, found.2, found.3)))
 
 pub fun_reading : (bytes : List ℕ) → begins_fun bytes ≡ true → IsReading bytes (record { kind = Fun (take_while is_name_part (drop 1 bytes)); length = length (take_while is_name_part (drop 1 bytes)) + 1 })
 fun_reading [] e = absurd (false≢true e)
 fun_reading (b ∷ bs) e =
     let both = and_parts (b == 36) (begins_lower bs) e in
     subst (λ s. IsReading (s ∷ bs) (record { kind = Fun (take_while is_name_part bs); length = length (take_while is_name_part bs) + 1 })) (sym (eqb-true b 36 both.0))
-      (sign_and_name 36 bs (Fun (take_while is_name_part bs)) (λ h. absurd (omega (arith, h))) (refl, front_name bs (lower_letter bs both.1), front_lower bs both.1) tt
-        (λ other another same also. let found = as_fun other another same also in (found.0, found.2, found.3)))
+    (sign_and_name 36 bs (Fun (take_while is_name_part bs)) (λ h. absurd (omega (arith, h))) (refl, front_name bs (lower_letter bs both.1), front_lower bs both.1) tt
+    (λ other another same also. let found = as_fun other another same also in (found.0, found.2, found.3)))
   where
     lower_letter : (u : List ℕ) → begins_lower u ≡ true → begins_letter u ≡ true
     lower_letter [] h = absurd (false≢true h)
@@ -148,7 +148,7 @@ fun_reading (b ∷ bs) e =
     front_lower : (u : List ℕ) → begins_lower u ≡ true → begins_lower (take_while is_name_part u) ≡ true
     front_lower [] h = absurd (false≢true h)
     front_lower (c ∷ cs) h =
-      ap begins_lower (take_while-cons is_name_part c cs ∙ ap (λ t. cond t (c ∷ take_while is_name_part cs) []) (letter_part c (ap (λ t. t || is_upper c) h))) ∙ h
+        ap begins_lower (take_while-cons is_name_part c cs ∙ ap (λ t. cond t (c ∷ take_while is_name_part cs) []) (letter_part c (ap (λ t. t || is_upper c) h))) ∙ h
 
 -- ---- signs
 
@@ -168,11 +168,11 @@ sign_reading bytes m starts closed sign = record {
     split = sign.split;
     spelled = refl;
     longest = λ other more another parted also.
-      let same : group another ≡ 5 = sym (spelled_group other more another also) ∙ ap group_at (sym parted) ∙ starts in
-      let found = as_sign other another same also in
-      let short : length (spelling found.0) ≤ length (spelling m) = sign.longest found.0 more (parted ∙ ap (λ u. u ++ more) found.2) in
-      let long : length other ≡ length (spelling found.0) = ap length found.2 in
-      omega (arith, short, long);
+        let same : group another ≡ 5 = sym (spelled_group other more another also) ∙ ap group_at (sym parted) ∙ starts in
+        let found = as_sign other another same also in
+        let short : length (spelling found.0) ≤ length (spelling m) = sign.longest found.0 more (parted ∙ ap (λ u. u ++ more) found.2) in
+        let long : length other ≡ length (spelling found.0) = ap length found.2 in
+        omega (arith, short, long);
     no_comment = closed;
   };
   in_range = tt;
@@ -202,10 +202,10 @@ pub dot_read : (bytes name content : List ℕ) → name ≡ take_while is_name_p
 dot_read bytes name content is copied e =
     let same : name ≡ take_while is_name_part (drop 1 bytes) = is ∙ ap (take_while is_name_part) (take_rest bytes 1) in
     subst (λ u. IsReading bytes (record { kind = Dot u; length = length name + 1 })) (sym copied)
-      (subst (λ u. IsReading bytes (record { kind = Dot u; length = length u + 1 })) (sym same) (dot_reading bytes e))
+    (subst (λ u. IsReading bytes (record { kind = Dot u; length = length u + 1 })) (sym same) (dot_reading bytes e))
 
 pub fun_read : (bytes name content : List ℕ) → name ≡ take_while is_name_part (take (length bytes - 1) (drop 1 bytes)) → content ≡ name → begins_fun bytes ≡ true → IsReading bytes (record { kind = Fun content; length = length name + 1 })
 fun_read bytes name content is copied e =
     let same : name ≡ take_while is_name_part (drop 1 bytes) = is ∙ ap (take_while is_name_part) (take_rest bytes 1) in
     subst (λ u. IsReading bytes (record { kind = Fun u; length = length name + 1 })) (sym copied)
-      (subst (λ u. IsReading bytes (record { kind = Fun u; length = length u + 1 })) (sym same) (fun_reading bytes e))
+    (subst (λ u. IsReading bytes (record { kind = Fun u; length = length u + 1 })) (sym same) (fun_reading bytes e))

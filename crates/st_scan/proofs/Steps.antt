@@ -87,7 +87,7 @@ module _ (number : ℕ) (file rest here : List ℕ) (p q : Place) (is : here ≡
   token_next reading token s span told touching kind h = record {
     text = h.text;
     longest = subst (λ u. Longest u h.text (drop reading.length here) token.kind) is
-      (subst (λ u. Longest here h.text u token.kind) (sym behind) (subst (Longest here h.text h.rest) (sym kind) h.longest));
+        (subst (λ u. Longest here h.text u token.kind) (sym behind) (subst (Longest here h.text h.rest) (sym kind) h.longest));
     in_range = subst IsInRange (sym kind) h.in_range;
     at = told ∙ place_is number file here q s span at_here ∙ ap (place number file) is;
     touching = touching ∙ touches (length rest) (length here) (subst (λ u. length u ≤ length rest) (sym is) (gap_short rest)) ∙ ap (λ u. length u == length rest) is;
@@ -114,7 +114,7 @@ pub stops_next : (rest here : List ℕ) (stop : Stop) → here ≡ gap between r
 stops_next rest here (Refused skipped rule) is s =
     let short : length here ≤ length rest = subst (λ u. length u ≤ length rest) (sym is) (gap_short rest) in
     let same : drop skipped here ≡ drop ((length rest - length here) + skipped) rest =
-      ap (drop skipped) (subst (λ u. u ≡ drop (length rest - length u) rest) (sym is) (sym (gap_drop rest))) ∙ drop-drop skipped (length rest - length here) rest in
+    ap (drop skipped) (subst (λ u. u ≡ drop (length rest - length u) rest) (sym is) (sym (gap_drop rest))) ∙ drop-drop skipped (length rest - length here) rest in
     (subst (λ u. Cause u (drop ((length rest - length here) + skipped) rest) rule) is (subst (λ u. Cause here u rule) same s.0), omega (arith, short, s.1))
 stops_next rest here Memory is s = tt
 

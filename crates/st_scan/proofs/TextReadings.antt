@@ -52,18 +52,18 @@ module _ (bytes text rest : List ℕ) (split : bytes ≡ 34 ∷ flat_map escaped
       split = whole;
       spelled = (refl, right);
       longest = λ other more another parted also.
-        let same : group another ≡ 2 = sym (spelled_group other more another also) ∙ ap group_at (sym parted ∙ split) in
-        let found = as_text other another same also in
-        let both = texts_unique found.0 text more ends.0 (ap tail_of (sym (quoted_behind found.0 more) ∙ ap (λ u. u ++ more) (sym found.2) ∙ sym parted ∙ whole ∙ quoted_behind text ends.0)) in
-        let long : length other ≡ length (quoted text) = ap length (found.2 ∙ ap quoted both.0) in
-        omega (arith, long);
+          let same : group another ≡ 2 = sym (spelled_group other more another also) ∙ ap group_at (sym parted ∙ split) in
+          let found = as_text other another same also in
+          let both = texts_unique found.0 text more ends.0 (ap tail_of (sym (quoted_behind found.0 more) ∙ ap (λ u. u ++ more) (sym found.2) ∙ sym parted ∙ whole ∙ quoted_behind text ends.0)) in
+          let long : length other ≡ length (quoted text) = ap length (found.2 ∙ ap quoted both.0) in
+          omega (arith, long);
       no_comment = ap opens_comment split ∙ opens_first 34 (flat_map escaped text ++ rest) (λ h. absurd (omega (arith, h)));
     };
     in_range = tt;
     taken =
-      let all : length bytes ≡ length (quoted text) + length ends.0 = ap length whole ∙ length-append (quoted text) ends.0 in
-      let tail : length rest ≡ suc (length ends.0) = ap length ends.1 in
-      omega (arith, all, tail, some);
+        let all : length bytes ≡ length (quoted text) + length ends.0 = ap length whole ∙ length-append (quoted text) ends.0 in
+        let tail : length rest ≡ suc (length ends.0) = ap length ends.1 in
+        omega (arith, all, tail, some);
   }
     where
       whole : bytes ≡ quoted text ++ ends.0
@@ -85,7 +85,9 @@ module _ (bytes text rest : List ℕ) (split : bytes ≡ 34 ∷ flat_map escaped
       at_rest = end_rest bytes rest (34 ∷ flat_map escaped text) split
 
       go : (t : Bool) → closes_text rest ≡ t → Stops bytes (if t then Refused (length bytes - length rest) L1 else Refused 0 L2)
-      go true closed =
-        (subst (λ u. Cause bytes u L1) (sym at_rest)
-          (text_wrong (flat_map escaped text ++ rest) text rest split (closes_behind text rest ∙ closed) refl right (wrong (some rest refl closed))), omega arith)
+      go true closed = (
+        subst (λ u. Cause bytes u L1) (sym at_rest)
+            (text_wrong (flat_map escaped text ++ rest) text rest split (closes_behind text rest ∙ closed) refl right (wrong (some rest refl closed))),
+        omega arith,
+      )
       go false unclosed = (text_open (flat_map escaped text ++ rest) split (closes_behind text rest ∙ unclosed), omega arith)

@@ -14,6 +14,8 @@ mod place;
 mod read;
 mod scanner;
 mod sign;
+#[cfg(test)]
+mod tests;
 mod text;
 mod token;
 mod word;

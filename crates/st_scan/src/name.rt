@@ -5,8 +5,8 @@ ghost use Rattle.std.specs.List.{prefix_len, take_while};
 ghost use Rattle.st_scan.specs.Bytes.{is_lower, is_letter, is_name_part};
 ghost use Rattle.st_scan.specs.Spelling.{Spells, is_name, begins_lower, has_lower};
 
-use crate::word::word_of;
 use crate::TokenKind;
+use crate::word::word_of;
 use st_num::{Name, NoMemory};
 use std::alloc::Global;
 

@@ -6,8 +6,8 @@ ghost use Rattle.std.specs.List.{prefix_len};
 ghost use Rattle.st_scan.specs.NumberFronts.{NoHexadecimal, LongestHexadecimal, LongestNumber};
 ghost use Rattle.st_scan.specs.Readings.{IsReading, Stops, begins_digit};
 
-use crate::read::{Reading, Stop};
 use crate::TokenKind;
+use crate::read::{Reading, Stop};
 use st_num::{NumFault, RuleId};
 
 /// How many digits in this radix stand at the front.

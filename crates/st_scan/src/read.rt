@@ -5,12 +5,12 @@ ghost use Rattle.st_scan.specs.Gaps.{opens_comment};
 ghost use Rattle.st_scan.specs.Readings.{IsReading, Stops, begins_letter, begins_digit, begins_quote, begins_dot, begins_fun, BeginsSign, farther, IsWithin};
 ghost use Rattle.st_scan.specs.declared.read.Stop.TheVariants.{Memory};
 
+use crate::TokenKind;
 use crate::gap::opens_comment;
 use crate::name::{begins_lower, is_letter, kind_of_name, name_front};
 use crate::number::read_number;
 use crate::sign::sign_at;
 use crate::text::read_text;
-use crate::TokenKind;
 use st_num::{Name, NoMemory, RuleId};
 use std::alloc::Global;
 

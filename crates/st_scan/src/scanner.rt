@@ -10,7 +10,7 @@ ghost use Rattle.st_scan.specs.Steps.{IsAt, IsStep, StopsNext, ReadsAll, StopsFi
 
 use crate::gap::skip_gap;
 use crate::place::Place;
-use crate::read::{read_token, Stop};
+use crate::read::{Stop, read_token};
 use crate::{LexFault, Token};
 use st_num::{Row, RuleId};
 use std::alloc::Global;

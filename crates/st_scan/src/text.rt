@@ -5,8 +5,8 @@ ghost use Rattle.st_scan.specs.Faults.{closes_text};
 ghost use Rattle.st_scan.specs.Readings.{IsReading, Stops, begins_quote};
 ghost use Rattle.st_scan.specs.TextPieces.{IsPiece, IsEscape, NoEscape, text_stop};
 
-use crate::read::{Reading, Stop};
 use crate::TokenKind;
+use crate::read::{Reading, Stop};
 use st_num::{Name, RuleId};
 use std::alloc::Global;
 

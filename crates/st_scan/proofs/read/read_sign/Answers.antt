@@ -8,7 +8,7 @@ use Rattle.st_scan.proofs.read.read_sign.Goals as goal
 pub returns-in-Some : goal.returns-in-Some
 returns-in-Some c =
     subst (λ u. IsReading c.args.bytes.now (record { kind = Sign c.in-Some.mark; length = length u })) (sym c.spelling.ensures)
-      (sign_reading _ c.in-Some.mark (begins_sign c.args.bytes.now c.requires) c.requires.no_comment c.in-Some.ensures)
+    (sign_reading _ c.in-Some.mark (begins_sign c.args.bytes.now c.requires) c.requires.no_comment c.in-Some.ensures)
 
 pub returns-in-None : goal.returns-in-None
 returns-in-None c =

@@ -36,9 +36,9 @@ returns-in-Ok c = λ whole at.
     let token : Token = record { at = c.span.result; touching = (length c.args.rest.now - length here) == 0; kind = reading.kind } in
     record {
       next = subst (λ u. Next c.args.file whole c.args.rest.now token u) (sym left)
-        (token_next c.args.file whole c.args.rest.now here c.args.place c.behind-place.result c.skip_gap-here.ensures at c.behind-place.ensures.same reading token c.span.result c.span.ensures refl refl refl c.in-Ok.ensures);
+          (token_next c.args.file whole c.args.rest.now here c.args.place c.behind-place.result c.skip_gap-here.ensures at c.behind-place.ensures.same reading token c.span.result c.span.ensures refl refl refl c.in-Ok.ensures);
       at = subst (λ u. IsAt whole u c.behind.result) (sym left)
-        (at_moves whole here (take reading.length here) (drop reading.length here) c.behind-place.result c.behind.result there (sym (take-append-drop reading.length here)) (c.behind.ensures.same _ there.behind));
+          (at_moves whole here (take reading.length here) (drop reading.length here) c.behind-place.result c.behind.result there (sym (take-append-drop reading.length here)) (c.behind.ensures.same _ there.behind));
       shorter = omega (arith, taken.0, taken.1, short, ap length left, length-drop reading.length here);
     }
 

@@ -11,9 +11,9 @@ returns-in-Err c = subst (StopsFile c.args.file c.args.bytes.now) (sym c.farther
 pub tokens-preserved : goal.tokens-preserved
 tokens-preserved c =
     let step : IsStep c.args.file c.args.bytes.now c.tokens.rest.now c.in-Some.step =
-      subst (λ next. MatchOption next (gap between c.tokens.rest.now ≡ []) (λ step. IsStep c.args.file c.args.bytes.now c.tokens.rest.now step)) c.in-Some.is (c.in-Ok.ensures c.args.bytes.now c.tokens.invariant.at) in
+    subst (λ next. MatchOption next (gap between c.tokens.rest.now ≡ []) (λ step. IsStep c.args.file c.args.bytes.now c.tokens.rest.now step)) c.in-Some.is (c.in-Ok.ensures c.args.bytes.now c.tokens.invariant.at) in
     record {
       at = step.at;
       run = subst (λ tokens. Run c.args.file c.args.bytes.now c.args.bytes.now tokens c.in-Some.step.rest.now) (sym c.in_ok-push.ensures.ok)
-        (run_more _ _ _ c.tokens.tokens _ _ c.in-Some.step.token c.tokens.invariant.run step.next);
+          (run_more _ _ _ c.tokens.tokens _ _ c.in-Some.step.token c.tokens.invariant.run step.next);
     }

@@ -9,6 +9,6 @@ returns-then-starts_with c = sign_found _ c.as_bytes.result.now c.loop-mark.mark
 pub returns : goal.returns
 returns c = record {
   never = λ mark rest e.
-    let below : sign_place mark < 47 = sign_place_below mark in
-    c.loop-mark.invariant (sign_place mark) rest (omega (arith, below, c.loop-mark-test.false)) (e ∙ ap (λ m. spelling m ++ rest) (sym (sign_there mark)));
+      let below : sign_place mark < 47 = sign_place_below mark in
+      c.loop-mark.invariant (sign_place mark) rest (omega (arith, below, c.loop-mark-test.false)) (e ∙ ap (λ m. spelling m ++ rest) (sym (sign_there mark)));
 }

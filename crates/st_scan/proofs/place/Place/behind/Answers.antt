@@ -6,11 +6,11 @@ use Rattle.st_scan.proofs.place.Place.behind.Goals as goal
 pub loop-byte-preserved : goal.loop-byte-preserved
 loop-byte-preserved c = record {
   same = λ before h.
-    let i = c.loop-byte.byte-index in
-    let bytes = c.args.bytes.now in
-    let step : (before ++ take i bytes) ++ get_or bytes i 0 ∷ [] ≡ before ++ take (i + 1) bytes =
+      let i = c.loop-byte.byte-index in
+      let bytes = c.args.bytes.now in
+      let step : (before ++ take i bytes) ++ get_or bytes i 0 ∷ [] ≡ before ++ take (i + 1) bytes =
       append_assoc before (take i bytes) (get_or bytes i 0 ∷ []) ∙ ap (λ u. before ++ u) (sym (take_more bytes i 0 c.loop-byte-test.true)) in
-    subst (λ u. IsBehind u c.behind_byte-place.result) step (c.behind_byte-place.ensures.same (before ++ take i bytes) (c.loop-byte.invariant.same before h));
+      subst (λ u. IsBehind u c.behind_byte-place.result) step (c.behind_byte-place.ensures.same (before ++ take i bytes) (c.loop-byte.invariant.same before h));
   lines = omega arith;
   columns = omega arith;
 }
