@@ -1,8 +1,8 @@
 -- What a scan answers, from what its parts say.
-use Rattle.std.proofs.Common.{◌≡◌, ◌≢◌, ℕ, ◌+◌, ◌-◌, ◌≤◌, ◌<◌, List, length, take, drop, refl, sym, ap, ◌∙◌, subst, arith, ◌⊎◌, inl, inr}
+use Rattle.std.proofs.Common.{◌≡◌, ℕ, ◌≤◌, ◌<◌, List, length, drop, refl, sym, subst, arith, ◌⊎◌, inl, inr}
 use Rattle.std.proofs.lemmas.Bool.{cases_lt}
 use Rattle.std.proofs.lemmas.List.{length-drop}
-use Rattle.std.specs.Str.{IsUtf8, IsValidUpTo}
+use Rattle.std.specs.Str.{IsValidUpTo}
 use Rattle.st_num.specs.declared.span.Span.{Span}
 use Rattle.st_num.specs.declared.rule.RuleId.{RuleId}
 use Rattle.st_num.specs.declared.rule.RuleId.TheVariants.{L4}
@@ -12,7 +12,7 @@ use Rattle.st_scan.specs.declared.token.LexFault.TheVariants.{Refused, Memory}
 use Rattle.st_scan.specs.Places.{place, offset}
 use Rattle.st_scan.specs.Tokens.{Tokens}
 use Rattle.st_scan.specs.Faults.{TokenFault, FirstFault, of_token, of_utf8}
-use Rattle.st_scan.specs.Steps.{ReadsAll, StopsFile, IsUtf8Length}
+use Rattle.st_scan.specs.Steps.{ReadsAll, IsUtf8Length}
 use Rattle.st_scan.specs.Answers.{IsOnlyList, IsOnlyFault, TellsFirst, TellsOnly}
 use Rattle.st_scan.proofs.Runs.{tokens_unique, no_first_fault, first_fault_unique, no_token_fault, token_fault_unique, valid_whole, valid_unique}
 

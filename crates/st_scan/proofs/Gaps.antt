@@ -1,5 +1,5 @@
 -- One step through blanks and comments, as the loops take it.
-use Rattle.std.proofs.Common.{◌≡◌, ℕ, zero, suc, ◌+◌, ◌-◌, ◌≤◌, ◌<◌, List, [], ◌∷◌, ◌++◌, length, Bool, true, false, refl, sym, ap, ◌∙◌, if◌then◌else◌, arith, append_assoc}
+use Rattle.std.proofs.Common.{◌≡◌, ℕ, zero, suc, ◌+◌, ◌-◌, ◌<◌, List, [], ◌∷◌, ◌++◌, length, Bool, true, false, refl, sym, ap, ◌∙◌, if◌then◌else◌, arith, append_assoc}
 use Rattle.st_scan.specs.Bytes.{is_blank, is_line_feed}
 use Rattle.st_scan.specs.Gaps.{opens, closes, starts_line, Within, between, line, comment, gap}
 

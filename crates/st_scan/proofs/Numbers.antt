@@ -1,5 +1,5 @@
 -- The longest number at a place.
-use Rattle.std.proofs.Common.{◌≡◌, ◌≢◌, ℕ, zero, suc, ◌+◌, ◌-◌, ◌≤◌, ◌<◌, ◌^◌, List, [], ◌∷◌, ◌++◌, length, take, drop, Bool, true, false, refl, sym, ap, ◌∙◌, subst, if◌then◌else◌, cond, arith, ◌⊎◌, inl, inr, ◌&&◌, codes, append_assoc, nat_lt}
+use Rattle.std.proofs.Common.{◌≡◌, ◌≢◌, ℕ, ◌+◌, ◌≤◌, ◌<◌, ◌^◌, List, [], ◌∷◌, ◌++◌, length, take, drop, Bool, true, false, refl, sym, ap, ◌∙◌, subst, cond, arith, inl, inr, codes, nat_lt}
 use Rattle.std.proofs.lemmas.Bool.{and_parts, and_from, false≢true, ltb-true, lt-ltb}
 use Rattle.std.proofs.lemmas.Bool.Decides.{nat_tests}
 use Rattle.std.proofs.lemmas.List.{take_at, length-append}
@@ -9,11 +9,9 @@ use Rattle.std.specs.List.{prefix_len, take_while, list_all}
 use Rattle.std.specs.Str.Parse.{AllDigits, IsNumeral, digits_value}
 use Rattle.st_num.specs.Numeral.{Spells as SpellsNumber}
 use Rattle.st_num.specs.declared.rule.RuleId.TheVariants.{L3}
-use Rattle.st_scan.specs.declared.token.TokenKind.{TokenKind}
 use Rattle.st_scan.specs.declared.token.TokenKind.TheVariants.{Number}
 use Rattle.st_scan.specs.Bytes.{is_digit}
 use Rattle.st_scan.specs.Gaps.{opens_comment}
-use Rattle.st_scan.specs.Spelling.{Spells}
 use Rattle.st_scan.specs.Tokens.{Longest}
 use Rattle.st_scan.specs.Faults.{Cause, large}
 use Rattle.st_scan.specs.NumberFronts.{NoHexadecimal, LongestHexadecimal, LongestNumber}

@@ -1,23 +1,21 @@
 -- What is read is the longest token at its place.
-use Rattle.std.proofs.Common.{◌≡◌, ◌≢◌, ℕ, zero, suc, ◌+◌, ◌-◌, ◌≤◌, ◌<◌, List, [], ◌∷◌, ◌++◌, length, take, drop, get_or, Bool, true, false, refl, sym, ap, ◌∙◌, subst, if◌then◌else◌, cond, arith, ◌⊎◌, inl, inr, not, ◌&&◌, ◌||◌, ◌==◌, append_assoc}
-use Rattle.std.proofs.lemmas.Bool.{eqb-true, ne_eqb, and_parts, and_from, false≢true, cases_Bool}
-use Rattle.std.proofs.lemmas.Bool.Decides.{nat_tests}
-use Rattle.std.proofs.lemmas.List.{take-append-drop, length-append, take_rest}
+use Rattle.std.proofs.Common.{◌≡◌, ◌≢◌, ℕ, suc, ◌+◌, ◌-◌, ◌≤◌, List, [], ◌∷◌, ◌++◌, length, take, drop, Bool, true, false, refl, sym, ap, ◌∙◌, subst, if◌then◌else◌, cond, arith, ◌&&◌, ◌||◌, ◌==◌}
+use Rattle.std.proofs.lemmas.Bool.{eqb-true, ne_eqb, and_parts, and_from, false≢true}
+use Rattle.std.proofs.lemmas.List.{take-append-drop, take_rest}
 use Rattle.std.proofs.lemmas.List.Sums.{take_while-cons}
 use Rattle.std.proofs.lemmas.List.Folds.{length-prefix_len}
 use Rattle.std.specs.List.{prefix_len, take_while, list_all}
 use Rattle.st_num.specs.Signs.{spelling}
 use Rattle.st_num.specs.declared.mark.Mark.{Mark}
 use Rattle.st_scan.specs.declared.token.TokenKind.{TokenKind}
-use Rattle.st_scan.specs.declared.token.TokenKind.TheVariants.{Low, Up, Mix, Reserved, Number, Text, Dot, Fun, Sign}
-use Rattle.st_scan.specs.declared.read.Reading.{Reading}
-use Rattle.st_scan.specs.Bytes.{is_letter, is_lower, is_upper, is_digit, is_name_part}
+use Rattle.st_scan.specs.declared.token.TokenKind.TheVariants.{Low, Number, Dot, Fun, Sign}
+use Rattle.st_scan.specs.Bytes.{is_letter, is_upper, is_digit, is_name_part}
 use Rattle.st_scan.specs.Gaps.{opens_comment}
 use Rattle.st_scan.specs.Spelling.{Spells, is_name, begins_lower}
-use Rattle.st_scan.specs.Tokens.{Longest, IsInRange}
+use Rattle.st_scan.specs.Tokens.{IsInRange}
 use Rattle.st_scan.specs.Signs.{NoSign, LongestSign}
 use Rattle.st_scan.specs.Faults.{NoToken, IsQuote}
-use Rattle.st_scan.specs.Readings.{begins_letter, begins_digit, begins_quote, begins_dot, begins_fun, BeginsSign, IsReading}
+use Rattle.st_scan.specs.Readings.{begins_letter, begins_quote, begins_dot, begins_fun, BeginsSign, IsReading}
 use Rattle.st_scan.proofs.Texts.{tail_of}
 use Rattle.st_scan.proofs.Spelled.{group, group_at, letter_group, spelled_group, as_word, as_dot, as_fun, as_sign}
 

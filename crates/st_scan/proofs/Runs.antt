@@ -1,23 +1,22 @@
 -- A file has one list of tokens or one first fault.
-use Rattle.std.proofs.Common.{◌≡◌, ◌≢◌, ℕ, ◌+◌, ◌-◌, ◌≤◌, ◌<◌, ◌^◌, List, [], ◌∷◌, ◌++◌, length, take, drop, Bool, true, false, refl, sym, ap, ◌∙◌, subst, arith, ◌⊎◌, inl, inr, ◌==◌}
+use Rattle.std.proofs.Common.{◌≡◌, ℕ, ◌≤◌, ◌<◌, ◌^◌, List, [], ◌∷◌, ◌++◌, length, take, drop, Bool, true, false, refl, sym, ap, ◌∙◌, subst, arith, ◌⊎◌, inl, inr}
 use Rattle.std.proofs.lemmas.Bool.{false≢true, cases_order}
 use Rattle.std.proofs.lemmas.List.{take_at, drop_at, take_all}
 use Rattle.std.specs.List.{flat_map, list_all}
 use Rattle.std.specs.Str.{IsUtf8, IsValidUpTo}
 use Rattle.st_num.specs.declared.span.Span.{Span}
 use Rattle.st_num.specs.declared.rule.RuleId.{RuleId}
-use Rattle.st_num.specs.declared.rule.RuleId.TheVariants.{L1, L2, L3, L4}
 use Rattle.st_scan.specs.declared.token.Token.{Token}
 use Rattle.st_scan.specs.declared.token.TokenKind.{TokenKind}
-use Rattle.st_scan.specs.declared.token.TokenKind.TheVariants.{Low, Up, Mix, Reserved, Number, Text, Dot, Fun, Sign}
+use Rattle.st_scan.specs.declared.token.TokenKind.TheVariants.{Number}
 use Rattle.st_scan.specs.Bytes.{is_text_byte}
 use Rattle.st_scan.specs.Gaps.{gap, between, opens_comment}
-use Rattle.st_scan.specs.Places.{place, offset}
-use Rattle.st_scan.specs.Spelling.{Spells, escaped, quoted}
+use Rattle.st_scan.specs.Places.{place}
+use Rattle.st_scan.specs.Spelling.{Spells, escaped}
 use Rattle.st_scan.specs.Tokens.{Longest, Next, Run, Tokens, IsInRange}
 use Rattle.st_scan.specs.Faults.{Cause, comment_open, text_open, text_wrong, large, no_token, TokenFault, FirstFault, of_token, of_utf8, IsQuote, NoToken, closes_text, is_wrong}
-use Rattle.st_scan.proofs.Texts.{tail_of, texts_unique, text_not_wrong, text_closes, wrong_unique, quoted_behind}
-use Rattle.st_scan.proofs.Spelled.{group, group_at, spelled_group, spelled_some, same_kind, as_text, as_number}
+use Rattle.st_scan.proofs.Texts.{tail_of, text_not_wrong, text_closes, wrong_unique, quoted_behind}
+use Rattle.st_scan.proofs.Spelled.{group, group_at, spelled_group, spelled_some, same_kind, as_text}
 
 -- ---- the next token is one
 

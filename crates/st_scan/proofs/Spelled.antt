@@ -1,12 +1,11 @@
 -- What some bytes spell is told by how they begin, and is one token.
-use Rattle.std.proofs.Common.{◌≡◌, ◌≢◌, ℕ, zero, suc, ◌+◌, ◌-◌, ◌≤◌, ◌<◌, List, [], ◌∷◌, ◌++◌, length, Bool, true, false, refl, sym, ap, ◌∙◌, subst, if◌then◌else◌, arith, ◌⊎◌, inl, inr, not, ◌&&◌, ◌||◌, ◌==◌, append_assoc, codes}
-use Rattle.std.proofs.lemmas.Bool.{eqb-true, eqb-false, ne_eqb, and_parts, and_from, false≢true, true≢false, both_ways, cases_Bool, or_from, or_parts}
-use Rattle.std.proofs.lemmas.Bool.Decides.{nat_tests, Decides-eqb}
-use Rattle.std.proofs.lemmas.List.{append-nil}
+use Rattle.std.proofs.Common.{◌≡◌, ℕ, ◌<◌, List, [], ◌∷◌, ◌++◌, true, false, refl, sym, ap, ◌∙◌, subst, if◌then◌else◌, arith, inl, inr, ◌&&◌, ◌||◌, ◌==◌, codes}
+use Rattle.std.proofs.lemmas.Bool.{and_parts, and_from, false≢true}
+use Rattle.std.proofs.lemmas.Bool.Decides.{nat_tests}
 use Rattle.std.specs.Char.{digit_value}
 use Rattle.std.specs.Str.Parse.{IsNumeral, digits_value}
 use Rattle.std.specs.Str.{bytes_eq}
-use Rattle.std.specs.List.{flat_map, list_all, list_any}
+use Rattle.std.specs.List.{list_all, list_any}
 use Rattle.st_num.specs.Signs.{spelling}
 use Rattle.st_num.specs.declared.mark.Mark.{Mark}
 use Rattle.st_num.specs.declared.mark.Mark.TheVariants.{Turnstile}
@@ -18,10 +17,10 @@ use Rattle.st_scan.specs.declared.token.TokenKind.{TokenKind}
 use Rattle.st_scan.specs.declared.token.TokenKind.TheVariants.{Low, Up, Mix, Reserved, Number, Text, Dot, Fun, Sign}
 use Rattle.st_scan.specs.Bytes.{is_letter, is_lower, is_digit, is_name_part, is_text_byte}
 use Rattle.st_scan.specs.Words.{word_spelling}
-use Rattle.st_num.specs.Numeral.{Spells as SpellsNumber, IsDigitsOf}
-use Rattle.st_scan.specs.Spelling.{Spells, is_name, begins_lower, has_lower, escaped, quoted, IsReserved}
+use Rattle.st_num.specs.Numeral.{Spells as SpellsNumber}
+use Rattle.st_scan.specs.Spelling.{Spells, is_name, begins_lower, has_lower, quoted}
 use Rattle.st_scan.specs.Readings.{begins_letter}
-use Rattle.st_scan.proofs.Texts.{head_or, tail_of, texts_unique, quoted_behind}
+use Rattle.st_scan.proofs.Texts.{tail_of, texts_unique}
 
 -- ---- the kinds that begin in the same way
 

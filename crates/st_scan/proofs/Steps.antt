@@ -1,5 +1,5 @@
 -- One step from token to token.
-use Rattle.std.proofs.Common.{◌≡◌, ◌≢◌, ℕ, zero, suc, ◌+◌, ◌-◌, ◌≤◌, ◌<◌, List, [], ◌∷◌, ◌++◌, length, take, drop, Bool, true, false, refl, sym, ap, ◌∙◌, subst, arith, ◌==◌, append_assoc, ◌⊎◌, inl, inr}
+use Rattle.std.proofs.Common.{◌≡◌, ◌≢◌, ℕ, suc, ◌+◌, ◌-◌, ◌≤◌, ◌<◌, List, [], ◌∷◌, ◌++◌, length, take, drop, refl, sym, ap, ◌∙◌, subst, arith, ◌==◌, append_assoc, ◌⊎◌, inl, inr}
 use Rattle.std.proofs.lemmas.Bool.{false≢true, cases_lt}
 use Rattle.std.proofs.lemmas.Bool.Decides.{nat_tests}
 use Rattle.std.proofs.lemmas.List.{take_at, drop_at, drop_all, take-append-drop, drop-drop, length-append}
@@ -13,10 +13,10 @@ use Rattle.st_scan.specs.declared.read.Stop.TheVariants.{Refused, Memory}
 use Rattle.st_scan.specs.declared.token.Token.{Token}
 use Rattle.st_scan.specs.declared.token.TokenKind.TheVariants.{Number}
 use Rattle.st_scan.specs.Gaps.{gap, between, opens_comment}
-use Rattle.st_scan.specs.Places.{offset, place, IsBehind, line_behind, column_behind}
+use Rattle.st_scan.specs.Places.{offset, place, IsBehind, line_behind}
 use Rattle.st_scan.specs.Spelling.{Spells}
 use Rattle.st_scan.specs.Tokens.{Longest, Next, Run, IsInRange}
-use Rattle.st_scan.specs.Faults.{Cause, comment_open, text_open, text_wrong, large, no_token, is_wrong, TokenFault}
+use Rattle.st_scan.specs.Faults.{Cause, comment_open, text_open, text_wrong, large, no_token, is_wrong}
 use Rattle.st_scan.specs.Readings.{IsReading, Stops, farther, IsWithin}
 use Rattle.st_scan.specs.Steps.{IsAt, StopsNext, StopsFile}
 use Rattle.st_scan.proofs.Gaps.{gap_is_end}

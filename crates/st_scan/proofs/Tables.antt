@@ -1,6 +1,5 @@
 -- The tables of signs and words: each has all of them, and the longest signs come first.
-use Rattle.std.proofs.Common.{◌≡◌, ℕ, ◌+◌, ◌≤◌, ◌<◌, List, [], ◌∷◌, ◌++◌, length, get_or, drop, Bool, true, false, Option, Some, None, refl, sym, ap, ◌∙◌, subst, if◌then◌else◌, arith, ◌⊎◌, inl, inr, not, ◌&&◌, ◌||◌, ◌==◌}
-use Rattle.std.specs.Str.{bytes_eq}
+use Rattle.std.proofs.Common.{◌≡◌, ℕ, ◌≤◌, ◌<◌, List, ◌++◌, length, get_or, drop, Bool, true, refl, sym, ap, ◌∙◌, if◌then◌else◌, arith, ◌⊎◌, inl, inr, ◌==◌}
 use Rattle.std.proofs.lemmas.Bool.{eqb-true, agree_below_at, cases_lt}
 use Rattle.std.proofs.lemmas.Bool.Decides.{nat_tests, Decides-eqb}
 use Rattle.std.proofs.lemmas.Slice.Eq.{starts_is}
@@ -15,8 +14,6 @@ use Rattle.st_scan.specs.declared.word.TheConstants.{WORDS}
 use Rattle.st_scan.specs.declared.word.Word.{Word}
 use Rattle.st_scan.specs.declared.word.Word.TheVariants.{Syntax, Relation, Rule, Var, Def, Grammar, Hint, If, Otherwise, Eps, True, False, Nat, Int, Text, Rat, Real}
 use Rattle.st_scan.specs.declared.word.Word.TheVariants as word
-use Rattle.st_scan.specs.Words.{word_spelling}
-use Rattle.st_scan.specs.Bytes.{is_letter, is_digit}
 
 -- where a sign stands in the table
 abbrev pub sign_place : Mark → ℕ

@@ -1,21 +1,18 @@
 -- What the loop over a text reads is the text that stands there, or why none does.
-use Rattle.std.proofs.Common.{◌≡◌, ◌≢◌, ℕ, zero, suc, ◌+◌, ◌-◌, ◌≤◌, ◌<◌, List, [], ◌∷◌, ◌++◌, length, take, drop, Bool, true, false, refl, sym, ap, ◌∙◌, subst, if◌then◌else◌, arith, ◌⊎◌, inl, inr, ◌==◌}
-use Rattle.std.proofs.lemmas.Bool.{false≢true, ne_eqb}
+use Rattle.std.proofs.Common.{◌≡◌, ◌≢◌, ℕ, suc, ◌+◌, ◌-◌, ◌≤◌, List, [], ◌∷◌, ◌++◌, length, drop, Bool, true, false, refl, sym, ap, ◌∙◌, subst, if◌then◌else◌, arith}
+use Rattle.std.proofs.lemmas.Bool.{false≢true}
 use Rattle.std.proofs.lemmas.Bool.Decides.{nat_tests}
 use Rattle.std.proofs.lemmas.List.{length-append}
 use Rattle.std.proofs.lemmas.List.Prefix.{end_rest}
 use Rattle.std.specs.List.{flat_map, list_all}
 use Rattle.st_num.specs.declared.rule.RuleId.TheVariants.{L1, L2}
-use Rattle.st_scan.specs.declared.token.TokenKind.{TokenKind}
 use Rattle.st_scan.specs.declared.token.TokenKind.TheVariants.{Text}
 use Rattle.st_scan.specs.declared.text.Piece.TheVariants.{Byte, Quote, Wrong}
-use Rattle.st_scan.specs.declared.read.Stop.{Stop}
 use Rattle.st_scan.specs.declared.read.Stop.TheVariants.{Refused}
 use Rattle.st_scan.specs.Bytes.{is_text_byte}
 use Rattle.st_scan.specs.Gaps.{opens_comment}
-use Rattle.st_scan.specs.Spelling.{Spells, escaped, quoted}
-use Rattle.st_scan.specs.Tokens.{Longest}
-use Rattle.st_scan.specs.Faults.{Cause, text_open, text_wrong, closes_text, is_wrong}
+use Rattle.st_scan.specs.Spelling.{escaped, quoted}
+use Rattle.st_scan.specs.Faults.{Cause, text_open, text_wrong, closes_text}
 use Rattle.st_scan.specs.Readings.{IsReading, Stops}
 use Rattle.st_scan.specs.TextPieces.{IsPiece, IsEscape, text_stop}
 use Rattle.st_scan.proofs.Texts.{Escaping, escaping, quote, backslash, feed, tab, plain, tail_of, texts_unique, quoted_behind, closes_behind}

@@ -1,5 +1,5 @@
 -- Blanks and comments.
-use Rattle.std.specs.Prelude.{◌≡◌, ℕ, zero, suc, List, [], ◌∷◌, Bool, true, false, ◌&&◌, ◌==◌, if◌then◌else◌}
+use Rattle.std.specs.Prelude.{ℕ, zero, suc, List, [], ◌∷◌, Bool, false, ◌&&◌, ◌==◌, if◌then◌else◌}
 use Rattle.st_scan.specs.Bytes.{is_blank, is_line_feed}
 
 -- `(;` and `;)`, the signs round a comment

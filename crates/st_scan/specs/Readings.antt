@@ -1,5 +1,5 @@
 -- What is read at one place: a token with its length, or a fault with its distance.
-use Rattle.std.specs.Prelude.{◌≡◌, ◌≢◌, ℕ, ◌+◌, ◌≤◌, List, [], ◌∷◌, ◌++◌, length, drop, Bool, false, ◌&&◌, ◌==◌, ⊤, IsTrue}
+use Rattle.std.specs.Prelude.{◌≡◌, ◌≢◌, ℕ, ◌+◌, ◌≤◌, List, [], ◌∷◌, length, drop, Bool, false, ◌&&◌, ◌==◌, ⊤}
 use Rattle.st_scan.specs.Bytes.{is_letter, is_digit}
 use Rattle.st_scan.specs.Gaps.{opens_comment}
 use Rattle.st_scan.specs.Spelling.{begins_lower}

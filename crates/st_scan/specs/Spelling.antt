@@ -1,5 +1,5 @@
 -- How each token is written.
-use Rattle.std.specs.Prelude.{◌≡◌, ◌≢◌, ℕ, ◌+◌, ◌*◌, List, [], ◌∷◌, ◌++◌, Bool, true, false, ◌&&◌, ◌==◌, if◌then◌else◌, IsTrue, fold}
+use Rattle.std.specs.Prelude.{◌≡◌, ℕ, List, [], ◌∷◌, ◌++◌, Bool, false, ◌&&◌, ◌==◌, if◌then◌else◌, IsTrue}
 use Rattle.std.specs.List.{list_all, list_any, flat_map}
 use Rattle.st_num.specs.Signs.{spelling}
 use Rattle.st_scan.specs.Bytes.{is_lower, is_letter, is_name_part, is_text_byte}

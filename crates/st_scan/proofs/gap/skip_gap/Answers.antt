@@ -1,5 +1,4 @@
 use Rattle.std.proofs.Common.{sym, ◌∙◌}
-use Rattle.st_scan.specs.Gaps.{gap, between}
 use Rattle.st_scan.proofs.Gaps.{gap_empty, gap_blank, gap_last, gap_line, gap_comment, gap_ends}
 use Rattle.st_scan.proofs.gap.skip_gap.Goals as goal
 

@@ -1,4 +1,4 @@
-use Rattle.std.proofs.Common.{ap, sym, ◌∙◌, Err, ◌≡◌, arith}
+use Rattle.std.proofs.Common.{ap, ◌∙◌, Err, ◌≡◌, arith}
 use Rattle.st_num.specs.declared.numeral.NumFault.TheVariants.{Malformed, Large}
 use Rattle.st_scan.proofs.Numbers.{number_reading, number_large}
 use Rattle.st_scan.proofs.number.read_number.Goals as goal

@@ -1,4 +1,4 @@
-use Rattle.std.proofs.Common.{sym, ap, ◌∙◌}
+use Rattle.std.proofs.Common.{ap, ◌∙◌}
 use Rattle.st_scan.specs.Spelling.{is_name}
 use Rattle.st_scan.proofs.Readings.{front_name, name_read}
 use Rattle.st_scan.proofs.read.read_name.Goals as goal

@@ -1,4 +1,4 @@
-use Rattle.std.proofs.Common.{ap, sym, subst, length, arith}
+use Rattle.std.proofs.Common.{sym, subst, length, arith}
 use Rattle.st_scan.specs.Faults.{no_token}
 use Rattle.st_scan.specs.Readings.{IsReading}
 use Rattle.st_scan.specs.declared.token.TokenKind.TheVariants.{Sign}

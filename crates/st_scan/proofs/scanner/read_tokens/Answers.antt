@@ -1,4 +1,4 @@
-use Rattle.std.proofs.Common.{◌≡◌, ◌++◌, ◌∷◌, [], sym, subst, MatchOption}
+use Rattle.std.proofs.Common.{◌≡◌, [], sym, subst, MatchOption}
 use Rattle.st_scan.specs.Gaps.{gap, between}
 use Rattle.st_scan.specs.Tokens.{Run}
 use Rattle.st_scan.specs.Steps.{IsStep, StopsFile}

@@ -1,4 +1,4 @@
-use Rattle.std.proofs.Common.{◌≡◌, ◌≤◌, ◌<◌, List, ℕ, ◌∷◌, ◌++◌, length, true}
+use Rattle.std.proofs.Common.{◌≡◌, ◌∷◌, ◌++◌, length, true}
 use Rattle.std.specs.List.{flat_map, list_all}
 use Rattle.st_scan.specs.Bytes.{is_text_byte}
 use Rattle.st_scan.specs.Spelling.{escaped}

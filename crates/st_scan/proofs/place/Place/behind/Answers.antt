@@ -1,4 +1,4 @@
-use Rattle.std.proofs.Common.{ap, sym, subst, ◌∙◌, ◌≡◌, ◌++◌, ◌∷◌, [], ◌+◌, take, get_or, length, arith, append_assoc}
+use Rattle.std.proofs.Common.{ap, sym, subst, ◌∙◌, ◌≡◌, ◌++◌, ◌∷◌, [], ◌+◌, take, get_or, arith, append_assoc}
 use Rattle.std.proofs.lemmas.List.{take_more, take_all}
 use Rattle.st_scan.specs.Places.{IsBehind}
 use Rattle.st_scan.proofs.place.Place.behind.Goals as goal

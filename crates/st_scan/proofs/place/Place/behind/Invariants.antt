@@ -1,4 +1,4 @@
-use Rattle.std.proofs.Common.{◌≡◌, ◌≤◌, ◌+◌, ℕ, List, ◌++◌, take}
+use Rattle.std.proofs.Common.{◌≤◌, ◌+◌, ℕ, List, ◌++◌, take}
 use Rattle.st_scan.specs.Places.{IsBehind}
 use Rattle.st_scan.proofs.place.Place.behind.Given as goal
 
