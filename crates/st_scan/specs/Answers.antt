@@ -15,7 +15,8 @@ pub record IsOnlyList (number : ℕ) (file : List ℕ) (tokens : List Token) : T
 
 -- the file is refused at no other place and by no other rule, and has no tokens
 pub record IsOnlyFault (number : ℕ) (file : List ℕ) (at : Span) (rule : RuleId) : Type 0 where
-  pub only : (there : Span) (other : RuleId) → FirstFault number file there other → (there ≡ at) × (other ≡ rule)
+  pub only : (there : Span) (other : RuleId) → FirstFault number file there other
+      → (there ≡ at) × (other ≡ rule)
   pub tokenless : (tokens : List Token) → ¬ (Tokens number file tokens)
 
 -- a refusal tells the first fault; want of memory tells nothing

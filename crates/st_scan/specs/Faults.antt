@@ -32,7 +32,8 @@ is_wrong (b ∷ c ∷ bs) = nat_lt b 32 || b == 92 && not (c == 34 || c == 92 ||
 
 -- no token begins at the front
 abbrev pub NoToken : List ℕ → Type 0
-NoToken bytes = (text rest : List ℕ) (kind : TokenKind) → bytes ≡ text ++ rest → ¬ (Spells text kind)
+NoToken bytes = (text rest : List ℕ) (kind : TokenKind)
+    → bytes ≡ text ++ rest → ¬ (Spells text kind)
 
 -- a quote begins the bytes, and this stands behind it
 abbrev pub IsQuote : List ℕ → List ℕ → Type 0
@@ -40,21 +41,44 @@ IsQuote bytes behind = bytes ≡ 34 ∷ behind
 
 -- why no token can be taken at the front of some bytes, with where the fault stands
 pub data Cause (bytes : List ℕ) : List ℕ → RuleId → Type 0 where
-  comment_open : opens_comment bytes ≡ true → Cause bytes bytes L2
-  text_open : (behind : List ℕ) → IsQuote bytes behind → closes_text behind ≡ false → Cause bytes bytes L2
-  text_wrong : (behind text wrong : List ℕ) → IsQuote bytes behind → closes_text behind ≡ true → behind ≡ flat_map escaped text ++ wrong → IsTrue (list_all is_text_byte text) → IsTrue (is_wrong wrong) → Cause bytes wrong L1
-  large : (text rest : List ℕ) (n : ℕ) → Longest bytes text rest (Number n) → 2 ^ 128 ≤ n → Cause bytes bytes L3
-  no_token : bytes ≢ [] → NoToken bytes → opens_comment bytes ≡ false → ((behind : List ℕ) → ¬ (IsQuote bytes behind)) → Cause bytes bytes L1
+  -- a comment that is not closed
+  comment_open : opens_comment bytes ≡ true
+      → Cause bytes bytes L2
+  -- a text that is not closed
+  text_open : (behind : List ℕ) → IsQuote bytes behind
+      → closes_text behind ≡ false
+      → Cause bytes bytes L2
+  -- a text that is closed, with something wrong behind right bytes
+  text_wrong : (behind text wrong : List ℕ) → IsQuote bytes behind
+      → closes_text behind ≡ true
+      → behind ≡ flat_map escaped text ++ wrong
+      → IsTrue (list_all is_text_byte text)
+      → IsTrue (is_wrong wrong)
+      → Cause bytes wrong L1
+  -- a number out of range
+  large : (text rest : List ℕ) (n : ℕ) → Longest bytes text rest (Number n)
+      → 2 ^ 128 ≤ n
+      → Cause bytes bytes L3
+  -- any other character with which no token begins
+  no_token : bytes ≢ [] → NoToken bytes
+      → opens_comment bytes ≡ false
+      → ((behind : List ℕ) → ¬ (IsQuote bytes behind))
+      → Cause bytes bytes L1
 
--- the tokens before it stand in the file, and this is the fault of the next one
+-- tokens stand in the file up to a place where none can be taken, for this cause
 pub record TokenFault (number : ℕ) (file here : List ℕ) (rule : RuleId) : Type 0 where
   pub tokens : List Token
   pub left : List ℕ
   pub run : Run number file file tokens left
   pub cause : Cause (gap between left) here rule
 
--- the file is refused at this place by this rule: the first fault of a token, or the end of what is
--- UTF-8 where that stands before it
+-- the first fault of the file: that of a token, or the first byte that is not UTF-8, whichever is first
 pub data FirstFault (number : ℕ) (file : List ℕ) (at : Span) : RuleId → Type 0 where
-  of_token : (here : List ℕ) (rule : RuleId) → TokenFault number file here rule → at ≡ place number file here → ((n : ℕ) → IsValidUpTo file n → offset file here < n) → FirstFault number file at rule
-  of_utf8 : (n : ℕ) → IsValidUpTo file n → at ≡ place number file (drop n file) → ((here : List ℕ) (rule : RuleId) → TokenFault number file here rule → n ≤ offset file here) → FirstFault number file at L4
+  of_token : (here : List ℕ) (rule : RuleId) → TokenFault number file here rule
+      → at ≡ place number file here
+      → ((n : ℕ) → IsValidUpTo file n → offset file here < n)
+      → FirstFault number file at rule
+  of_utf8 : (n : ℕ) → IsValidUpTo file n
+      → at ≡ place number file (drop n file)
+      → ((here : List ℕ) (rule : RuleId) → TokenFault number file here rule → n ≤ offset file here)
+      → FirstFault number file at L4

@@ -13,7 +13,8 @@ pub record LongestHexadecimal (bytes : List ℕ) (size : ℕ) : Type 0 where
   pub rest : List ℕ
   pub split : bytes ≡ (codes "0x" ++ digits) ++ rest
   pub numeral : IsNumeral 16 digits
-  pub longest : (other more : List ℕ) → AllDigits 16 other → bytes ≡ (codes "0x" ++ other) ++ more → length other ≤ length digits
+  pub longest : (other more : List ℕ) → AllDigits 16 other
+      → bytes ≡ (codes "0x" ++ other) ++ more → length other ≤ length digits
   pub counted : size ≡ length digits + 2
 
 -- the text is a number, and no longer one stands there
@@ -22,4 +23,5 @@ pub record LongestNumber (bytes text : List ℕ) : Type 0 where
   pub split : bytes ≡ text ++ rest
   pub value : ℕ
   pub spelled : Spells text value
-  pub longest : (other more : List ℕ) (n : ℕ) → Spells other n → bytes ≡ other ++ more → length other ≤ length text
+  pub longest : (other more : List ℕ) (n : ℕ) → Spells other n
+      → bytes ≡ other ++ more → length other ≤ length text

@@ -51,7 +51,8 @@ pub record IsReading (bytes : List ℕ) (reading : Reading) : Type 0 where
 
 -- no token can be taken at the front, and the fault stands so many bytes behind it
 abbrev pub Stops : List ℕ → Stop → Type 0
-Stops bytes (Refused skipped rule) = Cause bytes (drop skipped bytes) rule × (skipped ≤ length bytes)
+Stops bytes (Refused skipped rule) =
+    Cause bytes (drop skipped bytes) rule × (skipped ≤ length bytes)
 Stops bytes Memory = ⊤
 
 -- the same fault, told from some bytes earlier

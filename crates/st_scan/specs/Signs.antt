@@ -11,4 +11,5 @@ pub record NoSign (bytes : List ℕ) : Type 0 where
 pub record LongestSign (bytes : List ℕ) (mark : Mark) : Type 0 where
   pub rest : List ℕ
   pub split : bytes ≡ spelling mark ++ rest
-  pub longest : (other : Mark) (more : List ℕ) → bytes ≡ spelling other ++ more → length (spelling other) ≤ length (spelling mark)
+  pub longest : (other : Mark) (more : List ℕ) → bytes ≡ spelling other ++ more
+      → length (spelling other) ≤ length (spelling mark)

@@ -40,9 +40,11 @@ quoted text = 34 ∷ flat_map escaped text ++ 34 ∷ []
 
 -- the bytes are this token
 abbrev pub Spells : List ℕ → TokenKind → Type 0
-Spells bytes (Low name) = (bytes ≡ name) × IsTrue (is_name name) × IsTrue (begins_lower name) × ¬ (IsReserved name)
+Spells bytes (Low name) =
+    (bytes ≡ name) × IsTrue (is_name name) × IsTrue (begins_lower name) × ¬ (IsReserved name)
 Spells bytes (Up name) = (bytes ≡ name) × IsTrue (is_name name) × (has_lower name ≡ false)
-Spells bytes (Mix name) = (bytes ≡ name) × IsTrue (is_name name) × (begins_lower name ≡ false) × IsTrue (has_lower name)
+Spells bytes (Mix name) =
+    (bytes ≡ name) × IsTrue (is_name name) × (begins_lower name ≡ false) × IsTrue (has_lower name)
 Spells bytes (Reserved word) = bytes ≡ word_spelling word
 Spells bytes (Number n) = SpellsNumber bytes n
 Spells bytes (Text text) = (bytes ≡ quoted text) × IsTrue (list_all is_text_byte text)

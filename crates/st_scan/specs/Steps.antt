@@ -24,7 +24,8 @@ pub record IsStep (number : ℕ) (file rest : List ℕ) (step : Step) : Type 0 w
 
 -- no token is next, and the fault stands so many bytes behind the front of the rest
 abbrev pub StopsNext : List ℕ → Stop → Type 0
-StopsNext rest (Refused skipped rule) = Cause (gap between rest) (drop skipped rest) rule × (skipped ≤ length rest)
+StopsNext rest (Refused skipped rule) =
+    Cause (gap between rest) (drop skipped rest) rule × (skipped ≤ length rest)
 StopsNext rest Memory = ⊤
 
 -- these tokens stand up to the end of the file, whatever is UTF-8
@@ -35,7 +36,8 @@ pub record ReadsAll (number : ℕ) (file : List ℕ) (tokens : List Token) : Typ
 
 -- the first fault of a token stands so many bytes behind the front of the file
 abbrev pub StopsFile : ℕ → List ℕ → Stop → Type 0
-StopsFile number file (Refused skipped rule) = TokenFault number file (drop skipped file) rule × (skipped < length file)
+StopsFile number file (Refused skipped rule) =
+    TokenFault number file (drop skipped file) rule × (skipped < length file)
 StopsFile number file Memory = ⊤
 
 -- so many bytes at the front are UTF-8, and no more of them

@@ -11,7 +11,9 @@ use Rattle.st_scan.specs.declared.text.Piece.TheVariants.{Byte, Quote, Wrong}
 
 -- a byte of the text, escaped or not; the quote that ends it; or the end or a wrong byte
 abbrev pub IsPiece : List ℕ → Piece → Type 0
-IsPiece bytes (Byte byte size) = (rest : List ℕ) × (bytes ≡ escaped byte ++ rest) × IsTrue (is_text_byte byte) × (size ≡ length (escaped byte))
+IsPiece bytes (Byte byte size) =
+    (rest : List ℕ) × (bytes ≡ escaped byte ++ rest) × IsTrue (is_text_byte byte)
+    × (size ≡ length (escaped byte))
 IsPiece bytes Quote = (rest : List ℕ) × (bytes ≡ 34 ∷ rest)
 IsPiece bytes Wrong = bytes ≢ [] → IsTrue (is_wrong bytes)
 
@@ -25,4 +27,5 @@ NoEscape letter = (letter ≢ 34) × (letter ≢ 92) × (letter ≢ 110) × (let
 
 -- a wrong byte at the rest of a text that is closed, or else the quote of a text that is not
 abbrev pub text_stop : List ℕ → List ℕ → Stop
-text_stop bytes rest = if closes_text rest then Refused (length bytes - length rest) L1 else Refused 0 L2
+text_stop bytes rest =
+    if closes_text rest then Refused (length bytes - length rest) L1 else Refused 0 L2

@@ -12,7 +12,8 @@ use Rattle.st_scan.specs.declared.token.TokenKind.TheVariants.{Number}
 pub record Longest (bytes text rest : List ℕ) (kind : TokenKind) : Type 0 where
   pub split : bytes ≡ text ++ rest
   pub spelled : Spells text kind
-  pub longest : (other more : List ℕ) (another : TokenKind) → bytes ≡ other ++ more → Spells other another → length other ≤ length text
+  pub longest : (other more : List ℕ) (another : TokenKind)
+      → bytes ≡ other ++ more → Spells other another → length other ≤ length text
   pub no_comment : opens_comment bytes ≡ false
 
 -- a number is below 2 ^ 128

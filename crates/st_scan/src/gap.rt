@@ -58,9 +58,11 @@ fn skip_line(bytes: &[u8]) -> &[u8]
 }
 
 /// What stands behind a comment, from behind its first sign on.
-#[tactic(auto, using(crate::proofs::Gaps::comment_ends, crate::proofs::Gaps::comment_empty, crate::proofs::Gaps::comment_last))]
+#[tactic(auto, using(crate::proofs::Gaps::comment_empty, crate::proofs::Gaps::comment_last))]
 fn skip_comment(bytes: &[u8]) -> Option<&[u8]>
-    ensures same { MatchOption result ((start : List ℕ) → gap (comment start 0) bytes.now ≡ start) (λ rest. (start : List ℕ) → gap (comment start 0) bytes.now ≡ gap between rest.now) }
+    ensures same { MatchOption result
+        ((start : List ℕ) → gap (comment start 0) bytes.now ≡ start)
+        (λ rest. (start : List ℕ) → gap (comment start 0) bytes.now ≡ gap between rest.now) }
     ensures shorter { IfSome result (λ rest. length rest.now ≤ length bytes.now) }
 {
     let mut rest = bytes;

@@ -23,7 +23,9 @@ fn digit_count(bytes: &[u8], radix: u32) -> usize
 
 /// How many bytes `0x` and the hexadecimal digits behind it take.
 fn hexadecimal_length(bytes: &[u8]) -> Option<usize>
-    ensures { MatchOption result (NoHexadecimal bytes.now) (λ size. LongestHexadecimal bytes.now size) }
+    ensures { MatchOption result
+        (NoHexadecimal bytes.now)
+        (λ size. LongestHexadecimal bytes.now size) }
 {
     let digits = bytes.strip_prefix(b"0x")?;
     let count = digit_count(digits, 16);
@@ -48,7 +50,9 @@ fn number_front(bytes: &[u8]) -> &[u8]
 /// The number at the front, which begins with a digit.
 pub(crate) fn read_number(bytes: &[u8]) -> Result<Reading, Stop>
     requires { IsTrue (begins_digit bytes.now) }
-    ensures { MatchResult result (λ reading. IsReading bytes.now reading) (λ stop. Stops bytes.now stop) }
+    ensures { MatchResult result
+        (λ reading. IsReading bytes.now reading)
+        (λ stop. Stops bytes.now stop) }
 {
     let text = number_front(bytes);
     match st_num::read_number(text) {

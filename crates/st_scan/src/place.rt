@@ -28,11 +28,11 @@ impl Place {
     }
 
     /// The place behind one more byte.
-    #[tactic(auto, using(crate::proofs::Places::behind_feed, crate::proofs::Places::behind_first, crate::proofs::Places::behind_other))]
     fn behind_byte(self, byte: u8) -> Place
         requires lines { self.line + 1 < 2 ^ 64 }
         requires columns { self.column + 1 < 2 ^ 64 }
-        ensures same { (before : List ℕ) → IsBehind before self → IsBehind (before ++ byte ∷ []) result }
+        ensures same { (before : List ℕ) → IsBehind before self
+            → IsBehind (before ++ byte ∷ []) result }
         ensures lines { result.line ≤ self.line + 1 }
         ensures columns { result.column ≤ self.column + 1 }
     {
@@ -55,7 +55,8 @@ impl Place {
     pub(crate) fn behind(self, bytes: &[u8]) -> Place
         requires lines { self.line + length bytes.now < 2 ^ 64 }
         requires columns { self.column + length bytes.now < 2 ^ 64 }
-        ensures same { (before : List ℕ) → IsBehind before self → IsBehind (before ++ bytes.now) result }
+        ensures same { (before : List ℕ) → IsBehind before self
+            → IsBehind (before ++ bytes.now) result }
         ensures lines { result.line ≤ self.line + length bytes.now }
         ensures columns { result.column ≤ self.column + length bytes.now }
     {

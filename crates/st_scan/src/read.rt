@@ -136,7 +136,9 @@ fn read_fun(alloc: Global, bytes: &[u8]) -> Result<Reading, NoMemory>
 /// The sign at the front, where nothing but a sign can stand.
 fn read_sign(bytes: &[u8]) -> Result<Reading, Stop>
     requires { BeginsSign bytes.now }
-    ensures { MatchResult result (λ reading. IsReading bytes.now reading) (λ stop. Stops bytes.now stop) }
+    ensures { MatchResult result
+        (λ reading. IsReading bytes.now reading)
+        (λ stop. Stops bytes.now stop) }
 {
     match sign_at(bytes) {
         Some(mark) => Ok(Reading {
@@ -153,7 +155,9 @@ fn read_sign(bytes: &[u8]) -> Result<Reading, Stop>
 /// The token at the front of what stands behind blanks and closed comments.
 pub(crate) fn read_token(alloc: Global, bytes: &[u8]) -> Result<Reading, Stop>
     requires { 0 < length bytes.now }
-    ensures { MatchResult result (λ reading. IsReading bytes.now reading) (λ stop. Stops bytes.now stop) }
+    ensures { MatchResult result
+        (λ reading. IsReading bytes.now reading)
+        (λ stop. Stops bytes.now stop) }
 {
     if opens_comment(bytes) {
         Err(Stop::Refused {

@@ -32,7 +32,11 @@ fn read_next<'a>(
 ) -> Result<Option<Step<'a>>, Stop>
     requires lines { place.line + length rest.now ≤ 2 ^ 32 }
     requires columns { place.column + length rest.now ≤ 2 ^ 32 }
-    ensures { (whole : List ℕ) → IsAt whole rest.now place → MatchResult result (λ next. MatchOption next (gap between rest.now ≡ []) (λ step. IsStep file whole rest.now step)) (λ stop. StopsNext rest.now stop) }
+    ensures { (whole : List ℕ) → IsAt whole rest.now place → MatchResult result
+        (λ next. MatchOption next
+        (gap between rest.now ≡ [])
+        (λ step. IsStep file whole rest.now step))
+        (λ stop. StopsNext rest.now stop) }
 {
     let here = skip_gap(rest);
     let gap = rest.len() - here.len();
@@ -57,7 +61,9 @@ fn read_next<'a>(
 /// The tokens up to the end of a file, whatever of it is UTF-8.
 fn read_tokens(alloc: Global, file: u16, bytes: &[u8]) -> Result<Row<Token>, Stop>
     requires { length bytes.now < 2 ^ 32 }
-    ensures { MatchResult result (λ tokens. ReadsAll file bytes.now tokens) (λ stop. StopsFile file bytes.now stop) }
+    ensures { MatchResult result
+        (λ tokens. ReadsAll file bytes.now tokens)
+        (λ stop. StopsFile file bytes.now stop) }
 {
     let mut tokens = Row::new(alloc);
     let mut rest = bytes;

@@ -110,7 +110,9 @@ fn text_fault(bytes: &[u8], rest: &[u8]) -> Stop
 /// The text at the front, which begins with a quote.
 pub(crate) fn read_text(alloc: Global, bytes: &[u8]) -> Result<Reading, Stop>
     requires { IsTrue (begins_quote bytes.now) }
-    ensures { MatchResult result (λ reading. IsReading bytes.now reading) (λ stop. Stops bytes.now stop) }
+    ensures { MatchResult result
+        (λ reading. IsReading bytes.now reading)
+        (λ stop. Stops bytes.now stop) }
 {
     let mut text = Name::new(alloc);
     let mut rest = &bytes[1..];

@@ -1,5 +1,8 @@
 //! What a scan gives: tokens with their places, or the first fault.
 
+ghost use Rattle.std.specs.Prelude.{◌≡◌};
+ghost use Rattle.st_scan.specs.declared.token.LexFault.TheVariants.{Memory};
+
 use crate::Word;
 use st_num::{Mark, Name, NoMemory, RuleId, Span};
 use thiserror::Error;
@@ -44,6 +47,8 @@ pub enum LexFault {
 }
 
 impl From<NoMemory> for LexFault {
+    ghost from_gives = { λ _ fault. fault ≡ Memory };
+
     fn from(_: NoMemory) -> Self {
         LexFault::Memory
     }

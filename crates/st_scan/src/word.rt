@@ -79,7 +79,9 @@ const WORDS: [Word; 18] = [
 
 /// The word that is spelled so, where the name is reserved.
 pub(crate) fn word_of(name: &[u8]) -> Option<Word>
-    ensures { MatchOption result (¬ (IsReserved name.now)) (λ word. name.now ≡ word_spelling word) }
+    ensures { MatchOption result
+        (¬ (IsReserved name.now))
+        (λ word. name.now ≡ word_spelling word) }
 {
     for word in &WORDS {
         if word.spelling().as_bytes() == name {
