@@ -1,5 +1,5 @@
 -- What a scan answers, from what its parts say.
-use Rattle.std.proofs.Common.{◌≡◌, ℕ, ◌≤◌, ◌<◌, List, length, drop, refl, sym, subst, arith, ◌⊎◌, inl, inr}
+use Rattle.std.proofs.Common.{◌≡◌, ℕ, ◌≤◌, ◌<◌, List, [], length, drop, refl, sym, subst, arith, ◌⊎◌, inl, inr}
 use Rattle.std.proofs.lemmas.Bool.{cases_lt}
 use Rattle.std.proofs.lemmas.List.{length-drop}
 use Rattle.std.specs.Str.{IsValidUpTo}
@@ -13,7 +13,8 @@ use Rattle.st_scan.specs.Places.{place, offset}
 use Rattle.st_scan.specs.Tokens.{Tokens}
 use Rattle.st_scan.specs.Faults.{TokenFault, FirstFault, of_token, of_utf8}
 use Rattle.st_scan.specs.Steps.{ReadsAll, IsUtf8Length}
-use Rattle.st_scan.specs.Answers.{IsOnlyList, IsOnlyFault, TellsFirst, TellsOnly}
+use Rattle.st_scan.specs.Answers.{HaveTexts, IsOnlyList, IsOnlyFault, TellsFirst, TellsOnly}
+use Rattle.st_scan.proofs.TextBytes.{run_texts}
 use Rattle.st_scan.proofs.Runs.{tokens_unique, no_first_fault, first_fault_unique, no_token_fault, token_fault_unique, valid_whole, valid_unique}
 
 offset_of : (file : List ℕ) (n : ℕ) → n ≤ length file → offset file (drop n file) ≡ n
@@ -58,3 +59,6 @@ module _ (number : ℕ) (file : List ℕ) (skipped size : ℕ) (rule : RuleId) (
 
 pub told : (number : ℕ) (file : List ℕ) (fault : LexFault) (at : Span) (rule : RuleId) → fault ≡ Refused at rule → FirstFault number file at rule → TellsFirst number file fault
 told number file fault at rule is h = subst (TellsFirst number file) (sym is) h
+
+pub tokens_texts : (number : ℕ) (file : List ℕ) (tokens : List Token) → Tokens number file tokens → HaveTexts tokens
+tokens_texts number file tokens h = run_texts number file [] file tokens h.left h.utf8 refl h.run

@@ -8,4 +8,5 @@ pub mod Readings
 pub mod Numbers
 pub mod TextReadings
 pub mod Steps
+pub mod TextBytes
 pub mod Answers

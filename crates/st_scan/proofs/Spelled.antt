@@ -116,7 +116,7 @@ spelled_some kind s = absurd (omega (arith, spelled_group [] [] kind s, group_be
 
 -- ---- what a token of each group is
 
-name_parts : (name : List ℕ) → is_name name ≡ true → list_all is_name_part name ≡ true
+pub name_parts : (name : List ℕ) → is_name name ≡ true → list_all is_name_part name ≡ true
 name_parts [] e = absurd (false≢true e)
 name_parts (b ∷ bs) e =
     let both = and_parts (is_letter b) (list_all is_name_part bs) e in

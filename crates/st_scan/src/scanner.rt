@@ -4,7 +4,7 @@ ghost use Rattle.std.specs.Prelude.{◌≡◌, ◌+◌, ◌^◌, ◌<◌, ◌≤
 ghost use Rattle.st_scan.specs.Gaps.{gap, between};
 ghost use Rattle.st_scan.specs.Places.{place};
 ghost use Rattle.st_scan.specs.Tokens.{Tokens};
-ghost use Rattle.st_scan.specs.Answers.{IsOnlyList, TellsFirst, TellsOnly};
+ghost use Rattle.st_scan.specs.Answers.{HaveTexts, IsOnlyList, TellsFirst, TellsOnly};
 ghost use Rattle.st_scan.specs.declared.token.LexFault.TheVariants.{Refused};
 ghost use Rattle.st_scan.specs.Steps.{IsAt, IsStep, StopsNext, ReadsAll, StopsFile, IsUtf8Length};
 
@@ -109,6 +109,7 @@ fn refusal(file: u16, bytes: &[u8], skipped: usize, rule: RuleId) -> LexFault
 pub fn scan(alloc: Global, file: u16, bytes: &[u8]) -> Result<Vec<Token>, LexFault>
     requires { length bytes.now < 2 ^ 32 }
     ensures tokens { IfOk result (λ tokens. Tokens file bytes.now tokens.items) }
+    ensures texts { IfOk result (λ tokens. HaveTexts tokens.items) }
     ensures only_tokens { IfOk result (λ tokens. IsOnlyList file bytes.now tokens.items) }
     ensures refused { IfErr result (TellsFirst file bytes.now) }
     ensures only_fault { IfErr result (TellsOnly file bytes.now) }

@@ -3,7 +3,7 @@ use Rattle.st_num.specs.declared.rule.RuleId.TheVariants.{L4}
 use Rattle.st_scan.specs.declared.read.Stop.TheVariants.{Refused}
 use Rattle.st_scan.specs.Tokens.{Tokens}
 use Rattle.st_scan.specs.Steps.{StopsFile}
-use Rattle.st_scan.proofs.Answers.{tokens_found, only_list, tells_only, unread_utf8, utf8_first, token_first, told}
+use Rattle.st_scan.proofs.Answers.{tokens_found, tokens_texts, only_list, tells_only, unread_utf8, utf8_first, token_first, told}
 use Rattle.st_scan.proofs.scanner.scan.Goals as goal
 
 pub returns-then-valid-bytes-clause-refused : goal.returns-then-valid-bytes-clause-refused
@@ -24,6 +24,11 @@ pub returns-else-valid-bytes-clause-only_tokens : goal.returns-else-valid-bytes-
 returns-else-valid-bytes-clause-only_tokens c =
     let found : Tokens c.args.file c.args.bytes.now c.into_vec.result.items = subst (Tokens c.args.file c.args.bytes.now) (sym c.into_vec.ensures) (tokens_found _ _ _ _ c.in-Ok.ensures c.utf8_length-valid.ensures c.if-valid-bytes.false) in
     only_list _ _ _ found
+
+pub returns-else-valid-bytes-clause-texts : goal.returns-else-valid-bytes-clause-texts
+returns-else-valid-bytes-clause-texts c =
+    let found : Tokens c.args.file c.args.bytes.now c.into_vec.result.items = subst (Tokens c.args.file c.args.bytes.now) (sym c.into_vec.ensures) (tokens_found _ _ _ _ c.in-Ok.ensures c.utf8_length-valid.ensures c.if-valid-bytes.false) in
+    tokens_texts _ _ _ found
 
 pub returns-else-valid-skipped-clause-refused : goal.returns-else-valid-skipped-clause-refused
 returns-else-valid-skipped-clause-refused c =
