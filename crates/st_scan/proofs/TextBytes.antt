@@ -1,19 +1,18 @@
 -- The names and texts in the tokens of a file are texts.
-use Rattle.std.proofs.Common.{◌≡◌, ◌≢◌, ℕ, zero, suc, ◌+◌, ◌-◌, ◌≤◌, ◌<◌, List, [], ◌∷◌, ◌++◌, length, take, drop, get_or, Bool, true, false, refl, sym, ap, ◌∙◌, subst, arith, ◌&&◌, append_assoc}
+use Rattle.std.proofs.Common.{◌≡◌, ℕ, zero, suc, ◌+◌, ◌<◌, List, [], ◌∷◌, ◌++◌, length, drop, get_or, true, refl, sym, ap, ◌∙◌, subst, arith, append_assoc}
 use Rattle.std.proofs.lemmas.Bool.{and_parts, and_from}
 use Rattle.std.proofs.lemmas.Bool.Decides.{nat_tests}
-use Rattle.std.proofs.lemmas.List.{append-nil, take_at, drop_at, get_or_at, length-append}
+use Rattle.std.proofs.lemmas.List.{take_at, drop_at, get_or_at, length-append}
 use Rattle.std.proofs.lemmas.List.Elements.{All-nil, All-cons}
 use Rattle.std.proofs.lemmas.Str.{IsUtf8-append, IsUtf8-nil, IsUtf8-take, IsUtf8-drop, IsUtf8-from_ascii, IsCharBoundary-before_ascii, IsCharBoundary-after_ascii}
-use Rattle.std.specs.List.{All, flat_map, list_all}
+use Rattle.std.specs.List.{flat_map, list_all}
 use Rattle.std.specs.Str.{IsUtf8}
 use Rattle.st_scan.specs.declared.token.Token.{Token}
 use Rattle.st_scan.specs.declared.token.TokenKind.{TokenKind}
 use Rattle.st_scan.specs.declared.token.TokenKind.TheVariants.{Low, Up, Mix, Reserved, Number, Text, Dot, Fun, Sign}
-use Rattle.st_scan.specs.Bytes.{is_letter, is_name_part, is_text_byte}
-use Rattle.st_scan.specs.Gaps.{gap, between}
+use Rattle.st_scan.specs.Bytes.{is_name_part, is_text_byte}
 use Rattle.st_scan.specs.Spelling.{Spells, escaped, quoted, is_name}
-use Rattle.st_scan.specs.Tokens.{Next, Run}
+use Rattle.st_scan.specs.Tokens.{Run}
 use Rattle.st_scan.specs.Answers.{IsText, text_in, HaveTexts}
 use Rattle.st_scan.proofs.Gaps.{gap_is_end}
 use Rattle.st_scan.proofs.Spelled.{name_parts}
@@ -56,9 +55,10 @@ cut front a rest small u =
     let at : get_or (front ++ a ∷ rest) (length front) 0 ≡ a = get_or_at front a rest 0 (length front) refl in
     let low : get_or (front ++ a ∷ rest) (length front) 0 < 128 = omega (arith, at, small) in
     let behind : front ++ a ∷ rest ≡ (front ++ a ∷ []) ++ rest = sym (append_assoc front (a ∷ []) rest) in
-    let one : length (front ++ a ∷ []) ≡ length front + 1 = length-append front (a ∷ []) in
-    (subst IsUtf8 (take_at front (a ∷ rest) (length front) refl) (IsUtf8-take (front ++ a ∷ rest) (length front) u (IsCharBoundary-before_ascii (front ++ a ∷ rest) (length front) (omega (arith, long)) low)),
-    subst IsUtf8 (ap (drop (length front + 1)) behind ∙ drop_at (front ++ a ∷ []) rest (length front + 1) one) (IsUtf8-drop (front ++ a ∷ rest) (length front + 1) u (IsCharBoundary-after_ascii (front ++ a ∷ rest) (length front) u (omega (arith, long)) low)))
+    let one : length (front ++ a ∷ []) ≡ length front + 1 = length-append front (a ∷ []) in (
+      subst IsUtf8 (take_at front (a ∷ rest) (length front) refl) (IsUtf8-take (front ++ a ∷ rest) (length front) u (IsCharBoundary-before_ascii (front ++ a ∷ rest) (length front) (omega (arith, long)) low)),
+      subst IsUtf8 (ap (drop (length front + 1)) behind ∙ drop_at (front ++ a ∷ []) rest (length front + 1) one) (IsUtf8-drop (front ++ a ∷ rest) (length front + 1) u (IsCharBoundary-after_ascii (front ++ a ∷ rest) (length front) u (omega (arith, long)) low)),
+    )
 
 one_byte : (b : ℕ) → b < 128 → IsUtf8 (b ∷ [])
 one_byte b small = IsUtf8-from_ascii (b ∷ []) go
@@ -111,8 +111,8 @@ run_texts number file front rest (t ∷ ts) left u e run =
     let g = gap_is_end rest in
     let next = run.1 in
     let here : file ≡ (front ++ g.front) ++ (next.text ++ run.0) =
-      e ∙ ap (λ w. front ++ w) (g.joined ∙ ap (λ w. g.front ++ w) next.longest.split) ∙ sym (append_assoc front g.front (next.text ++ run.0)) in
+    e ∙ ap (λ w. front ++ w) (g.joined ∙ ap (λ w. g.front ++ w) next.longest.split) ∙ sym (append_assoc front g.front (next.text ++ run.0)) in
     let behind : file ≡ ((front ++ g.front) ++ next.text) ++ run.0 = here ∙ sym (append_assoc (front ++ g.front) next.text run.0) in
     All-cons (λ token. IsText (text_in token.kind)) t ts
-      (kind_text (front ++ g.front) next.text run.0 t.kind (subst IsUtf8 here u) next.longest.spelled)
-      (run_texts number file ((front ++ g.front) ++ next.text) run.0 ts left u behind run.2)
+    (kind_text (front ++ g.front) next.text run.0 t.kind (subst IsUtf8 here u) next.longest.spelled)
+    (run_texts number file ((front ++ g.front) ++ next.text) run.0 ts left u behind run.2)

@@ -1,5 +1,5 @@
 -- One step from token to token, and all of them.
-use Rattle.std.specs.Prelude.{◌≡◌, ℕ, ◌≤◌, ◌<◌, List, [], ◌++◌, length, take, drop, ⊤}
+use Rattle.std.specs.Prelude.{◌≡◌, ℕ, ◌≤◌, ◌<◌, List, [], ◌++◌, length, take, drop, Option, Some, None, ⊤}
 use Rattle.std.specs.Str.{IsUtf8, IsValidUpTo}
 use Rattle.st_scan.specs.Gaps.{gap, between}
 use Rattle.st_scan.specs.Places.{offset, IsBehind}
@@ -21,6 +21,11 @@ pub record IsStep (number : ℕ) (file rest : List ℕ) (step : Step) : Type 0 w
   pub next : Next number file rest step.token step.rest.now
   pub at : IsAt file step.rest.now step.place
   pub shorter : length step.rest.now < length rest
+
+-- the step that is next, or none where only blanks and comments are left
+abbrev pub IsNext : ℕ → List ℕ → List ℕ → Option Step → Type 0
+IsNext number file rest None = gap between rest ≡ []
+IsNext number file rest (Some step) = IsStep number file rest step
 
 -- no token is next, and the fault stands so many bytes behind the front of the rest
 abbrev pub StopsNext : List ℕ → Stop → Type 0

@@ -1,12 +1,11 @@
 //! All tokens of a file, one behind the other.
 
-ghost use Rattle.std.specs.Prelude.{◌≡◌, ◌+◌, ◌^◌, ◌<◌, ◌≤◌, List, ℕ, [], length, drop, MatchOption, MatchResult, IfOk, IfErr};
-ghost use Rattle.st_scan.specs.Gaps.{gap, between};
+ghost use Rattle.std.specs.Prelude.{◌≡◌, ◌+◌, ◌^◌, ◌<◌, ◌≤◌, List, ℕ, length, drop, MatchResult, IfOk, IfErr};
 ghost use Rattle.st_scan.specs.Places.{place};
 ghost use Rattle.st_scan.specs.Tokens.{Tokens};
 ghost use Rattle.st_scan.specs.Answers.{HaveTexts, IsOnlyList, TellsFirst, TellsOnly};
 ghost use Rattle.st_scan.specs.declared.token.LexFault.TheVariants.{Refused};
-ghost use Rattle.st_scan.specs.Steps.{IsAt, IsStep, StopsNext, ReadsAll, StopsFile, IsUtf8Length};
+ghost use Rattle.st_scan.specs.Steps.{IsAt, IsNext, StopsNext, ReadsAll, StopsFile, IsUtf8Length};
 
 use crate::gap::skip_gap;
 use crate::place::Place;
@@ -33,9 +32,7 @@ fn read_next<'a>(
     requires lines { place.line + length rest.now ≤ 2 ^ 32 }
     requires columns { place.column + length rest.now ≤ 2 ^ 32 }
     ensures { (whole : List ℕ) → IsAt whole rest.now place → MatchResult result
-        (λ next. MatchOption next
-        (gap between rest.now ≡ [])
-        (λ step. IsStep file whole rest.now step))
+        (λ next. IsNext file whole rest.now next)
         (λ stop. StopsNext rest.now stop) }
 {
     let here = skip_gap(rest);

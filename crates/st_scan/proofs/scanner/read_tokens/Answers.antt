@@ -1,7 +1,6 @@
-use Rattle.std.proofs.Common.{◌≡◌, [], sym, subst, MatchOption}
-use Rattle.st_scan.specs.Gaps.{gap, between}
+use Rattle.std.proofs.Common.{sym, subst}
 use Rattle.st_scan.specs.Tokens.{Run}
-use Rattle.st_scan.specs.Steps.{IsStep, StopsFile}
+use Rattle.st_scan.specs.Steps.{IsStep, IsNext, StopsFile}
 use Rattle.st_scan.proofs.Steps.{run_more, stops_file}
 use Rattle.st_scan.proofs.scanner.read_tokens.Goals as goal
 
@@ -11,7 +10,7 @@ returns-in-Err c = subst (StopsFile c.args.file c.args.bytes.now) (sym c.farther
 pub tokens-preserved : goal.tokens-preserved
 tokens-preserved c =
     let step : IsStep c.args.file c.args.bytes.now c.tokens.rest.now c.in-Some.step =
-    subst (λ next. MatchOption next (gap between c.tokens.rest.now ≡ []) (λ step. IsStep c.args.file c.args.bytes.now c.tokens.rest.now step)) c.in-Some.is (c.in-Ok.ensures c.args.bytes.now c.tokens.invariant.at) in
+    subst (IsNext c.args.file c.args.bytes.now c.tokens.rest.now) c.in-Some.is (c.in-Ok.ensures c.args.bytes.now c.tokens.invariant.at) in
     record {
       at = step.at;
       run = subst (λ tokens. Run c.args.file c.args.bytes.now c.args.bytes.now tokens c.in-Some.step.rest.now) (sym c.in_ok-push.ensures.ok)
