@@ -5,7 +5,7 @@ use Rattle.st_il.specs.declared.definition.Il.{Il}
 use Rattle.st_il.specs.declared.value.Value.TheVariants.{Case}
 use Rattle.st_tool.specs.declared.loads.Loaded.{Loaded}
 use Rattle.st_tool.specs.declared.loads.Loaded.TheVariants.{Given, Failed, TooLong}
-use Rattle.st_tool.specs.declared.small.Small.{Small}
+use Rattle.st_il.specs.declared.small.Small.{Small}
 use Rattle.st_tool.specs.declared.status.Status.{Status}
 use Rattle.st_tool.specs.declared.status.Status.TheVariants as answer
 use Rattle.st_tool.specs.declared.transcript.Ending.{Ending}
@@ -13,7 +13,8 @@ use Rattle.st_tool.specs.declared.transcript.Ending.TheVariants.{Stuck, Fuel}
 use Rattle.st_tool.specs.declared.words.Command.{Command}
 use Rattle.st_tool.specs.declared.words.Command.TheVariants.{Run}
 use Rattle.st_tool.specs.Loads.{Held, Counts, LoadsTo}
-use Rattle.st_tool.specs.Small.{IsTextOf, il_of}
+use Rattle.st_il.specs.Small.{il_of}
+use Rattle.st_tool.specs.SmallText.{IsTextOf}
 use Rattle.st_tool.specs.Texts.{transcript_text, unbuilt_text, load_failed_text}
 use Rattle.st_tool.specs.Transcript.{Term, IsTranscript}
 use Rattle.st_tool.specs.Words.{Reads, HasNoReading, file_names}

@@ -2,7 +2,7 @@
 use Rattle.std.specs.Prelude.{◌≡◌, ℕ, ◌<◌, false, List, Option, Some, None, slice_get, ◌⊎◌}
 use Rattle.std.specs.Ordering.{is_gt, nat_cmp}
 use Rattle.std.specs.Cmp.Lexicographic.{slice_cmp}
-use Rattle.st_tool.specs.declared.small.SmallRule.{SmallRule}
+use Rattle.st_il.specs.declared.small.SmallRule.{SmallRule}
 
 -- the first atom is not above the second, by bytes
 abbrev pub IsAtMost : List ℕ → List ℕ → Type 0

@@ -6,12 +6,13 @@ ghost use Rattle.st_tool.specs.Outcome.{Outcome, HasOutcome, IsAtomText, IsSmall
 ghost use Rattle.st_tool.specs.Texts.{unbuilt_text, load_failed_text};
 ghost use Rattle.st_tool.specs.Words.{file_names};
 
+use crate::Status;
 use crate::loads::{Loaded, load_all};
-use crate::small::read_small;
+use crate::reader::read_small;
 use crate::text::{load_failed_line, unbuilt_line};
 use crate::transcript::run;
 use crate::words::{Command, read_words};
-use crate::{Small, Status};
+use st_il::Small;
 use st_num::{Name, NoMemory, Row};
 use st_outside::Files;
 use std::alloc::Global;

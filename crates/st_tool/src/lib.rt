@@ -15,9 +15,11 @@ ghost use Rattle.st_tool.specs.Outcome.{Written};
 
 mod answer;
 mod loads;
-mod small;
+mod reader;
 mod status;
 mod step;
+#[cfg(test)]
+mod tests;
 mod text;
 mod transcript;
 mod words;
@@ -25,7 +27,6 @@ mod words;
 pub use answer::Answer;
 use answer::answer_words;
 pub use loads::Loaded;
-pub use small::{Small, SmallRule};
 use st_num::NoMemory;
 use st_outside::{Files, Sink, write_all_of};
 pub use status::Status;

@@ -3,11 +3,11 @@
 ghost use Rattle.std.specs.Prelude.{◌≡◌, ◌⊎◌, length, MatchOption};
 ghost use Rattle.std.specs.Option.{option_copied};
 ghost use Rattle.st_tool.specs.Outcome.{atom_term};
-ghost use Rattle.st_tool.specs.Small.{il_of};
+ghost use Rattle.st_il.specs.Small.{il_of};
 ghost use Rattle.st_tool.specs.Step.{IsAtMost, IsBetter, IsLeastOf};
 ghost use Rattle.st_tool.specs.Transcript.{IsNext, IsStuck};
 
-use crate::{Small, SmallRule};
+use st_il::{Small, SmallRule};
 use st_num::Name;
 use std::cmp::Ordering;
 

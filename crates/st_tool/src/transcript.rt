@@ -2,12 +2,13 @@
 
 ghost use Rattle.std.specs.Prelude.{◌≡◌, ◌++◌, IfOk};
 ghost use Rattle.st_tool.specs.Outcome.{IsRunText, status_of};
-ghost use Rattle.st_tool.specs.Small.{il_of};
+ghost use Rattle.st_il.specs.Small.{il_of};
 ghost use Rattle.st_tool.specs.Texts.{ending_word, ending_line};
 
 use crate::step::next_atom;
 use crate::text::{push_atom_line, push_ending_line};
-use crate::{Answer, Small, Status};
+use crate::{Answer, Status};
+use st_il::Small;
 use st_num::{Name, NoMemory};
 use std::alloc::Global;
 
