@@ -72,7 +72,7 @@ pub record TokenFault (number : ℕ) (file here : List ℕ) (rule : RuleId) : Ty
   pub run : Run number file file tokens left
   pub cause : Cause (gap between left) here rule
 
--- the first fault of the file: that of a token, or the first byte that is not UTF-8, whichever is first
+-- the first fault of the file: that of a token, or the first byte that is not UTF-8
 pub data FirstFault (number : ℕ) (file : List ℕ) (at : Span) : RuleId → Type 0 where
   of_token : (here : List ℕ) (rule : RuleId) → TokenFault number file here rule
       → at ≡ place number file here
