@@ -1,6 +1,5 @@
 -- What a verifier answers to a line, from its parts.
-use Rattle.std.proofs.Common.{◌≡◌, ◌+◌, ◌<◌, ◌≤◌, ◌^◌, Option, Some, None, Result, Ok, Err, IsErrAnd, length, ◌∙◌, sym, ap, subst, arith}
-use Rattle.std.specs.Prelude.{MatchOption}
+use Rattle.std.proofs.Common.{◌≡◌, ◌+◌, ◌<◌, ◌≤◌, ◌^◌, Option, Some, None, Result, Ok, Err, IsErrAnd, length, refl, sym, subst, arith}
 use Rattle.st_deriv.specs.declared.line.Line.{Line}
 use Rattle.st_deriv.specs.declared.line.Line.TheVariants.{Head, From, Node, Step, End}
 use Rattle.st_il.specs.declared.definition.Il.{Il}
@@ -10,29 +9,22 @@ use Rattle.st_verify.specs.declared.fault.VerifyRule.{VerifyRule}
 use Rattle.st_verify.specs.declared.notes.Notes.{Notes}
 use Rattle.st_verify.specs.Notes.{noted}
 use Rattle.st_verify.specs.Verdict.{Verdict}
-use Rattle.st_verify.specs.Verifier.{Checking, IsKept, UnlessRefused, JudgesNext, Judges, refusal_by}
+use Rattle.st_verify.specs.Verifier.{Checking, IsKept, JudgesNext, refusal_by}
 use Rattle.st_verify.proofs.Judged.{judged_more}
 use Rattle.st_verify.proofs.Soundness.{length-noted}
 
--- a verifier that refused nothing
-unrefused : {V : Type 0} (old : Checking) (result : Result V VerifyFault) (new : Checking) (P : Type 0) → old.refusal ≡ None → P → UnlessRefused old result new P
-unrefused old result new P none holds = subst (λ refusal. MatchOption refusal P (λ fault. (result ≡ Err fault) × (new ≡ old))) (sym none) holds
-
 -- it refuses the line by the first rule that is broken
-pub refuses_next : (old new : Checking) (line : Line) (broken : Option VerifyRule) (rule : VerifyRule) (fault : VerifyFault) → old.refusal ≡ None
+pub refuses_next : (old new : Checking) (line : Line) (broken : Option VerifyRule) (rule : VerifyRule) (fault : VerifyFault)
     → Verdict old.il old.notes line broken → broken ≡ Some rule → fault ≡ refusal_by rule old.notes → new ≡ record old { refusal = Some (refusal_by rule old.notes) }
-    → Judges old line (Err fault) new
-refuses_next old new line broken rule fault none verdict is fault_is new_is =
-    let here : JudgesNext old line (Err (refusal_by rule old.notes)) new =
-        (subst (Verdict old.il old.notes line) is verdict, (ap Err {y = refusal_by rule old.notes} (λ i. refusal_by rule old.notes), new_is)) in
-    subst (λ one. Judges old line (Err one) new) (sym fault_is) (unrefused old (Err (refusal_by rule old.notes)) new (JudgesNext old line (Err (refusal_by rule old.notes)) new) none here)
+    → JudgesNext old line (Err fault) new
+refuses_next old new line broken rule fault verdict is fault_is new_is =
+    subst (λ one. JudgesNext old line (Err one) new) (sym fault_is) (subst (Verdict old.il old.notes line) is verdict, (refl, new_is))
 
 -- for want of memory nothing changes
-pub wants_memory : (old new : Checking) (line : Line) (result : Result (Unit {0}) VerifyFault) → old.refusal ≡ None → IsErrAnd result (λ fault. fault ≡ Memory) → new ≡ old
-    → Judges old line result new
-wants_memory old new line (Ok done) none memory same = absurd memory
-wants_memory old new line (Err fault) none memory same =
-    subst (λ one. Judges old line (Err one) new) (sym memory) (unrefused old (Err Memory) new (JudgesNext old line (Err Memory) new) none same)
+pub wants_memory : (old new : Checking) (line : Line) (result : Result (Unit {0}) VerifyFault) → IsErrAnd result (λ fault. fault ≡ Memory) → new ≡ old
+    → JudgesNext old line result new
+wants_memory old new line (Ok done) memory same = absurd memory
+wants_memory old new line (Err fault) memory same = subst (λ one. JudgesNext old line (Err one) new) (sym memory) same
 
 -- at most one step more
 steps-noted : (notes : Notes) (line : Line) → (noted notes line).steps ≤ notes.steps + 1

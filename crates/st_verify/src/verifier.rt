@@ -1,14 +1,16 @@
 //! The verifier: it takes the lines of a derivation one by one.
 
-ghost use Rattle.std.specs.Prelude.{◌≡◌, ◌^◌, ◌<◌, List, None, Some, length, IsOkAnd};
+ghost use Rattle.std.specs.Prelude.{◌≡◌, ◌^◌, ◌<◌, List, Option, None, Some, length, IsOkAnd};
 ghost use Rattle.st_deriv.specs.declared.line.Line.{Line};
 ghost use Rattle.st_il.specs.Small.{IsSmallIl};
+ghost use Rattle.st_verify.specs.declared.fault.VerifyRule.{VerifyRule};
 ghost use Rattle.st_verify.specs.declared.fault.VerifyRule.TheVariants.{V3};
 ghost use Rattle.st_verify.specs.declared.notes.Notes.{Notes};
 ghost use Rattle.st_verify.specs.Accepts.{ReadsTo, Accepts};
 ghost use Rattle.st_verify.specs.Notes.{nothing_noted};
 ghost use Rattle.st_verify.specs.Sound.{AreSound};
-ghost use Rattle.st_verify.specs.Verifier.{Refuses, UnlessRefused, Judges, Finishes, refusal_by};
+ghost use Rattle.st_verify.specs.Verdict.{Verdict};
+ghost use Rattle.st_verify.specs.Verifier.{Refuses, UnlessRefused, JudgesNext, Judges, Finishes, refusal_by};
 
 use crate::noted::{no_notes, note};
 use crate::verdict::broken_rule;
@@ -58,11 +60,20 @@ impl Verifier {
     pub fn judge(&mut self, alloc: Global, line: &Line) -> Result<(), VerifyFault>
         requires { length self.old.notes.lines < 2 ^ 32 }
         ensures judges { Judges self.old line.now result self.new }
+        ensures one { (broken other : Option VerifyRule) → Verdict self.old.il self.old.notes line.now broken → Verdict self.old.il self.old.notes line.now other → broken ≡ other }
         ensures sound { (lines : List Line) → (notes : Notes) → ReadsTo self.old.il lines notes → AreSound self.old.il lines }
     {
-        if let Some(fault) = self.refusal {
-            return Err(fault);
+        match self.refusal {
+            Some(fault) => Err(fault),
+            None => self.judge_next(alloc, line),
         }
+    }
+
+    /// Takes the next line where none was refused.
+    fn judge_next(&mut self, alloc: Global, line: &Line) -> Result<(), VerifyFault>
+        requires { length self.old.notes.lines < 2 ^ 32 }
+        ensures { JudgesNext self.old line.now result self.new }
+    {
         if let Some(rule) = broken_rule(&self.il, &self.notes, line) {
             return Err(self.refuse(rule));
         }
@@ -85,16 +96,14 @@ impl Verifier {
         ensures finishes { Finishes self.old result self.new }
         ensures sound { (lines : List Line) → Accepts self.old.il lines → AreSound self.old.il lines }
     {
-        if let Some(fault) = self.refusal {
-            return Err(fault);
+        match self.refusal {
+            Some(fault) => Err(fault),
+            None if self.notes.ended => Ok(Accepted {
+                lines: self.notes.lines.len() as u64,
+                steps: self.notes.steps,
+            }),
+            None => Err(self.refuse(VerifyRule::V12)),
         }
-        if !self.notes.ended {
-            return Err(self.refuse(VerifyRule::V12));
-        }
-        Ok(Accepted {
-            lines: self.notes.lines.len() as u64,
-            steps: self.notes.steps,
-        })
     }
 
     /// Refuses the next line by a rule, and keeps the refusal.
