@@ -1,0 +1,4 @@
+mod Parts
+mod Values
+mod LineKinds
+mod Whole
