@@ -2,3 +2,4 @@ mod Parts
 mod Values
 mod LineKinds
 mod Whole
+mod Printing

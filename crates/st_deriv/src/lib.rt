@@ -8,10 +8,14 @@
 #![tactic(auto)]
 
 mod fault;
+mod law;
 mod line;
 mod name;
 mod part;
+mod print;
 mod read;
 
+pub use law::one_text_one_line;
 pub use line::{Ending, Line, NodeLine, Ref};
+pub use print::print_lines;
 pub use read::read_line;

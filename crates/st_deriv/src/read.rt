@@ -11,7 +11,7 @@ use crate::fault::MALFORMED;
 use crate::part::{case_of, ending_of, is_empty_list, is_word, list_of, number_of, quote_of, relation_of};
 use crate::{Line, NodeLine};
 use st_il::{Env, Value};
-use st_iltext::{TextFault, TextTree, one_text_one_tree, read_row};
+use st_iltext::{TextFault, TextTree, read_row};
 use st_num::{Name, Row};
 use std::alloc::Global;
 
@@ -20,7 +20,6 @@ use std::alloc::Global;
 pub fn read_line(alloc: Global, bytes: &[u8]) -> Result<Line, TextFault>
     ensures { Answers result (λ line. LineText line bytes.now) (IsNoLine bytes.now) }
 {
-    one_text_one_tree();
     let trees = read_row(alloc, bytes)?;
     read_trees(alloc, trees.as_slice())
 }

@@ -6,5 +6,5 @@ use Rattle.st_deriv.proofs.read.read_line.Goals as goal
 
 pub returns : goal.returns
 returns c =
-    line_answer _ _ _ c.one_text_one_tree.ensures.row c.in_ok-trees.ensures
+    line_answer _ _ _ c.in_ok-trees.ensures
     (subst (λ trees. AnswersLine (trees_of trees) c.read_trees.result) c.as_slice.ensures c.read_trees.ensures)
