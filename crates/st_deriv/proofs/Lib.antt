@@ -1,0 +1,5 @@
+mod Parts
+mod Values
+mod LineKinds
+mod Whole
+mod Printing
