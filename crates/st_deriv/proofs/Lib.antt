@@ -2,4 +2,5 @@ mod Parts
 mod Values
 mod LineKinds
 mod Whole
+mod LineFeeds
 mod Printing

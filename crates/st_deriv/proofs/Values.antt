@@ -32,8 +32,8 @@ pub values_step : (vals longer : List Value) (trees : List program.TextTree) (i 
 values_step vals longer trees i t tag val s h e f v g = subst (λ vs. ValuesSoFar vs trees (i + 1)) (sym g) (record {
   plain = All-push IsPlainCase vals val s.plain (IsPlainCase-Case val tag v);
   is = ap (map tree_of) (take_more trees i t h) ∙ map_push tree_of (take i trees) (get_or trees i t)
-    ∙ ap₂ (λ us u. us ++ u ∷ []) s.is (ap tree_of (sym e) ∙ f ∙ ap case_tree (sym (tag_of-Case val tag v)))
-    ∙ sym (map_push value_tree vals val);
+      ∙ ap₂ (λ us u. us ++ u ∷ []) s.is (ap tree_of (sym e) ∙ f ∙ ap case_tree (sym (tag_of-Case val tag v)))
+      ∙ sym (map_push value_tree vals val);
 })
 
 pub values_end : (vals : List Value) (trees : List program.TextTree) (i : ℕ) → ValuesSoFar vals trees i → length trees ≤ i → ValueTrees vals (trees_of trees)

@@ -28,8 +28,10 @@ row_of_line : (line : Line) (bytes : List ℕ) → LineText line bytes → RowTe
 row_of_line line bytes t = record { have = t.has.spelled; is = t.is }
 
 line_none : (trees : TextTrees) (bytes : List ℕ) → RowText trees bytes → AreNoLine trees → IsNoLine bytes
-line_none trees bytes r n = record { never = λ line t.
-    n.never line (record { plain = t.has.plain; is = one_row trees (line_trees line) bytes r (row_of_line line bytes t) }) }
+line_none trees bytes r n = record {
+  never = λ line t.
+      n.never line (record { plain = t.has.plain; is = one_row trees (line_trees line) bytes r (row_of_line line bytes t) });
+}
 
 pub no_row : (bytes : List ℕ) → IsNoRow bytes → IsNoLine bytes
 no_row bytes n = record { never = λ line t. n.never (line_trees line) (row_of_line line bytes t) }
@@ -67,7 +69,7 @@ node-unique n m p q e =
     ∙ ap (λ v. record n { relation = m.relation; rule = m.rule; env = record { entries = v } }) (p.env ∙ sym q.env)
     ∙ ap (λ v. record n { relation = m.relation; rule = m.rule; env = m.env; children = v }) (p.children ∙ sym q.children)
     ∙ ap (λ v. record n { relation = m.relation; rule = m.rule; env = m.env; children = m.children; values = v })
-      (values_unique n.values m.values p.values q.values (lists (firsts (rests (rests (rests (rests e)))))))
+    (values_unique n.values m.values p.values q.values (lists (firsts (rests (rests (rests (rests e)))))))
     ∙ ap (λ v. record m { evidence = v }) (p.evidence ∙ sym q.evidence)
 
 trees-unique : (line other : Line) → IsPlainLine line → IsPlainLine other → line_trees line ≡ line_trees other → line ≡ other
@@ -113,7 +115,7 @@ lines_unique (l ∷ lines) (m ∷ others) p q e =
     let has = p 0 l (omega arith) in
     let had = q 0 m (omega arith) in
     let whole : line_text l ++ (10 ∷ lines_text lines) ≡ line_text m ++ (10 ∷ lines_text others) =
-        sym (append_assoc (line_text l) (10 ∷ []) (lines_text lines)) ∙ e ∙ append_assoc (line_text m) (10 ∷ []) (lines_text others) in
+    sym (append_assoc (line_text l) (10 ∷ []) (lines_text lines)) ∙ e ∙ append_assoc (line_text m) (10 ∷ []) (lines_text others) in
     let k = unique_row (line_trees l) (line_trees m) (10 ∷ lines_text lines) (10 ∷ lines_text others) has.spelled.spelled had.spelled.spelled whole (inr refl) (inr refl) in
     ap₂ ◌∷◌ (trees-unique l m has.plain had.plain k.0)
     (lines_unique lines others (λ i d h. p (suc i) d (omega arith)) (λ i d h. q (suc i) d (omega arith)) (tails k.1))

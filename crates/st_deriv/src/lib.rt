@@ -14,6 +14,8 @@ mod name;
 mod part;
 mod print;
 mod read;
+#[cfg(test)]
+mod tests;
 
 pub use law::one_text_one_line;
 pub use line::{Ending, Line, NodeLine, Ref};

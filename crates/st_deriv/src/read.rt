@@ -8,7 +8,9 @@ ghost use Rattle.st_deriv.specs.LineText.{LineText};
 ghost use Rattle.st_deriv.specs.Reading.{IsNoLine, AnswersLine, AnswersValues};
 
 use crate::fault::MALFORMED;
-use crate::part::{case_of, ending_of, is_empty_list, is_word, list_of, number_of, quote_of, relation_of};
+use crate::part::{
+    case_of, ending_of, is_empty_list, is_word, list_of, number_of, quote_of, relation_of,
+};
 use crate::{Line, NodeLine};
 use st_il::{Env, Value};
 use st_iltext::{TextFault, TextTree, read_row};

@@ -6,10 +6,13 @@ use Rattle.st_deriv.proofs.read.read_node.Goals as goal
 use Rattle.st_deriv.proofs.read.read_node.Goals.{in_default-via-then-parts-lt5, in_default-via-else-parts-lt5+else-parts-lt6}
 
 pub returns-in_default : goal.returns-in_default
-returns-in_default c = (refl, node_length _ (λ e. elim c.in_default.branch [
-  | in_default-via-then-parts-lt5 w ↦ grind arith
-  | in_default-via-else-parts-lt5+else-parts-lt6 w ↦ grind arith
-]))
+returns-in_default c = (
+  refl,
+  node_length _ (λ e. elim c.in_default.branch [
+    | in_default-via-then-parts-lt5 w ↦ grind arith
+    | in_default-via-else-parts-lt5+else-parts-lt6 w ↦ grind arith
+  ]),
+)
 
 pub returns-in_default-quote_of : goal.returns-in_default-quote_of
 returns-in_default-quote_of c =
