@@ -6,3 +6,4 @@ mod Content
 mod Rows
 mod Wholes
 pub mod NumberWords
+pub mod SmallTrees

@@ -4,3 +4,7 @@ pub mod Reading
 pub mod Trees
 pub mod Laws
 pub mod Numbers
+pub mod Expressions
+pub mod Definitions
+pub mod IlText
+pub mod SmallForms

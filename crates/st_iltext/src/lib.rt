@@ -8,8 +8,12 @@
 //! `docs/internal-language.md`.
 #![tactic(auto)]
 
+mod definition;
+mod expression;
 mod fault;
+mod form;
 mod front;
+mod il;
 mod law;
 mod number;
 mod print;
@@ -21,6 +25,7 @@ mod tree;
 mod word;
 
 pub use fault::TextFault;
+pub use il::print_il;
 pub use law::{one_text_one_tree, texts_end};
 pub use number::{print_natural, read_integer, read_natural};
 pub use print::{print_quoted, print_row, print_tree};

@@ -17,3 +17,12 @@ broken_here K rules i rule at broken =
 
 pub none_broken : (K : VerifyRule → Type 0) (rules : List VerifyRule) (i : ℕ) → length rules ≤ i → FirstBroken K (drop i rules) None
 none_broken K rules i past = subst (λ left. FirstBroken K left None) (sym (drop_all i rules past)) refl
+
+-- one rule at most is the first that is not kept
+pub FirstBroken-single : (K : VerifyRule → Type 0) (rules : List VerifyRule) (broken other : Option VerifyRule) → FirstBroken K rules broken → FirstBroken K rules other
+    → broken ≡ other
+FirstBroken-single K [] broken other first second = first ∙ sym second
+FirstBroken-single K (rule ∷ rules) broken other (inl kept) (inl also) = FirstBroken-single K rules broken other kept.1 also.1
+FirstBroken-single K (rule ∷ rules) broken other (inl kept) (inr not) = absurd (not.0 kept.0)
+FirstBroken-single K (rule ∷ rules) broken other (inr not) (inl kept) = absurd (not.0 kept.0)
+FirstBroken-single K (rule ∷ rules) broken other (inr not) (inr also) = not.1 ∙ sym also.1

@@ -4,3 +4,4 @@ pub mod FirstBroken
 pub mod Declared
 pub mod Judged
 pub mod Soundness
+pub mod Judging

@@ -16,6 +16,7 @@ use Rattle.st_verify.specs.Accepts.{ReadsTo, none, more}
 use Rattle.st_verify.specs.Notes.{nothing_noted, noted, judgement_on, outputs_of}
 use Rattle.st_verify.specs.Sound.{IsJudged, IsDerivableStep, AreSound}
 use Rattle.st_verify.specs.Verdict.{Verdict}
+use Rattle.st_verify.specs.Verifier.{Checking, IsKept}
 use Rattle.st_verify.proofs.Judged.{accepted, node_judged, AreJudged, none_judged, judged_more, judgement_noted}
 
 -- the first line is a head, and its relation is noted
@@ -30,7 +31,7 @@ abbrev Starts : List Line → Notes → Type 0
 Starts lines notes = (lines ≡ []) ⊎ StartsAt lines notes
 
 -- each line adds to the notes
-length-noted : (notes : Notes) (line : Line) → length (noted notes line).lines ≡ suc (length notes.lines)
+pub length-noted : (notes : Notes) (line : Line) → length (noted notes line).lines ≡ suc (length notes.lines)
 length-noted notes (Head format relation) = omega (arith, length-append notes.lines (None ∷ []))
 length-noted notes (From values) = omega (arith, length-append notes.lines (None ∷ []))
 length-noted notes (Node line) = omega (arith, length-append notes.lines (Some (record { relation = line.relation; values = line.values }) ∷ []))
@@ -167,3 +168,8 @@ reads_behind il lines notes small (more {lines = front} {before = before} line r
 -- each node and each step of accepted lines is derivable
 pub reads_sound : (il : Il) (lines : List Line) (notes : Notes) → IsSmallIl il → ReadsTo il lines notes → AreSound il lines
 reads_sound il lines notes small read = (reads_behind il lines notes small read).sound
+
+-- so are those that a verifier accepts
+pub kept_sound : (checking : Checking) (il : Il) (notes : Notes) → il ≡ checking.il → IsKept il notes → (lines : List Line) (read : Notes) → ReadsTo checking.il lines read
+    → AreSound checking.il lines
+kept_sound checking il notes same kept lines read reads = reads_sound checking.il lines read (subst IsSmallIl same kept.small) reads

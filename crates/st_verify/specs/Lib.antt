@@ -1,3 +1,4 @@
+pub mod Typing
 pub mod Notes
 pub mod Verdict
 pub mod Accepts

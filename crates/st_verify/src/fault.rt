@@ -1,6 +1,10 @@
 //! The answers of the checker that are not Ok.
 
+ghost use Rattle.std.specs.Prelude.{◌≡◌};
+ghost use Rattle.st_verify.specs.Typing.{typing_of};
+
 use st_il::TypeRule;
+use st_num::NoMemory;
 use thiserror::Error;
 
 /// The rules that an accepted derivation keeps (`docs/derivations.md`).
@@ -34,4 +38,28 @@ pub enum VerifyFault {
     },
     #[error("out of memory")]
     Memory,
+}
+
+impl From<NoMemory> for VerifyFault {
+    ghost use Rattle.st_verify.specs.declared.fault.VerifyFault.TheVariants.{Memory};
+
+    ghost from_gives = { λ _ fault. fault ≡ Memory };
+
+    fn from(_: NoMemory) -> Self {
+        VerifyFault::Memory
+    }
+}
+
+/// The typing rule behind a V2. It takes no memory.
+pub fn definition_rule(fault: &VerifyFault) -> Option<TypeRule>
+    ensures { result ≡ typing_of fault.now }
+{
+    match fault {
+        VerifyFault::Refused {
+            rule: _,
+            line: _,
+            typing,
+        } => *typing,
+        VerifyFault::Memory => None,
+    }
 }

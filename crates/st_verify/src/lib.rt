@@ -14,7 +14,9 @@ mod noted;
 mod notes;
 mod typed;
 mod verdict;
+mod verifier;
 
 pub use accepted::Accepted;
-pub use fault::{VerifyFault, VerifyRule};
+pub use fault::{VerifyFault, VerifyRule, definition_rule};
 pub use notes::{Judgement, Notes};
+pub use verifier::Verifier;

@@ -1,0 +1,43 @@
+//! The text of an internal language.
+
+ghost use Rattle.std.specs.Prelude.{◌≡◌, ◌++◌, ◌∷◌, [], OnOk, OnErr, map, flat_map};
+ghost use Rattle.st_il.specs.Small.{IsSmallIl};
+ghost use Rattle.st_iltext.specs.Definitions.{definition_tree};
+ghost use Rattle.st_iltext.specs.IlText.{IlText, il_lines, lines_text, ReadsIl};
+ghost use Rattle.st_iltext.specs.Printing.{IsCutOff};
+ghost use Rattle.st_iltext.specs.SmallForms.{IsOfAtoms};
+ghost use Rattle.st_iltext.specs.Text.{text};
+
+use crate::definition::definition_tree;
+use crate::print::print_tree;
+use st_il::{Il, IlDef};
+use st_num::NoMemory;
+use std::alloc::Global;
+
+/// Appends the line of a definition.
+fn print_line(alloc: Global, def: &IlDef, out: &mut Vec<u8>) -> Result<(), NoMemory>
+    requires { IsOfAtoms def.now }
+    ensures ok { OnOk result
+        (out.new.items ≡ out.old.items ++ (text (definition_tree def.now) ++ 10 ∷ [])) }
+    ensures err { OnErr result
+        (IsCutOff out.old.items (text (definition_tree def.now) ++ 10 ∷ []) out.new.items) }
+{
+    let tree = definition_tree(alloc, def)?;
+    print_tree(&tree, out)?;
+    out.push(b'\n')?;
+    Ok(())
+}
+
+/// Appends the text of the internal language.
+pub fn print_il(alloc: Global, il: &Il, out: &mut Vec<u8>) -> Result<(), NoMemory>
+    requires { IsSmallIl il.now }
+    ensures ok { OnOk result (out.new.items ≡ out.old.items ++ lines_text (il_lines il.now)) }
+    ensures err { OnErr result
+        (IsCutOff out.old.items (lines_text (il_lines il.now)) out.new.items) }
+    ensures text { IlText il.now (lines_text (il_lines il.now)) }
+{
+    for def in il.defs.as_slice() {
+        print_line(alloc, def, out)?;
+    }
+    Ok(())
+}
