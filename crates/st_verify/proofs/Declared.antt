@@ -84,6 +84,6 @@ small_plain il small k rule is at =
     let relation = relation_def source.relation source.syntax in
     let rules_plain = All-map IsPlain (rule_def source.relation source.syntax) source.rules (plain_rules source.relation source.syntax source.rules) in
     let all : All IsPlain (il_of source).defs =
-        All-cons IsPlain (syntax_def source.syntax source.atoms) (relation ∷ rules) tt (All-cons IsPlain relation rules tt rules_plain) in
+    All-cons IsPlain (syntax_def source.syntax source.atoms) (relation ∷ rules) tt (All-cons IsPlain relation rules tt rules_plain) in
     let here : All IsPlain il.defs = subst (λ (one : Il). All IsPlain one.defs) (sym small.means) all in
     subst IsPlain is (here k (Rule rule) at)

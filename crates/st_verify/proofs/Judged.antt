@@ -58,7 +58,7 @@ node_derivable il line small empty (number, is_relation) (k, Rule rule, at, is, 
     let plain = small_plain il small k rule is at in
     let tree : Tree = record { relation = number; rule = rule_number; env = line.env; values = line.values; children = [] } in
     let proved : Proved il HasValue undecided (root_of tree) line.env rule.premises [] =
-        subst (λ premises. Proved il HasValue undecided (root_of tree) line.env premises []) (sym plain.1) done in
+    subst (λ premises. Proved il HasValue undecided (root_of tree) line.env premises []) (sym plain.1) done in
     record {
       number = number;
       is_relation = is_relation;
@@ -100,8 +100,8 @@ judged_more il notes (End ending) small judged verdict = no_judgement il notes j
 judged_more il notes (Node line) small judged verdict = λ judgement contains.
     ⊎_elim (judged judgement)
     (λ same.
-        let here : judgement ≡ record { relation = line.relation; values = line.values } = cc in
-        subst (λ (one : Judgement). IsJudged il one.relation one.values) (sym here) (node_judged il notes line small verdict))
+    let here : judgement ≡ record { relation = line.relation; values = line.values } = cc in
+    subst (λ (one : Judgement). IsJudged il one.relation one.values) (sym here) (node_judged il notes line small verdict))
     (Contains-push_cases notes.lines (Some (record { relation = line.relation; values = line.values })) (Some judgement) contains)
 
 -- the judgement of a node is noted

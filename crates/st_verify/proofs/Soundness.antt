@@ -151,9 +151,9 @@ behind_more il lines notes line small read verdict behind = record {
         (Contains-push_cases lines line (Node node) contains);
     steps = λ before after number same.
         ⊎_elim (λ last.
-            let here = subst (λ one. Verdict il notes one None) (sym last.1) verdict in
-            let starts = step_starts il lines notes number behind.count behind.starts here in
-            subst (λ front. IsDerivableStep il front number) (sym last.0) (step_derivable il lines notes number read behind.judged here starts))
+        let here = subst (λ one. Verdict il notes one None) (sym last.1) verdict in
+        let starts = step_starts il lines notes number behind.count behind.starts here in
+        subst (λ front. IsDerivableStep il front number) (sym last.0) (step_derivable il lines notes number read behind.judged here starts))
         (λ earlier. behind.sound.steps before earlier.0 number earlier.1)
         (last_or_earlier lines before line (Step number) after same);
   };

@@ -26,8 +26,8 @@ noted notes (Head format relation) = record notes { lines = notes.lines ++ None 
 noted notes (From values) = record notes { lines = notes.lines ++ None ∷ []; term = Some values }
 noted notes (Node node) = record notes { lines = notes.lines ++ Some (record { relation = node.relation; values = node.values }) ∷ [] }
 noted notes (Step line) = record notes {
-    lines = notes.lines ++ None ∷ [];
-    term = option_map (λ judgement. outputs_of judgement.values) (judgement_on notes line);
-    steps = notes.steps + 1;
-  }
+  lines = notes.lines ++ None ∷ [];
+  term = option_map (λ judgement. outputs_of judgement.values) (judgement_on notes line);
+  steps = notes.steps + 1;
+}
 noted notes (End ending) = record notes { lines = notes.lines ++ None ∷ []; ended = true }

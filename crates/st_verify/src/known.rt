@@ -13,11 +13,8 @@ fn is_relation_named(def: &IlDef, name: &Name) -> bool
 {
     match def {
         IlDef::Relation(relation) => relation.name == *name,
-        IlDef::Syntax(_)
-        | IlDef::Var(_, _)
-        | IlDef::Rule(_)
-        | IlDef::Fun(_)
-        | IlDef::Clause(_) => false,
+        IlDef::Syntax(_) | IlDef::Var(_, _) | IlDef::Rule(_) | IlDef::Fun(_) | IlDef::Clause(_) =>
+            false,
     }
 }
 
@@ -84,11 +81,8 @@ fn defines_case(def: &IlDef, name: &Name, tag: &Name) -> bool
 {
     match def {
         IlDef::Syntax(syntax) => syntax.name == *name && body_has_case(&syntax.body, tag),
-        IlDef::Var(_, _)
-        | IlDef::Relation(_)
-        | IlDef::Rule(_)
-        | IlDef::Fun(_)
-        | IlDef::Clause(_) => false,
+        IlDef::Var(_, _) | IlDef::Relation(_) | IlDef::Rule(_) | IlDef::Fun(_) | IlDef::Clause(_) =>
+            false,
     }
 }
 

@@ -12,6 +12,8 @@ mod fault;
 mod known;
 mod noted;
 mod notes;
+#[cfg(test)]
+mod tests;
 mod typed;
 mod verdict;
 mod verifier;

@@ -32,11 +32,8 @@ fn takes_input(def: &IlDef, il: &Il, name: &Name, value: &Value) -> bool
                     None => false,
                 }
         }
-        IlDef::Syntax(_)
-        | IlDef::Var(_, _)
-        | IlDef::Rule(_)
-        | IlDef::Fun(_)
-        | IlDef::Clause(_) => false,
+        IlDef::Syntax(_) | IlDef::Var(_, _) | IlDef::Rule(_) | IlDef::Fun(_) | IlDef::Clause(_) =>
+            false,
     }
 }
 

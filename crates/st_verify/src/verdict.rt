@@ -208,11 +208,8 @@ fn keeps(il: &Il, notes: &Notes, line: &Line, rule: VerifyRule) -> bool
         VerifyRule::V9 => has_its_children(line),
         VerifyRule::V10 => has_its_evidence(line),
         VerifyRule::V11 => goes_on(notes, line),
-        VerifyRule::V1
-        | VerifyRule::V2
-        | VerifyRule::V8
-        | VerifyRule::V12
-        | VerifyRule::V13 => true,
+        VerifyRule::V1 | VerifyRule::V2 | VerifyRule::V8 | VerifyRule::V12 | VerifyRule::V13 =>
+            true,
     }
 }
 

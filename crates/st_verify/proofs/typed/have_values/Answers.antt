@@ -9,12 +9,14 @@ pub returns-then-exps-values : goal.returns-then-exps-values
 returns-then-exps-values c = λ env. (λ no. cc, λ have. absurd (c.if-exps-values.true (HaveValues-length env c.args.exps.now c.args.values.now have)))
 
 pub returns-then-not-has_value : goal.returns-then-not-has_value
-returns-then-not-has_value c = λ env.
-    (λ no. cc, λ have.
-        let has =
-            HaveValues-at env c.args.exps.now c.args.values.now c.loop-i.i c.index-exps-i.result c.index-values-i.result have c.loop-i-test.true c.index-exps-i.is c.index-values-i.is in
-        let yes : c.has_value.result ≡ true = (c.has_value.ensures env).1 has in
-        cc)
+returns-then-not-has_value c = λ env. (
+  λ no. cc,
+  λ have.
+      let has =
+      HaveValues-at env c.args.exps.now c.args.values.now c.loop-i.i c.index-exps-i.result c.index-values-i.result have c.loop-i-test.true c.index-exps-i.is c.index-values-i.is in
+      let yes : c.has_value.result ≡ true = (c.has_value.ensures env).1 has in
+      cc,
+)
 
 pub loop-i-preserved : goal.loop-i-preserved
 loop-i-preserved c = λ env.

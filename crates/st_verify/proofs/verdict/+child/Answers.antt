@@ -10,11 +10,13 @@ is_child-returns-in-Many t c =
     subst (λ lines. IsTrue c.are_children.result ↔ All (IsNode c.args.notes.now) lines) (sym same) c.are_children.ensures
 
 pub are_children-returns-then-not-is_child : goal.are_children-returns-then-not-is_child
-are_children-returns-then-not-is_child t c =
-    (λ no. cc, λ all.
-        let here = All-child (IsNode c.args.notes.now) child_lines c.args.children.now c.loop-child.child-index c.child-item.result c.loop-child-test.true c.child-item.is all in
-        let yes : c.is_child.result ≡ true = c.is_child.ensures.1 here in
-        cc)
+are_children-returns-then-not-is_child t c = (
+  λ no. cc,
+  λ all.
+      let here = All-child (IsNode c.args.notes.now) child_lines c.args.children.now c.loop-child.child-index c.child-item.result c.loop-child-test.true c.child-item.is all in
+      let yes : c.is_child.result ≡ true = c.is_child.ensures.1 here in
+      cc,
+)
 
 pub are_children-loop-child-preserved : goal.are_children-loop-child-preserved
 are_children-loop-child-preserved t c =

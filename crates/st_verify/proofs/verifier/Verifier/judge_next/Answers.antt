@@ -24,7 +24,8 @@ invariant_of-self-2 c =
 
 pub returns : goal.returns
 returns c =
-    let verdict = subst (Verdict c.self.inside.il c.self.inside.notes c.args.line.now) c.in_default.is c.broken_rule.ensures in
-    (subst (λ (one : Checking). Verdict one.il one.notes c.args.line.now None) c.self.view_is verdict,
-        ap (λ notes. record { il = c.self.inside.il; notes = notes; refusal = c.self.inside.refusal }) c.in_ok-note.ensures.ok
-        ∙ ap (λ (one : Checking). record one { notes = noted one.notes c.args.line.now }) c.self.view_is)
+    let verdict = subst (Verdict c.self.inside.il c.self.inside.notes c.args.line.now) c.in_default.is c.broken_rule.ensures in (
+      subst (λ (one : Checking). Verdict one.il one.notes c.args.line.now None) c.self.view_is verdict,
+      ap (λ notes. record { il = c.self.inside.il; notes = notes; refusal = c.self.inside.refusal }) c.in_ok-note.ensures.ok
+          ∙ ap (λ (one : Checking). record one { notes = noted one.notes c.args.line.now }) c.self.view_is,
+    )
