@@ -4,7 +4,7 @@ ghost use Rattle.std.specs.Prelude.{IfOk};
 ghost use Rattle.std.specs.List.{All};
 ghost use Rattle.st_deriv.specs.LineText.{HasText};
 
-use crate::{Ending, Line, print_lines, read_line};
+use crate::{Line, print_lines, read_line};
 use st_iltext::TextFault;
 use st_num::Row;
 use std::alloc::Global;
@@ -42,21 +42,6 @@ fn a_derivation_is_read_and_printed_back(rt: HostRuntime) -> Result<(), Fail> {
     let mut out = Vec::new(rt.alloc());
     print_lines(lines.as_slice(), &mut out)?;
     assert!(rt; out.as_slice() == TEXT);
-    Ok(())
-}
-
-#[test]
-fn a_line_has_its_parts(rt: HostRuntime) -> Result<(), Fail> {
-    let head = read_line(rt.alloc(), b"derivation 1 T")?;
-    assert!(rt;
-        matches!(&head, Line::Head { format: 1, relation } if relation.as_slice() == b"T".as_slice())
-    );
-    let from = read_line(rt.alloc(), b"from (c \"RED\")")?;
-    assert!(rt; matches!(&from, Line::From(values) if values.len() == 1));
-    let step = read_line(rt.alloc(), b"step 3")?;
-    assert!(rt; matches!(&step, Line::Step(3)));
-    let end = read_line(rt.alloc(), b"end stuck")?;
-    assert!(rt; matches!(&end, Line::End(Ending::Stuck)));
     Ok(())
 }
 
