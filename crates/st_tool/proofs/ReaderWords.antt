@@ -1,0 +1,33 @@
+-- A word of letters at the front of a text is the longest one.
+use Rattle.std.proofs.Common.{◌≡◌, ◌≢◌, ℕ, ◌+◌, ◌<◌, ◌≤◌, List, [], ◌∷◌, ◌++◌, length, take, drop, get_or, refl, sym, ap, subst, ◌∙◌, append_assoc, append_cancel_left, arith}
+use Rattle.std.specs.List.{All}
+use Rattle.std.proofs.lemmas.List.Elements.{All-head, All-tail, All-same}
+use Rattle.std.proofs.lemmas.List.{take-append-drop, drop_more, drop_all}
+use Rattle.st_tool.specs.Small.{IsWordOf}
+use Rattle.st_tool.specs.SmallForm.{Stops, Ends}
+
+-- two fronts of letters before no letter are the same
+pub word_only : (P : ℕ → Type 0) (xs ys rs ss : List ℕ) → All P xs → All P ys → Stops P rs → Stops P ss → xs ++ rs ≡ ys ++ ss → (xs ≡ ys) × (rs ≡ ss)
+word_only P [] [] rs ss ax ay r s e = (refl, e)
+word_only P [] (y ∷ ys) [] ss ax ay r s e = cc
+word_only P [] (y ∷ ys) (q ∷ rs) ss ax ay r s e =
+    let same : q ≡ y = cc in absurd (r (subst P (sym same) (All-head P y ys ay)))
+word_only P (x ∷ xs) [] rs [] ax ay r s e = cc
+word_only P (x ∷ xs) [] rs (q ∷ ss) ax ay r s e =
+    let same : x ≡ q = cc in absurd (s (subst P same (All-head P x xs ax)))
+word_only P (x ∷ xs) (y ∷ ys) rs ss ax ay r s e =
+    let tails : xs ++ rs ≡ ys ++ ss = cc in
+    let rest = word_only P xs ys rs ss (All-tail P x xs ax) (All-tail P y ys ay) r s tails in
+    let heads : x ≡ y = cc in
+    let front : xs ≡ ys = rest.0 in
+    let one : x ∷ xs ≡ y ∷ ys = cc in
+    (one, rest.1)
+
+-- what ends a word stops it, whatever stands behind
+pub Stops-Ends : (P : ℕ → Type 0) (end rest : List ℕ) → Ends P end → Stops P (end ++ rest)
+Stops-Ends P [] rest e = absurd e
+Stops-Ends P (x ∷ end) rest e = e
+
+-- a byte that is no letter stops the word before it
+pub Stops-drop : (P : ℕ → Type 0) (xs : List ℕ) (n : ℕ) → (n < length xs → P (get_or xs n 0) → ⊥) → Stops P (drop n xs)
+Stops-drop P xs n h = ?

@@ -1,0 +1,35 @@
+-- The form of the text of a small specification: what its words are, apart from which words go together.
+use Rattle.std.specs.Prelude.{ℕ, List, [], ◌∷◌, All}
+use Rattle.st_tool.specs.Small.{IsLower, IsUpper, IsWordOf}
+use Rattle.st_tool.specs.declared.reader.word.Case.{Case}
+use Rattle.st_tool.specs.declared.reader.word.Case.TheVariants.{Lower, Upper}
+use Rattle.st_tool.specs.declared.small.Small.{Small}
+use Rattle.st_tool.specs.declared.small.SmallRule.{SmallRule}
+
+-- the letters of a case
+abbrev pub IsLetter : Case → ℕ → Type 0
+IsLetter Lower = IsLower
+IsLetter Upper = IsUpper
+
+-- no letter stands at the front
+abbrev pub Stops : (ℕ → Type 0) → List ℕ → Type 0
+Stops IsLetter [] = Unit {0}
+Stops IsLetter (byte ∷ rest) = IsLetter byte → ⊥
+
+-- something stands at the front that is no letter
+abbrev pub Ends : (ℕ → Type 0) → List ℕ → Type 0
+Ends IsLetter [] = ⊥
+Ends IsLetter (byte ∷ rest) = IsLetter byte → ⊥
+
+-- a rule of words
+pub record IsRuleOfWords (rule : SmallRule) : Type 0 where
+  pub name : IsWordOf IsLower rule.name
+  pub from : IsWordOf IsUpper rule.from
+  pub to : IsWordOf IsUpper rule.to
+
+-- a specification of words
+pub record IsOfWords (s : Small) : Type 0 where
+  pub syntax : IsWordOf IsLower s.syntax
+  pub atoms : All (IsWordOf IsUpper) s.atoms
+  pub relation : IsWordOf IsUpper s.relation
+  pub rules : All IsRuleOfWords s.rules
