@@ -1,1 +1,4 @@
 pub mod ReaderWords
+pub mod ReaderRows
+pub mod ReaderLines
+pub mod ReaderForm

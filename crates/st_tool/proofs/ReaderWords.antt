@@ -1,8 +1,8 @@
 -- A word of letters at the front of a text is the longest one.
-use Rattle.std.proofs.Common.{◌≡◌, ◌≢◌, ℕ, ◌+◌, ◌<◌, ◌≤◌, List, [], ◌∷◌, ◌++◌, length, take, drop, get_or, refl, sym, ap, subst, ◌∙◌, append_assoc, append_cancel_left, arith}
+use Rattle.std.proofs.Common.{◌≡◌, ◌≢◌, ℕ, ◌+◌, ◌<◌, ◌≤◌, List, [], ◌∷◌, ◌++◌, length, take, drop, get_or, refl, sym, ap, subst, ◌∙◌}
 use Rattle.std.specs.List.{All}
-use Rattle.std.proofs.lemmas.List.Elements.{All-head, All-tail, All-same}
-use Rattle.std.proofs.lemmas.List.{take-append-drop, drop_more, drop_all}
+use Rattle.std.proofs.lemmas.List.Elements.{All-nil, All-head, All-tail}
+use Rattle.std.proofs.lemmas.List.{take-append-drop}
 use Rattle.st_tool.specs.Small.{IsWordOf}
 use Rattle.st_tool.specs.SmallForm.{Stops, Ends}
 
@@ -28,6 +28,14 @@ pub Stops-Ends : (P : ℕ → Type 0) (end rest : List ℕ) → Ends P end → S
 Stops-Ends P [] rest e = absurd e
 Stops-Ends P (x ∷ end) rest e = e
 
--- a byte that is no letter stops the word before it
-pub Stops-drop : (P : ℕ → Type 0) (xs : List ℕ) (n : ℕ) → (n < length xs → P (get_or xs n 0) → ⊥) → Stops P (drop n xs)
-Stops-drop P xs n h = ?
+-- no word stands where no letter does
+pub word_none : (P : ℕ → Type 0) (xs word rest : List ℕ) → Stops P xs → IsWordOf P word → Stops P rest → xs ≡ word ++ rest → ⊥
+word_none P xs word rest stops is_word after e =
+    is_word.0 (sym ((word_only P [] word xs rest (All-nil P) is_word.1 stops after e).0))
+
+-- the front of letters is the word, and what is left is the rest
+pub word_split : (P : ℕ → Type 0) (xs : List ℕ) (n : ℕ) (front back word rest : List ℕ) → front ≡ take n xs → back ≡ drop n xs
+    → All P (take n xs) → Stops P (drop n xs) → IsWordOf P word → Stops P rest → xs ≡ word ++ rest → (front ≡ word) × (back ≡ rest)
+word_split P xs n front back word rest f b letters stops is_word after e =
+    let same = word_only P (take n xs) word (drop n xs) rest letters is_word.1 stops after (take-append-drop n xs ∙ e) in
+    (f ∙ same.0, b ∙ same.1)

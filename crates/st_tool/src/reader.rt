@@ -1,6 +1,42 @@
 //! Reads small specifications, and makes their internal language.
 
+ghost use Rattle.std.specs.Prelude.{◌≡◌, IfOk, IfSome, Some};
+ghost use Rattle.st_tool.specs.declared.small.Small.{Small as Specification};
+ghost use Rattle.st_tool.specs.Small.{text_of};
+ghost use Rattle.st_tool.specs.SmallForm.{IsOfWords};
+
+mod line;
 mod meaning;
 mod word;
 
 pub use meaning::il_of_small;
+
+use crate::Small;
+use line::{read_atoms, read_relation_line, read_rules, read_syntax_front};
+use st_num::{Name, NoMemory};
+use std::alloc::Global;
+
+/// The specification whose text the bytes are, whatever its words are.
+fn read_form(alloc: Global, bytes: &[u8]) -> Result<Option<Small>, NoMemory>
+    ensures read { IfOk result (λ read. IfSome read (λ small. IsOfWords small × (bytes.now ≡ text_of small))) }
+    ensures only { IfOk result (λ read. (small : Specification) → IsOfWords small → bytes.now ≡ text_of small → read ≡ Some small) }
+{
+    let Some((syntax, rest)) = read_syntax_front(bytes) else {
+        return Ok(None);
+    };
+    let Some((atoms, rest)) = read_atoms(alloc, rest)? else {
+        return Ok(None);
+    };
+    let Some((relation, rest)) = read_relation_line(rest, syntax) else {
+        return Ok(None);
+    };
+    let Some(rules) = read_rules(alloc, rest, relation)? else {
+        return Ok(None);
+    };
+    Ok(Some(Small {
+        syntax: Name::from_slice(alloc, syntax)?,
+        atoms,
+        relation: Name::from_slice(alloc, relation)?,
+        rules,
+    }))
+}
