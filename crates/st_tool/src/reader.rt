@@ -1,10 +1,11 @@
 //! Reads small specifications, and makes their internal language.
 
-ghost use Rattle.std.specs.Prelude.{◌≡◌, IfOk, IfSome, Some};
+ghost use Rattle.std.specs.Prelude.{◌≡◌, IfOk, IfSome, IfNone, Some};
 ghost use Rattle.st_tool.specs.declared.small.Small.{Small as Specification};
-ghost use Rattle.st_tool.specs.Small.{text_of};
+ghost use Rattle.st_tool.specs.Small.{text_of, IsTextOf};
 ghost use Rattle.st_tool.specs.SmallForm.{IsOfWords};
 
+mod check;
 mod line;
 mod meaning;
 mod word;
@@ -12,6 +13,7 @@ mod word;
 pub use meaning::il_of_small;
 
 use crate::Small;
+use check::is_small;
 use line::{read_atoms, read_relation_line, read_rules, read_syntax_front};
 use st_num::{Name, NoMemory};
 use std::alloc::Global;
@@ -39,4 +41,19 @@ fn read_form(alloc: Global, bytes: &[u8]) -> Result<Option<Small>, NoMemory>
         relation: Name::from_slice(alloc, relation)?,
         rules,
     }))
+}
+
+/// Reads a small specification.
+pub fn read_small(alloc: Global, bytes: &[u8]) -> Result<Option<Small>, NoMemory>
+    ensures some { IfOk result (λ read. IfSome read (λ small. IsTextOf small bytes.now)) }
+    ensures none { IfOk result (λ read. IfNone read ((small : Specification) → IsTextOf small bytes.now → ⊥)) }
+{
+    let Some(small) = read_form(alloc, bytes)? else {
+        return Ok(None);
+    };
+    if is_small(alloc, &small)? {
+        Ok(Some(small))
+    } else {
+        Ok(None)
+    }
 }
