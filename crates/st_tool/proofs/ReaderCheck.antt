@@ -1,5 +1,5 @@
 -- A specification of words that passes each check is small.
-use Rattle.std.proofs.Common.{◌≡◌, ℕ, ◌≤◌, ◌<◌, Bool, true, false, List, length, get_or, Result, Ok, Err, Option, Some, ◌↔◌, sym, ◌==◌, arith}
+use Rattle.std.proofs.Common.{◌≡◌, ℕ, ◌≤◌, Bool, false, List, length, get_or, Result, Ok, Err, ◌↔◌, ◌==◌, arith}
 use Rattle.std.specs.Prelude.{IfOk, IsTrue}
 use Rattle.std.specs.List.{All, Contains}
 use Rattle.std.proofs.lemmas.List.Elements.{All-contains}

@@ -1,8 +1,7 @@
 -- The text of a small specification, piece by piece.
-use Rattle.std.proofs.Common.{◌≡◌, ℕ, List, ◌++◌, refl, sym, ap, subst, ◌∙◌, codes, append_assoc}
+use Rattle.std.proofs.Common.{◌≡◌, ℕ, List, ◌++◌, sym, ap, ◌∙◌, codes, append_assoc}
 use Rattle.std.specs.List.{flat_map}
 use Rattle.st_tool.specs.declared.small.Small.{Small}
-use Rattle.st_tool.specs.declared.small.SmallRule.{SmallRule}
 use Rattle.st_tool.specs.Small.{alternative_text, relation_line, rule_line, text_of}
 
 -- specifications of the same parts are the same

@@ -1,12 +1,11 @@
 -- The texts of the lines of a small specification, piece by piece.
-use Rattle.std.proofs.Common.{◌≡◌, ℕ, ◌<◌, ◌≤◌, ◌+◌, List, [], ◌∷◌, ◌++◌, length, refl, sym, ap, subst, ◌∙◌, codes, append_assoc, append-nil, length-append, arith}
-use Rattle.std.specs.List.{All, flat_map}
+use Rattle.std.proofs.Common.{◌≡◌, ℕ, List, [], ◌∷◌, ◌++◌, length, sym, subst, ◌∙◌, codes, append_assoc, arith}
+use Rattle.std.specs.List.{flat_map}
 use Rattle.std.proofs.Common.{Bool, true, false, true≢false, ◌==◌}
 use Rattle.std.proofs.lemmas.List.{append_cancel_left, nil_from_length}
 use Rattle.st_tool.specs.declared.small.SmallRule.{SmallRule}
-use Rattle.st_tool.specs.Small.{IsLower, IsUpper, IsWordOf, alternative_text, syntax_line, relation_line, rule_line}
-use Rattle.st_tool.specs.SmallForm.{Stops, Ends, IsRuleOfWords}
-use Rattle.st_tool.proofs.ReaderRows.{Leaves, BeginsOnly, BeginsNone}
+use Rattle.st_tool.specs.Small.{IsLower, IsUpper, alternative_text, relation_line, rule_line}
+use Rattle.st_tool.specs.SmallForm.{Stops, Ends}
 
 -- what stands behind a front is one thing
 pub peel : (front xs rs ss : List ℕ) → xs ≡ front ++ rs → xs ≡ front ++ ss → rs ≡ ss

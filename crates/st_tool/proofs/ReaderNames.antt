@@ -1,9 +1,9 @@
 -- Names that are borrowed in a set, and names of which no two are equal.
-use Rattle.std.proofs.Common.{◌≡◌, ◌≢◌, ℕ, ◌+◌, ◌<◌, Bool, true, false, not, true≢false, eqb, List, [], ◌∷◌, ◌++◌, map, length, take, get_or, refl, sym, ap, subst, ◌∙◌, arith, length-take, if◌then◌else◌}
-use Rattle.std.specs.Bool.{Decides, MatchBool}
+use Rattle.std.proofs.Common.{◌≡◌, ◌≢◌, ℕ, ◌+◌, ◌<◌, Bool, true, false, not, true≢false, eqb, List, [], ◌∷◌, ◌++◌, length, take, get_or, refl, sym, ap, subst, ◌∙◌, arith, length-take, if◌then◌else◌}
+use Rattle.std.specs.Bool.{Decides}
 use Rattle.std.specs.Borrow.{Bor}
 use Rattle.std.specs.Cmp.Lexicographic.{pointwise}
-use Rattle.std.specs.List.{All, AllPairs, Contains, list_any}
+use Rattle.std.specs.List.{All, Contains, list_any}
 use Rattle.std.proofs.lemmas.List.{length-map, get_or-map, get_or-take, get_or_default, map-append, take_more}
 use Rattle.std.proofs.lemmas.List.Folds.{Any-from_list_any, list_any_at}
 use Rattle.std.proofs.lemmas.List.Quantifiers.{all_pairs_push}
@@ -50,7 +50,7 @@ name_added name keys new added a n = by (list_any (λ key. pointwise eqb name.no
     by true e = subst (Adds (names_of keys) name.now (names_of new)) (sym (a ∙ ap not e)) (found.0 e)
     by false e =
         let more : names_of new ≡ names_of keys ++ name.now ∷ [] =
-            ap names_of (n ∙ ap (λ c. if c then keys else keys ++ name ∷ []) e) ∙ map-append (λ key. key.now) keys (name ∷ []) in
+        ap names_of (n ∙ ap (λ c. if c then keys else keys ++ name ∷ []) e) ∙ map-append (λ key. key.now) keys (name ∷ []) in
         subst (Adds (names_of keys) name.now (names_of new)) (sym (a ∙ ap not e)) ((λ h. true≢false (sym (found.1 h) ∙ e)), more)
 
 -- a name that stands before its place is there twice
@@ -73,9 +73,10 @@ pub names_more : (xs : List (List ℕ)) (i : ℕ) (name : List ℕ) (old new : L
     → name ≡ get_or xs i name → old ≡ take i xs → AreDistinct (take i xs) → Adds old name new added → added ≡ true
     → (new ≡ take (i + 1) xs) × AreDistinct (take (i + 1) xs)
 names_more xs i name old new added within at kept distinct adds is_added =
-    let adds-new = subst (Adds old name new) is_added adds in
-    (adds-new.1 ∙ ap (λ ys. ys ++ name ∷ []) kept ∙ ap (λ y. take i xs ++ y ∷ []) at ∙ sym (take_more xs i name within),
-      distinct_more xs i name within (λ h. adds-new.0 (subst (λ ys. Contains ys name) (sym kept) (subst (Contains (take i xs)) (sym at) h))) distinct)
+    let adds-new = subst (Adds old name new) is_added adds in (
+      adds-new.1 ∙ ap (λ ys. ys ++ name ∷ []) kept ∙ ap (λ y. take i xs ++ y ∷ []) at ∙ sym (take_more xs i name within),
+      distinct_more xs i name within (λ h. adds-new.0 (subst (λ ys. Contains ys name) (sym kept) (subst (Contains (take i xs)) (sym at) h))) distinct,
+    )
 
 -- a name that is not added is there twice
 pub names_again : (xs : List (List ℕ)) (i : ℕ) (name : List ℕ) (old new : List (List ℕ)) (added : Bool) → i < length xs

@@ -1,8 +1,9 @@
 -- The form of the text of a small specification: what its words are, apart from which words go together.
-use Rattle.std.specs.Prelude.{◌≡◌, ℕ, Bool, List, [], ◌∷◌, ◌++◌, All, Contains, map}
+use Rattle.std.specs.Prelude.{◌≡◌, Option, IsSomeAnd, ℕ, Bool, List, [], ◌∷◌, ◌++◌, All, Contains, map}
 use Rattle.std.specs.Bool.{MatchBool}
 use Rattle.std.specs.Borrow.{Bor}
 use Rattle.st_tool.specs.Small.{IsLower, IsUpper, IsWordOf}
+use Rattle.st_tool.specs.declared.reader.line.RuleWords.{RuleWords}
 use Rattle.st_tool.specs.declared.reader.word.Case.{Case}
 use Rattle.st_tool.specs.declared.reader.word.Case.TheVariants.{Lower, Upper}
 use Rattle.st_tool.specs.declared.small.Small.{Small}
@@ -13,6 +14,10 @@ abbrev pub IsLetter : Case → ℕ → Type 0
 IsLetter Lower = IsLower
 IsLetter Upper = IsUpper
 
+-- a word of letters of a case
+abbrev pub IsWord : Case → List ℕ → Type 0
+IsWord case = IsWordOf (IsLetter case)
+
 -- no letter stands at the front
 abbrev pub Stops : (ℕ → Type 0) → List ℕ → Type 0
 Stops IsLetter [] = Unit {0}
@@ -22,6 +27,14 @@ Stops IsLetter (byte ∷ rest) = IsLetter byte → ⊥
 abbrev pub Ends : (ℕ → Type 0) → List ℕ → Type 0
 Ends IsLetter [] = ⊥
 Ends IsLetter (byte ∷ rest) = IsLetter byte → ⊥
+
+-- the answer is this word and this rest
+abbrev pub Answers : Option (Bor (List ℕ) × Bor (List ℕ)) → List ℕ → List ℕ → Type 0
+Answers answer word rest = IsSomeAnd answer (λ read. (read.0.now ≡ word) × (read.1.now ≡ rest))
+
+-- the rule whose words are borrowed
+abbrev pub rule_of : RuleWords → SmallRule
+rule_of words = record { name = words.name.now; from = words.from.now; to = words.to.now }
 
 -- a rule of words
 pub record IsRuleOfWords (rule : SmallRule) : Type 0 where

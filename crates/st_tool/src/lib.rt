@@ -4,5 +4,5 @@
 mod reader;
 mod small;
 
-pub use reader::il_of_small;
+pub use reader::{il_of_small, read_small};
 pub use small::{Small, SmallRule};

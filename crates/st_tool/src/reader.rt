@@ -8,20 +8,23 @@ ghost use Rattle.st_tool.specs.SmallForm.{IsOfWords};
 mod check;
 mod line;
 mod meaning;
+#[cfg(test)]
+mod tests;
 mod word;
-
-pub use meaning::il_of_small;
 
 use crate::Small;
 use check::is_small;
 use line::{read_atoms, read_relation_line, read_rules, read_syntax_front};
+pub use meaning::il_of_small;
 use st_num::{Name, NoMemory};
 use std::alloc::Global;
 
 /// The specification whose text the bytes are, whatever its words are.
 fn read_form(alloc: Global, bytes: &[u8]) -> Result<Option<Small>, NoMemory>
-    ensures read { IfOk result (λ read. IfSome read (λ small. IsOfWords small × (bytes.now ≡ text_of small))) }
-    ensures only { IfOk result (λ read. (small : Specification) → IsOfWords small → bytes.now ≡ text_of small → read ≡ Some small) }
+    ensures read { IfOk result (λ read. IfSome read (λ small. IsOfWords small
+        × (bytes.now ≡ text_of small))) }
+    ensures only { IfOk result (λ read. (small : Specification) → IsOfWords small
+        → bytes.now ≡ text_of small → read ≡ Some small) }
 {
     let Some((syntax, rest)) = read_syntax_front(bytes) else {
         return Ok(None);
@@ -46,7 +49,8 @@ fn read_form(alloc: Global, bytes: &[u8]) -> Result<Option<Small>, NoMemory>
 /// Reads a small specification.
 pub fn read_small(alloc: Global, bytes: &[u8]) -> Result<Option<Small>, NoMemory>
     ensures some { IfOk result (λ read. IfSome read (λ small. IsTextOf small bytes.now)) }
-    ensures none { IfOk result (λ read. IfNone read ((small : Specification) → IsTextOf small bytes.now → ⊥)) }
+    ensures none { IfOk result (λ read. IfNone read
+        ((small : Specification) → IsTextOf small bytes.now → ⊥)) }
 {
     let Some(small) = read_form(alloc, bytes)? else {
         return Ok(None);

@@ -68,7 +68,8 @@ fn distinct_atoms<'a>(
     alloc: Global,
     atoms: &'a [Name],
 ) -> Result<Option<IndexSet<&'a Name>>, NoMemory>
-    ensures { IfOk result (λ read. MatchOption read (AreDistinct atoms.now → ⊥) (λ set. AreDistinct atoms.now × (names_of set.keys ≡ atoms.now))) }
+    ensures { IfOk result (λ read. MatchOption read (AreDistinct atoms.now → ⊥)
+        (λ set. AreDistinct atoms.now × (names_of set.keys ≡ atoms.now))) }
 {
     let mut set = IndexSet::new(alloc);
     for atom in atoms {

@@ -4,7 +4,7 @@ ghost use Rattle.std.specs.Prelude.{◌≡◌, ℕ, List, ◌++◌, All, IfOk, I
 ghost use Rattle.std.specs.List.{flat_map};
 ghost use Rattle.st_tool.specs.declared.small.SmallRule.{SmallRule as Rule};
 ghost use Rattle.st_tool.specs.Small.{IsLower, IsUpper, IsWordOf, alternative_text, relation_line, rule_line};
-ghost use Rattle.st_tool.specs.SmallForm.{IsRuleOfWords};
+ghost use Rattle.st_tool.specs.SmallForm.{Answers, IsRuleOfWords, rule_of};
 
 use super::word::{Case, behind, read_word, read_word_before};
 use crate::SmallRule;
@@ -13,8 +13,11 @@ use std::alloc::Global;
 
 /// The name of the syntax at the front, and what stands behind its `=`.
 pub fn read_syntax_front(bytes: &[u8]) -> Option<(&[u8], &[u8])>
-    ensures read { IfSome result (λ r. IsWordOf IsLower r.0.now × (bytes.now ≡ codes "syntax " ++ (r.0.now ++ (codes " =" ++ r.1.now)))) }
-    ensures only { (syntax rest : List ℕ) → IsWordOf IsLower syntax → bytes.now ≡ codes "syntax " ++ (syntax ++ (codes " =" ++ rest)) → IsSomeAnd result (λ r. (r.0.now ≡ syntax) × (r.1.now ≡ rest)) }
+    ensures read { IfSome result (λ r. IsWordOf IsLower r.0.now
+        × (bytes.now ≡ codes "syntax " ++ (r.0.now ++ (codes " =" ++ r.1.now)))) }
+    ensures only { (syntax rest : List ℕ) → IsWordOf IsLower syntax
+        → bytes.now ≡ codes "syntax " ++ (syntax ++ (codes " =" ++ rest))
+        → Answers result syntax rest }
 {
     let rest = behind(bytes, b"syntax ")?;
     let (syntax, rest) = read_word_before(rest, Case::Lower, b" =")?;
@@ -23,8 +26,12 @@ pub fn read_syntax_front(bytes: &[u8]) -> Option<(&[u8], &[u8])>
 
 /// The atoms of alternatives up to the end of the line, and what stands behind that line.
 pub fn read_atoms(alloc: Global, bytes: &[u8]) -> Result<Option<(Row<Name>, &[u8])>, NoMemory>
-    ensures read { IfOk result (λ read. IfSome read (λ r. All (IsWordOf IsUpper) r.0 × (bytes.now ≡ flat_map alternative_text r.0 ++ (codes "\n" ++ r.1.now)))) }
-    ensures only { IfOk result (λ read. (atoms : List (List ℕ)) (rest : List ℕ) → All (IsWordOf IsUpper) atoms → bytes.now ≡ flat_map alternative_text atoms ++ (codes "\n" ++ rest) → IsSomeAnd read (λ r. (r.0 ≡ atoms) × (r.1.now ≡ rest))) }
+    ensures read { IfOk result (λ read. IfSome read (λ r. All (IsWordOf IsUpper) r.0
+        × (bytes.now ≡ flat_map alternative_text r.0 ++ (codes "\n" ++ r.1.now)))) }
+    ensures only { IfOk result (λ read.
+        (atoms : List (List ℕ)) (rest : List ℕ) → All (IsWordOf IsUpper) atoms
+        → bytes.now ≡ flat_map alternative_text atoms ++ (codes "\n" ++ rest)
+        → IsSomeAnd read (λ r. (r.0 ≡ atoms) × (r.1.now ≡ rest))) }
 {
     let mut atoms = Row::new(alloc);
     let mut rest = bytes;
@@ -43,8 +50,10 @@ pub fn read_atoms(alloc: Global, bytes: &[u8]) -> Result<Option<(Row<Name>, &[u8
 
 /// The name of the relation over the syntax at the front, and what stands behind its line.
 pub fn read_relation_line<'a>(bytes: &'a [u8], syntax: &[u8]) -> Option<(&'a [u8], &'a [u8])>
-    ensures read { IfSome result (λ r. IsWordOf IsUpper r.0.now × (bytes.now ≡ relation_line r.0.now syntax.now ++ r.1.now)) }
-    ensures only { (relation rest : List ℕ) → IsWordOf IsUpper relation → bytes.now ≡ relation_line relation syntax.now ++ rest → IsSomeAnd result (λ r. (r.0.now ≡ relation) × (r.1.now ≡ rest)) }
+    ensures read { IfSome result (λ r. IsWordOf IsUpper r.0.now
+        × (bytes.now ≡ relation_line r.0.now syntax.now ++ r.1.now)) }
+    ensures only { (relation rest : List ℕ) → IsWordOf IsUpper relation
+        → bytes.now ≡ relation_line relation syntax.now ++ rest → Answers result relation rest }
 {
     let rest = behind(bytes, b"relation ")?;
     let (relation, rest) = read_word_before(rest, Case::Upper, b": ")?;
@@ -64,12 +73,12 @@ struct RuleWords<'a> {
 }
 
 /// The words of a rule line of the relation at the front, and what stands behind the line.
-fn read_rule_words<'a>(
-    bytes: &'a [u8],
-    relation: &[u8],
-) -> Option<(RuleWords<'a>, &'a [u8])>
-    ensures read { IfSome result (λ r. let rule : Rule = record { name = r.0.name.now; from = r.0.from.now; to = r.0.to.now } in IsRuleOfWords rule × (bytes.now ≡ rule_line relation.now rule ++ r.1.now)) }
-    ensures only { (rule : Rule) (rest : List ℕ) → IsRuleOfWords rule → bytes.now ≡ rule_line relation.now rule ++ rest → IsSomeAnd result (λ r. (r.0.name.now ≡ rule.name) × (r.0.from.now ≡ rule.from) × (r.0.to.now ≡ rule.to) × (r.1.now ≡ rest)) }
+fn read_rule_words<'a>(bytes: &'a [u8], relation: &[u8]) -> Option<(RuleWords<'a>, &'a [u8])>
+    ensures read { IfSome result (λ r. IsRuleOfWords (rule_of r.0)
+        × (bytes.now ≡ rule_line relation.now (rule_of r.0) ++ r.1.now)) }
+    ensures only { (rule : Rule) (rest : List ℕ) → IsRuleOfWords rule
+        → bytes.now ≡ rule_line relation.now rule ++ rest
+        → IsSomeAnd result (λ r. (rule_of r.0 ≡ rule) × (r.1.now ≡ rest)) }
 {
     let rest = behind(bytes, b"rule ")?;
     let rest = behind(rest, relation)?;
@@ -82,7 +91,7 @@ fn read_rule_words<'a>(
 
 impl RuleWords<'_> {
     fn copy(&self, alloc: Global) -> Result<SmallRule, NoMemory>
-        ensures { IfOk result (λ rule. rule ≡ record { name = self.now.name.now; from = self.now.from.now; to = self.now.to.now }) }
+        ensures { IfOk result (λ rule. rule ≡ rule_of self.now) }
     {
         Ok(SmallRule {
             name: Name::from_slice(alloc, self.name)?,
@@ -98,8 +107,10 @@ pub fn read_rules(
     bytes: &[u8],
     relation: &[u8],
 ) -> Result<Option<Row<SmallRule>>, NoMemory>
-    ensures read { IfOk result (λ read. IfSome read (λ rules. All IsRuleOfWords rules × (bytes.now ≡ flat_map (rule_line relation.now) rules))) }
-    ensures only { IfOk result (λ read. (rules : List Rule) → All IsRuleOfWords rules → bytes.now ≡ flat_map (rule_line relation.now) rules → read ≡ Some rules) }
+    ensures read { IfOk result (λ read. IfSome read (λ rules. All IsRuleOfWords rules
+        × (bytes.now ≡ flat_map (rule_line relation.now) rules))) }
+    ensures only { IfOk result (λ read. (rules : List Rule) → All IsRuleOfWords rules
+        → bytes.now ≡ flat_map (rule_line relation.now) rules → read ≡ Some rules) }
 {
     let mut rules = Row::new(alloc);
     let mut rest = bytes;

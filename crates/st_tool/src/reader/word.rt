@@ -1,8 +1,7 @@
 //! Fixed texts and words of letters at the front of bytes.
 
-ghost use Rattle.std.specs.Prelude.{◌≡◌, ◌≢◌, ℕ, ◌≤◌, ◌↔◌, List, ◌++◌, take, drop, length, All, IsTrue, IfSome, IsSomeAnd, MatchOption};
-ghost use Rattle.st_tool.specs.Small.{IsWordOf};
-ghost use Rattle.st_tool.specs.SmallForm.{IsLetter, Stops, Ends};
+ghost use Rattle.std.specs.Prelude.{◌≡◌, ◌≢◌, ℕ, ◌≤◌, ◌↔◌, List, ◌++◌, take, drop, length, All, IsTrue, IfSome, MatchOption};
+ghost use Rattle.st_tool.specs.SmallForm.{IsLetter, IsWord, Stops, Ends, Answers};
 
 /// The case of letters.
 #[derive(Clone, Copy)]
@@ -24,7 +23,8 @@ impl Case {
 
 /// What stands behind the given front, where the bytes begin with it.
 pub fn behind<'a>(bytes: &'a [u8], front: &[u8]) -> Option<&'a [u8]>
-    ensures { MatchOption result ((rest : List ℕ) → bytes.now ≢ front.now ++ rest) (λ rest. bytes.now ≡ front.now ++ rest.now) }
+    ensures { MatchOption result ((rest : List ℕ) → bytes.now ≢ front.now ++ rest)
+        (λ rest. bytes.now ≡ front.now ++ rest.now) }
 {
     bytes.strip_prefix(front)
 }
@@ -45,8 +45,9 @@ fn count_letters(bytes: &[u8], case: Case) -> usize
 
 /// The word of letters at the front, as long as it goes, and what stands behind it.
 pub fn read_word(bytes: &[u8], case: Case) -> Option<(&[u8], &[u8])>
-    ensures read { IfSome result (λ r. IsWordOf (IsLetter case) r.0.now × (bytes.now ≡ r.0.now ++ r.1.now)) }
-    ensures only { (word rest : List ℕ) → IsWordOf (IsLetter case) word → Stops (IsLetter case) rest → bytes.now ≡ word ++ rest → IsSomeAnd result (λ r. (r.0.now ≡ word) × (r.1.now ≡ rest)) }
+    ensures read { IfSome result (λ r. IsWord case r.0.now × (bytes.now ≡ r.0.now ++ r.1.now)) }
+    ensures only { (word rest : List ℕ) → IsWord case word → Stops (IsLetter case) rest
+        → bytes.now ≡ word ++ rest → Answers result word rest }
 {
     let count = count_letters(bytes, case);
     if count == 0 {
@@ -56,13 +57,11 @@ pub fn read_word(bytes: &[u8], case: Case) -> Option<(&[u8], &[u8])>
 }
 
 /// The word at the front that the given text ends, and what stands behind that text.
-pub fn read_word_before<'a>(
-    bytes: &'a [u8],
-    case: Case,
-    end: &[u8],
-) -> Option<(&'a [u8], &'a [u8])>
-    ensures read { IfSome result (λ r. IsWordOf (IsLetter case) r.0.now × (bytes.now ≡ r.0.now ++ (end.now ++ r.1.now))) }
-    ensures only { Ends (IsLetter case) end.now → (word rest : List ℕ) → IsWordOf (IsLetter case) word → bytes.now ≡ word ++ (end.now ++ rest) → IsSomeAnd result (λ r. (r.0.now ≡ word) × (r.1.now ≡ rest)) }
+pub fn read_word_before<'a>(bytes: &'a [u8], case: Case, end: &[u8]) -> Option<(&'a [u8], &'a [u8])>
+    ensures read { IfSome result (λ r. IsWord case r.0.now
+        × (bytes.now ≡ r.0.now ++ (end.now ++ r.1.now))) }
+    ensures only { Ends (IsLetter case) end.now → (word rest : List ℕ) → IsWord case word
+        → bytes.now ≡ word ++ (end.now ++ rest) → Answers result word rest }
 {
     let (word, rest) = read_word(bytes, case)?;
     let rest = behind(rest, end)?;

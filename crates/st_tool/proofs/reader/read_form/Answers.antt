@@ -1,4 +1,4 @@
-use Rattle.std.proofs.Common.{◌≡◌, ◌++◌, refl, sym, ◌∙◌, ap, subst, codes, Some, List, ℕ}
+use Rattle.std.proofs.Common.{◌≡◌, ◌++◌, refl, sym, ◌∙◌, ap, subst, Some}
 use Rattle.std.specs.List.{flat_map}
 use Rattle.st_tool.specs.declared.small.Small.{Small as Specification}
 use Rattle.st_tool.specs.Small.{text_of, relation_line, rule_line}
@@ -49,11 +49,12 @@ returns-clause-read c =
     let P : Specification → Type 0 = λ s. IsOfWords s × (c.args.bytes.now ≡ text_of s) in
     let atoms_read = rw c.in-Some-2.is at c.in_ok-atoms.ensures.read in
     let rules_read = rw c.in-Some-3.is at c.in_ok-rules.ensures.read in
-    subst P (same_small made _ (sym c.in_ok-from_slice.ensures) (sym c.atoms.view_is) (sym c.in_ok-from_slice-2.ensures) refl)
-    (record {
+    subst P (same_small made _ (sym c.in_ok-from_slice.ensures) (sym c.atoms.view_is) (sym c.in_ok-from_slice-2.ensures) refl) (
+      record {
         syntax = c.in-Some.ensures.read.0;
         atoms = atoms_read.0;
         relation = c.in-Some-read_relation_line.ensures.read.0;
         rules = rules_read.0;
       },
-      text_made _ _ _ _ made c.in-Some.ensures.read.1 atoms_read.1 c.in-Some-read_relation_line.ensures.read.1 rules_read.1)
+      text_made _ _ _ _ made c.in-Some.ensures.read.1 atoms_read.1 c.in-Some-read_relation_line.ensures.read.1 rules_read.1,
+    )

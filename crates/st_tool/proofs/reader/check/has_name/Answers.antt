@@ -1,5 +1,5 @@
 use Rattle.std.specs.Borrow.{Bor}
-use Rattle.std.proofs.Common.{eqb, List, ℕ, sym, ◌∙◌, ◌≡◌}
+use Rattle.std.proofs.Common.{eqb, List, ℕ, sym, ◌∙◌}
 use Rattle.std.specs.Cmp.Lexicographic.{pointwise}
 use Rattle.st_tool.proofs.ReaderNames.{any_name, Decides-same}
 use Rattle.st_tool.proofs.reader.check.has_name.Goals as goal

@@ -8,5 +8,5 @@ use Rattle.st_tool.proofs.reader.check.is_among.Goals as goal
 pub returns : goal.returns
 returns c =
     let found = any_name (λ (key : Bor (List ℕ)). pointwise eqb key.now c.args.word.now) c.args.word.now
-        (λ key. bytes_eq-Decides key.now c.args.word.now) c.args.words.now in
+    (λ key. bytes_eq-Decides key.now c.args.word.now) c.args.words.now in
     (λ h. found.0 (sym c.contains.ensures.value ∙ h), λ h. c.contains.ensures.value ∙ found.1 h)

@@ -1,4 +1,4 @@
-use Rattle.std.proofs.Common.{◌≡◌, ◌∷◌, [], ◌++◌, refl, sym, ◌∙◌, ap, codes}
+use Rattle.std.proofs.Common.{◌∷◌, [], ◌++◌, refl, ◌∙◌, ap, codes}
 use Rattle.std.specs.List.{flat_map}
 use Rattle.st_tool.specs.Small.{IsUpper, IsWordOf, alternative_text}
 use Rattle.st_tool.proofs.ReaderRows.{Leaves-end, Leaves-none, IsRead-start, IsRead-more}
@@ -18,8 +18,8 @@ loop-alternative-preserved c =
     c.in-Some-read_word.ensures.read.0
     (c.in-Some.ensures ∙ ap (λ r. codes " | " ++ r) c.in-Some-read_word.ensures.read.1)
     (λ x more tail fits is_tail e.
-      c.in-Some-read_word.ensures.only x (flat_map alternative_text more ++ tail) fits (Stops-alternatives more tail is_tail)
-      (atom_front _ _ x more tail c.in-Some.ensures e))
+    c.in-Some-read_word.ensures.only x (flat_map alternative_text more ++ tail) fits (Stops-alternatives more tail is_tail)
+    (atom_front _ _ x more tail c.in-Some.ensures e))
     (c.in_ok-push.ensures.ok ∙ ap (λ n. c.loop-alternative.atoms ++ n ∷ []) c.in_ok-from_slice.ensures)
 
 pub returns-in_default-read_word-clause-only : goal.returns-in_default-read_word-clause-only
@@ -27,23 +27,23 @@ returns-in_default-read_word-clause-only c = λ atoms rest words e.
     Leaves-none alternative_text (IsWordOf IsUpper) IsLineEnd c.args.bytes.now c.loop-alternative.atoms
     c.loop-alternative.rest.now c.loop-alternative.invariant.leaves
     (λ x more tail fits is_tail e.
-      c.in_default-read_word.ensures.only x (flat_map alternative_text more ++ tail) fits (Stops-alternatives more tail is_tail)
-      (atom_front _ _ x more tail c.in-Some.ensures e))
+    c.in_default-read_word.ensures.only x (flat_map alternative_text more ++ tail) fits (Stops-alternatives more tail is_tail)
+    (atom_front _ _ x more tail c.in-Some.ensures e))
     (no_alternative _ _ c.in-Some.ensures)
     atoms (codes "\n" ++ rest) words (rest, refl) e
 
 pub returns-in-Some-behind-clause-only : goal.returns-in-Some-behind-clause-only
 returns-in-Some-behind-clause-only c = λ atoms rest words e.
     let found = Leaves-end alternative_text (IsWordOf IsUpper) IsLineEnd c.args.bytes.now c.loop-alternative.atoms
-        c.loop-alternative.rest.now c.loop-alternative.invariant.leaves
-        (λ x more tail fits is_tail e. c.in_default.ensures _ e)
-        atoms (codes "\n" ++ rest) words (rest, refl) e in
+    c.loop-alternative.rest.now c.loop-alternative.invariant.leaves
+    (λ x more tail fits is_tail e. c.in_default.ensures _ e)
+    atoms (codes "\n" ++ rest) words (rest, refl) e in
     (found.0, peel (codes "\n") _ _ _ c.in-Some-behind.ensures found.1)
 
 pub returns-clause-only : goal.returns-clause-only
 returns-clause-only c = λ atoms rest words e.
     let found = Leaves-end alternative_text (IsWordOf IsUpper) IsLineEnd c.args.bytes.now c.loop-alternative.atoms
-        c.loop-alternative.rest.now c.loop-alternative.invariant.leaves
-        (λ x more tail fits is_tail e. c.in_default.ensures _ e)
-        atoms (codes "\n" ++ rest) words (rest, refl) e in
+    c.loop-alternative.rest.now c.loop-alternative.invariant.leaves
+    (λ x more tail fits is_tail e. c.in_default.ensures _ e)
+    atoms (codes "\n" ++ rest) words (rest, refl) e in
     c.in-None.ensures rest found.1

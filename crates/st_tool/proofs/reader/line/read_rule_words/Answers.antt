@@ -1,6 +1,4 @@
-use Rattle.std.proofs.Common.{◌≡◌, ◌++◌, codes}
-use Rattle.st_tool.specs.Small.{rule_line}
-use Rattle.st_tool.proofs.ReaderLines.{Ends-colon, Ends-arrow, Ends-line, rule_relation, rule_slash, rule_name, rule_made}
+use Rattle.st_tool.proofs.ReaderLines.{Ends-colon, Ends-arrow, Ends-line, rule_relation, rule_slash, rule_name, rule_made, same_rule}
 use Rattle.st_tool.proofs.reader.line.read_rule_words.Goals as goal
 
 pub returns-in_err-rest-2-clause-only : goal.returns-in_err-rest-2-clause-only
@@ -35,12 +33,13 @@ returns-clause-only c = λ rule rest fits e.
     let e4 = c.in_ok-name.ensures.only Ends-colon rule.name _ fits.name e3 in
     let e5 = c.in_ok-from.ensures.only Ends-arrow rule.from _ fits.from e4.1 in
     let e6 = c.in_ok-to.ensures.only Ends-line rule.to _ fits.to e5.1 in
-    (e4.0, e5.0, e6.0, e6.1)
+    (same_rule _ rule e4.0 e5.0 e6.0, e6.1)
 
 pub returns-clause-read : goal.returns-clause-read
-returns-clause-read c =
-    (record { name = c.in_ok-name.ensures.read.0; from = c.in_ok-from.ensures.read.0; to = c.in_ok-to.ensures.read.0 },
-      rule_made c.args.relation.now c.args.bytes.now _ _ _ _ _ c.in_ok-to.rest.now
+returns-clause-read c = (
+  record { name = c.in_ok-name.ensures.read.0; from = c.in_ok-from.ensures.read.0; to = c.in_ok-to.ensures.read.0 },
+  rule_made c.args.relation.now c.args.bytes.now _ _ _ _ _ c.in_ok-to.rest.now
       (record { name = c.in_ok-name.name.now; from = c.in_ok-from.from.now; to = c.in_ok-to.to.now })
       c.in_ok-rest.ensures c.in_ok-rest-2.ensures c.in_ok-rest-3.ensures c.in_ok-name.ensures.read.1
-      c.in_ok-from.ensures.read.1 c.in_ok-to.ensures.read.1)
+      c.in_ok-from.ensures.read.1 c.in_ok-to.ensures.read.1,
+)
