@@ -46,11 +46,13 @@ fn read_form(alloc: Global, bytes: &[u8]) -> Result<Option<Small>, NoMemory>
     }))
 }
 
-/// Reads a small specification.
+/// Reads a small specification: the one whose text the bytes are, where there is one.
 pub fn read_small(alloc: Global, bytes: &[u8]) -> Result<Option<Small>, NoMemory>
     ensures some { IfOk result (λ read. IfSome read (λ small. IsTextOf small bytes.now)) }
     ensures none { IfOk result (λ read. IfNone read
         ((small : Specification) → IsTextOf small bytes.now → ⊥)) }
+    ensures only { IfOk result (λ read. (small : Specification) → IsTextOf small bytes.now
+        → read ≡ Some small) }
 {
     let Some(small) = read_form(alloc, bytes)? else {
         return Ok(None);

@@ -4,9 +4,15 @@ use super::{il_of_small, read_small};
 use std::alloc::{AllocError, Global};
 use std::test::Fail;
 
-const LIGHT: &str = "syntax color = | RED | GREEN | AMBER\nrelation T: color ~> color\nrule T/a: RED ~> GREEN\nrule T/b: GREEN ~> AMBER\n";
+const LIGHT: &str = "syntax color = | RED | GREEN | AMBER\n\
+    relation T: color ~> color\n\
+    rule T/a: RED ~> GREEN\n\
+    rule T/b: GREEN ~> AMBER\n";
 
-const COIN: &str = "syntax s = | COIN | TAILS | HEADS\nrelation T: s ~> s\nrule T/a: COIN ~> TAILS\nrule T/b: COIN ~> HEADS\n";
+const COIN: &str = "syntax s = | COIN | TAILS | HEADS\n\
+    relation T: s ~> s\n\
+    rule T/a: COIN ~> TAILS\n\
+    rule T/b: COIN ~> HEADS\n";
 
 #[test]
 fn texts_that_are_small_and_that_are_not(rt: HostRuntime) -> Result<(), Fail> {
@@ -14,7 +20,10 @@ fn texts_that_are_small_and_that_are_not(rt: HostRuntime) -> Result<(), Fail> {
         (LIGHT, true),
         (COIN, true),
         ("syntax s = | A\nrelation A: s ~> s\n", true),
-        ("syntax s = | A\nrelation R: s ~> s\nrule R/if: A ~> A\n", true),
+        (
+            "syntax s = | A\nrelation R: s ~> s\nrule R/if: A ~> A\n",
+            true,
+        ),
         ("", false),
         ("syntax s =\nrelation R: s ~> s\n", false),
         ("syntax s = | A\nrelation R: s ~> s", false),
@@ -33,13 +42,34 @@ fn texts_that_are_small_and_that_are_not(rt: HostRuntime) -> Result<(), Fail> {
         ("syntax s = | A\nrelation r: s ~> s\n", false),
         ("syntax s = | A\nrelation R: s ~> t\n", false),
         ("syntax s = | A\nrelation R: s -> s\n", false),
-        ("syntax s = | A\nrelation R: s ~> s\nrule R/a: A ~> B\n", false),
-        ("syntax s = | A\nrelation R: s ~> s\nrule R/a: B ~> A\n", false),
-        ("syntax s = | A\nrelation R: s ~> s\nrule Q/a: A ~> A\n", false),
-        ("syntax s = | A\nrelation R: s ~> s\nrule R/A: A ~> A\n", false),
-        ("syntax s = | A\nrelation R: s ~> s\nrule R/: A ~> A\n", false),
-        ("syntax s = | A\nrelation R: s ~> s\nrule R/a: A ~> A\nrule R/a: A ~> A\n", false),
-        ("syntax s = | A\nrelation R: s ~> s\nrule R/a: A ~> A\n  -- if true\n", false),
+        (
+            "syntax s = | A\nrelation R: s ~> s\nrule R/a: A ~> B\n",
+            false,
+        ),
+        (
+            "syntax s = | A\nrelation R: s ~> s\nrule R/a: B ~> A\n",
+            false,
+        ),
+        (
+            "syntax s = | A\nrelation R: s ~> s\nrule Q/a: A ~> A\n",
+            false,
+        ),
+        (
+            "syntax s = | A\nrelation R: s ~> s\nrule R/A: A ~> A\n",
+            false,
+        ),
+        (
+            "syntax s = | A\nrelation R: s ~> s\nrule R/: A ~> A\n",
+            false,
+        ),
+        (
+            "syntax s = | A\nrelation R: s ~> s\nrule R/a: A ~> A\nrule R/a: A ~> A\n",
+            false,
+        ),
+        (
+            "syntax s = | A\nrelation R: s ~> s\nrule R/a: A ~> A\n  -- if true\n",
+            false,
+        ),
     ];
     for (text, want) in table {
         let read = read_small(rt.alloc(), text.as_bytes())?;
@@ -59,7 +89,10 @@ fn parts_of_a_small_specification(rt: HostRuntime) -> Result<(), Fail> {
     assert_eq!(rt; light.relation.as_slice(), b"T".as_slice());
     for (at, want) in ["RED", "GREEN", "AMBER"].iter().enumerate() {
         let atom = light.atoms.get(at);
-        assert!(rt; atom.is_some_and(|atom| atom.as_slice() == want.as_bytes()), "{want}");
+        assert!(rt;
+            atom.is_some_and(|atom| atom.as_slice() == want.as_bytes()),
+            "{want}"
+        );
     }
     assert_eq!(rt; light.atoms.len(), 3);
     assert_eq!(rt; light.rules.len(), 2);
@@ -96,11 +129,7 @@ fn text_of_many(alloc: Global, atoms: u32, rules: u32) -> Result<String, AllocEr
 
 #[test]
 fn as_many_atoms_and_rules_as_there_may_be(rt: HostRuntime) -> Result<(), Fail> {
-    let table = [
-        (4_095, 65_533, true),
-        (4_096, 0, false),
-        (1, 65_534, false),
-    ];
+    let table = [(4_095, 65_533, true), (4_096, 0, false), (1, 65_534, false)];
     for (atoms, rules, want) in table {
         let text = text_of_many(rt.alloc(), atoms, rules)?;
         let read = read_small(rt.alloc(), text.as_bytes())?;
