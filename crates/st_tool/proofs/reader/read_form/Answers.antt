@@ -6,6 +6,16 @@ use Rattle.st_tool.specs.SmallForm.{IsOfWords}
 use Rattle.st_tool.proofs.ReaderForm.{same_small, text_parts, text_made}
 use Rattle.st_tool.proofs.reader.read_form.Goals as goal
 
+pub returns-in_default-clause-only : goal.returns-in_default-clause-only
+returns-in_default-clause-only c = λ small words e.
+    absurd (c.in_default.ensures.only small.syntax _ words.syntax (e ∙ text_parts small))
+
+pub returns-in_default-2-clause-only : goal.returns-in_default-2-clause-only
+returns-in_default-2-clause-only c = λ small words e.
+    let atoms_only = rw c.in_default-2.is at c.in_ok-atoms.ensures.only in
+    let e1 = c.in-Some.ensures.only small.syntax _ words.syntax (e ∙ text_parts small) in
+    absurd (atoms_only small.atoms _ words.atoms e1.1)
+
 pub returns-in_default-read_relation_line-clause-only :
     goal.returns-in_default-read_relation_line-clause-only
 returns-in_default-read_relation_line-clause-only c = λ small words e.

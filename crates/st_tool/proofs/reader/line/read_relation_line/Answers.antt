@@ -2,6 +2,12 @@ use Rattle.std.proofs.Common.{codes}
 use Rattle.st_tool.proofs.ReaderLines.{Ends-Colon, peel, relation_name}
 use Rattle.st_tool.proofs.reader.line.read_relation_line.Goals as goal
 
+pub returns-in_err-rest-2-clause-only : goal.returns-in_err-rest-2-clause-only
+returns-in_err-rest-2-clause-only c = λ relation rest word e.
+    let e1 = relation_name _ relation c.args.syntax.now rest _ e c.in_ok-rest.ensures in
+    let e2 = c.in_ok-relation.ensures.only Ends-Colon relation _ word e1 in
+    absurd (c.in_err-rest-2.ensures _ e2.1)
+
 pub returns-in_err-rest-3-clause-only : goal.returns-in_err-rest-3-clause-only
 returns-in_err-rest-3-clause-only c = λ relation rest word e.
     let e1 = relation_name _ relation c.args.syntax.now rest _ e c.in_ok-rest.ensures in
