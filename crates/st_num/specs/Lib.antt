@@ -2,3 +2,4 @@ pub mod formers
 pub mod Signs
 pub mod Number
 pub mod SignAndMagnitude
+pub mod Numeral

@@ -1,5 +1,6 @@
--- Numbers: the whole numbers whose magnitude is below 2 ^ 128.
-use Rattle.std.specs.Prelude.{ℕ, ◌^◌, ◌<◌, Bool, true, false, ℤ, pos, negsuc, neg_ℤ, unsigned_abs}
+-- Numbers: the whole numbers whose magnitude is below 2 ^ 128, and what their operations give.
+use Rattle.std.specs.Prelude.{ℕ, ◌^◌, ◌<◌, Bool, true, false, Option, Some, None, nat_lt, nat_eq, if◌then◌else◌, ℤ, pos, negsuc, neg_ℤ, ◌+ℤ◌, ◌-ℤ◌, ◌*ℤ◌, unsigned_abs, int_div, int_rem}
+use Rattle.std.specs.Int.{int_pow}
 
 -- its magnitude is in range
 abbrev pub IsNumber : ℤ → Type 0
@@ -14,3 +15,30 @@ signed true n = neg_ℤ (pos n)
 abbrev pub below_zero : ℤ → Bool
 below_zero (pos n) = false
 below_zero (negsuc n) = true
+
+-- a whole number as the value of an operation, where it is in range
+abbrev pub in_range : ℤ → Option ℤ
+in_range z = if nat_lt (unsigned_abs z) (2 ^ 128) then Some z else None
+
+abbrev pub sum : ℤ → ℤ → Option ℤ
+sum a b = in_range (a +ℤ b)
+
+abbrev pub difference : ℤ → ℤ → Option ℤ
+difference a b = in_range (a -ℤ b)
+
+abbrev pub product : ℤ → ℤ → Option ℤ
+product a b = in_range (a *ℤ b)
+
+-- the remainder of division toward zero, which has the sign of a, where b is not zero
+abbrev pub remainder : ℤ → ℤ → Option ℤ
+remainder a b = if nat_eq (unsigned_abs b) 0 then None else in_range (int_rem a b)
+
+-- the quotient, where b is not zero and nothing remains
+abbrev pub quotient : ℤ → ℤ → Option ℤ
+quotient a b = if nat_eq (unsigned_abs b) 0 then None
+    else (if nat_eq (unsigned_abs (int_rem a b)) 0 then in_range (int_div a b) else None)
+
+-- the power, where the exponent is not negative; with the exponent 0 it is 1
+abbrev pub power : ℤ → ℤ → Option ℤ
+power a (pos n) = in_range (int_pow a n)
+power a (negsuc n) = None

@@ -8,21 +8,27 @@
 //! (signs, ids) and `docs/semantics.md` (numbers).
 #![tactic(auto)]
 
+mod arithmetic;
 mod boxed;
 mod compared;
 mod dim;
 mod mark;
 mod memory;
 mod num;
+mod numeral;
 mod row;
 mod rule;
 mod span;
+#[cfg(test)]
+mod tests;
 
+pub use arithmetic::{add, compare, div_exact, mul, pow, rem, sub};
 pub use boxed::Boxed;
 pub use dim::{Dim, Kind};
 pub use mark::Mark;
 pub use memory::NoMemory;
 pub use num::Num;
+pub use numeral::{NumFault, print_number, read_number};
 pub use row::{Name, Row};
 pub use rule::RuleId;
 pub use span::Span;

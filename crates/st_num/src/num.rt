@@ -1,10 +1,12 @@
 //! Numbers as the language has them.
 
-ghost use Rattle.std.specs.Prelude.{◌≡◌, ◌↔◌, ◌^◌, ◌<◌, true, IsNone, IfSome, unsigned_abs};
-ghost use Rattle.std.specs.Cmp.{int_eq_equiv, partial_equiv_from_equiv};
-ghost use Rattle.std.specs.Ordering.{int_eq};
+ghost use Rattle.std.specs.Prelude.{◌≡◌, ◌↔◌, ◌^◌, ◌<◌, true, refl, Some, IsNone, IfSome, unsigned_abs};
+ghost use Rattle.std.specs.Cmp.{int_eq_equiv, partial_equiv_from_equiv, signed_po, int_cmp_total};
+ghost use Rattle.std.specs.Ordering.{int_cmp, int_eq};
 ghost use Rattle.st_num.specs.Number.{signed, below_zero, IsNumber};
 
+use crate::arithmetic::compare;
+use std::cmp::Ordering;
 use std::marker::Model;
 
 /// A whole number with a magnitude below 2^128. There is one zero, which is not negative.
@@ -48,6 +50,16 @@ impl Num {
         })
     }
 
+    /// The number of this sign and magnitude; zero has no sign.
+    pub(crate) fn signed(negative: bool, magnitude: u128) -> Num
+        ensures { result ≡ signed negative magnitude }
+    {
+        Num {
+            negative: negative && magnitude != 0,
+            magnitude,
+        }
+    }
+
     pub fn is_negative(&self) -> bool
         ensures { result ≡ below_zero self.now }
     {
@@ -75,4 +87,28 @@ impl PartialEq for Num {
 
 impl Eq for Num {
     ghost laws = { int_eq_equiv };
+}
+
+impl PartialOrd for Num {
+    ghost partial_cmp = { λ x y. Some (int_cmp x y) };
+
+    ghost laws = { signed_po };
+
+    fn partial_cmp(&self, other: &Num) -> Option<Ordering> {
+        Some(compare(*self, *other))
+    }
+}
+
+impl Ord for Num {
+    ghost cmp = { int_cmp };
+
+    ghost total = { int_cmp_total };
+
+    ghost matches_partial_cmp = { λ x y. refl };
+
+    ghost matches_eq = { λ x y. refl };
+
+    fn cmp(&self, other: &Num) -> Ordering {
+        compare(*self, *other)
+    }
 }

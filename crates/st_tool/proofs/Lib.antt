@@ -1,6 +1,17 @@
-pub mod ReaderWords
-pub mod ReaderRows
-pub mod ReaderLines
-pub mod ReaderForm
-pub mod ReaderNames
-pub mod ReaderCheck
+mod Lists
+mod Lines
+mod Atoms
+mod StepLemmas
+mod Derives
+mod TranscriptLemmas
+mod Loading
+mod Terms
+mod Runnable
+mod Outcomes
+mod WrittenLemmas
+mod ReaderWords
+mod ReaderRows
+mod ReaderLines
+mod ReaderForm
+mod ReaderNames
+mod ReaderCheck

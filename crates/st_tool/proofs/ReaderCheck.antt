@@ -3,9 +3,9 @@ use Rattle.std.proofs.Common.{◌≡◌, ℕ, ◌≤◌, Bool, false, List, leng
 use Rattle.std.specs.Prelude.{IfOk, IsTrue}
 use Rattle.std.specs.List.{All, Contains}
 use Rattle.std.proofs.lemmas.List.Elements.{All-contains}
-use Rattle.st_tool.specs.declared.small.Small.{Small}
-use Rattle.st_tool.specs.declared.small.SmallRule.{SmallRule}
-use Rattle.st_tool.specs.Small.{IsUpper, IsWordOf, IsSmallRule, IsSmall, AreDistinct, reserved, rule_names}
+use Rattle.st_il.specs.declared.small.Small.{Small}
+use Rattle.st_il.specs.declared.small.SmallRule.{SmallRule}
+use Rattle.st_il.specs.Small.{IsUpper, IsWordOf, IsSmallRule, IsSmall, AreDistinct, reserved, rule_names}
 use Rattle.st_tool.specs.SmallForm.{GoesBetween, IsRuleOfWords, IsOfWords}
 
 pub rules_are_small : (atoms : List (List ℕ)) (rules : List SmallRule) → All IsRuleOfWords rules → All (GoesBetween atoms) rules → All (IsSmallRule atoms) rules

@@ -1,8 +1,8 @@
 -- The text of a small specification, piece by piece.
 use Rattle.std.proofs.Common.{◌≡◌, ℕ, List, ◌++◌, sym, ap, ◌∙◌, codes, append_assoc}
 use Rattle.std.specs.List.{flat_map}
-use Rattle.st_tool.specs.declared.small.Small.{Small}
-use Rattle.st_tool.specs.Small.{alternative_text, relation_line, rule_line, text_of}
+use Rattle.st_il.specs.declared.small.Small.{Small}
+use Rattle.st_tool.specs.SmallText.{alternative_text, relation_line, rule_line, text_of}
 
 -- specifications of the same parts are the same
 pub same_small : (s t : Small) → s.syntax ≡ t.syntax → s.atoms ≡ t.atoms → s.relation ≡ t.relation → s.rules ≡ t.rules → s ≡ t

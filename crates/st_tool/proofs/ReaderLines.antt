@@ -3,8 +3,9 @@ use Rattle.std.proofs.Common.{◌≡◌, ℕ, List, [], ◌∷◌, ◌++◌, len
 use Rattle.std.specs.List.{flat_map}
 use Rattle.std.proofs.Common.{Bool, true, false, true≢false, ◌==◌}
 use Rattle.std.proofs.lemmas.List.{append_cancel_left, nil_from_length}
-use Rattle.st_tool.specs.declared.small.SmallRule.{SmallRule}
-use Rattle.st_tool.specs.Small.{IsLower, IsUpper, alternative_text, relation_line, rule_line}
+use Rattle.st_il.specs.declared.small.SmallRule.{SmallRule}
+use Rattle.st_il.specs.Small.{IsLower, IsUpper}
+use Rattle.st_tool.specs.SmallText.{alternative_text, relation_line, rule_line}
 use Rattle.st_tool.specs.SmallForm.{Stops}
 
 -- what stands behind a front is one thing

@@ -9,7 +9,7 @@ use Rattle.std.proofs.lemmas.List.Folds.{Any-from_list_any, list_any_at}
 use Rattle.std.proofs.lemmas.List.Quantifiers.{all_pairs_push}
 use Rattle.std.proofs.lemmas.Slice.Eq.{bytes_eq-Decides}
 use Rattle.indexmap.specs.IndexSet.{insert_key}
-use Rattle.st_tool.specs.Small.{AreDistinct}
+use Rattle.st_il.specs.Small.{AreDistinct}
 use Rattle.st_tool.specs.SmallForm.{names_of, Adds}
 
 -- a test for a name finds it exactly where it is

@@ -3,7 +3,7 @@ use Rattle.std.proofs.Common.{◌≡◌, ℕ, List, [], ◌∷◌, ◌++◌, tak
 use Rattle.std.specs.List.{All}
 use Rattle.std.proofs.lemmas.List.Elements.{All-nil, All-head, All-tail}
 use Rattle.std.proofs.lemmas.List.{take-append-drop}
-use Rattle.st_tool.specs.Small.{IsWordOf}
+use Rattle.st_il.specs.Small.{IsWordOf}
 use Rattle.st_tool.specs.SmallForm.{Stops}
 
 -- two fronts of letters before no letter are the same

@@ -2,12 +2,12 @@
 use Rattle.std.specs.Prelude.{◌≡◌, Option, IsSomeAnd, ℕ, Bool, List, [], ◌∷◌, ◌++◌, All, Contains, map}
 use Rattle.std.specs.Bool.{MatchBool}
 use Rattle.std.specs.Borrow.{Bor}
-use Rattle.st_tool.specs.Small.{IsLower, IsUpper, IsWordOf}
+use Rattle.st_il.specs.Small.{IsLower, IsUpper, IsWordOf}
 use Rattle.st_tool.specs.declared.reader.line.RuleWords.{RuleWords}
 use Rattle.st_tool.specs.declared.reader.word.Case.{Case}
 use Rattle.st_tool.specs.declared.reader.word.Case.TheVariants.{Lower, Upper}
-use Rattle.st_tool.specs.declared.small.Small.{Small}
-use Rattle.st_tool.specs.declared.small.SmallRule.{SmallRule}
+use Rattle.st_il.specs.declared.small.Small.{Small}
+use Rattle.st_il.specs.declared.small.SmallRule.{SmallRule}
 
 -- the letters of a case
 abbrev pub IsLetter : Case → ℕ → Type 0

@@ -1,8 +1,58 @@
-//! The commands of the tool.
+//! The commands: words in, files loaded, one text out, and a status.
+//!
+//! The one idea: the whole text of a command is made before anything is written, by a function of
+//! what the files gave; so what is written is always that text, or its front where a write fails.
+//!
+//! Read `specs/Outcome.antt` first, since all else serves it, and then `serve` below. Statuses and
+//! texts are told in `docs/refusals.md`, runs and what is derivable in `docs/semantics.md`.
 #![tactic(auto)]
 
-mod reader;
-mod small;
+ghost use Rattle.std.specs.Prelude.{◌≡◌, map, string_bytes};
+ghost use Rattle.st_outside.specs.Counts.{Rose};
+ghost use Rattle.st_tool.specs.Causes.{IsLoadFault, FaultIsTold};
+ghost use Rattle.st_tool.specs.Loads.{counts_of};
+ghost use Rattle.st_tool.specs.Outcome.{Written};
 
-pub use reader::{il_of_small, read_small};
-pub use small::{Small, SmallRule};
+mod answer;
+mod loads;
+mod reader;
+mod status;
+mod step;
+#[cfg(test)]
+mod tests;
+mod text;
+mod transcript;
+mod words;
+
+pub use answer::Answer;
+use answer::answer_words;
+pub use loads::Loaded;
+use st_num::NoMemory;
+use st_outside::{Files, Sink, write_all_of};
+pub use status::Status;
+use std::alloc::Global;
+pub use transcript::Ending;
+pub use words::{Command, CommandWord};
+
+/// Does what the words ask for: loads its files, in the order of the words, and writes its text.
+///
+/// After `Status::Memory` nothing was written.
+pub fn serve<F: Files, K: Sink>(
+    alloc: Global,
+    words: &Vec<String>,
+    files: &mut F,
+    out: &mut K,
+) -> Status
+    ensures written { Written (F.held files.old) (map string_bytes words.now.items) (counts_of (F.loads files.old) (F.faults files.old) (F.last files.old)) (counts_of (F.loads files.new) (F.faults files.new) (F.last files.new)) (K.taken out.old) (K.taken out.new) result }
+    ensures load { result ≡ Status.Load → IsLoadFault (map string_bytes words.now.items) (counts_of (F.loads files.old) (F.faults files.old) (F.last files.old)) (counts_of (F.loads files.new) (F.faults files.new) (F.last files.new)) }
+    ensures told { FaultIsTold (counts_of (F.loads files.old) (F.faults files.old) (F.last files.old)) (counts_of (F.loads files.new) (F.faults files.new) (F.last files.new)) result }
+    ensures write { result ≡ Status.Write → Rose (K.faults out.old) (K.faults out.new) }
+{
+    match answer_words(alloc, words.as_slice(), files) {
+        Err(NoMemory) => Status::Memory,
+        Ok(answer) => match write_all_of(out, answer.bytes.as_slice()) {
+            Ok(()) => answer.status,
+            Err(_) => Status::Write,
+        },
+    }
+}

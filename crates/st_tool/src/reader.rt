@@ -1,21 +1,19 @@
-//! Reads small specifications, and makes their internal language.
+//! Reads small specifications.
 
 ghost use Rattle.std.specs.Prelude.{◌≡◌, IfOk, IfSome, IfNone, Some};
-ghost use Rattle.st_tool.specs.declared.small.Small.{Small as Specification};
-ghost use Rattle.st_tool.specs.Small.{text_of, IsTextOf};
+ghost use Rattle.st_il.specs.declared.small.Small.{Small as Specification};
+ghost use Rattle.st_tool.specs.SmallText.{text_of, IsTextOf};
 ghost use Rattle.st_tool.specs.SmallForm.{IsOfWords};
 
 mod check;
 mod line;
-mod meaning;
 #[cfg(test)]
 mod tests;
 mod word;
 
-use crate::Small;
 use check::is_small;
 use line::{read_atoms, read_relation_line, read_rules, read_syntax_front};
-pub use meaning::il_of_small;
+use st_il::Small;
 use st_num::{Name, NoMemory};
 use std::alloc::Global;
 

@@ -1,11 +1,11 @@
 //! What is asked of a small specification beside the form of its text.
 
 ghost use Rattle.std.specs.Prelude.{◌≡◌, ◌↔◌, All, Contains, IsTrue, IfOk, MatchOption};
-ghost use Rattle.st_tool.specs.Small.{reserved, rule_names, AreDistinct, IsSmall};
+ghost use Rattle.st_il.specs.Small.{reserved, rule_names, AreDistinct, IsSmall};
 ghost use Rattle.st_tool.specs.SmallForm.{names_of, Adds, GoesBetween, IsOfWords};
 
-use crate::{Small, SmallRule};
 use indexmap::IndexSet;
+use st_il::{Small, SmallRule};
 use st_num::{Name, NoMemory};
 use std::alloc::Global;
 

@@ -2,12 +2,13 @@
 
 ghost use Rattle.std.specs.Prelude.{◌≡◌, ℕ, List, ◌++◌, All, IfOk, IfSome, IsSomeAnd, Some, codes};
 ghost use Rattle.std.specs.List.{flat_map};
-ghost use Rattle.st_tool.specs.declared.small.SmallRule.{SmallRule as Rule};
-ghost use Rattle.st_tool.specs.Small.{IsLower, IsUpper, IsWordOf, alternative_text, relation_line, rule_line};
+ghost use Rattle.st_il.specs.declared.small.SmallRule.{SmallRule as Rule};
+ghost use Rattle.st_il.specs.Small.{IsLower, IsUpper, IsWordOf};
+ghost use Rattle.st_tool.specs.SmallText.{alternative_text, relation_line, rule_line};
 ghost use Rattle.st_tool.specs.SmallForm.{Answers, IsRuleOfWords, rule_of};
 
 use super::word::{Case, behind, read_word, read_word_before};
-use crate::SmallRule;
+use st_il::SmallRule;
 use st_num::{Name, NoMemory, Row};
 use std::alloc::Global;
 

@@ -1,6 +1,7 @@
 //! What no clause says: texts that are small specifications and texts that are none, by hand.
 
-use super::{il_of_small, read_small};
+use super::read_small;
+use st_il::il_of_small;
 use std::alloc::{AllocError, Global};
 use std::test::Fail;
 

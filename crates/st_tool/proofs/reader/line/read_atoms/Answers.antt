@@ -1,6 +1,7 @@
 use Rattle.std.proofs.Common.{◌∷◌, [], ◌++◌, refl, ◌∙◌, ap, codes}
 use Rattle.std.specs.List.{flat_map}
-use Rattle.st_tool.specs.Small.{IsUpper, IsWordOf, alternative_text}
+use Rattle.st_il.specs.Small.{IsUpper, IsWordOf}
+use Rattle.st_tool.specs.SmallText.{alternative_text}
 use Rattle.st_tool.proofs.ReaderRows.{Leaves-end, Leaves-none, IsRead-start, IsRead-more}
 use Rattle.st_tool.proofs.ReaderLines.{IsLineEnd, Stops-alternatives, no_alternative, atom_front, peel}
 use Rattle.st_tool.proofs.reader.line.read_atoms.Goals as goal

@@ -1,5 +1,6 @@
 use Rattle.std.proofs.Common.{length}
-use Rattle.st_tool.specs.Small.{IsUpper, IsWordOf, alternative_text}
+use Rattle.st_il.specs.Small.{IsUpper, IsWordOf}
+use Rattle.st_tool.specs.SmallText.{alternative_text}
 use Rattle.st_tool.proofs.ReaderRows.{IsRead}
 use Rattle.st_tool.proofs.ReaderLines.{IsLineEnd}
 use Rattle.st_tool.proofs.reader.line.read_atoms.Given as goal

@@ -1,5 +1,5 @@
 use Rattle.std.proofs.Common.{length}
-use Rattle.st_tool.specs.Small.{rule_line}
+use Rattle.st_tool.specs.SmallText.{rule_line}
 use Rattle.st_tool.specs.SmallForm.{IsRuleOfWords}
 use Rattle.st_tool.proofs.ReaderRows.{IsRead}
 use Rattle.st_tool.proofs.ReaderLines.{IsNothing}

@@ -1,0 +1,50 @@
+-- The printed texts of commands.
+use Rattle.std.specs.Prelude.{ℕ, ◌+◌, ◌-◌, length, List, [], ◌∷◌, ◌++◌, codes, decimal}
+use Rattle.st_il.specs.declared.value.Value.{Value, out-Value}
+use Rattle.st_il.specs.declared.value.Value.TheOpen.{Value-F}
+use Rattle.st_tool.specs.declared.transcript.Ending.{Ending}
+use Rattle.st_tool.specs.declared.transcript.Ending.TheVariants.{Stuck, Fuel}
+use Rattle.st_tool.specs.Transcript.{Term}
+
+-- A term as it is printed. So far a case without operands, which is its tag.
+abbrev pub layer_text : {X : Type 0} → Value-F X → List ℕ
+layer_text (Value-F.Case tag []) = tag
+layer_text _ = []
+
+abbrev pub value_text : Value → List ℕ
+value_text value = layer_text (out-Value value)
+
+abbrev pub term_text : Term → List ℕ
+term_text (value ∷ []) = value_text value
+term_text _ = []
+
+-- the line of a term and its number
+abbrev pub term_line : ℕ → Term → List ℕ
+term_line number term = decimal number ++ codes " " ++ term_text term ++ codes "\n"
+
+-- that line, where the term is an atom
+abbrev pub atom_line : ℕ → List ℕ → List ℕ
+atom_line number atom = decimal number ++ codes " " ++ atom ++ codes "\n"
+
+-- the lines of terms, numbered from a number on
+abbrev pub term_lines : ℕ → List Term → List ℕ
+term_lines number [] = []
+term_lines number (term ∷ terms) = term_line number term ++ term_lines (number + 1) terms
+
+abbrev pub ending_word : Ending → List ℕ
+ending_word Stuck = codes "stuck"
+ending_word Fuel = codes "fuel"
+
+-- the last line: how a run ended, after so many steps
+abbrev pub ending_line : Ending → ℕ → List ℕ
+ending_line ending steps = ending_word ending ++ codes " after " ++ decimal steps ++ codes " steps\n"
+
+-- the text of a run over these terms
+abbrev pub transcript_text : List Term → Ending → List ℕ
+transcript_text terms ending = term_lines 0 terms ++ ending_line ending (length terms - 1)
+
+abbrev pub unbuilt_text : List ℕ
+unbuilt_text = codes "unbuilt\n"
+
+abbrev pub load_failed_text : List ℕ → List ℕ
+load_failed_text name = codes "load failed " ++ name ++ codes "\n"

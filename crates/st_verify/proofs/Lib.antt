@@ -1,0 +1,6 @@
+pub mod Values
+pub mod Cited
+pub mod FirstBroken
+pub mod Declared
+pub mod Judged
+pub mod Soundness

@@ -1,0 +1,5 @@
+pub mod Notes
+pub mod Verdict
+pub mod Accepts
+pub mod Sound
+pub mod Verifier
