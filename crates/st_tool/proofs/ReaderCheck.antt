@@ -15,19 +15,6 @@ rules_are_small atoms rules words between k d within =
 pub small_rules_go : (atoms : List (List ℕ)) (rules : List SmallRule) → All (IsSmallRule atoms) rules → All (GoesBetween atoms) rules
 small_rules_go atoms rules small k d within = ((small k d within).from, (small k d within).to)
 
--- a small specification is of words
-pub words_of_small : (s : Small) → IsSmall s → IsOfWords s
-words_of_small s small = record {
-  syntax = small.syntax;
-  atoms = small.atoms;
-  relation = small.relation;
-  rules = λ k d within. record {
-    name = (small.rules k d within).name;
-    from = All-contains (IsWordOf IsUpper) s.atoms (get_or s.rules k d).from small.atoms (small.rules k d within).from;
-    to = All-contains (IsWordOf IsUpper) s.atoms (get_or s.rules k d).to small.atoms (small.rules k d within).to;
-  };
-}
-
 pub small_made : (s : Small) → IsOfWords s → (Contains reserved s.syntax → ⊥) → 1 ≤ length s.atoms → length s.atoms ≤ 4095 → length s.rules ≤ 65533
     → AreDistinct s.atoms → All (GoesBetween s.atoms) s.rules → AreDistinct (rule_names s.rules) → IsSmall s
 small_made s words unreserved some few few_rules distinct between distinct_rules = record {

@@ -6,27 +6,24 @@ use Rattle.std.proofs.lemmas.List.{append_cancel_left, nil_from_length}
 use Rattle.st_il.specs.declared.small.SmallRule.{SmallRule}
 use Rattle.st_il.specs.Small.{IsLower, IsUpper}
 use Rattle.st_tool.specs.SmallText.{alternative_text, relation_line, rule_line}
-use Rattle.st_tool.specs.SmallForm.{Stops, Ends}
+use Rattle.st_tool.specs.SmallForm.{Stops}
 
 -- what stands behind a front is one thing
 pub peel : (front xs rs ss : List ℕ) → xs ≡ front ++ rs → xs ≡ front ++ ss → rs ≡ ss
 peel front xs rs ss p q = append_cancel_left front rs ss (sym p ∙ q)
 
--- the fixed texts end words
-pub Ends-colon : Ends IsLower (codes ": ")
-Ends-colon h = omega (arith, h.0)
+-- the fixed texts stop words
+pub Stops-lower-colon : Stops IsLower (codes ": ")
+Stops-lower-colon h = omega (arith, h.0)
 
-pub Ends-equal : Ends IsLower (codes " =")
-Ends-equal h = omega (arith, h.0)
+pub Stops-upper-colon : Stops IsUpper (codes ": ")
+Stops-upper-colon h = omega (arith, h.0)
 
-pub Ends-Colon : Ends IsUpper (codes ": ")
-Ends-Colon h = omega (arith, h.0)
+pub Stops-arrow : Stops IsUpper (codes " ~> ")
+Stops-arrow h = omega (arith, h.0)
 
-pub Ends-arrow : Ends IsUpper (codes " ~> ")
-Ends-arrow h = omega (arith, h.0)
-
-pub Ends-line : Ends IsUpper (codes "\n")
-Ends-line h = omega (arith, h.0)
+pub Stops-line : Stops IsUpper (codes "\n")
+Stops-line h = omega (arith, h.0)
 
 -- a text of nine parts, grouped from the end
 nine : (a b c d e f g h i s : List ℕ) → a ++ b ++ c ++ d ++ e ++ f ++ g ++ h ++ i ++ s ≡ a ++ (b ++ (c ++ (d ++ (e ++ (f ++ (g ++ (h ++ (i ++ s))))))))
@@ -66,8 +63,8 @@ IsLineEnd tail = (rest : List ℕ) × (tail ≡ codes "\n" ++ rest)
 
 -- no letter stands behind an atom
 pub Stops-alternatives : (atoms : List (List ℕ)) (tail : List ℕ) → IsLineEnd tail → Stops IsUpper (flat_map alternative_text atoms ++ tail)
-Stops-alternatives [] tail end = subst (Stops IsUpper) (sym end.1) Ends-line
-Stops-alternatives (atom ∷ atoms) tail end = Ends-arrow
+Stops-alternatives [] tail end = subst (Stops IsUpper) (sym end.1) Stops-line
+Stops-alternatives (atom ∷ atoms) tail end = Stops-arrow
 
 -- the end of a line begins with no alternative
 pub no_alternative : (rest alternative : List ℕ) → rest ≡ codes " | " ++ alternative → IsLineEnd rest → ⊥
@@ -94,13 +91,6 @@ relation_line_parts relation syntax rest =
 pub relation_name : (bytes relation syntax rest after : List ℕ) → bytes ≡ relation_line relation syntax ++ rest → bytes ≡ codes "relation " ++ after
     → after ≡ relation ++ (codes ": " ++ relation_types syntax rest)
 relation_name bytes relation syntax rest after e one = peel (codes "relation ") bytes _ _ one (e ∙ relation_line_parts relation syntax rest)
-
--- the pieces of a relation line make its text
-pub relation_made : (bytes relation syntax r1 r2 r3 r4 r5 rest : List ℕ)
-    → bytes ≡ codes "relation " ++ r1 → r1 ≡ relation ++ (codes ": " ++ r2) → r2 ≡ syntax ++ r3 → r3 ≡ codes " ~> " ++ r4
-    → r4 ≡ syntax ++ r5 → r5 ≡ codes "\n" ++ rest → bytes ≡ relation_line relation syntax ++ rest
-relation_made bytes relation syntax r1 r2 r3 r4 r5 rest e1 e2 e3 e4 e5 e6 =
-    let whole = relation_line_parts relation syntax rest in cc
 
 -- no text is behind the last rule line
 abbrev pub IsNothing : List ℕ → Type 0

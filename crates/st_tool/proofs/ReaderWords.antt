@@ -4,7 +4,7 @@ use Rattle.std.specs.List.{All}
 use Rattle.std.proofs.lemmas.List.Elements.{All-nil, All-head, All-tail}
 use Rattle.std.proofs.lemmas.List.{take-append-drop}
 use Rattle.st_il.specs.Small.{IsWordOf}
-use Rattle.st_tool.specs.SmallForm.{Stops, Ends}
+use Rattle.st_tool.specs.SmallForm.{Stops}
 
 -- two fronts of letters before no letter are the same
 pub word_only : (P : ℕ → Type 0) (xs ys rs ss : List ℕ) → All P xs → All P ys → Stops P rs → Stops P ss → xs ++ rs ≡ ys ++ ss → (xs ≡ ys) × (rs ≡ ss)
@@ -22,11 +22,6 @@ word_only P (x ∷ xs) (y ∷ ys) rs ss ax ay r s e =
     let front : xs ≡ ys = rest.0 in
     let one : x ∷ xs ≡ y ∷ ys = cc in
     (one, rest.1)
-
--- what ends a word stops it, whatever stands behind
-pub Stops-Ends : (P : ℕ → Type 0) (end rest : List ℕ) → Ends P end → Stops P (end ++ rest)
-Stops-Ends P [] rest e = absurd e
-Stops-Ends P (x ∷ end) rest e = e
 
 -- no word stands where no letter does
 pub word_none : (P : ℕ → Type 0) (xs word rest : List ℕ) → Stops P xs → IsWordOf P word → Stops P rest → xs ≡ word ++ rest → ⊥

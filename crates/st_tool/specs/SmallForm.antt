@@ -23,11 +23,6 @@ abbrev pub Stops : (ℕ → Type 0) → List ℕ → Type 0
 Stops IsLetter [] = Unit {0}
 Stops IsLetter (byte ∷ rest) = IsLetter byte → ⊥
 
--- something stands at the front that is no letter
-abbrev pub Ends : (ℕ → Type 0) → List ℕ → Type 0
-Ends IsLetter [] = ⊥
-Ends IsLetter (byte ∷ rest) = IsLetter byte → ⊥
-
 -- the answer is this word and this rest
 abbrev pub Answers : Option (Bor (List ℕ) × Bor (List ℕ)) → List ℕ → List ℕ → Type 0
 Answers answer word rest = IsSomeAnd answer (λ read. (read.0.now ≡ word) × (read.1.now ≡ rest))

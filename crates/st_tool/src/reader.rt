@@ -1,4 +1,4 @@
-//! Reads small specifications, and makes their internal language.
+//! Reads small specifications.
 
 ghost use Rattle.std.specs.Prelude.{◌≡◌, IfOk, IfSome, IfNone, Some};
 ghost use Rattle.st_il.specs.declared.small.Small.{Small as Specification};
@@ -44,9 +44,11 @@ fn read_form(alloc: Global, bytes: &[u8]) -> Result<Option<Small>, NoMemory>
     }))
 }
 
-/// Reads a small specification: the one whose text the bytes are, if they are one's.
+/// Reads a small specification: the one whose text the bytes are, where there is one.
 pub fn read_small(alloc: Global, bytes: &[u8]) -> Result<Option<Small>, NoMemory>
     ensures some { IfOk result (λ read. IfSome read (λ small. IsTextOf small bytes.now)) }
+    ensures none { IfOk result (λ read. IfNone read
+        ((small : Specification) → IsTextOf small bytes.now → ⊥)) }
     ensures only { IfOk result (λ read. (small : Specification) → IsTextOf small bytes.now
         → read ≡ Some small) }
 {

@@ -5,11 +5,15 @@ use st_il::il_of_small;
 use std::alloc::{AllocError, Global};
 use std::test::Fail;
 
-const LIGHT: &str =
-    "syntax color = | RED | GREEN | AMBER\nrelation T: color ~> color\nrule T/a: RED ~> GREEN\nrule T/b: GREEN ~> AMBER\n";
+const LIGHT: &str = "syntax color = | RED | GREEN | AMBER\n\
+    relation T: color ~> color\n\
+    rule T/a: RED ~> GREEN\n\
+    rule T/b: GREEN ~> AMBER\n";
 
-const COIN: &str =
-    "syntax s = | COIN | TAILS | HEADS\nrelation T: s ~> s\nrule T/a: COIN ~> TAILS\nrule T/b: COIN ~> HEADS\n";
+const COIN: &str = "syntax s = | COIN | TAILS | HEADS\n\
+    relation T: s ~> s\n\
+    rule T/a: COIN ~> TAILS\n\
+    rule T/b: COIN ~> HEADS\n";
 
 #[test]
 fn texts_that_are_small_and_that_are_not(rt: HostRuntime) -> Result<(), Fail> {

@@ -1,7 +1,7 @@
 //! Fixed texts and words of letters at the front of bytes.
 
 ghost use Rattle.std.specs.Prelude.{◌≡◌, ◌≢◌, ℕ, ◌≤◌, ◌↔◌, List, ◌++◌, take, drop, length, All, IsTrue, IfSome, MatchOption};
-ghost use Rattle.st_tool.specs.SmallForm.{IsLetter, IsWord, Stops, Ends, Answers};
+ghost use Rattle.st_tool.specs.SmallForm.{IsLetter, IsWord, Stops, Answers};
 
 /// The case of letters.
 #[derive(Clone, Copy)]
@@ -60,8 +60,9 @@ pub fn read_word(bytes: &[u8], case: Case) -> Option<(&[u8], &[u8])>
 pub fn read_word_before<'a>(bytes: &'a [u8], case: Case, end: &[u8]) -> Option<(&'a [u8], &'a [u8])>
     ensures read { IfSome result (λ r. IsWord case r.0.now
         × (bytes.now ≡ r.0.now ++ (end.now ++ r.1.now))) }
-    ensures only { Ends (IsLetter case) end.now → (word rest : List ℕ) → IsWord case word
-        → bytes.now ≡ word ++ (end.now ++ rest) → Answers result word rest }
+    ensures only { (word rest : List ℕ) → IsWord case word
+        → Stops (IsLetter case) (end.now ++ rest) → bytes.now ≡ word ++ (end.now ++ rest)
+        → Answers result word rest }
 {
     let (word, rest) = read_word(bytes, case)?;
     let rest = behind(rest, end)?;

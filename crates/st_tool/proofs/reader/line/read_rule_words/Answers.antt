@@ -1,4 +1,4 @@
-use Rattle.st_tool.proofs.ReaderLines.{Ends-colon, Ends-arrow, Ends-line, rule_relation, rule_slash, rule_name, rule_made, same_rule}
+use Rattle.st_tool.proofs.ReaderLines.{Stops-lower-colon, Stops-arrow, Stops-line, rule_relation, rule_slash, rule_name, rule_made, same_rule}
 use Rattle.st_tool.proofs.reader.line.read_rule_words.Goals as goal
 
 pub returns-in_err-rest-2-clause-only : goal.returns-in_err-rest-2-clause-only
@@ -12,27 +12,27 @@ returns-in_err-rest-3-clause-only c = λ rule rest fits e.
 pub returns-in_err-name-clause-only : goal.returns-in_err-name-clause-only
 returns-in_err-name-clause-only c = λ rule rest fits e.
     let e3 = rule_name _ _ _ _ rule rest e c.in_ok-rest.ensures c.in_ok-rest-2.ensures _ c.in_ok-rest-3.ensures in
-    absurd (c.in_err-name.ensures.only Ends-colon rule.name _ fits.name e3)
+    absurd (c.in_err-name.ensures.only rule.name _ fits.name Stops-lower-colon e3)
 
 pub returns-in_err-from-clause-only : goal.returns-in_err-from-clause-only
 returns-in_err-from-clause-only c = λ rule rest fits e.
     let e3 = rule_name _ _ _ _ rule rest e c.in_ok-rest.ensures c.in_ok-rest-2.ensures _ c.in_ok-rest-3.ensures in
-    let e4 = c.in_ok-name.ensures.only Ends-colon rule.name _ fits.name e3 in
-    absurd (c.in_err-from.ensures.only Ends-arrow rule.from _ fits.from e4.1)
+    let e4 = c.in_ok-name.ensures.only rule.name _ fits.name Stops-lower-colon e3 in
+    absurd (c.in_err-from.ensures.only rule.from _ fits.from Stops-arrow e4.1)
 
 pub returns-in_err-to-clause-only : goal.returns-in_err-to-clause-only
 returns-in_err-to-clause-only c = λ rule rest fits e.
     let e3 = rule_name _ _ _ _ rule rest e c.in_ok-rest.ensures c.in_ok-rest-2.ensures _ c.in_ok-rest-3.ensures in
-    let e4 = c.in_ok-name.ensures.only Ends-colon rule.name _ fits.name e3 in
-    let e5 = c.in_ok-from.ensures.only Ends-arrow rule.from _ fits.from e4.1 in
-    absurd (c.in_err-to.ensures.only Ends-line rule.to _ fits.to e5.1)
+    let e4 = c.in_ok-name.ensures.only rule.name _ fits.name Stops-lower-colon e3 in
+    let e5 = c.in_ok-from.ensures.only rule.from _ fits.from Stops-arrow e4.1 in
+    absurd (c.in_err-to.ensures.only rule.to _ fits.to Stops-line e5.1)
 
 pub returns-clause-only : goal.returns-clause-only
 returns-clause-only c = λ rule rest fits e.
     let e3 = rule_name _ _ _ _ rule rest e c.in_ok-rest.ensures c.in_ok-rest-2.ensures _ c.in_ok-rest-3.ensures in
-    let e4 = c.in_ok-name.ensures.only Ends-colon rule.name _ fits.name e3 in
-    let e5 = c.in_ok-from.ensures.only Ends-arrow rule.from _ fits.from e4.1 in
-    let e6 = c.in_ok-to.ensures.only Ends-line rule.to _ fits.to e5.1 in
+    let e4 = c.in_ok-name.ensures.only rule.name _ fits.name Stops-lower-colon e3 in
+    let e5 = c.in_ok-from.ensures.only rule.from _ fits.from Stops-arrow e4.1 in
+    let e6 = c.in_ok-to.ensures.only rule.to _ fits.to Stops-line e5.1 in
     (same_rule _ rule e4.0 e5.0 e6.0, e6.1)
 
 pub returns-clause-read : goal.returns-clause-read
