@@ -6,3 +6,4 @@ pub mod Judged
 pub mod Soundness
 pub mod Judging
 pub mod Light
+pub mod Feeding

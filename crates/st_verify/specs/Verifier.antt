@@ -1,6 +1,8 @@
 -- What a verifier answers, and what it is then.
-use Rattle.std.specs.Prelude.{◌≡◌, ◌+◌, ◌≤◌, ◌^◌, true, false, length, Contains, Option, Some, None, MatchOption, Result, Ok, Err}
+use Rattle.std.specs.Prelude.{◌≡◌, ◌⊎◌, ℕ, List, ◌+◌, ◌≤◌, ◌^◌, true, false, length, Contains, Option, Some, None, MatchOption, Result, Ok, Err}
 use Rattle.st_deriv.specs.declared.line.Line.{Line}
+use Rattle.st_deriv.specs.LineText.{LineText}
+use Rattle.st_deriv.specs.Reading.{IsNoLine}
 use Rattle.st_il.specs.declared.definition.Il.{Il}
 use Rattle.st_il.specs.Small.{IsSmallIl}
 use Rattle.st_verify.specs.declared.accepted.Accepted.{Accepted}
@@ -47,6 +49,20 @@ JudgesNext old line (Err (Refused rule at typing)) new = Verdict old.il old.note
 
 abbrev pub Judges : Checking → Line → Result (Unit {0}) VerifyFault → Checking → Type 0
 Judges old line result new = UnlessRefused old result new (JudgesNext old line result new)
+
+-- The bytes are the text of a line, which is judged; or they are the text of none, and are refused as malformed.
+abbrev pub FeedsLine : Checking → List ℕ → Result (Unit {0}) VerifyFault → Checking → Type 0
+FeedsLine old bytes result new =
+    ((line : Line) × LineText line bytes × JudgesNext old line result new) ⊎ (IsNoLine bytes × Refuses {V = Unit {0}} V3 old result new)
+
+-- so is it, but for want of memory, where nothing changes
+abbrev pub FeedsNext : Checking → List ℕ → Result (Unit {0}) VerifyFault → Checking → Type 0
+FeedsNext old bytes (Ok done) new = FeedsLine old bytes (Ok done) new
+FeedsNext old bytes (Err Memory) new = new ≡ old
+FeedsNext old bytes (Err (Refused rule at typing)) new = FeedsLine old bytes (Err (Refused rule at typing)) new
+
+abbrev pub Feeds : Checking → List ℕ → Result (Unit {0}) VerifyFault → Checking → Type 0
+Feeds old bytes result new = UnlessRefused old result new (FeedsNext old bytes result new)
 
 -- the lines are accepted where an end line was taken, and else refused at the line behind them
 abbrev pub FinishesNow : Checking → Result Accepted VerifyFault → Checking → Type 0

@@ -10,13 +10,14 @@ ghost use Rattle.st_verify.specs.Accepts.{ReadsTo, Accepts};
 ghost use Rattle.st_verify.specs.Notes.{nothing_noted};
 ghost use Rattle.st_verify.specs.Sound.{AreSound};
 ghost use Rattle.st_verify.specs.Verdict.{Verdict};
-ghost use Rattle.st_verify.specs.Verifier.{Refuses, UnlessRefused, JudgesNext, Judges, Finishes, refusal_by};
+ghost use Rattle.st_verify.specs.Verifier.{Refuses, UnlessRefused, JudgesNext, Judges, Feeds, FeedsNext, Finishes, refusal_by};
 
 use crate::noted::{no_notes, note};
 use crate::verdict::broken_rule;
 use crate::{Accepted, Notes, VerifyFault, VerifyRule};
-use st_deriv::Line;
+use st_deriv::{Line, read_line};
 use st_il::Il;
+use st_iltext::TextFault;
 use std::alloc::Global;
 use std::marker::Model;
 
@@ -79,6 +80,29 @@ impl Verifier {
         }
         note(&mut self.notes, alloc, line)?;
         Ok(())
+    }
+
+    /// Takes the next line, as its bytes without the line feed.
+    pub fn feed(&mut self, alloc: Global, line: &[u8]) -> Result<(), VerifyFault>
+        requires { length self.old.notes.lines < 2 ^ 32 }
+        ensures { Feeds self.old line.now result self.new }
+    {
+        match self.refusal {
+            Some(fault) => Err(fault),
+            None => self.feed_next(alloc, line),
+        }
+    }
+
+    /// Takes the next line where none was refused.
+    fn feed_next(&mut self, alloc: Global, line: &[u8]) -> Result<(), VerifyFault>
+        requires { length self.old.notes.lines < 2 ^ 32 }
+        ensures { FeedsNext self.old line.now result self.new }
+    {
+        match read_line(alloc, line) {
+            Ok(line) => self.judge_next(alloc, &line),
+            Err(TextFault::Malformed { line: _ }) => Err(self.refuse(VerifyRule::V3)),
+            Err(TextFault::Memory) => Err(VerifyFault::Memory),
+        }
     }
 
     /// Takes a next line that is malformed. It takes no memory.
