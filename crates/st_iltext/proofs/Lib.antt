@@ -7,3 +7,4 @@ mod Rows
 mod Wholes
 pub mod NumberWords
 pub mod SmallTrees
+mod Shapes

@@ -8,3 +8,4 @@ pub mod Expressions
 pub mod Definitions
 pub mod IlText
 pub mod SmallForms
+pub mod SmallShapes

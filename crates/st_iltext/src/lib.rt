@@ -19,6 +19,8 @@ mod number;
 mod print;
 mod quote;
 mod read;
+mod shape;
+mod small;
 #[cfg(test)]
 mod tests;
 mod tree;
