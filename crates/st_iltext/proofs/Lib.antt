@@ -8,3 +8,4 @@ mod Wholes
 pub mod NumberWords
 pub mod SmallTrees
 mod Shapes
+pub mod NameSets

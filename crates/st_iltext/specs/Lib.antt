@@ -9,3 +9,4 @@ pub mod Definitions
 pub mod IlText
 pub mod SmallForms
 pub mod SmallShapes
+pub mod Names

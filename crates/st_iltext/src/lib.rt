@@ -15,6 +15,8 @@ mod form;
 mod front;
 mod il;
 mod law;
+mod line;
+mod name;
 mod number;
 mod print;
 mod quote;
