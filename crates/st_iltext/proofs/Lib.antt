@@ -9,3 +9,5 @@ pub mod NumberWords
 pub mod SmallTrees
 mod Shapes
 pub mod NameSets
+pub mod SmallUnique
+mod LineTrees

@@ -10,3 +10,4 @@ pub mod IlText
 pub mod SmallForms
 pub mod SmallShapes
 pub mod Names
+pub mod SmallReading

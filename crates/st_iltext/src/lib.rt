@@ -8,6 +8,7 @@
 //! `docs/internal-language.md`.
 #![tactic(auto)]
 
+mod build;
 mod definition;
 mod expression;
 mod fault;
@@ -23,6 +24,7 @@ mod quote;
 mod read;
 mod shape;
 mod small;
+mod small_line;
 #[cfg(test)]
 mod tests;
 mod tree;

@@ -21,7 +21,7 @@ fn read_tag(tree: &TextTree) -> Option<&Name>
 }
 
 /// The tags of alternatives without operands.
-fn read_tags(alloc: Global, trees: &[TextTree]) -> Result<Option<Row<Name>>, NoMemory>
+pub fn read_tags(alloc: Global, trees: &[TextTree]) -> Result<Option<Row<Name>>, NoMemory>
     ensures { IfOk result (λ read. MatchOption read
         ((tags : List (List ℕ)) → trees_of trees.now ≢ row_of (map tag_shape tags))
         (λ tags. trees_of trees.now ≡ row_of (map tag_shape tags))) }
@@ -37,7 +37,7 @@ fn read_tags(alloc: Global, trees: &[TextTree]) -> Result<Option<Row<Name>>, NoM
 }
 
 /// The name of a syntax, and its body.
-fn read_syntax(tree: &TextTree) -> Option<(&Name, &[TextTree])>
+pub fn read_syntax(tree: &TextTree) -> Option<(&Name, &[TextTree])>
     ensures { MatchOption result
         ((x : List ℕ) (ts : TextTrees) → tree_of tree.now ≢ syntax_tree x ts)
         (λ read. tree_of tree.now ≡ syntax_tree read.0.now (trees_of read.1.now)) }
@@ -86,7 +86,7 @@ fn is_bare_form(tree: &TextTree, head: &[u8]) -> bool
 }
 
 /// The name of a relation over this syntax.
-fn read_relation<'a>(tree: &'a TextTree, syntax: &Name) -> Option<&'a Name>
+pub fn read_relation<'a>(tree: &'a TextTree, syntax: &Name) -> Option<&'a Name>
     ensures { MatchOption result ((r : List ℕ) → tree_of tree.now ≢ relation_shape r syntax.now)
         (λ r. tree_of tree.now ≡ relation_shape r.now syntax.now) }
 {
@@ -126,7 +126,7 @@ fn read_atoms<'a>(tree: &'a TextTree, syntax: &Name) -> Option<(&'a Name, &'a Na
 
 /// The name of a rule of this relation over this syntax, and the atoms from which and to which it
 /// goes.
-fn read_rule<'a>(
+pub fn read_rule<'a>(
     tree: &'a TextTree,
     relation: &Name,
     syntax: &Name,
