@@ -1,4 +1,10 @@
 pub mod Order
+pub mod Height
+pub mod Value
+pub mod Notation
+pub mod Template
+pub mod Reading
+pub mod Key
 pub mod Evaluation
 pub mod Holding
 pub mod Derivation

@@ -7,20 +7,39 @@
 //! The language is told in `docs/internal-language.md`, its meaning in `docs/semantics.md`.
 #![tactic(auto)]
 
+mod copy;
 mod definition;
 mod expression;
+mod height;
+mod key;
 mod order;
+mod reading;
+mod same;
 mod small;
+mod small_il;
+mod template;
+#[cfg(test)]
+mod tests;
 mod tree;
 mod ty;
+mod type_rule;
 mod value;
+mod word;
 
+pub use copy::{copy_env, copy_fields, copy_ty, copy_tys, copy_value, copy_values};
 pub use definition::{
     Alternative, ClauseDef, FunDef, Il, IlDef, Listed, RelationDef, RuleDef, SyntaxBody, SyntaxDef,
 };
 pub use expression::{IlExp, IlPrem, Iteration, ListItem, PathSeg};
-pub use order::compare;
+pub use height::is_within_height;
+pub use key::{Key, key_of, same_key};
+pub use order::{compare, compare_values};
+pub use reading::template_of;
+pub use same::{same_env, same_fields, same_value, same_values};
 pub use small::{Small, SmallRule};
+pub use small_il::il_of_small;
+pub use template::Template;
 pub use tree::{Child, Tree};
 pub use ty::{NumTy, Ty};
+pub use type_rule::TypeRule;
 pub use value::{Env, Value};

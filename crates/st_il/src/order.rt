@@ -1,18 +1,109 @@
 //! The order of values.
 
-ghost use Rattle.std.specs.Prelude.{◌≡◌, ℕ, List, []};
-ghost use Rattle.std.specs.Ordering.{nat_cmp};
-ghost use Rattle.std.specs.Cmp.Lexicographic.{slice_cmp};
+ghost use Rattle.std.specs.Prelude.{◌≡◌, ◌↔◌, ℕ, List, []};
+ghost use Rattle.st_il.specs.declared.value.Value.{out-Value};
+ghost use Rattle.st_il.specs.Order.{value_cmp, values_cmp, fields_cmp, text_cmp, kind_of, IsOrder};
 
 use crate::Value;
+use st_num::Name;
 use std::cmp::Ordering;
 
-/// The order of two cases without operands is that of their tags. It takes no memory.
+/// The order of values, which is total. It takes no memory.
 pub fn compare(a: &Value, b: &Value) -> Ordering
-    ensures { (one other : List ℕ) → a.now ≡ Value.Case one [] → b.now ≡ Value.Case other [] → result ≡ slice_cmp nat_cmp one other }
+    ensures order { result ≡ value_cmp a.now b.now }
+    ensures law { IsOrder value_cmp }
+    ensures atoms { (one other : List ℕ) → a.now ≡ Value.Case one [] → b.now ≡ Value.Case other [] → result ≡ text_cmp one other }
+{
+    compare_value(a, b)
+}
+
+/// The order of lists of values, which is total. It takes no memory.
+pub fn compare_values(a: &[Value], b: &[Value]) -> Ordering
+    ensures order { result ≡ values_cmp a.now b.now }
+    ensures law { IsOrder values_cmp }
+{
+    compare_parts(a, b)
+}
+
+#[cycle(compare)]
+fn compare_value(a: &Value, b: &Value) -> Ordering
+    ensures { result ≡ value_cmp a.now b.now }
 {
     match (a, b) {
-        (Value::Case(one, _), Value::Case(other, _)) => one.cmp(other),
-        _ => Ordering::Equal,
+        (Value::Bool(truth), Value::Bool(other)) => truth.cmp(other),
+        (Value::Num(number), Value::Num(other)) => number.cmp(other),
+        (Value::Text(text), Value::Text(other)) => text.cmp(other),
+        (Value::Case(tag, parts), Value::Case(other, others)) => match tag.cmp(other) {
+            Ordering::Equal => compare_parts(parts.as_slice(), others.as_slice()),
+            unequal => unequal,
+        },
+        (Value::Fields(fields), Value::Fields(others)) => {
+            compare_fields(fields.as_slice(), others.as_slice())
+        }
+        (Value::Tuple(parts), Value::Tuple(others)) => {
+            compare_parts(parts.as_slice(), others.as_slice())
+        }
+        (Value::List(parts), Value::List(others)) => {
+            compare_parts(parts.as_slice(), others.as_slice())
+        }
+        (Value::Opt(None), Value::Opt(None)) => Ordering::Equal,
+        (Value::Opt(None), Value::Opt(Some(_))) => Ordering::Less,
+        (Value::Opt(Some(_)), Value::Opt(None)) => Ordering::Greater,
+        (Value::Opt(Some(part)), Value::Opt(Some(other))) => {
+            compare_value(part.get(), other.get())
+        }
+        _ => kind(a).cmp(&kind(b)),
+    }
+}
+
+#[cycle(compare)]
+fn compare_parts(parts: &[Value], others: &[Value]) -> Ordering
+    ensures { result ≡ values_cmp parts.now others.now }
+{
+    for (i, part) in parts.iter().enumerate() {
+        let Some(other) = others.get(i) else {
+            return Ordering::Greater;
+        };
+        match compare_value(part, other) {
+            Ordering::Equal => {}
+            unequal => return unequal,
+        }
+    }
+    parts.len().cmp(&others.len())
+}
+
+#[cycle(compare)]
+fn compare_fields(fields: &[(Name, Value)], others: &[(Name, Value)]) -> Ordering
+    ensures { result ≡ fields_cmp fields.now others.now }
+{
+    for (i, field) in fields.iter().enumerate() {
+        let Some(other) = others.get(i) else {
+            return Ordering::Greater;
+        };
+        match field.0.cmp(&other.0) {
+            Ordering::Equal => {}
+            unequal => return unequal,
+        }
+        match compare_value(&field.1, &other.1) {
+            Ordering::Equal => {}
+            unequal => return unequal,
+        }
+    }
+    fields.len().cmp(&others.len())
+}
+
+/// The place of a value's kind among the kinds.
+fn kind(value: &Value) -> u8
+    ensures { result ≡ kind_of (out-Value value.now) }
+{
+    match value {
+        Value::Bool(_) => 0,
+        Value::Num(_) => 1,
+        Value::Text(_) => 2,
+        Value::Case(_, _) => 3,
+        Value::Fields(_) => 4,
+        Value::Tuple(_) => 5,
+        Value::List(_) => 6,
+        Value::Opt(_) => 7,
     }
 }

@@ -1,11 +1,11 @@
 -- Atoms as values: their names, their texts and their order.
-use Rattle.std.proofs.Common.{◌≡◌, ℕ, List, [], ◌∷◌, ap, ◌∙◌, sym, refl}
+use Rattle.std.proofs.Common.{◌≡◌, ℕ, List, [], ap, ◌∙◌, sym, refl}
 use Rattle.std.specs.Prelude.{◌++◌, codes, decimal}
-use Rattle.std.specs.Ordering.{nat_cmp, is_gt, ordering_then}
+use Rattle.std.specs.Ordering.{nat_cmp, ordering_then}
 use Rattle.std.specs.Cmp.Lexicographic.{slice_cmp}
 use Rattle.std.specs.declared.cmp.Ordering.{Ordering}
 use Rattle.std.specs.declared.cmp.Ordering.TheVariants.{Less, Equal, Greater}
-use Rattle.st_il.specs.declared.value.Value.{Value, out-Value, fold-Value, fold_out-Value, map-Value}
+use Rattle.st_il.specs.declared.value.Value.{Value, out-Value, fold_out-Value, map-Value}
 use Rattle.st_il.specs.declared.value.Value.TheOpen.{Value-F}
 use Rattle.st_il.specs.declared.value.Value.TheVariants.{Case, outs-Case}
 use Rattle.st_il.specs.Order.{Compares, compare_at, level_cmp, value_cmp, values_cmp}

@@ -1,6 +1,6 @@
 -- What a small specification derives is what its rules give.
-use Rattle.std.proofs.Common.{◌≡◌, ℕ, List, [], ◌∷◌, ◌++◌, Option, Some, None, true, nat_eq, map, ap, ◌∙◌, sym, refl, subst, ⊎_elim, length, ◌<◌}
-use Rattle.std.specs.Prelude.{slice_get, option_map, MatchOption, bytes_eq}
+use Rattle.std.proofs.Common.{◌≡◌, ℕ, List, [], ◌∷◌, Option, Some, None, true, nat_eq, map, ap, ◌∙◌, sym, refl, subst, ⊎_elim, length, ◌<◌}
+use Rattle.std.specs.Prelude.{slice_get, option_map, MatchOption}
 use Rattle.std.specs.Option.{option_copied}
 use Rattle.std.specs.Ordering.{is_gt}
 use Rattle.st_il.specs.Order.{values_cmp}
@@ -8,10 +8,9 @@ use denote.Ref.{Bor}
 use Rattle.std.specs.Cmp.Lexicographic.{pointwise}
 use Rattle.std.proofs.lemmas.Cmp.{nat_list_eq_equiv}
 use Rattle.std.proofs.lemmas.Option.{slice_get-map, slice_get_cases}
-use Rattle.st_il.specs.declared.definition.IlDef.{IlDef}
 use Rattle.st_il.specs.declared.definition.RelationDef.{RelationDef}
 use Rattle.st_il.specs.declared.definition.RuleDef.{RuleDef}
-use Rattle.st_il.specs.declared.expression.IlExp.{IlExp, out-IlExp, IlExp-F}
+use Rattle.st_il.specs.declared.expression.IlExp.{IlExp, IlExp-F}
 use Rattle.st_il.specs.declared.expression.IlExp.TheVariants.{outs-Case}
 use Rattle.st_il.specs.declared.tree.Tree.{Tree}
 use Rattle.st_il.specs.declared.value.Env.{Env}

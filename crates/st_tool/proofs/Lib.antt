@@ -9,3 +9,9 @@ mod Terms
 mod Runnable
 mod Outcomes
 mod WrittenLemmas
+mod ReaderWords
+mod ReaderRows
+mod ReaderLines
+mod ReaderForm
+mod ReaderNames
+mod ReaderCheck

@@ -1,5 +1,5 @@
 -- Loads in order: how many were made, and what they gave.
-use Rattle.std.proofs.Common.{◌≡◌, ℕ, ◌+◌, ◌-◌, ◌^◌, ◌<◌, ◌≤◌, min, List, [], ◌∷◌, ◌++◌, length, take, ap, ◌∙◌, sym, refl, arith, subst, Option, Some, get_or, add-one}
+use Rattle.std.proofs.Common.{◌≡◌, ℕ, ◌+◌, ◌<◌, ◌≤◌, List, [], ◌∷◌, ◌++◌, length, take, ap, ◌∙◌, sym, refl, subst, Some, get_or, add-one}
 use Rattle.std.specs.Prelude.{slice_get, IfSome}
 use Rattle.std.proofs.Math.Seq.{take-suc}
 use Rattle.std.proofs.lemmas.Option.{slice_get-get_or}
@@ -8,7 +8,7 @@ use Rattle.st_outside.specs.declared.files.LoadFault.{LoadFault}
 use Rattle.st_outside.specs.declared.files.LoadFault.TheVariants as fault
 use Rattle.std.specs.Prelude.{Err}
 use Rattle.st_outside.specs.Counts.{one_more}
-use Rattle.st_tool.specs.Loads.{Held, Counts, counts_of, raised, IsGiven, AreGiven, GivesAll, FailsAt, IsTooLongAt}
+use Rattle.st_tool.specs.Loads.{Held, Counts, raised, IsGiven, AreGiven, FailsAt, IsTooLongAt}
 
 -- the files of the first names were given
 pub record HasGiven (held : Held) (limit : ℕ) (names : List (List ℕ)) (number : ℕ) (files : List (List ℕ)) (before now : Counts) : Type 0 where

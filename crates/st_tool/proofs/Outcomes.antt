@@ -1,5 +1,5 @@
 -- The outcomes of commands.
-use Rattle.std.proofs.Common.{◌≡◌, ℕ, suc, ◌+◌, ◌<◌, List, [], ◌∷◌, length, take, sym, ap, ◌∙◌, subst, refl, arith, get_or, map, string_bytes, inl, inr, ⊎_elim}
+use Rattle.std.proofs.Common.{◌≡◌, ℕ, suc, ◌<◌, List, [], ◌∷◌, length, sym, ap, ◌∙◌, subst, refl, get_or, ⊎_elim}
 use Rattle.std.specs.Prelude.{Result, Ok, Err, IfOk, Option, None, Some, MatchOption, slice_get}
 use Rattle.std.proofs.lemmas.Option.{slice_get-get_or, slice_get_cases}
 use Rattle.st_num.specs.declared.memory.NoMemory.{NoMemory}

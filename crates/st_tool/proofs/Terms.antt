@@ -1,9 +1,9 @@
 -- The atom of a term file.
-use Rattle.std.proofs.Common.{◌≡◌, ℕ, ◌+◌, ◌<◌, ◌≤◌, List, length, below_more, ◌∙◌, sym, ap, subst, Option, Some, get_or, arith}
-use Rattle.std.specs.Prelude.{slice_get, Contains}
+use Rattle.std.proofs.Common.{◌≡◌, ℕ, ◌+◌, ◌<◌, ◌≤◌, List, length, below_more, ◌∙◌, sym, ap, subst, Some, get_or, arith}
+use Rattle.std.specs.Prelude.{slice_get}
 use Rattle.std.proofs.lemmas.Option.{slice_get-get_or}
 use Rattle.st_il.specs.declared.small.Small.{Small}
-use Rattle.st_tool.specs.Outcome.{IsAtomText, IsSmallTerm, HasNoTerm}
+use Rattle.st_tool.specs.Outcome.{IsAtomText, HasNoTerm}
 
 -- the atom of this number is not the term
 abbrev pub IsPassed : List (List ℕ) → List ℕ → ℕ → Type 0

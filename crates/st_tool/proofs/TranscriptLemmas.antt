@@ -1,17 +1,15 @@
 -- The text of a run, line by line.
-use Rattle.std.proofs.Common.{◌≡◌, ℕ, ◌+◌, ◌-◌, ◌≤◌, List, [], ◌∷◌, ◌++◌, length, ap, ◌∙◌, sym, refl, append_assoc, arith, length-append, append-nil, subst}
+use Rattle.std.proofs.Common.{◌≡◌, ℕ, ◌+◌, ◌-◌, List, [], ◌∷◌, ◌++◌, length, ap, ◌∙◌, sym, refl, append_assoc, arith, length-append, append-nil, subst}
 use Rattle.std.specs.Prelude.{Result, Ok, Err, IfOk}
 use Rattle.st_num.specs.declared.memory.NoMemory.{NoMemory}
 use Rattle.st_tool.specs.declared.answer.Answer.{Answer}
 use Rattle.st_tool.proofs.Atoms.{term_line-atom}
 use Rattle.st_il.specs.declared.definition.Il.{Il}
-use Rattle.st_il.specs.Derivation.{Derivable}
 use Rattle.st_tool.specs.declared.status.Status.{Status}
 use Rattle.st_tool.specs.declared.transcript.Ending.{Ending}
-use Rattle.st_tool.specs.declared.transcript.Ending.TheVariants.{Stuck, Fuel}
 use Rattle.st_tool.specs.Outcome.{IsRunText, atom_term, default_fuel, status_of}
-use Rattle.st_tool.specs.Texts.{atom_line, term_line, term_lines, ending_line, transcript_text}
-use Rattle.st_tool.specs.Transcript.{Term, IsStuck, IsNext, Reaches, goes_on, begins, EndsBy}
+use Rattle.st_tool.specs.Texts.{atom_line, term_line, term_lines, ending_line}
+use Rattle.st_tool.specs.Transcript.{Term, IsNext, Reaches, goes_on, begins, EndsBy}
 
 -- one line more
 term_lines-append : (k : ℕ) (terms : List Term) (term : Term) → term_lines k (terms ++ term ∷ []) ≡ term_lines k terms ++ term_line (k + length terms) term

@@ -1,10 +1,8 @@
 -- What a call wrote, and what its counts say.
-use Rattle.std.proofs.Common.{◌≡◌, ℕ, ◌+◌, ◌<◌, ◌≤◌, List, Option, Some, refl, sym, ap, ◌∙◌, subst, inl, inr, arith}
-use Rattle.std.specs.Prelude.{◌⊎◌}
-use Rattle.st_outside.specs.Counts.{Rose, one_more}
+use Rattle.std.proofs.Common.{◌≡◌, ℕ, ◌<◌, ◌≤◌, List, Option, refl, ap, subst, inl, inr, arith}
+use Rattle.st_outside.specs.Counts.{one_more}
 use Rattle.st_outside.specs.Sink.{Takes}
 use Rattle.st_tool.specs.declared.loads.Loaded.{Loaded}
-use Rattle.st_tool.specs.declared.loads.Loaded.TheVariants.{Given, Failed, TooLong}
 use Rattle.st_tool.specs.declared.status.Status.{Status}
 use Rattle.st_tool.specs.declared.status.Status.TheVariants.{Done, Usage, Specification, Term, Fuel, Depth, NotRunnable, Verification, Load, Write, Memory, TooLarge, Unbuilt}
 use Rattle.st_tool.specs.declared.transcript.Ending.{Ending}

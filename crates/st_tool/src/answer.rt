@@ -8,7 +8,7 @@ ghost use Rattle.st_tool.specs.Words.{file_names};
 
 use crate::Status;
 use crate::loads::{Loaded, load_all};
-use crate::small::read_small;
+use crate::reader::read_small;
 use crate::text::{load_failed_line, unbuilt_line};
 use crate::transcript::run;
 use crate::words::{Command, read_words};

@@ -15,9 +15,11 @@ ghost use Rattle.st_tool.specs.Outcome.{Written};
 
 mod answer;
 mod loads;
-mod small;
+mod reader;
 mod status;
 mod step;
+#[cfg(test)]
+mod tests;
 mod text;
 mod transcript;
 mod words;

@@ -1,4 +1,4 @@
-use Rattle.std.proofs.Common.{◌≡◌, ◌∙◌, sym, ap, subst, ◌<◌, length}
+use Rattle.std.proofs.Common.{◌∙◌, sym, subst, ◌<◌, length}
 use Rattle.st_tool.proofs.Outcomes.{answers_failed, name_here}
 use Rattle.st_tool.proofs.answer.answer_failed.Goals as goal
 

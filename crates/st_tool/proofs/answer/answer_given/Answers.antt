@@ -1,4 +1,4 @@
-use Rattle.std.proofs.Common.{◌≡◌, ◌∙◌, sym, ap, subst, arith, length, [], ◌∷◌}
+use Rattle.std.proofs.Common.{◌≡◌, ◌∙◌, sym, ap, arith, length, [], ◌∷◌}
 use Rattle.st_tool.proofs.Lists.{two_is}
 use Rattle.st_tool.proofs.Outcomes.{answers_run}
 use Rattle.st_tool.proofs.answer.answer_given.Goals as goal

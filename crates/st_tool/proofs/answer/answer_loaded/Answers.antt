@@ -1,4 +1,4 @@
-use Rattle.std.proofs.Common.{◌≡◌, sym, subst}
+use Rattle.std.proofs.Common.{sym, subst}
 use Rattle.st_tool.proofs.Outcomes.{answers_long, Gives}
 use Rattle.st_tool.proofs.answer.answer_loaded.Goals as goal
 

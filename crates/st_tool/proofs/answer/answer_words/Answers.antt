@@ -1,5 +1,4 @@
-use Rattle.std.proofs.Common.{◌≡◌, ◌∙◌, sym, subst, map, string_bytes}
-use Rattle.st_tool.specs.Loads.{counts_of}
+use Rattle.std.proofs.Common.{◌∙◌, map, string_bytes}
 use Rattle.st_tool.proofs.Outcomes.{answers_unread, answers_read, nothing_read, command_read, loads_of}
 use Rattle.st_tool.proofs.answer.answer_words.Goals as goal
 

@@ -1,7 +1,6 @@
-use Rattle.std.proofs.Common.{◌≡◌, ℕ, List, below_more, ◌∙◌, sym, ap, subst, Some, true, false}
-use Rattle.std.specs.Prelude.{slice_get}
+use Rattle.std.proofs.Common.{sym, subst}
 use Rattle.st_tool.specs.Outcome.{IsAtomText}
-use Rattle.st_tool.proofs.Terms.{IsPassed, passes, none_left}
+use Rattle.st_tool.proofs.Terms.{passes, none_left}
 use Rattle.st_tool.proofs.answer.read_term.Goals as goal
 
 pub loop-atom-preserved : goal.loop-atom-preserved

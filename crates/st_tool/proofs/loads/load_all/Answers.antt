@@ -1,6 +1,5 @@
-use Rattle.std.proofs.Common.{◌≡◌, ◌∙◌, refl, sym, ap, subst, ◌++◌, ◌∷◌, [], Err}
-use Rattle.st_tool.specs.Loads.{counts_of}
-use Rattle.st_tool.proofs.Loading.{HasGiven, given_next, fails_next, too_long_next, nothing_given}
+use Rattle.std.proofs.Common.{◌∙◌, refl, ap, ◌++◌, ◌∷◌, [], Err}
+use Rattle.st_tool.proofs.Loading.{given_next, fails_next, too_long_next, nothing_given}
 use Rattle.st_tool.proofs.loads.load_all.Goals as goal
 
 pub loop-number-init : goal.loop-number-init

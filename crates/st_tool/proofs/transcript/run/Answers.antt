@@ -1,13 +1,10 @@
-use Rattle.std.proofs.Common.{◌≡◌, ◌≤◌, ◌++◌, ◌∙◌, sym, ap, subst, refl, arith, List, ℕ, Result, Ok, Err, IfOk}
-use Rattle.st_num.specs.declared.memory.NoMemory.{NoMemory}
-use Rattle.st_tool.specs.declared.answer.Answer.{Answer}
-use Rattle.st_tool.specs.declared.transcript.Ending.TheVariants.{Stuck, Fuel}
-use Rattle.st_tool.specs.Outcome.{IsRunText, atom_term, default_fuel}
+use Rattle.std.proofs.Common.{◌≡◌, ◌≤◌, ◌++◌, ◌∙◌, sym, ap, subst, refl, arith}
+use Rattle.st_tool.specs.declared.transcript.Ending.TheVariants.{Stuck}
+use Rattle.st_tool.specs.Outcome.{atom_term, default_fuel}
 use Rattle.st_il.specs.Small.{il_of}
-use Rattle.st_tool.specs.Texts.{term_line}
 use Rattle.st_tool.specs.Transcript.{EndsBy}
 use Rattle.st_tool.proofs.Atoms.{term_line-atom}
-use Rattle.st_tool.proofs.TranscriptLemmas.{IsUnderWay, at_start, goes_further, ends, answers}
+use Rattle.st_tool.proofs.TranscriptLemmas.{IsUnderWay, at_start, goes_further, answers}
 use Rattle.st_tool.proofs.transcript.run.Goals as goal
 use Rattle.st_tool.proofs.transcript.run.Goals.{in-None-next_atom, in-Some-next_atom}
 

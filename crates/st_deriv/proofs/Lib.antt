@@ -1,0 +1,6 @@
+mod Parts
+mod Values
+mod LineKinds
+mod Whole
+mod LineFeeds
+mod Printing

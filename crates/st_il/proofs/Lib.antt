@@ -1,0 +1,11 @@
+pub mod Induction
+pub mod HeightLemmas
+pub mod OrderLemmas
+pub mod OrderLaws
+pub mod TemplateForms
+pub mod ReadingComplete
+pub mod ReadingSound
+pub mod TagWords
+pub mod Atoms
+pub mod Tags
+pub mod ReadingLoop

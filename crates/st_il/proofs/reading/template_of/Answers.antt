@@ -1,0 +1,8 @@
+use Rattle.st_il.proofs.Tags.{one_template}
+use Rattle.st_il.proofs.reading.template_of.Goals as goal
+
+pub returns-in_err-found-clause-one : goal.returns-in_err-found-clause-one
+returns-in_err-found-clause-one c = one_template c.args.tag.now
+
+pub returns-clause-one : goal.returns-clause-one
+returns-clause-one c = one_template c.args.tag.now

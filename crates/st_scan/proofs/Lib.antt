@@ -1,0 +1,12 @@
+pub mod Tables
+pub mod Texts
+pub mod Spelled
+pub mod Runs
+pub mod Gaps
+pub mod Places
+pub mod Readings
+pub mod Numbers
+pub mod TextReadings
+pub mod Steps
+pub mod TextBytes
+pub mod Answers

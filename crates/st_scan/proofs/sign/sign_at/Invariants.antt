@@ -1,0 +1,9 @@
+use Rattle.std.proofs.Common.{◌≡◌, ◌<◌, ◌++◌, List, ℕ, get_or}
+use Rattle.st_num.specs.Signs.{spelling}
+use Rattle.st_num.specs.declared.mark.Mark.TheVariants.{Turnstile}
+use Rattle.st_scan.specs.declared.sign.TheConstants.{SIGNS}
+use Rattle.st_scan.proofs.sign.sign_at.Given as goal
+
+-- no sign so far stands at the front
+abbrev pub invariant-loop-mark : goal.invariant-loop-mark
+invariant-loop-mark l = (k : ℕ) (rest : List ℕ) → k < l.mark-index → ¬ (l.bytes ≡ spelling (get_or SIGNS k Turnstile) ++ rest)

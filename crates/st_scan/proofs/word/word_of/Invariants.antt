@@ -1,0 +1,9 @@
+use Rattle.std.proofs.Common.{◌≡◌, ◌<◌, ℕ, get_or}
+use Rattle.st_scan.specs.Words.{word_spelling}
+use Rattle.st_scan.specs.declared.word.TheConstants.{WORDS}
+use Rattle.st_scan.specs.declared.word.Word.TheVariants.{Syntax}
+use Rattle.st_scan.proofs.word.word_of.Given as goal
+
+-- no word so far is spelled so
+abbrev pub invariant-loop-word : goal.invariant-loop-word
+invariant-loop-word l = (k : ℕ) → k < l.word-index → ¬ (l.name ≡ word_spelling (get_or WORDS k Syntax))

@@ -1,0 +1,13 @@
+pub mod Bytes
+pub mod Words
+pub mod Spelling
+pub mod Gaps
+pub mod Places
+pub mod Signs
+pub mod Tokens
+pub mod Faults
+pub mod Answers
+pub mod TextPieces
+pub mod NumberFronts
+pub mod Readings
+pub mod Steps

@@ -1,0 +1,25 @@
+//! Tokens: what stands in a file, from its bytes.
+//!
+//! The one idea: blanks and comments stand between tokens, and each token is the longest that
+//! stands at its place. What a token is written as is a relation that knows no reading.
+//!
+//! Read `token` and `scanner` first, with `specs/Spelling.antt`, `specs/Tokens.antt` and
+//! `specs/Faults.antt`. The rules are in `docs/language.md`, "Tokens".
+#![tactic(auto)]
+
+mod gap;
+mod name;
+mod number;
+mod place;
+mod read;
+mod scanner;
+mod sign;
+#[cfg(test)]
+mod tests;
+mod text;
+mod token;
+mod word;
+
+pub use scanner::scan;
+pub use token::{LexFault, Token, TokenKind};
+pub use word::Word;
