@@ -11,3 +11,5 @@ mod Shapes
 pub mod NameSets
 pub mod SmallUnique
 mod LineTrees
+pub mod Lines
+mod SmallRules

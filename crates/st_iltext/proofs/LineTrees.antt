@@ -16,7 +16,7 @@ use Rattle.st_iltext.proofs.SmallTrees.{syntax_tree-is, relation_tree, rule_tree
 
 -- ---- the first line
 
-syntax_text : (x : List ℕ) (atoms : List (List ℕ)) → IsSyntax x atoms → (line : List ℕ) → line ≡ syntax_line x atoms → TreeText (syntax_shape x atoms) line
+pub syntax_text : (x : List ℕ) (atoms : List (List ℕ)) → IsSyntax x atoms → (line : List ℕ) → line ≡ syntax_line x atoms → TreeText (syntax_shape x atoms) line
 unfolding syntax_line
 syntax_text x atoms is line e =
     subst (λ t. TreeText t line) (syntax_tree-is x atoms) (record { has = syntax_has_text x atoms is.syntax is.atoms; is = e })
@@ -50,7 +50,7 @@ syntax_yes line t x ts tags is shape row = is.is ∙ ap text (shape ∙ ap (synt
 
 -- ---- the second line
 
-relation_text : (r x : List ℕ) → IsWordOf IsUpper r → IsWordOf IsLower x → (line : List ℕ) → line ≡ relation_line r x → TreeText (relation_shape r x) line
+pub relation_text : (r x : List ℕ) → IsWordOf IsUpper r → IsWordOf IsLower x → (line : List ℕ) → line ≡ relation_line r x → TreeText (relation_shape r x) line
 unfolding relation_line
 relation_text r x upper lower line e =
     subst (λ t. TreeText t line) (relation_tree r x) (record { has = relation_has_text r x upper lower; is = e })
@@ -73,7 +73,7 @@ relation_yes line r x t is shape = is.is ∙ ap text (shape ∙ sym (relation_tr
 
 -- ---- the line of a rule
 
-rule_text : (head : Head) (rule : SmallRule) → IsSmall (small_of head []) → IsSmallRule head.atoms rule → (line : List ℕ) → line ≡ rule_line head rule → TreeText (rule_shape head.relation head.syntax rule) line
+pub rule_text : (head : Head) (rule : SmallRule) → IsSmall (small_of head []) → IsSmallRule head.atoms rule → (line : List ℕ) → line ≡ rule_line head rule → TreeText (rule_shape head.relation head.syntax rule) line
 unfolding rule_line
 rule_text head rule small is line e =
     subst (λ t. TreeText t line) (rule_tree head.relation head.syntax rule)

@@ -8,7 +8,6 @@
 //! `docs/internal-language.md`.
 #![tactic(auto)]
 
-mod build;
 mod definition;
 mod expression;
 mod fault;

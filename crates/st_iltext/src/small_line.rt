@@ -1,6 +1,6 @@
 //! The lines of a small internal language.
 
-ghost use Rattle.std.specs.Prelude.{◌≡◌, ◌≢◌, ◌↔◌, ℕ, List, [], ◌∷◌, ◌++◌, IsTrue, IfOk, MatchOption};
+ghost use Rattle.std.specs.Prelude.{◌≡◌, ◌≢◌, ◌↔◌, ◌+◌, ◌≤◌, ℕ, List, [], ◌∷◌, ◌++◌, IsTrue, IfOk, MatchOption};
 ghost use Rattle.st_il.specs.declared.small.SmallRule.{SmallRule as Rule};
 ghost use Rattle.st_il.specs.Small.{IsLower, IsUpper, IsWordOf, IsSmall, IsSmallRule, rule_names};
 ghost use Rattle.st_iltext.specs.IlText.{lines_text};
@@ -200,4 +200,14 @@ pub fn read_rules(alloc: Global, head: &Head, bytes: &[u8]) -> Result<Row<SmallR
         rest = behind;
     }
     Ok(rules)
+}
+
+/// The fault at the line behind so many rules.
+fn malformed_rule(count: usize) -> TextFault
+    requires { count ≤ 65533 }
+    ensures { result ≡ TextFault.Malformed (count + 3) }
+{
+    TextFault::Malformed {
+        line: count as u64 + 3,
+    }
 }
