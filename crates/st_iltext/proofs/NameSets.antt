@@ -108,3 +108,7 @@ all_passed P xs i end all = subst (All P) (take_all i xs end) all
 
 pub not_empty : {X : Type 0} (xs : List X) (answer : Bool) → answer ≡ (length xs == 0) → answer ≡ false → xs ≢ []
 not_empty xs answer told other same = true≢false (sym (told ∙ ap (λ ys. length ys == 0) same) ∙ other)
+
+pub empty_of : {X : Type 0} (xs : List X) (answer : Bool) → answer ≡ (length xs == 0) → answer ≡ true → xs ≡ []
+empty_of [] answer told is = refl
+empty_of (x ∷ xs) answer told is = grind arith

@@ -71,9 +71,9 @@ small_front head rules others small = record {
   rules = λ k d h. subst (IsSmallRule head.atoms) (get_or_append_left rules others d k h) (small.rules k d (omega (arith, length-append rules others)));
   few_rules = omega (arith, small.few_rules, length-append rules others);
   distinct_rules = λ i j d before within.
-    let longer : j < length (rule_names (rules ++ others)) = rw length-map (omega (arith, length-append rules others, length-map rules (λ (r : SmallRule). r.name))) in
-    let names = map-append (λ (r : SmallRule). r.name) rules others in
-    λ same. small.distinct_rules i j d before longer
+      let longer : j < length (rule_names (rules ++ others)) = rw length-map (omega (arith, length-append rules others, length-map rules (λ (r : SmallRule). r.name))) in
+      let names = map-append (λ (r : SmallRule). r.name) rules others in
+      λ same. small.distinct_rules i j d before longer
       (ap (λ ns. get_or ns i d) names ∙ get_or_append_left (rule_names rules) (rule_names others) d i (omega arith) ∙ same
       ∙ sym (get_or_append_left (rule_names rules) (rule_names others) d j within) ∙ ap (λ ns. get_or ns j d) (sym names));
 }

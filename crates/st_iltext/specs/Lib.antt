@@ -11,3 +11,4 @@ pub mod SmallForms
 pub mod SmallShapes
 pub mod Names
 pub mod SmallReading
+pub mod IlLaws

@@ -8,7 +8,8 @@ use Rattle.st_iltext.specs.declared.fault.TextFault.TheVariants.{Malformed, Memo
 use Rattle.st_iltext.specs.declared.small_line.Head.{Head}
 use Rattle.st_iltext.specs.Text.{text}
 use Rattle.st_iltext.specs.Definitions.{definition_tree}
-use Rattle.st_iltext.specs.IlText.{lines_text}
+use Rattle.std.specs.Borrow.{Bor}
+use Rattle.st_iltext.specs.IlText.{lines_text, IsNoIl, IsFirstBadLine}
 
 -- the three kinds of lines
 unfoldable pub syntax_line : List ℕ → List (List ℕ) → List ℕ
@@ -55,3 +56,12 @@ abbrev pub ReadsRules : Head → List ℕ → Result (List SmallRule) TextFault 
 ReadsRules head bytes (Ok rules) = IsSmall (small_of head rules) × (bytes ≡ lines_text (rule_lines head rules))
 ReadsRules head bytes (Err (Malformed line)) = StopsAt head bytes line
 ReadsRules head bytes (Err Memory) = Unit {0}
+
+-- the first two lines
+abbrev pub head_lines : Head → List (List ℕ)
+head_lines head = syntax_line head.syntax head.atoms ∷ relation_line head.relation head.syntax ∷ []
+
+abbrev pub ReadsHead : List ℕ → Result (Head × Bor (List ℕ)) TextFault → Type 0
+ReadsHead bytes (Ok read) = IsSmall (small_of read.0 []) × (bytes ≡ lines_text (head_lines read.0) ++ read.1.now)
+ReadsHead bytes (Err (Malformed line)) = IsNoIl bytes × IsFirstBadLine bytes line
+ReadsHead bytes (Err Memory) = Unit {0}

@@ -102,7 +102,7 @@ pub fn four(trees: &[TextTree]) -> Option<(&TextTree, &TextTree, &TextTree, &Tex
     ensures { MatchOption result
         ((t u v w : spec.TextTree) → trees_of trees.now ≢ more t (more u (more v (more w none))))
         (λ four. trees_of trees.now ≡ more (tree_of four.0.now) (more (tree_of four.1.now)
-            (more (tree_of four.2.now) (more (tree_of four.3.now) none)))) }
+        (more (tree_of four.2.now) (more (tree_of four.3.now) none)))) }
 {
     let (first, others) = trees.split_first()?;
     let (second, others) = others.split_first()?;

@@ -114,9 +114,9 @@ fn read_atom<'a>(tree: &'a TextTree, syntax: &Name) -> Option<&'a Name>
 fn read_atoms<'a>(tree: &'a TextTree, syntax: &Name) -> Option<(&'a Name, &'a Name)>
     ensures { MatchOption result
         ((from to : List ℕ) → tree_of tree.now
-            ≢ group (atom_shape syntax.now from ∷ atom_shape syntax.now to ∷ []))
+        ≢ group (atom_shape syntax.now from ∷ atom_shape syntax.now to ∷ []))
         (λ pair. tree_of tree.now
-            ≡ group (atom_shape syntax.now pair.0.now ∷ atom_shape syntax.now pair.1.now ∷ [])) }
+        ≡ group (atom_shape syntax.now pair.0.now ∷ atom_shape syntax.now pair.1.now ∷ [])) }
 {
     let (from, to) = two(list_parts(tree)?)?;
     let from = read_atom(from, syntax)?;
@@ -134,7 +134,7 @@ pub fn read_rule<'a>(
     ensures { MatchOption result
         ((rule : Rule) → tree_of tree.now ≢ rule_shape relation.now syntax.now rule)
         (λ r. tree_of tree.now
-            ≡ rule_shape relation.now syntax.now (rule_of r.0.now r.1.now r.2.now)) }
+        ≡ rule_shape relation.now syntax.now (rule_of r.0.now r.1.now r.2.now)) }
 {
     let (of, name, variables, conclusion) = four(form_parts(tree, b"rule")?)?;
     let name = quoted(name)?;

@@ -5,7 +5,7 @@ ghost use Rattle.st_il.specs.declared.small.SmallRule.{SmallRule as Rule};
 ghost use Rattle.st_il.specs.Small.{IsLower, IsUpper, IsWordOf, IsSmall, IsSmallRule, rule_names};
 ghost use Rattle.st_iltext.specs.IlText.{lines_text};
 ghost use Rattle.st_iltext.specs.Reading.{IsNoTree};
-ghost use Rattle.st_iltext.specs.SmallReading.{IsSyntax, syntax_line, relation_line, rule_line, small_of, ReadsRules};
+ghost use Rattle.st_iltext.specs.SmallReading.{IsSyntax, syntax_line, relation_line, rule_line, small_of, ReadsHead, ReadsRules};
 ghost use Rattle.st_iltext.specs.SmallShapes.{rule_of};
 ghost use Rattle.st_iltext.specs.Text.{TreeText};
 ghost use Rattle.st_iltext.specs.Trees.{tree_of};
@@ -63,10 +63,7 @@ fn is_syntax(alloc: Global, syntax: &Name, atoms: &[Name]) -> Result<bool, NoMem
 }
 
 /// The syntax and the atoms of the first line.
-pub fn read_syntax_line(
-    alloc: Global,
-    line: &[u8],
-) -> Result<Option<(Name, Row<Name>)>, NoMemory>
+fn read_syntax_line(alloc: Global, line: &[u8]) -> Result<Option<(Name, Row<Name>)>, NoMemory>
     ensures { IfOk result (λ read. MatchOption read
         ((x : List ℕ) (atoms : List (List ℕ)) → IsSyntax x atoms → line.now ≢ syntax_line x atoms)
         (λ r. IsSyntax r.0 r.1 × (line.now ≡ syntax_line r.0 r.1))) }
@@ -87,11 +84,7 @@ pub fn read_syntax_line(
 }
 
 /// The relation of the second line.
-pub fn read_relation_line(
-    alloc: Global,
-    line: &[u8],
-    syntax: &Name,
-) -> Result<Option<Name>, NoMemory>
+fn read_relation_line(alloc: Global, line: &[u8], syntax: &Name) -> Result<Option<Name>, NoMemory>
     requires { IsWordOf IsLower syntax.now }
     ensures { IfOk result (λ read. MatchOption read
         ((r : List ℕ) → IsWordOf IsUpper r → line.now ≢ relation_line r syntax.now)
@@ -107,6 +100,30 @@ pub fn read_relation_line(
         return Ok(None);
     }
     Ok(Some(relation.copy(alloc)?))
+}
+
+/// The first two lines, and what stands behind them.
+pub fn read_head(alloc: Global, bytes: &[u8]) -> Result<(Head, &[u8]), TextFault>
+    ensures { ReadsHead bytes.now result }
+{
+    let Some((line, rest)) = next_line(bytes) else {
+        return Err(TextFault::Malformed { line: 1 });
+    };
+    let Some((syntax, atoms)) = read_syntax_line(alloc, line)? else {
+        return Err(TextFault::Malformed { line: 1 });
+    };
+    let Some((line, behind)) = next_line(rest) else {
+        return Err(TextFault::Malformed { line: 2 });
+    };
+    let Some(relation) = read_relation_line(alloc, line, &syntax)? else {
+        return Err(TextFault::Malformed { line: 2 });
+    };
+    let head = Head {
+        syntax,
+        atoms,
+        relation,
+    };
+    Ok((head, behind))
 }
 
 /// Whether a rule may have this name and go between these two names.
@@ -160,10 +177,10 @@ fn next_rule(
         × (names.old.keys ≡ rule_names rules.now) }
     ensures { IfOk result (λ read. MatchOption read
         ((rule : Rule) → IsSmall (small_of head.now (rules.now ++ rule ∷ []))
-            → line.now ≢ rule_line head.now rule)
+        → line.now ≢ rule_line head.now rule)
         (λ rule. IsSmall (small_of head.now (rules.now ++ rule ∷ []))
-            × (line.now ≡ rule_line head.now rule)
-            × (names.new.keys ≡ rule_names (rules.now ++ rule ∷ [])))) }
+        × (line.now ≡ rule_line head.now rule)
+        × (names.new.keys ≡ rule_names (rules.now ++ rule ∷ [])))) }
 {
     if rules.len() == MAX_RULES {
         return Ok(None);

@@ -4,7 +4,7 @@ use Rattle.st_il.specs.Small.{IsSmall}
 use Rattle.st_iltext.specs.declared.fault.TextFault.TheVariants.{Malformed}
 use Rattle.st_iltext.specs.IlText.{lines_text}
 use Rattle.st_iltext.specs.SmallReading.{small_of, rule_lines}
-use Rattle.st_iltext.proofs.NameSets.{not_empty}
+use Rattle.st_iltext.proofs.NameSets.{not_empty, empty_of}
 use Rattle.st_iltext.proofs.SmallRules.{stops, no_rule_line, no_rule}
 use Rattle.st_iltext.proofs.small_line.read_rules.Goals as goal
 
@@ -27,4 +27,6 @@ returns-in_default-2 c =
 
 pub returns : goal.returns
 returns c =
-    let kept = c.lines.invariant in ?
+    let kept = c.lines.invariant in
+    let none = empty_of _ _ c.is_empty.ensures c.lines-test.false in
+    (kept.small, kept.is ∙ ap (λ rest. lines_text (rule_lines c.args.head.now c.lines.rules) ++ rest) none ∙ append-nil (lines_text (rule_lines c.args.head.now c.lines.rules)))
