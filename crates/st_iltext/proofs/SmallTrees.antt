@@ -22,29 +22,10 @@ use Rattle.st_iltext.specs.Expressions.{form, group, ty_tree, exp_tree}
 use Rattle.st_iltext.specs.Definitions.{definition_tree, alternative_tree}
 use Rattle.st_iltext.specs.IlText.{IlText, il_lines, lines_text}
 use Rattle.st_iltext.specs.SmallForms.{IsAtom, IsOfAtoms}
+use Rattle.st_iltext.specs.SmallShapes.{tag_shape, syntax_shape, hole_shape, relation_shape, atom_shape, rule_shape}
 use Rattle.st_iltext.proofs.CutOff.{drop-next}
 
 -- ---- shapes
-
-abbrev pub tag_shape : List ℕ → TextTree
-tag_shape tag = form (codes "case") (quote tag ∷ [])
-
-abbrev pub syntax_shape : List ℕ → List (List ℕ) → TextTree
-syntax_shape x atoms = form (codes "syntax") (quote x ∷ form (codes "variant") (map tag_shape atoms) ∷ [])
-
-abbrev pub hole_shape : List ℕ → TextTree
-hole_shape x = form (codes "n") (quote x ∷ [])
-
-abbrev pub relation_shape : List ℕ → List ℕ → TextTree
-relation_shape r x =
-    form (codes "relation") (quote r ∷ quote (codes "% ~> %") ∷ group (hole_shape x ∷ hole_shape x ∷ []) ∷ form (codes "mode") [] ∷ [])
-
-abbrev pub atom_shape : List ℕ → List ℕ → TextTree
-atom_shape x tag = form (codes "case") (quote x ∷ quote tag ∷ [])
-
-abbrev pub rule_shape : List ℕ → List ℕ → SmallRule → TextTree
-rule_shape r x rule =
-    form (codes "rule") (quote r ∷ quote rule.name ∷ group [] ∷ group (atom_shape x rule.from ∷ atom_shape x rule.to ∷ []) ∷ [])
 
 pub ty_tree-Name : (x : List ℕ) → ty_tree (Name x) ≡ hole_shape x
 ty_tree-Name x = search (rules, ty.the_lemmas)
@@ -56,8 +37,8 @@ tags_tree : (atoms : List (List ℕ)) → map alternative_tree (map (λ atom. Al
 tags_tree [] = refl
 tags_tree (a ∷ atoms) = ap (λ ts. tag_shape a ∷ ts) (tags_tree atoms)
 
-pub syntax_tree : (x : List ℕ) (atoms : List (List ℕ)) → definition_tree (syntax_def x atoms) ≡ syntax_shape x atoms
-syntax_tree x atoms = ap (λ ts. form (codes "syntax") (quote x ∷ form (codes "variant") ts ∷ [])) (tags_tree atoms)
+pub syntax_tree-is : (x : List ℕ) (atoms : List (List ℕ)) → definition_tree (syntax_def x atoms) ≡ syntax_shape x atoms
+syntax_tree-is x atoms = ap (λ ts. form (codes "syntax") (quote x ∷ form (codes "variant") ts ∷ [])) (tags_tree atoms)
 
 pub relation_tree : (r x : List ℕ) → definition_tree (relation_def r x) ≡ relation_shape r x
 relation_tree r x = ap (λ t. form (codes "relation") (quote r ∷ quote (codes "% ~> %") ∷ group (t ∷ t ∷ []) ∷ form (codes "mode") [] ∷ [])) (ty_tree-Name x)
@@ -102,7 +83,7 @@ shallow_tags [] = omega arith
 shallow_tags (a ∷ atoms) = omega (arith, shallow_tags atoms)
 
 pub syntax_has_text : (x : List ℕ) (atoms : List (List ℕ)) → IsWordOf IsLower x → All (IsWordOf IsUpper) atoms → HasText (definition_tree (syntax_def x atoms))
-syntax_has_text x atoms lower upper = subst HasText (sym (syntax_tree x atoms)) (record {
+syntax_has_text x atoms lower upper = subst HasText (sym (syntax_tree-is x atoms)) (record {
   spelled = ((omega arith, refl), (lower_text x lower, (((omega arith, refl), spelled_tags atoms upper), tt)));
   shallow = omega (arith, shallow_tags atoms);
 })

@@ -8,3 +8,7 @@ pub mod Expressions
 pub mod Definitions
 pub mod IlText
 pub mod SmallForms
+pub mod SmallShapes
+pub mod Names
+pub mod SmallReading
+pub mod IlLaws

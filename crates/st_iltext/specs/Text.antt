@@ -1,6 +1,7 @@
 -- Text trees: words, quoted texts and lists in parentheses, each of one spelling.
-use Rattle.std.specs.Prelude.{◌≡◌, ℕ, ◌+◌, ◌≤◌, max, List, [], ◌∷◌, ◌++◌, length, flat_map, Bool, true, ◌&&◌, ◌||◌, ◌==◌, nat_le, if◌then◌else◌, ◌⊎◌, IsUtf8}
-use Rattle.std.specs.List.{All, list_all}
+use Rattle.std.specs.Prelude.{◌≡◌, ℕ, ◌+◌, ◌≤◌, max, List, [], ◌∷◌, ◌++◌, length, flat_map, Bool, true, ◌&&◌, ◌||◌, ◌==◌, nat_le, if◌then◌else◌, ◌⊎◌}
+use Rattle.std.specs.List.{list_all}
+pub use Rattle.st_il.specs.Value.{IsTextByte, IsText}
 
 mutual
   pub data TextTree : Type 0 where
@@ -58,15 +59,6 @@ is_word_byte b =
 
 abbrev pub IsWord : List ℕ → Type 0
 IsWord w = (1 ≤ length w) × (list_all is_word_byte w ≡ true)
-
--- a byte that is no control character, or a line feed or a tab
-abbrev pub IsTextByte : ℕ → Type 0
-IsTextByte byte = (32 ≤ byte) ⊎ (byte ≡ 10) ⊎ (byte ≡ 9)
-
--- UTF-8 whose only characters below U+0020 are line feeds and tabs
-pub record IsText (bytes : List ℕ) : Type 0 where
-  pub utf8 : IsUtf8 bytes
-  pub printable : All IsTextByte bytes
 
 -- its words are words, and its quoted texts are texts
 abbrev mutual

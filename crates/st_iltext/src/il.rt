@@ -1,6 +1,7 @@
 //! The text of an internal language.
 
-ghost use Rattle.std.specs.Prelude.{◌≡◌, ◌++◌, ◌∷◌, [], OnOk, OnErr, map, flat_map};
+ghost use Rattle.std.specs.Prelude.{◌≡◌, ◌++◌, ◌∷◌, [], OnOk, OnErr, MatchResult};
+ghost use Rattle.st_il.specs.declared.definition.Il.{Il as Language};
 ghost use Rattle.st_il.specs.Small.{IsSmallIl};
 ghost use Rattle.st_iltext.specs.Definitions.{definition_tree};
 ghost use Rattle.st_iltext.specs.IlText.{IlText, il_lines, lines_text, ReadsIl};
@@ -8,9 +9,11 @@ ghost use Rattle.st_iltext.specs.Printing.{IsCutOff};
 ghost use Rattle.st_iltext.specs.SmallForms.{IsOfAtoms};
 ghost use Rattle.st_iltext.specs.Text.{text};
 
+use crate::TextFault;
 use crate::definition::definition_tree;
 use crate::print::print_tree;
-use st_il::{Il, IlDef};
+use crate::small_line::{Head, read_head, read_rules};
+use st_il::{Il, IlDef, Small, il_of_small};
 use st_num::NoMemory;
 use std::alloc::Global;
 
@@ -40,4 +43,26 @@ pub fn print_il(alloc: Global, il: &Il, out: &mut Vec<u8>) -> Result<(), NoMemor
         print_line(alloc, def, out)?;
     }
     Ok(())
+}
+
+/// The internal language whose text the bytes are.
+pub fn read_il(alloc: Global, bytes: &[u8]) -> Result<Il, TextFault>
+    ensures read { ReadsIl bytes.now result }
+    ensures back { (il : Language) → IlText il bytes.now →
+        MatchResult result (λ read. read ≡ il) (λ fault. fault ≡ TextFault.Memory) }
+{
+    let (head, rest) = read_head(alloc, bytes)?;
+    let rules = read_rules(alloc, &head, rest)?;
+    let Head {
+        syntax,
+        atoms,
+        relation,
+    } = head;
+    let small = Small {
+        syntax,
+        atoms,
+        relation,
+        rules,
+    };
+    Ok(il_of_small(alloc, &small)?)
 }

@@ -1,6 +1,7 @@
 //! What holds of all texts.
 
 ghost use Rattle.st_iltext.specs.Laws.{OneText, OneTree, OneRow, OneFront, NoFrontOfAnother};
+ghost use Rattle.st_iltext.specs.IlLaws.{OneIlText, OneIl};
 
 /// A tree has one text, and bytes are the text of one tree, or of one row of trees.
 pub fn one_text_one_tree()
@@ -14,4 +15,10 @@ pub fn one_text_one_tree()
 pub fn texts_end()
     ensures front { OneFront }
     ensures no_front { NoFrontOfAnother }
+{}
+
+/// An internal language has one text, and a text one internal language.
+pub fn one_text_one_il()
+    ensures text { OneIlText }
+    ensures il { OneIl }
 {}

@@ -15,18 +15,23 @@ mod form;
 mod front;
 mod il;
 mod law;
+mod line;
+mod name;
 mod number;
 mod print;
 mod quote;
 mod read;
+mod shape;
+mod small;
+mod small_line;
 #[cfg(test)]
 mod tests;
 mod tree;
 mod word;
 
 pub use fault::TextFault;
-pub use il::print_il;
-pub use law::{one_text_one_tree, texts_end};
+pub use il::{print_il, read_il};
+pub use law::{one_text_one_il, one_text_one_tree, texts_end};
 pub use number::{print_natural, read_integer, read_natural};
 pub use print::{print_quoted, print_row, print_tree};
 pub use read::{read_front, read_row, read_tree};

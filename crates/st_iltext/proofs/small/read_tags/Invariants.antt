@@ -1,0 +1,7 @@
+use Rattle.std.proofs.Common.{◌≡◌, map, take}
+use Rattle.st_iltext.specs.SmallShapes.{tag_shape}
+use Rattle.st_iltext.specs.Trees.{tree_of}
+use Rattle.st_iltext.proofs.small.read_tags.Given as goal
+
+abbrev pub invariant-loop-tree : goal.invariant-loop-tree
+invariant-loop-tree l = map tree_of (take l.tree-index l.trees) ≡ map tag_shape l.tags

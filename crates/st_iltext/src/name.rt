@@ -1,0 +1,125 @@
+//! What is asked of names, and sets of them.
+
+ghost use Rattle.std.specs.Prelude.{◌≡◌, ◌↔◌, All, Contains, IsTrue, IfOk, MatchOption};
+ghost use Rattle.st_il.specs.Small.{IsLower, IsUpper, IsWordOf, reserved, AreDistinct};
+ghost use Rattle.st_iltext.specs.Names.{Adds, names_of};
+
+use indexmap::IndexSet;
+use st_num::{Name, NoMemory};
+use std::alloc::Global;
+
+/// The words that name no syntax.
+const RESERVED: [&[u8]; 18] = [
+    b"syntax",
+    b"relation",
+    b"rule",
+    b"var",
+    b"def",
+    b"grammar",
+    b"hint",
+    b"if",
+    b"otherwise",
+    b"eps",
+    b"true",
+    b"false",
+    b"bool",
+    b"nat",
+    b"int",
+    b"text",
+    b"rat",
+    b"real",
+];
+
+fn is_among(word: &[u8], words: &[&[u8]]) -> bool
+    ensures { IsTrue result ↔ Contains (names_of words.now) word.now }
+{
+    words.contains(&word)
+}
+
+/// Whether the word names no syntax.
+pub fn is_reserved(word: &[u8]) -> bool
+    ensures { IsTrue result ↔ Contains reserved word.now }
+{
+    is_among(word, &RESERVED)
+}
+
+fn is_lower(byte: u8) -> bool
+    ensures { IsTrue result ↔ IsLower byte }
+{
+    b'a' <= byte && byte <= b'z'
+}
+
+/// Whether the word has lower-case letters, one at least, and nothing else.
+pub fn is_lower_word(word: &[u8]) -> bool
+    ensures { IsTrue result ↔ IsWordOf IsLower word.now }
+{
+    if word.is_empty() {
+        return false;
+    }
+    for byte in word {
+        if !is_lower(*byte) {
+            return false;
+        }
+    }
+    true
+}
+
+fn is_upper(byte: u8) -> bool
+    ensures { IsTrue result ↔ IsUpper byte }
+{
+    b'A' <= byte && byte <= b'Z'
+}
+
+/// Whether the word has upper-case letters, one at least, and nothing else.
+pub fn is_upper_word(word: &[u8]) -> bool
+    ensures { IsTrue result ↔ IsWordOf IsUpper word.now }
+{
+    if word.is_empty() {
+        return false;
+    }
+    for byte in word {
+        if !is_upper(*byte) {
+            return false;
+        }
+    }
+    true
+}
+
+/// Whether each is a word of upper-case letters.
+pub fn are_upper_words(words: &[Name]) -> bool
+    ensures { IsTrue result ↔ All (IsWordOf IsUpper) words.now }
+{
+    for word in words {
+        if !is_upper_word(word.as_slice()) {
+            return false;
+        }
+    }
+    true
+}
+
+/// Adds a name, and answers whether it was not there.
+pub fn add_name(names: &mut IndexSet<Name>, name: Name) -> Result<bool, NoMemory>
+    ensures { IfOk result (Adds names.old.keys name names.new.keys) }
+{
+    Ok(names.insert(name)?)
+}
+
+pub fn has_name(names: &IndexSet<Name>, name: &Name) -> bool
+    ensures { IsTrue result ↔ Contains names.now.keys name.now }
+{
+    names.contains(name)
+}
+
+/// The set of these names, where no two are equal.
+pub fn distinct_names(alloc: Global, names: &[Name]) -> Result<Option<IndexSet<Name>>, NoMemory>
+    ensures { IfOk result (λ read. MatchOption read (¬ (AreDistinct names.now))
+        (λ set. AreDistinct names.now × (set.keys ≡ names.now))) }
+{
+    let mut set = IndexSet::new(alloc);
+    for name in names {
+        if !add_name(&mut set, name.copy(alloc)?)? {
+            return Ok(None);
+        }
+    }
+    Ok(Some(set))
+}
