@@ -9,7 +9,7 @@ use Rattle.st_il.specs.declared.value.Value.{Value, out-Value, fold_out-Value, m
 use Rattle.st_il.specs.declared.value.Value.TheOpen.{Value-F}
 use Rattle.st_il.specs.declared.value.Value.TheVariants.{Case, outs-Case}
 use Rattle.st_il.specs.Order.{Compares, compare_at, level_cmp, value_cmp, values_cmp}
-use Rattle.st_tool.specs.Outcome.{atom_term}
+use Rattle.st_tool.specs.Transcript.{atom_term}
 use Rattle.st_tool.specs.Texts.{value_text, layer_text, term_line, atom_line}
 
 -- an atom has one name

@@ -20,10 +20,9 @@ use Rattle.st_il.specs.Derivation.{relations, rules_of, IsRelation, Derivable, I
 use Rattle.st_il.specs.Evaluation.{HasValue, HaveValues, case}
 use Rattle.st_il.specs.declared.small.Small.{Small}
 use Rattle.st_il.specs.declared.small.SmallRule.{SmallRule}
-use Rattle.st_tool.specs.Outcome.{atom_term}
 use Rattle.st_il.specs.Small.{atom_exp, rule_def, il_of}
-use Rattle.st_tool.specs.Step.{Gives, IsLeastOf, IsAtMost}
-use Rattle.st_tool.specs.Transcript.{Term, IsStuck, IsNext}
+use Rattle.st_tool.specs.Step.{Gives, IsLeastOf, IsAtMost, IsNextRule}
+use Rattle.st_tool.specs.Transcript.{Term, atom_term, IsStuck, IsNext}
 use Rattle.st_tool.proofs.Atoms.{atom_name, values_cmp-atoms}
 
 -- the record of a rule
@@ -132,19 +131,25 @@ none_is_stuck s from least next derivable =
     let (to, is, gives) = derivable_gives s from next derivable in
     least.none refl gives.0 gives.1 (slice_get-lt s.rules gives.0 gives.1 gives.2) gives.2 gives.3
 
-least_is_next : (s : Small) (from to : List ℕ) → IsLeastOf s.rules from (length s.rules) (Some to) → IsNext (il_of s) 0 (atom_term from) (atom_term to)
-least_is_next s from to least =
+least_is_next : (s : Small) (from : List ℕ) (rule : SmallRule) → IsLeastOf s.rules from (length s.rules) (Some rule) → IsNextRule s from rule
+least_is_next s from rule least =
+    let here = least.some rule refl in
     record {
-      derivable = gives_derivable s from to (least.some to refl);
-      least = λ next derivable.
-          let (other, is, gives) = derivable_gives s from next derivable in
-          let at_most = subst (λ x. IsAtMost to x) gives.4 (least.least to refl gives.0 gives.1 (slice_get-lt s.rules gives.0 gives.1 gives.2) gives.2 gives.3) in
-          ap is_gt (ap (λ n. values_cmp (atom_term to) n) is ∙ values_cmp-atoms to other) ∙ at_most;
+      number = here.0;
+      is_rule = here.1;
+      goes = here.2;
+      next = record {
+        derivable = gives_derivable s from rule.to (here.0, rule, here.1, here.2, refl);
+        least = λ next derivable.
+            let (other, is, gives) = derivable_gives s from next derivable in
+            let at_most = subst (λ x. IsAtMost rule.to x) gives.4 (least.least rule refl gives.0 gives.1 (slice_get-lt s.rules gives.0 gives.1 gives.2) gives.2 gives.3) in
+            ap is_gt (ap (λ n. values_cmp (atom_term rule.to) n) is ∙ values_cmp-atoms rule.to other) ∙ at_most;
+      };
     }
 
 -- what the least of the rules answers, said of the relation
-pub least_says : (s : Small) (rules : List SmallRule) (from : List ℕ) (best : Option (Bor (List ℕ))) → rules ≡ s.rules
+pub least_says : (s : Small) (rules : List SmallRule) (from : List ℕ) (best : Option (Bor SmallRule)) → rules ≡ s.rules
     → IsLeastOf rules from (length rules) (option_copied best)
-    → MatchOption best (IsStuck (il_of s) 0 (atom_term from)) (λ to. IsNext (il_of s) 0 (atom_term from) (atom_term to.now))
+    → MatchOption best (IsStuck (il_of s) 0 (atom_term from)) (λ rule. IsNextRule s from rule.now)
 least_says s rules from None e least = none_is_stuck s from (subst (λ rs. IsLeastOf rs from (length rs) None) e least)
-least_says s rules from (Some to) e least = least_is_next s from to.now (subst (λ rs. IsLeastOf rs from (length rs) (Some to.now)) e least)
+least_says s rules from (Some rule) e least = least_is_next s from rule.now (subst (λ rs. IsLeastOf rs from (length rs) (Some rule.now)) e least)

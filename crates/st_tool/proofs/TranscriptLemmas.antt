@@ -7,9 +7,9 @@ use Rattle.st_tool.proofs.Atoms.{term_line-atom}
 use Rattle.st_il.specs.declared.definition.Il.{Il}
 use Rattle.st_tool.specs.declared.status.Status.{Status}
 use Rattle.st_tool.specs.declared.transcript.Ending.{Ending}
-use Rattle.st_tool.specs.Outcome.{IsRunText, atom_term, default_fuel, status_of}
+use Rattle.st_tool.specs.Outcome.{IsRunText, default_fuel, status_of}
 use Rattle.st_tool.specs.Texts.{atom_line, term_line, term_lines, ending_line}
-use Rattle.st_tool.specs.Transcript.{Term, IsNext, Reaches, goes_on, begins, EndsBy}
+use Rattle.st_tool.specs.Transcript.{Term, atom_term, IsNext, Reaches, goes_on, begins, EndsBy}
 
 -- one line more
 term_lines-append : (k : ℕ) (terms : List Term) (term : Term) → term_lines k (terms ++ term ∷ []) ≡ term_lines k terms ++ term_line (k + length terms) term

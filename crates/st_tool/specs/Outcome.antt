@@ -2,7 +2,6 @@
 use Rattle.std.specs.Prelude.{◌≡◌, ℕ, ◌<◌, length, take, List, [], ◌∷◌, ◌++◌, Contains, Option, Some, ◌⊎◌, slice_get}
 use Rattle.st_outside.specs.Sink.{Takes}
 use Rattle.st_il.specs.declared.definition.Il.{Il}
-use Rattle.st_il.specs.declared.value.Value.TheVariants.{Case}
 use Rattle.st_tool.specs.declared.loads.Loaded.{Loaded}
 use Rattle.st_tool.specs.declared.loads.Loaded.TheVariants.{Given, Failed, TooLong}
 use Rattle.st_il.specs.declared.small.Small.{Small}
@@ -12,11 +11,15 @@ use Rattle.st_tool.specs.declared.transcript.Ending.{Ending}
 use Rattle.st_tool.specs.declared.transcript.Ending.TheVariants.{Stuck, Fuel}
 use Rattle.st_tool.specs.declared.words.Command.{Command}
 use Rattle.st_tool.specs.declared.words.Command.TheVariants.{Run}
+use Rattle.st_deriv.specs.declared.line.Line.{Line}
+use Rattle.st_deriv.specs.LineText.{LinesText}
+use Rattle.st_tool.specs.Derivation.{IsDerivation}
+use Rattle.st_verify.specs.Accepts.{Accepts}
 use Rattle.st_tool.specs.Loads.{Held, Counts, LoadsTo}
 use Rattle.st_il.specs.Small.{il_of}
 use Rattle.st_tool.specs.SmallText.{IsTextOf}
 use Rattle.st_tool.specs.Texts.{transcript_text, unbuilt_text, load_failed_text}
-use Rattle.st_tool.specs.Transcript.{Term, IsTranscript}
+use Rattle.st_tool.specs.Transcript.{Term, IsTranscript, atom_term}
 use Rattle.st_tool.specs.Words.{Reads, HasNoReading, file_names}
 
 -- the most bytes of a source or a term
@@ -30,10 +33,6 @@ default_fuel = 1000
 abbrev pub status_of : Ending → Status
 status_of Stuck = answer.Done
 status_of Fuel = answer.Fuel
-
--- the term of an atom
-abbrev pub atom_term : List ℕ → Term
-atom_term atom = Case atom [] ∷ []
 
 -- the bytes are an atom, perhaps with a line feed behind it
 abbrev pub IsAtomText : List ℕ → List ℕ → Type 0
@@ -60,6 +59,15 @@ pub record IsRunText (il : Il) (atom : List ℕ) (status : Status) (bytes : List
   pub transcript : IsTranscript il 0 (atom_term atom) default_fuel terms ending
   pub status_is : status ≡ status_of ending
   pub bytes_are : bytes ≡ transcript_text terms ending
+
+-- the status and the text of the derivation of such a run; the checker of derivations accepts its lines
+pub record IsDerivationText (il : Il) (relation atom : List ℕ) (status : Status) (bytes : List ℕ) : Type 0 where
+  pub ending : Ending
+  pub lines : List Line
+  pub derivation : IsDerivation il 0 relation (atom_term atom) default_fuel ending lines
+  pub accepted : Accepts il lines
+  pub status_is : status ≡ status_of ending
+  pub text : LinesText lines bytes
 
 -- what a run gives of these files: its text, or that this is not built
 abbrev pub RunsTo : List ℕ → List ℕ → List ℕ → Status → List ℕ → Type 0

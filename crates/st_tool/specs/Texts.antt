@@ -5,6 +5,8 @@ use Rattle.st_il.specs.declared.value.Value.TheOpen.{Value-F}
 use Rattle.st_tool.specs.declared.transcript.Ending.{Ending}
 use Rattle.st_tool.specs.declared.transcript.Ending.TheVariants.{Stuck, Fuel}
 use Rattle.st_tool.specs.Transcript.{Term}
+use Rattle.st_verify.specs.declared.fault.VerifyRule.{VerifyRule}
+use Rattle.st_verify.specs.declared.fault.VerifyRule.TheVariants.{V1, V2, V3, V4, V5, V6, V7, V8, V9, V10, V11, V12, V13}
 
 -- A term as it is printed. So far a case without operands, which is its tag.
 abbrev pub layer_text : {X : Type 0} → Value-F X → List ℕ
@@ -48,3 +50,30 @@ unbuilt_text = codes "unbuilt\n"
 
 abbrev pub load_failed_text : List ℕ → List ℕ
 load_failed_text name = codes "load failed " ++ name ++ codes "\n"
+
+-- a file is longer than its limit
+abbrev pub too_large_text : List ℕ → List ℕ
+too_large_text name = codes "too large " ++ name ++ codes "\n"
+
+-- a derivation is accepted: its lines, and the steps among them
+abbrev pub accepted_text : ℕ → ℕ → List ℕ
+accepted_text lines steps = codes "accepted " ++ decimal lines ++ codes " lines " ++ decimal steps ++ codes " steps\n"
+
+abbrev pub rule_word : VerifyRule → List ℕ
+rule_word V1 = codes "V1"
+rule_word V2 = codes "V2"
+rule_word V3 = codes "V3"
+rule_word V4 = codes "V4"
+rule_word V5 = codes "V5"
+rule_word V6 = codes "V6"
+rule_word V7 = codes "V7"
+rule_word V8 = codes "V8"
+rule_word V9 = codes "V9"
+rule_word V10 = codes "V10"
+rule_word V11 = codes "V11"
+rule_word V12 = codes "V12"
+rule_word V13 = codes "V13"
+
+-- a line of a derivation is refused by a rule
+abbrev pub refused_text : ℕ → VerifyRule → List ℕ
+refused_text line rule = codes "refused derivation " ++ decimal line ++ codes " " ++ rule_word rule ++ codes "\n"

@@ -3,6 +3,7 @@ use Rattle.std.specs.Prelude.{◌≡◌, ℕ, ◌≤◌, false, length, List, []
 use Rattle.std.specs.Ordering.{is_gt}
 use Rattle.st_il.specs.declared.definition.Il.{Il}
 use Rattle.st_il.specs.declared.value.Value.{Value}
+use Rattle.st_il.specs.declared.value.Value.TheVariants.{Case}
 use Rattle.st_il.specs.Derivation.{Derivable}
 use Rattle.st_il.specs.Order.{values_cmp}
 use Rattle.st_tool.specs.declared.transcript.Ending.{Ending}
@@ -11,6 +12,10 @@ use Rattle.st_tool.specs.declared.transcript.Ending.TheVariants.{Stuck, Fuel}
 -- a term has a value for each input of the relation
 abbrev pub Term : Type 0
 Term = List Value
+
+-- the term of an atom
+abbrev pub atom_term : List ℕ → Term
+atom_term atom = Case atom [] ∷ []
 
 -- nothing is derivable from a term
 abbrev pub IsStuck : Il → ℕ → Term → Type 0

@@ -5,7 +5,7 @@ ghost use Rattle.st_tool.specs.Outcome.{IsRunText, status_of};
 ghost use Rattle.st_il.specs.Small.{il_of};
 ghost use Rattle.st_tool.specs.Texts.{ending_word, ending_line};
 
-use crate::step::next_atom;
+use crate::step::next_rule;
 use crate::text::{push_atom_line, push_ending_line};
 use crate::{Answer, Status};
 use st_il::Small;
@@ -31,7 +31,7 @@ impl Ending {
         }
     }
 
-    fn status(self) -> Status
+    pub fn status(self) -> Status
         ensures { result ≡ status_of self }
     {
         match self {
@@ -42,7 +42,7 @@ impl Ending {
 }
 
 /// The steps of a run, where the words do not say how many.
-const FUEL: u64 = 1000;
+pub const FUEL: u64 = 1000;
 
 /// Runs a specification from an atom.
 pub fn run(alloc: Global, small: &Small, start: &Name) -> Result<Answer, NoMemory>
@@ -52,13 +52,13 @@ pub fn run(alloc: Global, small: &Small, start: &Name) -> Result<Answer, NoMemor
     let mut atom = start;
     for number in 0..FUEL {
         push_atom_line(&mut bytes, number, atom)?;
-        match next_atom(small, atom) {
+        match next_rule(small, atom) {
             None => return ended(bytes, Ending::Stuck, number),
-            Some(next) => atom = next,
+            Some(rule) => atom = &rule.to,
         }
     }
     push_atom_line(&mut bytes, FUEL, atom)?;
-    let ending = match next_atom(small, atom) {
+    let ending = match next_rule(small, atom) {
         None => Ending::Stuck,
         Some(_) => Ending::Fuel,
     };

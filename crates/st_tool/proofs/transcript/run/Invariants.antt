@@ -1,4 +1,4 @@
-use Rattle.st_tool.specs.Outcome.{atom_term}
+use Rattle.st_tool.specs.Transcript.{atom_term}
 use Rattle.st_il.specs.Small.{il_of}
 use Rattle.st_tool.proofs.TranscriptLemmas.{IsUnderWay}
 use Rattle.st_tool.proofs.transcript.run.Given as goal

@@ -1,0 +1,41 @@
+-- What is said of the texts of an internal language and of a derivation.
+use Rattle.std.specs.Prelude.{◌≡◌, ◌≢◌, ℕ, zero, suc, ◌+◌, false, List, [], ◌∷◌, ◌++◌, length, Some, Contains}
+use Rattle.st_deriv.specs.declared.line.Line.{Line}
+use Rattle.st_deriv.specs.declared.line.Line.TheVariants.{Step}
+use Rattle.st_deriv.specs.LineText.{LinesText}
+use Rattle.st_il.specs.declared.definition.Il.{Il}
+use Rattle.st_iltext.specs.IlText.{IlText}
+use Rattle.st_tool.specs.declared.status.Status.{Status}
+use Rattle.st_tool.specs.declared.status.Status.TheVariants as answer
+use Rattle.st_tool.specs.Texts.{accepted_text, refused_text}
+use Rattle.st_verify.specs.declared.fault.VerifyRule.{VerifyRule}
+use Rattle.st_verify.specs.declared.fault.VerifyRule.TheVariants.{V3, V12}
+use Rattle.st_verify.specs.declared.notes.Notes.{Notes}
+use Rattle.st_verify.specs.Accepts.{ReadsTo, Accepts}
+use Rattle.st_verify.specs.Verdict.{Verdict}
+
+-- The texts are those of an internal language and of lines, each line ended by a line feed; behind the last line feed there may be more.
+pub record AreTexts (il_bytes derivation : List ℕ) (il : Il) (lines : List Line) (rest : List ℕ) : Type 0 where
+  pub language : IlText il il_bytes
+  pub front : List ℕ
+  pub lines_are : LinesText lines front
+  pub rest_has_no_end : Contains rest 10 → ⊥
+  pub parts : derivation ≡ front ++ rest
+
+-- the number of step lines
+abbrev pub steps_in : List Line → ℕ
+steps_in [] = zero
+steps_in (Step line ∷ lines) = suc (steps_in lines)
+steps_in (_ ∷ lines) = steps_in lines
+
+-- What is said of lines and of what stands behind them: that they are accepted, or the first line that is refused, and the rule that it breaks.
+pub data Verified (il : Il) (lines : List Line) (rest : List ℕ) : Status → List ℕ → Type 0 where
+  accepted : {bytes : List ℕ} → Accepts il lines → rest ≡ [] → bytes ≡ accepted_text (length lines) (steps_in lines)
+      → Verified il lines rest answer.Done bytes
+  refused : {good after : List Line} {line : Line} {notes : Notes} {rule : VerifyRule} {bytes : List ℕ}
+      → lines ≡ good ++ line ∷ after → ReadsTo il good notes → Verdict il notes line (Some rule)
+      → bytes ≡ refused_text (length good + 1) rule → Verified il lines rest answer.Verification bytes
+  unfinished : {notes : Notes} {bytes : List ℕ} → ReadsTo il lines notes → rest ≢ []
+      → bytes ≡ refused_text (length lines + 1) V3 → Verified il lines rest answer.Verification bytes
+  endless : {notes : Notes} {bytes : List ℕ} → ReadsTo il lines notes → notes.ended ≡ false → rest ≡ []
+      → bytes ≡ refused_text (length lines + 1) V12 → Verified il lines rest answer.Verification bytes
