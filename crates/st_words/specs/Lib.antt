@@ -1,0 +1,6 @@
+pub mod Names
+pub mod FileNames
+pub mod Arranged
+pub mod Numbers
+pub mod Table
+pub mod Reads
