@@ -2,5 +2,5 @@ mod Parts
 mod Values
 mod LineKinds
 mod Whole
-mod LineFeeds
+pub mod LineFeeds
 mod Printing

@@ -21,6 +21,8 @@ use Rattle.st_il.specs.Evaluation.{HasValue, HaveValues, case}
 use Rattle.st_il.specs.declared.small.Small.{Small}
 use Rattle.st_il.specs.declared.small.SmallRule.{SmallRule}
 use Rattle.st_il.specs.Small.{atom_exp, rule_def, il_of}
+use Rattle.st_tool.specs.Derivation.{IsNodeOf}
+use Rattle.st_tool.specs.Nodes.{rule_node}
 use Rattle.st_tool.specs.Step.{Gives, IsLeastOf, IsAtMost, IsNextRule}
 use Rattle.st_tool.specs.Transcript.{Term, atom_term, IsStuck, IsNext}
 use Rattle.st_tool.proofs.Atoms.{atom_name, values_cmp-atoms}
@@ -64,7 +66,7 @@ relation_name s name (relation, at, is) = sym is ∙ sym (ap named at)
     named (Some r) = r.name
 
 -- the value of an atom
-atom_value : (env : Env) (syntax atom : List ℕ) → HasValue env (atom_exp syntax atom) (CaseOf atom [])
+pub atom_value : (env : Env) (syntax atom : List ℕ) → HasValue env (atom_exp syntax atom) (CaseOf atom [])
 atom_value env syntax atom = case syntax atom (outs-Case syntax atom []) refl
 
 -- the value of an atom is that of its name
@@ -76,18 +78,40 @@ value_of_atom env syntax atom value (case type tag is has) =
 abbrev no_env : Env
 no_env = record { entries = [] }
 
+-- the tree of a rule
+abbrev pub tree_of_rule : Small → ℕ → SmallRule → Tree
+tree_of_rule s k rule = record { relation = 0; rule = k; env = no_env; values = CaseOf rule.from [] ∷ CaseOf rule.to [] ∷ []; children = [] }
+
+is_rule_at : (s : Small) (k : ℕ) (rule : SmallRule) → slice_get s.rules k ≡ Some rule
+    → slice_get (rules_of s.relation (il_of s).defs) k ≡ Some (rule_record s.relation s.syntax rule)
+is_rule_at s k rule at = rule_at s k ∙ ap (option_map (rule_record s.relation s.syntax)) at
+
+pub rule_is_valid : (s : Small) (k : ℕ) (rule : SmallRule) → slice_get s.rules k ≡ Some rule → IsValid (il_of s) (tree_of_rule s k rule)
+rule_is_valid s k rule at =
+    node s.relation (rule_record s.relation s.syntax rule) (is_relation s) (is_rule_at s k rule at) (refl, refl)
+    (atom_value no_env s.syntax rule.from, (atom_value no_env s.syntax rule.to, tt)) done
+
+-- its node
+pub node_of_rule : (s : Small) (k : ℕ) (rule : SmallRule) → slice_get s.rules k ≡ Some rule → IsNodeOf (il_of s) (tree_of_rule s k rule) (rule_node s.relation rule)
+node_of_rule s k rule at = record {
+  relation = is_relation s;
+  rule = rule_record s.relation s.syntax rule;
+  is_rule = is_rule_at s k rule at;
+  rule_is = refl;
+  env = refl;
+  values = refl;
+  no_child = refl;
+  no_reference = refl;
+  no_evidence = refl;
+}
+
 pub gives_derivable : (s : Small) (from to : List ℕ) → Gives s.rules from to → Derivable (il_of s) 0 (atom_term from) (atom_term to)
 gives_derivable s from to (k, rule, at, f, t) =
     record {
-      tree = record { relation = 0; rule = k; env = no_env; values = CaseOf from [] ∷ CaseOf to [] ∷ []; children = [] };
-      valid = node s.relation (rule_record s.relation s.syntax rule) (is_relation s)
-          (rule_at s k ∙ ap (option_map (rule_record s.relation s.syntax)) at) (refl, refl) (
-            subst (λ a. HasValue no_env (atom_exp s.syntax rule.from) (CaseOf a [])) f (atom_value no_env s.syntax rule.from),
-            (subst (λ a. HasValue no_env (atom_exp s.syntax rule.to) (CaseOf a [])) t (atom_value no_env s.syntax rule.to), tt),
-          )
-          done;
+      tree = tree_of_rule s k rule;
+      valid = rule_is_valid s k rule at;
       relation_is = refl;
-      values_are = refl;
+      values_are = ap (λ a. CaseOf a [] ∷ CaseOf rule.to [] ∷ []) f ∙ ap (λ a. CaseOf from [] ∷ CaseOf a [] ∷ []) t;
     }
 
 slice_get-lt : (xs : List SmallRule) (k : ℕ) (x : SmallRule) → slice_get xs k ≡ Some x → k < length xs

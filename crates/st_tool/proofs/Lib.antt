@@ -3,6 +3,10 @@ mod Lines
 mod Atoms
 mod StepLemmas
 mod Derives
+mod LineTexts
+mod LineVerdicts
+mod Derivations
+mod Verifications
 mod TranscriptLemmas
 mod Loading
 mod Terms

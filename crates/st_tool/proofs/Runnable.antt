@@ -1,51 +1,35 @@
 -- What a run gives of its files.
-use Rattle.std.proofs.Common.{◌≡◌, ℕ, List, inl, inr, sym, ap, ◌∙◌, subst, Bool, true, false, nat_eq}
-use Rattle.std.specs.Prelude.{Result, Ok, Err, IfOk, Option, None, Some, IfSome}
+use Rattle.std.proofs.Common.{◌≡◌, ℕ, List, inl, inr, sym, subst, refl, Bool, true, false, nat_eq}
+use Rattle.std.specs.Prelude.{Result, Ok, Err, IfOk, Option, None, Some, IfSome, MatchOption}
 use Rattle.std.specs.Cmp.Lexicographic.{pointwise}
 use Rattle.std.proofs.lemmas.Cmp.{nat_list_eq_equiv}
+use denote.Ref.{Bor}
 use Rattle.st_num.specs.declared.memory.NoMemory.{NoMemory}
 use Rattle.st_tool.specs.declared.answer.Answer.{Answer}
+use Rattle.st_tool.specs.declared.status.Status.{Status}
+use Rattle.st_tool.specs.declared.status.Status.TheVariants.{Done}
+use Rattle.st_il.specs.declared.definition.Il.{Il}
 use Rattle.st_il.specs.declared.small.Small.{Small}
-use Rattle.st_tool.specs.declared.status.Status.TheVariants.{Unbuilt}
-use Rattle.st_tool.specs.Outcome.{RunsTo, IsRunnable, IsRunText, IsSmallTerm, HasNoTerm}
 use Rattle.st_il.specs.Small.{il_of}
+use Rattle.st_iltext.specs.IlText.{IlText}
+use Rattle.st_tool.specs.Commands.{IlGives, RunGives, IsRunnable, IsStart, IsTerm, IsUnbuilt}
 use Rattle.st_tool.specs.SmallText.{IsTextOf}
-use Rattle.st_tool.specs.Texts.{unbuilt_text}
+use Rattle.st_tool.specs.Starts.{HasNoTerm, HasNoStart}
+
+-- the status and the text of a run from an atom, in one form or another
+abbrev pub RunText : Type 1
+RunText = Small → List ℕ → Status → List ℕ → Type 0
 
 abbrev NoRun : List ℕ → List ℕ → List ℕ → Type 0
 NoRun relation term file = (small : Small) (atom : List ℕ) → IsRunnable relation term file small atom → ⊥
 
-abbrev pub IsUnbuilt : Result Answer NoMemory → Type 0
-IsUnbuilt result = IfOk result (λ answer. (answer.status ≡ Unbuilt) × (answer.bytes.items ≡ unbuilt_text))
+abbrev pub SaysUnbuilt : Result Answer NoMemory → Type 0
+SaysUnbuilt result = IfOk result (λ answer. IsUnbuilt answer.status answer.bytes.items)
 
 -- the bytes are the text of this specification, and of no other
 pub record IsSource (small : Small) (file : List ℕ) : Type 0 where
   pub is_text : IsTextOf small file
   pub only : (other : Small) → IsTextOf other file → small ≡ other
-
-unbuilt_runs : (relation term file : List ℕ) (result : Result Answer NoMemory) → NoRun relation term file → IsUnbuilt result
-    → IfOk result (λ answer. RunsTo relation term file answer.status answer.bytes.items)
-unbuilt_runs relation term file (Ok a) none is = inr (none, is.0, is.1)
-unbuilt_runs relation term file (Err e) none is = tt
-
--- the relation is another
-pub other_relation : (relation term file : List ℕ) (small : Small) (result : Result Answer NoMemory) → IsSource small file → (small.relation ≡ relation → ⊥) → IsUnbuilt result
-    → IfOk result (λ answer. RunsTo relation term file answer.status answer.bytes.items)
-other_relation relation term file small result is differs = unbuilt_runs relation term file result
-    (λ other atom runnable. differs (ap (λ (s : Small). s.relation) (is.only other runnable.source) ∙ runnable.relation_is))
-
--- the term is none of the atoms
-pub no_term : (relation term file : List ℕ) (small : Small) (result : Result Answer NoMemory) → IsSource small file → HasNoTerm small term → IsUnbuilt result
-    → IfOk result (λ answer. RunsTo relation term file answer.status answer.bytes.items)
-no_term relation term file small result is none = unbuilt_runs relation term file result
-    (λ other atom runnable. none atom (subst (λ s. IsSmallTerm s term atom) (sym (is.only other runnable.source)) runnable.term))
-
--- it runs
-pub runs_here : (relation term file atom : List ℕ) (small : Small) (result : Result Answer NoMemory) → IsSource small file → small.relation ≡ relation → IsSmallTerm small term atom
-    → IfOk result (λ answer. IsRunText (il_of small) atom answer.status answer.bytes.items)
-    → IfOk result (λ answer. RunsTo relation term file answer.status answer.bytes.items)
-runs_here relation term file atom small (Ok a) is relation_is is_term run = inl (small, atom, record { source = is.is_text; relation_is = relation_is; term = is_term }, run)
-runs_here relation term file atom small (Err e) is relation_is is_term run = tt
 
 -- what was read is the source
 pub source_read : (read : Option Small) (small : Small) (file : List ℕ) → read ≡ Some small → IfSome read (λ s. IsTextOf s file)
@@ -55,19 +39,53 @@ source_read read small file is some only = record {
   only = λ other text. let other_is = only other text in cc (is, other_is);
 }
 
+unbuilt_runs : (Text : RunText) (relation term file : List ℕ) (result : Result Answer NoMemory) → NoRun relation term file → SaysUnbuilt result
+    → IfOk result (λ answer. RunGives Text relation term file answer.status answer.bytes.items)
+unbuilt_runs Text relation term file (Ok a) none is = inr (none, is)
+unbuilt_runs Text relation term file (Err e) none is = tt
+
+-- where nothing was read, nothing runs
+pub nothing_runs : (Text : RunText) (relation term file : List ℕ) (read : Option Small) (result : Result Answer NoMemory) → read ≡ None → ((s : Small) → IsTextOf s file → read ≡ Some s)
+    → SaysUnbuilt result → IfOk result (λ answer. RunGives Text relation term file answer.status answer.bytes.items)
+nothing_runs Text relation term file read result is only =
+    unbuilt_runs Text relation term file result (λ small atom runnable. let some = only small runnable.source in cc (is, some))
+
+-- there is no term to begin at
+pub no_start : (Text : RunText) (relation term file : List ℕ) (small : Small) (result : Result Answer NoMemory) → IsSource small file → HasNoStart small relation term → SaysUnbuilt result
+    → IfOk result (λ answer. RunGives Text relation term file answer.status answer.bytes.items)
+no_start Text relation term file small result is none = unbuilt_runs Text relation term file result
+    (λ other atom runnable. none atom (subst (λ s. IsStart s relation term atom) (sym (is.only other runnable.source)) runnable.start))
+
+-- it runs
+pub runs_here : (Text : RunText) (relation term file atom : List ℕ) (small : Small) (result : Result Answer NoMemory) → IsSource small file → IsStart small relation term atom
+    → IfOk result (λ answer. Text small atom answer.status answer.bytes.items)
+    → IfOk result (λ answer. RunGives Text relation term file answer.status answer.bytes.items)
+runs_here Text relation term file atom small (Ok a) is start run = inl (small, atom, record { source = is.is_text; start = start }, run)
+runs_here Text relation term file atom small (Err e) is start run = tt
+
+-- the internal language of the file
+pub no_il : (file : List ℕ) (read : Option Small) (result : Result Answer NoMemory) → read ≡ None → ((s : Small) → IsTextOf s file → read ≡ Some s)
+    → SaysUnbuilt result → IfOk result (λ answer. IlGives file answer.status answer.bytes.items)
+no_il file read (Ok a) is only unbuilt = inr (λ small text. let some = only small text in cc (is, some), unbuilt)
+no_il file read (Err e) is only unbuilt = tt
+
+pub il_here : (file bytes text : List ℕ) (small : Small) (il : Il) → IsSource small file → il ≡ il_of small → IlText il text → bytes ≡ text → IlGives file Done bytes
+il_here file bytes text small il is il_is has same =
+    inl (small, is.is_text, refl, subst (IlText (il_of small)) (sym same) (subst (λ l. IlText l text) il_is has))
+
+-- the term of a run
+pub start_found : (small : Small) (relation term : List ℕ) (found : Option (Bor (List ℕ))) → small.relation ≡ relation
+    → MatchOption found (HasNoTerm small term) (λ atom. IsTerm small term atom.now)
+    → MatchOption found (HasNoStart small relation term) (λ atom. IsStart small relation term atom.now)
+start_found small relation term None named none = λ atom start. none atom start.term
+start_found small relation term (Some atom) named is = record { relation_is = named; term = is }
+
+pub other_relation : (small : Small) (relation term : List ℕ) → (small.relation ≡ relation → ⊥) → HasNoStart small relation term
+other_relation small relation term differs atom start = differs start.relation_is
+
 -- names that `==` tells apart differ
 pub names_differ : (one other : List ℕ) (b : Bool) → b ≡ pointwise nat_eq one other → b ≡ false → one ≡ other → ⊥
 names_differ one other b e unequal same =
     let itself = nat_list_eq_equiv.refl other in
     let at_same : pointwise nat_eq one other ≡ true = rw same itself in
     cc
-
--- a test of two names, through the slices that were compared
-pub relation_test : (one at other there : List ℕ) (b : Bool) → at ≡ one → there ≡ other → b ≡ pointwise nat_eq at there → b ≡ pointwise nat_eq one other
-relation_test one at other there b at_is there_is test = test ∙ ap (λ x. pointwise nat_eq x there) at_is ∙ ap (pointwise nat_eq one) there_is
-
--- where nothing was read, nothing runs
-pub nothing_runs : (relation term file : List ℕ) (read : Option Small) (result : Result Answer NoMemory) → read ≡ None → ((s : Small) → IsTextOf s file → read ≡ Some s)
-    → IsUnbuilt result → IfOk result (λ answer. RunsTo relation term file answer.status answer.bytes.items)
-nothing_runs relation term file read result is only =
-    unbuilt_runs relation term file result (λ small atom runnable. let some = only small runnable.source in cc (is, some))

@@ -5,9 +5,11 @@ use Rattle.st_num.specs.declared.memory.NoMemory.{NoMemory}
 use Rattle.st_tool.specs.declared.answer.Answer.{Answer}
 use Rattle.st_tool.proofs.Atoms.{term_line-atom}
 use Rattle.st_il.specs.declared.definition.Il.{Il}
+use Rattle.st_il.specs.declared.small.Small.{Small}
+use Rattle.st_il.specs.Small.{il_of}
 use Rattle.st_tool.specs.declared.status.Status.{Status}
 use Rattle.st_tool.specs.declared.transcript.Ending.{Ending}
-use Rattle.st_tool.specs.Outcome.{IsRunText, default_fuel, status_of}
+use Rattle.st_tool.specs.Commands.{IsRunText, default_fuel, status_of}
 use Rattle.st_tool.specs.Texts.{atom_line, term_line, term_lines, ending_line}
 use Rattle.st_tool.specs.Transcript.{Term, atom_term, IsNext, Reaches, goes_on, begins, EndsBy}
 
@@ -55,10 +57,10 @@ before_last : (terms : List Term) (term : Term) (k : ℕ) → length terms ≡ k
 before_last terms term k e = let all = length-append terms (term ∷ []) in omega (arith, all)
 
 -- a run that ends at this term
-pub ends : (il : Il) (atom : List ℕ) (term : Term) (k : ℕ) (bytes more all : List ℕ) (ending : Ending) (status : Status)
-    → IsUnderWay il (atom_term atom) term k bytes → more ≡ bytes ++ term_line k term
-    → EndsBy il 0 default_fuel k term ending → status ≡ status_of ending → all ≡ more ++ ending_line ending k → IsRunText il atom status all
-ends il atom term k bytes more all ending status run e how status_is e_all =
+pub ends : (s : Small) (atom : List ℕ) (term : Term) (k : ℕ) (bytes more all : List ℕ) (ending : Ending) (status : Status)
+    → IsUnderWay (il_of s) (atom_term atom) term k bytes → more ≡ bytes ++ term_line k term
+    → EndsBy (il_of s) 0 default_fuel k term ending → status ≡ status_of ending → all ≡ more ++ ending_line ending k → IsRunText s atom status all
+ends s atom term k bytes more all ending status run e how status_is e_all =
     record {
       terms = run.before ++ term ∷ [];
       ending = ending;
@@ -66,21 +68,21 @@ ends il atom term k bytes more all ending status run e how status_is e_all =
         before = run.before;
         last = term;
         reaches = run.reaches;
-        ends = let F : ℕ → Type 0 = λ n. EndsBy il 0 default_fuel n term ending in subst F (sym run.count) how;
+        ends = let F : ℕ → Type 0 = λ n. EndsBy (il_of s) 0 default_fuel n term ending in subst F (sym run.count) how;
         terms_are = refl;
       };
       status_is = status_is;
-      bytes_are = e_all ∙ ap (λ text. text ++ ending_line ending k) (e ∙ with_line il (atom_term atom) term k bytes run)
+      bytes_are = e_all ∙ ap (λ text. text ++ ending_line ending k) (e ∙ with_line (il_of s) (atom_term atom) term k bytes run)
           ∙ ap (λ n. term_lines 0 (run.before ++ term ∷ []) ++ ending_line ending n) (sym (before_last run.before term k run.count));
     }
 
 -- what is answered where a run ends at this atom
-pub answers : (il : Il) (start atom : List ℕ) (k : ℕ) (bytes more : List ℕ) (ending : Ending) (result : Result Answer NoMemory)
-    → IsUnderWay il (atom_term start) (atom_term atom) k bytes → more ≡ bytes ++ atom_line k atom
-    → EndsBy il 0 default_fuel k (atom_term atom) ending
+pub answers : (s : Small) (start atom : List ℕ) (k : ℕ) (bytes more : List ℕ) (ending : Ending) (result : Result Answer NoMemory)
+    → IsUnderWay (il_of s) (atom_term start) (atom_term atom) k bytes → more ≡ bytes ++ atom_line k atom
+    → EndsBy (il_of s) 0 default_fuel k (atom_term atom) ending
     → IfOk result (λ answer. answer.status ≡ status_of ending) → IfOk result (λ answer. answer.bytes.items ≡ more ++ ending_line ending k)
-    → IfOk result (λ answer. IsRunText il start answer.status answer.bytes.items)
-answers il start atom k bytes more ending (Ok answer) run e how status_is bytes_are =
-    ends il start (atom_term atom) k bytes more answer.bytes.items ending answer.status run
+    → IfOk result (λ answer. IsRunText s start answer.status answer.bytes.items)
+answers s start atom k bytes more ending (Ok answer) run e how status_is bytes_are =
+    ends s start (atom_term atom) k bytes more answer.bytes.items ending answer.status run
     (e ∙ ap (λ line. bytes ++ line) (sym (term_line-atom k atom))) how status_is bytes_are
-answers il start atom k bytes more ending (Err e) run e_more how status_is bytes_are = tt
+answers s start atom k bytes more ending (Err e) run e_more how status_is bytes_are = tt

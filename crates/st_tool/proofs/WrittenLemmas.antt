@@ -1,41 +1,86 @@
 -- What a call wrote, and what its counts say.
-use Rattle.std.proofs.Common.{◌≡◌, ℕ, ◌<◌, ◌≤◌, List, Option, refl, ap, subst, inl, inr, arith}
+use Rattle.std.proofs.Common.{◌≡◌, ℕ, ◌<◌, ◌≤◌, List, [], ◌∷◌, Option, refl, ap, subst, sym, ◌∙◌, inl, inr, arith}
 use Rattle.st_outside.specs.Counts.{one_more}
 use Rattle.st_outside.specs.Sink.{Takes}
+use Rattle.st_il.specs.declared.small.Small.{Small}
 use Rattle.st_tool.specs.declared.loads.Loaded.{Loaded}
+use Rattle.st_tool.specs.declared.loads.Loaded.TheVariants.{Given, Failed, TooLong}
 use Rattle.st_tool.specs.declared.status.Status.{Status}
 use Rattle.st_tool.specs.declared.status.Status.TheVariants.{Done, Usage, Specification, Term, Fuel, Depth, NotRunnable, Verification, Load, Write, Memory, TooLarge, Unbuilt}
 use Rattle.st_tool.specs.declared.transcript.Ending.{Ending}
 use Rattle.st_tool.specs.declared.transcript.Ending.TheVariants.{Stuck, Fuel as OutOfFuel}
-use Rattle.st_tool.specs.declared.words.Command.{Command}
 use Rattle.st_tool.specs.Causes.{IsLoadFault, FaultIsTold}
+use Rattle.st_tool.specs.Commands.{Gives, IlGives, RunGives, VerifyGives, IsRunText, IsDerivationText, status_of, limit_of}
 use Rattle.st_tool.specs.Loads.{Held, Counts, LoadsTo}
-use Rattle.st_tool.specs.Outcome.{Outcome, load_failed, too_long, runs, HasOutcome, unread, read, RunsTo, status_of, Written, source_limit}
-use Rattle.st_tool.specs.Words.{Reads, file_names}
+use Rattle.st_tool.specs.Outcome.{Outcome, HasOutcome, unread, too_many, unbuilt, loads, Written}
+use Rattle.st_tool.specs.Verification.{Verified, accepted, refused, unfinished, endless}
+use Rattle.st_words.specs.declared.command.Command.{Command}
+use Rattle.st_words.specs.declared.command.Command.TheVariants.{Check, Il, Groups, Order, Eval, Next, Run, Derive, Verify, Prose, Latex, Make}
+use Rattle.st_words.specs.FileNames.{file_names}
+use Rattle.st_words.specs.Reads.{Reads}
 
--- a status that a command has of itself: no failed write, and no want of memory
-abbrev pub IsOwn : Status → Type 0
-IsOwn status = (status ≡ Write → ⊥) × (status ≡ Memory → ⊥)
+-- a status that a command gives of its files: no failed load or write, and no want of memory
+pub record IsOwn (status : Status) : Type 0 where
+  load : status ≡ Load → ⊥
+  write : status ≡ Write → ⊥
+  memory : status ≡ Memory → ⊥
+
+own_done : IsOwn Done
+own_done = record { load = λ e. cc; write = λ e. cc; memory = λ e. cc }
+
+own_fuel : IsOwn Fuel
+own_fuel = record { load = λ e. cc; write = λ e. cc; memory = λ e. cc }
+
+own_verification : IsOwn Verification
+own_verification = record { load = λ e. cc; write = λ e. cc; memory = λ e. cc }
+
+own_unbuilt : (status : Status) → status ≡ Unbuilt → IsOwn status
+own_unbuilt status is = record { load = λ e. cc; write = λ e. cc; memory = λ e. cc }
 
 ending_is_own : (status : Status) (ending : Ending) → status ≡ status_of ending → IsOwn status
-ending_is_own status Stuck e = (λ f. cc, λ f. cc)
-ending_is_own status OutOfFuel e = (λ f. cc, λ f. cc)
+ending_is_own status Stuck is = subst IsOwn (sym is) own_done
+ending_is_own status OutOfFuel is = subst IsOwn (sym is) own_fuel
 
-run_is_own : (relation term file : List ℕ) (status : Status) (bytes : List ℕ) → RunsTo relation term file status bytes → IsOwn status
-run_is_own relation term file status bytes (inl (small, atom, runnable, text)) = ending_is_own status text.ending text.status_is
-run_is_own relation term file status bytes (inr (none, is, text)) = (λ f. cc, λ f. cc)
+il_is_own : (file : List ℕ) (status : Status) (bytes : List ℕ) → IlGives file status bytes → IsOwn status
+il_is_own file status bytes (inl (small, source, is, text)) = subst IsOwn (sym is) own_done
+il_is_own file status bytes (inr (none, (is, text))) = own_unbuilt status is
 
-outcome_is_own : (command : Command) (loaded : Loaded) (status : Status) (bytes : List ℕ) → Outcome command loaded status bytes → IsOwn status
-outcome_is_own command loaded status bytes (load_failed at text) = (λ e. cc, λ e. cc)
-outcome_is_own command loaded status bytes (too_long text) = (λ e. cc, λ e. cc)
-outcome_is_own command loaded status bytes (runs {relation} {term} {file} {term_bytes} {file_bytes} is given to) = run_is_own relation term_bytes file_bytes status bytes to
+run_is_own : (Text : Small → List ℕ → Status → List ℕ → Type 0) → ((small : Small) (atom : List ℕ) (status : Status) (bytes : List ℕ) → Text small atom status bytes → IsOwn status)
+    → (relation term file : List ℕ) (status : Status) (bytes : List ℕ) → RunGives Text relation term file status bytes → IsOwn status
+run_is_own Text own relation term file status bytes (inl (small, atom, runnable, text)) = own small atom status bytes text
+run_is_own Text own relation term file status bytes (inr (none, (is, text))) = own_unbuilt status is
 
-is_own : (held : Held) (words : List (List ℕ)) (before after : Counts) (status : Status) (bytes : List ℕ) → HasOutcome held words before after status bytes → IsOwn status
+verify_is_own : (il derivation : List ℕ) (status : Status) (bytes : List ℕ) → VerifyGives il derivation status bytes → IsOwn status
+verify_is_own il derivation status bytes (inl (language, lines, rest, texts, accepted all empty text)) = own_done
+verify_is_own il derivation status bytes (inl (language, lines, rest, texts, refused parts read verdict text)) = own_verification
+verify_is_own il derivation status bytes (inl (language, lines, rest, texts, unfinished read some text)) = own_verification
+verify_is_own il derivation status bytes (inl (language, lines, rest, texts, endless read ended empty text)) = own_verification
+verify_is_own il derivation status bytes (inr (none, (is, text))) = own_unbuilt status is
+
+gives_own : (command : Command) (files : List (List ℕ)) (status : Status) (bytes : List ℕ) → Gives command files status bytes → IsOwn status
+gives_own (Il names) (file ∷ []) status bytes gives = il_is_own file status bytes gives
+gives_own (Run relation name names fuel depth) (term ∷ file ∷ []) status bytes gives =
+    run_is_own IsRunText (λ small atom s b text. ending_is_own s text.ending text.status_is) relation term file status bytes gives
+gives_own (Derive relation name names fuel depth) (term ∷ file ∷ []) status bytes gives =
+    run_is_own IsDerivationText (λ small atom s b text. ending_is_own s text.ending text.status_is) relation term file status bytes gives
+gives_own (Verify il_name name) (il ∷ derivation ∷ []) status bytes gives = verify_is_own il derivation status bytes gives
+gives_own command files status bytes gives = ?
+
+-- no status but these two is ascribed to the loads
+outcome_is_own : (command : Command) (loaded : Loaded) (status : Status) (bytes : List ℕ) → Outcome command loaded status bytes → (status ≡ Write → ⊥) × (status ≡ Memory → ⊥)
+outcome_is_own command (Given files) status bytes gives = let own = gives_own command files status bytes gives in (own.write, own.memory)
+outcome_is_own command (Failed number) status bytes (is, text) = (λ e. cc, λ e. cc)
+outcome_is_own command (TooLong number) status bytes (is, text) = (λ e. cc, λ e. cc)
+
+is_own : (held : Held) (words : List (List ℕ)) (before after : Counts) (status : Status) (bytes : List ℕ) → HasOutcome held words before after status bytes
+    → (status ≡ Write → ⊥) × (status ≡ Memory → ⊥)
 is_own held words before after status bytes (unread none same text) = (λ e. cc, λ e. cc)
-is_own held words before after status bytes (read command loaded reads loads outcome) = outcome_is_own command loaded status bytes outcome
+is_own held words before after status bytes (too_many command reads many same text) = (λ e. cc, λ e. cc)
+is_own held words before after status bytes (unbuilt command asks none same text) = (λ e. cc, λ e. cc)
+is_own held words before after status bytes (loads command loaded asks built come outcome) = outcome_is_own command loaded status bytes outcome
 
 written_at : (held : Held) (words : List (List ℕ)) (before after : Counts) (taken now : Option (List ℕ)) (status : Status) (bytes : List ℕ)
-    → IsOwn status → HasOutcome held words before after status bytes → Takes taken now bytes → Written held words before after taken now status
+    → (status ≡ Write → ⊥) × (status ≡ Memory → ⊥) → HasOutcome held words before after status bytes → Takes taken now bytes → Written held words before after taken now status
 written_at held words before after taken now Done bytes own has takes = (bytes, has, takes)
 written_at held words before after taken now Usage bytes own has takes = (bytes, has, takes)
 written_at held words before after taken now Specification bytes own has takes = (bytes, has, takes)
@@ -56,53 +101,45 @@ pub all_written : (held : Held) (words : List (List ℕ)) (before after : Counts
 all_written held words before after taken now status bytes has takes =
     written_at held words before after taken now status bytes (is_own held words before after status bytes has) has takes
 
--- no run is a failed load
-no_load_of_run : (relation term file : List ℕ) (status : Status) (bytes : List ℕ) → RunsTo relation term file status bytes → status ≡ Load → ⊥
-no_load_of_run relation term file status bytes (inl (small, atom, runnable, text)) is = by_ending text.ending text.status_is
-  where
-    by_ending : (ending : Ending) → status ≡ status_of ending → ⊥
-    by_ending Stuck e = cc
-    by_ending OutOfFuel e = cc
-no_load_of_run relation term file status bytes (inr (none, unbuilt, text)) is = cc
-
+-- the cause of a failed load
 fault_of : (held : Held) (words : List (List ℕ)) (before after : Counts) (command : Command) (loaded : Loaded) (status : Status) (bytes : List ℕ) → Reads words command
-    → LoadsTo held source_limit (file_names command) before loaded after → Outcome command loaded status bytes → status ≡ Load → IsLoadFault words before after
-fault_of held words before after command loaded status bytes reads loads (load_failed {number = number} at text) is =
+    → LoadsTo held (limit_of command) (file_names command) before loaded after → Outcome command loaded status bytes → status ≡ Load → IsLoadFault words before after
+fault_of held words before after command (Failed number) status bytes reads come outcome is =
     record {
       command = command;
       reads = reads;
       number = number;
-      name = loads.name;
-      is_name = loads.is_name;
-      last = loads.last;
-      loads = loads.loads;
-      rose = let rose : one_more before.faults ≤ after.faults = omega (arith, loads.faults) in rose;
+      name = come.name;
+      is_name = come.is_name;
+      last = come.last;
+      loads = come.loads;
+      rose = let rose : one_more before.faults ≤ after.faults = omega (arith, come.faults) in rose;
     }
-fault_of held words before after command loaded status bytes reads loads (too_long text) is = cc
-fault_of held words before after command loaded status bytes reads loads (runs {relation} {term} {file} {term_bytes} {file_bytes} e given to) is =
-    absurd (no_load_of_run relation term_bytes file_bytes status bytes to is)
+fault_of held words before after command (TooLong number) status bytes reads come (large, text) is = cc
+fault_of held words before after command (Given files) status bytes reads come gives is = absurd ((gives_own command files status bytes gives).load is)
 
--- the cause of a failed load
 pub load_fault : (held : Held) (words : List (List ℕ)) (before after : Counts) (status : Status) (bytes : List ℕ) → HasOutcome held words before after status bytes
     → status ≡ Load → IsLoadFault words before after
 load_fault held words before after status bytes (unread none same text) is = cc
-load_fault held words before after status bytes (read command loaded reads loads outcome) is =
-    fault_of held words before after command loaded status bytes reads loads outcome is
+load_fault held words before after status bytes (too_many command reads many same text) is = cc
+load_fault held words before after status bytes (unbuilt command asks none same text) is = cc
+load_fault held words before after status bytes (loads command loaded asks built come outcome) is =
+    fault_of held words before after command loaded status bytes asks.reads come outcome is
 
 -- a raised count is told
 told_by : (held : Held) (before after : Counts) (command : Command) (loaded : Loaded) (status : Status) (bytes : List ℕ)
-    → LoadsTo held source_limit (file_names command) before loaded after → Outcome command loaded status bytes → before.faults < after.faults → status ≡ Load
-told_by held before after command loaded status bytes loads (load_failed at text) rose = refl
-told_by held before after command loaded status bytes loads (too_long text) rose = let same = loads.faults in absurd (omega (arith, same, rose))
-told_by held before after command loaded status bytes loads (runs is given to) rose =
-    let all = subst (λ l. LoadsTo held source_limit (file_names command) before l after) given loads in
-    let same = all.faults in
-    absurd (omega (arith, same, rose))
+    → LoadsTo held (limit_of command) (file_names command) before loaded after → Outcome command loaded status bytes → before.faults < after.faults → status ≡ Load
+told_by held before after command (Failed number) status bytes come (is, text) rose = is
+told_by held before after command (TooLong number) status bytes come outcome rose = let same = come.faults in absurd (omega (arith, same, rose))
+told_by held before after command (Given files) status bytes come outcome rose = let same = come.faults in absurd (omega (arith, same, rose))
+
+not_risen : (before after : Counts) (status : Status) → after ≡ before → FaultIsTold before after status
+not_risen before after status same rose = let faults = ap (λ (c : Counts). c.faults) same in absurd (omega (arith, faults, rose))
 
 pub fault_told : (held : Held) (words : List (List ℕ)) (before after : Counts) (status : Status) (bytes : List ℕ) → HasOutcome held words before after status bytes
     → FaultIsTold before after status
-fault_told held words before after status bytes (unread none same text) rose =
-    let faults = ap (λ (c : Counts). c.faults) same in
-    absurd (omega (arith, faults, rose))
-fault_told held words before after status bytes (read command loaded reads loads outcome) rose =
-    inl (told_by held before after command loaded status bytes loads outcome rose)
+fault_told held words before after status bytes (unread none same text) = not_risen before after status same
+fault_told held words before after status bytes (too_many command reads many same text) = not_risen before after status same
+fault_told held words before after status bytes (unbuilt command asks none same text) = not_risen before after status same
+fault_told held words before after status bytes (loads command loaded asks built come outcome) =
+    λ rose. inl (told_by held before after command loaded status bytes come outcome rose)

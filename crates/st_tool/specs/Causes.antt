@@ -3,9 +3,10 @@ use Rattle.std.specs.Prelude.{◌≡◌, ℕ, ◌+◌, ◌<◌, List, Some, slic
 use Rattle.st_outside.specs.Counts.{Rose}
 use Rattle.st_tool.specs.declared.status.Status.{Status}
 use Rattle.st_tool.specs.declared.status.Status.TheVariants as answer
-use Rattle.st_tool.specs.declared.words.Command.{Command}
+use Rattle.st_words.specs.declared.command.Command.{Command}
 use Rattle.st_tool.specs.Loads.{Counts, raised}
-use Rattle.st_tool.specs.Words.{Reads, file_names}
+use Rattle.st_words.specs.FileNames.{file_names}
+use Rattle.st_words.specs.Reads.{Reads}
 
 -- The load of one of the command's files failed: the count of faults rose, the name is the one whose load failed last, and that many loads were made, this one the last.
 pub record IsLoadFault (words : List (List ℕ)) (before after : Counts) : Type 0 where

@@ -1,5 +1,5 @@
 -- What the loads of a command gave.
-use Rattle.std.specs.Prelude.{◌≡◌, ℕ, ◌+◌, ◌<◌, ◌≤◌, zero, suc, length, take, List, [], ◌∷◌, Option, Some, IfSome, slice_get}
+use Rattle.std.specs.Prelude.{◌≡◌, ℕ, ◌+◌, ◌<◌, ◌≤◌, zero, suc, length, take, List, [], ◌∷◌, Option, Some, IfSome, slice_get, All}
 use Rattle.st_outside.specs.Counts.{one_more}
 use Rattle.st_outside.specs.Files.{bytes_of, IsLonger}
 use Rattle.st_tool.specs.declared.loads.Loaded.{Loaded}
@@ -69,8 +69,8 @@ LoadsTo held limit names before (Given files) after = GivesAll held limit names 
 LoadsTo held limit names before (Failed number) after = FailsAt held limit names number before after
 LoadsTo held limit names before (TooLong number) after = IsTooLongAt held limit names number before after
 
--- there is a name for each file that was given, and for the one that failed
-abbrev pub FitsNames : Loaded → List (List ℕ) → Type 0
-FitsNames (Given files) names = length files ≡ length names
-FitsNames (Failed number) names = number < length names
-FitsNames (TooLong number) names = Unit {0}
+-- there is a name for each file that was given, which keeps the limit, and for the one that was not
+abbrev pub FitsNames : ℕ → Loaded → List (List ℕ) → Type 0
+FitsNames limit (Given files) names = (length files ≡ length names) × All (λ bytes. length bytes ≤ limit) files
+FitsNames limit (Failed number) names = number < length names
+FitsNames limit (TooLong number) names = number < length names

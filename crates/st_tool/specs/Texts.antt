@@ -45,9 +45,19 @@ ending_line ending steps = ending_word ending ++ codes " after " ++ decimal step
 abbrev pub transcript_text : List Term → Ending → List ℕ
 transcript_text terms ending = term_lines 0 terms ++ ending_line ending (length terms - 1)
 
+-- the words ask for no command
+abbrev pub usage_text : List ℕ
+usage_text = codes "usage\n"
+
+-- the words name too many files
+abbrev pub too_many_text : List ℕ
+too_many_text = codes "too many files\n"
+
+-- what is asked for is not built
 abbrev pub unbuilt_text : List ℕ
 unbuilt_text = codes "unbuilt\n"
 
+-- the load of a file failed
 abbrev pub load_failed_text : List ℕ → List ℕ
 load_failed_text name = codes "load failed " ++ name ++ codes "\n"
 

@@ -1,20 +1,19 @@
 //! What a command answers.
 
-ghost use Rattle.std.specs.Prelude.{◌≡◌, ◌<◌, ◌↔◌, ◌++◌, ◌∷◌, [], IfOk, IsTrue, MatchOption, map, string_bytes, length};
-ghost use Rattle.st_tool.specs.Loads.{counts_of, FitsNames};
-ghost use Rattle.st_tool.specs.Outcome.{Outcome, HasOutcome, IsAtomText, IsSmallTerm, RunsTo, HasNoTerm};
-ghost use Rattle.st_tool.specs.Texts.{unbuilt_text, load_failed_text};
-ghost use Rattle.st_tool.specs.Words.{file_names};
+ghost use Rattle.std.specs.Prelude.{◌≡◌, ◌<◌, ◌≤◌, ◌↔◌, ◌++◌, ◌∷◌, [], codes, IfOk, IsTrue, map, string_bytes, length};
+ghost use Rattle.st_tool.specs.declared.loads.Loaded.{Loaded as Loading};
+ghost use Rattle.st_tool.specs.Commands.{Gives, HasBuiltForm, IsUnbuilt, limit_of};
+ghost use Rattle.st_tool.specs.Loads.{counts_of, FitsNames, LoadsTo};
+ghost use Rattle.st_tool.specs.Outcome.{Outcome, HasOutcome, StopsAt};
+ghost use Rattle.st_words.specs.FileNames.{file_names};
 
 use crate::Status;
 use crate::loads::{Loaded, load_all};
-use crate::reader::read_small;
-use crate::text::{load_failed_line, unbuilt_line};
-use crate::transcript::run;
-use crate::words::{Command, read_words};
-use st_il::Small;
-use st_num::{Name, NoMemory, Row};
+use crate::source::{derive_file, il_file, run_file};
+use crate::verification::verify_files;
+use st_num::{NoMemory, Row};
 use st_outside::Files;
+use st_words::{Command, WordsFault, has_options, read_words};
 use std::alloc::Global;
 
 /// How a command ends, and what it prints.
@@ -24,107 +23,169 @@ pub struct Answer {
     pub bytes: Vec<u8>,
 }
 
+/// The most file names of a command.
+const MOST_FILES: usize = 64;
+
 /// The most bytes of a source or a term.
 const SOURCE_LIMIT: u32 = 1_048_576;
 
+/// The most bytes of a text that the program itself prints.
+const TEXT_LIMIT: u32 = 67_108_864;
+
+/// The answer of one line: a front, and a name behind it.
+fn line_answer(alloc: Global, status: Status, front: &str, name: &str) -> Result<Answer, NoMemory>
+    ensures status { IfOk result (λ answer. answer.status ≡ status) }
+    ensures bytes { IfOk result (λ answer. answer.bytes.items
+        ≡ front.now ++ name.now ++ codes "\n") }
+{
+    let mut bytes = Vec::from_slice(alloc, front.as_bytes())?;
+    bytes.extend_from_slice(name.as_bytes())?;
+    bytes.extend_from_slice(b"\n")?;
+    Ok(Answer { status, bytes })
+}
+
 /// The answer where what is asked for is not built.
-fn unbuilt(alloc: Global) -> Result<Answer, NoMemory>
-    ensures { IfOk result (λ answer. (answer.status ≡ Status.Unbuilt) × (answer.bytes.items ≡ unbuilt_text)) }
+pub fn unbuilt(alloc: Global) -> Result<Answer, NoMemory>
+    ensures { IfOk result (λ answer. IsUnbuilt answer.status answer.bytes.items) }
 {
-    let bytes = unbuilt_line(alloc)?;
-    Ok(Answer {
-        status: Status::Unbuilt,
-        bytes,
-    })
+    line_answer(alloc, Status::Unbuilt, "unbuilt", "")
 }
 
-/// The answer where the load of a file failed.
-fn load_failed(alloc: Global, name: &str) -> Result<Answer, NoMemory>
-    ensures { IfOk result (λ answer. (answer.status ≡ Status.Load) × (answer.bytes.items ≡ load_failed_text name.now)) }
+/// The bytes of the one file that was given.
+fn one_file(given: &[Row<u8>]) -> &[u8]
+    requires { length given.now ≡ 1 }
+    ensures { given.now ≡ result.now ∷ [] }
 {
-    let bytes = load_failed_line(alloc, name)?;
-    Ok(Answer {
-        status: Status::Load,
-        bytes,
-    })
-}
-
-/// Whether the bytes are the line with a line feed behind it.
-fn is_line(bytes: &[u8], line: &[u8]) -> bool
-    ensures { IsTrue result ↔ (bytes.now ≡ line.now ++ 10 ∷ []) }
-{
-    match bytes.strip_suffix(b"\n") {
-        Some(front) => front == line,
-        None => false,
-    }
-}
-
-/// Whether the bytes are the atom, perhaps with a line feed behind it.
-fn is_atom_text(bytes: &[u8], atom: &[u8]) -> bool
-    ensures { IsTrue result ↔ IsAtomText bytes.now atom.now }
-{
-    bytes == atom || is_line(bytes, atom)
-}
-
-/// The atom of a specification that a term file holds.
-fn read_term<'a>(small: &'a Small, bytes: &[u8]) -> Option<&'a Name>
-    ensures { MatchOption result (HasNoTerm small.now bytes.now) (λ atom. IsSmallTerm small.now bytes.now atom.now) }
-{
-    for atom in small.atoms.as_slice() {
-        if is_atom_text(bytes, atom.as_slice()) {
-            return Some(atom);
-        }
-    }
-    None
-}
-
-/// Runs a relation of the specification in a file, from the term in another.
-fn run_files(alloc: Global, relation: &str, term: &[u8], file: &[u8]) -> Result<Answer, NoMemory>
-    ensures { IfOk result (λ answer. RunsTo relation.now term.now file.now answer.status answer.bytes.items) }
-{
-    let Some(small) = read_small(alloc, file)? else {
-        return unbuilt(alloc);
+    let [file] = given else {
+        unreachable!();
     };
-    let is_relation = small.relation.as_slice() == relation.as_bytes();
-    if !is_relation {
-        return unbuilt(alloc);
-    }
-    match read_term(&small, term) {
-        None => unbuilt(alloc),
-        Some(start) => run(alloc, &small, start),
-    }
+    file.as_slice()
+}
+
+/// The bytes of the two files that were given.
+fn two_files(given: &[Row<u8>]) -> (&[u8], &[u8])
+    requires { length given.now ≡ 2 }
+    ensures { given.now ≡ result.0.now ∷ result.1.now ∷ [] }
+{
+    let [one, other] = given else {
+        unreachable!();
+    };
+    (one.as_slice(), other.as_slice())
 }
 
 /// Answers a command whose files are given.
 fn answer_given(alloc: Global, command: &Command, given: &[Row<u8>]) -> Result<Answer, NoMemory>
-    requires { length given.now ≡ length (file_names command.now) }
-    ensures { IfOk result (λ answer. Outcome command.now (Loaded.Given given.now) answer.status answer.bytes.items) }
+    requires built { HasBuiltForm command.now }
+    requires fits { FitsNames (limit_of command.now) (Loaded.Given given.now)
+        (file_names command.now) }
+    ensures { IfOk result (λ answer. Gives command.now given.now answer.status
+        answer.bytes.items) }
 {
-    let [term, file] = given else {
-        unreachable!();
-    };
-    run_files(alloc, command.relation(), term.as_slice(), file.as_slice())
+    match command {
+        Command::Il(_) => il_file(alloc, one_file(given)),
+        Command::Run(relation, _, _, _, _) => {
+            let (term, file) = two_files(given);
+            run_file(alloc, relation.as_str(), term, file)
+        }
+        Command::Derive(relation, _, _, _, _) => {
+            let (term, file) = two_files(given);
+            derive_file(alloc, relation.as_str(), term, file)
+        }
+        Command::Verify(_, _) => {
+            let (il, derivation) = two_files(given);
+            verify_files(alloc, il, derivation)
+        }
+        Command::Check(_)
+        | Command::Groups(_)
+        | Command::Order(_)
+        | Command::Eval(_, _)
+        | Command::Next(_, _, _)
+        | Command::Prose(_)
+        | Command::Latex(_)
+        | Command::Make(_) => unreachable!(),
+    }
 }
 
-/// Answers a command where the load of this number failed.
-fn answer_failed(alloc: Global, command: &Command, number: usize) -> Result<Answer, NoMemory>
+/// Answers a command that was stopped by the file of this number.
+fn answer_stopped(
+    alloc: Global,
+    command: &Command,
+    number: usize,
+    status: Status,
+    front: &str,
+) -> Result<Answer, NoMemory>
     requires { number < length (file_names command.now) }
-    ensures { IfOk result (λ answer. Outcome command.now (Loaded.Failed number) answer.status answer.bytes.items) }
+    ensures status { IfOk result (λ answer. answer.status ≡ status) }
+    ensures bytes { IfOk result (λ answer.
+        StopsAt (λ name. front.now ++ name ++ codes "\n") command.now number answer.bytes.items) }
 {
     let names = command.file_names(alloc)?;
-    load_failed(alloc, names.as_slice()[number].as_str())
+    line_answer(alloc, status, front, names.as_slice()[number].as_str())
 }
 
 /// Answers a command whose loads came to this.
 fn answer_loaded(alloc: Global, command: &Command, loaded: &Loaded) -> Result<Answer, NoMemory>
-    requires { FitsNames loaded.now (file_names command.now) }
-    ensures { IfOk result (λ answer. Outcome command.now loaded.now answer.status answer.bytes.items) }
+    requires built { HasBuiltForm command.now }
+    requires fits { FitsNames (limit_of command.now) loaded.now (file_names command.now) }
+    ensures { IfOk result (λ answer. Outcome command.now loaded.now answer.status
+        answer.bytes.items) }
 {
     match loaded {
         Loaded::Given(given) => answer_given(alloc, command, given.as_slice()),
-        Loaded::Failed(number) => answer_failed(alloc, command, *number),
-        Loaded::TooLong(_) => unbuilt(alloc),
+        Loaded::Failed(number) => {
+            answer_stopped(alloc, command, *number, Status::Load, "load failed ")
+        }
+        Loaded::TooLong(number) => {
+            answer_stopped(alloc, command, *number, Status::TooLarge, "too large ")
+        }
     }
+}
+
+/// Whether the command is of a form that is built.
+fn has_built_form(command: &Command) -> bool
+    ensures { IsTrue result ↔ HasBuiltForm command.now }
+{
+    match command {
+        Command::Il(files)
+        | Command::Run(_, _, files, _, _)
+        | Command::Derive(_, _, files, _, _) => files.len() == 1,
+        Command::Verify(_, _) => true,
+        Command::Check(_)
+        | Command::Groups(_)
+        | Command::Order(_)
+        | Command::Eval(_, _)
+        | Command::Next(_, _, _)
+        | Command::Prose(_)
+        | Command::Latex(_)
+        | Command::Make(_) => false,
+    }
+}
+
+/// The most bytes of a file of the command.
+fn limit_of(command: &Command) -> u32
+    ensures { result ≡ limit_of command.now }
+{
+    match command {
+        Command::Verify(_, _) => TEXT_LIMIT,
+        _ => SOURCE_LIMIT,
+    }
+}
+
+/// Answers a command that is built.
+fn answer_command<F: Files>(
+    alloc: Global,
+    command: &Command,
+    files: &mut F,
+) -> Result<Answer, NoMemory>
+    requires { HasBuiltForm command.now }
+    ensures same { F.held files.new ≡ F.held files.old }
+    ensures loads { IfOk result (λ answer. (loaded : Loading)
+        × LoadsTo (F.held files.old) (limit_of command.now) (file_names command.now) (counts_of (F.loads files.old) (F.faults files.old) (F.last files.old)) loaded (counts_of (F.loads files.new) (F.faults files.new) (F.last files.new))
+        × Outcome command.now loaded answer.status answer.bytes.items) }
+{
+    let names = command.file_names(alloc)?;
+    let loaded = load_all(alloc, files, names.as_slice(), limit_of(command))?;
+    answer_loaded(alloc, command, &loaded)
 }
 
 /// Answers the words of a command.
@@ -135,10 +196,16 @@ pub fn answer_words<F: Files>(
 ) -> Result<Answer, NoMemory>
     ensures { IfOk result (λ answer. HasOutcome (F.held files.old) (map string_bytes words.now) (counts_of (F.loads files.old) (F.faults files.old) (F.last files.old)) (counts_of (F.loads files.new) (F.faults files.new) (F.last files.new)) answer.status answer.bytes.items) }
 {
-    let Some(command) = read_words(alloc, words)? else {
-        return unbuilt(alloc);
+    let command = match read_words(alloc, words) {
+        Ok(command) => command,
+        Err(WordsFault::Usage) => return line_answer(alloc, Status::Usage, "usage", ""),
+        Err(WordsFault::Memory) => return Err(NoMemory),
     };
-    let names = command.file_names(alloc)?;
-    let loaded = load_all(alloc, files, names.as_slice(), SOURCE_LIMIT)?;
-    answer_loaded(alloc, &command, &loaded)
+    if command.file_names(alloc)?.len() > MOST_FILES {
+        return line_answer(alloc, Status::TooLarge, "too many files", "");
+    }
+    if !has_built_form(&command) || has_options(words) {
+        return unbuilt(alloc);
+    }
+    answer_command(alloc, &command, files)
 }

@@ -5,7 +5,7 @@ ghost use Rattle.st_deriv.specs.LineText.{HasText, lines_text};
 ghost use Rattle.st_il.specs.Small.{IsSmall, il_of};
 ghost use Rattle.st_tool.specs.Derivation.{last_line};
 ghost use Rattle.st_tool.specs.Nodes.{rule_node};
-ghost use Rattle.st_tool.specs.Outcome.{IsDerivationText, status_of};
+ghost use Rattle.st_tool.specs.Commands.{IsDerivationText, status_of};
 ghost use Rattle.st_tool.specs.Transcript.{atom_term};
 
 use crate::step::next_rule;
@@ -20,7 +20,7 @@ use std::alloc::Global;
 pub fn derive(alloc: Global, small: &Small, start: &Name) -> Result<Answer, NoMemory>
     requires small { IsSmall small.now }
     requires known { Contains small.now.atoms start.now }
-    ensures { IfOk result (λ answer. IsDerivationText (il_of small.now) small.now.relation
+    ensures { IfOk result (λ answer. IsDerivationText small.now
         start.now answer.status answer.bytes.items) }
 {
     let mut lines = first_lines(alloc, small, start)?;

@@ -17,13 +17,14 @@ mod answer;
 mod derivation;
 mod loads;
 mod reader;
+mod source;
 mod status;
 mod step;
 #[cfg(test)]
 mod tests;
 mod text;
 mod transcript;
-mod words;
+mod verification;
 
 pub use answer::Answer;
 use answer::answer_words;
@@ -33,7 +34,6 @@ use st_outside::{Files, Sink, write_all_of};
 pub use status::Status;
 use std::alloc::Global;
 pub use transcript::Ending;
-pub use words::{Command, CommandWord};
 
 /// Does what the words ask for: loads its files, in the order of the words, and writes its text.
 ///

@@ -3,9 +3,9 @@
 ghost use Rattle.std.specs.Prelude.{◌≡◌, IfOk};
 ghost use Rattle.st_tool.specs.Loads.{counts_of, LoadsTo};
 
-use crate::CommandWord;
 use st_num::{NoMemory, Row};
 use st_outside::{Files, LoadFault};
+use st_words::CommandWord;
 use std::alloc::Global;
 
 /// What came of the loads of a command.

@@ -1,12 +1,11 @@
 //! The texts that commands print.
 
-ghost use Rattle.std.specs.Prelude.{◌≡◌, ◌++◌, OnOk, IfOk};
-ghost use Rattle.st_tool.specs.Texts.{atom_line, ending_line, unbuilt_text, load_failed_text};
+ghost use Rattle.std.specs.Prelude.{◌≡◌, ◌++◌, OnOk};
+ghost use Rattle.st_tool.specs.Texts.{atom_line, ending_line};
 
 use crate::transcript::Ending;
 use itoa::Buffer;
 use st_num::{Name, NoMemory};
-use std::alloc::Global;
 
 /// Appends the line of an atom and its number.
 pub fn push_atom_line(out: &mut Vec<u8>, number: u64, atom: &Name) -> Result<(), NoMemory>
@@ -30,22 +29,4 @@ pub fn push_ending_line(out: &mut Vec<u8>, ending: Ending, steps: u64) -> Result
     out.extend_from_slice(buffer.format(steps).as_bytes())?;
     out.extend_from_slice(b" steps\n")?;
     Ok(())
-}
-
-/// The text where what is asked for is not built.
-pub fn unbuilt_line(alloc: Global) -> Result<Vec<u8>, NoMemory>
-    ensures { IfOk result (λ text. text.items ≡ unbuilt_text) }
-{
-    let text = Vec::from_slice(alloc, b"unbuilt\n")?;
-    Ok(text)
-}
-
-/// The text where the load of a file failed.
-pub fn load_failed_line(alloc: Global, name: &str) -> Result<Vec<u8>, NoMemory>
-    ensures { IfOk result (λ text. text.items ≡ load_failed_text name.now) }
-{
-    let mut text = Vec::from_slice(alloc, b"load failed ")?;
-    text.extend_from_slice(name.as_bytes())?;
-    text.extend_from_slice(b"\n")?;
-    Ok(text)
 }

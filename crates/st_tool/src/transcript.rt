@@ -1,7 +1,7 @@
 //! Runs: from term to term, by the least that is derivable.
 
 ghost use Rattle.std.specs.Prelude.{◌≡◌, ◌++◌, IfOk};
-ghost use Rattle.st_tool.specs.Outcome.{IsRunText, status_of};
+ghost use Rattle.st_tool.specs.Commands.{IsRunText, status_of};
 ghost use Rattle.st_il.specs.Small.{il_of};
 ghost use Rattle.st_tool.specs.Texts.{ending_word, ending_line};
 
@@ -46,7 +46,7 @@ pub const FUEL: u64 = 1000;
 
 /// Runs a specification from an atom.
 pub fn run(alloc: Global, small: &Small, start: &Name) -> Result<Answer, NoMemory>
-    ensures { IfOk result (λ answer. IsRunText (il_of small.now) start.now answer.status answer.bytes.items) }
+    ensures { IfOk result (λ answer. IsRunText small.now start.now answer.status answer.bytes.items) }
 {
     let mut bytes = Vec::new(alloc);
     let mut atom = start;

@@ -1,6 +1,6 @@
 use Rattle.std.proofs.Common.{◌≡◌, ◌≤◌, ◌++◌, ◌∙◌, sym, ap, subst, refl, arith}
 use Rattle.st_tool.specs.declared.transcript.Ending.TheVariants.{Stuck}
-use Rattle.st_tool.specs.Outcome.{default_fuel}
+use Rattle.st_tool.specs.Commands.{default_fuel}
 use Rattle.st_il.specs.Small.{il_of}
 use Rattle.st_tool.specs.Transcript.{EndsBy, atom_term}
 use Rattle.st_tool.proofs.Atoms.{term_line-atom}
@@ -16,7 +16,7 @@ loop-number-init c =
 
 pub returns-in-None : goal.returns-in-None
 returns-in-None c =
-    answers (il_of c.args.small.now) c.args.start.now c.loop-number.atom.now c.loop-number.number c.loop-number.bytes.items c.push_atom_line.new.out.items Stuck c.ended.result
+    answers c.args.small.now c.args.start.now c.loop-number.atom.now c.loop-number.number c.loop-number.bytes.items c.push_atom_line.new.out.items Stuck c.ended.result
     c.loop-number.invariant c.in_ok-push_atom_line.ensures (omega arith, c.in-None.ensures) c.ended.ensures.status c.ended.ensures.bytes
 
 pub loop-number-preserved : goal.loop-number-preserved
@@ -37,5 +37,5 @@ returns c =
       | in-None-next_rule w ↦ subst (λ e. EndsBy il 0 default_fuel 1000 term e) (sym w.ending-is) (let fits : 1000 ≤ 1000 = omega arith in fits, w.in-None-next_rule.ensures)
       | in-Some-next_rule w ↦ subst (λ e. EndsBy il 0 default_fuel 1000 term e) (sym w.ending-is) (refl, (_, w.in-Some-next_rule.ensures.next.derivable))
     ] in
-    answers il c.args.start.now c.loop-number.atom.now 1000 c.loop-number.bytes.items c.push_atom_line-2.new.out.items c.match-next_rule-2.ending c.ended-2.result
+    answers c.args.small.now c.args.start.now c.loop-number.atom.now 1000 c.loop-number.bytes.items c.push_atom_line-2.new.out.items c.match-next_rule-2.ending c.ended-2.result
     run c.in_ok-push_atom_line-2.ensures how c.ended-2.ensures.status c.ended-2.ensures.bytes

@@ -1,7 +1,7 @@
 use Rattle.std.proofs.Common.{sym, subst}
-use Rattle.st_tool.specs.Outcome.{IsAtomText}
+use Rattle.st_tool.specs.Commands.{IsAtomText}
 use Rattle.st_tool.proofs.Terms.{passes, none_left}
-use Rattle.st_tool.proofs.answer.read_term.Goals as goal
+use Rattle.st_tool.proofs.source.read_term.Goals as goal
 
 pub loop-atom-preserved : goal.loop-atom-preserved
 loop-atom-preserved c =

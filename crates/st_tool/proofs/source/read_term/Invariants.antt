@@ -1,7 +1,7 @@
 use Rattle.std.proofs.Common.{◌≡◌, ℕ, ◌<◌, List, Some}
 use Rattle.std.specs.Prelude.{slice_get}
-use Rattle.st_tool.specs.Outcome.{IsAtomText}
-use Rattle.st_tool.proofs.answer.read_term.Given as goal
+use Rattle.st_tool.specs.Commands.{IsAtomText}
+use Rattle.st_tool.proofs.source.read_term.Given as goal
 
 -- none of the atoms before this one is the term
 abbrev pub invariant-loop-atom : goal.invariant-loop-atom

@@ -1,0 +1,220 @@
+-- A verifier that is given the lines of a derivation, and what it says at the end.
+use Rattle.std.proofs.Common.{◌≡◌, ◌≢◌, ℕ, suc, ◌+◌, ◌≤◌, ◌<◌, List, [], ◌∷◌, ◌++◌, Some, None, true, false, length, ◌∙◌, sym, ap, ap₂, refl, subst, arith, inl, inr, append_assoc, append-nil, length-append, flat_map}
+use Rattle.std.specs.Prelude.{Contains, All, Result, Ok, Err, IfOk, MatchOption}
+use Rattle.std.proofs.lemmas.List.Elements.{All-nil, All-push, All-cons, Contains-append_right}
+use Rattle.st_deriv.specs.declared.line.Ending.{Ending}
+use Rattle.st_deriv.specs.declared.line.Line.{Line}
+use Rattle.st_deriv.specs.declared.line.Line.TheVariants.{Head, From, Node, Step, End}
+use Rattle.st_deriv.specs.LineText.{HasText, line_text, LineText, lines_text, LinesText}
+use Rattle.st_deriv.specs.Reading.{IsNoLine}
+use Rattle.st_deriv.proofs.LineFeeds.{no_line_feed}
+use Rattle.st_il.specs.declared.definition.Il.{Il}
+use Rattle.st_iltext.specs.IlText.{IlText, IsNoIl}
+use Rattle.st_iltext.proofs.Lines.{line_unique, no_line}
+use Rattle.st_num.specs.declared.memory.NoMemory.{NoMemory}
+use Rattle.st_tool.specs.declared.answer.Answer.{Answer}
+use Rattle.st_tool.specs.declared.status.Status.{Status}
+use Rattle.st_tool.specs.declared.status.Status.TheVariants as answer
+use Rattle.st_tool.specs.Checks.{TakesFirst, Takes, HasTaken, going, refused, TakenTo, AreLines, HasNoLines, EndsNow, Ends, Tells}
+use Rattle.st_tool.specs.Commands.{VerifyGives, IsUnbuilt}
+use Rattle.st_tool.specs.Texts.{accepted_text, refused_text}
+use Rattle.st_tool.specs.Verification.{AreTexts, steps_in, Verified, accepted, refused as refuses, unfinished, endless}
+use Rattle.st_verify.specs.declared.accepted.Accepted.{Accepted}
+use Rattle.st_verify.specs.declared.fault.VerifyFault.{VerifyFault}
+use Rattle.st_verify.specs.declared.fault.VerifyFault.TheVariants.{Refused, Memory}
+use Rattle.st_verify.specs.declared.fault.VerifyRule.{VerifyRule}
+use Rattle.st_verify.specs.declared.fault.VerifyRule.TheVariants.{V3, V12}
+use Rattle.st_verify.specs.declared.notes.Notes.{Notes}
+use Rattle.st_verify.specs.Accepts.{ReadsTo, none, more, Accepts}
+use Rattle.st_verify.specs.Notes.{nothing_noted, noted}
+use Rattle.st_verify.specs.Verdict.{Verdict, IsInPlace}
+use Rattle.st_verify.specs.Verifier.{Checking}
+use Rattle.st_verify.proofs.Judged.{accepted as accepted_line}
+use Rattle.st_verify.proofs.Soundness.{length-noted}
+
+-- ---- what is noted of lines
+
+pub read_length : (il : Il) (lines : List Line) (notes : Notes) → ReadsTo il lines notes → length notes.lines ≡ length lines
+read_length il lines notes (none is) = ap (λ (n : Notes). length n.lines) is
+read_length il all notes (more {lines} {before = before} line read verdict are is) =
+    ap (λ (n : Notes). length n.lines) is ∙ length-noted before line ∙ ap suc (read_length il lines before read)
+    ∙ sym (ap length are ∙ longer lines)
+  where
+    longer : (xs : List Line) → length (xs ++ line ∷ []) ≡ suc (length xs)
+    longer xs = omega (arith, length-append xs (line ∷ []))
+
+steps_one : Line → ℕ
+steps_one line = steps_in (line ∷ [])
+
+steps_in-append : (lines others : List Line) → steps_in (lines ++ others) ≡ steps_in lines + steps_in others
+steps_in-append [] others = refl
+steps_in-append (Head format relation ∷ lines) others = steps_in-append lines others
+steps_in-append (From values ∷ lines) others = steps_in-append lines others
+steps_in-append (Node node ∷ lines) others = steps_in-append lines others
+steps_in-append (Step number ∷ lines) others = ap suc (steps_in-append lines others)
+steps_in-append (End ending ∷ lines) others = steps_in-append lines others
+
+steps-noted : (notes : Notes) (line : Line) → (noted notes line).steps ≡ notes.steps + steps_one line
+steps-noted notes (Head format relation) = omega arith
+steps-noted notes (From values) = omega arith
+steps-noted notes (Node node) = omega arith
+steps-noted notes (Step number) = omega arith
+steps-noted notes (End ending) = omega arith
+
+read_steps : (il : Il) (lines : List Line) (notes : Notes) → ReadsTo il lines notes → notes.steps ≡ steps_in lines
+read_steps il lines notes (none is) = ap (λ (n : Notes). n.steps) is
+read_steps il all notes (more {lines} {before = before} line read verdict are is) =
+    ap (λ (n : Notes). n.steps) is ∙ steps-noted before line ∙ ap (λ n. n + steps_one line) (read_steps il lines before read)
+    ∙ sym (ap steps_in are ∙ steps_in-append lines (line ∷ []))
+
+-- where the end was taken, the last line is an end line
+in_place : (il : Il) (notes : Notes) (line : Line) → Verdict il notes line None → IsInPlace notes line
+in_place il notes line verdict = (accepted_line il notes line verdict).in_place
+
+record EndsLine (lines : List Line) : Type 0 where
+  before : List Line
+  ending : Ending
+  is : lines ≡ before ++ End ending ∷ []
+
+last_ended : (il : Il) (before : Notes) (lines all : List Line) (line : Line) → Verdict il before line None → all ≡ lines ++ line ∷ [] → (noted before line).ended ≡ true → EndsLine all
+last_ended il before lines all (End ending) verdict are ended = record { before = lines; ending = ending; is = are }
+last_ended il before lines all (Head format relation) verdict are ended = let place = in_place il before (Head format relation) verdict in cc (place.1.0, ended)
+last_ended il before lines all (From values) verdict are ended = let place = in_place il before (From values) verdict in cc (place.1, ended)
+last_ended il before lines all (Node node) verdict are ended = let place = in_place il before (Node node) verdict in cc (place.1, ended)
+last_ended il before lines all (Step number) verdict are ended = let place = in_place il before (Step number) verdict in cc (place.1, ended)
+
+accepts : (il : Il) (lines : List Line) (notes : Notes) → ReadsTo il lines notes → notes.ended ≡ true → Accepts il lines
+accepts il lines notes (none is) ended = cc
+accepts il all notes (more {lines} {before = before} line read verdict are is) ended =
+    let last = last_ended il before lines all line verdict are (sym (ap (λ (n : Notes). n.ended) is) ∙ ended) in
+    record { notes = notes; read = more line read verdict are is; before = last.before; ending = last.ending; ended = last.is }
+
+-- ---- a verifier takes lines
+
+pub take_more : (il : Il) (lines : List Line) (line : Line) (old new : Checking) → HasTaken il lines old → Takes old line new → HasTaken il (lines ++ line ∷ []) new
+take_more il lines line old new (going notes read is) takes = first (subst (λ o. Takes o line new) is takes)
+  where
+    first : TakesFirst (record { il = il; notes = notes; refusal = None }) line new → HasTaken il (lines ++ line ∷ []) new
+    first (inl (verdict, then)) = going (noted notes line) (more line read verdict refl refl) then
+    first (inr (rule, verdict, then)) = refused lines [] line notes rule refl read verdict then
+take_more il lines line old new (refused good after bad notes rule parts read verdict is) takes =
+    let same = subst (λ o. Takes o line new) is takes in
+    refused good (after ++ line ∷ []) bad notes rule (ap (λ ls. ls ++ line ∷ []) parts ∙ append_assoc good (bad ∷ after) (line ∷ [])) read verdict same
+
+-- no more lines are noted than were taken
+pub taken_length : (il : Il) (lines : List Line) (checking : Checking) → HasTaken il lines checking → length checking.notes.lines ≤ length lines
+taken_length il lines checking (going notes read is) = omega (arith, ap (λ (c : Checking). length c.notes.lines) is, read_length il lines notes read)
+taken_length il lines checking (refused good after bad notes rule parts read verdict is) =
+    omega (arith, ap (λ (c : Checking). length c.notes.lines) is, read_length il good notes read, ap length parts, length-append good (bad ∷ after))
+
+-- each line has a byte at least
+lines_long : (lines : List Line) → length lines ≤ length (lines_text lines)
+lines_long [] = omega arith
+lines_long (line ∷ lines) = omega (arith, lines_long lines, length-append (line_text line ++ 10 ∷ []) (lines_text lines), length-append (line_text line) (10 ∷ []))
+
+pub noted_few : (il : Il) (bytes rest : List ℕ) (checking : Checking) → TakenTo il bytes checking rest → length checking.notes.lines ≤ length bytes
+noted_few il bytes rest checking taken =
+    omega (arith, taken_length il taken.lines checking taken.taken, lines_long taken.lines, ap length taken.texts.is, ap length taken.parts, length-append taken.front rest)
+
+-- before the first line
+pub nothing_taken : (il : Il) (bytes : List ℕ) (checking : Checking) → checking ≡ record { il = il; notes = nothing_noted; refusal = None } → TakenTo il bytes checking bytes
+nothing_taken il bytes checking is =
+    record { lines = []; front = []; texts = record { have = All-nil HasText; is = refl }; parts = refl; taken = going nothing_noted (none refl) is }
+
+-- one line more
+lines_text-push : (lines : List Line) (line : Line) → lines_text (lines ++ line ∷ []) ≡ lines_text lines ++ (line_text line ++ 10 ∷ [])
+lines_text-push [] line = append-nil (line_text line ++ 10 ∷ [])
+lines_text-push (one ∷ lines) line =
+    ap (λ t. (line_text one ++ 10 ∷ []) ++ t) (lines_text-push lines line) ∙ sym (append_assoc (line_text one ++ 10 ∷ []) (lines_text lines) (line_text line ++ 10 ∷ []))
+
+pub taken_more : (il : Il) (bytes rest text behind : List ℕ) (line : Line) (old new : Checking) → TakenTo il bytes old rest → rest ≡ text ++ 10 ∷ behind
+    → LineText line text → Takes old line new → TakenTo il bytes new behind
+taken_more il bytes rest text behind line old new taken parts is takes =
+    record {
+      lines = taken.lines ++ line ∷ [];
+      front = taken.front ++ (text ++ 10 ∷ []);
+      texts = record {
+        have = All-push HasText taken.lines line taken.texts.have is.has;
+        is = ap₂ (λ front t. front ++ (t ++ 10 ∷ [])) taken.texts.is is.is ∙ sym (lines_text-push taken.lines line);
+      };
+      parts = taken.parts ∙ ap (λ r. taken.front ++ r) (parts ∙ sym (append_assoc text (10 ∷ []) behind)) ∙ sym (append_assoc taken.front (text ++ 10 ∷ []) behind);
+      taken = take_more il taken.lines line old new taken.taken takes;
+    }
+
+-- ---- bytes that are no lines
+
+line_feeds : (line : Line) → HasText line → Contains (line_text line) 10 → ⊥
+line_feeds line has (k, below, is) = no_line_feed line (line_text line) (record { has = has; is = refl }) k 10 below is
+
+first_line : (lines : List Line) (line : Line) (rest : List ℕ) → lines_text (line ∷ lines) ++ rest ≡ line_text line ++ 10 ∷ (lines_text lines ++ rest)
+first_line lines line rest = append_assoc (line_text line ++ 10 ∷ []) (lines_text lines) rest ∙ append_assoc (line_text line) (10 ∷ []) (lines_text lines ++ rest)
+
+no_line_here : (lines others : List Line) (text behind rest : List ℕ) → All HasText lines → All HasText others → (Contains text 10 → ⊥) → IsNoLine text → (Contains rest 10 → ⊥)
+    → lines_text lines ++ (text ++ 10 ∷ behind) ≡ lines_text others ++ rest → ⊥
+no_line_here [] [] text behind rest have other single no_line_text ends same = no_line rest text behind ends (sym same)
+no_line_here [] (other ∷ others) text behind rest have has single no_line_text ends same =
+    let first = has 0 other (omega arith) in
+    let apart = line_unique text (line_text other) behind (lines_text others ++ rest) single (line_feeds other first) (same ∙ first_line others other rest) in
+    no_line_text.never other (record { has = first; is = apart.0 })
+no_line_here (line ∷ lines) [] text behind rest have has single no_line_text ends same =
+    no_line rest (line_text line) (lines_text lines ++ (text ++ 10 ∷ behind)) ends (sym same ∙ first_line lines line (text ++ 10 ∷ behind))
+no_line_here (line ∷ lines) (other ∷ others) text behind rest have has single no_line_text ends same =
+    let apart = line_unique (line_text line) (line_text other) (lines_text lines ++ (text ++ 10 ∷ behind)) (lines_text others ++ rest)
+          (line_feeds line (have 0 line (omega arith))) (line_feeds other (has 0 other (omega arith)))
+          (sym (first_line lines line (text ++ 10 ∷ behind)) ∙ same ∙ first_line others other rest) in
+    no_line_here lines others text behind rest (λ k d h. have (suc k) d (omega arith)) (λ k d h. has (suc k) d (omega arith)) single no_line_text ends apart.1
+
+pub no_lines : (il : Il) (bytes rest text behind : List ℕ) (old : Checking) → TakenTo il bytes old rest → rest ≡ text ++ 10 ∷ behind → (Contains text 10 → ⊥) → IsNoLine text
+    → HasNoLines bytes
+no_lines il bytes rest text behind old taken parts single none lines left are =
+    no_line_here taken.lines lines text behind left taken.texts.have are.texts.have single none are.rest_has_no_end
+    (ap₂ ◌++◌ (sym taken.texts.is) (sym parts) ∙ sym taken.parts ∙ are.parts ∙ ap (λ front. front ++ left) are.texts.is)
+
+-- ---- the answer
+
+told : (il : Il) (lines : List Line) (rest : List ℕ) (notes : Notes) (result : Result Accepted VerifyFault) (status : Status) (bytes : List ℕ) → ReadsTo il lines notes
+    → EndsNow (record { il = il; notes = notes; refusal = None }) rest result → Tells result status bytes → Verified il lines rest status bytes
+told il lines rest notes (Ok a) status bytes read (empty, ended, count, steps) (is, text) =
+    subst (λ s. Verified il lines rest s bytes) (sym is)
+    (accepted (accepts il lines notes read ended) empty
+      (text ∙ ap₂ accepted_text (count ∙ read_length il lines notes read) (steps ∙ read_steps il lines notes read)))
+told il lines rest notes (Err fault) status bytes read (inl (empty, ended, is)) tells =
+    let (status_is, text) = subst (λ f. Tells (Err f) status bytes) is tells in
+    subst (λ s. Verified il lines rest s bytes) (sym status_is)
+    (endless read ended empty (text ∙ ap (λ n. refused_text (n + 1) V12) (read_length il lines notes read)))
+told il lines rest notes (Err fault) status bytes read (inr (some, is)) tells =
+    let (status_is, text) = subst (λ f. Tells (Err f) status bytes) is tells in
+    subst (λ s. Verified il lines rest s bytes) (sym status_is)
+    (unfinished read some (text ∙ ap (λ n. refused_text (n + 1) V3) (read_length il lines notes read)))
+
+verified : (il : Il) (lines : List Line) (rest : List ℕ) (checking : Checking) (result : Result Accepted VerifyFault) (status : Status) (bytes : List ℕ) → HasTaken il lines checking
+    → Ends checking rest result → Tells result status bytes → Verified il lines rest status bytes
+verified il lines rest checking result status bytes (going notes read is) ends tells =
+    told il lines rest notes result status bytes read (subst (λ c. Ends c rest result) is ends) tells
+verified il lines rest checking result status bytes (refused good after line notes rule parts read verdict is) ends tells =
+    let result_is = subst (λ c. Ends c rest result) is ends in
+    let (status_is, text) = subst (λ r. Tells r status bytes) result_is tells in
+    subst (λ s. Verified il lines rest s bytes) (sym status_is)
+    (refuses parts read verdict (text ∙ ap (λ n. refused_text (n + 1) rule) (read_length il good notes read)))
+
+pub verify_answer : (il_bytes derivation rest : List ℕ) (il : Il) (checking : Checking) (verdict : Result Accepted VerifyFault) (result : Result Answer NoMemory)
+    → IlText il il_bytes → TakenTo il derivation checking rest → (Contains rest 10 → ⊥) → Ends checking rest verdict
+    → IfOk result (λ answer. Tells verdict answer.status answer.bytes.items)
+    → IfOk result (λ answer. VerifyGives il_bytes derivation answer.status answer.bytes.items)
+verify_answer il_bytes derivation rest il checking verdict (Err e) text taken ends says tells = tt
+verify_answer il_bytes derivation rest il checking verdict (Ok answer) text taken ends says tells =
+    inl (il, taken.lines, rest,
+      record { language = text; front = taken.front; lines_are = taken.texts; rest_has_no_end = ends; parts = taken.parts },
+      verified il taken.lines rest checking verdict answer.status answer.bytes.items taken.taken says tells)
+
+-- other files are not built
+pub no_language : (il_bytes derivation : List ℕ) (result : Result Answer NoMemory) → IsNoIl il_bytes → IfOk result (λ answer. IsUnbuilt answer.status answer.bytes.items)
+    → IfOk result (λ answer. VerifyGives il_bytes derivation answer.status answer.bytes.items)
+no_language il_bytes derivation (Err e) none unbuilt = tt
+no_language il_bytes derivation (Ok answer) none unbuilt = inr (λ il lines rest are. none.never il are.language, unbuilt)
+
+pub no_derivation : (il_bytes derivation : List ℕ) (result : Result Answer NoMemory) → HasNoLines derivation → IfOk result (λ answer. IsUnbuilt answer.status answer.bytes.items)
+    → IfOk result (λ answer. VerifyGives il_bytes derivation answer.status answer.bytes.items)
+no_derivation il_bytes derivation (Err e) none unbuilt = tt
+no_derivation il_bytes derivation (Ok answer) none unbuilt =
+    inr (λ il lines rest are. none lines rest (record { front = are.front; texts = are.lines_are; rest_has_no_end = are.rest_has_no_end; parts = are.parts }), unbuilt)

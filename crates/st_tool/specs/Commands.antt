@@ -1,0 +1,127 @@
+-- What each command gives of the files that it loads.
+use Rattle.std.specs.Prelude.{◌≡◌, ℕ, false, List, [], ◌∷◌, ◌++◌, Contains, ◌⊎◌}
+use Rattle.st_deriv.specs.declared.line.Line.{Line}
+use Rattle.st_deriv.specs.LineText.{LinesText}
+use Rattle.st_il.specs.declared.definition.Il.{Il}
+use Rattle.st_il.specs.declared.small.Small.{Small}
+use Rattle.st_il.specs.Small.{il_of}
+use Rattle.st_iltext.specs.IlText.{IlText}
+use Rattle.st_tool.specs.declared.status.Status.{Status}
+use Rattle.st_tool.specs.declared.status.Status.TheVariants as answer
+use Rattle.st_tool.specs.declared.transcript.Ending.{Ending}
+use Rattle.st_tool.specs.declared.transcript.Ending.TheVariants.{Stuck, Fuel}
+use Rattle.st_tool.specs.Derivation.{IsDerivation}
+use Rattle.st_tool.specs.SmallText.{IsTextOf}
+use Rattle.st_tool.specs.Texts.{transcript_text, unbuilt_text}
+use Rattle.st_tool.specs.Transcript.{Term, atom_term, IsTranscript}
+use Rattle.st_tool.specs.Verification.{AreTexts, Verified}
+use Rattle.st_verify.specs.Accepts.{Accepts}
+use Rattle.st_words.specs.declared.command.Command.{Command}
+use Rattle.st_words.specs.declared.command.Command.TheVariants.{Il as IlOf, Run, Derive, Verify}
+use Rattle.st_words.specs.Arranged.{has_options}
+
+-- the steps of a run, where the words do not say how many
+abbrev pub default_fuel : ℕ
+default_fuel = 1000
+
+abbrev pub status_of : Ending → Status
+status_of Stuck = answer.Done
+status_of Fuel = answer.Fuel
+
+-- nothing of this kind is built
+abbrev pub IsUnbuilt : Status → List ℕ → Type 0
+IsUnbuilt status bytes = (status ≡ answer.Unbuilt) × (bytes ≡ unbuilt_text)
+
+-- ---- the internal language
+
+-- of a small specification its internal language is printed; other files are not built
+abbrev pub IlGives : List ℕ → Status → List ℕ → Type 0
+IlGives file status bytes =
+    ((small : Small) × IsTextOf small file × (status ≡ answer.Done) × IlText (il_of small) bytes)
+    ⊎ (((small : Small) → IsTextOf small file → ⊥) × IsUnbuilt status bytes)
+
+-- ---- runs and derivations
+
+-- the bytes are an atom, perhaps with a line feed behind it
+abbrev pub IsAtomText : List ℕ → List ℕ → Type 0
+IsAtomText bytes atom = (bytes ≡ atom) ⊎ (bytes ≡ atom ++ 10 ∷ [])
+
+-- the bytes of a term file are an atom of the specification
+pub record IsTerm (small : Small) (bytes atom : List ℕ) : Type 0 where
+  pub text : IsAtomText bytes atom
+  pub known : Contains small.atoms atom
+
+-- so they are, and the relation has this name
+pub record IsStart (small : Small) (relation bytes atom : List ℕ) : Type 0 where
+  pub relation_is : small.relation ≡ relation
+  pub term : IsTerm small bytes atom
+
+-- these files are a specification of that relation, and a term of its atoms
+pub record IsRunnable (relation term_bytes file_bytes : List ℕ) (small : Small) (atom : List ℕ) : Type 0 where
+  pub source : IsTextOf small file_bytes
+  pub start : IsStart small relation term_bytes atom
+
+-- the status and the text of a run from this atom
+pub record IsRunText (small : Small) (atom : List ℕ) (status : Status) (bytes : List ℕ) : Type 0 where
+  pub terms : List Term
+  pub ending : Ending
+  pub transcript : IsTranscript (il_of small) 0 (atom_term atom) default_fuel terms ending
+  pub status_is : status ≡ status_of ending
+  pub bytes_are : bytes ≡ transcript_text terms ending
+
+-- the status and the text of the derivation of such a run; its lines are accepted by the checker of derivations
+pub record IsDerivationText (small : Small) (atom : List ℕ) (status : Status) (bytes : List ℕ) : Type 0 where
+  pub ending : Ending
+  pub lines : List Line
+  pub derivation : IsDerivation (il_of small) 0 small.relation (atom_term atom) default_fuel ending lines
+  pub accepted : Accepts (il_of small) lines
+  pub status_is : status ≡ status_of ending
+  pub text : LinesText lines bytes
+
+-- Where the files are such a specification and term, they give this; others are not built.
+abbrev pub RunGives : (Small → List ℕ → Status → List ℕ → Type 0) → List ℕ → List ℕ → List ℕ → Status → List ℕ → Type 0
+RunGives IsText relation term file status bytes =
+    ((small : Small) × (atom : List ℕ) × IsRunnable relation term file small atom × IsText small atom status bytes)
+    ⊎ (((small : Small) (atom : List ℕ) → IsRunnable relation term file small atom → ⊥) × IsUnbuilt status bytes)
+
+-- ---- verification
+
+-- Of the text of an internal language and of lines it is said whether they are accepted; other files are not built.
+abbrev pub VerifyGives : List ℕ → List ℕ → Status → List ℕ → Type 0
+VerifyGives il_bytes derivation status bytes =
+    ((il : Il) × (lines : List Line) × (rest : List ℕ) × AreTexts il_bytes derivation il lines rest × Verified il lines rest status bytes)
+    ⊎ (((il : Il) (lines : List Line) (rest : List ℕ) → AreTexts il_bytes derivation il lines rest → ⊥) × IsUnbuilt status bytes)
+
+-- ---- the commands
+
+-- what a command gives of the bytes of its files
+abbrev pub Gives : Command → List (List ℕ) → Status → List ℕ → Type 0
+Gives (IlOf names) (file ∷ []) status bytes = IlGives file status bytes
+Gives (Run relation name names fuel depth) (term ∷ file ∷ []) status bytes = RunGives IsRunText relation term file status bytes
+Gives (Derive relation name names fuel depth) (term ∷ file ∷ []) status bytes = RunGives IsDerivationText relation term file status bytes
+Gives (Verify il_name name) (il ∷ derivation ∷ []) status bytes = VerifyGives il derivation status bytes
+Gives command files status bytes = ⊥
+
+-- the forms of commands that are built: over one file of a specification
+abbrev pub HasBuiltForm : Command → Type 0
+HasBuiltForm (IlOf (file ∷ [])) = Unit {0}
+HasBuiltForm (Run relation term (file ∷ []) fuel depth) = Unit {0}
+HasBuiltForm (Derive relation term (file ∷ []) fuel depth) = Unit {0}
+HasBuiltForm (Verify il derivation) = Unit {0}
+HasBuiltForm command = ⊥
+
+-- so far commands are built without options
+abbrev pub IsBuilt : List (List ℕ) → Command → Type 0
+IsBuilt words command = HasBuiltForm command × (has_options words ≡ false)
+
+-- the most bytes of a source or a term, and those of a text that the program itself prints
+abbrev pub source_limit : ℕ
+source_limit = 1048576
+
+abbrev pub text_limit : ℕ
+text_limit = 67108864
+
+-- the most bytes of a file of a command
+abbrev pub limit_of : Command → ℕ
+limit_of (Verify il derivation) = text_limit
+limit_of command = source_limit

@@ -1,0 +1,10 @@
+-- Where there is no term from which a run begins.
+use Rattle.std.specs.Prelude.{List, ℕ}
+use Rattle.st_il.specs.declared.small.Small.{Small}
+use Rattle.st_tool.specs.Commands.{IsTerm, IsStart}
+
+abbrev pub HasNoTerm : Small → List ℕ → Type 0
+HasNoTerm small bytes = (atom : List ℕ) → ¬ (IsTerm small bytes atom)
+
+abbrev pub HasNoStart : Small → List ℕ → List ℕ → Type 0
+HasNoStart small relation bytes = (atom : List ℕ) → ¬ (IsStart small relation bytes atom)

@@ -1,0 +1,162 @@
+//! The verification of derivations.
+
+ghost use Rattle.std.specs.Prelude.{◌≡◌, ◌≤◌, ◌<◌, ◌^◌, None, length, IfOk, IfSome, IfNone, MatchBool, Contains};
+ghost use Rattle.st_deriv.specs.declared.line.Line.{Line};
+ghost use Rattle.st_deriv.specs.LineText.{LineText};
+ghost use Rattle.st_deriv.specs.Reading.{IsNoLine};
+ghost use Rattle.st_tool.specs.Checks.{Takes, TakenTo, HasNoLines, Ends, Tells};
+ghost use Rattle.st_tool.specs.Commands.{VerifyGives, text_limit};
+ghost use Rattle.st_tool.specs.Texts.{accepted_text, refused_text, rule_word};
+ghost use Rattle.st_verify.specs.Notes.{nothing_noted};
+
+use crate::answer::{Answer, unbuilt};
+use crate::Status;
+use itoa::Buffer;
+use st_deriv::read_line;
+use st_iltext::{TextFault, read_il};
+use st_num::NoMemory;
+use st_verify::{Accepted, Verifier, VerifyFault, VerifyRule};
+use std::alloc::Global;
+
+/// Gives a line to the verifier, which keeps a refusal; false where it is the text of no line.
+fn take_line(alloc: Global, verifier: &mut Verifier, line: &[u8]) -> Result<bool, NoMemory>
+    requires { length verifier.old.notes.lines < 2 ^ 32 }
+    ensures taken { IfOk result (λ is_line. MatchBool is_line
+        ((read : Line) × LineText read line.now × Takes verifier.old read verifier.new)
+        (IsNoLine line.now)) }
+{
+    match read_line(alloc, line) {
+        Ok(_) => {}
+        Err(TextFault::Malformed { line: _ }) => return Ok(false),
+        Err(TextFault::Memory) => return Err(NoMemory),
+    }
+    match verifier.feed(alloc, line) {
+        Ok(()) | Err(VerifyFault::Refused {
+            rule: _,
+            line: _,
+            typing: _,
+        }) => Ok(true),
+        Err(VerifyFault::Memory) => Err(NoMemory),
+    }
+}
+
+/// Gives the verifier all lines that end in a line feed, and answers what stands behind them; none
+/// where one is the text of no line.
+fn take_lines<'a>(
+    alloc: Global,
+    verifier: &mut Verifier,
+    bytes: &'a [u8],
+) -> Result<Option<&'a [u8]>, NoMemory>
+    requires new { verifier.old ≡ record { il = verifier.old.il; notes = nothing_noted; refusal = None } }
+    requires short { length bytes.now ≤ text_limit }
+    ensures some { IfOk result (λ taken. IfSome taken (λ rest.
+        TakenTo verifier.old.il bytes.now verifier.new rest.now × ¬ (Contains rest.now 10))) }
+    ensures none { IfOk result (λ taken. IfNone taken (HasNoLines bytes.now)) }
+{
+    let mut rest = bytes;
+    while let Some(end) = rest.iter().position(|byte| *byte == b'\n') {
+        if !take_line(alloc, verifier, &rest[..end])? {
+            return Ok(None);
+        }
+        rest = &rest[end + 1..];
+    }
+    Ok(Some(rest))
+}
+
+/// The line that says that a derivation is accepted.
+fn accepted_line(alloc: Global, accepted: Accepted) -> Result<Vec<u8>, NoMemory>
+    ensures { IfOk result (λ bytes. bytes.items ≡ accepted_text accepted.lines accepted.steps) }
+{
+    let mut buffer = Buffer::new();
+    let mut bytes = Vec::from_slice(alloc, b"accepted ")?;
+    bytes.extend_from_slice(buffer.format(accepted.lines).as_bytes())?;
+    bytes.extend_from_slice(b" lines ")?;
+    bytes.extend_from_slice(buffer.format(accepted.steps).as_bytes())?;
+    bytes.extend_from_slice(b" steps\n")?;
+    Ok(bytes)
+}
+
+/// The name of a rule.
+fn rule_word(rule: VerifyRule) -> &'static str
+    ensures { result.now ≡ rule_word rule }
+{
+    match rule {
+        VerifyRule::V1 => "V1",
+        VerifyRule::V2 => "V2",
+        VerifyRule::V3 => "V3",
+        VerifyRule::V4 => "V4",
+        VerifyRule::V5 => "V5",
+        VerifyRule::V6 => "V6",
+        VerifyRule::V7 => "V7",
+        VerifyRule::V8 => "V8",
+        VerifyRule::V9 => "V9",
+        VerifyRule::V10 => "V10",
+        VerifyRule::V11 => "V11",
+        VerifyRule::V12 => "V12",
+        VerifyRule::V13 => "V13",
+    }
+}
+
+/// The line that says that a line is refused.
+fn refused_line(alloc: Global, line: u64, rule: VerifyRule) -> Result<Vec<u8>, NoMemory>
+    ensures { IfOk result (λ bytes. bytes.items ≡ refused_text line rule) }
+{
+    let mut buffer = Buffer::new();
+    let mut bytes = Vec::from_slice(alloc, b"refused derivation ")?;
+    bytes.extend_from_slice(buffer.format(line).as_bytes())?;
+    bytes.extend_from_slice(b" ")?;
+    bytes.extend_from_slice(rule_word(rule).as_bytes())?;
+    bytes.extend_from_slice(b"\n")?;
+    Ok(bytes)
+}
+
+/// The answer that a verifier ends with.
+fn verdict_answer(alloc: Global, verdict: Result<Accepted, VerifyFault>) -> Result<Answer, NoMemory>
+    ensures { IfOk result (λ answer. Tells verdict answer.status answer.bytes.items) }
+{
+    match verdict {
+        Ok(accepted) => Ok(Answer {
+            status: Status::Done,
+            bytes: accepted_line(alloc, accepted)?,
+        }),
+        Err(VerifyFault::Refused {
+            rule,
+            line,
+            typing: _,
+        }) => Ok(Answer {
+            status: Status::Verification,
+            bytes: refused_line(alloc, line, rule)?,
+        }),
+        Err(VerifyFault::Memory) => Err(NoMemory),
+    }
+}
+
+/// What the verifier says at the end, with this behind the last line feed.
+fn finished(verifier: &mut Verifier, rest: &[u8]) -> Result<Accepted, VerifyFault>
+    ensures { Ends verifier.old rest.now result }
+{
+    if !rest.is_empty() {
+        verifier.judge_malformed()?;
+    }
+    verifier.finish()
+}
+
+/// Says whether the checker accepts a derivation, whose internal language is in another text.
+pub fn verify_files(alloc: Global, il: &[u8], derivation: &[u8]) -> Result<Answer, NoMemory>
+    requires { length derivation.now ≤ text_limit }
+    ensures { IfOk result (λ answer. VerifyGives il.now derivation.now answer.status
+        answer.bytes.items) }
+{
+    let il = match read_il(alloc, il) {
+        Ok(il) => il,
+        Err(TextFault::Malformed { line: _ }) => return unbuilt(alloc),
+        Err(TextFault::Memory) => return Err(NoMemory),
+    };
+    let Ok(mut verifier) = Verifier::new(alloc, il) else {
+        return Err(NoMemory);
+    };
+    let Some(rest) = take_lines(alloc, &mut verifier, derivation)? else {
+        return unbuilt(alloc);
+    };
+    verdict_answer(alloc, finished(&mut verifier, rest))
+}
