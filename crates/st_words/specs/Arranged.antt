@@ -1,5 +1,5 @@
 -- How the words behind the name of a command are arranged: plain words and options.
-use Rattle.std.specs.Prelude.{◌≡◌, ℕ, List, [], ◌∷◌, ◌++◌, length, codes, Bool, false, ◌&&◌, ◌==◌, nat_eq, nat_lt, ◌⊎◌}
+use Rattle.std.specs.Prelude.{◌≡◌, ℕ, List, [], ◌∷◌, ◌++◌, codes, Bool, false, ◌==◌, nat_eq, ◌⊎◌}
 use Rattle.std.specs.List.{list_any, before_first}
 use Rattle.std.specs.Cmp.Lexicographic.{pointwise}
 use Rattle.st_words.specs.declared.arrangement.Arrangement.{Arrangement}
@@ -11,7 +11,9 @@ begins_with_dash (byte ∷ bytes) = byte == 45
 
 -- whether it begins with `-` and is longer than one character
 abbrev pub is_dashed : List ℕ → Bool
-is_dashed word = begins_with_dash word && nat_lt 1 (length word)
+is_dashed [] = false
+is_dashed (byte ∷ []) = false
+is_dashed (byte ∷ next ∷ bytes) = byte == 45
 
 -- whether it is `--`, behind which no word is an option
 abbrev pub is_end : List ℕ → Bool

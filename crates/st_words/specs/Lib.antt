@@ -4,3 +4,5 @@ pub mod Arranged
 pub mod Numbers
 pub mod Table
 pub mod Reads
+pub mod Fronts
+pub mod Goals

@@ -12,7 +12,13 @@ mod command;
 mod command_word;
 mod fault;
 mod name;
+mod number;
+mod read;
+mod table;
+#[cfg(test)]
+mod tests;
 
 pub use command::Command;
 pub use command_word::CommandWord;
 pub use fault::WordsFault;
+pub use read::{has_options, read_words};

@@ -1,7 +1,8 @@
 //! The names of the commands.
 
-ghost use Rattle.std.specs.Prelude.{◌≡◌};
+ghost use Rattle.std.specs.Prelude.{◌≡◌, ◌≢◌, MatchOption};
 ghost use Rattle.st_words.specs.Names.{name_spelling};
+ghost use Rattle.st_words.specs.declared.name.CommandName.{CommandName};
 
 /// The name of a command, which is its first word.
 #[derive(Clone, Copy, Debug, PartialEq, Eq)]
@@ -40,4 +41,34 @@ impl CommandName {
             CommandName::Make => "make",
         }
     }
+}
+
+/// The names of the commands.
+const NAMES: [CommandName; 12] = [
+    CommandName::Check,
+    CommandName::Il,
+    CommandName::Groups,
+    CommandName::Order,
+    CommandName::Eval,
+    CommandName::Next,
+    CommandName::Run,
+    CommandName::Derive,
+    CommandName::Verify,
+    CommandName::Prose,
+    CommandName::Latex,
+    CommandName::Make,
+];
+
+/// The name that the word is, if any.
+pub(crate) fn name_of(word: &str) -> Option<CommandName>
+    ensures { MatchOption result
+        ((name : CommandName) → word.now ≢ name_spelling name)
+        (λ name. word.now ≡ name_spelling name) }
+{
+    for name in &NAMES {
+        if name.spelling() == word {
+            return Some(*name);
+        }
+    }
+    None
 }

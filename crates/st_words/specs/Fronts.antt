@@ -1,0 +1,68 @@
+-- The one arrangement that words may have, by what stands in front of them.
+use Rattle.std.specs.Prelude.{◌≡◌, ℕ, List, [], ◌∷◌, ◌++◌, drop, codes, not, nat_eq, if◌then◌else◌, Option, Some, None, ◌⊎◌}
+use Rattle.std.specs.List.{starts_with}
+use Rattle.std.specs.Cmp.Lexicographic.{pointwise}
+use Rattle.st_words.specs.declared.arrangement.Arrangement.{Arrangement}
+use Rattle.st_words.specs.Arranged.{begins_with_dash, is_dashed, is_end, plain_words}
+
+-- an arrangement with a word more in front
+abbrev pub with_plain : List ℕ → Option Arrangement → Option Arrangement
+with_plain word (Some rest) = Some (record rest { plain = word ∷ rest.plain })
+with_plain word None = None
+
+abbrev pub with_fuel : List ℕ → Option Arrangement → Option Arrangement
+with_fuel value (Some rest) = Some (record rest { fuels = value ∷ rest.fuels })
+with_fuel value None = None
+
+abbrev pub with_depth : List ℕ → Option Arrangement → Option Arrangement
+with_depth value (Some rest) = Some (record rest { depths = value ∷ rest.depths })
+with_depth value None = None
+
+-- an arrangement with all of another in front
+abbrev pub prepended : Arrangement → Option Arrangement → Option Arrangement
+prepended given (Some rest) = Some (record {
+  plain = given.plain ++ rest.plain;
+  fuels = given.fuels ++ rest.fuels;
+  depths = given.depths ++ rest.depths;
+})
+prepended given None = None
+
+-- a value that is a word of its own
+abbrev pub as_value : (List ℕ → Option Arrangement → Option Arrangement)
+    → List ℕ → Option Arrangement → Option Arrangement
+as_value add value rest = if begins_with_dash value then None else add value rest
+
+-- what a word in front makes of the words behind it, of their arrangement, and of what comes where
+-- the first of them is its value
+abbrev pub in_front : List ℕ → List (List ℕ) → Option Arrangement
+    → ((List ℕ → Option Arrangement → Option Arrangement) → Option Arrangement)
+    → Option Arrangement
+in_front word behind arrangement valued =
+    if not (is_dashed word) then with_plain word arrangement
+    else if is_end word then Some (plain_words behind)
+    else if pointwise nat_eq word (codes "--fuel") then valued with_fuel
+    else if pointwise nat_eq word (codes "--depth") then valued with_depth
+    else if starts_with nat_eq word (codes "--fuel=") then with_fuel (drop 7 word) arrangement
+    else if starts_with nat_eq word (codes "--depth=") then with_depth (drop 8 word) arrangement
+    else None
+
+-- the arrangement of words, if they have one
+abbrev pub arranged : List (List ℕ) → Option Arrangement
+arranged [] = Some (plain_words [])
+arranged (word ∷ []) = in_front word [] (Some (plain_words [])) (λ add. None)
+arranged (word ∷ next ∷ words) =
+    in_front word (next ∷ words) (arranged (next ∷ words))
+    (λ add. as_value add next (arranged words))
+
+-- the value of an option stands in this word
+abbrev pub AddsJoined : Arrangement → Arrangement → List ℕ → Type 0
+AddsJoined before after word =
+    ((value : List ℕ) × (word ≡ codes "--fuel=" ++ value)
+    × (after ≡ record before { fuels = before.fuels ++ value ∷ [] }))
+    ⊎ ((value : List ℕ) × (word ≡ codes "--depth=" ++ value)
+    × (after ≡ record before { depths = before.depths ++ value ∷ [] }))
+
+-- it stands not
+pub record IsNotJoined (word : List ℕ) : Type 0 where
+  pub no_fuel : (value : List ℕ) → ¬ (word ≡ codes "--fuel=" ++ value)
+  pub no_depth : (value : List ℕ) → ¬ (word ≡ codes "--depth=" ++ value)
