@@ -32,6 +32,7 @@ mod word;
 pub use fault::TextFault;
 pub use il::{print_il, read_il};
 pub use law::{one_text_one_il, one_text_one_tree, texts_end};
+pub use line::next_line;
 pub use number::{print_natural, read_integer, read_natural};
 pub use print::{print_quoted, print_row, print_tree};
 pub use read::{read_front, read_row, read_tree};

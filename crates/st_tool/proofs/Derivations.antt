@@ -1,21 +1,19 @@
 -- A run and its lines, step by step.
-use Rattle.std.proofs.Common.{◌≡◌, ℕ, ◌+◌, ◌*◌, ◌≤◌, ◌<◌, ◌^◌, List, [], ◌∷◌, ◌++◌, length, ◌∙◌, sym, ap, refl, subst, arith, append_assoc, length-append}
+use Rattle.std.proofs.Common.{◌≡◌, ℕ, ◌+◌, ◌*◌, ◌<◌, List, [], ◌∷◌, ◌++◌, length, ◌∙◌, sym, ap, refl, subst, arith, append_assoc, length-append}
 use Rattle.std.specs.Prelude.{slice_get, Some, Contains, All, Result, Ok, Err, IfOk}
 use Rattle.std.proofs.lemmas.List.Elements.{All-nil, All-cons, All-push, All-contains}
 use Rattle.std.proofs.lemmas.Option.{get_or_from_slice_get, slice_get_within}
 use Rattle.st_deriv.specs.declared.line.Line.{Line}
 use Rattle.st_deriv.specs.declared.line.Line.TheVariants.{Head, From, Node, Step, End}
-use Rattle.st_deriv.specs.LineText.{HasText, lines_text, LinesText}
+use Rattle.st_deriv.specs.LineText.{HasText, lines_text}
 use Rattle.st_il.specs.declared.small.Small.{Small}
 use Rattle.st_il.specs.declared.small.SmallRule.{SmallRule}
-use Rattle.st_il.specs.declared.tree.Tree.{Tree}
 use Rattle.st_il.specs.Small.{il_of, IsSmall, IsSmallRule, IsUpper, IsWordOf}
 use Rattle.st_num.specs.declared.memory.NoMemory.{NoMemory}
 use Rattle.st_tool.specs.declared.answer.Answer.{Answer}
-use Rattle.st_tool.specs.declared.status.Status.{Status}
 use Rattle.st_tool.specs.declared.transcript.Ending.{Ending}
 use Rattle.st_tool.specs.Commands.{IsDerivationText, default_fuel, status_of}
-use Rattle.st_tool.specs.Derivation.{IsStepTree, IsNodeOf, StepLines, begins, goes_on, last_line}
+use Rattle.st_tool.specs.Derivation.{StepLines, begins, goes_on, last_line}
 use Rattle.st_tool.specs.Nodes.{rule_node}
 use Rattle.st_tool.specs.Step.{IsNextRule}
 use Rattle.st_tool.specs.Transcript.{Term, atom_term, Reaches, begins as starts, goes_on as comes, EndsBy}
@@ -23,7 +21,7 @@ use Rattle.st_tool.proofs.Derives.{tree_of_rule, rule_is_valid, node_of_rule}
 use Rattle.st_tool.proofs.LineTexts.{head_text, from_text, node_text, step_text, end_text}
 use Rattle.st_tool.proofs.LineVerdicts.{IsAt, head_verdict, from_verdict, at_start, node_verdict, step_verdict, at_next, end_verdict}
 use Rattle.st_verify.specs.declared.notes.Notes.{Notes}
-use Rattle.st_verify.specs.Accepts.{ReadsTo, none, more, Accepts}
+use Rattle.st_verify.specs.Accepts.{ReadsTo, none, more}
 use Rattle.st_verify.specs.Notes.{nothing_noted, noted}
 
 -- so many steps of a run are derived: it has come to this atom, by these lines

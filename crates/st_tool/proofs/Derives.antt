@@ -24,7 +24,7 @@ use Rattle.st_il.specs.Small.{atom_exp, rule_def, il_of}
 use Rattle.st_tool.specs.Derivation.{IsNodeOf}
 use Rattle.st_tool.specs.Nodes.{rule_node}
 use Rattle.st_tool.specs.Step.{Gives, IsLeastOf, IsAtMost, IsNextRule}
-use Rattle.st_tool.specs.Transcript.{Term, atom_term, IsStuck, IsNext}
+use Rattle.st_tool.specs.Transcript.{Term, atom_term, IsStuck}
 use Rattle.st_tool.proofs.Atoms.{atom_name, values_cmp-atoms}
 
 -- the record of a rule

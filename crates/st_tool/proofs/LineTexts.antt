@@ -1,6 +1,5 @@
 -- The lines of a derivation of a small specification have texts.
-use Rattle.std.proofs.Common.{◌≡◌, ℕ, suc, ◌≤◌, ◌<◌, ◌^◌, List, [], ◌∷◌, length, Bool, true, false, ◌∙◌, sym, ap, refl, subst, arith, inl, nat_le, ◌&&◌, ◌||◌}
-use Rattle.std.specs.Prelude.{codes, All}
+use Rattle.std.proofs.Common.{◌≡◌, ℕ, suc, ◌<◌, ◌^◌, List, [], ◌∷◌, Bool, true, false, sym, ap, refl, subst, arith, inl, nat_le, ◌&&◌, ◌||◌}
 use Rattle.std.proofs.lemmas.Bool.{le-leb}
 use Rattle.std.proofs.lemmas.List.Elements.{All-nil, All-cons}
 use Rattle.std.proofs.lemmas.List.Sums.{list_all-from_AllPass}
@@ -32,7 +31,7 @@ tag_text atom upper = subst IsText (sym (tag_is atom)) (upper_text atom upper)
 
 -- upper-case letters are a word, and the name of a relation
 upper_byte : (b : ℕ) → IsUpper b → is_word_byte b ≡ true
-upper_byte b (low, high) = rw (le-leb 65 b low, le-leb b 90 high) (either (nat_le 97 b && nat_le b 122))
+upper_byte b (low, high) = rw (le-leb 65 b low, le-leb b 90 high, either (nat_le 97 b && nat_le b 122)) refl
   where
     either : (x : Bool) → (x || true) ≡ true
     either true = refl
@@ -57,7 +56,7 @@ head_text s small = record {
 
 pub from_text : (atom : List ℕ) → IsWordOf IsUpper atom → HasText (From (atom_term atom))
 from_text atom upper = record {
-  plain = All-cons IsPlainCase _ _ (plain_case atom) (All-nil IsPlainCase);
+  plain = All-cons IsPlainCase (Case atom []) [] (plain_case atom) (All-nil IsPlainCase);
   spelled = record {
     spelled = ((omega arith, refl), (((omega arith, refl), (tag_text atom upper, tt)), tt));
     shallow = omega arith;
@@ -71,7 +70,8 @@ node_text s rule small from to is = record {
     env = refl;
     children = refl;
     evidence = refl;
-    values = All-cons IsPlainCase _ _ (plain_case rule.from) (All-cons IsPlainCase _ _ (plain_case rule.to) (All-nil IsPlainCase));
+    values = All-cons IsPlainCase (Case rule.from []) (Case rule.to [] ∷ []) (plain_case rule.from)
+        (All-cons IsPlainCase (Case rule.to []) [] (plain_case rule.to) (All-nil IsPlainCase));
   };
   spelled = record {
     spelled = ((omega arith, refl), (upper_text s.relation small.relation, (lower_text rule.name is.name, (tt, (tt, (

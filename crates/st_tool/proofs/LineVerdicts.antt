@@ -1,11 +1,10 @@
 -- The checker accepts the lines of a derivation of a small specification, one after another.
-use Rattle.std.proofs.Common.{◌≡◌, ℕ, zero, suc, ◌+◌, ◌≤◌, ◌<◌, List, [], ◌∷◌, ◌++◌, Option, Some, None, length, map, get_or, false, ◌∙◌, sym, ap, refl, subst, arith, inl, add-one, length-append}
-use Rattle.std.specs.Prelude.{slice_get, Any, All, Contains, IsSome, IsSomeAnd}
+use Rattle.std.proofs.Common.{◌≡◌, ℕ, zero, suc, ◌+◌, ◌≤◌, List, [], ◌∷◌, ◌++◌, Some, None, length, map, false, ◌∙◌, sym, ap, refl, subst, arith, inl, add-one, length-append}
+use Rattle.std.specs.Prelude.{slice_get, Any, Contains, is_some, IsSomeAnd}
 use Rattle.std.specs.Option.{option_map, option_and_then}
 use Rattle.std.proofs.lemmas.List.Elements.{All-nil, All-cons}
 use Rattle.st_deriv.specs.declared.line.Line.{Line}
 use Rattle.st_deriv.specs.declared.line.Line.TheVariants.{Head, From, Node, Step, End}
-use Rattle.st_il.specs.declared.definition.Alternative.{Alternative}
 use Rattle.st_il.specs.declared.definition.Alternative.TheVariants.{Case as CaseAlternative}
 use Rattle.st_il.specs.declared.definition.IlDef.{IlDef}
 use Rattle.st_il.specs.declared.small.Small.{Small}
@@ -22,7 +21,7 @@ use Rattle.st_verify.specs.declared.fault.VerifyRule.TheVariants.{V3, V4, V5, V6
 use Rattle.st_verify.specs.declared.notes.Judgement.{Judgement}
 use Rattle.st_verify.specs.declared.notes.Notes.{Notes}
 use Rattle.st_verify.specs.Notes.{nothing_noted, noted, judgement_on, outputs_of}
-use Rattle.st_verify.specs.Verdict.{Verdict, FirstBroken, rules_on_lines, IsRelationNamed, IsRuleNamed, IsCase, HasCase, TakesInput, Concludes, IsNode}
+use Rattle.st_verify.specs.Verdict.{Verdict, Keeps, FirstBroken, rules_on_lines, IsRelationNamed, IsRuleNamed, IsCase, HasCase, Concludes, IsNode}
 
 -- what is noted where a run has come to an atom
 pub record IsAt (s : Small) (atom : List ℕ) (lines : List Line) (notes : Notes) : Type 0 where
@@ -59,7 +58,7 @@ rule_among s P k rule at p =
 
 -- the first line
 pub head_verdict : (s : Small) → Verdict (il_of s) nothing_noted (Head 1 s.relation) None
-head_verdict s = all_kept _ (refl, (refl, refl)) (relation_named s) tt (All-nil _) tt tt tt tt
+head_verdict s = all_kept (Keeps (il_of s) nothing_noted (Head 1 s.relation)) (refl, refl, refl) (relation_named s) tt (All-nil (IsNode nothing_noted)) tt tt tt tt
 
 -- the second
 atom_case : (atoms : List (List ℕ)) (atom : List ℕ) → Contains atoms atom → Any (IsCase atom) (map (λ a. CaseAlternative a []) atoms)
@@ -72,7 +71,7 @@ atom_case (a ∷ atoms) atom (suc k, below, is) =
 pub from_verdict : (s : Small) (start : List ℕ) → Contains s.atoms start → Verdict (il_of s) (noted nothing_noted (Head 1 s.relation)) (From (atom_term start)) None
 from_verdict s start known =
     let typed : Any (HasCase s.syntax start) (il_of s).defs = (0, syntax_def s.syntax s.atoms, omega arith, refl, (refl, atom_case s.atoms start known)) in
-    all_kept _ (refl, refl) tt (1, relation_def s.relation s.syntax, omega arith, refl, (refl, (s.syntax, start, refl, refl, typed))) (All-nil _) tt tt tt tt
+    all_kept (Keeps (il_of s) (noted nothing_noted (Head 1 s.relation)) (From (atom_term start))) (refl, refl) tt (1, relation_def s.relation s.syntax, omega arith, refl, (refl, (s.syntax, start, refl, refl, typed))) (All-nil (IsNode (noted nothing_noted (Head 1 s.relation)))) tt tt tt tt
 
 pub at_start : (s : Small) (start : List ℕ) (lines : List Line) → length lines ≡ 2 → IsAt s start lines (noted (noted nothing_noted (Head 1 s.relation)) (From (atom_term start)))
 at_start s start lines two = record { relation = refl; term = refl; ended = refl; same = sym two; some = omega (arith, two) }
@@ -82,9 +81,9 @@ pub node_verdict : (s : Small) (atom : List ℕ) (lines : List Line) (notes : No
     → Verdict (il_of s) notes (Node (rule_node s.relation rule)) None
 node_verdict s atom lines notes k rule at is_rule =
     let node = rule_node s.relation rule in
-    all_kept _ (omega (arith, at.same, at.some), at.ended)
+    all_kept (Keeps (il_of s) notes (Node node)) (omega (arith, at.same, at.some), at.ended)
     (relation_named s, rule_among s (IsRuleNamed s.relation rule.name) k rule is_rule (refl, refl))
-    refl (All-nil _)
+    refl (All-nil (IsNode notes))
     (rule_among s (Concludes node) k rule is_rule ((refl, refl), (atom_value node.env s.syntax rule.from, (atom_value node.env s.syntax rule.to, tt))))
     refl refl tt
 
@@ -109,8 +108,8 @@ step_verdict s atom lines notes rule at from =
     let then = noted notes (Node (rule_node s.relation rule)) in
     let here = judged s atom lines notes rule at in
     let long : length then.lines ≡ length notes.lines + 1 = length-append notes.lines (Some (judgement_of s rule) ∷ []) in
-    all_kept _ (omega (arith, at.same, at.some, long), at.ended) tt tt
-    (All-cons (IsNode then) (length lines + 1) [] (subst IsSome (sym here) tt) (All-nil (IsNode then)))
+    all_kept (Keeps (il_of s) then (Step (length lines + 1))) (omega (arith, at.same, at.some, long), at.ended) tt tt
+    (All-cons (IsNode then) (length lines + 1) [] (ap is_some here) (All-nil (IsNode then)))
     tt tt tt
     (subst (λ found. IsSomeAnd found (λ judgement. (then.relation ≡ Some judgement.relation) × (then.term ≡ Some (inputs_of judgement.values)))) (sym here)
       (at.relation, at.term ∙ ap (λ a. Some (atom_term a)) (sym from)))
@@ -132,4 +131,5 @@ at_next s atom lines all notes rule at longer =
 -- the last line
 pub end_verdict : (s : Small) (atom : List ℕ) (lines : List Line) (notes : Notes) (ending : Ending) → IsAt s atom lines notes
     → Verdict (il_of s) notes (End (last_line ending)) None
-end_verdict s atom lines notes ending at = all_kept _ (omega (arith, at.same, at.some), at.ended) tt tt (All-nil _) tt tt tt tt
+end_verdict s atom lines notes ending at =
+    all_kept (Keeps (il_of s) notes (End (last_line ending))) (omega (arith, at.same, at.some), at.ended) tt tt (All-nil (IsNode notes)) tt tt tt tt

@@ -1,11 +1,10 @@
 -- A specification of words that passes each check is small.
-use Rattle.std.proofs.Common.{◌≡◌, ℕ, ◌≤◌, Bool, false, List, length, get_or, Result, Ok, Err, ◌↔◌, ◌==◌, arith}
+use Rattle.std.proofs.Common.{◌≡◌, ℕ, ◌≤◌, Bool, false, List, length, Result, Ok, Err, ◌↔◌, ◌==◌, arith}
 use Rattle.std.specs.Prelude.{IfOk, IsTrue}
 use Rattle.std.specs.List.{All, Contains}
-use Rattle.std.proofs.lemmas.List.Elements.{All-contains}
 use Rattle.st_il.specs.declared.small.Small.{Small}
 use Rattle.st_il.specs.declared.small.SmallRule.{SmallRule}
-use Rattle.st_il.specs.Small.{IsUpper, IsWordOf, IsSmallRule, IsSmall, AreDistinct, reserved, rule_names}
+use Rattle.st_il.specs.Small.{IsSmallRule, IsSmall, AreDistinct, reserved, rule_names}
 use Rattle.st_tool.specs.SmallForm.{GoesBetween, IsRuleOfWords, IsOfWords}
 
 pub rules_are_small : (atoms : List (List ℕ)) (rules : List SmallRule) → All IsRuleOfWords rules → All (GoesBetween atoms) rules → All (IsSmallRule atoms) rules

@@ -1,8 +1,7 @@
 -- What a run gives of its files.
-use Rattle.std.proofs.Common.{◌≡◌, ℕ, List, inl, inr, sym, subst, refl, Bool, true, false, nat_eq}
+use Rattle.std.proofs.Common.{◌≡◌, ℕ, List, inl, inr, sym, subst, refl, Bool, true, false, nat_eq, not, ◌∙◌}
 use Rattle.std.specs.Prelude.{Result, Ok, Err, IfOk, Option, None, Some, IfSome, MatchOption}
-use Rattle.std.specs.Cmp.Lexicographic.{pointwise}
-use Rattle.std.proofs.lemmas.Cmp.{nat_list_eq_equiv}
+use Rattle.std.specs.Cmp.Lexicographic.{pointwise, same_text}
 use denote.Ref.{Bor}
 use Rattle.st_num.specs.declared.memory.NoMemory.{NoMemory}
 use Rattle.st_tool.specs.declared.answer.Answer.{Answer}
@@ -83,9 +82,10 @@ start_found small relation term (Some atom) named is = record { relation_is = na
 pub other_relation : (small : Small) (relation term : List ℕ) → (small.relation ≡ relation → ⊥) → HasNoStart small relation term
 other_relation small relation term differs atom start = differs start.relation_is
 
--- names that `==` tells apart differ
-pub names_differ : (one other : List ℕ) (b : Bool) → b ≡ pointwise nat_eq one other → b ≡ false → one ≡ other → ⊥
-names_differ one other b e unequal same =
-    let itself = nat_list_eq_equiv.refl other in
-    let at_same : pointwise nat_eq one other ≡ true = rw same itself in
-    cc
+-- names that `!=` does not tell apart are the same
+pub not_differ : (one other : List ℕ) (b : Bool) → b ≡ not (pointwise nat_eq one other) → b ≡ false → one ≡ other
+not_differ one other b e same = same_text one other (sym (turned (pointwise nat_eq one other) (sym e ∙ same)))
+  where
+    turned : (x : Bool) → not x ≡ false → x ≡ true
+    turned true is = refl
+    turned false is = cc

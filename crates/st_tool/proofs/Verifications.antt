@@ -1,34 +1,35 @@
 -- A verifier that is given the lines of a derivation, and what it says at the end.
-use Rattle.std.proofs.Common.{◌≡◌, ◌≢◌, ℕ, suc, ◌+◌, ◌≤◌, ◌<◌, List, [], ◌∷◌, ◌++◌, Some, None, true, false, length, ◌∙◌, sym, ap, ap₂, refl, subst, arith, inl, inr, append_assoc, append-nil, length-append, flat_map}
-use Rattle.std.specs.Prelude.{Contains, All, Result, Ok, Err, IfOk, MatchOption}
-use Rattle.std.proofs.lemmas.List.Elements.{All-nil, All-push, All-cons, Contains-append_right}
+use Rattle.std.proofs.Common.{◌≡◌, ℕ, suc, ◌+◌, ◌≤◌, List, [], ◌∷◌, ◌++◌, Some, None, true, false, length, ◌∙◌, sym, ap, ap₂, refl, subst, arith, inl, inr, append_assoc, append-nil, length-append}
+use Rattle.std.specs.Prelude.{Contains, All, Result, Ok, Err, IfOk, MatchOption, Option, Bool}
+use Rattle.std.specs.Bool.{MatchBool}
+use Rattle.std.proofs.lemmas.List.Elements.{All-nil, All-push}
 use Rattle.st_deriv.specs.declared.line.Ending.{Ending}
 use Rattle.st_deriv.specs.declared.line.Line.{Line}
 use Rattle.st_deriv.specs.declared.line.Line.TheVariants.{Head, From, Node, Step, End}
-use Rattle.st_deriv.specs.LineText.{HasText, line_text, LineText, lines_text, LinesText}
+use Rattle.st_deriv.specs.LineText.{HasText, line_text, LineText, lines_text}
 use Rattle.st_deriv.specs.Reading.{IsNoLine}
 use Rattle.st_deriv.proofs.LineFeeds.{no_line_feed}
 use Rattle.st_il.specs.declared.definition.Il.{Il}
+use Rattle.st_il.specs.declared.type_rule.TypeRule.{TypeRule}
 use Rattle.st_iltext.specs.IlText.{IlText, IsNoIl}
 use Rattle.st_iltext.proofs.Lines.{line_unique, no_line}
 use Rattle.st_num.specs.declared.memory.NoMemory.{NoMemory}
 use Rattle.st_tool.specs.declared.answer.Answer.{Answer}
 use Rattle.st_tool.specs.declared.status.Status.{Status}
-use Rattle.st_tool.specs.declared.status.Status.TheVariants as answer
-use Rattle.st_tool.specs.Checks.{TakesFirst, Takes, HasTaken, going, refused, TakenTo, AreLines, HasNoLines, EndsNow, Ends, Tells}
+use Rattle.st_tool.specs.Checks.{TakesFirst, Takes, HasTaken, going, refused, TakenTo, HasNoLines, EndsNow, Ends, Tells}
 use Rattle.st_tool.specs.Commands.{VerifyGives, IsUnbuilt}
 use Rattle.st_tool.specs.Texts.{accepted_text, refused_text}
-use Rattle.st_tool.specs.Verification.{AreTexts, steps_in, Verified, accepted, refused as refuses, unfinished, endless}
+use Rattle.st_tool.specs.Verification.{steps_in, Verified, accepted, refused as refuses, unfinished, endless}
 use Rattle.st_verify.specs.declared.accepted.Accepted.{Accepted}
 use Rattle.st_verify.specs.declared.fault.VerifyFault.{VerifyFault}
-use Rattle.st_verify.specs.declared.fault.VerifyFault.TheVariants.{Refused, Memory}
+use Rattle.st_verify.specs.declared.fault.VerifyFault.TheVariants.{Refused}
 use Rattle.st_verify.specs.declared.fault.VerifyRule.{VerifyRule}
 use Rattle.st_verify.specs.declared.fault.VerifyRule.TheVariants.{V3, V12}
 use Rattle.st_verify.specs.declared.notes.Notes.{Notes}
 use Rattle.st_verify.specs.Accepts.{ReadsTo, none, more, Accepts}
 use Rattle.st_verify.specs.Notes.{nothing_noted, noted}
 use Rattle.st_verify.specs.Verdict.{Verdict, IsInPlace}
-use Rattle.st_verify.specs.Verifier.{Checking}
+use Rattle.st_verify.specs.Verifier.{Checking, Feeds, FeedsNext}
 use Rattle.st_verify.proofs.Judged.{accepted as accepted_line}
 use Rattle.st_verify.proofs.Soundness.{length-noted}
 
@@ -43,15 +44,15 @@ read_length il all notes (more {lines} {before = before} line read verdict are i
     longer : (xs : List Line) → length (xs ++ line ∷ []) ≡ suc (length xs)
     longer xs = omega (arith, length-append xs (line ∷ []))
 
-steps_one : Line → ℕ
+abbrev steps_one : Line → ℕ
 steps_one line = steps_in (line ∷ [])
 
 steps_in-append : (lines others : List Line) → steps_in (lines ++ others) ≡ steps_in lines + steps_in others
-steps_in-append [] others = refl
+steps_in-append [] others = omega arith
 steps_in-append (Head format relation ∷ lines) others = steps_in-append lines others
 steps_in-append (From values ∷ lines) others = steps_in-append lines others
 steps_in-append (Node node ∷ lines) others = steps_in-append lines others
-steps_in-append (Step number ∷ lines) others = ap suc (steps_in-append lines others)
+steps_in-append (Step number ∷ lines) others = omega (arith, steps_in-append lines others)
 steps_in-append (End ending ∷ lines) others = steps_in-append lines others
 
 steps-noted : (notes : Notes) (line : Line) → (noted notes line).steps ≡ notes.steps + steps_one line
@@ -78,7 +79,7 @@ record EndsLine (lines : List Line) : Type 0 where
 
 last_ended : (il : Il) (before : Notes) (lines all : List Line) (line : Line) → Verdict il before line None → all ≡ lines ++ line ∷ [] → (noted before line).ended ≡ true → EndsLine all
 last_ended il before lines all (End ending) verdict are ended = record { before = lines; ending = ending; is = are }
-last_ended il before lines all (Head format relation) verdict are ended = let place = in_place il before (Head format relation) verdict in cc (place.1.0, ended)
+last_ended il before lines all (Head format relation) verdict are ended = let place = in_place il before (Head format relation) verdict in cc (place.1, ended)
 last_ended il before lines all (From values) verdict are ended = let place = in_place il before (From values) verdict in cc (place.1, ended)
 last_ended il before lines all (Node node) verdict are ended = let place = in_place il before (Node node) verdict in cc (place.1, ended)
 last_ended il before lines all (Step number) verdict are ended = let place = in_place il before (Step number) verdict in cc (place.1, ended)
@@ -100,6 +101,26 @@ take_more il lines line old new (going notes read is) takes = first (subst (λ o
 take_more il lines line old new (refused good after bad notes rule parts read verdict is) takes =
     let same = subst (λ o. Takes o line new) is takes in
     refused good (after ++ line ∷ []) bad notes rule (ap (λ ls. ls ++ line ∷ []) parts ∙ append_assoc good (bad ∷ after) (line ∷ [])) read verdict same
+
+-- a verifier that is fed a line takes it, also where it answers a refusal
+abbrev TakesSome : Checking → List ℕ → Checking → Type 0
+TakesSome old bytes new = (line : Line) × LineText line bytes × Takes old line new
+
+takes_fed : (old new : Checking) (bytes : List ℕ) (line : Line) (rule : VerifyRule) (at : ℕ) (typing : Option TypeRule) (refusal : Option VerifyFault) → old.refusal ≡ refusal
+    → LineText line bytes → MatchOption refusal (FeedsNext old bytes (Err (Refused rule at typing)) new) (λ fault. (◌≡◌ {A = Result (Unit {0}) VerifyFault} (Err (Refused rule at typing)) (Err fault)) × (new ≡ old))
+    → TakesSome old bytes new
+takes_fed old new bytes line rule at typing None fresh text (inl (fed, is, (verdict, (answer, then)))) =
+    (fed, is, subst (λ r. MatchOption r (TakesFirst old fed new) (λ fault. new ≡ old)) (sym fresh) (inr (rule, verdict, then)))
+takes_fed old new bytes line rule at typing None fresh text (inr (no_text, broken)) = absurd (no_text.never line text)
+takes_fed old new bytes line rule at typing (Some fault) stale text (answer, same) =
+    (line, text, subst (λ r. MatchOption r (TakesFirst old line new) (λ fault. new ≡ old)) (sym stale) same)
+
+pub takes_refused : (old new : Checking) (bytes : List ℕ) (is_line : Bool) (result : Result (Unit {0}) VerifyFault) (rule : VerifyRule) (at : ℕ) (typing : Option TypeRule)
+    → result ≡ Err (Refused rule at typing) → Feeds old bytes result new → is_line ≡ true → MatchBool is_line ((line : Line) × LineText line bytes) (IsNoLine bytes)
+    → TakesSome old bytes new
+takes_refused old new bytes is_line result rule at typing is feeds known read =
+    let (line, text) = subst (λ b. MatchBool b ((line : Line) × LineText line bytes) (IsNoLine bytes)) known read in
+    takes_fed old new bytes line rule at typing old.refusal refl text (subst (λ r. Feeds old bytes r new) is feeds)
 
 -- no more lines are noted than were taken
 pub taken_length : (il : Il) (lines : List Line) (checking : Checking) → HasTaken il lines checking → length checking.notes.lines ≤ length lines
@@ -141,6 +162,12 @@ taken_more il bytes rest text behind line old new taken parts is takes =
       taken = take_more il taken.lines line old new taken.taken takes;
     }
 
+pub taken_next : (il : Il) (bytes rest text behind : List ℕ) (is_line : Bool) (old new : Checking) → TakenTo il bytes old rest → rest ≡ text ++ 10 ∷ behind → is_line ≡ true
+    → MatchBool is_line ((line : Line) × LineText line text × Takes old line new) (IsNoLine text) → TakenTo il bytes new behind
+taken_next il bytes rest text behind is_line old new taken parts known read =
+    let (line, is, takes) = subst (λ b. MatchBool b ((line : Line) × LineText line text × Takes old line new) (IsNoLine text)) known read in
+    taken_more il bytes rest text behind line old new taken parts is takes
+
 -- ---- bytes that are no lines
 
 line_feeds : (line : Line) → HasText line → Contains (line_text line) 10 → ⊥
@@ -166,9 +193,15 @@ no_line_here (line ∷ lines) (other ∷ others) text behind rest have has singl
 
 pub no_lines : (il : Il) (bytes rest text behind : List ℕ) (old : Checking) → TakenTo il bytes old rest → rest ≡ text ++ 10 ∷ behind → (Contains text 10 → ⊥) → IsNoLine text
     → HasNoLines bytes
-no_lines il bytes rest text behind old taken parts single none lines left are =
-    no_line_here taken.lines lines text behind left taken.texts.have are.texts.have single none are.rest_has_no_end
+no_lines il bytes rest text behind old taken parts single no_text lines left are =
+    no_line_here taken.lines lines text behind left taken.texts.have are.texts.have single no_text are.rest_has_no_end
     (ap₂ ◌++◌ (sym taken.texts.is) (sym parts) ∙ sym taken.parts ∙ are.parts ∙ ap (λ front. front ++ left) are.texts.is)
+
+pub not_taken : (il : Il) (bytes rest text behind : List ℕ) (is_line : Bool) (old new : Checking) → TakenTo il bytes old rest → rest ≡ text ++ 10 ∷ behind → (Contains text 10 → ⊥)
+    → is_line ≡ false → MatchBool is_line ((line : Line) × LineText line text × Takes old line new) (IsNoLine text) → HasNoLines bytes
+not_taken il bytes rest text behind is_line old new taken parts single known read =
+    no_lines il bytes rest text behind old taken parts single
+    (subst (λ b. MatchBool b ((line : Line) × LineText line text × Takes old line new) (IsNoLine text)) known read)
 
 -- ---- the answer
 
@@ -181,11 +214,11 @@ told il lines rest notes (Ok a) status bytes read (empty, ended, count, steps) (
 told il lines rest notes (Err fault) status bytes read (inl (empty, ended, is)) tells =
     let (status_is, text) = subst (λ f. Tells (Err f) status bytes) is tells in
     subst (λ s. Verified il lines rest s bytes) (sym status_is)
-    (endless read ended empty (text ∙ ap (λ n. refused_text (n + 1) V12) (read_length il lines notes read)))
+    (endless notes read ended empty (text ∙ ap (λ n. refused_text (n + 1) V12) (read_length il lines notes read)))
 told il lines rest notes (Err fault) status bytes read (inr (some, is)) tells =
     let (status_is, text) = subst (λ f. Tells (Err f) status bytes) is tells in
     subst (λ s. Verified il lines rest s bytes) (sym status_is)
-    (unfinished read some (text ∙ ap (λ n. refused_text (n + 1) V3) (read_length il lines notes read)))
+    (unfinished notes read some (text ∙ ap (λ n. refused_text (n + 1) V3) (read_length il lines notes read)))
 
 verified : (il : Il) (lines : List Line) (rest : List ℕ) (checking : Checking) (result : Result Accepted VerifyFault) (status : Status) (bytes : List ℕ) → HasTaken il lines checking
     → Ends checking rest result → Tells result status bytes → Verified il lines rest status bytes
@@ -195,7 +228,7 @@ verified il lines rest checking result status bytes (refused good after line not
     let result_is = subst (λ c. Ends c rest result) is ends in
     let (status_is, text) = subst (λ r. Tells r status bytes) result_is tells in
     subst (λ s. Verified il lines rest s bytes) (sym status_is)
-    (refuses parts read verdict (text ∙ ap (λ n. refused_text (n + 1) rule) (read_length il good notes read)))
+    (refuses good after line notes rule parts read verdict (text ∙ ap (λ n. refused_text (n + 1) rule) (read_length il good notes read)))
 
 pub verify_answer : (il_bytes derivation rest : List ℕ) (il : Il) (checking : Checking) (verdict : Result Accepted VerifyFault) (result : Result Answer NoMemory)
     → IlText il il_bytes → TakenTo il derivation checking rest → (Contains rest 10 → ⊥) → Ends checking rest verdict
@@ -210,11 +243,11 @@ verify_answer il_bytes derivation rest il checking verdict (Ok answer) text take
 -- other files are not built
 pub no_language : (il_bytes derivation : List ℕ) (result : Result Answer NoMemory) → IsNoIl il_bytes → IfOk result (λ answer. IsUnbuilt answer.status answer.bytes.items)
     → IfOk result (λ answer. VerifyGives il_bytes derivation answer.status answer.bytes.items)
-no_language il_bytes derivation (Err e) none unbuilt = tt
-no_language il_bytes derivation (Ok answer) none unbuilt = inr (λ il lines rest are. none.never il are.language, unbuilt)
+no_language il_bytes derivation (Err e) no_il unbuilt = tt
+no_language il_bytes derivation (Ok answer) no_il unbuilt = inr (λ il lines rest are. no_il.never il are.language, unbuilt)
 
 pub no_derivation : (il_bytes derivation : List ℕ) (result : Result Answer NoMemory) → HasNoLines derivation → IfOk result (λ answer. IsUnbuilt answer.status answer.bytes.items)
     → IfOk result (λ answer. VerifyGives il_bytes derivation answer.status answer.bytes.items)
-no_derivation il_bytes derivation (Err e) none unbuilt = tt
-no_derivation il_bytes derivation (Ok answer) none unbuilt =
-    inr (λ il lines rest are. none lines rest (record { front = are.front; texts = are.lines_are; rest_has_no_end = are.rest_has_no_end; parts = are.parts }), unbuilt)
+no_derivation il_bytes derivation (Err e) no_text unbuilt = tt
+no_derivation il_bytes derivation (Ok answer) no_text unbuilt =
+    inr (λ il lines rest are. no_text lines rest (record { front = are.front; texts = are.lines_are; rest_has_no_end = are.rest_has_no_end; parts = are.parts }), unbuilt)

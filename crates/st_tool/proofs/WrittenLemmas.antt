@@ -1,5 +1,5 @@
 -- What a call wrote, and what its counts say.
-use Rattle.std.proofs.Common.{◌≡◌, ℕ, ◌<◌, ◌≤◌, List, [], ◌∷◌, Option, refl, ap, subst, sym, ◌∙◌, inl, inr, arith}
+use Rattle.std.proofs.Common.{◌≡◌, ℕ, ◌<◌, ◌≤◌, List, [], ◌∷◌, Option, refl, ap, subst, sym, inl, inr, arith}
 use Rattle.st_outside.specs.Counts.{one_more}
 use Rattle.st_outside.specs.Sink.{Takes}
 use Rattle.st_il.specs.declared.small.Small.{Small}
@@ -13,7 +13,7 @@ use Rattle.st_tool.specs.Causes.{IsLoadFault, FaultIsTold}
 use Rattle.st_tool.specs.Commands.{Gives, IlGives, RunGives, VerifyGives, IsRunText, IsDerivationText, status_of, limit_of}
 use Rattle.st_tool.specs.Loads.{Held, Counts, LoadsTo}
 use Rattle.st_tool.specs.Outcome.{Outcome, HasOutcome, unread, too_many, unbuilt, loads, Written}
-use Rattle.st_tool.specs.Verification.{Verified, accepted, refused, unfinished, endless}
+use Rattle.st_tool.specs.Verification.{accepted, refused, unfinished, endless}
 use Rattle.st_words.specs.declared.command.Command.{Command}
 use Rattle.st_words.specs.declared.command.Command.TheVariants.{Check, Il, Groups, Order, Eval, Next, Run, Derive, Verify, Prose, Latex, Make}
 use Rattle.st_words.specs.FileNames.{file_names}
@@ -52,9 +52,9 @@ run_is_own Text own relation term file status bytes (inr (none, (is, text))) = o
 
 verify_is_own : (il derivation : List ℕ) (status : Status) (bytes : List ℕ) → VerifyGives il derivation status bytes → IsOwn status
 verify_is_own il derivation status bytes (inl (language, lines, rest, texts, accepted all empty text)) = own_done
-verify_is_own il derivation status bytes (inl (language, lines, rest, texts, refused parts read verdict text)) = own_verification
-verify_is_own il derivation status bytes (inl (language, lines, rest, texts, unfinished read some text)) = own_verification
-verify_is_own il derivation status bytes (inl (language, lines, rest, texts, endless read ended empty text)) = own_verification
+verify_is_own il derivation status bytes (inl (language, lines, rest, texts, refused good after line notes rule parts read verdict text)) = own_verification
+verify_is_own il derivation status bytes (inl (language, lines, rest, texts, unfinished notes read some text)) = own_verification
+verify_is_own il derivation status bytes (inl (language, lines, rest, texts, endless notes read ended empty text)) = own_verification
 verify_is_own il derivation status bytes (inr (none, (is, text))) = own_unbuilt status is
 
 gives_own : (command : Command) (files : List (List ℕ)) (status : Status) (bytes : List ℕ) → Gives command files status bytes → IsOwn status
@@ -64,7 +64,25 @@ gives_own (Run relation name names fuel depth) (term ∷ file ∷ []) status byt
 gives_own (Derive relation name names fuel depth) (term ∷ file ∷ []) status bytes gives =
     run_is_own IsDerivationText (λ small atom s b text. ending_is_own s text.ending text.status_is) relation term file status bytes gives
 gives_own (Verify il_name name) (il ∷ derivation ∷ []) status bytes gives = verify_is_own il derivation status bytes gives
-gives_own command files status bytes gives = ?
+gives_own (Il names) [] status bytes gives = absurd gives
+gives_own (Il names) (one ∷ two ∷ files) status bytes gives = absurd gives
+gives_own (Run relation name names fuel depth) [] status bytes gives = absurd gives
+gives_own (Run relation name names fuel depth) (one ∷ []) status bytes gives = absurd gives
+gives_own (Run relation name names fuel depth) (one ∷ two ∷ three ∷ files) status bytes gives = absurd gives
+gives_own (Derive relation name names fuel depth) [] status bytes gives = absurd gives
+gives_own (Derive relation name names fuel depth) (one ∷ []) status bytes gives = absurd gives
+gives_own (Derive relation name names fuel depth) (one ∷ two ∷ three ∷ files) status bytes gives = absurd gives
+gives_own (Verify il_name name) [] status bytes gives = absurd gives
+gives_own (Verify il_name name) (one ∷ []) status bytes gives = absurd gives
+gives_own (Verify il_name name) (one ∷ two ∷ three ∷ files) status bytes gives = absurd gives
+gives_own (Check names) files status bytes gives = absurd gives
+gives_own (Groups names) files status bytes gives = absurd gives
+gives_own (Order names) files status bytes gives = absurd gives
+gives_own (Eval name names) files status bytes gives = absurd gives
+gives_own (Next relation name names) files status bytes gives = absurd gives
+gives_own (Prose names) files status bytes gives = absurd gives
+gives_own (Latex names) files status bytes gives = absurd gives
+gives_own (Make n) files status bytes gives = absurd gives
 
 -- no status but these two is ascribed to the loads
 outcome_is_own : (command : Command) (loaded : Loaded) (status : Status) (bytes : List ℕ) → Outcome command loaded status bytes → (status ≡ Write → ⊥) × (status ≡ Memory → ⊥)
@@ -135,6 +153,9 @@ told_by held before after command (Given files) status bytes come outcome rose =
 
 not_risen : (before after : Counts) (status : Status) → after ≡ before → FaultIsTold before after status
 not_risen before after status same rose = let faults = ap (λ (c : Counts). c.faults) same in absurd (omega (arith, faults, rose))
+
+pub no_write : (held : Held) (words : List (List ℕ)) (before after : Counts) (status : Status) (bytes : List ℕ) → HasOutcome held words before after status bytes → status ≡ Write → ⊥
+no_write held words before after status bytes has = (is_own held words before after status bytes has).0
 
 pub fault_told : (held : Held) (words : List (List ℕ)) (before after : Counts) (status : Status) (bytes : List ℕ) → HasOutcome held words before after status bytes
     → FaultIsTold before after status

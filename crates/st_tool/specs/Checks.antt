@@ -1,7 +1,7 @@
 -- A verifier on the way through a derivation.
 use Rattle.std.specs.Prelude.{◌≡◌, ◌≢◌, ◌⊎◌, ℕ, true, false, List, [], ◌∷◌, ◌++◌, length, Some, None, MatchOption, Contains, Result, Ok, Err}
 use Rattle.st_deriv.specs.declared.line.Line.{Line}
-use Rattle.st_deriv.specs.LineText.{LineText, LinesText}
+use Rattle.st_deriv.specs.LineText.{LinesText}
 use Rattle.st_il.specs.declared.definition.Il.{Il}
 use Rattle.st_tool.specs.declared.status.Status.{Status}
 use Rattle.st_tool.specs.declared.status.Status.TheVariants as answer

@@ -32,10 +32,10 @@ steps_in (_ ∷ lines) = steps_in lines
 pub data Verified (il : Il) (lines : List Line) (rest : List ℕ) : Status → List ℕ → Type 0 where
   accepted : {bytes : List ℕ} → Accepts il lines → rest ≡ [] → bytes ≡ accepted_text (length lines) (steps_in lines)
       → Verified il lines rest answer.Done bytes
-  refused : {good after : List Line} {line : Line} {notes : Notes} {rule : VerifyRule} {bytes : List ℕ}
+  refused : {bytes : List ℕ} (good after : List Line) (line : Line) (notes : Notes) (rule : VerifyRule)
       → lines ≡ good ++ line ∷ after → ReadsTo il good notes → Verdict il notes line (Some rule)
       → bytes ≡ refused_text (length good + 1) rule → Verified il lines rest answer.Verification bytes
-  unfinished : {notes : Notes} {bytes : List ℕ} → ReadsTo il lines notes → rest ≢ []
+  unfinished : {bytes : List ℕ} (notes : Notes) → ReadsTo il lines notes → rest ≢ []
       → bytes ≡ refused_text (length lines + 1) V3 → Verified il lines rest answer.Verification bytes
-  endless : {notes : Notes} {bytes : List ℕ} → ReadsTo il lines notes → notes.ended ≡ false → rest ≡ []
+  endless : {bytes : List ℕ} (notes : Notes) → ReadsTo il lines notes → notes.ended ≡ false → rest ≡ []
       → bytes ≡ refused_text (length lines + 1) V12 → Verified il lines rest answer.Verification bytes

@@ -2,10 +2,11 @@
 
 ghost use Rattle.std.specs.Prelude.{◌≡◌, ◌<◌, ◌≤◌, ◌↔◌, ◌++◌, ◌∷◌, [], codes, IfOk, IsTrue, map, string_bytes, length};
 ghost use Rattle.st_tool.specs.declared.loads.Loaded.{Loaded as Loading};
-ghost use Rattle.st_tool.specs.Commands.{Gives, HasBuiltForm, IsUnbuilt, limit_of};
+ghost use Rattle.st_tool.specs.Commands.{Gives, HasBuiltForm, IsBuilt, IsUnbuilt, limit_of};
 ghost use Rattle.st_tool.specs.Loads.{counts_of, FitsNames, LoadsTo};
 ghost use Rattle.st_tool.specs.Outcome.{Outcome, HasOutcome, StopsAt};
 ghost use Rattle.st_words.specs.FileNames.{file_names};
+ghost use Rattle.st_words.specs.Reads.{Reads};
 
 use crate::Status;
 use crate::loads::{Loaded, load_all};
@@ -188,6 +189,32 @@ fn answer_command<F: Files>(
     answer_loaded(alloc, command, &loaded)
 }
 
+/// Whether the command is built.
+fn is_built(words: &[String], command: &Command) -> bool
+    ensures { IsTrue result ↔ IsBuilt (map string_bytes words.now) command.now }
+{
+    has_built_form(command) && !has_options(words)
+}
+
+/// Answers a command that was read of the words.
+fn answer_read<F: Files>(
+    alloc: Global,
+    words: &[String],
+    command: &Command,
+    files: &mut F,
+) -> Result<Answer, NoMemory>
+    requires { Reads (map string_bytes words.now) command.now }
+    ensures { IfOk result (λ answer. HasOutcome (F.held files.old) (map string_bytes words.now) (counts_of (F.loads files.old) (F.faults files.old) (F.last files.old)) (counts_of (F.loads files.new) (F.faults files.new) (F.last files.new)) answer.status answer.bytes.items) }
+{
+    if command.file_names(alloc)?.len() > MOST_FILES {
+        return line_answer(alloc, Status::TooLarge, "too many files", "");
+    }
+    if !is_built(words, command) {
+        return unbuilt(alloc);
+    }
+    answer_command(alloc, command, files)
+}
+
 /// Answers the words of a command.
 pub fn answer_words<F: Files>(
     alloc: Global,
@@ -196,16 +223,9 @@ pub fn answer_words<F: Files>(
 ) -> Result<Answer, NoMemory>
     ensures { IfOk result (λ answer. HasOutcome (F.held files.old) (map string_bytes words.now) (counts_of (F.loads files.old) (F.faults files.old) (F.last files.old)) (counts_of (F.loads files.new) (F.faults files.new) (F.last files.new)) answer.status answer.bytes.items) }
 {
-    let command = match read_words(alloc, words) {
-        Ok(command) => command,
-        Err(WordsFault::Usage) => return line_answer(alloc, Status::Usage, "usage", ""),
-        Err(WordsFault::Memory) => return Err(NoMemory),
-    };
-    if command.file_names(alloc)?.len() > MOST_FILES {
-        return line_answer(alloc, Status::TooLarge, "too many files", "");
+    match read_words(alloc, words) {
+        Ok(command) => answer_read(alloc, words, &command, files),
+        Err(WordsFault::Usage) => line_answer(alloc, Status::Usage, "usage", ""),
+        Err(WordsFault::Memory) => Err(NoMemory),
     }
-    if !has_built_form(&command) || has_options(words) {
-        return unbuilt(alloc);
-    }
-    answer_command(alloc, &command, files)
 }

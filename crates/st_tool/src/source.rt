@@ -1,8 +1,8 @@
 //! What a specification in a file gives: its internal language, and runs of its relation.
 
 ghost use Rattle.std.specs.Prelude.{◌≡◌, ◌↔◌, ◌++◌, ◌∷◌, [], IfOk, IsTrue, MatchOption};
-ghost use Rattle.st_tool.specs.Commands.{IlGives, RunGives, IsRunText, IsDerivationText, IsAtomText, IsStart};
-ghost use Rattle.st_tool.specs.Starts.{IsTerm, HasNoTerm, HasNoStart};
+ghost use Rattle.st_tool.specs.Commands.{IlGives, RunGives, IsRunText, IsDerivationText, IsAtomText, IsTerm, IsStart};
+ghost use Rattle.st_tool.specs.Starts.{HasNoTerm, HasNoStart};
 
 use crate::answer::{Answer, unbuilt};
 use crate::derivation::derive;

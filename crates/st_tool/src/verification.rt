@@ -13,25 +13,36 @@ use crate::answer::{Answer, unbuilt};
 use crate::Status;
 use itoa::Buffer;
 use st_deriv::read_line;
-use st_iltext::{TextFault, read_il};
+use st_iltext::{TextFault, next_line, read_il};
 use st_num::NoMemory;
 use st_verify::{Accepted, Verifier, VerifyFault, VerifyRule};
 use std::alloc::Global;
 
-/// Gives a line to the verifier, which keeps a refusal; false where it is the text of no line.
-fn take_line(alloc: Global, verifier: &mut Verifier, line: &[u8]) -> Result<bool, NoMemory>
-    requires { length verifier.old.notes.lines < 2 ^ 32 }
-    ensures taken { IfOk result (λ is_line. MatchBool is_line
-        ((read : Line) × LineText read line.now × Takes verifier.old read verifier.new)
-        (IsNoLine line.now)) }
+/// Whether the bytes are the text of a line.
+fn is_line_text(alloc: Global, bytes: &[u8]) -> Result<bool, NoMemory>
+    ensures { IfOk result (λ is_line. MatchBool is_line
+        ((line : Line) × LineText line bytes.now) (IsNoLine bytes.now)) }
 {
-    match read_line(alloc, line) {
-        Ok(_) => {}
-        Err(TextFault::Malformed { line: _ }) => return Ok(false),
-        Err(TextFault::Memory) => return Err(NoMemory),
+    match read_line(alloc, bytes) {
+        Ok(_) => Ok(true),
+        Err(TextFault::Malformed { line: _ }) => Ok(false),
+        Err(TextFault::Memory) => Err(NoMemory),
     }
-    match verifier.feed(alloc, line) {
-        Ok(()) | Err(VerifyFault::Refused {
+}
+
+/// Gives a line to the verifier, which keeps a refusal; false where it is the text of no line.
+fn take_line(alloc: Global, verifier: &mut Verifier, bytes: &[u8]) -> Result<bool, NoMemory>
+    requires { length verifier.old.notes.lines < 2 ^ 32 }
+    ensures { IfOk result (λ is_line. MatchBool is_line
+        ((line : Line) × LineText line bytes.now × Takes verifier.old line verifier.new)
+        (IsNoLine bytes.now)) }
+{
+    if !is_line_text(alloc, bytes)? {
+        return Ok(false);
+    }
+    match verifier.feed(alloc, bytes) {
+        Ok(()) => Ok(true),
+        Err(VerifyFault::Refused {
             rule: _,
             line: _,
             typing: _,
@@ -54,11 +65,11 @@ fn take_lines<'a>(
     ensures none { IfOk result (λ taken. IfNone taken (HasNoLines bytes.now)) }
 {
     let mut rest = bytes;
-    while let Some(end) = rest.iter().position(|byte| *byte == b'\n') {
-        if !take_line(alloc, verifier, &rest[..end])? {
+    while let Some((line, behind)) = next_line(rest) {
+        if !take_line(alloc, verifier, line)? {
             return Ok(None);
         }
-        rest = &rest[end + 1..];
+        rest = behind;
     }
     Ok(Some(rest))
 }

@@ -2,7 +2,7 @@ use Rattle.std.proofs.Common.{map, string_bytes, subst}
 use Rattle.st_outside.specs.Sink.{Takes}
 use Rattle.st_tool.specs.Loads.{counts_of}
 use Rattle.st_tool.specs.Outcome.{HasOutcome}
-use Rattle.st_tool.proofs.WrittenLemmas.{all_written, load_fault, fault_told}
+use Rattle.st_tool.proofs.WrittenLemmas.{all_written, load_fault, fault_told, no_write}
 use Rattle.st_tool.proofs.serve.Goals as goal
 
 pub returns-in-Ok-write_all_of-clause-written : goal.returns-in-Ok-write_all_of-clause-written
@@ -33,3 +33,11 @@ returns-in-Ok-write_all_of-clause-told g c rose =
     let after = counts_of (g.F.Files.loads c.answer_words.new.files) (g.F.Files.faults c.answer_words.new.files) (g.F.Files.last c.answer_words.new.files) in
     let answer = c.in-Ok.answer in
     fault_told held (map string_bytes c.as_slice.result.now) before after answer.status answer.bytes.items c.in-Ok.ensures rose
+
+pub returns-in-Ok-write_all_of-clause-write : goal.returns-in-Ok-write_all_of-clause-write
+returns-in-Ok-write_all_of-clause-write g c is =
+    let held = g.F.Files.held c.args.files.now in
+    let before = counts_of (g.F.Files.loads c.args.files.now) (g.F.Files.faults c.args.files.now) (g.F.Files.last c.args.files.now) in
+    let after = counts_of (g.F.Files.loads c.answer_words.new.files) (g.F.Files.faults c.answer_words.new.files) (g.F.Files.last c.answer_words.new.files) in
+    let answer = c.in-Ok.answer in
+    absurd (no_write held (map string_bytes c.as_slice.result.now) before after answer.status answer.bytes.items c.in-Ok.ensures is)

@@ -1,0 +1,20 @@
+use Rattle.std.proofs.Common.{subst, sym}
+use Rattle.std.specs.Prelude.{IfSome, IfNone, Contains}
+use Rattle.st_iltext.specs.IlText.{IlText}
+use Rattle.st_tool.specs.Checks.{TakenTo, HasNoLines}
+use Rattle.st_tool.proofs.Verifications.{verify_answer, no_derivation}
+use Rattle.st_verify.specs.Verifier.{Checking}
+use Rattle.st_tool.proofs.verification.verify_files.Goals as goal
+
+pub returns-in_default-2 : goal.returns-in_default-2
+returns-in_default-2 c =
+    no_derivation c.args.il.now c.args.derivation.now c.unbuilt-in_default-2.result
+    (subst (λ taken. IfNone taken (HasNoLines c.args.derivation.now)) c.in_default-2.is c.in_ok-rest.ensures.none) c.unbuilt-in_default-2.ensures
+
+pub returns : goal.returns
+returns c =
+    let il = c.in-Ok-new.verifier.il in
+    let (taken, ends) = subst (λ taken. IfSome taken (λ rest. TakenTo il c.args.derivation.now c.take_lines.new.verifier rest.now × (Contains rest.now 10 → ⊥))) c.in-Some.is c.in_ok-rest.ensures.some in
+    let text = subst (λ (v : Checking). IlText v.il c.args.il.now) (sym c.in-Ok-new.ensures) c.in-Ok.ensures.read in
+    verify_answer c.args.il.now c.args.derivation.now c.in-Some.rest.now il c.take_lines.new.verifier c.finished.result c.verdict_answer.result
+    text taken ends c.finished.ensures c.verdict_answer.ensures
