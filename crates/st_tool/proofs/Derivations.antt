@@ -88,8 +88,8 @@ one_step s start atom k lines all rule small below derived next are =
       at = at_next s atom lines all derived.notes rule derived.at longer;
       texts = subst (All HasText) (sym apart)
           (All-push HasText (lines ++ node ∷ []) step
-            (All-push HasText lines node derived.texts (node_text s rule small (atom_word s rule.from small is.from) (atom_word s rule.to small is.to) is))
-            (step_text (length lines + 1) (omega (arith, derived.long, below))));
+          (All-push HasText lines node derived.texts (node_text s rule small (atom_word s rule.from small is.from) (atom_word s rule.to small is.to) is))
+          (step_text (length lines + 1) (omega (arith, derived.long, below))));
     }
 
 -- the answer of a run that ends here

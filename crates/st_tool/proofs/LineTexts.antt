@@ -74,8 +74,25 @@ node_text s rule small from to is = record {
         (All-cons IsPlainCase (Case rule.to []) [] (plain_case rule.to) (All-nil IsPlainCase));
   };
   spelled = record {
-    spelled = ((omega arith, refl), (upper_text s.relation small.relation, (lower_text rule.name is.name, (tt, (tt, (
-      ((((omega arith, refl), (tag_text rule.from from, tt)), (((omega arith, refl), (tag_text rule.to to, tt)), tt))), tt))))));
+    spelled = (
+      (omega arith, refl),
+      (
+        upper_text s.relation small.relation,
+        (
+          lower_text rule.name is.name,
+          (
+            tt,
+            (
+              tt,
+              (
+                ((((omega arith, refl), (tag_text rule.from from, tt)), (((omega arith, refl), (tag_text rule.to to, tt)), tt))),
+                tt,
+              ),
+            ),
+          ),
+        ),
+      ),
+    );
     shallow = omega arith;
   };
 }

@@ -112,7 +112,7 @@ step_verdict s atom lines notes rule at from =
     (All-cons (IsNode then) (length lines + 1) [] (ap is_some here) (All-nil (IsNode then)))
     tt tt tt
     (subst (λ found. IsSomeAnd found (λ judgement. (then.relation ≡ Some judgement.relation) × (then.term ≡ Some (inputs_of judgement.values)))) (sym here)
-      (at.relation, at.term ∙ ap (λ a. Some (atom_term a)) (sym from)))
+    (at.relation, at.term ∙ ap (λ a. Some (atom_term a)) (sym from)))
 
 pub at_next : (s : Small) (atom : List ℕ) (lines all : List Line) (notes : Notes) (rule : SmallRule) → IsAt s atom lines notes
     → length all ≡ length lines + 2

@@ -59,7 +59,7 @@ gives_run command relation said term file name names files fuel depth (Err e) is
 gives_run command relation said term file name names files fuel depth (Ok answer) is two gives same =
     subst (λ c. Gives c files answer.status answer.bytes.items) (sym is)
     (subst (λ fs. Gives (Run relation name names fuel depth) fs answer.status answer.bytes.items) (sym two)
-      (subst (λ r. RunGives IsRunText r term file answer.status answer.bytes.items) same gives))
+    (subst (λ r. RunGives IsRunText r term file answer.status answer.bytes.items) same gives))
 
 pub gives_derivation : (command : Command) (relation said term file name : List ℕ) (names files : List (List ℕ)) (fuel depth : ℕ) (result : Result Answer NoMemory)
     → command ≡ Derive relation name names fuel depth → files ≡ term ∷ file ∷ []
@@ -68,7 +68,7 @@ gives_derivation command relation said term file name names files fuel depth (Er
 gives_derivation command relation said term file name names files fuel depth (Ok answer) is two gives same =
     subst (λ c. Gives c files answer.status answer.bytes.items) (sym is)
     (subst (λ fs. Gives (Derive relation name names fuel depth) fs answer.status answer.bytes.items) (sym two)
-      (subst (λ r. RunGives IsDerivationText r term file answer.status answer.bytes.items) same gives))
+    (subst (λ r. RunGives IsDerivationText r term file answer.status answer.bytes.items) same gives))
 
 -- ---- what a call gives
 

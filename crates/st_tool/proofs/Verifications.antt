@@ -187,8 +187,8 @@ no_line_here (line ∷ lines) [] text behind rest have has single no_line_text e
     no_line rest (line_text line) (lines_text lines ++ (text ++ 10 ∷ behind)) ends (sym same ∙ first_line lines line (text ++ 10 ∷ behind))
 no_line_here (line ∷ lines) (other ∷ others) text behind rest have has single no_line_text ends same =
     let apart = line_unique (line_text line) (line_text other) (lines_text lines ++ (text ++ 10 ∷ behind)) (lines_text others ++ rest)
-          (line_feeds line (have 0 line (omega arith))) (line_feeds other (has 0 other (omega arith)))
-          (sym (first_line lines line (text ++ 10 ∷ behind)) ∙ same ∙ first_line others other rest) in
+    (line_feeds line (have 0 line (omega arith))) (line_feeds other (has 0 other (omega arith)))
+    (sym (first_line lines line (text ++ 10 ∷ behind)) ∙ same ∙ first_line others other rest) in
     no_line_here lines others text behind rest (λ k d h. have (suc k) d (omega arith)) (λ k d h. has (suc k) d (omega arith)) single no_line_text ends apart.1
 
 pub no_lines : (il : Il) (bytes rest text behind : List ℕ) (old : Checking) → TakenTo il bytes old rest → rest ≡ text ++ 10 ∷ behind → (Contains text 10 → ⊥) → IsNoLine text
@@ -210,7 +210,7 @@ told : (il : Il) (lines : List Line) (rest : List ℕ) (notes : Notes) (result :
 told il lines rest notes (Ok a) status bytes read (empty, ended, count, steps) (is, text) =
     subst (λ s. Verified il lines rest s bytes) (sym is)
     (accepted (accepts il lines notes read ended) empty
-      (text ∙ ap₂ accepted_text (count ∙ read_length il lines notes read) (steps ∙ read_steps il lines notes read)))
+    (text ∙ ap₂ accepted_text (count ∙ read_length il lines notes read) (steps ∙ read_steps il lines notes read)))
 told il lines rest notes (Err fault) status bytes read (inl (empty, ended, is)) tells =
     let (status_is, text) = subst (λ f. Tells (Err f) status bytes) is tells in
     subst (λ s. Verified il lines rest s bytes) (sym status_is)
@@ -236,9 +236,13 @@ pub verify_answer : (il_bytes derivation rest : List ℕ) (il : Il) (checking : 
     → IfOk result (λ answer. VerifyGives il_bytes derivation answer.status answer.bytes.items)
 verify_answer il_bytes derivation rest il checking verdict (Err e) text taken ends says tells = tt
 verify_answer il_bytes derivation rest il checking verdict (Ok answer) text taken ends says tells =
-    inl (il, taken.lines, rest,
+    inl (
+      il,
+      taken.lines,
+      rest,
       record { language = text; front = taken.front; lines_are = taken.texts; rest_has_no_end = ends; parts = taken.parts },
-      verified il taken.lines rest checking verdict answer.status answer.bytes.items taken.taken says tells)
+      verified il taken.lines rest checking verdict answer.status answer.bytes.items taken.taken says tells,
+    )
 
 -- other files are not built
 pub no_language : (il_bytes derivation : List ℕ) (result : Result Answer NoMemory) → IsNoIl il_bytes → IfOk result (λ answer. IsUnbuilt answer.status answer.bytes.items)

@@ -22,7 +22,7 @@ abbrev pub TakesFirst : Checking → Line → Checking → Type 0
 TakesFirst old line new =
     (Verdict old.il old.notes line None × (new ≡ record old { notes = noted old.notes line }))
     ⊎ ((rule : VerifyRule) × Verdict old.il old.notes line (Some rule)
-        × (new ≡ record old { refusal = Some (refusal_by rule old.notes) }))
+    × (new ≡ record old { refusal = Some (refusal_by rule old.notes) }))
 
 -- a verifier takes a line; after a refusal it stays as it is
 abbrev pub Takes : Checking → Line → Checking → Type 0

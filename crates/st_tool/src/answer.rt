@@ -147,9 +147,8 @@ fn has_built_form(command: &Command) -> bool
     ensures { IsTrue result ↔ HasBuiltForm command.now }
 {
     match command {
-        Command::Il(files)
-        | Command::Run(_, _, files, _, _)
-        | Command::Derive(_, _, files, _, _) => files.len() == 1,
+        Command::Il(files) | Command::Run(_, _, files, _, _) | Command::Derive(_, _, files, _, _) =>
+            files.len() == 1,
         Command::Verify(_, _) => true,
         Command::Check(_)
         | Command::Groups(_)

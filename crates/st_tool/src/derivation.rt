@@ -8,9 +8,9 @@ ghost use Rattle.st_tool.specs.Nodes.{rule_node};
 ghost use Rattle.st_tool.specs.Commands.{IsDerivationText, status_of};
 ghost use Rattle.st_tool.specs.Transcript.{atom_term};
 
+use crate::Answer;
 use crate::step::next_rule;
 use crate::transcript::{Ending, FUEL};
-use crate::Answer;
 use st_deriv::{Ending as LastLine, Line, NodeLine, print_lines};
 use st_il::{Env, Small, SmallRule, Value};
 use st_num::{Name, NoMemory, Row};

@@ -4,10 +4,10 @@ ghost use Rattle.std.specs.Prelude.{◌≡◌, ◌↔◌, ◌++◌, ◌∷◌, [
 ghost use Rattle.st_tool.specs.Commands.{IlGives, RunGives, IsRunText, IsDerivationText, IsAtomText, IsTerm, IsStart};
 ghost use Rattle.st_tool.specs.Starts.{HasNoTerm, HasNoStart};
 
+use crate::Status;
 use crate::answer::{Answer, unbuilt};
 use crate::derivation::derive;
 use crate::reader::read_small;
-use crate::Status;
 use crate::transcript::run;
 use st_il::{Small, il_of_small};
 use st_iltext::print_il;
@@ -72,12 +72,7 @@ pub fn il_file(alloc: Global, file: &[u8]) -> Result<Answer, NoMemory>
 }
 
 /// Runs a relation of the specification in a file, from the term in another.
-pub fn run_file(
-    alloc: Global,
-    relation: &str,
-    term: &[u8],
-    file: &[u8],
-) -> Result<Answer, NoMemory>
+pub fn run_file(alloc: Global, relation: &str, term: &[u8], file: &[u8]) -> Result<Answer, NoMemory>
     ensures { IfOk result (λ answer. RunGives IsRunText relation.now term.now file.now
         answer.status answer.bytes.items) }
 {

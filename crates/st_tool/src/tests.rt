@@ -17,6 +17,19 @@ const COIN: &str = "syntax s = | COIN | TAILS | HEADS\nrelation T: s ~> s\n\
 
 const LIGHT_RUN: &str = "0 RED\n1 GREEN\n2 AMBER\nstuck after 2 steps\n";
 
+const LIGHT_IL: &str =
+    "(syntax \"color\" (variant (case \"RED\") (case \"GREEN\") (case \"AMBER\")))\n\
+    (relation \"T\" \"% ~> %\" ((n \"color\") (n \"color\")) (mode))\n\
+    (rule \"T\" \"a\" () ((case \"color\" \"RED\") (case \"color\" \"GREEN\")))\n\
+    (rule \"T\" \"b\" () ((case \"color\" \"GREEN\") (case \"color\" \"AMBER\")))\n";
+
+const LIGHT_LINES: &str = "derivation 1 T\nfrom (c \"RED\")\n\
+    node \"T\" \"a\" () () ((c \"RED\") (c \"GREEN\"))\nstep 3\n\
+    node \"T\" \"b\" () () ((c \"GREEN\") (c \"AMBER\"))\nstep 5\nend stuck\n";
+
+const OTHER_VALUES: &str = "derivation 1 T\nfrom (c \"RED\")\n\
+    node \"T\" \"a\" () () ((c \"RED\") (c \"AMBER\"))\nstep 3\nend stuck\n";
+
 fn words_of(alloc: Global, text: &str) -> Result<Vec<String>, AllocError> {
     let mut words = Vec::new(alloc);
     for word in text.split_whitespace() {
@@ -25,118 +38,148 @@ fn words_of(alloc: Global, text: &str) -> Result<Vec<String>, AllocError> {
     Ok(words)
 }
 
-fn entry(alloc: Global, name: &str, text: &str) -> Result<(Name, Row<u8>), NoMemory> {
+fn push_entry(
+    alloc: Global,
+    entries: &mut Row<(Name, Row<u8>)>,
+    name: &str,
+    text: &[u8],
+) -> Result<(), NoMemory> {
     let name = Name::from_slice(alloc, name.as_bytes())?;
-    let bytes = Row::from_slice(alloc, text.as_bytes())?;
-    Ok((name, bytes))
+    let bytes = Row::from_slice(alloc, text)?;
+    entries.push((name, bytes))
 }
 
-/// The files `term` and `file`, of which the loads of these numbers fail.
-fn files_of(alloc: Global, term: &str, file: &str, fails: &[u64]) -> Result<MemFiles, NoMemory> {
+/// The files of the tests, of which the load of this number fails.
+fn files_of(alloc: Global, fails: u64) -> Result<MemFiles, NoMemory> {
     let mut entries = Row::new(alloc);
-    entries.push(entry(alloc, "term", term)?)?;
-    entries.push(entry(alloc, "file", file)?)?;
-    Ok(MemFiles::new(entries, Row::from_slice(alloc, fails)?))
+    for (name, text) in [
+        ("red", "RED"),
+        ("red_line", "RED\n"),
+        ("amber", "AMBER"),
+        ("blue", "BLUE"),
+        ("heads", "COIN"),
+        ("two_ends", "RED\n\n"),
+        ("empty", ""),
+        ("light", LIGHT),
+        ("loop", LOOP),
+        ("coin", COIN),
+        ("light.il", LIGHT_IL),
+        ("lines", LIGHT_LINES),
+        ("other_values", OTHER_VALUES),
+        ("malformed", "derivation 1 T\nfrom  (c \"RED\")\n"),
+    ] {
+        push_entry(alloc, &mut entries, name, text.as_bytes())?;
+    }
+    let lines = LIGHT_LINES.as_bytes();
+    push_entry(
+        alloc,
+        &mut entries,
+        "endless",
+        &lines[..lines.len().saturating_sub(10)],
+    )?;
+    push_entry(
+        alloc,
+        &mut entries,
+        "unfinished",
+        &lines[..lines.len().saturating_sub(1)],
+    )?;
+    push_entry(
+        alloc,
+        &mut entries,
+        "big",
+        Vec::from_elem(alloc, b' ', 1_048_577)?.as_slice(),
+    )?;
+    Ok(MemFiles::new(entries, Row::from_slice(alloc, &[fails])?))
 }
 
 #[test]
 fn a_command_prints_its_text(rt: HostRuntime) -> Result<(), Fail> {
-    for (words, term, file, fails, status, printed) in [
-        ("run T term file", "RED", LIGHT, 9, Status::Done, LIGHT_RUN),
+    for (words, status, printed) in [
+        ("run T red light", Status::Done, LIGHT_RUN),
+        ("run T red_line light", Status::Done, LIGHT_RUN),
         (
-            "run T term file",
-            "RED\n",
-            LIGHT,
-            9,
-            Status::Done,
-            LIGHT_RUN,
-        ),
-        (
-            "run T term file",
-            "COIN",
-            COIN,
-            9,
+            "run T heads coin",
             Status::Done,
             "0 COIN\n1 HEADS\nstuck after 1 steps\n",
         ),
         (
-            "run T term file",
-            "AMBER",
-            LIGHT,
-            9,
+            "run T amber light",
             Status::Done,
             "0 AMBER\nstuck after 0 steps\n",
         ),
+        ("run T blue light", Status::Unbuilt, "unbuilt\n"),
+        ("run T two_ends light", Status::Unbuilt, "unbuilt\n"),
+        ("run Q red light", Status::Unbuilt, "unbuilt\n"),
+        ("run T red empty", Status::Unbuilt, "unbuilt\n"),
+        ("run T red light coin", Status::Unbuilt, "unbuilt\n"),
+        ("run T red light --fuel 1000", Status::Unbuilt, "unbuilt\n"),
+        ("groups light", Status::Unbuilt, "unbuilt\n"),
+        ("run T red", Status::Usage, "usage\n"),
+        ("run T -red light", Status::Usage, "usage\n"),
+        ("frob", Status::Usage, "usage\n"),
+        ("run T gone light", Status::Load, "load failed gone\n"),
+        ("il big", Status::TooLarge, "too large big\n"),
+        ("run T red big", Status::TooLarge, "too large big\n"),
+        ("il light", Status::Done, LIGHT_IL),
+        ("il empty", Status::Unbuilt, "unbuilt\n"),
+        ("derive T red light", Status::Done, LIGHT_LINES),
         (
-            "run T term file",
-            "BLUE",
-            LIGHT,
-            9,
-            Status::Unbuilt,
-            "unbuilt\n",
+            "derive T amber light",
+            Status::Done,
+            "derivation 1 T\nfrom (c \"AMBER\")\nend stuck\n",
+        ),
+        ("derive T blue light", Status::Unbuilt, "unbuilt\n"),
+        (
+            "verify light.il lines",
+            Status::Done,
+            "accepted 7 lines 2 steps\n",
         ),
         (
-            "run T term file",
-            "RED\n\n",
-            LIGHT,
-            9,
-            Status::Unbuilt,
-            "unbuilt\n",
+            "verify light.il other_values",
+            Status::Verification,
+            "refused derivation 3 V7\n",
         ),
         (
-            "run Q term file",
-            "RED",
-            LIGHT,
-            9,
-            Status::Unbuilt,
-            "unbuilt\n",
+            "verify light.il endless",
+            Status::Verification,
+            "refused derivation 7 V12\n",
         ),
         (
-            "run T term file",
-            "RED",
-            "",
-            9,
-            Status::Unbuilt,
-            "unbuilt\n",
-        ),
-        ("run T term", "RED", LIGHT, 9, Status::Unbuilt, "unbuilt\n"),
-        (
-            "run T -term file",
-            "RED",
-            LIGHT,
-            9,
-            Status::Unbuilt,
-            "unbuilt\n",
+            "verify light.il unfinished",
+            Status::Verification,
+            "refused derivation 7 V3\n",
         ),
         (
-            "run T term file",
-            "RED",
-            LIGHT,
-            0,
-            Status::Load,
-            "load failed term\n",
+            "verify light.il empty",
+            Status::Verification,
+            "refused derivation 1 V12\n",
         ),
         (
-            "run T term file",
-            "RED",
-            LIGHT,
-            1,
-            Status::Load,
-            "load failed file\n",
+            "verify light.il big",
+            Status::Verification,
+            "refused derivation 1 V3\n",
         ),
-        (
-            "run T gone file",
-            "RED",
-            LIGHT,
-            9,
-            Status::Load,
-            "load failed gone\n",
-        ),
+        ("verify light.il malformed", Status::Unbuilt, "unbuilt\n"),
+        ("verify light lines", Status::Unbuilt, "unbuilt\n"),
     ] {
-        let words = words_of(rt.alloc(), words)?;
-        let mut files = files_of(rt.alloc(), term, file, &[fails])?;
+        let words_read = words_of(rt.alloc(), words)?;
+        let mut files = files_of(rt.alloc(), 99)?;
         let mut out = MemSink::new(rt.alloc(), 1000)?;
-        assert_eq!(rt; serve(rt.alloc(), &words, &mut files, &mut out), status);
+        let answer = serve(rt.alloc(), &words_read, &mut files, &mut out);
+        assert_eq!(rt; answer, status, "{words}");
+        assert_eq!(rt; out.taken.as_slice(), printed.as_bytes(), "{words}");
+    }
+    Ok(())
+}
+
+#[test]
+fn a_failed_load_is_named(rt: HostRuntime) -> Result<(), Fail> {
+    let words = words_of(rt.alloc(), "run T red light")?;
+    for (number, printed) in [(0, "load failed red\n"), (1, "load failed light\n")] {
+        let mut files = files_of(rt.alloc(), number)?;
+        let mut out = MemSink::new(rt.alloc(), 1000)?;
+        let status = serve(rt.alloc(), &words, &mut files, &mut out);
+        assert_eq!(rt; status, Status::Load);
         assert_eq!(rt; out.taken.as_slice(), printed.as_bytes());
     }
     Ok(())
@@ -144,29 +187,37 @@ fn a_command_prints_its_text(rt: HostRuntime) -> Result<(), Fail> {
 
 #[test]
 fn a_run_without_end_uses_up_its_fuel(rt: HostRuntime) -> Result<(), Fail> {
-    let words = words_of(rt.alloc(), "run T term file")?;
-    let mut files = files_of(rt.alloc(), "RED", LOOP, &[])?;
-    let mut out = MemSink::new(rt.alloc(), 100_000)?;
-    assert_eq!(rt;
-        serve(rt.alloc(), &words, &mut files, &mut out),
-        Status::Fuel
-    );
-    let end = b"\n999 GREEN\n1000 RED\nfuel after 1000 steps\n";
-    assert!(rt; out.taken.as_slice().ends_with(end.as_slice()));
+    for (words, end) in [
+        (
+            "run T red loop",
+            "\n999 GREEN\n1000 RED\nfuel after 1000 steps\n",
+        ),
+        ("derive T red loop", "\nstep 2001\nend fuel\n"),
+    ] {
+        let words = words_of(rt.alloc(), words)?;
+        let mut files = files_of(rt.alloc(), 99)?;
+        let mut out = MemSink::new(rt.alloc(), 100_000)?;
+        let status = serve(rt.alloc(), &words, &mut files, &mut out);
+        assert_eq!(rt; status, Status::Fuel);
+        assert!(rt; out.taken.as_slice().ends_with(end.as_bytes()));
+    }
     Ok(())
 }
 
 #[test]
 fn a_failed_write_leaves_the_front(rt: HostRuntime) -> Result<(), Fail> {
-    let words = words_of(rt.alloc(), "run T term file")?;
-    for room in 0..LIGHT_RUN.len() {
-        let mut files = files_of(rt.alloc(), "RED", LIGHT, &[])?;
-        let mut out = MemSink::new(rt.alloc(), room as u64)?;
-        assert_eq!(rt;
-            serve(rt.alloc(), &words, &mut files, &mut out),
-            Status::Write
-        );
-        assert_eq!(rt; out.taken.as_slice(), &LIGHT_RUN.as_bytes()[..room]);
+    for (words, printed) in [
+        ("run T red light", LIGHT_RUN),
+        ("derive T red light", LIGHT_LINES),
+    ] {
+        let words = words_of(rt.alloc(), words)?;
+        for room in 0..printed.len() {
+            let mut files = files_of(rt.alloc(), 99)?;
+            let mut out = MemSink::new(rt.alloc(), room as u64)?;
+            let status = serve(rt.alloc(), &words, &mut files, &mut out);
+            assert_eq!(rt; status, Status::Write);
+            assert_eq!(rt; out.taken.as_slice(), &printed.as_bytes()[..room]);
+        }
     }
     Ok(())
 }

@@ -9,8 +9,8 @@ ghost use Rattle.st_tool.specs.Commands.{VerifyGives, text_limit};
 ghost use Rattle.st_tool.specs.Texts.{accepted_text, refused_text, rule_word};
 ghost use Rattle.st_verify.specs.Notes.{nothing_noted};
 
-use crate::answer::{Answer, unbuilt};
 use crate::Status;
+use crate::answer::{Answer, unbuilt};
 use itoa::Buffer;
 use st_deriv::read_line;
 use st_iltext::{TextFault, next_line, read_il};
@@ -42,11 +42,13 @@ fn take_line(alloc: Global, verifier: &mut Verifier, bytes: &[u8]) -> Result<boo
     }
     match verifier.feed(alloc, bytes) {
         Ok(()) => Ok(true),
-        Err(VerifyFault::Refused {
-            rule: _,
-            line: _,
-            typing: _,
-        }) => Ok(true),
+        Err(
+            VerifyFault::Refused {
+                rule: _,
+                line: _,
+                typing: _,
+            },
+        ) => Ok(true),
         Err(VerifyFault::Memory) => Err(NoMemory),
     }
 }
@@ -130,11 +132,13 @@ fn verdict_answer(alloc: Global, verdict: Result<Accepted, VerifyFault>) -> Resu
             status: Status::Done,
             bytes: accepted_line(alloc, accepted)?,
         }),
-        Err(VerifyFault::Refused {
-            rule,
-            line,
-            typing: _,
-        }) => Ok(Answer {
+        Err(
+            VerifyFault::Refused {
+                rule,
+                line,
+                typing: _,
+            },
+        ) => Ok(Answer {
             status: Status::Verification,
             bytes: refused_line(alloc, line, rule)?,
         }),
