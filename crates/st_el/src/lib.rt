@@ -1,0 +1,17 @@
+//! Source trees: what the author wrote, with the place of each part.
+//!
+//! The one idea: a tree keeps the author's notation, parentheses and `$( )` among it, and knows no
+//! types. Trees are plain data to contracts.
+//!
+//! Read `expression` and `definition` first. The grammar is told in `docs/language.md`.
+#![tactic(auto)]
+
+mod definition;
+mod expression;
+mod notation;
+mod ty;
+
+pub use definition::{Body, Def, DefNode, Hint, Prem, PremNode};
+pub use expression::{Count, Exp, Node, Seg};
+pub use notation::{NotNode, Notation};
+pub use ty::{Typ, TypNode};
