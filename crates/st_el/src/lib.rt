@@ -9,9 +9,13 @@
 mod definition;
 mod expression;
 mod notation;
+mod plain_definition;
+mod plain_expression;
+mod plain_parts;
 mod ty;
 
 pub use definition::{Body, Def, DefNode, Hint, Prem, PremNode};
 pub use expression::{Count, Exp, Node, Seg};
 pub use notation::{NotNode, Notation};
+pub use plain_definition::plain;
 pub use ty::{Typ, TypNode};
