@@ -9,13 +9,18 @@
 mod definition;
 mod expression;
 mod notation;
+mod place;
 mod plain_definition;
 mod plain_expression;
 mod plain_parts;
+mod print;
+mod quote;
 mod ty;
+mod wrapping;
 
 pub use definition::{Body, Def, DefNode, Hint, Prem, PremNode};
 pub use expression::{Count, Exp, Node, Seg};
 pub use notation::{NotNode, Notation};
 pub use plain_definition::plain;
+pub use print::print_el;
 pub use ty::{Typ, TypNode};
