@@ -8,7 +8,7 @@ use Rattle.st_el.specs.declared.place.Behind.{Behind}
 use Rattle.st_el.specs.declared.place.Behind.TheVariants.{Other}
 use Rattle.st_el.specs.declared.place.Place.{Place}
 
--- The level of a sign: the looser the sign, the lower. Inside `$( )` the levels are 16 and more.
+-- The level of a sign: the looser the sign, the lower. Inside `$( )` the levels are 15 and more.
 abbrev pub sign_level : Mark → ℕ
 sign_level Equivalent = 1
 sign_level Implies = 2
@@ -34,12 +34,12 @@ sign_level Semicolon = 10
 sign_level Arrow = 11
 sign_level DotDot = 12
 sign_level PlusPlus = 13
-sign_level Plus = 16
-sign_level Minus = 16
-sign_level Star = 17
-sign_level Slash = 17
-sign_level Backslash = 17
-sign_level Caret = 19
+sign_level Plus = 15
+sign_level Minus = 15
+sign_level Star = 16
+sign_level Slash = 16
+sign_level Backslash = 16
+sign_level Caret = 18
 sign_level sign = 0
 
 -- the level of a prefix `~`, of a sequence, of a prefix `-`, and of what holds together by itself
@@ -50,17 +50,17 @@ abbrev pub sequence_level : ℕ
 sequence_level = 14
 
 abbrev pub negation_level : ℕ
-negation_level = 18
+negation_level = 17
 
 abbrev pub operand_level : ℕ
 operand_level = 20
 
 -- whether the signs of a level group to the left, or to the right; the others do not group
 abbrev pub groups_left : ℕ → Bool
-groups_left level = level == 3 || level == 4 || level == 10 || level == 13 || level == 16 || level == 17
+groups_left level = level == 3 || level == 4 || level == 10 || level == 13 || level == 15 || level == 16
 
 abbrev pub groups_right : ℕ → Bool
-groups_right level = level == 2 || level == 11 || level == 19
+groups_right level = level == 2 || level == 11 || level == 18
 
 -- the loosest level that a sign of this level allows to its left, and to its right
 abbrev pub left_of : ℕ → ℕ
@@ -77,7 +77,6 @@ place_at around least = record { around = around; least = least; bar_closes = fa
 
 -- a place for a whole expression
 abbrev pub whole : Around → Place
-whole Arithmetic = place_at Arithmetic 16
 whole around = place_at around 1
 
 -- a place for an operand with this behind it

@@ -15,6 +15,8 @@ mod plain_expression;
 mod plain_parts;
 mod print;
 mod quote;
+#[cfg(test)]
+mod tests;
 mod ty;
 mod wrapping;
 

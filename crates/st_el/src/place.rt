@@ -48,7 +48,7 @@ pub const NOT_LEVEL: u8 = 5;
 pub const SEQUENCE_LEVEL: u8 = 14;
 
 /// The level of a prefix `-`.
-pub const NEGATION_LEVEL: u8 = 18;
+pub const NEGATION_LEVEL: u8 = 17;
 
 /// The level of what holds together by itself.
 pub const OPERAND_LEVEL: u8 = 20;
@@ -73,9 +73,9 @@ pub fn sign_level(sign: Mark) -> u8
         Mark::Arrow => 11,
         Mark::DotDot => 12,
         Mark::PlusPlus => 13,
-        Mark::Plus | Mark::Minus => 16,
-        Mark::Star | Mark::Slash | Mark::Backslash => 17,
-        Mark::Caret => 19,
+        Mark::Plus | Mark::Minus => 15,
+        Mark::Star | Mark::Slash | Mark::Backslash => 16,
+        Mark::Caret => 18,
         _ => 0,
     }
 }
@@ -86,7 +86,7 @@ pub fn left_of(level: u8) -> u8
     ensures { result ≡ left_of level }
 {
     match level {
-        3 | 4 | 10 | 13 | 16 | 17 => level,
+        3 | 4 | 10 | 13 | 15 | 16 => level,
         _ => level + 1,
     }
 }
@@ -97,7 +97,7 @@ pub fn right_of(level: u8) -> u8
     ensures { result ≡ right_of level }
 {
     match level {
-        2 | 11 | 19 => level,
+        2 | 11 | 18 => level,
         _ => level + 1,
     }
 }
@@ -119,10 +119,7 @@ impl Place {
     pub fn whole(around: Around) -> Place
         ensures { result ≡ whole around }
     {
-        match around {
-            Around::Arithmetic => Place::at(around, 16),
-            Around::Brackets | Around::Bars | Around::Caret => Place::at(around, 1),
-        }
+        Place::at(around, 1)
     }
 
     /// A place for an operand with this behind it.

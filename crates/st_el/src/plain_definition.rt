@@ -4,11 +4,11 @@ ghost use Rattle.std.specs.Prelude.{◌≡◌, ◌++◌, ◌∷◌, [], map, fil
 ghost use Rattle.std.specs.List.{list_any};
 ghost use Rattle.st_el.specs.Plain.{plain_exp, plain_typ, plain_notation, plain_prem};
 ghost use Rattle.st_el.specs.Erasure.{plain_token, plain_hint, is_mode, kept_hints, plain_body, plain_def_node, plain_def, is_fragment, alternatives_of, alternatives, joined, joined_syntax, joined_at, plain_defs};
-ghost use Rattle.st_el.specs.declared.definition.DefNode.TheVariants.{Syntax};
+ghost use Rattle.st_el.specs.declared.definition.DefNode.TheVariants.{Rule, Clause};
 
 use crate::plain_expression::{NOWHERE, plain_exp, plain_exps};
 use crate::plain_parts::{plain_notation, plain_notations, plain_prems, plain_typ, plain_typs};
-use crate::{Body, Def, DefNode, Hint, Notation, Typ};
+use crate::{Body, Def, DefNode, Exp, Hint, Notation, Prem, Typ};
 use st_num::{Name, NoMemory, Row};
 use st_scan::{Token, TokenKind};
 use std::alloc::Global;
@@ -114,6 +114,43 @@ fn plain_body(alloc: Global, body: &Body) -> Result<Body, NoMemory>
     }
 }
 
+fn plain_rule(
+    alloc: Global,
+    relation: &Name,
+    name: &Name,
+    conclusion: &Exp,
+    premises: &Row<Prem>,
+) -> Result<DefNode, NoMemory>
+    ensures { IfOk result (λ plain. plain
+        ≡ Rule relation.now name.now (plain_exp conclusion.now) (map plain_prem premises.now)) }
+{
+    Ok(DefNode::Rule {
+        relation: relation.copy(alloc)?,
+        name: name.copy(alloc)?,
+        conclusion: plain_exp(alloc, conclusion)?,
+        premises: plain_prems(alloc, premises.as_slice())?,
+    })
+}
+
+fn plain_clause(
+    alloc: Global,
+    name: &Name,
+    args: &Row<Exp>,
+    exp: &Exp,
+    premises: &Row<Prem>,
+) -> Result<DefNode, NoMemory>
+    ensures { IfOk result (λ plain. plain
+        ≡ Clause name.now (map plain_exp args.now) (plain_exp exp.now)
+        (map plain_prem premises.now)) }
+{
+    Ok(DefNode::Clause {
+        name: name.copy(alloc)?,
+        args: plain_exps(alloc, args.as_slice())?,
+        result: plain_exp(alloc, exp)?,
+        premises: plain_prems(alloc, premises.as_slice())?,
+    })
+}
+
 fn plain_def_node(alloc: Global, node: &DefNode) -> Result<DefNode, NoMemory>
     ensures { IfOk result (λ plain. plain ≡ plain_def_node node.now) }
 {
@@ -136,12 +173,7 @@ fn plain_def_node(alloc: Global, node: &DefNode) -> Result<DefNode, NoMemory>
             name,
             conclusion,
             premises,
-        } => Ok(DefNode::Rule {
-            relation: relation.copy(alloc)?,
-            name: name.copy(alloc)?,
-            conclusion: plain_exp(alloc, conclusion)?,
-            premises: plain_prems(alloc, premises.as_slice())?,
-        }),
+        } => plain_rule(alloc, relation, name, conclusion, premises),
         DefNode::Fun {
             name,
             params,
@@ -156,12 +188,7 @@ fn plain_def_node(alloc: Global, node: &DefNode) -> Result<DefNode, NoMemory>
             args,
             result: exp,
             premises,
-        } => Ok(DefNode::Clause {
-            name: name.copy(alloc)?,
-            args: plain_exps(alloc, args.as_slice())?,
-            result: plain_exp(alloc, exp)?,
-            premises: plain_prems(alloc, premises.as_slice())?,
-        }),
+        } => plain_clause(alloc, name, args, exp, premises),
     }
 }
 

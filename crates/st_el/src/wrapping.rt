@@ -1,7 +1,8 @@
 //! Whether a part suits its place, and what is written round it otherwise.
 
 ghost use Rattle.std.specs.Prelude.{◌≡◌, if◌then◌else◌};
-ghost use Rattle.st_el.specs.SourceText.{opened, printed, level_of, takes_in, has_bar, is_arithmetic, is_count, suits, wrapping, printed_mark};
+ghost use Rattle.st_el.specs.SourceText.{opened, printed, printed_mark};
+ghost use Rattle.st_el.specs.Wrappings.{level_of, takes_in, has_bar, is_arithmetic, is_count, suits, wrapping};
 ghost use Rattle.st_el.specs.declared.place.Wrapping.TheVariants.{Bare, Parens};
 
 use crate::place::{
@@ -73,7 +74,7 @@ fn is_arithmetic(node: &Node) -> bool
     ensures { result ≡ is_arithmetic (opened node.now) }
 {
     match node {
-        Node::Binary(_, sign, _) => sign_level(*sign) >= 16,
+        Node::Binary(_, sign, _) => sign_level(*sign) >= 15,
         Node::Neg(_) => true,
         _ => false,
     }
