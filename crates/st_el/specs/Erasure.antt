@@ -48,7 +48,8 @@ plain_def_node (Clause name args result premises) =
     Clause name (map plain_exp args) (plain_exp result) (map plain_prem premises)
 
 abbrev pub plain_def : Def → Def
-plain_def def = record { at = nowhere; hints = kept_hints def.node def.hints; node = plain_def_node def.node }
+plain_def def =
+    record { at = nowhere; hints = kept_hints def.node def.hints; node = plain_def_node def.node }
 
 -- ---- fragments
 
@@ -78,23 +79,27 @@ abbrev pub joined : Body → List Notation → Body
 joined (Cases before cases after) later = Cases false (cases ++ later) false
 joined body later = body
 
--- A fragment stands for all fragments of its syntax where it is the first, and for nothing elsewhere.
+-- A fragment stands for all fragments of its syntax where it is the first, else for nothing.
 abbrev pub joined_syntax : List Def → List ℕ → Option (List ℕ) → Body → List Def → List DefNode
 joined_syntax before name None body behind = Syntax name None body ∷ []
 joined_syntax before name (Some fragment) body behind =
-    if list_any (is_fragment name) before then [] else Syntax name None (joined body (alternatives name behind)) ∷ []
+    if list_any (is_fragment name) before then []
+    else Syntax name None (joined body (alternatives name behind)) ∷ []
 
 abbrev pub joined_node : List Def → DefNode → List Def → List DefNode
-joined_node before (Syntax name fragment body) behind = joined_syntax before name fragment body behind
+joined_node before (Syntax name fragment body) behind =
+    joined_syntax before name fragment body behind
 joined_node before node behind = node ∷ []
 
 -- what a definition stands for between those before it and those behind it
 abbrev pub joined_at : List Def → Def → List Def → List Def
-joined_at before def behind = map (λ node. record def { node = node }) (joined_node before def.node behind)
+joined_at before def behind =
+    map (λ node. record def { node = node }) (joined_node before def.node behind)
 
 abbrev pub joined_behind : List Def → List Def → List Def
 joined_behind before [] = []
-joined_behind before (def ∷ behind) = joined_at before def behind ++ joined_behind (before ++ def ∷ []) behind
+joined_behind before (def ∷ behind) =
+    joined_at before def behind ++ joined_behind (before ++ def ∷ []) behind
 
 -- definitions with the fragments of each syntax joined at the first one, and all parts plain
 abbrev pub plain_defs : List Def → List Def

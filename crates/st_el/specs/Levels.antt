@@ -57,7 +57,8 @@ operand_level = 20
 
 -- whether the signs of a level group to the left, or to the right; the others do not group
 abbrev pub groups_left : ℕ → Bool
-groups_left level = level == 3 || level == 4 || level == 10 || level == 13 || level == 15 || level == 16
+groups_left level =
+    level == 3 || level == 4 || level == 10 || level == 13 || level == 15 || level == 16
 
 abbrev pub groups_right : ℕ → Bool
 groups_right level = level == 2 || level == 11 || level == 18
@@ -73,7 +74,8 @@ right_of level = if groups_right level then level else level + 1
 
 -- a place for parts of this level and tighter ones
 abbrev pub place_at : Around → ℕ → Place
-place_at around least = record { around = around; least = least; bar_closes = false; behind = Other }
+place_at around least =
+    record { around = around; least = least; bar_closes = false; behind = Other }
 
 -- a place for a whole expression
 abbrev pub whole : Around → Place
@@ -81,7 +83,8 @@ whole around = place_at around 1
 
 -- a place for an operand with this behind it
 abbrev pub operand_before : Around → Behind → Place
-operand_before around behind = record { around = around; least = operand_level; bar_closes = false; behind = behind }
+operand_before around behind =
+    record { around = around; least = operand_level; bar_closes = false; behind = behind }
 
 -- a place for a position, a length or a part of a path
 abbrev pub position : Place
@@ -97,7 +100,8 @@ is_bars Bars = true
 is_bars around = false
 
 abbrev pub next_element : Around → Place
-next_element around = record { around = around; least = operand_level; bar_closes = is_bars around; behind = Other }
+next_element around =
+    record { around = around; least = operand_level; bar_closes = is_bars around; behind = Other }
 
 -- inside parentheses
 abbrev pub in_parens : Around → Around

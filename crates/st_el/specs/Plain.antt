@@ -68,7 +68,8 @@ abbrev pub plain_prem_node_at : PremNode-F PremNode Prem → PremNode
 plain_prem_node_at (PremNode-F.If e) = roll-PremNode (PremNode-F.If (plain_exp e))
 plain_prem_node_at (PremNode-F.Goal name e) = roll-PremNode (PremNode-F.Goal name (plain_exp e))
 plain_prem_node_at PremNode-F.Otherwise = roll-PremNode PremNode-F.Otherwise
-plain_prem_node_at (PremNode-F.Each prem count) = roll-PremNode (PremNode-F.Each prem (plain_count count))
+plain_prem_node_at (PremNode-F.Each prem count) =
+    roll-PremNode (PremNode-F.Each prem (plain_count count))
 
 abbrev pub plain_prem_at : Prem-F PremNode Prem → Prem
 plain_prem_at prem = roll-Prem (record { at = nowhere; node = prem.node })

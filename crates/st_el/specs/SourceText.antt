@@ -1,4 +1,4 @@
--- The text of an expression: its tokens, with parentheses round each part that does not suit its place.
+-- The text of an expression: its tokens, and parentheses round parts that do not suit their places.
 use Rattle.std.specs.Prelude.{ℕ, List, [], ◌∷◌, ◌++◌, map, flat_map, codes, Bool, true, false, not, ◌&&◌}
 use Rattle.std.specs.Fmt.{decimal}
 use Rattle.st_num.specs.Signs.{spelling}
@@ -43,7 +43,8 @@ joined_by around left sign right =
 abbrev pub elements : Around → List Printed → List ℕ
 elements around [] = []
 elements around (part ∷ parts) =
-    part.at (operand_before around Other) ++ flat_map (λ next. codes " " ++ next.at (next_element around)) parts
+    part.at (operand_before around Other)
+    ++ flat_map (λ next. codes " " ++ next.at (next_element around)) parts
 
 abbrev pub listed : List Printed → List ℕ
 listed parts = separated (codes ", ") (map (λ part. part.at (whole Brackets)) parts)
@@ -104,7 +105,8 @@ front around (Node-F.Not e) = codes "~ " ++ e.at (place_at around not_level)
 front around (Node-F.Neg e) = codes "- " ++ e.at (place_at around negation_level)
 front around (Node-F.Arith e) = codes "$(" ++ e.at (whole Arithmetic) ++ codes ")"
 front around (Node-F.Paren e) = codes "(" ++ e.at (whole (in_parens around)) ++ codes ")"
-front around (Node-F.Bracket sign e) = spelling sign ++ e.at (whole Brackets) ++ spelling (closing sign)
+front around (Node-F.Bracket sign e) =
+    spelling sign ++ e.at (whole Brackets) ++ spelling (closing sign)
 front around (Node-F.Tuple parts) = codes "(" ++ listed parts ++ codes ")"
 front around (Node-F.Fields fields) = codes "{" ++ fields_text fields ++ codes "}"
 front around (Node-F.Dot e field) = e.at (operand_before around Dot)
@@ -128,7 +130,10 @@ text_at node place = wrapped (wrapping place node) place.around node
 
 abbrev pub printed_node_at : Level → Printed
 printed_node_at node =
-    record { begins_with_bar = λ behind. not (takes_in behind node) && has_bar node; at = text_at node }
+    record {
+      begins_with_bar = λ behind. not (takes_in behind node) && has_bar node;
+      at = text_at node;
+    }
 
 abbrev pub printed_exp_at : Exp-F Marked Printed (List ℕ) Printed → Printed
 printed_exp_at e = e.node
@@ -147,16 +152,24 @@ printed_step_at (Seg-F.Seg::At at) = codes "[" ++ at.at position ++ codes "]"
 printed_step_at (Seg-F.Seg::Slice from length) = range from length
 
 abbrev pub printed : Exp → Printed
-printed = fold-Exp Marked Printed (List ℕ) Printed printed_mark_at printed_node_at printed_step_at printed_exp_at
+printed =
+    fold-Exp Marked Printed (List ℕ) Printed
+    printed_mark_at printed_node_at printed_step_at printed_exp_at
 
 abbrev pub printed_node : Node → Printed
-printed_node = fold-Node Marked Printed (List ℕ) Printed printed_mark_at printed_node_at printed_step_at printed_exp_at
+printed_node =
+    fold-Node Marked Printed (List ℕ) Printed
+    printed_mark_at printed_node_at printed_step_at printed_exp_at
 
 abbrev pub printed_mark : Count → Marked
-printed_mark = fold-Count Marked Printed (List ℕ) Printed printed_mark_at printed_node_at printed_step_at printed_exp_at
+printed_mark =
+    fold-Count Marked Printed (List ℕ) Printed
+    printed_mark_at printed_node_at printed_step_at printed_exp_at
 
 abbrev pub printed_step : Seg → List ℕ
-printed_step = fold-Seg Marked Printed (List ℕ) Printed printed_mark_at printed_node_at printed_step_at printed_exp_at
+printed_step =
+    fold-Seg Marked Printed (List ℕ) Printed
+    printed_mark_at printed_node_at printed_step_at printed_exp_at
 
 abbrev pub printed_field : List ℕ × Exp → List ℕ × Printed
 printed_field field = (field.0, printed field.1)
@@ -164,7 +177,8 @@ printed_field field = (field.0, printed field.1)
 -- the level of an expression, with its parts printed
 abbrev pub parts_printed : Node-F Count Node Seg Exp → Level
 parts_printed =
-    map-Node Count Node Seg Exp Marked Printed (List ℕ) Printed printed_mark printed_node printed_step printed
+    map-Node Count Node Seg Exp Marked Printed (List ℕ) Printed
+    printed_mark printed_node printed_step printed
 
 abbrev pub opened : Node → Level
 opened node = parts_printed (out-Node node)

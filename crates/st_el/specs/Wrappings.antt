@@ -10,7 +10,7 @@ use Rattle.st_el.specs.declared.place.Wrapping.{Wrapping}
 use Rattle.st_el.specs.declared.place.Wrapping.TheVariants.{Bare, Parens, Dollar}
 use Rattle.st_el.specs.Levels.{sign_level, not_level, sequence_level, negation_level, operand_level, in_parens}
 
--- what is known of a part: whether it begins with a bar where this is behind it, and its text at each place
+-- what is known of a part: whether it begins with a bar where this is behind it, and its texts
 pub record Printed : Type 0 where
   pub begins_with_bar : Behind → Bool
   pub at : Place → List ℕ
@@ -37,7 +37,7 @@ abbrev pub is_plus : Behind → Bool
 is_plus Plus = true
 is_plus behind = false
 
--- An atom with a dot behind it would be read as one longer atom, and two marks `+` as the sign `++`.
+-- An atom with a dot behind it would be read as one longer atom, and two marks `+` as `++`.
 abbrev pub takes_in : Behind → Level → Bool
 takes_in Dot (Node-F.Atom name) = true
 takes_in Plus (Node-F.Iter e mark) = is_plus mark.behind
@@ -69,13 +69,16 @@ is_count node = false
 
 abbrev pub suits : Place → Level → Bool
 suits place node =
-    nat_le place.least (level_of node) && not (takes_in place.behind node) && not (place.bar_closes && has_bar node)
+    nat_le place.least (level_of node)
+    && not (takes_in place.behind node)
+    && not (place.bar_closes && has_bar node)
 
 -- what is written round a part
 abbrev pub wrapping_in : Around → Place → Level → Wrapping
 wrapping_in BehindCaret place node = if is_count node then Bare else Dollar
 wrapping_in Arithmetic place node = if suits place node then Bare else Parens
-wrapping_in around place node = if is_arithmetic node then Dollar else if suits place node then Bare else Parens
+wrapping_in around place node =
+    if is_arithmetic node then Dollar else if suits place node then Bare else Parens
 
 abbrev pub wrapping : Place → Level → Wrapping
 wrapping place node = wrapping_in place.around place node

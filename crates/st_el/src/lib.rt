@@ -3,7 +3,8 @@
 //! The one idea: a tree keeps the author's notation, parentheses and `$( )` among it, and knows no
 //! types. Trees are plain data to contracts.
 //!
-//! Read `expression` and `definition` first. The grammar is told in `docs/language.md`.
+//! Read `expression` and `definition` first, then `specs/Erasure.antt`, what a plain source is, and
+//! `specs/SourceText.antt`, how an expression is printed. Both are told in `docs/source-trees.md`.
 #![tactic(auto)]
 
 mod definition;

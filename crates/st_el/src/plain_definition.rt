@@ -86,7 +86,8 @@ fn kept_hints(alloc: Global, node: &DefNode, hints: &Row<Hint>) -> Result<Row<Hi
 }
 
 fn plain_fields(alloc: Global, fields: &[(Name, Typ)]) -> Result<Row<(Name, Typ)>, NoMemory>
-    ensures { IfOk result (λ plain. plain ≡ map (λ field. (field.0, plain_typ field.1)) fields.now) }
+    ensures { IfOk result
+        (λ plain. plain ≡ map (λ field. (field.0, plain_typ field.1)) fields.now) }
 {
     let mut plain = Row::new(alloc);
     for field in fields {

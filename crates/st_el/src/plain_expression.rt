@@ -103,7 +103,8 @@ pub fn plain_exps(alloc: Global, exps: &[Exp]) -> Result<Row<Exp>, NoMemory>
 
 #[cycle(plain)]
 fn plain_fields(alloc: Global, fields: &[(Name, Exp)]) -> Result<Row<(Name, Exp)>, NoMemory>
-    ensures { IfOk result (λ plain. plain ≡ map (λ field. (field.0, plain_exp field.1)) fields.now) }
+    ensures { IfOk result
+        (λ plain. plain ≡ map (λ field. (field.0, plain_exp field.1)) fields.now) }
 {
     let mut plain = Row::new(alloc);
     for field in fields {
