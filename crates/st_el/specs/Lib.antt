@@ -1,0 +1,5 @@
+pub mod Plain
+pub mod Erasure
+pub mod Levels
+pub mod Wrappings
+pub mod SourceText

@@ -1,0 +1,188 @@
+-- The text of an expression: its tokens, and parentheses round parts that do not suit their places.
+use Rattle.std.specs.Prelude.{ℕ, List, [], ◌∷◌, ◌++◌, map, flat_map, codes, Bool, true, false, not, ◌&&◌}
+use Rattle.std.specs.Fmt.{decimal}
+use Rattle.st_num.specs.Signs.{spelling}
+use Rattle.st_num.specs.declared.mark.Mark.{Mark}
+use Rattle.st_num.specs.declared.mark.Mark.TheVariants.{TickBracket, TickBrace, CloseParen, CloseBracket, CloseBrace, Caret}
+use Rattle.st_scan.specs.Spelling.{quoted}
+use Rattle.st_el.specs.declared.expression.Exp.{Exp, Exp-F, fold-Exp}
+use Rattle.st_el.specs.declared.expression.Node.{Node, out-Node, map-Node, fold-Node}
+use Rattle.st_el.specs.declared.expression.Count.{Count, fold-Count}
+use Rattle.st_el.specs.declared.expression.Count.TheOpen.{Count-F, Node-F, Seg-F}
+use Rattle.st_el.specs.declared.expression.Seg.{Seg, fold-Seg}
+use Rattle.st_el.specs.declared.place.Around.{Around}
+use Rattle.st_el.specs.declared.place.Around.TheVariants.{Brackets, Bars, Arithmetic}
+use Rattle.st_el.specs.declared.place.Behind.TheVariants.{Other, Dot, Plus}
+use Rattle.st_el.specs.declared.place.Place.{Place}
+use Rattle.st_el.specs.declared.place.Wrapping.{Wrapping}
+use Rattle.st_el.specs.Levels.{sign_level, not_level, negation_level, left_of, right_of, place_at, whole, operand_before, position, count, next_element, in_parens}
+use Rattle.st_el.specs.Wrappings.{Printed, Marked, Level, takes_in, has_bar, wrapping, opening, ending, around_in}
+
+-- these texts with a text between them
+abbrev pub separated : List ℕ → List (List ℕ) → List ℕ
+separated between [] = []
+separated between (text ∷ texts) = text ++ flat_map (λ next. between ++ next) texts
+
+-- a left side has a blank behind it, unless it is absent
+abbrev pub left_side : List ℕ → List ℕ
+left_side [] = []
+left_side (byte ∷ bytes) = byte ∷ bytes ++ codes " "
+
+-- there is no blank behind `^`
+abbrev pub blank_behind : Mark → List ℕ
+blank_behind Caret = []
+blank_behind sign = codes " "
+
+abbrev pub joined_by : Around → Printed → Mark → Printed → List ℕ
+joined_by around left sign right =
+    left_side (left.at (place_at around (left_of (sign_level sign))))
+    ++ spelling sign ++ blank_behind sign
+    ++ right.at (place_at around (right_of (sign_level sign)))
+
+-- the elements of a sequence
+abbrev pub elements : Around → List Printed → List ℕ
+elements around [] = []
+elements around (part ∷ parts) =
+    part.at (operand_before around Other)
+    ++ flat_map (λ next. codes " " ++ next.at (next_element around)) parts
+
+abbrev pub listed : List Printed → List ℕ
+listed parts = separated (codes ", ") (map (λ part. part.at (whole Brackets)) parts)
+
+abbrev pub field_text : List ℕ × Printed → List ℕ
+field_text field = field.0 ++ codes " " ++ field.1.at (whole Brackets)
+
+abbrev pub fields_text : List (List ℕ × Printed) → List ℕ
+fields_text fields = separated (codes ", ") (map field_text fields)
+
+-- arguments, where there are any
+abbrev pub arguments : List Printed → List ℕ
+arguments [] = []
+arguments (part ∷ parts) = codes "(" ++ listed (part ∷ parts) ++ codes ")"
+
+abbrev pub truth : Bool → List ℕ
+truth true = codes "true"
+truth false = codes "false"
+
+-- the sign that closes a backquoted bracket
+abbrev pub closing : Mark → Mark
+closing TickBracket = CloseBracket
+closing TickBrace = CloseBrace
+closing sign = CloseParen
+
+-- a path and the part at it, in the brackets of an update or an extension
+abbrev pub change : List (List ℕ) → List ℕ → Printed → List ℕ
+change path sign part =
+    codes "[" ++ flat_map (λ step. step) path ++ sign ++ part.at (whole Brackets) ++ codes "]"
+
+-- a position and a length, in brackets
+abbrev pub range : Printed → Printed → List ℕ
+range from length = codes "[" ++ from.at position ++ codes " : " ++ length.at position ++ codes "]"
+
+-- what stands behind an operand or a function
+abbrev pub postfix : Level → List ℕ
+postfix (Node-F.Dot e field) = codes "." ++ field
+postfix (Node-F.Node::At e at) = codes "[" ++ at.at position ++ codes "]"
+postfix (Node-F.Node::Slice e from length) = range from length
+postfix (Node-F.Update e path part) = change path (codes " = ") part
+postfix (Node-F.Extend e path part) = change path (codes " =++ ") part
+postfix (Node-F.Iter e mark) = mark.text
+postfix (Node-F.Call name parts) = arguments parts
+postfix node = []
+
+-- what stands before the postfix, or the whole where there is none
+abbrev pub front : Around → Level → List ℕ
+front around (Node-F.Name name) = name
+front around (Node-F.Atom name) = name
+front around (Node-F.Bool value) = truth value
+front around (Node-F.Number n) = decimal n
+front around (Node-F.Text text) = quoted text
+front around Node-F.Eps = codes "eps"
+front around (Node-F.Seq parts) = elements around parts
+front around (Node-F.Infix left sign right) = joined_by around left sign right
+front around (Node-F.Binary left sign right) = joined_by around left sign right
+front around (Node-F.Not e) = codes "~ " ++ e.at (place_at around not_level)
+front around (Node-F.Neg e) = codes "- " ++ e.at (place_at around negation_level)
+front around (Node-F.Arith e) = codes "$(" ++ e.at (whole Arithmetic) ++ codes ")"
+front around (Node-F.Paren e) = codes "(" ++ e.at (whole (in_parens around)) ++ codes ")"
+front around (Node-F.Bracket sign e) =
+    spelling sign ++ e.at (whole Brackets) ++ spelling (closing sign)
+front around (Node-F.Tuple parts) = codes "(" ++ listed parts ++ codes ")"
+front around (Node-F.Fields fields) = codes "{" ++ fields_text fields ++ codes "}"
+front around (Node-F.Dot e field) = e.at (operand_before around Dot)
+front around (Node-F.Node::At e at) = e.at (operand_before around Other)
+front around (Node-F.Node::Slice e from length) = e.at (operand_before around Other)
+front around (Node-F.Update e path part) = e.at (operand_before around Other)
+front around (Node-F.Extend e path part) = e.at (operand_before around Other)
+front around (Node-F.Len e) = codes "|" ++ e.at (whole Bars) ++ codes "|"
+front around (Node-F.Call name parts) = codes "$" ++ name
+front around (Node-F.Iter e mark) = e.at (operand_before around mark.behind)
+
+abbrev pub wrapped : Wrapping → Around → Level → List ℕ
+wrapped wrapping around node =
+    opening wrapping ++ front (around_in wrapping around) node ++ postfix node ++ ending wrapping
+
+-- the text of a level at a place
+abbrev pub text_at : Level → Place → List ℕ
+text_at node place = wrapped (wrapping place node) place.around node
+
+-- ---- all levels
+
+abbrev pub printed_node_at : Level → Printed
+printed_node_at node =
+    record {
+      begins_with_bar = λ behind. not (takes_in behind node) && has_bar node;
+      at = text_at node;
+    }
+
+abbrev pub printed_exp_at : Exp-F Marked Printed (List ℕ) Printed → Printed
+printed_exp_at e = e.node
+
+abbrev pub printed_mark_at : Count-F Marked Printed (List ℕ) Printed → Marked
+printed_mark_at Count-F.Star = record { behind = Other; text = codes "*" }
+printed_mark_at Count-F.Plus = record { behind = Plus; text = codes "+" }
+printed_mark_at Count-F.Quest = record { behind = Other; text = codes "?" }
+printed_mark_at (Count-F.Times e) = record { behind = Other; text = codes "^" ++ e.at count }
+printed_mark_at (Count-F.Below index e) =
+    record { behind = Other; text = codes "^(" ++ index ++ codes " < " ++ e.at count ++ codes ")" }
+
+abbrev pub printed_step_at : Seg-F Marked Printed (List ℕ) Printed → List ℕ
+printed_step_at (Seg-F.Field name) = codes "." ++ name
+printed_step_at (Seg-F.Seg::At at) = codes "[" ++ at.at position ++ codes "]"
+printed_step_at (Seg-F.Seg::Slice from length) = range from length
+
+abbrev pub printed : Exp → Printed
+printed =
+    fold-Exp Marked Printed (List ℕ) Printed
+    printed_mark_at printed_node_at printed_step_at printed_exp_at
+
+abbrev pub printed_node : Node → Printed
+printed_node =
+    fold-Node Marked Printed (List ℕ) Printed
+    printed_mark_at printed_node_at printed_step_at printed_exp_at
+
+abbrev pub printed_mark : Count → Marked
+printed_mark =
+    fold-Count Marked Printed (List ℕ) Printed
+    printed_mark_at printed_node_at printed_step_at printed_exp_at
+
+abbrev pub printed_step : Seg → List ℕ
+printed_step =
+    fold-Seg Marked Printed (List ℕ) Printed
+    printed_mark_at printed_node_at printed_step_at printed_exp_at
+
+abbrev pub printed_field : List ℕ × Exp → List ℕ × Printed
+printed_field field = (field.0, printed field.1)
+
+-- the level of an expression, with its parts printed
+abbrev pub parts_printed : Node-F Count Node Seg Exp → Level
+parts_printed =
+    map-Node Count Node Seg Exp Marked Printed (List ℕ) Printed
+    printed_mark printed_node printed_step printed
+
+abbrev pub opened : Node → Level
+opened node = parts_printed (out-Node node)
+
+-- the text of an expression that stands alone
+abbrev pub source_text : Exp → List ℕ
+source_text e = (printed e).at (whole Brackets)

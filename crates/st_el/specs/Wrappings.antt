@@ -1,0 +1,101 @@
+-- Whether a part suits its place, and what is written round it otherwise.
+use Rattle.std.specs.Prelude.{ℕ, List, [], codes, Bool, true, false, not, ◌&&◌, nat_le, if◌then◌else◌}
+use Rattle.st_el.specs.declared.expression.Count.TheOpen.{Node-F}
+use Rattle.st_el.specs.declared.place.Around.{Around}
+use Rattle.st_el.specs.declared.place.Around.TheVariants.{Arithmetic, Caret as BehindCaret}
+use Rattle.st_el.specs.declared.place.Behind.{Behind}
+use Rattle.st_el.specs.declared.place.Behind.TheVariants.{Other, Dot, Plus}
+use Rattle.st_el.specs.declared.place.Place.{Place}
+use Rattle.st_el.specs.declared.place.Wrapping.{Wrapping}
+use Rattle.st_el.specs.declared.place.Wrapping.TheVariants.{Bare, Parens, Dollar}
+use Rattle.st_el.specs.Levels.{sign_level, not_level, sequence_level, negation_level, operand_level, in_parens}
+
+-- what is known of a part: whether it begins with a bar where this is behind it, and its texts
+pub record Printed : Type 0 where
+  pub begins_with_bar : Behind → Bool
+  pub at : Place → List ℕ
+
+-- the mark of an iteration: what it is to the part before it, and how it is written
+pub record Marked : Type 0 where
+  pub behind : Behind
+  pub text : List ℕ
+
+-- one level of an expression, with its parts printed
+abbrev pub Level : Type 0
+Level = Node-F Marked Printed (List ℕ) Printed
+
+-- how tightly it holds together
+abbrev pub level_of : Level → ℕ
+level_of (Node-F.Seq parts) = sequence_level
+level_of (Node-F.Infix left sign right) = sign_level sign
+level_of (Node-F.Binary left sign right) = sign_level sign
+level_of (Node-F.Not e) = not_level
+level_of (Node-F.Neg e) = negation_level
+level_of node = operand_level
+
+abbrev pub is_plus : Behind → Bool
+is_plus Plus = true
+is_plus behind = false
+
+-- An atom with a dot behind it would be read as one longer atom, and two marks `+` as `++`.
+abbrev pub takes_in : Behind → Level → Bool
+takes_in Dot (Node-F.Atom name) = true
+takes_in Plus (Node-F.Iter e mark) = is_plus mark.behind
+takes_in behind node = false
+
+-- an operand begins with a bar where it is a length, or the operand at its front does
+abbrev pub has_bar : Level → Bool
+has_bar (Node-F.Len e) = true
+has_bar (Node-F.Dot e field) = e.begins_with_bar Dot
+has_bar (Node-F.Node::At e at) = e.begins_with_bar Other
+has_bar (Node-F.Node::Slice e from length) = e.begins_with_bar Other
+has_bar (Node-F.Update e path part) = e.begins_with_bar Other
+has_bar (Node-F.Extend e path part) = e.begins_with_bar Other
+has_bar (Node-F.Iter e mark) = e.begins_with_bar mark.behind
+has_bar node = false
+
+-- its signs are those of arithmetic, which stand in `$( )` alone
+abbrev pub is_arithmetic : Level → Bool
+is_arithmetic (Node-F.Binary left sign right) = nat_le 15 (sign_level sign)
+is_arithmetic (Node-F.Neg e) = true
+is_arithmetic node = false
+
+-- a number, a variable or `$( )`, which may stand behind `^`
+abbrev pub is_count : Level → Bool
+is_count (Node-F.Number n) = true
+is_count (Node-F.Name name) = true
+is_count (Node-F.Arith e) = true
+is_count node = false
+
+abbrev pub suits : Place → Level → Bool
+suits place node =
+    nat_le place.least (level_of node)
+    && not (takes_in place.behind node)
+    && not (place.bar_closes && has_bar node)
+
+-- what is written round a part
+abbrev pub wrapping_in : Around → Place → Level → Wrapping
+wrapping_in BehindCaret place node = if is_count node then Bare else Dollar
+wrapping_in Arithmetic place node = if suits place node then Bare else Parens
+wrapping_in around place node =
+    if is_arithmetic node then Dollar else if suits place node then Bare else Parens
+
+abbrev pub wrapping : Place → Level → Wrapping
+wrapping place node = wrapping_in place.around place node
+
+-- ---- what is written round it
+
+abbrev pub opening : Wrapping → List ℕ
+opening Bare = []
+opening Parens = codes "("
+opening Dollar = codes "$("
+
+abbrev pub ending : Wrapping → List ℕ
+ending Bare = []
+ending wrapping = codes ")"
+
+-- what is round the inside of a wrapping
+abbrev pub around_in : Wrapping → Around → Around
+around_in Bare around = around
+around_in Parens around = in_parens around
+around_in Dollar around = Arithmetic

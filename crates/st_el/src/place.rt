@@ -1,0 +1,204 @@
+//! Places of parts in a text, and how tightly signs and parts hold together.
+
+ghost use Rattle.std.specs.Prelude.{◌≡◌, ◌<◌, ◌≤◌};
+ghost use Rattle.st_el.specs.Levels.{sign_level, left_of, right_of, place_at, whole, operand_before, position, count, next_element, in_parens};
+ghost use Rattle.st_el.specs.Wrappings.{opening, ending, around_in};
+
+use st_num::Mark;
+
+/// What the innermost brackets round a part are. A count stands behind `^` and has none.
+#[derive(Clone, Copy, Debug, PartialEq, Eq)]
+pub enum Around {
+    Brackets,
+    Bars,
+    Arithmetic,
+    Caret,
+}
+
+/// What stands right behind a part, where that may change how the part is read.
+#[derive(Clone, Copy, Debug, PartialEq, Eq)]
+pub enum Behind {
+    Other,
+    Dot,
+    Plus,
+}
+
+/// The place of a part: what is round it, the loosest level that is allowed, whether a bar at its
+/// front would close the bars round it, and what stands behind it.
+#[derive(Clone, Copy, Debug)]
+pub struct Place {
+    pub around: Around,
+    pub least: u8,
+    pub bar_closes: bool,
+    pub behind: Behind,
+}
+
+/// What is written round a part: nothing, `(` and `)`, or `$(` and `)`.
+#[derive(Clone, Copy, Debug)]
+pub enum Wrapping {
+    Bare,
+    Parens,
+    Dollar,
+}
+
+/// The level of a prefix `~`.
+pub const NOT_LEVEL: u8 = 5;
+
+/// The level of a sequence.
+pub const SEQUENCE_LEVEL: u8 = 14;
+
+/// The level of a prefix `-`.
+pub const NEGATION_LEVEL: u8 = 17;
+
+/// The level of what holds together by itself.
+pub const OPERAND_LEVEL: u8 = 20;
+
+/// The level of a sign: the looser the sign, the lower.
+pub fn sign_level(sign: Mark) -> u8
+    ensures is { result ≡ sign_level sign }
+    ensures low { result < 20 }
+{
+    match sign {
+        Mark::Equivalent => 1,
+        Mark::Implies => 2,
+        Mark::Or => 3,
+        Mark::And => 4,
+        Mark::Equal | Mark::NotEqual | Mark::ElementOf => 6,
+        Mark::Less | Mark::Greater | Mark::LessOrEqual | Mark::GreaterOrEqual => 6,
+        Mark::Turnstile | Mark::ReverseTurnstile => 7,
+        Mark::SquigglyArrow | Mark::SquigglyArrowStar => 8,
+        Mark::Colon | Mark::Subtype | Mark::Supertype => 9,
+        Mark::Approximately | Mark::Define => 9,
+        Mark::Semicolon => 10,
+        Mark::Arrow => 11,
+        Mark::DotDot => 12,
+        Mark::PlusPlus => 13,
+        Mark::Plus | Mark::Minus => 15,
+        Mark::Star | Mark::Slash | Mark::Backslash => 16,
+        Mark::Caret => 18,
+        _ => 0,
+    }
+}
+
+/// The loosest level that a sign of this level allows to its left.
+pub fn left_of(level: u8) -> u8
+    requires { level < 20 }
+    ensures { result ≡ left_of level }
+{
+    match level {
+        3 | 4 | 10 | 13 | 15 | 16 => level,
+        _ => level + 1,
+    }
+}
+
+/// The loosest level that a sign of this level allows to its right.
+pub fn right_of(level: u8) -> u8
+    requires { level < 20 }
+    ensures { result ≡ right_of level }
+{
+    match level {
+        2 | 11 | 18 => level,
+        _ => level + 1,
+    }
+}
+
+impl Place {
+    /// A place for parts of this level and tighter ones.
+    pub fn at(around: Around, least: u8) -> Place
+        ensures { result ≡ place_at around least }
+    {
+        Place {
+            around,
+            least,
+            bar_closes: false,
+            behind: Behind::Other,
+        }
+    }
+
+    /// A place for a whole expression.
+    pub fn whole(around: Around) -> Place
+        ensures { result ≡ whole around }
+    {
+        Place::at(around, 1)
+    }
+
+    /// A place for an operand with this behind it.
+    pub fn operand_before(around: Around, behind: Behind) -> Place
+        ensures { result ≡ operand_before around behind }
+    {
+        Place {
+            around,
+            least: OPERAND_LEVEL,
+            bar_closes: false,
+            behind,
+        }
+    }
+
+    /// A place for an element of a sequence behind another.
+    pub fn next_element(around: Around) -> Place
+        ensures { result ≡ next_element around }
+    {
+        Place {
+            around,
+            least: OPERAND_LEVEL,
+            bar_closes: matches!(around, Around::Bars),
+            behind: Behind::Other,
+        }
+    }
+
+    /// A place for a position or a length.
+    pub fn position() -> Place
+        ensures { result ≡ position }
+    {
+        Place::at(Around::Brackets, 13)
+    }
+
+    /// A place for the count of an iteration.
+    pub fn count() -> Place
+        ensures { result ≡ count }
+    {
+        Place::at(Around::Caret, 1)
+    }
+}
+
+impl Wrapping {
+    pub fn opening(self) -> &'static [u8]
+        ensures { result.now ≡ opening self }
+    {
+        match self {
+            Wrapping::Bare => b"",
+            Wrapping::Parens => b"(",
+            Wrapping::Dollar => b"$(",
+        }
+    }
+
+    pub fn ending(self) -> &'static [u8]
+        ensures { result.now ≡ ending self }
+    {
+        match self {
+            Wrapping::Bare => b"",
+            Wrapping::Parens | Wrapping::Dollar => b")",
+        }
+    }
+
+    /// What is round the inside.
+    pub fn around_in(self, around: Around) -> Around
+        ensures { result ≡ around_in self around }
+    {
+        match self {
+            Wrapping::Bare => around,
+            Wrapping::Parens => in_parens(around),
+            Wrapping::Dollar => Around::Arithmetic,
+        }
+    }
+}
+
+/// What is round a part in parentheses.
+pub fn in_parens(around: Around) -> Around
+    ensures { result ≡ in_parens around }
+{
+    match around {
+        Around::Arithmetic => Around::Arithmetic,
+        Around::Brackets | Around::Bars | Around::Caret => Around::Brackets,
+    }
+}
