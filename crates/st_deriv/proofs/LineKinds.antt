@@ -1,19 +1,19 @@
 -- The lines of each kind, and trees of none.
 use Rattle.std.proofs.Common.{◌≡◌, ℕ, ◌^◌, ◌<◌, List, [], ◌∷◌, length, get_or, codes, refl, sym, ap, subst, ◌∙◌, arith}
-use Rattle.std.specs.Prelude.{decimal, Result, Ok, Err, None}
+use Rattle.std.specs.Prelude.{decimal, Result, Err, None}
 use Rattle.st_deriv.specs.declared.line.Ending.{Ending}
 use Rattle.st_deriv.specs.declared.line.Line.{Line}
 use Rattle.st_deriv.specs.declared.line.Line.TheVariants.{Head, From, Node, Step, End}
 use Rattle.st_deriv.specs.declared.line.NodeLine.{NodeLine}
 use Rattle.st_il.specs.declared.value.Value.{Value}
-use Rattle.st_iltext.specs.Text.{TextTree, TextTrees, word, quote, list, none, more}
+use Rattle.st_iltext.specs.Text.{TextTrees, word, quote, list, none, more}
 use Rattle.st_iltext.specs.Trees.{tree_of, trees_of}
 use Rattle.st_iltext.specs.declared.tree.TextTree as program
 use Rattle.st_iltext.specs.declared.fault.TextFault.{TextFault}
 use Rattle.st_iltext.specs.declared.fault.TextFault.TheVariants.{Malformed, Memory}
 use Rattle.st_deriv.specs.LineText.{IsRelationName, IsPlainNode, ending_word, node_trees, value_trees}
 use Rattle.st_deriv.specs.Reading.{LineTrees, AreNoLine, AnswersLine, AnswersValues, ValueTrees, AreNoValues, IsNoQuote, IsNoList, IsNoRelation, IsNoNumber, IsNoEnding}
-use Rattle.st_deriv.proofs.Parts.{words, quotes, lists, firsts, rests, first_byte, five_is, count, trees_count}
+use Rattle.st_deriv.proofs.Parts.{lists, firsts, rests, first_byte, five_is, count, trees_count}
 
 -- ---- what begins with the word of a kind is a line of that kind or none
 

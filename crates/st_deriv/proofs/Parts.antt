@@ -5,7 +5,6 @@ use Rattle.st_iltext.specs.Text.{TextTree, TextTrees, word, quote, list, none, m
 use Rattle.st_iltext.specs.Trees.{tree_of, trees_of}
 use Rattle.st_iltext.specs.declared.tree.TextTree as program
 use Rattle.st_iltext.specs.declared.tree.TextTree.{List as ListTree, the_lemmas}
-use Rattle.st_deriv.specs.LineText.{case_tree}
 use Rattle.st_deriv.specs.Reading.{IsNoCase}
 
 -- ---- lists of a known length

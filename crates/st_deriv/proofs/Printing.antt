@@ -1,7 +1,6 @@
 -- Lines that are written piece by piece.
-use Rattle.std.proofs.Common.{◌≡◌, ℕ, ◌+◌, ◌<◌, List, [], ◌∷◌, ◌++◌, length, drop, get_or, codes, Result, Ok, Err, OnErr, refl, sym, ap, ap₂, ◌∙◌, append_assoc, append-nil}
+use Rattle.std.proofs.Common.{◌≡◌, ℕ, ◌+◌, ◌<◌, List, [], ◌∷◌, ◌++◌, length, drop, get_or, codes, Result, Ok, Err, OnErr, refl, sym, ap, ◌∙◌, append_assoc, append-nil}
 use Rattle.st_il.specs.declared.value.Value.{Value}
-use Rattle.st_iltext.specs.Printing.{IsCutOff}
 use Rattle.st_iltext.specs.Text.{quoted, text, row_text, behind}
 use Rattle.st_iltext.proofs.CutOff.{Written, written_step, drop-next}
 use Rattle.st_deriv.specs.declared.line.Line.{Line}

@@ -3,9 +3,8 @@ use Rattle.std.proofs.Common.{◌≡◌, ℕ, zero, suc, ◌+◌, ◌<◌, ◌�
 use Rattle.std.specs.List.{All}
 use Rattle.std.proofs.lemmas.List.{map_push, take_more, take_all}
 use Rattle.std.proofs.lemmas.List.Elements.{All-nil, All-push}
-use Rattle.st_il.specs.declared.value.Value.{Value, out-Value}
+use Rattle.st_il.specs.declared.value.Value.{Value}
 use Rattle.st_il.specs.declared.value.Value.TheVariants.{Case, outs-Case}
-use Rattle.st_iltext.specs.Text.{TextTree, TextTrees, none, more}
 use Rattle.st_iltext.specs.Trees.{row_of, tree_of, trees_of}
 use Rattle.st_iltext.specs.declared.tree.TextTree as program
 use Rattle.st_deriv.specs.LineText.{tag_at, tag_of, IsPlainCase, case_tree, value_tree, value_trees}

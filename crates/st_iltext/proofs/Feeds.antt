@@ -1,7 +1,6 @@
 -- No text has a line feed.
-use Rattle.std.proofs.Common.{◌≡◌, ◌≢◌, ℕ, zero, suc, ◌<◌, List, [], ◌∷◌, ◌++◌, length, map, flat_map, true, refl, sym, subst, ap, ◌∙◌, arith, ◌⊎◌, inl, inr, get_or}
-use Rattle.std.specs.List.{All, Contains, list_all}
-use Rattle.std.proofs.lemmas.List.{length-map, get_or-map}
+use Rattle.std.proofs.Common.{◌≡◌, ◌≢◌, ℕ, zero, suc, ◌<◌, List, [], ◌∷◌, ◌++◌, length, flat_map, true, sym, subst, arith, inl, inr, get_or}
+use Rattle.std.specs.List.{All, list_all}
 use Rattle.std.proofs.lemmas.List.Elements.{All-map}
 use Rattle.st_il.specs.declared.definition.Il.{Il}
 use Rattle.st_il.specs.declared.definition.IlDef.{IlDef}

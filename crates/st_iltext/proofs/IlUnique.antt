@@ -1,5 +1,5 @@
 -- A text has one internal language.
-use Rattle.std.proofs.Common.{◌≡◌, ℕ, zero, suc, ◌≤◌, ◌<◌, List, [], ◌∷◌, ◌++◌, length, Result, Ok, Err, MatchResult, refl, sym, subst, ap, ap₂, ◌∙◌, append-nil, arith, inl, inr}
+use Rattle.std.proofs.Common.{◌≡◌, ℕ, suc, ◌≤◌, List, [], ◌∷◌, ◌++◌, length, Result, Ok, Err, MatchResult, refl, sym, subst, ap, ap₂, ◌∙◌, append-nil, arith, inl, inr}
 use Rattle.std.specs.List.{All}
 use Rattle.std.proofs.lemmas.List.{length-append}
 use Rattle.st_il.specs.declared.definition.Il.{Il}
@@ -10,7 +10,7 @@ use Rattle.st_iltext.specs.declared.fault.TextFault.{TextFault}
 use Rattle.st_iltext.specs.declared.fault.TextFault.TheVariants.{Malformed, Memory}
 use Rattle.st_iltext.specs.declared.small_line.Head.{Head}
 use Rattle.st_iltext.specs.IlLaws.{OneIlText, OneIl}
-use Rattle.st_iltext.specs.IlText.{IlText, il_lines, lines_text, IsNoIl, ReadsIl}
+use Rattle.st_iltext.specs.IlText.{IlText, il_lines, lines_text, ReadsIl}
 use Rattle.st_iltext.specs.SmallReading.{small_of, rule_lines, relation_line}
 use Rattle.st_iltext.proofs.BadLines.{shorter}
 use Rattle.st_iltext.proofs.Feeds.{il_lines-single}

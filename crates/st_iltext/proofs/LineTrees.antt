@@ -1,13 +1,11 @@
 -- The trees of the lines of a small internal language.
-use Rattle.std.proofs.Common.{◌≡◌, ◌≢◌, ℕ, ◌≤◌, Bool, true, false, true≢false, Option, Some, None, MatchOption, is_some, List, [], ◌∷◌, length, map, codes, refl, sym, subst, ap, ap₂, ◌∙◌, ◌==◌, arith}
-use Rattle.std.specs.List.{All, Contains}
+use Rattle.std.proofs.Common.{◌≡◌, ◌≢◌, ℕ, Bool, true, false, true≢false, Option, Some, None, MatchOption, is_some, List, [], map, refl, sym, subst, ap, ◌∙◌}
 use Rattle.st_il.specs.declared.small.SmallRule.{SmallRule}
-use Rattle.st_il.specs.Small.{IsLower, IsUpper, IsWordOf, IsSmall, IsSmallRule, syntax_def, relation_def, rule_def}
+use Rattle.st_il.specs.Small.{IsLower, IsUpper, IsWordOf, IsSmall, IsSmallRule}
 use Rattle.st_iltext.specs.declared.small_line.Head.{Head}
-use Rattle.st_iltext.specs.Text.{TextTree, TextTrees, list, more, text, HasText, TreeText}
+use Rattle.st_iltext.specs.Text.{TextTree, TextTrees, text, TreeText}
 use Rattle.st_iltext.specs.Trees.{row_of}
 use Rattle.st_iltext.specs.Reading.{IsNoTree}
-use Rattle.st_iltext.specs.Definitions.{definition_tree}
 use Rattle.st_iltext.specs.SmallReading.{syntax_line, relation_line, rule_line, IsSyntax, small_of}
 use Rattle.st_iltext.specs.SmallShapes.{tag_shape, syntax_tree, syntax_shape, relation_shape, rule_shape}
 use Rattle.st_iltext.proofs.Unique.{one_tree}

@@ -1,9 +1,9 @@
 -- Lines, each ended by a line feed.
-use Rattle.std.proofs.Common.{◌≡◌, ◌≢◌, ℕ, zero, suc, ◌+◌, ◌≤◌, ◌<◌, List, [], ◌∷◌, ◌++◌, length, map, flat_map, refl, sym, subst, ap, ap₂, ◌∙◌, append_assoc, append-nil, arith}
+use Rattle.std.proofs.Common.{◌≡◌, ◌≢◌, ℕ, suc, ◌≤◌, List, [], ◌∷◌, ◌++◌, length, refl, sym, subst, ap₂, ◌∙◌, append_assoc, arith}
 use Rattle.std.specs.List.{All, Contains}
 use Rattle.std.proofs.Math.Seq.{get_or-append_seam}
 use Rattle.std.proofs.lemmas.List.{length-append}
-use Rattle.std.proofs.lemmas.List.Elements.{Contains-append_right, All-nil, All-cons}
+use Rattle.std.proofs.lemmas.List.Elements.{Contains-append_right}
 use Rattle.std.proofs.lemmas.Grind.{flat_map-append}
 use Rattle.st_iltext.specs.IlText.{lines_text}
 use Rattle.st_iltext.proofs.Bytes.{heads, tails}

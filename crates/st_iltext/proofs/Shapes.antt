@@ -1,5 +1,5 @@
 -- What the readers of shapes need.
-use Rattle.std.proofs.Common.{◌≡◌, ℕ, zero, suc, ◌<◌, List, [], ◌∷◌, length, map, get_or, Option, Some, None, MatchOption, refl, sym, subst, ap, ◌∙◌, arith}
+use Rattle.std.proofs.Common.{◌≡◌, ℕ, zero, suc, ◌<◌, List, [], ◌∷◌, length, map, get_or, Option, None, MatchOption, sym, subst, arith}
 use Rattle.st_iltext.specs.declared.tree.TextTree as program
 use Rattle.st_iltext.specs.Text.{TextTree, TextTrees, list, none, more}
 use Rattle.st_iltext.specs.Trees.{row_of, tree_of, trees_of}

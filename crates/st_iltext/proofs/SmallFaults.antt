@@ -1,7 +1,6 @@
 -- The first bad line of bytes that are no text of a small internal language.
-use Rattle.std.proofs.Common.{◌≡◌, ◌≢◌, ℕ, zero, suc, ◌+◌, ◌≤◌, ◌<◌, Bool, true, false, true≢false, List, [], ◌∷◌, ◌++◌, length, map, get_or, codes, eqb, refl, sym, subst, ap, ap₂, ◌∙◌, append_assoc, append-nil, arith, Result, Ok, Err}
-use Rattle.std.specs.List.{All, Contains, list_any}
-use Rattle.std.specs.Cmp.Lexicographic.{pointwise}
+use Rattle.std.proofs.Common.{◌≡◌, ◌≢◌, ℕ, suc, true≢false, List, [], ◌∷◌, ◌++◌, codes, refl, sym, subst, ap, ap₂, ◌∙◌, append_assoc, append-nil, arith, Result, Err}
+use Rattle.std.specs.List.{All}
 use Rattle.std.proofs.lemmas.Simd.{map-map}
 use Rattle.std.proofs.lemmas.List.{length-append, length-map, get_or_append_left}
 use Rattle.std.proofs.lemmas.List.Elements.{All-nil, All-cons}
@@ -9,13 +8,13 @@ use Rattle.st_il.specs.declared.definition.Il.{Il}
 use Rattle.st_il.specs.declared.definition.IlDef.{IlDef}
 use Rattle.st_il.specs.declared.small.Small.{Small}
 use Rattle.st_il.specs.declared.small.SmallRule.{SmallRule}
-use Rattle.st_il.specs.Small.{IsLower, IsUpper, IsWordOf, IsSmall, IsSmallRule, IsSmallIl, AreDistinct, reserved, syntax_def, relation_def, rule_def, il_of}
+use Rattle.st_il.specs.Small.{IsLower, IsUpper, IsWordOf, IsSmall, IsSmallRule, IsSmallIl, reserved, rule_def, il_of}
 use Rattle.st_iltext.specs.declared.fault.TextFault.{TextFault}
 use Rattle.st_iltext.specs.declared.fault.TextFault.TheVariants.{Malformed, Memory}
 use Rattle.st_iltext.specs.declared.small_line.Head.{Head}
 use Rattle.st_iltext.specs.Text.{text}
 use Rattle.st_iltext.specs.Definitions.{definition_tree}
-use Rattle.st_iltext.specs.IlText.{IlText, il_lines, lines_text, FirstLines, BeginText, IsFirstBadLine, IsNoIl, ReadsIl}
+use Rattle.st_iltext.specs.IlText.{IlText, il_lines, lines_text, BeginText, IsFirstBadLine, IsNoIl, ReadsIl}
 use Rattle.st_iltext.specs.SmallReading.{syntax_line, relation_line, rule_line, IsSyntax, small_of, rule_lines, head_lines, NoRuleNext, StopsAt, ReadsRules}
 use Rattle.st_iltext.proofs.BadLines.{NoNext, NotWhole, bad_line}
 use Rattle.st_iltext.proofs.Feeds.{il_lines-single}

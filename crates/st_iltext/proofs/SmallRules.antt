@@ -1,6 +1,6 @@
 -- Rules of a small specification, one by one.
-use Rattle.std.proofs.Common.{◌≡◌, ◌≢◌, ℕ, zero, suc, ◌+◌, ◌≤◌, ◌<◌, List, [], ◌∷◌, ◌++◌, length, map, get_or, refl, sym, subst, ap, ◌∙◌, arith, append-nil, append_assoc, inl, Err}
-use Rattle.std.specs.List.{All, Contains}
+use Rattle.std.proofs.Common.{◌≡◌, ◌≢◌, ℕ, ◌+◌, ◌<◌, List, [], ◌∷◌, ◌++◌, length, get_or, refl, sym, subst, ap, ◌∙◌, arith, Err}
+use Rattle.std.specs.List.{Contains}
 use Rattle.std.proofs.Math.Seq.{get_or-append_seam}
 use Rattle.std.proofs.lemmas.List.{length-append, length-map, map-append, get_or_append_left, get_or_default}
 use Rattle.std.proofs.lemmas.List.Elements.{All-push}
@@ -11,7 +11,7 @@ use Rattle.st_iltext.specs.declared.small_line.Head.{Head}
 use Rattle.st_iltext.specs.declared.fault.TextFault.{TextFault}
 use Rattle.st_iltext.specs.declared.fault.TextFault.TheVariants.{Malformed}
 use Rattle.st_iltext.specs.IlText.{lines_text}
-use Rattle.st_iltext.specs.SmallReading.{small_of, rule_line, rule_lines, NoRuleNext, StopsAt, ReadsRules}
+use Rattle.st_iltext.specs.SmallReading.{small_of, rule_line, rule_lines, NoRuleNext, ReadsRules}
 use Rattle.st_iltext.proofs.Lines.{IsLine, line_unique, no_line}
 use Rattle.st_iltext.proofs.LineTrees.{rule_text}
 use Rattle.st_iltext.proofs.Unique.{one_tree}

@@ -1,7 +1,6 @@
 -- The trees of small internal languages: their shapes, and that they have texts.
-use Rattle.std.proofs.Common.{◌≡◌, ◌≢◌, ℕ, zero, suc, ◌+◌, ◌≤◌, ◌<◌, max, List, [], ◌∷◌, ◌++◌, length, map, Bool, true, false, codes, refl, sym, subst, ap, ap₂, ◌∙◌, arith, rules, inl, inr, nat_le, nat_lt, ◌&&◌, get_or, drop}
-use Rattle.std.specs.List.{All, Contains, list_all}
-use Rattle.std.specs.Prelude.{IsUtf8}
+use Rattle.std.proofs.Common.{◌≡◌, ℕ, suc, ◌+◌, ◌≤◌, ◌<◌, List, [], ◌∷◌, ◌++◌, length, map, true, codes, refl, sym, subst, ap, ap₂, ◌∙◌, arith, rules, inl, nat_le, nat_lt, ◌&&◌, get_or, drop}
+use Rattle.std.specs.List.{All, list_all}
 use Rattle.std.proofs.lemmas.List.Elements.{All-nil, All-cons, All-map, All-contains}
 use Rattle.std.proofs.lemmas.List.Sums.{AllPass-from_list_all}
 use Rattle.std.proofs.lemmas.Str.{IsUtf8-from_ascii}
@@ -16,7 +15,7 @@ use Rattle.st_il.specs.declared.definition.Il.{Il}
 use Rattle.st_il.specs.declared.ty.Ty as ty
 use Rattle.st_il.specs.declared.ty.Ty.TheVariants.{Name}
 use Rattle.st_il.specs.Small.{IsLower, IsUpper, IsWordOf, IsSmall, IsSmallRule, IsSmallIl, syntax_def, relation_def, rule_def, il_of}
-use Rattle.st_iltext.specs.Text.{TextTree, word, quote, list, TextTrees, none, more, is_word_byte, IsWord, IsTextByte, IsText, IsSpelled, AreSpelled, HasText, depth, row_depth, text}
+use Rattle.st_iltext.specs.Text.{quote, IsText, IsSpelled, AreSpelled, HasText, row_depth, text}
 use Rattle.st_iltext.specs.Trees.{row_of}
 use Rattle.st_iltext.specs.Expressions.{form, group, ty_tree, exp_tree}
 use Rattle.st_iltext.specs.Definitions.{definition_tree, alternative_tree}

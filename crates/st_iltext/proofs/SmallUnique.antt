@@ -1,7 +1,7 @@
 -- Small trees are equal only where their names are.
-use Rattle.std.proofs.Common.{◌≡◌, ℕ, List, [], ◌∷◌, map, codes, refl, sym, ap, ap₂, ◌∙◌}
+use Rattle.std.proofs.Common.{◌≡◌, ℕ, List, [], ◌∷◌, map, refl, ap₂}
 use Rattle.st_il.specs.declared.small.SmallRule.{SmallRule}
-use Rattle.st_iltext.specs.Text.{TextTree, TextTrees, word, quote, list, none, more}
+use Rattle.st_iltext.specs.Text.{TextTree, TextTrees, quote, list, more}
 use Rattle.st_iltext.specs.Trees.{row_of}
 use Rattle.st_iltext.specs.SmallShapes.{tag_shape, syntax_tree, relation_shape, atom_shape, rule_shape, rule_of}
 use Rattle.st_iltext.proofs.Shapes.{list-parts, more-first, more-rest}

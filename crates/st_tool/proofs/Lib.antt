@@ -7,6 +7,7 @@ mod LineTexts
 mod LineVerdicts
 mod Derivations
 mod Verifications
+mod Checks
 mod TranscriptLemmas
 mod Loading
 mod Terms

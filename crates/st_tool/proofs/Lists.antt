@@ -1,15 +1,11 @@
 -- Lists of a known length.
 use Rattle.std.proofs.Common.{◌≡◌, List, [], ◌∷◌, length, get_or, arith}
 
--- a list of four is its members
-pub four_is : {X : Type 0} (xs : List X) (a b c d : X) → length xs ≡ 4 → a ≡ get_or xs 0 a → b ≡ get_or xs 1 b → c ≡ get_or xs 2 c
-    → d ≡ get_or xs 3 d → xs ≡ a ∷ b ∷ c ∷ d ∷ []
-four_is [] a b c d four ea eb ec ed = absurd (omega arith)
-four_is (p ∷ []) a b c d four ea eb ec ed = absurd (omega arith)
-four_is (p ∷ q ∷ []) a b c d four ea eb ec ed = absurd (omega arith)
-four_is (p ∷ q ∷ r ∷ []) a b c d four ea eb ec ed = absurd (omega arith)
-four_is (p ∷ q ∷ r ∷ s ∷ []) a b c d four ea eb ec ed = cc
-four_is (p ∷ q ∷ r ∷ s ∷ t ∷ xs) a b c d four ea eb ec ed = absurd (omega arith)
+-- a list of one is its member
+pub one_is : {X : Type 0} (xs : List X) (a : X) → length xs ≡ 1 → a ≡ get_or xs 0 a → xs ≡ a ∷ []
+one_is [] a one ea = absurd (omega arith)
+one_is (p ∷ []) a one ea = cc
+one_is (p ∷ q ∷ xs) a one ea = absurd (omega arith)
 
 -- a list of two is its members
 pub two_is : {X : Type 0} (xs : List X) (a b : X) → length xs ≡ 2 → a ≡ get_or xs 0 a → b ≡ get_or xs 1 b → xs ≡ a ∷ b ∷ []

@@ -101,11 +101,11 @@ pub same_rule : (rule other : SmallRule) → rule.name ≡ other.name → rule.f
 same_rule rule other name from to = λ i. record { name = name i; from = from i; to = to i }
 
 -- what `is_empty` answers
-pub not_empty : (xs : List ℕ) (answer : Bool) → answer ≡ (length xs == 0) → answer ≡ false → xs ≡ [] → ⊥
+pub not_empty : {X : Type 0} (xs : List X) (answer : Bool) → answer ≡ (length xs == 0) → answer ≡ false → xs ≡ [] → ⊥
 not_empty [] answer p f e = true≢false (sym p ∙ f)
 not_empty (x ∷ xs) answer p f e = cc
 
-pub is_nothing : (xs : List ℕ) (answer : Bool) → answer ≡ (length xs == 0) → answer ≡ true → xs ≡ []
+pub is_nothing : {X : Type 0} (xs : List X) (answer : Bool) → answer ≡ (length xs == 0) → answer ≡ true → xs ≡ []
 is_nothing xs answer p t = nil_from_length xs (grind arith)
 
 -- a rule line is not nothing

@@ -10,6 +10,7 @@ use Rattle.st_tool.specs.declared.status.Status.TheVariants.{Done, Usage, Specif
 use Rattle.st_tool.specs.declared.transcript.Ending.{Ending}
 use Rattle.st_tool.specs.declared.transcript.Ending.TheVariants.{Stuck, Fuel as OutOfFuel}
 use Rattle.st_tool.specs.Causes.{IsLoadFault, FaultIsTold}
+use Rattle.st_tool.specs.Checking.{CheckGives, refused as refused_at, empty, scanned}
 use Rattle.st_tool.specs.Commands.{Gives, IlGives, RunGives, VerifyGives, IsRunText, IsDerivationText, status_of, limit_of}
 use Rattle.st_tool.specs.Loads.{Held, Counts, LoadsTo}
 use Rattle.st_tool.specs.Outcome.{Outcome, HasOutcome, unread, too_many, unbuilt, loads, Written}
@@ -31,6 +32,9 @@ own_done = record { load = λ e. cc; write = λ e. cc; memory = λ e. cc }
 own_fuel : IsOwn Fuel
 own_fuel = record { load = λ e. cc; write = λ e. cc; memory = λ e. cc }
 
+own_specification : IsOwn Specification
+own_specification = record { load = λ e. cc; write = λ e. cc; memory = λ e. cc }
+
 own_verification : IsOwn Verification
 own_verification = record { load = λ e. cc; write = λ e. cc; memory = λ e. cc }
 
@@ -51,11 +55,17 @@ run_is_own Text own relation term file status bytes (inl (small, atom, runnable,
 run_is_own Text own relation term file status bytes (inr (none, (is, text))) = own_unbuilt status is
 
 verify_is_own : (il derivation : List ℕ) (status : Status) (bytes : List ℕ) → VerifyGives il derivation status bytes → IsOwn status
-verify_is_own il derivation status bytes (inl (language, lines, rest, texts, accepted all empty text)) = own_done
+verify_is_own il derivation status bytes (inl (language, lines, rest, texts, accepted all nothing text)) = own_done
 verify_is_own il derivation status bytes (inl (language, lines, rest, texts, refused good after line notes rule parts read verdict text)) = own_verification
 verify_is_own il derivation status bytes (inl (language, lines, rest, texts, unfinished notes read some text)) = own_verification
-verify_is_own il derivation status bytes (inl (language, lines, rest, texts, endless notes read ended empty text)) = own_verification
+verify_is_own il derivation status bytes (inl (language, lines, rest, texts, endless notes read ended nothing text)) = own_verification
 verify_is_own il derivation status bytes (inr (none, (is, text))) = own_unbuilt status is
+
+check_is_own : (names files : List (List ℕ)) (status : Status) (bytes : List ℕ) → CheckGives names files status bytes → IsOwn status
+check_is_own names files status bytes (refused_at name at rule fault named text) = own_specification
+check_is_own names files status bytes (empty none text) = own_done
+check_is_own names files status bytes (scanned tokens all some (inl (small, one, is, text))) = subst IsOwn (sym is) own_done
+check_is_own names files status bytes (scanned tokens all some (inr (none, is, text))) = own_unbuilt status is
 
 gives_own : (command : Command) (files : List (List ℕ)) (status : Status) (bytes : List ℕ) → Gives command files status bytes → IsOwn status
 gives_own (Il names) (file ∷ []) status bytes gives = il_is_own file status bytes gives
@@ -75,7 +85,7 @@ gives_own (Derive relation name names fuel depth) (one ∷ two ∷ three ∷ fil
 gives_own (Verify il_name name) [] status bytes gives = absurd gives
 gives_own (Verify il_name name) (one ∷ []) status bytes gives = absurd gives
 gives_own (Verify il_name name) (one ∷ two ∷ three ∷ files) status bytes gives = absurd gives
-gives_own (Check names) files status bytes gives = absurd gives
+gives_own (Check names) files status bytes gives = check_is_own names files status bytes gives
 gives_own (Groups names) files status bytes gives = absurd gives
 gives_own (Order names) files status bytes gives = absurd gives
 gives_own (Eval name names) files status bytes gives = absurd gives

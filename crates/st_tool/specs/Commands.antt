@@ -10,6 +10,7 @@ use Rattle.st_tool.specs.declared.status.Status.{Status}
 use Rattle.st_tool.specs.declared.status.Status.TheVariants as answer
 use Rattle.st_tool.specs.declared.transcript.Ending.{Ending}
 use Rattle.st_tool.specs.declared.transcript.Ending.TheVariants.{Stuck, Fuel}
+use Rattle.st_tool.specs.Checking.{CheckGives}
 use Rattle.st_tool.specs.Derivation.{IsDerivation}
 use Rattle.st_tool.specs.SmallText.{IsTextOf}
 use Rattle.st_tool.specs.Texts.{transcript_text, unbuilt_text}
@@ -17,7 +18,7 @@ use Rattle.st_tool.specs.Transcript.{Term, atom_term, IsTranscript}
 use Rattle.st_tool.specs.Verification.{AreTexts, Verified}
 use Rattle.st_verify.specs.Accepts.{Accepts}
 use Rattle.st_words.specs.declared.command.Command.{Command}
-use Rattle.st_words.specs.declared.command.Command.TheVariants.{Il as IlOf, Run, Derive, Verify}
+use Rattle.st_words.specs.declared.command.Command.TheVariants.{Check, Il as IlOf, Run, Derive, Verify}
 use Rattle.st_words.specs.Arranged.{has_options}
 
 -- the steps of a run, where the words do not say how many
@@ -96,14 +97,16 @@ VerifyGives il_bytes derivation status bytes =
 
 -- what a command gives of the bytes of its files
 abbrev pub Gives : Command → List (List ℕ) → Status → List ℕ → Type 0
+Gives (Check names) files status bytes = CheckGives names files status bytes
 Gives (IlOf names) (file ∷ []) status bytes = IlGives file status bytes
 Gives (Run relation name names fuel depth) (term ∷ file ∷ []) status bytes = RunGives IsRunText relation term file status bytes
 Gives (Derive relation name names fuel depth) (term ∷ file ∷ []) status bytes = RunGives IsDerivationText relation term file status bytes
 Gives (Verify il_name name) (il ∷ derivation ∷ []) status bytes = VerifyGives il derivation status bytes
 Gives command files status bytes = ⊥
 
--- the forms of commands that are built: over one file of a specification
+-- the forms of commands that are built: over one file of a specification, and checks of any
 abbrev pub HasBuiltForm : Command → Type 0
+HasBuiltForm (Check files) = Unit {0}
 HasBuiltForm (IlOf (file ∷ [])) = Unit {0}
 HasBuiltForm (Run relation term (file ∷ []) fuel depth) = Unit {0}
 HasBuiltForm (Derive relation term (file ∷ []) fuel depth) = Unit {0}

@@ -2,6 +2,9 @@
 use Rattle.std.specs.Prelude.{ℕ, ◌+◌, ◌-◌, length, List, [], ◌∷◌, ◌++◌, codes, decimal}
 use Rattle.st_il.specs.declared.value.Value.{Value, out-Value}
 use Rattle.st_il.specs.declared.value.Value.TheOpen.{Value-F}
+use Rattle.st_num.specs.declared.rule.RuleId.{RuleId}
+use Rattle.st_num.specs.declared.rule.RuleId.TheVariants as id
+use Rattle.st_num.specs.declared.span.Span.{Span}
 use Rattle.st_tool.specs.declared.transcript.Ending.{Ending}
 use Rattle.st_tool.specs.declared.transcript.Ending.TheVariants.{Stuck, Fuel}
 use Rattle.st_tool.specs.Transcript.{Term}
@@ -87,3 +90,45 @@ rule_word V13 = codes "V13"
 -- a line of a derivation is refused by a rule
 abbrev pub refused_text : ℕ → VerifyRule → List ℕ
 refused_text line rule = codes "refused derivation " ++ decimal line ++ codes " " ++ rule_word rule ++ codes "\n"
+
+-- a specification with so many definitions is accepted
+abbrev pub definitions_text : ℕ → List ℕ
+definitions_text count = codes "accepted " ++ decimal count ++ codes " definitions\n"
+
+abbrev pub rule_id_word : RuleId → List ℕ
+rule_id_word id.L1 = codes "L1"
+rule_id_word id.L2 = codes "L2"
+rule_id_word id.L3 = codes "L3"
+rule_id_word id.L4 = codes "L4"
+rule_id_word id.S1 = codes "S1"
+rule_id_word id.S2 = codes "S2"
+rule_id_word id.S3 = codes "S3"
+rule_id_word id.S4 = codes "S4"
+rule_id_word id.B1 = codes "B1"
+rule_id_word id.B2 = codes "B2"
+rule_id_word id.B3 = codes "B3"
+rule_id_word id.B4 = codes "B4"
+rule_id_word id.B5 = codes "B5"
+rule_id_word id.B6 = codes "B6"
+rule_id_word id.Y1 = codes "Y1"
+rule_id_word id.Y2 = codes "Y2"
+rule_id_word id.Y3 = codes "Y3"
+rule_id_word id.Y4 = codes "Y4"
+rule_id_word id.Y5 = codes "Y5"
+rule_id_word id.Y6 = codes "Y6"
+rule_id_word id.Y7 = codes "Y7"
+rule_id_word id.Y8 = codes "Y8"
+rule_id_word id.I1 = codes "I1"
+rule_id_word id.I2 = codes "I2"
+rule_id_word id.M1 = codes "M1"
+rule_id_word id.M2 = codes "M2"
+rule_id_word id.M3 = codes "M3"
+rule_id_word id.M4 = codes "M4"
+rule_id_word id.M5 = codes "M5"
+rule_id_word id.M6 = codes "M6"
+rule_id_word id.M7 = codes "M7"
+
+-- a place in the file of this name is refused by a rule, and no definition is named
+abbrev pub refused_source_text : List ℕ → Span → RuleId → List ℕ
+refused_source_text name at rule =
+    codes "refused " ++ name ++ codes ":" ++ decimal at.line ++ codes ":" ++ decimal at.column ++ codes " - " ++ rule_id_word rule ++ codes "\n"

@@ -4,11 +4,12 @@ ghost use Rattle.std.specs.Prelude.{◌≡◌, ◌<◌, ◌≤◌, ◌↔◌, �
 ghost use Rattle.st_tool.specs.declared.loads.Loaded.{Loaded as Loading};
 ghost use Rattle.st_tool.specs.Commands.{Gives, HasBuiltForm, IsBuilt, IsUnbuilt, limit_of};
 ghost use Rattle.st_tool.specs.Loads.{counts_of, FitsNames, LoadsTo};
-ghost use Rattle.st_tool.specs.Outcome.{Outcome, HasOutcome, StopsAt};
+ghost use Rattle.st_tool.specs.Outcome.{Outcome, HasOutcome, StopsAt, most_files};
 ghost use Rattle.st_words.specs.FileNames.{file_names};
 ghost use Rattle.st_words.specs.Reads.{Reads};
 
 use crate::Status;
+use crate::check::check_files;
 use crate::loads::{Loaded, load_all};
 use crate::source::{derive_file, il_file, run_file};
 use crate::verification::verify_files;
@@ -77,12 +78,14 @@ fn two_files(given: &[Row<u8>]) -> (&[u8], &[u8])
 /// Answers a command whose files are given.
 fn answer_given(alloc: Global, command: &Command, given: &[Row<u8>]) -> Result<Answer, NoMemory>
     requires built { HasBuiltForm command.now }
+    requires few { length (file_names command.now) ≤ most_files }
     requires fits { FitsNames (limit_of command.now) (Loaded.Given given.now)
         (file_names command.now) }
     ensures { IfOk result (λ answer. Gives command.now given.now answer.status
         answer.bytes.items) }
 {
     match command {
+        Command::Check(names) => check_files(alloc, names.as_slice(), given),
         Command::Il(_) => il_file(alloc, one_file(given)),
         Command::Run(relation, _, _, _, _) => {
             let (term, file) = two_files(given);
@@ -96,8 +99,7 @@ fn answer_given(alloc: Global, command: &Command, given: &[Row<u8>]) -> Result<A
             let (il, derivation) = two_files(given);
             verify_files(alloc, il, derivation)
         }
-        Command::Check(_)
-        | Command::Groups(_)
+        Command::Groups(_)
         | Command::Order(_)
         | Command::Eval(_, _)
         | Command::Next(_, _, _)
@@ -127,6 +129,7 @@ fn answer_stopped(
 /// Answers a command whose loads came to this.
 fn answer_loaded(alloc: Global, command: &Command, loaded: &Loaded) -> Result<Answer, NoMemory>
     requires built { HasBuiltForm command.now }
+    requires few { length (file_names command.now) ≤ most_files }
     requires fits { FitsNames (limit_of command.now) loaded.now (file_names command.now) }
     ensures { IfOk result (λ answer. Outcome command.now loaded.now answer.status
         answer.bytes.items) }
@@ -149,9 +152,8 @@ fn has_built_form(command: &Command) -> bool
     match command {
         Command::Il(files) | Command::Run(_, _, files, _, _) | Command::Derive(_, _, files, _, _) =>
             files.len() == 1,
-        Command::Verify(_, _) => true,
-        Command::Check(_)
-        | Command::Groups(_)
+        Command::Check(_) | Command::Verify(_, _) => true,
+        Command::Groups(_)
         | Command::Order(_)
         | Command::Eval(_, _)
         | Command::Next(_, _, _)
@@ -177,7 +179,8 @@ fn answer_command<F: Files>(
     command: &Command,
     files: &mut F,
 ) -> Result<Answer, NoMemory>
-    requires { HasBuiltForm command.now }
+    requires built { HasBuiltForm command.now }
+    requires few { length (file_names command.now) ≤ most_files }
     ensures same { F.held files.new ≡ F.held files.old }
     ensures loads { IfOk result (λ answer. (loaded : Loading)
         × LoadsTo (F.held files.old) (limit_of command.now) (file_names command.now) (counts_of (F.loads files.old) (F.faults files.old) (F.last files.old)) loaded (counts_of (F.loads files.new) (F.faults files.new) (F.last files.new))

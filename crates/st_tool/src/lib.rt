@@ -14,6 +14,7 @@ ghost use Rattle.st_tool.specs.Loads.{counts_of};
 ghost use Rattle.st_tool.specs.Outcome.{Written};
 
 mod answer;
+mod check;
 mod derivation;
 mod loads;
 mod reader;

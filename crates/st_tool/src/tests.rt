@@ -67,6 +67,9 @@ fn files_of(alloc: Global, fails: u64) -> Result<MemFiles, NoMemory> {
         ("lines", LIGHT_LINES),
         ("other_values", OTHER_VALUES),
         ("malformed", "derivation 1 T\nfrom  (c \"RED\")\n"),
+        ("open", "\n  (; (; ;)"),
+        ("closed", "(; (; ;) ;)"),
+        ("large", "n 340282366920938463463374607431768211456"),
     ] {
         push_entry(alloc, &mut entries, name, text.as_bytes())?;
     }
@@ -161,6 +164,27 @@ fn a_command_prints_its_text(rt: HostRuntime) -> Result<(), Fail> {
         ),
         ("verify light.il malformed", Status::Unbuilt, "unbuilt\n"),
         ("verify light lines", Status::Unbuilt, "unbuilt\n"),
+        ("check light", Status::Done, "accepted 4 definitions\n"),
+        (
+            "check empty closed",
+            Status::Done,
+            "accepted 0 definitions\n",
+        ),
+        ("check -- closed", Status::Done, "accepted 0 definitions\n"),
+        ("check red", Status::Unbuilt, "unbuilt\n"),
+        ("check light coin", Status::Unbuilt, "unbuilt\n"),
+        (
+            "check open",
+            Status::Specification,
+            "refused open:2:3 - L2\n",
+        ),
+        (
+            "check light large open",
+            Status::Specification,
+            "refused large:1:3 - L3\n",
+        ),
+        ("check gone", Status::Load, "load failed gone\n"),
+        ("check big", Status::TooLarge, "too large big\n"),
     ] {
         let words_read = words_of(rt.alloc(), words)?;
         let mut files = files_of(rt.alloc(), 99)?;
@@ -168,6 +192,26 @@ fn a_command_prints_its_text(rt: HostRuntime) -> Result<(), Fail> {
         let answer = serve(rt.alloc(), &words_read, &mut files, &mut out);
         assert_eq!(rt; answer, status, "{words}");
         assert_eq!(rt; out.taken.as_slice(), printed.as_bytes(), "{words}");
+    }
+    Ok(())
+}
+
+#[test]
+fn at_most_64_files_are_loaded(rt: HostRuntime) -> Result<(), Fail> {
+    let mut words = words_of(rt.alloc(), "check")?;
+    for _ in 0..64 {
+        words.push(String::from_str(rt.alloc(), "empty")?)?;
+    }
+    for (status, printed) in [
+        (Status::Done, "accepted 0 definitions\n"),
+        (Status::TooLarge, "too many files\n"),
+    ] {
+        let mut files = files_of(rt.alloc(), 99)?;
+        let mut out = MemSink::new(rt.alloc(), 1000)?;
+        let answer = serve(rt.alloc(), &words, &mut files, &mut out);
+        assert_eq!(rt; answer, status);
+        assert_eq!(rt; out.taken.as_slice(), printed.as_bytes());
+        words.push(String::from_str(rt.alloc(), "empty")?)?;
     }
     Ok(())
 }

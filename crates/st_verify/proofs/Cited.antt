@@ -6,8 +6,7 @@ use Rattle.std.proofs.lemmas.List.{take_more}
 use Rattle.std.proofs.lemmas.List.Elements.{All-append, All-nil, All-take, All-drop}
 use Rattle.std.proofs.Math.Seq.{take-append_seam, drop-append_seam}
 use Rattle.std.proofs.lemmas.List.Folds.{flat_map-map}
-use Rattle.st_deriv.specs.declared.line.Ref.{Ref, out-Ref, map-Ref, fold-Ref, fold_out-Ref}
-use Rattle.st_deriv.specs.declared.line.Ref.TheOpen.{Ref-F}
+use Rattle.st_deriv.specs.declared.line.Ref.{Ref, map-Ref, fold_out-Ref}
 use Rattle.st_deriv.specs.declared.line.Ref.TheVariants as ref
 use Rattle.st_verify.specs.Verdict.{child_lines_at, child_lines}
 

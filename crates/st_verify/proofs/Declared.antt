@@ -1,5 +1,5 @@
 -- The numbers of relations and rules, and what the rules of a small specification are.
-use Rattle.std.proofs.Common.{◌≡◌, ℕ, zero, suc, ◌+◌, ◌<◌, List, [], ◌∷◌, Option, Some, Bool, true, false, length, get_or, map, refl, ◌∙◌, sym, ap, subst, arith, cond}
+use Rattle.std.proofs.Common.{◌≡◌, ℕ, zero, suc, ◌<◌, List, [], ◌∷◌, Some, Bool, true, false, length, get_or, map, refl, ◌∙◌, sym, ap, subst, arith, cond}
 use Rattle.std.specs.Prelude.{slice_get, bytes_eq, All, Any}
 use Rattle.std.proofs.lemmas.Cmp.{nat_list_eq_equiv}
 use Rattle.std.proofs.lemmas.List.Elements.{All-cons, All-map}
@@ -8,7 +8,6 @@ use Rattle.st_il.specs.declared.definition.IlDef.{IlDef}
 use Rattle.st_il.specs.declared.definition.IlDef.TheVariants.{Syntax, Var, Relation, Rule, Fun, Clause}
 use Rattle.st_il.specs.declared.definition.RelationDef.{RelationDef}
 use Rattle.st_il.specs.declared.definition.RuleDef.{RuleDef}
-use Rattle.st_il.specs.declared.small.Small.{Small}
 use Rattle.st_il.specs.declared.small.SmallRule.{SmallRule}
 use Rattle.st_il.specs.Derivation.{relations, rules_of, IsRelation}
 use Rattle.st_il.specs.Small.{IsSmallIl, il_of, syntax_def, relation_def, rule_def}

@@ -1,5 +1,5 @@
 -- What comes of the bytes of a line.
-use Rattle.std.proofs.Common.{◌≡◌, ℕ, List, inl, inr}
+use Rattle.std.proofs.Common.{ℕ, List, inl}
 use Rattle.std.specs.Prelude.{Result, Ok, Err}
 use Rattle.st_deriv.specs.declared.line.Line.{Line}
 use Rattle.st_deriv.specs.LineText.{LineText}

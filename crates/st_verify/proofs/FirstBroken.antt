@@ -1,5 +1,5 @@
 -- The first rule that is not kept, of those from a place on.
-use Rattle.std.proofs.Common.{◌≡◌, ℕ, suc, ◌+◌, ◌<◌, ◌≤◌, List, [], ◌∷◌, Option, Some, None, length, get_or, drop, refl, ◌∙◌, sym, ap, subst, inl, inr, drop-cons, add-one}
+use Rattle.std.proofs.Common.{◌≡◌, ℕ, ◌+◌, ◌<◌, ◌≤◌, List, [], ◌∷◌, Option, Some, None, length, get_or, drop, refl, ◌∙◌, sym, ap, subst, inl, inr, drop-cons, add-one}
 use Rattle.std.proofs.lemmas.List.{drop_all}
 use Rattle.st_verify.specs.declared.fault.VerifyRule.{VerifyRule}
 use Rattle.st_verify.specs.Verdict.{FirstBroken}

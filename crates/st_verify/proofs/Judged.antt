@@ -1,5 +1,5 @@
 -- What an accepted line vouches for, where the nodes before it are derivable.
-use Rattle.std.proofs.Common.{◌≡◌, ℕ, zero, suc, ◌+◌, ◌<◌, List, [], ◌∷◌, ◌++◌, Option, Some, None, length, get_or, take, drop, refl, ◌∙◌, sym, ap, subst, ⊎_elim, ◌⊎◌, ◌≤◌, arith}
+use Rattle.std.proofs.Common.{◌≡◌, ℕ, zero, suc, ◌<◌, List, [], ◌∷◌, ◌++◌, Some, None, length, get_or, refl, ◌∙◌, sym, ap, subst, ⊎_elim, ◌⊎◌, ◌≤◌, arith}
 use Rattle.std.specs.Prelude.{slice_get, All, Contains, Any}
 use Rattle.std.proofs.lemmas.List.{take-append-drop}
 use Rattle.std.proofs.lemmas.List.Elements.{All-nil, All-cons, Contains-push_cases}
@@ -9,10 +9,8 @@ use Rattle.st_deriv.specs.declared.line.Line.TheVariants.{Head, From, Node, Step
 use Rattle.st_deriv.specs.declared.line.NodeLine.{NodeLine}
 use Rattle.st_il.specs.declared.definition.Il.{Il}
 use Rattle.st_il.specs.declared.definition.IlDef.TheVariants.{Syntax, Var, Relation, Rule, Fun, Clause}
-use Rattle.st_il.specs.declared.expression.IlPrem.{IlPrem}
 use Rattle.st_il.specs.declared.tree.Tree.{Tree}
-use Rattle.st_il.specs.declared.value.Value.{Value}
-use Rattle.st_il.specs.Derivation.{IsRelation, IsValid, Proved, node, done, root_of, undecided}
+use Rattle.st_il.specs.Derivation.{IsRelation, Proved, node, done, root_of, undecided}
 use Rattle.st_il.specs.Evaluation.{HasValue}
 use Rattle.st_il.specs.Small.{IsSmallIl}
 use Rattle.st_verify.specs.declared.fault.VerifyRule.{VerifyRule}
@@ -21,7 +19,7 @@ use Rattle.st_verify.specs.declared.notes.Judgement.{Judgement}
 use Rattle.st_verify.specs.declared.notes.Notes.{Notes}
 use Rattle.st_verify.specs.Notes.{noted, judgement_on}
 use Rattle.st_verify.specs.Sound.{IsJudged}
-use Rattle.st_verify.specs.Verdict.{Keeps, FirstBroken, Verdict, rules_on_lines, IsRelationNamed, Concludes}
+use Rattle.st_verify.specs.Verdict.{Keeps, FirstBroken, Verdict, rules_on_lines, Concludes}
 use Rattle.st_verify.proofs.Declared.{number_of, rule_at, small_plain}
 
 -- where no rule is broken, each is kept

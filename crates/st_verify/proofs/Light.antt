@@ -1,5 +1,5 @@
 -- The specification of the tests is small.
-use Rattle.std.proofs.Common.{◌≡◌, ◌≢◌, ℕ, zero, suc, ◌<◌, ◌≤◌, List, [], ◌∷◌, Bool, true, false, ◌&&◌, not, length, get_or, refl, sym, ◌∙◌, ap, subst, arith, lit≤, leb, nat_eq}
+use Rattle.std.proofs.Common.{◌≡◌, ℕ, zero, suc, ◌<◌, ◌≤◌, List, [], ◌∷◌, Bool, true, false, ◌&&◌, not, length, refl, sym, ◌∙◌, ap, subst, arith, lit≤, leb, nat_eq}
 use Rattle.std.specs.Prelude.{codes, All, Contains}
 use Rattle.std.specs.List.{list_all, list_any}
 use Rattle.std.specs.Cmp.Lexicographic.{pointwise}
@@ -11,7 +11,7 @@ use Rattle.std.proofs.lemmas.Map.Views.{list_any-from_Contains}
 use Rattle.st_il.specs.declared.definition.Il.{Il}
 use Rattle.st_il.specs.declared.small.Small.{Small}
 use Rattle.st_il.specs.declared.small.SmallRule.{SmallRule}
-use Rattle.st_il.specs.Small.{IsLower, IsUpper, IsWordOf, reserved, AreDistinct, IsSmallRule, IsSmall, IsSmallIl, syntax_def, relation_def, rule_def}
+use Rattle.st_il.specs.Small.{IsUpper, IsWordOf, reserved, AreDistinct, IsSmallRule, IsSmall, IsSmallIl, syntax_def, relation_def, rule_def}
 
 both : (a b : Bool) → (a && b) ≡ true → (a ≡ true) × (b ≡ true)
 both true b tested = (refl, tested)

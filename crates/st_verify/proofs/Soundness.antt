@@ -1,20 +1,18 @@
 -- Accepted lines are sound, by induction on the lines.
-use Rattle.std.proofs.Common.{◌≡◌, ℕ, suc, ◌+◌, ◌≤◌, List, [], ◌∷◌, ◌++◌, Option, Some, None, length, refl, ◌∙◌, sym, ap, subst, ◌⊎◌, inl, inr, ⊎_elim, arith, length-append}
-use Rattle.std.specs.Prelude.{Contains, IsSomeAnd}
+use Rattle.std.proofs.Common.{◌≡◌, ℕ, suc, List, [], ◌∷◌, ◌++◌, Option, Some, None, length, refl, ◌∙◌, sym, ap, subst, ◌⊎◌, inl, inr, ⊎_elim, arith, length-append}
+use Rattle.std.specs.Prelude.{IsSomeAnd}
 use Rattle.std.specs.Option.{option_map}
 use Rattle.std.proofs.lemmas.List.Elements.{Contains-push_cases}
 use Rattle.st_deriv.specs.declared.line.Line.{Line}
 use Rattle.st_deriv.specs.declared.line.Line.TheVariants.{Head, From, Node, Step, End}
-use Rattle.st_deriv.specs.declared.line.NodeLine.{NodeLine}
 use Rattle.st_il.specs.declared.definition.Il.{Il}
-use Rattle.st_il.specs.declared.value.Value.{Value}
 use Rattle.st_il.specs.Derivation.{IsRelation, inputs_of}
 use Rattle.st_il.specs.Small.{IsSmallIl}
 use Rattle.st_verify.specs.declared.notes.Judgement.{Judgement}
 use Rattle.st_verify.specs.declared.notes.Notes.{Notes}
 use Rattle.st_verify.specs.Accepts.{ReadsTo, none, more}
 use Rattle.st_verify.specs.Notes.{nothing_noted, noted, judgement_on, outputs_of}
-use Rattle.st_verify.specs.Sound.{IsJudged, IsDerivableStep, AreSound}
+use Rattle.st_verify.specs.Sound.{IsDerivableStep, AreSound}
 use Rattle.st_verify.specs.Verdict.{Verdict}
 use Rattle.st_verify.specs.Verifier.{Checking, IsKept}
 use Rattle.st_verify.proofs.Judged.{accepted, node_judged, AreJudged, none_judged, judged_more, judgement_noted}

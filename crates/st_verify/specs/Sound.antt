@@ -1,5 +1,5 @@
 -- What accepted lines vouch for: each node and each step is derivable.
-use Rattle.std.specs.Prelude.{◌≡◌, ℕ, List, [], ◌∷◌, ◌++◌, Some, Contains}
+use Rattle.std.specs.Prelude.{◌≡◌, ℕ, List, ◌∷◌, ◌++◌, Some, Contains}
 use Rattle.st_deriv.specs.declared.line.Line.{Line}
 use Rattle.st_deriv.specs.declared.line.Line.TheVariants.{Head, Node, Step}
 use Rattle.st_deriv.specs.declared.line.NodeLine.{NodeLine}

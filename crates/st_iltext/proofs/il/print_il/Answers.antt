@@ -1,4 +1,4 @@
-use Rattle.std.proofs.Common.{List, sym, subst, ap, ◌∙◌, arith}
+use Rattle.std.proofs.Common.{List, sym, subst, arith}
 use Rattle.std.specs.List.{All}
 use Rattle.st_il.specs.declared.definition.IlDef.{IlDef}
 use Rattle.st_iltext.specs.Printing.{IsCutOff}

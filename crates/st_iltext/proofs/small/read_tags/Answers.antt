@@ -1,4 +1,4 @@
-use Rattle.std.proofs.Common.{sym, subst, arith, ap, ◌∙◌}
+use Rattle.std.proofs.Common.{arith, ap, ◌∙◌}
 use Rattle.st_iltext.specs.Trees.{tree_of}
 use Rattle.st_iltext.proofs.Shapes.{tag_at}
 use Rattle.st_iltext.proofs.small.read_tags.Goals as goal

@@ -1,4 +1,4 @@
-use Rattle.std.proofs.Common.{List, ℕ, [], ◌∷◌, ◌++◌, ◌+◌, length, sym, subst, ap, ◌∙◌, append-nil}
+use Rattle.std.proofs.Common.{List, [], ◌∷◌, ◌++◌, ◌+◌, sym, subst, ap, ◌∙◌, append-nil}
 use Rattle.st_il.specs.declared.small.SmallRule.{SmallRule}
 use Rattle.st_il.specs.Small.{IsSmall}
 use Rattle.st_iltext.specs.declared.fault.TextFault.TheVariants.{Malformed}

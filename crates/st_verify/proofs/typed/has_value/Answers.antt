@@ -1,4 +1,3 @@
-use Rattle.std.proofs.Common.{◌∙◌, sym}
 use Rattle.st_verify.proofs.Values.{case_has_value}
 use Rattle.st_verify.proofs.typed.has_value.Goals as goal
 

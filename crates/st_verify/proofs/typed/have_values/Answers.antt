@@ -1,7 +1,4 @@
 use Rattle.std.proofs.Common.{◌≡◌, ◌<◌, take, length, true, refl, arith, take_all}
-use Rattle.st_il.specs.declared.expression.IlExp.{IlExp}
-use Rattle.st_il.specs.declared.value.Value.{Value}
-use Rattle.st_il.specs.Evaluation.{HasValue, HaveValues}
 use Rattle.st_verify.proofs.Values.{HaveValues-length, HaveValues-at, HaveValues-more}
 use Rattle.st_verify.proofs.typed.have_values.Goals as goal
 

@@ -1,0 +1,111 @@
+-- The tokens of all files, and what a check says of them.
+use Rattle.std.proofs.Common.{◌≡◌, ◌≢◌, ℕ, suc, ◌+◌, ◌<◌, ◌≤◌, List, [], ◌∷◌, ◌++◌, length, take, get_or, ap, ◌∙◌, sym, refl, subst, inl, inr, arith, add-one, append_assoc, append-nil}
+use Rattle.std.specs.Prelude.{Result, Ok, Err, IfOk, Some, slice_get}
+use Rattle.std.proofs.Math.Seq.{take-suc}
+use Rattle.std.proofs.lemmas.List.{take_all, length-take-le}
+use Rattle.std.proofs.lemmas.Option.{slice_get-get_or, slice_get_within}
+use Rattle.st_il.specs.declared.small.Small.{Small}
+use Rattle.st_il.specs.Small.{il_of}
+use Rattle.st_num.specs.declared.memory.NoMemory.{NoMemory}
+use Rattle.st_num.specs.declared.rule.RuleId.{RuleId}
+use Rattle.st_num.specs.declared.span.Span.{Span}
+use Rattle.st_scan.specs.declared.token.LexFault.{LexFault}
+use Rattle.st_scan.specs.declared.token.LexFault.TheVariants.{Refused, Memory}
+use Rattle.st_scan.specs.declared.token.Token.{Token}
+use Rattle.st_scan.specs.Answers.{TellsFirst}
+use Rattle.st_scan.specs.Faults.{FirstFault, of_token, of_utf8}
+use Rattle.st_scan.specs.Tokens.{Tokens}
+use Rattle.st_tool.specs.declared.answer.Answer.{Answer}
+use Rattle.st_tool.specs.declared.status.Status.TheVariants.{Done, Specification}
+use Rattle.st_tool.specs.Checking.{AllTokens, IsSourceFault, TellsFault, IsOneSmall, SmallGives, CheckGives, refused, empty, scanned}
+use Rattle.st_tool.specs.Commands.{IsUnbuilt}
+use Rattle.st_tool.specs.SmallText.{IsTextOf}
+use Rattle.st_tool.specs.Texts.{definitions_text, refused_source_text}
+
+-- a fault stands in the file that was scanned
+fault_file : (number : ℕ) (file : List ℕ) (at : Span) (rule : RuleId) → FirstFault number file at rule → at.file ≡ number
+fault_file number file at rule (of_token here found fault is before) = ap (λ (s : Span). s.file) is
+fault_file number file at rule (of_utf8 n valid is before) = ap (λ (s : Span). s.file) is
+
+-- the tokens of one file more
+all_more : (number : ℕ) (files : List (List ℕ)) (tokens : List Token) (file : List ℕ) (more : List Token) → AllTokens number files tokens → Tokens (number + length files) file more
+    → AllTokens number (files ++ file ∷ []) (tokens ++ more)
+all_more number [] tokens file more none has =
+    let here : number + 0 ≡ number = omega arith in
+    (more, [], subst (λ n. Tokens n file more) here has, refl, ap (λ ts. ts ++ more) none ∙ sym (append-nil more))
+all_more number (one ∷ files) tokens file more (first, later, here, rest, is) has =
+    let next : number + length (one ∷ files) ≡ suc number + length files = omega arith in (
+      first,
+      later ++ more,
+      here,
+      all_more (suc number) files later file more rest (subst (λ n. Tokens n file more) next has),
+      ap (λ ts. ts ++ more) is ∙ append_assoc first later more,
+    )
+
+pub scan_more : (files : List (List ℕ)) (k : ℕ) (file text : List ℕ) (tokens more all : List Token) → AllTokens 0 (take k files) tokens → k < length files → file ≡ get_or files k file
+    → text ≡ file → Tokens k text more → all ≡ tokens ++ more → AllTokens 0 (take (k + 1) files) all
+scan_more files k file text tokens more all before below is same has are =
+    let front : take (k + 1) files ≡ take k files ++ file ∷ [] = ap (λ n. take n files) (add-one k) ∙ take-suc files k file below ∙ ap (λ x. take k files ++ x ∷ []) (sym is) in
+    let count : k ≡ 0 + length (take k files) = omega (arith, length-take-le k files (omega arith)) in
+    let here = subst (λ n. Tokens n file more) count (subst (λ t. Tokens k t more) same has) in
+    subst (λ ts. AllTokens 0 (take (k + 1) files) ts) (sym are) (subst (λ fs. AllTokens 0 fs (tokens ++ more)) (sym front) (all_more 0 (take k files) tokens file more before here))
+
+pub all_scanned : (files : List (List ℕ)) (k : ℕ) (tokens : List Token) → AllTokens 0 (take k files) tokens → length files ≤ k → AllTokens 0 files tokens
+all_scanned files k tokens before ends = subst (λ fs. AllTokens 0 fs tokens) (take_all k files ends) before
+
+-- the first fault
+pub source_fault : (files : List (List ℕ)) (k : ℕ) (file text : List ℕ) (tokens : List Token) (fault : LexFault) → AllTokens 0 (take k files) tokens → k < length files
+    → file ≡ get_or files k file → text ≡ file → TellsFirst k text fault → TellsFault files fault
+source_fault files k file text tokens Memory before below is same tells = tt
+source_fault files k file text tokens (Refused at rule) before below is same tells =
+    let here = fault_file k text at rule tells in
+    record {
+      tokens = tokens;
+      before = subst (λ n. AllTokens 0 (take n files) tokens) (sym here) before;
+      file = file;
+      is_file = ap (slice_get files) here ∙ slice_get-get_or files k file below ∙ ap Some (sym is);
+      fault = subst (λ t. FirstFault at.file t at rule) same (subst (λ n. FirstFault n text at rule) (sym here) tells);
+    }
+
+pub fault_within : (files names : List (List ℕ)) (at : Span) (rule : RuleId) → IsSourceFault files at rule → length files ≡ length names → at.file < length names
+fault_within files names at rule fault named = omega (arith, slice_get_within files at.file fault.file fault.is_file, named)
+
+-- ---- small specifications
+
+abbrev pub SaysSmall : List (List ℕ) → Result Answer NoMemory → Type 0
+SaysSmall files result = IfOk result (λ answer. SmallGives files answer.status answer.bytes.items)
+
+pub no_small : (files : List (List ℕ)) (result : Result Answer NoMemory) → ((small : Small) → IsOneSmall files small → ⊥)
+    → IfOk result (λ answer. IsUnbuilt answer.status answer.bytes.items) → SaysSmall files result
+no_small files (Err e) none says = tt
+no_small files (Ok answer) none says = inr (none, says.0, says.1)
+
+pub one_small : (files : List (List ℕ)) (file : List ℕ) (small : Small) (count : ℕ) (result : Result Answer NoMemory) → files ≡ file ∷ [] → IsTextOf small file
+    → count ≡ length (il_of small).defs → IfOk result (λ answer. answer.status ≡ Done) → IfOk result (λ answer. answer.bytes.items ≡ definitions_text count) → SaysSmall files result
+one_small files file small count (Err e) is text counted status bytes = tt
+one_small files file small count (Ok answer) is text counted status bytes =
+    inl (small, (file, is, text), status, bytes ∙ ap definitions_text counted)
+
+-- ---- the answer
+
+abbrev pub SaysChecked : List (List ℕ) → List (List ℕ) → Result Answer NoMemory → Type 0
+SaysChecked names files result = IfOk result (λ answer. CheckGives names files answer.status answer.bytes.items)
+
+pub check_empty : (names files : List (List ℕ)) (tokens : List Token) (result : Result Answer NoMemory) → AllTokens 0 files tokens → tokens ≡ []
+    → IfOk result (λ answer. answer.status ≡ Done) → IfOk result (λ answer. answer.bytes.items ≡ definitions_text 0) → SaysChecked names files result
+check_empty names files tokens (Err e) all none status bytes = tt
+check_empty names files tokens (Ok answer) all none status bytes =
+    subst (λ s. CheckGives names files s answer.bytes.items) (sym status) (empty (subst (AllTokens 0 files) none all) bytes)
+
+pub check_scanned : (names files : List (List ℕ)) (tokens : List Token) (result : Result Answer NoMemory) → AllTokens 0 files tokens → tokens ≢ [] → SaysSmall files result → SaysChecked names files result
+check_scanned names files tokens (Err e) all some says = tt
+check_scanned names files tokens (Ok answer) all some says = scanned tokens all some says
+
+pub check_refused : (names files : List (List ℕ)) (name text : List ℕ) (at : Span) (rule : RuleId) (result : Result Answer NoMemory) → IsSourceFault files at rule
+    → length files ≡ length names → name ≡ get_or names at.file name → text ≡ name
+    → IfOk result (λ answer. answer.status ≡ Specification) → IfOk result (λ answer. answer.bytes.items ≡ refused_source_text text at rule) → SaysChecked names files result
+check_refused names files name text at rule (Err e) fault named is same status bytes = tt
+check_refused names files name text at rule (Ok answer) fault named is same status bytes =
+    subst (λ s. CheckGives names files s answer.bytes.items) (sym status)
+    (refused name at rule fault (slice_get-get_or names at.file name (fault_within files names at rule fault named) ∙ ap Some (sym is))
+    (bytes ∙ ap (λ n. refused_source_text n at rule) same))

@@ -1,0 +1,52 @@
+-- What a check says of the files of a specification.
+use Rattle.std.specs.Prelude.{◌≡◌, ◌≢◌, ℕ, suc, List, [], ◌∷◌, ◌++◌, length, take, Some, slice_get, ⊤, ◌⊎◌}
+use Rattle.st_il.specs.declared.small.Small.{Small}
+use Rattle.st_il.specs.Small.{il_of}
+use Rattle.st_num.specs.declared.rule.RuleId.{RuleId}
+use Rattle.st_num.specs.declared.span.Span.{Span}
+use Rattle.st_scan.specs.declared.token.LexFault.{LexFault}
+use Rattle.st_scan.specs.declared.token.LexFault.TheVariants.{Refused, Memory}
+use Rattle.st_scan.specs.declared.token.Token.{Token}
+use Rattle.st_scan.specs.Faults.{FirstFault}
+use Rattle.st_scan.specs.Tokens.{Tokens}
+use Rattle.st_tool.specs.declared.status.Status.{Status}
+use Rattle.st_tool.specs.declared.status.Status.TheVariants as answer
+use Rattle.st_tool.specs.SmallText.{IsTextOf}
+use Rattle.st_tool.specs.Texts.{unbuilt_text, definitions_text, refused_source_text}
+
+-- the tokens of files one behind another; files are numbered, the first by this number
+abbrev pub AllTokens : ℕ → List (List ℕ) → List Token → Type 0
+AllTokens number [] tokens = tokens ≡ []
+AllTokens number (file ∷ files) tokens =
+    (first later : List Token) × Tokens number file first × AllTokens (suc number) files later × (tokens ≡ first ++ later)
+
+-- The files before this one have tokens, and this one has none: its first fault stands there.
+pub record IsSourceFault (files : List (List ℕ)) (at : Span) (rule : RuleId) : Type 0 where
+  pub tokens : List Token
+  pub before : AllTokens 0 (take at.file files) tokens
+  pub file : List ℕ
+  pub is_file : slice_get files at.file ≡ Some file
+  pub fault : FirstFault at.file file at rule
+
+abbrev pub TellsFault : List (List ℕ) → LexFault → Type 0
+TellsFault files (Refused at rule) = IsSourceFault files at rule
+TellsFault files Memory = ⊤
+
+-- the files are one file, which is the text of this small specification
+abbrev pub IsOneSmall : List (List ℕ) → Small → Type 0
+IsOneSmall files small = (file : List ℕ) × (files ≡ file ∷ []) × IsTextOf small file
+
+-- one small specification has so many definitions; others are not built
+abbrev pub SmallGives : List (List ℕ) → Status → List ℕ → Type 0
+SmallGives files status bytes =
+    ((small : Small) × IsOneSmall files small × (status ≡ answer.Done) × (bytes ≡ definitions_text (length (il_of small).defs)))
+    ⊎ (((small : Small) → IsOneSmall files small → ⊥) × (status ≡ answer.Unbuilt) × (bytes ≡ unbuilt_text))
+
+-- What is said of the files of these names: the first fault, or how many definitions they have.
+pub data CheckGives (names files : List (List ℕ)) : Status → List ℕ → Type 0 where
+  refused : {bytes : List ℕ} (name : List ℕ) (at : Span) (rule : RuleId)
+      → IsSourceFault files at rule → slice_get names at.file ≡ Some name
+      → bytes ≡ refused_source_text name at rule → CheckGives names files answer.Specification bytes
+  empty : {bytes : List ℕ} → AllTokens 0 files [] → bytes ≡ definitions_text 0 → CheckGives names files answer.Done bytes
+  scanned : {status : Status} {bytes : List ℕ} (tokens : List Token)
+      → AllTokens 0 files tokens → tokens ≢ [] → SmallGives files status bytes → CheckGives names files status bytes
