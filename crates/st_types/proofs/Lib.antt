@@ -1,0 +1,12 @@
+pub mod TyInduction
+pub mod NameLemmas
+pub mod KeptLemmas
+pub mod MeansLemmas
+pub mod CasesLemmas
+pub mod Measure
+pub mod SubLemmas
+pub mod ContainedLemmas
+pub mod HasTypeLemmas
+pub mod JoinsLemmas
+pub mod UpLaws
+pub mod SubLaws
