@@ -1,24 +1,21 @@
 -- A variant has one list of cases and a record one list of fields, and what is neither has none.
-use Rattle.std.proofs.Common.{◌≡◌, refl, sym, ap, ◌∙◌, subst, ℕ, List, [], ◌∷◌, ◌++◌, Bool, true, false, Option, Some, None, nat_eq, if◌then◌else◌}
+use Rattle.std.proofs.Common.{◌≡◌, sym, ap, ◌∙◌, subst, ℕ, List, [], ◌∷◌, ◌++◌, Option, Some, None}
 use Rattle.std.specs.Prelude.{MatchOption, IfNone, IfSome}
 use Rattle.std.specs.Borrow.{Bor}
 use Rattle.std.specs.Option.{option_copied}
-use Rattle.std.specs.Cmp.Lexicographic.{pointwise}
-use Rattle.std.specs.Map.{lookup}
 use Rattle.st_il.specs.declared.ty.Ty.{Ty, out-Ty}
 use Rattle.st_il.specs.declared.ty.Ty.TheOpen.{Ty-F}
 use Rattle.st_il.specs.declared.ty.Ty.TheVariants as ty
 use Rattle.st_il.specs.declared.definition.SyntaxDef.{SyntaxDef}
 use Rattle.st_il.specs.declared.definition.SyntaxBody.{SyntaxBody}
-use Rattle.st_il.specs.declared.definition.SyntaxBody.TheVariants as body
 use Rattle.st_il.specs.declared.definition.Alternative.{Alternative}
 use Rattle.st_il.specs.declared.definition.Alternative.TheVariants as alternative
 use Rattle.st_types.specs.declared.entry.CaseDef.{CaseDef}
 use Rattle.st_types.specs.declared.entry.Entry.{Entry}
-use Rattle.st_types.specs.Meaning.{Means, itself, alias, alias_of, alternatives_of, fields_of, named, named_at, listed, recorded, aliased}
+use Rattle.st_types.specs.Meaning.{Means, alias_of, alternatives_of, fields_of, listed, recorded, aliased}
 use Rattle.st_types.specs.Cases.{Brings, Flatten, HasCases, HasFields, operands_of, or_none}
 use Rattle.st_types.specs.Levels.{HasOperands}
-use Rattle.st_types.specs.Kept.{Kept, defs_of, entry_of, entry_named, entry_at, IsKept, IsSettled}
+use Rattle.st_types.specs.Kept.{Kept, defs_of, entry_named, entry_at, IsKept, IsSettled}
 use Rattle.st_types.proofs.KeptLemmas.{named-kept, bodied}
 use Rattle.st_types.proofs.MeansLemmas.{Means-single}
 

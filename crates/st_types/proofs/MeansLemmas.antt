@@ -1,8 +1,8 @@
 -- A type has at most one meaning, and one where aliases end.
-use Rattle.std.proofs.Common.{◌≡◌, refl, sym, ◌∙◌, subst, ℕ, Option, Some, None, List}
+use Rattle.std.proofs.Common.{◌≡◌, sym, ◌∙◌, subst, List}
 use Rattle.st_il.specs.declared.ty.Ty.{Ty}
 use Rattle.st_il.specs.declared.definition.SyntaxDef.{SyntaxDef}
-use Rattle.st_types.specs.Meaning.{Means, itself, alias, alias_of}
+use Rattle.st_types.specs.Meaning.{Means, itself, alias}
 
 pub Means-single : (defs : List SyntaxDef) (t u w : Ty) → Means defs t u → Means defs t w → u ≡ w
 Means-single defs t u w (itself p q) (itself r s) = sym q ∙ s

@@ -1,5 +1,5 @@
 -- A number that falls wherever types are compared: aliases lead to smaller ranks, and parts are lower.
-use Rattle.std.proofs.Common.{◌≡◌, refl, sym, ap, ◌∙◌, subst, ℕ, zero, suc, ◌+◌, ◌*◌, ◌<◌, ◌≤◌, max, List, [], ◌∷◌, ◌++◌, map, length, get_or, Bool, true, false, Option, Some, None, nat_eq, if◌then◌else◌, arith, inl, inr, ◌⊎◌}
+use Rattle.std.proofs.Common.{◌≡◌, refl, sym, ap, ◌∙◌, subst, ℕ, zero, suc, ◌+◌, ◌*◌, ◌<◌, ◌≤◌, List, [], ◌∷◌, ◌++◌, map, length, get_or, Bool, true, false, Option, Some, None, nat_eq, if◌then◌else◌, arith, inl, inr}
 use Rattle.std.proofs.Math.Nat.{mul-le-mul_right}
 use Rattle.std.specs.Cmp.Lexicographic.{pointwise}
 use Rattle.st_il.specs.Height.{highest}
@@ -10,8 +10,9 @@ use Rattle.st_il.specs.declared.ty.Ty.TheVariants as ty
 use Rattle.st_il.specs.declared.definition.SyntaxBody.{SyntaxBody}
 use Rattle.st_il.specs.declared.definition.SyntaxBody.TheVariants as body
 use Rattle.st_types.specs.declared.entry.Entry.{Entry}
-use Rattle.st_types.specs.Meaning.{Means, itself, alias, alias_of, aliased, named}
-use Rattle.st_types.specs.Kept.{Kept, defs_of, entry_of, entry_at, entry_named, rank_of, ranked, names_in, names_at, joined, Among, IsKept, IsSettled}
+use Rattle.st_types.specs.Meaning.{Means, itself, alias, alias_of, aliased}
+use Rattle.st_types.specs.Leads.{names_in, names_at, joined, Among}
+use Rattle.st_types.specs.Kept.{Kept, defs_of, entry_of, entry_at, rank_of, ranked, IsKept, IsSettled}
 use Rattle.st_types.proofs.KeptLemmas.{named-kept, bodied}
 use Rattle.st_types.proofs.TyInduction.{Parts, ty-ind}
 

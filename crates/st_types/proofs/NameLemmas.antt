@@ -1,5 +1,5 @@
 -- Names that a test finds equal, or different.
-use Rattle.std.proofs.Common.{◌≡◌, refl, sym, ap, ◌∙◌, ℕ, List, Bool, true, false, not, nat_eq}
+use Rattle.std.proofs.Common.{◌≡◌, refl, ℕ, List, Bool, true, false, not, nat_eq}
 use Rattle.std.proofs.lemmas.Slice.Eq.{bytes_eq-Decides}
 use Rattle.std.specs.Cmp.Lexicographic.{pointwise}
 

@@ -1,5 +1,5 @@
 -- A value of a type has each type above it.
-use Rattle.std.proofs.Common.{◌≡◌, refl, sym, ap, ◌∙◌, subst, List, [], ◌∷◌, Bool, true, false, Option, Some, None, ℕ, pos, negsuc, nat_eq, if◌then◌else◌}
+use Rattle.std.proofs.Common.{◌≡◌, refl, sym, ap, ◌∙◌, subst, List, [], ◌∷◌, Bool, true, false, Option, Some, None, ℕ, nat_eq, if◌then◌else◌}
 use Rattle.std.proofs.lemmas.Slice.Eq.{bytes_eq-Decides}
 use Rattle.std.specs.Cmp.Lexicographic.{pointwise}
 use Rattle.st_il.specs.declared.ty.Ty.{Ty, out-Ty}
@@ -12,10 +12,10 @@ use Rattle.st_il.specs.declared.definition.SyntaxBody.{SyntaxBody}
 use Rattle.st_il.specs.declared.definition.SyntaxBody.TheVariants as body
 use Rattle.st_il.specs.declared.definition.Alternative.{Alternative}
 use Rattle.st_types.specs.declared.entry.CaseDef.{CaseDef}
-use Rattle.st_types.specs.Meaning.{Means, alternatives_of, fields_of, named, named_at, listed, recorded}
+use Rattle.st_types.specs.Meaning.{Means, named, named_at, listed, recorded}
 use Rattle.st_types.specs.Cases.{HasCases, HasFields, operands_of}
-use Rattle.st_types.specs.HasType.{HasType, HaveTypes, AllHaveType, FieldsHaveTypes}
-use Rattle.st_types.specs.Sub.{Same, SameAll, Sub, IsContained, StandsIn, AllStandIn}
+use Rattle.st_types.specs.HasType.{HasType, HaveTypes, AllHaveType}
+use Rattle.st_types.specs.Sub.{Same, SameAll, Sub, IsContained, AllStandIn}
 use Rattle.st_types.specs.Laws.{GoesUp}
 use Rattle.st_types.specs.Levels.{TypedAt}
 use Rattle.st_types.proofs.MeansLemmas.{Means-single}

@@ -4,7 +4,6 @@ use Rattle.st_il.specs.declared.ty.Ty.{Ty}
 use Rattle.st_il.specs.declared.value.Value.{Value}
 use Rattle.st_il.specs.declared.definition.SyntaxDef.{SyntaxDef}
 use Rattle.st_types.specs.HasType.{HasType}
-use Rattle.st_types.specs.Sub.{Sub}
 
 -- each value of the one type has the other
 abbrev pub GoesUp : List SyntaxDef → Ty → Ty → Type 0

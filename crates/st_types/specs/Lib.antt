@@ -2,7 +2,12 @@ pub mod Meaning
 pub mod Cases
 pub mod HasType
 pub mod Sub
-pub mod Joins
+pub mod Laws
+pub mod Leads
+pub mod Keys
+pub mod Breach
 pub mod Levels
 pub mod Kept
-pub mod Laws
+pub mod Flat
+pub mod Graph
+pub mod Checking

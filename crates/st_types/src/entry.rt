@@ -19,8 +19,6 @@ pub(crate) struct Entry {
     pub(crate) rank: usize,
     /// The cases of a variant, with those that it includes.
     pub(crate) cases: Row<CaseDef>,
-    /// Whether a record can be joined.
-    pub(crate) joins: bool,
 }
 
 /// The syntaxes by their names, in the order of their definitions.

@@ -8,12 +8,19 @@
 //! `specs/Sub.antt`.
 #![tactic(auto)]
 
+mod build;
+mod check;
 mod entry;
-mod joining;
+mod fault;
+mod flat;
+mod graph;
 mod meaning;
+mod place;
+mod resolve;
 mod sub;
 mod table;
 mod typing;
 
 pub use entry::CaseDef;
+pub use fault::TypeFault;
 pub use table::TypeTable;

@@ -1,12 +1,14 @@
 //! The table of the syntaxes.
 
+use crate::build::entries_of;
 use crate::entry::{CaseDef, Entries};
-use crate::joining::joins;
+use crate::fault::TypeFault;
 use crate::meaning::{cases_of, fields_of, meaning_of};
 use crate::sub::{is_sub, same};
 use crate::typing::has_type;
-use st_il::{Ty, Value};
+use st_il::{SyntaxDef, Ty, Value};
 use st_num::{Name, Row};
+use std::alloc::Global;
 use std::marker::Model;
 
 /// Definitions of syntaxes that break no rule. Contracts see them as they were given.
@@ -34,15 +36,31 @@ impl Model for TypeTable {
 }
 
 impl TypeTable {
-    ghost use Rattle.std.specs.Prelude.{◌≡◌, ◌↔◌, IsTrue, IfSome, IfNone, List, ℕ};
+    ghost use Rattle.std.specs.Prelude.{◌≡◌, ◌↔◌, ◌<◌, ◌^◌, IsTrue, IfSome, IfNone, IfOk, OnOk, Err, List, ℕ, length};
+    ghost use Rattle.st_num.specs.declared.rule.RuleId.{RuleId};
+    ghost use Rattle.st_types.specs.Breach.{IsSound, FirstBreach, AllHaveFewParts};
     ghost use Rattle.st_il.specs.declared.ty.Ty.{Ty};
     ghost use Rattle.st_types.specs.declared.entry.CaseDef.{CaseDef};
     ghost use Rattle.st_types.specs.Meaning.{Means};
     ghost use Rattle.st_types.specs.Cases.{HasCases, HasFields};
     ghost use Rattle.st_types.specs.HasType.{HasType};
     ghost use Rattle.st_types.specs.Sub.{Same, Sub};
-    ghost use Rattle.st_types.specs.Joins.{Joins};
     ghost use Rattle.st_types.specs.Laws.{GoesUp};
+
+    /// The table of these definitions; or the first condition on them that is false, by its
+    /// definition, part and rule. Lists have fewer than 2^32 members.
+    pub fn build(alloc: Global, defs: &Row<SyntaxDef>) -> Result<TypeTable, TypeFault>
+        requires few { AllHaveFewParts defs.now }
+        requires few_definitions { length defs.now < 2 ^ 32 }
+        ensures ok { IfOk result (λ table. table ≡ defs.now) }
+        ensures sound { OnOk result (IsSound defs.now) }
+        ensures refused { (s p : ℕ) (r : RuleId) → result ≡ Err (TypeFault.Refused s p r) → FirstBreach defs.now s p r }
+    {
+        match entries_of(alloc, defs.as_slice()) {
+            Ok(entries) => Ok(TypeTable { entries }),
+            Err(fault) => Err(fault),
+        }
+    }
 
     /// Whether the value has the type.
     pub fn has_type(&self, value: &Value, ty: &Ty) -> bool
@@ -93,12 +111,5 @@ impl TypeTable {
         ensures one { IfSome result (λ fields. (others : List (List ℕ × Ty)) → HasFields self.now ty.now others → others ≡ fields.now) }
     {
         fields_of(&self.entries, ty)
-    }
-
-    /// Whether the type is a record type that can be joined, field by field.
-    pub fn joinable(&self, ty: &Ty) -> bool
-        ensures { IsTrue result ↔ Joins self.now ty.now }
-    {
-        joins(&self.entries, ty)
     }
 }

@@ -1,5 +1,5 @@
-use Rattle.std.proofs.Common.{◌≡◌, sym, ap, ◌∙◌, refl, true, false, IsTrue, rules, arith, inl, inr, ◌⊎◌, subst}
-use Rattle.st_types.specs.Sub.{Sub, Same, IsContained, IsUnder}
+use Rattle.std.proofs.Common.{refl, rules, arith}
+use Rattle.st_types.specs.Sub.{Sub}
 use Rattle.st_types.specs.Kept.{defs_of}
 use Rattle.st_types.proofs.Measure.{Means-measure, Means-total}
 use Rattle.st_types.proofs.SubLemmas.{under-arm, sub-exact}

@@ -1,5 +1,4 @@
-use Rattle.std.proofs.Common.{◌≡◌, ◌<◌, ◌+◌, ◌≤◌, sym, ap, ◌∙◌, refl, true, false, IsTrue, rules, arith, length}
-use Rattle.st_il.specs.declared.ty.Ty.{out-Ty}
+use Rattle.std.proofs.Common.{sym, refl, rules, arith}
 use Rattle.st_types.specs.Kept.{defs_of}
 use Rattle.st_types.proofs.Measure.{Means-measure, Means-total, item-within}
 use Rattle.st_types.proofs.SubLemmas.{same-arm, SameAll-length, SameAll-at, SameAll-end}

@@ -1,7 +1,5 @@
-use Rattle.std.proofs.Common.{sym, ap, ◌∙◌, subst, rules}
-use Rattle.st_types.specs.Sub.{AllStandIn, IsContained}
+use Rattle.std.proofs.Common.{rules}
 use Rattle.st_types.specs.Kept.{defs_of}
-use Rattle.st_types.proofs.CasesLemmas.{HasCases-single}
 use Rattle.st_types.proofs.ContainedLemmas.{contained-exact}
 use Rattle.st_types.proofs.sub.is_contained.Goals as goal
 

@@ -1,5 +1,4 @@
-use Rattle.std.proofs.Common.{◌≡◌, ◌<◌, ◌+◌, ◌≤◌, sym, ap, ◌∙◌, refl, true, false, IsTrue, rules, arith, length, subst}
-use Rattle.st_il.specs.declared.value.Value.TheVariants as value
+use Rattle.std.proofs.Common.{rules, arith}
 use Rattle.st_types.specs.Kept.{defs_of}
 use Rattle.st_types.proofs.HasTypeLemmas.{typed-arm, HaveTypes-length, HaveTypes-at, HaveTypes-end, AllHaveType-at, AllHaveType-end, Fields-length, Fields-at, Fields-end, case-exact, case-none, record-exact, record-none}
 use Rattle.st_types.proofs.NameLemmas.{names-same, names-differ}

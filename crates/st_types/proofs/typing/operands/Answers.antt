@@ -1,4 +1,4 @@
-use Rattle.std.proofs.Common.{sym, ap, ◌∙◌}
+use Rattle.std.proofs.Common.{ap, ◌∙◌}
 use Rattle.st_types.specs.Cases.{operands_of}
 use Rattle.st_types.proofs.CasesLemmas.{operands-found}
 use Rattle.st_types.proofs.typing.operands.Goals as goal

@@ -1,4 +1,4 @@
-use Rattle.std.proofs.Common.{◌≡◌, subst, List, ℕ}
+use Rattle.std.proofs.Common.{◌≡◌, subst, List}
 use Rattle.std.specs.Prelude.{MatchOption}
 use Rattle.st_types.specs.declared.entry.CaseDef.{CaseDef}
 use Rattle.st_types.specs.Cases.{HasCases}
