@@ -1,5 +1,5 @@
 -- What a table keeps has the bodies of its definitions.
-use Rattle.std.proofs.Common.{◌≡◌, refl, sym, ◌∙◌, ap, ℕ, Bool, true, false, List, [], ◌∷◌, Option, Some, None, nat_eq, if◌then◌else◌}
+use Rattle.std.proofs.Common.{◌≡◌, refl, ℕ, Bool, true, false, List, [], ◌∷◌, Option, Some, None, nat_eq, if◌then◌else◌}
 use Rattle.std.specs.Cmp.Lexicographic.{pointwise}
 use Rattle.st_il.specs.declared.ty.Ty.{Ty, out-Ty}
 use Rattle.st_il.specs.declared.ty.Ty.TheOpen.{Ty-F}
@@ -33,7 +33,3 @@ named_at-kept kept (Ty-F.Tuple xs) = refl
 
 pub named-kept : (kept : Kept) (t : Ty) → named (defs_of kept) t ≡ bodied (entry_named kept t)
 named-kept kept t = named_at-kept kept (out-Ty t)
-
--- the same where the entry is known
-pub named-entry : (kept : Kept) (t : Ty) (e : Option Entry) → e ≡ entry_named kept t → named (defs_of kept) t ≡ bodied e
-named-entry kept t e is = named-kept kept t ∙ ap bodied (sym is)

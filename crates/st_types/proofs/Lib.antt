@@ -15,6 +15,7 @@ pub mod PartLemmas
 pub mod Ranks
 pub mod BuildLemmas
 pub mod FillLemmas
+pub mod FewLemmas
 pub mod SubLemmas
 pub mod ContainedLemmas
 pub mod HasTypeLemmas

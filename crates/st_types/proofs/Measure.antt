@@ -6,7 +6,6 @@ use Rattle.st_il.specs.Height.{highest}
 use Rattle.st_il.proofs.Induction.{Every}
 use Rattle.st_il.specs.declared.ty.Ty.{Ty, out-Ty, roll-Ty, roll-out-Ty, fold-Ty, fold-roll-Ty, map-Ty}
 use Rattle.st_il.specs.declared.ty.Ty.TheOpen.{Ty-F}
-use Rattle.st_il.specs.declared.ty.Ty.TheVariants as ty
 use Rattle.st_il.specs.declared.definition.SyntaxBody.{SyntaxBody}
 use Rattle.st_il.specs.declared.definition.SyntaxBody.TheVariants as body
 use Rattle.st_types.specs.declared.entry.Entry.{Entry}
@@ -158,45 +157,6 @@ module _ (kept : Kept) where
       let g : measure kept s < measure kept t = products (ty_rank kept s) (ty_rank kept t) (heights kept) (ty_height s) (ty_height t) f.0 f.1 in
       let h = Means-measure right s u q in
       omega (arith, g, h)
-
-  rank-List : (x : Ty) → ty_rank kept (ty.List x) ≡ ty_rank kept x
-  rank-List x = ap (ty_rank kept) (sym (ty.rolls-List x)) ∙ ty_rank-level (Ty-F.List x)
-
-  rank-Opt : (x : Ty) → ty_rank kept (ty.Opt x) ≡ ty_rank kept x
-  rank-Opt x = ap (ty_rank kept) (sym (ty.rolls-Opt x)) ∙ ty_rank-level (Ty-F.Opt x)
-
-  rank-Tuple : (xs : List Ty) → ty_rank kept (ty.Tuple xs) ≡ highest (map (ty_rank kept) xs)
-  rank-Tuple xs = ap (ty_rank kept) (sym (ty.rolls-Tuple xs)) ∙ ty_rank-level (Ty-F.Tuple xs)
-
-  height-List : (x : Ty) → ty_height (ty.List x) ≡ 1 + ty_height x
-  height-List x = ap ty_height (sym (ty.rolls-List x)) ∙ fold-roll-Ty ℕ height_at (Ty-F.List x)
-
-  height-Opt : (x : Ty) → ty_height (ty.Opt x) ≡ 1 + ty_height x
-  height-Opt x = ap ty_height (sym (ty.rolls-Opt x)) ∙ fold-roll-Ty ℕ height_at (Ty-F.Opt x)
-
-  height-Tuple : (xs : List Ty) → ty_height (ty.Tuple xs) ≡ 2 + highest (map ty_height xs)
-  height-Tuple xs = ap ty_height (sym (ty.rolls-Tuple xs)) ∙ fold-roll-Ty ℕ height_at (Ty-F.Tuple xs)
-
-  pub falls-List : IsKept kept → (a x : Ty) → Means (defs_of kept) a (ty.List x) → measure kept x < measure kept a
-  falls-List right a x h =
-      let m = Means-measure right a (ty.List x) h in
-      let r : ty_rank kept (ty.List x) * suc (heights kept) ≡ ty_rank kept x * suc (heights kept) = ap (λ n. n * suc (heights kept)) (rank-List x) in
-      let e = height-List x in
-      omega (arith, m, r, e)
-
-  pub falls-Opt : IsKept kept → (a x : Ty) → Means (defs_of kept) a (ty.Opt x) → measure kept x < measure kept a
-  falls-Opt right a x h =
-      let m = Means-measure right a (ty.Opt x) h in
-      let r : ty_rank kept (ty.Opt x) * suc (heights kept) ≡ ty_rank kept x * suc (heights kept) = ap (λ n. n * suc (heights kept)) (rank-Opt x) in
-      let e = height-Opt x in
-      omega (arith, m, r, e)
-
-  pub falls-Tuple : IsKept kept → (a : Ty) (xs : List Ty) → Means (defs_of kept) a (ty.Tuple xs) → measure_all kept xs < measure kept a
-  falls-Tuple right a xs h =
-      let m = Means-measure right a (ty.Tuple xs) h in
-      let r : ty_rank kept (ty.Tuple xs) * suc (heights kept) ≡ highest (map (ty_rank kept) xs) * suc (heights kept) = ap (λ n. n * suc (heights kept)) (rank-Tuple xs) in
-      let e = height-Tuple xs in
-      omega (arith, m, r, e)
 
   highest-at : (f : Ty → ℕ) (xs : List Ty) (i : ℕ) (x : Ty) → i < length xs → get_or xs i x ≡ x → f x ≤ highest (map f xs)
   highest-at f [] i x h e = absurd (omega arith)

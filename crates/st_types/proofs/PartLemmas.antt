@@ -13,14 +13,14 @@ use Rattle.st_il.specs.declared.definition.Alternative.TheVariants as alternativ
 use Rattle.st_types.specs.declared.entry.CaseDef.{CaseDef}
 use Rattle.st_types.specs.declared.flat.Flat.{Flat}
 use Rattle.st_types.specs.Cases.{Flatten}
-use Rattle.st_types.specs.Leads.{Among, Ends, included, joined, names_in, leads_to, leads_from, next_of}
+use Rattle.st_types.specs.Leads.{Among, Ends, included, joined, names_in, leads_to}
 use Rattle.st_types.specs.Keys.{KeysDiffer}
 use Rattle.st_types.specs.Flat.{AddsAlternative, AreFlats}
 use Rattle.st_types.specs.Graph.{AreRanks, graph_of, node_of, place_of, places_of, EndsIn, LeadsBack}
 use Rattle.st_types.specs.Breach.{Holds, keys, IsVariant, Finds, all_declared, on_included, on_alternative, on_alternatives, on_field, on_fields, on_body, conditions_on, new_name}
 use Rattle.st_types.specs.Checking.{Returns, IsSoFar, IsReadyAt, KeysTo, ChecksAt, CheckedAt}
 use Rattle.st_types.proofs.CasesLemmas.{Flatten-single}
-use Rattle.st_types.proofs.PlaceLemmas.{Ends-EndsAt, placed, unplaced, node_at, place-among, LeadsAt-Leads, Leads-LeadsAt}
+use Rattle.st_types.proofs.PlaceLemmas.{Ends-EndsAt, unplaced, node_at, place-among, LeadsAt-Leads, Leads-LeadsAt}
 use Rattle.std.proofs.lemmas.Slice.Eq.{bytes_eq-Decides}
 use Rattle.std.specs.Option.{option_map}
 use Rattle.std.specs.Cmp.Lexicographic.{pointwise}
@@ -191,13 +191,6 @@ place-here (x ∷ xs) (suc at) d e h = by (pointwise nat_eq d.name x.name) (plac
     by true o g h next = cc
     by false None g h next = ap (option_map suc) (next g)
     by false (Some q) g h next = cc
-
-pub body-here : (defs : List SyntaxDef) (at : ℕ) (d : SyntaxDef) → slice_get defs at ≡ Some d → place_of (take at defs) d.name ≡ None → next_of defs d.name ≡ leads_to d.body
-body-here defs at d e h =
-    let r = placed defs d.name at (place-here defs at d e h) in
-    let s : Some r.definition ≡ Some d = sym r.there ∙ e in
-    let t : r.definition ≡ d = cc in
-    ap leads_from (r.body_is ∙ ap (λ z. Some z.body) t)
 
 -- marks at places are marks of names
 pub Returns-back : (defs : List SyntaxDef) (marks : List Bool) (at : ℕ) (d : SyntaxDef) → slice_get defs at ≡ Some d → place_of (take at defs) d.name ≡ None

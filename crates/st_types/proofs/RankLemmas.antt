@@ -1,7 +1,6 @@
 -- Cases that are found rank by rank.
-use Rattle.std.proofs.Common.{◌≡◌, ◌≢◌, refl, sym, ap, ◌∙◌, subst, ℕ, zero, suc, ◌+◌, ◌<◌, ◌≤◌, List, [], ◌∷◌, length, set, Option, Some, None, arith, inl, inr, ◌⊎◌}
+use Rattle.std.proofs.Common.{◌≡◌, ◌≢◌, refl, sym, ap, ◌∙◌, subst, ℕ, zero, suc, ◌+◌, ◌<◌, ◌≤◌, List, [], ◌∷◌, set, Option, Some, None, arith, inl, inr, ◌⊎◌}
 use Rattle.std.proofs.lemmas.List.{length-set}
-use Rattle.std.proofs.lemmas.Option.{slice_get_within}
 use Rattle.std.specs.Prelude.{slice_get, slice_index}
 use Rattle.std.specs.List.{flat_map}
 use Rattle.st_il.specs.declared.ty.Ty.{Ty, out-Ty}
@@ -106,9 +105,6 @@ module _ (defs : List SyntaxDef) (ranks : List ℕ) (right : AreRanks (graph_of 
 -- ---- a place of the rank in turn
 
 module _ (defs : List SyntaxDef) (ranks : List ℕ) (rank : ℕ) where
-  pub fill-start : (flats : List Flat) → AreFlats defs ranks rank flats → Filling defs ranks rank flats 0
-  fill-start flats a = record { lower = a; next = λ place d f h g r e. absurd (omega (arith, h)) }
-
   pub fill-then : (flats after : List Flat) (i : ℕ) (d : SyntaxDef) (flat : Flat) → Filling defs ranks rank flats i → slice_get defs i ≡ Some d → slice_index ranks i ≡ suc rank
       → IsFlat defs (alternatives_in d) flat → after ≡ set flats i flat → Filling defs ranks rank after (i + 1)
   fill-then flats after i d flat f g r is q = subst (λ z. Filling defs ranks rank z (i + 1)) (sym q) (record {
@@ -137,16 +133,3 @@ module _ (defs : List SyntaxDef) (ranks : List ℕ) (rank : ℕ) where
       by : (p : ℕ) (v : SyntaxDef) (w : Flat) → p < i + 1 → slice_get defs p ≡ Some v → slice_index ranks p ≡ suc rank → slice_get flats p ≡ Some w → (p ≡ i) ⊎ (p ≢ i) → IsFlat defs (alternatives_in v) w
       by p v w h a b e (inl q) = absurd (no_rank (ap (slice_index ranks) (sym q) ∙ b))
       by p v w h a b e (inr n) = f.next p v w (omega (arith, h, n)) a b e
-
-  -- all of the rank are filled at the end
-  pub fill-end : (flats : List Flat) (i : ℕ) → Filling defs ranks rank flats i → length defs ≤ i → AreFlats defs ranks (suc rank) flats
-  fill-end flats i f h = record { size = f.lower.size; right = λ p v w a b c e. by p v w a b c e (same_place (slice_index ranks p) (suc rank)) }
-    where
-      by : (p : ℕ) (v : SyntaxDef) (w : Flat) → slice_get defs p ≡ Some v → 0 < slice_index ranks p → slice_index ranks p ≤ suc rank → slice_get flats p ≡ Some w
-          → (slice_index ranks p ≡ suc rank) ⊎ (slice_index ranks p ≢ suc rank) → IsFlat defs (alternatives_in v) w
-      by p v w a b c e (inl q) = f.next p v w (let k = slice_get_within defs p v a in omega (arith, k, h)) a q e
-      by p v w a b c e (inr n) = f.lower.right p v w a b (omega (arith, c, n)) e
-
--- at rank 0 nothing is asked
-pub flats-start : (defs : List SyntaxDef) (ranks : List ℕ) (flats : List Flat) → length flats ≡ length defs → AreFlats defs ranks 0 flats
-flats-start defs ranks flats size = record { size = size; right = λ p v w a b c e. absurd (omega (arith, b, c)) }

@@ -1,8 +1,8 @@
 //! The table of a list of definitions.
 
-ghost use Rattle.std.specs.Prelude.{◌≡◌, ◌<◌, ◌^◌, ℕ, length, IfOk, OnOk, Err, nat_eq};
+ghost use Rattle.std.specs.Prelude.{◌≡◌, ◌↔◌, ◌<◌, ◌^◌, ℕ, IsTrue, length, IfOk, OnOk, Err, nat_eq};
 ghost use Rattle.st_num.specs.declared.rule.RuleId.{RuleId};
-ghost use Rattle.st_types.specs.Breach.{IsSound, FirstBreach, AllHaveFewParts};
+ghost use Rattle.st_types.specs.Breach.{IsSound, FirstBreach, AllHaveFewParts, HasFewParts};
 ghost use Rattle.st_types.specs.Graph.{AreRanks, graph_of};
 ghost use Rattle.st_types.specs.Flat.{AreFlats};
 ghost use Rattle.st_types.specs.Kept.{IsKept, defs_of, kept_of};
@@ -19,6 +19,34 @@ use indexmap::IndexMap;
 use st_il::{Alternative, SyntaxBody, SyntaxDef, Ty, copy_ty, copy_tys};
 use st_num::{Name, NoMemory, Row};
 use std::alloc::Global;
+
+/// Lists that positions of 32 bits can count are shorter.
+const LIMIT: usize = 4_294_967_296;
+
+/// Whether the definitions, and the parts of each, are fewer than the limit.
+pub(crate) fn are_few(defs: &[SyntaxDef]) -> bool
+    ensures { IsTrue result ↔ ((length defs.now < 2 ^ 32) × AllHaveFewParts defs.now) }
+{
+    if defs.len() >= LIMIT {
+        return false;
+    }
+    for def in defs {
+        if !has_few_parts(&def.body) {
+            return false;
+        }
+    }
+    true
+}
+
+fn has_few_parts(body: &SyntaxBody) -> bool
+    ensures { IsTrue result ↔ HasFewParts body.now }
+{
+    match body {
+        SyntaxBody::Alias(_) => true,
+        SyntaxBody::Variant(parts) => parts.len() < LIMIT,
+        SyntaxBody::Fields(fields) => fields.len() < LIMIT,
+    }
+}
 
 /// Whether all conditions hold, or the first that is false.
 fn check_all(
@@ -101,7 +129,8 @@ fn insert(map: &mut Entries, name: Name, entry: Entry) -> Result<(), NoMemory>
 }
 
 fn entry_for(alloc: Global, def: &SyntaxDef, rank: usize, flat: &Flat) -> Result<Entry, NoMemory>
-    ensures { IfOk result (λ entry. entry ≡ record { body = def.now.body; rank = rank; cases = flat.now.cases }) }
+    ensures { IfOk result
+        (λ entry. entry ≡ record { body = def.now.body; rank = rank; cases = flat.now.cases }) }
 {
     let body = copy_body(alloc, &def.body)?;
     let cases = copy_cases(alloc, flat.cases.as_slice())?;

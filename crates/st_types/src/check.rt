@@ -135,7 +135,8 @@ fn check_included(
 
 /// The conditions on the types of operands.
 fn check_types(alloc: Global, defs: &[SyntaxDef], part: u32, tys: &[Ty]) -> Result<Found, NoMemory>
-    ensures { IfOk result (λ found. Finds defs.now (all_declared part (joined (map names_in tys.now))) found) }
+    ensures { IfOk result
+        (λ found. Finds defs.now (all_declared part (joined (map names_in tys.now))) found) }
 {
     let mut names = Row::new(alloc);
     push_all_names(alloc, tys, &mut names)?;

@@ -56,7 +56,8 @@ fn add_case(
     operands: &[Ty],
 ) -> Result<bool, NoMemory>
     requires { KeysDiffer cases.old }
-    ensures { IfOk result (λ added. Adds cases.old cases.new (record { tag = tag.now; operands = operands.now } ∷ []) added) }
+    ensures { IfOk result
+        (λ added. Adds cases.old cases.new (record { tag = tag.now; operands = operands.now } ∷ []) added) }
 {
     if clashes(alloc, cases.as_slice(), tag)? {
         return Ok(false);

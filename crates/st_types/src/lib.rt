@@ -19,6 +19,8 @@ mod place;
 mod resolve;
 mod sub;
 mod table;
+#[cfg(test)]
+mod tests;
 mod typing;
 
 pub use entry::CaseDef;

@@ -52,7 +52,9 @@ pub(crate) fn meaning_of<'a>(entries: &'a Entries, ty: &'a Ty) -> &'a Ty
 /// The cases of a variant type.
 pub(crate) fn cases_of<'a>(entries: &'a Entries, ty: &Ty) -> Option<&'a Row<CaseDef>>
     requires { IsKept entries.now.entries }
-    ensures { MatchOption result ((cases : List CaseDef) → HasCases (defs_of entries.now.entries) ty.now cases → ⊥) (λ cases. HasCases (defs_of entries.now.entries) ty.now cases.now) }
+    ensures { MatchOption result ((cases : List CaseDef)
+        → HasCases (defs_of entries.now.entries) ty.now cases → ⊥)
+        (λ cases. HasCases (defs_of entries.now.entries) ty.now cases.now) }
 {
     match entry_named(entries, meaning_of(entries, ty)) {
         Some(entry) => match &entry.body {
@@ -67,7 +69,9 @@ pub(crate) fn cases_of<'a>(entries: &'a Entries, ty: &Ty) -> Option<&'a Row<Case
 /// The fields of a record type.
 pub(crate) fn fields_of<'a>(entries: &'a Entries, ty: &Ty) -> Option<&'a [(Name, Ty)]>
     requires { IsKept entries.now.entries }
-    ensures { MatchOption result ((fields : List (List ℕ × Ty)) → HasFields (defs_of entries.now.entries) ty.now fields → ⊥) (λ fields. HasFields (defs_of entries.now.entries) ty.now fields.now) }
+    ensures { MatchOption result ((fields : List (List ℕ × Ty))
+        → HasFields (defs_of entries.now.entries) ty.now fields → ⊥)
+        (λ fields. HasFields (defs_of entries.now.entries) ty.now fields.now) }
 {
     match entry_named(entries, meaning_of(entries, ty)) {
         Some(entry) => match &entry.body {

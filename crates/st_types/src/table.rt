@@ -1,6 +1,6 @@
 //! The table of the syntaxes.
 
-use crate::build::entries_of;
+use crate::build::{are_few, entries_of};
 use crate::entry::{CaseDef, Entries};
 use crate::fault::TypeFault;
 use crate::meaning::{cases_of, fields_of, meaning_of};
@@ -47,6 +47,13 @@ impl TypeTable {
     ghost use Rattle.st_types.specs.Sub.{Same, Sub};
     ghost use Rattle.st_types.specs.Laws.{GoesUp};
 
+    /// Whether the definitions, and the parts of each, can be counted by 32 bits.
+    pub fn can_build(defs: &Row<SyntaxDef>) -> bool
+        ensures { IsTrue result ↔ ((length defs.now < 2 ^ 32) × AllHaveFewParts defs.now) }
+    {
+        are_few(defs.as_slice())
+    }
+
     /// The table of these definitions; or the first condition on them that is false, by its
     /// definition, part and rule. Lists have fewer than 2^32 members.
     pub fn build(alloc: Global, defs: &Row<SyntaxDef>) -> Result<TypeTable, TypeFault>
@@ -54,7 +61,8 @@ impl TypeTable {
         requires few_definitions { length defs.now < 2 ^ 32 }
         ensures ok { IfOk result (λ table. table ≡ defs.now) }
         ensures sound { OnOk result (IsSound defs.now) }
-        ensures refused { (s p : ℕ) (r : RuleId) → result ≡ Err (TypeFault.Refused s p r) → FirstBreach defs.now s p r }
+        ensures refused { (s p : ℕ) (r : RuleId) → result ≡ Err (TypeFault.Refused s p r)
+            → FirstBreach defs.now s p r }
     {
         match entries_of(alloc, defs.as_slice()) {
             Ok(entries) => Ok(TypeTable { entries }),
@@ -99,7 +107,8 @@ impl TypeTable {
     pub fn cases(&self, ty: &Ty) -> Option<&Row<CaseDef>>
         ensures some { IfSome result (λ cases. HasCases self.now ty.now cases.now) }
         ensures none { IfNone result ((cases : List CaseDef) → HasCases self.now ty.now cases → ⊥) }
-        ensures one { IfSome result (λ cases. (others : List CaseDef) → HasCases self.now ty.now others → others ≡ cases.now) }
+        ensures one { IfSome result (λ cases. (others : List CaseDef) → HasCases self.now ty.now others
+            → others ≡ cases.now) }
     {
         cases_of(&self.entries, ty)
     }
@@ -108,7 +117,8 @@ impl TypeTable {
     pub fn fields(&self, ty: &Ty) -> Option<&[(Name, Ty)]>
         ensures some { IfSome result (λ fields. HasFields self.now ty.now fields.now) }
         ensures none { IfNone result ((fields : List (List ℕ × Ty)) → HasFields self.now ty.now fields → ⊥) }
-        ensures one { IfSome result (λ fields. (others : List (List ℕ × Ty)) → HasFields self.now ty.now others → others ≡ fields.now) }
+        ensures one { IfSome result (λ fields. (others : List (List ℕ × Ty))
+            → HasFields self.now ty.now others → others ≡ fields.now) }
     {
         fields_of(&self.entries, ty)
     }

@@ -76,7 +76,9 @@ fn typed_at(entries: &Entries, value: &Value, meaning: &Ty, ty: &Ty) -> bool
 /// The types of the operands of the case of this type with this tag.
 fn operands<'a>(entries: &'a Entries, tag: &Name, ty: &Ty) -> Option<&'a Row<Ty>>
     requires { IsKept entries.now.entries }
-    ensures { MatchOption result ((operands : List Ty) → HasOperands (defs_of entries.now.entries) ty.now tag.now operands → ⊥) (λ operands. HasOperands (defs_of entries.now.entries) ty.now tag.now operands.now) }
+    ensures { MatchOption result ((operands : List Ty)
+        → HasOperands (defs_of entries.now.entries) ty.now tag.now operands → ⊥)
+        (λ operands. HasOperands (defs_of entries.now.entries) ty.now tag.now operands.now) }
 {
     match cases_of(entries, ty) {
         Some(cases) => operands_of(cases.as_slice(), tag),
