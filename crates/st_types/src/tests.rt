@@ -85,6 +85,32 @@ fn subtypes_of_stack(rt: HostRuntime) -> Result<(), Fail> {
     Ok(())
 }
 
+/// The tuple of a type twice.
+fn pair(alloc: Global, first: Ty, second: Ty) -> Result<Ty, NoMemory> {
+    let mut parts = Row::new(alloc);
+    parts.push(first)?;
+    parts.push(second)?;
+    Ok(Ty::Tuple(parts))
+}
+
+#[test]
+fn included_cases_come_last(rt: HostRuntime) -> Result<(), Fail> {
+    let alloc = rt.alloc();
+    let defs = stack(alloc)?;
+    assert!(rt; TypeTable::can_build(&defs));
+    let table = TypeTable::build(alloc, &defs)?;
+    let instr = named(alloc, b"instr")?;
+    let cases = table.cases(&instr).ok_or("no variant")?;
+    let last = cases.get(3).ok_or("no case")?;
+    let tag = name(alloc, b"CONST % %")?;
+    assert!(rt; last.tag == tag);
+    let nats = pair(alloc, Ty::Nat, Ty::Nat)?;
+    let ints = pair(alloc, Ty::Int, Ty::Int)?;
+    assert!(rt; !table.is_sub(&nats, &ints));
+    assert!(rt; table.is_sub(&Ty::Nat, &Ty::Int));
+    Ok(())
+}
+
 /// `syntax a = b` and this alias again.
 fn aliases(alloc: Global, target: &[u8], again: &[u8]) -> Result<Row<SyntaxDef>, NoMemory> {
     let mut defs = Row::new(alloc);
