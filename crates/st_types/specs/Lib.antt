@@ -1,0 +1,13 @@
+pub mod Meaning
+pub mod Cases
+pub mod HasType
+pub mod Sub
+pub mod Laws
+pub mod Leads
+pub mod Keys
+pub mod Breach
+pub mod Levels
+pub mod Kept
+pub mod Flat
+pub mod Graph
+pub mod Checking

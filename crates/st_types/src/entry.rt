@@ -1,0 +1,25 @@
+//! What a table keeps of a syntax.
+
+use indexmap::IndexMap;
+use st_il::{SyntaxBody, Ty};
+use st_num::{Name, Row};
+
+/// A case of a variant: its tag, and the types of its operands.
+#[derive(Drop)]
+pub struct CaseDef {
+    pub tag: Name,
+    pub operands: Row<Ty>,
+}
+
+/// A syntax: its body, and what was found out about it once.
+#[derive(Drop)]
+pub(crate) struct Entry {
+    pub(crate) body: SyntaxBody,
+    /// The names in an alias have smaller ranks than its own.
+    pub(crate) rank: usize,
+    /// The cases of a variant, with those that it includes.
+    pub(crate) cases: Row<CaseDef>,
+}
+
+/// The syntaxes by their names, in the order of their definitions.
+pub(crate) type Entries = IndexMap<Name, Entry>;

@@ -1,0 +1,187 @@
+//! Tables of small specifications.
+
+use crate::{TypeFault, TypeTable};
+use st_il::{Alternative, SyntaxBody, SyntaxDef, Ty};
+use st_num::{Boxed, Name, NoMemory, Row, RuleId};
+use std::alloc::Global;
+use std::test::Fail;
+
+fn name(alloc: Global, text: &[u8]) -> Result<Name, NoMemory> {
+    Row::from_slice(alloc, text)
+}
+
+fn named(alloc: Global, text: &[u8]) -> Result<Ty, NoMemory> {
+    let name = name(alloc, text)?;
+    Ok(Ty::Name(name))
+}
+
+/// A case without operands.
+fn atom(alloc: Global, tag: &[u8]) -> Result<Alternative, NoMemory> {
+    let tag = name(alloc, tag)?;
+    Ok(Alternative::Case(tag, Row::new(alloc)))
+}
+
+fn push(
+    alloc: Global,
+    defs: &mut Row<SyntaxDef>,
+    text: &[u8],
+    body: SyntaxBody,
+) -> Result<(), NoMemory> {
+    let name = name(alloc, text)?;
+    defs.push(SyntaxDef { name, body })
+}
+
+/// The fault of these definitions, where they are few and have one.
+fn fault_of(alloc: Global, defs: &Row<SyntaxDef>) -> Option<TypeFault> {
+    if !TypeTable::can_build(defs) {
+        return None;
+    }
+    match TypeTable::build(alloc, defs) {
+        Ok(_) => None,
+        Err(fault) => Some(fault),
+    }
+}
+
+/// `syntax numtype = | I32 | I64`, `syntax val = CONST numtype nat` and
+/// `syntax instr = | NOP | DROP | ADD numtype | val`.
+fn stack(alloc: Global) -> Result<Row<SyntaxDef>, NoMemory> {
+    let mut defs = Row::new(alloc);
+    let mut numtype = Row::new(alloc);
+    numtype.push(atom(alloc, b"I32")?)?;
+    numtype.push(atom(alloc, b"I64")?)?;
+    push(alloc, &mut defs, b"numtype", SyntaxBody::Variant(numtype))?;
+    let mut operands = Row::new(alloc);
+    operands.push(named(alloc, b"numtype")?)?;
+    operands.push(Ty::Nat)?;
+    let mut val = Row::new(alloc);
+    val.push(Alternative::Case(name(alloc, b"CONST % %")?, operands))?;
+    push(alloc, &mut defs, b"val", SyntaxBody::Variant(val))?;
+    let mut operand = Row::new(alloc);
+    operand.push(named(alloc, b"numtype")?)?;
+    let mut instr = Row::new(alloc);
+    instr.push(atom(alloc, b"NOP")?)?;
+    instr.push(atom(alloc, b"DROP")?)?;
+    instr.push(Alternative::Case(name(alloc, b"ADD %")?, operand))?;
+    instr.push(Alternative::Incl(name(alloc, b"val")?))?;
+    push(alloc, &mut defs, b"instr", SyntaxBody::Variant(instr))?;
+    Ok(defs)
+}
+
+#[test]
+fn subtypes_of_stack(rt: HostRuntime) -> Result<(), Fail> {
+    let alloc = rt.alloc();
+    let defs = stack(alloc)?;
+    assert!(rt; TypeTable::can_build(&defs));
+    let table = TypeTable::build(alloc, &defs)?;
+    let val = named(alloc, b"val")?;
+    let instr = named(alloc, b"instr")?;
+    assert!(rt; table.is_sub(&val, &instr));
+    assert!(rt; !table.is_sub(&instr, &val));
+    let cases = table.cases(&instr).ok_or("no variant")?;
+    assert_eq!(rt; cases.len(), 4);
+    let vals = Ty::List(Boxed::new(alloc, val)?);
+    let instrs = Ty::List(Boxed::new(alloc, instr)?);
+    assert!(rt; table.is_sub(&vals, &instrs));
+    Ok(())
+}
+
+/// The tuple of a type twice.
+fn pair(alloc: Global, first: Ty, second: Ty) -> Result<Ty, NoMemory> {
+    let mut parts = Row::new(alloc);
+    parts.push(first)?;
+    parts.push(second)?;
+    Ok(Ty::Tuple(parts))
+}
+
+#[test]
+fn included_cases_come_last(rt: HostRuntime) -> Result<(), Fail> {
+    let alloc = rt.alloc();
+    let defs = stack(alloc)?;
+    assert!(rt; TypeTable::can_build(&defs));
+    let table = TypeTable::build(alloc, &defs)?;
+    let instr = named(alloc, b"instr")?;
+    let cases = table.cases(&instr).ok_or("no variant")?;
+    let last = cases.get(3).ok_or("no case")?;
+    let tag = name(alloc, b"CONST % %")?;
+    assert!(rt; last.tag == tag);
+    let nats = pair(alloc, Ty::Nat, Ty::Nat)?;
+    let ints = pair(alloc, Ty::Int, Ty::Int)?;
+    assert!(rt; !table.is_sub(&nats, &ints));
+    assert!(rt; table.is_sub(&Ty::Nat, &Ty::Int));
+    Ok(())
+}
+
+/// `syntax a = b` and this alias again.
+fn aliases(alloc: Global, target: &[u8], again: &[u8]) -> Result<Row<SyntaxDef>, NoMemory> {
+    let mut defs = Row::new(alloc);
+    push(alloc, &mut defs, b"a", SyntaxBody::Alias(Ty::Nat))?;
+    push(
+        alloc,
+        &mut defs,
+        again,
+        SyntaxBody::Alias(named(alloc, target)?),
+    )?;
+    Ok(defs)
+}
+
+/// `syntax a = nat`, and a variant of the atom A and this alternative.
+fn variants(alloc: Global, second: Alternative) -> Result<Row<SyntaxDef>, NoMemory> {
+    let mut defs = Row::new(alloc);
+    push(alloc, &mut defs, b"a", SyntaxBody::Alias(Ty::Nat))?;
+    let mut parts = Row::new(alloc);
+    parts.push(atom(alloc, b"A")?)?;
+    parts.push(second)?;
+    push(alloc, &mut defs, b"v", SyntaxBody::Variant(parts))?;
+    Ok(defs)
+}
+
+#[test]
+fn each_rule(rt: HostRuntime) -> Result<(), Fail> {
+    let alloc = rt.alloc();
+    let twice = fault_of(alloc, &aliases(alloc, b"a", b"a")?);
+    assert!(rt;
+        twice
+            == Some(TypeFault::Refused {
+                syntax: 1,
+                part: 0,
+                rule: RuleId::B1
+            })
+    );
+    let unknown = fault_of(alloc, &aliases(alloc, b"c", b"b")?);
+    assert!(rt;
+        unknown
+            == Some(TypeFault::Refused {
+                syntax: 1,
+                part: 0,
+                rule: RuleId::B2
+            })
+    );
+    let returns = fault_of(alloc, &aliases(alloc, b"b", b"b")?);
+    assert!(rt;
+        returns
+            == Some(TypeFault::Refused {
+                syntax: 1,
+                part: 0,
+                rule: RuleId::B4
+            })
+    );
+    let no_variant = variants(alloc, Alternative::Incl(name(alloc, b"a")?))?;
+    assert!(rt;
+        fault_of(alloc, &no_variant)
+            == Some(TypeFault::Refused {
+                syntax: 1,
+                part: 1,
+                rule: RuleId::B5
+            })
+    );
+    let same_keys = variants(alloc, atom(alloc, b"A")?)?;
+    assert!(rt;
+        fault_of(alloc, &same_keys)
+            == Some(TypeFault::Refused {
+                syntax: 1,
+                part: 1,
+                rule: RuleId::Y7
+            })
+    );
+    Ok(())
+}
