@@ -8,6 +8,7 @@ mod LineVerdicts
 mod Derivations
 mod Verifications
 mod Checks
+mod DerivedAccepted
 mod TranscriptLemmas
 mod Loading
 mod Terms

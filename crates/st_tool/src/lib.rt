@@ -10,6 +10,7 @@
 ghost use Rattle.std.specs.Prelude.{◌≡◌, map, string_bytes};
 ghost use Rattle.st_outside.specs.Counts.{Rose};
 ghost use Rattle.st_tool.specs.Causes.{IsLoadFault, FaultIsTold};
+ghost use Rattle.st_tool.specs.Laws.{DerivedIsAccepted};
 ghost use Rattle.st_tool.specs.Loads.{counts_of};
 ghost use Rattle.st_tool.specs.Outcome.{Written};
 
@@ -48,6 +49,7 @@ pub fn serve<F: Files, K: Sink>(
     ensures written { Written (F.held files.old) (map string_bytes words.now.items) (counts_of (F.loads files.old) (F.faults files.old) (F.last files.old)) (counts_of (F.loads files.new) (F.faults files.new) (F.last files.new)) (K.taken out.old) (K.taken out.new) result }
     ensures load { result ≡ Status.Load → IsLoadFault (map string_bytes words.now.items) (counts_of (F.loads files.old) (F.faults files.old) (F.last files.old)) (counts_of (F.loads files.new) (F.faults files.new) (F.last files.new)) }
     ensures told { FaultIsTold (counts_of (F.loads files.old) (F.faults files.old) (F.last files.old)) (counts_of (F.loads files.new) (F.faults files.new) (F.last files.new)) result }
+    ensures accepted { DerivedIsAccepted }
     ensures write { result ≡ Status.Write → Rose (K.faults out.old) (K.faults out.new) }
 {
     match answer_words(alloc, words.as_slice(), files) {

@@ -2,6 +2,7 @@ use Rattle.std.proofs.Common.{map, string_bytes, subst}
 use Rattle.st_outside.specs.Sink.{Takes}
 use Rattle.st_tool.specs.Loads.{counts_of}
 use Rattle.st_tool.specs.Outcome.{HasOutcome}
+use Rattle.st_tool.proofs.DerivedAccepted.{derived_is_accepted}
 use Rattle.st_tool.proofs.WrittenLemmas.{all_written, load_fault, fault_told, no_write}
 use Rattle.st_tool.proofs.serve.Goals as goal
 
@@ -41,3 +42,12 @@ returns-in-Ok-write_all_of-clause-write g c is =
     let after = counts_of (g.F.Files.loads c.answer_words.new.files) (g.F.Files.faults c.answer_words.new.files) (g.F.Files.last c.answer_words.new.files) in
     let answer = c.in-Ok.answer in
     absurd (no_write held (map string_bytes c.as_slice.result.now) before after answer.status answer.bytes.items c.in-Ok.ensures is)
+
+pub returns-in-Err-clause-accepted : goal.returns-in-Err-clause-accepted
+returns-in-Err-clause-accepted g c = derived_is_accepted
+
+pub returns-in-Ok-write_all_of-clause-accepted : goal.returns-in-Ok-write_all_of-clause-accepted
+returns-in-Ok-write_all_of-clause-accepted g c = derived_is_accepted
+
+pub returns-clause-accepted : goal.returns-clause-accepted
+returns-clause-accepted g c = derived_is_accepted
