@@ -1,0 +1,5 @@
+pub mod Lexemes
+pub mod Levels
+pub mod Trees
+pub mod Grammar
+pub mod Reading
