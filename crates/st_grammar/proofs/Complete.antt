@@ -5,9 +5,9 @@ use Rattle.st_num.specs.declared.mark.Mark.TheVariants as mark
 use Rattle.st_scan.specs.declared.token.Token.{Token}
 use Rattle.st_grammar.specs.Lexemes.{Bracket, round, square, brace, tick_round, tick_square, tick_brace, dollar, Closing, by_round, by_square, by_brace, by_bar, Lexeme, leaf, dot, sign, opening, closing, other}
 use Rattle.st_grammar.specs.Levels.{Sort, expression, arithmetic, notation, typ, count, bound, encloses, computes, is_expression, is_count, juxtaposes, level_of, ahead_level, tight, has_level, left_of, is_mark, is_caret, is_comma, is_colon}
-use Rattle.st_grammar.specs.Trees.{Tree, operand, post, times, bracket, led, Lead, left, ahead, items, Trees, none, more, Heading, plain, length, arguments, index, segment, update, below, Path, head, field, part, closes, text, lead_text, texts, heading_text, path_text}
+use Rattle.st_grammar.specs.Trees.{Tree, operand, post, times, bracket, led, Lead, left, ahead, items, Trees, none, more, Heading, plain, length, arguments, index, segment, update, below, Path, head, field, part, closes, text, lead_text, texts, heading_text, path_text, agree}
 use Rattle.st_grammar.specs.Grammar.{Style, lone, parts, fields, ends, run, style, opens_length, sort_in, least_in, is_label, SetsOff, IsFilled, size, follows, may_post, lead_level, wanted, level, is_operand, Fits, LeadFits, EachFits, HeadingFits, PathFits}
-use Rattle.st_grammar.specs.Reading.{Frames, bottom, within, over, timing, State, want, got, naming, sort, least, settle, reach, lower, agree, shut, close, ended, begin, extend, separate, join, pull, after, finish, reading, reads}
+use Rattle.st_grammar.specs.Reading.{Frames, bottom, within, over, timing, State, want, got, naming, sort, least, settle, reach, lower, shut, close, ended, begin, extend, separate, join, pull, after, finish, reading, reads}
 use Rattle.st_grammar.proofs.LevelLemmas.{level_low, ahead_low, ahead_below, right_low, level_after, level_before, has_low, ahead_after, may_mark, comma_is, colon_is, caret_is, joins_no_mark, no_post, no_caret}
 
 -- ---- levels and edges

@@ -368,8 +368,8 @@ mutual
       ∙ read_parts ts (segment p o) fs (closing by_square c ∷ v) f.1 (closer_after (segment p o) (sort fs) ts c v)
       ∙ read_close (segment p o) ts c fs v (segment_filled p o ts f.2)
 
-pub complete : (σ : Sort) (us : List Lexeme) (t : Tree) → is_count σ ≡ false → Parse σ us t → reads (start σ) us ≡ Some t
-complete σ us t n p =
+pub complete : (σ : Sort) (us : List Lexeme) (t : Tree) → Parse σ us t → reads (start σ) us ≡ Some t
+complete σ us t p =
     ap (reads (start σ)) (p.spelled ∙ sym (append-nil (text t)))
     ∙ read_tree t (bottom σ) [] p.fits (level_pos σ t p.fits) tt
     ∙ reads_whole t

@@ -7,7 +7,7 @@ use Rattle.st_scan.specs.declared.token.Token.{Token}
 use Rattle.st_scan.specs.declared.token.TokenKind.{TokenKind}
 use Rattle.st_scan.specs.declared.token.TokenKind.TheVariants as kind
 use Rattle.st_grammar.specs.Lexemes.{Leaf, low, basic, variable, atom, number, round, square, Closing, by_round, by_square, by_brace, by_bar, Lexeme, leaf, sign, opening, closing, lexeme, is_variable}
-use Rattle.st_grammar.specs.Levels.{Sort, expression, arithmetic, notation, typ, count, bound, takes, is_count}
+use Rattle.st_grammar.specs.Levels.{Sort, expression, arithmetic, notation, typ, count, bound, takes}
 use Rattle.st_grammar.specs.Trees.{Tree, operand, times, bracket, led, Trees, none, more, Heading, plain, length, arguments, index, segment, update, below, Path, head, field, part, closes, text, texts, heading_text, path_text}
 use Rattle.st_grammar.specs.Grammar.{is_label, is_operand, has_step, PathFits, Parse, Viable}
 use Rattle.st_grammar.specs.Reading.{Frames, bottom, within, over, timing, State, want, got, naming, pathed, indexing, comparing, sort, finish, step, reading, reads, start}
@@ -216,13 +216,13 @@ reading_append st (l ∷ us) vs = go (step st l) (λ next. reading_append next u
     go None h = refl
     go (Some next) h = h next
 
-pub dead : (ns : List (List ℕ)) (σ : Sort) (us : List Lexeme) → is_count σ ≡ false → reading (start σ) us ≡ None → Viable ns σ us → ⊥
-dead ns σ us c e v =
+pub dead : (ns : List (List ℕ)) (σ : Sort) (us : List Lexeme) → reading (start σ) us ≡ None → Viable ns σ us → ⊥
+dead ns σ us e v =
     let vs = map (lexeme ns) v.0 in
-    let whole = complete σ (us ++ vs) v.1 c v.2 in
+    let whole = complete σ (us ++ vs) v.1 v.2 in
     let split = reading_append (start σ) us vs in
     let nothing : reads (start σ) (us ++ vs) ≡ None = ap (option_and_then finish) (split ∙ ap (option_and_then (λ next. reading next vs)) e) in
     absurd (cc)
 
-pub one_tree_of : (σ : Sort) (us : List Lexeme) (a b : Tree) → is_count σ ≡ false → Parse σ us a → Parse σ us b → a ≡ b
-one_tree_of σ us a b c p q = let e = complete σ us a c p in let f = complete σ us b c q in cc
+pub one_tree_of : (σ : Sort) (us : List Lexeme) (a b : Tree) → Parse σ us a → Parse σ us b → a ≡ b
+one_tree_of σ us a b p q = let e = complete σ us a p in let f = complete σ us b q in cc

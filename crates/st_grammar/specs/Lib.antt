@@ -3,3 +3,5 @@ pub mod Levels
 pub mod Trees
 pub mod Grammar
 pub mod Reading
+pub mod Definitions
+pub mod Places

@@ -1,10 +1,10 @@
 -- How the tokens of a tree are read, one after another: what is open, and what each token makes of it.
-use Rattle.std.specs.Prelude.{ℕ, List, [], ◌∷◌, ◌++◌, Bool, true, false, ◌&&◌, Option, Some, None, option_and_then, nat_le, if◌then◌else◌}
+use Rattle.std.specs.Prelude.{ℕ, List, [], ◌∷◌, ◌++◌, ◌&&◌, Option, Some, None, option_and_then, nat_le, if◌then◌else◌}
 use Rattle.st_num.specs.declared.mark.Mark.{Mark}
 use Rattle.st_scan.specs.declared.token.Token.{Token}
-use Rattle.st_grammar.specs.Lexemes.{low, function, Bracket, round, square, brace, Closing, by_round, by_square, by_brace, by_bar, Lexeme, leaf, dot, sign, opening, closing, other}
+use Rattle.st_grammar.specs.Lexemes.{low, function, Bracket, round, square, brace, Closing, by_round, by_bar, Lexeme, leaf, dot, sign, opening, closing, other}
 use Rattle.st_grammar.specs.Levels.{Sort, count, takes, encloses, computes, is_expression, is_count, level_of, ahead_level, has_level, left_of, right_of, ahead_right, is_caret, is_comma, is_colon, is_less, is_change}
-use Rattle.st_grammar.specs.Trees.{Tree, operand, post, times, bracket, led, Lead, left, ahead, items, Trees, none, more, Heading, plain, length, arguments, index, segment, update, below, Path, head, field, part, closes}
+use Rattle.st_grammar.specs.Trees.{Tree, operand, post, times, bracket, led, Lead, left, ahead, items, Trees, none, more, Heading, plain, length, arguments, index, segment, update, below, Path, head, field, part, closes, agree}
 use Rattle.st_grammar.specs.Grammar.{Style, parts, fields, ends, style, sort_in, least_in, is_label, follows, may_post, level, wanted, has_step}
 
 -- what is open, the innermost first
@@ -63,13 +63,6 @@ reach (items ts) = 14
 abbrev pub lower : ℕ → Tree → Frames → Tree × Frames
 lower n t (over g fs) = if nat_le (reach g) n then (t, over g fs) else lower n (led g t) fs
 lower n t fs = (t, fs)
-
-abbrev pub agree : Closing → Closing → Bool
-agree by_round by_round = true
-agree by_square by_square = true
-agree by_brace by_brace = true
-agree by_bar by_bar = true
-agree c d = false
 
 abbrev pub shut : Heading → Trees → Token → Frames → State
 shut (segment p o) ts x fs = pathed (part p o ts x) fs

@@ -1,5 +1,5 @@
 -- Trees that keep each token, and their tokens.
-use Rattle.std.specs.Prelude.{List, [], ◌∷◌, ◌++◌}
+use Rattle.std.specs.Prelude.{List, [], ◌∷◌, ◌++◌, Bool, true, false}
 use Rattle.st_num.specs.declared.mark.Mark.{Mark}
 use Rattle.st_scan.specs.declared.token.Token.{Token}
 use Rattle.st_grammar.specs.Lexemes.{Leaf, low, function, Bracket, round, square, brace, tick_round, tick_square, tick_brace, dollar, Closing, by_round, by_square, by_brace, by_bar, Lexeme, leaf, dot, sign, opening, closing}
@@ -71,6 +71,13 @@ closes (index t o) = by_square
 closes (segment p o) = by_square
 closes (update p m x) = by_square
 closes (below o i m x) = by_round
+
+abbrev pub agree : Closing → Closing → Bool
+agree by_round by_round = true
+agree by_square by_square = true
+agree by_brace by_brace = true
+agree by_bar by_bar = true
+agree c d = false
 
 -- the tokens of a tree
 abbrev mutual

@@ -9,4 +9,4 @@
 
 mod laws;
 
-pub use laws::one_tree;
+pub use laws::{definitions_are_read, one_list, one_tree, parts_are_read};
