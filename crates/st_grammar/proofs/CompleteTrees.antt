@@ -2,8 +2,14 @@
 use Rattle.std.proofs.Common.{◌≡◌, ℕ, ◌≤◌, List, [], ◌∷◌, ◌++◌, Bool, true, false, not, ◌&&◌, Some, None, nat_le, if◌then◌else◌, refl, sym, ap, subst, ◌∙◌, append_assoc, append-nil, arith}
 use Rattle.st_num.specs.declared.mark.Mark.{Mark}
 use Rattle.st_scan.specs.declared.token.Token.{Token}
-use Rattle.st_grammar.specs.Lexemes.{low, function, Bracket, round, square, brace, tick_round, tick_square, tick_brace, dollar, by_square, by_bar, Lexeme, leaf, dot, sign, opening, closing, other}
-use Rattle.st_grammar.specs.Levels.{Sort, expression, arithmetic, notation, typ, count, bound, takes, encloses, computes, is_expression, is_count, juxtaposes, level_of, tight, has_level, left_of, is_comma, is_colon, is_less, is_change}
+use Rattle.st_grammar.specs.declared.sort.Leaf.TheVariants.{Low as low, Function as function}
+use Rattle.st_grammar.specs.declared.sort.Bracket.{Bracket}
+use Rattle.st_grammar.specs.declared.sort.Bracket.TheVariants.{Round as round, Square as square, Brace as brace, TickRound as tick_round, TickSquare as tick_square, TickBrace as tick_brace, Dollar as dollar}
+use Rattle.st_grammar.specs.declared.sort.Closing.TheVariants.{BySquare as by_square, ByBar as by_bar}
+use Rattle.st_grammar.specs.declared.sort.Sort.{Sort}
+use Rattle.st_grammar.specs.declared.sort.Sort.TheVariants.{Expression as expression, Arithmetic as arithmetic, Notation as notation, Typ as typ, Count as count, Bound as bound}
+use Rattle.st_grammar.specs.Lexemes.{Lexeme, leaf, dot, sign, opening, closing, other}
+use Rattle.st_grammar.specs.Levels.{takes, encloses, computes, is_expression, is_count, juxtaposes, level_of, tight, has_level, left_of, is_comma, is_colon, is_less, is_change}
 use Rattle.st_grammar.specs.Trees.{Tree, operand, post, times, bracket, led, Lead, left, ahead, items, Trees, none, more, Heading, plain, length, arguments, index, segment, update, below, Path, head, field, part, closes, text, lead_text, texts, heading_text, path_text}
 use Rattle.st_grammar.specs.Grammar.{Style, lone, parts, fields, ends, run, bracket_style, index_style, style, sort_in, least_in, SetsOff, IsFilled, size, text_follows, FollowsAll, lead_level, wanted, level, is_operand, has_step, MayEnd, Fits, LeadFits, EachFits, HeadingFits, PathFits, Parse}
 use Rattle.st_grammar.specs.Reading.{Frames, bottom, within, over, timing, State, want, got, naming, pathed, indexing, sort, least, settle, reach, begin, extend, next_part, pull, behind, after, in_index, reads, start}

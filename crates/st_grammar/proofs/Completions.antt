@@ -6,8 +6,15 @@ use Rattle.st_scan.specs.declared.word.Word.TheVariants as word
 use Rattle.st_scan.specs.declared.token.Token.{Token}
 use Rattle.st_scan.specs.declared.token.TokenKind.{TokenKind}
 use Rattle.st_scan.specs.declared.token.TokenKind.TheVariants as kind
-use Rattle.st_grammar.specs.Lexemes.{Leaf, low, basic, variable, atom, number, round, square, Closing, by_round, by_square, by_brace, by_bar, Lexeme, leaf, sign, opening, closing, lexeme, is_variable}
-use Rattle.st_grammar.specs.Levels.{Sort, expression, arithmetic, notation, typ, count, bound, takes}
+use Rattle.st_grammar.specs.declared.sort.Leaf.{Leaf}
+use Rattle.st_grammar.specs.declared.sort.Leaf.TheVariants.{Low as low, Basic as basic, Variable as variable, Atom as atom, Number as number}
+use Rattle.st_grammar.specs.declared.sort.Bracket.TheVariants.{Round as round, Square as square}
+use Rattle.st_grammar.specs.declared.sort.Closing.{Closing}
+use Rattle.st_grammar.specs.declared.sort.Closing.TheVariants.{ByRound as by_round, BySquare as by_square, ByBrace as by_brace, ByBar as by_bar}
+use Rattle.st_grammar.specs.declared.sort.Sort.{Sort}
+use Rattle.st_grammar.specs.declared.sort.Sort.TheVariants.{Expression as expression, Arithmetic as arithmetic, Notation as notation, Typ as typ, Count as count, Bound as bound}
+use Rattle.st_grammar.specs.Lexemes.{Lexeme, leaf, sign, opening, closing, lexeme, is_variable}
+use Rattle.st_grammar.specs.Levels.{takes}
 use Rattle.st_grammar.specs.Trees.{Tree, operand, times, bracket, led, Trees, none, more, Heading, plain, length, arguments, index, segment, update, below, Path, head, field, part, closes, text, texts, heading_text, path_text}
 use Rattle.st_grammar.specs.Grammar.{is_label, is_operand, has_step, PathFits, Parse, Viable}
 use Rattle.st_grammar.specs.Reading.{Frames, bottom, within, over, timing, State, want, got, naming, pathed, indexing, comparing, sort, finish, step, reading, reads, start}

@@ -3,8 +3,10 @@ use Rattle.std.proofs.Common.{◌≡◌, ℕ, ◌+◌, ◌≤◌, ◌<◌, Bool,
 use Rattle.st_num.specs.declared.mark.Mark.{Mark}
 use Rattle.st_num.specs.declared.mark.Mark.TheVariants as mark
 use Rattle.st_scan.specs.declared.token.Token.{Token}
+use Rattle.st_grammar.specs.declared.sort.Sort.{Sort}
+use Rattle.st_grammar.specs.declared.sort.Sort.TheVariants.{Expression as expression, Arithmetic as arithmetic, Notation as notation, Typ as typ, Count as count, Bound as bound}
 use Rattle.st_grammar.specs.Lexemes.{sign}
-use Rattle.st_grammar.specs.Levels.{Sort, expression, arithmetic, notation, typ, count, bound, is_expression, level_of, ahead_level, has_level, Group, to_none, to_left, to_right, group_of, left_gap, right_gap, left_of, right_of, ahead_right, is_mark, is_type_mark, is_caret, is_comma, is_colon}
+use Rattle.st_grammar.specs.Levels.{is_expression, level_of, ahead_level, has_level, Group, to_none, to_left, to_right, group_of, left_gap, right_gap, left_of, right_of, ahead_right, is_mark, is_type_mark, is_caret, is_comma, is_colon}
 use Rattle.st_grammar.specs.Trees.{Tree}
 use Rattle.st_grammar.specs.Grammar.{may_post}
 

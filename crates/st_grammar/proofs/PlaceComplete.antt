@@ -2,8 +2,12 @@
 use Rattle.std.proofs.Common.{◌≡◌, ℕ, List, [], ◌∷◌, ◌++◌, map, Bool, true, false, ◌&&◌, ◌||◌, Option, Some, None, option_and_then, if◌then◌else◌, refl, sym, ap, subst, ◌∙◌, append_assoc, append-nil}
 use Rattle.st_num.specs.declared.mark.Mark.{Mark}
 use Rattle.st_scan.specs.declared.token.Token.{Token}
-use Rattle.st_grammar.specs.Lexemes.{low, basic, variable, atom, number, literal, function, round, square, brace, tick_round, tick_square, tick_brace, dollar, Lexeme, leaf, dot, sign, opening, closing, other}
-use Rattle.st_grammar.specs.Levels.{Sort, expression, notation, typ, is_mark, is_type_mark, is_colon, is_comma}
+use Rattle.st_grammar.specs.declared.sort.Leaf.TheVariants.{Low as low, Basic as basic, Variable as variable, Atom as atom, Number as number, Literal as literal, Function as function}
+use Rattle.st_grammar.specs.declared.sort.Bracket.TheVariants.{Round as round, Square as square, Brace as brace, TickRound as tick_round, TickSquare as tick_square, TickBrace as tick_brace, Dollar as dollar}
+use Rattle.st_grammar.specs.declared.sort.Sort.{Sort}
+use Rattle.st_grammar.specs.declared.sort.Sort.TheVariants.{Expression as expression, Notation as notation, Typ as typ}
+use Rattle.st_grammar.specs.Lexemes.{Lexeme, leaf, dot, sign, opening, closing, other}
+use Rattle.st_grammar.specs.Levels.{is_mark, is_type_mark, is_colon, is_comma}
 use Rattle.st_grammar.specs.Trees.{Tree, operand, post, times, bracket, led, Trees, none, more, plain, length as bars, arguments, index, segment, update, below, text, texts}
 use Rattle.st_grammar.specs.Grammar.{parts, is_label, SetsOff, Fits, EachFits}
 use Rattle.st_grammar.specs.Definitions.{Keyword, syntax_word, relation_word, rule_word, var_word, def_word, hint_word, keyword, signed, is_equal, is_bar, closes_round, closes_brace, is_low, is_fun, names_relation, scan, id_step, FragmentFits, Hint, hint, hint_text, Hints, no_hints, more_hints, hints_text, HintsFit, Members, no_members, member, members_text, SetsOffField, SetsOffCase, FieldsFit, CasesFit, has_member, Body, fields, cases, body_text, BodyFits, premises_text, Args, no_args, args, args_text, ArgsFit, Def, syntax_def, var_def, relation_def, rule_def, fun_def, clause_def, def_text, DefFits, Defs, no_defs, more_defs, defs_text, DefsFit, ParseDefs}

@@ -2,8 +2,12 @@
 use Rattle.std.proofs.Common.{◌≡◌, ℕ, zero, suc, ◌+◌, ◌-◌, ◌<◌, List, [], ◌∷◌, ◌++◌, map, length, Bool, true, false, not, ◌&&◌, ◌==◌, Some, None, if◌then◌else◌, refl, sym, ap, subst, ◌∙◌, append_assoc, append-nil, arith}
 use Rattle.st_num.specs.declared.mark.Mark.{Mark}
 use Rattle.st_scan.specs.declared.token.Token.{Token}
-use Rattle.st_grammar.specs.Lexemes.{low, function, Bracket, round, square, brace, tick_round, tick_square, tick_brace, dollar, by_round, by_brace, by_bar, Lexeme, leaf, sign, opening, closing, other}
-use Rattle.st_grammar.specs.Levels.{expression, notation, typ}
+use Rattle.st_grammar.specs.declared.sort.Leaf.TheVariants.{Low as low, Function as function}
+use Rattle.st_grammar.specs.declared.sort.Bracket.{Bracket}
+use Rattle.st_grammar.specs.declared.sort.Bracket.TheVariants.{Round as round, Square as square, Brace as brace, TickRound as tick_round, TickSquare as tick_square, TickBrace as tick_brace, Dollar as dollar}
+use Rattle.st_grammar.specs.declared.sort.Closing.TheVariants.{ByRound as by_round, ByBrace as by_brace, ByBar as by_bar}
+use Rattle.st_grammar.specs.declared.sort.Sort.TheVariants.{Expression as expression, Notation as notation, Typ as typ}
+use Rattle.st_grammar.specs.Lexemes.{Lexeme, leaf, sign, opening, closing, other}
 use Rattle.st_grammar.specs.Trees.{Tree, Trees, more}
 use Rattle.st_grammar.specs.Grammar.{Fits}
 use Rattle.st_grammar.specs.Reading as part

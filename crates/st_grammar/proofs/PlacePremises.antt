@@ -2,14 +2,17 @@
 use Rattle.std.proofs.Common.{◌≡◌, ◌≤◌, List, [], ◌∷◌, ◌++◌, length, Bool, true, false, not, ◌&&◌, ◌==◌, Option, Some, None, option_and_then, if◌then◌else◌, refl, sym, ap, subst, ◌∙◌, append_assoc, append-nil, arith}
 use Rattle.std.specs.List.{AllByRecursion}
 use Rattle.st_scan.specs.declared.token.Token.{Token}
-use Rattle.st_grammar.specs.Lexemes.{Bracket, by_round, Lexeme, leaf, dot, sign, opening, closing, other}
-use Rattle.st_grammar.specs.Levels.{Sort, expression, notation, typ, count, is_mark, is_caret, is_colon}
+use Rattle.st_grammar.specs.declared.sort.Bracket.{Bracket}
+use Rattle.st_grammar.specs.declared.sort.Closing.TheVariants.{ByRound as by_round}
+use Rattle.st_grammar.specs.declared.sort.Sort.{Sort}
+use Rattle.st_grammar.specs.declared.sort.Sort.TheVariants.{Expression as expression, Arithmetic as arithmetic, Notation as notation, Typ as typ, Count as count, Bound as bound}
+use Rattle.st_grammar.specs.Lexemes.{Lexeme, leaf, dot, sign, opening, closing, other}
+use Rattle.st_grammar.specs.Levels.{is_mark, is_caret, is_colon}
 use Rattle.st_grammar.specs.Trees.{Tree, text}
 use Rattle.st_grammar.specs.Grammar.{Fits}
 use Rattle.st_grammar.specs.Definitions.{Keyword, syntax_word, relation_word, rule_word, var_word, def_word, hint_word, if_word, otherwise_word, dashes, no_word, keyword, signed, opens_round, names_relation, is_name, scan, balance_step, Hint, hint, hint_text, Hints, no_hints, more_hints, hints_text, HintsFit, Iterations, no_iterations, closed, marked, counted, iterations_text, closings, has_closed, wants_mark, IterationsFit, CondFits, Premise, default, given, premise_text, OpensRound, Premises, no_premises, more_premises, premises_text, PremisesFit, Defs}
 use Rattle.st_grammar.specs.Places.{Rule, Host, Slot, rule_slot, cond_slot, count_slot, slot_sort, Place, between, hinted, hint_open, hint_name, hint_words, premised, premise_open, goal_colon, iterated, at, rule_whole, is_whole, whole, begin_def, begun, when, host_step, hint_or, hint_step, premise_word, next_premise, own, first_of_two, filled, finish, reading, reads}
 use Rattle.st_num.specs.declared.mark.Mark.TheVariants as mark
-use Rattle.st_grammar.specs.Levels.{arithmetic, bound}
 use Rattle.st_grammar.specs.Definitions.{mark_keyword, HintFits, PremiseFits}
 use Rattle.st_grammar.proofs.Complete.{grip}
 use Rattle.st_grammar.proofs.PlaceSteps.{signed_is}

@@ -3,8 +3,12 @@ use Rattle.std.proofs.Common.{◌≡◌, ℕ, ◌+◌, ◌≤◌, List, [], ◌�
 use Rattle.std.specs.List.{AllByRecursion}
 use Rattle.st_num.specs.declared.mark.Mark.{Mark}
 use Rattle.st_scan.specs.declared.token.Token.{Token}
-use Rattle.st_grammar.specs.Lexemes.{low, basic, variable, atom, number, literal, function, Bracket, round, square, brace, tick_round, tick_square, tick_brace, dollar, Lexeme, leaf, dot, sign, opening, closing, other}
-use Rattle.st_grammar.specs.Levels.{expression, typ, is_mark, is_type_mark, is_caret, is_colon, is_comma}
+use Rattle.st_grammar.specs.declared.sort.Leaf.TheVariants.{Low as low, Basic as basic, Variable as variable, Atom as atom, Number as number, Literal as literal, Function as function}
+use Rattle.st_grammar.specs.declared.sort.Bracket.{Bracket}
+use Rattle.st_grammar.specs.declared.sort.Bracket.TheVariants.{Round as round, Square as square, Brace as brace, TickRound as tick_round, TickSquare as tick_square, TickBrace as tick_brace, Dollar as dollar}
+use Rattle.st_grammar.specs.declared.sort.Sort.TheVariants.{Expression as expression, Typ as typ}
+use Rattle.st_grammar.specs.Lexemes.{Lexeme, leaf, dot, sign, opening, closing, other}
+use Rattle.st_grammar.specs.Levels.{is_mark, is_type_mark, is_caret, is_colon, is_comma}
 use Rattle.st_grammar.specs.Trees.{Tree, operand, post, times, bracket, led, Trees, none, more, plain, length as bars, arguments, index, segment, update, below, text}
 use Rattle.st_grammar.specs.Grammar.{parts, is_label, SetsOff, Fits, EachFits}
 use Rattle.st_grammar.specs.Reading as part

@@ -1,8 +1,9 @@
 -- The tokens that led to a place of a definition, and what holds of what they led to.
 use Rattle.std.proofs.Common.{◌≡◌, ◌≤◌, List, [], ◌∷◌, ◌++◌, length, Bool, true, false, ◌||◌, Option, Some, None, append_assoc, append-nil, arith}
 use Rattle.std.specs.List.{AllByRecursion}
+use Rattle.st_grammar.specs.declared.sort.Sort.TheVariants.{Expression as expression, Notation as notation, Typ as typ}
 use Rattle.st_grammar.specs.Lexemes.{Lexeme}
-use Rattle.st_grammar.specs.Levels.{expression, notation, typ, is_caret, is_colon, is_comma}
+use Rattle.st_grammar.specs.Levels.{is_caret, is_colon, is_comma}
 use Rattle.st_grammar.specs.Trees.{Tree, none, more, text, texts}
 use Rattle.st_grammar.specs.Grammar.{parts, is_label, SetsOff, Fits, EachFits}
 use Rattle.st_grammar.specs.Definitions.{syntax_word, relation_word, rule_word, var_word, def_word, hint_word, dashes, keyword, touches, signed, is_slash, is_equal, is_dots, opens_round, opens_brace, is_low, is_fun, names_relation, is_name, scan, id_step, FragmentFits, balance_step, hints_text, HintsFit, Members, no_members, member, members_text, SetsOffField, SetsOffCase, FieldsFit, CasesFit, Iterations, iterations_text, closings, has_closed, IterationsFit, CondFits, OpensRound, Premises, premises_text, PremisesFit, args, args_text, ArgsFit, defs_text, DefsFit}

@@ -7,8 +7,14 @@ use Rattle.st_scan.specs.declared.word.Word.TheVariants as word
 use Rattle.st_scan.specs.declared.token.Token.{Token}
 use Rattle.st_scan.specs.declared.token.TokenKind.{TokenKind}
 use Rattle.st_scan.specs.declared.token.TokenKind.TheVariants as kind
-use Rattle.st_grammar.specs.Lexemes.{low, function, Bracket, round, brace, by_round, by_brace, by_bar, Lexeme, leaf, dot, sign, opening, closing, other, lexeme}
-use Rattle.st_grammar.specs.Levels.{Sort, expression, notation, typ, count, is_mark, is_caret, is_comma, is_colon}
+use Rattle.st_grammar.specs.declared.sort.Leaf.TheVariants.{Low as low, Function as function}
+use Rattle.st_grammar.specs.declared.sort.Bracket.{Bracket}
+use Rattle.st_grammar.specs.declared.sort.Bracket.TheVariants.{Round as round, Brace as brace}
+use Rattle.st_grammar.specs.declared.sort.Closing.TheVariants.{ByRound as by_round, ByBrace as by_brace, ByBar as by_bar}
+use Rattle.st_grammar.specs.declared.sort.Sort.{Sort}
+use Rattle.st_grammar.specs.declared.sort.Sort.TheVariants.{Expression as expression, Notation as notation, Typ as typ, Count as count}
+use Rattle.st_grammar.specs.Lexemes.{Lexeme, leaf, dot, sign, opening, closing, other, lexeme}
+use Rattle.st_grammar.specs.Levels.{is_mark, is_caret, is_comma, is_colon}
 use Rattle.st_grammar.specs.Trees.{Tree, Trees, closed_by, agree, text, texts}
 use Rattle.st_grammar.specs.Grammar.{parts, is_label, Fits, EachFits}
 

@@ -2,21 +2,14 @@
 use Rattle.std.specs.Prelude.{ℕ, ◌+◌, Bool, true, false, ◌&&◌, ◌||◌, ◌==◌, nat_le, if◌then◌else◌}
 use Rattle.st_num.specs.declared.mark.Mark.{Mark}
 use Rattle.st_num.specs.declared.mark.Mark.TheVariants as mark
-use Rattle.st_grammar.specs.Lexemes.{Leaf, low, basic, atom, number, literal, function, Bracket, round, square, tick_round, tick_square, tick_brace, dollar}
+use Rattle.st_grammar.specs.declared.sort.Leaf.{Leaf}
+use Rattle.st_grammar.specs.declared.sort.Leaf.TheVariants.{Low as low, Basic as basic, Atom as atom, Number as number, Literal as literal, Function as function}
+use Rattle.st_grammar.specs.declared.sort.Bracket.{Bracket}
+use Rattle.st_grammar.specs.declared.sort.Bracket.TheVariants.{Round as round, Square as square, TickRound as tick_round, TickSquare as tick_square, TickBrace as tick_brace, Dollar as dollar}
+use Rattle.st_grammar.specs.declared.sort.Sort.{Sort}
+use Rattle.st_grammar.specs.declared.sort.Sort.TheVariants.{Expression as expression, Arithmetic as arithmetic, Notation as notation, Typ as typ, Count as count, Bound as bound}
 
 -- ---- sorts
-
-pub data Sort : Type 0 where
-  -- an expression, and whether it stands directly between the bars of a length
-  expression : Bool → Sort
-  -- what stands in `$( )`
-  arithmetic : Sort
-  notation : Sort
-  typ : Sort
-  -- what stands behind `^`
-  count : Sort
-  -- what stands behind `<` in a count
-  bound : Sort
 
 -- the operands of one token
 abbrev pub takes : Sort → Leaf → Bool

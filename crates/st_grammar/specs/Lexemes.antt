@@ -9,39 +9,12 @@ use Rattle.st_scan.specs.declared.word.Word.TheVariants as word
 use Rattle.st_scan.specs.declared.token.Token.{Token}
 use Rattle.st_scan.specs.declared.token.TokenKind.{TokenKind}
 use Rattle.st_scan.specs.declared.token.TokenKind.TheVariants as kind
-
--- what a token is that can stand alone as a part
-pub data Leaf : Type 0 where
-  -- a name that begins with a lower-case letter
-  low : Leaf
-  -- one of `bool`, `nat`, `int`, `text`
-  basic : Leaf
-  -- a name without a lower-case letter that stands for a variable
-  variable : Leaf
-  -- another name without a lower-case letter
-  atom : Leaf
-  number : Leaf
-  -- a text, `true`, `false` or `eps`
-  literal : Leaf
-  -- a name right behind a dollar sign
-  function : Leaf
-
--- what opens: `(`, `[`, `{`, the three behind a backquote, and `$(`
-pub data Bracket : Type 0 where
-  round : Bracket
-  square : Bracket
-  brace : Bracket
-  tick_round : Bracket
-  tick_square : Bracket
-  tick_brace : Bracket
-  dollar : Bracket
-
--- what closes: `)`, `]`, `}`, and the bar, which opens a length too
-pub data Closing : Type 0 where
-  by_round : Closing
-  by_square : Closing
-  by_brace : Closing
-  by_bar : Closing
+use Rattle.st_grammar.specs.declared.sort.Leaf.{Leaf}
+use Rattle.st_grammar.specs.declared.sort.Leaf.TheVariants.{Low as low, Basic as basic, Variable as variable, Atom as atom, Number as number, Literal as literal, Function as function}
+use Rattle.st_grammar.specs.declared.sort.Bracket.{Bracket}
+use Rattle.st_grammar.specs.declared.sort.Bracket.TheVariants.{Round as round, Square as square, Brace as brace, TickRound as tick_round, TickSquare as tick_square, TickBrace as tick_brace, Dollar as dollar}
+use Rattle.st_grammar.specs.declared.sort.Closing.{Closing}
+use Rattle.st_grammar.specs.declared.sort.Closing.TheVariants.{ByRound as by_round, BySquare as by_square, ByBrace as by_brace, ByBar as by_bar}
 
 -- a token with what it can be
 pub data Lexeme : Type 0 where

@@ -1,7 +1,12 @@
 -- How the tokens of definitions are read: the places between tokens, and the parts that are read in them.
 use Rattle.std.specs.Prelude.{List, [], ◌∷◌, ◌++◌, length, Bool, true, false, not, ◌&&◌, ◌||◌, ◌==◌, Option, Some, None, option_and_then, if◌then◌else◌}
-use Rattle.st_grammar.specs.Lexemes.{low, basic, Bracket, round, Lexeme, sign}
-use Rattle.st_grammar.specs.Levels.{Sort, expression, notation, typ, count, is_mark, is_type_mark, is_caret, is_comma, is_colon}
+use Rattle.st_grammar.specs.declared.sort.Leaf.TheVariants.{Low as low, Basic as basic}
+use Rattle.st_grammar.specs.declared.sort.Bracket.{Bracket}
+use Rattle.st_grammar.specs.declared.sort.Bracket.TheVariants.{Round as round}
+use Rattle.st_grammar.specs.declared.sort.Sort.{Sort}
+use Rattle.st_grammar.specs.declared.sort.Sort.TheVariants.{Expression as expression, Notation as notation, Typ as typ, Count as count}
+use Rattle.st_grammar.specs.Lexemes.{Lexeme, sign}
+use Rattle.st_grammar.specs.Levels.{is_mark, is_type_mark, is_caret, is_comma, is_colon}
 use Rattle.st_grammar.specs.Trees.{Tree, operand, post, times, bracket, led, Trees, none, more, plain}
 use Rattle.st_grammar.specs.Grammar.{is_label}
 use Rattle.st_grammar.specs.Reading as part

@@ -2,8 +2,15 @@
 use Rattle.std.specs.Prelude.{ℕ, List, [], ◌∷◌, ◌++◌, ◌&&◌, Option, Some, None, option_and_then, nat_le, if◌then◌else◌}
 use Rattle.st_num.specs.declared.mark.Mark.{Mark}
 use Rattle.st_scan.specs.declared.token.Token.{Token}
-use Rattle.st_grammar.specs.Lexemes.{low, function, Bracket, round, square, brace, Closing, by_round, by_bar, Lexeme, leaf, dot, sign, opening, closing, other}
-use Rattle.st_grammar.specs.Levels.{Sort, count, takes, encloses, computes, is_expression, is_count, level_of, ahead_level, has_level, left_of, right_of, ahead_right, is_caret, is_comma, is_colon, is_less, is_change}
+use Rattle.st_grammar.specs.declared.sort.Leaf.TheVariants.{Low as low, Function as function}
+use Rattle.st_grammar.specs.declared.sort.Bracket.{Bracket}
+use Rattle.st_grammar.specs.declared.sort.Bracket.TheVariants.{Round as round, Square as square, Brace as brace}
+use Rattle.st_grammar.specs.declared.sort.Closing.{Closing}
+use Rattle.st_grammar.specs.declared.sort.Closing.TheVariants.{ByRound as by_round, ByBar as by_bar}
+use Rattle.st_grammar.specs.declared.sort.Sort.{Sort}
+use Rattle.st_grammar.specs.declared.sort.Sort.TheVariants.{Count as count}
+use Rattle.st_grammar.specs.Lexemes.{Lexeme, leaf, dot, sign, opening, closing, other}
+use Rattle.st_grammar.specs.Levels.{takes, encloses, computes, is_expression, is_count, level_of, ahead_level, has_level, left_of, right_of, ahead_right, is_caret, is_comma, is_colon, is_less, is_change}
 use Rattle.st_grammar.specs.Trees.{Tree, operand, post, times, bracket, led, Lead, left, ahead, items, Trees, none, more, Heading, plain, length, arguments, index, segment, update, below, Path, head, field, part, closes, agree}
 use Rattle.st_grammar.specs.Grammar.{Style, parts, fields, ends, style, sort_in, least_in, is_label, follows, may_post, level, wanted, has_step}
 

@@ -2,7 +2,13 @@
 use Rattle.std.specs.Prelude.{List, [], ◌∷◌, ◌++◌, Bool, true, false}
 use Rattle.st_num.specs.declared.mark.Mark.{Mark}
 use Rattle.st_scan.specs.declared.token.Token.{Token}
-use Rattle.st_grammar.specs.Lexemes.{Leaf, low, function, Bracket, round, square, brace, tick_round, tick_square, tick_brace, dollar, Closing, by_round, by_square, by_brace, by_bar, Lexeme, leaf, dot, sign, opening, closing}
+use Rattle.st_grammar.specs.declared.sort.Leaf.{Leaf}
+use Rattle.st_grammar.specs.declared.sort.Leaf.TheVariants.{Low as low, Function as function}
+use Rattle.st_grammar.specs.declared.sort.Bracket.{Bracket}
+use Rattle.st_grammar.specs.declared.sort.Bracket.TheVariants.{Round as round, Square as square, Brace as brace, TickRound as tick_round, TickSquare as tick_square, TickBrace as tick_brace, Dollar as dollar}
+use Rattle.st_grammar.specs.declared.sort.Closing.{Closing}
+use Rattle.st_grammar.specs.declared.sort.Closing.TheVariants.{ByRound as by_round, BySquare as by_square, ByBrace as by_brace, ByBar as by_bar}
+use Rattle.st_grammar.specs.Lexemes.{Lexeme, leaf, dot, sign, opening, closing}
 
 mutual
   pub data Tree : Type 0 where

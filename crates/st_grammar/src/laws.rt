@@ -2,7 +2,7 @@
 
 ghost use Rattle.std.specs.Prelude.{◌≡◌, List, ℕ, Some, None};
 ghost use Rattle.st_grammar.specs.Lexemes.{Lexeme};
-ghost use Rattle.st_grammar.specs.Levels.{Sort};
+ghost use Rattle.st_grammar.specs.declared.sort.Sort.{Sort};
 ghost use Rattle.st_grammar.specs.Trees.{Tree};
 ghost use Rattle.st_grammar.specs.Grammar.{Parse, Viable};
 ghost use Rattle.st_grammar.specs.Definitions.{Defs, ParseDefs, ViableDefs};

@@ -8,5 +8,7 @@
 #![tactic(auto)]
 
 mod laws;
+mod sort;
 
 pub use laws::{definitions_are_read, one_list, one_tree, parts_are_read};
+pub use sort::{Bracket, Closing, Leaf, Sort};
