@@ -3,6 +3,8 @@ use Rattle.std.proofs.Common.{◌≡◌, ℕ, ◌≤◌, ◌<◌, List, [], ◌�
 use Rattle.st_num.specs.declared.mark.Mark.{Mark}
 use Rattle.st_num.specs.declared.mark.Mark.TheVariants as mark
 use Rattle.st_scan.specs.declared.token.Token.{Token}
+use Rattle.st_grammar.specs.declared.sort.Style.{Style}
+use Rattle.st_grammar.specs.declared.sort.Style.TheVariants.{Lone as lone, Parts as parts, Fields as fields, Ends as ends, Run as run}
 use Rattle.st_grammar.specs.declared.sort.Bracket.{Bracket}
 use Rattle.st_grammar.specs.declared.sort.Bracket.TheVariants.{Round as round, Square as square, Brace as brace, TickRound as tick_round, TickSquare as tick_square, TickBrace as tick_brace, Dollar as dollar}
 use Rattle.st_grammar.specs.declared.sort.Closing.{Closing}
@@ -12,7 +14,7 @@ use Rattle.st_grammar.specs.declared.sort.Sort.TheVariants.{Expression as expres
 use Rattle.st_grammar.specs.Lexemes.{Lexeme, leaf, dot, sign, opening, closing, other}
 use Rattle.st_grammar.specs.Levels.{encloses, computes, is_expression, is_count, juxtaposes, level_of, ahead_level, tight, has_level, left_of, is_mark, is_caret, is_comma, is_colon}
 use Rattle.st_grammar.specs.Trees.{Tree, operand, post, times, bracket, led, Lead, left, ahead, items, Trees, none, more, Heading, plain, length, arguments, index, segment, update, below, Path, head, field, part, closes, text, lead_text, texts, heading_text, path_text, agree}
-use Rattle.st_grammar.specs.Grammar.{Style, lone, parts, fields, ends, run, style, opens_length, sort_in, least_in, is_label, SetsOff, IsFilled, size, follows, may_post, lead_level, wanted, level, is_operand, Fits, LeadFits, EachFits, HeadingFits, PathFits}
+use Rattle.st_grammar.specs.Grammar.{style, opens_length, sort_in, least_in, is_label, SetsOff, IsFilled, size, follows, may_post, lead_level, wanted, level, is_operand, Fits, LeadFits, EachFits, HeadingFits, PathFits}
 use Rattle.st_grammar.specs.Reading.{Frames, bottom, within, over, timing, State, want, got, naming, sort, least, settle, reach, lower, shut, close, ended, begin, extend, separate, join, pull, after, finish, reading, reads}
 use Rattle.st_grammar.proofs.LevelLemmas.{level_low, ahead_low, ahead_below, right_low, level_after, level_before, has_low, ahead_after, may_mark, comma_is, colon_is, caret_is, joins_no_mark, no_post, no_caret}
 

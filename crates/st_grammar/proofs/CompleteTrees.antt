@@ -2,6 +2,8 @@
 use Rattle.std.proofs.Common.{◌≡◌, ℕ, ◌≤◌, List, [], ◌∷◌, ◌++◌, Bool, true, false, not, ◌&&◌, Some, None, nat_le, if◌then◌else◌, refl, sym, ap, subst, ◌∙◌, append_assoc, append-nil, arith}
 use Rattle.st_num.specs.declared.mark.Mark.{Mark}
 use Rattle.st_scan.specs.declared.token.Token.{Token}
+use Rattle.st_grammar.specs.declared.sort.Style.{Style}
+use Rattle.st_grammar.specs.declared.sort.Style.TheVariants.{Lone as lone, Parts as parts, Fields as fields, Ends as ends, Run as run}
 use Rattle.st_grammar.specs.declared.sort.Leaf.TheVariants.{Low as low, Function as function}
 use Rattle.st_grammar.specs.declared.sort.Bracket.{Bracket}
 use Rattle.st_grammar.specs.declared.sort.Bracket.TheVariants.{Round as round, Square as square, Brace as brace, TickRound as tick_round, TickSquare as tick_square, TickBrace as tick_brace, Dollar as dollar}
@@ -11,7 +13,7 @@ use Rattle.st_grammar.specs.declared.sort.Sort.TheVariants.{Expression as expres
 use Rattle.st_grammar.specs.Lexemes.{Lexeme, leaf, dot, sign, opening, closing, other}
 use Rattle.st_grammar.specs.Levels.{takes, encloses, computes, is_expression, is_count, juxtaposes, level_of, tight, has_level, left_of, is_comma, is_colon, is_less, is_change}
 use Rattle.st_grammar.specs.Trees.{Tree, operand, post, times, bracket, led, Lead, left, ahead, items, Trees, none, more, Heading, plain, length, arguments, index, segment, update, below, Path, head, field, part, closes, text, lead_text, texts, heading_text, path_text}
-use Rattle.st_grammar.specs.Grammar.{Style, lone, parts, fields, ends, run, bracket_style, index_style, style, sort_in, least_in, SetsOff, IsFilled, size, text_follows, FollowsAll, lead_level, wanted, level, is_operand, has_step, MayEnd, Fits, LeadFits, EachFits, HeadingFits, PathFits, Parse}
+use Rattle.st_grammar.specs.Grammar.{bracket_style, index_style, style, sort_in, least_in, SetsOff, IsFilled, size, text_follows, FollowsAll, lead_level, wanted, level, is_operand, has_step, MayEnd, Fits, LeadFits, EachFits, HeadingFits, PathFits, Parse}
 use Rattle.st_grammar.specs.Reading.{Frames, bottom, within, over, timing, State, want, got, naming, pathed, indexing, sort, least, settle, reach, begin, extend, next_part, pull, behind, after, in_index, reads, start}
 use Rattle.st_grammar.proofs.LevelLemmas.{may_mark, colon_is, joins_no_mark, and_false}
 use Rattle.st_grammar.proofs.Complete.{edge, Ends, grip, reach_wanted, level_pos, level_edge, Ends-more, Ends-tight, left_ends, reads_by, reads_settled, post_no_count, expression_no_count, lead_no_count, juxtaposes_no_count, computes_no_count, not_above, sign_joins, over_read, read_post, both_true, read_caret, read_join, read_ahead, starts_text, starts_parts, entry, part_state, comma_mark, comma_level, ends_style, no_run, least_pos, set_off_ends, closer_grip, read_close, shut_operand}

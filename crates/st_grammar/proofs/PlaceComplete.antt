@@ -2,6 +2,9 @@
 use Rattle.std.proofs.Common.{◌≡◌, ℕ, List, [], ◌∷◌, ◌++◌, map, Bool, true, false, ◌&&◌, ◌||◌, Option, Some, None, option_and_then, if◌then◌else◌, refl, sym, ap, subst, ◌∙◌, append_assoc, append-nil}
 use Rattle.st_num.specs.declared.mark.Mark.{Mark}
 use Rattle.st_scan.specs.declared.token.Token.{Token}
+use Rattle.st_grammar.specs.declared.sort.Style.TheVariants.{Parts as parts}
+use Rattle.st_grammar.specs.declared.keyword.Keyword.{Keyword}
+use Rattle.st_grammar.specs.declared.keyword.Keyword.TheVariants.{SyntaxWord as syntax_word, RelationWord as relation_word, RuleWord as rule_word, VarWord as var_word, DefWord as def_word, HintWord as hint_word}
 use Rattle.st_grammar.specs.declared.sort.Leaf.TheVariants.{Low as low, Basic as basic, Variable as variable, Atom as atom, Number as number, Literal as literal, Function as function}
 use Rattle.st_grammar.specs.declared.sort.Bracket.TheVariants.{Round as round, Square as square, Brace as brace, TickRound as tick_round, TickSquare as tick_square, TickBrace as tick_brace, Dollar as dollar}
 use Rattle.st_grammar.specs.declared.sort.Sort.{Sort}
@@ -9,8 +12,8 @@ use Rattle.st_grammar.specs.declared.sort.Sort.TheVariants.{Expression as expres
 use Rattle.st_grammar.specs.Lexemes.{Lexeme, leaf, dot, sign, opening, closing, other}
 use Rattle.st_grammar.specs.Levels.{is_mark, is_type_mark, is_colon, is_comma}
 use Rattle.st_grammar.specs.Trees.{Tree, operand, post, times, bracket, led, Trees, none, more, plain, length as bars, arguments, index, segment, update, below, text, texts}
-use Rattle.st_grammar.specs.Grammar.{parts, is_label, SetsOff, Fits, EachFits}
-use Rattle.st_grammar.specs.Definitions.{Keyword, syntax_word, relation_word, rule_word, var_word, def_word, hint_word, keyword, signed, is_equal, is_bar, closes_round, closes_brace, is_low, is_fun, names_relation, scan, id_step, FragmentFits, Hint, hint, hint_text, Hints, no_hints, more_hints, hints_text, HintsFit, Members, no_members, member, members_text, SetsOffField, SetsOffCase, FieldsFit, CasesFit, has_member, Body, fields, cases, body_text, BodyFits, premises_text, Args, no_args, args, args_text, ArgsFit, Def, syntax_def, var_def, relation_def, rule_def, fun_def, clause_def, def_text, DefFits, Defs, no_defs, more_defs, defs_text, DefsFit, ParseDefs}
+use Rattle.st_grammar.specs.Grammar.{is_label, SetsOff, Fits, EachFits}
+use Rattle.st_grammar.specs.Definitions.{keyword, signed, is_equal, is_bar, closes_round, closes_brace, is_low, is_fun, names_relation, scan, id_step, FragmentFits, Hint, hint, hint_text, Hints, no_hints, more_hints, hints_text, HintsFit, Members, no_members, member, members_text, SetsOffField, SetsOffCase, FieldsFit, CasesFit, has_member, Body, fields, cases, body_text, BodyFits, premises_text, Args, no_args, args, args_text, ArgsFit, Def, syntax_def, var_def, relation_def, rule_def, fun_def, clause_def, def_text, DefFits, Defs, no_defs, more_defs, defs_text, DefsFit, ParseDefs}
 use Rattle.st_grammar.specs.Places.{Head, syntax_head, rule_head, clause_head, of_syntax, of_field, of_case, of_var, of_relation, of_notation, of_fun, field_slot, case_slot, var_slot, notation_slot, fun_slot, arg_slot, rule_slot, Place, between, syntax_name, var_name, var_colon, relation_name, rule_name, rule_colon, fun_name, fun_named, argued, args_closed, syntax_id, rule_id, hinted, entering, dotted, field_name, State, at, syntax_whole, begin_def, begun, when, hint_or, id_goes, colon_step, reads_type, reads_types, result_step, own, first_of_two, step, finish, reading, reads, start}
 use Rattle.std.proofs.Common.{◌⊎◌, inl, inr}
 use Rattle.st_num.specs.declared.mark.Mark.TheVariants as mark

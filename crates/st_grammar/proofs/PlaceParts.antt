@@ -2,6 +2,8 @@
 use Rattle.std.proofs.Common.{◌≡◌, ℕ, List, [], ◌∷◌, ◌++◌, Bool, true, false, Option, Some, None, option_and_then, if◌then◌else◌, refl, sym, ap, subst, ◌∙◌, arith}
 use Rattle.st_num.specs.declared.mark.Mark.{Mark}
 use Rattle.st_scan.specs.declared.token.Token.{Token}
+use Rattle.st_grammar.specs.declared.keyword.Keyword.{Keyword}
+use Rattle.st_grammar.specs.declared.keyword.Keyword.TheVariants.{Dashes as dashes, NoWord as no_word}
 use Rattle.st_grammar.specs.declared.sort.Bracket.TheVariants.{Round as round, Square as square, Brace as brace, TickRound as tick_round, TickSquare as tick_square, TickBrace as tick_brace, Dollar as dollar}
 use Rattle.st_grammar.specs.declared.sort.Closing.{Closing}
 use Rattle.st_grammar.specs.declared.sort.Closing.TheVariants.{ByRound as by_round, BySquare as by_square, ByBrace as by_brace, ByBar as by_bar}
@@ -11,7 +13,7 @@ use Rattle.st_grammar.specs.Levels.{is_caret, is_colon, is_comma}
 use Rattle.st_grammar.specs.Trees.{Tree, led, text}
 use Rattle.st_grammar.specs.Grammar.{Fits, level}
 use Rattle.st_grammar.specs.Reading as part
-use Rattle.st_grammar.specs.Definitions.{Keyword, dashes, no_word, keyword, signed, is_slash, is_equal, is_dots, is_bar, opens_round, closes_round, opens_brace, closes_brace}
+use Rattle.st_grammar.specs.Definitions.{keyword, signed, is_slash, is_equal, is_dots, is_bar, opens_round, closes_round, opens_brace, closes_brace}
 use Rattle.st_grammar.specs.Places.{Slot, slot_sort, Place, entering, State, at, inside, whole, begin_def, begun, when, enter, enter_other, own, first_of_two, place_step, filled, taken, finish, reading, reads}
 use Rattle.st_grammar.proofs.Sound as sound
 use Rattle.st_grammar.proofs.Sound.{and_left, and_right}

@@ -2,6 +2,8 @@
 use Rattle.std.proofs.Common.{◌≡◌, ◌≤◌, List, [], ◌∷◌, ◌++◌, length, Bool, true, false, not, ◌&&◌, ◌==◌, Option, Some, None, option_and_then, if◌then◌else◌, refl, sym, ap, subst, ◌∙◌, append_assoc, append-nil, arith}
 use Rattle.std.specs.List.{AllByRecursion}
 use Rattle.st_scan.specs.declared.token.Token.{Token}
+use Rattle.st_grammar.specs.declared.keyword.Keyword.{Keyword}
+use Rattle.st_grammar.specs.declared.keyword.Keyword.TheVariants.{SyntaxWord as syntax_word, RelationWord as relation_word, RuleWord as rule_word, VarWord as var_word, DefWord as def_word, HintWord as hint_word, IfWord as if_word, OtherwiseWord as otherwise_word, Dashes as dashes, NoWord as no_word}
 use Rattle.st_grammar.specs.declared.sort.Bracket.{Bracket}
 use Rattle.st_grammar.specs.declared.sort.Closing.TheVariants.{ByRound as by_round}
 use Rattle.st_grammar.specs.declared.sort.Sort.{Sort}
@@ -10,7 +12,7 @@ use Rattle.st_grammar.specs.Lexemes.{Lexeme, leaf, dot, sign, opening, closing, 
 use Rattle.st_grammar.specs.Levels.{is_mark, is_caret, is_colon}
 use Rattle.st_grammar.specs.Trees.{Tree, text}
 use Rattle.st_grammar.specs.Grammar.{Fits}
-use Rattle.st_grammar.specs.Definitions.{Keyword, syntax_word, relation_word, rule_word, var_word, def_word, hint_word, if_word, otherwise_word, dashes, no_word, keyword, signed, opens_round, names_relation, is_name, scan, balance_step, Hint, hint, hint_text, Hints, no_hints, more_hints, hints_text, HintsFit, Iterations, no_iterations, closed, marked, counted, iterations_text, closings, has_closed, wants_mark, IterationsFit, CondFits, Premise, default, given, premise_text, OpensRound, Premises, no_premises, more_premises, premises_text, PremisesFit, Defs}
+use Rattle.st_grammar.specs.Definitions.{keyword, signed, opens_round, names_relation, is_name, scan, balance_step, Hint, hint, hint_text, Hints, no_hints, more_hints, hints_text, HintsFit, Iterations, no_iterations, closed, marked, counted, iterations_text, closings, has_closed, wants_mark, IterationsFit, CondFits, Premise, default, given, premise_text, OpensRound, Premises, no_premises, more_premises, premises_text, PremisesFit, Defs}
 use Rattle.st_grammar.specs.Places.{Rule, Host, Slot, rule_slot, cond_slot, count_slot, slot_sort, Place, between, hinted, hint_open, hint_name, hint_words, premised, premise_open, goal_colon, iterated, at, rule_whole, is_whole, whole, begin_def, begun, when, host_step, hint_or, hint_step, premise_word, next_premise, own, first_of_two, filled, finish, reading, reads}
 use Rattle.st_num.specs.declared.mark.Mark.TheVariants as mark
 use Rattle.st_grammar.specs.Definitions.{mark_keyword, HintFits, PremiseFits}

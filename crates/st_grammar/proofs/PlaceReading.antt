@@ -1,11 +1,13 @@
 -- What is read of definitions is in the grammar.
 use Rattle.std.proofs.Common.{◌≡◌, List, [], ◌∷◌, ◌++◌, Bool, true, false, ◌&&◌, ◌||◌, Option, Some, None, option_and_then, refl, sym, ap, subst, ◌∙◌, append_assoc, append-nil}
+use Rattle.st_grammar.specs.declared.keyword.Keyword.{Keyword}
+use Rattle.st_grammar.specs.declared.keyword.Keyword.TheVariants.{SyntaxWord as syntax_word, RelationWord as relation_word, RuleWord as rule_word, VarWord as var_word, DefWord as def_word, HintWord as hint_word, IfWord as if_word, OtherwiseWord as otherwise_word, Dashes as dashes, NoWord as no_word}
 use Rattle.st_grammar.specs.Lexemes.{Lexeme}
 use Rattle.st_grammar.specs.Levels.{is_colon, is_comma}
 use Rattle.st_grammar.specs.Trees.{Tree, none, more}
 use Rattle.st_grammar.specs.Grammar.{is_label, Parse}
 use Rattle.st_grammar.specs.Reading as part
-use Rattle.st_grammar.specs.Definitions.{Keyword, syntax_word, relation_word, rule_word, var_word, def_word, hint_word, if_word, otherwise_word, dashes, no_word, keyword, touches, signed, is_slash, is_bar, opens_round, closes_round, is_low, is_fun, names_relation, is_name, id_step, no_hints, no_members, no_args, args, Defs, defs_text, ParseDefs}
+use Rattle.st_grammar.specs.Definitions.{keyword, touches, signed, is_slash, is_bar, opens_round, closes_round, is_low, is_fun, names_relation, is_name, id_step, no_hints, no_members, no_args, args, Defs, defs_text, ParseDefs}
 use Rattle.st_grammar.specs.Places.{of_syntax, of_relation, Slot, case_slot, var_slot, arg_slot, cond_slot, slot_sort, Place, between, syntax_name, var_name, var_colon, relation_name, rule_name, rule_colon, fun_name, fun_named, argued, args_closed, syntax_id, rule_id, hinted, hint_open, hint_name, hint_words, entering, dotted, field_name, premised, premise_open, goal_colon, iterated, State, at, inside, whole, begin_def, begun, when, hint_or, id_goes, colon_step, reads_types, result_step, own, first_of_two, place_step, filled, taken, step, finish, reading, start}
 use Rattle.st_grammar.proofs.Sound as sound
 use Rattle.st_grammar.proofs.Sound.{and_left, and_right}

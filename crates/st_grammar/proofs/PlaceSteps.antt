@@ -3,6 +3,9 @@ use Rattle.std.proofs.Common.{◌≡◌, ℕ, ◌+◌, ◌≤◌, List, [], ◌�
 use Rattle.std.specs.List.{AllByRecursion}
 use Rattle.st_num.specs.declared.mark.Mark.{Mark}
 use Rattle.st_scan.specs.declared.token.Token.{Token}
+use Rattle.st_grammar.specs.declared.sort.Style.TheVariants.{Parts as parts}
+use Rattle.st_grammar.specs.declared.keyword.Keyword.{Keyword}
+use Rattle.st_grammar.specs.declared.keyword.Keyword.TheVariants.{SyntaxWord as syntax_word, RelationWord as relation_word, RuleWord as rule_word, VarWord as var_word, DefWord as def_word, HintWord as hint_word, IfWord as if_word, OtherwiseWord as otherwise_word, Dashes as dashes, NoWord as no_word}
 use Rattle.st_grammar.specs.declared.sort.Leaf.TheVariants.{Low as low, Basic as basic, Variable as variable, Atom as atom, Number as number, Literal as literal, Function as function}
 use Rattle.st_grammar.specs.declared.sort.Bracket.{Bracket}
 use Rattle.st_grammar.specs.declared.sort.Bracket.TheVariants.{Round as round, Square as square, Brace as brace, TickRound as tick_round, TickSquare as tick_square, TickBrace as tick_brace, Dollar as dollar}
@@ -10,9 +13,9 @@ use Rattle.st_grammar.specs.declared.sort.Sort.TheVariants.{Expression as expres
 use Rattle.st_grammar.specs.Lexemes.{Lexeme, leaf, dot, sign, opening, closing, other}
 use Rattle.st_grammar.specs.Levels.{is_mark, is_type_mark, is_caret, is_colon, is_comma}
 use Rattle.st_grammar.specs.Trees.{Tree, operand, post, times, bracket, led, Trees, none, more, plain, length as bars, arguments, index, segment, update, below, text}
-use Rattle.st_grammar.specs.Grammar.{parts, is_label, SetsOff, Fits, EachFits}
+use Rattle.st_grammar.specs.Grammar.{is_label, SetsOff, Fits, EachFits}
 use Rattle.st_grammar.specs.Reading as part
-use Rattle.st_grammar.specs.Definitions.{Keyword, syntax_word, relation_word, rule_word, var_word, def_word, hint_word, if_word, otherwise_word, dashes, no_word, keyword, signed, is_slash, is_equal, is_dots, is_bar, opens_round, closes_round, opens_brace, closes_brace, is_fun, names_relation, scan, id_step, FragmentFits, balance_step, hint, Hints, no_hints, more_hints, hints_text, HintsFit, Members, no_members, member, members_text, FieldsFit, Body, fields, cases, body_text, BodyFits, Iterations, closed, marked, closings, has_closed, wants_mark, Premise, default, given, premise_text, OpensRound, Premises, more_premises, premises_text, PremisesFit, Args, args_text, ArgsFit, syntax_def, rule_def, clause_def, Defs, more_defs, defs_text, DefsFit, ParseDefs}
+use Rattle.st_grammar.specs.Definitions.{keyword, signed, is_slash, is_equal, is_dots, is_bar, opens_round, closes_round, opens_brace, closes_brace, is_fun, names_relation, scan, id_step, FragmentFits, balance_step, hint, Hints, no_hints, more_hints, hints_text, HintsFit, Members, no_members, member, members_text, FieldsFit, Body, fields, cases, body_text, BodyFits, Iterations, closed, marked, closings, has_closed, wants_mark, Premise, default, given, premise_text, OpensRound, Premises, more_premises, premises_text, PremisesFit, Args, args_text, ArgsFit, syntax_def, rule_def, clause_def, Defs, more_defs, defs_text, DefsFit, ParseDefs}
 use Rattle.st_grammar.specs.Places.{Head, syntax_head, Rule, rule_head, clause_head, Host, of_syntax, of_field, of_case, of_var, of_relation, of_notation, of_fun, Slot, field_slot, case_slot, var_slot, notation_slot, fun_slot, arg_slot, rule_slot, cond_slot, count_slot, slot_sort, Place, between, syntax_name, var_name, var_colon, relation_name, rule_name, rule_colon, fun_name, fun_named, argued, args_closed, syntax_id, rule_id, hinted, hint_open, hint_name, hint_words, entering, dotted, field_name, premised, premise_open, goal_colon, iterated, State, at, inside, syntax_whole, rule_whole, host_whole, is_whole, whole, begun, when, enter, enter_case, enter_other, field_step, host_step, hint_or, hint_step, colon_step, reads_type, reads_types, result_step, premise_step, premise_word, next_premise, may_close, iterate}
 use Rattle.st_grammar.proofs.Sound as sound
 use Rattle.st_grammar.proofs.Sound.{and_left, and_right}

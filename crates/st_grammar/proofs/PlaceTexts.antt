@@ -1,12 +1,14 @@
 -- The tokens that led to a place of a definition, and what holds of what they led to.
 use Rattle.std.proofs.Common.{◌≡◌, ◌≤◌, List, [], ◌∷◌, ◌++◌, length, Bool, true, false, ◌||◌, Option, Some, None, append_assoc, append-nil, arith}
 use Rattle.std.specs.List.{AllByRecursion}
+use Rattle.st_grammar.specs.declared.sort.Style.TheVariants.{Parts as parts}
+use Rattle.st_grammar.specs.declared.keyword.Keyword.TheVariants.{SyntaxWord as syntax_word, RelationWord as relation_word, RuleWord as rule_word, VarWord as var_word, DefWord as def_word, HintWord as hint_word, Dashes as dashes}
 use Rattle.st_grammar.specs.declared.sort.Sort.TheVariants.{Expression as expression, Notation as notation, Typ as typ}
 use Rattle.st_grammar.specs.Lexemes.{Lexeme}
 use Rattle.st_grammar.specs.Levels.{is_caret, is_colon, is_comma}
 use Rattle.st_grammar.specs.Trees.{Tree, none, more, text, texts}
-use Rattle.st_grammar.specs.Grammar.{parts, is_label, SetsOff, Fits, EachFits}
-use Rattle.st_grammar.specs.Definitions.{syntax_word, relation_word, rule_word, var_word, def_word, hint_word, dashes, keyword, touches, signed, is_slash, is_equal, is_dots, opens_round, opens_brace, is_low, is_fun, names_relation, is_name, scan, id_step, FragmentFits, balance_step, hints_text, HintsFit, Members, no_members, member, members_text, SetsOffField, SetsOffCase, FieldsFit, CasesFit, Iterations, iterations_text, closings, has_closed, IterationsFit, CondFits, OpensRound, Premises, premises_text, PremisesFit, args, args_text, ArgsFit, defs_text, DefsFit}
+use Rattle.st_grammar.specs.Grammar.{is_label, SetsOff, Fits, EachFits}
+use Rattle.st_grammar.specs.Definitions.{keyword, touches, signed, is_slash, is_equal, is_dots, opens_round, opens_brace, is_low, is_fun, names_relation, is_name, scan, id_step, FragmentFits, balance_step, hints_text, HintsFit, Members, no_members, member, members_text, SetsOffField, SetsOffCase, FieldsFit, CasesFit, Iterations, iterations_text, closings, has_closed, IterationsFit, CondFits, OpensRound, Premises, premises_text, PremisesFit, args, args_text, ArgsFit, defs_text, DefsFit}
 use Rattle.st_grammar.specs.Places.{Head, syntax_head, Rule, rule_head, clause_head, Host, of_syntax, of_field, of_case, of_var, of_relation, of_notation, of_fun, Slot, field_slot, case_slot, var_slot, notation_slot, fun_slot, arg_slot, rule_slot, cond_slot, count_slot, slot_sort, Place, between, syntax_name, var_name, var_colon, relation_name, rule_name, rule_colon, fun_name, fun_named, argued, args_closed, syntax_id, rule_id, hinted, hint_open, hint_name, hint_words, entering, dotted, field_name, premised, premise_open, goal_colon, iterated, State, at, inside, filled}
 use Rattle.st_grammar.proofs.Complete.{level_pos}
 use Rattle.st_grammar.proofs.Sound as sound

@@ -2,6 +2,8 @@
 use Rattle.std.proofs.Common.{◌≡◌, ℕ, ◌≤◌, List, [], ◌∷◌, ◌++◌, Bool, true, false, ◌&&◌, Option, Some, None, nat_le, if◌then◌else◌, refl, sym, ap, subst, ◌∙◌, append_assoc, append-nil, arith}
 use Rattle.st_num.specs.declared.mark.Mark.{Mark}
 use Rattle.st_scan.specs.declared.token.Token.{Token}
+use Rattle.st_grammar.specs.declared.sort.Style.{Style}
+use Rattle.st_grammar.specs.declared.sort.Style.TheVariants.{Lone as lone, Parts as parts, Fields as fields, Ends as ends, Run as run}
 use Rattle.st_grammar.specs.declared.sort.Leaf.TheVariants.{Low as low}
 use Rattle.st_grammar.specs.declared.sort.Bracket.{Bracket}
 use Rattle.st_grammar.specs.declared.sort.Bracket.TheVariants.{Round as round, Square as square, Brace as brace, TickRound as tick_round, TickSquare as tick_square, TickBrace as tick_brace, Dollar as dollar}
@@ -12,7 +14,7 @@ use Rattle.st_grammar.specs.declared.sort.Sort.TheVariants.{Expression as expres
 use Rattle.st_grammar.specs.Lexemes.{Lexeme, leaf, dot, sign, opening, closing, other}
 use Rattle.st_grammar.specs.Levels.{takes, encloses, computes, is_expression, is_count, level_of, ahead_level, tight, has_level, left_of, is_caret, is_comma, is_colon}
 use Rattle.st_grammar.specs.Trees.{Tree, operand, post, bracket, led, Lead, left, ahead, items, Trees, none, more, Heading, plain, length, arguments, index, segment, update, below, Path, part, closes, text, lead_text, texts, heading_text, path_text, agree}
-use Rattle.st_grammar.specs.Grammar.{Style, lone, parts, fields, ends, run, bracket_style, index_style, style, sort_in, least_in, SetsOff, text_follows, FollowsAll, may_post, lead_level, level, is_operand, MayEnd, MayFollow, Fits, LeadFits, EachFits, HeadingFits, PathFits}
+use Rattle.st_grammar.specs.Grammar.{bracket_style, index_style, style, sort_in, least_in, SetsOff, text_follows, FollowsAll, may_post, lead_level, level, is_operand, MayEnd, MayFollow, Fits, LeadFits, EachFits, HeadingFits, PathFits}
 use Rattle.st_grammar.specs.Reading.{Frames, bottom, within, over, timing, State, want, got, naming, pathed, indexing, comparing, sort, least, settle, reach, lower, shut, close, no_arguments, begin_closing, begin_opening, begin, next_part, separate, join, pull, behind_sign}
 use Rattle.st_grammar.proofs.LevelLemmas.{ahead_low, right_low}
 use Rattle.st_grammar.proofs.Complete.{lead_low, least_tight, no_run}

@@ -3,6 +3,7 @@ use Rattle.std.proofs.Common.{◌≡◌, ℕ, ◌+◌, ◌≤◌, List, [], ◌�
 use Rattle.st_num.specs.declared.mark.Mark.{Mark}
 use Rattle.st_num.specs.declared.mark.Mark.TheVariants as mark
 use Rattle.st_scan.specs.declared.token.Token.{Token}
+use Rattle.st_grammar.specs.declared.sort.Style.TheVariants.{Fields as fields}
 use Rattle.st_grammar.specs.declared.sort.Leaf.TheVariants.{Low as low, Basic as basic, Variable as variable, Atom as atom, Number as number, Literal as literal, Function as function}
 use Rattle.st_grammar.specs.declared.sort.Bracket.TheVariants.{Round as round, Square as square, Brace as brace, TickRound as tick_round, TickSquare as tick_square, TickBrace as tick_brace, Dollar as dollar}
 use Rattle.st_grammar.specs.declared.sort.Closing.TheVariants.{ByRound as by_round, BySquare as by_square, ByBrace as by_brace, ByBar as by_bar}
@@ -11,7 +12,7 @@ use Rattle.st_grammar.specs.declared.sort.Sort.TheVariants.{Expression as expres
 use Rattle.st_grammar.specs.Lexemes.{Lexeme, leaf, dot, sign, opening, closing, other}
 use Rattle.st_grammar.specs.Levels.{computes, is_expression, juxtaposes, level_of, ahead_level, tight, has_level, ahead_right, is_less, is_change, group_of}
 use Rattle.st_grammar.specs.Trees.{Tree, operand, post, times, bracket, led, left, ahead, items, Trees, none, more, Heading, plain, length, arguments, index, segment, update, below, Path, head, field, part, text, texts, heading_text, path_text}
-use Rattle.st_grammar.specs.Grammar.{fields, opens_length, is_label, SetsOff, is_function, follows, may_post, level, has_step, Fits, Parse}
+use Rattle.st_grammar.specs.Grammar.{opens_length, is_label, SetsOff, is_function, follows, may_post, level, has_step, Fits, Parse}
 use Rattle.st_grammar.specs.Reading.{Frames, bottom, within, over, timing, State, want, got, naming, pathed, indexing, comparing, sort, least, lower, ended, begin, extend, behind_square, behind_round, behind, after, in_index, in_path, name_field, name_index, bound_index, step, finish, reading, start}
 use Rattle.st_grammar.proofs.LevelLemmas.{gap_low}
 use Rattle.st_grammar.proofs.Sound.{frames_text, seen, base, state_base, MayBegin, Stand, Placed, IsBeforeName, Naming, IsNoSequence, Holds, Reached, ReachedBy, begin_more, closings, signs, posts, enters, index_first, begins, and_left, and_right, Lowered, lowers}

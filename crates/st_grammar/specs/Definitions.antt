@@ -7,6 +7,9 @@ use Rattle.st_scan.specs.declared.word.Word.TheVariants as word
 use Rattle.st_scan.specs.declared.token.Token.{Token}
 use Rattle.st_scan.specs.declared.token.TokenKind.{TokenKind}
 use Rattle.st_scan.specs.declared.token.TokenKind.TheVariants as kind
+use Rattle.st_grammar.specs.declared.sort.Style.TheVariants.{Parts as parts}
+use Rattle.st_grammar.specs.declared.keyword.Keyword.{Keyword}
+use Rattle.st_grammar.specs.declared.keyword.Keyword.TheVariants.{SyntaxWord as syntax_word, RelationWord as relation_word, RuleWord as rule_word, VarWord as var_word, DefWord as def_word, HintWord as hint_word, IfWord as if_word, OtherwiseWord as otherwise_word, Dashes as dashes, NoWord as no_word}
 use Rattle.st_grammar.specs.declared.sort.Leaf.TheVariants.{Low as low, Function as function}
 use Rattle.st_grammar.specs.declared.sort.Bracket.{Bracket}
 use Rattle.st_grammar.specs.declared.sort.Bracket.TheVariants.{Round as round, Brace as brace}
@@ -16,22 +19,9 @@ use Rattle.st_grammar.specs.declared.sort.Sort.TheVariants.{Expression as expres
 use Rattle.st_grammar.specs.Lexemes.{Lexeme, leaf, dot, sign, opening, closing, other, lexeme}
 use Rattle.st_grammar.specs.Levels.{is_mark, is_caret, is_comma, is_colon}
 use Rattle.st_grammar.specs.Trees.{Tree, Trees, closed_by, agree, text, texts}
-use Rattle.st_grammar.specs.Grammar.{parts, is_label, Fits, EachFits}
+use Rattle.st_grammar.specs.Grammar.{is_label, Fits, EachFits}
 
 -- ---- tokens of definitions
-
-pub data Keyword : Type 0 where
-  syntax_word : Keyword
-  relation_word : Keyword
-  rule_word : Keyword
-  var_word : Keyword
-  def_word : Keyword
-  hint_word : Keyword
-  if_word : Keyword
-  otherwise_word : Keyword
-  -- `--`
-  dashes : Keyword
-  no_word : Keyword
 
 abbrev pub kind_keyword : TokenKind → Keyword
 kind_keyword (kind.Reserved word.Syntax) = syntax_word

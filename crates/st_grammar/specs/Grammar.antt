@@ -2,6 +2,8 @@
 use Rattle.std.specs.Prelude.{◌≡◌, ℕ, ◌+◌, ◌≤◌, List, [], ◌∷◌, ◌++◌, map, Bool, true, false, not, ◌&&◌}
 use Rattle.st_num.specs.declared.mark.Mark.{Mark}
 use Rattle.st_scan.specs.declared.token.Token.{Token}
+use Rattle.st_grammar.specs.declared.sort.Style.{Style}
+use Rattle.st_grammar.specs.declared.sort.Style.TheVariants.{Lone as lone, Parts as parts, Fields as fields, Ends as ends, Run as run}
 use Rattle.st_grammar.specs.declared.sort.Leaf.TheVariants.{Low as low, Basic as basic, Variable as variable, Atom as atom, Function as function}
 use Rattle.st_grammar.specs.declared.sort.Bracket.{Bracket}
 use Rattle.st_grammar.specs.declared.sort.Bracket.TheVariants.{Round as round, Square as square, Brace as brace}
@@ -16,18 +18,6 @@ use Rattle.st_grammar.specs.Trees.{Tree, operand, post, times, bracket, led, Lea
 -- ---- lists of parts
 
 -- how parts are set off from one another
-pub data Style : Type 0 where
-  -- There is exactly one.
-  lone : Style
-  -- by commas
-  parts : Style
-  -- by commas, with a name before each
-  fields : Style
-  -- one, or two with a colon between them
-  ends : Style
-  -- by nothing
-  run : Style
-
 abbrev pub bracket_style : Bracket → Sort → Style
 bracket_style round arithmetic = lone
 bracket_style round σ = parts

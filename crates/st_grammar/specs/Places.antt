@@ -1,5 +1,7 @@
 -- How the tokens of definitions are read: the places between tokens, and the parts that are read in them.
 use Rattle.std.specs.Prelude.{List, [], ◌∷◌, ◌++◌, length, Bool, true, false, not, ◌&&◌, ◌||◌, ◌==◌, Option, Some, None, option_and_then, if◌then◌else◌}
+use Rattle.st_grammar.specs.declared.keyword.Keyword.{Keyword}
+use Rattle.st_grammar.specs.declared.keyword.Keyword.TheVariants.{SyntaxWord as syntax_word, RelationWord as relation_word, RuleWord as rule_word, VarWord as var_word, DefWord as def_word, HintWord as hint_word, IfWord as if_word, OtherwiseWord as otherwise_word, Dashes as dashes}
 use Rattle.st_grammar.specs.declared.sort.Leaf.TheVariants.{Low as low, Basic as basic}
 use Rattle.st_grammar.specs.declared.sort.Bracket.{Bracket}
 use Rattle.st_grammar.specs.declared.sort.Bracket.TheVariants.{Round as round}
@@ -10,7 +12,7 @@ use Rattle.st_grammar.specs.Levels.{is_mark, is_type_mark, is_caret, is_comma, i
 use Rattle.st_grammar.specs.Trees.{Tree, operand, post, times, bracket, led, Trees, none, more, plain}
 use Rattle.st_grammar.specs.Grammar.{is_label}
 use Rattle.st_grammar.specs.Reading as part
-use Rattle.st_grammar.specs.Definitions.{Keyword, syntax_word, relation_word, rule_word, var_word, def_word, hint_word, if_word, otherwise_word, dashes, keyword, touches, signed, is_slash, is_equal, is_dots, is_bar, opens_round, closes_round, opens_brace, closes_brace, is_low, is_fun, names_relation, is_name, id_step, balance_step, hint, Hints, no_hints, more_hints, Members, no_members, member, Body, fields, cases, Iterations, no_iterations, closed, marked, counted, closings, has_closed, wants_mark, default, given, Premises, no_premises, more_premises, Args, no_args, args, syntax_def, var_def, relation_def, rule_def, fun_def, clause_def, Defs, no_defs, more_defs}
+use Rattle.st_grammar.specs.Definitions.{keyword, touches, signed, is_slash, is_equal, is_dots, is_bar, opens_round, closes_round, opens_brace, closes_brace, is_low, is_fun, names_relation, is_name, id_step, balance_step, hint, Hints, no_hints, more_hints, Members, no_members, member, Body, fields, cases, Iterations, no_iterations, closed, marked, counted, closings, has_closed, wants_mark, default, given, Premises, no_premises, more_premises, Args, no_args, args, syntax_def, var_def, relation_def, rule_def, fun_def, clause_def, Defs, no_defs, more_defs}
 
 -- ---- what stands before a place
 

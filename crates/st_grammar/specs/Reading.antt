@@ -2,6 +2,8 @@
 use Rattle.std.specs.Prelude.{ℕ, List, [], ◌∷◌, ◌++◌, ◌&&◌, Option, Some, None, option_and_then, nat_le, if◌then◌else◌}
 use Rattle.st_num.specs.declared.mark.Mark.{Mark}
 use Rattle.st_scan.specs.declared.token.Token.{Token}
+use Rattle.st_grammar.specs.declared.sort.Style.{Style}
+use Rattle.st_grammar.specs.declared.sort.Style.TheVariants.{Parts as parts, Fields as fields, Ends as ends}
 use Rattle.st_grammar.specs.declared.sort.Leaf.TheVariants.{Low as low, Function as function}
 use Rattle.st_grammar.specs.declared.sort.Bracket.{Bracket}
 use Rattle.st_grammar.specs.declared.sort.Bracket.TheVariants.{Round as round, Square as square, Brace as brace}
@@ -12,7 +14,7 @@ use Rattle.st_grammar.specs.declared.sort.Sort.TheVariants.{Count as count}
 use Rattle.st_grammar.specs.Lexemes.{Lexeme, leaf, dot, sign, opening, closing, other}
 use Rattle.st_grammar.specs.Levels.{takes, encloses, computes, is_expression, is_count, level_of, ahead_level, has_level, left_of, right_of, ahead_right, is_caret, is_comma, is_colon, is_less, is_change}
 use Rattle.st_grammar.specs.Trees.{Tree, operand, post, times, bracket, led, Lead, left, ahead, items, Trees, none, more, Heading, plain, length, arguments, index, segment, update, below, Path, head, field, part, closes, agree}
-use Rattle.st_grammar.specs.Grammar.{Style, parts, fields, ends, style, sort_in, least_in, is_label, follows, may_post, level, wanted, has_step}
+use Rattle.st_grammar.specs.Grammar.{style, sort_in, least_in, is_label, follows, may_post, level, wanted, has_step}
 
 -- what is open, the innermost first
 pub data Frames : Type 0 where

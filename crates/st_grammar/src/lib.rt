@@ -7,8 +7,10 @@
 //! `docs/language.md`, "Grammar".
 #![tactic(auto)]
 
+mod keyword;
 mod laws;
 mod sort;
 
+pub use keyword::Keyword;
 pub use laws::{definitions_are_read, one_list, one_tree, parts_are_read};
-pub use sort::{Bracket, Closing, Leaf, Sort};
+pub use sort::{Bracket, Closing, Leaf, Sort, Style};

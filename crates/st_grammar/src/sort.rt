@@ -53,3 +53,18 @@ pub enum Sort {
     /// What stands behind `<` in a count.
     Bound,
 }
+
+/// How parts are set off from one another.
+#[derive(Clone, Copy, Debug, PartialEq, Eq)]
+pub enum Style {
+    /// There is exactly one.
+    Lone,
+    /// By commas.
+    Parts,
+    /// By commas, with a name before each.
+    Fields,
+    /// One, or two with a colon between them.
+    Ends,
+    /// By nothing.
+    Run,
+}
