@@ -170,9 +170,18 @@ settle p fs = (Next p, fs)
 abbrev pub Lowered : Type 0
 Lowered = ℕ × Part × List Frame
 
+-- what such a level closes of a frame
+abbrev pub closes : Frame → ℕ → Option Lead
+closes (Over g σ) n = if nat_le (reach g) n then None else Some g
+closes f n = None
+
+abbrev pub lower_at : ℕ → ℕ → Part → Frame → List Frame → (Lead → Lowered) → Option Lead → Lowered
+lower_at n v p f fs next None = (v, p, f ∷ fs)
+lower_at n v p f fs next (Some g) = next g
+
 abbrev pub lower : ℕ → ℕ → Part → List Frame → Lowered
-lower n v p (Over g σ ∷ fs) = if nat_le (reach g) n then (v, p, Over g σ ∷ fs) else lower n (lead_level g) Whole fs
-lower n v p fs = (v, p, fs)
+lower n v p [] = (v, p, [])
+lower n v p (f ∷ fs) = lower_at n v p f fs (λ g. lower n (lead_level g) Whole fs) (closes f n)
 
 abbrev pub shut : Kind → Bool → List Frame → State
 shut Segment t fs = (Step true, fs)
@@ -234,15 +243,19 @@ abbrev pub is_first : Filling → Bool
 is_first Parts = false
 is_first f = true
 
--- a next part of the innermost bracket
-abbrev pub next_part : Style → Mark → Bool → List Frame → Option State
-next_part style.Parts m b fs = if is_comma m then Some (Operand, fs) else None
-next_part style.Fields m b fs = if is_comma m then Some (Label, fs) else None
-next_part style.Ends m b fs = if b && is_colon m then Some (Operand, fs) else None
-next_part y m b fs = None
+-- what is due behind a sign that sets off a next part, the first or a later one
+abbrev pub next_due : Style → Mark → Bool → Option Due
+next_due style.Parts m b = if is_comma m then Some Operand else None
+next_due style.Fields m b = if is_comma m then Some Label else None
+next_due style.Ends m b = if b && is_colon m then Some Operand else None
+next_due y m b = None
+
+abbrev pub next_part : Option Due → List Frame → Option State
+next_part (Some d) fs = Some (d, fs)
+next_part None fs = None
 
 abbrev pub separate : Sort → Mark → Lowered → Option State
-separate base m (v, p, Within k f t σ ∷ fs) = next_part (kind_style (top base fs) k) m (is_first f) (Within k Parts (t && reads_type p) σ ∷ fs)
+separate base m (v, p, Within k f t σ ∷ fs) = next_part (next_due (kind_style (top base fs) k) m (is_first f)) (Within k Parts (t && reads_type p) σ ∷ fs)
 separate base m q = None
 
 abbrev pub join : Sort → Mark → Lowered → Option State

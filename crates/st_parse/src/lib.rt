@@ -6,5 +6,9 @@
 //! Read `reader` first, with `specs/Outline.antt`. The rules are in `docs/language.md`, "Grammar".
 #![tactic(auto)]
 
+mod begin;
+mod close;
+mod frame;
 mod outline;
+mod step;
 mod table;

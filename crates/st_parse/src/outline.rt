@@ -1,7 +1,7 @@
 //! What is kept of a reading: what is open, and what later tokens ask of a part that is read.
 
 use st_grammar::{Bracket, Closing, Leaf, Sort};
-use st_num::Mark;
+use st_num::{Mark, Row};
 
 /// A token as the grammar sees it, and whether it touches what stands before it.
 #[derive(Clone, Copy, Debug, PartialEq, Eq)]
@@ -82,4 +82,11 @@ pub enum Due {
     Index,
     /// The `<` behind that name.
     Less,
+}
+
+/// How far a part is read: what is due, and what is open, the innermost last.
+#[derive(Drop)]
+pub struct Reading {
+    pub due: Due,
+    pub frames: Row<Frame>,
 }
