@@ -1,2 +1,4 @@
 pub mod View
 pub mod Simulation
+pub mod CourseView
+pub mod CourseSimulation

@@ -191,9 +191,9 @@ abbrev pub close : Closing → Lowered → Option State
 close c (v, p, Within k f t σ ∷ fs) = if agree (kind_closing k) c then Some (shut k (t && reads_type p) fs) else None
 close c q = None
 
-abbrev pub ends : Lowered → Bool
-ends (v, p, []) = true
-ends q = false
+abbrev pub ended : Lowered → Option Part
+ended (v, p, []) = Some p
+ended q = None
 
 -- ---- what begins
 
@@ -346,7 +346,7 @@ step base (Step s, fs) l = in_path base s fs l
 step base (IndexDue, fs) l = name_index fs l
 step base (Less, fs) l = bound_index base fs l
 
--- The part may end here.
-abbrev pub may_end : State → Bool
-may_end (Next p, fs) = ends (lower 0 tight p fs)
-may_end st = false
+-- the part, where it may end here
+abbrev pub finish : State → Option Part
+finish (Next p, fs) = ended (lower 0 tight p fs)
+finish st = None

@@ -10,5 +10,6 @@ mod begin;
 mod close;
 mod frame;
 mod outline;
+mod place;
 mod step;
 mod table;

@@ -272,16 +272,20 @@ pub(crate) fn step(base: Sort, reading: Reading, shape: Shape) -> Result<Option<
     }
 }
 
-/// Whether the part may end here.
-pub(crate) fn may_end(reading: Reading) -> Result<bool, NoMemory>
-    ensures { IfOk result (λ yes. yes ≡ out.may_end (reading_of reading)) }
+/// The part, where it may end here.
+pub(crate) fn finish(reading: Reading) -> Result<Option<Part>, NoMemory>
+    ensures { IfOk result (λ part. part ≡ out.finish (reading_of reading)) }
 {
     let Reading { due, frames } = reading;
     match due {
         Due::Next(part) => {
             let lowered = lower(0, part, frames)?;
-            Ok(lowered.frames.is_empty())
+            if lowered.frames.is_empty() {
+                Ok(Some(lowered.part))
+            } else {
+                Ok(None)
+            }
         }
-        Due::Operand | Due::Label | Due::Step(_) | Due::Index | Due::Less => Ok(false),
+        Due::Operand | Due::Label | Due::Step(_) | Due::Index | Due::Less => Ok(None),
     }
 }
