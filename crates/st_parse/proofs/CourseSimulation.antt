@@ -33,16 +33,17 @@ use Rattle.st_parse.specs.declared.place.Marks.{Marks}
 use Rattle.st_parse.specs.declared.place.Marks.TheVariants as marks
 use Rattle.st_parse.specs.declared.place.Place.{Place}
 use Rattle.st_parse.specs.declared.place.Place.TheVariants as place
+use Rattle.st_parse.specs.Shapes.{shape, lexeme_of, is_mix}
 use Rattle.st_parse.specs.Outline as out
 use Rattle.st_parse.specs.Course as course
 use Rattle.st_parse.specs.Course.{at, inside}
-use Rattle.st_parse.proofs.View.{shape, part_of, part_reads}
+use Rattle.st_parse.proofs.View.{part_of, part_reads}
 use Rattle.st_parse.proofs.View as view
 use Rattle.st_parse.proofs.Simulation as parts
 use Rattle.st_grammar.proofs.Sound as sound
 use Rattle.st_grammar.proofs.PlaceTexts as texts
 use Rattle.st_grammar.proofs.PlaceReading.{filled_reached}
-use Rattle.st_parse.proofs.CourseView.{lexeme_of, rounds, host_of, fresh, case_at, has_no_member, slot_of, slot_open, marks_of, place_of, open_of, course_of, signed_is, low_is, fun_is, label_is, relation_is, name_is, var_is, bar_is, close_is, close_brace_is, open_is, open_brace_is, id_is, balance_is, slot_sort_is, wants_is, closed_is, none_left, tail_rounds, length_more}
+use Rattle.st_parse.proofs.CourseView.{rounds, host_of, fresh, case_at, has_no_member, slot_of, slot_open, marks_of, place_of, open_of, course_of, signed_is, low_is, fun_is, label_is, relation_is, name_is, var_is, bar_is, close_is, close_brace_is, open_is, open_brace_is, id_is, balance_is, slot_sort_is, wants_is, closed_is, none_left, tail_rounds, length_more}
 
 -- ---- choices
 

@@ -33,21 +33,15 @@ use Rattle.st_parse.specs.declared.place.Marks.{Marks}
 use Rattle.st_parse.specs.declared.place.Marks.TheVariants as marks
 use Rattle.st_parse.specs.declared.place.Place.{Place}
 use Rattle.st_parse.specs.declared.place.Place.TheVariants as place
+use Rattle.st_parse.specs.Shapes.{shape, lexeme_of, is_mix}
 use Rattle.st_parse.specs.Outline as out
 use Rattle.st_parse.specs.Course as course
 use Rattle.st_parse.specs.Course.{at, inside}
-use Rattle.st_parse.proofs.View.{shape, part_of, part_reads}
+use Rattle.st_parse.proofs.View.{part_of, part_reads}
 use Rattle.st_parse.proofs.View as view
 use Rattle.st_parse.proofs.Simulation as parts
 
 -- ---- the view
-
-abbrev pub is_mix : lexemes.Lexeme → Bool
-is_mix (other x) = is_mix_kind x.kind
-is_mix l = false
-
-abbrev pub lexeme_of : lexemes.Lexeme → Lexeme
-lexeme_of l = record { shape = shape l; touching = touches l; keyword = keyword l; mix = is_mix l; piece = def.is_piece l; dot = def.is_dot l }
 
 abbrev pub rounds : ℕ → List Bracket
 rounds zero = []

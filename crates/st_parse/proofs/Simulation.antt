@@ -31,6 +31,7 @@ use Rattle.st_parse.specs.declared.outline.Frame.{Frame}
 use Rattle.st_parse.specs.declared.outline.Frame.TheVariants.{Within, Over, Timing}
 use Rattle.st_parse.specs.declared.outline.Due.{Due}
 use Rattle.st_parse.specs.declared.outline.Due.TheVariants.{Operand, Next, Label, Step, Index as IndexDue, Less}
+use Rattle.st_parse.specs.Shapes.{shape}
 use Rattle.st_parse.specs.Outline as out
 use Rattle.st_grammar.proofs.Sound.{base}
 
@@ -40,7 +41,7 @@ use Rattle.st_grammar.specs.Levels.{takes, encloses, computes, is_expression, is
 use Rattle.st_grammar.proofs.Complete.{lead_low}
 use Rattle.st_grammar.proofs.Sound.{Holds, state_base}
 use Rattle.st_grammar.proofs.Steps.{extend_base}
-use Rattle.st_parse.proofs.View.{shape, part_of, kind_of, lead_of, filling, frames_of, state_of, part_function, part_atom, part_type, part_reads, top_sort, lead_reach, lead_levels, least_is, kind_closing, kind_style, opened_is, kind_part}
+use Rattle.st_parse.proofs.View.{part_of, kind_of, lead_of, filling, frames_of, state_of, part_function, part_atom, part_type, part_reads, top_sort, lead_reach, lead_levels, least_is, kind_closing, kind_style, opened_is, kind_part}
 
 -- ---- tests
 

@@ -32,15 +32,8 @@ use Rattle.st_parse.specs.declared.outline.Frame.TheVariants.{Within, Over, Timi
 use Rattle.st_parse.specs.declared.outline.Due.{Due}
 use Rattle.st_parse.specs.declared.outline.Due.TheVariants.{Operand, Next, Label, Step, Index as IndexDue, Less}
 use Rattle.st_parse.specs.Outline as out
+use Rattle.st_parse.specs.Shapes.{shape}
 use Rattle.st_grammar.proofs.Sound.{base}
-
-abbrev pub shape : Lexeme → Shape
-shape (leaf k x) = Single k
-shape (dot x) = Dot x.touching
-shape (sign m x) = Sign m
-shape (opening b x) = Open b x.touching
-shape (closing c x) = Close c
-shape (other x) = Other
 
 abbrev pub part_of : Tree → Part
 part_of (tree.operand k x) = out.leaf_part k

@@ -242,6 +242,18 @@ iterate m l ks =
     else if is_empty ks && not (wants_mark m) then next_premise l.keyword ks
     else None
 
+-- a token of a name, and others that lead to one place
+abbrev pub own_name : Place → Lexeme → List Bracket → Option State
+own_name place.SyntaxName l ks = when (is_low l) (at (place.Hinted host.Syntax true) ks)
+own_name place.VarName l ks = when (is_low l || is_label l) (at place.VarColon ks)
+own_name place.RelationName l ks = when (names_relation l) (at (place.Hinted host.Relation false) ks)
+own_name place.RuleName l ks = when (names_relation l) (at place.RuleColon ks)
+own_name place.FunName l ks = when (is_fun l) (at place.FunNamed ks)
+own_name (place.HintOpen h) l ks = when (opens_round l) (at (place.HintName h) ks)
+own_name (place.HintName h) l ks = when (is_name l) (at (place.HintWords h) ks)
+own_name place.Dotted l ks = when (is_bar l) (at (place.Entering (slot.Case case.Led)) ks)
+own_name p l ks = None
+
 -- a token that goes on with what is there
 abbrev pub own : Place → Lexeme → List Bracket → Option State
 own place.Between l ks = None
@@ -275,9 +287,12 @@ abbrev pub first_of_two : Option State → Option State → Option State
 first_of_two (Some st) o = Some st
 first_of_two None o = o
 
+abbrev pub turn : Bool → Keyword → List Bracket → Option State
+turn b k ks = if b then begin_def k ks else None
+
 -- behind whole definitions a next one begins
 abbrev pub place_step : Place → Lexeme → List Bracket → Option State
-place_step p l ks = first_of_two (own p l ks) (if whole p ks then begin_def l.keyword ks else None)
+place_step p l ks = first_of_two (own p l ks) (turn (whole p ks) l.keyword ks)
 
 -- where a part that is read leads to
 abbrev pub filled : Slot → Part → Place

@@ -1,3 +1,4 @@
 pub mod Outline
-pub mod Readings
+pub mod Shapes
 pub mod Course
+pub mod Readings

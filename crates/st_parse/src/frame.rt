@@ -94,7 +94,7 @@ pub(crate) fn least(frames: &Row<Frame>) -> u8
     }
 }
 
-fn closed_by(bracket: Bracket) -> Closing
+pub(crate) fn closed_by(bracket: Bracket) -> Closing
     ensures { result ≡ tree.closed_by bracket }
 {
     match bracket {

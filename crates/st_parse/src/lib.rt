@@ -8,6 +8,7 @@
 
 mod begin;
 mod close;
+mod course;
 mod frame;
 mod outline;
 mod place;

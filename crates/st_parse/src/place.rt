@@ -103,7 +103,7 @@ pub enum Place {
 #[derive(Drop)]
 pub struct At {
     pub place: Place,
-    pub open: Row<Bracket>,
+    pub brackets: Row<Bracket>,
 }
 
 /// How far definitions are read, also in a part.

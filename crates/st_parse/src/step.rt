@@ -196,7 +196,7 @@ fn in_path(
     }
 }
 
-fn is_label(shape: Shape) -> bool
+pub(crate) fn is_label(shape: Shape) -> bool
     ensures { result ≡ out.is_label shape }
 {
     matches!(shape, Shape::Single(Leaf::Atom | Leaf::Variable))
