@@ -40,11 +40,14 @@ same_name [] (c ∷ cs) = false
 same_name (b ∷ bs) [] = false
 same_name (b ∷ bs) (c ∷ cs) = b == c && same_name bs cs
 
--- The name is declared by `var`, or what stands before one of its `_` is, trailing primes aside.
+-- the name is one of these, trailing primes aside
+abbrev pub is_named : List (List ℕ) → List ℕ → Bool
+is_named names name = list_any (same_name (drop_primes name)) names
+
+-- The whole is declared by `var`, or what stands before one of its `_` is: this front and the rest behind it.
 abbrev pub is_declared : List (List ℕ) → List ℕ → List ℕ → Bool
-is_declared names front [] = list_any (same_name (drop_primes front)) names
-is_declared names front (b ∷ rest) =
-    (b == 95 && list_any (same_name (drop_primes front)) names) || is_declared names (front ++ b ∷ []) rest
+is_declared names front [] = is_named names front
+is_declared names front (b ∷ rest) = (b == 95 && is_named names front) || is_declared names (front ++ b ∷ []) rest
 
 abbrev pub is_variable : List (List ℕ) → List ℕ → Bool
 is_variable names name = is_declared names [] name
@@ -59,12 +62,14 @@ name_in (kind.Up name) = name ∷ []
 name_in (kind.Mix name) = name ∷ []
 name_in _ = []
 
+-- the names in these tokens that directly follow the word `var`, which stands before them or not
+abbrev pub names_behind : Bool → List Token → List (List ℕ)
+names_behind b [] = []
+names_behind b (x ∷ tokens) = (if b then name_in x.kind else []) ++ names_behind (is_var x.kind) tokens
+
 -- the names that directly follow the word `var`
 abbrev pub declared_names : List Token → List (List ℕ)
-declared_names [] = []
-declared_names (x ∷ []) = []
-declared_names (x ∷ y ∷ tokens) =
-    if is_var x.kind then name_in y.kind ++ declared_names (y ∷ tokens) else declared_names (y ∷ tokens)
+declared_names tokens = names_behind false tokens
 
 -- ---- lexemes
 

@@ -1,39 +1,24 @@
 -- The outline of a reading of definitions takes each step of the reading.
-use Rattle.std.proofs.Common.{◌≡◌, ℕ, zero, suc, ◌+◌, ◌-◌, ◌≤◌, ◌<◌, List, [], ◌∷◌, ◌++◌, length, Bool, true, false, not, ◌&&◌, ◌||◌, ◌==◌, Option, Some, None, option_and_then, option_map, if◌then◌else◌, refl, sym, ap, subst, ◌∙◌, arith}
-use Rattle.st_num.specs.declared.mark.Mark.{Mark}
-use Rattle.st_scan.specs.declared.token.Token.{Token}
-use Rattle.st_grammar.specs.declared.sort.Leaf.TheVariants as leaves
+use Rattle.std.proofs.Common.{◌≡◌, ℕ, suc, ◌-◌, ◌≤◌, List, [], ◌∷◌, ◌++◌, length, Bool, true, false, not, ◌&&◌, ◌==◌, Option, Some, None, option_and_then, option_map, if◌then◌else◌, refl, sym, ap, ◌∙◌, arith}
 use Rattle.st_grammar.specs.declared.sort.Bracket.{Bracket}
 use Rattle.st_grammar.specs.declared.sort.Bracket.TheVariants as bracket
-use Rattle.st_grammar.specs.declared.sort.Closing.{Closing}
-use Rattle.st_grammar.specs.declared.sort.Closing.TheVariants as closings_of
-use Rattle.st_grammar.specs.declared.sort.Sort.{Sort}
 use Rattle.st_grammar.specs.declared.keyword.Keyword.{Keyword}
 use Rattle.st_grammar.specs.declared.keyword.Keyword.TheVariants as key
 use Rattle.st_grammar.specs.Lexemes as lexemes
 use Rattle.st_grammar.specs.Lexemes.{leaf, dot, sign, opening, closing, other}
 use Rattle.st_grammar.specs.Levels.{is_mark, is_caret, is_comma, is_colon}
-use Rattle.st_grammar.specs.Trees.{Tree, Trees, none, more, agree, closed_by}
-use Rattle.st_grammar.specs.Grammar as grammar
+use Rattle.st_grammar.specs.Trees.{Tree, none, more}
 use Rattle.st_grammar.specs.Reading as part
 use Rattle.st_grammar.specs.Definitions as def
 use Rattle.st_grammar.specs.Definitions.{keyword, touches, is_slash, is_minus, is_equal, is_dots, is_mix_kind, Hints, no_hints, more_hints, Members, no_members, member, Iterations, no_iterations, closed, marked, counted, closings, Premises, more_premises, given}
 use Rattle.st_grammar.specs.Places as spec
 use Rattle.st_grammar.specs.Places.{Head, Rule, of_syntax, of_field, of_case, of_var, of_relation, of_notation, of_fun, field_slot, case_slot, var_slot, notation_slot, fun_slot, arg_slot, rule_slot, cond_slot, count_slot, between, syntax_name, var_name, var_colon, relation_name, rule_name, rule_colon, fun_name, fun_named, argued, args_closed, syntax_id, rule_id, hinted, hint_open, hint_name, hint_words, entering, dotted, field_name, premised, premise_open, goal_colon, iterated, reads_types}
-use Rattle.st_parse.specs.declared.outline.Part.{Part}
-use Rattle.st_parse.specs.declared.outline.Due.TheVariants.{Operand}
-use Rattle.st_parse.specs.declared.place.Lexeme.{Lexeme}
-use Rattle.st_parse.specs.declared.place.Host.{Host}
 use Rattle.st_parse.specs.declared.place.Host.TheVariants as host
-use Rattle.st_parse.specs.declared.place.CaseAt.{CaseAt}
 use Rattle.st_parse.specs.declared.place.CaseAt.TheVariants as case
-use Rattle.st_parse.specs.declared.place.Slot.{Slot}
 use Rattle.st_parse.specs.declared.place.Slot.TheVariants as slot
-use Rattle.st_parse.specs.declared.place.Marks.{Marks}
 use Rattle.st_parse.specs.declared.place.Marks.TheVariants as marks
-use Rattle.st_parse.specs.declared.place.Place.{Place}
 use Rattle.st_parse.specs.declared.place.Place.TheVariants as place
-use Rattle.st_parse.specs.Shapes.{shape, lexeme_of, is_mix}
+use Rattle.st_parse.specs.Shapes.{shape, lexeme_of}
 use Rattle.st_parse.specs.Outline as out
 use Rattle.st_parse.specs.Course as course
 use Rattle.st_parse.specs.Course.{at, inside}
@@ -83,20 +68,20 @@ colon_is ds w r ls l = same_when _ _ _ _ (signed_is is_colon l) refl
 pub result_is : (ds : def.Defs) (w f : lexemes.Lexeme) (a : def.Args) (b : Bool) (l : lexemes.Lexeme) → course.result_step b (lexeme_of l) [] ≡ option_map course_of (spec.result_step ds w f a b l)
 result_is ds w f a b l =
     same_if _ _ (course.start_of slot.Fun []) (spec.begun (fun_slot ds w f a l)) (course.when (course.signed is_equal (lexeme_of l)) (course.start_of slot.Rule [])) (spec.when (def.signed is_equal l) (spec.begun (rule_slot (spec.clause_head ds w f a l))))
-      (ap (λ c. c && b) (signed_is is_colon l)) refl (same_when _ _ _ _ (signed_is is_equal l) refl)
+    (ap (λ c. c && b) (signed_is is_colon l)) refl (same_when _ _ _ _ (signed_is is_equal l) refl)
 
 pub host_step_is : (h : spec.Host) (hs : Hints) (l : lexemes.Lexeme) → course.host_step (host_of h) (fresh h hs) (lexeme_of l) [] ≡ option_map course_of (spec.host_step h hs l)
 host_step_is (of_syntax ds w x []) no_hints l =
     same_if _ _ (at (place.SyntaxId true) []) (spec.at (syntax_id ds w x (l ∷ []) true)) (course.when (course.signed is_equal (lexeme_of l)) (at (place.Entering (slot.Case case.Start)) []))
-      (spec.when (def.signed is_equal l) (spec.at (entering (case_slot (spec.syntax_head ds w x [] no_hints l) no_members []))))
-      (signed_is is_slash l) refl (same_when _ _ _ _ (signed_is is_equal l) refl)
+    (spec.when (def.signed is_equal l) (spec.at (entering (case_slot (spec.syntax_head ds w x [] no_hints l) no_members []))))
+    (signed_is is_slash l) refl (same_when _ _ _ _ (signed_is is_equal l) refl)
 host_step_is (of_syntax ds w x []) (more_hints hs k) l = same_when _ _ _ _ (signed_is is_equal l) refl
 host_step_is (of_syntax ds w x (s ∷ ls)) no_hints l = same_when _ _ _ _ (signed_is is_equal l) refl
 host_step_is (of_syntax ds w x (s ∷ ls)) (more_hints hs k) l = same_when _ _ _ _ (signed_is is_equal l) refl
 host_step_is (of_field h o ms pre t) hs l =
     same_if _ _ (at (place.FieldName false) []) (spec.at (field_name h o (member ms pre t hs) (l ∷ []))) (course.when (course.closes_brace (lexeme_of l)) (at place.Between []))
-      (spec.when (def.closes_brace l) (spec.at (between (spec.syntax_whole h (def.fields o (member ms pre t hs) l)))))
-      (signed_is is_comma l) refl (same_when _ _ _ _ (close_brace_is l) refl)
+    (spec.when (def.closes_brace l) (spec.at (between (spec.syntax_whole h (def.fields o (member ms pre t hs) l)))))
+    (signed_is is_comma l) refl (same_when _ _ _ _ (close_brace_is l) refl)
 host_step_is (of_case h ms pre t) hs l = same_when _ _ _ _ (bar_is l) refl
 host_step_is (of_var ds w x c t) hs l = refl
 host_step_is (of_relation ds w r) hs l = same_when _ _ _ _ (signed_is is_colon l) refl
@@ -140,12 +125,12 @@ id_goes_is None false f g o r h k = k
 
 pub case_enters : (h : Head) (ms : Members) (pre : List lexemes.Lexeme) (l : lexemes.Lexeme) → course.enter_case (case_at ms pre) (lexeme_of l) [] ≡ option_map course_of (spec.enter_case h ms pre l)
 case_enters h no_members [] l =
-    same_if _ _ (at (place.FieldName true) []) (spec.at (field_name h l no_members [])) 
-      (if course.signed is_dots (lexeme_of l) then Some (at place.Dotted []) else course.when (course.is_bar (lexeme_of l)) (at (place.Entering (slot.Case case.Led)) []))
-      (if def.signed is_dots l then Some (spec.at (dotted h l)) else spec.when (def.is_bar l) (spec.at (entering (case_slot h no_members (l ∷ [])))))
-      (open_brace_is l) refl
-      (same_if _ _ (at place.Dotted []) (spec.at (dotted h l)) (course.when (course.is_bar (lexeme_of l)) (at (place.Entering (slot.Case case.Led)) [])) (spec.when (def.is_bar l) (spec.at (entering (case_slot h no_members (l ∷ [])))))
-        (signed_is is_dots l) refl (same_when _ _ _ _ (bar_is l) refl))
+    same_if _ _ (at (place.FieldName true) []) (spec.at (field_name h l no_members []))
+    (if course.signed is_dots (lexeme_of l) then Some (at place.Dotted []) else course.when (course.is_bar (lexeme_of l)) (at (place.Entering (slot.Case case.Led)) []))
+    (if def.signed is_dots l then Some (spec.at (dotted h l)) else spec.when (def.is_bar l) (spec.at (entering (case_slot h no_members (l ∷ [])))))
+    (open_brace_is l) refl
+    (same_if _ _ (at place.Dotted []) (spec.at (dotted h l)) (course.when (course.is_bar (lexeme_of l)) (at (place.Entering (slot.Case case.Led)) [])) (spec.when (def.is_bar l) (spec.at (entering (case_slot h no_members (l ∷ [])))))
+    (signed_is is_dots l) refl (same_when _ _ _ _ (bar_is l) refl))
 case_enters h no_members (b ∷ ls) l = refl
 case_enters h (member ms q t hs) [] l = refl
 case_enters h (member ms q t hs) (b ∷ []) l = same_when _ _ _ _ (signed_is is_dots l) refl
@@ -180,13 +165,13 @@ enters_is s l =
 pub field_step_is : (h : Head) (o : lexemes.Lexeme) (ms : Members) (pre : List lexemes.Lexeme) (l : lexemes.Lexeme) → course.field_step (has_no_member ms) (lexeme_of l) [] ≡ option_map course_of (spec.field_step h o ms pre l)
 field_step_is h o no_members pre l =
     same_if _ _ (course.start_of slot.Field []) (spec.begun (field_slot h o no_members (pre ++ l ∷ []))) (course.when (course.closes_brace (lexeme_of l)) (at place.Between [])) (spec.when (def.closes_brace l) (spec.at (between (spec.syntax_whole h (def.fields o no_members l)))))
-      (label_is l) refl (same_when _ _ _ _ (close_brace_is l) refl)
+    (label_is l) refl (same_when _ _ _ _ (close_brace_is l) refl)
 field_step_is h o (member ms q t hs) pre l = same_when _ _ _ _ (label_is l) refl
 
 pub premise_step_is : (r : Rule) (t : Tree) (ps : Premises) (d : lexemes.Lexeme) (os : List lexemes.Lexeme) (l : lexemes.Lexeme) → course.premise_step (lexeme_of l) (rounds (length os)) ≡ option_map course_of (spec.premise_step r t ps d os l)
 premise_step_is r t ps d os l =
     same_if _ _ (at place.PremiseOpen (bracket.Round ∷ rounds (length os))) (spec.at (premise_open r t ps d (os ++ l ∷ []))) (course.when (course.names_relation (lexeme_of l)) (at place.GoalColon (rounds (length os)))) (spec.when (def.names_relation l) (spec.at (goal_colon r t ps d os l)))
-      (open_is l) (ap (λ n. at place.PremiseOpen (rounds n)) (sym (length_more os l))) (same_when _ _ _ _ (relation_is l) refl)
+    (open_is l) (ap (λ n. at place.PremiseOpen (rounds n)) (sym (length_more os l))) (same_when _ _ _ _ (relation_is l) refl)
 
 pub premise_word_is : (k : Keyword) (r : Rule) (t : Tree) (ps : Premises) (d : lexemes.Lexeme) (os : List lexemes.Lexeme) (l : lexemes.Lexeme) → course.premise_word k (lexeme_of l) (rounds (length os)) ≡ option_map course_of (spec.premise_word k r t ps d os l)
 premise_word_is key.IfWord r t ps d os l = refl
@@ -238,30 +223,38 @@ pub iterate_is : (r : Rule) (t : Tree) (ps : Premises) (d : lexemes.Lexeme) (os 
     → course.iterate (marks_of i) (lexeme_of l) (rounds (length os - closings i)) ≡ option_map course_of (spec.iterate r t ps d os ls u i l)
 iterate_is r t ps d os ls u i l h =
     same_if _ _ (at (place.Iterated marks.Wanted) (course.tail ks)) (spec.at (iterated r t ps d os ls u (closed i l))) a b
-      (both_and _ _ _ _ (close_is l) (both_and _ _ _ _ (ap not (none_left (closings i) (length os) h)) (ap not (wants_is i))))
-      (ap (at (place.Iterated marks.Wanted)) (tail_rounds (length os - closings i) ∙ ap rounds fewer))
-      (same_if _ _ (at (place.Iterated marks.Marked) ks) (spec.at (iterated r t ps d os ls u (marked i l))) c e
-        (both_and _ _ _ _ (signed_is is_mark l) (closed_is i)) refl
-        (same_if _ _ (course.start_of slot.Count ks) (spec.begun (count_slot r t ps d os ls u i l)) f g
-          (both_and _ _ _ _ (signed_is is_caret l) (closed_is i)) refl
-          (ap (λ v. if v then course.next_premise (keyword l) ks else None) (whole_is os i h) ∙ go (spec.is_whole os i) refl)))
+    (both_and _ _ _ _ (close_is l) (both_and _ _ _ _ (ap not (none_left (closings i) (length os) h)) (ap not (wants_is i))))
+    (ap (at (place.Iterated marks.Wanted)) (tail_rounds (length os - closings i) ∙ ap rounds fewer))
+    (same_if _ _ (at (place.Iterated marks.Marked) ks) (spec.at (iterated r t ps d os ls u (marked i l))) c e
+    (both_and _ _ _ _ (signed_is is_mark l) (closed_is i)) refl
+    (same_if _ _ (course.start_of slot.Count ks) (spec.begun (count_slot r t ps d os ls u i l)) f g
+    (both_and _ _ _ _ (signed_is is_caret l) (closed_is i)) refl
+    (ap (λ v. if v then course.next_premise (keyword l) ks else None) (whole_is os i h) ∙ go (spec.is_whole os i) refl)))
   where
     ks : List Bracket
     ks = rounds (length os - closings i)
+
     fewer : length os - closings i - 1 ≡ length os - closings (closed i l)
     fewer = omega arith
+
     f : Option course.State
     f = if course.is_empty ks && not (course.wants_mark (marks_of i)) then course.next_premise (keyword l) ks else None
+
     g : Option spec.State
     g = if spec.is_whole os i then spec.next_premise (keyword l) r t (more_premises ps (given d os ls u i)) l else None
+
     c : Option course.State
     c = if course.signed is_caret (lexeme_of l) && course.has_closed (marks_of i) then Some (course.start_of slot.Count ks) else f
+
     e : Option spec.State
     e = if def.signed is_caret l && def.has_closed i then Some (spec.begun (count_slot r t ps d os ls u i l)) else g
+
     a : Option course.State
     a = if course.signed is_mark (lexeme_of l) && course.has_closed (marks_of i) then Some (at (place.Iterated marks.Marked) ks) else c
+
     b : Option spec.State
     b = if def.signed is_mark l && def.has_closed i then Some (spec.at (iterated r t ps d os ls u (marked i l))) else e
+
     go : (v : Bool) → spec.is_whole os i ≡ v → (if v then course.next_premise (keyword l) (rounds (length os - closings i)) else None) ≡ option_map course_of (if v then spec.next_premise (keyword l) r t (more_premises ps (given d os ls u i)) l else None)
     go true w = ap (course.next_premise (keyword l)) (all_closed os i w) ∙ next_premise_is (keyword l) r t (more_premises ps (given d os ls u i)) l
     go false w = refl
@@ -278,11 +271,11 @@ owns_is (rule_colon ds w r) l h =
 owns_is (fun_name ds w) l h = same_when _ _ _ _ (fun_is l) refl
 owns_is (fun_named ds w f) l h =
     same_if _ _ (at (place.Entering (slot.Argument true true)) []) (spec.at (entering (arg_slot ds w f l none []))) (course.result_step true (lexeme_of l) []) (spec.result_step ds w f def.no_args true l)
-      (ap (λ b. b && touches l) (open_is l)) refl (result_is ds w f def.no_args true l)
+    (ap (λ b. b && touches l) (open_is l)) refl (result_is ds w f def.no_args true l)
 owns_is (argued ds w f o none) l h = absurd h
 owns_is (argued ds w f o (more ts q t)) l h =
     same_if _ _ (course.start_of (slot.Argument false (reads_types (more ts q t))) []) (spec.begun (arg_slot ds w f o (more ts q t) (l ∷ []))) (course.when (course.closes_round (lexeme_of l)) (at (place.ArgumentsClosed (reads_types (more ts q t))) []))
-      (spec.when (def.closes_round l) (spec.at (args_closed ds w f o (more ts q t) l))) (signed_is is_comma l) refl (same_when _ _ _ _ (close_is l) refl)
+    (spec.when (def.closes_round l) (spec.at (args_closed ds w f o (more ts q t) l))) (signed_is is_comma l) refl (same_when _ _ _ _ (close_is l) refl)
 owns_is (args_closed ds w f o ts c) l h = result_is ds w f (def.args o ts c) (reads_types ts) l
 owns_is (syntax_id ds w x [] d) l h = absurd h.3
 owns_is (syntax_id ds w x (s ∷ ls) d) l h =
@@ -389,6 +382,7 @@ step_is (spec.inside s st) l h =
         ap (λ p. course.place_step p (lexeme_of l) (slot_open s)) (filled_is s t)
         ∙ ap (course.place_step (place_of (spec.filled s t)) (lexeme_of l)) (filled_open s t)
         ∙ place_is (spec.filled s t) l (filled_reached s st t h e).holds
+
     go : (o : Option part.State) → course.taken (slot_of s) (lexeme_of l) (slot_open s) (option_map view.state_of o) (option_map part_of (part.finish st)) ≡ option_map course_of (spec.taken s st l o)
     go (Some next) = refl
     go None = behind (part.finish st) refl

@@ -1,28 +1,18 @@
 -- The outline of a reading of definitions: what the parser keeps of each of its states.
-use Rattle.std.proofs.Common.{◌≡◌, ℕ, zero, suc, ◌+◌, ◌-◌, ◌≤◌, ◌<◌, List, [], ◌∷◌, ◌++◌, length, Bool, true, false, not, ◌&&◌, ◌||◌, ◌==◌, Option, Some, None, option_and_then, option_map, if◌then◌else◌, refl, sym, ap, subst, ◌∙◌, arith}
+use Rattle.std.proofs.Common.{◌≡◌, ℕ, zero, suc, ◌-◌, ◌≤◌, ◌<◌, List, [], ◌∷◌, ◌++◌, length, Bool, true, false, ◌&&◌, ◌||◌, ◌==◌, Some, None, if◌then◌else◌, refl, sym, ap, ◌∙◌, arith}
 use Rattle.st_num.specs.declared.mark.Mark.{Mark}
-use Rattle.st_scan.specs.declared.token.Token.{Token}
 use Rattle.st_grammar.specs.declared.sort.Leaf.TheVariants as leaves
 use Rattle.st_grammar.specs.declared.sort.Bracket.{Bracket}
 use Rattle.st_grammar.specs.declared.sort.Bracket.TheVariants as bracket
-use Rattle.st_grammar.specs.declared.sort.Closing.{Closing}
 use Rattle.st_grammar.specs.declared.sort.Closing.TheVariants as closings_of
-use Rattle.st_grammar.specs.declared.sort.Sort.{Sort}
-use Rattle.st_grammar.specs.declared.keyword.Keyword.{Keyword}
-use Rattle.st_grammar.specs.declared.keyword.Keyword.TheVariants as key
 use Rattle.st_grammar.specs.Lexemes as lexemes
 use Rattle.st_grammar.specs.Lexemes.{leaf, dot, sign, opening, closing, other}
-use Rattle.st_grammar.specs.Levels.{is_mark, is_caret, is_comma, is_colon}
-use Rattle.st_grammar.specs.Trees.{Tree, Trees, none, more, agree, closed_by}
+use Rattle.st_grammar.specs.Trees.{Trees, none}
 use Rattle.st_grammar.specs.Grammar as grammar
-use Rattle.st_grammar.specs.Reading as part
 use Rattle.st_grammar.specs.Definitions as def
 use Rattle.st_grammar.specs.Definitions.{keyword, touches, is_slash, is_minus, is_equal, is_dots, is_mix_kind, Hints, no_hints, more_hints, Members, no_members, member, Iterations, no_iterations, closed, marked, counted, closings, Premises, more_premises, given}
 use Rattle.st_grammar.specs.Places as spec
 use Rattle.st_grammar.specs.Places.{Head, Rule, of_syntax, of_field, of_case, of_var, of_relation, of_notation, of_fun, field_slot, case_slot, var_slot, notation_slot, fun_slot, arg_slot, rule_slot, cond_slot, count_slot, between, syntax_name, var_name, var_colon, relation_name, rule_name, rule_colon, fun_name, fun_named, argued, args_closed, syntax_id, rule_id, hinted, hint_open, hint_name, hint_words, entering, dotted, field_name, premised, premise_open, goal_colon, iterated, reads_types}
-use Rattle.st_parse.specs.declared.outline.Part.{Part}
-use Rattle.st_parse.specs.declared.outline.Due.TheVariants.{Operand}
-use Rattle.st_parse.specs.declared.place.Lexeme.{Lexeme}
 use Rattle.st_parse.specs.declared.place.Host.{Host}
 use Rattle.st_parse.specs.declared.place.Host.TheVariants as host
 use Rattle.st_parse.specs.declared.place.CaseAt.{CaseAt}
@@ -33,8 +23,7 @@ use Rattle.st_parse.specs.declared.place.Marks.{Marks}
 use Rattle.st_parse.specs.declared.place.Marks.TheVariants as marks
 use Rattle.st_parse.specs.declared.place.Place.{Place}
 use Rattle.st_parse.specs.declared.place.Place.TheVariants as place
-use Rattle.st_parse.specs.Shapes.{shape, lexeme_of, is_mix}
-use Rattle.st_parse.specs.Outline as out
+use Rattle.st_parse.specs.Shapes.{shape, lexeme_of}
 use Rattle.st_parse.specs.Course as course
 use Rattle.st_parse.specs.Course.{at, inside}
 use Rattle.st_parse.proofs.View.{part_of, part_reads}

@@ -1,8 +1,7 @@
 -- The outline of a reading takes each step of the reading.
-use Rattle.std.proofs.Common.{◌≡◌, ℕ, ◌≤◌, List, [], ◌∷◌, ◌++◌, Bool, true, false, not, ◌&&◌, Option, Some, None, option_and_then, option_map, nat_le, if◌then◌else◌, refl, sym, ap, subst, ◌∙◌, arith}
+use Rattle.std.proofs.Common.{◌≡◌, ℕ, ◌≤◌, List, [], ◌∷◌, ◌++◌, Bool, true, false, not, ◌&&◌, Option, Some, None, option_map, nat_le, if◌then◌else◌, refl, sym, ap, ◌∙◌, arith}
 use Rattle.st_num.specs.declared.mark.Mark.{Mark}
 use Rattle.st_scan.specs.declared.token.Token.{Token}
-use Rattle.st_grammar.specs.declared.sort.Leaf.{Leaf}
 use Rattle.st_grammar.specs.declared.sort.Leaf.TheVariants as leaves
 use Rattle.st_grammar.specs.declared.sort.Bracket.{Bracket}
 use Rattle.st_grammar.specs.declared.sort.Bracket.TheVariants as bracket
@@ -16,25 +15,19 @@ use Rattle.st_grammar.specs.Trees as tree
 use Rattle.st_grammar.specs.Trees.{Tree, Trees, Heading, Path, none, more}
 use Rattle.st_grammar.specs.Grammar as grammar
 use Rattle.st_grammar.specs.Reading as part
-use Rattle.st_grammar.specs.Places.{reads_type, reads_types}
-use Rattle.st_parse.specs.declared.outline.Shape.{Shape}
-use Rattle.st_parse.specs.declared.outline.Shape.TheVariants.{Single, Dot, Sign, Open, Close, Other}
-use Rattle.st_parse.specs.declared.outline.Part.{Part}
-use Rattle.st_parse.specs.declared.outline.Part.TheVariants.{Function, Atom, Typ, Whole}
-use Rattle.st_parse.specs.declared.outline.Kind.{Kind}
-use Rattle.st_parse.specs.declared.outline.Kind.TheVariants.{Plain, Length, Arguments, Index as InIndex, Segment, Update, Below}
-use Rattle.st_parse.specs.declared.outline.Filling.{Filling}
-use Rattle.st_parse.specs.declared.outline.Filling.TheVariants.{Empty, Begun, Parts}
-use Rattle.st_parse.specs.declared.outline.Lead.{Lead}
-use Rattle.st_parse.specs.declared.outline.Lead.TheVariants.{Left, Ahead, Items}
+use Rattle.st_grammar.specs.Places.{reads_types}
+use Rattle.st_parse.specs.declared.outline.Shape.TheVariants.{Sign}
+use Rattle.st_parse.specs.declared.outline.Part.TheVariants.{Whole}
+use Rattle.st_parse.specs.declared.outline.Kind.TheVariants.{Plain, Length, Arguments, Index as InIndex, Update, Below}
+use Rattle.st_parse.specs.declared.outline.Filling.TheVariants.{Parts}
+use Rattle.st_parse.specs.declared.outline.Lead.TheVariants.{Left, Ahead}
 use Rattle.st_parse.specs.declared.outline.Frame.{Frame}
 use Rattle.st_parse.specs.declared.outline.Frame.TheVariants.{Within, Over, Timing}
 use Rattle.st_parse.specs.declared.outline.Due.{Due}
-use Rattle.st_parse.specs.declared.outline.Due.TheVariants.{Operand, Next, Label, Step, Index as IndexDue, Less}
+use Rattle.st_parse.specs.declared.outline.Due.TheVariants.{Operand, Next, Label, Step, Index as IndexDue}
 use Rattle.st_parse.specs.Shapes.{shape}
 use Rattle.st_parse.specs.Outline as out
 use Rattle.st_grammar.proofs.Sound.{base}
-
 use Rattle.st_grammar.specs.declared.sort.Style.{Style}
 use Rattle.st_grammar.specs.declared.sort.Style.TheVariants as styles
 use Rattle.st_grammar.specs.Levels.{takes, encloses, computes, is_expression, is_count, juxtaposes, left_of, is_caret, is_comma, is_colon, is_less, is_change}
@@ -98,6 +91,7 @@ shut_is h ts pre t x fs = ap (λ b. out.shut (kind_of h) (reads_types ts && b) (
   where
     whole : (k : Heading) → out.settle (out.kind_part (kind_of k) (reads_types (more ts pre t))) (frames_of fs) ≡ state_of (part.settle (tree.bracket k (more ts pre t) x) fs)
     whole k = ap (λ p. out.settle p (frames_of fs)) (kind_part k (more ts pre t) x) ∙ settle_is (tree.bracket k (more ts pre t) x) fs
+
     go : (k : Heading) → out.shut (kind_of k) (reads_types (more ts pre t)) (frames_of fs) ≡ state_of (part.shut k (more ts pre t) x fs)
     go (tree.plain b o) = whole (tree.plain b o)
     go (tree.length o) = whole (tree.length o)
@@ -113,7 +107,7 @@ close_is c x (t, part.over g fs) = refl
 close_is c x (t, part.timing u m y fs) = refl
 close_is c x (t, part.within h ts pre fs) =
     same_if (tree.agree (out.kind_closing (kind_of h)) c) (tree.agree (tree.closes h) c) (out.shut (kind_of h) (reads_types ts && out.reads_type (part_of t)) (frames_of fs)) (part.shut h (more ts pre t) x fs) None None
-      (ap (λ d. tree.agree d c) (kind_closing h)) (shut_is h ts pre t x fs) refl
+    (ap (λ d. tree.agree d c) (kind_closing h)) (shut_is h ts pre t x fs) refl
 
 -- ---- what begins
 
@@ -129,13 +123,13 @@ plain_begins bracket.Dollar x fs = refl
 pub plain_is : (b : Bracket) (x : Token) (fs : part.Frames) → out.begin_plain (base fs) b (frames_of fs) ≡ option_map state_of (if encloses (part.sort fs) b then Some (part.opened b x fs) else None)
 plain_is b x fs =
     same_if (encloses (out.top (base fs) (frames_of fs)) b) (encloses (part.sort fs) b) (out.plain_due b, out.opened (Plain b) (out.top (base fs) (frames_of fs)) (frames_of fs)) (part.opened b x fs) None None
-      (ap (λ σ. encloses σ b) (top_sort fs)) (ap (λ gs. (out.plain_due b, gs)) (opened_is (tree.plain b x) fs) ∙ plain_begins b x fs) refl
+    (ap (λ σ. encloses σ b) (top_sort fs)) (ap (λ gs. (out.plain_due b, gs)) (opened_is (tree.plain b x) fs) ∙ plain_begins b x fs) refl
 
 pub opening_is : (b : Bracket) (x : Token) (fs : part.Frames) → out.begin_opening (base fs) b (frames_of fs) ≡ option_map state_of (part.begin_opening b x fs)
 opening_is bracket.Round x fs =
     same_if (is_count (out.top (base fs) (frames_of fs))) (is_count (part.sort fs)) (IndexDue, frames_of fs) (part.indexing x fs) (out.begin_plain (base fs) bracket.Round (frames_of fs))
-      (if encloses (part.sort fs) bracket.Round then Some (part.want (part.within (tree.plain bracket.Round x) none [] fs)) else None)
-      (ap is_count (top_sort fs)) refl (plain_is bracket.Round x fs)
+    (if encloses (part.sort fs) bracket.Round then Some (part.want (part.within (tree.plain bracket.Round x) none [] fs)) else None)
+    (ap is_count (top_sort fs)) refl (plain_is bracket.Round x fs)
 opening_is bracket.Square x fs = plain_is bracket.Square x fs
 opening_is bracket.Brace x fs = plain_is bracket.Brace x fs
 opening_is bracket.TickRound x fs = plain_is bracket.TickRound x fs
@@ -160,7 +154,7 @@ no_arguments_is x (part.within (tree.arguments f o) (more ts q t) pre fs) = refl
 pub closing_is : (c : Closing) (x : Token) (fs : part.Frames) → out.begin_closing (base fs) c (frames_of fs) ≡ option_map state_of (part.begin_closing c x fs)
 closing_is closings.ByBar x fs =
     same_if (computes (out.top (base fs) (frames_of fs))) (computes (part.sort fs)) (Operand, out.opened Length (out.top (base fs) (frames_of fs)) (frames_of fs)) (part.want (part.within (tree.length x) none [] fs)) None None
-      (ap computes (top_sort fs)) (ap (λ gs. (Operand, gs)) (opened_is (tree.length x) fs)) refl
+    (ap computes (top_sort fs)) (ap (λ gs. (Operand, gs)) (opened_is (tree.length x) fs)) refl
 closing_is closings.ByRound x fs = no_arguments_is x fs
 closing_is closings.BySquare x fs = refl
 closing_is closings.ByBrace x fs = refl
@@ -168,13 +162,13 @@ closing_is closings.ByBrace x fs = refl
 pub begin_is : (fs : part.Frames) (l : Lexeme) → out.begin (base fs) (frames_of fs) (shape l) ≡ option_map state_of (part.begin fs l)
 begin_is fs (leaf k x) =
     same_if (takes (out.top (base fs) (frames_of fs)) k) (takes (part.sort fs) k) (out.settle (out.leaf_part k) (frames_of fs)) (part.settle (tree.operand k x) fs) None None
-      (ap (λ σ. takes σ k) (top_sort fs)) (settle_is (tree.operand k x) fs) refl
+    (ap (λ σ. takes σ k) (top_sort fs)) (settle_is (tree.operand k x) fs) refl
 begin_is fs (dot x) = refl
 begin_is fs (sign m x) =
     same_if (has_level (out.top (base fs) (frames_of fs)) (ahead_level m) && nat_le (out.least (frames_of fs)) (ahead_level m)) (has_level (part.sort fs) (ahead_level m) && nat_le (part.least fs) (ahead_level m))
-      (Operand, Over (Ahead m) (out.top (base fs) (frames_of fs)) ∷ frames_of fs) (part.want (part.over (tree.ahead m x) fs)) None None
-      (both_and _ _ _ _ (ap (λ σ. has_level σ (ahead_level m)) (top_sort fs)) (ap (λ n. nat_le n (ahead_level m)) (least_is fs)))
-      (ap (λ σ. (Operand, Over (Ahead m) σ ∷ frames_of fs)) (top_sort fs)) refl
+    (Operand, Over (Ahead m) (out.top (base fs) (frames_of fs)) ∷ frames_of fs) (part.want (part.over (tree.ahead m x) fs)) None None
+    (both_and _ _ _ _ (ap (λ σ. has_level σ (ahead_level m)) (top_sort fs)) (ap (λ n. nat_le n (ahead_level m)) (least_is fs)))
+    (ap (λ σ. (Operand, Over (Ahead m) σ ∷ frames_of fs)) (top_sort fs)) refl
 begin_is fs (opening b x) = opening_is b x fs
 begin_is fs (closing c x) = closing_is c x fs
 begin_is fs (other x) = refl
@@ -209,7 +203,6 @@ next_begins t fs l =
     ∙ ap (λ σ. out.begin σ (frames_of (part.extend t fs)) (shape l)) (sym (extend_base t fs))
     ∙ begin_is (part.extend t fs) l
 
-
 pub due_if : (b : Bool) (d : Due) (gs : List Frame) (x : part.State) → (d, gs) ≡ state_of x
     → out.next_part (if b then Some d else None) gs ≡ option_map state_of (if b then Some x else None)
 due_if true d gs x e = ap (λ z. Some z) e
@@ -223,6 +216,7 @@ part_is y m x h ts pre t fs =
   where
     gs : List Frame
     gs = Within (kind_of h) Parts (reads_types (more ts pre t)) (grammar.sort_in (part.sort fs) h) ∷ frames_of fs
+
     ends_is : (us : Trees) → out.next_part (out.next_due styles.Ends m (out.is_first (filling us pre))) gs ≡ option_map state_of (part.next_part styles.Ends m x h us (more ts pre t) fs)
     ends_is none = first pre
       where
@@ -230,6 +224,7 @@ part_is y m x h ts pre t fs =
         first [] = due_if (is_colon m) Operand gs (part.want (part.within h (more ts pre t) (sign m x ∷ []) fs)) refl
         first (l ∷ ps) = due_if (is_colon m) Operand gs (part.want (part.within h (more ts pre t) (sign m x ∷ []) fs)) refl
     ends_is (more us q u) = refl
+
     go : (z : Style) → out.next_part (out.next_due z m (out.is_first (filling ts pre))) gs ≡ option_map state_of (part.next_part z m x h ts (more ts pre t) fs)
     go styles.Lone = refl
     go styles.Parts = due_if (is_comma m) Operand gs (part.want (part.within h (more ts pre t) (sign m x ∷ []) fs)) refl
@@ -243,20 +238,20 @@ separate_is m x (t, part.over g fs) = refl
 separate_is m x (t, part.timing u k y fs) = refl
 separate_is m x (t, part.within h ts pre fs) =
     ap (λ y. out.next_part (out.next_due y m (out.is_first (filling ts pre))) (Within (kind_of h) Parts (reads_types ts && out.reads_type (part_of t)) (grammar.sort_in (part.sort fs) h) ∷ frames_of fs))
-      (ap (λ σ. out.kind_style σ (kind_of h)) (top_sort fs) ∙ kind_style (part.sort fs) h)
+    (ap (λ σ. out.kind_style σ (kind_of h)) (top_sort fs) ∙ kind_style (part.sort fs) h)
     ∙ part_is (grammar.style (part.sort fs) h) m x h ts pre t fs
 
 pub join_is : (m : Mark) (x : Token) (p : Tree × part.Frames) → out.join (base p.1) m (low_of p) ≡ option_map state_of (part.join m x p)
 join_is m x p =
     both_if (has_level (out.top (base p.1) (frames_of p.1)) (level_of m) && nat_le (out.least (frames_of p.1)) (level_of m)) (has_level (part.sort p.1) (level_of m) && nat_le (part.least p.1) (level_of m))
-      (if nat_le (left_of m) (grammar.level p.0) then Some (Operand, Over (Left m) (out.top (base p.1) (frames_of p.1)) ∷ frames_of p.1) else None)
-      (out.separate (base p.1) m (low_of p))
-      (if nat_le (left_of m) (grammar.level p.0) then Some (part.want (part.over (tree.left p.0 m x) p.1)) else None)
-      (part.separate m x p)
-      (both_and _ _ _ _ (ap (λ σ. has_level σ (level_of m)) (top_sort p.1)) (ap (λ n. nat_le n (level_of m)) (least_is p.1)))
-      (same_if (nat_le (left_of m) (grammar.level p.0)) (nat_le (left_of m) (grammar.level p.0)) (Operand, Over (Left m) (out.top (base p.1) (frames_of p.1)) ∷ frames_of p.1) (part.want (part.over (tree.left p.0 m x) p.1)) None None refl
-        (ap (λ σ. (Operand, Over (Left m) σ ∷ frames_of p.1)) (top_sort p.1)) refl)
-      (separate_is m x p)
+    (if nat_le (left_of m) (grammar.level p.0) then Some (Operand, Over (Left m) (out.top (base p.1) (frames_of p.1)) ∷ frames_of p.1) else None)
+    (out.separate (base p.1) m (low_of p))
+    (if nat_le (left_of m) (grammar.level p.0) then Some (part.want (part.over (tree.left p.0 m x) p.1)) else None)
+    (part.separate m x p)
+    (both_and _ _ _ _ (ap (λ σ. has_level σ (level_of m)) (top_sort p.1)) (ap (λ n. nat_le n (level_of m)) (least_is p.1)))
+    (same_if (nat_le (left_of m) (grammar.level p.0)) (nat_le (left_of m) (grammar.level p.0)) (Operand, Over (Left m) (out.top (base p.1) (frames_of p.1)) ∷ frames_of p.1) (part.want (part.over (tree.left p.0 m x) p.1)) None None refl
+    (ap (λ σ. (Operand, Over (Left m) σ ∷ frames_of p.1)) (top_sort p.1)) refl)
+    (separate_is m x p)
 
 pub may_dot_is : (σ : Sort) (t : Tree) (x : Token) → out.may_dot σ (part_of t) x.touching ≡ grammar.may_post σ t (dot x)
 may_dot_is (sorts.Expression b) t x = refl
@@ -280,15 +275,16 @@ lower_tight n t fs e = ap (λ v. out.lower n v (part_of t) (frames_of fs)) (sym 
 pub sign_is : (t : Tree) (m : Mark) (x : Token) (fs : part.Frames) → grammar.level t ≡ tight → out.behind_sign (base fs) m (part_of t) (frames_of fs) ≡ option_map state_of (part.behind_sign m x t fs)
 sign_is t m x fs e =
     same_if (out.may_mark (out.top (base fs) (frames_of fs)) (part_of t) m) (grammar.may_post (part.sort fs) t (sign m x)) (Next (out.marked m (part_of t)), frames_of fs) (part.got (tree.post t (sign m x)) fs)
-      (if is_expression (out.top (base fs) (frames_of fs)) && is_caret m then Some (Operand, Timing ∷ frames_of fs) else out.join (base fs) m (out.lower (out.pull (out.top (base fs) (frames_of fs)) m) tight (part_of t) (frames_of fs)))
-      (if is_expression (part.sort fs) && is_caret m then Some (part.want (part.timing t m x fs)) else part.join m x (part.lower (part.pull (part.sort fs) m) t fs))
-      (ap (λ σ. out.may_mark σ (part_of t) m) (top_sort fs) ∙ may_mark_is (part.sort fs) t m x) refl
-      (same_if (is_expression (out.top (base fs) (frames_of fs)) && is_caret m) (is_expression (part.sort fs) && is_caret m) (Operand, Timing ∷ frames_of fs) (part.want (part.timing t m x fs))
-        (out.join (base fs) m (out.lower (out.pull (out.top (base fs) (frames_of fs)) m) tight (part_of t) (frames_of fs))) (part.join m x (part.lower (part.pull (part.sort fs) m) t fs))
-        (ap (λ σ. is_expression σ && is_caret m) (top_sort fs)) refl joined)
+    (if is_expression (out.top (base fs) (frames_of fs)) && is_caret m then Some (Operand, Timing ∷ frames_of fs) else out.join (base fs) m (out.lower (out.pull (out.top (base fs) (frames_of fs)) m) tight (part_of t) (frames_of fs)))
+    (if is_expression (part.sort fs) && is_caret m then Some (part.want (part.timing t m x fs)) else part.join m x (part.lower (part.pull (part.sort fs) m) t fs))
+    (ap (λ σ. out.may_mark σ (part_of t) m) (top_sort fs) ∙ may_mark_is (part.sort fs) t m x) refl
+    (same_if (is_expression (out.top (base fs) (frames_of fs)) && is_caret m) (is_expression (part.sort fs) && is_caret m) (Operand, Timing ∷ frames_of fs) (part.want (part.timing t m x fs))
+    (out.join (base fs) m (out.lower (out.pull (out.top (base fs) (frames_of fs)) m) tight (part_of t) (frames_of fs))) (part.join m x (part.lower (part.pull (part.sort fs) m) t fs))
+    (ap (λ σ. is_expression σ && is_caret m) (top_sort fs)) refl joined)
   where
     low : Tree × part.Frames
     low = part.lower (part.pull (part.sort fs) m) t fs
+
     joined : out.join (base fs) m (out.lower (out.pull (out.top (base fs) (frames_of fs)) m) tight (part_of t) (frames_of fs)) ≡ option_map state_of (part.join m x (part.lower (part.pull (part.sort fs) m) t fs))
     joined =
         ap (λ σ. out.join (base fs) m (out.lower (out.pull σ m) tight (part_of t) (frames_of fs))) (top_sort fs)
@@ -299,17 +295,17 @@ sign_is t m x fs e =
 pub square_is : (t : Tree) (x : Token) (fs : part.Frames) → out.behind_square (base fs) (frames_of fs) ≡ option_map state_of (part.behind_square x t fs)
 square_is t x fs =
     same_if (is_expression (out.top (base fs) (frames_of fs))) (is_expression (part.sort fs)) (Step false, frames_of fs) (part.pathed (tree.head t x) fs)
-      (if computes (out.top (base fs) (frames_of fs)) then Some (Operand, out.opened InIndex (out.top (base fs) (frames_of fs)) (frames_of fs)) else None)
-      (if computes (part.sort fs) then Some (part.want (part.within (tree.index t x) none [] fs)) else None)
-      (ap is_expression (top_sort fs)) refl
-      (same_if (computes (out.top (base fs) (frames_of fs))) (computes (part.sort fs)) (Operand, out.opened InIndex (out.top (base fs) (frames_of fs)) (frames_of fs)) (part.want (part.within (tree.index t x) none [] fs)) None None
-        (ap computes (top_sort fs)) (ap (λ gs. (Operand, gs)) (opened_is (tree.index t x) fs)) refl)
+    (if computes (out.top (base fs) (frames_of fs)) then Some (Operand, out.opened InIndex (out.top (base fs) (frames_of fs)) (frames_of fs)) else None)
+    (if computes (part.sort fs) then Some (part.want (part.within (tree.index t x) none [] fs)) else None)
+    (ap is_expression (top_sort fs)) refl
+    (same_if (computes (out.top (base fs) (frames_of fs))) (computes (part.sort fs)) (Operand, out.opened InIndex (out.top (base fs) (frames_of fs)) (frames_of fs)) (part.want (part.within (tree.index t x) none [] fs)) None None
+    (ap computes (top_sort fs)) (ap (λ gs. (Operand, gs)) (opened_is (tree.index t x) fs)) refl)
 
 pub called : (f x : Token) (fs : part.Frames) → (if computes (out.top (base fs) (frames_of fs)) && x.touching then Some (Operand, out.opened Arguments (out.top (base fs) (frames_of fs)) (frames_of fs)) else None)
     ≡ option_map state_of (part.behind_round x (tree.operand leaves.Function f) fs)
 called f x fs =
     same_if (computes (out.top (base fs) (frames_of fs)) && x.touching) (computes (part.sort fs) && x.touching) (Operand, out.opened Arguments (out.top (base fs) (frames_of fs)) (frames_of fs)) (part.want (part.within (tree.arguments f x) none [] fs)) None None
-      (ap (λ σ. computes σ && x.touching) (top_sort fs)) (ap (λ gs. (Operand, gs)) (opened_is (tree.arguments f x) fs)) refl
+    (ap (λ σ. computes σ && x.touching) (top_sort fs)) (ap (λ gs. (Operand, gs)) (opened_is (tree.arguments f x) fs)) refl
 
 -- only a function has arguments
 pub round_is : (t : Tree) (x : Token) (fs : part.Frames) → out.behind_round (base fs) x.touching (part_of t) (frames_of fs) ≡ option_map state_of (part.behind_round x t fs)
@@ -332,7 +328,7 @@ pub behind_is : (t : Tree) (fs : part.Frames) (l : Lexeme) → grammar.level t �
 behind_is t fs (leaf k x) e = refl
 behind_is t fs (dot x) e =
     same_if (out.may_dot (out.top (base fs) (frames_of fs)) (part_of t) x.touching) (grammar.may_post (part.sort fs) t (dot x)) (Next (out.dotted (part_of t)), frames_of fs) (part.got (tree.post t (dot x)) fs) None None
-      (ap (λ σ. out.may_dot σ (part_of t) x.touching) (top_sort fs) ∙ may_dot_is (part.sort fs) t x) refl refl
+    (ap (λ σ. out.may_dot σ (part_of t) x.touching) (top_sort fs) ∙ may_dot_is (part.sort fs) t x) refl refl
 behind_is t fs (sign m x) e = sign_is t m x fs e
 behind_is t fs (opening bracket.Round x) e = round_is t x fs
 behind_is t fs (opening bracket.Square x) e = square_is t x fs
@@ -347,8 +343,8 @@ behind_is t fs (other x) e = refl
 pub after_is : (t : Tree) (fs : part.Frames) (l : Lexeme) → grammar.level t ≡ tight → out.after (base fs) (part_of t) (frames_of fs) (shape l) ≡ option_map state_of (part.after t fs l)
 after_is t fs l e =
     both_if (out.follows (out.top (base fs) (frames_of fs)) (part_of t) (shape l)) (grammar.follows (part.sort fs) t l)
-      (out.begin (base fs) (out.extend (base fs) (frames_of fs)) (shape l)) (out.behind (base fs) (part_of t) (frames_of fs) (shape l)) (part.begin (part.extend t fs) l) (part.behind t fs l)
-      (ap (λ σ. out.follows σ (part_of t) (shape l)) (top_sort fs) ∙ follows_is (part.sort fs) t l) (next_begins t fs l) (behind_is t fs l e)
+    (out.begin (base fs) (out.extend (base fs) (frames_of fs)) (shape l)) (out.behind (base fs) (part_of t) (frames_of fs) (shape l)) (part.begin (part.extend t fs) l) (part.behind t fs l)
+    (ap (λ σ. out.follows σ (part_of t) (shape l)) (top_sort fs) ∙ follows_is (part.sort fs) t l) (next_begins t fs l) (behind_is t fs l e)
 
 -- ---- paths, names and counts
 
@@ -372,7 +368,7 @@ path_is p fs (closing c x) = in_index_is p fs (closing c x)
 path_is p fs (other x) = in_index_is p fs (other x)
 path_is p fs (sign m x) =
     same_if (grammar.has_step p && is_change m) (grammar.has_step p && is_change m) (Operand, out.opened Update (out.top (base fs) (frames_of fs)) (frames_of fs)) (part.want (part.within (tree.update p m x) none [] fs))
-      (out.in_index (base fs) (grammar.has_step p) (frames_of fs) (Sign m)) (part.in_index p fs (sign m x)) refl (ap (λ gs. (Operand, gs)) (opened_is (tree.update p m x) fs)) (in_index_is p fs (sign m x))
+    (out.in_index (base fs) (grammar.has_step p) (frames_of fs) (Sign m)) (part.in_index p fs (sign m x)) refl (ap (λ gs. (Operand, gs)) (opened_is (tree.update p m x) fs)) (in_index_is p fs (sign m x))
 
 pub label_is : (l : Lexeme) → out.is_label (shape l) ≡ grammar.is_label l
 label_is (leaf leaves.Low x) = refl
@@ -396,7 +392,7 @@ named_is (more ts q t) pre l = refl
 pub name_is : (h : Heading) (ts : Trees) (pre : List Lexeme) (fs : part.Frames) (l : Lexeme) → out.name_field (frames_of (part.within h ts pre fs)) (shape l) ≡ option_map state_of (part.name_field h ts pre fs l)
 name_is h ts pre fs l =
     same_if (out.is_label (shape l)) (grammar.is_label l) (Operand, Within (kind_of h) (out.named (filling ts pre)) (reads_types ts) (grammar.sort_in (part.sort fs) h) ∷ frames_of fs) (part.want (part.within h ts (pre ++ l ∷ []) fs)) None None
-      (label_is l) (ap (λ f. (Operand, Within (kind_of h) f (reads_types ts) (grammar.sort_in (part.sort fs) h) ∷ frames_of fs)) (named_is ts pre l)) refl
+    (label_is l) (ap (λ f. (Operand, Within (kind_of h) f (reads_types ts) (grammar.sort_in (part.sort fs) h) ∷ frames_of fs)) (named_is ts pre l)) refl
 
 pub index_is : (o : Token) (fs : part.Frames) (l : Lexeme) → out.name_index (frames_of fs) (shape l) ≡ option_map state_of (part.name_index o fs l)
 index_is o fs (leaf leaves.Low x) = refl
@@ -415,7 +411,7 @@ index_is o fs (other x) = refl
 pub bound_is : (o i : Token) (fs : part.Frames) (l : Lexeme) → out.bound_index (base fs) (frames_of fs) (shape l) ≡ option_map state_of (part.bound_index o i fs l)
 bound_is o i fs (sign m x) =
     same_if (is_less m) (is_less m) (Operand, out.opened Below (out.top (base fs) (frames_of fs)) (frames_of fs)) (part.want (part.within (tree.below o i m x) none [] fs)) None None refl
-      (ap (λ gs. (Operand, gs)) (opened_is (tree.below o i m x) fs)) refl
+    (ap (λ gs. (Operand, gs)) (opened_is (tree.below o i m x) fs)) refl
 bound_is o i fs (leaf k x) = refl
 bound_is o i fs (dot x) = refl
 bound_is o i fs (opening b x) = refl

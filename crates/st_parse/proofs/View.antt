@@ -1,24 +1,17 @@
 -- The outline of a reading: what the parser keeps of each state of the reading of parts.
-use Rattle.std.proofs.Common.{◌≡◌, ℕ, ◌≤◌, List, [], ◌∷◌, Bool, true, false, not, ◌&&◌, Option, Some, None, option_map, nat_le, if◌then◌else◌, refl, sym, ap, subst, ◌∙◌, arith}
+use Rattle.std.proofs.Common.{◌≡◌, List, [], ◌∷◌, Bool, true, false, ◌&&◌, refl, sym, ap, ◌∙◌}
 use Rattle.st_num.specs.declared.mark.Mark.{Mark}
 use Rattle.st_scan.specs.declared.token.Token.{Token}
-use Rattle.st_grammar.specs.declared.sort.Leaf.{Leaf}
 use Rattle.st_grammar.specs.declared.sort.Leaf.TheVariants as leaves
-use Rattle.st_grammar.specs.declared.sort.Bracket.{Bracket}
 use Rattle.st_grammar.specs.declared.sort.Bracket.TheVariants as bracket
-use Rattle.st_grammar.specs.declared.sort.Closing.{Closing}
-use Rattle.st_grammar.specs.declared.sort.Closing.TheVariants as closings
 use Rattle.st_grammar.specs.declared.sort.Sort.{Sort}
-use Rattle.st_grammar.specs.declared.sort.Sort.TheVariants as sorts
 use Rattle.st_grammar.specs.Lexemes.{Lexeme, leaf, dot, sign, opening, closing, other}
-use Rattle.st_grammar.specs.Levels.{tight, level_of, ahead_level, is_type_mark, has_level}
+use Rattle.st_grammar.specs.Levels.{is_type_mark}
 use Rattle.st_grammar.specs.Trees as tree
 use Rattle.st_grammar.specs.Trees.{Tree, Trees, Heading, Path, none, more}
 use Rattle.st_grammar.specs.Grammar as grammar
 use Rattle.st_grammar.specs.Reading as part
 use Rattle.st_grammar.specs.Places.{reads_type, reads_types}
-use Rattle.st_parse.specs.declared.outline.Shape.{Shape}
-use Rattle.st_parse.specs.declared.outline.Shape.TheVariants.{Single, Dot, Sign, Open, Close, Other}
 use Rattle.st_parse.specs.declared.outline.Part.{Part}
 use Rattle.st_parse.specs.declared.outline.Part.TheVariants.{Function, Atom, Typ, Whole}
 use Rattle.st_parse.specs.declared.outline.Kind.{Kind}
@@ -29,10 +22,8 @@ use Rattle.st_parse.specs.declared.outline.Lead.{Lead}
 use Rattle.st_parse.specs.declared.outline.Lead.TheVariants.{Left, Ahead, Items}
 use Rattle.st_parse.specs.declared.outline.Frame.{Frame}
 use Rattle.st_parse.specs.declared.outline.Frame.TheVariants.{Within, Over, Timing}
-use Rattle.st_parse.specs.declared.outline.Due.{Due}
 use Rattle.st_parse.specs.declared.outline.Due.TheVariants.{Operand, Next, Label, Step, Index as IndexDue, Less}
 use Rattle.st_parse.specs.Outline as out
-use Rattle.st_parse.specs.Shapes.{shape}
 use Rattle.st_grammar.proofs.Sound.{base}
 
 abbrev pub part_of : Tree → Part

@@ -1,5 +1,5 @@
 -- What the parser keeps of a reading of definitions, and what each token makes of it: the reading of `st_grammar` without its trees.
-use Rattle.std.specs.Prelude.{ℕ, List, [], ◌∷◌, Bool, true, false, not, ◌&&◌, ◌||◌, Option, Some, None, option_and_then, option_map, if◌then◌else◌}
+use Rattle.std.specs.Prelude.{List, [], ◌∷◌, Bool, true, false, not, ◌&&◌, ◌||◌, Option, Some, None, option_and_then, if◌then◌else◌}
 use Rattle.st_num.specs.declared.mark.Mark.{Mark}
 use Rattle.st_grammar.specs.declared.sort.Leaf.TheVariants as leaf
 use Rattle.st_grammar.specs.declared.sort.Bracket.{Bracket}
@@ -14,7 +14,7 @@ use Rattle.st_grammar.specs.Levels.{is_mark, is_caret, is_comma, is_colon}
 use Rattle.st_grammar.specs.Trees.{closed_by, agree}
 use Rattle.st_grammar.specs.Definitions.{is_slash, is_minus, is_equal, is_dots}
 use Rattle.st_parse.specs.declared.outline.Shape.{Shape}
-use Rattle.st_parse.specs.declared.outline.Shape.TheVariants.{Single, Dot, Sign, Open, Close, Other}
+use Rattle.st_parse.specs.declared.outline.Shape.TheVariants.{Single, Sign, Open, Close}
 use Rattle.st_parse.specs.declared.outline.Part.{Part}
 use Rattle.st_parse.specs.declared.outline.Due.TheVariants.{Operand}
 use Rattle.st_parse.specs.declared.place.Lexeme.{Lexeme}

@@ -2,3 +2,4 @@ pub mod Outline
 pub mod Shapes
 pub mod Course
 pub mod Readings
+pub mod Refusal

@@ -1,9 +1,7 @@
 -- The states of the parser as those of the outline: the innermost frame comes first.
-use Rattle.std.specs.Prelude.{List, reverse}
-use Rattle.st_parse.specs.declared.outline.Frame.{Frame}
+use Rattle.std.specs.Prelude.{reverse}
 use Rattle.st_parse.specs.declared.outline.Reading.{Reading}
 use Rattle.st_parse.specs.declared.close.Lowered.{Lowered}
-use Rattle.st_parse.specs.declared.place.At.{At}
 use Rattle.st_parse.specs.declared.place.Progress.{Progress}
 use Rattle.st_parse.specs.declared.place.Progress.TheVariants as code
 use Rattle.st_parse.specs.Outline as out

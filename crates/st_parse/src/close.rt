@@ -70,7 +70,7 @@ pub(crate) fn lower(level: u8, part: Part, mut frames: Row<Frame>) -> Result<Low
 }
 
 /// What such a level closes of a frame.
-fn closes(frame: Frame, level: u8) -> Option<Lead>
+pub(crate) fn closes(frame: Frame, level: u8) -> Option<Lead>
     ensures { result ≡ out.closes frame level }
 {
     match frame {

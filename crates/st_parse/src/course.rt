@@ -302,12 +302,7 @@ fn when(passed: bool, place: Place, brackets: Row<Bracket>) -> Option<Progress>
 }
 
 /// A part begins, where a test is passed.
-fn begins(
-    alloc: Global,
-    passed: bool,
-    slot: Slot,
-    brackets: Row<Bracket>,
-) -> Option<Progress>
+fn begins(alloc: Global, passed: bool, slot: Slot, brackets: Row<Bracket>) -> Option<Progress>
     ensures { option_map progress_of result ≡ course.when passed (course.start_of slot (reverse brackets)) }
 {
     if passed {
@@ -360,7 +355,11 @@ fn enter_other(slot: Slot, lexeme: Lexeme, brackets: Row<Bracket>) -> Option<Pro
     match slot {
         Slot::Case(case) => enter_case(case, lexeme, brackets),
         Slot::Argument(true, types) => {
-            when(closes_round(lexeme), Place::ArgumentsClosed(types), brackets)
+            when(
+                closes_round(lexeme),
+                Place::ArgumentsClosed(types),
+                brackets,
+            )
         }
         Slot::Argument(false, _)
         | Slot::Field
@@ -480,12 +479,7 @@ fn colon_step(alloc: Global, lexeme: Lexeme, brackets: Row<Bracket>) -> Option<P
 }
 
 /// A token in the name of a fragment, or behind it.
-fn syntax_id(
-    alloc: Global,
-    due: bool,
-    lexeme: Lexeme,
-    brackets: Row<Bracket>,
-) -> Option<Progress>
+fn syntax_id(alloc: Global, due: bool, lexeme: Lexeme, brackets: Row<Bracket>) -> Option<Progress>
     ensures { option_map progress_of result ≡ course.own (place.SyntaxId due) lexeme (reverse brackets) }
 {
     match id_step(due, lexeme) {
@@ -531,10 +525,7 @@ fn result_step(
     begins(alloc, at_equal(lexeme), Slot::Rule, brackets)
 }
 
-fn premise_step(
-    lexeme: Lexeme,
-    mut brackets: Row<Bracket>,
-) -> Result<Option<Progress>, NoMemory>
+fn premise_step(lexeme: Lexeme, mut brackets: Row<Bracket>) -> Result<Option<Progress>, NoMemory>
     ensures { IfOk result (λ next. option_map progress_of next ≡ course.premise_step lexeme (reverse brackets)) }
 {
     if opens_round(lexeme) {
@@ -607,12 +598,7 @@ fn tail(mut brackets: Row<Bracket>) -> Row<Bracket>
 }
 
 /// What stands behind a condition and its iterations so far.
-fn iterate(
-    alloc: Global,
-    marks: Marks,
-    lexeme: Lexeme,
-    brackets: Row<Bracket>,
-) -> Option<Progress>
+fn iterate(alloc: Global, marks: Marks, lexeme: Lexeme, brackets: Row<Bracket>) -> Option<Progress>
     ensures { option_map progress_of result ≡ course.iterate marks lexeme (reverse brackets) }
 {
     let empty = none_open(&brackets);
@@ -652,11 +638,7 @@ fn enter(
 }
 
 /// A token behind the name of a function.
-fn fun_named(
-    alloc: Global,
-    lexeme: Lexeme,
-    brackets: Row<Bracket>,
-) -> Option<Progress>
+fn fun_named(alloc: Global, lexeme: Lexeme, brackets: Row<Bracket>) -> Option<Progress>
     ensures { option_map progress_of result ≡ course.own place.FunNamed lexeme (reverse brackets) }
 {
     if opens_round(lexeme) && lexeme.touching {
@@ -667,19 +649,18 @@ fn fun_named(
 }
 
 /// A token behind an argument.
-fn argued(
-    alloc: Global,
-    types: bool,
-    lexeme: Lexeme,
-    brackets: Row<Bracket>,
-) -> Option<Progress>
+fn argued(alloc: Global, types: bool, lexeme: Lexeme, brackets: Row<Bracket>) -> Option<Progress>
     ensures { option_map progress_of result ≡ course.own (place.Argued types) lexeme (reverse brackets) }
 {
     if at_comma(lexeme) {
         let slot = Slot::Argument(false, types);
         return Some(start_of(alloc, slot, brackets));
     }
-    when(closes_round(lexeme), Place::ArgumentsClosed(types), brackets)
+    when(
+        closes_round(lexeme),
+        Place::ArgumentsClosed(types),
+        brackets,
+    )
 }
 
 /// A token behind the name of a relation, in a rule.
@@ -697,9 +678,7 @@ fn own_name(place: Place, lexeme: Lexeme, brackets: Row<Bracket>) -> Option<Prog
     ensures { option_map progress_of result ≡ course.own_name place lexeme (reverse brackets) }
 {
     match place {
-        Place::SyntaxName => {
-            when(is_low(lexeme), Place::Hinted(Host::Syntax, true), brackets)
-        }
+        Place::SyntaxName => { when(is_low(lexeme), Place::Hinted(Host::Syntax, true), brackets) }
         Place::VarName => {
             let named = is_low(lexeme) || is_label(lexeme.shape);
             when(named, Place::VarColon, brackets)
@@ -757,17 +736,6 @@ fn own(
     }
 }
 
-/// The word of a next definition, where those before are whole.
-fn turn(ended: bool, lexeme: Lexeme, brackets: Row<Bracket>) -> Option<Progress>
-    ensures { option_map progress_of result ≡ course.turn ended (lexeme.keyword) (reverse brackets) }
-{
-    if ended {
-        begin_definition(lexeme.keyword, brackets)
-    } else {
-        None
-    }
-}
-
 /// Takes one more token at a place, if it may stand there.
 fn place_step(
     alloc: Global,
@@ -777,11 +745,26 @@ fn place_step(
 ) -> Result<Option<Progress>, NoMemory>
     ensures { IfOk result (λ next. option_map progress_of next ≡ course.place_step place lexeme (reverse brackets)) }
 {
-    let ended = whole(place, &brackets);
+    if whole(place, &brackets) {
+        turn(alloc, place, lexeme, brackets)
+    } else {
+        own(alloc, place, lexeme, brackets)
+    }
+}
+
+/// The same where definitions may end: then a next one may begin.
+fn turn(
+    alloc: Global,
+    place: Place,
+    lexeme: Lexeme,
+    brackets: Row<Bracket>,
+) -> Result<Option<Progress>, NoMemory>
+    ensures { IfOk result (λ next. option_map progress_of next ≡ course.first_of_two (course.own place lexeme (reverse brackets)) (course.begin_def (lexeme.keyword) (reverse brackets))) }
+{
     let same = brackets.copy(alloc)?;
     match own(alloc, place, lexeme, brackets)? {
         Some(next) => Ok(Some(next)),
-        None => Ok(turn(ended, lexeme, same)),
+        None => Ok(begin_definition(lexeme.keyword, same)),
     }
 }
 
@@ -799,14 +782,27 @@ pub(crate) fn advance(
             place_step(alloc, place, lexeme, brackets)
         }
         Progress::Inside(slot, reading, brackets) => {
-            let same = reading.copy(alloc)?;
+            let part = finish(&reading);
             match step(slot_sort(slot), reading, lexeme.shape)? {
                 Some(next) => Ok(Some(Progress::Inside(slot, next, brackets))),
-                None => match finish(same)? {
+                None => match part {
                     Some(part) => place_step(alloc, filled(slot, part), lexeme, brackets),
                     None => Ok(None),
                 },
             }
         }
+    }
+}
+
+/// Whether definitions may end here.
+pub(crate) fn may_end(progress: &Progress) -> bool
+    ensures { result ≡ course.may_end (progress_of progress.now) }
+{
+    match progress {
+        Progress::At(here) => whole(here.place, &here.brackets),
+        Progress::Inside(slot, reading, brackets) => match finish(reading) {
+            Some(part) => whole(filled(*slot, part), brackets),
+            None => false,
+        },
     }
 }

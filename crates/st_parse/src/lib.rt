@@ -10,7 +10,11 @@ mod begin;
 mod close;
 mod course;
 mod frame;
+mod lexeme;
 mod outline;
 mod place;
+mod reader;
 mod step;
 mod table;
+
+pub use reader::first_refused;

@@ -1,10 +1,7 @@
 //! What is kept of a reading: what is open, and what later tokens ask of a part that is read.
 
-ghost use Rattle.std.specs.Prelude.{◌≡◌, IfOk};
-
 use st_grammar::{Bracket, Closing, Leaf, Sort};
-use st_num::{Mark, NoMemory, Row};
-use std::alloc::Global;
+use st_num::{Mark, Row};
 
 /// A token as the grammar sees it, and whether it touches what stands before it.
 #[derive(Clone, Copy, Debug, PartialEq, Eq)]
@@ -92,15 +89,4 @@ pub enum Due {
 pub struct Reading {
     pub due: Due,
     pub frames: Row<Frame>,
-}
-
-impl Reading {
-    pub(crate) fn copy(&self, alloc: Global) -> Result<Reading, NoMemory>
-        ensures { IfOk result (λ reading. reading ≡ self.now) }
-    {
-        Ok(Reading {
-            due: self.due,
-            frames: self.frames.copy(alloc)?,
-        })
-    }
 }

@@ -6,8 +6,10 @@ ghost use Rattle.st_parse.specs.Outline as out;
 ghost use Rattle.st_parse.specs.Readings.{reading_of};
 
 use crate::begin::{begin, opened};
-use crate::close::{close, join, lower};
-use crate::frame::{dotted, follows, is_function, marked, may_dot, may_mark, top};
+use crate::close::{close, closes, join, lower};
+use crate::frame::{
+    TIGHT, dotted, follows, is_function, lead_level, marked, may_dot, may_mark, top,
+};
 use crate::outline::{Due, Filling, Frame, Kind, Lead, Part, Reading, Shape};
 use crate::table::{computes, has_level, is_caret, is_change, is_expression, is_less, level_of};
 use st_grammar::{Bracket, Leaf, Sort};
@@ -273,19 +275,29 @@ pub(crate) fn step(base: Sort, reading: Reading, shape: Shape) -> Result<Option<
 }
 
 /// The part, where it may end here.
-pub(crate) fn finish(reading: Reading) -> Result<Option<Part>, NoMemory>
-    ensures { IfOk result (λ part. part ≡ out.finish (reading_of reading)) }
+pub(crate) fn finish(reading: &Reading) -> Option<Part>
+    ensures { result ≡ out.finish (reading_of reading.now) }
 {
-    let Reading { due, frames } = reading;
-    match due {
-        Due::Next(part) => {
-            let lowered = lower(0, part, frames)?;
-            if lowered.frames.is_empty() {
-                Ok(Some(lowered.part))
-            } else {
-                Ok(None)
-            }
-        }
-        Due::Operand | Due::Label | Due::Step(_) | Due::Index | Due::Less => Ok(None),
+    match reading.due {
+        Due::Next(part) => ended(part, reading.frames.as_slice()),
+        Due::Operand | Due::Label | Due::Step(_) | Due::Index | Due::Less => None,
     }
+}
+
+/// The part with all that leads to it, where no bracket is open.
+fn ended(part: Part, frames: &[Frame]) -> Option<Part>
+    ensures { result ≡ out.ended (out.lower 0 20 part (reverse frames.now)) }
+{
+    let mut whole = part;
+    let mut level = TIGHT;
+    let mut rest = frames;
+    'open: while let Some((frame, front)) = rest.split_last() {
+        let Some(lead) = closes(*frame, 0) else {
+            return None;
+        };
+        whole = Part::Whole;
+        level = lead_level(lead);
+        rest = front;
+    }
+    Some(whole)
 }
