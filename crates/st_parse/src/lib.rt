@@ -16,5 +16,7 @@ mod place;
 mod reader;
 mod step;
 mod table;
+#[cfg(test)]
+mod tests;
 
 pub use reader::first_refused;
