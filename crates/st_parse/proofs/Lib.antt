@@ -5,3 +5,4 @@ pub mod CourseSimulation
 pub mod Names
 pub mod TokenKinds
 pub mod Loop
+pub mod Exact

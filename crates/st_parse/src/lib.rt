@@ -10,6 +10,7 @@ mod begin;
 mod close;
 mod course;
 mod frame;
+mod laws;
 mod lexeme;
 mod outline;
 mod place;
@@ -19,4 +20,5 @@ mod table;
 #[cfg(test)]
 mod tests;
 
+pub use laws::refused_once;
 pub use reader::first_refused;
