@@ -146,7 +146,8 @@ abbrev pub scan : {S : Type 0} → (S → Lexeme → Option S) → S → List Le
 scan one s [] = Some s
 scan one s (l ∷ ls) = option_and_then (λ r. scan one r ls) (one s l)
 
--- Whether a piece is due: a piece stands at the front and behind each `-`, a dot behind a piece, and all touch.
+-- Whether a piece is due: a piece stands at the front and behind each `-`, a dot behind a piece,
+-- and all touch.
 abbrev pub id_step : Bool → Lexeme → Option Bool
 id_step true l = if touches l && is_piece l then Some false else None
 id_step false l =
@@ -181,7 +182,8 @@ hint_text (hint w o n ws c) = w ∷ o ∷ n ∷ (ws ++ c ∷ [])
 
 abbrev pub HintFits : Hint → Type 0
 HintFits (hint w o n ws c) =
-    (keyword w ≡ hint_word) × (opens_round o ≡ true) × (is_name n ≡ true) × (scan balance_step [] ws ≡ Some []) × (closes_round c ≡ true)
+    (keyword w ≡ hint_word) × (opens_round o ≡ true) × (is_name n ≡ true)
+    × (scan balance_step [] ws ≡ Some []) × (closes_round c ≡ true)
 
 pub data Hints : Type 0 where
   no_hints : Hints
@@ -284,7 +286,8 @@ abbrev pub IterationsFit : Iterations → Type 0
 IterationsFit no_iterations = Unit {0}
 IterationsFit (closed i l) = IterationsFit i × (wants_mark i ≡ false) × (closes_round l ≡ true)
 IterationsFit (marked i l) = IterationsFit i × (has_closed i ≡ true) × (signed is_mark l ≡ true)
-IterationsFit (counted i l t) = IterationsFit i × (has_closed i ≡ true) × (signed is_caret l ≡ true) × Fits count t
+IterationsFit (counted i l t) =
+    IterationsFit i × (has_closed i ≡ true) × (signed is_caret l ≡ true) × Fits count t
 
 -- `if`, or the name of a relation and `:`
 abbrev pub CondFits : List Lexeme → Type 0
@@ -336,7 +339,8 @@ args_text (args o ts c) = o ∷ (texts ts ++ c ∷ [])
 
 abbrev pub ArgsFit : Sort → Args → Type 0
 ArgsFit σ no_args = Unit {0}
-ArgsFit σ (args o ts c) = (opens_round o ≡ true) × (touches o ≡ true) × EachFits σ parts 1 ts × (closes_round c ≡ true)
+ArgsFit σ (args o ts c) =
+    (opens_round o ≡ true) × (touches o ≡ true) × EachFits σ parts 1 ts × (closes_round c ≡ true)
 
 pub data Def : Type 0 where
   syntax_def : Lexeme → Lexeme → List Lexeme → Hints → Lexeme → Body → Def
@@ -356,17 +360,23 @@ def_text (clause_def w f a e t ps) = w ∷ f ∷ (args_text a ++ (e ∷ (text t 
 
 abbrev pub DefFits : Def → Type 0
 DefFits (syntax_def w x ls hs e b) =
-    (keyword w ≡ syntax_word) × (is_low x ≡ true) × FragmentFits ls × HintsFit hs × (signed is_equal e ≡ true) × BodyFits b
+    (keyword w ≡ syntax_word) × (is_low x ≡ true) × FragmentFits ls × HintsFit hs
+    × (signed is_equal e ≡ true) × BodyFits b
 DefFits (var_def w x c t hs) =
-    (keyword w ≡ var_word) × (is_low x || is_label x ≡ true) × (signed is_colon c ≡ true) × Fits typ t × HintsFit hs
+    (keyword w ≡ var_word) × (is_low x || is_label x ≡ true) × (signed is_colon c ≡ true)
+    × Fits typ t × HintsFit hs
 DefFits (relation_def w r hs c t ks) =
-    (keyword w ≡ relation_word) × (names_relation r ≡ true) × HintsFit hs × (signed is_colon c ≡ true) × Fits notation t × HintsFit ks
+    (keyword w ≡ relation_word) × (names_relation r ≡ true) × HintsFit hs
+    × (signed is_colon c ≡ true) × Fits notation t × HintsFit ks
 DefFits (rule_def w r ls c t ps) =
-    (keyword w ≡ rule_word) × (names_relation r ≡ true) × FragmentFits ls × (signed is_colon c ≡ true) × Fits (expression false) t × PremisesFit ps
+    (keyword w ≡ rule_word) × (names_relation r ≡ true) × FragmentFits ls
+    × (signed is_colon c ≡ true) × Fits (expression false) t × PremisesFit ps
 DefFits (fun_def w f a c t hs) =
-    (keyword w ≡ def_word) × (is_fun f ≡ true) × ArgsFit typ a × (signed is_colon c ≡ true) × Fits typ t × HintsFit hs
+    (keyword w ≡ def_word) × (is_fun f ≡ true) × ArgsFit typ a × (signed is_colon c ≡ true)
+    × Fits typ t × HintsFit hs
 DefFits (clause_def w f a e t ps) =
-    (keyword w ≡ def_word) × (is_fun f ≡ true) × ArgsFit (expression false) a × (signed is_equal e ≡ true)
+    (keyword w ≡ def_word) × (is_fun f ≡ true) × ArgsFit (expression false) a
+    × (signed is_equal e ≡ true)
     × Fits (expression false) t × PremisesFit ps
 
 pub data Defs : Type 0 where
@@ -388,4 +398,5 @@ pub record ParseDefs (us : List Lexeme) (ds : Defs) : Type 0 where
 
 -- some tokens behind these make definitions
 abbrev pub ViableDefs : List (List ℕ) → List Lexeme → Type 0
-ViableDefs names us = (rest : List Token) × (ds : Defs) × ParseDefs (us ++ map (lexeme names) rest) ds
+ViableDefs names us =
+    (rest : List Token) × (ds : Defs) × ParseDefs (us ++ map (lexeme names) rest) ds

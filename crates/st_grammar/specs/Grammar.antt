@@ -64,12 +64,15 @@ abbrev pub SetsOff : Style → Trees → List Lexeme → Type 0
 SetsOff lone none pre = pre ≡ []
 SetsOff lone (more ts q t) pre = ⊥
 SetsOff parts none pre = pre ≡ []
-SetsOff parts (more ts q t) pre = (m : Mark) × (x : Token) × (pre ≡ sign m x ∷ []) × (is_comma m ≡ true)
+SetsOff parts (more ts q t) pre =
+    (m : Mark) × (x : Token) × (pre ≡ sign m x ∷ []) × (is_comma m ≡ true)
 SetsOff fields none pre = (l : Lexeme) × (pre ≡ l ∷ []) × (is_label l ≡ true)
 SetsOff fields (more ts q t) pre =
-    (m : Mark) × (x : Token) × (l : Lexeme) × (pre ≡ sign m x ∷ l ∷ []) × (is_comma m ≡ true) × (is_label l ≡ true)
+    (m : Mark) × (x : Token) × (l : Lexeme) × (pre ≡ sign m x ∷ l ∷ []) × (is_comma m ≡ true)
+    × (is_label l ≡ true)
 SetsOff ends none pre = pre ≡ []
-SetsOff ends (more none q t) pre = (m : Mark) × (x : Token) × (pre ≡ sign m x ∷ []) × (is_colon m ≡ true)
+SetsOff ends (more none q t) pre =
+    (m : Mark) × (x : Token) × (pre ≡ sign m x ∷ []) × (is_colon m ≡ true)
 SetsOff ends (more (more ts q t) r u) pre = ⊥
 SetsOff run ts pre = pre ≡ []
 
@@ -94,7 +97,8 @@ abbrev pub opens_length : Closing → Sort → Bool
 opens_length by_bar (expression b) = not b
 opens_length c σ = false
 
--- The token begins a next element of a sequence behind this one. Directly in bars a bar closes, and a parenthesis that touches a function begins its arguments.
+-- The token begins a next element of a sequence behind this one. Directly in bars a bar closes,
+-- and a parenthesis that touches a function begins its arguments.
 abbrev pub follows : Sort → Tree → Lexeme → Bool
 follows σ u (leaf k x) = juxtaposes σ
 follows σ u (opening square x) = false
@@ -180,9 +184,11 @@ abbrev mutual
   pub Fits : Sort → Tree → Type 0
   Fits σ (operand k x) = takes σ k ≡ true
   Fits σ (post t l) = (may_post σ t l ≡ true) × Fits σ t × (tight ≤ level t)
-  Fits σ (times t m x c) = (is_caret m ≡ true) × (is_expression σ ≡ true) × Fits σ t × (tight ≤ level t) × Fits count c
+  Fits σ (times t m x c) =
+      (is_caret m ≡ true) × (is_expression σ ≡ true) × Fits σ t × (tight ≤ level t) × Fits count c
   Fits σ (bracket h ts c) =
-      (is_operand h ≡ true) × HeadingFits σ h × EachFits (sort_in σ h) (style σ h) (least_in h) ts × IsFilled h ts
+      (is_operand h ≡ true) × HeadingFits σ h × EachFits (sort_in σ h) (style σ h) (least_in h) ts
+      × IsFilled h ts
   Fits σ (led g t) = LeadFits σ g × Fits σ t × (wanted g ≤ level t) × MayEnd σ g (text t)
 
   pub LeadFits : Sort → Lead → Type 0

@@ -77,7 +77,8 @@ juxtaposes σ = false
 
 -- ---- signs
 
--- The level of a sign between two sides, 0 where it is none: the looser have the lower numbers. Those of arithmetic stand behind those of expressions.
+-- The level of a sign between two sides, 0 where it is none: the looser have the lower numbers.
+-- Those of arithmetic stand behind those of expressions.
 abbrev pub level_of : Mark → ℕ
 level_of mark.Equivalent = 1
 level_of mark.Implies = 2

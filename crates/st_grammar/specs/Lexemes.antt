@@ -32,7 +32,8 @@ pub data Lexeme : Type 0 where
 -- the name without its trailing primes
 abbrev pub drop_primes : List ℕ → List ℕ
 drop_primes [] = []
-drop_primes (b ∷ name) = if list_any (λ c. not (c == 39)) (b ∷ name) then b ∷ drop_primes name else []
+drop_primes (b ∷ name) =
+    if list_any (λ c. not (c == 39)) (b ∷ name) then b ∷ drop_primes name else []
 
 abbrev pub same_name : List ℕ → List ℕ → Bool
 same_name [] [] = true
@@ -44,10 +45,12 @@ same_name (b ∷ bs) (c ∷ cs) = b == c && same_name bs cs
 abbrev pub is_named : List (List ℕ) → List ℕ → Bool
 is_named names name = list_any (same_name (drop_primes name)) names
 
--- The whole is declared by `var`, or what stands before one of its `_` is: this front and the rest behind it.
+-- The whole is declared by `var`, or what stands before one of its `_` is: this front and the
+-- rest behind it.
 abbrev pub is_declared : List (List ℕ) → List ℕ → List ℕ → Bool
 is_declared names front [] = is_named names front
-is_declared names front (b ∷ rest) = (b == 95 && is_named names front) || is_declared names (front ++ b ∷ []) rest
+is_declared names front (b ∷ rest) =
+    (b == 95 && is_named names front) || is_declared names (front ++ b ∷ []) rest
 
 abbrev pub is_variable : List (List ℕ) → List ℕ → Bool
 is_variable names name = is_declared names [] name
@@ -65,7 +68,8 @@ name_in _ = []
 -- the names in these tokens that directly follow the word `var`, which stands before them or not
 abbrev pub names_behind : Bool → List Token → List (List ℕ)
 names_behind b [] = []
-names_behind b (x ∷ tokens) = (if b then name_in x.kind else []) ++ names_behind (is_var x.kind) tokens
+names_behind b (x ∷ tokens) =
+    (if b then name_in x.kind else []) ++ names_behind (is_var x.kind) tokens
 
 -- the names that directly follow the word `var`
 abbrev pub declared_names : List Token → List (List ℕ)

@@ -1,4 +1,5 @@
--- How the tokens of definitions are read: the places between tokens, and the parts that are read in them.
+-- How the tokens of definitions are read: the places between tokens, and the parts that are read
+-- in them.
 use Rattle.std.specs.Prelude.{List, [], ◌∷◌, ◌++◌, length, Bool, true, false, not, ◌&&◌, ◌||◌, ◌==◌, Option, Some, None, option_and_then, if◌then◌else◌}
 use Rattle.st_grammar.specs.declared.keyword.Keyword.{Keyword}
 use Rattle.st_grammar.specs.declared.keyword.Keyword.TheVariants.{SyntaxWord as syntax_word, RelationWord as relation_word, RuleWord as rule_word, VarWord as var_word, DefWord as def_word, HintWord as hint_word, IfWord as if_word, OtherwiseWord as otherwise_word, Dashes as dashes}
@@ -45,7 +46,8 @@ pub data Slot : Type 0 where
   arg_slot : Defs → Lexeme → Lexeme → Lexeme → Trees → List Lexeme → Slot
   rule_slot : Rule → Slot
   cond_slot : Rule → Tree → Premises → Lexeme → List Lexeme → List Lexeme → Slot
-  count_slot : Rule → Tree → Premises → Lexeme → List Lexeme → List Lexeme → Tree → Iterations → Lexeme → Slot
+  count_slot : Rule → Tree → Premises → Lexeme → List Lexeme → List Lexeme → Tree → Iterations
+      → Lexeme → Slot
 
 abbrev pub slot_sort : Slot → Sort
 slot_sort (field_slot h o ms pre) = typ
@@ -125,7 +127,8 @@ abbrev pub whole : Place → Option Defs
 whole (between ds) = Some ds
 whole (hinted h hs) = host_whole h hs
 whole (premised r t ps) = Some (rule_whole r t ps)
-whole (iterated r t ps d os ls u i) = if is_whole os i then Some (rule_whole r t (more_premises ps (given d os ls u i))) else None
+whole (iterated r t ps d os ls u i) =
+    if is_whole os i then Some (rule_whole r t (more_premises ps (given d os ls u i))) else None
 whole p = None
 
 -- ---- steps
@@ -156,7 +159,8 @@ enter_case h no_members [] l =
     else if signed is_dots l then Some (at (dotted h l))
     else when (is_bar l) (at (entering (case_slot h no_members (l ∷ []))))
 enter_case h no_members (b ∷ ls) l = None
-enter_case h (member ms q t hs) (b ∷ []) l = when (signed is_dots l) (at (between (syntax_whole h (cases (member ms q t hs) (b ∷ l ∷ [])))))
+enter_case h (member ms q t hs) (b ∷ []) l =
+    when (signed is_dots l) (at (between (syntax_whole h (cases (member ms q t hs) (b ∷ l ∷ [])))))
 enter_case h (member ms q t hs) ls l = None
 
 abbrev pub enter_other : Slot → Lexeme → Option State
@@ -173,12 +177,16 @@ field_step h o ms pre l = when (is_label l) (begun (field_slot h o ms (pre ++ l 
 abbrev pub host_step : Host → Hints → Lexeme → Option State
 host_step (of_syntax ds w x []) no_hints l =
     if signed is_slash l then Some (at (syntax_id ds w x (l ∷ []) true))
-    else when (signed is_equal l) (at (entering (case_slot (syntax_head ds w x [] no_hints l) no_members [])))
-host_step (of_syntax ds w x ls) hs l = when (signed is_equal l) (at (entering (case_slot (syntax_head ds w x ls hs l) no_members [])))
+    else
+    when (signed is_equal l)
+    (at (entering (case_slot (syntax_head ds w x [] no_hints l) no_members [])))
+host_step (of_syntax ds w x ls) hs l =
+    when (signed is_equal l) (at (entering (case_slot (syntax_head ds w x ls hs l) no_members [])))
 host_step (of_field h o ms pre t) hs l =
     if signed is_comma l then Some (at (field_name h o (member ms pre t hs) (l ∷ [])))
     else when (closes_brace l) (at (between (syntax_whole h (fields o (member ms pre t hs) l))))
-host_step (of_case h ms pre t) hs l = when (is_bar l) (at (entering (case_slot h (member ms pre t hs) (l ∷ []))))
+host_step (of_case h ms pre t) hs l =
+    when (is_bar l) (at (entering (case_slot h (member ms pre t hs) (l ∷ []))))
 host_step (of_relation ds w r) hs l = when (signed is_colon l) (begun (notation_slot ds w r hs l))
 host_step h hs l = None
 
@@ -186,9 +194,11 @@ abbrev pub hint_or : Keyword → Host → Hints → Lexeme → Option State
 hint_or hint_word h hs l = Some (at (hint_open h hs l))
 hint_or k h hs l = host_step h hs l
 
-abbrev pub hint_step : Host → Hints → Lexeme → Lexeme → Lexeme → List Lexeme → List Bracket → Lexeme → Option (List Bracket) → Option State
+abbrev pub hint_step : Host → Hints → Lexeme → Lexeme → Lexeme → List Lexeme → List Bracket
+    → Lexeme → Option (List Bracket) → Option State
 hint_step h hs w o n ws cs l (Some ds) = Some (at (hint_words h hs w o n (ws ++ l ∷ []) ds))
-hint_step h hs w o n ws [] l None = when (closes_round l) (at (hinted h (more_hints hs (hint w o n ws l))))
+hint_step h hs w o n ws [] l None =
+    when (closes_round l) (at (hinted h (more_hints hs (hint w o n ws l))))
 hint_step h hs w o n ws cs l None = None
 
 abbrev pub id_goes : Option Bool → Bool → (Bool → State) → Option State → Option State
@@ -226,9 +236,11 @@ premise_step r t ps d os l =
     if opens_round l then Some (at (premise_open r t ps d (os ++ l ∷ [])))
     else when (names_relation l) (at (goal_colon r t ps d os l))
 
-abbrev pub premise_word : Keyword → Rule → Tree → Premises → Lexeme → List Lexeme → Lexeme → Option State
+abbrev pub premise_word : Keyword → Rule → Tree → Premises → Lexeme → List Lexeme → Lexeme
+    → Option State
 premise_word if_word r t ps d os l = Some (begun (cond_slot r t ps d os (l ∷ [])))
-premise_word otherwise_word r t ps d [] l = Some (at (premised r t (more_premises ps (default d l))))
+premise_word otherwise_word r t ps d [] l =
+    Some (at (premised r t (more_premises ps (default d l))))
 premise_word k r t ps d os l = premise_step r t ps d os l
 
 abbrev pub next_premise : Keyword → Rule → Tree → Premises → Lexeme → Option State
@@ -239,7 +251,8 @@ next_premise k r t ps l = None
 abbrev pub may_close : List Lexeme → Iterations → Bool
 may_close os i = not (closings i == length os) && not (wants_mark i)
 
-abbrev pub iterate : Rule → Tree → Premises → Lexeme → List Lexeme → List Lexeme → Tree → Iterations → Lexeme → Option State
+abbrev pub iterate : Rule → Tree → Premises → Lexeme → List Lexeme → List Lexeme → Tree
+    → Iterations → Lexeme → Option State
 iterate r t ps d os ls u i l =
     if closes_round l && may_close os i then Some (at (iterated r t ps d os ls u (closed i l)))
     else if signed is_mark l && has_closed i then Some (at (iterated r t ps d os ls u (marked i l)))
@@ -259,13 +272,17 @@ own (rule_colon ds w r) l =
     if signed is_slash l then Some (at (rule_id ds w r (l ∷ []) true)) else colon_step ds w r [] l
 own (fun_name ds w) l = when (is_fun l) (at (fun_named ds w l))
 own (fun_named ds w f) l =
-    if opens_round l && touches l then Some (at (entering (arg_slot ds w f l none []))) else result_step ds w f no_args true l
+    if opens_round l && touches l then Some (at (entering (arg_slot ds w f l none [])))
+    else result_step ds w f no_args true l
 own (argued ds w f o ts) l =
-    if signed is_comma l then Some (begun (arg_slot ds w f o ts (l ∷ []))) else when (closes_round l) (at (args_closed ds w f o ts l))
+    if signed is_comma l then Some (begun (arg_slot ds w f o ts (l ∷ [])))
+    else when (closes_round l) (at (args_closed ds w f o ts l))
 own (args_closed ds w f o ts c) l = result_step ds w f (args o ts c) (reads_types ts) l
 own (syntax_id ds w x ls d) l =
-    id_goes (id_step d l) d (λ e. at (syntax_id ds w x (ls ++ l ∷ []) e)) (hint_or (keyword l) (of_syntax ds w x ls) no_hints l)
-own (rule_id ds w r ls d) l = id_goes (id_step d l) d (λ e. at (rule_id ds w r (ls ++ l ∷ []) e)) (colon_step ds w r ls l)
+    id_goes (id_step d l) d (λ e. at (syntax_id ds w x (ls ++ l ∷ []) e))
+    (hint_or (keyword l) (of_syntax ds w x ls) no_hints l)
+own (rule_id ds w r ls d) l =
+    id_goes (id_step d l) d (λ e. at (rule_id ds w r (ls ++ l ∷ []) e)) (colon_step ds w r ls l)
 own (hinted h hs) l = hint_or (keyword l) h hs l
 own (hint_open h hs w) l = when (opens_round l) (at (hint_name h hs w l))
 own (hint_name h hs w o) l = when (is_name l) (at (hint_words h hs w o l [] []))
@@ -275,7 +292,8 @@ own (dotted h d) l = when (is_bar l) (at (entering (case_slot h no_members (d �
 own (field_name h o ms pre) l = field_step h o ms pre l
 own (premised r t ps) l = next_premise (keyword l) r t ps l
 own (premise_open r t ps d os) l = premise_word (keyword l) r t ps d os l
-own (goal_colon r t ps d os n) l = when (signed is_colon l) (begun (cond_slot r t ps d os (n ∷ l ∷ [])))
+own (goal_colon r t ps d os n) l =
+    when (signed is_colon l) (begun (cond_slot r t ps d os (n ∷ l ∷ [])))
 own (iterated r t ps d os ls u i) l = iterate r t ps d os ls u i l
 
 -- the first of two, where there is one
@@ -285,7 +303,8 @@ first_of_two None o = o
 
 -- behind whole definitions a next one begins
 abbrev pub place_step : Place → Lexeme → Option State
-place_step p l = first_of_two (own p l) (option_and_then (λ ds. begin_def ds l (keyword l)) (whole p))
+place_step p l =
+    first_of_two (own p l) (option_and_then (λ ds. begin_def ds l (keyword l)) (whole p))
 
 -- where a part that is read leads to
 abbrev pub filled : Slot → Tree → Place

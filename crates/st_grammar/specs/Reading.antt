@@ -1,4 +1,5 @@
--- How the tokens of a tree are read, one after another: what is open, and what each token makes of it.
+-- How the tokens of a tree are read, one after another: what is open, and what each token makes
+-- of it.
 use Rattle.std.specs.Prelude.{ℕ, List, [], ◌∷◌, ◌++◌, ◌&&◌, Option, Some, None, option_and_then, nat_le, if◌then◌else◌}
 use Rattle.st_num.specs.declared.mark.Mark.{Mark}
 use Rattle.st_scan.specs.declared.token.Token.{Token}
@@ -78,7 +79,8 @@ shut (segment p o) ts x fs = pathed (part p o ts x) fs
 shut h ts x fs = settle (bracket h ts x) fs
 
 abbrev pub close : Closing → Token → Tree × Frames → Option State
-close c x (t, within h ts pre fs) = if agree (closes h) c then Some (shut h (more ts pre t) x fs) else None
+close c x (t, within h ts pre fs) =
+    if agree (closes h) c then Some (shut h (more ts pre t) x fs) else None
 close c x p = None
 
 abbrev pub ended : Tree × Frames → Option Tree
@@ -93,11 +95,13 @@ opened k x fs = want (within (plain k x) none [] fs)
 
 -- arguments that are none
 abbrev pub no_arguments : Token → Frames → Option State
-no_arguments x (within (arguments f o) none [] fs) = Some (settle (bracket (arguments f o) none x) fs)
+no_arguments x (within (arguments f o) none [] fs) =
+    Some (settle (bracket (arguments f o) none x) fs)
 no_arguments x fs = None
 
 abbrev pub begin_closing : Closing → Token → Frames → Option State
-begin_closing by_bar x fs = if computes (sort fs) then Some (want (within (length x) none [] fs)) else None
+begin_closing by_bar x fs =
+    if computes (sort fs) then Some (want (within (length x) none [] fs)) else None
 begin_closing by_round x fs = no_arguments x fs
 begin_closing c x fs = None
 
@@ -116,7 +120,8 @@ abbrev pub begin : Frames → Lexeme → Option State
 begin fs (leaf k x) = if takes (sort fs) k then Some (settle (operand k x) fs) else None
 begin fs (dot x) = None
 begin fs (sign m x) =
-    if has_level (sort fs) (ahead_level m) && nat_le (least fs) (ahead_level m) then Some (want (over (ahead m x) fs)) else None
+    if has_level (sort fs) (ahead_level m) && nat_le (least fs) (ahead_level m)
+    then Some (want (over (ahead m x) fs)) else None
 begin fs (opening k x) = begin_opening k x fs
 begin fs (closing c x) = begin_closing c x fs
 begin fs (other x) = None
@@ -130,9 +135,12 @@ extend t fs = over (items (more none [] t)) fs
 
 -- a next part of a bracket
 abbrev pub next_part : Style → Mark → Token → Heading → Trees → Trees → Frames → Option State
-next_part parts m x h before ts fs = if is_comma m then Some (want (within h ts (sign m x ∷ []) fs)) else None
-next_part fields m x h before ts fs = if is_comma m then Some (naming h ts (sign m x ∷ []) fs) else None
-next_part ends m x h none ts fs = if is_colon m then Some (want (within h ts (sign m x ∷ []) fs)) else None
+next_part parts m x h before ts fs =
+    if is_comma m then Some (want (within h ts (sign m x ∷ []) fs)) else None
+next_part fields m x h before ts fs =
+    if is_comma m then Some (naming h ts (sign m x ∷ []) fs) else None
+next_part ends m x h none ts fs =
+    if is_colon m then Some (want (within h ts (sign m x ∷ []) fs)) else None
 next_part y m x h before ts fs = None
 
 abbrev pub separate : Mark → Token → Tree × Frames → Option State
@@ -164,7 +172,8 @@ behind_square x t fs =
 
 abbrev pub behind_round : Token → Tree → Frames → Option State
 behind_round x (operand function f) fs =
-    if computes (sort fs) && x.touching then Some (want (within (arguments f x) none [] fs)) else None
+    if computes (sort fs) && x.touching then Some (want (within (arguments f x) none [] fs))
+    else None
 behind_round x t fs = None
 
 abbrev pub behind_opening : Bracket → Token → Tree → Frames → Option State
@@ -194,7 +203,8 @@ abbrev pub in_path : Path → Frames → Lexeme → Option State
 in_path p fs (dot x) = Some (pathed (field p x) fs)
 in_path p fs (opening square x) = Some (want (within (segment p x) none [] fs))
 in_path p fs (sign m x) =
-    if has_step p && is_change m then Some (want (within (update p m x) none [] fs)) else in_index p fs (sign m x)
+    if has_step p && is_change m then Some (want (within (update p m x) none [] fs))
+    else in_index p fs (sign m x)
 in_path p fs l = in_index p fs l
 
 abbrev pub name_field : Heading → Trees → List Lexeme → Frames → Lexeme → Option State
@@ -205,7 +215,8 @@ name_index o fs (leaf low i) = Some (comparing o i fs)
 name_index o fs l = None
 
 abbrev pub bound_index : Token → Token → Frames → Lexeme → Option State
-bound_index o i fs (sign m x) = if is_less m then Some (want (within (below o i m x) none [] fs)) else None
+bound_index o i fs (sign m x) =
+    if is_less m then Some (want (within (below o i m x) none [] fs)) else None
 bound_index o i fs l = None
 
 -- ---- the reading

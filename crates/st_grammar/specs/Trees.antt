@@ -115,4 +115,5 @@ abbrev mutual
   pub path_text : Path → List Lexeme
   path_text (head t o) = text t ++ opening square o ∷ []
   path_text (field p x) = path_text p ++ dot x ∷ []
-  path_text (part p o ts c) = path_text p ++ (opening square o ∷ (texts ts ++ closing by_square c ∷ []))
+  path_text (part p o ts c) =
+      path_text p ++ (opening square o ∷ (texts ts ++ closing by_square c ∷ []))

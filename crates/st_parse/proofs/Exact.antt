@@ -26,7 +26,7 @@ source_viable tokens m h s =
     let us = lexemes_of tokens in
     let all : take (length tokens) us ≡ us = take_all (length tokens) us (omega (arith, length-map tokens (lexeme (declared_names tokens)))) in
     viable_front tokens m (length tokens) h h
-      ([], s.0, record { fits = s.1.fits; spelled = append-nil (take (length tokens) us) ∙ all ∙ s.1.spelled })
+    ([], s.0, record { fits = s.1.fits; spelled = append-nil (take (length tokens) us) ∙ all ∙ s.1.spelled })
 
 pub never_both : (tokens : List Token) (k : ℕ) → RefusedAt tokens k → IsSource tokens → ⊥
 never_both tokens k (inl r) s = r.2 (source_viable tokens (k + 1) (omega (arith, r.0)) s)

@@ -1,4 +1,5 @@
--- What the parser keeps of a reading of definitions, and what each token makes of it: the reading of `st_grammar` without its trees.
+-- What the parser keeps of a reading of definitions, and what each token makes of it: the reading
+-- of `st_grammar` without its trees.
 use Rattle.std.specs.Prelude.{List, [], ◌∷◌, Bool, true, false, not, ◌&&◌, ◌||◌, Option, Some, None, option_and_then, if◌then◌else◌}
 use Rattle.st_num.specs.declared.mark.Mark.{Mark}
 use Rattle.st_grammar.specs.declared.sort.Leaf.TheVariants as leaf
@@ -183,7 +184,8 @@ enter s None ks o = o
 
 abbrev pub field_step : Bool → Lexeme → List Bracket → Option State
 field_step true l ks =
-    if is_label l then Some (start_of slot.Field ks) else when (closes_brace l) (at place.Between ks)
+    if is_label l then Some (start_of slot.Field ks)
+    else when (closes_brace l) (at place.Between ks)
 field_step false l ks = when (is_label l) (start_of slot.Field ks)
 
 abbrev pub host_step : Host → Bool → Lexeme → List Bracket → Option State
@@ -191,7 +193,8 @@ host_step host.Syntax b l ks =
     if b && signed is_slash l then Some (at (place.SyntaxId true) ks)
     else when (signed is_equal l) (at (place.Entering (slot.Case case.Start)) ks)
 host_step host.Field b l ks =
-    if signed is_comma l then Some (at (place.FieldName false) ks) else when (closes_brace l) (at place.Between ks)
+    if signed is_comma l then Some (at (place.FieldName false) ks)
+    else when (closes_brace l) (at place.Between ks)
 host_step host.Case b l ks = when (is_bar l) (at (place.Entering (slot.Case case.Barred)) ks)
 host_step host.Relation b l ks = when (signed is_colon l) (start_of slot.Notation ks)
 host_step h b l ks = None
@@ -215,11 +218,13 @@ colon_step l ks = when (signed is_colon l) (start_of slot.Rule ks)
 
 abbrev pub result_step : Bool → Lexeme → List Bracket → Option State
 result_step b l ks =
-    if signed is_colon l && b then Some (start_of slot.Fun ks) else when (signed is_equal l) (start_of slot.Rule ks)
+    if signed is_colon l && b then Some (start_of slot.Fun ks)
+    else when (signed is_equal l) (start_of slot.Rule ks)
 
 abbrev pub premise_step : Lexeme → List Bracket → Option State
 premise_step l ks =
-    if opens_round l then Some (at place.PremiseOpen (bracket.Round ∷ ks)) else when (names_relation l) (at place.GoalColon ks)
+    if opens_round l then Some (at place.PremiseOpen (bracket.Round ∷ ks))
+    else when (names_relation l) (at place.GoalColon ks)
 
 abbrev pub premise_word : Keyword → Lexeme → List Bracket → Option State
 premise_word key.IfWord l ks = Some (start_of slot.Condition ks)
@@ -236,7 +241,8 @@ tail (k ∷ ks) = ks
 
 abbrev pub iterate : Marks → Lexeme → List Bracket → Option State
 iterate m l ks =
-    if closes_round l && (not (is_empty ks) && not (wants_mark m)) then Some (at (place.Iterated marks.Wanted) (tail ks))
+    if closes_round l && (not (is_empty ks) && not (wants_mark m))
+    then Some (at (place.Iterated marks.Wanted) (tail ks))
     else if signed is_mark l && has_closed m then Some (at (place.Iterated marks.Marked) ks)
     else if signed is_caret l && has_closed m then Some (start_of slot.Count ks)
     else if is_empty ks && not (wants_mark m) then next_premise l.keyword ks
@@ -246,7 +252,8 @@ iterate m l ks =
 abbrev pub own_name : Place → Lexeme → List Bracket → Option State
 own_name place.SyntaxName l ks = when (is_low l) (at (place.Hinted host.Syntax true) ks)
 own_name place.VarName l ks = when (is_low l || is_label l) (at place.VarColon ks)
-own_name place.RelationName l ks = when (names_relation l) (at (place.Hinted host.Relation false) ks)
+own_name place.RelationName l ks =
+    when (names_relation l) (at (place.Hinted host.Relation false) ks)
 own_name place.RuleName l ks = when (names_relation l) (at place.RuleColon ks)
 own_name place.FunName l ks = when (is_fun l) (at place.FunNamed ks)
 own_name (place.HintOpen h) l ks = when (opens_round l) (at (place.HintName h) ks)
@@ -262,20 +269,26 @@ own place.VarName l ks = when (is_low l || is_label l) (at place.VarColon ks)
 own place.VarColon l ks = when (signed is_colon l) (start_of slot.Var ks)
 own place.RelationName l ks = when (names_relation l) (at (place.Hinted host.Relation false) ks)
 own place.RuleName l ks = when (names_relation l) (at place.RuleColon ks)
-own place.RuleColon l ks = if signed is_slash l then Some (at (place.RuleId true) ks) else colon_step l ks
+own place.RuleColon l ks =
+    if signed is_slash l then Some (at (place.RuleId true) ks) else colon_step l ks
 own place.FunName l ks = when (is_fun l) (at place.FunNamed ks)
 own place.FunNamed l ks =
-    if opens_round l && l.touching then Some (at (place.Entering (slot.Argument true true)) ks) else result_step true l ks
+    if opens_round l && l.touching then Some (at (place.Entering (slot.Argument true true)) ks)
+    else result_step true l ks
 own (place.Argued t) l ks =
-    if signed is_comma l then Some (start_of (slot.Argument false t) ks) else when (closes_round l) (at (place.ArgumentsClosed t) ks)
+    if signed is_comma l then Some (start_of (slot.Argument false t) ks)
+    else when (closes_round l) (at (place.ArgumentsClosed t) ks)
 own (place.ArgumentsClosed t) l ks = result_step t l ks
-own (place.SyntaxId d) l ks = id_goes (id_step d l) d (λ e. at (place.SyntaxId e) ks) (hint_or l.keyword host.Syntax false l ks)
+own (place.SyntaxId d) l ks =
+    id_goes (id_step d l) d (λ e. at (place.SyntaxId e) ks)
+    (hint_or l.keyword host.Syntax false l ks)
 own (place.RuleId d) l ks = id_goes (id_step d l) d (λ e. at (place.RuleId e) ks) (colon_step l ks)
 own (place.Hinted h b) l ks = hint_or l.keyword h b l ks
 own (place.HintOpen h) l ks = when (opens_round l) (at (place.HintName h) ks)
 own (place.HintName h) l ks = when (is_name l) (at (place.HintWords h) ks)
 own (place.HintWords h) l ks = hint_step h ks l (balance ks l.shape)
-own (place.Entering s) l ks = enter s (out.step (slot_sort s) (Operand, []) l.shape) ks (enter_other s l ks)
+own (place.Entering s) l ks =
+    enter s (out.step (slot_sort s) (Operand, []) l.shape) ks (enter_other s l ks)
 own place.Dotted l ks = when (is_bar l) (at (place.Entering (slot.Case case.Led)) ks)
 own (place.FieldName b) l ks = field_step b l ks
 own place.Premised l ks = next_premise l.keyword ks

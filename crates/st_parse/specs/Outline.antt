@@ -1,4 +1,5 @@
--- What the parser keeps of a reading, and what each token makes of it: the reading of `st_grammar` without its trees.
+-- What the parser keeps of a reading, and what each token makes of it: the reading of
+-- `st_grammar` without its trees.
 use Rattle.std.specs.Prelude.{ℕ, List, [], ◌∷◌, Bool, true, false, not, ◌&&◌, Option, Some, None, nat_le, if◌then◌else◌}
 use Rattle.st_num.specs.declared.mark.Mark.{Mark}
 use Rattle.st_grammar.specs.declared.sort.Leaf.{Leaf}
@@ -188,7 +189,8 @@ shut Segment t fs = (Step true, fs)
 shut k t fs = settle (kind_part k t) fs
 
 abbrev pub close : Closing → Lowered → Option State
-close c (v, p, Within k f t σ ∷ fs) = if agree (kind_closing k) c then Some (shut k (t && reads_type p) fs) else None
+close c (v, p, Within k f t σ ∷ fs) =
+    if agree (kind_closing k) c then Some (shut k (t && reads_type p) fs) else None
 close c q = None
 
 abbrev pub ended : Lowered → Option Part
@@ -210,20 +212,24 @@ no_arguments (Within Arguments Empty t σ ∷ fs) = Some (settle Whole fs)
 no_arguments fs = None
 
 abbrev pub begin_closing : Sort → Closing → List Frame → Option State
-begin_closing base closing.ByBar fs = if computes (top base fs) then Some (Operand, opened Length (top base fs) fs) else None
+begin_closing base closing.ByBar fs =
+    if computes (top base fs) then Some (Operand, opened Length (top base fs) fs) else None
 begin_closing base closing.ByRound fs = no_arguments fs
 begin_closing base c fs = None
 
 abbrev pub begin_plain : Sort → Bracket → List Frame → Option State
-begin_plain base b fs = if encloses (top base fs) b then Some (plain_due b, opened (Plain b) (top base fs) fs) else None
+begin_plain base b fs =
+    if encloses (top base fs) b then Some (plain_due b, opened (Plain b) (top base fs) fs) else None
 
 abbrev pub begin_opening : Sort → Bracket → List Frame → Option State
-begin_opening base bracket.Round fs = if is_count (top base fs) then Some (IndexDue, fs) else begin_plain base bracket.Round fs
+begin_opening base bracket.Round fs =
+    if is_count (top base fs) then Some (IndexDue, fs) else begin_plain base bracket.Round fs
 begin_opening base b fs = begin_plain base b fs
 
 abbrev pub begin_sign : Sort → Mark → List Frame → Option State
 begin_sign base m fs =
-    if has_level (top base fs) (ahead_level m) && nat_le (least fs) (ahead_level m) then Some (Operand, Over (Ahead m) (top base fs) ∷ fs) else None
+    if has_level (top base fs) (ahead_level m) && nat_le (least fs) (ahead_level m)
+    then Some (Operand, Over (Ahead m) (top base fs) ∷ fs) else None
 
 abbrev pub begin : Sort → List Frame → Shape → Option State
 begin base fs (Single k) = if takes (top base fs) k then Some (settle (leaf_part k) fs) else None
@@ -255,7 +261,9 @@ next_part (Some d) fs = Some (d, fs)
 next_part None fs = None
 
 abbrev pub separate : Sort → Mark → Lowered → Option State
-separate base m (v, p, Within k f t σ ∷ fs) = next_part (next_due (kind_style (top base fs) k) m (is_first f)) (Within k Parts (t && reads_type p) σ ∷ fs)
+separate base m (v, p, Within k f t σ ∷ fs) =
+    next_part (next_due (kind_style (top base fs) k) m (is_first f))
+    (Within k Parts (t && reads_type p) σ ∷ fs)
 separate base m q = None
 
 abbrev pub join : Sort → Mark → Lowered → Option State
@@ -280,7 +288,9 @@ behind_square base fs =
     else None
 
 abbrev pub behind_round : Sort → Bool → Part → List Frame → Option State
-behind_round base t p fs = if is_function p && (computes (top base fs) && t) then Some (Operand, opened Arguments (top base fs) fs) else None
+behind_round base t p fs =
+    if is_function p && (computes (top base fs) && t)
+    then Some (Operand, opened Arguments (top base fs) fs) else None
 
 abbrev pub behind_opening : Sort → Bracket → Bool → Part → List Frame → Option State
 behind_opening base bracket.Square t p fs = behind_square base fs
@@ -296,7 +306,8 @@ behind base p fs (Close c) = close c (lower 0 tight p fs)
 behind base p fs Other = None
 
 abbrev pub after : Sort → Part → List Frame → Shape → Option State
-after base p fs l = if follows (top base fs) p l then begin base (extend base fs) l else behind base p fs l
+after base p fs l =
+    if follows (top base fs) p l then begin base (extend base fs) l else behind base p fs l
 
 -- ---- paths and counts
 
@@ -312,7 +323,8 @@ abbrev pub in_path : Sort → Bool → List Frame → Shape → Option State
 in_path base s fs (Dot t) = Some (Step true, fs)
 in_path base s fs (Open b t) = path_opening base s fs b t
 in_path base s fs (Sign m) =
-    if s && is_change m then Some (Operand, opened Update (top base fs) fs) else in_index base s fs (Sign m)
+    if s && is_change m then Some (Operand, opened Update (top base fs) fs)
+    else in_index base s fs (Sign m)
 in_path base s fs l = in_index base s fs l
 
 abbrev pub is_label : Shape → Bool
@@ -325,7 +337,8 @@ named Parts = Parts
 named f = Begun
 
 abbrev pub name_field : List Frame → Shape → Option State
-name_field (Within k f t σ ∷ fs) l = if is_label l then Some (Operand, Within k (named f) t σ ∷ fs) else None
+name_field (Within k f t σ ∷ fs) l =
+    if is_label l then Some (Operand, Within k (named f) t σ ∷ fs) else None
 name_field fs l = None
 
 abbrev pub name_index : List Frame → Shape → Option State
@@ -333,7 +346,8 @@ name_index fs (Single leaf.Low) = Some (Less, fs)
 name_index fs l = None
 
 abbrev pub bound_index : Sort → List Frame → Shape → Option State
-bound_index base fs (Sign m) = if is_less m then Some (Operand, opened Below (top base fs) fs) else None
+bound_index base fs (Sign m) =
+    if is_less m then Some (Operand, opened Below (top base fs) fs) else None
 bound_index base fs l = None
 
 -- ---- the reading

@@ -1,4 +1,5 @@
--- Which tokens are definitions, and the first token that no definitions have behind those before it.
+-- Which tokens are definitions, and the first token that no definitions have behind those before
+-- it.
 use Rattle.std.specs.Prelude.{◌≡◌, ℕ, ◌+◌, ◌<◌, ◌⊎◌, List, length, take, map}
 use Rattle.st_scan.specs.declared.token.Token.{Token}
 use Rattle.st_grammar.specs.Lexemes.{Lexeme, lexeme, declared_names}
@@ -16,7 +17,8 @@ IsSource tokens = (ds : Defs) × ParseDefs (lexemes_of tokens) ds
 abbrev pub IsViable : List Token → ℕ → Type 0
 IsViable tokens k = ViableDefs (declared_names tokens) (take k (lexemes_of tokens))
 
--- The first token that no definitions have behind those before it stands at k, or the tokens end at k too early.
+-- The first token that no definitions have behind those before it stands at k, or the tokens end
+-- at k too early.
 abbrev pub RefusedAt : List Token → ℕ → Type 0
 RefusedAt tokens k =
     ((k < length tokens) × IsViable tokens k × (IsViable tokens (k + 1) → ⊥))

@@ -34,7 +34,15 @@ is_mix (other x) = is_mix_kind x.kind
 is_mix l = false
 
 abbrev pub lexeme_of : lexemes.Lexeme → Lexeme
-lexeme_of l = record { shape = shape l; touching = touches l; keyword = keyword l; mix = is_mix l; piece = is_piece l; dot = is_dot l }
+lexeme_of l =
+    record {
+      shape = shape l;
+      touching = touches l;
+      keyword = keyword l;
+      mix = is_mix l;
+      piece = is_piece l;
+      dot = is_dot l;
+    }
 
 -- ---- by the kind of the token
 
@@ -67,12 +75,16 @@ sign_shape m t = Sign m
 
 abbrev pub kind_shape : List (List ℕ) → TokenKind → Bool → Lexeme
 kind_shape names (kind.Low name) t = made (Single leaves.Low) t key.NoWord false true false
-kind_shape names (kind.Up name) t = made (if is_variable names name then Single leaves.Variable else Single leaves.Atom) t key.NoWord false true false
+kind_shape names (kind.Up name) t =
+    made (if is_variable names name then Single leaves.Variable else Single leaves.Atom) t
+    key.NoWord false true false
 kind_shape names (kind.Mix name) t = made Other t key.NoWord true true false
-kind_shape names (kind.Reserved w) t = made (word_shape w) t (kind_keyword (kind.Reserved w)) false true false
+kind_shape names (kind.Reserved w) t =
+    made (word_shape w) t (kind_keyword (kind.Reserved w)) false true false
 kind_shape names (kind.Number n) t = made (Single leaves.Number) t key.NoWord false true false
 kind_shape names (kind.Text text) t = made (Single leaves.Literal) t key.NoWord false false false
-kind_shape names (kind.Dot name) t = made (if has_lower name then Other else Dot t) t key.NoWord false false true
+kind_shape names (kind.Dot name) t =
+    made (if has_lower name then Other else Dot t) t key.NoWord false false true
 kind_shape names (kind.Fun name) t = made (Single leaves.Function) t key.NoWord false false false
 kind_shape names (kind.Sign m) t = made (sign_shape m t) t (mark_keyword m) false false false
 

@@ -19,7 +19,8 @@ pub(crate) fn opened(
     sort: Sort,
     mut frames: Row<Frame>,
 ) -> Result<Option<Reading>, NoMemory>
-    ensures { IfOk result (λ next. option_map reading_of next ≡ Some (due, out.opened kind sort (reverse frames))) }
+    ensures { IfOk result (λ next.
+        option_map reading_of next ≡ Some (due, out.opened kind sort (reverse frames))) }
 {
     let inner = kind_sort(sort, kind);
     frames.push(Frame::Within(kind, Filling::Empty, true, inner))?;
@@ -45,7 +46,8 @@ fn begin_plain(
     bracket: Bracket,
     frames: Row<Frame>,
 ) -> Result<Option<Reading>, NoMemory>
-    ensures { IfOk result (λ next. option_map reading_of next ≡ out.begin_plain base bracket (reverse frames)) }
+    ensures { IfOk result (λ next.
+        option_map reading_of next ≡ out.begin_plain base bracket (reverse frames)) }
 {
     let sort = top(base, &frames);
     if !encloses(sort, bracket) {
@@ -60,7 +62,8 @@ fn begin_opening(
     bracket: Bracket,
     frames: Row<Frame>,
 ) -> Result<Option<Reading>, NoMemory>
-    ensures { IfOk result (λ next. option_map reading_of next ≡ out.begin_opening base bracket (reverse frames)) }
+    ensures { IfOk result (λ next.
+        option_map reading_of next ≡ out.begin_opening base bracket (reverse frames)) }
 {
     match bracket {
         Bracket::Round if is_count(top(base, &frames)) => Ok(Some(Reading {
@@ -95,7 +98,8 @@ fn begin_closing(
     closing: Closing,
     frames: Row<Frame>,
 ) -> Result<Option<Reading>, NoMemory>
-    ensures { IfOk result (λ next. option_map reading_of next ≡ out.begin_closing base closing (reverse frames)) }
+    ensures { IfOk result (λ next.
+        option_map reading_of next ≡ out.begin_closing base closing (reverse frames)) }
 {
     match closing {
         Closing::ByBar => {
@@ -112,7 +116,8 @@ fn begin_closing(
 }
 
 fn begin_sign(base: Sort, mark: Mark, mut frames: Row<Frame>) -> Result<Option<Reading>, NoMemory>
-    ensures { IfOk result (λ next. option_map reading_of next ≡ out.begin_sign base mark (reverse frames)) }
+    ensures { IfOk result (λ next.
+        option_map reading_of next ≡ out.begin_sign base mark (reverse frames)) }
 {
     let sort = top(base, &frames);
     let level = ahead_level(mark);
@@ -132,7 +137,8 @@ pub(crate) fn begin(
     frames: Row<Frame>,
     shape: Shape,
 ) -> Result<Option<Reading>, NoMemory>
-    ensures { IfOk result (λ next. option_map reading_of next ≡ out.begin base (reverse frames) shape) }
+    ensures { IfOk result (λ next.
+        option_map reading_of next ≡ out.begin base (reverse frames) shape) }
 {
     match shape {
         Shape::Single(leaf) => {

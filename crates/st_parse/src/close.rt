@@ -46,7 +46,8 @@ pub(crate) fn settle(part: Part, mut frames: Row<Frame>) -> Result<Reading, NoMe
 
 /// Closes what binds tighter than this level.
 pub(crate) fn lower(level: u8, part: Part, mut frames: Row<Frame>) -> Result<Lowered, NoMemory>
-    ensures { IfOk result (λ lowered. lowered_of lowered ≡ out.lower level 20 part (reverse frames)) }
+    ensures { IfOk result (λ lowered.
+        lowered_of lowered ≡ out.lower level 20 part (reverse frames)) }
 {
     let mut part = part;
     let mut at = TIGHT;
@@ -87,7 +88,8 @@ pub(crate) fn closes(frame: Frame, level: u8) -> Option<Lead>
 
 /// Ends the innermost bracket, if it is closed so.
 pub(crate) fn close(closing: Closing, lowered: Lowered) -> Result<Option<Reading>, NoMemory>
-    ensures { IfOk result (λ next. option_map reading_of next ≡ out.close closing (lowered_of lowered)) }
+    ensures { IfOk result (λ next.
+        option_map reading_of next ≡ out.close closing (lowered_of lowered)) }
 {
     let Lowered {
         part,
@@ -147,7 +149,8 @@ fn is_first(filling: Filling) -> bool
 
 /// A sign that sets off a next part of the innermost bracket.
 fn separate(base: Sort, mark: Mark, lowered: Lowered) -> Result<Option<Reading>, NoMemory>
-    ensures { IfOk result (λ next. option_map reading_of next ≡ out.separate base mark (lowered_of lowered)) }
+    ensures { IfOk result (λ next.
+        option_map reading_of next ≡ out.separate base mark (lowered_of lowered)) }
 {
     let Lowered {
         part,
@@ -170,7 +173,8 @@ fn separate(base: Sort, mark: Mark, lowered: Lowered) -> Result<Option<Reading>,
 
 /// A sign between two sides, or before a next part.
 pub(crate) fn join(base: Sort, mark: Mark, lowered: Lowered) -> Result<Option<Reading>, NoMemory>
-    ensures { IfOk result (λ next. option_map reading_of next ≡ out.join base mark (lowered_of lowered)) }
+    ensures { IfOk result (λ next.
+        option_map reading_of next ≡ out.join base mark (lowered_of lowered)) }
 {
     let sort = top(base, &lowered.frames);
     let level = level_of(mark);

@@ -1,316 +1,24 @@
 //! One token of definitions.
 
-ghost use Rattle.std.specs.Prelude.{◌≡◌, ◌∷◌, [], IfOk, reverse};
+ghost use Rattle.std.specs.Prelude.{◌≡◌, IfOk, reverse};
 ghost use Rattle.std.specs.Option.{option_map};
-ghost use Rattle.st_grammar.specs.Definitions as definitions;
-ghost use Rattle.st_grammar.specs.Levels as levels;
-ghost use Rattle.st_grammar.specs.Trees as tree;
 ghost use Rattle.st_parse.specs.Course as course;
-ghost use Rattle.st_parse.specs.Outline as out;
-ghost use Rattle.st_parse.specs.Readings.{progress_of, reading_of};
+ghost use Rattle.st_parse.specs.Readings.{progress_of};
 ghost use Rattle.st_parse.specs.declared.place.Place.TheVariants as place;
-ghost use Rattle.st_grammar.specs.declared.keyword.Keyword.TheVariants as key;
 
-use crate::frame::{agree, closed_by, reads_type};
-use crate::outline::{Due, Part, Reading, Shape};
-use crate::place::{At, CaseAt, Host, Lexeme, Marks, Place, Progress, Slot};
+use crate::frame::{agree, closed_by};
+use crate::outline::{Due, Reading, Shape};
+use crate::place::{At, CaseAt, Host, Lexeme, Place, Progress, Slot};
+use crate::premise::{iterate, next_premise, premise_word};
+use crate::progress::{at, begins, filled, slot_sort, start_of, when, whole};
 use crate::step::{finish, is_label, step};
-use crate::table::{is_caret, is_colon, is_comma, is_mark};
-use st_grammar::{Bracket, Closing, Keyword, Leaf, Sort};
-use st_num::{Mark, NoMemory, Row};
+use crate::token::{
+    at_colon, at_comma, at_dots, at_equal, at_slash, closes_brace, closes_round, id_step, is_bar,
+    is_fun, is_low, is_name, names_relation, opens_brace, opens_round,
+};
+use st_grammar::{Bracket, Closing, Keyword};
+use st_num::{NoMemory, Row};
 use std::alloc::Global;
-
-fn is_slash(mark: Mark) -> bool
-    ensures { result ≡ definitions.is_slash mark }
-{
-    matches!(mark, Mark::Slash)
-}
-
-fn is_minus(mark: Mark) -> bool
-    ensures { result ≡ definitions.is_minus mark }
-{
-    matches!(mark, Mark::Minus)
-}
-
-fn is_equal(mark: Mark) -> bool
-    ensures { result ≡ definitions.is_equal mark }
-{
-    matches!(mark, Mark::Equal)
-}
-
-fn is_dots(mark: Mark) -> bool
-    ensures { result ≡ definitions.is_dots mark }
-{
-    matches!(mark, Mark::Ellipsis)
-}
-
-fn at_slash(lexeme: Lexeme) -> bool
-    ensures { result ≡ course.signed definitions.is_slash lexeme }
-{
-    match lexeme.shape {
-        Shape::Sign(mark) => is_slash(mark),
-        _ => false,
-    }
-}
-
-fn at_minus(lexeme: Lexeme) -> bool
-    ensures { result ≡ course.signed definitions.is_minus lexeme }
-{
-    match lexeme.shape {
-        Shape::Sign(mark) => is_minus(mark),
-        _ => false,
-    }
-}
-
-fn at_equal(lexeme: Lexeme) -> bool
-    ensures { result ≡ course.signed definitions.is_equal lexeme }
-{
-    match lexeme.shape {
-        Shape::Sign(mark) => is_equal(mark),
-        _ => false,
-    }
-}
-
-fn at_dots(lexeme: Lexeme) -> bool
-    ensures { result ≡ course.signed definitions.is_dots lexeme }
-{
-    match lexeme.shape {
-        Shape::Sign(mark) => is_dots(mark),
-        _ => false,
-    }
-}
-
-fn at_comma(lexeme: Lexeme) -> bool
-    ensures { result ≡ course.signed levels.is_comma lexeme }
-{
-    match lexeme.shape {
-        Shape::Sign(mark) => is_comma(mark),
-        _ => false,
-    }
-}
-
-fn at_colon(lexeme: Lexeme) -> bool
-    ensures { result ≡ course.signed levels.is_colon lexeme }
-{
-    match lexeme.shape {
-        Shape::Sign(mark) => is_colon(mark),
-        _ => false,
-    }
-}
-
-fn at_mark(lexeme: Lexeme) -> bool
-    ensures { result ≡ course.signed levels.is_mark lexeme }
-{
-    match lexeme.shape {
-        Shape::Sign(mark) => is_mark(mark),
-        _ => false,
-    }
-}
-
-fn at_caret(lexeme: Lexeme) -> bool
-    ensures { result ≡ course.signed levels.is_caret lexeme }
-{
-    match lexeme.shape {
-        Shape::Sign(mark) => is_caret(mark),
-        _ => false,
-    }
-}
-
-fn is_low(lexeme: Lexeme) -> bool
-    ensures { result ≡ course.is_low lexeme }
-{
-    matches!(lexeme.shape, Shape::Single(Leaf::Low))
-}
-
-fn is_fun(lexeme: Lexeme) -> bool
-    ensures { result ≡ course.is_fun lexeme }
-{
-    matches!(lexeme.shape, Shape::Single(Leaf::Function))
-}
-
-fn names_relation(lexeme: Lexeme) -> bool
-    ensures { result ≡ course.names_relation lexeme }
-{
-    lexeme.mix || is_label(lexeme.shape)
-}
-
-fn is_name(lexeme: Lexeme) -> bool
-    ensures { result ≡ course.is_name lexeme }
-{
-    is_low(lexeme) || names_relation(lexeme)
-}
-
-fn shape_closes(closing: Closing, shape: Shape) -> bool
-    ensures { result ≡ course.shape_closes closing shape }
-{
-    match shape {
-        Shape::Close(other) => agree(other, closing),
-        _ => false,
-    }
-}
-
-fn is_bar(lexeme: Lexeme) -> bool
-    ensures { result ≡ course.is_bar lexeme }
-{
-    shape_closes(Closing::ByBar, lexeme.shape)
-}
-
-fn closes_round(lexeme: Lexeme) -> bool
-    ensures { result ≡ course.closes_round lexeme }
-{
-    shape_closes(Closing::ByRound, lexeme.shape)
-}
-
-fn closes_brace(lexeme: Lexeme) -> bool
-    ensures { result ≡ course.closes_brace lexeme }
-{
-    shape_closes(Closing::ByBrace, lexeme.shape)
-}
-
-fn opens_round(lexeme: Lexeme) -> bool
-    ensures { result ≡ course.opens_round lexeme }
-{
-    matches!(lexeme.shape, Shape::Open(Bracket::Round, _))
-}
-
-fn opens_brace(lexeme: Lexeme) -> bool
-    ensures { result ≡ course.opens_brace lexeme }
-{
-    matches!(lexeme.shape, Shape::Open(Bracket::Brace, _))
-}
-
-/// Whether a piece of a name is due behind the token, where it goes on with the name.
-fn id_step(due: bool, lexeme: Lexeme) -> Option<bool>
-    ensures { result ≡ course.id_step due lexeme }
-{
-    if due {
-        if lexeme.touching && lexeme.piece {
-            return Some(false);
-        }
-        return None;
-    }
-    if lexeme.touching && at_minus(lexeme) {
-        return Some(true);
-    }
-    if lexeme.touching && lexeme.dot {
-        return Some(false);
-    }
-    None
-}
-
-/// The sort of the part that is read there.
-fn slot_sort(slot: Slot) -> Sort
-    ensures { result ≡ course.slot_sort slot }
-{
-    match slot {
-        Slot::Field | Slot::Var | Slot::Fun => Sort::Typ,
-        Slot::Case(_) | Slot::Notation => Sort::Notation,
-        Slot::Argument(_, _) | Slot::Rule | Slot::Condition => Sort::Expression(false),
-        Slot::Count => Sort::Count,
-    }
-}
-
-fn wants_mark(marks: Marks) -> bool
-    ensures { result ≡ course.wants_mark marks }
-{
-    matches!(marks, Marks::Wanted)
-}
-
-fn has_closed(marks: Marks) -> bool
-    ensures { result ≡ course.has_closed marks }
-{
-    match marks {
-        Marks::None => false,
-        Marks::Wanted | Marks::Marked => true,
-    }
-}
-
-fn host_whole(host: Host) -> bool
-    ensures { result ≡ course.host_whole host }
-{
-    match host {
-        Host::Case | Host::Var | Host::Notation | Host::Fun => true,
-        Host::Syntax | Host::Field | Host::Relation => false,
-    }
-}
-
-fn none_open(brackets: &Row<Bracket>) -> bool
-    ensures { result ≡ course.is_empty (reverse brackets.now) }
-{
-    match brackets.as_slice().last() {
-        None => true,
-        Some(_) => false,
-    }
-}
-
-/// Whether definitions may end at the place.
-fn whole(place: Place, brackets: &Row<Bracket>) -> bool
-    ensures { result ≡ course.whole place (reverse brackets.now) }
-{
-    match place {
-        Place::Between | Place::Premised => true,
-        Place::Hinted(host, _) => host_whole(host),
-        Place::Iterated(marks) => none_open(brackets) && !wants_mark(marks),
-        _ => false,
-    }
-}
-
-/// A place with what is open there.
-fn at(place: Place, brackets: Row<Bracket>) -> Progress
-    ensures { progress_of result ≡ course.at place (reverse brackets) }
-{
-    Progress::At(At { place, brackets })
-}
-
-/// A part begins.
-fn start_of(alloc: Global, slot: Slot, brackets: Row<Bracket>) -> Progress
-    ensures { progress_of result ≡ course.start_of slot (reverse brackets) }
-{
-    let reading = Reading {
-        due: Due::Operand,
-        frames: Row::new(alloc),
-    };
-    Progress::Inside(slot, reading, brackets)
-}
-
-/// Where a part that is read leads to.
-fn filled(slot: Slot, part: Part) -> Place
-    ensures { result ≡ course.filled slot part }
-{
-    match slot {
-        Slot::Field => Place::Hinted(Host::Field, false),
-        Slot::Case(_) => Place::Hinted(Host::Case, false),
-        Slot::Var => Place::Hinted(Host::Var, false),
-        Slot::Notation => Place::Hinted(Host::Notation, false),
-        Slot::Fun => Place::Hinted(Host::Fun, false),
-        Slot::Argument(_, types) => Place::Argued(types && reads_type(part)),
-        Slot::Rule => Place::Premised,
-        Slot::Condition => Place::Iterated(Marks::None),
-        Slot::Count => Place::Iterated(Marks::Marked),
-    }
-}
-
-/// The place, where a test is passed.
-fn when(passed: bool, place: Place, brackets: Row<Bracket>) -> Option<Progress>
-    ensures { option_map progress_of result ≡ course.when passed (course.at place (reverse brackets)) }
-{
-    if passed {
-        Some(at(place, brackets))
-    } else {
-        None
-    }
-}
-
-/// A part begins, where a test is passed.
-fn begins(alloc: Global, passed: bool, slot: Slot, brackets: Row<Bracket>) -> Option<Progress>
-    ensures { option_map progress_of result ≡ course.when passed (course.start_of slot (reverse brackets)) }
-{
-    if passed {
-        Some(start_of(alloc, slot, brackets))
-    } else {
-        None
-    }
-}
 
 fn begin_definition(keyword: Keyword, brackets: Row<Bracket>) -> Option<Progress>
     ensures { option_map progress_of result ≡ course.begin_def keyword (reverse brackets) }
@@ -393,7 +101,8 @@ fn host_step(
     lexeme: Lexeme,
     brackets: Row<Bracket>,
 ) -> Option<Progress>
-    ensures { option_map progress_of result ≡ course.host_step host fresh lexeme (reverse brackets) }
+    ensures { option_map progress_of result
+        ≡ course.host_step host fresh lexeme (reverse brackets) }
 {
     match host {
         Host::Syntax => {
@@ -426,7 +135,8 @@ fn hint_or(
     lexeme: Lexeme,
     brackets: Row<Bracket>,
 ) -> Option<Progress>
-    ensures { option_map progress_of result ≡ course.hint_or (lexeme.keyword) host fresh lexeme (reverse brackets) }
+    ensures { option_map progress_of result
+        ≡ course.hint_or (lexeme.keyword) host fresh lexeme (reverse brackets) }
 {
     match lexeme.keyword {
         Keyword::HintWord => Some(at(Place::HintOpen(host), brackets)),
@@ -448,7 +158,9 @@ fn hint_step(
     lexeme: Lexeme,
     mut brackets: Row<Bracket>,
 ) -> Result<Option<Progress>, NoMemory>
-    ensures { IfOk result (λ next. option_map progress_of next ≡ course.hint_step host (reverse brackets) lexeme (course.balance (reverse brackets) (lexeme.shape))) }
+    ensures { IfOk result (λ next.
+        option_map progress_of next
+        ≡ course.hint_step host (reverse brackets) lexeme (course.balance (reverse brackets) (lexeme.shape))) }
 {
     match lexeme.shape {
         Shape::Open(bracket, _) => {
@@ -480,7 +192,8 @@ fn colon_step(alloc: Global, lexeme: Lexeme, brackets: Row<Bracket>) -> Option<P
 
 /// A token in the name of a fragment, or behind it.
 fn syntax_id(alloc: Global, due: bool, lexeme: Lexeme, brackets: Row<Bracket>) -> Option<Progress>
-    ensures { option_map progress_of result ≡ course.own (place.SyntaxId due) lexeme (reverse brackets) }
+    ensures { option_map progress_of result
+        ≡ course.own (place.SyntaxId due) lexeme (reverse brackets) }
 {
     match id_step(due, lexeme) {
         Some(next) => Some(at(Place::SyntaxId(next), brackets)),
@@ -496,7 +209,8 @@ fn syntax_id(alloc: Global, due: bool, lexeme: Lexeme, brackets: Row<Bracket>) -
 
 /// A token in the name of a rule, or behind it.
 fn rule_id(alloc: Global, due: bool, lexeme: Lexeme, brackets: Row<Bracket>) -> Option<Progress>
-    ensures { option_map progress_of result ≡ course.own (place.RuleId due) lexeme (reverse brackets) }
+    ensures { option_map progress_of result
+        ≡ course.own (place.RuleId due) lexeme (reverse brackets) }
 {
     match id_step(due, lexeme) {
         Some(next) => Some(at(Place::RuleId(next), brackets)),
@@ -525,99 +239,6 @@ fn result_step(
     begins(alloc, at_equal(lexeme), Slot::Rule, brackets)
 }
 
-fn premise_step(lexeme: Lexeme, mut brackets: Row<Bracket>) -> Result<Option<Progress>, NoMemory>
-    ensures { IfOk result (λ next. option_map progress_of next ≡ course.premise_step lexeme (reverse brackets)) }
-{
-    if opens_round(lexeme) {
-        brackets.push(Bracket::Round)?;
-        return Ok(Some(at(Place::PremiseOpen, brackets)));
-    }
-    Ok(when(names_relation(lexeme), Place::GoalColon, brackets))
-}
-
-/// The word `otherwise`, which stands in no parentheses.
-fn otherwise(lexeme: Lexeme, mut brackets: Row<Bracket>) -> Result<Option<Progress>, NoMemory>
-    ensures { IfOk result (λ next. option_map progress_of next ≡ course.premise_word key.OtherwiseWord lexeme (reverse brackets)) }
-{
-    match brackets.pop() {
-        None => Ok(Some(at(Place::Premised, brackets))),
-        Some(bracket) => {
-            brackets.push(bracket)?;
-            premise_step(lexeme, brackets)
-        }
-    }
-}
-
-/// What stands behind `--` and each `(`.
-fn premise_word(
-    alloc: Global,
-    lexeme: Lexeme,
-    brackets: Row<Bracket>,
-) -> Result<Option<Progress>, NoMemory>
-    ensures { IfOk result (λ next. option_map progress_of next ≡ course.premise_word (lexeme.keyword) lexeme (reverse brackets)) }
-{
-    match lexeme.keyword {
-        Keyword::IfWord => Ok(Some(start_of(alloc, Slot::Condition, brackets))),
-        Keyword::OtherwiseWord => otherwise(lexeme, brackets),
-        Keyword::SyntaxWord
-        | Keyword::RelationWord
-        | Keyword::RuleWord
-        | Keyword::VarWord
-        | Keyword::DefWord
-        | Keyword::HintWord
-        | Keyword::Dashes
-        | Keyword::NoWord => premise_step(lexeme, brackets),
-    }
-}
-
-fn next_premise(keyword: Keyword, brackets: Row<Bracket>) -> Option<Progress>
-    ensures { option_map progress_of result ≡ course.next_premise keyword (reverse brackets) }
-{
-    match keyword {
-        Keyword::Dashes => Some(at(Place::PremiseOpen, brackets)),
-        Keyword::SyntaxWord
-        | Keyword::RelationWord
-        | Keyword::RuleWord
-        | Keyword::VarWord
-        | Keyword::DefWord
-        | Keyword::HintWord
-        | Keyword::IfWord
-        | Keyword::OtherwiseWord
-        | Keyword::NoWord => None,
-    }
-}
-
-/// The brackets without the innermost.
-fn tail(mut brackets: Row<Bracket>) -> Row<Bracket>
-    ensures { reverse result ≡ course.tail (reverse brackets) }
-{
-    match brackets.pop() {
-        Some(_) => brackets,
-        None => brackets,
-    }
-}
-
-/// What stands behind a condition and its iterations so far.
-fn iterate(alloc: Global, marks: Marks, lexeme: Lexeme, brackets: Row<Bracket>) -> Option<Progress>
-    ensures { option_map progress_of result ≡ course.iterate marks lexeme (reverse brackets) }
-{
-    let empty = none_open(&brackets);
-    let wanting = wants_mark(marks);
-    if closes_round(lexeme) && (!empty && !wanting) {
-        return Some(at(Place::Iterated(Marks::Wanted), tail(brackets)));
-    }
-    if at_mark(lexeme) && has_closed(marks) {
-        return Some(at(Place::Iterated(Marks::Marked), brackets));
-    }
-    if at_caret(lexeme) && has_closed(marks) {
-        return Some(start_of(alloc, Slot::Count, brackets));
-    }
-    if empty && !wanting {
-        return next_premise(lexeme.keyword, brackets);
-    }
-    None
-}
-
 /// A part, or what stands in its place.
 fn enter(
     alloc: Global,
@@ -625,7 +246,8 @@ fn enter(
     lexeme: Lexeme,
     brackets: Row<Bracket>,
 ) -> Result<Option<Progress>, NoMemory>
-    ensures { IfOk result (λ next. option_map progress_of next ≡ course.own (place.Entering slot) lexeme (reverse brackets)) }
+    ensures { IfOk result (λ next.
+        option_map progress_of next ≡ course.own (place.Entering slot) lexeme (reverse brackets)) }
 {
     let reading = Reading {
         due: Due::Operand,
@@ -650,7 +272,8 @@ fn fun_named(alloc: Global, lexeme: Lexeme, brackets: Row<Bracket>) -> Option<Pr
 
 /// A token behind an argument.
 fn argued(alloc: Global, types: bool, lexeme: Lexeme, brackets: Row<Bracket>) -> Option<Progress>
-    ensures { option_map progress_of result ≡ course.own (place.Argued types) lexeme (reverse brackets) }
+    ensures { option_map progress_of result
+        ≡ course.own (place.Argued types) lexeme (reverse brackets) }
 {
     if at_comma(lexeme) {
         let slot = Slot::Argument(false, types);
@@ -706,7 +329,8 @@ fn own(
     lexeme: Lexeme,
     brackets: Row<Bracket>,
 ) -> Result<Option<Progress>, NoMemory>
-    ensures { IfOk result (λ next. option_map progress_of next ≡ course.own place lexeme (reverse brackets)) }
+    ensures { IfOk result (λ next.
+        option_map progress_of next ≡ course.own place lexeme (reverse brackets)) }
 {
     match place {
         Place::Between => Ok(None),
@@ -743,7 +367,8 @@ fn place_step(
     lexeme: Lexeme,
     brackets: Row<Bracket>,
 ) -> Result<Option<Progress>, NoMemory>
-    ensures { IfOk result (λ next. option_map progress_of next ≡ course.place_step place lexeme (reverse brackets)) }
+    ensures { IfOk result (λ next.
+        option_map progress_of next ≡ course.place_step place lexeme (reverse brackets)) }
 {
     if whole(place, &brackets) {
         turn(alloc, place, lexeme, brackets)
@@ -759,7 +384,9 @@ fn turn(
     lexeme: Lexeme,
     brackets: Row<Bracket>,
 ) -> Result<Option<Progress>, NoMemory>
-    ensures { IfOk result (λ next. option_map progress_of next ≡ course.first_of_two (course.own place lexeme (reverse brackets)) (course.begin_def (lexeme.keyword) (reverse brackets))) }
+    ensures { IfOk result (λ next.
+        option_map progress_of next
+        ≡ course.first_of_two (course.own place lexeme (reverse brackets)) (course.begin_def (lexeme.keyword) (reverse brackets))) }
 {
     let same = brackets.copy(alloc)?;
     match own(alloc, place, lexeme, brackets)? {
@@ -774,7 +401,8 @@ pub(crate) fn advance(
     progress: Progress,
     lexeme: Lexeme,
 ) -> Result<Option<Progress>, NoMemory>
-    ensures { IfOk result (λ next. option_map progress_of next ≡ course.step (progress_of progress) lexeme) }
+    ensures { IfOk result (λ next.
+        option_map progress_of next ≡ course.step (progress_of progress) lexeme) }
 {
     match progress {
         Progress::At(here) => {

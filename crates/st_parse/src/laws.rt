@@ -7,6 +7,6 @@ ghost use Rattle.st_parse.specs.Refusal.{IsSource, RefusedAt};
 /// Tokens have at most one refused place, and source has none.
 pub fn refused_once()
     ensures never { (tokens : List Token) (k : ℕ) → RefusedAt tokens k → IsSource tokens → ⊥ }
-    ensures one { (tokens : List Token) (j k : ℕ) → RefusedAt tokens j → RefusedAt tokens k → j ≡ k }
-{
-}
+    ensures one { (tokens : List Token) (j k : ℕ) → RefusedAt tokens j → RefusedAt tokens k → j
+        ≡ k }
+{}

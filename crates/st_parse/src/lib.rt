@@ -14,11 +14,14 @@ mod laws;
 mod lexeme;
 mod outline;
 mod place;
+mod premise;
+mod progress;
 mod reader;
 mod step;
 mod table;
 #[cfg(test)]
 mod tests;
+mod token;
 
 pub use laws::refused_once;
 pub use reader::first_refused;

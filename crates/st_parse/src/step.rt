@@ -51,7 +51,8 @@ fn behind_sign(
     part: Part,
     mut frames: Row<Frame>,
 ) -> Result<Option<Reading>, NoMemory>
-    ensures { IfOk result (λ next. option_map reading_of next ≡ out.behind_sign base mark part (reverse frames)) }
+    ensures { IfOk result (λ next.
+        option_map reading_of next ≡ out.behind_sign base mark part (reverse frames)) }
 {
     let sort = top(base, &frames);
     if may_mark(sort, part, mark) {
@@ -74,7 +75,8 @@ fn behind_sign(
 
 /// `[` behind a part; no path stands in arithmetic.
 fn behind_square(base: Sort, frames: Row<Frame>) -> Result<Option<Reading>, NoMemory>
-    ensures { IfOk result (λ next. option_map reading_of next ≡ out.behind_square base (reverse frames)) }
+    ensures { IfOk result (λ next.
+        option_map reading_of next ≡ out.behind_square base (reverse frames)) }
 {
     let sort = top(base, &frames);
     if is_expression(sort) {
@@ -97,7 +99,8 @@ fn behind_round(
     part: Part,
     frames: Row<Frame>,
 ) -> Result<Option<Reading>, NoMemory>
-    ensures { IfOk result (λ next. option_map reading_of next ≡ out.behind_round base touching part (reverse frames)) }
+    ensures { IfOk result (λ next.
+        option_map reading_of next ≡ out.behind_round base touching part (reverse frames)) }
 {
     let sort = top(base, &frames);
     if !(is_function(part) && (computes(sort) && touching)) {
@@ -113,7 +116,8 @@ fn behind(
     frames: Row<Frame>,
     shape: Shape,
 ) -> Result<Option<Reading>, NoMemory>
-    ensures { IfOk result (λ next. option_map reading_of next ≡ out.behind base part (reverse frames) shape) }
+    ensures { IfOk result (λ next.
+        option_map reading_of next ≡ out.behind base part (reverse frames) shape) }
 {
     match shape {
         Shape::Dot(touching) => {
@@ -143,7 +147,8 @@ fn after(
     frames: Row<Frame>,
     shape: Shape,
 ) -> Result<Option<Reading>, NoMemory>
-    ensures { IfOk result (λ next. option_map reading_of next ≡ out.after base part (reverse frames) shape) }
+    ensures { IfOk result (λ next.
+        option_map reading_of next ≡ out.after base part (reverse frames) shape) }
 {
     if !follows(top(base, &frames), part, shape) {
         return behind(base, part, frames, shape);
@@ -160,7 +165,8 @@ fn in_index(
     mut frames: Row<Frame>,
     shape: Shape,
 ) -> Result<Option<Reading>, NoMemory>
-    ensures { IfOk result (λ next. option_map reading_of next ≡ out.in_index base stepped (reverse frames) shape) }
+    ensures { IfOk result (λ next.
+        option_map reading_of next ≡ out.in_index base stepped (reverse frames) shape) }
 {
     if stepped {
         return Ok(None);
@@ -176,7 +182,8 @@ fn in_path(
     frames: Row<Frame>,
     shape: Shape,
 ) -> Result<Option<Reading>, NoMemory>
-    ensures { IfOk result (λ next. option_map reading_of next ≡ out.in_path base stepped (reverse frames) shape) }
+    ensures { IfOk result (λ next.
+        option_map reading_of next ≡ out.in_path base stepped (reverse frames) shape) }
 {
     match shape {
         Shape::Dot(_) => Ok(Some(Reading {
@@ -215,7 +222,8 @@ fn named(filling: Filling) -> Filling
 
 /// The name of a field, in the innermost bracket.
 fn name_field(mut frames: Row<Frame>, shape: Shape) -> Result<Option<Reading>, NoMemory>
-    ensures { IfOk result (λ next. option_map reading_of next ≡ out.name_field (reverse frames) shape) }
+    ensures { IfOk result (λ next.
+        option_map reading_of next ≡ out.name_field (reverse frames) shape) }
 {
     match frames.pop() {
         Some(Frame::Within(kind, filling, types, sort)) => {
@@ -247,7 +255,8 @@ fn name_index(frames: Row<Frame>, shape: Shape) -> Option<Reading>
 
 /// The `<` behind that name.
 fn bound_index(base: Sort, frames: Row<Frame>, shape: Shape) -> Result<Option<Reading>, NoMemory>
-    ensures { IfOk result (λ next. option_map reading_of next ≡ out.bound_index base (reverse frames) shape) }
+    ensures { IfOk result (λ next.
+        option_map reading_of next ≡ out.bound_index base (reverse frames) shape) }
 {
     match shape {
         Shape::Sign(mark) if is_less(mark) => {
@@ -261,7 +270,8 @@ fn bound_index(base: Sort, frames: Row<Frame>, shape: Shape) -> Result<Option<Re
 
 /// Takes one more token of a part, if it may stand there.
 pub(crate) fn step(base: Sort, reading: Reading, shape: Shape) -> Result<Option<Reading>, NoMemory>
-    ensures { IfOk result (λ next. option_map reading_of next ≡ out.step base (reading_of reading) shape) }
+    ensures { IfOk result (λ next.
+        option_map reading_of next ≡ out.step base (reading_of reading) shape) }
 {
     let Reading { due, frames } = reading;
     match due {
