@@ -1,0 +1,13 @@
+pub mod LevelLemmas
+pub mod Complete
+pub mod CompleteTrees
+pub mod Sound
+pub mod Steps
+pub mod Completions
+pub mod PlaceTexts
+pub mod PlaceSteps
+pub mod PlaceReading
+pub mod PlaceEnds
+pub mod PlaceParts
+pub mod PlacePremises
+pub mod PlaceComplete

@@ -1,0 +1,402 @@
+-- The grammar of definitions, over that of their parts.
+use Rattle.std.specs.Prelude.{◌≡◌, ℕ, ◌+◌, List, [], ◌∷◌, ◌++◌, map, length, Bool, true, false, ◌&&◌, ◌||◌, Option, Some, None, option_and_then, if◌then◌else◌}
+use Rattle.std.specs.List.{AllByRecursion}
+use Rattle.st_num.specs.declared.mark.Mark.{Mark}
+use Rattle.st_num.specs.declared.mark.Mark.TheVariants as mark
+use Rattle.st_scan.specs.declared.word.Word.TheVariants as word
+use Rattle.st_scan.specs.declared.token.Token.{Token}
+use Rattle.st_scan.specs.declared.token.TokenKind.{TokenKind}
+use Rattle.st_scan.specs.declared.token.TokenKind.TheVariants as kind
+use Rattle.st_grammar.specs.declared.sort.Style.TheVariants.{Parts as parts}
+use Rattle.st_grammar.specs.declared.keyword.Keyword.{Keyword}
+use Rattle.st_grammar.specs.declared.keyword.Keyword.TheVariants.{SyntaxWord as syntax_word, RelationWord as relation_word, RuleWord as rule_word, VarWord as var_word, DefWord as def_word, HintWord as hint_word, IfWord as if_word, OtherwiseWord as otherwise_word, Dashes as dashes, NoWord as no_word}
+use Rattle.st_grammar.specs.declared.sort.Leaf.TheVariants.{Low as low, Function as function}
+use Rattle.st_grammar.specs.declared.sort.Bracket.{Bracket}
+use Rattle.st_grammar.specs.declared.sort.Bracket.TheVariants.{Round as round, Brace as brace}
+use Rattle.st_grammar.specs.declared.sort.Closing.TheVariants.{ByRound as by_round, ByBrace as by_brace, ByBar as by_bar}
+use Rattle.st_grammar.specs.declared.sort.Sort.{Sort}
+use Rattle.st_grammar.specs.declared.sort.Sort.TheVariants.{Expression as expression, Notation as notation, Typ as typ, Count as count}
+use Rattle.st_grammar.specs.Lexemes.{Lexeme, leaf, dot, sign, opening, closing, other, lexeme}
+use Rattle.st_grammar.specs.Levels.{is_mark, is_caret, is_comma, is_colon}
+use Rattle.st_grammar.specs.Trees.{Tree, Trees, closed_by, agree, text, texts}
+use Rattle.st_grammar.specs.Grammar.{is_label, Fits, EachFits}
+
+-- ---- tokens of definitions
+
+abbrev pub kind_keyword : TokenKind → Keyword
+kind_keyword (kind.Reserved word.Syntax) = syntax_word
+kind_keyword (kind.Reserved word.Relation) = relation_word
+kind_keyword (kind.Reserved word.Rule) = rule_word
+kind_keyword (kind.Reserved word.Var) = var_word
+kind_keyword (kind.Reserved word.Def) = def_word
+kind_keyword (kind.Reserved word.Hint) = hint_word
+kind_keyword (kind.Reserved word.If) = if_word
+kind_keyword (kind.Reserved word.Otherwise) = otherwise_word
+kind_keyword k = no_word
+
+abbrev pub mark_keyword : Mark → Keyword
+mark_keyword mark.DashDash = dashes
+mark_keyword m = no_word
+
+abbrev pub keyword : Lexeme → Keyword
+keyword (other x) = kind_keyword x.kind
+keyword (sign m x) = mark_keyword m
+keyword l = no_word
+
+abbrev pub token_in : Lexeme → Token
+token_in (leaf k x) = x
+token_in (dot x) = x
+token_in (sign m x) = x
+token_in (opening k x) = x
+token_in (closing c x) = x
+token_in (other x) = x
+
+abbrev pub touches : Lexeme → Bool
+touches l = (token_in l).touching
+
+-- a sign of this kind
+abbrev pub signed : (Mark → Bool) → Lexeme → Bool
+signed p (sign m x) = p m
+signed p l = false
+
+abbrev pub is_slash : Mark → Bool
+is_slash mark.Slash = true
+is_slash m = false
+
+abbrev pub is_minus : Mark → Bool
+is_minus mark.Minus = true
+is_minus m = false
+
+abbrev pub is_equal : Mark → Bool
+is_equal mark.Equal = true
+is_equal m = false
+
+abbrev pub is_dots : Mark → Bool
+is_dots mark.Ellipsis = true
+is_dots m = false
+
+abbrev pub is_bar : Lexeme → Bool
+is_bar (closing by_bar x) = true
+is_bar l = false
+
+abbrev pub opens_round : Lexeme → Bool
+opens_round (opening round x) = true
+opens_round l = false
+
+abbrev pub closes_round : Lexeme → Bool
+closes_round (closing by_round x) = true
+closes_round l = false
+
+abbrev pub opens_brace : Lexeme → Bool
+opens_brace (opening brace x) = true
+opens_brace l = false
+
+abbrev pub closes_brace : Lexeme → Bool
+closes_brace (closing by_brace x) = true
+closes_brace l = false
+
+abbrev pub is_low : Lexeme → Bool
+is_low (leaf low x) = true
+is_low l = false
+
+abbrev pub is_fun : Lexeme → Bool
+is_fun (leaf function x) = true
+is_fun l = false
+
+abbrev pub is_mix_kind : TokenKind → Bool
+is_mix_kind (kind.Mix name) = true
+is_mix_kind k = false
+
+-- the name of a relation
+abbrev pub names_relation : Lexeme → Bool
+names_relation (other x) = is_mix_kind x.kind
+names_relation l = is_label l
+
+abbrev pub is_name : Lexeme → Bool
+is_name l = is_low l || names_relation l
+
+abbrev pub is_piece_kind : TokenKind → Bool
+is_piece_kind (kind.Low name) = true
+is_piece_kind (kind.Up name) = true
+is_piece_kind (kind.Mix name) = true
+is_piece_kind (kind.Reserved w) = true
+is_piece_kind (kind.Number n) = true
+is_piece_kind k = false
+
+-- a name, a reserved word or a number
+abbrev pub is_piece : Lexeme → Bool
+is_piece (leaf k x) = is_piece_kind x.kind
+is_piece (other x) = is_piece_kind x.kind
+is_piece l = false
+
+abbrev pub is_dot_kind : TokenKind → Bool
+is_dot_kind (kind.Dot name) = true
+is_dot_kind k = false
+
+-- a dot with a name
+abbrev pub is_dot : Lexeme → Bool
+is_dot (dot x) = true
+is_dot (other x) = is_dot_kind x.kind
+is_dot l = false
+
+-- ---- names of rules and fragments
+
+-- what such tokens make of a state, one after another
+abbrev pub scan : {S : Type 0} → (S → Lexeme → Option S) → S → List Lexeme → Option S
+scan one s [] = Some s
+scan one s (l ∷ ls) = option_and_then (λ r. scan one r ls) (one s l)
+
+-- Whether a piece is due: a piece stands at the front and behind each `-`, a dot behind a piece,
+-- and all touch.
+abbrev pub id_step : Bool → Lexeme → Option Bool
+id_step true l = if touches l && is_piece l then Some false else None
+id_step false l =
+    if touches l && signed is_minus l then Some true
+    else if touches l && is_dot l then Some false
+    else None
+
+abbrev pub IsId : List Lexeme → Type 0
+IsId ls = scan id_step true ls ≡ Some false
+
+-- no name, or `/` and one
+abbrev pub FragmentFits : List Lexeme → Type 0
+FragmentFits [] = Unit {0}
+FragmentFits (s ∷ ls) = (signed is_slash s ≡ true) × IsId ls
+
+-- ---- hints
+
+-- what is still to be closed, the innermost first
+abbrev pub balance_step : List Bracket → Lexeme → Option (List Bracket)
+balance_step ks (opening k x) = Some (k ∷ ks)
+balance_step ks (closing by_bar x) = Some ks
+balance_step [] (closing c x) = None
+balance_step (k ∷ ks) (closing c x) = if agree (closed_by k) c then Some ks else None
+balance_step ks l = Some ks
+
+pub data Hint : Type 0 where
+  -- `hint`, `(`, a name, some tokens and `)`
+  hint : Lexeme → Lexeme → Lexeme → List Lexeme → Lexeme → Hint
+
+abbrev pub hint_text : Hint → List Lexeme
+hint_text (hint w o n ws c) = w ∷ o ∷ n ∷ (ws ++ c ∷ [])
+
+abbrev pub HintFits : Hint → Type 0
+HintFits (hint w o n ws c) =
+    (keyword w ≡ hint_word) × (opens_round o ≡ true) × (is_name n ≡ true)
+    × (scan balance_step [] ws ≡ Some []) × (closes_round c ≡ true)
+
+pub data Hints : Type 0 where
+  no_hints : Hints
+  more_hints : Hints → Hint → Hints
+
+abbrev pub hints_text : Hints → List Lexeme
+hints_text no_hints = []
+hints_text (more_hints hs h) = hints_text hs ++ hint_text h
+
+abbrev pub HintsFit : Hints → Type 0
+HintsFit no_hints = Unit {0}
+HintsFit (more_hints hs h) = HintsFit hs × HintFits h
+
+-- ---- bodies
+
+-- alternatives or fields: what stands before each, its tree and its hints
+pub data Members : Type 0 where
+  no_members : Members
+  member : Members → List Lexeme → Tree → Hints → Members
+
+abbrev pub members_text : Members → List Lexeme
+members_text no_members = []
+members_text (member ms pre t hs) = members_text ms ++ (pre ++ (text t ++ hints_text hs))
+
+-- a name, behind a comma from the second field on
+abbrev pub SetsOffField : Members → List Lexeme → Type 0
+SetsOffField no_members (n ∷ []) = is_label n ≡ true
+SetsOffField (member ms q t hs) (k ∷ n ∷ []) = (signed is_comma k ≡ true) × (is_label n ≡ true)
+SetsOffField ms pre = ⊥
+
+-- a bar, and before the first alternative nothing, a bar, or dots and a bar
+abbrev pub SetsOffCase : Members → List Lexeme → Type 0
+SetsOffCase no_members [] = Unit {0}
+SetsOffCase ms (b ∷ []) = is_bar b ≡ true
+SetsOffCase no_members (d ∷ b ∷ []) = (signed is_dots d ≡ true) × (is_bar b ≡ true)
+SetsOffCase ms pre = ⊥
+
+abbrev pub FieldsFit : Members → Type 0
+FieldsFit no_members = Unit {0}
+FieldsFit (member ms pre t hs) = FieldsFit ms × SetsOffField ms pre × Fits typ t × HintsFit hs
+
+abbrev pub CasesFit : Members → Type 0
+CasesFit no_members = Unit {0}
+CasesFit (member ms pre t hs) = CasesFit ms × SetsOffCase ms pre × Fits notation t × HintsFit hs
+
+abbrev pub has_member : Members → Bool
+has_member no_members = false
+has_member (member ms pre t hs) = true
+
+-- nothing, or a bar and dots
+abbrev pub EndsCases : List Lexeme → Type 0
+EndsCases [] = Unit {0}
+EndsCases (b ∷ d ∷ []) = (is_bar b ≡ true) × (signed is_dots d ≡ true)
+EndsCases ls = ⊥
+
+pub data Body : Type 0 where
+  fields : Lexeme → Members → Lexeme → Body
+  cases : Members → List Lexeme → Body
+
+abbrev pub body_text : Body → List Lexeme
+body_text (fields o ms c) = o ∷ (members_text ms ++ c ∷ [])
+body_text (cases ms ls) = members_text ms ++ ls
+
+abbrev pub BodyFits : Body → Type 0
+BodyFits (fields o ms c) = (opens_brace o ≡ true) × FieldsFit ms × (closes_brace c ≡ true)
+BodyFits (cases ms ls) = CasesFit ms × (has_member ms ≡ true) × EndsCases ls
+
+-- ---- premises
+
+-- behind a condition each `)` with its marks
+pub data Iterations : Type 0 where
+  no_iterations : Iterations
+  closed : Iterations → Lexeme → Iterations
+  marked : Iterations → Lexeme → Iterations
+  -- `^` and a count
+  counted : Iterations → Lexeme → Tree → Iterations
+
+abbrev pub iterations_text : Iterations → List Lexeme
+iterations_text no_iterations = []
+iterations_text (closed i l) = iterations_text i ++ l ∷ []
+iterations_text (marked i l) = iterations_text i ++ l ∷ []
+iterations_text (counted i l t) = iterations_text i ++ (l ∷ text t)
+
+abbrev pub closings : Iterations → ℕ
+closings no_iterations = 0
+closings (closed i l) = closings i + 1
+closings (marked i l) = closings i
+closings (counted i l t) = closings i
+
+abbrev pub has_closed : Iterations → Bool
+has_closed no_iterations = false
+has_closed i = true
+
+-- It ends with a `)`, which wants a mark.
+abbrev pub wants_mark : Iterations → Bool
+wants_mark (closed i l) = true
+wants_mark i = false
+
+abbrev pub IterationsFit : Iterations → Type 0
+IterationsFit no_iterations = Unit {0}
+IterationsFit (closed i l) = IterationsFit i × (wants_mark i ≡ false) × (closes_round l ≡ true)
+IterationsFit (marked i l) = IterationsFit i × (has_closed i ≡ true) × (signed is_mark l ≡ true)
+IterationsFit (counted i l t) =
+    IterationsFit i × (has_closed i ≡ true) × (signed is_caret l ≡ true) × Fits count t
+
+-- `if`, or the name of a relation and `:`
+abbrev pub CondFits : List Lexeme → Type 0
+CondFits (l ∷ []) = keyword l ≡ if_word
+CondFits (r ∷ c ∷ []) = (names_relation r ≡ true) × (signed is_colon c ≡ true)
+CondFits ls = ⊥
+
+pub data Premise : Type 0 where
+  -- `--` and `otherwise`
+  default : Lexeme → Lexeme → Premise
+  -- `--`, each `(`, what begins a condition, its expression, and the iterations
+  given : Lexeme → List Lexeme → List Lexeme → Tree → Iterations → Premise
+
+abbrev pub premise_text : Premise → List Lexeme
+premise_text (default d o) = d ∷ o ∷ []
+premise_text (given d os ls t i) = d ∷ (os ++ (ls ++ (text t ++ iterations_text i)))
+
+abbrev pub OpensRound : Lexeme → Type 0
+OpensRound l = opens_round l ≡ true
+
+abbrev pub PremiseFits : Premise → Type 0
+PremiseFits (default d o) = (keyword d ≡ dashes) × (keyword o ≡ otherwise_word)
+PremiseFits (given d os ls t i) =
+    (keyword d ≡ dashes) × AllByRecursion OpensRound os × CondFits ls × Fits (expression false) t
+    × IterationsFit i × (closings i ≡ length os) × (wants_mark i ≡ false)
+
+pub data Premises : Type 0 where
+  no_premises : Premises
+  more_premises : Premises → Premise → Premises
+
+abbrev pub premises_text : Premises → List Lexeme
+premises_text no_premises = []
+premises_text (more_premises ps p) = premises_text ps ++ premise_text p
+
+abbrev pub PremisesFit : Premises → Type 0
+PremisesFit no_premises = Unit {0}
+PremisesFit (more_premises ps p) = PremisesFit ps × PremiseFits p
+
+-- ---- definitions
+
+-- what stands behind the name of a function
+pub data Args : Type 0 where
+  no_args : Args
+  args : Lexeme → Trees → Lexeme → Args
+
+abbrev pub args_text : Args → List Lexeme
+args_text no_args = []
+args_text (args o ts c) = o ∷ (texts ts ++ c ∷ [])
+
+abbrev pub ArgsFit : Sort → Args → Type 0
+ArgsFit σ no_args = Unit {0}
+ArgsFit σ (args o ts c) =
+    (opens_round o ≡ true) × (touches o ≡ true) × EachFits σ parts 1 ts × (closes_round c ≡ true)
+
+pub data Def : Type 0 where
+  syntax_def : Lexeme → Lexeme → List Lexeme → Hints → Lexeme → Body → Def
+  var_def : Lexeme → Lexeme → Lexeme → Tree → Hints → Def
+  relation_def : Lexeme → Lexeme → Hints → Lexeme → Tree → Hints → Def
+  rule_def : Lexeme → Lexeme → List Lexeme → Lexeme → Tree → Premises → Def
+  fun_def : Lexeme → Lexeme → Args → Lexeme → Tree → Hints → Def
+  clause_def : Lexeme → Lexeme → Args → Lexeme → Tree → Premises → Def
+
+abbrev pub def_text : Def → List Lexeme
+def_text (syntax_def w x ls hs e b) = w ∷ x ∷ (ls ++ (hints_text hs ++ (e ∷ body_text b)))
+def_text (var_def w x c t hs) = w ∷ x ∷ c ∷ (text t ++ hints_text hs)
+def_text (relation_def w r hs c t ks) = w ∷ r ∷ (hints_text hs ++ (c ∷ (text t ++ hints_text ks)))
+def_text (rule_def w r ls c t ps) = w ∷ r ∷ (ls ++ (c ∷ (text t ++ premises_text ps)))
+def_text (fun_def w f a c t hs) = w ∷ f ∷ (args_text a ++ (c ∷ (text t ++ hints_text hs)))
+def_text (clause_def w f a e t ps) = w ∷ f ∷ (args_text a ++ (e ∷ (text t ++ premises_text ps)))
+
+abbrev pub DefFits : Def → Type 0
+DefFits (syntax_def w x ls hs e b) =
+    (keyword w ≡ syntax_word) × (is_low x ≡ true) × FragmentFits ls × HintsFit hs
+    × (signed is_equal e ≡ true) × BodyFits b
+DefFits (var_def w x c t hs) =
+    (keyword w ≡ var_word) × (is_low x || is_label x ≡ true) × (signed is_colon c ≡ true)
+    × Fits typ t × HintsFit hs
+DefFits (relation_def w r hs c t ks) =
+    (keyword w ≡ relation_word) × (names_relation r ≡ true) × HintsFit hs
+    × (signed is_colon c ≡ true) × Fits notation t × HintsFit ks
+DefFits (rule_def w r ls c t ps) =
+    (keyword w ≡ rule_word) × (names_relation r ≡ true) × FragmentFits ls
+    × (signed is_colon c ≡ true) × Fits (expression false) t × PremisesFit ps
+DefFits (fun_def w f a c t hs) =
+    (keyword w ≡ def_word) × (is_fun f ≡ true) × ArgsFit typ a × (signed is_colon c ≡ true)
+    × Fits typ t × HintsFit hs
+DefFits (clause_def w f a e t ps) =
+    (keyword w ≡ def_word) × (is_fun f ≡ true) × ArgsFit (expression false) a
+    × (signed is_equal e ≡ true)
+    × Fits (expression false) t × PremisesFit ps
+
+pub data Defs : Type 0 where
+  no_defs : Defs
+  more_defs : Defs → Def → Defs
+
+abbrev pub defs_text : Defs → List Lexeme
+defs_text no_defs = []
+defs_text (more_defs ds d) = defs_text ds ++ def_text d
+
+abbrev pub DefsFit : Defs → Type 0
+DefsFit no_defs = Unit {0}
+DefsFit (more_defs ds d) = DefsFit ds × DefFits d
+
+-- the tokens are those of these definitions
+pub record ParseDefs (us : List Lexeme) (ds : Defs) : Type 0 where
+  pub fits : DefsFit ds
+  pub spelled : us ≡ defs_text ds
+
+-- some tokens behind these make definitions
+abbrev pub ViableDefs : List (List ℕ) → List Lexeme → Type 0
+ViableDefs names us =
+    (rest : List Token) × (ds : Defs) × ParseDefs (us ++ map (lexeme names) rest) ds

@@ -1,0 +1,7 @@
+pub mod Lexemes
+pub mod Levels
+pub mod Trees
+pub mod Grammar
+pub mod Reading
+pub mod Definitions
+pub mod Places

@@ -1,0 +1,119 @@
+-- Trees that keep each token, and their tokens.
+use Rattle.std.specs.Prelude.{List, [], ◌∷◌, ◌++◌, Bool, true, false}
+use Rattle.st_num.specs.declared.mark.Mark.{Mark}
+use Rattle.st_scan.specs.declared.token.Token.{Token}
+use Rattle.st_grammar.specs.declared.sort.Leaf.{Leaf}
+use Rattle.st_grammar.specs.declared.sort.Leaf.TheVariants.{Low as low, Function as function}
+use Rattle.st_grammar.specs.declared.sort.Bracket.{Bracket}
+use Rattle.st_grammar.specs.declared.sort.Bracket.TheVariants.{Round as round, Square as square, Brace as brace, TickRound as tick_round, TickSquare as tick_square, TickBrace as tick_brace, Dollar as dollar}
+use Rattle.st_grammar.specs.declared.sort.Closing.{Closing}
+use Rattle.st_grammar.specs.declared.sort.Closing.TheVariants.{ByRound as by_round, BySquare as by_square, ByBrace as by_brace, ByBar as by_bar}
+use Rattle.st_grammar.specs.Lexemes.{Lexeme, leaf, dot, sign, opening, closing}
+
+mutual
+  pub data Tree : Type 0 where
+    -- a token that stands alone
+    operand : Leaf → Token → Tree
+    -- a mark or a dot behind a tree
+    post : Tree → Lexeme → Tree
+    -- `^` behind a tree, and its count
+    times : Tree → Mark → Token → Tree → Tree
+    -- what opens, the parts, and what closes
+    bracket : Heading → Trees → Token → Tree
+    -- a last part behind what leads to it
+    led : Lead → Tree → Tree
+
+  -- what stands before a last part
+  pub data Lead : Type 0 where
+    -- a left side and its sign
+    left : Tree → Mark → Token → Lead
+    -- a sign that has no left side
+    ahead : Mark → Token → Lead
+    -- the elements of a sequence before the last one
+    items : Trees → Lead
+
+  -- Parts end with the last one, and each has before it what sets it off from the one before.
+  pub data Trees : Type 0 where
+    none : Trees
+    more : Trees → List Lexeme → Tree → Trees
+
+  -- what stands before the parts that a bracket holds
+  pub data Heading : Type 0 where
+    plain : Bracket → Token → Heading
+    -- the bar of a length
+    length : Token → Heading
+    -- a function and `(`
+    arguments : Token → Token → Heading
+    -- a tree and `[`
+    index : Tree → Token → Heading
+    -- a path and `[`
+    segment : Path → Token → Heading
+    -- a path with its sign, `=` or `=++`
+    update : Path → Mark → Token → Heading
+    -- `(`, a name and `<`, in a count
+    below : Token → Token → Mark → Token → Heading
+
+  -- a tree, `[` and the steps behind it
+  pub data Path : Type 0 where
+    head : Tree → Token → Path
+    field : Path → Token → Path
+    part : Path → Token → Trees → Token → Path
+
+abbrev pub closed_by : Bracket → Closing
+closed_by round = by_round
+closed_by square = by_square
+closed_by brace = by_brace
+closed_by tick_round = by_round
+closed_by tick_square = by_square
+closed_by tick_brace = by_brace
+closed_by dollar = by_round
+
+-- how a bracket closes
+abbrev pub closes : Heading → Closing
+closes (plain k o) = closed_by k
+closes (length o) = by_bar
+closes (arguments f o) = by_round
+closes (index t o) = by_square
+closes (segment p o) = by_square
+closes (update p m x) = by_square
+closes (below o i m x) = by_round
+
+abbrev pub agree : Closing → Closing → Bool
+agree by_round by_round = true
+agree by_square by_square = true
+agree by_brace by_brace = true
+agree by_bar by_bar = true
+agree c d = false
+
+-- the tokens of a tree
+abbrev mutual
+  pub text : Tree → List Lexeme
+  text (operand k x) = leaf k x ∷ []
+  text (post t l) = text t ++ l ∷ []
+  text (times t m x c) = text t ++ (sign m x ∷ text c)
+  text (bracket h ts c) = heading_text h ++ (texts ts ++ closing (closes h) c ∷ [])
+  text (led g t) = lead_text g ++ text t
+
+  pub lead_text : Lead → List Lexeme
+  lead_text (left l m x) = text l ++ sign m x ∷ []
+  lead_text (ahead m x) = sign m x ∷ []
+  lead_text (items ts) = texts ts
+
+  pub texts : Trees → List Lexeme
+  texts none = []
+  texts (more ts pre t) = texts ts ++ (pre ++ text t)
+
+  pub heading_text : Heading → List Lexeme
+  heading_text (plain k o) = opening k o ∷ []
+  heading_text (length o) = closing by_bar o ∷ []
+  heading_text (arguments f o) = leaf function f ∷ opening round o ∷ []
+  heading_text (index t o) = text t ++ opening square o ∷ []
+  heading_text (segment p o) = path_text p ++ opening square o ∷ []
+  heading_text (update p m x) = path_text p ++ sign m x ∷ []
+  heading_text (below o i m x) = opening round o ∷ leaf low i ∷ sign m x ∷ []
+
+  pub path_text : Path → List Lexeme
+  path_text (head t o) = text t ++ opening square o ∷ []
+  path_text (field p x) = path_text p ++ dot x ∷ []
+  path_text (part p o ts c) =
+      path_text p ++ (opening square o ∷ (texts ts ++ closing by_square c ∷ []))

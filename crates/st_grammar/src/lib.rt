@@ -1,0 +1,16 @@
+//! The grammar of the parts of a definition: types, notations, expressions and arithmetic.
+//!
+//! The one idea: a part is a tree that keeps each of its tokens. Which trees there are is told by a
+//! table of levels and by what may stand in each sort of place; their tokens are a function.
+//!
+//! Read `specs/Lexemes.antt`, `specs/Grammar.antt` and `laws` first. The rules are in
+//! `docs/language.md`, "Grammar".
+#![tactic(auto)]
+
+mod keyword;
+mod laws;
+mod sort;
+
+pub use keyword::Keyword;
+pub use laws::{definitions_are_read, one_list, one_tree, parts_are_read};
+pub use sort::{Bracket, Closing, Leaf, Sort, Style};

@@ -1,0 +1,5 @@
+pub mod Outline
+pub mod Shapes
+pub mod Course
+pub mod Readings
+pub mod Refusal

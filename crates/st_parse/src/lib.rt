@@ -1,0 +1,27 @@
+//! The parser: from tokens to the one list of source trees, or the first fault.
+//!
+//! The one idea: the parser keeps what is open, and of what it has read only what later tokens
+//! ask. That is an outline of the reading of `st_grammar`, so it stops at the same token.
+//!
+//! Read `reader` first, with `specs/Outline.antt`. The rules are in `docs/language.md`, "Grammar".
+#![tactic(auto)]
+
+mod begin;
+mod close;
+mod course;
+mod frame;
+mod laws;
+mod lexeme;
+mod outline;
+mod place;
+mod premise;
+mod progress;
+mod reader;
+mod step;
+mod table;
+#[cfg(test)]
+mod tests;
+mod token;
+
+pub use laws::refused_once;
+pub use reader::first_refused;
