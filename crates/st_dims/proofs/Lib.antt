@@ -1,1 +1,3 @@
+mod Lists
 mod Nodes
+mod Shortest

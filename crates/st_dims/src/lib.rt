@@ -10,9 +10,12 @@
 //! `docs/dimensions.md`.
 #![tactic(auto)]
 
+mod dimension;
 mod expression;
 mod fault;
 mod mention;
 mod premise;
+mod table;
 
+pub use dimension::dims;
 pub use fault::DimFault;
