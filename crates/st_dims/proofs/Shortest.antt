@@ -125,7 +125,7 @@ put-chain (Some known) chains chain s h = shorter_last chains known chain h ((De
 -- names are equal both ways
 one_way : (one other : List ℕ) (is : Bool) → same_name other one ≡ is → same_name one other ≡ is
 one_way one other true e = (bytes_eq-Decides one other).1 (sym ((bytes_eq-Decides other one).0 e))
-one_way one other false e = not_true (same_name one other) (λ h. absurd_eq ((bytes_eq-Decides other one).1 (sym ((bytes_eq-Decides one other).0 h)) ) e)
+one_way one other false e = not_true (same_name one other) (λ h. absurd_eq ((bytes_eq-Decides other one).1 (sym ((bytes_eq-Decides one other).0 h))) e)
 
 same_name-sym : (one other : List ℕ) → same_name one other ≡ same_name other one
 same_name-sym one other = one_way one other (same_name other one) refl
@@ -169,14 +169,14 @@ pub put :
     → key ≡ occurrence.name → chain ≡ occurrence.chain
     → is_shorter occurrence.chain (dimension_in old occurrence.name) ≡ true
     → ((name : List ℕ) → lookup (is_at (slice_cmp nat_cmp name)) new
-        ≡ cond (is_at (slice_cmp nat_cmp key) name) (Some chain) (lookup (is_at (slice_cmp nat_cmp name)) old))
+    ≡ cond (is_at (slice_cmp nat_cmp key) name) (Some chain) (lookup (is_at (slice_cmp nat_cmp name)) old))
     → HasDimensions before old → HasDimensions (before ++ occurrence ∷ []) new
 put before occurrence old new key chain k c s u h name =
     let found : dimension_in new name ≡ cond (same_name name occurrence.name) (Some occurrence.chain) (dimension_in old name) =
-        sym (lookup_same name new) ∙ u name
-        ∙ ap (λ x. cond (is_at (slice_cmp nat_cmp key) name) (Some chain) x) (lookup_same name old)
-        ∙ ap (λ x. cond x (Some chain) (dimension_in old name)) (is_eq-slice_cmp key name ∙ ap (λ x. same_name x name) k ∙ same_name-sym occurrence.name name)
-        ∙ ap (λ x. cond (same_name name occurrence.name) (Some x) (dimension_in old name)) c in
+    sym (lookup_same name new) ∙ u name
+    ∙ ap (λ x. cond (is_at (slice_cmp nat_cmp key) name) (Some chain) x) (lookup_same name old)
+    ∙ ap (λ x. cond x (Some chain) (dimension_in old name)) (is_eq-slice_cmp key name ∙ ap (λ x. same_name x name) k ∙ same_name-sym occurrence.name name)
+    ∙ ap (λ x. cond (same_name name occurrence.name) (Some x) (dimension_in old name)) c in
     subst (λ d. Fits d (chains_of name (before ++ occurrence ∷ []))) (sym found)
     (subst (Fits (cond (same_name name occurrence.name) (Some occurrence.chain) (dimension_in old name))) (sym (chains-last name before occurrence))
     (put-name before occurrence old name (same_name name occurrence.name) refl s (h name)))

@@ -54,20 +54,30 @@ abbrev pub IsFirst : Option Span → List Span → Type 0
 IsFirst None places = places ≡ []
 IsFirst (Some at) places = (rest : List Span) × (places ≡ at ∷ rest)
 
+-- the places of the occurrences that are misplaced among all that is mentioned
+abbrev pub misplaced_in : List Mention → Table → List Span
+misplaced_in mentions table = misplaced (indices_in mentions) mentions table
+
 -- no rule is broken
 pub record IsSound (mentions : List Mention) (table : Table) : Type 0 where
-  pub placed : misplaced (indices_in mentions) mentions table ≡ []
+  pub placed : misplaced_in mentions table ≡ []
   pub iterating : idle mentions table ≡ []
 
--- I1 is at the first misplaced occurrence. I2 is at the first iteration that iterates nothing,
--- where no occurrence is misplaced.
-abbrev pub IsBreach : List Mention → Table → DimFault → Type 0
-IsBreach mentions table (I1 at) = IsFirst (Some at) (misplaced (indices_in mentions) mentions table)
-IsBreach mentions table (I2 at) =
-    (misplaced (indices_in mentions) mentions table ≡ []) × IsFirst (Some at) (idle mentions table)
-IsBreach mentions table Memory = Unit {0}
+-- The first misplaced occurrence, by the dimensions of the variables.
+pub record IsMisplaced (mentions : List Mention) (at : Span) : Type 0 where
+  pub table : Table
+  pub dimensions : IsTable mentions table
+  pub first : IsFirst (Some at) (misplaced_in mentions table)
 
--- the fault of the table of these mentions
+-- The first iteration that iterates nothing, where no occurrence is misplaced.
+pub record IsIdle (mentions : List Mention) (at : Span) : Type 0 where
+  pub table : Table
+  pub dimensions : IsTable mentions table
+  pub placed : misplaced_in mentions table ≡ []
+  pub first : IsFirst (Some at) (idle mentions table)
+
+-- what a fault says
 abbrev pub IsFault : List Mention → DimFault → Type 0
+IsFault mentions (I1 at) = IsMisplaced mentions at
+IsFault mentions (I2 at) = IsIdle mentions at
 IsFault mentions Memory = Unit {0}
-IsFault mentions fault = (table : Table) × IsTable mentions table × IsBreach mentions table fault

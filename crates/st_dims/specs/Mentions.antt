@@ -176,5 +176,4 @@ mentions_prem_node = fold-PremNode (Span → Sees) Sees mentions_prem_node_at me
 -- what is mentioned in a rule or clause with these parts and premises
 abbrev pub mentions_in : List Exp → List Prem → List Mention
 mentions_in parts premises =
-    flat_map (λ part. mentions_exp part outside) parts
-    ++ flat_map (λ prem. mentions_prem prem outside) premises
+    seen_in (map mentions_exp parts) outside ++ seen_in (map mentions_prem premises) outside

@@ -16,11 +16,7 @@ use st_num::{Dim, Kind, Name, NoMemory, Row, Span};
 use std::alloc::Global;
 
 /// What is mentioned in a rule or clause with these parts and premises.
-fn mentions_in(
-    alloc: Global,
-    parts: &[Exp],
-    premises: &[Prem],
-) -> Result<Vec<Mention>, NoMemory>
+fn mentions_in(alloc: Global, parts: &[Exp], premises: &[Prem]) -> Result<Vec<Mention>, NoMemory>
     ensures { IfOk result (λ mentions. mentions.items ≡ mentions_in parts.now premises.now) }
 {
     let outside = Within::new(alloc);
@@ -154,11 +150,14 @@ pub fn dims(
     let mentions = mentions_in(alloc, parts.as_slice(), premises.as_slice())?;
     let indices = indices_in(alloc, &mentions)?;
     let shortest = dimensions(alloc, &mentions)?;
-    if let Some(at) = first_misplaced(indices.as_slice(), &shortest, &mentions) {
+    let misplaced = first_misplaced(indices.as_slice(), &shortest, &mentions);
+    let idle = first_idle(&shortest, &mentions);
+    let table = rows(alloc, shortest)?;
+    if let Some(at) = misplaced {
         return Err(DimFault::I1(at));
     }
-    if let Some(at) = first_idle(&shortest, &mentions) {
+    if let Some(at) = idle {
         return Err(DimFault::I2(at));
     }
-    Ok(rows(alloc, shortest)?)
+    Ok(table)
 }

@@ -64,11 +64,7 @@ fn add_iteration(
 }
 
 /// Adds the names as indices.
-fn add_indices(
-    alloc: Global,
-    names: &[Name],
-    mentions: &mut Vec<Mention>,
-) -> Result<(), NoMemory>
+fn add_indices(alloc: Global, names: &[Name], mentions: &mut Vec<Mention>) -> Result<(), NoMemory>
     ensures { OnOk result (mentions.new.items ≡ mentions.old.items ++ map Indexes names.now) }
 {
     for name in names {

@@ -1,7 +1,9 @@
 //! Why no dimensions are found.
 
+ghost use Rattle.std.specs.Prelude.{◌≡◌};
+ghost use Rattle.st_dims.specs.declared.fault.DimFault.TheVariants.{Memory};
+
 use st_num::{NoMemory, Span};
-use std::alloc::{AllocError, AllocFailed};
 use thiserror::Error;
 
 /// The first place that breaks a rule on dimensions, or want of memory.
@@ -18,6 +20,8 @@ pub enum DimFault {
 }
 
 impl From<NoMemory> for DimFault {
+    ghost from_gives = { λ _ fault. fault ≡ Memory };
+
     fn from(_: NoMemory) -> Self {
         DimFault::Memory
     }

@@ -16,6 +16,8 @@ mod fault;
 mod mention;
 mod premise;
 mod table;
+#[cfg(test)]
+mod tests;
 
 pub use dimension::dims;
 pub use fault::DimFault;

@@ -1,7 +1,7 @@
 //! What is mentioned in premises.
 
-ghost use Rattle.std.specs.Prelude.{◌≡◌, ◌++◌, flat_map, OnOk};
-ghost use Rattle.st_dims.specs.Mentions.{marked, inside, iteration, mentions_exp, mentions_prem, mentions_prem_node};
+ghost use Rattle.std.specs.Prelude.{◌≡◌, ◌++◌, map, OnOk};
+ghost use Rattle.st_dims.specs.Mentions.{marked, inside, iteration, seen_in, mentions_exp, mentions_prem, mentions_prem_node};
 
 use crate::expression::{add_body, mention_count, mention_exp};
 use crate::mention::{Mention, Within};
@@ -54,7 +54,7 @@ pub fn mention_prems(
     mentions: &mut Vec<Mention>,
 ) -> Result<(), NoMemory>
     ensures { OnOk result (mentions.new.items
-        ≡ mentions.old.items ++ flat_map (λ prem. mentions_prem prem within.now) prems.now) }
+        ≡ mentions.old.items ++ seen_in (map mentions_prem prems.now) within.now) }
 {
     for prem in prems {
         mention_prem(alloc, prem, within, mentions)?;

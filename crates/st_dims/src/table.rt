@@ -47,11 +47,7 @@ fn note(alloc: Global, occurrence: &Occurrence, shortest: &mut Shortest) -> Resu
     Ok(())
 }
 
-fn note_mention(
-    alloc: Global,
-    mention: &Mention,
-    shortest: &mut Shortest,
-) -> Result<(), NoMemory>
+fn note_mention(alloc: Global, mention: &Mention, shortest: &mut Shortest) -> Result<(), NoMemory>
     ensures { OnOk result ((before : List Mention)
         → HasDimensions (occurrences_in before) shortest.old.entries
         → HasDimensions (occurrences_in (before ++ mention.now ∷ [])) shortest.new.entries) }
