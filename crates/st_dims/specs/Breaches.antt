@@ -11,7 +11,7 @@ use Rattle.st_dims.specs.declared.mention.Iteration.{Iteration}
 use Rattle.st_dims.specs.declared.mention.Mention.{Mention}
 use Rattle.st_dims.specs.Names.{is_among}
 use Rattle.st_dims.specs.Mentions.{occurrences_in, indices_in, iterations_in}
-use Rattle.st_dims.specs.Dimensions.{Table, dimension_in, IsTable}
+use Rattle.st_dims.specs.Dimensions.{Table, dimension_in, IsOnlyTable}
 
 abbrev pub same_kind : Kind → Kind → Bool
 same_kind kind.List kind.List = true
@@ -66,13 +66,13 @@ pub record IsSound (mentions : List Mention) (table : Table) : Type 0 where
 -- The first misplaced occurrence, by the dimensions of the variables.
 pub record IsMisplaced (mentions : List Mention) (at : Span) : Type 0 where
   pub table : Table
-  pub dimensions : IsTable mentions table
+  pub dimensions : IsOnlyTable mentions table
   pub first : IsFirst (Some at) (misplaced_in mentions table)
 
 -- The first iteration that iterates nothing, where no occurrence is misplaced.
 pub record IsIdle (mentions : List Mention) (at : Span) : Type 0 where
   pub table : Table
-  pub dimensions : IsTable mentions table
+  pub dimensions : IsOnlyTable mentions table
   pub placed : misplaced_in mentions table ≡ []
   pub first : IsFirst (Some at) (idle mentions table)
 

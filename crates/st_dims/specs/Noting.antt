@@ -1,5 +1,5 @@
 -- How the dimensions found so far change with a further occurrence.
-use Rattle.std.specs.Prelude.{ℕ, List, length, Bool, true, nat_lt, Option, Some, None}
+use Rattle.std.specs.Prelude.{List, length, Bool, true, nat_lt, Option, Some, None}
 use Rattle.st_num.specs.declared.dim.Kind.{Kind}
 
 -- the chain is shorter than the one known so far, or none is known

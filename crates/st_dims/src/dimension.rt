@@ -3,7 +3,7 @@
 ghost use Rattle.std.specs.Prelude.{◌≡◌, ◌∷◌, [], IfOk, IfErr};
 ghost use Rattle.std.specs.Option.{option_to_list};
 ghost use Rattle.st_dims.specs.Mentions.{mentions_in, indices_in};
-ghost use Rattle.st_dims.specs.Dimensions.{dimension_in, IsTable};
+ghost use Rattle.st_dims.specs.Dimensions.{dimension_in, IsOnlyTable};
 ghost use Rattle.st_dims.specs.Breaches.{begins_with, is_misplaced, misplaced, is_longer, is_idle, idle, IsFirst, IsSound, IsFault};
 
 use crate::DimFault;
@@ -136,22 +136,16 @@ fn first_idle(shortest: &Shortest, mentions: &[Mention]) -> Option<Span>
     None
 }
 
-/// The dimension of each variable of a rule or clause, in the byte order of the names. The parts
-/// are its conclusion, or its arguments and result, in the order of the text.
-pub fn dims(
-    alloc: Global,
-    parts: &Row<Exp>,
-    premises: &Row<Prem>,
-) -> Result<Row<(Name, Dim)>, DimFault>
-    ensures dimensions { IfOk result (IsTable (mentions_in parts.now premises.now)) }
-    ensures sound { IfOk result (IsSound (mentions_in parts.now premises.now)) }
-    ensures fault { IfErr result (IsFault (mentions_in parts.now premises.now)) }
+/// The dimension of each variable that is mentioned, or the first breach.
+fn dimensions_of(alloc: Global, mentions: &[Mention]) -> Result<Row<(Name, Dim)>, DimFault>
+    ensures dimensions { IfOk result (IsOnlyTable mentions.now) }
+    ensures sound { IfOk result (IsSound mentions.now) }
+    ensures fault { IfErr result (IsFault mentions.now) }
 {
-    let mentions = mentions_in(alloc, parts.as_slice(), premises.as_slice())?;
-    let indices = indices_in(alloc, &mentions)?;
-    let shortest = dimensions(alloc, &mentions)?;
-    let misplaced = first_misplaced(indices.as_slice(), &shortest, &mentions);
-    let idle = first_idle(&shortest, &mentions);
+    let indices = indices_in(alloc, mentions)?;
+    let shortest = dimensions(alloc, mentions)?;
+    let misplaced = first_misplaced(indices.as_slice(), &shortest, mentions);
+    let idle = first_idle(&shortest, mentions);
     let table = rows(alloc, shortest)?;
     if let Some(at) = misplaced {
         return Err(DimFault::I1(at));
@@ -160,4 +154,19 @@ pub fn dims(
         return Err(DimFault::I2(at));
     }
     Ok(table)
+}
+
+/// The dimension of each variable of a rule or clause, in the byte order of the names. The parts
+/// are its conclusion, or its arguments and result, in the order of the text.
+pub fn dims(
+    alloc: Global,
+    parts: &Row<Exp>,
+    premises: &Row<Prem>,
+) -> Result<Row<(Name, Dim)>, DimFault>
+    ensures dimensions { IfOk result (IsOnlyTable (mentions_in parts.now premises.now)) }
+    ensures sound { IfOk result (IsSound (mentions_in parts.now premises.now)) }
+    ensures fault { IfErr result (IsFault (mentions_in parts.now premises.now)) }
+{
+    let mentions = mentions_in(alloc, parts.as_slice(), premises.as_slice())?;
+    dimensions_of(alloc, &mentions)
 }

@@ -1,7 +1,7 @@
 use Rattle.std.proofs.Common.{◌≡◌, List, ◌++◌, map, ap, sym, ◌∙◌, subst, OnOk}
 use Rattle.st_el.specs.declared.expression.Node.TheVariants as v
 use Rattle.st_dims.specs.declared.mention.Mention.{Mention}
-use Rattle.st_dims.specs.Mentions.{mentions_exp, mentions_seg, marked, seen_in, fields_seen, field_mentions}
+use Rattle.st_dims.specs.Mentions.{mentions_exp, marked, fields_seen, field_mentions}
 use Rattle.st_dims.proofs.Nodes.{node-At, node-Slice, node-Update, node-Extend, node-Iter, node-Fields, two_end, three_end, iterated_end}
 use Rattle.st_dims.proofs.expression.+mention.Goals as goal
 

@@ -1,4 +1,4 @@
-use Rattle.std.proofs.Common.{◌≡◌, sym, ◌∙◌}
+use Rattle.std.proofs.Common.{sym, ◌∙◌}
 use Rattle.st_dims.proofs.Shortest.{kept, put}
 use Rattle.st_dims.proofs.table.note.Goals as goal
 
