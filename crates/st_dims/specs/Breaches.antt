@@ -33,7 +33,8 @@ is_misplaced indices table occurrence =
 -- the places of the misplaced occurrences, in the order of the text
 abbrev pub misplaced : List (List ℕ) → List Mention → Table → List Span
 misplaced indices mentions table =
-    map (λ occurrence. occurrence.at) (filter (is_misplaced indices table) (occurrences_in mentions))
+    map (λ occurrence. occurrence.at)
+    (filter (is_misplaced indices table) (occurrences_in mentions))
 
 abbrev pub is_longer : ℕ → Option (List Kind) → Bool
 is_longer depth None = false

@@ -138,19 +138,23 @@ mentions_exp_at e within = e.node e.at within
 
 abbrev pub mentions_exp : Exp → Sees
 mentions_exp =
-    fold-Exp Marked (Span → Sees) Sees Sees marked_at mentions_node_at mentions_seg_at mentions_exp_at
+    fold-Exp Marked (Span → Sees) Sees Sees
+    marked_at mentions_node_at mentions_seg_at mentions_exp_at
 
 abbrev pub mentions_node : Node → Span → Sees
 mentions_node =
-    fold-Node Marked (Span → Sees) Sees Sees marked_at mentions_node_at mentions_seg_at mentions_exp_at
+    fold-Node Marked (Span → Sees) Sees Sees
+    marked_at mentions_node_at mentions_seg_at mentions_exp_at
 
 abbrev pub mentions_seg : Seg → Sees
 mentions_seg =
-    fold-Seg Marked (Span → Sees) Sees Sees marked_at mentions_node_at mentions_seg_at mentions_exp_at
+    fold-Seg Marked (Span → Sees) Sees Sees
+    marked_at mentions_node_at mentions_seg_at mentions_exp_at
 
 abbrev pub marked : Count → Marked
 marked =
-    fold-Count Marked (Span → Sees) Sees Sees marked_at mentions_node_at mentions_seg_at mentions_exp_at
+    fold-Count Marked (Span → Sees) Sees Sees
+    marked_at mentions_node_at mentions_seg_at mentions_exp_at
 
 -- a field of a record, with what is mentioned in it
 abbrev pub field_mentions : List ℕ × Exp → List ℕ × Sees

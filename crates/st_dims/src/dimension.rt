@@ -73,7 +73,8 @@ fn first_misplaced(indices: &[Name], shortest: &Shortest, mentions: &[Mention]) 
 
 /// The place of a misplaced occurrence.
 fn misplaced_at(indices: &[Name], shortest: &Shortest, mention: &Mention) -> Option<Span>
-    ensures { option_to_list result ≡ misplaced indices.now (mention.now ∷ []) shortest.now.entries }
+    ensures { option_to_list result
+        ≡ misplaced indices.now (mention.now ∷ []) shortest.now.entries }
 {
     match mention {
         Mention::Occurs(occurrence) => {

@@ -53,7 +53,8 @@ fn add_iteration(
     mentions: &mut Vec<Mention>,
 ) -> Result<(), NoMemory>
     ensures { OnOk result
-        (mentions.new.items ≡ mentions.old.items ++ iteration (marked count.now) at within.now body.now) }
+        (mentions.new.items
+        ≡ mentions.old.items ++ iteration (marked count.now) at within.now body.now) }
 {
     if must_iterate(count) {
         let depth = within.kinds.as_slice().len();
