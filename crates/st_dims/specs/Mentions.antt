@@ -166,7 +166,8 @@ abbrev pub mentions_prem_node_at : PremNode-F (Span → Sees) Sees → Span → 
 mentions_prem_node_at (PremNode-F.If e) at within = mentions_exp e within
 mentions_prem_node_at (PremNode-F.Goal name e) at within = mentions_exp e within
 mentions_prem_node_at PremNode-F.Otherwise at within = []
-mentions_prem_node_at (PremNode-F.Each prem count) at within = iterated (marked count) prem at within
+mentions_prem_node_at (PremNode-F.Each prem count) at within =
+    iterated (marked count) prem at within
 
 abbrev pub mentions_prem_at : Prem-F (Span → Sees) Sees → Sees
 mentions_prem_at prem within = prem.node prem.at within
