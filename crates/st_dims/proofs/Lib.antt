@@ -1,0 +1,4 @@
+mod Lists
+mod Nodes
+mod Shortest
+mod Unique

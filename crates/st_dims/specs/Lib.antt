@@ -1,0 +1,5 @@
+pub mod Names
+pub mod Mentions
+pub mod Dimensions
+pub mod Breaches
+pub mod Noting

@@ -1,0 +1,184 @@
+-- What bears on dimensions in expressions and premises, in the order of the text.
+use Rattle.std.specs.Prelude.{ℕ, List, [], ◌∷◌, ◌++◌, length, map, flat_map, Bool, true, false, if◌then◌else◌}
+use Rattle.st_num.specs.declared.span.Span.{Span}
+use Rattle.st_num.specs.declared.dim.Kind.{Kind}
+use Rattle.st_num.specs.declared.dim.Kind.TheVariants as kind
+use Rattle.st_el.specs.declared.expression.Exp.{Exp, Exp-F, fold-Exp}
+use Rattle.st_el.specs.declared.expression.Node.{Node, fold-Node}
+use Rattle.st_el.specs.declared.expression.Count.{Count, fold-Count}
+use Rattle.st_el.specs.declared.expression.Count.TheOpen.{Count-F, Node-F, Seg-F}
+use Rattle.st_el.specs.declared.expression.Seg.{Seg, fold-Seg}
+use Rattle.st_el.specs.declared.definition.Prem.{Prem, Prem-F, fold-Prem}
+use Rattle.st_el.specs.declared.definition.PremNode.{PremNode, fold-PremNode}
+use Rattle.st_el.specs.declared.definition.PremNode.TheOpen.{PremNode-F}
+use Rattle.st_dims.specs.declared.mention.Within.{Within}
+use Rattle.st_dims.specs.declared.mention.Occurrence.{Occurrence}
+use Rattle.st_dims.specs.declared.mention.Iteration.{Iteration}
+use Rattle.st_dims.specs.declared.mention.Mention.{Mention}
+use Rattle.st_dims.specs.declared.mention.Mention.TheVariants.{Occurs, Indexes, Iterates}
+use Rattle.st_dims.specs.Names.{is_among}
+
+-- the occurrences of variables, the names of indices, and the iterations among what is mentioned
+abbrev pub occurrence_of : Mention → List Occurrence
+occurrence_of (Occurs occurrence) = occurrence ∷ []
+occurrence_of mention = []
+
+abbrev pub index_of : Mention → List (List ℕ)
+index_of (Indexes name) = name ∷ []
+index_of mention = []
+
+abbrev pub iteration_of : Mention → List Iteration
+iteration_of (Iterates iteration) = iteration ∷ []
+iteration_of mention = []
+
+abbrev pub occurrences_in : List Mention → List Occurrence
+occurrences_in mentions = flat_map occurrence_of mentions
+
+abbrev pub indices_in : List Mention → List (List ℕ)
+indices_in mentions = flat_map index_of mentions
+
+abbrev pub iterations_in : List Mention → List Iteration
+iterations_in mentions = flat_map iteration_of mentions
+
+abbrev pub names_in : List Mention → List (List ℕ)
+names_in mentions = map (λ occurrence. occurrence.name) (occurrences_in mentions)
+
+-- ---- expressions
+
+-- what is mentioned in a part, by what stands round it
+abbrev pub Sees : Type 0
+Sees = Within → List Mention
+
+-- The mark of an iteration: what it makes of its body, its index, whether it has to iterate
+-- something, and its count.
+pub record Marked : Type 0 where
+  pub kind : Kind
+  pub index : List (List ℕ)
+  pub must_iterate : Bool
+  pub count : Sees
+
+-- what stands round a part that is in no iteration, and round the body of an iteration
+abbrev pub outside : Within
+outside = record { kinds = []; indices = [] }
+
+abbrev pub inside : Marked → Within → Within
+inside mark within =
+    record { kinds = within.kinds ++ mark.kind ∷ []; indices = within.indices ++ mark.index }
+
+-- a name belongs to a body that has it as its index, and is else a variable
+abbrev pub occurrence : List ℕ → Span → Within → List Mention
+occurrence name at within =
+    if is_among name within.indices then []
+    else Occurs (record { name = name; at = at; chain = within.kinds }) ∷ []
+
+-- an iteration with this in its body
+abbrev pub iteration : Marked → Span → Within → List Mention → List Mention
+iteration mark at within body =
+    if mark.must_iterate
+    then Iterates (record { at = at; depth = length within.kinds; names = names_in body }) ∷ []
+    else []
+
+-- An iteration, its index and its body. The count of the iteration stands outside of it.
+abbrev pub iterated : Marked → Sees → Span → Within → List Mention
+iterated mark body at within =
+    iteration mark at within (body (inside mark within)) ++ map Indexes mark.index
+    ++ body (inside mark within) ++ mark.count within
+
+abbrev pub marked_at : Count-F Marked (Span → Sees) Sees Sees → Marked
+marked_at Count-F.Star =
+    record { kind = kind.List; index = []; must_iterate = true; count = λ within. [] }
+marked_at Count-F.Plus =
+    record { kind = kind.List; index = []; must_iterate = true; count = λ within. [] }
+marked_at Count-F.Quest =
+    record { kind = kind.Opt; index = []; must_iterate = true; count = λ within. [] }
+marked_at (Count-F.Times count) =
+    record { kind = kind.List; index = []; must_iterate = false; count = count }
+marked_at (Count-F.Below index count) =
+    record { kind = kind.List; index = index ∷ []; must_iterate = false; count = count }
+
+-- what is mentioned in parts, from left to right
+abbrev pub seen_in : List Sees → Within → List Mention
+seen_in parts within = flat_map (λ part. part within) parts
+
+abbrev pub fields_seen : List (List ℕ × Sees) → Within → List Mention
+fields_seen fields within = flat_map (λ field. field.1 within) fields
+
+abbrev pub mentions_node_at : Node-F Marked (Span → Sees) Sees Sees → Span → Within → List Mention
+mentions_node_at (Node-F.Name name) at within = occurrence name at within
+mentions_node_at (Node-F.Seq parts) at within = seen_in parts within
+mentions_node_at (Node-F.Infix left sign right) at within = left within ++ right within
+mentions_node_at (Node-F.Binary left sign right) at within = left within ++ right within
+mentions_node_at (Node-F.Not e) at within = e within
+mentions_node_at (Node-F.Neg e) at within = e within
+mentions_node_at (Node-F.Arith e) at within = e within
+mentions_node_at (Node-F.Paren e) at within = e within
+mentions_node_at (Node-F.Bracket sign e) at within = e within
+mentions_node_at (Node-F.Tuple parts) at within = seen_in parts within
+mentions_node_at (Node-F.Fields fields) at within = fields_seen fields within
+mentions_node_at (Node-F.Dot e field) at within = e within
+mentions_node_at (Node-F.Node::At e from) at within = e within ++ from within
+mentions_node_at (Node-F.Node::Slice e from length) at within =
+    e within ++ from within ++ length within
+mentions_node_at (Node-F.Update e path part) at within =
+    e within ++ seen_in path within ++ part within
+mentions_node_at (Node-F.Extend e path part) at within =
+    e within ++ seen_in path within ++ part within
+mentions_node_at (Node-F.Len e) at within = e within
+mentions_node_at (Node-F.Call name parts) at within = seen_in parts within
+mentions_node_at (Node-F.Iter e mark) at within = iterated mark e at within
+mentions_node_at node at within = []
+
+abbrev pub mentions_seg_at : Seg-F Marked (Span → Sees) Sees Sees → Sees
+mentions_seg_at (Seg-F.Field name) within = []
+mentions_seg_at (Seg-F.Seg::At from) within = from within
+mentions_seg_at (Seg-F.Seg::Slice from length) within = from within ++ length within
+
+abbrev pub mentions_exp_at : Exp-F Marked (Span → Sees) Sees Sees → Sees
+mentions_exp_at e within = e.node e.at within
+
+abbrev pub mentions_exp : Exp → Sees
+mentions_exp =
+    fold-Exp Marked (Span → Sees) Sees Sees
+    marked_at mentions_node_at mentions_seg_at mentions_exp_at
+
+abbrev pub mentions_node : Node → Span → Sees
+mentions_node =
+    fold-Node Marked (Span → Sees) Sees Sees
+    marked_at mentions_node_at mentions_seg_at mentions_exp_at
+
+abbrev pub mentions_seg : Seg → Sees
+mentions_seg =
+    fold-Seg Marked (Span → Sees) Sees Sees
+    marked_at mentions_node_at mentions_seg_at mentions_exp_at
+
+abbrev pub marked : Count → Marked
+marked =
+    fold-Count Marked (Span → Sees) Sees Sees
+    marked_at mentions_node_at mentions_seg_at mentions_exp_at
+
+-- a field of a record, with what is mentioned in it
+abbrev pub field_mentions : List ℕ × Exp → List ℕ × Sees
+field_mentions field = (field.0, mentions_exp field.1)
+
+-- ---- premises
+
+abbrev pub mentions_prem_node_at : PremNode-F (Span → Sees) Sees → Span → Within → List Mention
+mentions_prem_node_at (PremNode-F.If e) at within = mentions_exp e within
+mentions_prem_node_at (PremNode-F.Goal name e) at within = mentions_exp e within
+mentions_prem_node_at PremNode-F.Otherwise at within = []
+mentions_prem_node_at (PremNode-F.Each prem count) at within =
+    iterated (marked count) prem at within
+
+abbrev pub mentions_prem_at : Prem-F (Span → Sees) Sees → Sees
+mentions_prem_at prem within = prem.node prem.at within
+
+abbrev pub mentions_prem : Prem → Sees
+mentions_prem = fold-Prem (Span → Sees) Sees mentions_prem_node_at mentions_prem_at
+
+abbrev pub mentions_prem_node : PremNode → Span → Sees
+mentions_prem_node = fold-PremNode (Span → Sees) Sees mentions_prem_node_at mentions_prem_at
+
+-- what is mentioned in a rule or clause with these parts and premises
+abbrev pub mentions_in : List Exp → List Prem → List Mention
+mentions_in parts premises =
+    seen_in (map mentions_exp parts) outside ++ seen_in (map mentions_prem premises) outside
