@@ -1,14 +1,15 @@
 -- What a fit to each form of template is made of, and that there is at most one.
-use Rattle.std.proofs.Common.{◌≡◌, refl, sym, ◌∙◌, ap, subst, ℕ, List, [], ◌∷◌, ◌++◌, length, drop}
-use Rattle.std.specs.Prelude.{Some, IsTrue}
+use Rattle.std.proofs.Common.{◌≡◌, refl, sym, ◌∙◌, ap, subst, ℕ, List, [], ◌∷◌, ◌++◌, length, drop, map, ◌+◌, arith, length-append}
+use Rattle.std.proofs.lemmas.List.Sums.{sum_by-cons}
+use Rattle.std.specs.Prelude.{Some, IsTrue, sum}
 use Rattle.st_num.specs.declared.mark.Mark.{Mark}
 use Rattle.st_el.specs.declared.expression.Exp.{Exp}
 use Rattle.st_el.specs.declared.expression.Count.TheOpen.{Node-F}
-use Rattle.st_il.specs.declared.template.Template.{Template, out-Template}
+use Rattle.st_il.specs.declared.template.Template.{Template, out-Template, map-Template, fold_out-Template}
 use Rattle.st_il.specs.declared.template.Template.TheOpen.{Template-F}
 use Rattle.st_notation.specs.declared.filled.Shape.{Shape}
 use Rattle.st_notation.specs.Elements.{opened, bare, elements, is_atom}
-use Rattle.st_notation.specs.Fits.{Filling, one, Take, takes, Fits, hole, atom, bracket, sides, sequence, FitInOrder, end, next_atom, next_bracket, next_hole}
+use Rattle.st_notation.specs.Fits.{holes, holes_at, Filling, one, Take, takes, Fits, hole, atom, bracket, sides, sequence, FitInOrder, end, next_atom, next_bracket, next_hole}
 
 -- ---- the whole
 
@@ -58,8 +59,16 @@ Fits-in-Infix t ss e fs l s r p (bracket o i x q n h) = absurd (cc)
 Fits-in-Infix t ss e fs l s r p (sides {fs = xs} {gs = ys} l' s' r' a b q n h k) =
     let one_side : l' ≡ l = cc in
     let other_side : r' ≡ r = cc in
-    record { left = a; right = b; lefts = xs; rights = ys; is = cc; fits_left = subst (λ z. Fits z ss a xs) one_side h;
-      fits_right = subst (λ z. Fits z (drop (length xs) ss) b ys) other_side k; all = refl }
+    record {
+      left = a;
+      right = b;
+      lefts = xs;
+      rights = ys;
+      is = cc;
+      fits_left = subst (λ z. Fits z ss a xs) one_side h;
+      fits_right = subst (λ z. Fits z (drop (length xs) ss) b ys) other_side k;
+      all = refl;
+    }
 Fits-in-Infix t ss e fs l s r p (sequence ts q h) = absurd (cc)
 
 pub Fits-in-Seq : (t : Template) (ss : List Shape) (e : Exp) (fs : List Filling) (parts : List Template) → out-Template t ≡ Template-F.Seq parts → Fits t ss e fs
@@ -145,7 +154,7 @@ mutual
       let same_right : found.right ≡ b = cc in
       let lefts : xs ≡ found.lefts = Fits-single l ss a xs found.lefts h (subst (λ z. Fits l ss z found.lefts) same_left found.fits_left) in
       let rights : ys ≡ found.rights = Fits-single r (drop (length xs) ss) b ys found.rights k
-        (subst (λ z. Fits r (drop (length z) ss) b found.rights) (sym lefts) (subst (λ z. Fits r (drop (length found.lefts) ss) z found.rights) same_right found.fits_right)) in
+      (subst (λ z. Fits r (drop (length z) ss) b found.rights) (sym lefts) (subst (λ z. Fits r (drop (length found.lefts) ss) z found.rights) same_right found.fits_right)) in
       ap (λ z. z ++ ys) lefts ∙ ap (λ z. found.lefts ++ z) rights ∙ sym found.all
   Fits-single t ss e fs gs (sequence ts p h) other =
       FitInOrder-single ts ss (elements (bare e)) fs gs h (Fits-in-Seq t ss e gs ts p other)
@@ -166,7 +175,7 @@ mutual
       let same_inner : found.inner ≡ x = cc in
       let inners : xs ≡ found.inners = Fits-single i ss x xs found.inners h (subst (λ z. Fits i ss z found.inners) same_inner found.fits_inner) in
       let others : ys ≡ found.others = FitInOrder-single ts (drop (length xs) ss) rest ys found.others k
-        (subst (λ z. FitInOrder ts (drop (length z) ss) rest found.others) (sym inners) (subst (λ z. FitInOrder ts (drop (length found.inners) ss) z found.others) same_rest found.fit)) in
+      (subst (λ z. FitInOrder ts (drop (length z) ss) rest found.others) (sym inners) (subst (λ z. FitInOrder ts (drop (length found.inners) ss) z found.others) same_rest found.fit)) in
       ap (λ z. z ++ ys) inners ∙ ap (λ z. found.inners ++ z) others ∙ sym found.both
   FitInOrder-single (t ∷ ts) ss es fs gs (next_hole {s = s} {ss = shapes} {fs = xs} taken p n h) other =
       let found = FitInOrder-in-Hole t ts ss es gs p other in
@@ -176,5 +185,38 @@ mutual
       let is : takes s ts es ≡ Some found.taken = ap (λ z. takes z ts es) (sym same_shape) ∙ found.is in
       let same_taken : found.taken ≡ taken = cc in
       let others : xs ≡ found.others = FitInOrder-single ts shapes (drop taken.count es) xs found.others h
-        (subst (λ z. FitInOrder ts shapes (drop z.count es) found.others) same_taken (subst (λ z. FitInOrder ts z (drop found.taken.count es) found.others) same_shapes found.fit)) in
+      (subst (λ z. FitInOrder ts shapes (drop z.count es) found.others) same_taken (subst (λ z. FitInOrder ts z (drop found.taken.count es) found.others) same_shapes found.fit)) in
       ap (λ z. taken.filling ∷ z) others ∙ ap (λ z. z.filling ∷ found.others) (sym same_taken) ∙ sym found.both
+
+-- ---- one filling for each hole
+
+holes-is : (t : Template) (x : Template-F Template) → out-Template t ≡ x → holes t ≡ holes_at (map-Template Template ℕ holes x)
+holes-is t x p = fold_out-Template ℕ holes_at t ∙ ap (λ z. holes_at (map-Template Template ℕ holes z)) p
+
+mutual
+  pub Fits-length : (t : Template) (ss : List Shape) (e : Exp) (fs : List Filling) → Fits t ss e fs → length fs ≡ holes t
+  Fits-length t ss e fs (hole p) = sym (holes-is t _ p)
+  Fits-length t ss e fs (atom n p a) = sym (holes-is t _ p)
+  Fits-length t ss e fs (bracket o i x p n h) = Fits-length i ss x fs h ∙ sym (holes-is t _ p)
+  Fits-length t ss e fs (sides {fs = xs} {gs = ys} l s r a b p n h k) =
+      length-append xs ys ∙ ap (λ z. z + length ys) (Fits-length l ss a xs h) ∙ ap (λ z. holes l + z) (Fits-length r (drop (length xs) ss) b ys k) ∙ sym (holes-is t _ p)
+  Fits-length t ss e fs (sequence parts p h) = FitInOrder-length parts ss (elements (bare e)) fs h ∙ sym (holes-is t _ p)
+
+  pub FitInOrder-length : (ts : List Template) (ss : List Shape) (es : List Exp) (fs : List Filling) → FitInOrder ts ss es fs → length fs ≡ sum (map holes ts)
+  FitInOrder-length ts ss es fs end = refl
+  FitInOrder-length (t ∷ ts) ss es fs (next_atom {es = others} n p a h) =
+      let none : holes t ≡ 0 = holes-is t _ p in
+      let rest : length fs ≡ sum (map holes ts) = FitInOrder-length ts ss others fs h in
+      let all : sum (map holes (t ∷ ts)) ≡ holes t + sum (map holes ts) = sum_by-cons (λ (x : ℕ). x) (holes t) (map holes ts) in
+      omega (arith, none, rest, all)
+  FitInOrder-length (t ∷ ts) ss es fs (next_bracket {es = rest} {fs = xs} {gs = ys} o i x p n h k) =
+      let inner : length xs ≡ holes t = Fits-length i ss x xs h ∙ sym (holes-is t _ p) in
+      let others : length ys ≡ sum (map holes ts) = FitInOrder-length ts (drop (length xs) ss) rest ys k in
+      let both : length fs ≡ length xs + length ys = length-append xs ys in
+      let all : sum (map holes (t ∷ ts)) ≡ holes t + sum (map holes ts) = sum_by-cons (λ (x : ℕ). x) (holes t) (map holes ts) in
+      omega (arith, inner, others, both, all)
+  FitInOrder-length (t ∷ ts) ss es fs (next_hole {ss = others} {fs = xs} taken p n h) =
+      let one_hole : holes t ≡ 1 = holes-is t _ p in
+      let rest : length xs ≡ sum (map holes ts) = FitInOrder-length ts others (drop taken.count es) xs h in
+      let all : sum (map holes (t ∷ ts)) ≡ holes t + sum (map holes ts) = sum_by-cons (λ (x : ℕ). x) (holes t) (map holes ts) in
+      omega (arith, one_hole, rest, all)

@@ -28,7 +28,8 @@ pub Reaches-more : (ts us vs : List Template) (ss rs qs : List Shape) (es xs ys 
     → Reaches ts ss es fs us rs xs → Reaches us rs xs gs vs qs ys → Reaches ts ss es (fs ++ gs) vs qs ys
 Reaches-more ts us vs ss rs qs es xs ys fs gs h k = record {
   goes = λ hs m. subst (λ z. FitInOrder ts ss es z) (sym (append_assoc fs gs hs)) (h.goes (gs ++ hs) (k.goes hs m));
-  back = λ hs m. let there = h.back hs m in k.back there.0 there.1 }
+  back = λ hs m. let there = h.back hs m in k.back there.0 there.1;
+}
 
 pub Reaches-at : (ts us vs : List Template) (ss rs qs : List Shape) (es xs ys : List Exp) (fs gs : List Filling) (t : Template)
     → us ≡ t ∷ vs → Reaches ts ss es fs us rs xs → Reaches (t ∷ vs) rs xs gs vs qs ys → Reaches ts ss es (fs ++ gs) vs qs ys
@@ -43,7 +44,7 @@ pub turn : (ts : List Template) (i : ℕ) (t : Template) (vs : List Template) (s
 turn ts i t vs ss rs qs es xs ys old taken new n lt at behind shapes left all h k =
     let front : drop i ts ≡ t ∷ vs = drop-cons ts i t lt ∙ ap (λ z. z ∷ drop (suc i) ts) (sym at) ∙ ap (λ z. t ∷ drop z ts) (sym (add-one i)) ∙ ap (λ z. t ∷ z) (sym behind) in
     let both : Reaches ts ss es (fillings old ++ fillings taken) vs (drop (length taken) rs) (drop n xs) =
-      Reaches-at ts (drop i ts) vs ss rs (drop (length taken) rs) es xs (drop n xs) (fillings old) (fillings taken) t front h k in
+    Reaches-at ts (drop i ts) vs ss rs (drop (length taken) rs) es xs (drop n xs) (fillings old) (fillings taken) t front h k in
     subst (λ z. Reaches ts ss es z (drop (i + 1) ts) qs ys) (sym (ap fillings all ∙ map-append plain old taken))
     (subst (λ z. Reaches ts ss es (fillings old ++ fillings taken) z qs ys) behind
     (subst (λ z. Reaches ts ss es (fillings old ++ fillings taken) vs z ys) (sym shapes)
@@ -92,9 +93,10 @@ atom-reaches t ts ss [] name p b = absurd (cc)
 atom-reaches t ts ss (e ∷ es) name p b = record {
   goes = λ gs h. next_atom name p b h;
   back = λ gs h. let found = FitInOrder-in-Atom t ts ss (e ∷ es) gs name p h in
-    let all : e ∷ es ≡ found.first ∷ found.rest = found.all in
-    let same : found.rest ≡ es = cc in
-    (gs, subst (λ z. FitInOrder ts ss z gs) same found.fit) }
+      let all : e ∷ es ≡ found.first ∷ found.rest = found.all in
+      let same : found.rest ≡ es = cc in
+      (gs, subst (λ z. FitInOrder ts ss z gs) same found.fit);
+}
 
 pub atom-took : (t : Template) (ts : List Template) (ss : List Shape) (es : List Exp) (name : List ℕ) (filled : List Filled) → out-Template t ≡ Template-F.Atom name
     → begins name es ≡ true → filled ≡ [] → Reaches (t ∷ ts) ss es (fillings filled) ts (drop (length filled) ss) (drop 1 es)
@@ -113,12 +115,13 @@ hole-reaches : (t : Template) (ts : List Template) (s : Shape) (ss : List Shape)
 hole-reaches t ts s ss es taken p n = record {
   goes = λ gs h. next_hole taken p n h;
   back = λ gs h. let found = FitInOrder-in-Hole t ts (s ∷ ss) es gs p h in
-    let all : s ∷ ss ≡ found.shape ∷ found.shapes = found.all in
-    let same_shape : found.shape ≡ s = cc in
-    let same_shapes : found.shapes ≡ ss = cc in
-    let is : takes s ts es ≡ Some found.taken = ap (λ z. takes z ts es) (sym same_shape) ∙ found.is in
-    let same_taken : found.taken ≡ taken = cc in
-    (found.others, subst (λ z. FitInOrder ts ss (drop z.count es) found.others) same_taken (subst (λ z. FitInOrder ts z (drop found.taken.count es) found.others) same_shapes found.fit)) }
+      let all : s ∷ ss ≡ found.shape ∷ found.shapes = found.all in
+      let same_shape : found.shape ≡ s = cc in
+      let same_shapes : found.shapes ≡ ss = cc in
+      let is : takes s ts es ≡ Some found.taken = ap (λ z. takes z ts es) (sym same_shape) ∙ found.is in
+      let same_taken : found.taken ≡ taken = cc in
+      (found.others, subst (λ z. FitInOrder ts ss (drop z.count es) found.others) same_taken (subst (λ z. FitInOrder ts z (drop found.taken.count es) found.others) same_shapes found.fit));
+}
 
 pub hole-took : (t : Template) (ts : List Template) (s : Shape) (ss rest : List Shape) (es : List Exp) (taken : Take) (filled : List Filled) (filling : Filled) (count : ℕ)
     → out-Template t ≡ Template-F.Hole → ss ≡ s ∷ rest → takes s ts es ≡ Some taken → taken ≡ record { filling = plain filling; count = count } → filled ≡ filling ∷ []
@@ -134,13 +137,14 @@ bracket-reaches : (t : Template) (ts : List Template) (ss : List Shape) (e : Exp
 bracket-reaches t ts ss e es o i x fs p n f = record {
   goes = λ gs h. next_bracket o i x p n f h;
   back = λ gs h. let found = FitInOrder-in-Bracket t ts ss (e ∷ es) gs o i p h in
-    let all : e ∷ es ≡ found.first ∷ found.rest = found.all in
-    let is : opened found.first ≡ Node-F.Bracket o found.inner = found.is in
-    let same_rest : found.rest ≡ es = cc in
-    let same_first : found.first ≡ e = cc in
-    let same_inner : found.inner ≡ x = cc in
-    let inners : fs ≡ found.inners = Fits-single i ss x fs found.inners f (subst (λ z. Fits i ss z found.inners) same_inner found.fits_inner) in
-    (found.others, subst (λ z. FitInOrder ts (drop (length z) ss) es found.others) (sym inners) (subst (λ z. FitInOrder ts (drop (length found.inners) ss) z found.others) same_rest found.fit)) }
+      let all : e ∷ es ≡ found.first ∷ found.rest = found.all in
+      let is : opened found.first ≡ Node-F.Bracket o found.inner = found.is in
+      let same_rest : found.rest ≡ es = cc in
+      let same_first : found.first ≡ e = cc in
+      let same_inner : found.inner ≡ x = cc in
+      let inners : fs ≡ found.inners = Fits-single i ss x fs found.inners f (subst (λ z. Fits i ss z found.inners) same_inner found.fits_inner) in
+      (found.others, subst (λ z. FitInOrder ts (drop (length z) ss) es found.others) (sym inners) (subst (λ z. FitInOrder ts (drop (length found.inners) ss) z found.others) same_rest found.fit));
+}
 
 pub bracket-took : (t : Template) (ts : List Template) (ss : List Shape) (e : Exp) (es all : List Exp) (o : Mark) (i : Template) (x : Exp) (filled : List Filled)
     → out-Template t ≡ Template-F.Bracket o i → all ≡ e ∷ es → opened e ≡ Node-F.Bracket o x → Fits i ss x (fillings filled)
@@ -177,8 +181,8 @@ pub bracket-answers : (at : Span) (t : Template) (ss : List Shape) (e : Exp) (o 
     → (answer : Result (List Filled) FitFault) → Fitted at (Fits i ss x) answer → Fitted at (Fits t ss e) answer
 bracket-answers at t ss e o i x p n = Fitted-moved at (Fits i ss x) (Fits t ss e) (λ fs h. bracket o i x p n h)
     (λ fs h. let found = Fits-in-Bracket t ss e fs o i p h in
-      let is : opened (bare e) ≡ Node-F.Bracket o found.0 = found.1 in
-      let same : found.0 ≡ x = cc in subst (λ z. Fits i ss z fs) same found.2)
+    let is : opened (bare e) ≡ Node-F.Bracket o found.0 = found.1 in
+    let same : found.0 ≡ x = cc in subst (λ z. Fits i ss z fs) same found.2)
 
 pub sequence-answers : (at : Span) (t : Template) (ss : List Shape) (e : Exp) (parts : List Template) → out-Template t ≡ Template-F.Seq parts
     → (answer : Result (List Filled) FitFault) → Fitted at (FitInOrder parts ss (elements (bare e))) answer → Fitted at (Fits t ss e) answer
@@ -196,23 +200,29 @@ sides-fit t ss e l s r a b xs ys filled p n h k all =
 
 pub left-refuses : (at : Span) (t : Template) (ss : List Shape) (e : Exp) (l : Template) (s : Mark) (r : Template) (a b : Exp) (refused : FitFault) → out-Template t ≡ Template-F.Infix l s r
     → opened (bare e) ≡ Node-F.Infix a s b → Refuses at (Fits l ss a) refused → Refuses at (Fits t ss e) refused
-left-refuses at t ss e l s r a b (fault.NoFit there) p n none = (none.0, λ fs h.
-    let found = Fits-in-Infix t ss e fs l s r p h in
-    let is : opened (bare e) ≡ Node-F.Infix found.left s found.right = found.is in
-    let same : found.left ≡ a = cc in
-    none.1 found.lefts (subst (λ z. Fits l ss z found.lefts) same found.fits_left))
+left-refuses at t ss e l s r a b (fault.NoFit there) p n none = (
+  none.0,
+  λ fs h.
+      let found = Fits-in-Infix t ss e fs l s r p h in
+      let is : opened (bare e) ≡ Node-F.Infix found.left s found.right = found.is in
+      let same : found.left ≡ a = cc in
+      none.1 found.lefts (subst (λ z. Fits l ss z found.lefts) same found.fits_left),
+)
 left-refuses at t ss e l s r a b fault.Memory p n none = tt
 
 pub right-refuses : (at : Span) (t : Template) (ss : List Shape) (e : Exp) (l : Template) (s : Mark) (r : Template) (a b : Exp) (xs : List Filled) (refused : FitFault) → out-Template t ≡ Template-F.Infix l s r
     → opened (bare e) ≡ Node-F.Infix a s b → Fits l ss a (fillings xs) → Refuses at (Fits r (drop (length xs) ss) b) refused → Refuses at (Fits t ss e) refused
-right-refuses at t ss e l s r a b xs (fault.NoFit there) p n h none = (none.0, λ fs k.
-    let found = Fits-in-Infix t ss e fs l s r p k in
-    let is : opened (bare e) ≡ Node-F.Infix found.left s found.right = found.is in
-    let same_left : found.left ≡ a = cc in
-    let same_right : found.right ≡ b = cc in
-    let lefts : fillings xs ≡ found.lefts = Fits-single l ss a (fillings xs) found.lefts h (subst (λ z. Fits l ss z found.lefts) same_left found.fits_left) in
-    let count : length found.lefts ≡ length xs = ap length (sym lefts) ∙ length-map xs plain in
-    none.1 found.rights (subst (λ z. Fits r (drop z ss) b found.rights) count (subst (λ z. Fits r (drop (length found.lefts) ss) z found.rights) same_right found.fits_right)))
+right-refuses at t ss e l s r a b xs (fault.NoFit there) p n h none = (
+  none.0,
+  λ fs k.
+      let found = Fits-in-Infix t ss e fs l s r p k in
+      let is : opened (bare e) ≡ Node-F.Infix found.left s found.right = found.is in
+      let same_left : found.left ≡ a = cc in
+      let same_right : found.right ≡ b = cc in
+      let lefts : fillings xs ≡ found.lefts = Fits-single l ss a (fillings xs) found.lefts h (subst (λ z. Fits l ss z found.lefts) same_left found.fits_left) in
+      let count : length found.lefts ≡ length xs = ap length (sym lefts) ∙ length-map xs plain in
+      none.1 found.rights (subst (λ z. Fits r (drop z ss) b found.rights) count (subst (λ z. Fits r (drop (length found.lefts) ss) z found.rights) same_right found.fits_right)),
+)
 right-refuses at t ss e l s r a b xs fault.Memory p n h none = tt
 
 -- ---- runs

@@ -1,7 +1,7 @@
 //! The fit of an expression to a template.
 
-ghost use Rattle.std.specs.Prelude.{◌≡◌, ◌++◌, [], ◌∷◌, IfOk};
-ghost use Rattle.st_notation.specs.Fits.{Fits, FitInOrder, FitsWhole};
+ghost use Rattle.std.specs.Prelude.{◌≡◌, ◌++◌, [], ◌∷◌, length, IfOk};
+ghost use Rattle.st_notation.specs.Fits.{Fits, FitInOrder, FitsWhole, holes};
 ghost use Rattle.st_notation.specs.Fitted.{Fitted, IsOnly, Took};
 
 use crate::element::{bare, begins, behind, elements, inside, is_atom, sides};
@@ -29,6 +29,7 @@ pub fn fit<'a>(
 ) -> Result<Row<Filled<'a>>, FitFault>
     ensures fitted { Fitted exp.now.at (FitsWhole template.now shapes.now exp.now) result }
     ensures only { IfOk result (IsOnly (FitsWhole template.now shapes.now exp.now)) }
+    ensures each { IfOk result (λ found. length found ≡ holes template.now) }
 {
     let filled = fit_side(alloc, template, shapes.as_slice(), bare(exp), exp.at)?;
     Ok(filled)

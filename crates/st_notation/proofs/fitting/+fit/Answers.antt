@@ -28,9 +28,11 @@ fit_part-returns-in_ok-filled-in-Bracket t c =
     (subst (λ z. Fits z c.args.shapes.now c.in-Some-inside.inner.now (fillings c.in_ok-filled-in-Bracket.filled)) c.get.ensures c.in_ok-filled-in-Bracket.ensures)
 
 pub fit_side-returns-in_default : goal.fit_side-returns-in_default
-fit_side-returns-in_default t c =
-    (refl, sides-fail c.args.template.now c.args.shapes.now c.args.exp.now c.in-Infix.left c.in-Infix.sign c.in-Infix.right (ap out-Template c.in-Infix.is ∙ template.outs-Infix _ _ _)
-    (λ a b k. c.in_default.ensures a b (ap opened c.bare-in-Infix.ensures ∙ k)))
+fit_side-returns-in_default t c = (
+  refl,
+  sides-fail c.args.template.now c.args.shapes.now c.args.exp.now c.in-Infix.left c.in-Infix.sign c.in-Infix.right (ap out-Template c.in-Infix.is ∙ template.outs-Infix _ _ _)
+      (λ a b k. c.in_default.ensures a b (ap opened c.bare-in-Infix.ensures ∙ k)),
+)
 
 pub fit_side-returns-in_err-after-in-Infix : goal.fit_side-returns-in_err-after-in-Infix
 fit_side-returns-in_err-after-in-Infix t c =
@@ -42,9 +44,11 @@ fit_side-returns-in_err-after-in-Infix t c =
     (subst (λ z. Refuses c.args.at (Fits z c.behind-shapes.result.now c.in-Some.both.1.now) c.in_err-after-in-Infix.field-0.0) c.get-in-Infix.ensures c.in_err-after-in-Infix.ensures)))
 
 pub fit_side-returns-in_default-inside : goal.fit_side-returns-in_default-inside
-fit_side-returns-in_default-inside t c =
-    (refl, bracket-fails c.args.template.now c.args.shapes.now c.args.exp.now c.in-Bracket.opening c.in-Bracket.inside_it (ap out-Template c.in-Bracket.is ∙ template.outs-Bracket _ _)
-    (λ x k. c.in_default-inside.ensures x (ap opened c.bare-in-Bracket.ensures ∙ k)))
+fit_side-returns-in_default-inside t c = (
+  refl,
+  bracket-fails c.args.template.now c.args.shapes.now c.args.exp.now c.in-Bracket.opening c.in-Bracket.inside_it (ap out-Template c.in-Bracket.is ∙ template.outs-Bracket _ _)
+      (λ x k. c.in_default-inside.ensures x (ap opened c.bare-in-Bracket.ensures ∙ k)),
+)
 
 pub fit_side-returns-then-is_atom : goal.fit_side-returns-then-is_atom
 fit_side-returns-then-is_atom t c = atom-fits c.args.template.now c.args.shapes.now c.args.exp.now c.in-Atom.name c.new.result (ap out-Template c.in-Atom.is ∙ template.outs-Atom _) (search rules) c.new.ensures
@@ -59,7 +63,7 @@ pub fit_side-returns-in-Seq : goal.fit_side-returns-in-Seq
 fit_side-returns-in-Seq t c = sequence-answers c.args.at c.args.template.now c.args.shapes.now c.args.exp.now c.in-Seq.parts (ap out-Template c.in-Seq.is ∙ template.outs-Seq _) c.fit_sequence.result (search rules)
 
 pub fit_side-returns-in_ok-joined-in-Infix : goal.fit_side-returns-in_ok-joined-in-Infix
-fit_side-returns-in_ok-joined-in-Infix t c = 
+fit_side-returns-in_ok-joined-in-Infix t c =
     sides-fit c.args.template.now c.args.shapes.now c.args.exp.now c.in-Infix.left c.in-Infix.sign c.in-Infix.right c.in-Some.both.0.now c.in-Some.both.1.now c.in_ok-before-in-Infix.before c.in_ok-after-in-Infix.after c.in_ok-joined-in-Infix.field-0
     (ap out-Template c.in-Infix.is ∙ template.outs-Infix _ _ _) (sym (ap opened c.bare-in-Infix.ensures) ∙ c.in-Some.ensures)
     (subst (λ z. Fits z c.args.shapes.now c.in-Some.both.0.now (fillings c.in_ok-before-in-Infix.before)) c.get.ensures c.in_ok-before-in-Infix.ensures)
@@ -84,8 +88,10 @@ fit_sequence-returns-then-is_empty t c =
     (loop-end c.args.parts.now c.loop-index.index c.loop-index-test.false c.loop-index.auto.index-end) c.loop-index.invariant)
 
 pub fit_sequence-returns : goal.fit_sequence-returns
-fit_sequence-returns t c =
-    (refl, Reaches-left c.args.parts.now c.args.shapes.now c.loop-index.shapes_left.now c.args.elements.now c.loop-index.left.now (fillings c.loop-index.filled)
-    (empty-is_not c.loop-index.left.now c.if-is_empty.ensures)
-    (subst (λ z. Reaches c.args.parts.now c.args.shapes.now c.args.elements.now (fillings c.loop-index.filled) z c.loop-index.shapes_left.now c.loop-index.left.now)
-    (loop-end c.args.parts.now c.loop-index.index c.loop-index-test.false c.loop-index.auto.index-end) c.loop-index.invariant))
+fit_sequence-returns t c = (
+  refl,
+  Reaches-left c.args.parts.now c.args.shapes.now c.loop-index.shapes_left.now c.args.elements.now c.loop-index.left.now (fillings c.loop-index.filled)
+      (empty-is_not c.loop-index.left.now c.if-is_empty.ensures)
+      (subst (λ z. Reaches c.args.parts.now c.args.shapes.now c.args.elements.now (fillings c.loop-index.filled) z c.loop-index.shapes_left.now c.loop-index.left.now)
+      (loop-end c.args.parts.now c.loop-index.index c.loop-index-test.false c.loop-index.auto.index-end) c.loop-index.invariant),
+)
