@@ -1,0 +1,4 @@
+pub mod Elements
+pub mod Key
+pub mod Fits
+pub mod Fitted
