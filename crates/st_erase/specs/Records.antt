@@ -1,0 +1,46 @@
+-- The fields of the record that a name leads to.
+use Rattle.std.specs.Prelude.{ℕ, zero, suc, List, [], ◌∷◌, map, if◌then◌else◌, Option, Some, None}
+use Rattle.st_el.specs.Erasure.{same_name}
+use Rattle.st_il.specs.declared.definition.IlDef.{IlDef}
+use Rattle.st_il.specs.declared.definition.IlDef.TheVariants as def
+use Rattle.st_il.specs.declared.definition.SyntaxDef.{SyntaxDef}
+use Rattle.st_il.specs.declared.definition.SyntaxBody.{SyntaxBody}
+use Rattle.st_il.specs.declared.definition.SyntaxBody.TheVariants as body
+use Rattle.st_il.specs.declared.ty.Ty.{Ty, out-Ty}
+use Rattle.st_il.specs.declared.ty.Ty.TheOpen.{Ty-F}
+
+abbrev pub named : List ℕ → SyntaxDef → Option SyntaxBody → Option SyntaxBody
+named name syntax later = if same_name name syntax.name then Some syntax.body else later
+
+abbrev pub body_in : List ℕ → IlDef → Option SyntaxBody → Option SyntaxBody
+body_in name (def.Syntax syntax) later = named name syntax later
+body_in name _ later = later
+
+-- the body of the first syntax of this name
+abbrev pub body_of : List ℕ → List IlDef → Option SyntaxBody
+body_of name [] = None
+body_of name (d ∷ ds) = body_in name d (body_of name ds)
+
+-- what an alias leads to, where it is a name
+abbrev pub next_name : Ty-F Ty → Option (List ℕ)
+next_name (Ty-F.Name name) = Some name
+next_name _ = None
+
+abbrev pub field_name : List ℕ × Ty → List ℕ
+field_name field = field.0
+
+-- where an alias leads
+abbrev pub on_by : (List ℕ → List (List ℕ)) → Option (List ℕ) → List (List ℕ)
+on_by behind None = []
+on_by behind (Some name) = behind name
+
+abbrev pub fields_by : (List ℕ → List (List ℕ)) → Option SyntaxBody → List (List ℕ)
+fields_by behind None = []
+fields_by behind (Some (body.Fields fields)) = map field_name fields
+fields_by behind (Some (body.Variant cases)) = []
+fields_by behind (Some (body.Alias t)) = on_by behind (next_name (out-Ty t))
+
+-- the names of the fields, after so many aliases at most
+abbrev pub fields_of : ℕ → List IlDef → List ℕ → List (List ℕ)
+fields_of zero ds name = []
+fields_of (suc n) ds name = fields_by (fields_of n ds) (body_of name ds)

@@ -1,0 +1,97 @@
+//! An erased expression, before it stands at its place.
+
+ghost use Rattle.std.specs.Prelude.{◌≡◌, [], ◌∷◌, IfOk};
+ghost use Rattle.st_erase.specs.Places.{whole, count, run, in_arithmetic, parts_of};
+
+use st_el::{Exp, Node};
+use st_num::{Boxed, NoMemory, Row, Span};
+use std::alloc::Global;
+
+/// The place of what stands in no text.
+const NOWHERE: Span = Span {
+    file: 0,
+    line: 0,
+    column: 0,
+};
+
+/// What an erased expression is to the place where it stands.
+#[derive(Clone, Copy, Debug, PartialEq, Eq)]
+pub enum Kind {
+    Plain,
+    /// It stands in `$( )`, except as an operand of arithmetic.
+    Arithmetic,
+    /// A list of two parts or more, which a hole of list type takes as a run of elements.
+    Run,
+    /// It was left out.
+    Absent,
+}
+
+/// An erased expression.
+#[derive(Drop)]
+pub struct Erased {
+    pub exp: Exp,
+    pub kind: Kind,
+}
+
+impl Erased {
+    /// The expression where it is no operand of arithmetic.
+    pub fn whole(self, alloc: Global) -> Result<Exp, NoMemory>
+        ensures { IfOk result (λ exp. exp ≡ whole self) }
+    {
+        let Erased { exp, kind } = self;
+        match kind {
+            Kind::Arithmetic => in_arithmetic(alloc, exp),
+            Kind::Plain | Kind::Run | Kind::Absent => Ok(exp),
+        }
+    }
+
+    /// The expression as a count.
+    pub fn count(self, alloc: Global) -> Result<Exp, NoMemory>
+        ensures { IfOk result (λ exp. exp ≡ count self) }
+    {
+        let Erased { exp, .. } = self;
+        match &exp.node {
+            Node::Number(_) | Node::Name(_) => Ok(exp),
+            _ => in_arithmetic(alloc, exp),
+        }
+    }
+
+    /// The elements in a hole that takes a run.
+    pub fn run(self, alloc: Global) -> Result<Row<Exp>, NoMemory>
+        ensures { IfOk result (λ elements. elements ≡ run self) }
+    {
+        let Erased { exp, kind } = self;
+        match kind {
+            Kind::Absent => Ok(Row::new(alloc)),
+            Kind::Arithmetic => only(alloc, in_arithmetic(alloc, exp)?),
+            Kind::Plain => only(alloc, exp),
+            Kind::Run => elements(alloc, exp),
+        }
+    }
+}
+
+/// The parts of a sequence; any other expression is its one element.
+fn elements(alloc: Global, exp: Exp) -> Result<Row<Exp>, NoMemory>
+    ensures { IfOk result (λ parts. parts ≡ parts_of exp) }
+{
+    let Exp { at, node } = exp;
+    match node {
+        Node::Seq(parts) => Ok(parts),
+        node => only(alloc, Exp { at, node }),
+    }
+}
+
+fn in_arithmetic(alloc: Global, exp: Exp) -> Result<Exp, NoMemory>
+    ensures { IfOk result (λ whole. whole ≡ in_arithmetic exp) }
+{
+    let node = Node::Arith(Boxed::new(alloc, exp)?);
+    Ok(Exp { at: NOWHERE, node })
+}
+
+fn only(alloc: Global, exp: Exp) -> Result<Row<Exp>, NoMemory>
+    ensures { IfOk result (λ row. row ≡ exp ∷ []) }
+{
+    let mut row = Row::new(alloc);
+    row.push(exp)?;
+    Ok(row)
+}
