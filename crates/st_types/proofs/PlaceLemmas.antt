@@ -62,7 +62,7 @@ node_at defs [] p d e = cc
 node_at defs (x ∷ xs) zero d e = let s : x ≡ d = cc in ap (λ z. Some (node_of defs z)) s
 node_at defs (x ∷ xs) (suc p) d e = node_at defs xs p d e
 
-split_one : (xs ys : List ℕ) (j : ℕ) → IsOne (xs ++ ys) j → IsOne xs j ⊎ IsOne ys j
+pub split_one : (xs ys : List ℕ) (j : ℕ) → IsOne (xs ++ ys) j → IsOne xs j ⊎ IsOne ys j
 split_one [] ys j h = inr h
 split_one (x ∷ xs) ys j (inl e) = inl (inl e)
 split_one (x ∷ xs) ys j (inr h) = by (split_one xs ys j h)
@@ -71,12 +71,12 @@ split_one (x ∷ xs) ys j (inr h) = by (split_one xs ys j h)
     by (inl a) = inl (inr a)
     by (inr a) = inr a
 
-one-left : (xs ys : List ℕ) (j : ℕ) → IsOne xs j → IsOne (xs ++ ys) j
+pub one-left : (xs ys : List ℕ) (j : ℕ) → IsOne xs j → IsOne (xs ++ ys) j
 one-left [] ys j h = absurd h
 one-left (x ∷ xs) ys j (inl e) = inl e
 one-left (x ∷ xs) ys j (inr h) = inr (one-left xs ys j h)
 
-one-right : (xs ys : List ℕ) (j : ℕ) → IsOne ys j → IsOne (xs ++ ys) j
+pub one-right : (xs ys : List ℕ) (j : ℕ) → IsOne ys j → IsOne (xs ++ ys) j
 one-right [] ys j h = h
 one-right (x ∷ xs) ys j h = inr (one-right xs ys j h)
 
