@@ -1,6 +1,8 @@
 -- Which record types can be joined, by what syntaxes wait for.
-use Rattle.std.proofs.Common.{◌≡◌, refl, sym, ap, ◌∙◌, subst, ℕ, zero, suc, ◌<◌, ◌↔◌, List, [], ◌∷◌, ◌++◌, map, Bool, Option, Some, None, arith, inl, inr, ◌⊎◌}
+use Rattle.std.proofs.Common.{◌≡◌, refl, sym, ap, ◌∙◌, subst, ℕ, ◌<◌, ◌↔◌, List, [], ◌∷◌, ◌++◌, map, Bool, Option, Some, None, arith, inl, inr, ◌⊎◌}
 use Rattle.std.specs.Prelude.{IsTrue, slice_get, slice_index}
+use Rattle.std.specs.Option.{option_map}
+use Rattle.std.proofs.lemmas.Option.{slice_get-map}
 use Rattle.std.proofs.lemmas.List.{length-map}
 use Rattle.st_il.specs.declared.ty.Ty.{Ty, out-Ty, roll-Ty, roll-out-Ty}
 use Rattle.st_il.specs.declared.ty.Ty.TheOpen.{Ty-F}
@@ -63,9 +65,7 @@ recorded-body (Some (body.Fields fs)) fields e = let q : fs ≡ fields = cc in a
 
 -- a node of a graph that is made definition by definition
 pub map-at : {A : Type 0} {B : Type 0} (f : A → B) (xs : List A) (p : ℕ) (x : A) → slice_get xs p ≡ Some x → slice_get (map f xs) p ≡ Some (f x)
-map-at f [] p x e = cc
-map-at f (y ∷ ys) zero x e = let s : y ≡ x = cc in ap (λ z. Some (f z)) s
-map-at f (y ∷ ys) (suc p) x e = map-at f ys p x e
+map-at f xs p x e = slice_get-map f xs p ∙ ap (option_map f) e
 
 module _ (defs : List SyntaxDef) where
   node-of-body : (x : List ℕ) (p : ℕ) (b : SyntaxBody) → place_of defs x ≡ Some p → body_of defs x ≡ Some b → slice_get (join_graph defs) p ≡ Some (Some (waits_of defs b))
