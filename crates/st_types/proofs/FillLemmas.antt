@@ -1,5 +1,5 @@
 -- What is kept of sound definitions is right.
-use Rattle.std.proofs.Common.{◌≡◌, refl, sym, ap, ◌∙◌, subst, ℕ, zero, suc, ◌<◌, ◌≤◌, List, [], ◌∷◌, ◌++◌, append_assoc, take, length, Option, Some, None, arith, Bool, true, false, nat_eq, if◌then◌else◌}
+use Rattle.std.proofs.Common.{◌≡◌, ◌↔◌, refl, sym, ap, ◌∙◌, subst, ℕ, zero, suc, ◌<◌, ◌≤◌, List, [], ◌∷◌, ◌++◌, append_assoc, take, length, Option, Some, None, arith, Bool, true, false, nat_eq, if◌then◌else◌}
 use Rattle.std.specs.Prelude.{slice_get, slice_index}
 use Rattle.std.specs.Bool.{MatchBool}
 use Rattle.std.specs.Map.{lookup}
@@ -23,55 +23,70 @@ use Rattle.st_types.specs.Graph.{graph_of, node_of, place_of, places_of, AreRank
 use Rattle.st_types.specs.Flat.{AreFlats, IsFlat, IsBroken}
 use Rattle.st_types.specs.Kept.{kept_of, defs_of, entry_of, ranked, IsKept, IsSettled}
 use Rattle.st_types.specs.Breach.{IsSound, AllHold, Holds, keys, on_alternative, on_alternatives, on_included, on_body}
+use Rattle.st_types.specs.Joins.{AllJoin}
+use Rattle.st_types.specs.JoinGraph.{join_graph}
+use Rattle.st_types.proofs.JoinLemmas.{ranked-joins}
 use Rattle.st_types.proofs.PlaceLemmas.{node_at, place-among}
 use Rattle.st_types.proofs.BuildLemmas.{front_hold, back_hold, all-ranked}
 
-pub kept-next : (defs : List SyntaxDef) (ranks : List ℕ) (flats : List Flat) (at : ℕ) (d : SyntaxDef) (r : ℕ) (f : Flat) → slice_get defs at ≡ Some d → slice_get ranks at ≡ Some r → slice_get flats at ≡ Some f
-    → take (suc at) (kept_of defs ranks flats) ≡ take at (kept_of defs ranks flats) ++ (d.name, record { body = d.body; rank = r; cases = f.cases }) ∷ []
-kept-next [] ranks flats at d r f p q s = cc
-kept-next (x ∷ defs) [] flats at d r f p q s = cc
-kept-next (x ∷ defs) (y ∷ ranks) [] at d r f p q s = cc
-kept-next (x ∷ defs) (y ∷ ranks) (z ∷ flats) zero d r f p q s =
+pub kept-next : (defs : List SyntaxDef) (ranks : List ℕ) (flats : List Flat) (joins : List ℕ) (at : ℕ) (d : SyntaxDef) (r : ℕ) (f : Flat) (j : ℕ) → slice_get defs at ≡ Some d → slice_get ranks at ≡ Some r
+    → slice_get flats at ≡ Some f → slice_get joins at ≡ Some j
+    → take (suc at) (kept_of defs ranks flats joins) ≡ take at (kept_of defs ranks flats joins) ++ (d.name, record { body = d.body; rank = r; cases = f.cases; join_rank = j }) ∷ []
+kept-next [] ranks flats joins at d r f j p q s t = cc
+kept-next (x ∷ defs) [] flats joins at d r f j p q s t = cc
+kept-next (x ∷ defs) (y ∷ ranks) [] joins at d r f j p q s t = cc
+kept-next (x ∷ defs) (y ∷ ranks) (z ∷ flats) [] at d r f j p q s t = cc
+kept-next (x ∷ defs) (y ∷ ranks) (z ∷ flats) (w ∷ joins) zero d r f j p q s t =
     let a : x ≡ d = cc in
     let b : y ≡ r = cc in
     let c : z ≡ f = cc in
-    (λ i. ((a i).name, record { body = (a i).body; rank = b i; cases = (c i).cases }) ∷ [])
-kept-next (x ∷ defs) (y ∷ ranks) (z ∷ flats) (suc at) d r f p q s = ap (λ es. (x.name, record { body = x.body; rank = y; cases = z.cases }) ∷ es) (kept-next defs ranks flats at d r f p q s)
+    let g : w ≡ j = cc in
+    (λ i. ((a i).name, record { body = (a i).body; rank = b i; cases = (c i).cases; join_rank = g i }) ∷ [])
+kept-next (x ∷ defs) (y ∷ ranks) (z ∷ flats) (w ∷ joins) (suc at) d r f j p q s t =
+    ap (λ es. (x.name, record { body = x.body; rank = y; cases = z.cases; join_rank = w }) ∷ es) (kept-next defs ranks flats joins at d r f j p q s t)
 
-pub lookup-none : (defs : List SyntaxDef) (ranks : List ℕ) (flats : List Flat) (at : ℕ) (name : List ℕ) → body_of (take at defs) name ≡ None → lookup (pointwise nat_eq name) (take at (kept_of defs ranks flats)) ≡ None
-lookup-none [] ranks flats zero name h = refl
-lookup-none [] ranks flats (suc at) name h = refl
-lookup-none (d ∷ defs) [] flats zero name h = refl
-lookup-none (d ∷ defs) [] flats (suc at) name h = refl
-lookup-none (d ∷ defs) (r ∷ ranks) [] zero name h = refl
-lookup-none (d ∷ defs) (r ∷ ranks) [] (suc at) name h = refl
-lookup-none (d ∷ defs) (r ∷ ranks) (f ∷ flats) zero name h = refl
-lookup-none (d ∷ defs) (r ∷ ranks) (f ∷ flats) (suc at) name h = by (pointwise nat_eq name d.name) h (lookup-none defs ranks flats at name)
+pub lookup-none : (defs : List SyntaxDef) (ranks : List ℕ) (flats : List Flat) (joins : List ℕ) (at : ℕ) (name : List ℕ) → body_of (take at defs) name ≡ None
+    → lookup (pointwise nat_eq name) (take at (kept_of defs ranks flats joins)) ≡ None
+lookup-none [] ranks flats joins zero name h = refl
+lookup-none [] ranks flats joins (suc at) name h = refl
+lookup-none (d ∷ defs) [] flats joins zero name h = refl
+lookup-none (d ∷ defs) [] flats joins (suc at) name h = refl
+lookup-none (d ∷ defs) (r ∷ ranks) [] joins zero name h = refl
+lookup-none (d ∷ defs) (r ∷ ranks) [] joins (suc at) name h = refl
+lookup-none (d ∷ defs) (r ∷ ranks) (f ∷ flats) [] zero name h = refl
+lookup-none (d ∷ defs) (r ∷ ranks) (f ∷ flats) [] (suc at) name h = refl
+lookup-none (d ∷ defs) (r ∷ ranks) (f ∷ flats) (j ∷ joins) zero name h = refl
+lookup-none (d ∷ defs) (r ∷ ranks) (f ∷ flats) (j ∷ joins) (suc at) name h = by (pointwise nat_eq name d.name) h (lookup-none defs ranks flats joins at name)
   where
     by : (b : Bool) → (if b then Some d.body else body_of (take at defs) name) ≡ None
-        → (body_of (take at defs) name ≡ None → lookup (pointwise nat_eq name) (take at (kept_of defs ranks flats)) ≡ None)
-        → (if b then Some (record { body = d.body; rank = r; cases = f.cases }) else lookup (pointwise nat_eq name) (take at (kept_of defs ranks flats))) ≡ None
+        → (body_of (take at defs) name ≡ None → lookup (pointwise nat_eq name) (take at (kept_of defs ranks flats joins)) ≡ None)
+        → (if b then Some (record { body = d.body; rank = r; cases = f.cases; join_rank = j }) else lookup (pointwise nat_eq name) (take at (kept_of defs ranks flats joins))) ≡ None
     by true h next = cc
     by false h next = next h
 
-pub kept-whole : (defs : List SyntaxDef) (ranks : List ℕ) (flats : List Flat) → length ranks ≡ length defs → length flats ≡ length defs → defs_of (kept_of defs ranks flats) ≡ defs
-kept-whole [] ranks flats p q = refl
-kept-whole (d ∷ defs) [] flats p q = absurd (omega (arith, p))
-kept-whole (d ∷ defs) (r ∷ ranks) [] p q = absurd (omega (arith, q))
-kept-whole (d ∷ defs) (r ∷ ranks) (f ∷ flats) p q = ap (λ ds. d ∷ ds) (kept-whole defs ranks flats (omega (arith, p)) (omega (arith, q)))
+pub kept-whole : (defs : List SyntaxDef) (ranks : List ℕ) (flats : List Flat) (joins : List ℕ) → length ranks ≡ length defs → length flats ≡ length defs → length joins ≡ length defs
+    → defs_of (kept_of defs ranks flats joins) ≡ defs
+kept-whole [] ranks flats joins p q s = refl
+kept-whole (d ∷ defs) [] flats joins p q s = absurd (omega (arith, p))
+kept-whole (d ∷ defs) (r ∷ ranks) [] joins p q s = absurd (omega (arith, q))
+kept-whole (d ∷ defs) (r ∷ ranks) (f ∷ flats) [] p q s = absurd (omega (arith, s))
+kept-whole (d ∷ defs) (r ∷ ranks) (f ∷ flats) (j ∷ joins) p q s = ap (λ ds. d ∷ ds) (kept-whole defs ranks flats joins (omega (arith, p)) (omega (arith, q)) (omega (arith, s)))
 
-pub take-all : (defs : List SyntaxDef) (ranks : List ℕ) (flats : List Flat) (n : ℕ) → length defs ≤ n → take n (kept_of defs ranks flats) ≡ kept_of defs ranks flats
-take-all [] ranks flats zero h = refl
-take-all [] ranks flats (suc n) h = refl
-take-all (d ∷ defs) [] flats zero h = refl
-take-all (d ∷ defs) [] flats (suc n) h = refl
-take-all (d ∷ defs) (r ∷ ranks) [] zero h = refl
-take-all (d ∷ defs) (r ∷ ranks) [] (suc n) h = refl
-take-all (d ∷ defs) (r ∷ ranks) (f ∷ flats) zero h = absurd (omega (arith, h))
-take-all (d ∷ defs) (r ∷ ranks) (f ∷ flats) (suc n) h = ap (λ es. (d.name, record { body = d.body; rank = r; cases = f.cases }) ∷ es) (take-all defs ranks flats n (omega (arith, h)))
+pub take-all : (defs : List SyntaxDef) (ranks : List ℕ) (flats : List Flat) (joins : List ℕ) (n : ℕ) → length defs ≤ n → take n (kept_of defs ranks flats joins) ≡ kept_of defs ranks flats joins
+take-all [] ranks flats joins zero h = refl
+take-all [] ranks flats joins (suc n) h = refl
+take-all (d ∷ defs) [] flats joins zero h = refl
+take-all (d ∷ defs) [] flats joins (suc n) h = refl
+take-all (d ∷ defs) (r ∷ ranks) [] joins zero h = refl
+take-all (d ∷ defs) (r ∷ ranks) [] joins (suc n) h = refl
+take-all (d ∷ defs) (r ∷ ranks) (f ∷ flats) [] zero h = refl
+take-all (d ∷ defs) (r ∷ ranks) (f ∷ flats) [] (suc n) h = refl
+take-all (d ∷ defs) (r ∷ ranks) (f ∷ flats) (j ∷ joins) zero h = absurd (omega (arith, h))
+take-all (d ∷ defs) (r ∷ ranks) (f ∷ flats) (j ∷ joins) (suc n) h =
+    ap (λ es. (d.name, record { body = d.body; rank = r; cases = f.cases; join_rank = j }) ∷ es) (take-all defs ranks flats joins n (omega (arith, h)))
 
 -- the entry of a name, at its place
-record EntryAt (defs : List SyntaxDef) (ranks : List ℕ) (flats : List Flat) (name : List ℕ) (e : Entry) : Type 0 where
+record EntryAt (defs : List SyntaxDef) (ranks : List ℕ) (flats : List Flat) (joins : List ℕ) (name : List ℕ) (e : Entry) : Type 0 where
   place : ℕ
   definition : SyntaxDef
   flat : Flat
@@ -81,12 +96,14 @@ record EntryAt (defs : List SyntaxDef) (ranks : List ℕ) (flats : List Flat) (n
   rank_is : e.rank ≡ slice_index ranks place
   flat_there : slice_get flats place ≡ Some flat
   cases_is : e.cases ≡ flat.cases
+  join_rank_is : e.join_rank ≡ slice_index joins place
 
-entry-at : (defs : List SyntaxDef) (ranks : List ℕ) (flats : List Flat) (name : List ℕ) (e : Entry) → entry_of (kept_of defs ranks flats) name ≡ Some e → EntryAt defs ranks flats name e
-entry-at [] ranks flats name e h = cc
-entry-at (d ∷ defs) [] flats name e h = cc
-entry-at (d ∷ defs) (r ∷ ranks) [] name e h = cc
-entry-at (d ∷ defs) (r ∷ ranks) (f ∷ flats) name e h = by (pointwise nat_eq name d.name) refl h (entry-at defs ranks flats name e)
+entry-at : (defs : List SyntaxDef) (ranks : List ℕ) (flats : List Flat) (joins : List ℕ) (name : List ℕ) (e : Entry) → entry_of (kept_of defs ranks flats joins) name ≡ Some e → EntryAt defs ranks flats joins name e
+entry-at [] ranks flats joins name e h = cc
+entry-at (d ∷ defs) [] flats joins name e h = cc
+entry-at (d ∷ defs) (r ∷ ranks) [] joins name e h = cc
+entry-at (d ∷ defs) (r ∷ ranks) (f ∷ flats) [] name e h = cc
+entry-at (d ∷ defs) (r ∷ ranks) (f ∷ flats) (j ∷ joins) name e h = by (pointwise nat_eq name d.name) refl h (entry-at defs ranks flats joins name e)
   where
     body_in : Option Entry → SyntaxBody
     body_in None = d.body
@@ -100,10 +117,14 @@ entry-at (d ∷ defs) (r ∷ ranks) (f ∷ flats) name e h = by (pointwise nat_e
     cases_in None = f.cases
     cases_in (Some e) = e.cases
 
-    by : (b : Bool) → pointwise nat_eq name d.name ≡ b → (if b then Some (record { body = d.body; rank = r; cases = f.cases }) else entry_of (kept_of defs ranks flats) name) ≡ Some e
-        → (entry_of (kept_of defs ranks flats) name ≡ Some e → EntryAt defs ranks flats name e) → EntryAt (d ∷ defs) (r ∷ ranks) (f ∷ flats) name e
+    join_rank_in : Option Entry → ℕ
+    join_rank_in None = j
+    join_rank_in (Some e) = e.join_rank
+
+    by : (b : Bool) → pointwise nat_eq name d.name ≡ b → (if b then Some (record { body = d.body; rank = r; cases = f.cases; join_rank = j }) else entry_of (kept_of defs ranks flats joins) name) ≡ Some e
+        → (entry_of (kept_of defs ranks flats joins) name ≡ Some e → EntryAt defs ranks flats joins name e) → EntryAt (d ∷ defs) (r ∷ ranks) (f ∷ flats) (j ∷ joins) name e
     by true t g next =
-        let s : Some e ≡ Some (record { body = d.body; rank = r; cases = f.cases }) = sym g in
+        let s : Some e ≡ Some (record { body = d.body; rank = r; cases = f.cases; join_rank = j }) = sym g in
         record {
           place = 0;
           definition = d;
@@ -114,6 +135,7 @@ entry-at (d ∷ defs) (r ∷ ranks) (f ∷ flats) name e h = by (pointwise nat_e
           rank_is = ap rank_in s;
           flat_there = refl;
           cases_is = ap cases_in s;
+          join_rank_is = ap join_rank_in s;
         }
     by false t g next =
         let n = next g in
@@ -127,6 +149,7 @@ entry-at (d ∷ defs) (r ∷ ranks) (f ∷ flats) name e h = by (pointwise nat_e
           rank_is = n.rank_is;
           flat_there = n.flat_there;
           cases_is = n.cases_is;
+          join_rank_is = n.join_rank_is;
         }
 
 -- the keys of all alternatives differ
@@ -149,8 +172,8 @@ keys_all defs target part before (a ∷ parts) k h =
 no_keys : (defs : List SyntaxDef) → Holds defs (keys [])
 no_keys defs cases (Flatten.none e) = subst KeysDiffer (sym e) tt
 
-module _ (defs : List SyntaxDef) (ranks : List ℕ) (flats : List Flat) (sound : IsSound defs) (right : AreRanks (graph_of defs) ranks) (known : AreFlats defs ranks (length defs) flats)
-    (size : length ranks ≡ length defs) where
+module _ (defs : List SyntaxDef) (ranks : List ℕ) (flats : List Flat) (joins : List ℕ) (sound : IsSound defs) (right : AreRanks (graph_of defs) ranks) (known : AreFlats defs ranks (length defs) flats)
+    (join_right : AreRanks (join_graph defs) joins) (size : length ranks ≡ length defs) where
   flat_whole : (p : ℕ) (d : SyntaxDef) (f : Flat) (parts : List Alternative) → slice_get defs p ≡ Some d → slice_get flats p ≡ Some f → d.body ≡ body.Variant parts → Flatten defs parts f.cases
   flat_whole p d f parts e g b = by f.whole flat
     where
@@ -167,24 +190,26 @@ module _ (defs : List SyntaxDef) (ranks : List ℕ) (flats : List Flat) (sound :
       by true h = h.0
       by false h = absurd (h.1.1 (held h.0 h.1.0))
 
-  rank-below : (name y : List ℕ) (p : ℕ) (d : SyntaxDef) → slice_get defs p ≡ Some d → Among (leads_to d.body) y → (o : Option Entry) → entry_of (kept_of defs ranks flats) y ≡ o → ranked o < slice_index ranks p
+  rank-below : (name y : List ℕ) (p : ℕ) (d : SyntaxDef) → slice_get defs p ≡ Some d → Among (leads_to d.body) y → (o : Option Entry) → entry_of (kept_of defs ranks flats joins) y ≡ o → ranked o < slice_index ranks p
   rank-below name y p d e a None h = all-ranked defs sound ranks right p (slice_get_within defs p d e)
   rank-below name y p d e a (Some x) h =
-      let n = entry-at defs ranks flats y x h in
+      let n = entry-at defs ranks flats joins y x h in
       let f = (right.falls p n.place (places_of defs (leads_to d.body)) (all-ranked defs sound ranks right p (slice_get_within defs p d e)) (node_at defs defs p d e) (place-among defs (leads_to d.body) y n.place a n.placed)).1 in
       let k = n.rank_is in
       omega (arith, f, k)
 
-  settled_by : (e : Entry) (name : List ℕ) → EntryAt defs ranks flats name e → (b : SyntaxBody) → e.body ≡ b → (ds : List SyntaxDef) → ds ≡ defs → defs_of (kept_of defs ranks flats) ≡ ds → IsSettled (kept_of defs ranks flats) e b
+  settled_by : (e : Entry) (name : List ℕ) → EntryAt defs ranks flats joins name e → (b : SyntaxBody) → e.body ≡ b → (ds : List SyntaxDef) → ds ≡ defs → defs_of (kept_of defs ranks flats joins) ≡ ds → IsSettled (kept_of defs ranks flats joins) e b
   settled_by e name n (body.Alias t) q ds s w = λ y a.
       let m : Among (leads_to n.definition.body) y = subst (λ z. Among (leads_to z) y) (sym q ∙ n.body_is) a in
-      let f = rank-below name y n.place n.definition n.there m (entry_of (kept_of defs ranks flats) y) refl in
+      let f = rank-below name y n.place n.definition n.there m (entry_of (kept_of defs ranks flats joins) y) refl in
       let k = n.rank_is in
       omega (arith, f, k)
   settled_by e name n (body.Variant parts) q ds s w =
       let f = flat_whole n.place n.definition n.flat parts n.there n.flat_there (sym n.body_is ∙ q) in
       subst (λ z. Flatten z parts e.cases) (sym (w ∙ s)) (subst (Flatten defs parts) (sym n.cases_is) f)
-  settled_by e name n (body.Fields fs) q ds s w = tt
+  settled_by e name n (body.Fields fs) q ds s w =
+      let h = ranked-joins defs joins join_right n.place n.definition fs n.there (sym n.body_is ∙ q) in
+      subst (λ z. (0 < e.join_rank) ↔ AllJoin z fs) (sym (w ∙ s)) (subst (λ r. (0 < r) ↔ AllJoin defs fs) (sym n.join_rank_is) h)
 
-  pub kept-right : length flats ≡ length defs → IsKept (kept_of defs ranks flats)
-  kept-right flat_size name e h = settled_by e name (entry-at defs ranks flats name e h) e.body refl defs refl (kept-whole defs ranks flats size flat_size)
+  pub kept-right : length flats ≡ length defs → length joins ≡ length defs → IsKept (kept_of defs ranks flats joins)
+  kept-right flat_size join_size name e h = settled_by e name (entry-at defs ranks flats joins name e h) e.body refl defs refl (kept-whole defs ranks flats joins size flat_size join_size)

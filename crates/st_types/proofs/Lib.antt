@@ -7,6 +7,7 @@ pub mod Measure
 pub mod GraphLemmas
 pub mod BackLemmas
 pub mod PlaceLemmas
+pub mod JoinLemmas
 pub mod KeyLemmas
 pub mod FlatLemmas
 pub mod RankLemmas

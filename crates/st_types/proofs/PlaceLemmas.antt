@@ -62,7 +62,7 @@ node_at defs [] p d e = cc
 node_at defs (x ∷ xs) zero d e = let s : x ≡ d = cc in ap (λ z. Some (node_of defs z)) s
 node_at defs (x ∷ xs) (suc p) d e = node_at defs xs p d e
 
-split_one : (xs ys : List ℕ) (j : ℕ) → IsOne (xs ++ ys) j → IsOne xs j ⊎ IsOne ys j
+pub split_one : (xs ys : List ℕ) (j : ℕ) → IsOne (xs ++ ys) j → IsOne xs j ⊎ IsOne ys j
 split_one [] ys j h = inr h
 split_one (x ∷ xs) ys j (inl e) = inl (inl e)
 split_one (x ∷ xs) ys j (inr h) = by (split_one xs ys j h)
@@ -71,12 +71,12 @@ split_one (x ∷ xs) ys j (inr h) = by (split_one xs ys j h)
     by (inl a) = inl (inr a)
     by (inr a) = inr a
 
-one-left : (xs ys : List ℕ) (j : ℕ) → IsOne xs j → IsOne (xs ++ ys) j
+pub one-left : (xs ys : List ℕ) (j : ℕ) → IsOne xs j → IsOne (xs ++ ys) j
 one-left [] ys j h = absurd h
 one-left (x ∷ xs) ys j (inl e) = inl e
 one-left (x ∷ xs) ys j (inr h) = inr (one-left xs ys j h)
 
-one-right : (xs ys : List ℕ) (j : ℕ) → IsOne ys j → IsOne (xs ++ ys) j
+pub one-right : (xs ys : List ℕ) (j : ℕ) → IsOne ys j → IsOne (xs ++ ys) j
 one-right [] ys j h = h
 one-right (x ∷ xs) ys j h = inr (one-right xs ys j h)
 
@@ -215,20 +215,20 @@ module _ (defs : List SyntaxDef) where
 
   module _ (ranks : List ℕ) (right : AreRanks (graph_of defs) ranks) where
     lower : (x : List ℕ) (p : ℕ) → place_of defs x ≡ Some p → Ends defs x → (l : Ty-F Ty) → ((y : List ℕ) → l ≡ Ty-F.Name y → Among (next_of defs x) y) → rank_at ranks l < suc (slice_index ranks p)
-    lower x p e ends (Ty-F.Name y) next = by (place_of defs y) refl
+    lower x p e all_end (Ty-F.Name y) next = by (place_of defs y) refl
       where
         by : (o : Option ℕ) → place_of defs y ≡ o → place_rank ranks o < suc (slice_index ranks p)
         by None f = omega arith
         by (Some q) f =
-            let h = (right.falls p q (places_of defs (next_of defs x)) ((right.exact p).1 (Ends-EndsAt x ends p e)) (node-of-name x p e) (place-among defs (next_of defs x) y q (next y refl) f)).1 in
+            let h = (right.falls p q (places_of defs (next_of defs x)) ((right.exact p).1 (Ends-EndsAt x all_end p e)) (node-of-name x p e) (place-among defs (next_of defs x) y q (next y refl) f)).1 in
             omega (arith, h)
-    lower x p e ends Ty-F.Bool next = omega arith
-    lower x p e ends Ty-F.Nat next = omega arith
-    lower x p e ends Ty-F.Int next = omega arith
-    lower x p e ends Ty-F.Text next = omega arith
-    lower x p e ends (Ty-F.List y) next = omega arith
-    lower x p e ends (Ty-F.Opt y) next = omega arith
-    lower x p e ends (Ty-F.Tuple ys) next = omega arith
+    lower x p e all_end Ty-F.Bool next = omega arith
+    lower x p e all_end Ty-F.Nat next = omega arith
+    lower x p e all_end Ty-F.Int next = omega arith
+    lower x p e all_end Ty-F.Text next = omega arith
+    lower x p e all_end (Ty-F.List y) next = omega arith
+    lower x p e all_end (Ty-F.Opt y) next = omega arith
+    lower x p e all_end (Ty-F.Tuple ys) next = omega arith
 
     pub alias-lower : (t s : Ty) → alias_of defs t ≡ Some s → EndsIn defs t → name_rank ranks s < name_rank ranks t
     alias-lower t s e ends =
@@ -237,10 +237,10 @@ module _ (defs : List SyntaxDef) where
         by i.name i.level i.body_is x (place_of defs i.name) refl
       where
         by : (x : List ℕ) → out-Ty t ≡ Ty-F.Name x → body_of defs x ≡ Some (body.Alias s) → Ends defs x → (o : Option ℕ) → place_of defs x ≡ o → name_rank ranks s < name_rank ranks t
-        by x q b ends None f = let z : Some (body.Alias s) ≡ None = sym b ∙ unplaced defs x f in cc
-        by x q b ends (Some p) f =
+        by x q b all_end None f = let z : Some (body.Alias s) ≡ None = sym b ∙ unplaced defs x f in cc
+        by x q b all_end (Some p) f =
             let k : name_rank ranks t ≡ suc (slice_index ranks p) = ap (rank_at ranks) q ∙ ap (place_rank ranks) f in
-            let h = lower x p f ends (out-Ty s) (λ y r. subst (λ ns. Among ns y) (sym (ap leads_from b))
+            let h = lower x p f all_end (out-Ty s) (λ y r. subst (λ ns. Among ns y) (sym (ap leads_from b))
             (subst (λ z. Among (names_in z) y) (sym (sym (roll-out-Ty s) ∙ ap roll-Ty r ∙ ty.rolls-Name y)) (subst (λ ns. Among ns y) (sym (names-Name y)) (inl refl)))) in
             omega (arith, k, h)
 

@@ -1,5 +1,5 @@
 -- What a table keeps of its definitions, and how it is right.
-use Rattle.std.specs.Prelude.{◌≡◌, ◌<◌, ℕ, List, [], ◌∷◌, map, Option, Some, None, nat_eq}
+use Rattle.std.specs.Prelude.{◌≡◌, ◌<◌, ◌↔◌, ℕ, List, [], ◌∷◌, map, Option, Some, None, nat_eq}
 use Rattle.std.specs.Map.{lookup}
 use Rattle.std.specs.Cmp.Lexicographic.{pointwise}
 use Rattle.st_il.specs.declared.ty.Ty.{Ty, out-Ty}
@@ -10,6 +10,7 @@ use Rattle.st_il.specs.declared.definition.SyntaxBody.TheVariants as body
 use Rattle.st_types.specs.declared.entry.Entry.{Entry}
 use Rattle.st_types.specs.declared.flat.Flat.{Flat}
 use Rattle.st_types.specs.Cases.{Flatten}
+use Rattle.st_types.specs.Joins.{AllJoin}
 use Rattle.st_types.specs.Leads.{Among, names_in}
 
 abbrev pub Kept : Type 0
@@ -48,15 +49,17 @@ rank_of kept name = ranked (entry_of kept name)
 abbrev pub IsSettled : Kept → Entry → SyntaxBody → Type 0
 IsSettled kept e (body.Alias t) = (name : List ℕ) → Among (names_in t) name → rank_of kept name < e.rank
 IsSettled kept e (body.Variant alternatives) = Flatten (defs_of kept) alternatives e.cases
-IsSettled kept e (body.Fields fields) = Unit {0}
+IsSettled kept e (body.Fields fields) = (0 < e.join_rank) ↔ AllJoin (defs_of kept) fields
 
--- Aliases lead to smaller ranks, and a variant has its cases.
+-- Aliases lead to smaller ranks, a variant has its cases, and a record has a rank where it joins.
 abbrev pub IsKept : Kept → Type 0
 IsKept kept = (name : List ℕ) (e : Entry) → entry_of kept name ≡ Some e → IsSettled kept e e.body
 
--- what is kept of definitions with these ranks and cases
-abbrev pub kept_of : List SyntaxDef → List ℕ → List Flat → Kept
-kept_of [] ranks flats = []
-kept_of (d ∷ ds) [] flats = []
-kept_of (d ∷ ds) (r ∷ rs) [] = []
-kept_of (d ∷ ds) (r ∷ rs) (f ∷ fs) = (d.name, record { body = d.body; rank = r; cases = f.cases }) ∷ kept_of ds rs fs
+-- what is kept of definitions with these ranks, cases and ranks of joining
+abbrev pub kept_of : List SyntaxDef → List ℕ → List Flat → List ℕ → Kept
+kept_of [] ranks flats joins = []
+kept_of (d ∷ ds) [] flats joins = []
+kept_of (d ∷ ds) (r ∷ rs) [] joins = []
+kept_of (d ∷ ds) (r ∷ rs) (f ∷ fs) [] = []
+kept_of (d ∷ ds) (r ∷ rs) (f ∷ fs) (j ∷ js) =
+    (d.name, record { body = d.body; rank = r; cases = f.cases; join_rank = j }) ∷ kept_of ds rs fs js

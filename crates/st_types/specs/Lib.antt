@@ -1,5 +1,6 @@
 pub mod Meaning
 pub mod Cases
+pub mod Joins
 pub mod HasType
 pub mod Sub
 pub mod Laws
@@ -10,4 +11,5 @@ pub mod Levels
 pub mod Kept
 pub mod Flat
 pub mod Graph
+pub mod JoinGraph
 pub mod Checking

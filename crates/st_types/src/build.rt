@@ -14,6 +14,7 @@ use crate::entry::{CaseDef, Entries, Entry};
 use crate::fault::TypeFault;
 use crate::flat::{Flat, flats_of};
 use crate::graph::{Node, settle};
+use crate::joining::join_graph;
 use crate::place::leads_graph;
 use indexmap::IndexMap;
 use st_il::{Alternative, SyntaxBody, SyntaxDef, Ty, copy_ty, copy_tys};
@@ -94,7 +95,9 @@ pub(crate) fn entries_of(alloc: Global, defs: &[SyntaxDef]) -> Result<Entries, T
         Ok(()) => {}
         Err(fault) => return Err(fault),
     }
-    let entries = fill(alloc, defs, ranks, flats)?;
+    let join_graph = join_graph(alloc, defs)?;
+    let joins = settle(alloc, join_graph.as_slice())?;
+    let entries = fill(alloc, defs, ranks, flats, joins.as_slice())?;
     Ok(entries)
 }
 
@@ -104,16 +107,18 @@ fn fill(
     defs: &[SyntaxDef],
     ranks: &[usize],
     flats: &[Flat],
+    joins: &[usize],
 ) -> Result<Entries, NoMemory>
     requires sound { IsSound defs.now }
     requires ranks { length ranks.now ≡ length defs.now }
     requires flats { length flats.now ≡ length defs.now }
-    ensures { IfOk result (λ map. map.entries ≡ kept_of defs.now ranks.now flats.now) }
+    requires joins { length joins.now ≡ length defs.now }
+    ensures { IfOk result (λ map. map.entries ≡ kept_of defs.now ranks.now flats.now joins.now) }
 {
     let mut map = IndexMap::new(alloc);
     for at in 0..defs.len() {
         let name = defs[at].name.copy(alloc)?;
-        let entry = entry_for(alloc, &defs[at], ranks[at], &flats[at])?;
+        let entry = entry_for(alloc, &defs[at], ranks[at], &flats[at], joins[at])?;
         insert(&mut map, name, entry)?;
     }
     Ok(map)
@@ -128,13 +133,28 @@ fn insert(map: &mut Entries, name: Name, entry: Entry) -> Result<(), NoMemory>
     }
 }
 
-fn entry_for(alloc: Global, def: &SyntaxDef, rank: usize, flat: &Flat) -> Result<Entry, NoMemory>
-    ensures { IfOk result
-        (λ entry. entry ≡ record { body = def.now.body; rank = rank; cases = flat.now.cases }) }
+fn entry_for(
+    alloc: Global,
+    def: &SyntaxDef,
+    rank: usize,
+    flat: &Flat,
+    join_rank: usize,
+) -> Result<Entry, NoMemory>
+    ensures { IfOk result (λ entry. entry ≡ record {
+      body = def.now.body;
+      rank = rank;
+      cases = flat.now.cases;
+      join_rank = join_rank;
+    }) }
 {
     let body = copy_body(alloc, &def.body)?;
     let cases = copy_cases(alloc, flat.cases.as_slice())?;
-    Ok(Entry { body, rank, cases })
+    Ok(Entry {
+        body,
+        rank,
+        cases,
+        join_rank,
+    })
 }
 
 /// The same cases again.

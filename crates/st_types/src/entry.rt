@@ -19,6 +19,8 @@ pub(crate) struct Entry {
     pub(crate) rank: usize,
     /// The cases of a variant, with those that it includes.
     pub(crate) cases: Row<CaseDef>,
+    /// More than 0 where this is a record that can be joined.
+    pub(crate) join_rank: usize,
 }
 
 /// The syntaxes by their names, in the order of their definitions.

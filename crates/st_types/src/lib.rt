@@ -4,8 +4,8 @@
 //! beside them, the flattened cases of each variant among others, no contract names: the
 //! definitions of `specs/` follow aliases and inclusions by themselves.
 //!
-//! Read `table` first, with `specs/Meaning.antt`, `specs/Cases.antt`, `specs/HasType.antt` and
-//! `specs/Sub.antt`.
+//! Read `table` first, with `specs/Meaning.antt`, `specs/Cases.antt`, `specs/HasType.antt`,
+//! `specs/Sub.antt` and `specs/Joins.antt`.
 #![tactic(auto)]
 
 mod build;
@@ -14,6 +14,7 @@ mod entry;
 mod fault;
 mod flat;
 mod graph;
+mod joining;
 mod meaning;
 mod place;
 mod resolve;

@@ -3,6 +3,7 @@
 use crate::build::{are_few, entries_of};
 use crate::entry::{CaseDef, Entries};
 use crate::fault::TypeFault;
+use crate::joining::joins;
 use crate::meaning::{cases_of, fields_of, meaning_of};
 use crate::sub::{is_sub, same};
 use crate::typing::has_type;
@@ -43,6 +44,7 @@ impl TypeTable {
     ghost use Rattle.st_types.specs.declared.entry.CaseDef.{CaseDef};
     ghost use Rattle.st_types.specs.Meaning.{Means};
     ghost use Rattle.st_types.specs.Cases.{HasCases, HasFields};
+    ghost use Rattle.st_types.specs.Joins.{Joins};
     ghost use Rattle.st_types.specs.HasType.{HasType};
     ghost use Rattle.st_types.specs.Sub.{Same, Sub};
     ghost use Rattle.st_types.specs.Laws.{GoesUp};
@@ -121,5 +123,12 @@ impl TypeTable {
             → HasFields self.now ty.now others → others ≡ fields.now) }
     {
         fields_of(&self.entries, ty)
+    }
+
+    /// Whether the type is a record type that can be joined, field by field.
+    pub fn joinable(&self, ty: &Ty) -> bool
+        ensures { IsTrue result ↔ Joins self.now ty.now }
+    {
+        joins(&self.entries, ty)
     }
 }

@@ -185,3 +185,46 @@ fn each_rule(rt: HostRuntime) -> Result<(), Fail> {
     );
     Ok(())
 }
+
+/// A record of one field of this type.
+fn one_field(alloc: Global, ty: Ty) -> Result<SyntaxBody, NoMemory> {
+    let mut fields = Row::new(alloc);
+    fields.push((name(alloc, b"F")?, ty))?;
+    Ok(SyntaxBody::Fields(fields))
+}
+
+/// `syntax nats = nat*`, and records of a field of `nats`, of the record before by its alias, of
+/// a number, of themselves, and of an option of themselves.
+fn records(alloc: Global) -> Result<Row<SyntaxDef>, NoMemory> {
+    let mut defs = Row::new(alloc);
+    let nats = SyntaxBody::Alias(Ty::List(Boxed::new(alloc, Ty::Nat)?));
+    push(alloc, &mut defs, b"nats", nats)?;
+    let inner = one_field(alloc, named(alloc, b"nats")?)?;
+    push(alloc, &mut defs, b"inner", inner)?;
+    let again = SyntaxBody::Alias(named(alloc, b"inner")?);
+    push(alloc, &mut defs, b"again", again)?;
+    let outer = one_field(alloc, named(alloc, b"again")?)?;
+    push(alloc, &mut defs, b"outer", outer)?;
+    let number = one_field(alloc, Ty::Nat)?;
+    push(alloc, &mut defs, b"number", number)?;
+    let circle = one_field(alloc, named(alloc, b"circle")?)?;
+    push(alloc, &mut defs, b"circle", circle)?;
+    let chain = Ty::Opt(Boxed::new(alloc, named(alloc, b"chain")?)?);
+    push(alloc, &mut defs, b"chain", one_field(alloc, chain)?)?;
+    Ok(defs)
+}
+
+#[test]
+fn records_that_join(rt: HostRuntime) -> Result<(), Fail> {
+    let alloc = rt.alloc();
+    let defs = records(alloc)?;
+    assert!(rt; TypeTable::can_build(&defs));
+    let table = TypeTable::build(alloc, &defs)?;
+    assert!(rt; table.joinable(&named(alloc, b"outer")?));
+    assert!(rt; table.joinable(&named(alloc, b"again")?));
+    assert!(rt; table.joinable(&named(alloc, b"chain")?));
+    assert!(rt; !table.joinable(&named(alloc, b"number")?));
+    assert!(rt; !table.joinable(&named(alloc, b"circle")?));
+    assert!(rt; !table.joinable(&named(alloc, b"nats")?));
+    Ok(())
+}
