@@ -76,10 +76,6 @@ fn expect_table(
     Ok(())
 }
 
-fn expect_fault(rt: &impl Abort, alloc: Global, parts: &Row<Exp>, wanted: DimFault) {
-    assert_eq!(rt; dims(alloc, parts, &Row::new(alloc)).err(), Some(wanted));
-}
-
 #[test]
 fn dimensions_stand_in_byte_order(rt: HostRuntime) -> Result<(), Fail> {
     let alloc = rt.alloc();
@@ -119,23 +115,5 @@ fn premises_bear_on_dimensions(rt: HostRuntime) -> Result<(), Fail> {
     let parts = two(alloc, variable(alloc, 1, b"x")?, variable(alloc, 3, b"y")?)?;
     let fault = dims(alloc, &parts, &premises).err();
     assert_eq!(rt; fault, Some(DimFault::I2(place(20))));
-    Ok(())
-}
-
-#[test]
-fn breaches_have_their_places(rt: HostRuntime) -> Result<(), Fail> {
-    let alloc = rt.alloc();
-    let list = iterated(alloc, variable(alloc, 11, b"x")?, Count::Star)?;
-    let parts = two(alloc, list, variable(alloc, 17, b"x")?)?;
-    expect_fault(&rt, alloc, &parts, DimFault::I2(place(11)));
-    let list = iterated(alloc, variable(alloc, 1, b"x")?, Count::Star)?;
-    let option = iterated(alloc, variable(alloc, 4, b"x")?, Count::Quest)?;
-    let parts = two(alloc, list, option)?;
-    expect_fault(&rt, alloc, &parts, DimFault::I1(place(4)));
-    let count = below(alloc, b"i", variable(alloc, 9, b"i")?)?;
-    let idle = iterated(alloc, variable(alloc, 12, b"n")?, Count::Quest)?;
-    let counted = iterated(alloc, variable(alloc, 3, b"i")?, count)?;
-    let parts = two(alloc, idle, counted)?;
-    expect_fault(&rt, alloc, &parts, DimFault::I1(place(9)));
     Ok(())
 }
