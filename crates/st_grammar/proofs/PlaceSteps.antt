@@ -29,10 +29,6 @@ pub tested : (b : Bool) (us : List Lexeme) (st : State) (o : Option State) → (
 tested true us st o h k = h refl
 tested false us st o h k = k
 
-pub tested_not : (b : Bool) (us : List Lexeme) (st : State) (o : Option State) → (b ≡ true → Reached us st) → (b ≡ false → ReachedBy us o) → ReachedBy us (if b then Some st else o)
-tested_not true us st o h k = h refl
-tested_not false us st o h k = k refl
-
 pub when_tested : (b : Bool) (us : List Lexeme) (st : State) → (b ≡ true → Reached us st) → ReachedBy us (when b st)
 when_tested b us st h = tested b us st None h tt
 

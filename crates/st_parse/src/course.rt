@@ -396,7 +396,7 @@ fn turn(
 }
 
 /// Takes one more token of definitions, if it may stand there.
-pub(crate) fn advance(
+pub fn advance(
     alloc: Global,
     progress: Progress,
     lexeme: Lexeme,
@@ -423,7 +423,7 @@ pub(crate) fn advance(
 }
 
 /// Whether definitions may end here.
-pub(crate) fn may_end(progress: &Progress) -> bool
+pub fn may_end(progress: &Progress) -> bool
     ensures { result ≡ course.may_end (progress_of progress.now) }
 {
     match progress {

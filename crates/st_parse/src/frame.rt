@@ -25,7 +25,7 @@ fn frame_sort(frame: Frame) -> Sort
 }
 
 /// The sort of the innermost place.
-pub(crate) fn top(base: Sort, frames: &Row<Frame>) -> Sort
+pub fn top(base: Sort, frames: &Row<Frame>) -> Sort
     ensures { result ≡ out.top base (reverse frames.now) }
 {
     match frames.as_slice().last() {
@@ -277,7 +277,7 @@ fn opens_length(closing: Closing, sort: Sort) -> bool
 }
 
 /// Whether the token begins a next element of a sequence behind the part.
-pub(crate) fn follows(sort: Sort, part: Part, shape: Shape) -> bool
+pub fn follows(sort: Sort, part: Part, shape: Shape) -> bool
     ensures { result ≡ out.follows sort part shape }
 {
     match shape {

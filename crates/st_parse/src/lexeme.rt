@@ -205,7 +205,7 @@ fn kind_lexeme(names: &[Name], kind: &TokenKind, touching: bool) -> Lexeme
 
 /// What the token is, where these names are declared by `var`.
 #[tactic(auto, using(crate::proofs::TokenKinds::token_is))]
-pub(crate) fn lexeme(names: &[Name], token: &Token) -> Lexeme
+pub fn token_lexeme(names: &[Name], token: &Token) -> Lexeme
     ensures { result ≡ lexeme_of (lexemes.lexeme names.now token.now) }
 {
     kind_lexeme(names, &token.kind, token.touching)
@@ -253,7 +253,7 @@ fn add_name(
 
 /// The names that directly follow the word `var`.
 #[tactic(auto, using(crate::proofs::Loop::names_more))]
-pub(crate) fn declared_names(alloc: Global, tokens: &[Token]) -> Result<Row<Name>, NoMemory>
+pub fn declared_names(alloc: Global, tokens: &[Token]) -> Result<Row<Name>, NoMemory>
     ensures { IfOk result (λ names. names ≡ declared_names tokens.now) }
 {
     let mut names = Row::new(alloc);

@@ -13,7 +13,7 @@ use st_num::Row;
 use std::alloc::Global;
 
 /// The sort of the part that is read there.
-pub(crate) fn slot_sort(slot: Slot) -> Sort
+pub fn slot_sort(slot: Slot) -> Sort
     ensures { result ≡ course.slot_sort slot }
 {
     match slot {

@@ -5,7 +5,7 @@ ghost use Rattle.st_grammar.specs.Lexemes as lexemes;
 ghost use Rattle.st_parse.specs.Refusal.{IsSource, RefusedAt};
 
 use crate::course::{advance, may_end};
-use crate::lexeme::{declared_names, lexeme};
+use crate::lexeme::{declared_names, token_lexeme};
 use crate::place::{At, Place, Progress};
 use st_num::{Name, NoMemory, Row};
 use st_scan::Token;
@@ -33,7 +33,7 @@ fn read_tokens(alloc: Global, names: &[Name], tokens: &[Token]) -> Result<Option
         brackets: Row::new(alloc),
     });
     'tokens: for (at, token) in tokens.iter().enumerate() {
-        let Some(next) = advance(alloc, progress, lexeme(names, token))? else {
+        let Some(next) = advance(alloc, progress, token_lexeme(names, token))? else {
             return Ok(Some(at));
         };
         progress = next;

@@ -17,10 +17,9 @@ use Rattle.st_scan.specs.Places.{offset, place, IsBehind, line_behind}
 use Rattle.st_scan.specs.Spelling.{Spells}
 use Rattle.st_scan.specs.Tokens.{Longest, Next, Run, IsInRange}
 use Rattle.st_scan.specs.Faults.{Cause, comment_open, text_open, text_wrong, large, no_token, is_wrong}
-use Rattle.st_scan.specs.Readings.{IsReading, Stops, farther, IsWithin}
+use Rattle.st_scan.specs.Readings.{IsReading, Stops, farther}
 use Rattle.st_scan.specs.Steps.{IsAt, StopsNext, StopsFile}
 use Rattle.st_scan.proofs.Gaps.{gap_is_end}
-use Rattle.st_scan.proofs.Places.{line_short, column_short}
 use Rattle.st_scan.proofs.Spelled.{spelled_some}
 
 -- ---- the bytes before a rest
@@ -106,10 +105,6 @@ left_shorter here reading h = (omega (arith, ap length h.longest.split, length-a
 
 -- ---- a fault
 
-pub stop_within : (limit : ℕ) (here : List ℕ) (stop : Stop) → length here ≤ limit → Stops here stop → IsWithin limit stop
-stop_within limit here (Refused skipped rule) h s = omega (arith, h, s.1)
-stop_within limit here Memory h s = tt
-
 pub stops_next : (rest here : List ℕ) (stop : Stop) → here ≡ gap between rest → Stops here stop → StopsNext rest (farther (length rest - length here) stop)
 stops_next rest here (Refused skipped rule) is s =
     let short : length here ≤ length rest = subst (λ u. length u ≤ length rest) (sym is) (gap_short rest) in
@@ -123,13 +118,6 @@ stops_next rest here Memory is s = tt
 pub run_more : (number : ℕ) (file rest : List ℕ) (ts : List Token) (middle left : List ℕ) (t : Token) → Run number file rest ts middle → Next number file middle t left → Run number file rest (ts ++ t ∷ []) left
 run_more number file rest [] middle left t run next = (left, subst (λ u. Next number file u t left) (sym run) next, refl)
 run_more number file rest (u ∷ us) middle left t run next = (run.0, run.1, run_more number file run.0 us middle left t run.2 next)
-
--- the counts at a rest
-pub at_bounds : (file rest : List ℕ) (p : Place) → IsAt file rest p → (p.line + length rest ≤ length file + 1) × (p.column + length rest ≤ length file + 1)
-at_bounds file rest p at =
-    let before : List ℕ = take (offset file rest) file in
-    let all : length file ≡ length (take (offset file rest) file) + length rest = ap length at.split ∙ length-append (take (offset file rest) file) rest in
-    (omega (arith, all, at.behind.line, line_short (take (offset file rest) file)), omega (arith, all, at.behind.column, column_short (take (offset file rest) file)))
 
 -- a fault is at something
 pub cause_here : (bytes here : List ℕ) (rule : RuleId) → Cause bytes here rule → here ≢ []

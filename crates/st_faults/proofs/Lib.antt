@@ -1,0 +1,8 @@
+pub mod KeptTallies
+pub mod Tallies
+pub mod TallyMoves
+pub mod PlaceTallies
+pub mod SeenView
+pub mod Verdicts
+pub mod Loop
+pub mod Exact

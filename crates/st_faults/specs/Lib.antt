@@ -1,0 +1,8 @@
+pub mod LeftOut
+pub mod Nesting
+pub mod Counts
+pub mod Limits
+pub mod Faults
+pub mod Place
+pub mod Deeds
+pub mod Seen

@@ -1,0 +1,43 @@
+-- How many brackets, and how many bars of lengths, are open.
+use Rattle.std.specs.Prelude.{ℕ, ◌+◌, ◌-◌, Bool, true, false}
+use Rattle.st_grammar.specs.declared.sort.Closing.TheVariants.{ByBar as by_bar}
+use Rattle.st_grammar.specs.Lexemes.{Lexeme, opening, closing}
+use Rattle.st_grammar.specs.Trees.{Heading, length}
+use Rattle.st_grammar.specs.Reading as part
+use Rattle.st_grammar.specs.Places.{State, at, inside}
+
+-- the brackets that are open behind the token, where so many are open before it
+abbrev pub nesting_after : ℕ → Lexeme → ℕ
+nesting_after n (opening k x) = n + 1
+nesting_after n (closing by_bar x) = n
+nesting_after n (closing c x) = n - 1
+nesting_after n l = n
+
+abbrev pub heading_bars : Heading → ℕ
+heading_bars (length o) = 1
+heading_bars h = 0
+
+-- the lengths whose opening bars are read, and not their closing ones
+abbrev pub frame_bars : part.Frames → ℕ
+frame_bars (part.bottom σ) = 0
+frame_bars (part.within h ts pre fs) = heading_bars h + frame_bars fs
+frame_bars (part.over g fs) = frame_bars fs
+frame_bars (part.timing t m x fs) = frame_bars fs
+
+abbrev pub part_bars : part.State → ℕ
+part_bars (part.want fs) = frame_bars fs
+part_bars (part.got t fs) = frame_bars fs
+part_bars (part.naming h ts pre fs) = heading_bars h + frame_bars fs
+part_bars (part.pathed p fs) = frame_bars fs
+part_bars (part.indexing o fs) = frame_bars fs
+part_bars (part.comparing o i fs) = frame_bars fs
+
+abbrev pub bars : State → ℕ
+bars (at p) = 0
+bars (inside s st) = part_bars st
+
+-- a bracket that opens, or a bar
+abbrev pub may_open : Lexeme → Bool
+may_open (opening k x) = true
+may_open (closing by_bar x) = true
+may_open l = false

@@ -1,0 +1,11 @@
+//! A fault.
+
+use st_num::RuleId;
+
+/// The number of the token that is refused, or of all tokens where they end too early, and the
+/// rule that is broken there.
+#[derive(Clone, Copy, Debug, PartialEq, Eq)]
+pub struct Fault {
+    pub place: usize,
+    pub rule: RuleId,
+}
