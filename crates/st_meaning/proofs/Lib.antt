@@ -1,0 +1,5 @@
+pub mod Builds
+pub mod Tallness
+pub mod Growth
+pub mod Stops
+pub mod NotationBuilds

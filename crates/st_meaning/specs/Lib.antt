@@ -1,0 +1,10 @@
+pub mod Names
+pub mod Meaning
+pub mod Notations
+pub mod Definitions
+pub mod Actions
+pub mod Building
+pub mod Heights
+pub mod Pieces
+pub mod Answers
+pub mod NotationBuilding

@@ -1,0 +1,29 @@
+//! The meaning of the grammar: which source trees the trees of the grammar are.
+//!
+//! The one idea: a tree of the grammar keeps each token, and its meaning is a function by cases on
+//! it: parentheses round a type, commas and closing signs are gone, and places are kept.
+//!
+//! Read `specs/Meaning.antt` and `specs/Definitions.antt` first. The rules are in
+//! `docs/source-trees.md`.
+#![tactic(auto)]
+
+mod action;
+mod builder;
+mod entry;
+mod fault;
+mod form;
+mod laws;
+mod leaf;
+mod list;
+mod make;
+mod notation_piece;
+mod path;
+mod piece;
+mod pieces;
+
+pub use action::{Action, TokenRef};
+pub use builder::build;
+pub use fault::BuildFault;
+pub use laws::{notations_are_built, one_source, parts_are_built, types_are_built};
+pub use notation_piece::NotationPiece;
+pub use piece::Piece;
