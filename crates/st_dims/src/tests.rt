@@ -117,3 +117,62 @@ fn premises_bear_on_dimensions(rt: HostRuntime) -> Result<(), Fail> {
     assert_eq!(rt; fault, Some(DimFault::I2(place(20))));
     Ok(())
 }
+
+/// A variable `x` under one count.
+fn counted(alloc: Global, column: u32, count: Count) -> Result<Exp, NoMemory> {
+    iterated(alloc, variable(alloc, column, b"x")?, count)
+}
+
+/// `x*` and `x`
+fn idle_iteration(alloc: Global) -> Result<Row<Exp>, NoMemory> {
+    let list = counted(alloc, 11, Count::Star)?;
+    two(alloc, list, variable(alloc, 17, b"x")?)
+}
+
+/// `x*` and `x?`
+fn other_chain(alloc: Global) -> Result<Row<Exp>, NoMemory> {
+    let list = counted(alloc, 1, Count::Star)?;
+    two(alloc, list, counted(alloc, 4, Count::Quest)?)
+}
+
+/// `i^(i<i)`
+fn own_index(alloc: Global) -> Result<Exp, NoMemory> {
+    let count = below(alloc, b"i", variable(alloc, 13, b"i")?)?;
+    iterated(alloc, variable(alloc, 8, b"i")?, count)
+}
+
+/// `x x?`, which iterates nothing, and behind it `i^(i<i)`
+fn index_outside(alloc: Global) -> Result<Row<Exp>, NoMemory> {
+    let idle = counted(alloc, 3, Count::Quest)?;
+    let both = sequence(alloc, variable(alloc, 1, b"x")?, idle)?;
+    two(alloc, both, own_index(alloc)?)
+}
+
+fn expect_fault(
+    rt: &impl Abort,
+    alloc: Global,
+    parts: &Row<Exp>,
+    wanted: DimFault,
+) -> Result<(), Fail> {
+    let premises = Row::new(alloc);
+    assert_eq!(rt; dims(alloc, parts, &premises).err(), Some(wanted));
+    Ok(())
+}
+
+#[test]
+fn an_iteration_of_nothing_is_refused(rt: HostRuntime) -> Result<(), Fail> {
+    let alloc = rt.alloc();
+    expect_fault(&rt, alloc, &idle_iteration(alloc)?, DimFault::I2(place(11)))
+}
+
+#[test]
+fn another_chain_is_refused_where_it_stands(rt: HostRuntime) -> Result<(), Fail> {
+    let alloc = rt.alloc();
+    expect_fault(&rt, alloc, &other_chain(alloc)?, DimFault::I1(place(4)))
+}
+
+#[test]
+fn chains_come_before_iterations_of_nothing(rt: HostRuntime) -> Result<(), Fail> {
+    let alloc = rt.alloc();
+    expect_fault(&rt, alloc, &index_outside(alloc)?, DimFault::I1(place(13)))
+}

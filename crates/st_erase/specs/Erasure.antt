@@ -10,9 +10,9 @@ use Rattle.st_el.specs.declared.expression.Count.TheOpen.{Node-F}
 use Rattle.st_el.specs.declared.expression.Count.TheVariants as times
 use Rattle.st_el.specs.declared.expression.Seg.{Seg}
 use Rattle.st_el.specs.declared.expression.Seg.TheVariants as seg
+use Rattle.st_il.specs.declared.definition.Il.{Il}
 use Rattle.st_il.specs.declared.definition.IlDef.{IlDef}
 use Rattle.st_il.specs.declared.template.Template.{Template}
-use Rattle.st_il.specs.Template.{HasTag}
 use Rattle.st_il.specs.declared.expression.IlExp.{IlExp, fold-IlExp}
 use Rattle.st_il.specs.declared.expression.IlExp.TheOpen.{IlExp-F, Iteration-F, ListItem-F, PathSeg-F}
 use Rattle.st_il.specs.declared.expression.Iteration.{Iteration, fold-Iteration}
@@ -24,6 +24,7 @@ use Rattle.st_erase.specs.declared.erased.Kind.TheVariants as kind
 use Rattle.st_erase.specs.Places.{exp, opened, whole, count}
 use Rattle.st_erase.specs.Filling.{filled, sequence}
 use Rattle.st_erase.specs.Records.{fields_of}
+use Rattle.st_erase.specs.Tags.{template_of}
 
 -- ---- forms of source
 
@@ -87,13 +88,14 @@ fields [] xs = []
 fields (name ∷ names) [] = []
 fields (name ∷ names) (x ∷ xs) = field_by name x ++ fields names xs
 
--- ---- the cases
+-- ---- cases
 
+-- What has no template is no tag, and nothing is written for it.
 abbrev pub case_by : Option Template → List Erased → Erased
 case_by None xs = plain_form node.Eps
 case_by (Some t) xs = record { exp = filled t xs; kind = kind.Plain }
 
-module _ (templates : List ℕ → Option Template) (defs : List IlDef) where
+module _ (defs : List IlDef) where
   abbrev pub exp_at : IlExp-F Erased Count Item Seg → Erased
   exp_at (IlExp-F.Bool b) = plain_form (node.Bool b)
   exp_at (IlExp-F.Number n) = plain_form (node.Number n)
@@ -118,7 +120,7 @@ module _ (templates : List ℕ → Option Template) (defs : List IlDef) where
   exp_at (IlExp-F.Le x y) = binary mark.LessOrEqual x y
   exp_at (IlExp-F.Ge x y) = binary mark.GreaterOrEqual x y
   exp_at (IlExp-F.Member x y) = binary mark.ElementOf x y
-  exp_at (IlExp-F.Case ty tag xs) = case_by (templates tag) xs
+  exp_at (IlExp-F.Case ty tag xs) = case_by (template_of tag) xs
   exp_at (IlExp-F.Fields ty xs) = plain_form (node.Fields (fields (fields_of (length defs) defs ty) xs))
   exp_at (IlExp-F.Dot x field) = plain_form (node.Dot (whole x) field)
   exp_at (IlExp-F.Set x path y) = plain_form (node.Update (whole x) path (whole y))
@@ -153,7 +155,7 @@ module _ (templates : List ℕ → Option Template) (defs : List IlDef) where
   segment_at (PathSeg-F.PathSeg::At x) = seg.At (whole x)
   segment_at (PathSeg-F.PathSeg::Slice x y) = seg.Slice (whole x) (whole y)
 
-  -- the source of an expression, where tags have these templates
+  -- the source of an expression
   abbrev pub erased : IlExp → Erased
   erased = fold-IlExp Erased Count Item Seg exp_at iteration_at item_at segment_at
 
@@ -166,10 +168,6 @@ module _ (templates : List ℕ → Option Template) (defs : List IlDef) where
   abbrev pub erased_segment : PathSeg → Seg
   erased_segment = fold-PathSeg Erased Count Item Seg exp_at iteration_at item_at segment_at
 
--- each tag has its template, and what is no tag has none
-abbrev pub IsOf : List ℕ → Option Template → Type 0
-IsOf tag (Some t) = HasTag t tag
-IsOf tag None = (t : Template) → HasTag t tag → ⊥
-
-abbrev pub AreTemplates : (List ℕ → Option Template) → Type 0
-AreTemplates templates = (tag : List ℕ) → IsOf tag (templates tag)
+-- the source of an expression that stands by itself
+abbrev pub erased_exp : Il → IlExp → Exp
+erased_exp il e = whole (erased il.defs e)

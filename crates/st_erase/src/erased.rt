@@ -3,16 +3,10 @@
 ghost use Rattle.std.specs.Prelude.{◌≡◌, [], ◌∷◌, IfOk};
 ghost use Rattle.st_erase.specs.Places.{whole, count, run, in_arithmetic, parts_of};
 
+use crate::form::{only, unplaced};
 use st_el::{Exp, Node};
-use st_num::{Boxed, NoMemory, Row, Span};
+use st_num::{Boxed, NoMemory, Row};
 use std::alloc::Global;
-
-/// The place of what stands in no text.
-const NOWHERE: Span = Span {
-    file: 0,
-    line: 0,
-    column: 0,
-};
 
 /// What an erased expression is to the place where it stands.
 #[derive(Clone, Copy, Debug, PartialEq, Eq)]
@@ -85,13 +79,5 @@ fn in_arithmetic(alloc: Global, exp: Exp) -> Result<Exp, NoMemory>
     ensures { IfOk result (λ whole. whole ≡ in_arithmetic exp) }
 {
     let node = Node::Arith(Boxed::new(alloc, exp)?);
-    Ok(Exp { at: NOWHERE, node })
-}
-
-fn only(alloc: Global, exp: Exp) -> Result<Row<Exp>, NoMemory>
-    ensures { IfOk result (λ row. row ≡ exp ∷ []) }
-{
-    let mut row = Row::new(alloc);
-    row.push(exp)?;
-    Ok(row)
+    Ok(unplaced(node))
 }

@@ -4,15 +4,19 @@
 //! of its tags filled in and each conversion dropped. The one idea: erasure goes by cases on trees
 //! and knows no types.
 //!
-//! The definition stands, and so do the steps that need no walk of a tree. The calls `erase_exp`
-//! and `erase`, which walk it, are not built yet.
-//!
 //! Read `specs/Erasure.antt` first, then `erased` and `specs/Filling.antt`. The rules are in
 //! `docs/internal-language.md`, "Erasure".
 #![tactic(auto)]
 
+mod definition;
 mod erased;
+mod expression;
+mod filling;
+mod form;
+mod notation;
 mod record;
+mod source;
+mod template;
 
 pub use erased::{Erased, Kind};
-pub use record::{body_of, next_name};
+pub use source::{erase, erase_exp};

@@ -21,9 +21,6 @@ use Rattle.st_notation.proofs.FitsLemmas.{Fits-in-Atom, Fits-in-Bracket, Fits-in
 
 -- ---- ways through a sequence
 
-pub Reaches-none : (ts : List Template) (ss : List Shape) (es : List Exp) → Reaches ts ss es [] ts ss es
-Reaches-none ts ss es = record { goes = λ gs h. h; back = λ gs h. (gs, h) }
-
 pub Reaches-more : (ts us vs : List Template) (ss rs qs : List Shape) (es xs ys : List Exp) (fs gs : List Filling)
     → Reaches ts ss es fs us rs xs → Reaches us rs xs gs vs qs ys → Reaches ts ss es (fs ++ gs) vs qs ys
 Reaches-more ts us vs ss rs qs es xs ys fs gs h k = record {
@@ -63,12 +60,6 @@ loop-end ts i h k = let e : i ≡ length ts = omega arith in ap (λ z. drop z ts
 -- a refusal of a call is handed on
 pub Fitted-err : (at : Span) (P : List Filling → Type 0) (answer : Result (List Filled) FitFault) (refused : FitFault) → answer ≡ Err refused → Refuses at P refused → Fitted at P answer
 Fitted-err at P answer refused e h = subst (λ z. Fitted at P z) (sym e) h
-
--- nothing fits where nothing fits what is left
-pub Reaches-refuses : (ts us : List Template) (ss rs : List Shape) (es xs : List Exp) (fs : List Filling) (at : Span) (refused : FitFault)
-    → Reaches ts ss es fs us rs xs → Refuses at (FitInOrder us rs xs) refused → Refuses at (FitInOrder ts ss es) refused
-Reaches-refuses ts us ss rs es xs fs at (fault.NoFit there) h none = (none.0, λ gs k. let left = h.back gs k in none.1 left.0 left.1)
-Reaches-refuses ts us ss rs es xs fs at fault.Memory h none = tt
 
 pub Reaches-end : (ts : List Template) (ss rs : List Shape) (es xs : List Exp) (fs : List Filling) → xs ≡ [] → Reaches ts ss es fs [] rs xs → FitInOrder ts ss es fs
 Reaches-end ts ss rs es xs fs e h =
@@ -197,18 +188,6 @@ pub sides-fit : (t : Template) (ss : List Shape) (e : Exp) (l : Template) (s : M
 sides-fit t ss e l s r a b xs ys filled p n h k all =
     subst (λ z. Fits t ss e z) (sym (ap fillings all ∙ map-append plain xs ys))
     (sides l s r a b p n h (subst (λ z. Fits r (drop z ss) b (fillings ys)) (sym (length-map xs plain)) k))
-
-pub left-refuses : (at : Span) (t : Template) (ss : List Shape) (e : Exp) (l : Template) (s : Mark) (r : Template) (a b : Exp) (refused : FitFault) → out-Template t ≡ Template-F.Infix l s r
-    → opened (bare e) ≡ Node-F.Infix a s b → Refuses at (Fits l ss a) refused → Refuses at (Fits t ss e) refused
-left-refuses at t ss e l s r a b (fault.NoFit there) p n none = (
-  none.0,
-  λ fs h.
-      let found = Fits-in-Infix t ss e fs l s r p h in
-      let is : opened (bare e) ≡ Node-F.Infix found.left s found.right = found.is in
-      let same : found.left ≡ a = cc in
-      none.1 found.lefts (subst (λ z. Fits l ss z found.lefts) same found.fits_left),
-)
-left-refuses at t ss e l s r a b fault.Memory p n none = tt
 
 pub right-refuses : (at : Span) (t : Template) (ss : List Shape) (e : Exp) (l : Template) (s : Mark) (r : Template) (a b : Exp) (xs : List Filled) (refused : FitFault) → out-Template t ≡ Template-F.Infix l s r
     → opened (bare e) ≡ Node-F.Infix a s b → Fits l ss a (fillings xs) → Refuses at (Fits r (drop (length xs) ss) b) refused → Refuses at (Fits t ss e) refused

@@ -12,6 +12,8 @@ mod filled;
 mod fitting;
 mod key;
 mod share;
+#[cfg(test)]
+mod tests;
 
 pub use filled::{Filled, FitFault, Shape};
 pub use fitting::fit;

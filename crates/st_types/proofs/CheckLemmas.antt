@@ -28,10 +28,6 @@ Finds-hold defs p ps (Some x) h f = inr (h, f)
 pub Finds-false : (defs : List SyntaxDef) (part : ℕ) (c : Condition) (ps : List Placed) → (Holds defs c → ⊥) → Finds defs ((part, c) ∷ ps) (Some (part, rule_of c))
 Finds-false defs part c ps h = inl (h, refl, refl)
 
--- nothing is found among none
-pub Finds-none : (defs : List SyntaxDef) → Finds defs [] None
-Finds-none defs = tt
-
 AllHold-append : (defs : List SyntaxDef) (ps qs : List Placed) → AllHold defs ps → AllHold defs qs → AllHold defs (ps ++ qs)
 AllHold-append defs [] qs h g = g
 AllHold-append defs (p ∷ ps) qs h g = (h.0, AllHold-append defs ps qs h.1 g)

@@ -1,0 +1,8 @@
+use Rattle.st_erase.proofs.TagLemmas.{is_template}
+use Rattle.st_erase.proofs.source.erase_exp.Goals as goal
+
+pub returns-in_err-source-clause-templates : goal.returns-in_err-source-clause-templates
+returns-in_err-source-clause-templates c = is_template
+
+pub returns-clause-templates : goal.returns-clause-templates
+returns-clause-templates c = is_template

@@ -1,0 +1,121 @@
+//! How erased expressions are made of their parts.
+
+ghost use Rattle.std.specs.Prelude.{◌≡◌, [], ◌∷◌, ◌++◌, IfOk, MatchOption};
+ghost use Rattle.st_el.specs.declared.expression.Node.TheVariants as node;
+ghost use Rattle.st_erase.specs.Places.{exp};
+ghost use Rattle.st_erase.specs.Filling.{sequence};
+ghost use Rattle.st_erase.specs.Erasure.{plain_form, arithmetic, absent, lifted};
+
+use crate::{Erased, Kind};
+use st_el::{Exp, Node};
+use st_num::{Boxed, Mark, NoMemory, Row, Span};
+use std::alloc::Global;
+use std::collections::VecDeque;
+
+/// The place of what stands in no text.
+pub const NOWHERE: Span = Span {
+    file: 0,
+    line: 0,
+    column: 0,
+};
+
+/// An expression that stands in no text.
+pub fn unplaced(node: Node) -> Exp
+    ensures { result ≡ exp node }
+{
+    Exp { at: NOWHERE, node }
+}
+
+pub fn plain_form(node: Node) -> Erased
+    ensures { result ≡ plain_form node }
+{
+    Erased {
+        exp: unplaced(node),
+        kind: Kind::Plain,
+    }
+}
+
+pub fn arithmetic(node: Node) -> Erased
+    ensures { result ≡ arithmetic node }
+{
+    Erased {
+        exp: unplaced(node),
+        kind: Kind::Arithmetic,
+    }
+}
+
+/// Two sides of a sign of logic, comparison, membership or `++`.
+pub fn binary(left: Boxed<Exp>, sign: Mark, right: Boxed<Exp>) -> Erased
+    ensures { result ≡ plain_form (node.Binary left sign right) }
+{
+    plain_form(Node::Binary(left, sign, right))
+}
+
+/// Two operands of arithmetic.
+pub fn operation(left: Boxed<Exp>, sign: Mark, right: Boxed<Exp>) -> Erased
+    ensures { result ≡ arithmetic (node.Binary left sign right) }
+{
+    arithmetic(Node::Binary(left, sign, right))
+}
+
+/// What was left out.
+pub fn absent() -> Erased
+    ensures { result ≡ absent }
+{
+    Erased {
+        exp: unplaced(Node::Eps),
+        kind: Kind::Absent,
+    }
+}
+
+/// The element of a one-element list or option.
+pub fn lifted(alloc: Global, element: Exp) -> Result<Exp, NoMemory>
+    ensures { IfOk result (λ lift. lift ≡ lifted element) }
+{
+    match &element.node {
+        Node::Seq(_) | Node::Infix(_, _, _) => {
+            let node = Node::Paren(Boxed::new(alloc, element)?);
+            Ok(unplaced(node))
+        }
+        _ => Ok(element),
+    }
+}
+
+/// These elements. One stands by itself.
+pub fn sequence(mut elements: Row<Exp>) -> Exp
+    ensures { result ≡ sequence elements }
+{
+    if elements.len() == 1 {
+        if let Some(element) = elements.pop() {
+            return element;
+        }
+    }
+    unplaced(Node::Seq(elements))
+}
+
+/// A row of one element.
+pub fn only(alloc: Global, element: Exp) -> Result<Row<Exp>, NoMemory>
+    ensures { IfOk result (λ row. row ≡ element ∷ []) }
+{
+    let mut row = Row::new(alloc);
+    row.push(element)?;
+    Ok(row)
+}
+
+/// These elements with the added ones behind them.
+pub fn joined(elements: Row<Exp>, added: Row<Exp>) -> Result<Row<Exp>, NoMemory>
+    ensures { IfOk result (λ row. row ≡ elements ++ added) }
+{
+    let mut all = elements.into_vec();
+    let mut added = added.into_vec();
+    all.append(&mut added)?;
+    Ok(Row::from_vec(all))
+}
+
+/// Takes the next operand off.
+pub fn next(operands: &mut VecDeque<Erased>) -> Option<Erased>
+    ensures { MatchOption result ((operands.old.items ≡ []) × (operands.new.items ≡ []))
+        (λ operand. operands.old.items ≡ operand ∷ operands.new.items) }
+{
+    operands.pop_front()
+}
