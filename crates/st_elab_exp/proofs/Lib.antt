@@ -1,0 +1,6 @@
+mod Names
+mod Iterated
+mod Choosing
+pub mod Leaves
+pub mod Builds
+pub mod Exact

@@ -1,0 +1,4 @@
+pub mod ChoiceLemmas
+pub mod Single
+pub mod Keeps
+pub mod RowLemmas

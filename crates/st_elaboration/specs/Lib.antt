@@ -1,0 +1,14 @@
+pub mod Operators
+pub mod Variables
+pub mod Forms
+pub mod Iterations
+pub mod Questions
+pub mod Choice
+pub mod Steps
+pub mod Collections
+pub mod Records
+pub mod Checked
+pub mod Operands
+pub mod Paths
+pub mod Inferred
+pub mod Elaboration

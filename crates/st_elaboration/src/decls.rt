@@ -1,0 +1,24 @@
+//! What an expression may name.
+
+use st_il::{FunDef, RelationDef, Ty};
+use st_num::{Dim, Name, Row};
+use st_types::TypeTable;
+
+/// The declarations of a specification.
+#[derive(Drop)]
+pub struct Decls {
+    pub types: TypeTable,
+    /// The types of names declared by `var`.
+    pub vars: Row<(Name, Ty)>,
+    pub funs: Row<FunDef>,
+    pub relations: Row<RelationDef>,
+}
+
+/// The variables of a rule or clause, and the iterations round an expression.
+#[derive(Drop)]
+pub struct Scope {
+    /// Each variable with its type and its dimension, in the byte order of the names.
+    pub variables: Row<(Name, Ty, Dim)>,
+    /// The kinds of the iterations round the expression, outermost first.
+    pub around: Dim,
+}
