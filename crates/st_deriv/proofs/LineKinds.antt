@@ -1,5 +1,5 @@
 -- The lines of each kind, and trees of none.
-use Rattle.std.proofs.Common.{◌≡◌, ℕ, ◌^◌, ◌<◌, List, [], ◌∷◌, length, get_or, codes, refl, sym, ap, subst, ◌∙◌, arith}
+use Rattle.std.proofs.Common.{◌≡◌, ℕ, ◌^◌, ◌<◌, List, [], ◌∷◌, length, get_or, codes, sym, ap, subst, ◌∙◌, arith}
 use Rattle.std.specs.Prelude.{decimal, Result, Err, None}
 use Rattle.st_deriv.specs.declared.line.Ending.{Ending}
 use Rattle.st_deriv.specs.declared.line.Line.{Line}
@@ -12,7 +12,7 @@ use Rattle.st_iltext.specs.declared.tree.TextTree as program
 use Rattle.st_iltext.specs.declared.fault.TextFault.{TextFault}
 use Rattle.st_iltext.specs.declared.fault.TextFault.TheVariants.{Malformed, Memory}
 use Rattle.st_deriv.specs.LineText.{IsRelationName, IsPlainNode, ending_word, node_trees, value_trees}
-use Rattle.st_deriv.specs.Reading.{LineTrees, AreNoLine, AnswersLine, AnswersValues, ValueTrees, AreNoValues, IsNoQuote, IsNoList, IsNoRelation, IsNoNumber, IsNoEnding}
+use Rattle.st_deriv.specs.Reading.{LineTrees, AreNoLine, AnswersLine, AnswersValues, ValueTrees, AreNoValues, IsNoQuote, IsNoList}
 use Rattle.st_deriv.proofs.Parts.{lists, firsts, rests, first_byte, five_is, count, trees_count}
 
 -- ---- what begins with the word of a kind is a line of that kind or none
@@ -72,19 +72,6 @@ end_only ts n = record { never = go }
 pub head_length : (parts : List program.TextTree) → (length parts ≡ 2 → ⊥) → AreNoLine (more (word (codes "derivation")) (trees_of parts))
 head_length parts n = head_only (trees_of parts) (λ name i e. n (sym (trees_count parts) ∙ ap count e))
 
-pub head_format : (parts : List program.TextTree) (format relation : program.TextTree) → parts ≡ format ∷ relation ∷ [] → (tree_of format ≡ word (codes "1") → ⊥)
-    → AreNoLine (more (word (codes "derivation")) (trees_of parts))
-head_format parts format relation p n = head_only (trees_of parts) (λ name i e. n (firsts (sym (ap trees_of p) ∙ e)))
-
-pub head_relation : (parts : List program.TextTree) (format relation : program.TextTree) → parts ≡ format ∷ relation ∷ [] → IsNoRelation (tree_of relation)
-    → AreNoLine (more (word (codes "derivation")) (trees_of parts))
-head_relation parts format relation p n = head_only (trees_of parts) (λ name i e. n.never name i (firsts (rests (sym (ap trees_of p) ∙ e))))
-
-pub head_answer : (parts : List program.TextTree) (format relation : program.TextTree) (name copy : List ℕ) → parts ≡ format ∷ relation ∷ [] → tree_of format ≡ word (codes "1")
-    → IsRelationName name → tree_of relation ≡ word name → copy ≡ name → LineTrees (Head 1 copy) (more (word (codes "derivation")) (trees_of parts))
-head_answer parts format relation name copy p f i r c = subst (λ n. LineTrees (Head 1 n) (more (word (codes "derivation")) (trees_of parts))) (sym c)
-    (record { plain = (refl, i); is = ap (more (word (codes "derivation"))) (ap trees_of p ∙ ap (λ t. more t (more (tree_of relation) none)) f ∙ ap (λ t. more (word (codes "1")) (more t none)) r) })
-
 -- ---- the second line
 
 pub from_none : (ts : TextTrees) → AreNoValues ts → AreNoLine (more (word (codes "from")) ts)
@@ -119,14 +106,6 @@ pub node_rule : (parts : List program.TextTree) (a b c d e : program.TextTree) �
     → AreNoLine (more (word (codes "node")) (trees_of parts))
 node_rule parts a b c d e p n = node_parts parts a b c d e p (λ node i f. n.never node.rule (firsts (rests f)))
 
-pub node_env : (parts : List program.TextTree) (a b c d e : program.TextTree) → AreParts parts a b c d e → (tree_of c ≡ list none → ⊥)
-    → AreNoLine (more (word (codes "node")) (trees_of parts))
-node_env parts a b c d e p n = node_parts parts a b c d e p (λ node i f. n (firsts (rests (rests f))))
-
-pub node_children : (parts : List program.TextTree) (a b c d e : program.TextTree) → AreParts parts a b c d e → (tree_of d ≡ list none → ⊥)
-    → AreNoLine (more (word (codes "node")) (trees_of parts))
-node_children parts a b c d e p n = node_parts parts a b c d e p (λ node i f. n (firsts (rests (rests (rests f)))))
-
 pub node_no_list : (parts : List program.TextTree) (a b c d e : program.TextTree) → AreParts parts a b c d e → IsNoList (tree_of e)
     → AreNoLine (more (word (codes "node")) (trees_of parts))
 node_no_list parts a b c d e p n = node_parts parts a b c d e p (λ node i f. n.never (value_trees node.values) (firsts (rests (rests (rests (rests f))))))
@@ -156,50 +135,7 @@ node_answer parts a b c d e ts node p fa fb fc fd fe en ch ev v =
 pub step_length : (parts : List program.TextTree) → (length parts ≡ 1 → ⊥) → AreNoLine (more (word (codes "step")) (trees_of parts))
 step_length parts n = step_only (trees_of parts) (λ number i e. n (sym (trees_count parts) ∙ ap count e))
 
-pub step_none : (parts : List program.TextTree) (t : program.TextTree) → parts ≡ t ∷ [] → IsNoNumber (tree_of t) → AreNoLine (more (word (codes "step")) (trees_of parts))
-step_none parts t p n = step_only (trees_of parts) (λ number i e. n.never number i (firsts (sym (ap trees_of p) ∙ e)))
-
-pub step_answer : (parts : List program.TextTree) (t : program.TextTree) (n : ℕ) → parts ≡ t ∷ [] → n < 2 ^ 128 → tree_of t ≡ word (decimal n)
-    → LineTrees (Step n) (more (word (codes "step")) (trees_of parts))
-step_answer parts t n p small e = record { plain = small; is = ap (more (word (codes "step"))) (ap trees_of p ∙ ap (λ u. more u none) e) }
-
 pub end_length : (parts : List program.TextTree) → (length parts ≡ 1 → ⊥) → AreNoLine (more (word (codes "end")) (trees_of parts))
 end_length parts n = end_only (trees_of parts) (λ ending e. n (sym (trees_count parts) ∙ ap count e))
 
-pub end_none : (parts : List program.TextTree) (t : program.TextTree) → parts ≡ t ∷ [] → IsNoEnding (tree_of t) → AreNoLine (more (word (codes "end")) (trees_of parts))
-end_none parts t p n = end_only (trees_of parts) (λ ending e. n.never ending (firsts (sym (ap trees_of p) ∙ e)))
-
-pub end_answer : (parts : List program.TextTree) (t : program.TextTree) (ending : Ending) → parts ≡ t ∷ [] → tree_of t ≡ word (ending_word ending)
-    → LineTrees (End ending) (more (word (codes "end")) (trees_of parts))
-end_answer parts t ending p e = record { plain = tt; is = ap (more (word (codes "end"))) (ap trees_of p ∙ ap (λ u. more u none) e) }
-
 -- ---- the word that tells the kind
-
--- what the reader of a kind answers is the answer
-pub kind_answer : (trees parts : List program.TextTree) (kind : program.TextTree) (name : List ℕ) (result : Result Line TextFault)
-    → trees ≡ kind ∷ parts → tree_of kind ≡ word name → AnswersLine (more (word name) (trees_of parts)) result → AnswersLine (trees_of trees) result
-kind_answer trees parts kind name result e k a =
-    subst (λ ts. AnswersLine ts result) (sym (ap trees_of e ∙ ap (λ t. more t (trees_of parts)) k)) a
-
-pub no_kind : (trees parts : List program.TextTree) (kind : program.TextTree) → trees ≡ kind ∷ parts
-    → (tree_of kind ≡ word (codes "derivation") → ⊥) → (tree_of kind ≡ word (codes "from") → ⊥) → (tree_of kind ≡ word (codes "node") → ⊥)
-    → (tree_of kind ≡ word (codes "step") → ⊥) → (tree_of kind ≡ word (codes "end") → ⊥) → AreNoLine (trees_of trees)
-no_kind trees parts kind e d f n s z = record { never = go }
-  where
-    go : (line : Line) → LineTrees line (trees_of trees) → ⊥
-    go (Head format name) l = d (firsts (sym (ap trees_of e) ∙ l.is))
-    go (From vals) l = f (firsts (sym (ap trees_of e) ∙ l.is))
-    go (Node node) l = n (firsts (sym (ap trees_of e) ∙ l.is))
-    go (Step number) l = s (firsts (sym (ap trees_of e) ∙ l.is))
-    go (End ending) l = z (firsts (sym (ap trees_of e) ∙ l.is))
-
-pub no_trees : (trees : List program.TextTree) → length trees ≡ 0 → AreNoLine (trees_of trees)
-no_trees (t ∷ trees) e = absurd (omega arith)
-no_trees [] e = record { never = go }
-  where
-    go : (line : Line) → LineTrees line none → ⊥
-    go (Head format name) l = cc (l.is)
-    go (From vals) l = cc (l.is)
-    go (Node node) l = cc (l.is)
-    go (Step number) l = cc (l.is)
-    go (End ending) l = cc (l.is)

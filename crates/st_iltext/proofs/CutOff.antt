@@ -1,7 +1,6 @@
 -- Lemmas on texts that are written in part.
-use Rattle.std.proofs.Common.{◌≡◌, ℕ, ◌<◌, ◌+◌, List, [], ◌∷◌, ◌++◌, length, drop, get_or, flat_map, Result, Ok, Err, OnErr, refl, sym, ap, ◌∙◌, append_assoc, append-nil, arith, ◌≤◌, add-one}
+use Rattle.std.proofs.Common.{◌≡◌, ℕ, ◌<◌, ◌+◌, List, [], ◌∷◌, ◌++◌, length, drop, get_or, flat_map, Result, Ok, Err, OnErr, sym, ap, ◌∙◌, append_assoc, append-nil, arith, add-one}
 use Rattle.std.proofs.Math.Seq.{drop-cons}
-use Rattle.std.proofs.lemmas.List.{drop_all}
 use Rattle.st_iltext.specs.Printing.{IsCutOff}
 use Rattle.st_iltext.specs.declared.tree.TextTree as program
 use Rattle.st_iltext.specs.Text.{escape_letter, escaped, text, row_text, behind}
@@ -10,10 +9,6 @@ use Rattle.st_iltext.specs.Trees.{tree_of, trees_of}
 pub OnErr-any : {T E : Type 0} (r : Result T E) (P : Type 0) → P → OnErr r P
 OnErr-any (Ok x) P p = tt
 OnErr-any (Err e) P p = p
-
--- nothing is written
-pub cut_off_none : (old text new : List ℕ) → new ≡ old → IsCutOff old text new
-cut_off_none old text new e = record { done = []; left = text; split = refl; is = e ∙ sym (append-nil old) }
 
 -- a part of the text is written whole, and the next part in part
 pub cut_off_behind : (old mid new text done part left : List ℕ) → mid ≡ old ++ done → text ≡ done ++ (part ++ left) → IsCutOff mid part new → IsCutOff old text new
@@ -39,18 +34,12 @@ pub record Written (old text new left : List ℕ) : Type 0 where
   pub split : text ≡ done ++ left
   pub is : new ≡ old ++ done
 
-pub written_start : (old text new : List ℕ) → new ≡ old → Written old text new text
-written_start old text new e = record { done = []; split = refl; is = e ∙ sym (append-nil old) }
-
 pub written_step : (old text new left newer part left' : List ℕ) → Written old text new left → left ≡ part ++ left' → newer ≡ new ++ part → Written old text newer left'
 written_step old text new left newer part left' w s e = record {
   done = w.done ++ part;
   split = w.split ∙ ap (λ u. w.done ++ u) s ∙ sym (append_assoc w.done part left');
   is = e ∙ ap (λ u. u ++ part) w.is ∙ append_assoc old w.done part;
 }
-
-pub written_all : (old text new left : List ℕ) → Written old text new left → left ≡ [] → new ≡ old ++ text
-written_all old text new left w e = w.is ∙ ap (λ u. old ++ u) (sym (w.split ∙ ap (λ u. w.done ++ u) e ∙ append-nil w.done))
 
 pub written_cut : (old text new left newer part left' : List ℕ) → Written old text new left → left ≡ part ++ left' → IsCutOff new part newer → IsCutOff old text newer
 written_cut old text new left newer part left' w s p = cut_off_behind old new newer text w.done part left' w.is (w.split ∙ ap (λ u. w.done ++ u) s) p
@@ -70,17 +59,11 @@ drop-next xs i d h = rw (add-one, drop-cons xs i d)
 pub content-drop : (s : List ℕ) (i : ℕ) → i < length s → flat_map escaped (drop i s) ≡ escaped (get_or s i 0) ++ flat_map escaped (drop (i + 1) s)
 content-drop s i h = ap (flat_map escaped) (drop-next s i 0 h)
 
-pub content-end : (s : List ℕ) (i : ℕ) → length s ≤ i → flat_map escaped (drop i s) ≡ []
-content-end s i h = ap (flat_map escaped) (drop_all i s h)
-
 -- ---- rows
 
 pub behind-drop : (ts : List program.TextTree) (i : ℕ) (t : program.TextTree) → i < length ts → t ≡ get_or ts i t
     → behind (trees_of (drop i ts)) ≡ (32 ∷ text (tree_of t)) ++ behind (trees_of (drop (i + 1) ts))
 behind-drop ts i t h e = ap (λ us. behind (trees_of us)) (drop-next ts i t h ∙ ap (λ u. u ∷ drop (i + 1) ts) (sym e))
-
-pub behind-end : (ts : List program.TextTree) (i : ℕ) → length ts ≤ i → behind (trees_of (drop i ts)) ≡ []
-behind-end ts i h = ap (λ us. behind (trees_of us)) (drop_all i ts h)
 
 pub row-first : (ts others : List program.TextTree) (first : program.TextTree) → ts ≡ first ∷ others
     → row_text (trees_of ts) ≡ text (tree_of first) ++ behind (trees_of others)

@@ -1,5 +1,5 @@
 -- The trees of the lines of a small internal language.
-use Rattle.std.proofs.Common.{◌≡◌, ◌≢◌, ℕ, Bool, true, false, true≢false, Option, Some, None, MatchOption, is_some, List, [], map, refl, sym, subst, ap, ◌∙◌}
+use Rattle.std.proofs.Common.{◌≡◌, ◌≢◌, ℕ, Bool, true, false, true≢false, List, [], map, sym, subst, ap, ◌∙◌}
 use Rattle.st_il.specs.declared.small.SmallRule.{SmallRule}
 use Rattle.st_il.specs.Small.{IsLower, IsUpper, IsWordOf, IsSmall, IsSmallRule}
 use Rattle.st_iltext.specs.declared.small_line.Head.{Head}
@@ -21,10 +21,6 @@ syntax_text x atoms is line e =
 
 pub syntax_none : (line : List ℕ) → IsNoTree line → (x : List ℕ) (atoms : List (List ℕ)) → IsSyntax x atoms → line ≢ syntax_line x atoms
 syntax_none line n x atoms is e = n.never (syntax_shape x atoms) (syntax_text x atoms is line e)
-
--- the shape of a syntax with tags
-shape_tags : (x : List ℕ) (atoms : List (List ℕ)) → syntax_shape x atoms ≡ syntax_tree x (row_of (map tag_shape atoms))
-shape_tags x atoms = refl
 
 pub syntax_other : (line : List ℕ) (t : TextTree) → TreeText t line → ((x : List ℕ) (ts : TextTrees) → t ≢ syntax_tree x ts)
     → (x : List ℕ) (atoms : List (List ℕ)) → IsSyntax x atoms → line ≢ syntax_line x atoms
@@ -97,12 +93,3 @@ rule_yes head line t rule is shape = is.is ∙ ap text (shape ∙ sym (rule_tree
 
 pub refuted : (b : Bool) (P : Type 0) → (b ≡ true → P) × (P → b ≡ true) → b ≡ false → P → ⊥
 refuted b P told fails p = true≢false (sym (told.1 p) ∙ fails)
-
--- a set that `is_some` answers of
-pub some_distinct : {A : Type 0} (P : Type 0) (Q : A → Type 0) (o : Option A) → is_some o ≡ true → MatchOption o (P → ⊥) (λ a. P × Q a) → P
-some_distinct P Q (Some a) e m = m.0
-some_distinct P Q None e m = absurd (true≢false (sym e))
-
-pub none_distinct : {A : Type 0} (P : Type 0) (Q : A → Type 0) (o : Option A) → P → MatchOption o (P → ⊥) (λ a. P × Q a) → is_some o ≡ true
-none_distinct P Q (Some a) p m = refl
-none_distinct P Q None p m = absurd (m p)

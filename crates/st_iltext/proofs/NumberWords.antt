@@ -6,7 +6,7 @@ use Rattle.std.specs.Char.{digit_value}
 use Rattle.std.specs.List.{list_all}
 use Rattle.std.specs.Str.Parse.{AllDigits, IsNumeral, digits_value}
 use Rattle.std.proofs.lemmas.Fmt.{decimal_is_IsNumeral_wide}
-use Rattle.st_num.specs.Number.{signed, IsNumber}
+use Rattle.st_num.specs.Number.{signed}
 use Rattle.st_num.specs.Numeral.{Spells}
 use Rattle.st_num.specs.declared.numeral.NumFault.{NumFault}
 use Rattle.st_iltext.specs.Numbers.{IsNoNatural, IsNoInteger}
@@ -73,10 +73,6 @@ digits-word_bytes (c ∷ w) all = ap₂ ◌&&◌ (digit-word_byte c all.0) (digi
 -- a number's text is a word
 pub decimal-IsWord : (n : ℕ) → n < 2 ^ 128 → IsWord (decimal n)
 decimal-IsWord n small = let numeral = (decimal_is_IsNumeral_wide n (omega arith)).0 in (omega (arith, numeral.0), digits-word_bytes (decimal n) numeral.1)
-
-pub signed_decimal-IsWord : (z : ℤ) → IsNumber z → IsWord (signed_decimal z)
-signed_decimal-IsWord (pos n) small = decimal-IsWord n small
-signed_decimal-IsWord (negsuc n) small = (omega arith, (decimal-IsWord (suc n) small).1)
 
 -- ---- what each reader's goals need
 

@@ -55,9 +55,6 @@ small_last head rules rule small =
     subst (IsSmallRule head.atoms) (get_or-append_seam rules rule [] rule)
     (small.rules (length rules) rule (omega (arith, length-append rules (rule ∷ []))))
 
-pub small_full : (head : Head) (rules : List SmallRule) (rule : SmallRule) → length rules ≡ 65533 → IsSmall (small_of head (rules ++ rule ∷ [])) → ⊥
-small_full head rules rule full small = omega (arith, small.few_rules, length-append rules (rule ∷ []))
-
 -- a front of the rules
 pub small_front : (head : Head) (rules others : List SmallRule) → IsSmall (small_of head (rules ++ others)) → IsSmall (small_of head rules)
 small_front head rules others small = record {

@@ -1,9 +1,13 @@
 -- The tokens of all files, and what a check says of them.
-use Rattle.std.proofs.Common.{◌≡◌, ◌≢◌, ℕ, suc, ◌+◌, ◌<◌, ◌≤◌, List, [], ◌∷◌, ◌++◌, length, take, get_or, ap, ◌∙◌, sym, refl, subst, inl, inr, arith, add-one, append_assoc, append-nil}
-use Rattle.std.specs.Prelude.{Result, Ok, Err, IfOk, Some, slice_get}
+use Rattle.std.proofs.Common.{◌≡◌, ◌≢◌, ℕ, suc, ◌+◌, ◌<◌, List, [], ◌∷◌, ◌++◌, length, take, get_or, ap, ◌∙◌, sym, refl, subst, inl, inr, arith, add-one, append_assoc, append-nil}
+use Rattle.std.specs.Prelude.{Result, Ok, Err, IfOk, Option, Some, IfSome, slice_get}
 use Rattle.std.proofs.Math.Seq.{take-suc}
-use Rattle.std.proofs.lemmas.List.{take_all, length-take-le}
+use Rattle.std.proofs.lemmas.List.{length-take-le}
 use Rattle.std.proofs.lemmas.Option.{slice_get-get_or, slice_get_within}
+use Rattle.st_faults.specs.declared.fault.Fault.{Fault}
+use Rattle.st_faults.specs.Faults as syntax
+use Rattle.st_faults.specs.Faults.{Faultless}
+use Rattle.st_faults.specs.Place.{place_at}
 use Rattle.st_il.specs.declared.small.Small.{Small}
 use Rattle.st_il.specs.Small.{il_of}
 use Rattle.st_num.specs.declared.memory.NoMemory.{NoMemory}
@@ -17,9 +21,9 @@ use Rattle.st_scan.specs.Faults.{FirstFault, of_token, of_utf8}
 use Rattle.st_scan.specs.Tokens.{Tokens}
 use Rattle.st_tool.specs.declared.answer.Answer.{Answer}
 use Rattle.st_tool.specs.declared.status.Status.TheVariants.{Done, Specification}
-use Rattle.st_tool.specs.Checking.{AllTokens, IsSourceFault, TellsFault, IsOneSmall, SmallGives, CheckGives, refused, empty, scanned}
-use Rattle.st_tool.specs.Commands.{IsUnbuilt}
+use Rattle.st_tool.specs.Checking.{AllTokens, IsSourceFault, TellsFault, SmallGives, CheckGives, refused, empty, scanned}
 use Rattle.st_tool.specs.SmallText.{IsTextOf}
+use Rattle.st_tool.proofs.TokenPlaces.{place_before}
 use Rattle.st_tool.specs.Texts.{definitions_text, refused_source_text}
 
 -- a fault stands in the file that was scanned
@@ -50,9 +54,6 @@ scan_more files k file text tokens more all before below is same has are =
     let here = subst (λ n. Tokens n file more) count (subst (λ t. Tokens k t more) same has) in
     subst (λ ts. AllTokens 0 (take (k + 1) files) ts) (sym are) (subst (λ fs. AllTokens 0 fs (tokens ++ more)) (sym front) (all_more 0 (take k files) tokens file more before here))
 
-pub all_scanned : (files : List (List ℕ)) (k : ℕ) (tokens : List Token) → AllTokens 0 (take k files) tokens → length files ≤ k → AllTokens 0 files tokens
-all_scanned files k tokens before ends = subst (λ fs. AllTokens 0 fs tokens) (take_all k files ends) before
-
 -- the first fault
 pub source_fault : (files : List (List ℕ)) (k : ℕ) (file text : List ℕ) (tokens : List Token) (fault : LexFault) → AllTokens 0 (take k files) tokens → k < length files
     → file ≡ get_or files k file → text ≡ file → TellsFirst k text fault → TellsFault files fault
@@ -68,17 +69,27 @@ source_fault files k file text tokens (Refused at rule) before below is same tel
     }
 
 pub fault_within : (files names : List (List ℕ)) (at : Span) (rule : RuleId) → IsSourceFault files at rule → length files ≡ length names → at.file < length names
-fault_within files names at rule fault named = omega (arith, slice_get_within files at.file fault.file fault.is_file, named)
+fault_within files names at rule (inl fault) named = omega (arith, slice_get_within files at.file fault.file fault.is_file, named)
+fault_within files names at rule (inr fault) named =
+    let small : (place_at fault.tokens fault.number).file < length files = place_before files fault.tokens fault.number fault.all (λ none. fault.some none) in
+    let file : at.file ≡ (place_at fault.tokens fault.number).file = ap (λ (s : Span). s.file) fault.is_at in
+    omega (arith, small, file, named)
+
+-- the first fault of the tokens of all files
+pub syntax_fault : (files : List (List ℕ)) (tokens : List Token) (number : ℕ) (rule : RuleId) (at : Span) → AllTokens 0 files tokens → tokens ≢ []
+    → syntax.FirstFault tokens number rule → at ≡ place_at tokens number → IsSourceFault files at rule
+syntax_fault files tokens number rule at all some fault is =
+    inr (record { tokens = tokens; all = all; some = some; number = number; fault = fault; is_at = is })
+
+pub found_fault : (files : List (List ℕ)) (tokens : List Token) (found : Option Fault) (fault : Fault) (at : Span) → AllTokens 0 files tokens → tokens ≢ []
+    → IfSome found (λ f. syntax.FirstFault tokens f.place f.rule) → found ≡ Some fault → at ≡ place_at tokens fault.place → IsSourceFault files at fault.rule
+found_fault files tokens found fault at all some first is here =
+    syntax_fault files tokens fault.place fault.rule at all some (subst (λ o. IfSome o (λ f. syntax.FirstFault tokens f.place f.rule)) is first) here
 
 -- ---- small specifications
 
 abbrev pub SaysSmall : List (List ℕ) → Result Answer NoMemory → Type 0
 SaysSmall files result = IfOk result (λ answer. SmallGives files answer.status answer.bytes.items)
-
-pub no_small : (files : List (List ℕ)) (result : Result Answer NoMemory) → ((small : Small) → IsOneSmall files small → ⊥)
-    → IfOk result (λ answer. IsUnbuilt answer.status answer.bytes.items) → SaysSmall files result
-no_small files (Err e) none says = tt
-no_small files (Ok answer) none says = inr (none, says.0, says.1)
 
 pub one_small : (files : List (List ℕ)) (file : List ℕ) (small : Small) (count : ℕ) (result : Result Answer NoMemory) → files ≡ file ∷ [] → IsTextOf small file
     → count ≡ length (il_of small).defs → IfOk result (λ answer. answer.status ≡ Done) → IfOk result (λ answer. answer.bytes.items ≡ definitions_text count) → SaysSmall files result
@@ -97,9 +108,10 @@ check_empty names files tokens (Err e) all none status bytes = tt
 check_empty names files tokens (Ok answer) all none status bytes =
     subst (λ s. CheckGives names files s answer.bytes.items) (sym status) (empty (subst (AllTokens 0 files) none all) bytes)
 
-pub check_scanned : (names files : List (List ℕ)) (tokens : List Token) (result : Result Answer NoMemory) → AllTokens 0 files tokens → tokens ≢ [] → SaysSmall files result → SaysChecked names files result
-check_scanned names files tokens (Err e) all some says = tt
-check_scanned names files tokens (Ok answer) all some says = scanned tokens all some says
+pub check_scanned : (names files : List (List ℕ)) (tokens : List Token) (result : Result Answer NoMemory) → AllTokens 0 files tokens → tokens ≢ [] → Faultless tokens
+    → SaysSmall files result → SaysChecked names files result
+check_scanned names files tokens (Err e) all some faultless says = tt
+check_scanned names files tokens (Ok answer) all some faultless says = scanned tokens all some faultless says
 
 pub check_refused : (names files : List (List ℕ)) (name text : List ℕ) (at : Span) (rule : RuleId) (result : Result Answer NoMemory) → IsSourceFault files at rule
     → length files ≡ length names → name ≡ get_or names at.file name → text ≡ name

@@ -14,10 +14,12 @@ derived_is_accepted small atom il derivation status language derived = (
     [],
     record {
       language = language;
-      front = derivation;
-      lines_are = derived.text;
-      rest_has_no_end = λ found. omega (arith, found.1);
-      parts = sym (append-nil derivation);
+      lines_are = record {
+        front = derivation;
+        texts = derived.text;
+        rest_has_no_end = λ found. omega (arith, found.1);
+        parts = sym (append-nil derivation);
+      };
     },
     accepted derived.accepted refl refl,
   ),

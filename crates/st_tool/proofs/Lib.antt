@@ -7,6 +7,7 @@ mod LineTexts
 mod LineVerdicts
 mod Derivations
 mod Verifications
+mod TokenPlaces
 mod Checks
 mod DerivedAccepted
 mod TranscriptLemmas

@@ -1,8 +1,8 @@
 -- The outcomes of commands.
-use Rattle.std.proofs.Common.{◌≡◌, ℕ, suc, ◌<◌, ◌≤◌, List, [], ◌∷◌, length, sym, ap, ◌∙◌, subst, refl, get_or, ◌↔◌, true, false}
-use Rattle.std.specs.Prelude.{Some, slice_get, All, Bool, IsTrue, Result, Ok, Err, IfOk}
+use Rattle.std.proofs.Common.{◌≡◌, ℕ, suc, ◌<◌, ◌≤◌, List, [], ◌∷◌, length, sym, ap, subst, refl, ◌↔◌, true, false}
+use Rattle.std.specs.Prelude.{All, Bool, IsTrue, Result, Ok, Err, IfOk}
 use Rattle.std.proofs.lemmas.List.Elements.{All-nil, All-cons}
-use Rattle.std.proofs.lemmas.Option.{slice_get-get_or, slice_get_within}
+use Rattle.std.proofs.lemmas.Option.{slice_get_within}
 use Rattle.st_tool.specs.declared.loads.Loaded.{Loaded}
 use Rattle.st_tool.specs.declared.loads.Loaded.TheVariants.{Given, Failed, TooLong}
 use Rattle.st_num.specs.declared.memory.NoMemory.{NoMemory}
@@ -34,12 +34,6 @@ pub loads-fit : (held : Held) (limit : ℕ) (names : List (List ℕ)) (before af
 loads-fit held limit names before after (Given files) all = (given-long held limit names files all.given, given-short held limit names files all.given)
 loads-fit held limit names before after (Failed number) fails = slice_get_within names number fails.name fails.is_name
 loads-fit held limit names before after (TooLong number) long = slice_get_within names number long.name long.is_name
-
--- the name at this number of a list
-pub name_here : (names items : List (List ℕ)) (number : ℕ) (item text : List ℕ) → items ≡ names → number < length items → item ≡ get_or items number item → text ≡ item
-    → slice_get names number ≡ Some text
-name_here names items number item text same below item_is text_is =
-    ap (λ xs. slice_get xs number) (sym same) ∙ slice_get-get_or items number item below ∙ ap Some (sym item_is ∙ sym text_is)
 
 -- the loads of these names
 pub loads_of : (held : Held) (limit other : ℕ) (names items : List (List ℕ)) (before after : Counts) (loaded : Loaded) → limit ≡ other → items ≡ names

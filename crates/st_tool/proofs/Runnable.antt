@@ -6,11 +6,7 @@ use denote.Ref.{Bor}
 use Rattle.st_num.specs.declared.memory.NoMemory.{NoMemory}
 use Rattle.st_tool.specs.declared.answer.Answer.{Answer}
 use Rattle.st_tool.specs.declared.status.Status.{Status}
-use Rattle.st_tool.specs.declared.status.Status.TheVariants.{Done}
-use Rattle.st_il.specs.declared.definition.Il.{Il}
 use Rattle.st_il.specs.declared.small.Small.{Small}
-use Rattle.st_il.specs.Small.{il_of}
-use Rattle.st_iltext.specs.IlText.{IlText}
 use Rattle.st_tool.specs.Commands.{IlGives, RunGives, IsRunnable, IsStart, IsTerm, IsUnbuilt}
 use Rattle.st_tool.specs.SmallText.{IsTextOf}
 use Rattle.st_tool.specs.Starts.{HasNoTerm, HasNoStart}
@@ -43,12 +39,6 @@ unbuilt_runs : (Text : RunText) (relation term file : List ℕ) (result : Result
 unbuilt_runs Text relation term file (Ok a) none is = inr (none, is)
 unbuilt_runs Text relation term file (Err e) none is = tt
 
--- where nothing was read, nothing runs
-pub nothing_runs : (Text : RunText) (relation term file : List ℕ) (read : Option Small) (result : Result Answer NoMemory) → read ≡ None → ((s : Small) → IsTextOf s file → read ≡ Some s)
-    → SaysUnbuilt result → IfOk result (λ answer. RunGives Text relation term file answer.status answer.bytes.items)
-nothing_runs Text relation term file read result is only =
-    unbuilt_runs Text relation term file result (λ small atom runnable. let some = only small runnable.source in cc (is, some))
-
 -- there is no term to begin at
 pub no_start : (Text : RunText) (relation term file : List ℕ) (small : Small) (result : Result Answer NoMemory) → IsSource small file → HasNoStart small relation term → SaysUnbuilt result
     → IfOk result (λ answer. RunGives Text relation term file answer.status answer.bytes.items)
@@ -68,19 +58,12 @@ pub no_il : (file : List ℕ) (read : Option Small) (result : Result Answer NoMe
 no_il file read (Ok a) is only unbuilt = inr (λ small text. let some = only small text in cc (is, some), unbuilt)
 no_il file read (Err e) is only unbuilt = tt
 
-pub il_here : (file bytes text : List ℕ) (small : Small) (il : Il) → IsSource small file → il ≡ il_of small → IlText il text → bytes ≡ text → IlGives file Done bytes
-il_here file bytes text small il is il_is has same =
-    inl (small, is.is_text, refl, subst (IlText (il_of small)) (sym same) (subst (λ l. IlText l text) il_is has))
-
 -- the term of a run
 pub start_found : (small : Small) (relation term : List ℕ) (found : Option (Bor (List ℕ))) → small.relation ≡ relation
     → MatchOption found (HasNoTerm small term) (λ atom. IsTerm small term atom.now)
     → MatchOption found (HasNoStart small relation term) (λ atom. IsStart small relation term atom.now)
 start_found small relation term None named none = λ atom start. none atom start.term
 start_found small relation term (Some atom) named is = record { relation_is = named; term = is }
-
-pub other_relation : (small : Small) (relation term : List ℕ) → (small.relation ≡ relation → ⊥) → HasNoStart small relation term
-other_relation small relation term differs atom start = differs start.relation_is
 
 -- names that `!=` does not tell apart are the same
 pub not_differ : (one other : List ℕ) (b : Bool) → b ≡ not (pointwise nat_eq one other) → b ≡ false → one ≡ other

@@ -11,7 +11,7 @@ use Rattle.st_deriv.specs.Reading.{IsNoLine}
 use Rattle.st_deriv.proofs.LineFeeds.{no_line_feed}
 use Rattle.st_il.specs.declared.definition.Il.{Il}
 use Rattle.st_il.specs.declared.type_rule.TypeRule.{TypeRule}
-use Rattle.st_iltext.specs.IlText.{IlText, IsNoIl}
+use Rattle.st_iltext.specs.IlText.{IlText}
 use Rattle.st_iltext.proofs.Lines.{line_unique, no_line}
 use Rattle.st_num.specs.declared.memory.NoMemory.{NoMemory}
 use Rattle.st_tool.specs.declared.answer.Answer.{Answer}
@@ -240,18 +240,13 @@ verify_answer il_bytes derivation rest il checking verdict (Ok answer) text take
       il,
       taken.lines,
       rest,
-      record { language = text; front = taken.front; lines_are = taken.texts; rest_has_no_end = ends; parts = taken.parts },
+      record { language = text; lines_are = record { front = taken.front; texts = taken.texts; rest_has_no_end = ends; parts = taken.parts } },
       verified il taken.lines rest checking verdict answer.status answer.bytes.items taken.taken says tells,
     )
 
 -- other files are not built
-pub no_language : (il_bytes derivation : List ℕ) (result : Result Answer NoMemory) → IsNoIl il_bytes → IfOk result (λ answer. IsUnbuilt answer.status answer.bytes.items)
-    → IfOk result (λ answer. VerifyGives il_bytes derivation answer.status answer.bytes.items)
-no_language il_bytes derivation (Err e) no_il unbuilt = tt
-no_language il_bytes derivation (Ok answer) no_il unbuilt = inr (λ il lines rest are. no_il.never il are.language, unbuilt)
-
 pub no_derivation : (il_bytes derivation : List ℕ) (result : Result Answer NoMemory) → HasNoLines derivation → IfOk result (λ answer. IsUnbuilt answer.status answer.bytes.items)
     → IfOk result (λ answer. VerifyGives il_bytes derivation answer.status answer.bytes.items)
 no_derivation il_bytes derivation (Err e) no_text unbuilt = tt
 no_derivation il_bytes derivation (Ok answer) no_text unbuilt =
-    inr (λ il lines rest are. no_text lines rest (record { front = are.front; texts = are.lines_are; rest_has_no_end = are.rest_has_no_end; parts = are.parts }), unbuilt)
+    inr (λ il lines rest are. no_text lines rest are.lines_are, unbuilt)

@@ -64,8 +64,8 @@ verify_is_own il derivation status bytes (inr (none, (is, text))) = own_unbuilt 
 check_is_own : (names files : List (List ℕ)) (status : Status) (bytes : List ℕ) → CheckGives names files status bytes → IsOwn status
 check_is_own names files status bytes (refused_at name at rule fault named text) = own_specification
 check_is_own names files status bytes (empty none text) = own_done
-check_is_own names files status bytes (scanned tokens all some (inl (small, one, is, text))) = subst IsOwn (sym is) own_done
-check_is_own names files status bytes (scanned tokens all some (inr (none, is, text))) = own_unbuilt status is
+check_is_own names files status bytes (scanned tokens all some faultless (inl (small, one, is, text))) = subst IsOwn (sym is) own_done
+check_is_own names files status bytes (scanned tokens all some faultless (inr (none, is, text))) = own_unbuilt status is
 
 gives_own : (command : Command) (files : List (List ℕ)) (status : Status) (bytes : List ℕ) → Gives command files status bytes → IsOwn status
 gives_own (Il names) (file ∷ []) status bytes gives = il_is_own file status bytes gives

@@ -1,5 +1,8 @@
 -- What a check says of the files of a specification.
 use Rattle.std.specs.Prelude.{◌≡◌, ◌≢◌, ℕ, suc, List, [], ◌∷◌, ◌++◌, length, take, Some, slice_get, ⊤, ◌⊎◌}
+use Rattle.st_faults.specs.Faults as syntax
+use Rattle.st_faults.specs.Faults.{Faultless}
+use Rattle.st_faults.specs.Place.{place_at}
 use Rattle.st_il.specs.declared.small.Small.{Small}
 use Rattle.st_il.specs.Small.{il_of}
 use Rattle.st_num.specs.declared.rule.RuleId.{RuleId}
@@ -21,7 +24,7 @@ AllTokens number (file ∷ files) tokens =
     (first later : List Token) × Tokens number file first × AllTokens (suc number) files later × (tokens ≡ first ++ later)
 
 -- The files before this one have tokens, and this one has none: its first fault stands there.
-pub record IsSourceFault (files : List (List ℕ)) (at : Span) (rule : RuleId) : Type 0 where
+pub record IsTokenFault (files : List (List ℕ)) (at : Span) (rule : RuleId) : Type 0 where
   pub tokens : List Token
   pub before : AllTokens 0 (take at.file files) tokens
   pub file : List ℕ
@@ -29,8 +32,21 @@ pub record IsSourceFault (files : List (List ℕ)) (at : Span) (rule : RuleId) :
   pub fault : FirstFault at.file file at rule
 
 abbrev pub TellsFault : List (List ℕ) → LexFault → Type 0
-TellsFault files (Refused at rule) = IsSourceFault files at rule
+TellsFault files (Refused at rule) = IsTokenFault files at rule
 TellsFault files Memory = ⊤
+
+-- All files have tokens, and not none: the first of them that is refused stands there.
+pub record IsSyntaxFault (files : List (List ℕ)) (at : Span) (rule : RuleId) : Type 0 where
+  pub tokens : List Token
+  pub all : AllTokens 0 files tokens
+  pub some : tokens ≢ []
+  pub number : ℕ
+  pub fault : syntax.FirstFault tokens number rule
+  pub is_at : at ≡ place_at tokens number
+
+-- The first fault of the files stands there.
+abbrev pub IsSourceFault : List (List ℕ) → Span → RuleId → Type 0
+IsSourceFault files at rule = IsTokenFault files at rule ⊎ IsSyntaxFault files at rule
 
 -- the files are one file, which is the text of this small specification
 abbrev pub IsOneSmall : List (List ℕ) → Small → Type 0
@@ -49,4 +65,5 @@ pub data CheckGives (names files : List (List ℕ)) : Status → List ℕ → Ty
       → bytes ≡ refused_source_text name at rule → CheckGives names files answer.Specification bytes
   empty : {bytes : List ℕ} → AllTokens 0 files [] → bytes ≡ definitions_text 0 → CheckGives names files answer.Done bytes
   scanned : {status : Status} {bytes : List ℕ} (tokens : List Token)
-      → AllTokens 0 files tokens → tokens ≢ [] → SmallGives files status bytes → CheckGives names files status bytes
+      → AllTokens 0 files tokens → tokens ≢ [] → Faultless tokens → SmallGives files status bytes
+      → CheckGives names files status bytes

@@ -1,11 +1,12 @@
 -- A verifier on the way through a derivation.
-use Rattle.std.specs.Prelude.{◌≡◌, ◌≢◌, ◌⊎◌, ℕ, true, false, List, [], ◌∷◌, ◌++◌, length, Some, None, MatchOption, Contains, Result, Ok, Err}
+use Rattle.std.specs.Prelude.{◌≡◌, ◌≢◌, ◌⊎◌, ℕ, true, false, List, [], ◌∷◌, ◌++◌, length, Some, None, MatchOption, Result, Ok, Err}
 use Rattle.st_deriv.specs.declared.line.Line.{Line}
 use Rattle.st_deriv.specs.LineText.{LinesText}
 use Rattle.st_il.specs.declared.definition.Il.{Il}
 use Rattle.st_tool.specs.declared.status.Status.{Status}
 use Rattle.st_tool.specs.declared.status.Status.TheVariants as answer
 use Rattle.st_tool.specs.Texts.{accepted_text, refused_text}
+use Rattle.st_tool.specs.Verification.{AreLines}
 use Rattle.st_verify.specs.declared.accepted.Accepted.{Accepted}
 use Rattle.st_verify.specs.declared.fault.VerifyFault.{VerifyFault}
 use Rattle.st_verify.specs.declared.fault.VerifyFault.TheVariants.{Refused, Memory}
@@ -43,13 +44,6 @@ pub record TakenTo (il : Il) (bytes : List ℕ) (checking : Checking) (rest : Li
   pub texts : LinesText lines front
   pub parts : bytes ≡ front ++ rest
   pub taken : HasTaken il lines checking
-
--- the bytes are texts of lines, each ended by a line feed, and more behind them that has no line feed
-pub record AreLines (bytes : List ℕ) (lines : List Line) (rest : List ℕ) : Type 0 where
-  pub front : List ℕ
-  pub texts : LinesText lines front
-  pub rest_has_no_end : Contains rest 10 → ⊥
-  pub parts : bytes ≡ front ++ rest
 
 abbrev pub HasNoLines : List ℕ → Type 0
 HasNoLines bytes = (lines : List Line) (rest : List ℕ) → ¬ (AreLines bytes lines rest)

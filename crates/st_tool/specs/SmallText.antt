@@ -1,10 +1,9 @@
 -- The text of small specifications, line by line.
 use Rattle.std.specs.Prelude.{◌≡◌, ℕ, List, ◌++◌, codes}
 use Rattle.std.specs.List.{flat_map}
-use Rattle.st_il.specs.declared.definition.Il.{Il}
 use Rattle.st_il.specs.declared.small.Small.{Small}
 use Rattle.st_il.specs.declared.small.SmallRule.{SmallRule}
-use Rattle.st_il.specs.Small.{IsSmall, il_of}
+use Rattle.st_il.specs.Small.{IsSmall}
 
 -- the line `syntax x = | A | B ..`
 abbrev pub alternative_text : List ℕ → List ℕ
@@ -29,9 +28,3 @@ text_of s = syntax_line s.syntax s.atoms ++ relation_line s.relation s.syntax ++
 pub record IsTextOf (s : Small) (bytes : List ℕ) : Type 0 where
   pub small : IsSmall s
   pub text : bytes ≡ text_of s
-
--- the bytes are the text of a small specification that means this
-pub record SmallText (bytes : List ℕ) (il : Il) : Type 0 where
-  pub source : Small
-  pub is_text : IsTextOf source bytes
-  pub means : il ≡ il_of source

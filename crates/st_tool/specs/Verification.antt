@@ -14,13 +14,18 @@ use Rattle.st_verify.specs.declared.notes.Notes.{Notes}
 use Rattle.st_verify.specs.Accepts.{ReadsTo, Accepts}
 use Rattle.st_verify.specs.Verdict.{Verdict}
 
--- The texts are those of an internal language and of lines, each line ended by a line feed; behind the last line feed there may be more.
+-- The bytes are texts of lines, each ended by a line feed, and more behind them that has no line
+-- feed.
+pub record AreLines (bytes : List ℕ) (lines : List Line) (rest : List ℕ) : Type 0 where
+  pub front : List ℕ
+  pub texts : LinesText lines front
+  pub rest_has_no_end : Contains rest 10 → ⊥
+  pub parts : bytes ≡ front ++ rest
+
+-- The texts are those of an internal language and of lines, with what stands behind the lines.
 pub record AreTexts (il_bytes derivation : List ℕ) (il : Il) (lines : List Line) (rest : List ℕ) : Type 0 where
   pub language : IlText il il_bytes
-  pub front : List ℕ
-  pub lines_are : LinesText lines front
-  pub rest_has_no_end : Contains rest 10 → ⊥
-  pub parts : derivation ≡ front ++ rest
+  pub lines_are : AreLines derivation lines rest
 
 -- the number of step lines
 abbrev pub steps_in : List Line → ℕ

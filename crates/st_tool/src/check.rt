@@ -1,7 +1,8 @@
 //! The check of a specification: its first fault, or how many definitions it has.
 
-ghost use Rattle.std.specs.Prelude.{◌≡◌, ◌≤◌, ◌++◌, length, All, IfOk, IfErr, OnOk};
-ghost use Rattle.st_tool.specs.Checking.{AllTokens, TellsFault, SmallGives, CheckGives};
+ghost use Rattle.std.specs.Prelude.{◌≡◌, ◌≢◌, ◌≤◌, [], ◌++◌, length, All, IfOk, IfErr, OnOk};
+ghost use Rattle.st_tool.specs.Checking.{AllTokens, TellsFault, SmallGives};
+ghost use Rattle.st_tool.specs.Checking.{CheckGives};
 ghost use Rattle.st_tool.specs.Commands.{source_limit};
 ghost use Rattle.st_tool.specs.Texts.{definitions_text, refused_source_text, rule_id_word};
 
@@ -9,6 +10,7 @@ use crate::Status;
 use crate::answer::{Answer, unbuilt};
 use crate::reader::read_small;
 use itoa::Buffer;
+use st_faults::{first_fault, place_at};
 use st_num::{NoMemory, Row, RuleId, Span};
 use st_scan::{LexFault, Token, scan};
 use st_words::CommandWord;
@@ -126,6 +128,29 @@ fn check_small(alloc: Global, files: &[Row<u8>]) -> Result<Answer, NoMemory>
     }
 }
 
+/// The answer where the tokens of all files are refused, or what is said of the files else.
+fn check_tokens(
+    alloc: Global,
+    names: &[CommandWord],
+    files: &[Row<u8>],
+    tokens: &[Token],
+) -> Result<Answer, NoMemory>
+    requires named { length files.now ≡ length names.now }
+    requires all { AllTokens 0 files.now tokens.now }
+    requires some { tokens.now ≢ [] }
+    ensures { IfOk result (λ answer. CheckGives names.now files.now answer.status
+        answer.bytes.items) }
+{
+    match first_fault(alloc, tokens)? {
+        None => check_small(alloc, files),
+        Some(fault) => {
+            let at = place_at(tokens, fault.place);
+            let file = names[at.file as usize].as_str();
+            refused(alloc, file, at, fault.rule)
+        }
+    }
+}
+
 /// Checks the files of these names.
 pub fn check_files(
     alloc: Global,
@@ -149,6 +174,6 @@ pub fn check_files(
     if tokens.as_slice().is_empty() {
         accepted(alloc, 0)
     } else {
-        check_small(alloc, files)
+        check_tokens(alloc, names, files, tokens.as_slice())
     }
 }

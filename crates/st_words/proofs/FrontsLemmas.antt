@@ -29,19 +29,6 @@ pub arranged-depth : (value : List ℕ) (left : List (List ℕ)) → begins_with
     → arranged (codes "--depth" ∷ value ∷ left) ≡ with_depth value (arranged left)
 arranged-depth value left none = rw none
 
--- an option with no value
-pub arranged-no_fuel : (behind : List (List ℕ))
-    → ((value : List ℕ) (left : List (List ℕ)) → behind ≡ value ∷ left → begins_with_dash value ≡ true)
-    → arranged (codes "--fuel" ∷ behind) ≡ None
-arranged-no_fuel [] none = refl
-arranged-no_fuel (value ∷ left) none = let dash = none value left refl in rw dash
-
-pub arranged-no_depth : (behind : List (List ℕ))
-    → ((value : List ℕ) (left : List (List ℕ)) → behind ≡ value ∷ left → begins_with_dash value ≡ true)
-    → arranged (codes "--depth" ∷ behind) ≡ None
-arranged-no_depth [] none = refl
-arranged-no_depth (value ∷ left) none = let dash = none value left refl in rw dash
-
 -- an option with its value in one word
 pub arranged-fuel_joined : (value : List ℕ) (behind : List (List ℕ))
     → arranged ((codes "--fuel=" ++ value) ∷ behind) ≡ with_fuel value (arranged behind)
@@ -111,11 +98,6 @@ kind word = with_tests (is_dashed word) refl (is_end word) refl (pointwise nat_e
         is_unknown (λ behind. unknown word behind dashed no_end no_fuel no_depth no_fuel_joined no_depth_joined)
 
 -- what is given, then one more word, then the rest
-pub prepended-plain : (given : Arrangement) (word : List ℕ) (rest : Option Arrangement)
-    → prepended (record given { plain = given.plain ++ word ∷ [] }) rest ≡ prepended given (with_plain word rest)
-prepended-plain given word (Some rest) = simp append_assoc
-prepended-plain given word None = refl
-
 pub prepended-fuel : (given : Arrangement) (value : List ℕ) (rest : Option Arrangement)
     → prepended (record given { fuels = given.fuels ++ value ∷ [] }) rest ≡ prepended given (with_fuel value rest)
 prepended-fuel given value (Some rest) = simp append_assoc
