@@ -11,9 +11,9 @@ use Rattle.st_grammar.specs.Places.{State, start, step, finish, reading}
 use Rattle.st_grammar.proofs.PlaceReading.{sound_defs}
 use Rattle.st_grammar.proofs.PlaceEnds.{viable}
 use Rattle.st_grammar.proofs.PlaceComplete.{dead_defs, complete_defs}
-use Rattle.st_parse.specs.Refusal.{lexemes_of, IsSource, IsViable, RefusedAt}
-use Rattle.st_parse.proofs.Exact.{take_shorter}
-use Rattle.st_parse.proofs.Loop.{last_step, one_more, whole_list}
+use Rattle.st_reading.specs.Refusal.{lexemes_of, IsSource, IsViable, RefusedAt}
+use Rattle.st_reading.proofs.Exact.{take_shorter}
+use Rattle.st_reading.proofs.Loop.{last_step, one_more, whole_list}
 use Rattle.st_faults.specs.Faults.{Seen, Verdict, passed, broken, opens_too_many, passes_limit, limited, seen_after, judged, judge, judge_all, verdict, Faultless, FirstFault}
 use Rattle.st_faults.proofs.Verdicts.{judge_next, never_passes, verdict_more, verdict_reads}
 

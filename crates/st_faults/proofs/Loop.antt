@@ -7,13 +7,13 @@ use Rattle.st_scan.specs.declared.token.Token.{Token}
 use Rattle.st_grammar.specs.Lexemes.{lexeme, declared_names}
 use Rattle.st_grammar.specs.Places.{finish}
 use Rattle.st_grammar.proofs.PlaceTexts.{Holds}
-use Rattle.st_parse.specs.declared.place.Lexeme.{Lexeme}
-use Rattle.st_parse.specs.Course as course
-use Rattle.st_parse.specs.Shapes.{lexeme_of}
-use Rattle.st_parse.specs.Readings.{progress_of}
-use Rattle.st_parse.specs.Refusal.{lexemes_of}
-use Rattle.st_parse.proofs.CourseSimulation.{may_end_is, is_some}
-use Rattle.st_parse.proofs.Loop.{holds, found, not_found}
+use Rattle.st_reading.specs.declared.place.Lexeme.{Lexeme}
+use Rattle.st_reading.specs.Course as course
+use Rattle.st_reading.specs.Shapes.{lexeme_of}
+use Rattle.st_reading.specs.Readings.{progress_of}
+use Rattle.st_reading.specs.Refusal.{lexemes_of}
+use Rattle.st_reading.proofs.CourseSimulation.{may_end_is, is_some}
+use Rattle.st_reading.proofs.Loop.{holds, found, not_found}
 use Rattle.st_faults.specs.declared.judge.Seen.{Seen as CodeSeen}
 use Rattle.st_faults.specs.declared.judge.Verdict.{Verdict as Code}
 use Rattle.st_faults.specs.declared.judge.Verdict.TheVariants as code

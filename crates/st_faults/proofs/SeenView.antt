@@ -12,12 +12,12 @@ use Rattle.st_grammar.specs.Reading as part
 use Rattle.st_grammar.specs.Places as spec
 use Rattle.st_grammar.specs.Places.{field_slot, case_slot, var_slot, notation_slot, fun_slot, arg_slot, rule_slot, cond_slot, count_slot, of_syntax, of_field, of_case, of_var, of_relation, of_notation, of_fun, between, syntax_name, var_name, var_colon, relation_name, rule_name, rule_colon, fun_name, fun_named, argued, args_closed, syntax_id, rule_id, hinted, hint_open, hint_name, hint_words, entering, dotted, field_name, premised, premise_open, goal_colon, iterated}
 use Rattle.st_grammar.proofs.PlaceTexts as texts
-use Rattle.st_parse.specs.Outline as out
-use Rattle.st_parse.specs.Course as course
-use Rattle.st_parse.specs.Shapes.{shape, lexeme_of}
-use Rattle.st_parse.proofs.View.{part_of, kind_of, frames_of, part_type, top_sort}
-use Rattle.st_parse.proofs.CourseView.{course_of, slot_sort_is}
-use Rattle.st_parse.proofs.CourseSimulation.{step_is}
+use Rattle.st_reading.specs.Outline as out
+use Rattle.st_reading.specs.Course as course
+use Rattle.st_reading.specs.Shapes.{shape, lexeme_of}
+use Rattle.st_reading.proofs.View.{part_of, kind_of, frames_of, part_type, top_sort}
+use Rattle.st_reading.proofs.CourseView.{course_of, slot_sort_is}
+use Rattle.st_reading.proofs.CourseSimulation.{step_is}
 use Rattle.st_faults.specs.LeftOut.{is_type_in, type_or_other, before_next}
 use Rattle.st_faults.specs.Nesting as nest
 use Rattle.st_faults.specs.Counts as counts

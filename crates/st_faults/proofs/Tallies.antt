@@ -10,8 +10,8 @@ use Rattle.st_grammar.specs.Levels.{takes, encloses, computes, is_count, has_lev
 use Rattle.st_grammar.specs.Trees.{Tree, operand, bracket, ahead, none, more, plain, length, arguments, index, segment, update, below}
 use Rattle.st_grammar.specs.Reading.{Frames, bottom, within, over, timing, State, want, indexing, sort, least, settle, opened, begin_opening, begin}
 use Rattle.st_grammar.proofs.Sound.{Stand}
-use Rattle.st_parse.specs.Shapes.{shape}
-use Rattle.st_parse.proofs.View.{state_of}
+use Rattle.st_reading.specs.Shapes.{shape}
+use Rattle.st_reading.proofs.View.{state_of}
 use Rattle.st_faults.specs.declared.deed.Stance.{Stance}
 use Rattle.st_faults.specs.declared.deed.Stance.TheVariants as stance
 use Rattle.st_faults.specs.declared.deed.Deed.TheVariants as deed

@@ -16,10 +16,10 @@ use Rattle.st_grammar.specs.Trees.{Tree, operand, post, times, bracket, led, Lea
 use Rattle.st_grammar.specs.Grammar.{style, is_label, follows, may_post, level, size}
 use Rattle.st_grammar.specs.Reading.{Frames, bottom, within, over, timing, State, want, got, naming, pathed, indexing, comparing, sort, least, settle, reach, lower, shut, close, next_part, begin, extend, separate, join, pull, behind_sign, behind_square, behind_round, behind, after, in_path, name_field, name_index, bound_index, step}
 use Rattle.st_grammar.proofs.Sound.{Stand, base, state_base, Holds}
-use Rattle.st_parse.specs.Outline as out
-use Rattle.st_parse.specs.Shapes.{shape}
-use Rattle.st_parse.proofs.View.{part_of, state_of, top_sort}
-use Rattle.st_parse.proofs.Simulation.{follows_is}
+use Rattle.st_reading.specs.Outline as out
+use Rattle.st_reading.specs.Shapes.{shape}
+use Rattle.st_reading.proofs.View.{part_of, state_of, top_sort}
+use Rattle.st_reading.proofs.Simulation.{follows_is}
 use Rattle.st_faults.specs.declared.deed.Stance.{Stance}
 use Rattle.st_faults.specs.declared.deed.Stance.TheVariants as stance
 use Rattle.st_faults.specs.declared.deed.Deed.TheVariants as deed

@@ -6,7 +6,7 @@ use Rattle.st_num.specs.declared.rule.RuleId.TheVariants.{S2, S3}
 use Rattle.st_scan.specs.declared.token.Token.{Token}
 use Rattle.st_grammar.specs.Lexemes.{lexeme, declared_names}
 use Rattle.st_grammar.specs.Places.{State, start, step, reading}
-use Rattle.st_parse.specs.Refusal.{lexemes_of}
+use Rattle.st_reading.specs.Refusal.{lexemes_of}
 use Rattle.st_faults.specs.Faults.{Seen, Verdict, passed, broken, opens_too_many, passes_limit, limited, seen_after, refusal, judged, judge, judge_all, verdict}
 
 pub stays_broken : (names : List (List ℕ)) (r : RuleId) (xs : List Token) → judge_all names (broken r) xs ≡ broken r

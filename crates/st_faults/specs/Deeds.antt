@@ -3,16 +3,16 @@ use Rattle.std.specs.Prelude.{ℕ, ◌+◌, ◌≤◌, List, [], ◌∷◌, Bool
 use Rattle.st_grammar.specs.declared.sort.Bracket.TheVariants as bracket
 use Rattle.st_grammar.specs.declared.sort.Closing.TheVariants as closing
 use Rattle.st_grammar.specs.declared.sort.Sort.{Sort}
-use Rattle.st_parse.specs.declared.outline.Shape.{Shape}
-use Rattle.st_parse.specs.declared.outline.Shape.TheVariants.{Single, Dot, Sign, Open, Close}
-use Rattle.st_parse.specs.declared.outline.Lead.TheVariants.{Left}
-use Rattle.st_parse.specs.declared.outline.Frame.{Frame}
-use Rattle.st_parse.specs.declared.outline.Frame.TheVariants.{Over, Timing}
-use Rattle.st_parse.specs.declared.outline.Due.TheVariants.{Operand, Next, Label, Step}
-use Rattle.st_parse.specs.declared.place.Slot.{Slot}
-use Rattle.st_parse.specs.declared.place.Slot.TheVariants as slot
-use Rattle.st_parse.specs.Outline as out
-use Rattle.st_parse.specs.Course as course
+use Rattle.st_reading.specs.declared.outline.Shape.{Shape}
+use Rattle.st_reading.specs.declared.outline.Shape.TheVariants.{Single, Dot, Sign, Open, Close}
+use Rattle.st_reading.specs.declared.outline.Lead.TheVariants.{Left}
+use Rattle.st_reading.specs.declared.outline.Frame.{Frame}
+use Rattle.st_reading.specs.declared.outline.Frame.TheVariants.{Over, Timing}
+use Rattle.st_reading.specs.declared.outline.Due.TheVariants.{Operand, Next, Label, Step}
+use Rattle.st_reading.specs.declared.place.Slot.{Slot}
+use Rattle.st_reading.specs.declared.place.Slot.TheVariants as slot
+use Rattle.st_reading.specs.Outline as out
+use Rattle.st_reading.specs.Course as course
 use Rattle.st_faults.specs.declared.deed.Stance.{Stance}
 use Rattle.st_faults.specs.declared.deed.Stance.TheVariants as stance
 use Rattle.st_faults.specs.declared.deed.Deed.{Deed}

@@ -8,24 +8,24 @@ use Rattle.st_grammar.specs.declared.sort.Closing.TheVariants as closing
 use Rattle.st_grammar.specs.declared.sort.Bracket.{Bracket}
 use Rattle.st_grammar.specs.declared.sort.Sort.{Sort}
 use Rattle.st_grammar.specs.declared.sort.Sort.TheVariants as sort
-use Rattle.st_parse.specs.declared.outline.Shape.{Shape}
-use Rattle.st_parse.specs.declared.outline.Shape.TheVariants.{Open, Close}
-use Rattle.st_parse.specs.declared.outline.Part.{Part}
-use Rattle.st_parse.specs.declared.outline.Kind.{Kind}
-use Rattle.st_parse.specs.declared.outline.Kind.TheVariants.{Length}
-use Rattle.st_parse.specs.declared.outline.Frame.{Frame}
-use Rattle.st_parse.specs.declared.outline.Frame.TheVariants.{Within}
-use Rattle.st_parse.specs.declared.outline.Due.TheVariants.{Next}
-use Rattle.st_parse.specs.declared.place.Place.{Place}
-use Rattle.st_parse.specs.declared.place.Place.TheVariants as place
-use Rattle.st_parse.specs.declared.place.Host.TheVariants as host
-use Rattle.st_parse.specs.declared.place.Slot.{Slot}
-use Rattle.st_parse.specs.declared.place.Slot.TheVariants as slot
-use Rattle.st_parse.specs.declared.place.Marks.TheVariants as marks
-use Rattle.st_parse.specs.declared.place.Lexeme.{Lexeme}
-use Rattle.st_parse.specs.Readings.{progress_of}
-use Rattle.st_parse.specs.Outline as out
-use Rattle.st_parse.specs.Course as course
+use Rattle.st_reading.specs.declared.outline.Shape.{Shape}
+use Rattle.st_reading.specs.declared.outline.Shape.TheVariants.{Open, Close}
+use Rattle.st_reading.specs.declared.outline.Part.{Part}
+use Rattle.st_reading.specs.declared.outline.Kind.{Kind}
+use Rattle.st_reading.specs.declared.outline.Kind.TheVariants.{Length}
+use Rattle.st_reading.specs.declared.outline.Frame.{Frame}
+use Rattle.st_reading.specs.declared.outline.Frame.TheVariants.{Within}
+use Rattle.st_reading.specs.declared.outline.Due.TheVariants.{Next}
+use Rattle.st_reading.specs.declared.place.Place.{Place}
+use Rattle.st_reading.specs.declared.place.Place.TheVariants as place
+use Rattle.st_reading.specs.declared.place.Host.TheVariants as host
+use Rattle.st_reading.specs.declared.place.Slot.{Slot}
+use Rattle.st_reading.specs.declared.place.Slot.TheVariants as slot
+use Rattle.st_reading.specs.declared.place.Marks.TheVariants as marks
+use Rattle.st_reading.specs.declared.place.Lexeme.{Lexeme}
+use Rattle.st_reading.specs.Readings.{progress_of}
+use Rattle.st_reading.specs.Outline as out
+use Rattle.st_reading.specs.Course as course
 use Rattle.st_faults.specs.declared.before.Before.{Before}
 use Rattle.st_faults.specs.declared.before.Before.TheVariants as before
 use Rattle.st_faults.specs.declared.judge.Seen.{Seen as CodeSeen}

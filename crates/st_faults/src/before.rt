@@ -3,11 +3,11 @@
 ghost use Rattle.std.specs.Prelude.{◌≡◌, reverse};
 ghost use Rattle.st_faults.specs.LeftOut as spec;
 ghost use Rattle.st_faults.specs.Seen as seen;
-ghost use Rattle.st_parse.specs.Readings.{progress_of, reading_of};
+ghost use Rattle.st_reading.specs.Readings.{progress_of, reading_of};
 
 use st_grammar::{Bracket, Sort};
 use st_num::{Mark, Row};
-use st_parse::{At, Due, Host, Part, Place, Progress, Reading, Slot, slot_sort, top};
+use st_reading::{At, Due, Host, Part, Place, Progress, Reading, Slot, slot_sort, top};
 use st_scan::{TokenKind, Word};
 
 /// What ends directly before a token.

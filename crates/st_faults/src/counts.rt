@@ -4,12 +4,12 @@ ghost use Rattle.std.specs.Prelude as Prelude;
 ghost use Rattle.std.specs.Prelude.{◌≡◌, reverse};
 ghost use Rattle.st_faults.specs.Counts as spec;
 ghost use Rattle.st_faults.specs.Seen as seen;
-ghost use Rattle.st_parse.specs.Readings.{progress_of, reading_of};
+ghost use Rattle.st_reading.specs.Readings.{progress_of, reading_of};
 
 use crate::deed::none_open;
 use st_grammar::Bracket;
 use st_num::Row;
-use st_parse::{Marks, Place, Progress, Reading, Slot};
+use st_reading::{Marks, Place, Progress, Reading, Slot};
 
 /// What a token begins between parts.
 #[derive(Clone, Copy, Debug, PartialEq, Eq)]

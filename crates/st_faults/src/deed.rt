@@ -2,11 +2,11 @@
 
 ghost use Rattle.std.specs.Prelude.{◌≡◌, reverse};
 ghost use Rattle.st_faults.specs.Deeds as deeds;
-ghost use Rattle.st_parse.specs.Readings.{progress_of, reading_of};
+ghost use Rattle.st_reading.specs.Readings.{progress_of, reading_of};
 
 use st_grammar::{Bracket, Closing, Sort};
 use st_num::{Mark, Row};
-use st_parse::{Due, Frame, Lead, Progress, Reading, Shape, follows, slot_sort, top};
+use st_reading::{Due, Frame, Lead, Progress, Reading, Shape, follows, slot_sort, top};
 
 /// How a token stands in a part.
 #[derive(Clone, Copy, Debug, PartialEq, Eq)]

@@ -2,7 +2,7 @@
 
 ghost use Rattle.std.specs.Prelude.{◌≡◌, ◌≤◌, IfOk};
 ghost use Rattle.st_faults.specs.Seen as spec;
-ghost use Rattle.st_parse.specs.Readings.{progress_of};
+ghost use Rattle.st_reading.specs.Readings.{progress_of};
 
 use crate::before::{Before, left_out, stands_before};
 use crate::counts::{Counts, counts_after, counts_pass, event_of, member_due};
@@ -10,7 +10,7 @@ use crate::deed::stance_of;
 use crate::nesting::{NESTING_LIMIT, bars, may_open, nesting_after};
 use crate::tally::{Tally, any_passes, single, tallies_after};
 use st_num::{NoMemory, Row, RuleId};
-use st_parse::{At, Lexeme, Place, Progress, Shape, advance};
+use st_reading::{At, Lexeme, Place, Progress, Shape, advance};
 use st_scan::TokenKind;
 use std::alloc::Global;
 

@@ -4,7 +4,7 @@ ghost use Rattle.std.specs.Prelude.{◌≡◌, ◌≤◌, List, ℕ};
 ghost use Rattle.st_num.specs.declared.rule.RuleId.{RuleId};
 ghost use Rattle.st_num.specs.declared.rule.RuleId.TheVariants.{S1, S4};
 ghost use Rattle.st_scan.specs.declared.token.Token.{Token};
-ghost use Rattle.st_parse.specs.Refusal.{IsSource, RefusedAt};
+ghost use Rattle.st_reading.specs.Refusal.{IsSource, RefusedAt};
 ghost use Rattle.st_faults.specs.Faults.{Faultless, FirstFault};
 
 /// Tokens have at most one first fault, and none where they are faultless.

@@ -3,10 +3,10 @@
 ghost use Rattle.std.specs.Prelude as Prelude;
 ghost use Rattle.std.specs.Prelude.{◌≡◌, ◌≤◌, reverse};
 ghost use Rattle.st_faults.specs.Seen as seen;
-ghost use Rattle.st_parse.specs.Readings.{progress_of};
+ghost use Rattle.st_reading.specs.Readings.{progress_of};
 
 use st_grammar::Closing;
-use st_parse::{Frame, Kind, Progress, Shape};
+use st_reading::{Frame, Kind, Progress, Shape};
 
 /// The most brackets and bars of lengths that are open at once.
 pub(crate) const NESTING_LIMIT: usize = 100;

@@ -7,7 +7,7 @@ ghost use Rattle.st_faults.specs.Faults.{Faultless, FirstFault};
 use crate::fault::Fault;
 use crate::judge::{Verdict, judge, nothing_seen};
 use st_num::{Name, NoMemory, RuleId};
-use st_parse::{declared_names, may_end, token_lexeme};
+use st_reading::{declared_names, may_end, token_lexeme};
 use st_scan::Token;
 use std::alloc::Global;
 

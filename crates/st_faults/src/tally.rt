@@ -5,11 +5,11 @@ ghost use Rattle.std.specs.Prelude.{◌≡◌, ◌∷◌, [], IfOk, reverse};
 ghost use Rattle.std.specs.List.{AllByRecursion, list_any};
 ghost use Rattle.st_faults.specs.Limits as limits;
 ghost use Rattle.st_faults.specs.Deeds as deeds;
-ghost use Rattle.st_parse.specs.Readings.{progress_of, reading_of};
+ghost use Rattle.st_reading.specs.Readings.{progress_of, reading_of};
 
 use crate::deed::{Deed, Shift, Stance, deed_of, none_open, shift_of};
 use st_num::{NoMemory, Row};
-use st_parse::{Progress, Reading, Shape, Slot};
+use st_reading::{Progress, Reading, Shape, Slot};
 use std::alloc::Global;
 
 /// The counts between the same brackets, or bars, so far.

@@ -68,15 +68,15 @@ rule_parsed (clause_head ds w r a c) t ps us f g k e =
     spelled : defs_text ds ++ (w ∷ r ∷ (args_text a ++ (c ∷ (text t ++ premises_text ps)))) ≡ (defs_text ds ++ (w ∷ r ∷ (args_text a ++ c ∷ []))) ++ (text t ++ premises_text ps)
     spelled = simp append_assoc
 
-pub host_parsed : (h : Host) (hs : Hints) → HostFits h → HintsFit hs → ParsedAs (host_text h ++ hints_text hs) (host_whole h hs)
-host_parsed (of_syntax ds w x ls) hs f g = tt
-host_parsed (of_field h o ms pre t) hs f g = tt
-host_parsed (of_case h ms pre t) hs f g =
+pub host_readingd : (h : Host) (hs : Hints) → HostFits h → HintsFit hs → ParsedAs (host_text h ++ hints_text hs) (host_whole h hs)
+host_readingd (of_syntax ds w x ls) hs f g = tt
+host_readingd (of_field h o ms pre t) hs f g = tt
+host_readingd (of_case h ms pre t) hs f g =
     syntax_parsed h (cases (member ms pre t hs) []) (host_text (of_case h ms pre t) ++ hints_text hs) f.0 ((f.1, f.2, f.3, g), refl, tt) (simp (append_assoc, append-nil))
-host_parsed (of_var ds w x c t) hs f g = parsed _ _ (f.0, (f.1, f.2, f.3, f.4, g)) (simp append_assoc)
-host_parsed (of_relation ds w r) hs f g = tt
-host_parsed (of_notation ds w r hs c t) ks f g = parsed _ _ (f.0, (f.1, f.2, f.3, f.4, f.5, g)) (simp append_assoc)
-host_parsed (of_fun ds w k a c t) hs f g = parsed _ _ (f.0, (f.1, f.2, f.3, f.4, f.5, g)) (simp append_assoc)
+host_readingd (of_var ds w x c t) hs f g = parsed _ _ (f.0, (f.1, f.2, f.3, f.4, g)) (simp append_assoc)
+host_readingd (of_relation ds w r) hs f g = tt
+host_readingd (of_notation ds w r hs c t) ks f g = parsed _ _ (f.0, (f.1, f.2, f.3, f.4, f.5, g)) (simp append_assoc)
+host_readingd (of_fun ds w k a c t) hs f g = parsed _ _ (f.0, (f.1, f.2, f.3, f.4, f.5, g)) (simp append_assoc)
 
 pub is_same : (a b : ℕ) → a == b ≡ true → a ≡ b
 is_same a b e = grind arith
@@ -102,7 +102,7 @@ premise_spelled r t ps p = simp append_assoc
 
 pub wholes : (p : Place) → PlaceHolds p → ParsedAs (place_text p) (whole p)
 wholes (between ds) h = parsed ds (defs_text ds) h refl
-wholes (hinted k hs) h = host_parsed k hs h.0 h.1
+wholes (hinted k hs) h = host_readingd k hs h.0 h.1
 wholes (premised r t ps) h = rule_parsed r t ps (ruled_text r t ps) h.0 h.1 h.2 refl
 wholes (iterated r t ps d os ls u i) f = go (is_whole os i) refl
   where
