@@ -2,3 +2,4 @@ mod Lists
 mod Nodes
 mod Shortest
 mod Unique
+mod Variables
