@@ -6,3 +6,5 @@ pub mod NotationBuilds
 pub mod NotationTallness
 pub mod NotationGrowth
 pub mod NotationStops
+pub mod EmissionEnds
+pub mod Emission

@@ -83,7 +83,7 @@ mutual
 -- ---- what a notation is built as
 
 -- a type is a hole of that type
-type_hole : (t : Tree) → is_type t ≡ true → hole (typ_meaning t) ≡ notation_meaning t
+pub type_hole : (t : Tree) → is_type t ≡ true → hole (typ_meaning t) ≡ notation_meaning t
 type_hole (operand low x) h = refl
 type_hole (operand basic x) h = refl
 type_hole (operand variable x) h = no h

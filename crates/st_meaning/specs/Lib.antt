@@ -3,6 +3,7 @@ pub mod Meaning
 pub mod Notations
 pub mod Definitions
 pub mod Actions
+pub mod Emission
 pub mod Building
 pub mod Heights
 pub mod Pieces

@@ -91,7 +91,7 @@ pub(crate) fn iterated(alloc: Global, exp: Exp, count: Count) -> Result<Exp, NoM
 }
 
 /// What a mark counts.
-pub(crate) fn mark_count(mark: Mark) -> Count
+pub fn mark_count(mark: Mark) -> Count
     ensures { result ≡ meaning.mark_count mark }
 {
     match mark {
