@@ -3,3 +3,8 @@ pub mod Tallness
 pub mod Growth
 pub mod Stops
 pub mod NotationBuilds
+pub mod NotationTallness
+pub mod NotationGrowth
+pub mod NotationStops
+pub mod EmissionEnds
+pub mod Emission

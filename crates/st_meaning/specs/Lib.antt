@@ -3,8 +3,10 @@ pub mod Meaning
 pub mod Notations
 pub mod Definitions
 pub mod Actions
+pub mod Emission
 pub mod Building
 pub mod Heights
 pub mod Pieces
 pub mod Answers
 pub mod NotationBuilding
+pub mod NotationAnswers

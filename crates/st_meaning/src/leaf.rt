@@ -25,7 +25,7 @@ pub(crate) fn name_of(kind: &TokenKind) -> &[u8]
 }
 
 /// A copy of that name.
-pub(crate) fn copy_name(alloc: Global, kind: &TokenKind) -> Result<Name, NoMemory>
+pub fn copy_name(alloc: Global, kind: &TokenKind) -> Result<Name, NoMemory>
     ensures { IfOk result (λ name. name ≡ name_of kind.now) }
 {
     Name::from_slice(alloc, name_of(kind))

@@ -16,7 +16,12 @@ mod laws;
 mod leaf;
 mod list;
 mod make;
+mod notation_builder;
+mod notation_entry;
+mod notation_form;
+mod notation_make;
 mod notation_piece;
+mod notation_pieces;
 mod path;
 mod piece;
 mod pieces;
@@ -24,6 +29,12 @@ mod pieces;
 pub use action::{Action, TokenRef};
 pub use builder::build;
 pub use fault::BuildFault;
-pub use laws::{notations_are_built, one_source, parts_are_built, types_are_built};
+pub use form::mark_count;
+pub use laws::{
+    emissions_build, notations_are_built, one_source, parts_are_built, readings_emit,
+    types_are_built,
+};
+pub use leaf::copy_name;
+pub use notation_builder::{build_notation, build_typ};
 pub use notation_piece::NotationPiece;
 pub use piece::Piece;

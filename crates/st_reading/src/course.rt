@@ -361,7 +361,7 @@ fn own(
 }
 
 /// Takes one more token at a place, if it may stand there.
-fn place_step(
+pub fn place_step(
     alloc: Global,
     place: Place,
     lexeme: Lexeme,

@@ -23,11 +23,13 @@ mod table;
 mod tests;
 mod token;
 
-pub use course::{advance, may_end};
+pub use course::{advance, may_end, place_step};
 pub use frame::{follows, top};
 pub use laws::refused_once;
 pub use lexeme::{declared_names, token_lexeme};
 pub use outline::{Due, Filling, Frame, Kind, Lead, Part, Reading, Shape};
 pub use place::{At, CaseAt, Host, Lexeme, Marks, Place, Progress, Slot};
-pub use progress::slot_sort;
+pub use progress::{filled, slot_sort};
 pub use reader::first_refused;
+pub use step::{finish as part_end, step as part_step};
+pub use token::opens_round;

@@ -88,7 +88,7 @@ pub(crate) fn start_of(alloc: Global, slot: Slot, brackets: Row<Bracket>) -> Pro
 }
 
 /// Where a part that is read leads to.
-pub(crate) fn filled(slot: Slot, part: Part) -> Place
+pub fn filled(slot: Slot, part: Part) -> Place
     ensures { result ≡ course.filled slot part }
 {
     match slot {

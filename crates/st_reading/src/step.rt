@@ -269,7 +269,7 @@ fn bound_index(base: Sort, frames: Row<Frame>, shape: Shape) -> Result<Option<Re
 }
 
 /// Takes one more token of a part, if it may stand there.
-pub(crate) fn step(base: Sort, reading: Reading, shape: Shape) -> Result<Option<Reading>, NoMemory>
+pub fn step(base: Sort, reading: Reading, shape: Shape) -> Result<Option<Reading>, NoMemory>
     ensures { IfOk result (λ next.
         option_map reading_of next ≡ out.step base (reading_of reading) shape) }
 {
@@ -285,7 +285,7 @@ pub(crate) fn step(base: Sort, reading: Reading, shape: Shape) -> Result<Option<
 }
 
 /// The part, where it may end here.
-pub(crate) fn finish(reading: &Reading) -> Option<Part>
+pub fn finish(reading: &Reading) -> Option<Part>
     ensures { result ≡ out.finish (reading_of reading.now) }
 {
     match reading.due {

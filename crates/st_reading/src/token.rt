@@ -160,7 +160,8 @@ pub(crate) fn closes_brace(lexeme: Lexeme) -> bool
     shape_closes(Closing::ByBrace, lexeme.shape)
 }
 
-pub(crate) fn opens_round(lexeme: Lexeme) -> bool
+/// Whether it opens parentheses.
+pub fn opens_round(lexeme: Lexeme) -> bool
     ensures { result ≡ course.opens_round lexeme }
 {
     matches!(lexeme.shape, Shape::Open(Bracket::Round, _))
