@@ -1,12 +1,12 @@
 //! What the name of a syntax stands for.
 
-ghost use Rattle.std.specs.Prelude.{◌≡◌, List, ℕ, MatchOption};
+ghost use Rattle.std.specs.Prelude.{◌≡◌, List, ℕ, MatchOption, is_some};
 ghost use Rattle.std.specs.Option.{option_copied};
 ghost use Rattle.st_il.specs.declared.ty.Ty.{Ty};
 ghost use Rattle.st_types.specs.declared.entry.CaseDef.{CaseDef};
 ghost use Rattle.st_types.specs.Meaning.{body_of, named, alias_of, Means};
 ghost use Rattle.st_types.specs.Cases.{HasCases, HasFields};
-ghost use Rattle.st_types.specs.Kept.{defs_of, entry_named, IsKept};
+ghost use Rattle.st_types.specs.Kept.{defs_of, entry_of, entry_named, IsKept};
 
 use crate::entry::{CaseDef, Entries, Entry};
 use st_il::{SyntaxBody, Ty};
@@ -80,5 +80,22 @@ pub(crate) fn fields_of<'a>(entries: &'a Entries, ty: &Ty) -> Option<&'a [(Name,
             SyntaxBody::Variant(_) => None,
         },
         None => None,
+    }
+}
+
+/// The entry of the syntax of this name.
+fn entry_of<'a>(entries: &'a Entries, name: &Name) -> Option<&'a Entry>
+    ensures { option_copied result ≡ entry_of entries.now.entries name.now }
+{
+    entries.get(name)
+}
+
+/// Whether a syntax has this name.
+pub(crate) fn is_declared(entries: &Entries, name: &Name) -> bool
+    ensures { result ≡ is_some (body_of (defs_of entries.now.entries) name.now) }
+{
+    match entry_of(entries, name) {
+        Some(_) => true,
+        None => false,
     }
 }

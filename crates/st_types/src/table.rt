@@ -4,7 +4,7 @@ use crate::build::{are_few, entries_of};
 use crate::entry::{CaseDef, Entries};
 use crate::fault::TypeFault;
 use crate::joining::joins;
-use crate::meaning::{cases_of, fields_of, meaning_of};
+use crate::meaning::{cases_of, fields_of, is_declared, meaning_of};
 use crate::sub::{is_sub, same};
 use crate::typing::has_type;
 use st_il::{SyntaxDef, Ty, Value};
@@ -37,12 +37,12 @@ impl Model for TypeTable {
 }
 
 impl TypeTable {
-    ghost use Rattle.std.specs.Prelude.{◌≡◌, ◌↔◌, ◌<◌, ◌^◌, IsTrue, IfSome, IfNone, IfOk, OnOk, Err, List, ℕ, length};
+    ghost use Rattle.std.specs.Prelude.{◌≡◌, ◌↔◌, ◌<◌, ◌^◌, IsTrue, IfSome, IfNone, IfOk, OnOk, Err, List, ℕ, length, is_some};
     ghost use Rattle.st_num.specs.declared.rule.RuleId.{RuleId};
     ghost use Rattle.st_types.specs.Breach.{IsSound, FirstBreach, AllHaveFewParts};
     ghost use Rattle.st_il.specs.declared.ty.Ty.{Ty};
     ghost use Rattle.st_types.specs.declared.entry.CaseDef.{CaseDef};
-    ghost use Rattle.st_types.specs.Meaning.{Means};
+    ghost use Rattle.st_types.specs.Meaning.{Means, body_of};
     ghost use Rattle.st_types.specs.Cases.{HasCases, HasFields};
     ghost use Rattle.st_types.specs.Joins.{Joins};
     ghost use Rattle.st_types.specs.HasType.{HasType};
@@ -70,6 +70,13 @@ impl TypeTable {
             Ok(entries) => Ok(TypeTable { entries }),
             Err(fault) => Err(fault),
         }
+    }
+
+    /// Whether a syntax has this name.
+    pub fn declares(&self, name: &Name) -> bool
+        ensures { result ≡ is_some (body_of self.now name.now) }
+    {
+        is_declared(&self.entries, name)
     }
 
     /// Whether the value has the type.
