@@ -2,12 +2,11 @@
 
 ghost use Rattle.std.specs.Prelude.{◌≡◌, [], ◌∷◌, map, IfOk};
 ghost use Rattle.st_erase.specs.Places.{whole, count};
-ghost use Rattle.st_el.specs.declared.expression.Node.TheVariants as node;
-ghost use Rattle.st_erase.specs.Erasure.{one, source, list_of, case_by, plain_form, binary, operation, erased, erased_iteration, erased_item, erased_segment};
+ghost use Rattle.st_erase.specs.Erasure.{one, source, list_of, case_by, erased, erased_iteration, erased_item, erased_segment};
 ghost use Rattle.st_erase.specs.Tags.{template_of};
 
 use crate::filling::filled;
-use crate::form::{absent, arithmetic, lifted, plain_form, unplaced};
+use crate::form::{absent, arithmetic, binary, lifted, operation, plain_form, unplaced};
 use crate::record::record;
 use crate::template::template_of;
 use crate::{Erased, Kind};
@@ -29,182 +28,134 @@ impl<'a> Eraser<'a> {
     pub fn erased(&self, exp: &IlExp) -> Result<Erased, NoMemory>
         ensures { IfOk result (λ found. found ≡ erased self.now.defs.now exp.now) }
     {
+        let alloc = self.alloc;
         match exp {
             IlExp::Bool(truth) => Ok(plain_form(Node::Bool(*truth))),
             IlExp::Number(number) => Ok(plain_form(Node::Number(*number))),
-            IlExp::Text(text) => self.text(text),
-            IlExp::Var(name) => self.variable(name),
+            IlExp::Text(text) => Ok(plain_form(Node::Text(text.copy(alloc)?))),
+            IlExp::Var(name) => Ok(plain_form(Node::Name(name.copy(alloc)?))),
             IlExp::Not(inner) => Ok(plain_form(Node::Not(self.side(inner)?))),
-            IlExp::And(left, right) => self.binary(left, Mark::And, right),
-            IlExp::Or(left, right) => self.binary(left, Mark::Or, right),
-            IlExp::Imp(left, right) => self.binary(left, Mark::Implies, right),
-            IlExp::Iff(left, right) => self.binary(left, Mark::Equivalent, right),
+            IlExp::And(left, right) => Ok(binary(self.side(left)?, Mark::And, self.side(right)?)),
+            IlExp::Or(left, right) => Ok(binary(self.side(left)?, Mark::Or, self.side(right)?)),
+            IlExp::Imp(left, right) => Ok(binary(
+                self.side(left)?,
+                Mark::Implies,
+                self.side(right)?,
+            )),
+            IlExp::Iff(left, right) => Ok(binary(
+                self.side(left)?,
+                Mark::Equivalent,
+                self.side(right)?,
+            )),
             IlExp::Neg(inner) => Ok(arithmetic(Node::Neg(self.operand(inner)?))),
-            IlExp::Add(_, left, right) => self.operation(left, Mark::Plus, right),
-            IlExp::Sub(_, left, right) => self.operation(left, Mark::Minus, right),
-            IlExp::Mul(_, left, right) => self.operation(left, Mark::Star, right),
-            IlExp::Div(_, left, right) => self.operation(left, Mark::Slash, right),
-            IlExp::Rem(_, left, right) => self.operation(left, Mark::Backslash, right),
-            IlExp::Pow(_, left, right) => self.operation(left, Mark::Caret, right),
-            IlExp::Eq(left, right) => self.binary(left, Mark::Equal, right),
-            IlExp::Ne(left, right) => self.binary(left, Mark::NotEqual, right),
-            IlExp::Lt(left, right) => self.binary(left, Mark::Less, right),
-            IlExp::Gt(left, right) => self.binary(left, Mark::Greater, right),
-            IlExp::Le(left, right) => self.binary(left, Mark::LessOrEqual, right),
-            IlExp::Ge(left, right) => self.binary(left, Mark::GreaterOrEqual, right),
-            IlExp::Member(left, right) => self.binary(left, Mark::ElementOf, right),
-            IlExp::Case(_, tag, exps) => case(self.alloc, tag, self.all(exps)?),
-            IlExp::Fields(ty, exps) => record(self.alloc, self.defs, ty, self.all(exps)?),
-            IlExp::Dot(value, field) => self.dot(value, field),
-            IlExp::Set(value, path, part) => self.update(value, path, part),
-            IlExp::Extend(value, path, part) => self.extension(value, path, part),
+            IlExp::Add(_, left, right) => Ok(operation(
+                self.operand(left)?,
+                Mark::Plus,
+                self.operand(right)?,
+            )),
+            IlExp::Sub(_, left, right) => Ok(operation(
+                self.operand(left)?,
+                Mark::Minus,
+                self.operand(right)?,
+            )),
+            IlExp::Mul(_, left, right) => Ok(operation(
+                self.operand(left)?,
+                Mark::Star,
+                self.operand(right)?,
+            )),
+            IlExp::Div(_, left, right) => Ok(operation(
+                self.operand(left)?,
+                Mark::Slash,
+                self.operand(right)?,
+            )),
+            IlExp::Rem(_, left, right) => Ok(operation(
+                self.operand(left)?,
+                Mark::Backslash,
+                self.operand(right)?,
+            )),
+            IlExp::Pow(_, left, right) => Ok(operation(
+                self.operand(left)?,
+                Mark::Caret,
+                self.operand(right)?,
+            )),
+            IlExp::Eq(left, right) => Ok(binary(self.side(left)?, Mark::Equal, self.side(right)?)),
+            IlExp::Ne(left, right) => Ok(binary(
+                self.side(left)?,
+                Mark::NotEqual,
+                self.side(right)?,
+            )),
+            IlExp::Lt(left, right) => Ok(binary(self.side(left)?, Mark::Less, self.side(right)?)),
+            IlExp::Gt(left, right) => Ok(binary(
+                self.side(left)?,
+                Mark::Greater,
+                self.side(right)?,
+            )),
+            IlExp::Le(left, right) => Ok(binary(
+                self.side(left)?,
+                Mark::LessOrEqual,
+                self.side(right)?,
+            )),
+            IlExp::Ge(left, right) => Ok(binary(
+                self.side(left)?,
+                Mark::GreaterOrEqual,
+                self.side(right)?,
+            )),
+            IlExp::Member(left, right) => Ok(binary(
+                self.side(left)?,
+                Mark::ElementOf,
+                self.side(right)?,
+            )),
+            IlExp::Case(_, tag, exps) => case(alloc, tag, self.all(exps)?),
+            IlExp::Fields(ty, exps) => record(alloc, self.defs, ty, self.all(exps)?),
+            IlExp::Dot(value, field) => {
+                let value = self.side(value)?;
+                Ok(plain_form(Node::Dot(value, field.copy(alloc)?)))
+            }
+            IlExp::Set(value, path, part) => {
+                let value = self.side(value)?;
+                let path = self.path(path)?;
+                Ok(plain_form(Node::Update(value, path, self.side(part)?)))
+            }
+            IlExp::Extend(value, path, part) => {
+                let value = self.side(value)?;
+                let path = self.path(path)?;
+                Ok(plain_form(Node::Extend(value, path, self.side(part)?)))
+            }
             IlExp::Tuple(exps) => Ok(plain_form(Node::Tuple(self.wholes(exps)?))),
             IlExp::List(_, items) => self.list(items.as_slice()),
-            IlExp::Cat(left, right) => self.binary(left, Mark::PlusPlus, right),
-            IlExp::Join(left, right) => self.binary(left, Mark::PlusPlus, right),
+            IlExp::Cat(left, right) => Ok(binary(
+                self.side(left)?,
+                Mark::PlusPlus,
+                self.side(right)?,
+            )),
+            IlExp::Join(left, right) => Ok(binary(
+                self.side(left)?,
+                Mark::PlusPlus,
+                self.side(right)?,
+            )),
             IlExp::Empty(_) => Ok(plain_form(Node::Eps)),
             IlExp::Present(inner) => self.element(inner.get()),
             IlExp::Absent(_) => Ok(absent()),
             IlExp::Len(inner) => Ok(plain_form(Node::Len(self.side(inner)?))),
-            IlExp::At(list, at) => self.position(list, at),
-            IlExp::Slice(list, from, count) => self.slice(list, from, count),
-            IlExp::Call(name, exps) => self.call(name, exps),
+            IlExp::At(list, at) => {
+                let list = self.side(list)?;
+                Ok(plain_form(Node::At(list, self.side(at)?)))
+            }
+            IlExp::Slice(list, from, count) => {
+                let list = self.side(list)?;
+                let from = self.side(from)?;
+                Ok(plain_form(Node::Slice(list, from, self.side(count)?)))
+            }
+            IlExp::Call(name, exps) => {
+                let name = name.copy(alloc)?;
+                Ok(plain_form(Node::Call(name, self.wholes(exps)?)))
+            }
             IlExp::Up(_, inner) => self.erased(inner.get()),
-            IlExp::Iter(iteration, _, body) => self.iterated(iteration, body),
+            IlExp::Iter(iteration, _, body) => {
+                let body = self.side(body)?;
+                Ok(plain_form(Node::Iter(body, self.iteration(iteration)?)))
+            }
         }
-    }
-
-    fn text(&self, text: &Name) -> Result<Erased, NoMemory>
-        ensures { IfOk result (λ found. found ≡ plain_form (node.Text text.now)) }
-    {
-        Ok(plain_form(Node::Text(text.copy(self.alloc)?)))
-    }
-
-    fn variable(&self, name: &Name) -> Result<Erased, NoMemory>
-        ensures { IfOk result (λ found. found ≡ plain_form (node.Name name.now)) }
-    {
-        Ok(plain_form(Node::Name(name.copy(self.alloc)?)))
-    }
-
-    /// Two sides of a sign of logic, comparison, membership or `++`.
-    #[cycle(erase)]
-    fn binary(
-        &self,
-        left: &Boxed<IlExp>,
-        sign: Mark,
-        right: &Boxed<IlExp>,
-    ) -> Result<Erased, NoMemory>
-        ensures { IfOk result (λ found. found ≡ binary sign
-            (erased self.now.defs.now left.now) (erased self.now.defs.now right.now)) }
-    {
-        let left = self.side(left)?;
-        let right = self.side(right)?;
-        Ok(plain_form(Node::Binary(left, sign, right)))
-    }
-
-    /// Two operands of a sign of arithmetic.
-    #[cycle(erase)]
-    fn operation(
-        &self,
-        left: &Boxed<IlExp>,
-        sign: Mark,
-        right: &Boxed<IlExp>,
-    ) -> Result<Erased, NoMemory>
-        ensures { IfOk result (λ found. found ≡ operation sign
-            (erased self.now.defs.now left.now) (erased self.now.defs.now right.now)) }
-    {
-        let left = self.operand(left)?;
-        let right = self.operand(right)?;
-        Ok(arithmetic(Node::Binary(left, sign, right)))
-    }
-
-    #[cycle(erase)]
-    fn dot(&self, value: &Boxed<IlExp>, field: &Name) -> Result<Erased, NoMemory>
-        ensures { IfOk result (λ found. found ≡
-            plain_form (node.Dot (whole (erased self.now.defs.now value.now)) field.now)) }
-    {
-        let value = self.side(value)?;
-        Ok(plain_form(Node::Dot(value, field.copy(self.alloc)?)))
-    }
-
-    #[cycle(erase)]
-    fn update(
-        &self,
-        value: &Boxed<IlExp>,
-        path: &Row<PathSeg>,
-        part: &Boxed<IlExp>,
-    ) -> Result<Erased, NoMemory>
-        ensures { IfOk result (λ found. found ≡
-            plain_form (node.Update (whole (erased self.now.defs.now value.now))
-            (map (erased_segment self.now.defs.now) path.now)
-            (whole (erased self.now.defs.now part.now)))) }
-    {
-        let value = self.side(value)?;
-        let path = self.path(path)?;
-        Ok(plain_form(Node::Update(value, path, self.side(part)?)))
-    }
-
-    #[cycle(erase)]
-    fn extension(
-        &self,
-        value: &Boxed<IlExp>,
-        path: &Row<PathSeg>,
-        list: &Boxed<IlExp>,
-    ) -> Result<Erased, NoMemory>
-        ensures { IfOk result (λ found. found ≡
-            plain_form (node.Extend (whole (erased self.now.defs.now value.now))
-            (map (erased_segment self.now.defs.now) path.now)
-            (whole (erased self.now.defs.now list.now)))) }
-    {
-        let value = self.side(value)?;
-        let path = self.path(path)?;
-        Ok(plain_form(Node::Extend(value, path, self.side(list)?)))
-    }
-
-    #[cycle(erase)]
-    fn position(&self, list: &Boxed<IlExp>, at: &Boxed<IlExp>) -> Result<Erased, NoMemory>
-        ensures { IfOk result (λ found. found ≡
-            plain_form (node.At (whole (erased self.now.defs.now list.now))
-            (whole (erased self.now.defs.now at.now)))) }
-    {
-        let list = self.side(list)?;
-        Ok(plain_form(Node::At(list, self.side(at)?)))
-    }
-
-    #[cycle(erase)]
-    fn slice(
-        &self,
-        list: &Boxed<IlExp>,
-        from: &Boxed<IlExp>,
-        count: &Boxed<IlExp>,
-    ) -> Result<Erased, NoMemory>
-        ensures { IfOk result (λ found. found ≡
-            plain_form (node.Slice (whole (erased self.now.defs.now list.now))
-            (whole (erased self.now.defs.now from.now))
-            (whole (erased self.now.defs.now count.now)))) }
-    {
-        let list = self.side(list)?;
-        let from = self.side(from)?;
-        Ok(plain_form(Node::Slice(list, from, self.side(count)?)))
-    }
-
-    #[cycle(erase)]
-    fn call(&self, name: &Name, arguments: &Row<IlExp>) -> Result<Erased, NoMemory>
-        ensures { IfOk result (λ found. found ≡ plain_form (node.Call name.now
-            (map whole (map (erased self.now.defs.now) arguments.now)))) }
-    {
-        let name = name.copy(self.alloc)?;
-        Ok(plain_form(Node::Call(name, self.wholes(arguments)?)))
-    }
-
-    #[cycle(erase)]
-    fn iterated(&self, iteration: &Iteration, body: &Boxed<IlExp>) -> Result<Erased, NoMemory>
-        ensures { IfOk result (λ found. found ≡
-            plain_form (node.Iter (whole (erased self.now.defs.now body.now))
-            (erased_iteration self.now.defs.now iteration.now))) }
-    {
-        let body = self.side(body)?;
-        Ok(plain_form(Node::Iter(body, self.iteration(iteration)?)))
     }
 
     /// The source of an expression that is no operand of arithmetic.

@@ -8,7 +8,7 @@ ghost use Rattle.st_erase.specs.Erasure.{plain_form, arithmetic, absent, lifted}
 
 use crate::{Erased, Kind};
 use st_el::{Exp, Node};
-use st_num::{Boxed, NoMemory, Row, Span};
+use st_num::{Boxed, Mark, NoMemory, Row, Span};
 use std::alloc::Global;
 use std::collections::VecDeque;
 
@@ -42,6 +42,20 @@ pub fn arithmetic(node: Node) -> Erased
         exp: unplaced(node),
         kind: Kind::Arithmetic,
     }
+}
+
+/// Two sides of a sign of logic, comparison, membership or `++`.
+pub fn binary(left: Boxed<Exp>, sign: Mark, right: Boxed<Exp>) -> Erased
+    ensures { result ≡ plain_form (node.Binary left sign right) }
+{
+    plain_form(Node::Binary(left, sign, right))
+}
+
+/// Two operands of arithmetic.
+pub fn operation(left: Boxed<Exp>, sign: Mark, right: Boxed<Exp>) -> Erased
+    ensures { result ≡ arithmetic (node.Binary left sign right) }
+{
+    arithmetic(Node::Binary(left, sign, right))
 }
 
 /// What was left out.
