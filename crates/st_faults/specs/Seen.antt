@@ -170,14 +170,13 @@ judged v k s (Some next) = kept (outline_after v s next) s
 abbrev pub judge : Outline → TokenKind → Lexeme → Verdict
 judge v k l = judged v k l.shape (course.step v.state l)
 
+-- a part begins, and nothing else is counted
+abbrev pub nothing_counted : course.State → ℕ → Outline
+nothing_counted st n =
+    record { state = st; nesting = n; counts = no_counts; tallies = fresh 0 ∷ [] }
+
 abbrev pub nothing_outlined : Outline
-nothing_outlined =
-    record {
-      state = course.at place.Between [];
-      nesting = 0;
-      counts = no_counts;
-      tallies = fresh 0 ∷ [];
-    }
+nothing_outlined = nothing_counted (course.at place.Between []) 0
 
 abbrev pub outline_of : CodeSeen → Outline
 outline_of s =

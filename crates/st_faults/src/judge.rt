@@ -54,13 +54,24 @@ pub(crate) fn nothing_seen(alloc: Global) -> Result<Seen, NoMemory>
     ensures value { IfOk result (λ seen. spec.outline_of seen ≡ spec.nothing_outlined) }
     ensures bound { IfOk result (λ seen. spec.SeenKept seen) }
 {
+    let progress = Progress::At(At {
+        place: Place::Between,
+        brackets: Row::new(alloc),
+    });
+    nothing_counted(alloc, progress, 0)
+}
+
+/// What is known where a part begins and nothing else is counted.
+pub fn nothing_counted(alloc: Global, progress: Progress, nesting: u8) -> Result<Seen, NoMemory>
+    requires { nesting ≤ 100 }
+    ensures value { IfOk result (λ seen.
+        spec.outline_of seen ≡ spec.nothing_counted (progress_of progress) nesting) }
+    ensures bound { IfOk result (λ seen. spec.SeenKept seen) }
+{
     let tallies = single(alloc, 0)?;
     Ok(Seen {
-        progress: Progress::At(At {
-            place: Place::Between,
-            brackets: Row::new(alloc),
-        }),
-        nesting: 0,
+        progress,
+        nesting,
         counts: Counts {
             definitions: 0,
             premises: 0,
@@ -72,7 +83,7 @@ pub(crate) fn nothing_seen(alloc: Global) -> Result<Seen, NoMemory>
 }
 
 /// The verdict on one more token.
-pub(crate) fn judge(
+pub fn judge_token(
     alloc: Global,
     seen: Seen,
     kind: &TokenKind,

@@ -5,7 +5,7 @@ ghost use Rattle.st_grammar.specs.Lexemes as lexemes;
 ghost use Rattle.st_faults.specs.Faults.{Faultless, FirstFault};
 
 use crate::fault::Fault;
-use crate::judge::{Verdict, judge, nothing_seen};
+use crate::judge::{Verdict, judge_token, nothing_seen};
 use st_num::{Name, NoMemory, RuleId};
 use st_reading::{declared_names, may_end, token_lexeme};
 use st_scan::Token;
@@ -33,7 +33,7 @@ fn read_tokens(alloc: Global, names: &[Name], tokens: &[Token]) -> Result<Option
     let mut seen = nothing_seen(alloc)?;
     'tokens: for (at, token) in tokens.iter().enumerate() {
         let lexeme = token_lexeme(names, token);
-        match judge(alloc, seen, &token.kind, lexeme)? {
+        match judge_token(alloc, seen, &token.kind, lexeme)? {
             Verdict::Broken(rule) => return Ok(Some(Fault { place: at, rule })),
             Verdict::Passed(next) => seen = next,
         }

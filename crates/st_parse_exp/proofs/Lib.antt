@@ -1,0 +1,5 @@
+pub mod Readings
+pub mod SeenView
+pub mod Verdicts
+pub mod Exact
+pub mod Loop

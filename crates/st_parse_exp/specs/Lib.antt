@@ -1,0 +1,4 @@
+pub mod Expressions
+pub mod Reading
+pub mod Faults
+pub mod Seen

@@ -1,0 +1,30 @@
+-- The same of what the parser keeps: an expression is read as the conclusion of a rule, behind
+-- which nothing but a comma stands.
+use Rattle.std.specs.Prelude.{[], Bool, true, false, ◌&&◌, if◌then◌else◌}
+use Rattle.st_num.specs.declared.rule.RuleId.TheVariants.{S1}
+use Rattle.st_scan.specs.declared.token.TokenKind.{TokenKind}
+use Rattle.st_grammar.specs.Levels.{is_comma}
+use Rattle.st_reading.specs.declared.place.Lexeme.{Lexeme}
+use Rattle.st_reading.specs.declared.place.Slot.TheVariants as slot
+use Rattle.st_reading.specs.Course as course
+use Rattle.st_faults.specs.Seen as seen
+use Rattle.st_faults.specs.Seen.{Outline, Verdict, passed, broken}
+
+-- A comma stands behind a whole expression.
+abbrev pub separates : course.State → Lexeme → Bool
+separates st l = course.signed is_comma l && course.may_end st
+
+abbrev pub begun : Outline → Outline
+begun v = seen.nothing_counted (course.start_of slot.Rule []) v.nesting
+
+abbrev pub is_inside : course.State → Bool
+is_inside (course.inside s st ks) = true
+is_inside (course.at p ks) = false
+
+-- Behind an expression no rule goes on.
+abbrev pub alone : Verdict → Verdict
+alone (passed v) = if is_inside v.state then passed v else broken S1
+alone (broken r) = broken r
+
+abbrev pub judge : Outline → TokenKind → Lexeme → Verdict
+judge v k l = if separates v.state l then passed (begun v) else alone (seen.judge v k l)

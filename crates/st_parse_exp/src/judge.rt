@@ -1,0 +1,85 @@
+//! The verdict on one token of expressions.
+
+ghost use Rattle.std.specs.Prelude.{◌≡◌, ◌≤◌, IfOk, [], reverse};
+ghost use Rattle.st_faults.specs.Seen as seen;
+ghost use Rattle.st_reading.specs.Course as course;
+ghost use Rattle.st_reading.specs.declared.place.Slot.TheVariants as slot;
+ghost use Rattle.st_reading.specs.Readings.{progress_of};
+ghost use Rattle.st_parse_exp.specs.Seen as spec;
+
+use st_faults::{Seen, Verdict, judge_token, nothing_counted};
+use st_num::{Mark, NoMemory, Row, RuleId};
+use st_reading::{Due, Lexeme, Progress, Reading, Shape, Slot, may_end};
+use st_scan::TokenKind;
+use std::alloc::Global;
+
+/// Where an expression begins: it is read as the conclusion of a rule.
+fn start(alloc: Global) -> Progress
+    ensures { progress_of result ≡ course.start_of slot.Rule [] }
+{
+    let reading = Reading {
+        due: Due::Operand,
+        frames: Row::new(alloc),
+    };
+    Progress::Inside(Slot::Rule, reading, Row::new(alloc))
+}
+
+/// What is known where an expression begins.
+pub(crate) fn begin(alloc: Global, nesting: u8) -> Result<Seen, NoMemory>
+    requires { nesting ≤ 100 }
+    ensures value { IfOk result (λ next. seen.outline_of next
+        ≡ seen.nothing_counted (course.start_of slot.Rule []) nesting) }
+    ensures bound { IfOk result (λ next. seen.SeenKept next) }
+{
+    nothing_counted(alloc, start(alloc), nesting)
+}
+
+/// Whether a token is a comma behind a whole expression.
+fn separates(progress: &Progress, lexeme: Lexeme) -> bool
+    ensures { result ≡ spec.separates (progress_of progress.now) lexeme }
+{
+    matches!(lexeme.shape, Shape::Sign(Mark::Comma)) && may_end(progress)
+}
+
+fn is_inside(progress: &Progress) -> bool
+    ensures { result ≡ spec.is_inside (progress_of progress.now) }
+{
+    matches!(progress, Progress::Inside(_, _, _))
+}
+
+/// The verdict where no rule goes on behind an expression.
+fn alone(verdict: Verdict) -> Verdict
+    ensures value { seen.verdict_of result ≡ spec.alone (seen.verdict_of verdict) }
+    ensures bound { seen.IsBounded verdict → seen.IsBounded result }
+{
+    match verdict {
+        Verdict::Passed(next) => {
+            if is_inside(&next.progress) {
+                Verdict::Passed(next)
+            } else {
+                Verdict::Broken(RuleId::S1)
+            }
+        }
+        Verdict::Broken(rule) => Verdict::Broken(rule),
+    }
+}
+
+/// The verdict on one more token.
+pub(crate) fn judge_next(
+    alloc: Global,
+    known: Seen,
+    kind: &TokenKind,
+    lexeme: Lexeme,
+) -> Result<Verdict, NoMemory>
+    requires { seen.SeenKept known }
+    ensures value { IfOk result (λ verdict.
+        seen.verdict_of verdict ≡ spec.judge (seen.outline_of known) kind.now lexeme) }
+    ensures bound { IfOk result (λ verdict. seen.IsBounded verdict) }
+{
+    if separates(&known.progress, lexeme) {
+        let next = begin(alloc, known.nesting)?;
+        return Ok(Verdict::Passed(next));
+    }
+    let verdict = judge_token(alloc, known, kind, lexeme)?;
+    Ok(alone(verdict))
+}
