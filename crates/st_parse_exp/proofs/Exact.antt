@@ -30,7 +30,7 @@ one_more names tokens i d h =
     take_more (map f tokens) i (f d) (omega (arith, length-map tokens f))
     ∙ ap (λ l. take i (map f tokens) ++ l ∷ []) (get_or-map f tokens i d (f d) h)
 
-whole_list : (names : List (List ℕ)) (tokens : List Token) (i : ℕ) → length tokens ≤ i → take i (lexemes_of names tokens) ≡ lexemes_of names tokens
+pub whole_list : (names : List (List ℕ)) (tokens : List Token) (i : ℕ) → length tokens ≤ i → take i (lexemes_of names tokens) ≡ lexemes_of names tokens
 whole_list names tokens i h = take_all i (lexemes_of names tokens) (omega (arith, length-map tokens (lexeme names)))
 
 -- ---- fronts

@@ -3,3 +3,5 @@ pub mod SeenView
 pub mod Verdicts
 pub mod Exact
 pub mod Loop
+pub mod Drafted
+pub mod Parsing

@@ -35,7 +35,7 @@ pub(crate) fn begin(alloc: Global, nesting: u8) -> Result<Seen, NoMemory>
 }
 
 /// Whether a token is a comma behind a whole expression.
-fn separates(progress: &Progress, lexeme: Lexeme) -> bool
+pub(crate) fn separates(progress: &Progress, lexeme: Lexeme) -> bool
     ensures { result ≡ spec.separates (progress_of progress.now) lexeme }
 {
     matches!(lexeme.shape, Shape::Sign(Mark::Comma)) && may_end(progress)

@@ -4,9 +4,11 @@ ghost use Rattle.std.specs.Prelude.{◌≡◌, ◌≤◌, List, ℕ, Some, None}
 ghost use Rattle.st_num.specs.declared.rule.RuleId.{RuleId};
 ghost use Rattle.st_num.specs.declared.rule.RuleId.TheVariants.{S1, S4};
 ghost use Rattle.st_scan.specs.declared.token.Token.{Token};
+ghost use Rattle.st_el.specs.declared.expression.Exp.{Exp};
 ghost use Rattle.st_grammar.specs.Lexemes.{Lexeme};
 ghost use Rattle.st_grammar.specs.Trees.{Trees};
 ghost use Rattle.st_parse_exp.specs.Expressions.{ParseExpressions, ViableExpressions, AreExpressions, RefusedAt};
+ghost use Rattle.st_parse_exp.specs.Parse.{ParseExps};
 ghost use Rattle.st_parse_exp.specs.Reading as read;
 ghost use Rattle.st_parse_exp.specs.Faults.{Faultless, FirstFault};
 
@@ -15,6 +17,12 @@ ghost use Rattle.st_parse_exp.specs.Faults.{Faultless, FirstFault};
 pub fn one_list_of_expressions()
     ensures { (us : List Lexeme) (a b : Trees)
         → ParseExpressions us a → ParseExpressions us b → a ≡ b }
+{}
+
+/// Tokens mean at most one list of expressions.
+pub fn one_meaning()
+    ensures { (names : List (List ℕ)) (tokens : List Token) (a b : List Exp)
+        → ParseExps names tokens a → ParseExps names tokens b → a ≡ b }
 {}
 
 /// Expressions are read as their trees, tokens are read exactly where some further tokens make

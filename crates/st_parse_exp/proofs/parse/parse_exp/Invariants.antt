@@ -1,0 +1,8 @@
+use Rattle.std.proofs.Common.{reverse}
+use Rattle.st_faults.specs.Seen.{SeenKept}
+use Rattle.st_parse_exp.specs.Drafts.{draft}
+use Rattle.st_parse_exp.proofs.Parsing.{Drafting}
+use Rattle.st_parse_exp.proofs.parse.parse_exp.Given as goal
+
+abbrev pub invariant-tokens : goal.invariant-tokens
+invariant-tokens l = Drafting l.variables l.tokens l.at l.seen (draft l.exps (reverse l.marks) l.actions) × SeenKept l.seen

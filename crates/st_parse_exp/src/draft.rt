@@ -1,0 +1,107 @@
+//! Expressions that are built while their tokens are read.
+
+ghost use Rattle.std.specs.Prelude.{◌≡◌, [], ◌∷◌, ◌++◌, false, List, Bool, IfOk, reverse};
+ghost use Rattle.st_grammar.specs.declared.sort.Bracket.{Bracket};
+ghost use Rattle.st_grammar.specs.declared.sort.Sort.TheVariants.{Expression as expression};
+ghost use Rattle.st_grammar.specs.Trees.{Tree};
+ghost use Rattle.st_grammar.specs.Grammar.{Fits};
+ghost use Rattle.st_el.specs.declared.expression.Exp.{Exp};
+ghost use Rattle.st_meaning.specs.Meaning.{meaning};
+ghost use Rattle.st_meaning.specs.Actions.{acts};
+ghost use Rattle.st_reading.specs.declared.place.Slot.{Slot};
+ghost use Rattle.st_reading.specs.Outline as out;
+ghost use Rattle.st_reading.specs.Course as course;
+ghost use Rattle.st_reading.specs.Readings.{progress_of, reading_of};
+ghost use Rattle.st_emit.specs.Emits as emits;
+ghost use Rattle.st_parse_exp.specs.Seen as seen;
+ghost use Rattle.st_parse_exp.specs.Drafts.{IsBuilt, AreBuilt, with_exp, draft, Ends, Takes};
+
+use crate::judge::separates;
+use st_el::Exp;
+use st_emit::{emit, finish};
+use st_grammar::Sort;
+use st_meaning::{Action, BuildFault, build};
+use st_num::{Mark, NoMemory, Row};
+use st_reading::{Lexeme, Progress, Reading};
+use st_scan::Token;
+use std::alloc::Global;
+use std::mem::replace;
+
+/// The expression of these actions, or none where it is too high.
+fn built(alloc: Global, actions: &[Action<'_>]) -> Result<Option<Exp>, NoMemory>
+    ensures { (t : Tree) → Fits (expression false) t → actions.now ≡ acts t
+        → IfOk result (λ exp. IsBuilt (meaning t) exp) }
+{
+    match build(alloc, actions) {
+        Ok(exp) => Ok(Some(exp)),
+        Err(BuildFault::Unfit) | Err(BuildFault::TooHigh) => Ok(None),
+        Err(BuildFault::Memory) => Err(NoMemory),
+    }
+}
+
+/// One more expression, where none is too high.
+fn put(exps: Option<Row<Exp>>, exp: Option<Exp>) -> Result<Option<Row<Exp>>, NoMemory>
+    ensures { IfOk result (λ all. all ≡ with_exp exps exp) }
+{
+    let Some(mut all) = exps else {
+        return Ok(None);
+    };
+    let Some(exp) = exp else {
+        return Ok(None);
+    };
+    all.push(exp)?;
+    Ok(Some(all))
+}
+
+/// The expression of these actions ends.
+#[tactic(auto, using(crate::proofs::Drafted::one_more_built))]
+pub(crate) fn end(
+    alloc: Global,
+    reading: &Reading,
+    actions: Row<Action<'_>>,
+    exps: Option<Row<Exp>>,
+) -> Result<Option<Row<Exp>>, NoMemory>
+    ensures { (t : Tree) (es : List Exp) → Fits (expression false) t
+        → acts t ≡ actions.entry ++ emits.finishing (reading_of reading.now) → AreBuilt es exps
+        → IfOk result (λ all. AreBuilt (es ++ meaning t ∷ []) all) }
+{
+    let mut actions = actions;
+    finish(reading, &mut actions)?;
+    let exp = built(alloc, actions.as_slice())?;
+    put(exps, exp)
+}
+
+/// What a token makes of what is built: it adds its actions, or ends the expression.
+pub(crate) fn take<'a>(
+    alloc: Global,
+    progress: &Progress,
+    lexeme: Lexeme,
+    token: &'a Token,
+    marks: &mut Row<Mark>,
+    actions: &mut Row<Action<'a>>,
+    exps: Option<Row<Exp>>,
+) -> Result<Option<Row<Exp>>, NoMemory>
+    ensures { (k : Slot) (st : out.State) (ks : List Bracket)
+        → progress_of progress.now ≡ course.inside k st ks
+        → IfOk result (λ all. Takes (seen.separates (progress_of progress.now) lexeme) st lexeme.shape
+        token.now (draft exps (reverse marks.old) actions.old)
+        (draft all (reverse marks.new) actions.new)) }
+{
+    let Progress::Inside(_, reading, _) = progress else {
+        return Ok(exps);
+    };
+    if separates(progress, lexeme) {
+        *marks = Row::new(alloc);
+        let ended = replace(actions, Row::new(alloc));
+        return end(alloc, reading, ended, exps);
+    }
+    emit(
+        Sort::Expression(false),
+        reading,
+        lexeme.shape,
+        token,
+        marks,
+        actions,
+    )?;
+    Ok(exps)
+}

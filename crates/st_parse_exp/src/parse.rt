@@ -1,0 +1,105 @@
+//! The expressions that tokens mean.
+
+ghost use Rattle.std.specs.Prelude.{◌≡◌, [], ◌∷◌, ◌++◌, false, List};
+ghost use Rattle.st_grammar.specs.declared.sort.Bracket.{Bracket};
+ghost use Rattle.st_grammar.specs.declared.sort.Sort.TheVariants.{Expression as expression};
+ghost use Rattle.st_grammar.specs.Trees.{Tree};
+ghost use Rattle.st_grammar.specs.Grammar.{Fits};
+ghost use Rattle.st_el.specs.declared.expression.Exp.{Exp};
+ghost use Rattle.st_meaning.specs.Meaning.{meaning};
+ghost use Rattle.st_meaning.specs.Actions.{acts};
+ghost use Rattle.st_reading.specs.declared.place.Slot.{Slot};
+ghost use Rattle.st_reading.specs.Outline as out;
+ghost use Rattle.st_reading.specs.Course as course;
+ghost use Rattle.st_reading.specs.Readings.{progress_of};
+ghost use Rattle.st_emit.specs.Emits as emits;
+ghost use Rattle.st_faults.specs.Place as place;
+ghost use Rattle.st_parse_exp.specs.declared.fault.SyntaxFault.TheVariants as fault;
+ghost use Rattle.st_parse_exp.specs.Drafts.{AreBuilt};
+ghost use Rattle.st_parse_exp.specs.Parse.{AreWhole, Answers};
+
+use crate::draft::{end, take};
+use crate::fault::SyntaxFault;
+use crate::judge::{begin, judge_next};
+use st_el::Exp;
+use st_faults::{Verdict, place_at};
+use st_meaning::Action;
+use st_num::{Name, Row, RuleId};
+use st_reading::{Progress, may_end, token_lexeme};
+use st_scan::Token;
+use std::alloc::Global;
+
+/// The fault at the token of this number.
+fn refused(tokens: &[Token], number: usize, rule: RuleId) -> SyntaxFault
+    ensures { result ≡ fault.Refused (place.place_at tokens.now number) rule }
+{
+    SyntaxFault::Refused {
+        at: place_at(tokens, number),
+        rule,
+    }
+}
+
+/// The expressions, where none is too high.
+fn whole(tokens: &[Token], exps: Option<Row<Exp>>) -> Result<Row<Exp>, SyntaxFault>
+    ensures { (es : List Exp) → AreBuilt es exps → AreWhole tokens.now es result }
+{
+    match exps {
+        Some(exps) => Ok(exps),
+        None => Err(refused(tokens, 0, RuleId::S2)),
+    }
+}
+
+/// The last expression ends.
+fn last(
+    alloc: Global,
+    tokens: &[Token],
+    progress: &Progress,
+    actions: Row<Action<'_>>,
+    exps: Option<Row<Exp>>,
+) -> Result<Row<Exp>, SyntaxFault>
+    ensures { (k : Slot) (st : out.State) (ks : List Bracket) (t : Tree) (es : List Exp)
+        → progress_of progress.now ≡ course.inside k st ks → Fits (expression false) t
+        → acts t ≡ actions.entry ++ emits.finishing st → AreBuilt es exps
+        → AreWhole tokens.now (es ++ meaning t ∷ []) result }
+{
+    let Progress::Inside(_, reading, _) = progress else {
+        return whole(tokens, exps);
+    };
+    let exps = end(alloc, reading, actions, exps)?;
+    whole(tokens, exps)
+}
+
+/// The expressions that the tokens mean, one or several with commas between them, or the first
+/// fault and its place. The variables are the names that are declared by `var`.
+pub fn parse_exp(
+    alloc: Global,
+    tokens: &[Token],
+    variables: &[Name],
+) -> Result<Row<Exp>, SyntaxFault>
+    ensures { Answers variables.now tokens.now result }
+{
+    let mut seen = begin(alloc, 0)?;
+    let mut exps = Some(Row::new(alloc));
+    let mut marks = Row::new(alloc);
+    let mut actions = Row::new(alloc);
+    'tokens: for (at, token) in tokens.iter().enumerate() {
+        let lexeme = token_lexeme(variables, token);
+        exps = take(
+            alloc,
+            &seen.progress,
+            lexeme,
+            token,
+            &mut marks,
+            &mut actions,
+            exps,
+        )?;
+        match judge_next(alloc, seen, &token.kind, lexeme)? {
+            Verdict::Broken(rule) => return Err(refused(tokens, at, rule)),
+            Verdict::Passed(next) => seen = next,
+        }
+    }
+    if !may_end(&seen.progress) {
+        return Err(refused(tokens, tokens.len(), RuleId::S1));
+    }
+    last(alloc, tokens, &seen.progress, actions, exps)
+}
