@@ -1,0 +1,5 @@
+use Rattle.st_read_back.proofs.Scanned.{written_tokens}
+use Rattle.st_read_back.proofs.laws.written_tokens.Goals as goal
+
+pub returns : goal.returns
+returns c number ws utf8 h = written_tokens number ws utf8 h
