@@ -1,60 +1,83 @@
 -- Tokens that are written apart are scanned as these tokens.
-use Rattle.std.proofs.Common.{◌≡◌, ℕ, suc, List, [], ◌∷◌, ◌++◌, length, map, Bool, true, false, refl, sym, ap, ◌∙◌, subst, arith, ◌==◌}
+use Rattle.std.proofs.Common.{◌≡◌, ℕ, ◌<◌, List, [], ◌∷◌, ◌++◌, length, map, Bool, true, false, refl, sym, ap, ◌∙◌, subst, arith, ◌==◌}
 use Rattle.std.proofs.lemmas.Bool.{ne_eqb}
 use Rattle.std.proofs.lemmas.Bool.Decides.{Decides-eqb}
 use Rattle.std.specs.Str.{IsUtf8}
 use Rattle.st_scan.specs.declared.token.Token.{Token}
+use Rattle.st_scan.specs.declared.token.TokenKind.{TokenKind}
 use Rattle.st_scan.specs.Gaps.{gap, between}
 use Rattle.st_scan.specs.Places.{place}
-use Rattle.st_scan.specs.Tokens.{Longest, Next, Run, Tokens}
+use Rattle.st_scan.specs.Spelling.{Spells}
+use Rattle.st_scan.specs.Tokens.{IsInRange, Longest, Next, Run, Tokens}
 use Rattle.st_scan.proofs.Gaps.{gap_blank, gap_empty}
-use Rattle.st_read_back.specs.Written.{Written, blank, bytes_of, AreApart, kept, wanted}
+use Rattle.st_read_back.specs.Written.{Piece, space, token, bytes_of, ends_before, AreApart, shape, shapes, shapes_behind}
 use Rattle.st_read_back.proofs.Longest.{written_longest, token_open, gap_open}
 
--- a blank before a token is no part of it
-behind_blank : (t : Bool) (xs : List ℕ) → gap between xs ≡ xs → gap between (blank t ++ xs) ≡ xs
-behind_blank true xs e = e
-behind_blank false xs e = gap_blank 32 (32 ∷ xs) xs refl refl ∙ e
+-- Blanks stand before these bytes in the rest of a file, or nothing does.
+abbrev IsFar : Bool → List ℕ → List ℕ → Type 0
+IsFar true rest xs = rest ≡ xs
+IsFar false rest xs = length xs < length rest
 
-touches : (t : Bool) (xs : List ℕ) → t ≡ (length xs == length (blank t ++ xs))
-touches true xs = sym ((Decides-eqb (length xs) (length xs)).1 refl)
-touches false xs = sym (ne_eqb (length xs) (suc (length xs)) (λ h. absurd (omega (arith, h))))
+record Before (touching : Bool) (rest xs : List ℕ) : Type 0 where
+  same : gap between rest ≡ gap between xs
+  far : IsFar touching rest xs
+
+before_space : (t : Bool) (rest xs : List ℕ) → Before t rest (32 ∷ xs) → Before false rest xs
+before_space true rest xs h = record {
+  same = h.same ∙ gap_blank 32 (32 ∷ xs) xs refl refl;
+  far = omega (arith, ap length h.far);
+}
+before_space false rest xs h = record {
+  same = h.same ∙ gap_blank 32 (32 ∷ xs) xs refl refl;
+  far = omega (arith, h.far);
+}
+
+touches : (t : Bool) (rest xs : List ℕ) → IsFar t rest xs → t ≡ (length xs == length rest)
+touches true rest xs h = sym ((Decides-eqb (length xs) (length rest)).1 (ap length (sym h)))
+touches false rest xs h = sym (ne_eqb (length xs) (length rest) (λ same. absurd (omega (arith, h, same))))
 
 module _ (number : ℕ) (file : List ℕ) where
-  -- the token at the front
-  abbrev token_of : (w : Written) → List ℕ → Token
-  token_of w rest = record { at = place number file (gap between rest); touching = w.touching; kind = w.kind }
+  -- the token at the front of the rest
+  abbrev token_at : List ℕ → Bool → TokenKind → Token
+  token_at rest t k = record { at = place number file (gap between rest); touching = t; kind = k }
 
-  next_of : (w : Written) (ws : List Written) → AreApart (w ∷ ws)
-      → Next number file (bytes_of (w ∷ ws)) (token_of w (bytes_of (w ∷ ws))) (bytes_of ws)
-  next_of w ws h =
-      let front = behind_blank w.touching (w.text ++ bytes_of ws) (gap_open (w.text ++ bytes_of ws) (token_open w.text (bytes_of ws) w.kind h.0 h.2)) in
+  next : (t : Bool) (rest text more : List ℕ) (k : TokenKind) → Before t rest (text ++ more)
+      → Spells text k → IsInRange k → ends_before k more ≡ true → Next number file rest (token_at rest t k) more
+  next t rest text more k before spelled ranged ends =
+      let front = before.same ∙ gap_open (text ++ more) (token_open text more k spelled ends) in
       record {
-        text = w.text;
-        longest = subst (λ u. Longest u w.text (bytes_of ws) w.kind) (sym front) (written_longest w.text (bytes_of ws) w.kind h.0 h.2);
-        in_range = h.1;
+        text = text;
+        longest = subst (λ u. Longest u text more k) (sym front) (written_longest text more k spelled ends);
+        in_range = ranged;
         at = refl;
-        touching = touches w.touching (w.text ++ bytes_of ws)
-            ∙ ap (λ u. length u == length (bytes_of (w ∷ ws))) (sym front);
+        touching = touches t rest (text ++ more) before.far ∙ ap (λ u. length u == length rest) (sym front);
       }
 
-  pub record Scanned (ws : List Written) : Type 0 where
-    pub tokens : List Token
-    pub run : Run number file (bytes_of ws) tokens []
-    pub same : map kept tokens ≡ map wanted ws
+  record Scanned (t : Bool) (rest : List ℕ) (ps : List Piece) : Type 0 where
+    tokens : List Token
+    left : List ℕ
+    run : Run number file rest tokens left
+    ended : gap between left ≡ []
+    same : map shape tokens ≡ shapes_behind t ps
 
-  pub scanned : (ws : List Written) → AreApart ws → Scanned ws
-  scanned [] h = record { tokens = []; run = refl; same = refl }
-  scanned (w ∷ ws) h =
-      let more = scanned ws h.3 in
+  scanned : (t : Bool) (rest : List ℕ) (ps : List Piece) → Before t rest (bytes_of ps) → AreApart ps → Scanned t rest ps
+  scanned t rest [] before h =
+      record { tokens = []; left = rest; run = refl; ended = before.same ∙ sym (gap_empty [] refl); same = refl }
+  scanned t rest (space ∷ ps) before h =
+      let more = scanned false rest ps (before_space t rest (bytes_of ps) before) h in
+      record { tokens = more.tokens; left = more.left; run = more.run; ended = more.ended; same = more.same }
+  scanned t rest (token k text ∷ ps) before h =
+      let more = scanned true (bytes_of ps) ps (record { same = refl; far = refl }) h.3 in
       record {
-        tokens = token_of w (bytes_of (w ∷ ws)) ∷ more.tokens;
-        run = (bytes_of ws, next_of w ws h, more.run);
-        same = ap (λ us. wanted w ∷ us) more.same;
+        tokens = token_at rest t k ∷ more.tokens;
+        left = more.left;
+        run = (bytes_of ps, next t rest text (bytes_of ps) k before h.0 h.1 h.2, more.run);
+        ended = more.ended;
+        same = ap (λ us. (k, t) ∷ us) more.same;
       }
 
-pub written_tokens : (number : ℕ) (ws : List Written) → IsUtf8 (bytes_of ws) → AreApart ws
-    → (tokens : List Token) × Tokens number (bytes_of ws) tokens × (map kept tokens ≡ map wanted ws)
-written_tokens number ws utf8 h =
-    let found = scanned number (bytes_of ws) ws h in
-    (found.tokens, record { utf8 = utf8; left = []; run = found.run; ended = sym (gap_empty [] refl) }, found.same)
+pub written_tokens : (number : ℕ) (ps : List Piece) → IsUtf8 (bytes_of ps) → AreApart ps
+    → (tokens : List Token) × Tokens number (bytes_of ps) tokens × (map shape tokens ≡ shapes ps)
+written_tokens number ps utf8 h =
+    let found = scanned number (bytes_of ps) true (bytes_of ps) ps (record { same = refl; far = refl }) h in
+    (found.tokens, record { utf8 = utf8; left = found.left; run = found.run; ended = found.ended }, found.same)

@@ -1,4 +1,4 @@
--- Tokens written one behind another, with blanks between those that would run into one another.
+-- Tokens written one behind another, with blanks between some of them.
 use Rattle.std.specs.Prelude.{ℕ, List, [], ◌∷◌, ◌++◌, Bool, true, false, not, ◌||◌, IsTrue, ⊤}
 use Rattle.std.specs.List.{list_any, starts_with}
 use Rattle.std.specs.Bool.{nat_eq}
@@ -13,20 +13,16 @@ use Rattle.st_scan.specs.declared.token.Token.{Token}
 use Rattle.st_scan.specs.declared.token.TokenKind.{TokenKind}
 use Rattle.st_scan.specs.declared.token.TokenKind.TheVariants.{Text, Sign}
 
--- a token with its text, and whether no blank stands before it
-pub record Written : Type 0 where
-  pub kind : TokenKind
-  pub text : List ℕ
-  pub touching : Bool
+-- a blank, or the text of a token
+pub data Piece : Type 0 where
+  space : Piece
+  token : TokenKind → List ℕ → Piece
 
-abbrev pub blank : Bool → List ℕ
-blank true = []
-blank false = 32 ∷ []
-
--- the bytes of such tokens
-abbrev pub bytes_of : List Written → List ℕ
+-- the bytes of pieces
+abbrev pub bytes_of : List Piece → List ℕ
 bytes_of [] = []
-bytes_of (w ∷ ws) = blank w.touching ++ (w.text ++ bytes_of ws)
+bytes_of (space ∷ ps) = 32 ∷ bytes_of ps
+bytes_of (token k text ∷ ps) = text ++ bytes_of ps
 
 -- ---- what may stand directly behind a token
 
@@ -57,16 +53,25 @@ ends_before (Text text) (b ∷ bs) = true
 ends_before (Sign m) (b ∷ bs) = not (runs_on m b)
 ends_before k (b ∷ bs) = not (is_name_part b)
 
--- Each token is spelled by its text and ends where the next one begins.
-abbrev pub AreApart : List Written → Type 0
+-- Each token is spelled by its text and ends where the next piece begins.
+abbrev pub AreApart : List Piece → Type 0
 AreApart [] = ⊤
-AreApart (w ∷ ws) =
-    Spells w.text w.kind × IsInRange w.kind × IsTrue (ends_before w.kind (bytes_of ws))
-    × AreApart ws
+AreApart (space ∷ ps) = AreApart ps
+AreApart (token k text ∷ ps) =
+    Spells text k × IsInRange k × IsTrue (ends_before k (bytes_of ps)) × AreApart ps
+
+-- ---- the tokens of pieces
+
+-- the tokens, each with whether it touches what stands before it; whether the first one does
+abbrev pub shapes_behind : Bool → List Piece → List (TokenKind × Bool)
+shapes_behind touching [] = []
+shapes_behind touching (space ∷ ps) = shapes_behind false ps
+shapes_behind touching (token k text ∷ ps) = (k, touching) ∷ shapes_behind true ps
+
+-- At the start of a file nothing stands between.
+abbrev pub shapes : List Piece → List (TokenKind × Bool)
+shapes ps = shapes_behind true ps
 
 -- what a token is but for its place
-abbrev pub kept : Token → TokenKind × Bool
-kept t = (t.kind, t.touching)
-
-abbrev pub wanted : Written → TokenKind × Bool
-wanted w = (w.kind, w.touching)
+abbrev pub shape : Token → TokenKind × Bool
+shape t = (t.kind, t.touching)
