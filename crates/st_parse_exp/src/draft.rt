@@ -83,8 +83,8 @@ pub(crate) fn take<'a>(
 ) -> Result<Option<Row<Exp>>, NoMemory>
     ensures { (k : Slot) (st : out.State) (ks : List Bracket)
         → progress_of progress.now ≡ course.inside k st ks
-        → IfOk result (λ all. Takes (seen.separates (progress_of progress.now) lexeme) st lexeme.shape
-        token.now (draft exps (reverse marks.old) actions.old)
+        → IfOk result (λ all. Takes (seen.separates (progress_of progress.now) lexeme) st
+        lexeme.shape token.now (draft exps (reverse marks.old) actions.old)
         (draft all (reverse marks.new) actions.new)) }
 {
     let Progress::Inside(_, reading, _) = progress else {
