@@ -5,3 +5,6 @@ pub mod Stops
 pub mod NotationBuilds
 pub mod EmissionEnds
 pub mod Emission
+pub mod NotationTallness
+pub mod NotationGrowth
+pub mod NotationStops

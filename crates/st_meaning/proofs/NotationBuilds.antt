@@ -19,7 +19,7 @@ use Rattle.st_el.specs.declared.notation.NotNode.TheVariants as not_node
 use Rattle.st_meaning.specs.declared.notation_piece.NotationPiece.TheVariants.{Hole as a_type, Whole as whole, Types as types, Elements as elements, From as from_place}
 use Rattle.st_meaning.specs.Notations.{hole, tick, notation_at, notation_joined, marked, notation_place, notation_first, typ_meaning, typ_meanings, notation_meaning, notation_meanings, only_notation}
 use Rattle.st_meaning.specs.Actions.{acts, each_acts, part_acts, item_acts}
-use Rattle.st_meaning.specs.NotationBuilding.{Stack, put, with_place, with_notation, with_type, put_part, applied, run, piece_of}
+use Rattle.st_meaning.specs.NotationBuilding.{Stack, put, with_place, with_notation, with_type, put_part, the_notation, applied, run, piece_of}
 use Rattle.st_meaning.proofs.Builds.{some_parts, filled, some_items}
 
 no : {P : Type 0} → false ≡ true → P
@@ -29,7 +29,7 @@ behind : (f g : Stack → Option Stack) (p : Option Stack) (u : Stack) (o : Opti
 behind f g None u o h e = absurd (cc)
 behind f g (Some v) u o h e = h v e
 
-chain : (front back : List Action) (s u : Stack) (o : Option Stack) → run front s ≡ Some u → run back u ≡ o → run (front ++ back) s ≡ o
+pub chain : (front back : List Action) (s u : Stack) (o : Option Stack) → run front s ≡ Some u → run back u ≡ o → run (front ++ back) s ≡ o
 chain [] back s u o e f = let is : s ≡ u = cc in subst (λ v. run back v ≡ o) (sym is) f
 chain (a ∷ front) back s u o e f = behind (run front) (run (front ++ back)) (applied a s) u o (λ v h. chain front back v u o h f) e
 
@@ -120,6 +120,14 @@ shows false t s f k = refl
 
 as_notation : (t : Tree) (s : Stack) (f : Notation → Stack → Option Stack) → with_notation (piece_of t ∷ s) f ≡ f (notation_meaning t) s
 as_notation t s f = shows (is_type t) t s f (type_hole t)
+
+one_of : (b : Bool) (t : Tree) → (b ≡ true → hole (typ_meaning t) ≡ notation_meaning t)
+    → the_notation ((if b then a_type (typ_meaning t) else whole (notation_meaning t)) ∷ []) ≡ Some (notation_meaning t)
+one_of true t k = ap (λ n. Some n) (k refl)
+one_of false t k = refl
+
+pub one_notation : (t : Tree) → the_notation (piece_of t ∷ []) ≡ Some (notation_meaning t)
+one_notation t = one_of (is_type t) t (type_hole t)
 
 puts : (b : Bool) (t : Tree) (at : Span) (ns : List Notation) (s : Stack) → (b ≡ true → hole (typ_meaning t) ≡ notation_meaning t)
     → put_part (if b then a_type (typ_meaning t) else whole (notation_meaning t)) (elements at ns ∷ s) ≡ Some (elements at (ns ++ notation_meaning t ∷ []) ∷ s)

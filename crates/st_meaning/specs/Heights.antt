@@ -5,9 +5,15 @@ use Rattle.st_grammar.specs.Definitions.{is_minus}
 use Rattle.st_el.specs.declared.expression.Exp.{Exp, Exp-F, fold-Exp}
 use Rattle.st_el.specs.declared.expression.Count.TheOpen.{Count-F, Node-F, Seg-F}
 use Rattle.st_el.specs.declared.expression.Seg.{Seg, fold-Seg}
+use Rattle.st_el.specs.declared.ty.Typ.{Typ, Typ-F, fold-Typ}
+use Rattle.st_el.specs.declared.ty.TypNode.TheOpen.{TypNode-F}
+use Rattle.st_el.specs.declared.notation.Notation.{Notation, Notation-F, fold-Notation}
+use Rattle.st_el.specs.declared.notation.NotNode.TheOpen.{NotNode-F}
 use Rattle.st_meaning.specs.Meaning.{is_tilde}
 use Rattle.st_meaning.specs.declared.piece.Piece.{Piece}
 use Rattle.st_meaning.specs.declared.piece.Piece.TheVariants.{Done, Parts, Fields, Path, Label, Here}
+use Rattle.st_meaning.specs.declared.notation_piece.NotationPiece.{NotationPiece}
+use Rattle.st_meaning.specs.declared.notation_piece.NotationPiece.TheVariants.{Hole as a_type, Whole as whole, Types as types, Elements as elements, From as from_place}
 
 -- the largest of these heights, and 0 where there is none
 abbrev pub highest : List ℕ → ℕ
@@ -55,6 +61,34 @@ height = fold-Exp ℕ ℕ ℕ ℕ height_count_at height_node_at height_seg_at h
 abbrev pub seg_height : Seg → ℕ
 seg_height = fold-Seg ℕ ℕ ℕ ℕ height_count_at height_node_at height_seg_at height_exp_at
 
+-- ---- types and notations
+
+abbrev pub height_typ_node_at : TypNode-F ℕ ℕ → ℕ
+height_typ_node_at (TypNode-F.Star t) = t
+height_typ_node_at (TypNode-F.Quest t) = t
+height_typ_node_at (TypNode-F.Tuple ts) = highest ts
+height_typ_node_at n = 0
+
+abbrev pub height_typ_at : Typ-F ℕ ℕ → ℕ
+height_typ_at t = t.node + 1
+
+abbrev pub typ_height : Typ → ℕ
+typ_height = fold-Typ ℕ ℕ height_typ_node_at height_typ_at
+
+-- A type in a notation is a node of each.
+abbrev pub height_not_node_at : NotNode-F ℕ ℕ → ℕ
+height_not_node_at (NotNode-F.Hole t) = typ_height t
+height_not_node_at (NotNode-F.Seq ns) = highest ns
+height_not_node_at (NotNode-F.Infix l m r) = max l r
+height_not_node_at (NotNode-F.Bracket m n) = n
+height_not_node_at (NotNode-F.Atom name) = 0
+
+abbrev pub height_notation_at : Notation-F ℕ ℕ → ℕ
+height_notation_at n = n.node + 1
+
+abbrev pub notation_height : Notation → ℕ
+notation_height = fold-Notation ℕ ℕ height_not_node_at height_notation_at
+
 -- ---- pieces
 
 abbrev pub field_height : List ℕ × Exp → ℕ
@@ -75,3 +109,13 @@ stack_height s = highest (map piece_height s)
 -- side is absent
 abbrev pub prefixed_height : Mark → ℕ → ℕ
 prefixed_height m h = (if is_tilde m || is_minus m then h else max 1 h) + 1
+
+abbrev pub notation_piece_height : NotationPiece → ℕ
+notation_piece_height (a_type t) = typ_height t
+notation_piece_height (whole n) = notation_height n
+notation_piece_height (types at ts) = highest (map typ_height ts)
+notation_piece_height (elements at ns) = highest (map notation_height ns)
+notation_piece_height (from_place at) = 0
+
+abbrev pub notation_stack_height : List NotationPiece → ℕ
+notation_stack_height s = highest (map notation_piece_height s)

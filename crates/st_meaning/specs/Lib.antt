@@ -9,3 +9,4 @@ pub mod Heights
 pub mod Pieces
 pub mod Answers
 pub mod NotationBuilding
+pub mod NotationAnswers

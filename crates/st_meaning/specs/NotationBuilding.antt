@@ -26,23 +26,39 @@ operand_piece k x = whole (notation_leaf k x)
 abbrev pub put : NotationPiece → Stack → Option Stack
 put p s = Some (p ∷ s)
 
+-- ---- what is on top
+
 -- the part on top as a notation
+abbrev pub top_notation : Stack → Option (Notation × Stack)
+top_notation (a_type t ∷ s) = Some (hole t, s)
+top_notation (whole n ∷ s) = Some (n, s)
+top_notation s = None
+
+abbrev pub top_type : Stack → Option (Typ × Stack)
+top_type (a_type t ∷ s) = Some (t, s)
+top_type s = None
+
+abbrev pub top_whole : Stack → Option (Notation × Stack)
+top_whole (whole n ∷ s) = Some (n, s)
+top_whole s = None
+
+abbrev pub top_place : Stack → Option (Span × Stack)
+top_place (from_place at ∷ s) = Some (at, s)
+top_place s = None
+
 abbrev pub with_notation : Stack → (Notation → Stack → Option Stack) → Option Stack
-with_notation (a_type t ∷ s) f = f (hole t) s
-with_notation (whole n ∷ s) f = f n s
-with_notation s f = None
+with_notation s f = option_and_then (λ t. f t.0 t.1) (top_notation s)
 
 abbrev pub with_type : Stack → (Typ → Stack → Option Stack) → Option Stack
-with_type (a_type t ∷ s) f = f t s
-with_type s f = None
+with_type s f = option_and_then (λ t. f t.0 t.1) (top_type s)
 
 abbrev pub with_whole : Stack → (Notation → Stack → Option Stack) → Option Stack
-with_whole (whole n ∷ s) f = f n s
-with_whole s f = None
+with_whole s f = option_and_then (λ t. f t.0 t.1) (top_whole s)
 
 abbrev pub with_place : Stack → (Span → Stack → Option Stack) → Option Stack
-with_place (from_place at ∷ s) f = f at s
-with_place s f = None
+with_place s f = option_and_then (λ t. f t.0 t.1) (top_place s)
+
+-- ---- actions
 
 -- one more type or element
 abbrev pub put_part : NotationPiece → Stack → Option Stack
@@ -76,6 +92,23 @@ applied a s = None
 abbrev pub run : List Action → Stack → Option Stack
 run [] s = Some s
 run (a ∷ later) s = option_and_then (run later) (applied a s)
+
+-- the one type on the stack, and the one notation
+abbrev pub the_typ : Stack → Option Typ
+the_typ (a_type t ∷ []) = Some t
+the_typ s = None
+
+abbrev pub the_notation : Stack → Option Notation
+the_notation (a_type t ∷ []) = Some (hole t)
+the_notation (whole n ∷ []) = Some n
+the_notation s = None
+
+-- the type that actions build, and the notation
+abbrev pub typ_built : List Action → Option Typ
+typ_built actions = option_and_then the_typ (run actions [])
+
+abbrev pub notation_built : List Action → Option Notation
+notation_built actions = option_and_then the_notation (run actions [])
 
 -- the piece that a tree is built as
 abbrev pub piece_of : Tree → NotationPiece

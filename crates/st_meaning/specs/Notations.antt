@@ -17,7 +17,7 @@ use Rattle.st_el.specs.declared.ty.Typ.{Typ, out-Typ, roll-Typ}
 use Rattle.st_el.specs.declared.ty.TypNode.{TypNode}
 use Rattle.st_el.specs.declared.ty.TypNode.TheVariants as typ_node
 use Rattle.st_el.specs.declared.notation.Notation.{Notation, out-Notation, roll-Notation}
-use Rattle.st_el.specs.declared.notation.NotNode.{NotNode, out-NotNode}
+use Rattle.st_el.specs.declared.notation.NotNode.{NotNode, out-NotNode, roll-NotNode}
 use Rattle.st_el.specs.declared.notation.NotNode.TheOpen.{NotNode-F}
 use Rattle.st_el.specs.declared.notation.NotNode.TheVariants as not_node
 use Rattle.st_el.specs.Plain.{nowhere}
@@ -89,10 +89,10 @@ notation_leaf low x = hole (typ_at x.at (typ_leaf x.kind))
 notation_leaf basic x = hole (typ_at x.at (typ_leaf x.kind))
 notation_leaf k x = notation_at x.at (not_node.Atom (name_of x.kind))
 
--- an atom goes on with the name behind a dot
+-- An atom goes on with the name behind a dot, and nothing else does.
 abbrev pub spelled_on : NotNode-F NotNode Notation → List ℕ → NotNode
 spelled_on (NotNode-F.Atom name) behind = not_node.Atom (name ++ 46 ∷ behind)
-spelled_on n behind = not_node.Seq []
+spelled_on n behind = roll-NotNode n
 
 abbrev pub atom_on : Notation → Token → Notation
 atom_on n x =

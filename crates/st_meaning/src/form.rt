@@ -169,7 +169,7 @@ pub(crate) fn sliced(alloc: Global, whole: Exp, from: Exp, count: Exp) -> Result
 }
 
 /// A name with another behind it and a dot between them.
-fn with_dot(name: Name, behind: &[u8]) -> Result<Name, NoMemory>
+pub(crate) fn with_dot(name: Name, behind: &[u8]) -> Result<Name, NoMemory>
     ensures { IfOk result (λ whole. whole ≡ name ++ 46 ∷ behind.now) }
 {
     let mut bytes = name.into_vec();

@@ -16,7 +16,12 @@ mod laws;
 mod leaf;
 mod list;
 mod make;
+mod notation_builder;
+mod notation_entry;
+mod notation_form;
+mod notation_make;
 mod notation_piece;
+mod notation_pieces;
 mod path;
 mod piece;
 mod pieces;
@@ -30,5 +35,6 @@ pub use laws::{
     types_are_built,
 };
 pub use leaf::copy_name;
+pub use notation_builder::{build_notation, build_typ};
 pub use notation_piece::NotationPiece;
 pub use piece::Piece;
