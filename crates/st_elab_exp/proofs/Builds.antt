@@ -19,7 +19,7 @@ use Rattle.st_elaboration.specs.declared.within.Within.{Within}
 use Rattle.st_elaboration.specs.declared.fault.ExpFault.{ExpFault}
 use Rattle.st_elaboration.specs.declared.fault.ExpFault.TheVariants as fault
 use Rattle.st_elaboration.specs.Forms.{inferable}
-use Rattle.st_elaboration.specs.Questions.{Question, check, infer, hole, Made, Breach, Answer, Gives, Fails, Step, Asks, Opens, asks}
+use Rattle.st_elaboration.specs.Questions.{Question, check, infer, hole, Made, Breach, Answer, Gives, Fails, Step, Ends, Asks, Opens, asks}
 use Rattle.st_elaboration.specs.Steps.{breach, made, give, pass, asked, each_asked, holes, fitted}
 use Rattle.st_elaboration.specs.Checked.{form_row, plain_row, checked_row}
 use Rattle.st_elaboration.specs.Inferred.{inferred_at}
@@ -73,6 +73,12 @@ module _ (D : Decls) (S : Scope) where
       Told-stops (λ x. Answered D S q (Gives (g x))) (λ x. Leads D S (Asks q next) (Gives (f x))) (λ b. Answered D S q (Fails b)) (λ b. Leads D S (Asks q next) (Fails b)) r s e is out
       (λ b k. stops b k) h
 
+  -- a question that is answered
+  pub asks_reach : {A : Type 0} (q : Question) (f : A → Made) (r : Result A ExpFault) → Tells D S q f r → Reaches D S (λ next. Asks q next) f r
+  asks_reach q f (Ok x) h = λ next a l. goes_on (f x) h l
+  asks_reach q f (Err (fault.Refused at rule)) h = λ next. stops (record { at = at; rule = rule }) h
+  asks_reach q f (Err fault.Memory) h = tt
+
   -- the answer to a question, and what follows
   pub leading_goes : {A : Type 0} (q : Question) (next : Made → Step) (m : Made) (f : A → Made) (r : Result A ExpFault)
       → Answered D S q (Gives m) → Leading D S (next m) f r → Leading D S (Asks q next) f r
@@ -101,6 +107,31 @@ module _ (D : Decls) (S : Scope) where
       let on : (next : _ → Step) (a : Answer) → Leads D S (next (g x)) a → Leads D S (steps next) a =
       Told-found (λ x. (next : _ → Step) (a : Answer) → Leads D S (next (g x)) a → Leads D S (steps next) a) (λ b. (next : _ → Step) → Leads D S (steps next) (Fails b)) r x is h in
       leading_by (next (g x)) (steps next) f s (on next) k
+
+  -- the answer to a question that is asked is the answer
+  pub pass_reach : {A : Type 0} (q : Question) (f : A → Made) (r : Result A ExpFault) → Reaches D S (λ next. Asks q next) f r → Leading D S (pass q) f r
+  pass_reach q f (Ok x) h = h (λ m. Ends (Gives m)) (Gives (f x)) ends
+  pass_reach q f (Err (fault.Refused at rule)) h = h (λ m. Ends (Gives m))
+  pass_reach q f (Err fault.Memory) h = tt
+
+  -- what is given is this
+  pub gives_made : (x : IlExp) (t : Ty) (m : Made) → m ≡ made x t → Leads D S (give x t) (Gives m)
+  gives_made x t m e = subst (λ z. Leads D S (give x t) (Gives z)) (sym e) ends
+
+  pub leads_three : {A B C : Type 0} (next : A → B → C → Step) (n m : A) (x y : B) (z w : C) (a : Answer)
+      → n ≡ m → x ≡ y → z ≡ w → Leads D S (next n x z) a → Leads D S (next m y w) a
+  leads_three next n m x y z w a e f g h =
+      subst (λ k. Leads D S (next k y w) a) e (subst (λ k. Leads D S (next n k w) a) f (subst (λ k. Leads D S (next n x k) a) g h))
+
+  pub gives_is : (s : Step) (m n : Made) → n ≡ m → Leads D S s (Gives m) → Leads D S s (Gives n)
+  gives_is s m n e h = subst (λ z. Leads D S s (Gives z)) (sym e) h
+
+  -- a test of the table
+  pub leads_then : (b : Bool) (s u : Step) (a : Answer) → b ≡ true → Leads D S s a → Leads D S (if b then s else u) a
+  leads_then b s u a e h = subst (λ z. Leads D S (if z then s else u) a) (sym e) h
+
+  pub leads_else : (b : Bool) (s u : Step) (a : Answer) → b ≡ false → Leads D S u a → Leads D S (if b then s else u) a
+  leads_else b s u a e h = subst (λ z. Leads D S (if z then s else u) a) (sym e) h
 
   -- ---- rows
 

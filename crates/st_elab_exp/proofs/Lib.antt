@@ -4,3 +4,5 @@ mod Choosing
 pub mod Leaves
 pub mod Builds
 pub mod Exact
+mod Fields
+mod Members

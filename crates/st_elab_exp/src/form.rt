@@ -2,6 +2,7 @@
 
 ghost use Rattle.std.specs.Prelude.{◌≡◌, map};
 ghost use Rattle.st_el.specs.declared.expression.Count.{out-Count};
+ghost use Rattle.st_elaboration.specs.Collections.{is_run};
 ghost use Rattle.st_elaboration.specs.Forms.{all_true, inferable, is_spliced, goes_over_list};
 
 use st_el::{Count, Exp, Node};
@@ -66,4 +67,11 @@ pub fn is_spliced(exp: &Exp) -> bool
         Node::Iter(_, count) => goes_over_list(count),
         _ => false,
     }
+}
+
+/// Two elements or more, not in parentheses.
+pub fn is_run(parts: &[Exp], in_parentheses: bool) -> bool
+    ensures { result ≡ is_run parts.now in_parentheses }
+{
+    parts.len() >= 2 && !in_parentheses
 }

@@ -2,6 +2,7 @@
 
 ghost use Rattle.std.specs.Prelude.{◌≡◌, IfOk, MatchOption};
 ghost use Rattle.st_il.specs.declared.ty.Ty.{Ty};
+ghost use Rattle.st_il.specs.declared.expression.IlExp.{IlExp};
 ghost use Rattle.st_il.specs.declared.expression.IlExp.TheVariants as il;
 ghost use Rattle.st_elaboration.specs.declared.decls.Scope.{Scope};
 ghost use Rattle.st_elaboration.specs.Steps.{made, as_list, as_number, larger, raised, injected, wider, number_type, is_collection};
@@ -13,13 +14,6 @@ use st_elaboration::{Decls, ExpFault};
 use st_il::{IlExp, NumTy, Ty, copy_ty};
 use st_num::{Boxed, NoMemory, RuleId, Span};
 use std::alloc::Global;
-
-/// An expression with its type.
-#[derive(Drop)]
-pub struct Found {
-    pub exp: IlExp,
-    pub ty: Ty,
-}
 
 /// The element type of a list type; Y5 at this place where it is none.
 pub fn as_list<'a>(decls: &'a Decls, at: Span, ty: &'a Ty) -> Result<&'a Ty, ExpFault>
@@ -49,7 +43,7 @@ pub fn as_number(decls: &Decls, at: Span, ty: &Ty) -> Result<NumTy, ExpFault>
 }
 
 /// Whether a type that is met without its aliases is a list or an option.
-fn is_collection(ty: &Ty) -> bool
+pub fn is_collection(ty: &Ty) -> bool
     ensures { result ≡ is_collection ty.now }
 {
     match ty {
@@ -59,21 +53,31 @@ fn is_collection(ty: &Ty) -> bool
 }
 
 /// The injection of an expression into a type.
-fn up(alloc: Global, ty: &Ty, exp: IlExp) -> Result<IlExp, NoMemory>
+pub fn up(alloc: Global, ty: &Ty, exp: Boxed<IlExp>) -> Result<Boxed<IlExp>, NoMemory>
     ensures { IfOk result (λ x. x ≡ il.Up ty.now exp) }
 {
     let ty = copy_ty(alloc, ty)?;
-    Ok(IlExp::Up(ty, Boxed::new(alloc, exp)?))
+    let injected = Boxed::new(alloc, IlExp::Up(ty, exp))?;
+    Ok(injected)
 }
 
 /// The expression of this type, injected into a type above it where it is not of that type.
-pub fn raise(alloc: Global, decls: &Decls, exp: IlExp, has: &Ty, ty: &Ty) -> Result<IlExp, ExpFault>
-    ensures { (S : Scope) → Reaches decls.now S (raised (made exp has.now) ty.now) (λ x. x) result }
+pub fn raise(
+    alloc: Global,
+    decls: &Decls,
+    exp: Boxed<IlExp>,
+    has: &Ty,
+    ty: &Ty,
+) -> Result<Boxed<IlExp>, NoMemory>
+    ensures { IfOk result (λ x. (S : Scope) (next : IlExp → Step) (a : Answer)
+        → Leads decls.now S (next x) a
+        → Leads decls.now S (raised (made exp has.now) ty.now next) a) }
 {
     if decls.types.same(has, ty) {
         return Ok(exp);
     }
-    Ok(up(alloc, ty, exp)?)
+    let injected = up(alloc, ty, exp)?;
+    Ok(injected)
 }
 
 /// The larger of two types, that of the left side where each is below the other.
@@ -93,7 +97,12 @@ pub fn larger<'a>(decls: &Decls, left: &'a Ty, right: &'a Ty) -> Option<&'a Ty>
 }
 
 /// A number of the first type, injected into the second.
-pub fn inject(alloc: Global, from: NumTy, to: NumTy, exp: IlExp) -> Result<IlExp, NoMemory>
+pub fn inject(
+    alloc: Global,
+    from: NumTy,
+    to: NumTy,
+    exp: Boxed<IlExp>,
+) -> Result<Boxed<IlExp>, NoMemory>
     ensures { IfOk result (λ x. x ≡ injected from to exp) }
 {
     match (from, to) {

@@ -8,10 +8,18 @@
 //! are the table. The rules are in `docs/elaboration.md`.
 #![tactic(auto)]
 
+mod ask;
+mod asking;
 mod choice;
+mod fitting;
 mod form;
 mod found;
 mod iteration;
+mod number;
+mod operand;
+mod operator;
+mod part;
+mod record;
 mod variable;
 
 pub use st_elaboration::{Decls, ExpFault, Scope};

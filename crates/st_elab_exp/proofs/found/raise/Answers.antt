@@ -6,5 +6,5 @@ pub returns-then-same : goal.returns-then-same
 returns-then-same c = λ S next a h. passes (proved c.same.result c.if-same.true c.same.ensures.0) h
 
 pub returns : goal.returns
-returns c = λ S next a h. raised_up c.args.decls.now S c.args.exp c.in_ok-up.field-0 c.args.has.now c.args.ty.now next a
-    (refuted c.same.result c.if-same.false c.same.ensures.1) c.in_ok-up.ensures h
+returns c = λ S next a h. raised_up c.args.decls.now S c.args.exp c.in_ok-injected.injected c.args.has.now c.args.ty.now next a
+    (refuted c.same.result c.if-same.false c.same.ensures.1) c.in_ok-injected.ensures h
