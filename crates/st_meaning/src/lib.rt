@@ -25,6 +25,8 @@ mod notation_pieces;
 mod path;
 mod piece;
 mod pieces;
+#[cfg(test)]
+mod tests;
 
 pub use action::{Action, TokenRef};
 pub use builder::build;
