@@ -1,2 +1,7 @@
 mod Longest
 mod Scanned
+pub mod Cuts
+pub mod Plains
+pub mod Ends
+pub mod Parts
+pub mod Wraps
