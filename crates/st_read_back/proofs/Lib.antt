@@ -5,3 +5,4 @@ pub mod Plains
 pub mod Ends
 pub mod Parts
 pub mod Wraps
+pub mod Placed

@@ -29,11 +29,10 @@ plain-node n l e =
 pub plain-at : (at : Span) (n : Node) (l : Node-F Count Node Seg Exp) → out-Node n ≡ l → plain_exp (exp at n) ≡ exp nowhere (plain_node_at (parts_plain l))
 plain-at at n l e = plain-exp at n ∙ ap (exp nowhere) (plain-node n l e)
 
-pub printed-exp : (at : Span) (n : Node) → printed (exp at n) ≡ printed_node_at (opened n)
-printed-exp at n =
-    fold_out-Exp Marked Printed (List ℕ) Printed printed_mark_at printed_node_at printed_step_at printed_exp_at (exp at n)
-    ∙ ap (λ e. printed_exp_at (map-Exp Count Node Seg Exp Marked Printed (List ℕ) Printed printed_mark printed_node printed_step printed e)) (out-roll-Exp (record { at = at; node = n }))
-    ∙ fold_out-Node Marked Printed (List ℕ) Printed printed_mark_at printed_node_at printed_step_at printed_exp_at n
+pub printed-of : (e : Exp) → printed e ≡ printed_node_at (opened (out-Exp e).node)
+printed-of e =
+    fold_out-Exp Marked Printed (List ℕ) Printed printed_mark_at printed_node_at printed_step_at printed_exp_at e
+    ∙ fold_out-Node Marked Printed (List ℕ) Printed printed_mark_at printed_node_at printed_step_at printed_exp_at (out-Exp e).node
 
 pub node-of : (at : Span) (n : Node) → (out-Exp (exp at n)).node ≡ n
 node-of at n = ap (λ e. e.node) (out-roll-Exp (record { at = at; node = n }))

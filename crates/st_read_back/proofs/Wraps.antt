@@ -38,9 +38,7 @@ signed m = token (Sign m) (spelling m)
 
 -- An opening and a closing sign, and the trees of what stands between them: those of the inner
 -- sort that mean the first expression become trees that mean the second.
-pub record Frame (names : List (List ℕ)) (σ inner : Sort) (no_bar : Bool) (e f : Exp) : Type 0 where
-  pub opens : Mark
-  pub ends : Mark
+pub record Frame (names : List (List ℕ)) (opens ends : Mark) (σ inner : Sort) (no_bar : Bool) (e f : Exp) : Type 0 where
   pub first : First opens (is_arithmetic inner)
   pub closer : Closer ends
   pub front : (bs : List ℕ) → Front (is_arithmetic σ) (spelling opens ++ bs)
@@ -57,9 +55,7 @@ pub record Frame (names : List (List ℕ)) (σ inner : Sort) (no_bar : Bool) (e 
 abbrev pub tight_traits : Bool → Traits
 tight_traits no_bar = record { level = 20; dots = true; plus = true; no_bar = no_bar }
 
-module _ (names : List (List ℕ)) (σ inner : Sort) (no_bar : Bool) (e f : Exp) (frame : Frame names σ inner no_bar e f) where
-  open frame use {opens, ends}
-
+module _ (names : List (List ℕ)) (opens ends : Mark) (σ inner : Sort) (no_bar : Bool) (e f : Exp) (frame : Frame names opens ends σ inner no_bar e f) where
   abbrev framed_pieces : List Piece → List Piece
   framed_pieces ps = signed opens ∷ (ps ++ signed ends ∷ [])
 
@@ -124,10 +120,8 @@ arith-plain : (at : Span) (e : Exp) → plain_exp (exp at (node.Arith e)) ≡ pl
 arith-plain at e = plain-at at (node.Arith e) (Node-F.Arith e) (node.outs-Arith e) ∙ plain-again e
 
 -- parentheses in an expression
-pub paren_frame : (names : List (List ℕ)) (b : Bool) (e : Exp) → Frame names (expression b) (expression false) true e e
+pub paren_frame : (names : List (List ℕ)) (b : Bool) (e : Exp) → Frame names OpenParen CloseParen (expression b) (expression false) true e e
 paren_frame names b e = record {
-  opens = OpenParen;
-  ends = CloseParen;
   first = first_round _;
   closer = by_round;
   front = λ bs. record { first = 40; rest = bs; is = refl; no_semicolon = refl; no_minus = λ _. refl };
@@ -141,10 +135,8 @@ paren_frame names b e = record {
 }
 
 -- parentheses in arithmetic
-pub group_frame : (names : List (List ℕ)) (e : Exp) → Frame names arithmetic arithmetic true e e
+pub group_frame : (names : List (List ℕ)) (e : Exp) → Frame names OpenParen CloseParen arithmetic arithmetic true e e
 group_frame names e = record {
-  opens = OpenParen;
-  ends = CloseParen;
   first = first_round _;
   closer = by_round;
   front = λ bs. record { first = 40; rest = bs; is = refl; no_semicolon = refl; no_minus = λ _. refl };
@@ -158,10 +150,8 @@ group_frame names e = record {
 }
 
 -- arithmetic in any sort of place that has it
-pub dollar_frame : (names : List (List ℕ)) (σ : Sort) (e : Exp) → encloses σ dollar ≡ true → Frame names σ arithmetic true e e
+pub dollar_frame : (names : List (List ℕ)) (σ : Sort) (e : Exp) → encloses σ dollar ≡ true → Frame names OpenArith CloseParen σ arithmetic true e e
 dollar_frame names σ e enc = record {
-  opens = OpenArith;
-  ends = CloseParen;
   first = first_dollar _;
   closer = by_round;
   front = λ bs. record { first = 36; rest = 40 ∷ bs; is = refl; no_semicolon = refl; no_minus = λ _. refl };
@@ -175,10 +165,8 @@ dollar_frame names σ e enc = record {
 }
 
 -- the bars of a length
-pub length_frame : (names : List (List ℕ)) (σ : Sort) (at : Span) (e : Exp) → computes σ ≡ true → Frame names σ (expression true) false e (exp at (node.Len e))
+pub length_frame : (names : List (List ℕ)) (σ : Sort) (at : Span) (e : Exp) → computes σ ≡ true → Frame names Bar Bar σ (expression true) false e (exp at (node.Len e))
 length_frame names σ at e c = record {
-  opens = Bar;
-  ends = Bar;
   first = first_bar;
   closer = bar_closes;
   front = λ bs. record { first = 124; rest = bs; is = refl; no_semicolon = refl; no_minus = λ _. refl };
