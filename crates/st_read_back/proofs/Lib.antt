@@ -6,3 +6,5 @@ pub mod Ends
 pub mod Parts
 pub mod Wraps
 pub mod Placed
+pub mod Suffixes
+pub mod Leaves

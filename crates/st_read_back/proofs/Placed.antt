@@ -18,7 +18,10 @@ use Rattle.st_el.specs.declared.place.Wrapping.TheVariants.{Bare, Parens, Dollar
 use Rattle.st_el.specs.Wrappings.{Printed, Level, level_of, takes_in, has_bar, is_arithmetic, suits, wrapping, is_plus}
 use Rattle.st_el.specs.SourceText.{printed, printed_node_at, opened, front, postfix, wrapped, text_at}
 use Rattle.st_el.specs.Levels.{in_parens}
-use Rattle.st_read_back.proofs.Plains.{printed-of}
+use Rattle.st_num.specs.declared.span.Span.{Span}
+use Rattle.st_el.specs.declared.expression.Node.{Node}
+use Rattle.st_meaning.specs.Meaning.{exp}
+use Rattle.st_read_back.proofs.Plains.{printed-of, node-of}
 use Rattle.st_read_back.proofs.Parts.{Traits, Within, Part, weaker, part_as}
 use Rattle.st_read_back.proofs.Wraps.{framed, paren_frame, group_frame, tight_traits}
 
@@ -173,3 +176,23 @@ pub placed : (names : List (List ℕ)) (σ : Sort) (e : Exp) (p : Place) → Hom
 placed names σ e p home low x =
     subst (λ y. Part names (sort_of p.around) e (place_traits p y) (y.at p)) (sym (printed-of e))
     (placed_in names σ e p.around p.least p.bar_closes p.behind home low x)
+
+-- ---- what is read back wherever it is printed
+
+pub normal : (σ : Sort) (l : Level) → is_arithmetic l ≡ false → IsNormal σ l
+normal (expression b) l h = h
+normal arithmetic l h = tt
+normal σ l h = tt
+
+-- by the level of its node
+pub printable :
+    (names : List (List ℕ)) (σ : Sort) (at : Span) (n : Node) (l : Level) → opened n ≡ l → 1 ≤ level_of l → IsNormal σ l
+    → ((a : Around) → Home σ a → Part names (sort_of a) (exp at n) (bare_traits l) (front a l ++ postfix l))
+    → Printable names σ (exp at n)
+printable names σ at n l is some ok bare =
+    let same : l ≡ level_in (exp at n) = sym (ap opened (node-of at n) ∙ is) in
+    record {
+      some = subst (λ m. 1 ≤ level_of m) same some;
+      normal = subst (IsNormal σ) same ok;
+      bare = λ a home. subst (λ m. Part names (sort_of a) (exp at n) (bare_traits m) (front a m ++ postfix m)) same (bare a home);
+    }
