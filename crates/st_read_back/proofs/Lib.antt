@@ -8,3 +8,4 @@ pub mod Wraps
 pub mod Placed
 pub mod Suffixes
 pub mod Leaves
+pub mod Posts

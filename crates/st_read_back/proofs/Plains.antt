@@ -5,9 +5,9 @@ use Rattle.st_num.specs.declared.mark.Mark.{Mark}
 use Rattle.st_el.specs.declared.expression.Exp.{Exp, Exp-F, map-Exp, out-Exp, roll-Exp, fold_out-Exp, out-roll-Exp}
 use Rattle.st_el.specs.declared.expression.Node.{Node, out-Node, roll-Node, map-Node, fold_out-Node}
 use Rattle.st_el.specs.declared.expression.Node.TheVariants as v
-use Rattle.st_el.specs.declared.expression.Count.{Count, roll-Count}
-use Rattle.st_el.specs.declared.expression.Count.TheOpen.{Node-F}
-use Rattle.st_el.specs.declared.expression.Seg.{Seg, roll-Seg}
+use Rattle.st_el.specs.declared.expression.Count.{Count, roll-Count, out-Count, map-Count, fold_out-Count}
+use Rattle.st_el.specs.declared.expression.Count.TheOpen.{Count-F, Node-F, Seg-F}
+use Rattle.st_el.specs.declared.expression.Seg.{Seg, roll-Seg, out-Seg, map-Seg, fold_out-Seg}
 use Rattle.st_el.specs.Wrappings.{Printed, Marked}
 use Rattle.st_el.specs.SourceText.{printed, printed_node, printed_mark, printed_step, printed_mark_at, printed_node_at, printed_step_at, printed_exp_at, opened}
 use Rattle.st_el.specs.Plain.{nowhere, plain_exp, plain_node, plain_count, plain_seg, plain_node_at, plain_exp_at}
@@ -41,3 +41,27 @@ pub plain-again : (e : Exp) → exp nowhere (out-Exp (plain_exp e)).node ≡ pla
 plain-again e =
     let is : plain_exp e ≡ exp nowhere (plain_node (out-Exp e).node) = fold_out-Exp Count Node Seg Exp roll-Count plain_node_at roll-Seg plain_exp_at e in
     ap (λ f. exp nowhere (out-Exp f).node) is ∙ ap (exp nowhere) (node-of nowhere (plain_node (out-Exp e).node)) ∙ sym is
+
+-- ---- counts
+
+pub mark-of : (c : Count) (k : Count-F Count Node Seg Exp) → out-Count c ≡ k → printed_mark c ≡ printed_mark_at (map-Count Count Node Seg Exp Marked Printed (List ℕ) Printed printed_mark printed_node printed_step printed k)
+mark-of c k e =
+    fold_out-Count Marked Printed (List ℕ) Printed printed_mark_at printed_node_at printed_step_at printed_exp_at c
+    ∙ ap (λ i. printed_mark_at (map-Count Count Node Seg Exp Marked Printed (List ℕ) Printed printed_mark printed_node printed_step printed i)) e
+
+pub plain-count : (c : Count) (k : Count-F Count Node Seg Exp) → out-Count c ≡ k → plain_count c ≡ roll-Count (map-Count Count Node Seg Exp Count Node Seg Exp plain_count plain_node plain_seg plain_exp k)
+plain-count c k e =
+    fold_out-Count Count Node Seg Exp roll-Count plain_node_at roll-Seg plain_exp_at c
+    ∙ ap (λ i. roll-Count (map-Count Count Node Seg Exp Count Node Seg Exp plain_count plain_node plain_seg plain_exp i)) e
+
+-- ---- steps of paths
+
+pub step-of : (s : Seg) (k : Seg-F Count Node Seg Exp) → out-Seg s ≡ k → printed_step s ≡ printed_step_at (map-Seg Count Node Seg Exp Marked Printed (List ℕ) Printed printed_mark printed_node printed_step printed k)
+step-of s k e =
+    fold_out-Seg Marked Printed (List ℕ) Printed printed_mark_at printed_node_at printed_step_at printed_exp_at s
+    ∙ ap (λ i. printed_step_at (map-Seg Count Node Seg Exp Marked Printed (List ℕ) Printed printed_mark printed_node printed_step printed i)) e
+
+pub plain-step : (s : Seg) (k : Seg-F Count Node Seg Exp) → out-Seg s ≡ k → plain_seg s ≡ roll-Seg (map-Seg Count Node Seg Exp Count Node Seg Exp plain_count plain_node plain_seg plain_exp k)
+plain-step s k e =
+    fold_out-Seg Count Node Seg Exp roll-Count plain_node_at roll-Seg plain_exp_at s
+    ∙ ap (λ i. roll-Seg (map-Seg Count Node Seg Exp Count Node Seg Exp plain_count plain_node plain_seg plain_exp i)) e

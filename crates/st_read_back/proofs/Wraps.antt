@@ -110,7 +110,7 @@ module _ (names : List (List ℕ)) (opens ends : Mark) (σ inner : Sort) (no_bar
 abbrev pub boxed : Heading → Token → Tree → Tree
 boxed h y t = bracket h (more none [] t) y
 
-no_atom_at : (at : Span) (n : Node) (l : Node-F Count Node Seg Exp) → out-Node n ≡ l → is_atom l ≡ false → is_atom (opened (exp at n)) ≡ false
+pub no_atom_at : (at : Span) (n : Node) (l : Node-F Count Node Seg Exp) → out-Node n ≡ l → is_atom l ≡ false → is_atom (opened (exp at n)) ≡ false
 no_atom_at at n l e h = ap (λ m. is_atom (out-Node m)) (node-of at n) ∙ ap is_atom e ∙ h
 
 paren-plain : (at : Span) (e : Exp) → plain_exp (exp at (node.Paren e)) ≡ plain_exp e
