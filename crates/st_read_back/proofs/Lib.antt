@@ -9,3 +9,16 @@ pub mod Placed
 pub mod Suffixes
 pub mod Leaves
 pub mod Posts
+pub mod Counts
+pub mod Joins
+pub mod Enclosed
+pub mod Rows
+pub mod Lists
+pub mod Sequences
+pub mod Tuples
+pub mod Prefixes
+pub mod Elements
+pub mod Atoms
+pub mod Indices
+pub mod Bounds
+pub mod Fields

@@ -37,6 +37,9 @@ printed-of e =
 pub node-of : (at : Span) (n : Node) → (out-Exp (exp at n)).node ≡ n
 node-of at n = ap (λ e. e.node) (out-roll-Exp (record { at = at; node = n }))
 
+pub plain-of : (e : Exp) → plain_exp e ≡ exp nowhere (plain_node (out-Exp e).node)
+plain-of e = fold_out-Exp Count Node Seg Exp roll-Count plain_node_at roll-Seg plain_exp_at e
+
 pub plain-again : (e : Exp) → exp nowhere (out-Exp (plain_exp e)).node ≡ plain_exp e
 plain-again e =
     let is : plain_exp e ≡ exp nowhere (plain_node (out-Exp e).node) = fold_out-Exp Count Node Seg Exp roll-Count plain_node_at roll-Seg plain_exp_at e in

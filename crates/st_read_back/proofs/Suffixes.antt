@@ -36,7 +36,7 @@ pub record Suffix (names : List (List ℕ)) (σ : Sort) (e f : Exp) (inner trait
   pub reads : (ys xs : List Token) → map shape xs ≡ shapes_behind true pieces → (r : Read names σ e inner ys)
       → Longer names σ f traits r.tree xs
 
-starts_bar_append : (us vs : List Lexeme) → starts_text us ≡ true → starts_bar us ≡ false → starts_bar (us ++ vs) ≡ false
+pub starts_bar_append : (us vs : List Lexeme) → starts_text us ≡ true → starts_bar us ≡ false → starts_bar (us ++ vs) ≡ false
 starts_bar_append [] vs s b = absurd (cc)
 starts_bar_append (l ∷ us) vs s b = b
 

@@ -113,10 +113,10 @@ boxed h y t = bracket h (more none [] t) y
 pub no_atom_at : (at : Span) (n : Node) (l : Node-F Count Node Seg Exp) → out-Node n ≡ l → is_atom l ≡ false → is_atom (opened (exp at n)) ≡ false
 no_atom_at at n l e h = ap (λ m. is_atom (out-Node m)) (node-of at n) ∙ ap is_atom e ∙ h
 
-paren-plain : (at : Span) (e : Exp) → plain_exp (exp at (node.Paren e)) ≡ plain_exp e
+pub paren-plain : (at : Span) (e : Exp) → plain_exp (exp at (node.Paren e)) ≡ plain_exp e
 paren-plain at e = plain-at at (node.Paren e) (Node-F.Paren e) (node.outs-Paren e) ∙ plain-again e
 
-arith-plain : (at : Span) (e : Exp) → plain_exp (exp at (node.Arith e)) ≡ plain_exp e
+pub arith-plain : (at : Span) (e : Exp) → plain_exp (exp at (node.Arith e)) ≡ plain_exp e
 arith-plain at e = plain-at at (node.Arith e) (Node-F.Arith e) (node.outs-Arith e) ∙ plain-again e
 
 -- parentheses in an expression
