@@ -255,3 +255,16 @@ count_printed names b e at i c x =
     operand_then names (expression b) e at (node.Iter e i) (Node-F.Iter (printed e) (record { behind = Other; text = codes "^" ++ c.bytes })) Other
     (ap parts_printed (node.outs-Iter e i) ∙ ap (λ m. Node-F.Iter (printed e) m) c.marked) refl refl (λ a. refl) x
     (λ a home. count_behind names b a e at i home c)
+
+-- the same in arithmetic
+pub arith_group : (names : List (List ℕ)) (at : Span) (e : Exp) → Printable names arithmetic e → Printable names arithmetic (exp at (node.Arith e))
+arith_group names at e x =
+    printable names arithmetic at (node.Arith e) (Node-F.Arith (printed e)) (ap parts_printed (node.outs-Arith e)) (omega arith) tt (λ a home.
+    part_as names (sort_of a) (exp at (node.Arith e)) (exp at (node.Arith e)) (tight_traits true) (codes "$(" ++ (printed e).at (whole Arithmetic) ++ codes ")") _ refl
+    (sym (append-nil (codes "$(" ++ (printed e).at (whole Arithmetic) ++ codes ")"))) (arith_part names (sort_of a) at e (dollars a home) x))
+  where
+    dollars : (a : Around) → Home arithmetic a → encloses (sort_of a) dollar ≡ true
+    dollars Arithmetic h = refl
+    dollars Brackets h = absurd h
+    dollars Bars h = absurd h
+    dollars Caret h = absurd h

@@ -100,7 +100,7 @@ IsPosition i none = ⊥
 IsPosition i (more (more ts q u) w t) = ⊥
 IsPosition i (more none w t) = (w ≡ []) × Fits (expression false) t × (13 ≤ level t) × (plain_exp (meaning t) ≡ plain_exp i)
 
-position_row : (names : List (List ℕ)) (i : Exp) → Printable names (expression false) i → Row names (IsPosition i) false false ((printed i).at position)
+pub position_row : (names : List (List ℕ)) (i : Exp) → Printable names (expression false) i → Row names (IsPosition i) false false ((printed i).at position)
 position_row names i x =
     row_one names (IsPosition i) (expression false) i (place_traits position (printed i)) ((printed i).at position) (λ xs r. (refl, r.fits, r.level, r.plain))
     (placed names (expression false) i position tt (omega arith) x)
@@ -190,7 +190,7 @@ slice_no_atom i j (more (more (more ts q v') v s) w u) t p = absurd p.0
 slice_no_atom i j (more (more none v s) w u) t p =
     no_atom_at (place (meaning t)) (node.Slice (meaning t) (meaning s) (meaning u)) (Node-F.Node::Slice (meaning t) (meaning s) (meaning u)) (node.outs-Slice (meaning t) (meaning s) (meaning u)) refl
 
-range_text : (i j : List ℕ) → codes "[" ++ ((i ++ (codes " : " ++ j)) ++ codes "]") ≡ codes "[" ++ i ++ codes " : " ++ j ++ codes "]"
+pub range_text : (i j : List ℕ) → codes "[" ++ ((i ++ (codes " : " ++ j)) ++ codes "]") ≡ codes "[" ++ i ++ codes " : " ++ j ++ codes "]"
 range_text i j = ap (λ w. 91 ∷ (w ++ codes "]")) (sym (append_assoc i (codes " : ") j))
 
 slice_suffix :

@@ -133,7 +133,7 @@ joined_plain at by m e f g h p q = go (is_notation m)
     go false = same_plain at by (node.Binary e m g) (node.Binary f m h) (Node-F.Binary e m g) (Node-F.Binary f m h) (node.outs-Binary e m g) (node.outs-Binary f m h)
         (ap (λ x. roll-Node (Node-F.Binary x m (plain_exp g))) p ∙ ap (λ x. roll-Node (Node-F.Binary (plain_exp f) m x)) q)
 
-joined_no_atom : (at : Span) (m : Mark) (e g : Exp) → is_atom (opened (exp at (joined_node e m g))) ≡ false
+pub joined_no_atom : (at : Span) (m : Mark) (e g : Exp) → is_atom (opened (exp at (joined_node e m g))) ≡ false
 joined_no_atom at m e g = go (is_notation m)
   where
     go : (b : Bool) → is_atom (opened (exp at (if b then node.Infix e m g else node.Binary e m g))) ≡ false

@@ -22,3 +22,8 @@ pub mod Atoms
 pub mod Indices
 pub mod Bounds
 pub mod Fields
+pub mod Paths
+pub mod Changes
+pub mod AtomTrees
+pub mod Printing
+pub mod Law

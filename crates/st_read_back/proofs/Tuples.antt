@@ -52,7 +52,7 @@ round_opening names outer inner = record {
   reads = λ b xs s. let x = single xs (kind.Sign OpenParen) b s in record { of = x.only; spelled = one_lexeme names xs (kind.Sign OpenParen) b x };
 }
 
-many_parens : (us : List Exp) → 2 ≤ length us → in_parens us ≡ node.Tuple us
+pub many_parens : (us : List Exp) → 2 ≤ length us → in_parens us ≡ node.Tuple us
 many_parens [] h = refl
 many_parens (u ∷ []) h = absurd (omega (arith, h))
 many_parens (u ∷ v ∷ us) h = refl

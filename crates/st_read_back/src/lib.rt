@@ -1,11 +1,13 @@
-//! Reading back: what is written of tokens is scanned as these tokens.
+//! Reading back: what is written of tokens is scanned as these tokens, and what is printed of an
+//! expression is read as this expression.
 //!
 //! The one idea: a token ends where it is written to end, as long as nothing stands behind it that
 //! would make it longer.
 //!
-//! Read `laws` first, with `specs/Written.antt`. The rules are in `docs/source-trees.md`.
+//! Read `laws` first, with `specs/Written.antt` and `specs/ReadBack.antt`. The rules are in
+//! `docs/source-trees.md`.
 #![tactic(auto)]
 
 mod laws;
 
-pub use laws::written_tokens;
+pub use laws::{printed_is_read_back, written_tokens};

@@ -1,0 +1,72 @@
+-- What is printed of an expression that was read is read as this expression.
+use Rattle.std.proofs.Common.{◌≡◌, ℕ, ◌≤◌, List, [], ◌∷◌, ◌++◌, map, length, Bool, true, false, refl, sym, ap, ◌∙◌, subst, arith}
+use Rattle.std.specs.Str.{IsUtf8}
+use Rattle.std.proofs.lemmas.List.{append-nil}
+use Rattle.st_scan.specs.declared.token.Token.{Token}
+use Rattle.st_scan.specs.Tokens.{Run, Tokens}
+use Rattle.st_grammar.specs.declared.sort.Sort.TheVariants.{Expression as expression}
+use Rattle.st_grammar.specs.Lexemes.{lexeme}
+use Rattle.st_grammar.specs.Definitions.{token_in}
+use Rattle.st_grammar.specs.Trees.{Tree, Trees, none, more, text, texts}
+use Rattle.st_el.specs.declared.expression.Exp.{Exp}
+use Rattle.st_el.specs.declared.place.Around.TheVariants.{Brackets}
+use Rattle.st_el.specs.Levels.{whole}
+use Rattle.st_el.specs.SourceText.{printed, source_text}
+use Rattle.st_el.specs.Plain.{plain_exp}
+use Rattle.st_meaning.specs.Meaning.{meaning, meanings}
+use Rattle.st_parse_exp.specs.Expressions.{ParseExpressions, lexemes_of}
+use Rattle.st_parse_exp.specs.Parse.{ParseExps}
+use Rattle.st_parse_exp.proofs.Drafted.{token_is}
+use Rattle.st_read_back.specs.Written.{bytes_of, shapes, shape, AreApart}
+use Rattle.st_read_back.specs.ReadBack.{ReadBack}
+use Rattle.st_read_back.proofs.Ends.{at_end}
+use Rattle.st_read_back.proofs.Parts.{Read}
+use Rattle.st_read_back.proofs.Placed.{PartAt, place_traits, placed}
+use Rattle.st_read_back.proofs.Leaves.{IsWritten}
+use Rattle.st_read_back.proofs.AtomTrees.{IsReal, AreReal, real_left, real_right}
+use Rattle.st_read_back.proofs.Printing.{expression_tree, two_long}
+use Rattle.st_read_back.proofs.Scanned.{written_tokens}
+
+real_lexeme : (names : List (List ℕ)) (x : Token) → IsWritten x.kind → IsReal names (lexeme names x)
+real_lexeme names x w = (ap (lexeme names) (sym (token_is names x)), subst (λ y. IsWritten y.kind) (sym (token_is names x)) w)
+
+-- the tokens of a file are real
+run_real : (names : List (List ℕ)) (number : ℕ) (file rest : List ℕ) (xs : List Token) (left : List ℕ) → Run number file rest xs left → AreReal names (lexemes_of names xs)
+run_real names number file rest [] left r = tt
+run_real names number file rest (x ∷ xs) left r =
+    (real_lexeme names x (r.1.text, r.1.longest.spelled, r.1.in_range), run_real names number file r.0 xs left r.2)
+
+-- the one tree of one expression
+record OneTree (e : Exp) (ts : Trees) : Type 0 where
+  tree : Tree
+  means : meaning tree ≡ e
+
+first_of_one : (e f : Exp) → e ∷ [] ≡ f ∷ [] → e ≡ f
+first_of_one e f h = cc
+
+module _ (names : List (List ℕ)) (number : ℕ) (e : Exp) where
+  tree_back : (t : Tree) → meaning t ≡ e → PartAt names (whole Brackets) (meaning t) → IsUtf8 (source_text e) → ReadBack names number e
+  tree_back t is part utf8 =
+      let text_is : (printed (meaning t)).at (whole Brackets) ≡ source_text e = ap source_text is in
+      let apart : AreApart part.pieces = subst AreApart (append-nil part.pieces) (part.apart [] at_end tt) in
+      let found = written_tokens number part.pieces (subst IsUtf8 (sym (part.same ∙ text_is)) utf8) apart in
+      let r = part.reads true found.0 found.2 in
+      record {
+        tokens = found.0;
+        scanned = subst (λ w. Tokens number w found.0) (part.same ∙ text_is) found.1;
+        exp = meaning r.tree;
+        parsed = record { trees = more none [] r.tree; grammar = record { fits = (tt, refl, r.fits, r.level, tt); some = omega arith; spelled = r.spelled }; meant = refl };
+        plain = r.plain ∙ ap plain_exp is;
+      }
+
+  trees_back : (ts : Trees) (xs : List Token) → ParseExpressions (lexemes_of names xs) ts → meanings ts ≡ e ∷ [] → AreReal names (lexemes_of names xs) → IsUtf8 (source_text e) → ReadBack names number e
+  trees_back none xs g m r u = absurd (omega (arith, g.some))
+  trees_back (more none pre t) xs g m r u =
+      let real : AreReal names (pre ++ text t) = subst (AreReal names) g.spelled r in
+      tree_back t (first_of_one (meaning t) e m)
+      (placed names (expression false) (meaning t) (whole Brackets) tt (omega arith) (expression_tree names false t g.fits.2 (real_right names pre (text t) real))) u
+  trees_back (more (more ts q v) pre t) xs g m r u =
+      absurd (omega (arith, two_long (meanings ts) (meaning v) (meaning t), ap length m))
+
+pub read_back : (names : List (List ℕ)) (file_number number : ℕ) (file : List ℕ) (xs : List Token) (e : Exp) → Tokens file_number file xs → ParseExps names xs (e ∷ []) → IsUtf8 (source_text e) → ReadBack names number e
+read_back names file_number number file xs e t p u = trees_back names number e p.trees xs p.grammar p.meant (run_real names file_number file file xs t.left t.run) u
