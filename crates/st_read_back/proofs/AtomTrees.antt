@@ -1,5 +1,5 @@
 -- Trees that mean atoms.
-use Rattle.std.proofs.Common.{◌≡◌, ℕ, ◌≤◌, List, [], ◌∷◌, ◌++◌, map, Bool, true, false, ◌&&◌, refl, sym, ap, ◌∙◌, subst, arith}
+use Rattle.std.proofs.Common.{◌≡◌, ℕ, List, [], ◌∷◌, ◌++◌, Bool, true, false, ◌&&◌, refl, ap, ◌∙◌}
 use Rattle.std.specs.Prelude.{if◌then◌else◌}
 use Rattle.st_num.specs.declared.span.Span.{Span}
 use Rattle.st_num.specs.declared.mark.Mark.{Mark}
@@ -11,16 +11,14 @@ use Rattle.st_scan.specs.declared.word.Word.TheVariants as word
 use Rattle.st_scan.specs.declared.token.Token.{Token}
 use Rattle.st_scan.specs.declared.token.TokenKind.{TokenKind}
 use Rattle.st_scan.specs.declared.token.TokenKind.TheVariants as kind
-use Rattle.st_grammar.specs.declared.sort.Sort.{Sort}
 use Rattle.st_grammar.specs.declared.sort.Sort.TheVariants.{Expression as expression, Arithmetic as arithmetic}
 use Rattle.st_grammar.specs.declared.sort.Leaf.{Leaf}
 use Rattle.st_grammar.specs.declared.sort.Leaf.TheVariants.{Low as low, Variable as variable, Atom as atom, Number as number, Literal as literal, Function as function}
-use Rattle.st_grammar.specs.declared.sort.Bracket.{Bracket}
 use Rattle.st_grammar.specs.declared.sort.Bracket.TheVariants.{Round as round, Square as square, Brace as brace, TickRound as tick_round, TickSquare as tick_square, TickBrace as tick_brace, Dollar as dollar}
 use Rattle.st_grammar.specs.Levels.{takes}
 use Rattle.st_grammar.specs.Lexemes.{Lexeme, leaf, dot, sign, opening, closing, other, lexeme, kind_lexeme, is_variable}
 use Rattle.st_grammar.specs.Definitions.{token_in, is_minus}
-use Rattle.st_grammar.specs.Trees.{Tree, operand, post, times, bracket, led, Lead, left, ahead, items, Trees, none, more, Heading, plain, length, arguments, index, segment, update, below, text}
+use Rattle.st_grammar.specs.Trees.{Tree, operand, post, times, bracket, led, left, ahead, items, plain, length, arguments, index, segment, update, below, text}
 use Rattle.st_grammar.specs.Grammar.{Fits}
 use Rattle.st_el.specs.declared.expression.Exp.{Exp, out-Exp}
 use Rattle.st_el.specs.declared.expression.Node.{Node, out-Node}
@@ -28,9 +26,8 @@ use Rattle.st_el.specs.declared.expression.Node.TheVariants as node
 use Rattle.st_el.specs.declared.expression.Count.{Count}
 use Rattle.st_el.specs.declared.expression.Count.TheOpen.{Node-F}
 use Rattle.st_el.specs.declared.expression.Seg.{Seg}
-use Rattle.st_el.specs.Plain.{nowhere}
 use Rattle.st_meaning.specs.Names.{name_of, leaf_node}
-use Rattle.st_meaning.specs.Meaning.{exp, place, meaning, meanings, field_meanings, only, base, steps, first_place, in_parens, enclosed, indexed_node, changed_node, is_extension, is_tilde, prefixed_node, is_atom, opened, dotted, dotted_node, atom_name, count_of, mark_count}
+use Rattle.st_meaning.specs.Meaning.{exp, place, meaning, meanings, field_meanings, only, base, steps, first_place, in_parens, indexed_node, changed_node, is_extension, is_tilde, is_atom, opened, dotted, dotted_node, atom_name, count_of, mark_count}
 use Rattle.st_read_back.proofs.Plains.{node-of}
 use Rattle.st_read_back.proofs.Wraps.{no_atom_at}
 use Rattle.st_read_back.proofs.Leaves.{IsLeaf, a_low, a_variable, an_atom, a_bool, a_nat, an_int, a_text_type, a_true, a_false, an_eps, a_number, a_text, a_function, is_leaf, IsWritten}

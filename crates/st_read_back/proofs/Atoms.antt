@@ -1,6 +1,6 @@
 -- Atoms, also those of several names.
-use Rattle.std.proofs.Common.{◌≡◌, ℕ, ◌≤◌, List, [], ◌∷◌, ◌++◌, map, codes, Bool, true, false, ◌&&◌, refl, sym, ap, ◌∙◌, subst, arith, append_assoc}
-use Rattle.std.specs.Prelude.{IsTrue, if◌then◌else◌}
+use Rattle.std.proofs.Common.{◌≡◌, ℕ, ◌≤◌, List, [], ◌∷◌, ◌++◌, map, Bool, true, false, ◌&&◌, refl, sym, ap, ◌∙◌, subst, arith, append_assoc}
+use Rattle.std.specs.Prelude.{if◌then◌else◌}
 use Rattle.std.proofs.lemmas.List.{append-nil}
 use Rattle.st_num.specs.declared.span.Span.{Span}
 use Rattle.st_scan.specs.declared.token.Token.{Token}
@@ -12,13 +12,13 @@ use Rattle.st_grammar.specs.Trees.{Tree, operand, post, text}
 use Rattle.st_grammar.specs.Grammar.{Fits, level}
 use Rattle.st_grammar.proofs.Complete.{begins_tree}
 use Rattle.st_el.specs.declared.expression.Exp.{Exp, out-Exp}
-use Rattle.st_el.specs.declared.expression.Node.{Node, out-Node}
+use Rattle.st_el.specs.declared.expression.Node.{out-Node}
 use Rattle.st_el.specs.declared.expression.Node.TheVariants as node
 use Rattle.st_el.specs.declared.expression.Count.TheOpen.{Node-F}
 use Rattle.st_el.specs.declared.place.Around.{Around}
 use Rattle.st_el.specs.declared.place.Around.TheVariants.{Brackets, Bars, Arithmetic, Caret}
 use Rattle.st_el.specs.SourceText.{front, postfix, parts_printed}
-use Rattle.st_el.specs.Plain.{nowhere, plain_exp, plain_node}
+use Rattle.st_el.specs.Plain.{nowhere, plain_node}
 use Rattle.st_meaning.specs.Names.{name_of}
 use Rattle.st_meaning.specs.Meaning.{exp, place, meaning, is_atom, atom_name, opened, dotted, dotted_node}
 use Rattle.st_read_back.specs.Written.{Piece, token, bytes_of, shape, shapes_behind, AreApart}
@@ -28,7 +28,7 @@ use Rattle.st_read_back.proofs.Plains.{plain-exp, plain-of, node-of}
 use Rattle.st_read_back.proofs.Parts.{Part, starts_bar}
 use Rattle.st_read_back.proofs.Placed.{Home, sort_of, bare_traits, Printable, printable}
 use Rattle.st_read_back.proofs.Suffixes.{starts_bar_append}
-use Rattle.st_read_back.proofs.Leaves.{IsLeaf, an_atom, IsWritten, leaf_word}
+use Rattle.st_read_back.proofs.Leaves.{an_atom, IsWritten, leaf_word}
 use Rattle.st_read_back.proofs.Posts.{IsField, dot_lexeme}
 
 -- the tokens are those of a tree that means this atom
@@ -86,22 +86,22 @@ atom_dot names b name field h p = record {
   ends = λ t. touch-append t p.pieces (token (kind.Dot field) (46 ∷ field) ∷ []);
   front = front_more false name (46 ∷ field) p.front;
   apart = λ more c a.
-    let last : AreApart (token (kind.Dot field) (46 ∷ field) ∷ more) = ((refl, h.name), tt, word_ends (kind.Dot field) true (bytes_of more) refl c, a) in
-    subst AreApart (sym (append_assoc p.pieces (token (kind.Dot field) (46 ∷ field) ∷ []) more))
-    (p.apart (token (kind.Dot field) (46 ∷ field) ∷ more) (before point (field ++ bytes_of more) refl) last);
+      let last : AreApart (token (kind.Dot field) (46 ∷ field) ∷ more) = ((refl, h.name), tt, word_ends (kind.Dot field) true (bytes_of more) refl c, a) in
+      subst AreApart (sym (append_assoc p.pieces (token (kind.Dot field) (46 ∷ field) ∷ []) more))
+      (p.apart (token (kind.Dot field) (46 ∷ field) ∷ more) (before point (field ++ bytes_of more) refl) last);
   reads = λ t xs s.
-    let both = parted t p.pieces (token (kind.Dot field) (46 ∷ field) ∷ []) xs s in
-    let r = p.reads t both.ahead both.fronts in
-    let x = single both.behind (kind.Dot field) (touch t p.pieces) both.backs in
-    record {
-      tree = post r.tree (dot x.only);
-      spelled = lexemes_of_both names xs both.ahead both.behind (text r.tree) (dot x.only ∷ []) both.whole r.spelled
-          (one_lexeme names both.behind (kind.Dot field) (touch t p.pieces) x ∙ ap (λ l. l ∷ []) (dot_lexeme names field x.only h));
-      fits = (refl, r.fits, r.level);
-      level = omega arith;
-      is = dotted_atom (meaning r.tree) x.only name field r.is (x.touching ∙ p.ends t) x.kind;
-      no_bar = starts_bar_append (text r.tree) (dot x.only ∷ []) (begins_tree r.tree (expression b) r.fits) r.no_bar;
-    };
+      let both = parted t p.pieces (token (kind.Dot field) (46 ∷ field) ∷ []) xs s in
+      let r = p.reads t both.ahead both.fronts in
+      let x = single both.behind (kind.Dot field) (touch t p.pieces) both.backs in
+      record {
+        tree = post r.tree (dot x.only);
+        spelled = lexemes_of_both names xs both.ahead both.behind (text r.tree) (dot x.only ∷ []) both.whole r.spelled
+            (one_lexeme names both.behind (kind.Dot field) (touch t p.pieces) x ∙ ap (λ l. l ∷ []) (dot_lexeme names field x.only h));
+        fits = (refl, r.fits, r.level);
+        level = omega arith;
+        is = dotted_atom (meaning r.tree) x.only name field r.is (x.touching ∙ p.ends t) x.kind;
+        no_bar = starts_bar_append (text r.tree) (dot x.only ∷ []) (begins_tree r.tree (expression b) r.fits) r.no_bar;
+      };
 }
 
 atom_bare : (names : List (List ℕ)) (b : Bool) (at : Span) (name : List ℕ) → AtomPart names b name

@@ -1,17 +1,16 @@
 -- A count behind an index.
-use Rattle.std.proofs.Common.{◌≡◌, ℕ, List, [], ◌∷◌, ◌++◌, map, codes, Bool, true, false, refl, sym, ap, ◌∙◌, subst, arith, append_assoc}
-use Rattle.std.specs.Prelude.{IsTrue}
+use Rattle.std.proofs.Common.{◌≡◌, ℕ, List, [], ◌∷◌, ◌++◌, map, codes, Bool, true, false, refl, sym, ap, ◌∙◌, subst, append_assoc}
 use Rattle.st_num.specs.declared.mark.Mark.TheVariants.{OpenParen, CloseParen, Less}
 use Rattle.st_scan.specs.declared.token.Token.{Token}
 use Rattle.st_scan.specs.declared.token.TokenKind.TheVariants as kind
 use Rattle.st_grammar.specs.declared.sort.Leaf.TheVariants.{Low as low}
 use Rattle.st_grammar.specs.declared.sort.Bracket.TheVariants.{Round as round}
 use Rattle.st_grammar.specs.declared.sort.Closing.TheVariants.{ByRound as by_round}
-use Rattle.st_grammar.specs.Lexemes.{Lexeme, leaf, sign, opening, closing}
+use Rattle.st_grammar.specs.Lexemes.{leaf, sign, opening, closing}
 use Rattle.st_grammar.specs.Trees.{bracket, none, more, below, text}
 use Rattle.st_el.specs.declared.expression.Exp.{Exp}
 use Rattle.st_el.specs.declared.expression.Count.{roll-Count}
-use Rattle.st_el.specs.declared.expression.Count.TheOpen.{Count-F, Below}
+use Rattle.st_el.specs.declared.expression.Count.TheOpen.{Below}
 use Rattle.st_el.specs.declared.expression.Count.TheVariants as count
 use Rattle.st_el.specs.Levels.{count as count_place}
 use Rattle.st_el.specs.SourceText.{printed}
@@ -47,10 +46,13 @@ module _ (names : List (List ℕ)) (i : List ℕ) (e : Exp) (w : IsWritten (kind
       let end : AreApart (signed CloseParen ∷ behind) = (refl, tt, last_ends CloseParen true (bytes_of behind) (closer_last CloseParen round_closes) k, a) in
       let rest : AreApart (p.pieces ++ signed CloseParen ∷ behind) = p.apart (signed CloseParen ∷ behind) (closer_clear CloseParen true (bytes_of behind) round_closes) end in
       let opens : Front true (bytes_of (word ∷ space ∷ signed Less ∷ space ∷ (p.pieces ++ signed CloseParen ∷ behind))) =
-          front_more true i (bytes_of (space ∷ signed Less ∷ space ∷ (p.pieces ++ signed CloseParen ∷ behind))) (o.front true) in
-      subst (λ w. AreApart (signed OpenParen ∷ word ∷ space ∷ signed Less ∷ space ∷ w)) (sym (append_assoc p.pieces (signed CloseParen ∷ []) behind))
-      (refl, tt, first_ends OpenParen true (bytes_of (word ∷ space ∷ signed Less ∷ space ∷ (p.pieces ++ signed CloseParen ∷ behind))) (first_round true) opens,
-       (o.spelled, tt, refl, (refl, tt, refl, rest)))
+      front_more true i (bytes_of (space ∷ signed Less ∷ space ∷ (p.pieces ++ signed CloseParen ∷ behind))) (o.front true) in
+      subst (λ w. AreApart (signed OpenParen ∷ word ∷ space ∷ signed Less ∷ space ∷ w)) (sym (append_assoc p.pieces (signed CloseParen ∷ []) behind)) (
+        refl,
+        tt,
+        first_ends OpenParen true (bytes_of (word ∷ space ∷ signed Less ∷ space ∷ (p.pieces ++ signed CloseParen ∷ behind))) (first_round true) opens,
+        (o.spelled, tt, refl, (refl, tt, refl, rest)),
+      )
 
   below_read : (b : Bool) (xs : List Token) → map shape xs ≡ shapes_behind b below_pieces → CountRead names (count.Below i e) xs
   below_read b xs s =

@@ -1,6 +1,5 @@
 -- Updates and extensions.
-use Rattle.std.proofs.Common.{◌≡◌, ℕ, ◌≤◌, List, [], ◌∷◌, ◌++◌, map, codes, Bool, true, false, refl, sym, ap, ◌∙◌, subst, arith, append_assoc}
-use Rattle.std.specs.Prelude.{if◌then◌else◌}
+use Rattle.std.proofs.Common.{◌≡◌, ℕ, List, [], ◌∷◌, ◌++◌, map, codes, Bool, true, false, refl, sym, ap, ◌∙◌, subst, arith, append_assoc}
 use Rattle.std.proofs.lemmas.Grind.{common_steps}
 use Rattle.st_num.specs.Signs.{spelling}
 use Rattle.st_num.specs.declared.span.Span.{Span}
@@ -12,10 +11,10 @@ use Rattle.st_grammar.specs.declared.sort.Sort.TheVariants.{Expression as expres
 use Rattle.st_grammar.specs.declared.sort.Bracket.TheVariants.{Square as square}
 use Rattle.st_grammar.specs.declared.sort.Closing.TheVariants.{BySquare as by_square}
 use Rattle.st_grammar.specs.Levels.{is_change}
-use Rattle.st_grammar.specs.Lexemes.{Lexeme, kind_lexeme, sign, opening, closing}
-use Rattle.st_grammar.specs.Trees.{Tree, none, more, bracket, update, Path, head, text, path_text}
+use Rattle.st_grammar.specs.Lexemes.{kind_lexeme, sign, opening, closing}
+use Rattle.st_grammar.specs.Trees.{none, more, bracket, update, Path, head, text}
 use Rattle.st_el.specs.declared.expression.Exp.{Exp}
-use Rattle.st_el.specs.declared.expression.Node.{Node, roll-Node}
+use Rattle.st_el.specs.declared.expression.Node.{roll-Node}
 use Rattle.st_el.specs.declared.expression.Node.TheVariants as node
 use Rattle.st_el.specs.declared.expression.Count.TheOpen.{Node-F}
 use Rattle.st_el.specs.declared.expression.Seg.{Seg}
@@ -24,9 +23,9 @@ use Rattle.st_el.specs.declared.place.Around.TheVariants.{Brackets, Bars, Arithm
 use Rattle.st_el.specs.declared.place.Behind.TheVariants.{Other}
 use Rattle.st_el.specs.Levels.{whole, operand_before}
 use Rattle.st_el.specs.Wrappings.{Level}
-use Rattle.st_el.specs.SourceText.{printed, printed_step, change, postfix, parts_printed}
+use Rattle.st_el.specs.SourceText.{printed, printed_step, postfix, parts_printed}
 use Rattle.st_el.specs.Plain.{plain_exp, plain_seg}
-use Rattle.st_meaning.specs.Meaning.{exp, place, meaning, base, steps, is_atom, opened, changed, changed_node}
+use Rattle.st_meaning.specs.Meaning.{exp, place, meaning, base, steps, is_atom, opened, changed_node}
 use Rattle.st_read_back.specs.Written.{Piece, space, bytes_of, shape, shapes_behind, ends_before, AreApart}
 use Rattle.st_read_back.proofs.Cuts.{touch, touch-append, bytes-append, parted, cut, single, one_lexeme, lexemes_of_both}
 use Rattle.st_read_back.proofs.Ends.{Clear, before, blank, open_square, Front, front_more, first_square, first_ends, by_square as square_closes, closer_clear, closer_last, last_ends}
@@ -88,12 +87,12 @@ module _ (names : List (List ℕ)) (b : Bool) (inner traits : Traits) (at : Span
       let value : AreApart (gp.pieces ++ signed CloseBracket ∷ behind) = gp.apart (signed CloseBracket ∷ behind) (closer_clear CloseBracket gt.plus (bytes_of behind) square_closes) end in
       let middle : AreApart (space ∷ signed m ∷ space ∷ (gp.pieces ++ signed CloseBracket ∷ behind)) = (refl, tt, change_ends m (bytes_of (gp.pieces ++ signed CloseBracket ∷ behind)) kind_of, value) in
       let rest : AreApart (sp.pieces ++ space ∷ signed m ∷ space ∷ (gp.pieces ++ signed CloseBracket ∷ behind)) =
-          sp.apart (space ∷ signed m ∷ space ∷ (gp.pieces ++ signed CloseBracket ∷ behind)) (before blank (bytes_of (signed m ∷ space ∷ (gp.pieces ++ signed CloseBracket ∷ behind))) refl) middle in
+      sp.apart (space ∷ signed m ∷ space ∷ (gp.pieces ++ signed CloseBracket ∷ behind)) (before blank (bytes_of (signed m ∷ space ∷ (gp.pieces ++ signed CloseBracket ∷ behind))) refl) middle in
       let front : Front false (bytes_of (sp.pieces ++ space ∷ signed m ∷ space ∷ (gp.pieces ++ signed CloseBracket ∷ behind))) =
-          subst (Front false) (sym (bytes-append sp.pieces (space ∷ signed m ∷ space ∷ (gp.pieces ++ signed CloseBracket ∷ behind)) ∙ ap (λ w. w ++ bytes_of (space ∷ signed m ∷ space ∷ (gp.pieces ++ signed CloseBracket ∷ behind))) sp.same))
-          (front_more false pb (bytes_of (space ∷ signed m ∷ space ∷ (gp.pieces ++ signed CloseBracket ∷ behind))) sp.front) in
+      subst (Front false) (sym (bytes-append sp.pieces (space ∷ signed m ∷ space ∷ (gp.pieces ++ signed CloseBracket ∷ behind)) ∙ ap (λ w. w ++ bytes_of (space ∷ signed m ∷ space ∷ (gp.pieces ++ signed CloseBracket ∷ behind))) sp.same))
+      (front_more false pb (bytes_of (space ∷ signed m ∷ space ∷ (gp.pieces ++ signed CloseBracket ∷ behind))) sp.front) in
       let same : (sp.pieces ++ space ∷ signed m ∷ space ∷ (gp.pieces ++ signed CloseBracket ∷ [])) ++ behind ≡ sp.pieces ++ space ∷ signed m ∷ space ∷ (gp.pieces ++ signed CloseBracket ∷ behind) =
-          append_assoc sp.pieces (space ∷ signed m ∷ space ∷ (gp.pieces ++ signed CloseBracket ∷ [])) behind ∙ ap (λ w. sp.pieces ++ space ∷ signed m ∷ space ∷ w) (append_assoc gp.pieces (signed CloseBracket ∷ []) behind) in
+      append_assoc sp.pieces (space ∷ signed m ∷ space ∷ (gp.pieces ++ signed CloseBracket ∷ [])) behind ∙ ap (λ w. sp.pieces ++ space ∷ signed m ∷ space ∷ w) (append_assoc gp.pieces (signed CloseBracket ∷ []) behind) in
       subst (λ w. AreApart (signed OpenBracket ∷ w)) (sym same)
       (refl, tt, first_ends OpenBracket false (bytes_of (sp.pieces ++ space ∷ signed m ∷ space ∷ (gp.pieces ++ signed CloseBracket ∷ behind))) (first_square false) front, rest)
 

@@ -1,10 +1,8 @@
 -- Counts of iterations.
-use Rattle.std.proofs.Common.{◌≡◌, ℕ, ◌≤◌, List, [], ◌∷◌, ◌++◌, map, codes, Bool, true, false, not, ◌&&◌, refl, sym, ap, ◌∙◌, subst, arith, append_assoc}
-use Rattle.std.specs.Prelude.{IsTrue, if◌then◌else◌}
+use Rattle.std.proofs.Common.{◌≡◌, ℕ, List, [], ◌∷◌, ◌++◌, map, codes, Bool, true, false, refl, sym, ap, ◌∙◌, subst, arith}
+use Rattle.std.specs.Prelude.{if◌then◌else◌}
 use Rattle.std.proofs.lemmas.List.{append-nil}
-use Rattle.st_num.specs.Signs.{spelling}
 use Rattle.st_num.specs.declared.span.Span.{Span}
-use Rattle.st_num.specs.declared.mark.Mark.{Mark}
 use Rattle.st_num.specs.declared.mark.Mark.TheVariants as mark
 use Rattle.std.specs.Fmt.{decimal}
 use Rattle.st_scan.specs.Words.{word_spelling}
@@ -17,13 +15,13 @@ use Rattle.st_grammar.specs.declared.sort.Sort.{Sort}
 use Rattle.st_grammar.specs.declared.sort.Sort.TheVariants.{Expression as expression, Arithmetic as arithmetic, Count as count_sort, Bound as bound}
 use Rattle.st_grammar.specs.declared.sort.Leaf.{Leaf}
 use Rattle.st_grammar.specs.declared.sort.Leaf.TheVariants.{Low as low, Basic as basic, Variable as variable, Atom as atom, Number as number, Literal as literal, Function as function}
-use Rattle.st_grammar.specs.declared.sort.Bracket.TheVariants.{Round as round, Square as square, Brace as brace, TickRound as tick_round, TickSquare as tick_square, TickBrace as tick_brace, Dollar as dollar}
+use Rattle.st_grammar.specs.declared.sort.Bracket.TheVariants.{Dollar as dollar}
 use Rattle.st_grammar.specs.Levels.{takes, encloses}
-use Rattle.st_grammar.specs.Lexemes.{Lexeme, leaf, dot, sign, opening, closing, other, lexeme, kind_lexeme}
-use Rattle.st_grammar.specs.Trees.{Tree, operand, post, times, bracket, led, Lead, left, ahead, items, Trees, none, more, plain, length, arguments, index, segment, update, below, Path, head, field, part, text}
-use Rattle.st_grammar.specs.Grammar.{Fits, PathFits, level}
-use Rattle.st_el.specs.declared.expression.Exp.{Exp, out-Exp}
-use Rattle.st_el.specs.declared.expression.Node.{Node, out-Node, roll-Node}
+use Rattle.st_grammar.specs.Lexemes.{leaf, dot, sign, opening, closing, other, lexeme}
+use Rattle.st_grammar.specs.Trees.{Tree, operand, post, times, bracket, led, left, ahead, items, plain, length, arguments, index, segment, update, below, Path, head, field, part, text}
+use Rattle.st_grammar.specs.Grammar.{Fits, PathFits}
+use Rattle.st_el.specs.declared.expression.Exp.{Exp}
+use Rattle.st_el.specs.declared.expression.Node.{Node, roll-Node}
 use Rattle.st_el.specs.declared.expression.Node.TheVariants as node
 use Rattle.st_el.specs.declared.expression.Count.{Count, roll-Count}
 use Rattle.st_el.specs.declared.expression.Count.TheOpen.{Node-F, Count-F}
@@ -33,19 +31,19 @@ use Rattle.st_el.specs.declared.place.Around.TheVariants.{Brackets, Bars, Arithm
 use Rattle.st_el.specs.declared.place.Behind.TheVariants.{Other}
 use Rattle.st_el.specs.declared.place.Wrapping.TheVariants.{Bare, Dollar}
 use Rattle.st_el.specs.Levels.{whole, operand_before, count as count_place}
-use Rattle.st_el.specs.Wrappings.{Level, Marked, is_count}
-use Rattle.st_el.specs.SourceText.{printed, printed_mark, printed_node_at, front, postfix, wrapped, text_at, parts_printed, opened as printed_parts}
-use Rattle.st_el.specs.Plain.{nowhere, plain_exp, plain_count}
-use Rattle.st_meaning.specs.Names.{name_of, leaf_node}
-use Rattle.st_meaning.specs.Meaning.{exp, place, meaning, is_atom, opened, iterated, count_of}
-use Rattle.st_read_back.specs.Written.{Piece, space, token, bytes_of, shape, shapes_behind, AreApart}
+use Rattle.st_el.specs.Wrappings.{Level, is_count}
+use Rattle.st_el.specs.SourceText.{printed, printed_mark, front, postfix, wrapped, text_at, parts_printed, opened as printed_parts}
+use Rattle.st_el.specs.Plain.{plain_exp, plain_count}
+use Rattle.st_meaning.specs.Names.{leaf_node}
+use Rattle.st_meaning.specs.Meaning.{exp, place, meaning, count_of}
+use Rattle.st_read_back.specs.Written.{Piece, bytes_of, shape, shapes_behind, AreApart}
 use Rattle.st_read_back.proofs.Cuts.{touch, bytes-append, single, cut, one_lexeme, lexemes_of_both}
 use Rattle.st_read_back.proofs.Ends.{Clear, Front, front_more, before, caret, first_caret, first_ends}
-use Rattle.st_read_back.proofs.Plains.{printed-of, plain-at, node-of, mark-of, plain-count}
-use Rattle.st_read_back.proofs.Parts.{Traits, Part, Read, part_as, weaker}
+use Rattle.st_read_back.proofs.Plains.{printed-of, node-of, mark-of, plain-count}
+use Rattle.st_read_back.proofs.Parts.{Traits, Part, part_as, weaker}
 use Rattle.st_read_back.proofs.Wraps.{signed, no_atom_at, framed, dollar_frame, arith-plain, tight_traits}
-use Rattle.st_read_back.proofs.Placed.{Home, sort_of, bare_traits, place_traits, Printable, printable, placed, normal}
-use Rattle.st_read_back.proofs.Suffixes.{Longer, Suffix}
+use Rattle.st_read_back.proofs.Placed.{Home, sort_of, bare_traits, place_traits, Printable, printable, placed}
+use Rattle.st_read_back.proofs.Suffixes.{Suffix}
 use Rattle.st_read_back.proofs.Leaves.{IsLeaf, a_low, a_variable, an_atom, a_bool, a_nat, an_int, a_text_type, a_true, a_false, an_eps, a_number, a_text, a_function, IsWritten, canonical, leaf_word, leaf_part}
 use Rattle.st_read_back.proofs.Posts.{same_plain, operand_then}
 
@@ -212,7 +210,7 @@ times_count names e p = record {
 count_suffix :
     (names : List (List ℕ)) (b : Bool) (a : Around) (e : Exp) (at : Span) (i : Count) → sort_of a ≡ expression b → (c : CountPart names i)
     → Suffix names (expression b) e (exp at (node.Iter e i)) (place_traits (operand_before a Other) (printed e))
-      (bare_traits (Node-F.Iter (printed e) (record { behind = Other; text = codes "^" ++ c.bytes }))) (codes "^" ++ c.bytes)
+    (bare_traits (Node-F.Iter (printed e) (record { behind = Other; text = codes "^" ++ c.bytes }))) (codes "^" ++ c.bytes)
 count_suffix names b a e at i home c = record {
   pieces = signed mark.Caret ∷ c.pieces;
   same = ap (λ w. 94 ∷ w) c.same;
@@ -221,29 +219,29 @@ count_suffix names b a e at i home c = record {
   no_bar = λ n. n;
   apart = λ more l w. (refl, tt, first_ends mark.Caret true (bytes_of (c.pieces ++ more)) (first_caret true) (subst (Front true) (sym (bytes-append c.pieces more ∙ ap (λ w. w ++ bytes_of more) c.same)) (front_more true c.bytes (bytes_of more) c.front)), c.apart more l w);
   reads = λ ys xs s r.
-    let one = cut xs ((kind.Sign mark.Caret, true) ∷ []) (shapes_behind true c.pieces) s in
-    let x = single one.ahead (kind.Sign mark.Caret) true one.fronts in
-    let n = c.reads true one.behind one.backs in
-    record {
-      tree = times r.tree mark.Caret x.only n.tree;
-      words = sign mark.Caret x.only ∷ text n.tree;
-      spelled = lexemes_of_both names xs one.ahead one.behind (sign mark.Caret x.only ∷ []) (text n.tree) one.whole (one_lexeme names one.ahead (kind.Sign mark.Caret) true x) n.spelled;
-      whole = refl;
-      fits = (refl, refl, r.fits, r.level, n.fits);
-      plain = same_plain (place (meaning r.tree)) at (node.Iter (meaning r.tree) (count_of n.tree (meaning n.tree))) (node.Iter e i)
-          (Node-F.Iter (meaning r.tree) (count_of n.tree (meaning n.tree))) (Node-F.Iter e i)
-          (node.outs-Iter (meaning r.tree) (count_of n.tree (meaning n.tree))) (node.outs-Iter e i)
-          (ap (λ p. roll-Node (Node-F.Iter p (plain_count (count_of n.tree (meaning n.tree))))) r.plain ∙ ap (λ j. roll-Node (Node-F.Iter (plain_exp e) j)) n.plain);
-      level = omega arith;
-      dots = λ _. no_atom_at (place (meaning r.tree)) (node.Iter (meaning r.tree) (count_of n.tree (meaning n.tree))) (Node-F.Iter (meaning r.tree) (count_of n.tree (meaning n.tree)))
-          (node.outs-Iter (meaning r.tree) (count_of n.tree (meaning n.tree))) refl;
-    };
+      let one = cut xs ((kind.Sign mark.Caret, true) ∷ []) (shapes_behind true c.pieces) s in
+      let x = single one.ahead (kind.Sign mark.Caret) true one.fronts in
+      let n = c.reads true one.behind one.backs in
+      record {
+        tree = times r.tree mark.Caret x.only n.tree;
+        words = sign mark.Caret x.only ∷ text n.tree;
+        spelled = lexemes_of_both names xs one.ahead one.behind (sign mark.Caret x.only ∷ []) (text n.tree) one.whole (one_lexeme names one.ahead (kind.Sign mark.Caret) true x) n.spelled;
+        whole = refl;
+        fits = (refl, refl, r.fits, r.level, n.fits);
+        plain = same_plain (place (meaning r.tree)) at (node.Iter (meaning r.tree) (count_of n.tree (meaning n.tree))) (node.Iter e i)
+            (Node-F.Iter (meaning r.tree) (count_of n.tree (meaning n.tree))) (Node-F.Iter e i)
+            (node.outs-Iter (meaning r.tree) (count_of n.tree (meaning n.tree))) (node.outs-Iter e i)
+            (ap (λ p. roll-Node (Node-F.Iter p (plain_count (count_of n.tree (meaning n.tree))))) r.plain ∙ ap (λ j. roll-Node (Node-F.Iter (plain_exp e) j)) n.plain);
+        level = omega arith;
+        dots = λ _. no_atom_at (place (meaning r.tree)) (node.Iter (meaning r.tree) (count_of n.tree (meaning n.tree))) (Node-F.Iter (meaning r.tree) (count_of n.tree (meaning n.tree)))
+            (node.outs-Iter (meaning r.tree) (count_of n.tree (meaning n.tree))) refl;
+      };
 }
 
 count_behind :
     (names : List (List ℕ)) (b : Bool) (a : Around) (e : Exp) (at : Span) (i : Count) → Home (expression b) a → (c : CountPart names i)
     → Suffix names (sort_of a) e (exp at (node.Iter e i)) (place_traits (operand_before a Other) (printed e))
-      (bare_traits (Node-F.Iter (printed e) (record { behind = Other; text = codes "^" ++ c.bytes }))) (codes "^" ++ c.bytes)
+    (bare_traits (Node-F.Iter (printed e) (record { behind = Other; text = codes "^" ++ c.bytes }))) (codes "^" ++ c.bytes)
 count_behind names b Brackets e at i home c = count_suffix names false Brackets e at i refl c
 count_behind names b Bars e at i home c = count_suffix names true Bars e at i refl c
 count_behind names b Arithmetic e at i home c = absurd home

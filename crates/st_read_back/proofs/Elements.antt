@@ -1,7 +1,7 @@
 -- How sequences are printed.
-use Rattle.std.proofs.Common.{◌≡◌, ℕ, ◌≤◌, ◌+◌, List, [], ◌∷◌, ◌++◌, map, codes, Bool, true, false, refl, sym, ap, ◌∙◌, subst, arith, append_assoc}
+use Rattle.std.proofs.Common.{◌≡◌, ℕ, ◌≤◌, List, [], ◌∷◌, ◌++◌, map, codes, Bool, true, false, refl, sym, ap, ◌∙◌, arith, append_assoc}
 use Rattle.std.specs.Prelude.{flat_map}
-use Rattle.std.proofs.lemmas.List.{append-nil, map-append}
+use Rattle.std.proofs.lemmas.List.{append-nil}
 use Rattle.std.proofs.lemmas.Grind.{flat_map-append}
 use Rattle.st_num.specs.declared.span.Span.{Span}
 use Rattle.st_scan.specs.declared.token.Token.{Token}
@@ -10,7 +10,7 @@ use Rattle.st_grammar.specs.declared.sort.Sort.TheVariants.{Expression as expres
 use Rattle.st_grammar.specs.declared.sort.Style.TheVariants.{Run as run}
 use Rattle.st_grammar.specs.Lexemes.{Lexeme, lexeme}
 use Rattle.st_grammar.specs.Trees.{Tree, led, items, Trees, none, more, text, texts}
-use Rattle.st_grammar.specs.Grammar.{Fits, EachFits, FollowsAll, size, level}
+use Rattle.st_grammar.specs.Grammar.{Fits, EachFits, size, level}
 use Rattle.st_el.specs.declared.expression.Exp.{Exp}
 use Rattle.st_el.specs.declared.expression.Node.{roll-Node}
 use Rattle.st_el.specs.declared.expression.Node.TheVariants as node
@@ -19,17 +19,16 @@ use Rattle.st_el.specs.declared.place.Around.{Around}
 use Rattle.st_el.specs.declared.place.Around.TheVariants.{Brackets, Bars, Arithmetic, Caret}
 use Rattle.st_el.specs.declared.place.Behind.TheVariants.{Other}
 use Rattle.st_el.specs.Levels.{operand_before, next_element}
-use Rattle.st_el.specs.Wrappings.{Printed}
 use Rattle.st_el.specs.SourceText.{printed, elements, front, postfix, parts_printed}
 use Rattle.st_el.specs.Plain.{plain_exp}
 use Rattle.st_meaning.specs.Meaning.{exp, meaning, meanings, first_place, is_atom, opened}
-use Rattle.st_read_back.specs.Written.{Piece, space, bytes_of, shape, shapes_behind, AreApart}
-use Rattle.st_read_back.proofs.Ends.{Clear, before, blank, Front}
-use Rattle.st_read_back.proofs.Parts.{Traits, Part, Read, is_arithmetic, starts_bar, part_as}
+use Rattle.st_read_back.specs.Written.{space, shape}
+use Rattle.st_read_back.proofs.Ends.{before, blank}
+use Rattle.st_read_back.proofs.Parts.{Traits, Part, Read, part_as}
 use Rattle.st_read_back.proofs.Wraps.{no_atom_at}
 use Rattle.st_read_back.proofs.Placed.{Home, sort_of, bare_traits, place_traits, Printable, printable, placed}
 use Rattle.st_read_back.proofs.Posts.{same_plain}
-use Rattle.st_read_back.proofs.Rows.{RowRead, Row, row_as, JointRead, Joint, row_one, row_then}
+use Rattle.st_read_back.proofs.Rows.{Row, row_as, Joint, row_one, row_then}
 use Rattle.st_read_back.proofs.Lists.{Printables, no_more, one_more, map_snoc, plain_snoc}
 use Rattle.st_read_back.proofs.Sequences.{IsFar, far_pieces, element_follows}
 
@@ -76,9 +75,9 @@ elements_snoc a [] d e = append_assoc ((printed d).at (operand_before a Other)) 
 elements_snoc a (c ∷ es) d e =
     append_assoc ((printed c).at (operand_before a Other)) (flat_map (λ next. codes " " ++ next.at (next_element a)) (map printed (es ++ d ∷ []))) (codes " " ++ (printed e).at (next_element a))
     ∙ ap (λ w. (printed c).at (operand_before a Other) ++ w) (sym
-      (ap (flat_map (λ next. codes " " ++ next.at (next_element a))) (map_snoc printed (es ++ d ∷ []) e)
-      ∙ flat_map-append (λ next. codes " " ++ next.at (next_element a)) (map printed (es ++ d ∷ [])) (printed e ∷ [])
-      ∙ ap (λ w. flat_map (λ next. codes " " ++ next.at (next_element a)) (map printed (es ++ d ∷ [])) ++ w) (append-nil (codes " " ++ (printed e).at (next_element a)))))
+    (ap (flat_map (λ next. codes " " ++ next.at (next_element a))) (map_snoc printed (es ++ d ∷ []) e)
+    ∙ flat_map-append (λ next. codes " " ++ next.at (next_element a)) (map printed (es ++ d ∷ [])) (printed e ∷ [])
+    ∙ ap (λ w. flat_map (λ next. codes " " ++ next.at (next_element a)) (map printed (es ++ d ∷ [])) ++ w) (append-nil (codes " " ++ (printed e).at (next_element a)))))
 
 module _ (names : List (List ℕ)) (b : Bool) where
   one_element : (c : Bool) (e : Exp) (traits : Traits) (xs : List Token) (r : Read names (expression c) e traits xs) → traits.level ≡ 20 → AreElements (expression c) (e ∷ []) (more none [] r.tree)
@@ -182,7 +181,7 @@ module _ (names : List (List ℕ)) (b : Bool) where
     where
       go : (a : Around) → Home (expression b) a
           → Part names (sort_of a) (exp at (node.Seq ((es ++ d ∷ []) ++ e ∷ []))) (bare_traits (Node-F.Seq (map printed ((es ++ d ∷ []) ++ e ∷ []))))
-            (front a (Node-F.Seq (map printed ((es ++ d ∷ []) ++ e ∷ []))) ++ postfix (Node-F.Seq (map printed ((es ++ d ∷ []) ++ e ∷ []))))
+          (front a (Node-F.Seq (map printed ((es ++ d ∷ []) ++ e ∷ []))) ++ postfix (Node-F.Seq (map printed ((es ++ d ∷ []) ++ e ∷ []))))
       go Brackets home = sequence_part Brackets false in_brackets at es d e ps y x
       go Bars home = sequence_part Bars true in_bars at es d e ps y x
       go Arithmetic home = absurd home

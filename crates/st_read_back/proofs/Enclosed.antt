@@ -1,10 +1,10 @@
 -- Brackets round one part.
-use Rattle.std.proofs.Common.{◌≡◌, ℕ, ◌≤◌, List, [], ◌∷◌, ◌++◌, codes, Bool, true, false, refl, sym, ap, ◌∙◌, arith}
+use Rattle.std.proofs.Common.{◌≡◌, ℕ, List, [], ◌∷◌, ◌++◌, codes, Bool, true, false, refl, sym, ap, arith}
 use Rattle.std.proofs.lemmas.List.{append-nil}
 use Rattle.st_num.specs.Signs.{spelling}
 use Rattle.st_num.specs.declared.span.Span.{Span}
 use Rattle.st_num.specs.declared.mark.Mark.{Mark}
-use Rattle.st_num.specs.declared.mark.Mark.TheVariants.{OpenParen, CloseParen, CloseBracket, CloseBrace, Bar, TickParen, TickBracket, TickBrace}
+use Rattle.st_num.specs.declared.mark.Mark.TheVariants.{OpenParen, CloseParen, Bar, TickParen, TickBracket, TickBrace}
 use Rattle.st_grammar.specs.declared.sort.Sort.{Sort}
 use Rattle.st_grammar.specs.declared.sort.Sort.TheVariants.{Expression as expression, Arithmetic as arithmetic}
 use Rattle.st_grammar.specs.declared.sort.Bracket.{Bracket}

@@ -1,6 +1,5 @@
 -- What stands directly behind a printed part, and with what a part begins.
 use Rattle.std.proofs.Common.{◌≡◌, ℕ, List, [], ◌∷◌, ◌++◌, Bool, true, false, not, ◌&&◌, ◌||◌, refl, sym, ap, ◌∙◌, subst, ◌==◌}
-use Rattle.std.specs.Prelude.{IsTrue}
 use Rattle.std.proofs.lemmas.Bool.{ne_eqb}
 use Rattle.st_num.specs.Signs.{spelling}
 use Rattle.st_num.specs.declared.mark.Mark.{Mark}

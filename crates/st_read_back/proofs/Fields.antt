@@ -1,5 +1,5 @@
 -- Records.
-use Rattle.std.proofs.Common.{◌≡◌, ℕ, ◌≤◌, List, [], ◌∷◌, ◌++◌, map, codes, Bool, true, false, refl, sym, ap, ◌∙◌, subst, arith, append_assoc}
+use Rattle.std.proofs.Common.{◌≡◌, ℕ, ◌≤◌, List, [], ◌∷◌, ◌++◌, map, codes, Bool, true, false, refl, sym, ap, ◌∙◌, arith, append_assoc}
 use Rattle.std.specs.Prelude.{flat_map}
 use Rattle.std.proofs.lemmas.List.{append-nil}
 use Rattle.std.proofs.lemmas.Grind.{flat_map-append}
@@ -26,15 +26,15 @@ use Rattle.st_el.specs.SourceText.{printed, printed_field, field_text, fields_te
 use Rattle.st_el.specs.Plain.{plain_exp}
 use Rattle.st_meaning.specs.Names.{name_of}
 use Rattle.st_meaning.specs.Meaning.{exp, meaning, field_meanings, label}
-use Rattle.st_read_back.specs.Written.{Piece, space, token, bytes_of, shape, shapes_behind, AreApart}
+use Rattle.st_read_back.specs.Written.{space, token, bytes_of, shapes_behind}
 use Rattle.st_read_back.proofs.Cuts.{single, cut, one_lexeme, lexemes_of_both}
-use Rattle.st_read_back.proofs.Ends.{Clear, before, comma, Front, front_more, first_brace, first_ends, by_brace}
+use Rattle.st_read_back.proofs.Ends.{before, comma, front_more, first_brace, first_ends, by_brace}
 use Rattle.st_read_back.proofs.Parts.{Part, part_as}
 use Rattle.st_read_back.proofs.Wraps.{signed, tight_traits, no_atom_at}
 use Rattle.st_read_back.proofs.Placed.{Home, sort_of, bare_traits, place_traits, Printable, printable, placed}
 use Rattle.st_read_back.proofs.Leaves.{OneWord}
 use Rattle.st_read_back.proofs.Posts.{same_plain}
-use Rattle.st_read_back.proofs.Rows.{RowRead, Row, row_as, JointRead, Joint, row_then}
+use Rattle.st_read_back.proofs.Rows.{Row, row_as, Joint, row_then}
 use Rattle.st_read_back.proofs.Lists.{map_snoc, Opening, boxed}
 use Rattle.st_read_back.proofs.Tuples.{filled}
 
@@ -71,15 +71,15 @@ next_joint names name h = record {
   clear = λ more. before comma (32 ∷ ((name ++ codes " ") ++ more)) refl;
   apart = λ more f a. (refl, tt, refl, (h.word.spelled, tt, refl, a));
   reads = λ xs s.
-    let one = cut xs ((kind.Sign Comma, true) ∷ []) ((kind.Up name, false) ∷ []) s in
-    let x = single one.ahead (kind.Sign Comma) true one.fronts in
-    let y = single one.behind (kind.Up name) false one.backs in
-    record {
-      words = sign Comma x.only ∷ leaf h.operand y.only ∷ [];
-      spelled = lexemes_of_both names xs one.ahead one.behind (sign Comma x.only ∷ []) (leaf h.operand y.only ∷ []) one.whole (one_lexeme names one.ahead (kind.Sign Comma) true x)
-          (one_lexeme names one.behind (kind.Up name) false y ∙ ap (λ l. l ∷ []) (h.word.seen y.only));
-      holds = (x.only, leaf h.operand y.only, refl, h.labels y.only, ap name_of y.kind);
-    };
+      let one = cut xs ((kind.Sign Comma, true) ∷ []) ((kind.Up name, false) ∷ []) s in
+      let x = single one.ahead (kind.Sign Comma) true one.fronts in
+      let y = single one.behind (kind.Up name) false one.backs in
+      record {
+        words = sign Comma x.only ∷ leaf h.operand y.only ∷ [];
+        spelled = lexemes_of_both names xs one.ahead one.behind (sign Comma x.only ∷ []) (leaf h.operand y.only ∷ []) one.whole (one_lexeme names one.ahead (kind.Sign Comma) true x)
+            (one_lexeme names one.behind (kind.Up name) false y ∙ ap (λ l. l ∷ []) (h.word.seen y.only));
+        holds = (x.only, leaf h.operand y.only, refl, h.labels y.only, ap name_of y.kind);
+      };
 }
 
 next_sets_off : (name : List ℕ) (ts : Trees) (w : List Lexeme) → 1 ≤ size ts → IsNext name w → SetsOff fields ts w
@@ -108,19 +108,19 @@ one_row names name e h x =
       front = front_more false (name ++ codes " ") ((printed e).at (whole Brackets)) (front_more false name (codes " ") (h.word.front false));
       apart = λ more c a. (h.word.spelled, tt, refl, p.apart more c a);
       reads = λ b xs s.
-        let one = cut xs ((kind.Up name, b) ∷ []) (shapes_behind false p.pieces) s in
-        let y = single one.ahead (kind.Up name) b one.fronts in
-        let r = p.reads false one.behind one.backs in
-        record {
-          trees = more none (leaf h.operand y.only ∷ []) r.tree;
-          spelled = lexemes_of_both names xs one.ahead one.behind (leaf h.operand y.only ∷ []) (text r.tree) one.whole
-              (one_lexeme names one.ahead (kind.Up name) b y ∙ ap (λ l. l ∷ []) (h.word.seen y.only)) r.spelled;
-          holds = record {
-            fits = (tt, (leaf h.operand y.only, refl, h.labels y.only), r.fits, r.level, tt);
-            some = omega arith;
-            plain = field_snoc [] [] (name_of y.only.kind) name (meaning r.tree) e refl (ap name_of y.kind) r.plain;
+          let one = cut xs ((kind.Up name, b) ∷ []) (shapes_behind false p.pieces) s in
+          let y = single one.ahead (kind.Up name) b one.fronts in
+          let r = p.reads false one.behind one.backs in
+          record {
+            trees = more none (leaf h.operand y.only ∷ []) r.tree;
+            spelled = lexemes_of_both names xs one.ahead one.behind (leaf h.operand y.only ∷ []) (text r.tree) one.whole
+                (one_lexeme names one.ahead (kind.Up name) b y ∙ ap (λ l. l ∷ []) (h.word.seen y.only)) r.spelled;
+            holds = record {
+              fits = (tt, (leaf h.operand y.only, refl, h.labels y.only), r.fits, r.level, tt);
+              some = omega arith;
+              plain = field_snoc [] [] (name_of y.only.kind) name (meaning r.tree) e refl (ap name_of y.kind) r.plain;
+            };
           };
-        };
     }
 
 abbrev fields_after : List (List ℕ × Exp) → List ℕ
@@ -177,7 +177,7 @@ module _ (names : List (List ℕ)) (at : Span) (fs : List (List ℕ × Exp)) (na
       (λ z y. refl)
       (λ z ts y l. (refl, refl, l.fits, filled (plain brace z) ts l.some))
       (λ z ts y l. same_plain z.at at (node.Fields (field_meanings ts)) (node.Fields all) (Node-F.Fields (field_meanings ts)) (Node-F.Fields all) (node.outs-Fields (field_meanings ts)) (node.outs-Fields all)
-          (ap (λ l. roll-Node (Node-F.Fields l)) l.plain))
+      (ap (λ l. roll-Node (Node-F.Fields l)) l.plain))
       (λ z ts y l. no_atom_at z.at (node.Fields (field_meanings ts)) (Node-F.Fields (field_meanings ts)) (node.outs-Fields (field_meanings ts)) refl)
       (λ z w. refl)
       (brace_opening names false false) (fields_row names fs name e ps h x))

@@ -1,14 +1,12 @@
 -- Elements at a position, and several from one on.
 use Rattle.std.proofs.Common.{◌≡◌, ℕ, ◌≤◌, List, [], ◌∷◌, ◌++◌, map, codes, Bool, true, false, refl, sym, ap, ◌∙◌, subst, arith, append_assoc}
-use Rattle.std.proofs.lemmas.List.{append-nil}
 use Rattle.st_num.specs.declared.span.Span.{Span}
 use Rattle.st_num.specs.declared.mark.Mark.TheVariants.{OpenBracket, CloseBracket, Colon}
 use Rattle.st_scan.specs.declared.token.Token.{Token}
 use Rattle.st_scan.specs.declared.token.TokenKind.TheVariants as kind
 use Rattle.st_grammar.specs.declared.sort.Sort.{Sort}
 use Rattle.st_grammar.specs.declared.sort.Sort.TheVariants.{Expression as expression, Arithmetic as arithmetic}
-use Rattle.st_grammar.specs.declared.sort.Style.{Style}
-use Rattle.st_grammar.specs.declared.sort.Style.TheVariants.{Lone as lone, Ends as ends}
+use Rattle.st_grammar.specs.declared.sort.Style.TheVariants.{Ends as ends}
 use Rattle.st_grammar.specs.declared.sort.Bracket.TheVariants.{Square as square}
 use Rattle.st_grammar.specs.declared.sort.Closing.TheVariants.{BySquare as by_square}
 use Rattle.st_grammar.specs.Levels.{computes}
@@ -16,27 +14,27 @@ use Rattle.st_grammar.specs.Lexemes.{Lexeme, sign, opening, closing}
 use Rattle.st_grammar.specs.Trees.{Tree, Trees, none, more, bracket, index, text, texts}
 use Rattle.st_grammar.specs.Grammar.{Fits, EachFits, index_style, size, level}
 use Rattle.st_el.specs.declared.expression.Exp.{Exp}
-use Rattle.st_el.specs.declared.expression.Node.{Node, roll-Node}
+use Rattle.st_el.specs.declared.expression.Node.{roll-Node}
 use Rattle.st_el.specs.declared.expression.Node.TheVariants as node
 use Rattle.st_el.specs.declared.expression.Count.TheOpen.{Node-F}
 use Rattle.st_el.specs.declared.place.Around.{Around}
 use Rattle.st_el.specs.declared.place.Around.TheVariants.{Brackets, Bars, Arithmetic, Caret}
 use Rattle.st_el.specs.declared.place.Behind.TheVariants.{Other}
 use Rattle.st_el.specs.Levels.{position, operand_before}
-use Rattle.st_el.specs.SourceText.{printed, range, postfix, parts_printed}
+use Rattle.st_el.specs.SourceText.{printed, range, parts_printed}
 use Rattle.st_el.specs.Plain.{plain_exp}
 use Rattle.st_meaning.specs.Meaning.{exp, place, meaning, meanings, indexed, is_atom, opened}
 use Rattle.st_read_back.specs.Written.{Piece, space, bytes_of, shape, shapes_behind, AreApart}
 use Rattle.st_read_back.proofs.Cuts.{touch, touch-append, bytes-append, parted, cut, single, one_lexeme, lexemes_of_both}
 use Rattle.st_read_back.proofs.Ends.{Clear, before, blank, open_square, Front, front_more, first_square, first_ends, by_square as square_closes, closer_clear, closer_last, last_ends}
-use Rattle.st_read_back.proofs.Parts.{Traits, Part, Read, part_as}
-use Rattle.st_read_back.proofs.Wraps.{signed, no_atom_at, tight_traits}
+use Rattle.st_read_back.proofs.Parts.{Traits, Read}
+use Rattle.st_read_back.proofs.Wraps.{signed, no_atom_at}
 use Rattle.st_read_back.proofs.Placed.{Home, sort_of, bare_traits, place_traits, Printable, placed}
 use Rattle.st_read_back.proofs.Suffixes.{Longer, Suffix}
 use Rattle.st_read_back.proofs.Posts.{same_plain, operand_then}
 use Rattle.st_read_back.proofs.Enclosed.{computes_home}
 use Rattle.st_read_back.proofs.Tuples.{filled}
-use Rattle.st_read_back.proofs.Rows.{RowRead, Row, row_as, JointRead, Joint, row_one, row_then}
+use Rattle.st_read_back.proofs.Rows.{Row, Joint, row_one, row_then}
 
 -- what may stand round an operand that something stands behind
 abbrev pub behind_traits : Bool → Traits
@@ -54,7 +52,7 @@ module _ (names : List (List ℕ)) (σ : Sort) (e f : Exp) (inner traits : Trait
       let end : AreApart (signed CloseBracket ∷ behind) = (refl, tt, last_ends CloseBracket true (bytes_of behind) (closer_last CloseBracket square_closes) k, a) in
       let rest : AreApart (row.pieces ++ signed CloseBracket ∷ behind) = row.apart (signed CloseBracket ∷ behind) (closer_clear CloseBracket false (bytes_of behind) square_closes) end in
       let front : Front false (bytes_of (row.pieces ++ signed CloseBracket ∷ behind)) =
-          subst (Front false) (sym (bytes-append row.pieces (signed CloseBracket ∷ behind) ∙ ap (λ w. w ++ bytes_of (signed CloseBracket ∷ behind)) row.same)) (front_more false bytes (bytes_of (signed CloseBracket ∷ behind)) row.front) in
+      subst (Front false) (sym (bytes-append row.pieces (signed CloseBracket ∷ behind) ∙ ap (λ w. w ++ bytes_of (signed CloseBracket ∷ behind)) row.same)) (front_more false bytes (bytes_of (signed CloseBracket ∷ behind)) row.front) in
       subst (λ w. AreApart (signed OpenBracket ∷ w)) (sym (append_assoc row.pieces (signed CloseBracket ∷ []) behind))
       (refl, tt, first_ends OpenBracket false (bytes_of (row.pieces ++ signed CloseBracket ∷ behind)) (first_square false) front, rest)
 

@@ -1,5 +1,5 @@
 -- Two sides of a sign, and prefix signs.
-use Rattle.std.proofs.Common.{◌≡◌, ℕ, ◌≤◌, List, [], ◌∷◌, ◌++◌, map, codes, Bool, true, false, not, ◌&&◌, refl, sym, ap, ◌∙◌, subst, arith, append_assoc}
+use Rattle.std.proofs.Common.{◌≡◌, ℕ, ◌≤◌, List, [], ◌∷◌, ◌++◌, map, Bool, true, false, not, ◌&&◌, refl, sym, ap, ◌∙◌, subst, arith, append_assoc}
 use Rattle.std.specs.Prelude.{nat_le, if◌then◌else◌}
 use Rattle.std.proofs.lemmas.Bool.{and_parts, leb-true, le-leb}
 use Rattle.std.proofs.lemmas.Grind.{common_steps}
@@ -14,30 +14,28 @@ use Rattle.st_grammar.specs.declared.sort.Sort.{Sort}
 use Rattle.st_grammar.specs.declared.sort.Sort.TheVariants.{Expression as expression, Arithmetic as arithmetic}
 use Rattle.st_grammar.specs.Levels as grammar
 use Rattle.st_grammar.specs.Levels.{has_level}
-use Rattle.st_grammar.specs.Lexemes.{Lexeme, sign, lexeme, kind_lexeme}
-use Rattle.st_grammar.specs.Trees.{Tree, led, Lead, left, ahead, text}
-use Rattle.st_grammar.specs.Grammar.{Fits, level}
+use Rattle.st_grammar.specs.Lexemes.{sign, lexeme, kind_lexeme}
+use Rattle.st_grammar.specs.Trees.{Tree, led, left, text}
 use Rattle.st_el.specs.declared.expression.Exp.{Exp}
-use Rattle.st_el.specs.declared.expression.Node.{Node, out-Node, roll-Node}
+use Rattle.st_el.specs.declared.expression.Node.{roll-Node}
 use Rattle.st_el.specs.declared.expression.Node.TheVariants as node
 use Rattle.st_el.specs.declared.expression.Count.TheOpen.{Node-F}
 use Rattle.st_el.specs.declared.place.Around.{Around}
 use Rattle.st_el.specs.declared.place.Around.TheVariants.{Brackets, Bars, Arithmetic, Caret}
-use Rattle.st_el.specs.declared.place.Behind.TheVariants.{Other, Plus}
+use Rattle.st_el.specs.declared.place.Behind.TheVariants.{Plus}
 use Rattle.st_el.specs.declared.place.Place.{Place}
 use Rattle.st_el.specs.Levels.{sign_level, left_of, right_of, place_at}
-use Rattle.st_el.specs.Wrappings.{Printed, Level, level_of, takes_in, has_bar, is_arithmetic}
-use Rattle.st_el.specs.SourceText.{printed, front, postfix, joined_by, left_side, blank_behind, parts_printed, opened as printed_parts}
-use Rattle.st_el.specs.Plain.{nowhere, plain_exp}
-use Rattle.st_meaning.specs.Meaning.{exp, place, meaning, is_atom, opened, joined, joined_node, is_notation}
-use Rattle.st_read_back.specs.Written.{Piece, space, token, bytes_of, shape, shapes_behind, ends_before, AreApart}
+use Rattle.st_el.specs.Wrappings.{Printed, Level, level_of, takes_in, has_bar}
+use Rattle.st_el.specs.SourceText.{printed, left_side, blank_behind, parts_printed}
+use Rattle.st_el.specs.Plain.{plain_exp}
+use Rattle.st_meaning.specs.Meaning.{exp, place, meaning, is_atom, opened, joined_node, is_notation}
+use Rattle.st_read_back.specs.Written.{Piece, space, bytes_of, shape, shapes_behind, ends_before, AreApart}
 use Rattle.st_read_back.proofs.Cuts.{touch, touch-append, bytes-append, single, cut, parted, one_lexeme, lexemes_of_both}
 use Rattle.st_read_back.proofs.Ends.{Clear, clear_more, before, blank, Front, front_more, first_caret, first_ends}
-use Rattle.st_read_back.proofs.Plains.{plain-at, node-of, parts_plain}
 use Rattle.st_read_back.proofs.Parts as parts
 use Rattle.st_read_back.proofs.Parts.{Traits, Within, Part, Read, part_as, weaker}
 use Rattle.st_read_back.proofs.Wraps.{signed, no_atom_at}
-use Rattle.st_read_back.proofs.Placed.{Home, sort_of, bare_traits, place_traits, PartAt, Printable, printable, placed, normal, IsNormal}
+use Rattle.st_read_back.proofs.Placed.{Home, sort_of, bare_traits, place_traits, Printable, printable, placed, normal, IsNormal}
 use Rattle.st_read_back.proofs.Posts.{same_plain}
 
 -- ---- signs between two sides
@@ -146,12 +144,12 @@ module _ (names : List (List ℕ)) (σ : Sort) (e f : Exp) (m : Mark) (level_1 :
     joined_apart more c a =
         let right_apart : AreApart (r.pieces ++ more) = r.apart more (clear_more false rt.plus (bytes_of more) (λ h. absurd (cc)) c) a in
         let front : Front (parts.is_arithmetic σ) (bytes_of (r.pieces ++ more)) =
-            subst (Front (parts.is_arithmetic σ)) (sym (bytes-append r.pieces more ∙ ap (λ w. w ++ bytes_of more) r.same)) (front_more (parts.is_arithmetic σ) rb (bytes_of more) r.front) in
+        subst (Front (parts.is_arithmetic σ)) (sym (bytes-append r.pieces more ∙ ap (λ w. w ++ bytes_of more) r.same)) (front_more (parts.is_arithmetic σ) rb (bytes_of more) r.front) in
         let sign_apart : AreApart (signed m ∷ (gap m ++ (r.pieces ++ more))) = (refl, tt, gap_ends m (parts.is_arithmetic σ) (r.pieces ++ more) front, gap_apart m (r.pieces ++ more) right_apart) in
         let whole : AreApart (l.pieces ++ space ∷ signed m ∷ (gap m ++ (r.pieces ++ more))) =
-            l.apart (space ∷ signed m ∷ (gap m ++ (r.pieces ++ more))) (before blank (bytes_of (signed m ∷ (gap m ++ (r.pieces ++ more)))) refl) sign_apart in
+        l.apart (space ∷ signed m ∷ (gap m ++ (r.pieces ++ more))) (before blank (bytes_of (signed m ∷ (gap m ++ (r.pieces ++ more)))) refl) sign_apart in
         let same : two_sides m l.pieces r.pieces ++ more ≡ l.pieces ++ space ∷ signed m ∷ (gap m ++ (r.pieces ++ more)) =
-            append_assoc l.pieces (space ∷ signed m ∷ (gap m ++ r.pieces)) more ∙ ap (λ w. l.pieces ++ space ∷ signed m ∷ w) (append_assoc (gap m) r.pieces more) in
+        append_assoc l.pieces (space ∷ signed m ∷ (gap m ++ r.pieces)) more ∙ ap (λ w. l.pieces ++ space ∷ signed m ∷ w) (append_assoc (gap m) r.pieces more) in
         subst AreApart (sym same) whole
 
     joined_read : (at : Span) (b : Bool) (xs : List Token) → map shape xs ≡ shapes_behind b (two_sides m l.pieces r.pieces)
@@ -260,8 +258,10 @@ joined_printed names σ at e f m ok has x y = go (is_notation m) refl
         (ap (λ w. ((w ++ spelling m) ++ blank_behind m) ++ (printed f).at (right_place a m)) (sym (left_side_is (parts.is_arithmetic (sort_of a)) ((printed e).at (left_place a m)) l.front)))
         (joined_part names (sort_of a) e f m (level_some σ m ok has) (has_home σ a (grammar.level_of m) home has) (place_traits (left_place a m) (printed e)) (place_traits (right_place a m) (printed f))
         ((printed e).at (left_place a m)) ((printed f).at (right_place a m)) l r (same_left m) (same_right m) at)
+
     some : 1 ≤ sign_level m
     some = leb-true 1 (sign_level m) (level_some σ m ok has)
+
     go : (b : Bool) → is_notation m ≡ b → Printable names σ (exp at (if b then node.Infix e m f else node.Binary e m f))
     go true is =
         printable names σ at (node.Infix e m f) (Node-F.Infix (printed e) m (printed f)) (ap parts_printed (node.outs-Infix e m f)) some (normal σ (Node-F.Infix (printed e) m (printed f)) refl) (λ a home.

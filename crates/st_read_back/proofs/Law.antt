@@ -1,13 +1,13 @@
 -- What is printed of an expression that was read is read as this expression.
-use Rattle.std.proofs.Common.{◌≡◌, ℕ, ◌≤◌, List, [], ◌∷◌, ◌++◌, map, length, Bool, true, false, refl, sym, ap, ◌∙◌, subst, arith}
+use Rattle.std.proofs.Common.{◌≡◌, ℕ, List, [], ◌∷◌, ◌++◌, length, true, false, refl, sym, ap, ◌∙◌, subst, arith}
 use Rattle.std.specs.Str.{IsUtf8}
 use Rattle.std.proofs.lemmas.List.{append-nil}
 use Rattle.st_scan.specs.declared.token.Token.{Token}
 use Rattle.st_scan.specs.Tokens.{Run, Tokens}
+use Rattle.st_scan.proofs.Runs.{tokens_unique}
 use Rattle.st_grammar.specs.declared.sort.Sort.TheVariants.{Expression as expression}
 use Rattle.st_grammar.specs.Lexemes.{lexeme}
-use Rattle.st_grammar.specs.Definitions.{token_in}
-use Rattle.st_grammar.specs.Trees.{Tree, Trees, none, more, text, texts}
+use Rattle.st_grammar.specs.Trees.{Tree, Trees, none, more, text}
 use Rattle.st_el.specs.declared.expression.Exp.{Exp}
 use Rattle.st_el.specs.declared.place.Around.TheVariants.{Brackets}
 use Rattle.st_el.specs.Levels.{whole}
@@ -17,13 +17,12 @@ use Rattle.st_meaning.specs.Meaning.{meaning, meanings}
 use Rattle.st_parse_exp.specs.Expressions.{ParseExpressions, lexemes_of}
 use Rattle.st_parse_exp.specs.Parse.{ParseExps}
 use Rattle.st_parse_exp.proofs.Drafted.{token_is}
-use Rattle.st_read_back.specs.Written.{bytes_of, shapes, shape, AreApart}
+use Rattle.st_read_back.specs.Written.{AreApart}
 use Rattle.st_read_back.specs.ReadBack.{ReadBack}
 use Rattle.st_read_back.proofs.Ends.{at_end}
-use Rattle.st_read_back.proofs.Parts.{Read}
-use Rattle.st_read_back.proofs.Placed.{PartAt, place_traits, placed}
+use Rattle.st_read_back.proofs.Placed.{PartAt, placed}
 use Rattle.st_read_back.proofs.Leaves.{IsWritten}
-use Rattle.st_read_back.proofs.AtomTrees.{IsReal, AreReal, real_left, real_right}
+use Rattle.st_read_back.proofs.AtomTrees.{IsReal, AreReal, real_right}
 use Rattle.st_read_back.proofs.Printing.{expression_tree, two_long}
 use Rattle.st_read_back.proofs.Scanned.{written_tokens}
 
@@ -70,3 +69,11 @@ module _ (names : List (List ℕ)) (number : ℕ) (e : Exp) where
 
 pub read_back : (names : List (List ℕ)) (file_number number : ℕ) (file : List ℕ) (xs : List Token) (e : Exp) → Tokens file_number file xs → ParseExps names xs (e ∷ []) → IsUtf8 (source_text e) → ReadBack names number e
 read_back names file_number number file xs e t p u = trees_back names number e p.trees xs p.grammar p.meant (run_real names file_number file file xs t.left t.run) u
+
+-- whatever tokens the text is scanned to
+pub read_each :
+    (names : List (List ℕ)) (number again : ℕ) (file : List ℕ) (xs written : List Token) (e : Exp) → Tokens number file xs → ParseExps names xs (e ∷ [])
+    → Tokens again (source_text e) written → (f : Exp) × ParseExps names written (f ∷ []) × (plain_exp f ≡ plain_exp e)
+read_each names number again file xs written e t p w =
+    let back = read_back names number again file xs e t p w.utf8 in
+    (back.exp, subst (λ ys. ParseExps names ys (back.exp ∷ [])) (tokens_unique again (source_text e) back.tokens written back.scanned w) back.parsed, back.plain)

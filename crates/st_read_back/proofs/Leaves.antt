@@ -1,10 +1,10 @@
 -- Operands of one token.
-use Rattle.std.proofs.Common.{◌≡◌, ℕ, ◌≤◌, ◌<◌, ◌^◌, List, [], ◌∷◌, ◌++◌, map, codes, Bool, true, false, not, ◌&&◌, ◌==◌, refl, sym, ap, ◌∙◌, subst, arith, inl, inr}
+use Rattle.std.proofs.Common.{◌≡◌, ℕ, ◌≤◌, ◌<◌, ◌^◌, List, [], ◌∷◌, ◌++◌, codes, Bool, true, false, not, ◌==◌, refl, sym, ap, ◌∙◌, subst, arith, inl}
 use Rattle.std.specs.Fmt.{decimal}
 use Rattle.std.specs.Prelude.{IsTrue, if◌then◌else◌}
 use Rattle.std.specs.List.{list_all}
 use Rattle.std.specs.Char.{digit_value}
-use Rattle.std.specs.Str.Parse.{AllDigits, IsNumeral}
+use Rattle.std.specs.Str.Parse.{IsNumeral}
 use Rattle.std.proofs.lemmas.Bool.{and_parts, ne_eqb}
 use Rattle.std.proofs.lemmas.List.{append-nil}
 use Rattle.std.proofs.lemmas.Fmt.{decimal_is_IsNumeral_wide}
@@ -21,15 +21,13 @@ use Rattle.st_scan.specs.declared.token.Token.{Token}
 use Rattle.st_scan.specs.declared.token.TokenKind.{TokenKind}
 use Rattle.st_scan.specs.declared.token.TokenKind.TheVariants as kind
 use Rattle.st_grammar.specs.declared.sort.Sort.{Sort}
-use Rattle.st_grammar.specs.declared.sort.Sort.TheVariants.{Expression as expression, Arithmetic as arithmetic, Count as count, Bound as bound}
+use Rattle.st_grammar.specs.declared.sort.Sort.TheVariants.{Expression as expression, Arithmetic as arithmetic}
 use Rattle.st_grammar.specs.declared.sort.Leaf.{Leaf}
 use Rattle.st_grammar.specs.declared.sort.Leaf.TheVariants.{Low as low, Basic as basic, Variable as variable, Atom as atom, Number as number, Literal as literal, Function as function}
 use Rattle.st_grammar.specs.Levels.{takes}
-use Rattle.st_grammar.specs.Lexemes.{Lexeme, leaf, dot, sign, opening, closing, other, lexeme, kind_lexeme, is_variable}
-use Rattle.st_grammar.specs.Trees.{Tree, operand, text}
-use Rattle.st_grammar.specs.Grammar.{Fits, level}
-use Rattle.st_el.specs.declared.expression.Exp.{Exp}
-use Rattle.st_el.specs.declared.expression.Node.{Node, out-Node}
+use Rattle.st_grammar.specs.Lexemes.{Lexeme, leaf, dot, other, kind_lexeme, is_variable}
+use Rattle.st_grammar.specs.Trees.{operand, text}
+use Rattle.st_el.specs.declared.expression.Node.{out-Node}
 use Rattle.st_el.specs.declared.expression.Node.TheVariants as node
 use Rattle.st_el.specs.declared.expression.Count.TheOpen.{Node-F}
 use Rattle.st_el.specs.declared.place.Around.{Around}
@@ -38,13 +36,13 @@ use Rattle.st_el.specs.declared.place.Behind.TheVariants.{Dot}
 use Rattle.st_el.specs.Wrappings.{Level, level_of, takes_in, is_arithmetic as of_arithmetic}
 use Rattle.st_el.specs.SourceText.{front, postfix, parts_printed, opened as printed_parts}
 use Rattle.st_el.specs.Plain.{nowhere, plain_exp, plain_node}
-use Rattle.st_meaning.specs.Names.{leaf_node, name_of}
+use Rattle.st_meaning.specs.Names.{leaf_node}
 use Rattle.st_meaning.specs.Meaning.{exp, meaning, is_atom, opened}
-use Rattle.st_read_back.specs.Written.{Piece, token, bytes_of, shape, shapes_behind, AreApart}
+use Rattle.st_read_back.specs.Written.{token, bytes_of}
 use Rattle.st_read_back.proofs.Cuts.{single, one_lexeme}
 use Rattle.st_read_back.proofs.Ends.{Front, letter_front, is_word, word_ends}
 use Rattle.st_read_back.proofs.Plains.{plain-exp, node-of}
-use Rattle.st_read_back.proofs.Parts.{Traits, Part, Read, is_arithmetic, part_as}
+use Rattle.st_read_back.proofs.Parts.{Traits, Part, is_arithmetic, part_as}
 use Rattle.st_read_back.proofs.Placed.{Home, sort_of, bare_traits, Printable, printable, normal}
 
 -- which operand a token is, where these names are declared by `var`

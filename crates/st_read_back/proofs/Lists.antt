@@ -1,45 +1,33 @@
 -- Lists by commas: tuples and arguments.
-use Rattle.std.proofs.Common.{◌≡◌, ℕ, ◌≤◌, ◌+◌, List, [], ◌∷◌, ◌++◌, map, length, codes, Bool, true, false, refl, sym, ap, ◌∙◌, subst, arith, append_assoc}
-use Rattle.std.specs.Prelude.{IsTrue, flat_map}
+use Rattle.std.proofs.Common.{◌≡◌, ℕ, ◌≤◌, List, [], ◌∷◌, ◌++◌, map, codes, Bool, true, false, refl, sym, ap, ◌∙◌, subst, arith, append_assoc}
+use Rattle.std.specs.Prelude.{flat_map}
 use Rattle.std.proofs.lemmas.List.{append-nil, map-append}
-use Rattle.std.proofs.lemmas.Grind.{common_steps, flat_map-append}
+use Rattle.std.proofs.lemmas.Grind.{flat_map-append}
 use Rattle.st_num.specs.Signs.{spelling}
-use Rattle.st_num.specs.declared.span.Span.{Span}
 use Rattle.st_num.specs.declared.mark.Mark.{Mark}
-use Rattle.st_num.specs.declared.mark.Mark.TheVariants.{OpenParen, CloseParen, Comma}
-use Rattle.st_scan.specs.Spelling.{is_name, begins_lower}
+use Rattle.st_num.specs.declared.mark.Mark.TheVariants.{Comma}
 use Rattle.st_scan.specs.declared.token.Token.{Token}
-use Rattle.st_scan.specs.declared.token.TokenKind.{TokenKind}
 use Rattle.st_scan.specs.declared.token.TokenKind.TheVariants as kind
 use Rattle.st_grammar.specs.declared.sort.Sort.{Sort}
-use Rattle.st_grammar.specs.declared.sort.Sort.TheVariants.{Expression as expression, Arithmetic as arithmetic}
+use Rattle.st_grammar.specs.declared.sort.Sort.TheVariants.{Expression as expression}
 use Rattle.st_grammar.specs.declared.sort.Style.TheVariants.{Parts as parts}
-use Rattle.st_grammar.specs.declared.sort.Leaf.TheVariants.{Function as function}
-use Rattle.st_grammar.specs.declared.sort.Bracket.TheVariants.{Round as round}
-use Rattle.st_grammar.specs.Lexemes.{Lexeme, leaf, opening, sign, closing, lexeme, kind_lexeme}
-use Rattle.st_grammar.specs.Trees.{Tree, Trees, none, more, bracket, Heading, plain, arguments, text, texts, heading_text, closes}
-use Rattle.st_grammar.specs.Grammar.{Fits, EachFits, SetsOff, IsFilled, size, level}
+use Rattle.st_grammar.specs.Lexemes.{Lexeme, sign, closing, lexeme, kind_lexeme}
+use Rattle.st_grammar.specs.Trees.{Trees, none, more, bracket, Heading, texts, heading_text, closes}
+use Rattle.st_grammar.specs.Grammar.{Fits, EachFits, SetsOff, size}
 use Rattle.st_el.specs.declared.expression.Exp.{Exp}
-use Rattle.st_el.specs.declared.expression.Node.{Node, roll-Node}
-use Rattle.st_el.specs.declared.expression.Node.TheVariants as node
-use Rattle.st_el.specs.declared.expression.Count.TheOpen.{Node-F}
-use Rattle.st_el.specs.declared.place.Around.{Around}
-use Rattle.st_el.specs.declared.place.Around.TheVariants.{Brackets, Bars, Arithmetic, Caret}
+use Rattle.st_el.specs.declared.place.Around.TheVariants.{Brackets}
 use Rattle.st_el.specs.Levels.{whole}
 use Rattle.st_el.specs.Wrappings.{Printed}
-use Rattle.st_el.specs.SourceText.{printed, listed, front, postfix, parts_printed, opened as printed_parts}
+use Rattle.st_el.specs.SourceText.{printed, listed}
 use Rattle.st_el.specs.Plain.{plain_exp}
-use Rattle.st_meaning.specs.Names.{name_of}
-use Rattle.st_meaning.specs.Meaning.{exp, meaning, meanings, in_parens, is_atom, opened}
-use Rattle.st_read_back.specs.Written.{Piece, space, token, bytes_of, shape, shapes_behind, AreApart}
-use Rattle.st_read_back.proofs.Cuts.{touch, touch-append, bytes-append, single, cut, parted, one_lexeme, lexemes_of_both}
-use Rattle.st_read_back.proofs.Ends.{Clear, before, comma, Front, front_more, first_round, first_ends, Closer, by_round, closer_clear, closer_last, last_ends}
-use Rattle.st_read_back.proofs.Parts.{Traits, Part, Read, is_arithmetic, starts_bar, part_as}
-use Rattle.st_read_back.proofs.Wraps.{signed, tight_traits, no_atom_at}
-use Rattle.st_read_back.proofs.Placed.{Home, sort_of, bare_traits, place_traits, Printable, printable, placed, normal}
-use Rattle.st_read_back.proofs.Posts.{same_plain}
-use Rattle.st_read_back.proofs.Enclosed.{computes_home}
-use Rattle.st_read_back.proofs.Rows.{RowRead, Row, row_as, JointRead, Joint, row_one, row_then}
+use Rattle.st_meaning.specs.Meaning.{meaning, meanings, is_atom, opened}
+use Rattle.st_read_back.specs.Written.{Piece, space, bytes_of, shape, shapes_behind, AreApart}
+use Rattle.st_read_back.proofs.Cuts.{touch, touch-append, bytes-append, single, parted, one_lexeme, lexemes_of_both}
+use Rattle.st_read_back.proofs.Ends.{Clear, before, comma, Front, front_more, Closer, closer_clear, closer_last, last_ends}
+use Rattle.st_read_back.proofs.Parts.{Part, Read, is_arithmetic, starts_bar}
+use Rattle.st_read_back.proofs.Wraps.{signed, tight_traits}
+use Rattle.st_read_back.proofs.Placed.{place_traits, Printable, placed}
+use Rattle.st_read_back.proofs.Rows.{Row, row_as, Joint, row_one, row_then}
 
 -- ---- expressions that are read back, one behind the other
 
@@ -161,7 +149,7 @@ module _ (names : List (List ℕ)) (A : Type 0) (heading : A → Heading) (P : T
       let end : AreApart (signed c ∷ behind) = (refl, tt, last_ends c true (bytes_of behind) (closer_last c closer) k, a) in
       let row : AreApart (r.pieces ++ signed c ∷ behind) = r.apart (signed c ∷ behind) (closer_clear c plus (bytes_of behind) closer) end in
       let front : Front inner (bytes_of (r.pieces ++ signed c ∷ behind)) =
-          subst (Front inner) (sym (bytes-append r.pieces (signed c ∷ behind) ∙ ap (λ w. w ++ bytes_of (signed c ∷ behind)) r.same)) (front_more inner rb (bytes_of (signed c ∷ behind)) r.front) in
+      subst (Front inner) (sym (bytes-append r.pieces (signed c ∷ behind) ∙ ap (λ w. w ++ bytes_of (signed c ∷ behind)) r.same)) (front_more inner rb (bytes_of (signed c ∷ behind)) r.front) in
       subst AreApart (sym (append_assoc o.pieces (r.pieces ++ signed c ∷ []) behind ∙ ap (λ w. o.pieces ++ w) (append_assoc r.pieces (signed c ∷ []) behind)))
       (o.apart (r.pieces ++ signed c ∷ behind) front row)
 

@@ -1,9 +1,6 @@
 -- Printed parts: their pieces, and how the tokens of these pieces are read.
-use Rattle.std.proofs.Common.{◌≡◌, ℕ, ◌≤◌, List, [], ◌∷◌, ◌++◌, map, Bool, true, false, not, ◌&&◌, refl, sym, ap, ◌∙◌, subst, arith}
+use Rattle.std.proofs.Common.{◌≡◌, ℕ, ◌≤◌, List, [], ◌∷◌, ◌++◌, map, Bool, true, false, ◌∙◌, subst, arith}
 use Rattle.st_scan.specs.declared.token.Token.{Token}
-use Rattle.st_scan.specs.declared.token.TokenKind.{TokenKind}
-use Rattle.st_scan.specs.Spelling.{Spells}
-use Rattle.st_scan.specs.Tokens.{IsInRange}
 use Rattle.st_grammar.specs.declared.sort.Sort.{Sort}
 use Rattle.st_grammar.specs.declared.sort.Sort.TheVariants.{Arithmetic as arithmetic}
 use Rattle.st_grammar.specs.declared.sort.Closing.TheVariants.{ByBar as by_bar}
@@ -13,7 +10,7 @@ use Rattle.st_grammar.specs.Grammar.{Fits, level}
 use Rattle.st_el.specs.declared.expression.Exp.{Exp}
 use Rattle.st_el.specs.Plain.{plain_exp}
 use Rattle.st_meaning.specs.Meaning.{meaning, is_atom, opened}
-use Rattle.st_read_back.specs.Written.{Piece, space, token, bytes_of, shape, shapes_behind, ends_before, AreApart}
+use Rattle.st_read_back.specs.Written.{Piece, bytes_of, shape, shapes_behind, AreApart}
 use Rattle.st_read_back.proofs.Cuts.{touch}
 use Rattle.st_read_back.proofs.Ends.{Clear, clear_more, Front}
 

@@ -3,39 +3,33 @@ use Rattle.std.proofs.Common.{◌≡◌, ℕ, ◌≤◌, List, [], ◌∷◌, �
 use Rattle.std.specs.Prelude.{flat_map}
 use Rattle.std.proofs.lemmas.List.{append-nil, map-append}
 use Rattle.std.proofs.lemmas.Grind.{flat_map-append}
-use Rattle.st_num.specs.Signs.{spelling}
-use Rattle.st_num.specs.declared.span.Span.{Span}
-use Rattle.st_num.specs.declared.mark.Mark.{Mark}
-use Rattle.st_num.specs.declared.mark.Mark.TheVariants.{OpenBracket, CloseBracket, Equal, ExtendBy}
+use Rattle.st_num.specs.declared.mark.Mark.TheVariants.{OpenBracket, CloseBracket}
 use Rattle.st_scan.specs.declared.token.Token.{Token}
 use Rattle.st_scan.specs.declared.token.TokenKind.TheVariants as kind
 use Rattle.st_grammar.specs.declared.sort.Sort.TheVariants.{Expression as expression}
 use Rattle.st_grammar.specs.declared.sort.Style.TheVariants.{Ends as ends}
 use Rattle.st_grammar.specs.declared.sort.Bracket.TheVariants.{Square as square}
 use Rattle.st_grammar.specs.declared.sort.Closing.TheVariants.{BySquare as by_square}
-use Rattle.st_grammar.specs.Levels.{is_change}
-use Rattle.st_grammar.specs.Lexemes.{Lexeme, lexeme, kind_lexeme, dot, sign, opening, closing}
-use Rattle.st_grammar.specs.Trees.{Tree, Trees, none, more, bracket, update, Path, head, field, part, text, texts, path_text}
-use Rattle.st_grammar.specs.Grammar.{Fits, EachFits, PathFits, has_step, size, level}
+use Rattle.st_grammar.specs.Lexemes.{Lexeme, lexeme, dot, opening, closing}
+use Rattle.st_grammar.specs.Trees.{Trees, none, more, Path, field, part, text, texts, path_text}
+use Rattle.st_grammar.specs.Grammar.{EachFits, PathFits, has_step, size}
 use Rattle.st_el.specs.declared.expression.Exp.{Exp}
-use Rattle.st_el.specs.declared.expression.Node.{Node, roll-Node}
-use Rattle.st_el.specs.declared.expression.Node.TheVariants as node
-use Rattle.st_el.specs.declared.expression.Count.TheOpen.{Node-F, Seg-F}
+use Rattle.st_el.specs.declared.expression.Count.TheOpen.{Seg-F}
 use Rattle.st_el.specs.declared.expression.Seg.{Seg, roll-Seg}
 use Rattle.st_el.specs.declared.expression.Seg.TheVariants as seg
 use Rattle.st_el.specs.Levels.{position}
-use Rattle.st_el.specs.SourceText.{printed, printed_step, range}
+use Rattle.st_el.specs.SourceText.{printed, printed_step}
 use Rattle.st_el.specs.Plain.{plain_exp, plain_seg}
 use Rattle.st_meaning.specs.Names.{name_of}
-use Rattle.st_meaning.specs.Meaning.{exp, meaning, meanings, base, steps, step_at}
-use Rattle.st_read_back.specs.Written.{Piece, space, token, bytes_of, shape, shapes_behind, AreApart}
+use Rattle.st_meaning.specs.Meaning.{meaning, meanings, base, steps, step_at}
+use Rattle.st_read_back.specs.Written.{Piece, token, bytes_of, shape, shapes_behind, AreApart}
 use Rattle.st_read_back.proofs.Cuts.{touch, touch-append, bytes-append, parted, cut, single, one_lexeme, lexemes_of_both}
 use Rattle.st_read_back.proofs.Ends.{Clear, clear_more, before, point, open_square, Front, front_more, first_square, first_ends, by_square as square_closes, closer_clear, closer_last, last_ends, word_ends}
 use Rattle.st_read_back.proofs.Plains.{step-of, plain-step}
 use Rattle.st_read_back.proofs.Wraps.{signed}
 use Rattle.st_read_back.proofs.Placed.{Printable}
 use Rattle.st_read_back.proofs.Posts.{IsField, dot_lexeme}
-use Rattle.st_read_back.proofs.Rows.{RowRead, Row}
+use Rattle.st_read_back.proofs.Rows.{Row}
 use Rattle.st_read_back.proofs.Lists.{map_snoc}
 use Rattle.st_read_back.proofs.Indices.{IsPosition, position_row, IsRange, range_row, range_fits, range_text}
 
@@ -97,7 +91,7 @@ module _ (names : List (List ℕ)) (P : Trees → Type 0) (bytes : List ℕ) (s 
       let end : AreApart (signed CloseBracket ∷ behind) = (refl, tt, last_ends CloseBracket true (bytes_of behind) (closer_last CloseBracket square_closes) (clear_more false true (bytes_of behind) (λ h. absurd (cc)) k), a) in
       let rest : AreApart (row.pieces ++ signed CloseBracket ∷ behind) = row.apart (signed CloseBracket ∷ behind) (closer_clear CloseBracket false (bytes_of behind) square_closes) end in
       let front : Front false (bytes_of (row.pieces ++ signed CloseBracket ∷ behind)) =
-          subst (Front false) (sym (bytes-append row.pieces (signed CloseBracket ∷ behind) ∙ ap (λ w. w ++ bytes_of (signed CloseBracket ∷ behind)) row.same)) (front_more false bytes (bytes_of (signed CloseBracket ∷ behind)) row.front) in
+      subst (Front false) (sym (bytes-append row.pieces (signed CloseBracket ∷ behind) ∙ ap (λ w. w ++ bytes_of (signed CloseBracket ∷ behind)) row.same)) (front_more false bytes (bytes_of (signed CloseBracket ∷ behind)) row.front) in
       subst (λ w. AreApart (signed OpenBracket ∷ w)) (sym (append_assoc row.pieces (signed CloseBracket ∷ []) behind))
       (refl, tt, first_ends OpenBracket false (bytes_of (row.pieces ++ signed CloseBracket ∷ behind)) (first_square false) front, rest)
 
@@ -183,24 +177,24 @@ then_steps names path s front_bytes back_bytes p q = record {
   front = front_more false front_bytes back_bytes p.front;
   clear = λ k behind. subst (Clear k) (sym (append_assoc front_bytes back_bytes behind)) (p.clear k (back_bytes ++ behind));
   apart = λ behind k a.
-    let last : AreApart (q.pieces ++ behind) = q.apart behind k a in
-    subst AreApart (sym (append_assoc p.pieces q.pieces behind))
-    (p.apart (q.pieces ++ behind) (subst (Clear false) (sym (bytes-append q.pieces behind ∙ ap (λ w. w ++ bytes_of behind) q.same)) (q.clear false (bytes_of behind))) last);
+      let last : AreApart (q.pieces ++ behind) = q.apart behind k a in
+      subst AreApart (sym (append_assoc p.pieces q.pieces behind))
+      (p.apart (q.pieces ++ behind) (subst (Clear false) (sym (bytes-append q.pieces behind ∙ ap (λ w. w ++ bytes_of behind) q.same)) (q.clear false (bytes_of behind))) last);
   reads = λ xs h.
-    let both = parted true p.pieces q.pieces xs h in
-    let x = p.reads both.ahead both.fronts in
-    let y = q.reads both.behind (both.backs ∙ ap (λ t. shapes_behind t q.pieces) (p.ends true)) in
-    record {
-      extend = λ r. y.extend (x.extend r);
-      words = x.words ++ y.words;
-      spelled = lexemes_of_both names xs both.ahead both.behind x.words y.words both.whole x.spelled y.spelled;
-      whole = λ r. y.whole (x.extend r) ∙ ap (λ w. w ++ y.words) (x.whole r) ∙ append_assoc (path_text r) x.words y.words;
-      fits = λ b r f. y.fits b (x.extend r) (x.fits b r f);
-      steps = λ r. y.steps (x.extend r) ∙ ap (λ w. w ++ map plain_seg (s ∷ [])) (x.steps r) ∙ append_assoc (map plain_seg (steps r)) (map plain_seg path) (map plain_seg (s ∷ []))
-          ∙ ap (λ w. map plain_seg (steps r) ++ w) (sym (map-append plain_seg path (s ∷ [])));
-      base = λ r. y.base (x.extend r) ∙ x.base r;
-      has_step = λ r. y.has_step (x.extend r);
-    };
+      let both = parted true p.pieces q.pieces xs h in
+      let x = p.reads both.ahead both.fronts in
+      let y = q.reads both.behind (both.backs ∙ ap (λ t. shapes_behind t q.pieces) (p.ends true)) in
+      record {
+        extend = λ r. y.extend (x.extend r);
+        words = x.words ++ y.words;
+        spelled = lexemes_of_both names xs both.ahead both.behind x.words y.words both.whole x.spelled y.spelled;
+        whole = λ r. y.whole (x.extend r) ∙ ap (λ w. w ++ y.words) (x.whole r) ∙ append_assoc (path_text r) x.words y.words;
+        fits = λ b r f. y.fits b (x.extend r) (x.fits b r f);
+        steps = λ r. y.steps (x.extend r) ∙ ap (λ w. w ++ map plain_seg (s ∷ [])) (x.steps r) ∙ append_assoc (map plain_seg (steps r)) (map plain_seg path) (map plain_seg (s ∷ []))
+            ∙ ap (λ w. map plain_seg (steps r) ++ w) (sym (map-append plain_seg path (s ∷ [])));
+        base = λ r. y.base (x.extend r) ∙ x.base r;
+        has_step = λ r. y.has_step (x.extend r);
+      };
 }
 
 pub data StepPrintables (names : List (List ℕ)) : List Seg → Type 0 where

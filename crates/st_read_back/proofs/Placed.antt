@@ -1,9 +1,8 @@
 -- A part at its place: bare, or in parentheses where it does not suit the place.
-use Rattle.std.proofs.Common.{◌≡◌, ℕ, ◌≤◌, List, [], ◌∷◌, ◌++◌, map, codes, Bool, true, false, not, ◌&&◌, ◌||◌, refl, sym, ap, ◌∙◌, subst, arith, append_assoc}
+use Rattle.std.proofs.Common.{◌≡◌, ℕ, ◌≤◌, List, ◌++◌, codes, Bool, true, false, not, ◌&&◌, ◌||◌, refl, sym, ap, ◌∙◌, subst, arith, append_assoc}
 use Rattle.std.specs.Prelude.{nat_le, if◌then◌else◌}
-use Rattle.std.proofs.lemmas.Bool.{and_parts, and_from, leb-true, le-leb, not-true, false≢true}
+use Rattle.std.proofs.lemmas.Bool.{and_parts, and_from, leb-true, le-leb, not-true}
 use Rattle.std.proofs.lemmas.List.{append-nil}
-use Rattle.st_num.specs.Signs.{spelling}
 use Rattle.st_num.specs.declared.mark.Mark.TheVariants.{OpenParen, CloseParen}
 use Rattle.st_grammar.specs.declared.sort.Sort.{Sort}
 use Rattle.st_grammar.specs.declared.sort.Sort.TheVariants.{Expression as expression, Arithmetic as arithmetic, Count as count}
@@ -13,7 +12,6 @@ use Rattle.st_el.specs.declared.place.Around.TheVariants.{Brackets, Bars, Arithm
 use Rattle.st_el.specs.declared.place.Behind.{Behind}
 use Rattle.st_el.specs.declared.place.Behind.TheVariants.{Other, Dot, Plus}
 use Rattle.st_el.specs.declared.place.Place.{Place}
-use Rattle.st_el.specs.declared.place.Wrapping.{Wrapping}
 use Rattle.st_el.specs.declared.place.Wrapping.TheVariants.{Bare, Parens, Dollar}
 use Rattle.st_el.specs.Wrappings.{Printed, Level, level_of, takes_in, has_bar, is_arithmetic, suits, wrapping, is_plus}
 use Rattle.st_el.specs.SourceText.{printed, printed_node_at, opened, front, postfix, wrapped, text_at}

@@ -1,10 +1,8 @@
 -- What is plain and what is printed in each form of expression.
-use Rattle.std.proofs.Common.{◌≡◌, ℕ, List, [], ◌∷◌, map, ap, ◌∙◌, sym, refl, Bool}
+use Rattle.std.proofs.Common.{◌≡◌, ℕ, List, ap, ◌∙◌, sym}
 use Rattle.st_num.specs.declared.span.Span.{Span}
-use Rattle.st_num.specs.declared.mark.Mark.{Mark}
-use Rattle.st_el.specs.declared.expression.Exp.{Exp, Exp-F, map-Exp, out-Exp, roll-Exp, fold_out-Exp, out-roll-Exp}
-use Rattle.st_el.specs.declared.expression.Node.{Node, out-Node, roll-Node, map-Node, fold_out-Node}
-use Rattle.st_el.specs.declared.expression.Node.TheVariants as v
+use Rattle.st_el.specs.declared.expression.Exp.{Exp, map-Exp, out-Exp, fold_out-Exp, out-roll-Exp}
+use Rattle.st_el.specs.declared.expression.Node.{Node, out-Node, map-Node, fold_out-Node}
 use Rattle.st_el.specs.declared.expression.Count.{Count, roll-Count, out-Count, map-Count, fold_out-Count}
 use Rattle.st_el.specs.declared.expression.Count.TheOpen.{Count-F, Node-F, Seg-F}
 use Rattle.st_el.specs.declared.expression.Seg.{Seg, roll-Seg, out-Seg, map-Seg, fold_out-Seg}

@@ -1,5 +1,5 @@
 -- Dots and marks behind an operand.
-use Rattle.std.proofs.Common.{◌≡◌, ℕ, ◌≤◌, List, [], ◌∷◌, ◌++◌, map, codes, Bool, true, false, not, ◌&&◌, refl, sym, ap, ◌∙◌, subst, arith}
+use Rattle.std.proofs.Common.{◌≡◌, ℕ, List, [], ◌∷◌, ◌++◌, codes, Bool, true, false, not, ◌&&◌, refl, sym, ap, ◌∙◌, arith}
 use Rattle.std.specs.Prelude.{IsTrue, if◌then◌else◌}
 use Rattle.std.proofs.lemmas.List.{append-nil}
 use Rattle.st_num.specs.Signs.{spelling}
@@ -8,15 +8,13 @@ use Rattle.st_num.specs.declared.mark.Mark.{Mark}
 use Rattle.st_num.specs.declared.mark.Mark.TheVariants as mark
 use Rattle.st_scan.specs.Spelling.{is_name, has_lower}
 use Rattle.st_scan.specs.declared.token.Token.{Token}
-use Rattle.st_scan.specs.declared.token.TokenKind.{TokenKind}
 use Rattle.st_scan.specs.declared.token.TokenKind.TheVariants as kind
 use Rattle.st_grammar.specs.declared.sort.Sort.{Sort}
 use Rattle.st_grammar.specs.declared.sort.Sort.TheVariants.{Expression as expression, Arithmetic as arithmetic}
-use Rattle.st_grammar.specs.Levels.{is_mark}
-use Rattle.st_grammar.specs.Lexemes.{Lexeme, dot, sign, other, lexeme, kind_lexeme}
+use Rattle.st_grammar.specs.Lexemes.{dot, sign, other, kind_lexeme}
 use Rattle.st_grammar.specs.Trees.{Tree, post}
-use Rattle.st_grammar.specs.Grammar.{Fits, may_post, level}
-use Rattle.st_el.specs.declared.expression.Exp.{Exp, out-Exp}
+use Rattle.st_grammar.specs.Grammar.{may_post}
+use Rattle.st_el.specs.declared.expression.Exp.{Exp}
 use Rattle.st_el.specs.declared.expression.Node.{Node, out-Node, roll-Node}
 use Rattle.st_el.specs.declared.expression.Node.TheVariants as node
 use Rattle.st_el.specs.declared.expression.Count.{Count}
@@ -32,15 +30,15 @@ use Rattle.st_el.specs.Wrappings.{Level, Marked, level_of, is_arithmetic, is_plu
 use Rattle.st_el.specs.SourceText.{printed, printed_mark, front, postfix, parts_printed, opened as printed_parts}
 use Rattle.st_el.specs.Plain.{nowhere, plain_exp, plain_count, plain_node_at}
 use Rattle.st_meaning.specs.Names.{name_of}
-use Rattle.st_meaning.specs.Meaning.{exp, place, meaning, is_atom, atom_name, opened, dotted, dotted_node, iterated, mark_count}
-use Rattle.st_read_back.specs.Written.{Piece, token, bytes_of, AreApart}
+use Rattle.st_meaning.specs.Meaning.{exp, place, meaning, is_atom, atom_name, opened, dotted, iterated, mark_count}
+use Rattle.st_read_back.specs.Written.{token, bytes_of}
 use Rattle.st_read_back.proofs.Cuts.{single, one_lexeme}
 use Rattle.st_read_back.proofs.Ends.{Clear, before, point, star, plus, quest, Last, last_star, last_plus, last_quest, last_ends, word_ends}
-use Rattle.st_read_back.proofs.Plains.{plain-at, node-of, parts_plain, mark-of}
-use Rattle.st_read_back.proofs.Parts.{Traits, Part, Read, part_as}
+use Rattle.st_read_back.proofs.Plains.{plain-at, parts_plain, mark-of}
+use Rattle.st_read_back.proofs.Parts.{part_as}
 use Rattle.st_read_back.proofs.Wraps.{signed, no_atom_at}
-use Rattle.st_read_back.proofs.Placed.{Home, sort_of, bare_traits, place_traits, PartAt, Printable, printable, placed, normal}
-use Rattle.st_read_back.proofs.Suffixes.{Longer, Suffix, suffixed}
+use Rattle.st_read_back.proofs.Placed.{Home, sort_of, bare_traits, place_traits, Printable, printable, placed, normal}
+use Rattle.st_read_back.proofs.Suffixes.{Suffix, suffixed}
 
 -- nodes with the same plain parts are the same in plain trees
 pub same_plain :
@@ -109,7 +107,7 @@ dot_suffix names σ a e at field home h = record {
     fits = (posts_dot σ a r.tree x.only home, r.fits, r.level);
     plain = ap plain_exp (dotted_is (meaning r.tree) x.only field (r.dots refl) x.kind)
         ∙ same_plain (place (meaning r.tree)) at (node.Dot (meaning r.tree) field) (node.Dot e field) (Node-F.Dot (meaning r.tree) field) (Node-F.Dot e field)
-          (node.outs-Dot (meaning r.tree) field) (node.outs-Dot e field) (ap (λ p. roll-Node (Node-F.Dot p field)) r.plain);
+        (node.outs-Dot (meaning r.tree) field) (node.outs-Dot e field) (ap (λ p. roll-Node (Node-F.Dot p field)) r.plain);
     level = omega arith;
     dots = λ _. ap (λ f. is_atom (opened f)) (dotted_is (meaning r.tree) x.only field (r.dots refl) x.kind)
         ∙ no_atom_at (place (meaning r.tree)) (node.Dot (meaning r.tree) field) (Node-F.Dot (meaning r.tree) field) (node.outs-Dot (meaning r.tree) field) refl;
@@ -181,7 +179,7 @@ mark_suffix names b a e at m c d home h = record {
     fits = (mark_posts b m c d r.tree x.only h, r.fits, r.level);
     plain = ap (λ i. plain_exp (iterated (meaning r.tree) i)) (mark_counts m c d h)
         ∙ same_plain (place (meaning r.tree)) at (node.Iter (meaning r.tree) c) (node.Iter e c) (Node-F.Iter (meaning r.tree) c) (Node-F.Iter e c)
-          (node.outs-Iter (meaning r.tree) c) (node.outs-Iter e c) (ap (λ p. roll-Node (Node-F.Iter p (plain_count c))) r.plain);
+        (node.outs-Iter (meaning r.tree) c) (node.outs-Iter e c) (ap (λ p. roll-Node (Node-F.Iter p (plain_count c))) r.plain);
     level = omega arith;
     dots = λ _. no_atom_at (place (meaning r.tree)) (node.Iter (meaning r.tree) (mark_count m)) (Node-F.Iter (meaning r.tree) (mark_count m)) (node.outs-Iter (meaning r.tree) (mark_count m)) refl;
   };

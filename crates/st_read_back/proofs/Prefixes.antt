@@ -1,5 +1,5 @@
 -- Signs without a left side.
-use Rattle.std.proofs.Common.{◌≡◌, ℕ, ◌≤◌, List, [], ◌∷◌, ◌++◌, map, codes, Bool, true, false, refl, sym, ap, ◌∙◌, subst, arith, append_assoc}
+use Rattle.std.proofs.Common.{◌≡◌, ℕ, List, [], ◌∷◌, ◌++◌, codes, Bool, true, false, refl, sym, ap, ◌∙◌, subst, arith, append_assoc}
 use Rattle.std.proofs.lemmas.List.{append-nil}
 use Rattle.st_num.specs.Signs.{spelling}
 use Rattle.st_num.specs.declared.span.Span.{Span}
@@ -12,7 +12,6 @@ use Rattle.st_grammar.specs.declared.sort.Sort.TheVariants.{Expression as expres
 use Rattle.st_grammar.specs.Levels.{has_level, ahead_level, ahead_right}
 use Rattle.st_grammar.specs.Lexemes.{sign, kind_lexeme}
 use Rattle.st_grammar.specs.Trees.{Tree, led, ahead, text}
-use Rattle.st_grammar.specs.Grammar.{level}
 use Rattle.st_el.specs.declared.expression.Exp.{Exp}
 use Rattle.st_el.specs.declared.expression.Node.{roll-Node}
 use Rattle.st_el.specs.declared.expression.Node.TheVariants as node
@@ -20,16 +19,16 @@ use Rattle.st_el.specs.declared.expression.Count.TheOpen.{Node-F}
 use Rattle.st_el.specs.declared.place.Around.{Around}
 use Rattle.st_el.specs.declared.place.Around.TheVariants.{Brackets, Bars, Arithmetic, Caret}
 use Rattle.st_el.specs.Levels.{place_at, not_level, negation_level}
-use Rattle.st_el.specs.SourceText.{printed, printed_node_at, front, postfix, text_at, left_side, parts_printed, opened as printed_parts}
+use Rattle.st_el.specs.SourceText.{printed, front, postfix, text_at, left_side, parts_printed, opened as printed_parts}
 use Rattle.st_el.specs.Plain.{plain_exp}
 use Rattle.st_meaning.specs.Meaning.{exp, meaning, is_atom, opened, prefixed}
-use Rattle.st_read_back.specs.Written.{Piece, space, bytes_of, shape, shapes_behind, ends_before, AreApart}
-use Rattle.st_read_back.proofs.Cuts.{bytes-append, single, cut, one_lexeme, lexemes_of_both}
+use Rattle.st_read_back.specs.Written.{space, bytes_of, shapes_behind, ends_before}
+use Rattle.st_read_back.proofs.Cuts.{single, cut, one_lexeme, lexemes_of_both}
 use Rattle.st_read_back.proofs.Ends.{Clear, Front}
 use Rattle.st_read_back.proofs.Plains.{printed-of, node-of}
-use Rattle.st_read_back.proofs.Parts.{Traits, Part, Read, is_arithmetic, part_as}
+use Rattle.st_read_back.proofs.Parts.{Traits, Part, is_arithmetic, part_as}
 use Rattle.st_read_back.proofs.Wraps.{signed, no_atom_at}
-use Rattle.st_read_back.proofs.Placed.{Home, sort_of, bare_traits, place_traits, Printable, printable, placed, normal}
+use Rattle.st_read_back.proofs.Placed.{Home, sort_of, bare_traits, place_traits, Printable, printable, placed}
 use Rattle.st_read_back.proofs.Posts.{same_plain}
 
 -- a sign without a left side, in a sort of place, and what it makes of an expression
@@ -54,18 +53,18 @@ prefix_part names σ m e f traits bytes h plus is p = record {
   front = subst (Front (is_arithmetic σ)) (sym (append_assoc (spelling m) (32 ∷ []) bytes)) (h.front (32 ∷ bytes));
   apart = λ more c a. (refl, tt, h.ends (bytes_of (p.pieces ++ more)), p.apart more (subst (λ t. Clear t (bytes_of more)) (sym plus) c) a);
   reads = λ b xs s.
-    let one = cut xs ((kind.Sign m, b) ∷ []) (shapes_behind false p.pieces) s in
-    let x = single one.ahead (kind.Sign m) b one.fronts in
-    let r = p.reads false one.behind one.backs in
-    record {
-      tree = led (ahead m x.only) r.tree;
-      spelled = lexemes_of_both names xs one.ahead one.behind (sign m x.only ∷ []) (text r.tree) one.whole (one_lexeme names one.ahead (kind.Sign m) b x ∙ ap (λ l. l ∷ []) (h.seen x.only)) r.spelled;
-      fits = (h.has, r.fits, omega (arith, is, r.level), tt);
-      plain = h.meant x.only.at r.tree r.plain;
-      level = omega arith;
-      dots = λ _. h.no_atom x.only.at r.tree;
-      no_bar = λ n. absurd (cc);
-    };
+      let one = cut xs ((kind.Sign m, b) ∷ []) (shapes_behind false p.pieces) s in
+      let x = single one.ahead (kind.Sign m) b one.fronts in
+      let r = p.reads false one.behind one.backs in
+      record {
+        tree = led (ahead m x.only) r.tree;
+        spelled = lexemes_of_both names xs one.ahead one.behind (sign m x.only ∷ []) (text r.tree) one.whole (one_lexeme names one.ahead (kind.Sign m) b x ∙ ap (λ l. l ∷ []) (h.seen x.only)) r.spelled;
+        fits = (h.has, r.fits, omega (arith, is, r.level), tt);
+        plain = h.meant x.only.at r.tree r.plain;
+        level = omega arith;
+        dots = λ _. h.no_atom x.only.at r.tree;
+        no_bar = λ n. absurd (cc);
+      };
 }
 
 -- ---- `~`
@@ -152,7 +151,7 @@ absent_text a by =
 absent_part : (names : List (List ℕ)) (b : Bool) (a : Around) (at by : Span) (e : Exp) → text_at (Node-F.Seq []) (place_at a 8) ≡ []
     → Part names (expression b) e (place_traits (place_at a 8) (printed e)) ((printed e).at (place_at a 8))
     → Part names (expression b) (exp at (node.Infix (absent by) mark.Turnstile e)) (prefix_traits mark.Turnstile)
-      ((left_side ((printed (absent by)).at (place_at a 8)) ++ codes "|-" ++ codes " " ++ (printed e).at (place_at a 8)) ++ [])
+    ((left_side ((printed (absent by)).at (place_at a 8)) ++ codes "|-" ++ codes " " ++ (printed e).at (place_at a 8)) ++ [])
 absent_part names b a at by e none p =
     part_as names (expression b) (exp at (node.Infix (absent by) mark.Turnstile e)) (exp at (node.Infix (absent by) mark.Turnstile e)) (prefix_traits mark.Turnstile) _ _ refl
     (ap (λ w. left_side w ++ codes "|-" ++ codes " " ++ (printed e).at (place_at a 8)) (sym (absent_text a by ∙ none)) ∙ sym (append-nil _))
@@ -165,7 +164,7 @@ absent_printed names b at by e x =
   where
     go : (a : Around) → Home (expression b) a
         → Part names (sort_of a) (exp at (node.Infix (absent by) mark.Turnstile e)) (bare_traits (Node-F.Infix (printed (absent by)) mark.Turnstile (printed e)))
-          (front a (Node-F.Infix (printed (absent by)) mark.Turnstile (printed e)) ++ postfix (Node-F.Infix (printed (absent by)) mark.Turnstile (printed e)))
+        (front a (Node-F.Infix (printed (absent by)) mark.Turnstile (printed e)) ++ postfix (Node-F.Infix (printed (absent by)) mark.Turnstile (printed e)))
     go Brackets home = absent_part names false Brackets at by e refl (placed names (expression b) e (place_at Brackets 8) tt (omega arith) x)
     go Bars home = absent_part names true Bars at by e refl (placed names (expression b) e (place_at Bars 8) tt (omega arith) x)
     go Arithmetic home = absurd home

@@ -1,5 +1,5 @@
 -- Each tree that the grammar allows as an expression means one that is read back where it is printed.
-use Rattle.std.proofs.Common.{◌≡◌, ℕ, ◌≤◌, List, [], ◌∷◌, ◌++◌, map, length, Bool, true, false, ◌&&◌, refl, sym, ap, ◌∙◌, subst, arith}
+use Rattle.std.proofs.Common.{◌≡◌, ℕ, ◌≤◌, List, [], ◌∷◌, ◌++◌, length, Bool, true, false, ◌&&◌, refl, sym, ap, ◌∙◌, subst, arith}
 use Rattle.std.specs.Prelude.{IsTrue, if◌then◌else◌}
 use Rattle.std.proofs.lemmas.Grind.{common_steps}
 use Rattle.st_num.specs.declared.span.Span.{Span}
@@ -18,25 +18,23 @@ use Rattle.st_grammar.specs.declared.sort.Leaf.TheVariants.{Low as low, Basic as
 use Rattle.st_grammar.specs.declared.sort.Bracket.TheVariants.{Round as round, Square as square, Brace as brace, TickRound as tick_round, TickSquare as tick_square, TickBrace as tick_brace, Dollar as dollar}
 use Rattle.st_grammar.specs.declared.sort.Closing.TheVariants.{ByRound as by_round, BySquare as by_square, ByBrace as by_brace, ByBar as by_bar}
 use Rattle.st_grammar.specs.Levels.{takes, is_mark, is_change}
-use Rattle.st_grammar.specs.Lexemes.{Lexeme, leaf, dot, sign, opening, closing, other, lexeme, kind_lexeme}
+use Rattle.st_grammar.specs.Lexemes.{Lexeme, leaf, dot, sign, opening, closing, other}
 use Rattle.st_grammar.specs.Definitions.{token_in}
-use Rattle.st_grammar.specs.Trees.{Tree, operand, post, times, bracket, led, Lead, left, ahead, items, Trees, none, more, Heading, plain, length as bar_length, arguments, index, segment, update, below, Path, head, field, part, text, texts, heading_text, path_text, lead_text, closes}
-use Rattle.st_grammar.specs.Grammar.{Fits, EachFits, PathFits, SetsOff, is_label, size, level}
-use Rattle.st_el.specs.declared.expression.Exp.{Exp, out-Exp, roll-Exp}
-use Rattle.st_el.specs.declared.expression.Node.{Node}
+use Rattle.st_grammar.specs.Trees.{Tree, operand, post, times, bracket, led, left, ahead, items, Trees, none, more, plain, length as bar_length, arguments, index, segment, update, below, Path, head, field, part, text, texts, path_text}
+use Rattle.st_grammar.specs.Grammar.{Fits, EachFits, PathFits, SetsOff, is_label, size}
+use Rattle.st_el.specs.declared.expression.Exp.{Exp}
 use Rattle.st_el.specs.declared.expression.Node.TheVariants as node
-use Rattle.st_el.specs.declared.expression.Count.{Count}
 use Rattle.st_el.specs.declared.expression.Count.TheVariants as count
 use Rattle.st_el.specs.declared.expression.Seg.{Seg}
 use Rattle.st_el.specs.declared.expression.Seg.TheVariants as seg
 use Rattle.st_el.specs.declared.place.Behind.{Behind}
 use Rattle.st_el.specs.declared.place.Behind.TheVariants.{Other, Plus}
 use Rattle.st_meaning.specs.Names.{name_of, leaf_node}
-use Rattle.st_meaning.specs.Meaning.{exp, place, first_place, meaning, meanings, field_meanings, label, in_parens, base, steps, step_at, changed_node, is_atom, opened, dotted, dotted_node, atom_name, mark_count, count_of}
+use Rattle.st_meaning.specs.Meaning.{exp, place, first_place, meaning, meanings, field_meanings, label, base, steps, step_at, changed_node, is_atom, opened, dotted, dotted_node, atom_name, mark_count, count_of}
 use Rattle.st_read_back.proofs.Plains.{node-of}
 use Rattle.st_read_back.proofs.Placed.{Printable}
 use Rattle.st_read_back.proofs.Leaves.{IsLeaf, a_low, a_variable, an_atom, a_function, a_bool, a_nat, an_int, a_text_type, a_true, a_false, an_eps, a_number, a_text, is_leaf, IsWritten, leaf_printed, leaf_word}
-use Rattle.st_read_back.proofs.Posts.{IsField, dot_printed, IsMark, is_star, is_plus_mark, is_quest, mark_printed}
+use Rattle.st_read_back.proofs.Posts.{dot_printed, IsMark, is_star, is_plus_mark, is_quest, mark_printed}
 use Rattle.st_read_back.proofs.Counts.{BoundPart, CountPart, leaf_bound, arith_bound, arith_printed, arith_group, times_count, count_printed}
 use Rattle.st_read_back.proofs.Bounds.{below_count}
 use Rattle.st_read_back.proofs.Joins.{in_expression, in_arithmetic, joined_printed}

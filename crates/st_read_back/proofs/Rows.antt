@@ -1,10 +1,9 @@
 -- Parts one behind the other, and what sets each off from those before it.
-use Rattle.std.proofs.Common.{◌≡◌, ℕ, ◌≤◌, ◌+◌, List, [], ◌∷◌, ◌++◌, map, length, codes, Bool, true, false, refl, sym, ap, ◌∙◌, subst, arith, append_assoc}
-use Rattle.std.proofs.lemmas.List.{append-nil}
+use Rattle.std.proofs.Common.{◌≡◌, ℕ, List, [], ◌++◌, map, Bool, true, false, sym, ap, ◌∙◌, subst, append_assoc}
 use Rattle.st_scan.specs.declared.token.Token.{Token}
 use Rattle.st_grammar.specs.declared.sort.Sort.{Sort}
 use Rattle.st_grammar.specs.Lexemes.{Lexeme, lexeme}
-use Rattle.st_grammar.specs.Trees.{Tree, Trees, none, more, text, texts}
+use Rattle.st_grammar.specs.Trees.{Trees, none, more, text, texts}
 use Rattle.st_el.specs.declared.expression.Exp.{Exp}
 use Rattle.st_read_back.specs.Written.{Piece, bytes_of, shape, shapes_behind, AreApart}
 use Rattle.st_read_back.proofs.Cuts.{touch, touch-append, bytes-append, parted, lexemes_of_both}
@@ -68,10 +67,10 @@ module _ (names : List (List ℕ)) (P Q : Trees → Type 0) (W : List Lexeme →
   then_apart behind c h =
       let last : AreApart (part.pieces ++ behind) = part.apart behind c h in
       let front : Front (is_arithmetic σ) (bytes_of (part.pieces ++ behind)) =
-          subst (Front (is_arithmetic σ)) (sym (bytes-append part.pieces behind ∙ ap (λ w. w ++ bytes_of behind) part.same)) (front_more (is_arithmetic σ) pb (bytes_of behind) part.front) in
+      subst (Front (is_arithmetic σ)) (sym (bytes-append part.pieces behind ∙ ap (λ w. w ++ bytes_of behind) part.same)) (front_more (is_arithmetic σ) pb (bytes_of behind) part.front) in
       let middle : AreApart (joint.pieces ++ (part.pieces ++ behind)) = joint.apart (part.pieces ++ behind) front last in
       let clear : Clear plus (bytes_of (joint.pieces ++ (part.pieces ++ behind))) =
-          subst (Clear plus) (sym (bytes-append joint.pieces (part.pieces ++ behind) ∙ ap (λ w. w ++ bytes_of (part.pieces ++ behind)) joint.same)) (joint.clear (bytes_of (part.pieces ++ behind))) in
+      subst (Clear plus) (sym (bytes-append joint.pieces (part.pieces ++ behind) ∙ ap (λ w. w ++ bytes_of (part.pieces ++ behind)) joint.same)) (joint.clear (bytes_of (part.pieces ++ behind))) in
       let whole : AreApart (row.pieces ++ (joint.pieces ++ (part.pieces ++ behind))) = row.apart (joint.pieces ++ (part.pieces ++ behind)) clear middle in
       subst AreApart (sym (append_assoc row.pieces (joint.pieces ++ part.pieces) behind ∙ ap (λ w. row.pieces ++ w) (append_assoc joint.pieces part.pieces behind))) whole
 

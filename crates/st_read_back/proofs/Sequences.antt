@@ -1,27 +1,23 @@
 -- Sequences of operands.
-use Rattle.std.proofs.Common.{◌≡◌, ℕ, ◌≤◌, ◌+◌, List, [], ◌∷◌, ◌++◌, map, length, codes, Bool, true, false, not, ◌&&◌, refl, sym, ap, ◌∙◌, subst, arith, append_assoc}
-use Rattle.std.specs.Prelude.{flat_map, nat_le}
+use Rattle.std.proofs.Common.{◌≡◌, ℕ, ◌≤◌, List, [], ◌∷◌, ◌++◌, map, Bool, true, false, not, ◌&&◌, refl, sym, ap, ◌∙◌, subst, arith}
+use Rattle.std.specs.Prelude.{nat_le}
 use Rattle.std.proofs.lemmas.Bool.{le-leb}
-use Rattle.std.proofs.lemmas.List.{append-nil, map-append}
-use Rattle.std.proofs.lemmas.Grind.{flat_map-append}
 use Rattle.st_num.specs.declared.mark.Mark.{Mark}
 use Rattle.st_num.specs.declared.mark.Mark.TheVariants as mark
 use Rattle.st_scan.specs.declared.token.Token.{Token}
 use Rattle.st_scan.specs.declared.token.TokenKind.{TokenKind}
 use Rattle.st_grammar.specs.declared.sort.Sort.{Sort}
-use Rattle.st_grammar.specs.declared.sort.Sort.TheVariants.{Expression as expression, Arithmetic as arithmetic}
-use Rattle.st_grammar.specs.declared.sort.Style.TheVariants.{Run as run}
-use Rattle.st_grammar.specs.declared.sort.Leaf.{Leaf}
+use Rattle.st_grammar.specs.declared.sort.Sort.TheVariants.{Expression as expression}
 use Rattle.st_grammar.specs.declared.sort.Bracket.{Bracket}
 use Rattle.st_grammar.specs.declared.sort.Bracket.TheVariants.{Round as round, Square as square, Brace as brace, TickRound as tick_round, TickSquare as tick_square, TickBrace as tick_brace, Dollar as dollar}
 use Rattle.st_grammar.specs.declared.sort.Closing.TheVariants.{ByRound as by_round, BySquare as by_square, ByBrace as by_brace, ByBar as by_bar}
 use Rattle.st_grammar.specs.Levels.{encloses, level_of, ahead_level}
 use Rattle.st_grammar.specs.Lexemes.{Lexeme, leaf, dot, sign, opening, closing, other, lexeme}
-use Rattle.st_grammar.specs.Trees.{Tree, operand, post, times, bracket, led, Lead, left, ahead, items, Trees, none, more, Heading, plain, length as bar_length, arguments, index, segment, update, below, Path, head, field, part, text, texts, heading_text, path_text, closes}
-use Rattle.st_grammar.specs.Grammar.{Fits, HeadingFits, PathFits, EachFits, FollowsAll, follows, text_follows, is_function, size, level}
+use Rattle.st_grammar.specs.Trees.{Tree, operand, post, times, bracket, led, left, ahead, items, Trees, none, more, Heading, plain, length as bar_length, arguments, index, segment, update, below, Path, head, field, part, text, texts, heading_text, path_text, closes}
+use Rattle.st_grammar.specs.Grammar.{Fits, HeadingFits, PathFits, FollowsAll, follows, text_follows, is_function, level}
 use Rattle.st_grammar.specs.Definitions.{token_in}
 use Rattle.st_parse_exp.proofs.Drafted.{token_is}
-use Rattle.st_read_back.specs.Written.{Piece, space, token, bytes_of, shape, shapes_behind}
+use Rattle.st_read_back.specs.Written.{Piece, space, token, shape, shapes_behind}
 use Rattle.st_read_back.proofs.Parts.{starts_bar, is_bar}
 
 -- ---- what an operand begins with
@@ -120,6 +116,7 @@ far_pieces ps xs h = go xs (subst IsFarShape (sym h) (shapes_far ps))
     shapes_far [] = tt
     shapes_far (space ∷ ps) = shapes_far ps
     shapes_far (token k t ∷ ps) = refl
+
     go : (xs : List Token) → IsFarShape (map shape xs) → IsFar xs
     go [] f = tt
     go (x ∷ xs) f = f

@@ -1,5 +1,5 @@
 -- What stands behind an operand.
-use Rattle.std.proofs.Common.{◌≡◌, ℕ, ◌≤◌, List, [], ◌∷◌, ◌++◌, map, Bool, true, false, refl, sym, ap, ◌∙◌, subst, arith, append_assoc}
+use Rattle.std.proofs.Common.{◌≡◌, ℕ, ◌≤◌, List, [], ◌∷◌, ◌++◌, map, Bool, true, false, sym, ap, ◌∙◌, subst, append_assoc}
 use Rattle.st_scan.specs.declared.token.Token.{Token}
 use Rattle.st_grammar.specs.declared.sort.Sort.{Sort}
 use Rattle.st_grammar.specs.Lexemes.{Lexeme, lexeme}
@@ -11,7 +11,7 @@ use Rattle.st_el.specs.Plain.{plain_exp}
 use Rattle.st_meaning.specs.Meaning.{meaning, is_atom, opened}
 use Rattle.st_read_back.specs.Written.{Piece, bytes_of, shape, shapes_behind, AreApart}
 use Rattle.st_read_back.proofs.Cuts.{touch, touch-append, bytes-append, parted, lexemes_of_both}
-use Rattle.st_read_back.proofs.Ends.{Clear, Front, front_more}
+use Rattle.st_read_back.proofs.Ends.{Clear, front_more}
 use Rattle.st_read_back.proofs.Parts.{Traits, Part, Read, is_arithmetic, starts_bar}
 
 -- a tree with these tokens behind it, which means this expression
@@ -46,7 +46,7 @@ module _ (names : List (List ℕ)) (σ : Sort) (e f : Exp) (inner traits : Trait
   suffixed_apart part s more c a =
       let same : bytes_of (s.pieces ++ more) ≡ behind ++ bytes_of more = bytes-append s.pieces more ∙ ap (λ w. w ++ bytes_of more) s.same in
       let all : AreApart (part.pieces ++ (s.pieces ++ more)) =
-          part.apart (s.pieces ++ more) (subst (Clear inner.plus) (sym same) (s.clear (bytes_of more))) (s.apart more c a) in
+      part.apart (s.pieces ++ more) (subst (Clear inner.plus) (sym same) (s.clear (bytes_of more))) (s.apart more c a) in
       subst AreApart (sym (append_assoc part.pieces s.pieces more)) all
 
   suffixed_read : (part : Part names σ e inner bytes) (s : Suffix names σ e f inner traits behind) (b : Bool) (xs : List Token)

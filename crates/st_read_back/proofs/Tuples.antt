@@ -1,5 +1,5 @@
 -- Tuples and calls.
-use Rattle.std.proofs.Common.{◌≡◌, ℕ, ◌≤◌, ◌+◌, List, [], ◌∷◌, ◌++◌, map, length, codes, Bool, true, false, refl, sym, ap, ◌∙◌, subst, arith, append_assoc}
+use Rattle.std.proofs.Common.{◌≡◌, ℕ, ◌≤◌, List, [], ◌∷◌, ◌++◌, map, length, codes, Bool, true, false, refl, sym, ap, ◌∙◌, arith, append_assoc}
 use Rattle.std.specs.Prelude.{IsTrue}
 use Rattle.std.proofs.lemmas.List.{append-nil}
 use Rattle.std.proofs.lemmas.Grind.{common_steps}
@@ -9,15 +9,15 @@ use Rattle.st_scan.specs.Spelling.{is_name, begins_lower}
 use Rattle.st_scan.specs.declared.token.Token.{Token}
 use Rattle.st_scan.specs.declared.token.TokenKind.TheVariants as kind
 use Rattle.st_grammar.specs.declared.sort.Sort.{Sort}
-use Rattle.st_grammar.specs.declared.sort.Sort.TheVariants.{Expression as expression, Arithmetic as arithmetic}
+use Rattle.st_grammar.specs.declared.sort.Sort.TheVariants.{Expression as expression}
 use Rattle.st_grammar.specs.declared.sort.Leaf.TheVariants.{Function as function}
 use Rattle.st_grammar.specs.declared.sort.Bracket.TheVariants.{Round as round}
 use Rattle.st_grammar.specs.Levels.{computes}
-use Rattle.st_grammar.specs.Lexemes.{Lexeme, leaf, opening}
+use Rattle.st_grammar.specs.Lexemes.{leaf, opening}
 use Rattle.st_grammar.specs.Trees.{Trees, none, more, Heading, plain, arguments}
 use Rattle.st_grammar.specs.Grammar.{IsFilled, size}
 use Rattle.st_el.specs.declared.expression.Exp.{Exp}
-use Rattle.st_el.specs.declared.expression.Node.{Node, roll-Node}
+use Rattle.st_el.specs.declared.expression.Node.{roll-Node}
 use Rattle.st_el.specs.declared.expression.Node.TheVariants as node
 use Rattle.st_el.specs.declared.expression.Count.TheOpen.{Node-F}
 use Rattle.st_el.specs.declared.place.Around.{Around}
@@ -25,16 +25,16 @@ use Rattle.st_el.specs.declared.place.Around.TheVariants.{Brackets, Bars, Arithm
 use Rattle.st_el.specs.SourceText.{printed, listed, arguments as arguments_text, front, postfix, parts_printed}
 use Rattle.st_el.specs.Plain.{plain_exp}
 use Rattle.st_meaning.specs.Names.{name_of}
-use Rattle.st_meaning.specs.Meaning.{exp, meaning, meanings, in_parens, is_atom, opened}
-use Rattle.st_read_back.specs.Written.{Piece, token, bytes_of, AreApart}
+use Rattle.st_meaning.specs.Meaning.{exp, meanings, in_parens, is_atom, opened}
+use Rattle.st_read_back.specs.Written.{token, bytes_of}
 use Rattle.st_read_back.proofs.Cuts.{single, cut, one_lexeme, lexemes_of_both}
-use Rattle.st_read_back.proofs.Ends.{Front, first_round, first_ends, by_round}
+use Rattle.st_read_back.proofs.Ends.{first_round, first_ends, by_round}
 use Rattle.st_read_back.proofs.Parts.{Part, part_as, is_arithmetic}
 use Rattle.st_read_back.proofs.Wraps.{signed, tight_traits, no_atom_at}
 use Rattle.st_read_back.proofs.Placed.{Home, sort_of, bare_traits, Printable, printable, normal}
 use Rattle.st_read_back.proofs.Posts.{same_plain}
 use Rattle.st_read_back.proofs.Enclosed.{computes_home}
-use Rattle.st_read_back.proofs.Lists.{Printables, one_more, AreListed, listed_row, Opening, boxed}
+use Rattle.st_read_back.proofs.Lists.{Printables, AreListed, listed_row, Opening, boxed}
 
 pub filled : (h : Heading) (ts : Trees) → 1 ≤ size ts → IsFilled h ts
 filled h none s = absurd (omega (arith, s))
@@ -73,10 +73,10 @@ module _ (names : List (List ℕ)) (at : Span) (es : List Exp) (d e : Exp) (ps :
       (λ z y. refl)
       (λ z ts y l. (refl, refl, l.fits, filled (plain round z) ts l.some))
       (λ z ts y l. ap (λ n. plain_exp (exp z.at n)) (many_parens (meanings ts) (many_same (meanings ts) es d e l.plain))
-          ∙ same_plain z.at at (node.Tuple (meanings ts)) (node.Tuple all) (Node-F.Tuple (meanings ts)) (Node-F.Tuple all) (node.outs-Tuple (meanings ts)) (node.outs-Tuple all)
-            (ap (λ l. roll-Node (Node-F.Tuple l)) l.plain))
+      ∙ same_plain z.at at (node.Tuple (meanings ts)) (node.Tuple all) (Node-F.Tuple (meanings ts)) (Node-F.Tuple all) (node.outs-Tuple (meanings ts)) (node.outs-Tuple all)
+      (ap (λ l. roll-Node (Node-F.Tuple l)) l.plain))
       (λ z ts y l. ap (λ n. is_atom (opened (exp z.at n))) (many_parens (meanings ts) (many_same (meanings ts) es d e l.plain))
-          ∙ no_atom_at z.at (node.Tuple (meanings ts)) (Node-F.Tuple (meanings ts)) (node.outs-Tuple (meanings ts)) refl)
+      ∙ no_atom_at z.at (node.Tuple (meanings ts)) (Node-F.Tuple (meanings ts)) (node.outs-Tuple (meanings ts)) refl)
       (λ z w. refl)
       (round_opening names false false) (listed_row names (es ++ d ∷ []) e ps x))
 
@@ -107,14 +107,14 @@ call_opening names name outer inner n l = record {
   front = record { first = 36; rest = name ++ codes "("; is = refl; no_semicolon = refl; no_minus = λ _. refl };
   apart = λ more f a. ((refl, n, l), tt, refl, (refl, tt, first_ends OpenParen inner (bytes_of more) (first_round inner) f, a));
   reads = λ b xs s.
-    let one = cut xs ((kind.Fun name, b) ∷ []) ((kind.Sign OpenParen, true) ∷ []) s in
-    let x = single one.ahead (kind.Fun name) b one.fronts in
-    let y = single one.behind (kind.Sign OpenParen) true one.backs in
-    record {
-      of = record { fn = x.only; paren = y.only; is = x.kind; touching = y.touching };
-      spelled = lexemes_of_both names xs one.ahead one.behind (leaf function x.only ∷ []) (opening round y.only ∷ []) one.whole
-          (one_lexeme names one.ahead (kind.Fun name) b x) (one_lexeme names one.behind (kind.Sign OpenParen) true y);
-    };
+      let one = cut xs ((kind.Fun name, b) ∷ []) ((kind.Sign OpenParen, true) ∷ []) s in
+      let x = single one.ahead (kind.Fun name) b one.fronts in
+      let y = single one.behind (kind.Sign OpenParen) true one.backs in
+      record {
+        of = record { fn = x.only; paren = y.only; is = x.kind; touching = y.touching };
+        spelled = lexemes_of_both names xs one.ahead one.behind (leaf function x.only ∷ []) (opening round y.only ∷ []) one.whole
+            (one_lexeme names one.ahead (kind.Fun name) b x) (one_lexeme names one.behind (kind.Sign OpenParen) true y);
+      };
 }
 
 arguments_are : (es : List Exp) (e : Exp) → arguments_text (map printed (es ++ e ∷ [])) ≡ codes "(" ++ listed (map printed (es ++ e ∷ [])) ++ codes ")"
@@ -132,8 +132,8 @@ module _ (names : List (List ℕ)) (at : Span) (name : List ℕ) (n : IsTrue (is
       (λ z y. refl)
       (λ z ts y l. (refl, (c, z.touching), l.fits, filled (arguments z.fn z.paren) ts l.some))
       (λ z ts y l. ap (λ k. plain_exp (exp z.fn.at (node.Call (name_of k) (meanings ts)))) z.is
-          ∙ same_plain z.fn.at at (node.Call name (meanings ts)) (node.Call name (es ++ e ∷ [])) (Node-F.Call name (meanings ts)) (Node-F.Call name (es ++ e ∷ []))
-            (node.outs-Call name (meanings ts)) (node.outs-Call name (es ++ e ∷ [])) (ap (λ l. roll-Node (Node-F.Call name l)) l.plain))
+      ∙ same_plain z.fn.at at (node.Call name (meanings ts)) (node.Call name (es ++ e ∷ [])) (Node-F.Call name (meanings ts)) (Node-F.Call name (es ++ e ∷ []))
+      (node.outs-Call name (meanings ts)) (node.outs-Call name (es ++ e ∷ [])) (ap (λ l. roll-Node (Node-F.Call name l)) l.plain))
       (λ z ts y l. no_atom_at z.fn.at (node.Call (name_of z.fn.kind) (meanings ts)) (Node-F.Call (name_of z.fn.kind) (meanings ts)) (node.outs-Call (name_of z.fn.kind) (meanings ts)) refl)
       (λ z w. refl)
       (call_opening names name (is_arithmetic σ) false n l) (listed_row names es e ps x))

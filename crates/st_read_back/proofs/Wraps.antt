@@ -1,19 +1,15 @@
 -- A part between an opening and a closing sign.
-use Rattle.std.proofs.Common.{◌≡◌, ℕ, ◌≤◌, List, [], ◌∷◌, ◌++◌, map, Bool, true, false, not, ◌&&◌, refl, sym, ap, ◌∙◌, subst, arith, append_assoc}
-use Rattle.std.proofs.lemmas.List.{map-append, append-nil}
+use Rattle.std.proofs.Common.{◌≡◌, ℕ, ◌≤◌, List, [], ◌∷◌, ◌++◌, map, Bool, true, false, refl, sym, ap, ◌∙◌, subst, arith, append_assoc}
+use Rattle.std.proofs.lemmas.List.{append-nil}
 use Rattle.st_num.specs.Signs.{spelling}
 use Rattle.st_num.specs.declared.mark.Mark.{Mark}
-use Rattle.st_num.specs.declared.mark.Mark.TheVariants.{CloseParen, CloseBracket, CloseBrace, Bar, Star, Plus, Question, OpenParen, OpenBracket, OpenBrace, OpenArith, TickParen, TickBracket, TickBrace, Caret}
+use Rattle.st_num.specs.declared.mark.Mark.TheVariants.{CloseParen, Bar, OpenParen, OpenArith}
 use Rattle.st_scan.specs.declared.token.Token.{Token}
-use Rattle.st_scan.specs.declared.token.TokenKind.{TokenKind}
 use Rattle.st_scan.specs.declared.token.TokenKind.TheVariants.{Sign}
 use Rattle.st_grammar.specs.declared.sort.Sort.{Sort}
 use Rattle.st_grammar.specs.declared.sort.Sort.TheVariants.{Expression as expression, Arithmetic as arithmetic}
-use Rattle.st_grammar.specs.declared.sort.Bracket.{Bracket}
 use Rattle.st_grammar.specs.declared.sort.Bracket.TheVariants.{Round as round, Dollar as dollar}
-use Rattle.st_grammar.specs.declared.sort.Closing.{Closing}
-use Rattle.st_grammar.specs.declared.sort.Closing.TheVariants.{ByBar as by_bar}
-use Rattle.st_grammar.specs.Lexemes.{Lexeme, opening, closing, lexeme, kind_lexeme}
+use Rattle.st_grammar.specs.Lexemes.{closing, kind_lexeme}
 use Rattle.st_grammar.specs.Levels.{encloses, computes}
 use Rattle.st_grammar.specs.Trees.{Tree, bracket, none, more, Heading, plain, length, text, heading_text, closes}
 use Rattle.st_grammar.specs.Grammar.{Fits, level}
@@ -26,10 +22,10 @@ use Rattle.st_el.specs.declared.expression.Count.TheOpen.{Node-F}
 use Rattle.st_el.specs.declared.expression.Seg.{Seg}
 use Rattle.st_el.specs.Plain.{nowhere, plain_exp}
 use Rattle.st_meaning.specs.Meaning.{exp, meaning, is_atom, opened}
-use Rattle.st_read_back.specs.Written.{Piece, space, token, bytes_of, shape, shapes_behind, ends_before, AreApart}
+use Rattle.st_read_back.specs.Written.{Piece, token, bytes_of, shape, shapes_behind, ends_before, AreApart}
 use Rattle.st_read_back.proofs.Cuts.{touch, touch-append, bytes-append, parted, cut, single, one_lexeme, lexemes_of_both}
-use Rattle.st_read_back.proofs.Ends.{Clear, Front, Last, last_ends, First, first_ends, Closer, by_round, by_bar as bar_closes, first_round, first_dollar, first_bar, closer_clear, closer_last, clear_more, front_more}
-use Rattle.st_read_back.proofs.Plains.{plain-at, plain-again, node-of, parts_plain}
+use Rattle.st_read_back.proofs.Ends.{Clear, Front, last_ends, First, first_ends, Closer, by_round, by_bar as bar_closes, first_round, first_dollar, first_bar, closer_clear, closer_last, front_more}
+use Rattle.st_read_back.proofs.Plains.{plain-at, plain-again, node-of}
 use Rattle.st_read_back.proofs.Parts.{Traits, Part, Read, is_arithmetic, is_bar, starts_bar}
 
 -- the piece of a sign
@@ -67,8 +63,8 @@ module _ (names : List (List ℕ)) (opens ends : Mark) (σ inner : Sort) (no_bar
         let same : (part.pieces ++ signed ends ∷ []) ++ behind ≡ part.pieces ++ signed ends ∷ behind = append_assoc part.pieces (signed ends ∷ []) behind in
         let bytes_same : bytes_of (part.pieces ++ signed ends ∷ behind) ≡ bytes ++ bytes_of (signed ends ∷ behind) = bytes-append part.pieces (signed ends ∷ behind) ∙ ap (λ w. w ++ bytes_of (signed ends ∷ behind)) part.same in
         let opens_well : ends_before (Sign opens) (bytes_of (part.pieces ++ signed ends ∷ behind)) ≡ true =
-            first_ends opens (is_arithmetic inner) (bytes_of (part.pieces ++ signed ends ∷ behind)) frame.first
-            (subst (Front (is_arithmetic inner)) (sym bytes_same) (front_more (is_arithmetic inner) bytes (bytes_of (signed ends ∷ behind)) part.front)) in
+        first_ends opens (is_arithmetic inner) (bytes_of (part.pieces ++ signed ends ∷ behind)) frame.first
+        (subst (Front (is_arithmetic inner)) (sym bytes_same) (front_more (is_arithmetic inner) bytes (bytes_of (signed ends ∷ behind)) part.front)) in
         subst (λ w. AreApart (signed opens ∷ w)) (sym same) (refl, tt, opens_well, whole)
 
     framed_read : (b : Bool) (xs : List Token) → map shape xs ≡ shapes_behind b (framed_pieces part.pieces)
