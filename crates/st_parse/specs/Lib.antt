@@ -1,2 +1,4 @@
 pub mod Changes
 pub mod Drafts
+pub mod Parts
+pub mod Work

@@ -3,17 +3,20 @@
 //! The one idea: tokens without a fault are read once more, and what is known of the open
 //! definition is kept in a draft, which each token between parts changes in one small way.
 //!
-//! Read `specs/Changes.antt` first, then `specs/Drafts.antt`. The rules are in `docs/source-trees.md`.
+//! Read `step` first, with `specs/Work.antt`. The rules are in `docs/source-trees.md`.
 #![tactic(auto)]
 
+mod apply;
 mod change;
 mod definition;
 mod draft;
 mod fault;
 mod head;
 mod members;
+mod parts;
 mod premise;
 mod sides;
+mod step;
 mod token;
 
 pub use change::{Change, Ending};
