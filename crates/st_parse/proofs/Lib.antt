@@ -9,3 +9,4 @@ pub mod WorkSteps
 pub mod WorkEnds
 pub mod WorkPlaces
 pub mod Loop
+mod Sources

@@ -90,19 +90,18 @@ ended_is (inside s st) ds h e =
         ∙ ap (λ p. Some (ended (ending_of p) (place_draft (filled s t)))) (filled_is s t)
         ∙ place_ended (filled s t) ds (filled_reached s st t h i).holds f
 
-pub all_read : (tokens : List Token) (i : ℕ) (p : Progress) (w : Work) (defs : List Def) (st : State) (ds : Defs) → length tokens ≤ i → Reads (take i (lexemes_of tokens)) p w
-    → ended_defs (progress_of p) w ≡ Some defs → reading start (lexemes_of tokens) ≡ Some st → finish st ≡ Some ds → defs ≡ defs_meaning ds
-all_read tokens i p w defs st ds h f e g k =
+pub all_read : (tokens : List Token) (i : ℕ) (p : Progress) (w : Work) (st : State) (ds : Defs) → length tokens ≤ i → Reads (take i (lexemes_of tokens)) p w
+    → reading start (lexemes_of tokens) ≡ Some st → finish st ≡ Some ds → ended_defs (progress_of p) w ≡ Some (defs_meaning ds)
+all_read tokens i p w st ds h f g k =
     let us : take i (lexemes_of tokens) ≡ lexemes_of tokens = take_all i (lexemes_of tokens) (omega (arith, h, length-map tokens (lexeme (declared_names tokens)))) in
     let twice : Some f.0 ≡ Some st = sym f.1 ∙ ap (reading start) us ∙ g in
     let one : f.0 ≡ st = cc in
-    let done : Some defs ≡ Some (defs_meaning ds) =
-    sym e
-    ∙ ap (λ c. ended_defs c w) (sym f.2)
+    ap (λ c. ended_defs c w) (sym f.2)
     ∙ ap (ended_defs (course_of f.0)) (sym f.3)
     ∙ ended_is f.0 ds (holds (take i (lexemes_of tokens)) f.0 f.1) (ap finish one ∙ k)
-    in
-    cc
+
+pub same_defs : (o : Option (List Def)) (a b : List Def) → o ≡ Some a → o ≡ Some b → a ≡ b
+same_defs o a b h k = cc
 
 -- ---- before the first token
 

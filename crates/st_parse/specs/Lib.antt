@@ -1,3 +1,4 @@
+pub mod Source
 pub mod Changes
 pub mod Drafts
 pub mod Parts
