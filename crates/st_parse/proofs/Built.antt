@@ -1,20 +1,16 @@
 -- What the actions of trees build.
-use Rattle.std.proofs.Common.{◌≡◌, List, [], ◌∷◌, ◌++◌, Bool, true, false, Option, Some, None, option_and_then, option_map, if◌then◌else◌, refl, sym, ap, ◌∙◌}
+use Rattle.std.proofs.Common.{◌≡◌, List, [], ◌∷◌, ◌++◌, Bool, true, false, Option, Some, None, option_and_then, option_map, if◌then◌else◌, refl, ap, ◌∙◌}
 use Rattle.st_grammar.specs.declared.sort.Sort.{Sort}
 use Rattle.st_grammar.specs.declared.sort.Sort.TheVariants.{Expression as expression, Notation as notation, Typ as typ}
 use Rattle.st_grammar.specs.declared.sort.Style.TheVariants.{Parts as parts}
-use Rattle.st_grammar.specs.declared.sort.Leaf.TheVariants as leaves
-use Rattle.st_grammar.specs.declared.sort.Bracket.TheVariants as bracket_of
-use Rattle.st_grammar.specs.Lexemes.{leaf, dot, sign, opening, closing, other}
 use Rattle.st_grammar.specs.Trees.{Tree, Trees, none, more}
 use Rattle.st_grammar.specs.Grammar.{is_type, Fits, EachFits}
 use Rattle.st_el.specs.declared.expression.Exp.{Exp}
 use Rattle.st_el.specs.declared.ty.Typ.{Typ}
-use Rattle.st_el.specs.declared.notation.Notation.{Notation}
 use Rattle.st_meaning.specs.declared.action.Action.{Action}
 use Rattle.st_meaning.specs.declared.notation_piece.NotationPiece.TheVariants.{Hole as a_type, Whole as whole}
 use Rattle.st_meaning.specs.Meaning.{meaning, meanings}
-use Rattle.st_meaning.specs.Notations.{hole, typ_meaning, typ_meanings, notation_meaning}
+use Rattle.st_meaning.specs.Notations.{typ_meaning, typ_meanings, notation_meaning}
 use Rattle.st_meaning.specs.declared.piece.Piece.TheVariants.{Done}
 use Rattle.st_meaning.specs.Actions.{acts}
 use Rattle.st_meaning.specs.Building.{run}

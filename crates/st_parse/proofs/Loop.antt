@@ -1,5 +1,5 @@
 -- The loop over the tokens.
-use Rattle.std.proofs.Common.{◌≡◌, ℕ, ◌+◌, ◌≤◌, ◌<◌, List, [], ◌∷◌, ◌++◌, length, map, reverse, take, get_or, Option, Some, None, option_map, option_and_then, refl, sym, ap, subst, ◌∙◌, arith}
+use Rattle.std.proofs.Common.{◌≡◌, ℕ, ◌+◌, ◌≤◌, ◌<◌, List, [], length, map, reverse, take, get_or, Option, Some, None, option_map, option_and_then, refl, sym, ap, subst, ◌∙◌, arith}
 use Rattle.std.proofs.lemmas.List.{take_all, length-map}
 use Rattle.st_scan.specs.declared.token.Token.{Token}
 use Rattle.st_grammar.specs.Lexemes as lexemes
@@ -7,12 +7,11 @@ use Rattle.st_grammar.specs.Lexemes.{lexeme, declared_names}
 use Rattle.st_grammar.specs.Trees.{Tree}
 use Rattle.st_grammar.specs.Reading as part
 use Rattle.st_grammar.specs.Definitions.{token_in, Defs}
-use Rattle.st_grammar.specs.Places.{Slot, Place, State, at, inside, filled, whole, step, finish, reading, start}
+use Rattle.st_grammar.specs.Places.{Place, State, at, inside, filled, whole, step, finish, reading, start}
 use Rattle.st_grammar.proofs.PlaceTexts.{Holds, PlaceHolds}
 use Rattle.st_grammar.proofs.PlaceReading.{filled_reached}
 use Rattle.st_reading.specs.declared.place.Lexeme.{Lexeme}
 use Rattle.st_reading.specs.declared.place.Progress.{Progress}
-use Rattle.st_reading.specs.Outline as out
 use Rattle.st_reading.specs.Course as course
 use Rattle.st_reading.specs.Shapes.{lexeme_of}
 use Rattle.st_reading.specs.Readings.{progress_of}
@@ -22,7 +21,7 @@ use Rattle.st_reading.proofs.View.{part_of}
 use Rattle.st_reading.proofs.Simulation as parts
 use Rattle.st_reading.proofs.CourseView.{place_of, slot_of, slot_open, course_of}
 use Rattle.st_reading.proofs.CourseSimulation.{step_is, filled_is}
-use Rattle.st_reading.proofs.Loop.{last_step, holds, one_more, taken, at_token}
+use Rattle.st_reading.proofs.Loop.{last_step, holds, one_more, taken}
 use Rattle.st_el.specs.declared.definition.Def.{Def}
 use Rattle.st_meaning.specs.Definitions.{defs_meaning}
 use Rattle.st_num.specs.declared.mark.Mark.{Mark}

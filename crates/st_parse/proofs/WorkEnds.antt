@@ -1,10 +1,8 @@
 -- What the end of a part makes of the work.
-use Rattle.std.proofs.Common.{◌≡◌, ℕ, ◌-◌, List, [], ◌∷◌, ◌++◌, length, map, Bool, true, false, Option, Some, None, option_and_then, option_map, if◌then◌else◌, refl, sym, ap, ◌∙◌}
+use Rattle.std.proofs.Common.{◌≡◌, ◌-◌, List, [], ◌∷◌, ◌++◌, length, map, false, Some, None, option_map, if◌then◌else◌, refl, sym, ap, ◌∙◌}
 use Rattle.st_scan.specs.declared.token.Token.{Token}
-use Rattle.st_grammar.specs.declared.sort.Sort.TheVariants.{Expression as expression, Notation as notation, Typ as typ, Count as count}
-use Rattle.st_grammar.specs.declared.sort.Leaf.TheVariants as leaves
+use Rattle.st_grammar.specs.declared.sort.Sort.TheVariants.{Expression as expression, Count as count}
 use Rattle.st_grammar.specs.declared.sort.Bracket.TheVariants as bracket_of
-use Rattle.st_grammar.specs.Lexemes as lexemes
 use Rattle.st_grammar.specs.Lexemes.{leaf, dot, sign, opening, closing, other}
 use Rattle.st_grammar.specs.Trees.{Tree, operand, post, times, bracket, led, left, ahead, items, plain, length as bars, arguments, index, segment, update, below, Path, head, field, part as path_part, text}
 use Rattle.st_grammar.specs.Grammar.{Fits, PathFits}
@@ -31,7 +29,7 @@ use Rattle.st_emit.specs.Emits.{finishing}
 use Rattle.st_emit.proofs.Emitted.{finishing_is}
 use Rattle.st_parse.specs.declared.draft.Draft.{Draft}
 use Rattle.st_parse.specs.Drafts.{typ_filled, notation_filled, condition_filled, exp_filled, count_filled}
-use Rattle.st_parse.specs.Parts.{exp_built, index_in, count_with, refilled}
+use Rattle.st_parse.specs.Parts.{index_in, count_with, refilled}
 use Rattle.st_parse.specs.Work.{Work, arguments_with, filled_work}
 use Rattle.st_parse.proofs.DraftOf.{place_draft, slot_draft, arguments_acts, args_acts, place_args, slot_args}
 use Rattle.st_parse.proofs.DraftFills.{field_fills, case_fills, var_fills, notation_fills, fun_fills, rule_fills, cond_fills, count_fills}

@@ -1,5 +1,5 @@
 -- What a token between parts makes of the work, and each token.
-use Rattle.std.proofs.Common.{◌≡◌, ℕ, List, [], ◌∷◌, ◌++◌, length, map, Bool, true, false, Option, Some, None, option_and_then, option_map, if◌then◌else◌, refl, sym, ap, subst, ◌∙◌}
+use Rattle.std.proofs.Common.{◌≡◌, List, [], ◌∷◌, length, Bool, true, false, Option, Some, None, option_and_then, option_map, if◌then◌else◌, refl, sym, ap, subst, ◌∙◌}
 use Rattle.st_num.specs.declared.mark.Mark.{Mark}
 use Rattle.st_scan.specs.declared.token.Token.{Token}
 use Rattle.st_grammar.specs.Lexemes.{Lexeme}
@@ -30,10 +30,10 @@ use Rattle.st_parse.specs.Drafts.{params_put, args_put, with_sides, applied, arg
 use Rattle.st_parse.specs.Parts.{redrafted}
 use Rattle.st_parse.specs.Work.{Work, place_work, part_work, filled_work, taken_work, work_after}
 use Rattle.st_parse.proofs.DraftOf.{place_draft, slot_draft, arguments_acts, args_acts, place_args, slot_args}
-use Rattle.st_parse.proofs.DraftSteps.{state_draft, state_arguments, FitsAs, Changes, Changed}
+use Rattle.st_parse.proofs.DraftSteps.{state_draft, FitsAs, Changes, Changed}
 use Rattle.st_parse.proofs.DraftEnds.{place_changes}
 use Rattle.st_parse.proofs.Built.{types_are, patterns_are}
-use Rattle.st_parse.proofs.WorkSteps.{word, slot_words, state_work, goes_on}
+use Rattle.st_parse.proofs.WorkSteps.{slot_words, state_work, goes_on}
 use Rattle.st_parse.proofs.WorkEnds.{part_ends}
 
 -- ---- drafts

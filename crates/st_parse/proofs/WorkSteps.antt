@@ -1,29 +1,22 @@
 -- What each token makes of the work.
-use Rattle.std.proofs.Common.{◌≡◌, ℕ, ◌-◌, List, [], ◌∷◌, ◌++◌, length, map, Bool, true, false, Option, Some, None, option_and_then, option_map, if◌then◌else◌, refl, sym, ap, subst, ◌∙◌}
+use Rattle.std.proofs.Common.{◌≡◌, List, [], ◌∷◌, ◌++◌, map, Option, Some, refl, sym, ap, subst, ◌∙◌}
 use Rattle.std.proofs.lemmas.List.{map-append}
 use Rattle.st_num.specs.declared.mark.Mark.{Mark}
 use Rattle.st_scan.specs.declared.token.Token.{Token}
-use Rattle.st_grammar.specs.declared.sort.Sort.TheVariants.{Expression as expression, Notation as notation, Typ as typ, Count as count}
 use Rattle.st_grammar.specs.Lexemes as lexemes
-use Rattle.st_grammar.specs.Trees.{Tree, Trees, none, more}
-use Rattle.st_grammar.specs.Grammar.{Fits}
 use Rattle.st_grammar.specs.Reading as part
-use Rattle.st_grammar.specs.Definitions.{token_in, no_args, args, Args, ArgsFit, closings}
-use Rattle.st_grammar.specs.Places.{Slot, field_slot, case_slot, var_slot, notation_slot, fun_slot, arg_slot, rule_slot, cond_slot, count_slot, slot_sort, Place, entering, State, at, inside, filled, step, place_step}
+use Rattle.st_grammar.specs.Definitions.{token_in}
+use Rattle.st_grammar.specs.Places.{Slot, field_slot, case_slot, var_slot, notation_slot, fun_slot, arg_slot, rule_slot, cond_slot, count_slot, State, at, inside}
 use Rattle.st_grammar.proofs.Sound as sound
 use Rattle.st_grammar.proofs.Steps as inner
-use Rattle.st_grammar.proofs.PlaceTexts.{Holds, PlaceHolds, SlotFits}
-use Rattle.st_grammar.proofs.PlaceReading.{inner_finish}
+use Rattle.st_grammar.proofs.PlaceTexts.{Holds}
 use Rattle.st_reading.specs.declared.place.Lexeme.{Lexeme}
 use Rattle.st_reading.specs.Shapes.{shape, lexeme_of}
-use Rattle.st_reading.specs.Outline as out
 use Rattle.st_reading.specs.Course as course
 use Rattle.st_reading.proofs.View as view
-use Rattle.st_reading.proofs.Simulation as parts
-use Rattle.st_reading.proofs.CourseView.{place_of, slot_of, slot_open, course_of, slot_sort_is}
+use Rattle.st_reading.proofs.CourseView.{slot_of, slot_sort_is}
 use Rattle.st_meaning.specs.declared.action.Action.{Action}
-use Rattle.st_meaning.specs.Actions.{acts}
-use Rattle.st_meaning.specs.Emission.{state_acts, emitted}
+use Rattle.st_meaning.specs.Emission.{state_acts}
 use Rattle.st_meaning.proofs.Emission.{emits_next}
 use Rattle.st_emit.specs.Emits.{emits, kept}
 use Rattle.st_emit.proofs.Emitted.{state_marks, emits_is}

@@ -1,5 +1,5 @@
 -- What the actions of parts build, and what that changes of a draft.
-use Rattle.std.specs.Prelude.{ℕ, List, [], ◌∷◌, ◌++◌, Bool, true, false, Option, Some, None, option_and_then, if◌then◌else◌}
+use Rattle.std.specs.Prelude.{ℕ, List, [], ◌∷◌, Option, Some, None, option_and_then, if◌then◌else◌}
 use Rattle.std.specs.Option.{option_map}
 use Rattle.st_scan.specs.declared.token.Token.{Token}
 use Rattle.st_reading.specs.declared.outline.Shape.{Shape}

@@ -1,10 +1,9 @@
 -- What each token makes of a draft and of the part that is read.
-use Rattle.std.specs.Prelude.{ℕ, List, [], ◌∷◌, ◌++◌, length, map, reverse, Bool, true, false, Option, Some, None, option_and_then, if◌then◌else◌}
+use Rattle.std.specs.Prelude.{ℕ, List, [], ◌∷◌, ◌++◌, length, map, reverse, Option, Some, None, option_and_then}
 use Rattle.std.specs.Option.{option_map}
 use Rattle.st_num.specs.declared.mark.Mark.{Mark}
 use Rattle.st_scan.specs.declared.token.Token.{Token}
 use Rattle.st_grammar.specs.declared.sort.Bracket.{Bracket}
-use Rattle.st_reading.specs.declared.outline.Shape.{Shape}
 use Rattle.st_reading.specs.declared.outline.Part.{Part}
 use Rattle.st_reading.specs.declared.outline.Due.TheVariants.{Operand}
 use Rattle.st_reading.specs.declared.place.Lexeme.{Lexeme}
