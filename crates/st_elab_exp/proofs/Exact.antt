@@ -5,7 +5,7 @@ use Rattle.st_elaboration.specs.declared.decls.Decls.{Decls}
 use Rattle.st_elaboration.specs.declared.decls.Scope.{Scope}
 use Rattle.st_elaboration.specs.declared.fault.ExpFault.{ExpFault}
 use Rattle.st_elaboration.specs.declared.fault.ExpFault.TheVariants as fault
-use Rattle.st_elaboration.specs.Questions.{Question, Made, Breach, Answer, Gives, Fails}
+use Rattle.st_elaboration.specs.Questions.{Question, Made, Breach, Gives, Fails}
 use Rattle.st_elaboration.specs.Elaboration.{Answered}
 use Rattle.st_elaboration.proofs.Single.{Answered-single}
 use Rattle.st_elab_exp.specs.Told.{Told, Tells}

@@ -1,10 +1,8 @@
 -- The fields of a type are those of what it means.
-use Rattle.std.proofs.Common.{◌≡◌, refl, sym, ap, ◌∙◌, subst, ℕ, List, Option, Some, None}
+use Rattle.std.proofs.Common.{◌≡◌, refl, subst, ℕ, List, Some, None}
 use Rattle.st_il.specs.declared.ty.Ty.{Ty}
 use Rattle.st_il.specs.declared.definition.SyntaxDef.{SyntaxDef}
-use Rattle.st_il.specs.declared.definition.SyntaxBody.{SyntaxBody}
-use Rattle.st_il.specs.declared.definition.SyntaxBody.TheVariants as body
-use Rattle.st_types.specs.Meaning.{aliased, recorded, named, alias_of, fields_of, Means, itself, alias}
+use Rattle.st_types.specs.Meaning.{alias_of, fields_of, Means, itself, alias}
 use Rattle.st_types.specs.Cases.{HasFields}
 use Rattle.st_types.proofs.MeansLemmas.{Means-single}
 

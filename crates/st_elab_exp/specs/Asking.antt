@@ -1,8 +1,6 @@
 -- Questions of the code, in the words of the table.
 use Rattle.std.specs.Prelude.{Result}
 use Rattle.std.specs.Borrow.{Bor}
-use Rattle.st_elaboration.specs.declared.decls.Decls.{Decls}
-use Rattle.st_elaboration.specs.declared.decls.Scope.{Scope}
 use Rattle.st_elaboration.specs.declared.within.Within.{Within}
 use Rattle.st_elaboration.specs.declared.fault.ExpFault.{ExpFault}
 use Rattle.st_elaboration.specs.Questions.{Question, check, infer, Made, Step}

@@ -1,9 +1,9 @@
 -- Numbers that are found, in the words of the table.
-use Rattle.std.specs.Prelude.{Result, Ok, Err}
+use Rattle.std.specs.Prelude.{Result}
 use Rattle.st_il.specs.declared.ty.NumTy.{NumTy}
 use Rattle.st_il.specs.declared.expression.IlExp.{IlExp}
 use Rattle.st_elaboration.specs.declared.fault.ExpFault.{ExpFault}
-use Rattle.st_elaboration.specs.Questions.{Made, Breach, Answer, Fails, Step}
+use Rattle.st_elaboration.specs.Questions.{Made, Answer, Fails, Step}
 use Rattle.st_elaboration.specs.Elaboration.{Leads}
 use Rattle.st_il.specs.declared.ty.Ty.{Ty}
 use Rattle.st_elaboration.specs.Steps.{made}

@@ -1,7 +1,5 @@
 //! Questions, asked.
 
-ghost use Rattle.std.specs.Prelude.{true};
-ghost use Rattle.st_elaboration.specs.Forms.{place};
 ghost use Rattle.st_elaboration.specs.Questions.{check, infer, Asks};
 ghost use Rattle.st_elaboration.specs.Steps.{asked, found};
 ghost use Rattle.st_elab_exp.specs.Asking.{AnswersAll, Meets};

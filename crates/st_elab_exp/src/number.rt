@@ -1,8 +1,6 @@
 //! The rows of arithmetic and of orders.
 
-ghost use Rattle.st_elaboration.specs.declared.decls.Decls.{Decls};
 ghost use Rattle.st_elaboration.specs.Operands.{order_row, arithmetic_row, power_row, negation_row, numeric, both_numeric};
-ghost use Rattle.st_elaboration.specs.Steps.{injected, wider};
 ghost use Rattle.st_elab_exp.specs.Asking.{AnswersAll, LeadsTo};
 ghost use Rattle.st_elab_exp.specs.Numbers.{IsNumeric, AreNumeric};
 

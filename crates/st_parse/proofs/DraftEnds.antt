@@ -18,16 +18,15 @@ use Rattle.st_reading.specs.Shapes.{shape}
 use Rattle.st_reading.proofs.CourseView as view
 use Rattle.st_reading.proofs.CourseView.{course_of}
 use Rattle.st_el.specs.declared.notation.Notation.{Notation, out-Notation}
-use Rattle.st_el.specs.declared.notation.NotNode.{NotNode, out-NotNode, roll-NotNode}
+use Rattle.st_el.specs.declared.notation.NotNode.{out-NotNode, roll-NotNode}
 use Rattle.st_el.specs.declared.notation.NotNode.TheOpen.{NotNode-F}
 use Rattle.st_el.specs.declared.definition.Body.TheVariants as body
 use Rattle.st_el.specs.declared.definition.Def.{Def}
 use Rattle.st_el.specs.declared.definition.DefNode.TheVariants as def
 use Rattle.st_meaning.specs.Names.{name_of}
 use Rattle.st_meaning.specs.Meaning.{meaning}
-use Rattle.st_meaning.specs.Notations.{typ_meaning, notation_meaning, notation_at, spelled_on}
-use Rattle.st_meaning.specs.Definitions.{name_in, fragment_name, rule_name as name_of_rule, hints_meaning, cases_meaning, has_dots_before, body_meaning, premises_meaning, def_at, defs_meaning, params, patterns}
-use Rattle.st_parse.specs.declared.change.Change.{Change}
+use Rattle.st_meaning.specs.Notations.{typ_meaning, notation_meaning, spelled_on}
+use Rattle.st_meaning.specs.Definitions.{name_in, fragment_name, rule_name as name_of_rule, hints_meaning, cases_meaning, body_meaning, premises_meaning, def_at, defs_meaning, params, patterns}
 use Rattle.st_parse.specs.declared.change.Change.TheVariants as change
 use Rattle.st_parse.specs.declared.change.Ending.TheVariants as ending
 use Rattle.st_parse.specs.Changes.{ending_of, change_at, change_of}

@@ -1,9 +1,9 @@
 -- What a part that ends changes of the draft.
-use Rattle.std.proofs.Common.{◌≡◌, ℕ, ◌-◌, List, [], ◌∷◌, ◌++◌, length, map, Bool, false, Some, None, slice_get, refl, sym, ap, ◌∙◌, append-nil}
+use Rattle.std.proofs.Common.{◌≡◌, ◌-◌, List, [], ◌∷◌, length, false, Some, None, refl, sym, ap, append-nil}
 use Rattle.st_grammar.specs.Lexemes.{Lexeme}
-use Rattle.st_grammar.specs.Trees.{Tree, Trees}
+use Rattle.st_grammar.specs.Trees.{Tree}
 use Rattle.st_grammar.specs.Definitions.{Hints, Members, Iterations, closings, Premises, Args, Defs}
-use Rattle.st_grammar.specs.Places.{Head, syntax_head, Rule, rule_head, clause_head, Slot, field_slot, case_slot, var_slot, notation_slot, fun_slot, arg_slot, rule_slot, cond_slot, count_slot, filled}
+use Rattle.st_grammar.specs.Places.{Head, syntax_head, Rule, rule_head, clause_head, field_slot, case_slot, var_slot, notation_slot, fun_slot, rule_slot, cond_slot, count_slot, filled}
 use Rattle.st_reading.specs.declared.place.Slot.TheVariants as slot
 use Rattle.st_reading.proofs.CourseView.{rounds}
 use Rattle.st_el.specs.declared.expression.Exp.{Exp}
@@ -12,8 +12,8 @@ use Rattle.st_meaning.specs.Meaning.{meaning, count_of}
 use Rattle.st_meaning.specs.Notations.{typ_meaning, notation_meaning}
 use Rattle.st_meaning.specs.Definitions as meant
 use Rattle.st_meaning.specs.Definitions.{place_in, condition, hints_meaning, prem_at}
-use Rattle.st_parse.specs.Drafts.{no_sides, premises_so_far, condition_node, span_or, typ_filled, notation_filled, condition_filled, exp_filled, count_filled}
-use Rattle.st_parse.proofs.DraftOf.{place_of, drafted, cases_body, rule_draft, goal_of, premise_at, slot_draft, place_draft}
+use Rattle.st_parse.specs.Drafts.{no_sides, premises_so_far, condition_node, typ_filled, notation_filled, condition_filled, exp_filled, count_filled}
+use Rattle.st_parse.proofs.DraftOf.{drafted, cases_body, rule_draft, goal_of, premise_at, slot_draft, place_draft}
 use Rattle.st_parse.proofs.DraftSteps.{span_opened}
 
 pub field_fills : (h : Head) (o : Lexeme) (ms : Members) (pre : List Lexeme) (t : Tree) → place_draft (filled (field_slot h o ms pre) t) ≡ typ_filled slot.Field (typ_meaning t) (slot_draft (field_slot h o ms pre))

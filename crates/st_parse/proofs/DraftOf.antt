@@ -3,8 +3,7 @@ use Rattle.std.proofs.Common.{ℕ, List, [], ◌∷◌, ◌++◌, map, Bool, tru
 use Rattle.st_num.specs.declared.span.Span.{Span}
 use Rattle.st_grammar.specs.Lexemes.{Lexeme}
 use Rattle.st_grammar.specs.Trees.{Tree, Trees, none, more}
-use Rattle.st_grammar.specs.Definitions as def
-use Rattle.st_grammar.specs.Definitions.{token_in, Hints, Members, no_members, member, Iterations, Premises, Args, no_args, args, Defs}
+use Rattle.st_grammar.specs.Definitions.{token_in, Hints, Members, no_members, Iterations, Premises, Args, no_args, args, Defs}
 use Rattle.st_grammar.specs.Places.{Head, syntax_head, Rule, rule_head, clause_head, Host, of_syntax, of_field, of_case, of_var, of_relation, of_notation, of_fun, Slot, field_slot, case_slot, var_slot, notation_slot, fun_slot, arg_slot, rule_slot, cond_slot, count_slot, Place, between, syntax_name, var_name, var_colon, relation_name, rule_name, rule_colon, fun_name, fun_named, argued, args_closed, syntax_id, rule_id, hinted, hint_open, hint_name, hint_words, entering, dotted, field_name, premised, premise_open, goal_colon, iterated}
 use Rattle.st_el.specs.declared.expression.Exp.{Exp}
 use Rattle.st_el.specs.declared.ty.Typ.{Typ}

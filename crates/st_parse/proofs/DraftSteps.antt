@@ -1,5 +1,5 @@
 -- What each token between parts changes of the draft.
-use Rattle.std.proofs.Common.{◌≡◌, ℕ, zero, suc, ◌-◌, ◌≤◌, List, [], ◌∷◌, ◌++◌, map, drop, length, flat_map, Bool, true, false, ◌&&◌, Option, Some, None, slice_get, if◌then◌else◌, refl, sym, ap, ◌∙◌, append_assoc, append-nil, arith}
+use Rattle.std.proofs.Common.{◌≡◌, ℕ, zero, suc, ◌-◌, List, [], ◌∷◌, ◌++◌, map, drop, length, flat_map, Bool, true, false, ◌&&◌, Option, Some, None, slice_get, if◌then◌else◌, refl, sym, ap, ◌∙◌, append_assoc, append-nil}
 use Rattle.std.proofs.lemmas.List.{map-append}
 use Rattle.std.proofs.lemmas.Grind.{flat_map-append}
 use Rattle.st_grammar.specs.declared.sort.Bracket.{Bracket}
@@ -9,7 +9,7 @@ use Rattle.st_grammar.specs.Levels.{is_mark, is_caret, is_comma, is_colon}
 use Rattle.st_grammar.specs.Lexemes.{Lexeme, leaf, dot, sign, opening, closing, other}
 use Rattle.st_grammar.specs.Trees.{Tree, Trees, none, more}
 use Rattle.st_grammar.specs.Reading as part
-use Rattle.st_grammar.specs.Definitions.{token_in, keyword, touches, signed, is_slash, is_equal, is_dots, is_bar, opens_round, closes_round, opens_brace, closes_brace, is_low, is_fun, names_relation, is_name, id_step, balance_step, hint, Hints, no_hints, more_hints, Members, no_members, member, fields, cases, Iterations, closed, marked, counted, closings, has_closed, default, given, Premises, more_premises, Args, no_args, args, ArgsFit, Defs}
+use Rattle.st_grammar.specs.Definitions.{token_in, keyword, touches, signed, is_slash, is_equal, is_dots, is_bar, opens_round, closes_round, opens_brace, closes_brace, names_relation, id_step, balance_step, hint, Hints, no_hints, more_hints, Members, no_members, member, fields, cases, Iterations, closed, marked, closings, has_closed, default, given, Premises, more_premises, Args, no_args, args, ArgsFit, Defs}
 use Rattle.st_grammar.specs.Grammar.{is_label}
 use Rattle.st_grammar.specs.Places.{Head, syntax_head, Rule, rule_head, clause_head, Host, of_syntax, of_field, of_case, of_var, of_relation, of_notation, of_fun, Slot, field_slot, case_slot, var_slot, notation_slot, fun_slot, arg_slot, rule_slot, cond_slot, count_slot, slot_sort, Place, between, syntax_name, var_name, var_colon, relation_name, rule_name, rule_colon, fun_name, fun_named, argued, args_closed, syntax_id, rule_id, hinted, hint_open, hint_name, hint_words, entering, dotted, field_name, premised, premise_open, goal_colon, iterated, State, at, inside, syntax_whole, is_whole, begun, when, enter, enter_case, enter_other, field_step, host_step, hint_or, hint_step, id_goes, colon_step, reads_types, result_step, premise_step, premise_word, next_premise, may_close, iterate, own}
 use Rattle.st_grammar.specs.declared.sort.Sort.TheVariants.{Expression as expression, Typ as typ}
@@ -27,7 +27,6 @@ use Rattle.st_reading.specs.Shapes.{shape}
 use Rattle.st_el.specs.declared.notation.Notation.{Notation}
 use Rattle.st_el.specs.declared.definition.Body.TheVariants as body
 use Rattle.st_el.specs.Plain.{nowhere}
-use Rattle.st_num.specs.declared.span.Span.{Span}
 use Rattle.st_meaning.specs.Meaning.{meaning, label}
 use Rattle.st_meaning.specs.Notations.{notation_meaning}
 use Rattle.st_meaning.specs.Definitions.{name_in, place_in, fragment_name, piece_text, hint_meaning, hints_meaning, fields_meaning, opened_at, sign_count, condition, premises_meaning, prem_at, params, patterns, has_dots_before, cases_meaning, body_meaning, def_at, defs_meaning}

@@ -9,7 +9,7 @@ use Rattle.st_scan.specs.declared.token.Token.{Token}
 use Rattle.st_scan.specs.declared.token.TokenKind.{TokenKind}
 use Rattle.st_scan.specs.declared.token.TokenKind.TheVariants as kind
 use Rattle.st_grammar.specs.declared.sort.Leaf.TheVariants.{Variable as variable, Atom as atom}
-use Rattle.st_grammar.specs.Lexemes.{Lexeme, leaf, dot, other, lexeme, kind_lexeme, word_lexeme, sign_lexeme, is_variable}
+use Rattle.st_grammar.specs.Lexemes.{leaf, dot, other, lexeme, kind_lexeme, word_lexeme, sign_lexeme, is_variable}
 use Rattle.st_grammar.specs.Definitions.{token_in}
 
 word_token : (w : Word) (x : Token) → token_in (word_lexeme w x) ≡ x

@@ -1,5 +1,5 @@
 -- What each token between parts changes of a draft.
-use Rattle.std.specs.Prelude.{ℕ, List, length, Bool, true, false, if◌then◌else◌}
+use Rattle.std.specs.Prelude.{List, length, Bool, true, false, if◌then◌else◌}
 use Rattle.st_grammar.specs.declared.sort.Bracket.{Bracket}
 use Rattle.st_reading.specs.declared.place.Host.{Host}
 use Rattle.st_reading.specs.declared.place.Host.TheVariants as host

@@ -1,2 +1,5 @@
+pub mod Source
 pub mod Changes
 pub mod Drafts
+pub mod Parts
+pub mod Work

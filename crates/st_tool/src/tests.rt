@@ -171,11 +171,7 @@ fn a_command_prints_its_text(rt: HostRuntime) -> Result<(), Fail> {
             "accepted 0 definitions\n",
         ),
         ("check -- closed", Status::Done, "accepted 0 definitions\n"),
-        (
-            "check red",
-            Status::Specification,
-            "refused red:1:1 - S1\n",
-        ),
+        ("check red", Status::Specification, "refused red:1:1 - S1\n"),
         ("check light coin", Status::Unbuilt, "unbuilt\n"),
         (
             "check open",

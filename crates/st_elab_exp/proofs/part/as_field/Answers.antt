@@ -1,4 +1,4 @@
-use Rattle.std.proofs.Common.{sym, ap, ◌∙◌}
+use Rattle.std.proofs.Common.{sym}
 use Rattle.st_elaboration.proofs.RowLemmas.{field_found, field_unknown, field_no_record}
 use Rattle.st_elab_exp.proofs.Fields.{fields_meant, no_fields_meant}
 use Rattle.st_elab_exp.proofs.part.as_field.Goals as goal

@@ -1,0 +1,29 @@
+-- Tokens without a fault mean the definitions that are built of them.
+use Rattle.std.proofs.Common.{◌≡◌, List, length, take, Some, sym, ap, ◌∙◌, arith}
+use Rattle.std.proofs.lemmas.List.{take_all, length-map}
+use Rattle.st_scan.specs.declared.token.Token.{Token}
+use Rattle.st_grammar.specs.Lexemes.{lexeme, declared_names}
+use Rattle.st_grammar.specs.Definitions.{Defs}
+use Rattle.st_grammar.specs.Places.{State, reading, start, finish}
+use Rattle.st_grammar.proofs.PlaceReading.{sound_defs}
+use Rattle.st_reading.specs.Refusal.{lexemes_of}
+use Rattle.st_faults.specs.Faults.{Faultless}
+use Rattle.st_faults.proofs.Verdicts.{verdict_reads}
+use Rattle.st_el.specs.declared.definition.Def.{Def}
+use Rattle.st_meaning.specs.Definitions.{defs_meaning}
+use Rattle.st_parse.specs.Source.{IsSource}
+
+pub built_source : (tokens : List Token) (built : List Def) → Faultless tokens
+    → ((st : State) (ds : Defs) → reading start (lexemes_of tokens) ≡ Some st → finish st ≡ Some ds → built ≡ defs_meaning ds)
+    → IsSource tokens built
+built_source tokens built h done =
+    let whole : take (length tokens) (lexemes_of tokens) ≡ lexemes_of tokens =
+    take_all (length tokens) (lexemes_of tokens) (omega (arith, length-map tokens (lexeme (declared_names tokens)))) in
+    let read : reading start (lexemes_of tokens) ≡ Some h.0.state = ap (reading start) (sym whole) ∙ verdict_reads tokens (length tokens) h.0 h.2 in (
+      h,
+      record {
+        trees = h.1;
+        grammar = sound_defs (lexemes_of tokens) h.0.state h.1 read h.3;
+        meant = sym (done h.0.state h.1 read h.3);
+      },
+    )

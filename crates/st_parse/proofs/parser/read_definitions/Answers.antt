@@ -1,0 +1,6 @@
+use Rattle.st_parse.proofs.Sources.{built_source}
+use Rattle.st_parse.proofs.parser.read_definitions.Goals as goal
+
+pub returns-in-Ok : goal.returns-in-Ok
+returns-in-Ok c =
+    built_source c.args.tokens.now c.build_all.new.draft.defs c.requires (λ st ds g k. c.in-Ok.ensures st ds g k)
