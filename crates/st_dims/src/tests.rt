@@ -1,6 +1,6 @@
 //! Dimensions and breaches, worked out by hand.
 
-use crate::{DimFault, dims, variable_past};
+use crate::{DimFault, dims};
 use st_el::{Count, Exp, Node, Prem, PremNode};
 use st_num::{Boxed, Dim, Kind, Name, NoMemory, Row, Span};
 use std::alloc::Global;
@@ -175,29 +175,4 @@ fn another_chain_is_refused_where_it_stands(rt: HostRuntime) -> Result<(), Fail>
 fn chains_come_before_iterations_of_nothing(rt: HostRuntime) -> Result<(), Fail> {
     let alloc = rt.alloc();
     expect_fault(&rt, alloc, &index_outside(alloc)?, DimFault::I1(place(13)))
-}
-
-/// `x x` and `(z i)^(i<n)`: the variables are x, z and n
-fn three_variables(alloc: Global) -> Result<Row<Exp>, NoMemory> {
-    let twice = sequence(alloc, variable(alloc, 1, b"x")?, variable(alloc, 3, b"x")?)?;
-    let pair = sequence(alloc, variable(alloc, 8, b"z")?, variable(alloc, 10, b"i")?)?;
-    let count = below(alloc, b"i", variable(alloc, 17, b"n")?)?;
-    two(alloc, twice, iterated(alloc, pair, count)?)
-}
-
-#[test]
-fn variables_are_counted_once(rt: HostRuntime) -> Result<(), Fail> {
-    let alloc = rt.alloc();
-    let parts = three_variables(alloc)?;
-    let premises = Row::new(alloc);
-    for (limit, wanted) in [
-        (0, Some(place(1))),
-        (1, Some(place(8))),
-        (2, Some(place(17))),
-        (3, None),
-    ] {
-        let found = variable_past(alloc, &parts, &premises, limit)?;
-        assert_eq!(rt; found, wanted);
-    }
-    Ok(())
 }
