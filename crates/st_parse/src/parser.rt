@@ -139,7 +139,9 @@ fn read_definitions(alloc: Global, tokens: &[Token]) -> Result<Row<Def>, SyntaxF
     }
 }
 
-/// The definitions that the tokens mean, or the first fault and its place.
+/// The definitions that the tokens mean, or the first fault and its place. Where no token has a
+/// fault, a part that is higher than 100 is answered by S2 at its definition; the clause does not
+/// say yet when that comes, and neither premises in parentheses nor variables are counted.
 pub fn parse(alloc: Global, tokens: &[Token]) -> Result<Row<Def>, SyntaxFault>
     ensures { Answers tokens.now result }
 {
