@@ -10,7 +10,7 @@ use st_scan::{TokenKind, Word};
 use std::alloc::Global;
 
 /// The name, without a dot or a dollar sign before it.
-pub(crate) fn name_of(kind: &TokenKind) -> &[u8]
+pub fn name_of(kind: &TokenKind) -> &[u8]
     ensures { result.now ≡ name_of kind.now }
 {
     match kind {

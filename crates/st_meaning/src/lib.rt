@@ -25,8 +25,6 @@ mod notation_pieces;
 mod path;
 mod piece;
 mod pieces;
-#[cfg(test)]
-mod tests;
 
 pub use action::{Action, TokenRef};
 pub use builder::build;
@@ -36,7 +34,7 @@ pub use laws::{
     emissions_build, notations_are_built, one_source, parts_are_built, readings_emit,
     types_are_built,
 };
-pub use leaf::copy_name;
+pub use leaf::{copy_name, name_of};
 pub use notation_builder::{build_notation, build_typ};
 pub use notation_piece::NotationPiece;
 pub use piece::Piece;

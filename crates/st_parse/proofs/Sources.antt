@@ -1,5 +1,5 @@
 -- Tokens without a fault mean the definitions that are built of them.
-use Rattle.std.proofs.Common.{◌≡◌, List, length, take, Some, sym, ap, ◌∙◌, arith}
+use Rattle.std.proofs.Common.{◌≡◌, List, length, take, map, Some, sym, ap, ◌∙◌, arith}
 use Rattle.std.proofs.lemmas.List.{take_all, length-map}
 use Rattle.st_scan.specs.declared.token.Token.{Token}
 use Rattle.st_grammar.specs.Lexemes.{lexeme, declared_names}
@@ -14,7 +14,7 @@ use Rattle.st_meaning.specs.Definitions.{defs_meaning}
 use Rattle.st_parse.specs.Source.{IsSource}
 
 pub built_source : (tokens : List Token) (built : List Def) → Faultless tokens
-    → ((st : State) (ds : Defs) → reading start (lexemes_of tokens) ≡ Some st → finish st ≡ Some ds → built ≡ defs_meaning ds)
+    → ((st : State) (ds : Defs) → reading start (map (lexeme (declared_names tokens)) tokens) ≡ Some st → finish st ≡ Some ds → built ≡ defs_meaning ds)
     → IsSource tokens built
 built_source tokens built h done =
     let whole : take (length tokens) (lexemes_of tokens) ≡ lexemes_of tokens =

@@ -1,5 +1,1 @@
 pub mod Source
-pub mod Changes
-pub mod Drafts
-pub mod Parts
-pub mod Work

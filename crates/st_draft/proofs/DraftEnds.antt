@@ -1,0 +1,261 @@
+-- The definitions of a draft where they may end, and where a next one begins.
+use Rattle.std.proofs.Common.{◌≡◌, ℕ, List, [], ◌∷◌, ◌++◌, Bool, true, false, Option, Some, None, option_and_then, if◌then◌else◌, refl, sym, ap, subst, ◌∙◌}
+use Rattle.st_grammar.specs.declared.keyword.Keyword.{Keyword}
+use Rattle.st_grammar.specs.declared.keyword.Keyword.TheVariants as key
+use Rattle.st_grammar.specs.declared.sort.Leaf.TheVariants as leaves
+use Rattle.st_grammar.specs.declared.sort.Bracket.TheVariants as bracket_of
+use Rattle.st_grammar.specs.declared.sort.Sort.TheVariants.{Notation as notation}
+use Rattle.st_grammar.specs.Lexemes.{Lexeme, leaf, dot, sign, opening, closing, other}
+use Rattle.st_grammar.specs.Levels.{is_type_mark}
+use Rattle.st_grammar.specs.Trees.{Tree, operand, post, times, bracket, led, left, ahead, items, plain, length, arguments, index, segment, update, below}
+use Rattle.st_grammar.specs.Grammar.{is_type, is_atom, Fits}
+use Rattle.st_grammar.specs.Definitions.{token_in, keyword, no_args, Hints, Members, no_members, member, cases, Iterations, Premises, more_premises, given, Defs}
+use Rattle.st_grammar.specs.Places.{Head, syntax_head, Rule, rule_head, clause_head, Host, of_syntax, of_field, of_case, of_var, of_relation, of_notation, of_fun, Place, between, syntax_name, var_name, var_colon, relation_name, rule_name, rule_colon, fun_name, fun_named, argued, args_closed, syntax_id, rule_id, hinted, hint_open, hint_name, hint_words, entering, dotted, field_name, premised, premise_open, goal_colon, iterated, State, at, whole, rule_whole, is_whole, begin_def, first_of_two, own, place_step}
+use Rattle.st_grammar.proofs.Sound.{and_left, and_right}
+use Rattle.st_grammar.proofs.PlaceTexts.{PlaceHolds}
+use Rattle.st_reading.specs.declared.place.Place.TheVariants as place
+use Rattle.st_reading.specs.Shapes.{shape}
+use Rattle.st_reading.proofs.CourseView as view
+use Rattle.st_reading.proofs.CourseView.{course_of}
+use Rattle.st_el.specs.declared.notation.Notation.{Notation, out-Notation}
+use Rattle.st_el.specs.declared.notation.NotNode.{out-NotNode, roll-NotNode}
+use Rattle.st_el.specs.declared.notation.NotNode.TheOpen.{NotNode-F}
+use Rattle.st_el.specs.declared.definition.Body.TheVariants as body
+use Rattle.st_el.specs.declared.definition.Def.{Def}
+use Rattle.st_el.specs.declared.definition.DefNode.TheVariants as def
+use Rattle.st_meaning.specs.Names.{name_of}
+use Rattle.st_meaning.specs.Meaning.{meaning}
+use Rattle.st_meaning.specs.Notations.{typ_meaning, notation_meaning, spelled_on}
+use Rattle.st_meaning.specs.Definitions.{name_in, fragment_name, rule_name as name_of_rule, hints_meaning, cases_meaning, body_meaning, premises_meaning, def_at, defs_meaning, params, patterns}
+use Rattle.st_draft.specs.declared.change.Change.TheVariants as change
+use Rattle.st_draft.specs.declared.change.Ending.TheVariants as ending
+use Rattle.st_draft.specs.Changes.{ending_of, change_at, change_of}
+use Rattle.st_draft.specs.Drafts.{alias_or, body_of, or_empty, begun, ended, applied, arguments_after}
+use Rattle.st_draft.proofs.DraftOf.{place_of, has_dots, place_draft, args_acts, place_args}
+use Rattle.st_draft.proofs.DraftSteps.{FitsAs, Changes, Changed, own_changes, dots_same}
+
+-- ---- bodies
+
+-- An atom, also one of several names, is a node of its own.
+atom_named : (t : Tree) → is_atom t ≡ true → (name : List ℕ) × (out-NotNode (out-Notation (notation_meaning t)).node ≡ NotNode-F.Atom name)
+unfolding out-NotNode roll-NotNode denote.Hole.Carrier.out denote.Hole.Carrier.roll
+atom_named (operand leaves.Atom x) h = (name_of x.kind, refl)
+atom_named (operand leaves.Variable x) h = (name_of x.kind, refl)
+atom_named (operand leaves.Low x) h = absurd (cc)
+atom_named (operand leaves.Basic x) h = absurd (cc)
+atom_named (operand leaves.Number x) h = absurd (cc)
+atom_named (operand leaves.Literal x) h = absurd (cc)
+atom_named (operand leaves.Function x) h = absurd (cc)
+atom_named (post t (dot x)) h = let r = atom_named t h in (r.0 ++ 46 ∷ name_of x.kind, ap (λ k. out-NotNode (spelled_on k (name_of x.kind))) r.1)
+atom_named (post t (sign m x)) h = absurd (cc)
+atom_named (post t (leaf k x)) h = absurd (cc)
+atom_named (post t (opening k x)) h = absurd (cc)
+atom_named (post t (closing k x)) h = absurd (cc)
+atom_named (post t (other x)) h = absurd (cc)
+atom_named (times t m x c) h = absurd (cc)
+atom_named (bracket k ts c) h = absurd (cc)
+atom_named (led g t) h = absurd (cc)
+
+-- A notation that is a hole is a type.
+alias_is : (t : Tree) → Fits notation t
+    → (if is_type t then body.Alias (typ_meaning t) else body.Cases false (notation_meaning t ∷ []) false) ≡ alias_or (out-NotNode (out-Notation (notation_meaning t)).node) (notation_meaning t)
+unfolding out-NotNode denote.Hole.Carrier.out
+alias_is (operand leaves.Low x) f = refl
+alias_is (operand leaves.Basic x) f = refl
+alias_is (operand leaves.Variable x) f = refl
+alias_is (operand leaves.Atom x) f = refl
+alias_is (operand leaves.Number x) f = refl
+alias_is (operand leaves.Literal x) f = refl
+alias_is (operand leaves.Function x) f = refl
+alias_is (post t (sign m x)) f =
+    ap (λ b. if b then body.Alias (typ_meaning (post t (sign m x))) else body.Cases false (notation_meaning (post t (sign m x)) ∷ []) false) (and_right (is_type_mark m) (is_type t) f.0)
+alias_is (post t (dot x)) f = sym (ap (λ k. alias_or k (notation_meaning (post t (dot x)))) (atom_named (post t (dot x)) (and_left (is_atom t) x.touching f.0)).1)
+alias_is (post t (leaf k x)) f = absurd (cc)
+alias_is (post t (opening k x)) f = absurd (cc)
+alias_is (post t (closing k x)) f = absurd (cc)
+alias_is (post t (other x)) f = absurd (cc)
+alias_is (times t m x c) f = absurd (cc)
+alias_is (bracket (plain bracket_of.Round o) ts c) f = refl
+alias_is (bracket (plain bracket_of.Square o) ts c) f = refl
+alias_is (bracket (plain bracket_of.Brace o) ts c) f = refl
+alias_is (bracket (plain bracket_of.TickRound o) ts c) f = refl
+alias_is (bracket (plain bracket_of.TickSquare o) ts c) f = refl
+alias_is (bracket (plain bracket_of.TickBrace o) ts c) f = refl
+alias_is (bracket (plain bracket_of.Dollar o) ts c) f = refl
+alias_is (bracket (length o) ts c) f = refl
+alias_is (bracket (arguments k o) ts c) f = refl
+alias_is (bracket (index t o) ts c) f = refl
+alias_is (bracket (segment p o) ts c) f = refl
+alias_is (bracket (update p m x) ts c) f = refl
+alias_is (bracket (below o i m x) ts c) f = refl
+alias_is (led (left l m x) t) f = refl
+alias_is (led (ahead m x) t) f = refl
+alias_is (led (items ts) t) f = refl
+
+several : (b : Bool) (ns : List Notation) (m n : Notation) → body_of b ((ns ++ m ∷ []) ++ n ∷ []) false ≡ body.Cases b ((ns ++ m ∷ []) ++ n ∷ []) false
+several true ns m n = refl
+several false [] m n = refl
+several false (k ∷ []) m n = refl
+several false (k ∷ j ∷ ns) m n = refl
+
+pub body_is : (ms : Members) (pre : List Lexeme) (t : Tree) (hs : Hints) → Fits notation t
+    → body_meaning (cases (member ms pre t hs) []) ≡ body_of (has_dots ms pre) (cases_meaning ms ++ notation_meaning t ∷ []) false
+body_is no_members [] t hs f = alias_is t f
+body_is no_members (b ∷ []) t hs f = alias_is t f
+body_is no_members (d ∷ b ∷ []) t hs f = refl
+body_is no_members (d ∷ b ∷ c ∷ ls) t hs f = alias_is t f
+body_is (member ms q u js) pre t hs f =
+    ap (λ b. body.Cases b ((cases_meaning ms ++ notation_meaning u ∷ []) ++ notation_meaning t ∷ []) false) (dots_same (member ms q u js) pre t hs)
+    ∙ sym (several (has_dots (member ms q u js) pre) (cases_meaning ms) (notation_meaning u) (notation_meaning t))
+
+-- ---- whole definitions
+
+abbrev pub EndsAs : List Def → Option Defs → Type 0
+EndsAs defs None = Unit {0}
+EndsAs defs (Some ds) = defs_meaning ds ≡ defs
+
+rule_named : (ls : List Lexeme) → name_of_rule ls ≡ or_empty (fragment_name ls)
+rule_named [] = refl
+rule_named (s ∷ ls) = refl
+
+abbrev pub PlaceEnds : Place → Type 0
+PlaceEnds p = EndsAs (ended (ending_of (view.place_of p)) (place_draft p)) (whole p)
+
+case_ends : (h : Head) (ms : Members) (pre : List Lexeme) (t : Tree) (hs : Hints) → Fits notation t → PlaceEnds (hinted (of_case h ms pre t) hs)
+case_ends (syntax_head ds w x ls js e) ms pre t hs f =
+    ap (λ b. defs_meaning ds ++ def_at w (hints_meaning js) (def.Syntax (name_in x) (fragment_name ls) b) ∷ []) (body_is ms pre t hs f)
+
+host_ends : (h : Host) (hs : Hints) → PlaceHolds (hinted h hs) → PlaceEnds (hinted h hs)
+host_ends (of_syntax ds w x ls) hs f = tt
+host_ends (of_field h o ms pre t) hs f = tt
+host_ends (of_case h ms pre t) hs f = case_ends h ms pre t hs f.0.3
+host_ends (of_var ds w x c t) hs f = refl
+host_ends (of_relation ds w r) hs f = tt
+host_ends (of_notation ds w r hs c t) ks f = refl
+host_ends (of_fun ds w k a c t) hs f = refl
+
+premised_ends : (r : Rule) (t : Tree) (ps : Premises) → PlaceEnds (premised r t ps)
+premised_ends (rule_head ds w r ls c) t ps =
+    ap (λ name. defs_meaning ds ++ def_at w [] (def.Rule (name_in r) name (meaning t) (premises_meaning ps)) ∷ []) (rule_named ls)
+premised_ends (clause_head ds w f a c) t ps = refl
+
+iterated_ends : (r : Rule) (t : Tree) (ps : Premises) (d : Lexeme) (os ls : List Lexeme) (u : Tree) (i : Iterations)
+    → defs_meaning (rule_whole r t (more_premises ps (given d os ls u i))) ≡ ended ending.Condition (place_draft (iterated r t ps d os ls u i))
+iterated_ends (rule_head ds w r js c) t ps d os ls u i =
+    ap (λ name. defs_meaning ds ++ def_at w [] (def.Rule (name_in r) name (meaning t) (premises_meaning (more_premises ps (given d os ls u i)))) ∷ []) (rule_named js)
+iterated_ends (clause_head ds w f a c) t ps d os ls u i = refl
+
+pub place_ends : (p : Place) → PlaceHolds p → PlaceEnds p
+place_ends (between ds) h = refl
+place_ends (hinted k hs) h = host_ends k hs h
+place_ends (premised r t ps) h = premised_ends r t ps
+place_ends (iterated r t ps d os ls u i) h = go (is_whole os i)
+  where
+    go : (b : Bool) → EndsAs (ended ending.Condition (place_draft (iterated r t ps d os ls u i))) (if b then Some (rule_whole r t (more_premises ps (given d os ls u i))) else None)
+    go true = iterated_ends r t ps d os ls u i
+    go false = tt
+place_ends (syntax_name ds w) h = tt
+place_ends (var_name ds w) h = tt
+place_ends (var_colon ds w x) h = tt
+place_ends (relation_name ds w) h = tt
+place_ends (rule_name ds w) h = tt
+place_ends (rule_colon ds w r) h = tt
+place_ends (fun_name ds w) h = tt
+place_ends (fun_named ds w f) h = tt
+place_ends (argued ds w f o ts) h = tt
+place_ends (args_closed ds w f o ts c) h = tt
+place_ends (syntax_id ds w x ls d) h = tt
+place_ends (rule_id ds w r ls d) h = tt
+place_ends (hint_open k hs w) h = tt
+place_ends (hint_name k hs w o) h = tt
+place_ends (hint_words k hs w o n ws cs) h = tt
+place_ends (entering s) h = tt
+place_ends (dotted k d) h = tt
+place_ends (field_name k o ms pre) h = tt
+place_ends (premise_open r t ps d os) h = tt
+place_ends (goal_colon r t ps d os n) h = tt
+
+-- ---- a next definition
+
+-- From this place each first word begins a definition.
+abbrev pub BeginsNext : Place → Type 0
+BeginsNext p =
+    (change_at (view.place_of p) place.SyntaxName ≡ change.Begin (ending_of (view.place_of p)))
+    × (change_at (view.place_of p) place.RelationName ≡ change.Begin (ending_of (view.place_of p)))
+    × (change_at (view.place_of p) place.RuleName ≡ change.Begin (ending_of (view.place_of p)))
+    × (change_at (view.place_of p) place.VarName ≡ change.Begin (ending_of (view.place_of p)))
+    × (change_at (view.place_of p) place.FunName ≡ change.Begin (ending_of (view.place_of p)))
+    × (place_args p ≡ no_args)
+
+begins : (p q : Place) (l : Lexeme) (ds : Defs) → change_of (view.place_of p) (course_of (at q)) ≡ change.Begin (ending_of (view.place_of p)) → place_args p ≡ no_args → place_args q ≡ no_args
+    → place_draft q ≡ begun (defs_meaning ds) (place_of l) → defs_meaning ds ≡ ended (ending_of (view.place_of p)) (place_draft p) → Changes p l (at q)
+begins p q l ds e g k d f = record {
+  draft =
+      d ∙ ap (λ defs. begun defs (place_of l)) f
+      ∙ ap (λ a. applied a (shape l) (token_in l) (params (place_args p)) (patterns (place_args p)) (place_draft p)) (sym e);
+  arguments = ap args_acts k ∙ ap args_acts (sym g) ∙ ap (λ a. arguments_after a (args_acts (place_args p))) (sym e);
+  fresh = tt;
+  fits = subst (λ y. FitsAs y (place_args p)) (sym e) tt;
+}
+
+word_begins : (p : Place) (l : Lexeme) (ds : Defs) (k : Keyword) → BeginsNext p → defs_meaning ds ≡ ended (ending_of (view.place_of p)) (place_draft p) → Changed p l (begin_def ds l k)
+word_begins p l ds key.SyntaxWord b e = begins p (syntax_name ds l) l ds b.0 b.5 refl refl e
+word_begins p l ds key.RelationWord b e = begins p (relation_name ds l) l ds b.1 b.5 refl refl e
+word_begins p l ds key.RuleWord b e = begins p (rule_name ds l) l ds b.2 b.5 refl refl e
+word_begins p l ds key.VarWord b e = begins p (var_name ds l) l ds b.3 b.5 refl refl e
+word_begins p l ds key.DefWord b e = begins p (fun_name ds l) l ds b.4 b.5 refl refl e
+word_begins p l ds key.HintWord b e = tt
+word_begins p l ds key.IfWord b e = tt
+word_begins p l ds key.OtherwiseWord b e = tt
+word_begins p l ds key.Dashes b e = tt
+word_begins p l ds key.NoWord b e = tt
+
+-- A next definition begins where one may end, or does not begin.
+abbrev pub MayBegin : Place → Option Defs → Type 0
+MayBegin p None = Unit {0}
+MayBegin p (Some ds) = BeginsNext p
+
+host_begins : (h : Host) (hs : Hints) (o : Option Defs) → MayBegin (hinted h hs) o
+host_begins h hs None = tt
+host_begins h hs (Some ds) = (refl, refl, refl, refl, refl, refl)
+
+may_begin : (p : Place) → MayBegin p (whole p)
+may_begin (between ds) = (refl, refl, refl, refl, refl, refl)
+may_begin (hinted k hs) = host_begins k hs (whole (hinted k hs))
+may_begin (premised r t ps) = (refl, refl, refl, refl, refl, refl)
+may_begin (iterated r t ps d os ls u i) = go (whole (iterated r t ps d os ls u i))
+  where
+    go : (o : Option Defs) → MayBegin (iterated r t ps d os ls u i) o
+    go None = tt
+    go (Some ds) = (refl, refl, refl, refl, refl, refl)
+may_begin (syntax_name ds w) = tt
+may_begin (var_name ds w) = tt
+may_begin (var_colon ds w x) = tt
+may_begin (relation_name ds w) = tt
+may_begin (rule_name ds w) = tt
+may_begin (rule_colon ds w r) = tt
+may_begin (fun_name ds w) = tt
+may_begin (fun_named ds w f) = tt
+may_begin (argued ds w f o ts) = tt
+may_begin (args_closed ds w f o ts c) = tt
+may_begin (syntax_id ds w x ls d) = tt
+may_begin (rule_id ds w r ls d) = tt
+may_begin (hint_open k hs w) = tt
+may_begin (hint_name k hs w o) = tt
+may_begin (hint_words k hs w o n ws cs) = tt
+may_begin (entering s) = tt
+may_begin (dotted k d) = tt
+may_begin (field_name k o ms pre) = tt
+may_begin (premise_open r t ps d os) = tt
+may_begin (goal_colon r t ps d os n) = tt
+
+pub place_changes : (p : Place) (l : Lexeme) → PlaceHolds p → Changed p l (place_step p l)
+place_changes p l h = go (own p l) (own_changes p l h)
+  where
+    next : (o : Option Defs) → MayBegin p o → EndsAs (ended (ending_of (view.place_of p)) (place_draft p)) o → Changed p l (option_and_then (λ ds. begin_def ds l (keyword l)) o)
+    next None b f = tt
+    next (Some ds) b f = word_begins p l ds (keyword l) b f
+
+    go : (o : Option State) → Changed p l o → Changed p l (first_of_two o (option_and_then (λ ds. begin_def ds l (keyword l)) (whole p)))
+    go None c = next (whole p) (may_begin p) (place_ends p h)
+    go (Some st) c = c

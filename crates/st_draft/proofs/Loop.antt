@@ -1,0 +1,192 @@
+-- The loop over the tokens.
+use Rattle.std.proofs.Common.{◌≡◌, ℕ, ◌+◌, ◌≤◌, ◌<◌, Bool, List, [], ◌∷◌, ◌++◌, length, map, reverse, take, get_or, Option, Some, None, option_map, option_and_then, refl, sym, ap, subst, ◌∙◌, arith}
+use Rattle.std.proofs.lemmas.List.{take_all, take_more, get_or-map, length-map}
+use Rattle.st_scan.specs.declared.token.Token.{Token}
+use Rattle.st_grammar.specs.Lexemes as lexemes
+use Rattle.st_grammar.specs.Lexemes.{lexeme}
+use Rattle.st_grammar.specs.Trees.{Tree}
+use Rattle.st_grammar.specs.Reading as part
+use Rattle.st_grammar.specs.Definitions.{token_in, Defs, Hints}
+use Rattle.st_grammar.specs.Places.{Head, syntax_head, Rule, rule_head, clause_head, Host, of_syntax, of_field, of_case, of_var, of_relation, of_notation, of_fun, Slot, field_slot, case_slot, var_slot, notation_slot, fun_slot, arg_slot, rule_slot, cond_slot, count_slot, Place, between, syntax_name, var_name, var_colon, relation_name, rule_name, rule_colon, fun_name, fun_named, argued, args_closed, syntax_id, rule_id, hinted, hint_open, hint_name, hint_words, entering, dotted, field_name, premised, premise_open, goal_colon, iterated, State, at, inside, filled, whole, step, finish, reading, start}
+use Rattle.st_grammar.proofs.PlaceTexts.{Holds, PlaceHolds}
+use Rattle.st_grammar.proofs.PlaceReading.{filled_reached}
+use Rattle.st_reading.specs.declared.place.Lexeme.{Lexeme}
+use Rattle.st_reading.specs.declared.place.Progress.{Progress}
+use Rattle.st_reading.specs.Course as course
+use Rattle.st_reading.specs.Shapes.{lexeme_of}
+use Rattle.st_reading.specs.Readings.{progress_of}
+use Rattle.st_reading.proofs.View as view
+use Rattle.st_reading.proofs.View.{part_of}
+use Rattle.st_reading.proofs.Simulation as parts
+use Rattle.st_reading.proofs.CourseView.{place_of, slot_of, slot_open, course_of}
+use Rattle.st_reading.proofs.CourseSimulation.{step_is, filled_is, may_end_is, is_some}
+use Rattle.st_reading.proofs.Loop.{last_step, holds, taken}
+use Rattle.st_el.specs.declared.expression.Exp.{Exp}
+use Rattle.st_el.specs.declared.definition.Def.{Def}
+use Rattle.st_meaning.specs.Definitions.{defs_meaning}
+use Rattle.st_num.specs.declared.mark.Mark.{Mark}
+use Rattle.st_el.specs.Plain.{nowhere}
+use Rattle.st_meaning.specs.declared.action.Action.{Action}
+use Rattle.st_draft.specs.declared.draft.Draft.{Draft}
+use Rattle.st_draft.specs.declared.draft.Members.{Members as Body}
+use Rattle.st_draft.specs.declared.draft.Premises.{Premises as Prems}
+use Rattle.st_draft.specs.declared.parts.Parts.{Parts}
+use Rattle.st_draft.specs.Parts.{word_of}
+use Rattle.st_draft.specs.Changes.{ending_of}
+use Rattle.st_draft.specs.Drafts.{begun, ended}
+use Rattle.st_draft.specs.Known.{head_before, rule_before, host_before, slot_before, place_before, before}
+use Rattle.st_draft.specs.Work.{Work, work_of, filled_work, work_after, ended_defs, Keeps, Ends, ReadTo}
+use Rattle.st_draft.proofs.DraftOf.{host_draft, head_draft, rule_draft, slot_draft, place_draft}
+use Rattle.st_draft.proofs.DraftEnds.{EndsAs, place_ends}
+use Rattle.st_draft.proofs.LexemeTokens.{lexeme_token}
+use Rattle.st_draft.proofs.WorkSteps.{state_work}
+use Rattle.st_draft.proofs.WorkEnds.{part_ends}
+use Rattle.st_draft.proofs.WorkPlaces.{works}
+
+-- These tokens were read up to here, and this is kept.
+abbrev pub Reads : List lexemes.Lexeme → Progress → Work → Type 0
+Reads us p w = (st : State) × (reading start us ≡ Some st) × (course_of st ≡ progress_of p) × (state_work st ≡ w)
+
+-- one more token is that of the list
+one_more : (names : List (List ℕ)) (tokens : List Token) (i : ℕ) (d : Token) → i < length tokens
+    → take (i + 1) (map (lexeme names) tokens) ≡ take i (map (lexeme names) tokens) ++ lexeme names (get_or tokens i d) ∷ []
+one_more names tokens i d h =
+    let f = lexeme names in
+    take_more (map f tokens) i (f d) (omega (arith, length-map tokens f))
+    ∙ ap (λ l. take i (map f tokens) ++ l ∷ []) (get_or-map f tokens i d (f d) h)
+
+pub next_token : (names : List (List ℕ)) (tokens : List Token) (i : ℕ) (x : Token) (p last : Progress) (w : Work)
+    → i < length tokens → Reads (take i (map (lexeme names) tokens)) p w → x ≡ get_or tokens i x
+    → course.step (progress_of p) (lexeme_of (lexeme names x)) ≡ Some (progress_of last)
+    → (v : Work) × (work_after (progress_of p) (progress_of last) (lexeme_of (lexeme names x)) x w ≡ Some v) × Reads (take (i + 1) (map (lexeme names) tokens)) last v
+next_token names tokens i x p last w h f t e =
+    let m = lexeme names (get_or tokens i x) in
+    let us = take i (map (lexeme names) tokens) in
+    let lex : lexeme_of (lexeme names x) ≡ lexeme_of m = ap (λ y. lexeme_of (lexeme names y)) t in
+    let token : x ≡ token_in m = t ∙ sym (lexeme_token names (get_or tokens i x)) in
+    let same : Some (progress_of last) ≡ option_map course_of (step f.0 m) =
+    sym e ∙ ap (course.step (progress_of p)) lex ∙ ap (λ s. course.step s (lexeme_of m)) (sym f.2) ∙ step_is f.0 m (holds us f.0 f.1) in
+    let r = taken (step f.0 m) (Some last) last same refl in
+    let worked : work_after (progress_of p) (progress_of last) (lexeme_of (lexeme names x)) x w ≡ Some (state_work r.0) =
+    ap (λ y. work_after (progress_of p) (progress_of last) y x w) lex
+    ∙ ap (λ y. work_after (progress_of p) (progress_of last) (lexeme_of m) y w) token
+    ∙ ap (λ y. work_after (progress_of p) (progress_of last) (lexeme_of m) (token_in m) y) (sym f.3)
+    ∙ ap (λ y. work_after y (progress_of last) (lexeme_of m) (token_in m) (state_work f.0)) (sym f.2)
+    ∙ ap (λ y. work_after (course_of f.0) y (lexeme_of m) (token_in m) (state_work f.0)) (sym r.2)
+    ∙ works f.0 m r.0 (holds us f.0 f.1) r.1
+    in
+    (state_work r.0, worked, (r.0, ap (reading start) (one_more names tokens i x h) ∙ last_step us m f.0 f.1 ∙ r.1, r.2, refl))
+
+-- ---- the end of the tokens
+
+ends : (defs : List Def) (o : Option Defs) (ds : Defs) → o ≡ Some ds → EndsAs defs o → defs_meaning ds ≡ defs
+ends defs o ds e h = subst (EndsAs defs) e h
+
+place_ended : (p : Place) (ds : Defs) → PlaceHolds p → whole p ≡ Some ds → Some (ended (ending_of (place_of p)) (place_draft p)) ≡ Some (defs_meaning ds)
+place_ended p ds h e = ap (λ defs. Some defs) (sym (ends _ (whole p) ds e (place_ends p h)))
+
+host_stands : (h : Host) (hs : Hints) → (host_draft h hs).defs ≡ defs_meaning (host_before h)
+host_stands (of_syntax ds w x ls) hs = refl
+host_stands (of_field (syntax_head ds w x ls js e) o ms pre t) hs = refl
+host_stands (of_case (syntax_head ds w x ls js e) ms pre t) hs = refl
+host_stands (of_var ds w x c t) hs = refl
+host_stands (of_relation ds w r) hs = refl
+host_stands (of_notation ds w r js c t) hs = refl
+host_stands (of_fun ds w f a c t) hs = refl
+
+head_stands : (h : Head) (b : Body) → (head_draft h b).defs ≡ defs_meaning (head_before h)
+head_stands (syntax_head ds w x ls js e) b = refl
+
+rule_stands : (r : Rule) (e : Option Exp) (p : Prems) → (rule_draft r e p).defs ≡ defs_meaning (rule_before r)
+rule_stands (rule_head ds w x ls c) e p = refl
+rule_stands (clause_head ds w x a c) e p = refl
+
+slot_stands : (s : Slot) → (slot_draft s).defs ≡ defs_meaning (slot_before s)
+slot_stands (field_slot h o ms pre) = head_stands h _
+slot_stands (case_slot h ms pre) = head_stands h _
+slot_stands (var_slot ds w x c) = refl
+slot_stands (notation_slot ds w r hs c) = refl
+slot_stands (fun_slot ds w f a c) = refl
+slot_stands (arg_slot ds w f o ts pre) = refl
+slot_stands (rule_slot r) = rule_stands r _ _
+slot_stands (cond_slot r t ps d os ls) = rule_stands r _ _
+slot_stands (count_slot r t ps d os ls u i l) = rule_stands r _ _
+
+place_stands : (p : Place) → (place_draft p).defs ≡ defs_meaning (place_before p)
+place_stands (between ds) = refl
+place_stands (syntax_name ds w) = refl
+place_stands (var_name ds w) = refl
+place_stands (var_colon ds w x) = refl
+place_stands (relation_name ds w) = refl
+place_stands (rule_name ds w) = refl
+place_stands (rule_colon ds w r) = refl
+place_stands (fun_name ds w) = refl
+place_stands (fun_named ds w f) = refl
+place_stands (argued ds w f o ts) = refl
+place_stands (args_closed ds w f o ts c) = refl
+place_stands (syntax_id ds w x ls d) = refl
+place_stands (rule_id ds w r ls d) = refl
+place_stands (hinted h hs) = host_stands h hs
+place_stands (hint_open h hs w) = host_stands h hs
+place_stands (hint_name h hs w o) = host_stands h hs
+place_stands (hint_words h hs w o n ws cs) = host_stands h hs
+place_stands (entering s) = slot_stands s
+place_stands (dotted h d) = head_stands h _
+place_stands (field_name h o ms pre) = head_stands h _
+place_stands (premised r t ps) = rule_stands r _ _
+place_stands (premise_open r t ps d os) = rule_stands r _ _
+place_stands (goal_colon r t ps d os n) = rule_stands r _ _
+place_stands (iterated r t ps d os ls u i) = rule_stands r _ _
+
+-- the definitions before that which is read
+stands_before : (st : State) → (state_work st).draft.defs ≡ defs_meaning (before st)
+stands_before (at p) = place_stands p
+stands_before (inside s st) = slot_stands s
+
+ended_is : (st : State) (ds : Defs) → Holds st → finish st ≡ Some ds → ended_defs (course_of st) (state_work st) ≡ Some (defs_meaning ds)
+ended_is (at p) ds h e = place_ended p ds h e
+ended_is (inside s st) ds h e =
+    ap (option_and_then (λ p. option_map (λ v. ended (ending_of (course.filled (slot_of s) p)) v.draft) (filled_work (slot_of s) (length (slot_open s)) (view.state_of st) (state_work (inside s st))))) (parts.finish_is st h.1)
+    ∙ go (part.finish st) refl e
+  where
+    go : (q : Option Tree) → part.finish st ≡ q → option_and_then (λ t. whole (filled s t)) q ≡ Some ds
+        → option_and_then (λ p. option_map (λ v. ended (ending_of (course.filled (slot_of s) p)) v.draft) (filled_work (slot_of s) (length (slot_open s)) (view.state_of st) (state_work (inside s st)))) (option_map part_of q) ≡ Some (defs_meaning ds)
+    go None i f = absurd (cc)
+    go (Some t) i f =
+        ap (option_map (λ v. ended (ending_of (course.filled (slot_of s) (part_of t))) v.draft)) (part_ends s st t h i)
+        ∙ ap (λ p. Some (ended (ending_of p) (place_draft (filled s t)))) (filled_is s t)
+        ∙ place_ended (filled s t) ds (filled_reached s st t h i).holds f
+
+ends_so : (b : Bool) (o : Option Defs) → b ≡ is_some o → Ends b o
+ends_so b None e = subst (λ c. Ends c None) (sym e) refl
+ends_so b (Some ds) e = subst (λ c. Ends c (Some ds)) (sym e) (ds, refl)
+
+pub all_read : (S : Type 0) (draws : S → Draft → Type 0) (names : List (List ℕ)) (tokens : List Token) (i : ℕ) (p : Progress) (w : Work) (s : S) (parts : Parts) (st : State)
+    → length tokens ≤ i → Reads (take i (map (lexeme names) tokens)) p w → Keeps draws s parts w → reading start (map (lexeme names) tokens) ≡ Some st → ReadTo draws st p s parts
+all_read S draws names tokens i p w s parts st h f k g =
+    let us : take i (map (lexeme names) tokens) ≡ map (lexeme names) tokens = take_all i (map (lexeme names) tokens) (omega (arith, h, length-map tokens (lexeme names))) in
+    let twice : Some f.0 ≡ Some st = sym f.1 ∙ ap (reading start) us ∙ g in
+    let one : f.0 ≡ st = cc in
+    let held : Holds st = holds (map (lexeme names) tokens) st g in
+    let same : state_work st ≡ w = ap state_work (sym one) ∙ f.3 in
+    let there : course_of st ≡ progress_of p = ap course_of (sym one) ∙ f.2 in (
+      w,
+      k,
+      ap (λ v. v.draft.defs) (sym same) ∙ stands_before st,
+      ends_so (course.may_end (progress_of p)) (finish st) (ap course.may_end (sym there) ∙ may_end_is st held),
+      λ ds e. ap (λ c. ended_defs c w) (sym there) ∙ ap (ended_defs (course_of st)) (sym same) ∙ ended_is st ds held e,
+    )
+
+-- ---- before the first token
+
+abbrev fresh_work : Draft → List (List Action) → List Action → List Mark → List (Lexeme × Token) → Work
+fresh_work d given acts marks words = record { draft = d; arguments = given; actions = acts; marks = marks; words = words }
+
+-- Nothing is kept before the first token.
+pub nothing_kept : (d : Draft) (p : Parts) → d ≡ begun [] nowhere → p.arguments ≡ [] → p.actions ≡ [] → p.marks ≡ [] → p.words ≡ [] → state_work start ≡ work_of d p
+nothing_kept d p e f g h k =
+    ap (λ x. fresh_work x [] [] [] []) (sym e)
+    ∙ ap (λ x. fresh_work d x [] [] []) (sym f)
+    ∙ ap (λ x. fresh_work d p.arguments x [] []) (sym g)
+    ∙ ap (λ x. fresh_work d p.arguments p.actions (reverse x) []) (sym h)
+    ∙ ap (λ x. fresh_work d p.arguments p.actions (reverse p.marks) (map word_of x)) (sym k)

@@ -1,0 +1,7 @@
+use Rattle.std.proofs.Common.{◌≡◌, take, Some}
+use Rattle.st_meaning.specs.NotationBuilding.{typ_built}
+use Rattle.st_draft.specs.Parts.{all_built}
+use Rattle.st_draft.proofs.parts.build_types.Given as goal
+
+abbrev pub invariant-arguments : goal.invariant-arguments
+invariant-arguments l = all_built typ_built (take l.actions-index l.arguments) ≡ Some l.typs

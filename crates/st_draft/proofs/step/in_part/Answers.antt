@@ -1,0 +1,21 @@
+use Rattle.std.proofs.Common.{rules, reverse, sym, ap, ◌∙◌}
+use Rattle.std.proofs.lemmas.List.{length-reverse}
+use Rattle.st_reading.specs.Outline as out
+use Rattle.st_reading.specs.Course as course
+use Rattle.st_reading.specs.Readings.{reading_of}
+use Rattle.st_draft.specs.Work.{work_of, part_work, filled_work}
+use Rattle.st_draft.proofs.Sketching.{taken_goes, gone_on, behind_part}
+use Rattle.st_draft.proofs.step.in_part.Goals as goal
+
+pub returns-in-Some-clause-work : goal.returns-in-Some-clause-work
+returns-in-Some-clause-work g c before after k e =
+    gone_on g.row.S.Denot g.S.Sketch.Draws c.args.sketch.now c.args.slot (reading_of c.args.reading) c.args.lexeme c.args.token.now c.args.parts.now c.go_on.new.parts before after k
+    (taken_goes c.args.slot (reading_of c.args.reading) (reading_of c.in-Some.next) (reverse c.args.brackets) (course.inside c.args.slot (reading_of c.in-Some.next) (reverse c.args.brackets)) c.args.lexeme c.args.token.now before after
+    (out.step (course.slot_sort c.args.slot) (reading_of c.args.reading) c.args.lexeme.shape) (out.finish (reading_of c.args.reading)) (search rules) e)
+    (λ d. c.in_ok-go_on.ensures d ∙ ap (λ r. part_work c.args.slot (reading_of r) c.args.lexeme c.args.token.now (work_of d c.args.parts.now)) c.in_ok-before.ensures)
+
+pub returns-clause-work : goal.returns-clause-work
+returns-clause-work g c before after k =
+    behind_part g.row.S.Denot g.S.Sketch.Draws c.args.sketch.now c.end_part.new.sketch c.at_place.new.sketch c.args.parts.now c.end_part.new.parts c.at_place.new.parts
+    c.args.slot (reading_of c.args.reading) (reverse c.args.brackets) c.len.result c.in-Some-part_end.part c.filled.result c.args.lexeme c.args.token.now before after c.at_place.result
+    (c.len.ensures ∙ sym (length-reverse c.args.brackets)) (search rules) (search rules) (search rules) k (λ b a h i. c.in_ok-end_part.ensures b a h (ap (λ r. filled_work c.args.slot c.len.result (reading_of r) b) c.in_ok-before.ensures ∙ i)) c.at_place.ensures.work

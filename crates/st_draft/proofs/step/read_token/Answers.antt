@@ -1,0 +1,18 @@
+use Rattle.std.proofs.Common.{IfOk, IfSome, ◌≡◌, Some, sym, subst}
+use Rattle.st_reading.specs.Readings.{progress_of}
+use Rattle.st_draft.specs.Work.{Keeps, work_after}
+use Rattle.st_draft.proofs.step.read_token.Goals as goal
+
+pub returns-in-At-clause-work : goal.returns-in-At-clause-work
+returns-in-At-clause-work g c before after k =
+    subst
+    (λ q. IfOk c.at_place.result (λ next. IfSome next (λ there. work_after (progress_of q) (progress_of there) c.args.lexeme c.args.token.now before ≡ Some after
+    → Keeps g.S.Sketch.Draws c.at_place.new.sketch c.at_place.new.parts after)))
+    (sym c.in-At.is) (c.at_place.ensures.work before after k)
+
+pub returns-in-Inside-clause-work : goal.returns-in-Inside-clause-work
+returns-in-Inside-clause-work g c before after k =
+    subst
+    (λ q. IfOk c.in_part.result (λ next. IfSome next (λ there. work_after (progress_of q) (progress_of there) c.args.lexeme c.args.token.now before ≡ Some after
+    → Keeps g.S.Sketch.Draws c.in_part.new.sketch c.in_part.new.parts after)))
+    (sym c.in-Inside.is) (c.in_part.ensures.work before after k)

@@ -1,0 +1,5 @@
+pub mod Changes
+pub mod Drafts
+pub mod Parts
+pub mod Work
+pub mod Known

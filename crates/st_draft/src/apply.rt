@@ -1,0 +1,146 @@
+//! The trees of definitions: what each change and each part makes of a draft.
+
+ghost use Rattle.std.specs.Prelude.{◌≡◌, [], Some, IfOk};
+ghost use Rattle.st_draft.specs.Drafts as drafts;
+ghost use Rattle.st_draft.specs.Parts as spec;
+
+use crate::change::{Change, Ending};
+use crate::definition::turn;
+use crate::draft::Draft;
+use crate::head::{begin_hint, end_hint, put_id, put_name, put_word};
+use crate::members::{put_dots, put_label};
+use crate::parts::{Word, build_patterns, build_types, fill};
+use crate::premise::{
+    NOWHERE, begin_premise, put_each, put_goal, put_if, put_otherwise, put_parenthesis, shape_count,
+};
+use crate::sides::{put_args, put_params};
+use crate::sketch::Sketch;
+use st_meaning::{Action, BuildFault};
+use st_num::{NoMemory, Row};
+use st_reading::{Shape, Slot};
+use st_scan::Token;
+use std::alloc::Global;
+
+/// What a change makes of a draft, where it takes no arguments.
+fn apply(
+    alloc: Global,
+    change: Change,
+    shape: Shape,
+    token: &Token,
+    draft: &mut Draft,
+) -> Result<(), NoMemory>
+    ensures { IfOk result (λ _. draft.new ≡ drafts.applied change shape token.now [] [] draft.old) }
+{
+    match change {
+        Change::Nothing => Ok(()),
+        Change::Begin(ending) => turn(alloc, ending, draft, token.at),
+        Change::End(ending) => turn(alloc, ending, draft, NOWHERE),
+        Change::Name => put_name(alloc, draft, token),
+        Change::Id => put_id(alloc, draft, token),
+        Change::HintName => begin_hint(alloc, draft, token),
+        Change::HintWord => put_word(alloc, draft, token),
+        Change::HintEnd(kept) => end_hint(alloc, draft, kept),
+        Change::Dots => {
+            put_dots(draft);
+            Ok(())
+        }
+        Change::Label => put_label(alloc, draft, token),
+        Change::Params => {
+            put_params(draft, Row::new(alloc));
+            Ok(())
+        }
+        Change::Args => {
+            put_args(draft, Row::new(alloc));
+            Ok(())
+        }
+        Change::Premise(condition) => begin_premise(alloc, draft, condition, token),
+        Change::Parenthesis => put_parenthesis(draft, token),
+        Change::If => {
+            put_if(draft, token);
+            Ok(())
+        }
+        Change::Goal => put_goal(alloc, draft, token),
+        Change::Otherwise => put_otherwise(alloc, draft),
+        Change::Mark(around) => put_each(alloc, draft, around, shape_count(shape)),
+    }
+}
+
+/// The arguments are parameters.
+fn take_params(
+    alloc: Global,
+    draft: &mut Draft,
+    arguments: &[Row<Action<'_>>],
+) -> Result<(), BuildFault>
+    ensures { IfOk result (λ _.
+        spec.redrafted_params arguments.now draft.old ≡ Some draft.new) }
+{
+    let params = build_types(alloc, arguments)?;
+    put_params(draft, params);
+    Ok(())
+}
+
+/// The arguments are patterns.
+fn take_args(
+    alloc: Global,
+    draft: &mut Draft,
+    arguments: &[Row<Action<'_>>],
+) -> Result<(), BuildFault>
+    ensures { IfOk result (λ _. spec.redrafted_args arguments.now draft.old ≡ Some draft.new) }
+{
+    let args = build_patterns(alloc, arguments)?;
+    put_args(draft, args);
+    Ok(())
+}
+
+/// What a change makes of a draft and the arguments.
+fn redraft(
+    alloc: Global,
+    change: Change,
+    shape: Shape,
+    token: &Token,
+    draft: &mut Draft,
+    arguments: &[Row<Action<'_>>],
+) -> Result<(), BuildFault>
+    ensures { IfOk result (λ _.
+        spec.redrafted change shape token.now arguments.now draft.old ≡ Some draft.new) }
+{
+    match change {
+        Change::Params => take_params(alloc, draft, arguments),
+        Change::Args => take_args(alloc, draft, arguments),
+        _ => {
+            apply(alloc, change, shape, token, draft)?;
+            Ok(())
+        }
+    }
+}
+
+impl<'a> Sketch<'a> for Draft {
+    ghost Draws = { λ kept draft. kept ≡ draft };
+
+    fn redraft(
+        &mut self,
+        alloc: Global,
+        change: Change,
+        shape: Shape,
+        token: &'a Token,
+        arguments: &[Row<Action<'a>>],
+    ) -> Result<(), BuildFault> {
+        redraft(alloc, change, shape, token, self, arguments)
+    }
+
+    fn fill(
+        &mut self,
+        alloc: Global,
+        slot: Slot,
+        around: usize,
+        actions: &[Action<'a>],
+        words: &[Word<'a>],
+    ) -> Result<(), BuildFault> {
+        fill(alloc, slot, around, actions, words, self)
+    }
+
+    fn end(&mut self, alloc: Global, ending: Ending) -> Result<(), BuildFault> {
+        turn(alloc, ending, self, NOWHERE)?;
+        Ok(())
+    }
+}

@@ -1,0 +1,31 @@
+//! The definitions of tokens, read one token after another, and what is kept of them.
+//!
+//! The one idea: what is known of the open definition is a draft, which each token between parts
+//! changes in one small way. Whoever keeps something of the draft, its trees or only what the limits
+//! ask of them, is a sketch, and one reader of the tokens serves each.
+//!
+//! Read `sketch` and `reader` first, then `step` with `specs/Work.antt`. The rules are in
+//! `docs/source-trees.md`.
+#![tactic(auto)]
+
+mod apply;
+mod change;
+mod definition;
+mod draft;
+mod head;
+mod members;
+mod parts;
+mod premise;
+mod reader;
+mod sides;
+mod sketch;
+mod step;
+mod token;
+
+pub use change::{Change, Ending};
+pub use definition::begun;
+pub use draft::{Draft, Head, Members, Premises, Sides};
+pub use parts::{Parts, Word, index_in};
+pub use premise::NOWHERE;
+pub use reader::read_source;
+pub use sketch::Sketch;

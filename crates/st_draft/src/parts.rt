@@ -1,0 +1,205 @@
+//! The part of a definition that is read.
+
+ghost use Rattle.std.specs.Prelude.{◌≡◌, [], map, Some, IfOk};
+ghost use Rattle.std.specs.Option.{option_map};
+ghost use Rattle.st_meaning.specs.NotationBuilding.{typ_built, notation_built};
+ghost use Rattle.st_draft.specs.Drafts as drafts;
+ghost use Rattle.st_draft.specs.Parts as spec;
+
+use crate::draft::Draft;
+use crate::members::{put_field, put_notation};
+use crate::premise::{put_condition, put_each};
+use crate::sides::{put_exp, put_typ};
+use st_el::{Count, Exp, Typ};
+use st_meaning::{Action, BuildFault, TokenRef, build, build_notation, build_typ, copy_name};
+use st_num::{Boxed, Mark, Name, NoMemory, Row};
+use st_reading::{Lexeme, Slot, opens_round};
+use std::alloc::Global;
+
+/// A token of a part, as the parser sees it and as it stands in the text.
+#[derive(Drop)]
+pub struct Word<'a> {
+    pub lexeme: Lexeme,
+    pub token: TokenRef<'a>,
+}
+
+/// The actions of the part that is read, the signs of the changes that are open in it, its tokens
+/// where it is a count, and the actions of the arguments before it.
+#[derive(Drop)]
+pub struct Parts<'a> {
+    pub arguments: Row<Row<Action<'a>>>,
+    pub actions: Row<Action<'a>>,
+    pub marks: Row<Mark>,
+    pub words: Row<Word<'a>>,
+}
+
+/// Nothing of a part.
+pub(crate) fn no_parts<'a>(alloc: Global) -> Parts<'a>
+    ensures arguments { result.arguments ≡ [] }
+    ensures actions { result.actions ≡ [] }
+    ensures marks { result.marks ≡ [] }
+    ensures words { result.words ≡ [] }
+{
+    Parts {
+        arguments: Row::new(alloc),
+        actions: Row::new(alloc),
+        marks: Row::new(alloc),
+        words: Row::new(alloc),
+    }
+}
+
+/// The types of these arguments.
+pub(crate) fn build_types(
+    alloc: Global,
+    arguments: &[Row<Action<'_>>],
+) -> Result<Row<Typ>, BuildFault>
+    ensures { IfOk result (λ typs. spec.all_built typ_built arguments.now ≡ Some typs) }
+{
+    let mut typs = Row::new(alloc);
+    'arguments: for actions in arguments {
+        let typ = build_typ(alloc, actions.as_slice())?;
+        typs.push(typ)?;
+    }
+    Ok(typs)
+}
+
+/// The expression of these actions.
+#[tactic(auto, using(crate::proofs::Built::exp_from))]
+fn build_exp(alloc: Global, actions: &[Action<'_>]) -> Result<Exp, BuildFault>
+    ensures { IfOk result (λ exp. spec.exp_built actions.now ≡ Some exp) }
+{
+    build(alloc, actions)
+}
+
+/// The patterns of these arguments.
+pub(crate) fn build_patterns(
+    alloc: Global,
+    arguments: &[Row<Action<'_>>],
+) -> Result<Row<Exp>, BuildFault>
+    ensures { IfOk result (λ exps. spec.all_built spec.exp_built arguments.now ≡ Some exps) }
+{
+    let mut exps = Row::new(alloc);
+    'arguments: for actions in arguments {
+        let exp = build_exp(alloc, actions.as_slice())?;
+        exps.push(exp)?;
+    }
+    Ok(exps)
+}
+
+/// The count of a premise, with an index where its tokens begin so.
+fn count_with(alloc: Global, index: Option<Name>, exp: Exp) -> Result<Count, NoMemory>
+    ensures { IfOk result (λ count. count ≡ spec.count_with index exp) }
+{
+    let bound = Boxed::new(alloc, exp)?;
+    match index {
+        None => Ok(Count::Times(bound)),
+        Some(name) => Ok(Count::Below(name, bound)),
+    }
+}
+
+/// The index of a count that begins with these tokens.
+pub fn index_in(alloc: Global, words: &[Word<'_>]) -> Result<Option<Name>, NoMemory>
+    ensures { IfOk result (λ index. index ≡ spec.index_in (map spec.word_of words.now)) }
+{
+    let Some((first, rest)) = words.split_first() else {
+        return Ok(None);
+    };
+    let Some((second, _)) = rest.split_first() else {
+        return Ok(None);
+    };
+    if opens_round(first.lexeme) {
+        return Ok(Some(copy_name(alloc, &second.token.get().kind)?));
+    }
+    Ok(None)
+}
+
+/// A type of a definition ends.
+fn fill_typ(
+    alloc: Global,
+    slot: Slot,
+    actions: &[Action<'_>],
+    draft: &mut Draft,
+) -> Result<(), BuildFault>
+    ensures { IfOk result (λ _.
+        option_map (λ t. drafts.typ_filled slot t draft.old) (typ_built actions.now) ≡ Some draft.new) }
+{
+    let typ = build_typ(alloc, actions)?;
+    match slot {
+        Slot::Field => put_field(alloc, draft, typ)?,
+        _ => put_typ(draft, typ),
+    }
+    Ok(())
+}
+
+/// A notation ends.
+fn fill_notation(alloc: Global, actions: &[Action<'_>], draft: &mut Draft) -> Result<(), BuildFault>
+    ensures { IfOk result (λ _.
+        option_map (λ k. drafts.notation_filled k draft.old) (notation_built actions.now) ≡ Some draft.new) }
+{
+    let notation = build_notation(alloc, actions)?;
+    put_notation(draft, notation)?;
+    Ok(())
+}
+
+/// A conclusion, or the result of a clause, ends.
+fn fill_exp(alloc: Global, actions: &[Action<'_>], draft: &mut Draft) -> Result<(), BuildFault>
+    ensures { IfOk result (λ _.
+        option_map (λ e. drafts.exp_filled e draft.old) (spec.exp_built actions.now) ≡ Some draft.new) }
+{
+    let exp = build_exp(alloc, actions)?;
+    put_exp(draft, exp);
+    Ok(())
+}
+
+/// A condition ends.
+fn fill_condition(
+    alloc: Global,
+    actions: &[Action<'_>],
+    draft: &mut Draft,
+) -> Result<(), BuildFault>
+    ensures { IfOk result (λ _.
+        option_map (λ e. drafts.condition_filled e draft.old) (spec.exp_built actions.now) ≡ Some draft.new) }
+{
+    let exp = build_exp(alloc, actions)?;
+    put_condition(draft, exp);
+    Ok(())
+}
+
+/// A count ends, with so many parentheses open round it.
+fn fill_count(
+    alloc: Global,
+    around: usize,
+    actions: &[Action<'_>],
+    words: &[Word<'_>],
+    draft: &mut Draft,
+) -> Result<(), BuildFault>
+    ensures { IfOk result (λ _.
+        option_map (λ e. drafts.count_filled around (spec.count_with (spec.index_in (map spec.word_of words.now)) e) draft.old) (spec.exp_built actions.now) ≡ Some draft.new) }
+{
+    let index = index_in(alloc, words)?;
+    let exp = build_exp(alloc, actions)?;
+    let count = count_with(alloc, index, exp)?;
+    put_each(alloc, draft, around, count)?;
+    Ok(())
+}
+
+/// A part ends, with so many brackets open round it.
+pub(crate) fn fill(
+    alloc: Global,
+    slot: Slot,
+    around: usize,
+    actions: &[Action<'_>],
+    words: &[Word<'_>],
+    draft: &mut Draft,
+) -> Result<(), BuildFault>
+    ensures { IfOk result (λ _. spec.refilled slot around actions.now (map spec.word_of words.now) draft.old ≡ Some draft.new) }
+{
+    match slot {
+        Slot::Field | Slot::Var | Slot::Fun => fill_typ(alloc, slot, actions, draft),
+        Slot::Case(_) | Slot::Notation => fill_notation(alloc, actions, draft),
+        Slot::Argument(_, _) => Ok(()),
+        Slot::Rule => fill_exp(alloc, actions, draft),
+        Slot::Condition => fill_condition(alloc, actions, draft),
+        Slot::Count => fill_count(alloc, around, actions, words, draft),
+    }
+}

@@ -1,0 +1,274 @@
+//! One token of definitions, read for the second time.
+
+ghost use Rattle.std.specs.Prelude.{◌≡◌, [], ◌∷◌, ◌++◌, length, map, reverse, Some, IfOk, IfSome};
+ghost use Rattle.std.specs.Option.{option_map};
+ghost use Rattle.st_reading.specs.Course as course;
+ghost use Rattle.st_reading.specs.Readings.{progress_of, reading_of};
+ghost use Rattle.st_draft.specs.Drafts.{arguments_after};
+ghost use Rattle.st_draft.specs.Parts.{word_of};
+ghost use Rattle.st_draft.specs.declared.draft.Draft.{Draft};
+ghost use Rattle.st_draft.specs.Work as spec;
+ghost use Rattle.st_draft.specs.Work.{Work, Keeps};
+
+use crate::change::{Change, change_of};
+use crate::parts::{Parts, Word};
+use crate::sketch::Sketch;
+use st_emit::emit;
+use st_grammar::Bracket;
+use st_meaning::{Action, BuildFault, TokenRef};
+use st_num::{NoMemory, Row};
+use st_reading::{
+    Due, Lexeme, Place, Progress, Reading, Slot, filled, part_end, part_step, place_step, slot_sort,
+};
+use st_scan::Token;
+use std::alloc::Global;
+
+/// The arguments are given up where they are built.
+fn drop_arguments<'a>(alloc: Global, change: Change, parts: &mut Parts<'a>)
+    ensures arguments { parts.new.arguments ≡ arguments_after change parts.old.arguments }
+    ensures actions { parts.new.actions ≡ parts.old.actions }
+    ensures marks { parts.new.marks ≡ parts.old.marks }
+    ensures words { parts.new.words ≡ parts.old.words }
+{
+    match change {
+        Change::Params | Change::Args => {
+            let _given = std::mem::replace(&mut parts.arguments, Row::new(alloc));
+        }
+        _ => {}
+    }
+}
+
+/// Keeps a token of a count.
+fn keep_word<'a>(
+    slot: Slot,
+    lexeme: Lexeme,
+    token: &'a Token,
+    words: &mut Row<Word<'a>>,
+) -> Result<(), NoMemory>
+    ensures { IfOk result (λ _. map word_of words.new
+        ≡ spec.words_after slot lexeme token.now (map word_of words.old)) }
+{
+    match slot {
+        Slot::Count => words.push(Word {
+            lexeme,
+            token: TokenRef::new(token),
+        }),
+        _ => Ok(()),
+    }
+}
+
+/// A token that goes on with a part.
+fn go_on<'a>(
+    slot: Slot,
+    reading: &Reading,
+    lexeme: Lexeme,
+    token: &'a Token,
+    parts: &mut Parts<'a>,
+) -> Result<(), NoMemory>
+    ensures { (draft : Draft) → IfOk result (λ _. spec.work_of draft parts.new
+        ≡ spec.part_work slot (reading_of reading.now) lexeme token.now
+        (spec.work_of draft parts.old)) }
+{
+    let shape = lexeme.shape;
+    emit(
+        slot_sort(slot),
+        reading,
+        shape,
+        token,
+        &mut parts.marks,
+        &mut parts.actions,
+    )?;
+    keep_word(slot, lexeme, token, &mut parts.words)
+}
+
+/// What a token changes of the draft and the arguments.
+fn redraft_work<'a, S: Sketch<'a>>(
+    alloc: Global,
+    place: Place,
+    next: &Progress,
+    lexeme: Lexeme,
+    token: &'a Token,
+    sketch: &mut S,
+    parts: &mut Parts<'a>,
+) -> Result<(), BuildFault>
+    ensures { (before after : Work) → Keeps S.Draws sketch.old parts.old before
+        → spec.redrafted_work (progress_of next.now) place lexeme token.now before ≡ Some after
+        → IfOk result (λ _. Keeps S.Draws sketch.new parts.new after) }
+{
+    let change = change_of(place, next);
+    let arguments = parts.arguments.as_slice();
+    sketch.redraft(alloc, change, lexeme.shape, token, arguments)?;
+    drop_arguments(alloc, change, parts);
+    Ok(())
+}
+
+/// What a token changes that leads from this place there.
+fn change_work<'a, S: Sketch<'a>>(
+    alloc: Global,
+    place: Place,
+    next: &Progress,
+    lexeme: Lexeme,
+    token: &'a Token,
+    sketch: &mut S,
+    parts: &mut Parts<'a>,
+) -> Result<(), BuildFault>
+    ensures { (before after : Work) → Keeps S.Draws sketch.old parts.old before
+        → spec.place_work (progress_of next.now) place lexeme token.now before ≡ Some after
+        → IfOk result (λ _. Keeps S.Draws sketch.new parts.new after) }
+{
+    match next {
+        Progress::At(_) => redraft_work(alloc, place, next, lexeme, token, sketch, parts),
+        Progress::Inside(_, _, _) => match place {
+            Place::Entering(slot) => {
+                let fresh = Reading {
+                    due: Due::Operand,
+                    frames: Row::new(alloc),
+                };
+                go_on(slot, &fresh, lexeme, token, parts)?;
+                Ok(())
+            }
+            _ => redraft_work(alloc, place, next, lexeme, token, sketch, parts),
+        },
+    }
+}
+
+/// A token at a place.
+fn at_place<'a, S: Sketch<'a>>(
+    alloc: Global,
+    place: Place,
+    brackets: Row<Bracket>,
+    lexeme: Lexeme,
+    token: &'a Token,
+    sketch: &mut S,
+    parts: &mut Parts<'a>,
+) -> Result<Option<Progress>, BuildFault>
+    ensures next { IfOk result (λ next.
+        option_map progress_of next ≡ course.place_step place lexeme (reverse brackets)) }
+    ensures work { (before after : Work) → Keeps S.Draws sketch.old parts.old before
+        → IfOk result (λ next. IfSome next (λ there.
+        spec.place_work (progress_of there) place lexeme token.now before ≡ Some after
+        → Keeps S.Draws sketch.new parts.new after)) }
+{
+    let Some(next) = place_step(alloc, place, lexeme, brackets)? else {
+        return Ok(None);
+    };
+    change_work(alloc, place, &next, lexeme, token, sketch, parts)?;
+    Ok(Some(next))
+}
+
+/// The part ends, and what is kept of it is given up, but for the actions of an argument.
+fn give_up<'a>(alloc: Global, slot: Slot, parts: &mut Parts<'a>) -> Result<(), NoMemory>
+    ensures arguments { IfOk result (λ _. parts.new.arguments
+        ≡ spec.arguments_with slot parts.old.actions parts.old.arguments) }
+    ensures rest { IfOk result (λ _. (parts.new.actions ≡ []) × (parts.new.marks ≡ []) × (parts.new.words ≡ [])) }
+{
+    let actions = std::mem::replace(&mut parts.actions, Row::new(alloc));
+    parts.marks = Row::new(alloc);
+    let _words = std::mem::replace(&mut parts.words, Row::new(alloc));
+    match slot {
+        Slot::Argument(_, _) => parts.arguments.push(actions),
+        _ => Ok(()),
+    }
+}
+
+/// A part ends, with so many brackets open round it.
+pub(crate) fn end_part<'a, S: Sketch<'a>>(
+    alloc: Global,
+    slot: Slot,
+    around: usize,
+    reading: &Reading,
+    sketch: &mut S,
+    parts: &mut Parts<'a>,
+) -> Result<(), BuildFault>
+    ensures { (before after : Work) → Keeps S.Draws sketch.old parts.old before
+        → spec.filled_work slot around (reading_of reading.now) before ≡ Some after
+        → IfOk result (λ _. Keeps S.Draws sketch.new parts.new after) }
+{
+    st_emit::finish(reading, &mut parts.actions)?;
+    let words = parts.words.as_slice();
+    sketch.fill(alloc, slot, around, parts.actions.as_slice(), words)?;
+    give_up(alloc, slot, parts)?;
+    Ok(())
+}
+
+fn copy_reading(alloc: Global, reading: &Reading) -> Result<Reading, NoMemory>
+    ensures { IfOk result (λ copy. copy ≡ reading.now) }
+{
+    let frames = reading.frames.copy(alloc)?;
+    Ok(Reading {
+        due: reading.due,
+        frames,
+    })
+}
+
+/// A token in a part, or behind it.
+fn in_part<'a, S: Sketch<'a>>(
+    alloc: Global,
+    slot: Slot,
+    reading: Reading,
+    brackets: Row<Bracket>,
+    lexeme: Lexeme,
+    token: &'a Token,
+    sketch: &mut S,
+    parts: &mut Parts<'a>,
+) -> Result<Option<Progress>, BuildFault>
+    ensures next { IfOk result (λ next. option_map progress_of next
+        ≡ course.step (course.inside slot (reading_of reading) (reverse brackets)) lexeme) }
+    ensures work { (before after : Work) → Keeps S.Draws sketch.old parts.old before
+        → IfOk result (λ next. IfSome next (λ there.
+        spec.work_after (course.inside slot (reading_of reading) (reverse brackets))
+        (progress_of there) lexeme token.now before ≡ Some after
+        → Keeps S.Draws sketch.new parts.new after)) }
+{
+    let before = copy_reading(alloc, &reading)?;
+    if let Some(next) = part_step(slot_sort(slot), reading, lexeme.shape)? {
+        go_on(slot, &before, lexeme, token, parts)?;
+        return Ok(Some(Progress::Inside(slot, next, brackets)));
+    }
+    let Some(part) = part_end(&before) else {
+        return Ok(None);
+    };
+    end_part(alloc, slot, brackets.len(), &before, sketch, parts)?;
+    at_place(
+        alloc,
+        filled(slot, part),
+        brackets,
+        lexeme,
+        token,
+        sketch,
+        parts,
+    )
+}
+
+/// One more token of definitions, if it may stand there.
+pub(crate) fn read_token<'a, S: Sketch<'a>>(
+    alloc: Global,
+    progress: Progress,
+    lexeme: Lexeme,
+    token: &'a Token,
+    sketch: &mut S,
+    parts: &mut Parts<'a>,
+) -> Result<Option<Progress>, BuildFault>
+    ensures next { IfOk result (λ next.
+        option_map progress_of next ≡ course.step (progress_of progress) lexeme) }
+    ensures work { (before after : Work) → Keeps S.Draws sketch.old parts.old before
+        → IfOk result (λ next. IfSome next (λ there.
+        spec.work_after (progress_of progress) (progress_of there) lexeme token.now before
+        ≡ Some after
+        → Keeps S.Draws sketch.new parts.new after)) }
+{
+    match progress {
+        Progress::At(here) => at_place(
+            alloc,
+            here.place,
+            here.brackets,
+            lexeme,
+            token,
+            sketch,
+            parts,
+        ),
+        Progress::Inside(slot, reading, brackets) => {
+            in_part(alloc, slot, reading, brackets, lexeme, token, sketch, parts)
+        }
+    }
+}

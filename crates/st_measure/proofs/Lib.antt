@@ -1,0 +1,9 @@
+mod Lists
+pub mod Occurring
+mod Applied
+mod Taken
+mod Leaving
+mod Limits
+mod Highest
+mod Holes
+pub mod Premises

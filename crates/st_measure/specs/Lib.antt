@@ -1,0 +1,10 @@
+pub mod Names
+pub mod Variables
+pub mod Noting
+pub mod Steps
+pub mod Limits
+pub mod Counting
+pub mod DefHeights
+pub mod Parts
+pub mod Aliases
+pub mod Answers

@@ -1,0 +1,121 @@
+-- The variables that occur in a part, a premise or a definition, in the order of the text.
+use Rattle.std.specs.Prelude.{ℕ, List, [], ◌∷◌, ◌++◌, map, filter, flat_map, not}
+use Rattle.st_num.specs.declared.span.Span.{Span}
+use Rattle.st_scan.specs.declared.token.Token.{Token}
+use Rattle.st_el.specs.declared.expression.Exp.{Exp, Exp-F, fold-Exp}
+use Rattle.st_el.specs.declared.expression.Count.{Count, fold-Count}
+use Rattle.st_el.specs.declared.expression.Count.TheOpen.{Count-F, Node-F, Seg-F}
+use Rattle.st_el.specs.declared.expression.Seg.{Seg, fold-Seg}
+use Rattle.st_el.specs.declared.definition.Prem.{Prem, fold-Prem}
+use Rattle.st_el.specs.declared.definition.PremNode.TheOpen.{PremNode-F}
+use Rattle.st_el.specs.declared.definition.Def.{Def}
+use Rattle.st_el.specs.declared.definition.DefNode.{DefNode}
+use Rattle.st_el.specs.declared.definition.DefNode.TheVariants as def
+use Rattle.st_meaning.specs.Names.{name_of}
+use Rattle.st_measure.specs.Names.{is_among}
+
+-- a name and its place
+abbrev pub Occurrence : Type 0
+Occurrence = List ℕ × Span
+
+-- the names that these tokens stand for
+abbrev pub occurrence : Token → Occurrence
+occurrence x = (name_of x.kind, x.at)
+
+abbrev pub occurrences : List Token → List Occurrence
+occurrences tokens = map occurrence tokens
+
+-- those of other names
+abbrev pub without : List (List ℕ) → List Occurrence → List Occurrence
+without names occurring = filter (λ o. not (is_among o.0 names)) occurring
+
+-- ---- expressions
+
+-- what occurs in a part
+abbrev pub Seen : Type 0
+Seen = List Occurrence
+
+-- how often an iteration goes: its index, and the variables of its count
+pub record Times : Type 0 where
+  pub index : List (List ℕ)
+  pub count : Seen
+
+-- An index belongs to the body, and the count stands outside of it.
+abbrev pub iterated : Seen → Times → Seen
+iterated body times = without times.index body ++ times.count
+
+abbrev pub in_all : List Seen → Seen
+in_all parts = flat_map (λ part. part) parts
+
+abbrev pub times_at : Count-F Times (Span → Seen) Seen Seen → Times
+times_at (Count-F.Times e) = record { index = []; count = e }
+times_at (Count-F.Below name e) = record { index = name ∷ []; count = e }
+times_at c = record { index = []; count = [] }
+
+abbrev pub seg_variables_at : Seg-F Times (Span → Seen) Seen Seen → Seen
+seg_variables_at (Seg-F.Field name) = []
+seg_variables_at (Seg-F.Seg::At e) = e
+seg_variables_at (Seg-F.Seg::Slice e f) = e ++ f
+
+-- A name alone is a variable. Everything else has those of its parts, from left to right.
+abbrev pub node_variables_at : Node-F Times (Span → Seen) Seen Seen → Span → Seen
+node_variables_at (Node-F.Name name) at = (name, at) ∷ []
+node_variables_at (Node-F.Seq es) at = in_all es
+node_variables_at (Node-F.Infix l m r) at = l ++ r
+node_variables_at (Node-F.Binary l m r) at = l ++ r
+node_variables_at (Node-F.Not e) at = e
+node_variables_at (Node-F.Neg e) at = e
+node_variables_at (Node-F.Arith e) at = e
+node_variables_at (Node-F.Paren e) at = e
+node_variables_at (Node-F.Bracket m e) at = e
+node_variables_at (Node-F.Tuple es) at = in_all es
+node_variables_at (Node-F.Fields fs) at = flat_map (λ f. f.1) fs
+node_variables_at (Node-F.Dot e name) at = e
+node_variables_at (Node-F.Node::At e f) at = e ++ f
+node_variables_at (Node-F.Node::Slice e f g) at = e ++ f ++ g
+node_variables_at (Node-F.Update e path f) at = e ++ in_all path ++ f
+node_variables_at (Node-F.Extend e path f) at = e ++ in_all path ++ f
+node_variables_at (Node-F.Len e) at = e
+node_variables_at (Node-F.Call name es) at = in_all es
+node_variables_at (Node-F.Iter e c) at = iterated e c
+node_variables_at n at = []
+
+abbrev pub exp_variables_at : Exp-F Times (Span → Seen) Seen Seen → Seen
+exp_variables_at e = e.node e.at
+
+abbrev pub variables : Exp → Seen
+variables =
+    fold-Exp Times (Span → Seen) Seen Seen
+    times_at node_variables_at seg_variables_at exp_variables_at
+
+abbrev pub seg_variables : Seg → Seen
+seg_variables =
+    fold-Seg Times (Span → Seen) Seen Seen
+    times_at node_variables_at seg_variables_at exp_variables_at
+
+abbrev pub times : Count → Times
+times =
+    fold-Count Times (Span → Seen) Seen Seen
+    times_at node_variables_at seg_variables_at exp_variables_at
+
+-- ---- premises and definitions
+
+abbrev pub prem_node_variables_at : PremNode-F Seen Seen → Seen
+prem_node_variables_at (PremNode-F.If e) = variables e
+prem_node_variables_at (PremNode-F.Goal name e) = variables e
+prem_node_variables_at PremNode-F.Otherwise = []
+prem_node_variables_at (PremNode-F.Each p c) = iterated p (times c)
+
+abbrev pub prem_variables : Prem → Seen
+prem_variables =
+    fold-Prem Seen Seen prem_node_variables_at (λ p. p.node)
+
+-- Only rules and clauses have variables.
+abbrev pub def_node_variables : DefNode → Seen
+def_node_variables (def.Rule relation name e ps) = variables e ++ flat_map prem_variables ps
+def_node_variables (def.Clause name args e ps) =
+    flat_map variables args ++ variables e ++ flat_map prem_variables ps
+def_node_variables d = []
+
+abbrev pub def_variables : Def → Seen
+def_variables d = def_node_variables d.node

@@ -1,0 +1,4 @@
+mod Surveying
+mod Endings
+mod Whole
+mod Drawn

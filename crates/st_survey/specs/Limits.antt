@@ -1,0 +1,24 @@
+-- What the limits ask of whole definitions: how many variables they have, and how high they are.
+use Rattle.std.specs.Prelude.{ℕ, List, [], ◌∷◌, Option, Some, None, nat_lt, if◌then◌else◌}
+use Rattle.std.specs.Option.{option_or}
+use Rattle.st_num.specs.declared.span.Span.{Span}
+use Rattle.st_el.specs.declared.definition.Def.{Def}
+use Rattle.st_measure.specs.Variables.{def_variables}
+use Rattle.st_measure.specs.Limits.{place_past}
+use Rattle.st_measure.specs.DefHeights.{def_height}
+
+-- the first variable that has 255 others before it in its definition
+abbrev pub variable_past : Def → Option Span
+variable_past d = place_past 255 (def_variables d)
+
+-- the place of a definition with a tree that is higher than 100
+abbrev pub tall_at : Span → ℕ → Option Span
+tall_at at height = if nat_lt 100 height then Some at else None
+
+abbrev pub too_tall : Def → Option Span
+too_tall d = tall_at d.at (def_height d)
+
+-- the first place that these definitions give
+abbrev pub first_that : (Def → Option Span) → List Def → Option Span
+first_that f [] = None
+first_that f (d ∷ ds) = option_or (f d) (first_that f ds)
