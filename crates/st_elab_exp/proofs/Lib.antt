@@ -1,8 +1,8 @@
-mod Names
-mod Iterated
-mod Choosing
-pub mod Leaves
-pub mod Builds
-pub mod Exact
-mod Fields
-mod Members
+mod Collecting
+mod Turning
+mod Recording
+mod Checking
+mod Inferring
+mod Pairing
+mod Typing
+mod Public

@@ -1,0 +1,47 @@
+-- What a call gives is what the table gives.
+use Rattle.std.proofs.Common.{◌≡◌, sym, subst, false}
+use Rattle.std.specs.Prelude.{Result, Ok, Err}
+use Rattle.st_el.specs.declared.expression.Exp.{Exp}
+use Rattle.st_il.specs.declared.ty.Ty.{Ty}
+use Rattle.st_il.specs.declared.expression.IlExp.{IlExp}
+use Rattle.st_elaboration.specs.declared.decls.Decls.{Decls}
+use Rattle.st_elaboration.specs.declared.decls.Scope.{Scope}
+use Rattle.st_elaboration.specs.declared.fault.ExpFault.{ExpFault}
+use Rattle.st_elaboration.specs.declared.fault.ExpFault.TheVariants as fault
+use Rattle.st_elaboration.specs.declared.within.Within.{Within}
+use Rattle.st_elaboration.specs.Forms.{place}
+use Rattle.st_elaboration.specs.Questions.{Question, check, infer, Made, Breach, Gives, Fails}
+use Rattle.st_elaboration.specs.Steps.{made, asked, found}
+use Rattle.st_elaboration.specs.Elaboration.{Answered, around, Elab, Infer}
+use Rattle.st_elaboration.proofs.Single.{Answered-single}
+use Rattle.st_elab_row.specs.Told.{Told}
+use Rattle.st_elab_exp.specs.Exactly.{IsGiven, IsRefused}
+use Rattle.st_elab_exp.proofs.Typing.{of_its_type}
+
+module _ (D : Decls) (S : Scope) where
+  pub told_given : {A : Type 0} (q : Question) (f : A → Made) (r : Result A ExpFault) (x : A) → ((y : A) → f y ≡ f x → y ≡ x)
+      → Told (λ y. Answered D S q (Gives (f y))) (λ b. Answered D S q (Fails b)) r → Answered D S q (Gives (f x)) → IsGiven x r
+  told_given q f (Ok y) x back h g = back y (let e : Gives (f y) ≡ Gives (f x) = Answered-single D S q (Gives (f y)) (Gives (f x)) h g in cc)
+  told_given q f (Err (fault.Refused at rule)) x back h g =
+      let b : Breach = record { at = at; rule = rule } in
+      let e : Fails b ≡ Gives (f x) = Answered-single D S q (Fails b) (Gives (f x)) h g in cc
+  told_given q f (Err fault.Memory) x back h g = tt
+
+  pub told_refused : {A : Type 0} (q : Question) (f : A → Made) (r : Result A ExpFault) (b : Breach)
+      → Told (λ y. Answered D S q (Gives (f y))) (λ c. Answered D S q (Fails c)) r → Answered D S q (Fails b) → IsRefused b r
+  told_refused q f (Ok y) b h g = let e : Gives (f y) ≡ Fails b = Answered-single D S q (Gives (f y)) (Fails b) h g in cc
+  told_refused q f (Err (fault.Refused at rule)) b h g =
+      let c : Breach = record { at = at; rule = rule } in
+      let e : Fails c ≡ Fails b = Answered-single D S q (Fails c) (Fails b) h g in cc
+  told_refused q f (Err fault.Memory) b h g = tt
+
+  -- what is given at a type is the elaboration at that type
+  pub is_elaborated : (e : Exp) (t u : Ty) (w : Within) (x y : IlExp) → w ≡ around S → x ≡ y → Answered D S (check w (place e) false e t) (Gives (made y u)) → Elab D S e t x
+  is_elaborated e t u w x y is same h =
+      let there = subst (λ z. Answered D S (check z (place e) false e t) (Gives (made y u))) is h in
+      subst (λ z. Answered D S (asked (around S) e t) (Gives (made z t))) (sym same)
+      (subst (λ z. Answered D S (asked (around S) e t) (Gives (made y z))) (of_its_type D S (around S) (place e) false e t (made y u) there) there)
+
+  pub is_inferred : (e : Exp) (u : Ty) (w : Within) (x y : IlExp) → w ≡ around S → x ≡ y → Answered D S (infer w (place e) e) (Gives (made y u)) → Infer D S e x u
+  is_inferred e u w x y is same h =
+      subst (λ z. Answered D S (found (around S) e) (Gives (made z u))) (sym same) (subst (λ z. Answered D S (infer z (place e) e) (Gives (made y u))) is h)

@@ -1,0 +1,64 @@
+use Rattle.std.proofs.Common.{rules, sym, subst}
+use Rattle.st_il.specs.declared.expression.IlExp.{IlExp}
+use Rattle.st_il.specs.declared.expression.IlExp.TheVariants as il
+use Rattle.st_notation.specs.Fitted.{fillings}
+use Rattle.st_elaboration.specs.Records.{case_row}
+use Rattle.st_elaboration.specs.Steps.{give, holes, exp_of}
+use Rattle.st_elaboration.proofs.RowLemmas.{case_unfit}
+use Rattle.st_elab_row.specs.Asking.{LeadsTo}
+use Rattle.st_elab_row.specs.Parts.{TellsAll, AskedAs}
+use Rattle.st_elab_row.proofs.Builds.{leading_by, leading_breaks, leads_asks, gives_made}
+use Rattle.st_elab_exp.proofs.Recording.{case_fills, picked, none_picked, filled_in, none_filled, unnamed_unfit, none_chosen, none_fills}
+use Rattle.st_elab_exp.proofs.record_row.case_row.Goals as goal
+
+pub returns-in_default : goal.returns-in_default
+returns-in_default g c =
+    let x = c.args.context.now in
+    let part = c.args.part.now in
+    subst (LeadsTo x (case_row x.within.now part.at part.exp.now c.args.ty.now)) (sym c.unfit.ensures)
+    (case_unfit x.decls.now x.scope.now x.within.now part.at part.exp.now c.args.ty.now (unnamed_unfit x.decls.now.types c.args.ty.now part.exp.now c.in_default.not-Name))
+
+pub returns-in_default-2 : goal.returns-in_default-2
+returns-in_default-2 g c =
+    let x = c.args.context.now in
+    let part = c.args.part.now in
+    subst (LeadsTo x (case_row x.within.now part.at part.exp.now c.args.ty.now)) (sym c.unfit-in_default-2.ensures)
+    (case_unfit x.decls.now x.scope.now x.within.now part.at part.exp.now c.args.ty.now
+    (none_chosen x.decls.now.types c.args.ty.now part.exp.now c.args.cases.now c.requires.has
+    (none_picked part.exp.now c.args.cases.now _ c.in_default-2.is c.in_ok-case.ensures)))
+
+pub returns-in_default-3 : goal.returns-in_default-3
+returns-in_default-3 g c =
+    let x = c.args.context.now in
+    let part = c.args.part.now in
+    subst (LeadsTo x (case_row x.within.now part.at part.exp.now c.args.ty.now)) (sym c.unfit-in_default-3.ensures)
+    (case_unfit x.decls.now x.scope.now x.within.now part.at part.exp.now c.args.ty.now
+    (none_fills x.decls.now.types c.args.ty.now part.exp.now c.args.cases.now c.in-Some.case.now c.requires.has
+    (picked part.exp.now c.args.cases.now _ _ c.in-Some.is c.in_ok-case.ensures)
+    (none_filled x.decls.now.types c.in-Some.case.now part.exp.now _ c.in_default-3.is c.in_ok-filled.ensures)))
+
+pub returns-in_err-all : goal.returns-in_err-all
+returns-in_err-all g c =
+    let x = c.args.context.now in
+    let part = c.args.part.now in
+    leading_by _ _ _ _ _ _ (λ a h. case_fills x.decls.now x.scope.now x.within.now part.at part.exp.now c.args.ty.now c.in-Name.name c.args.cases.now c.in-Some.case.now (fillings c.in-Some-2.filled) a
+    c.in-Name.is c.requires.has
+    (picked part.exp.now c.args.cases.now _ _ c.in-Some.is c.in_ok-case.ensures)
+    (filled_in x.decls.now.types c.in-Some.case.now part.exp.now _ _ c.in-Some-2.is c.in_ok-filled.ensures) h)
+    (leading_breaks _ _ (holes x.within.now part.at (fillings c.in-Some-2.filled) c.in-Some.case.now.operands) _ exp_of _
+    c.all_holes.result c.from_residual-in_err-all.result c.in_err-all.field-0.0 c.in_err-all.was (search rules)
+    (subst (λ z. TellsAll x.decls.now x.scope.now (holes x.within.now part.at (fillings c.in-Some-2.filled) z) exp_of c.all_holes.result) c.as_slice-operands.ensures
+    (subst (λ z. TellsAll x.decls.now x.scope.now (holes x.within.now part.at (fillings z) c.as_slice-operands.result.now) exp_of c.all_holes.result) c.as_slice.ensures c.all_holes.ensures)))
+
+pub returns : goal.returns
+returns g c =
+    let x = c.args.context.now in
+    let part = c.args.part.now in
+    case_fills x.decls.now x.scope.now x.within.now part.at part.exp.now c.args.ty.now c.in-Name.name c.args.cases.now c.in-Some.case.now (fillings c.in-Some-2.filled) _
+    c.in-Name.is c.requires.has
+    (picked part.exp.now c.args.cases.now _ _ c.in-Some.is c.in_ok-case.ensures)
+    (filled_in x.decls.now.types c.in-Some.case.now part.exp.now _ _ c.in-Some-2.is c.in_ok-filled.ensures)
+    (leads_asks _ _ _ exp_of c.in_ok-all.all (λ xs. give (il.Case c.in-Name.name c.in-Some.case.now.tag xs) c.args.ty.now) _
+    (subst (λ z. AskedAs x.decls.now x.scope.now (holes x.within.now part.at (fillings c.in-Some-2.filled) z) IlExp exp_of c.in_ok-all.all) c.as_slice-operands.ensures
+    (subst (λ z. AskedAs x.decls.now x.scope.now (holes x.within.now part.at (fillings z) c.as_slice-operands.result.now) IlExp exp_of c.in_ok-all.all) c.as_slice.ensures c.in_ok-all.ensures))
+    (gives_made _ _ _ _ _ (search rules)))

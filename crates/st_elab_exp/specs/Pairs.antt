@@ -1,0 +1,19 @@
+-- Expressions with their types, as several questions are answered.
+use Rattle.std.specs.Prelude.{◌≡◌, List, map, Result}
+use Rattle.st_elaboration.specs.declared.fault.ExpFault.{ExpFault}
+use Rattle.st_elaboration.specs.Questions.{Question, Made}
+use Rattle.st_elaboration.specs.Steps.{ty_of, exps}
+use Rattle.st_elab_row.specs.declared.asking.Context.{Context}
+use Rattle.st_elab_exp.specs.declared.inferred.FoundAll.{FoundAll}
+use Rattle.st_elab_row.specs.Told.{Told}
+use Rattle.st_elab_row.specs.Parts.{Asked, Breaks}
+
+-- these are the expressions and the types of the answers to the questions
+pub record AreFound (x : Context) (qs : List Question) (all : FoundAll) : Type 0 where
+  pub mades : List Made
+  pub asked : Asked x.decls.now x.scope.now qs mades
+  pub exps-are : exps mades ≡ all.exps
+  pub tys-are : map ty_of mades ≡ all.tys
+
+abbrev pub TellsPairs : Context → List Question → Result FoundAll ExpFault → Type 0
+TellsPairs x qs r = Told (AreFound x qs) (λ b. Breaks x.decls.now x.scope.now qs b) r

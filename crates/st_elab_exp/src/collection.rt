@@ -1,0 +1,280 @@
+//! The rows of lists and options: one element, sequences, and what fills holes.
+
+ghost use Rattle.std.specs.Prelude.{map};
+ghost use Rattle.st_il.specs.declared.ty.Ty.{out-Ty};
+ghost use Rattle.st_notation.specs.Fitted.{plain, fillings};
+ghost use Rattle.st_elaboration.specs.Questions.{item};
+ghost use Rattle.st_il.specs.declared.expression.IlExp.TheVariants as il;
+ghost use Rattle.st_elaboration.specs.Steps.{exp_of, give, holes};
+ghost use Rattle.st_elaboration.specs.Collections.{element, other_row, eps_row, sequence, item_of, item_row, found_item, run_row, hole_row};
+ghost use Rattle.st_elab_row.specs.Asking.{AnswersAll, LeadsTo, made_by};
+ghost use Rattle.st_elab_row.specs.Parts.{TellsAll, IsItem, LeadsToItem};
+ghost use Rattle.st_elab_row.specs.Words.{lift_of};
+
+use st_el::Exp;
+use st_elab_row::ask::{asked, asked_at, found};
+use st_elab_row::asking::{Asking, Context, Found, Part};
+use st_elab_row::fitting::{Lifting, give_at, lift};
+use st_elab_row::form::{inferable, is_spliced};
+use st_elab_row::found::{is_collection, raise};
+use st_elaboration::{ExpFault, Within};
+use st_il::{IlExp, ListItem, Ty, copy_ty};
+use st_notation::Filled;
+use st_num::{Row, RuleId, Span};
+
+/// One element of this type, in a list or an option.
+fn element<F: Fn(&Within, &Asking<'_>) -> Result<Found, ExpFault>>(
+    context: &Context<'_>,
+    ask: &F,
+    part: &Part<'_>,
+    ty: &Ty,
+    inner: &Ty,
+    lifting: Lifting,
+) -> Result<Found, ExpFault>
+    requires callable { F.IsAlwaysCallable ask.now }
+    requires answers { AnswersAll context.now (F.post ask.now) }
+    ensures { LeadsTo context.now (element context.now.within.now part.now.at
+        part.now.in_parentheses part.now.exp.now ty.now inner.now
+        (lift_of lifting inner.now)) result }
+{
+    if is_collection(context.decls.types.meaning(inner)) {
+        return Err(ExpFault::Refused {
+            at: part.at,
+            rule: RuleId::Y1,
+        });
+    }
+    let one = asked_at(context, ask, part, inner)?;
+    let exp = lift(context.alloc, lifting, inner, one.exp)?;
+    let given = give_at(context.alloc, exp, ty)?;
+    Ok(given)
+}
+
+/// Any other expression, at a type of this meaning.
+pub fn other_row<F: Fn(&Within, &Asking<'_>) -> Result<Found, ExpFault>>(
+    context: &Context<'_>,
+    ask: &F,
+    part: &Part<'_>,
+    ty: &Ty,
+    meaning: &Ty,
+) -> Result<Found, ExpFault>
+    requires callable { F.IsAlwaysCallable ask.now }
+    requires answers { AnswersAll context.now (F.post ask.now) }
+    ensures { LeadsTo context.now (other_row context.now.within.now part.now.at
+        part.now.in_parentheses part.now.exp.now ty.now (out-Ty meaning.now)) result }
+{
+    match meaning {
+        Ty::List(of) => element(context, ask, part, ty, of.get(), Lifting::List),
+        Ty::Opt(of) => element(context, ask, part, ty, of.get(), Lifting::Option),
+        _ => Err(ExpFault::Refused {
+            at: part.at,
+            rule: RuleId::Y1,
+        }),
+    }
+}
+
+/// `eps`, at a type of this meaning.
+pub fn eps_row(context: &Context<'_>, at: Span, ty: &Ty, meaning: &Ty) -> Result<Found, ExpFault>
+    ensures { LeadsTo context.now (eps_row at ty.now (out-Ty meaning.now)) result }
+{
+    match meaning {
+        Ty::List(of) => {
+            let of = copy_ty(context.alloc, of.get())?;
+            let exp = IlExp::List(of, Row::new(context.alloc));
+            let given = give_at(context.alloc, exp, ty)?;
+            Ok(given)
+        }
+        Ty::Opt(of) => {
+            let of = copy_ty(context.alloc, of.get())?;
+            let given = give_at(context.alloc, IlExp::Empty(of), ty)?;
+            Ok(given)
+        }
+        _ => Err(ExpFault::Refused {
+            at,
+            rule: RuleId::Y1,
+        }),
+    }
+}
+
+/// The items of a sequence, at a list type with these elements.
+pub fn sequence<F: Fn(&Within, &Asking<'_>) -> Result<Found, ExpFault>>(
+    context: &Context<'_>,
+    ask: &F,
+    at: Span,
+    parts: &[Exp],
+    ty: &Ty,
+    element: &Ty,
+) -> Result<Found, ExpFault>
+    requires callable { F.IsAlwaysCallable ask.now }
+    requires answers { AnswersAll context.now (F.post ask.now) }
+    ensures { LeadsTo context.now
+        (sequence context.now.within.now at parts.now ty.now element.now) result }
+{
+    if is_collection(context.decls.types.meaning(element)) {
+        return Err(ExpFault::Refused {
+            at,
+            rule: RuleId::Y2,
+        });
+    }
+    let all = items(context, ask, parts, ty, element)?;
+    let of = copy_ty(context.alloc, element)?;
+    let given = give_at(context.alloc, IlExp::List(of, all), ty)?;
+    Ok(given)
+}
+
+fn items<F: Fn(&Within, &Asking<'_>) -> Result<Found, ExpFault>>(
+    context: &Context<'_>,
+    ask: &F,
+    parts: &[Exp],
+    ty: &Ty,
+    element: &Ty,
+) -> Result<Row<ListItem>, ExpFault>
+    requires callable { F.IsAlwaysCallable ask.now }
+    requires answers { AnswersAll context.now (F.post ask.now) }
+    ensures { TellsAll context.now.decls.now context.now.scope.now
+        (map (item context.now.within.now ty.now element.now) parts.now) item_of result }
+{
+    let mut all = Row::new(context.alloc);
+    for part in parts {
+        all.push(item(context, ask, ty, element, part)?)?;
+    }
+    Ok(all)
+}
+
+/// An item: all elements of what is spliced, or one element.
+fn item<F: Fn(&Within, &Asking<'_>) -> Result<Found, ExpFault>>(
+    context: &Context<'_>,
+    ask: &F,
+    ty: &Ty,
+    element: &Ty,
+    part: &Exp,
+) -> Result<ListItem, ExpFault>
+    requires callable { F.IsAlwaysCallable ask.now }
+    requires answers { AnswersAll context.now (F.post ask.now) }
+    ensures { LeadsToItem context.now
+        (item_row context.now.within.now ty.now element.now part.now) result }
+{
+    if is_spliced(part) {
+        let list = asked(context, ask, part, ty)?;
+        return Ok(ListItem::All(list.exp.into_inner()));
+    }
+    if inferable(part) {
+        let given = found(context, ask, part)?;
+        return found_item(context, part.at, ty, element, given);
+    }
+    let one = asked(context, ask, part, element)?;
+    Ok(ListItem::One(one.exp.into_inner()))
+}
+
+/// An inferable item: one element, or spliced.
+fn found_item(
+    context: &Context<'_>,
+    at: Span,
+    ty: &Ty,
+    element: &Ty,
+    given: Found,
+) -> Result<ListItem, ExpFault>
+    ensures { LeadsToItem context.now (found_item at ty.now element.now (made_by given)) result }
+{
+    let Found { exp, ty: has } = given;
+    if context.decls.types.is_sub(&has, element) {
+        let one = raise(context.alloc, context.decls, exp, &has, element)?;
+        return Ok(ListItem::One(one.into_inner()));
+    }
+    if context.decls.types.is_sub(&has, ty) {
+        let list = raise(context.alloc, context.decls, exp, &has, ty)?;
+        return Ok(ListItem::All(list.into_inner()));
+    }
+    Err(ExpFault::Refused {
+        at,
+        rule: RuleId::Y1,
+    })
+}
+
+/// A run of none is left out, and of one is that element. Two and more are a sequence.
+fn run_row<F: Fn(&Within, &Asking<'_>) -> Result<Found, ExpFault>>(
+    context: &Context<'_>,
+    ask: &F,
+    at: Span,
+    parts: &[Exp],
+    ty: &Ty,
+) -> Result<Found, ExpFault>
+    requires callable { F.IsAlwaysCallable ask.now }
+    requires answers { AnswersAll context.now (F.post ask.now) }
+    ensures { LeadsTo context.now (run_row context.now.within.now at parts.now ty.now) result }
+{
+    match parts {
+        [] => absent(context, ty),
+        [one] => asked_at(
+            context,
+            ask,
+            &Part {
+                at: one.at,
+                in_parentheses: true,
+                exp: one,
+            },
+            ty,
+        ),
+        _ => match context.decls.types.meaning(ty) {
+            Ty::List(of) => sequence(context, ask, at, parts, ty, of.get()),
+            _ => Err(ExpFault::Refused {
+                at,
+                rule: RuleId::Y1,
+            }),
+        },
+    }
+}
+
+/// A part that was left out.
+fn absent(context: &Context<'_>, ty: &Ty) -> Result<Found, ExpFault>
+    ensures { LeadsTo context.now (give (il.Absent ty.now) ty.now) result }
+{
+    let of = copy_ty(context.alloc, ty)?;
+    let given = give_at(context.alloc, IlExp::Absent(of), ty)?;
+    Ok(given)
+}
+
+/// What fills a hole of this type.
+fn hole<F: Fn(&Within, &Asking<'_>) -> Result<Found, ExpFault>>(
+    context: &Context<'_>,
+    ask: &F,
+    at: Span,
+    filling: &Filled<'_>,
+    ty: &Ty,
+) -> Result<Found, ExpFault>
+    requires callable { F.IsAlwaysCallable ask.now }
+    requires answers { AnswersAll context.now (F.post ask.now) }
+    ensures { LeadsTo context.now
+        (hole_row context.now.within.now at (plain filling.now) ty.now) result }
+{
+    match filling {
+        Filled::One(exp) => asked(context, ask, exp, ty),
+        Filled::Run(parts) => run_row(context, ask, at, parts, ty),
+        Filled::Missing => absent(context, ty),
+    }
+}
+
+/// What fills each hole, at the type of the hole.
+pub fn all_holes<F: Fn(&Within, &Asking<'_>) -> Result<Found, ExpFault>>(
+    context: &Context<'_>,
+    ask: &F,
+    at: Span,
+    filled: &[Filled<'_>],
+    tys: &[Ty],
+) -> Result<Row<IlExp>, ExpFault>
+    requires callable { F.IsAlwaysCallable ask.now }
+    requires answers { AnswersAll context.now (F.post ask.now) }
+    ensures { TellsAll context.now.decls.now context.now.scope.now
+        (holes context.now.within.now at (fillings filled.now) tys.now) exp_of result }
+{
+    let mut all = Row::new(context.alloc);
+    let mut rest = tys;
+    for filling in filled {
+        let Some((ty, others)) = rest.split_first() else {
+            return Ok(all);
+        };
+        let one = hole(context, ask, at, filling, ty)?;
+        all.push(one.exp.into_inner())?;
+        rest = others;
+    }
+    Ok(all)
+}

@@ -1,0 +1,228 @@
+//! The rows of records and of notation.
+
+ghost use Rattle.std.specs.Prelude.{◌≡◌, ◌∷◌, List, ℕ, Err, IfOk, MatchOption, None};
+ghost use Rattle.st_num.specs.declared.rule.RuleId.TheVariants.{Y2};
+ghost use Rattle.st_elaboration.specs.declared.fault.ExpFault.TheVariants as fault;
+ghost use Rattle.std.specs.Option.{option_map};
+ghost use Rattle.st_il.specs.declared.ty.Ty.{Ty, out-Ty};
+ghost use Rattle.st_il.specs.declared.ty.Ty.TheVariants as typ;
+ghost use Rattle.st_types.specs.Cases.{HasCases, HasFields};
+ghost use Rattle.st_types.specs.Meaning.{Means, fields_of};
+ghost use Rattle.st_notation.specs.declared.filled.Shape.{Shape};
+ghost use Rattle.st_notation.specs.Fits.{Filling};
+ghost use Rattle.st_notation.specs.Fitted.{plain, fillings};
+ghost use Rattle.st_elaboration.specs.Records.{is_omissible, omitted, aligned, field_names, fields_of_record, record_row, case_row, notation_row};
+ghost use Rattle.st_elab_row.specs.Asking.{AnswersAll, LeadsTo};
+
+use crate::collection::{all_holes, other_row};
+use st_el::Exp;
+use st_elab_row::asking::{Asking, Context, Found, Part};
+use st_elab_row::choice::{chosen_case, fill, shapes_of};
+use st_elab_row::fitting::give_at;
+use st_elab_row::record::field_types;
+use st_elaboration::{ExpFault, Within};
+use st_il::{IlExp, Ty};
+use st_notation::{Filled, Shape};
+use st_num::{Name, NoMemory, Row, RuleId, Span};
+use st_types::CaseDef;
+use std::alloc::Global;
+
+/// Whether a field of this shape may be left out.
+fn is_omissible(shape: Shape) -> bool
+    ensures { result ≡ is_omissible shape }
+{
+    match shape {
+        Shape::Plain => false,
+        Shape::List | Shape::Opt => true,
+    }
+}
+
+/// What fills a declared field, and the written fields behind it.
+#[derive(Clone, Copy)]
+struct Placed<'e> {
+    filling: Filled<'e>,
+    rest: &'e [(Name, Exp)],
+}
+
+/// The first written field, where it has this name.
+fn first_named<'e>(name: &Name, written: &'e [(Name, Exp)]) -> Option<Placed<'e>>
+    ensures { (names : List (List ℕ)) (s : Shape) (ss : List Shape) → MatchOption result
+        (aligned (name.now ∷ names) (s ∷ ss) written.now
+        ≡ omitted s (aligned names ss written.now))
+        (λ placed. aligned (name.now ∷ names) (s ∷ ss) written.now
+        ≡ option_map (λ (fs : List Filling). plain placed.filling ∷ fs)
+        (aligned names ss placed.rest.now)) }
+{
+    let (first, rest) = written.split_first()?;
+    if *name == first.0 {
+        return Some(Placed {
+            filling: Filled::One(&first.1),
+            rest,
+        });
+    }
+    None
+}
+
+/// The first written field fills the declared field of this name, or else it is left out.
+fn place_field<'e>(name: &Name, shape: Shape, written: &'e [(Name, Exp)]) -> Option<Placed<'e>>
+    ensures { (names : List (List ℕ)) (ss : List Shape) → MatchOption result
+        (aligned (name.now ∷ names) (shape ∷ ss) written.now ≡ None)
+        (λ placed. aligned (name.now ∷ names) (shape ∷ ss) written.now
+        ≡ option_map (λ (fs : List Filling). plain placed.filling ∷ fs)
+        (aligned names ss placed.rest.now)) }
+{
+    if let Some(placed) = first_named(name, written) {
+        return Some(placed);
+    }
+    if is_omissible(shape) {
+        return Some(Placed {
+            filling: Filled::Missing,
+            rest: written,
+        });
+    }
+    None
+}
+
+/// What fills the declared fields, in their order.
+fn aligned<'e>(
+    alloc: Global,
+    fields: &[(Name, Ty)],
+    shapes: &[Shape],
+    written: &'e [(Name, Exp)],
+) -> Result<Option<Row<Filled<'e>>>, NoMemory>
+    ensures { IfOk result (λ found. option_map fillings found
+        ≡ aligned (field_names fields.now) shapes.now written.now) }
+{
+    let mut filled = Row::new(alloc);
+    let mut left = shapes;
+    let mut rest = written;
+    for field in fields {
+        let Some((shape, others)) = left.split_first() else {
+            return Ok(None);
+        };
+        let Some(placed) = place_field(&field.0, *shape, rest) else {
+            return Ok(None);
+        };
+        filled.push(placed.filling)?;
+        left = others;
+        rest = placed.rest;
+    }
+    if rest.is_empty() {
+        return Ok(Some(filled));
+    }
+    Ok(None)
+}
+
+/// The written fields, at the record type of this name.
+fn fields_of_record<F: Fn(&Within, &Asking<'_>) -> Result<Found, ExpFault>>(
+    context: &Context<'_>,
+    ask: &F,
+    at: Span,
+    name: &Name,
+    written: &[(Name, Exp)],
+    ty: &Ty,
+    fields: &[(Name, Ty)],
+) -> Result<Found, ExpFault>
+    requires callable { F.IsAlwaysCallable ask.now }
+    requires answers { AnswersAll context.now (F.post ask.now) }
+    ensures { LeadsTo context.now (fields_of_record context.now.within.now at name.now written.now
+        ty.now fields.now) result }
+{
+    let tys = field_types(context.alloc, fields)?;
+    let shapes = shapes_of(context.alloc, &context.decls.types, tys.as_slice())?;
+    let Some(filled) = aligned(context.alloc, fields, shapes.as_slice(), written)? else {
+        return Err(ExpFault::Refused {
+            at,
+            rule: RuleId::Y4,
+        });
+    };
+    let all = all_holes(context, ask, at, filled.as_slice(), tys.as_slice())?;
+    let exp = IlExp::Fields(name.copy(context.alloc)?, all);
+    let given = give_at(context.alloc, exp, ty)?;
+    Ok(given)
+}
+
+/// A record, at a type of this meaning.
+pub fn record_row<F: Fn(&Within, &Asking<'_>) -> Result<Found, ExpFault>>(
+    context: &Context<'_>,
+    ask: &F,
+    part: &Part<'_>,
+    written: &[(Name, Exp)],
+    ty: &Ty,
+    meaning: &Ty,
+) -> Result<Found, ExpFault>
+    requires callable { F.IsAlwaysCallable ask.now }
+    requires answers { AnswersAll context.now (F.post ask.now) }
+    requires means { Means context.now.decls.now.types ty.now meaning.now }
+    ensures { LeadsTo context.now (record_row context.now.decls.now context.now.within.now
+        part.now.at part.now.in_parentheses part.now.exp.now written.now ty.now meaning.now)
+        result }
+{
+    match ty {
+        Ty::Name(name) => match context.decls.types.fields(ty) {
+            Some(fields) => fields_of_record(context, ask, part.at, name, written, ty, fields),
+            None => other_row(context, ask, part, ty, meaning),
+        },
+        _ => other_row(context, ask, part, ty, meaning),
+    }
+}
+
+/// The case of a variant of this name that the expression is.
+fn case_row<F: Fn(&Within, &Asking<'_>) -> Result<Found, ExpFault>>(
+    context: &Context<'_>,
+    ask: &F,
+    part: &Part<'_>,
+    ty: &Ty,
+    cases: &[CaseDef],
+) -> Result<Found, ExpFault>
+    requires callable { F.IsAlwaysCallable ask.now }
+    requires answers { AnswersAll context.now (F.post ask.now) }
+    requires has { HasCases context.now.decls.now.types ty.now cases.now }
+    ensures { LeadsTo context.now
+        (case_row context.now.within.now part.now.at part.now.exp.now ty.now) result }
+{
+    let Ty::Name(name) = ty else {
+        return unfit(part.at);
+    };
+    let Some(case) = chosen_case(context.alloc, cases, part.exp)? else {
+        return unfit(part.at);
+    };
+    let Some(filled) = fill(context.alloc, &context.decls.types, case, part.exp)? else {
+        return unfit(part.at);
+    };
+    let operands = case.operands.as_slice();
+    let all = all_holes(context, ask, part.at, filled.as_slice(), operands)?;
+    let name = name.copy(context.alloc)?;
+    let tag = case.tag.copy(context.alloc)?;
+    let given = give_at(context.alloc, IlExp::Case(name, tag, all), ty)?;
+    Ok(given)
+}
+
+/// The expression is no case of the type.
+fn unfit(at: Span) -> Result<Found, ExpFault>
+    ensures { result ≡ Err (fault.Refused at Y2) }
+{
+    Err(ExpFault::Refused {
+        at,
+        rule: RuleId::Y2,
+    })
+}
+
+/// An atom, a sequence, a sign of notation or a bracket, at a type of this meaning.
+pub fn notation_row<F: Fn(&Within, &Asking<'_>) -> Result<Found, ExpFault>>(
+    context: &Context<'_>,
+    ask: &F,
+    part: &Part<'_>,
+    ty: &Ty,
+    meaning: &Ty,
+) -> Result<Found, ExpFault>
+    requires callable { F.IsAlwaysCallable ask.now }
+    requires answers { AnswersAll context.now (F.post ask.now) }
+    ensures { LeadsTo context.now (notation_row context.now.within.now part.now.at
+        part.now.in_parentheses part.now.exp.now ty.now meaning.now) result }
+{
+    match context.decls.types.cases(ty) {
+        Some(cases) => case_row(context, ask, part, ty, cases.as_slice()),
+        None => other_row(context, ask, part, ty, meaning),
+    }
+}

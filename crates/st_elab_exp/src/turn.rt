@@ -1,0 +1,157 @@
+//! The rows of iterations.
+
+ghost use Rattle.std.specs.Prelude.{◌≡◌, IfOk};
+ghost use Rattle.st_el.specs.declared.expression.Count.{out-Count};
+ghost use Rattle.st_il.specs.declared.ty.Ty.{out-Ty};
+ghost use Rattle.st_il.specs.declared.expression.IlExp.TheVariants as il;
+ghost use Rattle.st_elaboration.specs.Iterations.{inside, iterated_type};
+ghost use Rattle.st_elaboration.specs.Collections.{counted_at, iteration, body_row, iteration_row};
+ghost use Rattle.st_elaboration.specs.Inferred.{inferred_iteration};
+ghost use Rattle.st_elab_row.specs.Asking.{AnswersAll, LeadsTo};
+ghost use Rattle.st_elab_row.specs.Told.{Reaches};
+
+use crate::collection::other_row;
+use st_el::{Count, Exp};
+use st_elab_row::ask::{asked, asked_inside, found_inside};
+use st_elab_row::asking::{Asking, Context, Found, Part, give};
+use st_elab_row::form::goes_over_list;
+use st_elab_row::iteration::{inside, iterated, kind_of};
+use st_elaboration::{ExpFault, Within};
+use st_il::{IlExp, Iteration, Ty, copy_ty};
+use st_num::{Boxed, Kind, NoMemory};
+use std::alloc::Global;
+
+/// The type of an iteration whose body has this type.
+fn iterated_type(alloc: Global, count: &Count, body: Ty) -> Result<Ty, NoMemory>
+    ensures { IfOk result (λ ty. ty ≡ iterated_type count.now body) }
+{
+    let body = Boxed::new(alloc, body)?;
+    match kind_of(count) {
+        Kind::List => Ok(Ty::List(body)),
+        Kind::Opt => Ok(Ty::Opt(body)),
+    }
+}
+
+/// How often an iteration goes; the count stands outside of it.
+fn counted<F: Fn(&Within, &Asking<'_>) -> Result<Found, ExpFault>>(
+    context: &Context<'_>,
+    ask: &F,
+    count: &Count,
+) -> Result<Iteration, ExpFault>
+    requires callable { F.IsAlwaysCallable ask.now }
+    requires answers { AnswersAll context.now (F.post ask.now) }
+    ensures { Reaches context.now.decls.now context.now.scope.now
+        (counted_at context.now.within.now (out-Count count.now)) (λ times. times) result }
+{
+    match count {
+        Count::Star => Ok(Iteration::Star),
+        Count::Plus => Ok(Iteration::Plus),
+        Count::Quest => Ok(Iteration::Quest),
+        Count::Times(number) => {
+            let number = asked(context, ask, number.get(), &Ty::Nat)?;
+            Ok(Iteration::Times(number.exp))
+        }
+        Count::Below(index, number) => {
+            let number = asked(context, ask, number.get(), &Ty::Nat)?;
+            Ok(Iteration::Below(index.copy(context.alloc)?, number.exp))
+        }
+    }
+}
+
+/// An iteration with this body, of this type.
+fn iteration<F: Fn(&Within, &Asking<'_>) -> Result<Found, ExpFault>>(
+    context: &Context<'_>,
+    ask: &F,
+    inner: &Within,
+    count: &Count,
+    body: Boxed<IlExp>,
+    ty: Ty,
+) -> Result<Found, ExpFault>
+    requires callable { F.IsAlwaysCallable ask.now }
+    requires answers { AnswersAll context.now (F.post ask.now) }
+    requires inside { inner.now ≡ inside context.now.within.now count.now }
+    ensures { LeadsTo context.now
+        (iteration context.now.scope.now context.now.within.now count.now body ty) result }
+{
+    let times = counted(context, ask, count)?;
+    let names = iterated(
+        context.alloc,
+        context.scope,
+        context.within,
+        inner,
+        body.get(),
+    )?;
+    let given = give(context.alloc, IlExp::Iter(times, names, body), ty)?;
+    Ok(given)
+}
+
+/// An iteration whose body is asked at a type.
+fn body_row<F: Fn(&Within, &Asking<'_>) -> Result<Found, ExpFault>>(
+    context: &Context<'_>,
+    ask: &F,
+    body: &Exp,
+    count: &Count,
+    element: &Ty,
+    ty: &Ty,
+) -> Result<Found, ExpFault>
+    requires callable { F.IsAlwaysCallable ask.now }
+    requires answers { AnswersAll context.now (F.post ask.now) }
+    ensures { LeadsTo context.now (body_row context.now.scope.now context.now.within.now body.now
+        count.now element.now ty.now) result }
+{
+    let inner = inside(context.alloc, context.within, count)?;
+    let one = asked_inside(context, ask, &inner, body, element)?;
+    let ty = copy_ty(context.alloc, ty)?;
+    iteration(context, ask, &inner, count, one.exp, ty)
+}
+
+/// An iteration: by `* + ^` at a list, by `?` at an option.
+pub fn iteration_row<F: Fn(&Within, &Asking<'_>) -> Result<Found, ExpFault>>(
+    context: &Context<'_>,
+    ask: &F,
+    part: &Part<'_>,
+    body: &Exp,
+    count: &Count,
+    ty: &Ty,
+    meaning: &Ty,
+) -> Result<Found, ExpFault>
+    requires callable { F.IsAlwaysCallable ask.now }
+    requires answers { AnswersAll context.now (F.post ask.now) }
+    ensures { LeadsTo context.now (iteration_row context.now.scope.now context.now.within.now
+        part.now.at part.now.in_parentheses part.now.exp.now body.now count.now ty.now
+        (out-Ty meaning.now)) result }
+{
+    match meaning {
+        Ty::List(of) => {
+            if goes_over_list(count) {
+                return body_row(context, ask, body, count, of.get(), ty);
+            }
+            other_row(context, ask, part, ty, meaning)
+        }
+        Ty::Opt(of) => {
+            if goes_over_list(count) {
+                return other_row(context, ask, part, ty, meaning);
+            }
+            body_row(context, ask, body, count, of.get(), ty)
+        }
+        _ => other_row(context, ask, part, ty, meaning),
+    }
+}
+
+/// An iteration of an inferable expression.
+pub fn inferred_iteration<F: Fn(&Within, &Asking<'_>) -> Result<Found, ExpFault>>(
+    context: &Context<'_>,
+    ask: &F,
+    body: &Exp,
+    count: &Count,
+) -> Result<Found, ExpFault>
+    requires callable { F.IsAlwaysCallable ask.now }
+    requires answers { AnswersAll context.now (F.post ask.now) }
+    ensures { LeadsTo context.now (inferred_iteration context.now.scope.now
+        context.now.within.now body.now count.now) result }
+{
+    let inner = inside(context.alloc, context.within, count)?;
+    let one = found_inside(context, ask, &inner, body)?;
+    let ty = iterated_type(context.alloc, count, one.ty)?;
+    iteration(context, ask, &inner, count, one.exp, ty)
+}
