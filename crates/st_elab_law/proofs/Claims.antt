@@ -1,0 +1,68 @@
+-- What the law claims of each question.
+use Rattle.std.specs.Prelude.{◌≡◌, ◌⊎◌, List, [], ◌∷◌, map, Bool, true}
+use Rattle.st_el.specs.declared.expression.Exp.{Exp}
+use Rattle.st_el.specs.Plain.{plain_exp}
+use Rattle.st_il.specs.declared.definition.IlDef.{IlDef}
+use Rattle.st_il.specs.declared.ty.Ty.{Ty}
+use Rattle.st_il.specs.declared.ty.Ty.TheVariants as ty
+use Rattle.st_types.specs.Meaning.{Means}
+use Rattle.st_notation.specs.Fits.{Filling, one, run, missing}
+use Rattle.st_erase.specs.declared.erased.Erased.{Erased}
+use Rattle.st_erase.specs.declared.erased.Kind.{Kind}
+use Rattle.st_erase.specs.declared.erased.Kind.TheVariants as kind
+use Rattle.st_erase.specs.Places.{run as run_of}
+use Rattle.st_erase.specs.Erasure.{erased}
+use Rattle.st_elaboration.specs.declared.decls.Decls.{Decls}
+use Rattle.st_elaboration.specs.Questions.{Question, check, infer, item, hole, Made}
+
+-- ---- kinds
+
+-- it is written
+abbrev pub IsPresent : Kind → Type 0
+IsPresent kind.Absent = ⊥
+IsPresent k = Unit {0}
+
+-- it is written as one element
+abbrev pub IsSingle : Kind → Type 0
+IsSingle kind.Absent = ⊥
+IsSingle kind.Run = ⊥
+IsSingle k = Unit {0}
+
+-- ---- claims
+
+-- What is erased is this expression, once both are plain.
+abbrev pub IsSource : Erased → Exp → Type 0
+IsSource x e = plain_exp x.exp ≡ plain_exp e
+
+-- It is that and is written, as one element where it stands alone.
+pub record IsWritten (Alone : Type 0) (x : Erased) (e : Exp) : Type 0 where
+  pub same : IsSource x e
+  pub present : IsPresent x.kind
+  pub single : Alone → IsSingle x.kind
+
+abbrev pub IsNoList : Decls → Ty → Type 0
+IsNoList D t = (x : Ty) → Means D.types t (ty.List x) → ⊥
+
+-- An expression is one element where it stands in parentheses or is asked at no list type.
+abbrev pub IsAlone : Decls → Bool → Ty → Type 0
+IsAlone D p t = (p ≡ true) ⊎ IsNoList D t
+
+-- what is erased fills the hole, in which it is one element where it stands alone
+abbrev pub IsFilledBy : Type 0 → Filling → Erased → Type 0
+IsFilledBy Alone (one e) x = IsWritten Alone x e
+IsFilledBy Alone (run es) x = map plain_exp (run_of x) ≡ map plain_exp es
+IsFilledBy Alone missing x = x.kind ≡ kind.Absent
+
+module _ (defs : List IlDef) (D : Decls) where
+  abbrev pub Claim : Question → Made → Type 0
+  Claim (check w at p e t) m = IsWritten (IsAlone D p t) (erased defs m.exp) e
+  Claim (infer w at e) m = IsWritten (Unit {0}) (erased defs m.exp) e
+  Claim (item w t element e) m = IsSource (erased defs m.exp) e
+  Claim (hole w at filling t) m = IsFilledBy (IsNoList D t) filling (erased defs m.exp)
+
+-- the claims of several questions
+abbrev pub Claims : (Question → Made → Type 0) → List Question → List Made → Type 0
+Claims P [] [] = Unit {0}
+Claims P (q ∷ qs) (m ∷ ms) = P q m × Claims P qs ms
+Claims P [] (m ∷ ms) = ⊥
+Claims P (q ∷ qs) [] = ⊥

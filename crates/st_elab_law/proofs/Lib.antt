@@ -1,0 +1,13 @@
+pub mod Claims
+pub mod Plainness
+pub mod Erasings
+pub mod Writing
+pub mod Keeping
+pub mod Operating
+pub mod Walking
+pub mod Listing
+pub mod Agreeing
+pub mod Recording
+pub mod Fitting
+pub mod Casing
+pub mod Table

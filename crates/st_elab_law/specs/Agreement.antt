@@ -1,0 +1,58 @@
+-- When elaboration and erasure look in the same definitions.
+use Rattle.std.specs.Prelude.{◌≡◌, List, [], ◌∷◌, length}
+use Rattle.std.specs.List.{AllByRecursion}
+use Rattle.st_il.specs.declared.definition.Il.{Il}
+use Rattle.st_il.specs.declared.definition.IlDef.{IlDef}
+use Rattle.st_il.specs.declared.definition.IlDef.TheVariants as def
+use Rattle.st_il.specs.declared.definition.SyntaxDef.{SyntaxDef}
+use Rattle.st_il.specs.declared.definition.SyntaxBody.{SyntaxBody}
+use Rattle.st_il.specs.declared.definition.SyntaxBody.TheVariants as body
+use Rattle.st_il.specs.declared.definition.Alternative.{Alternative}
+use Rattle.st_il.specs.declared.definition.Alternative.TheVariants as alternative
+use Rattle.st_il.specs.declared.template.Template.{Template}
+use Rattle.st_il.specs.Template.{HasTag}
+use Rattle.st_types.specs.declared.entry.CaseDef.{CaseDef}
+use Rattle.st_notation.specs.Fits.{holes}
+use Rattle.st_elaboration.specs.declared.decls.Decls.{Decls}
+
+-- ---- the table of types
+
+abbrev pub with_syntax : IlDef → List SyntaxDef → List SyntaxDef
+with_syntax (def.Syntax syntax) later = syntax ∷ later
+with_syntax _ later = later
+
+-- the syntaxes among definitions, in their order
+abbrev pub syntaxes : List IlDef → List SyntaxDef
+syntaxes [] = []
+syntaxes (d ∷ ds) = with_syntax d (syntaxes ds)
+
+-- the types that are declared are the syntaxes of these definitions
+abbrev pub IsTableOf : List IlDef → Decls → Type 0
+IsTableOf defs D = D.types ≡ syntaxes defs
+
+-- ---- notations and their operands
+
+-- the case has an operand for each hole of its notation
+abbrev pub HasItsOperands : CaseDef → Type 0
+HasItsOperands c = (t : Template) → HasTag t c.tag → length c.operands ≡ holes t
+
+abbrev pub HoldsOperands : Alternative → Type 0
+HoldsOperands (alternative.Case tag operands) =
+    HasItsOperands (record { tag = tag; operands = operands })
+HoldsOperands (alternative.Incl name) = Unit {0}
+
+abbrev pub HoldsAll : SyntaxBody → Type 0
+HoldsAll (body.Variant alternatives) = AllByRecursion HoldsOperands alternatives
+HoldsAll _ = Unit {0}
+
+-- so does each case of these syntaxes
+abbrev pub AreWhole : List SyntaxDef → Type 0
+AreWhole = AllByRecursion (λ (d : SyntaxDef). HoldsAll d.body)
+
+-- ---- both
+
+-- The declared types are those of the definitions, and each case has an operand for each hole
+-- of its notation.
+pub record Agrees (il : Il) (D : Decls) : Type 0 where
+  pub table : IsTableOf il.defs D
+  pub whole : AreWhole D.types

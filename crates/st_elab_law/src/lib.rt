@@ -1,0 +1,12 @@
+//! The law of erasure: what is elaborated is erased to the expression that it came from.
+//!
+//! No code stands here that runs. The one idea: the table of `st_elaboration` is read row by row,
+//! and each row keeps what is claimed of the question that it answers.
+//!
+//! Read `specs/Law.antt` first, with `specs/Agreement.antt` for what it asks of the definitions,
+//! and then `proofs/Claims.antt` for what is claimed. The rules are in `docs/elaboration.md`.
+#![tactic(auto)]
+
+mod laws;
+
+pub use laws::erases_back;
