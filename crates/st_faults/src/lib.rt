@@ -17,6 +17,7 @@ mod laws;
 mod nesting;
 mod place;
 mod reader;
+mod refusal;
 mod tally;
 #[cfg(test)]
 mod tests;
@@ -26,3 +27,4 @@ pub use judge::{Seen, Verdict, judge_token, nothing_counted};
 pub use laws::{faults_of_the_grammar, one_fault};
 pub use place::place_at;
 pub use reader::first_fault;
+pub use refusal::SyntaxFault;

@@ -9,8 +9,8 @@ use Rattle.st_faults.specs.Faults.{Faultless, FirstFault}
 use Rattle.st_faults.specs.Place.{place_at}
 use Rattle.st_el.specs.declared.definition.Def.{Def}
 use Rattle.st_meaning.specs.Definitions.{Parse}
-use Rattle.st_parse.specs.declared.fault.SyntaxFault.{SyntaxFault}
-use Rattle.st_parse.specs.declared.fault.SyntaxFault.TheVariants.{Refused, Memory}
+use Rattle.st_faults.specs.declared.refusal.SyntaxFault.{SyntaxFault}
+use Rattle.st_faults.specs.declared.refusal.SyntaxFault.TheVariants.{Refused, Memory}
 
 -- The tokens are those of these definitions, and no token has a fault.
 abbrev pub IsSource : List Token → List Def → Type 0

@@ -6,10 +6,8 @@
 //! Read `parser` first, with `specs/Source.antt`. The rules are in `docs/source-trees.md`.
 #![tactic(auto)]
 
-mod fault;
 mod parser;
 #[cfg(test)]
 mod tests;
 
-pub use fault::SyntaxFault;
 pub use parser::parse;

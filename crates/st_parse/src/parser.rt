@@ -10,10 +10,9 @@ ghost use Rattle.st_meaning.specs.Definitions.{defs_meaning};
 ghost use Rattle.st_draft.specs.Drafts as drafts;
 ghost use Rattle.st_parse.specs.Source.{Answers};
 
-use crate::SyntaxFault;
 use st_draft::{Draft, NOWHERE, begun, read_source};
 use st_el::Def;
-use st_faults::{first_fault, place_at};
+use st_faults::{SyntaxFault, first_fault, place_at};
 use st_meaning::BuildFault;
 use st_num::{Name, Row, RuleId};
 use st_reading::declared_names;

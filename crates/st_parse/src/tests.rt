@@ -1,6 +1,7 @@
 //! Short sources of one line, with what is parsed counted by hand.
 
-use crate::{SyntaxFault, parse};
+use crate::parse;
+use st_faults::SyntaxFault;
 use st_num::RuleId;
 use st_scan::{Token, scan};
 use std::alloc::Global;

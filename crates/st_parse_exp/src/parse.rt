@@ -14,15 +14,14 @@ ghost use Rattle.st_reading.specs.Course as course;
 ghost use Rattle.st_reading.specs.Readings.{progress_of};
 ghost use Rattle.st_emit.specs.Emits as emits;
 ghost use Rattle.st_faults.specs.Place as place;
-ghost use Rattle.st_parse_exp.specs.declared.fault.SyntaxFault.TheVariants as fault;
+ghost use Rattle.st_faults.specs.declared.refusal.SyntaxFault.TheVariants as fault;
 ghost use Rattle.st_parse_exp.specs.Drafts.{AreBuilt};
 ghost use Rattle.st_parse_exp.specs.Parse.{AreWhole, Answers};
 
 use crate::draft::{end, take};
-use crate::fault::SyntaxFault;
 use crate::judge::{begin, judge_next};
 use st_el::Exp;
-use st_faults::{Verdict, place_at};
+use st_faults::{SyntaxFault, Verdict, place_at};
 use st_meaning::Action;
 use st_num::{Name, Row, RuleId};
 use st_reading::{Progress, may_end, token_lexeme};

@@ -1,7 +1,8 @@
 //! Short texts of expressions, with the columns of the faults counted by hand.
 
-use crate::{SyntaxFault, parse_exp};
+use crate::parse_exp;
 use st_el::{Exp, print_el};
+use st_faults::SyntaxFault;
 use st_num::{NoMemory, RuleId};
 use st_scan::{Token, scan};
 use std::alloc::{AllocError, Global};

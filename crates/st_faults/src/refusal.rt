@@ -1,12 +1,12 @@
 //! Why tokens have no source trees.
 
 ghost use Rattle.std.specs.Prelude.{◌≡◌};
-ghost use Rattle.st_parse.specs.declared.fault.SyntaxFault.TheVariants.{Memory};
+ghost use Rattle.st_faults.specs.declared.refusal.SyntaxFault.TheVariants.{Memory};
 
 use st_num::{NoMemory, RuleId, Span};
 use thiserror::Error;
 
-/// Why tokens have no source trees.
+/// Why tokens have no source trees: S1 to S4 where they are refused, or want of memory.
 #[derive(Debug, Drop, PartialEq, Eq, Error)]
 pub enum SyntaxFault {
     #[error("refused")]
