@@ -13,7 +13,6 @@ use Rattle.st_num.specs.declared.mark.Mark.{Mark}
 use Rattle.st_num.specs.declared.mark.Mark.TheVariants as mark
 use Rattle.st_scan.specs.Bytes.{is_letter, is_name_part}
 use Rattle.st_scan.specs.Spelling.{Spells, is_name, quoted, has_lower}
-use Rattle.st_scan.specs.Tokens.{IsInRange}
 use Rattle.st_scan.specs.Words.{word_spelling}
 use Rattle.st_scan.specs.declared.word.Word.{Word}
 use Rattle.st_scan.specs.declared.word.Word.TheVariants as word
@@ -38,7 +37,7 @@ use Rattle.st_el.specs.SourceText.{front, postfix, parts_printed, opened as prin
 use Rattle.st_el.specs.Plain.{nowhere, plain_exp, plain_node}
 use Rattle.st_meaning.specs.Names.{leaf_node}
 use Rattle.st_meaning.specs.Meaning.{exp, meaning, is_atom, opened}
-use Rattle.st_read_back.specs.Written.{token, bytes_of}
+use Rattle.st_read_back.specs.Written.{token, bytes_of, IsAllowed}
 use Rattle.st_read_back.proofs.Cuts.{single, one_lexeme}
 use Rattle.st_read_back.proofs.Ends.{Front, letter_front, is_word, word_ends}
 use Rattle.st_read_back.proofs.Plains.{plain-exp, node-of}
@@ -115,7 +114,7 @@ leaf_no_atom k kd x e h = ap (λ n. is_atom (out-Node n)) (node-of x.at (leaf_no
 -- the token of an operand, and its bytes
 pub record OneWord (names : List (List ℕ)) (k : Leaf) (kd : TokenKind) (bytes : List ℕ) : Type 0 where
   pub spelled : Spells bytes kd
-  pub in_range : IsInRange kd
+  pub allowed : IsAllowed kd
   pub word : is_word kd ≡ true
   pub front : (a : Bool) → Front a bytes
   pub seen : (x : Token) → kind_lexeme names kd x ≡ leaf k x
@@ -129,7 +128,7 @@ leaf_part names σ at k kd traits bytes w taken under dots = record {
   same = append-nil bytes;
   ends = λ b. refl;
   front = w.front (is_arithmetic σ);
-  apart = λ more c a. (w.spelled, w.in_range, word_ends kd traits.plus (bytes_of more) w.word c, a);
+  apart = λ more c a. (w.spelled, w.allowed, word_ends kd traits.plus (bytes_of more) w.word c, a);
   reads = λ b xs s. let x = single xs kd b s in record {
     tree = operand k x.only;
     spelled = one_lexeme names xs kd b x ∙ ap (λ l. l ∷ []) (w.seen x.only);
@@ -164,9 +163,9 @@ leaf_printable names σ at k kd bytes l is tight ok dots text w taken =
 
 -- ---- each operand
 
--- some text spells the token
+-- some text spells the token, which a file may have
 abbrev pub IsWritten : TokenKind → Type 0
-IsWritten kd = (bytes : List ℕ) × Spells bytes kd × IsInRange kd
+IsWritten kd = (bytes : List ℕ) × Spells bytes kd × IsAllowed kd
 
 name_front : (n : List ℕ) (a : Bool) → IsTrue (is_name n) → Front a n
 name_front [] a h = absurd (cc)
@@ -203,19 +202,19 @@ word_front : (w : List ℕ) (b : ℕ) (rest : List ℕ) (a : Bool) → w ≡ b �
 word_front w b rest a e h = subst (Front a) (sym e) (letter_front a b rest h)
 
 pub leaf_word : (names : List (List ℕ)) (k : Leaf) (kd : TokenKind) → IsLeaf names k kd → IsWritten kd → OneWord names k kd (canonical kd)
-leaf_word names _ _ (a_low n) w = record { spelled = (refl, w.1.1, w.1.2, w.1.3); in_range = tt; word = refl; front = λ a. name_front n a w.1.1; seen = λ x. refl }
-leaf_word names _ _ (a_variable n v) w = record { spelled = (refl, w.1.1, w.1.2); in_range = tt; word = refl; front = λ a. name_front n a w.1.1; seen = λ x. ap (λ t. if t then leaf variable x else leaf atom x) v }
-leaf_word names _ _ (an_atom n v) w = record { spelled = (refl, w.1.1, w.1.2); in_range = tt; word = refl; front = λ a. name_front n a w.1.1; seen = λ x. ap (λ t. if t then leaf variable x else leaf atom x) v }
-leaf_word names _ _ a_bool w = record { spelled = refl; in_range = tt; word = refl; front = λ a. letter_front a 98 _ refl; seen = λ x. refl }
-leaf_word names _ _ a_nat w = record { spelled = refl; in_range = tt; word = refl; front = λ a. letter_front a 110 _ refl; seen = λ x. refl }
-leaf_word names _ _ an_int w = record { spelled = refl; in_range = tt; word = refl; front = λ a. letter_front a 105 _ refl; seen = λ x. refl }
-leaf_word names _ _ a_text_type w = record { spelled = refl; in_range = tt; word = refl; front = λ a. letter_front a 116 _ refl; seen = λ x. refl }
-leaf_word names _ _ a_true w = record { spelled = refl; in_range = tt; word = refl; front = λ a. letter_front a 116 _ refl; seen = λ x. refl }
-leaf_word names _ _ a_false w = record { spelled = refl; in_range = tt; word = refl; front = λ a. letter_front a 102 _ refl; seen = λ x. refl }
-leaf_word names _ _ an_eps w = record { spelled = refl; in_range = tt; word = refl; front = λ a. letter_front a 101 _ refl; seen = λ x. refl }
-leaf_word names _ _ (a_number n) w = record { spelled = number_written n w.2; in_range = w.2; word = refl; front = λ a. numeral_front (decimal n) a (decimal_is_IsNumeral_wide n (omega (arith, w.2))).0; seen = λ x. refl }
-leaf_word names _ _ (a_text t) w = record { spelled = (refl, w.1.1); in_range = tt; word = refl; front = λ a. record { first = 34; rest = _; is = refl; no_semicolon = refl; no_minus = λ _. refl }; seen = λ x. refl }
-leaf_word names _ _ (a_function n) w = record { spelled = (refl, w.1.1, w.1.2); in_range = tt; word = refl; front = λ a. record { first = 36; rest = _; is = refl; no_semicolon = refl; no_minus = λ _. refl }; seen = λ x. refl }
+leaf_word names _ _ (a_low n) w = record { spelled = (refl, w.1.1, w.1.2, w.1.3); allowed = tt; word = refl; front = λ a. name_front n a w.1.1; seen = λ x. refl }
+leaf_word names _ _ (a_variable n v) w = record { spelled = (refl, w.1.1, w.1.2); allowed = tt; word = refl; front = λ a. name_front n a w.1.1; seen = λ x. ap (λ t. if t then leaf variable x else leaf atom x) v }
+leaf_word names _ _ (an_atom n v) w = record { spelled = (refl, w.1.1, w.1.2); allowed = tt; word = refl; front = λ a. name_front n a w.1.1; seen = λ x. ap (λ t. if t then leaf variable x else leaf atom x) v }
+leaf_word names _ _ a_bool w = record { spelled = refl; allowed = tt; word = refl; front = λ a. letter_front a 98 _ refl; seen = λ x. refl }
+leaf_word names _ _ a_nat w = record { spelled = refl; allowed = tt; word = refl; front = λ a. letter_front a 110 _ refl; seen = λ x. refl }
+leaf_word names _ _ an_int w = record { spelled = refl; allowed = tt; word = refl; front = λ a. letter_front a 105 _ refl; seen = λ x. refl }
+leaf_word names _ _ a_text_type w = record { spelled = refl; allowed = tt; word = refl; front = λ a. letter_front a 116 _ refl; seen = λ x. refl }
+leaf_word names _ _ a_true w = record { spelled = refl; allowed = tt; word = refl; front = λ a. letter_front a 116 _ refl; seen = λ x. refl }
+leaf_word names _ _ a_false w = record { spelled = refl; allowed = tt; word = refl; front = λ a. letter_front a 102 _ refl; seen = λ x. refl }
+leaf_word names _ _ an_eps w = record { spelled = refl; allowed = tt; word = refl; front = λ a. letter_front a 101 _ refl; seen = λ x. refl }
+leaf_word names _ _ (a_number n) w = record { spelled = number_written n w.2; allowed = w.2; word = refl; front = λ a. numeral_front (decimal n) a (decimal_is_IsNumeral_wide n (omega (arith, w.2))).0; seen = λ x. refl }
+leaf_word names _ _ (a_text t) w = record { spelled = (refl, w.1.1); allowed = w.2; word = refl; front = λ a. record { first = 34; rest = _; is = refl; no_semicolon = refl; no_minus = λ _. refl }; seen = λ x. refl }
+leaf_word names _ _ (a_function n) w = record { spelled = (refl, w.1.1, w.1.2); allowed = tt; word = refl; front = λ a. record { first = 36; rest = _; is = refl; no_semicolon = refl; no_minus = λ _. refl }; seen = λ x. refl }
 
 word_printed :
     (names : List (List ℕ)) (σ : Sort) (at : Span) (w : Word) → IsLeaf names basic (kind.Reserved w) → IsWritten (kind.Reserved w) → takes σ basic ≡ true

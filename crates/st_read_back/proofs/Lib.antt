@@ -1,4 +1,5 @@
 mod Longest
+mod Encodings
 mod Scanned
 pub mod Cuts
 pub mod Plains

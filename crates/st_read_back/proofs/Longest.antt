@@ -64,7 +64,7 @@ digits_parts radix [] h all = refl
 digits_parts radix (b ∷ bs) h all =
     and_from (is_name_part b) (list_all is_name_part bs) (digit_part b (omega (arith, h, all.0))) (digits_parts radix bs h all.1)
 
-number_parts : (text : List ℕ) (n : ℕ) → SpellsNumber text n → list_all is_name_part text ≡ true
+pub number_parts : (text : List ℕ) (n : ℕ) → SpellsNumber text n → list_all is_name_part text ≡ true
 number_parts text n (inl s) = digits_parts 10 text (omega arith) s.0.1
 number_parts text n (inr s) = ap (list_all is_name_part) s.1 ∙ digits_parts 16 s.0 (omega arith) s.2.0.1
 

@@ -2,16 +2,17 @@
 use Rattle.std.proofs.Common.{◌≡◌, ℕ, ◌<◌, List, [], ◌∷◌, ◌++◌, length, map, Bool, true, false, refl, sym, ap, ◌∙◌, subst, arith, ◌==◌}
 use Rattle.std.proofs.lemmas.Bool.{ne_eqb}
 use Rattle.std.proofs.lemmas.Bool.Decides.{Decides-eqb}
-use Rattle.std.specs.Str.{IsUtf8}
 use Rattle.st_scan.specs.declared.token.Token.{Token}
 use Rattle.st_scan.specs.declared.token.TokenKind.{TokenKind}
+use Rattle.st_scan.specs.declared.token.TokenKind.TheVariants.{Text}
 use Rattle.st_scan.specs.Gaps.{gap, between}
 use Rattle.st_scan.specs.Places.{place}
 use Rattle.st_scan.specs.Spelling.{Spells}
 use Rattle.st_scan.specs.Tokens.{IsInRange, Longest, Next, Run, Tokens}
 use Rattle.st_scan.proofs.Gaps.{gap_blank, gap_empty}
-use Rattle.st_read_back.specs.Written.{Piece, space, token, bytes_of, ends_before, AreApart, shape, shapes, shapes_behind}
+use Rattle.st_read_back.specs.Written.{Piece, space, token, bytes_of, ends_before, IsAllowed, AreApart, shape, shapes, shapes_behind}
 use Rattle.st_read_back.proofs.Longest.{written_longest, token_open, gap_open}
+use Rattle.st_read_back.proofs.Encodings.{apart_utf8}
 
 -- Blanks stand before these bytes in the rest of a file, or nothing does.
 abbrev IsFar : Bool → List ℕ → List ℕ → Type 0
@@ -36,19 +37,23 @@ touches : (t : Bool) (rest xs : List ℕ) → IsFar t rest xs → t ≡ (length 
 touches true rest xs h = sym ((Decides-eqb (length xs) (length rest)).1 (ap length (sym h)))
 touches false rest xs h = sym (ne_eqb (length xs) (length rest) (λ same. absurd (omega (arith, h, same))))
 
+ranged : (k : TokenKind) → IsAllowed k → IsInRange k
+ranged (Text text) a = tt
+ranged _ a = a
+
 module _ (number : ℕ) (file : List ℕ) where
   -- the token at the front of the rest
   abbrev token_at : List ℕ → Bool → TokenKind → Token
   token_at rest t k = record { at = place number file (gap between rest); touching = t; kind = k }
 
   next : (t : Bool) (rest text more : List ℕ) (k : TokenKind) → Before t rest (text ++ more)
-      → Spells text k → IsInRange k → ends_before k more ≡ true → Next number file rest (token_at rest t k) more
-  next t rest text more k before spelled ranged ends =
+      → Spells text k → IsAllowed k → ends_before k more ≡ true → Next number file rest (token_at rest t k) more
+  next t rest text more k before spelled allowed ends =
       let front = before.same ∙ gap_open (text ++ more) (token_open text more k spelled ends) in
       record {
         text = text;
         longest = subst (λ u. Longest u text more k) (sym front) (written_longest text more k spelled ends);
-        in_range = ranged;
+        in_range = ranged k allowed;
         at = refl;
         touching = touches t rest (text ++ more) before.far ∙ ap (λ u. length u == length rest) (sym front);
       }
@@ -76,8 +81,8 @@ module _ (number : ℕ) (file : List ℕ) where
         same = ap (λ us. (k, t) ∷ us) more.same;
       }
 
-pub written_tokens : (number : ℕ) (ps : List Piece) → IsUtf8 (bytes_of ps) → AreApart ps
+pub written_tokens : (number : ℕ) (ps : List Piece) → AreApart ps
     → (tokens : List Token) × Tokens number (bytes_of ps) tokens × (map shape tokens ≡ shapes ps)
-written_tokens number ps utf8 h =
+written_tokens number ps h =
     let found = scanned number (bytes_of ps) true (bytes_of ps) ps (record { same = refl; far = refl }) h in
-    (found.tokens, record { utf8 = utf8; left = found.left; run = found.run; ended = found.ended }, found.same)
+    (found.tokens, record { utf8 = apart_utf8 ps h; left = found.left; run = found.run; ended = found.ended }, found.same)

@@ -2,6 +2,7 @@
 use Rattle.std.specs.Prelude.{ℕ, List, [], ◌∷◌, ◌++◌, Bool, true, false, not, ◌||◌, IsTrue, ⊤}
 use Rattle.std.specs.List.{list_any, starts_with}
 use Rattle.std.specs.Bool.{nat_eq}
+use Rattle.std.specs.Str.{IsUtf8}
 use Rattle.st_num.specs.Signs.{spelling}
 use Rattle.st_num.specs.declared.mark.Mark.{Mark}
 use Rattle.st_num.specs.declared.mark.Mark.TheVariants.{Turnstile, ReverseTurnstile, SquigglyArrowStar, SquigglyArrow, Colon, Subtype, Supertype, Approximately, Define, Semicolon, Arrow, DotDot, Ellipsis, PlusPlus, ExtendBy, Equal, NotEqual, Less, Greater, LessOrEqual, GreaterOrEqual, ElementOf, Tilde, And, Or, Implies, Equivalent, Plus, Minus, Star, Slash, Backslash, Caret, Question, Bar, Comma, DashDash, OpenParen, CloseParen, OpenBracket, CloseBracket, OpenBrace, CloseBrace, OpenArith, TickParen, TickBracket, TickBrace}
@@ -53,12 +54,17 @@ ends_before (Text text) (b ∷ bs) = true
 ends_before (Sign m) (b ∷ bs) = not (runs_on m b)
 ends_before k (b ∷ bs) = not (is_name_part b)
 
--- Each token is spelled by its text and ends where the next piece begins.
+-- A file may have the token: a number is below 2 ^ 128, and a text is UTF-8.
+abbrev pub IsAllowed : TokenKind → Type 0
+IsAllowed (Text text) = IsUtf8 text
+IsAllowed k = IsInRange k
+
+-- Each token is allowed, is spelled by its text and ends where the next piece begins.
 abbrev pub AreApart : List Piece → Type 0
 AreApart [] = ⊤
 AreApart (space ∷ ps) = AreApart ps
 AreApart (token k text ∷ ps) =
-    Spells text k × IsInRange k × IsTrue (ends_before k (bytes_of ps)) × AreApart ps
+    Spells text k × IsAllowed k × IsTrue (ends_before k (bytes_of ps)) × AreApart ps
 
 -- ---- the tokens of pieces
 

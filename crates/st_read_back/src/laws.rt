@@ -1,7 +1,6 @@
 //! Laws of what is written.
 
 ghost use Rattle.std.specs.Prelude.{◌≡◌, ◌∷◌, [], List, ℕ, map};
-ghost use Rattle.std.specs.Str.{IsUtf8};
 ghost use Rattle.st_scan.specs.declared.token.Token.{Token};
 ghost use Rattle.st_scan.specs.Tokens.{Tokens};
 ghost use Rattle.st_el.specs.declared.expression.Exp.{Exp};
@@ -13,7 +12,7 @@ ghost use Rattle.st_read_back.specs.ReadBack.{ReadBack};
 
 /// Tokens that are written apart are the tokens of their bytes.
 pub fn written_tokens()
-    ensures { (number : ℕ) (pieces : List Piece) → IsUtf8 (bytes_of pieces) → AreApart pieces
+    ensures { (number : ℕ) (pieces : List Piece) → AreApart pieces
         → (tokens : List Token) × Tokens number (bytes_of pieces) tokens
         × (map shape tokens ≡ shapes pieces) }
 {}
@@ -23,7 +22,7 @@ pub fn written_tokens()
 pub fn printed_is_read_back()
     ensures some { (names : List (List ℕ)) (number again : ℕ) (file : List ℕ)
         (tokens : List Token) (e : Exp) → Tokens number file tokens
-        → ParseExps names tokens (e ∷ []) → IsUtf8 (source_text e) → ReadBack names again e }
+        → ParseExps names tokens (e ∷ []) → ReadBack names again e }
     ensures each { (names : List (List ℕ)) (number again : ℕ) (file : List ℕ)
         (tokens written : List Token) (e : Exp) → Tokens number file tokens
         → ParseExps names tokens (e ∷ []) → Tokens again (source_text e) written
