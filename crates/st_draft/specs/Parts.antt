@@ -33,7 +33,8 @@ abbrev pub exp_built : List Action → Option Exp
 exp_built actions = option_and_then the_exp (run actions [])
 
 -- what several lists of actions build
-abbrev pub all_built : {A : Type 0} → (List Action → Option A) → List (List Action) → Option (List A)
+abbrev pub all_built : {A : Type 0} → (List Action → Option A) → List (List Action)
+    → Option (List A)
 all_built f [] = Some []
 all_built f (actions ∷ later) =
     option_and_then (λ a. option_map (λ more. a ∷ more) (all_built f later)) (f actions)

@@ -120,7 +120,8 @@ pub(crate) fn no_hint(alloc: Global) -> Hint
 /// A hint ends, and is kept or passed over.
 pub(crate) fn end_hint(alloc: Global, draft: &mut Draft, kept: bool) -> Result<(), NoMemory>
     ensures { IfOk result (λ _. draft.new
-        ≡ spec.with_hints (spec.hints_with kept draft.old.hint draft.old.hints) spec.no_hint draft.old) }
+        ≡ spec.with_hints (spec.hints_with kept draft.old.hint draft.old.hints) spec.no_hint
+        draft.old) }
 {
     let hint = std::mem::replace(&mut draft.hint, no_hint(alloc));
     if kept {

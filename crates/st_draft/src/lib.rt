@@ -1,8 +1,8 @@
 //! The definitions of tokens, read one token after another, and what is kept of them.
 //!
 //! The one idea: what is known of the open definition is a draft, which each token between parts
-//! changes in one small way. Whoever keeps something of the draft, its trees or only what the limits
-//! ask of them, is a sketch, and one reader of the tokens serves each.
+//! changes in one small way. Whoever keeps something of the draft, its trees or only what the
+//! limits ask of them, is a sketch, and one reader of the tokens serves each.
 //!
 //! Read `sketch` and `reader` first, then `step` with `specs/Work.antt`. The rules are in
 //! `docs/source-trees.md`.

@@ -3,6 +3,7 @@
 ghost use Rattle.std.specs.Prelude.{◌≡◌, [], map, Some, IfOk};
 ghost use Rattle.std.specs.Option.{option_map};
 ghost use Rattle.st_meaning.specs.NotationBuilding.{typ_built, notation_built};
+ghost use Rattle.st_meaning.specs.Notations as notations;
 ghost use Rattle.st_draft.specs.Drafts as drafts;
 ghost use Rattle.st_draft.specs.Parts as spec;
 
@@ -10,7 +11,7 @@ use crate::draft::Draft;
 use crate::members::{put_field, put_notation};
 use crate::premise::{put_condition, put_each};
 use crate::sides::{put_exp, put_typ};
-use st_el::{Count, Exp, Typ};
+use st_el::{Count, Exp, NotNode, Notation, Typ};
 use st_meaning::{Action, BuildFault, TokenRef, build, build_notation, build_typ, copy_name};
 use st_num::{Boxed, Mark, Name, NoMemory, Row};
 use st_reading::{Lexeme, Slot, opens_round};
@@ -121,7 +122,8 @@ fn fill_typ(
     draft: &mut Draft,
 ) -> Result<(), BuildFault>
     ensures { IfOk result (λ _.
-        option_map (λ t. drafts.typ_filled slot t draft.old) (typ_built actions.now) ≡ Some draft.new) }
+        option_map (λ t. drafts.typ_filled slot t draft.old) (typ_built actions.now)
+        ≡ Some draft.new) }
 {
     let typ = build_typ(alloc, actions)?;
     match slot {
@@ -131,12 +133,39 @@ fn fill_typ(
     Ok(())
 }
 
+/// A type alone, as a notation.
+fn hole(typ: Typ) -> Notation
+    ensures { result ≡ notations.hole typ }
+{
+    Notation {
+        at: typ.at,
+        node: NotNode::Hole(typ),
+    }
+}
+
+/// The notation of these actions. A type alone may be 100 high, as an alias is, and then it makes a
+/// notation of 101.
+#[tactic(auto, using(crate::proofs::Built::hole_from))]
+fn build_whole(alloc: Global, actions: &[Action<'_>]) -> Result<Notation, BuildFault>
+    ensures { IfOk result (λ notation. notation_built actions.now ≡ Some notation) }
+{
+    match build_notation(alloc, actions) {
+        Err(BuildFault::TooHigh) => {
+            let typ = build_typ(alloc, actions)?;
+            Ok(hole(typ))
+        }
+        Err(fault) => Err(fault),
+        Ok(notation) => Ok(notation),
+    }
+}
+
 /// A notation ends.
 fn fill_notation(alloc: Global, actions: &[Action<'_>], draft: &mut Draft) -> Result<(), BuildFault>
     ensures { IfOk result (λ _.
-        option_map (λ k. drafts.notation_filled k draft.old) (notation_built actions.now) ≡ Some draft.new) }
+        option_map (λ k. drafts.notation_filled k draft.old) (notation_built actions.now)
+        ≡ Some draft.new) }
 {
-    let notation = build_notation(alloc, actions)?;
+    let notation = build_whole(alloc, actions)?;
     put_notation(draft, notation)?;
     Ok(())
 }
@@ -144,7 +173,8 @@ fn fill_notation(alloc: Global, actions: &[Action<'_>], draft: &mut Draft) -> Re
 /// A conclusion, or the result of a clause, ends.
 fn fill_exp(alloc: Global, actions: &[Action<'_>], draft: &mut Draft) -> Result<(), BuildFault>
     ensures { IfOk result (λ _.
-        option_map (λ e. drafts.exp_filled e draft.old) (spec.exp_built actions.now) ≡ Some draft.new) }
+        option_map (λ e. drafts.exp_filled e draft.old) (spec.exp_built actions.now)
+        ≡ Some draft.new) }
 {
     let exp = build_exp(alloc, actions)?;
     put_exp(draft, exp);
@@ -158,7 +188,8 @@ fn fill_condition(
     draft: &mut Draft,
 ) -> Result<(), BuildFault>
     ensures { IfOk result (λ _.
-        option_map (λ e. drafts.condition_filled e draft.old) (spec.exp_built actions.now) ≡ Some draft.new) }
+        option_map (λ e. drafts.condition_filled e draft.old) (spec.exp_built actions.now)
+        ≡ Some draft.new) }
 {
     let exp = build_exp(alloc, actions)?;
     put_condition(draft, exp);
@@ -174,7 +205,11 @@ fn fill_count(
     draft: &mut Draft,
 ) -> Result<(), BuildFault>
     ensures { IfOk result (λ _.
-        option_map (λ e. drafts.count_filled around (spec.count_with (spec.index_in (map spec.word_of words.now)) e) draft.old) (spec.exp_built actions.now) ≡ Some draft.new) }
+        option_map
+        (λ e. drafts.count_filled around
+        (spec.count_with (spec.index_in (map spec.word_of words.now)) e) draft.old)
+        (spec.exp_built actions.now)
+        ≡ Some draft.new) }
 {
     let index = index_in(alloc, words)?;
     let exp = build_exp(alloc, actions)?;
@@ -192,7 +227,9 @@ pub(crate) fn fill(
     words: &[Word<'_>],
     draft: &mut Draft,
 ) -> Result<(), BuildFault>
-    ensures { IfOk result (λ _. spec.refilled slot around actions.now (map spec.word_of words.now) draft.old ≡ Some draft.new) }
+    ensures { IfOk result (λ _.
+        spec.refilled slot around actions.now (map spec.word_of words.now) draft.old
+        ≡ Some draft.new) }
 {
     match slot {
         Slot::Field | Slot::Var | Slot::Fun => fill_typ(alloc, slot, actions, draft),

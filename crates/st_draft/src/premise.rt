@@ -81,7 +81,8 @@ pub(crate) fn begin_premise(
     token: &Token,
 ) -> Result<(), NoMemory>
     ensures { IfOk result (λ _. draft.new
-        ≡ spec.with_premises (spec.premise_begun condition token.now draft.old.premises) draft.old) }
+        ≡ spec.with_premises (spec.premise_begun condition token.now draft.old.premises)
+        draft.old) }
 {
     begin(alloc, &mut draft.premises, condition, token)
 }
@@ -107,7 +108,9 @@ pub(crate) fn put_if(draft: &mut Draft, token: &Token)
 /// The relation of a judgement is read.
 pub(crate) fn put_goal(alloc: Global, draft: &mut Draft, token: &Token) -> Result<(), NoMemory>
     ensures { IfOk result (λ _. draft.new
-        ≡ spec.with_premises (spec.condition_begun token.now (Some (name_of token.now.kind)) draft.old.premises) draft.old) }
+        ≡ spec.with_premises
+        (spec.condition_begun token.now (Some (name_of token.now.kind)) draft.old.premises)
+        draft.old) }
 {
     let name = copy_name(alloc, &token.kind)?;
     draft.premises.start = token.at;

@@ -16,6 +16,7 @@ use std::alloc::Global;
 
 /// What is kept of the definitions that are read: their trees, or what the limits ask of them.
 pub trait Sketch<'a> {
+    // What is kept is that of this draft.
     ghost Draws: { Self → Draft → Type 0 };
 
     /// A token between parts changes what is kept.

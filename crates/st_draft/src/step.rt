@@ -160,7 +160,8 @@ fn at_place<'a, S: Sketch<'a>>(
 fn give_up<'a>(alloc: Global, slot: Slot, parts: &mut Parts<'a>) -> Result<(), NoMemory>
     ensures arguments { IfOk result (λ _. parts.new.arguments
         ≡ spec.arguments_with slot parts.old.actions parts.old.arguments) }
-    ensures rest { IfOk result (λ _. (parts.new.actions ≡ []) × (parts.new.marks ≡ []) × (parts.new.words ≡ [])) }
+    ensures rest { IfOk result (λ _.
+        (parts.new.actions ≡ []) × (parts.new.marks ≡ []) × (parts.new.words ≡ [])) }
 {
     let actions = std::mem::replace(&mut parts.actions, Row::new(alloc));
     parts.marks = Row::new(alloc);
