@@ -2,4 +2,3 @@ mod Lists
 mod Nodes
 mod Shortest
 mod Unique
-mod Variables

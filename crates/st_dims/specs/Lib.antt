@@ -3,5 +3,3 @@ pub mod Mentions
 pub mod Dimensions
 pub mod Breaches
 pub mod Noting
-pub mod Variables
-pub mod Counting

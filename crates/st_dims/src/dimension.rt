@@ -16,11 +16,7 @@ use st_num::{Dim, Kind, Name, NoMemory, Row, Span};
 use std::alloc::Global;
 
 /// What is mentioned in a rule or clause with these parts and premises.
-pub fn mentions_in(
-    alloc: Global,
-    parts: &[Exp],
-    premises: &[Prem],
-) -> Result<Vec<Mention>, NoMemory>
+fn mentions_in(alloc: Global, parts: &[Exp], premises: &[Prem]) -> Result<Vec<Mention>, NoMemory>
     ensures { IfOk result (λ mentions. mentions.items ≡ mentions_in parts.now premises.now) }
 {
     let outside = Within::new(alloc);

@@ -18,8 +18,6 @@ mod premise;
 mod table;
 #[cfg(test)]
 mod tests;
-mod variable;
 
 pub use dimension::dims;
 pub use fault::DimFault;
-pub use variable::variable_past;
