@@ -1,1 +1,6 @@
 mod Sources
+mod Fronts
+mod OneAnswer
+pub mod Standing
+pub mod StandingDefs
+pub mod StandingFaults

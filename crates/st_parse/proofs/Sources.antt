@@ -11,11 +11,11 @@ use Rattle.st_faults.specs.Faults.{Faultless}
 use Rattle.st_faults.proofs.Verdicts.{verdict_reads}
 use Rattle.st_el.specs.declared.definition.Def.{Def}
 use Rattle.st_meaning.specs.Definitions.{defs_meaning}
-use Rattle.st_parse.specs.Source.{IsSource}
+use Rattle.st_parse.specs.Source.{IsParsed}
 
 pub built_source : (tokens : List Token) (built : List Def) → Faultless tokens
     → ((st : State) (ds : Defs) → reading start (map (lexeme (declared_names tokens)) tokens) ≡ Some st → finish st ≡ Some ds → built ≡ defs_meaning ds)
-    → IsSource tokens built
+    → IsParsed tokens built
 built_source tokens built h done =
     let whole : take (length tokens) (lexemes_of tokens) ≡ lexemes_of tokens =
     take_all (length tokens) (lexemes_of tokens) (omega (arith, length-map tokens (lexeme (declared_names tokens)))) in

@@ -1,30 +1,95 @@
 -- What the parser answers.
-use Rattle.std.specs.Prelude.{◌≡◌, ℕ, ◌⊎◌, List, Result, Ok, Err, ⊤}
+use Rattle.std.specs.Prelude.{◌≡◌, ℕ, ◌+◌, ◌<◌, ◌⊎◌, List, length, Option, Some, None, Result, Ok, Err, ⊤}
 use Rattle.st_num.specs.declared.span.Span.{Span}
 use Rattle.st_num.specs.declared.rule.RuleId.{RuleId}
-use Rattle.st_num.specs.declared.rule.RuleId.TheVariants.{S2}
+use Rattle.st_num.specs.declared.rule.RuleId.TheVariants.{S2, S3}
 use Rattle.st_scan.specs.declared.token.Token.{Token}
 use Rattle.st_grammar.specs.Lexemes.{declared_names}
-use Rattle.st_faults.specs.Faults.{Faultless, FirstFault}
+use Rattle.st_faults.specs.Faults.{Seen, passed, broken, verdict, Faultless, FirstFault}
+use Rattle.st_faults.specs.declared.fault.Fault.{Fault}
 use Rattle.st_faults.specs.Place.{place_at}
 use Rattle.st_el.specs.declared.definition.Def.{Def}
-use Rattle.st_meaning.specs.Definitions.{Parse}
+use Rattle.st_meaning.specs.Definitions.{Parse, defs_meaning}
+use Rattle.st_draft.specs.Known.{known}
+use Rattle.st_survey.specs.Limits.{variable_past, too_tall, first_that}
+use Rattle.st_parse.specs.declared.limits.LimitFaults.{LimitFaults}
 use Rattle.st_faults.specs.declared.refusal.SyntaxFault.{SyntaxFault}
 use Rattle.st_faults.specs.declared.refusal.SyntaxFault.TheVariants.{Refused, Memory}
 
--- The tokens are those of these definitions, and no token has a fault.
+-- ---- what is asked of whole definitions
+
+-- Each definition keeps the limits of variables and of heights.
+abbrev pub KeepsLimits : List Def → Type 0
+KeepsLimits defs = (first_that variable_past defs ≡ None) × (first_that too_tall defs ≡ None)
+
+-- No token has a fault, and the tokens mean these definitions.
+abbrev pub IsParsed : List Token → List Def → Type 0
+IsParsed tokens defs = Faultless tokens × Parse (declared_names tokens) tokens defs
+
+-- the same, and no limit is passed
 abbrev pub IsSource : List Token → List Def → Type 0
-IsSource tokens defs = Faultless tokens × Parse (declared_names tokens) tokens defs
+IsSource tokens defs = IsParsed tokens defs × KeepsLimits defs
+
+-- ---- faults
+
+-- the tokens before the first one with a fault, or all, and what is seen of them
+pub record Front (tokens : List Token) : Type 0 where
+  pub count : ℕ
+  pub seen : Seen
+  pub faultless : verdict tokens count ≡ passed seen
+  pub longest : (count ≡ length tokens)
+      ⊎ ((r : RuleId) × (count < length tokens) × (verdict tokens (count + 1) ≡ broken r))
+
+-- What is asked of the definitions that stand whole in the front is answered so.
+abbrev pub Standing : List Token → (Def → Option Span) → Option Span → Type 0
+Standing tokens f answer =
+    (front : Front tokens) × (first_that f (defs_meaning (known front.seen.state)) ≡ answer)
+
+-- too many variables of a definition that stands whole before any token with a fault
+abbrev pub VariableFault : List Token → Span → RuleId → Type 0
+VariableFault tokens at rule = Standing tokens variable_past (Some at) × (rule ≡ S3)
+
+-- a token, or the end of the tokens
+abbrev pub TokenFault : List Token → Span → RuleId → Type 0
+TokenFault tokens at rule =
+    Standing tokens variable_past None
+    × ((k : ℕ) × FirstFault tokens k rule × (at ≡ place_at tokens k))
+
+-- a definition with a tree that is too high, where there is no other fault
+abbrev pub HeightFault : List Token → Span → RuleId → Type 0
+HeightFault tokens at rule =
+    Faultless tokens × Standing tokens variable_past None × Standing tokens too_tall (Some at)
+    × (rule ≡ S2)
 
 -- The first fault breaks this rule, and stands there.
 abbrev pub FaultAt : List Token → Span → RuleId → Type 0
-FaultAt tokens at rule = (k : ℕ) × FirstFault tokens k rule × (at ≡ place_at tokens k)
-
--- No token has a fault, and a tree is too high: it is not said yet which definition has it.
-abbrev pub IsTooHigh : List Token → RuleId → Type 0
-IsTooHigh tokens rule = Faultless tokens × (rule ≡ S2)
+FaultAt tokens at rule =
+    VariableFault tokens at rule ⊎ (TokenFault tokens at rule ⊎ HeightFault tokens at rule)
 
 abbrev pub Answers : List Token → Result (List Def) SyntaxFault → Type 0
 Answers tokens (Ok defs) = IsSource tokens defs
-Answers tokens (Err (Refused at rule)) = FaultAt tokens at rule ⊎ IsTooHigh tokens rule
+Answers tokens (Err (Refused at rule)) = FaultAt tokens at rule
 Answers tokens (Err Memory) = ⊤
+
+-- ---- what is surveyed
+
+-- the first variable that is past the limit in these definitions, and the first that is too high
+abbrev pub Surveyed : List Def → LimitFaults → Type 0
+Surveyed defs s = (s.past ≡ first_that variable_past defs) × (s.tall ≡ first_that too_tall defs)
+
+-- what the first fault of a token is
+abbrev pub Judged : List Token → Option Fault → Type 0
+Judged tokens None = Faultless tokens
+Judged tokens (Some f) = FirstFault tokens f.place f.rule
+
+-- how many tokens stand before it
+abbrev pub end_of : List Token → Option Fault → ℕ
+end_of tokens None = length tokens
+end_of tokens (Some f) = f.place
+
+-- what is surveyed of the tokens before the first fault of a token, where that is this one
+pub record Found (tokens : List Token) (found : Option Fault) (s : LimitFaults) : Type 0 where
+  pub judged : Judged tokens found
+  pub front : Front tokens
+  pub surveyed : Surveyed (defs_meaning (known front.seen.state)) s
+  pub count : front.count ≡ end_of tokens found

@@ -8,13 +8,14 @@ ghost use Rattle.st_faults.specs.Faults.{Faultless};
 ghost use Rattle.st_el.specs.Plain.{nowhere};
 ghost use Rattle.st_meaning.specs.Definitions.{defs_meaning};
 ghost use Rattle.st_draft.specs.Drafts as drafts;
-ghost use Rattle.st_parse.specs.Source.{Answers};
+ghost use Rattle.st_parse.specs.Source.{Answers, IsParsed};
 
+use crate::limits::limit_faults;
 use st_draft::{Draft, NOWHERE, begun, read_source};
 use st_el::Def;
 use st_faults::{SyntaxFault, first_fault, place_at};
 use st_meaning::BuildFault;
-use st_num::{Name, Row, RuleId};
+use st_num::{Name, NoMemory, Row, RuleId};
 use st_reading::declared_names;
 use st_scan::Token;
 use std::alloc::Global;
@@ -35,34 +36,47 @@ fn build_all(
     read_source(alloc, names, tokens, draft)
 }
 
-/// The definitions of tokens without a fault.
-fn read_definitions(alloc: Global, tokens: &[Token]) -> Result<Row<Def>, SyntaxFault>
-    requires { Faultless tokens.now }
-    ensures { Answers tokens.now result }
+/// The definitions of tokens without a fault, where these names are declared by `var`. Building
+/// fails for memory alone where no tree is higher than 100.
+fn read_definitions(alloc: Global, names: &[Name], tokens: &[Token]) -> Result<Row<Def>, NoMemory>
+    requires names { names.now ≡ lexemes.declared_names tokens.now }
+    requires faultless { Faultless tokens.now }
+    ensures { IfOk result (IsParsed tokens.now) }
 {
-    let names = declared_names(alloc, tokens)?;
     let mut draft = begun(alloc, Row::new(alloc), NOWHERE);
-    match build_all(alloc, names.as_slice(), tokens, &mut draft) {
+    match build_all(alloc, names, tokens, &mut draft) {
         Ok(()) => Ok(draft.defs),
-        Err(BuildFault::TooHigh) => Err(SyntaxFault::Refused {
-            at: draft.head.at,
-            rule: RuleId::S2,
-        }),
-        Err(BuildFault::Unfit) | Err(BuildFault::Memory) => Err(SyntaxFault::Memory),
+        Err(_) => Err(NoMemory),
     }
 }
 
-/// The definitions that the tokens mean, or the first fault and its place. Where no token has a
-/// fault, a part that is higher than 100 is answered by S2 at its definition; the clause does not
-/// say yet when that comes, and neither premises in parentheses nor variables are counted.
+/// The definitions that the tokens mean, or the first fault and its place. Variables are asked of
+/// the definitions that stand whole before a token with a fault, and heights where there is no
+/// other fault.
 pub fn parse(alloc: Global, tokens: &[Token]) -> Result<Row<Def>, SyntaxFault>
     ensures { Answers tokens.now result }
 {
-    if let Some(fault) = first_fault(alloc, tokens)? {
+    let fault = first_fault(alloc, tokens)?;
+    let names = declared_names(alloc, tokens)?;
+    let limits = limit_faults(alloc, names.as_slice(), tokens, fault)?;
+    if let Some(at) = limits.past {
+        return Err(SyntaxFault::Refused {
+            at,
+            rule: RuleId::S3,
+        });
+    }
+    if let Some(fault) = fault {
         return Err(SyntaxFault::Refused {
             at: place_at(tokens, fault.place),
             rule: fault.rule,
         });
     }
-    read_definitions(alloc, tokens)
+    if let Some(at) = limits.tall {
+        return Err(SyntaxFault::Refused {
+            at,
+            rule: RuleId::S2,
+        });
+    }
+    let defs = read_definitions(alloc, names.as_slice(), tokens)?;
+    Ok(defs)
 }

@@ -1,4 +1,4 @@
-mod Surveying
+pub mod Surveying
 mod Endings
 mod Whole
 mod Drawn

@@ -1,0 +1,101 @@
+-- The tokens before the first one with a fault, and what is surveyed of them.
+use Rattle.std.proofs.Common.{◌≡◌, ℕ, ◌≤◌, inl, inr, List, length, take, map, Option, Some, None, Result, Ok, Err, IfOk, refl, sym, ap, subst, ◌∙◌, arith}
+use Rattle.std.proofs.lemmas.List.{take-map, take_all, length-map}
+use Rattle.st_num.specs.declared.memory.NoMemory.{NoMemory}
+use Rattle.st_num.specs.declared.span.Span.{Span}
+use Rattle.st_num.specs.declared.rule.RuleId.TheVariants.{S2, S3}
+use Rattle.st_scan.specs.declared.token.Token.{Token}
+use Rattle.st_grammar.specs.Lexemes.{lexeme, declared_names}
+use Rattle.st_grammar.specs.Definitions.{Defs}
+use Rattle.st_grammar.specs.Places.{State, reading, start, finish}
+use Rattle.st_grammar.proofs.PlaceReading.{sound_defs}
+use Rattle.st_grammar.proofs.PlaceComplete.{one_list_of_defs}
+use Rattle.st_reading.specs.Refusal.{lexemes_of}
+use Rattle.st_faults.specs.declared.fault.Fault.{Fault}
+use Rattle.st_faults.specs.Faults.{passed, verdict, Faultless, FirstFault}
+use Rattle.st_faults.specs.Place.{place_at}
+use Rattle.st_faults.proofs.Verdicts.{verdict_reads}
+use Rattle.st_el.specs.declared.definition.Def.{Def}
+use Rattle.st_meaning.specs.Definitions.{defs_meaning}
+use Rattle.st_meaning.specs.declared.fault.BuildFault.{BuildFault}
+use Rattle.st_draft.specs.declared.draft.Draft.{Draft}
+use Rattle.st_draft.specs.Known.{before, defs_or, known}
+use Rattle.st_draft.specs.Work.{DrawsDefs}
+use Rattle.st_survey.specs.declared.survey.Survey.{Survey}
+use Rattle.st_survey.specs.Surveys.{Surveys}
+use Rattle.st_survey.specs.Limits.{variable_past, too_tall, first_that}
+use Rattle.st_parse.specs.declared.limits.LimitFaults.{LimitFaults}
+use Rattle.st_parse.specs.Source.{Front, Surveyed, end_of, Judged, Found, IsParsed, IsSource, FaultAt}
+
+abbrev pub all_of : (tokens : List Token) → Faultless tokens → Front tokens
+all_of tokens h = record { count = length tokens; seen = h.0; faultless = h.2; longest = inl refl }
+
+up_to : (tokens : List Token) (f : Fault) → FirstFault tokens f.place f.rule → (front : Front tokens) × (front.count ≡ f.place)
+up_to tokens f (inl h) = (record { count = f.place; seen = h.1.0; faultless = h.1.1; longest = inr (f.rule, h.0, h.2) }, refl)
+up_to tokens f (inr h) = (record { count = f.place; seen = h.2.0; faultless = h.2.1; longest = inl h.0 }, refl)
+
+pub front_of : (tokens : List Token) (found : Option Fault) → Judged tokens found → (front : Front tokens) × (front.count ≡ end_of tokens found)
+front_of tokens None h = (all_of tokens h, refl)
+front_of tokens (Some f) h = up_to tokens f h
+
+pub read_front : (tokens : List Token) (names : List (List ℕ)) (end : ℕ) (front : Front tokens) → names ≡ declared_names tokens → front.count ≡ end
+    → reading start (map (lexeme names) (take end tokens)) ≡ Some front.seen.state
+read_front tokens names end front e f =
+    ap (λ ns. reading start (map (lexeme ns) (take end tokens))) e
+    ∙ ap (λ k. reading start (map (lexeme (declared_names tokens)) (take k tokens))) (sym f)
+    ∙ ap (reading start) (sym (take-map (lexeme (declared_names tokens)) front.count tokens))
+    ∙ verdict_reads tokens front.count front.seen front.faultless
+
+pub within : (tokens : List Token) (found : Option Fault) → Judged tokens found → end_of tokens found ≤ length tokens
+within tokens None h = omega (arith)
+within tokens (Some f) (inl h) = omega (arith, h.0)
+within tokens (Some f) (inr h) = omega (arith, h.0)
+
+pub surveyed_so : (s : Survey) (defs : List Def) → DrawsDefs Surveys s defs → Surveyed defs (record { past = s.past; tall = s.tall })
+surveyed_so s defs h = (h.1.past ∙ ap (first_that variable_past) h.2, h.1.tall ∙ ap (first_that too_tall) h.2)
+
+pub found_so : (tokens front : List Token) (names : List (List ℕ)) (found : Option Fault) (r : Result LimitFaults NoMemory) → names ≡ declared_names tokens → Judged tokens found
+    → front ≡ take (end_of tokens found) tokens
+    → ((st : State) → reading start (map (lexeme names) front) ≡ Some st → IfOk r (Surveyed (defs_meaning (known st)))) → IfOk r (Found tokens found)
+found_so tokens front names found (Err f) e j k drawn = tt
+found_so tokens front names found (Ok s) e j k drawn =
+    let f = front_of tokens found j in
+    record {
+      judged = j;
+      front = f.0;
+      surveyed = drawn f.0.seen.state (ap (λ xs. reading start (map (lexeme names) xs)) k ∙ read_front tokens names (end_of tokens found) f.0 e f.1);
+      count = f.1;
+    }
+
+pub built_so : (s : Draft) (st : State) (ds : Defs) (r : Result (Unit {0}) BuildFault) → IfOk r (λ z. DrawsDefs (λ (kept d : Draft). kept ≡ d) s (defs_meaning (known st))) → finish st ≡ Some ds
+    → IfOk r (λ z. s.defs ≡ defs_meaning ds)
+built_so s st ds (Err f) h e = tt
+built_so s st ds (Ok z) h e = ap (λ (d : Draft). d.defs) h.1 ∙ h.2 ∙ ap (λ o. defs_meaning (defs_or (before st) o)) e
+
+-- ---- answers
+
+pub many : (tokens : List Token) (found : Option Fault) (s : LimitFaults) (at : Span) → Found tokens found s → s.past ≡ Some at → FaultAt tokens at S3
+many tokens found s at f e = inl ((f.front, sym f.surveyed.0 ∙ e), refl)
+
+pub token_fault : (tokens : List Token) (found : Option Fault) (s : LimitFaults) (f : Fault) → Found tokens found s → s.past ≡ None → found ≡ Some f → FaultAt tokens (place_at tokens f.place) f.rule
+token_fault tokens found s f h e g = inr (inl ((h.front, sym h.surveyed.0 ∙ e), (f.place, subst (Judged tokens) g h.judged, refl)))
+
+pub tall : (tokens : List Token) (found : Option Fault) (s : LimitFaults) (at : Span) → Found tokens found s → s.past ≡ None → found ≡ None → s.tall ≡ Some at → FaultAt tokens at S2
+tall tokens found s at h e g t = inr (inr (subst (Judged tokens) g h.judged, (h.front, sym h.surveyed.0 ∙ e), (h.front, sym h.surveyed.1 ∙ t), refl))
+
+-- the definitions that all tokens mean, where none has a fault
+pub all_known : (tokens : List Token) (front : Front tokens) (defs : List Def) → front.count ≡ length tokens → IsParsed tokens defs → defs_meaning (known front.seen.state) ≡ defs
+all_known tokens front defs e p =
+    let h = p.0 in
+    let both : passed front.seen ≡ passed h.0 = sym front.faultless ∙ ap (verdict tokens) e ∙ h.2 in
+    let same : front.seen ≡ h.0 = cc in
+    let us = lexemes_of tokens in
+    let read : reading start us ≡ Some h.0.state =
+    ap (reading start) (sym (take_all (length tokens) us (omega (arith, length-map tokens (lexeme (declared_names tokens)))))) ∙ verdict_reads tokens (length tokens) h.0 h.2 in
+    let one : h.1 ≡ p.1.trees = one_list_of_defs us h.1 p.1.trees (sound_defs us h.0.state h.1 read h.3) p.1.grammar in
+    ap (λ q. defs_meaning (known q.state)) same ∙ ap (λ o. defs_meaning (defs_or (before h.0.state) o)) h.3 ∙ ap defs_meaning one ∙ p.1.meant
+
+pub source : (tokens : List Token) (found : Option Fault) (s : LimitFaults) (defs : List Def) → Found tokens found s → s.past ≡ None → found ≡ None → s.tall ≡ None → IsParsed tokens defs → IsSource tokens defs
+source tokens found s defs h e g t p =
+    let same = all_known tokens h.front defs (h.count ∙ ap (end_of tokens) g) p in
+    (p, (ap (first_that variable_past) (sym same) ∙ sym h.surveyed.0 ∙ e, ap (first_that too_tall) (sym same) ∙ sym h.surveyed.1 ∙ t))

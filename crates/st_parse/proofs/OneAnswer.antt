@@ -1,0 +1,87 @@
+-- There is at most one answer, want of memory aside.
+use Rattle.std.proofs.Common.{◌≡◌, ℕ, ◌+◌, ◌<◌, ◌≤◌, ◌⊎◌, inl, inr, List, length, Bool, true, false, nat_lt, Option, Some, None, refl, sym, ap, ◌∙◌, arith}
+use Rattle.st_num.specs.declared.span.Span.{Span}
+use Rattle.st_num.specs.declared.rule.RuleId.{RuleId}
+use Rattle.st_scan.specs.declared.token.Token.{Token}
+use Rattle.st_faults.specs.Faults.{Seen, passed, broken, verdict}
+use Rattle.st_faults.specs.Place.{place_at}
+use Rattle.st_faults.proofs.Exact.{front_passes, one_fault, never_both}
+use Rattle.st_el.specs.declared.definition.Def.{Def}
+use Rattle.st_meaning.specs.Definitions.{defs_meaning}
+use Rattle.st_draft.specs.Known.{known}
+use Rattle.st_survey.specs.Limits.{variable_past, too_tall, first_that}
+use Rattle.st_parse.specs.Source.{Front, Standing, IsParsed, IsSource, FaultAt}
+use Rattle.st_parse.proofs.Fronts.{all_of, all_known}
+
+-- ---- one front
+
+abbrev Longest : List Token → ℕ → Type 0
+Longest tokens n =
+    (n ≡ length tokens) ⊎ ((r : RuleId) × (n < length tokens) × (verdict tokens (n + 1) ≡ broken r))
+
+longest_within : (tokens : List Token) (n : ℕ) → Longest tokens n → n ≤ length tokens
+longest_within tokens n (inl e) = omega (arith, e)
+longest_within tokens n (inr l) = omega (arith, l.1)
+
+none_longer : (tokens : List Token) (n k : ℕ) (seen : Seen) → Longest tokens n → verdict tokens k ≡ passed seen → n < k → k ≤ length tokens → ⊥
+none_longer tokens n k seen (inl e) f h g = omega (arith, e)
+none_longer tokens n k seen (inr l) f h g =
+    let front = front_passes tokens (n + 1) k seen (omega arith) (omega (arith, l.1)) f in
+    let never : broken l.0 ≡ passed front.0 = sym l.2 ∙ front.1 in
+    absurd (cc)
+
+one_count : (tokens : List Token) (f g : Front tokens) → f.count ≡ g.count
+one_count tokens f g = go (nat_lt f.count g.count) refl (nat_lt g.count f.count) refl
+  where
+    go : (b : Bool) → nat_lt f.count g.count ≡ b → (d : Bool) → nat_lt g.count f.count ≡ d → f.count ≡ g.count
+    go true e d i =
+        absurd (none_longer tokens f.count g.count g.seen f.longest g.faultless (grind arith) (longest_within tokens g.count g.longest))
+    go false e true i =
+        absurd (none_longer tokens g.count f.count f.seen g.longest f.faultless (grind arith) (longest_within tokens f.count f.longest))
+    go false e false i = grind arith
+
+one_seen : (tokens : List Token) (f g : Front tokens) → f.seen ≡ g.seen
+one_seen tokens f g =
+    let both : passed f.seen ≡ passed g.seen = sym f.faultless ∙ ap (verdict tokens) (one_count tokens f g) ∙ g.faultless in cc
+
+-- ---- what stands in it
+
+one_standing : (tokens : List Token) (f : Def → Option Span) (a b : Option Span) → Standing tokens f a → Standing tokens f b → a ≡ b
+one_standing tokens f a b h k =
+    sym h.1 ∙ ap (λ (s : Seen). first_that f (defs_meaning (known s.state))) (one_seen tokens h.0 k.0) ∙ k.1
+
+never_standing : (tokens : List Token) (f : Def → Option Span) (at : Span) → Standing tokens f (Some at) → Standing tokens f None → ⊥
+never_standing tokens f at h k =
+    let never : Some at ≡ None = one_standing tokens f (Some at) None h k in
+    absurd (cc)
+
+source_stands : (tokens : List Token) (defs : List Def) (f : Def → Option Span) → IsParsed tokens defs → first_that f defs ≡ None → Standing tokens f None
+source_stands tokens defs f p e =
+    let front = all_of tokens p.0 in
+    (front, ap (first_that f) (all_known tokens front defs refl p) ∙ e)
+
+-- ---- answers
+
+pub never_source : (tokens : List Token) (defs : List Def) (at : Span) (rule : RuleId) → FaultAt tokens at rule → IsSource tokens defs → ⊥
+never_source tokens defs at rule (inl h) s = never_standing tokens variable_past at h.0 (source_stands tokens defs variable_past s.0 s.1.0)
+never_source tokens defs at rule (inr (inl h)) s = never_both tokens h.1.0 rule h.1.1 s.0.0
+never_source tokens defs at rule (inr (inr h)) s = never_standing tokens too_tall at h.2 (source_stands tokens defs too_tall s.0 s.1.1)
+
+pub one_refusal : (tokens : List Token) (at there : Span) (rule other : RuleId) → FaultAt tokens at rule → FaultAt tokens there other → (at ≡ there) × (rule ≡ other)
+one_refusal tokens at there rule other (inl h) (inl k) =
+    let e : Some at ≡ Some there = one_standing tokens variable_past (Some at) (Some there) h.0 k.0 in
+    let same : at ≡ there = cc in
+    (same, h.1 ∙ sym k.1)
+one_refusal tokens at there rule other (inl h) (inr (inl k)) = absurd (never_standing tokens variable_past at h.0 k.0)
+one_refusal tokens at there rule other (inl h) (inr (inr k)) = absurd (never_standing tokens variable_past at h.0 k.1)
+one_refusal tokens at there rule other (inr (inl h)) (inl k) = absurd (never_standing tokens variable_past there k.0 h.0)
+one_refusal tokens at there rule other (inr (inr h)) (inl k) = absurd (never_standing tokens variable_past there k.0 h.1)
+one_refusal tokens at there rule other (inr (inl h)) (inr (inl k)) =
+    let e = one_fault tokens h.1.0 k.1.0 rule other h.1.1 k.1.1 in
+    (h.1.2 ∙ ap (place_at tokens) e.0 ∙ sym k.1.2, e.1)
+one_refusal tokens at there rule other (inr (inl h)) (inr (inr k)) = absurd (never_both tokens h.1.0 rule h.1.1 k.0)
+one_refusal tokens at there rule other (inr (inr h)) (inr (inl k)) = absurd (never_both tokens k.1.0 other k.1.1 h.0)
+one_refusal tokens at there rule other (inr (inr h)) (inr (inr k)) =
+    let e : Some at ≡ Some there = one_standing tokens too_tall (Some at) (Some there) h.2 k.2 in
+    let same : at ≡ there = cc in
+    (same, h.3 ∙ sym k.3)
