@@ -1,18 +1,19 @@
 -- The tokens of all files, and what a check says of them.
 use Rattle.std.proofs.Common.{◌≡◌, ◌≢◌, ℕ, suc, ◌+◌, ◌<◌, List, [], ◌∷◌, ◌++◌, length, take, get_or, ap, ◌∙◌, sym, refl, subst, inl, inr, arith, add-one, append_assoc, append-nil}
-use Rattle.std.specs.Prelude.{Result, Ok, Err, IfOk, Option, Some, IfSome, slice_get}
+use Rattle.std.specs.Prelude.{Result, Ok, Err, IfOk, Some, slice_get}
 use Rattle.std.proofs.Math.Seq.{take-suc}
 use Rattle.std.proofs.lemmas.List.{length-take-le}
 use Rattle.std.proofs.lemmas.Option.{slice_get-get_or, slice_get_within}
-use Rattle.st_faults.specs.declared.fault.Fault.{Fault}
-use Rattle.st_faults.specs.Faults as syntax
-use Rattle.st_faults.specs.Faults.{Faultless}
-use Rattle.st_faults.specs.Place.{place_at}
+use Rattle.st_el.specs.declared.definition.Def.{Def}
+use Rattle.st_faults.specs.declared.refusal.SyntaxFault.{SyntaxFault}
+use Rattle.st_faults.specs.declared.refusal.SyntaxFault.TheVariants as syntax
 use Rattle.st_il.specs.declared.small.Small.{Small}
 use Rattle.st_il.specs.Small.{il_of}
 use Rattle.st_num.specs.declared.memory.NoMemory.{NoMemory}
 use Rattle.st_num.specs.declared.rule.RuleId.{RuleId}
 use Rattle.st_num.specs.declared.span.Span.{Span}
+use Rattle.st_parse.specs.Source.{IsSource, Answers}
+use Rattle.st_parse.proofs.StandingFaults.{fault_stands}
 use Rattle.st_scan.specs.declared.token.LexFault.{LexFault}
 use Rattle.st_scan.specs.declared.token.LexFault.TheVariants.{Refused, Memory}
 use Rattle.st_scan.specs.declared.token.Token.{Token}
@@ -21,9 +22,9 @@ use Rattle.st_scan.specs.Faults.{FirstFault, of_token, of_utf8}
 use Rattle.st_scan.specs.Tokens.{Tokens}
 use Rattle.st_tool.specs.declared.answer.Answer.{Answer}
 use Rattle.st_tool.specs.declared.status.Status.TheVariants.{Done, Specification}
-use Rattle.st_tool.specs.Checking.{AllTokens, IsSourceFault, TellsFault, SmallGives, CheckGives, refused, empty, scanned}
+use Rattle.st_tool.specs.Checking.{AllTokens, IsSourceFault, TellsFault, SmallGives, CheckGives, refused, empty, parsed}
 use Rattle.st_tool.specs.SmallText.{IsTextOf}
-use Rattle.st_tool.proofs.TokenPlaces.{place_before}
+use Rattle.st_tool.proofs.TokenPlaces.{all_before, place_before}
 use Rattle.st_tool.specs.Texts.{definitions_text, refused_source_text}
 
 -- a fault stands in the file that was scanned
@@ -71,20 +72,17 @@ source_fault files k file text tokens (Refused at rule) before below is same tel
 pub fault_within : (files names : List (List ℕ)) (at : Span) (rule : RuleId) → IsSourceFault files at rule → length files ≡ length names → at.file < length names
 fault_within files names at rule (inl fault) named = omega (arith, slice_get_within files at.file fault.file fault.is_file, named)
 fault_within files names at rule (inr fault) named =
-    let small : (place_at fault.tokens fault.number).file < length files = place_before files fault.tokens fault.number fault.all (λ none. fault.some none) in
-    let file : at.file ≡ (place_at fault.tokens fault.number).file = ap (λ (s : Span). s.file) fault.is_at in
-    omega (arith, small, file, named)
+    let count : length files ≡ 0 + length files = omega arith in
+    let small : at.file < length files =
+    fault_stands (λ (s : Span). s.file < length files) fault.tokens at rule (all_before (length files) 0 files fault.tokens count fault.all)
+    (λ k. place_before files fault.tokens k fault.all (λ none. fault.some none)) fault.fault in
+    omega (arith, small, named)
 
 -- the first fault of the tokens of all files
-pub syntax_fault : (files : List (List ℕ)) (tokens : List Token) (number : ℕ) (rule : RuleId) (at : Span) → AllTokens 0 files tokens → tokens ≢ []
-    → syntax.FirstFault tokens number rule → at ≡ place_at tokens number → IsSourceFault files at rule
-syntax_fault files tokens number rule at all some fault is =
-    inr (record { tokens = tokens; all = all; some = some; number = number; fault = fault; is_at = is })
-
-pub found_fault : (files : List (List ℕ)) (tokens : List Token) (found : Option Fault) (fault : Fault) (at : Span) → AllTokens 0 files tokens → tokens ≢ []
-    → IfSome found (λ f. syntax.FirstFault tokens f.place f.rule) → found ≡ Some fault → at ≡ place_at tokens fault.place → IsSourceFault files at fault.rule
-found_fault files tokens found fault at all some first is here =
-    syntax_fault files tokens fault.place fault.rule at all some (subst (λ o. IfSome o (λ f. syntax.FirstFault tokens f.place f.rule)) is first) here
+pub found_fault : (files : List (List ℕ)) (tokens : List Token) (found : Result (List Def) SyntaxFault) (at : Span) (rule : RuleId) → AllTokens 0 files tokens → tokens ≢ []
+    → Answers tokens found → found ≡ Err (syntax.Refused at rule) → IsSourceFault files at rule
+found_fault files tokens found at rule all some answers is =
+    inr (record { tokens = tokens; all = all; some = some; fault = subst (Answers tokens) is answers })
 
 -- ---- small specifications
 
@@ -108,10 +106,10 @@ check_empty names files tokens (Err e) all none status bytes = tt
 check_empty names files tokens (Ok answer) all none status bytes =
     subst (λ s. CheckGives names files s answer.bytes.items) (sym status) (empty (subst (AllTokens 0 files) none all) bytes)
 
-pub check_scanned : (names files : List (List ℕ)) (tokens : List Token) (result : Result Answer NoMemory) → AllTokens 0 files tokens → tokens ≢ [] → Faultless tokens
+pub check_parsed : (names files : List (List ℕ)) (tokens : List Token) (defs : List Def) (result : Result Answer NoMemory) → AllTokens 0 files tokens → tokens ≢ [] → IsSource tokens defs
     → SaysSmall files result → SaysChecked names files result
-check_scanned names files tokens (Err e) all some faultless says = tt
-check_scanned names files tokens (Ok answer) all some faultless says = scanned tokens all some faultless says
+check_parsed names files tokens defs (Err e) all some source says = tt
+check_parsed names files tokens defs (Ok answer) all some source says = parsed tokens defs all some source says
 
 pub check_refused : (names files : List (List ℕ)) (name text : List ℕ) (at : Span) (rule : RuleId) (result : Result Answer NoMemory) → IsSourceFault files at rule
     → length files ≡ length names → name ≡ get_or names at.file name → text ≡ name

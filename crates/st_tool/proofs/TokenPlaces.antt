@@ -9,7 +9,7 @@ use Rattle.st_scan.specs.Tokens.{Run}
 use Rattle.st_tool.specs.Checking.{AllTokens}
 
 -- each token stands in a file before number n
-abbrev StandBefore : ℕ → List Token → Type 0
+abbrev pub StandBefore : ℕ → List Token → Type 0
 StandBefore n tokens = AllByRecursion (λ (t : Token). t.at.file < n) tokens
 
 run_before : (n number : ℕ) (file rest left : List ℕ) (tokens : List Token) → number < n → Run number file rest tokens left → StandBefore n tokens
@@ -21,7 +21,7 @@ both_before : (n : ℕ) (first later : List Token) → StandBefore n first → S
 both_before n [] later none all = all
 both_before n (t ∷ ts) later (h, hs) all = (h, both_before n ts later hs all)
 
-all_before : (n number : ℕ) (files : List (List ℕ)) (tokens : List Token) → n ≡ number + length files → AllTokens number files tokens → StandBefore n tokens
+pub all_before : (n number : ℕ) (files : List (List ℕ)) (tokens : List Token) → n ≡ number + length files → AllTokens number files tokens → StandBefore n tokens
 all_before n number [] tokens e none = subst (StandBefore n) (sym none) tt
 all_before n number (file ∷ files) tokens e (first, later, here, rest, is) =
     let small : number < n = omega (arith, e) in
@@ -34,7 +34,7 @@ token_before n [] k all small = absurd (omega (arith, small))
 token_before n (t ∷ ts) zero (h, hs) small = h
 token_before n (t ∷ ts) (suc k) (h, hs) small = token_before n ts k hs (omega (arith, small))
 
--- the place of a fault is in one of the files
+-- the place of a token, or of the last one, is in one of the files
 pub place_before : (files : List (List ℕ)) (tokens : List Token) (k : ℕ) → AllTokens 0 files tokens → tokens ≢ [] → (place_at tokens k).file < length files
 place_before files [] k all some = absurd (some refl)
 place_before files (t ∷ ts) k all some = go (nat_lt k (length (t ∷ ts))) refl

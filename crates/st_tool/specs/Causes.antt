@@ -22,4 +22,5 @@ pub record IsLoadFault (words : List (List ℕ)) (before after : Counts) : Type 
 -- a fault of the files is told by the status, unless the output was not written or memory was wanting
 abbrev pub FaultIsTold : Counts → Counts → Status → Type 0
 FaultIsTold before after status =
-    before.faults < after.faults → (status ≡ answer.Load) ⊎ (status ≡ answer.Write) ⊎ (status ≡ answer.Memory)
+    before.faults < after.faults
+    → (status ≡ answer.Load) ⊎ (status ≡ answer.Write) ⊎ (status ≡ answer.Memory)

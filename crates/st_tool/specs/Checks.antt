@@ -33,9 +33,11 @@ Takes old line new = MatchOption old.refusal (TakesFirst old line new) (λ fault
 pub data HasTaken (il : Il) (lines : List Line) : Checking → Type 0 where
   going : {checking : Checking} (notes : Notes) → ReadsTo il lines notes
       → checking ≡ record { il = il; notes = notes; refusal = None } → HasTaken il lines checking
-  refused : {checking : Checking} (good after : List Line) (line : Line) (notes : Notes) (rule : VerifyRule)
+  refused : {checking : Checking} (good after : List Line) (line : Line) (notes : Notes)
+      (rule : VerifyRule)
       → lines ≡ good ++ line ∷ after → ReadsTo il good notes → Verdict il notes line (Some rule)
-      → checking ≡ record { il = il; notes = notes; refusal = Some (refusal_by rule notes) } → HasTaken il lines checking
+      → checking ≡ record { il = il; notes = notes; refusal = Some (refusal_by rule notes) }
+      → HasTaken il lines checking
 
 -- it was given the lines at the front of the bytes, and this is behind them
 pub record TakenTo (il : Il) (bytes : List ℕ) (checking : Checking) (rest : List ℕ) : Type 0 where
@@ -51,17 +53,21 @@ HasNoLines bytes = (lines : List Line) (rest : List ℕ) → ¬ (AreLines bytes 
 -- what a verifier that refused nothing says at the end, with this behind the last line feed
 abbrev pub EndsNow : Checking → List ℕ → Result Accepted VerifyFault → Type 0
 EndsNow old rest (Ok accepted) =
-    (rest ≡ []) × (old.notes.ended ≡ true) × (accepted.lines ≡ length old.notes.lines) × (accepted.steps ≡ old.notes.steps)
+    (rest ≡ []) × (old.notes.ended ≡ true) × (accepted.lines ≡ length old.notes.lines)
+    × (accepted.steps ≡ old.notes.steps)
 EndsNow old rest (Err fault) =
     ((rest ≡ []) × (old.notes.ended ≡ false) × (fault ≡ refusal_by V12 old.notes))
     ⊎ ((rest ≢ []) × (fault ≡ refusal_by V3 old.notes))
 
 -- what it says at the end: after a refusal, this refusal
 abbrev pub Ends : Checking → List ℕ → Result Accepted VerifyFault → Type 0
-Ends old rest result = MatchOption old.refusal (EndsNow old rest result) (λ fault. result ≡ Err fault)
+Ends old rest result =
+    MatchOption old.refusal (EndsNow old rest result) (λ fault. result ≡ Err fault)
 
 -- how it is told
 abbrev pub Tells : Result Accepted VerifyFault → Status → List ℕ → Type 0
-Tells (Ok accepted) status bytes = (status ≡ answer.Done) × (bytes ≡ accepted_text accepted.lines accepted.steps)
-Tells (Err (Refused rule line typing)) status bytes = (status ≡ answer.Verification) × (bytes ≡ refused_text line rule)
+Tells (Ok accepted) status bytes =
+    (status ≡ answer.Done) × (bytes ≡ accepted_text accepted.lines accepted.steps)
+Tells (Err (Refused rule line typing)) status bytes =
+    (status ≡ answer.Verification) × (bytes ≡ refused_text line rule)
 Tells (Err Memory) status bytes = ⊥

@@ -58,12 +58,14 @@ pub record IsStart (small : Small) (relation bytes atom : List ℕ) : Type 0 whe
   pub term : IsTerm small bytes atom
 
 -- these files are a specification of that relation, and a term of its atoms
-pub record IsRunnable (relation term_bytes file_bytes : List ℕ) (small : Small) (atom : List ℕ) : Type 0 where
+pub record IsRunnable (relation term_bytes file_bytes : List ℕ) (small : Small)
+    (atom : List ℕ) : Type 0 where
   pub source : IsTextOf small file_bytes
   pub start : IsStart small relation term_bytes atom
 
 -- the status and the text of a run from this atom
-pub record IsRunText (small : Small) (atom : List ℕ) (status : Status) (bytes : List ℕ) : Type 0 where
+pub record IsRunText (small : Small) (atom : List ℕ) (status : Status)
+    (bytes : List ℕ) : Type 0 where
   pub terms : List Term
   pub ending : Ending
   pub transcript : IsTranscript (il_of small) 0 (atom_term atom) default_fuel terms ending
@@ -71,27 +73,34 @@ pub record IsRunText (small : Small) (atom : List ℕ) (status : Status) (bytes 
   pub bytes_are : bytes ≡ transcript_text terms ending
 
 -- the status and the text of the derivation of such a run; its lines are accepted by the checker of derivations
-pub record IsDerivationText (small : Small) (atom : List ℕ) (status : Status) (bytes : List ℕ) : Type 0 where
+pub record IsDerivationText (small : Small) (atom : List ℕ) (status : Status)
+    (bytes : List ℕ) : Type 0 where
   pub ending : Ending
   pub lines : List Line
-  pub derivation : IsDerivation (il_of small) 0 small.relation (atom_term atom) default_fuel ending lines
+  pub derivation : IsDerivation (il_of small) 0 small.relation
+      (atom_term atom) default_fuel ending lines
   pub accepted : Accepts (il_of small) lines
   pub status_is : status ≡ status_of ending
   pub text : LinesText lines bytes
 
 -- Where the files are such a specification and term, they give this; others are not built.
-abbrev pub RunGives : (Small → List ℕ → Status → List ℕ → Type 0) → List ℕ → List ℕ → List ℕ → Status → List ℕ → Type 0
+abbrev pub RunGives : (Small → List ℕ → Status → List ℕ → Type 0) → List ℕ → List ℕ → List ℕ
+    → Status → List ℕ → Type 0
 RunGives IsText relation term file status bytes =
-    ((small : Small) × (atom : List ℕ) × IsRunnable relation term file small atom × IsText small atom status bytes)
-    ⊎ (((small : Small) (atom : List ℕ) → IsRunnable relation term file small atom → ⊥) × IsUnbuilt status bytes)
+    ((small : Small) × (atom : List ℕ) × IsRunnable relation term file small atom
+    × IsText small atom status bytes)
+    ⊎ (((small : Small) (atom : List ℕ) → IsRunnable relation term file small atom → ⊥)
+    × IsUnbuilt status bytes)
 
 -- ---- verification
 
 -- Of the text of an internal language and of lines it is said whether they are accepted; other files are not built.
 abbrev pub VerifyGives : List ℕ → List ℕ → Status → List ℕ → Type 0
 VerifyGives il_bytes derivation status bytes =
-    ((il : Il) × (lines : List Line) × (rest : List ℕ) × AreTexts il_bytes derivation il lines rest × Verified il lines rest status bytes)
-    ⊎ (((il : Il) (lines : List Line) (rest : List ℕ) → AreTexts il_bytes derivation il lines rest → ⊥) × IsUnbuilt status bytes)
+    ((il : Il) × (lines : List Line) × (rest : List ℕ) × AreTexts il_bytes derivation il lines rest
+    × Verified il lines rest status bytes)
+    ⊎ (((il : Il) (lines : List Line) (rest : List ℕ) → AreTexts il_bytes derivation il lines rest
+    → ⊥) × IsUnbuilt status bytes)
 
 -- ---- the commands
 
@@ -99,9 +108,12 @@ VerifyGives il_bytes derivation status bytes =
 abbrev pub Gives : Command → List (List ℕ) → Status → List ℕ → Type 0
 Gives (Check names) files status bytes = CheckGives names files status bytes
 Gives (IlOf names) (file ∷ []) status bytes = IlGives file status bytes
-Gives (Run relation name names fuel depth) (term ∷ file ∷ []) status bytes = RunGives IsRunText relation term file status bytes
-Gives (Derive relation name names fuel depth) (term ∷ file ∷ []) status bytes = RunGives IsDerivationText relation term file status bytes
-Gives (Verify il_name name) (il ∷ derivation ∷ []) status bytes = VerifyGives il derivation status bytes
+Gives (Run relation name names fuel depth) (term ∷ file ∷ []) status bytes =
+    RunGives IsRunText relation term file status bytes
+Gives (Derive relation name names fuel depth) (term ∷ file ∷ []) status bytes =
+    RunGives IsDerivationText relation term file status bytes
+Gives (Verify il_name name) (il ∷ derivation ∷ []) status bytes =
+    VerifyGives il derivation status bytes
 Gives command files status bytes = ⊥
 
 -- the forms of commands that are built: over one file of a specification, and checks of any

@@ -32,11 +32,16 @@ pub record IsNodeOf (il : Il) (tree : Tree) (node : NodeLine) : Type 0 where
   pub no_evidence : node.evidence ≡ None
 
 -- The lines of a run from the start to a term, over the terms before it: the first two lines, and then for each step the node of a tree that takes it, and behind it the step, which names the node's line.
-pub data StepLines (il : Il) (relation : ℕ) (name : List ℕ) (start : Term) : List Term → Term → List Line → Type 0 where
-  begins : {lines : List Line} → lines ≡ Head 1 name ∷ From start ∷ [] → StepLines il relation name start [] start lines
-  goes_on : {before : List Term} {term next : Term} {lines all : List Line} (tree : Tree) (node : NodeLine)
-      → StepLines il relation name start before term lines → IsStepTree il relation term next tree → IsNodeOf il tree node
-      → all ≡ lines ++ Node node ∷ Step (length lines + 1) ∷ [] → StepLines il relation name start (before ++ term ∷ []) next all
+pub data StepLines (il : Il) (relation : ℕ) (name : List ℕ) (start : Term) : List Term → Term
+    → List Line → Type 0 where
+  begins : {lines : List Line} → lines ≡ Head 1 name ∷ From start ∷ []
+      → StepLines il relation name start [] start lines
+  goes_on : {before : List Term} {term next : Term} {lines all : List Line} (tree : Tree)
+      (node : NodeLine)
+      → StepLines il relation name start before term lines → IsStepTree il relation term next tree
+      → IsNodeOf il tree node
+      → all ≡ lines ++ Node node ∷ Step (length lines + 1) ∷ []
+      → StepLines il relation name start (before ++ term ∷ []) next all
 
 -- how the last line says that a run ended
 abbrev pub last_line : Ending → LastLine
@@ -44,7 +49,8 @@ last_line Stuck = last.Stuck
 last_line Fuel = last.Fuel
 
 -- the lines of the derivation of a transcript: those of its steps, and then its end
-pub record IsDerivation (il : Il) (relation : ℕ) (name : List ℕ) (start : Term) (limit : ℕ) (ending : Ending) (lines : List Line) : Type 0 where
+pub record IsDerivation (il : Il) (relation : ℕ) (name : List ℕ) (start : Term) (limit : ℕ)
+    (ending : Ending) (lines : List Line) : Type 0 where
   pub terms : List Term
   pub transcript : IsTranscript il relation start limit terms ending
   pub steps : List Line

@@ -11,5 +11,6 @@ use Rattle.st_tool.specs.Texts.{accepted_text}
 -- What `derive` prints is accepted by `verify`, with what `il` prints for the same specification.
 abbrev pub DerivedIsAccepted : Type 0
 DerivedIsAccepted =
-    (small : Small) (atom il derivation : List ℕ) (status : Status) → IlText (il_of small) il → IsDerivationText small atom status derivation
+    (small : Small) (atom il derivation : List ℕ) (status : Status) → IlText (il_of small) il
+    → IsDerivationText small atom status derivation
     → (lines steps : ℕ) × VerifyGives il derivation answer.Done (accepted_text lines steps)

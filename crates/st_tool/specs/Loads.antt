@@ -31,19 +31,22 @@ pub record IsGiven (held : Held) (limit : ℕ) (name bytes : List ℕ) : Type 0 
 -- so do all these files
 abbrev pub AreGiven : Held → ℕ → List (List ℕ) → List (List ℕ) → Type 0
 AreGiven held limit [] [] = Unit {0}
-AreGiven held limit (name ∷ names) (bytes ∷ files) = IsGiven held limit name bytes × AreGiven held limit names files
+AreGiven held limit (name ∷ names) (bytes ∷ files) =
+    IsGiven held limit name bytes × AreGiven held limit names files
 AreGiven held limit [] (bytes ∷ files) = ⊥
 AreGiven held limit (name ∷ names) [] = ⊥
 
 -- every file was given
-pub record GivesAll (held : Held) (limit : ℕ) (names files : List (List ℕ)) (before after : Counts) : Type 0 where
+pub record GivesAll (held : Held) (limit : ℕ) (names files : List (List ℕ))
+    (before after : Counts) : Type 0 where
   pub given : AreGiven held limit names files
   pub loads : after.loads ≡ raised before.loads (length names)
   pub faults : after.faults ≡ before.faults
   pub last : after.last ≡ before.last
 
 -- the load of that number failed, and every file before it was given
-pub record FailsAt (held : Held) (limit : ℕ) (names : List (List ℕ)) (number : ℕ) (before after : Counts) : Type 0 where
+pub record FailsAt (held : Held) (limit : ℕ) (names : List (List ℕ)) (number : ℕ)
+    (before after : Counts) : Type 0 where
   pub name : List ℕ
   pub is_name : slice_get names number ≡ Some name
   pub files : List (List ℕ)
@@ -53,7 +56,8 @@ pub record FailsAt (held : Held) (limit : ℕ) (names : List (List ℕ)) (number
   pub last : after.last ≡ Some name
 
 -- the file of that number is too long, and every file before it was given
-pub record IsTooLongAt (held : Held) (limit : ℕ) (names : List (List ℕ)) (number : ℕ) (before after : Counts) : Type 0 where
+pub record IsTooLongAt (held : Held) (limit : ℕ) (names : List (List ℕ)) (number : ℕ)
+    (before after : Counts) : Type 0 where
   pub name : List ℕ
   pub is_name : slice_get names number ≡ Some name
   pub longer : IfSome held (IsLonger limit name)
@@ -67,10 +71,12 @@ pub record IsTooLongAt (held : Held) (limit : ℕ) (names : List (List ℕ)) (nu
 abbrev pub LoadsTo : Held → ℕ → List (List ℕ) → Counts → Loaded → Counts → Type 0
 LoadsTo held limit names before (Given files) after = GivesAll held limit names files before after
 LoadsTo held limit names before (Failed number) after = FailsAt held limit names number before after
-LoadsTo held limit names before (TooLong number) after = IsTooLongAt held limit names number before after
+LoadsTo held limit names before (TooLong number) after =
+    IsTooLongAt held limit names number before after
 
 -- there is a name for each file that was given, which keeps the limit, and for the one that was not
 abbrev pub FitsNames : ℕ → Loaded → List (List ℕ) → Type 0
-FitsNames limit (Given files) names = (length files ≡ length names) × All (λ bytes. length bytes ≤ limit) files
+FitsNames limit (Given files) names =
+    (length files ≡ length names) × All (λ bytes. length bytes ≤ limit) files
 FitsNames limit (Failed number) names = number < length names
 FitsNames limit (TooLong number) names = number < length names

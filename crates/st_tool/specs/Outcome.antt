@@ -14,13 +14,16 @@ use Rattle.st_words.specs.Reads.{Reads, HasNoReading}
 
 -- the load of that number stopped a command: its name is told
 abbrev pub StopsAt : (List ℕ → List ℕ) → Command → ℕ → List ℕ → Type 0
-StopsAt text command number bytes = (name : List ℕ) × (slice_get (file_names command) number ≡ Some name) × (bytes ≡ text name)
+StopsAt text command number bytes =
+    (name : List ℕ) × (slice_get (file_names command) number ≡ Some name) × (bytes ≡ text name)
 
 -- What a command gives where its loads came to this.
 abbrev pub Outcome : Command → Loaded → Status → List ℕ → Type 0
 Outcome command (Given files) status bytes = Gives command files status bytes
-Outcome command (Failed number) status bytes = (status ≡ answer.Load) × StopsAt load_failed_text command number bytes
-Outcome command (TooLong number) status bytes = (status ≡ answer.TooLarge) × StopsAt too_large_text command number bytes
+Outcome command (Failed number) status bytes =
+    (status ≡ answer.Load) × StopsAt load_failed_text command number bytes
+Outcome command (TooLong number) status bytes =
+    (status ≡ answer.TooLarge) × StopsAt too_large_text command number bytes
 
 -- the most file names of a command
 abbrev pub most_files : ℕ
@@ -32,24 +35,32 @@ pub record Asks (words : List (List ℕ)) (command : Command) : Type 0 where
   pub few : length (file_names command) ≤ most_files
 
 -- What a call gives: of words, over files of these counts before and after.
-pub data HasOutcome (held : Held) (words : List (List ℕ)) (before after : Counts) : Status → List ℕ → Type 0 where
+pub data HasOutcome (held : Held) (words : List (List ℕ)) (before after : Counts) : Status → List ℕ
+    → Type 0 where
   unread : {bytes : List ℕ} → HasNoReading words → after ≡ before → bytes ≡ usage_text
       → HasOutcome held words before after answer.Usage bytes
-  too_many : {bytes : List ℕ} (command : Command) → Reads words command → most_files < length (file_names command)
-      → after ≡ before → bytes ≡ too_many_text → HasOutcome held words before after answer.TooLarge bytes
+  too_many : {bytes : List ℕ} (command : Command) → Reads words command
+      → most_files < length (file_names command)
+      → after ≡ before → bytes ≡ too_many_text
+      → HasOutcome held words before after answer.TooLarge bytes
   unbuilt : {bytes : List ℕ} (command : Command) → Asks words command → (IsBuilt words command → ⊥)
-      → after ≡ before → bytes ≡ unbuilt_text → HasOutcome held words before after answer.Unbuilt bytes
-  loads : {status : Status} {bytes : List ℕ} (command : Command) (loaded : Loaded) → Asks words command → IsBuilt words command
+      → after ≡ before → bytes ≡ unbuilt_text
+      → HasOutcome held words before after answer.Unbuilt bytes
+  loads : {status : Status} {bytes : List ℕ} (command : Command) (loaded : Loaded)
+      → Asks words command → IsBuilt words command
       → LoadsTo held (limit_of command) (file_names command) before loaded after
       → Outcome command loaded status bytes → HasOutcome held words before after status bytes
 
 -- What was written in a call that ended with a status: all bytes of an outcome of that status; where a write failed, fewer than those of some outcome; where memory was wanting, no more than those of any.
-abbrev pub Written : Held → List (List ℕ) → Counts → Counts → Option (List ℕ) → Option (List ℕ) → Status → Type 0
+abbrev pub Written : Held → List (List ℕ) → Counts → Counts → Option (List ℕ) → Option (List ℕ)
+    → Status → Type 0
 Written held words before after taken now answer.Write =
-    (status : Status) × (bytes : List ℕ) × (out : ℕ) × HasOutcome held words before after status bytes
+    (status : Status) × (bytes : List ℕ) × (out : ℕ)
+    × HasOutcome held words before after status bytes
     × (out < length bytes) × Takes taken now (take out bytes)
 Written held words before after taken now answer.Memory =
-    (ended : Counts) (status : Status) (bytes : List ℕ) → HasOutcome held words before ended status bytes
+    (ended : Counts) (status : Status) (bytes : List ℕ)
+    → HasOutcome held words before ended status bytes
     → (out : ℕ) × Takes taken now (take out bytes)
 Written held words before after taken now status =
     (bytes : List ℕ) × HasOutcome held words before after status bytes × Takes taken now bytes

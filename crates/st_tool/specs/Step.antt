@@ -13,21 +13,31 @@ IsAtMost one other = is_gt (slice_cmp nat_cmp one other) ≡ false
 
 -- one of the rules goes from this atom to that
 abbrev pub Gives : List SmallRule → List ℕ → List ℕ → Type 0
-Gives rules from to = (k : ℕ) × (rule : SmallRule) × (slice_get rules k ≡ Some rule) × (rule.from ≡ from) × (rule.to ≡ to)
+Gives rules from to =
+    (k : ℕ) × (rule : SmallRule) × (slice_get rules k ≡ Some rule) × (rule.from ≡ from)
+    × (rule.to ≡ to)
 
 -- of the first rules, one that goes from this atom to the least atom, if any goes from it
-pub record IsLeastOf (rules : List SmallRule) (from : List ℕ) (count : ℕ) (best : Option SmallRule) : Type 0 where
-  pub none : best ≡ None → (k : ℕ) (rule : SmallRule) → k < count → slice_get rules k ≡ Some rule → rule.from ≡ from → ⊥
-  pub some : (one : SmallRule) → best ≡ Some one → (k : ℕ) × (slice_get rules k ≡ Some one) × (one.from ≡ from)
-  pub least : (one : SmallRule) → best ≡ Some one → (k : ℕ) (rule : SmallRule) → k < count → slice_get rules k ≡ Some rule → rule.from ≡ from → IsAtMost one.to rule.to
+pub record IsLeastOf (rules : List SmallRule) (from : List ℕ) (count : ℕ)
+    (best : Option SmallRule) : Type 0 where
+  pub none : best ≡ None → (k : ℕ) (rule : SmallRule) → k < count → slice_get rules k ≡ Some rule
+      → rule.from ≡ from → ⊥
+  pub some : (one : SmallRule) → best ≡ Some one
+      → (k : ℕ) × (slice_get rules k ≡ Some one) × (one.from ≡ from)
+  pub least : (one : SmallRule) → best ≡ Some one → (k : ℕ) (rule : SmallRule) → k < count
+      → slice_get rules k ≡ Some rule → rule.from ≡ from → IsAtMost one.to rule.to
 
 -- what is least after one rule more
-pub record IsBetter (best : Option SmallRule) (rule : SmallRule) (from : List ℕ) (result : Option SmallRule) : Type 0 where
+pub record IsBetter (best : Option SmallRule) (rule : SmallRule) (from : List ℕ)
+    (result : Option SmallRule) : Type 0 where
   pub none_best : result ≡ None → best ≡ None
   pub none_rule : result ≡ None → rule.from ≡ from → ⊥
-  pub some : (one : SmallRule) → result ≡ Some one → (best ≡ Some one) ⊎ ((rule.from ≡ from) × (rule ≡ one))
-  pub below_best : (one other : SmallRule) → result ≡ Some one → best ≡ Some other → IsAtMost one.to other.to
-  pub below_rule : (one : SmallRule) → result ≡ Some one → rule.from ≡ from → IsAtMost one.to rule.to
+  pub some : (one : SmallRule) → result ≡ Some one
+      → (best ≡ Some one) ⊎ ((rule.from ≡ from) × (rule ≡ one))
+  pub below_best : (one other : SmallRule) → result ≡ Some one → best ≡ Some other
+      → IsAtMost one.to other.to
+  pub below_rule : (one : SmallRule) → result ≡ Some one → rule.from ≡ from
+      → IsAtMost one.to rule.to
 
 -- the rule goes from this atom to the next of the transcript
 pub record IsNextRule (s : Small) (from : List ℕ) (rule : SmallRule) : Type 0 where

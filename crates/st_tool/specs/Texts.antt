@@ -42,7 +42,8 @@ ending_word Fuel = codes "fuel"
 
 -- the last line: how a run ended, after so many steps
 abbrev pub ending_line : Ending → ℕ → List ℕ
-ending_line ending steps = ending_word ending ++ codes " after " ++ decimal steps ++ codes " steps\n"
+ending_line ending steps =
+    ending_word ending ++ codes " after " ++ decimal steps ++ codes " steps\n"
 
 -- the text of a run over these terms
 abbrev pub transcript_text : List Term → Ending → List ℕ
@@ -70,7 +71,8 @@ too_large_text name = codes "too large " ++ name ++ codes "\n"
 
 -- a derivation is accepted: its lines, and the steps among them
 abbrev pub accepted_text : ℕ → ℕ → List ℕ
-accepted_text lines steps = codes "accepted " ++ decimal lines ++ codes " lines " ++ decimal steps ++ codes " steps\n"
+accepted_text lines steps =
+    codes "accepted " ++ decimal lines ++ codes " lines " ++ decimal steps ++ codes " steps\n"
 
 abbrev pub rule_word : VerifyRule → List ℕ
 rule_word V1 = codes "V1"
@@ -89,7 +91,8 @@ rule_word V13 = codes "V13"
 
 -- a line of a derivation is refused by a rule
 abbrev pub refused_text : ℕ → VerifyRule → List ℕ
-refused_text line rule = codes "refused derivation " ++ decimal line ++ codes " " ++ rule_word rule ++ codes "\n"
+refused_text line rule =
+    codes "refused derivation " ++ decimal line ++ codes " " ++ rule_word rule ++ codes "\n"
 
 -- a specification with so many definitions is accepted
 abbrev pub definitions_text : ℕ → List ℕ
@@ -131,4 +134,5 @@ rule_id_word id.M7 = codes "M7"
 -- a place in the file of this name is refused by a rule, and no definition is named
 abbrev pub refused_source_text : List ℕ → Span → RuleId → List ℕ
 refused_source_text name at rule =
-    codes "refused " ++ name ++ codes ":" ++ decimal at.line ++ codes ":" ++ decimal at.column ++ codes " - " ++ rule_id_word rule ++ codes "\n"
+    codes "refused " ++ name ++ codes ":" ++ decimal at.line ++ codes ":" ++ decimal at.column
+    ++ codes " - " ++ rule_id_word rule ++ codes "\n"

@@ -24,21 +24,25 @@ IsStuck il relation term = (next : Term) → Derivable il relation term next →
 -- the next term is the least that is derivable
 pub record IsNext (il : Il) (relation : ℕ) (term next : Term) : Type 0 where
   pub derivable : Derivable il relation term next
-  pub least : (other : Term) → Derivable il relation term other → is_gt (values_cmp next other) ≡ false
+  pub least : (other : Term) → Derivable il relation term other
+      → is_gt (values_cmp next other) ≡ false
 
 -- over the terms before it, a run comes from the start to a term
 pub data Reaches (il : Il) (relation : ℕ) (start : Term) : List Term → Term → Type 0 where
   begins : Reaches il relation start [] start
-  goes_on : {before : List Term} {term next : Term} → Reaches il relation start before term → IsNext il relation term next
+  goes_on : {before : List Term} {term next : Term} → Reaches il relation start before term
+      → IsNext il relation term next
       → Reaches il relation start (before ++ term ∷ []) next
 
 -- how a run ends at a term, with so many terms before it
 abbrev pub EndsBy : Il → ℕ → ℕ → ℕ → Term → Ending → Type 0
 EndsBy il relation limit count last Stuck = (count ≤ limit) × IsStuck il relation last
-EndsBy il relation limit count last Fuel = (count ≡ limit) × ((next : Term) × Derivable il relation last next)
+EndsBy il relation limit count last Fuel =
+    (count ≡ limit) × ((next : Term) × Derivable il relation last next)
 
 -- the terms of a run with this much fuel, and its ending
-pub record IsTranscript (il : Il) (relation : ℕ) (start : Term) (limit : ℕ) (terms : List Term) (ending : Ending) : Type 0 where
+pub record IsTranscript (il : Il) (relation : ℕ) (start : Term) (limit : ℕ) (terms : List Term)
+    (ending : Ending) : Type 0 where
   pub before : List Term
   pub last : Term
   pub reaches : Reaches il relation start before last

@@ -23,7 +23,8 @@ pub record AreLines (bytes : List ℕ) (lines : List Line) (rest : List ℕ) : T
   pub parts : bytes ≡ front ++ rest
 
 -- The texts are those of an internal language and of lines, with what stands behind the lines.
-pub record AreTexts (il_bytes derivation : List ℕ) (il : Il) (lines : List Line) (rest : List ℕ) : Type 0 where
+pub record AreTexts (il_bytes derivation : List ℕ) (il : Il) (lines : List Line)
+    (rest : List ℕ) : Type 0 where
   pub language : IlText il il_bytes
   pub lines_are : AreLines derivation lines rest
 
@@ -35,12 +36,18 @@ steps_in (_ ∷ lines) = steps_in lines
 
 -- What is said of lines and of what stands behind them: that they are accepted, or the first line that is refused, and the rule that it breaks.
 pub data Verified (il : Il) (lines : List Line) (rest : List ℕ) : Status → List ℕ → Type 0 where
-  accepted : {bytes : List ℕ} → Accepts il lines → rest ≡ [] → bytes ≡ accepted_text (length lines) (steps_in lines)
+  accepted : {bytes : List ℕ} → Accepts il lines → rest ≡ []
+      → bytes ≡ accepted_text (length lines) (steps_in lines)
       → Verified il lines rest answer.Done bytes
-  refused : {bytes : List ℕ} (good after : List Line) (line : Line) (notes : Notes) (rule : VerifyRule)
+  refused : {bytes : List ℕ} (good after : List Line) (line : Line) (notes : Notes)
+      (rule : VerifyRule)
       → lines ≡ good ++ line ∷ after → ReadsTo il good notes → Verdict il notes line (Some rule)
-      → bytes ≡ refused_text (length good + 1) rule → Verified il lines rest answer.Verification bytes
+      → bytes ≡ refused_text (length good + 1) rule
+      → Verified il lines rest answer.Verification bytes
   unfinished : {bytes : List ℕ} (notes : Notes) → ReadsTo il lines notes → rest ≢ []
-      → bytes ≡ refused_text (length lines + 1) V3 → Verified il lines rest answer.Verification bytes
-  endless : {bytes : List ℕ} (notes : Notes) → ReadsTo il lines notes → notes.ended ≡ false → rest ≡ []
-      → bytes ≡ refused_text (length lines + 1) V12 → Verified il lines rest answer.Verification bytes
+      → bytes ≡ refused_text (length lines + 1) V3
+      → Verified il lines rest answer.Verification bytes
+  endless : {bytes : List ℕ} (notes : Notes) → ReadsTo il lines notes → notes.ended ≡ false
+      → rest ≡ []
+      → bytes ≡ refused_text (length lines + 1) V12
+      → Verified il lines rest answer.Verification bytes

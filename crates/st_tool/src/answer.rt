@@ -183,7 +183,10 @@ fn answer_command<F: Files>(
     requires few { length (file_names command.now) ≤ most_files }
     ensures same { F.held files.new ≡ F.held files.old }
     ensures loads { IfOk result (λ answer. (loaded : Loading)
-        × LoadsTo (F.held files.old) (limit_of command.now) (file_names command.now) (counts_of (F.loads files.old) (F.faults files.old) (F.last files.old)) loaded (counts_of (F.loads files.new) (F.faults files.new) (F.last files.new))
+        × LoadsTo (F.held files.old) (limit_of command.now) (file_names command.now)
+        (counts_of (F.loads files.old) (F.faults files.old) (F.last files.old))
+        loaded
+        (counts_of (F.loads files.new) (F.faults files.new) (F.last files.new))
         × Outcome command.now loaded answer.status answer.bytes.items) }
 {
     let names = command.file_names(alloc)?;
@@ -206,7 +209,10 @@ fn answer_read<F: Files>(
     files: &mut F,
 ) -> Result<Answer, NoMemory>
     requires { Reads (map string_bytes words.now) command.now }
-    ensures { IfOk result (λ answer. HasOutcome (F.held files.old) (map string_bytes words.now) (counts_of (F.loads files.old) (F.faults files.old) (F.last files.old)) (counts_of (F.loads files.new) (F.faults files.new) (F.last files.new)) answer.status answer.bytes.items) }
+    ensures { IfOk result (λ answer. HasOutcome (F.held files.old) (map string_bytes words.now)
+        (counts_of (F.loads files.old) (F.faults files.old) (F.last files.old))
+        (counts_of (F.loads files.new) (F.faults files.new) (F.last files.new))
+        answer.status answer.bytes.items) }
 {
     if command.file_names(alloc)?.len() > MOST_FILES {
         return line_answer(alloc, Status::TooLarge, "too many files", "");
@@ -223,7 +229,10 @@ pub fn answer_words<F: Files>(
     words: &[String],
     files: &mut F,
 ) -> Result<Answer, NoMemory>
-    ensures { IfOk result (λ answer. HasOutcome (F.held files.old) (map string_bytes words.now) (counts_of (F.loads files.old) (F.faults files.old) (F.last files.old)) (counts_of (F.loads files.new) (F.faults files.new) (F.last files.new)) answer.status answer.bytes.items) }
+    ensures { IfOk result (λ answer. HasOutcome (F.held files.old) (map string_bytes words.now)
+        (counts_of (F.loads files.old) (F.faults files.old) (F.last files.old))
+        (counts_of (F.loads files.new) (F.faults files.new) (F.last files.new))
+        answer.status answer.bytes.items) }
 {
     match read_words(alloc, words) {
         Ok(command) => answer_read(alloc, words, &command, files),

@@ -10,8 +10,9 @@ use crate::Status;
 use crate::answer::{Answer, unbuilt};
 use crate::reader::read_small;
 use itoa::Buffer;
-use st_faults::{first_fault, place_at};
+use st_faults::SyntaxFault;
 use st_num::{NoMemory, Row, RuleId, Span};
+use st_parse::parse;
 use st_scan::{LexFault, Token, scan};
 use st_words::CommandWord;
 use std::alloc::Global;
@@ -128,7 +129,7 @@ fn check_small(alloc: Global, files: &[Row<u8>]) -> Result<Answer, NoMemory>
     }
 }
 
-/// The answer where the tokens of all files are refused, or what is said of the files else.
+/// The answer where the tokens of all files have no trees, or what is said of the files else.
 fn check_tokens(
     alloc: Global,
     names: &[CommandWord],
@@ -141,13 +142,13 @@ fn check_tokens(
     ensures { IfOk result (λ answer. CheckGives names.now files.now answer.status
         answer.bytes.items) }
 {
-    match first_fault(alloc, tokens)? {
-        None => check_small(alloc, files),
-        Some(fault) => {
-            let at = place_at(tokens, fault.place);
+    match parse(alloc, tokens) {
+        Ok(_) => check_small(alloc, files),
+        Err(SyntaxFault::Refused { at, rule }) => {
             let file = names[at.file as usize].as_str();
-            refused(alloc, file, at, fault.rule)
+            refused(alloc, file, at, rule)
         }
+        Err(SyntaxFault::Memory) => Err(NoMemory),
     }
 }
 

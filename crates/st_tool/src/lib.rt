@@ -46,9 +46,15 @@ pub fn serve<F: Files, K: Sink>(
     files: &mut F,
     out: &mut K,
 ) -> Status
-    ensures written { Written (F.held files.old) (map string_bytes words.now.items) (counts_of (F.loads files.old) (F.faults files.old) (F.last files.old)) (counts_of (F.loads files.new) (F.faults files.new) (F.last files.new)) (K.taken out.old) (K.taken out.new) result }
-    ensures load { result ≡ Status.Load → IsLoadFault (map string_bytes words.now.items) (counts_of (F.loads files.old) (F.faults files.old) (F.last files.old)) (counts_of (F.loads files.new) (F.faults files.new) (F.last files.new)) }
-    ensures told { FaultIsTold (counts_of (F.loads files.old) (F.faults files.old) (F.last files.old)) (counts_of (F.loads files.new) (F.faults files.new) (F.last files.new)) result }
+    ensures written { Written (F.held files.old) (map string_bytes words.now.items)
+        (counts_of (F.loads files.old) (F.faults files.old) (F.last files.old))
+        (counts_of (F.loads files.new) (F.faults files.new) (F.last files.new))
+        (K.taken out.old) (K.taken out.new) result }
+    ensures load { result ≡ Status.Load → IsLoadFault (map string_bytes words.now.items)
+        (counts_of (F.loads files.old) (F.faults files.old) (F.last files.old))
+        (counts_of (F.loads files.new) (F.faults files.new) (F.last files.new)) }
+    ensures told { FaultIsTold (counts_of (F.loads files.old) (F.faults files.old) (F.last files.old))
+        (counts_of (F.loads files.new) (F.faults files.new) (F.last files.new)) result }
     ensures accepted { DerivedIsAccepted }
     ensures write { result ≡ Status.Write → Rose (K.faults out.old) (K.faults out.new) }
 {

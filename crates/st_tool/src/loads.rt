@@ -27,7 +27,10 @@ pub fn load_all<F: Files>(
     limit: u32,
 ) -> Result<Loaded, NoMemory>
     ensures same { F.held files.new ≡ F.held files.old }
-    ensures loads { IfOk result (λ loaded. LoadsTo (F.held files.old) limit names.now (counts_of (F.loads files.old) (F.faults files.old) (F.last files.old)) loaded (counts_of (F.loads files.new) (F.faults files.new) (F.last files.new))) }
+    ensures loads { IfOk result (λ loaded. LoadsTo (F.held files.old) limit names.now
+        (counts_of (F.loads files.old) (F.faults files.old) (F.last files.old))
+        loaded
+        (counts_of (F.loads files.new) (F.faults files.new) (F.last files.new))) }
 {
     let mut given = Row::new(alloc);
     for (number, name) in names.iter().enumerate() {

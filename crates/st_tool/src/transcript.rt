@@ -46,7 +46,8 @@ pub const FUEL: u64 = 1000;
 
 /// Runs a specification from an atom.
 pub fn run(alloc: Global, small: &Small, start: &Name) -> Result<Answer, NoMemory>
-    ensures { IfOk result (λ answer. IsRunText small.now start.now answer.status answer.bytes.items) }
+    ensures { IfOk result (λ answer. IsRunText small.now start.now answer.status
+        answer.bytes.items) }
 {
     let mut bytes = Vec::new(alloc);
     let mut atom = start;
@@ -68,7 +69,8 @@ pub fn run(alloc: Global, small: &Small, start: &Name) -> Result<Answer, NoMemor
 /// The answer of a run whose terms are printed.
 fn ended(mut bytes: Vec<u8>, ending: Ending, steps: u64) -> Result<Answer, NoMemory>
     ensures status { IfOk result (λ answer. answer.status ≡ status_of ending) }
-    ensures bytes { IfOk result (λ answer. answer.bytes.items ≡ bytes.items ++ ending_line ending steps) }
+    ensures bytes { IfOk result (λ answer.
+        answer.bytes.items ≡ bytes.items ++ ending_line ending steps) }
 {
     push_ending_line(&mut bytes, ending, steps)?;
     Ok(Answer {

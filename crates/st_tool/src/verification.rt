@@ -60,7 +60,8 @@ fn take_lines<'a>(
     verifier: &mut Verifier,
     bytes: &'a [u8],
 ) -> Result<Option<&'a [u8]>, NoMemory>
-    requires new { verifier.old ≡ record { il = verifier.old.il; notes = nothing_noted; refusal = None } }
+    requires new { verifier.old
+        ≡ record { il = verifier.old.il; notes = nothing_noted; refusal = None } }
     requires short { length bytes.now ≤ text_limit }
     ensures some { IfOk result (λ taken. IfSome taken (λ rest.
         TakenTo verifier.old.il bytes.now verifier.new rest.now × ¬ (Contains rest.now 10))) }
