@@ -1,9 +1,12 @@
 -- What a call gives is what the table gives.
 use Rattle.std.proofs.Common.{◌≡◌, sym, subst, false}
-use Rattle.std.specs.Prelude.{Result, Ok, Err}
+use Rattle.std.specs.Prelude.{Result, Ok, Err, IfOk}
 use Rattle.st_el.specs.declared.expression.Exp.{Exp}
+use Rattle.st_el.specs.Plain.{plain_exp}
+use Rattle.st_il.specs.declared.definition.Il.{Il}
 use Rattle.st_il.specs.declared.ty.Ty.{Ty}
 use Rattle.st_il.specs.declared.expression.IlExp.{IlExp}
+use Rattle.st_erase.specs.Erasure.{erased_exp}
 use Rattle.st_elaboration.specs.declared.decls.Decls.{Decls}
 use Rattle.st_elaboration.specs.declared.decls.Scope.{Scope}
 use Rattle.st_elaboration.specs.declared.fault.ExpFault.{ExpFault}
@@ -12,8 +15,10 @@ use Rattle.st_elaboration.specs.declared.within.Within.{Within}
 use Rattle.st_elaboration.specs.Forms.{place}
 use Rattle.st_elaboration.specs.Questions.{Question, check, infer, Made, Breach, Gives, Fails}
 use Rattle.st_elaboration.specs.Steps.{made, asked, found}
-use Rattle.st_elaboration.specs.Elaboration.{Answered, around, Elab, Infer}
+use Rattle.st_elaboration.specs.Elaboration.{Answered, around, Elab, ElabBreach, Infer, InferBreach}
 use Rattle.st_elaboration.proofs.Single.{Answered-single}
+use Rattle.st_elab_law.specs.Agreement.{Agrees}
+use Rattle.st_elab_law.proofs.Table.{Elab-erases, Infer-erases}
 use Rattle.st_elab_row.specs.Told.{Told}
 use Rattle.st_elab_exp.specs.Exactly.{IsGiven, IsRefused}
 use Rattle.st_elab_exp.proofs.Typing.{of_its_type}
@@ -45,3 +50,14 @@ module _ (D : Decls) (S : Scope) where
   pub is_inferred : (e : Exp) (u : Ty) (w : Within) (x y : IlExp) → w ≡ around S → x ≡ y → Answered D S (infer w (place e) e) (Gives (made y u)) → Infer D S e x u
   is_inferred e u w x y is same h =
       subst (λ z. Answered D S (found (around S) e) (Gives (made z u))) (sym same) (subst (λ z. Answered D S (infer z (place e) e) (Gives (made y u))) is h)
+
+-- ---- what is given is erased to the expression
+
+module _ (il : Il) (D : Decls) (S : Scope) (agrees : Agrees il D) where
+  pub told_erased : (e : Exp) (t : Ty) (r : Result IlExp ExpFault) → Told (Elab D S e t) (ElabBreach D S e t) r → IfOk r (λ x. plain_exp (erased_exp il x) ≡ plain_exp e)
+  told_erased e t (Ok x) h = Elab-erases il.defs D S agrees.table agrees.whole e t x h
+  told_erased e t (Err fault) h = tt
+
+  pub found_erased : (e : Exp) (r : Result (IlExp × Ty) ExpFault) → Told (λ (p : IlExp × Ty). Infer D S e p.0 p.1) (InferBreach D S e) r → IfOk r (λ p. plain_exp (erased_exp il p.0) ≡ plain_exp e)
+  found_erased e (Ok p) h = Infer-erases il.defs D S agrees.table agrees.whole e p.0 p.1 h
+  found_erased e (Err fault) h = tt

@@ -1,10 +1,14 @@
 //! Expressions, elaborated: at a type, or with their own.
 
 ghost use Rattle.std.specs.Prelude.{◌≡◌, IfOk};
+ghost use Rattle.st_el.specs.Plain.{plain_exp};
+ghost use Rattle.st_il.specs.declared.definition.Il.{Il};
 ghost use Rattle.st_il.specs.declared.ty.Ty.{Ty};
 ghost use Rattle.st_il.specs.declared.expression.IlExp.{IlExp};
+ghost use Rattle.st_erase.specs.Erasure.{erased_exp};
 ghost use Rattle.st_elaboration.specs.Questions.{Breach};
 ghost use Rattle.st_elaboration.specs.Elaboration.{around, Elab, ElabBreach, Infer, InferBreach};
+ghost use Rattle.st_elab_law.specs.Agreement.{Agrees};
 ghost use Rattle.st_elab_row.specs.Told.{Told};
 ghost use Rattle.st_elab_exp.specs.Exactly.{IsGiven, IsRefused};
 
@@ -29,7 +33,8 @@ fn around(alloc: Global, scope: &Scope) -> Result<Within, NoMemory>
 }
 
 /// What the expression is at the type: exactly what the table gives, or else exactly the first
-/// breach. Memory is wanting also where more than 10,000 questions lie inside one another.
+/// breach. It is erased to the expression. Memory is wanting also where more than 10,000
+/// questions lie inside one another.
 pub fn check_exp(
     alloc: Global,
     decls: &Decls,
@@ -42,6 +47,8 @@ pub fn check_exp(
     ensures gives { (x : IlExp) → Elab decls.now scope.now exp.now ty.now x → IsGiven x result }
     ensures refuses { (b : Breach) → ElabBreach decls.now scope.now exp.now ty.now b
         → IsRefused b result }
+    ensures erased { (il : Il) → Agrees il decls.now
+        → IfOk result (λ x. plain_exp (erased_exp il x) ≡ plain_exp exp.now) }
 {
     let within = around(alloc, scope)?;
     let asking = Asking::Check {
@@ -55,7 +62,8 @@ pub fn check_exp(
 }
 
 /// What the expression is, and its type: exactly what the table gives, or else exactly the first
-/// breach. Memory is wanting also where more than 10,000 questions lie inside one another.
+/// breach. It is erased to the expression. Memory is wanting also where more than 10,000
+/// questions lie inside one another.
 pub fn infer_exp(
     alloc: Global,
     decls: &Decls,
@@ -68,6 +76,8 @@ pub fn infer_exp(
         → IsGiven (x, t) result }
     ensures refuses { (b : Breach) → InferBreach decls.now scope.now exp.now b
         → IsRefused b result }
+    ensures erased { (il : Il) → Agrees il decls.now
+        → IfOk result (λ found. plain_exp (erased_exp il found.0) ≡ plain_exp exp.now) }
 {
     let within = around(alloc, scope)?;
     let asking = Asking::Infer { at: exp.at, exp };

@@ -6,7 +6,7 @@ use Rattle.st_elaboration.specs.Steps.{made, asked, exp_of}
 use Rattle.st_elaboration.specs.Elaboration.{Answered, around, Elab, ElabBreach}
 use Rattle.st_elab_row.specs.Told.{Told}
 use Rattle.st_elab_row.proofs.Builds.{Told-stops}
-use Rattle.st_elab_exp.proofs.Public.{told_given, told_refused, is_elaborated}
+use Rattle.st_elab_exp.proofs.Public.{told_given, told_refused, told_erased, is_elaborated}
 use Rattle.st_elab_exp.proofs.elaborate.check_exp.Goals as goal
 
 pub returns-in_err-found : goal.returns-in_err-found
@@ -23,6 +23,7 @@ returns-in_err-found c =
       told = told;
       gives = λ x g. told_given D S (asked (around S) e t) (λ y. made y t) _ x (λ y m. ap exp_of m) told g;
       refuses = λ b g. told_refused D S (asked (around S) e t) (λ y. made y t) _ b told g;
+      erased = λ il agrees. told_erased il D S agrees e t c.from_residual-in_err-found.result told;
     }
 
 pub returns : goal.returns
@@ -36,4 +37,5 @@ returns c =
       told = told;
       gives = λ x g. told_given D S (asked (around S) e t) (λ y. made y t) (Ok c.into_inner.result) x (λ y m. ap exp_of m) told g;
       refuses = λ b g. told_refused D S (asked (around S) e t) (λ y. made y t) (Ok c.into_inner.result) b told g;
+      erased = λ il agrees. told_erased il D S agrees e t (Ok c.into_inner.result) told;
     }

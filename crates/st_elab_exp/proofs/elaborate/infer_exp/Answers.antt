@@ -8,7 +8,7 @@ use Rattle.st_elaboration.specs.Steps.{made, found}
 use Rattle.st_elaboration.specs.Elaboration.{Answered, around, Infer, InferBreach}
 use Rattle.st_elab_row.specs.Told.{Told}
 use Rattle.st_elab_row.proofs.Builds.{Told-stops}
-use Rattle.st_elab_exp.proofs.Public.{told_given, told_refused, is_inferred}
+use Rattle.st_elab_exp.proofs.Public.{told_given, told_refused, found_erased, is_inferred}
 use Rattle.st_elab_exp.proofs.elaborate.infer_exp.Goals as goal
 
 pub returns-in_err-found : goal.returns-in_err-found
@@ -24,6 +24,7 @@ returns-in_err-found c =
       told = told;
       gives = λ x t g. told_given D S (found (around S) e) (λ (p : IlExp × Ty). made p.0 p.1) _ (x, t) (λ p m. ap (λ (n : Made). (n.exp, n.ty)) m) told g;
       refuses = λ b g. told_refused D S (found (around S) e) (λ (p : IlExp × Ty). made p.0 p.1) _ b told g;
+      erased = λ il agrees. found_erased il D S agrees e c.from_residual-in_err-found.result told;
     }
 
 pub returns : goal.returns
@@ -36,4 +37,5 @@ returns c =
       told = told;
       gives = λ x t g. told_given D S (found (around S) e) (λ (p : IlExp × Ty). made p.0 p.1) (Ok (c.into_inner.result, c.in_ok-found.found.ty)) (x, t) (λ p m. ap (λ (n : Made). (n.exp, n.ty)) m) told g;
       refuses = λ b g. told_refused D S (found (around S) e) (λ (p : IlExp × Ty). made p.0 p.1) (Ok (c.into_inner.result, c.in_ok-found.found.ty)) b told g;
+      erased = λ il agrees. found_erased il D S agrees e (Ok (c.into_inner.result, c.in_ok-found.found.ty)) told;
     }
