@@ -1,0 +1,17 @@
+//! Expressions in text, elaborated at types in text.
+//!
+//! Nothing is called from here: the crate holds the tests of `check_exp` and `infer_exp` that need
+//! the parser. Declarations and types are read from the text of the internal language, and what
+//! an expression is elaborated to is printed in it.
+//!
+//! Read `rows` first; each is worked out by hand from `docs/elaboration.md`.
+#![tactic(auto)]
+
+#[cfg(test)]
+mod declared;
+#[cfg(test)]
+mod printed;
+#[cfg(test)]
+mod rows;
+#[cfg(test)]
+mod tests;
