@@ -90,7 +90,7 @@ fn tys_behind(alloc: Global, parts: &[TextTree]) -> Result<Row<Ty>, NoMemory> {
 }
 
 /// The type of which this is the text.
-pub fn type_of(alloc: Global, text: &str) -> Result<Ty, NoMemory> {
+pub(crate) fn type_of(alloc: Global, text: &str) -> Result<Ty, NoMemory> {
     let tree = tree_of(alloc, text)?;
     ty_of(alloc, &tree)
 }
@@ -160,7 +160,7 @@ fn syntax_of(alloc: Global, text: &str) -> Result<SyntaxDef, NoMemory> {
 }
 
 /// The syntaxes of which these are the texts.
-pub fn syntaxes_of(alloc: Global, texts: &[&str]) -> Result<Row<SyntaxDef>, NoMemory> {
+pub(crate) fn syntaxes_of(alloc: Global, texts: &[&str]) -> Result<Row<SyntaxDef>, NoMemory> {
     let mut all = Row::new(alloc);
     for text in texts {
         all.push(syntax_of(alloc, text)?)?;
@@ -169,7 +169,7 @@ pub fn syntaxes_of(alloc: Global, texts: &[&str]) -> Result<Row<SyntaxDef>, NoMe
 }
 
 /// The variable names of which these are the texts, as `(var "x" T)`.
-pub fn vars_of(alloc: Global, texts: &[&str]) -> Result<Row<(Name, Ty)>, NoMemory> {
+fn vars_of(alloc: Global, texts: &[&str]) -> Result<Row<(Name, Ty)>, NoMemory> {
     let mut all = Row::new(alloc);
     for text in texts {
         let tree = tree_of(alloc, text)?;
@@ -201,7 +201,7 @@ fn fun_of(alloc: Global, text: &str) -> Result<FunDef, NoMemory> {
 }
 
 /// The functions of which these are the texts.
-pub fn funs_of(alloc: Global, texts: &[&str]) -> Result<Row<FunDef>, NoMemory> {
+fn funs_of(alloc: Global, texts: &[&str]) -> Result<Row<FunDef>, NoMemory> {
     let mut all = Row::new(alloc);
     for text in texts {
         all.push(fun_of(alloc, text)?)?;
@@ -230,7 +230,7 @@ fn variable_of(alloc: Global, text: &str) -> Result<(Name, Ty, Dim), NoMemory> {
 }
 
 /// The scope of the variables of which these are the texts.
-pub fn scope_of(alloc: Global, texts: &[&str]) -> Result<Scope, NoMemory> {
+pub(crate) fn scope_of(alloc: Global, texts: &[&str]) -> Result<Scope, NoMemory> {
     let mut variables = Row::new(alloc);
     for text in texts {
         variables.push(variable_of(alloc, text)?)?;
@@ -242,7 +242,7 @@ pub fn scope_of(alloc: Global, texts: &[&str]) -> Result<Scope, NoMemory> {
 }
 
 /// Declarations over a table.
-pub fn decls_of(
+pub(crate) fn decls_of(
     alloc: Global,
     types: TypeTable,
     vars: &[&str],

@@ -16,7 +16,7 @@ fn quoted(name: &Name, out: &mut Vec<u8>) -> Result<(), NoMemory> {
 
 /// Appends the text of the type.
 #[cycle(ty)]
-pub fn print_ty(ty: &Ty, out: &mut Vec<u8>) -> Result<(), NoMemory> {
+pub(crate) fn print_ty(ty: &Ty, out: &mut Vec<u8>) -> Result<(), NoMemory> {
     match ty {
         Ty::Bool => word(b"bool", out),
         Ty::Nat => word(b"nat", out),
@@ -127,7 +127,7 @@ fn word_of(number: NumTy) -> &'static [u8] {
 
 /// Appends the text of the expression.
 #[cycle(exp)]
-pub fn print_exp(exp: &IlExp, out: &mut Vec<u8>) -> Result<(), NoMemory> {
+pub(crate) fn print_exp(exp: &IlExp, out: &mut Vec<u8>) -> Result<(), NoMemory> {
     match exp {
         IlExp::Bool(truth) => word(if *truth { b"true".as_slice() } else { b"false" }, out),
         IlExp::Number(number) => print_natural(*number, out),
