@@ -36,8 +36,8 @@ fn build_all(
     read_source(alloc, names, tokens, draft)
 }
 
-/// The definitions of tokens without a fault, where these names are declared by `var`. Building
-/// fails for memory alone where no tree is higher than 100.
+/// The definitions of tokens without a fault, where these names are declared by `var`. Whatever
+/// building fails for is told as want of memory; no clause says that it is nothing else.
 fn read_definitions(alloc: Global, names: &[Name], tokens: &[Token]) -> Result<Row<Def>, NoMemory>
     requires names { names.now ≡ lexemes.declared_names tokens.now }
     requires faultless { Faultless tokens.now }

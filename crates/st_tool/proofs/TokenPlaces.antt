@@ -1,9 +1,10 @@
 -- The files in which the tokens of all files stand.
-use Rattle.std.proofs.Common.{◌≡◌, ◌≢◌, ℕ, zero, suc, ◌+◌, ◌-◌, ◌<◌, List, [], ◌∷◌, ◌++◌, length, Bool, true, false, nat_lt, refl, sym, ap, subst, arith}
+use Rattle.std.proofs.Common.{◌≡◌, ◌≢◌, ℕ, zero, suc, ◌+◌, ◌-◌, ◌<◌, List, [], ◌∷◌, length, Bool, true, false, nat_lt, refl, sym, ap, subst, arith}
 use Rattle.std.specs.Prelude.{slice_get}
 use Rattle.std.specs.List.{AllByRecursion}
 use Rattle.st_faults.specs.Place.{place_of, place_at}
 use Rattle.st_num.specs.declared.span.Span.{Span}
+use Rattle.st_parse.proofs.Standing.{both}
 use Rattle.st_scan.specs.declared.token.Token.{Token}
 use Rattle.st_scan.specs.Tokens.{Run}
 use Rattle.st_tool.specs.Checking.{AllTokens}
@@ -17,17 +18,13 @@ run_before n number file rest left [] small run = tt
 run_before n number file rest left (t ∷ ts) small (middle, next, more) =
     (subst (λ m. m < n) (sym (ap (λ (s : Span). s.file) next.at)) small, run_before n number file middle left ts small more)
 
-both_before : (n : ℕ) (first later : List Token) → StandBefore n first → StandBefore n later → StandBefore n (first ++ later)
-both_before n [] later none all = all
-both_before n (t ∷ ts) later (h, hs) all = (h, both_before n ts later hs all)
-
 pub all_before : (n number : ℕ) (files : List (List ℕ)) (tokens : List Token) → n ≡ number + length files → AllTokens number files tokens → StandBefore n tokens
 all_before n number [] tokens e none = subst (StandBefore n) (sym none) tt
 all_before n number (file ∷ files) tokens e (first, later, here, rest, is) =
     let small : number < n = omega (arith, e) in
     let next : n ≡ suc number + length files = omega (arith, e) in
     subst (StandBefore n) (sym is)
-    (both_before n first later (run_before n number file file here.left first small here.run) (all_before n (suc number) files later next rest))
+    (both (λ (t : Token). t.at.file < n) first later (run_before n number file file here.left first small here.run) (all_before n (suc number) files later next rest))
 
 token_before : (n : ℕ) (tokens : List Token) (k : ℕ) → StandBefore n tokens → k < length tokens → (place_of (slice_get tokens k)).file < n
 token_before n [] k all small = absurd (omega (arith, small))
