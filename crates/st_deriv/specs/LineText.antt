@@ -1,4 +1,6 @@
--- The texts of the lines of a derivation. So far of lines whose values are cases without operands, and whose nodes have no bindings, children and evidence.
+-- The texts of the lines of a derivation.
+-- So far of lines whose values are cases without operands, and whose nodes have no bindings,
+-- children and evidence.
 use Rattle.std.specs.Prelude.{◌≡◌, ℕ, ◌≤◌, ◌^◌, ◌<◌, List, [], ◌∷◌, ◌++◌, map, flat_map, None, codes, decimal, ◌⊎◌}
 use Rattle.std.specs.List.{All}
 use Rattle.st_deriv.specs.declared.line.Ending.{Ending}
@@ -41,7 +43,8 @@ IsUpperLetter byte = (65 ≤ byte) × (byte ≤ 90)
 
 abbrev pub IsNameByte : ℕ → Type 0
 IsNameByte byte =
-    IsUpperLetter byte ⊎ ((97 ≤ byte) × (byte ≤ 122)) ⊎ ((48 ≤ byte) × (byte ≤ 57)) ⊎ (byte ≡ 95) ⊎ (byte ≡ 39)
+    IsUpperLetter byte ⊎ ((97 ≤ byte) × (byte ≤ 122)) ⊎ ((48 ≤ byte) × (byte ≤ 57)) ⊎ (byte ≡ 95)
+    ⊎ (byte ≡ 39)
 
 abbrev pub IsRelationName : List ℕ → Type 0
 IsRelationName [] = ⊥
@@ -52,7 +55,8 @@ ending_word Stuck = codes "stuck"
 ending_word Fuel = codes "fuel"
 ending_word Depth = codes "depth"
 
--- a node that has no bindings, no children and no evidence, and whose values are cases without operands
+-- a node that has no bindings, no children and no evidence,
+-- and whose values are cases without operands
 pub record IsPlainNode (node : NodeLine) : Type 0 where
   pub env : node.env.entries ≡ []
   pub children : node.children ≡ []
@@ -70,11 +74,14 @@ IsPlainLine (End ending) = Unit {0}
 -- what stands behind a node's word
 abbrev pub node_trees : NodeLine → TextTrees
 node_trees node =
-    more (quote node.relation) (more (quote node.rule) (more (list none) (more (list none) (more (list (value_trees node.values)) none))))
+    more (quote node.relation)
+    (more (quote node.rule)
+    (more (list none) (more (list none) (more (list (value_trees node.values)) none))))
 
 -- the row of trees that a line is printed as
 abbrev pub line_trees : Line → TextTrees
-line_trees (Head format relation) = more (word (codes "derivation")) (more (word (codes "1")) (more (word relation) none))
+line_trees (Head format relation) =
+    more (word (codes "derivation")) (more (word (codes "1")) (more (word relation) none))
 line_trees (From values) = more (word (codes "from")) (value_trees values)
 line_trees (Node node) = more (word (codes "node")) (node_trees node)
 line_trees (Step number) = more (word (codes "step")) (more (word (decimal number)) none)

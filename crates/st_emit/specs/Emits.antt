@@ -264,4 +264,5 @@ abbrev pub emissions : Sort → List Mark → out.State → List Lexeme → List
 emissions base marks st [] = finishing st
 emissions base marks st (l ∷ w) =
     emits base marks st (shape l) (token_in l)
-    ++ on_next (λ next. emissions base (kept base marks st (shape l)) next w) (out.step base st (shape l))
+    ++ on_next (λ next. emissions base (kept base marks st (shape l)) next w)
+    (out.step base st (shape l))

@@ -26,7 +26,8 @@ pub fn tokens_emit()
         → reads (start σ) us ≡ Some t → acts t ≡ emissions σ [] (Operand, []) us }
 {}
 
-/// What the tokens of a part add builds its meaning: of an expression, of a type, and of a notation.
+/// What the tokens of a part add builds its meaning:
+/// of an expression, of a type, and of a notation.
 pub fn tokens_build()
     ensures part { (σ : Sort) (us : List Lexeme) (t : Tree) (s : Stack)
         → reads (start σ) us ≡ Some t

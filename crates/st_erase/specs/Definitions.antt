@@ -50,18 +50,22 @@ erased_alternative (alternative.Incl name) = notation (not_node.Hole (typ (typ_n
 
 abbrev pub erased_body : SyntaxBody → Body
 erased_body (body.Alias t) = el_body.Alias (erased_ty t)
-erased_body (body.Variant alternatives) = el_body.Cases false (map erased_alternative alternatives) false
+erased_body (body.Variant alternatives) =
+    el_body.Cases false (map erased_alternative alternatives) false
 erased_body (body.Fields fields) = el_body.Fields (map erased_field fields)
 
 -- ---- modes
 
 abbrev pub mode_word : Bool → Token
-mode_word input = record { at = nowhere; touching = false; kind = Low (if input then codes "in" else codes "out") }
+mode_word input =
+    record
+    { at = nowhere; touching = false; kind = Low (if input then codes "in" else codes "out") }
 
 -- no hint where there is no mode
 abbrev pub mode_hints : List Bool → List Hint
 mode_hints [] = []
-mode_hints (hole ∷ holes) = record { name = codes "mode"; words = map mode_word (hole ∷ holes) } ∷ []
+mode_hints (hole ∷ holes) =
+    record { name = codes "mode"; words = map mode_word (hole ∷ holes) } ∷ []
 
 -- the hints of a definition: the mode of a relation
 abbrev pub hints_of : IlDef → List Hint
@@ -104,11 +108,13 @@ module _ (defs : List IlDef) where
   erased_prem = fold-IlPrem Prem prem_at
 
   abbrev pub erased_rule : RuleDef → DefNode
-  erased_rule d = el.Rule d.relation d.name (judgement d.relation d.conclusion) (map erased_prem d.premises)
+  erased_rule d =
+      el.Rule d.relation d.name (judgement d.relation d.conclusion) (map erased_prem d.premises)
 
   abbrev pub erased_clause : ClauseDef → DefNode
   erased_clause d =
-      el.Clause d.fun (map whole (map (erased defs) d.args)) (whole (erased defs d.result)) (map erased_prem d.premises)
+      el.Clause d.fun (map whole (map (erased defs) d.args)) (whole (erased defs d.result))
+      (map erased_prem d.premises)
 
   abbrev pub erased_node : IlDef → DefNode
   erased_node (il.Syntax d) = el.Syntax d.name None (erased_body d.body)

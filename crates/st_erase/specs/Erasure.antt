@@ -52,7 +52,8 @@ lifted_at e (Node-F.Seq parts) = exp (node.Paren e)
 lifted_at e (Node-F.Infix left sign right) = exp (node.Paren e)
 lifted_at e _ = e
 
--- The element of a one-element list or option stands in parentheses where it is a sequence or has a sign of notation.
+-- The element of a one-element list or option stands in parentheses
+-- where it is a sequence or has a sign of notation.
 abbrev pub lifted : Exp → Exp
 lifted e = lifted_at e (opened e)
 
@@ -69,7 +70,8 @@ abbrev pub list_of : List Item → Erased
 list_of [] = plain_form node.Eps
 list_of (one e ∷ []) = record { exp = lifted e; kind = kind.Plain }
 list_of (all e ∷ []) = record { exp = e; kind = kind.Plain }
-list_of (item ∷ next ∷ items) = record { exp = sequence (map source (item ∷ next ∷ items)); kind = kind.Run }
+list_of (item ∷ next ∷ items) =
+    record { exp = sequence (map source (item ∷ next ∷ items)); kind = kind.Run }
 
 -- ---- records
 
@@ -121,7 +123,8 @@ module _ (defs : List IlDef) where
   exp_at (IlExp-F.Ge x y) = binary mark.GreaterOrEqual x y
   exp_at (IlExp-F.Member x y) = binary mark.ElementOf x y
   exp_at (IlExp-F.Case ty tag xs) = case_by (template_of tag) xs
-  exp_at (IlExp-F.Fields ty xs) = plain_form (node.Fields (fields (fields_of (length defs) defs ty) xs))
+  exp_at (IlExp-F.Fields ty xs) =
+      plain_form (node.Fields (fields (fields_of (length defs) defs ty) xs))
   exp_at (IlExp-F.Dot x field) = plain_form (node.Dot (whole x) field)
   exp_at (IlExp-F.Set x path y) = plain_form (node.Update (whole x) path (whole y))
   exp_at (IlExp-F.Extend x path y) = plain_form (node.Extend (whole x) path (whole y))

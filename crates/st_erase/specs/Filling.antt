@@ -43,7 +43,8 @@ alone w = record { out = w.out ∷ []; rest = w.rest }
 
 -- how a part of a sequence is written before these parts
 abbrev pub write_part : Part → List Part → List Erased → Written (List Exp)
-write_part part behind xs = if part.is_hole && takes_run behind then write_run xs else alone (part.write xs)
+write_part part behind xs =
+    if part.is_hole && takes_run behind then write_run xs else alone (part.write xs)
 
 abbrev pub behind_it : List Exp → Written (List Exp) → Written (List Exp)
 behind_it es w = record { out = es ++ w.out; rest = w.rest }
@@ -57,17 +58,23 @@ abbrev pub in_sequence : Written (List Exp) → Written Exp
 in_sequence w = record { out = sequence w.out; rest = w.rest }
 
 abbrev pub between : Written Exp → Mark → (List Erased → Written Exp) → Written Exp
-between left sign right = record { out = exp (node.Infix left.out sign (right left.rest).out); rest = (right left.rest).rest }
+between left sign right =
+    record
+    { out = exp (node.Infix left.out sign (right left.rest).out); rest = (right left.rest).rest }
 
 abbrev pub in_bracket : Mark → Written Exp → Written Exp
 in_bracket opening w = record { out = exp (node.Bracket opening w.out); rest = w.rest }
 
 abbrev pub part_at : Template-F Part → Part
-part_at (Template-F.Atom name) = record { is_hole = false; is_atom = true; write = λ xs. record { out = exp (node.Atom name); rest = xs } }
+part_at (Template-F.Atom name) =
+    record
+    { is_hole = false; is_atom = true; write = λ xs. record { out = exp (node.Atom name); rest = xs } }
 part_at Template-F.Hole = record { is_hole = true; is_atom = false; write = write_hole }
-part_at (Template-F.Seq parts) = record { is_hole = false; is_atom = false; write = λ xs. in_sequence (write_parts parts xs) }
+part_at (Template-F.Seq parts) =
+    record { is_hole = false; is_atom = false; write = λ xs. in_sequence (write_parts parts xs) }
 part_at (Template-F.Infix left sign right) =
-    record { is_hole = false; is_atom = false; write = λ xs. between (left.write xs) sign right.write }
+    record
+    { is_hole = false; is_atom = false; write = λ xs. between (left.write xs) sign right.write }
 part_at (Template-F.Bracket opening inside) =
     record { is_hole = false; is_atom = false; write = λ xs. in_bracket opening (inside.write xs) }
 

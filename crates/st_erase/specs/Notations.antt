@@ -50,21 +50,27 @@ note_hole [] = record { out = notation (not_node.Seq []); rest = [] }
 note_hole (t ∷ ts) = record { out = notation (not_node.Hole t); rest = ts }
 
 abbrev pub behind_note : Noted Notation → (List Typ → Noted (List Notation)) → Noted (List Notation)
-behind_note first others = record { out = first.out ∷ (others first.rest).out; rest = (others first.rest).rest }
+behind_note first others =
+    record { out = first.out ∷ (others first.rest).out; rest = (others first.rest).rest }
 
 abbrev pub note_parts : List Note → List Typ → Noted (List Notation)
 note_parts [] ts = record { out = []; rest = ts }
 note_parts (part ∷ parts) ts = behind_note (part ts) (note_parts parts)
 
 abbrev pub note_infix : Noted Notation → Mark → Note → Noted Notation
-note_infix left sign right = record { out = notation (not_node.Infix left.out sign (right left.rest).out); rest = (right left.rest).rest }
+note_infix left sign right =
+    record
+    { out = notation (not_node.Infix left.out sign (right left.rest).out); rest = (right left.rest).rest }
 
 abbrev pub note_at : Template-F Note → Note
 note_at (Template-F.Atom name) ts = record { out = notation (not_node.Atom name); rest = ts }
 note_at Template-F.Hole ts = note_hole ts
-note_at (Template-F.Seq parts) ts = record { out = notation (not_node.Seq (note_parts parts ts).out); rest = (note_parts parts ts).rest }
+note_at (Template-F.Seq parts) ts =
+    record
+    { out = notation (not_node.Seq (note_parts parts ts).out); rest = (note_parts parts ts).rest }
 note_at (Template-F.Infix left sign right) ts = note_infix (left ts) sign right
-note_at (Template-F.Bracket opening inside) ts = record { out = notation (not_node.Bracket opening (inside ts).out); rest = (inside ts).rest }
+note_at (Template-F.Bracket opening inside) ts =
+    record { out = notation (not_node.Bracket opening (inside ts).out); rest = (inside ts).rest }
 
 abbrev pub note_of : Template → Note
 note_of = fold-Template Note note_at

@@ -53,6 +53,7 @@ run_by kind.Arithmetic e = in_arithmetic e ∷ []
 run_by kind.Run e = parts_of e
 run_by kind.Absent e = []
 
--- In a hole that takes a run, a list of two or more parts is written as its parts, and what was left out is not written.
+-- In a hole that takes a run, a list of two or more parts is written as its parts,
+-- and what was left out is not written.
 abbrev pub run : Erased → List Exp
 run x = run_by x.kind x.exp

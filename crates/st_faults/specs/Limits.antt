@@ -165,7 +165,8 @@ abbrev pub part_tallies : ℕ → reading.State → List Tally
 part_tallies n (want fs) = due_tally n fs ∷ tallies_round n fs
 part_tallies n (got t fs) = held_tally n (signs t) (posts t) fs ∷ tallies_round n fs
 part_tallies n (naming h ts pre fs) =
-    tally (size ts) 0 (signs_in n (within h ts pre fs)) 0 true ∷ tallies_round n (within h ts pre fs)
+    tally (size ts) 0 (signs_in n (within h ts pre fs)) 0 true
+    ∷ tallies_round n (within h ts pre fs)
 part_tallies n (pathed p fs) =
     fresh 0 ∷ held_tally n (path_signs p) (path_posts p) fs ∷ tallies_round n fs
 part_tallies n (indexing o fs) = fresh 0 ∷ held_tally n 0 0 fs ∷ tallies_round n fs

@@ -1,4 +1,5 @@
--- What can be derived: some valid tree has the judgement. No order of premises, no matching and no search is told.
+-- What can be derived: some valid tree has the judgement.
+-- No order of premises, no matching and no search is told.
 use Rattle.std.specs.Prelude.{◌≡◌, ℕ, List, [], ◌∷◌, ◌++◌, Some, slice_get, take, bytes_eq, if◌then◌else◌}
 use Rattle.st_il.specs.declared.definition.Il.{Il}
 use Rattle.st_il.specs.declared.definition.IlDef.{IlDef}
@@ -26,14 +27,19 @@ relations (_ ∷ defs) = relations defs
 -- the rules of a relation, in order
 abbrev pub rules_of : List ℕ → List IlDef → List RuleDef
 rules_of name [] = []
-rules_of name (Rule rule ∷ defs) = if bytes_eq rule.relation name then rule ∷ rules_of name defs else rules_of name defs
+rules_of name (Rule rule ∷ defs) =
+    if bytes_eq rule.relation name then rule ∷ rules_of name defs else rules_of name defs
 rules_of name (_ ∷ defs) = rules_of name defs
 
 -- the relation of that number has this name
 abbrev pub IsRelation : Il → ℕ → List ℕ → Type 0
-IsRelation il number name = (relation : RelationDef) × (slice_get (relations il.defs) number ≡ Some relation) × (relation.name ≡ name)
+IsRelation il number name =
+    (relation : RelationDef) × (slice_get (relations il.defs) number ≡ Some relation)
+    × (relation.name ≡ name)
 
--- An environment fits the variables of a rule: it has each of them with a value of its type in its dimension, and no other. So far for rules without variables.
+-- An environment fits the variables of a rule:
+-- it has each of them with a value of its type in its dimension, and no other.
+-- So far for rules without variables.
 abbrev pub EnvOk : List Listed → Env → Type 0
 EnvOk variables env = (variables ≡ []) × (env.entries ≡ [])
 
@@ -64,17 +70,24 @@ mutual
         → Proved il V O (root_of tree) tree.env rule.premises tree.children
         → Valid il V O tree
 
-  -- Under an environment the premises hold at a root, and these children stand for those that cite a relation, in order.
-  pub data Proved (il : Il) (V : Meaning) (O : Exclusion) : Root → Env → List IlPrem → List Child → Type 0 where
+  -- Under an environment the premises hold at a root,
+  -- and these children stand for those that cite a relation, in order.
+  pub data Proved (il : Il) (V : Meaning) (O : Exclusion) : Root → Env → List IlPrem → List Child
+      → Type 0 where
     done : {root : Root} {env : Env} → Proved il V O root env [] []
-    plain : {root : Root} {env : Env} {premise : IlPrem} {premises : List IlPrem} {children : List Child}
+    plain : {root : Root} {env : Env} {premise : IlPrem} {premises : List IlPrem}
+        {children : List Child}
         → Holds V (O root) env premise
-        → Proved il V O root env premises children → Proved il V O root env (premise ∷ premises) children
-    goal : {root : Root} {env : Env} {premise : IlPrem} {premises : List IlPrem} {child : Child} {children : List Child}
+        → Proved il V O root env premises children
+        → Proved il V O root env (premise ∷ premises) children
+    goal : {root : Root} {env : Env} {premise : IlPrem} {premises : List IlPrem} {child : Child}
+        {children : List Child}
         (name : List ℕ) (exps : List IlExp) (below : Tree)
         → out-IlPrem premise ≡ IlPrem-F.Goal name exps → out-Child child ≡ Child-F.One below
-        → Valid il V O below → IsRelation il below.relation name → HaveValues V env exps below.values
-        → Proved il V O root env premises children → Proved il V O root env (premise ∷ premises) (child ∷ children)
+        → Valid il V O below → IsRelation il below.relation name
+        → HaveValues V env exps below.values
+        → Proved il V O root env premises children
+        → Proved il V O root env (premise ∷ premises) (child ∷ children)
 
 -- So far no rule has an `otherwise`, and none is decided.
 abbrev pub undecided : Exclusion
@@ -83,7 +96,9 @@ undecided = λ root. ⊥
 abbrev pub IsValid : Il → Tree → Type 0
 IsValid il tree = Valid il HasValue undecided tree
 
--- The relation of that number derives these outputs from these inputs: some valid tree of it has this judgement. So far for relations whose inputs stand before their outputs.
+-- The relation of that number derives these outputs from these inputs:
+-- some valid tree of it has this judgement.
+-- So far for relations whose inputs stand before their outputs.
 pub record Derivable (il : Il) (relation : ℕ) (inputs outputs : List Value) : Type 0 where
   pub tree : Tree
   pub valid : IsValid il tree

@@ -7,7 +7,8 @@ use Rattle.st_il.specs.declared.value.Env.{Env}
 use Rattle.st_il.specs.declared.value.Value.TheVariants as value
 use Rattle.st_il.specs.Evaluation.{Meaning}
 
--- A premise that cites no relation holds. `V` says when an expression has a value, and `O` what an `otherwise` says.
+-- A premise that cites no relation holds.
+-- `V` says when an expression has a value, and `O` what an `otherwise` says.
 pub data Holds (V : Meaning) (O : Type 0) : Env → IlPrem → Type 0 where
   condition : {env : Env} {premise : IlPrem} (exp : IlExp)
       → out-IlPrem premise ≡ IlPrem-F.If exp → V env exp (value.Bool true) → Holds V O env premise

@@ -1,4 +1,5 @@
--- The key of a template: its top sign, or else its first element where that is an atom or a bracket, or else none.
+-- The key of a template: its top sign,
+-- or else its first element where that is an atom or a bracket, or else none.
 use Rattle.std.specs.Prelude.{ℕ, List, [], ◌∷◌}
 use Rattle.st_num.specs.declared.mark.Mark.{Mark}
 use Rattle.st_il.specs.declared.key.Key.{Key}

@@ -35,7 +35,8 @@ role_of CloseBracket = Closes Brackets
 role_of CloseBrace = Closes Braces
 role_of _ = Other
 
--- The level of what stands at the left and the right of a sign is tighter than the sign's. Only `;` groups to the left, and `->` to the right.
+-- The level of what stands at the left and the right of a sign is tighter than the sign's.
+-- Only `;` groups to the left, and `->` to the right.
 abbrev pub left_of : ℕ → ℕ
 left_of level = if level == 10 then level else level + 1
 
@@ -65,29 +66,35 @@ is_name_byte byte = is_ascii_uppercase byte || is_ascii_digit byte || byte == 95
 -- a name of capitals, as CONST or I32
 abbrev pub IsUpName : List ℕ → Type 0
 IsUpName [] = ⊥
-IsUpName (byte ∷ bytes) = IsTrue (is_ascii_uppercase byte) × AllByRecursion (λ b. IsTrue (is_name_byte b)) bytes
+IsUpName (byte ∷ bytes) =
+    IsTrue (is_ascii_uppercase byte) × AllByRecursion (λ b. IsTrue (is_name_byte b)) bytes
 
 -- such a name, or several joined by dots, as LOCAL.GET
 pub data IsAtom : List ℕ → Type 0 where
   single : {atom : List ℕ} → IsUpName atom → IsAtom atom
-  dotted : {atom : List ℕ} (first rest : List ℕ) → atom ≡ first ++ 46 ∷ rest → IsUpName first → IsAtom rest → IsAtom atom
+  dotted : {atom : List ℕ} (first rest : List ℕ) → atom ≡ first ++ 46 ∷ rest → IsUpName first
+      → IsAtom rest → IsAtom atom
 
 mutual
   -- the template is a notation, and may stand where this level or a tighter one is due
   pub data IsNotation : ℕ → Template → Type 0 where
-    atom : {n : ℕ} {t : Template} (name : List ℕ) → t ≡ template.Atom name → IsAtom name → IsNotation n t
+    atom : {n : ℕ} {t : Template} (name : List ℕ) → t ≡ template.Atom name → IsAtom name
+        → IsNotation n t
     hole : {n : ℕ} {t : Template} → t ≡ template.Hole → IsNotation n t
     bracket : {n : ℕ} {t : Template} (opening : Mark) (enclosure : Enclosure) (inside : Template)
-        → t ≡ template.Bracket opening inside → role_of opening ≡ Opens enclosure → IsNotation 7 inside → IsNotation n t
+        → t ≡ template.Bracket opening inside → role_of opening ≡ Opens enclosure
+        → IsNotation 7 inside → IsNotation n t
     sequence : {n : ℕ} {t : Template} (parts : List Template)
         → n ≤ 14 → t ≡ template.Seq parts → AreElements parts → 2 ≤ length parts → IsNotation n t
     divided : {n : ℕ} {t : Template} (level : ℕ) (left : Template) (sign : Mark) (right : Template)
         → n ≤ level → t ≡ template.Infix left sign right → role_of sign ≡ Divides level
         → IsNotation (left_of level) left → IsNotation (right_of level) right → IsNotation n t
     without_left : {n : ℕ} {t : Template} (right : Template)
-        → n ≤ 7 → t ≡ template.Infix (template.Seq []) Turnstile right → IsNotation 8 right → IsNotation n t
+        → n ≤ 7 → t ≡ template.Infix (template.Seq []) Turnstile right → IsNotation 8 right
+        → IsNotation n t
 
   -- Elements of a sequence are atoms, holes and brackets.
   pub data AreElements : List Template → Type 0 where
     none : AreElements []
-    more : {t : Template} {ts : List Template} → IsNotation 15 t → AreElements ts → AreElements (t ∷ ts)
+    more : {t : Template} {ts : List Template} → IsNotation 15 t → AreElements ts
+        → AreElements (t ∷ ts)

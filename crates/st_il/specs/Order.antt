@@ -40,7 +40,8 @@ module _ {X : Type 0} (part_cmp : X → Value → Ordering) where
   level_cmp (Value-F.Bool truth) (Value-F.Bool other) = bool_cmp truth other
   level_cmp (Value-F.Num number) (Value-F.Num other) = int_cmp number other
   level_cmp (Value-F.Text text) (Value-F.Text other) = text_cmp text other
-  level_cmp (Value-F.Case tag parts) (Value-F.Case other others) = ordering_then (text_cmp tag other) (slice_cmp part_cmp parts others)
+  level_cmp (Value-F.Case tag parts) (Value-F.Case other others) =
+      ordering_then (text_cmp tag other) (slice_cmp part_cmp parts others)
   level_cmp (Value-F.Fields fields) (Value-F.Fields others) = slice_cmp field_cmp fields others
   level_cmp (Value-F.Tuple parts) (Value-F.Tuple others) = slice_cmp part_cmp parts others
   level_cmp (Value-F.List parts) (Value-F.List others) = slice_cmp part_cmp parts others

@@ -1,4 +1,5 @@
--- How the words of a tag are read, one after another: what waits, the innermost first, and what each word makes of it.
+-- How the words of a tag are read, one after another:
+-- what waits, the innermost first, and what each word makes of it.
 use Rattle.std.specs.Prelude.{ℕ, List, [], ◌∷◌, ◌++◌, reverse, Option, Some, None, Bool, true, false, ◌&&◌, nat_le, nat_lt, if◌then◌else◌}
 use Rattle.std.specs.Option.{option_map, option_and_then}
 use Rattle.st_num.specs.declared.mark.Mark.{Mark}
@@ -57,7 +58,9 @@ is_outermost (Left left sign ∷ fs) = false
 is_outermost (Elements parts ∷ fs) = false
 
 abbrev pub begin_sign : List Frame → Mark → Role → Option State
-begin_sign fs sign (Divides level) = if may_lack_left sign && is_outermost fs then Some (due (Left (template.Seq []) sign ∷ fs)) else None
+begin_sign fs sign (Divides level) =
+    if may_lack_left sign && is_outermost fs then Some (due (Left (template.Seq []) sign ∷ fs))
+    else None
 begin_sign fs sign (Opens enclosure) = Some (due (Open sign enclosure ∷ fs))
 begin_sign fs sign (Closes enclosure) = None
 begin_sign fs sign Other = None
@@ -94,11 +97,14 @@ limited t = if nat_le (template_height t) 100 then Some t else None
 -- the frames that bind tighter than a sign of this level end
 abbrev pub reduce : ℕ → Template → List Frame → Option (Template × List Frame)
 reduce level t [] = Some (t, [])
-reduce level t (f ∷ fs) = if binds f level then option_and_then (λ grown. reduce level grown fs) (limited (closed f t)) else Some (t, f ∷ fs)
+reduce level t (f ∷ fs) =
+    if binds f level then option_and_then (λ grown. reduce level grown fs) (limited (closed f t))
+    else Some (t, f ∷ fs)
 
 -- the template is the left side of a sign
 abbrev pub divide : Mark → ℕ → Template × List Frame → Option State
-divide sign level p = if nat_le (left_of level) (level_of p.0) then Some (due (Left p.0 sign ∷ p.1)) else None
+divide sign level p =
+    if nat_le (left_of level) (level_of p.0) then Some (due (Left p.0 sign ∷ p.1)) else None
 
 abbrev pub is_same : Enclosure → Enclosure → Bool
 is_same Parens Parens = true
@@ -109,14 +115,18 @@ is_same _ _ = false
 -- the innermost bracket ends, where it is one of these
 abbrev pub shut : Enclosure → Template → List Frame → Option State
 shut enclosure t [] = None
-shut enclosure t (Open opening opened ∷ fs) = if is_same opened enclosure then option_map (λ bracket. read bracket fs) (limited (template.Bracket opening t)) else None
+shut enclosure t (Open opening opened ∷ fs) =
+    if is_same opened enclosure
+    then option_map (λ bracket. read bracket fs) (limited (template.Bracket opening t))
+    else None
 shut enclosure t (Left left sign ∷ fs) = None
 shut enclosure t (Elements parts ∷ fs) = None
 
 abbrev pub after_sign : Template → List Frame → Mark → Role → Option State
 after_sign t fs sign (Divides level) = option_and_then (divide sign level) (reduce level t fs)
 after_sign t fs sign (Opens enclosure) = begin (extend t fs) (word.Sign sign)
-after_sign t fs sign (Closes enclosure) = option_and_then (λ p. shut enclosure p.0 p.1) (reduce 0 t fs)
+after_sign t fs sign (Closes enclosure) =
+    option_and_then (λ p. shut enclosure p.0 p.1) (reduce 0 t fs)
 after_sign t fs sign Other = begin (extend t fs) (word.Sign sign)
 
 -- what a word makes behind an element

@@ -1,4 +1,5 @@
--- Small specifications in the internal language: one syntax of atoms, and one relation whose rules have no premises.
+-- Small specifications in the internal language:
+-- one syntax of atoms, and one relation whose rules have no premises.
 use Rattle.std.specs.Prelude.{◌≡◌, ℕ, ◌≤◌, ◌≢◌, length, List, [], ◌∷◌, map, codes, All, Contains}
 use Rattle.std.specs.List.{AllPairs}
 use Rattle.st_il.specs.declared.definition.Alternative.TheVariants.{Case as CaseAlternative}
@@ -25,9 +26,9 @@ IsWordOf IsLetter word = (word ≢ []) × All IsLetter word
 -- the words that name no syntax
 abbrev pub reserved : List (List ℕ)
 reserved =
-    codes "syntax" ∷ codes "relation" ∷ codes "rule" ∷ codes "var" ∷ codes "def" ∷ codes "grammar" ∷ codes "hint"
-    ∷ codes "if" ∷ codes "otherwise" ∷ codes "eps" ∷ codes "true" ∷ codes "false" ∷ codes "bool" ∷ codes "nat"
-    ∷ codes "int" ∷ codes "text" ∷ codes "rat" ∷ codes "real" ∷ []
+    codes "syntax" ∷ codes "relation" ∷ codes "rule" ∷ codes "var" ∷ codes "def" ∷ codes "grammar"
+    ∷ codes "hint" ∷ codes "if" ∷ codes "otherwise" ∷ codes "eps" ∷ codes "true" ∷ codes "false"
+    ∷ codes "bool" ∷ codes "nat" ∷ codes "int" ∷ codes "text" ∷ codes "rat" ∷ codes "real" ∷ []
 
 -- no two of them are equal
 abbrev pub AreDistinct : List (List ℕ) → Type 0
@@ -70,16 +71,19 @@ rule_def relation syntax rule =
     })
 
 abbrev pub syntax_def : List ℕ → List (List ℕ) → IlDef
-syntax_def syntax atoms = Syntax (record { name = syntax; body = Variant (map (λ atom. CaseAlternative atom []) atoms) })
+syntax_def syntax atoms =
+    Syntax (record { name = syntax; body = Variant (map (λ atom. CaseAlternative atom []) atoms) })
 
 abbrev pub relation_def : List ℕ → List ℕ → IlDef
 relation_def relation syntax =
-    Relation (record { name = relation; tag = codes "% ~> %"; holes = Name syntax ∷ Name syntax ∷ []; mode = [] })
+    Relation (record
+    { name = relation; tag = codes "% ~> %"; holes = Name syntax ∷ Name syntax ∷ []; mode = [] })
 
 abbrev pub il_of : Small → Il
 il_of s =
     record {
-      defs = syntax_def s.syntax s.atoms ∷ relation_def s.relation s.syntax ∷ map (rule_def s.relation s.syntax) s.rules;
+      defs = syntax_def s.syntax s.atoms ∷ relation_def s.relation s.syntax
+          ∷ map (rule_def s.relation s.syntax) s.rules;
     }
 
 -- an internal language that a small specification means

@@ -34,7 +34,8 @@ words_at (Template-F.Atom name) = word.Atom name ∷ []
 words_at Template-F.Hole = word.Hole ∷ []
 words_at (Template-F.Seq parts) = flat_map (λ part. part) parts
 words_at (Template-F.Infix left sign right) = left ++ word.Sign sign ∷ right
-words_at (Template-F.Bracket opening inside) = word.Sign opening ∷ (inside ++ word.Sign (closing opening) ∷ [])
+words_at (Template-F.Bracket opening inside) =
+    word.Sign opening ∷ (inside ++ word.Sign (closing opening) ∷ [])
 
 -- the words of a template, in order
 abbrev pub words_of : Template → List Word

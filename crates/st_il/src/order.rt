@@ -12,7 +12,8 @@ use std::cmp::Ordering;
 pub fn compare(a: &Value, b: &Value) -> Ordering
     ensures order { result ≡ value_cmp a.now b.now }
     ensures law { IsOrder value_cmp }
-    ensures atoms { (one other : List ℕ) → a.now ≡ Value.Case one [] → b.now ≡ Value.Case other [] → result ≡ text_cmp one other }
+    ensures atoms { (one other : List ℕ) → a.now ≡ Value.Case one [] → b.now ≡ Value.Case other []
+        → result ≡ text_cmp one other }
 {
     compare_value(a, b)
 }

@@ -39,7 +39,8 @@ pub enum State {
 /// The template that has this tag.
 pub fn template_of(alloc: Global, tag: &Name) -> Result<Option<Template>, NoMemory>
     ensures some { IfOk result (λ found. IfSome found (λ template. HasTag template tag.now)) }
-    ensures none { IfOk result (λ found. IfNone found ((template : Template) → HasTag template tag.now → ⊥)) }
+    ensures none { IfOk result
+        (λ found. IfNone found ((template : Template) → HasTag template tag.now → ⊥)) }
     ensures one { HasOneTemplate tag.now }
 {
     let found = read_tag(alloc, tag.as_slice())?;
@@ -48,7 +49,8 @@ pub fn template_of(alloc: Global, tag: &Name) -> Result<Option<Template>, NoMemo
 
 fn read_tag(alloc: Global, tag: &[u8]) -> Result<Option<Template>, NoMemory>
     ensures some { IfOk result (λ found. IfSome found (λ template. HasTag template tag.now)) }
-    ensures none { IfOk result (λ found. IfNone found ((template : Template) → HasTag template tag.now → ⊥)) }
+    ensures none { IfOk result
+        (λ found. IfNone found ((template : Template) → HasTag template tag.now → ⊥)) }
 {
     let Some(words) = words(alloc, tag)? else {
         return Ok(None);
@@ -89,7 +91,8 @@ fn after(
     frames: Row<Frame>,
     word: &Word,
 ) -> Result<Option<State>, NoMemory>
-    ensures { IfOk result (λ next. option_map state_of next ≡ spec.after template (reverse frames) word.now) }
+    ensures { IfOk result
+        (λ next. option_map state_of next ≡ spec.after template (reverse frames) word.now) }
 {
     match word {
         Word::Hole | Word::Atom(_) => begin(alloc, extend(alloc, template, frames)?, word),
@@ -103,7 +106,8 @@ fn after(
 
 /// Takes a word where an operand is due.
 fn begin(alloc: Global, mut frames: Row<Frame>, word: &Word) -> Result<Option<State>, NoMemory>
-    ensures { IfOk result (λ next. option_map state_of next ≡ spec.begin (reverse frames) word.now) }
+    ensures { IfOk result
+        (λ next. option_map state_of next ≡ spec.begin (reverse frames) word.now) }
 {
     match word {
         Word::Hole => Ok(Some(State::Read(Template::Hole, frames))),
@@ -169,7 +173,8 @@ fn divide(
     sign: Mark,
     level: u8,
 ) -> Result<Option<State>, NoMemory>
-    ensures { IfOk result (λ next. option_map state_of next ≡ option_and_then (spec.divide sign level) (spec.reduce level template (reverse frames))) }
+    ensures { IfOk result (λ next. option_map state_of next
+        ≡ option_and_then (spec.divide sign level) (spec.reduce level template (reverse frames))) }
 {
     let Some((left, mut frames)) = reduce(alloc, template, frames, level)? else {
         return Ok(None);
@@ -188,7 +193,9 @@ fn shut(
     frames: Row<Frame>,
     enclosure: Enclosure,
 ) -> Result<Option<State>, NoMemory>
-    ensures { IfOk result (λ next. option_map state_of next ≡ option_and_then (λ p. spec.shut enclosure p.0 p.1) (spec.reduce 0 template (reverse frames))) }
+    ensures { IfOk result (λ next. option_map state_of next
+        ≡ option_and_then (λ p. spec.shut enclosure p.0 p.1)
+        (spec.reduce 0 template (reverse frames))) }
 {
     let Some((inside, mut frames)) = reduce(alloc, template, frames, 0)? else {
         return Ok(None);
@@ -229,7 +236,8 @@ fn reduce(
     mut frames: Row<Frame>,
     level: u8,
 ) -> Result<Option<(Template, Row<Frame>)>, NoMemory>
-    ensures { IfOk result (λ found. option_map reversed found ≡ spec.reduce level template (reverse frames)) }
+    ensures { IfOk result
+        (λ found. option_map reversed found ≡ spec.reduce level template (reverse frames)) }
 {
     'frames: while let Some(frame) = frames.pop() {
         if !binds(&frame, level) {

@@ -37,7 +37,8 @@ pub const SIGNS: [Mark; 18] = [
 /// The words that are spaced so, if there are any.
 pub fn words(alloc: Global, tag: &[u8]) -> Result<Option<Row<Word>>, NoMemory>
     ensures some { IfOk result (λ found. IfSome found (λ ws. AreWords ws tag.now)) }
-    ensures none { IfOk result (λ found. IfNone found ((ws : List Word) → AreWords ws tag.now → ⊥)) }
+    ensures none { IfOk result
+        (λ found. IfNone found ((ws : List Word) → AreWords ws tag.now → ⊥)) }
 {
     let mut words = Row::new(alloc);
     let mut rest = tag;
@@ -57,7 +58,8 @@ pub fn words(alloc: Global, tag: &[u8]) -> Result<Option<Row<Word>>, NoMemory>
 /// What stands before the first space, and what stands behind it.
 fn split_word(bytes: &[u8]) -> (&[u8], Option<&[u8]>)
     ensures front { All (λ byte. byte ≢ 32) result.0.now }
-    ensures whole { MatchOption result.1 (bytes.now ≡ result.0.now) (λ behind. bytes.now ≡ result.0.now ++ 32 ∷ behind.now) }
+    ensures whole { MatchOption result.1 (bytes.now ≡ result.0.now)
+        (λ behind. bytes.now ≡ result.0.now ++ 32 ∷ behind.now) }
 {
     for (i, byte) in bytes.iter().enumerate() {
         if *byte == b' ' {
@@ -69,8 +71,10 @@ fn split_word(bytes: &[u8]) -> (&[u8], Option<&[u8]>)
 
 /// The word that is written so, if there is one.
 fn word_of(alloc: Global, text: &[u8]) -> Result<Option<Word>, NoMemory>
-    ensures some { IfOk result (λ found. IfSome found (λ word. IsWord word × (written word ≡ text.now))) }
-    ensures none { IfOk result (λ found. IfNone found ((word : Word) → IsWord word → written word ≢ text.now)) }
+    ensures some { IfOk result
+        (λ found. IfSome found (λ word. IsWord word × (written word ≡ text.now))) }
+    ensures none { IfOk result
+        (λ found. IfNone found ((word : Word) → IsWord word → written word ≢ text.now)) }
 {
     if text == b"%".as_slice() {
         return Ok(Some(Word::Hole));
@@ -86,8 +90,10 @@ fn word_of(alloc: Global, text: &[u8]) -> Result<Option<Word>, NoMemory>
 
 /// The sign of notations that is written so, if there is one.
 fn sign_of(text: &[u8]) -> Option<Mark>
-    ensures some { IfSome result (λ sign. (role_of sign ≢ Role.Other) × (spelling sign ≡ text.now)) }
-    ensures none { IfNone result ((sign : Mark) → role_of sign ≢ Role.Other → spelling sign ≢ text.now) }
+    ensures some { IfSome result
+        (λ sign. (role_of sign ≢ Role.Other) × (spelling sign ≡ text.now)) }
+    ensures none { IfNone result
+        ((sign : Mark) → role_of sign ≢ Role.Other → spelling sign ≢ text.now) }
 {
     find_sign(&SIGNS, text)
 }
@@ -95,7 +101,8 @@ fn sign_of(text: &[u8]) -> Option<Mark>
 /// The first of the signs that is written so, if there is one.
 fn find_sign(signs: &[Mark], text: &[u8]) -> Option<Mark>
     requires { All (λ sign. role_of sign ≢ Role.Other) signs.now }
-    ensures some { IfSome result (λ sign. (role_of sign ≢ Role.Other) × (spelling sign ≡ text.now)) }
+    ensures some { IfSome result
+        (λ sign. (role_of sign ≢ Role.Other) × (spelling sign ≡ text.now)) }
     ensures none { IfNone result (All (λ sign. spelling sign ≢ text.now) signs.now) }
 {
     for sign in signs {

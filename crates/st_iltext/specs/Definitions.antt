@@ -41,11 +41,13 @@ abbrev pub definition_tree : IlDef → TextTree
 definition_tree (Syntax d) = form (codes "syntax") (quote d.name ∷ body_tree d.body ∷ [])
 definition_tree (Var x t) = form (codes "var") (quote x ∷ ty_tree t ∷ [])
 definition_tree (Relation d) =
-    form (codes "relation") (quote d.name ∷ quote d.tag ∷ group (map ty_tree d.holes) ∷ form (codes "mode") (map mode_word d.mode) ∷ [])
+    form (codes "relation") (quote d.name ∷ quote d.tag ∷ group (map ty_tree d.holes)
+    ∷ form (codes "mode") (map mode_word d.mode) ∷ [])
 definition_tree (Rule d) =
     form (codes "rule") (quote d.relation ∷ quote d.name ∷ group (map listed_tree d.variables)
     ∷ group (map exp_tree d.conclusion) ∷ map prem_tree d.premises)
-definition_tree (Fun d) = form (codes "fun") (quote d.name ∷ group (map ty_tree d.params) ∷ ty_tree d.result ∷ [])
+definition_tree (Fun d) =
+    form (codes "fun") (quote d.name ∷ group (map ty_tree d.params) ∷ ty_tree d.result ∷ [])
 definition_tree (Clause d) =
-    form (codes "clause") (quote d.fun ∷ group (map listed_tree d.variables) ∷ group (map exp_tree d.args)
-    ∷ exp_tree d.result ∷ map prem_tree d.premises)
+    form (codes "clause") (quote d.fun ∷ group (map listed_tree d.variables)
+    ∷ group (map exp_tree d.args) ∷ exp_tree d.result ∷ map prem_tree d.premises)

@@ -109,13 +109,15 @@ abbrev pub exp_tree : IlExp → TextTree
 exp_tree = fold-IlExp TextTree TextTree TextTree TextTree exp_at iteration_at item_at segment_at
 
 abbrev pub iteration_tree : Iteration → TextTree
-iteration_tree = fold-Iteration TextTree TextTree TextTree TextTree exp_at iteration_at item_at segment_at
+iteration_tree =
+    fold-Iteration TextTree TextTree TextTree TextTree exp_at iteration_at item_at segment_at
 
 abbrev pub item_tree : ListItem → TextTree
 item_tree = fold-ListItem TextTree TextTree TextTree TextTree exp_at iteration_at item_at segment_at
 
 abbrev pub segment_tree : PathSeg → TextTree
-segment_tree = fold-PathSeg TextTree TextTree TextTree TextTree exp_at iteration_at item_at segment_at
+segment_tree =
+    fold-PathSeg TextTree TextTree TextTree TextTree exp_at iteration_at item_at segment_at
 
 abbrev pub prem_at : IlPrem-F TextTree → TextTree
 prem_at (IlPrem-F.If e) = form (codes "if") (exp_tree e ∷ [])

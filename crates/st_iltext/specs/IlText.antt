@@ -38,13 +38,14 @@ pub record BeginText (lines : List (List ℕ)) : Type 0 where
   pub text : IlText il bytes
   pub first : FirstLines lines bytes
 
--- It is the line behind the most first lines of the bytes that begin the text of some internal language. Lines count
--- from 1.
+-- It is the line behind the most first lines of the bytes that begin the text of some internal
+-- language. Lines count from 1.
 pub record IsFirstBadLine (bytes : List ℕ) (line : ℕ) : Type 0 where
   pub good : List (List ℕ)
   pub first : FirstLines good bytes
   pub begin : BeginText good
-  pub most : (lines : List (List ℕ)) → FirstLines lines bytes → BeginText lines → length lines ≤ length good
+  pub most : (lines : List (List ℕ)) → FirstLines lines bytes → BeginText lines
+      → length lines ≤ length good
   pub behind : line ≡ length good + 1
 
 -- what the reader of an internal language says of the bytes

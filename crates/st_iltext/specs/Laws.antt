@@ -4,7 +4,8 @@ use Rattle.st_iltext.specs.Text.{TextTree, TextTrees, text, HasText, TreeText, R
 
 -- a tree has at most one text
 abbrev pub OneText : Type 0
-OneText = (t : TextTree) (bytes others : List ℕ) → TreeText t bytes → TreeText t others → bytes ≡ others
+OneText =
+    (t : TextTree) (bytes others : List ℕ) → TreeText t bytes → TreeText t others → bytes ≡ others
 
 -- a text has at most one tree
 abbrev pub OneTree : Type 0
@@ -16,10 +17,14 @@ OneRow = (ts us : TextTrees) (bytes : List ℕ) → RowText ts bytes → RowText
 
 -- at most one tree has its text at the front of bytes
 abbrev pub OneFront : Type 0
-OneFront = (t u : TextTree) (bytes rest other : List ℕ) → FrontText t bytes rest → FrontText u bytes other → (t ≡ u) × (rest ≡ other)
+OneFront =
+    (t u : TextTree) (bytes rest other : List ℕ) → FrontText t bytes rest → FrontText u bytes other
+    → (t ≡ u) × (rest ≡ other)
 
--- A text with a space, a closing parenthesis or a line feed behind it does not begin the text of another tree with
--- one of these behind it.
+-- A text with a space, a closing parenthesis or a line feed behind it does not begin the text of
+-- another tree with one of these behind it.
 abbrev pub NoFrontOfAnother : Type 0
-NoFrontOfAnother = (t u : TextTree) (b c : ℕ) (rest : List ℕ) → HasText t → HasText u → Ends (b ∷ []) → Ends (c ∷ [])
+NoFrontOfAnother =
+    (t u : TextTree) (b c : ℕ) (rest : List ℕ) → HasText t → HasText u
+    → Ends (b ∷ []) → Ends (c ∷ [])
     → text u ++ c ∷ [] ≡ (text t ++ b ∷ []) ++ rest → (t ≡ u) × (b ≡ c) × (rest ≡ [])

@@ -9,4 +9,5 @@ names_of names = map (λ name. name.now) names
 
 -- where the name is new, it goes behind the others, and else it is among them
 abbrev pub Adds : List (List ℕ) → List ℕ → List (List ℕ) → Bool → Type 0
-Adds old name new added = MatchBool added ((Contains old name → ⊥) × (new ≡ old ++ name ∷ [])) (Contains old name)
+Adds old name new added =
+    MatchBool added ((Contains old name → ⊥) × (new ≡ old ++ name ∷ [])) (Contains old name)

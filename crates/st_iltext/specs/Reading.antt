@@ -61,13 +61,17 @@ pub record ReadsNoContent (bytes : List ℕ) : Type 0 where
   pub never : (s rest : List ℕ) → ReadsContent bytes s rest → ⊥
 
 abbrev pub AnswersTree : ℕ → List ℕ → Result (program.TextTree × Bor (List ℕ)) TextFault → Type 0
-AnswersTree limit bytes result = Answers result (λ p. Reads limit bytes (tree_of p.0) p.1.now) (ReadsNoTree limit bytes)
+AnswersTree limit bytes result =
+    Answers result (λ p. Reads limit bytes (tree_of p.0) p.1.now) (ReadsNoTree limit bytes)
 
-abbrev pub AnswersRow : ℕ → List ℕ → Result (List program.TextTree × Bor (List ℕ)) TextFault → Type 0
-AnswersRow limit bytes result = Answers result (λ p. ReadsRow limit bytes (trees_of p.0) p.1.now) (ReadsNoRow limit bytes)
+abbrev pub AnswersRow : ℕ → List ℕ
+    → Result (List program.TextTree × Bor (List ℕ)) TextFault → Type 0
+AnswersRow limit bytes result =
+    Answers result (λ p. ReadsRow limit bytes (trees_of p.0) p.1.now) (ReadsNoRow limit bytes)
 
 abbrev pub AnswersContent : List ℕ → Result (List ℕ × Bor (List ℕ)) TextFault → Type 0
-AnswersContent bytes result = Answers result (λ p. ReadsContent bytes p.0 p.1.now) (ReadsNoContent bytes)
+AnswersContent bytes result =
+    Answers result (λ p. ReadsContent bytes p.0 p.1.now) (ReadsNoContent bytes)
 
 abbrev pub FirstIsWord : List ℕ → Type 0
 FirstIsWord [] = ⊥

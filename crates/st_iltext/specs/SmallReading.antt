@@ -32,17 +32,20 @@ pub record IsSyntax (x : List ℕ) (tags : List (List ℕ)) : Type 0 where
 
 -- the specification with these first two lines and these rules
 abbrev pub small_of : Head → List SmallRule → Small
-small_of head rules = record { syntax = head.syntax; atoms = head.atoms; relation = head.relation; rules = rules }
+small_of head rules =
+    record { syntax = head.syntax; atoms = head.atoms; relation = head.relation; rules = rules }
 
 abbrev pub rule_lines : Head → List SmallRule → List (List ℕ)
 rule_lines head rules = map (rule_line head) rules
 
 -- no line of a further rule stands next
 pub record NoRuleNext (head : Head) (rules : List SmallRule) (rest : List ℕ) : Type 0 where
-  pub never : (line others : List ℕ) (rule : SmallRule) → rest ≡ line ++ 10 ∷ others → (Contains line 10 → ⊥)
+  pub never : (line others : List ℕ) (rule : SmallRule) → rest ≡ line ++ 10 ∷ others
+      → (Contains line 10 → ⊥)
       → IsSmall (small_of head (rules ++ rule ∷ [])) → line ≢ rule_line head rule
 
--- behind the lines of some rules stands something else, and the line named is the first that is no rule's
+-- behind the lines of some rules stands something else,
+-- and the line named is the first that is no rule's
 pub record StopsAt (head : Head) (bytes : List ℕ) (line : ℕ) : Type 0 where
   pub rules : List SmallRule
   pub rest : List ℕ
@@ -53,7 +56,8 @@ pub record StopsAt (head : Head) (bytes : List ℕ) (line : ℕ) : Type 0 where
   pub behind : line ≡ length rules + 3
 
 abbrev pub ReadsRules : Head → List ℕ → Result (List SmallRule) TextFault → Type 0
-ReadsRules head bytes (Ok rules) = IsSmall (small_of head rules) × (bytes ≡ lines_text (rule_lines head rules))
+ReadsRules head bytes (Ok rules) =
+    IsSmall (small_of head rules) × (bytes ≡ lines_text (rule_lines head rules))
 ReadsRules head bytes (Err (Malformed line)) = StopsAt head bytes line
 ReadsRules head bytes (Err Memory) = Unit {0}
 
@@ -62,6 +66,7 @@ abbrev pub head_lines : Head → List (List ℕ)
 head_lines head = syntax_line head.syntax head.atoms ∷ relation_line head.relation head.syntax ∷ []
 
 abbrev pub ReadsHead : List ℕ → Result (Head × Bor (List ℕ)) TextFault → Type 0
-ReadsHead bytes (Ok read) = IsSmall (small_of read.0 []) × (bytes ≡ lines_text (head_lines read.0) ++ read.1.now)
+ReadsHead bytes (Ok read) =
+    IsSmall (small_of read.0 []) × (bytes ≡ lines_text (head_lines read.0) ++ read.1.now)
 ReadsHead bytes (Err (Malformed line)) = IsNoIl bytes × IsFirstBadLine bytes line
 ReadsHead bytes (Err Memory) = Unit {0}

@@ -15,7 +15,8 @@ mutual
 
 -- the letter that is written for a byte behind a backslash, or 0 where the byte stands for itself
 abbrev pub escape_letter : ℕ → ℕ
-escape_letter b = if b == 34 || b == 92 then b else if b == 10 then 110 else if b == 9 then 116 else 0
+escape_letter b =
+    if b == 34 || b == 92 then b else if b == 10 then 110 else if b == 9 then 116 else 0
 
 -- how a byte is written between quotes
 unfoldable pub escaped : ℕ → List ℕ

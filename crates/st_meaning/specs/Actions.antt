@@ -70,7 +70,9 @@ abbrev mutual
   acts (operand k x) = action.Operand k x ∷ []
   acts (post t l) = acts t ++ post_acts l
   acts (times t m x c) = acts t ++ (index_acts c ++ (acts c ++ count_act c ∷ []))
-  acts (bracket h ts c) = opening_acts h ++ (inner_acts h (each_acts ts) (part_acts ts) (field_acts ts) ++ closing_acts h ts)
+  acts (bracket h ts c) =
+      opening_acts h
+      ++ (inner_acts h (each_acts ts) (part_acts ts) (field_acts ts) ++ closing_acts h ts)
   acts (led g t) = lead_acts g ++ (acts t ++ end_acts g)
 
   -- what stands before the last part

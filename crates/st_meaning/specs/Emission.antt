@@ -36,7 +36,8 @@ abbrev pub frames_acts : Frames → List Action
 frames_acts (bottom σ) = []
 frames_acts (within h ts pre fs) =
     frames_acts fs
-    ++ (heading_acts h fs ++ inner_acts h (each_acts ts) (part_acts ts) (field_acts ts ++ label_acts pre))
+    ++ (heading_acts h fs
+    ++ inner_acts h (each_acts ts) (part_acts ts) (field_acts ts ++ label_acts pre))
 frames_acts (over g fs) = frames_acts fs ++ lead_acts g
 frames_acts (timing t m x fs) = frames_acts fs ++ acts t
 
@@ -44,7 +45,8 @@ abbrev pub state_acts : State → List Action
 state_acts (want fs) = frames_acts fs
 state_acts (got t fs) = frames_acts fs ++ acts t
 state_acts (naming h ts pre fs) =
-    frames_acts fs ++ (heading_acts h fs ++ inner_acts h (each_acts ts) (part_acts ts) (field_acts ts))
+    frames_acts fs
+    ++ (heading_acts h fs ++ inner_acts h (each_acts ts) (part_acts ts) (field_acts ts))
 state_acts (pathed p fs) = frames_acts fs ++ path_acts p
 state_acts (indexing o fs) = frames_acts fs
 state_acts (comparing o i fs) = frames_acts fs ++ index_label i fs

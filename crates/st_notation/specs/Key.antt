@@ -22,6 +22,7 @@ abbrev pub key_at : Exp → Node-F Count Node Seg Exp → PlainKey
 key_at e (Node-F.Infix left top right) = sign top
 key_at e _ = first_key (elements e)
 
--- The top sign, or else the first element where that is an atom or a bracket, or else none. Parentheses round the whole do not count.
+-- The top sign, or else the first element where that is an atom or a bracket, or else none.
+-- Parentheses round the whole do not count.
 abbrev pub key_of : Exp → PlainKey
 key_of e = key_at (bare e) (opened (bare e))

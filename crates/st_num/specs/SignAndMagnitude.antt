@@ -8,12 +8,15 @@ abbrev with_fields : Bool → ℕ → Inside
 with_fields sign size = record { negative = sign; magnitude = size }
 
 abbrev of_number : Bool → ℕ → Inside
-of_number sign size = record { negative = below_zero (signed sign size); magnitude = unsigned_abs (signed sign size) }
+of_number sign size =
+    record { negative = below_zero (signed sign size); magnitude = unsigned_abs (signed sign size) }
 
-same_fields : (sign : Bool) (size : ℕ) → (sign ≡ true → 0 < size) → of_number sign size ≡ with_fields sign size
+same_fields : (sign : Bool) (size : ℕ) → (sign ≡ true → 0 < size)
+    → of_number sign size ≡ with_fields sign size
 same_fields false size positive = refl
 same_fields true zero positive = absurd (omega (arith, positive refl))
 same_fields true (suc size) positive = refl
 
-pub fields_back : (n : Inside) → (n.negative ≡ true → 0 < n.magnitude) → of_number n.negative n.magnitude ≡ n
+pub fields_back : (n : Inside) → (n.negative ≡ true → 0 < n.magnitude)
+    → of_number n.negative n.magnitude ≡ n
 fields_back n positive = same_fields n.negative n.magnitude positive

@@ -68,7 +68,8 @@ impl Dim {
 
     /// Takes the innermost kind off.
     pub fn pop(&mut self) -> Option<Kind>
-        ensures { MatchOption result ((self.old ≡ []) × (self.new ≡ [])) (λ kind. self.old ≡ self.new ++ kind ∷ []) }
+        ensures { MatchOption result ((self.old ≡ []) × (self.new ≡ []))
+            (λ kind. self.old ≡ self.new ++ kind ∷ []) }
     {
         self.kinds.pop()
     }

@@ -1,8 +1,8 @@
 //! The base values of the language: numbers, names, places in a text, signs, rule ids and lists.
 //!
-//! The one idea: what contracts speak of is plain data. A `Row` is seen as the list of its elements,
-//! a `Boxed` as its value and a `Num` as a whole number, so that two trees are equal where their
-//! parts are, wherever they lie in memory.
+//! The one idea: what contracts speak of is plain data.
+//! A `Row` is seen as the list of its elements, a `Boxed` as its value and a `Num` as a whole
+//! number, so that two trees are equal where their parts are, wherever they lie in memory.
 //!
 //! Read `row` and `num` first, with `specs/Number.antt`. The rules are in `docs/language.md`
 //! (signs, ids) and `docs/semantics.md` (numbers).

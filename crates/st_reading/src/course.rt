@@ -160,7 +160,8 @@ fn hint_step(
 ) -> Result<Option<Progress>, NoMemory>
     ensures { IfOk result (λ next.
         option_map progress_of next
-        ≡ course.hint_step host (reverse brackets) lexeme (course.balance (reverse brackets) (lexeme.shape))) }
+        ≡ course.hint_step host (reverse brackets) lexeme
+        (course.balance (reverse brackets) (lexeme.shape))) }
 {
     match lexeme.shape {
         Shape::Open(bracket, _) => {
@@ -386,7 +387,8 @@ fn turn(
 ) -> Result<Option<Progress>, NoMemory>
     ensures { IfOk result (λ next.
         option_map progress_of next
-        ≡ course.first_of_two (course.own place lexeme (reverse brackets)) (course.begin_def (lexeme.keyword) (reverse brackets))) }
+        ≡ course.first_of_two (course.own place lexeme (reverse brackets))
+        (course.begin_def (lexeme.keyword) (reverse brackets))) }
 {
     let same = brackets.copy(alloc)?;
     match own(alloc, place, lexeme, brackets)? {

@@ -55,7 +55,8 @@ Holds defs (new_field before name) = field_type before name → ⊥
 Holds defs (declared name) = body_of defs name ≡ None → ⊥
 Holds defs (no_return name target) = Leads defs name target → ⊥
 Holds defs (variant name) = IsVariant defs name
-Holds defs (keys alternatives) = (cases : List CaseDef) → Flatten defs alternatives cases → KeysDiffer cases
+Holds defs (keys alternatives) =
+    (cases : List CaseDef) → Flatten defs alternatives cases → KeysDiffer cases
 
 -- ---- the conditions on a definition, each with the number of its part
 
@@ -70,14 +71,17 @@ all_declared part (name ∷ names) = (part, declared name) ∷ all_declared part
 -- each name in an alias is declared and does not lead back
 abbrev pub on_alias : List ℕ → List (List ℕ) → List Placed
 on_alias target [] = []
-on_alias target (name ∷ names) = (0, declared name) ∷ (0, no_return name target) ∷ on_alias target names
+on_alias target (name ∷ names) =
+    (0, declared name) ∷ (0, no_return name target) ∷ on_alias target names
 
 -- what is included is declared, does not lead back, and is a variant
 abbrev pub on_included : List ℕ → ℕ → List ℕ → List Placed
-on_included target part name = (part, declared name) ∷ (part, no_return name target) ∷ (part, variant name) ∷ []
+on_included target part name =
+    (part, declared name) ∷ (part, no_return name target) ∷ (part, variant name) ∷ []
 
 abbrev pub on_alternative : List ℕ → ℕ → List Alternative → Alternative → List Placed
-on_alternative target part so_far (alternative.Case tag operands) = (part, keys so_far) ∷ all_declared part (joined (map names_in operands))
+on_alternative target part so_far (alternative.Case tag operands) =
+    (part, keys so_far) ∷ all_declared part (joined (map names_in operands))
 on_alternative target part so_far (alternative.Incl name) =
     on_included target part name ++ (part, keys so_far) ∷ []
 
@@ -85,7 +89,8 @@ on_alternative target part so_far (alternative.Incl name) =
 abbrev pub on_alternatives : List ℕ → ℕ → List Alternative → List Alternative → List Placed
 on_alternatives target part before [] = []
 on_alternatives target part before (a ∷ as') =
-    on_alternative target part (before ++ a ∷ []) a ++ on_alternatives target (suc part) (before ++ a ∷ []) as'
+    on_alternative target part (before ++ a ∷ []) a
+    ++ on_alternatives target (suc part) (before ++ a ∷ []) as'
 
 -- a field after those before it
 abbrev pub on_field : ℕ → List (List ℕ × Ty) → List ℕ × Ty → List Placed
@@ -93,7 +98,8 @@ on_field part before f = (part, new_field before f.0) ∷ all_declared part (nam
 
 abbrev pub on_fields : ℕ → List (List ℕ × Ty) → List (List ℕ × Ty) → List Placed
 on_fields part before [] = []
-on_fields part before (f ∷ fs) = on_field part before f ++ on_fields (suc part) (before ++ f ∷ []) fs
+on_fields part before (f ∷ fs) =
+    on_field part before f ++ on_fields (suc part) (before ++ f ∷ []) fs
 
 abbrev pub on_body : List ℕ → SyntaxBody → List Placed
 on_body name (body.Alias t) = on_alias name (names_in t)
@@ -113,7 +119,8 @@ AllHold defs (p ∷ ps) = Holds defs p.1 × AllHold defs ps
 abbrev pub FirstFalse : List SyntaxDef → List Placed → ℕ → RuleId → Type 0
 FirstFalse defs [] part rule = ⊥
 FirstFalse defs (p ∷ ps) part rule =
-    ((Holds defs p.1 → ⊥) × (part ≡ p.0) × (rule ≡ rule_of p.1)) ⊎ (Holds defs p.1 × FirstFalse defs ps part rule)
+    ((Holds defs p.1 → ⊥) × (part ≡ p.0) × (rule ≡ rule_of p.1))
+    ⊎ (Holds defs p.1 × FirstFalse defs ps part rule)
 
 -- what was found among these conditions: nothing, or the first that is false
 abbrev pub Finds : List SyntaxDef → List Placed → Option (ℕ × RuleId) → Type 0
@@ -121,7 +128,9 @@ Finds defs ps found = MatchOption found (AllHold defs ps) (λ f. FirstFalse defs
 
 -- all conditions on the first k definitions hold
 abbrev pub SoundTo : List SyntaxDef → ℕ → Type 0
-SoundTo defs k = (i : ℕ) → i < k → (d : SyntaxDef) → slice_get defs i ≡ Some d → AllHold defs (conditions_on (take i defs) d)
+SoundTo defs k =
+    (i : ℕ) → i < k → (d : SyntaxDef) → slice_get defs i ≡ Some d
+    → AllHold defs (conditions_on (take i defs) d)
 
 -- all conditions hold
 abbrev pub IsSound : List SyntaxDef → Type 0

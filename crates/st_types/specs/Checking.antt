@@ -17,7 +17,9 @@ use Rattle.st_types.specs.Graph.{place_of, mark}
 
 -- of these names, those that lead back to the target are marked at their places
 abbrev pub Returns : List SyntaxDef → List ℕ → List Bool → List (List ℕ) → Type 0
-Returns defs target marks names = (name : List ℕ) (place : ℕ) → Among names name → place_of defs name ≡ Some place → (mark marks place ≡ true) ↔ Leads defs name target
+Returns defs target marks names =
+    (name : List ℕ) (place : ℕ) → Among names name → place_of defs name ≡ Some place
+    → (mark marks place ≡ true) ↔ Leads defs name target
 
 -- the type is the name of a variant
 abbrev pub IsListed : List SyntaxDef → Ty → Type 0
@@ -30,23 +32,31 @@ pub record IsEnding (defs : List SyntaxDef) (name : List ℕ) : Type 0 where
   pub ends : Ends defs name
 
 -- the cases of the alternatives before this place, whose keys differ
-pub record IsSoFar (defs : List SyntaxDef) (parts : List Alternative) (at : ℕ) (cases : List CaseDef) : Type 0 where
+pub record IsSoFar (defs : List SyntaxDef) (parts : List Alternative) (at : ℕ)
+    (cases : List CaseDef) : Type 0 where
   pub flattened : Flatten defs (take at parts) cases
   pub differ : KeysDiffer cases
 
 -- the alternative at this place is ready
 abbrev pub IsReadyAt : List SyntaxDef → List Flat → List Alternative → ℕ → Type 0
-IsReadyAt defs flats parts at = (a : Alternative) → slice_get parts at ≡ Some a → IsReady defs flats a
+IsReadyAt defs flats parts at =
+    (a : Alternative) → slice_get parts at ≡ Some a → IsReady defs flats a
 
 -- whether the keys up to this place differ
 abbrev pub KeysTo : List SyntaxDef → List Alternative → ℕ → List CaseDef → Bool → Type 0
-KeysTo defs parts at cases differ = MatchBool differ (IsSoFar defs parts (suc at) cases) (Holds defs (keys (take (suc at) parts)) → ⊥)
+KeysTo defs parts at cases differ =
+    MatchBool differ (IsSoFar defs parts (suc at) cases)
+    (Holds defs (keys (take (suc at) parts)) → ⊥)
 
 -- what is found at this place; where nothing is, the keys differ
-abbrev pub ChecksAt : List SyntaxDef → List ℕ → List Alternative → ℕ → List CaseDef → Option (ℕ × RuleId) → Type 0
-ChecksAt defs target parts at cases found = ((a : Alternative) → slice_get parts at ≡ Some a → Finds defs (on_alternative target at (take (suc at) parts) a) found)
+abbrev pub ChecksAt : List SyntaxDef → List ℕ → List Alternative → ℕ → List CaseDef
+    → Option (ℕ × RuleId) → Type 0
+ChecksAt defs target parts at cases found =
+    ((a : Alternative) → slice_get parts at ≡ Some a
+    → Finds defs (on_alternative target at (take (suc at) parts) a) found)
     × IfNone found (IsSoFar defs parts (suc at) cases)
 
 -- what is found at a definition
 abbrev pub CheckedAt : List SyntaxDef → ℕ → Option (ℕ × RuleId) → Type 0
-CheckedAt defs at found = (d : SyntaxDef) → slice_get defs at ≡ Some d → Finds defs (conditions_on (take at defs) d) found
+CheckedAt defs at found =
+    (d : SyntaxDef) → slice_get defs at ≡ Some d → Finds defs (conditions_on (take at defs) d) found

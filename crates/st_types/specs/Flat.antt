@@ -28,33 +28,44 @@ Clashes (c ∷ cs) tag = SameKey c.tag tag ⊎ Clashes cs tag
 
 -- the cases are added, or two of them all would have one key
 abbrev pub Adds : List CaseDef → List CaseDef → List CaseDef → Bool → Type 0
-Adds before after more added = MatchBool added ((after ≡ before ++ more) × KeysDiffer after) (KeysDiffer (before ++ more) → ⊥)
+Adds before after more added =
+    MatchBool added ((after ≡ before ++ more) × KeysDiffer after) (KeysDiffer (before ++ more) → ⊥)
 
 -- ---- what is kept of a syntax's alternatives
 
 -- some cases of these alternatives have one key
 abbrev pub IsBroken : List SyntaxDef → List Alternative → Type 0
-IsBroken defs alternatives = (cases : List CaseDef) × (Flatten defs alternatives cases × (KeysDiffer cases → ⊥))
+IsBroken defs alternatives =
+    (cases : List CaseDef) × (Flatten defs alternatives cases × (KeysDiffer cases → ⊥))
 
 -- all cases of these alternatives, or the word that some have one key
 abbrev pub IsFlat : List SyntaxDef → List Alternative → Flat → Type 0
-IsFlat defs alternatives f = MatchBool f.whole (Flatten defs alternatives f.cases × KeysDiffer f.cases) (IsBroken defs alternatives)
+IsFlat defs alternatives f =
+    MatchBool f.whole (Flatten defs alternatives f.cases × KeysDiffer f.cases)
+    (IsBroken defs alternatives)
 
 abbrev pub alternatives_in : SyntaxDef → List Alternative
 alternatives_in d = or_none (listed (Some d.body))
 
 -- right at the place of what the type means
 abbrev pub IsFlatAt : List SyntaxDef → List Flat → Ty → Type 0
-IsFlatAt defs flats t = (variant : List ℕ) (place : ℕ) (d : SyntaxDef) (f : Flat) → Means defs t (ty.Name variant) → place_of defs variant ≡ Some place
-    → slice_get defs place ≡ Some d → slice_get flats place ≡ Some f → IsFlat defs (alternatives_in d) f
+IsFlatAt defs flats t =
+    (variant : List ℕ) (place : ℕ) (d : SyntaxDef) (f : Flat) → Means defs t (ty.Name variant)
+    → place_of defs variant ≡ Some place → slice_get defs place ≡ Some d
+    → slice_get flats place ≡ Some f → IsFlat defs (alternatives_in d) f
 
 -- what is kept of the variant that the type means
 abbrev pub IsFlatOf : List SyntaxDef → Ty → Option (Bor Flat) → Type 0
-IsFlatOf defs t found = (u : Ty) × (Means defs t u × MatchOption found (alternatives_of defs u ≡ None) (λ f. IsFlat defs (or_none (alternatives_of defs u)) f.now))
+IsFlatOf defs t found =
+    (u : Ty) × (Means defs t u
+    × MatchOption found (alternatives_of defs u ≡ None)
+    (λ f. IsFlat defs (or_none (alternatives_of defs u)) f.now))
 
 -- the way from what the alternative includes ends, and its cases are known
 abbrev pub IsReady : List SyntaxDef → List Flat → Alternative → Type 0
-IsReady defs flats a = (name : List ℕ) → a ≡ alternative.Incl name → Ends defs name × IsFlatAt defs flats (ty.Name name)
+IsReady defs flats a =
+    (name : List ℕ) → a ≡ alternative.Incl name
+    → Ends defs name × IsFlatAt defs flats (ty.Name name)
 
 abbrev pub AllReady : List SyntaxDef → List Flat → List Alternative → Type 0
 AllReady defs flats [] = Unit {0}
@@ -67,13 +78,16 @@ AddsIncluded before after f added = MatchBool added
     ((f.whole ≡ false) ⊎ (KeysDiffer (before ++ f.cases) → ⊥))
 
 -- the cases of the alternative are added, or two of them all would have one key
-abbrev pub AddsAlternative : List SyntaxDef → List CaseDef → List CaseDef → Alternative → Bool → Type 0
+abbrev pub AddsAlternative : List SyntaxDef → List CaseDef → List CaseDef → Alternative
+    → Bool → Type 0
 AddsAlternative defs before after a added = MatchBool added
     ((more : List CaseDef) × (Brings defs a more × ((after ≡ before ++ more) × KeysDiffer after)))
     ((more : List CaseDef) × (Brings defs a more × (KeysDiffer (before ++ more) → ⊥)))
 
 -- the flats are right at all places with ranks up to this
-pub record AreFlats (defs : List SyntaxDef) (ranks : List ℕ) (limit : ℕ) (flats : List Flat) : Type 0 where
+pub record AreFlats (defs : List SyntaxDef) (ranks : List ℕ) (limit : ℕ)
+    (flats : List Flat) : Type 0 where
   pub size : length flats ≡ length defs
-  pub right : (place : ℕ) (d : SyntaxDef) (f : Flat) → slice_get defs place ≡ Some d → 0 < slice_index ranks place → slice_index ranks place ≤ limit
+  pub right : (place : ℕ) (d : SyntaxDef) (f : Flat) → slice_get defs place ≡ Some d
+      → 0 < slice_index ranks place → slice_index ranks place ≤ limit
       → slice_get flats place ≡ Some f → IsFlat defs (alternatives_in d) f

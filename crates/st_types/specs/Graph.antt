@@ -11,7 +11,8 @@ use Rattle.st_types.specs.Leads.{leads_to, Ends}
 -- the place of the first definition of this name
 abbrev pub place_of : List SyntaxDef → List ℕ → Option ℕ
 place_of [] name = None
-place_of (d ∷ ds) name = if pointwise nat_eq name d.name then Some 0 else option_map suc (place_of ds name)
+place_of (d ∷ ds) name =
+    if pointwise nat_eq name d.name then Some 0 else option_map suc (place_of ds name)
 
 abbrev pub one_place : Option ℕ → List ℕ
 one_place None = []
@@ -39,7 +40,8 @@ Graph = List (Option (List ℕ))
 
 -- All that the place waits for ends, and so it ends.
 pub data EndsAt (graph : Graph) : ℕ → Type 0 where
-  ends : {i : ℕ} (next : List ℕ) → slice_get graph i ≡ Some (Some next) → ((j : ℕ) → IsOne next j → EndsAt graph j) → EndsAt graph i
+  ends : {i : ℕ} (next : List ℕ) → slice_get graph i ≡ Some (Some next)
+      → ((j : ℕ) → IsOne next j → EndsAt graph j) → EndsAt graph i
 
 -- all that a place waits for is ranked
 abbrev pub AllRanked : Option (List ℕ) → List ℕ → Type 0
@@ -49,18 +51,23 @@ AllRanked (Some next) ranks = (j : ℕ) → IsOne next j → 0 < slice_index ran
 -- The first place leads to the second.
 pub data LeadsAt (graph : Graph) : ℕ → ℕ → Type 0 where
   here : {i k : ℕ} → i ≡ k → LeadsAt graph i k
-  step : {i k : ℕ} (next : List ℕ) (j : ℕ) → slice_get graph i ≡ Some (Some next) → IsOne next j → LeadsAt graph j k → LeadsAt graph i k
+  step : {i k : ℕ} (next : List ℕ) (j : ℕ) → slice_get graph i ≡ Some (Some next) → IsOne next j
+      → LeadsAt graph j k → LeadsAt graph i k
 
 -- the ranks of places: 0 where one does not end, else more than those of all that it waits for
 pub record AreRanks (graph : Graph) (ranks : List ℕ) : Type 0 where
   pub size : length ranks ≡ length graph
   pub exact : (i : ℕ) → (0 < slice_index ranks i) ↔ EndsAt graph i
   pub bounded : (i : ℕ) → slice_index ranks i ≤ length graph
-  pub falls : (i j : ℕ) (next : List ℕ) → 0 < slice_index ranks i → slice_get graph i ≡ Some (Some next) → IsOne next j → (0 < slice_index ranks j) × (slice_index ranks j < slice_index ranks i)
+  pub falls : (i j : ℕ) (next : List ℕ) → 0 < slice_index ranks i
+      → slice_get graph i ≡ Some (Some next) → IsOne next j
+      → (0 < slice_index ranks j) × (slice_index ranks j < slice_index ranks i)
 
 -- no place is left that waits for ranked ones alone
 abbrev pub IsClosed : Graph → List ℕ → Type 0
-IsClosed graph ranks = (i : ℕ) (node : Option (List ℕ)) → slice_get graph i ≡ Some node → slice_index ranks i ≡ 0 → AllRanked node ranks → ⊥
+IsClosed graph ranks =
+    (i : ℕ) (node : Option (List ℕ)) → slice_get graph i ≡ Some node → slice_index ranks i ≡ 0
+    → AllRanked node ranks → ⊥
 
 -- how many are ranked
 abbrev pub ranked : List ℕ → ℕ
@@ -74,7 +81,9 @@ pub record SoFar (graph : Graph) (ranks : List ℕ) (count : ℕ) : Type 0 where
   pub counted : count ≡ ranked ranks
   pub below : (i : ℕ) → slice_index ranks i ≤ count
   pub sound : (i : ℕ) → 0 < slice_index ranks i → EndsAt graph i
-  pub falls : (i j : ℕ) (next : List ℕ) → 0 < slice_index ranks i → slice_get graph i ≡ Some (Some next) → IsOne next j → (0 < slice_index ranks j) × (slice_index ranks j < slice_index ranks i)
+  pub falls : (i j : ℕ) (next : List ℕ) → 0 < slice_index ranks i
+      → slice_get graph i ≡ Some (Some next) → IsOne next j
+      → (0 < slice_index ranks j) × (slice_index ranks j < slice_index ranks i)
 
 -- ---- what leads to a place
 
@@ -92,7 +101,9 @@ unmarked (false ∷ ms) = suc (unmarked ms)
 
 -- no place is left that leads to a marked one
 abbrev pub IsClosedBack : Graph → List Bool → Type 0
-IsClosedBack graph marks = (i : ℕ) (there : Option (List ℕ)) → slice_get graph i ≡ Some there → mark marks i ≡ false → AnyMarked there marks → ⊥
+IsClosedBack graph marks =
+    (i : ℕ) (there : Option (List ℕ)) → slice_get graph i ≡ Some there → mark marks i ≡ false
+    → AnyMarked there marks → ⊥
 
 -- places that lead to the target, among them itself
 pub record LeadBack (graph : Graph) (marks : List Bool) (target : ℕ) : Type 0 where
@@ -102,7 +113,9 @@ pub record LeadBack (graph : Graph) (marks : List Bool) (target : ℕ) : Type 0 
 
 -- of the places that the target leads to, those that lead back are marked
 abbrev pub LeadsBack : Graph → List Bool → ℕ → Type 0
-LeadsBack graph marks target = (j : ℕ) (next : List ℕ) → slice_get graph target ≡ Some (Some next) → IsOne next j → (mark marks j ≡ true) ↔ LeadsAt graph j target
+LeadsBack graph marks target =
+    (j : ℕ) (next : List ℕ) → slice_get graph target ≡ Some (Some next) → IsOne next j
+    → (mark marks j ≡ true) ↔ LeadsAt graph j target
 
 -- where the type is a name, each way from it ends
 abbrev pub EndsIn : List SyntaxDef → Ty → Type 0

@@ -10,7 +10,8 @@ mutual
   -- The type is a record that can be joined. A derivation ends, and so there is none for a record
   -- that leads back to itself through records alone.
   pub data Joins (defs : List SyntaxDef) : Ty → Type 0 where
-    joins : {t : Ty} (fields : List (List ℕ × Ty)) → HasFields defs t fields → AllJoin defs fields → Joins defs t
+    joins : {t : Ty} (fields : List (List ℕ × Ty)) → HasFields defs t fields → AllJoin defs fields
+        → Joins defs t
 
   -- the type is a list, an option, or a record that can be joined, itself or through aliases
   pub data FieldJoins (defs : List SyntaxDef) : Ty → Type 0 where
@@ -21,4 +22,5 @@ mutual
   -- all these fields are of such types
   pub data AllJoin (defs : List SyntaxDef) : List (List ℕ × Ty) → Type 0 where
     none : AllJoin defs []
-    more : {f : List ℕ × Ty} {fs : List (List ℕ × Ty)} → FieldJoins defs f.1 → AllJoin defs fs → AllJoin defs (f ∷ fs)
+    more : {f : List ℕ × Ty} {fs : List (List ℕ × Ty)} → FieldJoins defs f.1 → AllJoin defs fs
+        → AllJoin defs (f ∷ fs)

@@ -47,7 +47,8 @@ abbrev pub rank_of : Kept → List ℕ → ℕ
 rank_of kept name = ranked (entry_of kept name)
 
 abbrev pub IsSettled : Kept → Entry → SyntaxBody → Type 0
-IsSettled kept e (body.Alias t) = (name : List ℕ) → Among (names_in t) name → rank_of kept name < e.rank
+IsSettled kept e (body.Alias t) =
+    (name : List ℕ) → Among (names_in t) name → rank_of kept name < e.rank
 IsSettled kept e (body.Variant alternatives) = Flatten (defs_of kept) alternatives e.cases
 IsSettled kept e (body.Fields fields) = (0 < e.join_rank) ↔ AllJoin (defs_of kept) fields
 
@@ -62,4 +63,5 @@ kept_of (d ∷ ds) [] flats joins = []
 kept_of (d ∷ ds) (r ∷ rs) [] joins = []
 kept_of (d ∷ ds) (r ∷ rs) (f ∷ fs) [] = []
 kept_of (d ∷ ds) (r ∷ rs) (f ∷ fs) (j ∷ js) =
-    (d.name, record { body = d.body; rank = r; cases = f.cases; join_rank = j }) ∷ kept_of ds rs fs js
+    (d.name, record { body = d.body; rank = r; cases = f.cases; join_rank = j })
+    ∷ kept_of ds rs fs js

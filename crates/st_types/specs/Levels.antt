@@ -32,17 +32,20 @@ UnderAt defs _ _ = ⊥
 -- ---- a value, by the meaning of a type
 
 -- the type is a variant that has a case with this tag and these operands
-pub record HasOperands (defs : List SyntaxDef) (t : Ty) (tag : List ℕ) (operands : List Ty) : Type 0 where
+pub record HasOperands (defs : List SyntaxDef) (t : Ty) (tag : List ℕ)
+    (operands : List Ty) : Type 0 where
   pub cases : List CaseDef
   pub has : HasCases defs t cases
   pub found : operands_of cases tag ≡ Some operands
 
-pub record CaseHasType (defs : List SyntaxDef) (tag : List ℕ) (parts : List Value) (t : Ty) : Type 0 where
+pub record CaseHasType (defs : List SyntaxDef) (tag : List ℕ) (parts : List Value)
+    (t : Ty) : Type 0 where
   pub operands : List Ty
   pub has : HasOperands defs t tag operands
   pub typed : HaveTypes defs parts operands
 
-pub record RecordHasType (defs : List SyntaxDef) (parts : List (List ℕ × Value)) (t : Ty) : Type 0 where
+pub record RecordHasType (defs : List SyntaxDef) (parts : List (List ℕ × Value))
+    (t : Ty) : Type 0 where
   pub declared : List (List ℕ × Ty)
   pub has : HasFields defs t declared
   pub typed : FieldsHaveTypes defs parts declared

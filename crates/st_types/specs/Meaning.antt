@@ -1,4 +1,5 @@
--- What the name of a syntax stands for among definitions, and what a type is without the aliases at its top.
+-- What the name of a syntax stands for among definitions,
+-- and what a type is without the aliases at its top.
 use Rattle.std.specs.Prelude.{◌≡◌, ℕ, List, [], ◌∷◌, Option, Some, None, if◌then◌else◌, nat_eq}
 use Rattle.std.specs.Cmp.Lexicographic.{pointwise}
 use Rattle.st_il.specs.declared.ty.Ty.{Ty, out-Ty}
@@ -60,4 +61,5 @@ fields_of defs t = recorded (named defs t)
 -- The first type, without the aliases at its top, is the second.
 pub data Means (defs : List SyntaxDef) : Ty → Ty → Type 0 where
   itself : {t u : Ty} → alias_of defs t ≡ None → t ≡ u → Means defs t u
-  alias : {t u : Ty} (written : Ty) → alias_of defs t ≡ Some written → Means defs written u → Means defs t u
+  alias : {t u : Ty} (written : Ty) → alias_of defs t ≡ Some written → Means defs written u
+      → Means defs t u

@@ -63,7 +63,8 @@ fn check_all(
     requires few { AllHaveFewParts defs.now }
     requires few_definitions { length defs.now < 2 ^ 32 }
     ensures ok { OnOk result (IsSound defs.now) }
-    ensures refused { (s p : ℕ) (r : RuleId) → result ≡ Err (TypeFault.Refused s p r) → FirstBreach defs.now s p r }
+    ensures refused { (s p : ℕ) (r : RuleId) → result ≡ Err (TypeFault.Refused s p r)
+        → FirstBreach defs.now s p r }
 {
     for at in 0..defs.len() {
         match check_def(alloc, defs, graph, ranks, flats, at)? {
@@ -84,7 +85,8 @@ pub(crate) fn entries_of(alloc: Global, defs: &[SyntaxDef]) -> Result<Entries, T
     ensures kept { IfOk result (λ map. IsKept map.entries) }
     ensures whole { IfOk result (λ map. defs_of map.entries ≡ defs.now) }
     ensures sound { OnOk result (IsSound defs.now) }
-    ensures refused { (s p : ℕ) (r : RuleId) → result ≡ Err (TypeFault.Refused s p r) → FirstBreach defs.now s p r }
+    ensures refused { (s p : ℕ) (r : RuleId) → result ≡ Err (TypeFault.Refused s p r)
+        → FirstBreach defs.now s p r }
 {
     let graph = leads_graph(alloc, defs)?;
     let ranks = settle(alloc, graph.as_slice())?;
@@ -125,7 +127,8 @@ fn fill(
 }
 
 fn insert(map: &mut Entries, name: Name, entry: Entry) -> Result<(), NoMemory>
-    ensures { OnOk result (map.new.entries ≡ insert_entry (pointwise nat_eq) map.old.entries name entry) }
+    ensures { OnOk result
+        (map.new.entries ≡ insert_entry (pointwise nat_eq) map.old.entries name entry) }
 {
     match map.insert(name, entry) {
         Ok(_) => Ok(()),

@@ -240,7 +240,8 @@ fn check_alternatives(
     requires flats { AreFlats defs.now ranks.now (length defs.now) flats.now }
     requires marks { Returns defs.now target.now marks.now (flat_map included parts.now) }
     requires few { length parts.now < 2 ^ 32 }
-    ensures { IfOk result (λ found. Finds defs.now (on_alternatives target.now 0 [] parts.now) found) }
+    ensures { IfOk result
+        (λ found. Finds defs.now (on_alternatives target.now 0 [] parts.now) found) }
 {
     let mut cases = Row::new(alloc);
     for at in 0..parts.len() {

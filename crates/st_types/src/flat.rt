@@ -57,7 +57,8 @@ fn add_case(
 ) -> Result<bool, NoMemory>
     requires { KeysDiffer cases.old }
     ensures { IfOk result
-        (λ added. Adds cases.old cases.new (record { tag = tag.now; operands = operands.now } ∷ []) added) }
+        (λ added. Adds cases.old cases.new
+        (record { tag = tag.now; operands = operands.now } ∷ []) added) }
 {
     if clashes(alloc, cases.as_slice(), tag)? {
         return Ok(false);
@@ -133,7 +134,8 @@ pub(crate) fn add_alternative(
     requires size { length flats.now ≡ length defs.now }
     requires ready { IsReady defs.now flats.now alternative.now }
     requires differ { KeysDiffer cases.old }
-    ensures { IfOk result (λ added. AddsAlternative defs.now cases.old cases.new alternative.now added) }
+    ensures { IfOk result
+        (λ added. AddsAlternative defs.now cases.old cases.new alternative.now added) }
 {
     match alternative {
         Alternative::Case(tag, operands) => {

@@ -125,7 +125,8 @@ fn is_under(entries: &Entries, lower: &Ty, upper: &Ty) -> bool
 #[cycle(is_sub)]
 fn is_under_at(entries: &Entries, lower: &Ty, upper: &Ty) -> bool
     requires { IsKept entries.now.entries }
-    ensures { IsTrue result ↔ UnderAt (defs_of entries.now.entries) (out-Ty lower.now) (out-Ty upper.now) }
+    ensures { IsTrue result
+        ↔ UnderAt (defs_of entries.now.entries) (out-Ty lower.now) (out-Ty upper.now) }
 {
     match (lower, upper) {
         (Ty::Nat, Ty::Int) => true,

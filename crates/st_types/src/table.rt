@@ -116,7 +116,8 @@ impl TypeTable {
     pub fn cases(&self, ty: &Ty) -> Option<&Row<CaseDef>>
         ensures some { IfSome result (λ cases. HasCases self.now ty.now cases.now) }
         ensures none { IfNone result ((cases : List CaseDef) → HasCases self.now ty.now cases → ⊥) }
-        ensures one { IfSome result (λ cases. (others : List CaseDef) → HasCases self.now ty.now others
+        ensures one { IfSome result
+            (λ cases. (others : List CaseDef) → HasCases self.now ty.now others
             → others ≡ cases.now) }
     {
         cases_of(&self.entries, ty)
@@ -125,7 +126,8 @@ impl TypeTable {
     /// The fields of a record type, in declared order.
     pub fn fields(&self, ty: &Ty) -> Option<&[(Name, Ty)]>
         ensures some { IfSome result (λ fields. HasFields self.now ty.now fields.now) }
-        ensures none { IfNone result ((fields : List (List ℕ × Ty)) → HasFields self.now ty.now fields → ⊥) }
+        ensures none { IfNone result
+            ((fields : List (List ℕ × Ty)) → HasFields self.now ty.now fields → ⊥) }
         ensures one { IfSome result (λ fields. (others : List (List ℕ × Ty))
             → HasFields self.now ty.now others → others ≡ fields.now) }
     {

@@ -39,7 +39,8 @@ pub(crate) fn has_type(entries: &Entries, value: &Value, ty: &Ty) -> bool
 #[cycle(typing)]
 fn typed_at(entries: &Entries, value: &Value, meaning: &Ty, ty: &Ty) -> bool
     requires { IsKept entries.now.entries }
-    ensures { IsTrue result ↔ TypedAt (defs_of entries.now.entries) (out-Value value.now) (out-Ty meaning.now) ty.now }
+    ensures { IsTrue result
+        ↔ TypedAt (defs_of entries.now.entries) (out-Value value.now) (out-Ty meaning.now) ty.now }
 {
     match value {
         Value::Bool(_) => matches!(meaning, Ty::Bool),

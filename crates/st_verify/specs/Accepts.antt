@@ -12,7 +12,8 @@ use Rattle.st_verify.specs.Verdict.{Verdict}
 pub data ReadsTo (il : Il) : List Line → Notes → Type 0 where
   none : {notes : Notes} → notes ≡ nothing_noted → ReadsTo il [] notes
   more : {lines all : List Line} {before notes : Notes} (line : Line)
-      → ReadsTo il lines before → Verdict il before line None → all ≡ lines ++ line ∷ [] → notes ≡ noted before line → ReadsTo il all notes
+      → ReadsTo il lines before → Verdict il before line None → all ≡ lines ++ line ∷ []
+      → notes ≡ noted before line → ReadsTo il all notes
 
 -- the lines are accepted, and the last is an end line
 pub record Accepts (il : Il) (lines : List Line) : Type 0 where

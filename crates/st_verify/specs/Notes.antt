@@ -22,9 +22,12 @@ outputs_of values = drop 1 values
 
 -- what is noted of one line more
 abbrev pub noted : Notes → Line → Notes
-noted notes (Head format relation) = record notes { lines = notes.lines ++ None ∷ []; relation = Some relation }
+noted notes (Head format relation) =
+    record notes { lines = notes.lines ++ None ∷ []; relation = Some relation }
 noted notes (From values) = record notes { lines = notes.lines ++ None ∷ []; term = Some values }
-noted notes (Node node) = record notes { lines = notes.lines ++ Some (record { relation = node.relation; values = node.values }) ∷ [] }
+noted notes (Node node) =
+    record notes
+    { lines = notes.lines ++ Some (record { relation = node.relation; values = node.values }) ∷ [] }
 noted notes (Step line) = record notes {
   lines = notes.lines ++ None ∷ [];
   term = option_map (λ judgement. outputs_of judgement.values) (judgement_on notes line);

@@ -16,7 +16,8 @@ pub record IsJudged (il : Il) (relation : List ℕ) (values : List Value) : Type
   pub is_relation : IsRelation il number relation
   pub derivable : Derivable il number (inputs_of values) (outputs_of values)
 
--- Behind these lines a step that names that line goes from a term to a term which the relation of the first line derives from it.
+-- Behind these lines a step that names that line goes from a term
+-- to a term which the relation of the first line derives from it.
 pub record IsDerivableStep (il : Il) (before : List Line) (line : ℕ) : Type 0 where
   pub format : ℕ
   pub relation : List ℕ
@@ -35,4 +36,5 @@ pub record IsDerivableStep (il : Il) (before : List Line) (line : ℕ) : Type 0 
 -- each node line's judgement and each step is derivable
 pub record AreSound (il : Il) (lines : List Line) : Type 0 where
   pub nodes : (node : NodeLine) → Contains lines (Node node) → IsJudged il node.relation node.values
-  pub steps : (before after : List Line) (line : ℕ) → lines ≡ before ++ Step line ∷ after → IsDerivableStep il before line
+  pub steps : (before after : List Line) (line : ℕ) → lines ≡ before ++ Step line ∷ after
+      → IsDerivableStep il before line

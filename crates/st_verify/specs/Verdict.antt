@@ -25,7 +25,8 @@ use Rattle.st_verify.specs.Notes.{judgement_on}
 
 -- a line stands where a line of its kind belongs, and before the end; the head is of format 1
 abbrev pub IsInPlace : Notes → Line → Type 0
-IsInPlace notes (Head format relation) = (length notes.lines ≡ 0) × (notes.ended ≡ false) × (format ≡ 1)
+IsInPlace notes (Head format relation) =
+    (length notes.lines ≡ 0) × (notes.ended ≡ false) × (format ≡ 1)
 IsInPlace notes (From values) = (length notes.lines ≡ 1) × (notes.ended ≡ false)
 IsInPlace notes (Node node) = (2 ≤ length notes.lines) × (notes.ended ≡ false)
 IsInPlace notes (Step line) = (2 ≤ length notes.lines) × (notes.ended ≡ false)
@@ -44,7 +45,8 @@ IsRuleNamed relation name _ = ⊥
 -- the relation and the rule that a line names are there
 abbrev pub IsKnown : Il → Line → Type 0
 IsKnown il (Head format relation) = Any (IsRelationNamed relation) il.defs
-IsKnown il (Node node) = Any (IsRelationNamed node.relation) il.defs × Any (IsRuleNamed node.relation node.rule) il.defs
+IsKnown il (Node node) =
+    Any (IsRelationNamed node.relation) il.defs × Any (IsRuleNamed node.relation node.rule) il.defs
 IsKnown il _ = Unit {0}
 
 -- an alternative is the case of that tag without operands
@@ -63,11 +65,15 @@ HasCase name tag _ = ⊥
 
 -- a value is of a type: so far, a case without operands of the syntax of that name
 abbrev pub IsTyped : Il → Ty → Value → Type 0
-IsTyped il type val = (name tag : List ℕ) × (type ≡ ty.Name name) × (val ≡ value.Case tag []) × Any (HasCase name tag) il.defs
+IsTyped il type val =
+    (name tag : List ℕ) × (type ≡ ty.Name name) × (val ≡ value.Case tag [])
+    × Any (HasCase name tag) il.defs
 
--- a definition is the relation of that name, and the value is of the type of its input: so far, of its first hole
+-- a definition is the relation of that name, and the value is of the type of its input:
+-- so far, of its first hole
 abbrev pub TakesInput : Il → List ℕ → Value → IlDef → Type 0
-TakesInput il name val (Relation relation) = (relation.name ≡ name) × IsSomeAnd (slice_get relation.holes 0) (λ hole. IsTyped il hole val)
+TakesInput il name val (Relation relation) =
+    (relation.name ≡ name) × IsSomeAnd (slice_get relation.holes 0) (λ hole. IsTyped il hole val)
 TakesInput il name val _ = ⊥
 
 -- the values are one for each input of the relation, of its type: so far, one
@@ -101,7 +107,9 @@ IsNode notes line = IsSome (judgement_on notes line)
 
 -- the conclusion of a rule of that name has the values that the node states
 abbrev pub Concludes : NodeLine → IlDef → Type 0
-Concludes node (Rule rule) = IsRuleNamed node.relation node.rule (Rule rule) × HaveValues HasValue node.env rule.conclusion node.values
+Concludes node (Rule rule) =
+    IsRuleNamed node.relation node.rule (Rule rule)
+    × HaveValues HasValue node.env rule.conclusion node.values
 Concludes node _ = ⊥
 
 abbrev pub HasItsValues : Il → Line → Type 0
@@ -121,7 +129,9 @@ HasItsEvidence _ = Unit {0}
 -- a step's node is of the relation of the first line, and its inputs are the current term
 abbrev pub GoesOn : Notes → Line → Type 0
 GoesOn notes (Step line) =
-    IsSomeAnd (judgement_on notes line) (λ judgement. (notes.relation ≡ Some judgement.relation) × (notes.term ≡ Some (inputs_of judgement.values)))
+    IsSomeAnd (judgement_on notes line)
+    (λ judgement. (notes.relation ≡ Some judgement.relation)
+    × (notes.term ≡ Some (inputs_of judgement.values)))
 GoesOn notes _ = Unit {0}
 
 -- a line keeps a rule
@@ -139,7 +149,8 @@ Keeps il notes line _ = Unit {0}
 -- the first of the rules that is not kept, if any is not
 abbrev pub FirstBroken : (VerifyRule → Type 0) → List VerifyRule → Option VerifyRule → Type 0
 FirstBroken K [] broken = broken ≡ None
-FirstBroken K (rule ∷ rules) broken = (K rule × FirstBroken K rules broken) ⊎ ((¬ K rule) × (broken ≡ Some rule))
+FirstBroken K (rule ∷ rules) broken =
+    (K rule × FirstBroken K rules broken) ⊎ ((¬ K rule) × (broken ≡ Some rule))
 
 -- the rules on a line, in the order in which they are asked
 abbrev pub rules_on_lines : List VerifyRule

@@ -16,7 +16,8 @@ use Rattle.st_verify.specs.Notes.{noted}
 use Rattle.st_verify.specs.Sound.{IsJudged}
 use Rattle.st_verify.specs.Verdict.{Verdict}
 
--- A verifier as its callers see it: the internal language, what is noted of the lines, and the refusal that it gave, if any.
+-- A verifier as its callers see it:
+-- the internal language, what is noted of the lines, and the refusal that it gave, if any.
 pub record Checking : Type 0 where
   pub il : Il
   pub notes : Notes
@@ -25,7 +26,8 @@ pub record Checking : Type 0 where
 -- What a verifier keeps: each judgement that it noted is derivable.
 pub record IsKept (il : Il) (notes : Notes) : Type 0 where
   pub small : IsSmallIl il
-  pub judged : (judgement : Judgement) → Contains notes.lines (Some judgement) → IsJudged il judgement.relation judgement.values
+  pub judged : (judgement : Judgement) → Contains notes.lines (Some judgement)
+      → IsJudged il judgement.relation judgement.values
   pub few : length notes.lines ≤ 2 ^ 32
   pub few_steps : notes.steps ≤ length notes.lines
 
@@ -35,31 +37,42 @@ refusal_by rule notes = Refused rule (length notes.lines + 1) None
 
 -- the refusal of the next line by a rule is given, and kept
 abbrev pub Refuses : {V : Type 0} → VerifyRule → Checking → Result V VerifyFault → Checking → Type 0
-Refuses rule old result new = (result ≡ Err (refusal_by rule old.notes)) × (new ≡ record old { refusal = Some (refusal_by rule old.notes) })
+Refuses rule old result new =
+    (result ≡ Err (refusal_by rule old.notes))
+    × (new ≡ record old { refusal = Some (refusal_by rule old.notes) })
 
 -- after a refusal the same is answered, and nothing changes; before one, this holds
-abbrev pub UnlessRefused : {V : Type 0} → Checking → Result V VerifyFault → Checking → Type 0 → Type 0
-UnlessRefused old result new P = MatchOption old.refusal P (λ fault. (result ≡ Err fault) × (new ≡ old))
+abbrev pub UnlessRefused : {V : Type 0} → Checking → Result V VerifyFault → Checking
+    → Type 0 → Type 0
+UnlessRefused old result new P =
+    MatchOption old.refusal P (λ fault. (result ≡ Err fault) × (new ≡ old))
 
--- a line is accepted and noted, or refused by the first rule that it breaks; for want of memory nothing changes
+-- a line is accepted and noted, or refused by the first rule that it breaks;
+-- for want of memory nothing changes
 abbrev pub JudgesNext : Checking → Line → Result (Unit {0}) VerifyFault → Checking → Type 0
-JudgesNext old line (Ok done) new = Verdict old.il old.notes line None × (new ≡ record old { notes = noted old.notes line })
+JudgesNext old line (Ok done) new =
+    Verdict old.il old.notes line None × (new ≡ record old { notes = noted old.notes line })
 JudgesNext old line (Err Memory) new = new ≡ old
-JudgesNext old line (Err (Refused rule at typing)) new = Verdict old.il old.notes line (Some rule) × Refuses {V = Unit {0}} rule old (Err (Refused rule at typing)) new
+JudgesNext old line (Err (Refused rule at typing)) new =
+    Verdict old.il old.notes line (Some rule)
+    × Refuses {V = Unit {0}} rule old (Err (Refused rule at typing)) new
 
 abbrev pub Judges : Checking → Line → Result (Unit {0}) VerifyFault → Checking → Type 0
 Judges old line result new = UnlessRefused old result new (JudgesNext old line result new)
 
--- The bytes are the text of a line, which is judged; or they are the text of none, and are refused as malformed.
+-- The bytes are the text of a line, which is judged;
+-- or they are the text of none, and are refused as malformed.
 abbrev pub FeedsLine : Checking → List ℕ → Result (Unit {0}) VerifyFault → Checking → Type 0
 FeedsLine old bytes result new =
-    ((line : Line) × LineText line bytes × JudgesNext old line result new) ⊎ (IsNoLine bytes × Refuses {V = Unit {0}} V3 old result new)
+    ((line : Line) × LineText line bytes × JudgesNext old line result new)
+    ⊎ (IsNoLine bytes × Refuses {V = Unit {0}} V3 old result new)
 
 -- so is it, but for want of memory, where nothing changes
 abbrev pub FeedsNext : Checking → List ℕ → Result (Unit {0}) VerifyFault → Checking → Type 0
 FeedsNext old bytes (Ok done) new = FeedsLine old bytes (Ok done) new
 FeedsNext old bytes (Err Memory) new = new ≡ old
-FeedsNext old bytes (Err (Refused rule at typing)) new = FeedsLine old bytes (Err (Refused rule at typing)) new
+FeedsNext old bytes (Err (Refused rule at typing)) new =
+    FeedsLine old bytes (Err (Refused rule at typing)) new
 
 abbrev pub Feeds : Checking → List ℕ → Result (Unit {0}) VerifyFault → Checking → Type 0
 Feeds old bytes result new = UnlessRefused old result new (FeedsNext old bytes result new)
@@ -67,8 +80,10 @@ Feeds old bytes result new = UnlessRefused old result new (FeedsNext old bytes r
 -- the lines are accepted where an end line was taken, and else refused at the line behind them
 abbrev pub FinishesNow : Checking → Result Accepted VerifyFault → Checking → Type 0
 FinishesNow old (Ok accepted) new =
-    (old.notes.ended ≡ true) × (accepted.lines ≡ length old.notes.lines) × (accepted.steps ≡ old.notes.steps) × (new ≡ old)
-FinishesNow old (Err fault) new = (old.notes.ended ≡ false) × Refuses {V = Accepted} V12 old (Err fault) new
+    (old.notes.ended ≡ true) × (accepted.lines ≡ length old.notes.lines)
+    × (accepted.steps ≡ old.notes.steps) × (new ≡ old)
+FinishesNow old (Err fault) new =
+    (old.notes.ended ≡ false) × Refuses {V = Accepted} V12 old (Err fault) new
 
 abbrev pub Finishes : Checking → Result Accepted VerifyFault → Checking → Type 0
 Finishes old result new = UnlessRefused old result new (FinishesNow old result new)

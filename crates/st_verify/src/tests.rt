@@ -33,7 +33,8 @@ fn case(alloc: Global, tag: &[u8]) -> Result<Alternative, NoMemory>
 }
 
 fn syntax(alloc: Global) -> Result<IlDef, NoMemory>
-    ensures { IfOk result (λ def. def ≡ syntax_def (codes "color") (codes "RED" ∷ codes "GREEN" ∷ codes "AMBER" ∷ [])) }
+    ensures { IfOk result (λ def. def
+        ≡ syntax_def (codes "color") (codes "RED" ∷ codes "GREEN" ∷ codes "AMBER" ∷ [])) }
 {
     let mut alternatives = Row::new(alloc);
     alternatives.push(case(alloc, b"RED")?)?;
@@ -60,7 +61,9 @@ fn relation(alloc: Global) -> Result<IlDef, NoMemory>
 }
 
 fn rule(alloc: Global, rule: &[u8], from: &[u8], to: &[u8]) -> Result<IlDef, NoMemory>
-    ensures { IfOk result (λ def. def ≡ rule_def (codes "T") (codes "color") (record { name = rule.now; from = from.now; to = to.now })) }
+    ensures { IfOk result (λ def. def
+        ≡ rule_def (codes "T") (codes "color")
+        (record { name = rule.now; from = from.now; to = to.now })) }
 {
     let mut conclusion = Row::new(alloc);
     conclusion.push(atom(alloc, from)?)?;
@@ -75,7 +78,13 @@ fn rule(alloc: Global, rule: &[u8], from: &[u8], to: &[u8]) -> Result<IlDef, NoM
 }
 
 fn defs(alloc: Global) -> Result<Row<IlDef>, NoMemory>
-    ensures { IfOk result (λ defs. defs ≡ syntax_def (codes "color") (codes "RED" ∷ codes "GREEN" ∷ codes "AMBER" ∷ []) ∷ relation_def (codes "T") (codes "color") ∷ rule_def (codes "T") (codes "color") (record { name = codes "a"; from = codes "RED"; to = codes "GREEN" }) ∷ rule_def (codes "T") (codes "color") (record { name = codes "b"; from = codes "GREEN"; to = codes "AMBER" }) ∷ []) }
+    ensures { IfOk result (λ defs. defs
+        ≡ syntax_def (codes "color") (codes "RED" ∷ codes "GREEN" ∷ codes "AMBER" ∷ [])
+        ∷ relation_def (codes "T") (codes "color")
+        ∷ rule_def (codes "T") (codes "color")
+        (record { name = codes "a"; from = codes "RED"; to = codes "GREEN" })
+        ∷ rule_def (codes "T") (codes "color")
+        (record { name = codes "b"; from = codes "GREEN"; to = codes "AMBER" }) ∷ []) }
 {
     let mut defs = Row::new(alloc);
     defs.push(syntax(alloc)?)?;

@@ -48,7 +48,8 @@ impl Verifier {
     /// A verifier that no line was given to. It takes no memory.
     pub fn new(alloc: Global, il: Il) -> Result<Verifier, VerifyFault>
         requires { IsSmallIl il }
-        ensures { IsOkAnd result (λ verifier. verifier ≡ record { il = il; notes = nothing_noted; refusal = None }) }
+        ensures { IsOkAnd result
+            (λ verifier. verifier ≡ record { il = il; notes = nothing_noted; refusal = None }) }
     {
         Ok(Verifier {
             il,
@@ -61,8 +62,11 @@ impl Verifier {
     pub fn judge(&mut self, alloc: Global, line: &Line) -> Result<(), VerifyFault>
         requires { length self.old.notes.lines < 2 ^ 32 }
         ensures judges { Judges self.old line.now result self.new }
-        ensures one { (broken other : Option VerifyRule) → Verdict self.old.il self.old.notes line.now broken → Verdict self.old.il self.old.notes line.now other → broken ≡ other }
-        ensures sound { (lines : List Line) → (notes : Notes) → ReadsTo self.old.il lines notes → AreSound self.old.il lines }
+        ensures one { (broken other : Option VerifyRule)
+            → Verdict self.old.il self.old.notes line.now broken
+            → Verdict self.old.il self.old.notes line.now other → broken ≡ other }
+        ensures sound { (lines : List Line) → (notes : Notes) → ReadsTo self.old.il lines notes
+            → AreSound self.old.il lines }
     {
         match self.refusal {
             Some(fault) => Err(fault),
@@ -118,7 +122,8 @@ impl Verifier {
     /// Ends the derivation behind its last line. It takes no memory.
     pub fn finish(&mut self) -> Result<Accepted, VerifyFault>
         ensures finishes { Finishes self.old result self.new }
-        ensures sound { (lines : List Line) → Accepts self.old.il lines → AreSound self.old.il lines }
+        ensures sound { (lines : List Line) → Accepts self.old.il lines
+            → AreSound self.old.il lines }
     {
         match self.refusal {
             Some(fault) => Err(fault),
@@ -133,7 +138,8 @@ impl Verifier {
     /// Refuses the next line by a rule, and keeps the refusal.
     fn refuse(&mut self, rule: VerifyRule) -> VerifyFault
         ensures fault { result ≡ refusal_by rule self.old.notes }
-        ensures kept { self.new ≡ record self.old { refusal = Some (refusal_by rule self.old.notes) } }
+        ensures kept { self.new
+            ≡ record self.old { refusal = Some (refusal_by rule self.old.notes) } }
     {
         let fault = VerifyFault::Refused {
             rule,
