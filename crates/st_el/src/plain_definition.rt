@@ -10,24 +10,8 @@ use crate::plain_expression::{NOWHERE, plain_exp, plain_exps};
 use crate::plain_parts::{plain_notation, plain_notations, plain_prems, plain_typ, plain_typs};
 use crate::{Body, Def, DefNode, Exp, Hint, Notation, Prem, Typ};
 use st_num::{Name, NoMemory, Row};
-use st_scan::{Token, TokenKind};
+use st_scan::Token;
 use std::alloc::Global;
-
-fn copy_kind(alloc: Global, kind: &TokenKind) -> Result<TokenKind, NoMemory>
-    ensures { IfOk result (λ copy. copy ≡ kind.now) }
-{
-    match kind {
-        TokenKind::Low(name) => Ok(TokenKind::Low(name.copy(alloc)?)),
-        TokenKind::Up(name) => Ok(TokenKind::Up(name.copy(alloc)?)),
-        TokenKind::Mix(name) => Ok(TokenKind::Mix(name.copy(alloc)?)),
-        TokenKind::Reserved(word) => Ok(TokenKind::Reserved(*word)),
-        TokenKind::Number(number) => Ok(TokenKind::Number(*number)),
-        TokenKind::Text(text) => Ok(TokenKind::Text(text.copy(alloc)?)),
-        TokenKind::Dot(name) => Ok(TokenKind::Dot(name.copy(alloc)?)),
-        TokenKind::Fun(name) => Ok(TokenKind::Fun(name.copy(alloc)?)),
-        TokenKind::Sign(sign) => Ok(TokenKind::Sign(*sign)),
-    }
-}
 
 fn plain_tokens(alloc: Global, tokens: &[Token]) -> Result<Row<Token>, NoMemory>
     ensures { IfOk result (λ plain. plain ≡ map plain_token tokens.now) }
@@ -37,7 +21,7 @@ fn plain_tokens(alloc: Global, tokens: &[Token]) -> Result<Row<Token>, NoMemory>
         plain.push(Token {
             at: NOWHERE,
             touching: false,
-            kind: copy_kind(alloc, &token.kind)?,
+            kind: token.kind.copy(alloc)?,
         })?;
     }
     Ok(plain)

@@ -11,3 +11,4 @@ pub mod PlaceEnds
 pub mod PlaceParts
 pub mod PlacePremises
 pub mod PlaceComplete
+pub mod LexemeTokens

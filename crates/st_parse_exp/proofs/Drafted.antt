@@ -1,21 +1,15 @@
 -- What is built while the tokens of expressions are read.
 use Rattle.std.proofs.Common.{◌≡◌, ℕ, List, [], ◌∷◌, ◌++◌, Bool, true, false, ◌&&◌, Option, Some, None, Result, Ok, Err, IfOk, reverse, option_and_then, option_map, if◌then◌else◌, refl, sym, ap, subst, ◌∙◌, append_assoc, append-nil, arith}
-use Rattle.st_num.specs.declared.span.Span.{Span}
-use Rattle.st_scan.specs.Spelling.{has_lower}
-use Rattle.st_scan.specs.declared.word.Word.TheVariants as word
 use Rattle.st_num.specs.declared.mark.Mark.{Mark}
-use Rattle.st_num.specs.declared.mark.Mark.TheVariants as mark
 use Rattle.st_scan.specs.declared.token.Token.{Token}
-use Rattle.st_scan.specs.declared.token.TokenKind.{TokenKind}
-use Rattle.st_scan.specs.declared.token.TokenKind.TheVariants as kind
-use Rattle.st_grammar.specs.declared.sort.Leaf.TheVariants.{Variable as variable, Atom as atom}
 use Rattle.st_grammar.specs.declared.sort.Sort.TheVariants.{Expression as expression}
-use Rattle.st_grammar.specs.Lexemes.{Lexeme, lexeme, kind_lexeme, is_variable, leaf, dot, other}
+use Rattle.st_grammar.specs.Lexemes.{Lexeme, lexeme}
 use Rattle.st_grammar.specs.Levels.{is_comma}
 use Rattle.st_grammar.specs.Trees.{Tree, more}
 use Rattle.st_grammar.specs.Grammar.{Fits}
 use Rattle.st_grammar.specs.Definitions.{signed, token_in}
 use Rattle.st_grammar.specs.Reading as part
+use Rattle.st_grammar.proofs.LexemeTokens.{lexeme_token}
 use Rattle.st_grammar.proofs.Steps as steps
 use Rattle.st_grammar.proofs.Completions as completions
 use Rattle.st_grammar.proofs.PlaceSteps.{signed_is}
@@ -61,35 +55,6 @@ turned b st now s x es before after old done new (Ok all) e f g h i k =
       exps = λ t fs p q a. k t fs p (q ∙ ap (λ l. l ++ finishing st) (sym i) ∙ ap (λ v. done ++ finishing v) (sym f)) a;
     })
 turned b st now s x es before after old done new (Err fault) e f g h i k = tt
-
--- ---- the token of a lexeme
-
-abbrev token : Span → Bool → TokenKind → Token
-token a b k = record { at = a; touching = b; kind = k }
-
-token_kind : (names : List (List ℕ)) (a : Span) (b : Bool) (k : TokenKind) → token_in (kind_lexeme names k (token a b k)) ≡ token a b k
-token_kind names a b (kind.Low name) = refl
-token_kind names a b (kind.Up name) = go (is_variable names name)
-  where
-    go : (v : Bool) → token_in (if v then leaf variable (token a b (kind.Up name)) else leaf atom (token a b (kind.Up name))) ≡ token a b (kind.Up name)
-    go true = refl
-    go false = refl
-token_kind names a b (kind.Mix name) = refl
-token_kind names a b (kind.Number n) = refl
-token_kind names a b (kind.Text text) = refl
-token_kind names a b (kind.Fun name) = refl
-token_kind names a b (kind.Dot name) = go (has_lower name)
-  where
-    go : (v : Bool) → token_in (if v then other (token a b (kind.Dot name)) else dot (token a b (kind.Dot name))) ≡ token a b (kind.Dot name)
-    go true = refl
-    go false = refl
-token_kind names a b (kind.Reserved word.Bool) = refl
-token_kind names a b (kind.Reserved w) = refl
-token_kind names a b (kind.Sign mark.OpenParen) = refl
-token_kind names a b (kind.Sign m) = refl
-
-pub token_is : (names : List (List ℕ)) (x : Token) → token_in (lexeme names x) ≡ x
-token_is names x = token_kind names x.at x.touching x.kind
 
 -- ---- what is built where this much is read
 
@@ -212,5 +177,5 @@ pub drafted : (names : List (List ℕ)) (s last : Seen) (x : Token) (d e : Draft
     → DraftOf last.state e
 drafted names s last x d e r p k =
     steps_draft s.state last.state (lexeme names x) d e r
-    (subst (λ y. Takes (signed is_comma (lexeme names x) && is_some (part.finish s.state.here)) (state_of s.state.here) (shape (lexeme names x)) y d e) (sym (token_is names x)) k)
+    (subst (λ y. Takes (signed is_comma (lexeme names x) && is_some (part.finish s.state.here)) (state_of s.state.here) (shape (lexeme names x)) y d e) (sym (lexeme_token names x)) k)
     (passes_step s x (lexeme names x) (step s.state (lexeme names x)) last p)

@@ -47,9 +47,9 @@ nothing_is_text = record { utf8 = IsUtf8-nil; printable = refl }
 
 -- ---- texts
 
--- UTF-8 may be cut before and behind an ASCII byte
-cut : (front : List ℕ) (a : ℕ) (rest : List ℕ) → a < 128 → IsUtf8 (front ++ a ∷ rest) → IsUtf8 front × IsUtf8 rest
-cut front a rest small u =
+-- UTF-8 stands before and behind an ASCII byte
+pub around_ascii : (front : List ℕ) (a : ℕ) (rest : List ℕ) → a < 128 → IsUtf8 (front ++ a ∷ rest) → IsUtf8 front × IsUtf8 rest
+around_ascii front a rest small u =
     let whole : List ℕ = front ++ a ∷ rest in
     let long : length (front ++ a ∷ rest) ≡ length front + suc (length rest) = length-append front (a ∷ rest) in
     let at : get_or (front ++ a ∷ rest) (length front) 0 ≡ a = get_or_at front a rest 0 (length front) refl in
@@ -70,8 +70,8 @@ one_byte b small = IsUtf8-from_ascii (b ∷ []) go
 -- a byte in the place of its escape
 unescaped : (front : List ℕ) (b letter : ℕ) (rest : List ℕ) → b < 128 → letter < 128 → escaped b ≡ 92 ∷ letter ∷ [] → IsUtf8 (front ++ (escaped b ++ rest)) → IsUtf8 ((front ++ b ∷ []) ++ rest)
 unescaped front b letter rest small low e u =
-    let outer = cut front 92 (letter ∷ rest) (omega arith) (subst (λ w. IsUtf8 (front ++ (w ++ rest))) e u) in
-    let inner = cut [] letter rest low outer.1 in
+    let outer = around_ascii front 92 (letter ∷ rest) (omega arith) (subst (λ w. IsUtf8 (front ++ (w ++ rest))) e u) in
+    let inner = around_ascii [] letter rest low outer.1 in
     IsUtf8-append (front ++ b ∷ []) rest (IsUtf8-append front (b ∷ []) outer.0 (one_byte b small)) inner.1
 
 -- the bytes that a text stands for are UTF-8 where its spelling is
@@ -88,8 +88,8 @@ text_utf8 front (b ∷ bs) u = subst IsUtf8 (append_assoc front (b ∷ []) bs) (
 
 content_utf8 : (front text rest : List ℕ) → IsUtf8 (front ++ (quoted text ++ rest)) → IsUtf8 text
 content_utf8 front text rest u =
-    let behind = (cut front 34 (flat_map escaped text ++ 34 ∷ rest) (omega arith) (subst (λ w. IsUtf8 (front ++ w)) (quoted_behind text rest) u)).1 in
-    text_utf8 [] text (cut (flat_map escaped text) 34 rest (omega arith) behind).0
+    let behind = (around_ascii front 34 (flat_map escaped text ++ 34 ∷ rest) (omega arith) (subst (λ w. IsUtf8 (front ++ w)) (quoted_behind text rest) u)).1 in
+    text_utf8 [] text (around_ascii (flat_map escaped text) 34 rest (omega arith) behind).0
 
 -- ---- all tokens
 

@@ -1,10 +1,11 @@
 //! What a scan gives: tokens with their places, or the first fault.
 
-ghost use Rattle.std.specs.Prelude.{◌≡◌};
+ghost use Rattle.std.specs.Prelude.{◌≡◌, IfOk};
 ghost use Rattle.st_scan.specs.declared.token.LexFault.TheVariants.{Memory};
 
 use crate::Word;
 use st_num::{Mark, Name, NoMemory, RuleId, Span};
+use std::alloc::Global;
 use thiserror::Error;
 
 /// A token with the place of its first character.
@@ -35,6 +36,39 @@ pub enum TokenKind {
     Dot(Name),
     Fun(Name),
     Sign(Mark),
+}
+
+impl TokenKind {
+    /// The same kind of token, with a name or text of its own.
+    pub fn copy(&self, alloc: Global) -> Result<TokenKind, NoMemory>
+        ensures { IfOk result (λ copy. copy ≡ self.now) }
+    {
+        match self {
+            TokenKind::Low(name) => Ok(TokenKind::Low(name.copy(alloc)?)),
+            TokenKind::Up(name) => Ok(TokenKind::Up(name.copy(alloc)?)),
+            TokenKind::Mix(name) => Ok(TokenKind::Mix(name.copy(alloc)?)),
+            TokenKind::Reserved(word) => Ok(TokenKind::Reserved(*word)),
+            TokenKind::Number(number) => Ok(TokenKind::Number(*number)),
+            TokenKind::Text(text) => Ok(TokenKind::Text(text.copy(alloc)?)),
+            TokenKind::Dot(name) => Ok(TokenKind::Dot(name.copy(alloc)?)),
+            TokenKind::Fun(name) => Ok(TokenKind::Fun(name.copy(alloc)?)),
+            TokenKind::Sign(sign) => Ok(TokenKind::Sign(*sign)),
+        }
+    }
+}
+
+impl Token {
+    /// The same token at the same place.
+    pub fn copy(&self, alloc: Global) -> Result<Token, NoMemory>
+        ensures { IfOk result (λ copy. copy ≡ self.now) }
+    {
+        let kind = self.kind.copy(alloc)?;
+        Ok(Token {
+            at: self.at,
+            touching: self.touching,
+            kind,
+        })
+    }
 }
 
 /// Why a file has no tokens.
