@@ -2,7 +2,6 @@ pub mod DraftOf
 pub mod DraftSteps
 pub mod DraftEnds
 pub mod DraftFills
-pub mod LexemeTokens
 pub mod Built
 pub mod Arguments
 pub mod WorkSteps
@@ -10,3 +9,8 @@ pub mod WorkEnds
 pub mod WorkPlaces
 pub mod Loop
 pub mod Sketching
+pub mod Lowness
+pub mod GoesBack
+pub mod Faults
+pub mod LowSteps
+pub mod LowReading

@@ -35,13 +35,16 @@ use Rattle.st_draft.specs.Parts.{word_of}
 use Rattle.st_draft.specs.Changes.{ending_of}
 use Rattle.st_draft.specs.Drafts.{begun, ended}
 use Rattle.st_draft.specs.Known.{head_before, rule_before, host_before, slot_before, place_before, before}
-use Rattle.st_draft.specs.Work.{Work, work_of, filled_work, work_after, ended_defs, Keeps, Ends, ReadTo}
+use Rattle.st_draft.specs.Work.{Work, work_of, filled_work, work_after, ended_defs, Keeps, LastWithin, Ends, ReadTo}
 use Rattle.st_draft.proofs.DraftOf.{host_draft, head_draft, rule_draft, slot_draft, place_draft}
 use Rattle.st_draft.proofs.DraftEnds.{EndsAs, place_ends}
-use Rattle.st_draft.proofs.LexemeTokens.{lexeme_token}
+use Rattle.st_grammar.proofs.LexemeTokens.{lexeme_token}
 use Rattle.st_draft.proofs.WorkSteps.{state_work}
 use Rattle.st_draft.proofs.WorkEnds.{part_ends}
 use Rattle.st_draft.proofs.WorkPlaces.{works}
+use Rattle.st_draft.specs.Heights.{defs_height}
+use Rattle.st_draft.proofs.Lowness.{state_within}
+use Rattle.st_draft.proofs.GoesBack.{from_whole}
 
 -- These tokens were read up to here, and this is kept.
 abbrev pub Reads : List lexemes.Lexeme → Progress → Work → Type 0
@@ -157,6 +160,22 @@ ended_is (inside s st) ds h e =
         ∙ ap (λ p. Some (ended (ending_of p) (place_draft (filled s t)))) (filled_is s t)
         ∙ place_ended (filled s t) ds (filled_reached s st t h i).holds f
 
+-- The last work is no higher than the definitions.
+last_is : (st : State) (ds : Defs) → Holds st → finish st ≡ Some ds → LastWithin (course_of st) (state_work st) (defs_meaning ds)
+last_is (at p) ds h e =
+    let n : ℕ = defs_height (defs_meaning ds) in
+    (state_work (at p), refl, state_within n (at p) (from_whole n p ds e (omega arith)))
+last_is (inside s st) ds h e = go (part.finish st) refl e
+  where
+    go : (q : Option Tree) → part.finish st ≡ q → option_and_then (λ t. whole (filled s t)) q ≡ Some ds → LastWithin (course_of (inside s st)) (state_work (inside s st)) (defs_meaning ds)
+    go None i f = absurd (cc)
+    go (Some t) i f =
+        let n : ℕ = defs_height (defs_meaning ds) in (
+          state_work (at (filled s t)),
+          ap (option_and_then (λ p. filled_work (slot_of s) (length (slot_open s)) (view.state_of st) (state_work (inside s st)))) (parts.finish_is st h.1 ∙ ap (option_map part_of) i) ∙ part_ends s st t h i,
+          state_within n (at (filled s t)) (from_whole n (filled s t) ds f (omega arith)),
+        )
+
 ends_so : (b : Bool) (o : Option Defs) → b ≡ is_some o → Ends b o
 ends_so b None e = subst (λ c. Ends c None) (sym e) refl
 ends_so b (Some ds) e = subst (λ c. Ends c (Some ds)) (sym e) (ds, refl)
@@ -174,7 +193,10 @@ all_read S draws names tokens i p w s parts st h f k g =
       k,
       ap (λ v. v.draft.defs) (sym same) ∙ stands_before st,
       ends_so (course.may_end (progress_of p)) (finish st) (ap course.may_end (sym there) ∙ may_end_is st held),
-      λ ds e. ap (λ c. ended_defs c w) (sym there) ∙ ap (ended_defs (course_of st)) (sym same) ∙ ended_is st ds held e,
+      λ ds e. (
+        ap (λ c. ended_defs c w) (sym there) ∙ ap (ended_defs (course_of st)) (sym same) ∙ ended_is st ds held e,
+        subst (λ c. LastWithin c w (defs_meaning ds)) there (subst (λ v. LastWithin (course_of st) v (defs_meaning ds)) same (last_is st ds held e)),
+      ),
     )
 
 -- ---- before the first token

@@ -148,4 +148,4 @@ pub ended_so : (S : Type 0) (draws : S → Draft → Type 0) (st : State) (p : P
     → IfOk r (λ z. DrawsDefs draws t (defs_meaning (known st)))
 ended_so S draws st p s t parts r h e ends =
     let some : (ds : Defs) × (finish st ≡ Some ds) = subst (λ b. Ends b (finish st)) e h.3 in
-    subst (λ o. IfOk r (λ z. DrawsDefs draws t (defs_meaning (defs_or (before st) o)))) (sym some.1) (ends h.0 (defs_meaning some.0) h.1 (h.4 some.0 some.1))
+    subst (λ o. IfOk r (λ z. DrawsDefs draws t (defs_meaning (defs_or (before st) o)))) (sym some.1) (ends h.0 (defs_meaning some.0) h.1 (h.4 some.0 some.1).0)

@@ -1,5 +1,6 @@
 pub mod Changes
 pub mod Drafts
 pub mod Parts
-pub mod Work
 pub mod Known
+pub mod Heights
+pub mod Work

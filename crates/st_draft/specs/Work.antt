@@ -1,5 +1,5 @@
 -- What each token makes of a draft and of the part that is read.
-use Rattle.std.specs.Prelude.{◌≡◌, ℕ, Bool, true, false, List, [], ◌∷◌, ◌++◌, length, map, reverse, Option, Some, None, option_and_then}
+use Rattle.std.specs.Prelude.{◌≡◌, ℕ, Bool, true, false, List, [], ◌∷◌, ◌++◌, length, map, reverse, Option, Some, None, option_and_then, ⊤}
 use Rattle.std.specs.Option.{option_map}
 use Rattle.st_num.specs.declared.mark.Mark.{Mark}
 use Rattle.st_scan.specs.declared.token.Token.{Token}
@@ -28,6 +28,7 @@ use Rattle.st_draft.specs.declared.draft.Draft.{Draft}
 use Rattle.st_draft.specs.Changes.{ending_of, change_of}
 use Rattle.st_draft.specs.Drafts.{ended, arguments_after}
 use Rattle.st_draft.specs.Parts.{word_of, redrafted, refilled}
+use Rattle.st_draft.specs.Heights.{defs_height, Within}
 
 -- A draft, the actions of the arguments and of the part that is read, the signs of the changes
 -- that are open in it, the innermost first, and the tokens of a count.
@@ -123,7 +124,36 @@ work_after (course.at p ks) after l x w = place_work after p l x w
 work_after (course.inside s st ks) after l x w =
     taken_work s st ks after l x w (out.step (slot_sort s) st l.shape) (out.finish st)
 
+-- ---- works that can be kept
+
+-- What is left of a part, where a token does not go on with it, is such a draft.
+abbrev pub EndsLow : (Draft → Type 0) → Slot → ℕ → out.State → Work → Option out.State → Type 0
+EndsLow low s n st w (Some next) = ⊤
+EndsLow low s n st w None = (v : Work) → filled_work s n st w ≡ Some v → low v.draft
+
+-- A part that the token ends, if there is one, leaves such a draft.
+abbrev pub LeavesLow : (Draft → Type 0) → course.State → Lexeme → Work → Type 0
+LeavesLow low (course.at p ks) l w = ⊤
+LeavesLow low (course.inside s st ks) l w =
+    EndsLow low s (length ks) st w (out.step (slot_sort s) st l.shape)
+
+-- The token leads on from this state with this work, and both drafts on the way are such.
+pub record Goes (low : Draft → Type 0) (from : course.State) (l : Lexeme) (x : Token)
+    (before : Work) : Type 0 where
+  pub next : course.State
+  pub after : Work
+  pub step : course.step from l ≡ Some next
+  pub work : work_after from next l x before ≡ Some after
+  pub leaves : LeavesLow low from l before
+  pub is_low : low after.draft
+
 -- ---- the end of the tokens
+
+-- the work, where the tokens end in this state
+abbrev pub last_work : course.State → Work → Option Work
+last_work (course.at p ks) w = Some w
+last_work (course.inside s st ks) w =
+    option_and_then (λ p. filled_work s (length ks) st w) (out.finish st)
 
 -- the definitions, where the tokens end in this state
 abbrev pub ended_defs : course.State → Work → Option (List Def)
@@ -139,6 +169,11 @@ ended_defs (course.inside s st ks) w =
 abbrev pub DrawsDefs : {S : Type 0} → (S → Draft → Type 0) → S → List Def → Type 0
 DrawsDefs draws s defs = (d : Draft) × draws s d × (d.defs ≡ defs)
 
+-- The last work has a draft that is no higher than these definitions.
+abbrev pub LastWithin : course.State → Work → List Def → Type 0
+LastWithin st w defs =
+    (last : Work) × (last_work st w ≡ Some last) × Within (defs_height defs) last.draft
+
 -- whether there are definitions that end so
 abbrev pub Ends : Bool → Option Defs → Type 0
 Ends true o = (ds : Defs) × (o ≡ Some ds)
@@ -150,4 +185,5 @@ ReadTo draws st progress s p =
     (w : Work) × Keeps draws s p w × (w.draft.defs ≡ defs_meaning (before st))
     × Ends (course.may_end (progress_of progress)) (finish st)
     × ((ds : Defs) → finish st ≡ Some ds
-    → ended_defs (progress_of progress) w ≡ Some (defs_meaning ds))
+    → (ended_defs (progress_of progress) w ≡ Some (defs_meaning ds))
+    × LastWithin (progress_of progress) w (defs_meaning ds))

@@ -1,7 +1,10 @@
 //! The trees of definitions: what each change and each part makes of a draft.
 
-ghost use Rattle.std.specs.Prelude.{◌≡◌, [], Some, IfOk};
+ghost use Rattle.std.specs.Prelude.{◌≡◌, [], Some, IfOk, IfErr};
+ghost use Rattle.st_measure.specs.Answers.{OnlyMemory};
+ghost use Rattle.st_draft.specs.declared.draft.Draft.{Draft};
 ghost use Rattle.st_draft.specs.Drafts as drafts;
+ghost use Rattle.st_draft.specs.Heights.{IsLow};
 ghost use Rattle.st_draft.specs.Parts as spec;
 
 use crate::change::{Change, Ending};
@@ -71,8 +74,10 @@ fn take_params(
     draft: &mut Draft,
     arguments: &[Row<Action<'_>>],
 ) -> Result<(), BuildFault>
-    ensures { IfOk result (λ _.
+    ensures kept { IfOk result (λ _.
         spec.redrafted_params arguments.now draft.old ≡ Some draft.new) }
+    ensures low { (next : Draft) → spec.redrafted_params arguments.now draft.old ≡ Some next
+        → IsLow next → IfErr result OnlyMemory }
 {
     let params = build_types(alloc, arguments)?;
     put_params(draft, params);
@@ -85,7 +90,10 @@ fn take_args(
     draft: &mut Draft,
     arguments: &[Row<Action<'_>>],
 ) -> Result<(), BuildFault>
-    ensures { IfOk result (λ _. spec.redrafted_args arguments.now draft.old ≡ Some draft.new) }
+    ensures kept { IfOk result (λ _.
+        spec.redrafted_args arguments.now draft.old ≡ Some draft.new) }
+    ensures low { (next : Draft) → spec.redrafted_args arguments.now draft.old ≡ Some next
+        → IsLow next → IfErr result OnlyMemory }
 {
     let args = build_patterns(alloc, arguments)?;
     put_args(draft, args);
@@ -101,8 +109,11 @@ fn redraft(
     draft: &mut Draft,
     arguments: &[Row<Action<'_>>],
 ) -> Result<(), BuildFault>
-    ensures { IfOk result (λ _.
+    ensures kept { IfOk result (λ _.
         spec.redrafted change shape token.now arguments.now draft.old ≡ Some draft.new) }
+    ensures low { (next : Draft)
+        → spec.redrafted change shape token.now arguments.now draft.old ≡ Some next
+        → IsLow next → IfErr result OnlyMemory }
 {
     match change {
         Change::Params => take_params(alloc, draft, arguments),
@@ -116,6 +127,8 @@ fn redraft(
 
 impl<'a> Sketch<'a> for Draft {
     ghost Draws = { λ kept draft. kept ≡ draft };
+
+    ghost Low = { IsLow };
 
     fn redraft(
         &mut self,

@@ -6,7 +6,6 @@ ghost use Rattle.st_meaning.specs.Definitions.{piece_text};
 ghost use Rattle.st_draft.specs.Drafts as spec;
 
 use crate::draft::{Draft, Head};
-use crate::token::copy_token;
 use itoa::Buffer;
 use st_el::Hint;
 use st_meaning::copy_name;
@@ -69,7 +68,7 @@ fn hint_begun(alloc: Global, token: &Token) -> Result<Hint, NoMemory>
 fn add_word(alloc: Global, hint: &mut Hint, token: &Token) -> Result<(), NoMemory>
     ensures { IfOk result (λ _. hint.new ≡ spec.hint_more token.now hint.old) }
 {
-    let word = copy_token(alloc, token)?;
+    let word = token.copy(alloc)?;
     hint.words.push(word)?;
     Ok(())
 }

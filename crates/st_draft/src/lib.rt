@@ -20,7 +20,6 @@ mod reader;
 mod sides;
 mod sketch;
 mod step;
-mod token;
 
 pub use change::{Change, Ending};
 pub use definition::begun;

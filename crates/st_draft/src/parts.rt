@@ -1,10 +1,17 @@
 //! The part of a definition that is read.
 
-ghost use Rattle.std.specs.Prelude.{◌≡◌, [], map, Some, IfOk};
+ghost use Rattle.std.specs.Prelude.{◌≡◌, ◌≤◌, [], List, map, Some, IfOk, IfErr};
 ghost use Rattle.std.specs.Option.{option_map};
+ghost use Rattle.st_el.specs.declared.expression.Exp.{Exp};
+ghost use Rattle.st_el.specs.declared.notation.Notation.{Notation};
+ghost use Rattle.st_el.specs.declared.ty.Typ.{Typ};
+ghost use Rattle.st_meaning.specs.Heights.{highest, height, typ_height};
 ghost use Rattle.st_meaning.specs.NotationBuilding.{typ_built, notation_built};
 ghost use Rattle.st_meaning.specs.Notations as notations;
+ghost use Rattle.st_measure.specs.Answers.{OnlyMemory};
+ghost use Rattle.st_draft.specs.declared.draft.Draft.{Draft};
 ghost use Rattle.st_draft.specs.Drafts as drafts;
+ghost use Rattle.st_draft.specs.Heights.{open_height, IsLow};
 ghost use Rattle.st_draft.specs.Parts as spec;
 
 use crate::draft::Draft;
@@ -54,7 +61,9 @@ pub(crate) fn build_types(
     alloc: Global,
     arguments: &[Row<Action<'_>>],
 ) -> Result<Row<Typ>, BuildFault>
-    ensures { IfOk result (λ typs. spec.all_built typ_built arguments.now ≡ Some typs) }
+    ensures kept { IfOk result (λ typs. spec.all_built typ_built arguments.now ≡ Some typs) }
+    ensures low { (typs : List Typ) → spec.all_built typ_built arguments.now ≡ Some typs
+        → highest (map typ_height typs) ≤ 100 → IfErr result OnlyMemory }
 {
     let mut typs = Row::new(alloc);
     'arguments: for actions in arguments {
@@ -65,9 +74,11 @@ pub(crate) fn build_types(
 }
 
 /// The expression of these actions.
-#[tactic(auto, using(crate::proofs::Built::exp_from))]
+#[tactic(auto, using(crate::proofs::Built::exp_from, crate::proofs::Faults::exp_low))]
 fn build_exp(alloc: Global, actions: &[Action<'_>]) -> Result<Exp, BuildFault>
-    ensures { IfOk result (λ exp. spec.exp_built actions.now ≡ Some exp) }
+    ensures kept { IfOk result (λ exp. spec.exp_built actions.now ≡ Some exp) }
+    ensures low { (exp : Exp) → spec.exp_built actions.now ≡ Some exp → height exp ≤ 100
+        → IfErr result OnlyMemory }
 {
     build(alloc, actions)
 }
@@ -77,7 +88,9 @@ pub(crate) fn build_patterns(
     alloc: Global,
     arguments: &[Row<Action<'_>>],
 ) -> Result<Row<Exp>, BuildFault>
-    ensures { IfOk result (λ exps. spec.all_built spec.exp_built arguments.now ≡ Some exps) }
+    ensures kept { IfOk result (λ exps. spec.all_built spec.exp_built arguments.now ≡ Some exps) }
+    ensures low { (exps : List Exp) → spec.all_built spec.exp_built arguments.now ≡ Some exps
+        → highest (map height exps) ≤ 100 → IfErr result OnlyMemory }
 {
     let mut exps = Row::new(alloc);
     'arguments: for actions in arguments {
@@ -121,9 +134,11 @@ fn fill_typ(
     actions: &[Action<'_>],
     draft: &mut Draft,
 ) -> Result<(), BuildFault>
-    ensures { IfOk result (λ _.
+    ensures kept { IfOk result (λ _.
         option_map (λ t. drafts.typ_filled slot t draft.old) (typ_built actions.now)
         ≡ Some draft.new) }
+    ensures low { (typ : Typ) → typ_built actions.now ≡ Some typ → typ_height typ ≤ 100
+        → IfErr result OnlyMemory }
 {
     let typ = build_typ(alloc, actions)?;
     match slot {
@@ -147,7 +162,9 @@ fn hole(typ: Typ) -> Notation
 /// notation of 101.
 #[tactic(auto, using(crate::proofs::Built::hole_from))]
 fn build_whole(alloc: Global, actions: &[Action<'_>]) -> Result<Notation, BuildFault>
-    ensures { IfOk result (λ notation. notation_built actions.now ≡ Some notation) }
+    ensures kept { IfOk result (λ notation. notation_built actions.now ≡ Some notation) }
+    ensures low { (notation : Notation) → notation_built actions.now ≡ Some notation
+        → open_height notation ≤ 100 → IfErr result OnlyMemory }
 {
     match build_notation(alloc, actions) {
         Err(BuildFault::TooHigh) => {
@@ -161,9 +178,11 @@ fn build_whole(alloc: Global, actions: &[Action<'_>]) -> Result<Notation, BuildF
 
 /// A notation ends.
 fn fill_notation(alloc: Global, actions: &[Action<'_>], draft: &mut Draft) -> Result<(), BuildFault>
-    ensures { IfOk result (λ _.
+    ensures kept { IfOk result (λ _.
         option_map (λ k. drafts.notation_filled k draft.old) (notation_built actions.now)
         ≡ Some draft.new) }
+    ensures low { (notation : Notation) → notation_built actions.now ≡ Some notation
+        → open_height notation ≤ 100 → IfErr result OnlyMemory }
 {
     let notation = build_whole(alloc, actions)?;
     put_notation(draft, notation)?;
@@ -172,9 +191,11 @@ fn fill_notation(alloc: Global, actions: &[Action<'_>], draft: &mut Draft) -> Re
 
 /// A conclusion, or the result of a clause, ends.
 fn fill_exp(alloc: Global, actions: &[Action<'_>], draft: &mut Draft) -> Result<(), BuildFault>
-    ensures { IfOk result (λ _.
+    ensures kept { IfOk result (λ _.
         option_map (λ e. drafts.exp_filled e draft.old) (spec.exp_built actions.now)
         ≡ Some draft.new) }
+    ensures low { (exp : Exp) → spec.exp_built actions.now ≡ Some exp → height exp ≤ 100
+        → IfErr result OnlyMemory }
 {
     let exp = build_exp(alloc, actions)?;
     put_exp(draft, exp);
@@ -187,9 +208,11 @@ fn fill_condition(
     actions: &[Action<'_>],
     draft: &mut Draft,
 ) -> Result<(), BuildFault>
-    ensures { IfOk result (λ _.
+    ensures kept { IfOk result (λ _.
         option_map (λ e. drafts.condition_filled e draft.old) (spec.exp_built actions.now)
         ≡ Some draft.new) }
+    ensures low { (exp : Exp) → spec.exp_built actions.now ≡ Some exp → height exp ≤ 100
+        → IfErr result OnlyMemory }
 {
     let exp = build_exp(alloc, actions)?;
     put_condition(draft, exp);
@@ -204,12 +227,14 @@ fn fill_count(
     words: &[Word<'_>],
     draft: &mut Draft,
 ) -> Result<(), BuildFault>
-    ensures { IfOk result (λ _.
+    ensures kept { IfOk result (λ _.
         option_map
         (λ e. drafts.count_filled around
         (spec.count_with (spec.index_in (map spec.word_of words.now)) e) draft.old)
         (spec.exp_built actions.now)
         ≡ Some draft.new) }
+    ensures low { (exp : Exp) → spec.exp_built actions.now ≡ Some exp → height exp ≤ 100
+        → IfErr result OnlyMemory }
 {
     let index = index_in(alloc, words)?;
     let exp = build_exp(alloc, actions)?;
@@ -218,7 +243,8 @@ fn fill_count(
     Ok(())
 }
 
-/// A part ends, with so many brackets open round it.
+/// A part ends, with so many brackets open round it. A count is built where there is a premise that
+/// it iterates, so all that is built stands in the draft.
 pub(crate) fn fill(
     alloc: Global,
     slot: Slot,
@@ -227,9 +253,12 @@ pub(crate) fn fill(
     words: &[Word<'_>],
     draft: &mut Draft,
 ) -> Result<(), BuildFault>
-    ensures { IfOk result (λ _.
-        spec.refilled slot around actions.now (map spec.word_of words.now) draft.old
-        ≡ Some draft.new) }
+    ensures kept { (next : Draft)
+        → spec.refilled slot around actions.now (map spec.word_of words.now) draft.old ≡ Some next
+        → IfOk result (λ _. draft.new ≡ next) }
+    ensures low { (next : Draft)
+        → spec.refilled slot around actions.now (map spec.word_of words.now) draft.old ≡ Some next
+        → IsLow next → IfErr result OnlyMemory }
 {
     match slot {
         Slot::Field | Slot::Var | Slot::Fun => fill_typ(alloc, slot, actions, draft),
@@ -237,6 +266,11 @@ pub(crate) fn fill(
         Slot::Argument(_, _) => Ok(()),
         Slot::Rule => fill_exp(alloc, actions, draft),
         Slot::Condition => fill_condition(alloc, actions, draft),
-        Slot::Count => fill_count(alloc, around, actions, words, draft),
+        Slot::Count => {
+            if draft.premises.prem.is_none() {
+                return Ok(());
+            }
+            fill_count(alloc, around, actions, words, draft)
+        }
     }
 }

@@ -1,18 +1,20 @@
 //! The tokens of definitions, one after another, and what is kept of them.
 
-ghost use Rattle.std.specs.Prelude.{◌≡◌, [], List, map, Some, IfOk};
+ghost use Rattle.std.specs.Prelude.{◌≡◌, [], List, map, Some, IfOk, IfErr};
 ghost use Rattle.st_el.specs.declared.definition.Def.{Def};
 ghost use Rattle.st_el.specs.Plain.{nowhere};
 ghost use Rattle.st_grammar.specs.Lexemes as lexemes;
 ghost use Rattle.st_grammar.specs.Places as places;
 ghost use Rattle.st_meaning.specs.Definitions.{defs_meaning};
+ghost use Rattle.st_measure.specs.Answers.{OnlyMemory};
 ghost use Rattle.st_reading.specs.Course as course;
 ghost use Rattle.st_reading.specs.Readings.{progress_of};
 ghost use Rattle.st_reading.specs.Shapes.{lexeme_of};
 ghost use Rattle.st_draft.specs.Drafts as drafts;
+ghost use Rattle.st_draft.specs.Heights.{AllLow};
 ghost use Rattle.st_draft.specs.Known.{known};
 ghost use Rattle.st_draft.specs.Work as spec;
-ghost use Rattle.st_draft.specs.Work.{Work, Keeps, ReadTo, DrawsDefs};
+ghost use Rattle.st_draft.specs.Work.{Work, Keeps, Goes, ReadTo, DrawsDefs};
 
 use crate::change::ending_of;
 use crate::parts::{Parts, no_parts};
@@ -31,9 +33,12 @@ fn end_tokens<'a, S: Sketch<'a>>(
     sketch: &mut S,
     parts: &mut Parts<'a>,
 ) -> Result<(), BuildFault>
-    ensures { (before : Work) (defs : List Def) → Keeps S.Draws sketch.old parts.old before
+    ensures defs { (before : Work) (defs : List Def) → Keeps S.Draws sketch.old parts.old before
         → spec.ended_defs (progress_of progress.now) before ≡ Some defs
         → IfOk result (λ _. DrawsDefs S.Draws sketch.new defs) }
+    ensures low { (before last : Work) → Keeps S.Draws sketch.old parts.old before
+        → spec.last_work (progress_of progress.now) before ≡ Some last → S.Low last.draft
+        → IfErr result OnlyMemory }
 {
     match progress {
         Progress::At(here) => sketch.end(alloc, ending_of(here.place)),
@@ -62,6 +67,10 @@ fn read_next<'a, S: Sketch<'a>>(
         → IfOk result (λ next. spec.work_after (progress_of progress) (progress_of next)
         (lexeme_of (lexemes.lexeme names.now token.now)) token.now before ≡ Some after
         → Keeps S.Draws sketch.new parts.new after) }
+    ensures low { (before : Work) → Keeps S.Draws sketch.old parts.old before
+        → Goes S.Low (progress_of progress) (lexeme_of (lexemes.lexeme names.now token.now))
+        token.now before
+        → IfErr result OnlyMemory }
 {
     let lexeme = token_lexeme(names, token);
     match read_token(alloc, progress, lexeme, token, sketch, parts)? {
@@ -83,9 +92,12 @@ fn read_all<'a, S: Sketch<'a>>(
     requires actions { parts.old.actions ≡ [] }
     requires marks { parts.old.marks ≡ [] }
     requires words { parts.old.words ≡ [] }
-    ensures { (st : places.State)
+    ensures read { (st : places.State)
         → places.reading places.start (map (lexemes.lexeme names.now) tokens.now) ≡ Some st
         → IfOk result (λ progress. ReadTo S.Draws st progress sketch.new parts.new) }
+    ensures low { (st : places.State)
+        → places.reading places.start (map (lexemes.lexeme names.now) tokens.now) ≡ Some st
+        → AllLow S.Low (places.finish st) → IfErr result OnlyMemory }
 {
     let mut progress = Progress::At(At {
         place: Place::Between,
@@ -106,9 +118,12 @@ pub fn read_source<'a, S: Sketch<'a>>(
     sketch: &mut S,
 ) -> Result<(), BuildFault>
     requires { S.Draws sketch.old (drafts.begun [] nowhere) }
-    ensures { (st : places.State)
+    ensures kept { (st : places.State)
         → places.reading places.start (map (lexemes.lexeme names.now) tokens.now) ≡ Some st
         → IfOk result (λ _. DrawsDefs S.Draws sketch.new (defs_meaning (known st))) }
+    ensures low { (st : places.State)
+        → places.reading places.start (map (lexemes.lexeme names.now) tokens.now) ≡ Some st
+        → AllLow S.Low (places.finish st) → IfErr result OnlyMemory }
 {
     let mut parts = no_parts(alloc);
     let progress = read_all(alloc, names, tokens, sketch, &mut parts)?;

@@ -1,8 +1,9 @@
 //! What is kept of the definitions that are read.
 
-ghost use Rattle.std.specs.Prelude.{◌≡◌, map, Some, IfOk};
+ghost use Rattle.std.specs.Prelude.{◌≡◌, map, Some, IfOk, IfErr};
 ghost use Rattle.st_el.specs.Plain.{nowhere};
 ghost use Rattle.st_draft.specs.declared.draft.Draft.{Draft};
+ghost use Rattle.st_measure.specs.Answers.{OnlyMemory};
 ghost use Rattle.st_draft.specs.Drafts.{begun, ended};
 ghost use Rattle.st_draft.specs.Parts.{word_of, redrafted, refilled};
 
@@ -19,6 +20,9 @@ pub trait Sketch<'a> {
     // What is kept is that of this draft.
     ghost Draws: { Self → Draft → Type 0 };
 
+    // Where the next draft is such, only memory may fail.
+    ghost Low: { Draft → Type 0 };
+
     /// A token between parts changes what is kept.
     fn redraft(
         &mut self,
@@ -28,9 +32,12 @@ pub trait Sketch<'a> {
         token: &'a Token,
         arguments: &[Row<Action<'a>>],
     ) -> Result<(), BuildFault>
-        ensures { (draft next : Draft) → Draws self.old draft
+        ensures kept { (draft next : Draft) → Draws self.old draft
             → redrafted change shape token.now arguments.now draft ≡ Some next
-            → IfOk result (λ _. Draws self.new next) };
+            → IfOk result (λ _. Draws self.new next) }
+        ensures low { (draft next : Draft) → Draws self.old draft
+            → redrafted change shape token.now arguments.now draft ≡ Some next → Low next
+            → IfErr result OnlyMemory };
 
     /// A part ends, with so many brackets open round it.
     fn fill(
@@ -41,12 +48,16 @@ pub trait Sketch<'a> {
         actions: &[Action<'a>],
         words: &[Word<'a>],
     ) -> Result<(), BuildFault>
-        ensures { (draft next : Draft) → Draws self.old draft
+        ensures kept { (draft next : Draft) → Draws self.old draft
             → refilled slot around actions.now (map word_of words.now) draft ≡ Some next
-            → IfOk result (λ _. Draws self.new next) };
+            → IfOk result (λ _. Draws self.new next) }
+        ensures low { (draft next : Draft) → Draws self.old draft
+            → refilled slot around actions.now (map word_of words.now) draft ≡ Some next
+            → Low next → IfErr result OnlyMemory };
 
     /// The tokens end, and the open definition so.
     fn end(&mut self, alloc: Global, ending: Ending) -> Result<(), BuildFault>
-        ensures { (draft : Draft) → Draws self.old draft
-            → IfOk result (λ _. Draws self.new (begun (ended ending draft) nowhere)) };
+        ensures kept { (draft : Draft) → Draws self.old draft
+            → IfOk result (λ _. Draws self.new (begun (ended ending draft) nowhere)) }
+        ensures memory { IfErr result OnlyMemory };
 }

@@ -1,14 +1,15 @@
 //! One token of definitions, read for the second time.
 
-ghost use Rattle.std.specs.Prelude.{◌≡◌, [], ◌∷◌, ◌++◌, length, map, reverse, Some, IfOk, IfSome};
+ghost use Rattle.std.specs.Prelude.{◌≡◌, [], ◌∷◌, ◌++◌, length, map, reverse, Some, IfOk, IfErr, IfSome};
 ghost use Rattle.std.specs.Option.{option_map};
 ghost use Rattle.st_reading.specs.Course as course;
 ghost use Rattle.st_reading.specs.Readings.{progress_of, reading_of};
+ghost use Rattle.st_measure.specs.Answers.{OnlyMemory};
 ghost use Rattle.st_draft.specs.Drafts.{arguments_after};
 ghost use Rattle.st_draft.specs.Parts.{word_of};
 ghost use Rattle.st_draft.specs.declared.draft.Draft.{Draft};
 ghost use Rattle.st_draft.specs.Work as spec;
-ghost use Rattle.st_draft.specs.Work.{Work, Keeps};
+ghost use Rattle.st_draft.specs.Work.{Work, Keeps, Goes};
 
 use crate::change::{Change, change_of};
 use crate::parts::{Parts, Word};
@@ -91,9 +92,12 @@ fn redraft_work<'a, S: Sketch<'a>>(
     sketch: &mut S,
     parts: &mut Parts<'a>,
 ) -> Result<(), BuildFault>
-    ensures { (before after : Work) → Keeps S.Draws sketch.old parts.old before
+    ensures work { (before after : Work) → Keeps S.Draws sketch.old parts.old before
         → spec.redrafted_work (progress_of next.now) place lexeme token.now before ≡ Some after
         → IfOk result (λ _. Keeps S.Draws sketch.new parts.new after) }
+    ensures low { (before after : Work) → Keeps S.Draws sketch.old parts.old before
+        → spec.redrafted_work (progress_of next.now) place lexeme token.now before ≡ Some after
+        → S.Low after.draft → IfErr result OnlyMemory }
 {
     let change = change_of(place, next);
     let arguments = parts.arguments.as_slice();
@@ -112,9 +116,12 @@ fn change_work<'a, S: Sketch<'a>>(
     sketch: &mut S,
     parts: &mut Parts<'a>,
 ) -> Result<(), BuildFault>
-    ensures { (before after : Work) → Keeps S.Draws sketch.old parts.old before
+    ensures work { (before after : Work) → Keeps S.Draws sketch.old parts.old before
         → spec.place_work (progress_of next.now) place lexeme token.now before ≡ Some after
         → IfOk result (λ _. Keeps S.Draws sketch.new parts.new after) }
+    ensures low { (before after : Work) → Keeps S.Draws sketch.old parts.old before
+        → spec.place_work (progress_of next.now) place lexeme token.now before ≡ Some after
+        → S.Low after.draft → IfErr result OnlyMemory }
 {
     match next {
         Progress::At(_) => redraft_work(alloc, place, next, lexeme, token, sketch, parts),
@@ -148,6 +155,9 @@ fn at_place<'a, S: Sketch<'a>>(
         → IfOk result (λ next. IfSome next (λ there.
         spec.place_work (progress_of there) place lexeme token.now before ≡ Some after
         → Keeps S.Draws sketch.new parts.new after)) }
+    ensures low { (before : Work) → Keeps S.Draws sketch.old parts.old before
+        → Goes S.Low (course.at place (reverse brackets)) lexeme token.now before
+        → IfErr result OnlyMemory }
 {
     let Some(next) = place_step(alloc, place, lexeme, brackets)? else {
         return Ok(None);
@@ -181,9 +191,12 @@ pub(crate) fn end_part<'a, S: Sketch<'a>>(
     sketch: &mut S,
     parts: &mut Parts<'a>,
 ) -> Result<(), BuildFault>
-    ensures { (before after : Work) → Keeps S.Draws sketch.old parts.old before
+    ensures work { (before after : Work) → Keeps S.Draws sketch.old parts.old before
         → spec.filled_work slot around (reading_of reading.now) before ≡ Some after
         → IfOk result (λ _. Keeps S.Draws sketch.new parts.new after) }
+    ensures low { (before after : Work) → Keeps S.Draws sketch.old parts.old before
+        → spec.filled_work slot around (reading_of reading.now) before ≡ Some after
+        → S.Low after.draft → IfErr result OnlyMemory }
 {
     st_emit::finish(reading, &mut parts.actions)?;
     let words = parts.words.as_slice();
@@ -220,6 +233,10 @@ fn in_part<'a, S: Sketch<'a>>(
         spec.work_after (course.inside slot (reading_of reading) (reverse brackets))
         (progress_of there) lexeme token.now before ≡ Some after
         → Keeps S.Draws sketch.new parts.new after)) }
+    ensures low { (before : Work) → Keeps S.Draws sketch.old parts.old before
+        → Goes S.Low (course.inside slot (reading_of reading) (reverse brackets)) lexeme token.now
+        before
+        → IfErr result OnlyMemory }
 {
     let before = copy_reading(alloc, &reading)?;
     if let Some(next) = part_step(slot_sort(slot), reading, lexeme.shape)? {
@@ -257,6 +274,8 @@ pub(crate) fn read_token<'a, S: Sketch<'a>>(
         spec.work_after (progress_of progress) (progress_of there) lexeme token.now before
         ≡ Some after
         → Keeps S.Draws sketch.new parts.new after)) }
+    ensures low { (before : Work) → Keeps S.Draws sketch.old parts.old before
+        → Goes S.Low (progress_of progress) lexeme token.now before → IfErr result OnlyMemory }
 {
     match progress {
         Progress::At(here) => at_place(

@@ -5,5 +5,5 @@ mod Taken
 mod Leaving
 mod Limits
 mod Highest
-mod Holes
+pub mod Holes
 pub mod Premises

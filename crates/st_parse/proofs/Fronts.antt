@@ -1,5 +1,5 @@
 -- The tokens before the first one with a fault, and what is surveyed of them.
-use Rattle.std.proofs.Common.{◌≡◌, ℕ, ◌≤◌, inl, inr, List, length, take, map, Option, Some, None, Result, Ok, Err, IfOk, refl, sym, ap, subst, ◌∙◌, arith}
+use Rattle.std.proofs.Common.{◌≡◌, ℕ, ◌≤◌, inl, inr, List, [], ◌∷◌, length, take, map, Bool, true, false, nat_lt, if◌then◌else◌, Option, Some, None, Result, Ok, Err, IfOk, refl, sym, ap, subst, ◌∙◌, arith}
 use Rattle.std.proofs.lemmas.List.{take-map, take_all, length-map}
 use Rattle.st_num.specs.declared.memory.NoMemory.{NoMemory}
 use Rattle.st_num.specs.declared.span.Span.{Span}
@@ -20,12 +20,17 @@ use Rattle.st_meaning.specs.Definitions.{defs_meaning}
 use Rattle.st_meaning.specs.declared.fault.BuildFault.{BuildFault}
 use Rattle.st_draft.specs.declared.draft.Draft.{Draft}
 use Rattle.st_draft.specs.Known.{before, defs_or, known}
+use Rattle.st_draft.specs.Heights.{defs_height, IsLow, AllLow}
 use Rattle.st_draft.specs.Work.{DrawsDefs}
+use Rattle.st_draft.proofs.Lowness.{no_higher}
+use Rattle.st_measure.specs.DefHeights.{def_height}
+use Rattle.std.specs.Option.{option_or}
 use Rattle.st_survey.specs.declared.survey.Survey.{Survey}
 use Rattle.st_survey.specs.Surveys.{Surveys}
 use Rattle.st_survey.specs.Limits.{variable_past, too_tall, first_that}
 use Rattle.st_parse.specs.declared.limits.LimitFaults.{LimitFaults}
-use Rattle.st_parse.specs.Source.{Front, Surveyed, end_of, Judged, Found, IsParsed, IsSource, FaultAt}
+use Rattle.st_parse.specs.Source.{Front, IsParsed, IsSource, FaultAt}
+use Rattle.st_parse.specs.Found.{Surveyed, end_of, Judged, Found}
 
 abbrev pub all_of : (tokens : List Token) → Faultless tokens → Front tokens
 all_of tokens h = record { count = length tokens; seen = h.0; faultless = h.2; longest = inl refl }
@@ -54,6 +59,16 @@ within tokens (Some f) (inr h) = omega (arith, h.0)
 pub surveyed_so : (s : Survey) (defs : List Def) → DrawsDefs Surveys s defs → Surveyed defs (record { past = s.past; tall = s.tall })
 surveyed_so s defs h = (h.1.past ∙ ap (first_that variable_past) h.2, h.1.tall ∙ ap (first_that too_tall) h.2)
 
+-- The tokens before the first fault are read.
+read_so : (tokens front : List Token) (names : List (List ℕ)) (found : Option Fault) (e : names ≡ declared_names tokens) (j : Judged tokens found) → front ≡ take (end_of tokens found) tokens
+    → reading start (map (lexeme names) front) ≡ Some (front_of tokens found j).0.seen.state
+read_so tokens front names found e j k =
+    ap (λ xs. reading start (map (lexeme names) xs)) k ∙ read_front tokens names (end_of tokens found) (front_of tokens found j).0 e (front_of tokens found j).1
+
+pub front_reads : (tokens front : List Token) (names : List (List ℕ)) (found : Option Fault) → names ≡ declared_names tokens → Judged tokens found → front ≡ take (end_of tokens found) tokens
+    → (st : State) × (reading start (map (lexeme names) front) ≡ Some st)
+front_reads tokens front names found e j k = ((front_of tokens found j).0.seen.state, read_so tokens front names found e j k)
+
 pub found_so : (tokens front : List Token) (names : List (List ℕ)) (found : Option Fault) (r : Result LimitFaults NoMemory) → names ≡ declared_names tokens → Judged tokens found
     → front ≡ take (end_of tokens found) tokens
     → ((st : State) → reading start (map (lexeme names) front) ≡ Some st → IfOk r (Surveyed (defs_meaning (known st)))) → IfOk r (Found tokens found)
@@ -63,7 +78,7 @@ found_so tokens front names found (Ok s) e j k drawn =
     record {
       judged = j;
       front = f.0;
-      surveyed = drawn f.0.seen.state (ap (λ xs. reading start (map (lexeme names) xs)) k ∙ read_front tokens names (end_of tokens found) f.0 e f.1);
+      surveyed = drawn f.0.seen.state (read_so tokens front names found e j k);
       count = f.1;
     }
 
@@ -71,6 +86,26 @@ pub built_so : (s : Draft) (st : State) (ds : Defs) (r : Result (Unit {0}) Build
     → IfOk r (λ z. s.defs ≡ defs_meaning ds)
 built_so s st ds (Err f) h e = tt
 built_so s st ds (Ok z) h e = ap (λ (d : Draft). d.defs) h.1 ∙ h.2 ∙ ap (λ o. defs_meaning (defs_or (before st) o)) e
+
+-- Definitions with no tree that is too high are low.
+low_defs : (defs : List Def) → first_that too_tall defs ≡ None → defs_height defs ≤ 100
+low_defs [] h = omega arith
+low_defs (d ∷ defs) h = go (nat_lt 100 (def_height d)) refl h (λ k. low_defs defs k)
+  where
+    go : (b : Bool) → nat_lt 100 (def_height d) ≡ b → option_or (if b then Some d.at else None) (first_that too_tall defs) ≡ None → (first_that too_tall defs ≡ None → defs_height defs ≤ 100) → defs_height (d ∷ defs) ≤ 100
+    go true e k later = absurd (cc)
+    go false e k later =
+        let here : def_height d ≤ 100 = grind (arith, e) in
+        let rest : defs_height defs ≤ 100 = later k in
+        omega (arith, here, rest)
+
+pub all_low : (st : State) (ds : Defs) → finish st ≡ Some ds → first_that too_tall (defs_meaning ds) ≡ None → AllLow IsLow (finish st)
+all_low st ds e h = subst (AllLow IsLow) (sym e) (λ d within. no_higher (defs_height (defs_meaning ds)) 100 d (low_defs (defs_meaning ds) h) within)
+
+-- Each draft can be measured.
+pub all_measured : (o : Option Defs) → AllLow (λ d. Unit {0}) o
+all_measured None = λ d. tt
+all_measured (Some ds) = λ d within. tt
 
 -- ---- answers
 
@@ -95,7 +130,12 @@ all_known tokens front defs e p =
     let one : h.1 ≡ p.1.trees = one_list_of_defs us h.1 p.1.trees (sound_defs us h.0.state h.1 read h.3) p.1.grammar in
     ap (λ q. defs_meaning (known q.state)) same ∙ ap (λ o. defs_meaning (defs_or (before h.0.state) o)) h.3 ∙ ap defs_meaning one ∙ p.1.meant
 
+pub low : (tokens : List Token) (found : Option Fault) (s : LimitFaults) → Found tokens found s → found ≡ None → s.tall ≡ None → (defs : List Def) → IsParsed tokens defs → first_that too_tall defs ≡ None
+low tokens found s h g t defs p =
+    let same = all_known tokens h.front defs (h.count ∙ ap (end_of tokens) g) p in
+    ap (first_that too_tall) (sym same) ∙ sym h.surveyed.1 ∙ t
+
 pub source : (tokens : List Token) (found : Option Fault) (s : LimitFaults) (defs : List Def) → Found tokens found s → s.past ≡ None → found ≡ None → s.tall ≡ None → IsParsed tokens defs → IsSource tokens defs
 source tokens found s defs h e g t p =
     let same = all_known tokens h.front defs (h.count ∙ ap (end_of tokens) g) p in
-    (p, (ap (first_that variable_past) (sym same) ∙ sym h.surveyed.0 ∙ e, ap (first_that too_tall) (sym same) ∙ sym h.surveyed.1 ∙ t))
+    (p, (ap (first_that variable_past) (sym same) ∙ sym h.surveyed.0 ∙ e, low tokens found s h g t defs p))

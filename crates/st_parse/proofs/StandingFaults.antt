@@ -16,7 +16,7 @@ use Rattle.st_faults.specs.Place.{place_at}
 use Rattle.st_faults.proofs.Verdicts.{verdict_reads}
 use Rattle.st_el.specs.declared.definition.Def.{Def}
 use Rattle.st_draft.specs.Known.{head_before, rule_before, host_before, slot_before, place_before, before, defs_or, known}
-use Rattle.st_draft.proofs.LexemeTokens.{lexeme_token}
+use Rattle.st_grammar.proofs.LexemeTokens.{lexeme_token}
 use Rattle.st_survey.specs.Limits.{variable_past, too_tall}
 use Rattle.st_parse.specs.Source.{Standing, FaultAt}
 use Rattle.st_parse.proofs.Standing.{Stand, first}

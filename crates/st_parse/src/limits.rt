@@ -1,14 +1,15 @@
 //! What the limits ask of the definitions that stand whole.
 
-ghost use Rattle.std.specs.Prelude.{◌≡◌, map, IfOk};
+ghost use Rattle.std.specs.Prelude.{◌≡◌, map, Some, IfOk};
 ghost use Rattle.st_grammar.specs.Lexemes as lexemes;
 ghost use Rattle.st_grammar.specs.Places as places;
 ghost use Rattle.st_meaning.specs.Definitions.{defs_meaning};
 ghost use Rattle.st_draft.specs.Known.{known};
-ghost use Rattle.st_parse.specs.Source.{Judged, Found, Surveyed, end_of};
+ghost use Rattle.st_parse.specs.Found.{Judged, Found, Surveyed, end_of};
 
 use st_draft::read_source;
 use st_faults::Fault;
+use st_meaning::BuildFault;
 use st_num::{Name, NoMemory, Span};
 use st_scan::Token;
 use st_survey::begun_survey;
@@ -34,6 +35,8 @@ fn front_end(tokens: &[Token], fault: Option<Fault>) -> usize
 /// What the limits ask of the definitions that stand whole behind these tokens, where these names
 /// are declared by `var`.
 fn survey(alloc: Global, names: &[Name], tokens: &[Token]) -> Result<LimitFaults, NoMemory>
+    requires reads { (st : places.State)
+        × (places.reading places.start (map (lexemes.lexeme names.now) tokens.now) ≡ Some st) }
     ensures { (st : places.State)
         → places.reading places.start (map (lexemes.lexeme names.now) tokens.now) ≡ Some st
         → IfOk result (Surveyed (defs_meaning (known st))) }
@@ -44,7 +47,9 @@ fn survey(alloc: Global, names: &[Name], tokens: &[Token]) -> Result<LimitFaults
             past: survey.past,
             tall: survey.tall,
         }),
-        Err(_) => Err(NoMemory),
+        Err(BuildFault::Memory) => Err(NoMemory),
+        Err(BuildFault::Unfit) => unreachable!(),
+        Err(BuildFault::TooHigh) => unreachable!(),
     }
 }
 

@@ -1,13 +1,16 @@
 //! The definitions of tokens.
 
-ghost use Rattle.std.specs.Prelude.{◌≡◌, [], map, Some, IfOk};
+ghost use Rattle.std.specs.Prelude.{◌≡◌, [], map, List, None, Some, IfOk, IfErr};
 ghost use Rattle.st_grammar.specs.Lexemes as lexemes;
 ghost use Rattle.st_grammar.specs.Places as places;
 ghost use Rattle.st_grammar.specs.Definitions.{Defs};
 ghost use Rattle.st_faults.specs.Faults.{Faultless};
 ghost use Rattle.st_el.specs.Plain.{nowhere};
+ghost use Rattle.st_el.specs.declared.definition.Def.{Def};
 ghost use Rattle.st_meaning.specs.Definitions.{defs_meaning};
+ghost use Rattle.st_measure.specs.Answers.{OnlyMemory};
 ghost use Rattle.st_draft.specs.Drafts as drafts;
+ghost use Rattle.st_survey.specs.Limits.{too_tall, first_that};
 ghost use Rattle.st_parse.specs.Source.{Answers, IsParsed};
 
 use crate::limits::limit_faults;
@@ -28,25 +31,33 @@ fn build_all(
     draft: &mut Draft,
 ) -> Result<(), BuildFault>
     requires fresh { draft.old ≡ drafts.begun [] nowhere }
-    ensures { (st : places.State) (ds : Defs)
+    ensures built { (st : places.State) (ds : Defs)
         → places.reading places.start (map (lexemes.lexeme names.now) tokens.now) ≡ Some st
         → places.finish st ≡ Some ds
         → IfOk result (λ _. draft.new.defs ≡ defs_meaning ds) }
+    ensures low { (st : places.State) (ds : Defs)
+        → places.reading places.start (map (lexemes.lexeme names.now) tokens.now) ≡ Some st
+        → places.finish st ≡ Some ds → first_that too_tall (defs_meaning ds) ≡ None
+        → IfErr result OnlyMemory }
 {
     read_source(alloc, names, tokens, draft)
 }
 
-/// The definitions of tokens without a fault, where these names are declared by `var`. Whatever
-/// building fails for is told as want of memory; no clause says that it is nothing else.
+/// The definitions of tokens without a fault, where these names are declared by `var`. Where no
+/// tree is too high, building fails for memory alone.
 fn read_definitions(alloc: Global, names: &[Name], tokens: &[Token]) -> Result<Row<Def>, NoMemory>
     requires names { names.now ≡ lexemes.declared_names tokens.now }
     requires faultless { Faultless tokens.now }
+    requires low { (defs : List Def) → IsParsed tokens.now defs
+        → first_that too_tall defs ≡ None }
     ensures { IfOk result (IsParsed tokens.now) }
 {
     let mut draft = begun(alloc, Row::new(alloc), NOWHERE);
     match build_all(alloc, names, tokens, &mut draft) {
         Ok(()) => Ok(draft.defs),
-        Err(_) => Err(NoMemory),
+        Err(BuildFault::Memory) => Err(NoMemory),
+        Err(BuildFault::Unfit) => unreachable!(),
+        Err(BuildFault::TooHigh) => unreachable!(),
     }
 }
 

@@ -1,5 +1,5 @@
 -- What is measured of parts that stand together.
-use Rattle.std.proofs.Common.{◌≡◌, ℕ, ◌+◌, ◌<◌, max, List, [], ◌∷◌, ◌++◌, length, get_or, take, map, flat_map, Option, Some, None, option_map, option_and_then, refl, sym, ap, ◌∙◌, arith, rules}
+use Rattle.std.proofs.Common.{◌≡◌, ℕ, ◌+◌, ◌<◌, ◌≤◌, max, List, [], ◌∷◌, ◌++◌, length, get_or, take, map, flat_map, Option, Some, None, option_map, option_and_then, refl, sym, ap, ◌∙◌, arith, rules}
 use Rattle.std.proofs.lemmas.List.{take_more}
 use Rattle.std.specs.Option.{option_or}
 use Rattle.st_num.specs.declared.span.Span.{Span}
@@ -12,9 +12,9 @@ use Rattle.st_meaning.specs.Definitions.{prem_at}
 use Rattle.st_meaning.proofs.Tallness.{highest_behind}
 use Rattle.st_draft.specs.Parts.{all_built}
 use Rattle.st_measure.specs.Variables.{Occurrence, Seen, prem_node_variables_at, prem_variables}
-use Rattle.st_measure.specs.DefHeights.{prem_node_height_at, prem_height_at, prem_height}
 use Rattle.st_measure.specs.Answers.{capped}
 use Rattle.st_measure.proofs.Occurring.{one_behind}
+use Rattle.st_draft.proofs.Faults.{nth_low}
 use Rattle.st_survey.specs.declared.measure.Measure.{Measure}
 use Rattle.st_survey.specs.Limits.{first_that}
 use Rattle.st_survey.specs.Surveys.{Is}
@@ -85,6 +85,14 @@ pub mapped : (A B : Type 0) (f : A → B) (o : Option A) (b : B) → option_map 
 mapped A B f None b e = absurd (cc)
 mapped A B f (Some a) b e = (a, refl, cc)
 
+-- each part is built, where all are
+pub nth_built : (A : Type 0) (f : List Action → Option A) (xs : List (List Action)) (i : ℕ) (x : List Action) (ys : List A) → all_built f xs ≡ Some ys → i < length xs → x ≡ get_or xs i x → (a : A) × (f x ≡ Some a)
+nth_built A f xs i x ys e h is = let n = nth_low A f (λ a. 0) xs i x ys e (zeros ys) h is in (n.0, n.1)
+  where
+    zeros : (bs : List A) → highest (map (λ (a : A). 0) bs) ≤ 100
+    zeros [] = omega arith
+    zeros (b ∷ bs) = omega (arith, zeros bs)
+
 -- ---- definitions
 
 pub first_behind : (f : Def → Option Span) (ds : List Def) (d : Def) → first_that f (ds ++ d ∷ []) ≡ option_or (first_that f ds) (f d)
@@ -101,18 +109,10 @@ first_behind f (e ∷ ds) d = ap (option_or (f e)) (first_behind f ds d) ∙ aga
 
 -- ---- premises
 
-tall_at : (at : Span) (n : PremNode) → prem_height (prem_at at n) ≡ fold-PremNode ℕ ℕ prem_node_height_at prem_height_at n + 1
-tall_at at n = search (rules, the_lemmas)
-
 in_at : (at : Span) (n : PremNode) → prem_variables (prem_at at n) ≡ fold-PremNode Seen Seen prem_node_variables_at (λ p. p.node) n
 in_at at n = search (rules, the_lemmas)
 
--- A premise at another place is as high, and has the same variables.
-pub height_at : (at : Span) (p : Prem) → prem_height (prem_at at (out-Prem p).node) ≡ prem_height p
-height_at at p =
-    let n : PremNode = (out-Prem p).node in
-    tall_at at n ∙ sym (tall_at (out-Prem p).at n) ∙ ap prem_height (roll-out-Prem p)
-
+-- A premise at another place has the same variables.
 pub variables_at : (at : Span) (p : Prem) → prem_variables (prem_at at (out-Prem p).node) ≡ prem_variables p
 variables_at at p =
     let n : PremNode = (out-Prem p).node in

@@ -23,7 +23,8 @@ use Rattle.st_measure.proofs.Occurring.{one_behind, without-none}
 use Rattle.st_measure.proofs.Premises.{in_if, in_goal, in_otherwise, in_each, times_mark, times_times, times_below, tall_if, tall_goal, tall_otherwise, tall_each, tall_mark, tall_times, tall_below}
 use Rattle.st_survey.specs.declared.measure.Measure.{Measure}
 use Rattle.st_survey.specs.Surveys.{Is, OfPrem, OfPrems}
-use Rattle.st_survey.proofs.Surveying.{higher, one_more, height_at, variables_at}
+use Rattle.st_draft.proofs.Lowness.{height_at}
+use Rattle.st_survey.proofs.Surveying.{higher, one_more, variables_at}
 
 same : (j k : ℕ) (vs us : List Occurrence) (m : Measure) → j ≡ k → vs ≡ us → Is j vs m → Is k us m
 same j k vs us m e f i = record { height = i.height ∙ ap capped e; variables = i.variables ∙ f }

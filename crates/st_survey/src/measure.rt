@@ -1,9 +1,9 @@
 //! Heights and variables of parts.
 
-ghost use Rattle.std.specs.Prelude.{◌≡◌, ℕ, ◌+◌, ◌++◌, [], max, List, Some, None, IfOk};
+ghost use Rattle.std.specs.Prelude.{◌≡◌, ℕ, ◌+◌, ◌++◌, [], max, List, Some, None, IfOk, IfErr};
 ghost use Rattle.st_el.specs.declared.expression.Exp.{Exp};
 ghost use Rattle.st_meaning.specs.Heights.{height};
-ghost use Rattle.st_measure.specs.Answers.{capped};
+ghost use Rattle.st_measure.specs.Answers.{OnlyMemory, capped};
 ghost use Rattle.st_measure.specs.Variables.{Occurrence, variables};
 ghost use Rattle.st_draft.specs.Parts.{exp_built, all_built};
 ghost use Rattle.st_survey.specs.Surveys as spec;
@@ -38,9 +38,10 @@ pub(crate) fn add_exp<'a>(
     actions: &[Action<'a>],
     measure: &mut Measure<'a>,
 ) -> Result<(), BuildFault>
-    ensures { (e : Exp) (tall : ℕ) (vs : List Occurrence) → exp_built actions.now ≡ Some e
-        → spec.Is tall vs measure.old
+    ensures measured { (e : Exp) (tall : ℕ) (vs : List Occurrence)
+        → exp_built actions.now ≡ Some e → spec.Is tall vs measure.old
         → IfOk result (λ _. spec.Is (max tall (height e)) (vs ++ variables e) measure.new) }
+    ensures memory { (e : Exp) → exp_built actions.now ≡ Some e → IfErr result OnlyMemory }
 {
     let height = measure_exp(alloc, actions)?;
     measure.height = measure.height.max(height);
@@ -50,7 +51,8 @@ pub(crate) fn add_exp<'a>(
 
 /// What is measured of an expression.
 pub(crate) fn measured<'a>(alloc: Global, actions: &[Action<'a>]) -> Result<Measure<'a>, BuildFault>
-    ensures { (e : Exp) → exp_built actions.now ≡ Some e → IfOk result (spec.OfExp e) }
+    ensures measured { (e : Exp) → exp_built actions.now ≡ Some e → IfOk result (spec.OfExp e) }
+    ensures memory { (e : Exp) → exp_built actions.now ≡ Some e → IfErr result OnlyMemory }
 {
     let mut measure = without_variables(alloc, 0);
     add_exp(alloc, actions, &mut measure)?;
@@ -62,8 +64,10 @@ pub(crate) fn measured_all<'a>(
     alloc: Global,
     arguments: &[Row<Action<'a>>],
 ) -> Result<Measure<'a>, BuildFault>
-    ensures { (es : List Exp) → all_built exp_built arguments.now ≡ Some es
+    ensures measured { (es : List Exp) → all_built exp_built arguments.now ≡ Some es
         → IfOk result (spec.OfExps es) }
+    ensures memory { (es : List Exp) → all_built exp_built arguments.now ≡ Some es
+        → IfErr result OnlyMemory }
 {
     let mut measure = without_variables(alloc, 0);
     'arguments: for actions in arguments {

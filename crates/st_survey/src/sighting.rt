@@ -1,6 +1,6 @@
 //! What a survey makes of each change and each part.
 
-ghost use Rattle.std.specs.Prelude.{◌≡◌, ℕ, [], map, List, Option, Some, IfOk};
+ghost use Rattle.std.specs.Prelude.{◌≡◌, ℕ, [], map, List, Option, Some, IfOk, IfErr, ⊤};
 ghost use Rattle.st_el.specs.declared.expression.Exp.{Exp};
 ghost use Rattle.st_el.specs.declared.notation.Notation.{Notation};
 ghost use Rattle.st_el.specs.declared.ty.Typ.{Typ};
@@ -9,7 +9,7 @@ ghost use Rattle.st_el.specs.declared.definition.PremNode.TheVariants as node;
 ghost use Rattle.st_meaning.specs.Definitions.{prem_at};
 ghost use Rattle.st_meaning.specs.Heights.{highest, typ_height};
 ghost use Rattle.st_meaning.specs.NotationBuilding.{typ_built, notation_built};
-ghost use Rattle.st_measure.specs.Answers.{capped};
+ghost use Rattle.st_measure.specs.Answers.{OnlyMemory, capped};
 ghost use Rattle.st_measure.specs.Variables.{Occurrence, times, without};
 ghost use Rattle.st_draft.specs.declared.draft.Draft.{Draft};
 ghost use Rattle.st_draft.specs.declared.draft.Members.{Members};
@@ -47,8 +47,10 @@ fn turn<'a>(
 
 /// The height of the highest of these parameters.
 fn params_height(alloc: Global, arguments: &[Row<Action<'_>>]) -> Result<usize, BuildFault>
-    ensures { (ts : List Typ) → parts.all_built typ_built arguments.now ≡ Some ts
+    ensures measured { (ts : List Typ) → parts.all_built typ_built arguments.now ≡ Some ts
         → IfOk result (λ height. height ≡ capped (highest (map typ_height ts))) }
+    ensures memory { (ts : List Typ) → parts.all_built typ_built arguments.now ≡ Some ts
+        → IfErr result OnlyMemory }
 {
     let mut height: usize = 0;
     'arguments: for actions in arguments {
@@ -87,9 +89,10 @@ fn put_condition<'a>(
     premises: &mut PremiseMeasures<'a>,
     actions: &[Action<'a>],
 ) -> Result<(), BuildFault>
-    ensures { (ps : Premises) (e : Exp) → spec.OfPremises ps premises.old
+    ensures measured { (ps : Premises) (e : Exp) → spec.OfPremises ps premises.old
         → parts.exp_built actions.now ≡ Some e
         → IfOk result (λ _. spec.OfPremises (drafts.condition_put e ps) premises.new) }
+    ensures memory { (e : Exp) → parts.exp_built actions.now ≡ Some e → IfErr result OnlyMemory }
 {
     let condition = measured(alloc, actions)?;
     premises.prem = Some(raised(condition));
@@ -145,10 +148,11 @@ fn iterated<'a>(
     actions: &[Action<'a>],
     words: &[Word<'_>],
 ) -> Result<Measure<'a>, BuildFault>
-    ensures { (p : Prem) (e : Exp) (at : Span) → spec.OfPrem p prem.entry
+    ensures measured { (p : Prem) (e : Exp) (at : Span) → spec.OfPrem p prem.entry
         → parts.exp_built actions.now ≡ Some e
         → IfOk result (spec.OfPrem (prem_at at
         (node.Each p (parts.count_with (parts.index_in (map parts.word_of words.now)) e)))) }
+    ensures memory { (e : Exp) → parts.exp_built actions.now ≡ Some e → IfErr result OnlyMemory }
 {
     let mut whole = without_index(alloc, prem, words)?;
     add_exp(alloc, actions, &mut whole)?;
@@ -202,9 +206,12 @@ fn redraft<'a>(
     token: &Token,
     arguments: &[Row<Action<'a>>],
 ) -> Result<(), BuildFault>
-    ensures { (draft next : Draft) (sh : Shape) → spec.Surveys survey.old draft
+    ensures measured { (draft next : Draft) (sh : Shape) → spec.Surveys survey.old draft
         → parts.redrafted change sh token.now arguments.now draft ≡ Some next
         → IfOk result (λ _. spec.Surveys survey.new next) }
+    ensures memory { (draft next : Draft) (sh : Shape)
+        → parts.redrafted change sh token.now arguments.now draft ≡ Some next
+        → IfErr result OnlyMemory }
 {
     match change {
         Change::Params => {
@@ -235,8 +242,10 @@ fn put_typ<'a>(
     slot: Slot,
     actions: &[Action<'a>],
 ) -> Result<(), BuildFault>
-    ensures { (d : Draft) (t : Typ) → spec.Surveys survey.old d → typ_built actions.now ≡ Some t
+    ensures measured { (d : Draft) (t : Typ) → spec.Surveys survey.old d
+        → typ_built actions.now ≡ Some t
         → IfOk result (λ _. spec.Surveys survey.new (drafts.typ_filled slot t d)) }
+    ensures memory { (t : Typ) → typ_built actions.now ≡ Some t → IfErr result OnlyMemory }
 {
     let height = measure_typ(alloc, actions)?;
     match slot {
@@ -257,9 +266,11 @@ fn put_notation<'a>(
     members: &mut MemberHeights,
     actions: &[Action<'a>],
 ) -> Result<(), BuildFault>
-    ensures { (ms : Members) (n : Notation) → spec.OfMembers ms members.old
+    ensures measured { (ms : Members) (n : Notation) → spec.OfMembers ms members.old
         → notation_built actions.now ≡ Some n
         → IfOk result (λ _. spec.OfMembers (drafts.notation_put n ms) members.new) }
+    ensures memory { (n : Notation) → notation_built actions.now ≡ Some n
+        → IfErr result OnlyMemory }
 {
     let heights = measure_notation(alloc, actions)?;
     members.notations.push(heights)?;
@@ -272,9 +283,10 @@ fn put_exp<'a>(
     sides: &mut SideMeasures<'a>,
     actions: &[Action<'a>],
 ) -> Result<(), BuildFault>
-    ensures { (s : Sides) (e : Exp) → spec.OfSides s sides.old
+    ensures measured { (s : Sides) (e : Exp) → spec.OfSides s sides.old
         → parts.exp_built actions.now ≡ Some e
         → IfOk result (λ _. spec.OfSides (drafts.exp_put e s) sides.new) }
+    ensures memory { (e : Exp) → parts.exp_built actions.now ≡ Some e → IfErr result OnlyMemory }
 {
     let exp = measured(alloc, actions)?;
     sides.exp = Some(exp);
@@ -288,10 +300,11 @@ fn put_count<'a>(
     actions: &[Action<'a>],
     words: &[Word<'_>],
 ) -> Result<(), BuildFault>
-    ensures { (ps : Premises) (n : ℕ) (e : Exp) → spec.OfPremises ps premises.old
+    ensures measured { (ps : Premises) (n : ℕ) (e : Exp) → spec.OfPremises ps premises.old
         → parts.exp_built actions.now ≡ Some e
         → IfOk result (λ _. spec.OfPremises (drafts.each_put n
         (parts.count_with (parts.index_in (map parts.word_of words.now)) e) ps) premises.new) }
+    ensures memory { (e : Exp) → parts.exp_built actions.now ≡ Some e → IfErr result OnlyMemory }
 {
     let Some(prem) = premises.prem.take() else {
         return Ok(());
@@ -303,6 +316,8 @@ fn put_count<'a>(
 
 impl<'a> Sketch<'a> for Survey<'a> {
     ghost Draws = { spec.Surveys };
+
+    ghost Low = { λ draft. ⊤ };
 
     fn redraft(
         &mut self,

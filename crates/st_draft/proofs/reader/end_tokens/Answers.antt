@@ -6,9 +6,9 @@ use Rattle.st_draft.specs.Work.{ended_defs}
 use Rattle.st_reading.specs.Readings.{progress_of}
 use Rattle.st_draft.proofs.reader.end_tokens.Goals as goal
 
-pub returns-in_ok-end_part-in-Inside : goal.returns-in_ok-end_part-in-Inside
-returns-in_ok-end_part-in-Inside g c before defs k e =
+pub returns-in_ok-end_part-in-Inside-clause-defs : goal.returns-in_ok-end_part-in-Inside-clause-defs
+returns-in_ok-end_part-in-Inside-clause-defs g c before defs k e =
     ended_inside g.row.S.Denot g.S.Sketch.Draws c.args.sketch.now c.end_part.new.sketch c.end-in-Inside.new.self c.args.parts.now c.end_part.new.parts
     c.in-Inside.slot (reading_of c.in-Inside.reading) (reverse c.in-Inside.brackets) c.len.result c.in-Some.part c.filled.result c.ending_of-in-Inside.result before defs c.end-in-Inside.result
-    (c.len.ensures ∙ sym (length-reverse c.in-Inside.brackets)) (search rules) (search rules) (search rules) k (λ b a h i. c.in_ok-end_part-in-Inside.ensures b a h i) c.end-in-Inside.ensures
+    (c.len.ensures ∙ sym (length-reverse c.in-Inside.brackets)) (search rules) (search rules) (search rules) k (λ b a h i. c.in_ok-end_part-in-Inside.ensures.work b a h i) c.end-in-Inside.ensures.kept
     (ap (λ q. ended_defs (progress_of q) before) (sym c.in-Inside.is) ∙ e)

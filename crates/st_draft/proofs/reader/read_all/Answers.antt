@@ -1,4 +1,4 @@
-use Rattle.std.proofs.Common.{[], refl, sym, ap, reverse}
+use Rattle.std.proofs.Common.{[], Err, IfErr, refl, sym, ap, subst, reverse, ◌∙◌}
 use Rattle.st_grammar.specs.Places.{start}
 use Rattle.st_reading.specs.declared.place.Place.TheVariants as place
 use Rattle.st_reading.specs.Course as course
@@ -6,6 +6,9 @@ use Rattle.st_el.specs.Plain.{nowhere}
 use Rattle.st_draft.specs.Drafts.{begun}
 use Rattle.st_draft.specs.Work.{work_of}
 use Rattle.st_draft.proofs.Loop.{next_token, all_read, nothing_kept}
+use Rattle.std.proofs.lemmas.Result.{err_from_is_err_and}
+use Rattle.st_measure.specs.Answers.{OnlyMemory}
+use Rattle.st_draft.proofs.LowReading.{may_go}
 use Rattle.st_draft.proofs.reader.read_all.Goals as goal
 
 pub tokens-init : goal.tokens-init
@@ -23,7 +26,14 @@ tokens-preserved g c =
     c.tokens-test.true c.tokens.invariant.1 c.token-item.is c.in_ok-progress.ensures.next in
     (n.0, n.2, c.in_ok-progress.ensures.work c.tokens.invariant.0 n.0 c.tokens.invariant.2 n.1)
 
-pub returns : goal.returns
-returns g c st e =
+pub returns-clause-read : goal.returns-clause-read
+returns-clause-read g c st e =
     all_read g.row.S.Denot g.S.Sketch.Draws c.args.names.now c.args.tokens.now c.tokens.token-index c.tokens.progress c.tokens.invariant.0 c.tokens.sketch c.tokens.parts st
     c.tokens-test.false c.tokens.invariant.1 c.tokens.invariant.2 e
+
+pub returns-in_err-progress-clause-low : goal.returns-in_err-progress-clause-low
+returns-in_err-progress-clause-low g c st e all =
+    let failed = err_from_is_err_and c.from_residual.result c.from_residual.ensures.1 in
+    subst (λ r. IfErr r OnlyMemory) (sym (failed.1 ∙ ap Err failed.2))
+    (c.in_err-progress.ensures.low c.tokens.invariant.0 c.tokens.invariant.2
+    (may_go g.S.Sketch.Low c.args.names.now c.args.tokens.now c.tokens.token-index c.token-item.result c.tokens.progress c.tokens.invariant.0 st c.tokens-test.true c.tokens.invariant.1 c.token-item.is e all))

@@ -1,7 +1,7 @@
-use Rattle.std.proofs.Common.{subst, sym}
+use Rattle.std.proofs.Common.{rules, subst, sym}
 use Rattle.st_num.specs.declared.span.Span.{Span}
 use Rattle.st_parse.specs.Source.{FaultAt}
-use Rattle.st_parse.proofs.Fronts.{many, token_fault, tall, source}
+use Rattle.st_parse.proofs.Fronts.{many, token_fault, tall, low, source}
 use Rattle.st_parse.proofs.parser.parse.Goals as goal
 
 pub returns-in-Some : goal.returns-in-Some
@@ -19,3 +19,11 @@ returns-in-Some-tall c =
 pub returns : goal.returns
 returns c =
     source c.args.tokens.now c.in_ok-fault.fault c.in_ok-limits.limits c.in_ok-defs.defs c.in_ok-limits.ensures c.in_default.is c.in_default-fault.is c.in_default-tall.is c.in_ok-defs.ensures
+
+pub read_definitions-requires : goal.read_definitions-requires
+read_definitions-requires c =
+    record {
+      names = search rules;
+      faultless = search rules;
+      low = low c.args.tokens.now c.in_ok-fault.fault c.in_ok-limits.limits c.in_ok-limits.ensures c.in_default-fault.is c.in_default-tall.is;
+    }

@@ -1,0 +1,32 @@
+-- What is found before trees are built: the first fault of a token, and what the limits ask.
+use Rattle.std.specs.Prelude.{◌≡◌, ℕ, List, length, Option, Some, None}
+use Rattle.st_scan.specs.declared.token.Token.{Token}
+use Rattle.st_faults.specs.Faults.{Faultless, FirstFault}
+use Rattle.st_faults.specs.declared.fault.Fault.{Fault}
+use Rattle.st_el.specs.declared.definition.Def.{Def}
+use Rattle.st_meaning.specs.Definitions.{defs_meaning}
+use Rattle.st_draft.specs.Known.{known}
+use Rattle.st_survey.specs.Limits.{variable_past, too_tall, first_that}
+use Rattle.st_parse.specs.declared.limits.LimitFaults.{LimitFaults}
+use Rattle.st_parse.specs.Source.{Front}
+
+-- the first variable that is past the limit in these definitions, and the first that is too high
+abbrev pub Surveyed : List Def → LimitFaults → Type 0
+Surveyed defs s = (s.past ≡ first_that variable_past defs) × (s.tall ≡ first_that too_tall defs)
+
+-- what the first fault of a token is
+abbrev pub Judged : List Token → Option Fault → Type 0
+Judged tokens None = Faultless tokens
+Judged tokens (Some f) = FirstFault tokens f.place f.rule
+
+-- how many tokens stand before it
+abbrev pub end_of : List Token → Option Fault → ℕ
+end_of tokens None = length tokens
+end_of tokens (Some f) = f.place
+
+-- what is surveyed of the tokens before the first fault of a token, where that is this one
+pub record Found (tokens : List Token) (found : Option Fault) (s : LimitFaults) : Type 0 where
+  pub judged : Judged tokens found
+  pub front : Front tokens
+  pub surveyed : Surveyed (defs_meaning (known front.seen.state)) s
+  pub count : front.count ≡ end_of tokens found
