@@ -1,12 +1,11 @@
 -- The bytes of tokens that stand apart are UTF-8.
-use Rattle.std.proofs.Common.{◌≡◌, ℕ, ◌+◌, ◌<◌, suc, List, [], ◌∷◌, ◌++◌, length, drop, get_or, Bool, true, refl, sym, ap, ◌∙◌, subst, arith, append_assoc}
+use Rattle.std.proofs.Common.{◌≡◌, ℕ, ◌<◌, List, [], ◌∷◌, ◌++◌, Bool, true, refl, sym, ap, ◌∙◌, subst, arith, append_assoc}
 use Rattle.std.specs.Prelude.{nat_lt}
 use Rattle.std.specs.List.{flat_map, list_all}
 use Rattle.std.specs.Str.{IsAscii, IsUtf8}
 use Rattle.std.proofs.lemmas.Bool.{and_parts}
 use Rattle.std.proofs.lemmas.Bool.Decides.{nat_tests}
-use Rattle.std.proofs.lemmas.List.{take_at, drop_at, get_or_at, length-append}
-use Rattle.std.proofs.lemmas.Str.{IsUtf8-append, IsUtf8-nil, IsUtf8-take, IsUtf8-drop, IsUtf8-from_ascii, IsCharBoundary-before_ascii, IsCharBoundary-after_ascii}
+use Rattle.std.proofs.lemmas.Str.{IsUtf8-append, IsUtf8-nil, IsUtf8-from_ascii}
 use Rattle.std.proofs.lemmas.Str.Ascii.{IsAscii-nil, IsAscii-cons}
 use Rattle.st_num.specs.Signs.{spelling}
 use Rattle.st_num.specs.declared.mark.Mark.{Mark}
@@ -16,6 +15,7 @@ use Rattle.st_scan.specs.Spelling.{Spells, escaped, quoted}
 use Rattle.st_scan.specs.declared.token.TokenKind.{TokenKind}
 use Rattle.st_scan.specs.declared.token.TokenKind.TheVariants.{Low, Up, Mix, Reserved, Number, Text, Dot, Fun, Sign}
 use Rattle.st_scan.proofs.Spelled.{name_parts, as_word}
+use Rattle.st_scan.proofs.TextBytes.{around_ascii}
 use Rattle.st_scan.proofs.Texts.{Escaping, escaping, quote, backslash, feed, tab, plain}
 use Rattle.st_read_back.specs.Written.{Piece, space, token, bytes_of, IsAllowed, AreApart}
 use Rattle.st_read_back.proofs.Longest.{number_parts}
@@ -54,18 +54,6 @@ sign_ascii _ = refl
 
 behind_ascii : (b : ℕ) (bs : List ℕ) → b < 128 → IsUtf8 bs → IsUtf8 (b ∷ bs)
 behind_ascii b bs low u = IsUtf8-append (b ∷ []) bs (IsUtf8-from_ascii (b ∷ []) (IsAscii-cons b [] low IsAscii-nil)) u
-
--- UTF-8 stands before and behind an ASCII byte
-around_ascii : (front : List ℕ) (b : ℕ) (rest : List ℕ) → b < 128 → IsUtf8 (front ++ b ∷ rest) → IsUtf8 front × IsUtf8 rest
-around_ascii front b rest small u =
-    let long : length (front ++ b ∷ rest) ≡ length front + suc (length rest) = length-append front (b ∷ rest) in
-    let at : get_or (front ++ b ∷ rest) (length front) 0 ≡ b = get_or_at front b rest 0 (length front) refl in
-    let low : get_or (front ++ b ∷ rest) (length front) 0 < 128 = omega (arith, at, small) in
-    let behind : front ++ b ∷ rest ≡ (front ++ b ∷ []) ++ rest = sym (append_assoc front (b ∷ []) rest) in
-    let one : length (front ++ b ∷ []) ≡ length front + 1 = length-append front (b ∷ []) in (
-      subst IsUtf8 (take_at front (b ∷ rest) (length front) refl) (IsUtf8-take (front ++ b ∷ rest) (length front) u (IsCharBoundary-before_ascii (front ++ b ∷ rest) (length front) (omega (arith, long)) low)),
-      subst IsUtf8 (ap (drop (length front + 1)) behind ∙ drop_at (front ++ b ∷ []) rest (length front + 1) one) (IsUtf8-drop (front ++ b ∷ rest) (length front + 1) u (IsCharBoundary-after_ascii (front ++ b ∷ rest) (length front) u (omega (arith, long)) low)),
-    )
 
 -- a byte's escape in its place
 escape_utf8 : (front : List ℕ) (b letter : ℕ) (rest : List ℕ) → b < 128 → letter < 128 → escaped b ≡ 92 ∷ letter ∷ [] → IsUtf8 (front ++ b ∷ rest) → IsUtf8 ((front ++ escaped b) ++ rest)

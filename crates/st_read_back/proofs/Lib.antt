@@ -28,3 +28,5 @@ pub mod Changes
 pub mod AtomTrees
 pub mod Printing
 pub mod Law
+pub mod CountLaw
+pub mod DefLaw

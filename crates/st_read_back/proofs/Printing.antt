@@ -136,7 +136,7 @@ next_label names pre m x l s h r =
     let both : AreReal names (sign m x ∷ l ∷ []) = subst (AreReal names) s r in
     subst (λ n. Label names n) (sym (ap label s)) (label_real names l both.1.0 h)
 
-pub two_long : (us : List Exp) (d e : Exp) → 2 ≤ length ((us ++ d ∷ []) ++ e ∷ [])
+two_long : (us : List Exp) (d e : Exp) → 2 ≤ length ((us ++ d ∷ []) ++ e ∷ [])
 two_long us d e = grind (arith, common_steps)
 
 bound_takes : (k : Leaf) → takes count_sort k ≡ true → takes bound k ≡ true

@@ -16,7 +16,7 @@ use Rattle.st_grammar.specs.Lexemes.{Lexeme, leaf, dot, sign, opening, closing, 
 use Rattle.st_grammar.specs.Trees.{Tree, operand, post, times, bracket, led, left, ahead, items, Trees, none, more, Heading, plain, length as bar_length, arguments, index, segment, update, below, Path, head, field, part, text, texts, heading_text, path_text, closes}
 use Rattle.st_grammar.specs.Grammar.{Fits, HeadingFits, PathFits, FollowsAll, follows, text_follows, is_function, level}
 use Rattle.st_grammar.specs.Definitions.{token_in}
-use Rattle.st_parse_exp.proofs.Drafted.{token_is}
+use Rattle.st_grammar.proofs.LexemeTokens.{lexeme_token}
 use Rattle.st_read_back.specs.Written.{Piece, space, token, shape, shapes_behind}
 use Rattle.st_read_back.proofs.Parts.{starts_bar, is_bar}
 
@@ -129,7 +129,7 @@ text_operand names b u [] (l ∷ w) e h f n = absurd (cc)
 text_operand names b u (x ∷ xs) [] e h f n = absurd (cc)
 text_operand names b u (x ∷ xs) (l ∷ w) e h f n =
     let first : lexeme names x ≡ l = cc in
-    operand_follows b u l h (ap (λ k. (token_in k).touching) (sym first) ∙ ap (λ y. y.touching) (token_is names x) ∙ f) n
+    operand_follows b u l h (ap (λ k. (token_in k).touching) (sym first) ∙ ap (λ y. y.touching) (lexeme_token names x) ∙ f) n
 
 pub all_follow : (σ : Sort) (ts : Trees) (w : List Lexeme) → ((u : Tree) → text_follows σ u w ≡ true) → FollowsAll σ ts w
 all_follow σ none w h = tt

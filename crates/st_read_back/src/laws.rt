@@ -1,14 +1,15 @@
 //! Laws of what is written.
 
-ghost use Rattle.std.specs.Prelude.{◌≡◌, ◌∷◌, [], List, ℕ, map};
+ghost use Rattle.std.specs.Prelude.{◌≡◌, ◌++◌, List, ℕ, map, flat_map, Contains};
 ghost use Rattle.st_scan.specs.declared.token.Token.{Token};
 ghost use Rattle.st_scan.specs.Tokens.{Tokens};
 ghost use Rattle.st_el.specs.declared.expression.Exp.{Exp};
-ghost use Rattle.st_el.specs.SourceText.{source_text};
-ghost use Rattle.st_el.specs.Plain.{plain_exp};
+ghost use Rattle.st_el.specs.declared.definition.Def.{Def};
+ghost use Rattle.st_meaning.specs.Definitions.{Parse};
 ghost use Rattle.st_parse_exp.specs.Parse.{ParseExps};
 ghost use Rattle.st_read_back.specs.Written.{Piece, AreApart, bytes_of, shape, shapes};
-ghost use Rattle.st_read_back.specs.ReadBack.{ReadBack};
+ghost use Rattle.st_read_back.specs.ReadBack.{AreOfFiles, ReadBack};
+ghost use Rattle.st_read_back.specs.DefExps.{exps_of};
 
 /// Tokens that are written apart are the tokens of their bytes.
 pub fn written_tokens()
@@ -17,14 +18,22 @@ pub fn written_tokens()
         × (map shape tokens ≡ shapes pieces) }
 {}
 
+/// The tokens of a file are of files, and so are those of several one behind another.
+pub fn tokens_of_files()
+    ensures one { (number : ℕ) (file : List ℕ) (tokens : List Token) → Tokens number file tokens
+        → AreOfFiles tokens }
+    ensures more { (first later : List Token) → AreOfFiles first → AreOfFiles later
+        → AreOfFiles (first ++ later) }
+{}
+
 /// What is printed of an expression that was read is read as this expression again, places,
 /// parentheses and `$( )` aside: its text is scanned, and whatever tokens it is scanned to mean it.
+/// It is one of a list that the tokens of files mean, or stands in definitions that they mean.
 pub fn printed_is_read_back()
-    ensures some { (names : List (List ℕ)) (number again : ℕ) (file : List ℕ)
-        (tokens : List Token) (e : Exp) → Tokens number file tokens
-        → ParseExps names tokens (e ∷ []) → ReadBack names again e }
-    ensures each { (names : List (List ℕ)) (number again : ℕ) (file : List ℕ)
-        (tokens written : List Token) (e : Exp) → Tokens number file tokens
-        → ParseExps names tokens (e ∷ []) → Tokens again (source_text e) written
-        → (f : Exp) × ParseExps names written (f ∷ []) × (plain_exp f ≡ plain_exp e) }
+    ensures in_list { (names : List (List ℕ)) (again : ℕ) (tokens : List Token) (es : List Exp)
+        (e : Exp) → AreOfFiles tokens → ParseExps names tokens es → Contains es e
+        → ReadBack names again e }
+    ensures in_definitions { (names : List (List ℕ)) (again : ℕ) (tokens : List Token)
+        (defs : List Def) (e : Exp) → AreOfFiles tokens → Parse names tokens defs
+        → Contains (flat_map exps_of defs) e → ReadBack names again e }
 {}

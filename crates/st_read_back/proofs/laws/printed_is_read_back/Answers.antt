@@ -1,8 +1,9 @@
-use Rattle.st_read_back.proofs.Law.{read_back, read_each}
+use Rattle.st_read_back.proofs.Law.{list_back}
+use Rattle.st_read_back.proofs.DefLaw.{defs_back}
 use Rattle.st_read_back.proofs.laws.printed_is_read_back.Goals as goal
 
-pub returns-clause-some : goal.returns-clause-some
-returns-clause-some c names number again file tokens e scanned parsed = read_back names number again file tokens e scanned parsed
+pub returns-clause-in_list : goal.returns-clause-in_list
+returns-clause-in_list c names again tokens es e files parsed among = list_back names again tokens es e files parsed among
 
-pub returns-clause-each : goal.returns-clause-each
-returns-clause-each c names number again file tokens written e scanned parsed found = read_each names number again file tokens written e scanned parsed found
+pub returns-clause-in_definitions : goal.returns-clause-in_definitions
+returns-clause-in_definitions c names again tokens defs e files parsed among = defs_back names again tokens defs e files parsed among
