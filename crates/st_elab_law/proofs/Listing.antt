@@ -32,7 +32,7 @@ use Rattle.st_elaboration.specs.declared.decls.Scope.{Scope}
 use Rattle.st_elaboration.specs.declared.within.Within.{Within}
 use Rattle.st_elaboration.specs.declared.operator.Operator.TheVariants as operator
 use Rattle.st_elaboration.specs.Operators.{operator_of}
-use Rattle.st_elaboration.specs.Forms.{place, inferable, is_spliced, goes_over_list}
+use Rattle.st_elaboration.specs.Forms.{place, is_spliced, is_told_by_type, goes_over_list}
 use Rattle.st_elaboration.specs.Questions.{item, Made, Step, Asks}
 use Rattle.st_elaboration.specs.Steps.{made, give, asked, is_collection, list_of_one, lifted_to, lifted_at, fitted}
 use Rattle.st_elaboration.specs.Iterations.{iterated}
@@ -199,7 +199,7 @@ module _ (defs : List IlDef) (D : Decls) where
   pub item_keeps : (w : Within) (t x : Ty) (e : Exp) → Keeps D (Claim defs D) (λ r. IsSource (erased defs r.exp) e) (table.item_row w t x e)
   item_keeps w t x e =
       keeps_if D (Claim defs D) (λ r. IsSource (erased defs r.exp) e) (is_spliced e) _ _ (λ _. λ m h. h.same)
-      (λ _. keeps_if D (Claim defs D) (λ r. IsSource (erased defs r.exp) e) (inferable e) _ _ (λ _. λ m h. found_item_keeps (place e) t x m e h.same) (λ _. λ m h. h.same))
+      (λ _. keeps_if D (Claim defs D) (λ r. IsSource (erased defs r.exp) e) (is_told_by_type e) _ _ (λ _. λ m h. found_item_keeps (place e) t x m e h.same) (λ _. λ m h. h.same))
 
   -- ---- holes
 

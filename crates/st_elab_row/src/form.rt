@@ -3,7 +3,7 @@
 ghost use Rattle.std.specs.Prelude.{◌≡◌, map};
 ghost use Rattle.st_el.specs.declared.expression.Count.{out-Count};
 ghost use Rattle.st_elaboration.specs.Collections.{is_run};
-ghost use Rattle.st_elaboration.specs.Forms.{all_true, inferable, is_spliced, goes_over_list};
+ghost use Rattle.st_elaboration.specs.Forms.{all_true, inferable, is_spliced, is_tuple, is_told_by_type, goes_over_list};
 
 use st_el::{Count, Exp, Node};
 use st_elaboration::{Operator, operator_of};
@@ -67,6 +67,23 @@ pub fn is_spliced(exp: &Exp) -> bool
         Node::Iter(_, count) => goes_over_list(count),
         _ => false,
     }
+}
+
+fn is_tuple(exp: &Exp) -> bool
+    ensures { result ≡ is_tuple exp.now }
+{
+    match &exp.node {
+        Node::Tuple(_) => true,
+        Node::Paren(inner) => is_tuple(inner.get()),
+        _ => false,
+    }
+}
+
+/// Whether the type of an item says whether all its elements are meant.
+pub fn is_told_by_type(exp: &Exp) -> bool
+    ensures { result ≡ is_told_by_type exp.now }
+{
+    inferable(exp) && !is_tuple(exp)
 }
 
 /// Two elements or more, not in parentheses.

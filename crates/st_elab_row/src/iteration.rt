@@ -53,8 +53,9 @@ pub fn occurs(exp: &IlExp, name: &Name) -> bool
     }
 }
 
+/// Whether the name occurs as a variable in one of these.
 #[cycle(occurs)]
-fn any_has(parts: &[IlExp], name: &Name) -> bool
+pub fn any_has(parts: &[IlExp], name: &Name) -> bool
     ensures { result ≡ in_any (map (occurs name.now) parts.now) }
 {
     for part in parts {
@@ -109,8 +110,9 @@ fn step_has(step: &PathSeg, name: &Name) -> bool
     }
 }
 
+/// Whether the name occurs as a variable in the count.
 #[cycle(occurs)]
-fn count_has(count: &Iteration, name: &Name) -> bool
+pub fn count_has(count: &Iteration, name: &Name) -> bool
     ensures { result ≡ (occurs_in_count name.now count.now).in_count }
 {
     match count {
@@ -119,7 +121,8 @@ fn count_has(count: &Iteration, name: &Name) -> bool
     }
 }
 
-fn is_index(count: &Iteration, name: &Name) -> bool
+/// Whether the name is the index of the iteration.
+pub fn is_index(count: &Iteration, name: &Name) -> bool
     ensures { result ≡ (occurs_in_count name.now count.now).is_index }
 {
     match count {

@@ -145,7 +145,7 @@ pub const RECORDS_AND_CASES: [(&str, &str, &str); 22] = [
 ];
 
 /// Items that are one element, and items that bring all their elements.
-pub const ITEMS_OF_SEQUENCES: [(&str, &str, &str); 7] = [
+pub const ITEMS_OF_SEQUENCES: [(&str, &str, &str); 10] = [
     ("1 eps", "(l nat)", "(list nat (one 1) (all (list nat)))"),
     (
         "(1 ++ eps) 2",
@@ -170,6 +170,19 @@ pub const ITEMS_OF_SEQUENCES: [(&str, &str, &str); 7] = [
     ),
     ("n t", "(l nat)", "Y1 3"),
     ("o 1", "(l nat)", "Y1 1"),
+    (
+        "(1, n) (2, n)",
+        "(l (t int nat))",
+        "(list (t int nat) (one (tuple (up int 1) (v \"n\"))) (one (tuple (up int 2) (v \
+            \"n\"))))",
+    ),
+    (
+        "((1, n)) (2, n)",
+        "(l (t int nat))",
+        "(list (t int nat) (one (tuple (up int 1) (v \"n\"))) (one (tuple (up int 2) (v \
+            \"n\"))))",
+    ),
+    ("(1, n) (t, n)", "(l (t int nat))", "Y1 9"),
 ];
 
 /// Operands of each kind, and the place of a wrong one.

@@ -19,7 +19,7 @@ use Rattle.st_types.specs.Joins.{Joins}
 use Rattle.st_elaboration.specs.declared.decls.Decls.{Decls}
 use Rattle.st_elaboration.specs.declared.decls.Scope.{Scope}
 use Rattle.st_elaboration.specs.declared.within.Within.{Within}
-use Rattle.st_elaboration.specs.Forms.{place, inferable, is_spliced}
+use Rattle.st_elaboration.specs.Forms.{place, inferable, is_spliced, is_told_by_type}
 use Rattle.st_elaboration.specs.Choice.{IsCaseOf}
 use Rattle.st_elaboration.specs.Questions.{check, item, Answer, Fails, Chosen, can_join, Step, Asks, Tests, asks}
 use Rattle.st_elaboration.specs.Steps.{breach, give, pass, asked, found, each_asked, exps, is_collection, joined_at, as_joined}
@@ -113,18 +113,18 @@ module _ (D : Decls) (S : Scope) where
 
   pub item_all : (w : Within) (t x : Ty) (e : Exp) (a : Answer) → is_spliced e ≡ true → Leads D S (Asks (asked w e t) splice) a → Leads D S (item_row w t x e) a
   item_all w t x e a is h =
-      subst (λ b. Leads D S (if b then Asks (asked w e t) splice else if inferable e then Asks (found w e) (found_item (place e) t x) else pass (asked w e x)) a) (sym is) h
+      subst (λ b. Leads D S (if b then Asks (asked w e t) splice else if is_told_by_type e then Asks (found w e) (found_item (place e) t x) else pass (asked w e x)) a) (sym is) h
 
-  pub item_found : (w : Within) (t x : Ty) (e : Exp) (a : Answer) → is_spliced e ≡ false → inferable e ≡ true
+  pub item_found : (w : Within) (t x : Ty) (e : Exp) (a : Answer) → is_spliced e ≡ false → is_told_by_type e ≡ true
       → Leads D S (Asks (found w e) (found_item (place e) t x)) a → Leads D S (item_row w t x e) a
   item_found w t x e a is i h =
-      subst (λ b. Leads D S (if b then Asks (asked w e t) splice else if inferable e then Asks (found w e) (found_item (place e) t x) else pass (asked w e x)) a) (sym is)
+      subst (λ b. Leads D S (if b then Asks (asked w e t) splice else if is_told_by_type e then Asks (found w e) (found_item (place e) t x) else pass (asked w e x)) a) (sym is)
       (subst (λ b. Leads D S (if b then Asks (found w e) (found_item (place e) t x) else pass (asked w e x)) a) (sym i) h)
 
-  pub item_one : (w : Within) (t x : Ty) (e : Exp) (a : Answer) → is_spliced e ≡ false → inferable e ≡ false
+  pub item_one : (w : Within) (t x : Ty) (e : Exp) (a : Answer) → is_spliced e ≡ false → is_told_by_type e ≡ false
       → Leads D S (pass (asked w e x)) a → Leads D S (item_row w t x e) a
   item_one w t x e a is i h =
-      subst (λ b. Leads D S (if b then Asks (asked w e t) splice else if inferable e then Asks (found w e) (found_item (place e) t x) else pass (asked w e x)) a) (sym is)
+      subst (λ b. Leads D S (if b then Asks (asked w e t) splice else if is_told_by_type e then Asks (found w e) (found_item (place e) t x) else pass (asked w e x)) a) (sym is)
       (subst (λ b. Leads D S (if b then Asks (found w e) (found_item (place e) t x) else pass (asked w e x)) a) (sym i) h)
 
   -- ---- variants

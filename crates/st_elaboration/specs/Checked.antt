@@ -24,13 +24,16 @@ use Rattle.st_elaboration.specs.Records.{record_row, notation_row}
 
 -- a sequence
 abbrev pub sequence_at : Within → Span → Bool → Exp → List Exp → Ty → Ty → Ty-F Ty → Step
-sequence_at w at p e es t u (Ty-F.List x) = if is_run es p then sequence w at es t x else other_row w at p e t (Ty-F.List x)
+sequence_at w at p e es t u (Ty-F.List x) =
+    if is_run es p then sequence w at es t x else other_row w at p e t (Ty-F.List x)
 sequence_at w at p e es t u y = notation_row w at p e t u
 
-abbrev pub form_row : Decls → Scope → Within → Span → Bool → Exp → Ty → Ty → Node-F Count Node Seg Exp → Step
+abbrev pub form_row : Decls → Scope → Within → Span → Bool → Exp → Ty → Ty
+    → Node-F Count Node Seg Exp → Step
 form_row D S w at p e t u Node-F.Eps = eps_row at t (out-Ty u)
 form_row D S w at p e t u (Node-F.Binary l sign r) =
-    if is_concatenation (operator_of sign) then concatenation_row w at l r t else other_row w at p e t (out-Ty u)
+    if is_concatenation (operator_of sign) then concatenation_row w at l r t
+    else other_row w at p e t (out-Ty u)
 form_row D S w at p e t u (Node-F.Iter b c) = iteration_row S w at p e b c t (out-Ty u)
 form_row D S w at p e t u (Node-F.Seq es) = sequence_at w at p e es t u (out-Ty u)
 form_row D S w at p e t u (Node-F.Fields written) = record_row D w at p e written t u
@@ -49,12 +52,14 @@ plain_row D S w at p e t =
 
 abbrev pub tuple_at : Decls → Scope → Within → Span → Bool → Exp → List Exp → Ty → Ty-F Ty → Step
 tuple_at D S w at p e es t (Ty-F.Tuple ts) =
-    if nat_eq (length es) (length ts) then asks (each_asked w es ts) (λ ms. give (il.Tuple (exps ms)) t)
+    if nat_eq (length es) (length ts)
+    then asks (each_asked w es ts) (λ ms. give (il.Tuple (exps ms)) t)
     else plain_row D S w at p e t
 tuple_at D S w at p e es t _ = plain_row D S w at p e t
 
 -- A tuple at a tuple type of its length goes by parts. Parentheses change nothing but the place.
-abbrev pub checked_row : Decls → Scope → Within → Span → Bool → Exp → Ty → Node-F Count Node Seg Exp → Step
+abbrev pub checked_row : Decls → Scope → Within → Span → Bool → Exp → Ty
+    → Node-F Count Node Seg Exp → Step
 checked_row D S w at p e t (Node-F.Paren inner) = pass (check w at true inner t)
 checked_row D S w at p e t (Node-F.Tuple es) = Opens t (λ u. tuple_at D S w at p e es t (out-Ty u))
 checked_row D S w at p e t _ = plain_row D S w at p e t

@@ -47,7 +47,8 @@ NoneHasKey k = AllByRecursion (λ (c : CaseDef). HasKey c.tag k → ⊥)
 -- The case is the first of these with this key.
 pub data IsFirstWith (k : PlainKey) : List CaseDef → CaseDef → Type 0 where
   here : {c : CaseDef} {cs : List CaseDef} → HasKey c.tag k → IsFirstWith k (c ∷ cs) c
-  later : {d c : CaseDef} {cs : List CaseDef} → (HasKey d.tag k → ⊥) → IsFirstWith k cs c → IsFirstWith k (d ∷ cs) c
+  later : {d c : CaseDef} {cs : List CaseDef} → (HasKey d.tag k → ⊥) → IsFirstWith k cs c
+      → IsFirstWith k (d ∷ cs) c
 
 -- A case is chosen by a key; where no case has it, the case without a key is chosen.
 pub data IsChosenBy (k : PlainKey) (cases : List CaseDef) (c : CaseDef) : Type 0 where
@@ -55,7 +56,8 @@ pub data IsChosenBy (k : PlainKey) (cases : List CaseDef) (c : CaseDef) : Type 0
   keyless : NoneHasKey k cases → IsFirstWith free cases c → IsChosenBy k cases c
 
 -- The expression fits the template of the case, with this in its holes.
-pub record FillsCase (defs : List SyntaxDef) (c : CaseDef) (e : Exp) (fillings : List Filling) : Type 0 where
+pub record FillsCase (defs : List SyntaxDef) (c : CaseDef) (e : Exp)
+    (fillings : List Filling) : Type 0 where
   pub template : Template
   pub shapes : List Shape
   pub tagged : HasTag template c.tag

@@ -19,7 +19,7 @@ use Rattle.st_il.specs.declared.expression.ListItem.TheVariants as part
 use Rattle.st_notation.specs.Fits.{Filling, one, run, missing}
 use Rattle.st_elaboration.specs.declared.decls.Scope.{Scope}
 use Rattle.st_elaboration.specs.declared.within.Within.{Within}
-use Rattle.st_elaboration.specs.Forms.{place, inferable, is_spliced, goes_over_list}
+use Rattle.st_elaboration.specs.Forms.{place, inferable, is_spliced, is_told_by_type, goes_over_list}
 use Rattle.st_elaboration.specs.Iterations.{inside, iterated}
 use Rattle.st_elaboration.specs.Questions.{check, item, Made, Gives, is_below, Step, Ends, Asks, Tests, Opens, asks}
 use Rattle.st_elaboration.specs.Steps.{breach, made, give, pass, asked, found, is_collection, raised, list_of_one, as_joined}
@@ -47,7 +47,8 @@ eps_row at t _ = breach at Y1
 -- `++`
 abbrev pub concatenation_row : Within → Span → Exp → Exp → Ty → Step
 concatenation_row w at l r t =
-    as_joined at t (λ join. Asks (asked w l t) (λ a. Asks (asked w r t) (λ b. give (join a.exp b.exp) t)))
+    as_joined at t
+    (λ join. Asks (asked w l t) (λ a. Asks (asked w r t) (λ b. give (join a.exp b.exp) t)))
 
 -- how often an iteration goes; the count stands outside of it
 abbrev pub counted_at : Within → Count-F Count Node Seg Exp → (Iteration → Step) → Step
@@ -59,7 +60,8 @@ counted_at w (Count-F.Below i n) next = Asks (asked w n ty.Nat) (λ m. next (tim
 
 -- an iteration with this body, of this type
 abbrev pub iteration : Scope → Within → Count → IlExp → Ty → Step
-iteration S w c body t = counted_at w (out-Count c) (λ k. give (il.Iter k (iterated S w c body) body) t)
+iteration S w c body t =
+    counted_at w (out-Count c) (λ k. give (il.Iter k (iterated S w c body) body) t)
 
 abbrev pub body_row : Scope → Within → Exp → Count → Ty → Ty → Step
 body_row S w b c x t = Asks (asked (inside w c) b x) (λ m. iteration S w c m.exp t)
@@ -67,7 +69,8 @@ body_row S w b c x t = Asks (asked (inside w c) b x) (λ m. iteration S w c m.ex
 -- an iteration: by `* + ^` at a list, by `?` at an option
 abbrev pub iteration_row : Scope → Within → Span → Bool → Exp → Exp → Count → Ty → Ty-F Ty → Step
 iteration_row S w at p e b c t (Ty-F.List x) =
-    if goes_over_list (out-Count c) then body_row S w b c x t else other_row w at p e t (Ty-F.List x)
+    if goes_over_list (out-Count c) then body_row S w b c x t
+    else other_row w at p e t (Ty-F.List x)
 iteration_row S w at p e b c t (Ty-F.Opt x) =
     if goes_over_list (out-Count c) then other_row w at p e t (Ty-F.Opt x) else body_row S w b c x t
 iteration_row S w at p e b c t y = other_row w at p e t y
@@ -87,17 +90,18 @@ sequence w at es t x =
 abbrev pub splice : Made → Step
 splice m = Ends (Gives (record { exp = m.exp; ty = m.ty; spliced = true }))
 
--- An inferable item: one element where its type is below the element type, and spliced where it is below the list type.
+-- An inferable item: one element where its type is below the element type,
+-- and spliced where it is below the list type.
 abbrev pub found_item : Span → Ty → Ty → Made → Step
 found_item at t x m =
     Tests (is_below m.ty x) (raised m x (λ y. give y x))
     (Tests (is_below m.ty t) (raised m t (λ y. splice (made y t))) (breach at Y1))
 
--- an item: all elements of what is spliced, or one element
+-- An item: all elements of what is spliced, or one element, which is asked at the element type.
 abbrev pub item_row : Within → Ty → Ty → Exp → Step
 item_row w t x e =
     if is_spliced e then Asks (asked w e t) splice
-    else if inferable e then Asks (found w e) (found_item (place e) t x)
+    else if is_told_by_type e then Asks (found w e) (found_item (place e) t x)
     else pass (asked w e x)
 
 -- two elements or more, not in parentheses

@@ -53,7 +53,8 @@ mutual
     fills : {t : Ty} {e : Exp} {next : Chosen → Step} {unfit : Step} {a : Answer} (c : Chosen)
         → IsCaseOf D.types t e c → Leads D S (next c) a → Leads D S (Fills t e next unfit) a
     fits_none : {t : Ty} {e : Exp} {next : Chosen → Step} {unfit : Step} {a : Answer}
-        → ((c : Chosen) → IsCaseOf D.types t e c → ⊥) → Leads D S unfit a → Leads D S (Fills t e next unfit) a
+        → ((c : Chosen) → IsCaseOf D.types t e c → ⊥) → Leads D S unfit a
+        → Leads D S (Fills t e next unfit) a
 
 -- ---- readings
 

@@ -1,5 +1,6 @@
--- Expressions by their forms: where they stand, which have a type of their own, and which bring all their elements.
-use Rattle.std.specs.Prelude.{List, Bool, true, false, ◌&&◌}
+-- Expressions by their forms:
+-- where they stand, which have a type of their own, and which bring all their elements.
+use Rattle.std.specs.Prelude.{List, Bool, true, false, not, ◌&&◌}
 use Rattle.std.specs.List.{list_all}
 use Rattle.st_num.specs.declared.span.Span.{Span}
 use Rattle.st_el.specs.declared.expression.Exp.{Exp, Exp-F, out-Exp, fold-Exp}
@@ -22,8 +23,9 @@ inferable_by _ left right = true
 abbrev pub all_true : List Bool → Bool
 all_true parts = list_all (λ (part : Bool). part) parts
 
--- Variables, numbers, texts, truth values, calls, arithmetic, logic, comparisons, memberships and lengths are inferable;
--- and parts, changes, tuples, iterations and `++` of inferable expressions. Parentheses change nothing.
+-- Variables, numbers, texts, truth values, calls, arithmetic, logic, comparisons, memberships
+-- and lengths are inferable; and parts, changes, tuples, iterations and `++` of inferable
+-- expressions. Parentheses change nothing.
 abbrev pub inferable_at : Node-F Bool Bool Bool Bool → Bool
 inferable_at (Node-F.Name name) = true
 inferable_at (Node-F.Atom name) = false
@@ -55,7 +57,8 @@ inferable_exp_at e = e.node
 
 -- the expression has a type of its own
 abbrev pub inferable : Exp → Bool
-inferable = fold-Exp Bool Bool Bool Bool (λ count. true) inferable_at (λ step. true) inferable_exp_at
+inferable =
+    fold-Exp Bool Bool Bool Bool (λ count. true) inferable_at (λ step. true) inferable_exp_at
 
 -- ---- items that are spliced
 
@@ -75,9 +78,23 @@ spliced_at (Node-F.Paren e) = e
 spliced_at (Node-F.Iter e over_list) = over_list
 spliced_at _ = false
 
-abbrev pub spliced_exp_at : Exp-F Bool Bool Bool Bool → Bool
-spliced_exp_at e = e.node
+abbrev pub form_exp_at : Exp-F Bool Bool Bool Bool → Bool
+form_exp_at e = e.node
 
--- The form says that all elements are meant: an iteration by `*`, `+` or `^`, `eps` or `++`. Parentheses change nothing.
+-- The form says that all elements are meant: an iteration by `*`, `+` or `^`, `eps` or `++`.
+-- Parentheses change nothing.
 abbrev pub is_spliced : Exp → Bool
-is_spliced = fold-Exp Bool Bool Bool Bool goes_over_list spliced_at (λ step. false) spliced_exp_at
+is_spliced = fold-Exp Bool Bool Bool Bool goes_over_list spliced_at (λ step. false) form_exp_at
+
+abbrev pub tuple_at : Node-F Bool Bool Bool Bool → Bool
+tuple_at (Node-F.Tuple parts) = true
+tuple_at (Node-F.Paren e) = e
+tuple_at _ = false
+
+-- The expression is a tuple. Parentheses change nothing.
+abbrev pub is_tuple : Exp → Bool
+is_tuple = fold-Exp Bool Bool Bool Bool (λ count. false) tuple_at (λ step. false) form_exp_at
+
+-- The type of an item says whether all its elements are meant; that of a tuple is no list.
+abbrev pub is_told_by_type : Exp → Bool
+is_told_by_type e = inferable e && not (is_tuple e)

@@ -32,7 +32,8 @@ use Rattle.st_elaboration.specs.Paths.{length_row, position_row, slice_row, fiel
 abbrev pub entry_of : Variable → List ℕ × Ty
 entry_of v = (v.0, v.1)
 
--- An index is `nat` in its body. Any other variable has the type that the scope gives it, or else the one that its name leads to.
+-- An index is `nat` in its body.
+-- Any other variable has the type that the scope gives it, or else the one that its name leads to.
 abbrev pub variable_type : Decls → Scope → Within → List ℕ → Option Ty
 variable_type D S w name =
     if is_among name w.indices then Some ty.Nat
@@ -59,7 +60,8 @@ call_row w at es (Some f) =
 -- ---- tuples and iterations
 
 abbrev pub inferred_tuple : Within → List Exp → Step
-inferred_tuple w es = asks (map (found w) es) (λ ms. give (il.Tuple (exps ms)) (ty.Tuple (map ty_of ms)))
+inferred_tuple w es =
+    asks (map (found w) es) (λ ms. give (il.Tuple (exps ms)) (ty.Tuple (map ty_of ms)))
 
 abbrev pub inferred_iteration : Scope → Within → Exp → Count → Step
 inferred_iteration S w b c =

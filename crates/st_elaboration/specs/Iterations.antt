@@ -32,7 +32,9 @@ index_at _ = []
 
 -- what stands round the body of an iteration that has this round it
 abbrev pub inside : Within → Count → Within
-inside w c = record { kinds = w.kinds ++ kind_at (out-Count c) ∷ []; indices = w.indices ++ index_at (out-Count c) }
+inside w c =
+    record
+    { kinds = w.kinds ++ kind_at (out-Count c) ∷ []; indices = w.indices ++ index_at (out-Count c) }
 
 abbrev pub of_kind : Kind → Ty → Ty
 of_kind kind.List t = ty.List t
@@ -100,7 +102,8 @@ occurs_count_at name Iteration-F.Star = record { is_index = false; in_count = fa
 occurs_count_at name Iteration-F.Plus = record { is_index = false; in_count = false }
 occurs_count_at name Iteration-F.Quest = record { is_index = false; in_count = false }
 occurs_count_at name (Iteration-F.Times x) = record { is_index = false; in_count = x }
-occurs_count_at name (Iteration-F.Below index x) = record { is_index = same_name name index; in_count = x }
+occurs_count_at name (Iteration-F.Below index x) =
+    record { is_index = same_name name index; in_count = x }
 
 abbrev pub occurs_item_at : ListItem-F Bool Counted Bool Bool → Bool
 occurs_item_at (ListItem-F.One x) = x
@@ -113,28 +116,39 @@ occurs_step_at (PathSeg-F.PathSeg::Slice x y) = x || y
 
 -- The name occurs as a variable. An index is none in the body that it belongs to.
 abbrev pub occurs : List ℕ → IlExp → Bool
-occurs name = fold-IlExp Bool Counted Bool Bool (occurs_at name) (occurs_count_at name) occurs_item_at occurs_step_at
+occurs name =
+    fold-IlExp Bool Counted Bool Bool
+    (occurs_at name) (occurs_count_at name) occurs_item_at occurs_step_at
 
 abbrev pub occurs_in_count : List ℕ → Iteration → Counted
-occurs_in_count name = fold-Iteration Bool Counted Bool Bool (occurs_at name) (occurs_count_at name) occurs_item_at occurs_step_at
+occurs_in_count name =
+    fold-Iteration Bool Counted Bool Bool
+    (occurs_at name) (occurs_count_at name) occurs_item_at occurs_step_at
 
 abbrev pub occurs_in_item : List ℕ → ListItem → Bool
-occurs_in_item name = fold-ListItem Bool Counted Bool Bool (occurs_at name) (occurs_count_at name) occurs_item_at occurs_step_at
+occurs_in_item name =
+    fold-ListItem Bool Counted Bool Bool
+    (occurs_at name) (occurs_count_at name) occurs_item_at occurs_step_at
 
 abbrev pub occurs_in_step : List ℕ → PathSeg → Bool
-occurs_in_step name = fold-PathSeg Bool Counted Bool Bool (occurs_at name) (occurs_count_at name) occurs_item_at occurs_step_at
+occurs_in_step name =
+    fold-PathSeg Bool Counted Bool Bool
+    (occurs_at name) (occurs_count_at name) occurs_item_at occurs_step_at
 
 -- ---- the variables that an iteration names
 
 abbrev pub Variable : Type 0
 Variable = List ℕ × Ty × List Kind
 
--- With so many iterations round it, an iteration goes over the variables of its body whose dimension is longer, but for indices.
+-- With so many iterations round it,
+-- an iteration goes over the variables of its body whose dimension is longer, but for indices.
 abbrev pub is_iterated : ℕ → List (List ℕ) → IlExp → Variable → Bool
-is_iterated depth indices body v = nat_lt depth (length v.2) && not (is_among v.0 indices) && occurs v.0 body
+is_iterated depth indices body v =
+    nat_lt depth (length v.2) && not (is_among v.0 indices) && occurs v.0 body
 
 abbrev pub iterated_in : List Variable → ℕ → List (List ℕ) → IlExp → List (List ℕ)
-iterated_in variables depth indices body = map (λ (v : Variable). v.0) (filter (is_iterated depth indices body) variables)
+iterated_in variables depth indices body =
+    map (λ (v : Variable). v.0) (filter (is_iterated depth indices body) variables)
 
 -- the variables that an iteration in this names, in the order of the scope
 abbrev pub iterated : Scope → Within → Count → IlExp → List (List ℕ)

@@ -8,7 +8,8 @@ use Rattle.st_il.specs.declared.expression.IlExp.{IlExp}
 use Rattle.st_notation.specs.Fits.{Filling}
 use Rattle.st_elaboration.specs.declared.within.Within.{Within}
 
--- What is asked of a part, inside of this. The place is that of a breach at the part itself: of its parentheses, where it has any.
+-- What is asked of a part, inside of this.
+-- The place is that of a breach at the part itself: of its parentheses, where it has any.
 pub data Question : Type 0 where
   -- what the expression is at a type; whether it stands in parentheses
   check : (w : Within) (at : Span) (in_parentheses : Bool) (e : Exp) (t : Ty) → Question
@@ -19,7 +20,8 @@ pub data Question : Type 0 where
   -- what fills a hole of this type
   hole : (w : Within) (at : Span) (filling : Filling) (t : Ty) → Question
 
--- What a part is elaborated to: an expression of this type; for an item, whether all its elements are items.
+-- What a part is elaborated to: an expression of this type;
+-- for an item, whether all its elements are items.
 pub record Made : Type 0 where
   pub exp : IlExp
   pub ty : Ty
@@ -45,7 +47,8 @@ pub data Condition : Type 0 where
   -- it is a record type that can be joined
   can_join : (t : Ty) → Condition
 
--- a case of a variant that an expression is, by the name of the type as it was asked, and what fills its holes
+-- a case of a variant that an expression is, by the name of the type as it was asked,
+-- and what fills its holes
 pub record Chosen : Type 0 where
   pub name : List ℕ
   pub tag : List ℕ

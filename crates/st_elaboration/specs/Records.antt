@@ -27,16 +27,19 @@ is_omissible shape.Plain = false
 is_omissible _ = true
 
 abbrev pub omitted : Shape → Option (List Filling) → Option (List Filling)
-omitted s rest = if is_omissible s then option_map (λ (fs : List Filling). missing ∷ fs) rest else None
+omitted s rest =
+    if is_omissible s then option_map (λ (fs : List Filling). missing ∷ fs) rest else None
 
--- What fills the declared fields of these shapes, in their order; or none where a field is unknown, missing, twice or out of order.
+-- What fills the declared fields of these shapes, in their order;
+-- or none where a field is unknown, missing, twice or out of order.
 abbrev pub aligned : List (List ℕ) → List Shape → List (List ℕ × Exp) → Option (List Filling)
 aligned [] ss [] = Some []
 aligned [] ss (w ∷ written) = None
 aligned (name ∷ names) [] written = None
 aligned (name ∷ names) (s ∷ ss) [] = omitted s (aligned names ss [])
 aligned (name ∷ names) (s ∷ ss) (w ∷ written) =
-    if same_name name w.0 then option_map (λ (fs : List Filling). one w.1 ∷ fs) (aligned names ss written)
+    if same_name name w.0
+    then option_map (λ (fs : List Filling). one w.1 ∷ fs) (aligned names ss written)
     else omitted s (aligned names ss (w ∷ written))
 
 -- what follows from the shapes of these types
@@ -52,15 +55,20 @@ field_types fields = map (λ (f : List ℕ × Ty). f.1) fields
 
 abbrev pub filled_fields : Within → Span → List ℕ → List Ty → Ty → Option (List Filling) → Step
 filled_fields w at name ts t None = breach at Y4
-filled_fields w at name ts t (Some fs) = asks (holes w at fs ts) (λ ms. give (il.Fields name (exps ms)) t)
+filled_fields w at name ts t (Some fs) =
+    asks (holes w at fs ts) (λ ms. give (il.Fields name (exps ms)) t)
 
 -- the written fields, at the record type of this name
-abbrev pub fields_of_record : Within → Span → List ℕ → List (List ℕ × Exp) → Ty → List (List ℕ × Ty) → Step
+abbrev pub fields_of_record : Within → Span → List ℕ → List (List ℕ × Exp) → Ty
+    → List (List ℕ × Ty) → Step
 fields_of_record w at name written t fields =
-    shaped (field_types fields) (λ ss. filled_fields w at name (field_types fields) t (aligned (field_names fields) ss written))
+    shaped (field_types fields)
+    (λ ss. filled_fields w at name (field_types fields) t (aligned (field_names fields) ss written))
 
-abbrev pub record_by : Within → Span → Bool → Exp → List (List ℕ × Exp) → Ty → Ty → Ty-F Ty → Option (List (List ℕ × Ty)) → Step
-record_by w at p e written t u (Ty-F.Name name) (Some fields) = fields_of_record w at name written t fields
+abbrev pub record_by : Within → Span → Bool → Exp → List (List ℕ × Exp) → Ty → Ty → Ty-F Ty
+    → Option (List (List ℕ × Ty)) → Step
+record_by w at p e written t u (Ty-F.Name name) (Some fields) =
+    fields_of_record w at name written t fields
 record_by w at p e written t u _ _ = other_row w at p e t (out-Ty u)
 
 -- a record, at the type t that means u
@@ -71,9 +79,11 @@ record_row D w at p e written t u = record_by w at p e written t u (out-Ty t) (f
 
 abbrev pub case_row : Within → Span → Exp → Ty → Step
 case_row w at e t =
-    Fills t e (λ c. asks (holes w at c.fillings c.operands) (λ ms. give (il.Case c.name c.tag (exps ms)) t))
+    Fills t e
+    (λ c. asks (holes w at c.fillings c.operands) (λ ms. give (il.Case c.name c.tag (exps ms)) t))
     (breach at Y2)
 
 -- an atom, a sequence, a sign of notation or a bracket, at the type t that means u
 abbrev pub notation_row : Within → Span → Bool → Exp → Ty → Ty → Step
-notation_row w at p e t u = Tests (is_variant t) (case_row w at e t) (other_row w at p e t (out-Ty u))
+notation_row w at p e t u =
+    Tests (is_variant t) (case_row w at e t) (other_row w at p e t (out-Ty u))

@@ -129,7 +129,8 @@ lifted_at at m t (Ty-F.List element) = lifted_to at m t element (list_of_one ele
 lifted_at at m t (Ty-F.Opt element) = lifted_to at m t element il.Present
 lifted_at at m t _ = breach at Y1
 
--- What is found, at the type t: as it is, injected into a type above its own, or as one element of a list or an option.
+-- What is found, at the type t:
+-- as it is, injected into a type above its own, or as one element of a list or an option.
 abbrev pub fitted : Span → Ty → Made → Step
 fitted at t m =
     Tests (are_same m.ty t) (give m.exp t)

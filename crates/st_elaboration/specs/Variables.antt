@@ -23,9 +23,11 @@ unprimed (c ∷ cs) = before_end c (unprimed cs)
 -- what stands before each `_`, the longest first
 abbrev pub fronts : List ℕ → List (List ℕ)
 fronts [] = []
-fronts (c ∷ cs) = map (λ front. c ∷ front) (fronts cs) ++ (if nat_eq c (byte "_") then [] ∷ [] else [])
+fronts (c ∷ cs) =
+    map (λ front. c ∷ front) (fronts cs) ++ (if nat_eq c (byte "_") then [] ∷ [] else [])
 
--- The primes at the end are dropped, and then again and again the last part from `_` on with the primes before it.
+-- The primes at the end are dropped,
+-- and then again and again the last part from `_` on with the primes before it.
 abbrev pub remaining : List ℕ → List (List ℕ)
 remaining name = unprimed name ∷ map unprimed (fronts name)
 
@@ -46,7 +48,8 @@ syntax_type D name = option_map (λ body. ty.Name name) (body_of D.types name)
 
 -- the type declared by `var`, or else the syntax of this name, or else the type that is a word
 abbrev pub named_type : Decls → List ℕ → Option Ty
-named_type D name = option_or (lookup (same_name name) D.vars) (option_or (syntax_type D name) (written_type name))
+named_type D name =
+    option_or (lookup (same_name name) D.vars) (option_or (syntax_type D name) (written_type name))
 
 -- the type of the first name that has one
 abbrev pub first_type : Decls → List (List ℕ) → Option Ty
