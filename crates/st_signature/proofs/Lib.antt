@@ -1,0 +1,6 @@
+mod SignaturesLemmas
+mod Spacing
+mod ModesLemmas
+mod TypesErase
+mod NotationsErase
+mod ModesErase
