@@ -1,4 +1,4 @@
-mod Lists
+pub mod Lists
 mod Nodes
 mod Shortest
 mod Unique

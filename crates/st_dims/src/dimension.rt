@@ -1,13 +1,13 @@
 //! The dimensions of a rule or clause, and the first place that breaks a rule on them.
 
-ghost use Rattle.std.specs.Prelude.{◌≡◌, ◌∷◌, [], IfOk, IfErr};
+ghost use Rattle.std.specs.Prelude.{◌≡◌, ◌∷◌, ◌++◌, [], IfOk, IfErr};
 ghost use Rattle.std.specs.Option.{option_to_list};
 ghost use Rattle.st_dims.specs.Mentions.{mentions_in, indices_in};
 ghost use Rattle.st_dims.specs.Dimensions.{dimension_in, IsOnlyTable};
 ghost use Rattle.st_dims.specs.Breaches.{begins_with, is_misplaced, misplaced, is_longer, is_idle, idle, IsFirst, IsSound, IsFault};
 
 use crate::DimFault;
-use crate::expression::mention_exps;
+use crate::expression::{mention_exp, mention_exps};
 use crate::mention::{Iteration, Mention, Occurrence, Within, is_among};
 use crate::premise::mention_prems;
 use crate::table::{Shortest, chain_of, dimensions, rows};
@@ -22,6 +22,25 @@ fn mentions_in(alloc: Global, parts: &[Exp], premises: &[Prem]) -> Result<Vec<Me
     let outside = Within::new(alloc);
     let mut mentions = Vec::new(alloc);
     mention_exps(alloc, parts, &outside, &mut mentions)?;
+    mention_prems(alloc, premises, &outside, &mut mentions)?;
+    Ok(mentions)
+}
+
+/// What is mentioned in a rule or clause with these premises. Its last part is its conclusion or
+/// its result; the others are its arguments.
+pub fn mentions_of(
+    alloc: Global,
+    parts: &[Exp],
+    last: &Exp,
+    premises: &[Prem],
+) -> Result<Vec<Mention>, NoMemory>
+    ensures { IfOk result (λ mentions. mentions.items
+        ≡ mentions_in (parts.now ++ last.now ∷ []) premises.now) }
+{
+    let outside = Within::new(alloc);
+    let mut mentions = Vec::new(alloc);
+    mention_exps(alloc, parts, &outside, &mut mentions)?;
+    mention_exp(alloc, last, &outside, &mut mentions)?;
     mention_prems(alloc, premises, &outside, &mut mentions)?;
     Ok(mentions)
 }
@@ -138,7 +157,7 @@ fn first_idle(shortest: &Shortest, mentions: &[Mention]) -> Option<Span>
 }
 
 /// The dimension of each variable that is mentioned, or the first breach.
-fn dimensions_of(alloc: Global, mentions: &[Mention]) -> Result<Row<(Name, Dim)>, DimFault>
+pub fn dimensions_of(alloc: Global, mentions: &[Mention]) -> Result<Row<(Name, Dim)>, DimFault>
     ensures dimensions { IfOk result (IsOnlyTable mentions.now) }
     ensures sound { IfOk result (IsSound mentions.now) }
     ensures fault { IfErr result (IsFault mentions.now) }

@@ -19,5 +19,6 @@ mod table;
 #[cfg(test)]
 mod tests;
 
-pub use dimension::dims;
+pub use dimension::{dimensions_of, dims, mentions_of};
 pub use fault::DimFault;
+pub use mention::{Iteration, Mention, Occurrence};

@@ -21,6 +21,7 @@ use Rattle.st_elab_law.specs.Agreement.{Agrees}
 use Rattle.st_elab_law.proofs.Table.{Elab-erases, Infer-erases}
 use Rattle.st_elab_row.specs.Told.{Told}
 use Rattle.st_elab_exp.specs.Exactly.{IsGiven, IsRefused}
+use Rattle.st_elab_exp.specs.Inside.{ElabInside}
 use Rattle.st_elab_exp.proofs.Typing.{of_its_type}
 
 module _ (D : Decls) (S : Scope) where
@@ -40,12 +41,11 @@ module _ (D : Decls) (S : Scope) where
       let e : Fails c ≡ Fails b = Answered-single D S q (Fails c) (Fails b) h g in cc
   told_refused q f (Err fault.Memory) b h g = tt
 
-  -- what is given at a type is the elaboration at that type
-  pub is_elaborated : (e : Exp) (t u : Ty) (w : Within) (x y : IlExp) → w ≡ around S → x ≡ y → Answered D S (check w (place e) false e t) (Gives (made y u)) → Elab D S e t x
-  is_elaborated e t u w x y is same h =
-      let there = subst (λ z. Answered D S (check z (place e) false e t) (Gives (made y u))) is h in
-      subst (λ z. Answered D S (asked (around S) e t) (Gives (made z t))) (sym same)
-      (subst (λ z. Answered D S (asked (around S) e t) (Gives (made y z))) (of_its_type D S (around S) (place e) false e t (made y u) there) there)
+  -- what is given at a type, inside of this, is the elaboration there
+  pub is_elaborated_inside : (w : Within) (e : Exp) (t u : Ty) (x y : IlExp) → x ≡ y → Answered D S (check w (place e) false e t) (Gives (made y u)) → ElabInside D S w e t x
+  is_elaborated_inside w e t u x y same h =
+      subst (λ z. Answered D S (asked w e t) (Gives (made z t))) (sym same)
+      (subst (λ z. Answered D S (asked w e t) (Gives (made y z))) (of_its_type D S w (place e) false e t (made y u) h) h)
 
   pub is_inferred : (e : Exp) (u : Ty) (w : Within) (x y : IlExp) → w ≡ around S → x ≡ y → Answered D S (infer w (place e) e) (Gives (made y u)) → Infer D S e x u
   is_inferred e u w x y is same h =

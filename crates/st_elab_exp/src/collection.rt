@@ -15,7 +15,7 @@ use st_el::Exp;
 use st_elab_row::ask::{asked, asked_at, found};
 use st_elab_row::asking::{Asking, Context, Found, Part};
 use st_elab_row::fitting::{Lifting, give_at, lift};
-use st_elab_row::form::{inferable, is_spliced};
+use st_elab_row::form::{inferable, is_spliced, is_told_by_type};
 use st_elab_row::found::{is_collection, raise};
 use st_elaboration::{ExpFault, Within};
 use st_il::{IlExp, ListItem, Ty, copy_ty};
@@ -157,7 +157,7 @@ fn item<F: Fn(&Within, &Asking<'_>) -> Result<Found, ExpFault>>(
         let list = asked(context, ask, part, ty)?;
         return Ok(ListItem::All(list.exp.into_inner()));
     }
-    if inferable(part) {
+    if is_told_by_type(part) {
         let given = found(context, ask, part)?;
         return found_item(context, part.at, ty, element, given);
     }

@@ -10,6 +10,9 @@ use st_elab_row::asking::{Asking, Context, Found, Part};
 use st_elaboration::{Decls, ExpFault, Scope, Within};
 use std::alloc::Global;
 
+/// How many questions may lie inside one another.
+pub const DEPTH: u32 = 10_000;
+
 /// The row of a question.
 fn row<F: Fn(&Within, &Asking<'_>) -> Result<Found, ExpFault>>(
     context: &Context<'_>,

@@ -12,7 +12,8 @@ ghost use Rattle.st_elab_law.specs.Agreement.{Agrees};
 ghost use Rattle.st_elab_row.specs.Told.{Told};
 ghost use Rattle.st_elab_exp.specs.Exactly.{IsGiven, IsRefused};
 
-use crate::driver::answer;
+use crate::driver::{DEPTH, answer};
+use crate::inside::check_inside;
 use st_el::Exp;
 use st_elab_row::asking::Asking;
 use st_elaboration::{Decls, ExpFault, Scope, Within};
@@ -20,11 +21,8 @@ use st_il::{IlExp, Ty};
 use st_num::{Dim, NoMemory, Row};
 use std::alloc::Global;
 
-/// How many questions may lie inside one another.
-const DEPTH: u32 = 10_000;
-
 /// What stands round an expression in this scope.
-fn around(alloc: Global, scope: &Scope) -> Result<Within, NoMemory>
+pub fn around(alloc: Global, scope: &Scope) -> Result<Within, NoMemory>
     ensures { IfOk result (λ within. within ≡ around scope.now) }
 {
     let kinds = Dim::from_slice(alloc, scope.around.as_slice())?;
@@ -51,14 +49,8 @@ pub fn check_exp(
         → IfOk result (λ x. plain_exp (erased_exp il x) ≡ plain_exp exp.now) }
 {
     let within = around(alloc, scope)?;
-    let asking = Asking::Check {
-        at: exp.at,
-        in_parentheses: false,
-        exp,
-        ty,
-    };
-    let found = answer(alloc, decls, scope, &within, &asking, DEPTH)?;
-    Ok(found.exp.into_inner())
+    let checked = check_inside(alloc, decls, scope, &within, exp, ty)?;
+    Ok(checked.into_inner())
 }
 
 /// What the expression is, and its type: exactly what the table gives, or else exactly the first

@@ -13,8 +13,10 @@ mod collection;
 mod driver;
 mod elaborate;
 mod inferred;
+mod inside;
 mod record_row;
 mod turn;
 
-pub use elaborate::{check_exp, infer_exp};
+pub use elaborate::{around, check_exp, infer_exp};
+pub use inside::{check_fillings, check_inside, check_parts};
 pub use st_elaboration::{Decls, ExpFault, Scope};

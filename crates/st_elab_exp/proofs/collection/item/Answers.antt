@@ -35,15 +35,15 @@ returns-in_err-given g c =
     (λ (b : Breach). Leads x.decls.now x.scope.now (item_row x.within.now c.args.ty.now c.args.element.now c.args.part.now) (Fails b))
     c.found.result c.from_residual-in_err-given.result c.in_err-given.field-0.0 c.in_err-given.was (search rules)
     (λ b k. item_found x.decls.now x.scope.now x.within.now c.args.ty.now c.args.element.now c.args.part.now (Fails b)
-    (sym c.is_spliced.ensures ∙ c.if-is_spliced.false) (sym c.inferable.ensures ∙ c.if-inferable.true) (k (found_item (place c.args.part.now) c.args.ty.now c.args.element.now)))
+    (sym c.is_spliced.ensures ∙ c.if-is_spliced.false) (sym c.is_told_by_type.ensures ∙ c.if-is_told_by_type.true) (k (found_item (place c.args.part.now) c.args.ty.now c.args.element.now)))
     c.found.ensures
 
-pub returns-then-inferable : goal.returns-then-inferable
-returns-then-inferable g c =
+pub returns-then-is_told_by_type : goal.returns-then-is_told_by_type
+returns-then-is_told_by_type g c =
     let x = c.args.context.now in
     item_leads x _ _ _
     (λ a h. item_found x.decls.now x.scope.now x.within.now c.args.ty.now c.args.element.now c.args.part.now a
-    (sym c.is_spliced.ensures ∙ c.if-is_spliced.false) (sym c.inferable.ensures ∙ c.if-inferable.true)
+    (sym c.is_spliced.ensures ∙ c.if-is_spliced.false) (sym c.is_told_by_type.ensures ∙ c.if-is_told_by_type.true)
     (c.in_ok-given.ensures (found_item (place c.args.part.now) c.args.ty.now c.args.element.now) a h)) c.found_item.ensures
 
 pub returns-in_err-one : goal.returns-in_err-one
@@ -54,7 +54,7 @@ returns-in_err-one g c =
     (λ (b : Breach). Leads x.decls.now x.scope.now (item_row x.within.now c.args.ty.now c.args.element.now c.args.part.now) (Fails b))
     c.asked-2.result c.from_residual-in_err-one.result c.in_err-one.field-0.0 c.in_err-one.was (search rules)
     (λ b k. item_one x.decls.now x.scope.now x.within.now c.args.ty.now c.args.element.now c.args.part.now (Fails b)
-    (sym c.is_spliced.ensures ∙ c.if-is_spliced.false) (sym c.inferable.ensures ∙ c.if-inferable.false) (k (λ m. Ends (Gives m))))
+    (sym c.is_spliced.ensures ∙ c.if-is_spliced.false) (sym c.is_told_by_type.ensures ∙ c.if-is_told_by_type.false) (k (λ m. Ends (Gives m))))
     c.asked-2.ensures
 
 pub returns : goal.returns
@@ -62,6 +62,6 @@ returns g c =
     let x = c.args.context.now in (
       made c.in_ok-one.one.exp c.in_ok-one.one.ty,
       item_one x.decls.now x.scope.now x.within.now c.args.ty.now c.args.element.now c.args.part.now _
-          (sym c.is_spliced.ensures ∙ c.if-is_spliced.false) (sym c.inferable.ensures ∙ c.if-inferable.false) (c.in_ok-one.ensures (λ m. Ends (Gives m)) _ ends),
+          (sym c.is_spliced.ensures ∙ c.if-is_spliced.false) (sym c.is_told_by_type.ensures ∙ c.if-is_told_by_type.false) (c.in_ok-one.ensures (λ m. Ends (Gives m)) _ ends),
       search rules,
     )

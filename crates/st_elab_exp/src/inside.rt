@@ -1,0 +1,101 @@
+//! Expressions and fillings, elaborated inside of iterations.
+
+ghost use Rattle.st_notation.specs.Fitted.{fillings};
+ghost use Rattle.st_elaboration.specs.Steps.{exp_of, holes, each_asked};
+ghost use Rattle.st_elab_row.specs.Told.{Told, Tells};
+ghost use Rattle.st_elab_row.specs.Asking.{question, made_by};
+ghost use Rattle.st_elab_row.specs.Parts.{TellsAll};
+ghost use Rattle.st_elab_exp.specs.Inside.{ElabInside, InsideBreach};
+
+use crate::collection::all_holes;
+use crate::driver::{DEPTH, answer};
+use crate::inferred::arguments;
+use st_el::Exp;
+use st_elab_row::asking::{Asking, Context};
+use st_elaboration::{Decls, ExpFault, Scope, Within};
+use st_il::{IlExp, Ty};
+use st_notation::Filled;
+use st_num::{Boxed, Row, Span};
+use std::alloc::Global;
+
+/// What the expression is at the type, inside of this, or the first breach.
+pub fn check_inside(
+    alloc: Global,
+    decls: &Decls,
+    scope: &Scope,
+    within: &Within,
+    exp: &Exp,
+    ty: &Ty,
+) -> Result<Boxed<IlExp>, ExpFault>
+    ensures { Told (ElabInside decls.now scope.now within.now exp.now ty.now)
+        (InsideBreach decls.now scope.now within.now exp.now ty.now) result }
+{
+    let asking = Asking::Check {
+        at: exp.at,
+        in_parentheses: false,
+        exp,
+        ty,
+    };
+    let found = answer(alloc, decls, scope, within, &asking, DEPTH)?;
+    Ok(found.exp)
+}
+
+/// What each part is at its type, inside of this, or the first breach.
+pub fn check_parts(
+    alloc: Global,
+    decls: &Decls,
+    scope: &Scope,
+    within: &Within,
+    parts: &[Exp],
+    tys: &[Ty],
+) -> Result<Row<IlExp>, ExpFault>
+    ensures { TellsAll decls.now scope.now (each_asked within.now parts.now tys.now) exp_of
+        result }
+{
+    let context = Context {
+        alloc,
+        decls,
+        scope,
+        within,
+    };
+    arguments(
+        &context,
+        &|inner: &Within, part: &Asking<'_>|
+            ensures { Tells decls.entry.now scope.entry.now (question inner.now part.now) made_by
+                result }
+        { answer(alloc, decls, scope, inner, part, DEPTH) },
+        parts,
+        tys,
+    )
+}
+
+/// What fills each hole, at the type of the hole, inside of this, or the first breach.
+pub fn check_fillings(
+    alloc: Global,
+    decls: &Decls,
+    scope: &Scope,
+    within: &Within,
+    at: Span,
+    filled: &[Filled<'_>],
+    tys: &[Ty],
+) -> Result<Row<IlExp>, ExpFault>
+    ensures { TellsAll decls.now scope.now (holes within.now at (fillings filled.now) tys.now)
+        exp_of result }
+{
+    let context = Context {
+        alloc,
+        decls,
+        scope,
+        within,
+    };
+    all_holes(
+        &context,
+        &|inner: &Within, part: &Asking<'_>|
+            ensures { Tells decls.entry.now scope.entry.now (question inner.now part.now) made_by
+                result }
+        { answer(alloc, decls, scope, inner, part, DEPTH) },
+        at,
+        filled,
+        tys,
+    )
+}
