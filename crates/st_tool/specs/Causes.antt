@@ -8,7 +8,9 @@ use Rattle.st_tool.specs.Loads.{Counts, raised}
 use Rattle.st_words.specs.FileNames.{file_names}
 use Rattle.st_words.specs.Reads.{Reads}
 
--- The load of one of the command's files failed: the count of faults rose, the name is the one whose load failed last, and that many loads were made, this one the last.
+-- The load of one of the command's files failed:
+-- the count of faults rose, the name is the one whose load failed last,
+-- and that many loads were made, this one the last.
 pub record IsLoadFault (words : List (List ℕ)) (before after : Counts) : Type 0 where
   pub command : Command
   pub reads : Reads words command
@@ -19,7 +21,8 @@ pub record IsLoadFault (words : List (List ℕ)) (before after : Counts) : Type 
   pub loads : after.loads ≡ raised before.loads (number + 1)
   pub rose : Rose before.faults after.faults
 
--- a fault of the files is told by the status, unless the output was not written or memory was wanting
+-- a fault of the files is told by the status,
+-- unless the output was not written or memory was wanting
 abbrev pub FaultIsTold : Counts → Counts → Status → Type 0
 FaultIsTold before after status =
     before.faults < after.faults

@@ -18,7 +18,8 @@ use Rattle.st_verify.specs.Notes.{noted}
 use Rattle.st_verify.specs.Verdict.{Verdict}
 use Rattle.st_verify.specs.Verifier.{Checking, refusal_by}
 
--- a verifier that refused nothing takes a line: it is noted, or refused by the first rule that it breaks
+-- a verifier that refused nothing takes a line:
+-- it is noted, or refused by the first rule that it breaks
 abbrev pub TakesFirst : Checking → Line → Checking → Type 0
 TakesFirst old line new =
     (Verdict old.il old.notes line None × (new ≡ record old { notes = noted old.notes line }))

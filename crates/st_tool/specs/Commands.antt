@@ -72,7 +72,8 @@ pub record IsRunText (small : Small) (atom : List ℕ) (status : Status)
   pub status_is : status ≡ status_of ending
   pub bytes_are : bytes ≡ transcript_text terms ending
 
--- the status and the text of the derivation of such a run; its lines are accepted by the checker of derivations
+-- the status and the text of the derivation of such a run;
+-- its lines are accepted by the checker of derivations
 pub record IsDerivationText (small : Small) (atom : List ℕ) (status : Status)
     (bytes : List ℕ) : Type 0 where
   pub ending : Ending
@@ -94,7 +95,8 @@ RunGives IsText relation term file status bytes =
 
 -- ---- verification
 
--- Of the text of an internal language and of lines it is said whether they are accepted; other files are not built.
+-- Of the text of an internal language and of lines it is said whether they are accepted;
+-- other files are not built.
 abbrev pub VerifyGives : List ℕ → List ℕ → Status → List ℕ → Type 0
 VerifyGives il_bytes derivation status bytes =
     ((il : Il) × (lines : List Line) × (rest : List ℕ) × AreTexts il_bytes derivation il lines rest

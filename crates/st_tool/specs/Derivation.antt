@@ -13,13 +13,15 @@ use Rattle.st_tool.specs.declared.transcript.Ending.{Ending}
 use Rattle.st_tool.specs.declared.transcript.Ending.TheVariants.{Stuck, Fuel}
 use Rattle.st_tool.specs.Transcript.{Term, IsTranscript}
 
--- A valid tree of the relation takes a step: its judgement has the term as inputs and the next as outputs.
+-- A valid tree of the relation takes a step:
+-- its judgement has the term as inputs and the next as outputs.
 pub record IsStepTree (il : Il) (relation : ℕ) (term next : Term) (tree : Tree) : Type 0 where
   pub valid : IsValid il tree
   pub relation_is : tree.relation ≡ relation
   pub values_are : tree.values ≡ term ++ next
 
--- The line of a tree's root, which names its relation and its rule. So far of a tree without children, by a rule without `otherwise`.
+-- The line of a tree's root, which names its relation and its rule.
+-- So far of a tree without children, by a rule without `otherwise`.
 pub record IsNodeOf (il : Il) (tree : Tree) (node : NodeLine) : Type 0 where
   pub relation : IsRelation il tree.relation node.relation
   pub rule : RuleDef
@@ -31,7 +33,9 @@ pub record IsNodeOf (il : Il) (tree : Tree) (node : NodeLine) : Type 0 where
   pub no_reference : node.children ≡ []
   pub no_evidence : node.evidence ≡ None
 
--- The lines of a run from the start to a term, over the terms before it: the first two lines, and then for each step the node of a tree that takes it, and behind it the step, which names the node's line.
+-- The lines of a run from the start to a term, over the terms before it:
+-- the first two lines, and then for each step the node of a tree that takes it,
+-- and behind it the step, which names the node's line.
 pub data StepLines (il : Il) (relation : ℕ) (name : List ℕ) (start : Term) : List Term → Term
     → List Line → Type 0 where
   begins : {lines : List Line} → lines ≡ Head 1 name ∷ From start ∷ []

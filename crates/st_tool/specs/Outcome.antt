@@ -51,16 +51,15 @@ pub data HasOutcome (held : Held) (words : List (List ℕ)) (before after : Coun
       → LoadsTo held (limit_of command) (file_names command) before loaded after
       → Outcome command loaded status bytes → HasOutcome held words before after status bytes
 
--- What was written in a call that ended with a status: all bytes of an outcome of that status; where a write failed, fewer than those of some outcome; where memory was wanting, no more than those of any.
+-- What was written in a call that ended with a status: all bytes of an outcome of that status;
+-- where a write failed, fewer than those of some outcome;
+-- where memory was wanting, nothing.
 abbrev pub Written : Held → List (List ℕ) → Counts → Counts → Option (List ℕ) → Option (List ℕ)
     → Status → Type 0
 Written held words before after taken now answer.Write =
     (status : Status) × (bytes : List ℕ) × (out : ℕ)
     × HasOutcome held words before after status bytes
     × (out < length bytes) × Takes taken now (take out bytes)
-Written held words before after taken now answer.Memory =
-    (ended : Counts) (status : Status) (bytes : List ℕ)
-    → HasOutcome held words before ended status bytes
-    → (out : ℕ) × Takes taken now (take out bytes)
+Written held words before after taken now answer.Memory = now ≡ taken
 Written held words before after taken now status =
     (bytes : List ℕ) × HasOutcome held words before after status bytes × Takes taken now bytes

@@ -1,4 +1,5 @@
--- The form of the text of a small specification: what its words are, apart from which words go together.
+-- The form of the text of a small specification:
+-- what its words are, apart from which words go together.
 use Rattle.std.specs.Prelude.{◌≡◌, Option, IsSomeAnd, ℕ, Bool, List, [], ◌∷◌, ◌++◌, All, Contains, map}
 use Rattle.std.specs.Bool.{MatchBool}
 use Rattle.std.specs.Borrow.{Bor}

@@ -34,7 +34,8 @@ steps_in [] = zero
 steps_in (Step line ∷ lines) = suc (steps_in lines)
 steps_in (_ ∷ lines) = steps_in lines
 
--- What is said of lines and of what stands behind them: that they are accepted, or the first line that is refused, and the rule that it breaks.
+-- What is said of lines and of what stands behind them:
+-- that they are accepted, or the first line that is refused, and the rule that it breaks.
 pub data Verified (il : Il) (lines : List Line) (rest : List ℕ) : Status → List ℕ → Type 0 where
   accepted : {bytes : List ℕ} → Accepts il lines → rest ≡ []
       → bytes ≡ accepted_text (length lines) (steps_in lines)

@@ -92,7 +92,8 @@ fn push_step(
     small: &Small,
     rule: &SmallRule,
 ) -> Result<(), NoMemory>
-    ensures { OnOk result (lines.new ≡ lines.old ++ Line.Node (rule_node small.now.relation rule.now)
+    ensures { OnOk result
+        (lines.new ≡ lines.old ++ Line.Node (rule_node small.now.relation rule.now)
         ∷ Line.Step (length lines.old + 1) ∷ []) }
 {
     lines.push(Line::Node(node_of(alloc, &small.relation, rule)?))?;

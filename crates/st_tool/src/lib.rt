@@ -53,7 +53,8 @@ pub fn serve<F: Files, K: Sink>(
     ensures load { result ≡ Status.Load → IsLoadFault (map string_bytes words.now.items)
         (counts_of (F.loads files.old) (F.faults files.old) (F.last files.old))
         (counts_of (F.loads files.new) (F.faults files.new) (F.last files.new)) }
-    ensures told { FaultIsTold (counts_of (F.loads files.old) (F.faults files.old) (F.last files.old))
+    ensures told { FaultIsTold
+        (counts_of (F.loads files.old) (F.faults files.old) (F.last files.old))
         (counts_of (F.loads files.new) (F.faults files.new) (F.last files.new)) result }
     ensures accepted { DerivedIsAccepted }
     ensures write { result ≡ Status.Write → Rose (K.faults out.old) (K.faults out.new) }
