@@ -7,16 +7,16 @@ use Rattle.st_grammar.specs.Trees.{Tree, Trees, none, more}
 use Rattle.st_grammar.specs.Grammar.{is_type, Fits, EachFits}
 use Rattle.st_el.specs.declared.expression.Exp.{Exp}
 use Rattle.st_el.specs.declared.ty.Typ.{Typ}
-use Rattle.st_meaning.specs.declared.action.Action.{Action}
-use Rattle.st_meaning.specs.declared.notation_piece.NotationPiece.TheVariants.{Hole as a_type, Whole as whole, Types as types, Elements as elements, From as from_place}
-use Rattle.st_meaning.specs.Meaning.{meaning, meanings}
-use Rattle.st_meaning.specs.Notations.{hole, typ_meaning, typ_meanings, notation_meaning}
-use Rattle.st_meaning.specs.declared.piece.Piece.TheVariants.{Done}
-use Rattle.st_meaning.specs.Actions.{acts}
-use Rattle.st_meaning.specs.Building.{run}
-use Rattle.st_meaning.specs.NotationBuilding.{Stack, run as run_notation, the_typ, the_notation, typ_built, notation_built}
-use Rattle.st_meaning.proofs.Builds.{builds}
-use Rattle.st_meaning.proofs.NotationBuilds.{type_hole, typ_builds, notation_builds}
+use Rattle.st_parse_builder.specs.declared.action.Action.{Action}
+use Rattle.st_parse_builder.specs.declared.notation_piece.NotationPiece.TheVariants.{Hole as a_type, Whole as whole, Types as types, Elements as elements, From as from_place}
+use Rattle.st_parse_builder.specs.Meaning.{meaning, meanings}
+use Rattle.st_parse_builder.specs.Notations.{hole, typ_meaning, typ_meanings, notation_meaning}
+use Rattle.st_parse_builder.specs.declared.piece.Piece.TheVariants.{Done}
+use Rattle.st_parse_builder.specs.Actions.{acts}
+use Rattle.st_parse_builder.specs.Building.{run}
+use Rattle.st_parse_builder.specs.NotationBuilding.{Stack, run as run_notation, the_typ, the_notation, typ_built, notation_built}
+use Rattle.st_parse_builder.proofs.Builds.{builds}
+use Rattle.st_parse_builder.proofs.NotationBuilds.{type_hole, typ_builds, notation_builds}
 use Rattle.st_draft.specs.Parts.{the_exp, exp_built, all_built}
 use Rattle.st_draft.proofs.DraftOf.{arguments_acts}
 

@@ -13,20 +13,20 @@ use Rattle.st_grammar.specs.Definitions.{token_in, keyword, no_args, Hints, Memb
 use Rattle.st_grammar.specs.Places.{Head, syntax_head, Rule, rule_head, clause_head, Host, of_syntax, of_field, of_case, of_var, of_relation, of_notation, of_fun, Place, between, syntax_name, var_name, var_colon, relation_name, rule_name, rule_colon, fun_name, fun_named, argued, args_closed, syntax_id, rule_id, hinted, hint_open, hint_name, hint_words, entering, dotted, field_name, premised, premise_open, goal_colon, iterated, State, at, whole, rule_whole, is_whole, begin_def, first_of_two, own, place_step}
 use Rattle.st_grammar.proofs.Sound.{and_left, and_right}
 use Rattle.st_grammar.proofs.PlaceTexts.{PlaceHolds}
-use Rattle.st_reading.specs.declared.place.Place.TheVariants as place
-use Rattle.st_reading.specs.Shapes.{shape}
-use Rattle.st_reading.proofs.CourseView as view
-use Rattle.st_reading.proofs.CourseView.{course_of}
+use Rattle.st_parse_automaton.specs.declared.place.Place.TheVariants as place
+use Rattle.st_parse_automaton.specs.Shapes.{shape}
+use Rattle.st_parse_automaton.proofs.CourseView as view
+use Rattle.st_parse_automaton.proofs.CourseView.{course_of}
 use Rattle.st_el.specs.declared.notation.Notation.{Notation, out-Notation}
 use Rattle.st_el.specs.declared.notation.NotNode.{out-NotNode, roll-NotNode}
 use Rattle.st_el.specs.declared.notation.NotNode.TheOpen.{NotNode-F}
 use Rattle.st_el.specs.declared.definition.Body.TheVariants as body
 use Rattle.st_el.specs.declared.definition.Def.{Def}
 use Rattle.st_el.specs.declared.definition.DefNode.TheVariants as def
-use Rattle.st_meaning.specs.Names.{name_of}
-use Rattle.st_meaning.specs.Meaning.{meaning}
-use Rattle.st_meaning.specs.Notations.{typ_meaning, notation_meaning, spelled_on}
-use Rattle.st_meaning.specs.Definitions.{name_in, fragment_name, rule_name as name_of_rule, hints_meaning, cases_meaning, body_meaning, premises_meaning, def_at, defs_meaning, params, patterns}
+use Rattle.st_parse_builder.specs.Names.{name_of}
+use Rattle.st_parse_builder.specs.Meaning.{meaning}
+use Rattle.st_parse_builder.specs.Notations.{typ_meaning, notation_meaning, spelled_on}
+use Rattle.st_parse_builder.specs.Definitions.{name_in, fragment_name, rule_name as name_of_rule, hints_meaning, cases_meaning, body_meaning, premises_meaning, def_at, defs_meaning, params, patterns}
 use Rattle.st_draft.specs.declared.change.Change.TheVariants as change
 use Rattle.st_draft.specs.declared.change.Ending.TheVariants as ending
 use Rattle.st_draft.specs.Changes.{ending_of, change_at, change_of}

@@ -4,14 +4,14 @@ use Rattle.st_grammar.specs.Lexemes.{Lexeme}
 use Rattle.st_grammar.specs.Trees.{Tree}
 use Rattle.st_grammar.specs.Definitions.{Hints, Members, Iterations, closings, Premises, Args, Defs}
 use Rattle.st_grammar.specs.Places.{Head, syntax_head, Rule, rule_head, clause_head, field_slot, case_slot, var_slot, notation_slot, fun_slot, rule_slot, cond_slot, count_slot, filled}
-use Rattle.st_reading.specs.declared.place.Slot.TheVariants as slot
-use Rattle.st_reading.proofs.CourseView.{rounds}
+use Rattle.st_parse_automaton.specs.declared.place.Slot.TheVariants as slot
+use Rattle.st_parse_automaton.proofs.CourseView.{rounds}
 use Rattle.st_el.specs.declared.expression.Exp.{Exp}
 use Rattle.st_el.specs.declared.definition.PremNode.TheVariants as prem
-use Rattle.st_meaning.specs.Meaning.{meaning, count_of}
-use Rattle.st_meaning.specs.Notations.{typ_meaning, notation_meaning}
-use Rattle.st_meaning.specs.Definitions as meant
-use Rattle.st_meaning.specs.Definitions.{place_in, condition, hints_meaning, prem_at}
+use Rattle.st_parse_builder.specs.Meaning.{meaning, count_of}
+use Rattle.st_parse_builder.specs.Notations.{typ_meaning, notation_meaning}
+use Rattle.st_parse_builder.specs.Definitions as meant
+use Rattle.st_parse_builder.specs.Definitions.{place_in, condition, hints_meaning, prem_at}
 use Rattle.st_draft.specs.Drafts.{no_sides, premises_so_far, condition_node, typ_filled, notation_filled, condition_filled, exp_filled, count_filled}
 use Rattle.st_draft.proofs.DraftOf.{drafted, cases_body, rule_draft, goal_of, premise_at, slot_draft, place_draft}
 use Rattle.st_draft.proofs.DraftSteps.{span_opened}

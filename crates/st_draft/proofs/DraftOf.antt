@@ -11,12 +11,12 @@ use Rattle.st_el.specs.declared.notation.Notation.{Notation}
 use Rattle.st_el.specs.declared.definition.Prem.{Prem}
 use Rattle.st_el.specs.declared.definition.Hint.{Hint}
 use Rattle.st_el.specs.Plain.{nowhere}
-use Rattle.st_meaning.specs.declared.action.Action.{Action}
-use Rattle.st_meaning.specs.Meaning.{meaning, label}
-use Rattle.st_meaning.specs.Notations.{typ_meaning, notation_meaning}
-use Rattle.st_meaning.specs.Actions.{acts}
-use Rattle.st_meaning.specs.Definitions as meant
-use Rattle.st_meaning.specs.Definitions.{name_in, place_in, fragment_name, hints_meaning, fields_meaning, cases_meaning, has_dots_before, condition, premises_meaning, params, patterns, defs_meaning}
+use Rattle.st_parse_builder.specs.declared.action.Action.{Action}
+use Rattle.st_parse_builder.specs.Meaning.{meaning, label}
+use Rattle.st_parse_builder.specs.Notations.{typ_meaning, notation_meaning}
+use Rattle.st_parse_builder.specs.Actions.{acts}
+use Rattle.st_parse_builder.specs.Definitions as meant
+use Rattle.st_parse_builder.specs.Definitions.{name_in, place_in, fragment_name, hints_meaning, fields_meaning, cases_meaning, has_dots_before, condition, premises_meaning, params, patterns, defs_meaning}
 use Rattle.st_draft.specs.declared.draft.Members.{Members as Body}
 use Rattle.st_draft.specs.declared.draft.Sides.{Sides}
 use Rattle.st_draft.specs.declared.draft.Premises.{Premises as Prems}

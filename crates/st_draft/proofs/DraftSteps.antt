@@ -20,20 +20,20 @@ use Rattle.st_draft.specs.declared.change.Change.{Change}
 use Rattle.st_draft.specs.declared.change.Change.TheVariants as change
 use Rattle.st_el.specs.declared.definition.PremNode.TheVariants as prem
 use Rattle.st_el.specs.declared.definition.DefNode.TheVariants as def
-use Rattle.st_meaning.specs.Definitions as meant
-use Rattle.st_reading.proofs.CourseView.{rounds, course_of}
-use Rattle.st_reading.proofs.CourseView as view
-use Rattle.st_reading.specs.Shapes.{shape}
+use Rattle.st_parse_builder.specs.Definitions as meant
+use Rattle.st_parse_automaton.proofs.CourseView.{rounds, course_of}
+use Rattle.st_parse_automaton.proofs.CourseView as view
+use Rattle.st_parse_automaton.specs.Shapes.{shape}
 use Rattle.st_el.specs.declared.notation.Notation.{Notation}
 use Rattle.st_el.specs.declared.definition.Body.TheVariants as body
 use Rattle.st_el.specs.Plain.{nowhere}
-use Rattle.st_meaning.specs.Meaning.{meaning, label}
-use Rattle.st_meaning.specs.Notations.{notation_meaning}
-use Rattle.st_meaning.specs.Definitions.{name_in, place_in, fragment_name, piece_text, hint_meaning, hints_meaning, fields_meaning, opened_at, sign_count, condition, premises_meaning, prem_at, params, patterns, has_dots_before, cases_meaning, body_meaning, def_at, defs_meaning}
+use Rattle.st_parse_builder.specs.Meaning.{meaning, label}
+use Rattle.st_parse_builder.specs.Notations.{notation_meaning}
+use Rattle.st_parse_builder.specs.Definitions.{name_in, place_in, fragment_name, piece_text, hint_meaning, hints_meaning, fields_meaning, opened_at, sign_count, condition, premises_meaning, prem_at, params, patterns, has_dots_before, cases_meaning, body_meaning, def_at, defs_meaning}
 use Rattle.st_draft.specs.Changes.{change_of}
 use Rattle.st_draft.specs.declared.draft.Draft.{Draft}
 use Rattle.st_draft.specs.Drafts.{no_hint, no_members as no_body, no_sides, premises_so_far, begun as begun_draft, with_hints, id_with, span_or, shape_count, body_of, applied, arguments_after}
-use Rattle.st_meaning.specs.declared.action.Action.{Action}
+use Rattle.st_parse_builder.specs.declared.action.Action.{Action}
 use Rattle.st_draft.proofs.DraftOf.{place_of, drafted, fields_body, cases_body, head_draft, rule_draft, has_dots, host_draft, premise_at, slot_draft, place_draft, arguments_acts, args_acts, place_args, slot_args}
 
 abbrev pub state_draft : State → Draft

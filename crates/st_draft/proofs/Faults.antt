@@ -3,25 +3,25 @@ use Rattle.std.proofs.Common.{◌≡◌, ℕ, zero, suc, ◌≤◌, ◌<◌, Lis
 use Rattle.std.specs.Prelude.{max}
 use Rattle.st_num.specs.declared.span.Span.{Span}
 use Rattle.st_scan.specs.declared.token.Token.{Token}
-use Rattle.st_reading.specs.declared.place.Lexeme.{Lexeme}
-use Rattle.st_reading.specs.declared.place.CaseAt.{CaseAt}
-use Rattle.st_reading.specs.declared.place.Slot.{Slot}
-use Rattle.st_reading.specs.declared.place.Slot.TheVariants as slot
+use Rattle.st_parse_automaton.specs.declared.place.Lexeme.{Lexeme}
+use Rattle.st_parse_automaton.specs.declared.place.CaseAt.{CaseAt}
+use Rattle.st_parse_automaton.specs.declared.place.Slot.{Slot}
+use Rattle.st_parse_automaton.specs.declared.place.Slot.TheVariants as slot
 use Rattle.st_el.specs.declared.expression.Exp.{Exp}
 use Rattle.st_el.specs.declared.ty.Typ.{Typ}
 use Rattle.st_el.specs.declared.notation.Notation.{Notation}
 use Rattle.st_el.specs.declared.definition.Prem.{Prem}
 use Rattle.st_el.specs.declared.definition.PremNode.TheVariants as prem
-use Rattle.st_meaning.specs.declared.action.Action.{Action}
-use Rattle.st_meaning.specs.declared.piece.Piece.{Piece}
-use Rattle.st_meaning.specs.declared.piece.Piece.TheVariants.{Done, Parts, Fields, Path, Label, Here}
-use Rattle.st_meaning.specs.declared.fault.BuildFault.{BuildFault}
-use Rattle.st_meaning.specs.declared.fault.BuildFault.TheVariants.{Unfit, TooHigh, Memory}
-use Rattle.st_meaning.specs.Answers.{Builds}
-use Rattle.st_meaning.specs.NotationAnswers as notations
-use Rattle.st_meaning.specs.Definitions.{prem_at}
-use Rattle.st_meaning.specs.Heights.{highest, height, typ_height, notation_height}
-use Rattle.st_meaning.specs.NotationBuilding.{typ_built, notation_built}
+use Rattle.st_parse_builder.specs.declared.action.Action.{Action}
+use Rattle.st_parse_builder.specs.declared.piece.Piece.{Piece}
+use Rattle.st_parse_builder.specs.declared.piece.Piece.TheVariants.{Done, Parts, Fields, Path, Label, Here}
+use Rattle.st_parse_builder.specs.declared.fault.BuildFault.{BuildFault}
+use Rattle.st_parse_builder.specs.declared.fault.BuildFault.TheVariants.{Unfit, TooHigh, Memory}
+use Rattle.st_parse_builder.specs.Answers.{Builds}
+use Rattle.st_parse_builder.specs.NotationAnswers as notations
+use Rattle.st_parse_builder.specs.Definitions.{prem_at}
+use Rattle.st_parse_builder.specs.Heights.{highest, height, typ_height, notation_height}
+use Rattle.st_parse_builder.specs.NotationBuilding.{typ_built, notation_built}
 use Rattle.st_measure.specs.Answers.{OnlyMemory, lone_typ}
 use Rattle.st_measure.specs.DefHeights.{prem_height, field_type_height}
 use Rattle.st_measure.proofs.Holes.{builds_typ}

@@ -15,12 +15,12 @@ use Rattle.st_el.specs.declared.expression.Count.{Count}
 use Rattle.st_el.specs.declared.definition.Prem.{Prem}
 use Rattle.st_el.specs.declared.definition.PremNode.TheVariants as prem
 use Rattle.st_el.specs.declared.definition.Body.TheVariants as body
-use Rattle.st_meaning.specs.Heights.{height, typ_height}
-use Rattle.st_meaning.specs.Meaning.{meaning, label}
-use Rattle.st_meaning.specs.Notations.{typ_meaning, notation_meaning}
-use Rattle.st_meaning.specs.Definitions as meant
-use Rattle.st_meaning.specs.Definitions.{cases_meaning, fields_meaning, body_meaning, has_dots_before, condition, prem_at, opened_at, sign_count, premise_meaning, premises_meaning, params, patterns, def_meaning, defs_meaning}
-use Rattle.st_meaning.proofs.NotationBuilds.{type_hole}
+use Rattle.st_parse_builder.specs.Heights.{height, typ_height}
+use Rattle.st_parse_builder.specs.Meaning.{meaning, label}
+use Rattle.st_parse_builder.specs.Notations.{typ_meaning, notation_meaning}
+use Rattle.st_parse_builder.specs.Definitions as meant
+use Rattle.st_parse_builder.specs.Definitions.{cases_meaning, fields_meaning, body_meaning, has_dots_before, condition, prem_at, opened_at, sign_count, premise_meaning, premises_meaning, params, patterns, def_meaning, defs_meaning}
+use Rattle.st_parse_builder.proofs.NotationBuilds.{type_hole}
 use Rattle.st_measure.specs.DefHeights.{prem_height, field_type_height, body_height, def_height}
 use Rattle.st_measure.proofs.Premises.{tall_each}
 use Rattle.st_draft.specs.Heights.{open_height}

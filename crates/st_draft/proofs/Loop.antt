@@ -10,23 +10,23 @@ use Rattle.st_grammar.specs.Definitions.{token_in, Defs, Hints}
 use Rattle.st_grammar.specs.Places.{Head, syntax_head, Rule, rule_head, clause_head, Host, of_syntax, of_field, of_case, of_var, of_relation, of_notation, of_fun, Slot, field_slot, case_slot, var_slot, notation_slot, fun_slot, arg_slot, rule_slot, cond_slot, count_slot, Place, between, syntax_name, var_name, var_colon, relation_name, rule_name, rule_colon, fun_name, fun_named, argued, args_closed, syntax_id, rule_id, hinted, hint_open, hint_name, hint_words, entering, dotted, field_name, premised, premise_open, goal_colon, iterated, State, at, inside, filled, whole, step, finish, reading, start}
 use Rattle.st_grammar.proofs.PlaceTexts.{Holds, PlaceHolds}
 use Rattle.st_grammar.proofs.PlaceReading.{filled_reached}
-use Rattle.st_reading.specs.declared.place.Lexeme.{Lexeme}
-use Rattle.st_reading.specs.declared.place.Progress.{Progress}
-use Rattle.st_reading.specs.Course as course
-use Rattle.st_reading.specs.Shapes.{lexeme_of}
-use Rattle.st_reading.specs.Readings.{progress_of}
-use Rattle.st_reading.proofs.View as view
-use Rattle.st_reading.proofs.View.{part_of}
-use Rattle.st_reading.proofs.Simulation as parts
-use Rattle.st_reading.proofs.CourseView.{place_of, slot_of, slot_open, course_of}
-use Rattle.st_reading.proofs.CourseSimulation.{step_is, filled_is, may_end_is, is_some}
-use Rattle.st_reading.proofs.Loop.{last_step, holds, taken}
+use Rattle.st_parse_automaton.specs.declared.place.Lexeme.{Lexeme}
+use Rattle.st_parse_automaton.specs.declared.place.Progress.{Progress}
+use Rattle.st_parse_automaton.specs.Course as course
+use Rattle.st_parse_automaton.specs.Shapes.{lexeme_of}
+use Rattle.st_parse_automaton.specs.Readings.{progress_of}
+use Rattle.st_parse_automaton.proofs.View as view
+use Rattle.st_parse_automaton.proofs.View.{part_of}
+use Rattle.st_parse_automaton.proofs.Simulation as parts
+use Rattle.st_parse_automaton.proofs.CourseView.{place_of, slot_of, slot_open, course_of}
+use Rattle.st_parse_automaton.proofs.CourseSimulation.{step_is, filled_is, may_end_is, is_some}
+use Rattle.st_parse_automaton.proofs.Loop.{last_step, holds, taken}
 use Rattle.st_el.specs.declared.expression.Exp.{Exp}
 use Rattle.st_el.specs.declared.definition.Def.{Def}
-use Rattle.st_meaning.specs.Definitions.{defs_meaning}
+use Rattle.st_parse_builder.specs.Definitions.{defs_meaning}
 use Rattle.st_num.specs.declared.mark.Mark.{Mark}
 use Rattle.st_el.specs.Plain.{nowhere}
-use Rattle.st_meaning.specs.declared.action.Action.{Action}
+use Rattle.st_parse_builder.specs.declared.action.Action.{Action}
 use Rattle.st_draft.specs.declared.draft.Draft.{Draft}
 use Rattle.st_draft.specs.declared.draft.Members.{Members as Body}
 use Rattle.st_draft.specs.declared.draft.Premises.{Premises as Prems}

@@ -11,14 +11,14 @@ use Rattle.st_grammar.specs.Places.{State, at, inside, filled, taken, place_step
 use Rattle.st_grammar.proofs.LexemeTokens.{lexeme_token}
 use Rattle.st_grammar.proofs.PlaceTexts.{Holds}
 use Rattle.st_grammar.proofs.PlaceComplete.{reading_append}
-use Rattle.st_reading.specs.declared.place.Progress.{Progress}
-use Rattle.st_reading.specs.Shapes.{lexeme_of}
-use Rattle.st_reading.specs.Readings.{progress_of}
-use Rattle.st_reading.proofs.View as view
-use Rattle.st_reading.proofs.CourseView.{slot_of, slot_open, course_of}
-use Rattle.st_reading.proofs.CourseSimulation.{step_is, part_step_is}
-use Rattle.st_reading.proofs.Loop.{holds}
-use Rattle.st_meaning.specs.Definitions.{defs_meaning}
+use Rattle.st_parse_automaton.specs.declared.place.Progress.{Progress}
+use Rattle.st_parse_automaton.specs.Shapes.{lexeme_of}
+use Rattle.st_parse_automaton.specs.Readings.{progress_of}
+use Rattle.st_parse_automaton.proofs.View as view
+use Rattle.st_parse_automaton.proofs.CourseView.{slot_of, slot_open, course_of}
+use Rattle.st_parse_automaton.proofs.CourseSimulation.{step_is, part_step_is}
+use Rattle.st_parse_automaton.proofs.Loop.{holds}
+use Rattle.st_parse_builder.specs.Definitions.{defs_meaning}
 use Rattle.st_draft.specs.declared.draft.Draft.{Draft}
 use Rattle.st_draft.specs.Heights.{defs_height, Within, AllLow}
 use Rattle.st_draft.specs.Work.{Work, EndsLow, LeavesLow, Goes}

@@ -1,18 +1,18 @@
 -- Only memory fails behind each token, where the draft behind it is low.
 use Rattle.std.proofs.Common.{◌≡◌, ℕ, List, length, true, Some, None, Result, IfErr, option_and_then, sym, ap, subst, ◌∙◌}
 use Rattle.st_scan.specs.declared.token.Token.{Token}
-use Rattle.st_reading.specs.declared.place.Lexeme.{Lexeme}
-use Rattle.st_reading.specs.declared.place.Slot.{Slot}
-use Rattle.st_reading.specs.declared.place.Place.{Place}
-use Rattle.st_reading.specs.declared.place.Progress.{Progress}
-use Rattle.st_reading.specs.declared.outline.Part.{Part}
-use Rattle.st_reading.specs.Readings.{progress_of}
-use Rattle.st_reading.specs.Outline as out
-use Rattle.st_reading.specs.Course as course
+use Rattle.st_parse_automaton.specs.declared.place.Lexeme.{Lexeme}
+use Rattle.st_parse_automaton.specs.declared.place.Slot.{Slot}
+use Rattle.st_parse_automaton.specs.declared.place.Place.{Place}
+use Rattle.st_parse_automaton.specs.declared.place.Progress.{Progress}
+use Rattle.st_parse_automaton.specs.declared.outline.Part.{Part}
+use Rattle.st_parse_automaton.specs.Readings.{progress_of}
+use Rattle.st_parse_automaton.specs.Outline as out
+use Rattle.st_parse_automaton.specs.Course as course
 use Rattle.st_grammar.specs.declared.sort.Bracket.{Bracket}
 use Rattle.st_grammar.specs.Definitions.{Defs}
 use Rattle.st_grammar.specs.Places.{State, finish}
-use Rattle.st_meaning.specs.declared.fault.BuildFault.{BuildFault}
+use Rattle.st_parse_builder.specs.declared.fault.BuildFault.{BuildFault}
 use Rattle.st_measure.specs.Answers.{OnlyMemory}
 use Rattle.st_draft.specs.declared.draft.Draft.{Draft}
 use Rattle.st_draft.specs.declared.parts.Parts.{Parts}

@@ -13,12 +13,12 @@ use Rattle.st_el.specs.declared.notation.NotNode.TheVariants as not_node
 use Rattle.st_el.specs.declared.ty.Typ.{Typ}
 use Rattle.st_el.specs.declared.definition.Prem.{Prem, out-Prem, roll-out-Prem, the_lemmas as prem_lemmas}
 use Rattle.st_el.specs.declared.definition.PremNode.{PremNode, fold-PremNode}
-use Rattle.st_meaning.specs.Heights.{highest, height, typ_height, notation_height}
-use Rattle.st_meaning.specs.Meaning.{meaning, label}
-use Rattle.st_meaning.specs.Notations.{hole, notation_at, notation_place, typ_meaning, notation_meaning}
-use Rattle.st_meaning.specs.Definitions as meant
-use Rattle.st_meaning.specs.Definitions.{fields_meaning, cases_meaning, body_meaning, has_dots_before, condition, prem_at, opened_at, sign_count, premise_meaning, premises_meaning, params, patterns, def_meaning, defs_meaning}
-use Rattle.st_meaning.proofs.Tallness.{highest_behind}
+use Rattle.st_parse_builder.specs.Heights.{highest, height, typ_height, notation_height}
+use Rattle.st_parse_builder.specs.Meaning.{meaning, label}
+use Rattle.st_parse_builder.specs.Notations.{hole, notation_at, notation_place, typ_meaning, notation_meaning}
+use Rattle.st_parse_builder.specs.Definitions as meant
+use Rattle.st_parse_builder.specs.Definitions.{fields_meaning, cases_meaning, body_meaning, has_dots_before, condition, prem_at, opened_at, sign_count, premise_meaning, premises_meaning, params, patterns, def_meaning, defs_meaning}
+use Rattle.st_parse_builder.proofs.Tallness.{highest_behind}
 use Rattle.st_measure.specs.Answers.{typ_in, lone_typ}
 use Rattle.st_measure.specs.DefHeights.{prem_node_height_at, prem_height_at, prem_height, field_type_height}
 use Rattle.st_draft.specs.Heights.{height_or, open_height, height_of, defs_height, Within}

@@ -1,26 +1,26 @@
 -- What is kept behind each token, where the draft behind it is known.
 use Rattle.std.proofs.Common.{◌≡◌, ℕ, List, [], length, true, false, Option, Some, None, Result, Ok, Err, IfOk, IfSome, option_map, option_and_then, refl, sym, ap, subst, ◌∙◌}
 use Rattle.st_scan.specs.declared.token.Token.{Token}
-use Rattle.st_reading.specs.declared.place.Lexeme.{Lexeme}
-use Rattle.st_reading.specs.declared.place.Slot.{Slot}
-use Rattle.st_reading.specs.declared.place.Place.{Place}
-use Rattle.st_reading.specs.declared.place.Place.TheVariants as place
-use Rattle.st_reading.specs.declared.place.At.{At}
-use Rattle.st_reading.specs.declared.place.Progress.{Progress}
-use Rattle.st_reading.specs.declared.place.Progress.TheVariants as code
-use Rattle.st_reading.specs.declared.outline.Reading.{Reading}
-use Rattle.st_reading.specs.declared.outline.Part.{Part}
-use Rattle.st_reading.specs.declared.outline.Due.TheVariants.{Operand}
-use Rattle.st_reading.specs.Readings.{progress_of}
+use Rattle.st_parse_automaton.specs.declared.place.Lexeme.{Lexeme}
+use Rattle.st_parse_automaton.specs.declared.place.Slot.{Slot}
+use Rattle.st_parse_automaton.specs.declared.place.Place.{Place}
+use Rattle.st_parse_automaton.specs.declared.place.Place.TheVariants as place
+use Rattle.st_parse_automaton.specs.declared.place.At.{At}
+use Rattle.st_parse_automaton.specs.declared.place.Progress.{Progress}
+use Rattle.st_parse_automaton.specs.declared.place.Progress.TheVariants as code
+use Rattle.st_parse_automaton.specs.declared.outline.Reading.{Reading}
+use Rattle.st_parse_automaton.specs.declared.outline.Part.{Part}
+use Rattle.st_parse_automaton.specs.declared.outline.Due.TheVariants.{Operand}
+use Rattle.st_parse_automaton.specs.Readings.{progress_of}
 use Rattle.st_grammar.specs.declared.sort.Bracket.{Bracket}
 use Rattle.st_grammar.specs.Definitions.{Defs}
 use Rattle.st_grammar.specs.Places.{State, finish}
 use Rattle.st_el.specs.declared.definition.Def.{Def}
 use Rattle.st_el.specs.Plain.{nowhere}
-use Rattle.st_meaning.specs.declared.fault.BuildFault.{BuildFault}
-use Rattle.st_meaning.specs.Definitions.{defs_meaning}
-use Rattle.st_reading.specs.Outline as out
-use Rattle.st_reading.specs.Course as course
+use Rattle.st_parse_builder.specs.declared.fault.BuildFault.{BuildFault}
+use Rattle.st_parse_builder.specs.Definitions.{defs_meaning}
+use Rattle.st_parse_automaton.specs.Outline as out
+use Rattle.st_parse_automaton.specs.Course as course
 use Rattle.st_draft.specs.declared.draft.Draft.{Draft}
 use Rattle.st_draft.specs.declared.parts.Parts.{Parts}
 use Rattle.st_draft.specs.declared.change.Ending.{Ending}

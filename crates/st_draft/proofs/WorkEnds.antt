@@ -12,21 +12,21 @@ use Rattle.st_grammar.specs.Places.{Slot, field_slot, case_slot, var_slot, notat
 use Rattle.st_grammar.proofs.Sound as sound
 use Rattle.st_grammar.proofs.PlaceTexts.{Holds}
 use Rattle.st_grammar.proofs.PlaceReading.{inner_finish}
-use Rattle.st_reading.specs.declared.place.Slot.TheVariants as slot
-use Rattle.st_reading.specs.declared.place.Lexeme.{Lexeme}
-use Rattle.st_reading.specs.Course.{opens_round}
-use Rattle.st_reading.specs.Shapes.{lexeme_of}
-use Rattle.st_reading.proofs.View as view
-use Rattle.st_reading.proofs.CourseView.{rounds, slot_of, slot_open}
+use Rattle.st_parse_automaton.specs.declared.place.Slot.TheVariants as slot
+use Rattle.st_parse_automaton.specs.declared.place.Lexeme.{Lexeme}
+use Rattle.st_parse_automaton.specs.Course.{opens_round}
+use Rattle.st_parse_automaton.specs.Shapes.{lexeme_of}
+use Rattle.st_parse_automaton.proofs.View as view
+use Rattle.st_parse_automaton.proofs.CourseView.{rounds, slot_of, slot_open}
 use Rattle.st_el.specs.declared.expression.Exp.{Exp}
-use Rattle.st_meaning.specs.declared.action.Action.{Action}
-use Rattle.st_meaning.specs.Names.{name_of}
-use Rattle.st_meaning.specs.Meaning.{meaning, count_of}
-use Rattle.st_meaning.specs.Actions.{acts}
-use Rattle.st_meaning.specs.Emission.{state_acts}
-use Rattle.st_meaning.proofs.Emission.{finish_emits}
-use Rattle.st_emit.specs.Emits.{finishing}
-use Rattle.st_emit.proofs.Emitted.{finishing_is}
+use Rattle.st_parse_builder.specs.declared.action.Action.{Action}
+use Rattle.st_parse_builder.specs.Names.{name_of}
+use Rattle.st_parse_builder.specs.Meaning.{meaning, count_of}
+use Rattle.st_parse_builder.specs.Actions.{acts}
+use Rattle.st_parse_builder.specs.Emission.{state_acts}
+use Rattle.st_parse_builder.proofs.Emission.{finish_emits}
+use Rattle.st_parse_actions.specs.Emits.{finishing}
+use Rattle.st_parse_actions.proofs.Emitted.{finishing_is}
 use Rattle.st_draft.specs.declared.draft.Draft.{Draft}
 use Rattle.st_draft.specs.Drafts.{typ_filled, notation_filled, condition_filled, exp_filled, count_filled}
 use Rattle.st_draft.specs.Parts.{index_in, count_with, refilled}

@@ -9,21 +9,21 @@ use Rattle.st_grammar.specs.Definitions.{token_in, no_args, args, Args, Members,
 use Rattle.st_grammar.specs.Places.{Head, Slot, field_slot, case_slot, var_slot, notation_slot, fun_slot, arg_slot, rule_slot, cond_slot, count_slot, slot_sort, Place, between, syntax_name, var_name, var_colon, relation_name, rule_name, rule_colon, fun_name, fun_named, argued, args_closed, syntax_id, rule_id, hinted, hint_open, hint_name, hint_words, entering, dotted, field_name, premised, premise_open, goal_colon, iterated, State, at, inside, syntax_whole, when, enter, enter_case, enter_other, first_of_two, filled, step, taken, place_step}
 use Rattle.st_grammar.proofs.PlaceTexts.{Holds, PlaceHolds}
 use Rattle.st_grammar.proofs.PlaceReading.{filled_reached}
-use Rattle.st_reading.specs.declared.outline.Shape.{Shape}
-use Rattle.st_reading.specs.declared.outline.Due.TheVariants.{Operand}
-use Rattle.st_reading.specs.declared.place.Lexeme.{Lexeme as OutLexeme}
-use Rattle.st_reading.specs.Shapes.{shape, lexeme_of}
-use Rattle.st_reading.specs.Outline as out
-use Rattle.st_reading.specs.Course as course
-use Rattle.st_reading.proofs.View as view
-use Rattle.st_reading.proofs.View.{part_of}
-use Rattle.st_reading.proofs.Simulation as parts
-use Rattle.st_reading.proofs.CourseView.{place_of, slot_of, slot_open, course_of}
-use Rattle.st_reading.proofs.CourseSimulation.{part_step_is, filled_is}
+use Rattle.st_parse_automaton.specs.declared.outline.Shape.{Shape}
+use Rattle.st_parse_automaton.specs.declared.outline.Due.TheVariants.{Operand}
+use Rattle.st_parse_automaton.specs.declared.place.Lexeme.{Lexeme as OutLexeme}
+use Rattle.st_parse_automaton.specs.Shapes.{shape, lexeme_of}
+use Rattle.st_parse_automaton.specs.Outline as out
+use Rattle.st_parse_automaton.specs.Course as course
+use Rattle.st_parse_automaton.proofs.View as view
+use Rattle.st_parse_automaton.proofs.View.{part_of}
+use Rattle.st_parse_automaton.proofs.Simulation as parts
+use Rattle.st_parse_automaton.proofs.CourseView.{place_of, slot_of, slot_open, course_of}
+use Rattle.st_parse_automaton.proofs.CourseSimulation.{part_step_is, filled_is}
 use Rattle.st_draft.specs.declared.change.Change.{Change}
 use Rattle.st_draft.specs.declared.change.Change.TheVariants as change
-use Rattle.st_meaning.specs.declared.action.Action.{Action}
-use Rattle.st_meaning.specs.Definitions.{params, patterns}
+use Rattle.st_parse_builder.specs.declared.action.Action.{Action}
+use Rattle.st_parse_builder.specs.Definitions.{params, patterns}
 use Rattle.st_draft.specs.declared.draft.Draft.{Draft}
 use Rattle.st_draft.specs.Changes.{change_of}
 use Rattle.st_draft.specs.Drafts.{params_put, args_put, with_sides, applied, arguments_after}

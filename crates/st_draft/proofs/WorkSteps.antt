@@ -10,17 +10,17 @@ use Rattle.st_grammar.specs.Places.{Slot, field_slot, case_slot, var_slot, notat
 use Rattle.st_grammar.proofs.Sound as sound
 use Rattle.st_grammar.proofs.Steps as inner
 use Rattle.st_grammar.proofs.PlaceTexts.{Holds}
-use Rattle.st_reading.specs.declared.place.Lexeme.{Lexeme}
-use Rattle.st_reading.specs.Shapes.{shape, lexeme_of}
-use Rattle.st_reading.specs.Course as course
-use Rattle.st_reading.proofs.View as view
-use Rattle.st_reading.proofs.CourseView.{slot_of, slot_sort_is}
-use Rattle.st_meaning.specs.declared.action.Action.{Action}
-use Rattle.st_meaning.specs.Emission.{state_acts}
-use Rattle.st_meaning.proofs.Emission.{emits_next}
-use Rattle.st_emit.specs.Emits.{emits, kept}
-use Rattle.st_emit.proofs.Emitted.{state_marks, emits_is}
-use Rattle.st_emit.proofs.Kept.{Keeps, step_keeps}
+use Rattle.st_parse_automaton.specs.declared.place.Lexeme.{Lexeme}
+use Rattle.st_parse_automaton.specs.Shapes.{shape, lexeme_of}
+use Rattle.st_parse_automaton.specs.Course as course
+use Rattle.st_parse_automaton.proofs.View as view
+use Rattle.st_parse_automaton.proofs.CourseView.{slot_of, slot_sort_is}
+use Rattle.st_parse_builder.specs.declared.action.Action.{Action}
+use Rattle.st_parse_builder.specs.Emission.{state_acts}
+use Rattle.st_parse_builder.proofs.Emission.{emits_next}
+use Rattle.st_parse_actions.specs.Emits.{emits, kept}
+use Rattle.st_parse_actions.proofs.Emitted.{state_marks, emits_is}
+use Rattle.st_parse_actions.proofs.Kept.{Keeps, step_keeps}
 use Rattle.st_draft.specs.Work.{Work, words_after, part_work}
 use Rattle.st_draft.proofs.DraftOf.{place_draft, slot_draft, arguments_acts, args_acts, place_args, slot_args}
 

@@ -1,14 +1,14 @@
 -- What each token between parts changes of a draft.
 use Rattle.std.specs.Prelude.{List, length, Bool, true, false, if◌then◌else◌}
 use Rattle.st_grammar.specs.declared.sort.Bracket.{Bracket}
-use Rattle.st_reading.specs.declared.place.Host.{Host}
-use Rattle.st_reading.specs.declared.place.Host.TheVariants as host
-use Rattle.st_reading.specs.declared.place.Slot.{Slot}
-use Rattle.st_reading.specs.declared.place.Slot.TheVariants as slot
-use Rattle.st_reading.specs.declared.place.Marks.TheVariants as marks
-use Rattle.st_reading.specs.declared.place.Place.{Place}
-use Rattle.st_reading.specs.declared.place.Place.TheVariants as place
-use Rattle.st_reading.specs.Course as course
+use Rattle.st_parse_automaton.specs.declared.place.Host.{Host}
+use Rattle.st_parse_automaton.specs.declared.place.Host.TheVariants as host
+use Rattle.st_parse_automaton.specs.declared.place.Slot.{Slot}
+use Rattle.st_parse_automaton.specs.declared.place.Slot.TheVariants as slot
+use Rattle.st_parse_automaton.specs.declared.place.Marks.TheVariants as marks
+use Rattle.st_parse_automaton.specs.declared.place.Place.{Place}
+use Rattle.st_parse_automaton.specs.declared.place.Place.TheVariants as place
+use Rattle.st_parse_automaton.specs.Course as course
 use Rattle.st_draft.specs.declared.change.Ending.{Ending}
 use Rattle.st_draft.specs.declared.change.Ending.TheVariants as ending
 use Rattle.st_draft.specs.declared.change.Change.{Change}

@@ -4,10 +4,10 @@ use Rattle.st_num.specs.declared.span.Span.{Span}
 use Rattle.st_scan.specs.declared.token.Token.{Token}
 use Rattle.st_scan.specs.declared.token.TokenKind.{TokenKind}
 use Rattle.st_num.specs.declared.mark.Mark.TheVariants as mark
-use Rattle.st_reading.specs.declared.outline.Shape.{Shape}
-use Rattle.st_reading.specs.declared.outline.Shape.TheVariants.{Sign}
-use Rattle.st_reading.specs.declared.place.Slot.{Slot}
-use Rattle.st_reading.specs.declared.place.Slot.TheVariants as slot
+use Rattle.st_parse_automaton.specs.declared.outline.Shape.{Shape}
+use Rattle.st_parse_automaton.specs.declared.outline.Shape.TheVariants.{Sign}
+use Rattle.st_parse_automaton.specs.declared.place.Slot.{Slot}
+use Rattle.st_parse_automaton.specs.declared.place.Slot.TheVariants as slot
 use Rattle.st_el.specs.declared.expression.Exp.{Exp}
 use Rattle.st_el.specs.declared.expression.Count.{Count}
 use Rattle.st_el.specs.declared.ty.Typ.{Typ}
@@ -24,10 +24,10 @@ use Rattle.st_el.specs.declared.definition.Def.{Def}
 use Rattle.st_el.specs.declared.definition.DefNode.{DefNode}
 use Rattle.st_el.specs.declared.definition.DefNode.TheVariants as def
 use Rattle.st_el.specs.Plain.{nowhere}
-use Rattle.st_meaning.specs.declared.action.Action.{Action}
-use Rattle.st_meaning.specs.Names.{name_of}
-use Rattle.st_meaning.specs.Meaning.{mark_count}
-use Rattle.st_meaning.specs.Definitions.{piece_text, prem_at}
+use Rattle.st_parse_builder.specs.declared.action.Action.{Action}
+use Rattle.st_parse_builder.specs.Names.{name_of}
+use Rattle.st_parse_builder.specs.Meaning.{mark_count}
+use Rattle.st_parse_builder.specs.Definitions.{piece_text, prem_at}
 use Rattle.st_draft.specs.declared.draft.Head.{Head}
 use Rattle.st_draft.specs.declared.draft.Members.{Members}
 use Rattle.st_draft.specs.declared.draft.Sides.{Sides}

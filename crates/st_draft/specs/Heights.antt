@@ -3,8 +3,8 @@ use Rattle.std.specs.Prelude.{◌≤◌, ℕ, List, map, Option, Some, None}
 use Rattle.st_el.specs.declared.ty.Typ.{Typ}
 use Rattle.st_el.specs.declared.notation.Notation.{Notation}
 use Rattle.st_el.specs.declared.definition.Def.{Def}
-use Rattle.st_meaning.specs.Heights.{highest, height, typ_height, notation_height}
-use Rattle.st_meaning.specs.Definitions.{defs_meaning}
+use Rattle.st_parse_builder.specs.Heights.{highest, height, typ_height, notation_height}
+use Rattle.st_parse_builder.specs.Definitions.{defs_meaning}
 use Rattle.st_grammar.specs.Definitions.{Defs}
 use Rattle.st_measure.specs.Answers.{lone_typ}
 use Rattle.st_measure.specs.DefHeights.{prem_height, field_type_height, def_height}

@@ -2,20 +2,20 @@
 use Rattle.std.specs.Prelude.{ℕ, List, [], ◌∷◌, Option, Some, None, option_and_then, if◌then◌else◌}
 use Rattle.std.specs.Option.{option_map}
 use Rattle.st_scan.specs.declared.token.Token.{Token}
-use Rattle.st_reading.specs.declared.outline.Shape.{Shape}
-use Rattle.st_reading.specs.declared.place.Lexeme.{Lexeme}
-use Rattle.st_reading.specs.declared.place.Slot.{Slot}
-use Rattle.st_reading.specs.declared.place.Slot.TheVariants as slot
-use Rattle.st_reading.specs.Course.{opens_round}
+use Rattle.st_parse_automaton.specs.declared.outline.Shape.{Shape}
+use Rattle.st_parse_automaton.specs.declared.place.Lexeme.{Lexeme}
+use Rattle.st_parse_automaton.specs.declared.place.Slot.{Slot}
+use Rattle.st_parse_automaton.specs.declared.place.Slot.TheVariants as slot
+use Rattle.st_parse_automaton.specs.Course.{opens_round}
 use Rattle.st_el.specs.declared.expression.Exp.{Exp}
 use Rattle.st_el.specs.declared.expression.Count.{Count}
 use Rattle.st_el.specs.declared.expression.Count.TheVariants as count
-use Rattle.st_meaning.specs.declared.action.Action.{Action}
-use Rattle.st_meaning.specs.declared.piece.Piece.{Piece}
-use Rattle.st_meaning.specs.declared.piece.Piece.TheVariants.{Done}
-use Rattle.st_meaning.specs.Names.{name_of}
-use Rattle.st_meaning.specs.Building.{run}
-use Rattle.st_meaning.specs.NotationBuilding.{typ_built, notation_built}
+use Rattle.st_parse_builder.specs.declared.action.Action.{Action}
+use Rattle.st_parse_builder.specs.declared.piece.Piece.{Piece}
+use Rattle.st_parse_builder.specs.declared.piece.Piece.TheVariants.{Done}
+use Rattle.st_parse_builder.specs.Names.{name_of}
+use Rattle.st_parse_builder.specs.Building.{run}
+use Rattle.st_parse_builder.specs.NotationBuilding.{typ_built, notation_built}
 use Rattle.st_draft.specs.declared.change.Change.{Change}
 use Rattle.st_draft.specs.declared.change.Change.TheVariants as change
 use Rattle.st_draft.specs.declared.parts.Word.{Word}

@@ -4,25 +4,25 @@ use Rattle.std.specs.Option.{option_map}
 use Rattle.st_num.specs.declared.mark.Mark.{Mark}
 use Rattle.st_scan.specs.declared.token.Token.{Token}
 use Rattle.st_grammar.specs.declared.sort.Bracket.{Bracket}
-use Rattle.st_reading.specs.declared.outline.Part.{Part}
-use Rattle.st_reading.specs.declared.outline.Due.TheVariants.{Operand}
-use Rattle.st_reading.specs.declared.place.Lexeme.{Lexeme}
-use Rattle.st_reading.specs.declared.place.Place.{Place}
-use Rattle.st_reading.specs.declared.place.Place.TheVariants as place
-use Rattle.st_reading.specs.declared.place.Slot.{Slot}
-use Rattle.st_reading.specs.declared.place.Slot.TheVariants as slot
-use Rattle.st_reading.specs.Outline as out
-use Rattle.st_reading.specs.Course as course
-use Rattle.st_reading.specs.Course.{slot_sort, filled}
-use Rattle.st_reading.specs.declared.place.Progress.{Progress}
-use Rattle.st_reading.specs.Readings.{progress_of}
+use Rattle.st_parse_automaton.specs.declared.outline.Part.{Part}
+use Rattle.st_parse_automaton.specs.declared.outline.Due.TheVariants.{Operand}
+use Rattle.st_parse_automaton.specs.declared.place.Lexeme.{Lexeme}
+use Rattle.st_parse_automaton.specs.declared.place.Place.{Place}
+use Rattle.st_parse_automaton.specs.declared.place.Place.TheVariants as place
+use Rattle.st_parse_automaton.specs.declared.place.Slot.{Slot}
+use Rattle.st_parse_automaton.specs.declared.place.Slot.TheVariants as slot
+use Rattle.st_parse_automaton.specs.Outline as out
+use Rattle.st_parse_automaton.specs.Course as course
+use Rattle.st_parse_automaton.specs.Course.{slot_sort, filled}
+use Rattle.st_parse_automaton.specs.declared.place.Progress.{Progress}
+use Rattle.st_parse_automaton.specs.Readings.{progress_of}
 use Rattle.st_grammar.specs.Definitions.{Defs}
 use Rattle.st_grammar.specs.Places.{State, finish}
 use Rattle.st_el.specs.declared.definition.Def.{Def}
-use Rattle.st_meaning.specs.Definitions.{defs_meaning}
+use Rattle.st_parse_builder.specs.Definitions.{defs_meaning}
 use Rattle.st_draft.specs.Known.{before}
-use Rattle.st_meaning.specs.declared.action.Action.{Action}
-use Rattle.st_emit.specs.Emits.{emits, kept, finishing}
+use Rattle.st_parse_builder.specs.declared.action.Action.{Action}
+use Rattle.st_parse_actions.specs.Emits.{emits, kept, finishing}
 use Rattle.st_draft.specs.declared.parts.Parts.{Parts}
 use Rattle.st_draft.specs.declared.draft.Draft.{Draft}
 use Rattle.st_draft.specs.Changes.{ending_of, change_of}

@@ -18,9 +18,9 @@ use crate::premise::{
 };
 use crate::sides::{put_args, put_params};
 use crate::sketch::Sketch;
-use st_meaning::{Action, BuildFault};
 use st_num::{NoMemory, Row};
-use st_reading::{Shape, Slot};
+use st_parse_automaton::{Shape, Slot};
+use st_parse_builder::{Action, BuildFault};
 use st_scan::Token;
 use std::alloc::Global;
 

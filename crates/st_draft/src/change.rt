@@ -2,9 +2,9 @@
 
 ghost use Rattle.std.specs.Prelude.{◌≡◌, reverse};
 ghost use Rattle.st_draft.specs.Changes as spec;
-ghost use Rattle.st_reading.specs.Readings.{progress_of};
+ghost use Rattle.st_parse_automaton.specs.Readings.{progress_of};
 
-use st_reading::{Host, Marks, Place, Progress, Slot};
+use st_parse_automaton::{Host, Marks, Place, Progress, Slot};
 
 /// What of a definition ends before the next one begins.
 #[derive(Clone, Copy, Debug, PartialEq, Eq)]

@@ -1,15 +1,15 @@
 //! Names and hints of the open definition.
 
 ghost use Rattle.std.specs.Prelude.{◌≡◌, ◌++◌, OnOk, IfOk};
-ghost use Rattle.st_meaning.specs.Names.{name_of};
-ghost use Rattle.st_meaning.specs.Definitions.{piece_text};
+ghost use Rattle.st_parse_builder.specs.Names.{name_of};
+ghost use Rattle.st_parse_builder.specs.Definitions.{piece_text};
 ghost use Rattle.st_draft.specs.Drafts as spec;
 
 use crate::draft::{Draft, Head};
 use itoa::Buffer;
 use st_el::Hint;
-use st_meaning::copy_name;
 use st_num::{Mark, NoMemory, Row};
+use st_parse_builder::copy_name;
 use st_scan::{Token, TokenKind};
 use std::alloc::Global;
 

@@ -5,9 +5,9 @@ ghost use Rattle.std.specs.Option.{option_map};
 ghost use Rattle.st_el.specs.declared.expression.Exp.{Exp};
 ghost use Rattle.st_el.specs.declared.notation.Notation.{Notation};
 ghost use Rattle.st_el.specs.declared.ty.Typ.{Typ};
-ghost use Rattle.st_meaning.specs.Heights.{highest, height, typ_height};
-ghost use Rattle.st_meaning.specs.NotationBuilding.{typ_built, notation_built};
-ghost use Rattle.st_meaning.specs.Notations as notations;
+ghost use Rattle.st_parse_builder.specs.Heights.{highest, height, typ_height};
+ghost use Rattle.st_parse_builder.specs.NotationBuilding.{typ_built, notation_built};
+ghost use Rattle.st_parse_builder.specs.Notations as notations;
 ghost use Rattle.st_measure.specs.Answers.{OnlyMemory};
 ghost use Rattle.st_draft.specs.declared.draft.Draft.{Draft};
 ghost use Rattle.st_draft.specs.Drafts as drafts;
@@ -19,9 +19,9 @@ use crate::members::{put_field, put_notation};
 use crate::premise::{put_condition, put_each};
 use crate::sides::{put_exp, put_typ};
 use st_el::{Count, Exp, NotNode, Notation, Typ};
-use st_meaning::{Action, BuildFault, TokenRef, build, build_notation, build_typ, copy_name};
 use st_num::{Boxed, Mark, Name, NoMemory, Row};
-use st_reading::{Lexeme, Slot, opens_round};
+use st_parse_automaton::{Lexeme, Slot, opens_round};
+use st_parse_builder::{Action, BuildFault, TokenRef, build, build_notation, build_typ, copy_name};
 use std::alloc::Global;
 
 /// A token of a part, as the parser sees it and as it stands in the text.

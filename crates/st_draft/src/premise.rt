@@ -2,15 +2,15 @@
 
 ghost use Rattle.std.specs.Prelude.{◌≡◌, [], ◌∷◌, ◌++◌, true, None, Some, slice_get, IfOk};
 ghost use Rattle.st_el.specs.declared.definition.PremNode.TheVariants as prem;
-ghost use Rattle.st_meaning.specs.Names.{name_of};
-ghost use Rattle.st_meaning.specs.Definitions.{prem_at};
+ghost use Rattle.st_parse_builder.specs.Names.{name_of};
+ghost use Rattle.st_parse_builder.specs.Definitions.{prem_at};
 ghost use Rattle.st_draft.specs.Drafts as spec;
 
 use crate::draft::{Draft, Premises};
 use st_el::{Count, Exp, Prem, PremNode};
-use st_meaning::{copy_name, mark_count};
 use st_num::{Boxed, Mark, Name, NoMemory, Row, Span};
-use st_reading::Shape;
+use st_parse_automaton::Shape;
+use st_parse_builder::{copy_name, mark_count};
 use st_scan::Token;
 use std::alloc::Global;
 

@@ -9,9 +9,9 @@ ghost use Rattle.st_draft.specs.Parts.{word_of, redrafted, refilled};
 
 use crate::change::{Change, Ending};
 use crate::parts::Word;
-use st_meaning::{Action, BuildFault};
 use st_num::Row;
-use st_reading::{Shape, Slot};
+use st_parse_automaton::{Shape, Slot};
+use st_parse_builder::{Action, BuildFault};
 use st_scan::Token;
 use std::alloc::Global;
 

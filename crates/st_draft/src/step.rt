@@ -2,8 +2,8 @@
 
 ghost use Rattle.std.specs.Prelude.{◌≡◌, [], ◌∷◌, ◌++◌, length, map, reverse, Some, IfOk, IfErr, IfSome};
 ghost use Rattle.std.specs.Option.{option_map};
-ghost use Rattle.st_reading.specs.Course as course;
-ghost use Rattle.st_reading.specs.Readings.{progress_of, reading_of};
+ghost use Rattle.st_parse_automaton.specs.Course as course;
+ghost use Rattle.st_parse_automaton.specs.Readings.{progress_of, reading_of};
 ghost use Rattle.st_measure.specs.Answers.{OnlyMemory};
 ghost use Rattle.st_draft.specs.Drafts.{arguments_after};
 ghost use Rattle.st_draft.specs.Parts.{word_of};
@@ -14,13 +14,13 @@ ghost use Rattle.st_draft.specs.Work.{Work, Keeps, Goes};
 use crate::change::{Change, change_of};
 use crate::parts::{Parts, Word};
 use crate::sketch::Sketch;
-use st_emit::emit;
 use st_grammar::Bracket;
-use st_meaning::{Action, BuildFault, TokenRef};
 use st_num::{NoMemory, Row};
-use st_reading::{
+use st_parse_actions::emit;
+use st_parse_automaton::{
     Due, Lexeme, Place, Progress, Reading, Slot, filled, part_end, part_step, place_step, slot_sort,
 };
+use st_parse_builder::{Action, BuildFault, TokenRef};
 use st_scan::Token;
 use std::alloc::Global;
 
@@ -198,7 +198,7 @@ pub(crate) fn end_part<'a, S: Sketch<'a>>(
         → spec.filled_work slot around (reading_of reading.now) before ≡ Some after
         → S.Low after.draft → IfErr result OnlyMemory }
 {
-    st_emit::finish(reading, &mut parts.actions)?;
+    st_parse_actions::finish(reading, &mut parts.actions)?;
     let words = parts.words.as_slice();
     sketch.fill(alloc, slot, around, parts.actions.as_slice(), words)?;
     give_up(alloc, slot, parts)?;

@@ -13,25 +13,25 @@ use Rattle.st_il.specs.declared.ty.Ty.{Ty, out-Ty, roll-Ty, roll-out-Ty}
 use Rattle.st_il.specs.declared.ty.Ty.TheOpen.{Ty-F}
 use Rattle.st_il.specs.declared.ty.Ty.TheVariants as ty
 use Rattle.st_il.specs.declared.expression.IlExp.TheVariants as il
-use Rattle.st_elaboration.specs.declared.decls.Decls.{Decls}
-use Rattle.st_elaboration.specs.declared.decls.Scope.{Scope}
-use Rattle.st_elaboration.specs.declared.within.Within.{Within}
-use Rattle.st_elaboration.specs.declared.fault.ExpFault.{ExpFault}
-use Rattle.st_elaboration.specs.declared.operator.Operator.{Operator}
-use Rattle.st_elaboration.specs.declared.operator.Operator.TheVariants as operator
-use Rattle.st_elaboration.specs.Forms.{is_concatenation}
-use Rattle.st_elaboration.specs.Operators.{operator_of}
-use Rattle.st_elaboration.specs.Questions.{Answer, asks}
-use Rattle.st_elaboration.specs.Steps.{give, each_asked, exps}
-use Rattle.st_elaboration.specs.Collections.{other_row, concatenation_row, is_run, sequence}
-use Rattle.st_elaboration.specs.Records.{notation_row}
-use Rattle.st_elaboration.specs.Checked.{sequence_at, form_row, plain_row, tuple_at, checked_row}
-use Rattle.st_elaboration.specs.Elaboration.{Leads}
-use Rattle.st_elab_row.specs.declared.asking.Found.{Found}
-use Rattle.st_elab_row.specs.declared.asking.Part.{Part}
-use Rattle.st_elab_row.specs.declared.asking.Context.{Context}
-use Rattle.st_elab_row.specs.Asking.{LeadsTo}
-use Rattle.st_elab_row.proofs.Builds.{leads_then, leads_else}
+use Rattle.st_elab_table.specs.declared.decls.Decls.{Decls}
+use Rattle.st_elab_table.specs.declared.decls.Scope.{Scope}
+use Rattle.st_elab_table.specs.declared.within.Within.{Within}
+use Rattle.st_elab_table.specs.declared.fault.ExpFault.{ExpFault}
+use Rattle.st_elab_table.specs.declared.operator.Operator.{Operator}
+use Rattle.st_elab_table.specs.declared.operator.Operator.TheVariants as operator
+use Rattle.st_elab_table.specs.Forms.{is_concatenation}
+use Rattle.st_elab_table.specs.Operators.{operator_of}
+use Rattle.st_elab_table.specs.Questions.{Answer, asks}
+use Rattle.st_elab_table.specs.Steps.{give, each_asked, exps}
+use Rattle.st_elab_table.specs.Collections.{other_row, concatenation_row, is_run, sequence}
+use Rattle.st_elab_table.specs.Records.{notation_row}
+use Rattle.st_elab_table.specs.Checked.{sequence_at, form_row, plain_row, tuple_at, checked_row}
+use Rattle.st_elab_table.specs.Elaboration.{Leads}
+use Rattle.st_elab_rows.specs.declared.asking.Found.{Found}
+use Rattle.st_elab_rows.specs.declared.asking.Part.{Part}
+use Rattle.st_elab_rows.specs.declared.asking.Context.{Context}
+use Rattle.st_elab_rows.specs.Asking.{LeadsTo}
+use Rattle.st_elab_rows.proofs.Builds.{leads_then, leads_else}
 
 no_concatenation : (o : Operator) → (o ≡ operator.Concatenation → ⊥) → is_concatenation o ≡ false
 no_concatenation operator.Concatenation h = absurd (h refl)

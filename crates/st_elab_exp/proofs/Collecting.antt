@@ -15,18 +15,18 @@ use Rattle.st_types.specs.Meaning.{Means}
 use Rattle.st_notation.specs.declared.filled.Filled.{Filled}
 use Rattle.st_notation.specs.Fits.{Filling}
 use Rattle.st_notation.specs.Fitted.{plain, fillings}
-use Rattle.st_elaboration.specs.declared.decls.Decls.{Decls}
-use Rattle.st_elaboration.specs.declared.decls.Scope.{Scope}
-use Rattle.st_elaboration.specs.declared.within.Within.{Within}
-use Rattle.st_elaboration.specs.Questions.{Question, item, hole, Made, Breach, Answer, Gives, Fails, Step, Opens}
-use Rattle.st_elaboration.specs.Steps.{breach, give, pass, asked, holes, each_asked, exp_of, list_of_one}
-use Rattle.st_elaboration.specs.Collections.{element, other_row, eps_row, sequence, item_of, item_row, run_at, run_row}
-use Rattle.st_elaboration.specs.Elaboration.{Leads, Answered, by_row, ends, goes_on, stops, opens}
-use Rattle.st_elaboration.specs.declared.fault.ExpFault.{ExpFault}
-use Rattle.st_elaboration.specs.declared.fault.ExpFault.TheVariants as fault
-use Rattle.st_elab_row.specs.declared.asking.Context.{Context}
-use Rattle.st_elab_row.specs.Parts.{Breaks, AskedAs, Continues, LeadsToItem}
-use Rattle.st_elab_row.proofs.Builds.{from_place, questions_from, continues_more, continues_ends}
+use Rattle.st_elab_table.specs.declared.decls.Decls.{Decls}
+use Rattle.st_elab_table.specs.declared.decls.Scope.{Scope}
+use Rattle.st_elab_table.specs.declared.within.Within.{Within}
+use Rattle.st_elab_table.specs.Questions.{Question, item, hole, Made, Breach, Answer, Gives, Fails, Step, Opens}
+use Rattle.st_elab_table.specs.Steps.{breach, give, pass, asked, holes, each_asked, exp_of, list_of_one}
+use Rattle.st_elab_table.specs.Collections.{element, other_row, eps_row, sequence, item_of, item_row, run_at, run_row}
+use Rattle.st_elab_table.specs.Elaboration.{Leads, Answered, by_row, ends, goes_on, stops, opens}
+use Rattle.st_elab_table.specs.declared.fault.ExpFault.{ExpFault}
+use Rattle.st_elab_table.specs.declared.fault.ExpFault.TheVariants as fault
+use Rattle.st_elab_rows.specs.declared.asking.Context.{Context}
+use Rattle.st_elab_rows.specs.Parts.{Breaks, AskedAs, Continues, LeadsToItem}
+use Rattle.st_elab_rows.proofs.Builds.{from_place, questions_from, continues_more, continues_ends}
 
 other_no : (w : Within) (at : Span) (p : Bool) (e : Exp) (t u : Ty) → ((x : Ty) → u ≡ ty.List x → ⊥) → ((x : Ty) → u ≡ ty.Opt x → ⊥)
     → other_row w at p e t (out-Ty u) ≡ breach at Y1

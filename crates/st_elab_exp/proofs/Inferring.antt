@@ -16,21 +16,21 @@ use Rattle.st_el.specs.declared.expression.Seg.{Seg}
 use Rattle.st_il.specs.declared.ty.Ty.{Ty}
 use Rattle.st_il.specs.declared.ty.Ty.TheVariants as ty
 use Rattle.st_il.specs.declared.definition.FunDef.{FunDef}
-use Rattle.st_elaboration.specs.declared.decls.Decls.{Decls}
-use Rattle.st_elaboration.specs.declared.decls.Scope.{Scope}
-use Rattle.st_elaboration.specs.declared.within.Within.{Within}
-use Rattle.st_elaboration.specs.declared.fault.ExpFault.{ExpFault}
-use Rattle.st_elaboration.specs.Variables.{type_of_name}
-use Rattle.st_elaboration.specs.Forms.{inferable}
-use Rattle.st_elaboration.specs.Iterations.{is_among}
-use Rattle.st_elaboration.specs.Questions.{Answer, Fails}
-use Rattle.st_elaboration.specs.Steps.{breach}
-use Rattle.st_elaboration.specs.Inferred.{entry_of, variable_type, variable_row, call_row, inferred_at, inferred_row}
-use Rattle.st_elaboration.specs.Elaboration.{Leads, ends}
-use Rattle.st_elab_row.specs.declared.asking.Found.{Found}
-use Rattle.st_elab_row.specs.declared.asking.Context.{Context}
-use Rattle.st_elab_row.specs.Asking.{LeadsTo}
-use Rattle.st_elab_row.proofs.Builds.{leads_then, leads_else}
+use Rattle.st_elab_table.specs.declared.decls.Decls.{Decls}
+use Rattle.st_elab_table.specs.declared.decls.Scope.{Scope}
+use Rattle.st_elab_table.specs.declared.within.Within.{Within}
+use Rattle.st_elab_table.specs.declared.fault.ExpFault.{ExpFault}
+use Rattle.st_elab_table.specs.Variables.{type_of_name}
+use Rattle.st_elab_table.specs.Forms.{inferable}
+use Rattle.st_elab_table.specs.Iterations.{is_among}
+use Rattle.st_elab_table.specs.Questions.{Answer, Fails}
+use Rattle.st_elab_table.specs.Steps.{breach}
+use Rattle.st_elab_table.specs.Inferred.{entry_of, variable_type, variable_row, call_row, inferred_at, inferred_row}
+use Rattle.st_elab_table.specs.Elaboration.{Leads, ends}
+use Rattle.st_elab_rows.specs.declared.asking.Found.{Found}
+use Rattle.st_elab_rows.specs.declared.asking.Context.{Context}
+use Rattle.st_elab_rows.specs.Asking.{LeadsTo}
+use Rattle.st_elab_rows.proofs.Builds.{leads_then, leads_else}
 
 -- ---- the type of a variable
 

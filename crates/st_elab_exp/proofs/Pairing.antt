@@ -3,16 +3,16 @@ use Rattle.std.proofs.Common.{◌≡◌, refl, sym, ap, ◌∙◌, subst, List, 
 use Rattle.std.proofs.lemmas.List.{map-append}
 use Rattle.st_il.specs.declared.ty.Ty.{Ty}
 use Rattle.st_il.specs.declared.expression.IlExp.{IlExp}
-use Rattle.st_elaboration.specs.declared.decls.Decls.{Decls}
-use Rattle.st_elaboration.specs.declared.decls.Scope.{Scope}
-use Rattle.st_elaboration.specs.Questions.{Question, Made, Breach, Answer, Gives, Fails, Step, asks}
-use Rattle.st_elaboration.specs.Steps.{exp_of, ty_of, exps}
-use Rattle.st_elaboration.specs.Elaboration.{Answered, Leads}
-use Rattle.st_elab_row.specs.declared.asking.Context.{Context}
+use Rattle.st_elab_table.specs.declared.decls.Decls.{Decls}
+use Rattle.st_elab_table.specs.declared.decls.Scope.{Scope}
+use Rattle.st_elab_table.specs.Questions.{Question, Made, Breach, Answer, Gives, Fails, Step, asks}
+use Rattle.st_elab_table.specs.Steps.{exp_of, ty_of, exps}
+use Rattle.st_elab_table.specs.Elaboration.{Answered, Leads}
+use Rattle.st_elab_rows.specs.declared.asking.Context.{Context}
 use Rattle.st_elab_exp.specs.declared.inferred.FoundAll.{FoundAll}
-use Rattle.st_elab_row.specs.Parts.{Asked, Breaks, AskedAs, Continues}
+use Rattle.st_elab_rows.specs.Parts.{Asked, Breaks, AskedAs, Continues}
 use Rattle.st_elab_exp.specs.Pairs.{AreFound}
-use Rattle.st_elab_row.proofs.Builds.{all_asked, continues_begin, continues_more, continues_ends}
+use Rattle.st_elab_rows.proofs.Builds.{all_asked, continues_begin, continues_more, continues_ends}
 
 map_same : (ms : List Made) → map (λ (m : Made). m) ms ≡ ms
 map_same [] = refl

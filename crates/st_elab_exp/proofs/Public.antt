@@ -7,19 +7,19 @@ use Rattle.st_il.specs.declared.definition.Il.{Il}
 use Rattle.st_il.specs.declared.ty.Ty.{Ty}
 use Rattle.st_il.specs.declared.expression.IlExp.{IlExp}
 use Rattle.st_erase.specs.Erasure.{erased_exp}
-use Rattle.st_elaboration.specs.declared.decls.Decls.{Decls}
-use Rattle.st_elaboration.specs.declared.decls.Scope.{Scope}
-use Rattle.st_elaboration.specs.declared.fault.ExpFault.{ExpFault}
-use Rattle.st_elaboration.specs.declared.fault.ExpFault.TheVariants as fault
-use Rattle.st_elaboration.specs.declared.within.Within.{Within}
-use Rattle.st_elaboration.specs.Forms.{place}
-use Rattle.st_elaboration.specs.Questions.{Question, check, infer, Made, Breach, Gives, Fails}
-use Rattle.st_elaboration.specs.Steps.{made, asked, found}
-use Rattle.st_elaboration.specs.Elaboration.{Answered, around, Elab, ElabBreach, Infer, InferBreach}
-use Rattle.st_elaboration.proofs.Single.{Answered-single}
+use Rattle.st_elab_table.specs.declared.decls.Decls.{Decls}
+use Rattle.st_elab_table.specs.declared.decls.Scope.{Scope}
+use Rattle.st_elab_table.specs.declared.fault.ExpFault.{ExpFault}
+use Rattle.st_elab_table.specs.declared.fault.ExpFault.TheVariants as fault
+use Rattle.st_elab_table.specs.declared.within.Within.{Within}
+use Rattle.st_elab_table.specs.Forms.{place}
+use Rattle.st_elab_table.specs.Questions.{Question, check, infer, Made, Breach, Gives, Fails}
+use Rattle.st_elab_table.specs.Steps.{made, asked, found}
+use Rattle.st_elab_table.specs.Elaboration.{Answered, around, Elab, ElabBreach, Infer, InferBreach}
+use Rattle.st_elab_table.proofs.Single.{Answered-single}
 use Rattle.st_elab_law.specs.Agreement.{Agrees}
 use Rattle.st_elab_law.proofs.Table.{Elab-erases, Infer-erases}
-use Rattle.st_elab_row.specs.Told.{Told}
+use Rattle.st_elab_rows.specs.Told.{Told}
 use Rattle.st_elab_exp.specs.Exactly.{IsGiven, IsRefused}
 use Rattle.st_elab_exp.specs.Inside.{ElabInside}
 use Rattle.st_elab_exp.proofs.Typing.{of_its_type}

@@ -23,17 +23,17 @@ use Rattle.st_notation.specs.declared.filled.Filled.{Filled}
 use Rattle.st_notation.specs.Fits.{Filling, one, missing}
 use Rattle.st_notation.specs.Fitted.{plain, fillings}
 use Rattle.st_notation.specs.Key.{key_of}
-use Rattle.st_elaboration.specs.declared.decls.Decls.{Decls}
-use Rattle.st_elaboration.specs.declared.decls.Scope.{Scope}
-use Rattle.st_elaboration.specs.declared.within.Within.{Within}
-use Rattle.st_elaboration.proofs.ChoiceLemmas.{ChosenBy-single}
-use Rattle.st_elaboration.specs.Choice.{shape_of, HaveShapes, IsChosenBy, FillsCase, IsCaseOf}
-use Rattle.st_elaboration.specs.Questions.{Chosen, Answer, Fails, Step, asks}
-use Rattle.st_elaboration.specs.Steps.{give, holes, exps}
-use Rattle.st_elaboration.specs.Collections.{other_row}
-use Rattle.st_elaboration.specs.Records.{is_omissible, omitted, aligned, shaped, field_names, field_types, filled_fields, fields_of_record, record_by, record_row, case_row}
-use Rattle.st_elaboration.specs.Elaboration.{Leads, ends, opens, fills}
-use Rattle.st_elab_row.proofs.Builds.{from_place}
+use Rattle.st_elab_table.specs.declared.decls.Decls.{Decls}
+use Rattle.st_elab_table.specs.declared.decls.Scope.{Scope}
+use Rattle.st_elab_table.specs.declared.within.Within.{Within}
+use Rattle.st_elab_table.proofs.ChoiceLemmas.{ChosenBy-single}
+use Rattle.st_elab_table.specs.Choice.{shape_of, HaveShapes, IsChosenBy, FillsCase, IsCaseOf}
+use Rattle.st_elab_table.specs.Questions.{Chosen, Answer, Fails, Step, asks}
+use Rattle.st_elab_table.specs.Steps.{give, holes, exps}
+use Rattle.st_elab_table.specs.Collections.{other_row}
+use Rattle.st_elab_table.specs.Records.{is_omissible, omitted, aligned, shaped, field_names, field_types, filled_fields, fields_of_record, record_by, record_row, case_row}
+use Rattle.st_elab_table.specs.Elaboration.{Leads, ends, opens, fills}
+use Rattle.st_elab_rows.proofs.Builds.{from_place}
 
 -- ---- fields
 

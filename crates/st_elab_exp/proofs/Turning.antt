@@ -7,17 +7,17 @@ use Rattle.st_il.specs.declared.ty.Ty.{Ty, out-Ty, roll-Ty, roll-out-Ty}
 use Rattle.st_il.specs.declared.ty.Ty.TheOpen.{Ty-F}
 use Rattle.st_il.specs.declared.ty.Ty.TheVariants as ty
 use Rattle.st_il.specs.declared.expression.IlExp.{IlExp}
-use Rattle.st_elaboration.specs.declared.decls.Decls.{Decls}
-use Rattle.st_elaboration.specs.declared.decls.Scope.{Scope}
-use Rattle.st_elaboration.specs.declared.within.Within.{Within}
-use Rattle.st_elaboration.specs.Forms.{goes_over_list}
-use Rattle.st_elaboration.specs.Iterations.{inside, iterated_type, iterated_in, iterated}
-use Rattle.st_elaboration.specs.Questions.{Made, Answer, Step, Asks}
-use Rattle.st_elaboration.specs.Steps.{asked, found}
-use Rattle.st_elaboration.specs.Collections.{other_row, iteration, body_row, iteration_row}
-use Rattle.st_elaboration.specs.Inferred.{inferred_iteration}
-use Rattle.st_elaboration.specs.Elaboration.{Leads}
-use Rattle.st_elab_row.proofs.Builds.{leads_then, leads_else}
+use Rattle.st_elab_table.specs.declared.decls.Decls.{Decls}
+use Rattle.st_elab_table.specs.declared.decls.Scope.{Scope}
+use Rattle.st_elab_table.specs.declared.within.Within.{Within}
+use Rattle.st_elab_table.specs.Forms.{goes_over_list}
+use Rattle.st_elab_table.specs.Iterations.{inside, iterated_type, iterated_in, iterated}
+use Rattle.st_elab_table.specs.Questions.{Made, Answer, Step, Asks}
+use Rattle.st_elab_table.specs.Steps.{asked, found}
+use Rattle.st_elab_table.specs.Collections.{other_row, iteration, body_row, iteration_row}
+use Rattle.st_elab_table.specs.Inferred.{inferred_iteration}
+use Rattle.st_elab_table.specs.Elaboration.{Leads}
+use Rattle.st_elab_rows.proofs.Builds.{leads_then, leads_else}
 
 module _ (D : Decls) (S : Scope) where
   pub turn_list : (w : Within) (at : Span) (p : Bool) (e b : Exp) (c : Count) (t u x : Ty) (a : Answer) → u ≡ ty.List x → goes_over_list (out-Count c) ≡ true

@@ -16,19 +16,19 @@ use Rattle.st_types.specs.Meaning.{fields_of}
 use Rattle.st_notation.specs.declared.filled.Shape.{Shape}
 use Rattle.st_notation.specs.Elements.{opened}
 use Rattle.st_notation.specs.Fits.{Filling}
-use Rattle.st_elaboration.specs.declared.decls.Decls.{Decls}
-use Rattle.st_elaboration.specs.declared.decls.Scope.{Scope}
-use Rattle.st_elaboration.specs.declared.within.Within.{Within}
-use Rattle.st_elaboration.specs.Operators.{operator_of}
-use Rattle.st_elaboration.specs.Forms.{inferable, is_concatenation, goes_over_list}
-use Rattle.st_elaboration.specs.Choice.{shape_of}
-use Rattle.st_elaboration.specs.Questions.{Question, check, infer, item, hole, Made, Gives, Fails, Step, Ends, Asks, Tests, Opens, Fills, asks}
-use Rattle.st_elaboration.specs.Steps.{give, asked, holes, each_asked, exps, is_collection, lifted_to, lifted_at, fitted, joined_at, list_of_one}
-use Rattle.st_elaboration.specs.Collections.{item_of, element, other_row, eps_row, concatenation_row, counted_at, body_row, iteration_row, sequence, is_run}
-use Rattle.st_elaboration.specs.Records.{shaped, filled_fields, field_types, record_by, notation_row}
-use Rattle.st_elaboration.specs.Checked.{sequence_at, form_row, plain_row, tuple_at, checked_row}
-use Rattle.st_elaboration.specs.Elaboration.{row, Answered}
-use Rattle.st_elaboration.proofs.Keeps.{Keeps, Answered-keeps}
+use Rattle.st_elab_table.specs.declared.decls.Decls.{Decls}
+use Rattle.st_elab_table.specs.declared.decls.Scope.{Scope}
+use Rattle.st_elab_table.specs.declared.within.Within.{Within}
+use Rattle.st_elab_table.specs.Operators.{operator_of}
+use Rattle.st_elab_table.specs.Forms.{inferable, is_concatenation, goes_over_list}
+use Rattle.st_elab_table.specs.Choice.{shape_of}
+use Rattle.st_elab_table.specs.Questions.{Question, check, infer, item, hole, Made, Gives, Fails, Step, Ends, Asks, Tests, Opens, Fills, asks}
+use Rattle.st_elab_table.specs.Steps.{give, asked, holes, each_asked, exps, is_collection, lifted_to, lifted_at, fitted, joined_at, list_of_one}
+use Rattle.st_elab_table.specs.Collections.{item_of, element, other_row, eps_row, concatenation_row, counted_at, body_row, iteration_row, sequence, is_run}
+use Rattle.st_elab_table.specs.Records.{shaped, filled_fields, field_types, record_by, notation_row}
+use Rattle.st_elab_table.specs.Checked.{sequence_at, form_row, plain_row, tuple_at, checked_row}
+use Rattle.st_elab_table.specs.Elaboration.{row, Answered}
+use Rattle.st_elab_table.proofs.Keeps.{Keeps, Answered-keeps}
 
 -- what is made for a question at a type has that type
 abbrev OfType : Question → Made → Type 0

@@ -1,8 +1,8 @@
 -- What is told exactly.
 use Rattle.std.specs.Prelude.{◌≡◌, Result}
-use Rattle.st_elaboration.specs.declared.fault.ExpFault.{ExpFault}
-use Rattle.st_elaboration.specs.Questions.{Breach}
-use Rattle.st_elab_row.specs.Told.{Told}
+use Rattle.st_elab_table.specs.declared.fault.ExpFault.{ExpFault}
+use Rattle.st_elab_table.specs.Questions.{Breach}
+use Rattle.st_elab_rows.specs.Told.{Told}
 
 -- the result is this, but for want of memory
 abbrev pub IsGiven : {A : Type 0} → A → Result A ExpFault → Type 0

@@ -2,12 +2,12 @@
 use Rattle.st_el.specs.declared.expression.Exp.{Exp}
 use Rattle.st_il.specs.declared.ty.Ty.{Ty}
 use Rattle.st_il.specs.declared.expression.IlExp.{IlExp}
-use Rattle.st_elaboration.specs.declared.decls.Decls.{Decls}
-use Rattle.st_elaboration.specs.declared.decls.Scope.{Scope}
-use Rattle.st_elaboration.specs.declared.within.Within.{Within}
-use Rattle.st_elaboration.specs.Questions.{Breach, Gives, Fails}
-use Rattle.st_elaboration.specs.Steps.{made, asked}
-use Rattle.st_elaboration.specs.Elaboration.{Answered}
+use Rattle.st_elab_table.specs.declared.decls.Decls.{Decls}
+use Rattle.st_elab_table.specs.declared.decls.Scope.{Scope}
+use Rattle.st_elab_table.specs.declared.within.Within.{Within}
+use Rattle.st_elab_table.specs.Questions.{Breach, Gives, Fails}
+use Rattle.st_elab_table.specs.Steps.{made, asked}
+use Rattle.st_elab_table.specs.Elaboration.{Answered}
 
 -- An expression, inside of this, is elaborated at a type.
 abbrev pub ElabInside : Decls → Scope → Within → Exp → Ty → IlExp → Type 0

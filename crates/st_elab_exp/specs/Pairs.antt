@@ -1,12 +1,12 @@
 -- Expressions with their types, as several questions are answered.
 use Rattle.std.specs.Prelude.{◌≡◌, List, map, Result}
-use Rattle.st_elaboration.specs.declared.fault.ExpFault.{ExpFault}
-use Rattle.st_elaboration.specs.Questions.{Question, Made}
-use Rattle.st_elaboration.specs.Steps.{ty_of, exps}
-use Rattle.st_elab_row.specs.declared.asking.Context.{Context}
+use Rattle.st_elab_table.specs.declared.fault.ExpFault.{ExpFault}
+use Rattle.st_elab_table.specs.Questions.{Question, Made}
+use Rattle.st_elab_table.specs.Steps.{ty_of, exps}
+use Rattle.st_elab_rows.specs.declared.asking.Context.{Context}
 use Rattle.st_elab_exp.specs.declared.inferred.FoundAll.{FoundAll}
-use Rattle.st_elab_row.specs.Told.{Told}
-use Rattle.st_elab_row.specs.Parts.{Asked, Breaks}
+use Rattle.st_elab_rows.specs.Told.{Told}
+use Rattle.st_elab_rows.specs.Parts.{Asked, Breaks}
 
 -- these are the expressions and the types of the answers to the questions
 pub record AreFound (x : Context) (qs : List Question) (all : FoundAll) : Type 0 where

@@ -4,19 +4,19 @@ ghost use Rattle.st_el.specs.declared.expression.Node.{out-Node};
 ghost use Rattle.st_il.specs.declared.ty.Ty.{out-Ty};
 ghost use Rattle.st_types.specs.Meaning.{Means};
 ghost use Rattle.st_notation.specs.Elements.{opened};
-ghost use Rattle.st_elaboration.specs.Checked.{sequence_at, form_row, plain_row, tuple_at, checked_row};
-ghost use Rattle.st_elab_row.specs.Asking.{AnswersAll, LeadsTo};
+ghost use Rattle.st_elab_table.specs.Checked.{sequence_at, form_row, plain_row, tuple_at, checked_row};
+ghost use Rattle.st_elab_rows.specs.Asking.{AnswersAll, LeadsTo};
 
 use crate::collection::{eps_row, other_row, sequence};
 use crate::inferred::arguments;
 use crate::record_row::{notation_row, record_row};
 use crate::turn::iteration_row;
 use st_el::{Exp, Node};
-use st_elab_row::ask::{asked_at, found_at};
-use st_elab_row::asking::{Asking, Context, Found, Part};
-use st_elab_row::fitting::{concatenation_row, fitted, give_at};
-use st_elab_row::form::{inferable, is_run};
-use st_elaboration::{ExpFault, Operator, Within, operator_of};
+use st_elab_rows::ask::{asked_at, found_at};
+use st_elab_rows::asking::{Asking, Context, Found, Part};
+use st_elab_rows::fitting::{concatenation_row, fitted, give_at};
+use st_elab_rows::form::{inferable, is_run};
+use st_elab_table::{ExpFault, Operator, Within, operator_of};
 use st_il::{IlExp, Ty};
 
 /// A sequence, at a type of this meaning.

@@ -1,13 +1,13 @@
 //! The answer to a question, by its row, which asks further questions.
 
-ghost use Rattle.st_elaboration.specs.Elaboration.{row};
-ghost use Rattle.st_elab_row.specs.Told.{Tells};
-ghost use Rattle.st_elab_row.specs.Asking.{AnswersAll, LeadsTo, question, made_by};
+ghost use Rattle.st_elab_table.specs.Elaboration.{row};
+ghost use Rattle.st_elab_rows.specs.Told.{Tells};
+ghost use Rattle.st_elab_rows.specs.Asking.{AnswersAll, LeadsTo, question, made_by};
 
 use crate::checked::checked_row;
 use crate::inferred::inferred_row;
-use st_elab_row::asking::{Asking, Context, Found, Part};
-use st_elaboration::{Decls, ExpFault, Scope, Within};
+use st_elab_rows::asking::{Asking, Context, Found, Part};
+use st_elab_table::{Decls, ExpFault, Scope, Within};
 use std::alloc::Global;
 
 /// How many questions may lie inside one another.

@@ -1,18 +1,18 @@
 //! Expressions and fillings, elaborated inside of iterations.
 
 ghost use Rattle.st_notation.specs.Fitted.{fillings};
-ghost use Rattle.st_elaboration.specs.Steps.{exp_of, holes, each_asked};
-ghost use Rattle.st_elab_row.specs.Told.{Told, Tells};
-ghost use Rattle.st_elab_row.specs.Asking.{question, made_by};
-ghost use Rattle.st_elab_row.specs.Parts.{TellsAll};
+ghost use Rattle.st_elab_table.specs.Steps.{exp_of, holes, each_asked};
+ghost use Rattle.st_elab_rows.specs.Told.{Told, Tells};
+ghost use Rattle.st_elab_rows.specs.Asking.{question, made_by};
+ghost use Rattle.st_elab_rows.specs.Parts.{TellsAll};
 ghost use Rattle.st_elab_exp.specs.Inside.{ElabInside, InsideBreach};
 
 use crate::collection::all_holes;
 use crate::driver::{DEPTH, answer};
 use crate::inferred::arguments;
 use st_el::Exp;
-use st_elab_row::asking::{Asking, Context};
-use st_elaboration::{Decls, ExpFault, Scope, Within};
+use st_elab_rows::asking::{Asking, Context};
+use st_elab_table::{Decls, ExpFault, Scope, Within};
 use st_il::{IlExp, Ty};
 use st_notation::Filled;
 use st_num::{Boxed, Row, Span};

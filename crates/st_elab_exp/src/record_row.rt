@@ -2,7 +2,7 @@
 
 ghost use Rattle.std.specs.Prelude.{◌≡◌, ◌∷◌, List, ℕ, Err, IfOk, MatchOption, None};
 ghost use Rattle.st_num.specs.declared.rule.RuleId.TheVariants.{Y2};
-ghost use Rattle.st_elaboration.specs.declared.fault.ExpFault.TheVariants as fault;
+ghost use Rattle.st_elab_table.specs.declared.fault.ExpFault.TheVariants as fault;
 ghost use Rattle.std.specs.Option.{option_map};
 ghost use Rattle.st_il.specs.declared.ty.Ty.{Ty, out-Ty};
 ghost use Rattle.st_il.specs.declared.ty.Ty.TheVariants as typ;
@@ -11,16 +11,16 @@ ghost use Rattle.st_types.specs.Meaning.{Means, fields_of};
 ghost use Rattle.st_notation.specs.declared.filled.Shape.{Shape};
 ghost use Rattle.st_notation.specs.Fits.{Filling};
 ghost use Rattle.st_notation.specs.Fitted.{plain, fillings};
-ghost use Rattle.st_elaboration.specs.Records.{is_omissible, omitted, aligned, field_names, fields_of_record, record_row, case_row, notation_row};
-ghost use Rattle.st_elab_row.specs.Asking.{AnswersAll, LeadsTo};
+ghost use Rattle.st_elab_table.specs.Records.{is_omissible, omitted, aligned, field_names, fields_of_record, record_row, case_row, notation_row};
+ghost use Rattle.st_elab_rows.specs.Asking.{AnswersAll, LeadsTo};
 
 use crate::collection::{all_holes, other_row};
 use st_el::Exp;
-use st_elab_row::asking::{Asking, Context, Found, Part};
-use st_elab_row::choice::{chosen_case, fill, shapes_of};
-use st_elab_row::fitting::give_at;
-use st_elab_row::record::field_types;
-use st_elaboration::{ExpFault, Within};
+use st_elab_rows::asking::{Asking, Context, Found, Part};
+use st_elab_rows::choice::{chosen_case, fill, shapes_of};
+use st_elab_rows::fitting::give_at;
+use st_elab_rows::record::field_types;
+use st_elab_table::{ExpFault, Within};
 use st_il::{IlExp, Ty};
 use st_notation::{Filled, Shape};
 use st_num::{Name, NoMemory, Row, RuleId, Span};

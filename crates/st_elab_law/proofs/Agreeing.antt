@@ -18,8 +18,8 @@ use Rattle.st_types.specs.declared.entry.CaseDef.{CaseDef}
 use Rattle.st_types.specs.Meaning.{body_of, named_at, named, aliased, listed, recorded, alias_of, alternatives_of, fields_of, Means, itself, alias}
 use Rattle.st_types.specs.Cases.{or_none, Brings, own, included, Flatten, none, more, HasCases}
 use Rattle.st_erase.specs.Records.{next_name, on_by, fields_by, body_of as written_of, fields_of as names_of}
-use Rattle.st_elaboration.specs.declared.decls.Decls.{Decls}
-use Rattle.st_elaboration.specs.Records.{field_names}
+use Rattle.st_elab_table.specs.declared.decls.Decls.{Decls}
+use Rattle.st_elab_table.specs.Records.{field_names}
 use Rattle.st_elab_law.specs.Agreement.{syntaxes, HasItsOperands, HoldsOperands, HoldsAll, AreWhole, IsTableOf}
 
 -- ---- at most as many different names as there are names

@@ -26,12 +26,12 @@ use Rattle.st_erase.specs.Filling.{filled}
 use Rattle.st_erase.specs.Tags.{template_of, IsOf}
 use Rattle.st_erase.specs.Erasure.{case_by, erased}
 use Rattle.st_erase.proofs.TagLemmas.{is_template}
-use Rattle.st_elaboration.specs.declared.decls.Decls.{Decls}
-use Rattle.st_elaboration.specs.declared.within.Within.{Within}
-use Rattle.st_elaboration.specs.Choice.{shape_at, HasShape, HaveShapes, IsFirstWith, here, later, IsChosenBy, keyed, keyless, IsCaseOf}
-use Rattle.st_elaboration.specs.Questions.{Made, Chosen}
-use Rattle.st_elaboration.specs.Steps.{give, holes, exps}
-use Rattle.st_elaboration.specs.Records.{notation_row}
+use Rattle.st_elab_table.specs.declared.decls.Decls.{Decls}
+use Rattle.st_elab_table.specs.declared.within.Within.{Within}
+use Rattle.st_elab_table.specs.Choice.{shape_at, HasShape, HaveShapes, IsFirstWith, here, later, IsChosenBy, keyed, keyless, IsCaseOf}
+use Rattle.st_elab_table.specs.Questions.{Made, Chosen}
+use Rattle.st_elab_table.specs.Steps.{give, holes, exps}
+use Rattle.st_elab_table.specs.Records.{notation_row}
 use Rattle.st_elab_law.proofs.Claims.{IsWritten, IsNoList, IsFilledBy, Claim, Claims}
 use Rattle.st_elab_law.specs.Agreement.{HasItsOperands, AreWhole}
 use Rattle.st_elab_law.proofs.Agreeing.{knows_holes}

@@ -12,8 +12,8 @@ use Rattle.st_erase.specs.declared.erased.Kind.{Kind}
 use Rattle.st_erase.specs.declared.erased.Kind.TheVariants as kind
 use Rattle.st_erase.specs.Places.{run as run_of}
 use Rattle.st_erase.specs.Erasure.{erased}
-use Rattle.st_elaboration.specs.declared.decls.Decls.{Decls}
-use Rattle.st_elaboration.specs.Questions.{Question, check, infer, item, hole, Made}
+use Rattle.st_elab_table.specs.declared.decls.Decls.{Decls}
+use Rattle.st_elab_table.specs.Questions.{Question, check, infer, item, hole, Made}
 
 -- ---- kinds
 

@@ -14,11 +14,11 @@ use Rattle.st_il.specs.declared.expression.IlExp.{IlExp}
 use Rattle.st_il.specs.declared.expression.IlExp.TheVariants as il
 use Rattle.st_types.specs.Meaning.{fields_of}
 use Rattle.st_erase.specs.Erasure.{erased, binary}
-use Rattle.st_elaboration.specs.declared.decls.Decls.{Decls}
-use Rattle.st_elaboration.specs.Questions.{Question, Made, Step, asks}
-use Rattle.st_elaboration.specs.Steps.{list_at, as_list, number_at, as_number, larger, raised, injected, joined_at, as_joined}
-use Rattle.st_elaboration.specs.Paths.{declared_field, field_by, as_field}
-use Rattle.st_elaboration.proofs.Keeps.{Keeps}
+use Rattle.st_elab_table.specs.declared.decls.Decls.{Decls}
+use Rattle.st_elab_table.specs.Questions.{Question, Made, Step, asks}
+use Rattle.st_elab_table.specs.Steps.{list_at, as_list, number_at, as_number, larger, raised, injected, joined_at, as_joined}
+use Rattle.st_elab_table.specs.Paths.{declared_field, field_by, as_field}
+use Rattle.st_elab_table.proofs.Keeps.{Keeps}
 use Rattle.st_elab_law.proofs.Claims.{IsWritten, Claim, Claims}
 use Rattle.st_elab_law.proofs.Erasings.{erased-Up, erased-Cat, erased-Join}
 

@@ -27,17 +27,17 @@ use Rattle.st_erase.specs.declared.erased.Erased.{Erased}
 use Rattle.st_erase.specs.declared.erased.Kind.TheVariants as kind
 use Rattle.st_erase.specs.Places.{exp, whole, count, parts_at, run as run_of}
 use Rattle.st_erase.specs.Erasure.{source, lifted, erased, erased_item, erased_iteration}
-use Rattle.st_elaboration.specs.declared.decls.Decls.{Decls}
-use Rattle.st_elaboration.specs.declared.decls.Scope.{Scope}
-use Rattle.st_elaboration.specs.declared.within.Within.{Within}
-use Rattle.st_elaboration.specs.declared.operator.Operator.TheVariants as operator
-use Rattle.st_elaboration.specs.Operators.{operator_of}
-use Rattle.st_elaboration.specs.Forms.{place, is_spliced, is_told_by_type, goes_over_list}
-use Rattle.st_elaboration.specs.Questions.{item, Made, Step, Asks}
-use Rattle.st_elaboration.specs.Steps.{made, give, asked, is_collection, list_of_one, lifted_to, lifted_at, fitted}
-use Rattle.st_elaboration.specs.Iterations.{iterated}
-use Rattle.st_elaboration.specs.Collections as table
-use Rattle.st_elaboration.proofs.Keeps.{Keeps}
+use Rattle.st_elab_table.specs.declared.decls.Decls.{Decls}
+use Rattle.st_elab_table.specs.declared.decls.Scope.{Scope}
+use Rattle.st_elab_table.specs.declared.within.Within.{Within}
+use Rattle.st_elab_table.specs.declared.operator.Operator.TheVariants as operator
+use Rattle.st_elab_table.specs.Operators.{operator_of}
+use Rattle.st_elab_table.specs.Forms.{place, is_spliced, is_told_by_type, goes_over_list}
+use Rattle.st_elab_table.specs.Questions.{item, Made, Step, Asks}
+use Rattle.st_elab_table.specs.Steps.{made, give, asked, is_collection, list_of_one, lifted_to, lifted_at, fitted}
+use Rattle.st_elab_table.specs.Iterations.{iterated}
+use Rattle.st_elab_table.specs.Collections as table
+use Rattle.st_elab_table.proofs.Keeps.{Keeps}
 use Rattle.st_elab_law.proofs.Claims.{IsPresent, IsSource, IsWritten, IsAlone, IsNoList, IsFilledBy, Claim, Claims}
 use Rattle.st_elab_law.proofs.Plainness.{opened-exp, plain-count, count-is}
 use Rattle.st_elab_law.proofs.Erasings.{erased-List, erased-Empty, erased-Present, erased-Absent, erased-Up, erased-Iter, item-One, item-All, iteration-Star, iteration-Plus, iteration-Quest, iteration-Times, iteration-Below}

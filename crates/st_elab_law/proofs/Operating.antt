@@ -14,15 +14,15 @@ use Rattle.st_il.specs.declared.expression.IlExp.{IlExp}
 use Rattle.st_il.specs.declared.expression.IlExp.TheVariants as il
 use Rattle.st_notation.specs.Elements.{opened}
 use Rattle.st_erase.specs.Erasure.{erased, binary, operation}
-use Rattle.st_elaboration.specs.declared.decls.Decls.{Decls}
-use Rattle.st_elaboration.specs.declared.within.Within.{Within}
-use Rattle.st_elaboration.specs.declared.operator.Operator.{Operator}
-use Rattle.st_elaboration.specs.declared.operator.Operator.TheVariants as operator
-use Rattle.st_elaboration.specs.Operators.{operator_of, connected, equated, ordered, reckoned}
-use Rattle.st_elaboration.specs.Forms.{place, inferable}
-use Rattle.st_elaboration.specs.Questions.{Made, Step, Asks}
-use Rattle.st_elaboration.specs.Steps.{breach, give, asked, raised, injected, wider, number_type, as_joined}
-use Rattle.st_elaboration.specs.Operands.{logic_row, numeric, compared, equation_row, membership_row, both_numeric, order_row, arithmetic_row, power_row, negation_row, concatenated, binary_row}
+use Rattle.st_elab_table.specs.declared.decls.Decls.{Decls}
+use Rattle.st_elab_table.specs.declared.within.Within.{Within}
+use Rattle.st_elab_table.specs.declared.operator.Operator.{Operator}
+use Rattle.st_elab_table.specs.declared.operator.Operator.TheVariants as operator
+use Rattle.st_elab_table.specs.Operators.{operator_of, connected, equated, ordered, reckoned}
+use Rattle.st_elab_table.specs.Forms.{place, inferable}
+use Rattle.st_elab_table.specs.Questions.{Made, Step, Asks}
+use Rattle.st_elab_table.specs.Steps.{breach, give, asked, raised, injected, wider, number_type, as_joined}
+use Rattle.st_elab_table.specs.Operands.{logic_row, numeric, compared, equation_row, membership_row, both_numeric, order_row, arithmetic_row, power_row, negation_row, concatenated, binary_row}
 use Rattle.st_elab_law.proofs.Claims.{IsSource, IsWritten, Claim}
 use Rattle.st_elab_law.proofs.Erasings.{erased-And, erased-Or, erased-Imp, erased-Iff, erased-Neg, erased-Add, erased-Sub, erased-Mul, erased-Div, erased-Rem, erased-Pow, erased-Eq, erased-Ne, erased-Lt, erased-Gt, erased-Le, erased-Ge, erased-Member}
 use Rattle.st_elab_law.proofs.Writing.{source_as, binary_written, operation_written, negation_written}

@@ -26,14 +26,14 @@ use Rattle.st_erase.specs.declared.erased.Kind.TheVariants as kind
 use Rattle.st_erase.specs.Places.{exp, whole}
 use Rattle.st_erase.specs.Records.{fields_of as names_of}
 use Rattle.st_erase.specs.Erasure.{written, fields, erased}
-use Rattle.st_elaboration.specs.declared.decls.Decls.{Decls}
-use Rattle.st_elaboration.specs.declared.within.Within.{Within}
-use Rattle.st_elaboration.specs.Choice.{shape_of}
-use Rattle.st_elaboration.specs.Inferred.{fun_named, call_row, inferred_tuple}
-use Rattle.st_elaboration.specs.Questions.{Made, Step}
-use Rattle.st_elaboration.specs.Steps.{give, found, each_asked, holes, ty_of, exps}
-use Rattle.st_elaboration.specs.Records.{is_omissible, omitted, aligned, shaped, field_names, field_types, filled_fields, record_by, record_row}
-use Rattle.st_elaboration.proofs.Keeps.{Keeps}
+use Rattle.st_elab_table.specs.declared.decls.Decls.{Decls}
+use Rattle.st_elab_table.specs.declared.within.Within.{Within}
+use Rattle.st_elab_table.specs.Choice.{shape_of}
+use Rattle.st_elab_table.specs.Inferred.{fun_named, call_row, inferred_tuple}
+use Rattle.st_elab_table.specs.Questions.{Made, Step}
+use Rattle.st_elab_table.specs.Steps.{give, found, each_asked, holes, ty_of, exps}
+use Rattle.st_elab_table.specs.Records.{is_omissible, omitted, aligned, shaped, field_names, field_types, filled_fields, record_by, record_row}
+use Rattle.st_elab_table.proofs.Keeps.{Keeps}
 use Rattle.st_elab_law.proofs.Claims.{IsPresent, IsWritten, Claim, Claims}
 use Rattle.st_elab_law.specs.Agreement.{IsTableOf}
 use Rattle.st_elab_law.proofs.Agreeing.{knows_fields}

@@ -19,21 +19,21 @@ use Rattle.st_types.specs.Meaning.{Means}
 use Rattle.st_notation.specs.Elements.{opened}
 use Rattle.st_erase.specs.Places.{exp, whole}
 use Rattle.st_erase.specs.Erasure.{erased}
-use Rattle.st_elaboration.specs.declared.decls.Decls.{Decls}
-use Rattle.st_elaboration.specs.declared.decls.Scope.{Scope}
-use Rattle.st_elaboration.specs.declared.within.Within.{Within}
-use Rattle.st_elaboration.specs.declared.operator.Operator.{Operator}
-use Rattle.st_elaboration.specs.declared.operator.Operator.TheVariants as operator
-use Rattle.st_elaboration.specs.Operators.{operator_of}
-use Rattle.st_elaboration.specs.Forms.{inferable, is_concatenation}
-use Rattle.st_elaboration.specs.Iterations.{iterated_type}
-use Rattle.st_elaboration.specs.Inferred.{variable_type, variable_row, inferred_at}
-use Rattle.st_elaboration.specs.Checked.{sequence_at, form_row, plain_row, tuple_at, checked_row}
-use Rattle.st_elaboration.specs.Collections.{is_run}
-use Rattle.st_elaboration.specs.Questions.{Question, check, infer, item, hole, Gives}
-use Rattle.st_elaboration.specs.Steps.{made, give, asked, found, each_asked, exps}
-use Rattle.st_elaboration.specs.Elaboration.{row, around, Elab, Infer}
-use Rattle.st_elaboration.proofs.Keeps.{Keeps, Answered-keeps}
+use Rattle.st_elab_table.specs.declared.decls.Decls.{Decls}
+use Rattle.st_elab_table.specs.declared.decls.Scope.{Scope}
+use Rattle.st_elab_table.specs.declared.within.Within.{Within}
+use Rattle.st_elab_table.specs.declared.operator.Operator.{Operator}
+use Rattle.st_elab_table.specs.declared.operator.Operator.TheVariants as operator
+use Rattle.st_elab_table.specs.Operators.{operator_of}
+use Rattle.st_elab_table.specs.Forms.{inferable, is_concatenation}
+use Rattle.st_elab_table.specs.Iterations.{iterated_type}
+use Rattle.st_elab_table.specs.Inferred.{variable_type, variable_row, inferred_at}
+use Rattle.st_elab_table.specs.Checked.{sequence_at, form_row, plain_row, tuple_at, checked_row}
+use Rattle.st_elab_table.specs.Collections.{is_run}
+use Rattle.st_elab_table.specs.Questions.{Question, check, infer, item, hole, Gives}
+use Rattle.st_elab_table.specs.Steps.{made, give, asked, found, each_asked, exps}
+use Rattle.st_elab_table.specs.Elaboration.{row, around, Elab, Infer}
+use Rattle.st_elab_table.proofs.Keeps.{Keeps, Answered-keeps}
 use Rattle.st_elab_law.proofs.Claims.{IsWritten, IsAlone, Claim}
 use Rattle.st_elab_law.specs.Agreement.{IsTableOf, AreWhole}
 use Rattle.st_elab_law.proofs.Plainness.{plain-Paren, plain-Arith}

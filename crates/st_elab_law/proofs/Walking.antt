@@ -18,13 +18,13 @@ use Rattle.st_il.specs.declared.expression.PathSeg.TheVariants as step
 use Rattle.st_notation.specs.Elements.{opened}
 use Rattle.st_erase.specs.Places.{exp, whole}
 use Rattle.st_erase.specs.Erasure.{erased, erased_segment}
-use Rattle.st_elaboration.specs.declared.decls.Decls.{Decls}
-use Rattle.st_elaboration.specs.declared.within.Within.{Within}
-use Rattle.st_elaboration.specs.Forms.{place}
-use Rattle.st_elaboration.specs.Questions.{Made, Step, Asks}
-use Rattle.st_elaboration.specs.Steps.{give, asked, as_list}
-use Rattle.st_elaboration.specs.Paths.{length_row, position_row, slice_row, field_row, step_row, along, update_row, extension_row}
-use Rattle.st_elaboration.proofs.Keeps.{Keeps}
+use Rattle.st_elab_table.specs.declared.decls.Decls.{Decls}
+use Rattle.st_elab_table.specs.declared.within.Within.{Within}
+use Rattle.st_elab_table.specs.Forms.{place}
+use Rattle.st_elab_table.specs.Questions.{Made, Step, Asks}
+use Rattle.st_elab_table.specs.Steps.{give, asked, as_list}
+use Rattle.st_elab_table.specs.Paths.{length_row, position_row, slice_row, field_row, step_row, along, update_row, extension_row}
+use Rattle.st_elab_table.proofs.Keeps.{Keeps}
 use Rattle.st_elab_law.proofs.Claims.{Claim}
 use Rattle.st_elab_law.proofs.Plainness.{seg-is}
 use Rattle.st_elab_law.proofs.Erasings.{erased-Len, erased-At, erased-Slice, erased-Dot, erased-Set, erased-Extend, segment-Field, segment-At, segment-Slice}

@@ -18,7 +18,7 @@ use Rattle.st_erase.specs.declared.erased.Kind.{Kind}
 use Rattle.st_erase.specs.declared.erased.Kind.TheVariants as kind
 use Rattle.st_erase.specs.Places.{exp, whole, run_by, run as run_of}
 use Rattle.st_erase.specs.Erasure.{plain_form, arithmetic, binary, operation, lifted, list_of, erased}
-use Rattle.st_elaboration.specs.Steps.{list_of_one}
+use Rattle.st_elab_table.specs.Steps.{list_of_one}
 use Rattle.st_elab_law.proofs.Claims.{IsPresent, IsSingle, IsSource, IsWritten}
 use Rattle.st_elab_law.proofs.Plainness.{plain_of, exp-opens, node-is, plain-in_arithmetic, plain-whole, plain-lifted}
 use Rattle.st_elab_law.proofs.Erasings.{erased-List, item-One}

@@ -13,7 +13,7 @@ use Rattle.st_il.specs.declared.template.Template.{Template}
 use Rattle.st_il.specs.Template.{HasTag}
 use Rattle.st_types.specs.declared.entry.CaseDef.{CaseDef}
 use Rattle.st_notation.specs.Fits.{holes}
-use Rattle.st_elaboration.specs.declared.decls.Decls.{Decls}
+use Rattle.st_elab_table.specs.declared.decls.Decls.{Decls}
 
 -- ---- the table of types
 

@@ -6,9 +6,9 @@ use Rattle.st_il.specs.declared.definition.Il.{Il}
 use Rattle.st_il.specs.declared.ty.Ty.{Ty}
 use Rattle.st_il.specs.declared.expression.IlExp.{IlExp}
 use Rattle.st_erase.specs.Erasure.{erased_exp}
-use Rattle.st_elaboration.specs.declared.decls.Decls.{Decls}
-use Rattle.st_elaboration.specs.declared.decls.Scope.{Scope}
-use Rattle.st_elaboration.specs.Elaboration.{Elab, Infer}
+use Rattle.st_elab_table.specs.declared.decls.Decls.{Decls}
+use Rattle.st_elab_table.specs.declared.decls.Scope.{Scope}
+use Rattle.st_elab_table.specs.Elaboration.{Elab, Infer}
 use Rattle.st_elab_law.specs.Agreement.{Agrees}
 
 -- Where declarations agree with definitions, what is elaborated at a type is erased to the

@@ -1,6 +1,6 @@
 //! The law of erasure: what is elaborated is erased to the expression that it came from.
 //!
-//! No code stands here that runs. The one idea: the table of `st_elaboration` is read row by row,
+//! No code stands here that runs. The one idea: the table of `st_elab_table` is read row by row,
 //! and each row keeps what is claimed of the question that it answers.
 //!
 //! Read `specs/Law.antt` first, with `specs/Agreement.antt` for what it asks of the definitions,

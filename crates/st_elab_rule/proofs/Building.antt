@@ -10,12 +10,12 @@ use Rattle.st_el.specs.declared.definition.PremNode.TheOpen.{PremNode-F}
 use Rattle.st_il.specs.declared.expression.IlPrem.{IlPrem}
 use Rattle.st_dims.specs.Dimensions.{Table}
 use Rattle.st_dims.proofs.Lists.{next_taken, all_taken, cut}
-use Rattle.st_elaboration.specs.declared.decls.Decls.{Decls}
-use Rattle.st_elaboration.specs.declared.decls.Scope.{Scope}
-use Rattle.st_elaboration.specs.declared.within.Within.{Within}
-use Rattle.st_elaboration.specs.Questions.{Breach}
-use Rattle.st_elaboration.specs.Iterations.{Variable}
-use Rattle.st_elaboration.specs.Iterations.{inside}
+use Rattle.st_elab_table.specs.declared.decls.Decls.{Decls}
+use Rattle.st_elab_table.specs.declared.decls.Scope.{Scope}
+use Rattle.st_elab_table.specs.declared.within.Within.{Within}
+use Rattle.st_elab_table.specs.Questions.{Breach}
+use Rattle.st_elab_table.specs.Iterations.{Variable}
+use Rattle.st_elab_table.specs.Iterations.{inside}
 use Rattle.st_elab_rule.specs.Premises.{node_of, ElabPrem, PremBreach, in_premise, ElabPrems, PremsBreach}
 use Rattle.st_elab_rule.specs.Variables.{table_of, HasItsType}
 

@@ -11,12 +11,12 @@ use Rattle.st_il.specs.declared.definition.RelationDef.{RelationDef}
 use Rattle.st_il.specs.declared.definition.RuleDef.{RuleDef}
 use Rattle.st_il.specs.declared.definition.ClauseDef.{ClauseDef}
 use Rattle.st_dims.specs.Mentions.{mentions_in}
-use Rattle.st_elaboration.specs.declared.decls.Decls.{Decls}
-use Rattle.st_elaboration.specs.declared.decls.Scope.{Scope}
-use Rattle.st_elaboration.specs.Questions.{Breach}
-use Rattle.st_elaboration.specs.Steps.{exp_of}
-use Rattle.st_elaboration.specs.Elaboration.{around}
-use Rattle.st_elab_row.specs.Parts.{AskedAs, Breaks}
+use Rattle.st_elab_table.specs.declared.decls.Decls.{Decls}
+use Rattle.st_elab_table.specs.declared.decls.Scope.{Scope}
+use Rattle.st_elab_table.specs.Questions.{Breach}
+use Rattle.st_elab_table.specs.Steps.{exp_of}
+use Rattle.st_elab_table.specs.Elaboration.{around}
+use Rattle.st_elab_rows.specs.Parts.{AskedAs, Breaks}
 use Rattle.st_elab_exp.specs.Inside.{ElabInside, InsideBreach}
 use Rattle.st_elab_rule.specs.Single.{HasOneOutcome}
 use Rattle.st_elab_rule.specs.Judgements.{broken, Judged, JudgedBreach}

@@ -10,15 +10,15 @@ use Rattle.st_types.specs.declared.entry.CaseDef.{CaseDef}
 use Rattle.st_notation.specs.declared.filled.Filled.{Filled}
 use Rattle.st_notation.specs.Fits.{Filling}
 use Rattle.st_notation.specs.Fitted.{fillings}
-use Rattle.st_elaboration.specs.declared.decls.Decls.{Decls}
-use Rattle.st_elaboration.specs.declared.decls.Scope.{Scope}
-use Rattle.st_elaboration.specs.declared.fault.ExpFault.{ExpFault}
-use Rattle.st_elaboration.specs.declared.within.Within.{Within}
-use Rattle.st_elaboration.specs.Forms.{place}
-use Rattle.st_elaboration.specs.Steps.{exp_of, holes}
-use Rattle.st_elaboration.specs.Choice.{FillsCase}
-use Rattle.st_elab_row.specs.Told.{Told}
-use Rattle.st_elab_row.specs.Parts.{AskedAs, Breaks, TellsAll}
+use Rattle.st_elab_table.specs.declared.decls.Decls.{Decls}
+use Rattle.st_elab_table.specs.declared.decls.Scope.{Scope}
+use Rattle.st_elab_table.specs.declared.fault.ExpFault.{ExpFault}
+use Rattle.st_elab_table.specs.declared.within.Within.{Within}
+use Rattle.st_elab_table.specs.Forms.{place}
+use Rattle.st_elab_table.specs.Steps.{exp_of, holes}
+use Rattle.st_elab_table.specs.Choice.{FillsCase}
+use Rattle.st_elab_rows.specs.Told.{Told}
+use Rattle.st_elab_rows.specs.Parts.{AskedAs, Breaks, TellsAll}
 use Rattle.st_elab_rule.specs.Judgements.{broken, relation_named, case_of, judgement_questions, Judged, JudgedBreach, unfit, filling}
 use Rattle.st_elab_rule.proofs.Outcomes.{told_by}
 

@@ -9,8 +9,8 @@ use Rattle.st_dims.specs.declared.mention.Mention.{Mention}
 use Rattle.st_dims.specs.Names.{same_name}
 use Rattle.st_dims.specs.Mentions.{occurrences_in}
 use Rattle.st_dims.specs.Dimensions.{Table, chains_of, dimension_in, IsFirstShortest, IsOnlyTable}
-use Rattle.st_elaboration.specs.declared.decls.Decls.{Decls}
-use Rattle.st_elaboration.specs.Variables.{type_of_name}
+use Rattle.st_elab_table.specs.declared.decls.Decls.{Decls}
+use Rattle.st_elab_table.specs.Variables.{type_of_name}
 use Rattle.st_elab_rule.specs.Variables.{is_none, is_untyped, untyped, AreTyped}
 
 abbrev Untyped : Decls → List ℕ → Type 0

@@ -3,17 +3,17 @@ use Rattle.std.proofs.Common.{◌≡◌, refl, sym, ap, ◌∙◌, subst, List, 
 use Rattle.std.specs.Prelude.{Result, Ok, Err, ◌⊎◌}
 use Rattle.st_el.specs.declared.expression.Exp.{Exp}
 use Rattle.st_il.specs.declared.ty.Ty.{Ty}
-use Rattle.st_elaboration.specs.declared.decls.Decls.{Decls}
-use Rattle.st_elaboration.specs.declared.decls.Scope.{Scope}
-use Rattle.st_elaboration.specs.declared.fault.ExpFault.{ExpFault}
-use Rattle.st_elaboration.specs.declared.fault.ExpFault.TheVariants as fault
-use Rattle.st_elaboration.specs.declared.within.Within.{Within}
-use Rattle.st_elaboration.specs.Questions.{Question, Made, Breach, Gives, Fails}
-use Rattle.st_elaboration.specs.Steps.{made, asked, exp_of}
-use Rattle.st_elaboration.specs.Elaboration.{Answered}
-use Rattle.st_elaboration.proofs.Single.{Answered-single}
-use Rattle.st_elab_row.specs.Told.{Told}
-use Rattle.st_elab_row.specs.Parts.{Asked, Breaks, AskedAs}
+use Rattle.st_elab_table.specs.declared.decls.Decls.{Decls}
+use Rattle.st_elab_table.specs.declared.decls.Scope.{Scope}
+use Rattle.st_elab_table.specs.declared.fault.ExpFault.{ExpFault}
+use Rattle.st_elab_table.specs.declared.fault.ExpFault.TheVariants as fault
+use Rattle.st_elab_table.specs.declared.within.Within.{Within}
+use Rattle.st_elab_table.specs.Questions.{Question, Made, Breach, Gives, Fails}
+use Rattle.st_elab_table.specs.Steps.{made, asked, exp_of}
+use Rattle.st_elab_table.specs.Elaboration.{Answered}
+use Rattle.st_elab_table.proofs.Single.{Answered-single}
+use Rattle.st_elab_rows.specs.Told.{Told}
+use Rattle.st_elab_rows.specs.Parts.{Asked, Breaks, AskedAs}
 use Rattle.st_elab_exp.specs.Exactly.{IsGiven, IsRefused}
 use Rattle.st_elab_exp.specs.Inside.{ElabInside, InsideBreach}
 use Rattle.st_elab_rule.specs.Single.{HasOneOutcome}

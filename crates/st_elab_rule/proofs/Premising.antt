@@ -17,16 +17,16 @@ use Rattle.st_il.specs.declared.expression.Iteration.{Iteration}
 use Rattle.st_il.specs.declared.expression.Iteration.TheVariants as times
 use Rattle.st_il.specs.declared.definition.RelationDef.{RelationDef}
 use Rattle.st_notation.specs.Fits.{Filling}
-use Rattle.st_elaboration.specs.declared.decls.Decls.{Decls}
-use Rattle.st_elaboration.specs.declared.decls.Scope.{Scope}
-use Rattle.st_elaboration.specs.declared.within.Within.{Within}
-use Rattle.st_elaboration.specs.Forms.{place}
-use Rattle.st_elaboration.specs.Iterations.{inside}
-use Rattle.st_elaboration.specs.Questions.{Breach}
-use Rattle.st_elaboration.specs.Steps.{exp_of}
-use Rattle.st_elaboration.specs.Choice.{FillsCase}
-use Rattle.st_elaboration.proofs.ChoiceLemmas.{FillsCase-single}
-use Rattle.st_elab_row.specs.Parts.{AskedAs, Breaks}
+use Rattle.st_elab_table.specs.declared.decls.Decls.{Decls}
+use Rattle.st_elab_table.specs.declared.decls.Scope.{Scope}
+use Rattle.st_elab_table.specs.declared.within.Within.{Within}
+use Rattle.st_elab_table.specs.Forms.{place}
+use Rattle.st_elab_table.specs.Iterations.{inside}
+use Rattle.st_elab_table.specs.Questions.{Breach}
+use Rattle.st_elab_table.specs.Steps.{exp_of}
+use Rattle.st_elab_table.specs.Choice.{FillsCase}
+use Rattle.st_elab_table.proofs.ChoiceLemmas.{FillsCase-single}
+use Rattle.st_elab_rows.specs.Parts.{AskedAs, Breaks}
 use Rattle.st_elab_exp.specs.Inside.{ElabInside, InsideBreach}
 use Rattle.st_elab_rule.specs.Single.{HasOneOutcome}
 use Rattle.st_elab_rule.specs.Iterated.{ElabCount, CountBreach, prem_iterated}

@@ -8,11 +8,11 @@ use Rattle.st_il.specs.declared.ty.Ty.{Ty}
 use Rattle.st_dims.specs.declared.mention.Mention.{Mention}
 use Rattle.st_dims.specs.Dimensions.{Table, IsOnlyTable}
 use Rattle.st_dims.specs.Breaches.{IsFirst, misplaced_in, idle}
-use Rattle.st_elaboration.specs.declared.decls.Decls.{Decls}
-use Rattle.st_elaboration.specs.declared.decls.Scope.{Scope}
-use Rattle.st_elaboration.specs.Questions.{Breach}
-use Rattle.st_elaboration.specs.Iterations.{Variable}
-use Rattle.st_elaboration.specs.Variables.{type_of_name}
+use Rattle.st_elab_table.specs.declared.decls.Decls.{Decls}
+use Rattle.st_elab_table.specs.declared.decls.Scope.{Scope}
+use Rattle.st_elab_table.specs.Questions.{Breach}
+use Rattle.st_elab_table.specs.Iterations.{Variable}
+use Rattle.st_elab_table.specs.Variables.{type_of_name}
 use Rattle.st_elab_rule.specs.Single.{HasOneOutcome}
 use Rattle.st_elab_rule.specs.Judgements.{broken}
 use Rattle.st_elab_rule.specs.Variables.{untyped, table_of, HasItsType, IsScope, VariableBreach, no_type, misplaced, idle as idle_breach}

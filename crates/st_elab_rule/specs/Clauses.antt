@@ -9,12 +9,12 @@ use Rattle.st_il.specs.declared.definition.FunDef.{FunDef}
 use Rattle.st_il.specs.declared.definition.ClauseDef.{ClauseDef}
 use Rattle.st_dims.specs.declared.mention.Mention.{Mention}
 use Rattle.st_dims.specs.Mentions.{mentions_in}
-use Rattle.st_elaboration.specs.declared.decls.Decls.{Decls}
-use Rattle.st_elaboration.specs.declared.decls.Scope.{Scope}
-use Rattle.st_elaboration.specs.Questions.{Question, Breach}
-use Rattle.st_elaboration.specs.Steps.{each_asked, exp_of}
-use Rattle.st_elaboration.specs.Elaboration.{around}
-use Rattle.st_elab_row.specs.Parts.{AskedAs, Breaks}
+use Rattle.st_elab_table.specs.declared.decls.Decls.{Decls}
+use Rattle.st_elab_table.specs.declared.decls.Scope.{Scope}
+use Rattle.st_elab_table.specs.Questions.{Question, Breach}
+use Rattle.st_elab_table.specs.Steps.{each_asked, exp_of}
+use Rattle.st_elab_table.specs.Elaboration.{around}
+use Rattle.st_elab_rows.specs.Parts.{AskedAs, Breaks}
 use Rattle.st_elab_exp.specs.Inside.{ElabInside, InsideBreach}
 use Rattle.st_elab_rule.specs.Judgements.{broken}
 use Rattle.st_elab_rule.specs.Premises.{ElabPrems, PremsBreach}

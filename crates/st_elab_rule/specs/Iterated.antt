@@ -11,11 +11,11 @@ use Rattle.st_il.specs.declared.expression.IlPrem.{IlPrem, fold-IlPrem}
 use Rattle.st_il.specs.declared.expression.IlPrem.TheOpen.{IlPrem-F}
 use Rattle.st_il.specs.declared.expression.Iteration.{Iteration}
 use Rattle.st_il.specs.declared.expression.Iteration.TheVariants as times
-use Rattle.st_elaboration.specs.declared.decls.Decls.{Decls}
-use Rattle.st_elaboration.specs.declared.decls.Scope.{Scope}
-use Rattle.st_elaboration.specs.declared.within.Within.{Within}
-use Rattle.st_elaboration.specs.Questions.{Breach}
-use Rattle.st_elaboration.specs.Iterations.{Variable, is_among, in_any, inside, occurs, occurs_in_count}
+use Rattle.st_elab_table.specs.declared.decls.Decls.{Decls}
+use Rattle.st_elab_table.specs.declared.decls.Scope.{Scope}
+use Rattle.st_elab_table.specs.declared.within.Within.{Within}
+use Rattle.st_elab_table.specs.Questions.{Breach}
+use Rattle.st_elab_table.specs.Iterations.{Variable, is_among, in_any, inside, occurs, occurs_in_count}
 use Rattle.st_elab_exp.specs.Inside.{ElabInside, InsideBreach}
 
 -- ---- how often

@@ -9,14 +9,14 @@ use Rattle.st_il.specs.declared.expression.IlExp.{IlExp}
 use Rattle.st_il.specs.declared.definition.RelationDef.{RelationDef}
 use Rattle.st_types.specs.declared.entry.CaseDef.{CaseDef}
 use Rattle.st_notation.specs.Fits.{Filling}
-use Rattle.st_elaboration.specs.declared.decls.Decls.{Decls}
-use Rattle.st_elaboration.specs.declared.decls.Scope.{Scope}
-use Rattle.st_elaboration.specs.declared.within.Within.{Within}
-use Rattle.st_elaboration.specs.Forms.{place}
-use Rattle.st_elaboration.specs.Questions.{Question, Breach}
-use Rattle.st_elaboration.specs.Steps.{exp_of, holes}
-use Rattle.st_elaboration.specs.Choice.{FillsCase}
-use Rattle.st_elab_row.specs.Parts.{AskedAs, Breaks}
+use Rattle.st_elab_table.specs.declared.decls.Decls.{Decls}
+use Rattle.st_elab_table.specs.declared.decls.Scope.{Scope}
+use Rattle.st_elab_table.specs.declared.within.Within.{Within}
+use Rattle.st_elab_table.specs.Forms.{place}
+use Rattle.st_elab_table.specs.Questions.{Question, Breach}
+use Rattle.st_elab_table.specs.Steps.{exp_of, holes}
+use Rattle.st_elab_table.specs.Choice.{FillsCase}
+use Rattle.st_elab_rows.specs.Parts.{AskedAs, Breaks}
 
 abbrev pub broken : Span → RuleId → Breach
 broken at rule = record { at = at; rule = rule }

@@ -6,10 +6,10 @@ use Rattle.st_il.specs.declared.expression.IlExp.{IlExp}
 use Rattle.st_il.specs.declared.definition.RelationDef.{RelationDef}
 use Rattle.st_il.specs.declared.definition.RuleDef.{RuleDef}
 use Rattle.st_dims.specs.Mentions.{mentions_in}
-use Rattle.st_elaboration.specs.declared.decls.Decls.{Decls}
-use Rattle.st_elaboration.specs.declared.decls.Scope.{Scope}
-use Rattle.st_elaboration.specs.Questions.{Breach}
-use Rattle.st_elaboration.specs.Elaboration.{around}
+use Rattle.st_elab_table.specs.declared.decls.Decls.{Decls}
+use Rattle.st_elab_table.specs.declared.decls.Scope.{Scope}
+use Rattle.st_elab_table.specs.Questions.{Breach}
+use Rattle.st_elab_table.specs.Elaboration.{around}
 use Rattle.st_elab_rule.specs.Judgements.{Judged, JudgedBreach}
 use Rattle.st_elab_rule.specs.Premises.{ElabPrems, PremsBreach}
 use Rattle.st_elab_rule.specs.Variables.{IsScope, VariableBreach, listed}

@@ -1,6 +1,6 @@
 -- What has one outcome at most.
 use Rattle.std.specs.Prelude.{◌≡◌}
-use Rattle.st_elaboration.specs.Questions.{Breach}
+use Rattle.st_elab_table.specs.Questions.{Breach}
 
 -- There is one elaboration or one breach, and not both.
 pub record HasOneOutcome {A : Type 0} (P : A → Type 0) (F : Breach → Type 0) : Type 0 where

@@ -11,11 +11,11 @@ use Rattle.st_dims.specs.declared.mention.Mention.{Mention}
 use Rattle.st_dims.specs.Mentions.{occurrences_in}
 use Rattle.st_dims.specs.Dimensions.{Table, IsOnlyTable}
 use Rattle.st_dims.specs.Breaches.{IsFirst, IsSound, IsMisplaced, IsIdle}
-use Rattle.st_elaboration.specs.declared.decls.Decls.{Decls}
-use Rattle.st_elaboration.specs.declared.decls.Scope.{Scope}
-use Rattle.st_elaboration.specs.Questions.{Breach}
-use Rattle.st_elaboration.specs.Iterations.{Variable}
-use Rattle.st_elaboration.specs.Variables.{type_of_name}
+use Rattle.st_elab_table.specs.declared.decls.Decls.{Decls}
+use Rattle.st_elab_table.specs.declared.decls.Scope.{Scope}
+use Rattle.st_elab_table.specs.Questions.{Breach}
+use Rattle.st_elab_table.specs.Iterations.{Variable}
+use Rattle.st_elab_table.specs.Variables.{type_of_name}
 use Rattle.st_elab_rule.specs.Judgements.{broken}
 
 abbrev pub is_none : Option Ty → Bool

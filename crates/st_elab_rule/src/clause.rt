@@ -2,8 +2,8 @@
 
 ghost use Rattle.std.specs.Prelude.{◌≡◌, map, IfOk};
 ghost use Rattle.st_il.specs.declared.definition.ClauseDef.{ClauseDef};
-ghost use Rattle.st_elaboration.specs.Questions.{Breach};
-ghost use Rattle.st_elab_row.specs.Told.{Told};
+ghost use Rattle.st_elab_table.specs.Questions.{Breach};
+ghost use Rattle.st_elab_rows.specs.Told.{Told};
 ghost use Rattle.st_elab_exp.specs.Exactly.{IsGiven, IsRefused};
 ghost use Rattle.st_elab_rule.specs.Variables.{IsScope, listed};
 ghost use Rattle.st_elab_rule.specs.Clauses.{parts_of, mentions_of, HasArguments, ElabClause, ClauseBreach};

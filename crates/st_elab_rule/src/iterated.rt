@@ -2,13 +2,13 @@
 
 ghost use Rattle.std.specs.Prelude.{◌≡◌, length, IfOk};
 ghost use Rattle.st_el.specs.declared.expression.Count.{out-Count};
-ghost use Rattle.st_elab_row.specs.Told.{Told};
+ghost use Rattle.st_elab_rows.specs.Told.{Told};
 ghost use Rattle.st_elab_rule.specs.Iterated.{ElabCount, CountBreach, occurs_in_prem, is_prem_iterated, prem_iterated_in};
 
 use st_el::Count;
 use st_elab_exp::{Decls, ExpFault, Scope, check_inside};
-use st_elab_row::iteration::{any_has, count_has, is_among, is_index, occurs};
-use st_elaboration::Within;
+use st_elab_rows::iteration::{any_has, count_has, is_among, is_index, occurs};
+use st_elab_table::Within;
 use st_il::{IlExp, IlPrem, Iteration, Ty};
 use st_num::{Dim, Name, NoMemory, Row};
 use std::alloc::Global;

@@ -6,7 +6,7 @@ ghost use Rattle.st_el.specs.declared.expression.Exp.{Exp};
 ghost use Rattle.st_el.specs.declared.definition.Prem.{Prem};
 ghost use Rattle.st_il.specs.declared.definition.FunDef.{FunDef};
 ghost use Rattle.st_il.specs.declared.definition.RelationDef.{RelationDef};
-ghost use Rattle.st_elaboration.specs.declared.decls.Decls.{Decls};
+ghost use Rattle.st_elab_table.specs.declared.decls.Decls.{Decls};
 ghost use Rattle.st_elab_rule.specs.Single.{HasOneOutcome};
 ghost use Rattle.st_elab_rule.specs.Rules.{ElabRule, RuleBreach};
 ghost use Rattle.st_elab_rule.specs.Clauses.{ClauseParts, ElabClause, ClauseBreach};

@@ -3,16 +3,16 @@
 ghost use Rattle.std.specs.Prelude.{◌≡◌};
 ghost use Rattle.st_el.specs.declared.definition.Prem.{Prem};
 ghost use Rattle.st_el.specs.declared.definition.PremNode.TheOpen.{PremNode-F};
-ghost use Rattle.st_elaboration.specs.Iterations.{inside};
-ghost use Rattle.st_elab_row.specs.Told.{Told};
+ghost use Rattle.st_elab_table.specs.Iterations.{inside};
+ghost use Rattle.st_elab_rows.specs.Told.{Told};
 ghost use Rattle.st_elab_rule.specs.Premises.{place_of, node_of, ElabPrem, PremBreach, ElabPrems, PremsBreach};
 
 use crate::iterated::{counted, iterated};
 use crate::judgement::{judged, relation_named};
 use st_el::{Count, Exp, Prem, PremNode};
 use st_elab_exp::{Decls, ExpFault, Scope, check_inside};
-use st_elab_row::iteration::inside;
-use st_elaboration::Within;
+use st_elab_rows::iteration::inside;
+use st_elab_table::Within;
 use st_il::{IlPrem, Ty};
 use st_num::{Boxed, Name, Row, RuleId, Span};
 use std::alloc::Global;

@@ -5,14 +5,14 @@ ghost use Rattle.std.specs.List.{AllByRecursion};
 ghost use Rattle.std.specs.Option.{option_to_list};
 ghost use Rattle.st_dims.specs.Dimensions.{IsOnlyTable};
 ghost use Rattle.st_dims.specs.Breaches.{IsFirst, IsSound};
-ghost use Rattle.st_elaboration.specs.declared.decls.Decls.{Decls};
-ghost use Rattle.st_elaboration.specs.Variables.{type_of_name};
-ghost use Rattle.st_elab_row.specs.Told.{Told};
+ghost use Rattle.st_elab_table.specs.declared.decls.Decls.{Decls};
+ghost use Rattle.st_elab_table.specs.Variables.{type_of_name};
+ghost use Rattle.st_elab_rows.specs.Told.{Told};
 ghost use Rattle.st_elab_rule.specs.Variables.{untyped, table_of, HasItsType, AreTyped, IsScope, VariableBreach, listed};
 
 use st_dims::{DimFault, Mention, dimensions_of};
 use st_elab_exp::{Decls, ExpFault, Scope};
-use st_elab_row::variable::type_of_name;
+use st_elab_rows::variable::type_of_name;
 use st_il::{Listed, Ty, copy_ty};
 use st_num::{Dim, Name, NoMemory, Row, RuleId, Span};
 use std::alloc::Global;

@@ -12,14 +12,14 @@ use Rattle.st_el.specs.declared.expression.Count.TheVariants as count
 use Rattle.st_el.specs.declared.expression.Count.TheOpen.{Node-F}
 use Rattle.st_el.specs.declared.expression.Seg.{Seg}
 use Rattle.st_el.specs.declared.expression.Seg.TheVariants as seg
-use Rattle.st_meaning.specs.declared.action.Action.{Action}
-use Rattle.st_meaning.specs.declared.action.Action.TheVariants as action
-use Rattle.st_meaning.specs.declared.piece.Piece.{Piece}
-use Rattle.st_meaning.specs.declared.piece.Piece.TheVariants.{Done, Parts, Fields, Path, Label, Here}
-use Rattle.st_meaning.specs.Names.{name_of, number_of, leaf_node}
-use Rattle.st_meaning.specs.Meaning.{exp, place, opened, is_atom, atom_name, joined, prefixed, dotted, iterated, mark_count, in_parens, enclosed, changed}
-use Rattle.st_meaning.specs.Building.{Stack, put, top_done, top_parts, top_fields, top_path, top_pair, top_whole, top_label, top_place, call_name, applied}
-use Rattle.st_meaning.proofs.Growth.{on_some}
+use Rattle.st_parse_builder.specs.declared.action.Action.{Action}
+use Rattle.st_parse_builder.specs.declared.action.Action.TheVariants as action
+use Rattle.st_parse_builder.specs.declared.piece.Piece.{Piece}
+use Rattle.st_parse_builder.specs.declared.piece.Piece.TheVariants.{Done, Parts, Fields, Path, Label, Here}
+use Rattle.st_parse_builder.specs.Names.{name_of, number_of, leaf_node}
+use Rattle.st_parse_builder.specs.Meaning.{exp, place, opened, is_atom, atom_name, joined, prefixed, dotted, iterated, mark_count, in_parens, enclosed, changed}
+use Rattle.st_parse_builder.specs.Building.{Stack, put, top_done, top_parts, top_fields, top_path, top_pair, top_whole, top_label, top_place, call_name, applied}
+use Rattle.st_parse_builder.proofs.Growth.{on_some}
 use Rattle.st_measure.specs.Variables.{Occurrence, occurrence, variables, seg_variables}
 use Rattle.st_measure.specs.Noting.{operand_step, step_of, field_variables, piece_variables, stack_variables, Keeps}
 use Rattle.st_measure.specs.Steps.{IsPut, AreTaken, Does}

@@ -10,13 +10,13 @@ use Rattle.st_el.specs.declared.notation.Notation.{Notation, out-Notation}
 use Rattle.st_el.specs.declared.notation.NotNode.{NotNode, out-NotNode, out-roll-NotNode}
 use Rattle.st_el.specs.declared.notation.NotNode.TheOpen.{NotNode-F}
 use Rattle.st_el.specs.declared.notation.NotNode.TheVariants as not_node
-use Rattle.st_meaning.specs.declared.action.Action.{Action}
-use Rattle.st_meaning.specs.declared.action.Action.TheVariants as action
-use Rattle.st_meaning.specs.declared.notation_piece.NotationPiece.{NotationPiece}
-use Rattle.st_meaning.specs.declared.notation_piece.NotationPiece.TheVariants.{Hole as a_type, Whole as whole, Types as types, Elements as elements, From as from_place}
-use Rattle.st_meaning.specs.Names.{name_of}
-use Rattle.st_meaning.specs.Notations.{marked, typ_in_parens, notation_at, notation_place, hole, spelled_on, atom_on, tick, notation_joined}
-use Rattle.st_meaning.specs.NotationBuilding.{Stack, operand_piece, put, put_part, top_notation, top_type, top_whole, top_place, applied, run, the_typ, the_notation, typ_built, notation_built}
+use Rattle.st_parse_builder.specs.declared.action.Action.{Action}
+use Rattle.st_parse_builder.specs.declared.action.Action.TheVariants as action
+use Rattle.st_parse_builder.specs.declared.notation_piece.NotationPiece.{NotationPiece}
+use Rattle.st_parse_builder.specs.declared.notation_piece.NotationPiece.TheVariants.{Hole as a_type, Whole as whole, Types as types, Elements as elements, From as from_place}
+use Rattle.st_parse_builder.specs.Names.{name_of}
+use Rattle.st_parse_builder.specs.Notations.{marked, typ_in_parens, notation_at, notation_place, hole, spelled_on, atom_on, tick, notation_joined}
+use Rattle.st_parse_builder.specs.NotationBuilding.{Stack, operand_piece, put, put_part, top_notation, top_type, top_whole, top_place, applied, run, the_typ, the_notation, typ_built, notation_built}
 use Rattle.st_measure.specs.Answers.{typ_in, lone_typ}
 use Rattle.st_measure.specs.Aliases.{makes_type}
 

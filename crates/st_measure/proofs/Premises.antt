@@ -7,9 +7,9 @@ use Rattle.st_el.specs.declared.expression.Count.{Count}
 use Rattle.st_el.specs.declared.expression.Count.TheVariants as count
 use Rattle.st_el.specs.declared.definition.Prem.{Prem, the_lemmas as prem_lemmas}
 use Rattle.st_el.specs.declared.definition.PremNode.TheVariants as prem
-use Rattle.st_meaning.specs.Meaning.{is_star, is_plus, mark_count}
-use Rattle.st_meaning.specs.Definitions.{prem_at}
-use Rattle.st_meaning.specs.Heights.{height}
+use Rattle.st_parse_builder.specs.Meaning.{is_star, is_plus, mark_count}
+use Rattle.st_parse_builder.specs.Definitions.{prem_at}
+use Rattle.st_parse_builder.specs.Heights.{height}
 use Rattle.st_measure.specs.Variables.{Times, variables, times, iterated, prem_variables}
 use Rattle.st_measure.specs.DefHeights.{count_height, prem_height}
 

@@ -4,12 +4,12 @@ use Rattle.std.specs.Option.{option_map}
 use Rattle.std.proofs.lemmas.List.{length-append}
 use Rattle.std.proofs.Math.Seq.{drop-append_seam, take-append_seam}
 use Rattle.st_scan.specs.declared.token.Token.{Token}
-use Rattle.st_meaning.specs.Names.{name_of}
-use Rattle.st_meaning.specs.declared.action.Action.{Action}
-use Rattle.st_meaning.specs.declared.piece.Piece.{Piece}
-use Rattle.st_meaning.specs.declared.piece.Piece.TheVariants.{Label}
-use Rattle.st_meaning.specs.Building.{Stack, applied, run}
-use Rattle.st_meaning.proofs.Growth.{on_some}
+use Rattle.st_parse_builder.specs.Names.{name_of}
+use Rattle.st_parse_builder.specs.declared.action.Action.{Action}
+use Rattle.st_parse_builder.specs.declared.piece.Piece.{Piece}
+use Rattle.st_parse_builder.specs.declared.piece.Piece.TheVariants.{Label}
+use Rattle.st_parse_builder.specs.Building.{Stack, applied, run}
+use Rattle.st_parse_builder.proofs.Growth.{on_some}
 use Rattle.st_measure.specs.declared.start.Start.{Start}
 use Rattle.st_measure.specs.Variables.{Occurrence, occurrences, without}
 use Rattle.st_measure.specs.Noting.{piece_variables, stack_variables, Keeps, Begin, IsNoted}

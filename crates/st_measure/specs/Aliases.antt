@@ -1,8 +1,8 @@
 -- The actions that end a type.
 use Rattle.std.specs.Prelude.{Bool, true, false}
 use Rattle.st_grammar.specs.declared.sort.Leaf.TheVariants as leaf
-use Rattle.st_meaning.specs.declared.action.Action.{Action}
-use Rattle.st_meaning.specs.declared.action.Action.TheVariants as action
+use Rattle.st_parse_builder.specs.declared.action.Action.{Action}
+use Rattle.st_parse_builder.specs.declared.action.Action.TheVariants as action
 
 abbrev pub makes_type : Action → Bool
 makes_type (action.Operand leaf.Low x) = true

@@ -5,9 +5,9 @@ use Rattle.st_el.specs.declared.ty.Typ.{Typ}
 use Rattle.st_el.specs.declared.notation.Notation.{Notation, out-Notation}
 use Rattle.st_el.specs.declared.notation.NotNode.{NotNode, out-NotNode}
 use Rattle.st_el.specs.declared.notation.NotNode.TheOpen.{NotNode-F}
-use Rattle.st_meaning.specs.declared.fault.BuildFault.{BuildFault}
-use Rattle.st_meaning.specs.declared.fault.BuildFault.TheVariants.{Unfit, TooHigh, Memory}
-use Rattle.st_meaning.specs.Heights.{typ_height, notation_height}
+use Rattle.st_parse_builder.specs.declared.fault.BuildFault.{BuildFault}
+use Rattle.st_parse_builder.specs.declared.fault.BuildFault.TheVariants.{Unfit, TooHigh, Memory}
+use Rattle.st_parse_builder.specs.Heights.{typ_height, notation_height}
 use Rattle.st_measure.specs.declared.height.NotationHeight.{NotationHeight}
 
 -- only memory may fail

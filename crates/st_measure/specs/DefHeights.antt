@@ -9,7 +9,7 @@ use Rattle.st_el.specs.declared.definition.Body.TheVariants as body
 use Rattle.st_el.specs.declared.definition.Def.{Def}
 use Rattle.st_el.specs.declared.definition.DefNode.{DefNode}
 use Rattle.st_el.specs.declared.definition.DefNode.TheVariants as def
-use Rattle.st_meaning.specs.Heights.{highest, height_count_at, height_node_at, height_seg_at, height_exp_at, height, typ_height, notation_height}
+use Rattle.st_parse_builder.specs.Heights.{highest, height_count_at, height_node_at, height_seg_at, height_exp_at, height, typ_height, notation_height}
 
 abbrev pub count_height : Count → ℕ
 count_height = fold-Count ℕ ℕ ℕ ℕ height_count_at height_node_at height_seg_at height_exp_at

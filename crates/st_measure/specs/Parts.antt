@@ -3,7 +3,7 @@ use Rattle.std.specs.Prelude.{ℕ}
 use Rattle.st_el.specs.declared.expression.Node.{Node, fold-Node}
 use Rattle.st_el.specs.declared.ty.TypNode.{TypNode, fold-TypNode}
 use Rattle.st_el.specs.declared.notation.NotNode.{NotNode, fold-NotNode}
-use Rattle.st_meaning.specs.Heights.{height_count_at, height_node_at, height_seg_at, height_exp_at, height_typ_node_at, height_typ_at, height_not_node_at, height_notation_at}
+use Rattle.st_parse_builder.specs.Heights.{height_count_at, height_node_at, height_seg_at, height_exp_at, height_typ_node_at, height_typ_at, height_not_node_at, height_notation_at}
 
 abbrev pub node_height : Node → ℕ
 node_height = fold-Node ℕ ℕ ℕ ℕ height_count_at height_node_at height_seg_at height_exp_at

@@ -4,16 +4,16 @@ ghost use Rattle.std.specs.Prelude.{◌≡◌, [], ◌∷◌, Some, is_some};
 ghost use Rattle.st_el.specs.declared.expression.Exp.{Exp};
 ghost use Rattle.st_el.specs.declared.ty.Typ.{Typ};
 ghost use Rattle.st_el.specs.declared.notation.Notation.{Notation};
-ghost use Rattle.st_meaning.specs.declared.piece.Piece.TheVariants.{Done};
-ghost use Rattle.st_meaning.specs.Building.{run};
-ghost use Rattle.st_meaning.specs.NotationBuilding.{typ_built, notation_built};
-ghost use Rattle.st_meaning.specs.Heights as tall;
+ghost use Rattle.st_parse_builder.specs.declared.piece.Piece.TheVariants.{Done};
+ghost use Rattle.st_parse_builder.specs.Building.{run};
+ghost use Rattle.st_parse_builder.specs.NotationBuilding.{typ_built, notation_built};
+ghost use Rattle.st_parse_builder.specs.Heights as tall;
 ghost use Rattle.st_measure.specs.Aliases.{makes_type};
 ghost use Rattle.st_measure.specs.Answers.{Measures, MeasuresAlias, MeasuresNotation, lone_typ};
 
 use crate::{exp_height, notation_height, typ_height};
 use st_grammar::Leaf;
-use st_meaning::{Action, BuildFault, build, build_notation, build_typ};
+use st_parse_builder::{Action, BuildFault, build, build_notation, build_typ};
 use std::alloc::Global;
 
 /// The height of a notation, and that of the type that it is, where it is a type alone.

@@ -1,12 +1,12 @@
 //! Occurrences of names that are taken back.
 
 ghost use Rattle.std.specs.Prelude.{◌≡◌, [], ◌∷◌, ◌++◌, take, drop, reverse, IfOk, OnOk};
-ghost use Rattle.st_meaning.specs.Names.{name_of};
+ghost use Rattle.st_parse_builder.specs.Names.{name_of};
 ghost use Rattle.st_measure.specs.Names.{same_name};
 ghost use Rattle.st_measure.specs.Variables.{occurrences, without};
 
-use st_meaning::{TokenRef, name_of};
 use st_num::{NoMemory, Row};
+use st_parse_builder::{TokenRef, name_of};
 use std::alloc::Global;
 
 /// Takes off what stands from there on. It comes with the last first.

@@ -7,8 +7,8 @@ ghost use Rattle.st_measure.specs.Limits.{place_past};
 ghost use Rattle.st_measure.specs.Counting.{Knows, Counted};
 
 use indexmap::IndexSet;
-use st_meaning::{TokenRef, copy_name};
 use st_num::{Name, NoMemory, Span};
+use st_parse_builder::{TokenRef, copy_name};
 use std::alloc::Global;
 
 /// Takes a name down, or gives its place where it is new and as many are known already.

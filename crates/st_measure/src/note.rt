@@ -3,9 +3,9 @@
 ghost use Rattle.std.specs.Prelude.{◌≡◌, [], ◌∷◌, ◌++◌, take, drop, reverse, length, List, Some, None, OnOk, IfOk, IfErr};
 ghost use Rattle.st_scan.specs.declared.token.Token.{Token};
 ghost use Rattle.st_el.specs.declared.expression.Exp.{Exp};
-ghost use Rattle.st_meaning.specs.declared.piece.Piece.TheVariants.{Done};
-ghost use Rattle.st_meaning.specs.Names.{name_of};
-ghost use Rattle.st_meaning.specs.Building.{Stack, applied, run};
+ghost use Rattle.st_parse_builder.specs.declared.piece.Piece.TheVariants.{Done};
+ghost use Rattle.st_parse_builder.specs.Names.{name_of};
+ghost use Rattle.st_parse_builder.specs.Building.{Stack, applied, run};
 ghost use Rattle.st_measure.specs.declared.start.Start.{Start};
 ghost use Rattle.st_measure.specs.Variables.{Occurrence, occurrences, variables, without};
 ghost use Rattle.st_measure.specs.Noting.{IsNoted};
@@ -15,8 +15,8 @@ ghost use Rattle.st_measure.specs.Answers.{OnlyMemory};
 use crate::leave::{leave_out, put_back, take_off};
 use crate::start::Start;
 use crate::step::{Step, step_of};
-use st_meaning::{Action, BuildFault, TokenRef, name_of};
 use st_num::{NoMemory, Row};
+use st_parse_builder::{Action, BuildFault, TokenRef, name_of};
 use std::alloc::Global;
 
 /// The body of an iteration with an index: where its occurrences begin and end, and the index.

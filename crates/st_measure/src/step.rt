@@ -4,7 +4,7 @@ ghost use Rattle.std.specs.Prelude.{◌≡◌};
 ghost use Rattle.st_measure.specs.Noting.{operand_step, step_of};
 
 use st_grammar::Leaf;
-use st_meaning::{Action, TokenRef};
+use st_parse_builder::{Action, TokenRef};
 
 /// What an action does to the pieces so far, of which the last is on top.
 #[derive(Drop)]

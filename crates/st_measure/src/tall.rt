@@ -1,7 +1,7 @@
 //! Heights of trees. Each that is above 100 is told as 101.
 
 ghost use Rattle.std.specs.Prelude.{◌≡◌, ◌+◌, ◌≤◌, max, map};
-ghost use Rattle.st_meaning.specs.Heights as tall;
+ghost use Rattle.st_parse_builder.specs.Heights as tall;
 ghost use Rattle.st_measure.specs.DefHeights.{count_height};
 ghost use Rattle.st_measure.specs.Parts.{node_height, typ_node_height, not_node_height};
 ghost use Rattle.st_measure.specs.Answers.{capped};

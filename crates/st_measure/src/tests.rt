@@ -2,8 +2,8 @@
 
 use crate::{NotationHeight, measure_exp, measure_notation, note_variables, place_past};
 use st_grammar::Leaf;
-use st_meaning::{Action, BuildFault, TokenRef, name_of};
 use st_num::{Mark, NoMemory, Row, Span};
+use st_parse_builder::{Action, BuildFault, TokenRef, name_of};
 use st_scan::{Token, TokenKind, scan};
 use std::alloc::Global;
 use std::process::Abort;

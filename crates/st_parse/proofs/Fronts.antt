@@ -10,14 +10,14 @@ use Rattle.st_grammar.specs.Definitions.{Defs}
 use Rattle.st_grammar.specs.Places.{State, reading, start, finish}
 use Rattle.st_grammar.proofs.PlaceReading.{sound_defs}
 use Rattle.st_grammar.proofs.PlaceComplete.{one_list_of_defs}
-use Rattle.st_reading.specs.Refusal.{lexemes_of}
-use Rattle.st_faults.specs.declared.fault.Fault.{Fault}
-use Rattle.st_faults.specs.Faults.{passed, verdict, Faultless, FirstFault}
-use Rattle.st_faults.specs.Place.{place_at}
-use Rattle.st_faults.proofs.Verdicts.{verdict_reads}
+use Rattle.st_parse_automaton.specs.Refusal.{lexemes_of}
+use Rattle.st_parse_faults.specs.declared.fault.Fault.{Fault}
+use Rattle.st_parse_faults.specs.Faults.{passed, verdict, Faultless, FirstFault}
+use Rattle.st_parse_faults.specs.Place.{place_at}
+use Rattle.st_parse_faults.proofs.Verdicts.{verdict_reads}
 use Rattle.st_el.specs.declared.definition.Def.{Def}
-use Rattle.st_meaning.specs.Definitions.{defs_meaning}
-use Rattle.st_meaning.specs.declared.fault.BuildFault.{BuildFault}
+use Rattle.st_parse_builder.specs.Definitions.{defs_meaning}
+use Rattle.st_parse_builder.specs.declared.fault.BuildFault.{BuildFault}
 use Rattle.st_draft.specs.declared.draft.Draft.{Draft}
 use Rattle.st_draft.specs.Known.{before, defs_or, known}
 use Rattle.st_draft.specs.Heights.{defs_height, IsLow, AllLow}
@@ -25,9 +25,9 @@ use Rattle.st_draft.specs.Work.{DrawsDefs}
 use Rattle.st_draft.proofs.Lowness.{no_higher}
 use Rattle.st_measure.specs.DefHeights.{def_height}
 use Rattle.std.specs.Option.{option_or}
-use Rattle.st_survey.specs.declared.survey.Survey.{Survey}
-use Rattle.st_survey.specs.Surveys.{Surveys}
-use Rattle.st_survey.specs.Limits.{variable_past, too_tall, first_that}
+use Rattle.st_parse.specs.declared.survey.Survey.{Survey}
+use Rattle.st_parse.specs.Surveys.{Surveys}
+use Rattle.st_parse.specs.Limits.{variable_past, too_tall, first_that}
 use Rattle.st_parse.specs.declared.limits.LimitFaults.{LimitFaults}
 use Rattle.st_parse.specs.Source.{Front, IsParsed, IsSource, FaultAt}
 use Rattle.st_parse.specs.Found.{Surveyed, end_of, Judged, Found}

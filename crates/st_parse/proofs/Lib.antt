@@ -1,3 +1,7 @@
+pub mod Surveying
+mod Endings
+mod Whole
+mod Drawn
 mod Sources
 mod Fronts
 mod OneAnswer

@@ -3,13 +3,13 @@ use Rattle.std.proofs.Common.{◌≡◌, ℕ, ◌+◌, ◌<◌, ◌≤◌, ◌�
 use Rattle.st_num.specs.declared.span.Span.{Span}
 use Rattle.st_num.specs.declared.rule.RuleId.{RuleId}
 use Rattle.st_scan.specs.declared.token.Token.{Token}
-use Rattle.st_faults.specs.Faults.{Seen, passed, broken, verdict}
-use Rattle.st_faults.specs.Place.{place_at}
-use Rattle.st_faults.proofs.Exact.{front_passes, one_fault, never_both}
+use Rattle.st_parse_faults.specs.Faults.{Seen, passed, broken, verdict}
+use Rattle.st_parse_faults.specs.Place.{place_at}
+use Rattle.st_parse_faults.proofs.Exact.{front_passes, one_fault, never_both}
 use Rattle.st_el.specs.declared.definition.Def.{Def}
-use Rattle.st_meaning.specs.Definitions.{defs_meaning}
+use Rattle.st_parse_builder.specs.Definitions.{defs_meaning}
 use Rattle.st_draft.specs.Known.{known}
-use Rattle.st_survey.specs.Limits.{variable_past, too_tall, first_that}
+use Rattle.st_parse.specs.Limits.{variable_past, too_tall, first_that}
 use Rattle.st_parse.specs.Source.{Front, Standing, IsParsed, IsSource, FaultAt}
 use Rattle.st_parse.proofs.Fronts.{all_of, all_known}
 

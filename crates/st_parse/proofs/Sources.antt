@@ -6,11 +6,11 @@ use Rattle.st_grammar.specs.Lexemes.{lexeme, declared_names}
 use Rattle.st_grammar.specs.Definitions.{Defs}
 use Rattle.st_grammar.specs.Places.{State, reading, start, finish}
 use Rattle.st_grammar.proofs.PlaceReading.{sound_defs}
-use Rattle.st_reading.specs.Refusal.{lexemes_of}
-use Rattle.st_faults.specs.Faults.{Faultless}
-use Rattle.st_faults.proofs.Verdicts.{verdict_reads}
+use Rattle.st_parse_automaton.specs.Refusal.{lexemes_of}
+use Rattle.st_parse_faults.specs.Faults.{Faultless}
+use Rattle.st_parse_faults.proofs.Verdicts.{verdict_reads}
 use Rattle.st_el.specs.declared.definition.Def.{Def}
-use Rattle.st_meaning.specs.Definitions.{defs_meaning}
+use Rattle.st_parse_builder.specs.Definitions.{defs_meaning}
 use Rattle.st_parse.specs.Source.{IsParsed}
 
 pub reads_all : (tokens : List Token) (h : Faultless tokens) → reading start (map (lexeme (declared_names tokens)) tokens) ≡ Some h.0.state

@@ -18,8 +18,8 @@ use Rattle.st_el.specs.declared.expression.Count.TheVariants as count
 use Rattle.st_el.specs.declared.expression.Node.TheVariants as node
 use Rattle.st_el.specs.declared.expression.Seg.TheVariants as seg
 use Rattle.st_el.specs.Plain.{nowhere}
-use Rattle.st_meaning.specs.Names.{name_of, number_of, leaf_node}
-use Rattle.st_meaning.specs.Meaning.{exp, place, nothing, is_atom, atom_name, opened, iterated, posted, count_of, only, enclosed, label, step_at, indexed, first_place, meaning, led_by, meanings, field_meanings, bracketed, base, steps}
+use Rattle.st_parse_builder.specs.Names.{name_of, number_of, leaf_node}
+use Rattle.st_parse_builder.specs.Meaning.{exp, place, nothing, is_atom, atom_name, opened, iterated, posted, count_of, only, enclosed, label, step_at, indexed, first_place, meaning, led_by, meanings, field_meanings, bracketed, base, steps}
 use Rattle.st_measure.specs.Variables.{Occurrence, without, variables, seg_variables}
 use Rattle.st_measure.specs.Names.{is_among}
 use Rattle.st_measure.specs.Noting.{field_variables}

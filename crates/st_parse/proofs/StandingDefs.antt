@@ -12,17 +12,17 @@ use Rattle.st_el.specs.declared.expression.Count.{Count}
 use Rattle.st_el.specs.declared.definition.Prem.{Prem}
 use Rattle.st_el.specs.declared.definition.PremNode.TheVariants as prem
 use Rattle.st_el.specs.declared.definition.Def.{Def}
-use Rattle.st_meaning.specs.Meaning.{meaning, count_of}
-use Rattle.st_meaning.specs.Names.{name_of}
-use Rattle.st_meaning.specs.Definitions.{name_in, prem_at, condition, opened_at, sign_count, iterated, premise_meaning, premises_meaning, patterns, def_meaning, defs_meaning}
+use Rattle.st_parse_builder.specs.Meaning.{meaning, count_of}
+use Rattle.st_parse_builder.specs.Names.{name_of}
+use Rattle.st_parse_builder.specs.Definitions.{name_in, prem_at, condition, opened_at, sign_count, iterated, premise_meaning, premises_meaning, patterns, def_meaning, defs_meaning}
 use Rattle.st_measure.specs.Names.{same_name}
 use Rattle.st_measure.specs.Variables.{Occurrence, Times, without, variables, times as times_of, iterated as repeated, prem_variables, def_variables}
 use Rattle.st_measure.specs.Limits.{first_of_each}
 use Rattle.st_measure.specs.DefHeights.{def_height}
 use Rattle.st_measure.proofs.Occurring.{one_behind}
 use Rattle.st_measure.proofs.Premises.{in_if, in_goal, in_otherwise, in_each, times_mark, times_times, times_below}
-use Rattle.st_survey.proofs.Surveying.{first_behind, variables_at}
-use Rattle.st_survey.specs.Limits.{variable_past, too_tall, first_that}
+use Rattle.st_parse.proofs.Surveying.{first_behind, variables_at}
+use Rattle.st_parse.specs.Limits.{variable_past, too_tall, first_that}
 use Rattle.st_parse.proofs.Standing.{Stand, Occur, first, last, two, moved, filtered, fewer, tree_occurs, trees_occur}
 
 module _ (P : Span → Type 0) where

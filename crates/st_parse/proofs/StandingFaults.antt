@@ -11,13 +11,13 @@ use Rattle.st_grammar.specs.Places.{Head, syntax_head, Rule, rule_head, clause_h
 use Rattle.st_grammar.proofs.Sound as sound
 use Rattle.st_grammar.proofs.PlaceTexts.{head_text, rule_text, ruled_text, host_text, slot_text, place_text, seen, Reached}
 use Rattle.st_grammar.proofs.PlaceReading.{reached_by, finishes}
-use Rattle.st_reading.specs.Refusal.{lexemes_of}
-use Rattle.st_faults.specs.Place.{place_at}
-use Rattle.st_faults.proofs.Verdicts.{verdict_reads}
+use Rattle.st_parse_automaton.specs.Refusal.{lexemes_of}
+use Rattle.st_parse_faults.specs.Place.{place_at}
+use Rattle.st_parse_faults.proofs.Verdicts.{verdict_reads}
 use Rattle.st_el.specs.declared.definition.Def.{Def}
 use Rattle.st_draft.specs.Known.{head_before, rule_before, host_before, slot_before, place_before, before, defs_or, known}
 use Rattle.st_grammar.proofs.LexemeTokens.{lexeme_token}
-use Rattle.st_survey.specs.Limits.{variable_past, too_tall}
+use Rattle.st_parse.specs.Limits.{variable_past, too_tall}
 use Rattle.st_parse.specs.Source.{Standing, FaultAt}
 use Rattle.st_parse.proofs.Standing.{Stand, first}
 use Rattle.st_parse.proofs.StandingDefs.{Tells, past_stands, tall_is_there, first_stands}

@@ -1,12 +1,12 @@
 -- What is found before trees are built: the first fault of a token, and what the limits ask.
 use Rattle.std.specs.Prelude.{◌≡◌, ℕ, List, length, Option, Some, None}
 use Rattle.st_scan.specs.declared.token.Token.{Token}
-use Rattle.st_faults.specs.Faults.{Faultless, FirstFault}
-use Rattle.st_faults.specs.declared.fault.Fault.{Fault}
+use Rattle.st_parse_faults.specs.Faults.{Faultless, FirstFault}
+use Rattle.st_parse_faults.specs.declared.fault.Fault.{Fault}
 use Rattle.st_el.specs.declared.definition.Def.{Def}
-use Rattle.st_meaning.specs.Definitions.{defs_meaning}
+use Rattle.st_parse_builder.specs.Definitions.{defs_meaning}
 use Rattle.st_draft.specs.Known.{known}
-use Rattle.st_survey.specs.Limits.{variable_past, too_tall, first_that}
+use Rattle.st_parse.specs.Limits.{variable_past, too_tall, first_that}
 use Rattle.st_parse.specs.declared.limits.LimitFaults.{LimitFaults}
 use Rattle.st_parse.specs.Source.{Front}
 

@@ -1,2 +1,4 @@
+pub mod Limits
+pub mod Surveys
 pub mod Source
 pub mod Found

@@ -5,14 +5,14 @@ use Rattle.st_num.specs.declared.rule.RuleId.{RuleId}
 use Rattle.st_num.specs.declared.rule.RuleId.TheVariants.{S2, S3}
 use Rattle.st_scan.specs.declared.token.Token.{Token}
 use Rattle.st_grammar.specs.Lexemes.{declared_names}
-use Rattle.st_faults.specs.Faults.{Seen, passed, broken, verdict, Faultless, FirstFault}
-use Rattle.st_faults.specs.Place.{place_at}
+use Rattle.st_parse_faults.specs.Faults.{Seen, passed, broken, verdict, Faultless, FirstFault}
+use Rattle.st_parse_faults.specs.Place.{place_at}
 use Rattle.st_el.specs.declared.definition.Def.{Def}
-use Rattle.st_meaning.specs.Definitions.{Parse, defs_meaning}
+use Rattle.st_parse_builder.specs.Definitions.{Parse, defs_meaning}
 use Rattle.st_draft.specs.Known.{known}
-use Rattle.st_survey.specs.Limits.{variable_past, too_tall, first_that}
-use Rattle.st_faults.specs.declared.refusal.SyntaxFault.{SyntaxFault}
-use Rattle.st_faults.specs.declared.refusal.SyntaxFault.TheVariants.{Refused, Memory}
+use Rattle.st_parse.specs.Limits.{variable_past, too_tall, first_that}
+use Rattle.st_parse_faults.specs.declared.refusal.SyntaxFault.{SyntaxFault}
+use Rattle.st_parse_faults.specs.declared.refusal.SyntaxFault.TheVariants.{Refused, Memory}
 
 -- ---- what is asked of whole definitions
 

@@ -7,7 +7,7 @@ ghost use Rattle.st_scan.specs.declared.token.Token.{Token};
 ghost use Rattle.st_el.specs.declared.definition.Def.{Def};
 ghost use Rattle.st_parse.specs.Source.{IsSource, FaultAt};
 
-use st_meaning::one_source;
+use st_parse_builder::one_source;
 
 /// Tokens have at most one answer, want of memory aside: one list of definitions, or one first
 /// fault.

@@ -3,16 +3,16 @@
 ghost use Rattle.std.specs.Prelude.{◌≡◌, map, Some, IfOk};
 ghost use Rattle.st_grammar.specs.Lexemes as lexemes;
 ghost use Rattle.st_grammar.specs.Places as places;
-ghost use Rattle.st_meaning.specs.Definitions.{defs_meaning};
+ghost use Rattle.st_parse_builder.specs.Definitions.{defs_meaning};
 ghost use Rattle.st_draft.specs.Known.{known};
 ghost use Rattle.st_parse.specs.Found.{Judged, Found, Surveyed, end_of};
 
+use crate::survey::begun_survey;
 use st_draft::read_source;
-use st_faults::Fault;
-use st_meaning::BuildFault;
 use st_num::{Name, NoMemory, Span};
+use st_parse_builder::BuildFault;
+use st_parse_faults::Fault;
 use st_scan::Token;
-use st_survey::begun_survey;
 use std::alloc::Global;
 
 /// The first variable that is past the limit, and the first definition that is too high.

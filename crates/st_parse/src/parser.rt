@@ -4,22 +4,22 @@ ghost use Rattle.std.specs.Prelude.{◌≡◌, [], map, List, None, Some, IfOk, 
 ghost use Rattle.st_grammar.specs.Lexemes as lexemes;
 ghost use Rattle.st_grammar.specs.Places as places;
 ghost use Rattle.st_grammar.specs.Definitions.{Defs};
-ghost use Rattle.st_faults.specs.Faults.{Faultless};
+ghost use Rattle.st_parse_faults.specs.Faults.{Faultless};
 ghost use Rattle.st_el.specs.Plain.{nowhere};
 ghost use Rattle.st_el.specs.declared.definition.Def.{Def};
-ghost use Rattle.st_meaning.specs.Definitions.{defs_meaning};
+ghost use Rattle.st_parse_builder.specs.Definitions.{defs_meaning};
 ghost use Rattle.st_measure.specs.Answers.{OnlyMemory};
 ghost use Rattle.st_draft.specs.Drafts as drafts;
-ghost use Rattle.st_survey.specs.Limits.{too_tall, first_that};
+ghost use Rattle.st_parse.specs.Limits.{too_tall, first_that};
 ghost use Rattle.st_parse.specs.Source.{Answers, IsParsed};
 
 use crate::limits::limit_faults;
 use st_draft::{Draft, NOWHERE, begun, read_source};
 use st_el::Def;
-use st_faults::{SyntaxFault, first_fault, place_at};
-use st_meaning::BuildFault;
 use st_num::{Name, NoMemory, Row, RuleId};
-use st_reading::declared_names;
+use st_parse_automaton::declared_names;
+use st_parse_builder::BuildFault;
+use st_parse_faults::{SyntaxFault, first_fault, place_at};
 use st_scan::Token;
 use std::alloc::Global;
 

@@ -1,8 +1,8 @@
 //! Short sources of one line, with what is parsed counted by hand.
 
 use crate::parse;
-use st_faults::SyntaxFault;
 use st_num::RuleId;
+use st_parse_faults::SyntaxFault;
 use st_scan::{Token, scan};
 use std::alloc::Global;
 use std::process::Abort;

@@ -14,20 +14,20 @@ use Rattle.st_grammar.proofs.Steps as steps
 use Rattle.st_grammar.proofs.Completions as completions
 use Rattle.st_grammar.proofs.PlaceSteps.{signed_is}
 use Rattle.st_el.specs.declared.expression.Exp.{Exp}
-use Rattle.st_meaning.specs.declared.action.Action.{Action}
-use Rattle.st_meaning.specs.Meaning.{meaning, meanings}
-use Rattle.st_meaning.specs.Heights.{height}
-use Rattle.st_meaning.specs.Actions.{acts}
-use Rattle.st_meaning.proofs.Tallness.{highest_behind}
-use Rattle.st_reading.specs.declared.outline.Due.TheVariants.{Operand}
-use Rattle.st_reading.specs.Outline as out
-use Rattle.st_reading.specs.declared.outline.Shape.{Shape}
-use Rattle.st_reading.specs.Shapes.{shape}
-use Rattle.st_reading.proofs.View.{state_of}
-use Rattle.st_reading.proofs.Simulation.{step_is}
-use Rattle.st_reading.proofs.CourseSimulation.{is_some}
-use Rattle.st_emit.specs.Emits.{kept, emits, finishing, on_next, emissions}
-use Rattle.st_emit.proofs.Whole.{part_emits}
+use Rattle.st_parse_builder.specs.declared.action.Action.{Action}
+use Rattle.st_parse_builder.specs.Meaning.{meaning, meanings}
+use Rattle.st_parse_builder.specs.Heights.{height}
+use Rattle.st_parse_builder.specs.Actions.{acts}
+use Rattle.st_parse_builder.proofs.Tallness.{highest_behind}
+use Rattle.st_parse_automaton.specs.declared.outline.Due.TheVariants.{Operand}
+use Rattle.st_parse_automaton.specs.Outline as out
+use Rattle.st_parse_automaton.specs.declared.outline.Shape.{Shape}
+use Rattle.st_parse_automaton.specs.Shapes.{shape}
+use Rattle.st_parse_automaton.proofs.View.{state_of}
+use Rattle.st_parse_automaton.proofs.Simulation.{step_is}
+use Rattle.st_parse_automaton.proofs.CourseSimulation.{is_some}
+use Rattle.st_parse_actions.specs.Emits.{kept, emits, finishing, on_next, emissions}
+use Rattle.st_parse_actions.proofs.Whole.{part_emits}
 use Rattle.st_parse_exp.specs.Reading.{State, begun, turn, goes, step, start}
 use Rattle.st_parse_exp.specs.Faults.{Seen, passed, opens_too_many, passes_limit, limited, seen_after, judged, judge}
 use Rattle.st_parse_exp.specs.Drafts.{IsBuilt, AreBuilt, with_exp, Draft, draft, Ends, Takes}

@@ -6,7 +6,7 @@ use Rattle.st_num.specs.declared.rule.RuleId.{RuleId}
 use Rattle.st_num.specs.declared.rule.RuleId.TheVariants.{S1, S2, S3, S4}
 use Rattle.st_scan.specs.declared.token.Token.{Token}
 use Rattle.st_grammar.specs.Lexemes.{Lexeme, lexeme}
-use Rattle.st_reading.proofs.Exact.{take_shorter}
+use Rattle.st_parse_automaton.proofs.Exact.{take_shorter}
 use Rattle.st_parse_exp.specs.Expressions.{ParseExpressions, lexemes_of, AreExpressions, IsViable, RefusedAt}
 use Rattle.st_parse_exp.specs.Reading.{State, start, step, finish, reading}
 use Rattle.st_parse_exp.specs.Faults.{Seen, Verdict, passed, broken, opens_too_many, passes_limit, limited, seen_after, judged, judge, judge_all, verdict, Faultless, FirstFault}

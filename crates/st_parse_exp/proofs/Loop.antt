@@ -9,15 +9,15 @@ use Rattle.st_grammar.specs.Trees.{Tree, Trees}
 use Rattle.st_grammar.specs.Reading as part
 use Rattle.st_grammar.specs.Places as places
 use Rattle.st_grammar.proofs.PlaceTexts as texts
-use Rattle.st_reading.specs.declared.place.Lexeme.{Lexeme}
-use Rattle.st_reading.specs.Course as course
-use Rattle.st_reading.specs.Shapes.{lexeme_of}
-use Rattle.st_reading.specs.Readings.{progress_of}
-use Rattle.st_reading.proofs.CourseSimulation.{is_some}
-use Rattle.st_faults.specs.declared.judge.Seen.{Seen as CodeSeen}
-use Rattle.st_faults.specs.declared.judge.Verdict.{Verdict as Code}
-use Rattle.st_faults.specs.declared.judge.Verdict.TheVariants as code
-use Rattle.st_faults.specs.Seen as seen
+use Rattle.st_parse_automaton.specs.declared.place.Lexeme.{Lexeme}
+use Rattle.st_parse_automaton.specs.Course as course
+use Rattle.st_parse_automaton.specs.Shapes.{lexeme_of}
+use Rattle.st_parse_automaton.specs.Readings.{progress_of}
+use Rattle.st_parse_automaton.proofs.CourseSimulation.{is_some}
+use Rattle.st_parse_faults.specs.declared.judge.Seen.{Seen as CodeSeen}
+use Rattle.st_parse_faults.specs.declared.judge.Verdict.{Verdict as Code}
+use Rattle.st_parse_faults.specs.declared.judge.Verdict.TheVariants as code
+use Rattle.st_parse_faults.specs.Seen as seen
 use Rattle.st_parse_exp.specs.Expressions.{lexemes_of}
 use Rattle.st_parse_exp.specs.Reading.{whole}
 use Rattle.st_parse_exp.specs.Faults.{Seen, Verdict, passed, broken, judge, judge_all, verdict, nothing_seen, Faultless, FirstFault}

@@ -13,26 +13,26 @@ use Rattle.st_grammar.specs.Reading as part
 use Rattle.st_grammar.specs.Places as places
 use Rattle.st_grammar.proofs.Steps as steps
 use Rattle.st_el.specs.declared.expression.Exp.{Exp}
-use Rattle.st_meaning.specs.Meaning.{meaning, meanings}
-use Rattle.st_meaning.specs.Heights.{highest, height}
-use Rattle.st_meaning.specs.Actions.{acts}
-use Rattle.st_reading.specs.declared.place.Lexeme.{Lexeme}
-use Rattle.st_reading.specs.declared.place.Slot.{Slot}
-use Rattle.st_reading.specs.Outline as out
-use Rattle.st_reading.specs.Course as course
-use Rattle.st_reading.specs.Shapes.{lexeme_of}
-use Rattle.st_reading.specs.Readings.{progress_of}
-use Rattle.st_reading.proofs.View.{state_of}
-use Rattle.st_reading.proofs.CourseView.{course_of, slot_of, slot_open}
-use Rattle.st_reading.proofs.CourseSimulation.{is_some}
-use Rattle.st_faults.specs.declared.judge.Seen.{Seen as CodeSeen}
-use Rattle.st_faults.specs.declared.judge.Verdict.{Verdict as Code}
-use Rattle.st_faults.specs.declared.judge.Verdict.TheVariants as code
-use Rattle.st_faults.specs.Place.{place_at}
-use Rattle.st_faults.specs.Seen as seen
-use Rattle.st_emit.specs.Emits.{finishing}
-use Rattle.st_faults.specs.declared.refusal.SyntaxFault.{SyntaxFault}
-use Rattle.st_faults.specs.declared.refusal.SyntaxFault.TheVariants.{Refused, Memory}
+use Rattle.st_parse_builder.specs.Meaning.{meaning, meanings}
+use Rattle.st_parse_builder.specs.Heights.{highest, height}
+use Rattle.st_parse_builder.specs.Actions.{acts}
+use Rattle.st_parse_automaton.specs.declared.place.Lexeme.{Lexeme}
+use Rattle.st_parse_automaton.specs.declared.place.Slot.{Slot}
+use Rattle.st_parse_automaton.specs.Outline as out
+use Rattle.st_parse_automaton.specs.Course as course
+use Rattle.st_parse_automaton.specs.Shapes.{lexeme_of}
+use Rattle.st_parse_automaton.specs.Readings.{progress_of}
+use Rattle.st_parse_automaton.proofs.View.{state_of}
+use Rattle.st_parse_automaton.proofs.CourseView.{course_of, slot_of, slot_open}
+use Rattle.st_parse_automaton.proofs.CourseSimulation.{is_some}
+use Rattle.st_parse_faults.specs.declared.judge.Seen.{Seen as CodeSeen}
+use Rattle.st_parse_faults.specs.declared.judge.Verdict.{Verdict as Code}
+use Rattle.st_parse_faults.specs.declared.judge.Verdict.TheVariants as code
+use Rattle.st_parse_faults.specs.Place.{place_at}
+use Rattle.st_parse_faults.specs.Seen as seen
+use Rattle.st_parse_actions.specs.Emits.{finishing}
+use Rattle.st_parse_faults.specs.declared.refusal.SyntaxFault.{SyntaxFault}
+use Rattle.st_parse_faults.specs.declared.refusal.SyntaxFault.TheVariants.{Refused, Memory}
 use Rattle.st_parse_exp.specs.Expressions.{ParseExpressions, lexemes_of}
 use Rattle.st_parse_exp.specs.Reading.{finish, whole}
 use Rattle.st_parse_exp.specs.Faults.{Seen, passed, judge, verdict, FirstFault}

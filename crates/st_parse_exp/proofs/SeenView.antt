@@ -27,17 +27,17 @@ use Rattle.st_grammar.proofs.PlaceComplete as complete
 use Rattle.st_grammar.proofs.PlaceSteps.{signed_is}
 use Rattle.st_grammar.proofs.PlaceTexts as texts
 use Rattle.st_grammar.proofs.Sound as sound
-use Rattle.st_reading.specs.Course as course
-use Rattle.st_reading.specs.Shapes.{lexeme_of}
-use Rattle.st_reading.proofs.CourseView.{course_of}
-use Rattle.st_reading.proofs.CourseSimulation.{may_end_is, is_some}
-use Rattle.st_reading.proofs.Loop as loop
-use Rattle.st_faults.specs.declared.before.Before.TheVariants as before
-use Rattle.st_faults.specs.Counts.{no_counts}
-use Rattle.st_faults.specs.LeftOut.{is_type_in, type_or_other, before_next, left_out}
-use Rattle.st_faults.specs.Faults as defs
-use Rattle.st_faults.specs.Seen as outline
-use Rattle.st_faults.proofs.SeenView as view
+use Rattle.st_parse_automaton.specs.Course as course
+use Rattle.st_parse_automaton.specs.Shapes.{lexeme_of}
+use Rattle.st_parse_automaton.proofs.CourseView.{course_of}
+use Rattle.st_parse_automaton.proofs.CourseSimulation.{may_end_is, is_some}
+use Rattle.st_parse_automaton.proofs.Loop as loop
+use Rattle.st_parse_faults.specs.declared.before.Before.TheVariants as before
+use Rattle.st_parse_faults.specs.Counts.{no_counts}
+use Rattle.st_parse_faults.specs.LeftOut.{is_type_in, type_or_other, before_next, left_out}
+use Rattle.st_parse_faults.specs.Faults as defs
+use Rattle.st_parse_faults.specs.Seen as outline
+use Rattle.st_parse_faults.proofs.SeenView as view
 use Rattle.st_parse_exp.specs.Reading.{begun, turn, goes, step}
 use Rattle.st_parse_exp.specs.Faults.{Seen, Verdict, passed, broken, opens_too_many, passes_limit, refusal, limited, seen_after, judged, judge}
 use Rattle.st_parse_exp.specs.Seen as spec

@@ -6,13 +6,13 @@ use Rattle.st_grammar.specs.declared.sort.Sort.TheVariants.{Expression as expres
 use Rattle.st_grammar.specs.Trees.{Tree}
 use Rattle.st_grammar.specs.Grammar.{Fits}
 use Rattle.st_el.specs.declared.expression.Exp.{Exp}
-use Rattle.st_meaning.specs.declared.action.Action.{Action}
-use Rattle.st_meaning.specs.Meaning.{meaning}
-use Rattle.st_meaning.specs.Heights.{highest, height}
-use Rattle.st_meaning.specs.Actions.{acts}
-use Rattle.st_reading.specs.declared.outline.Shape.{Shape}
-use Rattle.st_reading.specs.Outline as out
-use Rattle.st_emit.specs.Emits as emits
+use Rattle.st_parse_builder.specs.declared.action.Action.{Action}
+use Rattle.st_parse_builder.specs.Meaning.{meaning}
+use Rattle.st_parse_builder.specs.Heights.{highest, height}
+use Rattle.st_parse_builder.specs.Actions.{acts}
+use Rattle.st_parse_automaton.specs.declared.outline.Shape.{Shape}
+use Rattle.st_parse_automaton.specs.Outline as out
+use Rattle.st_parse_actions.specs.Emits as emits
 
 -- the expression that is built of one that means this, where it is not too high
 abbrev pub IsBuilt : Exp → Option Exp → Type 0

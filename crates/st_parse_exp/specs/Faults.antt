@@ -6,11 +6,11 @@ use Rattle.st_num.specs.declared.rule.RuleId.TheVariants.{S1, S2, S3, S4}
 use Rattle.st_scan.specs.declared.token.Token.{Token}
 use Rattle.st_grammar.specs.Lexemes.{Lexeme, lexeme}
 use Rattle.st_grammar.specs.Trees.{Trees}
-use Rattle.st_faults.specs.declared.before.Before.TheVariants as before
-use Rattle.st_faults.specs.LeftOut.{left_out}
-use Rattle.st_faults.specs.Nesting.{nesting_after, part_bars, may_open}
-use Rattle.st_faults.specs.Limits.{tally_passes, part_tallies}
-use Rattle.st_faults.specs.Faults.{nesting_limit}
+use Rattle.st_parse_faults.specs.declared.before.Before.TheVariants as before
+use Rattle.st_parse_faults.specs.LeftOut.{left_out}
+use Rattle.st_parse_faults.specs.Nesting.{nesting_after, part_bars, may_open}
+use Rattle.st_parse_faults.specs.Limits.{tally_passes, part_tallies}
+use Rattle.st_parse_faults.specs.Faults.{nesting_limit}
 use Rattle.st_parse_exp.specs.Reading.{State, start, step, finish}
 
 -- what is known behind some tokens: how they are read, and how many brackets are open

@@ -4,11 +4,11 @@ use Rattle.std.specs.Prelude.{[], Bool, true, false, ◌&&◌, if◌then◌else�
 use Rattle.st_num.specs.declared.rule.RuleId.TheVariants.{S1}
 use Rattle.st_scan.specs.declared.token.TokenKind.{TokenKind}
 use Rattle.st_grammar.specs.Levels.{is_comma}
-use Rattle.st_reading.specs.declared.place.Lexeme.{Lexeme}
-use Rattle.st_reading.specs.declared.place.Slot.TheVariants as slot
-use Rattle.st_reading.specs.Course as course
-use Rattle.st_faults.specs.Seen as seen
-use Rattle.st_faults.specs.Seen.{Outline, Verdict, passed, broken}
+use Rattle.st_parse_automaton.specs.declared.place.Lexeme.{Lexeme}
+use Rattle.st_parse_automaton.specs.declared.place.Slot.TheVariants as slot
+use Rattle.st_parse_automaton.specs.Course as course
+use Rattle.st_parse_faults.specs.Seen as seen
+use Rattle.st_parse_faults.specs.Seen.{Outline, Verdict, passed, broken}
 
 -- A comma stands behind a whole expression.
 abbrev pub separates : course.State → Lexeme → Bool

@@ -1,15 +1,15 @@
 //! The verdict on one token of expressions.
 
 ghost use Rattle.std.specs.Prelude.{◌≡◌, ◌≤◌, IfOk, [], reverse};
-ghost use Rattle.st_faults.specs.Seen as seen;
-ghost use Rattle.st_reading.specs.Course as course;
-ghost use Rattle.st_reading.specs.declared.place.Slot.TheVariants as slot;
-ghost use Rattle.st_reading.specs.Readings.{progress_of};
+ghost use Rattle.st_parse_faults.specs.Seen as seen;
+ghost use Rattle.st_parse_automaton.specs.Course as course;
+ghost use Rattle.st_parse_automaton.specs.declared.place.Slot.TheVariants as slot;
+ghost use Rattle.st_parse_automaton.specs.Readings.{progress_of};
 ghost use Rattle.st_parse_exp.specs.Seen as spec;
 
-use st_faults::{Seen, Verdict, judge_token, nothing_counted};
 use st_num::{Mark, NoMemory, Row, RuleId};
-use st_reading::{Due, Lexeme, Progress, Reading, Shape, Slot, may_end};
+use st_parse_automaton::{Due, Lexeme, Progress, Reading, Shape, Slot, may_end};
+use st_parse_faults::{Seen, Verdict, judge_token, nothing_counted};
 use st_scan::TokenKind;
 use std::alloc::Global;
 

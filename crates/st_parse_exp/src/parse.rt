@@ -6,25 +6,25 @@ ghost use Rattle.st_grammar.specs.declared.sort.Sort.TheVariants.{Expression as 
 ghost use Rattle.st_grammar.specs.Trees.{Tree};
 ghost use Rattle.st_grammar.specs.Grammar.{Fits};
 ghost use Rattle.st_el.specs.declared.expression.Exp.{Exp};
-ghost use Rattle.st_meaning.specs.Meaning.{meaning};
-ghost use Rattle.st_meaning.specs.Actions.{acts};
-ghost use Rattle.st_reading.specs.declared.place.Slot.{Slot};
-ghost use Rattle.st_reading.specs.Outline as out;
-ghost use Rattle.st_reading.specs.Course as course;
-ghost use Rattle.st_reading.specs.Readings.{progress_of};
-ghost use Rattle.st_emit.specs.Emits as emits;
-ghost use Rattle.st_faults.specs.Place as place;
-ghost use Rattle.st_faults.specs.declared.refusal.SyntaxFault.TheVariants as fault;
+ghost use Rattle.st_parse_builder.specs.Meaning.{meaning};
+ghost use Rattle.st_parse_builder.specs.Actions.{acts};
+ghost use Rattle.st_parse_automaton.specs.declared.place.Slot.{Slot};
+ghost use Rattle.st_parse_automaton.specs.Outline as out;
+ghost use Rattle.st_parse_automaton.specs.Course as course;
+ghost use Rattle.st_parse_automaton.specs.Readings.{progress_of};
+ghost use Rattle.st_parse_actions.specs.Emits as emits;
+ghost use Rattle.st_parse_faults.specs.Place as place;
+ghost use Rattle.st_parse_faults.specs.declared.refusal.SyntaxFault.TheVariants as fault;
 ghost use Rattle.st_parse_exp.specs.Drafts.{AreBuilt};
 ghost use Rattle.st_parse_exp.specs.Parse.{AreWhole, Answers};
 
 use crate::draft::{end, take};
 use crate::judge::{begin, judge_next};
 use st_el::Exp;
-use st_faults::{SyntaxFault, Verdict, place_at};
-use st_meaning::Action;
 use st_num::{Name, Row, RuleId};
-use st_reading::{Progress, may_end, token_lexeme};
+use st_parse_automaton::{Progress, may_end, token_lexeme};
+use st_parse_builder::Action;
+use st_parse_faults::{SyntaxFault, Verdict, place_at};
 use st_scan::Token;
 use std::alloc::Global;
 

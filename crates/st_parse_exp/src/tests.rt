@@ -2,8 +2,8 @@
 
 use crate::parse_exp;
 use st_el::{Exp, print_el};
-use st_faults::SyntaxFault;
 use st_num::{NoMemory, RuleId};
+use st_parse_faults::SyntaxFault;
 use st_scan::{Token, scan};
 use std::alloc::{AllocError, Global};
 use std::process::Abort;

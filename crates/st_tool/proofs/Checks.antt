@@ -5,8 +5,8 @@ use Rattle.std.proofs.Math.Seq.{take-suc}
 use Rattle.std.proofs.lemmas.List.{length-take-le}
 use Rattle.std.proofs.lemmas.Option.{slice_get-get_or, slice_get_within}
 use Rattle.st_el.specs.declared.definition.Def.{Def}
-use Rattle.st_faults.specs.declared.refusal.SyntaxFault.{SyntaxFault}
-use Rattle.st_faults.specs.declared.refusal.SyntaxFault.TheVariants as syntax
+use Rattle.st_parse_faults.specs.declared.refusal.SyntaxFault.{SyntaxFault}
+use Rattle.st_parse_faults.specs.declared.refusal.SyntaxFault.TheVariants as syntax
 use Rattle.st_il.specs.declared.small.Small.{Small}
 use Rattle.st_il.specs.Small.{il_of}
 use Rattle.st_num.specs.declared.memory.NoMemory.{NoMemory}

@@ -2,7 +2,7 @@
 use Rattle.std.proofs.Common.{◌≡◌, ◌≢◌, ℕ, zero, suc, ◌+◌, ◌-◌, ◌<◌, List, [], ◌∷◌, length, Bool, true, false, nat_lt, refl, sym, ap, subst, arith}
 use Rattle.std.specs.Prelude.{slice_get}
 use Rattle.std.specs.List.{AllByRecursion}
-use Rattle.st_faults.specs.Place.{place_of, place_at}
+use Rattle.st_parse_faults.specs.Place.{place_of, place_at}
 use Rattle.st_num.specs.declared.span.Span.{Span}
 use Rattle.st_parse.proofs.Standing.{both}
 use Rattle.st_scan.specs.declared.token.Token.{Token}

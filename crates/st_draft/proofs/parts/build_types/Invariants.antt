@@ -1,5 +1,5 @@
 use Rattle.std.proofs.Common.{◌≡◌, take, Some}
-use Rattle.st_meaning.specs.NotationBuilding.{typ_built}
+use Rattle.st_parse_builder.specs.NotationBuilding.{typ_built}
 use Rattle.st_draft.specs.Parts.{all_built}
 use Rattle.st_draft.proofs.parts.build_types.Given as goal
 

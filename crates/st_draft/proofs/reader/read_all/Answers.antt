@@ -1,7 +1,7 @@
 use Rattle.std.proofs.Common.{[], Err, IfErr, refl, sym, ap, subst, reverse, ◌∙◌}
 use Rattle.st_grammar.specs.Places.{start}
-use Rattle.st_reading.specs.declared.place.Place.TheVariants as place
-use Rattle.st_reading.specs.Course as course
+use Rattle.st_parse_automaton.specs.declared.place.Place.TheVariants as place
+use Rattle.st_parse_automaton.specs.Course as course
 use Rattle.st_el.specs.Plain.{nowhere}
 use Rattle.st_draft.specs.Drafts.{begun}
 use Rattle.st_draft.specs.Work.{work_of}

@@ -1,6 +1,6 @@
 use Rattle.std.proofs.Common.{◌≡◌, Some, ap, ◌∙◌}
-use Rattle.st_reading.specs.declared.place.Progress.{Progress}
-use Rattle.st_reading.specs.Readings.{progress_of}
+use Rattle.st_parse_automaton.specs.declared.place.Progress.{Progress}
+use Rattle.st_parse_automaton.specs.Readings.{progress_of}
 use Rattle.st_draft.specs.Work.{Keeps, work_after}
 use Rattle.st_draft.proofs.Sketching.{held}
 use Rattle.st_draft.proofs.reader.read_next.Goals as goal

@@ -1,5 +1,5 @@
 use Rattle.std.proofs.Common.{rules, [], reverse, sym, ap, ◌∙◌}
-use Rattle.st_reading.specs.declared.outline.Due.TheVariants.{Operand}
+use Rattle.st_parse_automaton.specs.declared.outline.Due.TheVariants.{Operand}
 use Rattle.st_draft.specs.Work.{part_work, work_of}
 use Rattle.st_draft.proofs.Sketching.{at_is, entering_is, not_entering, gone_on}
 use Rattle.st_draft.proofs.step.change_work.Goals as goal

@@ -1,8 +1,8 @@
 use Rattle.std.proofs.Common.{rules, Err, IfErr, refl, reverse, sym, ap, subst, ◌∙◌}
 use Rattle.std.proofs.lemmas.List.{length-reverse}
-use Rattle.st_reading.specs.Outline as out
-use Rattle.st_reading.specs.Course as course
-use Rattle.st_reading.specs.Readings.{reading_of}
+use Rattle.st_parse_automaton.specs.Outline as out
+use Rattle.st_parse_automaton.specs.Course as course
+use Rattle.st_parse_automaton.specs.Readings.{reading_of}
 use Rattle.st_draft.specs.Work.{work_of, part_work, filled_work}
 use Rattle.st_draft.proofs.Sketching.{taken_goes, gone_on, behind_part}
 use Rattle.std.proofs.lemmas.Result.{err_from_is_err_and}

@@ -1,5 +1,5 @@
 use Rattle.std.proofs.Common.{IfOk, IfSome, ◌≡◌, Some, sym, subst}
-use Rattle.st_reading.specs.Readings.{progress_of}
+use Rattle.st_parse_automaton.specs.Readings.{progress_of}
 use Rattle.st_draft.specs.Work.{Keeps, work_after}
 use Rattle.st_draft.proofs.step.read_token.Goals as goal
 

@@ -2,8 +2,8 @@ use Rattle.std.proofs.Common.{sym, ap, ◌∙◌}
 use Rattle.st_el.specs.declared.expression.Node.{out-Node}
 use Rattle.st_el.specs.declared.expression.Node.TheVariants as node
 use Rattle.st_il.specs.declared.ty.Ty.{out-Ty}
-use Rattle.st_elaboration.specs.Checked.{tuple_at, checked_row}
-use Rattle.st_elab_row.proofs.Builds.{leading_by, leading_is, leading_opens, pass_reach}
+use Rattle.st_elab_table.specs.Checked.{tuple_at, checked_row}
+use Rattle.st_elab_rows.proofs.Builds.{leading_by, leading_is, leading_opens, pass_reach}
 use Rattle.st_elab_exp.proofs.Checking.{checked_plain}
 use Rattle.st_elab_exp.proofs.checked.checked_row.Goals as goal
 

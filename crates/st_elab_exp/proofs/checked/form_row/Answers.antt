@@ -1,7 +1,7 @@
 use Rattle.std.proofs.Common.{sym, ap, ◌∙◌}
 use Rattle.st_el.specs.declared.expression.Node.{out-Node}
 use Rattle.st_el.specs.declared.expression.Node.TheVariants as node
-use Rattle.st_elab_row.proofs.Builds.{leading_by}
+use Rattle.st_elab_rows.proofs.Builds.{leading_by}
 use Rattle.st_elab_exp.proofs.Checking.{form_arm, form_concatenation, form_binary, form_other}
 use Rattle.st_elab_exp.proofs.checked.form_row.Goals as goal
 

@@ -1,5 +1,5 @@
 use Rattle.std.proofs.Common.{rules, sym, refl, ◌∙◌}
-use Rattle.st_elab_row.proofs.Builds.{leading_by, reaches_stops, plain_inferable, plain_form}
+use Rattle.st_elab_rows.proofs.Builds.{leading_by, reaches_stops, plain_inferable, plain_form}
 use Rattle.st_elab_exp.proofs.checked.plain_row.Goals as goal
 
 pub returns-in_err-given : goal.returns-in_err-given

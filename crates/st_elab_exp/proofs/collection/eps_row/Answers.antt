@@ -1,5 +1,5 @@
 use Rattle.std.proofs.Common.{rules}
-use Rattle.st_elab_row.proofs.Builds.{gives_made}
+use Rattle.st_elab_rows.proofs.Builds.{gives_made}
 use Rattle.st_elab_exp.proofs.Collecting.{eps_list, eps_option, eps_fails}
 use Rattle.st_elab_exp.proofs.collection.eps_row.Goals as goal
 

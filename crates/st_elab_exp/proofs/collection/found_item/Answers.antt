@@ -1,8 +1,8 @@
 use Rattle.std.proofs.Common.{rules, true}
-use Rattle.st_elaboration.specs.Steps.{made, give}
-use Rattle.st_elaboration.specs.Collections.{splice}
-use Rattle.st_elaboration.specs.Elaboration.{ends, passes, misses}
-use Rattle.st_elab_row.proofs.Leaves.{refuted, proved}
+use Rattle.st_elab_table.specs.Steps.{made, give}
+use Rattle.st_elab_table.specs.Collections.{splice}
+use Rattle.st_elab_table.specs.Elaboration.{ends, passes, misses}
+use Rattle.st_elab_rows.proofs.Leaves.{refuted, proved}
 use Rattle.st_elab_exp.proofs.collection.found_item.Goals as goal
 
 pub returns-then-is_sub : goal.returns-then-is_sub

@@ -1,7 +1,7 @@
 use Rattle.std.proofs.Common.{ap}
 use Rattle.st_notation.specs.Fitted.{plain}
-use Rattle.st_elaboration.specs.Collections.{hole_row}
-use Rattle.st_elab_row.proofs.Builds.{leading_is, pass_reach}
+use Rattle.st_elab_table.specs.Collections.{hole_row}
+use Rattle.st_elab_rows.proofs.Builds.{leading_is, pass_reach}
 use Rattle.st_elab_exp.proofs.collection.hole.Goals as goal
 
 pub returns-in-One : goal.returns-in-One

@@ -1,11 +1,11 @@
 use Rattle.std.proofs.Common.{rules, sym, ◌∙◌, true}
-use Rattle.st_elaboration.specs.Forms.{place}
-use Rattle.st_elaboration.specs.Questions.{Made, Breach, Gives, Fails, Step, Ends, Asks}
-use Rattle.st_elaboration.specs.Steps.{made, asked, found}
-use Rattle.st_elaboration.specs.Collections.{splice, found_item, item_row}
-use Rattle.st_elaboration.specs.Elaboration.{Leads, ends}
-use Rattle.st_elaboration.proofs.RowLemmas.{item_all, item_found, item_one}
-use Rattle.st_elab_row.proofs.Builds.{Told-stops}
+use Rattle.st_elab_table.specs.Forms.{place}
+use Rattle.st_elab_table.specs.Questions.{Made, Breach, Gives, Fails, Step, Ends, Asks}
+use Rattle.st_elab_table.specs.Steps.{made, asked, found}
+use Rattle.st_elab_table.specs.Collections.{splice, found_item, item_row}
+use Rattle.st_elab_table.specs.Elaboration.{Leads, ends}
+use Rattle.st_elab_table.proofs.RowLemmas.{item_all, item_found, item_one}
+use Rattle.st_elab_rows.proofs.Builds.{Told-stops}
 use Rattle.st_elab_exp.proofs.Collecting.{item_leads}
 use Rattle.st_elab_exp.proofs.collection.item.Goals as goal
 

@@ -1,9 +1,9 @@
 use Rattle.std.proofs.Common.{subst}
-use Rattle.st_elaboration.specs.Collections.{element}
-use Rattle.st_elab_row.specs.Asking.{LeadsTo}
-use Rattle.st_elab_row.specs.Words.{lift_of}
-use Rattle.st_elab_row.specs.declared.fitting.Lifting.TheVariants as lifting
-use Rattle.st_elab_row.proofs.Builds.{leading_by}
+use Rattle.st_elab_table.specs.Collections.{element}
+use Rattle.st_elab_rows.specs.Asking.{LeadsTo}
+use Rattle.st_elab_rows.specs.Words.{lift_of}
+use Rattle.st_elab_rows.specs.declared.fitting.Lifting.TheVariants as lifting
+use Rattle.st_elab_rows.proofs.Builds.{leading_by}
 use Rattle.st_elab_exp.proofs.Collecting.{other_list, other_option, other_fails}
 use Rattle.st_elab_exp.proofs.collection.other_row.Goals as goal
 

@@ -1,9 +1,9 @@
 use Rattle.std.proofs.Common.{rules, sym, ◌∙◌}
 use Rattle.st_il.specs.declared.expression.IlExp.TheVariants as il
-use Rattle.st_elaboration.specs.Steps.{give}
-use Rattle.st_elaboration.specs.Collections.{item_of}
-use Rattle.st_elaboration.proofs.RowLemmas.{sequence_collection, sequence_plain}
-use Rattle.st_elab_row.proofs.Builds.{leading_by, leading_breaks, leads_asks, gives_made}
+use Rattle.st_elab_table.specs.Steps.{give}
+use Rattle.st_elab_table.specs.Collections.{item_of}
+use Rattle.st_elab_table.proofs.RowLemmas.{sequence_collection, sequence_plain}
+use Rattle.st_elab_rows.proofs.Builds.{leading_by, leading_breaks, leads_asks, gives_made}
 use Rattle.st_elab_exp.proofs.collection.sequence.Goals as goal
 
 pub returns-then-is_collection : goal.returns-then-is_collection

@@ -1,4 +1,4 @@
-use Rattle.st_elab_row.proofs.Builds.{tells_row}
+use Rattle.st_elab_rows.proofs.Builds.{tells_row}
 use Rattle.st_elab_exp.proofs.driver.+answer+fn-answer-row.Goals as goal
 
 pub returns : goal.returns

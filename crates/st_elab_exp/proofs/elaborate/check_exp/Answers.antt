@@ -1,10 +1,10 @@
 use Rattle.std.proofs.Common.{rules, ap, sym, subst}
 use Rattle.std.specs.Prelude.{Ok}
-use Rattle.st_elaboration.specs.Questions.{Breach}
-use Rattle.st_elaboration.specs.Steps.{made, asked, exp_of}
-use Rattle.st_elaboration.specs.Elaboration.{around, Elab, ElabBreach}
-use Rattle.st_elab_row.specs.Told.{Told}
-use Rattle.st_elab_row.proofs.Builds.{Told-stops}
+use Rattle.st_elab_table.specs.Questions.{Breach}
+use Rattle.st_elab_table.specs.Steps.{made, asked, exp_of}
+use Rattle.st_elab_table.specs.Elaboration.{around, Elab, ElabBreach}
+use Rattle.st_elab_rows.specs.Told.{Told}
+use Rattle.st_elab_rows.proofs.Builds.{Told-stops}
 use Rattle.st_elab_exp.specs.Inside.{ElabInside, InsideBreach}
 use Rattle.st_elab_exp.proofs.Public.{told_given, told_refused, told_erased}
 use Rattle.st_elab_exp.proofs.elaborate.check_exp.Goals as goal

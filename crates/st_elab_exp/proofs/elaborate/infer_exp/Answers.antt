@@ -2,12 +2,12 @@ use Rattle.std.proofs.Common.{rules, ap, subst}
 use Rattle.std.specs.Prelude.{Ok}
 use Rattle.st_il.specs.declared.ty.Ty.{Ty}
 use Rattle.st_il.specs.declared.expression.IlExp.{IlExp}
-use Rattle.st_elaboration.specs.Forms.{place}
-use Rattle.st_elaboration.specs.Questions.{infer, Made, Breach, Fails}
-use Rattle.st_elaboration.specs.Steps.{made, found}
-use Rattle.st_elaboration.specs.Elaboration.{Answered, around, Infer, InferBreach}
-use Rattle.st_elab_row.specs.Told.{Told}
-use Rattle.st_elab_row.proofs.Builds.{Told-stops}
+use Rattle.st_elab_table.specs.Forms.{place}
+use Rattle.st_elab_table.specs.Questions.{infer, Made, Breach, Fails}
+use Rattle.st_elab_table.specs.Steps.{made, found}
+use Rattle.st_elab_table.specs.Elaboration.{Answered, around, Infer, InferBreach}
+use Rattle.st_elab_rows.specs.Told.{Told}
+use Rattle.st_elab_rows.proofs.Builds.{Told-stops}
 use Rattle.st_elab_exp.proofs.Public.{told_given, told_refused, found_erased, is_inferred}
 use Rattle.st_elab_exp.proofs.elaborate.infer_exp.Goals as goal
 

@@ -1,9 +1,9 @@
 use Rattle.std.proofs.Common.{sym, ap, subst, ◌∙◌}
 use Rattle.st_num.specs.declared.rule.RuleId.TheVariants.{Y3}
-use Rattle.st_elaboration.specs.Operands.{binary_row}
-use Rattle.st_elaboration.specs.Questions.{Fails}
-use Rattle.st_elaboration.specs.Elaboration.{Leads, ends}
-use Rattle.st_elab_row.proofs.Builds.{leading_is}
+use Rattle.st_elab_table.specs.Operands.{binary_row}
+use Rattle.st_elab_table.specs.Questions.{Fails}
+use Rattle.st_elab_table.specs.Elaboration.{Leads, ends}
+use Rattle.st_elab_rows.proofs.Builds.{leading_is}
 use Rattle.st_elab_exp.proofs.inferred.binary_row.Goals as goal
 
 pub returns-in-Logic : goal.returns-in-Logic

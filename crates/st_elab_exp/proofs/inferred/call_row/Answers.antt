@@ -3,11 +3,11 @@ use Rattle.std.proofs.lemmas.Bool.{eq-eqb, ne_eqb}
 use Rattle.std.specs.Option.{option_copied}
 use Rattle.st_il.specs.declared.expression.IlExp.{IlExp}
 use Rattle.st_il.specs.declared.expression.IlExp.TheVariants as il
-use Rattle.st_elaboration.specs.Inferred.{fun_named}
-use Rattle.st_elaboration.specs.Steps.{give, each_asked, exp_of}
-use Rattle.st_elaboration.proofs.RowLemmas.{call_counted, call_miscounted}
-use Rattle.st_elab_row.specs.Parts.{TellsAll, AskedAs}
-use Rattle.st_elab_row.proofs.Builds.{leading_by, leading_breaks, leads_asks, gives_made}
+use Rattle.st_elab_table.specs.Inferred.{fun_named}
+use Rattle.st_elab_table.specs.Steps.{give, each_asked, exp_of}
+use Rattle.st_elab_table.proofs.RowLemmas.{call_counted, call_miscounted}
+use Rattle.st_elab_rows.specs.Parts.{TellsAll, AskedAs}
+use Rattle.st_elab_rows.proofs.Builds.{leading_by, leading_breaks, leads_asks, gives_made}
 use Rattle.st_elab_exp.proofs.Inferring.{no_function, has_function}
 use Rattle.st_elab_exp.proofs.inferred.call_row.Goals as goal
 

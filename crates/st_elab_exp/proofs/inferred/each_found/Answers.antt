@@ -1,11 +1,11 @@
 use Rattle.std.proofs.Common.{rules, ap, map}
 use Rattle.std.proofs.lemmas.List.{drop_all}
-use Rattle.st_elaboration.specs.Questions.{Made, Breach, Gives, Fails, Step, Ends, Asks}
-use Rattle.st_elaboration.specs.Steps.{found}
-use Rattle.st_elaboration.specs.Elaboration.{Leads, ends}
-use Rattle.st_elab_row.specs.Asking.{made_by}
-use Rattle.st_elab_row.specs.Parts.{Breaks}
-use Rattle.st_elab_row.proofs.Builds.{Told-stops, questions_from}
+use Rattle.st_elab_table.specs.Questions.{Made, Breach, Gives, Fails, Step, Ends, Asks}
+use Rattle.st_elab_table.specs.Steps.{found}
+use Rattle.st_elab_table.specs.Elaboration.{Leads, ends}
+use Rattle.st_elab_rows.specs.Asking.{made_by}
+use Rattle.st_elab_rows.specs.Parts.{Breaks}
+use Rattle.st_elab_rows.proofs.Builds.{Told-stops, questions_from}
 use Rattle.st_elab_exp.proofs.Collecting.{passed}
 use Rattle.st_elab_exp.proofs.Pairing.{found_more, found_breaks, found_end}
 use Rattle.st_elab_exp.proofs.inferred.each_found.Goals as goal

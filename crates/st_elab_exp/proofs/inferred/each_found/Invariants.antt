@@ -1,5 +1,5 @@
 use Rattle.std.proofs.Common.{drop, map}
-use Rattle.st_elaboration.specs.Steps.{found}
+use Rattle.st_elab_table.specs.Steps.{found}
 use Rattle.st_elab_exp.proofs.Pairing.{FoundSoFar}
 use Rattle.st_elab_exp.proofs.inferred.each_found.Given as goal
 

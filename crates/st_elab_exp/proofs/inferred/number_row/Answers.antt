@@ -1,4 +1,4 @@
-use Rattle.st_elab_row.proofs.Builds.{gives_made}
+use Rattle.st_elab_rows.proofs.Builds.{gives_made}
 use Rattle.st_elab_exp.proofs.inferred.number_row.Goals as goal
 
 pub returns : goal.returns

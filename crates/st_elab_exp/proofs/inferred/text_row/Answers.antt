@@ -1,5 +1,5 @@
 use Rattle.std.proofs.Common.{rules}
-use Rattle.st_elab_row.proofs.Builds.{gives_made}
+use Rattle.st_elab_rows.proofs.Builds.{gives_made}
 use Rattle.st_elab_exp.proofs.inferred.text_row.Goals as goal
 
 pub returns : goal.returns

@@ -1,12 +1,12 @@
 use Rattle.std.proofs.Common.{rules, map}
 use Rattle.st_il.specs.declared.ty.Ty.TheVariants as typ
 use Rattle.st_il.specs.declared.expression.IlExp.TheVariants as il
-use Rattle.st_elaboration.specs.Questions.{Breach, Fails}
-use Rattle.st_elaboration.specs.Inferred.{inferred_tuple}
-use Rattle.st_elaboration.specs.Steps.{give, found}
-use Rattle.st_elaboration.specs.Elaboration.{Leads}
-use Rattle.st_elab_row.specs.Parts.{Breaks}
-use Rattle.st_elab_row.proofs.Builds.{Told-stops, leads_breaks, gives_made}
+use Rattle.st_elab_table.specs.Questions.{Breach, Fails}
+use Rattle.st_elab_table.specs.Inferred.{inferred_tuple}
+use Rattle.st_elab_table.specs.Steps.{give, found}
+use Rattle.st_elab_table.specs.Elaboration.{Leads}
+use Rattle.st_elab_rows.specs.Parts.{Breaks}
+use Rattle.st_elab_rows.proofs.Builds.{Told-stops, leads_breaks, gives_made}
 use Rattle.st_elab_exp.proofs.Pairing.{pairs_lead}
 use Rattle.st_elab_exp.proofs.inferred.tuple_row.Goals as goal
 

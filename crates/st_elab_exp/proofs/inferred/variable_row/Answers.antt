@@ -1,5 +1,5 @@
 use Rattle.std.proofs.Common.{rules, sym, ◌∙◌}
-use Rattle.st_elab_row.proofs.Builds.{gives_made}
+use Rattle.st_elab_rows.proofs.Builds.{gives_made}
 use Rattle.st_elab_exp.proofs.Inferring.{no_type, has_type}
 use Rattle.st_elab_exp.proofs.inferred.variable_row.Goals as goal
 

@@ -2,7 +2,7 @@ use Rattle.std.proofs.Common.{◌≡◌, List, ◌++◌, drop}
 use Rattle.std.specs.Option.{option_map}
 use Rattle.st_notation.specs.Fits.{Filling}
 use Rattle.st_notation.specs.Fitted.{fillings}
-use Rattle.st_elaboration.specs.Records.{aligned, field_names}
+use Rattle.st_elab_table.specs.Records.{aligned, field_names}
 use Rattle.st_elab_exp.proofs.record_row.aligned.Given as goal
 
 abbrev pub invariant-loop-field : goal.invariant-loop-field

@@ -1,12 +1,12 @@
 use Rattle.std.proofs.Common.{rules, sym, ap, subst, ◌∙◌}
 use Rattle.st_il.specs.declared.expression.IlExp.TheVariants as il
-use Rattle.st_elaboration.specs.Choice.{HaveShapes}
-use Rattle.st_elaboration.specs.Records.{field_types, field_names, aligned}
-use Rattle.st_elaboration.specs.Steps.{give, holes, exp_of}
+use Rattle.st_elab_table.specs.Choice.{HaveShapes}
+use Rattle.st_elab_table.specs.Records.{field_types, field_names, aligned}
+use Rattle.st_elab_table.specs.Steps.{give, holes, exp_of}
 use Rattle.st_notation.specs.Fitted.{fillings}
-use Rattle.st_elab_row.specs.Parts.{TellsAll, AskedAs}
+use Rattle.st_elab_rows.specs.Parts.{TellsAll, AskedAs}
 use Rattle.st_il.specs.declared.expression.IlExp.{IlExp}
-use Rattle.st_elab_row.proofs.Builds.{leading_by, leading_breaks, leads_asks, gives_made}
+use Rattle.st_elab_rows.proofs.Builds.{leading_by, leading_breaks, leads_asks, gives_made}
 use Rattle.st_elab_exp.proofs.Recording.{record_fills, record_unfit}
 use Rattle.st_elab_exp.proofs.record_row.fields_of_record.Goals as goal
 

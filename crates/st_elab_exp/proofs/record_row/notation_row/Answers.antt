@@ -1,5 +1,5 @@
-use Rattle.st_elaboration.proofs.RowLemmas.{notation_variant, notation_other}
-use Rattle.st_elab_row.proofs.Builds.{leading_by}
+use Rattle.st_elab_table.proofs.RowLemmas.{notation_variant, notation_other}
+use Rattle.st_elab_rows.proofs.Builds.{leading_by}
 use Rattle.st_elab_exp.proofs.record_row.notation_row.Goals as goal
 
 pub returns-in-Some : goal.returns-in-Some

@@ -1,5 +1,5 @@
 use Rattle.std.proofs.Common.{sym, ◌∙◌}
-use Rattle.st_elaboration.specs.Records.{aligned}
+use Rattle.st_elab_table.specs.Records.{aligned}
 use Rattle.st_elab_exp.proofs.Recording.{omitted_fills, not_omitted}
 use Rattle.st_elab_exp.proofs.record_row.place_field.Goals as goal
 

@@ -1,4 +1,4 @@
-use Rattle.st_elab_row.proofs.Builds.{leading_by}
+use Rattle.st_elab_rows.proofs.Builds.{leading_by}
 use Rattle.st_elab_exp.proofs.Recording.{record_has, record_none, record_unnamed}
 use Rattle.st_elab_exp.proofs.record_row.record_row.Goals as goal
 

@@ -1,7 +1,7 @@
 use Rattle.std.proofs.Common.{ap, ◌∙◌}
 use Rattle.st_il.specs.declared.expression.IlExp.TheVariants as il
-use Rattle.st_elaboration.specs.Steps.{made}
-use Rattle.st_elab_row.proofs.Builds.{gives_made}
+use Rattle.st_elab_table.specs.Steps.{made}
+use Rattle.st_elab_rows.proofs.Builds.{gives_made}
 use Rattle.st_elab_exp.proofs.Turning.{names_are}
 use Rattle.st_elab_exp.proofs.turn.iteration.Goals as goal
 

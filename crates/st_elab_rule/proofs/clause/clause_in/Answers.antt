@@ -1,9 +1,9 @@
 use Rattle.std.proofs.Common.{rules, refl, sym, subst}
 use Rattle.st_il.specs.declared.expression.IlExp.{IlExp}
-use Rattle.st_elaboration.specs.Questions.{Breach}
-use Rattle.st_elaboration.specs.Steps.{each_asked, exp_of}
-use Rattle.st_elab_row.specs.Parts.{AskedAs, Breaks}
-use Rattle.st_elab_row.proofs.Builds.{Told-stops}
+use Rattle.st_elab_table.specs.Questions.{Breach}
+use Rattle.st_elab_table.specs.Steps.{each_asked, exp_of}
+use Rattle.st_elab_rows.specs.Parts.{AskedAs, Breaks}
+use Rattle.st_elab_rows.proofs.Builds.{Told-stops}
 use Rattle.st_elab_exp.specs.Inside.{ElabInside, InsideBreach}
 use Rattle.st_elab_rule.specs.Premises.{ElabPrems, PremsBreach}
 use Rattle.st_elab_rule.specs.Clauses.{parts_of, ElabClause, ClauseBreach, in_arguments, in_result, in_premises}

@@ -1,8 +1,8 @@
 use Rattle.std.proofs.Common.{rules, ap, ◌∙◌}
 use Rattle.st_el.specs.declared.definition.PremNode.{out-PremNode}
 use Rattle.st_el.specs.declared.definition.PremNode.TheVariants as node
-use Rattle.st_elaboration.specs.Questions.{Breach}
-use Rattle.st_elab_row.proofs.Builds.{Told-stops}
+use Rattle.st_elab_table.specs.Questions.{Breach}
+use Rattle.st_elab_rows.proofs.Builds.{Told-stops}
 use Rattle.st_elab_rule.specs.Premises.{PremBreach, otherwise}
 use Rattle.st_elab_rule.proofs.Building.{premise_breach}
 use Rattle.st_elab_rule.proofs.premise.+elaborate_prem.Goals as goal

@@ -1,8 +1,8 @@
 use Rattle.std.proofs.Common.{rules, sym, subst}
 use Rattle.st_il.specs.declared.ty.Ty.TheVariants as ty
 use Rattle.st_il.specs.declared.expression.IlPrem.TheVariants as premise
-use Rattle.st_elaboration.specs.Questions.{Breach}
-use Rattle.st_elab_row.proofs.Builds.{Told-stops}
+use Rattle.st_elab_table.specs.Questions.{Breach}
+use Rattle.st_elab_rows.proofs.Builds.{Told-stops}
 use Rattle.st_elab_exp.specs.Inside.{InsideBreach}
 use Rattle.st_elab_rule.specs.Premises.{ElabPrem, condition, PremBreach, in_condition}
 use Rattle.st_elab_rule.proofs.premise.condition.Goals as goal

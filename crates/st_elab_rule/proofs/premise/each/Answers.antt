@@ -1,9 +1,9 @@
 use Rattle.std.proofs.Common.{rules, ap, ◌∙◌, ◌≡◌, sym, subst, length}
 use Rattle.st_el.specs.declared.expression.Count.{out-Count}
 use Rattle.st_il.specs.declared.expression.IlPrem.TheVariants as premise
-use Rattle.st_elaboration.specs.declared.within.Within.{Within}
-use Rattle.st_elaboration.specs.Questions.{Breach}
-use Rattle.st_elab_row.proofs.Builds.{Told-stops}
+use Rattle.st_elab_table.specs.declared.within.Within.{Within}
+use Rattle.st_elab_table.specs.Questions.{Breach}
+use Rattle.st_elab_rows.proofs.Builds.{Told-stops}
 use Rattle.st_elab_rule.specs.Iterated.{CountBreach, prem_iterated, prem_iterated_in}
 use Rattle.st_elab_rule.specs.Premises.{ElabPrem, each, PremBreach, in_count}
 use Rattle.st_elab_rule.proofs.premise.each.Goals as goal

@@ -1,6 +1,6 @@
 use Rattle.std.proofs.Common.{rules}
-use Rattle.st_elaboration.specs.Questions.{Breach}
-use Rattle.st_elab_row.proofs.Builds.{Told-stops}
+use Rattle.st_elab_table.specs.Questions.{Breach}
+use Rattle.st_elab_rows.proofs.Builds.{Told-stops}
 use Rattle.st_elab_rule.specs.Premises.{PremBreach, PremsBreach}
 use Rattle.st_elab_rule.proofs.Building.{next_prem, breach_at, all_prems}
 use Rattle.st_elab_rule.proofs.premise.elaborate_prems.Goals as goal

@@ -1,8 +1,8 @@
 use Rattle.std.proofs.Common.{rules, sym, subst}
 use Rattle.st_num.specs.declared.rule.RuleId.TheVariants.{B2}
 use Rattle.st_il.specs.declared.expression.IlPrem.TheVariants as premise
-use Rattle.st_elaboration.specs.Questions.{Breach}
-use Rattle.st_elab_row.proofs.Builds.{Told-stops}
+use Rattle.st_elab_table.specs.Questions.{Breach}
+use Rattle.st_elab_rows.proofs.Builds.{Told-stops}
 use Rattle.st_elab_rule.specs.Judgements.{broken, JudgedBreach}
 use Rattle.st_elab_rule.specs.Premises.{ElabPrem, judgement, PremBreach, undeclared, in_judgement}
 use Rattle.st_elab_rule.proofs.Judging.{not_declared, is_declared}

@@ -1,8 +1,8 @@
 use Rattle.std.proofs.Common.{rules, ap, ◌∙◌, ◌≡◌, subst, [], ◌∷◌}
 use Rattle.st_dims.specs.Mentions.{mentions_in}
-use Rattle.st_elaboration.specs.Questions.{Breach}
-use Rattle.st_elab_row.specs.Told.{Told}
-use Rattle.st_elab_row.proofs.Builds.{Told-stops}
+use Rattle.st_elab_table.specs.Questions.{Breach}
+use Rattle.st_elab_rows.specs.Told.{Told}
+use Rattle.st_elab_rows.proofs.Builds.{Told-stops}
 use Rattle.st_elab_rule.specs.Variables.{VariableBreach}
 use Rattle.st_elab_rule.specs.Rules.{ElabRule, RuleBreach, at_variable}
 use Rattle.st_elab_rule.proofs.Outcomes.{told_given, told_refused}

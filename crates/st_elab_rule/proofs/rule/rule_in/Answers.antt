@@ -1,6 +1,6 @@
 use Rattle.std.proofs.Common.{rules, subst}
-use Rattle.st_elaboration.specs.Questions.{Breach}
-use Rattle.st_elab_row.proofs.Builds.{Told-stops}
+use Rattle.st_elab_table.specs.Questions.{Breach}
+use Rattle.st_elab_rows.proofs.Builds.{Told-stops}
 use Rattle.st_elab_rule.specs.Judgements.{Judged, JudgedBreach}
 use Rattle.st_elab_rule.specs.Premises.{PremsBreach}
 use Rattle.st_elab_rule.specs.Rules.{RuleBreach, in_conclusion, in_premises}

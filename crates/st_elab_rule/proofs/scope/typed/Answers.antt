@@ -1,5 +1,5 @@
 use Rattle.std.proofs.Common.{ap, ◌∙◌}
-use Rattle.st_elaboration.specs.Variables.{type_of_name}
+use Rattle.st_elab_table.specs.Variables.{type_of_name}
 use Rattle.st_elab_rule.proofs.Building.{next_typed, next_entry, same_pair}
 use Rattle.st_elab_rule.proofs.scope.typed.Goals as goal
 

@@ -1,6 +1,6 @@
 use Rattle.std.proofs.Common.{◌≡◌, ◌≤◌, [], ◌∷◌, ◌++◌, ap, subst, sym, ◌∙◌, arith, true, false, Some, if◌then◌else◌}
 use Rattle.std.specs.List.{list_any}
-use Rattle.st_meaning.specs.Names.{name_of}
+use Rattle.st_parse_builder.specs.Names.{name_of}
 use Rattle.st_measure.specs.Names.{same_name}
 use Rattle.st_measure.specs.Variables.{occurrence}
 use Rattle.st_measure.specs.Counting.{Knows}

@@ -1,6 +1,6 @@
 use Rattle.std.proofs.Common.{◌≡◌, List, [], ◌∷◌, ◌++◌, take, drop, ap, ◌∙◌}
 use Rattle.std.proofs.lemmas.Result.{on_ok_weaker}
-use Rattle.st_meaning.specs.Names.{name_of}
+use Rattle.st_parse_builder.specs.Names.{name_of}
 use Rattle.st_measure.specs.Variables.{Occurrence, occurrences, without}
 use Rattle.st_measure.proofs.Leaving.{parts_back}
 use Rattle.st_measure.proofs.note.leave_index.Goals as goal

@@ -1,5 +1,5 @@
 use Rattle.std.proofs.Common.{◌≡◌, [], take, Some}
-use Rattle.st_meaning.specs.Building.{Stack, run}
+use Rattle.st_parse_builder.specs.Building.{Stack, run}
 use Rattle.st_measure.specs.Variables.{occurrences}
 use Rattle.st_measure.specs.Noting.{IsNoted}
 use Rattle.st_measure.proofs.note.note_variables.Given as goal

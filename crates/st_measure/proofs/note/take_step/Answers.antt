@@ -1,5 +1,5 @@
 use Rattle.std.proofs.Common.{[], ◌∷◌, ◌++◌, take, drop, subst, ap, ◌∙◌}
-use Rattle.st_meaning.specs.Names.{name_of}
+use Rattle.st_parse_builder.specs.Names.{name_of}
 use Rattle.st_measure.specs.declared.note.Body.{Body}
 use Rattle.st_measure.specs.Variables.{occurrences, without}
 use Rattle.st_measure.specs.Steps.{IsIndexed, Does}

@@ -1,5 +1,5 @@
 use Rattle.std.proofs.Common.{◌≡◌, map, take}
-use Rattle.st_meaning.specs.Heights.{highest, height, field_height, seg_height}
+use Rattle.st_parse_builder.specs.Heights.{highest, height, field_height, seg_height}
 use Rattle.st_measure.specs.Answers.{capped}
 use Rattle.st_measure.proofs.tall.+height.Given as goal
 

@@ -1,5 +1,5 @@
 use Rattle.std.proofs.Common.{◌≡◌, map, take}
-use Rattle.st_meaning.specs.Heights.{highest, notation_height}
+use Rattle.st_parse_builder.specs.Heights.{highest, notation_height}
 use Rattle.st_measure.specs.Answers.{capped}
 use Rattle.st_measure.proofs.tall.+notation_height.Given as goal
 

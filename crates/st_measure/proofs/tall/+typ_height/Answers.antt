@@ -1,4 +1,4 @@
-use Rattle.st_meaning.specs.Heights.{typ_height}
+use Rattle.st_parse_builder.specs.Heights.{typ_height}
 use Rattle.st_measure.proofs.Highest.{highest_next}
 use Rattle.st_measure.proofs.tall.+typ_height.Goals as goal
 

@@ -1,5 +1,5 @@
 use Rattle.std.proofs.Common.{◌≡◌, map, take}
-use Rattle.st_meaning.specs.Heights.{highest, typ_height}
+use Rattle.st_parse_builder.specs.Heights.{highest, typ_height}
 use Rattle.st_measure.specs.Answers.{capped}
 use Rattle.st_measure.proofs.tall.+typ_height.Given as goal
 

@@ -1,7 +1,7 @@
 use Rattle.std.proofs.Common.{map, ap, subst, ◌∙◌}
 use Rattle.st_grammar.specs.Lexemes.{lexeme}
 use Rattle.st_grammar.specs.Places.{reading, start}
-use Rattle.st_meaning.specs.Definitions.{defs_meaning}
+use Rattle.st_parse_builder.specs.Definitions.{defs_meaning}
 use Rattle.st_measure.specs.Answers.{OnlyMemory}
 use Rattle.st_parse.proofs.Sources.{reads_all, parsed, built_source}
 use Rattle.st_parse.proofs.parser.read_definitions.Goals as goal

@@ -1,5 +1,0 @@
-use Rattle.st_elab_row.proofs.Builds.{asks_reach}
-use Rattle.st_elab_row.proofs.ask.asked_at.Goals as goal
-
-pub returns : goal.returns
-returns g c = asks_reach _ _ _ _ _ (c.requires.answers _ _ _ c.ask.ensures)

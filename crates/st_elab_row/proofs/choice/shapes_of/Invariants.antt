@@ -1,6 +1,0 @@
-use Rattle.std.proofs.Common.{take}
-use Rattle.st_elaboration.specs.Choice.{HaveShapes}
-use Rattle.st_elab_row.proofs.choice.shapes_of.Given as goal
-
-abbrev pub invariant-loop-ty : goal.invariant-loop-ty
-invariant-loop-ty l = HaveShapes l.types (take l.ty-index l.tys) l.shapes

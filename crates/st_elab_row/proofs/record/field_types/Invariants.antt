@@ -1,6 +1,0 @@
-use Rattle.std.proofs.Common.{◌≡◌, take}
-use Rattle.st_elaboration.specs.Records.{field_types}
-use Rattle.st_elab_row.proofs.record.field_types.Given as goal
-
-abbrev pub invariant-loop-field : goal.invariant-loop-field
-invariant-loop-field l = l.types ≡ field_types (take l.field-index l.fields)

@@ -1,0 +1,10 @@
+use Rattle.std.proofs.Common.{rules}
+use Rattle.st_elab_rows.proofs.Builds.{leading_by, reaches_stops, gives_made}
+use Rattle.st_elab_rows.proofs.operand.logic_row.Goals as goal
+
+pub returns-in_err-other : goal.returns-in_err-other
+returns-in_err-other g c = leading_by _ _ _ _ _ _ (λ a h. c.in_ok-one.ensures _ a h)
+    (reaches_stops _ _ _ _ _ _ c.asked-2.result c.from_residual-in_err-other.result c.in_err-other.field-0.0 c.in_err-other.was (search rules) c.asked-2.ensures)
+
+pub returns : goal.returns
+returns g c = c.in_ok-one.ensures _ _ (c.in_ok-other.ensures _ _ (gives_made _ _ _ _ _ (search rules)))

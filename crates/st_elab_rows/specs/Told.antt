@@ -1,0 +1,30 @@
+-- What the answers of calls say.
+use Rattle.std.specs.Prelude.{Result, Ok, Err}
+use Rattle.st_elab_table.specs.declared.decls.Decls.{Decls}
+use Rattle.st_elab_table.specs.declared.decls.Scope.{Scope}
+use Rattle.st_elab_table.specs.declared.fault.ExpFault.{ExpFault}
+use Rattle.st_elab_table.specs.declared.fault.ExpFault.TheVariants as fault
+use Rattle.st_elab_table.specs.Questions.{Question, Made, Breach, Answer, Gives, Fails, Step}
+use Rattle.st_elab_table.specs.Elaboration.{Answered, Leads}
+
+-- P holds of what is given and F of a breach; want of memory says nothing
+abbrev pub Told : {A : Type 0} → (A → Type 0) → (Breach → Type 0) → Result A ExpFault → Type 0
+Told P F (Ok x) = P x
+Told P F (Err (fault.Refused at rule)) = F (record { at = at; rule = rule })
+Told P F (Err fault.Memory) = Unit {0}
+
+-- the result is the answer to a question
+abbrev pub Tells : Decls → Scope → Question → {A : Type 0} → (A → Made) → Result A ExpFault → Type 0
+Tells D S q f r = Told (λ x. Answered D S q (Gives (f x))) (λ b. Answered D S q (Fails b)) r
+
+-- the steps lead to the result
+abbrev pub Leading : Decls → Scope → Step → {A : Type 0} → (A → Made) → Result A ExpFault → Type 0
+Leading D S s f r = Told (λ x. Leads D S s (Gives (f x))) (λ b. Leads D S s (Fails b)) r
+
+-- Where something is found, the steps that go on with it lead where the steps behind it lead; a
+-- breach is theirs whatever is behind.
+abbrev pub Reaches : Decls → Scope → {X : Type 0} → ((X → Step) → Step) → {A : Type 0} → (A → X)
+    → Result A ExpFault → Type 0
+Reaches D S {X} steps f r =
+    Told (λ x. (next : X → Step) (a : Answer) → Leads D S (next (f x)) a → Leads D S (steps next) a)
+    (λ b. (next : X → Step) → Leads D S (steps next) (Fails b)) r

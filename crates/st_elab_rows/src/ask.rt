@@ -1,0 +1,112 @@
+//! Questions, asked.
+
+ghost use Rattle.st_elab_table.specs.Questions.{check, infer, Asks};
+ghost use Rattle.st_elab_table.specs.Steps.{asked, found};
+ghost use Rattle.st_elab_rows.specs.Asking.{AnswersAll, Meets};
+
+use crate::asking::{Asking, Context, Found, Part};
+use st_el::Exp;
+use st_elab_table::{ExpFault, Within};
+use st_il::Ty;
+use st_num::Span;
+
+/// The expression by itself, for its type.
+pub fn found<F: Fn(&Within, &Asking<'_>) -> Result<Found, ExpFault>>(
+    context: &Context<'_>,
+    ask: &F,
+    exp: &Exp,
+) -> Result<Found, ExpFault>
+    requires callable { F.IsAlwaysCallable ask.now }
+    requires answers { AnswersAll context.now (F.post ask.now) }
+    ensures { Meets context.now (Asks (found context.now.within.now exp.now)) result }
+{
+    ask(context.within, &Asking::Infer { at: exp.at, exp })
+}
+
+/// The expression, at the place of its parentheses, for its type.
+pub fn found_at<F: Fn(&Within, &Asking<'_>) -> Result<Found, ExpFault>>(
+    context: &Context<'_>,
+    ask: &F,
+    at: Span,
+    exp: &Exp,
+) -> Result<Found, ExpFault>
+    requires callable { F.IsAlwaysCallable ask.now }
+    requires answers { AnswersAll context.now (F.post ask.now) }
+    ensures { Meets context.now (Asks (infer context.now.within.now at exp.now)) result }
+{
+    ask(context.within, &Asking::Infer { at, exp })
+}
+
+/// The body of an iteration, for its type.
+pub fn found_inside<F: Fn(&Within, &Asking<'_>) -> Result<Found, ExpFault>>(
+    context: &Context<'_>,
+    ask: &F,
+    inner: &Within,
+    exp: &Exp,
+) -> Result<Found, ExpFault>
+    requires callable { F.IsAlwaysCallable ask.now }
+    requires answers { AnswersAll context.now (F.post ask.now) }
+    ensures { Meets context.now (Asks (found inner.now exp.now)) result }
+{
+    ask(inner, &Asking::Infer { at: exp.at, exp })
+}
+
+/// The expression by itself, at a type.
+pub fn asked<F: Fn(&Within, &Asking<'_>) -> Result<Found, ExpFault>>(
+    context: &Context<'_>,
+    ask: &F,
+    exp: &Exp,
+    ty: &Ty,
+) -> Result<Found, ExpFault>
+    requires callable { F.IsAlwaysCallable ask.now }
+    requires answers { AnswersAll context.now (F.post ask.now) }
+    ensures { Meets context.now (Asks (asked context.now.within.now exp.now ty.now)) result }
+{
+    asked_inside(context, ask, context.within, exp, ty)
+}
+
+/// The body of an iteration, at a type.
+pub fn asked_inside<F: Fn(&Within, &Asking<'_>) -> Result<Found, ExpFault>>(
+    context: &Context<'_>,
+    ask: &F,
+    inner: &Within,
+    exp: &Exp,
+    ty: &Ty,
+) -> Result<Found, ExpFault>
+    requires callable { F.IsAlwaysCallable ask.now }
+    requires answers { AnswersAll context.now (F.post ask.now) }
+    ensures { Meets context.now (Asks (asked inner.now exp.now ty.now)) result }
+{
+    ask(
+        inner,
+        &Asking::Check {
+            at: exp.at,
+            in_parentheses: false,
+            exp,
+            ty,
+        },
+    )
+}
+
+/// A part at a type.
+pub fn asked_at<F: Fn(&Within, &Asking<'_>) -> Result<Found, ExpFault>>(
+    context: &Context<'_>,
+    ask: &F,
+    part: &Part<'_>,
+    ty: &Ty,
+) -> Result<Found, ExpFault>
+    requires callable { F.IsAlwaysCallable ask.now }
+    requires answers { AnswersAll context.now (F.post ask.now) }
+    ensures { Meets context.now (Asks (check context.now.within.now part.now.at
+        part.now.in_parentheses part.now.exp.now ty.now)) result }
+{
+    ask(
+        context.within,
+        &Asking::Check {
+            at: part.at,
+            in_parentheses: part.in_parentheses,
+            exp: part.exp,
+            ty,
+        },
+    )
+}

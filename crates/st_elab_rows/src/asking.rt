@@ -1,0 +1,60 @@
+//! Questions about parts of an expression, and what answers them.
+
+ghost use Rattle.std.specs.Prelude.{◌≡◌, IfOk};
+ghost use Rattle.st_elab_table.specs.Steps.{made};
+ghost use Rattle.st_elab_rows.specs.Asking.{made_by};
+
+use st_el::Exp;
+use st_elab_table::{Decls, Scope, Within};
+use st_il::{IlExp, Ty};
+use st_num::{Boxed, NoMemory, Span};
+use std::alloc::Global;
+
+/// An expression with its type.
+#[derive(Drop)]
+pub struct Found {
+    pub exp: Boxed<IlExp>,
+    pub ty: Ty,
+}
+
+/// This expression of this type.
+pub fn give(alloc: Global, exp: IlExp, ty: Ty) -> Result<Found, NoMemory>
+    ensures { IfOk result (λ given. made_by given ≡ made exp ty) }
+{
+    let exp = Boxed::new(alloc, exp)?;
+    Ok(Found { exp, ty })
+}
+
+/// What is asked of a part. The place is that of its parentheses, where it has any.
+#[derive(Clone, Copy)]
+pub enum Asking<'a> {
+    /// What the expression is at a type.
+    Check {
+        at: Span,
+        in_parentheses: bool,
+        exp: &'a Exp,
+        ty: &'a Ty,
+    },
+    /// What the expression is, and its type.
+    Infer {
+        at: Span,
+        exp: &'a Exp,
+    },
+}
+
+/// A part, with the place of its parentheses, where it has any.
+#[derive(Clone, Copy)]
+pub struct Part<'a> {
+    pub at: Span,
+    pub in_parentheses: bool,
+    pub exp: &'a Exp,
+}
+
+/// What an expression may name, and what stands round it.
+#[derive(Drop)]
+pub struct Context<'a> {
+    pub alloc: Global,
+    pub decls: &'a Decls,
+    pub scope: &'a Scope,
+    pub within: &'a Within,
+}

@@ -1,0 +1,122 @@
+//! Which case of a variant an expression is, and what fills its holes.
+
+ghost use Rattle.std.specs.Prelude.{◌≡◌, ◌↔◌, IsTrue, MatchOption, List, IfOk};
+ghost use Rattle.st_il.specs.Key.{plain};
+ghost use Rattle.st_types.specs.declared.entry.CaseDef.{CaseDef};
+ghost use Rattle.st_types.specs.Keys.{HasKey};
+ghost use Rattle.st_notation.specs.Key.{key_of};
+ghost use Rattle.st_notation.specs.Fits.{Filling};
+ghost use Rattle.st_notation.specs.Fitted.{fillings};
+ghost use Rattle.st_types.specs.Flat.{plain_key};
+ghost use Rattle.st_elab_table.specs.Choice.{HasShape, HaveShapes, NoneHasKey, IsFirstWith, IsChosenBy, FillsCase, shape_of};
+
+use st_el::Exp;
+use st_il::{Key, Template, Ty, key_of, same_key, template_of};
+use st_notation::{Filled, FitFault, Shape, fit, key_of_exp};
+use st_num::{Name, NoMemory, Row};
+use st_types::{CaseDef, TypeTable};
+use std::alloc::Global;
+
+/// What a type is through aliases, to a notation.
+pub fn shape_of(types: &TypeTable, ty: &Ty) -> Shape
+    ensures { HasShape types.now ty.now result }
+{
+    shape_at(types.meaning(ty))
+}
+
+fn shape_at(meaning: &Ty) -> Shape
+    ensures { result ≡ shape_of meaning.now }
+{
+    match meaning {
+        Ty::List(_) => Shape::List,
+        Ty::Opt(_) => Shape::Opt,
+        Ty::Bool | Ty::Nat | Ty::Int | Ty::Text => Shape::Plain,
+        Ty::Name(_) | Ty::Tuple(_) => Shape::Plain,
+    }
+}
+
+/// What each of these types is to a notation.
+pub fn shapes_of(alloc: Global, types: &TypeTable, tys: &[Ty]) -> Result<Row<Shape>, NoMemory>
+    ensures { IfOk result (HaveShapes types.now tys.now) }
+{
+    let mut shapes = Row::new(alloc);
+    for ty in tys {
+        shapes.push(shape_of(types, ty))?;
+    }
+    Ok(shapes)
+}
+
+/// The key of a template, where there is one.
+fn key_or_free<'a>(template: &'a Option<Template>) -> Key<'a>
+    ensures { plain result ≡ plain_key template.now }
+{
+    match template {
+        Some(template) => key_of(template),
+        None => Key::Free,
+    }
+}
+
+/// Whether the tag has this key.
+fn has_key(alloc: Global, tag: &Name, key: &Key) -> Result<bool, NoMemory>
+    ensures { IfOk result (λ has. IsTrue has ↔ HasKey tag.now (plain key.now)) }
+{
+    let template = template_of(alloc, tag)?;
+    let same = same_key(&key_or_free(&template), key);
+    Ok(same)
+}
+
+/// The first case with this key.
+fn first_with<'a>(
+    alloc: Global,
+    cases: &'a [CaseDef],
+    key: &Key,
+) -> Result<Option<&'a CaseDef>, NoMemory>
+    ensures { IfOk result (λ found. MatchOption found (NoneHasKey (plain key.now) cases.now)
+        (λ case. IsFirstWith (plain key.now) cases.now case.now)) }
+{
+    for case in cases {
+        if has_key(alloc, &case.tag, key)? {
+            return Ok(Some(case));
+        }
+    }
+    Ok(None)
+}
+
+/// The case that is chosen by the key of the expression, or else the one without a key.
+pub fn chosen_case<'a>(
+    alloc: Global,
+    cases: &'a [CaseDef],
+    exp: &Exp,
+) -> Result<Option<&'a CaseDef>, NoMemory>
+    ensures { IfOk result (λ found. MatchOption found
+        ((case : CaseDef) → IsChosenBy (key_of exp.now) cases.now case → ⊥)
+        (λ case. IsChosenBy (key_of exp.now) cases.now case.now)) }
+{
+    if let Some(case) = first_with(alloc, cases, &key_of_exp(exp))? {
+        return Ok(Some(case));
+    }
+    let keyless = first_with(alloc, cases, &Key::Free)?;
+    Ok(keyless)
+}
+
+/// What fills the holes of the case, where the expression fits it.
+pub fn fill<'e>(
+    alloc: Global,
+    types: &TypeTable,
+    case: &CaseDef,
+    exp: &'e Exp,
+) -> Result<Option<Row<Filled<'e>>>, NoMemory>
+    ensures { IfOk result (λ found. MatchOption found
+        ((fs : List Filling) → FillsCase types.now case.now exp.now fs → ⊥)
+        (λ filled. FillsCase types.now case.now exp.now (fillings filled))) }
+{
+    let Some(template) = template_of(alloc, &case.tag)? else {
+        return Ok(None);
+    };
+    let shapes = shapes_of(alloc, types, case.operands.as_slice())?;
+    match fit(alloc, &template, &shapes, exp) {
+        Ok(filled) => Ok(Some(filled)),
+        Err(FitFault::NoFit(_)) => Ok(None),
+        Err(FitFault::Memory) => Err(NoMemory),
+    }
+}

@@ -1,0 +1,239 @@
+//! The rows of logic, equations and memberships.
+
+ghost use Rattle.st_il.specs.declared.expression.IlExp.TheVariants as il;
+ghost use Rattle.st_il.specs.declared.ty.Ty.TheVariants as typ;
+ghost use Rattle.st_elab_table.specs.Operands.{logic_row, equation_row, beside, compared, membership_row};
+ghost use Rattle.st_elab_table.specs.Operators.{equated};
+ghost use Rattle.st_elab_table.specs.Questions.{Asks};
+ghost use Rattle.st_elab_table.specs.Forms.{place};
+ghost use Rattle.st_elab_table.specs.Steps.{give, asked, found, as_list};
+ghost use Rattle.st_elab_rows.specs.Asking.{AnswersAll, LeadsTo, made_by};
+
+use crate::ask::{asked, found};
+use crate::asking::{Asking, Context, Found, give};
+use crate::form::inferable;
+use crate::found::{as_list, larger, raise};
+use crate::operator::{connected, equated};
+use crate::variable::list_of;
+use st_el::Exp;
+use st_elab_table::{ExpFault, Within};
+use st_il::{IlExp, Ty};
+use st_num::{Mark, RuleId, Span};
+
+/// The opposite of a truth value.
+pub fn not_row<F: Fn(&Within, &Asking<'_>) -> Result<Found, ExpFault>>(
+    context: &Context<'_>,
+    ask: &F,
+    inner: &Exp,
+) -> Result<Found, ExpFault>
+    requires callable { F.IsAlwaysCallable ask.now }
+    requires answers { AnswersAll context.now (F.post ask.now) }
+    ensures { LeadsTo context.now (Asks (asked context.now.within.now inner.now typ.Bool)
+        (λ m. give (il.Not m.exp) typ.Bool)) result }
+{
+    let truth = asked(context, ask, inner, &Ty::Bool)?;
+    let given = give(context.alloc, IlExp::Not(truth.exp), Ty::Bool)?;
+    Ok(given)
+}
+
+/// Two operands of logic.
+pub fn logic_row<F: Fn(&Within, &Asking<'_>) -> Result<Found, ExpFault>>(
+    context: &Context<'_>,
+    ask: &F,
+    sign: Mark,
+    left: &Exp,
+    right: &Exp,
+) -> Result<Found, ExpFault>
+    requires callable { F.IsAlwaysCallable ask.now }
+    requires answers { AnswersAll context.now (F.post ask.now) }
+    ensures { LeadsTo context.now (logic_row context.now.within.now sign left.now right.now)
+        result }
+{
+    let one = asked(context, ask, left, &Ty::Bool)?;
+    let other = asked(context, ask, right, &Ty::Bool)?;
+    let exp = connected(sign, one.exp, other.exp);
+    let given = give(context.alloc, exp, Ty::Bool)?;
+    Ok(given)
+}
+
+/// A side that is not inferable is asked at the type of the other.
+pub fn equation_row<F: Fn(&Within, &Asking<'_>) -> Result<Found, ExpFault>>(
+    context: &Context<'_>,
+    ask: &F,
+    at: Span,
+    sign: Mark,
+    left: &Exp,
+    right: &Exp,
+) -> Result<Found, ExpFault>
+    requires callable { F.IsAlwaysCallable ask.now }
+    requires answers { AnswersAll context.now (F.post ask.now) }
+    ensures { LeadsTo context.now (equation_row context.now.within.now at sign left.now right.now)
+        result }
+{
+    if inferable(left) {
+        return equation_from_left(context, ask, at, sign, left, right);
+    }
+    if inferable(right) {
+        return equation_from_right(context, ask, sign, left, right);
+    }
+    Err(ExpFault::Refused {
+        at,
+        rule: RuleId::Y3,
+    })
+}
+
+fn equation_from_left<F: Fn(&Within, &Asking<'_>) -> Result<Found, ExpFault>>(
+    context: &Context<'_>,
+    ask: &F,
+    at: Span,
+    sign: Mark,
+    left: &Exp,
+    right: &Exp,
+) -> Result<Found, ExpFault>
+    requires callable { F.IsAlwaysCallable ask.now }
+    requires answers { AnswersAll context.now (F.post ask.now) }
+    ensures { LeadsTo context.now (Asks (found context.now.within.now left.now)
+        (beside context.now.within.now at sign right.now)) result }
+{
+    let one = found(context, ask, left)?;
+    beside(context, ask, at, sign, one, right)
+}
+
+/// The right side beside an inferable left one.
+fn beside<F: Fn(&Within, &Asking<'_>) -> Result<Found, ExpFault>>(
+    context: &Context<'_>,
+    ask: &F,
+    at: Span,
+    sign: Mark,
+    left: Found,
+    right: &Exp,
+) -> Result<Found, ExpFault>
+    requires callable { F.IsAlwaysCallable ask.now }
+    requires answers { AnswersAll context.now (F.post ask.now) }
+    ensures { LeadsTo context.now (beside context.now.within.now at sign right.now (made_by left))
+        result }
+{
+    if inferable(right) {
+        let other = found(context, ask, right)?;
+        return compared(context, at, sign, left, other);
+    }
+    let other = asked(context, ask, right, &left.ty)?;
+    let exp = equated(sign, left.exp, other.exp);
+    let given = give(context.alloc, exp, Ty::Bool)?;
+    Ok(given)
+}
+
+/// Two sides with types of their own, compared at the larger one.
+fn compared(
+    context: &Context<'_>,
+    at: Span,
+    sign: Mark,
+    left: Found,
+    right: Found,
+) -> Result<Found, ExpFault>
+    ensures { LeadsTo context.now (compared at sign (made_by left) (made_by right)) result }
+{
+    let Found {
+        exp: x,
+        ty: of_left,
+    } = left;
+    let Found {
+        exp: y,
+        ty: of_right,
+    } = right;
+    let Some(ty) = larger(context.decls, &of_left, &of_right) else {
+        return Err(ExpFault::Refused {
+            at,
+            rule: RuleId::Y1,
+        });
+    };
+    let one = raise(context.alloc, context.decls, x, &of_left, ty)?;
+    let other = raise(context.alloc, context.decls, y, &of_right, ty)?;
+    let given = give(context.alloc, equated(sign, one, other), Ty::Bool)?;
+    Ok(given)
+}
+
+fn equation_from_right<F: Fn(&Within, &Asking<'_>) -> Result<Found, ExpFault>>(
+    context: &Context<'_>,
+    ask: &F,
+    sign: Mark,
+    left: &Exp,
+    right: &Exp,
+) -> Result<Found, ExpFault>
+    requires callable { F.IsAlwaysCallable ask.now }
+    requires answers { AnswersAll context.now (F.post ask.now) }
+    ensures { LeadsTo context.now (Asks (found context.now.within.now right.now)
+        (λ b. Asks (asked context.now.within.now left.now b.ty)
+        (λ a. give (equated sign a.exp b.exp) typ.Bool))) result }
+{
+    let other = found(context, ask, right)?;
+    let one = asked(context, ask, left, &other.ty)?;
+    let exp = equated(sign, one.exp, other.exp);
+    let given = give(context.alloc, exp, Ty::Bool)?;
+    Ok(given)
+}
+
+/// An inferable list says the type of the element, or else the element that of the list.
+pub fn membership_row<F: Fn(&Within, &Asking<'_>) -> Result<Found, ExpFault>>(
+    context: &Context<'_>,
+    ask: &F,
+    at: Span,
+    element: &Exp,
+    list: &Exp,
+) -> Result<Found, ExpFault>
+    requires callable { F.IsAlwaysCallable ask.now }
+    requires answers { AnswersAll context.now (F.post ask.now) }
+    ensures { LeadsTo context.now (membership_row context.now.within.now at element.now list.now)
+        result }
+{
+    if inferable(list) {
+        return member_of_found(context, ask, element, list);
+    }
+    if inferable(element) {
+        return found_member(context, ask, element, list);
+    }
+    Err(ExpFault::Refused {
+        at,
+        rule: RuleId::Y3,
+    })
+}
+
+/// An element of a list with a type of its own.
+fn member_of_found<F: Fn(&Within, &Asking<'_>) -> Result<Found, ExpFault>>(
+    context: &Context<'_>,
+    ask: &F,
+    element: &Exp,
+    list: &Exp,
+) -> Result<Found, ExpFault>
+    requires callable { F.IsAlwaysCallable ask.now }
+    requires answers { AnswersAll context.now (F.post ask.now) }
+    ensures { LeadsTo context.now (Asks (found context.now.within.now list.now)
+        (λ b. as_list (place list.now) b.ty (λ x. Asks (asked context.now.within.now element.now x)
+        (λ a. give (il.Member a.exp b.exp) typ.Bool)))) result }
+{
+    let all = found(context, ask, list)?;
+    let ty = as_list(context.decls, list.at, &all.ty)?;
+    let one = asked(context, ask, element, ty)?;
+    let given = give(context.alloc, IlExp::Member(one.exp, all.exp), Ty::Bool)?;
+    Ok(given)
+}
+
+/// An element with a type of its own.
+fn found_member<F: Fn(&Within, &Asking<'_>) -> Result<Found, ExpFault>>(
+    context: &Context<'_>,
+    ask: &F,
+    element: &Exp,
+    list: &Exp,
+) -> Result<Found, ExpFault>
+    requires callable { F.IsAlwaysCallable ask.now }
+    requires answers { AnswersAll context.now (F.post ask.now) }
+    ensures { LeadsTo context.now (Asks (found context.now.within.now element.now)
+        (λ a. Asks (asked context.now.within.now list.now (typ.List a.ty))
+        (λ b. give (il.Member a.exp b.exp) typ.Bool))) result }
+{
+    let one = found(context, ask, element)?;
+    let ty = list_of(context.alloc, &one.ty)?;
+    let all = asked(context, ask, list, &ty)?;
+    let given = give(context.alloc, IlExp::Member(one.exp, all.exp), Ty::Bool)?;
+    Ok(given)
+}

@@ -1,0 +1,73 @@
+-- Which case of a variant an expression is, and what fills the holes of its notation.
+use Rattle.std.specs.Prelude.{◌≡◌, List, [], ◌∷◌}
+use Rattle.std.specs.List.{AllByRecursion}
+use Rattle.st_el.specs.declared.expression.Exp.{Exp}
+use Rattle.st_il.specs.declared.ty.Ty.{Ty, out-Ty}
+use Rattle.st_il.specs.declared.ty.Ty.TheVariants as ty
+use Rattle.st_il.specs.declared.ty.Ty.TheOpen.{Ty-F}
+use Rattle.st_il.specs.declared.definition.SyntaxDef.{SyntaxDef}
+use Rattle.st_il.specs.declared.template.Template.{Template}
+use Rattle.st_il.specs.Template.{HasTag}
+use Rattle.st_il.specs.Key.{PlainKey, free}
+use Rattle.st_types.specs.declared.entry.CaseDef.{CaseDef}
+use Rattle.st_types.specs.Meaning.{Means}
+use Rattle.st_types.specs.Cases.{HasCases}
+use Rattle.st_types.specs.Keys.{HasKey}
+use Rattle.st_notation.specs.declared.filled.Shape.{Shape}
+use Rattle.st_notation.specs.declared.filled.Shape.TheVariants as shape
+use Rattle.st_notation.specs.Fits.{Filling, FitsWhole}
+use Rattle.st_notation.specs.Key.{key_of}
+use Rattle.st_elab_table.specs.Questions.{Chosen}
+
+-- ---- shapes
+
+abbrev pub shape_at : Ty-F Ty → Shape
+shape_at (Ty-F.List t) = shape.List
+shape_at (Ty-F.Opt t) = shape.Opt
+shape_at _ = shape.Plain
+
+abbrev pub shape_of : Ty → Shape
+shape_of t = shape_at (out-Ty t)
+
+-- the shape of a type is that of what it means
+abbrev pub HasShape : List SyntaxDef → Ty → Shape → Type 0
+HasShape defs t s = (u : Ty) × Means defs t u × (s ≡ shape_of u)
+
+abbrev pub HaveShapes : List SyntaxDef → List Ty → List Shape → Type 0
+HaveShapes defs [] [] = Unit {0}
+HaveShapes defs [] (s ∷ ss) = ⊥
+HaveShapes defs (t ∷ ts) [] = ⊥
+HaveShapes defs (t ∷ ts) (s ∷ ss) = HasShape defs t s × HaveShapes defs ts ss
+
+-- ---- the case
+
+abbrev pub NoneHasKey : PlainKey → List CaseDef → Type 0
+NoneHasKey k = AllByRecursion (λ (c : CaseDef). HasKey c.tag k → ⊥)
+
+-- The case is the first of these with this key.
+pub data IsFirstWith (k : PlainKey) : List CaseDef → CaseDef → Type 0 where
+  here : {c : CaseDef} {cs : List CaseDef} → HasKey c.tag k → IsFirstWith k (c ∷ cs) c
+  later : {d c : CaseDef} {cs : List CaseDef} → (HasKey d.tag k → ⊥) → IsFirstWith k cs c
+      → IsFirstWith k (d ∷ cs) c
+
+-- A case is chosen by a key; where no case has it, the case without a key is chosen.
+pub data IsChosenBy (k : PlainKey) (cases : List CaseDef) (c : CaseDef) : Type 0 where
+  keyed : IsFirstWith k cases c → IsChosenBy k cases c
+  keyless : NoneHasKey k cases → IsFirstWith free cases c → IsChosenBy k cases c
+
+-- The expression fits the template of the case, with this in its holes.
+pub record FillsCase (defs : List SyntaxDef) (c : CaseDef) (e : Exp)
+    (fillings : List Filling) : Type 0 where
+  pub template : Template
+  pub shapes : List Shape
+  pub tagged : HasTag template c.tag
+  pub shaped : HaveShapes defs c.operands shapes
+  pub fits : FitsWhole template shapes e fillings
+
+-- the case that the expression is at the type, with what fills its holes
+pub record IsCaseOf (defs : List SyntaxDef) (t : Ty) (e : Exp) (c : Chosen) : Type 0 where
+  pub cases : List CaseDef
+  pub asked : t ≡ ty.Name c.name
+  pub has : HasCases defs t cases
+  pub chosen : IsChosenBy (key_of e) cases (record { tag = c.tag; operands = c.operands })
+  pub filled : FillsCase defs (record { tag = c.tag; operands = c.operands }) e c.fillings

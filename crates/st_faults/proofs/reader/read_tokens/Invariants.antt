@@ -1,6 +1,0 @@
-use Rattle.st_faults.specs.Seen.{SeenKept}
-use Rattle.st_faults.proofs.Loop.{Passes}
-use Rattle.st_faults.proofs.reader.read_tokens.Given as goal
-
-abbrev pub invariant-tokens : goal.invariant-tokens
-invariant-tokens l = Passes l.tokens l.at l.seen × SeenKept l.seen

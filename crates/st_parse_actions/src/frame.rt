@@ -1,0 +1,118 @@
+//! What the innermost frame says of the place in it.
+
+ghost use Rattle.std.specs.Prelude.{◌≡◌, reverse};
+ghost use Rattle.st_parse_automaton.specs.Outline as out;
+ghost use Rattle.st_parse_actions.specs.Emits as emits;
+
+use crate::table::{ahead_right, has_level, is_mark, is_type_mark, level_of, right_of};
+use st_grammar::Sort;
+use st_num::Mark;
+use st_parse_automaton::{Frame, Kind, Lead, Part};
+
+fn frame_sort(frame: Frame) -> Sort
+    ensures { result ≡ out.frame_sort frame }
+{
+    match frame {
+        Frame::Within(_, _, _, sort) | Frame::Over(_, sort) => sort,
+        Frame::Timing => Sort::Count,
+    }
+}
+
+/// The sort of the innermost place.
+pub(crate) fn innermost(base: Sort, frames: &[Frame]) -> Sort
+    ensures { result ≡ out.top base (reverse frames.now) }
+{
+    match frames.last() {
+        None => base,
+        Some(frame) => frame_sort(*frame),
+    }
+}
+
+fn wanted(lead: Lead) -> u8
+    ensures { result ≡ out.wanted lead }
+{
+    match lead {
+        Lead::Left(mark) => right_of(mark),
+        Lead::Ahead(mark) => ahead_right(mark),
+        Lead::Items => 20,
+    }
+}
+
+fn reach(lead: Lead) -> u8
+    ensures { result ≡ out.reach lead }
+{
+    match lead {
+        Lead::Left(mark) => right_of(mark),
+        Lead::Ahead(mark) => ahead_right(mark),
+        Lead::Items => 14,
+    }
+}
+
+fn frame_least(frame: Frame) -> u8
+    ensures { result ≡ out.frame_least frame }
+{
+    match frame {
+        Frame::Within(Kind::Index | Kind::Segment, _, _, _) => 13,
+        Frame::Within(_, _, _, _) | Frame::Timing => 1,
+        Frame::Over(lead, _) => wanted(lead),
+    }
+}
+
+fn least(frames: &[Frame]) -> u8
+    ensures { result ≡ out.least (reverse frames.now) }
+{
+    match frames.last() {
+        None => 1,
+        Some(frame) => frame_least(*frame),
+    }
+}
+
+/// What such a level closes of a frame.
+pub(crate) fn closes(frame: Frame, level: u8) -> Option<Lead>
+    ensures { result ≡ out.closes frame level }
+{
+    match frame {
+        Frame::Over(lead, _) => {
+            if reach(lead) <= level {
+                None
+            } else {
+                Some(lead)
+            }
+        }
+        Frame::Within(_, _, _, _) | Frame::Timing => None,
+    }
+}
+
+/// Whether the sign stands between two sides there.
+pub(crate) fn joins(base: Sort, mark: Mark, frames: &[Frame]) -> bool
+    ensures { result ≡ emits.is_joined base mark (reverse frames.now) }
+{
+    let level = level_of(mark);
+    has_level(innermost(base, frames), level) && least(frames) <= level
+}
+
+/// The level of the sign between two sides there, or 0.
+pub(crate) fn pull(sort: Sort, mark: Mark) -> u8
+    ensures { result ≡ out.pull sort mark }
+{
+    let level = level_of(mark);
+    if has_level(sort, level) { level } else { 0 }
+}
+
+fn is_type(part: Part) -> bool
+    ensures { result ≡ out.is_type part }
+{
+    matches!(part, Part::Typ(_))
+}
+
+/// Whether the sign is a mark behind the part.
+pub(crate) fn may_mark(sort: Sort, part: Part, mark: Mark) -> bool
+    ensures { result ≡ out.may_mark sort part mark }
+{
+    match sort {
+        Sort::Expression(_) => is_mark(mark),
+        Sort::Notation => is_type_mark(mark) && is_type(part),
+        Sort::Typ => is_type_mark(mark),
+        Sort::Arithmetic | Sort::Count | Sort::Bound => false,
+    }
+}

@@ -1,0 +1,156 @@
+//! What begins where an operand is due.
+
+ghost use Rattle.std.specs.Prelude.{◌≡◌, ◌∷◌, IfOk, reverse};
+ghost use Rattle.std.specs.Option.{option_map};
+ghost use Rattle.st_parse_automaton.specs.Outline as out;
+ghost use Rattle.st_parse_automaton.specs.Readings.{reading_of};
+
+use crate::close::settle;
+use crate::frame::{kind_sort, leaf_part, least, top};
+use crate::outline::{Due, Filling, Frame, Kind, Lead, Part, Reading, Shape};
+use crate::table::{ahead_level, computes, encloses, has_level, is_count, takes};
+use st_grammar::{Bracket, Closing, Sort};
+use st_num::{Mark, NoMemory, Row};
+
+/// A bracket that opens in a place of this sort.
+pub(crate) fn opened(
+    due: Due,
+    kind: Kind,
+    sort: Sort,
+    mut frames: Row<Frame>,
+) -> Result<Option<Reading>, NoMemory>
+    ensures { IfOk result (λ next.
+        option_map reading_of next ≡ Some (due, out.opened kind sort (reverse frames))) }
+{
+    let inner = kind_sort(sort, kind);
+    frames.push(Frame::Within(kind, Filling::Empty, true, inner))?;
+    Ok(Some(Reading { due, frames }))
+}
+
+fn plain_due(bracket: Bracket) -> Due
+    ensures { result ≡ out.plain_due bracket }
+{
+    match bracket {
+        Bracket::Brace => Due::Label,
+        Bracket::Round
+        | Bracket::Square
+        | Bracket::TickRound
+        | Bracket::TickSquare
+        | Bracket::TickBrace
+        | Bracket::Dollar => Due::Operand,
+    }
+}
+
+fn begin_plain(
+    base: Sort,
+    bracket: Bracket,
+    frames: Row<Frame>,
+) -> Result<Option<Reading>, NoMemory>
+    ensures { IfOk result (λ next.
+        option_map reading_of next ≡ out.begin_plain base bracket (reverse frames)) }
+{
+    let sort = top(base, &frames);
+    if !encloses(sort, bracket) {
+        return Ok(None);
+    }
+    let next = opened(plain_due(bracket), Kind::Plain(bracket), sort, frames)?;
+    Ok(next)
+}
+
+fn begin_opening(
+    base: Sort,
+    bracket: Bracket,
+    frames: Row<Frame>,
+) -> Result<Option<Reading>, NoMemory>
+    ensures { IfOk result (λ next.
+        option_map reading_of next ≡ out.begin_opening base bracket (reverse frames)) }
+{
+    match bracket {
+        Bracket::Round if is_count(top(base, &frames)) => Ok(Some(Reading {
+            due: Due::Index,
+            frames,
+        })),
+        Bracket::Round
+        | Bracket::Square
+        | Bracket::Brace
+        | Bracket::TickRound
+        | Bracket::TickSquare
+        | Bracket::TickBrace
+        | Bracket::Dollar => begin_plain(base, bracket, frames),
+    }
+}
+
+/// The end of arguments that are none.
+fn no_arguments(mut frames: Row<Frame>) -> Result<Option<Reading>, NoMemory>
+    ensures { IfOk result (λ next. option_map reading_of next ≡ out.no_arguments (reverse frames)) }
+{
+    match frames.pop() {
+        Some(Frame::Within(Kind::Arguments, Filling::Empty, _, _)) => {
+            let next = settle(Part::Whole, frames)?;
+            Ok(Some(next))
+        }
+        _ => Ok(None),
+    }
+}
+
+fn begin_closing(
+    base: Sort,
+    closing: Closing,
+    frames: Row<Frame>,
+) -> Result<Option<Reading>, NoMemory>
+    ensures { IfOk result (λ next.
+        option_map reading_of next ≡ out.begin_closing base closing (reverse frames)) }
+{
+    match closing {
+        Closing::ByBar => {
+            let sort = top(base, &frames);
+            if !computes(sort) {
+                return Ok(None);
+            }
+            let next = opened(Due::Operand, Kind::Length, sort, frames)?;
+            Ok(next)
+        }
+        Closing::ByRound => no_arguments(frames),
+        Closing::BySquare | Closing::ByBrace => Ok(None),
+    }
+}
+
+fn begin_sign(base: Sort, mark: Mark, mut frames: Row<Frame>) -> Result<Option<Reading>, NoMemory>
+    ensures { IfOk result (λ next.
+        option_map reading_of next ≡ out.begin_sign base mark (reverse frames)) }
+{
+    let sort = top(base, &frames);
+    let level = ahead_level(mark);
+    if !(has_level(sort, level) && least(&frames) <= level) {
+        return Ok(None);
+    }
+    frames.push(Frame::Over(Lead::Ahead(mark), sort))?;
+    Ok(Some(Reading {
+        due: Due::Operand,
+        frames,
+    }))
+}
+
+/// What an operand that begins with this token makes.
+pub(crate) fn begin(
+    base: Sort,
+    frames: Row<Frame>,
+    shape: Shape,
+) -> Result<Option<Reading>, NoMemory>
+    ensures { IfOk result (λ next.
+        option_map reading_of next ≡ out.begin base (reverse frames) shape) }
+{
+    match shape {
+        Shape::Single(leaf) => {
+            if !takes(top(base, &frames), leaf) {
+                return Ok(None);
+            }
+            let next = settle(leaf_part(leaf), frames)?;
+            Ok(Some(next))
+        }
+        Shape::Sign(mark) => begin_sign(base, mark, frames),
+        Shape::Open(bracket, _) => begin_opening(base, bracket, frames),
+        Shape::Close(closing) => begin_closing(base, closing, frames),
+        Shape::Dot(_) | Shape::Other => Ok(None),
+    }
+}

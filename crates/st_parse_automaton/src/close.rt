@@ -1,0 +1,193 @@
+//! What a token closes.
+
+ghost use Rattle.std.specs.Prelude.{◌≡◌, ◌∷◌, IfOk, reverse};
+ghost use Rattle.std.specs.Option.{option_map};
+ghost use Rattle.st_parse_automaton.specs.Outline as out;
+ghost use Rattle.st_parse_automaton.specs.Readings.{reading_of, lowered_of};
+
+use crate::frame::{
+    TIGHT, agree, kind_closing, kind_part, kind_style, lead_level, least, reach, reads_type, top,
+};
+use crate::outline::{Due, Filling, Frame, Kind, Lead, Part, Reading};
+use crate::table::{has_level, is_colon, is_comma, left_of, level_of};
+use st_grammar::{Closing, Sort, Style};
+use st_num::{Mark, NoMemory, Row};
+
+/// A part with its level, and what is open round it.
+#[derive(Drop)]
+pub struct Lowered {
+    pub level: u8,
+    pub part: Part,
+    pub frames: Row<Frame>,
+}
+
+/// A part that is read settles: behind `^` it is the count.
+pub(crate) fn settle(part: Part, mut frames: Row<Frame>) -> Result<Reading, NoMemory>
+    ensures { IfOk result (λ reading. reading_of reading ≡ out.settle part (reverse frames)) }
+{
+    match frames.pop() {
+        Some(Frame::Timing) => Ok(Reading {
+            due: Due::Next(Part::Whole),
+            frames,
+        }),
+        Some(frame) => {
+            frames.push(frame)?;
+            Ok(Reading {
+                due: Due::Next(part),
+                frames,
+            })
+        }
+        None => Ok(Reading {
+            due: Due::Next(part),
+            frames,
+        }),
+    }
+}
+
+/// Closes what binds tighter than this level.
+pub(crate) fn lower(level: u8, part: Part, mut frames: Row<Frame>) -> Result<Lowered, NoMemory>
+    ensures { IfOk result (λ lowered.
+        lowered_of lowered ≡ out.lower level 20 part (reverse frames)) }
+{
+    let mut part = part;
+    let mut at = TIGHT;
+    'open: while let Some(frame) = frames.pop() {
+        let Some(lead) = closes(frame, level) else {
+            frames.push(frame)?;
+            return Ok(Lowered {
+                level: at,
+                part,
+                frames,
+            });
+        };
+        at = lead_level(lead);
+        part = Part::Whole;
+    }
+    Ok(Lowered {
+        level: at,
+        part,
+        frames,
+    })
+}
+
+/// What such a level closes of a frame.
+pub(crate) fn closes(frame: Frame, level: u8) -> Option<Lead>
+    ensures { result ≡ out.closes frame level }
+{
+    match frame {
+        Frame::Over(lead, _) => {
+            if reach(lead) <= level {
+                None
+            } else {
+                Some(lead)
+            }
+        }
+        Frame::Within(_, _, _, _) | Frame::Timing => None,
+    }
+}
+
+/// Ends the innermost bracket, if it is closed so.
+pub(crate) fn close(closing: Closing, lowered: Lowered) -> Result<Option<Reading>, NoMemory>
+    ensures { IfOk result (λ next.
+        option_map reading_of next ≡ out.close closing (lowered_of lowered)) }
+{
+    let Lowered {
+        part,
+        mut frames,
+        ..
+    } = lowered;
+    match frames.pop() {
+        Some(Frame::Within(kind, _, types, _)) => {
+            if !agree(kind_closing(kind), closing) {
+                return Ok(None);
+            }
+            let shut = shut(kind, types && reads_type(part), frames)?;
+            Ok(Some(shut))
+        }
+        Some(Frame::Over(_, _)) | Some(Frame::Timing) | None => Ok(None),
+    }
+}
+
+/// A bracket that is closed.
+fn shut(kind: Kind, types: bool, frames: Row<Frame>) -> Result<Reading, NoMemory>
+    ensures { IfOk result (λ reading. reading_of reading ≡ out.shut kind types (reverse frames)) }
+{
+    match kind {
+        Kind::Segment => Ok(Reading {
+            due: Due::Step(true),
+            frames,
+        }),
+        Kind::Plain(_)
+        | Kind::Length
+        | Kind::Arguments
+        | Kind::Index
+        | Kind::Update
+        | Kind::Below => settle(kind_part(kind, types), frames),
+    }
+}
+
+/// What is due behind a sign that sets off a next part, the first or a later one.
+fn next_due(style: Style, mark: Mark, first: bool) -> Option<Due>
+    ensures { result ≡ out.next_due style mark first }
+{
+    match style {
+        Style::Parts if is_comma(mark) => Some(Due::Operand),
+        Style::Fields if is_comma(mark) => Some(Due::Label),
+        Style::Ends if first && is_colon(mark) => Some(Due::Operand),
+        Style::Parts | Style::Fields | Style::Ends | Style::Lone | Style::Run => None,
+    }
+}
+
+fn is_first(filling: Filling) -> bool
+    ensures { result ≡ out.is_first filling }
+{
+    match filling {
+        Filling::Parts => false,
+        Filling::Empty | Filling::Begun => true,
+    }
+}
+
+/// A sign that sets off a next part of the innermost bracket.
+fn separate(base: Sort, mark: Mark, lowered: Lowered) -> Result<Option<Reading>, NoMemory>
+    ensures { IfOk result (λ next.
+        option_map reading_of next ≡ out.separate base mark (lowered_of lowered)) }
+{
+    let Lowered {
+        part,
+        mut frames,
+        ..
+    } = lowered;
+    match frames.pop() {
+        Some(Frame::Within(kind, filling, types, sort)) => {
+            let style = kind_style(top(base, &frames), kind);
+            let Some(due) = next_due(style, mark, is_first(filling)) else {
+                return Ok(None);
+            };
+            let types = types && reads_type(part);
+            frames.push(Frame::Within(kind, Filling::Parts, types, sort))?;
+            Ok(Some(Reading { due, frames }))
+        }
+        Some(Frame::Over(_, _)) | Some(Frame::Timing) | None => Ok(None),
+    }
+}
+
+/// A sign between two sides, or before a next part.
+pub(crate) fn join(base: Sort, mark: Mark, lowered: Lowered) -> Result<Option<Reading>, NoMemory>
+    ensures { IfOk result (λ next.
+        option_map reading_of next ≡ out.join base mark (lowered_of lowered)) }
+{
+    let sort = top(base, &lowered.frames);
+    let level = level_of(mark);
+    if !(has_level(sort, level) && least(&lowered.frames) <= level) {
+        return separate(base, mark, lowered);
+    }
+    if left_of(mark) > lowered.level {
+        return Ok(None);
+    }
+    let mut frames = lowered.frames;
+    frames.push(Frame::Over(Lead::Left(mark), sort))?;
+    Ok(Some(Reading {
+        due: Due::Operand,
+        frames,
+    }))
+}

@@ -1,0 +1,293 @@
+//! What a frame says of the place in it.
+
+ghost use Rattle.std.specs.Prelude.{◌≡◌, reverse};
+ghost use Rattle.st_grammar.specs.Grammar as grammar;
+ghost use Rattle.st_grammar.specs.Trees as tree;
+ghost use Rattle.st_parse_automaton.specs.Outline as out;
+
+use crate::outline::{Frame, Kind, Lead, Part, Shape};
+use crate::table::{
+    ahead_level, ahead_right, inside, is_mark, is_type_mark, juxtaposes, level_of, right_of,
+};
+use st_grammar::{Bracket, Closing, Leaf, Sort, Style};
+use st_num::{Mark, Row};
+
+/// The level of what binds tightest.
+pub(crate) const TIGHT: u8 = 20;
+
+fn frame_sort(frame: Frame) -> Sort
+    ensures { result ≡ out.frame_sort frame }
+{
+    match frame {
+        Frame::Within(_, _, _, sort) | Frame::Over(_, sort) => sort,
+        Frame::Timing => Sort::Count,
+    }
+}
+
+/// The sort of the innermost place.
+pub fn top(base: Sort, frames: &Row<Frame>) -> Sort
+    ensures { result ≡ out.top base (reverse frames.now) }
+{
+    match frames.as_slice().last() {
+        None => base,
+        Some(frame) => frame_sort(*frame),
+    }
+}
+
+fn wanted(lead: Lead) -> u8
+    ensures { result ≡ out.wanted lead }
+{
+    match lead {
+        Lead::Left(mark) => right_of(mark),
+        Lead::Ahead(mark) => ahead_right(mark),
+        Lead::Items => TIGHT,
+    }
+}
+
+/// How loose a sign must be to close over a part behind this.
+pub(crate) fn reach(lead: Lead) -> u8
+    ensures { result ≡ out.reach lead }
+{
+    match lead {
+        Lead::Left(mark) => right_of(mark),
+        Lead::Ahead(mark) => ahead_right(mark),
+        Lead::Items => 14,
+    }
+}
+
+pub(crate) fn lead_level(lead: Lead) -> u8
+    ensures { result ≡ out.lead_level lead }
+{
+    match lead {
+        Lead::Left(mark) => level_of(mark),
+        Lead::Ahead(mark) => ahead_level(mark),
+        Lead::Items => 14,
+    }
+}
+
+fn kind_least(kind: Kind) -> u8
+    ensures { result ≡ out.kind_least kind }
+{
+    match kind {
+        Kind::Index | Kind::Segment => 13,
+        Kind::Plain(_) | Kind::Length | Kind::Arguments | Kind::Update | Kind::Below => 1,
+    }
+}
+
+fn frame_least(frame: Frame) -> u8
+    ensures { result ≡ out.frame_least frame }
+{
+    match frame {
+        Frame::Within(kind, _, _, _) => kind_least(kind),
+        Frame::Over(lead, _) => wanted(lead),
+        Frame::Timing => 1,
+    }
+}
+
+/// The least level that is wanted in the innermost place.
+pub(crate) fn least(frames: &Row<Frame>) -> u8
+    ensures { result ≡ out.least (reverse frames.now) }
+{
+    match frames.as_slice().last() {
+        None => 1,
+        Some(frame) => frame_least(*frame),
+    }
+}
+
+pub(crate) fn closed_by(bracket: Bracket) -> Closing
+    ensures { result ≡ tree.closed_by bracket }
+{
+    match bracket {
+        Bracket::Round | Bracket::TickRound | Bracket::Dollar => Closing::ByRound,
+        Bracket::Square | Bracket::TickSquare => Closing::BySquare,
+        Bracket::Brace | Bracket::TickBrace => Closing::ByBrace,
+    }
+}
+
+/// What closes such a bracket.
+pub(crate) fn kind_closing(kind: Kind) -> Closing
+    ensures { result ≡ out.kind_closing kind }
+{
+    match kind {
+        Kind::Plain(bracket) => closed_by(bracket),
+        Kind::Length => Closing::ByBar,
+        Kind::Arguments | Kind::Below => Closing::ByRound,
+        Kind::Index | Kind::Segment | Kind::Update => Closing::BySquare,
+    }
+}
+
+/// Whether the two are the same.
+pub(crate) fn agree(left: Closing, right: Closing) -> bool
+    ensures { result ≡ tree.agree left right }
+{
+    match (left, right) {
+        (Closing::ByRound, Closing::ByRound) => true,
+        (Closing::BySquare, Closing::BySquare) => true,
+        (Closing::ByBrace, Closing::ByBrace) => true,
+        (Closing::ByBar, Closing::ByBar) => true,
+        (_, _) => false,
+    }
+}
+
+fn bracket_style(bracket: Bracket, sort: Sort) -> Style
+    ensures { result ≡ grammar.bracket_style bracket sort }
+{
+    match (bracket, sort) {
+        (Bracket::Round, Sort::Arithmetic) => Style::Lone,
+        (Bracket::Round, _) => Style::Parts,
+        (Bracket::Brace, _) => Style::Fields,
+        (_, _) => Style::Lone,
+    }
+}
+
+fn index_style(sort: Sort) -> Style
+    ensures { result ≡ grammar.index_style sort }
+{
+    match sort {
+        Sort::Arithmetic => Style::Lone,
+        _ => Style::Ends,
+    }
+}
+
+/// How the parts of such a bracket are set off, where it stands in a place of this sort.
+pub(crate) fn kind_style(sort: Sort, kind: Kind) -> Style
+    ensures { result ≡ out.kind_style sort kind }
+{
+    match kind {
+        Kind::Plain(bracket) => bracket_style(bracket, sort),
+        Kind::Arguments => Style::Parts,
+        Kind::Index => index_style(sort),
+        Kind::Segment => Style::Ends,
+        Kind::Length | Kind::Update | Kind::Below => Style::Lone,
+    }
+}
+
+/// What stands in such a bracket.
+pub(crate) fn kind_sort(sort: Sort, kind: Kind) -> Sort
+    ensures { result ≡ out.kind_sort sort kind }
+{
+    match kind {
+        Kind::Plain(bracket) => inside(sort, bracket),
+        Kind::Length => Sort::Expression(true),
+        Kind::Below => Sort::Bound,
+        Kind::Arguments | Kind::Index | Kind::Segment | Kind::Update => Sort::Expression(false),
+    }
+}
+
+/// An operand of one token as a part.
+pub(crate) fn leaf_part(leaf: Leaf) -> Part
+    ensures { result ≡ out.leaf_part leaf }
+{
+    match leaf {
+        Leaf::Low | Leaf::Basic => Part::Typ(true),
+        Leaf::Variable | Leaf::Atom => Part::Atom,
+        Leaf::Number | Leaf::Literal => Part::Whole,
+        Leaf::Function => Part::Function,
+    }
+}
+
+/// A bracket as a part, where all in it reads as types or not.
+pub(crate) fn kind_part(kind: Kind, types: bool) -> Part
+    ensures { result ≡ out.kind_part kind types }
+{
+    match kind {
+        Kind::Plain(Bracket::Round) => Part::Typ(types),
+        _ => Part::Whole,
+    }
+}
+
+pub(crate) fn is_function(part: Part) -> bool
+    ensures { result ≡ out.is_function part }
+{
+    matches!(part, Part::Function)
+}
+
+fn is_atom(part: Part) -> bool
+    ensures { result ≡ out.is_atom part }
+{
+    matches!(part, Part::Atom)
+}
+
+fn is_type(part: Part) -> bool
+    ensures { result ≡ out.is_type part }
+{
+    matches!(part, Part::Typ(_))
+}
+
+/// Whether all of the part reads as a type.
+pub(crate) fn reads_type(part: Part) -> bool
+    ensures { result ≡ out.reads_type part }
+{
+    match part {
+        Part::Typ(types) => types,
+        Part::Function | Part::Atom | Part::Whole => false,
+    }
+}
+
+/// The part with a dot behind it.
+pub(crate) fn dotted(part: Part) -> Part
+    ensures { result ≡ out.dotted part }
+{
+    match part {
+        Part::Atom => Part::Atom,
+        Part::Function | Part::Typ(_) | Part::Whole => Part::Whole,
+    }
+}
+
+/// The part with a mark behind it.
+pub(crate) fn marked(mark: Mark, part: Part) -> Part
+    ensures { result ≡ out.marked mark part }
+{
+    match part {
+        Part::Typ(types) => Part::Typ(is_type_mark(mark) && types),
+        Part::Function | Part::Atom | Part::Whole => Part::Whole,
+    }
+}
+
+/// Whether a dot goes on with the part.
+pub(crate) fn may_dot(sort: Sort, part: Part, touching: bool) -> bool
+    ensures { result ≡ out.may_dot sort part touching }
+{
+    match sort {
+        Sort::Expression(_) | Sort::Arithmetic => true,
+        Sort::Notation => is_atom(part) && touching,
+        Sort::Typ | Sort::Count | Sort::Bound => false,
+    }
+}
+
+/// Whether the sign is a mark behind the part.
+pub(crate) fn may_mark(sort: Sort, part: Part, mark: Mark) -> bool
+    ensures { result ≡ out.may_mark sort part mark }
+{
+    match sort {
+        Sort::Expression(_) => is_mark(mark),
+        Sort::Notation => is_type_mark(mark) && is_type(part),
+        Sort::Typ => is_type_mark(mark),
+        Sort::Arithmetic | Sort::Count | Sort::Bound => false,
+    }
+}
+
+fn opens_length(closing: Closing, sort: Sort) -> bool
+    ensures { result ≡ grammar.opens_length closing sort }
+{
+    match (closing, sort) {
+        (Closing::ByBar, Sort::Expression(barred)) => !barred,
+        (_, _) => false,
+    }
+}
+
+/// Whether the token begins a next element of a sequence behind the part.
+pub fn follows(sort: Sort, part: Part, shape: Shape) -> bool
+    ensures { result ≡ out.follows sort part shape }
+{
+    match shape {
+        Shape::Single(_) => juxtaposes(sort),
+        Shape::Open(Bracket::Square, _) => false,
+        Shape::Open(Bracket::Round, touching) => {
+            juxtaposes(sort) && !(is_function(part) && touching)
+        }
+        Shape::Open(_, _) => juxtaposes(sort),
+        Shape::Close(closing) => opens_length(closing, sort),
+        Shape::Dot(_) | Shape::Sign(_) | Shape::Other => false,
+    }
+}

@@ -1,0 +1,313 @@
+//! One token of a part.
+
+ghost use Rattle.std.specs.Prelude.{◌≡◌, ◌∷◌, IfOk, reverse};
+ghost use Rattle.std.specs.Option.{option_map};
+ghost use Rattle.st_parse_automaton.specs.Outline as out;
+ghost use Rattle.st_parse_automaton.specs.Readings.{reading_of};
+
+use crate::begin::{begin, opened};
+use crate::close::{close, closes, join, lower};
+use crate::frame::{
+    TIGHT, dotted, follows, is_function, lead_level, marked, may_dot, may_mark, top,
+};
+use crate::outline::{Due, Filling, Frame, Kind, Lead, Part, Reading, Shape};
+use crate::table::{computes, has_level, is_caret, is_change, is_expression, is_less, level_of};
+use st_grammar::{Bracket, Leaf, Sort};
+use st_num::{Mark, NoMemory, Row};
+
+/// The frames with one more element of a sequence.
+fn extend(base: Sort, mut frames: Row<Frame>) -> Result<Row<Frame>, NoMemory>
+    ensures { IfOk result (λ extended. reverse extended ≡ out.extend base (reverse frames)) }
+{
+    let sort = top(base, &frames);
+    match frames.pop() {
+        Some(Frame::Over(Lead::Items, items)) => {
+            frames.push(Frame::Over(Lead::Items, items))?;
+            Ok(frames)
+        }
+        Some(frame) => {
+            frames.push(frame)?;
+            frames.push(Frame::Over(Lead::Items, sort))?;
+            Ok(frames)
+        }
+        None => {
+            frames.push(Frame::Over(Lead::Items, sort))?;
+            Ok(frames)
+        }
+    }
+}
+
+/// The level of the sign between two sides there, or 0.
+fn pull(sort: Sort, mark: Mark) -> u8
+    ensures { result ≡ out.pull sort mark }
+{
+    let level = level_of(mark);
+    if has_level(sort, level) { level } else { 0 }
+}
+
+fn behind_sign(
+    base: Sort,
+    mark: Mark,
+    part: Part,
+    mut frames: Row<Frame>,
+) -> Result<Option<Reading>, NoMemory>
+    ensures { IfOk result (λ next.
+        option_map reading_of next ≡ out.behind_sign base mark part (reverse frames)) }
+{
+    let sort = top(base, &frames);
+    if may_mark(sort, part, mark) {
+        return Ok(Some(Reading {
+            due: Due::Next(marked(mark, part)),
+            frames,
+        }));
+    }
+    if is_expression(sort) && is_caret(mark) {
+        frames.push(Frame::Timing)?;
+        return Ok(Some(Reading {
+            due: Due::Operand,
+            frames,
+        }));
+    }
+    let lowered = lower(pull(sort, mark), part, frames)?;
+    let next = join(base, mark, lowered)?;
+    Ok(next)
+}
+
+/// `[` behind a part; no path stands in arithmetic.
+fn behind_square(base: Sort, frames: Row<Frame>) -> Result<Option<Reading>, NoMemory>
+    ensures { IfOk result (λ next.
+        option_map reading_of next ≡ out.behind_square base (reverse frames)) }
+{
+    let sort = top(base, &frames);
+    if is_expression(sort) {
+        return Ok(Some(Reading {
+            due: Due::Step(false),
+            frames,
+        }));
+    }
+    if !computes(sort) {
+        return Ok(None);
+    }
+    let next = opened(Due::Operand, Kind::Index, sort, frames)?;
+    Ok(next)
+}
+
+/// `(` behind a part: a function has arguments.
+fn behind_round(
+    base: Sort,
+    touching: bool,
+    part: Part,
+    frames: Row<Frame>,
+) -> Result<Option<Reading>, NoMemory>
+    ensures { IfOk result (λ next.
+        option_map reading_of next ≡ out.behind_round base touching part (reverse frames)) }
+{
+    let sort = top(base, &frames);
+    if !(is_function(part) && (computes(sort) && touching)) {
+        return Ok(None);
+    }
+    let next = opened(Due::Operand, Kind::Arguments, sort, frames)?;
+    Ok(next)
+}
+
+fn behind(
+    base: Sort,
+    part: Part,
+    frames: Row<Frame>,
+    shape: Shape,
+) -> Result<Option<Reading>, NoMemory>
+    ensures { IfOk result (λ next.
+        option_map reading_of next ≡ out.behind base part (reverse frames) shape) }
+{
+    match shape {
+        Shape::Dot(touching) => {
+            if !may_dot(top(base, &frames), part, touching) {
+                return Ok(None);
+            }
+            Ok(Some(Reading {
+                due: Due::Next(dotted(part)),
+                frames,
+            }))
+        }
+        Shape::Sign(mark) => behind_sign(base, mark, part, frames),
+        Shape::Open(Bracket::Square, _) => behind_square(base, frames),
+        Shape::Open(Bracket::Round, touching) => behind_round(base, touching, part, frames),
+        Shape::Close(closing) => {
+            let lowered = lower(0, part, frames)?;
+            let next = close(closing, lowered)?;
+            Ok(next)
+        }
+        Shape::Open(_, _) | Shape::Single(_) | Shape::Other => Ok(None),
+    }
+}
+
+fn after(
+    base: Sort,
+    part: Part,
+    frames: Row<Frame>,
+    shape: Shape,
+) -> Result<Option<Reading>, NoMemory>
+    ensures { IfOk result (λ next.
+        option_map reading_of next ≡ out.after base part (reverse frames) shape) }
+{
+    if !follows(top(base, &frames), part, shape) {
+        return behind(base, part, frames, shape);
+    }
+    let extended = extend(base, frames)?;
+    let next = begin(base, extended, shape)?;
+    Ok(next)
+}
+
+/// Behind `[` and no step of a path: an expression.
+fn in_index(
+    base: Sort,
+    stepped: bool,
+    mut frames: Row<Frame>,
+    shape: Shape,
+) -> Result<Option<Reading>, NoMemory>
+    ensures { IfOk result (λ next.
+        option_map reading_of next ≡ out.in_index base stepped (reverse frames) shape) }
+{
+    if stepped {
+        return Ok(None);
+    }
+    frames.push(Frame::Within(Kind::Index, Filling::Empty, true, Sort::Expression(false)))?;
+    let next = begin(base, frames, shape)?;
+    Ok(next)
+}
+
+fn in_path(
+    base: Sort,
+    stepped: bool,
+    frames: Row<Frame>,
+    shape: Shape,
+) -> Result<Option<Reading>, NoMemory>
+    ensures { IfOk result (λ next.
+        option_map reading_of next ≡ out.in_path base stepped (reverse frames) shape) }
+{
+    match shape {
+        Shape::Dot(_) => Ok(Some(Reading {
+            due: Due::Step(true),
+            frames,
+        })),
+        Shape::Open(Bracket::Square, _) => {
+            let sort = top(base, &frames);
+            let next = opened(Due::Operand, Kind::Segment, sort, frames)?;
+            Ok(next)
+        }
+        Shape::Sign(mark) if stepped && is_change(mark) => {
+            let sort = top(base, &frames);
+            let next = opened(Due::Operand, Kind::Update, sort, frames)?;
+            Ok(next)
+        }
+        Shape::Sign(_) | Shape::Open(_, _) | Shape::Single(_) | Shape::Close(_) | Shape::Other =>
+            in_index(base, stepped, frames, shape),
+    }
+}
+
+pub(crate) fn is_label(shape: Shape) -> bool
+    ensures { result ≡ out.is_label shape }
+{
+    matches!(shape, Shape::Single(Leaf::Atom | Leaf::Variable))
+}
+
+fn named(filling: Filling) -> Filling
+    ensures { result ≡ out.named filling }
+{
+    match filling {
+        Filling::Parts => Filling::Parts,
+        Filling::Empty | Filling::Begun => Filling::Begun,
+    }
+}
+
+/// The name of a field, in the innermost bracket.
+fn name_field(mut frames: Row<Frame>, shape: Shape) -> Result<Option<Reading>, NoMemory>
+    ensures { IfOk result (λ next.
+        option_map reading_of next ≡ out.name_field (reverse frames) shape) }
+{
+    match frames.pop() {
+        Some(Frame::Within(kind, filling, types, sort)) => {
+            if !is_label(shape) {
+                return Ok(None);
+            }
+            frames.push(Frame::Within(kind, named(filling), types, sort))?;
+            Ok(Some(Reading {
+                due: Due::Operand,
+                frames,
+            }))
+        }
+        Some(Frame::Over(_, _)) | Some(Frame::Timing) | None => Ok(None),
+    }
+}
+
+/// The name behind `^ (`.
+fn name_index(frames: Row<Frame>, shape: Shape) -> Option<Reading>
+    ensures { option_map reading_of result ≡ out.name_index (reverse frames) shape }
+{
+    match shape {
+        Shape::Single(Leaf::Low) => Some(Reading {
+            due: Due::Less,
+            frames,
+        }),
+        _ => None,
+    }
+}
+
+/// The `<` behind that name.
+fn bound_index(base: Sort, frames: Row<Frame>, shape: Shape) -> Result<Option<Reading>, NoMemory>
+    ensures { IfOk result (λ next.
+        option_map reading_of next ≡ out.bound_index base (reverse frames) shape) }
+{
+    match shape {
+        Shape::Sign(mark) if is_less(mark) => {
+            let sort = top(base, &frames);
+            let next = opened(Due::Operand, Kind::Below, sort, frames)?;
+            Ok(next)
+        }
+        _ => Ok(None),
+    }
+}
+
+/// Takes one more token of a part, if it may stand there.
+pub fn step(base: Sort, reading: Reading, shape: Shape) -> Result<Option<Reading>, NoMemory>
+    ensures { IfOk result (λ next.
+        option_map reading_of next ≡ out.step base (reading_of reading) shape) }
+{
+    let Reading { due, frames } = reading;
+    match due {
+        Due::Operand => begin(base, frames, shape),
+        Due::Next(part) => after(base, part, frames, shape),
+        Due::Label => name_field(frames, shape),
+        Due::Step(stepped) => in_path(base, stepped, frames, shape),
+        Due::Index => Ok(name_index(frames, shape)),
+        Due::Less => bound_index(base, frames, shape),
+    }
+}
+
+/// The part, where it may end here.
+pub fn finish(reading: &Reading) -> Option<Part>
+    ensures { result ≡ out.finish (reading_of reading.now) }
+{
+    match reading.due {
+        Due::Next(part) => ended(part, reading.frames.as_slice()),
+        Due::Operand | Due::Label | Due::Step(_) | Due::Index | Due::Less => None,
+    }
+}
+
+/// The part with all that leads to it, where no bracket is open.
+fn ended(part: Part, frames: &[Frame]) -> Option<Part>
+    ensures { result ≡ out.ended (out.lower 0 20 part (reverse frames.now)) }
+{
+    let mut whole = part;
+    let mut level = TIGHT;
+    let mut rest = frames;
+    'open: while let Some((frame, front)) = rest.split_last() {
+        let Some(lead) = closes(*frame, 0) else {
+            return None;
+        };
+        whole = Part::Whole;
+        level = lead_level(lead);
+        rest = front;
+    }
+    Some(whole)
+}

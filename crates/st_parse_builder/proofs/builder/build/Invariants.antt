@@ -1,0 +1,7 @@
+use Rattle.std.proofs.Common.{◌≡◌, [], take, Some}
+use Rattle.st_parse_builder.specs.Building.{run}
+use Rattle.st_parse_builder.specs.Pieces.{pieces}
+use Rattle.st_parse_builder.proofs.builder.build.Given as goal
+
+abbrev pub invariant-actions : goal.invariant-actions
+invariant-actions l = run (take l.action-index l.actions) [] ≡ Some (pieces l.stack)

@@ -1,0 +1,182 @@
+-- The definitions that the tokens of a source mean.
+use Rattle.std.specs.Prelude.{◌≡◌, ℕ, ◌-◌, List, [], ◌∷◌, ◌++◌, map, flat_map, drop, length, codes, Bool, true, false, Option, Some, None, if◌then◌else◌}
+use Rattle.std.specs.Fmt.{decimal}
+use Rattle.st_num.specs.declared.span.Span.{Span}
+use Rattle.st_scan.specs.declared.token.Token.{Token}
+use Rattle.st_scan.specs.declared.token.TokenKind.{TokenKind}
+use Rattle.st_scan.specs.declared.token.TokenKind.TheVariants as kind
+use Rattle.st_num.specs.declared.mark.Mark.TheVariants as mark
+use Rattle.st_grammar.specs.Lexemes.{Lexeme, sign, lexeme}
+use Rattle.st_grammar.specs.Grammar.{is_type}
+use Rattle.st_grammar.specs.Definitions as grammar
+use Rattle.st_grammar.specs.Definitions.{token_in, no_hints, more_hints, hint, Members, no_members, member, fields, cases, Iterations, no_iterations, closed, marked, counted, closings, Premise, default, given, Premises, no_premises, more_premises, Args, no_args, args, syntax_def, var_def, relation_def, rule_def, fun_def, clause_def, Defs, no_defs, more_defs, ParseDefs}
+use Rattle.st_el.specs.declared.expression.Exp.{Exp}
+use Rattle.st_el.specs.declared.expression.Count.{Count}
+use Rattle.st_el.specs.declared.ty.Typ.{Typ}
+use Rattle.st_el.specs.declared.notation.Notation.{Notation}
+use Rattle.st_el.specs.declared.definition.Prem.{Prem, out-Prem, roll-Prem}
+use Rattle.st_el.specs.declared.definition.PremNode.{PremNode}
+use Rattle.st_el.specs.declared.definition.PremNode.TheVariants as prem
+use Rattle.st_el.specs.declared.definition.Hint.{Hint}
+use Rattle.st_el.specs.declared.definition.Body.{Body}
+use Rattle.st_el.specs.declared.definition.Body.TheVariants as body
+use Rattle.st_el.specs.declared.definition.Def.{Def}
+use Rattle.st_el.specs.declared.definition.DefNode.{DefNode}
+use Rattle.st_el.specs.declared.definition.DefNode.TheVariants as def
+use Rattle.st_el.specs.Plain.{nowhere}
+use Rattle.st_parse_builder.specs.Names.{name_of}
+use Rattle.st_parse_builder.specs.Meaning.{meaning, meanings, label, mark_count, count_of}
+use Rattle.st_parse_builder.specs.Notations.{typ_meaning, typ_meanings, notation_meaning}
+
+abbrev pub name_in : Lexeme → List ℕ
+name_in l = name_of (token_in l).kind
+
+-- the place of the first of these tokens
+abbrev pub place_in : List Lexeme → Span
+place_in [] = nowhere
+place_in (l ∷ ls) = (token_in l).at
+
+-- ---- names of rules and fragments
+
+-- a piece of such a name, a dash, or a dot with a piece
+abbrev pub piece_text : TokenKind → List ℕ
+piece_text (kind.Number n) = decimal n
+piece_text (kind.Sign mark.Minus) = codes "-"
+piece_text (kind.Dot name) = codes "." ++ name
+piece_text k = name_of k
+
+abbrev pub id_text : List Lexeme → List ℕ
+id_text ls = flat_map (λ l. piece_text (token_in l).kind) ls
+
+-- what stands behind `/`, where there is one
+abbrev pub fragment_name : List Lexeme → Option (List ℕ)
+fragment_name [] = None
+fragment_name (s ∷ ls) = Some (id_text ls)
+
+-- A rule without a name has the empty one.
+abbrev pub rule_name : List Lexeme → List ℕ
+rule_name [] = []
+rule_name (s ∷ ls) = id_text ls
+
+-- ---- hints
+
+abbrev pub hint_meaning : grammar.Hint → Hint
+hint_meaning (hint w o n ws c) = record { name = name_in n; words = map token_in ws }
+
+abbrev pub hints_meaning : grammar.Hints → List Hint
+hints_meaning no_hints = []
+hints_meaning (more_hints hs h) = hints_meaning hs ++ hint_meaning h ∷ []
+
+-- ---- bodies
+
+-- The hints of fields and alternatives are passed over.
+abbrev pub fields_meaning : Members → List (List ℕ × Typ)
+fields_meaning no_members = []
+fields_meaning (member ms pre t hs) = fields_meaning ms ++ (label pre, typ_meaning t) ∷ []
+
+abbrev pub cases_meaning : Members → List Notation
+cases_meaning no_members = []
+cases_meaning (member ms pre t hs) = cases_meaning ms ++ notation_meaning t ∷ []
+
+-- Dots stand before the first alternative: they and a bar set it off.
+abbrev pub has_dots_before : Members → Bool
+has_dots_before (member no_members (d ∷ b ∷ []) t hs) = true
+has_dots_before (member ms pre t hs) = has_dots_before ms
+has_dots_before no_members = false
+
+-- Dots stand behind the last one.
+abbrev pub has_dots_behind : List Lexeme → Bool
+has_dots_behind [] = false
+has_dots_behind (b ∷ ls) = true
+
+abbrev pub variant : Members → List Lexeme → Body
+variant ms ls = body.Cases (has_dots_before ms) (cases_meaning ms) (has_dots_behind ls)
+
+-- One alternative without dots that is a type is an alias, also with a bar before it.
+abbrev pub body_meaning : grammar.Body → Body
+body_meaning (fields o ms c) = body.Fields (fields_meaning ms)
+body_meaning (cases (member no_members (d ∷ b ∷ []) t hs) ls) =
+    variant (member no_members (d ∷ b ∷ []) t hs) ls
+body_meaning (cases (member no_members pre t hs) []) =
+    if is_type t then body.Alias (typ_meaning t) else variant (member no_members pre t hs) []
+body_meaning (cases ms ls) = variant ms ls
+
+-- ---- premises
+
+abbrev pub prem_at : Span → PremNode → Prem
+prem_at at n = roll-Prem (record { at = at; node = n })
+
+-- a condition begins with its `if` or its relation
+abbrev pub condition_node : List Lexeme → Exp → PremNode
+condition_node (r ∷ c ∷ ls) e = prem.Goal (name_in r) e
+condition_node ls e = prem.If e
+
+abbrev pub condition : List Lexeme → Exp → Prem
+condition ls e = prem_at (place_in ls) (condition_node ls e)
+
+-- the place of the `(` that the n-th `)` closes
+abbrev pub opened_at : List Lexeme → ℕ → Span
+opened_at os n = place_in (drop (length os - n) os)
+
+abbrev pub sign_count : Lexeme → Count
+sign_count (sign m x) = mark_count m
+sign_count l = mark_count mark.Question
+
+-- A mark behind a `)` iterates what stands in the parentheses, which begins with their `(`.
+abbrev pub iterated : List Lexeme → Prem → Iterations → Prem
+iterated os p no_iterations = p
+iterated os p (closed i l) = iterated os p i
+iterated os p (marked i l) =
+    prem_at (opened_at os (closings i)) (prem.Each (iterated os p i) (sign_count l))
+iterated os p (counted i l t) =
+    prem_at (opened_at os (closings i)) (prem.Each (iterated os p i) (count_of t (meaning t)))
+
+-- A whole premise begins with its `--`.
+abbrev pub premise_meaning : Premise → Prem
+premise_meaning (default d o) = prem_at (token_in d).at prem.Otherwise
+premise_meaning (given d os ls t i) =
+    prem_at (token_in d).at (out-Prem (iterated os (condition ls (meaning t)) i)).node
+
+abbrev pub premises_meaning : Premises → List Prem
+premises_meaning no_premises = []
+premises_meaning (more_premises ps p) = premises_meaning ps ++ premise_meaning p ∷ []
+
+-- ---- definitions
+
+abbrev pub params : Args → List Typ
+params no_args = []
+params (args o ts c) = typ_meanings ts
+
+abbrev pub patterns : Args → List Exp
+patterns no_args = []
+patterns (args o ts c) = meanings ts
+
+-- a definition begins with its word
+abbrev pub def_at : Lexeme → List Hint → DefNode → Def
+def_at w hs n = record { at = (token_in w).at; hints = hs; node = n }
+
+abbrev pub def_meaning : grammar.Def → Def
+def_meaning (syntax_def w x ls hs e b) =
+    def_at w (hints_meaning hs) (def.Syntax (name_in x) (fragment_name ls) (body_meaning b))
+def_meaning (var_def w x c t hs) =
+    def_at w (hints_meaning hs) (def.Var (name_in x) (typ_meaning t))
+def_meaning (relation_def w r hs c t ks) =
+    def_at w (hints_meaning hs ++ hints_meaning ks)
+    (def.Relation (name_in r) (notation_meaning t))
+def_meaning (rule_def w r ls c t ps) =
+    def_at w [] (def.Rule (name_in r) (rule_name ls) (meaning t) (premises_meaning ps))
+def_meaning (fun_def w f a c t hs) =
+    def_at w (hints_meaning hs) (def.Fun (name_in f) (params a) (typ_meaning t))
+def_meaning (clause_def w f a e t ps) =
+    def_at w [] (def.Clause (name_in f) (patterns a) (meaning t) (premises_meaning ps))
+
+abbrev pub defs_meaning : Defs → List Def
+defs_meaning no_defs = []
+defs_meaning (more_defs ds d) = defs_meaning ds ++ def_meaning d ∷ []
+
+-- Where these names are declared by `var`, the tokens are those of definitions of the grammar that
+-- mean these definitions.
+pub record Parse (names : List (List ℕ)) (tokens : List Token) (defs : List Def) : Type 0 where
+  pub trees : Defs
+  pub grammar : ParseDefs (map (lexeme names) tokens) trees
+  pub meant : defs_meaning trees ≡ defs

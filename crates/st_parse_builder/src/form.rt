@@ -1,0 +1,231 @@
+//! Expressions from their parts.
+
+ghost use Rattle.std.specs.Prelude.{◌≡◌, [], ◌∷◌, ◌++◌, IfOk};
+ghost use Rattle.st_el.specs.declared.expression.Node.{out-Node};
+ghost use Rattle.st_el.specs.declared.expression.Node.TheVariants as node;
+ghost use Rattle.st_parse_builder.specs.Names.{name_of};
+ghost use Rattle.st_parse_builder.specs.Building.{call_name};
+ghost use Rattle.st_parse_builder.specs.Meaning as meaning;
+
+use crate::leaf::{copy_name, name_of};
+use st_el::{Count, Exp, Node, Seg};
+use st_grammar::Bracket;
+use st_num::{Boxed, Mark, Name, NoMemory, Row, Span};
+use st_scan::Token;
+use std::alloc::Global;
+
+/// A sign of the notation, which is none of logic, comparison, membership, `++` or arithmetic.
+fn is_notation(mark: Mark) -> bool
+    ensures { result ≡ meaning.is_notation mark }
+{
+    match mark {
+        Mark::Turnstile
+        | Mark::ReverseTurnstile
+        | Mark::SquigglyArrow
+        | Mark::SquigglyArrowStar
+        | Mark::Colon
+        | Mark::Subtype
+        | Mark::Supertype
+        | Mark::Approximately
+        | Mark::Define
+        | Mark::Semicolon
+        | Mark::Arrow
+        | Mark::DotDot => true,
+        _ => false,
+    }
+}
+
+/// Two sides with a sign between them.
+pub(crate) fn joined(alloc: Global, left: Exp, mark: Mark, right: Exp) -> Result<Exp, NoMemory>
+    ensures { IfOk result (λ exp. exp ≡ meaning.joined left mark right) }
+{
+    let at = left.at;
+    let left = Boxed::new(alloc, left)?;
+    let right = Boxed::new(alloc, right)?;
+    let node = if is_notation(mark) {
+        Node::Infix(left, mark, right)
+    } else {
+        Node::Binary(left, mark, right)
+    };
+    Ok(Exp { at, node })
+}
+
+/// A sign that has only a right side.
+pub(crate) fn prefixed(alloc: Global, mark: Mark, at: Span, exp: Exp) -> Result<Exp, NoMemory>
+    ensures { IfOk result (λ whole. whole ≡ meaning.prefixed mark at exp) }
+{
+    let exp = Boxed::new(alloc, exp)?;
+    match mark {
+        Mark::Tilde => Ok(Exp {
+            at,
+            node: Node::Not(exp),
+        }),
+        Mark::Minus => Ok(Exp {
+            at,
+            node: Node::Neg(exp),
+        }),
+        _ => {
+            let absent = Exp {
+                at,
+                node: Node::Seq(Row::new(alloc)),
+            };
+            let absent = Boxed::new(alloc, absent)?;
+            Ok(Exp {
+                at,
+                node: Node::Infix(absent, mark, exp),
+            })
+        }
+    }
+}
+
+/// An iteration.
+pub(crate) fn iterated(alloc: Global, exp: Exp, count: Count) -> Result<Exp, NoMemory>
+    ensures { IfOk result (λ whole. whole ≡ meaning.iterated exp count) }
+{
+    let at = exp.at;
+    let exp = Boxed::new(alloc, exp)?;
+    Ok(Exp {
+        at,
+        node: Node::Iter(exp, count),
+    })
+}
+
+/// What a mark counts.
+pub fn mark_count(mark: Mark) -> Count
+    ensures { result ≡ meaning.mark_count mark }
+{
+    match mark {
+        Mark::Star => Count::Star,
+        Mark::Plus => Count::Plus,
+        _ => Count::Quest,
+    }
+}
+
+/// One part in a bracket.
+pub(crate) fn enclosed(alloc: Global, bracket: Bracket, at: Span, exp: Exp) -> Result<Exp, NoMemory>
+    ensures { IfOk result (λ whole. whole ≡ meaning.exp at (meaning.enclosed bracket exp)) }
+{
+    let exp = Boxed::new(alloc, exp)?;
+    let node = match bracket {
+        Bracket::TickRound => Node::Bracket(Mark::TickParen, exp),
+        Bracket::TickSquare => Node::Bracket(Mark::TickBracket, exp),
+        Bracket::TickBrace => Node::Bracket(Mark::TickBrace, exp),
+        Bracket::Round | Bracket::Square | Bracket::Brace | Bracket::Dollar => Node::Arith(exp),
+    };
+    Ok(Exp { at, node })
+}
+
+/// One part in parentheses, or a tuple.
+pub(crate) fn in_parens(alloc: Global, at: Span, mut parts: Row<Exp>) -> Result<Exp, NoMemory>
+    ensures { IfOk result (λ whole. whole ≡ meaning.exp at (meaning.in_parens parts)) }
+{
+    if parts.len() == 1 {
+        if let Some(part) = parts.pop() {
+            let part = Boxed::new(alloc, part)?;
+            return Ok(Exp {
+                at,
+                node: Node::Paren(part),
+            });
+        }
+    }
+    Ok(Exp {
+        at,
+        node: Node::Tuple(parts),
+    })
+}
+
+/// A new value at a path.
+pub(crate) fn changed(
+    alloc: Global,
+    mark: Mark,
+    exp: Exp,
+    path: Row<Seg>,
+    new: Exp,
+) -> Result<Exp, NoMemory>
+    ensures { IfOk result (λ whole. whole ≡ meaning.changed mark exp path new) }
+{
+    let at = exp.at;
+    let exp = Boxed::new(alloc, exp)?;
+    let new = Boxed::new(alloc, new)?;
+    let node = match mark {
+        Mark::ExtendBy => Node::Extend(exp, path, new),
+        _ => Node::Update(exp, path, new),
+    };
+    Ok(Exp { at, node })
+}
+
+/// The elements from a position on.
+pub(crate) fn sliced(alloc: Global, whole: Exp, from: Exp, count: Exp) -> Result<Exp, NoMemory>
+    ensures { IfOk result (λ exp. exp ≡ meaning.indexed whole (from ∷ count ∷ [])) }
+{
+    let at = whole.at;
+    let whole = Boxed::new(alloc, whole)?;
+    let from = Boxed::new(alloc, from)?;
+    let count = Boxed::new(alloc, count)?;
+    Ok(Exp {
+        at,
+        node: Node::Slice(whole, from, count),
+    })
+}
+
+/// A name with another behind it and a dot between them.
+pub(crate) fn with_dot(name: Name, behind: &[u8]) -> Result<Name, NoMemory>
+    ensures { IfOk result (λ whole. whole ≡ name ++ 46 ∷ behind.now) }
+{
+    let mut bytes = name.into_vec();
+    bytes.push(b'.')?;
+    bytes.extend_from_slice(behind)?;
+    Ok(Name::from_vec(bytes))
+}
+
+pub(crate) fn is_atom(exp: &Exp) -> bool
+    ensures { result ≡ meaning.is_atom (meaning.opened exp.now) }
+{
+    matches!(&exp.node, Node::Atom(_))
+}
+
+fn atom_name(alloc: Global, node: Node) -> Name
+    ensures { result ≡ meaning.atom_name (out-Node node) }
+{
+    match node {
+        Node::Atom(name) => name,
+        _ => Row::new(alloc),
+    }
+}
+
+/// An atom that goes on with the name behind a dot.
+pub(crate) fn atom_on(alloc: Global, exp: Exp, token: &Token) -> Result<Exp, NoMemory>
+    ensures { IfOk result (λ whole. whole ≡ meaning.exp (meaning.place exp)
+        (node.Atom (meaning.atom_name (meaning.opened exp) ++ 46 ∷ name_of token.now.kind))) }
+{
+    let Exp { at, node } = exp;
+    let name = with_dot(atom_name(alloc, node), name_of(&token.kind))?;
+    Ok(Exp {
+        at,
+        node: Node::Atom(name),
+    })
+}
+
+/// A field of a record.
+pub(crate) fn field_of(alloc: Global, exp: Exp, token: &Token) -> Result<Exp, NoMemory>
+    ensures { IfOk result (λ whole. whole ≡ meaning.exp (meaning.place exp)
+        (node.Dot exp (name_of token.now.kind))) }
+{
+    let at = exp.at;
+    let name = copy_name(alloc, &token.kind)?;
+    let exp = Boxed::new(alloc, exp)?;
+    Ok(Exp {
+        at,
+        node: Node::Dot(exp, name),
+    })
+}
+
+/// The name of a function alone, which takes arguments.
+pub(crate) fn call_name(node: Node) -> Option<Name>
+    ensures { result ≡ call_name (out-Node node) }
+{
+    match node {
+        Node::Call(name, args) => { if args.is_empty() { Some(name) } else { None } }
+        _ => None,
+    }
+}

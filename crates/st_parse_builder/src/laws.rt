@@ -1,0 +1,70 @@
+//! Laws of the meaning of a source.
+
+ghost use Rattle.std.specs.Prelude.{◌≡◌, ◌∷◌, ◌++◌, ℕ, List, Some};
+ghost use Rattle.st_scan.specs.declared.token.Token.{Token};
+ghost use Rattle.st_el.specs.declared.definition.Def.{Def};
+ghost use Rattle.st_grammar.specs.declared.sort.Sort.{Sort};
+ghost use Rattle.st_grammar.specs.declared.sort.Sort.TheVariants.{Typ as typ, Notation as notation};
+ghost use Rattle.st_grammar.specs.Trees.{Tree};
+ghost use Rattle.st_grammar.specs.Lexemes.{Lexeme};
+ghost use Rattle.st_grammar.specs.Grammar.{Fits};
+ghost use Rattle.st_grammar.specs.Reading.{State, step, reads, start};
+ghost use Rattle.st_parse_builder.specs.declared.piece.Piece.TheVariants.{Done};
+ghost use Rattle.st_parse_builder.specs.declared.notation_piece.NotationPiece.TheVariants.{Hole};
+ghost use Rattle.st_parse_builder.specs.Meaning.{meaning};
+ghost use Rattle.st_parse_builder.specs.Notations.{typ_meaning};
+ghost use Rattle.st_parse_builder.specs.NotationBuilding as notations;
+ghost use Rattle.st_parse_builder.specs.Definitions.{Parse};
+ghost use Rattle.st_parse_builder.specs.Actions.{acts};
+ghost use Rattle.st_parse_builder.specs.Emission.{state_acts, emitted, emissions};
+ghost use Rattle.st_parse_builder.specs.Building.{Stack, run};
+
+use st_grammar::{one_list, parts_are_read};
+
+/// Tokens mean at most one list of definitions.
+pub fn one_source()
+    ensures { (names : List (List ℕ)) (tokens : List Token) (a b : List Def)
+        → Parse names tokens a → Parse names tokens b → a ≡ b }
+{
+    one_list();
+}
+
+/// The actions of a part that the grammar allows put its meaning on the stack, and nothing else.
+#[tactic(auto, using(crate::proofs::Builds::builds))]
+pub fn parts_are_built()
+    ensures { (σ : Sort) (t : Tree) (s : Stack)
+        → Fits σ t → run (acts t) s ≡ Some (Done (meaning t) ∷ s) }
+{}
+
+/// The actions of a type that the grammar allows put its meaning on the stack, and nothing else.
+#[tactic(auto, using(crate::proofs::NotationBuilds::typ_builds))]
+pub fn types_are_built()
+    ensures { (t : Tree) (s : notations.Stack)
+        → Fits typ t → notations.run (acts t) s ≡ Some (Hole (typ_meaning t) ∷ s) }
+{}
+
+/// The same of a notation, which is a type where all of it is one.
+#[tactic(auto, using(crate::proofs::NotationBuilds::notation_builds))]
+pub fn notations_are_built()
+    ensures { (t : Tree) (s : notations.Stack)
+        → Fits notation t → notations.run (acts t) s ≡ Some (notations.piece_of t ∷ s) }
+{}
+
+/// A parser may emit actions while it reads: each token adds its own, and those that are emitted up
+/// to the end are the actions of the part.
+#[tactic(auto, using(crate::proofs::Emission::emits_next, crate::proofs::Emission::emits_part))]
+pub fn readings_emit()
+    ensures each { (st : State) (l : Lexeme) (next : State)
+        → step st l ≡ Some next → state_acts next ≡ state_acts st ++ emitted st l }
+    ensures all { (σ : Sort) (us : List Lexeme) (t : Tree)
+        → reads (start σ) us ≡ Some t → acts t ≡ emissions (start σ) us }
+{}
+
+/// What is emitted while a part is read builds its meaning.
+pub fn emissions_build()
+    ensures { (σ : Sort) (us : List Lexeme) (t : Tree) (s : Stack)
+        → reads (start σ) us ≡ Some t
+        → run (emissions (start σ) us) s ≡ Some (Done (meaning t) ∷ s) }
+{
+    parts_are_read();
+}

@@ -1,0 +1,87 @@
+-- What is counted between parts, and how much of it there may be.
+use Rattle.std.specs.Prelude.{◌+◌, ◌≤◌, [], Bool, true, false, ◌||◌, nat_lt}
+use Rattle.st_grammar.specs.Definitions.{Iterations, no_iterations, closed, marked, counted}
+use Rattle.st_grammar.specs.Reading as part
+use Rattle.st_grammar.specs.Places.{State, at, inside, syntax_name, relation_name, rule_name, var_name, fun_name, premise_open, iterated, entering, field_name, arg_slot, count_slot}
+use Rattle.st_parse_faults.specs.declared.counts.Counts.{Counts}
+use Rattle.st_parse_faults.specs.declared.counts.Event.{Event}
+use Rattle.st_parse_faults.specs.declared.counts.Event.TheVariants.{Definition, Premise, Member, Mark, Closed, Nothing}
+
+-- A part that the next token begins is an alternative, a field of a body, or an argument of a
+-- definition.
+abbrev pub member_due : State → Bool
+member_due (at (entering s)) = true
+member_due (at (field_name h o ms pre)) = true
+member_due (inside (arg_slot ds w f o ts pre) (part.want (part.bottom σ))) = true
+member_due st = false
+
+-- behind a premise in parentheses
+abbrev pub mark_event : Iterations → Event
+mark_event no_iterations = Nothing
+mark_event (closed i l) = Closed
+mark_event (marked i l) = Mark
+mark_event (counted i l t) = Mark
+
+abbrev pub member_event : Bool → Event
+member_event true = Member
+member_event false = Nothing
+
+-- what the token begins behind which this is the state, where a member was due or not
+abbrev pub event : Bool → State → Event
+event b (at (syntax_name ds w)) = Definition
+event b (at (relation_name ds w)) = Definition
+event b (at (rule_name ds w)) = Definition
+event b (at (var_name ds w)) = Definition
+event b (at (fun_name ds w)) = Definition
+event b (at (premise_open r t ps d [])) = Premise
+event b (at (iterated r t ps d os ls u i)) = mark_event i
+event b (at p) = Nothing
+event b (inside (count_slot r t ps d os ls u i l) (part.want (part.bottom σ))) = Mark
+event b (inside s st) = member_event b
+
+-- Premises and members are those of one definition, marks those in a row.
+abbrev pub counts_after : Counts → Event → Counts
+counts_after c Definition =
+    record { definitions = c.definitions + 1; premises = 0; members = 0; marks = 0 }
+counts_after c Premise =
+    record {
+      definitions = c.definitions;
+      premises = c.premises + 1;
+      members = c.members;
+      marks = 0;
+    }
+counts_after c Member =
+    record {
+      definitions = c.definitions;
+      premises = c.premises;
+      members = c.members + 1;
+      marks = c.marks;
+    }
+counts_after c Mark =
+    record {
+      definitions = c.definitions;
+      premises = c.premises;
+      members = c.members;
+      marks = c.marks + 1;
+    }
+counts_after c Closed =
+    record {
+      definitions = c.definitions;
+      premises = c.premises;
+      members = c.members;
+      marks = 0;
+    }
+counts_after c Nothing = c
+
+-- One of the numbers is passed.
+abbrev pub counts_pass : Counts → Bool
+counts_pass c =
+    nat_lt 65535 c.definitions || nat_lt 255 c.premises || nat_lt 4095 c.members
+    || nat_lt 32 c.marks
+
+abbrev pub no_counts : Counts
+no_counts = record { definitions = 0; premises = 0; members = 0; marks = 0 }
+
+-- None of them is.
+abbrev pub Kept : Counts → Type 0
+Kept c = (c.definitions ≤ 65535) × (c.premises ≤ 255) × (c.members ≤ 4095) × (c.marks ≤ 32)

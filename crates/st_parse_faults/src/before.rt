@@ -1,0 +1,110 @@
+//! What stands before a token, and tokens of forms of SpecTec that are left out.
+
+ghost use Rattle.std.specs.Prelude.{◌≡◌, reverse};
+ghost use Rattle.st_parse_faults.specs.LeftOut as spec;
+ghost use Rattle.st_parse_faults.specs.Seen as seen;
+ghost use Rattle.st_parse_automaton.specs.Readings.{progress_of, reading_of};
+
+use st_grammar::{Bracket, Sort};
+use st_num::{Mark, Row};
+use st_parse_automaton::{At, Due, Host, Part, Place, Progress, Reading, Slot, slot_sort, top};
+use st_scan::{TokenKind, Word};
+
+/// What ends directly before a token.
+#[derive(Clone, Copy, Debug, PartialEq, Eq)]
+pub enum Before {
+    /// The name of a syntax, with nothing behind it.
+    SyntaxName,
+    /// The `--` of a premise.
+    Dashes,
+    Typ,
+    Other,
+}
+
+/// Whether a part that is read in such a place is a type.
+fn ends_type(sort: Sort, part: Part) -> bool
+    ensures { result ≡ seen.ends_type sort part }
+{
+    match sort {
+        Sort::Typ => true,
+        Sort::Notation => matches!(part, Part::Typ(_)),
+        Sort::Expression(_) | Sort::Arithmetic | Sort::Count | Sort::Bound => false,
+    }
+}
+
+fn before_at(place: Place, brackets: &Row<Bracket>) -> Before
+    ensures { result ≡ seen.before_at place (reverse brackets.now) }
+{
+    match place {
+        Place::Hinted(Host::Syntax, true) => Before::SyntaxName,
+        Place::PremiseOpen => match brackets.as_slice().last() {
+            None => Before::Dashes,
+            Some(_) => Before::Other,
+        },
+        _ => Before::Other,
+    }
+}
+
+fn before_inside(slot: Slot, reading: &Reading) -> Before
+    ensures { result ≡ seen.before_inside slot (reading_of reading.now) }
+{
+    match reading.due {
+        Due::Next(part) => {
+            if ends_type(top(slot_sort(slot), &reading.frames), part) {
+                Before::Typ
+            } else {
+                Before::Other
+            }
+        }
+        Due::Operand | Due::Label | Due::Step(_) | Due::Index | Due::Less => Before::Other,
+    }
+}
+
+/// What the tokens that are read so far end with.
+pub(crate) fn stands_before(progress: &Progress) -> Before
+    ensures { result ≡ seen.stands_before (progress_of progress.now) }
+{
+    match progress {
+        Progress::At(here) => before_at(here.place, &here.brackets),
+        Progress::Inside(slot, reading, _) => before_inside(*slot, reading),
+    }
+}
+
+fn sign_left_out(before: Before, nesting: u8, mark: Mark) -> bool
+    ensures { result ≡ spec.sign_left_out before nesting mark }
+{
+    match mark {
+        Mark::OpenParen => matches!(before, Before::SyntaxName),
+        Mark::Comma => nesting == 0,
+        Mark::Ellipsis => true,
+        Mark::Plus | Mark::Caret => matches!(before, Before::Typ),
+        _ => false,
+    }
+}
+
+fn word_left_out(before: Before, word: Word) -> bool
+    ensures { result ≡ spec.word_left_out before word }
+{
+    match word {
+        Word::Grammar | Word::Rat | Word::Real => true,
+        Word::Var => matches!(before, Before::Dashes),
+        _ => false,
+    }
+}
+
+/// Whether a token that is refused there begins a form that is left out.
+pub(crate) fn left_out(before: Before, nesting: u8, kind: &TokenKind) -> bool
+    ensures { result ≡ spec.left_out before nesting kind.now }
+{
+    match kind {
+        TokenKind::Sign(mark) => sign_left_out(before, nesting, *mark),
+        TokenKind::Reserved(word) => word_left_out(before, *word),
+        TokenKind::Low(_)
+        | TokenKind::Up(_)
+        | TokenKind::Mix(_)
+        | TokenKind::Number(_)
+        | TokenKind::Text(_)
+        | TokenKind::Dot(_)
+        | TokenKind::Fun(_) => false,
+    }
+}

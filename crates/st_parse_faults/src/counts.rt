@@ -1,0 +1,128 @@
+//! What is counted between parts: definitions, premises, members of a body, and marks.
+
+ghost use Rattle.std.specs.Prelude as Prelude;
+ghost use Rattle.std.specs.Prelude.{◌≡◌, reverse};
+ghost use Rattle.st_parse_faults.specs.Counts as spec;
+ghost use Rattle.st_parse_faults.specs.Seen as seen;
+ghost use Rattle.st_parse_automaton.specs.Readings.{progress_of, reading_of};
+
+use crate::deed::none_open;
+use st_grammar::Bracket;
+use st_num::Row;
+use st_parse_automaton::{Marks, Place, Progress, Reading, Slot};
+
+/// What a token begins between parts.
+#[derive(Clone, Copy, Debug, PartialEq, Eq)]
+pub enum Event {
+    Definition,
+    Premise,
+    /// An alternative, a field of a body, or an argument of a definition.
+    Member,
+    /// A mark behind a premise in parentheses.
+    Mark,
+    /// Nothing: it closes such parentheses.
+    Closed,
+    Nothing,
+}
+
+/// How much is begun.
+#[derive(Clone, Copy, Debug, PartialEq, Eq)]
+pub struct Counts {
+    pub definitions: u32,
+    /// Of the rule or clause.
+    pub premises: u32,
+    /// Alternatives or fields of the body, or arguments.
+    pub members: u32,
+    /// Marks in a row behind the innermost premise in parentheses.
+    pub marks: u32,
+}
+
+/// Whether a part that the next token begins is a member.
+pub(crate) fn member_due(progress: &Progress) -> bool
+    ensures { result ≡ seen.member_due (progress_of progress.now) }
+{
+    match progress {
+        Progress::At(here) => matches!(here.place, Place::Entering(_) | Place::FieldName(_)),
+        Progress::Inside(Slot::Argument(_, _), reading, _) => none_open(reading),
+        Progress::Inside(_, _, _) => false,
+    }
+}
+
+fn event_at(place: Place, brackets: &Row<Bracket>) -> Event
+    ensures { result ≡ seen.event_at place (reverse brackets.now) }
+{
+    match place {
+        Place::SyntaxName
+        | Place::RelationName
+        | Place::RuleName
+        | Place::VarName
+        | Place::FunName => Event::Definition,
+        Place::PremiseOpen => match brackets.as_slice().last() {
+            None => Event::Premise,
+            Some(_) => Event::Nothing,
+        },
+        Place::Iterated(Marks::Marked) => Event::Mark,
+        Place::Iterated(Marks::Wanted) => Event::Closed,
+        _ => Event::Nothing,
+    }
+}
+
+fn event_inside(due: bool, slot: Slot, reading: &Reading) -> Event
+    ensures { result ≡ seen.event_inside due slot (reading_of reading.now) }
+{
+    match slot {
+        Slot::Count if none_open(reading) => Event::Mark,
+        _ => { if due { Event::Member } else { Event::Nothing } }
+    }
+}
+
+/// What a token begins that leads there.
+pub(crate) fn event_of(due: bool, next: &Progress) -> Event
+    ensures { result ≡ seen.event due (progress_of next.now) }
+{
+    match next {
+        Progress::At(here) => event_at(here.place, &here.brackets),
+        Progress::Inside(slot, reading, _) => event_inside(due, *slot, reading),
+    }
+}
+
+/// What is counted behind a token.
+pub(crate) fn counts_after(counts: Counts, event: Event) -> Counts
+    requires { spec.Kept counts }
+    ensures { result ≡ spec.counts_after counts event }
+{
+    match event {
+        Event::Definition => Counts {
+            definitions: counts.definitions + 1,
+            premises: 0,
+            members: 0,
+            marks: 0,
+        },
+        Event::Premise => Counts {
+            premises: counts.premises + 1,
+            marks: 0,
+            ..counts
+        },
+        Event::Member => Counts {
+            members: counts.members + 1,
+            ..counts
+        },
+        Event::Mark => Counts {
+            marks: counts.marks + 1,
+            ..counts
+        },
+        Event::Closed => Counts { marks: 0, ..counts },
+        Event::Nothing => counts,
+    }
+}
+
+/// Whether one of the numbers is passed.
+pub(crate) fn counts_pass(counts: Counts) -> bool
+    ensures value { result ≡ spec.counts_pass counts }
+    ensures kept { result ≡ Prelude.false → spec.Kept counts }
+{
+    counts.definitions > 65_535
+        || counts.premises > 255
+        || counts.members > 4_095
+        || counts.marks > 32
+}

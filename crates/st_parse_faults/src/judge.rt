@@ -1,0 +1,124 @@
+//! The verdict on one token.
+
+ghost use Rattle.std.specs.Prelude.{◌≡◌, ◌≤◌, IfOk};
+ghost use Rattle.st_parse_faults.specs.Seen as spec;
+ghost use Rattle.st_parse_automaton.specs.Readings.{progress_of};
+
+use crate::before::{Before, left_out, stands_before};
+use crate::counts::{Counts, counts_after, counts_pass, event_of, member_due};
+use crate::deed::stance_of;
+use crate::nesting::{NESTING_LIMIT, bars, may_open, nesting_after};
+use crate::tally::{Tally, any_passes, single, tallies_after};
+use st_num::{NoMemory, Row, RuleId};
+use st_parse_automaton::{At, Lexeme, Place, Progress, Shape, advance};
+use st_scan::TokenKind;
+use std::alloc::Global;
+
+/// What is known behind some tokens: how far they are read, how many brackets are open, what is
+/// counted between parts, and what between the brackets of a part, the innermost last.
+#[derive(Drop)]
+pub struct Seen {
+    pub progress: Progress,
+    pub nesting: u8,
+    pub counts: Counts,
+    pub tallies: Row<Tally>,
+}
+
+/// A token is read, or it breaks a rule.
+#[derive(Drop)]
+pub enum Verdict {
+    Passed(Seen),
+    Broken(RuleId),
+}
+
+/// The rule that a refused token breaks.
+fn refusal(before: Before, nesting: u8, kind: &TokenKind) -> RuleId
+    ensures { result ≡ spec.refusal before nesting kind.now }
+{
+    if left_out(before, nesting, kind) {
+        RuleId::S4
+    } else {
+        RuleId::S1
+    }
+}
+
+/// Whether more brackets and bars are open behind a token than may be.
+fn opens_too_many(progress: &Progress, nesting: u8, shape: Shape) -> bool
+    ensures { result ≡ spec.opens_too_many (progress_of progress.now) nesting shape }
+{
+    may_open(shape) && NESTING_LIMIT < bars(progress).saturating_add(usize::from(nesting))
+}
+
+/// What is known before the first token.
+pub(crate) fn nothing_seen(alloc: Global) -> Result<Seen, NoMemory>
+    ensures value { IfOk result (λ seen. spec.outline_of seen ≡ spec.nothing_outlined) }
+    ensures bound { IfOk result (λ seen. spec.SeenKept seen) }
+{
+    let progress = Progress::At(At {
+        place: Place::Between,
+        brackets: Row::new(alloc),
+    });
+    nothing_counted(alloc, progress, 0)
+}
+
+/// What is known where a part begins and nothing else is counted.
+pub fn nothing_counted(alloc: Global, progress: Progress, nesting: u8) -> Result<Seen, NoMemory>
+    requires { nesting ≤ 100 }
+    ensures value { IfOk result (λ seen.
+        spec.outline_of seen ≡ spec.nothing_counted (progress_of progress) nesting) }
+    ensures bound { IfOk result (λ seen. spec.SeenKept seen) }
+{
+    let tallies = single(alloc, 0)?;
+    Ok(Seen {
+        progress,
+        nesting,
+        counts: Counts {
+            definitions: 0,
+            premises: 0,
+            members: 0,
+            marks: 0,
+        },
+        tallies,
+    })
+}
+
+/// The verdict on one more token.
+pub fn judge_token(
+    alloc: Global,
+    seen: Seen,
+    kind: &TokenKind,
+    lexeme: Lexeme,
+) -> Result<Verdict, NoMemory>
+    requires { spec.SeenKept seen }
+    ensures value { IfOk result (λ verdict.
+        spec.verdict_of verdict ≡ spec.judge (spec.outline_of seen) kind.now lexeme) }
+    ensures bound { IfOk result (λ verdict. spec.IsBounded verdict) }
+{
+    let Seen {
+        progress,
+        nesting,
+        counts,
+        tallies,
+    } = seen;
+    let before = stands_before(&progress);
+    let due = member_due(&progress);
+    let stance = stance_of(&progress, lexeme.shape);
+    let Some(progress) = advance(alloc, progress, lexeme)? else {
+        return Ok(Verdict::Broken(refusal(before, nesting, kind)));
+    };
+    let nesting = nesting_after(nesting, lexeme.shape);
+    if opens_too_many(&progress, nesting, lexeme.shape) {
+        return Ok(Verdict::Broken(RuleId::S2));
+    }
+    let counts = counts_after(counts, event_of(due, &progress));
+    let tallies = tallies_after(alloc, stance, lexeme.shape, &progress, tallies)?;
+    if counts_pass(counts) || any_passes(&tallies) {
+        return Ok(Verdict::Broken(RuleId::S3));
+    }
+    Ok(Verdict::Passed(Seen {
+        progress,
+        nesting,
+        counts,
+        tallies,
+    }))
+}

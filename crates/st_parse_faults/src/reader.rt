@@ -1,0 +1,49 @@
+//! The tokens of definitions, one after another.
+
+ghost use Rattle.std.specs.Prelude.{◌≡◌, IfOk, IfSome, IfNone};
+ghost use Rattle.st_grammar.specs.Lexemes as lexemes;
+ghost use Rattle.st_parse_faults.specs.Faults.{Faultless, FirstFault};
+
+use crate::fault::Fault;
+use crate::judge::{Verdict, judge_token, nothing_seen};
+use st_num::{Name, NoMemory, RuleId};
+use st_parse_automaton::{declared_names, may_end, token_lexeme};
+use st_scan::Token;
+use std::alloc::Global;
+
+/// The first token that breaks a rule, or the end where the tokens end too early; none where the
+/// tokens are those of definitions and each keeps the limits.
+pub fn first_fault(alloc: Global, tokens: &[Token]) -> Result<Option<Fault>, NoMemory>
+    ensures none { IfOk result (λ found. IfNone found (Faultless tokens.now)) }
+    ensures some { IfOk result (λ found.
+        IfSome found (λ fault. FirstFault tokens.now (fault.place) (fault.rule))) }
+{
+    let names = declared_names(alloc, tokens)?;
+    let found = read_tokens(alloc, names.as_slice(), tokens)?;
+    Ok(found)
+}
+
+/// The same, where these are the names that directly follow the word `var`.
+fn read_tokens(alloc: Global, names: &[Name], tokens: &[Token]) -> Result<Option<Fault>, NoMemory>
+    requires { names.now ≡ lexemes.declared_names tokens.now }
+    ensures none { IfOk result (λ found. IfNone found (Faultless tokens.now)) }
+    ensures some { IfOk result (λ found.
+        IfSome found (λ fault. FirstFault tokens.now (fault.place) (fault.rule))) }
+{
+    let mut seen = nothing_seen(alloc)?;
+    'tokens: for (at, token) in tokens.iter().enumerate() {
+        let lexeme = token_lexeme(names, token);
+        match judge_token(alloc, seen, &token.kind, lexeme)? {
+            Verdict::Broken(rule) => return Ok(Some(Fault { place: at, rule })),
+            Verdict::Passed(next) => seen = next,
+        }
+    }
+    if may_end(&seen.progress) {
+        Ok(None)
+    } else {
+        Ok(Some(Fault {
+            place: tokens.len(),
+            rule: RuleId::S1,
+        }))
+    }
+}

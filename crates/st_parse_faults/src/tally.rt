@@ -1,0 +1,259 @@
+//! What is counted in a part, between the same brackets.
+
+ghost use Rattle.std.specs.Prelude as Prelude;
+ghost use Rattle.std.specs.Prelude.{◌≡◌, ◌∷◌, [], IfOk, reverse};
+ghost use Rattle.std.specs.List.{AllByRecursion, list_any};
+ghost use Rattle.st_parse_faults.specs.Limits as limits;
+ghost use Rattle.st_parse_faults.specs.Deeds as deeds;
+ghost use Rattle.st_parse_automaton.specs.Readings.{progress_of, reading_of};
+
+use crate::deed::{Deed, Shift, Stance, deed_of, none_open, shift_of};
+use st_num::{NoMemory, Row};
+use st_parse_automaton::{Progress, Reading, Shape, Slot};
+use std::alloc::Global;
+
+/// The counts between the same brackets, or bars, so far.
+#[derive(Clone, Copy, Debug, PartialEq, Eq)]
+pub struct Tally {
+    pub parts: u32,
+    /// Of the sequence that is read.
+    pub elements: u32,
+    /// Signs between two sides.
+    pub signs: u32,
+    /// Prefix signs before an operand, or postfix signs behind one.
+    pub row: u32,
+    /// Whether a next part is due.
+    pub due: bool,
+}
+
+/// The tally behind an opening bracket, where so many signs stand before.
+pub(crate) fn fresh(signs: u32) -> Tally
+    ensures { result ≡ limits.fresh signs }
+{
+    Tally {
+        parts: 0,
+        elements: 0,
+        signs,
+        row: 0,
+        due: true,
+    }
+}
+
+/// The parts with the one that begins, if one is due.
+fn begun(tally: Tally) -> u32
+    requires { deeds.TallyKept tally }
+    ensures { result ≡ deeds.begun tally }
+{
+    if tally.due {
+        tally.parts + 1
+    } else {
+        tally.parts
+    }
+}
+
+/// The tally behind such a deed.
+fn counted(tally: Tally, deed: Deed) -> Tally
+    requires { deeds.TallyKept tally }
+    ensures { result ≡ deeds.counted tally deed }
+{
+    match deed {
+        Deed::Operand => Tally {
+            parts: begun(tally),
+            elements: tally.elements + 1,
+            row: 0,
+            due: false,
+            ..tally
+        },
+        Deed::Prefix => Tally {
+            parts: begun(tally),
+            elements: 0,
+            row: tally.row + 1,
+            due: false,
+            ..tally
+        },
+        Deed::Infix => Tally {
+            parts: begun(tally),
+            elements: 0,
+            signs: tally.signs + 1,
+            row: 0,
+            due: false,
+        },
+        Deed::Postfix => Tally {
+            row: tally.row + 1,
+            ..tally
+        },
+        Deed::Separator => Tally {
+            elements: 0,
+            row: 0,
+            due: true,
+            ..tally
+        },
+        Deed::Label => Tally {
+            parts: tally.parts + 1,
+            elements: 0,
+            row: 0,
+            due: false,
+            ..tally
+        },
+        Deed::Nothing => tally,
+    }
+}
+
+/// The tallies, the innermost of them behind such a deed.
+pub(crate) fn change(mut tallies: Row<Tally>, deed: Deed) -> Result<Row<Tally>, NoMemory>
+    requires { AllByRecursion deeds.TallyKept (reverse tallies) }
+    ensures { IfOk result (λ changed. reverse changed ≡ deeds.change deed (reverse tallies)) }
+{
+    match tallies.pop() {
+        Some(tally) => {
+            tallies.push(counted(tally, deed))?;
+            Ok(tallies)
+        }
+        None => Ok(tallies),
+    }
+}
+
+/// The innermost bars end: the signs between them stand outside too.
+fn carry(mut tallies: Row<Tally>) -> Result<Row<Tally>, NoMemory>
+    ensures { IfOk result (λ carried. reverse carried ≡ deeds.carry (reverse tallies)) }
+{
+    match tallies.pop() {
+        Some(inner) => match tallies.pop() {
+            Some(outer) => {
+                let signs = inner.signs;
+                tallies.push(Tally { signs, ..outer })?;
+                Ok(tallies)
+            }
+            None => Ok(tallies),
+        },
+        None => Ok(tallies),
+    }
+}
+
+/// The signs of the innermost tally.
+pub(crate) fn signs_here(tallies: &Row<Tally>) -> u32
+    ensures { result ≡ deeds.signs_here (reverse tallies.now) }
+{
+    match tallies.as_slice().last() {
+        Some(tally) => tally.signs,
+        None => 0,
+    }
+}
+
+/// The tallies where a bracket or bar opens or closes.
+pub(crate) fn shift(mut tallies: Row<Tally>, shift: Shift) -> Result<Row<Tally>, NoMemory>
+    ensures { IfOk result (λ shifted. reverse shifted ≡ deeds.shift shift (reverse tallies)) }
+{
+    match shift {
+        Shift::Opens => {
+            tallies.push(fresh(0))?;
+            Ok(tallies)
+        }
+        Shift::OpensLength => {
+            let signs = signs_here(&tallies);
+            tallies.push(fresh(signs))?;
+            Ok(tallies)
+        }
+        Shift::Closes => match tallies.pop() {
+            Some(_) => Ok(tallies),
+            None => Ok(tallies),
+        },
+        Shift::ClosesLength => carry(tallies),
+        Shift::Stays => Ok(tallies),
+    }
+}
+
+fn tally_passes(tally: Tally) -> bool
+    ensures { result ≡ limits.tally_passes tally }
+{
+    tally.parts > 4_095 || tally.elements > 4_095 || tally.signs > 32 || tally.row > 32
+}
+
+/// Whether one of these passes a number.
+fn some_pass(tallies: &[Tally]) -> bool
+    ensures { result ≡ list_any limits.tally_passes (reverse tallies.now) }
+{
+    let mut rest = tallies;
+    'open: while let Some((tally, front)) = rest.split_last() {
+        if tally_passes(*tally) {
+            return true;
+        }
+        rest = front;
+    }
+    false
+}
+
+/// Whether a number is passed between some brackets.
+pub(crate) fn any_passes(tallies: &Row<Tally>) -> bool
+    ensures value { result ≡ list_any limits.tally_passes (reverse tallies.now) }
+    ensures kept { result ≡ Prelude.false → AllByRecursion deeds.TallyKept (reverse tallies.now) }
+{
+    some_pass(tallies.as_slice())
+}
+
+/// The tally of a part that begins.
+pub(crate) fn single(alloc: Global, signs: u32) -> Result<Row<Tally>, NoMemory>
+    ensures { IfOk result (λ tallies. reverse tallies ≡ limits.fresh signs ∷ []) }
+{
+    let mut tallies = Row::new(alloc);
+    tallies.push(fresh(signs))?;
+    Ok(tallies)
+}
+
+/// The tallies of a part that begins; an argument of a definition is behind those before it.
+fn part_begins(alloc: Global, slot: Slot, signs: u32) -> Result<Row<Tally>, NoMemory>
+    ensures { IfOk result (λ tallies. reverse tallies ≡ deeds.part_begins slot signs) }
+{
+    match slot {
+        Slot::Argument(_, _) => single(alloc, signs),
+        Slot::Field
+        | Slot::Case(_)
+        | Slot::Var
+        | Slot::Notation
+        | Slot::Fun
+        | Slot::Rule
+        | Slot::Condition
+        | Slot::Count => single(alloc, 0),
+    }
+}
+
+/// The tallies behind a token that goes on with a part.
+fn moved(
+    stance: Stance,
+    shape: Shape,
+    next: &Reading,
+    tallies: Row<Tally>,
+) -> Result<Row<Tally>, NoMemory>
+    requires { AllByRecursion deeds.TallyKept (reverse tallies) }
+    ensures { IfOk result (λ moved.
+        reverse moved ≡ deeds.moved stance shape (reading_of next.now) (reverse tallies)) }
+{
+    let changed = change(tallies, deed_of(stance, shape, next))?;
+    let shifted = shift(changed, shift_of(shape, next))?;
+    Ok(shifted)
+}
+
+/// The tallies behind a token.
+pub(crate) fn tallies_after(
+    alloc: Global,
+    stance: Stance,
+    shape: Shape,
+    next: &Progress,
+    tallies: Row<Tally>,
+) -> Result<Row<Tally>, NoMemory>
+    requires { AllByRecursion deeds.TallyKept (reverse tallies) }
+    ensures { IfOk result (λ after.
+        reverse after
+        ≡ deeds.tallies_after stance shape (progress_of next.now) (reverse tallies)) }
+{
+    match next {
+        Progress::At(_) => single(alloc, 0),
+        Progress::Inside(slot, reading, _) => {
+            if none_open(reading) {
+                part_begins(alloc, *slot, signs_here(&tallies))
+            } else {
+                moved(stance, shape, reading, tallies)
+            }
+        }
+    }
+}

@@ -1,5 +1,0 @@
-use Rattle.st_read_back.proofs.Scanned.{written_tokens}
-use Rattle.st_read_back.proofs.laws.written_tokens.Goals as goal
-
-pub returns : goal.returns
-returns c number pieces h = written_tokens number pieces h

@@ -1,9 +1,0 @@
-use Rattle.std.proofs.Common.{◌≡◌, length, reverse}
-use Rattle.st_reading.specs.Outline as out
-use Rattle.st_reading.proofs.close.lower.Given as goal
-
-abbrev pub invariant-open : goal.invariant-open
-invariant-open l = out.lower l.level 20 l.fn.part (reverse l.initial.frames) ≡ out.lower l.level l.at l.part (reverse l.frames)
-
-abbrev pub decreases-open : goal.decreases-open
-decreases-open l = length l.frames

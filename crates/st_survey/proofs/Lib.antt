@@ -1,4 +1,0 @@
-pub mod Surveying
-mod Endings
-mod Whole
-mod Drawn
