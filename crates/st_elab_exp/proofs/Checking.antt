@@ -16,7 +16,7 @@ use Rattle.st_il.specs.declared.expression.IlExp.TheVariants as il
 use Rattle.st_elab_table.specs.declared.decls.Decls.{Decls}
 use Rattle.st_elab_table.specs.declared.decls.Scope.{Scope}
 use Rattle.st_elab_table.specs.declared.within.Within.{Within}
-use Rattle.st_elab_table.specs.declared.fault.ExpFault.{ExpFault}
+use Rattle.st_num.specs.declared.fault.Fault.{Fault as ExpFault}
 use Rattle.st_elab_table.specs.declared.operator.Operator.{Operator}
 use Rattle.st_elab_table.specs.declared.operator.Operator.TheVariants as operator
 use Rattle.st_elab_table.specs.Forms.{is_concatenation}

@@ -22,8 +22,8 @@ use Rattle.st_elab_table.specs.Questions.{Question, item, hole, Made, Breach, An
 use Rattle.st_elab_table.specs.Steps.{breach, give, pass, asked, holes, each_asked, exp_of, list_of_one}
 use Rattle.st_elab_table.specs.Collections.{element, other_row, eps_row, sequence, item_of, item_row, run_at, run_row}
 use Rattle.st_elab_table.specs.Elaboration.{Leads, Answered, by_row, ends, goes_on, stops, opens}
-use Rattle.st_elab_table.specs.declared.fault.ExpFault.{ExpFault}
-use Rattle.st_elab_table.specs.declared.fault.ExpFault.TheVariants as fault
+use Rattle.st_num.specs.declared.fault.Fault.{Fault as ExpFault}
+use Rattle.st_num.specs.declared.fault.Fault.TheVariants as fault
 use Rattle.st_elab_rows.specs.declared.asking.Context.{Context}
 use Rattle.st_elab_rows.specs.Parts.{Breaks, AskedAs, Continues, LeadsToItem}
 use Rattle.st_elab_rows.proofs.Builds.{from_place, questions_from, continues_more, continues_ends}

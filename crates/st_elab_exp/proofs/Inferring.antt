@@ -19,7 +19,7 @@ use Rattle.st_il.specs.declared.definition.FunDef.{FunDef}
 use Rattle.st_elab_table.specs.declared.decls.Decls.{Decls}
 use Rattle.st_elab_table.specs.declared.decls.Scope.{Scope}
 use Rattle.st_elab_table.specs.declared.within.Within.{Within}
-use Rattle.st_elab_table.specs.declared.fault.ExpFault.{ExpFault}
+use Rattle.st_num.specs.declared.fault.Fault.{Fault as ExpFault}
 use Rattle.st_elab_table.specs.Variables.{type_of_name}
 use Rattle.st_elab_table.specs.Forms.{inferable}
 use Rattle.st_elab_table.specs.Iterations.{is_among}

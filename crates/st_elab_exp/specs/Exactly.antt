@@ -1,6 +1,6 @@
 -- What is told exactly.
 use Rattle.std.specs.Prelude.{◌≡◌, Result}
-use Rattle.st_elab_table.specs.declared.fault.ExpFault.{ExpFault}
+use Rattle.st_num.specs.declared.fault.Fault.{Fault as ExpFault}
 use Rattle.st_elab_table.specs.Questions.{Breach}
 use Rattle.st_elab_rows.specs.Told.{Told}
 

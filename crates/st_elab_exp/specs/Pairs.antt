@@ -1,6 +1,6 @@
 -- Expressions with their types, as several questions are answered.
 use Rattle.std.specs.Prelude.{◌≡◌, List, map, Result}
-use Rattle.st_elab_table.specs.declared.fault.ExpFault.{ExpFault}
+use Rattle.st_num.specs.declared.fault.Fault.{Fault as ExpFault}
 use Rattle.st_elab_table.specs.Questions.{Question, Made}
 use Rattle.st_elab_table.specs.Steps.{ty_of, exps}
 use Rattle.st_elab_rows.specs.declared.asking.Context.{Context}

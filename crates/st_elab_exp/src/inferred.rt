@@ -4,7 +4,7 @@ ghost use Rattle.std.specs.Prelude.{◌≡◌, IfOk, Err, map};
 ghost use Rattle.st_num.specs.declared.rule.RuleId.TheVariants.{Y3};
 ghost use Rattle.st_il.specs.declared.ty.Ty.TheVariants as typ;
 ghost use Rattle.st_il.specs.declared.expression.IlExp.TheVariants as il;
-ghost use Rattle.st_elab_table.specs.declared.fault.ExpFault.TheVariants as fault;
+ghost use Rattle.st_num.specs.declared.fault.Fault.TheVariants as fault;
 ghost use Rattle.st_el.specs.declared.expression.Node.{out-Node};
 ghost use Rattle.st_notation.specs.Elements.{opened};
 ghost use Rattle.st_elab_table.specs.Operators.{operator_of};

@@ -2,7 +2,7 @@
 
 ghost use Rattle.std.specs.Prelude.{◌≡◌, ◌∷◌, List, ℕ, Err, IfOk, MatchOption, None};
 ghost use Rattle.st_num.specs.declared.rule.RuleId.TheVariants.{Y2};
-ghost use Rattle.st_elab_table.specs.declared.fault.ExpFault.TheVariants as fault;
+ghost use Rattle.st_num.specs.declared.fault.Fault.TheVariants as fault;
 ghost use Rattle.std.specs.Option.{option_map};
 ghost use Rattle.st_il.specs.declared.ty.Ty.{Ty, out-Ty};
 ghost use Rattle.st_il.specs.declared.ty.Ty.TheVariants as typ;

@@ -16,8 +16,8 @@ use Rattle.st_notation.specs.Fits.{Filling}
 use Rattle.st_elab_table.specs.declared.decls.Decls.{Decls}
 use Rattle.st_elab_table.specs.declared.decls.Scope.{Scope}
 use Rattle.st_elab_table.specs.declared.within.Within.{Within}
-use Rattle.st_elab_table.specs.declared.fault.ExpFault.{ExpFault}
-use Rattle.st_elab_table.specs.declared.fault.ExpFault.TheVariants as fault
+use Rattle.st_num.specs.declared.fault.Fault.{Fault as ExpFault}
+use Rattle.st_num.specs.declared.fault.Fault.TheVariants as fault
 use Rattle.st_elab_table.specs.Forms.{inferable}
 use Rattle.st_elab_table.specs.Questions.{Question, check, infer, hole, Made, Breach, Answer, Gives, Fails, Step, Ends, Asks, Opens, asks}
 use Rattle.st_elab_table.specs.Steps.{breach, made, give, pass, asked, each_asked, holes, fitted}

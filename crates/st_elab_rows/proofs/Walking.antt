@@ -8,7 +8,7 @@ use Rattle.st_il.specs.declared.expression.PathSeg.{PathSeg}
 use Rattle.st_elab_table.specs.declared.decls.Decls.{Decls}
 use Rattle.st_elab_table.specs.declared.decls.Scope.{Scope}
 use Rattle.st_elab_table.specs.declared.within.Within.{Within}
-use Rattle.st_elab_table.specs.declared.fault.ExpFault.{ExpFault}
+use Rattle.st_num.specs.declared.fault.Fault.{Fault as ExpFault}
 use Rattle.st_elab_table.specs.Questions.{Made, Answer, Gives, Fails, Step}
 use Rattle.st_elab_table.specs.Paths.{step_row, along}
 use Rattle.st_elab_table.specs.Elaboration.{Leads}

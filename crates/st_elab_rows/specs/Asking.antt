@@ -2,7 +2,7 @@
 use Rattle.std.specs.Prelude.{Result}
 use Rattle.std.specs.Borrow.{Bor}
 use Rattle.st_elab_table.specs.declared.within.Within.{Within}
-use Rattle.st_elab_table.specs.declared.fault.ExpFault.{ExpFault}
+use Rattle.st_num.specs.declared.fault.Fault.{Fault as ExpFault}
 use Rattle.st_elab_table.specs.Questions.{Question, check, infer, Made, Step}
 use Rattle.st_elab_table.specs.Steps.{made}
 use Rattle.st_elab_rows.specs.declared.asking.Found.{Found}

@@ -2,7 +2,7 @@
 use Rattle.std.specs.Prelude.{Result}
 use Rattle.st_il.specs.declared.ty.NumTy.{NumTy}
 use Rattle.st_il.specs.declared.expression.IlExp.{IlExp}
-use Rattle.st_elab_table.specs.declared.fault.ExpFault.{ExpFault}
+use Rattle.st_num.specs.declared.fault.Fault.{Fault as ExpFault}
 use Rattle.st_elab_table.specs.Questions.{Made, Answer, Fails, Step}
 use Rattle.st_elab_table.specs.Elaboration.{Leads}
 use Rattle.st_il.specs.declared.ty.Ty.{Ty}

@@ -2,8 +2,8 @@
 use Rattle.std.specs.Prelude.{Result, Ok, Err}
 use Rattle.st_elab_table.specs.declared.decls.Decls.{Decls}
 use Rattle.st_elab_table.specs.declared.decls.Scope.{Scope}
-use Rattle.st_elab_table.specs.declared.fault.ExpFault.{ExpFault}
-use Rattle.st_elab_table.specs.declared.fault.ExpFault.TheVariants as fault
+use Rattle.st_num.specs.declared.fault.Fault.{Fault as ExpFault}
+use Rattle.st_num.specs.declared.fault.Fault.TheVariants as fault
 use Rattle.st_elab_table.specs.Questions.{Question, Made, Breach, Answer, Gives, Fails, Step}
 use Rattle.st_elab_table.specs.Elaboration.{Answered, Leads}
 

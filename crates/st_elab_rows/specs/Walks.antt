@@ -2,7 +2,7 @@
 use Rattle.std.specs.Prelude.{List, Result}
 use Rattle.st_il.specs.declared.ty.Ty.{Ty}
 use Rattle.st_il.specs.declared.expression.PathSeg.{PathSeg}
-use Rattle.st_elab_table.specs.declared.fault.ExpFault.{ExpFault}
+use Rattle.st_num.specs.declared.fault.Fault.{Fault as ExpFault}
 use Rattle.st_elab_table.specs.Questions.{Answer, Fails, Step}
 use Rattle.st_elab_table.specs.Elaboration.{Leads}
 use Rattle.st_elab_rows.specs.declared.asking.Context.{Context}

@@ -5,8 +5,8 @@ use Rattle.st_el.specs.declared.expression.Exp.{Exp}
 use Rattle.st_il.specs.declared.ty.Ty.{Ty}
 use Rattle.st_elab_table.specs.declared.decls.Decls.{Decls}
 use Rattle.st_elab_table.specs.declared.decls.Scope.{Scope}
-use Rattle.st_elab_table.specs.declared.fault.ExpFault.{ExpFault}
-use Rattle.st_elab_table.specs.declared.fault.ExpFault.TheVariants as fault
+use Rattle.st_num.specs.declared.fault.Fault.{Fault as ExpFault}
+use Rattle.st_num.specs.declared.fault.Fault.TheVariants as fault
 use Rattle.st_elab_table.specs.declared.within.Within.{Within}
 use Rattle.st_elab_table.specs.Questions.{Question, Made, Breach, Gives, Fails}
 use Rattle.st_elab_table.specs.Steps.{made, asked, exp_of}

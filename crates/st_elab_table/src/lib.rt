@@ -9,13 +9,12 @@
 #![tactic(auto)]
 
 mod decls;
-mod fault;
 mod laws;
 mod operator;
 mod within;
 
 pub use decls::{Decls, Scope};
-pub use fault::ExpFault;
+pub use st_num::Fault as ExpFault;
 pub use laws::one_answer;
 pub use operator::{Operator, operator_of};
 pub use within::Within;

@@ -17,7 +17,7 @@ use Rattle.st_grammar.proofs.Sound as sound
 use Rattle.st_grammar.proofs.Sound.{and_left, and_right}
 use Rattle.st_grammar.proofs.PlaceTexts.{slot_text, place_text, seen, Holds, ReachedBy, filled_holds, filled_text}
 use Rattle.st_num.specs.declared.mark.Mark.TheVariants as mark
-use Rattle.st_scan.specs.declared.word.Word.TheVariants as word
+use Rattle.st_num.specs.declared.word.Word.TheVariants as word
 use Rattle.st_scan.specs.declared.token.TokenKind.{TokenKind}
 use Rattle.st_scan.specs.declared.token.TokenKind.TheVariants as kind
 use Rattle.st_grammar.specs.Lexemes.{lexeme}

@@ -20,8 +20,8 @@ use Rattle.st_grammar.proofs.Sound.{and_left, and_right}
 use Rattle.st_grammar.proofs.Steps as inner
 use Rattle.std.proofs.Common.{nat_le, ◌⊎◌, inl, inr}
 use Rattle.st_num.specs.declared.mark.Mark.TheVariants as mark
-use Rattle.st_scan.specs.declared.word.Word.{Word}
-use Rattle.st_scan.specs.declared.word.Word.TheVariants as word
+use Rattle.st_num.specs.declared.word.Word.{Word}
+use Rattle.st_num.specs.declared.word.Word.TheVariants as word
 use Rattle.st_scan.specs.declared.token.TokenKind.{TokenKind}
 use Rattle.st_scan.specs.declared.token.TokenKind.TheVariants as kind
 use Rattle.st_grammar.specs.Levels.{level_of, has_level, tight, left_of}

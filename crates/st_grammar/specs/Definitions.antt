@@ -3,7 +3,7 @@ use Rattle.std.specs.Prelude.{◌≡◌, ℕ, ◌+◌, List, [], ◌∷◌, ◌+
 use Rattle.std.specs.List.{AllByRecursion}
 use Rattle.st_num.specs.declared.mark.Mark.{Mark}
 use Rattle.st_num.specs.declared.mark.Mark.TheVariants as mark
-use Rattle.st_scan.specs.declared.word.Word.TheVariants as word
+use Rattle.st_num.specs.declared.word.Word.TheVariants as word
 use Rattle.st_scan.specs.declared.token.Token.{Token}
 use Rattle.st_scan.specs.declared.token.TokenKind.{TokenKind}
 use Rattle.st_scan.specs.declared.token.TokenKind.TheVariants as kind

@@ -4,7 +4,7 @@ use Rattle.st_num.specs.declared.mark.Mark.{Mark}
 use Rattle.st_num.specs.declared.span.Span.{Span}
 use Rattle.st_scan.specs.declared.token.TokenKind.{TokenKind}
 use Rattle.st_scan.specs.declared.token.TokenKind.TheVariants as kind
-use Rattle.st_scan.specs.declared.word.Word.TheVariants as word
+use Rattle.st_num.specs.declared.word.Word.TheVariants as word
 use Rattle.st_el.specs.declared.expression.Exp.{Exp, the_lemmas}
 use Rattle.st_el.specs.declared.expression.Node.TheVariants as node
 use Rattle.st_el.specs.declared.expression.Count.TheVariants as count

@@ -1,5 +1,7 @@
--- How each sign is written.
-use Rattle.std.specs.Prelude.{ℕ, List, codes}
+-- The table of signs: how each is written, how tightly it holds, and how it groups.
+use Rattle.std.specs.Prelude.{ℕ, ◌+◌, List, codes, Bool, ◌&&◌, ◌||◌, ◌==◌, nat_le, if◌then◌else◌}
+use Rattle.st_num.specs.declared.mark.Grouping.{Grouping}
+use Rattle.st_num.specs.declared.mark.Grouping.TheVariants.{None, Left, Right}
 use Rattle.st_num.specs.declared.mark.Mark.{Mark}
 use Rattle.st_num.specs.declared.mark.Mark.TheVariants.{Turnstile, ReverseTurnstile, SquigglyArrowStar, SquigglyArrow, Colon, Subtype, Supertype, Approximately, Define, Semicolon, Arrow, DotDot, Ellipsis, PlusPlus, ExtendBy, Equal, NotEqual, Less, Greater, LessOrEqual, GreaterOrEqual, ElementOf, Tilde, And, Or, Implies, Equivalent, Plus, Minus, Star, Slash, Backslash, Caret, Question, Bar, Comma, DashDash, OpenParen, CloseParen, OpenBracket, CloseBracket, OpenBrace, CloseBrace, OpenArith, TickParen, TickBracket, TickBrace}
 
@@ -51,3 +53,77 @@ spelling OpenArith = codes "$("
 spelling TickParen = codes "`("
 spelling TickBracket = codes "`["
 spelling TickBrace = codes "`{"
+
+-- The level at which a sign divides two sides, 0 where it is none: the looser have the lower
+-- numbers. Those of arithmetic stand behind those of expressions.
+abbrev pub level : Mark → ℕ
+level Equivalent = 1
+level Implies = 2
+level Or = 3
+level And = 4
+level Equal = 6
+level NotEqual = 6
+level Less = 6
+level Greater = 6
+level LessOrEqual = 6
+level GreaterOrEqual = 6
+level ElementOf = 6
+level Turnstile = 7
+level ReverseTurnstile = 7
+level SquigglyArrow = 8
+level SquigglyArrowStar = 8
+level Colon = 9
+level Subtype = 9
+level Supertype = 9
+level Approximately = 9
+level Define = 9
+level Semicolon = 10
+level Arrow = 11
+level DotDot = 12
+level PlusPlus = 13
+level Plus = 15
+level Minus = 15
+level Star = 16
+level Slash = 16
+level Backslash = 16
+level Caret = 18
+level m = 0
+
+-- the level of a sign that has no left side, 0 where it always has one
+abbrev pub prefix_level : Mark → ℕ
+prefix_level Tilde = 5
+prefix_level Turnstile = 7
+prefix_level Minus = 17
+prefix_level m = 0
+
+-- how the signs of a level group
+abbrev pub grouping_at : ℕ → Grouping
+grouping_at n =
+    if n == 2 || n == 11 || n == 18 then Right
+    else if n == 3 || n == 4 || n == 10 || n == 13 || n == 15 || n == 16 then Left
+    else None
+
+abbrev pub grouping : Mark → Grouping
+grouping m = grouping_at (level m)
+
+-- how much tighter than the level what stands to the left, and to the right, is at least
+abbrev pub left_gap : Grouping → ℕ
+left_gap None = 1
+left_gap Left = 0
+left_gap Right = 1
+
+abbrev pub right_gap : Grouping → ℕ
+right_gap None = 1
+right_gap Left = 1
+right_gap Right = 0
+
+-- the loosest level that a sign of this level allows to its left, and to its right
+abbrev pub left_of : ℕ → ℕ
+left_of n = n + left_gap (grouping_at n)
+
+abbrev pub right_of : ℕ → ℕ
+right_of n = n + right_gap (grouping_at n)
+
+-- the signs that divide two sides of a notation
+abbrev pub is_notation : Mark → Bool
+is_notation m = nat_le 7 (level m) && nat_le (level m) 12

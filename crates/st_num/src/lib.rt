@@ -12,6 +12,8 @@ mod arithmetic;
 mod boxed;
 mod compared;
 mod dim;
+mod fault;
+mod limit;
 mod mark;
 mod memory;
 mod num;
@@ -21,14 +23,21 @@ mod rule;
 mod span;
 #[cfg(test)]
 mod tests;
+mod word;
 
 pub use arithmetic::{add, compare, div_exact, mul, pow, rem, sub};
 pub use boxed::Boxed;
 pub use dim::{Dim, Kind};
-pub use mark::Mark;
+pub use fault::Fault;
+pub use limit::{
+    HIGHEST_TREE, HIGHEST_VALUE, MOST_DEFINITIONS, MOST_PARENTHESES, MOST_PARTS, MOST_PREMISES,
+    MOST_SIGNS,
+};
+pub use mark::{Grouping, Mark};
 pub use memory::NoMemory;
 pub use num::Num;
 pub use numeral::{NumFault, print_number, read_number};
 pub use row::{Name, Row};
 pub use rule::RuleId;
 pub use span::Span;
+pub use word::Word;

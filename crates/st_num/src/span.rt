@@ -10,3 +10,12 @@ pub struct Span {
     pub line: u32,
     pub column: u32,
 }
+
+impl Span {
+    /// The place that belongs to no text.
+    pub const NOWHERE: Span = Span {
+        file: 0,
+        line: 0,
+        column: 0,
+    };
+}

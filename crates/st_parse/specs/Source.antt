@@ -11,8 +11,8 @@ use Rattle.st_el.specs.declared.definition.Def.{Def}
 use Rattle.st_parse_builder.specs.Definitions.{Parse, defs_meaning}
 use Rattle.st_draft.specs.Known.{known}
 use Rattle.st_parse.specs.Limits.{variable_past, too_tall, first_that}
-use Rattle.st_parse_faults.specs.declared.refusal.SyntaxFault.{SyntaxFault}
-use Rattle.st_parse_faults.specs.declared.refusal.SyntaxFault.TheVariants.{Refused, Memory}
+use Rattle.st_num.specs.declared.fault.Fault.{Fault as SyntaxFault}
+use Rattle.st_num.specs.declared.fault.Fault.TheVariants.{Refused, Memory}
 
 -- ---- what is asked of whole definitions
 

@@ -1,7 +1,7 @@
 -- What one token stands for in a source tree.
 use Rattle.std.specs.Prelude.{ℕ, List, [], true, false}
-use Rattle.st_scan.specs.Words.{word_spelling}
-use Rattle.st_scan.specs.declared.word.Word.TheVariants as word
+use Rattle.st_num.specs.Words.{word_spelling}
+use Rattle.st_num.specs.declared.word.Word.TheVariants as word
 use Rattle.st_scan.specs.declared.token.TokenKind.{TokenKind}
 use Rattle.st_scan.specs.declared.token.TokenKind.TheVariants as kind
 use Rattle.st_grammar.specs.declared.sort.Leaf.{Leaf}

@@ -31,8 +31,8 @@ use Rattle.st_parse_faults.specs.declared.judge.Verdict.TheVariants as code
 use Rattle.st_parse_faults.specs.Place.{place_at}
 use Rattle.st_parse_faults.specs.Seen as seen
 use Rattle.st_parse_actions.specs.Emits.{finishing}
-use Rattle.st_parse_faults.specs.declared.refusal.SyntaxFault.{SyntaxFault}
-use Rattle.st_parse_faults.specs.declared.refusal.SyntaxFault.TheVariants.{Refused, Memory}
+use Rattle.st_num.specs.declared.fault.Fault.{Fault as SyntaxFault}
+use Rattle.st_num.specs.declared.fault.Fault.TheVariants.{Refused, Memory}
 use Rattle.st_parse_exp.specs.Expressions.{ParseExpressions, lexemes_of}
 use Rattle.st_parse_exp.specs.Reading.{finish, whole}
 use Rattle.st_parse_exp.specs.Faults.{Seen, passed, judge, verdict, FirstFault}

@@ -5,7 +5,7 @@ use Rattle.st_num.specs.declared.mark.Mark.TheVariants as mark
 use Rattle.st_num.specs.declared.rule.RuleId.TheVariants.{S1, S4}
 use Rattle.st_num.specs.declared.span.Span.{Span}
 use Rattle.st_scan.specs.Spelling.{has_lower}
-use Rattle.st_scan.specs.declared.word.Word.TheVariants as word
+use Rattle.st_num.specs.declared.word.Word.TheVariants as word
 use Rattle.st_scan.specs.declared.token.Token.{Token}
 use Rattle.st_scan.specs.declared.token.TokenKind.{TokenKind}
 use Rattle.st_scan.specs.declared.token.TokenKind.TheVariants as kind

@@ -9,8 +9,8 @@ use Rattle.st_el.specs.declared.expression.Exp.{Exp}
 use Rattle.st_parse_builder.specs.Meaning.{meanings}
 use Rattle.st_parse_builder.specs.Heights.{highest, height}
 use Rattle.st_parse_faults.specs.Place.{place_at}
-use Rattle.st_parse_faults.specs.declared.refusal.SyntaxFault.{SyntaxFault}
-use Rattle.st_parse_faults.specs.declared.refusal.SyntaxFault.TheVariants.{Refused, Memory}
+use Rattle.st_num.specs.declared.fault.Fault.{Fault as SyntaxFault}
+use Rattle.st_num.specs.declared.fault.Fault.TheVariants.{Refused, Memory}
 use Rattle.st_parse_exp.specs.Expressions.{ParseExpressions, lexemes_of}
 use Rattle.st_parse_exp.specs.Faults.{Faultless, FirstFault}
 

@@ -14,7 +14,7 @@ ghost use Rattle.st_parse_automaton.specs.Course as course;
 ghost use Rattle.st_parse_automaton.specs.Readings.{progress_of};
 ghost use Rattle.st_parse_actions.specs.Emits as emits;
 ghost use Rattle.st_parse_faults.specs.Place as place;
-ghost use Rattle.st_parse_faults.specs.declared.refusal.SyntaxFault.TheVariants as fault;
+ghost use Rattle.st_num.specs.declared.fault.Fault.TheVariants as fault;
 ghost use Rattle.st_parse_exp.specs.Drafts.{AreBuilt};
 ghost use Rattle.st_parse_exp.specs.Parse.{AreWhole, Answers};
 

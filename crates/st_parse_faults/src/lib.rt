@@ -17,7 +17,6 @@ mod laws;
 mod nesting;
 mod place;
 mod reader;
-mod refusal;
 mod tally;
 #[cfg(test)]
 mod tests;
@@ -27,4 +26,4 @@ pub use judge::{Seen, Verdict, judge_token, nothing_counted};
 pub use laws::{faults_of_the_grammar, one_fault};
 pub use place::place_at;
 pub use reader::first_fault;
-pub use refusal::SyntaxFault;
+pub use st_num::Fault as SyntaxFault;

@@ -13,9 +13,9 @@ use Rattle.st_num.specs.declared.mark.Mark.{Mark}
 use Rattle.st_num.specs.declared.mark.Mark.TheVariants as mark
 use Rattle.st_scan.specs.Bytes.{is_letter, is_name_part}
 use Rattle.st_scan.specs.Spelling.{Spells, is_name, quoted, has_lower}
-use Rattle.st_scan.specs.Words.{word_spelling}
-use Rattle.st_scan.specs.declared.word.Word.{Word}
-use Rattle.st_scan.specs.declared.word.Word.TheVariants as word
+use Rattle.st_num.specs.Words.{word_spelling}
+use Rattle.st_num.specs.declared.word.Word.{Word}
+use Rattle.st_num.specs.declared.word.Word.TheVariants as word
 use Rattle.st_scan.specs.declared.token.Token.{Token}
 use Rattle.st_scan.specs.declared.token.TokenKind.{TokenKind}
 use Rattle.st_scan.specs.declared.token.TokenKind.TheVariants as kind

@@ -7,8 +7,8 @@ use Rattle.st_num.specs.declared.span.Span.{Span}
 use Rattle.st_num.specs.declared.rule.RuleId.{RuleId}
 use Rattle.st_num.specs.declared.rule.RuleId.TheVariants.{L4}
 use Rattle.st_scan.specs.declared.token.Token.{Token}
-use Rattle.st_scan.specs.declared.token.LexFault.{LexFault}
-use Rattle.st_scan.specs.declared.token.LexFault.TheVariants.{Refused, Memory}
+use Rattle.st_num.specs.declared.fault.Fault.{Fault as LexFault}
+use Rattle.st_num.specs.declared.fault.Fault.TheVariants.{Refused, Memory}
 use Rattle.st_scan.specs.Places.{place, offset}
 use Rattle.st_scan.specs.Tokens.{Tokens}
 use Rattle.st_scan.specs.Faults.{TokenFault, FirstFault, of_token, of_utf8}

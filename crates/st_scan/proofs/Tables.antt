@@ -9,11 +9,11 @@ use Rattle.st_scan.specs.Signs.{LongestSign}
 use Rattle.st_num.specs.Signs.{spelling}
 use Rattle.st_num.specs.declared.mark.Mark.{Mark}
 use Rattle.st_num.specs.declared.mark.Mark.TheVariants.{Turnstile, ReverseTurnstile, SquigglyArrowStar, SquigglyArrow, Colon, Subtype, Supertype, Approximately, Define, Semicolon, Arrow, DotDot, Ellipsis, PlusPlus, ExtendBy, Equal, NotEqual, Less, Greater, LessOrEqual, GreaterOrEqual, ElementOf, Tilde, And, Or, Implies, Equivalent, Plus, Minus, Star, Slash, Backslash, Caret, Question, Bar, Comma, DashDash, OpenParen, CloseParen, OpenBracket, CloseBracket, OpenBrace, CloseBrace, OpenArith, TickParen, TickBracket, TickBrace}
-use Rattle.st_scan.specs.declared.sign.TheConstants.{SIGNS}
-use Rattle.st_scan.specs.declared.word.TheConstants.{WORDS}
-use Rattle.st_scan.specs.declared.word.Word.{Word}
-use Rattle.st_scan.specs.declared.word.Word.TheVariants.{Syntax, Relation, Rule, Var, Def, Grammar, Hint, If, Otherwise, Eps, True, False, Nat, Int, Text, Rat, Real}
-use Rattle.st_scan.specs.declared.word.Word.TheVariants as word
+use Rattle.st_num.specs.declared.mark.TheConstants.Mark.{ALL as SIGNS}
+use Rattle.st_num.specs.declared.word.TheConstants.Word.{ALL as WORDS}
+use Rattle.st_num.specs.declared.word.Word.{Word}
+use Rattle.st_num.specs.declared.word.Word.TheVariants.{Syntax, Relation, Rule, Var, Def, Grammar, Hint, If, Otherwise, Eps, True, False, Nat, Int, Text, Rat, Real}
+use Rattle.st_num.specs.declared.word.Word.TheVariants as word
 
 -- where a sign stands in the table
 abbrev pub sign_place : Mark → ℕ

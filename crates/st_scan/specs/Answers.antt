@@ -10,8 +10,8 @@ use Rattle.st_scan.specs.Faults.{FirstFault}
 use Rattle.st_scan.specs.declared.token.Token.{Token}
 use Rattle.st_scan.specs.declared.token.TokenKind.{TokenKind}
 use Rattle.st_scan.specs.declared.token.TokenKind.TheVariants.{Low, Up, Mix, Text, Dot, Fun}
-use Rattle.st_scan.specs.declared.token.LexFault.{LexFault}
-use Rattle.st_scan.specs.declared.token.LexFault.TheVariants.{Refused, Memory}
+use Rattle.st_num.specs.declared.fault.Fault.{Fault as LexFault}
+use Rattle.st_num.specs.declared.fault.Fault.TheVariants.{Refused, Memory}
 
 -- the file has no other list of tokens, and no fault
 pub record IsOnlyList (number : ℕ) (file : List ℕ) (tokens : List Token) : Type 0 where

@@ -1,5 +1,4 @@
 pub mod Bytes
-pub mod Words
 pub mod Spelling
 pub mod Gaps
 pub mod Places

@@ -3,9 +3,9 @@ use Rattle.std.specs.Prelude.{◌≡◌, ℕ, List, [], ◌∷◌, ◌++◌, Boo
 use Rattle.std.specs.List.{list_all, list_any, flat_map}
 use Rattle.st_num.specs.Signs.{spelling}
 use Rattle.st_scan.specs.Bytes.{is_lower, is_letter, is_name_part, is_text_byte}
-use Rattle.st_scan.specs.Words.{word_spelling}
+use Rattle.st_num.specs.Words.{word_spelling}
 use Rattle.st_num.specs.Numeral.{Spells as SpellsNumber}
-use Rattle.st_scan.specs.declared.word.Word.{Word}
+use Rattle.st_num.specs.declared.word.Word.{Word}
 use Rattle.st_scan.specs.declared.token.TokenKind.{TokenKind}
 use Rattle.st_scan.specs.declared.token.TokenKind.TheVariants.{Low, Up, Mix, Reserved, Number, Text, Dot, Fun, Sign}
 

@@ -21,5 +21,5 @@ mod token;
 mod word;
 
 pub use scanner::scan;
-pub use token::{LexFault, Token, TokenKind};
-pub use word::Word;
+pub use st_num::{Fault as LexFault, Word};
+pub use token::{Token, TokenKind};

@@ -4,7 +4,7 @@ ghost use Rattle.std.specs.Prelude.{◌≡◌, ◌+◌, ◌^◌, ◌<◌, ◌≤
 ghost use Rattle.st_scan.specs.Places.{place};
 ghost use Rattle.st_scan.specs.Tokens.{Tokens};
 ghost use Rattle.st_scan.specs.Answers.{HaveTexts, IsOnlyList, TellsFirst, TellsOnly};
-ghost use Rattle.st_scan.specs.declared.token.LexFault.TheVariants.{Refused};
+ghost use Rattle.st_num.specs.declared.fault.Fault.TheVariants.{Refused};
 ghost use Rattle.st_scan.specs.Steps.{IsAt, IsNext, StopsNext, ReadsAll, StopsFile, IsUtf8Length};
 
 use crate::gap::skip_gap;

@@ -1,12 +1,9 @@
-//! What a scan gives: tokens with their places, or the first fault.
+//! What a scan gives: tokens with their places.
 
 ghost use Rattle.std.specs.Prelude.{◌≡◌, IfOk};
-ghost use Rattle.st_scan.specs.declared.token.LexFault.TheVariants.{Memory};
 
-use crate::Word;
-use st_num::{Mark, Name, NoMemory, RuleId, Span};
+use st_num::{Mark, Name, NoMemory, Span, Word};
 use std::alloc::Global;
-use thiserror::Error;
 
 /// A token with the place of its first character.
 ///
@@ -68,22 +65,5 @@ impl Token {
             touching: self.touching,
             kind,
         })
-    }
-}
-
-/// Why a file has no tokens.
-#[derive(Debug, Drop, PartialEq, Eq, Error)]
-pub enum LexFault {
-    #[error("refused")]
-    Refused { at: Span, rule: RuleId },
-    #[error("out of memory")]
-    Memory,
-}
-
-impl From<NoMemory> for LexFault {
-    ghost from_gives = { λ _ fault. fault ≡ Memory };
-
-    fn from(_: NoMemory) -> Self {
-        LexFault::Memory
     }
 }

@@ -1,81 +1,10 @@
-//! The reserved words.
+//! The reserved word that a name is.
 
 ghost use Rattle.std.specs.Prelude.{◌≡◌, MatchOption};
+ghost use Rattle.st_num.specs.Words.{word_spelling};
 ghost use Rattle.st_scan.specs.Spelling.{IsReserved};
-ghost use Rattle.st_scan.specs.Words.{word_spelling};
 
-/// A name that the language keeps for itself.
-#[derive(Clone, Copy, Debug, PartialEq, Eq)]
-pub enum Word {
-    Syntax,
-    Relation,
-    Rule,
-    Var,
-    Def,
-    Grammar,
-    Hint,
-    If,
-    Otherwise,
-    Eps,
-    True,
-    False,
-    Bool,
-    Nat,
-    Int,
-    Text,
-    Rat,
-    Real,
-}
-
-impl Word {
-    /// How the word is written.
-    pub fn spelling(self) -> &'static str
-        ensures { result.now ≡ word_spelling self }
-    {
-        match self {
-            Word::Syntax => "syntax",
-            Word::Relation => "relation",
-            Word::Rule => "rule",
-            Word::Var => "var",
-            Word::Def => "def",
-            Word::Grammar => "grammar",
-            Word::Hint => "hint",
-            Word::If => "if",
-            Word::Otherwise => "otherwise",
-            Word::Eps => "eps",
-            Word::True => "true",
-            Word::False => "false",
-            Word::Bool => "bool",
-            Word::Nat => "nat",
-            Word::Int => "int",
-            Word::Text => "text",
-            Word::Rat => "rat",
-            Word::Real => "real",
-        }
-    }
-}
-
-/// The reserved words.
-const WORDS: [Word; 18] = [
-    Word::Syntax,
-    Word::Relation,
-    Word::Rule,
-    Word::Var,
-    Word::Def,
-    Word::Grammar,
-    Word::Hint,
-    Word::If,
-    Word::Otherwise,
-    Word::Eps,
-    Word::True,
-    Word::False,
-    Word::Bool,
-    Word::Nat,
-    Word::Int,
-    Word::Text,
-    Word::Rat,
-    Word::Real,
-];
+use st_num::Word;
 
 /// The word that is spelled so, where the name is reserved.
 pub(crate) fn word_of(name: &[u8]) -> Option<Word>
@@ -83,7 +12,7 @@ pub(crate) fn word_of(name: &[u8]) -> Option<Word>
         (¬ (IsReserved name.now))
         (λ word. name.now ≡ word_spelling word) }
 {
-    for word in &WORDS {
+    for word in &Word::ALL {
         if word.spelling().as_bytes() == name {
             return Some(*word);
         }

@@ -5,8 +5,8 @@ use Rattle.std.proofs.Math.Seq.{take-suc}
 use Rattle.std.proofs.lemmas.List.{length-take-le}
 use Rattle.std.proofs.lemmas.Option.{slice_get-get_or, slice_get_within}
 use Rattle.st_el.specs.declared.definition.Def.{Def}
-use Rattle.st_parse_faults.specs.declared.refusal.SyntaxFault.{SyntaxFault}
-use Rattle.st_parse_faults.specs.declared.refusal.SyntaxFault.TheVariants as syntax
+use Rattle.st_num.specs.declared.fault.Fault.{Fault as SyntaxFault}
+use Rattle.st_num.specs.declared.fault.Fault.TheVariants as syntax
 use Rattle.st_il.specs.declared.small.Small.{Small}
 use Rattle.st_il.specs.Small.{il_of}
 use Rattle.st_num.specs.declared.memory.NoMemory.{NoMemory}
@@ -14,8 +14,8 @@ use Rattle.st_num.specs.declared.rule.RuleId.{RuleId}
 use Rattle.st_num.specs.declared.span.Span.{Span}
 use Rattle.st_parse.specs.Source.{IsSource, Answers}
 use Rattle.st_parse.proofs.StandingFaults.{fault_stands}
-use Rattle.st_scan.specs.declared.token.LexFault.{LexFault}
-use Rattle.st_scan.specs.declared.token.LexFault.TheVariants.{Refused, Memory}
+use Rattle.st_num.specs.declared.fault.Fault.{Fault as LexFault}
+use Rattle.st_num.specs.declared.fault.Fault.TheVariants.{Refused, Memory}
 use Rattle.st_scan.specs.declared.token.Token.{Token}
 use Rattle.st_scan.specs.Answers.{TellsFirst}
 use Rattle.st_scan.specs.Faults.{FirstFault, of_token, of_utf8}

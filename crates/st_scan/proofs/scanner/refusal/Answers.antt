@@ -1,5 +1,5 @@
 use Rattle.std.proofs.Common.{ap, drop}
-use Rattle.st_scan.specs.declared.token.LexFault.TheVariants.{Refused}
+use Rattle.st_num.specs.declared.fault.Fault.TheVariants.{Refused}
 use Rattle.st_scan.proofs.Steps.{at_skipped, place_is}
 use Rattle.st_scan.proofs.scanner.refusal.Goals as goal
 

@@ -1,7 +1,7 @@
 use Rattle.std.proofs.Common.{◌≡◌, ◌<◌, ◌++◌, List, ℕ, get_or}
 use Rattle.st_num.specs.Signs.{spelling}
 use Rattle.st_num.specs.declared.mark.Mark.TheVariants.{Turnstile}
-use Rattle.st_scan.specs.declared.sign.TheConstants.{SIGNS}
+use Rattle.st_num.specs.declared.mark.TheConstants.Mark.{ALL as SIGNS}
 use Rattle.st_scan.proofs.sign.sign_at.Given as goal
 
 -- no sign so far stands at the front

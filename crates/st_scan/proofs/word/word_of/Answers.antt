@@ -1,5 +1,5 @@
 use Rattle.std.proofs.Common.{◌<◌, sym, ap, ◌∙◌, arith}
-use Rattle.st_scan.specs.Words.{word_spelling}
+use Rattle.st_num.specs.Words.{word_spelling}
 use Rattle.st_scan.proofs.Tables.{word_place, word_place_below, word_there}
 use Rattle.st_scan.proofs.word.word_of.Goals as goal
 

@@ -1,7 +1,7 @@
 use Rattle.std.proofs.Common.{◌≡◌, ◌<◌, ℕ, get_or}
-use Rattle.st_scan.specs.Words.{word_spelling}
-use Rattle.st_scan.specs.declared.word.TheConstants.{WORDS}
-use Rattle.st_scan.specs.declared.word.Word.TheVariants.{Syntax}
+use Rattle.st_num.specs.Words.{word_spelling}
+use Rattle.st_num.specs.declared.word.TheConstants.Word.{ALL as WORDS}
+use Rattle.st_num.specs.declared.word.Word.TheVariants.{Syntax}
 use Rattle.st_scan.proofs.word.word_of.Given as goal
 
 -- no word so far is spelled so

@@ -1,7 +1,7 @@
 -- How each reserved word is written.
 use Rattle.std.specs.Prelude.{ℕ, List, codes}
-use Rattle.st_scan.specs.declared.word.Word.{Word}
-use Rattle.st_scan.specs.declared.word.Word.TheVariants.{Syntax, Relation, Rule, Var, Def, Grammar, Hint, If, Otherwise, Eps, True, False, Bool, Nat, Int, Text, Rat, Real}
+use Rattle.st_num.specs.declared.word.Word.{Word}
+use Rattle.st_num.specs.declared.word.Word.TheVariants.{Syntax, Relation, Rule, Var, Def, Grammar, Hint, If, Otherwise, Eps, True, False, Bool, Nat, Int, Text, Rat, Real}
 
 abbrev pub word_spelling : Word → List ℕ
 word_spelling Syntax = codes "syntax"
