@@ -12,7 +12,7 @@ use Rattle.st_num.specs.declared.fault.Fault.TheVariants.{Refused, Memory}
 use Rattle.st_scan.specs.Places.{place, offset}
 use Rattle.st_scan.specs.Tokens.{Tokens}
 use Rattle.st_scan.specs.Faults.{TokenFault, FirstFault, of_token, of_utf8}
-use Rattle.st_scan.specs.Steps.{ReadsAll, IsUtf8Length}
+use Rattle.st_scan.specs.inner.Steps.{ReadsAll, IsUtf8Length}
 use Rattle.st_scan.specs.Answers.{HaveTexts, IsOnlyList, IsOnlyFault, TellsFirst, TellsOnly}
 use Rattle.st_scan.proofs.TextBytes.{run_texts}
 use Rattle.st_scan.proofs.Runs.{tokens_unique, no_first_fault, first_fault_unique, no_token_fault, token_fault_unique, valid_whole, valid_unique}

@@ -14,8 +14,8 @@ use Rattle.st_scan.specs.Bytes.{is_digit}
 use Rattle.st_scan.specs.Gaps.{opens_comment}
 use Rattle.st_scan.specs.Tokens.{Longest}
 use Rattle.st_scan.specs.Faults.{Cause, large}
-use Rattle.st_scan.specs.NumberFronts.{NoHexadecimal, LongestHexadecimal, LongestNumber}
-use Rattle.st_scan.specs.Readings.{begins_digit, IsReading}
+use Rattle.st_scan.specs.inner.NumberFronts.{NoHexadecimal, LongestHexadecimal, LongestNumber}
+use Rattle.st_scan.specs.inner.Readings.{begins_digit, IsReading}
 use Rattle.st_scan.proofs.Texts.{tail_of, head_or}
 use Rattle.st_scan.proofs.Spelled.{group, group_at, digit_group, spelled_group, as_number}
 use Rattle.st_scan.proofs.Readings.{passing_short, front_passes, front_split, front_short, opens_first}

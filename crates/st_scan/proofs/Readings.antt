@@ -15,7 +15,7 @@ use Rattle.st_scan.specs.Spelling.{Spells, is_name, begins_lower}
 use Rattle.st_scan.specs.Tokens.{IsInRange}
 use Rattle.st_scan.specs.Signs.{NoSign, LongestSign}
 use Rattle.st_scan.specs.Faults.{NoToken, IsQuote}
-use Rattle.st_scan.specs.Readings.{begins_letter, begins_quote, begins_dot, begins_fun, BeginsSign, IsReading}
+use Rattle.st_scan.specs.inner.Readings.{begins_letter, begins_quote, begins_dot, begins_fun, BeginsSign, IsReading}
 use Rattle.st_scan.proofs.Texts.{tail_of}
 use Rattle.st_scan.proofs.Spelled.{group, group_at, letter_group, spelled_group, as_word, as_dot, as_fun, as_sign}
 

@@ -19,7 +19,7 @@ use Rattle.st_scan.specs.Bytes.{is_letter, is_lower, is_digit, is_name_part, is_
 use Rattle.st_num.specs.Words.{word_spelling}
 use Rattle.st_num.specs.Numeral.{Spells as SpellsNumber}
 use Rattle.st_scan.specs.Spelling.{Spells, is_name, begins_lower, has_lower, quoted}
-use Rattle.st_scan.specs.Readings.{begins_letter}
+use Rattle.st_scan.specs.inner.Readings.{begins_letter}
 use Rattle.st_scan.proofs.Texts.{tail_of, texts_unique}
 
 -- ---- the kinds that begin in the same way

@@ -17,8 +17,8 @@ use Rattle.st_scan.specs.Places.{offset, place, IsBehind, line_behind}
 use Rattle.st_scan.specs.Spelling.{Spells}
 use Rattle.st_scan.specs.Tokens.{Longest, Next, Run, IsInRange}
 use Rattle.st_scan.specs.Faults.{Cause, comment_open, text_open, text_wrong, large, no_token, is_wrong}
-use Rattle.st_scan.specs.Readings.{IsReading, Stops, farther}
-use Rattle.st_scan.specs.Steps.{IsAt, StopsNext, StopsFile}
+use Rattle.st_scan.specs.inner.Readings.{IsReading, Stops, farther}
+use Rattle.st_scan.specs.inner.Steps.{IsAt, StopsNext, StopsFile}
 use Rattle.st_scan.proofs.Gaps.{gap_is_end}
 use Rattle.st_scan.proofs.Spelled.{spelled_some}
 

@@ -13,8 +13,8 @@ use Rattle.st_scan.specs.Bytes.{is_text_byte}
 use Rattle.st_scan.specs.Gaps.{opens_comment}
 use Rattle.st_scan.specs.Spelling.{escaped, quoted}
 use Rattle.st_scan.specs.Faults.{Cause, text_open, text_wrong, closes_text}
-use Rattle.st_scan.specs.Readings.{IsReading, Stops}
-use Rattle.st_scan.specs.TextPieces.{IsPiece, IsEscape, text_stop}
+use Rattle.st_scan.specs.inner.Readings.{IsReading, Stops}
+use Rattle.st_scan.specs.inner.TextPieces.{IsPiece, IsEscape, text_stop}
 use Rattle.st_scan.proofs.Texts.{Escaping, escaping, quote, backslash, feed, tab, plain, tail_of, texts_unique, quoted_behind, closes_behind}
 use Rattle.st_scan.proofs.Spelled.{group, group_at, spelled_group, as_text}
 use Rattle.st_scan.proofs.Readings.{opens_first}

@@ -3,8 +3,8 @@
 ghost use Rattle.std.specs.Prelude.{◌≡◌, ◌≤◌, nat_lt, IsTrue, MatchOption, MatchResult};
 ghost use Rattle.std.specs.Char.{digit_value};
 ghost use Rattle.std.specs.List.{prefix_len};
-ghost use Rattle.st_scan.specs.NumberFronts.{NoHexadecimal, LongestHexadecimal, LongestNumber};
-ghost use Rattle.st_scan.specs.Readings.{IsReading, Stops, begins_digit};
+ghost use Rattle.st_scan.specs.inner.NumberFronts.{NoHexadecimal, LongestHexadecimal, LongestNumber};
+ghost use Rattle.st_scan.specs.inner.Readings.{IsReading, Stops, begins_digit};
 
 use crate::TokenKind;
 use crate::read::{Reading, Stop};

@@ -2,7 +2,7 @@
 
 ghost use Rattle.std.specs.Prelude.{◌≡◌, ◌-◌, ◌<◌, length, IsTrue, IfOk, MatchResult};
 ghost use Rattle.st_scan.specs.Gaps.{opens_comment};
-ghost use Rattle.st_scan.specs.Readings.{IsReading, Stops, begins_letter, begins_digit, begins_quote, begins_dot, begins_fun, BeginsSign, farther, IsWithin};
+ghost use Rattle.st_scan.specs.inner.Readings.{IsReading, Stops, begins_letter, begins_digit, begins_quote, begins_dot, begins_fun, BeginsSign, farther, IsWithin};
 ghost use Rattle.st_scan.specs.declared.read.Stop.TheVariants.{Memory};
 
 use crate::TokenKind;

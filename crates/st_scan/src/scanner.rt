@@ -5,7 +5,7 @@ ghost use Rattle.st_scan.specs.Places.{place};
 ghost use Rattle.st_scan.specs.Tokens.{Tokens};
 ghost use Rattle.st_scan.specs.Answers.{HaveTexts, IsOnlyList, TellsFirst, TellsOnly};
 ghost use Rattle.st_num.specs.declared.fault.Fault.TheVariants.{Refused};
-ghost use Rattle.st_scan.specs.Steps.{IsAt, IsNext, StopsNext, ReadsAll, StopsFile, IsUtf8Length};
+ghost use Rattle.st_scan.specs.inner.Steps.{IsAt, IsNext, StopsNext, ReadsAll, StopsFile, IsUtf8Length};
 
 use crate::gap::skip_gap;
 use crate::place::Place;

@@ -2,8 +2,8 @@
 
 ghost use Rattle.std.specs.Prelude.{◌≡◌, ◌≤◌, ◌∷◌, length, IsTrue, MatchOption, MatchResult};
 ghost use Rattle.st_scan.specs.Faults.{closes_text};
-ghost use Rattle.st_scan.specs.Readings.{IsReading, Stops, begins_quote};
-ghost use Rattle.st_scan.specs.TextPieces.{IsPiece, IsEscape, NoEscape, text_stop};
+ghost use Rattle.st_scan.specs.inner.Readings.{IsReading, Stops, begins_quote};
+ghost use Rattle.st_scan.specs.inner.TextPieces.{IsPiece, IsEscape, NoEscape, text_stop};
 
 use crate::TokenKind;
 use crate::read::{Reading, Stop};

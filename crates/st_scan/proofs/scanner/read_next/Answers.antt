@@ -1,7 +1,7 @@
 use Rattle.std.proofs.Common.{refl, sym, ap, subst, ◌≡◌, ◌≤◌, ◌-◌, ◌==◌, false, length, take, drop, arith}
 use Rattle.std.proofs.lemmas.Bool.{eqb-false}
 use Rattle.std.proofs.lemmas.List.{take_rest, length-drop, length-take-le, take-append-drop}
-use Rattle.st_scan.specs.Steps.{StopsNext, IsAt}
+use Rattle.st_scan.specs.inner.Steps.{StopsNext, IsAt}
 use Rattle.st_scan.specs.Tokens.{Next}
 use Rattle.st_scan.specs.declared.token.Token.{Token}
 use Rattle.st_scan.proofs.Steps.{gap_short, token_next, at_here, at_moves, left_shorter, stops_next}

@@ -1,6 +1,6 @@
 use Rattle.std.proofs.Common.{sym, subst}
 use Rattle.st_scan.specs.Tokens.{Run}
-use Rattle.st_scan.specs.Steps.{IsStep, IsNext, StopsFile}
+use Rattle.st_scan.specs.inner.Steps.{IsStep, IsNext, StopsFile}
 use Rattle.st_scan.proofs.Steps.{run_more, stops_file}
 use Rattle.st_scan.proofs.scanner.read_tokens.Goals as goal
 

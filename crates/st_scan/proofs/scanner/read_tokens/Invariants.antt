@@ -1,6 +1,6 @@
 use Rattle.std.proofs.Common.{length}
 use Rattle.st_scan.specs.Tokens.{Run}
-use Rattle.st_scan.specs.Steps.{IsAt}
+use Rattle.st_scan.specs.inner.Steps.{IsAt}
 use Rattle.st_scan.proofs.scanner.read_tokens.Given as goal
 
 -- the tokens so far stand before the rest

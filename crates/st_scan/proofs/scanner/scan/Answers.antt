@@ -2,7 +2,7 @@ use Rattle.std.proofs.Common.{sym, subst}
 use Rattle.st_num.specs.declared.rule.RuleId.TheVariants.{L4}
 use Rattle.st_scan.specs.declared.read.Stop.TheVariants.{Refused}
 use Rattle.st_scan.specs.Tokens.{Tokens}
-use Rattle.st_scan.specs.Steps.{StopsFile}
+use Rattle.st_scan.specs.inner.Steps.{StopsFile}
 use Rattle.st_scan.proofs.Answers.{tokens_found, tokens_texts, only_list, tells_only, unread_utf8, utf8_first, token_first, told}
 use Rattle.st_scan.proofs.scanner.scan.Goals as goal
 

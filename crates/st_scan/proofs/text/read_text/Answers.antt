@@ -1,5 +1,5 @@
 use Rattle.std.proofs.Common.{sym, subst}
-use Rattle.st_scan.specs.Readings.{Stops}
+use Rattle.st_scan.specs.inner.Readings.{Stops}
 use Rattle.st_scan.proofs.TextReadings.{text_reading, text_stops}
 use Rattle.st_scan.proofs.text.read_text.Goals as goal
 
