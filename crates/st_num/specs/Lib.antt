@@ -1,6 +1,14 @@
-pub mod formers
+-- What must be believed of base values, in reading order.
+
+-- the table of signs: how each is written, how tightly it holds, and how it groups
 pub mod Signs
+-- how each reserved word is written
 pub mod Words
+-- a number is a whole number below 2 ^ 128 in size, and an operation is exact or has no value
 pub mod Number
-pub mod SignAndMagnitude
+-- a text is a spelling of a number
 pub mod Numeral
+-- ---- what contracts see a row and a box as: the list of its elements, and its value
+pub mod formers
+-- ---- what only proofs need
+pub mod inner

@@ -1,2 +1,3 @@
+-- What contracts see of the types over a vector and a box.
 pub mod boxed
 pub mod row

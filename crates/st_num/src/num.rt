@@ -20,7 +20,7 @@ impl Model for Num {
     ghost use Rattle.std.specs.Prelude.{◌≡◌, ℤ, true, ◌<◌, unsigned_abs};
     ghost use Rattle.std.specs.Coded.{coded_ℤ};
     ghost use Rattle.st_num.specs.Number.{signed, below_zero};
-    ghost use Rattle.st_num.specs.SignAndMagnitude.{fields_back};
+    ghost use Rattle.st_num.specs.inner.SignAndMagnitude.{fields_back};
 
     ghost Value = { ℤ };
 

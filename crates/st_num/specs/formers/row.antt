@@ -1,1 +1,2 @@
+-- A row.
 pub mod Row

@@ -1,0 +1,2 @@
+-- The fields of a number, for its proofs alone.
+pub mod SignAndMagnitude
