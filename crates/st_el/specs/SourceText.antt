@@ -1,9 +1,9 @@
 -- The text of an expression: its tokens, and parentheses round parts that do not suit their places.
 use Rattle.std.specs.Prelude.{ℕ, List, [], ◌∷◌, ◌++◌, map, flat_map, codes, Bool, true, false, not, ◌&&◌}
 use Rattle.std.specs.Fmt.{decimal}
-use Rattle.st_num.specs.Signs.{spelling}
+use Rattle.st_num.specs.Signs.{spelling, level, prefix_level, left_of, right_of}
 use Rattle.st_num.specs.declared.mark.Mark.{Mark}
-use Rattle.st_num.specs.declared.mark.Mark.TheVariants.{TickBracket, TickBrace, CloseParen, CloseBracket, CloseBrace, Caret}
+use Rattle.st_num.specs.declared.mark.Mark.TheVariants.{TickBracket, TickBrace, CloseParen, CloseBracket, CloseBrace, Caret, Tilde, Minus}
 use Rattle.st_scan.specs.Spelling.{quoted}
 use Rattle.st_el.specs.declared.expression.Exp.{Exp, Exp-F, fold-Exp}
 use Rattle.st_el.specs.declared.expression.Node.{Node, out-Node, map-Node, fold-Node}
@@ -15,7 +15,7 @@ use Rattle.st_el.specs.declared.place.Around.TheVariants.{Brackets, Bars, Arithm
 use Rattle.st_el.specs.declared.place.Behind.TheVariants.{Other, Dot, Plus}
 use Rattle.st_el.specs.declared.place.Place.{Place}
 use Rattle.st_el.specs.declared.place.Wrapping.{Wrapping}
-use Rattle.st_el.specs.Levels.{sign_level, not_level, negation_level, left_of, right_of, place_at, whole, operand_before, position, count, next_element, in_parens}
+use Rattle.st_el.specs.Levels.{place_at, whole, operand_before, position, count, next_element, in_parens}
 use Rattle.st_el.specs.Wrappings.{Printed, Marked, Level, takes_in, has_bar, wrapping, opening, ending, around_in}
 
 -- these texts with a text between them
@@ -35,9 +35,9 @@ blank_behind sign = codes " "
 
 abbrev pub joined_by : Around → Printed → Mark → Printed → List ℕ
 joined_by around left sign right =
-    left_side (left.at (place_at around (left_of (sign_level sign))))
+    left_side (left.at (place_at around (left_of (level sign))))
     ++ spelling sign ++ blank_behind sign
-    ++ right.at (place_at around (right_of (sign_level sign)))
+    ++ right.at (place_at around (right_of (level sign)))
 
 -- the elements of a sequence
 abbrev pub elements : Around → List Printed → List ℕ
@@ -101,8 +101,8 @@ front around Node-F.Eps = codes "eps"
 front around (Node-F.Seq parts) = elements around parts
 front around (Node-F.Infix left sign right) = joined_by around left sign right
 front around (Node-F.Binary left sign right) = joined_by around left sign right
-front around (Node-F.Not e) = codes "~ " ++ e.at (place_at around not_level)
-front around (Node-F.Neg e) = codes "- " ++ e.at (place_at around negation_level)
+front around (Node-F.Not e) = codes "~ " ++ e.at (place_at around (prefix_level Tilde))
+front around (Node-F.Neg e) = codes "- " ++ e.at (place_at around (prefix_level Minus))
 front around (Node-F.Arith e) = codes "$(" ++ e.at (whole Arithmetic) ++ codes ")"
 front around (Node-F.Paren e) = codes "(" ++ e.at (whole (in_parens around)) ++ codes ")"
 front around (Node-F.Bracket sign e) =

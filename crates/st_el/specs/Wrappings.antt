@@ -1,5 +1,7 @@
 -- Whether a part suits its place, and what is written round it otherwise.
 use Rattle.std.specs.Prelude.{ℕ, List, [], codes, Bool, true, false, not, ◌&&◌, nat_le, if◌then◌else◌}
+use Rattle.st_num.specs.Signs.{level, prefix_level}
+use Rattle.st_num.specs.declared.mark.Mark.TheVariants.{Tilde, Minus}
 use Rattle.st_el.specs.declared.expression.Count.TheOpen.{Node-F}
 use Rattle.st_el.specs.declared.place.Around.{Around}
 use Rattle.st_el.specs.declared.place.Around.TheVariants.{Arithmetic, Caret as BehindCaret}
@@ -8,7 +10,7 @@ use Rattle.st_el.specs.declared.place.Behind.TheVariants.{Other, Dot, Plus}
 use Rattle.st_el.specs.declared.place.Place.{Place}
 use Rattle.st_el.specs.declared.place.Wrapping.{Wrapping}
 use Rattle.st_el.specs.declared.place.Wrapping.TheVariants.{Bare, Parens, Dollar}
-use Rattle.st_el.specs.Levels.{sign_level, not_level, sequence_level, negation_level, operand_level, in_parens}
+use Rattle.st_el.specs.Levels.{sequence_level, operand_level, in_parens}
 
 -- what is known of a part: whether it begins with a bar where this is behind it, and its texts
 pub record Printed : Type 0 where
@@ -27,10 +29,10 @@ Level = Node-F Marked Printed (List ℕ) Printed
 -- how tightly it holds together
 abbrev pub level_of : Level → ℕ
 level_of (Node-F.Seq parts) = sequence_level
-level_of (Node-F.Infix left sign right) = sign_level sign
-level_of (Node-F.Binary left sign right) = sign_level sign
-level_of (Node-F.Not e) = not_level
-level_of (Node-F.Neg e) = negation_level
+level_of (Node-F.Infix left sign right) = level sign
+level_of (Node-F.Binary left sign right) = level sign
+level_of (Node-F.Not e) = prefix_level Tilde
+level_of (Node-F.Neg e) = prefix_level Minus
 level_of node = operand_level
 
 abbrev pub is_plus : Behind → Bool
@@ -56,7 +58,7 @@ has_bar node = false
 
 -- its signs are those of arithmetic, which stand in `$( )` alone
 abbrev pub is_arithmetic : Level → Bool
-is_arithmetic (Node-F.Binary left sign right) = nat_le 15 (sign_level sign)
+is_arithmetic (Node-F.Binary left sign right) = nat_le 15 (level sign)
 is_arithmetic (Node-F.Neg e) = true
 is_arithmetic node = false
 

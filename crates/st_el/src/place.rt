@@ -1,7 +1,8 @@
 //! Places of parts in a text, and how tightly signs and parts hold together.
 
-ghost use Rattle.std.specs.Prelude.{◌≡◌, ◌<◌, ◌≤◌};
-ghost use Rattle.st_el.specs.Levels.{sign_level, left_of, right_of, place_at, whole, operand_before, position, count, next_element, in_parens};
+ghost use Rattle.std.specs.Prelude.{◌≡◌};
+ghost use Rattle.st_num.specs.Signs.{level, left_of, right_of};
+ghost use Rattle.st_el.specs.Levels.{place_at, whole, operand_before, position, count, next_element, in_parens};
 ghost use Rattle.st_el.specs.Wrappings.{opening, ending, around_in};
 
 use st_num::Mark;
@@ -41,65 +42,24 @@ pub enum Wrapping {
     Dollar,
 }
 
-/// The level of a prefix `~`.
-pub const NOT_LEVEL: u8 = 5;
-
 /// The level of a sequence.
 pub const SEQUENCE_LEVEL: u8 = 14;
-
-/// The level of a prefix `-`.
-pub const NEGATION_LEVEL: u8 = 17;
 
 /// The level of what holds together by itself.
 pub const OPERAND_LEVEL: u8 = 20;
 
-/// The level of a sign: the looser the sign, the lower.
-pub fn sign_level(sign: Mark) -> u8
-    ensures is { result ≡ sign_level sign }
-    ensures low { result < 20 }
+/// The loosest level that the sign allows to its left.
+pub fn left_of(sign: Mark) -> u8
+    ensures { result ≡ left_of (level sign) }
 {
-    match sign {
-        Mark::Equivalent => 1,
-        Mark::Implies => 2,
-        Mark::Or => 3,
-        Mark::And => 4,
-        Mark::Equal | Mark::NotEqual | Mark::ElementOf => 6,
-        Mark::Less | Mark::Greater | Mark::LessOrEqual | Mark::GreaterOrEqual => 6,
-        Mark::Turnstile | Mark::ReverseTurnstile => 7,
-        Mark::SquigglyArrow | Mark::SquigglyArrowStar => 8,
-        Mark::Colon | Mark::Subtype | Mark::Supertype => 9,
-        Mark::Approximately | Mark::Define => 9,
-        Mark::Semicolon => 10,
-        Mark::Arrow => 11,
-        Mark::DotDot => 12,
-        Mark::PlusPlus => 13,
-        Mark::Plus | Mark::Minus => 15,
-        Mark::Star | Mark::Slash | Mark::Backslash => 16,
-        Mark::Caret => 18,
-        _ => 0,
-    }
+    sign.level() + sign.grouping().left_gap()
 }
 
-/// The loosest level that a sign of this level allows to its left.
-pub fn left_of(level: u8) -> u8
-    requires { level < 20 }
-    ensures { result ≡ left_of level }
+/// The loosest level that the sign allows to its right.
+pub fn right_of(sign: Mark) -> u8
+    ensures { result ≡ right_of (level sign) }
 {
-    match level {
-        3 | 4 | 10 | 13 | 15 | 16 => level,
-        _ => level + 1,
-    }
-}
-
-/// The loosest level that a sign of this level allows to its right.
-pub fn right_of(level: u8) -> u8
-    requires { level < 20 }
-    ensures { result ≡ right_of level }
-{
-    match level {
-        2 | 11 | 18 => level,
-        _ => level + 1,
-    }
+    sign.level() + sign.grouping().right_gap()
 }
 
 impl Place {

@@ -2,12 +2,12 @@
 
 ghost use Rattle.std.specs.Prelude.{◌≡◌, ◌++◌, OnOk, OnErr, map, flat_map, codes};
 ghost use Rattle.std.specs.Fmt.{decimal};
-ghost use Rattle.st_num.specs.Signs.{spelling};
-ghost use Rattle.st_el.specs.Levels.{left_of, place_at, sign_level};
+ghost use Rattle.st_num.specs.Signs.{spelling, level, left_of};
+ghost use Rattle.st_el.specs.Levels.{place_at};
 ghost use Rattle.st_el.specs.SourceText.{opened, printed, printed_mark, printed_step, printed_field, front, postfix, left_side, blank_behind, elements, listed, fields_text, arguments, truth, closing, source_text};
 
 use crate::place::{
-    Around, Behind, NEGATION_LEVEL, NOT_LEVEL, Place, in_parens, left_of, right_of, sign_level,
+    Around, Behind, Place, in_parens, left_of, right_of,
 };
 use crate::quote::print_quoted;
 use crate::wrapping::{behind_of, wrapping};
@@ -131,7 +131,7 @@ fn print_front(node: &Node, around: Around, out: &mut Vec<u8>) -> Result<(), NoM
             print_left(left.get(), *sign, around, out)?;
             print_at(
                 right.get(),
-                Place::at(around, right_of(sign_level(*sign))),
+                Place::at(around, right_of(*sign)),
                 out,
             )
         }
@@ -139,12 +139,12 @@ fn print_front(node: &Node, around: Around, out: &mut Vec<u8>) -> Result<(), NoM
             print_left(left.get(), *sign, around, out)?;
             print_at(
                 right.get(),
-                Place::at(around, right_of(sign_level(*sign))),
+                Place::at(around, right_of(*sign)),
                 out,
             )
         }
-        Node::Not(e) => print_between(e.get(), Place::at(around, NOT_LEVEL), b"~ ", b"", out),
-        Node::Neg(e) => print_between(e.get(), Place::at(around, NEGATION_LEVEL), b"- ", b"", out),
+        Node::Not(e) => print_between(e.get(), Place::at(around, Mark::Tilde.prefix_level()), b"~ ", b"", out),
+        Node::Neg(e) => print_between(e.get(), Place::at(around, Mark::Minus.prefix_level()), b"- ", b"", out),
         Node::Arith(e) => {
             print_between(e.get(), Place::whole(Around::Arithmetic), b"$(", b")", out)
         }
@@ -211,11 +211,11 @@ fn print_postfix(node: &Node, out: &mut Vec<u8>) -> Result<(), NoMemory>
 #[cycle(print)]
 fn print_left(left: &Exp, sign: Mark, around: Around, out: &mut Vec<u8>) -> Result<(), NoMemory>
     ensures { OnOk result (out.new.items ≡ out.old.items
-        ++ (left_side ((printed left.now).at (place_at around (left_of (sign_level sign))))
+        ++ (left_side ((printed left.now).at (place_at around (left_of (level sign))))
         ++ spelling sign ++ blank_behind sign)) }
 {
     let start = out.len();
-    print_at(left, Place::at(around, left_of(sign_level(sign))), out)?;
+    print_at(left, Place::at(around, left_of(sign)), out)?;
     if out.len() == start {
         return print_sign(sign, out);
     }

@@ -6,10 +6,10 @@ ghost use Rattle.st_el.specs.Wrappings.{level_of, takes_in, has_bar, is_arithmet
 ghost use Rattle.st_el.specs.declared.place.Wrapping.TheVariants.{Bare, Parens};
 
 use crate::place::{
-    Around, Behind, NEGATION_LEVEL, NOT_LEVEL, OPERAND_LEVEL, Place, SEQUENCE_LEVEL, Wrapping,
-    sign_level,
+    Around, Behind, OPERAND_LEVEL, Place, SEQUENCE_LEVEL, Wrapping,
 };
 use crate::{Count, Exp, Node};
+use st_num::Mark;
 
 /// How tightly a part holds together.
 fn level_of(node: &Node) -> u8
@@ -17,9 +17,9 @@ fn level_of(node: &Node) -> u8
 {
     match node {
         Node::Seq(_) => SEQUENCE_LEVEL,
-        Node::Infix(_, sign, _) | Node::Binary(_, sign, _) => sign_level(*sign),
-        Node::Not(_) => NOT_LEVEL,
-        Node::Neg(_) => NEGATION_LEVEL,
+        Node::Infix(_, sign, _) | Node::Binary(_, sign, _) => sign.level(),
+        Node::Not(_) => Mark::Tilde.prefix_level(),
+        Node::Neg(_) => Mark::Minus.prefix_level(),
         _ => OPERAND_LEVEL,
     }
 }
@@ -74,7 +74,7 @@ fn is_arithmetic(node: &Node) -> bool
     ensures { result ≡ is_arithmetic (opened node.now) }
 {
     match node {
-        Node::Binary(_, sign, _) => sign_level(*sign) >= 15,
+        Node::Binary(_, sign, _) => sign.level() >= 15,
         Node::Neg(_) => true,
         _ => false,
     }

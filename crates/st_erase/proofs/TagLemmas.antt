@@ -10,16 +10,17 @@ use Rattle.std.proofs.lemmas.List.Splits.{slice_split_none, slice_split_at, leng
 use Rattle.std.proofs.lemmas.Slice.Eq.{bytes_eq-Decides}
 use Rattle.st_num.specs.declared.mark.Mark.{Mark}
 use Rattle.st_num.specs.Signs.{spelling}
+use Rattle.st_il.specs.declared.template.Role.{Role}
 use Rattle.st_il.specs.declared.template.Role.TheVariants.{Other}
 use Rattle.st_il.specs.declared.template.Template.{Template}
 use Rattle.st_il.specs.declared.template.Word.{Word}
 use Rattle.st_il.specs.declared.template.Word.TheVariants as word
-use Rattle.st_il.specs.declared.word.TheConstants.{SIGNS}
-use Rattle.st_il.specs.Notation.{role_of, is_name_byte}
+use Rattle.st_num.specs.declared.mark.TheConstants.Mark.{ALL}
+use Rattle.st_il.specs.Notation.{role_of, is_role, has_role, is_name_byte}
 use Rattle.st_il.specs.Reading.{due, reads}
 use Rattle.st_il.specs.Template.{written, spaced, IsWord, AreWords, HasTag, HasOneTemplate}
 use Rattle.st_il.proofs.Atoms.{is_rest, atom_from, atom-read}
-use Rattle.st_il.proofs.TagWords.{NoSpace, written-no_space, no_sign}
+use Rattle.st_il.proofs.TagWords.{Differs, NoSpace, written-no_space, no_sign}
 use Rattle.st_il.proofs.Tags.{found, not_found, no_tag}
 use Rattle.st_erase.specs.Tags.{ends_atom, sign_in, word_of, onto, words_of, template_of, IsOf}
 
@@ -63,28 +64,33 @@ abbrev Told : List ℕ → Option Word → Type 0
 Told text (Some w) = IsWord w × (written w ≡ text)
 Told text None = (w : Word) → IsWord w → written w ≢ text
 
-abbrev AreSigns : List Mark → Type 0
-AreSigns = AllByRecursion (λ sign. role_of sign ≢ Other)
-
-are_signs : AreSigns SIGNS
-are_signs = ((λ e. absurd (cc)), ((λ e. absurd (cc)), ((λ e. absurd (cc)), ((λ e. absurd (cc)), ((λ e. absurd (cc)), ((λ e. absurd (cc)), ((λ e. absurd (cc)), ((λ e. absurd (cc)), ((λ e. absurd (cc)), ((λ e. absurd (cc)), ((λ e. absurd (cc)), ((λ e. absurd (cc)), ((λ e. absurd (cc)), ((λ e. absurd (cc)), ((λ e. absurd (cc)), ((λ e. absurd (cc)), ((λ e. absurd (cc)), ((λ e. absurd (cc)), tt))))))))))))))))))
-
 -- what the search for a sign tells
 abbrev Found : List Mark → List ℕ → Option Word → Type 0
 Found signs text (Some w) = IsWord w × (written w ≡ text)
-Found signs text None = All (λ sign. spelling sign ≢ text) signs
+Found signs text None = All (Differs text) signs
 
-sign_found : (signs : List Mark) (text : List ℕ) → AreSigns signs → Found signs text (sign_in signs text)
-sign_found [] text a = All-nil (λ sign. spelling sign ≢ text)
-sign_found (sign ∷ signs) text a = by_test (bytes_eq (spelling sign) text) refl (sign_in signs text) (sign_found signs text a.1)
+has_role-is : (sign : Mark) → has_role sign ≡ true → role_of sign ≢ Other
+has_role-is sign e f = let same : is_role (role_of sign) ≡ false = ap is_role f in absurd (cc)
+
+is_role-not : (r : Role) → is_role r ≡ false → r ≡ Other
+is_role-not Other e = refl
+is_role-not _ e = absurd (cc)
+
+sign_found : (signs : List Mark) (text : List ℕ) → Found signs text (sign_in signs text)
+sign_found [] text = All-nil (Differs text)
+sign_found (sign ∷ signs) text = by_role (has_role sign) refl (bytes_eq (spelling sign) text) refl (sign_in signs text) (sign_found signs text)
   where
-    differs : bytes_eq (spelling sign) text ≡ false → spelling sign ≢ text
-    differs e f = let same : bytes_eq (spelling sign) text ≡ true = (bytes_eq-Decides (spelling sign) text).1 f in absurd (cc)
+    other : bytes_eq (spelling sign) text ≡ false → Differs text sign
+    other e h f = let same : bytes_eq (spelling sign) text ≡ true = (bytes_eq-Decides (spelling sign) text).1 f in absurd (cc)
 
-    by_test : (b : Bool) → bytes_eq (spelling sign) text ≡ b → (o : Option Word) → Found signs text o → Found (sign ∷ signs) text (if b then Some (word.Sign sign) else o)
-    by_test true e o f = (a.0, (bytes_eq-Decides (spelling sign) text).0 e)
-    by_test false e (Some w) f = f
-    by_test false e None f = All-cons (λ sign. spelling sign ≢ text) sign signs (differs e) f
+    on : Differs text sign → (o : Option Word) → Found signs text o → Found (sign ∷ signs) text o
+    on d (Some w) f = f
+    on d None f = All-cons (Differs text) sign signs d f
+
+    by_role : (r : Bool) → has_role sign ≡ r → (b : Bool) → bytes_eq (spelling sign) text ≡ b → (o : Option Word) → Found signs text o → Found (sign ∷ signs) text (if r && b then Some (word.Sign sign) else o)
+    by_role false r b e o f = on (λ h. absurd (h (is_role-not (role_of sign) r))) o f
+    by_role true r true e o f = (has_role-is sign r, (bytes_eq-Decides (spelling sign) text).0 e)
+    by_role true r false e o f = on (other e) o f
 
 told : (text : List ℕ) → Told text (word_of text)
 told text = by_hole (bytes_eq text (codes "%")) refl
@@ -92,20 +98,20 @@ told text = by_hole (bytes_eq text (codes "%")) refl
     no_hole : bytes_eq text (codes "%") ≡ false → codes "%" ≢ text
     no_hole e f = let same : bytes_eq text (codes "%") ≡ true = (bytes_eq-Decides text (codes "%")).1 (sym f) in absurd (cc)
 
-    none : codes "%" ≢ text → ends_atom true text ≡ false → All (λ sign. spelling sign ≢ text) SIGNS → (w : Word) → IsWord w → written w ≢ text
+    none : codes "%" ≢ text → ends_atom true text ≡ false → All (Differs text) ALL → (w : Word) → IsWord w → written w ≢ text
     none n e f word.Hole h same = n same
     none n e f (word.Atom name) h same = let ends : ends_atom true text ≡ true = ends-rest true text ∙ ap (is_rest true) (sym same) ∙ atom-read h in absurd (cc)
     none n e f (word.Sign sign) h same = no_sign None text f sign h same
 
-    by_sign : codes "%" ≢ text → ends_atom true text ≡ false → (o : Option Word) → Found SIGNS text o → Told text o
+    by_sign : codes "%" ≢ text → ends_atom true text ≡ false → (o : Option Word) → Found ALL text o → Told text o
     by_sign n e (Some w) f = f
     by_sign n e None f = none n e f
 
-    by_atom : codes "%" ≢ text → (b : Bool) → ends_atom true text ≡ b → Told text (if b then Some (word.Atom text) else sign_in SIGNS text)
+    by_atom : codes "%" ≢ text → (b : Bool) → ends_atom true text ≡ b → Told text (if b then Some (word.Atom text) else sign_in ALL text)
     by_atom n true e = (atom_from text (sym (ends-rest true text) ∙ e), refl)
-    by_atom n false e = by_sign n e (sign_in SIGNS text) (sign_found SIGNS text are_signs)
+    by_atom n false e = by_sign n e (sign_in ALL text) (sign_found ALL text)
 
-    by_hole : (b : Bool) → bytes_eq text (codes "%") ≡ b → Told text (if b then Some word.Hole else if ends_atom true text then Some (word.Atom text) else sign_in SIGNS text)
+    by_hole : (b : Bool) → bytes_eq text (codes "%") ≡ b → Told text (if b then Some word.Hole else if ends_atom true text then Some (word.Atom text) else sign_in ALL text)
     by_hole true e = (tt, sym ((bytes_eq-Decides text (codes "%")).0 e))
     by_hole false e = by_atom (no_hole e) (ends_atom true text) refl
 

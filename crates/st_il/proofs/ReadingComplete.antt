@@ -1,6 +1,6 @@
 -- Each notation of height at most 100 is read as itself.
-use Rattle.std.proofs.Common.{◌≡◌, refl, sym, ◌∙◌, ap, subst, ℕ, ◌+◌, ◌<◌, ◌≤◌, max, List, [], ◌∷◌, ◌++◌, map, length, append_assoc, append-nil, true, false, arith}
-use Rattle.std.specs.Prelude.{Option, Some, None, nat_le, nat_lt, if◌then◌else◌}
+use Rattle.std.proofs.Common.{◌≡◌, refl, sym, ◌∙◌, ap, subst, ℕ, ◌+◌, ◌<◌, ◌≤◌, max, List, [], ◌∷◌, ◌++◌, map, length, append_assoc, append-nil, Bool, true, false, eqb-true, arith}
+use Rattle.std.specs.Prelude.{◌==◌, Option, Some, None, nat_le, nat_lt, if◌then◌else◌}
 use Rattle.std.specs.Option.{option_map, option_and_then}
 use Rattle.std.proofs.lemmas.Bool.Decides.{nat_tests}
 use Rattle.st_num.specs.declared.mark.Mark.{Mark}
@@ -17,7 +17,10 @@ use Rattle.st_il.specs.declared.template.Word.TheVariants as word
 use Rattle.st_il.specs.declared.reading.Frame.{Frame}
 use Rattle.st_il.specs.declared.reading.Frame.TheVariants.{Open, Left, Elements}
 use Rattle.st_il.specs.Height.{highest}
-use Rattle.st_il.specs.Notation.{role_of, left_of, right_of, closing, closing_of, closing_by, IsNotation, atom, hole, bracket, sequence, divided, without_left, AreElements, none, more}
+use Rattle.st_num.specs.Signs.{left_of, right_of, left_gap, right_gap, grouping_at}
+use Rattle.st_num.specs.declared.mark.Grouping.{Grouping}
+use Rattle.st_num.specs.declared.mark.Grouping.TheVariants as grouping
+use Rattle.st_il.specs.Notation.{role_of, closing, closing_of, closing_by, IsNotation, atom, hole, bracket, sequence, divided, without_left, AreElements, none, more}
 use Rattle.st_il.specs.Template.{words_of, template_height, IsTemplate}
 use Rattle.st_il.specs.Reading.{State, due, read, sign_level, divided_at, level_at, level_of, is_outermost, begin_sign, extend, binds, closed, limited, reduce, divide, is_same, shut, after_sign, run, whole, finish, reads}
 use Rattle.st_il.proofs.TemplateForms.{words_all, words-Atom, words-Hole, words-Seq, words-Infix, words-Bracket, height-Seq, height-Infix, height-Bracket, level-Atom, level-Hole, level-Seq, level-Infix, level-Bracket}
@@ -49,17 +52,47 @@ sign_level-range sign = go (role_of sign) refl
     go Other e = omega arith
 
 pub right-gap : (n : ℕ) → (n ≤ right_of n) × (right_of n ≤ n + 1)
-right-gap n = (grind (arith, nat_tests), grind (arith, nat_tests))
+right-gap n = go (grouping_at n)
+  where
+    go : (g : Grouping) → (n ≤ n + right_gap g) × (n + right_gap g ≤ n + 1)
+    go grouping.None = (omega arith, omega arith)
+    go grouping.Left = (omega arith, omega arith)
+    go grouping.Right = (omega arith, omega arith)
 
 pub left-gap : (n : ℕ) → (n ≤ left_of n) × (left_of n ≤ n + 1)
-left-gap n = (grind (arith, nat_tests), grind (arith, nat_tests))
+left-gap n = go (grouping_at n)
+  where
+    go : (g : Grouping) → (n ≤ n + left_gap g) × (n + left_gap g ≤ n + 1)
+    go grouping.None = (omega arith, omega arith)
+    go grouping.Left = (omega arith, omega arith)
+    go grouping.Right = (omega arith, omega arith)
 
+-- only from 8 on, since the signs of level 7 do not group
 right-eight : (n : ℕ) → 7 ≤ n → 8 ≤ right_of n
-right-eight n h = grind (arith, nat_tests)
+right-eight n h = go (n == 7) refl
+  where
+    go : (b : Bool) → (n == 7) ≡ b → 8 ≤ right_of n
+    go true e = subst (λ m. 8 ≤ right_of m) (sym (eqb-true n 7 e)) (omega arith)
+    go false e =
+        let above : 7 < n = grind (arith, nat_tests) in
+        let wider : n ≤ right_of n = (right-gap n).0 in
+        omega arith
 
 -- a sign that takes a side of level n as its left one does not bind into its right edge
 sign_after : (m n : ℕ) → left_of m ≤ n → m < right_of n
-sign_after m n h = grind (arith, nat_tests)
+sign_after m n h = by_grouping (grouping_at m) refl h
+  where
+    wider : n ≤ right_of n
+    wider = (right-gap n).0
+
+    at_same : grouping_at m ≡ grouping.Left → m ≤ n → (b : Bool) → (m == n) ≡ b → m < right_of n
+    at_same e k true f = subst (λ i. m < right_of i) (eqb-true m n f) (subst (λ g. m < m + right_gap g) (sym e) (omega arith))
+    at_same e k false f = let below : m < n = grind (arith, nat_tests) in omega (arith, wider)
+
+    by_grouping : (g : Grouping) → grouping_at m ≡ g → m + left_gap g ≤ n → m < right_of n
+    by_grouping grouping.None e k = omega (arith, wider)
+    by_grouping grouping.Right e k = omega (arith, wider)
+    by_grouping grouping.Left e k = at_same e (omega arith) (m == n) refl
 
 -- a word binds into the right edge of a template only from this level on
 abbrev pub edge_at : Template-F Template → ℕ

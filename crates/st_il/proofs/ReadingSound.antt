@@ -15,7 +15,8 @@ use Rattle.st_il.specs.declared.template.Word.{Word}
 use Rattle.st_il.specs.declared.template.Word.TheVariants as word
 use Rattle.st_il.specs.declared.reading.Frame.{Frame}
 use Rattle.st_il.specs.declared.reading.Frame.TheVariants.{Open, Left, Elements}
-use Rattle.st_il.specs.Notation.{role_of, left_of, right_of, closing, closing_of, closing_by, IsNotation, atom, hole, bracket, sequence, divided, without_left, AreElements, none, more}
+use Rattle.st_num.specs.Signs.{left_of, right_of}
+use Rattle.st_il.specs.Notation.{role_of, closing, closing_of, closing_by, IsNotation, atom, hole, bracket, sequence, divided, without_left, AreElements, none, more}
 use Rattle.st_il.specs.Template.{words_of, template_height, IsTemplate, IsWord}
 use Rattle.std.specs.List.{AllByRecursion}
 use Rattle.st_il.specs.Reading.{State, due, read, sign_level, divided_at, level_of, may_lack_left, is_outermost, begin, begin_sign, extend, binds, closed, limited, reduce, divide, is_same, shut, after_sign, step, run, whole, finish, reads}

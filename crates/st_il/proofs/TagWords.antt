@@ -8,7 +8,7 @@ use Rattle.std.proofs.lemmas.Bool.Decides.{nat_tests}
 use Rattle.st_num.specs.declared.mark.Mark.{Mark}
 use Rattle.st_num.specs.declared.mark.Mark.TheVariants.{Turnstile, ReverseTurnstile, SquigglyArrowStar, SquigglyArrow, Colon, Subtype, Supertype, Approximately, Define, Semicolon, Arrow, DotDot, CloseParen, CloseBracket, CloseBrace, TickParen, TickBracket, TickBrace}
 use Rattle.st_num.specs.Signs.{spelling}
-use Rattle.st_il.specs.declared.word.TheConstants.{SIGNS}
+use Rattle.st_num.specs.declared.mark.TheConstants.Mark.{ALL}
 use Rattle.st_il.specs.declared.template.Role.TheVariants.{Other}
 use Rattle.st_il.specs.declared.template.Word.{Word}
 use Rattle.st_il.specs.declared.template.Word.TheVariants as word
@@ -282,27 +282,31 @@ goes_there o others rest text e h = subst (λ p. MatchOption p (rest ≡ text) (
 
 -- ---- the table of signs
 
-no_sign_at : (text : List ℕ) → All (λ sign. spelling sign ≢ text) SIGNS → (sign : Mark) → role_of sign ≢ Other → spelling sign ≢ text
-no_sign_at text a Turnstile h = a 0 Turnstile (omega arith)
-no_sign_at text a ReverseTurnstile h = a 1 Turnstile (omega arith)
-no_sign_at text a SquigglyArrow h = a 2 Turnstile (omega arith)
-no_sign_at text a SquigglyArrowStar h = a 3 Turnstile (omega arith)
-no_sign_at text a Colon h = a 4 Turnstile (omega arith)
-no_sign_at text a Subtype h = a 5 Turnstile (omega arith)
-no_sign_at text a Supertype h = a 6 Turnstile (omega arith)
-no_sign_at text a Approximately h = a 7 Turnstile (omega arith)
-no_sign_at text a Define h = a 8 Turnstile (omega arith)
-no_sign_at text a Semicolon h = a 9 Turnstile (omega arith)
-no_sign_at text a Arrow h = a 10 Turnstile (omega arith)
-no_sign_at text a DotDot h = a 11 Turnstile (omega arith)
-no_sign_at text a TickParen h = a 12 Turnstile (omega arith)
-no_sign_at text a TickBracket h = a 13 Turnstile (omega arith)
-no_sign_at text a TickBrace h = a 14 Turnstile (omega arith)
-no_sign_at text a CloseParen h = a 15 Turnstile (omega arith)
-no_sign_at text a CloseBracket h = a 16 Turnstile (omega arith)
-no_sign_at text a CloseBrace h = a 17 Turnstile (omega arith)
-no_sign_at text a _ h = absurd (h refl)
+-- a sign of notations that is written otherwise
+abbrev pub Differs : List ℕ → Mark → Type 0
+Differs text sign = role_of sign ≢ Other → spelling sign ≢ text
 
-pub no_sign : (o : Option Mark) (text : List ℕ) → IfNone o (All (λ sign. spelling sign ≢ text) SIGNS) → IfNone o ((sign : Mark) → role_of sign ≢ Other → spelling sign ≢ text)
+no_sign_at : (text : List ℕ) → All (Differs text) ALL → (sign : Mark) → Differs text sign
+no_sign_at text a Turnstile = a 5 Turnstile (omega arith)
+no_sign_at text a ReverseTurnstile = a 6 Turnstile (omega arith)
+no_sign_at text a SquigglyArrow = a 7 Turnstile (omega arith)
+no_sign_at text a SquigglyArrowStar = a 0 Turnstile (omega arith)
+no_sign_at text a Colon = a 26 Turnstile (omega arith)
+no_sign_at text a Subtype = a 8 Turnstile (omega arith)
+no_sign_at text a Supertype = a 9 Turnstile (omega arith)
+no_sign_at text a Approximately = a 10 Turnstile (omega arith)
+no_sign_at text a Define = a 11 Turnstile (omega arith)
+no_sign_at text a Semicolon = a 27 Turnstile (omega arith)
+no_sign_at text a Arrow = a 12 Turnstile (omega arith)
+no_sign_at text a DotDot = a 13 Turnstile (omega arith)
+no_sign_at text a TickParen = a 23 Turnstile (omega arith)
+no_sign_at text a TickBracket = a 24 Turnstile (omega arith)
+no_sign_at text a TickBrace = a 25 Turnstile (omega arith)
+no_sign_at text a CloseParen = a 42 Turnstile (omega arith)
+no_sign_at text a CloseBracket = a 44 Turnstile (omega arith)
+no_sign_at text a CloseBrace = a 46 Turnstile (omega arith)
+no_sign_at text a _ = λ h. absurd (h refl)
+
+pub no_sign : (o : Option Mark) (text : List ℕ) → IfNone o (All (Differs text) ALL) → IfNone o ((sign : Mark) → Differs text sign)
 no_sign None text a = no_sign_at text a
 no_sign (Some sign) text a = tt

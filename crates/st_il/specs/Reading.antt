@@ -17,7 +17,8 @@ use Rattle.st_il.specs.declared.reading.Frame.{Frame}
 use Rattle.st_il.specs.declared.reading.Frame.TheVariants.{Open, Left, Elements}
 use Rattle.st_il.specs.declared.reading.State as code
 use Rattle.st_il.specs.declared.reading.State.TheVariants.{Due, Read}
-use Rattle.st_il.specs.Notation.{role_of, left_of, right_of}
+use Rattle.st_num.specs.Signs.{left_of, right_of}
+use Rattle.st_il.specs.Notation.{role_of}
 use Rattle.st_il.specs.Template.{template_height}
 
 pub data State : Type 0 where

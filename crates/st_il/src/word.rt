@@ -8,31 +8,9 @@ ghost use Rattle.st_il.specs.declared.template.Word.{Word};
 ghost use Rattle.st_il.specs.Notation.{role_of, is_name_byte, IsAtom};
 ghost use Rattle.st_il.specs.Template.{IsWord, AreWords, written};
 
-use crate::template::{Role, Word};
+use crate::template::{Role, Word, has_role};
 use st_num::{Mark, Name, NoMemory, Row};
 use std::alloc::Global;
-
-/// The signs that stand in notations.
-pub const SIGNS: [Mark; 18] = [
-    Mark::Turnstile,
-    Mark::ReverseTurnstile,
-    Mark::SquigglyArrow,
-    Mark::SquigglyArrowStar,
-    Mark::Colon,
-    Mark::Subtype,
-    Mark::Supertype,
-    Mark::Approximately,
-    Mark::Define,
-    Mark::Semicolon,
-    Mark::Arrow,
-    Mark::DotDot,
-    Mark::TickParen,
-    Mark::TickBracket,
-    Mark::TickBrace,
-    Mark::CloseParen,
-    Mark::CloseBracket,
-    Mark::CloseBrace,
-];
 
 /// The words that are spaced so, if there are any.
 pub fn words(alloc: Global, tag: &[u8]) -> Result<Option<Row<Word>>, NoMemory>
@@ -95,18 +73,18 @@ fn sign_of(text: &[u8]) -> Option<Mark>
     ensures none { IfNone result
         ((sign : Mark) → role_of sign ≢ Role.Other → spelling sign ≢ text.now) }
 {
-    find_sign(&SIGNS, text)
+    find_sign(&Mark::ALL, text)
 }
 
-/// The first of the signs that is written so, if there is one.
+/// The first of the signs that stands in notations and is written so, if there is one.
 fn find_sign(signs: &[Mark], text: &[u8]) -> Option<Mark>
-    requires { All (λ sign. role_of sign ≢ Role.Other) signs.now }
     ensures some { IfSome result
         (λ sign. (role_of sign ≢ Role.Other) × (spelling sign ≡ text.now)) }
-    ensures none { IfNone result (All (λ sign. spelling sign ≢ text.now) signs.now) }
+    ensures none { IfNone result
+        (All (λ sign. role_of sign ≢ Role.Other → spelling sign ≢ text.now) signs.now) }
 {
     for sign in signs {
-        if sign.spelling().as_bytes() == text {
+        if has_role(*sign) && sign.spelling().as_bytes() == text {
             return Some(*sign);
         }
     }
