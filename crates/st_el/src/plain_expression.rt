@@ -12,7 +12,10 @@ pub fn plain_exp(alloc: Global, exp: &Exp) -> Result<Exp, NoMemory>
     ensures { IfOk result (λ plain. plain ≡ plain_exp exp.now) }
 {
     let node = plain_node(alloc, &exp.node)?;
-    Ok(Exp { at: Span::NOWHERE, node })
+    Ok(Exp {
+        at: Span::NOWHERE,
+        node,
+    })
 }
 
 #[cycle(plain)]

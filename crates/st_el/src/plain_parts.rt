@@ -13,7 +13,10 @@ pub fn plain_typ(alloc: Global, typ: &Typ) -> Result<Typ, NoMemory>
     ensures { IfOk result (λ plain. plain ≡ plain_typ typ.now) }
 {
     let node = plain_typ_node(alloc, &typ.node)?;
-    Ok(Typ { at: Span::NOWHERE, node })
+    Ok(Typ {
+        at: Span::NOWHERE,
+        node,
+    })
 }
 
 #[cycle(plain_typ)]
@@ -54,7 +57,10 @@ pub fn plain_notation(alloc: Global, notation: &Notation) -> Result<Notation, No
     ensures { IfOk result (λ plain. plain ≡ plain_notation notation.now) }
 {
     let node = plain_not_node(alloc, &notation.node)?;
-    Ok(Notation { at: Span::NOWHERE, node })
+    Ok(Notation {
+        at: Span::NOWHERE,
+        node,
+    })
 }
 
 #[cycle(plain_notation)]
@@ -93,7 +99,10 @@ pub fn plain_prem(alloc: Global, prem: &Prem) -> Result<Prem, NoMemory>
     ensures { IfOk result (λ plain. plain ≡ plain_prem prem.now) }
 {
     let node = plain_prem_node(alloc, &prem.node)?;
-    Ok(Prem { at: Span::NOWHERE, node })
+    Ok(Prem {
+        at: Span::NOWHERE,
+        node,
+    })
 }
 
 #[cycle(plain_prem)]

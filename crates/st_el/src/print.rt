@@ -6,9 +6,7 @@ ghost use Rattle.st_num.specs.Signs.{spelling, level, left_of};
 ghost use Rattle.st_el.specs.Levels.{place_at};
 ghost use Rattle.st_el.specs.SourceText.{opened, printed, printed_mark, printed_step, printed_field, front, postfix, left_side, blank_behind, elements, listed, fields_text, arguments, truth, closing, source_text};
 
-use crate::place::{
-    Around, Behind, Place, in_parens, left_of, right_of,
-};
+use crate::place::{Around, Behind, Place, in_parens, left_of, right_of};
 use crate::quote::print_quoted;
 use crate::wrapping::{behind_of, wrapping};
 use crate::{Count, Exp, Node, Seg};
@@ -129,22 +127,26 @@ fn print_front(node: &Node, around: Around, out: &mut Vec<u8>) -> Result<(), NoM
         Node::Seq(parts) => print_elements(parts.as_slice(), around, out),
         Node::Infix(left, sign, right) => {
             print_left(left.get(), *sign, around, out)?;
-            print_at(
-                right.get(),
-                Place::at(around, right_of(*sign)),
-                out,
-            )
+            print_at(right.get(), Place::at(around, right_of(*sign)), out)
         }
         Node::Binary(left, sign, right) => {
             print_left(left.get(), *sign, around, out)?;
-            print_at(
-                right.get(),
-                Place::at(around, right_of(*sign)),
-                out,
-            )
+            print_at(right.get(), Place::at(around, right_of(*sign)), out)
         }
-        Node::Not(e) => print_between(e.get(), Place::at(around, Mark::Tilde.prefix_level()), b"~ ", b"", out),
-        Node::Neg(e) => print_between(e.get(), Place::at(around, Mark::Minus.prefix_level()), b"- ", b"", out),
+        Node::Not(e) => print_between(
+            e.get(),
+            Place::at(around, Mark::Tilde.prefix_level()),
+            b"~ ",
+            b"",
+            out,
+        ),
+        Node::Neg(e) => print_between(
+            e.get(),
+            Place::at(around, Mark::Minus.prefix_level()),
+            b"- ",
+            b"",
+            out,
+        ),
         Node::Arith(e) => {
             print_between(e.get(), Place::whole(Around::Arithmetic), b"$(", b")", out)
         }

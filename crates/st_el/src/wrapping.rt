@@ -5,9 +5,7 @@ ghost use Rattle.st_el.specs.SourceText.{opened, printed, printed_mark};
 ghost use Rattle.st_el.specs.Wrappings.{level_of, takes_in, has_bar, is_arithmetic, is_count, suits, wrapping};
 ghost use Rattle.st_el.specs.declared.place.Wrapping.TheVariants.{Bare, Parens};
 
-use crate::place::{
-    Around, Behind, OPERAND_LEVEL, Place, SEQUENCE_LEVEL, Wrapping,
-};
+use crate::place::{Around, Behind, OPERAND_LEVEL, Place, SEQUENCE_LEVEL, Wrapping};
 use crate::{Count, Exp, Node};
 use st_num::Mark;
 

@@ -5,6 +5,7 @@ pub mod OrderLaws
 pub mod TemplateForms
 pub mod ReadingComplete
 pub mod ReadingSound
+pub mod ReservedWords
 pub mod TagWords
 pub mod Atoms
 pub mod Tags

@@ -18,6 +18,7 @@ use Rattle.st_il.specs.declared.reading.Frame.TheVariants.{Open, Left, Elements}
 use Rattle.st_il.specs.declared.reading.State as code
 use Rattle.st_il.specs.declared.reading.State.TheVariants.{Due, Read}
 use Rattle.st_num.specs.Signs.{left_of, right_of}
+use Rattle.st_num.specs.declared.limit.TheConstants.{HIGHEST_TREE}
 use Rattle.st_il.specs.Notation.{role_of}
 use Rattle.st_il.specs.Template.{template_height}
 
@@ -93,7 +94,7 @@ closed (Elements parts) t = template.Seq (parts ++ t ∷ [])
 
 -- the template, where it is not too high
 abbrev pub limited : Template → Option Template
-limited t = if nat_le (template_height t) 100 then Some t else None
+limited t = if nat_le (template_height t) HIGHEST_TREE then Some t else None
 
 -- the frames that bind tighter than a sign of this level end
 abbrev pub reduce : ℕ → Template → List Frame → Option (Template × List Frame)

@@ -2,6 +2,7 @@
 use Rattle.std.specs.Prelude.{◌≡◌, ◌≢◌, ℕ, ◌+◌, ◌≤◌, max, List, [], ◌∷◌, ◌++◌, flat_map, codes}
 use Rattle.std.specs.List.{AllByRecursion}
 use Rattle.st_num.specs.Signs.{spelling}
+use Rattle.st_num.specs.declared.limit.TheConstants.{HIGHEST_TREE}
 use Rattle.st_il.specs.declared.template.Template.{Template, fold-Template}
 use Rattle.st_il.specs.declared.template.Template.TheOpen.{Template-F}
 use Rattle.st_il.specs.declared.template.Word.{Word}
@@ -21,10 +22,10 @@ template_height_at (Template-F.Bracket opening inside) = 1 + inside
 abbrev pub template_height : Template → ℕ
 template_height = fold-Template ℕ template_height_at
 
--- a notation with its types as holes, of height at most 100
+-- a notation with its types as holes, which is not too high
 pub record IsTemplate (t : Template) : Type 0 where
   pub notation : IsNotation 7 t
-  pub height : template_height t ≤ 100
+  pub height : template_height t ≤ HIGHEST_TREE
 
 -- ---- tags
 

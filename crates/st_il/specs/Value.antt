@@ -1,6 +1,7 @@
--- Values: of height at most 1,000, and all their texts, tags and field names are texts.
+-- Values: they are not too high, and all their texts, tags and field names are texts.
 use Rattle.std.specs.Prelude.{◌≡◌, ℕ, ◌≤◌, ◌⊎◌, List, [], ◌∷◌, flat_map, map, Some, None, IsUtf8}
 use Rattle.std.specs.List.{All}
+use Rattle.st_num.specs.declared.limit.TheConstants.{HIGHEST_VALUE}
 use Rattle.st_il.specs.declared.value.Value.{Value, fold-Value}
 use Rattle.st_il.specs.declared.value.Value.TheOpen.{Value-F}
 use Rattle.st_il.specs.Height.{height}
@@ -38,5 +39,5 @@ abbrev pub texts_of : Value → List (List ℕ)
 texts_of = fold-Value (List (List ℕ)) texts_at
 
 pub record IsValue (value : Value) : Type 0 where
-  pub height : height value ≤ 1000
+  pub height : height value ≤ HIGHEST_VALUE
   pub texts : All IsText (texts_of value)

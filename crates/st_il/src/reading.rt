@@ -13,7 +13,7 @@ use crate::template::{
     Enclosure, Role, Word, is_within, left_of, level_of, right_of, role_of, sign_level,
 };
 use crate::word::words;
-use st_num::{Boxed, Mark, Name, NoMemory, Row};
+use st_num::{Boxed, HIGHEST_TREE, Mark, Name, NoMemory, Row};
 use std::alloc::Global;
 
 /// A part of a template that waits for what stands behind it.
@@ -284,7 +284,7 @@ fn closed(alloc: Global, frame: Frame, template: Template) -> Result<Template, N
 fn limited(template: Template) -> Option<Template>
     ensures { result ≡ spec.limited template }
 {
-    if is_within(&template, 100) {
+    if is_within(&template, u32::from(HIGHEST_TREE)) {
         Some(template)
     } else {
         None

@@ -2,6 +2,7 @@
 use Rattle.std.specs.Prelude.{◌≡◌, ◌≢◌, ℕ, ◌+◌, ◌≤◌, List, [], ◌∷◌, ◌++◌, length, map, All, Contains, Result, Ok, Err}
 use Rattle.st_il.specs.declared.small.Small.{Small}
 use Rattle.st_il.specs.declared.small.SmallRule.{SmallRule}
+use Rattle.st_num.specs.declared.limit.TheConstants.{MOST_PARTS}
 use Rattle.st_il.specs.Small.{IsLower, IsUpper, IsWordOf, IsSmall, AreDistinct, reserved, syntax_def, relation_def, rule_def}
 use Rattle.st_iltext.specs.declared.fault.TextFault.{TextFault}
 use Rattle.st_iltext.specs.declared.fault.TextFault.TheVariants.{Malformed, Memory}
@@ -27,7 +28,7 @@ pub record IsSyntax (x : List ℕ) (tags : List (List ℕ)) : Type 0 where
   pub unreserved : Contains reserved x → ⊥
   pub atoms : All (IsWordOf IsUpper) tags
   pub some : 1 ≤ length tags
-  pub few : length tags ≤ 4095
+  pub few : length tags ≤ MOST_PARTS
   pub distinct : AreDistinct tags
 
 -- the specification with these first two lines and these rules

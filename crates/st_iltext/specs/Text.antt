@@ -1,6 +1,7 @@
 -- Text trees: words, quoted texts and lists in parentheses, each of one spelling.
 use Rattle.std.specs.Prelude.{◌≡◌, ℕ, ◌+◌, ◌≤◌, max, List, [], ◌∷◌, ◌++◌, length, flat_map, Bool, true, ◌&&◌, ◌||◌, ◌==◌, nat_le, if◌then◌else◌, ◌⊎◌}
 use Rattle.std.specs.List.{list_all}
+use Rattle.st_num.specs.declared.limit.TheConstants.{MOST_PARENTHESES}
 pub use Rattle.st_il.specs.Value.{IsTextByte, IsText}
 
 mutual
@@ -72,19 +73,15 @@ abbrev mutual
   AreSpelled none = Unit {0}
   AreSpelled (more t ts) = IsSpelled t × AreSpelled ts
 
--- the most parentheses that a text may have open at once
-abbrev pub most_open : ℕ
-most_open = 2000
-
--- the tree has a text
+-- the tree has a text, in which not too many parentheses are open at once
 pub record HasText (t : TextTree) : Type 0 where
   pub spelled : IsSpelled t
-  pub shallow : depth t ≤ most_open
+  pub shallow : depth t ≤ MOST_PARENTHESES
 
 -- each tree of the row has a text
 pub record HaveTexts (ts : TextTrees) : Type 0 where
   pub spelled : AreSpelled ts
-  pub shallow : row_depth ts ≤ most_open
+  pub shallow : row_depth ts ≤ MOST_PARENTHESES
 
 -- the bytes are the text of this tree
 pub record TreeText (t : TextTree) (bytes : List ℕ) : Type 0 where

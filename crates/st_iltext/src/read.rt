@@ -10,18 +10,15 @@ use crate::front::{after, closes, ends};
 use crate::quote::read_quote;
 use crate::word::{is_word_byte, read_word};
 use crate::{TextFault, TextTree};
-use st_num::Row;
+use st_num::{MOST_PARENTHESES, Row};
 use std::alloc::Global;
-
-/// The most parentheses that a text may have open at once.
-const MOST_OPEN: usize = 2000;
 
 /// The tree whose text the bytes are.
 #[tactic(auto, using(crate::proofs::Wholes::tree_steps))]
 pub fn read_tree(alloc: Global, bytes: &[u8]) -> Result<TextTree, TextFault>
     ensures { Answers result (λ tree. TreeText (tree_of tree) bytes.now) (IsNoTree bytes.now) }
 {
-    let (tree, rest) = read_within(alloc, bytes, MOST_OPEN)?;
+    let (tree, rest) = read_within(alloc, bytes, usize::from(MOST_PARENTHESES))?;
     if !rest.is_empty() {
         return Err(MALFORMED);
     }
@@ -35,7 +32,7 @@ pub fn read_front(alloc: Global, bytes: &[u8]) -> Result<(TextTree, &[u8]), Text
     ensures { Answers result (λ read. FrontText (tree_of read.0) bytes.now read.1.now)
         (IsNoFront bytes.now) }
 {
-    let (tree, rest) = read_within(alloc, bytes, MOST_OPEN)?;
+    let (tree, rest) = read_within(alloc, bytes, usize::from(MOST_PARENTHESES))?;
     Ok((tree, rest))
 }
 
@@ -44,7 +41,7 @@ pub fn read_front(alloc: Global, bytes: &[u8]) -> Result<(TextTree, &[u8]), Text
 pub fn read_row(alloc: Global, bytes: &[u8]) -> Result<Row<TextTree>, TextFault>
     ensures { Answers result (λ trees. RowText (trees_of trees) bytes.now) (IsNoRow bytes.now) }
 {
-    let (trees, rest) = read_row_within(alloc, bytes, MOST_OPEN)?;
+    let (trees, rest) = read_row_within(alloc, bytes, usize::from(MOST_PARENTHESES))?;
     if !rest.is_empty() {
         return Err(MALFORMED);
     }
