@@ -6,7 +6,7 @@ pub mod TemplateForms
 pub mod ReadingComplete
 pub mod ReadingSound
 pub mod ReservedWords
-pub mod TagWords
+pub mod TagParts
 pub mod Atoms
 pub mod Tags
 pub mod ReadingLoop

@@ -18,6 +18,7 @@ mod reserved;
 mod same;
 mod small;
 mod small_il;
+mod tag_part;
 mod template;
 #[cfg(test)]
 mod tests;
@@ -25,7 +26,6 @@ mod tree;
 mod ty;
 mod type_rule;
 mod value;
-mod word;
 
 pub use copy::{copy_env, copy_fields, copy_ty, copy_tys, copy_value, copy_values};
 pub use definition::{

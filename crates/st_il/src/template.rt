@@ -1,10 +1,10 @@
-//! Templates: notations with their types as holes, and the words of their tags.
+//! Templates: notations with their types as holes, and the parts of their tags.
 
 ghost use Rattle.std.specs.Prelude.{◌≡◌, nat_le, map};
 ghost use Rattle.st_num.specs.Signs.{left_of, right_of};
 ghost use Rattle.st_il.specs.Height.{highest};
 ghost use Rattle.st_il.specs.Notation.{role_of, has_role};
-ghost use Rattle.st_il.specs.Reading.{sign_level, level_of};
+ghost use Rattle.st_il.specs.inner.Reading.{sign_level, level_of};
 ghost use Rattle.st_il.specs.Template.{template_height};
 
 use st_num::{Boxed, Grouping, Mark, Name, Row};
@@ -22,7 +22,7 @@ pub enum Template {
 
 /// A part of a tag. The parts stand with one space between them.
 #[derive(Drop)]
-pub enum Word {
+pub enum TagPart {
     Hole,
     Atom(Name),
     Sign(Mark),

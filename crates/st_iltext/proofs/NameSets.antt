@@ -10,7 +10,7 @@ use Rattle.std.proofs.lemmas.List.Quantifiers.{all_pairs_push}
 use Rattle.std.proofs.lemmas.Slice.Eq.{bytes_eq-Decides}
 use Rattle.indexmap.specs.IndexSet.{insert_key}
 use Rattle.st_il.specs.Small.{AreDistinct}
-use Rattle.st_iltext.specs.Names.{Adds}
+use Rattle.st_iltext.specs.inner.Names.{Adds}
 
 -- a name is in a set exactly where a test for it finds it
 pub any_name : (name : List ℕ) (keys : List (List ℕ)) → Decides (list_any (λ key. pointwise eqb name key) keys) (Contains keys name)

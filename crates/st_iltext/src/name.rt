@@ -2,7 +2,7 @@
 
 ghost use Rattle.std.specs.Prelude.{◌≡◌, ◌↔◌, All, Contains, IsTrue, IfOk, MatchOption};
 ghost use Rattle.st_il.specs.Small.{IsLower, IsUpper, IsWordOf, AreDistinct};
-ghost use Rattle.st_iltext.specs.Names.{Adds};
+ghost use Rattle.st_iltext.specs.inner.Names.{Adds};
 
 use indexmap::IndexSet;
 use st_num::{Name, NoMemory};

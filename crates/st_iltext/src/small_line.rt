@@ -4,22 +4,20 @@ ghost use Rattle.std.specs.Prelude.{◌≡◌, ◌≢◌, ◌↔◌, ◌+◌, �
 ghost use Rattle.st_il.specs.declared.small.SmallRule.{SmallRule as Rule};
 ghost use Rattle.st_il.specs.Small.{IsLower, IsUpper, IsWordOf, IsSmall, IsSmallRule, rule_names};
 ghost use Rattle.st_iltext.specs.IlText.{lines_text};
-ghost use Rattle.st_iltext.specs.Reading.{IsNoTree};
-ghost use Rattle.st_iltext.specs.SmallReading.{IsSyntax, syntax_line, relation_line, rule_line, small_of, ReadsHead, ReadsRules};
-ghost use Rattle.st_iltext.specs.SmallShapes.{rule_of};
-ghost use Rattle.st_iltext.specs.Text.{TreeText};
-ghost use Rattle.st_iltext.specs.Trees.{tree_of};
+ghost use Rattle.st_text.specs.Reading.{IsNoTree};
+ghost use Rattle.st_iltext.specs.inner.SmallReading.{IsSyntax, syntax_line, relation_line, rule_line, small_of, ReadsHead, ReadsRules};
+ghost use Rattle.st_iltext.specs.inner.SmallShapes.{rule_of};
+ghost use Rattle.st_text.specs.Text.{TreeText};
+ghost use Rattle.st_text.specs.Trees.{tree_of};
 
-use crate::line::next_line;
 use crate::name::{
     add_name, are_upper_words, distinct_names, has_name, is_lower_word, is_upper_word,
 };
-use crate::read::read_tree;
 use crate::small::{read_relation, read_rule, read_syntax, read_tags};
-use crate::{TextFault, TextTree};
 use indexmap::IndexSet;
 use st_il::{SmallRule, is_reserved};
 use st_num::{MOST_DEFINITIONS, MOST_PARTS, Name, NoMemory, Row};
+use st_text::{TextFault, TextTree, next_line, read_tree};
 use std::alloc::Global;
 
 /// What stands in the first two lines.

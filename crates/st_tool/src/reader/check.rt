@@ -2,7 +2,7 @@
 
 ghost use Rattle.std.specs.Prelude.{◌≡◌, ◌↔◌, All, Contains, IsTrue, IfOk, MatchOption};
 ghost use Rattle.st_il.specs.Small.{rule_names, AreDistinct, IsSmall};
-ghost use Rattle.st_tool.specs.SmallForm.{names_of, Adds, GoesBetween, IsOfWords};
+ghost use Rattle.st_tool.specs.inner.SmallForm.{names_of, Adds, GoesBetween, IsOfWords};
 
 use indexmap::IndexSet;
 use st_il::{Small, SmallRule, is_reserved};
