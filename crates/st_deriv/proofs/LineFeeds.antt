@@ -1,8 +1,8 @@
 -- The texts of lines have no line feed.
 use Rattle.std.proofs.Common.{◌≡◌, ◌≢◌, ℕ, zero, suc, ◌<◌, List, [], ◌∷◌, ◌++◌, flat_map, true, sym, ap, subst, arith, inl, inr}
 use Rattle.std.specs.List.{All, list_all}
-use Rattle.st_iltext.specs.Text.{TextTree, word, quote, list, TextTrees, none, more, escape_letter, escaped, is_word_byte, text, row_text, behind, IsSpelled, AreSpelled}
-use Rattle.st_iltext.proofs.Bytes.{and_true, escaped_forms}
+use Rattle.st_text.specs.Text.{TextTree, word, quote, list, TextTrees, none, more, escape_letter, escaped, is_word_byte, text, row_text, behind, IsSpelled, AreSpelled}
+use Rattle.st_text.proofs.Bytes.{and_true, escaped_forms}
 use Rattle.st_deriv.specs.LineText.{line_trees}
 use Rattle.st_deriv.specs.Laws.{NoLineFeed}
 

@@ -6,13 +6,13 @@ use Rattle.st_deriv.specs.declared.line.Line.{Line}
 use Rattle.st_deriv.specs.declared.line.Line.TheVariants.{Head, From, Node, Step, End}
 use Rattle.st_deriv.specs.declared.line.NodeLine.{NodeLine}
 use Rattle.st_il.specs.declared.value.Value.{Value}
-use Rattle.st_iltext.specs.Text.{TextTrees, word, quote, list, none, more}
-use Rattle.st_iltext.specs.Trees.{tree_of, trees_of}
-use Rattle.st_iltext.specs.declared.tree.TextTree as program
-use Rattle.st_iltext.specs.declared.fault.TextFault.{TextFault}
-use Rattle.st_iltext.specs.declared.fault.TextFault.TheVariants.{Malformed, Memory}
+use Rattle.st_text.specs.Text.{TextTrees, word, quote, list, none, more}
+use Rattle.st_text.specs.Trees.{tree_of, trees_of}
+use Rattle.st_text.specs.declared.tree.TextTree as program
+use Rattle.st_text.specs.declared.fault.TextFault.{TextFault}
+use Rattle.st_text.specs.declared.fault.TextFault.TheVariants.{Malformed, Memory}
 use Rattle.st_deriv.specs.LineText.{IsRelationName, IsPlainNode, ending_word, node_trees, value_trees}
-use Rattle.st_deriv.specs.Reading.{LineTrees, AreNoLine, AnswersLine, AnswersValues, ValueTrees, AreNoValues, IsNoQuote, IsNoList}
+use Rattle.st_deriv.specs.inner.Reading.{LineTrees, AreNoLine, AnswersLine, AnswersValues, ValueTrees, AreNoValues, IsNoQuote, IsNoList}
 use Rattle.st_deriv.proofs.Parts.{lists, firsts, rests, first_byte, five_is, count, trees_count}
 
 -- ---- what begins with the word of a kind is a line of that kind or none

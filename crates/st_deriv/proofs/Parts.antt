@@ -1,11 +1,11 @@
 -- What single trees and short rows of them are.
 use Rattle.std.proofs.Common.{◌≡◌, ℕ, ◌+◌, List, [], ◌∷◌, length, get_or, Bool, refl, sym, ap, ◌∙◌, arith, rules}
 use Rattle.std.specs.Prelude.{◌↔◌, IsTrue}
-use Rattle.st_iltext.specs.Text.{TextTree, TextTrees, word, quote, list, none, more}
-use Rattle.st_iltext.specs.Trees.{tree_of, trees_of}
-use Rattle.st_iltext.specs.declared.tree.TextTree as program
-use Rattle.st_iltext.specs.declared.tree.TextTree.{List as ListTree, the_lemmas}
-use Rattle.st_deriv.specs.Reading.{IsNoCase}
+use Rattle.st_text.specs.Text.{TextTree, TextTrees, word, quote, list, none, more}
+use Rattle.st_text.specs.Trees.{tree_of, trees_of}
+use Rattle.st_text.specs.declared.tree.TextTree as program
+use Rattle.st_text.specs.declared.tree.TextTree.{List as ListTree, the_lemmas}
+use Rattle.st_deriv.specs.inner.Reading.{IsNoCase}
 
 -- ---- lists of a known length
 

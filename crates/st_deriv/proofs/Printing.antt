@@ -1,8 +1,8 @@
 -- Lines that are written piece by piece.
 use Rattle.std.proofs.Common.{◌≡◌, ℕ, ◌+◌, ◌<◌, List, [], ◌∷◌, ◌++◌, length, drop, get_or, codes, Result, Ok, Err, OnErr, refl, sym, ap, ◌∙◌, append_assoc, append-nil}
 use Rattle.st_il.specs.declared.value.Value.{Value}
-use Rattle.st_iltext.specs.Text.{quoted, text, row_text, behind}
-use Rattle.st_iltext.proofs.CutOff.{Written, written_step, drop-next}
+use Rattle.st_text.specs.Text.{quoted, text, row_text, behind}
+use Rattle.st_text.proofs.CutOff.{Written, written_step, drop-next}
 use Rattle.st_deriv.specs.declared.line.Line.{Line}
 use Rattle.st_deriv.specs.declared.line.Line.TheVariants.{Head, Node}
 use Rattle.st_deriv.specs.declared.line.NodeLine.{NodeLine}

@@ -5,10 +5,10 @@ use Rattle.std.proofs.lemmas.List.{map_push, take_more, take_all}
 use Rattle.std.proofs.lemmas.List.Elements.{All-nil, All-push}
 use Rattle.st_il.specs.declared.value.Value.{Value}
 use Rattle.st_il.specs.declared.value.Value.TheVariants.{Case, outs-Case}
-use Rattle.st_iltext.specs.Trees.{row_of, tree_of, trees_of}
-use Rattle.st_iltext.specs.declared.tree.TextTree as program
+use Rattle.st_text.specs.Trees.{row_of, tree_of, trees_of}
+use Rattle.st_text.specs.declared.tree.TextTree as program
 use Rattle.st_deriv.specs.LineText.{tag_at, tag_of, IsPlainCase, case_tree, value_tree, value_trees}
-use Rattle.st_deriv.specs.Reading.{ValueTrees, AreNoValues, IsNoCase}
+use Rattle.st_deriv.specs.inner.Reading.{ValueTrees, AreNoValues, IsNoCase}
 use Rattle.st_deriv.proofs.Parts.{lists, quotes, firsts, rests}
 
 pub tag_of-Case : (val : Value) (tag : List ℕ) → val ≡ Case tag [] → tag_of val ≡ tag

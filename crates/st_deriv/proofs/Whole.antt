@@ -7,14 +7,15 @@ use Rattle.st_deriv.specs.declared.line.Ending.TheVariants.{Stuck, Fuel, Depth}
 use Rattle.st_deriv.specs.declared.line.Line.{Line}
 use Rattle.st_deriv.specs.declared.line.Line.TheVariants.{Head, From, Node, Step, End}
 use Rattle.st_deriv.specs.declared.line.NodeLine.{NodeLine}
-use Rattle.st_iltext.specs.Text.{TextTrees, row_text, HaveTexts, RowText}
-use Rattle.st_iltext.proofs.NumberWords.{decimal-unique}
-use Rattle.st_iltext.proofs.Unique.{one_row, unique_row}
-use Rattle.st_iltext.specs.Reading.{Answers, IsNoRow}
-use Rattle.st_iltext.specs.declared.fault.TextFault.{TextFault}
-use Rattle.st_iltext.specs.declared.fault.TextFault.TheVariants.{Malformed, Memory}
+use Rattle.st_text.specs.Text.{TextTrees, row_text, HaveTexts, RowText}
+use Rattle.st_text.proofs.NumberWords.{decimal-unique}
+use Rattle.st_text.proofs.Unique.{one_row, unique_row}
+use Rattle.st_text.specs.Reading.{Answers, IsNoRow}
+use Rattle.st_text.specs.declared.fault.TextFault.{TextFault}
+use Rattle.st_text.specs.declared.fault.TextFault.TheVariants.{Malformed, Memory}
 use Rattle.st_deriv.specs.LineText.{IsPlainNode, IsPlainLine, node_trees, line_trees, ending_word, HasText, line_text, LineText, lines_text}
-use Rattle.st_deriv.specs.Reading.{LineTrees, AreNoLine, AnswersLine, IsNoLine}
+use Rattle.st_deriv.specs.inner.Reading.{LineTrees, AreNoLine, AnswersLine}
+use Rattle.st_deriv.specs.LineText.{IsNoLine}
 use Rattle.st_deriv.specs.Laws.{OneText, OneLine, PrintedIsRead}
 use Rattle.st_deriv.proofs.Parts.{words, quotes, lists, firsts, rests, first_byte}
 use Rattle.st_deriv.proofs.Values.{values_unique}

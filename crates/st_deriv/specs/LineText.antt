@@ -11,8 +11,8 @@ use Rattle.st_deriv.specs.declared.line.NodeLine.{NodeLine}
 use Rattle.st_il.specs.declared.value.Value.{Value, out-Value}
 use Rattle.st_il.specs.declared.value.Value.TheOpen.{Value-F}
 use Rattle.st_il.specs.declared.value.Value.TheVariants as value
-use Rattle.st_iltext.specs.Text.{TextTree, TextTrees, word, quote, list, none, more, row_text, HaveTexts}
-use Rattle.st_iltext.specs.Trees.{row_of}
+use Rattle.st_text.specs.Text.{TextTree, TextTrees, word, quote, list, none, more, row_text, HaveTexts}
+use Rattle.st_text.specs.Trees.{row_of}
 
 -- the tag of a case; other values have none
 abbrev pub tag_at : {X : Type 0} → Value-F X → List ℕ
@@ -100,6 +100,10 @@ line_text line = row_text (line_trees line)
 pub record LineText (line : Line) (bytes : List ℕ) : Type 0 where
   pub has : HasText line
   pub is : bytes ≡ line_text line
+
+-- the bytes are the text of no line
+pub record IsNoLine (bytes : List ℕ) : Type 0 where
+  pub never : (line : Line) → LineText line bytes → ⊥
 
 -- the texts of lines, each with a line feed behind it
 abbrev pub lines_text : List Line → List ℕ

@@ -1,15 +1,15 @@
 //! What one text tree of a line stands for.
 
 ghost use Rattle.std.specs.Prelude.{◌≡◌, ◌↔◌, IsTrue, MatchOption, ◌^◌, ◌<◌, decimal};
-ghost use Rattle.st_iltext.specs.Text.{word, quote, list, none};
-ghost use Rattle.st_iltext.specs.Trees.{tree_of, trees_of};
+ghost use Rattle.st_text.specs.Text.{word, quote, list, none};
+ghost use Rattle.st_text.specs.Trees.{tree_of, trees_of};
 ghost use Rattle.st_deriv.specs.LineText.{IsRelationName, case_tree, ending_word};
-ghost use Rattle.st_deriv.specs.Reading.{IsNoQuote, IsNoList, IsNoCase};
-ghost use Rattle.st_deriv.specs.Reading.{IsNoRelation, IsNoNumber, IsNoEnding};
+ghost use Rattle.st_deriv.specs.inner.Reading.{IsNoQuote, IsNoList, IsNoCase};
+ghost use Rattle.st_deriv.specs.inner.Reading.{IsNoRelation, IsNoNumber, IsNoEnding};
 
 use crate::Ending;
 use crate::name::is_relation_name;
-use st_iltext::{TextTree, read_natural};
+use st_text::{TextTree, read_natural};
 
 /// Whether the tree is this word.
 pub(crate) fn is_word(tree: &TextTree, text: &[u8]) -> bool

@@ -2,15 +2,15 @@
 
 ghost use Rattle.std.specs.Prelude.{◌≡◌, ◌++◌, OnOk, OnErr};
 ghost use Rattle.std.specs.List.{All};
-ghost use Rattle.st_iltext.specs.Printing.{IsCutOff};
-ghost use Rattle.st_iltext.specs.Text.{text, behind, row_text};
+ghost use Rattle.st_text.specs.Printing.{IsCutOff};
+ghost use Rattle.st_text.specs.Text.{text, behind, row_text};
 ghost use Rattle.st_deriv.specs.LineText.{tag_of, value_tree, value_trees, ending_word};
 ghost use Rattle.st_deriv.specs.LineText.{HasText, line_text, lines_text};
 ghost use Rattle.st_deriv.specs.declared.line.Line.TheVariants.{Node};
 
 use crate::{Ending, Line, NodeLine};
 use st_il::Value;
-use st_iltext::{print_natural, print_quoted};
+use st_text::{print_natural, print_quoted};
 use st_num::NoMemory;
 
 /// Appends the texts of the lines, each with a line feed behind it.

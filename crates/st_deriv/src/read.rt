@@ -1,11 +1,12 @@
 //! How lines are read.
 
 ghost use Rattle.std.specs.Prelude.{codes};
-ghost use Rattle.st_iltext.specs.Text.{word, more};
-ghost use Rattle.st_iltext.specs.Reading.{Answers};
-ghost use Rattle.st_iltext.specs.Trees.{trees_of};
+ghost use Rattle.st_text.specs.Text.{word, more};
+ghost use Rattle.st_text.specs.Reading.{Answers};
+ghost use Rattle.st_text.specs.Trees.{trees_of};
 ghost use Rattle.st_deriv.specs.LineText.{LineText};
-ghost use Rattle.st_deriv.specs.Reading.{IsNoLine, AnswersLine, AnswersValues};
+ghost use Rattle.st_deriv.specs.inner.Reading.{AnswersLine, AnswersValues};
+ghost use Rattle.st_deriv.specs.LineText.{IsNoLine};
 
 use crate::fault::MALFORMED;
 use crate::part::{
@@ -13,7 +14,7 @@ use crate::part::{
 };
 use crate::{Line, NodeLine};
 use st_il::{Env, Value};
-use st_iltext::{TextFault, TextTree, read_row};
+use st_text::{TextFault, TextTree, read_row};
 use st_num::{Name, Row};
 use std::alloc::Global;
 

@@ -5,7 +5,7 @@ ghost use Rattle.std.specs.List.{All};
 ghost use Rattle.st_deriv.specs.LineText.{HasText};
 
 use crate::{Line, print_lines, read_line};
-use st_iltext::TextFault;
+use st_text::TextFault;
 use st_num::Row;
 use std::alloc::Global;
 use std::test::Fail;

@@ -4,10 +4,10 @@ use Rattle.std.proofs.lemmas.Grind.{common_steps}
 use Rattle.st_el.specs.declared.expression.Exp.{Exp}
 use Rattle.st_el.specs.declared.expression.Node.{Node}
 use Rattle.st_el.specs.declared.expression.Node.TheVariants.{Fields, outs-Fields}
-use Rattle.st_el.specs.declared.place.Around.{Around}
-use Rattle.st_el.specs.declared.place.Around.TheVariants.{Brackets}
-use Rattle.st_el.specs.declared.place.Place.{Place}
-use Rattle.st_el.specs.Levels.{whole}
+use Rattle.st_el.specs.declared.context.Around.{Around}
+use Rattle.st_el.specs.declared.context.Around.TheVariants.{Brackets}
+use Rattle.st_el.specs.declared.context.Context.{Context}
+use Rattle.st_el.specs.Contexts.{whole}
 use Rattle.st_el.specs.SourceText.{front, opened, parts_printed, printed, printed_field, field_text, fields_text}
 
 -- the text of a record
@@ -32,16 +32,16 @@ take-all xs i h = grind (arith, common_steps)
 
 -- what a loop over the fields behind the first has printed in the end
 pub fields-end :
-    (old label first rest new : List ℕ) (fields others : List (List ℕ × Exp)) (field : List ℕ × Exp) (place : Place) (i : ℕ)
+    (old label first rest new : List ℕ) (fields others : List (List ℕ × Exp)) (field : List ℕ × Exp) (context : Context) (i : ℕ)
     → fields ≡ field ∷ others
     → label ≡ old ++ (codes "{" ++ field.0 ++ codes " ")
-    → place ≡ whole Brackets
-    → first ≡ label ++ (printed field.1).at place
+    → context ≡ whole Brackets
+    → first ≡ label ++ (printed field.1).at context
     → rest ≡ first ++ fields_behind (take i others)
     → length others ≤ i
     → new ≡ rest ++ codes "}"
     → new ≡ old ++ (codes "{" ++ fields_text (map printed_field fields) ++ codes "}")
-fields-end old label first rest new fields others field place i e l p f r h n =
+fields-end old label first rest new fields others field context i e l p f r h n =
     n ∙ ap (λ x. x ++ codes "}") (r ∙ ap (λ x. x ++ fields_behind (take i others)) (f ∙ ap (λ x. label ++ (printed field.1).at x) p ∙ ap (λ x. x ++ (printed field.1).at (whole Brackets)) l))
     ∙ ap (λ xs. (((old ++ (codes "{" ++ field.0 ++ codes " ")) ++ (printed field.1).at (whole Brackets)) ++ fields_behind xs) ++ codes "}") (take-all others i h)
     ∙ fields-whole old field.0 ((printed field.1).at (whole Brackets)) (fields_behind others)

@@ -1,21 +1,21 @@
 -- The text of an expression: its tokens, and parentheses round parts that do not suit their places.
 use Rattle.std.specs.Prelude.{ℕ, List, [], ◌∷◌, ◌++◌, map, flat_map, codes, Bool, true, false, not, ◌&&◌}
 use Rattle.std.specs.Fmt.{decimal}
-use Rattle.st_num.specs.Signs.{spelling}
+use Rattle.st_num.specs.Signs.{spelling, level, prefix_level, left_of, right_of}
 use Rattle.st_num.specs.declared.mark.Mark.{Mark}
-use Rattle.st_num.specs.declared.mark.Mark.TheVariants.{TickBracket, TickBrace, CloseParen, CloseBracket, CloseBrace, Caret}
+use Rattle.st_num.specs.declared.mark.Mark.TheVariants.{TickBracket, TickBrace, CloseParen, CloseBracket, CloseBrace, Caret, Tilde, Minus}
 use Rattle.st_scan.specs.Spelling.{quoted}
 use Rattle.st_el.specs.declared.expression.Exp.{Exp, Exp-F, fold-Exp}
 use Rattle.st_el.specs.declared.expression.Node.{Node, out-Node, map-Node, fold-Node}
 use Rattle.st_el.specs.declared.expression.Count.{Count, fold-Count}
 use Rattle.st_el.specs.declared.expression.Count.TheOpen.{Count-F, Node-F, Seg-F}
 use Rattle.st_el.specs.declared.expression.Seg.{Seg, fold-Seg}
-use Rattle.st_el.specs.declared.place.Around.{Around}
-use Rattle.st_el.specs.declared.place.Around.TheVariants.{Brackets, Bars, Arithmetic}
-use Rattle.st_el.specs.declared.place.Behind.TheVariants.{Other, Dot, Plus}
-use Rattle.st_el.specs.declared.place.Place.{Place}
-use Rattle.st_el.specs.declared.place.Wrapping.{Wrapping}
-use Rattle.st_el.specs.Levels.{sign_level, not_level, negation_level, left_of, right_of, place_at, whole, operand_before, position, count, next_element, in_parens}
+use Rattle.st_el.specs.declared.context.Around.{Around}
+use Rattle.st_el.specs.declared.context.Around.TheVariants.{Brackets, Bars, Arithmetic}
+use Rattle.st_el.specs.declared.context.Behind.TheVariants.{Other, Dot, Plus}
+use Rattle.st_el.specs.declared.context.Context.{Context}
+use Rattle.st_el.specs.declared.context.Wrapping.{Wrapping}
+use Rattle.st_el.specs.Contexts.{context_at, whole, operand_before, position, count, next_element, in_parens}
 use Rattle.st_el.specs.Wrappings.{Printed, Marked, Level, takes_in, has_bar, wrapping, opening, ending, around_in}
 
 -- these texts with a text between them
@@ -35,9 +35,9 @@ blank_behind sign = codes " "
 
 abbrev pub joined_by : Around → Printed → Mark → Printed → List ℕ
 joined_by around left sign right =
-    left_side (left.at (place_at around (left_of (sign_level sign))))
+    left_side (left.at (context_at around (left_of (level sign))))
     ++ spelling sign ++ blank_behind sign
-    ++ right.at (place_at around (right_of (sign_level sign)))
+    ++ right.at (context_at around (right_of (level sign)))
 
 -- the elements of a sequence
 abbrev pub elements : Around → List Printed → List ℕ
@@ -101,8 +101,8 @@ front around Node-F.Eps = codes "eps"
 front around (Node-F.Seq parts) = elements around parts
 front around (Node-F.Infix left sign right) = joined_by around left sign right
 front around (Node-F.Binary left sign right) = joined_by around left sign right
-front around (Node-F.Not e) = codes "~ " ++ e.at (place_at around not_level)
-front around (Node-F.Neg e) = codes "- " ++ e.at (place_at around negation_level)
+front around (Node-F.Not e) = codes "~ " ++ e.at (context_at around (prefix_level Tilde))
+front around (Node-F.Neg e) = codes "- " ++ e.at (context_at around (prefix_level Minus))
 front around (Node-F.Arith e) = codes "$(" ++ e.at (whole Arithmetic) ++ codes ")"
 front around (Node-F.Paren e) = codes "(" ++ e.at (whole (in_parens around)) ++ codes ")"
 front around (Node-F.Bracket sign e) =
@@ -122,9 +122,9 @@ abbrev pub wrapped : Wrapping → Around → Level → List ℕ
 wrapped wrapping around node =
     opening wrapping ++ front (around_in wrapping around) node ++ postfix node ++ ending wrapping
 
--- the text of a level at a place
-abbrev pub text_at : Level → Place → List ℕ
-text_at node place = wrapped (wrapping place node) place.around node
+-- the text of a level at a context
+abbrev pub text_at : Level → Context → List ℕ
+text_at node context = wrapped (wrapping context node) context.around node
 
 -- ---- all levels
 

@@ -1,19 +1,21 @@
--- Whether a part suits its place, and what is written round it otherwise.
+-- Whether a part suits its context, and what is written round it otherwise.
 use Rattle.std.specs.Prelude.{ℕ, List, [], codes, Bool, true, false, not, ◌&&◌, nat_le, if◌then◌else◌}
+use Rattle.st_num.specs.Signs.{level, prefix_level}
+use Rattle.st_num.specs.declared.mark.Mark.TheVariants.{Tilde, Minus}
 use Rattle.st_el.specs.declared.expression.Count.TheOpen.{Node-F}
-use Rattle.st_el.specs.declared.place.Around.{Around}
-use Rattle.st_el.specs.declared.place.Around.TheVariants.{Arithmetic, Caret as BehindCaret}
-use Rattle.st_el.specs.declared.place.Behind.{Behind}
-use Rattle.st_el.specs.declared.place.Behind.TheVariants.{Other, Dot, Plus}
-use Rattle.st_el.specs.declared.place.Place.{Place}
-use Rattle.st_el.specs.declared.place.Wrapping.{Wrapping}
-use Rattle.st_el.specs.declared.place.Wrapping.TheVariants.{Bare, Parens, Dollar}
-use Rattle.st_el.specs.Levels.{sign_level, not_level, sequence_level, negation_level, operand_level, in_parens}
+use Rattle.st_el.specs.declared.context.Around.{Around}
+use Rattle.st_el.specs.declared.context.Around.TheVariants.{Arithmetic, Caret as BehindCaret}
+use Rattle.st_el.specs.declared.context.Behind.{Behind}
+use Rattle.st_el.specs.declared.context.Behind.TheVariants.{Other, Dot, Plus}
+use Rattle.st_el.specs.declared.context.Context.{Context}
+use Rattle.st_el.specs.declared.context.Wrapping.{Wrapping}
+use Rattle.st_el.specs.declared.context.Wrapping.TheVariants.{Bare, Parens, Dollar}
+use Rattle.st_el.specs.Contexts.{sequence_level, operand_level, in_parens}
 
 -- what is known of a part: whether it begins with a bar where this is behind it, and its texts
 pub record Printed : Type 0 where
   pub begins_with_bar : Behind → Bool
-  pub at : Place → List ℕ
+  pub at : Context → List ℕ
 
 -- the mark of an iteration: what it is to the part before it, and how it is written
 pub record Marked : Type 0 where
@@ -27,10 +29,10 @@ Level = Node-F Marked Printed (List ℕ) Printed
 -- how tightly it holds together
 abbrev pub level_of : Level → ℕ
 level_of (Node-F.Seq parts) = sequence_level
-level_of (Node-F.Infix left sign right) = sign_level sign
-level_of (Node-F.Binary left sign right) = sign_level sign
-level_of (Node-F.Not e) = not_level
-level_of (Node-F.Neg e) = negation_level
+level_of (Node-F.Infix left sign right) = level sign
+level_of (Node-F.Binary left sign right) = level sign
+level_of (Node-F.Not e) = prefix_level Tilde
+level_of (Node-F.Neg e) = prefix_level Minus
 level_of node = operand_level
 
 abbrev pub is_plus : Behind → Bool
@@ -56,7 +58,7 @@ has_bar node = false
 
 -- its signs are those of arithmetic, which stand in `$( )` alone
 abbrev pub is_arithmetic : Level → Bool
-is_arithmetic (Node-F.Binary left sign right) = nat_le 15 (sign_level sign)
+is_arithmetic (Node-F.Binary left sign right) = nat_le 15 (level sign)
 is_arithmetic (Node-F.Neg e) = true
 is_arithmetic node = false
 
@@ -67,21 +69,21 @@ is_count (Node-F.Name name) = true
 is_count (Node-F.Arith e) = true
 is_count node = false
 
-abbrev pub suits : Place → Level → Bool
-suits place node =
-    nat_le place.least (level_of node)
-    && not (takes_in place.behind node)
-    && not (place.bar_closes && has_bar node)
+abbrev pub suits : Context → Level → Bool
+suits context node =
+    nat_le context.least (level_of node)
+    && not (takes_in context.behind node)
+    && not (context.bar_closes && has_bar node)
 
 -- what is written round a part
-abbrev pub wrapping_in : Around → Place → Level → Wrapping
-wrapping_in BehindCaret place node = if is_count node then Bare else Dollar
-wrapping_in Arithmetic place node = if suits place node then Bare else Parens
-wrapping_in around place node =
-    if is_arithmetic node then Dollar else if suits place node then Bare else Parens
+abbrev pub wrapping_in : Around → Context → Level → Wrapping
+wrapping_in BehindCaret context node = if is_count node then Bare else Dollar
+wrapping_in Arithmetic context node = if suits context node then Bare else Parens
+wrapping_in around context node =
+    if is_arithmetic node then Dollar else if suits context node then Bare else Parens
 
-abbrev pub wrapping : Place → Level → Wrapping
-wrapping place node = wrapping_in place.around place node
+abbrev pub wrapping : Context → Level → Wrapping
+wrapping context node = wrapping_in context.around context node
 
 -- ---- what is written round it
 

@@ -7,10 +7,10 @@
 //! `specs/SourceText.antt`, how an expression is printed. Both are told in `docs/source-trees.md`.
 #![tactic(auto)]
 
+mod context;
 mod definition;
 mod expression;
 mod notation;
-mod place;
 mod plain_definition;
 mod plain_expression;
 mod plain_parts;

@@ -6,10 +6,10 @@ ghost use Rattle.st_el.specs.Plain.{plain_exp, plain_typ, plain_notation, plain_
 ghost use Rattle.st_el.specs.Erasure.{plain_token, plain_hint, is_mode, kept_hints, plain_body, plain_def_node, plain_def, is_fragment, alternatives_of, alternatives, joined, joined_syntax, joined_at, plain_defs};
 ghost use Rattle.st_el.specs.declared.definition.DefNode.TheVariants.{Rule, Clause};
 
-use crate::plain_expression::{NOWHERE, plain_exp, plain_exps};
+use crate::plain_expression::{plain_exp, plain_exps};
 use crate::plain_parts::{plain_notation, plain_notations, plain_prems, plain_typ, plain_typs};
 use crate::{Body, Def, DefNode, Exp, Hint, Notation, Prem, Typ};
-use st_num::{Name, NoMemory, Row};
+use st_num::{Name, NoMemory, Row, Span};
 use st_scan::Token;
 use std::alloc::Global;
 
@@ -19,7 +19,7 @@ fn plain_tokens(alloc: Global, tokens: &[Token]) -> Result<Row<Token>, NoMemory>
     let mut plain = Row::new(alloc);
     for token in tokens {
         plain.push(Token {
-            at: NOWHERE,
+            at: Span::NOWHERE,
             touching: false,
             kind: token.kind.copy(alloc)?,
         })?;
@@ -182,7 +182,7 @@ fn plain_def(alloc: Global, def: &Def) -> Result<Def, NoMemory>
 {
     let hints = kept_hints(alloc, &def.node, &def.hints)?;
     Ok(Def {
-        at: NOWHERE,
+        at: Span::NOWHERE,
         hints,
         node: plain_def_node(alloc, &def.node)?,
     })
@@ -308,7 +308,7 @@ fn push_joined(
                 body: joined_body(alloc, body, name, behind)?,
             };
             plain.push(Def {
-                at: NOWHERE,
+                at: Span::NOWHERE,
                 hints: Row::new(alloc),
                 node,
             })

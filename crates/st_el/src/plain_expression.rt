@@ -7,19 +7,15 @@ use crate::{Count, Exp, Node, Seg};
 use st_num::{Boxed, Name, NoMemory, Row, Span};
 use std::alloc::Global;
 
-/// The place of what stands in no text.
-pub const NOWHERE: Span = Span {
-    file: 0,
-    line: 0,
-    column: 0,
-};
-
 #[cycle(plain)]
 pub fn plain_exp(alloc: Global, exp: &Exp) -> Result<Exp, NoMemory>
     ensures { IfOk result (λ plain. plain ≡ plain_exp exp.now) }
 {
     let node = plain_node(alloc, &exp.node)?;
-    Ok(Exp { at: NOWHERE, node })
+    Ok(Exp {
+        at: Span::NOWHERE,
+        node,
+    })
 }
 
 #[cycle(plain)]

@@ -3,9 +3,9 @@
 ghost use Rattle.std.specs.Prelude.{◌≡◌, map, IfOk};
 ghost use Rattle.st_el.specs.Plain.{plain_typ, plain_typ_node, plain_notation, plain_not_node, plain_prem, plain_prem_node};
 
-use crate::plain_expression::{NOWHERE, plain_count, plain_exp};
+use crate::plain_expression::{plain_count, plain_exp};
 use crate::{NotNode, Notation, Prem, PremNode, Typ, TypNode};
-use st_num::{Boxed, NoMemory, Row};
+use st_num::{Boxed, NoMemory, Row, Span};
 use std::alloc::Global;
 
 #[cycle(plain_typ)]
@@ -13,7 +13,10 @@ pub fn plain_typ(alloc: Global, typ: &Typ) -> Result<Typ, NoMemory>
     ensures { IfOk result (λ plain. plain ≡ plain_typ typ.now) }
 {
     let node = plain_typ_node(alloc, &typ.node)?;
-    Ok(Typ { at: NOWHERE, node })
+    Ok(Typ {
+        at: Span::NOWHERE,
+        node,
+    })
 }
 
 #[cycle(plain_typ)]
@@ -54,7 +57,10 @@ pub fn plain_notation(alloc: Global, notation: &Notation) -> Result<Notation, No
     ensures { IfOk result (λ plain. plain ≡ plain_notation notation.now) }
 {
     let node = plain_not_node(alloc, &notation.node)?;
-    Ok(Notation { at: NOWHERE, node })
+    Ok(Notation {
+        at: Span::NOWHERE,
+        node,
+    })
 }
 
 #[cycle(plain_notation)]
@@ -93,7 +99,10 @@ pub fn plain_prem(alloc: Global, prem: &Prem) -> Result<Prem, NoMemory>
     ensures { IfOk result (λ plain. plain ≡ plain_prem prem.now) }
 {
     let node = plain_prem_node(alloc, &prem.node)?;
-    Ok(Prem { at: NOWHERE, node })
+    Ok(Prem {
+        at: Span::NOWHERE,
+        node,
+    })
 }
 
 #[cycle(plain_prem)]

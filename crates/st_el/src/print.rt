@@ -2,13 +2,11 @@
 
 ghost use Rattle.std.specs.Prelude.{◌≡◌, ◌++◌, OnOk, OnErr, map, flat_map, codes};
 ghost use Rattle.std.specs.Fmt.{decimal};
-ghost use Rattle.st_num.specs.Signs.{spelling};
-ghost use Rattle.st_el.specs.Levels.{left_of, place_at, sign_level};
-ghost use Rattle.st_el.specs.SourceText.{opened, printed, printed_mark, printed_step, printed_field, front, postfix, left_side, blank_behind, elements, listed, fields_text, arguments, truth, closing, source_text};
+ghost use Rattle.st_num.specs.Signs.{spelling, level, left_of};
+ghost use Rattle.st_el.specs.Contexts.{context_at, operand_before};
+ghost use Rattle.st_el.specs.SourceText.{opened, printed, printed_mark, printed_step, printed_field, front, postfix, left_side, blank_behind, joined_by, elements, listed, fields_text, arguments, truth, closing, source_text};
 
-use crate::place::{
-    Around, Behind, NEGATION_LEVEL, NOT_LEVEL, Place, in_parens, left_of, right_of, sign_level,
-};
+use crate::context::{Around, Behind, Context, in_parens, left_of, right_of};
 use crate::quote::print_quoted;
 use crate::wrapping::{behind_of, wrapping};
 use crate::{Count, Exp, Node, Seg};
@@ -83,14 +81,14 @@ fn print_function(name: &Name, out: &mut Vec<u8>) -> Result<(), NoMemory>
     Ok(())
 }
 
-/// Prints a part at its place.
+/// Prints a part in its context.
 #[cycle(print)]
-fn print_at(exp: &Exp, place: Place, out: &mut Vec<u8>) -> Result<(), NoMemory>
-    ensures { OnOk result (out.new.items ≡ out.old.items ++ (printed exp.now).at place) }
+fn print_at(exp: &Exp, context: Context, out: &mut Vec<u8>) -> Result<(), NoMemory>
+    ensures { OnOk result (out.new.items ≡ out.old.items ++ (printed exp.now).at context) }
 {
-    let wrapping = wrapping(&exp.node, place);
+    let wrapping = wrapping(&exp.node, context);
     out.extend_from_slice(wrapping.opening())?;
-    print_front(&exp.node, wrapping.around_in(place.around), out)?;
+    print_front(&exp.node, wrapping.around_in(context.around), out)?;
     print_postfix(&exp.node, out)?;
     out.extend_from_slice(wrapping.ending())?;
     Ok(())
@@ -100,18 +98,59 @@ fn print_at(exp: &Exp, place: Place, out: &mut Vec<u8>) -> Result<(), NoMemory>
 #[cycle(print)]
 fn print_between(
     exp: &Exp,
-    place: Place,
+    context: Context,
     before: &[u8],
     behind: &[u8],
     out: &mut Vec<u8>,
 ) -> Result<(), NoMemory>
     ensures { OnOk result (out.new.items
-        ≡ out.old.items ++ (before.now ++ (printed exp.now).at place ++ behind.now)) }
+        ≡ out.old.items ++ (before.now ++ (printed exp.now).at context ++ behind.now)) }
 {
     out.extend_from_slice(before)?;
-    print_at(exp, place, out)?;
+    print_at(exp, context, out)?;
     out.extend_from_slice(behind)?;
     Ok(())
+}
+
+/// Prints an operand with this behind it.
+#[cycle(print)]
+fn print_operand(
+    exp: &Exp,
+    around: Around,
+    behind: Behind,
+    out: &mut Vec<u8>,
+) -> Result<(), NoMemory>
+    ensures { OnOk result (out.new.items
+        ≡ out.old.items ++ (printed exp.now).at (operand_before around behind)) }
+{
+    print_at(exp, Context::operand_before(around, behind), out)
+}
+
+/// Prints two parts with a sign between them.
+#[cycle(print)]
+fn print_joined(
+    left: &Exp,
+    sign: Mark,
+    right: &Exp,
+    around: Around,
+    out: &mut Vec<u8>,
+) -> Result<(), NoMemory>
+    ensures { OnOk result (out.new.items
+        ≡ out.old.items ++ joined_by around (printed left.now) sign (printed right.now)) }
+{
+    print_left(left, sign, around, out)?;
+    print_at(right, Context::at(around, right_of(sign)), out)
+}
+
+/// Prints parts in parentheses.
+#[cycle(print)]
+fn print_tuple(parts: &[Exp], out: &mut Vec<u8>) -> Result<(), NoMemory>
+    ensures { OnOk result (out.new.items
+        ≡ out.old.items ++ (codes "(" ++ listed (map printed parts.now) ++ codes ")")) }
+{
+    print_word(b"(", out)?;
+    print_listed(parts, out)?;
+    print_word(b")", out)
 }
 
 /// Prints what stands before a postfix, or the whole where there is none.
@@ -119,7 +158,7 @@ fn print_between(
 fn print_front(node: &Node, around: Around, out: &mut Vec<u8>) -> Result<(), NoMemory>
     ensures { OnOk result (out.new.items ≡ out.old.items ++ front around (opened node.now)) }
 {
-    let brackets = Place::whole(Around::Brackets);
+    let brackets = Context::whole(Around::Brackets);
     match node {
         Node::Name(name) | Node::Atom(name) => print_word(name.as_slice(), out),
         Node::Bool(value) => print_word(truth(*value), out),
@@ -127,51 +166,52 @@ fn print_front(node: &Node, around: Around, out: &mut Vec<u8>) -> Result<(), NoM
         Node::Text(text) => print_quoted(text.as_slice(), out),
         Node::Eps => print_word(b"eps", out),
         Node::Seq(parts) => print_elements(parts.as_slice(), around, out),
-        Node::Infix(left, sign, right) => {
-            print_left(left.get(), *sign, around, out)?;
-            print_at(
-                right.get(),
-                Place::at(around, right_of(sign_level(*sign))),
-                out,
-            )
+        Node::Infix(left, sign, right) | Node::Binary(left, sign, right) => {
+            print_joined(left.get(), *sign, right.get(), around, out)
         }
-        Node::Binary(left, sign, right) => {
-            print_left(left.get(), *sign, around, out)?;
-            print_at(
-                right.get(),
-                Place::at(around, right_of(sign_level(*sign))),
-                out,
-            )
-        }
-        Node::Not(e) => print_between(e.get(), Place::at(around, NOT_LEVEL), b"~ ", b"", out),
-        Node::Neg(e) => print_between(e.get(), Place::at(around, NEGATION_LEVEL), b"- ", b"", out),
+        Node::Not(e) => print_between(
+            e.get(),
+            Context::after(around, Mark::Tilde),
+            b"~ ",
+            b"",
+            out,
+        ),
+        Node::Neg(e) => print_between(
+            e.get(),
+            Context::after(around, Mark::Minus),
+            b"- ",
+            b"",
+            out,
+        ),
         Node::Arith(e) => {
-            print_between(e.get(), Place::whole(Around::Arithmetic), b"$(", b")", out)
+            print_between(
+                e.get(),
+                Context::whole(Around::Arithmetic),
+                b"$(",
+                b")",
+                out,
+            )
         }
-        Node::Paren(e) => print_between(e.get(), Place::whole(in_parens(around)), b"(", b")", out),
+        Node::Paren(e) => print_between(
+            e.get(),
+            Context::whole(in_parens(around)),
+            b"(",
+            b")",
+            out,
+        ),
         Node::Bracket(sign, e) => {
             let close = closing(*sign).spelling().as_bytes();
             print_between(e.get(), brackets, sign.spelling().as_bytes(), close, out)
         }
-        Node::Tuple(parts) => {
-            print_word(b"(", out)?;
-            print_listed(parts.as_slice(), out)?;
-            print_word(b")", out)
-        }
+        Node::Tuple(parts) => print_tuple(parts.as_slice(), out),
         Node::Fields(fields) => print_fields(fields.as_slice(), out),
-        Node::Dot(e, _) => print_at(e.get(), Place::operand_before(around, Behind::Dot), out),
+        Node::Dot(e, _) => print_operand(e.get(), around, Behind::Dot, out),
         Node::At(e, _) | Node::Slice(e, _, _) | Node::Update(e, _, _) | Node::Extend(e, _, _) => {
-            print_at(e.get(), Place::operand_before(around, Behind::Other), out)
+            print_operand(e.get(), around, Behind::Other, out)
         }
-        Node::Len(e) => print_between(e.get(), Place::whole(Around::Bars), b"|", b"|", out),
+        Node::Len(e) => print_between(e.get(), Context::whole(Around::Bars), b"|", b"|", out),
         Node::Call(name, _) => print_function(name, out),
-        Node::Iter(e, count) => {
-            print_at(
-                e.get(),
-                Place::operand_before(around, behind_of(count)),
-                out,
-            )
-        }
+        Node::Iter(e, count) => print_operand(e.get(), around, behind_of(count), out),
     }
 }
 
@@ -180,13 +220,13 @@ fn print_front(node: &Node, around: Around, out: &mut Vec<u8>) -> Result<(), NoM
 fn print_postfix(node: &Node, out: &mut Vec<u8>) -> Result<(), NoMemory>
     ensures { OnOk result (out.new.items ≡ out.old.items ++ postfix (opened node.now)) }
 {
-    let brackets = Place::whole(Around::Brackets);
+    let brackets = Context::whole(Around::Brackets);
     match node {
         Node::Dot(_, field) => print_field(field, out),
-        Node::At(_, at) => print_between(at.get(), Place::position(), b"[", b"]", out),
+        Node::At(_, at) => print_between(at.get(), Context::position(), b"[", b"]", out),
         Node::Slice(_, from, length) => {
-            print_between(from.get(), Place::position(), b"[", b" : ", out)?;
-            print_between(length.get(), Place::position(), b"", b"]", out)
+            print_between(from.get(), Context::position(), b"[", b" : ", out)?;
+            print_between(length.get(), Context::position(), b"", b"]", out)
         }
         Node::Update(_, path, part) => {
             print_path(path.as_slice(), out)?;
@@ -198,11 +238,7 @@ fn print_postfix(node: &Node, out: &mut Vec<u8>) -> Result<(), NoMemory>
         }
         Node::Iter(_, count) => print_mark(count, out),
         Node::Call(_, args) if args.is_empty() => Ok(()),
-        Node::Call(_, args) => {
-            print_word(b"(", out)?;
-            print_listed(args.as_slice(), out)?;
-            print_word(b")", out)
-        }
+        Node::Call(_, args) => print_tuple(args.as_slice(), out),
         _ => Ok(()),
     }
 }
@@ -211,11 +247,11 @@ fn print_postfix(node: &Node, out: &mut Vec<u8>) -> Result<(), NoMemory>
 #[cycle(print)]
 fn print_left(left: &Exp, sign: Mark, around: Around, out: &mut Vec<u8>) -> Result<(), NoMemory>
     ensures { OnOk result (out.new.items ≡ out.old.items
-        ++ (left_side ((printed left.now).at (place_at around (left_of (sign_level sign))))
+        ++ (left_side ((printed left.now).at (context_at around (left_of (level sign))))
         ++ spelling sign ++ blank_behind sign)) }
 {
     let start = out.len();
-    print_at(left, Place::at(around, left_of(sign_level(sign))), out)?;
+    print_at(left, Context::at(around, left_of(sign)), out)?;
     if out.len() == start {
         return print_sign(sign, out);
     }
@@ -232,9 +268,9 @@ fn print_elements(parts: &[Exp], around: Around, out: &mut Vec<u8>) -> Result<()
     let Some((first, others)) = parts.split_first() else {
         return Ok(());
     };
-    print_at(first, Place::operand_before(around, Behind::Other), out)?;
+    print_operand(first, around, Behind::Other, out)?;
     for part in others {
-        print_between(part, Place::next_element(around), b" ", b"", out)?;
+        print_between(part, Context::next_element(around), b" ", b"", out)?;
     }
     Ok(())
 }
@@ -247,9 +283,9 @@ fn print_listed(parts: &[Exp], out: &mut Vec<u8>) -> Result<(), NoMemory>
     let Some((first, others)) = parts.split_first() else {
         return Ok(());
     };
-    print_at(first, Place::whole(Around::Brackets), out)?;
+    print_at(first, Context::whole(Around::Brackets), out)?;
     for part in others {
-        print_between(part, Place::whole(Around::Brackets), b", ", b"", out)?;
+        print_between(part, Context::whole(Around::Brackets), b", ", b"", out)?;
     }
     Ok(())
 }
@@ -264,10 +300,10 @@ fn print_fields(fields: &[(Name, Exp)], out: &mut Vec<u8>) -> Result<(), NoMemor
         return print_word(b"{}", out);
     };
     print_label(b"{", &first.0, out)?;
-    print_at(&first.1, Place::whole(Around::Brackets), out)?;
+    print_at(&first.1, Context::whole(Around::Brackets), out)?;
     for field in others {
         print_label(b", ", &field.0, out)?;
-        print_at(&field.1, Place::whole(Around::Brackets), out)?;
+        print_at(&field.1, Context::whole(Around::Brackets), out)?;
     }
     print_word(b"}", out)?;
     Ok(())
@@ -292,10 +328,10 @@ fn print_step(step: &Seg, out: &mut Vec<u8>) -> Result<(), NoMemory>
 {
     match step {
         Seg::Field(name) => print_field(name, out),
-        Seg::At(at) => print_between(at, Place::position(), b"[", b"]", out),
+        Seg::At(at) => print_between(at, Context::position(), b"[", b"]", out),
         Seg::Slice(from, length) => {
-            print_between(from, Place::position(), b"[", b" : ", out)?;
-            print_between(length, Place::position(), b"", b"]", out)
+            print_between(from, Context::position(), b"[", b" : ", out)?;
+            print_between(length, Context::position(), b"", b"]", out)
         }
     }
 }
@@ -308,11 +344,11 @@ fn print_mark(count: &Count, out: &mut Vec<u8>) -> Result<(), NoMemory>
         Count::Star => print_word(b"*", out),
         Count::Plus => print_word(b"+", out),
         Count::Quest => print_word(b"?", out),
-        Count::Times(times) => print_between(times.get(), Place::count(), b"^", b"", out),
+        Count::Times(times) => print_between(times.get(), Context::count(), b"^", b"", out),
         Count::Below(index, times) => {
             print_word(b"^(", out)?;
             print_word(index.as_slice(), out)?;
-            print_between(times.get(), Place::count(), b" < ", b")", out)
+            print_between(times.get(), Context::count(), b" < ", b")", out)
         }
     }
 }
@@ -323,7 +359,7 @@ pub fn print_el(alloc: Global, exp: &Exp, out: &mut Vec<u8>) -> Result<(), NoMem
     ensures err { OnErr result (out.new.items ≡ out.old.items) }
 {
     let mut text = Vec::new(alloc);
-    print_at(exp, Place::whole(Around::Brackets), &mut text)?;
+    print_at(exp, Context::whole(Around::Brackets), &mut text)?;
     out.extend_from_slice(text.as_slice())?;
     Ok(())
 }

@@ -1,15 +1,13 @@
-//! Whether a part suits its place, and what is written round it otherwise.
+//! Whether a part suits its context, and what is written round it otherwise.
 
 ghost use Rattle.std.specs.Prelude.{◌≡◌, if◌then◌else◌};
 ghost use Rattle.st_el.specs.SourceText.{opened, printed, printed_mark};
 ghost use Rattle.st_el.specs.Wrappings.{level_of, takes_in, has_bar, is_arithmetic, is_count, suits, wrapping};
-ghost use Rattle.st_el.specs.declared.place.Wrapping.TheVariants.{Bare, Parens};
+ghost use Rattle.st_el.specs.declared.context.Wrapping.TheVariants.{Bare, Parens};
 
-use crate::place::{
-    Around, Behind, NEGATION_LEVEL, NOT_LEVEL, OPERAND_LEVEL, Place, SEQUENCE_LEVEL, Wrapping,
-    sign_level,
-};
+use crate::context::{Around, Behind, Context, OPERAND_LEVEL, SEQUENCE_LEVEL, Wrapping};
 use crate::{Count, Exp, Node};
+use st_num::Mark;
 
 /// How tightly a part holds together.
 fn level_of(node: &Node) -> u8
@@ -17,9 +15,9 @@ fn level_of(node: &Node) -> u8
 {
     match node {
         Node::Seq(_) => SEQUENCE_LEVEL,
-        Node::Infix(_, sign, _) | Node::Binary(_, sign, _) => sign_level(*sign),
-        Node::Not(_) => NOT_LEVEL,
-        Node::Neg(_) => NEGATION_LEVEL,
+        Node::Infix(_, sign, _) | Node::Binary(_, sign, _) => sign.level(),
+        Node::Not(_) => Mark::Tilde.prefix_level(),
+        Node::Neg(_) => Mark::Minus.prefix_level(),
         _ => OPERAND_LEVEL,
     }
 }
@@ -74,7 +72,7 @@ fn is_arithmetic(node: &Node) -> bool
     ensures { result ≡ is_arithmetic (opened node.now) }
 {
     match node {
-        Node::Binary(_, sign, _) => sign_level(*sign) >= 15,
+        Node::Binary(_, sign, _) => sign.level() >= 15,
         Node::Neg(_) => true,
         _ => false,
     }
@@ -87,19 +85,19 @@ fn is_count(node: &Node) -> bool
     matches!(node, Node::Number(_) | Node::Name(_) | Node::Arith(_))
 }
 
-fn suits(node: &Node, place: Place) -> bool
-    ensures { result ≡ suits place (opened node.now) }
+fn suits(node: &Node, context: Context) -> bool
+    ensures { result ≡ suits context (opened node.now) }
 {
-    place.least <= level_of(node)
-        && !takes_in(node, place.behind)
-        && !(place.bar_closes && has_bar(node))
+    context.least <= level_of(node)
+        && !takes_in(node, context.behind)
+        && !(context.bar_closes && has_bar(node))
 }
 
-/// What is written round a part at its place.
-pub fn wrapping(node: &Node, place: Place) -> Wrapping
-    ensures { result ≡ wrapping place (opened node.now) }
+/// What is written round a part at its context.
+pub fn wrapping(node: &Node, context: Context) -> Wrapping
+    ensures { result ≡ wrapping context (opened node.now) }
 {
-    match place.around {
+    match context.around {
         Around::Caret => {
             if is_count(node) {
                 Wrapping::Bare
@@ -107,12 +105,12 @@ pub fn wrapping(node: &Node, place: Place) -> Wrapping
                 Wrapping::Dollar
             }
         }
-        Around::Arithmetic => parens_unless(suits(node, place)),
+        Around::Arithmetic => parens_unless(suits(node, context)),
         Around::Brackets | Around::Bars => {
             if is_arithmetic(node) {
                 Wrapping::Dollar
             } else {
-                parens_unless(suits(node, place))
+                parens_unless(suits(node, context))
             }
         }
     }

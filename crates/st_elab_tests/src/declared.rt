@@ -2,8 +2,8 @@
 
 use st_elab_exp::{Decls, Scope};
 use st_il::{Alternative, FunDef, SyntaxBody, SyntaxDef, Ty};
-use st_iltext::{TextTree, read_tree};
 use st_num::{Boxed, Dim, Kind, Name, NoMemory, Row};
+use st_text::{TextTree, read_tree};
 use st_types::TypeTable;
 use std::alloc::Global;
 

@@ -1,8 +1,8 @@
 //! Expressions of the internal language, printed in its text.
 
 use st_il::{IlExp, Iteration, ListItem, NumTy, PathSeg, Ty};
-use st_iltext::{print_natural, print_quoted};
 use st_num::{Name, NoMemory};
+use st_text::{print_natural, print_quoted};
 
 fn word(text: &[u8], out: &mut Vec<u8>) -> Result<(), NoMemory> {
     out.extend_from_slice(text)?;

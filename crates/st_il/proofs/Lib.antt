@@ -5,7 +5,8 @@ pub mod OrderLaws
 pub mod TemplateForms
 pub mod ReadingComplete
 pub mod ReadingSound
-pub mod TagWords
+pub mod ReservedWords
+pub mod TagParts
 pub mod Atoms
 pub mod Tags
 pub mod ReadingLoop

@@ -1,6 +1,6 @@
 -- Each notation of height at most 100 is read as itself.
-use Rattle.std.proofs.Common.{◌≡◌, refl, sym, ◌∙◌, ap, subst, ℕ, ◌+◌, ◌<◌, ◌≤◌, max, List, [], ◌∷◌, ◌++◌, map, length, append_assoc, append-nil, true, false, arith}
-use Rattle.std.specs.Prelude.{Option, Some, None, nat_le, nat_lt, if◌then◌else◌}
+use Rattle.std.proofs.Common.{◌≡◌, refl, sym, ◌∙◌, ap, subst, ℕ, ◌+◌, ◌<◌, ◌≤◌, max, List, [], ◌∷◌, ◌++◌, map, length, append_assoc, append-nil, Bool, true, false, eqb-true, arith}
+use Rattle.std.specs.Prelude.{◌==◌, Option, Some, None, nat_le, nat_lt, if◌then◌else◌}
 use Rattle.std.specs.Option.{option_map, option_and_then}
 use Rattle.std.proofs.lemmas.Bool.Decides.{nat_tests}
 use Rattle.st_num.specs.declared.mark.Mark.{Mark}
@@ -12,15 +12,18 @@ use Rattle.st_il.specs.declared.template.Role.TheVariants.{Divides, Opens, Close
 use Rattle.st_il.specs.declared.template.Template.{Template, out-Template}
 use Rattle.st_il.specs.declared.template.Template.TheOpen.{Template-F}
 use Rattle.st_il.specs.declared.template.Template.TheVariants as template
-use Rattle.st_il.specs.declared.template.Word.{Word}
-use Rattle.st_il.specs.declared.template.Word.TheVariants as word
+use Rattle.st_il.specs.declared.template.TagPart.{TagPart}
+use Rattle.st_il.specs.declared.template.TagPart.TheVariants as tag_part
 use Rattle.st_il.specs.declared.reading.Frame.{Frame}
 use Rattle.st_il.specs.declared.reading.Frame.TheVariants.{Open, Left, Elements}
 use Rattle.st_il.specs.Height.{highest}
-use Rattle.st_il.specs.Notation.{role_of, left_of, right_of, closing, closing_of, closing_by, IsNotation, atom, hole, bracket, sequence, divided, without_left, AreElements, none, more}
-use Rattle.st_il.specs.Template.{words_of, template_height, IsTemplate}
-use Rattle.st_il.specs.Reading.{State, due, read, sign_level, divided_at, level_at, level_of, is_outermost, begin_sign, extend, binds, closed, limited, reduce, divide, is_same, shut, after_sign, run, whole, finish, reads}
-use Rattle.st_il.proofs.TemplateForms.{words_all, words-Atom, words-Hole, words-Seq, words-Infix, words-Bracket, height-Seq, height-Infix, height-Bracket, level-Atom, level-Hole, level-Seq, level-Infix, level-Bracket}
+use Rattle.st_num.specs.Signs.{left_of, right_of, left_gap, right_gap, grouping_at}
+use Rattle.st_num.specs.declared.mark.Grouping.{Grouping}
+use Rattle.st_num.specs.declared.mark.Grouping.TheVariants as grouping
+use Rattle.st_il.specs.Notation.{role_of, closing, closing_of, closing_by, IsNotation, atom, hole, bracket, sequence, divided, without_left, AreElements, none, more}
+use Rattle.st_il.specs.Template.{tag_parts_of, template_height, IsTemplate}
+use Rattle.st_il.specs.inner.Reading.{State, due, read, sign_level, divided_at, level_at, level_of, is_outermost, begin_sign, extend, binds, closed, limited, reduce, divide, is_same, shut, after_sign, run, whole, finish, reads}
+use Rattle.st_il.proofs.TemplateForms.{tag_parts_all, tag_parts-Atom, tag_parts-Hole, tag_parts-Seq, tag_parts-Infix, tag_parts-Bracket, height-Seq, height-Infix, height-Bracket, level-Atom, level-Hole, level-Seq, level-Infix, level-Bracket}
 
 -- ---- levels
 
@@ -49,19 +52,49 @@ sign_level-range sign = go (role_of sign) refl
     go Other e = omega arith
 
 pub right-gap : (n : ℕ) → (n ≤ right_of n) × (right_of n ≤ n + 1)
-right-gap n = (grind (arith, nat_tests), grind (arith, nat_tests))
+right-gap n = go (grouping_at n)
+  where
+    go : (g : Grouping) → (n ≤ n + right_gap g) × (n + right_gap g ≤ n + 1)
+    go grouping.None = (omega arith, omega arith)
+    go grouping.Left = (omega arith, omega arith)
+    go grouping.Right = (omega arith, omega arith)
 
 pub left-gap : (n : ℕ) → (n ≤ left_of n) × (left_of n ≤ n + 1)
-left-gap n = (grind (arith, nat_tests), grind (arith, nat_tests))
+left-gap n = go (grouping_at n)
+  where
+    go : (g : Grouping) → (n ≤ n + left_gap g) × (n + left_gap g ≤ n + 1)
+    go grouping.None = (omega arith, omega arith)
+    go grouping.Left = (omega arith, omega arith)
+    go grouping.Right = (omega arith, omega arith)
 
+-- only from 8 on, since the signs of level 7 do not group
 right-eight : (n : ℕ) → 7 ≤ n → 8 ≤ right_of n
-right-eight n h = grind (arith, nat_tests)
+right-eight n h = go (n == 7) refl
+  where
+    go : (b : Bool) → (n == 7) ≡ b → 8 ≤ right_of n
+    go true e = subst (λ m. 8 ≤ right_of m) (sym (eqb-true n 7 e)) (omega arith)
+    go false e =
+        let above : 7 < n = grind (arith, nat_tests) in
+        let wider : n ≤ right_of n = (right-gap n).0 in
+        omega arith
 
 -- a sign that takes a side of level n as its left one does not bind into its right edge
 sign_after : (m n : ℕ) → left_of m ≤ n → m < right_of n
-sign_after m n h = grind (arith, nat_tests)
+sign_after m n h = by_grouping (grouping_at m) refl h
+  where
+    wider : n ≤ right_of n
+    wider = (right-gap n).0
 
--- a word binds into the right edge of a template only from this level on
+    at_same : grouping_at m ≡ grouping.Left → m ≤ n → (b : Bool) → (m == n) ≡ b → m < right_of n
+    at_same e k true f = subst (λ i. m < right_of i) (eqb-true m n f) (subst (λ g. m < m + right_gap g) (sym e) (omega arith))
+    at_same e k false f = let below : m < n = grind (arith, nat_tests) in omega (arith, wider)
+
+    by_grouping : (g : Grouping) → grouping_at m ≡ g → m + left_gap g ≤ n → m < right_of n
+    by_grouping grouping.None e k = omega (arith, wider)
+    by_grouping grouping.Right e k = omega (arith, wider)
+    by_grouping grouping.Left e k = at_same e (omega arith) (m == n) refl
+
+-- a part binds into the right edge of a template only from this level on
 abbrev pub edge_at : Template-F Template → ℕ
 edge_at (Template-F.Atom name) = 16
 edge_at Template-F.Hole = 16
@@ -85,26 +118,26 @@ tight_edge_at (Template-F.Infix left sign right) h = absurd (omega (arith, sign_
 tight_edge_at (Template-F.Seq parts) h = absurd (omega arith)
 tight_edge_at _ h = omega arith
 
--- how tightly a word binds to what stands before it
+-- how tightly a part binds to what stands before it
 abbrev pub grip_of : Role → ℕ
 grip_of (Divides n) = n
 grip_of (Opens enclosure) = 14
 grip_of (Closes enclosure) = 0
 grip_of Other = 14
 
-abbrev pub grip : Word → ℕ
-grip word.Hole = 14
-grip (word.Atom name) = 14
-grip (word.Sign sign) = grip_of (role_of sign)
+abbrev pub grip : TagPart → ℕ
+grip tag_part.Hole = 14
+grip (tag_part.Atom name) = 14
+grip (tag_part.Sign sign) = grip_of (role_of sign)
 
-abbrev pub Ends : ℕ → List Word → Type 0
+abbrev pub Ends : ℕ → List TagPart → Type 0
 Ends m [] = Unit {0}
 Ends m (w ∷ ws) = grip w < m
 
-grip-low : (w : Word) → grip w ≤ 14
-grip-low word.Hole = omega arith
-grip-low (word.Atom name) = omega arith
-grip-low (word.Sign sign) = go (role_of sign) refl
+grip-low : (w : TagPart) → grip w ≤ 14
+grip-low tag_part.Hole = omega arith
+grip-low (tag_part.Atom name) = omega arith
+grip-low (tag_part.Sign sign) = go (role_of sign) refl
   where
     go : (r : Role) → role_of sign ≡ r → grip_of r ≤ 14
     go (Divides n) e = omega (arith, divides-range sign n e)
@@ -112,11 +145,11 @@ grip-low (word.Sign sign) = go (role_of sign) refl
     go (Closes enclosure) e = omega arith
     go Other e = omega arith
 
-Ends-more : (m n : ℕ) (ws : List Word) → m ≤ n → Ends m ws → Ends n ws
+Ends-more : (m n : ℕ) (ws : List TagPart) → m ≤ n → Ends m ws → Ends n ws
 Ends-more m n [] h e = tt
 Ends-more m n (w ∷ ws) h e = omega arith
 
-Ends-tight : (t : Template) (ws : List Word) → 15 ≤ level_of t → Ends (edge t) ws
+Ends-tight : (t : Template) (ws : List TagPart) → 15 ≤ level_of t → Ends (edge t) ws
 Ends-tight t [] h = tt
 Ends-tight t (w ∷ ws) h = omega (arith, tight_edge_at (out-Template t) h, grip-low w)
 
@@ -160,17 +193,17 @@ reduce-binds n t f fs h k =
     ap (λ b. if b then option_and_then (λ grown. reduce n grown fs) (limited (closed f t)) else Some (t, f ∷ fs)) (binds-tight f n h)
     ∙ ap (option_and_then (λ grown. reduce n grown fs)) (limited-low (closed f t) k)
 
--- the template of all words, from what a word made
-abbrev goes_on : Option State → List Word → Option Template
+-- the template of all parts, from what a part made
+abbrev goes_on : Option State → List TagPart → Option Template
 goes_on o ws = option_and_then finish (option_and_then (λ next. run next ws) o)
 
 -- what ends a frame closes it
-grow : (t : Template) (f : Frame) (fs : List Frame) (ws : List Word) → Ends (tightness f) ws → 1 ≤ tightness f → tightness f ≤ 14 → template_height (closed f t) ≤ 100
+grow : (t : Template) (f : Frame) (fs : List Frame) (ws : List TagPart) → Ends (tightness f) ws → 1 ≤ tightness f → tightness f ≤ 14 → template_height (closed f t) ≤ 100
     → reads (read t (f ∷ fs)) ws ≡ reads (read (closed f t) fs) ws
 grow t f fs [] e p q k = ap (option_and_then (λ p. whole p.0 p.1)) (reduce-binds 0 t f fs (omega arith) k)
-grow t f fs (word.Hole ∷ ws) e p q k = absurd (omega arith)
-grow t f fs (word.Atom name ∷ ws) e p q k = absurd (omega arith)
-grow t f fs (word.Sign sign ∷ ws) e p q k = go (role_of sign) e
+grow t f fs (tag_part.Hole ∷ ws) e p q k = absurd (omega arith)
+grow t f fs (tag_part.Atom name ∷ ws) e p q k = absurd (omega arith)
+grow t f fs (tag_part.Sign sign ∷ ws) e p q k = go (role_of sign) e
   where
     go : (r : Role) → grip_of r < tightness f → goes_on (after_sign t (f ∷ fs) sign r) ws ≡ goes_on (after_sign (closed f t) fs sign r) ws
     go (Divides n) e = ap (λ o. goes_on (option_and_then (divide sign n) o) ws) (reduce-binds n t f fs e k)
@@ -194,8 +227,8 @@ divide-takes n t sign fs h = ap (λ b. if b then Some (due (Left t sign ∷ fs))
     le-is : (m n : ℕ) → m ≤ n → nat_le m n ≡ true
     le-is m n h = grind (arith, nat_tests)
 
-read_sign : (n : ℕ) (t : Template) (sign : Mark) (fs : List Frame) (ws : List Word) → role_of sign ≡ Divides n → least fs ≤ n → left_of n ≤ level_of t
-    → reads (read t fs) (word.Sign sign ∷ ws) ≡ reads (due (Left t sign ∷ fs)) ws
+read_sign : (n : ℕ) (t : Template) (sign : Mark) (fs : List Frame) (ws : List TagPart) → role_of sign ≡ Divides n → least fs ≤ n → left_of n ≤ level_of t
+    → reads (read t fs) (tag_part.Sign sign ∷ ws) ≡ reads (due (Left t sign ∷ fs)) ws
 read_sign n t sign fs ws r h k =
     ap (λ role. goes_on (after_sign t fs sign role) ws) r
     ∙ ap (λ o. goes_on (option_and_then (divide sign n) o) ws) (reduce-stops n t fs (divides-range sign n r).1 h)
@@ -214,8 +247,8 @@ closes-it Braces = refl
 pub closing-role : (opening : Mark) (enclosure : Enclosure) → role_of opening ≡ Opens enclosure → role_of (closing opening) ≡ Closes enclosure
 closing-role opening enclosure r = ap (λ role. role_of (closing_by opening role)) r ∙ closes-it enclosure
 
-read_closing : (t : Template) (opening : Mark) (enclosure : Enclosure) (fs : List Frame) (ws : List Word) → role_of opening ≡ Opens enclosure → template_height (template.Bracket opening t) ≤ 100
-    → reads (read t (Open opening enclosure ∷ fs)) (word.Sign (closing opening) ∷ ws) ≡ reads (read (template.Bracket opening t) fs) ws
+read_closing : (t : Template) (opening : Mark) (enclosure : Enclosure) (fs : List Frame) (ws : List TagPart) → role_of opening ≡ Opens enclosure → template_height (template.Bracket opening t) ≤ 100
+    → reads (read t (Open opening enclosure ∷ fs)) (tag_part.Sign (closing opening) ∷ ws) ≡ reads (read (template.Bracket opening t) fs) ws
 read_closing t opening enclosure fs ws r h =
     ap (λ role. goes_on (after_sign t (Open opening enclosure ∷ fs) (closing opening) role) ws) (closing-role opening enclosure r)
     ∙ ap (λ b. goes_on (if b then option_map (λ bracket. read bracket fs) (limited (template.Bracket opening t)) else None) ws) (same-enclosure enclosure)
@@ -224,26 +257,26 @@ read_closing t opening enclosure fs ws r h =
 -- ---- a template that is read at each place that it fits
 
 abbrev pub Readable : Template → Type 0
-Readable t = (fs : List Frame) (ws : List Word) → template_height t ≤ 100 → least fs ≤ level_of t → Ends (edge t) ws → reads (due fs) (words_of t ++ ws) ≡ reads (read t fs) ws
+Readable t = (fs : List Frame) (ws : List TagPart) → template_height t ≤ 100 → least fs ≤ level_of t → Ends (edge t) ws → reads (due fs) (tag_parts_of t ++ ws) ≡ reads (read t fs) ws
 
 -- behind an element it begins a further one
 abbrev Follows : Template → Type 0
-Follows t = (u : Template) (fs : List Frame) (ws : List Word) → reads (read u fs) (words_of t ++ ws) ≡ reads (due (extend u fs)) (words_of t ++ ws)
+Follows t = (u : Template) (fs : List Frame) (ws : List TagPart) → reads (read u fs) (tag_parts_of t ++ ws) ≡ reads (due (extend u fs)) (tag_parts_of t ++ ws)
 
 read_atom : (name : List ℕ) → Readable (template.Atom name)
-read_atom name fs ws h k e = ap (λ vs. reads (due fs) (vs ++ ws)) (words-Atom name)
+read_atom name fs ws h k e = ap (λ vs. reads (due fs) (vs ++ ws)) (tag_parts-Atom name)
 
 read_hole : Readable template.Hole
-read_hole fs ws h k e = ap (λ vs. reads (due fs) (vs ++ ws)) words-Hole
+read_hole fs ws h k e = ap (λ vs. reads (due fs) (vs ++ ws)) tag_parts-Hole
 
 read_bracket : (opening : Mark) (enclosure : Enclosure) (inside : Template) → role_of opening ≡ Opens enclosure → 7 ≤ level_of inside → Readable inside → Readable (template.Bracket opening inside)
 read_bracket opening enclosure inside r l d fs ws h k e =
     let low : template_height inside ≤ 100 = omega (arith, height-Bracket opening inside) in
-    let ends : Ends (edge inside) (word.Sign (closing opening) ∷ ws) = omega (arith, ap grip_of (closing-role opening enclosure r), level_edge_at (out-Template inside)) in
-    ap (λ vs. reads (due fs) (vs ++ ws)) (words-Bracket opening inside)
-    ∙ ap (λ role. goes_on (begin_sign fs opening role) ((words_of inside ++ word.Sign (closing opening) ∷ []) ++ ws)) r
-    ∙ ap (reads (due (Open opening enclosure ∷ fs))) (append_assoc (words_of inside) (word.Sign (closing opening) ∷ []) ws)
-    ∙ d (Open opening enclosure ∷ fs) (word.Sign (closing opening) ∷ ws) low l ends
+    let ends : Ends (edge inside) (tag_part.Sign (closing opening) ∷ ws) = omega (arith, ap grip_of (closing-role opening enclosure r), level_edge_at (out-Template inside)) in
+    ap (λ vs. reads (due fs) (vs ++ ws)) (tag_parts-Bracket opening inside)
+    ∙ ap (λ role. goes_on (begin_sign fs opening role) ((tag_parts_of inside ++ tag_part.Sign (closing opening) ∷ []) ++ ws)) r
+    ∙ ap (reads (due (Open opening enclosure ∷ fs))) (append_assoc (tag_parts_of inside) (tag_part.Sign (closing opening) ∷ []) ws)
+    ∙ d (Open opening enclosure ∷ fs) (tag_part.Sign (closing opening) ∷ ws) low l ends
     ∙ read_closing inside opening enclosure fs ws r h
 
 read_divided : (n : ℕ) (left : Template) (sign : Mark) (right : Template) → role_of sign ≡ Divides n → left_of n ≤ level_of left → right_of n ≤ level_of right → Readable left → Readable right → Readable (template.Infix left sign right)
@@ -256,10 +289,10 @@ read_divided n left sign right r hl hr dl dr fs ws h k e =
     let gap = right-gap n in
     let ends : Ends (edge right) ws = Ends-more (right_of n) (edge right) ws (omega (arith, level_edge_at (out-Template right))) (subst (λ m. Ends m ws) (ap edge_at (template.outs-Infix left sign right) ∙ ap right_of level) e) in
     let tight : tightness (Left left sign) ≡ right_of n = ap right_of level in
-    ap (λ vs. reads (due fs) (vs ++ ws)) (words-Infix left sign right)
-    ∙ ap (reads (due fs)) (append_assoc (words_of left) (word.Sign sign ∷ words_of right) ws)
-    ∙ dl fs (word.Sign sign ∷ (words_of right ++ ws)) low_left (omega (arith, left-gap n)) (omega (arith, ap grip_of r, left_ends_at (out-Template left) n range.1 hl))
-    ∙ read_sign n left sign fs (words_of right ++ ws) r place hl
+    ap (λ vs. reads (due fs) (vs ++ ws)) (tag_parts-Infix left sign right)
+    ∙ ap (reads (due fs)) (append_assoc (tag_parts_of left) (tag_part.Sign sign ∷ tag_parts_of right) ws)
+    ∙ dl fs (tag_part.Sign sign ∷ (tag_parts_of right ++ ws)) low_left (omega (arith, left-gap n)) (omega (arith, ap grip_of r, left_ends_at (out-Template left) n range.1 hl))
+    ∙ read_sign n left sign fs (tag_parts_of right ++ ws) r place hl
     ∙ dr (Left left sign ∷ fs) ws low_right (omega (arith, tight, right-eight n range.0)) ends
     ∙ grow right (Left left sign) fs ws (subst (λ m. Ends m ws) (ap edge_at (template.outs-Infix left sign right)) e) (omega (arith, tight)) (omega (arith, tight)) h
 
@@ -275,8 +308,8 @@ read_without_left right hr dr fs ws h k e =
     let low_right : template_height right ≤ 100 = omega (arith, height-Infix nothing Turnstile right) in
     let place : least fs ≤ 7 = omega (arith, level-Infix nothing Turnstile right) in
     let at : Ends 8 ws = subst (λ m. Ends m ws) (ap edge_at (template.outs-Infix nothing Turnstile right)) e in
-    ap (λ vs. reads (due fs) (vs ++ ws)) (words-Infix nothing Turnstile right ∙ ap (λ vs. vs ++ word.Sign Turnstile ∷ words_of right) (words-Seq []))
-    ∙ ap (λ b. goes_on (if b then Some (due (Left nothing Turnstile ∷ fs)) else None) (words_of right ++ ws)) (outermost fs place)
+    ap (λ vs. reads (due fs) (vs ++ ws)) (tag_parts-Infix nothing Turnstile right ∙ ap (λ vs. vs ++ tag_part.Sign Turnstile ∷ tag_parts_of right) (tag_parts-Seq []))
+    ∙ ap (λ b. goes_on (if b then Some (due (Left nothing Turnstile ∷ fs)) else None) (tag_parts_of right ++ ws)) (outermost fs place)
     ∙ dr (Left nothing Turnstile ∷ fs) ws low_right hr (Ends-more 8 (edge right) ws (omega (arith, level_edge_at (out-Template right))) at)
     ∙ grow right (Left nothing Turnstile) fs ws at (omega arith) (omega arith) h
 
@@ -298,20 +331,20 @@ extend-under [] t (Left left sign ∷ fs) h = refl
 extend-under [] t (Elements parts ∷ fs) h = absurd (omega arith)
 extend-under (u ∷ us) t fs h = refl
 
-follows_sign : (opening : Mark) (enclosure : Enclosure) (u : Template) (fs : List Frame) (ws : List Word) → role_of opening ≡ Opens enclosure → reads (read u fs) (word.Sign opening ∷ ws) ≡ reads (due (extend u fs)) (word.Sign opening ∷ ws)
+follows_sign : (opening : Mark) (enclosure : Enclosure) (u : Template) (fs : List Frame) (ws : List TagPart) → role_of opening ≡ Opens enclosure → reads (read u fs) (tag_part.Sign opening ∷ ws) ≡ reads (due (extend u fs)) (tag_part.Sign opening ∷ ws)
 follows_sign opening enclosure u fs ws r = ap (λ role. goes_on (after_sign u fs opening role) ws) r
 
 follows : {n : ℕ} {t : Template} → IsNotation n t → 15 ≤ n → Follows t
 follows (atom name e a) h u fs ws =
-    let is = ap words_of e ∙ words-Atom name in
+    let is = ap tag_parts_of e ∙ tag_parts-Atom name in
     subst (λ vs. reads (read u fs) (vs ++ ws) ≡ reads (due (extend u fs)) (vs ++ ws)) (sym is) refl
 follows (hole e) h u fs ws =
-    let is = ap words_of e ∙ words-Hole in
+    let is = ap tag_parts_of e ∙ tag_parts-Hole in
     subst (λ vs. reads (read u fs) (vs ++ ws) ≡ reads (due (extend u fs)) (vs ++ ws)) (sym is) refl
 follows (bracket opening enclosure inside e r d) h u fs ws =
-    let is = ap words_of e ∙ words-Bracket opening inside in
+    let is = ap tag_parts_of e ∙ tag_parts-Bracket opening inside in
     subst (λ vs. reads (read u fs) (vs ++ ws) ≡ reads (due (extend u fs)) (vs ++ ws)) (sym is)
-    (follows_sign opening enclosure u fs ((words_of inside ++ word.Sign (closing opening) ∷ []) ++ ws) r)
+    (follows_sign opening enclosure u fs ((tag_parts_of inside ++ tag_part.Sign (closing opening) ∷ []) ++ ws) r)
 follows (sequence parts k e d l) h u fs ws = absurd (omega arith)
 follows (divided level left sign right k e r d f) h u fs ws = absurd (omega (arith, divides-range sign level r))
 follows (without_left right k e d) h u fs ws = absurd (omega arith)
@@ -326,19 +359,19 @@ abbrev pub Elements_of : List Template → Type 0
 Elements_of [] = Unit {0}
 Elements_of (t ∷ ts) = Element t × Elements_of ts
 
-read_more : (ts : List Template) (t : Template) (us : List Template) (fs : List Frame) (ws : List Word) → Elements_of us → least fs ≤ 14 → 1 ≤ length ts + length us
+read_more : (ts : List Template) (t : Template) (us : List Template) (fs : List Frame) (ws : List TagPart) → Elements_of us → least fs ≤ 14 → 1 ≤ length ts + length us
     → template_height (template.Seq (ts ++ t ∷ us)) ≤ 100 → highest (map template_height us) ≤ 99 → Ends 14 ws
-    → reads (read t (under ts fs)) (words_all us ++ ws) ≡ reads (read (template.Seq (ts ++ t ∷ us)) fs) ws
+    → reads (read t (under ts fs)) (tag_parts_all us ++ ws) ≡ reads (read (template.Seq (ts ++ t ∷ us)) fs) ws
 read_more [] t [] fs ws d p l h k e = absurd (omega arith)
 read_more (v ∷ vs) t [] fs ws d p l h k e = grow t (Elements (v ∷ vs)) fs ws e (omega arith) (omega arith) h
 read_more ts t (u ∷ us) fs ws d p l h k e =
     let low : template_height u ≤ 100 = omega arith in
     let rest : highest (map template_height us) ≤ 99 = omega arith in
-    let behind = words_all us ++ ws in
+    let behind = tag_parts_all us ++ ws in
     let same = append_assoc ts (t ∷ []) (u ∷ us) in
-    ap (reads (read t (under ts fs))) (append_assoc (words_of u) (words_all us) ws)
+    ap (reads (read t (under ts fs))) (append_assoc (tag_parts_of u) (tag_parts_all us) ws)
     ∙ d.0.follows t (under ts fs) behind
-    ∙ ap (λ gs. reads (due gs) (words_of u ++ behind)) (extend-under ts t fs p)
+    ∙ ap (λ gs. reads (due gs) (tag_parts_of u ++ behind)) (extend-under ts t fs p)
     ∙ d.0.readable (Elements (ts ++ t ∷ []) ∷ fs) behind low d.0.tight (Ends-tight u behind d.0.tight)
     ∙ ap (λ gs. reads (read u gs) behind) (sym (under-more ts t fs))
     ∙ read_more (ts ++ t ∷ []) u us fs ws d.1 p (omega (arith, length-more ts t)) (subst (λ parts. template_height (template.Seq parts) ≤ 100) (sym same) h) rest e
@@ -355,9 +388,9 @@ read_sequence (t ∷ ts) l d fs ws h k e =
     let low : template_height t ≤ 100 = omega arith in
     let rest : highest (map template_height ts) ≤ 99 = omega arith in
     let place : least fs ≤ 14 = omega (arith, level-Seq (t ∷ ts)) in
-    let behind = words_all ts ++ ws in
-    ap (λ vs. reads (due fs) (vs ++ ws)) (words-Seq (t ∷ ts))
-    ∙ ap (reads (due fs)) (append_assoc (words_of t) (words_all ts) ws)
+    let behind = tag_parts_all ts ++ ws in
+    ap (λ vs. reads (due fs) (vs ++ ws)) (tag_parts-Seq (t ∷ ts))
+    ∙ ap (reads (due fs)) (append_assoc (tag_parts_of t) (tag_parts_all ts) ws)
     ∙ d.0.readable fs behind low (omega (arith, d.0.tight)) (Ends-tight t behind d.0.tight)
     ∙ read_more [] t ts fs ws d.1 place (omega arith) h rest (subst (λ m. Ends m ws) (ap edge_at (template.outs-Seq (t ∷ ts))) e)
 
@@ -381,8 +414,8 @@ mutual
   elements (more d ds) = (record { readable = readable d; follows = follows d (omega arith); tight = level-least d (omega arith) }, elements ds)
 
 -- a template is read as itself
-pub complete : (t : Template) → IsTemplate t → reads (due []) (words_of t) ≡ Some t
+pub complete : (t : Template) → IsTemplate t → reads (due []) (tag_parts_of t) ≡ Some t
 complete t is =
-    ap (reads (due [])) (sym (append-nil (words_of t)))
+    ap (reads (due [])) (sym (append-nil (tag_parts_of t)))
     ∙ readable is.notation [] [] is.height (level-least is.notation (omega arith)) tt
     ∙ refl

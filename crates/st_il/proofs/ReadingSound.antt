@@ -1,4 +1,4 @@
--- What is read is a template, and its words are those that were read.
+-- What is read is a template, and its parts are those that were read.
 use Rattle.std.proofs.Common.{◌≡◌, refl, sym, ◌∙◌, ap, subst, ℕ, ◌+◌, ◌≤◌, List, [], ◌∷◌, ◌++◌, length, append_assoc, append-nil, Bool, true, false, inl, inr, ◌⊎◌, arith}
 use Rattle.std.specs.Prelude.{Option, Some, None, ◌&&◌, nat_le, if◌then◌else◌}
 use Rattle.std.specs.Option.{option_map, option_and_then}
@@ -11,30 +11,31 @@ use Rattle.st_il.specs.declared.template.Role.{Role}
 use Rattle.st_il.specs.declared.template.Role.TheVariants.{Divides, Opens, Closes, Other}
 use Rattle.st_il.specs.declared.template.Template.{Template}
 use Rattle.st_il.specs.declared.template.Template.TheVariants as template
-use Rattle.st_il.specs.declared.template.Word.{Word}
-use Rattle.st_il.specs.declared.template.Word.TheVariants as word
+use Rattle.st_il.specs.declared.template.TagPart.{TagPart}
+use Rattle.st_il.specs.declared.template.TagPart.TheVariants as tag_part
 use Rattle.st_il.specs.declared.reading.Frame.{Frame}
 use Rattle.st_il.specs.declared.reading.Frame.TheVariants.{Open, Left, Elements}
-use Rattle.st_il.specs.Notation.{role_of, left_of, right_of, closing, closing_of, closing_by, IsNotation, atom, hole, bracket, sequence, divided, without_left, AreElements, none, more}
-use Rattle.st_il.specs.Template.{words_of, template_height, IsTemplate, IsWord}
+use Rattle.st_num.specs.Signs.{left_of, right_of}
+use Rattle.st_il.specs.Notation.{role_of, closing, closing_of, closing_by, IsNotation, atom, hole, bracket, sequence, divided, without_left, AreElements, none, more}
+use Rattle.st_il.specs.Template.{tag_parts_of, template_height, IsTemplate, IsTagPart}
 use Rattle.std.specs.List.{AllByRecursion}
-use Rattle.st_il.specs.Reading.{State, due, read, sign_level, divided_at, level_of, may_lack_left, is_outermost, begin, begin_sign, extend, binds, closed, limited, reduce, divide, is_same, shut, after_sign, step, run, whole, finish, reads}
-use Rattle.st_il.proofs.TemplateForms.{words_all, words_all-append, words-Atom, words-Hole, words-Seq, words-Infix, words-Bracket, height-Atom, height-Hole, level-Seq, level-Infix}
+use Rattle.st_il.specs.inner.Reading.{State, due, read, sign_level, divided_at, level_of, may_lack_left, is_outermost, begin, begin_sign, extend, binds, closed, limited, reduce, divide, is_same, shut, after_sign, step, run, whole, finish, reads}
+use Rattle.st_il.proofs.TemplateForms.{tag_parts_all, tag_parts_all-append, tag_parts-Atom, tag_parts-Hole, tag_parts-Seq, tag_parts-Infix, tag_parts-Bracket, height-Atom, height-Hole, level-Seq, level-Infix}
 use Rattle.st_il.proofs.ReadingComplete.{divides-range, sign_level-range, right-gap}
 
--- the words that led to a frame, and to a state
-abbrev pub seen_by : Frame → List Word
-seen_by (Open opening enclosure) = word.Sign opening ∷ []
-seen_by (Left left sign) = words_of left ++ word.Sign sign ∷ []
-seen_by (Elements parts) = words_all parts
+-- the parts that led to a frame, and to a state
+abbrev pub seen_by : Frame → List TagPart
+seen_by (Open opening enclosure) = tag_part.Sign opening ∷ []
+seen_by (Left left sign) = tag_parts_of left ++ tag_part.Sign sign ∷ []
+seen_by (Elements parts) = tag_parts_all parts
 
-abbrev pub before : List Frame → List Word
+abbrev pub before : List Frame → List TagPart
 before [] = []
 before (f ∷ fs) = before fs ++ seen_by f
 
-abbrev pub seen : State → List Word
+abbrev pub seen : State → List TagPart
 seen (due fs) = before fs
-seen (read t fs) = before fs ++ words_of t
+seen (read t fs) = before fs ++ tag_parts_of t
 
 -- the level that is due
 abbrev pub place : List Frame → ℕ
@@ -69,12 +70,12 @@ abbrev pub Holds : State → Type 0
 Holds (due fs) = Stand fs
 Holds (read t fs) = Rests t fs
 
--- a state that stands well, reached by these words
-pub record Reached (ws : List Word) (st : State) : Type 0 where
+-- a state that stands well, reached by these parts
+pub record Reached (ws : List TagPart) (st : State) : Type 0 where
   pub holds : Holds st
   pub spelled : seen st ≡ ws
 
-abbrev pub ReachedBy : List Word → Option State → Type 0
+abbrev pub ReachedBy : List TagPart → Option State → Type 0
 ReachedBy ws None = Unit {0}
 ReachedBy ws (Some st) = Reached ws st
 
@@ -137,14 +138,14 @@ frames_below (Open opening enclosure) fs s = s.0
 frames_below (Left left sign) fs s = s.0
 frames_below (Elements parts) fs s = s.0
 
-closed_words : (t : Template) (f : Frame) (fs : List Frame) (n : ℕ) → binds f n ≡ true → before fs ++ words_of (closed f t) ≡ before (f ∷ fs) ++ words_of t
-closed_words t (Open opening enclosure) fs n b = absurd (cc)
-closed_words t (Left left sign) fs n b =
-    ap (λ ws. before fs ++ ws) (words-Infix left sign t ∙ sym (append_assoc (words_of left) (word.Sign sign ∷ []) (words_of t)))
-    ∙ sym (append_assoc (before fs) (words_of left ++ word.Sign sign ∷ []) (words_of t))
-closed_words t (Elements parts) fs n b =
-    ap (λ ws. before fs ++ ws) (words-Seq (parts ++ t ∷ []) ∙ words_all-append parts (t ∷ []) ∙ ap (λ ws. words_all parts ++ ws) (append-nil (words_of t)))
-    ∙ sym (append_assoc (before fs) (words_all parts) (words_of t))
+closed_tag_parts : (t : Template) (f : Frame) (fs : List Frame) (n : ℕ) → binds f n ≡ true → before fs ++ tag_parts_of (closed f t) ≡ before (f ∷ fs) ++ tag_parts_of t
+closed_tag_parts t (Open opening enclosure) fs n b = absurd (cc)
+closed_tag_parts t (Left left sign) fs n b =
+    ap (λ ws. before fs ++ ws) (tag_parts-Infix left sign t ∙ sym (append_assoc (tag_parts_of left) (tag_part.Sign sign ∷ []) (tag_parts_of t)))
+    ∙ sym (append_assoc (before fs) (tag_parts_of left ++ tag_part.Sign sign ∷ []) (tag_parts_of t))
+closed_tag_parts t (Elements parts) fs n b =
+    ap (λ ws. before fs ++ ws) (tag_parts-Seq (parts ++ t ∷ []) ∙ tag_parts_all-append parts (t ∷ []) ∙ ap (λ ws. tag_parts_all parts ++ ws) (append-nil (tag_parts_of t)))
+    ∙ sym (append_assoc (before fs) (tag_parts_all parts) (tag_parts_of t))
 
 -- ---- frames that end
 
@@ -153,33 +154,33 @@ abbrev Stops : ℕ → List Frame → Type 0
 Stops n [] = Unit {0}
 Stops n (f ∷ fs) = binds f n ≡ false
 
-pub record Reduced (ws : List Word) (n : ℕ) (t : Template) (fs : List Frame) : Type 0 where
+pub record Reduced (ws : List TagPart) (n : ℕ) (t : Template) (fs : List Frame) : Type 0 where
   pub placed : Placed t fs
-  pub spelled : before fs ++ words_of t ≡ ws
+  pub spelled : before fs ++ tag_parts_of t ≡ ws
   pub stops : Stops n fs
 
-abbrev ReducedBy : List Word → ℕ → Option (Template × List Frame) → Type 0
+abbrev ReducedBy : List TagPart → ℕ → Option (Template × List Frame) → Type 0
 ReducedBy ws n None = Unit {0}
 ReducedBy ws n (Some p) = Reduced ws n p.0 p.1
 
 le-from : (m n : ℕ) → nat_le m n ≡ true → m ≤ n
 le-from m n e = grind (arith, nat_tests)
 
-reduces : (n : ℕ) (t : Template) (fs : List Frame) → Placed t fs → ReducedBy (before fs ++ words_of t) n (reduce n t fs)
+reduces : (n : ℕ) (t : Template) (fs : List Frame) → Placed t fs → ReducedBy (before fs ++ tag_parts_of t) n (reduce n t fs)
 reduces n t [] p = record { placed = p; spelled = refl; stops = tt }
 reduces n t (f ∷ fs) p = go (λ q. reduces n (closed f t) fs q) (binds f n) refl
   where
     Rest : Type 0
-    Rest = Placed (closed f t) fs → ReducedBy (before fs ++ words_of (closed f t)) n (reduce n (closed f t) fs)
+    Rest = Placed (closed f t) fs → ReducedBy (before fs ++ tag_parts_of (closed f t)) n (reduce n (closed f t) fs)
 
     ended : Rest → binds f n ≡ true → (b : Bool) → nat_le (template_height (closed f t)) 100 ≡ b
-        → ReducedBy (before (f ∷ fs) ++ words_of t) n (option_and_then (λ grown. reduce n grown fs) (if b then Some (closed f t) else None))
+        → ReducedBy (before (f ∷ fs) ++ tag_parts_of t) n (option_and_then (λ grown. reduce n grown fs) (if b then Some (closed f t) else None))
     ended rest e false g = tt
     ended rest e true g =
-        subst (λ ws. ReducedBy ws n (reduce n (closed f t) fs)) (closed_words t f fs n e)
+        subst (λ ws. ReducedBy ws n (reduce n (closed f t) fs)) (closed_tag_parts t f fs n e)
         (rest (record { frames = frames_below f fs p.frames; notation = closed_notation t f fs n e p; low = le-from (template_height (closed f t)) 100 g }))
 
-    go : Rest → (b : Bool) → binds f n ≡ b → ReducedBy (before (f ∷ fs) ++ words_of t) n (if b then option_and_then (λ grown. reduce n grown fs) (limited (closed f t)) else Some (t, f ∷ fs))
+    go : Rest → (b : Bool) → binds f n ≡ b → ReducedBy (before (f ∷ fs) ++ tag_parts_of t) n (if b then option_and_then (λ grown. reduce n grown fs) (limited (closed f t)) else Some (t, f ∷ fs))
     go rest false e = record { placed = p; spelled = refl; stops = e }
     go rest true e = ended rest e (nat_le (template_height (closed f t)) 100) refl
 
@@ -191,20 +192,20 @@ stops-place n (Elements parts ∷ fs) h s = absurd (cc)
 
 -- ---- steps
 
-divides : (ws : List Word) (sign : Mark) (n : ℕ) → role_of sign ≡ Divides n → (o : Option (Template × List Frame)) → ReducedBy ws n o → ReachedBy (ws ++ word.Sign sign ∷ []) (option_and_then (divide sign n) o)
+divides : (ws : List TagPart) (sign : Mark) (n : ℕ) → role_of sign ≡ Divides n → (o : Option (Template × List Frame)) → ReducedBy ws n o → ReachedBy (ws ++ tag_part.Sign sign ∷ []) (option_and_then (divide sign n) o)
 divides ws sign n r None q = tt
 divides ws sign n r (Some p) q = go (nat_le (left_of n) (level_of p.0)) refl
   where
     level : n ≡ sign_level sign
     level = sym (ap divided_at r)
 
-    go : (b : Bool) → nat_le (left_of n) (level_of p.0) ≡ b → ReachedBy (ws ++ word.Sign sign ∷ []) (if b then Some (due (Left p.0 sign ∷ p.1)) else None)
+    go : (b : Bool) → nat_le (left_of n) (level_of p.0) ≡ b → ReachedBy (ws ++ tag_part.Sign sign ∷ []) (if b then Some (due (Left p.0 sign ∷ p.1)) else None)
     go false e = tt
     go true e =
         let left = tighten (left_of n) (le-from (left_of n) (level_of p.0) e) q.placed.notation in
         record {
           holds = (q.placed.frames, subst (λ m. role_of sign ≡ Divides m) level r, inl (subst (λ m. IsNotation (left_of m) p.0) level left), subst (λ m. place p.1 ≤ m) level (stops-place n p.1 (divides-range sign n r).0 q.stops));
-          spelled = sym (append_assoc (before p.1) (words_of p.0) (word.Sign sign ∷ [])) ∙ ap (λ vs. vs ++ word.Sign sign ∷ []) q.spelled;
+          spelled = sym (append_assoc (before p.1) (tag_parts_of p.0) (tag_part.Sign sign ∷ [])) ∙ ap (λ vs. vs ++ tag_part.Sign sign ∷ []) q.spelled;
         }
 
 is-same : (a b : Enclosure) → is_same a b ≡ true → a ≡ b
@@ -219,7 +220,7 @@ closing-is CloseBracket enclosure e = let same : Brackets ≡ enclosure = cc in 
 closing-is CloseBrace enclosure e = let same : Braces ≡ enclosure = cc in ap closing_of (sym same)
 closing-is _ enclosure e = absurd (cc)
 
-shuts : (ws : List Word) (sign : Mark) (enclosure : Enclosure) → role_of sign ≡ Closes enclosure → (t : Template) (fs : List Frame) → Reduced ws 0 t fs → ReachedBy (ws ++ word.Sign sign ∷ []) (shut enclosure t fs)
+shuts : (ws : List TagPart) (sign : Mark) (enclosure : Enclosure) → role_of sign ≡ Closes enclosure → (t : Template) (fs : List Frame) → Reduced ws 0 t fs → ReachedBy (ws ++ tag_part.Sign sign ∷ []) (shut enclosure t fs)
 shuts ws sign enclosure r t [] q = tt
 shuts ws sign enclosure r t (Left left s ∷ fs) q = tt
 shuts ws sign enclosure r t (Elements parts ∷ fs) q = tt
@@ -229,25 +230,25 @@ shuts ws sign enclosure r t (Open opening opened ∷ fs) q = go (is_same opened 
     opens = q.placed.frames.1
 
     ended : is_same opened enclosure ≡ true → (b : Bool) → nat_le (template_height (template.Bracket opening t)) 100 ≡ b
-        → ReachedBy (ws ++ word.Sign sign ∷ []) (option_map (λ it. read it fs) (if b then Some (template.Bracket opening t) else None))
+        → ReachedBy (ws ++ tag_part.Sign sign ∷ []) (option_map (λ it. read it fs) (if b then Some (template.Bracket opening t) else None))
     ended e false g = tt
     ended e true g =
         let ends : closing opening ≡ sign = ap (closing_by opening) opens ∙ ap closing_of (is-same opened enclosure e) ∙ closing-is sign enclosure r in
-        let words : words_of (template.Bracket opening t) ≡ word.Sign opening ∷ (words_of t ++ word.Sign sign ∷ []) = words-Bracket opening t ∙ ap (λ s. word.Sign opening ∷ (words_of t ++ word.Sign s ∷ [])) ends in
+        let tag_parts : tag_parts_of (template.Bracket opening t) ≡ tag_part.Sign opening ∷ (tag_parts_of t ++ tag_part.Sign sign ∷ []) = tag_parts-Bracket opening t ∙ ap (λ s. tag_part.Sign opening ∷ (tag_parts_of t ++ tag_part.Sign s ∷ [])) ends in
         record {
           holds = record { frames = q.placed.frames.0; notation = bracket opening opened t refl opens q.placed.notation; low = le-from (template_height (template.Bracket opening t)) 100 g };
           spelled =
-              ap (λ vs. before fs ++ vs) words
-              ∙ sym (append_assoc (before fs) (word.Sign opening ∷ []) (words_of t ++ word.Sign sign ∷ []))
-              ∙ sym (append_assoc (before fs ++ word.Sign opening ∷ []) (words_of t) (word.Sign sign ∷ []))
-              ∙ ap (λ vs. vs ++ word.Sign sign ∷ []) q.spelled;
+              ap (λ vs. before fs ++ vs) tag_parts
+              ∙ sym (append_assoc (before fs) (tag_part.Sign opening ∷ []) (tag_parts_of t ++ tag_part.Sign sign ∷ []))
+              ∙ sym (append_assoc (before fs ++ tag_part.Sign opening ∷ []) (tag_parts_of t) (tag_part.Sign sign ∷ []))
+              ∙ ap (λ vs. vs ++ tag_part.Sign sign ∷ []) q.spelled;
         }
 
-    go : (b : Bool) → is_same opened enclosure ≡ b → ReachedBy (ws ++ word.Sign sign ∷ []) (if b then option_map (λ it. read it fs) (limited (template.Bracket opening t)) else None)
+    go : (b : Bool) → is_same opened enclosure ≡ b → ReachedBy (ws ++ tag_part.Sign sign ∷ []) (if b then option_map (λ it. read it fs) (limited (template.Bracket opening t)) else None)
     go false e = tt
     go true e = ended e (nat_le (template_height (template.Bracket opening t)) 100) refl
 
-closes : (ws : List Word) (sign : Mark) (enclosure : Enclosure) → role_of sign ≡ Closes enclosure → (o : Option (Template × List Frame)) → ReducedBy ws 0 o → ReachedBy (ws ++ word.Sign sign ∷ []) (option_and_then (λ p. shut enclosure p.0 p.1) o)
+closes : (ws : List TagPart) (sign : Mark) (enclosure : Enclosure) → role_of sign ≡ Closes enclosure → (o : Option (Template × List Frame)) → ReducedBy ws 0 o → ReachedBy (ws ++ tag_part.Sign sign ∷ []) (option_and_then (λ p. shut enclosure p.0 p.1) o)
 closes ws sign enclosure r None q = tt
 closes ws sign enclosure r (Some p) q = shuts ws sign enclosure r p.0 p.1 q
 
@@ -265,10 +266,10 @@ both-true : (a b : Bool) → (a && b) ≡ true → (a ≡ true) × (b ≡ true)
 both-true true b e = (refl, e)
 both-true false b e = absurd (cc)
 
-leads : (fs : List Frame) (sign : Mark) (n : ℕ) → role_of sign ≡ Divides n → Stand fs → ReachedBy (before fs ++ word.Sign sign ∷ []) (begin_sign fs sign (Divides n))
+leads : (fs : List Frame) (sign : Mark) (n : ℕ) → role_of sign ≡ Divides n → Stand fs → ReachedBy (before fs ++ tag_part.Sign sign ∷ []) (begin_sign fs sign (Divides n))
 leads fs sign n r s = go (may_lack_left sign && is_outermost fs) refl
   where
-    go : (b : Bool) → (may_lack_left sign && is_outermost fs) ≡ b → ReachedBy (before fs ++ word.Sign sign ∷ []) (if b then Some (due (Left (template.Seq []) sign ∷ fs)) else None)
+    go : (b : Bool) → (may_lack_left sign && is_outermost fs) ≡ b → ReachedBy (before fs ++ tag_part.Sign sign ∷ []) (if b then Some (due (Left (template.Seq []) sign ∷ fs)) else None)
     go false e = tt
     go true e =
         let b = both-true (may_lack_left sign) (is_outermost fs) e in
@@ -276,15 +277,15 @@ leads fs sign n r s = go (may_lack_left sign && is_outermost fs) refl
         let level : n ≡ sign_level sign = sym (ap divided_at r) in
         record {
           holds = (s, subst (λ m. role_of sign ≡ Divides m) level r, inr (refl, is), omega (arith, ap sign_level is, outermost-place fs b.1));
-          spelled = ap (λ vs. before fs ++ (vs ++ word.Sign sign ∷ [])) (words-Seq []);
+          spelled = ap (λ vs. before fs ++ (vs ++ tag_part.Sign sign ∷ [])) (tag_parts-Seq []);
         }
 
-begins : (fs : List Frame) (w : Word) → Stand fs → IsWord w → ReachedBy (before fs ++ w ∷ []) (begin fs w)
-begins fs word.Hole s a = record { holds = record { frames = s; notation = hole refl; low = omega (arith, height-Hole) }; spelled = ap (λ ws. before fs ++ ws) words-Hole }
-begins fs (word.Atom name) s a = record { holds = record { frames = s; notation = atom name refl a; low = omega (arith, height-Atom name) }; spelled = ap (λ ws. before fs ++ ws) (words-Atom name) }
-begins fs (word.Sign sign) s a = go (role_of sign) refl
+begins : (fs : List Frame) (w : TagPart) → Stand fs → IsTagPart w → ReachedBy (before fs ++ w ∷ []) (begin fs w)
+begins fs tag_part.Hole s a = record { holds = record { frames = s; notation = hole refl; low = omega (arith, height-Hole) }; spelled = ap (λ ws. before fs ++ ws) tag_parts-Hole }
+begins fs (tag_part.Atom name) s a = record { holds = record { frames = s; notation = atom name refl a; low = omega (arith, height-Atom name) }; spelled = ap (λ ws. before fs ++ ws) (tag_parts-Atom name) }
+begins fs (tag_part.Sign sign) s a = go (role_of sign) refl
   where
-    go : (r : Role) → role_of sign ≡ r → ReachedBy (before fs ++ word.Sign sign ∷ []) (begin_sign fs sign r)
+    go : (r : Role) → role_of sign ≡ r → ReachedBy (before fs ++ tag_part.Sign sign ∷ []) (begin_sign fs sign r)
     go (Divides n) e = leads fs sign n e s
     go (Opens enclosure) e = record { holds = (s, e); spelled = refl }
     go (Closes enclosure) e = tt
@@ -296,28 +297,28 @@ extends t (Open opening enclosure ∷ fs) r = (r.frames, more r.notation none, o
 extends t (Left left sign ∷ fs) r = (r.frames, more r.notation none, omega arith, omega (arith, sign_level-range sign, right-gap (sign_level sign)))
 extends t (Elements parts ∷ fs) r = (r.frames.0, elements-more r.frames.1 r.notation, omega (arith, length-more parts t), r.frames.3)
 
-extend-words : (t : Template) (fs : List Frame) → before (extend t fs) ≡ before fs ++ words_of t
-extend-words t [] = append-nil (words_of t)
-extend-words t (Open opening enclosure ∷ fs) = ap (λ ws. before (Open opening enclosure ∷ fs) ++ ws) (append-nil (words_of t))
-extend-words t (Left left sign ∷ fs) = ap (λ ws. before (Left left sign ∷ fs) ++ ws) (append-nil (words_of t))
-extend-words t (Elements parts ∷ fs) = ap (λ ws. before fs ++ ws) (words_all-append parts (t ∷ []) ∙ ap (λ ws. words_all parts ++ ws) (append-nil (words_of t))) ∙ sym (append_assoc (before fs) (words_all parts) (words_of t))
+extend-tag_parts : (t : Template) (fs : List Frame) → before (extend t fs) ≡ before fs ++ tag_parts_of t
+extend-tag_parts t [] = append-nil (tag_parts_of t)
+extend-tag_parts t (Open opening enclosure ∷ fs) = ap (λ ws. before (Open opening enclosure ∷ fs) ++ ws) (append-nil (tag_parts_of t))
+extend-tag_parts t (Left left sign ∷ fs) = ap (λ ws. before (Left left sign ∷ fs) ++ ws) (append-nil (tag_parts_of t))
+extend-tag_parts t (Elements parts ∷ fs) = ap (λ ws. before fs ++ ws) (tag_parts_all-append parts (t ∷ []) ∙ ap (λ ws. tag_parts_all parts ++ ws) (append-nil (tag_parts_of t))) ∙ sym (append_assoc (before fs) (tag_parts_all parts) (tag_parts_of t))
 
-next_begins : (t : Template) (fs : List Frame) (w : Word) → Rests t fs → IsWord w → ReachedBy (before fs ++ words_of t ++ w ∷ []) (begin (extend t fs) w)
-next_begins t fs w r a = subst (λ ws. ReachedBy (ws ++ w ∷ []) (begin (extend t fs) w)) (extend-words t fs) (begins (extend t fs) w (extends t fs r) a)
+next_begins : (t : Template) (fs : List Frame) (w : TagPart) → Rests t fs → IsTagPart w → ReachedBy (before fs ++ tag_parts_of t ++ w ∷ []) (begin (extend t fs) w)
+next_begins t fs w r a = subst (λ ws. ReachedBy (ws ++ w ∷ []) (begin (extend t fs) w)) (extend-tag_parts t fs) (begins (extend t fs) w (extends t fs r) a)
 
-steps : (st : State) (w : Word) → Holds st → IsWord w → ReachedBy (seen st ++ w ∷ []) (step st w)
+steps : (st : State) (w : TagPart) → Holds st → IsTagPart w → ReachedBy (seen st ++ w ∷ []) (step st w)
 steps (due fs) w h a = begins fs w h a
-steps (read t fs) word.Hole h a = next_begins t fs word.Hole h a
-steps (read t fs) (word.Atom name) h a = next_begins t fs (word.Atom name) h a
-steps (read t fs) (word.Sign sign) h a = go (role_of sign) refl
+steps (read t fs) tag_part.Hole h a = next_begins t fs tag_part.Hole h a
+steps (read t fs) (tag_part.Atom name) h a = next_begins t fs (tag_part.Atom name) h a
+steps (read t fs) (tag_part.Sign sign) h a = go (role_of sign) refl
   where
-    go : (r : Role) → role_of sign ≡ r → ReachedBy (before fs ++ words_of t ++ word.Sign sign ∷ []) (after_sign t fs sign r)
-    go (Divides n) e = divides (before fs ++ words_of t) sign n e (reduce n t fs) (reduces n t fs (settled t fs h))
-    go (Opens enclosure) e = next_begins t fs (word.Sign sign) h a
-    go (Closes enclosure) e = closes (before fs ++ words_of t) sign enclosure e (reduce 0 t fs) (reduces 0 t fs (settled t fs h))
-    go Other e = next_begins t fs (word.Sign sign) h a
+    go : (r : Role) → role_of sign ≡ r → ReachedBy (before fs ++ tag_parts_of t ++ tag_part.Sign sign ∷ []) (after_sign t fs sign r)
+    go (Divides n) e = divides (before fs ++ tag_parts_of t) sign n e (reduce n t fs) (reduces n t fs (settled t fs h))
+    go (Opens enclosure) e = next_begins t fs (tag_part.Sign sign) h a
+    go (Closes enclosure) e = closes (before fs ++ tag_parts_of t) sign enclosure e (reduce 0 t fs) (reduces 0 t fs (settled t fs h))
+    go Other e = next_begins t fs (tag_part.Sign sign) h a
 
-pub runs : (ws : List Word) (st : State) (vs : List Word) → AllByRecursion IsWord ws → Reached vs st → ReachedBy (vs ++ ws) (run st ws)
+pub runs : (ws : List TagPart) (st : State) (vs : List TagPart) → AllByRecursion IsTagPart ws → Reached vs st → ReachedBy (vs ++ ws) (run st ws)
 runs [] st vs a r = record { holds = r.holds; spelled = r.spelled ∙ sym (append-nil vs) }
 runs (w ∷ ws) st vs a r = go (step st w) (subst (λ u. ReachedBy (u ++ w ∷ []) (step st w)) r.spelled (steps st w r.holds a.0)) (λ next h. runs ws next (vs ++ w ∷ []) a.1 h)
   where
@@ -325,12 +326,12 @@ runs (w ∷ ws) st vs a r = go (step st w) (subst (λ u. ReachedBy (u ++ w ∷ [
     go None h rest = tt
     go (Some next) h rest = subst (λ u. ReachedBy u (run next ws)) (append_assoc vs (w ∷ []) ws) (rest next h)
 
--- the template has these words
-pub record HasWords (t : Template) (ws : List Word) : Type 0 where
+-- the template has these parts
+pub record HasWords (t : Template) (ws : List TagPart) : Type 0 where
   pub template : IsTemplate t
-  pub spelled : words_of t ≡ ws
+  pub spelled : tag_parts_of t ≡ ws
 
-finishes : (t : Template) (ws : List Word) (o : Option (Template × List Frame)) → ReducedBy ws 0 o → option_and_then (λ p. whole p.0 p.1) o ≡ Some t → HasWords t ws
+finishes : (t : Template) (ws : List TagPart) (o : Option (Template × List Frame)) → ReducedBy ws 0 o → option_and_then (λ p. whole p.0 p.1) o ≡ Some t → HasWords t ws
 finishes t ws None q e = absurd (cc)
 finishes t ws (Some p) q e = go p.0 p.1 q e
   where
@@ -340,11 +341,11 @@ finishes t ws (Some p) q e = go p.0 p.1 q e
         subst (λ v. HasWords v ws) same (record { template = record { notation = q.placed.notation; height = q.placed.low }; spelled = q.spelled })
     go u (f ∷ fs) q e = absurd (cc)
 
-ends : (t : Template) (ws : List Word) (o : Option State) → ReachedBy ws o → option_and_then finish o ≡ Some t → HasWords t ws
+ends : (t : Template) (ws : List TagPart) (o : Option State) → ReachedBy ws o → option_and_then finish o ≡ Some t → HasWords t ws
 ends t ws None r e = absurd (cc)
 ends t ws (Some (due fs)) r e = absurd (cc)
 ends t ws (Some (read u fs)) r e = finishes t ws (reduce 0 u fs) (subst (λ vs. ReducedBy vs 0 (reduce 0 u fs)) r.spelled (reduces 0 u fs (settled u fs r.holds))) e
 
--- what all words are read as is a template of these words
-pub sound : (ws : List Word) (t : Template) → AllByRecursion IsWord ws → reads (due []) ws ≡ Some t → HasWords t ws
+-- what all parts are read as is a template of these parts
+pub sound : (ws : List TagPart) (t : Template) → AllByRecursion IsTagPart ws → reads (due []) ws ≡ Some t → HasWords t ws
 sound ws t a e = ends t ws (run (due []) ws) (runs ws (due []) [] a (record { holds = tt; spelled = refl })) e

@@ -1,46 +1,46 @@
--- The words, heights and levels of the forms of templates.
+-- The parts, heights and levels of the forms of templates.
 use Rattle.std.proofs.Common.{rules, ◌≡◌, refl, sym, ◌∙◌, ap, ℕ, ◌+◌, max, List, [], ◌∷◌, ◌++◌, map, append_assoc}
 use Rattle.std.specs.Prelude.{flat_map}
 use Rattle.st_num.specs.declared.mark.Mark.{Mark}
 use Rattle.st_il.specs.declared.template.Template.{Template, the_lemmas}
 use Rattle.st_il.specs.declared.template.Template.TheVariants as template
-use Rattle.st_il.specs.declared.template.Word.{Word}
-use Rattle.st_il.specs.declared.template.Word.TheVariants as word
+use Rattle.st_il.specs.declared.template.TagPart.{TagPart}
+use Rattle.st_il.specs.declared.template.TagPart.TheVariants as tag_part
 use Rattle.st_il.specs.Height.{highest}
 use Rattle.st_il.specs.Notation.{closing}
-use Rattle.st_il.specs.Template.{words_of, template_height}
-use Rattle.st_il.specs.Reading.{level_at, level_of, sign_level}
+use Rattle.st_il.specs.Template.{tag_parts_of, template_height}
+use Rattle.st_il.specs.inner.Reading.{level_at, level_of, sign_level}
 
--- the words of some templates, one behind another
-abbrev pub words_all : List Template → List Word
-words_all [] = []
-words_all (t ∷ ts) = words_of t ++ words_all ts
+-- the parts of some templates, one behind another
+abbrev pub tag_parts_all : List Template → List TagPart
+tag_parts_all [] = []
+tag_parts_all (t ∷ ts) = tag_parts_of t ++ tag_parts_all ts
 
-words_all-map : (ts : List Template) → flat_map (λ (part : List Word). part) (map words_of ts) ≡ words_all ts
-words_all-map [] = refl
-words_all-map (t ∷ ts) = ap (λ ws. words_of t ++ ws) (words_all-map ts)
+tag_parts_all-map : (ts : List Template) → flat_map (λ (part : List TagPart). part) (map tag_parts_of ts) ≡ tag_parts_all ts
+tag_parts_all-map [] = refl
+tag_parts_all-map (t ∷ ts) = ap (λ ws. tag_parts_of t ++ ws) (tag_parts_all-map ts)
 
-pub words_all-append : (ts us : List Template) → words_all (ts ++ us) ≡ words_all ts ++ words_all us
-words_all-append [] us = refl
-words_all-append (t ∷ ts) us = ap (λ ws. words_of t ++ ws) (words_all-append ts us) ∙ sym (append_assoc (words_of t) (words_all ts) (words_all us))
+pub tag_parts_all-append : (ts us : List Template) → tag_parts_all (ts ++ us) ≡ tag_parts_all ts ++ tag_parts_all us
+tag_parts_all-append [] us = refl
+tag_parts_all-append (t ∷ ts) us = ap (λ ws. tag_parts_of t ++ ws) (tag_parts_all-append ts us) ∙ sym (append_assoc (tag_parts_of t) (tag_parts_all ts) (tag_parts_all us))
 
-pub words-Atom : (name : List ℕ) → words_of (template.Atom name) ≡ word.Atom name ∷ []
-words-Atom name = search (rules, the_lemmas)
+pub tag_parts-Atom : (name : List ℕ) → tag_parts_of (template.Atom name) ≡ tag_part.Atom name ∷ []
+tag_parts-Atom name = search (rules, the_lemmas)
 
-pub words-Hole : words_of template.Hole ≡ word.Hole ∷ []
-words-Hole = search (rules, the_lemmas)
+pub tag_parts-Hole : tag_parts_of template.Hole ≡ tag_part.Hole ∷ []
+tag_parts-Hole = search (rules, the_lemmas)
 
-words-Seq-map : (ts : List Template) → words_of (template.Seq ts) ≡ flat_map (λ (part : List Word). part) (map words_of ts)
-words-Seq-map ts = search (rules, the_lemmas)
+tag_parts-Seq-map : (ts : List Template) → tag_parts_of (template.Seq ts) ≡ flat_map (λ (part : List TagPart). part) (map tag_parts_of ts)
+tag_parts-Seq-map ts = search (rules, the_lemmas)
 
-pub words-Seq : (ts : List Template) → words_of (template.Seq ts) ≡ words_all ts
-words-Seq ts = words-Seq-map ts ∙ words_all-map ts
+pub tag_parts-Seq : (ts : List Template) → tag_parts_of (template.Seq ts) ≡ tag_parts_all ts
+tag_parts-Seq ts = tag_parts-Seq-map ts ∙ tag_parts_all-map ts
 
-pub words-Infix : (left : Template) (sign : Mark) (right : Template) → words_of (template.Infix left sign right) ≡ words_of left ++ word.Sign sign ∷ words_of right
-words-Infix left sign right = search (rules, the_lemmas)
+pub tag_parts-Infix : (left : Template) (sign : Mark) (right : Template) → tag_parts_of (template.Infix left sign right) ≡ tag_parts_of left ++ tag_part.Sign sign ∷ tag_parts_of right
+tag_parts-Infix left sign right = search (rules, the_lemmas)
 
-pub words-Bracket : (opening : Mark) (inside : Template) → words_of (template.Bracket opening inside) ≡ word.Sign opening ∷ (words_of inside ++ word.Sign (closing opening) ∷ [])
-words-Bracket opening inside = search (rules, the_lemmas)
+pub tag_parts-Bracket : (opening : Mark) (inside : Template) → tag_parts_of (template.Bracket opening inside) ≡ tag_part.Sign opening ∷ (tag_parts_of inside ++ tag_part.Sign (closing opening) ∷ [])
+tag_parts-Bracket opening inside = search (rules, the_lemmas)
 
 pub height-Atom : (name : List ℕ) → template_height (template.Atom name) ≡ 1
 height-Atom name = search (rules, the_lemmas)

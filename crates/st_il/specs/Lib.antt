@@ -1,11 +1,25 @@
-pub mod Order
+-- What must be believed of the internal language, in reading order.
+
+-- how high a value is
 pub mod Height
+-- a value is not too high, and all its texts are texts
 pub mod Value
+-- the order of values, in which two are equal only where they are the same
+pub mod Order
+-- a notation may stand where a sign of this level or a tighter one is due
 pub mod Notation
+-- a template has this tag, and a tag at most one template
 pub mod Template
-pub mod Reading
+-- the key of a notation: what tells apart the cases of a syntax
 pub mod Key
+-- an expression has this value in an environment
 pub mod Evaluation
+-- a premise holds in an environment
 pub mod Holding
+-- a judgement is derivable: some tree of nodes that keep the rules derives it
 pub mod Derivation
+-- a small specification means this internal language
 pub mod Small
+
+-- ---- what only proofs need
+pub mod inner

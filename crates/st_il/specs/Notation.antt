@@ -1,9 +1,10 @@
 -- Notations with their types as holes: the levels of signs, atoms, and which trees are notations.
-use Rattle.std.specs.Prelude.{◌≡◌, ℕ, ◌+◌, ◌≤◌, Bool, ◌||◌, IsTrue, List, [], ◌∷◌, ◌++◌, length, if◌then◌else◌, ◌==◌}
+use Rattle.std.specs.Prelude.{◌≡◌, ℕ, ◌≤◌, Bool, true, false, ◌||◌, IsTrue, List, [], ◌∷◌, ◌++◌, length, if◌then◌else◌, ◌==◌}
 use Rattle.std.specs.Char.{is_ascii_uppercase, is_ascii_digit}
 use Rattle.std.specs.List.{AllByRecursion}
+use Rattle.st_num.specs.Signs.{level, left_of, right_of, is_notation}
 use Rattle.st_num.specs.declared.mark.Mark.{Mark}
-use Rattle.st_num.specs.declared.mark.Mark.TheVariants.{Turnstile, ReverseTurnstile, SquigglyArrowStar, SquigglyArrow, Colon, Subtype, Supertype, Approximately, Define, Semicolon, Arrow, DotDot, CloseParen, CloseBracket, CloseBrace, TickParen, TickBracket, TickBrace}
+use Rattle.st_num.specs.declared.mark.Mark.TheVariants.{Turnstile, CloseParen, CloseBracket, CloseBrace, TickParen, TickBracket, TickBrace}
 use Rattle.st_il.specs.declared.template.Enclosure.{Enclosure}
 use Rattle.st_il.specs.declared.template.Enclosure.TheVariants.{Parens, Brackets, Braces}
 use Rattle.st_il.specs.declared.template.Role.{Role}
@@ -13,35 +14,23 @@ use Rattle.st_il.specs.declared.template.Template.TheVariants as template
 
 -- ---- signs
 
--- what a sign is for in a notation; of the levels the looser have the lower numbers
+-- what a sign is for in a notation
 abbrev pub role_of : Mark → Role
-role_of Turnstile = Divides 7
-role_of ReverseTurnstile = Divides 7
-role_of SquigglyArrow = Divides 8
-role_of SquigglyArrowStar = Divides 8
-role_of Colon = Divides 9
-role_of Subtype = Divides 9
-role_of Supertype = Divides 9
-role_of Approximately = Divides 9
-role_of Define = Divides 9
-role_of Semicolon = Divides 10
-role_of Arrow = Divides 11
-role_of DotDot = Divides 12
 role_of TickParen = Opens Parens
 role_of TickBracket = Opens Brackets
 role_of TickBrace = Opens Braces
 role_of CloseParen = Closes Parens
 role_of CloseBracket = Closes Brackets
 role_of CloseBrace = Closes Braces
-role_of _ = Other
+role_of sign = if is_notation sign then Divides (level sign) else Other
 
--- The level of what stands at the left and the right of a sign is tighter than the sign's.
--- Only `;` groups to the left, and `->` to the right.
-abbrev pub left_of : ℕ → ℕ
-left_of level = if level == 10 then level else level + 1
+abbrev pub is_role : Role → Bool
+is_role Other = false
+is_role _ = true
 
-abbrev pub right_of : ℕ → ℕ
-right_of level = if level == 11 then level else level + 1
+-- whether the sign stands in notations
+abbrev pub has_role : Mark → Bool
+has_role sign = is_role (role_of sign)
 
 -- the plain bracket that closes an enclosure
 abbrev pub closing_of : Enclosure → Mark

@@ -1,7 +1,10 @@
 -- Small specifications in the internal language:
 -- one syntax of atoms, and one relation whose rules have no premises.
-use Rattle.std.specs.Prelude.{◌≡◌, ℕ, ◌≤◌, ◌≢◌, length, List, [], ◌∷◌, map, codes, All, Contains}
+use Rattle.std.specs.Prelude.{◌≡◌, ℕ, ◌-◌, ◌≤◌, ◌≢◌, length, List, [], ◌∷◌, map, codes, All, Contains}
 use Rattle.std.specs.List.{AllPairs}
+use Rattle.st_num.specs.Words.{word_spelling}
+use Rattle.st_num.specs.declared.limit.TheConstants.{MOST_DEFINITIONS, MOST_PARTS}
+use Rattle.st_num.specs.declared.word.TheConstants.Word.{ALL}
 use Rattle.st_il.specs.declared.definition.Alternative.TheVariants.{Case as CaseAlternative}
 use Rattle.st_il.specs.declared.definition.Il.{Il}
 use Rattle.st_il.specs.declared.definition.IlDef.{IlDef}
@@ -23,12 +26,9 @@ IsUpper letter = (65 ≤ letter) × (letter ≤ 90)
 abbrev pub IsWordOf : (ℕ → Type 0) → List ℕ → Type 0
 IsWordOf IsLetter word = (word ≢ []) × All IsLetter word
 
--- the words that name no syntax
+-- the words that the language keeps for itself
 abbrev pub reserved : List (List ℕ)
-reserved =
-    codes "syntax" ∷ codes "relation" ∷ codes "rule" ∷ codes "var" ∷ codes "def" ∷ codes "grammar"
-    ∷ codes "hint" ∷ codes "if" ∷ codes "otherwise" ∷ codes "eps" ∷ codes "true" ∷ codes "false"
-    ∷ codes "bool" ∷ codes "nat" ∷ codes "int" ∷ codes "text" ∷ codes "rat" ∷ codes "real" ∷ []
+reserved = map word_spelling ALL
 
 -- no two of them are equal
 abbrev pub AreDistinct : List (List ℕ) → Type 0
@@ -49,11 +49,11 @@ pub record IsSmall (s : Small) : Type 0 where
   pub unreserved : Contains reserved s.syntax → ⊥
   pub atoms : All (IsWordOf IsUpper) s.atoms
   pub some : 1 ≤ length s.atoms
-  pub few : length s.atoms ≤ 4095
+  pub few : length s.atoms ≤ MOST_PARTS
   pub distinct : AreDistinct s.atoms
   pub relation : IsWordOf IsUpper s.relation
   pub rules : All (IsSmallRule s.atoms) s.rules
-  pub few_rules : length s.rules ≤ 65533
+  pub few_rules : length s.rules ≤ MOST_DEFINITIONS - 2
   pub distinct_rules : AreDistinct (rule_names s.rules)
 
 -- its internal language: the syntax, the relation and the rules

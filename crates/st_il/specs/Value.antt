@@ -1,18 +1,11 @@
--- Values: of height at most 1,000, and all their texts, tags and field names are texts.
-use Rattle.std.specs.Prelude.{◌≡◌, ℕ, ◌≤◌, ◌⊎◌, List, [], ◌∷◌, flat_map, map, Some, None, IsUtf8}
+-- Values: they are not too high, and all their texts, tags and field names are texts.
+use Rattle.std.specs.Prelude.{ℕ, ◌≤◌, List, [], ◌∷◌, flat_map, map, Some, None}
 use Rattle.std.specs.List.{All}
+use Rattle.st_num.specs.Texts.{IsText}
+use Rattle.st_num.specs.declared.limit.TheConstants.{HIGHEST_VALUE}
 use Rattle.st_il.specs.declared.value.Value.{Value, fold-Value}
 use Rattle.st_il.specs.declared.value.Value.TheOpen.{Value-F}
 use Rattle.st_il.specs.Height.{height}
-
--- a byte that is no control character, or a line feed or a tab
-abbrev pub IsTextByte : ℕ → Type 0
-IsTextByte byte = (32 ≤ byte) ⊎ (byte ≡ 10) ⊎ (byte ≡ 9)
-
--- UTF-8 whose only characters below U+0020 are line feeds and tabs
-pub record IsText (bytes : List ℕ) : Type 0 where
-  pub utf8 : IsUtf8 bytes
-  pub printable : All IsTextByte bytes
 
 abbrev pub joined : List (List (List ℕ)) → List (List ℕ)
 joined = flat_map (λ texts. texts)
@@ -38,5 +31,5 @@ abbrev pub texts_of : Value → List (List ℕ)
 texts_of = fold-Value (List (List ℕ)) texts_at
 
 pub record IsValue (value : Value) : Type 0 where
-  pub height : height value ≤ 1000
+  pub height : height value ≤ HIGHEST_VALUE
   pub texts : All IsText (texts_of value)

@@ -9,6 +9,7 @@ pub struct Il {
     pub defs: Row<IlDef>,
 }
 
+/// A definition, in the order of the source.
 #[derive(Drop)]
 pub enum IlDef {
     Syntax(SyntaxDef),
@@ -20,12 +21,14 @@ pub enum IlDef {
     Clause(ClauseDef),
 }
 
+/// A syntax: the name of a type, and which values it has.
 #[derive(Drop)]
 pub struct SyntaxDef {
     pub name: Name,
     pub body: SyntaxBody,
 }
 
+/// Which values a syntax has: those of another type, cases by their tags, or records.
 #[derive(Drop)]
 pub enum SyntaxBody {
     Alias(Ty),
@@ -34,6 +37,7 @@ pub enum SyntaxBody {
     Fields(Row<(Name, Ty)>),
 }
 
+/// An alternative of a variant.
 #[derive(Drop)]
 pub enum Alternative {
     /// A case: its tag, and the types of its operands.
@@ -71,6 +75,8 @@ pub struct RuleDef {
     pub premises: Row<IlPrem>,
 }
 
+/// A function: the types of its arguments and of its result. Its clauses are definitions of their
+/// own.
 #[derive(Drop)]
 pub struct FunDef {
     pub name: Name,

@@ -27,6 +27,7 @@ pub enum Iteration {
     Below(Name, Boxed<IlExp>),
 }
 
+/// An expression, with each conversion between types written out.
 #[cycle(expression)]
 #[derive(Drop)]
 pub enum IlExp {

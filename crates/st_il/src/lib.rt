@@ -14,9 +14,11 @@ mod height;
 mod key;
 mod order;
 mod reading;
+mod reserved;
 mod same;
 mod small;
 mod small_il;
+mod tag_part;
 mod template;
 #[cfg(test)]
 mod tests;
@@ -24,7 +26,6 @@ mod tree;
 mod ty;
 mod type_rule;
 mod value;
-mod word;
 
 pub use copy::{copy_env, copy_fields, copy_ty, copy_tys, copy_value, copy_values};
 pub use definition::{
@@ -35,6 +36,7 @@ pub use height::is_within_height;
 pub use key::{Key, key_of, same_key};
 pub use order::{compare, compare_values};
 pub use reading::template_of;
+pub use reserved::is_reserved;
 pub use same::{same_env, same_fields, same_value, same_values};
 pub use small::{Small, SmallRule};
 pub use small_il::il_of_small;

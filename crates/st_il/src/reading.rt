@@ -1,19 +1,19 @@
-//! The template of a tag. Words are read one after another; what is not finished yet waits in
+//! The template of a tag. Parts are read one after another; what is not finished yet waits in
 //! frames, the innermost last.
 
 ghost use Rattle.std.specs.Prelude.{◌≡◌, [], IfOk, IfSome, IfNone, reverse};
 ghost use Rattle.std.specs.Option.{option_map, option_and_then};
-ghost use Rattle.st_il.specs.Reading as spec;
-ghost use Rattle.st_il.specs.Reading.{state_of, reversed};
+ghost use Rattle.st_il.specs.inner.Reading as spec;
+ghost use Rattle.st_il.specs.inner.Reading.{state_of, reversed};
 ghost use Rattle.st_il.specs.Template.{HasTag, HasOneTemplate};
 ghost use Rattle.st_il.specs.declared.template.Template.{Template};
 
 use crate::Template;
+use crate::tag_part::tag_parts;
 use crate::template::{
-    Enclosure, Role, Word, is_within, left_of, level_of, right_of, role_of, sign_level,
+    Enclosure, Role, TagPart, is_within, left_of, level_of, right_of, role_of, sign_level,
 };
-use crate::word::words;
-use st_num::{Boxed, Mark, Name, NoMemory, Row};
+use st_num::{Boxed, HIGHEST_TREE, Mark, Name, NoMemory, Row};
 use std::alloc::Global;
 
 /// A part of a template that waits for what stands behind it.
@@ -52,20 +52,20 @@ fn read_tag(alloc: Global, tag: &[u8]) -> Result<Option<Template>, NoMemory>
     ensures none { IfOk result
         (λ found. IfNone found ((template : Template) → HasTag template tag.now → ⊥)) }
 {
-    let Some(words) = words(alloc, tag)? else {
+    let Some(parts) = tag_parts(alloc, tag)? else {
         return Ok(None);
     };
-    let found = read_words(alloc, words.as_slice())?;
+    let found = read_tag_parts(alloc, parts.as_slice())?;
     Ok(found)
 }
 
-/// The template of these words.
-fn read_words(alloc: Global, words: &[Word]) -> Result<Option<Template>, NoMemory>
-    ensures { IfOk result (λ found. found ≡ spec.reads (spec.due []) words.now) }
+/// The template of these parts.
+fn read_tag_parts(alloc: Global, parts: &[TagPart]) -> Result<Option<Template>, NoMemory>
+    ensures { IfOk result (λ found. found ≡ spec.reads (spec.due []) tag_parts.now) }
 {
     let mut state = State::Due(Row::new(alloc));
-    for word in words {
-        let Some(next) = step(alloc, state, word)? else {
+    for part in parts {
+        let Some(next) = step(alloc, state, part)? else {
             return Ok(None);
         };
         state = next;
@@ -74,45 +74,45 @@ fn read_words(alloc: Global, words: &[Word]) -> Result<Option<Template>, NoMemor
     Ok(found)
 }
 
-/// Takes one more word, if it may stand there.
-fn step(alloc: Global, state: State, word: &Word) -> Result<Option<State>, NoMemory>
-    ensures { IfOk result (λ next. option_map state_of next ≡ spec.step (state_of state) word.now) }
+/// Takes one more part, if it may stand there.
+fn step(alloc: Global, state: State, part: &TagPart) -> Result<Option<State>, NoMemory>
+    ensures { IfOk result (λ next. option_map state_of next ≡ spec.step (state_of state) part.now) }
 {
     match state {
-        State::Due(frames) => begin(alloc, frames, word),
-        State::Read(template, frames) => after(alloc, template, frames, word),
+        State::Due(frames) => begin(alloc, frames, part),
+        State::Read(template, frames) => after(alloc, template, frames, part),
     }
 }
 
-/// Takes a word behind an element.
+/// Takes a part behind an element.
 fn after(
     alloc: Global,
     template: Template,
     frames: Row<Frame>,
-    word: &Word,
+    part: &TagPart,
 ) -> Result<Option<State>, NoMemory>
     ensures { IfOk result
-        (λ next. option_map state_of next ≡ spec.after template (reverse frames) word.now) }
+        (λ next. option_map state_of next ≡ spec.after template (reverse frames) part.now) }
 {
-    match word {
-        Word::Hole | Word::Atom(_) => begin(alloc, extend(alloc, template, frames)?, word),
-        Word::Sign(sign) => match role_of(*sign) {
+    match part {
+        TagPart::Hole | TagPart::Atom(_) => begin(alloc, extend(alloc, template, frames)?, part),
+        TagPart::Sign(sign) => match role_of(*sign) {
             Role::Divides(level) => divide(alloc, template, frames, *sign, level),
             Role::Closes(enclosure) => shut(alloc, template, frames, enclosure),
-            Role::Opens(_) | Role::Other => begin(alloc, extend(alloc, template, frames)?, word),
+            Role::Opens(_) | Role::Other => begin(alloc, extend(alloc, template, frames)?, part),
         },
     }
 }
 
-/// Takes a word where an operand is due.
-fn begin(alloc: Global, mut frames: Row<Frame>, word: &Word) -> Result<Option<State>, NoMemory>
+/// Takes a part where an operand is due.
+fn begin(alloc: Global, mut frames: Row<Frame>, part: &TagPart) -> Result<Option<State>, NoMemory>
     ensures { IfOk result
-        (λ next. option_map state_of next ≡ spec.begin (reverse frames) word.now) }
+        (λ next. option_map state_of next ≡ spec.begin (reverse frames) part.now) }
 {
-    match word {
-        Word::Hole => Ok(Some(State::Read(Template::Hole, frames))),
-        Word::Atom(name) => Ok(Some(State::Read(Template::Atom(name.copy(alloc)?), frames))),
-        Word::Sign(sign) => match role_of(*sign) {
+    match part {
+        TagPart::Hole => Ok(Some(State::Read(Template::Hole, frames))),
+        TagPart::Atom(name) => Ok(Some(State::Read(Template::Atom(name.copy(alloc)?), frames))),
+        TagPart::Sign(sign) => match role_of(*sign) {
             Role::Opens(enclosure) => {
                 frames.push(Frame::Open(*sign, enclosure))?;
                 Ok(Some(State::Due(frames)))
@@ -284,7 +284,7 @@ fn closed(alloc: Global, frame: Frame, template: Template) -> Result<Template, N
 fn limited(template: Template) -> Option<Template>
     ensures { result ≡ spec.limited template }
 {
-    if is_within(&template, 100) {
+    if is_within(&template, u32::from(HIGHEST_TREE)) {
         Some(template)
     } else {
         None

@@ -1,12 +1,13 @@
-//! Templates: notations with their types as holes, and the words of their tags.
+//! Templates: notations with their types as holes, and the parts of their tags.
 
 ghost use Rattle.std.specs.Prelude.{◌≡◌, nat_le, map};
+ghost use Rattle.st_num.specs.Signs.{left_of, right_of};
 ghost use Rattle.st_il.specs.Height.{highest};
-ghost use Rattle.st_il.specs.Notation.{role_of, left_of, right_of};
-ghost use Rattle.st_il.specs.Reading.{sign_level, level_of};
+ghost use Rattle.st_il.specs.Notation.{role_of, has_role};
+ghost use Rattle.st_il.specs.inner.Reading.{sign_level, level_of};
 ghost use Rattle.st_il.specs.Template.{template_height};
 
-use st_num::{Boxed, Mark, Name, Row};
+use st_num::{Boxed, Grouping, Mark, Name, Row};
 
 /// A notation with its types as holes. A sequence has two elements or more, or none where it is
 /// the absent left side of `|-`.
@@ -21,7 +22,7 @@ pub enum Template {
 
 /// A part of a tag. The parts stand with one space between them.
 #[derive(Drop)]
-pub enum Word {
+pub enum TagPart {
     Hole,
     Atom(Name),
     Sign(Mark),
@@ -49,21 +50,22 @@ pub fn role_of(sign: Mark) -> Role
     ensures { result ≡ role_of sign }
 {
     match sign {
-        Mark::Turnstile | Mark::ReverseTurnstile => Role::Divides(7),
-        Mark::SquigglyArrow | Mark::SquigglyArrowStar => Role::Divides(8),
-        Mark::Colon | Mark::Subtype | Mark::Supertype => Role::Divides(9),
-        Mark::Approximately | Mark::Define => Role::Divides(9),
-        Mark::Semicolon => Role::Divides(10),
-        Mark::Arrow => Role::Divides(11),
-        Mark::DotDot => Role::Divides(12),
         Mark::TickParen => Role::Opens(Enclosure::Parens),
         Mark::TickBracket => Role::Opens(Enclosure::Brackets),
         Mark::TickBrace => Role::Opens(Enclosure::Braces),
         Mark::CloseParen => Role::Closes(Enclosure::Parens),
         Mark::CloseBracket => Role::Closes(Enclosure::Brackets),
         Mark::CloseBrace => Role::Closes(Enclosure::Braces),
+        _ if sign.is_notation() => Role::Divides(sign.level()),
         _ => Role::Other,
     }
+}
+
+/// Whether the sign stands in notations.
+pub fn has_role(sign: Mark) -> bool
+    ensures { result ≡ has_role sign }
+{
+    !matches!(role_of(sign), Role::Other)
 }
 
 /// The level at which a sign divides, or 0.
@@ -91,22 +93,14 @@ pub fn level_of(template: &Template) -> u8
 pub fn left_of(level: u8) -> u16
     ensures { result ≡ left_of level }
 {
-    if level == 10 {
-        10
-    } else {
-        u16::from(level) + 1
-    }
+    u16::from(level) + u16::from(Grouping::at(level).left_gap())
 }
 
 /// The level that is due at the right of a sign of this level.
 pub fn right_of(level: u8) -> u16
     ensures { result ≡ right_of level }
 {
-    if level == 11 {
-        11
-    } else {
-        u16::from(level) + 1
-    }
+    u16::from(level) + u16::from(Grouping::at(level).right_gap())
 }
 
 /// Whether the template is at most so high.

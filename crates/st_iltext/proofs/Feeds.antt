@@ -4,10 +4,10 @@ use Rattle.std.specs.List.{All, list_all}
 use Rattle.std.proofs.lemmas.List.Elements.{All-map}
 use Rattle.st_il.specs.declared.definition.Il.{Il}
 use Rattle.st_il.specs.declared.definition.IlDef.{IlDef}
-use Rattle.st_iltext.specs.Text.{TextTree, word, quote, list, TextTrees, none, more, escape_letter, escaped, is_word_byte, text, row_text, behind, IsSpelled, AreSpelled, HasText}
+use Rattle.st_text.specs.Text.{TextTree, word, quote, list, TextTrees, none, more, escape_letter, escaped, is_word_byte, text, row_text, behind, IsSpelled, AreSpelled, HasText}
 use Rattle.st_iltext.specs.Definitions.{definition_tree}
 use Rattle.st_iltext.specs.IlText.{IlText, il_lines}
-use Rattle.st_iltext.proofs.Bytes.{and_true, escaped_forms}
+use Rattle.st_text.proofs.Bytes.{and_true, escaped_forms}
 use Rattle.st_iltext.proofs.Lines.{IsLine}
 
 NoFeed : List ℕ → Type 0

@@ -6,12 +6,12 @@ use Rattle.st_il.specs.declared.definition.Il.{Il}
 use Rattle.st_il.specs.declared.small.Small.{Small}
 use Rattle.st_il.specs.declared.small.SmallRule.{SmallRule}
 use Rattle.st_il.specs.Small.{IsSmall, IsSmallRule, il_of}
-use Rattle.st_iltext.specs.declared.fault.TextFault.{TextFault}
-use Rattle.st_iltext.specs.declared.fault.TextFault.TheVariants.{Malformed, Memory}
+use Rattle.st_text.specs.declared.fault.TextFault.{TextFault}
+use Rattle.st_text.specs.declared.fault.TextFault.TheVariants.{Malformed, Memory}
 use Rattle.st_iltext.specs.declared.small_line.Head.{Head}
 use Rattle.st_iltext.specs.IlLaws.{OneIlText, OneIl}
 use Rattle.st_iltext.specs.IlText.{IlText, il_lines, lines_text, ReadsIl}
-use Rattle.st_iltext.specs.SmallReading.{small_of, rule_lines, relation_line}
+use Rattle.st_iltext.specs.inner.SmallReading.{small_of, rule_lines, relation_line}
 use Rattle.st_iltext.proofs.BadLines.{shorter}
 use Rattle.st_iltext.proofs.Feeds.{il_lines-single}
 use Rattle.st_iltext.proofs.Lines.{IsLine, lines_front, lines-cons}

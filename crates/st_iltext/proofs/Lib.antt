@@ -1,11 +1,3 @@
-pub mod Bytes
-pub mod Unique
-pub mod CutOff
-mod Words
-mod Content
-mod Rows
-mod Wholes
-pub mod NumberWords
 pub mod SmallTrees
 mod Shapes
 pub mod NameSets

@@ -3,12 +3,12 @@ use Rattle.std.proofs.Common.{◌≡◌, ◌≢◌, ℕ, Bool, true, false, true
 use Rattle.st_il.specs.declared.small.SmallRule.{SmallRule}
 use Rattle.st_il.specs.Small.{IsLower, IsUpper, IsWordOf, IsSmall, IsSmallRule}
 use Rattle.st_iltext.specs.declared.small_line.Head.{Head}
-use Rattle.st_iltext.specs.Text.{TextTree, TextTrees, text, TreeText}
-use Rattle.st_iltext.specs.Trees.{row_of}
-use Rattle.st_iltext.specs.Reading.{IsNoTree}
-use Rattle.st_iltext.specs.SmallReading.{syntax_line, relation_line, rule_line, IsSyntax, small_of}
-use Rattle.st_iltext.specs.SmallShapes.{tag_shape, syntax_tree, syntax_shape, relation_shape, rule_shape}
-use Rattle.st_iltext.proofs.Unique.{one_tree}
+use Rattle.st_text.specs.Text.{TextTree, TextTrees, text, TreeText}
+use Rattle.st_text.specs.Trees.{row_of}
+use Rattle.st_text.specs.Reading.{IsNoTree}
+use Rattle.st_iltext.specs.inner.SmallReading.{syntax_line, relation_line, rule_line, IsSyntax, small_of}
+use Rattle.st_iltext.specs.inner.SmallShapes.{tag_shape, syntax_tree, syntax_shape, relation_shape, rule_shape}
+use Rattle.st_text.proofs.Unique.{one_tree}
 use Rattle.st_iltext.proofs.SmallUnique.{syntax-name, syntax-tags, tags-unique, relation-name, rule-unique}
 use Rattle.st_iltext.proofs.SmallTrees.{syntax_tree-is, relation_tree, rule_tree, syntax_has_text, relation_has_text, rule_has_text}
 

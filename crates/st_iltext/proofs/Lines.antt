@@ -6,7 +6,7 @@ use Rattle.std.proofs.lemmas.List.{length-append}
 use Rattle.std.proofs.lemmas.List.Elements.{Contains-append_right}
 use Rattle.std.proofs.lemmas.Grind.{flat_map-append}
 use Rattle.st_iltext.specs.IlText.{lines_text}
-use Rattle.st_iltext.proofs.Bytes.{heads, tails}
+use Rattle.st_text.proofs.Bytes.{heads, tails}
 
 -- a line has no line feed
 abbrev pub IsLine : List ℕ → Type 0

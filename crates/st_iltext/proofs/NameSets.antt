@@ -1,37 +1,16 @@
 -- Names in sets, and names of which no two are equal.
 use Rattle.std.proofs.Common.{◌≡◌, ◌≢◌, ℕ, ◌+◌, ◌<◌, Bool, true, false, not, true≢false, eqb, List, [], ◌∷◌, ◌++◌, length, take, get_or, refl, sym, ap, subst, ◌∙◌, arith, length-take, ◌≤◌, ◌==◌, if◌then◌else◌}
 use Rattle.std.specs.Bool.{Decides}
-use Rattle.std.specs.Borrow.{Bor}
 use Rattle.std.specs.Cmp.Lexicographic.{pointwise}
 use Rattle.std.specs.List.{All, Contains, list_any}
-use Rattle.std.proofs.lemmas.List.{length-map, get_or-map, get_or-take, get_or_default, take_more, take_all}
+use Rattle.std.proofs.lemmas.List.{get_or-take, get_or_default, take_more, take_all}
 use Rattle.std.proofs.lemmas.List.Folds.{Any-from_list_any, list_any_at}
 use Rattle.std.proofs.lemmas.List.Elements.{All-push}
 use Rattle.std.proofs.lemmas.List.Quantifiers.{all_pairs_push}
 use Rattle.std.proofs.lemmas.Slice.Eq.{bytes_eq-Decides}
 use Rattle.indexmap.specs.IndexSet.{insert_key}
 use Rattle.st_il.specs.Small.{AreDistinct}
-use Rattle.st_iltext.specs.Names.{names_of, Adds}
-
--- a test for a word finds it exactly where it is
-pub any_word : (test : Bor (List ℕ) → Bool) (name : List ℕ) → ((key : Bor (List ℕ)) → Decides (test key) (key.now ≡ name))
-    → (keys : List (Bor (List ℕ))) → Decides (list_any test keys) (Contains (names_of keys) name)
-any_word test name decides keys = (found keys, has keys)
-  where
-    found : (ks : List (Bor (List ℕ))) → list_any test ks ≡ true → Contains (names_of ks) name
-    found ks h = by (Any-from_list_any test ks h).0 (Any-from_list_any test ks h).1 (Any-from_list_any test ks h).2 (Any-from_list_any test ks h).3 (Any-from_list_any test ks h).4
-      where
-        by : (k : ℕ) (x : Bor (List ℕ)) → k < length ks → get_or ks k x ≡ x → test x ≡ true → Contains (names_of ks) name
-        by k x within at passes =
-            let within-names : k < length (names_of ks) = rw length-map within in
-            (k, within-names, get_or-map (λ key. key.now) ks k x name within ∙ ap (λ key. key.now) at ∙ (decides x).0 passes)
-
-    has : (ks : List (Bor (List ℕ))) → Contains (names_of ks) name → list_any test ks ≡ true
-    has [] h = absurd (omega (arith, h.1))
-    has (x ∷ ks) h =
-        let within : h.0 < length (x ∷ ks) = simp length-map at h.1 in
-        list_any_at test (x ∷ ks) h.0 x within
-        ((decides (get_or (x ∷ ks) h.0 x)).1 (sym (get_or-map (λ key. key.now) (x ∷ ks) h.0 x name within) ∙ h.2))
+use Rattle.st_iltext.specs.inner.Names.{Adds}
 
 -- a name is in a set exactly where a test for it finds it
 pub any_name : (name : List ℕ) (keys : List (List ℕ)) → Decides (list_any (λ key. pointwise eqb name key) keys) (Contains keys name)

@@ -1,9 +1,9 @@
 -- What the readers of shapes need.
 use Rattle.std.proofs.Common.{◌≡◌, ℕ, zero, suc, ◌<◌, List, [], ◌∷◌, length, map, get_or, Option, None, MatchOption, sym, subst, arith}
-use Rattle.st_iltext.specs.declared.tree.TextTree as program
-use Rattle.st_iltext.specs.Text.{TextTree, TextTrees, list, none, more}
-use Rattle.st_iltext.specs.Trees.{row_of, tree_of, trees_of}
-use Rattle.st_iltext.specs.SmallShapes.{tag_shape}
+use Rattle.st_text.specs.declared.tree.TextTree as program
+use Rattle.st_text.specs.Text.{TextTree, TextTrees, list, none, more}
+use Rattle.st_text.specs.Trees.{row_of, tree_of, trees_of}
+use Rattle.st_iltext.specs.inner.SmallShapes.{tag_shape}
 
 pub refused : {A : Type 0} (r : Option A) (P : Type 0) (Q : A → Type 0) → r ≡ None → P → MatchOption r P Q
 refused r P Q e p = subst (λ r. MatchOption r P Q) (sym e) p

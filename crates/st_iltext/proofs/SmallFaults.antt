@@ -9,13 +9,13 @@ use Rattle.st_il.specs.declared.definition.IlDef.{IlDef}
 use Rattle.st_il.specs.declared.small.Small.{Small}
 use Rattle.st_il.specs.declared.small.SmallRule.{SmallRule}
 use Rattle.st_il.specs.Small.{IsLower, IsUpper, IsWordOf, IsSmall, IsSmallRule, IsSmallIl, reserved, rule_def, il_of}
-use Rattle.st_iltext.specs.declared.fault.TextFault.{TextFault}
-use Rattle.st_iltext.specs.declared.fault.TextFault.TheVariants.{Malformed, Memory}
+use Rattle.st_text.specs.declared.fault.TextFault.{TextFault}
+use Rattle.st_text.specs.declared.fault.TextFault.TheVariants.{Malformed, Memory}
 use Rattle.st_iltext.specs.declared.small_line.Head.{Head}
-use Rattle.st_iltext.specs.Text.{text}
+use Rattle.st_text.specs.Text.{text}
 use Rattle.st_iltext.specs.Definitions.{definition_tree}
 use Rattle.st_iltext.specs.IlText.{IlText, il_lines, lines_text, BeginText, IsFirstBadLine, IsNoIl, ReadsIl}
-use Rattle.st_iltext.specs.SmallReading.{syntax_line, relation_line, rule_line, IsSyntax, small_of, rule_lines, head_lines, NoRuleNext, StopsAt, ReadsRules}
+use Rattle.st_iltext.specs.inner.SmallReading.{syntax_line, relation_line, rule_line, IsSyntax, small_of, rule_lines, head_lines, NoRuleNext, StopsAt, ReadsRules}
 use Rattle.st_iltext.proofs.BadLines.{NoNext, NotWhole, bad_line}
 use Rattle.st_iltext.proofs.Feeds.{il_lines-single}
 use Rattle.st_iltext.proofs.Lines.{IsLine, line_unique, no_line, lines-append, lines-cons}
@@ -24,7 +24,7 @@ use Rattle.st_iltext.proofs.NameSets.{any_name}
 use Rattle.st_iltext.proofs.SmallRules.{small_front, small_start, rule_line-unique}
 use Rattle.st_iltext.proofs.SmallTrees.{il_text}
 use Rattle.st_iltext.proofs.SmallUnique.{syntax-name, syntax-tags, tags-unique, relation-name}
-use Rattle.st_iltext.proofs.Unique.{one_tree}
+use Rattle.st_text.proofs.Unique.{one_tree}
 
 -- ---- the lines of a small internal language
 

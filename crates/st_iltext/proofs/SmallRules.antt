@@ -8,13 +8,13 @@ use Rattle.std.proofs.lemmas.List.Quantifiers.{all_pairs_push}
 use Rattle.st_il.specs.declared.small.SmallRule.{SmallRule}
 use Rattle.st_il.specs.Small.{IsSmall, IsSmallRule, AreDistinct, rule_names}
 use Rattle.st_iltext.specs.declared.small_line.Head.{Head}
-use Rattle.st_iltext.specs.declared.fault.TextFault.{TextFault}
-use Rattle.st_iltext.specs.declared.fault.TextFault.TheVariants.{Malformed}
+use Rattle.st_text.specs.declared.fault.TextFault.{TextFault}
+use Rattle.st_text.specs.declared.fault.TextFault.TheVariants.{Malformed}
 use Rattle.st_iltext.specs.IlText.{lines_text}
-use Rattle.st_iltext.specs.SmallReading.{small_of, rule_line, rule_lines, NoRuleNext, ReadsRules}
+use Rattle.st_iltext.specs.inner.SmallReading.{small_of, rule_line, rule_lines, NoRuleNext, ReadsRules}
 use Rattle.st_iltext.proofs.Lines.{IsLine, line_unique, no_line}
 use Rattle.st_iltext.proofs.LineTrees.{rule_text}
-use Rattle.st_iltext.proofs.Unique.{one_tree}
+use Rattle.st_text.proofs.Unique.{one_tree}
 use Rattle.st_iltext.proofs.SmallUnique.{rule-unique}
 
 pub names-push : (rules : List SmallRule) (rule : SmallRule) → rule_names (rules ++ rule ∷ []) ≡ rule_names rules ++ rule.name ∷ []

@@ -15,14 +15,15 @@ use Rattle.st_il.specs.declared.definition.Il.{Il}
 use Rattle.st_il.specs.declared.ty.Ty as ty
 use Rattle.st_il.specs.declared.ty.Ty.TheVariants.{Name}
 use Rattle.st_il.specs.Small.{IsLower, IsUpper, IsWordOf, IsSmall, IsSmallRule, IsSmallIl, syntax_def, relation_def, rule_def, il_of}
-use Rattle.st_iltext.specs.Text.{quote, IsText, IsSpelled, AreSpelled, HasText, row_depth, text}
-use Rattle.st_iltext.specs.Trees.{row_of}
+use Rattle.st_num.specs.Texts.{IsText}
+use Rattle.st_text.specs.Text.{quote, IsSpelled, AreSpelled, HasText, row_depth, text}
+use Rattle.st_text.specs.Trees.{row_of}
 use Rattle.st_iltext.specs.Expressions.{form, group, ty_tree, exp_tree}
 use Rattle.st_iltext.specs.Definitions.{definition_tree, alternative_tree}
 use Rattle.st_iltext.specs.IlText.{IlText, il_lines, lines_text}
-use Rattle.st_iltext.specs.SmallForms.{IsAtom, IsOfAtoms}
-use Rattle.st_iltext.specs.SmallShapes.{tag_shape, syntax_shape, hole_shape, relation_shape, atom_shape, rule_shape}
-use Rattle.st_iltext.proofs.CutOff.{drop-next}
+use Rattle.st_iltext.specs.inner.SmallForms.{IsAtom, IsOfAtoms}
+use Rattle.st_iltext.specs.inner.SmallShapes.{tag_shape, syntax_shape, hole_shape, relation_shape, atom_shape, rule_shape}
+use Rattle.st_text.proofs.CutOff.{drop-next}
 
 -- ---- shapes
 

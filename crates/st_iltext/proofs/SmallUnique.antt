@@ -1,9 +1,9 @@
 -- Small trees are equal only where their names are.
 use Rattle.std.proofs.Common.{◌≡◌, ℕ, List, [], ◌∷◌, map, refl, ap₂}
 use Rattle.st_il.specs.declared.small.SmallRule.{SmallRule}
-use Rattle.st_iltext.specs.Text.{TextTree, TextTrees, quote, list, more}
-use Rattle.st_iltext.specs.Trees.{row_of}
-use Rattle.st_iltext.specs.SmallShapes.{tag_shape, syntax_tree, relation_shape, atom_shape, rule_shape, rule_of}
+use Rattle.st_text.specs.Text.{TextTree, TextTrees, quote, list, more}
+use Rattle.st_text.specs.Trees.{row_of}
+use Rattle.st_iltext.specs.inner.SmallShapes.{tag_shape, syntax_tree, relation_shape, atom_shape, rule_shape, rule_of}
 use Rattle.st_iltext.proofs.Shapes.{list-parts, more-first, more-rest}
 
 pub quote-text : {x y : List ℕ} → quote x ≡ quote y → x ≡ y

@@ -10,7 +10,7 @@ use Rattle.st_il.specs.declared.definition.Listed.{Listed}
 use Rattle.st_il.specs.declared.definition.SyntaxBody.{SyntaxBody}
 use Rattle.st_il.specs.declared.definition.SyntaxBody.TheVariants.{Alias, Variant, Fields}
 use Rattle.st_il.specs.declared.ty.Ty.{Ty}
-use Rattle.st_iltext.specs.Text.{TextTree, word, quote}
+use Rattle.st_text.specs.Text.{TextTree, word, quote}
 use Rattle.st_iltext.specs.Expressions.{group, form, ty_tree, exp_tree, prem_tree}
 
 abbrev pub alternative_tree : Alternative → TextTree

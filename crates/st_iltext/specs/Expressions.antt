@@ -12,8 +12,8 @@ use Rattle.st_il.specs.declared.expression.ListItem.{ListItem, fold-ListItem}
 use Rattle.st_il.specs.declared.expression.PathSeg.{PathSeg, fold-PathSeg}
 use Rattle.st_il.specs.declared.expression.IlPrem.{IlPrem, fold-IlPrem}
 use Rattle.st_il.specs.declared.expression.IlPrem.TheOpen.{IlPrem-F}
-use Rattle.st_iltext.specs.Text.{TextTree, word, quote, list, more}
-use Rattle.st_iltext.specs.Trees.{row_of}
+use Rattle.st_text.specs.Text.{TextTree, word, quote, list, more}
+use Rattle.st_text.specs.Trees.{row_of}
 
 -- a list of these trees, and one that a word begins
 abbrev pub group : List TextTree → TextTree

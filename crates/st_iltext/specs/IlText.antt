@@ -2,9 +2,9 @@
 use Rattle.std.specs.Prelude.{◌≡◌, ℕ, ◌+◌, ◌≤◌, List, [], ◌∷◌, ◌++◌, length, map, flat_map, All, Contains, Result, Ok, Err}
 use Rattle.st_il.specs.declared.definition.Il.{Il}
 use Rattle.st_il.specs.Small.{IsSmallIl}
-use Rattle.st_iltext.specs.declared.fault.TextFault.{TextFault}
-use Rattle.st_iltext.specs.declared.fault.TextFault.TheVariants.{Malformed, Memory}
-use Rattle.st_iltext.specs.Text.{text, HasText}
+use Rattle.st_text.specs.declared.fault.TextFault.{TextFault}
+use Rattle.st_text.specs.declared.fault.TextFault.TheVariants.{Malformed, Memory}
+use Rattle.st_text.specs.Text.{text, HasText}
 use Rattle.st_iltext.specs.Definitions.{definition_tree}
 
 -- these lines, each ended by a line feed

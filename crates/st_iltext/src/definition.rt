@@ -3,17 +3,17 @@
 ghost use Rattle.std.specs.Prelude.{◌≡◌, [], ◌∷◌, ◌++◌, map, codes, All, IfOk, OnOk};
 ghost use Rattle.st_iltext.specs.Definitions.{alternative_tree, field_tree, body_tree, kind_word, listed_tree, mode_word, definition_tree};
 ghost use Rattle.st_iltext.specs.Expressions.{group, form, ty_tree, exp_tree};
-ghost use Rattle.st_iltext.specs.SmallForms.{IsAtom, IsOfAtoms};
-ghost use Rattle.st_iltext.specs.Text.{quote};
-ghost use Rattle.st_iltext.specs.Trees.{tree_of};
+ghost use Rattle.st_iltext.specs.inner.SmallForms.{IsAtom, IsOfAtoms};
+ghost use Rattle.st_text.specs.Text.{quote};
+ghost use Rattle.st_text.specs.Trees.{tree_of};
 
-use crate::TextTree;
 use crate::expression::{exp_tree, push_types, ty_tree};
 use crate::form::{binary, headed, quote_tree, unary, word_tree};
 use st_il::{
     Alternative, FunDef, IlDef, IlExp, Listed, RelationDef, RuleDef, SyntaxBody, SyntaxDef, Ty,
 };
 use st_num::{Dim, Kind, Name, NoMemory, Row};
+use st_text::TextTree;
 use std::alloc::Global;
 
 fn alternative_tree(alloc: Global, alternative: &Alternative) -> Result<TextTree, NoMemory>

@@ -2,13 +2,13 @@
 
 ghost use Rattle.std.specs.Prelude.{◌≡◌, ◌++◌, map, IfOk, OnOk};
 ghost use Rattle.st_iltext.specs.Expressions.{ty_tree, exp_tree};
-ghost use Rattle.st_iltext.specs.SmallForms.{IsAtom};
-ghost use Rattle.st_iltext.specs.Trees.{tree_of};
+ghost use Rattle.st_iltext.specs.inner.SmallForms.{IsAtom};
+ghost use Rattle.st_text.specs.Trees.{tree_of};
 
-use crate::TextTree;
 use crate::form::{binary, headed, quote_tree, unary, word_tree};
 use st_il::{IlExp, Ty};
 use st_num::{NoMemory, Row};
+use st_text::TextTree;
 use std::alloc::Global;
 
 #[cycle(ty)]

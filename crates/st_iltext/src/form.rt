@@ -2,11 +2,11 @@
 
 ghost use Rattle.std.specs.Prelude.{◌≡◌, [], ◌∷◌, ◌++◌, map, IfOk, OnOk};
 ghost use Rattle.st_iltext.specs.Expressions.{form};
-ghost use Rattle.st_iltext.specs.Text.{word, quote};
-ghost use Rattle.st_iltext.specs.Trees.{tree_of};
+ghost use Rattle.st_text.specs.Text.{word, quote};
+ghost use Rattle.st_text.specs.Trees.{tree_of};
 
-use crate::TextTree;
 use st_num::{Name, NoMemory, Row};
+use st_text::TextTree;
 use std::alloc::Global;
 
 pub fn word_tree(alloc: Global, bytes: &[u8]) -> Result<TextTree, NoMemory>

@@ -5,16 +5,15 @@ ghost use Rattle.st_il.specs.declared.definition.Il.{Il as Language};
 ghost use Rattle.st_il.specs.Small.{IsSmallIl};
 ghost use Rattle.st_iltext.specs.Definitions.{definition_tree};
 ghost use Rattle.st_iltext.specs.IlText.{IlText, il_lines, lines_text, ReadsIl};
-ghost use Rattle.st_iltext.specs.Printing.{IsCutOff};
-ghost use Rattle.st_iltext.specs.SmallForms.{IsOfAtoms};
-ghost use Rattle.st_iltext.specs.Text.{text};
+ghost use Rattle.st_text.specs.Printing.{IsCutOff};
+ghost use Rattle.st_iltext.specs.inner.SmallForms.{IsOfAtoms};
+ghost use Rattle.st_text.specs.Text.{text};
 
-use crate::TextFault;
 use crate::definition::definition_tree;
-use crate::print::print_tree;
 use crate::small_line::{Head, read_head, read_rules};
 use st_il::{Il, IlDef, Small, il_of_small};
 use st_num::NoMemory;
+use st_text::{TextFault, print_tree};
 use std::alloc::Global;
 
 /// Appends the line of a definition.

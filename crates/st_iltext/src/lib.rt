@@ -1,39 +1,23 @@
 //! The text of the internal language, printed and read back.
 //!
-//! The one idea: a text is a tree of words, quoted texts and lists in parentheses, and each tree
-//! has one spelling. What stands in a line is a function on trees, so printer and reader are
-//! proved against one definition, and neither cites the other.
+//! The one idea: what stands in a line is a function from definitions to text trees, so printer
+//! and reader are proved against one definition, and neither cites the other.
 //!
-//! Read `specs/Text.antt` first, then `tree` and `read`. The texts are told in
+//! Read `specs/Definitions.antt` and `specs/IlText.antt` first, then `il`. The texts are told in
 //! `docs/internal-language.md`.
 #![tactic(auto)]
 
 mod definition;
 mod expression;
-mod fault;
 mod form;
-mod front;
 mod il;
 mod law;
-mod line;
 mod name;
-mod number;
-mod print;
-mod quote;
-mod read;
 mod shape;
 mod small;
 mod small_line;
 #[cfg(test)]
 mod tests;
-mod tree;
-mod word;
 
-pub use fault::TextFault;
 pub use il::{print_il, read_il};
-pub use law::{one_text_one_il, one_text_one_tree, texts_end};
-pub use line::next_line;
-pub use number::{print_natural, read_integer, read_natural};
-pub use print::{print_quoted, print_row, print_tree};
-pub use read::{read_front, read_row, read_tree};
-pub use tree::TextTree;
+pub use law::one_text_one_il;

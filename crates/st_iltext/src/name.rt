@@ -1,47 +1,12 @@
 //! What is asked of names, and sets of them.
 
 ghost use Rattle.std.specs.Prelude.{◌≡◌, ◌↔◌, All, Contains, IsTrue, IfOk, MatchOption};
-ghost use Rattle.st_il.specs.Small.{IsLower, IsUpper, IsWordOf, reserved, AreDistinct};
-ghost use Rattle.st_iltext.specs.Names.{Adds, names_of};
+ghost use Rattle.st_il.specs.Small.{IsLower, IsUpper, IsWordOf, AreDistinct};
+ghost use Rattle.st_iltext.specs.inner.Names.{Adds};
 
 use indexmap::IndexSet;
 use st_num::{Name, NoMemory};
 use std::alloc::Global;
-
-/// The words that name no syntax.
-const RESERVED: [&[u8]; 18] = [
-    b"syntax",
-    b"relation",
-    b"rule",
-    b"var",
-    b"def",
-    b"grammar",
-    b"hint",
-    b"if",
-    b"otherwise",
-    b"eps",
-    b"true",
-    b"false",
-    b"bool",
-    b"nat",
-    b"int",
-    b"text",
-    b"rat",
-    b"real",
-];
-
-fn is_among(word: &[u8], words: &[&[u8]]) -> bool
-    ensures { IsTrue result ↔ Contains (names_of words.now) word.now }
-{
-    words.contains(&word)
-}
-
-/// Whether the word names no syntax.
-pub fn is_reserved(word: &[u8]) -> bool
-    ensures { IsTrue result ↔ Contains reserved word.now }
-{
-    is_among(word, &RESERVED)
-}
 
 fn is_lower(byte: u8) -> bool
     ensures { IsTrue result ↔ IsLower byte }

@@ -1,12 +1,12 @@
 //! What a text tree looks like.
 
 ghost use Rattle.std.specs.Prelude.{◌≡◌, ◌≢◌, ◌↔◌, ℕ, List, IsTrue, MatchOption};
-ghost use Rattle.st_iltext.specs.Text as spec;
-ghost use Rattle.st_iltext.specs.Text.{TextTrees, word, quote, list, none, more};
-ghost use Rattle.st_iltext.specs.Trees.{tree_of, trees_of};
+ghost use Rattle.st_text.specs.Text as spec;
+ghost use Rattle.st_text.specs.Text.{TextTrees, word, quote, list, none, more};
+ghost use Rattle.st_text.specs.Trees.{tree_of, trees_of};
 
-use crate::TextTree;
 use st_num::Name;
+use st_text::TextTree;
 
 /// The trees of a list.
 pub fn list_parts(tree: &TextTree) -> Option<&[TextTree]>

@@ -2,14 +2,14 @@
 
 ghost use Rattle.std.specs.Prelude.{◌≡◌, ◌≢◌, ◌↔◌, ℕ, List, [], ◌∷◌, map, codes, IsTrue, IfOk, MatchOption};
 ghost use Rattle.st_iltext.specs.Expressions.{form, group};
-ghost use Rattle.st_iltext.specs.SmallShapes.{tag_shape, syntax_tree, syntax_shape, hole_shape, relation_shape, atom_shape, rule_shape, rule_of};
+ghost use Rattle.st_iltext.specs.inner.SmallShapes.{tag_shape, syntax_tree, syntax_shape, hole_shape, relation_shape, atom_shape, rule_shape, rule_of};
 ghost use Rattle.st_il.specs.declared.small.SmallRule.{SmallRule as Rule};
-ghost use Rattle.st_iltext.specs.Text.{TextTrees, quote};
-ghost use Rattle.st_iltext.specs.Trees.{row_of, tree_of, trees_of};
+ghost use Rattle.st_text.specs.Text.{TextTrees, quote};
+ghost use Rattle.st_text.specs.Trees.{row_of, tree_of, trees_of};
 
-use crate::TextTree;
 use crate::shape::{are_none, form_parts, four, is_quote, list_parts, one, quoted, two};
 use st_num::{Name, NoMemory, Row};
+use st_text::TextTree;
 use std::alloc::Global;
 
 /// The tag of an alternative without operands.

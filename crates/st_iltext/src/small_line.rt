@@ -4,29 +4,21 @@ ghost use Rattle.std.specs.Prelude.{◌≡◌, ◌≢◌, ◌↔◌, ◌+◌, �
 ghost use Rattle.st_il.specs.declared.small.SmallRule.{SmallRule as Rule};
 ghost use Rattle.st_il.specs.Small.{IsLower, IsUpper, IsWordOf, IsSmall, IsSmallRule, rule_names};
 ghost use Rattle.st_iltext.specs.IlText.{lines_text};
-ghost use Rattle.st_iltext.specs.Reading.{IsNoTree};
-ghost use Rattle.st_iltext.specs.SmallReading.{IsSyntax, syntax_line, relation_line, rule_line, small_of, ReadsHead, ReadsRules};
-ghost use Rattle.st_iltext.specs.SmallShapes.{rule_of};
-ghost use Rattle.st_iltext.specs.Text.{TreeText};
-ghost use Rattle.st_iltext.specs.Trees.{tree_of};
+ghost use Rattle.st_text.specs.Reading.{IsNoTree};
+ghost use Rattle.st_iltext.specs.inner.SmallReading.{IsSyntax, syntax_line, relation_line, rule_line, small_of, ReadsHead, ReadsRules};
+ghost use Rattle.st_iltext.specs.inner.SmallShapes.{rule_of};
+ghost use Rattle.st_text.specs.Text.{TreeText};
+ghost use Rattle.st_text.specs.Trees.{tree_of};
 
-use crate::line::next_line;
 use crate::name::{
-    add_name, are_upper_words, distinct_names, has_name, is_lower_word, is_reserved, is_upper_word,
+    add_name, are_upper_words, distinct_names, has_name, is_lower_word, is_upper_word,
 };
-use crate::read::read_tree;
 use crate::small::{read_relation, read_rule, read_syntax, read_tags};
-use crate::{TextFault, TextTree};
 use indexmap::IndexSet;
-use st_il::SmallRule;
-use st_num::{Name, NoMemory, Row};
+use st_il::{SmallRule, is_reserved};
+use st_num::{MOST_DEFINITIONS, MOST_PARTS, Name, NoMemory, Row};
+use st_text::{TextFault, TextTree, next_line, read_tree};
 use std::alloc::Global;
-
-/// How many atoms a syntax has at most.
-const MAX_ATOMS: usize = 4095;
-
-/// How many rules a relation has at most.
-const MAX_RULES: usize = 65_533;
 
 /// What stands in the first two lines.
 #[derive(Drop)]
@@ -56,7 +48,7 @@ fn is_syntax(alloc: Global, syntax: &Name, atoms: &[Name]) -> Result<bool, NoMem
     if !is_lower_word(word) || is_reserved(word) {
         return Ok(false);
     }
-    if atoms.is_empty() || atoms.len() > MAX_ATOMS || !are_upper_words(atoms) {
+    if atoms.is_empty() || atoms.len() > usize::from(MOST_PARTS) || !are_upper_words(atoms) {
         return Ok(false);
     }
     Ok(distinct_names(alloc, atoms)?.is_some())
@@ -182,7 +174,7 @@ fn next_rule(
         × (line.now ≡ rule_line head.now rule)
         × (names.new.keys ≡ rule_names (rules.now ++ rule ∷ [])))) }
 {
-    if rules.len() == MAX_RULES {
+    if rules.len() == usize::from(MOST_DEFINITIONS) - 2 {
         return Ok(None);
     }
     let Some(rule) = read_rule_line(alloc, line, head, atoms)? else {

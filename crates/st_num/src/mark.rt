@@ -1,7 +1,7 @@
 //! The signs of the language: the one table of how each is written, and how tightly it holds.
 
 ghost use Rattle.std.specs.Prelude.{◌≡◌, ◌<◌};
-ghost use Rattle.st_num.specs.Signs.{spelling, level, prefix_level, grouping, is_notation};
+ghost use Rattle.st_num.specs.Signs.{spelling, level, prefix_level, grouping, grouping_at, left_gap, right_gap, is_notation};
 
 /// A sign of the language: one variant for each sign of the table in `docs/language.md`.
 #[derive(Clone, Copy, Debug, PartialEq, Eq)]
@@ -62,6 +62,41 @@ pub enum Grouping {
     None,
     Left,
     Right,
+}
+
+impl Grouping {
+    /// How the signs of a level group.
+    pub fn at(level: u8) -> Grouping
+        ensures { result ≡ grouping_at level }
+    {
+        match level {
+            2 | 11 | 18 => Grouping::Right,
+            3 | 4 | 10 | 13 | 15 | 16 => Grouping::Left,
+            _ => Grouping::None,
+        }
+    }
+
+    /// How much tighter than the level what stands to the left is at least.
+    pub fn left_gap(self) -> u8
+        ensures is { result ≡ left_gap self }
+        ensures small { result < 2 }
+    {
+        match self {
+            Grouping::Left => 0,
+            Grouping::None | Grouping::Right => 1,
+        }
+    }
+
+    /// How much tighter than the level what stands to the right is at least.
+    pub fn right_gap(self) -> u8
+        ensures is { result ≡ right_gap self }
+        ensures small { result < 2 }
+    {
+        match self {
+            Grouping::Right => 0,
+            Grouping::None | Grouping::Left => 1,
+        }
+    }
 }
 
 impl Mark {
@@ -216,11 +251,7 @@ impl Mark {
     pub fn grouping(self) -> Grouping
         ensures { result ≡ grouping self }
     {
-        match self.level() {
-            2 | 11 | 18 => Grouping::Right,
-            3 | 4 | 10 | 13 | 15 | 16 => Grouping::Left,
-            _ => Grouping::None,
-        }
+        Grouping::at(self.level())
     }
 
     /// Whether the sign divides two sides of a notation.

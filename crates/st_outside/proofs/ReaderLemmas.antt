@@ -2,7 +2,7 @@
 use Rattle.std.proofs.Common.{ℕ, ◌+◌, ◌≤◌, List, ◌++◌, length, Option, arith, length-append}
 use Rattle.std.proofs.KnownBytes.{Consumes-trans}
 use Rattle.std.specs.Io.KnownBytes.{Consumes}
-use Rattle.st_outside.specs.Reader.{ConsumesAtMost}
+use Rattle.st_outside.specs.inner.Reader.{ConsumesAtMost}
 
 -- what two reads took is what they took together
 pub ConsumesAtMost-both : (most : ℕ) (before mid now : Option (List ℕ)) (first second : List ℕ)

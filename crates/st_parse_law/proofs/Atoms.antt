@@ -15,8 +15,8 @@ use Rattle.st_el.specs.declared.expression.Exp.{Exp, out-Exp}
 use Rattle.st_el.specs.declared.expression.Node.{out-Node}
 use Rattle.st_el.specs.declared.expression.Node.TheVariants as node
 use Rattle.st_el.specs.declared.expression.Count.TheOpen.{Node-F}
-use Rattle.st_el.specs.declared.place.Around.{Around}
-use Rattle.st_el.specs.declared.place.Around.TheVariants.{Brackets, Bars, Arithmetic, Caret}
+use Rattle.st_el.specs.declared.context.Around.{Around}
+use Rattle.st_el.specs.declared.context.Around.TheVariants.{Brackets, Bars, Arithmetic, Caret}
 use Rattle.st_el.specs.SourceText.{front, postfix, parts_printed}
 use Rattle.st_el.specs.Plain.{nowhere, plain_node}
 use Rattle.st_parse_builder.specs.Names.{name_of}

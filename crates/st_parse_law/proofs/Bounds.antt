@@ -12,7 +12,7 @@ use Rattle.st_el.specs.declared.expression.Exp.{Exp}
 use Rattle.st_el.specs.declared.expression.Count.{roll-Count}
 use Rattle.st_el.specs.declared.expression.Count.TheOpen.{Below}
 use Rattle.st_el.specs.declared.expression.Count.TheVariants as count
-use Rattle.st_el.specs.Levels.{count as count_place}
+use Rattle.st_el.specs.Contexts.{count as count_place}
 use Rattle.st_el.specs.SourceText.{printed}
 use Rattle.st_el.specs.Plain.{plain_exp, plain_count}
 use Rattle.st_parse_builder.specs.Names.{name_of}

@@ -18,10 +18,10 @@ use Rattle.st_el.specs.declared.expression.Node.{roll-Node}
 use Rattle.st_el.specs.declared.expression.Node.TheVariants as node
 use Rattle.st_el.specs.declared.expression.Count.TheOpen.{Node-F}
 use Rattle.st_el.specs.declared.expression.Seg.{Seg}
-use Rattle.st_el.specs.declared.place.Around.{Around}
-use Rattle.st_el.specs.declared.place.Around.TheVariants.{Brackets, Bars, Arithmetic, Caret}
-use Rattle.st_el.specs.declared.place.Behind.TheVariants.{Other}
-use Rattle.st_el.specs.Levels.{whole, operand_before}
+use Rattle.st_el.specs.declared.context.Around.{Around}
+use Rattle.st_el.specs.declared.context.Around.TheVariants.{Brackets, Bars, Arithmetic, Caret}
+use Rattle.st_el.specs.declared.context.Behind.TheVariants.{Other}
+use Rattle.st_el.specs.Contexts.{whole, operand_before}
 use Rattle.st_el.specs.Wrappings.{Level}
 use Rattle.st_el.specs.SourceText.{printed, printed_step, postfix, parts_printed}
 use Rattle.st_el.specs.Plain.{plain_exp, plain_seg}

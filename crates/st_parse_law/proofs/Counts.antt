@@ -26,11 +26,11 @@ use Rattle.st_el.specs.declared.expression.Node.TheVariants as node
 use Rattle.st_el.specs.declared.expression.Count.{Count, roll-Count}
 use Rattle.st_el.specs.declared.expression.Count.TheOpen.{Node-F, Count-F}
 use Rattle.st_el.specs.declared.expression.Count.TheVariants as count
-use Rattle.st_el.specs.declared.place.Around.{Around}
-use Rattle.st_el.specs.declared.place.Around.TheVariants.{Brackets, Bars, Arithmetic, Caret}
-use Rattle.st_el.specs.declared.place.Behind.TheVariants.{Other}
-use Rattle.st_el.specs.declared.place.Wrapping.TheVariants.{Bare, Dollar}
-use Rattle.st_el.specs.Levels.{whole, operand_before, count as count_place}
+use Rattle.st_el.specs.declared.context.Around.{Around}
+use Rattle.st_el.specs.declared.context.Around.TheVariants.{Brackets, Bars, Arithmetic, Caret}
+use Rattle.st_el.specs.declared.context.Behind.TheVariants.{Other}
+use Rattle.st_el.specs.declared.context.Wrapping.TheVariants.{Bare, Dollar}
+use Rattle.st_el.specs.Contexts.{whole, operand_before, count as count_place}
 use Rattle.st_el.specs.Wrappings.{Level, is_count}
 use Rattle.st_el.specs.SourceText.{printed, printed_mark, front, postfix, wrapped, text_at, parts_printed, opened as printed_parts}
 use Rattle.st_el.specs.Plain.{plain_exp, plain_count}

@@ -20,11 +20,12 @@ use Rattle.st_el.specs.declared.expression.Exp.{Exp}
 use Rattle.st_el.specs.declared.expression.Node.{roll-Node}
 use Rattle.st_el.specs.declared.expression.Node.TheVariants as node
 use Rattle.st_el.specs.declared.expression.Count.TheOpen.{Node-F}
-use Rattle.st_el.specs.declared.place.Around.{Around}
-use Rattle.st_el.specs.declared.place.Around.TheVariants.{Brackets, Bars, Arithmetic, Caret}
-use Rattle.st_el.specs.declared.place.Behind.TheVariants.{Plus}
-use Rattle.st_el.specs.declared.place.Place.{Place}
-use Rattle.st_el.specs.Levels.{sign_level, left_of, right_of, place_at}
+use Rattle.st_el.specs.declared.context.Around.{Around}
+use Rattle.st_el.specs.declared.context.Around.TheVariants.{Brackets, Bars, Arithmetic, Caret}
+use Rattle.st_el.specs.declared.context.Behind.TheVariants.{Plus}
+use Rattle.st_el.specs.declared.context.Context.{Context as Place}
+use Rattle.st_num.specs.Signs.{level as sign_level, left_of, right_of}
+use Rattle.st_el.specs.Contexts.{context_at as place_at}
 use Rattle.st_el.specs.Wrappings.{Printed, Level, level_of, takes_in, has_bar}
 use Rattle.st_el.specs.SourceText.{printed, left_side, blank_behind, parts_printed}
 use Rattle.st_el.specs.Plain.{plain_exp}

@@ -15,8 +15,8 @@ use Rattle.st_grammar.specs.Terminals.{terminal}
 use Rattle.st_grammar.specs.Trees.{Trees, none, more, text, texts}
 use Rattle.st_grammar.specs.Grammar.{EachFits}
 use Rattle.st_el.specs.declared.expression.Exp.{Exp}
-use Rattle.st_el.specs.declared.place.Around.TheVariants.{Brackets}
-use Rattle.st_el.specs.Levels.{whole}
+use Rattle.st_el.specs.declared.context.Around.TheVariants.{Brackets}
+use Rattle.st_el.specs.Contexts.{whole}
 use Rattle.st_el.specs.SourceText.{source_text}
 use Rattle.st_parse_builder.specs.Meaning.{meaning, meanings}
 use Rattle.st_parse_exp.specs.Expressions.{terminals_of}

@@ -29,9 +29,9 @@ use Rattle.st_grammar.specs.Trees.{operand, text}
 use Rattle.st_el.specs.declared.expression.Node.{out-Node}
 use Rattle.st_el.specs.declared.expression.Node.TheVariants as node
 use Rattle.st_el.specs.declared.expression.Count.TheOpen.{Node-F}
-use Rattle.st_el.specs.declared.place.Around.{Around}
-use Rattle.st_el.specs.declared.place.Around.TheVariants.{Brackets, Bars, Arithmetic, Caret}
-use Rattle.st_el.specs.declared.place.Behind.TheVariants.{Dot}
+use Rattle.st_el.specs.declared.context.Around.{Around}
+use Rattle.st_el.specs.declared.context.Around.TheVariants.{Brackets, Bars, Arithmetic, Caret}
+use Rattle.st_el.specs.declared.context.Behind.TheVariants.{Dot}
 use Rattle.st_el.specs.Wrappings.{Level, level_of, takes_in, is_arithmetic as of_arithmetic}
 use Rattle.st_el.specs.SourceText.{front, postfix, parts_printed, opened as printed_parts}
 use Rattle.st_el.specs.Plain.{nowhere, plain_exp, plain_node}

@@ -15,8 +15,8 @@ use Rattle.st_grammar.specs.Terminals.{Terminal, sign, closing, terminal, kind_t
 use Rattle.st_grammar.specs.Trees.{Trees, none, more, bracket, Heading, texts, heading_text, closes}
 use Rattle.st_grammar.specs.Grammar.{Fits, EachFits, SetsOff, size}
 use Rattle.st_el.specs.declared.expression.Exp.{Exp}
-use Rattle.st_el.specs.declared.place.Around.TheVariants.{Brackets}
-use Rattle.st_el.specs.Levels.{whole}
+use Rattle.st_el.specs.declared.context.Around.TheVariants.{Brackets}
+use Rattle.st_el.specs.Contexts.{whole}
 use Rattle.st_el.specs.Wrappings.{Printed}
 use Rattle.st_el.specs.SourceText.{printed, listed}
 use Rattle.st_el.specs.Plain.{plain_exp}

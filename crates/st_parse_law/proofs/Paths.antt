@@ -17,7 +17,7 @@ use Rattle.st_el.specs.declared.expression.Exp.{Exp}
 use Rattle.st_el.specs.declared.expression.Count.TheOpen.{Seg-F}
 use Rattle.st_el.specs.declared.expression.Seg.{Seg, roll-Seg}
 use Rattle.st_el.specs.declared.expression.Seg.TheVariants as seg
-use Rattle.st_el.specs.Levels.{position}
+use Rattle.st_el.specs.Contexts.{position}
 use Rattle.st_el.specs.SourceText.{printed, printed_step}
 use Rattle.st_el.specs.Plain.{plain_exp, plain_seg}
 use Rattle.st_parse_builder.specs.Names.{name_of}

@@ -7,15 +7,15 @@ use Rattle.st_num.specs.declared.mark.Mark.TheVariants.{OpenParen, CloseParen}
 use Rattle.st_grammar.specs.declared.sort.Sort.{Sort}
 use Rattle.st_grammar.specs.declared.sort.Sort.TheVariants.{Expression as expression, Arithmetic as arithmetic, Count as count}
 use Rattle.st_el.specs.declared.expression.Exp.{Exp, out-Exp}
-use Rattle.st_el.specs.declared.place.Around.{Around}
-use Rattle.st_el.specs.declared.place.Around.TheVariants.{Brackets, Bars, Arithmetic, Caret}
-use Rattle.st_el.specs.declared.place.Behind.{Behind}
-use Rattle.st_el.specs.declared.place.Behind.TheVariants.{Other, Dot, Plus}
-use Rattle.st_el.specs.declared.place.Place.{Place}
-use Rattle.st_el.specs.declared.place.Wrapping.TheVariants.{Bare, Parens, Dollar}
+use Rattle.st_el.specs.declared.context.Around.{Around}
+use Rattle.st_el.specs.declared.context.Around.TheVariants.{Brackets, Bars, Arithmetic, Caret}
+use Rattle.st_el.specs.declared.context.Behind.{Behind}
+use Rattle.st_el.specs.declared.context.Behind.TheVariants.{Other, Dot, Plus}
+use Rattle.st_el.specs.declared.context.Context.{Context as Place}
+use Rattle.st_el.specs.declared.context.Wrapping.TheVariants.{Bare, Parens, Dollar}
 use Rattle.st_el.specs.Wrappings.{Printed, Level, level_of, takes_in, has_bar, is_arithmetic, suits, wrapping, is_plus}
 use Rattle.st_el.specs.SourceText.{printed, printed_node_at, opened, front, postfix, wrapped, text_at}
-use Rattle.st_el.specs.Levels.{in_parens}
+use Rattle.st_el.specs.Contexts.{in_parens}
 use Rattle.st_num.specs.declared.span.Span.{Span}
 use Rattle.st_el.specs.declared.expression.Node.{Node}
 use Rattle.st_parse_builder.specs.Meaning.{exp}

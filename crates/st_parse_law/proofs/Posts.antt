@@ -21,11 +21,11 @@ use Rattle.st_el.specs.declared.expression.Count.{Count}
 use Rattle.st_el.specs.declared.expression.Count.TheOpen.{Node-F}
 use Rattle.st_el.specs.declared.expression.Count.TheVariants as count
 use Rattle.st_el.specs.declared.expression.Seg.{Seg}
-use Rattle.st_el.specs.declared.place.Around.{Around}
-use Rattle.st_el.specs.declared.place.Around.TheVariants.{Brackets, Bars, Arithmetic, Caret}
-use Rattle.st_el.specs.declared.place.Behind.{Behind}
-use Rattle.st_el.specs.declared.place.Behind.TheVariants.{Other, Dot, Plus}
-use Rattle.st_el.specs.Levels.{operand_before}
+use Rattle.st_el.specs.declared.context.Around.{Around}
+use Rattle.st_el.specs.declared.context.Around.TheVariants.{Brackets, Bars, Arithmetic, Caret}
+use Rattle.st_el.specs.declared.context.Behind.{Behind}
+use Rattle.st_el.specs.declared.context.Behind.TheVariants.{Other, Dot, Plus}
+use Rattle.st_el.specs.Contexts.{operand_before}
 use Rattle.st_el.specs.Wrappings.{Level, Marked, level_of, is_arithmetic, is_plus}
 use Rattle.st_el.specs.SourceText.{printed, printed_mark, front, postfix, parts_printed, opened as printed_parts}
 use Rattle.st_el.specs.Plain.{nowhere, plain_exp, plain_count, plain_node_at}

@@ -16,9 +16,10 @@ use Rattle.st_el.specs.declared.expression.Exp.{Exp}
 use Rattle.st_el.specs.declared.expression.Node.{roll-Node}
 use Rattle.st_el.specs.declared.expression.Node.TheVariants as node
 use Rattle.st_el.specs.declared.expression.Count.TheOpen.{Node-F}
-use Rattle.st_el.specs.declared.place.Around.{Around}
-use Rattle.st_el.specs.declared.place.Around.TheVariants.{Brackets, Bars, Arithmetic, Caret}
-use Rattle.st_el.specs.Levels.{place_at, not_level, negation_level}
+use Rattle.st_el.specs.declared.context.Around.{Around}
+use Rattle.st_el.specs.declared.context.Around.TheVariants.{Brackets, Bars, Arithmetic, Caret}
+use Rattle.st_num.specs.Signs.{prefix_level}
+use Rattle.st_el.specs.Contexts.{context_at as place_at}
 use Rattle.st_el.specs.SourceText.{printed, front, postfix, text_at, left_side, parts_printed, opened as printed_parts}
 use Rattle.st_el.specs.Plain.{plain_exp}
 use Rattle.st_parse_builder.specs.Meaning.{exp, meaning, is_atom, opened, prefixed}
@@ -80,19 +81,19 @@ not_prefix names b at e = record {
 }
 
 not_part : (names : List (List ℕ)) (b : Bool) (a : Around) (at : Span) (e : Exp) → sort_of a ≡ expression b
-    → Part names (expression b) e (place_traits (place_at a not_level) (printed e)) ((printed e).at (place_at a not_level))
-    → Part names (expression b) (exp at (node.Not e)) (prefix_traits mark.Tilde) ((codes "~ " ++ (printed e).at (place_at a not_level)) ++ [])
+    → Part names (expression b) e (place_traits (place_at a (prefix_level mark.Tilde)) (printed e)) ((printed e).at (place_at a (prefix_level mark.Tilde)))
+    → Part names (expression b) (exp at (node.Not e)) (prefix_traits mark.Tilde) ((codes "~ " ++ (printed e).at (place_at a (prefix_level mark.Tilde))) ++ [])
 not_part names b a at e is p =
     part_as names (expression b) (exp at (node.Not e)) (exp at (node.Not e)) (prefix_traits mark.Tilde) _ _ refl (sym (append-nil _))
-    (prefix_part names (expression b) mark.Tilde e (exp at (node.Not e)) (place_traits (place_at a not_level) (printed e)) ((printed e).at (place_at a not_level)) (not_prefix names b at e) refl refl p)
+    (prefix_part names (expression b) mark.Tilde e (exp at (node.Not e)) (place_traits (place_at a (prefix_level mark.Tilde)) (printed e)) ((printed e).at (place_at a (prefix_level mark.Tilde))) (not_prefix names b at e) refl refl p)
 
 pub not_printed : (names : List (List ℕ)) (b : Bool) (at : Span) (e : Exp) → Printable names (expression b) e → Printable names (expression b) (exp at (node.Not e))
 not_printed names b at e x =
     printable names (expression b) at (node.Not e) (Node-F.Not (printed e)) (ap parts_printed (node.outs-Not e)) (omega arith) refl go
   where
     go : (a : Around) → Home (expression b) a → Part names (sort_of a) (exp at (node.Not e)) (bare_traits (Node-F.Not (printed e))) (front a (Node-F.Not (printed e)) ++ postfix (Node-F.Not (printed e)))
-    go Brackets home = not_part names false Brackets at e refl (placed names (expression b) e (place_at Brackets not_level) tt (omega arith) x)
-    go Bars home = not_part names true Bars at e refl (placed names (expression b) e (place_at Bars not_level) tt (omega arith) x)
+    go Brackets home = not_part names false Brackets at e refl (placed names (expression b) e (place_at Brackets (prefix_level mark.Tilde)) tt (omega arith) x)
+    go Bars home = not_part names true Bars at e refl (placed names (expression b) e (place_at Bars (prefix_level mark.Tilde)) tt (omega arith) x)
     go Arithmetic home = absurd home
     go Caret home = absurd home
 
@@ -115,8 +116,8 @@ neg_printed names at e x =
     go : (a : Around) → Home arithmetic a → Part names (sort_of a) (exp at (node.Neg e)) (bare_traits (Node-F.Neg (printed e))) (front a (Node-F.Neg (printed e)) ++ postfix (Node-F.Neg (printed e)))
     go Arithmetic home =
         part_as names arithmetic (exp at (node.Neg e)) (exp at (node.Neg e)) (prefix_traits mark.Minus) _ _ refl (sym (append-nil _))
-        (prefix_part names arithmetic mark.Minus e (exp at (node.Neg e)) (place_traits (place_at Arithmetic negation_level) (printed e)) ((printed e).at (place_at Arithmetic negation_level)) (neg_prefix names at e) refl refl
-        (placed names arithmetic e (place_at Arithmetic negation_level) tt (omega arith) x))
+        (prefix_part names arithmetic mark.Minus e (exp at (node.Neg e)) (place_traits (place_at Arithmetic (prefix_level mark.Minus)) (printed e)) ((printed e).at (place_at Arithmetic (prefix_level mark.Minus))) (neg_prefix names at e) refl refl
+        (placed names arithmetic e (place_at Arithmetic (prefix_level mark.Minus)) tt (omega arith) x))
     go Brackets home = absurd home
     go Bars home = absurd home
     go Caret home = absurd home

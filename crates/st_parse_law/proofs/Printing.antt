@@ -27,8 +27,8 @@ use Rattle.st_el.specs.declared.expression.Node.TheVariants as node
 use Rattle.st_el.specs.declared.expression.Count.TheVariants as count
 use Rattle.st_el.specs.declared.expression.Seg.{Seg}
 use Rattle.st_el.specs.declared.expression.Seg.TheVariants as seg
-use Rattle.st_el.specs.declared.place.Behind.{Behind}
-use Rattle.st_el.specs.declared.place.Behind.TheVariants.{Other, Plus}
+use Rattle.st_el.specs.declared.context.Behind.{Behind}
+use Rattle.st_el.specs.declared.context.Behind.TheVariants.{Other, Plus}
 use Rattle.st_parse_builder.specs.Names.{name_of, leaf_node}
 use Rattle.st_parse_builder.specs.Meaning.{exp, place, first_place, meaning, meanings, field_meanings, label, base, steps, step_at, changed_node, is_atom, opened, dotted, dotted_node, atom_name, mark_count, count_of}
 use Rattle.st_parse_law.proofs.Plains.{node-of}

@@ -20,8 +20,8 @@ use Rattle.st_el.specs.declared.expression.Exp.{Exp}
 use Rattle.st_el.specs.declared.expression.Node.{roll-Node}
 use Rattle.st_el.specs.declared.expression.Node.TheVariants as node
 use Rattle.st_el.specs.declared.expression.Count.TheOpen.{Node-F}
-use Rattle.st_el.specs.declared.place.Around.{Around}
-use Rattle.st_el.specs.declared.place.Around.TheVariants.{Brackets, Bars, Arithmetic, Caret}
+use Rattle.st_el.specs.declared.context.Around.{Around}
+use Rattle.st_el.specs.declared.context.Around.TheVariants.{Brackets, Bars, Arithmetic, Caret}
 use Rattle.st_el.specs.SourceText.{printed, listed, arguments as arguments_text, front, postfix, parts_printed}
 use Rattle.st_el.specs.Plain.{plain_exp}
 use Rattle.st_parse_builder.specs.Names.{name_of}

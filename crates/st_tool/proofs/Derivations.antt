@@ -14,8 +14,8 @@ use Rattle.st_tool.specs.declared.answer.Answer.{Answer}
 use Rattle.st_tool.specs.declared.transcript.Ending.{Ending}
 use Rattle.st_tool.specs.Commands.{IsDerivationText, default_fuel, status_of}
 use Rattle.st_tool.specs.Derivation.{StepLines, begins, goes_on, last_line}
-use Rattle.st_tool.specs.Nodes.{rule_node}
-use Rattle.st_tool.specs.Step.{IsNextRule}
+use Rattle.st_tool.specs.inner.Nodes.{rule_node}
+use Rattle.st_tool.specs.inner.Step.{IsNextRule}
 use Rattle.st_tool.specs.Transcript.{Term, atom_term, Reaches, begins as starts, goes_on as comes, EndsBy}
 use Rattle.st_tool.proofs.Derives.{tree_of_rule, rule_is_valid, node_of_rule}
 use Rattle.st_tool.proofs.LineTexts.{head_text, from_text, node_text, step_text, end_text}

@@ -22,8 +22,8 @@ use Rattle.st_il.specs.declared.small.Small.{Small}
 use Rattle.st_il.specs.declared.small.SmallRule.{SmallRule}
 use Rattle.st_il.specs.Small.{atom_exp, rule_def, il_of}
 use Rattle.st_tool.specs.Derivation.{IsNodeOf}
-use Rattle.st_tool.specs.Nodes.{rule_node}
-use Rattle.st_tool.specs.Step.{Gives, IsLeastOf, IsAtMost, IsNextRule}
+use Rattle.st_tool.specs.inner.Nodes.{rule_node}
+use Rattle.st_tool.specs.inner.Step.{Gives, IsLeastOf, IsAtMost, IsNextRule}
 use Rattle.st_tool.specs.Transcript.{Term, atom_term, IsStuck}
 use Rattle.st_tool.proofs.Atoms.{atom_name, values_cmp-atoms}
 

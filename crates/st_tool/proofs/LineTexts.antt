@@ -9,14 +9,14 @@ use Rattle.st_il.specs.declared.small.Small.{Small}
 use Rattle.st_il.specs.declared.small.SmallRule.{SmallRule}
 use Rattle.st_il.specs.declared.value.Value.TheVariants.{Case, outs-Case}
 use Rattle.st_il.specs.Small.{IsUpper, IsWordOf, IsSmall, IsSmallRule}
-use Rattle.st_il.specs.Value.{IsText}
-use Rattle.st_iltext.specs.Text.{is_word_byte, IsWord}
-use Rattle.st_iltext.proofs.NumberWords.{decimal-IsWord}
+use Rattle.st_num.specs.Texts.{IsText}
+use Rattle.st_text.specs.Text.{is_word_byte, IsWord}
+use Rattle.st_text.proofs.NumberWords.{decimal-IsWord}
 use Rattle.st_iltext.proofs.SmallTrees.{upper_text, lower_text}
 use Rattle.st_tool.specs.declared.transcript.Ending.{Ending}
 use Rattle.st_tool.specs.declared.transcript.Ending.TheVariants.{Stuck, Fuel}
 use Rattle.st_tool.specs.Derivation.{last_line}
-use Rattle.st_tool.specs.Nodes.{rule_node}
+use Rattle.st_tool.specs.inner.Nodes.{rule_node}
 use Rattle.st_tool.specs.Transcript.{atom_term}
 
 -- the value of an atom is a case without operands, whose tag is the atom

@@ -13,7 +13,7 @@ use Rattle.st_il.specs.Derivation.{inputs_of}
 use Rattle.st_il.specs.Small.{il_of, rule_def, syntax_def, relation_def}
 use Rattle.st_tool.specs.declared.transcript.Ending.{Ending}
 use Rattle.st_tool.specs.Derivation.{last_line}
-use Rattle.st_tool.specs.Nodes.{rule_node}
+use Rattle.st_tool.specs.inner.Nodes.{rule_node}
 use Rattle.st_tool.specs.Transcript.{atom_term}
 use Rattle.st_tool.proofs.Derives.{atom_value}
 use Rattle.st_verify.specs.declared.fault.VerifyRule.{VerifyRule}

@@ -5,7 +5,7 @@ use Rattle.std.specs.List.{All, Contains}
 use Rattle.st_il.specs.declared.small.Small.{Small}
 use Rattle.st_il.specs.declared.small.SmallRule.{SmallRule}
 use Rattle.st_il.specs.Small.{IsSmallRule, IsSmall, AreDistinct, reserved, rule_names}
-use Rattle.st_tool.specs.SmallForm.{GoesBetween, IsRuleOfWords, IsOfWords}
+use Rattle.st_tool.specs.inner.SmallForm.{GoesBetween, IsRuleOfWords, IsOfWords}
 
 pub rules_are_small : (atoms : List (List ℕ)) (rules : List SmallRule) → All IsRuleOfWords rules → All (GoesBetween atoms) rules → All (IsSmallRule atoms) rules
 rules_are_small atoms rules words between k d within =

@@ -6,7 +6,7 @@ use Rattle.std.proofs.lemmas.List.{append_cancel_left, nil_from_length}
 use Rattle.st_il.specs.declared.small.SmallRule.{SmallRule}
 use Rattle.st_il.specs.Small.{IsLower, IsUpper}
 use Rattle.st_tool.specs.SmallText.{alternative_text, relation_line, rule_line}
-use Rattle.st_tool.specs.SmallForm.{Stops}
+use Rattle.st_tool.specs.inner.SmallForm.{Stops}
 
 -- what stands behind a front is one thing
 pub peel : (front xs rs ss : List ℕ) → xs ≡ front ++ rs → xs ≡ front ++ ss → rs ≡ ss

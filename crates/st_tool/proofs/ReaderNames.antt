@@ -10,7 +10,7 @@ use Rattle.std.proofs.lemmas.List.Quantifiers.{all_pairs_push}
 use Rattle.std.proofs.lemmas.Slice.Eq.{bytes_eq-Decides}
 use Rattle.indexmap.specs.IndexSet.{insert_key}
 use Rattle.st_il.specs.Small.{AreDistinct}
-use Rattle.st_tool.specs.SmallForm.{names_of, Adds}
+use Rattle.st_tool.specs.inner.SmallForm.{names_of, Adds}
 
 -- a test for a name finds it exactly where it is
 pub any_name : (test : Bor (List ℕ) → Bool) (name : List ℕ) → ((key : Bor (List ℕ)) → Decides (test key) (key.now ≡ name))

@@ -4,7 +4,7 @@ use Rattle.std.specs.List.{All}
 use Rattle.std.proofs.lemmas.List.Elements.{All-nil, All-head, All-tail}
 use Rattle.std.proofs.lemmas.List.{take-append-drop}
 use Rattle.st_il.specs.Small.{IsWordOf}
-use Rattle.st_tool.specs.SmallForm.{Stops}
+use Rattle.st_tool.specs.inner.SmallForm.{Stops}
 
 -- two fronts of letters before no letter are the same
 pub word_only : (P : ℕ → Type 0) (xs ys rs ss : List ℕ) → All P xs → All P ys → Stops P rs → Stops P ss → xs ++ rs ≡ ys ++ ss → (xs ≡ ys) × (rs ≡ ss)

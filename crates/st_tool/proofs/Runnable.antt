@@ -9,7 +9,7 @@ use Rattle.st_tool.specs.declared.status.Status.{Status}
 use Rattle.st_il.specs.declared.small.Small.{Small}
 use Rattle.st_tool.specs.Commands.{IlGives, RunGives, IsRunnable, IsStart, IsTerm, IsUnbuilt}
 use Rattle.st_tool.specs.SmallText.{IsTextOf}
-use Rattle.st_tool.specs.Starts.{HasNoTerm, HasNoStart}
+use Rattle.st_tool.specs.inner.Starts.{HasNoTerm, HasNoStart}
 
 -- the status and the text of a run from an atom, in one form or another
 abbrev pub RunText : Type 1
@@ -22,13 +22,13 @@ abbrev pub SaysUnbuilt : Result Answer NoMemory → Type 0
 SaysUnbuilt result = IfOk result (λ answer. IsUnbuilt answer.status answer.bytes.items)
 
 -- the bytes are the text of this specification, and of no other
-pub record IsSource (small : Small) (file : List ℕ) : Type 0 where
+pub record IsSmallSource (small : Small) (file : List ℕ) : Type 0 where
   pub is_text : IsTextOf small file
   pub only : (other : Small) → IsTextOf other file → small ≡ other
 
 -- what was read is the source
 pub source_read : (read : Option Small) (small : Small) (file : List ℕ) → read ≡ Some small → IfSome read (λ s. IsTextOf s file)
-    → ((s : Small) → IsTextOf s file → read ≡ Some s) → IsSource small file
+    → ((s : Small) → IsTextOf s file → read ≡ Some s) → IsSmallSource small file
 source_read read small file is some only = record {
   is_text = subst (λ r. IfSome r (λ s. IsTextOf s file)) is some;
   only = λ other text. let other_is = only other text in cc (is, other_is);
@@ -40,13 +40,13 @@ unbuilt_runs Text relation term file (Ok a) none is = inr (none, is)
 unbuilt_runs Text relation term file (Err e) none is = tt
 
 -- there is no term to begin at
-pub no_start : (Text : RunText) (relation term file : List ℕ) (small : Small) (result : Result Answer NoMemory) → IsSource small file → HasNoStart small relation term → SaysUnbuilt result
+pub no_start : (Text : RunText) (relation term file : List ℕ) (small : Small) (result : Result Answer NoMemory) → IsSmallSource small file → HasNoStart small relation term → SaysUnbuilt result
     → IfOk result (λ answer. RunGives Text relation term file answer.status answer.bytes.items)
 no_start Text relation term file small result is none = unbuilt_runs Text relation term file result
     (λ other atom runnable. none atom (subst (λ s. IsStart s relation term atom) (sym (is.only other runnable.source)) runnable.start))
 
 -- it runs
-pub runs_here : (Text : RunText) (relation term file atom : List ℕ) (small : Small) (result : Result Answer NoMemory) → IsSource small file → IsStart small relation term atom
+pub runs_here : (Text : RunText) (relation term file atom : List ℕ) (small : Small) (result : Result Answer NoMemory) → IsSmallSource small file → IsStart small relation term atom
     → IfOk result (λ answer. Text small atom answer.status answer.bytes.items)
     → IfOk result (λ answer. RunGives Text relation term file answer.status answer.bytes.items)
 runs_here Text relation term file atom small (Ok a) is start run = inl (small, atom, record { source = is.is_text; start = start }, run)

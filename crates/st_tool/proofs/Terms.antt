@@ -4,7 +4,7 @@ use Rattle.std.specs.Prelude.{slice_get}
 use Rattle.std.proofs.lemmas.Option.{slice_get-get_or}
 use Rattle.st_il.specs.declared.small.Small.{Small}
 use Rattle.st_tool.specs.Commands.{IsAtomText}
-use Rattle.st_tool.specs.Starts.{HasNoTerm}
+use Rattle.st_tool.specs.inner.Starts.{HasNoTerm}
 
 -- the atom of this number is not the term
 abbrev pub IsPassed : List (List ℕ) → List ℕ → ℕ → Type 0

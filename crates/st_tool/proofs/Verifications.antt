@@ -7,7 +7,7 @@ use Rattle.st_deriv.specs.declared.line.Ending.{Ending}
 use Rattle.st_deriv.specs.declared.line.Line.{Line}
 use Rattle.st_deriv.specs.declared.line.Line.TheVariants.{Head, From, Node, Step, End}
 use Rattle.st_deriv.specs.LineText.{HasText, line_text, LineText, lines_text}
-use Rattle.st_deriv.specs.Reading.{IsNoLine}
+use Rattle.st_deriv.specs.LineText.{IsNoLine}
 use Rattle.st_deriv.proofs.LineFeeds.{no_line_feed}
 use Rattle.st_il.specs.declared.definition.Il.{Il}
 use Rattle.st_il.specs.declared.type_rule.TypeRule.{TypeRule}
@@ -16,7 +16,7 @@ use Rattle.st_iltext.proofs.Lines.{line_unique, no_line}
 use Rattle.st_num.specs.declared.memory.NoMemory.{NoMemory}
 use Rattle.st_tool.specs.declared.answer.Answer.{Answer}
 use Rattle.st_tool.specs.declared.status.Status.{Status}
-use Rattle.st_tool.specs.Checks.{TakesFirst, Takes, HasTaken, going, refused, TakenTo, HasNoLines, EndsNow, Ends, Tells}
+use Rattle.st_tool.specs.inner.Checks.{TakesFirst, Takes, HasTaken, going, refused, TakenTo, HasNoLines, EndsNow, Ends, Tells}
 use Rattle.st_tool.specs.Commands.{VerifyGives, IsUnbuilt}
 use Rattle.st_tool.specs.Texts.{accepted_text, refused_text}
 use Rattle.st_tool.specs.Verification.{steps_in, Verified, accepted, refused as refuses, unfinished, endless}

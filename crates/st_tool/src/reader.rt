@@ -3,7 +3,7 @@
 ghost use Rattle.std.specs.Prelude.{◌≡◌, IfOk, IfSome, IfNone, Some};
 ghost use Rattle.st_il.specs.declared.small.Small.{Small as Specification};
 ghost use Rattle.st_tool.specs.SmallText.{text_of, IsTextOf};
-ghost use Rattle.st_tool.specs.SmallForm.{IsOfWords};
+ghost use Rattle.st_tool.specs.inner.SmallForm.{IsOfWords};
 
 mod check;
 mod line;

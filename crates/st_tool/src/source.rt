@@ -2,7 +2,7 @@
 
 ghost use Rattle.std.specs.Prelude.{◌≡◌, ◌↔◌, ◌++◌, ◌∷◌, [], IfOk, IsTrue, MatchOption};
 ghost use Rattle.st_tool.specs.Commands.{IlGives, RunGives, IsRunText, IsDerivationText, IsAtomText, IsTerm, IsStart};
-ghost use Rattle.st_tool.specs.Starts.{HasNoTerm, HasNoStart};
+ghost use Rattle.st_tool.specs.inner.Starts.{HasNoTerm, HasNoStart};
 
 use crate::Status;
 use crate::answer::{Answer, unbuilt};

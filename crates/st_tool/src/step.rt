@@ -3,7 +3,7 @@
 ghost use Rattle.std.specs.Prelude.{◌≡◌, ◌⊎◌, length, MatchOption};
 ghost use Rattle.std.specs.Option.{option_copied};
 ghost use Rattle.st_il.specs.Small.{il_of};
-ghost use Rattle.st_tool.specs.Step.{IsAtMost, IsBetter, IsLeastOf, IsNextRule};
+ghost use Rattle.st_tool.specs.inner.Step.{IsAtMost, IsBetter, IsLeastOf, IsNextRule};
 ghost use Rattle.st_tool.specs.Transcript.{IsStuck, atom_term};
 
 use st_il::{Small, SmallRule};

@@ -3,8 +3,8 @@
 ghost use Rattle.std.specs.Prelude.{◌≡◌, ◌≤◌, ◌<◌, ◌^◌, None, length, IfOk, IfSome, IfNone, MatchBool, Contains};
 ghost use Rattle.st_deriv.specs.declared.line.Line.{Line};
 ghost use Rattle.st_deriv.specs.LineText.{LineText};
-ghost use Rattle.st_deriv.specs.Reading.{IsNoLine};
-ghost use Rattle.st_tool.specs.Checks.{Takes, TakenTo, HasNoLines, Ends, Tells};
+ghost use Rattle.st_deriv.specs.LineText.{IsNoLine};
+ghost use Rattle.st_tool.specs.inner.Checks.{Takes, TakenTo, HasNoLines, Ends, Tells};
 ghost use Rattle.st_tool.specs.Commands.{VerifyGives, text_limit};
 ghost use Rattle.st_tool.specs.Texts.{accepted_text, refused_text, rule_word};
 ghost use Rattle.st_verify.specs.Notes.{nothing_noted};
@@ -13,8 +13,9 @@ use crate::Status;
 use crate::answer::{Answer, unbuilt};
 use itoa::Buffer;
 use st_deriv::read_line;
-use st_iltext::{TextFault, next_line, read_il};
+use st_iltext::read_il;
 use st_num::NoMemory;
+use st_text::{TextFault, next_line};
 use st_verify::{Accepted, Verifier, VerifyFault, VerifyRule};
 use std::alloc::Global;
 

@@ -2,7 +2,7 @@
 use Rattle.std.specs.Prelude.{◌≡◌, ◌⊎◌, ℕ, List, ◌+◌, ◌≤◌, ◌^◌, true, false, length, Contains, Option, Some, None, MatchOption, Result, Ok, Err}
 use Rattle.st_deriv.specs.declared.line.Line.{Line}
 use Rattle.st_deriv.specs.LineText.{LineText}
-use Rattle.st_deriv.specs.Reading.{IsNoLine}
+use Rattle.st_deriv.specs.LineText.{IsNoLine}
 use Rattle.st_il.specs.declared.definition.Il.{Il}
 use Rattle.st_il.specs.Small.{IsSmallIl}
 use Rattle.st_verify.specs.declared.accepted.Accepted.{Accepted}

@@ -17,7 +17,7 @@ use crate::verdict::broken_rule;
 use crate::{Accepted, Notes, VerifyFault, VerifyRule};
 use st_deriv::{Line, read_line};
 use st_il::Il;
-use st_iltext::TextFault;
+use st_text::TextFault;
 use std::alloc::Global;
 use std::marker::Model;
 

@@ -7,7 +7,7 @@ use Rattle.std.specs.List.{starts_with}
 use Rattle.std.specs.Cmp.Lexicographic.{pointwise, bytes_decides}
 use Rattle.st_words.specs.declared.arrangement.Arrangement.{Arrangement}
 use Rattle.st_words.specs.Arranged.{begins_with_dash, is_dashed, is_end, plain_words, IsOption, IsArranged, empty, ended, plain, fuel, depth}
-use Rattle.st_words.specs.Fronts.{as_value, with_plain, with_fuel, with_depth, prepended, arranged, AddsJoined, IsNotJoined}
+use Rattle.st_words.specs.inner.Fronts.{as_value, with_plain, with_fuel, with_depth, prepended, arranged, AddsJoined, IsNotJoined}
 
 -- a plain word in front
 pub arranged-plain : (word : List ℕ) (behind : List (List ℕ)) → is_dashed word ≡ false

@@ -2,7 +2,7 @@
 
 ghost use Rattle.std.specs.Prelude.{◌≡◌, ℕ, ◌∷◌, ◌++◌, ◌≤◌, [], List, length, map, string_bytes, true, false, IfOk, OnOk};
 ghost use Rattle.st_words.specs.Arranged.{begins_with_dash, is_dashed, is_end, IsArranged};
-ghost use Rattle.st_words.specs.Fronts.{arranged, prepended, AddsJoined, IsNotJoined};
+ghost use Rattle.st_words.specs.inner.Fronts.{arranged, prepended, AddsJoined, IsNotJoined};
 ghost use Rattle.st_words.specs.declared.fault.WordsFault.TheVariants.{Usage};
 
 use crate::{CommandWord, WordsFault};

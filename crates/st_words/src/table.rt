@@ -2,7 +2,7 @@
 
 ghost use Rattle.std.specs.Prelude.{◌≡◌, ◌≢◌, ℕ, ◌∷◌, [], List, MatchResult, IfOk, OnErr};
 ghost use Rattle.st_words.specs.Table.{Asks, NoOptions, TakesFiles, TakesTerm, TakesRelation, TakesRun, TakesVerify, TakesMake};
-ghost use Rattle.st_words.specs.Goals.{IsGoal};
+ghost use Rattle.st_words.specs.inner.Goals.{IsGoal};
 ghost use Rattle.st_words.specs.declared.command.Command.{Command};
 ghost use Rattle.st_words.specs.declared.table.Goal.{Goal};
 

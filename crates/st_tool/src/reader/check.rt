@@ -1,54 +1,13 @@
 //! What is asked of a small specification beside the form of its text.
 
 ghost use Rattle.std.specs.Prelude.{◌≡◌, ◌↔◌, All, Contains, IsTrue, IfOk, MatchOption};
-ghost use Rattle.st_il.specs.Small.{reserved, rule_names, AreDistinct, IsSmall};
-ghost use Rattle.st_tool.specs.SmallForm.{names_of, Adds, GoesBetween, IsOfWords};
+ghost use Rattle.st_il.specs.Small.{rule_names, AreDistinct, IsSmall};
+ghost use Rattle.st_tool.specs.inner.SmallForm.{names_of, Adds, GoesBetween, IsOfWords};
 
 use indexmap::IndexSet;
-use st_il::{Small, SmallRule};
-use st_num::{Name, NoMemory};
+use st_il::{Small, SmallRule, is_reserved};
+use st_num::{MOST_DEFINITIONS, MOST_PARTS, Name, NoMemory};
 use std::alloc::Global;
-
-/// How many atoms a syntax has at most.
-const MAX_ATOMS: usize = 4095;
-
-/// How many rules a relation has at most.
-const MAX_RULES: usize = 65_533;
-
-/// The words that name no syntax.
-const RESERVED: [&[u8]; 18] = [
-    b"syntax",
-    b"relation",
-    b"rule",
-    b"var",
-    b"def",
-    b"grammar",
-    b"hint",
-    b"if",
-    b"otherwise",
-    b"eps",
-    b"true",
-    b"false",
-    b"bool",
-    b"nat",
-    b"int",
-    b"text",
-    b"rat",
-    b"real",
-];
-
-fn is_among(word: &[u8], words: &[&[u8]]) -> bool
-    ensures { IsTrue result ↔ Contains (names_of words.now) word.now }
-{
-    words.contains(&word)
-}
-
-/// Whether the word names no syntax.
-fn is_reserved(word: &[u8]) -> bool
-    ensures { IsTrue result ↔ Contains reserved word.now }
-{
-    is_among(word, &RESERVED)
-}
 
 /// Adds a name, and answers whether it was not there.
 fn add_name<'a>(names: &mut IndexSet<&'a Name>, name: &'a Name) -> Result<bool, NoMemory>
@@ -117,7 +76,10 @@ pub fn is_small(alloc: Global, small: &Small) -> Result<bool, NoMemory>
 {
     let atoms = small.atoms.as_slice();
     let rules = small.rules.as_slice();
-    if atoms.is_empty() || atoms.len() > MAX_ATOMS || rules.len() > MAX_RULES {
+    if atoms.is_empty() || atoms.len() > usize::from(MOST_PARTS) {
+        return Ok(false);
+    }
+    if rules.len() > usize::from(MOST_DEFINITIONS) - 2 {
         return Ok(false);
     }
     if is_reserved(small.syntax.as_slice()) {

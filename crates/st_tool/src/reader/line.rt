@@ -5,7 +5,7 @@ ghost use Rattle.std.specs.List.{flat_map};
 ghost use Rattle.st_il.specs.declared.small.SmallRule.{SmallRule as Rule};
 ghost use Rattle.st_il.specs.Small.{IsLower, IsUpper, IsWordOf};
 ghost use Rattle.st_tool.specs.SmallText.{alternative_text, relation_line, rule_line};
-ghost use Rattle.st_tool.specs.SmallForm.{Answers, IsRuleOfWords, rule_of};
+ghost use Rattle.st_tool.specs.inner.SmallForm.{Answers, IsRuleOfWords, rule_of};
 
 use super::word::{Case, behind, read_word, read_word_before};
 use st_il::SmallRule;

@@ -1,7 +1,7 @@
 //! Fixed texts and words of letters at the front of bytes.
 
 ghost use Rattle.std.specs.Prelude.{◌≡◌, ◌≢◌, ℕ, ◌≤◌, ◌↔◌, List, ◌++◌, take, drop, length, All, IsTrue, IfSome, MatchOption};
-ghost use Rattle.st_tool.specs.SmallForm.{IsLetter, IsWord, Stops, Answers};
+ghost use Rattle.st_tool.specs.inner.SmallForm.{IsLetter, IsWord, Stops, Answers};
 
 /// The case of letters.
 #[derive(Clone, Copy)]

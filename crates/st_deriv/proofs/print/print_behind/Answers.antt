@@ -1,6 +1,6 @@
 use Rattle.std.proofs.Common.{[], ◌∷◌, refl, arith}
-use Rattle.st_iltext.specs.Text.{text}
-use Rattle.st_iltext.proofs.CutOff.{OnErr-any, cut_off_rest, written_cut}
+use Rattle.st_text.specs.Text.{text}
+use Rattle.st_text.proofs.CutOff.{OnErr-any, cut_off_rest, written_cut}
 use Rattle.st_deriv.specs.LineText.{value_tree}
 use Rattle.st_deriv.proofs.Printing.{behind_drop}
 use Rattle.st_deriv.proofs.print.print_behind.Goals as goal

@@ -1,6 +1,6 @@
 use Rattle.std.proofs.Common.{drop}
-use Rattle.st_iltext.proofs.CutOff.{Written}
-use Rattle.st_iltext.specs.Text.{behind}
+use Rattle.st_text.proofs.CutOff.{Written}
+use Rattle.st_text.specs.Text.{behind}
 use Rattle.st_deriv.specs.LineText.{value_trees}
 use Rattle.st_deriv.proofs.print.print_behind.Given as goal
 

@@ -1,5 +1,5 @@
 use Rattle.std.proofs.Common.{arith}
-use Rattle.st_iltext.proofs.CutOff.{OnErr-any, written_step, written_cut, written_none}
+use Rattle.st_text.proofs.CutOff.{OnErr-any, written_step, written_cut, written_none}
 use Rattle.st_deriv.proofs.Printing.{lines_drop}
 use Rattle.st_deriv.proofs.print.print_lines.Goals as goal
 

@@ -1,5 +1,5 @@
 use Rattle.std.proofs.Common.{drop}
-use Rattle.st_iltext.proofs.CutOff.{Written}
+use Rattle.st_text.proofs.CutOff.{Written}
 use Rattle.st_deriv.specs.LineText.{lines_text}
 use Rattle.st_deriv.proofs.print.print_lines.Given as goal
 

@@ -1,5 +1,5 @@
 use Rattle.std.proofs.Common.{refl}
-use Rattle.st_iltext.proofs.CutOff.{OnErr-any, written_cut, written_none}
+use Rattle.st_text.proofs.CutOff.{OnErr-any, written_cut, written_none}
 use Rattle.st_deriv.proofs.Printing.{node_text, node_word, node_relation, node_rule, node_lists}
 use Rattle.st_deriv.proofs.print.print_node.Goals as goal
 

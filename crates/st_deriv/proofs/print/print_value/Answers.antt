@@ -1,4 +1,4 @@
-use Rattle.st_iltext.proofs.CutOff.{OnErr-any, cut_off_behind}
+use Rattle.st_text.proofs.CutOff.{OnErr-any, cut_off_behind}
 use Rattle.st_deriv.proofs.Printing.{value_text}
 use Rattle.st_deriv.proofs.print.print_value.Goals as goal
 

@@ -1,4 +1,4 @@
-use Rattle.st_iltext.proofs.CutOff.{OnErr-any, cut_off_first, cut_off_rest}
+use Rattle.st_text.proofs.CutOff.{OnErr-any, cut_off_first, cut_off_rest}
 use Rattle.st_deriv.proofs.Printing.{OnErr-map, values_first}
 use Rattle.st_deriv.proofs.print.print_values.Goals as goal
 

@@ -1,6 +1,6 @@
 use Rattle.std.proofs.Common.{subst}
-use Rattle.st_iltext.specs.Trees.{trees_of}
-use Rattle.st_deriv.specs.Reading.{AnswersLine}
+use Rattle.st_text.specs.Trees.{trees_of}
+use Rattle.st_deriv.specs.inner.Reading.{AnswersLine}
 use Rattle.st_deriv.proofs.Whole.{line_answer}
 use Rattle.st_deriv.proofs.read.read_line.Goals as goal
 

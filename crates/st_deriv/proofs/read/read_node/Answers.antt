@@ -1,6 +1,6 @@
 use Rattle.std.proofs.Common.{refl, sym, ap, ◌∙◌, Err, arith}
 use Rattle.std.proofs.lemmas.Result.{err_from_is_err_and}
-use Rattle.st_iltext.specs.Text.{quote}
+use Rattle.st_text.specs.Text.{quote}
 use Rattle.st_deriv.proofs.LineKinds.{node_length, five_parts, node_relation, node_rule, node_no_list, node_passed, node_answer}
 use Rattle.st_deriv.proofs.read.read_node.Goals as goal
 use Rattle.st_deriv.proofs.read.read_node.Goals.{in_default-via-then-parts-lt5, in_default-via-else-parts-lt5+else-parts-lt6}

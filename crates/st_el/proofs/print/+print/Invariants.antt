@@ -1,6 +1,6 @@
 use Rattle.std.proofs.Common.{◌≡◌, ◌++◌, map, flat_map, take, codes}
-use Rattle.st_el.specs.declared.place.Around.TheVariants.{Brackets}
-use Rattle.st_el.specs.Levels.{next_element, whole}
+use Rattle.st_el.specs.declared.context.Around.TheVariants.{Brackets}
+use Rattle.st_el.specs.Contexts.{next_element, whole}
 use Rattle.st_el.specs.SourceText.{printed, printed_step, printed_field, field_text}
 use Rattle.st_el.proofs.print.+print.Given as goal
 

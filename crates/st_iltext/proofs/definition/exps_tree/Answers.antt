@@ -1,5 +1,5 @@
 use Rattle.std.proofs.Common.{sym, subst, arith}
-use Rattle.st_iltext.specs.SmallForms.{IsAtom}
+use Rattle.st_iltext.specs.inner.SmallForms.{IsAtom}
 use Rattle.st_iltext.proofs.definition.exps_tree.Goals as goal
 
 pub exp_tree-requires : goal.exp_tree-requires

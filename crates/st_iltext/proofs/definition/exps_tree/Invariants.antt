@@ -1,6 +1,6 @@
 use Rattle.std.proofs.Common.{◌≡◌, ◌++◌, map, drop}
 use Rattle.st_iltext.specs.Expressions.{exp_tree}
-use Rattle.st_iltext.specs.Trees.{tree_of}
+use Rattle.st_text.specs.Trees.{tree_of}
 use Rattle.st_iltext.proofs.definition.exps_tree.Given as goal
 
 abbrev pub invariant-loop-exp : goal.invariant-loop-exp

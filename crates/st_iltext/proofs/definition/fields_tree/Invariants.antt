@@ -1,6 +1,6 @@
 use Rattle.std.proofs.Common.{◌≡◌, ◌++◌, map, drop}
 use Rattle.st_iltext.specs.Definitions.{field_tree}
-use Rattle.st_iltext.specs.Trees.{tree_of}
+use Rattle.st_text.specs.Trees.{tree_of}
 use Rattle.st_iltext.proofs.definition.fields_tree.Given as goal
 
 abbrev pub invariant-loop-field : goal.invariant-loop-field

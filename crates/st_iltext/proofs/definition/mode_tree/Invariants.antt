@@ -1,6 +1,6 @@
 use Rattle.std.proofs.Common.{◌≡◌, ◌++◌, map, drop}
 use Rattle.st_iltext.specs.Definitions.{mode_word}
-use Rattle.st_iltext.specs.Trees.{tree_of}
+use Rattle.st_text.specs.Trees.{tree_of}
 use Rattle.st_iltext.proofs.definition.mode_tree.Given as goal
 
 abbrev pub invariant-loop-is_input : goal.invariant-loop-is_input

@@ -1,6 +1,6 @@
 use Rattle.std.proofs.Common.{◌≡◌, ◌++◌, map, drop}
 use Rattle.st_iltext.specs.Expressions.{ty_tree}
-use Rattle.st_iltext.specs.Trees.{tree_of}
+use Rattle.st_text.specs.Trees.{tree_of}
 use Rattle.st_iltext.proofs.expression.+ty.Given as goal
 
 abbrev pub invariant-push_types-loop-ty : goal.invariant-push_types-loop-ty

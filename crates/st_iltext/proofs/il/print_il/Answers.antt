@@ -1,9 +1,9 @@
 use Rattle.std.proofs.Common.{List, sym, subst, arith}
 use Rattle.std.specs.List.{All}
 use Rattle.st_il.specs.declared.definition.IlDef.{IlDef}
-use Rattle.st_iltext.specs.Printing.{IsCutOff}
-use Rattle.st_iltext.specs.SmallForms.{IsOfAtoms}
-use Rattle.st_iltext.proofs.CutOff.{OnErr-any, written_cut, written_step}
+use Rattle.st_text.specs.Printing.{IsCutOff}
+use Rattle.st_iltext.specs.inner.SmallForms.{IsOfAtoms}
+use Rattle.st_text.proofs.CutOff.{OnErr-any, written_cut, written_step}
 use Rattle.st_iltext.proofs.SmallTrees.{lines_of, lines-drop, il_of_atoms, il_text}
 use Rattle.st_iltext.proofs.il.print_il.Goals as goal
 

@@ -1,8 +1,8 @@
 use Rattle.std.proofs.Common.{map, drop}
 use Rattle.st_iltext.specs.Definitions.{definition_tree}
 use Rattle.st_iltext.specs.IlText.{lines_text}
-use Rattle.st_iltext.specs.Text.{text}
-use Rattle.st_iltext.proofs.CutOff.{Written}
+use Rattle.st_text.specs.Text.{text}
+use Rattle.st_text.proofs.CutOff.{Written}
 use Rattle.st_iltext.proofs.il.print_il.Given as goal
 
 abbrev pub invariant-loop-def : goal.invariant-loop-def

@@ -1,6 +1,6 @@
 use Rattle.std.proofs.Common.{◌++◌, ◌∷◌, [], sym, ap}
-use Rattle.st_iltext.specs.Text.{text}
-use Rattle.st_iltext.proofs.CutOff.{OnErr-any, cut_off_first}
+use Rattle.st_text.specs.Text.{text}
+use Rattle.st_text.proofs.CutOff.{OnErr-any, cut_off_first}
 use Rattle.st_iltext.proofs.il.print_line.Goals as goal
 
 pub returns-in_err-print_tree-clause-err : goal.returns-in_err-print_tree-clause-err

@@ -1,5 +1,5 @@
 use Rattle.std.proofs.Common.{List, ℕ, subst}
-use Rattle.st_iltext.specs.Names.{Adds}
+use Rattle.st_iltext.specs.inner.Names.{Adds}
 use Rattle.st_iltext.proofs.NameSets.{names_more, names_again}
 use Rattle.st_iltext.proofs.name.distinct_names.Goals as goal
 

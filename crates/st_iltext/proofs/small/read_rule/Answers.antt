@@ -1,5 +1,5 @@
 use Rattle.std.proofs.Common.{codes, sym, ap, ◌∙◌}
-use Rattle.st_iltext.specs.Text.{word, list, more}
+use Rattle.st_text.specs.Text.{word, list, more}
 use Rattle.st_iltext.proofs.Shapes.{refused, fourth_part}
 use Rattle.st_iltext.proofs.small.read_rule.Goals as goal
 

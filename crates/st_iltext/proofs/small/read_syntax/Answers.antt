@@ -1,5 +1,5 @@
 use Rattle.std.proofs.Common.{sym, ap, ◌∙◌, codes}
-use Rattle.st_iltext.specs.Text.{word, list, more}
+use Rattle.st_text.specs.Text.{word, list, more}
 use Rattle.st_iltext.proofs.Shapes.{refused, second_part}
 use Rattle.st_iltext.proofs.small.read_syntax.Goals as goal
 

@@ -1,5 +1,5 @@
 use Rattle.std.proofs.Common.{arith, ap, ◌∙◌}
-use Rattle.st_iltext.specs.Trees.{tree_of}
+use Rattle.st_text.specs.Trees.{tree_of}
 use Rattle.st_iltext.proofs.Shapes.{tag_at}
 use Rattle.st_iltext.proofs.small.read_tags.Goals as goal
 

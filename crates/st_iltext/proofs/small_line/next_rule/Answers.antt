@@ -1,7 +1,7 @@
 use Rattle.std.proofs.Common.{List, ℕ, [], ◌∷◌, ◌++◌, sym, subst, ap, ◌∙◌}
 use Rattle.std.specs.List.{Contains}
 use Rattle.st_il.specs.Small.{rule_names}
-use Rattle.st_iltext.specs.Names.{Adds}
+use Rattle.st_iltext.specs.inner.Names.{Adds}
 use Rattle.st_iltext.proofs.SmallRules.{names-push, small_more, small_twice, small_last, small_start, rule_line-unique}
 use Rattle.st_iltext.proofs.small_line.next_rule.Goals as goal
 

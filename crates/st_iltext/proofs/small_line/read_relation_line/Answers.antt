@@ -1,6 +1,6 @@
 use Rattle.std.proofs.Common.{sym, subst, ap, ◌∙◌}
 use Rattle.st_il.specs.Small.{IsUpper, IsWordOf}
-use Rattle.st_iltext.specs.SmallReading.{relation_line}
+use Rattle.st_iltext.specs.inner.SmallReading.{relation_line}
 use Rattle.st_iltext.proofs.LineTrees.{relation_none, relation_other, relation_refused, relation_yes, refuted}
 use Rattle.st_iltext.proofs.small_line.read_relation_line.Goals as goal
 

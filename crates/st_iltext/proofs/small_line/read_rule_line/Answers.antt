@@ -1,7 +1,7 @@
 use Rattle.std.proofs.Common.{List, ℕ, sym, subst, ap, ◌∙◌}
 use Rattle.st_il.specs.Small.{IsSmallRule}
-use Rattle.st_iltext.specs.SmallReading.{rule_line}
-use Rattle.st_iltext.specs.SmallShapes.{rule_of}
+use Rattle.st_iltext.specs.inner.SmallReading.{rule_line}
+use Rattle.st_iltext.specs.inner.SmallShapes.{rule_of}
 use Rattle.st_iltext.proofs.SmallUnique.{same_rule}
 use Rattle.st_iltext.proofs.LineTrees.{rule_none, rule_other, rule_refused, rule_yes, refuted}
 use Rattle.st_iltext.proofs.small_line.read_rule_line.Goals as goal

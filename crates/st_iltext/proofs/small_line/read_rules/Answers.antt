@@ -1,9 +1,9 @@
 use Rattle.std.proofs.Common.{List, [], ◌∷◌, ◌++◌, ◌+◌, sym, subst, ap, ◌∙◌, append-nil}
 use Rattle.st_il.specs.declared.small.SmallRule.{SmallRule}
 use Rattle.st_il.specs.Small.{IsSmall}
-use Rattle.st_iltext.specs.declared.fault.TextFault.TheVariants.{Malformed}
+use Rattle.st_text.specs.declared.fault.TextFault.TheVariants.{Malformed}
 use Rattle.st_iltext.specs.IlText.{lines_text}
-use Rattle.st_iltext.specs.SmallReading.{small_of, rule_lines}
+use Rattle.st_iltext.specs.inner.SmallReading.{small_of, rule_lines}
 use Rattle.st_iltext.proofs.NameSets.{not_empty, empty_of}
 use Rattle.st_iltext.proofs.SmallRules.{stops, no_rule_line, no_rule}
 use Rattle.st_iltext.proofs.small_line.read_rules.Goals as goal

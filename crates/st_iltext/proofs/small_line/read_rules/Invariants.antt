@@ -1,7 +1,7 @@
 use Rattle.std.proofs.Common.{◌≡◌, ◌++◌, take, length}
 use Rattle.st_il.specs.Small.{IsSmall, rule_names}
 use Rattle.st_iltext.specs.IlText.{lines_text}
-use Rattle.st_iltext.specs.SmallReading.{small_of, rule_lines}
+use Rattle.st_iltext.specs.inner.SmallReading.{small_of, rule_lines}
 use Rattle.st_iltext.proofs.small_line.read_rules.Given as goal
 
 abbrev pub invariant-loop-atom : goal.invariant-loop-atom

@@ -1,5 +1,5 @@
 use Rattle.std.proofs.Common.{List, ℕ, sym, subst, ap, ◌∙◌}
-use Rattle.st_iltext.specs.SmallReading.{IsSyntax, syntax_line}
+use Rattle.st_iltext.specs.inner.SmallReading.{IsSyntax, syntax_line}
 use Rattle.st_iltext.proofs.LineTrees.{syntax_none, syntax_other, syntax_no_tags, syntax_refused, syntax_yes, refuted}
 use Rattle.st_iltext.proofs.small_line.read_syntax_line.Goals as goal
 

@@ -2,7 +2,7 @@ use Rattle.std.proofs.Common.{◌≡◌, ◌++◌, refl, sym, ◌∙◌, ap, sub
 use Rattle.std.specs.List.{flat_map}
 use Rattle.st_il.specs.declared.small.Small.{Small as Specification}
 use Rattle.st_tool.specs.SmallText.{text_of, relation_line, rule_line}
-use Rattle.st_tool.specs.SmallForm.{IsOfWords}
+use Rattle.st_tool.specs.inner.SmallForm.{IsOfWords}
 use Rattle.st_tool.proofs.ReaderForm.{same_small, text_parts, text_made}
 use Rattle.st_tool.proofs.reader.read_form.Goals as goal
 

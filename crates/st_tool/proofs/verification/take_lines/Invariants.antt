@@ -1,5 +1,5 @@
 use Rattle.std.specs.Prelude.{length}
-use Rattle.st_tool.specs.Checks.{TakenTo}
+use Rattle.st_tool.specs.inner.Checks.{TakenTo}
 use Rattle.st_tool.proofs.verification.take_lines.Given as goal
 
 abbrev pub invariant-loop-line : goal.invariant-loop-line

@@ -1,7 +1,7 @@
 use Rattle.std.proofs.Common.{subst, sym}
 use Rattle.std.specs.Prelude.{IfSome, IfNone, Contains}
 use Rattle.st_iltext.specs.IlText.{IlText}
-use Rattle.st_tool.specs.Checks.{TakenTo, HasNoLines}
+use Rattle.st_tool.specs.inner.Checks.{TakenTo, HasNoLines}
 use Rattle.st_tool.proofs.Verifications.{verify_answer, no_derivation}
 use Rattle.st_verify.specs.Verifier.{Checking}
 use Rattle.st_tool.proofs.verification.verify_files.Goals as goal

@@ -1,6 +1,6 @@
 use Rattle.std.proofs.Common.{◌∙◌, ap, map, string_bytes, arith}
 use Rattle.std.proofs.lemmas.Result.{err_from_is_err_and}
-use Rattle.st_words.specs.Fronts.{arranged}
+use Rattle.st_words.specs.inner.Fronts.{arranged}
 use Rattle.st_words.proofs.FrontsLemmas.{arranged-sound, front-end, front-empty, front-none}
 use Rattle.st_words.proofs.Slices.{words_split, no_words}
 use Rattle.st_words.proofs.arrangement.arrange.Goals as goal

@@ -1,5 +1,5 @@
 use Rattle.std.proofs.Common.{◌≡◌, length, map, string_bytes}
-use Rattle.st_words.specs.Fronts.{arranged, prepended}
+use Rattle.st_words.specs.inner.Fronts.{arranged, prepended}
 use Rattle.st_words.proofs.arrangement.arrange.Given as goal
 
 -- what is given stands before the rest

@@ -1,6 +1,6 @@
 use Rattle.std.proofs.Common.{◌≡◌, take}
 use Rattle.st_il.specs.Small.{AreDistinct}
-use Rattle.st_tool.specs.SmallForm.{names_of}
+use Rattle.st_tool.specs.inner.SmallForm.{names_of}
 use Rattle.st_tool.proofs.reader.check.distinct_atoms.Given as goal
 
 abbrev pub invariant-loop-atom : goal.invariant-loop-atom

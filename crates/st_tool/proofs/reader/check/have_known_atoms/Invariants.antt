@@ -1,6 +1,6 @@
 use Rattle.std.proofs.Common.{take}
 use Rattle.std.specs.List.{All}
-use Rattle.st_tool.specs.SmallForm.{names_of, GoesBetween}
+use Rattle.st_tool.specs.inner.SmallForm.{names_of, GoesBetween}
 use Rattle.st_tool.proofs.reader.check.have_known_atoms.Given as goal
 
 abbrev pub invariant-loop-rule : goal.invariant-loop-rule

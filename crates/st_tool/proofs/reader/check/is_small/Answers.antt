@@ -2,7 +2,7 @@ use Rattle.std.proofs.Common.{◌≡◌, ◌≤◌, List, ℕ, length, sym, ◌�
 use Rattle.std.specs.List.{All, Contains}
 use Rattle.st_il.specs.declared.small.SmallRule.{SmallRule as Rule}
 use Rattle.st_il.specs.Small.{IsSmall, AreDistinct, reserved, rule_names}
-use Rattle.st_tool.specs.SmallForm.{names_of, GoesBetween}
+use Rattle.st_tool.specs.inner.SmallForm.{names_of, GoesBetween}
 use Rattle.st_tool.proofs.ReaderCheck.{small_made, small_rules_go, answers_also, some_of}
 use Rattle.st_tool.proofs.reader.check.is_small.Goals as goal
 

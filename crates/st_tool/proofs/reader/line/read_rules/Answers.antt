@@ -1,7 +1,7 @@
 use Rattle.std.proofs.Common.{◌∷◌, [], ◌++◌, refl, sym, ◌∙◌, ap, append-nil, Some}
 use Rattle.std.specs.List.{flat_map}
 use Rattle.st_tool.specs.SmallText.{rule_line}
-use Rattle.st_tool.specs.SmallForm.{IsRuleOfWords, rule_of}
+use Rattle.st_tool.specs.inner.SmallForm.{IsRuleOfWords, rule_of}
 use Rattle.st_tool.proofs.ReaderRows.{Leaves-end, Leaves-none, IsRead-more}
 use Rattle.st_tool.proofs.ReaderLines.{IsNothing, not_empty, is_nothing, not_rule}
 use Rattle.st_tool.proofs.reader.line.read_rules.Goals as goal

@@ -1,6 +1,6 @@
 use Rattle.std.proofs.Common.{length}
 use Rattle.st_tool.specs.SmallText.{rule_line}
-use Rattle.st_tool.specs.SmallForm.{IsRuleOfWords}
+use Rattle.st_tool.specs.inner.SmallForm.{IsRuleOfWords}
 use Rattle.st_tool.proofs.ReaderRows.{IsRead}
 use Rattle.st_tool.proofs.ReaderLines.{IsNothing}
 use Rattle.st_tool.proofs.reader.line.read_rules.Given as goal

@@ -1,6 +1,6 @@
 use Rattle.std.proofs.Common.{arith, ◌<◌, length}
 use Rattle.std.proofs.lemmas.List.Elements.{All-more}
-use Rattle.st_tool.specs.SmallForm.{IsLetter}
+use Rattle.st_tool.specs.inner.SmallForm.{IsLetter}
 use Rattle.st_tool.proofs.reader.word.count_letters.Goals as goal
 
 pub loop-i-preserved : goal.loop-i-preserved

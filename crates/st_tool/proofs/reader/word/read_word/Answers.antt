@@ -1,4 +1,4 @@
-use Rattle.st_tool.specs.SmallForm.{IsLetter}
+use Rattle.st_tool.specs.inner.SmallForm.{IsLetter}
 use Rattle.st_tool.proofs.ReaderWords.{word_none, word_split}
 use Rattle.st_tool.proofs.reader.word.read_word.Goals as goal
 

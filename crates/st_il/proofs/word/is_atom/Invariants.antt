@@ -1,6 +1,0 @@
-use Rattle.std.proofs.Common.{◌≡◌, true, drop}
-use Rattle.st_il.proofs.Atoms.{is_rest}
-use Rattle.st_il.proofs.word.is_atom.Given as goal
-
-abbrev pub invariant-loop-byte : goal.invariant-loop-byte
-invariant-loop-byte l = is_rest true l.text ≡ is_rest l.due (drop l.byte-index l.text)

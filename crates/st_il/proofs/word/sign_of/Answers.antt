@@ -1,5 +1,0 @@
-use Rattle.st_il.proofs.TagWords.{no_sign}
-use Rattle.st_il.proofs.word.sign_of.Goals as goal
-
-pub returns-clause-none : goal.returns-clause-none
-returns-clause-none c = no_sign c.find_sign.result c.args.text.now c.find_sign.ensures.none

@@ -1,8 +1,0 @@
-use Rattle.st_iltext.proofs.Unique.{one_front, no_front_of_another}
-use Rattle.st_iltext.proofs.law.texts_end.Goals as goal
-
-pub returns-clause-front : goal.returns-clause-front
-returns-clause-front c = one_front
-
-pub returns-clause-no_front : goal.returns-clause-no_front
-returns-clause-no_front c = no_front_of_another

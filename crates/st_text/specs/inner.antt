@@ -1,0 +1,2 @@
+-- What the readers keep, for their proofs alone.
+pub mod Fronts

@@ -1,0 +1,6 @@
+-- What only the private steps of `serve` keep, for their proofs alone.
+pub mod SmallForm
+pub mod Step
+pub mod Starts
+pub mod Nodes
+pub mod Checks
