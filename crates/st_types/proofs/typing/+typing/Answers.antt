@@ -63,9 +63,9 @@ typed_at-returns-in-Some t c = case-exact c.args.table.now c.args.value.now _ c.
 pub typed_at-returns-in-None : goal.typed_at-returns-in-None
 typed_at-returns-in-None t c = (λ f. search rules, λ s. absurd (case-none c.args.table.now c.args.value.now _ c.args.ty.now c.in-Case.tag c.in-Case.parts c.in-Case.is c.in-None.ensures s))
 
-pub typed_at-returns-in-Some-fields_of : goal.typed_at-returns-in-Some-fields_of
-typed_at-returns-in-Some-fields_of t c = record-exact c.args.table.now c.args.value.now _ c.args.ty.now c.in-Fields.parts c.in-Some-fields_of.fields.now
-    c.as_slice-in-Some-fields_of.result.now c.fields_have_types.result c.in-Fields.is c.in-Some-fields_of.ensures c.as_slice-in-Some-fields_of.ensures c.fields_have_types.ensures
+pub typed_at-returns-in-Some-fields : goal.typed_at-returns-in-Some-fields
+typed_at-returns-in-Some-fields t c = record-exact c.args.table.now c.args.value.now _ c.args.ty.now c.in-Fields.parts c.in-Some-fields.fields.now
+    c.as_slice-in-Some-fields.result.now c.fields_have_types.result c.in-Fields.is c.in-Some-fields.ensures.some c.as_slice-in-Some-fields.ensures c.fields_have_types.ensures
 
-pub typed_at-returns-in-None-fields_of : goal.typed_at-returns-in-None-fields_of
-typed_at-returns-in-None-fields_of t c = (λ f. search rules, λ s. absurd (record-none c.args.table.now c.args.value.now _ c.args.ty.now c.in-Fields.parts c.in-Fields.is c.in-None-fields_of.ensures s))
+pub typed_at-returns-in-None-fields : goal.typed_at-returns-in-None-fields
+typed_at-returns-in-None-fields t c = (λ f. search rules, λ s. absurd (record-none c.args.table.now c.args.value.now _ c.args.ty.now c.in-Fields.parts c.in-Fields.is c.in-None-fields.ensures.none s))
