@@ -11,7 +11,7 @@ use Rattle.st_il.specs.declared.ty.Ty.TheVariants as ty
 use Rattle.st_il.specs.declared.expression.IlExp.{IlExp}
 use Rattle.st_il.specs.declared.expression.IlExp.TheVariants as il
 use Rattle.st_il.specs.declared.expression.ListItem.{ListItem}
-use Rattle.st_types.specs.Meaning.{Means}
+use Rattle.st_type_table.specs.Meaning.{Means}
 use Rattle.st_notation.specs.declared.filled.Filled.{Filled}
 use Rattle.st_notation.specs.Fits.{Filling}
 use Rattle.st_notation.specs.Fitted.{plain, fillings}

@@ -13,11 +13,11 @@ use Rattle.st_il.specs.declared.ty.Ty.TheOpen.{Ty-F}
 use Rattle.st_il.specs.declared.ty.Ty.TheVariants as ty
 use Rattle.st_il.specs.declared.definition.SyntaxDef.{SyntaxDef}
 use Rattle.st_il.specs.declared.expression.IlExp.TheVariants as il
-use Rattle.st_types.specs.declared.entry.CaseDef.{CaseDef}
-use Rattle.st_types.specs.Meaning.{Means, fields_of}
-use Rattle.st_types.specs.Cases.{HasCases, HasFields}
-use Rattle.st_types.proofs.MeansLemmas.{Means-single}
-use Rattle.st_types.proofs.CasesLemmas.{HasCases-single}
+use Rattle.st_type_table.specs.declared.entry.CaseDef.{CaseDef}
+use Rattle.st_type_table.specs.Meaning.{Means, fields_of}
+use Rattle.st_type_table.specs.Cases.{HasCases, HasFields}
+use Rattle.st_type_table.proofs.MeansLemmas.{Means-single}
+use Rattle.st_type_table.proofs.CasesLemmas.{HasCases-single}
 use Rattle.st_notation.specs.declared.filled.Shape.{Shape}
 use Rattle.st_notation.specs.declared.filled.Filled.{Filled}
 use Rattle.st_notation.specs.Fits.{Filling, one, missing}

@@ -12,7 +12,7 @@ use Rattle.st_il.specs.declared.expression.IlExp.{IlExp}
 use Rattle.st_il.specs.declared.expression.IlExp.TheVariants as il
 use Rattle.st_il.specs.declared.expression.Iteration.{Iteration}
 use Rattle.st_il.specs.declared.expression.Iteration.TheVariants as times
-use Rattle.st_types.specs.Meaning.{fields_of}
+use Rattle.st_type_table.specs.Meaning.{fields_of}
 use Rattle.st_notation.specs.declared.filled.Shape.{Shape}
 use Rattle.st_notation.specs.Elements.{opened}
 use Rattle.st_notation.specs.Fits.{Filling}

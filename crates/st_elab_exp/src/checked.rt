@@ -2,7 +2,7 @@
 
 ghost use Rattle.st_el.specs.declared.expression.Node.{out-Node};
 ghost use Rattle.st_il.specs.declared.ty.Ty.{out-Ty};
-ghost use Rattle.st_types.specs.Meaning.{Means};
+ghost use Rattle.st_type_table.specs.Meaning.{Means};
 ghost use Rattle.st_notation.specs.Elements.{opened};
 ghost use Rattle.st_elab_table.specs.Checked.{sequence_at, form_row, plain_row, tuple_at, checked_row};
 ghost use Rattle.st_elab_rows.specs.Asking.{AnswersAll, LeadsTo};

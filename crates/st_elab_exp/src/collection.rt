@@ -21,6 +21,7 @@ use st_elab_table::{ExpFault, Within};
 use st_il::{IlExp, ListItem, Ty, copy_ty};
 use st_notation::Filled;
 use st_num::{Row, RuleId, Span};
+use st_types::is_sub;
 
 /// One element of this type, in a list or an option.
 fn element<F: Fn(&Within, &Asking<'_>) -> Result<Found, ExpFault>>(
@@ -176,11 +177,11 @@ fn found_item(
     ensures { LeadsToItem context.now (found_item at ty.now element.now (made_by given)) result }
 {
     let Found { exp, ty: has } = given;
-    if context.decls.types.is_sub(&has, element) {
+    if is_sub(&context.decls.types, &has, element) {
         let one = raise(context.alloc, context.decls, exp, &has, element)?;
         return Ok(ListItem::One(one.into_inner()));
     }
-    if context.decls.types.is_sub(&has, ty) {
+    if is_sub(&context.decls.types, &has, ty) {
         let list = raise(context.alloc, context.decls, exp, &has, ty)?;
         return Ok(ListItem::All(list.into_inner()));
     }

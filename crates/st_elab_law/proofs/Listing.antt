@@ -20,7 +20,7 @@ use Rattle.st_il.specs.declared.expression.IlExp.TheVariants as il
 use Rattle.st_il.specs.declared.expression.ListItem.TheVariants as part
 use Rattle.st_il.specs.declared.expression.Iteration.{Iteration}
 use Rattle.st_il.specs.declared.expression.Iteration.TheVariants as iteration
-use Rattle.st_types.specs.Meaning.{Means}
+use Rattle.st_type_table.specs.Meaning.{Means}
 use Rattle.st_notation.specs.Elements.{opened}
 use Rattle.st_notation.specs.Fits.{Filling, one, run, missing}
 use Rattle.st_erase.specs.declared.erased.Erased.{Erased}

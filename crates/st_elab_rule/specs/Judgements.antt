@@ -7,7 +7,7 @@ use Rattle.st_el.specs.Erasure.{same_name}
 use Rattle.st_el.specs.declared.expression.Exp.{Exp}
 use Rattle.st_il.specs.declared.expression.IlExp.{IlExp}
 use Rattle.st_il.specs.declared.definition.RelationDef.{RelationDef}
-use Rattle.st_types.specs.declared.entry.CaseDef.{CaseDef}
+use Rattle.st_type_table.specs.declared.entry.CaseDef.{CaseDef}
 use Rattle.st_notation.specs.Fits.{Filling}
 use Rattle.st_elab_table.specs.declared.decls.Decls.{Decls}
 use Rattle.st_elab_table.specs.declared.decls.Scope.{Scope}

@@ -12,10 +12,10 @@ use Rattle.st_il.specs.declared.ty.Ty.TheVariants as ty
 use Rattle.st_il.specs.declared.definition.FunDef.{FunDef}
 use Rattle.st_il.specs.declared.expression.IlExp.{IlExp}
 use Rattle.st_il.specs.declared.expression.IlExp.TheVariants as il
-use Rattle.st_types.specs.declared.entry.CaseDef.{CaseDef}
-use Rattle.st_types.specs.Meaning.{Means, fields_of}
-use Rattle.st_types.specs.Cases.{HasCases, HasFields}
-use Rattle.st_types.specs.Joins.{Joins}
+use Rattle.st_type_table.specs.declared.entry.CaseDef.{CaseDef}
+use Rattle.st_type_table.specs.Meaning.{Means, fields_of}
+use Rattle.st_type_table.specs.Cases.{HasCases, HasFields}
+use Rattle.st_type_table.specs.Joins.{Joins}
 use Rattle.st_elab_table.specs.declared.decls.Decls.{Decls}
 use Rattle.st_elab_table.specs.declared.decls.Scope.{Scope}
 use Rattle.st_elab_table.specs.declared.within.Within.{Within}

@@ -3,11 +3,12 @@ use Rattle.std.specs.Prelude.{List, []}
 use Rattle.st_el.specs.declared.expression.Exp.{Exp}
 use Rattle.st_il.specs.declared.ty.Ty.{Ty}
 use Rattle.st_il.specs.declared.expression.IlExp.{IlExp}
-use Rattle.st_types.specs.declared.entry.CaseDef.{CaseDef}
-use Rattle.st_types.specs.Meaning.{Means}
-use Rattle.st_types.specs.Cases.{HasCases}
-use Rattle.st_types.specs.Sub.{Same, Sub}
-use Rattle.st_types.specs.Joins.{Joins}
+use Rattle.st_type_table.specs.declared.entry.CaseDef.{CaseDef}
+use Rattle.st_type_table.specs.Meaning.{Means}
+use Rattle.st_type_table.specs.Cases.{HasCases}
+use Rattle.st_type_table.specs.Same.{Same}
+use Rattle.st_types.specs.Sub.{Sub}
+use Rattle.st_type_table.specs.Joins.{Joins}
 use Rattle.st_notation.specs.Elements.{opened}
 use Rattle.st_elab_table.specs.declared.decls.Decls.{Decls}
 use Rattle.st_elab_table.specs.declared.decls.Scope.{Scope}

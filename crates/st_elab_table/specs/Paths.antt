@@ -14,7 +14,7 @@ use Rattle.st_il.specs.declared.ty.Ty.TheVariants as ty
 use Rattle.st_il.specs.declared.expression.IlExp.TheVariants as il
 use Rattle.st_il.specs.declared.expression.PathSeg.{PathSeg}
 use Rattle.st_il.specs.declared.expression.PathSeg.TheVariants as step
-use Rattle.st_types.specs.Meaning.{fields_of}
+use Rattle.st_type_table.specs.Meaning.{fields_of}
 use Rattle.st_elab_table.specs.declared.decls.Decls.{Decls}
 use Rattle.st_elab_table.specs.declared.within.Within.{Within}
 use Rattle.st_elab_table.specs.Forms.{place}

@@ -8,7 +8,7 @@ use Rattle.st_el.specs.declared.expression.Exp.{Exp}
 use Rattle.st_il.specs.declared.ty.Ty.{Ty, out-Ty}
 use Rattle.st_il.specs.declared.ty.Ty.TheOpen.{Ty-F}
 use Rattle.st_il.specs.declared.expression.IlExp.TheVariants as il
-use Rattle.st_types.specs.Meaning.{fields_of}
+use Rattle.st_type_table.specs.Meaning.{fields_of}
 use Rattle.st_notation.specs.declared.filled.Shape.{Shape}
 use Rattle.st_notation.specs.declared.filled.Shape.TheVariants as shape
 use Rattle.st_notation.specs.Fits.{Filling, one, missing}

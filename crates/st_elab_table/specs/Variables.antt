@@ -6,7 +6,7 @@ use Rattle.std.specs.Str.{byte}
 use Rattle.st_el.specs.Erasure.{same_name}
 use Rattle.st_il.specs.declared.ty.Ty.{Ty}
 use Rattle.st_il.specs.declared.ty.Ty.TheVariants as ty
-use Rattle.st_types.specs.Meaning.{body_of}
+use Rattle.st_type_table.specs.Meaning.{body_of}
 use Rattle.st_elab_table.specs.declared.decls.Decls.{Decls}
 
 -- ---- the names that remain of a name
