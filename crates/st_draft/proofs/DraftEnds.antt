@@ -5,18 +5,18 @@ use Rattle.st_grammar.specs.declared.keyword.Keyword.TheVariants as key
 use Rattle.st_grammar.specs.declared.sort.Leaf.TheVariants as leaves
 use Rattle.st_grammar.specs.declared.sort.Bracket.TheVariants as bracket_of
 use Rattle.st_grammar.specs.declared.sort.Sort.TheVariants.{Notation as notation}
-use Rattle.st_grammar.specs.Lexemes.{Lexeme, leaf, dot, sign, opening, closing, other}
-use Rattle.st_grammar.specs.Levels.{is_type_mark}
+use Rattle.st_grammar.specs.Terminals.{Terminal, leaf, dot, sign, opening, closing, other}
+use Rattle.st_grammar.specs.Levels.{is_type_iteration_sign}
 use Rattle.st_grammar.specs.Trees.{Tree, operand, post, times, bracket, led, left, ahead, items, plain, length, arguments, index, segment, update, below}
 use Rattle.st_grammar.specs.Grammar.{is_type, is_atom, Fits}
 use Rattle.st_grammar.specs.Definitions.{token_in, keyword, no_args, Hints, Members, no_members, member, cases, Iterations, Premises, more_premises, given, Defs}
-use Rattle.st_grammar.specs.Places.{Head, syntax_head, Rule, rule_head, clause_head, Host, of_syntax, of_field, of_case, of_var, of_relation, of_notation, of_fun, Place, between, syntax_name, var_name, var_colon, relation_name, rule_name, rule_colon, fun_name, fun_named, argued, args_closed, syntax_id, rule_id, hinted, hint_open, hint_name, hint_words, entering, dotted, field_name, premised, premise_open, goal_colon, iterated, State, at, whole, rule_whole, is_whole, begin_def, first_of_two, own, place_step}
+use Rattle.st_grammar.specs.Positions.{Head, syntax_head, Rule, rule_head, clause_head, Host, of_syntax, of_field, of_case, of_var, of_relation, of_notation, of_fun, Position, between, syntax_name, var_name, var_colon, relation_name, rule_name, rule_colon, fun_name, fun_named, argued, args_closed, syntax_id, rule_id, hinted, hint_open, hint_name, hint_words, entering, dotted, field_name, premised, premise_open, goal_colon, iterated, State, at, whole, rule_whole, is_whole, begin_def, first_of_two, own, position_step}
 use Rattle.st_grammar.proofs.Sound.{and_left, and_right}
-use Rattle.st_grammar.proofs.PlaceTexts.{PlaceHolds}
-use Rattle.st_parse_automaton.specs.declared.place.Place.TheVariants as place
+use Rattle.st_grammar.proofs.PositionTexts.{PositionHolds}
+use Rattle.st_parse_automaton.specs.declared.position.Position.TheVariants as position
 use Rattle.st_parse_automaton.specs.Shapes.{shape}
-use Rattle.st_parse_automaton.proofs.CourseView as view
-use Rattle.st_parse_automaton.proofs.CourseView.{course_of}
+use Rattle.st_parse_automaton.proofs.DefinitionView as view
+use Rattle.st_parse_automaton.proofs.DefinitionView.{definitions_of}
 use Rattle.st_el.specs.declared.notation.Notation.{Notation, out-Notation}
 use Rattle.st_el.specs.declared.notation.NotNode.{out-NotNode, roll-NotNode}
 use Rattle.st_el.specs.declared.notation.NotNode.TheOpen.{NotNode-F}
@@ -31,7 +31,7 @@ use Rattle.st_draft.specs.declared.change.Change.TheVariants as change
 use Rattle.st_draft.specs.declared.change.Ending.TheVariants as ending
 use Rattle.st_draft.specs.Changes.{ending_of, change_at, change_of}
 use Rattle.st_draft.specs.Drafts.{alias_or, body_of, or_empty, begun, ended, applied, arguments_after}
-use Rattle.st_draft.proofs.DraftOf.{place_of, has_dots, place_draft, args_acts, place_args}
+use Rattle.st_draft.proofs.DraftOf.{place_of, has_dots, position_draft, args_acts, position_args}
 use Rattle.st_draft.proofs.DraftSteps.{FitsAs, Changes, Changed, own_changes, dots_same}
 
 -- ---- bodies
@@ -68,7 +68,7 @@ alias_is (operand leaves.Number x) f = refl
 alias_is (operand leaves.Literal x) f = refl
 alias_is (operand leaves.Function x) f = refl
 alias_is (post t (sign m x)) f =
-    ap (λ b. if b then body.Alias (typ_meaning (post t (sign m x))) else body.Cases false (notation_meaning (post t (sign m x)) ∷ []) false) (and_right (is_type_mark m) (is_type t) f.0)
+    ap (λ b. if b then body.Alias (typ_meaning (post t (sign m x))) else body.Cases false (notation_meaning (post t (sign m x)) ∷ []) false) (and_right (is_type_iteration_sign m) (is_type t) f.0)
 alias_is (post t (dot x)) f = sym (ap (λ k. alias_or k (notation_meaning (post t (dot x)))) (atom_named (post t (dot x)) (and_left (is_atom t) x.touching f.0)).1)
 alias_is (post t (leaf k x)) f = absurd (cc)
 alias_is (post t (opening k x)) f = absurd (cc)
@@ -98,7 +98,7 @@ several false [] m n = refl
 several false (k ∷ []) m n = refl
 several false (k ∷ j ∷ ns) m n = refl
 
-pub body_is : (ms : Members) (pre : List Lexeme) (t : Tree) (hs : Hints) → Fits notation t
+pub body_is : (ms : Members) (pre : List Terminal) (t : Tree) (hs : Hints) → Fits notation t
     → body_meaning (cases (member ms pre t hs) []) ≡ body_of (has_dots ms pre) (cases_meaning ms ++ notation_meaning t ∷ []) false
 body_is no_members [] t hs f = alias_is t f
 body_is no_members (b ∷ []) t hs f = alias_is t f
@@ -114,18 +114,18 @@ abbrev pub EndsAs : List Def → Option Defs → Type 0
 EndsAs defs None = Unit {0}
 EndsAs defs (Some ds) = defs_meaning ds ≡ defs
 
-rule_named : (ls : List Lexeme) → name_of_rule ls ≡ or_empty (fragment_name ls)
+rule_named : (ls : List Terminal) → name_of_rule ls ≡ or_empty (fragment_name ls)
 rule_named [] = refl
 rule_named (s ∷ ls) = refl
 
-abbrev pub PlaceEnds : Place → Type 0
-PlaceEnds p = EndsAs (ended (ending_of (view.place_of p)) (place_draft p)) (whole p)
+abbrev pub PositionEnds : Position → Type 0
+PositionEnds p = EndsAs (ended (ending_of (view.position_of p)) (position_draft p)) (whole p)
 
-case_ends : (h : Head) (ms : Members) (pre : List Lexeme) (t : Tree) (hs : Hints) → Fits notation t → PlaceEnds (hinted (of_case h ms pre t) hs)
+case_ends : (h : Head) (ms : Members) (pre : List Terminal) (t : Tree) (hs : Hints) → Fits notation t → PositionEnds (hinted (of_case h ms pre t) hs)
 case_ends (syntax_head ds w x ls js e) ms pre t hs f =
     ap (λ b. defs_meaning ds ++ def_at w (hints_meaning js) (def.Syntax (name_in x) (fragment_name ls) b) ∷ []) (body_is ms pre t hs f)
 
-host_ends : (h : Host) (hs : Hints) → PlaceHolds (hinted h hs) → PlaceEnds (hinted h hs)
+host_ends : (h : Host) (hs : Hints) → PositionHolds (hinted h hs) → PositionEnds (hinted h hs)
 host_ends (of_syntax ds w x ls) hs f = tt
 host_ends (of_field h o ms pre t) hs f = tt
 host_ends (of_case h ms pre t) hs f = case_ends h ms pre t hs f.0.3
@@ -134,71 +134,71 @@ host_ends (of_relation ds w r) hs f = tt
 host_ends (of_notation ds w r hs c t) ks f = refl
 host_ends (of_fun ds w k a c t) hs f = refl
 
-premised_ends : (r : Rule) (t : Tree) (ps : Premises) → PlaceEnds (premised r t ps)
+premised_ends : (r : Rule) (t : Tree) (ps : Premises) → PositionEnds (premised r t ps)
 premised_ends (rule_head ds w r ls c) t ps =
     ap (λ name. defs_meaning ds ++ def_at w [] (def.Rule (name_in r) name (meaning t) (premises_meaning ps)) ∷ []) (rule_named ls)
 premised_ends (clause_head ds w f a c) t ps = refl
 
-iterated_ends : (r : Rule) (t : Tree) (ps : Premises) (d : Lexeme) (os ls : List Lexeme) (u : Tree) (i : Iterations)
-    → defs_meaning (rule_whole r t (more_premises ps (given d os ls u i))) ≡ ended ending.Condition (place_draft (iterated r t ps d os ls u i))
+iterated_ends : (r : Rule) (t : Tree) (ps : Premises) (d : Terminal) (os ls : List Terminal) (u : Tree) (i : Iterations)
+    → defs_meaning (rule_whole r t (more_premises ps (given d os ls u i))) ≡ ended ending.Condition (position_draft (iterated r t ps d os ls u i))
 iterated_ends (rule_head ds w r js c) t ps d os ls u i =
     ap (λ name. defs_meaning ds ++ def_at w [] (def.Rule (name_in r) name (meaning t) (premises_meaning (more_premises ps (given d os ls u i)))) ∷ []) (rule_named js)
 iterated_ends (clause_head ds w f a c) t ps d os ls u i = refl
 
-pub place_ends : (p : Place) → PlaceHolds p → PlaceEnds p
-place_ends (between ds) h = refl
-place_ends (hinted k hs) h = host_ends k hs h
-place_ends (premised r t ps) h = premised_ends r t ps
-place_ends (iterated r t ps d os ls u i) h = go (is_whole os i)
+pub position_ends : (p : Position) → PositionHolds p → PositionEnds p
+position_ends (between ds) h = refl
+position_ends (hinted k hs) h = host_ends k hs h
+position_ends (premised r t ps) h = premised_ends r t ps
+position_ends (iterated r t ps d os ls u i) h = go (is_whole os i)
   where
-    go : (b : Bool) → EndsAs (ended ending.Condition (place_draft (iterated r t ps d os ls u i))) (if b then Some (rule_whole r t (more_premises ps (given d os ls u i))) else None)
+    go : (b : Bool) → EndsAs (ended ending.Condition (position_draft (iterated r t ps d os ls u i))) (if b then Some (rule_whole r t (more_premises ps (given d os ls u i))) else None)
     go true = iterated_ends r t ps d os ls u i
     go false = tt
-place_ends (syntax_name ds w) h = tt
-place_ends (var_name ds w) h = tt
-place_ends (var_colon ds w x) h = tt
-place_ends (relation_name ds w) h = tt
-place_ends (rule_name ds w) h = tt
-place_ends (rule_colon ds w r) h = tt
-place_ends (fun_name ds w) h = tt
-place_ends (fun_named ds w f) h = tt
-place_ends (argued ds w f o ts) h = tt
-place_ends (args_closed ds w f o ts c) h = tt
-place_ends (syntax_id ds w x ls d) h = tt
-place_ends (rule_id ds w r ls d) h = tt
-place_ends (hint_open k hs w) h = tt
-place_ends (hint_name k hs w o) h = tt
-place_ends (hint_words k hs w o n ws cs) h = tt
-place_ends (entering s) h = tt
-place_ends (dotted k d) h = tt
-place_ends (field_name k o ms pre) h = tt
-place_ends (premise_open r t ps d os) h = tt
-place_ends (goal_colon r t ps d os n) h = tt
+position_ends (syntax_name ds w) h = tt
+position_ends (var_name ds w) h = tt
+position_ends (var_colon ds w x) h = tt
+position_ends (relation_name ds w) h = tt
+position_ends (rule_name ds w) h = tt
+position_ends (rule_colon ds w r) h = tt
+position_ends (fun_name ds w) h = tt
+position_ends (fun_named ds w f) h = tt
+position_ends (argued ds w f o ts) h = tt
+position_ends (args_closed ds w f o ts c) h = tt
+position_ends (syntax_id ds w x ls d) h = tt
+position_ends (rule_id ds w r ls d) h = tt
+position_ends (hint_open k hs w) h = tt
+position_ends (hint_name k hs w o) h = tt
+position_ends (hint_words k hs w o n ws cs) h = tt
+position_ends (entering s) h = tt
+position_ends (dotted k d) h = tt
+position_ends (field_name k o ms pre) h = tt
+position_ends (premise_open r t ps d os) h = tt
+position_ends (goal_colon r t ps d os n) h = tt
 
 -- ---- a next definition
 
 -- From this place each first word begins a definition.
-abbrev pub BeginsNext : Place → Type 0
+abbrev pub BeginsNext : Position → Type 0
 BeginsNext p =
-    (change_at (view.place_of p) place.SyntaxName ≡ change.Begin (ending_of (view.place_of p)))
-    × (change_at (view.place_of p) place.RelationName ≡ change.Begin (ending_of (view.place_of p)))
-    × (change_at (view.place_of p) place.RuleName ≡ change.Begin (ending_of (view.place_of p)))
-    × (change_at (view.place_of p) place.VarName ≡ change.Begin (ending_of (view.place_of p)))
-    × (change_at (view.place_of p) place.FunName ≡ change.Begin (ending_of (view.place_of p)))
-    × (place_args p ≡ no_args)
+    (change_at (view.position_of p) position.SyntaxName ≡ change.Begin (ending_of (view.position_of p)))
+    × (change_at (view.position_of p) position.RelationName ≡ change.Begin (ending_of (view.position_of p)))
+    × (change_at (view.position_of p) position.RuleName ≡ change.Begin (ending_of (view.position_of p)))
+    × (change_at (view.position_of p) position.VarName ≡ change.Begin (ending_of (view.position_of p)))
+    × (change_at (view.position_of p) position.FunName ≡ change.Begin (ending_of (view.position_of p)))
+    × (position_args p ≡ no_args)
 
-begins : (p q : Place) (l : Lexeme) (ds : Defs) → change_of (view.place_of p) (course_of (at q)) ≡ change.Begin (ending_of (view.place_of p)) → place_args p ≡ no_args → place_args q ≡ no_args
-    → place_draft q ≡ begun (defs_meaning ds) (place_of l) → defs_meaning ds ≡ ended (ending_of (view.place_of p)) (place_draft p) → Changes p l (at q)
+begins : (p q : Position) (l : Terminal) (ds : Defs) → change_of (view.position_of p) (definitions_of (at q)) ≡ change.Begin (ending_of (view.position_of p)) → position_args p ≡ no_args → position_args q ≡ no_args
+    → position_draft q ≡ begun (defs_meaning ds) (place_of l) → defs_meaning ds ≡ ended (ending_of (view.position_of p)) (position_draft p) → Changes p l (at q)
 begins p q l ds e g k d f = record {
   draft =
       d ∙ ap (λ defs. begun defs (place_of l)) f
-      ∙ ap (λ a. applied a (shape l) (token_in l) (params (place_args p)) (patterns (place_args p)) (place_draft p)) (sym e);
-  arguments = ap args_acts k ∙ ap args_acts (sym g) ∙ ap (λ a. arguments_after a (args_acts (place_args p))) (sym e);
+      ∙ ap (λ a. applied a (shape l) (token_in l) (params (position_args p)) (patterns (position_args p)) (position_draft p)) (sym e);
+  arguments = ap args_acts k ∙ ap args_acts (sym g) ∙ ap (λ a. arguments_after a (args_acts (position_args p))) (sym e);
   fresh = tt;
-  fits = subst (λ y. FitsAs y (place_args p)) (sym e) tt;
+  fits = subst (λ y. FitsAs y (position_args p)) (sym e) tt;
 }
 
-word_begins : (p : Place) (l : Lexeme) (ds : Defs) (k : Keyword) → BeginsNext p → defs_meaning ds ≡ ended (ending_of (view.place_of p)) (place_draft p) → Changed p l (begin_def ds l k)
+word_begins : (p : Position) (l : Terminal) (ds : Defs) (k : Keyword) → BeginsNext p → defs_meaning ds ≡ ended (ending_of (view.position_of p)) (position_draft p) → Changed p l (begin_def ds l k)
 word_begins p l ds key.SyntaxWord b e = begins p (syntax_name ds l) l ds b.0 b.5 refl refl e
 word_begins p l ds key.RelationWord b e = begins p (relation_name ds l) l ds b.1 b.5 refl refl e
 word_begins p l ds key.RuleWord b e = begins p (rule_name ds l) l ds b.2 b.5 refl refl e
@@ -211,7 +211,7 @@ word_begins p l ds key.Dashes b e = tt
 word_begins p l ds key.NoWord b e = tt
 
 -- A next definition begins where one may end, or does not begin.
-abbrev pub MayBegin : Place → Option Defs → Type 0
+abbrev pub MayBegin : Position → Option Defs → Type 0
 MayBegin p None = Unit {0}
 MayBegin p (Some ds) = BeginsNext p
 
@@ -219,7 +219,7 @@ host_begins : (h : Host) (hs : Hints) (o : Option Defs) → MayBegin (hinted h h
 host_begins h hs None = tt
 host_begins h hs (Some ds) = (refl, refl, refl, refl, refl, refl)
 
-may_begin : (p : Place) → MayBegin p (whole p)
+may_begin : (p : Position) → MayBegin p (whole p)
 may_begin (between ds) = (refl, refl, refl, refl, refl, refl)
 may_begin (hinted k hs) = host_begins k hs (whole (hinted k hs))
 may_begin (premised r t ps) = (refl, refl, refl, refl, refl, refl)
@@ -249,13 +249,13 @@ may_begin (field_name k o ms pre) = tt
 may_begin (premise_open r t ps d os) = tt
 may_begin (goal_colon r t ps d os n) = tt
 
-pub place_changes : (p : Place) (l : Lexeme) → PlaceHolds p → Changed p l (place_step p l)
-place_changes p l h = go (own p l) (own_changes p l h)
+pub position_changes : (p : Position) (l : Terminal) → PositionHolds p → Changed p l (position_step p l)
+position_changes p l h = go (own p l) (own_changes p l h)
   where
-    next : (o : Option Defs) → MayBegin p o → EndsAs (ended (ending_of (view.place_of p)) (place_draft p)) o → Changed p l (option_and_then (λ ds. begin_def ds l (keyword l)) o)
+    next : (o : Option Defs) → MayBegin p o → EndsAs (ended (ending_of (view.position_of p)) (position_draft p)) o → Changed p l (option_and_then (λ ds. begin_def ds l (keyword l)) o)
     next None b f = tt
     next (Some ds) b f = word_begins p l ds (keyword l) b f
 
     go : (o : Option State) → Changed p l o → Changed p l (first_of_two o (option_and_then (λ ds. begin_def ds l (keyword l)) (whole p)))
-    go None c = next (whole p) (may_begin p) (place_ends p h)
+    go None c = next (whole p) (may_begin p) (position_ends p h)
     go (Some st) c = c

@@ -1,10 +1,10 @@
 -- The draft at each place of a reading.
 use Rattle.std.proofs.Common.{ℕ, List, [], ◌∷◌, ◌++◌, map, Bool, true, false, Option, Some, None}
 use Rattle.st_num.specs.declared.span.Span.{Span}
-use Rattle.st_grammar.specs.Lexemes.{Lexeme}
+use Rattle.st_grammar.specs.Terminals.{Terminal}
 use Rattle.st_grammar.specs.Trees.{Tree, Trees, none, more}
 use Rattle.st_grammar.specs.Definitions.{token_in, Hints, Members, no_members, Iterations, Premises, Args, no_args, args, Defs}
-use Rattle.st_grammar.specs.Places.{Head, syntax_head, Rule, rule_head, clause_head, Host, of_syntax, of_field, of_case, of_var, of_relation, of_notation, of_fun, Slot, field_slot, case_slot, var_slot, notation_slot, fun_slot, arg_slot, rule_slot, cond_slot, count_slot, Place, between, syntax_name, var_name, var_colon, relation_name, rule_name, rule_colon, fun_name, fun_named, argued, args_closed, syntax_id, rule_id, hinted, hint_open, hint_name, hint_words, entering, dotted, field_name, premised, premise_open, goal_colon, iterated}
+use Rattle.st_grammar.specs.Positions.{Head, syntax_head, Rule, rule_head, clause_head, Host, of_syntax, of_field, of_case, of_var, of_relation, of_notation, of_fun, Slot, field_slot, case_slot, var_slot, notation_slot, fun_slot, arg_slot, rule_slot, cond_slot, count_slot, Position, between, syntax_name, var_name, var_colon, relation_name, rule_name, rule_colon, fun_name, fun_named, argued, args_closed, syntax_id, rule_id, hinted, hint_open, hint_name, hint_words, entering, dotted, field_name, premised, premise_open, goal_colon, iterated}
 use Rattle.st_el.specs.declared.expression.Exp.{Exp}
 use Rattle.st_el.specs.declared.ty.Typ.{Typ}
 use Rattle.st_el.specs.declared.notation.Notation.{Notation}
@@ -23,10 +23,10 @@ use Rattle.st_draft.specs.declared.draft.Premises.{Premises as Prems}
 use Rattle.st_draft.specs.declared.draft.Draft.{Draft}
 use Rattle.st_draft.specs.Drafts.{no_hint, no_members as no_body, no_sides, premises_so_far, begun, with_hints}
 
-abbrev pub place_of : Lexeme → Span
+abbrev pub place_of : Terminal → Span
 place_of l = (token_in l).at
 
-abbrev pub drafted : Defs → Lexeme → Lexeme → Option (List ℕ) → List Hint → Body → Sides → Prems → Draft
+abbrev pub drafted : Defs → Terminal → Terminal → Option (List ℕ) → List Hint → Body → Sides → Prems → Draft
 drafted ds w x id hs b s p = record {
   defs = defs_meaning ds;
   head = record { at = place_of w; name = name_in x; id = id };
@@ -38,7 +38,7 @@ drafted ds w x id hs b s p = record {
 }
 
 -- the name behind the first word is read
-abbrev pub named_draft : Defs → Lexeme → Lexeme → List Lexeme → Draft
+abbrev pub named_draft : Defs → Terminal → Terminal → List Terminal → Draft
 named_draft ds w x ls = drafted ds w x (fragment_name ls) [] no_body no_sides (premises_so_far [])
 
 abbrev pub fields_body : List ℕ → List (List ℕ × Typ) → Body
@@ -62,7 +62,7 @@ rule_draft (rule_head ds w r ls c) e p = drafted ds w r (fragment_name ls) [] no
 rule_draft (clause_head ds w f a c) e p = drafted ds w f None [] no_body (rule_sides (clause_head ds w f a c) e) p
 
 -- dots stand before the alternatives of which the last one is set off so
-abbrev pub has_dots : Members → List Lexeme → Bool
+abbrev pub has_dots : Members → List Terminal → Bool
 has_dots no_members (d ∷ b ∷ []) = true
 has_dots ms pre = has_dots_before ms
 
@@ -77,11 +77,11 @@ host_draft (of_notation ds w r hs c t) ks =
 host_draft (of_fun ds w f a c t) hs = drafted ds w f None (hints_meaning hs) no_body (typ_sides (params a) (Some (typ_meaning t))) (premises_so_far [])
 
 -- the relation that a condition names
-abbrev pub goal_of : List Lexeme → Option (List ℕ)
+abbrev pub goal_of : List Terminal → Option (List ℕ)
 goal_of (r ∷ c ∷ ls) = Some (name_in r)
 goal_of ls = None
 
-abbrev pub premise_at : Premises → Lexeme → List Lexeme → Span → Option (List ℕ) → Option Prem → Prems
+abbrev pub premise_at : Premises → Terminal → List Terminal → Span → Option (List ℕ) → Option Prem → Prems
 premise_at ps d os start goal p = record {
   whole = premises_meaning ps;
   at = place_of d;
@@ -91,7 +91,7 @@ premise_at ps d os start goal p = record {
   prem = p;
 }
 
-abbrev pub iterated_at : Premises → Lexeme → List Lexeme → List Lexeme → Tree → Iterations → Prems
+abbrev pub iterated_at : Premises → Terminal → List Terminal → List Terminal → Tree → Iterations → Prems
 iterated_at ps d os ls u i = premise_at ps d os (place_in ls) None (Some (meant.iterated os (condition ls (meaning u)) i))
 
 abbrev pub slot_draft : Slot → Draft
@@ -105,31 +105,31 @@ slot_draft (rule_slot r) = rule_draft r None (premises_so_far [])
 slot_draft (cond_slot r t ps d os ls) = rule_draft r (Some (meaning t)) (premise_at ps d os (place_in ls) (goal_of ls) None)
 slot_draft (count_slot r t ps d os ls u i l) = rule_draft r (Some (meaning t)) (iterated_at ps d os ls u i)
 
-abbrev pub place_draft : Place → Draft
-place_draft (between ds) = begun (defs_meaning ds) nowhere
-place_draft (syntax_name ds w) = begun (defs_meaning ds) (place_of w)
-place_draft (var_name ds w) = begun (defs_meaning ds) (place_of w)
-place_draft (var_colon ds w x) = named_draft ds w x []
-place_draft (relation_name ds w) = begun (defs_meaning ds) (place_of w)
-place_draft (rule_name ds w) = begun (defs_meaning ds) (place_of w)
-place_draft (rule_colon ds w r) = named_draft ds w r []
-place_draft (fun_name ds w) = begun (defs_meaning ds) (place_of w)
-place_draft (fun_named ds w f) = named_draft ds w f []
-place_draft (argued ds w f o ts) = named_draft ds w f []
-place_draft (args_closed ds w f o ts c) = named_draft ds w f []
-place_draft (syntax_id ds w x ls d) = named_draft ds w x ls
-place_draft (rule_id ds w r ls d) = named_draft ds w r ls
-place_draft (hinted h hs) = host_draft h hs
-place_draft (hint_open h hs w) = host_draft h hs
-place_draft (hint_name h hs w o) = host_draft h hs
-place_draft (hint_words h hs w o n ws cs) = with_hints (host_draft h hs).hints (record { name = name_in n; words = map token_in ws }) (host_draft h hs)
-place_draft (entering s) = slot_draft s
-place_draft (dotted h d) = head_draft h (cases_body true [])
-place_draft (field_name h o ms pre) = head_draft h (fields_body [] (fields_meaning ms))
-place_draft (premised r t ps) = rule_draft r (Some (meaning t)) (premises_so_far (premises_meaning ps))
-place_draft (premise_open r t ps d os) = rule_draft r (Some (meaning t)) (premise_at ps d os nowhere None None)
-place_draft (goal_colon r t ps d os n) = rule_draft r (Some (meaning t)) (premise_at ps d os (place_of n) (Some (name_in n)) None)
-place_draft (iterated r t ps d os ls u i) = rule_draft r (Some (meaning t)) (iterated_at ps d os ls u i)
+abbrev pub position_draft : Position → Draft
+position_draft (between ds) = begun (defs_meaning ds) nowhere
+position_draft (syntax_name ds w) = begun (defs_meaning ds) (place_of w)
+position_draft (var_name ds w) = begun (defs_meaning ds) (place_of w)
+position_draft (var_colon ds w x) = named_draft ds w x []
+position_draft (relation_name ds w) = begun (defs_meaning ds) (place_of w)
+position_draft (rule_name ds w) = begun (defs_meaning ds) (place_of w)
+position_draft (rule_colon ds w r) = named_draft ds w r []
+position_draft (fun_name ds w) = begun (defs_meaning ds) (place_of w)
+position_draft (fun_named ds w f) = named_draft ds w f []
+position_draft (argued ds w f o ts) = named_draft ds w f []
+position_draft (args_closed ds w f o ts c) = named_draft ds w f []
+position_draft (syntax_id ds w x ls d) = named_draft ds w x ls
+position_draft (rule_id ds w r ls d) = named_draft ds w r ls
+position_draft (hinted h hs) = host_draft h hs
+position_draft (hint_open h hs w) = host_draft h hs
+position_draft (hint_name h hs w o) = host_draft h hs
+position_draft (hint_words h hs w o n ws cs) = with_hints (host_draft h hs).hints (record { name = name_in n; words = map token_in ws }) (host_draft h hs)
+position_draft (entering s) = slot_draft s
+position_draft (dotted h d) = head_draft h (cases_body true [])
+position_draft (field_name h o ms pre) = head_draft h (fields_body [] (fields_meaning ms))
+position_draft (premised r t ps) = rule_draft r (Some (meaning t)) (premises_so_far (premises_meaning ps))
+position_draft (premise_open r t ps d os) = rule_draft r (Some (meaning t)) (premise_at ps d os nowhere None None)
+position_draft (goal_colon r t ps d os n) = rule_draft r (Some (meaning t)) (premise_at ps d os (place_of n) (Some (name_in n)) None)
+position_draft (iterated r t ps d os ls u i) = rule_draft r (Some (meaning t)) (iterated_at ps d os ls u i)
 
 -- ---- arguments, which are types or patterns
 
@@ -142,11 +142,11 @@ args_acts no_args = []
 args_acts (args o ts c) = arguments_acts ts
 
 -- the arguments that are read
-abbrev pub place_args : Place → Args
-place_args (argued ds w f o ts) = args o ts o
-place_args (args_closed ds w f o ts c) = args o ts c
-place_args (entering (arg_slot ds w f o ts pre)) = args o ts o
-place_args p = no_args
+abbrev pub position_args : Position → Args
+position_args (argued ds w f o ts) = args o ts o
+position_args (args_closed ds w f o ts c) = args o ts c
+position_args (entering (arg_slot ds w f o ts pre)) = args o ts o
+position_args p = no_args
 
 abbrev pub slot_args : Slot → Trees
 slot_args (arg_slot ds w f o ts pre) = ts

@@ -3,10 +3,10 @@ use Rattle.std.proofs.Common.{◌≡◌, ℕ, zero, suc, ◌≤◌, ◌<◌, Lis
 use Rattle.std.specs.Prelude.{max}
 use Rattle.st_num.specs.declared.span.Span.{Span}
 use Rattle.st_scan.specs.declared.token.Token.{Token}
-use Rattle.st_parse_automaton.specs.declared.place.Lexeme.{Lexeme}
-use Rattle.st_parse_automaton.specs.declared.place.CaseAt.{CaseAt}
-use Rattle.st_parse_automaton.specs.declared.place.Slot.{Slot}
-use Rattle.st_parse_automaton.specs.declared.place.Slot.TheVariants as slot
+use Rattle.st_parse_automaton.specs.declared.position.TokenClass.{TokenClass}
+use Rattle.st_parse_automaton.specs.declared.position.CaseAt.{CaseAt}
+use Rattle.st_parse_automaton.specs.declared.position.Slot.{Slot}
+use Rattle.st_parse_automaton.specs.declared.position.Slot.TheVariants as slot
 use Rattle.st_el.specs.declared.expression.Exp.{Exp}
 use Rattle.st_el.specs.declared.ty.Typ.{Typ}
 use Rattle.st_el.specs.declared.notation.Notation.{Notation}
@@ -104,10 +104,10 @@ params_low arguments d next = built_low (λ ts. with_sides (params_put ts d.side
 pub args_low : (arguments : List (List Action)) (d next : Draft) → redrafted_args arguments d ≡ Some next → IsLow next → (es : List Exp) × (all_built exp_built arguments ≡ Some es) × (highest (map height es) ≤ 100)
 args_low arguments d next = built_low (λ es. with_sides (args_put es d.sides) d) (λ es. highest (map height es) ≤ 100) (all_built exp_built arguments) next (λ es l. l.args)
 
-field_low : (n : ℕ) (acts : List Action) (words : List (Lexeme × Token)) (d next : Draft) → refilled slot.Field n acts words d ≡ Some next → IsLow next → (t : Typ) × (typ_built acts ≡ Some t) × (typ_height t ≤ 100)
+field_low : (n : ℕ) (acts : List Action) (words : List (TokenClass × Token)) (d next : Draft) → refilled slot.Field n acts words d ≡ Some next → IsLow next → (t : Typ) × (typ_built acts ≡ Some t) × (typ_height t ≤ 100)
 field_low n acts words d next = built_low (λ t. typ_filled slot.Field t d) (λ t. typ_height t ≤ 100) (typ_built acts) next (λ t l. last_of field_type_height 100 d.members.fields (d.members.label, t) l.fields)
 
-pub typ_low : (s : Slot) (n : ℕ) (acts : List Action) (words : List (Lexeme × Token)) (d next : Draft) → (s ≡ slot.Field) ⊎ ((s ≡ slot.Var) ⊎ (s ≡ slot.Fun)) → refilled s n acts words d ≡ Some next → IsLow next
+pub typ_low : (s : Slot) (n : ℕ) (acts : List Action) (words : List (TokenClass × Token)) (d next : Draft) → (s ≡ slot.Field) ⊎ ((s ≡ slot.Var) ⊎ (s ≡ slot.Fun)) → refilled s n acts words d ≡ Some next → IsLow next
     → (t : Typ) × (typ_built acts ≡ Some t) × (typ_height t ≤ 100)
 typ_low s n acts words d next (inl h) e = field_low n acts words d next (subst (λ q. refilled q n acts words d ≡ Some next) h e)
 typ_low s n acts words d next (inr (inl h)) e = built_low (λ t. typ_filled slot.Var t d) (λ t. typ_height t ≤ 100) (typ_built acts) next (λ t l. l.typ) (subst (λ q. refilled q n acts words d ≡ Some next) h e)
@@ -116,19 +116,19 @@ typ_low s n acts words d next (inr (inr h)) e = built_low (λ t. typ_filled slot
 case_low : (acts : List Action) (d next : Draft) → option_map (λ k. notation_filled k d) (notation_built acts) ≡ Some next → IsLow next → (k : Notation) × (notation_built acts ≡ Some k) × (open_height k ≤ 100)
 case_low acts d next = built_low (λ k. notation_filled k d) (λ k. open_height k ≤ 100) (notation_built acts) next (λ k l. last_of open_height 100 d.members.notations k l.notations)
 
-pub notation_part_low : (s : Slot) (n : ℕ) (acts : List Action) (words : List (Lexeme × Token)) (d next : Draft) → ((c : CaseAt) × (s ≡ slot.Case c)) ⊎ (s ≡ slot.Notation) → refilled s n acts words d ≡ Some next → IsLow next
+pub notation_part_low : (s : Slot) (n : ℕ) (acts : List Action) (words : List (TokenClass × Token)) (d next : Draft) → ((c : CaseAt) × (s ≡ slot.Case c)) ⊎ (s ≡ slot.Notation) → refilled s n acts words d ≡ Some next → IsLow next
     → (k : Notation) × (notation_built acts ≡ Some k) × (open_height k ≤ 100)
 notation_part_low s n acts words d next (inl h) e = case_low acts d next (subst (λ q. refilled q n acts words d ≡ Some next) h.1 e)
 notation_part_low s n acts words d next (inr h) e = case_low acts d next (subst (λ q. refilled q n acts words d ≡ Some next) h e)
 
-pub rule_low : (s : Slot) (n : ℕ) (acts : List Action) (words : List (Lexeme × Token)) (d next : Draft) → s ≡ slot.Rule → refilled s n acts words d ≡ Some next → IsLow next → (e : Exp) × (exp_built acts ≡ Some e) × (height e ≤ 100)
+pub rule_low : (s : Slot) (n : ℕ) (acts : List Action) (words : List (TokenClass × Token)) (d next : Draft) → s ≡ slot.Rule → refilled s n acts words d ≡ Some next → IsLow next → (e : Exp) × (exp_built acts ≡ Some e) × (height e ≤ 100)
 rule_low s n acts words d next h e = built_low (λ x. exp_filled x d) (λ x. height x ≤ 100) (exp_built acts) next (λ x l. l.exp) (subst (λ q. refilled q n acts words d ≡ Some next) h e)
 
 condition_in : (at : Span) (goal : Option (List ℕ)) (e : Exp) → prem_height (prem_at at (condition_node goal e)) ≤ 100 → height e ≤ 100
 condition_in at None e l = let same = tall_if at e in omega (arith, same, l)
 condition_in at (Some name) e l = let same = tall_goal at name e in omega (arith, same, l)
 
-pub condition_low : (s : Slot) (n : ℕ) (acts : List Action) (words : List (Lexeme × Token)) (d next : Draft) → s ≡ slot.Condition → refilled s n acts words d ≡ Some next → IsLow next → (e : Exp) × (exp_built acts ≡ Some e) × (height e ≤ 100)
+pub condition_low : (s : Slot) (n : ℕ) (acts : List Action) (words : List (TokenClass × Token)) (d next : Draft) → s ≡ slot.Condition → refilled s n acts words d ≡ Some next → IsLow next → (e : Exp) × (exp_built acts ≡ Some e) × (height e ≤ 100)
 condition_low s n acts words d next h e = built_low (λ x. condition_filled x d) (λ x. height x ≤ 100) (exp_built acts) next (λ x l. condition_in d.premises.start d.premises.goal x l.prem) (subst (λ q. refilled q n acts words d ≡ Some next) h e)
 
 count_in : (at : Span) (p : Prem) (index : Option (List ℕ)) (e : Exp) (q : Option Prem) → q ≡ Some p → height_of prem_height (each_of at (count_with index e) q) ≤ 100 → height e ≤ 100
@@ -143,7 +143,7 @@ count_in at p (Some name) e q is l =
     let same = tall_below name e in
     omega (arith, one, tall, same)
 
-pub count_low : (s : Slot) (n : ℕ) (acts : List Action) (words : List (Lexeme × Token)) (d next : Draft) → s ≡ slot.Count → is_some d.premises.prem ≡ true → refilled s n acts words d ≡ Some next → IsLow next
+pub count_low : (s : Slot) (n : ℕ) (acts : List Action) (words : List (TokenClass × Token)) (d next : Draft) → s ≡ slot.Count → is_some d.premises.prem ≡ true → refilled s n acts words d ≡ Some next → IsLow next
     → (e : Exp) × (exp_built acts ≡ Some e) × (height e ≤ 100)
 count_low s n acts words d next h some e = built_low (λ x. count_filled n (count_with (index_in words) x) d) (λ x. height x ≤ 100) (exp_built acts) next (λ x l. go d.premises.prem refl some x l.prem) (subst (λ q. refilled q n acts words d ≡ Some next) h e)
   where

@@ -6,9 +6,9 @@ pub mod Built
 pub mod Arguments
 pub mod WorkSteps
 pub mod WorkEnds
-pub mod WorkPlaces
+pub mod WorkPositions
 pub mod Loop
-pub mod Sketching
+pub mod ListenerLemmas
 pub mod Lowness
 pub mod GoesBack
 pub mod Faults

@@ -2,10 +2,10 @@
 use Rattle.std.proofs.Common.{◌≡◌, ℕ, ◌+◌, ◌≤◌, List, [], ◌∷◌, ◌++◌, map, Option, sym, ap, subst, ◌∙◌, arith, rules}
 use Rattle.std.specs.Prelude.{max}
 use Rattle.st_num.specs.declared.span.Span.{Span}
-use Rattle.st_grammar.specs.Lexemes.{Lexeme}
+use Rattle.st_grammar.specs.Terminals.{Terminal}
 use Rattle.st_grammar.specs.Trees.{Tree}
 use Rattle.st_grammar.specs.Definitions.{Hints, Members, Iterations, Premises, Args, Defs}
-use Rattle.st_grammar.specs.Places.{Head, syntax_head, Rule, rule_head, clause_head, Host, of_syntax, of_field, of_case, of_var, of_relation, of_notation, of_fun, Slot, field_slot, case_slot, var_slot, notation_slot, fun_slot, arg_slot, rule_slot, cond_slot, count_slot, Place, between, syntax_name, var_name, var_colon, relation_name, rule_name, rule_colon, fun_name, fun_named, argued, args_closed, syntax_id, rule_id, hinted, hint_open, hint_name, hint_words, entering, dotted, field_name, premised, premise_open, goal_colon, iterated, State, at, inside}
+use Rattle.st_grammar.specs.Positions.{Head, syntax_head, Rule, rule_head, clause_head, Host, of_syntax, of_field, of_case, of_var, of_relation, of_notation, of_fun, Slot, field_slot, case_slot, var_slot, notation_slot, fun_slot, arg_slot, rule_slot, cond_slot, count_slot, Position, between, syntax_name, var_name, var_colon, relation_name, rule_name, rule_colon, fun_name, fun_named, argued, args_closed, syntax_id, rule_id, hinted, hint_open, hint_name, hint_words, entering, dotted, field_name, premised, premise_open, goal_colon, iterated, State, at, inside}
 use Rattle.st_el.specs.declared.notation.Notation.{Notation, out-Notation, roll-out-Notation, the_lemmas as notation_lemmas}
 use Rattle.st_el.specs.declared.notation.NotNode.{NotNode, out-NotNode, roll-NotNode, roll-out-NotNode}
 use Rattle.st_el.specs.declared.notation.NotNode.TheOpen.{NotNode-F}
@@ -22,7 +22,7 @@ use Rattle.st_parse_builder.proofs.Tallness.{highest_behind}
 use Rattle.st_measure.specs.Answers.{typ_in, lone_typ}
 use Rattle.st_measure.specs.DefHeights.{prem_node_height_at, prem_height_at, prem_height, field_type_height}
 use Rattle.st_draft.specs.Heights.{height_or, open_height, height_of, defs_height, Within}
-use Rattle.st_draft.proofs.DraftOf.{host_draft, head_draft, rule_draft, slot_draft, place_draft}
+use Rattle.st_draft.proofs.DraftOf.{host_draft, head_draft, rule_draft, slot_draft, position_draft}
 use Rattle.st_el.specs.declared.expression.Exp.{Exp}
 use Rattle.st_draft.specs.declared.draft.Members.{Members as Body}
 use Rattle.st_draft.specs.declared.draft.Premises.{Premises as Prems}
@@ -119,7 +119,7 @@ PatternsIn n a = highest (map height (patterns a)) ≤ n
 abbrev pub PremisesIn : ℕ → Premises → Type 0
 PremisesIn n ps = highest (map prem_height (premises_meaning ps)) ≤ n
 
-abbrev pub PremiseIn : ℕ → List Lexeme → List Lexeme → Tree → Iterations → Type 0
+abbrev pub PremiseIn : ℕ → List Terminal → List Terminal → Tree → Iterations → Type 0
 PremiseIn n os ls u i = prem_height (meant.iterated os (condition ls (meaning u)) i) ≤ n
 
 abbrev pub HeadIn : ℕ → Head → Type 0
@@ -149,35 +149,35 @@ SlotIn n (rule_slot r) = RuleIn n r
 SlotIn n (cond_slot r t ps d os ls) = RuleIn n r × ExpIn n t × PremisesIn n ps
 SlotIn n (count_slot r t ps d os ls u i l) = RuleIn n r × ExpIn n t × PremisesIn n ps × PremiseIn n os ls u i
 
-abbrev pub PlaceIn : ℕ → Place → Type 0
-PlaceIn n (between ds) = DefsIn n ds
-PlaceIn n (syntax_name ds w) = DefsIn n ds
-PlaceIn n (var_name ds w) = DefsIn n ds
-PlaceIn n (var_colon ds w x) = DefsIn n ds
-PlaceIn n (relation_name ds w) = DefsIn n ds
-PlaceIn n (rule_name ds w) = DefsIn n ds
-PlaceIn n (rule_colon ds w r) = DefsIn n ds
-PlaceIn n (fun_name ds w) = DefsIn n ds
-PlaceIn n (fun_named ds w f) = DefsIn n ds
-PlaceIn n (argued ds w f o ts) = DefsIn n ds
-PlaceIn n (args_closed ds w f o ts c) = DefsIn n ds
-PlaceIn n (syntax_id ds w x ls d) = DefsIn n ds
-PlaceIn n (rule_id ds w r ls d) = DefsIn n ds
-PlaceIn n (hinted h hs) = HostIn n h
-PlaceIn n (hint_open h hs w) = HostIn n h
-PlaceIn n (hint_name h hs w o) = HostIn n h
-PlaceIn n (hint_words h hs w o x ws cs) = HostIn n h
-PlaceIn n (entering s) = SlotIn n s
-PlaceIn n (dotted h d) = HeadIn n h
-PlaceIn n (field_name h o ms pre) = HeadIn n h × FieldsIn n ms
-PlaceIn n (premised r t ps) = RuleIn n r × ExpIn n t × PremisesIn n ps
-PlaceIn n (premise_open r t ps d os) = RuleIn n r × ExpIn n t × PremisesIn n ps
-PlaceIn n (goal_colon r t ps d os x) = RuleIn n r × ExpIn n t × PremisesIn n ps
-PlaceIn n (iterated r t ps d os ls u i) = RuleIn n r × ExpIn n t × PremisesIn n ps × PremiseIn n os ls u i
+abbrev pub PositionIn : ℕ → Position → Type 0
+PositionIn n (between ds) = DefsIn n ds
+PositionIn n (syntax_name ds w) = DefsIn n ds
+PositionIn n (var_name ds w) = DefsIn n ds
+PositionIn n (var_colon ds w x) = DefsIn n ds
+PositionIn n (relation_name ds w) = DefsIn n ds
+PositionIn n (rule_name ds w) = DefsIn n ds
+PositionIn n (rule_colon ds w r) = DefsIn n ds
+PositionIn n (fun_name ds w) = DefsIn n ds
+PositionIn n (fun_named ds w f) = DefsIn n ds
+PositionIn n (argued ds w f o ts) = DefsIn n ds
+PositionIn n (args_closed ds w f o ts c) = DefsIn n ds
+PositionIn n (syntax_id ds w x ls d) = DefsIn n ds
+PositionIn n (rule_id ds w r ls d) = DefsIn n ds
+PositionIn n (hinted h hs) = HostIn n h
+PositionIn n (hint_open h hs w) = HostIn n h
+PositionIn n (hint_name h hs w o) = HostIn n h
+PositionIn n (hint_words h hs w o x ws cs) = HostIn n h
+PositionIn n (entering s) = SlotIn n s
+PositionIn n (dotted h d) = HeadIn n h
+PositionIn n (field_name h o ms pre) = HeadIn n h × FieldsIn n ms
+PositionIn n (premised r t ps) = RuleIn n r × ExpIn n t × PremisesIn n ps
+PositionIn n (premise_open r t ps d os) = RuleIn n r × ExpIn n t × PremisesIn n ps
+PositionIn n (goal_colon r t ps d os x) = RuleIn n r × ExpIn n t × PremisesIn n ps
+PositionIn n (iterated r t ps d os ls u i) = RuleIn n r × ExpIn n t × PremisesIn n ps × PremiseIn n os ls u i
 
 -- Each tree of a state is at most so high.
 abbrev pub StateIn : ℕ → State → Type 0
-StateIn n (at p) = PlaceIn n p
+StateIn n (at p) = PositionIn n p
 StateIn n (inside s st) = SlotIn n s
 
 -- ---- drafts
@@ -209,35 +209,35 @@ slot_within n (rule_slot r) i = rule_within n r _ _ i (none_in n) (none_in n) (n
 slot_within n (cond_slot r t ps d os ls) i = rule_within n r _ _ i.0 i.1 i.2 (none_in n)
 slot_within n (count_slot r t ps d os ls u j l) i = rule_within n r _ _ i.0 i.1 i.2 i.3
 
-place_within : (n : ℕ) (p : Place) → PlaceIn n p → Within n (place_draft p)
-place_within n (between ds) i = record { defs = i; fields = none_in n; notations = none_in n; params = none_in n; args = none_in n; typ = none_in n; exp = none_in n; whole = none_in n; prem = none_in n }
-place_within n (syntax_name ds w) i = record { defs = i; fields = none_in n; notations = none_in n; params = none_in n; args = none_in n; typ = none_in n; exp = none_in n; whole = none_in n; prem = none_in n }
-place_within n (var_name ds w) i = record { defs = i; fields = none_in n; notations = none_in n; params = none_in n; args = none_in n; typ = none_in n; exp = none_in n; whole = none_in n; prem = none_in n }
-place_within n (var_colon ds w x) i = record { defs = i; fields = none_in n; notations = none_in n; params = none_in n; args = none_in n; typ = none_in n; exp = none_in n; whole = none_in n; prem = none_in n }
-place_within n (relation_name ds w) i = record { defs = i; fields = none_in n; notations = none_in n; params = none_in n; args = none_in n; typ = none_in n; exp = none_in n; whole = none_in n; prem = none_in n }
-place_within n (rule_name ds w) i = record { defs = i; fields = none_in n; notations = none_in n; params = none_in n; args = none_in n; typ = none_in n; exp = none_in n; whole = none_in n; prem = none_in n }
-place_within n (rule_colon ds w r) i = record { defs = i; fields = none_in n; notations = none_in n; params = none_in n; args = none_in n; typ = none_in n; exp = none_in n; whole = none_in n; prem = none_in n }
-place_within n (fun_name ds w) i = record { defs = i; fields = none_in n; notations = none_in n; params = none_in n; args = none_in n; typ = none_in n; exp = none_in n; whole = none_in n; prem = none_in n }
-place_within n (fun_named ds w f) i = record { defs = i; fields = none_in n; notations = none_in n; params = none_in n; args = none_in n; typ = none_in n; exp = none_in n; whole = none_in n; prem = none_in n }
-place_within n (argued ds w f o ts) i = record { defs = i; fields = none_in n; notations = none_in n; params = none_in n; args = none_in n; typ = none_in n; exp = none_in n; whole = none_in n; prem = none_in n }
-place_within n (args_closed ds w f o ts c) i = record { defs = i; fields = none_in n; notations = none_in n; params = none_in n; args = none_in n; typ = none_in n; exp = none_in n; whole = none_in n; prem = none_in n }
-place_within n (syntax_id ds w x ls d) i = record { defs = i; fields = none_in n; notations = none_in n; params = none_in n; args = none_in n; typ = none_in n; exp = none_in n; whole = none_in n; prem = none_in n }
-place_within n (rule_id ds w r ls d) i = record { defs = i; fields = none_in n; notations = none_in n; params = none_in n; args = none_in n; typ = none_in n; exp = none_in n; whole = none_in n; prem = none_in n }
-place_within n (hinted h hs) i = host_within n h hs i
-place_within n (hint_open h hs w) i = host_within n h hs i
-place_within n (hint_name h hs w o) i = host_within n h hs i
-place_within n (hint_words h hs w o x ws cs) i = let k = host_within n h hs i in record { defs = k.defs; fields = k.fields; notations = k.notations; params = k.params; args = k.args; typ = k.typ; exp = k.exp; whole = k.whole; prem = k.prem }
-place_within n (entering s) i = slot_within n s i
-place_within n (dotted h d) i = head_within n h _ i (none_in n) (none_in n)
-place_within n (field_name h o ms pre) i = head_within n h _ i.0 i.1 (none_in n)
-place_within n (premised r t ps) i = rule_within n r _ _ i.0 i.1 i.2 (none_in n)
-place_within n (premise_open r t ps d os) i = rule_within n r _ _ i.0 i.1 i.2 (none_in n)
-place_within n (goal_colon r t ps d os x) i = rule_within n r _ _ i.0 i.1 i.2 (none_in n)
-place_within n (iterated r t ps d os ls u j) i = rule_within n r _ _ i.0 i.1 i.2 i.3
+position_within : (n : ℕ) (p : Position) → PositionIn n p → Within n (position_draft p)
+position_within n (between ds) i = record { defs = i; fields = none_in n; notations = none_in n; params = none_in n; args = none_in n; typ = none_in n; exp = none_in n; whole = none_in n; prem = none_in n }
+position_within n (syntax_name ds w) i = record { defs = i; fields = none_in n; notations = none_in n; params = none_in n; args = none_in n; typ = none_in n; exp = none_in n; whole = none_in n; prem = none_in n }
+position_within n (var_name ds w) i = record { defs = i; fields = none_in n; notations = none_in n; params = none_in n; args = none_in n; typ = none_in n; exp = none_in n; whole = none_in n; prem = none_in n }
+position_within n (var_colon ds w x) i = record { defs = i; fields = none_in n; notations = none_in n; params = none_in n; args = none_in n; typ = none_in n; exp = none_in n; whole = none_in n; prem = none_in n }
+position_within n (relation_name ds w) i = record { defs = i; fields = none_in n; notations = none_in n; params = none_in n; args = none_in n; typ = none_in n; exp = none_in n; whole = none_in n; prem = none_in n }
+position_within n (rule_name ds w) i = record { defs = i; fields = none_in n; notations = none_in n; params = none_in n; args = none_in n; typ = none_in n; exp = none_in n; whole = none_in n; prem = none_in n }
+position_within n (rule_colon ds w r) i = record { defs = i; fields = none_in n; notations = none_in n; params = none_in n; args = none_in n; typ = none_in n; exp = none_in n; whole = none_in n; prem = none_in n }
+position_within n (fun_name ds w) i = record { defs = i; fields = none_in n; notations = none_in n; params = none_in n; args = none_in n; typ = none_in n; exp = none_in n; whole = none_in n; prem = none_in n }
+position_within n (fun_named ds w f) i = record { defs = i; fields = none_in n; notations = none_in n; params = none_in n; args = none_in n; typ = none_in n; exp = none_in n; whole = none_in n; prem = none_in n }
+position_within n (argued ds w f o ts) i = record { defs = i; fields = none_in n; notations = none_in n; params = none_in n; args = none_in n; typ = none_in n; exp = none_in n; whole = none_in n; prem = none_in n }
+position_within n (args_closed ds w f o ts c) i = record { defs = i; fields = none_in n; notations = none_in n; params = none_in n; args = none_in n; typ = none_in n; exp = none_in n; whole = none_in n; prem = none_in n }
+position_within n (syntax_id ds w x ls d) i = record { defs = i; fields = none_in n; notations = none_in n; params = none_in n; args = none_in n; typ = none_in n; exp = none_in n; whole = none_in n; prem = none_in n }
+position_within n (rule_id ds w r ls d) i = record { defs = i; fields = none_in n; notations = none_in n; params = none_in n; args = none_in n; typ = none_in n; exp = none_in n; whole = none_in n; prem = none_in n }
+position_within n (hinted h hs) i = host_within n h hs i
+position_within n (hint_open h hs w) i = host_within n h hs i
+position_within n (hint_name h hs w o) i = host_within n h hs i
+position_within n (hint_words h hs w o x ws cs) i = let k = host_within n h hs i in record { defs = k.defs; fields = k.fields; notations = k.notations; params = k.params; args = k.args; typ = k.typ; exp = k.exp; whole = k.whole; prem = k.prem }
+position_within n (entering s) i = slot_within n s i
+position_within n (dotted h d) i = head_within n h _ i (none_in n) (none_in n)
+position_within n (field_name h o ms pre) i = head_within n h _ i.0 i.1 (none_in n)
+position_within n (premised r t ps) i = rule_within n r _ _ i.0 i.1 i.2 (none_in n)
+position_within n (premise_open r t ps d os) i = rule_within n r _ _ i.0 i.1 i.2 (none_in n)
+position_within n (goal_colon r t ps d os x) i = rule_within n r _ _ i.0 i.1 i.2 (none_in n)
+position_within n (iterated r t ps d os ls u j) i = rule_within n r _ _ i.0 i.1 i.2 i.3
 
 -- Each tree of the draft is one of the state.
 pub state_within : (n : ℕ) (st : State) → StateIn n st → Within n (state_work st).draft
-state_within n (at p) i = place_within n p i
+state_within n (at p) i = position_within n p i
 state_within n (inside s st) i = slot_within n s i
 
 pub no_higher : (n m : ℕ) (d : Draft) → n ≤ m → Within n d → Within m d

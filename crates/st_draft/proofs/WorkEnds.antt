@@ -3,21 +3,21 @@ use Rattle.std.proofs.Common.{◌≡◌, ◌-◌, List, [], ◌∷◌, ◌++◌,
 use Rattle.st_scan.specs.declared.token.Token.{Token}
 use Rattle.st_grammar.specs.declared.sort.Sort.TheVariants.{Expression as expression, Count as count}
 use Rattle.st_grammar.specs.declared.sort.Bracket.TheVariants as bracket_of
-use Rattle.st_grammar.specs.Lexemes.{leaf, dot, sign, opening, closing, other}
+use Rattle.st_grammar.specs.Terminals.{leaf, dot, sign, opening, closing, other}
 use Rattle.st_grammar.specs.Trees.{Tree, operand, post, times, bracket, led, left, ahead, items, plain, length as bars, arguments, index, segment, update, below, Path, head, field, part as path_part, text}
 use Rattle.st_grammar.specs.Grammar.{Fits, PathFits}
 use Rattle.st_grammar.specs.Reading as part
 use Rattle.st_grammar.specs.Definitions.{closings}
-use Rattle.st_grammar.specs.Places.{Slot, field_slot, case_slot, var_slot, notation_slot, fun_slot, arg_slot, rule_slot, cond_slot, count_slot, slot_sort, at, inside, filled}
+use Rattle.st_grammar.specs.Positions.{Slot, field_slot, case_slot, var_slot, notation_slot, fun_slot, arg_slot, rule_slot, cond_slot, count_slot, slot_sort, at, inside, filled}
 use Rattle.st_grammar.proofs.Sound as sound
-use Rattle.st_grammar.proofs.PlaceTexts.{Holds}
-use Rattle.st_grammar.proofs.PlaceReading.{inner_finish}
-use Rattle.st_parse_automaton.specs.declared.place.Slot.TheVariants as slot
-use Rattle.st_parse_automaton.specs.declared.place.Lexeme.{Lexeme}
-use Rattle.st_parse_automaton.specs.Course.{opens_round}
-use Rattle.st_parse_automaton.specs.Shapes.{lexeme_of}
+use Rattle.st_grammar.proofs.PositionTexts.{Holds}
+use Rattle.st_grammar.proofs.PositionReading.{inner_finish}
+use Rattle.st_parse_automaton.specs.declared.position.Slot.TheVariants as slot
+use Rattle.st_parse_automaton.specs.declared.position.TokenClass.{TokenClass}
+use Rattle.st_parse_automaton.specs.DefinitionAutomaton.{opens_round}
+use Rattle.st_parse_automaton.specs.Shapes.{class_of}
 use Rattle.st_parse_automaton.proofs.View as view
-use Rattle.st_parse_automaton.proofs.CourseView.{rounds, slot_of, slot_open}
+use Rattle.st_parse_automaton.proofs.DefinitionView.{rounds, slot_of, slot_open}
 use Rattle.st_el.specs.declared.expression.Exp.{Exp}
 use Rattle.st_parse_builder.specs.declared.action.Action.{Action}
 use Rattle.st_parse_builder.specs.Names.{name_of}
@@ -31,14 +31,14 @@ use Rattle.st_draft.specs.declared.draft.Draft.{Draft}
 use Rattle.st_draft.specs.Drafts.{typ_filled, notation_filled, condition_filled, exp_filled, count_filled}
 use Rattle.st_draft.specs.Parts.{index_in, count_with, refilled}
 use Rattle.st_draft.specs.Work.{Work, arguments_with, filled_work}
-use Rattle.st_draft.proofs.DraftOf.{place_draft, slot_draft, arguments_acts, args_acts, place_args, slot_args}
+use Rattle.st_draft.proofs.DraftOf.{position_draft, slot_draft, arguments_acts, args_acts, position_args, slot_args}
 use Rattle.st_draft.proofs.DraftFills.{field_fills, case_fills, var_fills, notation_fills, fun_fills, rule_fills, cond_fills, count_fills}
 use Rattle.st_draft.proofs.Built.{exp_is, typ_is, notation_is}
 use Rattle.st_draft.proofs.WorkSteps.{word, slot_words, state_work}
 
 -- ---- the index of a count
 
-no_index : (o : Lexeme) (x : Token) (words : List (Lexeme × Token)) → opens_round o ≡ false → index_in ((o, x) ∷ words) ≡ None
+no_index : (o : TokenClass) (x : Token) (words : List (TokenClass × Token)) → opens_round o ≡ false → index_in ((o, x) ∷ words) ≡ None
 no_index o x [] e = refl
 no_index o x ((l, i) ∷ words) e = ap (λ b. if b then Some (name_of i.kind) else None) e
 
@@ -56,7 +56,7 @@ index_is (post t (opening k x)) e f = absurd (cc)
 index_is (post t (closing k x)) e f = absurd (cc)
 index_is (post t (other x)) e f = absurd (cc)
 index_is (times t m x c) e f = absurd (cc)
-index_is (bracket (plain bracket_of.Dollar o) ts c) e f = ap (λ i. count_with i e) (sym (no_index (lexeme_of (opening bracket_of.Dollar o)) o _ refl))
+index_is (bracket (plain bracket_of.Dollar o) ts c) e f = ap (λ i. count_with i e) (sym (no_index (class_of (opening bracket_of.Dollar o)) o _ refl))
 index_is (bracket (plain bracket_of.Round o) ts c) e f = absurd (cc)
 index_is (bracket (plain bracket_of.Square o) ts c) e f = absurd (cc)
 index_is (bracket (plain bracket_of.Brace o) ts c) e f = absurd (cc)
@@ -75,7 +75,7 @@ index_is (led (items ts) t) e f = absurd (cc)
 
 -- ---- a part that ends
 
-refills : (s : Slot) (t : Tree) → Fits (slot_sort s) t → refilled (slot_of s) (length (slot_open s)) (acts t) (slot_words s (text t)) (slot_draft s) ≡ Some (place_draft (filled s t))
+refills : (s : Slot) (t : Tree) → Fits (slot_sort s) t → refilled (slot_of s) (length (slot_open s)) (acts t) (slot_words s (text t)) (slot_draft s) ≡ Some (position_draft (filled s t))
 refills (field_slot h o ms pre) t f = ap (option_map (λ u. typ_filled slot.Field u (slot_draft (field_slot h o ms pre)))) (typ_is t f) ∙ ap (λ d. Some d) (sym (field_fills h o ms pre t))
 refills (case_slot h ms pre) t f = ap (option_map (λ n. notation_filled n (slot_draft (case_slot h ms pre)))) (notation_is t f) ∙ ap (λ d. Some d) (sym (case_fills h ms pre t))
 refills (var_slot ds w x c) t f = ap (option_map (λ u. typ_filled slot.Var u (slot_draft (var_slot ds w x c)))) (typ_is t f) ∙ ap (λ d. Some d) (sym (var_fills ds w x c t))
@@ -91,7 +91,7 @@ refills (count_slot r u ps d os ls v i l) t f =
     ∙ ap (λ c. Some (count_filled (length (rounds (length os - closings i))) c (slot_draft (count_slot r u ps d os ls v i l)))) (sym (index_is t (meaning t) f))
     ∙ ap (λ k. Some k) (sym (count_fills r u ps d os ls v i l t))
 
-argues : (s : Slot) (t : Tree) → arguments_with (slot_of s) (acts t) (arguments_acts (slot_args s)) ≡ args_acts (place_args (filled s t))
+argues : (s : Slot) (t : Tree) → arguments_with (slot_of s) (acts t) (arguments_acts (slot_args s)) ≡ args_acts (position_args (filled s t))
 argues (field_slot h o ms pre) t = refl
 argues (case_slot h ms pre) t = refl
 argues (var_slot ds w x c) t = refl
@@ -113,4 +113,4 @@ part_ends s st t h e =
     ap (λ a. option_map (ended_work (arguments_with (slot_of s) a (arguments_acts (slot_args s)))) (refilled (slot_of s) (length (slot_open s)) a (slot_words s (sound.seen st)) (slot_draft s))) acted
     ∙ ap (λ us. option_map (ended_work (arguments_with (slot_of s) (acts t) (arguments_acts (slot_args s)))) (refilled (slot_of s) (length (slot_open s)) (acts t) (slot_words s us) (slot_draft s))) parsed.spelled
     ∙ ap (option_map (ended_work (arguments_with (slot_of s) (acts t) (arguments_acts (slot_args s))))) (refills s t parsed.fits)
-    ∙ ap (λ ys. Some (ended_work ys (place_draft (filled s t)))) (argues s t)
+    ∙ ap (λ ys. Some (ended_work ys (position_draft (filled s t)))) (argues s t)

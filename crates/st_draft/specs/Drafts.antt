@@ -4,10 +4,10 @@ use Rattle.st_num.specs.declared.span.Span.{Span}
 use Rattle.st_scan.specs.declared.token.Token.{Token}
 use Rattle.st_scan.specs.declared.token.TokenKind.{TokenKind}
 use Rattle.st_num.specs.declared.mark.Mark.TheVariants as mark
-use Rattle.st_parse_automaton.specs.declared.outline.Shape.{Shape}
-use Rattle.st_parse_automaton.specs.declared.outline.Shape.TheVariants.{Sign}
-use Rattle.st_parse_automaton.specs.declared.place.Slot.{Slot}
-use Rattle.st_parse_automaton.specs.declared.place.Slot.TheVariants as slot
+use Rattle.st_parse_automaton.specs.declared.part_automaton.Shape.{Shape}
+use Rattle.st_parse_automaton.specs.declared.part_automaton.Shape.TheVariants.{Sign}
+use Rattle.st_parse_automaton.specs.declared.position.Slot.{Slot}
+use Rattle.st_parse_automaton.specs.declared.position.Slot.TheVariants as slot
 use Rattle.st_el.specs.declared.expression.Exp.{Exp}
 use Rattle.st_el.specs.declared.expression.Count.{Count}
 use Rattle.st_el.specs.declared.ty.Typ.{Typ}

@@ -1,7 +1,7 @@
 -- The definitions that stand whole where some tokens are read.
 use Rattle.std.specs.Prelude.{Option, Some, None}
 use Rattle.st_grammar.specs.Definitions.{Defs}
-use Rattle.st_grammar.specs.Places.{Head, syntax_head, Rule, rule_head, clause_head, Host, of_syntax, of_field, of_case, of_var, of_relation, of_notation, of_fun, Slot, field_slot, case_slot, var_slot, notation_slot, fun_slot, arg_slot, rule_slot, cond_slot, count_slot, Place, between, syntax_name, var_name, var_colon, relation_name, rule_name, rule_colon, fun_name, fun_named, argued, args_closed, syntax_id, rule_id, hinted, hint_open, hint_name, hint_words, entering, dotted, field_name, premised, premise_open, goal_colon, iterated, State, at, inside, finish}
+use Rattle.st_grammar.specs.Positions.{Head, syntax_head, Rule, rule_head, clause_head, Host, of_syntax, of_field, of_case, of_var, of_relation, of_notation, of_fun, Slot, field_slot, case_slot, var_slot, notation_slot, fun_slot, arg_slot, rule_slot, cond_slot, count_slot, Position, between, syntax_name, var_name, var_colon, relation_name, rule_name, rule_colon, fun_name, fun_named, argued, args_closed, syntax_id, rule_id, hinted, hint_open, hint_name, hint_words, entering, dotted, field_name, premised, premise_open, goal_colon, iterated, State, at, inside, finish}
 
 -- ---- the definitions before the one that is read
 
@@ -32,34 +32,34 @@ slot_before (rule_slot r) = rule_before r
 slot_before (cond_slot r t ps d os ls) = rule_before r
 slot_before (count_slot r t ps d os ls u i l) = rule_before r
 
-abbrev pub place_before : Place → Defs
-place_before (between ds) = ds
-place_before (syntax_name ds w) = ds
-place_before (var_name ds w) = ds
-place_before (var_colon ds w x) = ds
-place_before (relation_name ds w) = ds
-place_before (rule_name ds w) = ds
-place_before (rule_colon ds w r) = ds
-place_before (fun_name ds w) = ds
-place_before (fun_named ds w f) = ds
-place_before (argued ds w f o ts) = ds
-place_before (args_closed ds w f o ts c) = ds
-place_before (syntax_id ds w x ls d) = ds
-place_before (rule_id ds w r ls d) = ds
-place_before (hinted h hs) = host_before h
-place_before (hint_open h hs w) = host_before h
-place_before (hint_name h hs w o) = host_before h
-place_before (hint_words h hs w o n ws cs) = host_before h
-place_before (entering s) = slot_before s
-place_before (dotted h d) = head_before h
-place_before (field_name h o ms pre) = head_before h
-place_before (premised r t ps) = rule_before r
-place_before (premise_open r t ps d os) = rule_before r
-place_before (goal_colon r t ps d os n) = rule_before r
-place_before (iterated r t ps d os ls u i) = rule_before r
+abbrev pub position_before : Position → Defs
+position_before (between ds) = ds
+position_before (syntax_name ds w) = ds
+position_before (var_name ds w) = ds
+position_before (var_colon ds w x) = ds
+position_before (relation_name ds w) = ds
+position_before (rule_name ds w) = ds
+position_before (rule_colon ds w r) = ds
+position_before (fun_name ds w) = ds
+position_before (fun_named ds w f) = ds
+position_before (argued ds w f o ts) = ds
+position_before (args_closed ds w f o ts c) = ds
+position_before (syntax_id ds w x ls d) = ds
+position_before (rule_id ds w r ls d) = ds
+position_before (hinted h hs) = host_before h
+position_before (hint_open h hs w) = host_before h
+position_before (hint_name h hs w o) = host_before h
+position_before (hint_words h hs w o n ws cs) = host_before h
+position_before (entering s) = slot_before s
+position_before (dotted h d) = head_before h
+position_before (field_name h o ms pre) = head_before h
+position_before (premised r t ps) = rule_before r
+position_before (premise_open r t ps d os) = rule_before r
+position_before (goal_colon r t ps d os n) = rule_before r
+position_before (iterated r t ps d os ls u i) = rule_before r
 
 abbrev pub before : State → Defs
-before (at p) = place_before p
+before (at p) = position_before p
 before (inside s st) = slot_before s
 
 -- ---- with it, where it may end

@@ -2,11 +2,11 @@
 use Rattle.std.specs.Prelude.{ℕ, List, [], ◌∷◌, Option, Some, None, option_and_then, if◌then◌else◌}
 use Rattle.std.specs.Option.{option_map}
 use Rattle.st_scan.specs.declared.token.Token.{Token}
-use Rattle.st_parse_automaton.specs.declared.outline.Shape.{Shape}
-use Rattle.st_parse_automaton.specs.declared.place.Lexeme.{Lexeme}
-use Rattle.st_parse_automaton.specs.declared.place.Slot.{Slot}
-use Rattle.st_parse_automaton.specs.declared.place.Slot.TheVariants as slot
-use Rattle.st_parse_automaton.specs.Course.{opens_round}
+use Rattle.st_parse_automaton.specs.declared.part_automaton.Shape.{Shape}
+use Rattle.st_parse_automaton.specs.declared.position.TokenClass.{TokenClass}
+use Rattle.st_parse_automaton.specs.declared.position.Slot.{Slot}
+use Rattle.st_parse_automaton.specs.declared.position.Slot.TheVariants as slot
+use Rattle.st_parse_automaton.specs.DefinitionAutomaton.{opens_round}
 use Rattle.st_el.specs.declared.expression.Exp.{Exp}
 use Rattle.st_el.specs.declared.expression.Count.{Count}
 use Rattle.st_el.specs.declared.expression.Count.TheVariants as count
@@ -57,11 +57,11 @@ redrafted c sh x arguments d = Some (applied c sh x [] [] d)
 
 -- ---- parts that end
 
-abbrev pub word_of : Word → Lexeme × Token
-word_of w = (w.lexeme, w.token)
+abbrev pub word_of : Word → TokenClass × Token
+word_of w = (w.class, w.token)
 
 -- the index of a count that begins with these tokens
-abbrev pub index_in : List (Lexeme × Token) → Option (List ℕ)
+abbrev pub index_in : List (TokenClass × Token) → Option (List ℕ)
 index_in ((o, x) ∷ (l, i) ∷ words) = if opens_round o then Some (name_of i.kind) else None
 index_in words = None
 
@@ -71,7 +71,7 @@ count_with (Some name) e = count.Below name e
 
 -- A draft behind a part with these actions, and these tokens where it is a count, with so many
 -- parentheses open round it.
-abbrev pub refilled : Slot → ℕ → List Action → List (Lexeme × Token) → Draft → Option Draft
+abbrev pub refilled : Slot → ℕ → List Action → List (TokenClass × Token) → Draft → Option Draft
 refilled slot.Field n acts words d =
     option_map (λ t. typ_filled slot.Field t d) (typ_built acts)
 refilled (slot.Case c) n acts words d = option_map (λ k. notation_filled k d) (notation_built acts)

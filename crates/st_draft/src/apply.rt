@@ -17,7 +17,7 @@ use crate::premise::{
     NOWHERE, begin_premise, put_each, put_goal, put_if, put_otherwise, put_parenthesis, shape_count,
 };
 use crate::sides::{put_args, put_params};
-use crate::sketch::Sketch;
+use crate::listener::Listener;
 use st_num::{NoMemory, Row};
 use st_parse_automaton::{Shape, Slot};
 use st_parse_builder::{Action, BuildFault};
@@ -125,7 +125,7 @@ fn redraft(
     }
 }
 
-impl<'a> Sketch<'a> for Draft {
+impl<'a> Listener<'a> for Draft {
     ghost Draws = { λ kept draft. kept ≡ draft };
 
     ghost Low = { IsLow };

@@ -4,7 +4,7 @@ ghost use Rattle.std.specs.Prelude.{◌≡◌, reverse};
 ghost use Rattle.st_draft.specs.Changes as spec;
 ghost use Rattle.st_parse_automaton.specs.Readings.{progress_of};
 
-use st_parse_automaton::{Host, Marks, Place, Progress, Slot};
+use st_parse_automaton::{Host, IterationState, Position, Progress, Slot};
 
 /// What of a definition ends before the next one begins.
 #[derive(Clone, Copy, Debug, PartialEq, Eq)]
@@ -57,12 +57,12 @@ pub enum Change {
     Mark(usize),
 }
 
-fn names_definition(place: Place) -> bool
-    ensures { result ≡ spec.names_definition place }
+fn names_definition(position: Position) -> bool
+    ensures { result ≡ spec.names_definition position }
 {
     matches!(
-        place,
-        Place::SyntaxName | Place::RelationName | Place::RuleName | Place::VarName | Place::FunName
+        position,
+        Position::SyntaxName | Position::RelationName | Position::RuleName | Position::VarName | Position::FunName
     )
 }
 
@@ -80,13 +80,13 @@ fn host_ending(host: Host) -> Ending
 }
 
 /// What ends where a next definition may begin.
-pub(crate) fn ending_of(place: Place) -> Ending
-    ensures { result ≡ spec.ending_of place }
+pub(crate) fn ending_of(position: Position) -> Ending
+    ensures { result ≡ spec.ending_of position }
 {
-    match place {
-        Place::Hinted(host, _) => host_ending(host),
-        Place::Premised => Ending::Rule,
-        Place::Iterated(_) => Ending::Condition,
+    match position {
+        Position::Hinted(host, _) => host_ending(host),
+        Position::Premised => Ending::Rule,
+        Position::Iterated(_) => Ending::Condition,
         _ => Ending::Nothing,
     }
 }
@@ -98,12 +98,12 @@ fn keeps_hints(host: Host) -> bool
     !matches!(host, Host::Field | Host::Case)
 }
 
-fn behind_hints(host: Host, after: Place) -> Change
+fn behind_hints(host: Host, after: Position) -> Change
     ensures { result ≡ spec.behind_hints host after }
 {
     match after {
-        Place::SyntaxId(_) => Change::Id,
-        Place::Between => Change::End(Ending::Fields),
+        Position::SyntaxId(_) => Change::Id,
+        Position::Between => Change::End(Ending::Fields),
         _ => {
             if names_definition(after) {
                 Change::Begin(host_ending(host))
@@ -114,80 +114,80 @@ fn behind_hints(host: Host, after: Place) -> Change
     }
 }
 
-fn in_premises(before: Place, after: Place) -> Change
+fn in_premises(before: Position, after: Position) -> Change
     ensures { result ≡ spec.in_premises before after }
 {
     match after {
-        Place::PremiseOpen => Change::Premise(matches!(before, Place::Iterated(_))),
-        Place::Iterated(Marks::Wanted) => Change::Nothing,
+        Position::PremiseOpen => Change::Premise(matches!(before, Position::Iterated(_))),
+        Position::Iterated(IterationState::Wanted) => Change::Nothing,
         _ => Change::Begin(ending_of(before)),
     }
 }
 
-fn in_premise(after: Place) -> Change
+fn in_premise(after: Position) -> Change
     ensures { result ≡ spec.in_premise after }
 {
     match after {
-        Place::PremiseOpen => Change::Parenthesis,
-        Place::GoalColon => Change::Goal,
+        Position::PremiseOpen => Change::Parenthesis,
+        Position::GoalColon => Change::Goal,
         _ => Change::Otherwise,
     }
 }
 
-fn in_id(after: Place) -> Change
+fn in_id(after: Position) -> Change
     ensures { result ≡ spec.in_id after }
 {
     match after {
-        Place::SyntaxId(_) | Place::RuleId(_) => Change::Id,
+        Position::SyntaxId(_) | Position::RuleId(_) => Change::Id,
         _ => Change::Nothing,
     }
 }
 
-fn in_hint(host: Host, after: Place) -> Change
+fn in_hint(host: Host, after: Position) -> Change
     ensures { result ≡ spec.in_hint host after }
 {
     match after {
-        Place::HintWords(_) => Change::HintWord,
+        Position::HintWords(_) => Change::HintWord,
         _ => Change::HintEnd(keeps_hints(host)),
     }
 }
 
-fn entering(after: Place) -> Change
+fn entering(after: Position) -> Change
     ensures { result ≡ spec.entering after }
 {
     match after {
-        Place::Dotted => Change::Dots,
-        Place::Between => Change::End(Ending::Cases(true)),
+        Position::Dotted => Change::Dots,
+        Position::Between => Change::End(Ending::Cases(true)),
         _ => Change::Nothing,
     }
 }
 
-/// What changes from a place to a place.
-fn change_at(before: Place, after: Place) -> Change
+/// What changes from a position to a position.
+fn change_at(before: Position, after: Position) -> Change
     ensures { result ≡ spec.change_at before after }
 {
     match before {
-        Place::Between => Change::Begin(Ending::Nothing),
-        Place::SyntaxName
-        | Place::RelationName
-        | Place::RuleName
-        | Place::VarName
-        | Place::FunName => Change::Name,
-        Place::RuleColon | Place::SyntaxId(_) | Place::RuleId(_) => in_id(after),
-        Place::Hinted(host, _) => behind_hints(host, after),
-        Place::HintName(_) => Change::HintName,
-        Place::HintWords(host) => in_hint(host, after),
-        Place::Entering(_) => entering(after),
-        Place::FieldName(_) => Change::End(Ending::Fields),
-        Place::Premised | Place::Iterated(_) => in_premises(before, after),
-        Place::PremiseOpen => in_premise(after),
-        Place::VarColon
-        | Place::FunNamed
-        | Place::Argued(_)
-        | Place::ArgumentsClosed(_)
-        | Place::HintOpen(_)
-        | Place::Dotted
-        | Place::GoalColon => Change::Nothing,
+        Position::Between => Change::Begin(Ending::Nothing),
+        Position::SyntaxName
+        | Position::RelationName
+        | Position::RuleName
+        | Position::VarName
+        | Position::FunName => Change::Name,
+        Position::RuleColon | Position::SyntaxId(_) | Position::RuleId(_) => in_id(after),
+        Position::Hinted(host, _) => behind_hints(host, after),
+        Position::HintName(_) => Change::HintName,
+        Position::HintWords(host) => in_hint(host, after),
+        Position::Entering(_) => entering(after),
+        Position::FieldName(_) => Change::End(Ending::Fields),
+        Position::Premised | Position::Iterated(_) => in_premises(before, after),
+        Position::PremiseOpen => in_premise(after),
+        Position::VarColon
+        | Position::FunNamed
+        | Position::Argued(_)
+        | Position::ArgumentsClosed(_)
+        | Position::HintOpen(_)
+        | Position::Dotted
+        | Position::GoalColon => Change::Nothing,
     }
 }
 
@@ -201,26 +201,26 @@ fn behind_arguments(slot: Slot) -> Change
     }
 }
 
-/// What changes from a place into a part.
-fn change_into(before: Place, slot: Slot) -> Change
+/// What changes from a position into a part.
+fn change_into(before: Position, slot: Slot) -> Change
     ensures { result ≡ spec.change_into before slot }
 {
     match before {
-        Place::FunNamed | Place::ArgumentsClosed(_) => behind_arguments(slot),
-        Place::FieldName(_) => Change::Label,
-        Place::PremiseOpen => Change::If,
+        Position::FunNamed | Position::ArgumentsClosed(_) => behind_arguments(slot),
+        Position::FieldName(_) => Change::Label,
+        Position::PremiseOpen => Change::If,
         _ => Change::Nothing,
     }
 }
 
-/// What a token changes that leads from this place there.
-pub(crate) fn change_of(before: Place, after: &Progress) -> Change
+/// What a token changes that leads from this position there.
+pub(crate) fn change_of(before: Position, after: &Progress) -> Change
     ensures { result ≡ spec.change_of before (progress_of after.now) }
 {
     match after {
-        Progress::At(here) => match here.place {
-            Place::Iterated(Marks::Marked) => Change::Mark(here.brackets.len()),
-            place => change_at(before, place),
+        Progress::At(here) => match here.position {
+            Position::Iterated(IterationState::Complete) => Change::Mark(here.brackets.len()),
+            position => change_at(before, position),
         },
         Progress::Inside(slot, _, _) => change_into(before, *slot),
     }

@@ -2,9 +2,9 @@
 //!
 //! The one idea: what is known of the open definition is a draft, which each token between parts
 //! changes in one small way. Whoever keeps something of the draft, its trees or only what the
-//! limits ask of them, is a sketch, and one reader of the tokens serves each.
+//! limits ask of them, is a listener, and one reader of the tokens serves each.
 //!
-//! Read `sketch` and `reader` first, then `step` with `specs/Work.antt`. The rules are in
+//! Read `listener` and `reader` first, then `step` with `specs/Work.antt`. The rules are in
 //! `docs/source-trees.md`.
 #![tactic(auto)]
 
@@ -18,7 +18,7 @@ mod parts;
 mod premise;
 mod reader;
 mod sides;
-mod sketch;
+mod listener;
 mod step;
 
 pub use change::{Change, Ending};
@@ -27,4 +27,4 @@ pub use draft::{Draft, Head, Members, Premises, Sides};
 pub use parts::{Parts, Word, index_in};
 pub use premise::NOWHERE;
 pub use reader::read_source;
-pub use sketch::Sketch;
+pub use listener::Listener;

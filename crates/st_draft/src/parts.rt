@@ -20,14 +20,14 @@ use crate::premise::{put_condition, put_each};
 use crate::sides::{put_exp, put_typ};
 use st_el::{Count, Exp, NotNode, Notation, Typ};
 use st_num::{Boxed, Mark, Name, NoMemory, Row};
-use st_parse_automaton::{Lexeme, Slot, opens_round};
+use st_parse_automaton::{TokenClass, Slot, opens_round};
 use st_parse_builder::{Action, BuildFault, TokenRef, build, build_notation, build_typ, copy_name};
 use std::alloc::Global;
 
 /// A token of a part, as the parser sees it and as it stands in the text.
 #[derive(Drop)]
 pub struct Word<'a> {
-    pub lexeme: Lexeme,
+    pub class: TokenClass,
     pub token: TokenRef<'a>,
 }
 
@@ -121,7 +121,7 @@ pub fn index_in(alloc: Global, words: &[Word<'_>]) -> Result<Option<Name>, NoMem
     let Some((second, _)) = rest.split_first() else {
         return Ok(None);
     };
-    if opens_round(first.lexeme) {
+    if opens_round(first.class) {
         return Ok(Some(copy_name(alloc, &second.token.get().kind)?));
     }
     Ok(None)

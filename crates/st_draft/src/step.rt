@@ -2,7 +2,7 @@
 
 ghost use Rattle.std.specs.Prelude.{◌≡◌, [], ◌∷◌, ◌++◌, length, map, reverse, Some, IfOk, IfErr, IfSome};
 ghost use Rattle.std.specs.Option.{option_map};
-ghost use Rattle.st_parse_automaton.specs.Course as course;
+ghost use Rattle.st_parse_automaton.specs.DefinitionAutomaton as definitions;
 ghost use Rattle.st_parse_automaton.specs.Readings.{progress_of, reading_of};
 ghost use Rattle.st_measure.specs.Answers.{OnlyMemory};
 ghost use Rattle.st_draft.specs.Drafts.{arguments_after};
@@ -13,12 +13,12 @@ ghost use Rattle.st_draft.specs.Work.{Work, Keeps, Goes};
 
 use crate::change::{Change, change_of};
 use crate::parts::{Parts, Word};
-use crate::sketch::Sketch;
+use crate::listener::Listener;
 use st_grammar::Bracket;
 use st_num::{NoMemory, Row};
 use st_parse_actions::emit;
 use st_parse_automaton::{
-    Due, Lexeme, Place, Progress, Reading, Slot, filled, part_end, part_step, place_step, slot_sort,
+    Expected, TokenClass, Position, Progress, Reading, Slot, filled, part_end, part_step, position_step, slot_sort,
 };
 use st_parse_builder::{Action, BuildFault, TokenRef};
 use st_scan::Token;
@@ -42,16 +42,16 @@ fn drop_arguments<'a>(alloc: Global, change: Change, parts: &mut Parts<'a>)
 /// Keeps a token of a count.
 fn keep_word<'a>(
     slot: Slot,
-    lexeme: Lexeme,
+    class: TokenClass,
     token: &'a Token,
     words: &mut Row<Word<'a>>,
 ) -> Result<(), NoMemory>
     ensures { IfOk result (λ _. map word_of words.new
-        ≡ spec.words_after slot lexeme token.now (map word_of words.old)) }
+        ≡ spec.words_after slot class token.now (map word_of words.old)) }
 {
     match slot {
         Slot::Count => words.push(Word {
-            lexeme,
+            class,
             token: TokenRef::new(token),
         }),
         _ => Ok(()),
@@ -62,15 +62,15 @@ fn keep_word<'a>(
 fn go_on<'a>(
     slot: Slot,
     reading: &Reading,
-    lexeme: Lexeme,
+    class: TokenClass,
     token: &'a Token,
     parts: &mut Parts<'a>,
 ) -> Result<(), NoMemory>
     ensures { (draft : Draft) → IfOk result (λ _. spec.work_of draft parts.new
-        ≡ spec.part_work slot (reading_of reading.now) lexeme token.now
+        ≡ spec.part_work slot (reading_of reading.now) class token.now
         (spec.work_of draft parts.old)) }
 {
-    let shape = lexeme.shape;
+    let shape = class.shape;
     emit(
         slot_sort(slot),
         reading,
@@ -79,90 +79,90 @@ fn go_on<'a>(
         &mut parts.marks,
         &mut parts.actions,
     )?;
-    keep_word(slot, lexeme, token, &mut parts.words)
+    keep_word(slot, class, token, &mut parts.words)
 }
 
 /// What a token changes of the draft and the arguments.
-fn redraft_work<'a, S: Sketch<'a>>(
+fn redraft_work<'a, S: Listener<'a>>(
     alloc: Global,
-    place: Place,
+    position: Position,
     next: &Progress,
-    lexeme: Lexeme,
+    class: TokenClass,
     token: &'a Token,
-    sketch: &mut S,
+    listener: &mut S,
     parts: &mut Parts<'a>,
 ) -> Result<(), BuildFault>
-    ensures work { (before after : Work) → Keeps S.Draws sketch.old parts.old before
-        → spec.redrafted_work (progress_of next.now) place lexeme token.now before ≡ Some after
-        → IfOk result (λ _. Keeps S.Draws sketch.new parts.new after) }
-    ensures low { (before after : Work) → Keeps S.Draws sketch.old parts.old before
-        → spec.redrafted_work (progress_of next.now) place lexeme token.now before ≡ Some after
+    ensures work { (before after : Work) → Keeps S.Draws listener.old parts.old before
+        → spec.redrafted_work (progress_of next.now) position class token.now before ≡ Some after
+        → IfOk result (λ _. Keeps S.Draws listener.new parts.new after) }
+    ensures low { (before after : Work) → Keeps S.Draws listener.old parts.old before
+        → spec.redrafted_work (progress_of next.now) position class token.now before ≡ Some after
         → S.Low after.draft → IfErr result OnlyMemory }
 {
-    let change = change_of(place, next);
+    let change = change_of(position, next);
     let arguments = parts.arguments.as_slice();
-    sketch.redraft(alloc, change, lexeme.shape, token, arguments)?;
+    listener.redraft(alloc, change, class.shape, token, arguments)?;
     drop_arguments(alloc, change, parts);
     Ok(())
 }
 
-/// What a token changes that leads from this place there.
-fn change_work<'a, S: Sketch<'a>>(
+/// What a token changes that leads from this position there.
+fn change_work<'a, S: Listener<'a>>(
     alloc: Global,
-    place: Place,
+    position: Position,
     next: &Progress,
-    lexeme: Lexeme,
+    class: TokenClass,
     token: &'a Token,
-    sketch: &mut S,
+    listener: &mut S,
     parts: &mut Parts<'a>,
 ) -> Result<(), BuildFault>
-    ensures work { (before after : Work) → Keeps S.Draws sketch.old parts.old before
-        → spec.place_work (progress_of next.now) place lexeme token.now before ≡ Some after
-        → IfOk result (λ _. Keeps S.Draws sketch.new parts.new after) }
-    ensures low { (before after : Work) → Keeps S.Draws sketch.old parts.old before
-        → spec.place_work (progress_of next.now) place lexeme token.now before ≡ Some after
+    ensures work { (before after : Work) → Keeps S.Draws listener.old parts.old before
+        → spec.position_work (progress_of next.now) position class token.now before ≡ Some after
+        → IfOk result (λ _. Keeps S.Draws listener.new parts.new after) }
+    ensures low { (before after : Work) → Keeps S.Draws listener.old parts.old before
+        → spec.position_work (progress_of next.now) position class token.now before ≡ Some after
         → S.Low after.draft → IfErr result OnlyMemory }
 {
     match next {
-        Progress::At(_) => redraft_work(alloc, place, next, lexeme, token, sketch, parts),
-        Progress::Inside(_, _, _) => match place {
-            Place::Entering(slot) => {
+        Progress::At(_) => redraft_work(alloc, position, next, class, token, listener, parts),
+        Progress::Inside(_, _, _) => match position {
+            Position::Entering(slot) => {
                 let fresh = Reading {
-                    due: Due::Operand,
+                    expected: Expected::Operand,
                     frames: Row::new(alloc),
                 };
-                go_on(slot, &fresh, lexeme, token, parts)?;
+                go_on(slot, &fresh, class, token, parts)?;
                 Ok(())
             }
-            _ => redraft_work(alloc, place, next, lexeme, token, sketch, parts),
+            _ => redraft_work(alloc, position, next, class, token, listener, parts),
         },
     }
 }
 
-/// A token at a place.
-fn at_place<'a, S: Sketch<'a>>(
+/// A token at a position.
+fn at_position<'a, S: Listener<'a>>(
     alloc: Global,
-    place: Place,
+    position: Position,
     brackets: Row<Bracket>,
-    lexeme: Lexeme,
+    class: TokenClass,
     token: &'a Token,
-    sketch: &mut S,
+    listener: &mut S,
     parts: &mut Parts<'a>,
 ) -> Result<Option<Progress>, BuildFault>
     ensures next { IfOk result (λ next.
-        option_map progress_of next ≡ course.place_step place lexeme (reverse brackets)) }
-    ensures work { (before after : Work) → Keeps S.Draws sketch.old parts.old before
+        option_map progress_of next ≡ definitions.position_step position class (reverse brackets)) }
+    ensures work { (before after : Work) → Keeps S.Draws listener.old parts.old before
         → IfOk result (λ next. IfSome next (λ there.
-        spec.place_work (progress_of there) place lexeme token.now before ≡ Some after
-        → Keeps S.Draws sketch.new parts.new after)) }
-    ensures low { (before : Work) → Keeps S.Draws sketch.old parts.old before
-        → Goes S.Low (course.at place (reverse brackets)) lexeme token.now before
+        spec.position_work (progress_of there) position class token.now before ≡ Some after
+        → Keeps S.Draws listener.new parts.new after)) }
+    ensures low { (before : Work) → Keeps S.Draws listener.old parts.old before
+        → Goes S.Low (definitions.at position (reverse brackets)) class token.now before
         → IfErr result OnlyMemory }
 {
-    let Some(next) = place_step(alloc, place, lexeme, brackets)? else {
+    let Some(next) = position_step(alloc, position, class, brackets)? else {
         return Ok(None);
     };
-    change_work(alloc, place, &next, lexeme, token, sketch, parts)?;
+    change_work(alloc, position, &next, class, token, listener, parts)?;
     Ok(Some(next))
 }
 
@@ -183,24 +183,24 @@ fn give_up<'a>(alloc: Global, slot: Slot, parts: &mut Parts<'a>) -> Result<(), N
 }
 
 /// A part ends, with so many brackets open round it.
-pub(crate) fn end_part<'a, S: Sketch<'a>>(
+pub(crate) fn end_part<'a, S: Listener<'a>>(
     alloc: Global,
     slot: Slot,
     around: usize,
     reading: &Reading,
-    sketch: &mut S,
+    listener: &mut S,
     parts: &mut Parts<'a>,
 ) -> Result<(), BuildFault>
-    ensures work { (before after : Work) → Keeps S.Draws sketch.old parts.old before
+    ensures work { (before after : Work) → Keeps S.Draws listener.old parts.old before
         → spec.filled_work slot around (reading_of reading.now) before ≡ Some after
-        → IfOk result (λ _. Keeps S.Draws sketch.new parts.new after) }
-    ensures low { (before after : Work) → Keeps S.Draws sketch.old parts.old before
+        → IfOk result (λ _. Keeps S.Draws listener.new parts.new after) }
+    ensures low { (before after : Work) → Keeps S.Draws listener.old parts.old before
         → spec.filled_work slot around (reading_of reading.now) before ≡ Some after
         → S.Low after.draft → IfErr result OnlyMemory }
 {
     st_parse_actions::finish(reading, &mut parts.actions)?;
     let words = parts.words.as_slice();
-    sketch.fill(alloc, slot, around, parts.actions.as_slice(), words)?;
+    listener.fill(alloc, slot, around, parts.actions.as_slice(), words)?;
     give_up(alloc, slot, parts)?;
     Ok(())
 }
@@ -210,85 +210,85 @@ fn copy_reading(alloc: Global, reading: &Reading) -> Result<Reading, NoMemory>
 {
     let frames = reading.frames.copy(alloc)?;
     Ok(Reading {
-        due: reading.due,
+        expected: reading.expected,
         frames,
     })
 }
 
 /// A token in a part, or behind it.
-fn in_part<'a, S: Sketch<'a>>(
+fn in_part<'a, S: Listener<'a>>(
     alloc: Global,
     slot: Slot,
     reading: Reading,
     brackets: Row<Bracket>,
-    lexeme: Lexeme,
+    class: TokenClass,
     token: &'a Token,
-    sketch: &mut S,
+    listener: &mut S,
     parts: &mut Parts<'a>,
 ) -> Result<Option<Progress>, BuildFault>
     ensures next { IfOk result (λ next. option_map progress_of next
-        ≡ course.step (course.inside slot (reading_of reading) (reverse brackets)) lexeme) }
-    ensures work { (before after : Work) → Keeps S.Draws sketch.old parts.old before
+        ≡ definitions.step (definitions.inside slot (reading_of reading) (reverse brackets)) class) }
+    ensures work { (before after : Work) → Keeps S.Draws listener.old parts.old before
         → IfOk result (λ next. IfSome next (λ there.
-        spec.work_after (course.inside slot (reading_of reading) (reverse brackets))
-        (progress_of there) lexeme token.now before ≡ Some after
-        → Keeps S.Draws sketch.new parts.new after)) }
-    ensures low { (before : Work) → Keeps S.Draws sketch.old parts.old before
-        → Goes S.Low (course.inside slot (reading_of reading) (reverse brackets)) lexeme token.now
+        spec.work_after (definitions.inside slot (reading_of reading) (reverse brackets))
+        (progress_of there) class token.now before ≡ Some after
+        → Keeps S.Draws listener.new parts.new after)) }
+    ensures low { (before : Work) → Keeps S.Draws listener.old parts.old before
+        → Goes S.Low (definitions.inside slot (reading_of reading) (reverse brackets)) class token.now
         before
         → IfErr result OnlyMemory }
 {
     let before = copy_reading(alloc, &reading)?;
-    if let Some(next) = part_step(slot_sort(slot), reading, lexeme.shape)? {
-        go_on(slot, &before, lexeme, token, parts)?;
+    if let Some(next) = part_step(slot_sort(slot), reading, class.shape)? {
+        go_on(slot, &before, class, token, parts)?;
         return Ok(Some(Progress::Inside(slot, next, brackets)));
     }
     let Some(part) = part_end(&before) else {
         return Ok(None);
     };
-    end_part(alloc, slot, brackets.len(), &before, sketch, parts)?;
-    at_place(
+    end_part(alloc, slot, brackets.len(), &before, listener, parts)?;
+    at_position(
         alloc,
         filled(slot, part),
         brackets,
-        lexeme,
+        class,
         token,
-        sketch,
+        listener,
         parts,
     )
 }
 
 /// One more token of definitions, if it may stand there.
-pub(crate) fn read_token<'a, S: Sketch<'a>>(
+pub(crate) fn read_token<'a, S: Listener<'a>>(
     alloc: Global,
     progress: Progress,
-    lexeme: Lexeme,
+    class: TokenClass,
     token: &'a Token,
-    sketch: &mut S,
+    listener: &mut S,
     parts: &mut Parts<'a>,
 ) -> Result<Option<Progress>, BuildFault>
     ensures next { IfOk result (λ next.
-        option_map progress_of next ≡ course.step (progress_of progress) lexeme) }
-    ensures work { (before after : Work) → Keeps S.Draws sketch.old parts.old before
+        option_map progress_of next ≡ definitions.step (progress_of progress) class) }
+    ensures work { (before after : Work) → Keeps S.Draws listener.old parts.old before
         → IfOk result (λ next. IfSome next (λ there.
-        spec.work_after (progress_of progress) (progress_of there) lexeme token.now before
+        spec.work_after (progress_of progress) (progress_of there) class token.now before
         ≡ Some after
-        → Keeps S.Draws sketch.new parts.new after)) }
-    ensures low { (before : Work) → Keeps S.Draws sketch.old parts.old before
-        → Goes S.Low (progress_of progress) lexeme token.now before → IfErr result OnlyMemory }
+        → Keeps S.Draws listener.new parts.new after)) }
+    ensures low { (before : Work) → Keeps S.Draws listener.old parts.old before
+        → Goes S.Low (progress_of progress) class token.now before → IfErr result OnlyMemory }
 {
     match progress {
-        Progress::At(here) => at_place(
+        Progress::At(here) => at_position(
             alloc,
-            here.place,
+            here.position,
             here.brackets,
-            lexeme,
+            class,
             token,
-            sketch,
+            listener,
             parts,
         ),
         Progress::Inside(slot, reading, brackets) => {
-            in_part(alloc, slot, reading, brackets, lexeme, token, sketch, parts)
+            in_part(alloc, slot, reading, brackets, class, token, listener, parts)
         }
     }
 }

@@ -11,12 +11,12 @@ use Rattle.st_grammar.specs.declared.sort.Closing.{Closing}
 use Rattle.st_grammar.specs.declared.sort.Closing.TheVariants.{ByRound as by_round, BySquare as by_square, ByBrace as by_brace, ByBar as by_bar}
 use Rattle.st_grammar.specs.declared.sort.Sort.{Sort}
 use Rattle.st_grammar.specs.declared.sort.Sort.TheVariants.{Expression as expression, Arithmetic as arithmetic, Notation as notation, Typ as typ, Count as count, Bound as bound}
-use Rattle.st_grammar.specs.Lexemes.{Lexeme, leaf, dot, sign, opening, closing, other}
-use Rattle.st_grammar.specs.Levels.{encloses, computes, is_expression, is_count, juxtaposes, level_of, ahead_level, tight, has_level, left_of, is_mark, is_caret, is_comma, is_colon}
+use Rattle.st_grammar.specs.Terminals.{Terminal, leaf, dot, sign, opening, closing, other}
+use Rattle.st_grammar.specs.Levels.{encloses, computes, is_expression, is_count, juxtaposes, level_of, ahead_level, tight, has_level, left_of, is_iteration_sign, is_caret, is_comma, is_colon}
 use Rattle.st_grammar.specs.Trees.{Tree, operand, post, times, bracket, led, Lead, left, ahead, items, Trees, none, more, Heading, plain, length, arguments, index, segment, update, below, Path, head, field, part, closes, text, lead_text, texts, heading_text, path_text, agree}
 use Rattle.st_grammar.specs.Grammar.{style, opens_length, sort_in, least_in, is_label, SetsOff, IsFilled, size, follows, may_post, lead_level, wanted, level, is_operand, Fits, LeadFits, EachFits, HeadingFits, PathFits}
 use Rattle.st_grammar.specs.Reading.{Frames, bottom, within, over, timing, State, want, got, naming, sort, least, settle, reach, lower, shut, close, ended, begin, extend, separate, join, pull, after, finish, reading, reads}
-use Rattle.st_grammar.proofs.LevelLemmas.{level_low, ahead_low, ahead_below, right_low, level_after, level_before, has_low, ahead_after, may_mark, comma_is, colon_is, caret_is, joins_no_mark, no_post, no_caret}
+use Rattle.st_grammar.proofs.LevelLemmas.{level_low, ahead_low, ahead_below, right_low, level_after, level_before, has_low, ahead_after, may_iterate, comma_is, colon_is, caret_is, joins_no_iteration_sign, no_post, no_caret}
 
 -- ---- levels and edges
 
@@ -31,16 +31,16 @@ bar_ends (expression b) = b
 bar_ends σ = true
 
 -- how tightly a token binds to what stands before it
-abbrev pub grip : Sort → Lexeme → ℕ
+abbrev pub grip : Sort → Terminal → ℕ
 grip σ (leaf k x) = tight
 grip σ (dot x) = tight
-grip σ (sign m x) = if may_mark σ m then tight else pull σ m
+grip σ (sign m x) = if may_iterate σ m then tight else pull σ m
 grip σ (opening k x) = tight
 grip σ (closing by_bar x) = if bar_ends σ then 0 else tight
 grip σ (closing c x) = 0
 grip σ (other x) = 0
 
-abbrev pub Ends : Sort → ℕ → List Lexeme → Type 0
+abbrev pub Ends : Sort → ℕ → List Terminal → Type 0
 Ends σ m [] = Unit {0}
 Ends σ m (l ∷ w) = grip σ l < m
 
@@ -100,10 +100,10 @@ pull_low σ m = go (has_level σ (level_of m)) refl
 pub pull_joins : (σ : Sort) (m : Mark) → has_level σ (level_of m) ≡ true → pull σ m ≡ level_of m
 pull_joins σ m e = ap (λ b. if b then level_of m else 0) e
 
-pub grip_low : (σ : Sort) (l : Lexeme) → grip σ l ≤ tight
+pub grip_low : (σ : Sort) (l : Terminal) → grip σ l ≤ tight
 grip_low σ (leaf k x) = omega arith
 grip_low σ (dot x) = omega arith
-grip_low σ (sign m x) = go (may_mark σ m)
+grip_low σ (sign m x) = go (may_iterate σ m)
   where
     go : (b : Bool) → (if b then tight else pull σ m) ≤ tight
     go true = omega arith
@@ -119,11 +119,11 @@ grip_low σ (closing by_bar x) = go (bar_ends σ)
     go false = omega arith
 grip_low σ (other x) = omega arith
 
-pub Ends-more : (σ : Sort) (m n : ℕ) (w : List Lexeme) → m ≤ n → Ends σ m w → Ends σ n w
+pub Ends-more : (σ : Sort) (m n : ℕ) (w : List Terminal) → m ≤ n → Ends σ m w → Ends σ n w
 Ends-more σ m n [] h e = tt
 Ends-more σ m n (l ∷ w) h e = omega arith
 
-pub Ends-tight : (σ : Sort) (t : Tree) (w : List Lexeme) → tight ≤ level t → Ends σ (edge t) w
+pub Ends-tight : (σ : Sort) (t : Tree) (w : List Terminal) → tight ≤ level t → Ends σ (edge t) w
 Ends-tight σ t [] h = tt
 Ends-tight σ t (l ∷ w) h = omega (arith, tight_edge t h, grip_low σ l)
 
@@ -138,7 +138,7 @@ left_ends σ m (led (items ts) t) f h = level_before (level_of m) 14 refl h
 
 -- ---- the machine at one token
 
-pub reads_by : (o p : Option State) (w : List Lexeme) → o ≡ p
+pub reads_by : (o p : Option State) (w : List Terminal) → o ≡ p
     → option_and_then finish (option_and_then (λ next. reading next w) o) ≡ option_and_then finish (option_and_then (λ next. reading next w) p)
 reads_by o p w e = ap (λ q. option_and_then finish (option_and_then (λ next. reading next w) q)) e
 
@@ -148,10 +148,10 @@ settled t (within h ts pre fs) e = refl
 settled t (over g fs) e = refl
 settled t (timing u m x fs) e = absurd (cc)
 
-pub reads_settled : (t : Tree) (fs : Frames) (w : List Lexeme) → is_count (sort fs) ≡ false → reads (settle t fs) w ≡ reads (got t fs) w
+pub reads_settled : (t : Tree) (fs : Frames) (w : List Terminal) → is_count (sort fs) ≡ false → reads (settle t fs) w ≡ reads (got t fs) w
 reads_settled t fs w e = ap (λ st. reads st w) (settled t fs e)
 
-pub post_no_count : (σ : Sort) (t : Tree) (l : Lexeme) → may_post σ t l ≡ true → is_count σ ≡ false
+pub post_no_count : (σ : Sort) (t : Tree) (l : Terminal) → may_post σ t l ≡ true → is_count σ ≡ false
 post_no_count (expression b) t l e = refl
 post_no_count arithmetic t l e = refl
 post_no_count notation t l e = refl
@@ -216,7 +216,7 @@ lower_stays n t (over g fs) h k =
 lower_stays n t (timing u m x fs) h k = refl
 
 -- a sign that is no mark joins or separates
-pub sign_joins : (t : Tree) (fs : Frames) (m : Mark) (x : Token) → may_mark (sort fs) m ≡ false
+pub sign_joins : (t : Tree) (fs : Frames) (m : Mark) (x : Token) → may_iterate (sort fs) m ≡ false
     → after t fs (sign m x) ≡ join m x (lower (pull (sort fs) m) t fs)
 sign_joins t fs m x e =
     ap (λ b. if b then Some (got (post t (sign m x)) fs) else if is_expression (sort fs) && is_caret m then Some (want (timing t m x fs)) else join m x (lower (pull (sort fs) m) t fs)) (no_post (sort fs) t m x e)
@@ -234,14 +234,14 @@ pub bar_closes : (t : Tree) (fs : Frames) (x : Token) → bar_ends (sort fs) ≡
 bar_closes t fs x e = ap (λ b. if b then begin (extend t fs) (closing by_bar x) else close by_bar x (lower 0 t fs)) (bar_follows (sort fs) t x e)
 
 -- what ends a last part closes what leads to it
-pub over_read : (t : Tree) (g : Lead) (fs : Frames) (w : List Lexeme) → LeadFits (sort fs) g → Ends (sort fs) (reach g) w
+pub over_read : (t : Tree) (g : Lead) (fs : Frames) (w : List Terminal) → LeadFits (sort fs) g → Ends (sort fs) (reach g) w
     → reads (got t (over g fs)) w ≡ reads (got (led g t) fs) w
 over_read t g fs [] f e = ap ended (lower_over 0 t g fs (omega (arith, lead_pos (sort fs) g f, lead_reach g)))
 over_read t g fs (leaf k x ∷ w) f e = absurd (omega (arith, reach_low g))
 over_read t g fs (dot x ∷ w) f e = absurd (omega (arith, reach_low g))
-over_read t g fs (sign m x ∷ w) f e = go (may_mark (sort fs) m) refl e
+over_read t g fs (sign m x ∷ w) f e = go (may_iterate (sort fs) m) refl e
   where
-    go : (b : Bool) → may_mark (sort fs) m ≡ b → (if b then tight else pull (sort fs) m) < reach g
+    go : (b : Bool) → may_iterate (sort fs) m ≡ b → (if b then tight else pull (sort fs) m) < reach g
         → reads (got t (over g fs)) (sign m x ∷ w) ≡ reads (got (led g t) fs) (sign m x ∷ w)
     go true h k = absurd (omega (arith, reach_low g))
     go false h k = reads_by _ _ w (sign_joins t (over g fs) m x h ∙ ap (join m x) (lower_over (pull (sort fs) m) t g fs k) ∙ sym (sign_joins (led g t) fs m x h))
@@ -259,7 +259,7 @@ over_read t g fs (other x ∷ w) f e = refl
 
 -- ---- marks, counts and signs behind a tree
 
-pub read_post : (t : Tree) (l : Lexeme) (fs : Frames) (w : List Lexeme) → may_post (sort fs) t l ≡ true → reads (got t fs) (l ∷ w) ≡ reads (got (post t l) fs) w
+pub read_post : (t : Tree) (l : Terminal) (fs : Frames) (w : List Terminal) → may_post (sort fs) t l ≡ true → reads (got t fs) (l ∷ w) ≡ reads (got (post t l) fs) w
 read_post t (leaf k x) fs w f = absurd (no_leaf (sort fs) f)
   where
     no_leaf : (σ : Sort) → may_post σ t (leaf k x) ≡ true → ⊥
@@ -300,7 +300,7 @@ read_post t (other x) fs w f = absurd (no_other (sort fs) f)
     no_other bound e = absurd (cc)
 
 pub caret_no_post : (σ : Sort) (t : Tree) (m : Mark) (x : Token) → is_expression σ ≡ true → is_caret m ≡ true → may_post σ t (sign m x) ≡ false
-caret_no_post (expression b) t m x e c = ap is_mark (caret_is m c)
+caret_no_post (expression b) t m x e c = ap is_iteration_sign (caret_is m c)
 caret_no_post arithmetic t m x e c = refl
 caret_no_post notation t m x e c = absurd (cc)
 caret_no_post typ t m x e c = absurd (cc)
@@ -311,27 +311,27 @@ pub both_true : (b c : Bool) → b ≡ true → c ≡ true → b && c ≡ true
 both_true true c e f = f
 both_true false c e f = absurd (cc)
 
-pub read_caret : (t : Tree) (m : Mark) (x : Token) (fs : Frames) (w : List Lexeme) → is_caret m ≡ true → is_expression (sort fs) ≡ true
+pub read_caret : (t : Tree) (m : Mark) (x : Token) (fs : Frames) (w : List Terminal) → is_caret m ≡ true → is_expression (sort fs) ≡ true
     → reads (got t fs) (sign m x ∷ w) ≡ reads (want (timing t m x fs)) w
 read_caret t m x fs w c e =
     reads_by _ _ w
     (ap (λ b. if b then Some (got (post t (sign m x)) fs) else if is_expression (sort fs) && is_caret m then Some (want (timing t m x fs)) else join m x (lower (pull (sort fs) m) t fs)) (caret_no_post (sort fs) t m x e c)
     ∙ ap (λ b. if b then Some (want (timing t m x fs)) else join m x (lower (pull (sort fs) m) t fs)) (both_true _ _ e c))
 
-pub read_join : (l : Tree) (m : Mark) (x : Token) (fs : Frames) (w : List Lexeme) → has_level (sort fs) (level_of m) ≡ true → least fs ≤ level_of m → left_of m ≤ level l
+pub read_join : (l : Tree) (m : Mark) (x : Token) (fs : Frames) (w : List Terminal) → has_level (sort fs) (level_of m) ≡ true → least fs ≤ level_of m → left_of m ≤ level l
     → reads (got l fs) (sign m x ∷ w) ≡ reads (want (over (left l m x) fs)) w
 read_join l m x fs w j h k =
     let yes = above (least fs) (level_of m) h in
     let takes_left = above (left_of m) (level l) k in
     let n : pull (sort fs) m ≡ level_of m = pull_joins (sort fs) m j in
     reads_by _ _ w
-    (sign_joins l fs m x (joins_no_mark (sort fs) m j)
+    (sign_joins l fs m x (joins_no_iteration_sign (sort fs) m j)
     ∙ ap (λ i. join m x (lower i l fs)) n
     ∙ ap (join m x) (lower_stays (level_of m) l fs h (omega (arith, level_low m)))
     ∙ ap (λ b. if b then if nat_le (left_of m) (level l) then Some (want (over (left l m x) fs)) else None else separate m x (l, fs)) (both_true _ _ j yes)
     ∙ ap (λ b. if b then Some (want (over (left l m x) fs)) else None) takes_left)
 
-pub read_ahead : (m : Mark) (x : Token) (fs : Frames) (w : List Lexeme) → has_level (sort fs) (ahead_level m) ≡ true → least fs ≤ ahead_level m
+pub read_ahead : (m : Mark) (x : Token) (fs : Frames) (w : List Terminal) → has_level (sort fs) (ahead_level m) ≡ true → least fs ≤ ahead_level m
     → reads (want fs) (sign m x ∷ w) ≡ reads (want (over (ahead m x) fs)) w
 read_ahead m x fs w j h =
     let yes = above (least fs) (ahead_level m) h in
@@ -340,16 +340,16 @@ read_ahead m x fs w j h =
 -- ---- what a tree begins with
 
 -- neither a dot nor `[`
-abbrev pub starts : Lexeme → Bool
+abbrev pub starts : Terminal → Bool
 starts (dot x) = false
 starts (opening square x) = false
 starts l = true
 
-abbrev pub starts_text : List Lexeme → Bool
+abbrev pub starts_text : List Terminal → Bool
 starts_text [] = false
 starts_text (l ∷ w) = starts l
 
-pub starts_append : (us vs : List Lexeme) → starts_text us ≡ true → starts_text (us ++ vs) ≡ true
+pub starts_append : (us vs : List Terminal) → starts_text us ≡ true → starts_text (us ++ vs) ≡ true
 starts_append [] vs e = absurd (cc)
 starts_append (l ∷ us) vs e = e
 
@@ -367,7 +367,7 @@ encloses_starts σ tick_square x e = refl
 encloses_starts σ tick_brace x e = refl
 encloses_starts σ dollar x e = refl
 
-pub label_starts : (l : Lexeme) → is_label l ≡ true → starts l ≡ true
+pub label_starts : (l : Terminal) → is_label l ≡ true → starts l ≡ true
 label_starts (leaf k x) e = refl
 label_starts (dot x) e = absurd (cc)
 label_starts (sign m x) e = refl
@@ -375,7 +375,7 @@ label_starts (opening k x) e = absurd (cc)
 label_starts (closing k x) e = refl
 label_starts (other x) e = refl
 
-pub first_starts : (y : Style) (pre us : List Lexeme) → SetsOff y none pre → starts_text us ≡ true → starts_text (pre ++ us) ≡ true
+pub first_starts : (y : Style) (pre us : List Terminal) → SetsOff y none pre → starts_text us ≡ true → starts_text (pre ++ us) ≡ true
 first_starts lone pre us e h = subst (λ q. starts_text (q ++ us) ≡ true) (sym e) h
 first_starts parts pre us e h = subst (λ q. starts_text (q ++ us) ≡ true) (sym e) h
 first_starts ends pre us e h = subst (λ q. starts_text (q ++ us) ≡ true) (sym e) h
@@ -414,7 +414,7 @@ mutual
   begins_path (field p x) σ f = starts_append (path_text p) (dot x ∷ []) (begins_path p σ f)
   begins_path (part p o ts c) σ f = starts_append (path_text p) (opening square o ∷ (texts ts ++ closing by_square c ∷ [])) (begins_path p σ f.0)
 
-pub starts_parts : (ts : Trees) (σ : Sort) (y : Style) (n : ℕ) (v : List Lexeme) → EachFits σ y n ts → starts_text v ≡ true → starts_text (texts ts ++ v) ≡ true
+pub starts_parts : (ts : Trees) (σ : Sort) (y : Style) (n : ℕ) (v : List Terminal) → EachFits σ y n ts → starts_text v ≡ true → starts_text (texts ts ++ v) ≡ true
 starts_parts none σ y n v f h = h
 starts_parts (more ts pre t) σ y n v f h = starts_append (texts (more ts pre t)) v (begins_trees (more ts pre t) σ y n f (omega arith))
 
@@ -430,10 +430,10 @@ abbrev pub part_state : Heading → Trees → Frames → State
 part_state h none fs = entry (style (sort fs) h) h fs
 part_state h (more ts pre t) fs = got t (within h ts pre fs)
 
-pub comma_mark : (σ : Sort) (m : Mark) → is_comma m ≡ true → may_mark σ m ≡ false
-comma_mark σ m e = subst (λ k. may_mark σ k ≡ false) (sym (comma_is m e)) (at σ)
+pub comma_mark : (σ : Sort) (m : Mark) → is_comma m ≡ true → may_iterate σ m ≡ false
+comma_mark σ m e = subst (λ k. may_iterate σ k ≡ false) (sym (comma_is m e)) (at σ)
   where
-    at : (τ : Sort) → may_mark τ mark.Comma ≡ false
+    at : (τ : Sort) → may_iterate τ mark.Comma ≡ false
     at (expression b) = refl
     at arithmetic = refl
     at notation = refl
@@ -522,7 +522,7 @@ pub colon_grip : (m : Mark) (x : Token) → is_colon m ≡ true → grip (expres
 colon_grip m x e = ap (λ k. grip (expression false) (sign k x)) (colon_is m e)
 
 -- what sets off a next part ends the one before
-pub set_off_ends : (h : Heading) (σ : Sort) (ts : Trees) (q : List Lexeme) (t : Tree) (pre v : List Lexeme)
+pub set_off_ends : (h : Heading) (σ : Sort) (ts : Trees) (q : List Terminal) (t : Tree) (pre v : List Terminal)
     → SetsOff (style σ h) (more ts q t) pre → Ends (sort_in σ h) (least_in h) (pre ++ v)
 set_off_ends h σ ts q t pre v f = go (style σ h) refl f
   where
@@ -576,7 +576,7 @@ closer_grip (segment p o) σ c = refl
 closer_grip (update p m x) σ c = refl
 closer_grip (below o i m x) σ c = refl
 
-pub read_close : (h : Heading) (ts : Trees) (c : Token) (fs : Frames) (w : List Lexeme) → IsFilled h ts
+pub read_close : (h : Heading) (ts : Trees) (c : Token) (fs : Frames) (w : List Terminal) → IsFilled h ts
     → reads (part_state h ts fs) (closing (closes h) c ∷ w) ≡ reads (shut h ts c fs) w
 read_close h (more us pre t) c fs w f =
     reads_by _ _ w

@@ -10,12 +10,12 @@ use Rattle.st_grammar.specs.declared.sort.Bracket.TheVariants.{Round as round, S
 use Rattle.st_grammar.specs.declared.sort.Closing.TheVariants.{BySquare as by_square, ByBar as by_bar}
 use Rattle.st_grammar.specs.declared.sort.Sort.{Sort}
 use Rattle.st_grammar.specs.declared.sort.Sort.TheVariants.{Expression as expression, Arithmetic as arithmetic, Notation as notation, Typ as typ, Count as count, Bound as bound}
-use Rattle.st_grammar.specs.Lexemes.{Lexeme, leaf, dot, sign, opening, closing, other}
+use Rattle.st_grammar.specs.Terminals.{Terminal, leaf, dot, sign, opening, closing, other}
 use Rattle.st_grammar.specs.Levels.{takes, encloses, computes, is_expression, is_count, juxtaposes, level_of, tight, has_level, left_of, is_comma, is_colon, is_less, is_change}
 use Rattle.st_grammar.specs.Trees.{Tree, operand, post, times, bracket, led, Lead, left, ahead, items, Trees, none, more, Heading, plain, length, arguments, index, segment, update, below, Path, head, field, part, closes, text, lead_text, texts, heading_text, path_text}
 use Rattle.st_grammar.specs.Grammar.{bracket_style, index_style, style, sort_in, least_in, SetsOff, IsFilled, size, text_follows, FollowsAll, lead_level, wanted, level, is_operand, has_step, MayEnd, Fits, LeadFits, EachFits, HeadingFits, PathFits, Parse}
 use Rattle.st_grammar.specs.Reading.{Frames, bottom, within, over, timing, State, want, got, naming, pathed, indexing, sort, least, settle, reach, begin, extend, next_part, pull, behind, after, in_index, reads, start}
-use Rattle.st_grammar.proofs.LevelLemmas.{may_mark, colon_is, joins_no_mark, and_false}
+use Rattle.st_grammar.proofs.LevelLemmas.{may_iterate, colon_is, joins_no_iteration_sign, and_false}
 use Rattle.st_grammar.proofs.Complete.{edge, Ends, grip, reach_wanted, level_pos, level_edge, Ends-more, Ends-tight, left_ends, reads_by, reads_settled, post_no_count, expression_no_count, lead_no_count, juxtaposes_no_count, computes_no_count, not_above, sign_joins, over_read, read_post, both_true, read_caret, read_join, read_ahead, starts_text, starts_parts, entry, part_state, comma_mark, comma_level, ends_style, no_run, least_pos, set_off_ends, closer_grip, read_close, shut_operand}
 
 -- ---- what sets parts off
@@ -24,27 +24,27 @@ pub and_false_right : (b c : Bool) → c ≡ false → b && c ≡ false
 and_false_right true c e = e
 and_false_right false c e = refl
 
-pub comma_separates : (h : Heading) (us : Trees) (q : List Lexeme) (u : Tree) (m : Mark) (x : Token) (fs : Frames) → is_comma m ≡ true
+pub comma_separates : (h : Heading) (us : Trees) (q : List Terminal) (u : Tree) (m : Mark) (x : Token) (fs : Frames) → is_comma m ≡ true
     → after u (within h us q fs) (sign m x) ≡ next_part (style (sort fs) h) m x h us (more us q u) fs
 comma_separates h us q u m x fs e =
     sign_joins u (within h us q fs) m x (comma_mark (sort_in (sort fs) h) m e)
     ∙ ap (λ b. if b then if nat_le (left_of m) (level u) then Some (want (over (left u m x) (within h us q fs))) else None else next_part (style (sort fs) h) m x h us (more us q u) fs)
     (and_false (has_level (sort_in (sort fs) h) (level_of m)) (nat_le (least_in h) (level_of m)) (comma_level (sort_in (sort fs) h) m e))
 
-pub colon_mark : (m : Mark) → is_colon m ≡ true → may_mark (expression false) m ≡ false
-colon_mark m e = ap (may_mark (expression false)) (colon_is m e)
+pub colon_mark : (m : Mark) → is_colon m ≡ true → may_iterate (expression false) m ≡ false
+colon_mark m e = ap (may_iterate (expression false)) (colon_is m e)
 
-pub colon_separates : (h : Heading) (us : Trees) (q : List Lexeme) (u : Tree) (m : Mark) (x : Token) (fs : Frames) → is_colon m ≡ true → style (sort fs) h ≡ ends
+pub colon_separates : (h : Heading) (us : Trees) (q : List Terminal) (u : Tree) (m : Mark) (x : Token) (fs : Frames) → is_colon m ≡ true → style (sort fs) h ≡ ends
     → after u (within h us q fs) (sign m x) ≡ next_part (style (sort fs) h) m x h us (more us q u) fs
 colon_separates h us q u m x fs e s =
     let i = ends_style h (sort fs) s in
     let nine : level_of m ≡ 9 = ap level_of (colon_is m e) in
     let no : nat_le (least_in h) (level_of m) ≡ false = not_above (level_of m) (least_in h) (omega (arith, nine, i.0)) in
-    sign_joins u (within h us q fs) m x (subst (λ τ. may_mark τ m ≡ false) (sym i.1) (colon_mark m e))
+    sign_joins u (within h us q fs) m x (subst (λ τ. may_iterate τ m ≡ false) (sym i.1) (colon_mark m e))
     ∙ ap (λ b. if b then if nat_le (left_of m) (level u) then Some (want (over (left u m x) (within h us q fs))) else None else next_part (style (sort fs) h) m x h us (more us q u) fs)
     (and_false_right (has_level (sort_in (sort fs) h) (level_of m)) (nat_le (least_in h) (level_of m)) no)
 
-pub read_set_off : (h : Heading) (ts : Trees) (pre : List Lexeme) (fs : Frames) (v : List Lexeme) → SetsOff (style (sort fs) h) ts pre
+pub read_set_off : (h : Heading) (ts : Trees) (pre : List Terminal) (fs : Frames) (v : List Terminal) → SetsOff (style (sort fs) h) ts pre
     → reads (part_state h ts fs) (pre ++ v) ≡ reads (want (within h ts pre fs)) v
 read_set_off h none pre fs v f = go (style (sort fs) h) f
   where
@@ -113,12 +113,12 @@ extend_under none t (over (items us) fs) h = absurd (omega arith)
 extend_under none t (timing u m x fs) h = refl
 extend_under (more ts pre u) t fs h = refl
 
-pub next_element : (u : Tree) (fs : Frames) (us w : List Lexeme) → text_follows (sort fs) u us ≡ true → reads (got u fs) (us ++ w) ≡ reads (want (extend u fs)) (us ++ w)
+pub next_element : (u : Tree) (fs : Frames) (us w : List Terminal) → text_follows (sort fs) u us ≡ true → reads (got u fs) (us ++ w) ≡ reads (want (extend u fs)) (us ++ w)
 next_element u fs [] w e = absurd (cc)
 next_element u fs (l ∷ us) w e = reads_by _ _ (us ++ w) (ap (λ b. if b then begin (extend u fs) l else behind u fs l) e)
 
 -- an element that is read at each place is read behind these
-pub one_more : (ts : Trees) (t : Tree) (fs : Frames) (w : List Lexeme)
+pub one_more : (ts : Trees) (t : Tree) (fs : Frames) (w : List Terminal)
     → ((gs : Frames) → least gs ≤ level t → sort gs ≡ sort fs → reads (want gs) (text t ++ w) ≡ reads (settle t gs) w)
     → EachFits (sort fs) run tight ts → FollowsAll (sort fs) ts (text t) → tight ≤ level t → least fs ≤ 14 → is_count (sort fs) ≡ false
     → reads (reached ts fs) (text t ++ w) ≡ reads (got t (under ts fs)) w
@@ -162,7 +162,7 @@ no_square typ e = absurd (cc)
 no_square count e = absurd (cc)
 no_square bound e = absurd (cc)
 
-pub read_plain : (k : Bracket) (o : Token) (fs : Frames) (v : List Lexeme) → encloses (sort fs) k ≡ true
+pub read_plain : (k : Bracket) (o : Token) (fs : Frames) (v : List Terminal) → encloses (sort fs) k ≡ true
     → reads (want fs) (opening k o ∷ v) ≡ reads (entry (bracket_style k (sort fs)) (plain k o) fs) v
 read_plain round o fs v e =
     reads_by _ _ v
@@ -189,7 +189,7 @@ touching_begins true true e = refl
 touching_begins true false e = absurd (cc)
 touching_begins false c e = refl
 
-pub read_arguments : (f o : Token) (fs : Frames) (v : List Lexeme) → computes (sort fs) ≡ true → o.touching ≡ true
+pub read_arguments : (f o : Token) (fs : Frames) (v : List Terminal) → computes (sort fs) ≡ true → o.touching ≡ true
     → reads (want fs) (leaf function f ∷ opening round o ∷ v) ≡ reads (want (within (arguments f o) none [] fs)) v
 read_arguments f o fs v e t =
     reads_by _ _ (opening round o ∷ v) (ap (λ b. if b then Some (settle (operand function f) fs) else None) (takes_function (sort fs) e))
@@ -199,7 +199,7 @@ read_arguments f o fs v e t =
     ∙ ap (λ b. if b then Some (want (within (arguments f o) none [] fs)) else None) (both_true _ _ e t))
 
 -- behind `[` no dot and no `[` begins an expression
-pub in_index_reads : (t : Tree) (o : Token) (fs : Frames) (v : List Lexeme) → starts_text v ≡ true
+pub in_index_reads : (t : Tree) (o : Token) (fs : Frames) (v : List Terminal) → starts_text v ≡ true
     → reads (pathed (head t o) fs) v ≡ reads (want (within (index t o) none [] fs)) v
 in_index_reads t o fs [] e = absurd (cc)
 in_index_reads t o fs (leaf k x ∷ v) e = refl
@@ -215,12 +215,12 @@ in_index_reads t o fs (opening dollar x ∷ v) e = refl
 in_index_reads t o fs (closing k x ∷ v) e = refl
 in_index_reads t o fs (other x ∷ v) e = refl
 
-pub read_head : (t : Tree) (o : Token) (fs : Frames) (v : List Lexeme) → is_expression (sort fs) ≡ true
+pub read_head : (t : Tree) (o : Token) (fs : Frames) (v : List Terminal) → is_expression (sort fs) ≡ true
     → reads (got t fs) (opening square o ∷ v) ≡ reads (pathed (head t o) fs) v
 read_head t o fs v e =
     reads_by _ _ v (ap (λ b. if b then Some (pathed (head t o) fs) else if computes (sort fs) then Some (want (within (index t o) none [] fs)) else None) e)
 
-pub read_square : (t : Tree) (o : Token) (fs : Frames) (v : List Lexeme) → computes (sort fs) ≡ true → starts_text v ≡ true
+pub read_square : (t : Tree) (o : Token) (fs : Frames) (v : List Terminal) → computes (sort fs) ≡ true → starts_text v ≡ true
     → reads (got t fs) (opening square o ∷ v) ≡ reads (entry (index_style (sort fs)) (index t o) fs) v
 read_square t o fs v e s = go (is_expression (sort fs)) refl ∙ ap (λ st. reads st v) (sym (entry_index (index t o) (sort fs) fs))
   where
@@ -231,32 +231,32 @@ read_square t o fs v e s = go (is_expression (sort fs)) refl ∙ ap (λ st. read
         (ap (λ b. if b then Some (pathed (head t o) fs) else if computes (sort fs) then Some (want (within (index t o) none [] fs)) else None) i
         ∙ ap (λ b. if b then Some (want (within (index t o) none [] fs)) else None) e)
 
-pub read_change : (p : Path) (m : Mark) (x : Token) (fs : Frames) (v : List Lexeme) → has_step p ≡ true → is_change m ≡ true
+pub read_change : (p : Path) (m : Mark) (x : Token) (fs : Frames) (v : List Terminal) → has_step p ≡ true → is_change m ≡ true
     → reads (pathed p fs) (sign m x ∷ v) ≡ reads (want (within (update p m x) none [] fs)) v
 read_change p m x fs v e c =
     reads_by _ _ v (ap (λ b. if b then Some (want (within (update p m x) none [] fs)) else in_index p fs (sign m x)) (both_true _ _ e c))
 
-pub read_below : (o i : Token) (m : Mark) (x : Token) (fs : Frames) (v : List Lexeme) → is_count (sort fs) ≡ true → is_less m ≡ true
+pub read_below : (o i : Token) (m : Mark) (x : Token) (fs : Frames) (v : List Terminal) → is_count (sort fs) ≡ true → is_less m ≡ true
     → reads (want fs) (opening round o ∷ leaf low i ∷ sign m x ∷ v) ≡ reads (want (within (below o i m x) none [] fs)) v
 read_below o i m x fs v e l =
     reads_by _ _ (leaf low i ∷ sign m x ∷ v) (ap (λ b. if b then Some (indexing o fs) else if encloses (sort fs) round then Some (want (within (plain round o) none [] fs)) else None) e)
     ∙ reads_by _ _ v (ap (λ b. if b then Some (want (within (below o i m x) none [] fs)) else None) l)
 
-pub read_length : (o : Token) (fs : Frames) (v : List Lexeme) → computes (sort fs) ≡ true
+pub read_length : (o : Token) (fs : Frames) (v : List Terminal) → computes (sort fs) ≡ true
     → reads (want fs) (closing by_bar o ∷ v) ≡ reads (want (within (length o) none [] fs)) v
 read_length o fs v e = reads_by _ _ v (ap (λ b. if b then Some (want (within (length o) none [] fs)) else None) e)
 
 -- ---- trees
 
-abbrev pub EndsAfter : Sort → ℕ → Trees → List Lexeme → Type 0
+abbrev pub EndsAfter : Sort → ℕ → Trees → List Terminal → Type 0
 EndsAfter σ n none v = Unit {0}
 EndsAfter σ n (more ts pre t) v = Ends σ n v
 
-pub set_off_after : (h : Heading) (σ : Sort) (ts : Trees) (pre v : List Lexeme) → SetsOff (style σ h) ts pre → EndsAfter (sort_in σ h) (least_in h) ts (pre ++ v)
+pub set_off_after : (h : Heading) (σ : Sort) (ts : Trees) (pre v : List Terminal) → SetsOff (style σ h) ts pre → EndsAfter (sort_in σ h) (least_in h) ts (pre ++ v)
 set_off_after h σ none pre v f = tt
 set_off_after h σ (more us q u) pre v f = set_off_ends h σ us q u pre v f
 
-pub closer_after : (h : Heading) (σ : Sort) (ts : Trees) (c : Token) (w : List Lexeme) → EndsAfter (sort_in σ h) (least_in h) ts (closing (closes h) c ∷ w)
+pub closer_after : (h : Heading) (σ : Sort) (ts : Trees) (c : Token) (w : List Terminal) → EndsAfter (sort_in σ h) (least_in h) ts (closing (closes h) c ∷ w)
 closer_after h σ none c w = tt
 closer_after h σ (more us q u) c w = omega (arith, closer_grip h σ c, least_pos h)
 
@@ -277,13 +277,13 @@ pub under_items : (ts : Trees) (fs : Frames) → 1 ≤ size ts → under ts fs �
 under_items none fs h = absurd (omega arith)
 under_items (more ts pre t) fs h = refl
 
-pub left_ends_sign : (σ : Sort) (m : Mark) (x : Token) (l : Tree) (v : List Lexeme) → has_level σ (level_of m) ≡ true → Fits σ l → left_of m ≤ level l → Ends σ (edge l) (sign m x ∷ v)
+pub left_ends_sign : (σ : Sort) (m : Mark) (x : Token) (l : Tree) (v : List Terminal) → has_level σ (level_of m) ≡ true → Fits σ l → left_of m ≤ level l → Ends σ (edge l) (sign m x ∷ v)
 left_ends_sign σ m x l v j f h =
-    let g : grip σ (sign m x) ≡ level_of m = ap (λ b. if b then tight else pull σ m) (joins_no_mark σ m j) ∙ ap (λ b. if b then level_of m else 0) j in
+    let g : grip σ (sign m x) ≡ level_of m = ap (λ b. if b then tight else pull σ m) (joins_no_iteration_sign σ m j) ∙ ap (λ b. if b then level_of m else 0) j in
     omega (arith, g, left_ends σ m l f h)
 
 mutual
-  pub read_tree : (t : Tree) (fs : Frames) (w : List Lexeme) → Fits (sort fs) t → least fs ≤ level t → Ends (sort fs) (edge t) w → reads (want fs) (text t ++ w) ≡ reads (settle t fs) w
+  pub read_tree : (t : Tree) (fs : Frames) (w : List Terminal) → Fits (sort fs) t → least fs ≤ level t → Ends (sort fs) (edge t) w → reads (want fs) (text t ++ w) ≡ reads (settle t fs) w
   read_tree (operand k x) fs w f h e = reads_by _ _ w (ap (λ b. if b then Some (settle (operand k x) fs) else None) f)
   read_tree (post t l) fs w f h e =
       let c = post_no_count (sort fs) t l f.0 in
@@ -312,7 +312,7 @@ mutual
       ∙ over_read t g fs w f.0 e
       ∙ sym (reads_settled (led g t) fs w (lead_no_count (sort fs) g f.0))
 
-  pub read_lead : (g : Lead) (t : Tree) (fs : Frames) (w : List Lexeme) → LeadFits (sort fs) g → least fs ≤ lead_level g → MayEnd (sort fs) g (text t)
+  pub read_lead : (g : Lead) (t : Tree) (fs : Frames) (w : List Terminal) → LeadFits (sort fs) g → least fs ≤ lead_level g → MayEnd (sort fs) g (text t)
       → ((gs : Frames) → least gs ≤ level t → sort gs ≡ sort fs → reads (want gs) (text t ++ w) ≡ reads (settle t gs) w)
       → wanted g ≤ level t
       → reads (want fs) (lead_text g ++ (text t ++ w)) ≡ reads (got t (over g fs)) w
@@ -329,7 +329,7 @@ mutual
       ∙ one_more ts t fs w here f.1 m_end k h (juxtaposes_no_count (sort fs) f.0)
       ∙ ap (λ gs. reads (got t gs) w) (under_items ts fs f.2)
 
-  pub read_run : (ts : Trees) (fs : Frames) (v : List Lexeme) → EachFits (sort fs) run tight ts → juxtaposes (sort fs) ≡ true → least fs ≤ 14 → reads (want fs) (texts ts ++ v) ≡ reads (reached ts fs) v
+  pub read_run : (ts : Trees) (fs : Frames) (v : List Terminal) → EachFits (sort fs) run tight ts → juxtaposes (sort fs) ≡ true → least fs ≤ 14 → reads (want fs) (texts ts ++ v) ≡ reads (reached ts fs) v
   read_run none fs v f j h = refl
   read_run (more ts pre t) fs v f j h =
       subst (λ q. reads (want fs) (texts (more ts q t) ++ v) ≡ reads (got t (under ts fs)) v) (sym f.1)
@@ -337,7 +337,7 @@ mutual
       ∙ read_run ts fs (text t ++ v) f.0 j h
       ∙ one_more ts t fs v (λ gs k i. read_tree t gs v (subst (λ σ. Fits σ t) (sym i) f.2) k (Ends-tight (sort gs) t v f.3)) f.0 f.4 f.3 h (juxtaposes_no_count (sort fs) j))
 
-  pub read_parts : (ts : Trees) (h : Heading) (fs : Frames) (v : List Lexeme) → EachFits (sort_in (sort fs) h) (style (sort fs) h) (least_in h) ts → EndsAfter (sort_in (sort fs) h) (least_in h) ts v
+  pub read_parts : (ts : Trees) (h : Heading) (fs : Frames) (v : List Terminal) → EachFits (sort_in (sort fs) h) (style (sort fs) h) (least_in h) ts → EndsAfter (sort_in (sort fs) h) (least_in h) ts v
       → reads (entry (style (sort fs) h) h fs) (texts ts ++ v) ≡ reads (part_state h ts fs) v
   read_parts none h fs v f e = refl
   read_parts (more ts pre t) h fs v f e =
@@ -346,7 +346,7 @@ mutual
       ∙ read_set_off h ts pre fs (text t ++ v) f.1
       ∙ read_tree t (within h ts pre fs) v f.2 f.3 (Ends-more (sort_in (sort fs) h) (least_in h) (edge t) v (omega (arith, level_edge t, f.3)) e)
 
-  pub read_heading : (h : Heading) (fs : Frames) (v : List Lexeme) → HeadingFits (sort fs) h → is_operand h ≡ true → least fs ≤ tight → starts_text v ≡ true
+  pub read_heading : (h : Heading) (fs : Frames) (v : List Terminal) → HeadingFits (sort fs) h → is_operand h ≡ true → least fs ≤ tight → starts_text v ≡ true
       → reads (want fs) (heading_text h ++ v) ≡ reads (entry (style (sort fs) h) h fs) v
   read_heading (plain k o) fs v f i h s = read_plain k o fs v f
   read_heading (length o) fs v f i h s = read_length o fs v f
@@ -363,7 +363,7 @@ mutual
       ∙ read_change p m x fs v f.1 f.2
   read_heading (below o i m x) fs v f j h s = read_below o i m x fs v f.0 f.1
 
-  pub read_path : (p : Path) (fs : Frames) (v : List Lexeme) → PathFits (sort fs) p → least fs ≤ tight → reads (want fs) (path_text p ++ v) ≡ reads (pathed p fs) v
+  pub read_path : (p : Path) (fs : Frames) (v : List Terminal) → PathFits (sort fs) p → least fs ≤ tight → reads (want fs) (path_text p ++ v) ≡ reads (pathed p fs) v
   read_path (head t o) fs v f h =
       ap (reads (want fs)) (append_assoc (text t) (opening square o ∷ []) v)
       ∙ read_tree t fs (opening square o ∷ v) f.1 (omega (arith, f.2)) (Ends-tight (sort fs) t (opening square o ∷ v) f.2)
@@ -376,7 +376,7 @@ mutual
       ∙ read_parts ts (segment p o) fs (closing by_square c ∷ v) f.1 (closer_after (segment p o) (sort fs) ts c v)
       ∙ read_close (segment p o) ts c fs v (segment_filled p o ts f.2)
 
-pub complete : (σ : Sort) (us : List Lexeme) (t : Tree) → Parse σ us t → reads (start σ) us ≡ Some t
+pub complete : (σ : Sort) (us : List Terminal) (t : Tree) → Parse σ us t → reads (start σ) us ≡ Some t
 complete σ us t p =
     ap (reads (start σ)) (p.spelled ∙ sym (append-nil (text t)))
     ∙ read_tree t (bottom σ) [] p.fits (level_pos σ t p.fits) tt

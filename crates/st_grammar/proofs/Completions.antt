@@ -13,7 +13,7 @@ use Rattle.st_grammar.specs.declared.sort.Closing.{Closing}
 use Rattle.st_grammar.specs.declared.sort.Closing.TheVariants.{ByRound as by_round, BySquare as by_square, ByBrace as by_brace, ByBar as by_bar}
 use Rattle.st_grammar.specs.declared.sort.Sort.{Sort}
 use Rattle.st_grammar.specs.declared.sort.Sort.TheVariants.{Expression as expression, Arithmetic as arithmetic, Notation as notation, Typ as typ, Count as count, Bound as bound}
-use Rattle.st_grammar.specs.Lexemes.{Lexeme, leaf, sign, opening, closing, lexeme, is_variable}
+use Rattle.st_grammar.specs.Terminals.{Terminal, leaf, sign, opening, closing, terminal, is_variable}
 use Rattle.st_grammar.specs.Levels.{takes}
 use Rattle.st_grammar.specs.Trees.{Tree, operand, times, bracket, led, Trees, none, more, Heading, plain, length, arguments, index, segment, update, below, Path, head, field, part, closes, text, texts, heading_text, path_text}
 use Rattle.st_grammar.specs.Grammar.{is_label, is_operand, has_step, PathFits, Parse, Viable}
@@ -33,7 +33,7 @@ closing_token by_square = token_of (kind.Sign mark.CloseBracket)
 closing_token by_brace = token_of (kind.Sign mark.CloseBrace)
 closing_token by_bar = token_of (kind.Sign mark.Bar)
 
-pub closing_is : (ns : List (List ℕ)) (c : Closing) → lexeme ns (closing_token c) ≡ closing c (closing_token c)
+pub closing_is : (ns : List (List ℕ)) (c : Closing) → terminal ns (closing_token c) ≡ closing c (closing_token c)
 closing_is ns by_round = refl
 closing_is ns by_square = refl
 closing_is ns by_brace = refl
@@ -50,7 +50,7 @@ filler_leaf notation = basic
 filler_leaf typ = basic
 filler_leaf σ = number
 
-pub filler_is : (ns : List (List ℕ)) (σ : Sort) → lexeme ns (filler σ) ≡ leaf (filler_leaf σ) (filler σ)
+pub filler_is : (ns : List (List ℕ)) (σ : Sort) → terminal ns (filler σ) ≡ leaf (filler_leaf σ) (filler σ)
 filler_is ns (expression b) = refl
 filler_is ns arithmetic = refl
 filler_is ns notation = refl
@@ -69,7 +69,7 @@ filler_takes bound = refl
 abbrev pub label_token : Token
 label_token = token_of (kind.Up (65 ∷ []))
 
-pub label_is : (ns : List (List ℕ)) → is_label (lexeme ns label_token) ≡ true
+pub label_is : (ns : List (List ℕ)) → is_label (terminal ns label_token) ≡ true
 label_is ns = go (is_variable ns (65 ∷ []))
   where
     go : (b : Bool) → is_label (if b then leaf variable label_token else leaf atom label_token) ≡ true
@@ -91,9 +91,9 @@ less_token = token_of (kind.Sign mark.Less)
 -- ---- completions
 
 -- what is viable with one more token is viable
-pub before_token : (ns : List (List ℕ)) (σ : Sort) (us : List Lexeme) (x : Token) (l : Lexeme) → lexeme ns x ≡ l → Viable ns σ (us ++ l ∷ []) → Viable ns σ us
+pub before_token : (ns : List (List ℕ)) (σ : Sort) (us : List Terminal) (x : Token) (l : Terminal) → terminal ns x ≡ l → Viable ns σ (us ++ l ∷ []) → Viable ns σ us
 before_token ns σ us x l e v =
-    (x ∷ v.0, v.1, record { fits = v.2.fits; spelled = ap (λ k. us ++ k ∷ map (lexeme ns) v.0) e ∙ sym (append_assoc us (l ∷ []) (map (lexeme ns) v.0)) ∙ v.2.spelled })
+    (x ∷ v.0, v.1, record { fits = v.2.fits; spelled = ap (λ k. us ++ k ∷ map (terminal ns) v.0) e ∙ sym (append_assoc us (l ∷ []) (map (terminal ns) v.0)) ∙ v.2.spelled })
 
 -- a part that is read here has a completion
 abbrev pub Completes : List (List ℕ) → Frames → Type 0
@@ -136,14 +136,14 @@ times_placed t u m x fs p = record {
 pub times_spelled : (t u : Tree) (m : Mark) (x : Token) (fs : Frames) → frames_text fs ++ text (times u m x t) ≡ frames_text (timing u m x fs) ++ text t
 times_spelled t u m x fs = simp append_assoc
 
-pub bracket_completed : (ns : List (List ℕ)) (t : Tree) (h : Heading) (ts : Trees) (pre : List Lexeme) (fs : Frames) → Completes ns fs → is_operand h ≡ true → Placed t (within h ts pre fs)
+pub bracket_completed : (ns : List (List ℕ)) (t : Tree) (h : Heading) (ts : Trees) (pre : List Terminal) (fs : Frames) → Completes ns fs → is_operand h ≡ true → Placed t (within h ts pre fs)
     → Viable ns (base fs) (frames_text (within h ts pre fs) ++ text t)
 bracket_completed ns t h ts pre fs ends i p =
     before_token ns (base fs) (frames_text (within h ts pre fs) ++ text t) (closing_token (closes h)) (closing (closes h) (closing_token (closes h))) (closing_is ns (closes h))
     (subst (Viable ns (base fs)) (bracket_spelled fs h ts pre t (closing (closes h) (closing_token (closes h))))
     (ends (bracket h (more ts pre t) (closing_token (closes h))) (bracket_placed h ts pre t (closing_token (closes h)) fs i p)))
 
-pub segment_completed : (ns : List (List ℕ)) (t : Tree) (q : Path) (o : Token) (ts : Trees) (pre : List Lexeme) (fs : Frames) → Completes ns fs → Placed t (within (segment q o) ts pre fs)
+pub segment_completed : (ns : List (List ℕ)) (t : Tree) (q : Path) (o : Token) (ts : Trees) (pre : List Terminal) (fs : Frames) → Completes ns fs → Placed t (within (segment q o) ts pre fs)
     → Viable ns (base fs) (frames_text (within (segment q o) ts pre fs) ++ text t)
 segment_completed ns t q o ts pre fs ends p =
     let c = closing_token by_square in
@@ -181,9 +181,9 @@ bound_ends ns o i fs h =
     (subst (Viable ns (base fs)) (ap (λ v. frames_text fs ++ v) (append-nil (heading_text (below o i mark.Less less_token))) ∙ sym (append_assoc (frames_text fs) (opening round o ∷ leaf low i ∷ []) (sign mark.Less less_token ∷ [])))
     (want_ends ns (within (below o i mark.Less less_token) none [] fs) (h.0, (h.1, refl), tt, refl, begin_more fs (opening round o ∷ leaf low i ∷ []) (sign mark.Less less_token ∷ []) h.2) tt))
 
-pub name_ends : (ns : List (List ℕ)) (h : Heading) (ts : Trees) (pre : List Lexeme) (fs : Frames) → Naming h ts pre fs → Viable ns (base fs) (seen (naming h ts pre fs))
+pub name_ends : (ns : List (List ℕ)) (h : Heading) (ts : Trees) (pre : List Terminal) (fs : Frames) → Naming h ts pre fs → Viable ns (base fs) (seen (naming h ts pre fs))
 name_ends ns h ts pre fs n =
-    let l = lexeme ns label_token in
+    let l = terminal ns label_token in
     let r = subst (λ b. ReachedBy (base fs) (seen (naming h ts pre fs) ++ l ∷ []) (if b then Some (want (within h ts (pre ++ l ∷ []) fs)) else None)) (label_is ns) (names h ts pre fs l n) in
     before_token ns (base fs) (seen (naming h ts pre fs)) label_token l refl
     (subst (Viable ns (base fs)) r.spelled (want_ends ns (within h ts (pre ++ l ∷ []) fs) r.holds.0 r.holds.1))
@@ -209,12 +209,12 @@ can_end ns (indexing o fs) h =
 
 -- ---- what the reading says of the grammar
 
-pub viable : (ns : List (List ℕ)) (σ : Sort) (us : List Lexeme) (st : State) → reading (start σ) us ≡ Some st → Viable ns σ us
+pub viable : (ns : List (List ℕ)) (σ : Sort) (us : List Terminal) (st : State) → reading (start σ) us ≡ Some st → Viable ns σ us
 viable ns σ us st e =
     let r = reached_by σ us st e in
     subst (λ τ. Viable ns τ us) r.based (subst (Viable ns (state_base st)) r.spelled (can_end ns st r.holds))
 
-pub reading_append : (st : State) (us vs : List Lexeme) → reading st (us ++ vs) ≡ option_and_then (λ next. reading next vs) (reading st us)
+pub reading_append : (st : State) (us vs : List Terminal) → reading st (us ++ vs) ≡ option_and_then (λ next. reading next vs) (reading st us)
 reading_append st [] vs = refl
 reading_append st (l ∷ us) vs = go (step st l) (λ next. reading_append next us vs)
   where
@@ -223,13 +223,13 @@ reading_append st (l ∷ us) vs = go (step st l) (λ next. reading_append next u
     go None h = refl
     go (Some next) h = h next
 
-pub dead : (ns : List (List ℕ)) (σ : Sort) (us : List Lexeme) → reading (start σ) us ≡ None → Viable ns σ us → ⊥
+pub dead : (ns : List (List ℕ)) (σ : Sort) (us : List Terminal) → reading (start σ) us ≡ None → Viable ns σ us → ⊥
 dead ns σ us e v =
-    let vs = map (lexeme ns) v.0 in
+    let vs = map (terminal ns) v.0 in
     let whole = complete σ (us ++ vs) v.1 v.2 in
     let split = reading_append (start σ) us vs in
     let nothing : reads (start σ) (us ++ vs) ≡ None = ap (option_and_then finish) (split ∙ ap (option_and_then (λ next. reading next vs)) e) in
     absurd (cc)
 
-pub one_tree_of : (σ : Sort) (us : List Lexeme) (a b : Tree) → Parse σ us a → Parse σ us b → a ≡ b
+pub one_tree_of : (σ : Sort) (us : List Terminal) (a b : Tree) → Parse σ us a → Parse σ us b → a ≡ b
 one_tree_of σ us a b p q = let e = complete σ us a p in let f = complete σ us b q in cc

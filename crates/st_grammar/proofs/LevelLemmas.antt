@@ -5,8 +5,8 @@ use Rattle.st_num.specs.declared.mark.Mark.TheVariants as mark
 use Rattle.st_scan.specs.declared.token.Token.{Token}
 use Rattle.st_grammar.specs.declared.sort.Sort.{Sort}
 use Rattle.st_grammar.specs.declared.sort.Sort.TheVariants.{Expression as expression, Arithmetic as arithmetic, Notation as notation, Typ as typ, Count as count, Bound as bound}
-use Rattle.st_grammar.specs.Lexemes.{sign}
-use Rattle.st_grammar.specs.Levels.{is_expression, level_of, ahead_level, has_level, Group, to_none, to_left, to_right, group_of, left_gap, right_gap, left_of, right_of, ahead_right, is_mark, is_type_mark, is_caret, is_comma, is_colon}
+use Rattle.st_grammar.specs.Terminals.{sign}
+use Rattle.st_grammar.specs.Levels.{is_expression, level_of, ahead_level, has_level, Group, to_none, to_left, to_right, group_of, left_gap, right_gap, left_of, right_of, ahead_right, is_iteration_sign, is_type_iteration_sign, is_caret, is_comma, is_colon}
 use Rattle.st_grammar.specs.Trees.{Tree}
 use Rattle.st_grammar.specs.Grammar.{may_post}
 
@@ -150,109 +150,109 @@ ahead_after m mark.TickBrace p h = absurd (omega arith)
 -- ---- marks
 
 -- the sign may be a mark there
-abbrev pub may_mark : Sort → Mark → Bool
-may_mark (expression b) m = is_mark m || is_caret m
-may_mark notation m = is_type_mark m
-may_mark typ m = is_type_mark m
-may_mark σ m = false
+abbrev pub may_iterate : Sort → Mark → Bool
+may_iterate (expression b) m = is_iteration_sign m || is_caret m
+may_iterate notation m = is_type_iteration_sign m
+may_iterate typ m = is_type_iteration_sign m
+may_iterate σ m = false
 
-pub mark_level : (m : Mark) → is_mark m || is_caret m ≡ true → nat_le 1 (level_of m) && nat_le (level_of m) 13 ≡ false
-mark_level mark.Turnstile e = absurd (cc)
-mark_level mark.ReverseTurnstile e = absurd (cc)
-mark_level mark.SquigglyArrowStar e = absurd (cc)
-mark_level mark.SquigglyArrow e = absurd (cc)
-mark_level mark.Colon e = absurd (cc)
-mark_level mark.Subtype e = absurd (cc)
-mark_level mark.Supertype e = absurd (cc)
-mark_level mark.Approximately e = absurd (cc)
-mark_level mark.Define e = absurd (cc)
-mark_level mark.Semicolon e = absurd (cc)
-mark_level mark.Arrow e = absurd (cc)
-mark_level mark.DotDot e = absurd (cc)
-mark_level mark.Ellipsis e = absurd (cc)
-mark_level mark.PlusPlus e = absurd (cc)
-mark_level mark.ExtendBy e = absurd (cc)
-mark_level mark.Equal e = absurd (cc)
-mark_level mark.NotEqual e = absurd (cc)
-mark_level mark.Less e = absurd (cc)
-mark_level mark.Greater e = absurd (cc)
-mark_level mark.LessOrEqual e = absurd (cc)
-mark_level mark.GreaterOrEqual e = absurd (cc)
-mark_level mark.ElementOf e = absurd (cc)
-mark_level mark.Tilde e = absurd (cc)
-mark_level mark.And e = absurd (cc)
-mark_level mark.Or e = absurd (cc)
-mark_level mark.Implies e = absurd (cc)
-mark_level mark.Equivalent e = absurd (cc)
-mark_level mark.Plus e = refl
-mark_level mark.Minus e = absurd (cc)
-mark_level mark.Star e = refl
-mark_level mark.Slash e = absurd (cc)
-mark_level mark.Backslash e = absurd (cc)
-mark_level mark.Caret e = refl
-mark_level mark.Question e = refl
-mark_level mark.Bar e = absurd (cc)
-mark_level mark.Comma e = absurd (cc)
-mark_level mark.DashDash e = absurd (cc)
-mark_level mark.OpenParen e = absurd (cc)
-mark_level mark.CloseParen e = absurd (cc)
-mark_level mark.OpenBracket e = absurd (cc)
-mark_level mark.CloseBracket e = absurd (cc)
-mark_level mark.OpenBrace e = absurd (cc)
-mark_level mark.CloseBrace e = absurd (cc)
-mark_level mark.OpenArith e = absurd (cc)
-mark_level mark.TickParen e = absurd (cc)
-mark_level mark.TickBracket e = absurd (cc)
-mark_level mark.TickBrace e = absurd (cc)
+pub iteration_sign_level : (m : Mark) → is_iteration_sign m || is_caret m ≡ true → nat_le 1 (level_of m) && nat_le (level_of m) 13 ≡ false
+iteration_sign_level mark.Turnstile e = absurd (cc)
+iteration_sign_level mark.ReverseTurnstile e = absurd (cc)
+iteration_sign_level mark.SquigglyArrowStar e = absurd (cc)
+iteration_sign_level mark.SquigglyArrow e = absurd (cc)
+iteration_sign_level mark.Colon e = absurd (cc)
+iteration_sign_level mark.Subtype e = absurd (cc)
+iteration_sign_level mark.Supertype e = absurd (cc)
+iteration_sign_level mark.Approximately e = absurd (cc)
+iteration_sign_level mark.Define e = absurd (cc)
+iteration_sign_level mark.Semicolon e = absurd (cc)
+iteration_sign_level mark.Arrow e = absurd (cc)
+iteration_sign_level mark.DotDot e = absurd (cc)
+iteration_sign_level mark.Ellipsis e = absurd (cc)
+iteration_sign_level mark.PlusPlus e = absurd (cc)
+iteration_sign_level mark.ExtendBy e = absurd (cc)
+iteration_sign_level mark.Equal e = absurd (cc)
+iteration_sign_level mark.NotEqual e = absurd (cc)
+iteration_sign_level mark.Less e = absurd (cc)
+iteration_sign_level mark.Greater e = absurd (cc)
+iteration_sign_level mark.LessOrEqual e = absurd (cc)
+iteration_sign_level mark.GreaterOrEqual e = absurd (cc)
+iteration_sign_level mark.ElementOf e = absurd (cc)
+iteration_sign_level mark.Tilde e = absurd (cc)
+iteration_sign_level mark.And e = absurd (cc)
+iteration_sign_level mark.Or e = absurd (cc)
+iteration_sign_level mark.Implies e = absurd (cc)
+iteration_sign_level mark.Equivalent e = absurd (cc)
+iteration_sign_level mark.Plus e = refl
+iteration_sign_level mark.Minus e = absurd (cc)
+iteration_sign_level mark.Star e = refl
+iteration_sign_level mark.Slash e = absurd (cc)
+iteration_sign_level mark.Backslash e = absurd (cc)
+iteration_sign_level mark.Caret e = refl
+iteration_sign_level mark.Question e = refl
+iteration_sign_level mark.Bar e = absurd (cc)
+iteration_sign_level mark.Comma e = absurd (cc)
+iteration_sign_level mark.DashDash e = absurd (cc)
+iteration_sign_level mark.OpenParen e = absurd (cc)
+iteration_sign_level mark.CloseParen e = absurd (cc)
+iteration_sign_level mark.OpenBracket e = absurd (cc)
+iteration_sign_level mark.CloseBracket e = absurd (cc)
+iteration_sign_level mark.OpenBrace e = absurd (cc)
+iteration_sign_level mark.CloseBrace e = absurd (cc)
+iteration_sign_level mark.OpenArith e = absurd (cc)
+iteration_sign_level mark.TickParen e = absurd (cc)
+iteration_sign_level mark.TickBracket e = absurd (cc)
+iteration_sign_level mark.TickBrace e = absurd (cc)
 
-pub type_mark_level : (m : Mark) → is_type_mark m ≡ true → nat_le 7 (level_of m) && nat_le (level_of m) 12 ≡ false
-type_mark_level mark.Turnstile e = absurd (cc)
-type_mark_level mark.ReverseTurnstile e = absurd (cc)
-type_mark_level mark.SquigglyArrowStar e = absurd (cc)
-type_mark_level mark.SquigglyArrow e = absurd (cc)
-type_mark_level mark.Colon e = absurd (cc)
-type_mark_level mark.Subtype e = absurd (cc)
-type_mark_level mark.Supertype e = absurd (cc)
-type_mark_level mark.Approximately e = absurd (cc)
-type_mark_level mark.Define e = absurd (cc)
-type_mark_level mark.Semicolon e = absurd (cc)
-type_mark_level mark.Arrow e = absurd (cc)
-type_mark_level mark.DotDot e = absurd (cc)
-type_mark_level mark.Ellipsis e = absurd (cc)
-type_mark_level mark.PlusPlus e = absurd (cc)
-type_mark_level mark.ExtendBy e = absurd (cc)
-type_mark_level mark.Equal e = absurd (cc)
-type_mark_level mark.NotEqual e = absurd (cc)
-type_mark_level mark.Less e = absurd (cc)
-type_mark_level mark.Greater e = absurd (cc)
-type_mark_level mark.LessOrEqual e = absurd (cc)
-type_mark_level mark.GreaterOrEqual e = absurd (cc)
-type_mark_level mark.ElementOf e = absurd (cc)
-type_mark_level mark.Tilde e = absurd (cc)
-type_mark_level mark.And e = absurd (cc)
-type_mark_level mark.Or e = absurd (cc)
-type_mark_level mark.Implies e = absurd (cc)
-type_mark_level mark.Equivalent e = absurd (cc)
-type_mark_level mark.Plus e = absurd (cc)
-type_mark_level mark.Minus e = absurd (cc)
-type_mark_level mark.Star e = refl
-type_mark_level mark.Slash e = absurd (cc)
-type_mark_level mark.Backslash e = absurd (cc)
-type_mark_level mark.Caret e = absurd (cc)
-type_mark_level mark.Question e = refl
-type_mark_level mark.Bar e = absurd (cc)
-type_mark_level mark.Comma e = absurd (cc)
-type_mark_level mark.DashDash e = absurd (cc)
-type_mark_level mark.OpenParen e = absurd (cc)
-type_mark_level mark.CloseParen e = absurd (cc)
-type_mark_level mark.OpenBracket e = absurd (cc)
-type_mark_level mark.CloseBracket e = absurd (cc)
-type_mark_level mark.OpenBrace e = absurd (cc)
-type_mark_level mark.CloseBrace e = absurd (cc)
-type_mark_level mark.OpenArith e = absurd (cc)
-type_mark_level mark.TickParen e = absurd (cc)
-type_mark_level mark.TickBracket e = absurd (cc)
-type_mark_level mark.TickBrace e = absurd (cc)
+pub type_iteration_sign_level : (m : Mark) → is_type_iteration_sign m ≡ true → nat_le 7 (level_of m) && nat_le (level_of m) 12 ≡ false
+type_iteration_sign_level mark.Turnstile e = absurd (cc)
+type_iteration_sign_level mark.ReverseTurnstile e = absurd (cc)
+type_iteration_sign_level mark.SquigglyArrowStar e = absurd (cc)
+type_iteration_sign_level mark.SquigglyArrow e = absurd (cc)
+type_iteration_sign_level mark.Colon e = absurd (cc)
+type_iteration_sign_level mark.Subtype e = absurd (cc)
+type_iteration_sign_level mark.Supertype e = absurd (cc)
+type_iteration_sign_level mark.Approximately e = absurd (cc)
+type_iteration_sign_level mark.Define e = absurd (cc)
+type_iteration_sign_level mark.Semicolon e = absurd (cc)
+type_iteration_sign_level mark.Arrow e = absurd (cc)
+type_iteration_sign_level mark.DotDot e = absurd (cc)
+type_iteration_sign_level mark.Ellipsis e = absurd (cc)
+type_iteration_sign_level mark.PlusPlus e = absurd (cc)
+type_iteration_sign_level mark.ExtendBy e = absurd (cc)
+type_iteration_sign_level mark.Equal e = absurd (cc)
+type_iteration_sign_level mark.NotEqual e = absurd (cc)
+type_iteration_sign_level mark.Less e = absurd (cc)
+type_iteration_sign_level mark.Greater e = absurd (cc)
+type_iteration_sign_level mark.LessOrEqual e = absurd (cc)
+type_iteration_sign_level mark.GreaterOrEqual e = absurd (cc)
+type_iteration_sign_level mark.ElementOf e = absurd (cc)
+type_iteration_sign_level mark.Tilde e = absurd (cc)
+type_iteration_sign_level mark.And e = absurd (cc)
+type_iteration_sign_level mark.Or e = absurd (cc)
+type_iteration_sign_level mark.Implies e = absurd (cc)
+type_iteration_sign_level mark.Equivalent e = absurd (cc)
+type_iteration_sign_level mark.Plus e = absurd (cc)
+type_iteration_sign_level mark.Minus e = absurd (cc)
+type_iteration_sign_level mark.Star e = refl
+type_iteration_sign_level mark.Slash e = absurd (cc)
+type_iteration_sign_level mark.Backslash e = absurd (cc)
+type_iteration_sign_level mark.Caret e = absurd (cc)
+type_iteration_sign_level mark.Question e = refl
+type_iteration_sign_level mark.Bar e = absurd (cc)
+type_iteration_sign_level mark.Comma e = absurd (cc)
+type_iteration_sign_level mark.DashDash e = absurd (cc)
+type_iteration_sign_level mark.OpenParen e = absurd (cc)
+type_iteration_sign_level mark.CloseParen e = absurd (cc)
+type_iteration_sign_level mark.OpenBracket e = absurd (cc)
+type_iteration_sign_level mark.CloseBracket e = absurd (cc)
+type_iteration_sign_level mark.OpenBrace e = absurd (cc)
+type_iteration_sign_level mark.CloseBrace e = absurd (cc)
+type_iteration_sign_level mark.OpenArith e = absurd (cc)
+type_iteration_sign_level mark.TickParen e = absurd (cc)
+type_iteration_sign_level mark.TickBracket e = absurd (cc)
+type_iteration_sign_level mark.TickBrace e = absurd (cc)
 
 pub comma_is : (m : Mark) → is_comma m ≡ true → m ≡ mark.Comma
 comma_is mark.Turnstile e = absurd (cc)
@@ -401,21 +401,21 @@ caret_is mark.TickParen e = absurd (cc)
 caret_is mark.TickBracket e = absurd (cc)
 caret_is mark.TickBrace e = absurd (cc)
 
-pub joins_no_mark : (σ : Sort) (m : Mark) → has_level σ (level_of m) ≡ true → may_mark σ m ≡ false
-joins_no_mark (expression b) m h = go (is_mark m || is_caret m) refl
+pub joins_no_iteration_sign : (σ : Sort) (m : Mark) → has_level σ (level_of m) ≡ true → may_iterate σ m ≡ false
+joins_no_iteration_sign (expression b) m h = go (is_iteration_sign m || is_caret m) refl
   where
-    go : (c : Bool) → is_mark m || is_caret m ≡ c → c ≡ false
-    go true e = let never = mark_level m e in absurd (cc)
+    go : (c : Bool) → is_iteration_sign m || is_caret m ≡ c → c ≡ false
+    go true e = let never = iteration_sign_level m e in absurd (cc)
     go false e = refl
-joins_no_mark notation m h = go (is_type_mark m) refl
+joins_no_iteration_sign notation m h = go (is_type_iteration_sign m) refl
   where
-    go : (c : Bool) → is_type_mark m ≡ c → c ≡ false
-    go true e = let never = type_mark_level m e in absurd (cc)
+    go : (c : Bool) → is_type_iteration_sign m ≡ c → c ≡ false
+    go true e = let never = type_iteration_sign_level m e in absurd (cc)
     go false e = refl
-joins_no_mark arithmetic m h = refl
-joins_no_mark typ m h = absurd (cc)
-joins_no_mark count m h = refl
-joins_no_mark bound m h = refl
+joins_no_iteration_sign arithmetic m h = refl
+joins_no_iteration_sign typ m h = absurd (cc)
+joins_no_iteration_sign count m h = refl
+joins_no_iteration_sign bound m h = refl
 
 pub left_false : (b c : Bool) → b || c ≡ false → b ≡ false
 left_false true c e = absurd (cc)
@@ -429,16 +429,16 @@ pub and_false : (b c : Bool) → b ≡ false → b && c ≡ false
 and_false true c e = absurd (cc)
 and_false false c e = refl
 
-pub no_post : (σ : Sort) (t : Tree) (m : Mark) (x : Token) → may_mark σ m ≡ false → may_post σ t (sign m x) ≡ false
-no_post (expression b) t m x e = left_false (is_mark m) (is_caret m) e
+pub no_post : (σ : Sort) (t : Tree) (m : Mark) (x : Token) → may_iterate σ m ≡ false → may_post σ t (sign m x) ≡ false
+no_post (expression b) t m x e = left_false (is_iteration_sign m) (is_caret m) e
 no_post arithmetic t m x e = refl
-no_post notation t m x e = and_false (is_type_mark m) _ e
+no_post notation t m x e = and_false (is_type_iteration_sign m) _ e
 no_post typ t m x e = e
 no_post count t m x e = refl
 no_post bound t m x e = refl
 
-pub no_caret : (σ : Sort) (m : Mark) → may_mark σ m ≡ false → is_expression σ && is_caret m ≡ false
-no_caret (expression b) m e = right_false (is_mark m) (is_caret m) e
+pub no_caret : (σ : Sort) (m : Mark) → may_iterate σ m ≡ false → is_expression σ && is_caret m ≡ false
+no_caret (expression b) m e = right_false (is_iteration_sign m) (is_caret m) e
 no_caret arithmetic m e = refl
 no_caret notation m e = refl
 no_caret typ m e = refl

@@ -11,7 +11,7 @@ use Rattle.st_grammar.specs.declared.sort.Closing.{Closing}
 use Rattle.st_grammar.specs.declared.sort.Closing.TheVariants.{ByRound as by_round, BySquare as by_square, ByBrace as by_brace, ByBar as by_bar}
 use Rattle.st_grammar.specs.declared.sort.Sort.{Sort}
 use Rattle.st_grammar.specs.declared.sort.Sort.TheVariants.{Expression as expression, Arithmetic as arithmetic, Notation as notation, Typ as typ, Count as count, Bound as bound}
-use Rattle.st_grammar.specs.Lexemes.{Lexeme, leaf, dot, sign, opening, closing, other}
+use Rattle.st_grammar.specs.Terminals.{Terminal, leaf, dot, sign, opening, closing, other}
 use Rattle.st_grammar.specs.Levels.{takes, encloses, computes, is_expression, is_count, level_of, ahead_level, tight, has_level, left_of, is_caret, is_comma, is_colon}
 use Rattle.st_grammar.specs.Trees.{Tree, operand, post, bracket, led, Lead, left, ahead, items, Trees, none, more, Heading, plain, length, arguments, index, segment, update, below, Path, part, closes, text, lead_text, texts, heading_text, path_text, agree}
 use Rattle.st_grammar.specs.Grammar.{bracket_style, index_style, style, sort_in, least_in, SetsOff, text_follows, FollowsAll, may_post, lead_level, level, is_operand, MayEnd, MayFollow, Fits, LeadFits, EachFits, HeadingFits, PathFits}
@@ -22,13 +22,13 @@ use Rattle.st_grammar.proofs.Complete.{lead_low, least_tight, no_run}
 -- ---- what was read, and what is in order
 
 -- the tokens that led to the frames, and to a state
-abbrev pub frames_text : Frames → List Lexeme
+abbrev pub frames_text : Frames → List Terminal
 frames_text (bottom σ) = []
 frames_text (within h ts pre fs) = frames_text fs ++ (heading_text h ++ (texts ts ++ pre))
 frames_text (over g fs) = frames_text fs ++ lead_text g
 frames_text (timing t m x fs) = frames_text fs ++ (text t ++ sign m x ∷ [])
 
-abbrev pub seen : State → List Lexeme
+abbrev pub seen : State → List Terminal
 seen (want fs) = frames_text fs
 seen (got t fs) = frames_text fs ++ text t
 seen (naming h ts pre fs) = frames_text fs ++ (heading_text h ++ (texts ts ++ pre))
@@ -52,7 +52,7 @@ state_base (indexing o fs) = base fs
 state_base (comparing o i fs) = base fs
 
 -- The tokens may begin a part there.
-abbrev pub MayBegin : Frames → List Lexeme → Type 0
+abbrev pub MayBegin : Frames → List Terminal → Type 0
 MayBegin (over (items ts) fs) w = FollowsAll (sort fs) ts w
 MayBegin fs w = Unit {0}
 
@@ -74,11 +74,11 @@ pub record Placed (t : Tree) (fs : Frames) : Type 0 where
   pub begins : MayBegin fs (text t)
 
 -- what stands before the name of a field
-abbrev pub IsBeforeName : Trees → List Lexeme → Type 0
+abbrev pub IsBeforeName : Trees → List Terminal → Type 0
 IsBeforeName none pre = pre ≡ []
 IsBeforeName (more ts q t) pre = (m : Mark) × (x : Token) × (pre ≡ sign m x ∷ []) × (is_comma m ≡ true)
 
-pub record Naming (h : Heading) (ts : Trees) (pre : List Lexeme) (fs : Frames) : Type 0 where
+pub record Naming (h : Heading) (ts : Trees) (pre : List Terminal) (fs : Frames) : Type 0 where
   pub frames : Stand fs
   pub heading : HeadingFits (sort fs) h
   pub each : EachFits (sort_in (sort fs) h) (style (sort fs) h) (least_in h) ts
@@ -100,12 +100,12 @@ Holds (indexing o fs) = Stand fs × (is_count (sort fs) ≡ true) × MayBegin fs
 Holds (comparing o i fs) = Stand fs × (is_count (sort fs) ≡ true) × MayBegin fs (opening round o ∷ leaf low i ∷ [])
 
 -- a state in order, reached by these tokens
-pub record Reached (σ : Sort) (us : List Lexeme) (st : State) : Type 0 where
+pub record Reached (σ : Sort) (us : List Terminal) (st : State) : Type 0 where
   pub holds : Holds st
   pub spelled : seen st ≡ us
   pub based : state_base st ≡ σ
 
-abbrev pub ReachedBy : Sort → List Lexeme → Option State → Type 0
+abbrev pub ReachedBy : Sort → List Terminal → Option State → Type 0
 ReachedBy σ us None = Unit {0}
 ReachedBy σ us (Some st) = Reached σ us st
 
@@ -119,11 +119,11 @@ least_low (over (ahead m x) fs) = omega (arith, ahead_low m)
 least_low (over (items ts) fs) = omega arith
 least_low (timing t m x fs) = omega arith
 
-pub text_follows_more : (σ : Sort) (u : Tree) (us vs : List Lexeme) → text_follows σ u us ≡ true → text_follows σ u (us ++ vs) ≡ true
+pub text_follows_more : (σ : Sort) (u : Tree) (us vs : List Terminal) → text_follows σ u us ≡ true → text_follows σ u (us ++ vs) ≡ true
 text_follows_more σ u [] vs e = absurd (cc)
 text_follows_more σ u (l ∷ us) vs e = e
 
-pub begin_more : (fs : Frames) (us vs : List Lexeme) → MayBegin fs us → MayBegin fs (us ++ vs)
+pub begin_more : (fs : Frames) (us vs : List Terminal) → MayBegin fs us → MayBegin fs (us ++ vs)
 begin_more (bottom σ) us vs e = tt
 begin_more (within h ts pre fs) us vs e = tt
 begin_more (over (left l m x) fs) us vs e = tt
@@ -132,7 +132,7 @@ begin_more (over (items none) fs) us vs e = tt
 begin_more (over (items (more ts pre u)) fs) us vs e = text_follows_more (sort fs) u us vs e
 begin_more (timing t m x fs) us vs e = tt
 
-pub wide_begins : (fs : Frames) (us : List Lexeme) → least fs ≤ 18 → MayBegin fs us
+pub wide_begins : (fs : Frames) (us : List Terminal) → least fs ≤ 18 → MayBegin fs us
 wide_begins (bottom σ) us h = tt
 wide_begins (within k ts pre fs) us h = tt
 wide_begins (over (left l m x) fs) us h = tt
@@ -140,7 +140,7 @@ wide_begins (over (ahead m x) fs) us h = tt
 wide_begins (over (items ts) fs) us h = absurd (omega arith)
 wide_begins (timing t m x fs) us h = tt
 
-pub may_follow : (h : Heading) (σ τ : Sort) (ts : Trees) (w : List Lexeme) → MayFollow τ (style σ h) ts w
+pub may_follow : (h : Heading) (σ τ : Sort) (ts : Trees) (w : List Terminal) → MayFollow τ (style σ h) ts w
 may_follow h σ τ ts w = go (style σ h) refl
   where
     go : (y : Style) → style σ h ≡ y → MayFollow τ y ts w
@@ -151,11 +151,11 @@ may_follow h σ τ ts w = go (style σ h) refl
     go run e = absurd (no_run h σ e)
 
 -- a next part of a bracket
-pub one_part : (h : Heading) (ts : Trees) (pre : List Lexeme) (t : Tree) (fs : Frames) → Placed t (within h ts pre fs)
+pub one_part : (h : Heading) (ts : Trees) (pre : List Terminal) (t : Tree) (fs : Frames) → Placed t (within h ts pre fs)
     → EachFits (sort_in (sort fs) h) (style (sort fs) h) (least_in h) (more ts pre t)
 one_part h ts pre t fs p = (p.frames.2, p.frames.3, p.fits, p.level, may_follow h (sort fs) (sort_in (sort fs) h) ts (text t))
 
-pub may_end : (g : Lead) (fs : Frames) (w : List Lexeme) → MayBegin (over g fs) w → MayEnd (sort fs) g w
+pub may_end : (g : Lead) (fs : Frames) (w : List Terminal) → MayBegin (over g fs) w → MayEnd (sort fs) g w
 may_end (left l m x) fs w e = tt
 may_end (ahead m x) fs w e = tt
 may_end (items ts) fs w e = e
@@ -173,13 +173,13 @@ pub lead_spelled : (t : Tree) (g : Lead) (fs : Frames) → frames_text fs ++ tex
 lead_spelled t g fs = sym (append_assoc (frames_text fs) (lead_text g) (text t))
 
 -- a part with what is open round it, after some closed
-pub record Lowered (σ τ : Sort) (us : List Lexeme) (p : Tree × Frames) : Type 0 where
+pub record Lowered (σ τ : Sort) (us : List Terminal) (p : Tree × Frames) : Type 0 where
   pub placed : Placed p.0 p.1
   pub spelled : frames_text p.1 ++ text p.0 ≡ us
   pub based : base p.1 ≡ σ
   pub sorted : sort p.1 ≡ τ
 
-pub lowers : (n : ℕ) (t : Tree) (fs : Frames) (us : List Lexeme) → Placed t fs → frames_text fs ++ text t ≡ us → Lowered (base fs) (sort fs) us (lower n t fs)
+pub lowers : (n : ℕ) (t : Tree) (fs : Frames) (us : List Terminal) → Placed t fs → frames_text fs ++ text t ≡ us → Lowered (base fs) (sort fs) us (lower n t fs)
 lowers n t (bottom σ) us p e = record { placed = p; spelled = e; based = refl; sorted = refl }
 lowers n t (within h ts pre fs) us p e = record { placed = p; spelled = e; based = refl; sorted = refl }
 lowers n t (timing u m x fs) us p e = record { placed = p; spelled = e; based = refl; sorted = refl }
@@ -190,7 +190,7 @@ lowers n t (over g fs) us p e = go (nat_le (reach g) n) (lowers n (led g t) fs u
     go false r = r
 
 -- a part that is read settles
-pub settles : (t : Tree) (fs : Frames) (us : List Lexeme) → Placed t fs → tight ≤ level t → frames_text fs ++ text t ≡ us → Reached (base fs) us (settle t fs)
+pub settles : (t : Tree) (fs : Frames) (us : List Terminal) → Placed t fs → tight ≤ level t → frames_text fs ++ text t ≡ us → Reached (base fs) us (settle t fs)
 settles t (bottom σ) us p h e = record { holds = (p, h); spelled = e; based = refl }
 settles t (within k ts pre fs) us p h e = record { holds = (p, h); spelled = e; based = refl }
 settles t (over g fs) us p h e = record { holds = (p, h); spelled = e; based = refl }
@@ -212,15 +212,15 @@ settles t (timing u m x fs) us p h e = record {
 
 -- ---- brackets
 
-pub bracket_spelled : (fs : Frames) (h : Heading) (ts : Trees) (pre : List Lexeme) (t : Tree) (c : Lexeme)
+pub bracket_spelled : (fs : Frames) (h : Heading) (ts : Trees) (pre : List Terminal) (t : Tree) (c : Terminal)
     → frames_text fs ++ (heading_text h ++ ((texts ts ++ (pre ++ text t)) ++ c ∷ [])) ≡ (frames_text (within h ts pre fs) ++ text t) ++ c ∷ []
 bracket_spelled fs h ts pre t c = simp append_assoc
 
-pub segment_spelled : (fs : Frames) (p : Path) (o : Token) (ts : Trees) (pre : List Lexeme) (t : Tree) (c : Token)
+pub segment_spelled : (fs : Frames) (p : Path) (o : Token) (ts : Trees) (pre : List Terminal) (t : Tree) (c : Token)
     → frames_text fs ++ path_text (part p o (more ts pre t) c) ≡ (frames_text (within (segment p o) ts pre fs) ++ text t) ++ closing by_square c ∷ []
 segment_spelled fs p o ts pre t c = simp append_assoc
 
-pub bracket_placed : (h : Heading) (ts : Trees) (pre : List Lexeme) (t : Tree) (c : Token) (fs : Frames) → is_operand h ≡ true → Placed t (within h ts pre fs)
+pub bracket_placed : (h : Heading) (ts : Trees) (pre : List Terminal) (t : Tree) (c : Token) (fs : Frames) → is_operand h ≡ true → Placed t (within h ts pre fs)
     → Placed (bracket h (more ts pre t) c) fs
 bracket_placed h ts pre t c fs i p = record {
   frames = p.frames.0;
@@ -229,7 +229,7 @@ bracket_placed h ts pre t c fs i p = record {
   begins = begin_more fs (heading_text h) (texts (more ts pre t) ++ closing (closes h) c ∷ []) p.frames.4;
 }
 
-pub shuts : (h : Heading) (ts : Trees) (pre : List Lexeme) (t : Tree) (x : Token) (fs : Frames) (us : List Lexeme) → Placed t (within h ts pre fs)
+pub shuts : (h : Heading) (ts : Trees) (pre : List Terminal) (t : Tree) (x : Token) (fs : Frames) (us : List Terminal) → Placed t (within h ts pre fs)
     → frames_text (within h ts pre fs) ++ text t ≡ us → Reached (base fs) (us ++ closing (closes h) x ∷ []) (shut h (more ts pre t) x fs)
 shuts h ts pre t x fs us p e = go h p e
   where
@@ -269,7 +269,7 @@ agree_same by_bar by_square e = absurd (cc)
 agree_same by_bar by_brace e = absurd (cc)
 agree_same by_bar by_bar e = refl
 
-pub closes_lowered : (c : Closing) (x : Token) (t : Tree) (fs : Frames) (σ τ : Sort) (us : List Lexeme) → Lowered σ τ us (t, fs) → ReachedBy σ (us ++ closing c x ∷ []) (close c x (t, fs))
+pub closes_lowered : (c : Closing) (x : Token) (t : Tree) (fs : Frames) (σ τ : Sort) (us : List Terminal) → Lowered σ τ us (t, fs) → ReachedBy σ (us ++ closing c x ∷ []) (close c x (t, fs))
 closes_lowered c x t (bottom ρ) σ τ us r = tt
 closes_lowered c x t (over g fs) σ τ us r = tt
 closes_lowered c x t (timing u m y fs) σ τ us r = tt
@@ -288,11 +288,11 @@ closings c x n t fs p = closes_lowered c x (lower n t fs).0 (lower n t fs).1 (ba
 
 -- ---- signs
 
-pub next_spelled : (fs : Frames) (h : Heading) (ts : Trees) (pre : List Lexeme) (t : Tree) (l : Lexeme)
+pub next_spelled : (fs : Frames) (h : Heading) (ts : Trees) (pre : List Terminal) (t : Tree) (l : Terminal)
     → frames_text fs ++ (heading_text h ++ ((texts ts ++ (pre ++ text t)) ++ l ∷ [])) ≡ (frames_text (within h ts pre fs) ++ text t) ++ l ∷ []
 next_spelled fs h ts pre t l = bracket_spelled fs h ts pre t l
 
-pub separates : (m : Mark) (x : Token) (t : Tree) (h : Heading) (ts : Trees) (pre : List Lexeme) (fs : Frames) (us : List Lexeme) → Placed t (within h ts pre fs)
+pub separates : (m : Mark) (x : Token) (t : Tree) (h : Heading) (ts : Trees) (pre : List Terminal) (fs : Frames) (us : List Terminal) → Placed t (within h ts pre fs)
     → frames_text (within h ts pre fs) ++ text t ≡ us → ReachedBy (base fs) (us ++ sign m x ∷ []) (next_part (style (sort fs) h) m x h ts (more ts pre t) fs)
 separates m x t h ts pre fs us p e = go (style (sort fs) h) refl
   where
@@ -332,7 +332,7 @@ separates m x t h ts pre fs us p e = go (style (sort fs) h) refl
         colon (more ws q u) w = tt
     go run s = tt
 
-pub separates_lowered : (m : Mark) (x : Token) (t : Tree) (fs : Frames) (σ τ : Sort) (us : List Lexeme) → Lowered σ τ us (t, fs) → ReachedBy σ (us ++ sign m x ∷ []) (separate m x (t, fs))
+pub separates_lowered : (m : Mark) (x : Token) (t : Tree) (fs : Frames) (σ τ : Sort) (us : List Terminal) → Lowered σ τ us (t, fs) → ReachedBy σ (us ++ sign m x ∷ []) (separate m x (t, fs))
 separates_lowered m x t (bottom ρ) σ τ us r = tt
 separates_lowered m x t (over g fs) σ τ us r = tt
 separates_lowered m x t (timing u k y fs) σ τ us r = tt
@@ -350,7 +350,7 @@ and_right false c e = absurd (cc)
 pub is_above : (a b : ℕ) → nat_le a b ≡ true → a ≤ b
 is_above a b e = grind arith
 
-pub joins_lowered : (m : Mark) (x : Token) (t : Tree) (fs : Frames) (σ τ : Sort) (us : List Lexeme) → Lowered σ τ us (t, fs) → ReachedBy σ (us ++ sign m x ∷ []) (join m x (t, fs))
+pub joins_lowered : (m : Mark) (x : Token) (t : Tree) (fs : Frames) (σ τ : Sort) (us : List Terminal) → Lowered σ τ us (t, fs) → ReachedBy σ (us ++ sign m x ∷ []) (join m x (t, fs))
 joins_lowered m x t fs σ τ us r = go (has_level (sort fs) (level_of m) && nat_le (least fs) (level_of m)) refl
   where
     inner : has_level (sort fs) (level_of m) && nat_le (least fs) (level_of m) ≡ true → (b : Bool) → nat_le (left_of m) (level t) ≡ b → ReachedBy σ (us ++ sign m x ∷ []) (if b then Some (want (over (left t m x) fs)) else None)
@@ -366,7 +366,7 @@ joins_lowered m x t fs σ τ us r = go (has_level (sort fs) (level_of m) && nat_
     go true e = inner e (nat_le (left_of m) (level t)) refl
     go false e = separates_lowered m x t fs σ τ us r
 
-pub posts : (t : Tree) (l : Lexeme) (fs : Frames) → Placed t fs → tight ≤ level t → may_post (sort fs) t l ≡ true → Reached (base fs) ((frames_text fs ++ text t) ++ l ∷ []) (got (post t l) fs)
+pub posts : (t : Tree) (l : Terminal) (fs : Frames) → Placed t fs → tight ≤ level t → may_post (sort fs) t l ≡ true → Reached (base fs) ((frames_text fs ++ text t) ++ l ∷ []) (got (post t l) fs)
 posts t l fs p h e = record {
   holds = (record { frames = p.frames; fits = (e, p.fits, h); level = least_low fs; begins = begin_more fs (text t) (l ∷ []) p.begins }, omega arith);
   spelled = sym (append_assoc (frames_text fs) (text t) (l ∷ []));
@@ -392,7 +392,7 @@ signs t m x fs p h = go (may_post (sort fs) t (sign m x)) refl
 -- ---- what begins
 
 -- an entry of a bracket whose parts have no names
-pub enters : (h : Heading) (fs : Frames) (us : List Lexeme) → Stand fs → HeadingFits (sort fs) h → SetsOff (style (sort fs) h) none [] → MayBegin fs (heading_text h)
+pub enters : (h : Heading) (fs : Frames) (us : List Terminal) → Stand fs → HeadingFits (sort fs) h → SetsOff (style (sort fs) h) none [] → MayBegin fs (heading_text h)
     → frames_text fs ++ heading_text h ≡ us → Reached (base fs) us (want (within h none [] fs))
 enters h fs us s f o b e = record {
   holds = ((s, f, tt, o, b), tt);
@@ -492,7 +492,7 @@ begin_closes by_round x fs s b = empties x fs s
 begin_closes by_square x fs s b = tt
 begin_closes by_brace x fs s b = tt
 
-pub begins : (fs : Frames) (l : Lexeme) → Stand fs → MayBegin fs (l ∷ []) → ReachedBy (base fs) (frames_text fs ++ l ∷ []) (begin fs l)
+pub begins : (fs : Frames) (l : Terminal) → Stand fs → MayBegin fs (l ∷ []) → ReachedBy (base fs) (frames_text fs ++ l ∷ []) (begin fs l)
 begins fs (leaf k x) s b = go (takes (sort fs) k) refl
   where
     go : (c : Bool) → takes (sort fs) k ≡ c → ReachedBy (base fs) (frames_text fs ++ leaf k x ∷ []) (if c then Some (settle (operand k x) fs) else None)

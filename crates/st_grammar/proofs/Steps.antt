@@ -9,7 +9,7 @@ use Rattle.st_grammar.specs.declared.sort.Bracket.TheVariants.{Round as round, S
 use Rattle.st_grammar.specs.declared.sort.Closing.TheVariants.{ByRound as by_round, BySquare as by_square, ByBrace as by_brace, ByBar as by_bar}
 use Rattle.st_grammar.specs.declared.sort.Sort.{Sort}
 use Rattle.st_grammar.specs.declared.sort.Sort.TheVariants.{Expression as expression, Arithmetic as arithmetic, Notation as notation, Typ as typ, Count as count, Bound as bound}
-use Rattle.st_grammar.specs.Lexemes.{Lexeme, leaf, dot, sign, opening, closing, other}
+use Rattle.st_grammar.specs.Terminals.{Terminal, leaf, dot, sign, opening, closing, other}
 use Rattle.st_grammar.specs.Levels.{computes, is_expression, juxtaposes, level_of, ahead_level, tight, has_level, ahead_right, is_less, is_change, group_of}
 use Rattle.st_grammar.specs.Trees.{Tree, operand, post, times, bracket, led, left, ahead, items, Trees, none, more, Heading, plain, length, arguments, index, segment, update, below, Path, head, field, part, text, texts, heading_text, path_text}
 use Rattle.st_grammar.specs.Grammar.{opens_length, is_label, SetsOff, is_function, follows, may_post, level, has_step, Fits, Parse}
@@ -19,7 +19,7 @@ use Rattle.st_grammar.proofs.Sound.{frames_text, seen, base, state_base, MayBegi
 
 -- ---- a next element
 
-pub follows_juxtaposes : (σ : Sort) (t : Tree) (l : Lexeme) → follows σ t l ≡ true → juxtaposes σ ≡ true
+pub follows_juxtaposes : (σ : Sort) (t : Tree) (l : Terminal) → follows σ t l ≡ true → juxtaposes σ ≡ true
 follows_juxtaposes σ t (leaf k x) e = e
 follows_juxtaposes σ t (dot x) e = absurd (cc)
 follows_juxtaposes σ t (sign m x) e = absurd (cc)
@@ -97,7 +97,7 @@ extend_base t (over (ahead m x) fs) = refl
 extend_base t (over (items ts) fs) = refl
 extend_base t (timing u m x fs) = refl
 
-pub extend_begins : (t : Tree) (fs : Frames) (l : Lexeme) → follows (sort fs) t l ≡ true → MayBegin (extend t fs) (l ∷ [])
+pub extend_begins : (t : Tree) (fs : Frames) (l : Terminal) → follows (sort fs) t l ≡ true → MayBegin (extend t fs) (l ∷ [])
 extend_begins t (bottom σ) l e = e
 extend_begins t (within k ts pre fs) l e = e
 extend_begins t (over (left k m x) fs) l e = e
@@ -105,7 +105,7 @@ extend_begins t (over (ahead m x) fs) l e = e
 extend_begins t (over (items ts) fs) l e = e
 extend_begins t (timing u m x fs) l e = e
 
-pub next_begins : (t : Tree) (fs : Frames) (l : Lexeme) → Placed t fs → tight ≤ level t → follows (sort fs) t l ≡ true → ReachedBy (base fs) ((frames_text fs ++ text t) ++ l ∷ []) (begin (extend t fs) l)
+pub next_begins : (t : Tree) (fs : Frames) (l : Terminal) → Placed t fs → tight ≤ level t → follows (sort fs) t l ≡ true → ReachedBy (base fs) ((frames_text fs ++ text t) ++ l ∷ []) (begin (extend t fs) l)
 next_begins t fs l p h e =
     subst (λ σ. ReachedBy σ ((frames_text fs ++ text t) ++ l ∷ []) (begin (extend t fs) l)) (extend_base t fs)
     (subst (λ us. ReachedBy (base (extend t fs)) (us ++ l ∷ []) (begin (extend t fs) l)) (extend_spelled t fs)
@@ -149,7 +149,7 @@ calls (times t m y c) x fs p = tt
 calls (bracket h ts c) x fs p = tt
 calls (led g t) x fs p = tt
 
-pub behinds : (t : Tree) (fs : Frames) (l : Lexeme) → Placed t fs → tight ≤ level t → ReachedBy (base fs) ((frames_text fs ++ text t) ++ l ∷ []) (behind t fs l)
+pub behinds : (t : Tree) (fs : Frames) (l : Terminal) → Placed t fs → tight ≤ level t → ReachedBy (base fs) ((frames_text fs ++ text t) ++ l ∷ []) (behind t fs l)
 behinds t fs (leaf k x) p h = tt
 behinds t fs (dot x) p h = go (may_post (sort fs) t (dot x)) refl
   where
@@ -167,7 +167,7 @@ behinds t fs (opening dollar x) p h = tt
 behinds t fs (closing c x) p h = closings c x 0 t fs p
 behinds t fs (other x) p h = tt
 
-pub afters : (t : Tree) (fs : Frames) (l : Lexeme) → Placed t fs → tight ≤ level t → ReachedBy (base fs) ((frames_text fs ++ text t) ++ l ∷ []) (after t fs l)
+pub afters : (t : Tree) (fs : Frames) (l : Terminal) → Placed t fs → tight ≤ level t → ReachedBy (base fs) ((frames_text fs ++ text t) ++ l ∷ []) (after t fs l)
 afters t fs l p h = go (follows (sort fs) t l) refl
   where
     go : (b : Bool) → follows (sort fs) t l ≡ b → ReachedBy (base fs) ((frames_text fs ++ text t) ++ l ∷ []) (if b then begin (extend t fs) l else behind t fs l)
@@ -184,14 +184,14 @@ expression_computes typ e = absurd (cc)
 expression_computes count e = absurd (cc)
 expression_computes bound e = absurd (cc)
 
-pub in_index_begins : (p : Path) (fs : Frames) (l : Lexeme) → Holds (pathed p fs) → ReachedBy (base fs) ((frames_text fs ++ path_text p) ++ l ∷ []) (in_index p fs l)
+pub in_index_begins : (p : Path) (fs : Frames) (l : Terminal) → Holds (pathed p fs) → ReachedBy (base fs) ((frames_text fs ++ path_text p) ++ l ∷ []) (in_index p fs l)
 in_index_begins (field p x) fs l h = tt
 in_index_begins (part p o ts c) fs l h = tt
 in_index_begins (head t o) fs l h =
     subst (λ us. ReachedBy (base fs) (us ++ l ∷ []) (begin (within (index t o) none [] fs) l)) (ap (λ v. frames_text fs ++ v) (append-nil (heading_text (index t o))))
     (begins (within (index t o) none [] fs) l (h.0, (expression_computes (sort fs) h.1.0, h.1.1, h.1.2), tt, index_first (sort fs), h.2) tt)
 
-pub paths : (p : Path) (fs : Frames) (l : Lexeme) → Holds (pathed p fs) → ReachedBy (base fs) ((frames_text fs ++ path_text p) ++ l ∷ []) (in_path p fs l)
+pub paths : (p : Path) (fs : Frames) (l : Terminal) → Holds (pathed p fs) → ReachedBy (base fs) ((frames_text fs ++ path_text p) ++ l ∷ []) (in_path p fs l)
 paths p fs (dot x) h = record {
   holds = (h.0, h.1, begin_more fs (path_text p) (dot x ∷ []) h.2);
   spelled = sym (append_assoc (frames_text fs) (path_text p) (dot x ∷ []));
@@ -218,11 +218,11 @@ paths p fs (closing c x) h = in_index_begins p fs (closing c x) h
 paths p fs (other x) h = in_index_begins p fs (other x) h
 
 -- a name sets off a field
-pub sets_off_field : (ts : Trees) (pre : List Lexeme) (l : Lexeme) → IsBeforeName ts pre → is_label l ≡ true → SetsOff fields ts (pre ++ l ∷ [])
+pub sets_off_field : (ts : Trees) (pre : List Terminal) (l : Terminal) → IsBeforeName ts pre → is_label l ≡ true → SetsOff fields ts (pre ++ l ∷ [])
 sets_off_field none pre l b e = (l, ap (λ q. q ++ l ∷ []) b, e)
 sets_off_field (more ts q t) pre l b e = (b.0, b.1, l, ap (λ r. r ++ l ∷ []) b.2, b.3, e)
 
-pub names : (h : Heading) (ts : Trees) (pre : List Lexeme) (fs : Frames) (l : Lexeme) → Naming h ts pre fs → ReachedBy (base fs) (seen (naming h ts pre fs) ++ l ∷ []) (name_field h ts pre fs l)
+pub names : (h : Heading) (ts : Trees) (pre : List Terminal) (fs : Frames) (l : Terminal) → Naming h ts pre fs → ReachedBy (base fs) (seen (naming h ts pre fs) ++ l ∷ []) (name_field h ts pre fs l)
 names h ts pre fs l n = go (is_label l) refl
   where
     go : (b : Bool) → is_label l ≡ b → ReachedBy (base fs) (seen (naming h ts pre fs) ++ l ∷ []) (if b then Some (want (within h ts (pre ++ l ∷ []) fs)) else None)
@@ -233,7 +233,7 @@ names h ts pre fs l n = go (is_label l) refl
     }
     go false e = tt
 
-pub indexes : (o : Token) (fs : Frames) (l : Lexeme) → Holds (indexing o fs) → ReachedBy (base fs) (seen (indexing o fs) ++ l ∷ []) (name_index o fs l)
+pub indexes : (o : Token) (fs : Frames) (l : Terminal) → Holds (indexing o fs) → ReachedBy (base fs) (seen (indexing o fs) ++ l ∷ []) (name_index o fs l)
 indexes o fs (leaf low i) h = record {
   holds = (h.0, h.1, begin_more fs (opening round o ∷ []) (leaf low i ∷ []) h.2);
   spelled = sym (append_assoc (frames_text fs) (opening round o ∷ []) (leaf low i ∷ []));
@@ -251,7 +251,7 @@ indexes o fs (opening k x) h = tt
 indexes o fs (closing c x) h = tt
 indexes o fs (other x) h = tt
 
-pub compares : (o i : Token) (fs : Frames) (l : Lexeme) → Holds (comparing o i fs) → ReachedBy (base fs) (seen (comparing o i fs) ++ l ∷ []) (bound_index o i fs l)
+pub compares : (o i : Token) (fs : Frames) (l : Terminal) → Holds (comparing o i fs) → ReachedBy (base fs) (seen (comparing o i fs) ++ l ∷ []) (bound_index o i fs l)
 compares o i fs (sign m x) h = go (is_less m) refl
   where
     go : (b : Bool) → is_less m ≡ b → ReachedBy (base fs) (seen (comparing o i fs) ++ sign m x ∷ []) (if b then Some (want (within (below o i m x) none [] fs)) else None)
@@ -267,7 +267,7 @@ compares o i fs (other x) h = tt
 
 -- ---- steps
 
-pub no_sequence_begins : (fs : Frames) (us : List Lexeme) → IsNoSequence fs → MayBegin fs us
+pub no_sequence_begins : (fs : Frames) (us : List Terminal) → IsNoSequence fs → MayBegin fs us
 no_sequence_begins (bottom σ) us n = tt
 no_sequence_begins (within k ts pre fs) us n = tt
 no_sequence_begins (over (left t m x) fs) us n = tt
@@ -275,7 +275,7 @@ no_sequence_begins (over (ahead m x) fs) us n = tt
 no_sequence_begins (over (items ts) fs) us n = absurd n
 no_sequence_begins (timing t m x fs) us n = tt
 
-pub steps : (st : State) (l : Lexeme) → Holds st → ReachedBy (state_base st) (seen st ++ l ∷ []) (step st l)
+pub steps : (st : State) (l : Terminal) → Holds st → ReachedBy (state_base st) (seen st ++ l ∷ []) (step st l)
 steps (want fs) l h = begins fs l h.0 (no_sequence_begins fs (l ∷ []) h.1)
 steps (got t fs) l h = afters t fs l h.0 h.1
 steps (naming h ts pre fs) l n = names h ts pre fs l n
@@ -283,7 +283,7 @@ steps (pathed p fs) l h = paths p fs l h
 steps (indexing o fs) l h = indexes o fs l h
 steps (comparing o i fs) l h = compares o i fs l h
 
-pub read_on : (σ : Sort) (w : List Lexeme) (st : State) (us : List Lexeme) → Reached σ us st → ReachedBy σ (us ++ w) (reading st w)
+pub read_on : (σ : Sort) (w : List Terminal) (st : State) (us : List Terminal) → Reached σ us st → ReachedBy σ (us ++ w) (reading st w)
 read_on σ [] st us r = record { holds = r.holds; spelled = r.spelled ∙ sym (append-nil us); based = r.based }
 read_on σ (l ∷ w) st us r =
     go (step st l) (subst (λ τ. ReachedBy τ (us ++ l ∷ []) (step st l)) r.based (subst (λ u. ReachedBy (state_base st) (u ++ l ∷ []) (step st l)) r.spelled (steps st l r.holds))) (λ next h. read_on σ w next (us ++ l ∷ []) h)
@@ -295,12 +295,12 @@ read_on σ (l ∷ w) st us r =
 pub start_reached : (σ : Sort) → Reached σ [] (start σ)
 start_reached σ = record { holds = (tt, tt); spelled = refl; based = refl }
 
-pub reached_by : (σ : Sort) (us : List Lexeme) (st : State) → reading (start σ) us ≡ Some st → Reached σ us st
+pub reached_by : (σ : Sort) (us : List Terminal) (st : State) → reading (start σ) us ≡ Some st → Reached σ us st
 reached_by σ us st e = subst (ReachedBy σ us) e (read_on σ us (start σ) [] (start_reached σ))
 
 -- ---- the end
 
-pub ends_lowered : (t : Tree) (fs : Frames) (σ τ : Sort) (us : List Lexeme) (u : Tree) → Lowered σ τ us (t, fs) → ended (t, fs) ≡ Some u → Parse σ us u
+pub ends_lowered : (t : Tree) (fs : Frames) (σ τ : Sort) (us : List Terminal) (u : Tree) → Lowered σ τ us (t, fs) → ended (t, fs) ≡ Some u → Parse σ us u
 ends_lowered t (bottom ρ) σ τ us u r e =
     let same : t ≡ u = cc in
     let based : ρ ≡ σ = r.based in
@@ -309,7 +309,7 @@ ends_lowered t (within h ts pre fs) σ τ us u r e = absurd (cc)
 ends_lowered t (over g fs) σ τ us u r e = absurd (cc)
 ends_lowered t (timing v m x fs) σ τ us u r e = absurd (cc)
 
-pub finishes : (σ : Sort) (us : List Lexeme) (st : State) (u : Tree) → Reached σ us st → finish st ≡ Some u → Parse σ us u
+pub finishes : (σ : Sort) (us : List Terminal) (st : State) (u : Tree) → Reached σ us st → finish st ≡ Some u → Parse σ us u
 finishes σ us (want fs) u r e = absurd (cc)
 finishes σ us (naming h ts pre fs) u r e = absurd (cc)
 finishes σ us (pathed p fs) u r e = absurd (cc)
@@ -319,5 +319,5 @@ finishes σ us (got t fs) u r e =
     subst (λ τ. Parse τ us u) r.based
     (ends_lowered (lower 0 t fs).0 (lower 0 t fs).1 (base fs) (sort fs) us u (lowers 0 t fs us r.holds.0 r.spelled) e)
 
-pub sound : (σ : Sort) (us : List Lexeme) (st : State) (u : Tree) → reading (start σ) us ≡ Some st → finish st ≡ Some u → Parse σ us u
+pub sound : (σ : Sort) (us : List Terminal) (st : State) (u : Tree) → reading (start σ) us ≡ Some st → finish st ≡ Some u → Parse σ us u
 sound σ us st u e f = finishes σ us st u (reached_by σ us st e) f

@@ -16,8 +16,8 @@ use Rattle.st_grammar.specs.declared.sort.Bracket.TheVariants.{Round as round, B
 use Rattle.st_grammar.specs.declared.sort.Closing.TheVariants.{ByRound as by_round, ByBrace as by_brace, ByBar as by_bar}
 use Rattle.st_grammar.specs.declared.sort.Sort.{Sort}
 use Rattle.st_grammar.specs.declared.sort.Sort.TheVariants.{Expression as expression, Notation as notation, Typ as typ, Count as count}
-use Rattle.st_grammar.specs.Lexemes.{Lexeme, leaf, dot, sign, opening, closing, other, lexeme}
-use Rattle.st_grammar.specs.Levels.{is_mark, is_caret, is_comma, is_colon}
+use Rattle.st_grammar.specs.Terminals.{Terminal, leaf, dot, sign, opening, closing, other, terminal}
+use Rattle.st_grammar.specs.Levels.{is_iteration_sign, is_caret, is_comma, is_colon}
 use Rattle.st_grammar.specs.Trees.{Tree, Trees, closed_by, agree, text, texts}
 use Rattle.st_grammar.specs.Grammar.{is_label, Fits, EachFits}
 
@@ -38,12 +38,12 @@ abbrev pub mark_keyword : Mark → Keyword
 mark_keyword mark.DashDash = dashes
 mark_keyword m = no_word
 
-abbrev pub keyword : Lexeme → Keyword
+abbrev pub keyword : Terminal → Keyword
 keyword (other x) = kind_keyword x.kind
 keyword (sign m x) = mark_keyword m
 keyword l = no_word
 
-abbrev pub token_in : Lexeme → Token
+abbrev pub token_in : Terminal → Token
 token_in (leaf k x) = x
 token_in (dot x) = x
 token_in (sign m x) = x
@@ -51,11 +51,11 @@ token_in (opening k x) = x
 token_in (closing c x) = x
 token_in (other x) = x
 
-abbrev pub touches : Lexeme → Bool
+abbrev pub touches : Terminal → Bool
 touches l = (token_in l).touching
 
 -- a sign of this kind
-abbrev pub signed : (Mark → Bool) → Lexeme → Bool
+abbrev pub signed : (Mark → Bool) → Terminal → Bool
 signed p (sign m x) = p m
 signed p l = false
 
@@ -75,31 +75,31 @@ abbrev pub is_dots : Mark → Bool
 is_dots mark.Ellipsis = true
 is_dots m = false
 
-abbrev pub is_bar : Lexeme → Bool
+abbrev pub is_bar : Terminal → Bool
 is_bar (closing by_bar x) = true
 is_bar l = false
 
-abbrev pub opens_round : Lexeme → Bool
+abbrev pub opens_round : Terminal → Bool
 opens_round (opening round x) = true
 opens_round l = false
 
-abbrev pub closes_round : Lexeme → Bool
+abbrev pub closes_round : Terminal → Bool
 closes_round (closing by_round x) = true
 closes_round l = false
 
-abbrev pub opens_brace : Lexeme → Bool
+abbrev pub opens_brace : Terminal → Bool
 opens_brace (opening brace x) = true
 opens_brace l = false
 
-abbrev pub closes_brace : Lexeme → Bool
+abbrev pub closes_brace : Terminal → Bool
 closes_brace (closing by_brace x) = true
 closes_brace l = false
 
-abbrev pub is_low : Lexeme → Bool
+abbrev pub is_low : Terminal → Bool
 is_low (leaf low x) = true
 is_low l = false
 
-abbrev pub is_fun : Lexeme → Bool
+abbrev pub is_fun : Terminal → Bool
 is_fun (leaf function x) = true
 is_fun l = false
 
@@ -108,11 +108,11 @@ is_mix_kind (kind.Mix name) = true
 is_mix_kind k = false
 
 -- the name of a relation
-abbrev pub names_relation : Lexeme → Bool
+abbrev pub names_relation : Terminal → Bool
 names_relation (other x) = is_mix_kind x.kind
 names_relation l = is_label l
 
-abbrev pub is_name : Lexeme → Bool
+abbrev pub is_name : Terminal → Bool
 is_name l = is_low l || names_relation l
 
 abbrev pub is_piece_kind : TokenKind → Bool
@@ -124,7 +124,7 @@ is_piece_kind (kind.Number n) = true
 is_piece_kind k = false
 
 -- a name, a reserved word or a number
-abbrev pub is_piece : Lexeme → Bool
+abbrev pub is_piece : Terminal → Bool
 is_piece (leaf k x) = is_piece_kind x.kind
 is_piece (other x) = is_piece_kind x.kind
 is_piece l = false
@@ -134,7 +134,7 @@ is_dot_kind (kind.Dot name) = true
 is_dot_kind k = false
 
 -- a dot with a name
-abbrev pub is_dot : Lexeme → Bool
+abbrev pub is_dot : Terminal → Bool
 is_dot (dot x) = true
 is_dot (other x) = is_dot_kind x.kind
 is_dot l = false
@@ -142,31 +142,31 @@ is_dot l = false
 -- ---- names of rules and fragments
 
 -- what such tokens make of a state, one after another
-abbrev pub scan : {S : Type 0} → (S → Lexeme → Option S) → S → List Lexeme → Option S
+abbrev pub scan : {S : Type 0} → (S → Terminal → Option S) → S → List Terminal → Option S
 scan one s [] = Some s
 scan one s (l ∷ ls) = option_and_then (λ r. scan one r ls) (one s l)
 
 -- Whether a piece is due: a piece stands at the front and behind each `-`, a dot behind a piece,
 -- and all touch.
-abbrev pub id_step : Bool → Lexeme → Option Bool
+abbrev pub id_step : Bool → Terminal → Option Bool
 id_step true l = if touches l && is_piece l then Some false else None
 id_step false l =
     if touches l && signed is_minus l then Some true
     else if touches l && is_dot l then Some false
     else None
 
-abbrev pub IsId : List Lexeme → Type 0
+abbrev pub IsId : List Terminal → Type 0
 IsId ls = scan id_step true ls ≡ Some false
 
 -- no name, or `/` and one
-abbrev pub FragmentFits : List Lexeme → Type 0
+abbrev pub FragmentFits : List Terminal → Type 0
 FragmentFits [] = Unit {0}
 FragmentFits (s ∷ ls) = (signed is_slash s ≡ true) × IsId ls
 
 -- ---- hints
 
 -- what is still to be closed, the innermost first
-abbrev pub balance_step : List Bracket → Lexeme → Option (List Bracket)
+abbrev pub balance_step : List Bracket → Terminal → Option (List Bracket)
 balance_step ks (opening k x) = Some (k ∷ ks)
 balance_step ks (closing by_bar x) = Some ks
 balance_step [] (closing c x) = None
@@ -175,9 +175,9 @@ balance_step ks l = Some ks
 
 pub data Hint : Type 0 where
   -- `hint`, `(`, a name, some tokens and `)`
-  hint : Lexeme → Lexeme → Lexeme → List Lexeme → Lexeme → Hint
+  hint : Terminal → Terminal → Terminal → List Terminal → Terminal → Hint
 
-abbrev pub hint_text : Hint → List Lexeme
+abbrev pub hint_text : Hint → List Terminal
 hint_text (hint w o n ws c) = w ∷ o ∷ n ∷ (ws ++ c ∷ [])
 
 abbrev pub HintFits : Hint → Type 0
@@ -189,7 +189,7 @@ pub data Hints : Type 0 where
   no_hints : Hints
   more_hints : Hints → Hint → Hints
 
-abbrev pub hints_text : Hints → List Lexeme
+abbrev pub hints_text : Hints → List Terminal
 hints_text no_hints = []
 hints_text (more_hints hs h) = hints_text hs ++ hint_text h
 
@@ -202,20 +202,20 @@ HintsFit (more_hints hs h) = HintsFit hs × HintFits h
 -- alternatives or fields: what stands before each, its tree and its hints
 pub data Members : Type 0 where
   no_members : Members
-  member : Members → List Lexeme → Tree → Hints → Members
+  member : Members → List Terminal → Tree → Hints → Members
 
-abbrev pub members_text : Members → List Lexeme
+abbrev pub members_text : Members → List Terminal
 members_text no_members = []
 members_text (member ms pre t hs) = members_text ms ++ (pre ++ (text t ++ hints_text hs))
 
 -- a name, behind a comma from the second field on
-abbrev pub SetsOffField : Members → List Lexeme → Type 0
+abbrev pub SetsOffField : Members → List Terminal → Type 0
 SetsOffField no_members (n ∷ []) = is_label n ≡ true
 SetsOffField (member ms q t hs) (k ∷ n ∷ []) = (signed is_comma k ≡ true) × (is_label n ≡ true)
 SetsOffField ms pre = ⊥
 
 -- a bar, and before the first alternative nothing, a bar, or dots and a bar
-abbrev pub SetsOffCase : Members → List Lexeme → Type 0
+abbrev pub SetsOffCase : Members → List Terminal → Type 0
 SetsOffCase no_members [] = Unit {0}
 SetsOffCase ms (b ∷ []) = is_bar b ≡ true
 SetsOffCase no_members (d ∷ b ∷ []) = (signed is_dots d ≡ true) × (is_bar b ≡ true)
@@ -234,16 +234,16 @@ has_member no_members = false
 has_member (member ms pre t hs) = true
 
 -- nothing, or a bar and dots
-abbrev pub EndsCases : List Lexeme → Type 0
+abbrev pub EndsCases : List Terminal → Type 0
 EndsCases [] = Unit {0}
 EndsCases (b ∷ d ∷ []) = (is_bar b ≡ true) × (signed is_dots d ≡ true)
 EndsCases ls = ⊥
 
 pub data Body : Type 0 where
-  fields : Lexeme → Members → Lexeme → Body
-  cases : Members → List Lexeme → Body
+  fields : Terminal → Members → Terminal → Body
+  cases : Members → List Terminal → Body
 
-abbrev pub body_text : Body → List Lexeme
+abbrev pub body_text : Body → List Terminal
 body_text (fields o ms c) = o ∷ (members_text ms ++ c ∷ [])
 body_text (cases ms ls) = members_text ms ++ ls
 
@@ -256,12 +256,12 @@ BodyFits (cases ms ls) = CasesFit ms × (has_member ms ≡ true) × EndsCases ls
 -- behind a condition each `)` with its marks
 pub data Iterations : Type 0 where
   no_iterations : Iterations
-  closed : Iterations → Lexeme → Iterations
-  marked : Iterations → Lexeme → Iterations
+  closed : Iterations → Terminal → Iterations
+  marked : Iterations → Terminal → Iterations
   -- `^` and a count
-  counted : Iterations → Lexeme → Tree → Iterations
+  counted : Iterations → Terminal → Tree → Iterations
 
-abbrev pub iterations_text : Iterations → List Lexeme
+abbrev pub iterations_text : Iterations → List Terminal
 iterations_text no_iterations = []
 iterations_text (closed i l) = iterations_text i ++ l ∷ []
 iterations_text (marked i l) = iterations_text i ++ l ∷ []
@@ -278,47 +278,47 @@ has_closed no_iterations = false
 has_closed i = true
 
 -- It ends with a `)`, which wants a mark.
-abbrev pub wants_mark : Iterations → Bool
-wants_mark (closed i l) = true
-wants_mark i = false
+abbrev pub wants_iteration : Iterations → Bool
+wants_iteration (closed i l) = true
+wants_iteration i = false
 
 abbrev pub IterationsFit : Iterations → Type 0
 IterationsFit no_iterations = Unit {0}
-IterationsFit (closed i l) = IterationsFit i × (wants_mark i ≡ false) × (closes_round l ≡ true)
-IterationsFit (marked i l) = IterationsFit i × (has_closed i ≡ true) × (signed is_mark l ≡ true)
+IterationsFit (closed i l) = IterationsFit i × (wants_iteration i ≡ false) × (closes_round l ≡ true)
+IterationsFit (marked i l) = IterationsFit i × (has_closed i ≡ true) × (signed is_iteration_sign l ≡ true)
 IterationsFit (counted i l t) =
     IterationsFit i × (has_closed i ≡ true) × (signed is_caret l ≡ true) × Fits count t
 
 -- `if`, or the name of a relation and `:`
-abbrev pub CondFits : List Lexeme → Type 0
+abbrev pub CondFits : List Terminal → Type 0
 CondFits (l ∷ []) = keyword l ≡ if_word
 CondFits (r ∷ c ∷ []) = (names_relation r ≡ true) × (signed is_colon c ≡ true)
 CondFits ls = ⊥
 
 pub data Premise : Type 0 where
   -- `--` and `otherwise`
-  default : Lexeme → Lexeme → Premise
+  default : Terminal → Terminal → Premise
   -- `--`, each `(`, what begins a condition, its expression, and the iterations
-  given : Lexeme → List Lexeme → List Lexeme → Tree → Iterations → Premise
+  given : Terminal → List Terminal → List Terminal → Tree → Iterations → Premise
 
-abbrev pub premise_text : Premise → List Lexeme
+abbrev pub premise_text : Premise → List Terminal
 premise_text (default d o) = d ∷ o ∷ []
 premise_text (given d os ls t i) = d ∷ (os ++ (ls ++ (text t ++ iterations_text i)))
 
-abbrev pub OpensRound : Lexeme → Type 0
+abbrev pub OpensRound : Terminal → Type 0
 OpensRound l = opens_round l ≡ true
 
 abbrev pub PremiseFits : Premise → Type 0
 PremiseFits (default d o) = (keyword d ≡ dashes) × (keyword o ≡ otherwise_word)
 PremiseFits (given d os ls t i) =
     (keyword d ≡ dashes) × AllByRecursion OpensRound os × CondFits ls × Fits (expression false) t
-    × IterationsFit i × (closings i ≡ length os) × (wants_mark i ≡ false)
+    × IterationsFit i × (closings i ≡ length os) × (wants_iteration i ≡ false)
 
 pub data Premises : Type 0 where
   no_premises : Premises
   more_premises : Premises → Premise → Premises
 
-abbrev pub premises_text : Premises → List Lexeme
+abbrev pub premises_text : Premises → List Terminal
 premises_text no_premises = []
 premises_text (more_premises ps p) = premises_text ps ++ premise_text p
 
@@ -331,9 +331,9 @@ PremisesFit (more_premises ps p) = PremisesFit ps × PremiseFits p
 -- what stands behind the name of a function
 pub data Args : Type 0 where
   no_args : Args
-  args : Lexeme → Trees → Lexeme → Args
+  args : Terminal → Trees → Terminal → Args
 
-abbrev pub args_text : Args → List Lexeme
+abbrev pub args_text : Args → List Terminal
 args_text no_args = []
 args_text (args o ts c) = o ∷ (texts ts ++ c ∷ [])
 
@@ -343,14 +343,14 @@ ArgsFit σ (args o ts c) =
     (opens_round o ≡ true) × (touches o ≡ true) × EachFits σ parts 1 ts × (closes_round c ≡ true)
 
 pub data Def : Type 0 where
-  syntax_def : Lexeme → Lexeme → List Lexeme → Hints → Lexeme → Body → Def
-  var_def : Lexeme → Lexeme → Lexeme → Tree → Hints → Def
-  relation_def : Lexeme → Lexeme → Hints → Lexeme → Tree → Hints → Def
-  rule_def : Lexeme → Lexeme → List Lexeme → Lexeme → Tree → Premises → Def
-  fun_def : Lexeme → Lexeme → Args → Lexeme → Tree → Hints → Def
-  clause_def : Lexeme → Lexeme → Args → Lexeme → Tree → Premises → Def
+  syntax_def : Terminal → Terminal → List Terminal → Hints → Terminal → Body → Def
+  var_def : Terminal → Terminal → Terminal → Tree → Hints → Def
+  relation_def : Terminal → Terminal → Hints → Terminal → Tree → Hints → Def
+  rule_def : Terminal → Terminal → List Terminal → Terminal → Tree → Premises → Def
+  fun_def : Terminal → Terminal → Args → Terminal → Tree → Hints → Def
+  clause_def : Terminal → Terminal → Args → Terminal → Tree → Premises → Def
 
-abbrev pub def_text : Def → List Lexeme
+abbrev pub def_text : Def → List Terminal
 def_text (syntax_def w x ls hs e b) = w ∷ x ∷ (ls ++ (hints_text hs ++ (e ∷ body_text b)))
 def_text (var_def w x c t hs) = w ∷ x ∷ c ∷ (text t ++ hints_text hs)
 def_text (relation_def w r hs c t ks) = w ∷ r ∷ (hints_text hs ++ (c ∷ (text t ++ hints_text ks)))
@@ -383,7 +383,7 @@ pub data Defs : Type 0 where
   no_defs : Defs
   more_defs : Defs → Def → Defs
 
-abbrev pub defs_text : Defs → List Lexeme
+abbrev pub defs_text : Defs → List Terminal
 defs_text no_defs = []
 defs_text (more_defs ds d) = defs_text ds ++ def_text d
 
@@ -392,11 +392,11 @@ DefsFit no_defs = Unit {0}
 DefsFit (more_defs ds d) = DefsFit ds × DefFits d
 
 -- the tokens are those of these definitions
-pub record ParseDefs (us : List Lexeme) (ds : Defs) : Type 0 where
+pub record ParseDefs (us : List Terminal) (ds : Defs) : Type 0 where
   pub fits : DefsFit ds
   pub spelled : us ≡ defs_text ds
 
 -- some tokens behind these make definitions
-abbrev pub ViableDefs : List (List ℕ) → List Lexeme → Type 0
+abbrev pub ViableDefs : List (List ℕ) → List Terminal → Type 0
 ViableDefs names us =
-    (rest : List Token) × (ds : Defs) × ParseDefs (us ++ map (lexeme names) rest) ds
+    (rest : List Token) × (ds : Defs) × ParseDefs (us ++ map (terminal names) rest) ds

@@ -11,8 +11,8 @@ use Rattle.st_grammar.specs.declared.sort.Closing.{Closing}
 use Rattle.st_grammar.specs.declared.sort.Closing.TheVariants.{ByBar as by_bar}
 use Rattle.st_grammar.specs.declared.sort.Sort.{Sort}
 use Rattle.st_grammar.specs.declared.sort.Sort.TheVariants.{Expression as expression, Arithmetic as arithmetic, Notation as notation, Typ as typ, Count as count, Bound as bound}
-use Rattle.st_grammar.specs.Lexemes.{Lexeme, leaf, dot, sign, opening, closing, lexeme}
-use Rattle.st_grammar.specs.Levels.{takes, encloses, inside, computes, is_expression, is_count, juxtaposes, level_of, ahead_level, sequence_level, tight, has_level, left_of, right_of, ahead_right, is_mark, is_type_mark, is_caret, is_comma, is_colon, is_less, is_change}
+use Rattle.st_grammar.specs.Terminals.{Terminal, leaf, dot, sign, opening, closing, terminal}
+use Rattle.st_grammar.specs.Levels.{takes, encloses, inside, computes, is_expression, is_count, juxtaposes, level_of, ahead_level, sequence_level, tight, has_level, left_of, right_of, ahead_right, is_iteration_sign, is_type_iteration_sign, is_caret, is_comma, is_colon, is_less, is_change}
 use Rattle.st_grammar.specs.Trees.{Tree, operand, post, times, bracket, led, Lead, left, ahead, items, Trees, none, more, Heading, plain, length, arguments, index, segment, update, below, Path, head, field, part, text}
 
 -- ---- lists of parts
@@ -54,21 +54,21 @@ least_in (segment p o) = 13
 least_in h = 1
 
 -- the name of a field
-abbrev pub is_label : Lexeme → Bool
+abbrev pub is_label : Terminal → Bool
 is_label (leaf atom x) = true
 is_label (leaf variable x) = true
 is_label l = false
 
 -- These tokens set off a next part from those before it.
-abbrev pub SetsOff : Style → Trees → List Lexeme → Type 0
+abbrev pub SetsOff : Style → Trees → List Terminal → Type 0
 SetsOff lone none pre = pre ≡ []
 SetsOff lone (more ts q t) pre = ⊥
 SetsOff parts none pre = pre ≡ []
 SetsOff parts (more ts q t) pre =
     (m : Mark) × (x : Token) × (pre ≡ sign m x ∷ []) × (is_comma m ≡ true)
-SetsOff fields none pre = (l : Lexeme) × (pre ≡ l ∷ []) × (is_label l ≡ true)
+SetsOff fields none pre = (l : Terminal) × (pre ≡ l ∷ []) × (is_label l ≡ true)
 SetsOff fields (more ts q t) pre =
-    (m : Mark) × (x : Token) × (l : Lexeme) × (pre ≡ sign m x ∷ l ∷ []) × (is_comma m ≡ true)
+    (m : Mark) × (x : Token) × (l : Terminal) × (pre ≡ sign m x ∷ l ∷ []) × (is_comma m ≡ true)
     × (is_label l ≡ true)
 SetsOff ends none pre = pre ≡ []
 SetsOff ends (more none q t) pre =
@@ -99,7 +99,7 @@ opens_length c σ = false
 
 -- The token begins a next element of a sequence behind this one. Directly in bars a bar closes,
 -- and a parenthesis that touches a function begins its arguments.
-abbrev pub follows : Sort → Tree → Lexeme → Bool
+abbrev pub follows : Sort → Tree → Terminal → Bool
 follows σ u (leaf k x) = juxtaposes σ
 follows σ u (opening square x) = false
 follows σ u (opening round x) = juxtaposes σ && not (is_function u && x.touching)
@@ -107,12 +107,12 @@ follows σ u (opening k x) = juxtaposes σ
 follows σ u (closing c x) = opens_length c σ
 follows σ u l = false
 
-abbrev pub text_follows : Sort → Tree → List Lexeme → Bool
+abbrev pub text_follows : Sort → Tree → List Terminal → Bool
 text_follows σ u [] = false
 text_follows σ u (l ∷ w) = follows σ u l
 
 -- the tokens may stand behind the elements
-abbrev pub FollowsAll : Sort → Trees → List Lexeme → Type 0
+abbrev pub FollowsAll : Sort → Trees → List Terminal → Type 0
 FollowsAll σ none w = Unit {0}
 FollowsAll σ (more ts pre u) w = text_follows σ u w ≡ true
 
@@ -132,13 +132,13 @@ is_atom (post t (dot x)) = is_atom t
 is_atom t = false
 
 -- the marks and dots behind a tree
-abbrev pub may_post : Sort → Tree → Lexeme → Bool
+abbrev pub may_post : Sort → Tree → Terminal → Bool
 may_post (expression b) t (dot x) = true
-may_post (expression b) t (sign m x) = is_mark m
+may_post (expression b) t (sign m x) = is_iteration_sign m
 may_post arithmetic t (dot x) = true
 may_post notation t (dot x) = is_atom t && x.touching
-may_post notation t (sign m x) = is_type_mark m && is_type t
-may_post typ t (sign m x) = is_type_mark m
+may_post notation t (sign m x) = is_type_iteration_sign m && is_type t
+may_post typ t (sign m x) = is_type_iteration_sign m
 may_post σ t l = false
 
 -- ---- trees
@@ -170,12 +170,12 @@ has_step (head t o) = false
 has_step p = true
 
 -- the tokens may stand behind what leads to them
-abbrev pub MayEnd : Sort → Lead → List Lexeme → Type 0
+abbrev pub MayEnd : Sort → Lead → List Terminal → Type 0
 MayEnd σ (items ts) w = FollowsAll σ ts w
 MayEnd σ g w = Unit {0}
 
 -- In a sequence the tokens may stand behind the elements before.
-abbrev pub MayFollow : Sort → Style → Trees → List Lexeme → Type 0
+abbrev pub MayFollow : Sort → Style → Trees → List Terminal → Type 0
 MayFollow σ run ts w = FollowsAll σ ts w
 MayFollow σ y ts w = Unit {0}
 
@@ -217,10 +217,10 @@ abbrev mutual
   PathFits σ (part p o ts c) = PathFits σ p × EachFits (expression false) ends 13 ts × (1 ≤ size ts)
 
 -- the tokens are those of this tree
-pub record Parse (σ : Sort) (us : List Lexeme) (t : Tree) : Type 0 where
+pub record Parse (σ : Sort) (us : List Terminal) (t : Tree) : Type 0 where
   pub fits : Fits σ t
   pub spelled : us ≡ text t
 
 -- some tokens behind these make a tree
-abbrev pub Viable : List (List ℕ) → Sort → List Lexeme → Type 0
-Viable names σ us = (rest : List Token) × (t : Tree) × Parse σ (us ++ map (lexeme names) rest) t
+abbrev pub Viable : List (List ℕ) → Sort → List Terminal → Type 0
+Viable names σ us = (rest : List Token) × (t : Tree) × Parse σ (us ++ map (terminal names) rest) t

@@ -170,17 +170,17 @@ ahead_right m = ahead_level m
 -- ---- signs of one place
 
 -- the marks behind an expression
-abbrev pub is_mark : Mark → Bool
-is_mark mark.Star = true
-is_mark mark.Plus = true
-is_mark mark.Question = true
-is_mark m = false
+abbrev pub is_iteration_sign : Mark → Bool
+is_iteration_sign mark.Star = true
+is_iteration_sign mark.Plus = true
+is_iteration_sign mark.Question = true
+is_iteration_sign m = false
 
 -- the marks behind a type
-abbrev pub is_type_mark : Mark → Bool
-is_type_mark mark.Star = true
-is_type_mark mark.Question = true
-is_type_mark m = false
+abbrev pub is_type_iteration_sign : Mark → Bool
+is_type_iteration_sign mark.Star = true
+is_type_iteration_sign mark.Question = true
+is_type_iteration_sign m = false
 
 abbrev pub is_caret : Mark → Bool
 is_caret mark.Caret = true

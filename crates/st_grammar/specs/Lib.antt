@@ -1,7 +1,7 @@
-pub mod Lexemes
+pub mod Terminals
 pub mod Levels
 pub mod Trees
 pub mod Grammar
 pub mod Reading
 pub mod Definitions
-pub mod Places
+pub mod Positions

@@ -12,7 +12,7 @@ use Rattle.st_grammar.specs.declared.sort.Closing.{Closing}
 use Rattle.st_grammar.specs.declared.sort.Closing.TheVariants.{ByRound as by_round, ByBar as by_bar}
 use Rattle.st_grammar.specs.declared.sort.Sort.{Sort}
 use Rattle.st_grammar.specs.declared.sort.Sort.TheVariants.{Count as count}
-use Rattle.st_grammar.specs.Lexemes.{Lexeme, leaf, dot, sign, opening, closing, other}
+use Rattle.st_grammar.specs.Terminals.{Terminal, leaf, dot, sign, opening, closing, other}
 use Rattle.st_grammar.specs.Levels.{takes, encloses, computes, is_expression, is_count, level_of, ahead_level, has_level, left_of, right_of, ahead_right, is_caret, is_comma, is_colon, is_less, is_change}
 use Rattle.st_grammar.specs.Trees.{Tree, operand, post, times, bracket, led, Lead, left, ahead, items, Trees, none, more, Heading, plain, length, arguments, index, segment, update, below, Path, head, field, part, closes, agree}
 use Rattle.st_grammar.specs.Grammar.{style, sort_in, least_in, is_label, follows, may_post, level, wanted, has_step}
@@ -22,7 +22,7 @@ pub data Frames : Type 0 where
   -- a place of this sort, with nothing open
   bottom : Sort → Frames
   -- a bracket, the parts before the one that is read now, and what sets that one off
-  within : Heading → Trees → List Lexeme → Frames → Frames
+  within : Heading → Trees → List Terminal → Frames → Frames
   -- what leads to a last part
   over : Lead → Frames → Frames
   -- a tree and `^`
@@ -34,7 +34,7 @@ pub data State : Type 0 where
   -- this part is read, which binds tightest
   got : Tree → Frames → State
   -- the name of a field is due
-  naming : Heading → Trees → List Lexeme → Frames → State
+  naming : Heading → Trees → List Terminal → Frames → State
   -- a path is read, or only the `[` before one
   pathed : Path → Frames → State
   -- behind `^ (` a name is due
@@ -116,7 +116,7 @@ begin_opening round x fs = begin_round x fs
 begin_opening k x fs = if encloses (sort fs) k then Some (opened k x fs) else None
 
 -- what an operand that begins with this token makes
-abbrev pub begin : Frames → Lexeme → Option State
+abbrev pub begin : Frames → Terminal → Option State
 begin fs (leaf k x) = if takes (sort fs) k then Some (settle (operand k x) fs) else None
 begin fs (dot x) = None
 begin fs (sign m x) =
@@ -181,7 +181,7 @@ behind_opening square x t fs = behind_square x t fs
 behind_opening round x t fs = behind_round x t fs
 behind_opening k x t fs = None
 
-abbrev pub behind : Tree → Frames → Lexeme → Option State
+abbrev pub behind : Tree → Frames → Terminal → Option State
 behind t fs (leaf k x) = None
 behind t fs (dot x) = if may_post (sort fs) t (dot x) then Some (got (post t (dot x)) fs) else None
 behind t fs (sign m x) = behind_sign m x t fs
@@ -189,17 +189,17 @@ behind t fs (opening k x) = behind_opening k x t fs
 behind t fs (closing c x) = close c x (lower 0 t fs)
 behind t fs (other x) = None
 
-abbrev pub after : Tree → Frames → Lexeme → Option State
+abbrev pub after : Tree → Frames → Terminal → Option State
 after t fs l = if follows (sort fs) t l then begin (extend t fs) l else behind t fs l
 
 -- ---- paths and counts
 
 -- behind `[` an expression
-abbrev pub in_index : Path → Frames → Lexeme → Option State
+abbrev pub in_index : Path → Frames → Terminal → Option State
 in_index (head t o) fs l = begin (within (index t o) none [] fs) l
 in_index p fs l = None
 
-abbrev pub in_path : Path → Frames → Lexeme → Option State
+abbrev pub in_path : Path → Frames → Terminal → Option State
 in_path p fs (dot x) = Some (pathed (field p x) fs)
 in_path p fs (opening square x) = Some (want (within (segment p x) none [] fs))
 in_path p fs (sign m x) =
@@ -207,21 +207,21 @@ in_path p fs (sign m x) =
     else in_index p fs (sign m x)
 in_path p fs l = in_index p fs l
 
-abbrev pub name_field : Heading → Trees → List Lexeme → Frames → Lexeme → Option State
+abbrev pub name_field : Heading → Trees → List Terminal → Frames → Terminal → Option State
 name_field h ts pre fs l = if is_label l then Some (want (within h ts (pre ++ l ∷ []) fs)) else None
 
-abbrev pub name_index : Token → Frames → Lexeme → Option State
+abbrev pub name_index : Token → Frames → Terminal → Option State
 name_index o fs (leaf low i) = Some (comparing o i fs)
 name_index o fs l = None
 
-abbrev pub bound_index : Token → Token → Frames → Lexeme → Option State
+abbrev pub bound_index : Token → Token → Frames → Terminal → Option State
 bound_index o i fs (sign m x) =
     if is_less m then Some (want (within (below o i m x) none [] fs)) else None
 bound_index o i fs l = None
 
 -- ---- the reading
 
-abbrev pub step : State → Lexeme → Option State
+abbrev pub step : State → Terminal → Option State
 step (want fs) l = begin fs l
 step (got t fs) l = after t fs l
 step (naming h ts pre fs) l = name_field h ts pre fs l
@@ -233,11 +233,11 @@ abbrev pub finish : State → Option Tree
 finish (got t fs) = ended (lower 0 t fs)
 finish st = None
 
-abbrev pub reading : State → List Lexeme → Option State
+abbrev pub reading : State → List Terminal → Option State
 reading st [] = Some st
 reading st (l ∷ w) = option_and_then (λ next. reading next w) (step st l)
 
-abbrev pub reads : State → List Lexeme → Option Tree
+abbrev pub reads : State → List Terminal → Option Tree
 reads st w = option_and_then finish (reading st w)
 
 abbrev pub start : Sort → State

@@ -8,14 +8,14 @@ use Rattle.st_grammar.specs.declared.sort.Bracket.{Bracket}
 use Rattle.st_grammar.specs.declared.sort.Bracket.TheVariants.{Round as round, Square as square, Brace as brace, TickRound as tick_round, TickSquare as tick_square, TickBrace as tick_brace, Dollar as dollar}
 use Rattle.st_grammar.specs.declared.sort.Closing.{Closing}
 use Rattle.st_grammar.specs.declared.sort.Closing.TheVariants.{ByRound as by_round, BySquare as by_square, ByBrace as by_brace, ByBar as by_bar}
-use Rattle.st_grammar.specs.Lexemes.{Lexeme, leaf, dot, sign, opening, closing}
+use Rattle.st_grammar.specs.Terminals.{Terminal, leaf, dot, sign, opening, closing}
 
 mutual
   pub data Tree : Type 0 where
     -- a token that stands alone
     operand : Leaf → Token → Tree
     -- a mark or a dot behind a tree
-    post : Tree → Lexeme → Tree
+    post : Tree → Terminal → Tree
     -- `^` behind a tree, and its count
     times : Tree → Mark → Token → Tree → Tree
     -- what opens, the parts, and what closes
@@ -35,7 +35,7 @@ mutual
   -- Parts end with the last one, and each has before it what sets it off from the one before.
   pub data Trees : Type 0 where
     none : Trees
-    more : Trees → List Lexeme → Tree → Trees
+    more : Trees → List Terminal → Tree → Trees
 
   -- what stands before the parts that a bracket holds
   pub data Heading : Type 0 where
@@ -87,23 +87,23 @@ agree c d = false
 
 -- the tokens of a tree
 abbrev mutual
-  pub text : Tree → List Lexeme
+  pub text : Tree → List Terminal
   text (operand k x) = leaf k x ∷ []
   text (post t l) = text t ++ l ∷ []
   text (times t m x c) = text t ++ (sign m x ∷ text c)
   text (bracket h ts c) = heading_text h ++ (texts ts ++ closing (closes h) c ∷ [])
   text (led g t) = lead_text g ++ text t
 
-  pub lead_text : Lead → List Lexeme
+  pub lead_text : Lead → List Terminal
   lead_text (left l m x) = text l ++ sign m x ∷ []
   lead_text (ahead m x) = sign m x ∷ []
   lead_text (items ts) = texts ts
 
-  pub texts : Trees → List Lexeme
+  pub texts : Trees → List Terminal
   texts none = []
   texts (more ts pre t) = texts ts ++ (pre ++ text t)
 
-  pub heading_text : Heading → List Lexeme
+  pub heading_text : Heading → List Terminal
   heading_text (plain k o) = opening k o ∷ []
   heading_text (length o) = closing by_bar o ∷ []
   heading_text (arguments f o) = leaf function f ∷ opening round o ∷ []
@@ -112,7 +112,7 @@ abbrev mutual
   heading_text (update p m x) = path_text p ++ sign m x ∷ []
   heading_text (below o i m x) = opening round o ∷ leaf low i ∷ sign m x ∷ []
 
-  pub path_text : Path → List Lexeme
+  pub path_text : Path → List Terminal
   path_text (head t o) = text t ++ opening square o ∷ []
   path_text (field p x) = path_text p ++ dot x ∷ []
   path_text (part p o ts c) =

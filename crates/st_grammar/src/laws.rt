@@ -1,49 +1,49 @@
 //! Laws of the grammar.
 
 ghost use Rattle.std.specs.Prelude.{◌≡◌, List, ℕ, Some, None};
-ghost use Rattle.st_grammar.specs.Lexemes.{Lexeme};
+ghost use Rattle.st_grammar.specs.Terminals.{Terminal};
 ghost use Rattle.st_grammar.specs.declared.sort.Sort.{Sort};
 ghost use Rattle.st_grammar.specs.Trees.{Tree};
 ghost use Rattle.st_grammar.specs.Grammar.{Parse, Viable};
 ghost use Rattle.st_grammar.specs.Definitions.{Defs, ParseDefs, ViableDefs};
 ghost use Rattle.st_grammar.specs.Reading as part;
-ghost use Rattle.st_grammar.specs.Places as place;
+ghost use Rattle.st_grammar.specs.Positions as position;
 
 /// The tokens of a type, a notation, an expression or an arithmetic expression have one tree.
 #[tactic(auto, using(crate::proofs::Completions::one_tree_of))]
 pub fn one_tree()
-    ensures { (σ : Sort) (us : List Lexeme) (a b : Tree) → Parse σ us a → Parse σ us b → a ≡ b }
+    ensures { (σ : Sort) (us : List Terminal) (a b : Tree) → Parse σ us a → Parse σ us b → a ≡ b }
 {}
 
 /// The tokens of definitions have one list of trees.
-#[tactic(auto, using(crate::proofs::PlaceComplete::one_list_of_defs))]
+#[tactic(auto, using(crate::proofs::PositionComplete::one_list_of_defs))]
 pub fn one_list()
-    ensures { (us : List Lexeme) (a b : Defs) → ParseDefs us a → ParseDefs us b → a ≡ b }
+    ensures { (us : List Terminal) (a b : Defs) → ParseDefs us a → ParseDefs us b → a ≡ b }
 {}
 
 /// A part is read as its tree, tokens are read exactly where some further tokens make a tree, and
 /// what is read and may end is a tree.
 #[tactic(auto, using(crate::proofs::CompleteTrees::complete))]
 pub fn parts_are_read()
-    ensures complete { (σ : Sort) (us : List Lexeme) (t : Tree)
+    ensures complete { (σ : Sort) (us : List Terminal) (t : Tree)
         → Parse σ us t → part.reads (part.start σ) us ≡ Some t }
-    ensures sound { (σ : Sort) (us : List Lexeme) (st : part.State) (t : Tree)
+    ensures sound { (σ : Sort) (us : List Terminal) (st : part.State) (t : Tree)
         → part.reading (part.start σ) us ≡ Some st → part.finish st ≡ Some t → Parse σ us t }
-    ensures viable { (names : List (List ℕ)) (σ : Sort) (us : List Lexeme) (st : part.State)
+    ensures viable { (names : List (List ℕ)) (σ : Sort) (us : List Terminal) (st : part.State)
         → part.reading (part.start σ) us ≡ Some st → Viable names σ us }
-    ensures dead { (names : List (List ℕ)) (σ : Sort) (us : List Lexeme)
+    ensures dead { (names : List (List ℕ)) (σ : Sort) (us : List Terminal)
         → part.reading (part.start σ) us ≡ None → Viable names σ us → ⊥ }
 {}
 
 /// The same of definitions.
-#[tactic(auto, using(crate::proofs::PlaceComplete::complete_defs))]
+#[tactic(auto, using(crate::proofs::PositionComplete::complete_defs))]
 pub fn definitions_are_read()
-    ensures complete { (us : List Lexeme) (ds : Defs)
-        → ParseDefs us ds → place.reads place.start us ≡ Some ds }
-    ensures sound { (us : List Lexeme) (st : place.State) (ds : Defs)
-        → place.reading place.start us ≡ Some st → place.finish st ≡ Some ds → ParseDefs us ds }
-    ensures viable { (names : List (List ℕ)) (us : List Lexeme) (st : place.State)
-        → place.reading place.start us ≡ Some st → ViableDefs names us }
-    ensures dead { (names : List (List ℕ)) (us : List Lexeme)
-        → place.reading place.start us ≡ None → ViableDefs names us → ⊥ }
+    ensures complete { (us : List Terminal) (ds : Defs)
+        → ParseDefs us ds → position.reads position.start us ≡ Some ds }
+    ensures sound { (us : List Terminal) (st : position.State) (ds : Defs)
+        → position.reading position.start us ≡ Some st → position.finish st ≡ Some ds → ParseDefs us ds }
+    ensures viable { (names : List (List ℕ)) (us : List Terminal) (st : position.State)
+        → position.reading position.start us ≡ Some st → ViableDefs names us }
+    ensures dead { (names : List (List ℕ)) (us : List Terminal)
+        → position.reading position.start us ≡ None → ViableDefs names us → ⊥ }
 {}

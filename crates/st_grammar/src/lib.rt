@@ -3,7 +3,7 @@
 //! The one idea: a part is a tree that keeps each of its tokens. Which trees there are is told by a
 //! table of levels and by what may stand in each sort of place; their tokens are a function.
 //!
-//! Read `specs/Lexemes.antt`, `specs/Grammar.antt` and `laws` first. The rules are in
+//! Read `specs/Terminals.antt`, `specs/Grammar.antt` and `laws` first. The rules are in
 //! `docs/language.md`, "Grammar".
 #![tactic(auto)]
 

@@ -1,11 +1,11 @@
 -- What is measured of a draft behind changes and parts.
 use Rattle.std.proofs.Common.{◌≡◌, ℕ, List, [], Bool, Option, Some, option_map, refl, sym, subst, ◌⊎◌, inl, inr}
 use Rattle.st_scan.specs.declared.token.Token.{Token}
-use Rattle.st_parse_automaton.specs.declared.outline.Shape.{Shape}
-use Rattle.st_parse_automaton.specs.declared.place.Lexeme.{Lexeme}
-use Rattle.st_parse_automaton.specs.declared.place.CaseAt.{CaseAt}
-use Rattle.st_parse_automaton.specs.declared.place.Slot.{Slot}
-use Rattle.st_parse_automaton.specs.declared.place.Slot.TheVariants as slot
+use Rattle.st_parse_automaton.specs.declared.part_automaton.Shape.{Shape}
+use Rattle.st_parse_automaton.specs.declared.position.TokenClass.{TokenClass}
+use Rattle.st_parse_automaton.specs.declared.position.CaseAt.{CaseAt}
+use Rattle.st_parse_automaton.specs.declared.position.Slot.{Slot}
+use Rattle.st_parse_automaton.specs.declared.position.Slot.TheVariants as slot
 use Rattle.st_parse_builder.specs.NotationBuilding.{typ_built, notation_built}
 use Rattle.st_parse_builder.specs.declared.action.Action.{Action}
 use Rattle.st_draft.specs.declared.change.Change.{Change}
@@ -43,7 +43,7 @@ filled_so A s next fill o e h = let m = mapped A Draft fill o next e in subst (S
 
 -- ---- parts that end
 
-pub typ_slot : (s : Slot) (n : ℕ) (actions : List Action) (words : List (Lexeme × Token)) (d next : Draft) → (s ≡ slot.Field) ⊎ ((s ≡ slot.Var) ⊎ (s ≡ slot.Fun))
+pub typ_slot : (s : Slot) (n : ℕ) (actions : List Action) (words : List (TokenClass × Token)) (d next : Draft) → (s ≡ slot.Field) ⊎ ((s ≡ slot.Var) ⊎ (s ≡ slot.Fun))
     → refilled s n actions words d ≡ Some next → option_map (λ t. typ_filled s t d) (typ_built actions) ≡ Some next
 typ_slot s n actions words d next (inl h) e =
     subst (λ q. option_map (λ t. typ_filled q t d) (typ_built actions) ≡ Some next) (sym h) (subst (λ q. refilled q n actions words d ≡ Some next) h e)
@@ -52,7 +52,7 @@ typ_slot s n actions words d next (inr (inl h)) e =
 typ_slot s n actions words d next (inr (inr h)) e =
     subst (λ q. option_map (λ t. typ_filled q t d) (typ_built actions) ≡ Some next) (sym h) (subst (λ q. refilled q n actions words d ≡ Some next) h e)
 
-pub notation_slot : (s : Slot) (n : ℕ) (actions : List Action) (words : List (Lexeme × Token)) (d next : Draft) → ((c : CaseAt) × (s ≡ slot.Case c)) ⊎ (s ≡ slot.Notation)
+pub notation_slot : (s : Slot) (n : ℕ) (actions : List Action) (words : List (TokenClass × Token)) (d next : Draft) → ((c : CaseAt) × (s ≡ slot.Case c)) ⊎ (s ≡ slot.Notation)
     → refilled s n actions words d ≡ Some next → option_map (λ k. notation_filled k d) (notation_built actions) ≡ Some next
 notation_slot s n actions words d next (inl h) e = subst (λ q. refilled q n actions words d ≡ Some next) h.1 e
 notation_slot s n actions words d next (inr h) e = subst (λ q. refilled q n actions words d ≡ Some next) h e

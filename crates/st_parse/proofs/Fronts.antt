@@ -5,13 +5,13 @@ use Rattle.st_num.specs.declared.memory.NoMemory.{NoMemory}
 use Rattle.st_num.specs.declared.span.Span.{Span}
 use Rattle.st_num.specs.declared.rule.RuleId.TheVariants.{S2, S3}
 use Rattle.st_scan.specs.declared.token.Token.{Token}
-use Rattle.st_grammar.specs.Lexemes.{lexeme, declared_names}
+use Rattle.st_grammar.specs.Terminals.{terminal, declared_names}
 use Rattle.st_grammar.specs.Definitions.{Defs}
-use Rattle.st_grammar.specs.Places.{State, reading, start, finish}
-use Rattle.st_grammar.proofs.PlaceReading.{sound_defs}
-use Rattle.st_grammar.proofs.PlaceComplete.{one_list_of_defs}
-use Rattle.st_parse_automaton.specs.Refusal.{lexemes_of}
-use Rattle.st_parse_faults.specs.declared.fault.Fault.{Fault}
+use Rattle.st_grammar.specs.Positions.{State, reading, start, finish}
+use Rattle.st_grammar.proofs.PositionReading.{sound_defs}
+use Rattle.st_grammar.proofs.PositionComplete.{one_list_of_defs}
+use Rattle.st_parse_automaton.specs.Refusal.{terminals_of}
+use Rattle.st_parse_faults.specs.declared.fault.TokenFault.{TokenFault}
 use Rattle.st_parse_faults.specs.Faults.{passed, verdict, Faultless, FirstFault}
 use Rattle.st_parse_faults.specs.Place.{place_at}
 use Rattle.st_parse_faults.proofs.Verdicts.{verdict_reads}
@@ -35,23 +35,23 @@ use Rattle.st_parse.specs.Found.{Surveyed, end_of, Judged, Found}
 abbrev pub all_of : (tokens : List Token) → Faultless tokens → Front tokens
 all_of tokens h = record { count = length tokens; seen = h.0; faultless = h.2; longest = inl refl }
 
-up_to : (tokens : List Token) (f : Fault) → FirstFault tokens f.place f.rule → (front : Front tokens) × (front.count ≡ f.place)
-up_to tokens f (inl h) = (record { count = f.place; seen = h.1.0; faultless = h.1.1; longest = inr (f.rule, h.0, h.2) }, refl)
-up_to tokens f (inr h) = (record { count = f.place; seen = h.2.0; faultless = h.2.1; longest = inl h.0 }, refl)
+up_to : (tokens : List Token) (f : TokenFault) → FirstFault tokens f.token f.rule → (front : Front tokens) × (front.count ≡ f.token)
+up_to tokens f (inl h) = (record { count = f.token; seen = h.1.0; faultless = h.1.1; longest = inr (f.rule, h.0, h.2) }, refl)
+up_to tokens f (inr h) = (record { count = f.token; seen = h.2.0; faultless = h.2.1; longest = inl h.0 }, refl)
 
-pub front_of : (tokens : List Token) (found : Option Fault) → Judged tokens found → (front : Front tokens) × (front.count ≡ end_of tokens found)
+pub front_of : (tokens : List Token) (found : Option TokenFault) → Judged tokens found → (front : Front tokens) × (front.count ≡ end_of tokens found)
 front_of tokens None h = (all_of tokens h, refl)
 front_of tokens (Some f) h = up_to tokens f h
 
 pub read_front : (tokens : List Token) (names : List (List ℕ)) (end : ℕ) (front : Front tokens) → names ≡ declared_names tokens → front.count ≡ end
-    → reading start (map (lexeme names) (take end tokens)) ≡ Some front.seen.state
+    → reading start (map (terminal names) (take end tokens)) ≡ Some front.seen.state
 read_front tokens names end front e f =
-    ap (λ ns. reading start (map (lexeme ns) (take end tokens))) e
-    ∙ ap (λ k. reading start (map (lexeme (declared_names tokens)) (take k tokens))) (sym f)
-    ∙ ap (reading start) (sym (take-map (lexeme (declared_names tokens)) front.count tokens))
+    ap (λ ns. reading start (map (terminal ns) (take end tokens))) e
+    ∙ ap (λ k. reading start (map (terminal (declared_names tokens)) (take k tokens))) (sym f)
+    ∙ ap (reading start) (sym (take-map (terminal (declared_names tokens)) front.count tokens))
     ∙ verdict_reads tokens front.count front.seen front.faultless
 
-pub within : (tokens : List Token) (found : Option Fault) → Judged tokens found → end_of tokens found ≤ length tokens
+pub within : (tokens : List Token) (found : Option TokenFault) → Judged tokens found → end_of tokens found ≤ length tokens
 within tokens None h = omega (arith)
 within tokens (Some f) (inl h) = omega (arith, h.0)
 within tokens (Some f) (inr h) = omega (arith, h.0)
@@ -60,18 +60,18 @@ pub surveyed_so : (s : Survey) (defs : List Def) → DrawsDefs Surveys s defs �
 surveyed_so s defs h = (h.1.past ∙ ap (first_that variable_past) h.2, h.1.tall ∙ ap (first_that too_tall) h.2)
 
 -- The tokens before the first fault are read.
-read_so : (tokens front : List Token) (names : List (List ℕ)) (found : Option Fault) (e : names ≡ declared_names tokens) (j : Judged tokens found) → front ≡ take (end_of tokens found) tokens
-    → reading start (map (lexeme names) front) ≡ Some (front_of tokens found j).0.seen.state
+read_so : (tokens front : List Token) (names : List (List ℕ)) (found : Option TokenFault) (e : names ≡ declared_names tokens) (j : Judged tokens found) → front ≡ take (end_of tokens found) tokens
+    → reading start (map (terminal names) front) ≡ Some (front_of tokens found j).0.seen.state
 read_so tokens front names found e j k =
-    ap (λ xs. reading start (map (lexeme names) xs)) k ∙ read_front tokens names (end_of tokens found) (front_of tokens found j).0 e (front_of tokens found j).1
+    ap (λ xs. reading start (map (terminal names) xs)) k ∙ read_front tokens names (end_of tokens found) (front_of tokens found j).0 e (front_of tokens found j).1
 
-pub front_reads : (tokens front : List Token) (names : List (List ℕ)) (found : Option Fault) → names ≡ declared_names tokens → Judged tokens found → front ≡ take (end_of tokens found) tokens
-    → (st : State) × (reading start (map (lexeme names) front) ≡ Some st)
+pub front_reads : (tokens front : List Token) (names : List (List ℕ)) (found : Option TokenFault) → names ≡ declared_names tokens → Judged tokens found → front ≡ take (end_of tokens found) tokens
+    → (st : State) × (reading start (map (terminal names) front) ≡ Some st)
 front_reads tokens front names found e j k = ((front_of tokens found j).0.seen.state, read_so tokens front names found e j k)
 
-pub found_so : (tokens front : List Token) (names : List (List ℕ)) (found : Option Fault) (r : Result LimitFaults NoMemory) → names ≡ declared_names tokens → Judged tokens found
+pub found_so : (tokens front : List Token) (names : List (List ℕ)) (found : Option TokenFault) (r : Result LimitFaults NoMemory) → names ≡ declared_names tokens → Judged tokens found
     → front ≡ take (end_of tokens found) tokens
-    → ((st : State) → reading start (map (lexeme names) front) ≡ Some st → IfOk r (Surveyed (defs_meaning (known st)))) → IfOk r (Found tokens found)
+    → ((st : State) → reading start (map (terminal names) front) ≡ Some st → IfOk r (Surveyed (defs_meaning (known st)))) → IfOk r (Found tokens found)
 found_so tokens front names found (Err f) e j k drawn = tt
 found_so tokens front names found (Ok s) e j k drawn =
     let f = front_of tokens found j in
@@ -109,13 +109,13 @@ all_measured (Some ds) = λ d within. tt
 
 -- ---- answers
 
-pub many : (tokens : List Token) (found : Option Fault) (s : LimitFaults) (at : Span) → Found tokens found s → s.past ≡ Some at → FaultAt tokens at S3
+pub many : (tokens : List Token) (found : Option TokenFault) (s : LimitFaults) (at : Span) → Found tokens found s → s.past ≡ Some at → FaultAt tokens at S3
 many tokens found s at f e = inl ((f.front, sym f.surveyed.0 ∙ e), refl)
 
-pub token_fault : (tokens : List Token) (found : Option Fault) (s : LimitFaults) (f : Fault) → Found tokens found s → s.past ≡ None → found ≡ Some f → FaultAt tokens (place_at tokens f.place) f.rule
-token_fault tokens found s f h e g = inr (inl ((h.front, sym h.surveyed.0 ∙ e), (f.place, subst (Judged tokens) g h.judged, refl)))
+pub token_fault : (tokens : List Token) (found : Option TokenFault) (s : LimitFaults) (f : TokenFault) → Found tokens found s → s.past ≡ None → found ≡ Some f → FaultAt tokens (place_at tokens f.token) f.rule
+token_fault tokens found s f h e g = inr (inl ((h.front, sym h.surveyed.0 ∙ e), (f.token, subst (Judged tokens) g h.judged, refl)))
 
-pub tall : (tokens : List Token) (found : Option Fault) (s : LimitFaults) (at : Span) → Found tokens found s → s.past ≡ None → found ≡ None → s.tall ≡ Some at → FaultAt tokens at S2
+pub tall : (tokens : List Token) (found : Option TokenFault) (s : LimitFaults) (at : Span) → Found tokens found s → s.past ≡ None → found ≡ None → s.tall ≡ Some at → FaultAt tokens at S2
 tall tokens found s at h e g t = inr (inr (subst (Judged tokens) g h.judged, (h.front, sym h.surveyed.0 ∙ e), (h.front, sym h.surveyed.1 ∙ t), refl))
 
 -- the definitions that all tokens mean, where none has a fault
@@ -124,18 +124,18 @@ all_known tokens front defs e p =
     let h = p.0 in
     let both : passed front.seen ≡ passed h.0 = sym front.faultless ∙ ap (verdict tokens) e ∙ h.2 in
     let same : front.seen ≡ h.0 = cc in
-    let us = lexemes_of tokens in
+    let us = terminals_of tokens in
     let read : reading start us ≡ Some h.0.state =
-    ap (reading start) (sym (take_all (length tokens) us (omega (arith, length-map tokens (lexeme (declared_names tokens)))))) ∙ verdict_reads tokens (length tokens) h.0 h.2 in
+    ap (reading start) (sym (take_all (length tokens) us (omega (arith, length-map tokens (terminal (declared_names tokens)))))) ∙ verdict_reads tokens (length tokens) h.0 h.2 in
     let one : h.1 ≡ p.1.trees = one_list_of_defs us h.1 p.1.trees (sound_defs us h.0.state h.1 read h.3) p.1.grammar in
     ap (λ q. defs_meaning (known q.state)) same ∙ ap (λ o. defs_meaning (defs_or (before h.0.state) o)) h.3 ∙ ap defs_meaning one ∙ p.1.meant
 
-pub low : (tokens : List Token) (found : Option Fault) (s : LimitFaults) → Found tokens found s → found ≡ None → s.tall ≡ None → (defs : List Def) → IsParsed tokens defs → first_that too_tall defs ≡ None
+pub low : (tokens : List Token) (found : Option TokenFault) (s : LimitFaults) → Found tokens found s → found ≡ None → s.tall ≡ None → (defs : List Def) → IsParsed tokens defs → first_that too_tall defs ≡ None
 low tokens found s h g t defs p =
     let same = all_known tokens h.front defs (h.count ∙ ap (end_of tokens) g) p in
     ap (first_that too_tall) (sym same) ∙ sym h.surveyed.1 ∙ t
 
-pub source : (tokens : List Token) (found : Option Fault) (s : LimitFaults) (defs : List Def) → Found tokens found s → s.past ≡ None → found ≡ None → s.tall ≡ None → IsParsed tokens defs → IsSource tokens defs
+pub source : (tokens : List Token) (found : Option TokenFault) (s : LimitFaults) (defs : List Def) → Found tokens found s → s.past ≡ None → found ≡ None → s.tall ≡ None → IsParsed tokens defs → IsSource tokens defs
 source tokens found s defs h e g t p =
     let same = all_known tokens h.front defs (h.count ∙ ap (end_of tokens) g) p in
     (p, (ap (first_that variable_past) (sym same) ∙ sym h.surveyed.0 ∙ e, low tokens found s h g t defs p))

@@ -2,26 +2,26 @@
 use Rattle.std.proofs.Common.{◌≡◌, List, length, map, Some, refl, sym, ap, subst, ◌∙◌, arith}
 use Rattle.std.proofs.lemmas.List.{take_all, length-map}
 use Rattle.st_scan.specs.declared.token.Token.{Token}
-use Rattle.st_grammar.specs.Lexemes.{lexeme, declared_names}
+use Rattle.st_grammar.specs.Terminals.{terminal, declared_names}
 use Rattle.st_grammar.specs.Definitions.{Defs}
-use Rattle.st_grammar.specs.Places.{State, reading, start, finish}
-use Rattle.st_grammar.proofs.PlaceReading.{sound_defs}
-use Rattle.st_parse_automaton.specs.Refusal.{lexemes_of}
+use Rattle.st_grammar.specs.Positions.{State, reading, start, finish}
+use Rattle.st_grammar.proofs.PositionReading.{sound_defs}
+use Rattle.st_parse_automaton.specs.Refusal.{terminals_of}
 use Rattle.st_parse_faults.specs.Faults.{Faultless}
 use Rattle.st_parse_faults.proofs.Verdicts.{verdict_reads}
 use Rattle.st_el.specs.declared.definition.Def.{Def}
 use Rattle.st_parse_builder.specs.Definitions.{defs_meaning}
 use Rattle.st_parse.specs.Source.{IsParsed}
 
-pub reads_all : (tokens : List Token) (h : Faultless tokens) → reading start (map (lexeme (declared_names tokens)) tokens) ≡ Some h.0.state
+pub reads_all : (tokens : List Token) (h : Faultless tokens) → reading start (map (terminal (declared_names tokens)) tokens) ≡ Some h.0.state
 reads_all tokens h =
-    ap (reading start) (sym (take_all (length tokens) (lexemes_of tokens) (omega (arith, length-map tokens (lexeme (declared_names tokens))))))
+    ap (reading start) (sym (take_all (length tokens) (terminals_of tokens) (omega (arith, length-map tokens (terminal (declared_names tokens))))))
     ∙ verdict_reads tokens (length tokens) h.0 h.2
 
 pub parsed : (tokens : List Token) (h : Faultless tokens) → IsParsed tokens (defs_meaning h.1)
-parsed tokens h = (h, record { trees = h.1; grammar = sound_defs (lexemes_of tokens) h.0.state h.1 (reads_all tokens h) h.3; meant = refl })
+parsed tokens h = (h, record { trees = h.1; grammar = sound_defs (terminals_of tokens) h.0.state h.1 (reads_all tokens h) h.3; meant = refl })
 
 pub built_source : (tokens : List Token) (built : List Def) → Faultless tokens
-    → ((st : State) (ds : Defs) → reading start (map (lexeme (declared_names tokens)) tokens) ≡ Some st → finish st ≡ Some ds → built ≡ defs_meaning ds)
+    → ((st : State) (ds : Defs) → reading start (map (terminal (declared_names tokens)) tokens) ≡ Some st → finish st ≡ Some ds → built ≡ defs_meaning ds)
     → IsParsed tokens built
 built_source tokens built h done = subst (IsParsed tokens) (sym (done h.0.state h.1 (reads_all tokens h) h.3)) (parsed tokens h)

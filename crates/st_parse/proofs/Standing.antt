@@ -10,7 +10,7 @@ use Rattle.st_grammar.specs.declared.sort.Leaf.TheVariants.{Low as low, Basic as
 use Rattle.st_grammar.specs.declared.sort.Bracket.{Bracket}
 use Rattle.st_grammar.specs.declared.sort.Bracket.TheVariants.{Round as round, Square as square, Brace as brace, TickRound as tick_round, TickSquare as tick_square, TickBrace as tick_brace, Dollar as dollar}
 use Rattle.st_grammar.specs.declared.sort.Closing.TheVariants.{BySquare as by_square}
-use Rattle.st_grammar.specs.Lexemes.{Lexeme, leaf, dot, sign, opening, closing, other}
+use Rattle.st_grammar.specs.Terminals.{Terminal, leaf, dot, sign, opening, closing, other}
 use Rattle.st_grammar.specs.Trees.{Tree, operand, post, times, bracket, led, Lead, left, ahead, items, Trees, none, more, Heading, plain, length, arguments, index, segment, update, below, Path, head, field, part, closes, text, lead_text, texts, heading_text, path_text}
 use Rattle.st_grammar.specs.Definitions.{token_in}
 use Rattle.st_el.specs.declared.expression.Exp.{Exp}
@@ -41,18 +41,18 @@ behind P (x ∷ xs) ys h = behind P xs ys h.1
 
 module _ (P : Span → Type 0) where
   -- Each of these tokens stands at such a place.
-  abbrev pub Stand : List Lexeme → Type 0
-  Stand ls = AllByRecursion (λ (l : Lexeme). P (token_in l).at) ls
+  abbrev pub Stand : List Terminal → Type 0
+  Stand ls = AllByRecursion (λ (l : Terminal). P (token_in l).at) ls
 
   -- Each of these variables does.
   abbrev pub Occur : List Occurrence → Type 0
   Occur os = AllByRecursion (λ (o : Occurrence). P o.1) os
 
-  abbrev pub first : (xs ys : List Lexeme) → Stand (xs ++ ys) → Stand xs
-  first xs ys h = front (λ (l : Lexeme). P (token_in l).at) xs ys h
+  abbrev pub first : (xs ys : List Terminal) → Stand (xs ++ ys) → Stand xs
+  first xs ys h = front (λ (l : Terminal). P (token_in l).at) xs ys h
 
-  abbrev pub last : (xs ys : List Lexeme) → Stand (xs ++ ys) → Stand ys
-  last xs ys h = behind (λ (l : Lexeme). P (token_in l).at) xs ys h
+  abbrev pub last : (xs ys : List Terminal) → Stand (xs ++ ys) → Stand ys
+  last xs ys h = behind (λ (l : Terminal). P (token_in l).at) xs ys h
 
   abbrev pub two : (xs ys : List Occurrence) → Occur xs → Occur ys → Occur (xs ++ ys)
   two xs ys h k = both (λ (o : Occurrence). P o.1) xs ys h k
@@ -89,7 +89,7 @@ module _ (P : Span → Type 0) where
   dotted_occurs e true at name joined_name h = moved _ _ (in_atom at joined_name) tt
   dotted_occurs e false at name joined_name h = moved _ _ (in_dot at e name) h
 
-  posted_occurs : (e : Exp) (l : Lexeme) → Occur (variables e) → Occur (variables (posted e l))
+  posted_occurs : (e : Exp) (l : Terminal) → Occur (variables e) → Occur (variables (posted e l))
   posted_occurs e (dot x) h = dotted_occurs e (x.touching && is_atom (opened e)) (place e) (name_of x.kind) (atom_name (opened e) ++ 46 ∷ name_of x.kind) h
   posted_occurs e (sign m x) h = moved _ _ (in_marked m e) h
   posted_occurs e (leaf k x) h = h

@@ -4,7 +4,7 @@ use Rattle.std.specs.Prelude.{slice_get, not}
 use Rattle.std.specs.Option.{option_or}
 use Rattle.st_num.specs.declared.mark.Mark.TheVariants as mark
 use Rattle.st_num.specs.declared.span.Span.{Span}
-use Rattle.st_grammar.specs.Lexemes.{Lexeme, leaf, dot, sign, opening, closing, other}
+use Rattle.st_grammar.specs.Terminals.{Terminal, leaf, dot, sign, opening, closing, other}
 use Rattle.st_grammar.specs.Trees.{Tree, operand, post, times, bracket, led, plain, length as length_of, arguments, index, segment, update, below, text, texts}
 use Rattle.st_grammar.specs.Definitions.{token_in, Iterations, no_iterations, closed, marked, counted, iterations_text, closings, Premise, default, given, premise_text, Premises, no_premises, more_premises, premises_text, Args, no_args, args, args_text, Def as Tokens, syntax_def, var_def, relation_def, rule_def, fun_def, clause_def, def_text, Defs, no_defs, more_defs, defs_text}
 use Rattle.st_el.specs.declared.expression.Exp.{Exp}
@@ -48,7 +48,7 @@ module _ (P : Span → Type 0) where
   timed at p (bracket (update q m o) ts x) e h c = each_occurs at p _ _ (times_times e) h c
   timed at p (bracket (below o i m y) ts x) e h c = each_occurs at p _ _ (times_below (name_of i.kind) e) h c
 
-  marked_occurs : (at : Span) (p : Prem) (l : Lexeme) → Occur P (prem_variables p) → Occur P (prem_variables (prem_at at (prem.Each p (sign_count l))))
+  marked_occurs : (at : Span) (p : Prem) (l : Terminal) → Occur P (prem_variables p) → Occur P (prem_variables (prem_at at (prem.Each p (sign_count l))))
   marked_occurs at p (sign m x) h = each_occurs at p _ _ (times_mark m) h tt
   marked_occurs at p (leaf k x) h = each_occurs at p _ _ (times_mark mark.Question) h tt
   marked_occurs at p (dot x) h = each_occurs at p _ _ (times_mark mark.Question) h tt
@@ -56,7 +56,7 @@ module _ (P : Span → Type 0) where
   marked_occurs at p (closing c x) h = each_occurs at p _ _ (times_mark mark.Question) h tt
   marked_occurs at p (other x) h = each_occurs at p _ _ (times_mark mark.Question) h tt
 
-  iterated_occurs : (os : List Lexeme) (p : Prem) (i : Iterations) → Occur P (prem_variables p) → Stand P (iterations_text i) → Occur P (prem_variables (iterated os p i))
+  iterated_occurs : (os : List Terminal) (p : Prem) (i : Iterations) → Occur P (prem_variables p) → Stand P (iterations_text i) → Occur P (prem_variables (iterated os p i))
   iterated_occurs os p no_iterations h s = h
   iterated_occurs os p (closed i l) h s = iterated_occurs os p i h (first P (iterations_text i) (l ∷ []) s)
   iterated_occurs os p (marked i l) h s =
@@ -65,7 +65,7 @@ module _ (P : Span → Type 0) where
       timed (opened_at os (closings i)) (iterated os p i) t (meaning t)
       (iterated_occurs os p i h (first P (iterations_text i) (l ∷ text t) s)) (tree_occurs P t (last P (iterations_text i) (l ∷ text t) s).1)
 
-  condition_occurs : (ls : List Lexeme) (e : Exp) → Occur P (variables e) → Occur P (prem_variables (condition ls e))
+  condition_occurs : (ls : List Terminal) (e : Exp) → Occur P (variables e) → Occur P (prem_variables (condition ls e))
   condition_occurs [] e h = moved P _ _ (in_if _ e) h
   condition_occurs (r ∷ []) e h = moved P _ _ (in_if _ e) h
   condition_occurs (r ∷ c ∷ ls) e h = moved P _ _ (in_goal _ (name_in r) e) h

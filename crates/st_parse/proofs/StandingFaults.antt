@@ -4,19 +4,19 @@ use Rattle.std.specs.List.{AllByRecursion}
 use Rattle.st_num.specs.declared.rule.RuleId.{RuleId}
 use Rattle.st_num.specs.declared.span.Span.{Span}
 use Rattle.st_scan.specs.declared.token.Token.{Token}
-use Rattle.st_grammar.specs.Lexemes.{Lexeme, lexeme, declared_names}
+use Rattle.st_grammar.specs.Terminals.{Terminal, terminal, declared_names}
 use Rattle.st_grammar.specs.Trees.{text, texts}
 use Rattle.st_grammar.specs.Definitions.{hints_text, members_text, args_text, iterations_text, premises_text, Defs, defs_text}
-use Rattle.st_grammar.specs.Places.{Head, syntax_head, Rule, rule_head, clause_head, Host, of_syntax, of_field, of_case, of_var, of_relation, of_notation, of_fun, Slot, field_slot, case_slot, var_slot, notation_slot, fun_slot, arg_slot, rule_slot, cond_slot, count_slot, Place, between, syntax_name, var_name, var_colon, relation_name, rule_name, rule_colon, fun_name, fun_named, argued, args_closed, syntax_id, rule_id, hinted, hint_open, hint_name, hint_words, entering, dotted, field_name, premised, premise_open, goal_colon, iterated, State, at, inside, start, reading, finish}
+use Rattle.st_grammar.specs.Positions.{Head, syntax_head, Rule, rule_head, clause_head, Host, of_syntax, of_field, of_case, of_var, of_relation, of_notation, of_fun, Slot, field_slot, case_slot, var_slot, notation_slot, fun_slot, arg_slot, rule_slot, cond_slot, count_slot, Position, between, syntax_name, var_name, var_colon, relation_name, rule_name, rule_colon, fun_name, fun_named, argued, args_closed, syntax_id, rule_id, hinted, hint_open, hint_name, hint_words, entering, dotted, field_name, premised, premise_open, goal_colon, iterated, State, at, inside, start, reading, finish}
 use Rattle.st_grammar.proofs.Sound as sound
-use Rattle.st_grammar.proofs.PlaceTexts.{head_text, rule_text, ruled_text, host_text, slot_text, place_text, seen, Reached}
-use Rattle.st_grammar.proofs.PlaceReading.{reached_by, finishes}
-use Rattle.st_parse_automaton.specs.Refusal.{lexemes_of}
+use Rattle.st_grammar.proofs.PositionTexts.{head_text, rule_text, ruled_text, host_text, slot_text, position_text, seen, Reached}
+use Rattle.st_grammar.proofs.PositionReading.{reached_by, finishes}
+use Rattle.st_parse_automaton.specs.Refusal.{terminals_of}
 use Rattle.st_parse_faults.specs.Place.{place_at}
 use Rattle.st_parse_faults.proofs.Verdicts.{verdict_reads}
 use Rattle.st_el.specs.declared.definition.Def.{Def}
-use Rattle.st_draft.specs.Known.{head_before, rule_before, host_before, slot_before, place_before, before, defs_or, known}
-use Rattle.st_grammar.proofs.LexemeTokens.{lexeme_token}
+use Rattle.st_draft.specs.Known.{head_before, rule_before, host_before, slot_before, position_before, before, defs_or, known}
+use Rattle.st_grammar.proofs.TerminalTokens.{terminal_token}
 use Rattle.st_parse.specs.Limits.{variable_past, too_tall}
 use Rattle.st_parse.specs.Source.{Standing, FaultAt}
 use Rattle.st_parse.proofs.Standing.{Stand, first}
@@ -53,40 +53,40 @@ module _ (P : Span → Type 0) where
   in_slot (count_slot r t ps d os ls u i l) s =
       in_rule r (first P (rule_text r) (text t ++ premises_text ps) (first P (ruled_text r t ps) (d ∷ (os ++ (ls ++ (text u ++ (iterations_text i ++ l ∷ []))))) s))
 
-  in_place : (p : Place) → Stand P (place_text p) → Stand P (defs_text (place_before p))
-  in_place (between ds) s = s
-  in_place (syntax_name ds w) s = first P (defs_text ds) (w ∷ []) s
-  in_place (var_name ds w) s = first P (defs_text ds) (w ∷ []) s
-  in_place (var_colon ds w x) s = first P (defs_text ds) (w ∷ x ∷ []) s
-  in_place (relation_name ds w) s = first P (defs_text ds) (w ∷ []) s
-  in_place (rule_name ds w) s = first P (defs_text ds) (w ∷ []) s
-  in_place (rule_colon ds w r) s = first P (defs_text ds) (w ∷ r ∷ []) s
-  in_place (fun_name ds w) s = first P (defs_text ds) (w ∷ []) s
-  in_place (fun_named ds w f) s = first P (defs_text ds) (w ∷ f ∷ []) s
-  in_place (argued ds w f o ts) s = first P (defs_text ds) (w ∷ f ∷ o ∷ texts ts) s
-  in_place (args_closed ds w f o ts c) s = first P (defs_text ds) (w ∷ f ∷ o ∷ (texts ts ++ c ∷ [])) s
-  in_place (syntax_id ds w x ls d) s = first P (defs_text ds) (w ∷ x ∷ ls) s
-  in_place (rule_id ds w r ls d) s = first P (defs_text ds) (w ∷ r ∷ ls) s
-  in_place (hinted h hs) s = in_host h (first P (host_text h) (hints_text hs) s)
-  in_place (hint_open h hs w) s = in_host h (first P (host_text h) (hints_text hs ++ w ∷ []) s)
-  in_place (hint_name h hs w o) s = in_host h (first P (host_text h) (hints_text hs ++ w ∷ o ∷ []) s)
-  in_place (hint_words h hs w o n ws cs) s = in_host h (first P (host_text h) (hints_text hs ++ (w ∷ o ∷ n ∷ ws)) s)
-  in_place (entering l) s = in_slot l s
-  in_place (dotted h d) s = in_head h (first P (head_text h) (d ∷ []) s)
-  in_place (field_name h o ms pre) s = in_head h (first P (head_text h) (o ∷ (members_text ms ++ pre)) s)
-  in_place (premised r t ps) s = in_rule r (first P (rule_text r) (text t ++ premises_text ps) s)
-  in_place (premise_open r t ps d os) s = in_rule r (first P (rule_text r) (text t ++ premises_text ps) (first P (ruled_text r t ps) (d ∷ os) s))
-  in_place (goal_colon r t ps d os n) s = in_rule r (first P (rule_text r) (text t ++ premises_text ps) (first P (ruled_text r t ps) (d ∷ (os ++ n ∷ [])) s))
-  in_place (iterated r t ps d os ls u i) s =
+  in_position : (p : Position) → Stand P (position_text p) → Stand P (defs_text (position_before p))
+  in_position (between ds) s = s
+  in_position (syntax_name ds w) s = first P (defs_text ds) (w ∷ []) s
+  in_position (var_name ds w) s = first P (defs_text ds) (w ∷ []) s
+  in_position (var_colon ds w x) s = first P (defs_text ds) (w ∷ x ∷ []) s
+  in_position (relation_name ds w) s = first P (defs_text ds) (w ∷ []) s
+  in_position (rule_name ds w) s = first P (defs_text ds) (w ∷ []) s
+  in_position (rule_colon ds w r) s = first P (defs_text ds) (w ∷ r ∷ []) s
+  in_position (fun_name ds w) s = first P (defs_text ds) (w ∷ []) s
+  in_position (fun_named ds w f) s = first P (defs_text ds) (w ∷ f ∷ []) s
+  in_position (argued ds w f o ts) s = first P (defs_text ds) (w ∷ f ∷ o ∷ texts ts) s
+  in_position (args_closed ds w f o ts c) s = first P (defs_text ds) (w ∷ f ∷ o ∷ (texts ts ++ c ∷ [])) s
+  in_position (syntax_id ds w x ls d) s = first P (defs_text ds) (w ∷ x ∷ ls) s
+  in_position (rule_id ds w r ls d) s = first P (defs_text ds) (w ∷ r ∷ ls) s
+  in_position (hinted h hs) s = in_host h (first P (host_text h) (hints_text hs) s)
+  in_position (hint_open h hs w) s = in_host h (first P (host_text h) (hints_text hs ++ w ∷ []) s)
+  in_position (hint_name h hs w o) s = in_host h (first P (host_text h) (hints_text hs ++ w ∷ o ∷ []) s)
+  in_position (hint_words h hs w o n ws cs) s = in_host h (first P (host_text h) (hints_text hs ++ (w ∷ o ∷ n ∷ ws)) s)
+  in_position (entering l) s = in_slot l s
+  in_position (dotted h d) s = in_head h (first P (head_text h) (d ∷ []) s)
+  in_position (field_name h o ms pre) s = in_head h (first P (head_text h) (o ∷ (members_text ms ++ pre)) s)
+  in_position (premised r t ps) s = in_rule r (first P (rule_text r) (text t ++ premises_text ps) s)
+  in_position (premise_open r t ps d os) s = in_rule r (first P (rule_text r) (text t ++ premises_text ps) (first P (ruled_text r t ps) (d ∷ os) s))
+  in_position (goal_colon r t ps d os n) s = in_rule r (first P (rule_text r) (text t ++ premises_text ps) (first P (ruled_text r t ps) (d ∷ (os ++ n ∷ [])) s))
+  in_position (iterated r t ps d os ls u i) s =
       in_rule r (first P (rule_text r) (text t ++ premises_text ps) (first P (ruled_text r t ps) (d ∷ (os ++ (ls ++ (text u ++ iterations_text i)))) s))
 
   in_state : (st : State) → Stand P (seen st) → Stand P (defs_text (before st))
-  in_state (at p) s = in_place p s
+  in_state (at p) s = in_position p s
   in_state (inside l st) s = in_slot l (first P (slot_text l) (sound.seen st) s)
 
   -- ---- the definitions that stand whole
 
-  known_stands : (us : List Lexeme) (st : State) → reading start us ≡ Some st → Stand P us → Stand P (defs_text (known st))
+  known_stands : (us : List Terminal) (st : State) → reading start us ≡ Some st → Stand P us → Stand P (defs_text (known st))
   known_stands us st e s = go (finish st) refl
     where
       reached : Reached us st
@@ -101,11 +101,11 @@ module _ (P : Span → Type 0) where
   abbrev pub TokensStand : List Token → Type 0
   TokensStand xs = AllByRecursion (λ (x : Token). P x.at) xs
 
-  lexemes_stand : (names : List (List ℕ)) (xs : List Token) → TokensStand xs → Stand P (map (lexeme names) xs)
-  lexemes_stand names [] h = tt
-  lexemes_stand names (x ∷ xs) h = (subst (λ (y : Token). P y.at) (sym (lexeme_token names x)) h.0, lexemes_stand names xs h.1)
+  terminals_stand : (names : List (List ℕ)) (xs : List Token) → TokensStand xs → Stand P (map (terminal names) xs)
+  terminals_stand names [] h = tt
+  terminals_stand names (x ∷ xs) h = (subst (λ (y : Token). P y.at) (sym (terminal_token names x)) h.0, terminals_stand names xs h.1)
 
-  front_stands : (k : ℕ) (ls : List Lexeme) → Stand P ls → Stand P (take k ls)
+  front_stands : (k : ℕ) (ls : List Terminal) → Stand P ls → Stand P (take k ls)
   front_stands zero [] h = tt
   front_stands zero (l ∷ ls) h = tt
   front_stands (suc k) [] h = tt
@@ -116,8 +116,8 @@ module _ (P : Span → Type 0) where
   standing : (tokens : List Token) (f : Def → Option Span) (place : Span) → Tells P f → TokensStand tokens → Standing tokens f (Some place) → P place
   standing tokens f place h s (front, e) =
       first_stands P f (known front.seen.state) place h
-      (known_stands (take front.count (lexemes_of tokens)) front.seen.state (verdict_reads tokens front.count front.seen front.faultless)
-      (front_stands front.count (lexemes_of tokens) (lexemes_stand (declared_names tokens) tokens s)))
+      (known_stands (take front.count (terminals_of tokens)) front.seen.state (verdict_reads tokens front.count front.seen front.faultless)
+      (front_stands front.count (terminals_of tokens) (terminals_stand (declared_names tokens) tokens s)))
       e
 
   -- A fault stands at such a place, where each token does.

@@ -9,8 +9,8 @@ use Rattle.st_el.specs.declared.expression.Exp.{Exp}
 use Rattle.st_el.specs.declared.expression.Count.{Count}
 use Rattle.st_el.specs.declared.definition.Prem.{Prem, out-Prem}
 use Rattle.st_el.specs.declared.definition.PremNode.TheVariants as prem
-use Rattle.st_parse_automaton.specs.declared.outline.Shape.{Shape}
-use Rattle.st_parse_automaton.specs.declared.outline.Shape.TheVariants as shape
+use Rattle.st_parse_automaton.specs.declared.part_automaton.Shape.{Shape}
+use Rattle.st_parse_automaton.specs.declared.part_automaton.Shape.TheVariants as shape
 use Rattle.st_parse_builder.specs.Meaning.{mark_count}
 use Rattle.st_parse_builder.specs.Definitions.{prem_at}
 use Rattle.st_parse_builder.specs.Heights.{highest, height}

@@ -2,7 +2,7 @@
 use Rattle.std.specs.Prelude.{◌≡◌, ℕ, List, length, Option, Some, None}
 use Rattle.st_scan.specs.declared.token.Token.{Token}
 use Rattle.st_parse_faults.specs.Faults.{Faultless, FirstFault}
-use Rattle.st_parse_faults.specs.declared.fault.Fault.{Fault}
+use Rattle.st_parse_faults.specs.declared.fault.TokenFault.{TokenFault}
 use Rattle.st_el.specs.declared.definition.Def.{Def}
 use Rattle.st_parse_builder.specs.Definitions.{defs_meaning}
 use Rattle.st_draft.specs.Known.{known}
@@ -15,17 +15,17 @@ abbrev pub Surveyed : List Def → LimitFaults → Type 0
 Surveyed defs s = (s.past ≡ first_that variable_past defs) × (s.tall ≡ first_that too_tall defs)
 
 -- what the first fault of a token is
-abbrev pub Judged : List Token → Option Fault → Type 0
+abbrev pub Judged : List Token → Option TokenFault → Type 0
 Judged tokens None = Faultless tokens
-Judged tokens (Some f) = FirstFault tokens f.place f.rule
+Judged tokens (Some f) = FirstFault tokens f.token f.rule
 
 -- how many tokens stand before it
-abbrev pub end_of : List Token → Option Fault → ℕ
+abbrev pub end_of : List Token → Option TokenFault → ℕ
 end_of tokens None = length tokens
-end_of tokens (Some f) = f.place
+end_of tokens (Some f) = f.token
 
 -- what is surveyed of the tokens before the first fault of a token, where that is this one
-pub record Found (tokens : List Token) (found : Option Fault) (s : LimitFaults) : Type 0 where
+pub record Found (tokens : List Token) (found : Option TokenFault) (s : LimitFaults) : Type 0 where
   pub judged : Judged tokens found
   pub front : Front tokens
   pub surveyed : Surveyed (defs_meaning (known front.seen.state)) s

@@ -4,7 +4,7 @@ use Rattle.st_num.specs.declared.span.Span.{Span}
 use Rattle.st_num.specs.declared.rule.RuleId.{RuleId}
 use Rattle.st_num.specs.declared.rule.RuleId.TheVariants.{S2, S3}
 use Rattle.st_scan.specs.declared.token.Token.{Token}
-use Rattle.st_grammar.specs.Lexemes.{declared_names}
+use Rattle.st_grammar.specs.Terminals.{declared_names}
 use Rattle.st_parse_faults.specs.Faults.{Seen, passed, broken, verdict, Faultless, FirstFault}
 use Rattle.st_parse_faults.specs.Place.{place_at}
 use Rattle.st_el.specs.declared.definition.Def.{Def}
@@ -48,8 +48,8 @@ abbrev pub VariableFault : List Token → Span → RuleId → Type 0
 VariableFault tokens at rule = Standing tokens variable_past (Some at) × (rule ≡ S3)
 
 -- a token, or the end of the tokens
-abbrev pub TokenFault : List Token → Span → RuleId → Type 0
-TokenFault tokens at rule =
+abbrev pub FaultyToken : List Token → Span → RuleId → Type 0
+FaultyToken tokens at rule =
     Standing tokens variable_past None
     × ((k : ℕ) × FirstFault tokens k rule × (at ≡ place_at tokens k))
 
@@ -62,7 +62,7 @@ HeightFault tokens at rule =
 -- The first fault breaks this rule, and stands there.
 abbrev pub FaultAt : List Token → Span → RuleId → Type 0
 FaultAt tokens at rule =
-    VariableFault tokens at rule ⊎ (TokenFault tokens at rule ⊎ HeightFault tokens at rule)
+    VariableFault tokens at rule ⊎ (FaultyToken tokens at rule ⊎ HeightFault tokens at rule)
 
 abbrev pub Answers : List Token → Result (List Def) SyntaxFault → Type 0
 Answers tokens (Ok defs) = IsSource tokens defs

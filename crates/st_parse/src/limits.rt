@@ -1,8 +1,8 @@
 //! What the limits ask of the definitions that stand whole.
 
 ghost use Rattle.std.specs.Prelude.{◌≡◌, map, Some, IfOk};
-ghost use Rattle.st_grammar.specs.Lexemes as lexemes;
-ghost use Rattle.st_grammar.specs.Places as places;
+ghost use Rattle.st_grammar.specs.Terminals as terminals;
+ghost use Rattle.st_grammar.specs.Positions as positions;
 ghost use Rattle.st_parse_builder.specs.Definitions.{defs_meaning};
 ghost use Rattle.st_draft.specs.Known.{known};
 ghost use Rattle.st_parse.specs.Found.{Judged, Found, Surveyed, end_of};
@@ -11,7 +11,7 @@ use crate::survey::begun_survey;
 use st_draft::read_source;
 use st_num::{Name, NoMemory, Span};
 use st_parse_builder::BuildFault;
-use st_parse_faults::Fault;
+use st_parse_faults::TokenFault;
 use st_scan::Token;
 use std::alloc::Global;
 
@@ -23,22 +23,22 @@ pub struct LimitFaults {
 }
 
 /// How many tokens stand before the first one with a fault.
-fn front_end(tokens: &[Token], fault: Option<Fault>) -> usize
+fn front_end(tokens: &[Token], fault: Option<TokenFault>) -> usize
     ensures { result ≡ end_of tokens.now fault }
 {
     match fault {
         None => tokens.len(),
-        Some(fault) => fault.place,
+        Some(fault) => fault.token,
     }
 }
 
 /// What the limits ask of the definitions that stand whole behind these tokens, where these names
 /// are declared by `var`.
 fn survey(alloc: Global, names: &[Name], tokens: &[Token]) -> Result<LimitFaults, NoMemory>
-    requires reads { (st : places.State)
-        × (places.reading places.start (map (lexemes.lexeme names.now) tokens.now) ≡ Some st) }
-    ensures { (st : places.State)
-        → places.reading places.start (map (lexemes.lexeme names.now) tokens.now) ≡ Some st
+    requires reads { (st : positions.State)
+        × (positions.reading positions.start (map (terminals.terminal names.now) tokens.now) ≡ Some st) }
+    ensures { (st : positions.State)
+        → positions.reading positions.start (map (terminals.terminal names.now) tokens.now) ≡ Some st
         → IfOk result (Surveyed (defs_meaning (known st))) }
 {
     let mut survey = begun_survey(alloc);
@@ -59,9 +59,9 @@ pub(crate) fn limit_faults(
     alloc: Global,
     names: &[Name],
     tokens: &[Token],
-    fault: Option<Fault>,
+    fault: Option<TokenFault>,
 ) -> Result<LimitFaults, NoMemory>
-    requires names { names.now ≡ lexemes.declared_names tokens.now }
+    requires names { names.now ≡ terminals.declared_names tokens.now }
     requires judged { Judged tokens.now fault }
     ensures { IfOk result (Found tokens.now fault) }
 {

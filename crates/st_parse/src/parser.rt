@@ -1,8 +1,8 @@
 //! The definitions of tokens.
 
 ghost use Rattle.std.specs.Prelude.{◌≡◌, [], map, List, None, Some, IfOk, IfErr};
-ghost use Rattle.st_grammar.specs.Lexemes as lexemes;
-ghost use Rattle.st_grammar.specs.Places as places;
+ghost use Rattle.st_grammar.specs.Terminals as terminals;
+ghost use Rattle.st_grammar.specs.Positions as positions;
 ghost use Rattle.st_grammar.specs.Definitions.{Defs};
 ghost use Rattle.st_parse_faults.specs.Faults.{Faultless};
 ghost use Rattle.st_el.specs.Plain.{nowhere};
@@ -31,13 +31,13 @@ fn build_all(
     draft: &mut Draft,
 ) -> Result<(), BuildFault>
     requires fresh { draft.old ≡ drafts.begun [] nowhere }
-    ensures built { (st : places.State) (ds : Defs)
-        → places.reading places.start (map (lexemes.lexeme names.now) tokens.now) ≡ Some st
-        → places.finish st ≡ Some ds
+    ensures built { (st : positions.State) (ds : Defs)
+        → positions.reading positions.start (map (terminals.terminal names.now) tokens.now) ≡ Some st
+        → positions.finish st ≡ Some ds
         → IfOk result (λ _. draft.new.defs ≡ defs_meaning ds) }
-    ensures low { (st : places.State) (ds : Defs)
-        → places.reading places.start (map (lexemes.lexeme names.now) tokens.now) ≡ Some st
-        → places.finish st ≡ Some ds → first_that too_tall (defs_meaning ds) ≡ None
+    ensures low { (st : positions.State) (ds : Defs)
+        → positions.reading positions.start (map (terminals.terminal names.now) tokens.now) ≡ Some st
+        → positions.finish st ≡ Some ds → first_that too_tall (defs_meaning ds) ≡ None
         → IfErr result OnlyMemory }
 {
     read_source(alloc, names, tokens, draft)
@@ -46,7 +46,7 @@ fn build_all(
 /// The definitions of tokens without a fault, where these names are declared by `var`. Where no
 /// tree is too high, building fails for memory alone.
 fn read_definitions(alloc: Global, names: &[Name], tokens: &[Token]) -> Result<Row<Def>, NoMemory>
-    requires names { names.now ≡ lexemes.declared_names tokens.now }
+    requires names { names.now ≡ terminals.declared_names tokens.now }
     requires faultless { Faultless tokens.now }
     requires low { (defs : List Def) → IsParsed tokens.now defs
         → first_that too_tall defs ≡ None }
@@ -78,7 +78,7 @@ pub fn parse(alloc: Global, tokens: &[Token]) -> Result<Row<Def>, SyntaxFault>
     }
     if let Some(fault) = fault {
         return Err(SyntaxFault::Refused {
-            at: place_at(tokens, fault.place),
+            at: place_at(tokens, fault.token),
             rule: fault.rule,
         });
     }

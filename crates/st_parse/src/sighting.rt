@@ -22,7 +22,7 @@ ghost use Rattle.st_parse.specs.Surveys as spec;
 use crate::closing::{close, whole_premises};
 use crate::measure::{Measure, add_exp, measured, measured_all, raised, without_variables};
 use crate::survey::{MemberHeights, PremiseMeasures, SideMeasures, Survey, no_premises, surveyed};
-use st_draft::{Change, Ending, NOWHERE, Sketch, Word, index_in};
+use st_draft::{Change, Ending, NOWHERE, Listener, Word, index_in};
 use st_measure::{leave_out, measure_notation, measure_typ};
 use st_num::{NoMemory, Row, Span};
 use st_parse_automaton::{Shape, Slot};
@@ -314,7 +314,7 @@ fn put_count<'a>(
     Ok(())
 }
 
-impl<'a> Sketch<'a> for Survey<'a> {
+impl<'a> Listener<'a> for Survey<'a> {
     ghost Draws = { spec.Surveys };
 
     ghost Low = { λ draft. ⊤ };

@@ -5,14 +5,14 @@ use Rattle.st_grammar.specs.declared.sort.Bracket.TheVariants as bracket
 use Rattle.st_grammar.specs.declared.sort.Closing.TheVariants as closings
 use Rattle.st_grammar.specs.declared.sort.Sort.{Sort}
 use Rattle.st_grammar.specs.declared.sort.Sort.TheVariants as sorts
-use Rattle.st_parse_automaton.specs.declared.outline.Shape.{Shape}
-use Rattle.st_parse_automaton.specs.declared.outline.Shape.TheVariants.{Single, Dot, Sign, Open, Close, Other}
-use Rattle.st_parse_automaton.specs.declared.outline.Kind.TheVariants.{Index as InIndex}
-use Rattle.st_parse_automaton.specs.declared.outline.Filling.TheVariants.{Empty}
-use Rattle.st_parse_automaton.specs.declared.outline.Lead.TheVariants.{Left, Ahead, Items}
-use Rattle.st_parse_automaton.specs.declared.outline.Frame.{Frame}
-use Rattle.st_parse_automaton.specs.declared.outline.Frame.TheVariants.{Within, Over, Timing}
-use Rattle.st_parse_automaton.specs.Outline as out
+use Rattle.st_parse_automaton.specs.declared.part_automaton.Shape.{Shape}
+use Rattle.st_parse_automaton.specs.declared.part_automaton.Shape.TheVariants.{Single, Dot, Sign, Open, Close, Other}
+use Rattle.st_parse_automaton.specs.declared.part_automaton.Kind.TheVariants.{Index as InIndex}
+use Rattle.st_parse_automaton.specs.declared.part_automaton.Filling.TheVariants.{Empty}
+use Rattle.st_parse_automaton.specs.declared.part_automaton.Lead.TheVariants.{Left, Ahead, Items}
+use Rattle.st_parse_automaton.specs.declared.part_automaton.Frame.{Frame}
+use Rattle.st_parse_automaton.specs.declared.part_automaton.Frame.TheVariants.{Within, Over, Timing}
+use Rattle.st_parse_automaton.specs.PartAutomaton as parts
 use Rattle.st_parse_builder.specs.declared.action.Action.{Action}
 use Rattle.st_parse_actions.specs.Emits.{extending, beginning, beginning_next}
 
@@ -52,10 +52,10 @@ index_alone base fs (Close closings.ByBar) x = refl
 index_alone base fs Other x = refl
 
 pub next_begins : (base : Sort) (fs : List Frame) (s : Shape) (x : Token)
-    → beginning_next base fs s x ≡ extending fs ++ beginning base (Over Items (out.top base fs) ∷ []) s x
+    → beginning_next base fs s x ≡ extending fs ++ beginning base (Over Items (parts.top base fs) ∷ []) s x
 next_begins base fs s x = ap (λ a. extending fs ++ a) (go fs)
   where
-    go : (gs : List Frame) → beginning base (out.extend base gs) s x ≡ beginning base (Over Items (out.top base gs) ∷ []) s x
+    go : (gs : List Frame) → beginning base (parts.extend base gs) s x ≡ beginning base (Over Items (parts.top base gs) ∷ []) s x
     go [] = refl
     go (Timing ∷ gs) = over_alone base sorts.Count (Timing ∷ gs) s x
     go (Within k f t σ ∷ gs) = over_alone base σ (Within k f t σ ∷ gs) s x
@@ -64,7 +64,7 @@ next_begins base fs s x = ap (λ a. extending fs ++ a) (go fs)
     go (Over Items σ ∷ gs) = over_alone base σ gs s x
 
 pub next_acts : (base σ : Sort) (fs : List Frame) (s : Shape) (x : Token) (old between new : List Action)
-    → between ≡ old ++ extending fs → σ ≡ out.top base fs → new ≡ between ++ beginning base (Over Items σ ∷ []) s x → new ≡ old ++ beginning_next base fs s x
+    → between ≡ old ++ extending fs → σ ≡ parts.top base fs → new ≡ between ++ beginning base (Over Items σ ∷ []) s x → new ≡ old ++ beginning_next base fs s x
 next_acts base σ fs s x old between new e f h =
     h ∙ ap (λ a. a ++ beginning base (Over Items σ ∷ []) s x) e
     ∙ append_assoc old (extending fs) (beginning base (Over Items σ ∷ []) s x)

@@ -1,4 +1,4 @@
--- What is emitted of the outline is what is emitted of the trees.
+-- What is emitted by the part automaton is what is emitted of the trees.
 use Rattle.std.proofs.Common.{◌≡◌, ℕ, List, [], ◌∷◌, ◌++◌, Bool, true, false, ◌&&◌, nat_le, if◌then◌else◌, refl, sym, ap, ◌∙◌, arith}
 use Rattle.st_num.specs.declared.mark.Mark.{Mark}
 use Rattle.st_scan.specs.declared.token.Token.{Token}
@@ -7,7 +7,7 @@ use Rattle.st_grammar.specs.declared.sort.Bracket.{Bracket}
 use Rattle.st_grammar.specs.declared.sort.Bracket.TheVariants as bracket
 use Rattle.st_grammar.specs.declared.sort.Closing.{Closing}
 use Rattle.st_grammar.specs.declared.sort.Closing.TheVariants as closings
-use Rattle.st_grammar.specs.Lexemes.{Lexeme, leaf, dot, sign, opening, closing, other}
+use Rattle.st_grammar.specs.Terminals.{Terminal, leaf, dot, sign, opening, closing, other}
 use Rattle.st_grammar.specs.Levels.{tight, level_of, has_level, is_expression, is_count, is_caret}
 use Rattle.st_grammar.specs.Trees as tree
 use Rattle.st_grammar.specs.Trees.{Tree, Trees, Heading, Path, none, more}
@@ -17,9 +17,9 @@ use Rattle.st_grammar.specs.Definitions.{token_in}
 use Rattle.st_grammar.proofs.Sound.{base, state_base, Stand, Holds}
 use Rattle.st_grammar.proofs.Steps.{extend_base}
 use Rattle.st_parse_automaton.specs.Shapes.{shape}
-use Rattle.st_parse_automaton.specs.Outline as out
+use Rattle.st_parse_automaton.specs.PartAutomaton as parts
 use Rattle.st_parse_automaton.proofs.View.{part_of, frames_of, state_of, top_sort, least_is, opened_is}
-use Rattle.st_parse_automaton.proofs.Simulation.{both_and, lower_base, follows_is, extend_is, may_mark_is, lower_tight, level_high}
+use Rattle.st_parse_automaton.proofs.Simulation.{both_and, lower_base, follows_is, extend_is, may_iterate_is, lower_tight, level_high}
 use Rattle.st_parse_builder.specs.declared.action.Action.{Action}
 use Rattle.st_parse_builder.specs.declared.action.Action.TheVariants as action
 use Rattle.st_parse_builder.specs.Actions.{post_acts}
@@ -63,7 +63,7 @@ opening_is bracket.TickSquare x fs = refl
 opening_is bracket.TickBrace x fs = refl
 opening_is bracket.Dollar x fs = refl
 
-pub beginning_is : (fs : part.Frames) (l : Lexeme) → beginning (base fs) (frames_of fs) (shape l) (token_in l) ≡ emission.beginning fs l
+pub beginning_is : (fs : part.Frames) (l : Terminal) → beginning (base fs) (frames_of fs) (shape l) (token_in l) ≡ emission.beginning fs l
 beginning_is fs (leaf k x) = ap (λ a. action.Operand k x ∷ a) (operand_settles k x fs)
 beginning_is fs (dot x) = refl
 beginning_is fs (sign m x) = refl
@@ -82,7 +82,7 @@ extending_is (part.over (tree.items none) fs) h = absurd (omega (arith, h.1.2))
 extending_is (part.over (tree.items (more ts pre t)) fs) h = refl
 extending_is (part.timing t m x fs) h = refl
 
-pub next_begins : (t : Tree) (fs : part.Frames) (l : Lexeme) → beginning (base fs) (out.extend (base fs) (frames_of fs)) (shape l) (token_in l) ≡ emission.beginning (part.extend t fs) l
+pub next_begins : (t : Tree) (fs : part.Frames) (l : Terminal) → beginning (base fs) (parts.extend (base fs) (frames_of fs)) (shape l) (token_in l) ≡ emission.beginning (part.extend t fs) l
 next_begins t fs l =
     ap (λ gs. beginning (base fs) gs (shape l) (token_in l)) (extend_is t fs)
     ∙ ap (λ σ. beginning σ (frames_of (part.extend t fs)) (shape l) (token_in l)) (sym (extend_base t fs))
@@ -100,7 +100,7 @@ joining_is m fs =
     (both_and _ _ _ _ (ap (λ σ. has_level σ (level_of m)) (top_sort fs)) (ap (λ n. nat_le n (level_of m)) (least_is fs))) refl (separating_is fs)
 
 pub lowered_joins : (m : Mark) (n : ℕ) (t : Tree) (fs : part.Frames) → grammar.level t ≡ tight
-    → joining (base fs) m (out.lower n tight (part_of t) (frames_of fs)).2 ≡ emission.joining m (part.lower n t fs).1
+    → joining (base fs) m (parts.lower n tight (part_of t) (frames_of fs)).2 ≡ emission.joining m (part.lower n t fs).1
 lowered_joins m n t fs e =
     ap (λ q. joining (base fs) m q.2) (lower_tight n t fs e)
     ∙ ap (λ σ. joining σ m (frames_of (part.lower n t fs).1)) (sym (lower_base n t fs))
@@ -109,19 +109,19 @@ lowered_joins m n t fs e =
 pub sign_is : (t : Tree) (m : Mark) (x : Token) (fs : part.Frames) → grammar.level t ≡ tight → behind_sign (base fs) m (part_of t) (frames_of fs) ≡ emission.behind_sign_acts m x t fs
 sign_is t m x fs e =
     if_same _ _ _ _ (post_acts (sign m x)) _
-    (ap (λ σ. out.may_mark σ (part_of t) m) (top_sort fs) ∙ may_mark_is (part.sort fs) t m x) refl
+    (ap (λ σ. parts.may_iterate σ (part_of t) m) (top_sort fs) ∙ may_iterate_is (part.sort fs) t m x) refl
     (if_same _ _ [] _ [] _ (ap (λ σ. is_expression σ && is_caret m) (top_sort fs)) refl
-    (ap (λ σ. lowering (out.pull σ m) (frames_of fs) ++ joining (base fs) m (out.lower (out.pull σ m) tight (part_of t) (frames_of fs)).2) (top_sort fs)
+    (ap (λ σ. lowering (parts.pull σ m) (frames_of fs) ++ joining (base fs) m (parts.lower (parts.pull σ m) tight (part_of t) (frames_of fs)).2) (top_sort fs)
     ∙ both_append _ _ _ _ (lowering_is (part.pull (part.sort fs) m) fs) (lowered_joins m (part.pull (part.sort fs) m) t fs e)))
 
 pub closes_is : (x : Token) (t : Tree) (fs : part.Frames) → grammar.level t ≡ tight
-    → closed (open_marks fs) (out.lower 0 tight (part_of t) (frames_of fs)).2 ≡ emission.closed x (part.lower 0 t fs)
+    → closed (open_marks fs) (parts.lower 0 tight (part_of t) (frames_of fs)).2 ≡ emission.closed x (part.lower 0 t fs)
 closes_is x t fs e =
     ap (λ q. closed (open_marks fs) q.2) (lower_tight 0 t fs e)
     ∙ ap (λ ms. closed ms (frames_of (part.lower 0 t fs).1)) (sym (lower_marks 0 t fs))
     ∙ closed_is x (part.lower 0 t fs).0 (part.lower 0 t fs).1
 
-pub behind_is : (t : Tree) (fs : part.Frames) (l : Lexeme) → grammar.level t ≡ tight → behind (base fs) (open_marks fs) (part_of t) (frames_of fs) (shape l) (token_in l) ≡ emission.behind_acts t fs l
+pub behind_is : (t : Tree) (fs : part.Frames) (l : Terminal) → grammar.level t ≡ tight → behind (base fs) (open_marks fs) (part_of t) (frames_of fs) (shape l) (token_in l) ≡ emission.behind_acts t fs l
 behind_is t fs (leaf k x) e = refl
 behind_is t fs (dot x) e = refl
 behind_is t fs (sign m x) e = sign_is t m x fs e
@@ -135,20 +135,20 @@ behind_is t fs (opening bracket.Dollar x) e = refl
 behind_is t fs (closing c x) e = both_append _ _ _ _ (lowering_is 0 fs) (closes_is x t fs e)
 behind_is t fs (other x) e = refl
 
-pub after_is : (t : Tree) (fs : part.Frames) (l : Lexeme) → Stand fs → grammar.level t ≡ tight → after (base fs) (open_marks fs) (part_of t) (frames_of fs) (shape l) (token_in l) ≡ emission.after_acts t fs l
+pub after_is : (t : Tree) (fs : part.Frames) (l : Terminal) → Stand fs → grammar.level t ≡ tight → after (base fs) (open_marks fs) (part_of t) (frames_of fs) (shape l) (token_in l) ≡ emission.after_acts t fs l
 after_is t fs l h e =
-    if_same _ _ _ _ _ _ (ap (λ σ. out.follows σ (part_of t) (shape l)) (top_sort fs) ∙ follows_is (part.sort fs) t l)
+    if_same _ _ _ _ _ _ (ap (λ σ. parts.follows σ (part_of t) (shape l)) (top_sort fs) ∙ follows_is (part.sort fs) t l)
     (both_append _ _ _ _ (extending_is fs h) (next_begins t fs l)) (behind_is t fs l e)
 
 -- ---- paths, names and counts
 
-pub in_index_is : (p : Path) (fs : part.Frames) (l : Lexeme) → in_index (base fs) (grammar.has_step p) (frames_of fs) (shape l) (token_in l) ≡ emission.index_acts_in p fs l
+pub in_index_is : (p : Path) (fs : part.Frames) (l : Terminal) → in_index (base fs) (grammar.has_step p) (frames_of fs) (shape l) (token_in l) ≡ emission.index_acts_in p fs l
 in_index_is (tree.head t o) fs l =
     ap (λ gs. beginning (base fs) gs (shape l) (token_in l)) (opened_is (tree.index t o) fs) ∙ beginning_is (part.within (tree.index t o) none [] fs) l
 in_index_is (tree.field p x) fs l = refl
 in_index_is (tree.part p o ts c) fs l = refl
 
-pub path_is : (p : Path) (fs : part.Frames) (l : Lexeme) → in_path (base fs) (grammar.has_step p) (frames_of fs) (shape l) (token_in l) ≡ emission.path_step_acts p fs l
+pub path_is : (p : Path) (fs : part.Frames) (l : Terminal) → in_path (base fs) (grammar.has_step p) (frames_of fs) (shape l) (token_in l) ≡ emission.path_step_acts p fs l
 path_is p fs (dot x) = refl
 path_is p fs (leaf k x) = in_index_is p fs (leaf k x)
 path_is p fs (opening bracket.Square x) = refl
@@ -162,7 +162,7 @@ path_is p fs (closing c x) = in_index_is p fs (closing c x)
 path_is p fs (other x) = in_index_is p fs (other x)
 path_is p fs (sign m x) = if_same _ _ [] _ [] _ refl refl (in_index_is p fs (sign m x))
 
-pub naming_is : (h : Heading) (ts : Trees) (pre : List Lexeme) (fs : part.Frames) (l : Lexeme) → naming (frames_of (part.within h ts pre fs)) (token_in l) ≡ emission.name_acts h l
+pub naming_is : (h : Heading) (ts : Trees) (pre : List Terminal) (fs : part.Frames) (l : Terminal) → naming (frames_of (part.within h ts pre fs)) (token_in l) ≡ emission.name_acts h l
 naming_is (tree.plain bracket.Round o) ts pre fs l = refl
 naming_is (tree.plain bracket.Square o) ts pre fs l = refl
 naming_is (tree.plain bracket.Brace o) ts pre fs l = refl
@@ -177,7 +177,7 @@ naming_is (tree.segment p o) ts pre fs l = refl
 naming_is (tree.update p m x) ts pre fs l = refl
 naming_is (tree.below o i m x) ts pre fs l = refl
 
-pub name_index_is : (fs : part.Frames) (l : Lexeme) → name_index (frames_of fs) (shape l) (token_in l) ≡ emission.name_index_acts fs l
+pub name_index_is : (fs : part.Frames) (l : Terminal) → name_index (frames_of fs) (shape l) (token_in l) ≡ emission.name_index_acts fs l
 name_index_is fs (leaf leaves.Low i) = label_is i fs
 name_index_is fs (leaf leaves.Basic x) = refl
 name_index_is fs (leaf leaves.Variable x) = refl
@@ -201,7 +201,7 @@ state_marks (part.pathed p fs) = open_marks fs
 state_marks (part.indexing o fs) = open_marks fs
 state_marks (part.comparing o i fs) = open_marks fs
 
-pub emits_is : (st : part.State) (l : Lexeme) → Holds st → emits (state_base st) (state_marks st) (state_of st) (shape l) (token_in l) ≡ emission.emitted st l
+pub emits_is : (st : part.State) (l : Terminal) → Holds st → emits (state_base st) (state_marks st) (state_of st) (shape l) (token_in l) ≡ emission.emitted st l
 emits_is (part.want fs) l h = beginning_is fs l
 emits_is (part.got t fs) l h = after_is t fs l h.0.frames (omega (arith, level_high t, h.1))
 emits_is (part.naming k ts pre fs) l n = naming_is k ts pre fs l

@@ -1,10 +1,10 @@
--- What is emitted where parts and brackets end, of the outline and of the trees.
+-- What is emitted where parts and brackets end, by the part automaton and of the trees.
 use Rattle.std.proofs.Common.{◌≡◌, ℕ, List, [], ◌∷◌, ◌++◌, Bool, true, false, Some, None, nat_le, if◌then◌else◌, refl, ap, ◌∙◌}
 use Rattle.st_num.specs.declared.mark.Mark.{Mark}
 use Rattle.st_scan.specs.declared.token.Token.{Token}
 use Rattle.st_grammar.specs.declared.sort.Leaf.{Leaf}
 use Rattle.st_grammar.specs.declared.sort.Bracket.TheVariants as bracket
-use Rattle.st_grammar.specs.Lexemes.{Lexeme}
+use Rattle.st_grammar.specs.Terminals.{Terminal}
 use Rattle.st_grammar.specs.Trees as tree
 use Rattle.st_grammar.specs.Trees.{Tree, Trees, Heading, none, more}
 use Rattle.st_grammar.specs.Reading as part
@@ -82,7 +82,7 @@ part_end_is (tree.segment p o) = refl
 part_end_is (tree.update p m x) = refl
 part_end_is (tree.below o i m x) = refl
 
-pub kind_end_is : (h : Heading) (ts : Trees) (pre : List Lexeme) (t : Tree) (fs : part.Frames)
+pub kind_end_is : (h : Heading) (ts : Trees) (pre : List Terminal) (t : Tree) (fs : part.Frames)
     → kind_end (kind_of h) (filling ts pre) (open_marks (part.within h ts pre fs)) ≡ closing_acts h (more ts pre t)
 kind_end_is (tree.plain bracket.Round o) ts pre t fs = refl
 kind_end_is (tree.plain bracket.Square o) ts pre t fs = refl

@@ -9,7 +9,7 @@ use Rattle.st_grammar.specs.declared.sort.Bracket.{Bracket}
 use Rattle.st_grammar.specs.declared.sort.Bracket.TheVariants as bracket
 use Rattle.st_grammar.specs.declared.sort.Closing.{Closing}
 use Rattle.st_grammar.specs.declared.sort.Closing.TheVariants as closings
-use Rattle.st_grammar.specs.Lexemes.{Lexeme, leaf, dot, sign, opening, closing, other}
+use Rattle.st_grammar.specs.Terminals.{Terminal, leaf, dot, sign, opening, closing, other}
 use Rattle.st_grammar.specs.Levels.{takes, encloses, computes, is_expression, is_count, tight, level_of, ahead_level, has_level, left_of, is_caret, is_comma, is_colon, is_less, is_change}
 use Rattle.st_grammar.specs.Trees as tree
 use Rattle.st_grammar.specs.Trees.{Tree, Trees, Heading, Path, none, more, agree, closes}
@@ -17,7 +17,7 @@ use Rattle.st_grammar.specs.Grammar.{style, is_label, follows, may_post, level, 
 use Rattle.st_grammar.specs.Reading.{Frames, bottom, within, over, timing, State, want, got, naming, pathed, indexing, comparing, sort, least, settle, lower, shut, close, opened, no_arguments, begin_closing, begin_opening, begin, extend, next_part, separate, join, pull, behind_sign, behind_square, behind_round, behind, after, in_index, in_path, name_index, bound_index, step}
 use Rattle.st_grammar.proofs.Sound.{state_base, Holds}
 use Rattle.st_parse_automaton.specs.Shapes.{shape}
-use Rattle.st_parse_automaton.specs.Outline as out
+use Rattle.st_parse_automaton.specs.PartAutomaton as parts
 use Rattle.st_parse_automaton.proofs.View.{part_of, kind_of, frames_of, state_of, top_sort}
 use Rattle.st_parse_automaton.proofs.Simulation.{follows_is, lower_tight, level_high}
 use Rattle.st_parse_actions.specs.Emits.{drop_change, closed_marks, behind_marks, path_marks, kept}
@@ -74,7 +74,7 @@ opening_keeps bracket.TickSquare x fs = keeps_if (encloses (sort fs) bracket.Tic
 opening_keeps bracket.TickBrace x fs = keeps_if (encloses (sort fs) bracket.TickBrace) (open_marks fs) (opened bracket.TickBrace x fs) refl
 opening_keeps bracket.Dollar x fs = keeps_if (encloses (sort fs) bracket.Dollar) (open_marks fs) (opened bracket.Dollar x fs) refl
 
-pub begin_keeps : (fs : Frames) (l : Lexeme) → Keeps (open_marks fs) (begin fs l)
+pub begin_keeps : (fs : Frames) (l : Terminal) → Keeps (open_marks fs) (begin fs l)
 begin_keeps fs (leaf k x) = keeps_if (takes (sort fs) k) (open_marks fs) (settle (tree.operand k x) fs) (settle_keeps (tree.operand k x) fs)
 begin_keeps fs (dot x) = tt
 begin_keeps fs (sign m x) = keeps_if (has_level (sort fs) (ahead_level m) && nat_le (least fs) (ahead_level m)) (open_marks fs) (want (over (tree.ahead m x) fs)) refl
@@ -164,13 +164,13 @@ close_keeps c x (t, within h ts pre fs) =
     keeps_if (agree (closes h) c) (drop_change (kind_of h) (heading_marks h ++ open_marks fs)) (shut h (more ts pre t) x fs) (shut_keeps h (more ts pre t) x fs)
 
 pub closes_keep : (c : Closing) (x : Token) (t : Tree) (fs : Frames) → level t ≡ tight
-    → Keeps (closed_marks (open_marks fs) (out.lower 0 tight (part_of t) (frames_of fs)).2) (close c x (lower 0 t fs))
+    → Keeps (closed_marks (open_marks fs) (parts.lower 0 tight (part_of t) (frames_of fs)).2) (close c x (lower 0 t fs))
 closes_keep c x t fs e =
     subst (λ ms. Keeps ms (close c x (lower 0 t fs)))
     (ap (λ ms. closed_marks ms (frames_of (lower 0 t fs).1)) (lower_marks 0 t fs) ∙ ap (λ q. closed_marks (open_marks fs) q.2) (sym (lower_tight 0 t fs e)))
     (close_keeps c x (lower 0 t fs))
 
-pub behind_keeps : (t : Tree) (fs : Frames) (l : Lexeme) → level t ≡ tight → Keeps (behind_marks (open_marks fs) (part_of t) (frames_of fs) (shape l)) (behind t fs l)
+pub behind_keeps : (t : Tree) (fs : Frames) (l : Terminal) → level t ≡ tight → Keeps (behind_marks (open_marks fs) (part_of t) (frames_of fs) (shape l)) (behind t fs l)
 behind_keeps t fs (leaf k x) e = tt
 behind_keeps t fs (dot x) e = keeps_if (may_post (sort fs) t (dot x)) (open_marks fs) (got (tree.post t (dot x)) fs) refl
 behind_keeps t fs (sign m x) e = sign_keeps m x t fs
@@ -184,10 +184,10 @@ behind_keeps t fs (opening bracket.Dollar x) e = tt
 behind_keeps t fs (closing c x) e = closes_keep c x t fs e
 behind_keeps t fs (other x) e = tt
 
-pub after_keeps : (t : Tree) (fs : Frames) (l : Lexeme) → level t ≡ tight → Keeps (kept (state_base (got t fs)) (open_marks fs) (state_of (got t fs)) (shape l)) (after t fs l)
+pub after_keeps : (t : Tree) (fs : Frames) (l : Terminal) → level t ≡ tight → Keeps (kept (state_base (got t fs)) (open_marks fs) (state_of (got t fs)) (shape l)) (after t fs l)
 after_keeps t fs l e =
     subst (λ b. Keeps (if b then open_marks fs else behind_marks (open_marks fs) (part_of t) (frames_of fs) (shape l)) (after t fs l))
-    (sym (ap (λ σ. out.follows σ (part_of t) (shape l)) (top_sort fs) ∙ follows_is (sort fs) t l)) (go (follows (sort fs) t l))
+    (sym (ap (λ σ. parts.follows σ (part_of t) (shape l)) (top_sort fs) ∙ follows_is (sort fs) t l)) (go (follows (sort fs) t l))
   where
     go : (b : Bool) → Keeps (if b then open_marks fs else behind_marks (open_marks fs) (part_of t) (frames_of fs) (shape l)) (if b then begin (extend t fs) l else behind t fs l)
     go true = subst (λ ms. Keeps ms (begin (extend t fs) l)) (extend_marks t fs) (begin_keeps (extend t fs) l)
@@ -195,12 +195,12 @@ after_keeps t fs l e =
 
 -- ---- paths, names and counts
 
-pub in_index_keeps : (p : Path) (fs : Frames) (l : Lexeme) → Keeps (open_marks fs) (in_index p fs l)
+pub in_index_keeps : (p : Path) (fs : Frames) (l : Terminal) → Keeps (open_marks fs) (in_index p fs l)
 in_index_keeps (tree.head t o) fs l = begin_keeps (within (tree.index t o) none [] fs) l
 in_index_keeps (tree.field p x) fs l = tt
 in_index_keeps (tree.part p o ts c) fs l = tt
 
-pub path_keeps : (p : Path) (fs : Frames) (l : Lexeme) → Keeps (path_marks (open_marks fs) (has_step p) (shape l)) (in_path p fs l)
+pub path_keeps : (p : Path) (fs : Frames) (l : Terminal) → Keeps (path_marks (open_marks fs) (has_step p) (shape l)) (in_path p fs l)
 path_keeps p fs (dot x) = refl
 path_keeps p fs (opening bracket.Square x) = refl
 path_keeps p fs (sign m x) = go (has_step p && is_change m)
@@ -218,7 +218,7 @@ path_keeps p fs (opening bracket.Dollar x) = in_index_keeps p fs (opening bracke
 path_keeps p fs (closing c x) = in_index_keeps p fs (closing c x)
 path_keeps p fs (other x) = in_index_keeps p fs (other x)
 
-pub index_keeps : (o : Token) (fs : Frames) (l : Lexeme) → Keeps (open_marks fs) (name_index o fs l)
+pub index_keeps : (o : Token) (fs : Frames) (l : Terminal) → Keeps (open_marks fs) (name_index o fs l)
 index_keeps o fs (leaf leaves.Low i) = refl
 index_keeps o fs (leaf leaves.Basic x) = tt
 index_keeps o fs (leaf leaves.Variable x) = tt
@@ -232,7 +232,7 @@ index_keeps o fs (opening k x) = tt
 index_keeps o fs (closing c x) = tt
 index_keeps o fs (other x) = tt
 
-pub bound_keeps : (o i : Token) (fs : Frames) (l : Lexeme) → Keeps (open_marks fs) (bound_index o i fs l)
+pub bound_keeps : (o i : Token) (fs : Frames) (l : Terminal) → Keeps (open_marks fs) (bound_index o i fs l)
 bound_keeps o i fs (sign m x) = keeps_if (is_less m) (open_marks fs) (want (within (tree.below o i m x) none [] fs)) refl
 bound_keeps o i fs (leaf k x) = tt
 bound_keeps o i fs (dot x) = tt
@@ -240,7 +240,7 @@ bound_keeps o i fs (opening k x) = tt
 bound_keeps o i fs (closing c x) = tt
 bound_keeps o i fs (other x) = tt
 
-pub step_keeps : (st : State) (l : Lexeme) → Holds st → Keeps (kept (state_base st) (state_marks st) (state_of st) (shape l)) (step st l)
+pub step_keeps : (st : State) (l : Terminal) → Holds st → Keeps (kept (state_base st) (state_marks st) (state_of st) (shape l)) (step st l)
 step_keeps (want fs) l h = begin_keeps fs l
 step_keeps (got t fs) l h = after_keeps t fs l (omega (arith, level_high t, h.1))
 step_keeps (naming k ts pre fs) l h = keeps_if (is_label l) (open_marks (within k ts pre fs)) (want (within k ts (pre ++ l ∷ []) fs)) refl

@@ -11,21 +11,21 @@ use Rattle.st_grammar.specs.declared.sort.Closing.{Closing}
 use Rattle.st_grammar.specs.declared.sort.Closing.TheVariants as closings
 use Rattle.st_grammar.specs.declared.sort.Sort.{Sort}
 use Rattle.st_grammar.specs.Levels.{is_expression, is_count, level_of, has_level, tight, is_caret, is_change}
-use Rattle.st_parse_automaton.specs.declared.outline.Shape.{Shape}
-use Rattle.st_parse_automaton.specs.declared.outline.Shape.TheVariants.{Single, Dot, Sign, Open, Close}
-use Rattle.st_parse_automaton.specs.declared.outline.Part.{Part}
-use Rattle.st_parse_automaton.specs.declared.outline.Kind.{Kind}
-use Rattle.st_parse_automaton.specs.declared.outline.Kind.TheVariants.{Plain, Length, Arguments, Index as InIndex, Segment, Update, Below}
-use Rattle.st_parse_automaton.specs.declared.outline.Filling.{Filling}
-use Rattle.st_parse_automaton.specs.declared.outline.Filling.TheVariants.{Parts}
-use Rattle.st_parse_automaton.specs.declared.outline.Lead.{Lead}
-use Rattle.st_parse_automaton.specs.declared.outline.Lead.TheVariants.{Left, Ahead, Items}
-use Rattle.st_parse_automaton.specs.declared.outline.Frame.{Frame}
-use Rattle.st_parse_automaton.specs.declared.outline.Frame.TheVariants.{Within, Over, Timing}
-use Rattle.st_parse_automaton.specs.declared.outline.Due.TheVariants.{Operand, Next, Label, Step, Index as IndexDue, Less}
-use Rattle.st_parse_automaton.specs.Outline as out
+use Rattle.st_parse_automaton.specs.declared.part_automaton.Shape.{Shape}
+use Rattle.st_parse_automaton.specs.declared.part_automaton.Shape.TheVariants.{Single, Dot, Sign, Open, Close}
+use Rattle.st_parse_automaton.specs.declared.part_automaton.Part.{Part}
+use Rattle.st_parse_automaton.specs.declared.part_automaton.Kind.{Kind}
+use Rattle.st_parse_automaton.specs.declared.part_automaton.Kind.TheVariants.{Plain, Length, Arguments, Index as InIndex, Segment, Update, Below}
+use Rattle.st_parse_automaton.specs.declared.part_automaton.Filling.{Filling}
+use Rattle.st_parse_automaton.specs.declared.part_automaton.Filling.TheVariants.{Parts}
+use Rattle.st_parse_automaton.specs.declared.part_automaton.Lead.{Lead}
+use Rattle.st_parse_automaton.specs.declared.part_automaton.Lead.TheVariants.{Left, Ahead, Items}
+use Rattle.st_parse_automaton.specs.declared.part_automaton.Frame.{Frame}
+use Rattle.st_parse_automaton.specs.declared.part_automaton.Frame.TheVariants.{Within, Over, Timing}
+use Rattle.st_parse_automaton.specs.declared.part_automaton.Expected.TheVariants.{Operand, Next, Label, Step, Index as IndexExpected, Less}
+use Rattle.st_parse_automaton.specs.PartAutomaton as parts
 use Rattle.st_parse_automaton.specs.Shapes.{shape}
-use Rattle.st_grammar.specs.Lexemes.{Lexeme}
+use Rattle.st_grammar.specs.Terminals.{Terminal}
 use Rattle.st_grammar.specs.Definitions.{token_in}
 use Rattle.st_parse_builder.specs.declared.action.Action.{Action}
 use Rattle.st_parse_builder.specs.declared.action.Action.TheVariants as action
@@ -59,7 +59,7 @@ lead_closes later (Some g) = lead_end g ++ later
 -- the signs and sequences that are closed over a part
 abbrev pub lowering : ℕ → List Frame → List Action
 lowering n [] = []
-lowering n (f ∷ fs) = lead_closes (lowering n fs) (out.closes f n)
+lowering n (f ∷ fs) = lead_closes (lowering n fs) (parts.closes f n)
 
 -- behind a part of a bracket
 abbrev pub part_end : Kind → List Action
@@ -125,7 +125,7 @@ opening b x = action.Here x.at
 
 abbrev pub beginning_opening : Sort → List Frame → Bracket → Token → List Action
 beginning_opening base fs bracket.Round x =
-    if is_count (out.top base fs) then [] else opening bracket.Round x ∷ []
+    if is_count (parts.top base fs) then [] else opening bracket.Round x ∷ []
 beginning_opening base fs b x = opening b x ∷ []
 
 abbrev pub beginning : Sort → List Frame → Shape → Token → List Action
@@ -148,17 +148,17 @@ separating fs = []
 -- The sign stands between two sides there.
 abbrev pub is_joined : Sort → Mark → List Frame → Bool
 is_joined base m fs =
-    has_level (out.top base fs) (level_of m) && nat_le (out.least fs) (level_of m)
+    has_level (parts.top base fs) (level_of m) && nat_le (parts.least fs) (level_of m)
 
 abbrev pub joining : Sort → Mark → List Frame → List Action
 joining base m fs = if is_joined base m fs then [] else separating fs
 
 abbrev pub behind_sign : Sort → Mark → Part → List Frame → List Action
 behind_sign base m p fs =
-    if out.may_mark (out.top base fs) p m then action.Mark m ∷ []
-    else if is_expression (out.top base fs) && is_caret m then []
-    else lowering (out.pull (out.top base fs) m) fs
-    ++ joining base m (out.lower (out.pull (out.top base fs) m) tight p fs).2
+    if parts.may_iterate (parts.top base fs) p m then action.Mark m ∷ []
+    else if is_expression (parts.top base fs) && is_caret m then []
+    else lowering (parts.pull (parts.top base fs) m) fs
+    ++ joining base m (parts.lower (parts.pull (parts.top base fs) m) tight p fs).2
 
 abbrev pub behind_opening : Bracket → Token → List Action
 behind_opening bracket.Square x = action.OpenPath ∷ []
@@ -168,16 +168,16 @@ abbrev pub behind : Sort → List Mark → Part → List Frame → Shape → Tok
 behind base marks p fs (Dot t) x = action.Dot x ∷ []
 behind base marks p fs (Sign m) x = behind_sign base m p fs
 behind base marks p fs (Open b t) x = behind_opening b x
-behind base marks p fs (Close c) x = lowering 0 fs ++ closed marks (out.lower 0 tight p fs).2
+behind base marks p fs (Close c) x = lowering 0 fs ++ closed marks (parts.lower 0 tight p fs).2
 behind base marks p fs s x = []
 
 -- A next element of a sequence begins with this token.
 abbrev pub beginning_next : Sort → List Frame → Shape → Token → List Action
-beginning_next base fs s x = extending fs ++ beginning base (out.extend base fs) s x
+beginning_next base fs s x = extending fs ++ beginning base (parts.extend base fs) s x
 
 abbrev pub after : Sort → List Mark → Part → List Frame → Shape → Token → List Action
 after base marks p fs s x =
-    if out.follows (out.top base fs) p s then beginning_next base fs s x
+    if parts.follows (parts.top base fs) p s then beginning_next base fs s x
     else behind base marks p fs s x
 
 -- ---- paths, names and counts
@@ -185,7 +185,7 @@ after base marks p fs s x =
 -- A position begins with this token, where the path has no step.
 abbrev pub in_index : Sort → Bool → List Frame → Shape → Token → List Action
 in_index base true fs s x = []
-in_index base false fs s x = beginning base (out.opened InIndex (out.top base fs) fs) s x
+in_index base false fs s x = beginning base (parts.opened InIndex (parts.top base fs) fs) s x
 
 abbrev pub path_opening : Sort → Bool → List Frame → Bracket → Bool → Token → List Action
 path_opening base b fs bracket.Square t x = []
@@ -208,16 +208,16 @@ name_index fs s x = []
 
 -- ---- the reading
 
-abbrev pub emits : Sort → List Mark → out.State → Shape → Token → List Action
+abbrev pub emits : Sort → List Mark → parts.State → Shape → Token → List Action
 emits base marks (Operand, fs) s x = beginning base fs s x
 emits base marks (Next p, fs) s x = after base marks p fs s x
 emits base marks (Label, fs) s x = naming fs x
 emits base marks (Step b, fs) s x = in_path base b fs s x
-emits base marks (IndexDue, fs) s x = name_index fs s x
+emits base marks (IndexExpected, fs) s x = name_index fs s x
 emits base marks (Less, fs) s x = []
 
 -- what the end of the tokens adds
-abbrev pub finishing : out.State → List Action
+abbrev pub finishing : parts.State → List Action
 finishing (Next p, fs) = lowering 0 fs
 finishing st = []
 
@@ -236,33 +236,33 @@ closed_marks marks (Within k f t σ ∷ fs) = drop_change k marks
 closed_marks marks fs = marks
 
 abbrev pub behind_marks : List Mark → Part → List Frame → Shape → List Mark
-behind_marks marks p fs (Close c) = closed_marks marks (out.lower 0 tight p fs).2
+behind_marks marks p fs (Close c) = closed_marks marks (parts.lower 0 tight p fs).2
 behind_marks marks p fs s = marks
 
 abbrev pub after_marks : Sort → List Mark → Part → List Frame → Shape → List Mark
 after_marks base marks p fs s =
-    if out.follows (out.top base fs) p s then marks else behind_marks marks p fs s
+    if parts.follows (parts.top base fs) p s then marks else behind_marks marks p fs s
 
 abbrev pub path_marks : List Mark → Bool → Shape → List Mark
 path_marks marks b (Sign m) = if b && is_change m then m ∷ marks else marks
 path_marks marks b s = marks
 
 -- the signs of the open changes behind the token
-abbrev pub kept : Sort → List Mark → out.State → Shape → List Mark
+abbrev pub kept : Sort → List Mark → parts.State → Shape → List Mark
 kept base marks (Next p, fs) s = after_marks base marks p fs s
 kept base marks (Step b, fs) s = path_marks marks b s
 kept base marks st s = marks
 
 -- ---- whole parts
 
-abbrev pub on_next : (out.State → List Action) → Option out.State → List Action
+abbrev pub on_next : (parts.State → List Action) → Option parts.State → List Action
 on_next f None = []
 on_next f (Some next) = f next
 
 -- all that the tokens and their end add
-abbrev pub emissions : Sort → List Mark → out.State → List Lexeme → List Action
+abbrev pub emissions : Sort → List Mark → parts.State → List Terminal → List Action
 emissions base marks st [] = finishing st
 emissions base marks st (l ∷ w) =
     emits base marks st (shape l) (token_in l)
     ++ on_next (λ next. emissions base (kept base marks st (shape l)) next w)
-    (out.step base st (shape l))
+    (parts.step base st (shape l))

@@ -1,8 +1,8 @@
 //! What parts and brackets add where they end.
 
 ghost use Rattle.std.specs.Prelude.{◌≡◌, ◌++◌, [], ◌∷◌, IfOk, reverse};
-ghost use Rattle.st_parse_automaton.specs.declared.outline.Part.{Part};
-ghost use Rattle.st_parse_automaton.specs.Outline as out;
+ghost use Rattle.st_parse_automaton.specs.declared.part_automaton.Part.{Part};
+ghost use Rattle.st_parse_automaton.specs.PartAutomaton as parts;
 ghost use Rattle.st_parse_actions.specs.Emits as emits;
 
 use crate::frame::closes;
@@ -59,7 +59,7 @@ pub(crate) fn lower<'a, 'f>(
     ensures acts { IfOk result (λ _.
         actions.new ≡ actions.old ++ emits.lowering level (reverse frames.now)) }
     ensures rest { (part : Part) → IfOk result (λ rest.
-        (out.lower level 20 part (reverse frames.now)).2 ≡ reverse rest.now) }
+        (parts.lower level 20 part (reverse frames.now)).2 ≡ reverse rest.now) }
 {
     let mut rest = frames;
     'open: while let Some((frame, front)) = rest.split_last() {

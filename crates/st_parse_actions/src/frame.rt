@@ -1,16 +1,16 @@
 //! What the innermost frame says of the place in it.
 
 ghost use Rattle.std.specs.Prelude.{◌≡◌, reverse};
-ghost use Rattle.st_parse_automaton.specs.Outline as out;
+ghost use Rattle.st_parse_automaton.specs.PartAutomaton as parts;
 ghost use Rattle.st_parse_actions.specs.Emits as emits;
 
-use crate::table::{ahead_right, has_level, is_mark, is_type_mark, level_of, right_of};
+use crate::table::{ahead_right, has_level, is_iteration_sign, is_type_iteration_sign, level_of, right_of};
 use st_grammar::Sort;
 use st_num::Mark;
 use st_parse_automaton::{Frame, Kind, Lead, Part};
 
 fn frame_sort(frame: Frame) -> Sort
-    ensures { result ≡ out.frame_sort frame }
+    ensures { result ≡ parts.frame_sort frame }
 {
     match frame {
         Frame::Within(_, _, _, sort) | Frame::Over(_, sort) => sort,
@@ -20,7 +20,7 @@ fn frame_sort(frame: Frame) -> Sort
 
 /// The sort of the innermost place.
 pub(crate) fn innermost(base: Sort, frames: &[Frame]) -> Sort
-    ensures { result ≡ out.top base (reverse frames.now) }
+    ensures { result ≡ parts.top base (reverse frames.now) }
 {
     match frames.last() {
         None => base,
@@ -29,7 +29,7 @@ pub(crate) fn innermost(base: Sort, frames: &[Frame]) -> Sort
 }
 
 fn wanted(lead: Lead) -> u8
-    ensures { result ≡ out.wanted lead }
+    ensures { result ≡ parts.wanted lead }
 {
     match lead {
         Lead::Left(mark) => right_of(mark),
@@ -39,7 +39,7 @@ fn wanted(lead: Lead) -> u8
 }
 
 fn reach(lead: Lead) -> u8
-    ensures { result ≡ out.reach lead }
+    ensures { result ≡ parts.reach lead }
 {
     match lead {
         Lead::Left(mark) => right_of(mark),
@@ -49,7 +49,7 @@ fn reach(lead: Lead) -> u8
 }
 
 fn frame_least(frame: Frame) -> u8
-    ensures { result ≡ out.frame_least frame }
+    ensures { result ≡ parts.frame_least frame }
 {
     match frame {
         Frame::Within(Kind::Index | Kind::Segment, _, _, _) => 13,
@@ -59,7 +59,7 @@ fn frame_least(frame: Frame) -> u8
 }
 
 fn least(frames: &[Frame]) -> u8
-    ensures { result ≡ out.least (reverse frames.now) }
+    ensures { result ≡ parts.least (reverse frames.now) }
 {
     match frames.last() {
         None => 1,
@@ -69,7 +69,7 @@ fn least(frames: &[Frame]) -> u8
 
 /// What such a level closes of a frame.
 pub(crate) fn closes(frame: Frame, level: u8) -> Option<Lead>
-    ensures { result ≡ out.closes frame level }
+    ensures { result ≡ parts.closes frame level }
 {
     match frame {
         Frame::Over(lead, _) => {
@@ -93,26 +93,26 @@ pub(crate) fn joins(base: Sort, mark: Mark, frames: &[Frame]) -> bool
 
 /// The level of the sign between two sides there, or 0.
 pub(crate) fn pull(sort: Sort, mark: Mark) -> u8
-    ensures { result ≡ out.pull sort mark }
+    ensures { result ≡ parts.pull sort mark }
 {
     let level = level_of(mark);
     if has_level(sort, level) { level } else { 0 }
 }
 
 fn is_type(part: Part) -> bool
-    ensures { result ≡ out.is_type part }
+    ensures { result ≡ parts.is_type part }
 {
     matches!(part, Part::Typ(_))
 }
 
 /// Whether the sign is a mark behind the part.
-pub(crate) fn may_mark(sort: Sort, part: Part, mark: Mark) -> bool
-    ensures { result ≡ out.may_mark sort part mark }
+pub(crate) fn may_iterate(sort: Sort, part: Part, mark: Mark) -> bool
+    ensures { result ≡ parts.may_iterate sort part mark }
 {
     match sort {
-        Sort::Expression(_) => is_mark(mark),
-        Sort::Notation => is_type_mark(mark) && is_type(part),
-        Sort::Typ => is_type_mark(mark),
+        Sort::Expression(_) => is_iteration_sign(mark),
+        Sort::Notation => is_type_iteration_sign(mark) && is_type(part),
+        Sort::Typ => is_type_iteration_sign(mark),
         Sort::Arithmetic | Sort::Count | Sort::Bound => false,
     }
 }

@@ -6,11 +6,11 @@ ghost use Rattle.st_parse_actions.specs.Emits as emits;
 
 use crate::begins::begin;
 use crate::ends::{close, end_part, lower};
-use crate::frame::{innermost, joins, may_mark, pull};
+use crate::frame::{innermost, joins, may_iterate, pull};
 use crate::table::{is_caret, is_change, is_expression};
 use st_grammar::{Bracket, Leaf, Sort};
 use st_num::{Mark, NoMemory, Row};
-use st_parse_automaton::{Due, Filling, Frame, Kind, Lead, Part, Reading, Shape, follows};
+use st_parse_automaton::{Expected, Filling, Frame, Kind, Lead, Part, Reading, Shape, follows};
 use st_parse_builder::{Action, TokenRef};
 use st_scan::Token;
 
@@ -62,7 +62,7 @@ fn behind_sign<'a>(
         actions.new ≡ actions.old ++ emits.behind_sign base mark part (reverse frames.now)) }
 {
     let sort = innermost(base, frames);
-    if may_mark(sort, part, mark) {
+    if may_iterate(sort, part, mark) {
         return actions.push(Action::Mark(mark));
     }
     if is_expression(sort) && is_caret(mark) {
@@ -238,13 +238,13 @@ pub fn emit<'a>(
         ≡ emits.kept base (reverse marks.old) (reading_of reading.now) shape) }
 {
     let frames = reading.frames.as_slice();
-    match reading.due {
-        Due::Operand => begin(base, frames, shape, token, actions),
-        Due::Next(part) => after(base, part, frames, shape, token, marks, actions),
-        Due::Label => name(frames, token, actions),
-        Due::Step(stepped) => in_path(base, stepped, frames, shape, token, marks, actions),
-        Due::Index => name_index(frames, shape, token, actions),
-        Due::Less => Ok(()),
+    match reading.expected {
+        Expected::Operand => begin(base, frames, shape, token, actions),
+        Expected::Next(part) => after(base, part, frames, shape, token, marks, actions),
+        Expected::Label => name(frames, token, actions),
+        Expected::Step(stepped) => in_path(base, stepped, frames, shape, token, marks, actions),
+        Expected::Index => name_index(frames, shape, token, actions),
+        Expected::Less => Ok(()),
     }
 }
 
@@ -253,11 +253,11 @@ pub fn finish<'a>(reading: &Reading, actions: &mut Row<Action<'a>>) -> Result<()
     ensures { IfOk result (λ _.
         actions.new ≡ actions.old ++ emits.finishing (reading_of reading.now)) }
 {
-    match reading.due {
-        Due::Next(_) => {
+    match reading.expected {
+        Expected::Next(_) => {
             lower(0, reading.frames.as_slice(), actions)?;
             Ok(())
         }
-        Due::Operand | Due::Label | Due::Step(_) | Due::Index | Due::Less => Ok(()),
+        Expected::Operand | Expected::Label | Expected::Step(_) | Expected::Index | Expected::Less => Ok(()),
     }
 }

@@ -95,15 +95,15 @@ pub(crate) fn right_of(mark: Mark) -> u8
 }
 
 /// Whether it is a mark behind an expression.
-pub(crate) fn is_mark(mark: Mark) -> bool
-    ensures { result ≡ levels.is_mark mark }
+pub(crate) fn is_iteration_sign(mark: Mark) -> bool
+    ensures { result ≡ levels.is_iteration_sign mark }
 {
     matches!(mark, Mark::Star | Mark::Plus | Mark::Question)
 }
 
 /// Whether it is a mark behind a type.
-pub(crate) fn is_type_mark(mark: Mark) -> bool
-    ensures { result ≡ levels.is_type_mark mark }
+pub(crate) fn is_type_iteration_sign(mark: Mark) -> bool
+    ensures { result ≡ levels.is_type_iteration_sign mark }
 {
     matches!(mark, Mark::Star | Mark::Question)
 }

@@ -4,7 +4,7 @@ use crate::{emit, finish};
 use st_el::print_el;
 use st_num::{Mark, NoMemory, Row};
 use st_parse_automaton::{
-    Due, Progress, Reading, Shape, Slot, advance, declared_names, slot_sort, token_lexeme,
+    Expected, Progress, Reading, Shape, Slot, advance, declared_names, slot_sort, token_class,
 };
 use st_parse_builder::{Action, build};
 use st_scan::{Token, scan};
@@ -15,7 +15,7 @@ use std::test::Fail;
 /// The conclusion of a rule begins.
 fn start(alloc: Global) -> Progress {
     let reading = Reading {
-        due: Due::Operand,
+        expected: Expected::Operand,
         frames: Row::new(alloc),
     };
     Progress::Inside(Slot::Rule, reading, Row::new(alloc))
@@ -50,9 +50,9 @@ fn actions_of<'a>(alloc: Global, tokens: &'a [Token]) -> Result<Row<Action<'a>>,
     let mut marks = Row::new(alloc);
     let mut actions = Row::new(alloc);
     for token in tokens {
-        let lexeme = token_lexeme(names.as_slice(), token);
-        emit_in(&progress, lexeme.shape, token, &mut marks, &mut actions)?;
-        let Some(next) = advance(alloc, progress, lexeme)? else {
+        let class = token_class(names.as_slice(), token);
+        emit_in(&progress, class.shape, token, &mut marks, &mut actions)?;
+        let Some(next) = advance(alloc, progress, class)? else {
             return Ok(actions);
         };
         progress = next;

@@ -1,7 +1,7 @@
 pub mod View
 pub mod Simulation
-pub mod CourseView
-pub mod CourseSimulation
+pub mod DefinitionView
+pub mod DefinitionSimulation
 pub mod Names
 pub mod TokenKinds
 pub mod Loop

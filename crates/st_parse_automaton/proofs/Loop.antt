@@ -2,97 +2,97 @@
 use Rattle.std.proofs.Common.{◌≡◌, ℕ, ◌+◌, ◌≤◌, ◌<◌, inl, inr, List, [], ◌∷◌, ◌++◌, length, take, drop, map, get_or, Bool, true, false, Option, Some, None, option_map, option_and_then, refl, sym, ap, subst, ◌∙◌, arith, append_assoc, if◌then◌else◌}
 use Rattle.std.proofs.lemmas.List.{take_more, take_all, drop_more, get_or-map, length-map}
 use Rattle.st_scan.specs.declared.token.Token.{Token}
-use Rattle.st_grammar.specs.Lexemes as lexemes
-use Rattle.st_grammar.specs.Lexemes.{lexeme, declared_names, names_behind, name_in, is_var}
+use Rattle.st_grammar.specs.Terminals as terminals
+use Rattle.st_grammar.specs.Terminals.{terminal, declared_names, names_behind, name_in, is_var}
 use Rattle.st_grammar.specs.Definitions.{Defs, ParseDefs, ViableDefs}
-use Rattle.st_grammar.specs.Places.{State, step, finish, reading, start}
-use Rattle.st_grammar.proofs.PlaceTexts.{Holds}
-use Rattle.st_grammar.proofs.PlaceReading.{reached_by, sound_defs}
-use Rattle.st_grammar.proofs.PlaceEnds.{viable}
-use Rattle.st_grammar.proofs.PlaceComplete.{reading_append, dead_defs, complete_defs}
-use Rattle.st_parse_automaton.specs.declared.place.Lexeme.{Lexeme}
-use Rattle.st_parse_automaton.specs.declared.place.Progress.{Progress}
-use Rattle.st_parse_automaton.specs.Course as course
-use Rattle.st_parse_automaton.specs.Shapes.{lexeme_of}
+use Rattle.st_grammar.specs.Positions.{State, step, finish, reading, start}
+use Rattle.st_grammar.proofs.PositionTexts.{Holds}
+use Rattle.st_grammar.proofs.PositionReading.{reached_by, sound_defs}
+use Rattle.st_grammar.proofs.PositionEnds.{viable}
+use Rattle.st_grammar.proofs.PositionComplete.{reading_append, dead_defs, complete_defs}
+use Rattle.st_parse_automaton.specs.declared.position.TokenClass.{TokenClass}
+use Rattle.st_parse_automaton.specs.declared.position.Progress.{Progress}
+use Rattle.st_parse_automaton.specs.DefinitionAutomaton as definitions
+use Rattle.st_parse_automaton.specs.Shapes.{class_of}
 use Rattle.st_parse_automaton.specs.Readings.{progress_of}
-use Rattle.st_parse_automaton.specs.Refusal.{lexemes_of, IsSource, RefusedAt}
-use Rattle.st_parse_automaton.proofs.CourseView.{course_of}
-use Rattle.st_parse_automaton.proofs.CourseSimulation.{step_is, may_end_is, is_some}
+use Rattle.st_parse_automaton.specs.Refusal.{terminals_of, AreDefinitions, RefusedAt}
+use Rattle.st_parse_automaton.proofs.DefinitionView.{definitions_of}
+use Rattle.st_parse_automaton.proofs.DefinitionSimulation.{step_is, may_end_is, is_some}
 
 -- these tokens were read up to here
-abbrev pub Follows : List lexemes.Lexeme → Progress → Type 0
-Follows us p = (st : State) × (reading start us ≡ Some st) × (course_of st ≡ progress_of p)
+abbrev pub Follows : List terminals.Terminal → Progress → Type 0
+Follows us p = (st : State) × (reading start us ≡ Some st) × (definitions_of st ≡ progress_of p)
 
-pub begins : (us : List lexemes.Lexeme) (p : Progress) → us ≡ [] → progress_of p ≡ course_of start → Follows us p
+pub begins : (us : List terminals.Terminal) (p : Progress) → us ≡ [] → progress_of p ≡ definitions_of start → Follows us p
 begins us p e f = subst (λ v. Follows v p) (sym e) (start, refl, sym f)
 
-pub last_step : (us : List lexemes.Lexeme) (l : lexemes.Lexeme) (st : State) → reading start us ≡ Some st → reading start (us ++ l ∷ []) ≡ step st l
+pub last_step : (us : List terminals.Terminal) (l : terminals.Terminal) (st : State) → reading start us ≡ Some st → reading start (us ++ l ∷ []) ≡ step st l
 last_step us l st e = reading_append start us (l ∷ []) ∙ ap (option_and_then (λ next. reading next (l ∷ []))) e ∙ go (step st l)
   where
     go : (o : Option State) → option_and_then (λ next. reading next []) o ≡ o
     go None = refl
     go (Some next) = refl
 
-pub holds : (us : List lexemes.Lexeme) (st : State) → reading start us ≡ Some st → Holds st
+pub holds : (us : List terminals.Terminal) (st : State) → reading start us ≡ Some st → Holds st
 holds us st e = (reached_by us st e).holds
 
 -- one more token is that of the list
 pub one_more : (tokens : List Token) (i : ℕ) (d : Token) → i < length tokens
-    → take (i + 1) (lexemes_of tokens) ≡ take i (lexemes_of tokens) ++ lexeme (declared_names tokens) (get_or tokens i d) ∷ []
+    → take (i + 1) (terminals_of tokens) ≡ take i (terminals_of tokens) ++ terminal (declared_names tokens) (get_or tokens i d) ∷ []
 one_more tokens i d h =
-    let f = lexeme (declared_names tokens) in
+    let f = terminal (declared_names tokens) in
     take_more (map f tokens) i (f d) (omega (arith, length-map tokens f))
     ∙ ap (λ l. take i (map f tokens) ++ l ∷ []) (get_or-map f tokens i d (f d) h)
 
-pub taken : (o : Option State) (q : Option Progress) (last : Progress) → option_map progress_of q ≡ option_map course_of o → q ≡ Some last → (st : State) × (o ≡ Some st) × (course_of st ≡ progress_of last)
+pub taken : (o : Option State) (q : Option Progress) (last : Progress) → option_map progress_of q ≡ option_map definitions_of o → q ≡ Some last → (st : State) × (o ≡ Some st) × (definitions_of st ≡ progress_of last)
 taken None q last e f = let never : Some (progress_of last) ≡ None = ap (option_map progress_of) (sym f) ∙ e in absurd (cc)
 taken (Some st) q last e f =
-    let same : Some (progress_of last) ≡ Some (course_of st) = ap (option_map progress_of) (sym f) ∙ e in
-    let is : progress_of last ≡ course_of st = cc in
+    let same : Some (progress_of last) ≡ Some (definitions_of st) = ap (option_map progress_of) (sym f) ∙ e in
+    let is : progress_of last ≡ definitions_of st = cc in
     (st, refl, sym is)
 
-pub refused : (o : Option State) (q : Option Progress) → option_map progress_of q ≡ option_map course_of o → q ≡ None → o ≡ None
+pub refused : (o : Option State) (q : Option Progress) → option_map progress_of q ≡ option_map definitions_of o → q ≡ None → o ≡ None
 refused None q e f = refl
-refused (Some st) q e f = let never : None ≡ Some (course_of st) = ap (option_map progress_of) (sym f) ∙ e in absurd (cc)
+refused (Some st) q e f = let never : None ≡ Some (definitions_of st) = ap (option_map progress_of) (sym f) ∙ e in absurd (cc)
 
-pub goes_on : (tokens : List Token) (i : ℕ) (d : Token) (p : Progress) (next : Option Progress) (last : Progress) → i < length tokens → Follows (take i (lexemes_of tokens)) p
-    → option_map progress_of next ≡ course.step (progress_of p) (lexeme_of (lexeme (declared_names tokens) (get_or tokens i d))) → next ≡ Some last
-    → Follows (take (i + 1) (lexemes_of tokens)) last
+pub goes_on : (tokens : List Token) (i : ℕ) (d : Token) (p : Progress) (next : Option Progress) (last : Progress) → i < length tokens → Follows (take i (terminals_of tokens)) p
+    → option_map progress_of next ≡ definitions.step (progress_of p) (class_of (terminal (declared_names tokens) (get_or tokens i d))) → next ≡ Some last
+    → Follows (take (i + 1) (terminals_of tokens)) last
 goes_on tokens i d p next last h f e n =
-    let l = lexeme (declared_names tokens) (get_or tokens i d) in
-    let us = take i (lexemes_of tokens) in
-    let same = e ∙ ap (λ s. course.step s (lexeme_of l)) (sym f.2) ∙ step_is f.0 l (holds us f.0 f.1) in
+    let l = terminal (declared_names tokens) (get_or tokens i d) in
+    let us = take i (terminals_of tokens) in
+    let same = e ∙ ap (λ s. definitions.step s (class_of l)) (sym f.2) ∙ step_is f.0 l (holds us f.0 f.1) in
     let t = taken (step f.0 l) next last same n in
     (t.0, ap (reading start) (one_more tokens i d h) ∙ last_step us l f.0 f.1 ∙ t.1, t.2)
 
-pub stops : (tokens : List Token) (i : ℕ) (d : Token) (p : Progress) (next : Option Progress) → i < length tokens → Follows (take i (lexemes_of tokens)) p
-    → option_map progress_of next ≡ course.step (progress_of p) (lexeme_of (lexeme (declared_names tokens) (get_or tokens i d))) → next ≡ None
+pub stops : (tokens : List Token) (i : ℕ) (d : Token) (p : Progress) (next : Option Progress) → i < length tokens → Follows (take i (terminals_of tokens)) p
+    → option_map progress_of next ≡ definitions.step (progress_of p) (class_of (terminal (declared_names tokens) (get_or tokens i d))) → next ≡ None
     → RefusedAt tokens i
 stops tokens i d p next h f e n =
-    let l = lexeme (declared_names tokens) (get_or tokens i d) in
-    let us = take i (lexemes_of tokens) in
-    let same = e ∙ ap (λ s. course.step s (lexeme_of l)) (sym f.2) ∙ step_is f.0 l (holds us f.0 f.1) in
+    let l = terminal (declared_names tokens) (get_or tokens i d) in
+    let us = take i (terminals_of tokens) in
+    let same = e ∙ ap (λ s. definitions.step s (class_of l)) (sym f.2) ∙ step_is f.0 l (holds us f.0 f.1) in
     let none = refused (step f.0 l) next same n in
-    inl (h, viable (declared_names tokens) us f.0 f.1, λ v. dead_defs (declared_names tokens) (take (i + 1) (lexemes_of tokens)) (ap (reading start) (one_more tokens i d h) ∙ last_step us l f.0 f.1 ∙ none) v)
+    inl (h, viable (declared_names tokens) us f.0 f.1, λ v. dead_defs (declared_names tokens) (take (i + 1) (terminals_of tokens)) (ap (reading start) (one_more tokens i d h) ∙ last_step us l f.0 f.1 ∙ none) v)
 
 -- the step of the code at the token of the list
-pub at_token : (tokens : List Token) (names : List (List ℕ)) (i : ℕ) (x : Token) (l : Lexeme) (p : Progress) (next : Option Progress) → x ≡ get_or tokens i x → names ≡ declared_names tokens → l ≡ lexeme_of (lexeme names x)
-    → option_map progress_of next ≡ course.step (progress_of p) l → option_map progress_of next ≡ course.step (progress_of p) (lexeme_of (lexeme (declared_names tokens) (get_or tokens i x)))
+pub at_token : (tokens : List Token) (names : List (List ℕ)) (i : ℕ) (x : Token) (l : TokenClass) (p : Progress) (next : Option Progress) → x ≡ get_or tokens i x → names ≡ declared_names tokens → l ≡ class_of (terminal names x)
+    → option_map progress_of next ≡ definitions.step (progress_of p) l → option_map progress_of next ≡ definitions.step (progress_of p) (class_of (terminal (declared_names tokens) (get_or tokens i x)))
 at_token tokens names i x l p next h n e f =
-    f ∙ ap (course.step (progress_of p)) (e ∙ ap (λ ns. lexeme_of (lexeme ns x)) n ∙ ap (λ y. lexeme_of (lexeme (declared_names tokens) y)) h)
+    f ∙ ap (definitions.step (progress_of p)) (e ∙ ap (λ ns. class_of (terminal ns x)) n ∙ ap (λ y. class_of (terminal (declared_names tokens) y)) h)
 
-pub token_goes_on : (tokens : List Token) (names : List (List ℕ)) (i : ℕ) (x : Token) (l : Lexeme) (p : Progress) (next : Option Progress) (last : Progress) → i < length tokens → Follows (take i (lexemes_of tokens)) p
-    → x ≡ get_or tokens i x → names ≡ declared_names tokens → l ≡ lexeme_of (lexeme names x) → option_map progress_of next ≡ course.step (progress_of p) l → next ≡ Some last
-    → Follows (take (i + 1) (lexemes_of tokens)) last
+pub token_goes_on : (tokens : List Token) (names : List (List ℕ)) (i : ℕ) (x : Token) (l : TokenClass) (p : Progress) (next : Option Progress) (last : Progress) → i < length tokens → Follows (take i (terminals_of tokens)) p
+    → x ≡ get_or tokens i x → names ≡ declared_names tokens → l ≡ class_of (terminal names x) → option_map progress_of next ≡ definitions.step (progress_of p) l → next ≡ Some last
+    → Follows (take (i + 1) (terminals_of tokens)) last
 token_goes_on tokens names i x l p next last h f t n e s k = goes_on tokens i x p next last h f (at_token tokens names i x l p next t n e s) k
 
-pub token_stops : (tokens : List Token) (names : List (List ℕ)) (i : ℕ) (x : Token) (l : Lexeme) (p : Progress) (next : Option Progress) → i < length tokens → Follows (take i (lexemes_of tokens)) p
-    → x ≡ get_or tokens i x → names ≡ declared_names tokens → l ≡ lexeme_of (lexeme names x) → option_map progress_of next ≡ course.step (progress_of p) l → next ≡ None
+pub token_stops : (tokens : List Token) (names : List (List ℕ)) (i : ℕ) (x : Token) (l : TokenClass) (p : Progress) (next : Option Progress) → i < length tokens → Follows (take i (terminals_of tokens)) p
+    → x ≡ get_or tokens i x → names ≡ declared_names tokens → l ≡ class_of (terminal names x) → option_map progress_of next ≡ definitions.step (progress_of p) l → next ≡ None
     → RefusedAt tokens i
 token_stops tokens names i x l p next h f t n e s k = stops tokens i x p next h f (at_token tokens names i x l p next t n e s) k
 
-pub whole_list : (tokens : List Token) (i : ℕ) → length tokens ≤ i → take i (lexemes_of tokens) ≡ lexemes_of tokens
-whole_list tokens i h = take_all i (lexemes_of tokens) (omega (arith, length-map tokens (lexeme (declared_names tokens))))
+pub whole_list : (tokens : List Token) (i : ℕ) → length tokens ≤ i → take i (terminals_of tokens) ≡ terminals_of tokens
+whole_list tokens i h = take_all i (terminals_of tokens) (omega (arith, length-map tokens (terminal (declared_names tokens))))
 
 pub found : (o : Option Defs) → is_some o ≡ true → (ds : Defs) × (o ≡ Some ds)
 found None e = absurd (cc)
@@ -102,25 +102,25 @@ pub not_found : (o : Option Defs) → is_some o ≡ false → o ≡ None
 not_found None e = refl
 not_found (Some ds) e = absurd (cc)
 
-pub ends_well : (tokens : List Token) (i : ℕ) (p : Progress) (b : Bool) → length tokens ≤ i → Follows (take i (lexemes_of tokens)) p → b ≡ course.may_end (progress_of p) → b ≡ true → IsSource tokens
+pub ends_well : (tokens : List Token) (i : ℕ) (p : Progress) (b : Bool) → length tokens ≤ i → Follows (take i (terminals_of tokens)) p → b ≡ definitions.may_end (progress_of p) → b ≡ true → AreDefinitions tokens
 ends_well tokens i p b h f e t =
-    let us = take i (lexemes_of tokens) in
-    let yes : is_some (finish f.0) ≡ true = sym (may_end_is f.0 (holds us f.0 f.1)) ∙ ap course.may_end f.2 ∙ sym e ∙ t in
+    let us = take i (terminals_of tokens) in
+    let yes : is_some (finish f.0) ≡ true = sym (may_end_is f.0 (holds us f.0 f.1)) ∙ ap definitions.may_end f.2 ∙ sym e ∙ t in
     let r = found (finish f.0) yes in
     (r.0, subst (λ v. ParseDefs v r.0) (whole_list tokens i h) (sound_defs us f.0 r.0 f.1 r.1))
 
-pub ends_early : (tokens : List Token) (i : ℕ) (p : Progress) (b : Bool) → length tokens ≤ i → Follows (take i (lexemes_of tokens)) p → b ≡ course.may_end (progress_of p) → b ≡ false → RefusedAt tokens (length tokens)
+pub ends_early : (tokens : List Token) (i : ℕ) (p : Progress) (b : Bool) → length tokens ≤ i → Follows (take i (terminals_of tokens)) p → b ≡ definitions.may_end (progress_of p) → b ≡ false → RefusedAt tokens (length tokens)
 ends_early tokens i p b h f e t =
-    let us = take i (lexemes_of tokens) in
-    let same : us ≡ take (length tokens) (lexemes_of tokens) = whole_list tokens i h ∙ sym (whole_list tokens (length tokens) (omega arith)) in
-    let no : is_some (finish f.0) ≡ false = sym (may_end_is f.0 (holds us f.0 f.1)) ∙ ap course.may_end f.2 ∙ sym e ∙ t in
+    let us = take i (terminals_of tokens) in
+    let same : us ≡ take (length tokens) (terminals_of tokens) = whole_list tokens i h ∙ sym (whole_list tokens (length tokens) (omega arith)) in
+    let no : is_some (finish f.0) ≡ false = sym (may_end_is f.0 (holds us f.0 f.1)) ∙ ap definitions.may_end f.2 ∙ sym e ∙ t in
     let none = not_found (finish f.0) no in
     inr (
       refl,
       subst (ViableDefs (declared_names tokens)) same (viable (declared_names tokens) us f.0 f.1),
       λ s.
-          let done = complete_defs (lexemes_of tokens) s.0 s.1 in
-          let nothing : option_and_then finish (reading start (lexemes_of tokens)) ≡ None = ap (option_and_then finish) (ap (reading start) (sym (whole_list tokens i h)) ∙ f.1) ∙ none in
+          let done = complete_defs (terminals_of tokens) s.0 s.1 in
+          let nothing : option_and_then finish (reading start (terminals_of tokens)) ≡ None = ap (option_and_then finish) (ap (reading start) (sym (whole_list tokens i h)) ∙ f.1) ∙ none in
           absurd (cc),
     )
 

@@ -1,4 +1,4 @@
--- The outline of a reading takes each step of the reading.
+-- The part automaton takes each step of the reading.
 use Rattle.std.proofs.Common.{◌≡◌, ℕ, ◌≤◌, List, [], ◌∷◌, ◌++◌, Bool, true, false, not, ◌&&◌, Option, Some, None, option_map, nat_le, if◌then◌else◌, refl, sym, ap, ◌∙◌, arith}
 use Rattle.st_num.specs.declared.mark.Mark.{Mark}
 use Rattle.st_scan.specs.declared.token.Token.{Token}
@@ -9,24 +9,24 @@ use Rattle.st_grammar.specs.declared.sort.Closing.{Closing}
 use Rattle.st_grammar.specs.declared.sort.Closing.TheVariants as closings
 use Rattle.st_grammar.specs.declared.sort.Sort.{Sort}
 use Rattle.st_grammar.specs.declared.sort.Sort.TheVariants as sorts
-use Rattle.st_grammar.specs.Lexemes.{Lexeme, leaf, dot, sign, opening, closing, other}
-use Rattle.st_grammar.specs.Levels.{tight, level_of, ahead_level, is_type_mark, has_level}
+use Rattle.st_grammar.specs.Terminals.{Terminal, leaf, dot, sign, opening, closing, other}
+use Rattle.st_grammar.specs.Levels.{tight, level_of, ahead_level, is_type_iteration_sign, has_level}
 use Rattle.st_grammar.specs.Trees as tree
 use Rattle.st_grammar.specs.Trees.{Tree, Trees, Heading, Path, none, more}
 use Rattle.st_grammar.specs.Grammar as grammar
 use Rattle.st_grammar.specs.Reading as part
-use Rattle.st_grammar.specs.Places.{reads_types}
-use Rattle.st_parse_automaton.specs.declared.outline.Shape.TheVariants.{Sign}
-use Rattle.st_parse_automaton.specs.declared.outline.Part.TheVariants.{Whole}
-use Rattle.st_parse_automaton.specs.declared.outline.Kind.TheVariants.{Plain, Length, Arguments, Index as InIndex, Update, Below}
-use Rattle.st_parse_automaton.specs.declared.outline.Filling.TheVariants.{Parts}
-use Rattle.st_parse_automaton.specs.declared.outline.Lead.TheVariants.{Left, Ahead}
-use Rattle.st_parse_automaton.specs.declared.outline.Frame.{Frame}
-use Rattle.st_parse_automaton.specs.declared.outline.Frame.TheVariants.{Within, Over, Timing}
-use Rattle.st_parse_automaton.specs.declared.outline.Due.{Due}
-use Rattle.st_parse_automaton.specs.declared.outline.Due.TheVariants.{Operand, Next, Label, Step, Index as IndexDue}
+use Rattle.st_grammar.specs.Positions.{reads_types}
+use Rattle.st_parse_automaton.specs.declared.part_automaton.Shape.TheVariants.{Sign}
+use Rattle.st_parse_automaton.specs.declared.part_automaton.Part.TheVariants.{Whole}
+use Rattle.st_parse_automaton.specs.declared.part_automaton.Kind.TheVariants.{Plain, Length, Arguments, Index as InIndex, Update, Below}
+use Rattle.st_parse_automaton.specs.declared.part_automaton.Filling.TheVariants.{Parts}
+use Rattle.st_parse_automaton.specs.declared.part_automaton.Lead.TheVariants.{Left, Ahead}
+use Rattle.st_parse_automaton.specs.declared.part_automaton.Frame.{Frame}
+use Rattle.st_parse_automaton.specs.declared.part_automaton.Frame.TheVariants.{Within, Over, Timing}
+use Rattle.st_parse_automaton.specs.declared.part_automaton.Expected.{Expected}
+use Rattle.st_parse_automaton.specs.declared.part_automaton.Expected.TheVariants.{Operand, Next, Label, Step, Index as IndexExpected}
 use Rattle.st_parse_automaton.specs.Shapes.{shape}
-use Rattle.st_parse_automaton.specs.Outline as out
+use Rattle.st_parse_automaton.specs.PartAutomaton as parts
 use Rattle.st_grammar.proofs.Sound.{base}
 use Rattle.st_grammar.specs.declared.sort.Style.{Style}
 use Rattle.st_grammar.specs.declared.sort.Style.TheVariants as styles
@@ -38,12 +38,12 @@ use Rattle.st_parse_automaton.proofs.View.{part_of, kind_of, lead_of, filling, f
 
 -- ---- tests
 
-pub same_if : (b c : Bool) (y : out.State) (x : part.State) (o : Option out.State) (q : Option part.State) → b ≡ c → y ≡ state_of x → o ≡ option_map state_of q
+pub same_if : (b c : Bool) (y : parts.State) (x : part.State) (o : Option parts.State) (q : Option part.State) → b ≡ c → y ≡ state_of x → o ≡ option_map state_of q
     → (if b then Some y else o) ≡ option_map state_of (if c then Some x else q)
 same_if b true y x o q e f g = ap (λ d. if d then Some y else o) e ∙ ap (λ z. Some z) f
 same_if b false y x o q e f g = ap (λ d. if d then Some y else o) e ∙ g
 
-pub both_if : (b c : Bool) (o r : Option out.State) (q s : Option part.State) → b ≡ c → o ≡ option_map state_of q → r ≡ option_map state_of s
+pub both_if : (b c : Bool) (o r : Option parts.State) (q s : Option part.State) → b ≡ c → o ≡ option_map state_of q → r ≡ option_map state_of s
     → (if b then o else r) ≡ option_map state_of (if c then q else s)
 both_if b true o r q s e f g = ap (λ d. if d then o else r) e ∙ f
 both_if b false o r q s e f g = ap (λ d. if d then o else r) e ∙ g
@@ -53,19 +53,19 @@ both_and a b c d e f = ap (λ v. v && c) e ∙ ap (λ v. b && v) f
 
 -- ---- what closes
 
-abbrev pub low_of : Tree × part.Frames → out.Lowered
+abbrev pub low_of : Tree × part.Frames → parts.Lowered
 low_of p = (grammar.level p.0, part_of p.0, frames_of p.1)
 
-pub lower_is : (n : ℕ) (t : Tree) (fs : part.Frames) → out.lower n (grammar.level t) (part_of t) (frames_of fs) ≡ low_of (part.lower n t fs)
+pub lower_is : (n : ℕ) (t : Tree) (fs : part.Frames) → parts.lower n (grammar.level t) (part_of t) (frames_of fs) ≡ low_of (part.lower n t fs)
 lower_is n t (part.bottom σ) = refl
 lower_is n t (part.within h ts pre fs) = refl
 lower_is n t (part.timing u m x fs) = refl
 lower_is n t (part.over g fs) =
-    ap (λ r. out.lower_at n (grammar.level t) (part_of t) (Over (lead_of g) (part.sort fs)) (frames_of fs) (λ k. out.lower n (out.lead_level k) Whole (frames_of fs)) (if nat_le r n then None else Some (lead_of g))) (lead_reach g)
-    ∙ go (nat_le (part.reach g) n) (ap (λ v. out.lower n v Whole (frames_of fs)) (lead_levels g) ∙ lower_is n (tree.led g t) fs)
+    ap (λ r. parts.lower_at n (grammar.level t) (part_of t) (Over (lead_of g) (part.sort fs)) (frames_of fs) (λ k. parts.lower n (parts.lead_level k) Whole (frames_of fs)) (if nat_le r n then None else Some (lead_of g))) (lead_reach g)
+    ∙ go (nat_le (part.reach g) n) (ap (λ v. parts.lower n v Whole (frames_of fs)) (lead_levels g) ∙ lower_is n (tree.led g t) fs)
   where
-    go : (b : Bool) → out.lower n (out.lead_level (lead_of g)) Whole (frames_of fs) ≡ low_of (part.lower n (tree.led g t) fs)
-        → out.lower_at n (grammar.level t) (part_of t) (Over (lead_of g) (part.sort fs)) (frames_of fs) (λ k. out.lower n (out.lead_level k) Whole (frames_of fs)) (if b then None else Some (lead_of g)) ≡ low_of (if b then (t, part.over g fs) else part.lower n (tree.led g t) fs)
+    go : (b : Bool) → parts.lower n (parts.lead_level (lead_of g)) Whole (frames_of fs) ≡ low_of (part.lower n (tree.led g t) fs)
+        → parts.lower_at n (grammar.level t) (part_of t) (Over (lead_of g) (part.sort fs)) (frames_of fs) (λ k. parts.lower n (parts.lead_level k) Whole (frames_of fs)) (if b then None else Some (lead_of g)) ≡ low_of (if b then (t, part.over g fs) else part.lower n (tree.led g t) fs)
     go true e = refl
     go false e = e
 
@@ -79,20 +79,20 @@ lower_base n t (part.over g fs) = go (nat_le (part.reach g) n) (lower_base n (tr
     go true e = refl
     go false e = e
 
-pub settle_is : (t : Tree) (fs : part.Frames) → out.settle (part_of t) (frames_of fs) ≡ state_of (part.settle t fs)
+pub settle_is : (t : Tree) (fs : part.Frames) → parts.settle (part_of t) (frames_of fs) ≡ state_of (part.settle t fs)
 settle_is t (part.bottom σ) = refl
 settle_is t (part.within h ts pre fs) = refl
 settle_is t (part.over g fs) = refl
 settle_is t (part.timing u m x fs) = refl
 
-pub shut_is : (h : Heading) (ts : Trees) (pre : List Lexeme) (t : Tree) (x : Token) (fs : part.Frames)
-    → out.shut (kind_of h) (reads_types ts && out.reads_type (part_of t)) (frames_of fs) ≡ state_of (part.shut h (more ts pre t) x fs)
-shut_is h ts pre t x fs = ap (λ b. out.shut (kind_of h) (reads_types ts && b) (frames_of fs)) (part_reads t) ∙ go h
+pub shut_is : (h : Heading) (ts : Trees) (pre : List Terminal) (t : Tree) (x : Token) (fs : part.Frames)
+    → parts.shut (kind_of h) (reads_types ts && parts.reads_type (part_of t)) (frames_of fs) ≡ state_of (part.shut h (more ts pre t) x fs)
+shut_is h ts pre t x fs = ap (λ b. parts.shut (kind_of h) (reads_types ts && b) (frames_of fs)) (part_reads t) ∙ go h
   where
-    whole : (k : Heading) → out.settle (out.kind_part (kind_of k) (reads_types (more ts pre t))) (frames_of fs) ≡ state_of (part.settle (tree.bracket k (more ts pre t) x) fs)
-    whole k = ap (λ p. out.settle p (frames_of fs)) (kind_part k (more ts pre t) x) ∙ settle_is (tree.bracket k (more ts pre t) x) fs
+    whole : (k : Heading) → parts.settle (parts.kind_part (kind_of k) (reads_types (more ts pre t))) (frames_of fs) ≡ state_of (part.settle (tree.bracket k (more ts pre t) x) fs)
+    whole k = ap (λ p. parts.settle p (frames_of fs)) (kind_part k (more ts pre t) x) ∙ settle_is (tree.bracket k (more ts pre t) x) fs
 
-    go : (k : Heading) → out.shut (kind_of k) (reads_types (more ts pre t)) (frames_of fs) ≡ state_of (part.shut k (more ts pre t) x fs)
+    go : (k : Heading) → parts.shut (kind_of k) (reads_types (more ts pre t)) (frames_of fs) ≡ state_of (part.shut k (more ts pre t) x fs)
     go (tree.plain b o) = whole (tree.plain b o)
     go (tree.length o) = whole (tree.length o)
     go (tree.arguments f o) = whole (tree.arguments f o)
@@ -101,17 +101,17 @@ shut_is h ts pre t x fs = ap (λ b. out.shut (kind_of h) (reads_types ts && b) (
     go (tree.update p m y) = whole (tree.update p m y)
     go (tree.below o i m y) = whole (tree.below o i m y)
 
-pub close_is : (c : Closing) (x : Token) (p : Tree × part.Frames) → out.close c (low_of p) ≡ option_map state_of (part.close c x p)
+pub close_is : (c : Closing) (x : Token) (p : Tree × part.Frames) → parts.close c (low_of p) ≡ option_map state_of (part.close c x p)
 close_is c x (t, part.bottom σ) = refl
 close_is c x (t, part.over g fs) = refl
 close_is c x (t, part.timing u m y fs) = refl
 close_is c x (t, part.within h ts pre fs) =
-    same_if (tree.agree (out.kind_closing (kind_of h)) c) (tree.agree (tree.closes h) c) (out.shut (kind_of h) (reads_types ts && out.reads_type (part_of t)) (frames_of fs)) (part.shut h (more ts pre t) x fs) None None
+    same_if (tree.agree (parts.kind_closing (kind_of h)) c) (tree.agree (tree.closes h) c) (parts.shut (kind_of h) (reads_types ts && parts.reads_type (part_of t)) (frames_of fs)) (part.shut h (more ts pre t) x fs) None None
     (ap (λ d. tree.agree d c) (kind_closing h)) (shut_is h ts pre t x fs) refl
 
 -- ---- what begins
 
-pub plain_begins : (b : Bracket) (x : Token) (fs : part.Frames) → (out.plain_due b, frames_of (part.within (tree.plain b x) none [] fs)) ≡ state_of (part.opened b x fs)
+pub plain_begins : (b : Bracket) (x : Token) (fs : part.Frames) → (parts.plain_expected b, frames_of (part.within (tree.plain b x) none [] fs)) ≡ state_of (part.opened b x fs)
 plain_begins bracket.Round x fs = refl
 plain_begins bracket.Square x fs = refl
 plain_begins bracket.Brace x fs = refl
@@ -120,14 +120,14 @@ plain_begins bracket.TickSquare x fs = refl
 plain_begins bracket.TickBrace x fs = refl
 plain_begins bracket.Dollar x fs = refl
 
-pub plain_is : (b : Bracket) (x : Token) (fs : part.Frames) → out.begin_plain (base fs) b (frames_of fs) ≡ option_map state_of (if encloses (part.sort fs) b then Some (part.opened b x fs) else None)
+pub plain_is : (b : Bracket) (x : Token) (fs : part.Frames) → parts.begin_plain (base fs) b (frames_of fs) ≡ option_map state_of (if encloses (part.sort fs) b then Some (part.opened b x fs) else None)
 plain_is b x fs =
-    same_if (encloses (out.top (base fs) (frames_of fs)) b) (encloses (part.sort fs) b) (out.plain_due b, out.opened (Plain b) (out.top (base fs) (frames_of fs)) (frames_of fs)) (part.opened b x fs) None None
-    (ap (λ σ. encloses σ b) (top_sort fs)) (ap (λ gs. (out.plain_due b, gs)) (opened_is (tree.plain b x) fs) ∙ plain_begins b x fs) refl
+    same_if (encloses (parts.top (base fs) (frames_of fs)) b) (encloses (part.sort fs) b) (parts.plain_expected b, parts.opened (Plain b) (parts.top (base fs) (frames_of fs)) (frames_of fs)) (part.opened b x fs) None None
+    (ap (λ σ. encloses σ b) (top_sort fs)) (ap (λ gs. (parts.plain_expected b, gs)) (opened_is (tree.plain b x) fs) ∙ plain_begins b x fs) refl
 
-pub opening_is : (b : Bracket) (x : Token) (fs : part.Frames) → out.begin_opening (base fs) b (frames_of fs) ≡ option_map state_of (part.begin_opening b x fs)
+pub opening_is : (b : Bracket) (x : Token) (fs : part.Frames) → parts.begin_opening (base fs) b (frames_of fs) ≡ option_map state_of (part.begin_opening b x fs)
 opening_is bracket.Round x fs =
-    same_if (is_count (out.top (base fs) (frames_of fs))) (is_count (part.sort fs)) (IndexDue, frames_of fs) (part.indexing x fs) (out.begin_plain (base fs) bracket.Round (frames_of fs))
+    same_if (is_count (parts.top (base fs) (frames_of fs))) (is_count (part.sort fs)) (IndexExpected, frames_of fs) (part.indexing x fs) (parts.begin_plain (base fs) bracket.Round (frames_of fs))
     (if encloses (part.sort fs) bracket.Round then Some (part.want (part.within (tree.plain bracket.Round x) none [] fs)) else None)
     (ap is_count (top_sort fs)) refl (plain_is bracket.Round x fs)
 opening_is bracket.Square x fs = plain_is bracket.Square x fs
@@ -137,7 +137,7 @@ opening_is bracket.TickSquare x fs = plain_is bracket.TickSquare x fs
 opening_is bracket.TickBrace x fs = plain_is bracket.TickBrace x fs
 opening_is bracket.Dollar x fs = plain_is bracket.Dollar x fs
 
-pub no_arguments_is : (x : Token) (fs : part.Frames) → out.no_arguments (frames_of fs) ≡ option_map state_of (part.no_arguments x fs)
+pub no_arguments_is : (x : Token) (fs : part.Frames) → parts.no_arguments (frames_of fs) ≡ option_map state_of (part.no_arguments x fs)
 no_arguments_is x (part.bottom σ) = refl
 no_arguments_is x (part.over g fs) = refl
 no_arguments_is x (part.timing t m y fs) = refl
@@ -151,22 +151,22 @@ no_arguments_is x (part.within (tree.arguments f o) none [] fs) = ap (λ z. Some
 no_arguments_is x (part.within (tree.arguments f o) none (l ∷ pre) fs) = refl
 no_arguments_is x (part.within (tree.arguments f o) (more ts q t) pre fs) = refl
 
-pub closing_is : (c : Closing) (x : Token) (fs : part.Frames) → out.begin_closing (base fs) c (frames_of fs) ≡ option_map state_of (part.begin_closing c x fs)
+pub closing_is : (c : Closing) (x : Token) (fs : part.Frames) → parts.begin_closing (base fs) c (frames_of fs) ≡ option_map state_of (part.begin_closing c x fs)
 closing_is closings.ByBar x fs =
-    same_if (computes (out.top (base fs) (frames_of fs))) (computes (part.sort fs)) (Operand, out.opened Length (out.top (base fs) (frames_of fs)) (frames_of fs)) (part.want (part.within (tree.length x) none [] fs)) None None
+    same_if (computes (parts.top (base fs) (frames_of fs))) (computes (part.sort fs)) (Operand, parts.opened Length (parts.top (base fs) (frames_of fs)) (frames_of fs)) (part.want (part.within (tree.length x) none [] fs)) None None
     (ap computes (top_sort fs)) (ap (λ gs. (Operand, gs)) (opened_is (tree.length x) fs)) refl
 closing_is closings.ByRound x fs = no_arguments_is x fs
 closing_is closings.BySquare x fs = refl
 closing_is closings.ByBrace x fs = refl
 
-pub begin_is : (fs : part.Frames) (l : Lexeme) → out.begin (base fs) (frames_of fs) (shape l) ≡ option_map state_of (part.begin fs l)
+pub begin_is : (fs : part.Frames) (l : Terminal) → parts.begin (base fs) (frames_of fs) (shape l) ≡ option_map state_of (part.begin fs l)
 begin_is fs (leaf k x) =
-    same_if (takes (out.top (base fs) (frames_of fs)) k) (takes (part.sort fs) k) (out.settle (out.leaf_part k) (frames_of fs)) (part.settle (tree.operand k x) fs) None None
+    same_if (takes (parts.top (base fs) (frames_of fs)) k) (takes (part.sort fs) k) (parts.settle (parts.leaf_part k) (frames_of fs)) (part.settle (tree.operand k x) fs) None None
     (ap (λ σ. takes σ k) (top_sort fs)) (settle_is (tree.operand k x) fs) refl
 begin_is fs (dot x) = refl
 begin_is fs (sign m x) =
-    same_if (has_level (out.top (base fs) (frames_of fs)) (ahead_level m) && nat_le (out.least (frames_of fs)) (ahead_level m)) (has_level (part.sort fs) (ahead_level m) && nat_le (part.least fs) (ahead_level m))
-    (Operand, Over (Ahead m) (out.top (base fs) (frames_of fs)) ∷ frames_of fs) (part.want (part.over (tree.ahead m x) fs)) None None
+    same_if (has_level (parts.top (base fs) (frames_of fs)) (ahead_level m) && nat_le (parts.least (frames_of fs)) (ahead_level m)) (has_level (part.sort fs) (ahead_level m) && nat_le (part.least fs) (ahead_level m))
+    (Operand, Over (Ahead m) (parts.top (base fs) (frames_of fs)) ∷ frames_of fs) (part.want (part.over (tree.ahead m x) fs)) None None
     (both_and _ _ _ _ (ap (λ σ. has_level σ (ahead_level m)) (top_sort fs)) (ap (λ n. nat_le n (ahead_level m)) (least_is fs)))
     (ap (λ σ. (Operand, Over (Ahead m) σ ∷ frames_of fs)) (top_sort fs)) refl
 begin_is fs (opening b x) = opening_is b x fs
@@ -175,7 +175,7 @@ begin_is fs (other x) = refl
 
 -- ---- what stands behind a part
 
-pub follows_is : (σ : Sort) (t : Tree) (l : Lexeme) → out.follows σ (part_of t) (shape l) ≡ grammar.follows σ t l
+pub follows_is : (σ : Sort) (t : Tree) (l : Terminal) → parts.follows σ (part_of t) (shape l) ≡ grammar.follows σ t l
 follows_is σ t (leaf k x) = refl
 follows_is σ t (dot x) = refl
 follows_is σ t (sign m x) = refl
@@ -189,7 +189,7 @@ follows_is σ t (opening bracket.Dollar x) = refl
 follows_is σ t (closing c x) = refl
 follows_is σ t (other x) = refl
 
-pub extend_is : (t : Tree) (fs : part.Frames) → out.extend (base fs) (frames_of fs) ≡ frames_of (part.extend t fs)
+pub extend_is : (t : Tree) (fs : part.Frames) → parts.extend (base fs) (frames_of fs) ≡ frames_of (part.extend t fs)
 extend_is t (part.bottom σ) = refl
 extend_is t (part.within h ts pre fs) = refl
 extend_is t (part.over (tree.left l m x) fs) = refl
@@ -197,63 +197,63 @@ extend_is t (part.over (tree.ahead m x) fs) = refl
 extend_is t (part.over (tree.items ts) fs) = refl
 extend_is t (part.timing u m x fs) = refl
 
-pub next_begins : (t : Tree) (fs : part.Frames) (l : Lexeme) → out.begin (base fs) (out.extend (base fs) (frames_of fs)) (shape l) ≡ option_map state_of (part.begin (part.extend t fs) l)
+pub next_begins : (t : Tree) (fs : part.Frames) (l : Terminal) → parts.begin (base fs) (parts.extend (base fs) (frames_of fs)) (shape l) ≡ option_map state_of (part.begin (part.extend t fs) l)
 next_begins t fs l =
-    ap (λ gs. out.begin (base fs) gs (shape l)) (extend_is t fs)
-    ∙ ap (λ σ. out.begin σ (frames_of (part.extend t fs)) (shape l)) (sym (extend_base t fs))
+    ap (λ gs. parts.begin (base fs) gs (shape l)) (extend_is t fs)
+    ∙ ap (λ σ. parts.begin σ (frames_of (part.extend t fs)) (shape l)) (sym (extend_base t fs))
     ∙ begin_is (part.extend t fs) l
 
-pub due_if : (b : Bool) (d : Due) (gs : List Frame) (x : part.State) → (d, gs) ≡ state_of x
-    → out.next_part (if b then Some d else None) gs ≡ option_map state_of (if b then Some x else None)
+pub due_if : (b : Bool) (d : Expected) (gs : List Frame) (x : part.State) → (d, gs) ≡ state_of x
+    → parts.next_part (if b then Some d else None) gs ≡ option_map state_of (if b then Some x else None)
 due_if true d gs x e = ap (λ z. Some z) e
 due_if false d gs x e = refl
 
-pub part_is : (y : Style) (m : Mark) (x : Token) (h : Heading) (ts : Trees) (pre : List Lexeme) (t : Tree) (fs : part.Frames)
-    → out.next_part (out.next_due y m (out.is_first (filling ts pre))) (Within (kind_of h) Parts (reads_types ts && out.reads_type (part_of t)) (grammar.sort_in (part.sort fs) h) ∷ frames_of fs)
+pub part_is : (y : Style) (m : Mark) (x : Token) (h : Heading) (ts : Trees) (pre : List Terminal) (t : Tree) (fs : part.Frames)
+    → parts.next_part (parts.next_expected y m (parts.is_first (filling ts pre))) (Within (kind_of h) Parts (reads_types ts && parts.reads_type (part_of t)) (grammar.sort_in (part.sort fs) h) ∷ frames_of fs)
     ≡ option_map state_of (part.next_part y m x h ts (more ts pre t) fs)
 part_is y m x h ts pre t fs =
-    ap (λ b. out.next_part (out.next_due y m (out.is_first (filling ts pre))) (Within (kind_of h) Parts (reads_types ts && b) (grammar.sort_in (part.sort fs) h) ∷ frames_of fs)) (part_reads t) ∙ go y
+    ap (λ b. parts.next_part (parts.next_expected y m (parts.is_first (filling ts pre))) (Within (kind_of h) Parts (reads_types ts && b) (grammar.sort_in (part.sort fs) h) ∷ frames_of fs)) (part_reads t) ∙ go y
   where
     gs : List Frame
     gs = Within (kind_of h) Parts (reads_types (more ts pre t)) (grammar.sort_in (part.sort fs) h) ∷ frames_of fs
 
-    ends_is : (us : Trees) → out.next_part (out.next_due styles.Ends m (out.is_first (filling us pre))) gs ≡ option_map state_of (part.next_part styles.Ends m x h us (more ts pre t) fs)
+    ends_is : (us : Trees) → parts.next_part (parts.next_expected styles.Ends m (parts.is_first (filling us pre))) gs ≡ option_map state_of (part.next_part styles.Ends m x h us (more ts pre t) fs)
     ends_is none = first pre
       where
-        first : (ps : List Lexeme) → out.next_part (out.next_due styles.Ends m (out.is_first (filling none ps))) gs ≡ option_map state_of (part.next_part styles.Ends m x h none (more ts pre t) fs)
+        first : (ps : List Terminal) → parts.next_part (parts.next_expected styles.Ends m (parts.is_first (filling none ps))) gs ≡ option_map state_of (part.next_part styles.Ends m x h none (more ts pre t) fs)
         first [] = due_if (is_colon m) Operand gs (part.want (part.within h (more ts pre t) (sign m x ∷ []) fs)) refl
         first (l ∷ ps) = due_if (is_colon m) Operand gs (part.want (part.within h (more ts pre t) (sign m x ∷ []) fs)) refl
     ends_is (more us q u) = refl
 
-    go : (z : Style) → out.next_part (out.next_due z m (out.is_first (filling ts pre))) gs ≡ option_map state_of (part.next_part z m x h ts (more ts pre t) fs)
+    go : (z : Style) → parts.next_part (parts.next_expected z m (parts.is_first (filling ts pre))) gs ≡ option_map state_of (part.next_part z m x h ts (more ts pre t) fs)
     go styles.Lone = refl
     go styles.Parts = due_if (is_comma m) Operand gs (part.want (part.within h (more ts pre t) (sign m x ∷ []) fs)) refl
     go styles.Fields = due_if (is_comma m) Label gs (part.naming h (more ts pre t) (sign m x ∷ []) fs) refl
     go styles.Ends = ends_is ts
     go styles.Run = refl
 
-pub separate_is : (m : Mark) (x : Token) (p : Tree × part.Frames) → out.separate (base p.1) m (low_of p) ≡ option_map state_of (part.separate m x p)
+pub separate_is : (m : Mark) (x : Token) (p : Tree × part.Frames) → parts.separate (base p.1) m (low_of p) ≡ option_map state_of (part.separate m x p)
 separate_is m x (t, part.bottom σ) = refl
 separate_is m x (t, part.over g fs) = refl
 separate_is m x (t, part.timing u k y fs) = refl
 separate_is m x (t, part.within h ts pre fs) =
-    ap (λ y. out.next_part (out.next_due y m (out.is_first (filling ts pre))) (Within (kind_of h) Parts (reads_types ts && out.reads_type (part_of t)) (grammar.sort_in (part.sort fs) h) ∷ frames_of fs))
-    (ap (λ σ. out.kind_style σ (kind_of h)) (top_sort fs) ∙ kind_style (part.sort fs) h)
+    ap (λ y. parts.next_part (parts.next_expected y m (parts.is_first (filling ts pre))) (Within (kind_of h) Parts (reads_types ts && parts.reads_type (part_of t)) (grammar.sort_in (part.sort fs) h) ∷ frames_of fs))
+    (ap (λ σ. parts.kind_style σ (kind_of h)) (top_sort fs) ∙ kind_style (part.sort fs) h)
     ∙ part_is (grammar.style (part.sort fs) h) m x h ts pre t fs
 
-pub join_is : (m : Mark) (x : Token) (p : Tree × part.Frames) → out.join (base p.1) m (low_of p) ≡ option_map state_of (part.join m x p)
+pub join_is : (m : Mark) (x : Token) (p : Tree × part.Frames) → parts.join (base p.1) m (low_of p) ≡ option_map state_of (part.join m x p)
 join_is m x p =
-    both_if (has_level (out.top (base p.1) (frames_of p.1)) (level_of m) && nat_le (out.least (frames_of p.1)) (level_of m)) (has_level (part.sort p.1) (level_of m) && nat_le (part.least p.1) (level_of m))
-    (if nat_le (left_of m) (grammar.level p.0) then Some (Operand, Over (Left m) (out.top (base p.1) (frames_of p.1)) ∷ frames_of p.1) else None)
-    (out.separate (base p.1) m (low_of p))
+    both_if (has_level (parts.top (base p.1) (frames_of p.1)) (level_of m) && nat_le (parts.least (frames_of p.1)) (level_of m)) (has_level (part.sort p.1) (level_of m) && nat_le (part.least p.1) (level_of m))
+    (if nat_le (left_of m) (grammar.level p.0) then Some (Operand, Over (Left m) (parts.top (base p.1) (frames_of p.1)) ∷ frames_of p.1) else None)
+    (parts.separate (base p.1) m (low_of p))
     (if nat_le (left_of m) (grammar.level p.0) then Some (part.want (part.over (tree.left p.0 m x) p.1)) else None)
     (part.separate m x p)
     (both_and _ _ _ _ (ap (λ σ. has_level σ (level_of m)) (top_sort p.1)) (ap (λ n. nat_le n (level_of m)) (least_is p.1)))
-    (same_if (nat_le (left_of m) (grammar.level p.0)) (nat_le (left_of m) (grammar.level p.0)) (Operand, Over (Left m) (out.top (base p.1) (frames_of p.1)) ∷ frames_of p.1) (part.want (part.over (tree.left p.0 m x) p.1)) None None refl
+    (same_if (nat_le (left_of m) (grammar.level p.0)) (nat_le (left_of m) (grammar.level p.0)) (Operand, Over (Left m) (parts.top (base p.1) (frames_of p.1)) ∷ frames_of p.1) (part.want (part.over (tree.left p.0 m x) p.1)) None None refl
     (ap (λ σ. (Operand, Over (Left m) σ ∷ frames_of p.1)) (top_sort p.1)) refl)
     (separate_is m x p)
 
-pub may_dot_is : (σ : Sort) (t : Tree) (x : Token) → out.may_dot σ (part_of t) x.touching ≡ grammar.may_post σ t (dot x)
+pub may_dot_is : (σ : Sort) (t : Tree) (x : Token) → parts.may_dot σ (part_of t) x.touching ≡ grammar.may_post σ t (dot x)
 may_dot_is (sorts.Expression b) t x = refl
 may_dot_is sorts.Arithmetic t x = refl
 may_dot_is sorts.Notation t x = ap (λ b. b && x.touching) (part_atom t)
@@ -261,57 +261,57 @@ may_dot_is sorts.Typ t x = refl
 may_dot_is sorts.Count t x = refl
 may_dot_is sorts.Bound t x = refl
 
-pub may_mark_is : (σ : Sort) (t : Tree) (m : Mark) (x : Token) → out.may_mark σ (part_of t) m ≡ grammar.may_post σ t (sign m x)
-may_mark_is (sorts.Expression b) t m x = refl
-may_mark_is sorts.Arithmetic t m x = refl
-may_mark_is sorts.Notation t m x = ap (λ b. is_type_mark m && b) (part_type t)
-may_mark_is sorts.Typ t m x = refl
-may_mark_is sorts.Count t m x = refl
-may_mark_is sorts.Bound t m x = refl
+pub may_iterate_is : (σ : Sort) (t : Tree) (m : Mark) (x : Token) → parts.may_iterate σ (part_of t) m ≡ grammar.may_post σ t (sign m x)
+may_iterate_is (sorts.Expression b) t m x = refl
+may_iterate_is sorts.Arithmetic t m x = refl
+may_iterate_is sorts.Notation t m x = ap (λ b. is_type_iteration_sign m && b) (part_type t)
+may_iterate_is sorts.Typ t m x = refl
+may_iterate_is sorts.Count t m x = refl
+may_iterate_is sorts.Bound t m x = refl
 
-pub lower_tight : (n : ℕ) (t : Tree) (fs : part.Frames) → grammar.level t ≡ tight → out.lower n tight (part_of t) (frames_of fs) ≡ low_of (part.lower n t fs)
-lower_tight n t fs e = ap (λ v. out.lower n v (part_of t) (frames_of fs)) (sym e) ∙ lower_is n t fs
+pub lower_tight : (n : ℕ) (t : Tree) (fs : part.Frames) → grammar.level t ≡ tight → parts.lower n tight (part_of t) (frames_of fs) ≡ low_of (part.lower n t fs)
+lower_tight n t fs e = ap (λ v. parts.lower n v (part_of t) (frames_of fs)) (sym e) ∙ lower_is n t fs
 
-pub sign_is : (t : Tree) (m : Mark) (x : Token) (fs : part.Frames) → grammar.level t ≡ tight → out.behind_sign (base fs) m (part_of t) (frames_of fs) ≡ option_map state_of (part.behind_sign m x t fs)
+pub sign_is : (t : Tree) (m : Mark) (x : Token) (fs : part.Frames) → grammar.level t ≡ tight → parts.behind_sign (base fs) m (part_of t) (frames_of fs) ≡ option_map state_of (part.behind_sign m x t fs)
 sign_is t m x fs e =
-    same_if (out.may_mark (out.top (base fs) (frames_of fs)) (part_of t) m) (grammar.may_post (part.sort fs) t (sign m x)) (Next (out.marked m (part_of t)), frames_of fs) (part.got (tree.post t (sign m x)) fs)
-    (if is_expression (out.top (base fs) (frames_of fs)) && is_caret m then Some (Operand, Timing ∷ frames_of fs) else out.join (base fs) m (out.lower (out.pull (out.top (base fs) (frames_of fs)) m) tight (part_of t) (frames_of fs)))
+    same_if (parts.may_iterate (parts.top (base fs) (frames_of fs)) (part_of t) m) (grammar.may_post (part.sort fs) t (sign m x)) (Next (parts.marked m (part_of t)), frames_of fs) (part.got (tree.post t (sign m x)) fs)
+    (if is_expression (parts.top (base fs) (frames_of fs)) && is_caret m then Some (Operand, Timing ∷ frames_of fs) else parts.join (base fs) m (parts.lower (parts.pull (parts.top (base fs) (frames_of fs)) m) tight (part_of t) (frames_of fs)))
     (if is_expression (part.sort fs) && is_caret m then Some (part.want (part.timing t m x fs)) else part.join m x (part.lower (part.pull (part.sort fs) m) t fs))
-    (ap (λ σ. out.may_mark σ (part_of t) m) (top_sort fs) ∙ may_mark_is (part.sort fs) t m x) refl
-    (same_if (is_expression (out.top (base fs) (frames_of fs)) && is_caret m) (is_expression (part.sort fs) && is_caret m) (Operand, Timing ∷ frames_of fs) (part.want (part.timing t m x fs))
-    (out.join (base fs) m (out.lower (out.pull (out.top (base fs) (frames_of fs)) m) tight (part_of t) (frames_of fs))) (part.join m x (part.lower (part.pull (part.sort fs) m) t fs))
+    (ap (λ σ. parts.may_iterate σ (part_of t) m) (top_sort fs) ∙ may_iterate_is (part.sort fs) t m x) refl
+    (same_if (is_expression (parts.top (base fs) (frames_of fs)) && is_caret m) (is_expression (part.sort fs) && is_caret m) (Operand, Timing ∷ frames_of fs) (part.want (part.timing t m x fs))
+    (parts.join (base fs) m (parts.lower (parts.pull (parts.top (base fs) (frames_of fs)) m) tight (part_of t) (frames_of fs))) (part.join m x (part.lower (part.pull (part.sort fs) m) t fs))
     (ap (λ σ. is_expression σ && is_caret m) (top_sort fs)) refl joined)
   where
     low : Tree × part.Frames
     low = part.lower (part.pull (part.sort fs) m) t fs
 
-    joined : out.join (base fs) m (out.lower (out.pull (out.top (base fs) (frames_of fs)) m) tight (part_of t) (frames_of fs)) ≡ option_map state_of (part.join m x (part.lower (part.pull (part.sort fs) m) t fs))
+    joined : parts.join (base fs) m (parts.lower (parts.pull (parts.top (base fs) (frames_of fs)) m) tight (part_of t) (frames_of fs)) ≡ option_map state_of (part.join m x (part.lower (part.pull (part.sort fs) m) t fs))
     joined =
-        ap (λ σ. out.join (base fs) m (out.lower (out.pull σ m) tight (part_of t) (frames_of fs))) (top_sort fs)
-        ∙ ap (out.join (base fs) m) (lower_tight (part.pull (part.sort fs) m) t fs e)
-        ∙ ap (λ σ. out.join σ m (low_of (part.lower (part.pull (part.sort fs) m) t fs))) (sym (lower_base (part.pull (part.sort fs) m) t fs))
+        ap (λ σ. parts.join (base fs) m (parts.lower (parts.pull σ m) tight (part_of t) (frames_of fs))) (top_sort fs)
+        ∙ ap (parts.join (base fs) m) (lower_tight (part.pull (part.sort fs) m) t fs e)
+        ∙ ap (λ σ. parts.join σ m (low_of (part.lower (part.pull (part.sort fs) m) t fs))) (sym (lower_base (part.pull (part.sort fs) m) t fs))
         ∙ join_is m x (part.lower (part.pull (part.sort fs) m) t fs)
 
-pub square_is : (t : Tree) (x : Token) (fs : part.Frames) → out.behind_square (base fs) (frames_of fs) ≡ option_map state_of (part.behind_square x t fs)
+pub square_is : (t : Tree) (x : Token) (fs : part.Frames) → parts.behind_square (base fs) (frames_of fs) ≡ option_map state_of (part.behind_square x t fs)
 square_is t x fs =
-    same_if (is_expression (out.top (base fs) (frames_of fs))) (is_expression (part.sort fs)) (Step false, frames_of fs) (part.pathed (tree.head t x) fs)
-    (if computes (out.top (base fs) (frames_of fs)) then Some (Operand, out.opened InIndex (out.top (base fs) (frames_of fs)) (frames_of fs)) else None)
+    same_if (is_expression (parts.top (base fs) (frames_of fs))) (is_expression (part.sort fs)) (Step false, frames_of fs) (part.pathed (tree.head t x) fs)
+    (if computes (parts.top (base fs) (frames_of fs)) then Some (Operand, parts.opened InIndex (parts.top (base fs) (frames_of fs)) (frames_of fs)) else None)
     (if computes (part.sort fs) then Some (part.want (part.within (tree.index t x) none [] fs)) else None)
     (ap is_expression (top_sort fs)) refl
-    (same_if (computes (out.top (base fs) (frames_of fs))) (computes (part.sort fs)) (Operand, out.opened InIndex (out.top (base fs) (frames_of fs)) (frames_of fs)) (part.want (part.within (tree.index t x) none [] fs)) None None
+    (same_if (computes (parts.top (base fs) (frames_of fs))) (computes (part.sort fs)) (Operand, parts.opened InIndex (parts.top (base fs) (frames_of fs)) (frames_of fs)) (part.want (part.within (tree.index t x) none [] fs)) None None
     (ap computes (top_sort fs)) (ap (λ gs. (Operand, gs)) (opened_is (tree.index t x) fs)) refl)
 
-pub called : (f x : Token) (fs : part.Frames) → (if computes (out.top (base fs) (frames_of fs)) && x.touching then Some (Operand, out.opened Arguments (out.top (base fs) (frames_of fs)) (frames_of fs)) else None)
+pub called : (f x : Token) (fs : part.Frames) → (if computes (parts.top (base fs) (frames_of fs)) && x.touching then Some (Operand, parts.opened Arguments (parts.top (base fs) (frames_of fs)) (frames_of fs)) else None)
     ≡ option_map state_of (part.behind_round x (tree.operand leaves.Function f) fs)
 called f x fs =
-    same_if (computes (out.top (base fs) (frames_of fs)) && x.touching) (computes (part.sort fs) && x.touching) (Operand, out.opened Arguments (out.top (base fs) (frames_of fs)) (frames_of fs)) (part.want (part.within (tree.arguments f x) none [] fs)) None None
+    same_if (computes (parts.top (base fs) (frames_of fs)) && x.touching) (computes (part.sort fs) && x.touching) (Operand, parts.opened Arguments (parts.top (base fs) (frames_of fs)) (frames_of fs)) (part.want (part.within (tree.arguments f x) none [] fs)) None None
     (ap (λ σ. computes σ && x.touching) (top_sort fs)) (ap (λ gs. (Operand, gs)) (opened_is (tree.arguments f x) fs)) refl
 
 -- only a function has arguments
-pub round_is : (t : Tree) (x : Token) (fs : part.Frames) → out.behind_round (base fs) x.touching (part_of t) (frames_of fs) ≡ option_map state_of (part.behind_round x t fs)
-round_is t x fs = ap (λ b. if b && (computes (out.top (base fs) (frames_of fs)) && x.touching) then Some (Operand, out.opened Arguments (out.top (base fs) (frames_of fs)) (frames_of fs)) else None) (part_function t) ∙ go t
+pub round_is : (t : Tree) (x : Token) (fs : part.Frames) → parts.behind_round (base fs) x.touching (part_of t) (frames_of fs) ≡ option_map state_of (part.behind_round x t fs)
+round_is t x fs = ap (λ b. if b && (computes (parts.top (base fs) (frames_of fs)) && x.touching) then Some (Operand, parts.opened Arguments (parts.top (base fs) (frames_of fs)) (frames_of fs)) else None) (part_function t) ∙ go t
   where
-    go : (u : Tree) → (if grammar.is_function u && (computes (out.top (base fs) (frames_of fs)) && x.touching) then Some (Operand, out.opened Arguments (out.top (base fs) (frames_of fs)) (frames_of fs)) else None) ≡ option_map state_of (part.behind_round x u fs)
+    go : (u : Tree) → (if grammar.is_function u && (computes (parts.top (base fs) (frames_of fs)) && x.touching) then Some (Operand, parts.opened Arguments (parts.top (base fs) (frames_of fs)) (frames_of fs)) else None) ≡ option_map state_of (part.behind_round x u fs)
     go (tree.operand leaves.Low f) = refl
     go (tree.operand leaves.Basic f) = refl
     go (tree.operand leaves.Variable f) = refl
@@ -324,11 +324,11 @@ round_is t x fs = ap (λ b. if b && (computes (out.top (base fs) (frames_of fs))
     go (tree.bracket h ts c) = refl
     go (tree.led g u) = refl
 
-pub behind_is : (t : Tree) (fs : part.Frames) (l : Lexeme) → grammar.level t ≡ tight → out.behind (base fs) (part_of t) (frames_of fs) (shape l) ≡ option_map state_of (part.behind t fs l)
+pub behind_is : (t : Tree) (fs : part.Frames) (l : Terminal) → grammar.level t ≡ tight → parts.behind (base fs) (part_of t) (frames_of fs) (shape l) ≡ option_map state_of (part.behind t fs l)
 behind_is t fs (leaf k x) e = refl
 behind_is t fs (dot x) e =
-    same_if (out.may_dot (out.top (base fs) (frames_of fs)) (part_of t) x.touching) (grammar.may_post (part.sort fs) t (dot x)) (Next (out.dotted (part_of t)), frames_of fs) (part.got (tree.post t (dot x)) fs) None None
-    (ap (λ σ. out.may_dot σ (part_of t) x.touching) (top_sort fs) ∙ may_dot_is (part.sort fs) t x) refl refl
+    same_if (parts.may_dot (parts.top (base fs) (frames_of fs)) (part_of t) x.touching) (grammar.may_post (part.sort fs) t (dot x)) (Next (parts.dotted (part_of t)), frames_of fs) (part.got (tree.post t (dot x)) fs) None None
+    (ap (λ σ. parts.may_dot σ (part_of t) x.touching) (top_sort fs) ∙ may_dot_is (part.sort fs) t x) refl refl
 behind_is t fs (sign m x) e = sign_is t m x fs e
 behind_is t fs (opening bracket.Round x) e = round_is t x fs
 behind_is t fs (opening bracket.Square x) e = square_is t x fs
@@ -337,24 +337,24 @@ behind_is t fs (opening bracket.TickRound x) e = refl
 behind_is t fs (opening bracket.TickSquare x) e = refl
 behind_is t fs (opening bracket.TickBrace x) e = refl
 behind_is t fs (opening bracket.Dollar x) e = refl
-behind_is t fs (closing c x) e = ap (out.close c) (lower_tight 0 t fs e) ∙ close_is c x (part.lower 0 t fs)
+behind_is t fs (closing c x) e = ap (parts.close c) (lower_tight 0 t fs e) ∙ close_is c x (part.lower 0 t fs)
 behind_is t fs (other x) e = refl
 
-pub after_is : (t : Tree) (fs : part.Frames) (l : Lexeme) → grammar.level t ≡ tight → out.after (base fs) (part_of t) (frames_of fs) (shape l) ≡ option_map state_of (part.after t fs l)
+pub after_is : (t : Tree) (fs : part.Frames) (l : Terminal) → grammar.level t ≡ tight → parts.after (base fs) (part_of t) (frames_of fs) (shape l) ≡ option_map state_of (part.after t fs l)
 after_is t fs l e =
-    both_if (out.follows (out.top (base fs) (frames_of fs)) (part_of t) (shape l)) (grammar.follows (part.sort fs) t l)
-    (out.begin (base fs) (out.extend (base fs) (frames_of fs)) (shape l)) (out.behind (base fs) (part_of t) (frames_of fs) (shape l)) (part.begin (part.extend t fs) l) (part.behind t fs l)
-    (ap (λ σ. out.follows σ (part_of t) (shape l)) (top_sort fs) ∙ follows_is (part.sort fs) t l) (next_begins t fs l) (behind_is t fs l e)
+    both_if (parts.follows (parts.top (base fs) (frames_of fs)) (part_of t) (shape l)) (grammar.follows (part.sort fs) t l)
+    (parts.begin (base fs) (parts.extend (base fs) (frames_of fs)) (shape l)) (parts.behind (base fs) (part_of t) (frames_of fs) (shape l)) (part.begin (part.extend t fs) l) (part.behind t fs l)
+    (ap (λ σ. parts.follows σ (part_of t) (shape l)) (top_sort fs) ∙ follows_is (part.sort fs) t l) (next_begins t fs l) (behind_is t fs l e)
 
 -- ---- paths, names and counts
 
-pub in_index_is : (p : Path) (fs : part.Frames) (l : Lexeme) → out.in_index (base fs) (grammar.has_step p) (frames_of fs) (shape l) ≡ option_map state_of (part.in_index p fs l)
+pub in_index_is : (p : Path) (fs : part.Frames) (l : Terminal) → parts.in_index (base fs) (grammar.has_step p) (frames_of fs) (shape l) ≡ option_map state_of (part.in_index p fs l)
 in_index_is (tree.head t o) fs l =
-    ap (λ gs. out.begin (base fs) gs (shape l)) (opened_is (tree.index t o) fs) ∙ begin_is (part.within (tree.index t o) none [] fs) l
+    ap (λ gs. parts.begin (base fs) gs (shape l)) (opened_is (tree.index t o) fs) ∙ begin_is (part.within (tree.index t o) none [] fs) l
 in_index_is (tree.field p x) fs l = refl
 in_index_is (tree.part p o ts c) fs l = refl
 
-pub path_is : (p : Path) (fs : part.Frames) (l : Lexeme) → out.in_path (base fs) (grammar.has_step p) (frames_of fs) (shape l) ≡ option_map state_of (part.in_path p fs l)
+pub path_is : (p : Path) (fs : part.Frames) (l : Terminal) → parts.in_path (base fs) (grammar.has_step p) (frames_of fs) (shape l) ≡ option_map state_of (part.in_path p fs l)
 path_is p fs (dot x) = refl
 path_is p fs (leaf k x) = in_index_is p fs (leaf k x)
 path_is p fs (opening bracket.Square x) = ap (λ gs. Some (Operand, gs)) (opened_is (tree.segment p x) fs)
@@ -367,10 +367,10 @@ path_is p fs (opening bracket.Dollar x) = in_index_is p fs (opening bracket.Doll
 path_is p fs (closing c x) = in_index_is p fs (closing c x)
 path_is p fs (other x) = in_index_is p fs (other x)
 path_is p fs (sign m x) =
-    same_if (grammar.has_step p && is_change m) (grammar.has_step p && is_change m) (Operand, out.opened Update (out.top (base fs) (frames_of fs)) (frames_of fs)) (part.want (part.within (tree.update p m x) none [] fs))
-    (out.in_index (base fs) (grammar.has_step p) (frames_of fs) (Sign m)) (part.in_index p fs (sign m x)) refl (ap (λ gs. (Operand, gs)) (opened_is (tree.update p m x) fs)) (in_index_is p fs (sign m x))
+    same_if (grammar.has_step p && is_change m) (grammar.has_step p && is_change m) (Operand, parts.opened Update (parts.top (base fs) (frames_of fs)) (frames_of fs)) (part.want (part.within (tree.update p m x) none [] fs))
+    (parts.in_index (base fs) (grammar.has_step p) (frames_of fs) (Sign m)) (part.in_index p fs (sign m x)) refl (ap (λ gs. (Operand, gs)) (opened_is (tree.update p m x) fs)) (in_index_is p fs (sign m x))
 
-pub label_is : (l : Lexeme) → out.is_label (shape l) ≡ grammar.is_label l
+pub label_is : (l : Terminal) → parts.is_label (shape l) ≡ grammar.is_label l
 label_is (leaf leaves.Low x) = refl
 label_is (leaf leaves.Basic x) = refl
 label_is (leaf leaves.Variable x) = refl
@@ -384,17 +384,17 @@ label_is (opening b x) = refl
 label_is (closing c x) = refl
 label_is (other x) = refl
 
-pub named_is : (ts : Trees) (pre : List Lexeme) (l : Lexeme) → out.named (filling ts pre) ≡ filling ts (pre ++ l ∷ [])
+pub named_is : (ts : Trees) (pre : List Terminal) (l : Terminal) → parts.named (filling ts pre) ≡ filling ts (pre ++ l ∷ [])
 named_is none [] l = refl
 named_is none (k ∷ pre) l = refl
 named_is (more ts q t) pre l = refl
 
-pub name_is : (h : Heading) (ts : Trees) (pre : List Lexeme) (fs : part.Frames) (l : Lexeme) → out.name_field (frames_of (part.within h ts pre fs)) (shape l) ≡ option_map state_of (part.name_field h ts pre fs l)
+pub name_is : (h : Heading) (ts : Trees) (pre : List Terminal) (fs : part.Frames) (l : Terminal) → parts.name_field (frames_of (part.within h ts pre fs)) (shape l) ≡ option_map state_of (part.name_field h ts pre fs l)
 name_is h ts pre fs l =
-    same_if (out.is_label (shape l)) (grammar.is_label l) (Operand, Within (kind_of h) (out.named (filling ts pre)) (reads_types ts) (grammar.sort_in (part.sort fs) h) ∷ frames_of fs) (part.want (part.within h ts (pre ++ l ∷ []) fs)) None None
+    same_if (parts.is_label (shape l)) (grammar.is_label l) (Operand, Within (kind_of h) (parts.named (filling ts pre)) (reads_types ts) (grammar.sort_in (part.sort fs) h) ∷ frames_of fs) (part.want (part.within h ts (pre ++ l ∷ []) fs)) None None
     (label_is l) (ap (λ f. (Operand, Within (kind_of h) f (reads_types ts) (grammar.sort_in (part.sort fs) h) ∷ frames_of fs)) (named_is ts pre l)) refl
 
-pub index_is : (o : Token) (fs : part.Frames) (l : Lexeme) → out.name_index (frames_of fs) (shape l) ≡ option_map state_of (part.name_index o fs l)
+pub index_is : (o : Token) (fs : part.Frames) (l : Terminal) → parts.name_index (frames_of fs) (shape l) ≡ option_map state_of (part.name_index o fs l)
 index_is o fs (leaf leaves.Low x) = refl
 index_is o fs (leaf leaves.Basic x) = refl
 index_is o fs (leaf leaves.Variable x) = refl
@@ -408,9 +408,9 @@ index_is o fs (opening b x) = refl
 index_is o fs (closing c x) = refl
 index_is o fs (other x) = refl
 
-pub bound_is : (o i : Token) (fs : part.Frames) (l : Lexeme) → out.bound_index (base fs) (frames_of fs) (shape l) ≡ option_map state_of (part.bound_index o i fs l)
+pub bound_is : (o i : Token) (fs : part.Frames) (l : Terminal) → parts.bound_index (base fs) (frames_of fs) (shape l) ≡ option_map state_of (part.bound_index o i fs l)
 bound_is o i fs (sign m x) =
-    same_if (is_less m) (is_less m) (Operand, out.opened Below (out.top (base fs) (frames_of fs)) (frames_of fs)) (part.want (part.within (tree.below o i m x) none [] fs)) None None refl
+    same_if (is_less m) (is_less m) (Operand, parts.opened Below (parts.top (base fs) (frames_of fs)) (frames_of fs)) (part.want (part.within (tree.below o i m x) none [] fs)) None None refl
     (ap (λ gs. (Operand, gs)) (opened_is (tree.below o i m x) fs)) refl
 bound_is o i fs (leaf k x) = refl
 bound_is o i fs (dot x) = refl
@@ -427,8 +427,8 @@ level_high (tree.times t m x c) = omega arith
 level_high (tree.bracket h ts c) = omega arith
 level_high (tree.led g t) = omega (arith, lead_low g)
 
--- The outline takes each step of the reading.
-pub step_is : (st : part.State) (l : Lexeme) → Holds st → out.step (state_base st) (state_of st) (shape l) ≡ option_map state_of (part.step st l)
+-- The automaton takes each step of the reading.
+pub step_is : (st : part.State) (l : Terminal) → Holds st → parts.step (state_base st) (state_of st) (shape l) ≡ option_map state_of (part.step st l)
 step_is (part.want fs) l h = begin_is fs l
 step_is (part.got t fs) l h = after_is t fs l (omega (arith, level_high t, h.1))
 step_is (part.naming k ts pre fs) l n = name_is k ts pre fs l
@@ -436,15 +436,15 @@ step_is (part.pathed p fs) l h = path_is p fs l
 step_is (part.indexing o fs) l h = index_is o fs l
 step_is (part.comparing o i fs) l h = bound_is o i fs l
 
-pub ended_is : (p : Tree × part.Frames) → out.ended (low_of p) ≡ option_map part_of (part.ended p)
+pub ended_is : (p : Tree × part.Frames) → parts.ended (low_of p) ≡ option_map part_of (part.ended p)
 ended_is (t, part.bottom σ) = refl
 ended_is (t, part.within h ts pre fs) = refl
 ended_is (t, part.over g fs) = refl
 ended_is (t, part.timing u m x fs) = refl
 
-pub finish_is : (st : part.State) → Holds st → out.finish (state_of st) ≡ option_map part_of (part.finish st)
+pub finish_is : (st : part.State) → Holds st → parts.finish (state_of st) ≡ option_map part_of (part.finish st)
 finish_is (part.want fs) h = refl
-finish_is (part.got t fs) h = ap out.ended (lower_tight 0 t fs (omega (arith, level_high t, h.1))) ∙ ended_is (part.lower 0 t fs)
+finish_is (part.got t fs) h = ap parts.ended (lower_tight 0 t fs (omega (arith, level_high t, h.1))) ∙ ended_is (part.lower 0 t fs)
 finish_is (part.naming k ts pre fs) n = refl
 finish_is (part.pathed p fs) h = refl
 finish_is (part.indexing o fs) h = refl

@@ -10,20 +10,20 @@ use Rattle.st_scan.specs.declared.token.TokenKind.{TokenKind}
 use Rattle.st_scan.specs.declared.token.TokenKind.TheVariants as kind
 use Rattle.st_grammar.specs.declared.sort.Leaf.TheVariants as leaves
 use Rattle.st_grammar.specs.declared.keyword.Keyword.TheVariants as key
-use Rattle.st_grammar.specs.Lexemes.{leaf, dot, other, lexeme, kind_lexeme, word_lexeme, sign_lexeme, is_variable}
+use Rattle.st_grammar.specs.Terminals.{leaf, dot, other, terminal, kind_terminal, word_terminal, sign_terminal, is_variable}
 use Rattle.st_grammar.specs.Definitions.{kind_keyword, is_mix_kind, is_piece_kind, is_dot_kind}
-use Rattle.st_parse_automaton.specs.declared.outline.Shape.TheVariants.{Single, Dot, Other}
-use Rattle.st_parse_automaton.specs.Shapes.{lexeme_of, made, kind_shape, word_shape}
+use Rattle.st_parse_automaton.specs.declared.part_automaton.Shape.TheVariants.{Single, Dot, Other}
+use Rattle.st_parse_automaton.specs.Shapes.{class_of, made, kind_shape, word_shape}
 
 -- a token that no part has, by its kind
-pub other_is : (x : Token) (k : TokenKind) → x.kind ≡ k → lexeme_of (other x) ≡ made Other x.touching (kind_keyword k) (is_mix_kind k) (is_piece_kind k) (is_dot_kind k)
+pub other_is : (x : Token) (k : TokenKind) → x.kind ≡ k → class_of (other x) ≡ made Other x.touching (kind_keyword k) (is_mix_kind k) (is_piece_kind k) (is_dot_kind k)
 other_is x k e = ap (λ j. made Other x.touching (kind_keyword j) (is_mix_kind j) (is_piece_kind j) (is_dot_kind j)) e
 
 -- an operand of one token, by its kind
-pub leaf_is : (x : Token) (k : TokenKind) (f : _) → x.kind ≡ k → lexeme_of (leaf f x) ≡ made (Single f) x.touching key.NoWord false (is_piece_kind k) false
+pub leaf_is : (x : Token) (k : TokenKind) (f : _) → x.kind ≡ k → class_of (leaf f x) ≡ made (Single f) x.touching key.NoWord false (is_piece_kind k) false
 leaf_is x k f e = ap (λ j. made (Single f) x.touching key.NoWord false (is_piece_kind j) false) e
 
-pub word_is : (x : Token) (w : Word) → x.kind ≡ kind.Reserved w → lexeme_of (word_lexeme w x) ≡ made (word_shape w) x.touching (kind_keyword (kind.Reserved w)) false true false
+pub word_is : (x : Token) (w : Word) → x.kind ≡ kind.Reserved w → class_of (word_terminal w x) ≡ made (word_shape w) x.touching (kind_keyword (kind.Reserved w)) false true false
 word_is x word.Syntax e = other_is x (kind.Reserved word.Syntax) e
 word_is x word.Relation e = other_is x (kind.Reserved word.Relation) e
 word_is x word.Rule e = other_is x (kind.Reserved word.Rule) e
@@ -43,7 +43,7 @@ word_is x word.Text e = leaf_is x (kind.Reserved word.Text) leaves.Basic e
 word_is x word.Rat e = other_is x (kind.Reserved word.Rat) e
 word_is x word.Real e = other_is x (kind.Reserved word.Real) e
 
-pub sign_is : (x : Token) (m : Mark) → lexeme_of (sign_lexeme m x) ≡ kind_shape [] (kind.Sign m) x.touching
+pub sign_is : (x : Token) (m : Mark) → class_of (sign_terminal m x) ≡ kind_shape [] (kind.Sign m) x.touching
 sign_is x mark.Turnstile = refl
 sign_is x mark.ReverseTurnstile = refl
 sign_is x mark.SquigglyArrowStar = refl
@@ -92,11 +92,11 @@ sign_is x mark.TickParen = refl
 sign_is x mark.TickBracket = refl
 sign_is x mark.TickBrace = refl
 
-pub kind_is : (names : List (List ℕ)) (x : Token) (k : TokenKind) → x.kind ≡ k → lexeme_of (kind_lexeme names k x) ≡ kind_shape names k x.touching
+pub kind_is : (names : List (List ℕ)) (x : Token) (k : TokenKind) → x.kind ≡ k → class_of (kind_terminal names k x) ≡ kind_shape names k x.touching
 kind_is names x (kind.Low name) e = leaf_is x (kind.Low name) leaves.Low e
 kind_is names x (kind.Up name) e = go (is_variable names name)
   where
-    go : (b : Bool) → lexeme_of (if b then leaf leaves.Variable x else leaf leaves.Atom x) ≡ made (if b then Single leaves.Variable else Single leaves.Atom) x.touching key.NoWord false true false
+    go : (b : Bool) → class_of (if b then leaf leaves.Variable x else leaf leaves.Atom x) ≡ made (if b then Single leaves.Variable else Single leaves.Atom) x.touching key.NoWord false true false
     go true = leaf_is x (kind.Up name) leaves.Variable e
     go false = leaf_is x (kind.Up name) leaves.Atom e
 kind_is names x (kind.Mix name) e = other_is x (kind.Mix name) e
@@ -105,11 +105,11 @@ kind_is names x (kind.Number n) e = leaf_is x (kind.Number n) leaves.Number e
 kind_is names x (kind.Text text) e = leaf_is x (kind.Text text) leaves.Literal e
 kind_is names x (kind.Dot name) e = go (has_lower name)
   where
-    go : (b : Bool) → lexeme_of (if b then other x else dot x) ≡ made (if b then Other else Dot x.touching) x.touching key.NoWord false false true
+    go : (b : Bool) → class_of (if b then other x else dot x) ≡ made (if b then Other else Dot x.touching) x.touching key.NoWord false false true
     go true = other_is x (kind.Dot name) e
     go false = refl
 kind_is names x (kind.Fun name) e = leaf_is x (kind.Fun name) leaves.Function e
 kind_is names x (kind.Sign m) e = sign_is x m
 
-pub token_is : (names : List (List ℕ)) (x : Token) → lexeme_of (lexeme names x) ≡ kind_shape names x.kind x.touching
+pub token_is : (names : List (List ℕ)) (x : Token) → class_of (terminal names x) ≡ kind_shape names x.kind x.touching
 token_is names x = kind_is names x x.kind refl

@@ -1,5 +1,5 @@
-pub mod Outline
+pub mod PartAutomaton
 pub mod Shapes
-pub mod Course
+pub mod DefinitionAutomaton
 pub mod Readings
 pub mod Refusal

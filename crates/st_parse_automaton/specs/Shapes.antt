@@ -13,15 +13,15 @@ use Rattle.st_grammar.specs.declared.sort.Bracket.TheVariants as bracket
 use Rattle.st_grammar.specs.declared.sort.Closing.TheVariants as closings
 use Rattle.st_grammar.specs.declared.keyword.Keyword.{Keyword}
 use Rattle.st_grammar.specs.declared.keyword.Keyword.TheVariants as key
-use Rattle.st_grammar.specs.Lexemes.{is_variable, name_in}
-use Rattle.st_grammar.specs.Lexemes as lexemes
-use Rattle.st_grammar.specs.Lexemes.{leaf, dot, sign, opening, closing, other}
+use Rattle.st_grammar.specs.Terminals.{is_variable, name_in}
+use Rattle.st_grammar.specs.Terminals as terminals
+use Rattle.st_grammar.specs.Terminals.{leaf, dot, sign, opening, closing, other}
 use Rattle.st_grammar.specs.Definitions.{keyword, kind_keyword, mark_keyword, touches, is_mix_kind, is_piece, is_dot}
-use Rattle.st_parse_automaton.specs.declared.outline.Shape.{Shape}
-use Rattle.st_parse_automaton.specs.declared.outline.Shape.TheVariants.{Single, Dot, Sign, Open, Close, Other}
-use Rattle.st_parse_automaton.specs.declared.place.Lexeme.{Lexeme}
+use Rattle.st_parse_automaton.specs.declared.part_automaton.Shape.{Shape}
+use Rattle.st_parse_automaton.specs.declared.part_automaton.Shape.TheVariants.{Single, Dot, Sign, Open, Close, Other}
+use Rattle.st_parse_automaton.specs.declared.position.TokenClass.{TokenClass}
 
-abbrev pub shape : lexemes.Lexeme → Shape
+abbrev pub shape : terminals.Terminal → Shape
 shape (leaf k x) = Single k
 shape (dot x) = Dot x.touching
 shape (sign m x) = Sign m
@@ -29,12 +29,12 @@ shape (opening b x) = Open b x.touching
 shape (closing c x) = Close c
 shape (other x) = Other
 
-abbrev pub is_mix : lexemes.Lexeme → Bool
+abbrev pub is_mix : terminals.Terminal → Bool
 is_mix (other x) = is_mix_kind x.kind
 is_mix l = false
 
-abbrev pub lexeme_of : lexemes.Lexeme → Lexeme
-lexeme_of l =
+abbrev pub class_of : terminals.Terminal → TokenClass
+class_of l =
     record {
       shape = shape l;
       touching = touches l;
@@ -46,7 +46,7 @@ lexeme_of l =
 
 -- ---- by the kind of the token
 
-abbrev pub made : Shape → Bool → Keyword → Bool → Bool → Bool → Lexeme
+abbrev pub made : Shape → Bool → Keyword → Bool → Bool → Bool → TokenClass
 made s t k m p d = record { shape = s; touching = t; keyword = k; mix = m; piece = p; dot = d }
 
 abbrev pub word_shape : Word → Shape
@@ -73,7 +73,7 @@ sign_shape mark.CloseBrace t = Close closings.ByBrace
 sign_shape mark.Bar t = Close closings.ByBar
 sign_shape m t = Sign m
 
-abbrev pub kind_shape : List (List ℕ) → TokenKind → Bool → Lexeme
+abbrev pub kind_shape : List (List ℕ) → TokenKind → Bool → TokenClass
 kind_shape names (kind.Low name) t = made (Single leaves.Low) t key.NoWord false true false
 kind_shape names (kind.Up name) t =
     made (if is_variable names name then Single leaves.Variable else Single leaves.Atom) t

@@ -1,43 +1,43 @@
-//! What begins where an operand is due.
+//! What begins where an operand is expected.
 
 ghost use Rattle.std.specs.Prelude.{◌≡◌, ◌∷◌, IfOk, reverse};
 ghost use Rattle.std.specs.Option.{option_map};
-ghost use Rattle.st_parse_automaton.specs.Outline as out;
+ghost use Rattle.st_parse_automaton.specs.PartAutomaton as parts;
 ghost use Rattle.st_parse_automaton.specs.Readings.{reading_of};
 
 use crate::close::settle;
 use crate::frame::{kind_sort, leaf_part, least, top};
-use crate::outline::{Due, Filling, Frame, Kind, Lead, Part, Reading, Shape};
+use crate::part_automaton::{Expected, Filling, Frame, Kind, Lead, Part, Reading, Shape};
 use crate::table::{ahead_level, computes, encloses, has_level, is_count, takes};
 use st_grammar::{Bracket, Closing, Sort};
 use st_num::{Mark, NoMemory, Row};
 
-/// A bracket that opens in a place of this sort.
+/// A bracket that opens in a position of this sort.
 pub(crate) fn opened(
-    due: Due,
+    expected: Expected,
     kind: Kind,
     sort: Sort,
     mut frames: Row<Frame>,
 ) -> Result<Option<Reading>, NoMemory>
     ensures { IfOk result (λ next.
-        option_map reading_of next ≡ Some (due, out.opened kind sort (reverse frames))) }
+        option_map reading_of next ≡ Some (expected, parts.opened kind sort (reverse frames))) }
 {
     let inner = kind_sort(sort, kind);
     frames.push(Frame::Within(kind, Filling::Empty, true, inner))?;
-    Ok(Some(Reading { due, frames }))
+    Ok(Some(Reading { expected, frames }))
 }
 
-fn plain_due(bracket: Bracket) -> Due
-    ensures { result ≡ out.plain_due bracket }
+fn plain_expected(bracket: Bracket) -> Expected
+    ensures { result ≡ parts.plain_expected bracket }
 {
     match bracket {
-        Bracket::Brace => Due::Label,
+        Bracket::Brace => Expected::Label,
         Bracket::Round
         | Bracket::Square
         | Bracket::TickRound
         | Bracket::TickSquare
         | Bracket::TickBrace
-        | Bracket::Dollar => Due::Operand,
+        | Bracket::Dollar => Expected::Operand,
     }
 }
 
@@ -47,13 +47,13 @@ fn begin_plain(
     frames: Row<Frame>,
 ) -> Result<Option<Reading>, NoMemory>
     ensures { IfOk result (λ next.
-        option_map reading_of next ≡ out.begin_plain base bracket (reverse frames)) }
+        option_map reading_of next ≡ parts.begin_plain base bracket (reverse frames)) }
 {
     let sort = top(base, &frames);
     if !encloses(sort, bracket) {
         return Ok(None);
     }
-    let next = opened(plain_due(bracket), Kind::Plain(bracket), sort, frames)?;
+    let next = opened(plain_expected(bracket), Kind::Plain(bracket), sort, frames)?;
     Ok(next)
 }
 
@@ -63,11 +63,11 @@ fn begin_opening(
     frames: Row<Frame>,
 ) -> Result<Option<Reading>, NoMemory>
     ensures { IfOk result (λ next.
-        option_map reading_of next ≡ out.begin_opening base bracket (reverse frames)) }
+        option_map reading_of next ≡ parts.begin_opening base bracket (reverse frames)) }
 {
     match bracket {
         Bracket::Round if is_count(top(base, &frames)) => Ok(Some(Reading {
-            due: Due::Index,
+            expected: Expected::Index,
             frames,
         })),
         Bracket::Round
@@ -82,7 +82,7 @@ fn begin_opening(
 
 /// The end of arguments that are none.
 fn no_arguments(mut frames: Row<Frame>) -> Result<Option<Reading>, NoMemory>
-    ensures { IfOk result (λ next. option_map reading_of next ≡ out.no_arguments (reverse frames)) }
+    ensures { IfOk result (λ next. option_map reading_of next ≡ parts.no_arguments (reverse frames)) }
 {
     match frames.pop() {
         Some(Frame::Within(Kind::Arguments, Filling::Empty, _, _)) => {
@@ -99,7 +99,7 @@ fn begin_closing(
     frames: Row<Frame>,
 ) -> Result<Option<Reading>, NoMemory>
     ensures { IfOk result (λ next.
-        option_map reading_of next ≡ out.begin_closing base closing (reverse frames)) }
+        option_map reading_of next ≡ parts.begin_closing base closing (reverse frames)) }
 {
     match closing {
         Closing::ByBar => {
@@ -107,7 +107,7 @@ fn begin_closing(
             if !computes(sort) {
                 return Ok(None);
             }
-            let next = opened(Due::Operand, Kind::Length, sort, frames)?;
+            let next = opened(Expected::Operand, Kind::Length, sort, frames)?;
             Ok(next)
         }
         Closing::ByRound => no_arguments(frames),
@@ -117,7 +117,7 @@ fn begin_closing(
 
 fn begin_sign(base: Sort, mark: Mark, mut frames: Row<Frame>) -> Result<Option<Reading>, NoMemory>
     ensures { IfOk result (λ next.
-        option_map reading_of next ≡ out.begin_sign base mark (reverse frames)) }
+        option_map reading_of next ≡ parts.begin_sign base mark (reverse frames)) }
 {
     let sort = top(base, &frames);
     let level = ahead_level(mark);
@@ -126,7 +126,7 @@ fn begin_sign(base: Sort, mark: Mark, mut frames: Row<Frame>) -> Result<Option<R
     }
     frames.push(Frame::Over(Lead::Ahead(mark), sort))?;
     Ok(Some(Reading {
-        due: Due::Operand,
+        expected: Expected::Operand,
         frames,
     }))
 }
@@ -138,7 +138,7 @@ pub(crate) fn begin(
     shape: Shape,
 ) -> Result<Option<Reading>, NoMemory>
     ensures { IfOk result (λ next.
-        option_map reading_of next ≡ out.begin base (reverse frames) shape) }
+        option_map reading_of next ≡ parts.begin base (reverse frames) shape) }
 {
     match shape {
         Shape::Single(leaf) => {

@@ -2,13 +2,13 @@
 
 ghost use Rattle.std.specs.Prelude.{◌≡◌, ◌∷◌, IfOk, reverse};
 ghost use Rattle.std.specs.Option.{option_map};
-ghost use Rattle.st_parse_automaton.specs.Outline as out;
+ghost use Rattle.st_parse_automaton.specs.PartAutomaton as parts;
 ghost use Rattle.st_parse_automaton.specs.Readings.{reading_of, lowered_of};
 
 use crate::frame::{
     TIGHT, agree, kind_closing, kind_part, kind_style, lead_level, least, reach, reads_type, top,
 };
-use crate::outline::{Due, Filling, Frame, Kind, Lead, Part, Reading};
+use crate::part_automaton::{Expected, Filling, Frame, Kind, Lead, Part, Reading};
 use crate::table::{has_level, is_colon, is_comma, left_of, level_of};
 use st_grammar::{Closing, Sort, Style};
 use st_num::{Mark, NoMemory, Row};
@@ -23,22 +23,22 @@ pub struct Lowered {
 
 /// A part that is read settles: behind `^` it is the count.
 pub(crate) fn settle(part: Part, mut frames: Row<Frame>) -> Result<Reading, NoMemory>
-    ensures { IfOk result (λ reading. reading_of reading ≡ out.settle part (reverse frames)) }
+    ensures { IfOk result (λ reading. reading_of reading ≡ parts.settle part (reverse frames)) }
 {
     match frames.pop() {
         Some(Frame::Timing) => Ok(Reading {
-            due: Due::Next(Part::Whole),
+            expected: Expected::Next(Part::Whole),
             frames,
         }),
         Some(frame) => {
             frames.push(frame)?;
             Ok(Reading {
-                due: Due::Next(part),
+                expected: Expected::Next(part),
                 frames,
             })
         }
         None => Ok(Reading {
-            due: Due::Next(part),
+            expected: Expected::Next(part),
             frames,
         }),
     }
@@ -47,7 +47,7 @@ pub(crate) fn settle(part: Part, mut frames: Row<Frame>) -> Result<Reading, NoMe
 /// Closes what binds tighter than this level.
 pub(crate) fn lower(level: u8, part: Part, mut frames: Row<Frame>) -> Result<Lowered, NoMemory>
     ensures { IfOk result (λ lowered.
-        lowered_of lowered ≡ out.lower level 20 part (reverse frames)) }
+        lowered_of lowered ≡ parts.lower level 20 part (reverse frames)) }
 {
     let mut part = part;
     let mut at = TIGHT;
@@ -72,7 +72,7 @@ pub(crate) fn lower(level: u8, part: Part, mut frames: Row<Frame>) -> Result<Low
 
 /// What such a level closes of a frame.
 pub(crate) fn closes(frame: Frame, level: u8) -> Option<Lead>
-    ensures { result ≡ out.closes frame level }
+    ensures { result ≡ parts.closes frame level }
 {
     match frame {
         Frame::Over(lead, _) => {
@@ -89,7 +89,7 @@ pub(crate) fn closes(frame: Frame, level: u8) -> Option<Lead>
 /// Ends the innermost bracket, if it is closed so.
 pub(crate) fn close(closing: Closing, lowered: Lowered) -> Result<Option<Reading>, NoMemory>
     ensures { IfOk result (λ next.
-        option_map reading_of next ≡ out.close closing (lowered_of lowered)) }
+        option_map reading_of next ≡ parts.close closing (lowered_of lowered)) }
 {
     let Lowered {
         part,
@@ -110,11 +110,11 @@ pub(crate) fn close(closing: Closing, lowered: Lowered) -> Result<Option<Reading
 
 /// A bracket that is closed.
 fn shut(kind: Kind, types: bool, frames: Row<Frame>) -> Result<Reading, NoMemory>
-    ensures { IfOk result (λ reading. reading_of reading ≡ out.shut kind types (reverse frames)) }
+    ensures { IfOk result (λ reading. reading_of reading ≡ parts.shut kind types (reverse frames)) }
 {
     match kind {
         Kind::Segment => Ok(Reading {
-            due: Due::Step(true),
+            expected: Expected::Step(true),
             frames,
         }),
         Kind::Plain(_)
@@ -126,20 +126,20 @@ fn shut(kind: Kind, types: bool, frames: Row<Frame>) -> Result<Reading, NoMemory
     }
 }
 
-/// What is due behind a sign that sets off a next part, the first or a later one.
-fn next_due(style: Style, mark: Mark, first: bool) -> Option<Due>
-    ensures { result ≡ out.next_due style mark first }
+/// What is expected behind a sign that sets off a next part, the first or a later one.
+fn next_expected(style: Style, mark: Mark, first: bool) -> Option<Expected>
+    ensures { result ≡ parts.next_expected style mark first }
 {
     match style {
-        Style::Parts if is_comma(mark) => Some(Due::Operand),
-        Style::Fields if is_comma(mark) => Some(Due::Label),
-        Style::Ends if first && is_colon(mark) => Some(Due::Operand),
+        Style::Parts if is_comma(mark) => Some(Expected::Operand),
+        Style::Fields if is_comma(mark) => Some(Expected::Label),
+        Style::Ends if first && is_colon(mark) => Some(Expected::Operand),
         Style::Parts | Style::Fields | Style::Ends | Style::Lone | Style::Run => None,
     }
 }
 
 fn is_first(filling: Filling) -> bool
-    ensures { result ≡ out.is_first filling }
+    ensures { result ≡ parts.is_first filling }
 {
     match filling {
         Filling::Parts => false,
@@ -150,7 +150,7 @@ fn is_first(filling: Filling) -> bool
 /// A sign that sets off a next part of the innermost bracket.
 fn separate(base: Sort, mark: Mark, lowered: Lowered) -> Result<Option<Reading>, NoMemory>
     ensures { IfOk result (λ next.
-        option_map reading_of next ≡ out.separate base mark (lowered_of lowered)) }
+        option_map reading_of next ≡ parts.separate base mark (lowered_of lowered)) }
 {
     let Lowered {
         part,
@@ -160,12 +160,12 @@ fn separate(base: Sort, mark: Mark, lowered: Lowered) -> Result<Option<Reading>,
     match frames.pop() {
         Some(Frame::Within(kind, filling, types, sort)) => {
             let style = kind_style(top(base, &frames), kind);
-            let Some(due) = next_due(style, mark, is_first(filling)) else {
+            let Some(expected) = next_expected(style, mark, is_first(filling)) else {
                 return Ok(None);
             };
             let types = types && reads_type(part);
             frames.push(Frame::Within(kind, Filling::Parts, types, sort))?;
-            Ok(Some(Reading { due, frames }))
+            Ok(Some(Reading { expected, frames }))
         }
         Some(Frame::Over(_, _)) | Some(Frame::Timing) | None => Ok(None),
     }
@@ -174,7 +174,7 @@ fn separate(base: Sort, mark: Mark, lowered: Lowered) -> Result<Option<Reading>,
 /// A sign between two sides, or before a next part.
 pub(crate) fn join(base: Sort, mark: Mark, lowered: Lowered) -> Result<Option<Reading>, NoMemory>
     ensures { IfOk result (λ next.
-        option_map reading_of next ≡ out.join base mark (lowered_of lowered)) }
+        option_map reading_of next ≡ parts.join base mark (lowered_of lowered)) }
 {
     let sort = top(base, &lowered.frames);
     let level = level_of(mark);
@@ -187,7 +187,7 @@ pub(crate) fn join(base: Sort, mark: Mark, lowered: Lowered) -> Result<Option<Re
     let mut frames = lowered.frames;
     frames.push(Frame::Over(Lead::Left(mark), sort))?;
     Ok(Some(Reading {
-        due: Due::Operand,
+        expected: Expected::Operand,
         frames,
     }))
 }

@@ -1,13 +1,14 @@
-//! What a frame says of the place in it.
+//! What a frame says of the position in it.
 
 ghost use Rattle.std.specs.Prelude.{◌≡◌, reverse};
 ghost use Rattle.st_grammar.specs.Grammar as grammar;
 ghost use Rattle.st_grammar.specs.Trees as tree;
-ghost use Rattle.st_parse_automaton.specs.Outline as out;
+ghost use Rattle.st_parse_automaton.specs.PartAutomaton as parts;
 
-use crate::outline::{Frame, Kind, Lead, Part, Shape};
+use crate::part_automaton::{Frame, Kind, Lead, Part, Shape};
 use crate::table::{
-    ahead_level, ahead_right, inside, is_mark, is_type_mark, juxtaposes, level_of, right_of,
+    ahead_level, ahead_right, inside, is_iteration_sign, is_type_iteration_sign, juxtaposes,
+    level_of, right_of,
 };
 use st_grammar::{Bracket, Closing, Leaf, Sort, Style};
 use st_num::{Mark, Row};
@@ -16,7 +17,7 @@ use st_num::{Mark, Row};
 pub(crate) const TIGHT: u8 = 20;
 
 fn frame_sort(frame: Frame) -> Sort
-    ensures { result ≡ out.frame_sort frame }
+    ensures { result ≡ parts.frame_sort frame }
 {
     match frame {
         Frame::Within(_, _, _, sort) | Frame::Over(_, sort) => sort,
@@ -24,9 +25,9 @@ fn frame_sort(frame: Frame) -> Sort
     }
 }
 
-/// The sort of the innermost place.
+/// The sort of the innermost position.
 pub fn top(base: Sort, frames: &Row<Frame>) -> Sort
-    ensures { result ≡ out.top base (reverse frames.now) }
+    ensures { result ≡ parts.top base (reverse frames.now) }
 {
     match frames.as_slice().last() {
         None => base,
@@ -35,7 +36,7 @@ pub fn top(base: Sort, frames: &Row<Frame>) -> Sort
 }
 
 fn wanted(lead: Lead) -> u8
-    ensures { result ≡ out.wanted lead }
+    ensures { result ≡ parts.wanted lead }
 {
     match lead {
         Lead::Left(mark) => right_of(mark),
@@ -46,7 +47,7 @@ fn wanted(lead: Lead) -> u8
 
 /// How loose a sign must be to close over a part behind this.
 pub(crate) fn reach(lead: Lead) -> u8
-    ensures { result ≡ out.reach lead }
+    ensures { result ≡ parts.reach lead }
 {
     match lead {
         Lead::Left(mark) => right_of(mark),
@@ -56,7 +57,7 @@ pub(crate) fn reach(lead: Lead) -> u8
 }
 
 pub(crate) fn lead_level(lead: Lead) -> u8
-    ensures { result ≡ out.lead_level lead }
+    ensures { result ≡ parts.lead_level lead }
 {
     match lead {
         Lead::Left(mark) => level_of(mark),
@@ -66,7 +67,7 @@ pub(crate) fn lead_level(lead: Lead) -> u8
 }
 
 fn kind_least(kind: Kind) -> u8
-    ensures { result ≡ out.kind_least kind }
+    ensures { result ≡ parts.kind_least kind }
 {
     match kind {
         Kind::Index | Kind::Segment => 13,
@@ -75,7 +76,7 @@ fn kind_least(kind: Kind) -> u8
 }
 
 fn frame_least(frame: Frame) -> u8
-    ensures { result ≡ out.frame_least frame }
+    ensures { result ≡ parts.frame_least frame }
 {
     match frame {
         Frame::Within(kind, _, _, _) => kind_least(kind),
@@ -84,9 +85,9 @@ fn frame_least(frame: Frame) -> u8
     }
 }
 
-/// The least level that is wanted in the innermost place.
+/// The least level that is wanted in the innermost position.
 pub(crate) fn least(frames: &Row<Frame>) -> u8
-    ensures { result ≡ out.least (reverse frames.now) }
+    ensures { result ≡ parts.least (reverse frames.now) }
 {
     match frames.as_slice().last() {
         None => 1,
@@ -106,7 +107,7 @@ pub(crate) fn closed_by(bracket: Bracket) -> Closing
 
 /// What closes such a bracket.
 pub(crate) fn kind_closing(kind: Kind) -> Closing
-    ensures { result ≡ out.kind_closing kind }
+    ensures { result ≡ parts.kind_closing kind }
 {
     match kind {
         Kind::Plain(bracket) => closed_by(bracket),
@@ -149,9 +150,9 @@ fn index_style(sort: Sort) -> Style
     }
 }
 
-/// How the parts of such a bracket are set off, where it stands in a place of this sort.
+/// How the parts of such a bracket are set off, where it stands in a position of this sort.
 pub(crate) fn kind_style(sort: Sort, kind: Kind) -> Style
-    ensures { result ≡ out.kind_style sort kind }
+    ensures { result ≡ parts.kind_style sort kind }
 {
     match kind {
         Kind::Plain(bracket) => bracket_style(bracket, sort),
@@ -164,7 +165,7 @@ pub(crate) fn kind_style(sort: Sort, kind: Kind) -> Style
 
 /// What stands in such a bracket.
 pub(crate) fn kind_sort(sort: Sort, kind: Kind) -> Sort
-    ensures { result ≡ out.kind_sort sort kind }
+    ensures { result ≡ parts.kind_sort sort kind }
 {
     match kind {
         Kind::Plain(bracket) => inside(sort, bracket),
@@ -176,7 +177,7 @@ pub(crate) fn kind_sort(sort: Sort, kind: Kind) -> Sort
 
 /// An operand of one token as a part.
 pub(crate) fn leaf_part(leaf: Leaf) -> Part
-    ensures { result ≡ out.leaf_part leaf }
+    ensures { result ≡ parts.leaf_part leaf }
 {
     match leaf {
         Leaf::Low | Leaf::Basic => Part::Typ(true),
@@ -188,7 +189,7 @@ pub(crate) fn leaf_part(leaf: Leaf) -> Part
 
 /// A bracket as a part, where all in it reads as types or not.
 pub(crate) fn kind_part(kind: Kind, types: bool) -> Part
-    ensures { result ≡ out.kind_part kind types }
+    ensures { result ≡ parts.kind_part kind types }
 {
     match kind {
         Kind::Plain(Bracket::Round) => Part::Typ(types),
@@ -197,26 +198,26 @@ pub(crate) fn kind_part(kind: Kind, types: bool) -> Part
 }
 
 pub(crate) fn is_function(part: Part) -> bool
-    ensures { result ≡ out.is_function part }
+    ensures { result ≡ parts.is_function part }
 {
     matches!(part, Part::Function)
 }
 
 fn is_atom(part: Part) -> bool
-    ensures { result ≡ out.is_atom part }
+    ensures { result ≡ parts.is_atom part }
 {
     matches!(part, Part::Atom)
 }
 
 fn is_type(part: Part) -> bool
-    ensures { result ≡ out.is_type part }
+    ensures { result ≡ parts.is_type part }
 {
     matches!(part, Part::Typ(_))
 }
 
 /// Whether all of the part reads as a type.
 pub(crate) fn reads_type(part: Part) -> bool
-    ensures { result ≡ out.reads_type part }
+    ensures { result ≡ parts.reads_type part }
 {
     match part {
         Part::Typ(types) => types,
@@ -226,7 +227,7 @@ pub(crate) fn reads_type(part: Part) -> bool
 
 /// The part with a dot behind it.
 pub(crate) fn dotted(part: Part) -> Part
-    ensures { result ≡ out.dotted part }
+    ensures { result ≡ parts.dotted part }
 {
     match part {
         Part::Atom => Part::Atom,
@@ -236,17 +237,17 @@ pub(crate) fn dotted(part: Part) -> Part
 
 /// The part with a mark behind it.
 pub(crate) fn marked(mark: Mark, part: Part) -> Part
-    ensures { result ≡ out.marked mark part }
+    ensures { result ≡ parts.marked mark part }
 {
     match part {
-        Part::Typ(types) => Part::Typ(is_type_mark(mark) && types),
+        Part::Typ(types) => Part::Typ(is_type_iteration_sign(mark) && types),
         Part::Function | Part::Atom | Part::Whole => Part::Whole,
     }
 }
 
 /// Whether a dot goes on with the part.
 pub(crate) fn may_dot(sort: Sort, part: Part, touching: bool) -> bool
-    ensures { result ≡ out.may_dot sort part touching }
+    ensures { result ≡ parts.may_dot sort part touching }
 {
     match sort {
         Sort::Expression(_) | Sort::Arithmetic => true,
@@ -256,13 +257,13 @@ pub(crate) fn may_dot(sort: Sort, part: Part, touching: bool) -> bool
 }
 
 /// Whether the sign is a mark behind the part.
-pub(crate) fn may_mark(sort: Sort, part: Part, mark: Mark) -> bool
-    ensures { result ≡ out.may_mark sort part mark }
+pub(crate) fn may_iterate(sort: Sort, part: Part, mark: Mark) -> bool
+    ensures { result ≡ parts.may_iterate sort part mark }
 {
     match sort {
-        Sort::Expression(_) => is_mark(mark),
-        Sort::Notation => is_type_mark(mark) && is_type(part),
-        Sort::Typ => is_type_mark(mark),
+        Sort::Expression(_) => is_iteration_sign(mark),
+        Sort::Notation => is_type_iteration_sign(mark) && is_type(part),
+        Sort::Typ => is_type_iteration_sign(mark),
         Sort::Arithmetic | Sort::Count | Sort::Bound => false,
     }
 }
@@ -278,7 +279,7 @@ fn opens_length(closing: Closing, sort: Sort) -> bool
 
 /// Whether the token begins a next element of a sequence behind the part.
 pub fn follows(sort: Sort, part: Part, shape: Shape) -> bool
-    ensures { result ≡ out.follows sort part shape }
+    ensures { result ≡ parts.follows sort part shape }
 {
     match shape {
         Shape::Single(_) => juxtaposes(sort),

@@ -1,19 +1,19 @@
 //! The reading of definitions, one token after another, and the first token that they refuse.
 //!
 //! The one idea: the reader keeps what is open, and of what it has read only what later tokens
-//! ask. That is an outline of the reading of `st_grammar`, so it stops at the same token.
+//! ask. That abbreviates the reading of `st_grammar`, so it stops at the same token.
 //!
-//! Read `reader` first, with `specs/Outline.antt`. The rules are in `docs/language.md`, "Grammar".
+//! Read `reader` first, with `specs/PartAutomaton.antt`. The rules are in `docs/language.md`, "Grammar".
 #![tactic(auto)]
 
 mod begin;
+mod class;
 mod close;
-mod course;
+mod definition_automaton;
 mod frame;
 mod laws;
-mod lexeme;
-mod outline;
-mod place;
+mod part_automaton;
+mod position;
 mod premise;
 mod progress;
 mod reader;
@@ -23,12 +23,12 @@ mod table;
 mod tests;
 mod token;
 
-pub use course::{advance, may_end, place_step};
+pub use class::{declared_names, token_class};
+pub use definition_automaton::{advance, may_end, position_step};
 pub use frame::{follows, top};
 pub use laws::refused_once;
-pub use lexeme::{declared_names, token_lexeme};
-pub use outline::{Due, Filling, Frame, Kind, Lead, Part, Reading, Shape};
-pub use place::{At, CaseAt, Host, Lexeme, Marks, Place, Progress, Slot};
+pub use part_automaton::{Expected, Filling, Frame, Kind, Lead, Part, Reading, Shape};
+pub use position::{At, CaseAt, Host, IterationState, Position, Progress, Slot, TokenClass};
 pub use progress::{filled, slot_sort};
 pub use reader::first_refused;
 pub use step::{finish as part_end, step as part_step};

@@ -3,38 +3,38 @@
 ghost use Rattle.std.specs.Prelude.{◌≡◌, IfOk, reverse};
 ghost use Rattle.std.specs.Option.{option_map};
 ghost use Rattle.st_grammar.specs.declared.keyword.Keyword.TheVariants as key;
-ghost use Rattle.st_parse_automaton.specs.Course as course;
+ghost use Rattle.st_parse_automaton.specs.DefinitionAutomaton as definitions;
 ghost use Rattle.st_parse_automaton.specs.Readings.{progress_of};
 
-use crate::place::{Lexeme, Marks, Place, Progress, Slot};
-use crate::progress::{at, has_closed, none_open, start_of, wants_mark, when};
-use crate::token::{at_caret, at_mark, closes_round, names_relation, opens_round};
+use crate::position::{IterationState, Position, Progress, Slot, TokenClass};
+use crate::progress::{at, has_closed, none_open, start_of, wants_iteration, when};
+use crate::token::{at_caret, at_iteration_sign, closes_round, names_relation, opens_round};
 use st_grammar::{Bracket, Keyword};
 use st_num::{NoMemory, Row};
 use std::alloc::Global;
 
-fn premise_step(lexeme: Lexeme, mut brackets: Row<Bracket>) -> Result<Option<Progress>, NoMemory>
+fn premise_step(class: TokenClass, mut brackets: Row<Bracket>) -> Result<Option<Progress>, NoMemory>
     ensures { IfOk result (λ next.
-        option_map progress_of next ≡ course.premise_step lexeme (reverse brackets)) }
+        option_map progress_of next ≡ definitions.premise_step class (reverse brackets)) }
 {
-    if opens_round(lexeme) {
+    if opens_round(class) {
         brackets.push(Bracket::Round)?;
-        return Ok(Some(at(Place::PremiseOpen, brackets)));
+        return Ok(Some(at(Position::PremiseOpen, brackets)));
     }
-    Ok(when(names_relation(lexeme), Place::GoalColon, brackets))
+    Ok(when(names_relation(class), Position::GoalColon, brackets))
 }
 
 /// The word `otherwise`, which stands in no parentheses.
-fn otherwise(lexeme: Lexeme, mut brackets: Row<Bracket>) -> Result<Option<Progress>, NoMemory>
+fn otherwise(class: TokenClass, mut brackets: Row<Bracket>) -> Result<Option<Progress>, NoMemory>
     ensures { IfOk result (λ next.
         option_map progress_of next
-        ≡ course.premise_word key.OtherwiseWord lexeme (reverse brackets)) }
+        ≡ definitions.premise_word key.OtherwiseWord class (reverse brackets)) }
 {
     match brackets.pop() {
-        None => Ok(Some(at(Place::Premised, brackets))),
+        None => Ok(Some(at(Position::Premised, brackets))),
         Some(bracket) => {
             brackets.push(bracket)?;
-            premise_step(lexeme, brackets)
+            premise_step(class, brackets)
         }
     }
 }
@@ -42,16 +42,16 @@ fn otherwise(lexeme: Lexeme, mut brackets: Row<Bracket>) -> Result<Option<Progre
 /// What stands behind `--` and each `(`.
 pub(crate) fn premise_word(
     alloc: Global,
-    lexeme: Lexeme,
+    class: TokenClass,
     brackets: Row<Bracket>,
 ) -> Result<Option<Progress>, NoMemory>
     ensures { IfOk result (λ next.
         option_map progress_of next
-        ≡ course.premise_word (lexeme.keyword) lexeme (reverse brackets)) }
+        ≡ definitions.premise_word (class.keyword) class (reverse brackets)) }
 {
-    match lexeme.keyword {
+    match class.keyword {
         Keyword::IfWord => Ok(Some(start_of(alloc, Slot::Condition, brackets))),
-        Keyword::OtherwiseWord => otherwise(lexeme, brackets),
+        Keyword::OtherwiseWord => otherwise(class, brackets),
         Keyword::SyntaxWord
         | Keyword::RelationWord
         | Keyword::RuleWord
@@ -59,15 +59,15 @@ pub(crate) fn premise_word(
         | Keyword::DefWord
         | Keyword::HintWord
         | Keyword::Dashes
-        | Keyword::NoWord => premise_step(lexeme, brackets),
+        | Keyword::NoWord => premise_step(class, brackets),
     }
 }
 
 pub(crate) fn next_premise(keyword: Keyword, brackets: Row<Bracket>) -> Option<Progress>
-    ensures { option_map progress_of result ≡ course.next_premise keyword (reverse brackets) }
+    ensures { option_map progress_of result ≡ definitions.next_premise keyword (reverse brackets) }
 {
     match keyword {
-        Keyword::Dashes => Some(at(Place::PremiseOpen, brackets)),
+        Keyword::Dashes => Some(at(Position::PremiseOpen, brackets)),
         Keyword::SyntaxWord
         | Keyword::RelationWord
         | Keyword::RuleWord
@@ -82,7 +82,7 @@ pub(crate) fn next_premise(keyword: Keyword, brackets: Row<Bracket>) -> Option<P
 
 /// The brackets without the innermost.
 fn tail(mut brackets: Row<Bracket>) -> Row<Bracket>
-    ensures { reverse result ≡ course.tail (reverse brackets) }
+    ensures { reverse result ≡ definitions.tail (reverse brackets) }
 {
     match brackets.pop() {
         Some(_) => brackets,
@@ -93,25 +93,25 @@ fn tail(mut brackets: Row<Bracket>) -> Row<Bracket>
 /// What stands behind a condition and its iterations so far.
 pub(crate) fn iterate(
     alloc: Global,
-    marks: Marks,
-    lexeme: Lexeme,
+    iterations: IterationState,
+    class: TokenClass,
     brackets: Row<Bracket>,
 ) -> Option<Progress>
-    ensures { option_map progress_of result ≡ course.iterate marks lexeme (reverse brackets) }
+    ensures { option_map progress_of result ≡ definitions.iterate iterations class (reverse brackets) }
 {
     let empty = none_open(&brackets);
-    let wanting = wants_mark(marks);
-    if closes_round(lexeme) && (!empty && !wanting) {
-        return Some(at(Place::Iterated(Marks::Wanted), tail(brackets)));
+    let wanting = wants_iteration(iterations);
+    if closes_round(class) && (!empty && !wanting) {
+        return Some(at(Position::Iterated(IterationState::Wanted), tail(brackets)));
     }
-    if at_mark(lexeme) && has_closed(marks) {
-        return Some(at(Place::Iterated(Marks::Marked), brackets));
+    if at_iteration_sign(class) && has_closed(iterations) {
+        return Some(at(Position::Iterated(IterationState::Complete), brackets));
     }
-    if at_caret(lexeme) && has_closed(marks) {
+    if at_caret(class) && has_closed(iterations) {
         return Some(start_of(alloc, Slot::Count, brackets));
     }
     if empty && !wanting {
-        return next_premise(lexeme.keyword, brackets);
+        return next_premise(class.keyword, brackets);
     }
     None
 }

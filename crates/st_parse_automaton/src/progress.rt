@@ -2,19 +2,19 @@
 
 ghost use Rattle.std.specs.Prelude.{◌≡◌, reverse};
 ghost use Rattle.std.specs.Option.{option_map};
-ghost use Rattle.st_parse_automaton.specs.Course as course;
+ghost use Rattle.st_parse_automaton.specs.DefinitionAutomaton as definitions;
 ghost use Rattle.st_parse_automaton.specs.Readings.{progress_of};
 
 use crate::frame::reads_type;
-use crate::outline::{Due, Part, Reading};
-use crate::place::{At, Host, Marks, Place, Progress, Slot};
+use crate::part_automaton::{Expected, Part, Reading};
+use crate::position::{At, Host, IterationState, Position, Progress, Slot};
 use st_grammar::{Bracket, Sort};
 use st_num::Row;
 use std::alloc::Global;
 
 /// The sort of the part that is read there.
 pub fn slot_sort(slot: Slot) -> Sort
-    ensures { result ≡ course.slot_sort slot }
+    ensures { result ≡ definitions.slot_sort slot }
 {
     match slot {
         Slot::Field | Slot::Var | Slot::Fun => Sort::Typ,
@@ -24,23 +24,23 @@ pub fn slot_sort(slot: Slot) -> Sort
     }
 }
 
-pub(crate) fn wants_mark(marks: Marks) -> bool
-    ensures { result ≡ course.wants_mark marks }
+pub(crate) fn wants_iteration(iterations: IterationState) -> bool
+    ensures { result ≡ definitions.wants_iteration iterations }
 {
-    matches!(marks, Marks::Wanted)
+    matches!(iterations, IterationState::Wanted)
 }
 
-pub(crate) fn has_closed(marks: Marks) -> bool
-    ensures { result ≡ course.has_closed marks }
+pub(crate) fn has_closed(iterations: IterationState) -> bool
+    ensures { result ≡ definitions.has_closed iterations }
 {
-    match marks {
-        Marks::None => false,
-        Marks::Wanted | Marks::Marked => true,
+    match iterations {
+        IterationState::None => false,
+        IterationState::Wanted | IterationState::Complete => true,
     }
 }
 
 fn host_whole(host: Host) -> bool
-    ensures { result ≡ course.host_whole host }
+    ensures { result ≡ definitions.host_whole host }
 {
     match host {
         Host::Case | Host::Var | Host::Notation | Host::Fun => true,
@@ -49,7 +49,7 @@ fn host_whole(host: Host) -> bool
 }
 
 pub(crate) fn none_open(brackets: &Row<Bracket>) -> bool
-    ensures { result ≡ course.is_empty (reverse brackets.now) }
+    ensures { result ≡ definitions.is_empty (reverse brackets.now) }
 {
     match brackets.as_slice().last() {
         None => true,
@@ -57,60 +57,60 @@ pub(crate) fn none_open(brackets: &Row<Bracket>) -> bool
     }
 }
 
-/// Whether definitions may end at the place.
-pub(crate) fn whole(place: Place, brackets: &Row<Bracket>) -> bool
-    ensures { result ≡ course.whole place (reverse brackets.now) }
+/// Whether definitions may end at the position.
+pub(crate) fn whole(position: Position, brackets: &Row<Bracket>) -> bool
+    ensures { result ≡ definitions.whole position (reverse brackets.now) }
 {
-    match place {
-        Place::Between | Place::Premised => true,
-        Place::Hinted(host, _) => host_whole(host),
-        Place::Iterated(marks) => none_open(brackets) && !wants_mark(marks),
+    match position {
+        Position::Between | Position::Premised => true,
+        Position::Hinted(host, _) => host_whole(host),
+        Position::Iterated(iterations) => none_open(brackets) && !wants_iteration(iterations),
         _ => false,
     }
 }
 
-/// A place with what is open there.
-pub(crate) fn at(place: Place, brackets: Row<Bracket>) -> Progress
-    ensures { progress_of result ≡ course.at place (reverse brackets) }
+/// A position with what is open there.
+pub(crate) fn at(position: Position, brackets: Row<Bracket>) -> Progress
+    ensures { progress_of result ≡ definitions.at position (reverse brackets) }
 {
-    Progress::At(At { place, brackets })
+    Progress::At(At { position, brackets })
 }
 
 /// A part begins.
 pub(crate) fn start_of(alloc: Global, slot: Slot, brackets: Row<Bracket>) -> Progress
-    ensures { progress_of result ≡ course.start_of slot (reverse brackets) }
+    ensures { progress_of result ≡ definitions.start_of slot (reverse brackets) }
 {
     let reading = Reading {
-        due: Due::Operand,
+        expected: Expected::Operand,
         frames: Row::new(alloc),
     };
     Progress::Inside(slot, reading, brackets)
 }
 
 /// Where a part that is read leads to.
-pub fn filled(slot: Slot, part: Part) -> Place
-    ensures { result ≡ course.filled slot part }
+pub fn filled(slot: Slot, part: Part) -> Position
+    ensures { result ≡ definitions.filled slot part }
 {
     match slot {
-        Slot::Field => Place::Hinted(Host::Field, false),
-        Slot::Case(_) => Place::Hinted(Host::Case, false),
-        Slot::Var => Place::Hinted(Host::Var, false),
-        Slot::Notation => Place::Hinted(Host::Notation, false),
-        Slot::Fun => Place::Hinted(Host::Fun, false),
-        Slot::Argument(_, types) => Place::Argued(types && reads_type(part)),
-        Slot::Rule => Place::Premised,
-        Slot::Condition => Place::Iterated(Marks::None),
-        Slot::Count => Place::Iterated(Marks::Marked),
+        Slot::Field => Position::Hinted(Host::Field, false),
+        Slot::Case(_) => Position::Hinted(Host::Case, false),
+        Slot::Var => Position::Hinted(Host::Var, false),
+        Slot::Notation => Position::Hinted(Host::Notation, false),
+        Slot::Fun => Position::Hinted(Host::Fun, false),
+        Slot::Argument(_, types) => Position::Argued(types && reads_type(part)),
+        Slot::Rule => Position::Premised,
+        Slot::Condition => Position::Iterated(IterationState::None),
+        Slot::Count => Position::Iterated(IterationState::Complete),
     }
 }
 
-/// The place, where a test is passed.
-pub(crate) fn when(passed: bool, place: Place, brackets: Row<Bracket>) -> Option<Progress>
+/// The position, where a test is passed.
+pub(crate) fn when(passed: bool, position: Position, brackets: Row<Bracket>) -> Option<Progress>
     ensures { option_map progress_of result
-        ≡ course.when passed (course.at place (reverse brackets)) }
+        ≡ definitions.when passed (definitions.at position (reverse brackets)) }
 {
     if passed {
-        Some(at(place, brackets))
+        Some(at(position, brackets))
     } else {
         None
     }
@@ -124,7 +124,7 @@ pub(crate) fn begins(
     brackets: Row<Bracket>,
 ) -> Option<Progress>
     ensures { option_map progress_of result
-        ≡ course.when passed (course.start_of slot (reverse brackets)) }
+        ≡ definitions.when passed (definitions.start_of slot (reverse brackets)) }
 {
     if passed {
         Some(start_of(alloc, slot, brackets))

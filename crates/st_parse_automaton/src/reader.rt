@@ -1,20 +1,20 @@
 //! The tokens of definitions, one after another.
 
 ghost use Rattle.std.specs.Prelude.{◌≡◌, IfOk, IfSome, IfNone};
-ghost use Rattle.st_grammar.specs.Lexemes as lexemes;
-ghost use Rattle.st_parse_automaton.specs.Refusal.{IsSource, RefusedAt};
+ghost use Rattle.st_grammar.specs.Terminals as terminals;
+ghost use Rattle.st_parse_automaton.specs.Refusal.{AreDefinitions, RefusedAt};
 
-use crate::course::{advance, may_end};
-use crate::lexeme::{declared_names, token_lexeme};
-use crate::place::{At, Place, Progress};
+use crate::class::{declared_names, token_class};
+use crate::definition_automaton::{advance, may_end};
+use crate::position::{At, Position, Progress};
 use st_num::{Name, NoMemory, Row};
 use st_scan::Token;
 use std::alloc::Global;
 
-/// The place of the first token that no definitions have behind those before it, or the number of
+/// The position of the first token that no definitions have behind those before it, or the number of
 /// the tokens where they end too early; none where the tokens are those of definitions.
 pub fn first_refused(alloc: Global, tokens: &[Token]) -> Result<Option<usize>, NoMemory>
-    ensures none { IfOk result (λ found. IfNone found (IsSource tokens.now)) }
+    ensures none { IfOk result (λ found. IfNone found (AreDefinitions tokens.now)) }
     ensures some { IfOk result (λ found. IfSome found (λ k. RefusedAt tokens.now k)) }
 {
     let names = declared_names(alloc, tokens)?;
@@ -24,16 +24,16 @@ pub fn first_refused(alloc: Global, tokens: &[Token]) -> Result<Option<usize>, N
 
 /// The same, where these are the names that directly follow the word `var`.
 fn read_tokens(alloc: Global, names: &[Name], tokens: &[Token]) -> Result<Option<usize>, NoMemory>
-    requires { names.now ≡ lexemes.declared_names tokens.now }
-    ensures none { IfOk result (λ found. IfNone found (IsSource tokens.now)) }
+    requires { names.now ≡ terminals.declared_names tokens.now }
+    ensures none { IfOk result (λ found. IfNone found (AreDefinitions tokens.now)) }
     ensures some { IfOk result (λ found. IfSome found (λ k. RefusedAt tokens.now k)) }
 {
     let mut progress = Progress::At(At {
-        place: Place::Between,
+        position: Position::Between,
         brackets: Row::new(alloc),
     });
     'tokens: for (at, token) in tokens.iter().enumerate() {
-        let Some(next) = advance(alloc, progress, token_lexeme(names, token))? else {
+        let Some(next) = advance(alloc, progress, token_class(names, token))? else {
             return Ok(Some(at));
         };
         progress = next;

@@ -2,22 +2,22 @@
 
 ghost use Rattle.std.specs.Prelude.{◌≡◌, ◌∷◌, IfOk, reverse};
 ghost use Rattle.std.specs.Option.{option_map};
-ghost use Rattle.st_parse_automaton.specs.Outline as out;
+ghost use Rattle.st_parse_automaton.specs.PartAutomaton as parts;
 ghost use Rattle.st_parse_automaton.specs.Readings.{reading_of};
 
 use crate::begin::{begin, opened};
 use crate::close::{close, closes, join, lower};
 use crate::frame::{
-    TIGHT, dotted, follows, is_function, lead_level, marked, may_dot, may_mark, top,
+    TIGHT, dotted, follows, is_function, lead_level, marked, may_dot, may_iterate, top,
 };
-use crate::outline::{Due, Filling, Frame, Kind, Lead, Part, Reading, Shape};
+use crate::part_automaton::{Expected, Filling, Frame, Kind, Lead, Part, Reading, Shape};
 use crate::table::{computes, has_level, is_caret, is_change, is_expression, is_less, level_of};
 use st_grammar::{Bracket, Leaf, Sort};
 use st_num::{Mark, NoMemory, Row};
 
 /// The frames with one more element of a sequence.
 fn extend(base: Sort, mut frames: Row<Frame>) -> Result<Row<Frame>, NoMemory>
-    ensures { IfOk result (λ extended. reverse extended ≡ out.extend base (reverse frames)) }
+    ensures { IfOk result (λ extended. reverse extended ≡ parts.extend base (reverse frames)) }
 {
     let sort = top(base, &frames);
     match frames.pop() {
@@ -39,7 +39,7 @@ fn extend(base: Sort, mut frames: Row<Frame>) -> Result<Row<Frame>, NoMemory>
 
 /// The level of the sign between two sides there, or 0.
 fn pull(sort: Sort, mark: Mark) -> u8
-    ensures { result ≡ out.pull sort mark }
+    ensures { result ≡ parts.pull sort mark }
 {
     let level = level_of(mark);
     if has_level(sort, level) { level } else { 0 }
@@ -52,19 +52,19 @@ fn behind_sign(
     mut frames: Row<Frame>,
 ) -> Result<Option<Reading>, NoMemory>
     ensures { IfOk result (λ next.
-        option_map reading_of next ≡ out.behind_sign base mark part (reverse frames)) }
+        option_map reading_of next ≡ parts.behind_sign base mark part (reverse frames)) }
 {
     let sort = top(base, &frames);
-    if may_mark(sort, part, mark) {
+    if may_iterate(sort, part, mark) {
         return Ok(Some(Reading {
-            due: Due::Next(marked(mark, part)),
+            expected: Expected::Next(marked(mark, part)),
             frames,
         }));
     }
     if is_expression(sort) && is_caret(mark) {
         frames.push(Frame::Timing)?;
         return Ok(Some(Reading {
-            due: Due::Operand,
+            expected: Expected::Operand,
             frames,
         }));
     }
@@ -76,19 +76,19 @@ fn behind_sign(
 /// `[` behind a part; no path stands in arithmetic.
 fn behind_square(base: Sort, frames: Row<Frame>) -> Result<Option<Reading>, NoMemory>
     ensures { IfOk result (λ next.
-        option_map reading_of next ≡ out.behind_square base (reverse frames)) }
+        option_map reading_of next ≡ parts.behind_square base (reverse frames)) }
 {
     let sort = top(base, &frames);
     if is_expression(sort) {
         return Ok(Some(Reading {
-            due: Due::Step(false),
+            expected: Expected::Step(false),
             frames,
         }));
     }
     if !computes(sort) {
         return Ok(None);
     }
-    let next = opened(Due::Operand, Kind::Index, sort, frames)?;
+    let next = opened(Expected::Operand, Kind::Index, sort, frames)?;
     Ok(next)
 }
 
@@ -100,13 +100,13 @@ fn behind_round(
     frames: Row<Frame>,
 ) -> Result<Option<Reading>, NoMemory>
     ensures { IfOk result (λ next.
-        option_map reading_of next ≡ out.behind_round base touching part (reverse frames)) }
+        option_map reading_of next ≡ parts.behind_round base touching part (reverse frames)) }
 {
     let sort = top(base, &frames);
     if !(is_function(part) && (computes(sort) && touching)) {
         return Ok(None);
     }
-    let next = opened(Due::Operand, Kind::Arguments, sort, frames)?;
+    let next = opened(Expected::Operand, Kind::Arguments, sort, frames)?;
     Ok(next)
 }
 
@@ -117,7 +117,7 @@ fn behind(
     shape: Shape,
 ) -> Result<Option<Reading>, NoMemory>
     ensures { IfOk result (λ next.
-        option_map reading_of next ≡ out.behind base part (reverse frames) shape) }
+        option_map reading_of next ≡ parts.behind base part (reverse frames) shape) }
 {
     match shape {
         Shape::Dot(touching) => {
@@ -125,7 +125,7 @@ fn behind(
                 return Ok(None);
             }
             Ok(Some(Reading {
-                due: Due::Next(dotted(part)),
+                expected: Expected::Next(dotted(part)),
                 frames,
             }))
         }
@@ -148,7 +148,7 @@ fn after(
     shape: Shape,
 ) -> Result<Option<Reading>, NoMemory>
     ensures { IfOk result (λ next.
-        option_map reading_of next ≡ out.after base part (reverse frames) shape) }
+        option_map reading_of next ≡ parts.after base part (reverse frames) shape) }
 {
     if !follows(top(base, &frames), part, shape) {
         return behind(base, part, frames, shape);
@@ -166,7 +166,7 @@ fn in_index(
     shape: Shape,
 ) -> Result<Option<Reading>, NoMemory>
     ensures { IfOk result (λ next.
-        option_map reading_of next ≡ out.in_index base stepped (reverse frames) shape) }
+        option_map reading_of next ≡ parts.in_index base stepped (reverse frames) shape) }
 {
     if stepped {
         return Ok(None);
@@ -183,21 +183,21 @@ fn in_path(
     shape: Shape,
 ) -> Result<Option<Reading>, NoMemory>
     ensures { IfOk result (λ next.
-        option_map reading_of next ≡ out.in_path base stepped (reverse frames) shape) }
+        option_map reading_of next ≡ parts.in_path base stepped (reverse frames) shape) }
 {
     match shape {
         Shape::Dot(_) => Ok(Some(Reading {
-            due: Due::Step(true),
+            expected: Expected::Step(true),
             frames,
         })),
         Shape::Open(Bracket::Square, _) => {
             let sort = top(base, &frames);
-            let next = opened(Due::Operand, Kind::Segment, sort, frames)?;
+            let next = opened(Expected::Operand, Kind::Segment, sort, frames)?;
             Ok(next)
         }
         Shape::Sign(mark) if stepped && is_change(mark) => {
             let sort = top(base, &frames);
-            let next = opened(Due::Operand, Kind::Update, sort, frames)?;
+            let next = opened(Expected::Operand, Kind::Update, sort, frames)?;
             Ok(next)
         }
         Shape::Sign(_) | Shape::Open(_, _) | Shape::Single(_) | Shape::Close(_) | Shape::Other =>
@@ -206,13 +206,13 @@ fn in_path(
 }
 
 pub(crate) fn is_label(shape: Shape) -> bool
-    ensures { result ≡ out.is_label shape }
+    ensures { result ≡ parts.is_label shape }
 {
     matches!(shape, Shape::Single(Leaf::Atom | Leaf::Variable))
 }
 
 fn named(filling: Filling) -> Filling
-    ensures { result ≡ out.named filling }
+    ensures { result ≡ parts.named filling }
 {
     match filling {
         Filling::Parts => Filling::Parts,
@@ -223,7 +223,7 @@ fn named(filling: Filling) -> Filling
 /// The name of a field, in the innermost bracket.
 fn name_field(mut frames: Row<Frame>, shape: Shape) -> Result<Option<Reading>, NoMemory>
     ensures { IfOk result (λ next.
-        option_map reading_of next ≡ out.name_field (reverse frames) shape) }
+        option_map reading_of next ≡ parts.name_field (reverse frames) shape) }
 {
     match frames.pop() {
         Some(Frame::Within(kind, filling, types, sort)) => {
@@ -232,7 +232,7 @@ fn name_field(mut frames: Row<Frame>, shape: Shape) -> Result<Option<Reading>, N
             }
             frames.push(Frame::Within(kind, named(filling), types, sort))?;
             Ok(Some(Reading {
-                due: Due::Operand,
+                expected: Expected::Operand,
                 frames,
             }))
         }
@@ -242,11 +242,11 @@ fn name_field(mut frames: Row<Frame>, shape: Shape) -> Result<Option<Reading>, N
 
 /// The name behind `^ (`.
 fn name_index(frames: Row<Frame>, shape: Shape) -> Option<Reading>
-    ensures { option_map reading_of result ≡ out.name_index (reverse frames) shape }
+    ensures { option_map reading_of result ≡ parts.name_index (reverse frames) shape }
 {
     match shape {
         Shape::Single(Leaf::Low) => Some(Reading {
-            due: Due::Less,
+            expected: Expected::Less,
             frames,
         }),
         _ => None,
@@ -256,12 +256,12 @@ fn name_index(frames: Row<Frame>, shape: Shape) -> Option<Reading>
 /// The `<` behind that name.
 fn bound_index(base: Sort, frames: Row<Frame>, shape: Shape) -> Result<Option<Reading>, NoMemory>
     ensures { IfOk result (λ next.
-        option_map reading_of next ≡ out.bound_index base (reverse frames) shape) }
+        option_map reading_of next ≡ parts.bound_index base (reverse frames) shape) }
 {
     match shape {
         Shape::Sign(mark) if is_less(mark) => {
             let sort = top(base, &frames);
-            let next = opened(Due::Operand, Kind::Below, sort, frames)?;
+            let next = opened(Expected::Operand, Kind::Below, sort, frames)?;
             Ok(next)
         }
         _ => Ok(None),
@@ -271,32 +271,36 @@ fn bound_index(base: Sort, frames: Row<Frame>, shape: Shape) -> Result<Option<Re
 /// Takes one more token of a part, if it may stand there.
 pub fn step(base: Sort, reading: Reading, shape: Shape) -> Result<Option<Reading>, NoMemory>
     ensures { IfOk result (λ next.
-        option_map reading_of next ≡ out.step base (reading_of reading) shape) }
+        option_map reading_of next ≡ parts.step base (reading_of reading) shape) }
 {
-    let Reading { due, frames } = reading;
-    match due {
-        Due::Operand => begin(base, frames, shape),
-        Due::Next(part) => after(base, part, frames, shape),
-        Due::Label => name_field(frames, shape),
-        Due::Step(stepped) => in_path(base, stepped, frames, shape),
-        Due::Index => Ok(name_index(frames, shape)),
-        Due::Less => bound_index(base, frames, shape),
+    let Reading { expected, frames } = reading;
+    match expected {
+        Expected::Operand => begin(base, frames, shape),
+        Expected::Next(part) => after(base, part, frames, shape),
+        Expected::Label => name_field(frames, shape),
+        Expected::Step(stepped) => in_path(base, stepped, frames, shape),
+        Expected::Index => Ok(name_index(frames, shape)),
+        Expected::Less => bound_index(base, frames, shape),
     }
 }
 
 /// The part, where it may end here.
 pub fn finish(reading: &Reading) -> Option<Part>
-    ensures { result ≡ out.finish (reading_of reading.now) }
+    ensures { result ≡ parts.finish (reading_of reading.now) }
 {
-    match reading.due {
-        Due::Next(part) => ended(part, reading.frames.as_slice()),
-        Due::Operand | Due::Label | Due::Step(_) | Due::Index | Due::Less => None,
+    match reading.expected {
+        Expected::Next(part) => ended(part, reading.frames.as_slice()),
+        Expected::Operand
+        | Expected::Label
+        | Expected::Step(_)
+        | Expected::Index
+        | Expected::Less => None,
     }
 }
 
 /// The part with all that leads to it, where no bracket is open.
 fn ended(part: Part, frames: &[Frame]) -> Option<Part>
-    ensures { result ≡ out.ended (out.lower 0 20 part (reverse frames.now)) }
+    ensures { result ≡ parts.ended (parts.lower 0 20 part (reverse frames.now)) }
 {
     let mut whole = part;
     let mut level = TIGHT;

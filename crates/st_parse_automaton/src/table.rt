@@ -1,4 +1,4 @@
-//! The levels of signs, and what may stand in each sort of place.
+//! The levels of signs, and what may stand in each sort of position.
 
 ghost use Rattle.std.specs.Prelude.{◌≡◌};
 ghost use Rattle.st_grammar.specs.Levels as levels;
@@ -6,7 +6,7 @@ ghost use Rattle.st_grammar.specs.Levels as levels;
 use st_grammar::{Bracket, Leaf, Sort};
 use st_num::Mark;
 
-/// Whether the operand of one token stands in such a place.
+/// Whether the operand of one token stands in such a position.
 pub(crate) fn takes(sort: Sort, leaf: Leaf) -> bool
     ensures { result ≡ levels.takes sort leaf }
 {
@@ -48,7 +48,7 @@ pub(crate) fn inside(sort: Sort, bracket: Bracket) -> Sort
     }
 }
 
-/// Whether lengths, calls and elements at a place stand there.
+/// Whether lengths, calls and elements at a position stand there.
 pub(crate) fn computes(sort: Sort) -> bool
     ensures { result ≡ levels.computes sort }
 {
@@ -166,15 +166,15 @@ pub(crate) fn right_of(mark: Mark) -> u8
 }
 
 /// Whether it is a mark behind an expression.
-pub(crate) fn is_mark(mark: Mark) -> bool
-    ensures { result ≡ levels.is_mark mark }
+pub(crate) fn is_iteration_sign(mark: Mark) -> bool
+    ensures { result ≡ levels.is_iteration_sign mark }
 {
     matches!(mark, Mark::Star | Mark::Plus | Mark::Question)
 }
 
 /// Whether it is a mark behind a type.
-pub(crate) fn is_type_mark(mark: Mark) -> bool
-    ensures { result ≡ levels.is_type_mark mark }
+pub(crate) fn is_type_iteration_sign(mark: Mark) -> bool
+    ensures { result ≡ levels.is_type_iteration_sign mark }
 {
     matches!(mark, Mark::Star | Mark::Question)
 }

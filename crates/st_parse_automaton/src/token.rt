@@ -1,140 +1,140 @@
 //! What a token is between parts.
 
 ghost use Rattle.std.specs.Prelude.{◌≡◌};
-ghost use Rattle.st_grammar.specs.Definitions as definitions;
+ghost use Rattle.st_grammar.specs.Definitions as grammar;
 ghost use Rattle.st_grammar.specs.Levels as levels;
-ghost use Rattle.st_parse_automaton.specs.Course as course;
+ghost use Rattle.st_parse_automaton.specs.DefinitionAutomaton as definitions;
 
 use crate::frame::agree;
-use crate::outline::Shape;
-use crate::place::Lexeme;
+use crate::part_automaton::Shape;
+use crate::position::TokenClass;
 use crate::step::is_label;
-use crate::table::{is_caret, is_colon, is_comma, is_mark};
+use crate::table::{is_caret, is_colon, is_comma, is_iteration_sign};
 use st_grammar::{Bracket, Closing, Leaf};
 use st_num::Mark;
 
 fn is_slash(mark: Mark) -> bool
-    ensures { result ≡ definitions.is_slash mark }
+    ensures { result ≡ grammar.is_slash mark }
 {
     matches!(mark, Mark::Slash)
 }
 
 fn is_minus(mark: Mark) -> bool
-    ensures { result ≡ definitions.is_minus mark }
+    ensures { result ≡ grammar.is_minus mark }
 {
     matches!(mark, Mark::Minus)
 }
 
 fn is_equal(mark: Mark) -> bool
-    ensures { result ≡ definitions.is_equal mark }
+    ensures { result ≡ grammar.is_equal mark }
 {
     matches!(mark, Mark::Equal)
 }
 
 fn is_dots(mark: Mark) -> bool
-    ensures { result ≡ definitions.is_dots mark }
+    ensures { result ≡ grammar.is_dots mark }
 {
     matches!(mark, Mark::Ellipsis)
 }
 
-pub(crate) fn at_slash(lexeme: Lexeme) -> bool
-    ensures { result ≡ course.signed definitions.is_slash lexeme }
+pub(crate) fn at_slash(class: TokenClass) -> bool
+    ensures { result ≡ definitions.signed grammar.is_slash class }
 {
-    match lexeme.shape {
+    match class.shape {
         Shape::Sign(mark) => is_slash(mark),
         _ => false,
     }
 }
 
-pub(crate) fn at_minus(lexeme: Lexeme) -> bool
-    ensures { result ≡ course.signed definitions.is_minus lexeme }
+pub(crate) fn at_minus(class: TokenClass) -> bool
+    ensures { result ≡ definitions.signed grammar.is_minus class }
 {
-    match lexeme.shape {
+    match class.shape {
         Shape::Sign(mark) => is_minus(mark),
         _ => false,
     }
 }
 
-pub(crate) fn at_equal(lexeme: Lexeme) -> bool
-    ensures { result ≡ course.signed definitions.is_equal lexeme }
+pub(crate) fn at_equal(class: TokenClass) -> bool
+    ensures { result ≡ definitions.signed grammar.is_equal class }
 {
-    match lexeme.shape {
+    match class.shape {
         Shape::Sign(mark) => is_equal(mark),
         _ => false,
     }
 }
 
-pub(crate) fn at_dots(lexeme: Lexeme) -> bool
-    ensures { result ≡ course.signed definitions.is_dots lexeme }
+pub(crate) fn at_dots(class: TokenClass) -> bool
+    ensures { result ≡ definitions.signed grammar.is_dots class }
 {
-    match lexeme.shape {
+    match class.shape {
         Shape::Sign(mark) => is_dots(mark),
         _ => false,
     }
 }
 
-pub(crate) fn at_comma(lexeme: Lexeme) -> bool
-    ensures { result ≡ course.signed levels.is_comma lexeme }
+pub(crate) fn at_comma(class: TokenClass) -> bool
+    ensures { result ≡ definitions.signed levels.is_comma class }
 {
-    match lexeme.shape {
+    match class.shape {
         Shape::Sign(mark) => is_comma(mark),
         _ => false,
     }
 }
 
-pub(crate) fn at_colon(lexeme: Lexeme) -> bool
-    ensures { result ≡ course.signed levels.is_colon lexeme }
+pub(crate) fn at_colon(class: TokenClass) -> bool
+    ensures { result ≡ definitions.signed levels.is_colon class }
 {
-    match lexeme.shape {
+    match class.shape {
         Shape::Sign(mark) => is_colon(mark),
         _ => false,
     }
 }
 
-pub(crate) fn at_mark(lexeme: Lexeme) -> bool
-    ensures { result ≡ course.signed levels.is_mark lexeme }
+pub(crate) fn at_iteration_sign(class: TokenClass) -> bool
+    ensures { result ≡ definitions.signed levels.is_iteration_sign class }
 {
-    match lexeme.shape {
-        Shape::Sign(mark) => is_mark(mark),
+    match class.shape {
+        Shape::Sign(mark) => is_iteration_sign(mark),
         _ => false,
     }
 }
 
-pub(crate) fn at_caret(lexeme: Lexeme) -> bool
-    ensures { result ≡ course.signed levels.is_caret lexeme }
+pub(crate) fn at_caret(class: TokenClass) -> bool
+    ensures { result ≡ definitions.signed levels.is_caret class }
 {
-    match lexeme.shape {
+    match class.shape {
         Shape::Sign(mark) => is_caret(mark),
         _ => false,
     }
 }
 
-pub(crate) fn is_low(lexeme: Lexeme) -> bool
-    ensures { result ≡ course.is_low lexeme }
+pub(crate) fn is_low(class: TokenClass) -> bool
+    ensures { result ≡ definitions.is_low class }
 {
-    matches!(lexeme.shape, Shape::Single(Leaf::Low))
+    matches!(class.shape, Shape::Single(Leaf::Low))
 }
 
-pub(crate) fn is_fun(lexeme: Lexeme) -> bool
-    ensures { result ≡ course.is_fun lexeme }
+pub(crate) fn is_fun(class: TokenClass) -> bool
+    ensures { result ≡ definitions.is_fun class }
 {
-    matches!(lexeme.shape, Shape::Single(Leaf::Function))
+    matches!(class.shape, Shape::Single(Leaf::Function))
 }
 
-pub(crate) fn names_relation(lexeme: Lexeme) -> bool
-    ensures { result ≡ course.names_relation lexeme }
+pub(crate) fn names_relation(class: TokenClass) -> bool
+    ensures { result ≡ definitions.names_relation class }
 {
-    lexeme.mix || is_label(lexeme.shape)
+    class.mix || is_label(class.shape)
 }
 
-pub(crate) fn is_name(lexeme: Lexeme) -> bool
-    ensures { result ≡ course.is_name lexeme }
+pub(crate) fn is_name(class: TokenClass) -> bool
+    ensures { result ≡ definitions.is_name class }
 {
-    is_low(lexeme) || names_relation(lexeme)
+    is_low(class) || names_relation(class)
 }
 
 fn shape_closes(closing: Closing, shape: Shape) -> bool
-    ensures { result ≡ course.shape_closes closing shape }
+    ensures { result ≡ definitions.shape_closes closing shape }
 {
     match shape {
         Shape::Close(other) => agree(other, closing),
@@ -142,51 +142,51 @@ fn shape_closes(closing: Closing, shape: Shape) -> bool
     }
 }
 
-pub(crate) fn is_bar(lexeme: Lexeme) -> bool
-    ensures { result ≡ course.is_bar lexeme }
+pub(crate) fn is_bar(class: TokenClass) -> bool
+    ensures { result ≡ definitions.is_bar class }
 {
-    shape_closes(Closing::ByBar, lexeme.shape)
+    shape_closes(Closing::ByBar, class.shape)
 }
 
-pub(crate) fn closes_round(lexeme: Lexeme) -> bool
-    ensures { result ≡ course.closes_round lexeme }
+pub(crate) fn closes_round(class: TokenClass) -> bool
+    ensures { result ≡ definitions.closes_round class }
 {
-    shape_closes(Closing::ByRound, lexeme.shape)
+    shape_closes(Closing::ByRound, class.shape)
 }
 
-pub(crate) fn closes_brace(lexeme: Lexeme) -> bool
-    ensures { result ≡ course.closes_brace lexeme }
+pub(crate) fn closes_brace(class: TokenClass) -> bool
+    ensures { result ≡ definitions.closes_brace class }
 {
-    shape_closes(Closing::ByBrace, lexeme.shape)
+    shape_closes(Closing::ByBrace, class.shape)
 }
 
 /// Whether it opens parentheses.
-pub fn opens_round(lexeme: Lexeme) -> bool
-    ensures { result ≡ course.opens_round lexeme }
+pub fn opens_round(class: TokenClass) -> bool
+    ensures { result ≡ definitions.opens_round class }
 {
-    matches!(lexeme.shape, Shape::Open(Bracket::Round, _))
+    matches!(class.shape, Shape::Open(Bracket::Round, _))
 }
 
-pub(crate) fn opens_brace(lexeme: Lexeme) -> bool
-    ensures { result ≡ course.opens_brace lexeme }
+pub(crate) fn opens_brace(class: TokenClass) -> bool
+    ensures { result ≡ definitions.opens_brace class }
 {
-    matches!(lexeme.shape, Shape::Open(Bracket::Brace, _))
+    matches!(class.shape, Shape::Open(Bracket::Brace, _))
 }
 
 /// Whether a piece of a name is due behind the token, where it goes on with the name.
-pub(crate) fn id_step(due: bool, lexeme: Lexeme) -> Option<bool>
-    ensures { result ≡ course.id_step due lexeme }
+pub(crate) fn id_step(due: bool, class: TokenClass) -> Option<bool>
+    ensures { result ≡ definitions.id_step due class }
 {
     if due {
-        if lexeme.touching && lexeme.piece {
+        if class.touching && class.piece {
             return Some(false);
         }
         return None;
     }
-    if lexeme.touching && at_minus(lexeme) {
+    if class.touching && at_minus(class) {
         return Some(true);
     }
-    if lexeme.touching && lexeme.dot {
+    if class.touching && class.dot {
         return Some(false);
     }
     None

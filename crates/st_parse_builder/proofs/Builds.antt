@@ -7,7 +7,7 @@ use Rattle.st_grammar.specs.declared.sort.Style.TheVariants.{Lone as lone, Field
 use Rattle.st_grammar.specs.declared.sort.Bracket.TheVariants.{Round as round, Square as square, Brace as brace, TickRound as tick_round, TickSquare as tick_square, TickBrace as tick_brace, Dollar as dollar}
 use Rattle.st_grammar.specs.declared.sort.Sort.{Sort}
 use Rattle.st_grammar.specs.declared.sort.Sort.TheVariants.{Expression as expression, Arithmetic as arithmetic, Notation as notation, Typ as typ, Count as count, Bound as bound}
-use Rattle.st_grammar.specs.Lexemes.{Lexeme, leaf, dot, sign, opening, closing, other}
+use Rattle.st_grammar.specs.Terminals.{Terminal, leaf, dot, sign, opening, closing, other}
 use Rattle.st_grammar.specs.Trees.{Tree, operand, post, times, bracket, led, left, ahead, items, Trees, none, more, Heading, plain, length, arguments, index, segment, update, below, Path, head, field, part}
 use Rattle.st_grammar.specs.Grammar.{index_style, size, IsFilled, SetsOff, Fits, EachFits, PathFits}
 use Rattle.st_el.specs.declared.expression.Exp.{Exp}
@@ -39,7 +39,7 @@ abbrev pub AllBuilt : Trees → Type 0
 AllBuilt none = Unit {0}
 AllBuilt (more ts pre t) = AllBuilt ts × Built t
 
-posts : (l : Lexeme) (e : Exp) (s : Stack) → run (post_acts l) (Done e ∷ s) ≡ Some (Done (posted e l) ∷ s)
+posts : (l : Terminal) (e : Exp) (s : Stack) → run (post_acts l) (Done e ∷ s) ≡ Some (Done (posted e l) ∷ s)
 posts (leaf k x) e s = refl
 posts (dot x) e s = refl
 posts (sign m x) e s = refl
@@ -84,7 +84,7 @@ put_parts (more ts pre t) b at es s =
     chain (part_acts ts) _ _ _ _ (put_parts ts b.0 at es s)
     (chain (acts t) _ _ _ _ (b.1 _) (ap (λ fs. Some (Parts at fs ∷ s)) (append_assoc es (meanings ts) (meaning t ∷ []))))
 
-labels : (ts : Trees) (pre : List Lexeme) → SetsOff fields ts pre → (s : Stack) → run (label_acts pre) s ≡ Some (Label (label pre) ∷ s)
+labels : (ts : Trees) (pre : List Terminal) → SetsOff fields ts pre → (s : Stack) → run (label_acts pre) s ≡ Some (Label (label pre) ∷ s)
 labels none pre f s = subst (λ ls. run (label_acts ls) s ≡ Some (Label (label ls) ∷ s)) (sym f.1) refl
 labels (more ts q u) pre f s = subst (λ ls. run (label_acts ls) s ≡ Some (Label (label ls) ∷ s)) (sym f.3) refl
 

@@ -9,7 +9,7 @@ use Rattle.st_grammar.specs.declared.sort.Bracket.TheVariants.{Round as round, S
 use Rattle.st_grammar.specs.declared.sort.Closing.{Closing}
 use Rattle.st_grammar.specs.declared.sort.Closing.TheVariants.{ByRound as by_round, BySquare as by_square, ByBrace as by_brace, ByBar as by_bar}
 use Rattle.st_grammar.specs.declared.sort.Sort.{Sort}
-use Rattle.st_grammar.specs.Lexemes.{Lexeme, leaf, dot, sign, opening, closing, other}
+use Rattle.st_grammar.specs.Terminals.{Terminal, leaf, dot, sign, opening, closing, other}
 use Rattle.st_grammar.specs.Levels.{takes, encloses, computes, is_expression, is_count, level_of, ahead_level, has_level, left_of, is_caret, is_less, is_change}
 use Rattle.st_grammar.specs.Trees.{Tree, operand, post, times, bracket, led, left, ahead, items, Trees, none, more, Heading, plain, length, arguments, index, segment, update, below, Path, head, field, part}
 use Rattle.st_grammar.specs.Grammar.{is_label, follows, may_post, level, has_step}
@@ -78,7 +78,7 @@ opening_begins tick_square x fs = plain_emits tick_square x fs
 opening_begins tick_brace x fs = plain_emits tick_brace x fs
 opening_begins dollar x fs = plain_emits dollar x fs
 
-pub begins : (fs : Frames) (l : Lexeme) → Emits (frames_acts fs) (beginning fs l) (begin fs l)
+pub begins : (fs : Frames) (l : Terminal) → Emits (frames_acts fs) (beginning fs l) (begin fs l)
 begins fs (leaf k x) = go (takes (sort fs) k)
   where
     go : (b : Bool) → Emits (frames_acts fs) (action.Operand k x ∷ settling (operand k x) fs) (if b then Some (settle (operand k x) fs) else None)
@@ -112,7 +112,7 @@ pub behind_emits : (o : Option State) (seen front new : List Action) (before : L
 behind_emits None seen front new before e h = tt
 behind_emits (Some next) seen front new before e h = h ∙ ap (λ a. a ++ new) e ∙ append_assoc seen front new
 
-pub next_begins : (t : Tree) (fs : Frames) (l : Lexeme) → Emits (frames_acts fs ++ acts t) (extending fs ++ beginning (extend t fs) l) (begin (extend t fs) l)
+pub next_begins : (t : Tree) (fs : Frames) (l : Terminal) → Emits (frames_acts fs ++ acts t) (extending fs ++ beginning (extend t fs) l) (begin (extend t fs) l)
 next_begins t fs l = behind_emits (begin (extend t fs) l) (frames_acts fs ++ acts t) (extending fs) (beginning (extend t fs) l) (frames_acts (extend t fs)) (extend_emits t fs) (begins (extend t fs) l)
 
 pub joins : (m : Mark) (x : Token) (p : Tree × Frames) → Emits (pair_acts p) (joining m p.1) (join m x p)
@@ -184,7 +184,7 @@ openings tick_square x t fs = tt
 openings tick_brace x t fs = tt
 openings dollar x t fs = tt
 
-pub behinds : (t : Tree) (fs : Frames) (l : Lexeme) → Emits (frames_acts fs ++ acts t) (behind_acts t fs l) (behind t fs l)
+pub behinds : (t : Tree) (fs : Frames) (l : Terminal) → Emits (frames_acts fs ++ acts t) (behind_acts t fs l) (behind t fs l)
 behinds t fs (leaf k x) = tt
 behinds t fs (dot x) = go (may_post (sort fs) t (dot x))
   where
@@ -196,7 +196,7 @@ behinds t fs (opening k x) = openings k x t fs
 behinds t fs (closing c x) = behind_emits (close c x (lower 0 t fs)) (frames_acts fs ++ acts t) (lowering 0 fs) (closed x (lower 0 t fs)) (pair_acts (lower 0 t fs)) (lowers 0 t fs) (closes_emit c x (lower 0 t fs))
 behinds t fs (other x) = tt
 
-pub afters : (t : Tree) (fs : Frames) (l : Lexeme) → Emits (frames_acts fs ++ acts t) (after_acts t fs l) (after t fs l)
+pub afters : (t : Tree) (fs : Frames) (l : Terminal) → Emits (frames_acts fs ++ acts t) (after_acts t fs l) (after t fs l)
 afters t fs l = go (follows (sort fs) t l)
   where
     go : (b : Bool) → Emits (frames_acts fs ++ acts t) (if b then extending fs ++ beginning (extend t fs) l else behind_acts t fs l) (if b then begin (extend t fs) l else behind t fs l)
@@ -205,14 +205,14 @@ afters t fs l = go (follows (sort fs) t l)
 
 -- ---- paths, names and counts
 
-pub in_index_emits : (p : Path) (fs : Frames) (l : Lexeme) → Emits (frames_acts fs ++ path_acts p) (index_acts_in p fs l) (in_index p fs l)
+pub in_index_emits : (p : Path) (fs : Frames) (l : Terminal) → Emits (frames_acts fs ++ path_acts p) (index_acts_in p fs l) (in_index p fs l)
 in_index_emits (head t o) fs l =
     subst (λ a. Emits (frames_acts fs ++ a) (beginning (within (index t o) none [] fs) l) (begin (within (index t o) none [] fs) l)) (append-nil (acts t ++ action.OpenPath ∷ []))
     (begins (within (index t o) none [] fs) l)
 in_index_emits (field p x) fs l = tt
 in_index_emits (part p o ts c) fs l = tt
 
-pub paths_emit : (p : Path) (fs : Frames) (l : Lexeme) → Emits (frames_acts fs ++ path_acts p) (path_step_acts p fs l) (in_path p fs l)
+pub paths_emit : (p : Path) (fs : Frames) (l : Terminal) → Emits (frames_acts fs ++ path_acts p) (path_step_acts p fs l) (in_path p fs l)
 paths_emit p fs (dot x) = sym (append_assoc (frames_acts fs) (path_acts p) (action.StepField x ∷ []))
 paths_emit p fs (opening square x) = ap (λ a. frames_acts fs ++ a) (append-nil (path_acts p)) ∙ sym (append-nil (frames_acts fs ++ path_acts p))
 paths_emit p fs (sign m x) = go (has_step p && is_change m)
@@ -230,12 +230,12 @@ paths_emit p fs (opening dollar x) = in_index_emits p fs (opening dollar x)
 paths_emit p fs (closing c x) = in_index_emits p fs (closing c x)
 paths_emit p fs (other x) = in_index_emits p fs (other x)
 
-pub last_label : (pre : List Lexeme) (l : Lexeme) → label_acts (pre ++ l ∷ []) ≡ action.Label (token_in l) ∷ []
+pub last_label : (pre : List Terminal) (l : Terminal) → label_acts (pre ++ l ∷ []) ≡ action.Label (token_in l) ∷ []
 last_label [] l = refl
 last_label (k ∷ []) l = refl
 last_label (k ∷ j ∷ pre) l = last_label (j ∷ pre) l
 
-pub named : (h : Heading) (ts : Trees) (pre : List Lexeme) (l : Lexeme)
+pub named : (h : Heading) (ts : Trees) (pre : List Terminal) (l : Terminal)
     → inner_acts h (each_acts ts) (part_acts ts) (field_acts ts ++ label_acts (pre ++ l ∷ [])) ≡ inner_acts h (each_acts ts) (part_acts ts) (field_acts ts) ++ name_acts h l
 named (plain round o) ts pre l = sym (append-nil (part_acts ts))
 named (plain brace o) ts pre l = ap (λ a. field_acts ts ++ a) (last_label pre l)
@@ -251,7 +251,7 @@ named (segment p o) ts pre l = sym (append-nil (each_acts ts))
 named (update p m x) ts pre l = sym (append-nil (each_acts ts))
 named (below o i m x) ts pre l = sym (append-nil (each_acts ts))
 
-pub names_emit : (h : Heading) (ts : Trees) (pre : List Lexeme) (fs : Frames) (l : Lexeme) → Emits (state_acts (naming h ts pre fs)) (name_acts h l) (name_field h ts pre fs l)
+pub names_emit : (h : Heading) (ts : Trees) (pre : List Terminal) (fs : Frames) (l : Terminal) → Emits (state_acts (naming h ts pre fs)) (name_acts h l) (name_field h ts pre fs l)
 names_emit h ts pre fs l = go (is_label l)
   where
     regroup : (f h b n : List Action) → f ++ (h ++ (b ++ n)) ≡ (f ++ (h ++ b)) ++ n
@@ -261,7 +261,7 @@ names_emit h ts pre fs l = go (is_label l)
     go true = ap (λ a. frames_acts fs ++ (heading_acts h fs ++ a)) (named h ts pre l) ∙ regroup (frames_acts fs) (heading_acts h fs) (inner_acts h (each_acts ts) (part_acts ts) (field_acts ts)) (name_acts h l)
     go false = tt
 
-pub indexes_emit : (o : Token) (fs : Frames) (l : Lexeme) → Emits (frames_acts fs) (name_index_acts fs l) (name_index o fs l)
+pub indexes_emit : (o : Token) (fs : Frames) (l : Terminal) → Emits (frames_acts fs) (name_index_acts fs l) (name_index o fs l)
 indexes_emit o fs (leaf low i) = refl
 indexes_emit o fs (leaf basic x) = tt
 indexes_emit o fs (leaf variable x) = tt
@@ -275,7 +275,7 @@ indexes_emit o fs (opening k x) = tt
 indexes_emit o fs (closing c x) = tt
 indexes_emit o fs (other x) = tt
 
-pub compares_emit : (o i : Token) (fs : Frames) (l : Lexeme) → Emits (frames_acts fs ++ index_label i fs) [] (bound_index o i fs l)
+pub compares_emit : (o i : Token) (fs : Frames) (l : Terminal) → Emits (frames_acts fs ++ index_label i fs) [] (bound_index o i fs l)
 compares_emit o i fs (sign m x) = go (is_less m)
   where
     go : (b : Bool) → Emits (frames_acts fs ++ index_label i fs) [] (if b then Some (want (within (below o i m x) none [] fs)) else None)
@@ -289,7 +289,7 @@ compares_emit o i fs (other x) = tt
 
 -- ---- the reading
 
-pub step_emits : (st : State) (l : Lexeme) → Emits (state_acts st) (emitted st l) (step st l)
+pub step_emits : (st : State) (l : Terminal) → Emits (state_acts st) (emitted st l) (step st l)
 step_emits (want fs) l = begins fs l
 step_emits (got t fs) l = afters t fs l
 step_emits (naming h ts pre fs) l = names_emit h ts pre fs l
@@ -297,7 +297,7 @@ step_emits (pathed p fs) l = paths_emit p fs l
 step_emits (indexing o fs) l = indexes_emit o fs l
 step_emits (comparing o i fs) l = compares_emit o i fs l
 
-pub emits_next : (st : State) (l : Lexeme) (next : State) → step st l ≡ Some next → state_acts next ≡ state_acts st ++ emitted st l
+pub emits_next : (st : State) (l : Terminal) (next : State) → step st l ≡ Some next → state_acts next ≡ state_acts st ++ emitted st l
 emits_next st l next e = subst (Emits (state_acts st) (emitted st l)) e (step_emits st l)
 
 pub ended_emits : (p : Tree × Frames) (t : Tree) → ended p ≡ Some t → acts t ≡ pair_acts p
@@ -315,7 +315,7 @@ finish_emits (indexing o fs) t e = absurd (cc)
 finish_emits (comparing o i fs) t e = absurd (cc)
 
 -- All that is emitted from a state on are the actions of the tree that are missing there.
-pub emits_all : (w : List Lexeme) (st : State) (t : Tree) → reads st w ≡ Some t → acts t ≡ state_acts st ++ emissions st w
+pub emits_all : (w : List Terminal) (st : State) (t : Tree) → reads st w ≡ Some t → acts t ≡ state_acts st ++ emissions st w
 emits_all [] st t e = finish_emits st t e
 emits_all (l ∷ w) st t e = go (step st l) (step_emits st l) e (λ next. emits_all w next t)
   where
@@ -325,11 +325,11 @@ emits_all (l ∷ w) st t e = go (step st l) (step_emits st l) e (λ next. emits_
     go None h f later = absurd (cc)
     go (Some next) h f later = later next f ∙ ap (λ a. a ++ emissions next w) h ∙ append_assoc (state_acts st) (emitted st l) (emissions next w)
 
-pub emits_part : (σ : Sort) (us : List Lexeme) (t : Tree) → reads (start σ) us ≡ Some t → acts t ≡ emissions (start σ) us
+pub emits_part : (σ : Sort) (us : List Terminal) (t : Tree) → reads (start σ) us ≡ Some t → acts t ≡ emissions (start σ) us
 emits_part σ us t e = emits_all us (start σ) t e
 
 -- the state in which a part ends
-pub read_state : (st : State) (w : List Lexeme) (t : Tree) → reads st w ≡ Some t → (end : State) × (reading st w ≡ Some end) × (finish end ≡ Some t)
+pub read_state : (st : State) (w : List Terminal) (t : Tree) → reads st w ≡ Some t → (end : State) × (reading st w ≡ Some end) × (finish end ≡ Some t)
 read_state st w t e = go (reading st w) refl e
   where
     go : (o : Option State) → reading st w ≡ o → option_and_then finish o ≡ Some t → (end : State) × (reading st w ≡ Some end) × (finish end ≡ Some t)

@@ -8,7 +8,7 @@ use Rattle.st_grammar.specs.declared.sort.Style.TheVariants.{Lone as lone, Parts
 use Rattle.st_grammar.specs.declared.sort.Leaf.{Leaf}
 use Rattle.st_grammar.specs.declared.sort.Bracket.TheVariants.{Round as round, Square as square, Brace as brace, TickRound as tick_round, TickSquare as tick_square, TickBrace as tick_brace, Dollar as dollar}
 use Rattle.st_grammar.specs.declared.sort.Closing.{Closing}
-use Rattle.st_grammar.specs.Lexemes.{Lexeme, sign}
+use Rattle.st_grammar.specs.Terminals.{Terminal, sign}
 use Rattle.st_grammar.specs.Levels.{is_comma, is_colon}
 use Rattle.st_grammar.specs.Trees.{Tree, operand, bracket, led, Trees, none, more, Heading, plain, length, arguments, index, segment, update, below, closes, agree}
 use Rattle.st_grammar.specs.Grammar.{style}
@@ -30,7 +30,7 @@ pair_acts p = frames_acts p.1 ++ acts p.0
 abbrev pub bracket_acts : Heading → Trees → List Action
 bracket_acts h ts = inner_acts h (each_acts ts) (part_acts ts) (field_acts ts)
 
-abbrev pub open_acts : Heading → Trees → List Lexeme → List Action
+abbrev pub open_acts : Heading → Trees → List Terminal → List Action
 open_acts h ts pre = inner_acts h (each_acts ts) (part_acts ts) (field_acts ts ++ label_acts pre)
 
 -- ---- parts that are read
@@ -96,7 +96,7 @@ lowers n t (over g fs) = go (nat_le (reach g) n) (lowers n (led g t) fs)
 
 -- ---- one more part of a bracket
 
-pub part_more : (h : Heading) (ts : Trees) (pre : List Lexeme) (t : Tree) → bracket_acts h (more ts pre t) ≡ open_acts h ts pre ++ (acts t ++ part_end h)
+pub part_more : (h : Heading) (ts : Trees) (pre : List Terminal) (t : Tree) → bracket_acts h (more ts pre t) ≡ open_acts h ts pre ++ (acts t ++ part_end h)
 part_more (plain round o) ts pre t = refl
 part_more (plain brace o) ts pre t = sym (append_assoc (field_acts ts) (label_acts pre) (acts t ++ action.Field ∷ []))
 part_more (plain square o) ts pre t = ap (λ a. each_acts ts ++ a) (sym (append-nil (acts t)))
@@ -111,7 +111,7 @@ part_more (segment p o) ts pre t = ap (λ a. each_acts ts ++ a) (sym (append-nil
 part_more (update p m x) ts pre t = ap (λ a. each_acts ts ++ a) (sym (append-nil (acts t)))
 part_more (below o i m x) ts pre t = ap (λ a. each_acts ts ++ a) (sym (append-nil (acts t)))
 
-pub more_emits : (h : Heading) (ts : Trees) (pre : List Lexeme) (t : Tree) (fs : Frames) (rest : List Action)
+pub more_emits : (h : Heading) (ts : Trees) (pre : List Terminal) (t : Tree) (fs : Frames) (rest : List Action)
     → frames_acts fs ++ (heading_acts h fs ++ (bracket_acts h (more ts pre t) ++ rest)) ≡ (frames_acts (within h ts pre fs) ++ acts t) ++ (part_end h ++ rest)
 more_emits h ts pre t fs rest =
     ap (λ a. frames_acts fs ++ (heading_acts h fs ++ (a ++ rest))) (part_more h ts pre t)
@@ -121,7 +121,7 @@ more_emits h ts pre t fs rest =
     regroup f h o t e r = simp append_assoc
 
 -- the same with nothing behind it
-pub parts_emit : (h : Heading) (ts : Trees) (pre : List Lexeme) (t : Tree) (fs : Frames)
+pub parts_emit : (h : Heading) (ts : Trees) (pre : List Terminal) (t : Tree) (fs : Frames)
     → frames_acts fs ++ (heading_acts h fs ++ bracket_acts h (more ts pre t)) ≡ (frames_acts (within h ts pre fs) ++ acts t) ++ part_end h
 parts_emit h ts pre t fs =
     ap (λ a. frames_acts fs ++ (heading_acts h fs ++ a)) (sym (append-nil (bracket_acts h (more ts pre t))))
@@ -151,7 +151,7 @@ unnamed ends m x h none ts fs seen new e is = go (is_colon m)
 unnamed ends m x h (more us q u) ts fs seen new e is = tt
 unnamed run m x h before ts fs seen new e is = tt
 
-pub next_emits : (h : Heading) (m : Mark) (x : Token) (ts : Trees) (pre : List Lexeme) (t : Tree) (fs : Frames)
+pub next_emits : (h : Heading) (m : Mark) (x : Token) (ts : Trees) (pre : List Terminal) (t : Tree) (fs : Frames)
     → Emits (frames_acts (within h ts pre fs) ++ acts t) (part_end h) (next_part (style (sort fs) h) m x h ts (more ts pre t) fs)
 next_emits (plain brace o) m x ts pre t fs = go (is_comma m)
   where
@@ -179,7 +179,7 @@ separates m x (t, within h ts pre fs) = next_emits h m x ts pre t fs
 
 -- ---- a bracket that closes
 
-pub shuts : (h : Heading) (ts : Trees) (pre : List Lexeme) (t : Tree) (x : Token) (fs : Frames)
+pub shuts : (h : Heading) (ts : Trees) (pre : List Terminal) (t : Tree) (x : Token) (fs : Frames)
     → state_acts (shut h (more ts pre t) x fs) ≡ (frames_acts (within h ts pre fs) ++ acts t) ++ (part_end h ++ shutting h (more ts pre t) x fs)
 shuts (segment p o) ts pre t x fs =
     more_emits (segment p o) ts pre t fs (closing_acts (segment p o) (more ts pre t))

@@ -7,8 +7,8 @@ use Rattle.st_grammar.specs.declared.sort.Leaf.TheVariants.{Low as low, Basic as
 use Rattle.st_grammar.specs.declared.sort.Bracket.TheVariants.{Round as round, Square as square, Brace as brace, TickRound as tick_round, TickSquare as tick_square, TickBrace as tick_brace, Dollar as dollar}
 use Rattle.st_grammar.specs.declared.sort.Sort.{Sort}
 use Rattle.st_grammar.specs.declared.sort.Sort.TheVariants.{Notation as notation, Typ as typ}
-use Rattle.st_grammar.specs.Lexemes.{leaf, dot, sign, opening, closing, other}
-use Rattle.st_grammar.specs.Levels.{is_expression, is_type_mark}
+use Rattle.st_grammar.specs.Terminals.{leaf, dot, sign, opening, closing, other}
+use Rattle.st_grammar.specs.Levels.{is_expression, is_type_iteration_sign}
 use Rattle.st_grammar.specs.Trees.{Tree, operand, post, times, bracket, led, left, ahead, items, Trees, none, more, plain, length, arguments, index, segment, update, below, Path, head, field, part}
 use Rattle.st_grammar.specs.Grammar.{is_type, is_atom, Fits, EachFits, PathFits}
 use Rattle.st_el.specs.declared.ty.Typ.{Typ}
@@ -222,7 +222,7 @@ mutual
   notation_builds (operand literal x) f s = no f
   notation_builds (operand function x) f s = no f
   notation_builds (post t (sign m x)) f s =
-      chain (acts t) _ _ _ _ (notation_builds t f.1 s) (done (applied (action.Mark m) (piece_of t ∷ s)) ∙ marks (is_type t) t m (hole (marked m (typ_meaning t))) s (second_of (is_type_mark m) (is_type t) f.0))
+      chain (acts t) _ _ _ _ (notation_builds t f.1 s) (done (applied (action.Mark m) (piece_of t ∷ s)) ∙ marks (is_type t) t m (hole (marked m (typ_meaning t))) s (second_of (is_type_iteration_sign m) (is_type t) f.0))
   notation_builds (post t (dot x)) f s =
       chain (acts t) _ _ _ _ (notation_builds t f.1 s) (ap (λ p. run (action.Dot x ∷ []) (p ∷ s)) (atom_whole t (first_of (is_atom t) x.touching f.0)))
   notation_builds (post t (leaf k x)) f s = no f.0

@@ -2,13 +2,13 @@
 use Rattle.std.specs.Prelude.{List, [], ◌∷◌, ◌++◌}
 use Rattle.st_grammar.specs.declared.sort.Bracket.TheVariants.{Round as round, Brace as brace}
 use Rattle.st_grammar.specs.declared.sort.Leaf.TheVariants.{Function as function}
-use Rattle.st_grammar.specs.Lexemes.{Lexeme, dot, sign}
+use Rattle.st_grammar.specs.Terminals.{Terminal, dot, sign}
 use Rattle.st_grammar.specs.Trees.{Tree, operand, post, times, bracket, led, Lead, left, ahead, items, Trees, none, more, Heading, plain, length, arguments, index, segment, update, below, Path, head, field, part}
 use Rattle.st_grammar.specs.Definitions.{token_in}
 use Rattle.st_parse_builder.specs.declared.action.Action.{Action}
 use Rattle.st_parse_builder.specs.declared.action.Action.TheVariants as action
 
-abbrev pub post_acts : Lexeme → List Action
+abbrev pub post_acts : Terminal → List Action
 post_acts (dot x) = action.Dot x ∷ []
 post_acts (sign m x) = action.Mark m ∷ []
 post_acts l = []
@@ -22,7 +22,7 @@ abbrev pub count_act : Tree → Action
 count_act (bracket (below o i m x) ts c) = action.Below
 count_act t = action.Times
 
-abbrev pub label_acts : List Lexeme → List Action
+abbrev pub label_acts : List Terminal → List Action
 label_acts [] = []
 label_acts (l ∷ []) = action.Label (token_in l) ∷ []
 label_acts (k ∷ ls) = label_acts ls

@@ -6,7 +6,7 @@ use Rattle.st_scan.specs.declared.token.Token.{Token}
 use Rattle.st_scan.specs.declared.token.TokenKind.{TokenKind}
 use Rattle.st_scan.specs.declared.token.TokenKind.TheVariants as kind
 use Rattle.st_num.specs.declared.mark.Mark.TheVariants as mark
-use Rattle.st_grammar.specs.Lexemes.{Lexeme, sign, lexeme}
+use Rattle.st_grammar.specs.Terminals.{Terminal, sign, terminal}
 use Rattle.st_grammar.specs.Grammar.{is_type}
 use Rattle.st_grammar.specs.Definitions as grammar
 use Rattle.st_grammar.specs.Definitions.{token_in, no_hints, more_hints, hint, Members, no_members, member, fields, cases, Iterations, no_iterations, closed, marked, counted, closings, Premise, default, given, Premises, no_premises, more_premises, Args, no_args, args, syntax_def, var_def, relation_def, rule_def, fun_def, clause_def, Defs, no_defs, more_defs, ParseDefs}
@@ -28,11 +28,11 @@ use Rattle.st_parse_builder.specs.Names.{name_of}
 use Rattle.st_parse_builder.specs.Meaning.{meaning, meanings, label, mark_count, count_of}
 use Rattle.st_parse_builder.specs.Notations.{typ_meaning, typ_meanings, notation_meaning}
 
-abbrev pub name_in : Lexeme → List ℕ
+abbrev pub name_in : Terminal → List ℕ
 name_in l = name_of (token_in l).kind
 
 -- the place of the first of these tokens
-abbrev pub place_in : List Lexeme → Span
+abbrev pub place_in : List Terminal → Span
 place_in [] = nowhere
 place_in (l ∷ ls) = (token_in l).at
 
@@ -45,16 +45,16 @@ piece_text (kind.Sign mark.Minus) = codes "-"
 piece_text (kind.Dot name) = codes "." ++ name
 piece_text k = name_of k
 
-abbrev pub id_text : List Lexeme → List ℕ
+abbrev pub id_text : List Terminal → List ℕ
 id_text ls = flat_map (λ l. piece_text (token_in l).kind) ls
 
 -- what stands behind `/`, where there is one
-abbrev pub fragment_name : List Lexeme → Option (List ℕ)
+abbrev pub fragment_name : List Terminal → Option (List ℕ)
 fragment_name [] = None
 fragment_name (s ∷ ls) = Some (id_text ls)
 
 -- A rule without a name has the empty one.
-abbrev pub rule_name : List Lexeme → List ℕ
+abbrev pub rule_name : List Terminal → List ℕ
 rule_name [] = []
 rule_name (s ∷ ls) = id_text ls
 
@@ -85,11 +85,11 @@ has_dots_before (member ms pre t hs) = has_dots_before ms
 has_dots_before no_members = false
 
 -- Dots stand behind the last one.
-abbrev pub has_dots_behind : List Lexeme → Bool
+abbrev pub has_dots_behind : List Terminal → Bool
 has_dots_behind [] = false
 has_dots_behind (b ∷ ls) = true
 
-abbrev pub variant : Members → List Lexeme → Body
+abbrev pub variant : Members → List Terminal → Body
 variant ms ls = body.Cases (has_dots_before ms) (cases_meaning ms) (has_dots_behind ls)
 
 -- One alternative without dots that is a type is an alias, also with a bar before it.
@@ -107,23 +107,23 @@ abbrev pub prem_at : Span → PremNode → Prem
 prem_at at n = roll-Prem (record { at = at; node = n })
 
 -- a condition begins with its `if` or its relation
-abbrev pub condition_node : List Lexeme → Exp → PremNode
+abbrev pub condition_node : List Terminal → Exp → PremNode
 condition_node (r ∷ c ∷ ls) e = prem.Goal (name_in r) e
 condition_node ls e = prem.If e
 
-abbrev pub condition : List Lexeme → Exp → Prem
+abbrev pub condition : List Terminal → Exp → Prem
 condition ls e = prem_at (place_in ls) (condition_node ls e)
 
 -- the place of the `(` that the n-th `)` closes
-abbrev pub opened_at : List Lexeme → ℕ → Span
+abbrev pub opened_at : List Terminal → ℕ → Span
 opened_at os n = place_in (drop (length os - n) os)
 
-abbrev pub sign_count : Lexeme → Count
+abbrev pub sign_count : Terminal → Count
 sign_count (sign m x) = mark_count m
 sign_count l = mark_count mark.Question
 
 -- A mark behind a `)` iterates what stands in the parentheses, which begins with their `(`.
-abbrev pub iterated : List Lexeme → Prem → Iterations → Prem
+abbrev pub iterated : List Terminal → Prem → Iterations → Prem
 iterated os p no_iterations = p
 iterated os p (closed i l) = iterated os p i
 iterated os p (marked i l) =
@@ -152,7 +152,7 @@ patterns no_args = []
 patterns (args o ts c) = meanings ts
 
 -- a definition begins with its word
-abbrev pub def_at : Lexeme → List Hint → DefNode → Def
+abbrev pub def_at : Terminal → List Hint → DefNode → Def
 def_at w hs n = record { at = (token_in w).at; hints = hs; node = n }
 
 abbrev pub def_meaning : grammar.Def → Def
@@ -178,5 +178,5 @@ defs_meaning (more_defs ds d) = defs_meaning ds ++ def_meaning d ∷ []
 -- mean these definitions.
 pub record Parse (names : List (List ℕ)) (tokens : List Token) (defs : List Def) : Type 0 where
   pub trees : Defs
-  pub grammar : ParseDefs (map (lexeme names) tokens) trees
+  pub grammar : ParseDefs (map (terminal names) tokens) trees
   pub meant : defs_meaning trees ≡ defs

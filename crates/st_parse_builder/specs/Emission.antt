@@ -9,7 +9,7 @@ use Rattle.st_grammar.specs.declared.sort.Bracket.{Bracket}
 use Rattle.st_grammar.specs.declared.sort.Bracket.TheVariants.{Round as round, Square as square}
 use Rattle.st_grammar.specs.declared.sort.Closing.{Closing}
 use Rattle.st_grammar.specs.declared.sort.Closing.TheVariants.{ByRound as by_round, ByBar as by_bar}
-use Rattle.st_grammar.specs.Lexemes.{Lexeme, leaf, dot, sign, opening, closing}
+use Rattle.st_grammar.specs.Terminals.{Terminal, leaf, dot, sign, opening, closing}
 use Rattle.st_grammar.specs.Levels.{is_expression, is_count, level_of, has_level, is_caret, is_change}
 use Rattle.st_grammar.specs.Trees.{Tree, operand, bracket, items, Trees, none, more, Heading, plain, length, arguments, index, segment, below, Path, head}
 use Rattle.st_grammar.specs.Grammar.{follows, may_post, has_step}
@@ -96,7 +96,7 @@ beginning_opening round x fs = if is_count (sort fs) then [] else opening_acts (
 beginning_opening k x fs = opening_acts (plain k x)
 
 -- An operand begins with this token.
-abbrev pub beginning : Frames → Lexeme → List Action
+abbrev pub beginning : Frames → Terminal → List Action
 beginning fs (leaf k x) = action.Operand k x ∷ settling (operand k x) fs
 beginning fs (sign m x) = action.Here x.at ∷ []
 beginning fs (opening k x) = beginning_opening k x fs
@@ -129,26 +129,26 @@ abbrev pub behind_opening_acts : Bracket → Token → List Action
 behind_opening_acts square x = action.OpenPath ∷ []
 behind_opening_acts k x = action.Open x.at ∷ []
 
-abbrev pub behind_acts : Tree → Frames → Lexeme → List Action
+abbrev pub behind_acts : Tree → Frames → Terminal → List Action
 behind_acts t fs (dot x) = post_acts (dot x)
 behind_acts t fs (sign m x) = behind_sign_acts m x t fs
 behind_acts t fs (opening k x) = behind_opening_acts k x
 behind_acts t fs (closing c x) = lowering 0 fs ++ closed x (lower 0 t fs)
 behind_acts t fs l = []
 
-abbrev pub after_acts : Tree → Frames → Lexeme → List Action
+abbrev pub after_acts : Tree → Frames → Terminal → List Action
 after_acts t fs l =
     if follows (sort fs) t l then extending fs ++ beginning (extend t fs) l else behind_acts t fs l
 
 -- ---- paths, names and counts
 
 -- A position begins with this token, where a path has no step.
-abbrev pub index_acts_in : Path → Frames → Lexeme → List Action
+abbrev pub index_acts_in : Path → Frames → Terminal → List Action
 index_acts_in (head t o) fs l = beginning (within (index t o) none [] fs) l
 index_acts_in p fs l = []
 
 -- A position in a path and a change act where their bracket closes.
-abbrev pub path_step_acts : Path → Frames → Lexeme → List Action
+abbrev pub path_step_acts : Path → Frames → Terminal → List Action
 path_step_acts p fs (dot x) = action.StepField x ∷ []
 path_step_acts p fs (opening square x) = []
 path_step_acts p fs (sign m x) =
@@ -156,17 +156,17 @@ path_step_acts p fs (sign m x) =
 path_step_acts p fs l = index_acts_in p fs l
 
 -- the name of a field, in braces alone
-abbrev pub name_acts : Heading → Lexeme → List Action
+abbrev pub name_acts : Heading → Terminal → List Action
 name_acts h l = inner_acts h [] [] (action.Label (token_in l) ∷ [])
 
-abbrev pub name_index_acts : Frames → Lexeme → List Action
+abbrev pub name_index_acts : Frames → Terminal → List Action
 name_index_acts fs (leaf low i) = index_label i fs
 name_index_acts fs l = []
 
 -- ---- the reading
 
 -- what this token adds to the actions
-abbrev pub emitted : State → Lexeme → List Action
+abbrev pub emitted : State → Terminal → List Action
 emitted (want fs) l = beginning fs l
 emitted (got t fs) l = after_acts t fs l
 emitted (naming h ts pre fs) l = name_acts h l
@@ -184,6 +184,6 @@ on_next f None = []
 on_next f (Some next) = f next
 
 -- all that the tokens and their end add
-abbrev pub emissions : State → List Lexeme → List Action
+abbrev pub emissions : State → List Terminal → List Action
 emissions st [] = finishing st
 emissions st (l ∷ w) = emitted st l ++ on_next (λ next. emissions next w) (step st l)

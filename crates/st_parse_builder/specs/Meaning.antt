@@ -6,7 +6,7 @@ use Rattle.st_num.specs.declared.span.Span.{Span}
 use Rattle.st_scan.specs.declared.token.Token.{Token}
 use Rattle.st_grammar.specs.declared.sort.Bracket.{Bracket}
 use Rattle.st_grammar.specs.declared.sort.Bracket.TheVariants.{Round as round, Brace as brace, TickRound as tick_round, TickSquare as tick_square, TickBrace as tick_brace}
-use Rattle.st_grammar.specs.Lexemes.{Lexeme, dot, sign}
+use Rattle.st_grammar.specs.Terminals.{Terminal, dot, sign}
 use Rattle.st_grammar.specs.Levels.{level_of}
 use Rattle.st_grammar.specs.Trees.{Tree, operand, post, times, bracket, led, Lead, left, ahead, items, Trees, none, more, Heading, plain, length, arguments, index, segment, update, below, Path, head, field, part}
 use Rattle.st_grammar.specs.Definitions.{token_in, is_minus}
@@ -103,7 +103,7 @@ is_plus m = false
 abbrev pub mark_count : Mark → Count
 mark_count m = if is_star m then count.Star else if is_plus m then count.Plus else count.Quest
 
-abbrev pub posted : Exp → Lexeme → Exp
+abbrev pub posted : Exp → Terminal → Exp
 posted e (dot x) = dotted e x
 posted e (sign m x) = iterated e (mark_count m)
 posted e l = e
@@ -133,7 +133,7 @@ enclosed tick_brace e = node.Bracket mark.TickBrace e
 enclosed k e = node.Arith e
 
 -- the name before a field
-abbrev pub label : List Lexeme → List ℕ
+abbrev pub label : List Terminal → List ℕ
 label [] = []
 label (l ∷ []) = name_of (token_in l).kind
 label (k ∷ ls) = label ls

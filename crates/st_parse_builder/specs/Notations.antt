@@ -11,7 +11,7 @@ use Rattle.st_grammar.specs.declared.sort.Leaf.{Leaf}
 use Rattle.st_grammar.specs.declared.sort.Leaf.TheVariants.{Low as low, Basic as basic}
 use Rattle.st_grammar.specs.declared.sort.Bracket.{Bracket}
 use Rattle.st_grammar.specs.declared.sort.Bracket.TheVariants.{Round as round, TickRound as tick_round, TickSquare as tick_square}
-use Rattle.st_grammar.specs.Lexemes.{Lexeme, dot, sign}
+use Rattle.st_grammar.specs.Terminals.{Terminal, dot, sign}
 use Rattle.st_grammar.specs.Trees.{Tree, operand, post, times, bracket, led, Lead, left, ahead, items, Trees, none, more, Heading, plain}
 use Rattle.st_el.specs.declared.ty.Typ.{Typ, out-Typ, roll-Typ}
 use Rattle.st_el.specs.declared.ty.TypNode.{TypNode}
@@ -49,7 +49,7 @@ marked_node m t = typ_node.Star t
 abbrev pub marked : Mark → Typ → Typ
 marked m t = typ_at (typ_place t) (marked_node m t)
 
-abbrev pub marked_by : Lexeme → Typ → Typ
+abbrev pub marked_by : Terminal → Typ → Typ
 marked_by (sign m x) t = marked m t
 marked_by l t = no_typ
 
@@ -99,7 +99,7 @@ atom_on n x =
     notation_at (notation_place n) (spelled_on (out-NotNode (out-Notation n).node) (name_of x.kind))
 
 -- The marks behind a type, whose meaning is the first, are part of it.
-abbrev pub notation_posted : Typ → Notation → Lexeme → Notation
+abbrev pub notation_posted : Typ → Notation → Terminal → Notation
 notation_posted t n (sign m x) = hole (marked m t)
 notation_posted t n (dot x) = atom_on n x
 notation_posted t n l = no_notation

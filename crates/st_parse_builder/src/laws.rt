@@ -6,7 +6,7 @@ ghost use Rattle.st_el.specs.declared.definition.Def.{Def};
 ghost use Rattle.st_grammar.specs.declared.sort.Sort.{Sort};
 ghost use Rattle.st_grammar.specs.declared.sort.Sort.TheVariants.{Typ as typ, Notation as notation};
 ghost use Rattle.st_grammar.specs.Trees.{Tree};
-ghost use Rattle.st_grammar.specs.Lexemes.{Lexeme};
+ghost use Rattle.st_grammar.specs.Terminals.{Terminal};
 ghost use Rattle.st_grammar.specs.Grammar.{Fits};
 ghost use Rattle.st_grammar.specs.Reading.{State, step, reads, start};
 ghost use Rattle.st_parse_builder.specs.declared.piece.Piece.TheVariants.{Done};
@@ -54,15 +54,15 @@ pub fn notations_are_built()
 /// to the end are the actions of the part.
 #[tactic(auto, using(crate::proofs::Emission::emits_next, crate::proofs::Emission::emits_part))]
 pub fn readings_emit()
-    ensures each { (st : State) (l : Lexeme) (next : State)
+    ensures each { (st : State) (l : Terminal) (next : State)
         → step st l ≡ Some next → state_acts next ≡ state_acts st ++ emitted st l }
-    ensures all { (σ : Sort) (us : List Lexeme) (t : Tree)
+    ensures all { (σ : Sort) (us : List Terminal) (t : Tree)
         → reads (start σ) us ≡ Some t → acts t ≡ emissions (start σ) us }
 {}
 
 /// What is emitted while a part is read builds its meaning.
 pub fn emissions_build()
-    ensures { (σ : Sort) (us : List Lexeme) (t : Tree) (s : Stack)
+    ensures { (σ : Sort) (us : List Terminal) (t : Tree) (s : Stack)
         → reads (start σ) us ≡ Some t
         → run (emissions (start σ) us) s ≡ Some (Done (meaning t) ∷ s) }
 {

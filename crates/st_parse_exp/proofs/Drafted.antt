@@ -3,29 +3,29 @@ use Rattle.std.proofs.Common.{◌≡◌, ℕ, List, [], ◌∷◌, ◌++◌, Boo
 use Rattle.st_num.specs.declared.mark.Mark.{Mark}
 use Rattle.st_scan.specs.declared.token.Token.{Token}
 use Rattle.st_grammar.specs.declared.sort.Sort.TheVariants.{Expression as expression}
-use Rattle.st_grammar.specs.Lexemes.{Lexeme, lexeme}
+use Rattle.st_grammar.specs.Terminals.{Terminal, terminal}
 use Rattle.st_grammar.specs.Levels.{is_comma}
 use Rattle.st_grammar.specs.Trees.{Tree, more}
 use Rattle.st_grammar.specs.Grammar.{Fits}
 use Rattle.st_grammar.specs.Definitions.{signed, token_in}
 use Rattle.st_grammar.specs.Reading as part
-use Rattle.st_grammar.proofs.LexemeTokens.{lexeme_token}
+use Rattle.st_grammar.proofs.TerminalTokens.{terminal_token}
 use Rattle.st_grammar.proofs.Steps as steps
 use Rattle.st_grammar.proofs.Completions as completions
-use Rattle.st_grammar.proofs.PlaceSteps.{signed_is}
+use Rattle.st_grammar.proofs.PositionSteps.{signed_is}
 use Rattle.st_el.specs.declared.expression.Exp.{Exp}
 use Rattle.st_parse_builder.specs.declared.action.Action.{Action}
 use Rattle.st_parse_builder.specs.Meaning.{meaning, meanings}
 use Rattle.st_parse_builder.specs.Heights.{height}
 use Rattle.st_parse_builder.specs.Actions.{acts}
 use Rattle.st_parse_builder.proofs.Tallness.{highest_behind}
-use Rattle.st_parse_automaton.specs.declared.outline.Due.TheVariants.{Operand}
-use Rattle.st_parse_automaton.specs.Outline as out
-use Rattle.st_parse_automaton.specs.declared.outline.Shape.{Shape}
+use Rattle.st_parse_automaton.specs.declared.part_automaton.Expected.TheVariants.{Operand}
+use Rattle.st_parse_automaton.specs.PartAutomaton as parts
+use Rattle.st_parse_automaton.specs.declared.part_automaton.Shape.{Shape}
 use Rattle.st_parse_automaton.specs.Shapes.{shape}
 use Rattle.st_parse_automaton.proofs.View.{state_of}
 use Rattle.st_parse_automaton.proofs.Simulation.{step_is}
-use Rattle.st_parse_automaton.proofs.CourseSimulation.{is_some}
+use Rattle.st_parse_automaton.proofs.DefinitionSimulation.{is_some}
 use Rattle.st_parse_actions.specs.Emits.{kept, emits, finishing, on_next, emissions}
 use Rattle.st_parse_actions.proofs.Whole.{part_emits}
 use Rattle.st_parse_exp.specs.Reading.{State, begun, turn, goes, step, start}
@@ -43,7 +43,7 @@ one_more_built es e None o a b = omega (arith, highest_behind height es e, a)
 
 -- ---- an expression that ends
 
-pub turned : {E : Type 0} (b : Bool) (st now : out.State) (s : Shape) (x : Token) (es : Option (List Exp)) (before after : List Mark) (old done new : List Action) (r : Result (Option (List Exp)) E)
+pub turned : {E : Type 0} (b : Bool) (st now : parts.State) (s : Shape) (x : Token) (es : Option (List Exp)) (before after : List Mark) (old done new : List Action) (r : Result (Option (List Exp)) E)
     → b ≡ true → now ≡ st → after ≡ [] → new ≡ [] → done ≡ old
     → ((t : Tree) (fs : List Exp) → Fits (expression false) t → acts t ≡ done ++ finishing now → AreBuilt fs es → IfOk r (λ all. AreBuilt (fs ++ meaning t ∷ []) all))
     → IfOk r (λ all. Takes b st s x (draft es (reverse before) old) (draft all (reverse after) new))
@@ -60,9 +60,9 @@ turned b st now s x es before after old done new (Err fault) e f g h i k = tt
 
 pub record DraftOf (st : State) (d : Draft) : Type 0 where
   pub built : AreBuilt (meanings st.before) d.exps
-  pub now : List Lexeme
+  pub now : List Terminal
   pub read : part.reading (part.start (expression false)) now ≡ Some st.here
-  pub acts : (w : List Lexeme) → emissions (expression false) [] (Operand, []) (now ++ w) ≡ d.actions ++ emissions (expression false) d.marks (state_of st.here) w
+  pub acts : (w : List Terminal) → emissions (expression false) [] (Operand, []) (now ++ w) ≡ d.actions ++ emissions (expression false) d.marks (state_of st.here) w
 
 start_drafted : DraftOf start (draft (Some []) [] [])
 start_drafted = record { built = (refl, omega arith); now = []; read = refl; acts = λ w. refl }
@@ -72,12 +72,12 @@ starts es ms done e f g =
     subst (λ l. DraftOf start (draft (Some l) (reverse ms) done)) (sym e)
     (subst (λ l. DraftOf start (draft (Some []) (reverse l) done)) (sym f) (subst (λ l. DraftOf start (draft (Some []) [] l)) (sym g) start_drafted))
 
-outline_steps : (st : State) (d : Draft) (l : Lexeme) (next : part.State) → DraftOf st d → part.step st.here l ≡ Some next → out.step (expression false) (state_of st.here) (shape l) ≡ Some (state_of next)
-outline_steps st d l next r e =
+part_steps : (st : State) (d : Draft) (l : Terminal) (next : part.State) → DraftOf st d → part.step st.here l ≡ Some next → parts.step (expression false) (state_of st.here) (shape l) ≡ Some (state_of next)
+part_steps st d l next r e =
     let p = steps.reached_by (expression false) r.now st.here r.read in
-    ap (λ σ. out.step σ (state_of st.here) (shape l)) (sym p.based) ∙ step_is st.here l p.holds ∙ ap (option_map state_of) e
+    ap (λ σ. parts.step σ (state_of st.here) (shape l)) (sym p.based) ∙ step_is st.here l p.holds ∙ ap (option_map state_of) e
 
-goes_on : (st : State) (d : Draft) (l : Lexeme) (next : part.State) → DraftOf st d → part.step st.here l ≡ Some next
+goes_on : (st : State) (d : Draft) (l : Terminal) (next : part.State) → DraftOf st d → part.step st.here l ≡ Some next
     → DraftOf (at st.before st.apart next)
     (draft d.exps (kept (expression false) d.marks (state_of st.here) (shape l)) (d.actions ++ emits (expression false) d.marks (state_of st.here) (shape l) (token_in l)))
 goes_on st d l next r e =
@@ -94,7 +94,7 @@ goes_on st d l next r e =
       acts = λ w.
           ap (emissions σ [] (Operand, [])) (append_assoc r.now (l ∷ []) w)
           ∙ r.acts (l ∷ w)
-          ∙ ap (λ o. d.actions ++ (added ++ on_next (λ s. emissions σ ms s w) o)) (outline_steps st d l next r e)
+          ∙ ap (λ o. d.actions ++ (added ++ on_next (λ s. emissions σ ms s w) o)) (part_steps st d l next r e)
           ∙ sym (append_assoc d.actions added (emissions σ ms (state_of next) w));
     }
 
@@ -105,7 +105,7 @@ end_acts st d t r e =
     ∙ ap (emissions (expression false) [] (Operand, [])) (sym (append-nil r.now))
     ∙ r.acts []
 
-turns : (st : State) (d e : Draft) (l : Lexeme) (t : Tree) → DraftOf st d → part.finish st.here ≡ Some t → Ends (state_of st.here) d e → DraftOf (begun (more st.before st.apart t) (l ∷ [])) e
+turns : (st : State) (d e : Draft) (l : Terminal) (t : Tree) → DraftOf st d → part.finish st.here ≡ Some t → Ends (state_of st.here) d e → DraftOf (begun (more st.before st.apart t) (l ∷ [])) e
 turns st d e l t r f n =
     let p = steps.sound (expression false) r.now st.here t r.read f in
     record {
@@ -119,7 +119,7 @@ turns st d e l t r f n =
 
 -- ---- one token
 
-passes_step : (s : Seen) (x : Token) (l : Lexeme) (o : Option State) (last : Seen) → judged s x l o ≡ passed last → o ≡ Some last.state
+passes_step : (s : Seen) (x : Token) (l : Terminal) (o : Option State) (last : Seen) → judged s x l o ≡ passed last → o ≡ Some last.state
 passes_step s x l None last e = absurd (cc)
 passes_step s x l (Some next) last e =
     let t = seen_after s l next in
@@ -130,11 +130,11 @@ passes_step s x l (Some next) last e =
     go t false true f = absurd (cc)
     go t false false f = let is : t ≡ last = cc in ap (λ u. Some u.state) is
 
-abbrev Takes_by : State → Lexeme → Bool → Draft → Draft → Type 0
+abbrev Takes_by : State → Terminal → Bool → Draft → Draft → Type 0
 Takes_by st l b d e = Takes b (state_of st.here) (shape l) (token_in l) d e
 
 -- a comma behind a whole expression is none of it
-whole_turns : (st : State) (l : Lexeme) (next : part.State) → part.step st.here l ≡ Some next → (signed is_comma l && is_some (part.finish st.here)) ≡ true → ⊥
+whole_turns : (st : State) (l : Terminal) (next : part.State) → part.step st.here l ≡ Some next → (signed is_comma l && is_some (part.finish st.here)) ≡ true → ⊥
 whole_turns st l next e b = go (part.finish st.here) refl (signed is_comma l) refl b
   where
     go : (q : Option Tree) → part.finish st.here ≡ q → (c : Bool) → signed is_comma l ≡ c → (signed is_comma l && is_some (part.finish st.here)) ≡ true → ⊥
@@ -149,7 +149,7 @@ whole_turns st l next e b = go (part.finish st.here) refl (signed is_comma l) re
         let n : part.step st.here l ≡ None = ap (part.step st.here) s.2 ∙ comma_ends s.0 s.1 st.here t s.3 f in
         absurd (cc)
 
-steps_draft : (st last : State) (l : Lexeme) (d e : Draft) → DraftOf st d → Takes_by st l (signed is_comma l && is_some (part.finish st.here)) d e → step st l ≡ Some last → DraftOf last e
+steps_draft : (st last : State) (l : Terminal) (d e : Draft) → DraftOf st d → Takes_by st l (signed is_comma l && is_some (part.finish st.here)) d e → step st l ≡ Some last → DraftOf last e
 steps_draft st last l d e r k h = go (part.step st.here l) refl h
   where
     on : (next : part.State) → part.step st.here l ≡ Some next → (b : Bool) → (signed is_comma l && is_some (part.finish st.here)) ≡ b → Takes_by st l b d e → DraftOf (at st.before st.apart next) e
@@ -173,9 +173,9 @@ steps_draft st last l d e r k h = go (part.step st.here l) refl h
     go None i j = ends (part.finish st.here) refl j
 
 pub drafted : (names : List (List ℕ)) (s last : Seen) (x : Token) (d e : Draft) → DraftOf s.state d → judge names s x ≡ passed last
-    → Takes (signed is_comma (lexeme names x) && is_some (part.finish s.state.here)) (state_of s.state.here) (shape (lexeme names x)) x d e
+    → Takes (signed is_comma (terminal names x) && is_some (part.finish s.state.here)) (state_of s.state.here) (shape (terminal names x)) x d e
     → DraftOf last.state e
 drafted names s last x d e r p k =
-    steps_draft s.state last.state (lexeme names x) d e r
-    (subst (λ y. Takes (signed is_comma (lexeme names x) && is_some (part.finish s.state.here)) (state_of s.state.here) (shape (lexeme names x)) y d e) (sym (lexeme_token names x)) k)
-    (passes_step s x (lexeme names x) (step s.state (lexeme names x)) last p)
+    steps_draft s.state last.state (terminal names x) d e r
+    (subst (λ y. Takes (signed is_comma (terminal names x) && is_some (part.finish s.state.here)) (state_of s.state.here) (shape (terminal names x)) y d e) (sym (terminal_token names x)) k)
+    (passes_step s x (terminal names x) (step s.state (terminal names x)) last p)

@@ -5,9 +5,9 @@ use Rattle.std.proofs.lemmas.List.{take-append-drop, take_more, take_all, get_or
 use Rattle.st_num.specs.declared.rule.RuleId.{RuleId}
 use Rattle.st_num.specs.declared.rule.RuleId.TheVariants.{S1, S2, S3, S4}
 use Rattle.st_scan.specs.declared.token.Token.{Token}
-use Rattle.st_grammar.specs.Lexemes.{Lexeme, lexeme}
+use Rattle.st_grammar.specs.Terminals.{Terminal, terminal}
 use Rattle.st_parse_automaton.proofs.Exact.{take_shorter}
-use Rattle.st_parse_exp.specs.Expressions.{ParseExpressions, lexemes_of, AreExpressions, IsViable, RefusedAt}
+use Rattle.st_parse_exp.specs.Expressions.{ParseExpressions, terminals_of, AreExpressions, IsViable, RefusedAt}
 use Rattle.st_parse_exp.specs.Reading.{State, start, step, finish, reading}
 use Rattle.st_parse_exp.specs.Faults.{Seen, Verdict, passed, broken, opens_too_many, passes_limit, limited, seen_after, judged, judge, judge_all, verdict, Faultless, FirstFault}
 use Rattle.st_parse_exp.proofs.Readings.{reading_append, complete, sound, viable, dead}
@@ -15,7 +15,7 @@ use Rattle.st_parse_exp.proofs.Verdicts.{judge_next, never_passes, verdict_more,
 
 -- ---- tokens
 
-last_step : (us : List Lexeme) (l : Lexeme) (st : State) → reading start us ≡ Some st → reading start (us ++ l ∷ []) ≡ step st l
+last_step : (us : List Terminal) (l : Terminal) (st : State) → reading start us ≡ Some st → reading start (us ++ l ∷ []) ≡ step st l
 last_step us l st e = reading_append start us (l ∷ []) ∙ ap (option_and_then (λ next. reading next (l ∷ []))) e ∙ go (step st l)
   where
     go : (o : Option State) → option_and_then (λ next. reading next []) o ≡ o
@@ -24,14 +24,14 @@ last_step us l st e = reading_append start us (l ∷ []) ∙ ap (option_and_then
 
 -- one more token is that of the list
 one_more : (names : List (List ℕ)) (tokens : List Token) (i : ℕ) (d : Token) → i < length tokens
-    → take (i + 1) (lexemes_of names tokens) ≡ take i (lexemes_of names tokens) ++ lexeme names (get_or tokens i d) ∷ []
+    → take (i + 1) (terminals_of names tokens) ≡ take i (terminals_of names tokens) ++ terminal names (get_or tokens i d) ∷ []
 one_more names tokens i d h =
-    let f = lexeme names in
+    let f = terminal names in
     take_more (map f tokens) i (f d) (omega (arith, length-map tokens f))
     ∙ ap (λ l. take i (map f tokens) ++ l ∷ []) (get_or-map f tokens i d (f d) h)
 
-pub whole_list : (names : List (List ℕ)) (tokens : List Token) (i : ℕ) → length tokens ≤ i → take i (lexemes_of names tokens) ≡ lexemes_of names tokens
-whole_list names tokens i h = take_all i (lexemes_of names tokens) (omega (arith, length-map tokens (lexeme names)))
+pub whole_list : (names : List (List ℕ)) (tokens : List Token) (i : ℕ) → length tokens ≤ i → take i (terminals_of names tokens) ≡ terminals_of names tokens
+whole_list names tokens i h = take_all i (terminals_of names tokens) (omega (arith, length-map tokens (terminal names)))
 
 -- ---- fronts
 
@@ -54,7 +54,7 @@ front_passes names tokens j k last h g e =
         absurd (never_passes names r (drop j (take k tokens)) last (ap (λ v. judge_all names v (drop j (take k tokens))) (sym f) ∙ i))
 
 pub passes_viable : (names : List (List ℕ)) (tokens : List Token) (k : ℕ) (seen : Seen) → verdict names tokens k ≡ passed seen → IsViable names tokens k
-passes_viable names tokens k seen e = viable names (take k (lexemes_of names tokens)) seen.state (verdict_reads names tokens k seen e)
+passes_viable names tokens k seen e = viable names (take k (terminals_of names tokens)) seen.state (verdict_reads names tokens k seen e)
 
 -- ---- one fault
 
@@ -74,8 +74,8 @@ none_earlier names tokens j k q r (inl f) g h =
     absurd (cc)
 none_earlier names tokens j k q r (inr f) g h = absurd (omega (arith, f.0, fault_within names tokens k r g))
 
-pub one_place : (names : List (List ℕ)) (tokens : List Token) (j k : ℕ) (q r : RuleId) → FirstFault names tokens j q → FirstFault names tokens k r → j ≡ k
-one_place names tokens j k q r f g = go (nat_lt j k) refl (nat_lt k j) refl
+pub one_token : (names : List (List ℕ)) (tokens : List Token) (j k : ℕ) (q r : RuleId) → FirstFault names tokens j q → FirstFault names tokens k r → j ≡ k
+one_token names tokens j k q r f g = go (nat_lt j k) refl (nat_lt k j) refl
   where
     go : (b : Bool) → nat_lt j k ≡ b → (c : Bool) → nat_lt k j ≡ c → j ≡ k
     go true e c i = absurd (none_earlier names tokens j k q r f g (grind arith))
@@ -90,7 +90,7 @@ same_rule names tokens k q r (inr f) (inr g) = f.1 ∙ sym g.1
 
 pub one_fault : (names : List (List ℕ)) (tokens : List Token) (j k : ℕ) (q r : RuleId) → FirstFault names tokens j q → FirstFault names tokens k r → (j ≡ k) × (q ≡ r)
 one_fault names tokens j k q r f g =
-    let e = one_place names tokens j k q r f g in
+    let e = one_token names tokens j k q r f g in
     (e, same_rule names tokens k q r (subst (λ n. FirstFault names tokens n q) e f) g)
 
 pub never_both : (names : List (List ℕ)) (tokens : List Token) (k : ℕ) (r : RuleId) → FirstFault names tokens k r → Faultless names tokens → ⊥
@@ -108,13 +108,13 @@ never_both names tokens k r (inr f) s =
 
 pub are_expressions : (names : List (List ℕ)) (tokens : List Token) → Faultless names tokens → AreExpressions names tokens
 are_expressions names tokens s =
-    (s.1, subst (λ us. ParseExpressions us s.1) (whole_list names tokens (length tokens) (omega arith)) (sound (take (length tokens) (lexemes_of names tokens)) s.0.state s.1 (verdict_reads names tokens (length tokens) s.0 s.2) s.3))
+    (s.1, subst (λ us. ParseExpressions us s.1) (whole_list names tokens (length tokens) (omega arith)) (sound (take (length tokens) (terminals_of names tokens)) s.0.state s.1 (verdict_reads names tokens (length tokens) s.0 s.2) s.3))
 
 -- a rule that is no limit
 abbrev pub OfGrammar : RuleId → Type 0
 OfGrammar r = (r ≡ S2 → ⊥) × (r ≡ S3 → ⊥)
 
-pub not_read : (seen : Seen) (x : Token) (l : Lexeme) (o : Option State) (r : RuleId) → judged seen x l o ≡ broken r → OfGrammar r → o ≡ None
+pub not_read : (seen : Seen) (x : Token) (l : Terminal) (o : Option State) (r : RuleId) → judged seen x l o ≡ broken r → OfGrammar r → o ≡ None
 not_read seen x l None r e h = refl
 not_read seen x l (Some next) r e h =
     let s = seen_after seen l next in
@@ -133,24 +133,24 @@ pub dead_next : (names : List (List ℕ)) (tokens : List Token) (k : ℕ) (r : R
     → IsViable names tokens (k + 1) → ⊥
 dead_next names tokens k r seen d h g e f v =
     let x = get_or tokens k d in
-    let l = lexeme names x in
-    let us = take k (lexemes_of names tokens) in
+    let l = terminal names x in
+    let us = take k (terminals_of names tokens) in
     let read = verdict_reads names tokens k seen e in
     let next : judge names seen x ≡ broken r = ap (λ w. judge_next names w x) (sym e) ∙ sym (verdict_more names tokens k d g) ∙ f in
     let none = not_read seen x l (step seen.state l) r next h in
-    dead names (take (k + 1) (lexemes_of names tokens)) (ap (reading start) (one_more names tokens k d g) ∙ last_step us l seen.state read ∙ none) v
+    dead names (take (k + 1) (terminals_of names tokens)) (ap (reading start) (one_more names tokens k d g) ∙ last_step us l seen.state read ∙ none) v
 
 pub is_refused : (names : List (List ℕ)) (tokens : List Token) (k : ℕ) (r : RuleId) → OfGrammar r → FirstFault names tokens k r → RefusedAt names tokens k
 is_refused names tokens k r h (inl (g, (seen, e), f)) = inl (g, passes_viable names tokens k seen e, dead_next names tokens k r seen (some_token tokens k g) h g e f)
 is_refused names tokens k r h (inr (e, i, (seen, f, n))) =
-    let us = take k (lexemes_of names tokens) in
-    let all : us ≡ lexemes_of names tokens = whole_list names tokens k (omega (arith, e)) in
+    let us = take k (terminals_of names tokens) in
+    let all : us ≡ terminals_of names tokens = whole_list names tokens k (omega (arith, e)) in
     inr (
       e,
       passes_viable names tokens k seen f,
       λ s.
-          let done = complete (lexemes_of names tokens) s.0 s.1 in
-          let nothing : option_and_then finish (reading start (lexemes_of names tokens)) ≡ None = ap (option_and_then finish) (ap (reading start) (sym all) ∙ verdict_reads names tokens k seen f) ∙ n in
+          let done = complete (terminals_of names tokens) s.0 s.1 in
+          let nothing : option_and_then finish (reading start (terminals_of names tokens)) ≡ None = ap (option_and_then finish) (ap (reading start) (sym all) ∙ verdict_reads names tokens k seen f) ∙ n in
           absurd (cc),
     )
 

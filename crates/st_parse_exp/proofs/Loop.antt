@@ -4,38 +4,38 @@ use Rattle.std.proofs.lemmas.List.{take_all}
 use Rattle.st_num.specs.declared.rule.RuleId.{RuleId}
 use Rattle.st_num.specs.declared.rule.RuleId.TheVariants.{S1}
 use Rattle.st_scan.specs.declared.token.Token.{Token}
-use Rattle.st_grammar.specs.Lexemes.{lexeme}
+use Rattle.st_grammar.specs.Terminals.{terminal}
 use Rattle.st_grammar.specs.Trees.{Tree, Trees}
 use Rattle.st_grammar.specs.Reading as part
-use Rattle.st_grammar.specs.Places as places
-use Rattle.st_grammar.proofs.PlaceTexts as texts
-use Rattle.st_parse_automaton.specs.declared.place.Lexeme.{Lexeme}
-use Rattle.st_parse_automaton.specs.Course as course
-use Rattle.st_parse_automaton.specs.Shapes.{lexeme_of}
+use Rattle.st_grammar.specs.Positions as positions
+use Rattle.st_grammar.proofs.PositionTexts as texts
+use Rattle.st_parse_automaton.specs.declared.position.TokenClass.{TokenClass}
+use Rattle.st_parse_automaton.specs.DefinitionAutomaton as definitions
+use Rattle.st_parse_automaton.specs.Shapes.{class_of}
 use Rattle.st_parse_automaton.specs.Readings.{progress_of}
-use Rattle.st_parse_automaton.proofs.CourseSimulation.{is_some}
+use Rattle.st_parse_automaton.proofs.DefinitionSimulation.{is_some}
 use Rattle.st_parse_faults.specs.declared.judge.Seen.{Seen as CodeSeen}
 use Rattle.st_parse_faults.specs.declared.judge.Verdict.{Verdict as Code}
 use Rattle.st_parse_faults.specs.declared.judge.Verdict.TheVariants as code
 use Rattle.st_parse_faults.specs.Seen as seen
-use Rattle.st_parse_exp.specs.Expressions.{lexemes_of}
+use Rattle.st_parse_exp.specs.Expressions.{terminals_of}
 use Rattle.st_parse_exp.specs.Reading.{whole}
 use Rattle.st_parse_exp.specs.Faults.{Seen, Verdict, passed, broken, judge, judge_all, verdict, nothing_seen, Faultless, FirstFault}
 use Rattle.st_parse_exp.specs.Seen as spec
 use Rattle.st_parse_exp.proofs.Readings.{reached}
-use Rattle.st_parse_exp.proofs.SeenView.{slot, rule_holds, outline_of, verdict_view, judge_is, may_end_as}
+use Rattle.st_parse_exp.proofs.SeenView.{slot, rule_holds, summary_of, verdict_view, judge_is, may_end_as}
 use Rattle.st_parse_exp.proofs.Verdicts.{judge_next, verdict_more, verdict_reads}
 
 -- these tokens passed up to here
 abbrev pub Passes : List (List ℕ) → List Token → ℕ → CodeSeen → Type 0
-Passes names tokens k p = (s : Seen) × (verdict names tokens k ≡ passed s) × (outline_of s ≡ seen.outline_of p)
+Passes names tokens k p = (s : Seen) × (verdict names tokens k ≡ passed s) × (summary_of s ≡ seen.summary_of p)
 
-pub passes_holds : (names : List (List ℕ)) (tokens : List Token) (k : ℕ) (s : Seen) → verdict names tokens k ≡ passed s → texts.Holds (places.inside slot s.state.here)
+pub passes_holds : (names : List (List ℕ)) (tokens : List Token) (k : ℕ) (s : Seen) → verdict names tokens k ≡ passed s → texts.Holds (positions.inside slot s.state.here)
 passes_holds names tokens k s e =
-    let r = reached (take k (lexemes_of names tokens)) s.state (verdict_reads names tokens k s e) in
+    let r = reached (take k (terminals_of names tokens)) s.state (verdict_reads names tokens k s e) in
     rule_holds s.state.here r.now r.read
 
-pub view_passes : (v : Verdict) (w : seen.Outline) → verdict_view v ≡ seen.passed w → (s : Seen) × (v ≡ passed s) × (outline_of s ≡ w)
+pub view_passes : (v : Verdict) (w : seen.Summary) → verdict_view v ≡ seen.passed w → (s : Seen) × (v ≡ passed s) × (summary_of s ≡ w)
 view_passes (passed s) w e = (s, refl, cc)
 view_passes (broken r) w e = absurd (cc)
 
@@ -44,27 +44,27 @@ view_breaks (passed s) r e = absurd (cc)
 view_breaks (broken q) r e = let f : q ≡ r = cc in ap broken f
 
 -- the verdict on the token of the list
-pub at_token : (tokens : List Token) (names : List (List ℕ)) (i : ℕ) (x : Token) (l : Lexeme) (p : CodeSeen) (w : seen.Verdict) → i < length tokens → Passes names tokens i p
-    → x ≡ get_or tokens i x → l ≡ lexeme_of (lexeme names x) → w ≡ spec.judge (seen.outline_of p) x.kind l
+pub at_token : (tokens : List Token) (names : List (List ℕ)) (i : ℕ) (x : Token) (l : TokenClass) (p : CodeSeen) (w : seen.Verdict) → i < length tokens → Passes names tokens i p
+    → x ≡ get_or tokens i x → l ≡ class_of (terminal names x) → w ≡ spec.judge (seen.summary_of p) x.kind l
     → w ≡ verdict_view (verdict names tokens (i + 1))
 at_token tokens names i x l p w h (s, e, o) t k f =
     f
-    ∙ ap (spec.judge (seen.outline_of p) x.kind) k
-    ∙ ap (λ v. spec.judge v x.kind (lexeme_of (lexeme names x))) (sym o)
+    ∙ ap (spec.judge (seen.summary_of p) x.kind) k
+    ∙ ap (λ v. spec.judge v x.kind (class_of (terminal names x))) (sym o)
     ∙ judge_is names s x (passes_holds names tokens i s e)
     ∙ ap (λ y. verdict_view (judge names s y)) t
     ∙ ap (λ v. verdict_view (judge_next names v (get_or tokens i x))) (sym e)
     ∙ ap verdict_view (sym (verdict_more names tokens i x h))
 
-pub token_passes : (tokens : List Token) (names : List (List ℕ)) (i : ℕ) (x : Token) (l : Lexeme) (p : CodeSeen) (v : Code) (q : CodeSeen) → i < length tokens → Passes names tokens i p
-    → x ≡ get_or tokens i x → l ≡ lexeme_of (lexeme names x) → seen.verdict_of v ≡ spec.judge (seen.outline_of p) x.kind l → v ≡ code.Passed q
+pub token_passes : (tokens : List Token) (names : List (List ℕ)) (i : ℕ) (x : Token) (l : TokenClass) (p : CodeSeen) (v : Code) (q : CodeSeen) → i < length tokens → Passes names tokens i p
+    → x ≡ get_or tokens i x → l ≡ class_of (terminal names x) → seen.verdict_of v ≡ spec.judge (seen.summary_of p) x.kind l → v ≡ code.Passed q
     → Passes names tokens (i + 1) q
 token_passes tokens names i x l p v q h a t k f e =
-    view_passes (verdict names tokens (i + 1)) (seen.outline_of q)
+    view_passes (verdict names tokens (i + 1)) (seen.summary_of q)
     (sym (at_token tokens names i x l p (seen.verdict_of v) h a t k f) ∙ ap seen.verdict_of e)
 
-pub token_breaks : (tokens : List Token) (names : List (List ℕ)) (i : ℕ) (x : Token) (l : Lexeme) (p : CodeSeen) (v : Code) (r : RuleId) → i < length tokens → Passes names tokens i p
-    → x ≡ get_or tokens i x → l ≡ lexeme_of (lexeme names x) → seen.verdict_of v ≡ spec.judge (seen.outline_of p) x.kind l → v ≡ code.Broken r
+pub token_breaks : (tokens : List Token) (names : List (List ℕ)) (i : ℕ) (x : Token) (l : TokenClass) (p : CodeSeen) (v : Code) (r : RuleId) → i < length tokens → Passes names tokens i p
+    → x ≡ get_or tokens i x → l ≡ class_of (terminal names x) → seen.verdict_of v ≡ spec.judge (seen.summary_of p) x.kind l → v ≡ code.Broken r
     → FirstFault names tokens i r
 token_breaks tokens names i x l p v r h a t k f e =
     inl (
@@ -87,16 +87,16 @@ whole_none : (s : Seen) (q : Option Tree) → is_some q ≡ false → whole s.st
 whole_none s None e = refl
 whole_none s (Some t) e = absurd (cc)
 
-pub ends_well : (names : List (List ℕ)) (tokens : List Token) (i : ℕ) (p : CodeSeen) (b : Bool) → length tokens ≤ i → Passes names tokens i p → b ≡ course.may_end (progress_of p.progress) → b ≡ true → Faultless names tokens
+pub ends_well : (names : List (List ℕ)) (tokens : List Token) (i : ℕ) (p : CodeSeen) (b : Bool) → length tokens ≤ i → Passes names tokens i p → b ≡ definitions.may_end (progress_of p.progress) → b ≡ true → Faultless names tokens
 ends_well names tokens i p b h (s, e, o) f t =
-    let yes : is_some (part.finish s.state.here) ≡ true = sym (may_end_as s (passes_holds names tokens i s e)) ∙ ap (λ v. course.may_end v.state) o ∙ sym f ∙ t in
+    let yes : is_some (part.finish s.state.here) ≡ true = sym (may_end_as s (passes_holds names tokens i s e)) ∙ ap (λ v. definitions.may_end v.state) o ∙ sym f ∙ t in
     let r = whole_some s (part.finish s.state.here) yes in
     (s, r.0, sym (all_tokens names tokens i h) ∙ e, r.1)
 
-pub ends_early : (names : List (List ℕ)) (tokens : List Token) (i : ℕ) (p : CodeSeen) (b : Bool) → length tokens ≤ i → Passes names tokens i p → b ≡ course.may_end (progress_of p.progress) → b ≡ false
+pub ends_early : (names : List (List ℕ)) (tokens : List Token) (i : ℕ) (p : CodeSeen) (b : Bool) → length tokens ≤ i → Passes names tokens i p → b ≡ definitions.may_end (progress_of p.progress) → b ≡ false
     → FirstFault names tokens (length tokens) S1
 ends_early names tokens i p b h (s, e, o) f t =
-    let no : is_some (part.finish s.state.here) ≡ false = sym (may_end_as s (passes_holds names tokens i s e)) ∙ ap (λ v. course.may_end v.state) o ∙ sym f ∙ t in
+    let no : is_some (part.finish s.state.here) ≡ false = sym (may_end_as s (passes_holds names tokens i s e)) ∙ ap (λ v. definitions.may_end v.state) o ∙ sym f ∙ t in
     inr (refl, refl, (s, sym (all_tokens names tokens i h) ∙ e, whole_none s (part.finish s.state.here) no))
 
 pub bounded : (v : Code) (q : CodeSeen) → v ≡ code.Passed q → seen.IsBounded v → seen.SeenKept q

@@ -4,27 +4,27 @@ use Rattle.st_num.specs.declared.rule.RuleId.{RuleId}
 use Rattle.st_scan.specs.declared.token.Token.{Token}
 use Rattle.st_grammar.specs.declared.sort.Bracket.{Bracket}
 use Rattle.st_grammar.specs.declared.sort.Sort.TheVariants.{Expression as expression}
-use Rattle.st_grammar.specs.Lexemes.{lexeme}
+use Rattle.st_grammar.specs.Terminals.{terminal}
 use Rattle.st_grammar.specs.Levels.{is_comma}
 use Rattle.st_grammar.specs.Trees.{Tree, more}
 use Rattle.st_grammar.specs.Grammar.{Fits}
 use Rattle.st_grammar.specs.Definitions.{signed}
 use Rattle.st_grammar.specs.Reading as part
-use Rattle.st_grammar.specs.Places as places
+use Rattle.st_grammar.specs.Positions as positions
 use Rattle.st_grammar.proofs.Steps as steps
 use Rattle.st_el.specs.declared.expression.Exp.{Exp}
 use Rattle.st_parse_builder.specs.Meaning.{meaning, meanings}
 use Rattle.st_parse_builder.specs.Heights.{highest, height}
 use Rattle.st_parse_builder.specs.Actions.{acts}
-use Rattle.st_parse_automaton.specs.declared.place.Lexeme.{Lexeme}
-use Rattle.st_parse_automaton.specs.declared.place.Slot.{Slot}
-use Rattle.st_parse_automaton.specs.Outline as out
-use Rattle.st_parse_automaton.specs.Course as course
-use Rattle.st_parse_automaton.specs.Shapes.{lexeme_of}
+use Rattle.st_parse_automaton.specs.declared.position.TokenClass.{TokenClass}
+use Rattle.st_parse_automaton.specs.declared.position.Slot.{Slot}
+use Rattle.st_parse_automaton.specs.PartAutomaton as parts
+use Rattle.st_parse_automaton.specs.DefinitionAutomaton as definitions
+use Rattle.st_parse_automaton.specs.Shapes.{class_of}
 use Rattle.st_parse_automaton.specs.Readings.{progress_of}
 use Rattle.st_parse_automaton.proofs.View.{state_of}
-use Rattle.st_parse_automaton.proofs.CourseView.{course_of, slot_of, slot_open}
-use Rattle.st_parse_automaton.proofs.CourseSimulation.{is_some}
+use Rattle.st_parse_automaton.proofs.DefinitionView.{definitions_of, slot_of, slot_open}
+use Rattle.st_parse_automaton.proofs.DefinitionSimulation.{is_some}
 use Rattle.st_parse_faults.specs.declared.judge.Seen.{Seen as CodeSeen}
 use Rattle.st_parse_faults.specs.declared.judge.Verdict.{Verdict as Code}
 use Rattle.st_parse_faults.specs.declared.judge.Verdict.TheVariants as code
@@ -33,14 +33,14 @@ use Rattle.st_parse_faults.specs.Seen as seen
 use Rattle.st_parse_actions.specs.Emits.{finishing}
 use Rattle.st_num.specs.declared.fault.Fault.{Fault as SyntaxFault}
 use Rattle.st_num.specs.declared.fault.Fault.TheVariants.{Refused, Memory}
-use Rattle.st_parse_exp.specs.Expressions.{ParseExpressions, lexemes_of}
+use Rattle.st_parse_exp.specs.Expressions.{ParseExpressions, terminals_of}
 use Rattle.st_parse_exp.specs.Reading.{finish, whole}
 use Rattle.st_parse_exp.specs.Faults.{Seen, passed, judge, verdict, FirstFault}
 use Rattle.st_parse_exp.specs.Seen as spec
 use Rattle.st_parse_exp.specs.Drafts.{AreBuilt, Draft, Takes}
 use Rattle.st_parse_exp.specs.Parse.{ParseExps, IsFile, AreWhole, Answers}
 use Rattle.st_parse_exp.proofs.Readings.{one_list, sound}
-use Rattle.st_parse_exp.proofs.SeenView.{slot, outline_of, separates_is, may_end_as}
+use Rattle.st_parse_exp.proofs.SeenView.{slot, summary_of, separates_is, may_end_as}
 use Rattle.st_parse_exp.proofs.Verdicts.{judge_next, verdict_more, verdict_reads}
 use Rattle.st_parse_exp.proofs.Exact.{whole_list}
 use Rattle.st_parse_exp.proofs.Loop.{Passes, passes_holds, token_passes, all_tokens}
@@ -48,29 +48,29 @@ use Rattle.st_parse_exp.proofs.Drafted.{DraftOf, drafted, end_acts}
 
 -- these tokens passed up to here, and this is built of them
 abbrev pub Drafting : List (List ℕ) → List Token → ℕ → CodeSeen → Draft → Type 0
-Drafting names tokens k p d = (s : Seen) × (verdict names tokens k ≡ passed s) × (outline_of s ≡ seen.outline_of p) × DraftOf s.state d
+Drafting names tokens k p d = (s : Seen) × (verdict names tokens k ≡ passed s) × (summary_of s ≡ seen.summary_of p) × DraftOf s.state d
 
 pub passing : (names : List (List ℕ)) (tokens : List Token) (k : ℕ) (p : CodeSeen) (d : Draft) → Drafting names tokens k p d → Passes names tokens k p
 passing names tokens k p d (s, e, o, r) = (s, e, o)
 
 -- what a token is said to make of what is built
-abbrev pub Taken : CodeSeen → Lexeme → Token → Draft → Draft → Type 0
+abbrev pub Taken : CodeSeen → TokenClass → Token → Draft → Draft → Type 0
 Taken p l x d e =
-    (k : Slot) (st : out.State) (ks : List Bracket) → progress_of p.progress ≡ course.inside k st ks → Takes (spec.separates (progress_of p.progress) l) st l.shape x d e
+    (k : Slot) (st : parts.State) (ks : List Bracket) → progress_of p.progress ≡ definitions.inside k st ks → Takes (spec.separates (progress_of p.progress) l) st l.shape x d e
 
-inside_is : (s : Seen) (p : CodeSeen) → outline_of s ≡ seen.outline_of p → progress_of p.progress ≡ course.inside (slot_of slot) (state_of s.state.here) (slot_open slot)
+inside_is : (s : Seen) (p : CodeSeen) → summary_of s ≡ seen.summary_of p → progress_of p.progress ≡ definitions.inside (slot_of slot) (state_of s.state.here) (slot_open slot)
 inside_is s p o = sym (ap (λ v. v.state) o)
 
-pub token_drafts : (tokens : List Token) (names : List (List ℕ)) (i : ℕ) (x : Token) (l : Lexeme) (p : CodeSeen) (v : Code) (q : CodeSeen) (d e : Draft) → i < length tokens → Drafting names tokens i p d
-    → x ≡ get_or tokens i x → l ≡ lexeme_of (lexeme names x) → seen.verdict_of v ≡ spec.judge (seen.outline_of p) x.kind l → v ≡ code.Passed q → Taken p l x d e
+pub token_drafts : (tokens : List Token) (names : List (List ℕ)) (i : ℕ) (x : Token) (l : TokenClass) (p : CodeSeen) (v : Code) (q : CodeSeen) (d e : Draft) → i < length tokens → Drafting names tokens i p d
+    → x ≡ get_or tokens i x → l ≡ class_of (terminal names x) → seen.verdict_of v ≡ spec.judge (seen.summary_of p) x.kind l → v ≡ code.Passed q → Taken p l x d e
     → Drafting names tokens (i + 1) q e
 token_drafts tokens names i x l p v q d e h (s, f, o, r) t k g c n =
     let next = token_passes tokens names i x l p v q h (s, f, o) t k g c in
-    let lx = lexeme names x in
+    let lx = terminal names x in
     let inside = inside_is s p o in
     let apart : spec.separates (progress_of p.progress) l ≡ (signed is_comma lx && is_some (part.finish s.state.here)) =
     ap (λ st. spec.separates st l) inside
-    ∙ ap (spec.separates (course_of (places.inside slot s.state.here))) k
+    ∙ ap (spec.separates (definitions_of (positions.inside slot s.state.here))) k
     ∙ separates_is s lx (passes_holds names tokens i s f) in
     let one : judge names s x ≡ passed next.0 =
     ap (judge names s) t
@@ -98,7 +98,7 @@ whole_answers names tokens es (Err Memory) f w = tt
 -- what is said of the last expression
 abbrev pub Last : List Token → CodeSeen → Draft → Result (List Exp) SyntaxFault → Type 0
 Last tokens p d result =
-    (k : Slot) (st : out.State) (ks : List Bracket) (t : Tree) (es : List Exp) → progress_of p.progress ≡ course.inside k st ks → Fits (expression false) t → acts t ≡ d.actions ++ finishing st → AreBuilt es d.exps
+    (k : Slot) (st : parts.State) (ks : List Bracket) (t : Tree) (es : List Exp) → progress_of p.progress ≡ definitions.inside k st ks → Fits (expression false) t → acts t ≡ d.actions ++ finishing st → AreBuilt es d.exps
     → AreWhole tokens (es ++ meaning t ∷ []) result
 
 found : (q : Option Tree) → is_some q ≡ true → (t : Tree) × (q ≡ Some t)
@@ -106,15 +106,15 @@ found None e = absurd (cc)
 found (Some t) e = (t, refl)
 
 pub answers : (names : List (List ℕ)) (tokens : List Token) (i : ℕ) (p : CodeSeen) (d : Draft) (b : Bool) (result : Result (List Exp) SyntaxFault) → length tokens ≤ i → Drafting names tokens i p d
-    → b ≡ course.may_end (progress_of p.progress) → b ≡ true → Last tokens p d result → Answers names tokens result
+    → b ≡ definitions.may_end (progress_of p.progress) → b ≡ true → Last tokens p d result → Answers names tokens result
 answers names tokens i p d b result h (s, e, o, r) f t n =
-    let yes : is_some (part.finish s.state.here) ≡ true = sym (may_end_as s (passes_holds names tokens i s e)) ∙ ap (λ v. course.may_end v.state) o ∙ sym f ∙ t in
+    let yes : is_some (part.finish s.state.here) ≡ true = sym (may_end_as s (passes_holds names tokens i s e)) ∙ ap (λ v. definitions.may_end v.state) o ∙ sym f ∙ t in
     let u = found (part.finish s.state.here) yes in
     let fits = (steps.sound (expression false) r.now s.state.here u.0 r.read u.1).fits in
     let ts = more s.state.before s.state.apart u.0 in
     let last : verdict names tokens (length tokens) ≡ passed s = sym (all_tokens names tokens i h) ∙ e in
     let trees : finish s.state ≡ Some ts = ap (whole s.state) u.1 in
-    let grammar = sound (take (length tokens) (lexemes_of names tokens)) s.state ts (verdict_reads names tokens (length tokens) s last) trees in
+    let grammar = sound (take (length tokens) (terminals_of names tokens)) s.state ts (verdict_reads names tokens (length tokens) s last) trees in
     whole_answers names tokens (meanings s.state.before ++ meaning u.0 ∷ []) result
     ((s, ts, last, trees), record { trees = ts; grammar = subst (λ us. ParseExpressions us ts) (whole_list names tokens (length tokens) (omega arith)) grammar; meant = refl })
     (n (slot_of slot) (state_of s.state.here) (slot_open slot) u.0 (meanings s.state.before) (inside_is s p o) fits (end_acts s.state d u.0 r u.1) r.built)
@@ -122,4 +122,4 @@ answers names tokens i p d b result h (s, e, o, r) f t n =
 -- ---- one meaning
 
 pub one_meaning : (names : List (List ℕ)) (tokens : List Token) (a b : List Exp) → ParseExps names tokens a → ParseExps names tokens b → a ≡ b
-one_meaning names tokens a b p q = sym p.meant ∙ ap meanings (one_list (lexemes_of names tokens) p.trees q.trees p.grammar q.grammar) ∙ q.meant
+one_meaning names tokens a b p q = sym p.meant ∙ ap meanings (one_list (terminals_of names tokens) p.trees q.trees p.grammar q.grammar) ∙ q.meant

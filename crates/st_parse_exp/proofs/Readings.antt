@@ -4,7 +4,7 @@ use Rattle.st_num.specs.declared.mark.Mark.{Mark}
 use Rattle.st_scan.specs.declared.token.Token.{Token}
 use Rattle.st_grammar.specs.declared.sort.Style.TheVariants.{Parts as parts}
 use Rattle.st_grammar.specs.declared.sort.Sort.TheVariants.{Expression as expression}
-use Rattle.st_grammar.specs.Lexemes.{Lexeme, sign, lexeme}
+use Rattle.st_grammar.specs.Terminals.{Terminal, sign, terminal}
 use Rattle.st_grammar.specs.Levels.{level_of, left_of, is_comma}
 use Rattle.st_grammar.specs.Trees.{Tree, left, Trees, none, more, text, texts}
 use Rattle.st_grammar.specs.Grammar.{level, SetsOff, Fits, EachFits}
@@ -14,7 +14,7 @@ use Rattle.st_grammar.proofs.Complete.{level_pos, sign_joins, comma_mark, comma_
 use Rattle.st_grammar.proofs.CompleteTrees as trees
 use Rattle.st_grammar.proofs.Completions as completions
 use Rattle.st_grammar.proofs.Steps as steps
-use Rattle.st_grammar.proofs.PlaceSteps.{comma_sets_off}
+use Rattle.st_grammar.proofs.PositionSteps.{comma_sets_off}
 use Rattle.st_parse_exp.specs.Expressions.{ParseExpressions, ViableExpressions}
 use Rattle.st_parse_exp.specs.Reading.{State, begun, turn, goes, step, whole, finish, reading, reads, start}
 
@@ -41,11 +41,11 @@ comma_ends m x (part.comparing o i fs) t e h = absurd (cc)
 
 -- ---- readings
 
-abbrev pub at : Trees → List Lexeme → part.State → State
+abbrev pub at : Trees → List Terminal → part.State → State
 at ts pre st = record { before = ts; apart = pre; here = st }
 
 -- the tokens of a part are read in the list of expressions
-lift : (ts : Trees) (pre : List Lexeme) (st last : part.State) (w : List Lexeme) → part.reading st w ≡ Some last → reading (at ts pre st) w ≡ Some (at ts pre last)
+lift : (ts : Trees) (pre : List Terminal) (st last : part.State) (w : List Terminal) → part.reading st w ≡ Some last → reading (at ts pre st) w ≡ Some (at ts pre last)
 lift ts pre st last [] e = let is : st ≡ last = cc in ap (λ h. Some (at ts pre h)) is
 lift ts pre st last (l ∷ w) e = go (part.step st l) (λ next. lift ts pre next last w) e
   where
@@ -54,7 +54,7 @@ lift ts pre st last (l ∷ w) e = go (part.step st l) (λ next. lift ts pre next
     go None k e = absurd (cc)
     go (Some next) k e = k next e
 
-pub reading_append : (st : State) (us vs : List Lexeme) → reading st (us ++ vs) ≡ option_and_then (λ next. reading next vs) (reading st us)
+pub reading_append : (st : State) (us vs : List Terminal) → reading st (us ++ vs) ≡ option_and_then (λ next. reading next vs) (reading st us)
 reading_append st [] vs = refl
 reading_append st (l ∷ us) vs = go (step st l) (λ next. reading_append next us vs)
   where
@@ -65,7 +65,7 @@ reading_append st (l ∷ us) vs = go (step st l) (λ next. reading_append next u
 
 -- ---- expressions are read
 
-abbrev ReadTo : Trees → List Lexeme → Tree → List Lexeme → Type 0
+abbrev ReadTo : Trees → List Terminal → Tree → List Terminal → Type 0
 ReadTo ts pre t us = (st : part.State) × (reading start us ≡ Some (at ts pre st)) × (part.finish st ≡ Some t)
 
 ended_well : (o : Option part.State) (t : Tree) → option_and_then part.finish o ≡ Some t → (st : part.State) × (o ≡ Some st) × (part.finish st ≡ Some t)
@@ -73,7 +73,7 @@ ended_well None t e = absurd (cc)
 ended_well (Some st) t e = (st, refl, e)
 
 -- one expression behind others
-one : (ts : Trees) (pre : List Lexeme) (t : Tree) (w : List Lexeme) → Fits (expression false) t → reading start w ≡ Some (begun ts pre) → ReadTo ts pre t (w ++ text t)
+one : (ts : Trees) (pre : List Terminal) (t : Tree) (w : List Terminal) → Fits (expression false) t → reading start w ≡ Some (begun ts pre) → ReadTo ts pre t (w ++ text t)
 one ts pre t w f e =
     let r = ended_well (part.reading (part.start (expression false)) (text t)) t (trees.complete (expression false) (text t) t (record { fits = f; spelled = refl })) in (
       r.0,
@@ -81,14 +81,14 @@ one ts pre t w f e =
       r.2,
     )
 
-at_comma : (ts : Trees) (pre : List Lexeme) (t : Tree) (m : Mark) (x : Token) (st : part.State) → is_comma m ≡ true → part.finish st ≡ Some t
+at_comma : (ts : Trees) (pre : List Terminal) (t : Tree) (m : Mark) (x : Token) (st : part.State) → is_comma m ≡ true → part.finish st ≡ Some t
     → reading (at ts pre st) (sign m x ∷ []) ≡ Some (begun (more ts pre t) (sign m x ∷ []))
 at_comma ts pre t m x st e f =
     ap (λ o. option_and_then (λ next. Some next) (goes (at ts pre st) (sign m x) o)) (comma_ends m x st t e f)
     ∙ ap (λ o. option_and_then (λ next. Some next) (turn (at ts pre st) (sign m x) o)) f
     ∙ ap (λ b. option_and_then (λ next. Some next) (if b then Some (begun (more ts pre t) (sign m x ∷ [])) else None)) e
 
-all_read : (ts : Trees) (pre : List Lexeme) (t : Tree) → EachFits (expression false) parts 1 (more ts pre t) → ReadTo ts pre t (texts (more ts pre t))
+all_read : (ts : Trees) (pre : List Terminal) (t : Tree) → EachFits (expression false) parts 1 (more ts pre t) → ReadTo ts pre t (texts (more ts pre t))
 all_read none pre t f = subst (λ p. ReadTo none p t (texts (more none p t))) (sym f.1) (one none [] t [] f.2 refl)
 all_read (more ts q u) pre t f =
     let r = all_read ts q u f.0 in
@@ -99,30 +99,30 @@ all_read (more ts q u) pre t f =
     subst (λ p. ReadTo (more ts q u) p t (texts (more (more ts q u) p t))) (sym f.1.2)
     (subst (ReadTo (more ts q u) (l ∷ []) t) (append_assoc (texts (more ts q u)) (l ∷ []) (text t)) s)
 
-pub complete : (us : List Lexeme) (ts : Trees) → ParseExpressions us ts → reads start us ≡ Some ts
+pub complete : (us : List Terminal) (ts : Trees) → ParseExpressions us ts → reads start us ≡ Some ts
 complete us none p = absurd (omega (arith, p.some))
 complete us (more ts pre t) p =
     let r = all_read ts pre t p.fits in
     ap (reads start) p.spelled ∙ ap (option_and_then finish) r.1 ∙ ap (whole (at ts pre r.0)) r.2
 
-pub one_list : (us : List Lexeme) (a b : Trees) → ParseExpressions us a → ParseExpressions us b → a ≡ b
+pub one_list : (us : List Terminal) (a b : Trees) → ParseExpressions us a → ParseExpressions us b → a ≡ b
 one_list us a b p q = let e = complete us a p in let f = complete us b q in cc
 
 -- ---- what is read
 
 -- these tokens led there
-pub record Reached (us : List Lexeme) (st : State) : Type 0 where
+pub record Reached (us : List Terminal) (st : State) : Type 0 where
   pub fits : EachFits (expression false) parts 1 st.before
   pub apart : SetsOff parts st.before st.apart
-  pub now : List Lexeme
+  pub now : List Terminal
   pub spelled : us ≡ (texts st.before ++ st.apart) ++ now
   pub read : part.reading (part.start (expression false)) now ≡ Some st.here
 
-pub record Ends (us : List Lexeme) (st : State) (t : Tree) : Type 0 where
+pub record Ends (us : List Terminal) (st : State) (t : Tree) : Type 0 where
   pub fits : Fits (expression false) t
   pub spelled : us ≡ texts (more st.before st.apart t)
 
-part_ends : (us : List Lexeme) (st : State) (t : Tree) → Reached us st → part.finish st.here ≡ Some t → Ends us st t
+part_ends : (us : List Terminal) (st : State) (t : Tree) → Reached us st → part.finish st.here ≡ Some t → Ends us st t
 part_ends us st t r e =
     let p = steps.sound (expression false) r.now st.here t r.read e in
     record {
@@ -130,7 +130,7 @@ part_ends us st t r e =
       spelled = r.spelled ∙ ap (λ w. (texts st.before ++ st.apart) ++ w) p.spelled ∙ append_assoc (texts st.before) st.apart (text t);
     }
 
-goes_on : (us : List Lexeme) (st : State) (l : Lexeme) (next : part.State) → Reached us st → part.step st.here l ≡ Some next → Reached (us ++ l ∷ []) (at st.before st.apart next)
+goes_on : (us : List Terminal) (st : State) (l : Terminal) (next : part.State) → Reached us st → part.step st.here l ≡ Some next → Reached (us ++ l ∷ []) (at st.before st.apart next)
 goes_on us st l next r e = record {
   fits = r.fits;
   apart = r.apart;
@@ -142,7 +142,7 @@ goes_on us st l next r e = record {
       ∙ ap (option_and_then (λ s. Some s)) e;
 }
 
-turns : (us : List Lexeme) (st : State) (l : Lexeme) (t : Tree) → Reached us st → part.finish st.here ≡ Some t → signed is_comma l ≡ true
+turns : (us : List Terminal) (st : State) (l : Terminal) (t : Tree) → Reached us st → part.finish st.here ≡ Some t → signed is_comma l ≡ true
     → Reached (us ++ l ∷ []) (begun (more st.before st.apart t) (l ∷ []))
 turns us st l t r e c =
     let p = part_ends us st t r e in
@@ -154,11 +154,11 @@ turns us st l t r e c =
       read = refl;
     }
 
-abbrev ReachedBy : List Lexeme → Option State → Type 0
+abbrev ReachedBy : List Terminal → Option State → Type 0
 ReachedBy us None = Unit {0}
 ReachedBy us (Some st) = Reached us st
 
-stepped : (us : List Lexeme) (st : State) (l : Lexeme) → Reached us st → ReachedBy (us ++ l ∷ []) (step st l)
+stepped : (us : List Terminal) (st : State) (l : Terminal) → Reached us st → ReachedBy (us ++ l ∷ []) (step st l)
 stepped us st l r = go (part.step st.here l) refl
   where
     comma : (t : Tree) (b : Bool) → part.finish st.here ≡ Some t → signed is_comma l ≡ b
@@ -174,7 +174,7 @@ stepped us st l r = go (part.step st.here l) refl
     go (Some next) e = goes_on us st l next r e
     go None e = at_end (part.finish st.here) refl
 
-read_on : (us w : List Lexeme) (st last : State) → Reached us st → reading st w ≡ Some last → Reached (us ++ w) last
+read_on : (us w : List Terminal) (st last : State) → Reached us st → reading st w ≡ Some last → Reached (us ++ w) last
 read_on us [] st last r e = let is : st ≡ last = cc in subst (λ v. Reached v last) (sym (append-nil us)) (subst (Reached us) is r)
 read_on us (l ∷ w) st last r e =
     subst (λ v. Reached v last) (append_assoc us (l ∷ []) w) (go (step st l) (λ next. read_on (us ++ l ∷ []) w next last) (stepped us st l r) e)
@@ -184,10 +184,10 @@ read_on us (l ∷ w) st last r e =
     go None k q e = absurd (cc)
     go (Some next) k q e = k next q e
 
-pub reached : (us : List Lexeme) (st : State) → reading start us ≡ Some st → Reached us st
+pub reached : (us : List Terminal) (st : State) → reading start us ≡ Some st → Reached us st
 reached us st e = read_on [] us start st (record { fits = tt; apart = refl; now = []; spelled = refl; read = refl }) e
 
-pub sound : (us : List Lexeme) (st : State) (ts : Trees) → reading start us ≡ Some st → finish st ≡ Some ts → ParseExpressions us ts
+pub sound : (us : List Terminal) (st : State) (ts : Trees) → reading start us ≡ Some st → finish st ≡ Some ts → ParseExpressions us ts
 sound us st ts e f = go (part.finish st.here) refl f
   where
     r : Reached us st
@@ -207,11 +207,11 @@ sound us st ts e f = go (part.finish st.here) refl f
 
 -- ---- fronts
 
-pub viable : (names : List (List ℕ)) (us : List Lexeme) (st : State) → reading start us ≡ Some st → ViableExpressions names us
+pub viable : (names : List (List ℕ)) (us : List Terminal) (st : State) → reading start us ≡ Some st → ViableExpressions names us
 viable names us st e =
     let r = reached us st e in
     let v = completions.viable names (expression false) r.now st.here r.read in
-    let rest = map (lexeme names) v.0 in (
+    let rest = map (terminal names) v.0 in (
       v.0,
       more st.before st.apart v.1,
       record {
@@ -225,9 +225,9 @@ viable names us st e =
       },
     )
 
-pub dead : (names : List (List ℕ)) (us : List Lexeme) → reading start us ≡ None → ViableExpressions names us → ⊥
+pub dead : (names : List (List ℕ)) (us : List Terminal) → reading start us ≡ None → ViableExpressions names us → ⊥
 dead names us e v =
-    let vs = map (lexeme names) v.0 in
+    let vs = map (terminal names) v.0 in
     let done = complete (us ++ vs) v.1 v.2 in
     let nothing : reads start (us ++ vs) ≡ None = ap (option_and_then finish) (reading_append start us vs ∙ ap (option_and_then (λ next. reading next vs)) e) in
     absurd (cc)

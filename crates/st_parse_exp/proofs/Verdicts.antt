@@ -4,8 +4,8 @@ use Rattle.std.proofs.lemmas.List.{take_more, take-map}
 use Rattle.st_num.specs.declared.rule.RuleId.{RuleId}
 use Rattle.st_num.specs.declared.rule.RuleId.TheVariants.{S2, S3}
 use Rattle.st_scan.specs.declared.token.Token.{Token}
-use Rattle.st_grammar.specs.Lexemes.{lexeme}
-use Rattle.st_parse_exp.specs.Expressions.{lexemes_of}
+use Rattle.st_grammar.specs.Terminals.{terminal}
+use Rattle.st_parse_exp.specs.Expressions.{terminals_of}
 use Rattle.st_parse_exp.specs.Reading.{State, start, step, reading}
 use Rattle.st_parse_exp.specs.Faults.{Seen, Verdict, passed, broken, opens_too_many, passes_limit, limited, seen_after, refusal, judged, judge, judge_all, verdict}
 
@@ -18,23 +18,23 @@ never_passes names r xs last e = let f : broken r ≡ passed last = sym (stays_b
 
 -- what passes is read
 pub passes_reads : (names : List (List ℕ)) (seen last : Seen) (xs : List Token) → judge_all names (passed seen) xs ≡ passed last
-    → reading seen.state (map (lexeme names) xs) ≡ Some last.state
+    → reading seen.state (map (terminal names) xs) ≡ Some last.state
 passes_reads names seen last [] e = let f : seen ≡ last = cc in ap (λ s. Some s.state) f
-passes_reads names seen last (x ∷ xs) e = go (step seen.state (lexeme names x)) (λ next f. passes_reads names next last xs f) e
+passes_reads names seen last (x ∷ xs) e = go (step seen.state (terminal names x)) (λ next f. passes_reads names next last xs f) e
   where
-    keeps : (next : Seen) (b c : Bool) → (judge_all names (passed next) xs ≡ passed last → reading next.state (map (lexeme names) xs) ≡ Some last.state)
-        → judge_all names (limited b c next) xs ≡ passed last → reading next.state (map (lexeme names) xs) ≡ Some last.state
+    keeps : (next : Seen) (b c : Bool) → (judge_all names (passed next) xs ≡ passed last → reading next.state (map (terminal names) xs) ≡ Some last.state)
+        → judge_all names (limited b c next) xs ≡ passed last → reading next.state (map (terminal names) xs) ≡ Some last.state
     keeps next true c rest f = absurd (never_passes names S2 xs last f)
     keeps next false true rest f = absurd (never_passes names S3 xs last f)
     keeps next false false rest f = rest f
 
-    go : (o : Option State) → ((next : Seen) → judge_all names (passed next) xs ≡ passed last → reading next.state (map (lexeme names) xs) ≡ Some last.state)
-        → judge_all names (judged seen x (lexeme names x) o) xs ≡ passed last
-        → option_and_then (λ next. reading next (map (lexeme names) xs)) o ≡ Some last.state
+    go : (o : Option State) → ((next : Seen) → judge_all names (passed next) xs ≡ passed last → reading next.state (map (terminal names) xs) ≡ Some last.state)
+        → judge_all names (judged seen x (terminal names x) o) xs ≡ passed last
+        → option_and_then (λ next. reading next (map (terminal names) xs)) o ≡ Some last.state
     go None rest f = absurd (never_passes names (refusal seen x) xs last f)
     go (Some next) rest f =
-        let s = seen_after seen (lexeme names x) next in
-        keeps s (opens_too_many s (lexeme names x)) (passes_limit s) (rest s) f
+        let s = seen_after seen (terminal names x) next in
+        keeps s (opens_too_many s (terminal names x)) (passes_limit s) (rest s) f
 
 abbrev pub judge_next : List (List ℕ) → Verdict → Token → Verdict
 judge_next names (passed seen) x = judge names seen x
@@ -53,7 +53,7 @@ verdict_more names tokens i d h =
     ap (judge_all names _) (take_more tokens i d h)
     ∙ judge_more names _ (take i tokens) (get_or tokens i d)
 
-pub verdict_reads : (names : List (List ℕ)) (tokens : List Token) (k : ℕ) (seen : Seen) → verdict names tokens k ≡ passed seen → reading start (take k (lexemes_of names tokens)) ≡ Some seen.state
+pub verdict_reads : (names : List (List ℕ)) (tokens : List Token) (k : ℕ) (seen : Seen) → verdict names tokens k ≡ passed seen → reading start (take k (terminals_of names tokens)) ≡ Some seen.state
 verdict_reads names tokens k seen e =
-    ap (reading start) (take-map (lexeme names) k tokens)
+    ap (reading start) (take-map (terminal names) k tokens)
     ∙ passes_reads names _ seen (take k tokens) e

@@ -10,8 +10,8 @@ use Rattle.st_parse_builder.specs.declared.action.Action.{Action}
 use Rattle.st_parse_builder.specs.Meaning.{meaning}
 use Rattle.st_parse_builder.specs.Heights.{highest, height}
 use Rattle.st_parse_builder.specs.Actions.{acts}
-use Rattle.st_parse_automaton.specs.declared.outline.Shape.{Shape}
-use Rattle.st_parse_automaton.specs.Outline as out
+use Rattle.st_parse_automaton.specs.declared.part_automaton.Shape.{Shape}
+use Rattle.st_parse_automaton.specs.PartAutomaton as parts
 use Rattle.st_parse_actions.specs.Emits as emits
 
 -- the expression that is built of one that means this, where it is not too high
@@ -39,7 +39,7 @@ abbrev pub draft : Option (List Exp) → List Mark → List Action → Draft
 draft es ms done = record { exps = es; marks = ms; actions = done }
 
 -- A comma ends an expression, whose actions are all there with those of its end.
-pub record Ends (st : out.State) (old new : Draft) : Type 0 where
+pub record Ends (st : parts.State) (old new : Draft) : Type 0 where
   pub marks : new.marks ≡ []
   pub actions : new.actions ≡ []
   pub exps : (t : Tree) (es : List Exp) → Fits (expression false) t
@@ -47,7 +47,7 @@ pub record Ends (st : out.State) (old new : Draft) : Type 0 where
       → AreBuilt (es ++ meaning t ∷ []) new.exps
 
 -- what a token makes of a draft: a comma behind a whole expression, or another
-abbrev pub Takes : Bool → out.State → Shape → Token → Draft → Draft → Type 0
+abbrev pub Takes : Bool → parts.State → Shape → Token → Draft → Draft → Type 0
 Takes true st s x old new = Ends st old new
 Takes false st s x old new =
     new ≡ draft old.exps (emits.kept (expression false) old.marks st s)

@@ -4,32 +4,32 @@ use Rattle.std.specs.Prelude.{◌≡◌, ℕ, ◌+◌, ◌≤◌, ◌<◌, ◌�
 use Rattle.st_scan.specs.declared.token.Token.{Token}
 use Rattle.st_grammar.specs.declared.sort.Style.TheVariants.{Parts as parts}
 use Rattle.st_grammar.specs.declared.sort.Sort.TheVariants.{Expression as expression}
-use Rattle.st_grammar.specs.Lexemes.{Lexeme, lexeme}
+use Rattle.st_grammar.specs.Terminals.{Terminal, terminal}
 use Rattle.st_grammar.specs.Trees.{Trees, texts}
 use Rattle.st_grammar.specs.Grammar.{size, EachFits}
 
 -- the tokens are those of these expressions
-pub record ParseExpressions (us : List Lexeme) (ts : Trees) : Type 0 where
+pub record ParseExpressions (us : List Terminal) (ts : Trees) : Type 0 where
   pub fits : EachFits (expression false) parts 1 ts
   pub some : 1 ≤ size ts
   pub spelled : us ≡ texts ts
 
 -- some tokens behind these make expressions
-abbrev pub ViableExpressions : List (List ℕ) → List Lexeme → Type 0
+abbrev pub ViableExpressions : List (List ℕ) → List Terminal → Type 0
 ViableExpressions names us =
-    (rest : List Token) × (ts : Trees) × ParseExpressions (us ++ map (lexeme names) rest) ts
+    (rest : List Token) × (ts : Trees) × ParseExpressions (us ++ map (terminal names) rest) ts
 
 -- the tokens as the grammar sees them, where these names are declared by `var`
-abbrev pub lexemes_of : List (List ℕ) → List Token → List Lexeme
-lexemes_of names tokens = map (lexeme names) tokens
+abbrev pub terminals_of : List (List ℕ) → List Token → List Terminal
+terminals_of names tokens = map (terminal names) tokens
 
 -- The tokens are those of expressions.
 abbrev pub AreExpressions : List (List ℕ) → List Token → Type 0
-AreExpressions names tokens = (ts : Trees) × ParseExpressions (lexemes_of names tokens) ts
+AreExpressions names tokens = (ts : Trees) × ParseExpressions (terminals_of names tokens) ts
 
 -- some tokens behind the first k make expressions
 abbrev pub IsViable : List (List ℕ) → List Token → ℕ → Type 0
-IsViable names tokens k = ViableExpressions names (take k (lexemes_of names tokens))
+IsViable names tokens k = ViableExpressions names (take k (terminals_of names tokens))
 
 -- The first token that no expressions have behind those before it stands at k, or the tokens end
 -- at k too early.

@@ -4,7 +4,7 @@ use Rattle.std.specs.List.{list_any}
 use Rattle.st_num.specs.declared.rule.RuleId.{RuleId}
 use Rattle.st_num.specs.declared.rule.RuleId.TheVariants.{S1, S2, S3, S4}
 use Rattle.st_scan.specs.declared.token.Token.{Token}
-use Rattle.st_grammar.specs.Lexemes.{Lexeme, lexeme}
+use Rattle.st_grammar.specs.Terminals.{Terminal, terminal}
 use Rattle.st_grammar.specs.Trees.{Trees}
 use Rattle.st_parse_faults.specs.declared.before.Before.TheVariants as before
 use Rattle.st_parse_faults.specs.LeftOut.{left_out}
@@ -24,7 +24,7 @@ pub data Verdict : Type 0 where
   broken : RuleId → Verdict
 
 -- The token is a bracket or bar behind which more are open than may be.
-abbrev pub opens_too_many : Seen → Lexeme → Bool
+abbrev pub opens_too_many : Seen → Terminal → Bool
 opens_too_many seen l =
     may_open l && nat_lt nesting_limit (seen.nesting + part_bars seen.state.here)
 
@@ -42,20 +42,20 @@ limited true b seen = broken S2
 limited false true seen = broken S3
 limited false false seen = passed seen
 
-abbrev pub kept : Seen → Lexeme → Verdict
+abbrev pub kept : Seen → Terminal → Verdict
 kept seen l = limited (opens_too_many seen l) (passes_limit seen) seen
 
 -- what is known behind a token that is read
-abbrev pub seen_after : Seen → Lexeme → State → Seen
+abbrev pub seen_after : Seen → Terminal → State → Seen
 seen_after seen l next = record { state = next; nesting = nesting_after seen.nesting l }
 
-abbrev pub judged : Seen → Token → Lexeme → Option State → Verdict
+abbrev pub judged : Seen → Token → Terminal → Option State → Verdict
 judged seen x l None = broken (refusal seen x)
 judged seen x l (Some next) = kept (seen_after seen l next) l
 
 -- one token behind what is seen, where these names are declared by `var`
 abbrev pub judge : List (List ℕ) → Seen → Token → Verdict
-judge names seen x = judged seen x (lexeme names x) (step seen.state (lexeme names x))
+judge names seen x = judged seen x (terminal names x) (step seen.state (terminal names x))
 
 abbrev pub judge_all : List (List ℕ) → Verdict → List Token → Verdict
 judge_all names v [] = v

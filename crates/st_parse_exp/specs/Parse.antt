@@ -11,13 +11,13 @@ use Rattle.st_parse_builder.specs.Heights.{highest, height}
 use Rattle.st_parse_faults.specs.Place.{place_at}
 use Rattle.st_num.specs.declared.fault.Fault.{Fault as SyntaxFault}
 use Rattle.st_num.specs.declared.fault.Fault.TheVariants.{Refused, Memory}
-use Rattle.st_parse_exp.specs.Expressions.{ParseExpressions, lexemes_of}
+use Rattle.st_parse_exp.specs.Expressions.{ParseExpressions, terminals_of}
 use Rattle.st_parse_exp.specs.Faults.{Faultless, FirstFault}
 
 -- the tokens mean these expressions, where these names are declared by `var`
 pub record ParseExps (names : List (List ℕ)) (tokens : List Token) (exps : List Exp) : Type 0 where
   pub trees : Trees
-  pub grammar : ParseExpressions (lexemes_of names tokens) trees
+  pub grammar : ParseExpressions (terminals_of names tokens) trees
   pub meant : meanings trees ≡ exps
 
 -- The tokens mean these expressions, and no token has a fault.

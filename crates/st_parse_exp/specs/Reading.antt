@@ -2,7 +2,7 @@
 -- and the commas between them.
 use Rattle.std.specs.Prelude.{List, [], ◌∷◌, false, Option, Some, None, option_and_then, if◌then◌else◌}
 use Rattle.st_grammar.specs.declared.sort.Sort.TheVariants.{Expression as expression}
-use Rattle.st_grammar.specs.Lexemes.{Lexeme}
+use Rattle.st_grammar.specs.Terminals.{Terminal}
 use Rattle.st_grammar.specs.Levels.{is_comma}
 use Rattle.st_grammar.specs.Trees.{Tree, Trees, none, more}
 use Rattle.st_grammar.specs.Definitions.{signed}
@@ -11,25 +11,25 @@ use Rattle.st_grammar.specs.Reading as part
 -- the expressions that are read, what sets off the next one, and how far that is read
 pub record State : Type 0 where
   pub before : Trees
-  pub apart : List Lexeme
+  pub apart : List Terminal
   pub here : part.State
 
 -- a next expression begins
-abbrev pub begun : Trees → List Lexeme → State
+abbrev pub begun : Trees → List Terminal → State
 begun ts pre = record { before = ts; apart = pre; here = part.start (expression false) }
 
 -- A comma behind a whole expression begins the next one.
-abbrev pub turn : State → Lexeme → Option Tree → Option State
+abbrev pub turn : State → Terminal → Option Tree → Option State
 turn st l None = None
 turn st l (Some t) =
     if signed is_comma l then Some (begun (more st.before st.apart t) (l ∷ [])) else None
 
-abbrev pub goes : State → Lexeme → Option part.State → Option State
+abbrev pub goes : State → Terminal → Option part.State → Option State
 goes st l (Some next) =
     Some (record { before = st.before; apart = st.apart; here = next })
 goes st l None = turn st l (part.finish st.here)
 
-abbrev pub step : State → Lexeme → Option State
+abbrev pub step : State → Terminal → Option State
 step st l = goes st l (part.step st.here l)
 
 abbrev pub whole : State → Option Tree → Option Trees
@@ -40,11 +40,11 @@ whole st (Some t) = Some (more st.before st.apart t)
 abbrev pub finish : State → Option Trees
 finish st = whole st (part.finish st.here)
 
-abbrev pub reading : State → List Lexeme → Option State
+abbrev pub reading : State → List Terminal → Option State
 reading st [] = Some st
 reading st (l ∷ w) = option_and_then (λ next. reading next w) (step st l)
 
-abbrev pub reads : State → List Lexeme → Option Trees
+abbrev pub reads : State → List Terminal → Option Trees
 reads st w = option_and_then finish (reading st w)
 
 abbrev pub start : State

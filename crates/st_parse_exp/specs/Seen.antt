@@ -4,27 +4,27 @@ use Rattle.std.specs.Prelude.{[], Bool, true, false, ◌&&◌, if◌then◌else�
 use Rattle.st_num.specs.declared.rule.RuleId.TheVariants.{S1}
 use Rattle.st_scan.specs.declared.token.TokenKind.{TokenKind}
 use Rattle.st_grammar.specs.Levels.{is_comma}
-use Rattle.st_parse_automaton.specs.declared.place.Lexeme.{Lexeme}
-use Rattle.st_parse_automaton.specs.declared.place.Slot.TheVariants as slot
-use Rattle.st_parse_automaton.specs.Course as course
+use Rattle.st_parse_automaton.specs.declared.position.TokenClass.{TokenClass}
+use Rattle.st_parse_automaton.specs.declared.position.Slot.TheVariants as slot
+use Rattle.st_parse_automaton.specs.DefinitionAutomaton as definitions
 use Rattle.st_parse_faults.specs.Seen as seen
-use Rattle.st_parse_faults.specs.Seen.{Outline, Verdict, passed, broken}
+use Rattle.st_parse_faults.specs.Seen.{Summary, Verdict, passed, broken}
 
 -- A comma stands behind a whole expression.
-abbrev pub separates : course.State → Lexeme → Bool
-separates st l = course.signed is_comma l && course.may_end st
+abbrev pub separates : definitions.State → TokenClass → Bool
+separates st l = definitions.signed is_comma l && definitions.may_end st
 
-abbrev pub begun : Outline → Outline
-begun v = seen.nothing_counted (course.start_of slot.Rule []) v.nesting
+abbrev pub begun : Summary → Summary
+begun v = seen.nothing_counted (definitions.start_of slot.Rule []) v.nesting
 
-abbrev pub is_inside : course.State → Bool
-is_inside (course.inside s st ks) = true
-is_inside (course.at p ks) = false
+abbrev pub is_inside : definitions.State → Bool
+is_inside (definitions.inside s st ks) = true
+is_inside (definitions.at p ks) = false
 
 -- Behind an expression no rule goes on.
 abbrev pub alone : Verdict → Verdict
 alone (passed v) = if is_inside v.state then passed v else broken S1
 alone (broken r) = broken r
 
-abbrev pub judge : Outline → TokenKind → Lexeme → Verdict
+abbrev pub judge : Summary → TokenKind → TokenClass → Verdict
 judge v k l = if separates v.state l then passed (begun v) else alone (seen.judge v k l)

@@ -8,9 +8,9 @@ ghost use Rattle.st_grammar.specs.Grammar.{Fits};
 ghost use Rattle.st_el.specs.declared.expression.Exp.{Exp};
 ghost use Rattle.st_parse_builder.specs.Meaning.{meaning};
 ghost use Rattle.st_parse_builder.specs.Actions.{acts};
-ghost use Rattle.st_parse_automaton.specs.declared.place.Slot.{Slot};
-ghost use Rattle.st_parse_automaton.specs.Outline as out;
-ghost use Rattle.st_parse_automaton.specs.Course as course;
+ghost use Rattle.st_parse_automaton.specs.declared.position.Slot.{Slot};
+ghost use Rattle.st_parse_automaton.specs.PartAutomaton as parts;
+ghost use Rattle.st_parse_automaton.specs.DefinitionAutomaton as definitions;
 ghost use Rattle.st_parse_automaton.specs.Readings.{progress_of, reading_of};
 ghost use Rattle.st_parse_actions.specs.Emits as emits;
 ghost use Rattle.st_parse_exp.specs.Seen as seen;
@@ -21,7 +21,7 @@ use st_el::Exp;
 use st_grammar::Sort;
 use st_num::{Mark, NoMemory, Row};
 use st_parse_actions::{emit, finish};
-use st_parse_automaton::{Lexeme, Progress, Reading};
+use st_parse_automaton::{TokenClass, Progress, Reading};
 use st_parse_builder::{Action, BuildFault, build};
 use st_scan::Token;
 use std::alloc::Global;
@@ -75,22 +75,22 @@ pub(crate) fn end(
 pub(crate) fn take<'a>(
     alloc: Global,
     progress: &Progress,
-    lexeme: Lexeme,
+    class: TokenClass,
     token: &'a Token,
     marks: &mut Row<Mark>,
     actions: &mut Row<Action<'a>>,
     exps: Option<Row<Exp>>,
 ) -> Result<Option<Row<Exp>>, NoMemory>
-    ensures { (k : Slot) (st : out.State) (ks : List Bracket)
-        → progress_of progress.now ≡ course.inside k st ks
-        → IfOk result (λ all. Takes (seen.separates (progress_of progress.now) lexeme) st
-        lexeme.shape token.now (draft exps (reverse marks.old) actions.old)
+    ensures { (k : Slot) (st : parts.State) (ks : List Bracket)
+        → progress_of progress.now ≡ definitions.inside k st ks
+        → IfOk result (λ all. Takes (seen.separates (progress_of progress.now) class) st
+        class.shape token.now (draft exps (reverse marks.old) actions.old)
         (draft all (reverse marks.new) actions.new)) }
 {
     let Progress::Inside(_, reading, _) = progress else {
         return Ok(exps);
     };
-    if separates(progress, lexeme) {
+    if separates(progress, class) {
         *marks = Row::new(alloc);
         let ended = replace(actions, Row::new(alloc));
         return end(alloc, reading, ended, exps);
@@ -98,7 +98,7 @@ pub(crate) fn take<'a>(
     emit(
         Sort::Expression(false),
         reading,
-        lexeme.shape,
+        class.shape,
         token,
         marks,
         actions,

@@ -2,23 +2,23 @@
 
 ghost use Rattle.std.specs.Prelude.{◌≡◌, ◌≤◌, IfOk, [], reverse};
 ghost use Rattle.st_parse_faults.specs.Seen as seen;
-ghost use Rattle.st_parse_automaton.specs.Course as course;
-ghost use Rattle.st_parse_automaton.specs.declared.place.Slot.TheVariants as slot;
+ghost use Rattle.st_parse_automaton.specs.DefinitionAutomaton as definitions;
+ghost use Rattle.st_parse_automaton.specs.declared.position.Slot.TheVariants as slot;
 ghost use Rattle.st_parse_automaton.specs.Readings.{progress_of};
 ghost use Rattle.st_parse_exp.specs.Seen as spec;
 
 use st_num::{Mark, NoMemory, Row, RuleId};
-use st_parse_automaton::{Due, Lexeme, Progress, Reading, Shape, Slot, may_end};
+use st_parse_automaton::{Expected, TokenClass, Progress, Reading, Shape, Slot, may_end};
 use st_parse_faults::{Seen, Verdict, judge_token, nothing_counted};
 use st_scan::TokenKind;
 use std::alloc::Global;
 
 /// Where an expression begins: it is read as the conclusion of a rule.
 fn start(alloc: Global) -> Progress
-    ensures { progress_of result ≡ course.start_of slot.Rule [] }
+    ensures { progress_of result ≡ definitions.start_of slot.Rule [] }
 {
     let reading = Reading {
-        due: Due::Operand,
+        expected: Expected::Operand,
         frames: Row::new(alloc),
     };
     Progress::Inside(Slot::Rule, reading, Row::new(alloc))
@@ -27,18 +27,18 @@ fn start(alloc: Global) -> Progress
 /// What is known where an expression begins.
 pub(crate) fn begin(alloc: Global, nesting: u8) -> Result<Seen, NoMemory>
     requires { nesting ≤ 100 }
-    ensures value { IfOk result (λ next. seen.outline_of next
-        ≡ seen.nothing_counted (course.start_of slot.Rule []) nesting) }
+    ensures value { IfOk result (λ next. seen.summary_of next
+        ≡ seen.nothing_counted (definitions.start_of slot.Rule []) nesting) }
     ensures bound { IfOk result (λ next. seen.SeenKept next) }
 {
     nothing_counted(alloc, start(alloc), nesting)
 }
 
 /// Whether a token is a comma behind a whole expression.
-pub(crate) fn separates(progress: &Progress, lexeme: Lexeme) -> bool
-    ensures { result ≡ spec.separates (progress_of progress.now) lexeme }
+pub(crate) fn separates(progress: &Progress, class: TokenClass) -> bool
+    ensures { result ≡ spec.separates (progress_of progress.now) class }
 {
-    matches!(lexeme.shape, Shape::Sign(Mark::Comma)) && may_end(progress)
+    matches!(class.shape, Shape::Sign(Mark::Comma)) && may_end(progress)
 }
 
 fn is_inside(progress: &Progress) -> bool
@@ -69,17 +69,17 @@ pub(crate) fn judge_next(
     alloc: Global,
     known: Seen,
     kind: &TokenKind,
-    lexeme: Lexeme,
+    class: TokenClass,
 ) -> Result<Verdict, NoMemory>
     requires { seen.SeenKept known }
     ensures value { IfOk result (λ verdict.
-        seen.verdict_of verdict ≡ spec.judge (seen.outline_of known) kind.now lexeme) }
+        seen.verdict_of verdict ≡ spec.judge (seen.summary_of known) kind.now class) }
     ensures bound { IfOk result (λ verdict. seen.IsBounded verdict) }
 {
-    if separates(&known.progress, lexeme) {
+    if separates(&known.progress, class) {
         let next = begin(alloc, known.nesting)?;
         return Ok(Verdict::Passed(next));
     }
-    let verdict = judge_token(alloc, known, kind, lexeme)?;
+    let verdict = judge_token(alloc, known, kind, class)?;
     Ok(alone(verdict))
 }

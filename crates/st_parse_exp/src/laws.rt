@@ -5,7 +5,7 @@ ghost use Rattle.st_num.specs.declared.rule.RuleId.{RuleId};
 ghost use Rattle.st_num.specs.declared.rule.RuleId.TheVariants.{S1, S4};
 ghost use Rattle.st_scan.specs.declared.token.Token.{Token};
 ghost use Rattle.st_el.specs.declared.expression.Exp.{Exp};
-ghost use Rattle.st_grammar.specs.Lexemes.{Lexeme};
+ghost use Rattle.st_grammar.specs.Terminals.{Terminal};
 ghost use Rattle.st_grammar.specs.Trees.{Trees};
 ghost use Rattle.st_parse_exp.specs.Expressions.{ParseExpressions, ViableExpressions, AreExpressions, RefusedAt};
 ghost use Rattle.st_parse_exp.specs.Parse.{ParseExps};
@@ -15,7 +15,7 @@ ghost use Rattle.st_parse_exp.specs.Faults.{Faultless, FirstFault};
 /// The tokens of expressions have one list of trees.
 #[tactic(auto, using(crate::proofs::Readings::one_list))]
 pub fn one_list_of_expressions()
-    ensures { (us : List Lexeme) (a b : Trees)
+    ensures { (us : List TokenClass) (a b : Trees)
         → ParseExpressions us a → ParseExpressions us b → a ≡ b }
 {}
 
@@ -28,14 +28,14 @@ pub fn one_meaning()
 /// Expressions are read as their trees, tokens are read exactly where some further tokens make
 /// expressions, and what is read and may end is expressions.
 pub fn expressions_are_read()
-    ensures complete { (us : List Lexeme) (ts : Trees)
+    ensures complete { (us : List TokenClass) (ts : Trees)
         → ParseExpressions us ts → read.reads read.start us ≡ Some ts }
-    ensures sound { (us : List Lexeme) (st : read.State) (ts : Trees)
+    ensures sound { (us : List TokenClass) (st : read.State) (ts : Trees)
         → read.reading read.start us ≡ Some st → read.finish st ≡ Some ts
         → ParseExpressions us ts }
-    ensures viable { (names : List (List ℕ)) (us : List Lexeme) (st : read.State)
+    ensures viable { (names : List (List ℕ)) (us : List TokenClass) (st : read.State)
         → read.reading read.start us ≡ Some st → ViableExpressions names us }
-    ensures dead { (names : List (List ℕ)) (us : List Lexeme)
+    ensures dead { (names : List (List ℕ)) (us : List TokenClass)
         → read.reading read.start us ≡ None → ViableExpressions names us → ⊥ }
 {}
 

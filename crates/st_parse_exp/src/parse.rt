@@ -8,9 +8,9 @@ ghost use Rattle.st_grammar.specs.Grammar.{Fits};
 ghost use Rattle.st_el.specs.declared.expression.Exp.{Exp};
 ghost use Rattle.st_parse_builder.specs.Meaning.{meaning};
 ghost use Rattle.st_parse_builder.specs.Actions.{acts};
-ghost use Rattle.st_parse_automaton.specs.declared.place.Slot.{Slot};
-ghost use Rattle.st_parse_automaton.specs.Outline as out;
-ghost use Rattle.st_parse_automaton.specs.Course as course;
+ghost use Rattle.st_parse_automaton.specs.declared.position.Slot.{Slot};
+ghost use Rattle.st_parse_automaton.specs.PartAutomaton as parts;
+ghost use Rattle.st_parse_automaton.specs.DefinitionAutomaton as definitions;
 ghost use Rattle.st_parse_automaton.specs.Readings.{progress_of};
 ghost use Rattle.st_parse_actions.specs.Emits as emits;
 ghost use Rattle.st_parse_faults.specs.Place as place;
@@ -22,7 +22,7 @@ use crate::draft::{end, take};
 use crate::judge::{begin, judge_next};
 use st_el::Exp;
 use st_num::{Name, Row, RuleId};
-use st_parse_automaton::{Progress, may_end, token_lexeme};
+use st_parse_automaton::{Progress, may_end, token_class};
 use st_parse_builder::Action;
 use st_parse_faults::{SyntaxFault, Verdict, place_at};
 use st_scan::Token;
@@ -56,8 +56,8 @@ fn last(
     actions: Row<Action<'_>>,
     exps: Option<Row<Exp>>,
 ) -> Result<Row<Exp>, SyntaxFault>
-    ensures { (k : Slot) (st : out.State) (ks : List Bracket) (t : Tree) (es : List Exp)
-        → progress_of progress.now ≡ course.inside k st ks → Fits (expression false) t
+    ensures { (k : Slot) (st : parts.State) (ks : List Bracket) (t : Tree) (es : List Exp)
+        → progress_of progress.now ≡ definitions.inside k st ks → Fits (expression false) t
         → acts t ≡ actions.entry ++ emits.finishing st → AreBuilt es exps
         → AreWhole tokens.now (es ++ meaning t ∷ []) result }
 {
@@ -82,17 +82,17 @@ pub fn parse_exp(
     let mut marks = Row::new(alloc);
     let mut actions = Row::new(alloc);
     'tokens: for (at, token) in tokens.iter().enumerate() {
-        let lexeme = token_lexeme(variables, token);
+        let class = token_class(variables, token);
         exps = take(
             alloc,
             &seen.progress,
-            lexeme,
+            class,
             token,
             &mut marks,
             &mut actions,
             exps,
         )?;
-        match judge_next(alloc, seen, &token.kind, lexeme)? {
+        match judge_next(alloc, seen, &token.kind, class)? {
             Verdict::Broken(rule) => return Err(refused(tokens, at, rule)),
             Verdict::Passed(next) => seen = next,
         }

@@ -5,13 +5,13 @@ use Rattle.std.proofs.lemmas.List.{take-append-drop}
 use Rattle.st_num.specs.declared.rule.RuleId.{RuleId}
 use Rattle.st_num.specs.declared.rule.RuleId.TheVariants.{S1, S2, S3, S4}
 use Rattle.st_scan.specs.declared.token.Token.{Token}
-use Rattle.st_grammar.specs.Lexemes.{Lexeme, lexeme, declared_names}
+use Rattle.st_grammar.specs.Terminals.{Terminal, terminal, declared_names}
 use Rattle.st_grammar.specs.Definitions.{ParseDefs}
-use Rattle.st_grammar.specs.Places.{State, start, step, finish, reading}
-use Rattle.st_grammar.proofs.PlaceReading.{sound_defs}
-use Rattle.st_grammar.proofs.PlaceEnds.{viable}
-use Rattle.st_grammar.proofs.PlaceComplete.{dead_defs, complete_defs}
-use Rattle.st_parse_automaton.specs.Refusal.{lexemes_of, IsSource, IsViable, RefusedAt}
+use Rattle.st_grammar.specs.Positions.{State, start, step, finish, reading}
+use Rattle.st_grammar.proofs.PositionReading.{sound_defs}
+use Rattle.st_grammar.proofs.PositionEnds.{viable}
+use Rattle.st_grammar.proofs.PositionComplete.{dead_defs, complete_defs}
+use Rattle.st_parse_automaton.specs.Refusal.{terminals_of, AreDefinitions, IsViable, RefusedAt}
 use Rattle.st_parse_automaton.proofs.Exact.{take_shorter}
 use Rattle.st_parse_automaton.proofs.Loop.{last_step, one_more, whole_list}
 use Rattle.st_parse_faults.specs.Faults.{Seen, Verdict, passed, broken, opens_too_many, passes_limit, limited, seen_after, judged, judge, judge_all, verdict, Faultless, FirstFault}
@@ -38,7 +38,7 @@ front_passes tokens j k last h g e =
         absurd (never_passes (declared_names tokens) r (drop j (take k tokens)) last (ap (λ v. judge_all (declared_names tokens) v (drop j (take k tokens))) (sym f) ∙ i))
 
 pub passes_viable : (tokens : List Token) (k : ℕ) (seen : Seen) → verdict tokens k ≡ passed seen → IsViable tokens k
-passes_viable tokens k seen e = viable (declared_names tokens) (take k (lexemes_of tokens)) seen.state (verdict_reads tokens k seen e)
+passes_viable tokens k seen e = viable (declared_names tokens) (take k (terminals_of tokens)) seen.state (verdict_reads tokens k seen e)
 
 -- ---- one fault
 
@@ -58,8 +58,8 @@ none_earlier tokens j k q r (inl f) g h =
     absurd (cc)
 none_earlier tokens j k q r (inr f) g h = absurd (omega (arith, f.0, fault_within tokens k r g))
 
-pub one_place : (tokens : List Token) (j k : ℕ) (q r : RuleId) → FirstFault tokens j q → FirstFault tokens k r → j ≡ k
-one_place tokens j k q r f g = go (nat_lt j k) refl (nat_lt k j) refl
+pub one_token : (tokens : List Token) (j k : ℕ) (q r : RuleId) → FirstFault tokens j q → FirstFault tokens k r → j ≡ k
+one_token tokens j k q r f g = go (nat_lt j k) refl (nat_lt k j) refl
   where
     go : (b : Bool) → nat_lt j k ≡ b → (c : Bool) → nat_lt k j ≡ c → j ≡ k
     go true e c i = absurd (none_earlier tokens j k q r f g (grind arith))
@@ -74,7 +74,7 @@ same_rule tokens k q r (inr f) (inr g) = f.1 ∙ sym g.1
 
 pub one_fault : (tokens : List Token) (j k : ℕ) (q r : RuleId) → FirstFault tokens j q → FirstFault tokens k r → (j ≡ k) × (q ≡ r)
 one_fault tokens j k q r f g =
-    let e = one_place tokens j k q r f g in
+    let e = one_token tokens j k q r f g in
     (e, same_rule tokens k q r (subst (λ n. FirstFault tokens n q) e f) g)
 
 pub never_both : (tokens : List Token) (k : ℕ) (r : RuleId) → FirstFault tokens k r → Faultless tokens → ⊥
@@ -90,15 +90,15 @@ never_both tokens k r (inr f) s =
 
 -- ---- the grammar
 
-pub is_source : (tokens : List Token) → Faultless tokens → IsSource tokens
-is_source tokens s =
-    (s.1, subst (λ us. ParseDefs us s.1) (whole_list tokens (length tokens) (omega arith)) (sound_defs (take (length tokens) (lexemes_of tokens)) s.0.state s.1 (verdict_reads tokens (length tokens) s.0 s.2) s.3))
+pub are_definitions : (tokens : List Token) → Faultless tokens → AreDefinitions tokens
+are_definitions tokens s =
+    (s.1, subst (λ us. ParseDefs us s.1) (whole_list tokens (length tokens) (omega arith)) (sound_defs (take (length tokens) (terminals_of tokens)) s.0.state s.1 (verdict_reads tokens (length tokens) s.0 s.2) s.3))
 
 -- a rule that is no limit
 abbrev pub OfGrammar : RuleId → Type 0
 OfGrammar r = (r ≡ S2 → ⊥) × (r ≡ S3 → ⊥)
 
-pub not_read : (seen : Seen) (x : Token) (l : Lexeme) (o : Option State) (r : RuleId) → judged seen x l o ≡ broken r → OfGrammar r → o ≡ None
+pub not_read : (seen : Seen) (x : Token) (l : Terminal) (o : Option State) (r : RuleId) → judged seen x l o ≡ broken r → OfGrammar r → o ≡ None
 not_read seen x l None r e h = refl
 not_read seen x l (Some next) r e h =
     let s = seen_after seen l next in
@@ -117,24 +117,24 @@ pub dead_next : (tokens : List Token) (k : ℕ) (r : RuleId) (seen : Seen) (d : 
     → IsViable tokens (k + 1) → ⊥
 dead_next tokens k r seen d h g e f v =
     let x = get_or tokens k d in
-    let l = lexeme (declared_names tokens) x in
-    let us = take k (lexemes_of tokens) in
+    let l = terminal (declared_names tokens) x in
+    let us = take k (terminals_of tokens) in
     let read = verdict_reads tokens k seen e in
     let next : judge (declared_names tokens) seen x ≡ broken r = ap (λ w. judge_next (declared_names tokens) w x) (sym e) ∙ sym (verdict_more tokens k d g) ∙ f in
     let none = not_read seen x l (step seen.state l) r next h in
-    dead_defs (declared_names tokens) (take (k + 1) (lexemes_of tokens)) (ap (reading start) (one_more tokens k d g) ∙ last_step us l seen.state read ∙ none) v
+    dead_defs (declared_names tokens) (take (k + 1) (terminals_of tokens)) (ap (reading start) (one_more tokens k d g) ∙ last_step us l seen.state read ∙ none) v
 
 pub is_refused : (tokens : List Token) (k : ℕ) (r : RuleId) → OfGrammar r → FirstFault tokens k r → RefusedAt tokens k
 is_refused tokens k r h (inl (g, (seen, e), f)) = inl (g, passes_viable tokens k seen e, dead_next tokens k r seen (some_token tokens k g) h g e f)
 is_refused tokens k r h (inr (e, i, (seen, f, n))) =
-    let us = take k (lexemes_of tokens) in
-    let all : us ≡ lexemes_of tokens = whole_list tokens k (omega (arith, e)) in
+    let us = take k (terminals_of tokens) in
+    let all : us ≡ terminals_of tokens = whole_list tokens k (omega (arith, e)) in
     inr (
       e,
       passes_viable tokens k seen f,
       λ s.
-          let done = complete_defs (lexemes_of tokens) s.0 s.1 in
-          let nothing : option_and_then finish (reading start (lexemes_of tokens)) ≡ None = ap (option_and_then finish) (ap (reading start) (sym all) ∙ verdict_reads tokens k seen f) ∙ n in
+          let done = complete_defs (terminals_of tokens) s.0 s.1 in
+          let nothing : option_and_then finish (reading start (terminals_of tokens)) ≡ None = ap (option_and_then finish) (ap (reading start) (sym all) ∙ verdict_reads tokens k seen f) ∙ n in
           absurd (cc),
     )
 

@@ -1,7 +1,7 @@
 pub mod KeptTallies
 pub mod Tallies
 pub mod TallyMoves
-pub mod PlaceTallies
+pub mod PositionTallies
 pub mod SeenView
 pub mod Verdicts
 pub mod Loop

@@ -4,32 +4,32 @@ use Rattle.std.proofs.lemmas.List.{take_all}
 use Rattle.st_num.specs.declared.rule.RuleId.{RuleId}
 use Rattle.st_num.specs.declared.rule.RuleId.TheVariants.{S1}
 use Rattle.st_scan.specs.declared.token.Token.{Token}
-use Rattle.st_grammar.specs.Lexemes.{lexeme, declared_names}
-use Rattle.st_grammar.specs.Places.{finish}
-use Rattle.st_grammar.proofs.PlaceTexts.{Holds}
-use Rattle.st_parse_automaton.specs.declared.place.Lexeme.{Lexeme}
-use Rattle.st_parse_automaton.specs.Course as course
-use Rattle.st_parse_automaton.specs.Shapes.{lexeme_of}
+use Rattle.st_grammar.specs.Terminals.{terminal, declared_names}
+use Rattle.st_grammar.specs.Positions.{finish}
+use Rattle.st_grammar.proofs.PositionTexts.{Holds}
+use Rattle.st_parse_automaton.specs.declared.position.TokenClass.{TokenClass}
+use Rattle.st_parse_automaton.specs.DefinitionAutomaton as definitions
+use Rattle.st_parse_automaton.specs.Shapes.{class_of}
 use Rattle.st_parse_automaton.specs.Readings.{progress_of}
-use Rattle.st_parse_automaton.specs.Refusal.{lexemes_of}
-use Rattle.st_parse_automaton.proofs.CourseSimulation.{may_end_is, is_some}
+use Rattle.st_parse_automaton.specs.Refusal.{terminals_of}
+use Rattle.st_parse_automaton.proofs.DefinitionSimulation.{may_end_is, is_some}
 use Rattle.st_parse_automaton.proofs.Loop.{holds, found, not_found}
 use Rattle.st_parse_faults.specs.declared.judge.Seen.{Seen as CodeSeen}
 use Rattle.st_parse_faults.specs.declared.judge.Verdict.{Verdict as Code}
 use Rattle.st_parse_faults.specs.declared.judge.Verdict.TheVariants as code
 use Rattle.st_parse_faults.specs.Faults.{Seen, Verdict, passed, broken, judge, judge_all, verdict, Faultless, FirstFault}
 use Rattle.st_parse_faults.specs.Seen as seen
-use Rattle.st_parse_faults.proofs.SeenView.{outline, view, judge_is}
+use Rattle.st_parse_faults.proofs.SeenView.{summary, view, judge_is}
 use Rattle.st_parse_faults.proofs.Verdicts.{judge_next, verdict_more, verdict_reads}
 
 -- these tokens passed up to here
 abbrev pub Passes : List Token → ℕ → CodeSeen → Type 0
-Passes tokens k p = (s : Seen) × (verdict tokens k ≡ passed s) × (outline s ≡ seen.outline_of p)
+Passes tokens k p = (s : Seen) × (verdict tokens k ≡ passed s) × (summary s ≡ seen.summary_of p)
 
 pub passes_holds : (tokens : List Token) (k : ℕ) (s : Seen) → verdict tokens k ≡ passed s → Holds s.state
-passes_holds tokens k s e = holds (take k (lexemes_of tokens)) s.state (verdict_reads tokens k s e)
+passes_holds tokens k s e = holds (take k (terminals_of tokens)) s.state (verdict_reads tokens k s e)
 
-pub view_passes : (v : Verdict) (w : seen.Outline) → view v ≡ seen.passed w → (s : Seen) × (v ≡ passed s) × (outline s ≡ w)
+pub view_passes : (v : Verdict) (w : seen.Summary) → view v ≡ seen.passed w → (s : Seen) × (v ≡ passed s) × (summary s ≡ w)
 view_passes (passed s) w e = (s, refl, cc)
 view_passes (broken r) w e = absurd (cc)
 
@@ -38,28 +38,28 @@ view_breaks (passed s) r e = absurd (cc)
 view_breaks (broken q) r e = let f : q ≡ r = cc in ap broken f
 
 -- the verdict on the token of the list
-pub at_token : (tokens : List Token) (names : List (List ℕ)) (i : ℕ) (x : Token) (l : Lexeme) (p : CodeSeen) (w : seen.Verdict) → i < length tokens → Passes tokens i p
-    → x ≡ get_or tokens i x → names ≡ declared_names tokens → l ≡ lexeme_of (lexeme names x) → w ≡ seen.judge (seen.outline_of p) x.kind l
+pub at_token : (tokens : List Token) (names : List (List ℕ)) (i : ℕ) (x : Token) (l : TokenClass) (p : CodeSeen) (w : seen.Verdict) → i < length tokens → Passes tokens i p
+    → x ≡ get_or tokens i x → names ≡ declared_names tokens → l ≡ class_of (terminal names x) → w ≡ seen.judge (seen.summary_of p) x.kind l
     → w ≡ view (verdict tokens (i + 1))
 at_token tokens names i x l p w h (s, e, o) t g k f =
     f
-    ∙ ap (seen.judge (seen.outline_of p) x.kind) k
-    ∙ ap (λ v. seen.judge v x.kind (lexeme_of (lexeme names x))) (sym o)
+    ∙ ap (seen.judge (seen.summary_of p) x.kind) k
+    ∙ ap (λ v. seen.judge v x.kind (class_of (terminal names x))) (sym o)
     ∙ judge_is names s x (passes_holds tokens i s e)
     ∙ ap (λ y. view (judge names s y)) t
     ∙ ap (λ ns. view (judge ns s (get_or tokens i x))) g
     ∙ ap (λ v. view (judge_next (declared_names tokens) v (get_or tokens i x))) (sym e)
     ∙ ap view (sym (verdict_more tokens i x h))
 
-pub token_passes : (tokens : List Token) (names : List (List ℕ)) (i : ℕ) (x : Token) (l : Lexeme) (p : CodeSeen) (v : Code) (q : CodeSeen) → i < length tokens → Passes tokens i p
-    → x ≡ get_or tokens i x → names ≡ declared_names tokens → l ≡ lexeme_of (lexeme names x) → seen.verdict_of v ≡ seen.judge (seen.outline_of p) x.kind l → v ≡ code.Passed q
+pub token_passes : (tokens : List Token) (names : List (List ℕ)) (i : ℕ) (x : Token) (l : TokenClass) (p : CodeSeen) (v : Code) (q : CodeSeen) → i < length tokens → Passes tokens i p
+    → x ≡ get_or tokens i x → names ≡ declared_names tokens → l ≡ class_of (terminal names x) → seen.verdict_of v ≡ seen.judge (seen.summary_of p) x.kind l → v ≡ code.Passed q
     → Passes tokens (i + 1) q
 token_passes tokens names i x l p v q h a t g k f e =
-    view_passes (verdict tokens (i + 1)) (seen.outline_of q)
+    view_passes (verdict tokens (i + 1)) (seen.summary_of q)
     (sym (at_token tokens names i x l p (seen.verdict_of v) h a t g k f) ∙ ap seen.verdict_of e)
 
-pub token_breaks : (tokens : List Token) (names : List (List ℕ)) (i : ℕ) (x : Token) (l : Lexeme) (p : CodeSeen) (v : Code) (r : RuleId) → i < length tokens → Passes tokens i p
-    → x ≡ get_or tokens i x → names ≡ declared_names tokens → l ≡ lexeme_of (lexeme names x) → seen.verdict_of v ≡ seen.judge (seen.outline_of p) x.kind l → v ≡ code.Broken r
+pub token_breaks : (tokens : List Token) (names : List (List ℕ)) (i : ℕ) (x : Token) (l : TokenClass) (p : CodeSeen) (v : Code) (r : RuleId) → i < length tokens → Passes tokens i p
+    → x ≡ get_or tokens i x → names ≡ declared_names tokens → l ≡ class_of (terminal names x) → seen.verdict_of v ≡ seen.judge (seen.summary_of p) x.kind l → v ≡ code.Broken r
     → FirstFault tokens i r
 token_breaks tokens names i x l p v r h a t g k f e =
     inl (
@@ -74,16 +74,16 @@ all_tokens tokens i h =
     let same : take i tokens ≡ take (length tokens) tokens = take_all i tokens h ∙ sym (take_all (length tokens) tokens (omega arith)) in
     ap (judge_all (declared_names tokens) _) same
 
-pub ends_well : (tokens : List Token) (i : ℕ) (p : CodeSeen) (b : Bool) → length tokens ≤ i → Passes tokens i p → b ≡ course.may_end (progress_of p.progress) → b ≡ true → Faultless tokens
+pub ends_well : (tokens : List Token) (i : ℕ) (p : CodeSeen) (b : Bool) → length tokens ≤ i → Passes tokens i p → b ≡ definitions.may_end (progress_of p.progress) → b ≡ true → Faultless tokens
 ends_well tokens i p b h (s, e, o) f t =
-    let yes : is_some (finish s.state) ≡ true = sym (may_end_is s.state (passes_holds tokens i s e)) ∙ ap (λ v. course.may_end v.state) o ∙ sym f ∙ t in
+    let yes : is_some (finish s.state) ≡ true = sym (may_end_is s.state (passes_holds tokens i s e)) ∙ ap (λ v. definitions.may_end v.state) o ∙ sym f ∙ t in
     let r = found (finish s.state) yes in
     (s, r.0, sym (all_tokens tokens i h) ∙ e, r.1)
 
-pub ends_early : (tokens : List Token) (i : ℕ) (p : CodeSeen) (b : Bool) → length tokens ≤ i → Passes tokens i p → b ≡ course.may_end (progress_of p.progress) → b ≡ false
+pub ends_early : (tokens : List Token) (i : ℕ) (p : CodeSeen) (b : Bool) → length tokens ≤ i → Passes tokens i p → b ≡ definitions.may_end (progress_of p.progress) → b ≡ false
     → FirstFault tokens (length tokens) S1
 ends_early tokens i p b h (s, e, o) f t =
-    let no : is_some (finish s.state) ≡ false = sym (may_end_is s.state (passes_holds tokens i s e)) ∙ ap (λ v. course.may_end v.state) o ∙ sym f ∙ t in
+    let no : is_some (finish s.state) ≡ false = sym (may_end_is s.state (passes_holds tokens i s e)) ∙ ap (λ v. definitions.may_end v.state) o ∙ sym f ∙ t in
     inr (refl, refl, (s, sym (all_tokens tokens i h) ∙ e, not_found (finish s.state) no))
 
 pub bounded : (v : Code) (q : CodeSeen) → v ≡ code.Passed q → seen.IsBounded v → seen.SeenKept q

@@ -4,20 +4,20 @@ use Rattle.st_scan.specs.declared.token.Token.{Token}
 use Rattle.st_grammar.specs.declared.sort.Sort.{Sort}
 use Rattle.st_grammar.specs.declared.sort.Sort.TheVariants as sort
 use Rattle.st_grammar.specs.declared.sort.Closing.TheVariants as closings
-use Rattle.st_grammar.specs.Lexemes.{Lexeme, lexeme, leaf, dot, sign, opening, closing, other}
+use Rattle.st_grammar.specs.Terminals.{Terminal, terminal, leaf, dot, sign, opening, closing, other}
 use Rattle.st_grammar.specs.Trees as tree
 use Rattle.st_grammar.specs.Trees.{Tree, Heading}
 use Rattle.st_grammar.specs.Definitions.{no_hints, more_hints, no_iterations, closed, marked, counted}
 use Rattle.st_grammar.specs.Reading as part
-use Rattle.st_grammar.specs.Places as spec
-use Rattle.st_grammar.specs.Places.{field_slot, case_slot, var_slot, notation_slot, fun_slot, arg_slot, rule_slot, cond_slot, count_slot, of_syntax, of_field, of_case, of_var, of_relation, of_notation, of_fun, between, syntax_name, var_name, var_colon, relation_name, rule_name, rule_colon, fun_name, fun_named, argued, args_closed, syntax_id, rule_id, hinted, hint_open, hint_name, hint_words, entering, dotted, field_name, premised, premise_open, goal_colon, iterated}
-use Rattle.st_grammar.proofs.PlaceTexts as texts
-use Rattle.st_parse_automaton.specs.Outline as out
-use Rattle.st_parse_automaton.specs.Course as course
-use Rattle.st_parse_automaton.specs.Shapes.{shape, lexeme_of}
+use Rattle.st_grammar.specs.Positions as spec
+use Rattle.st_grammar.specs.Positions.{field_slot, case_slot, var_slot, notation_slot, fun_slot, arg_slot, rule_slot, cond_slot, count_slot, of_syntax, of_field, of_case, of_var, of_relation, of_notation, of_fun, between, syntax_name, var_name, var_colon, relation_name, rule_name, rule_colon, fun_name, fun_named, argued, args_closed, syntax_id, rule_id, hinted, hint_open, hint_name, hint_words, entering, dotted, field_name, premised, premise_open, goal_colon, iterated}
+use Rattle.st_grammar.proofs.PositionTexts as texts
+use Rattle.st_parse_automaton.specs.PartAutomaton as parts
+use Rattle.st_parse_automaton.specs.DefinitionAutomaton as definitions
+use Rattle.st_parse_automaton.specs.Shapes.{shape, class_of}
 use Rattle.st_parse_automaton.proofs.View.{part_of, kind_of, frames_of, part_type, top_sort}
-use Rattle.st_parse_automaton.proofs.CourseView.{course_of, slot_sort_is}
-use Rattle.st_parse_automaton.proofs.CourseSimulation.{step_is}
+use Rattle.st_parse_automaton.proofs.DefinitionView.{definitions_of, slot_sort_is}
+use Rattle.st_parse_automaton.proofs.DefinitionSimulation.{step_is}
 use Rattle.st_parse_faults.specs.LeftOut.{is_type_in, type_or_other, before_next}
 use Rattle.st_parse_faults.specs.Nesting as nest
 use Rattle.st_parse_faults.specs.Counts as counts
@@ -26,8 +26,8 @@ use Rattle.st_parse_faults.specs.Seen as seen
 use Rattle.st_parse_faults.specs.declared.counts.Counts.{Counts}
 use Rattle.st_parse_faults.specs.declared.tally.Tally.{Tally}
 use Rattle.st_parse_faults.specs.Limits.{tallies}
-use Rattle.st_parse_faults.specs.Deeds.{stance_of, tallies_after}
-use Rattle.st_parse_faults.proofs.PlaceTallies.{After, tallies_are}
+use Rattle.st_parse_faults.specs.Roles.{attachment_of, tallies_after}
+use Rattle.st_parse_faults.proofs.PositionTallies.{After, tallies_are}
 
 -- ---- what stands before
 
@@ -39,9 +39,9 @@ type_is sort.Typ t = refl
 type_is sort.Count t = refl
 type_is sort.Bound t = refl
 
-pub inside_is : (s : spec.Slot) (st : part.State) → texts.Holds (spec.inside s st) → seen.stands_before (course_of (spec.inside s st)) ≡ before_next (spec.inside s st)
+pub inside_is : (s : spec.Slot) (st : part.State) → texts.Holds (spec.inside s st) → seen.stands_before (definitions_of (spec.inside s st)) ≡ before_next (spec.inside s st)
 inside_is s (part.got t fs) h =
-    ap (λ σ. type_or_other (seen.ends_type (out.top σ (frames_of fs)) (part_of t))) (slot_sort_is s ∙ sym h.2)
+    ap (λ σ. type_or_other (seen.ends_type (parts.top σ (frames_of fs)) (part_of t))) (slot_sort_is s ∙ sym h.2)
     ∙ ap (λ σ. type_or_other (seen.ends_type σ (part_of t))) (top_sort fs)
     ∙ ap type_or_other (type_is (part.sort fs) t)
 inside_is s (part.want fs) h = refl
@@ -50,7 +50,7 @@ inside_is s (part.pathed p fs) h = refl
 inside_is s (part.indexing o fs) h = refl
 inside_is s (part.comparing o i fs) h = refl
 
-pub before_is : (st : spec.State) → texts.Holds st → seen.stands_before (course_of st) ≡ before_next st
+pub before_is : (st : spec.State) → texts.Holds st → seen.stands_before (definitions_of st) ≡ before_next st
 before_is (spec.inside s st) h = inside_is s st h
 before_is (spec.at (between ds)) h = refl
 before_is (spec.at (hinted (of_syntax ds w x []) no_hints)) h = refl
@@ -88,7 +88,7 @@ before_is (spec.at (goal_colon r t ps d os n)) h = refl
 
 -- ---- what is open
 
-pub nesting_after_is : (n : ℕ) (l : Lexeme) → seen.nesting_after n (shape l) ≡ nest.nesting_after n l
+pub nesting_after_is : (n : ℕ) (l : Terminal) → seen.nesting_after n (shape l) ≡ nest.nesting_after n l
 nesting_after_is n (leaf k x) = refl
 nesting_after_is n (dot x) = refl
 nesting_after_is n (sign m x) = refl
@@ -99,7 +99,7 @@ nesting_after_is n (closing closings.ByBrace x) = refl
 nesting_after_is n (closing closings.ByBar x) = refl
 nesting_after_is n (other x) = refl
 
-pub may_open_is : (l : Lexeme) → seen.may_open (shape l) ≡ nest.may_open l
+pub may_open_is : (l : Terminal) → seen.may_open (shape l) ≡ nest.may_open l
 may_open_is (leaf k x) = refl
 may_open_is (dot x) = refl
 may_open_is (sign m x) = refl
@@ -125,7 +125,7 @@ frame_bars_is (part.within h ts pre fs) = ap (λ n. n + seen.frame_bars (frames_
 frame_bars_is (part.over g fs) = omega (arith, frame_bars_is fs)
 frame_bars_is (part.timing t m x fs) = omega (arith, frame_bars_is fs)
 
-pub bars_is : (st : spec.State) → seen.bars (course_of st) ≡ nest.bars st
+pub bars_is : (st : spec.State) → seen.bars (definitions_of st) ≡ nest.bars st
 bars_is (spec.at p) = refl
 bars_is (spec.inside s (part.want fs)) = frame_bars_is fs
 bars_is (spec.inside s (part.got t fs)) = frame_bars_is fs
@@ -136,7 +136,7 @@ bars_is (spec.inside s (part.comparing o i fs)) = frame_bars_is fs
 
 -- ---- counts
 
-pub due_is : (st : spec.State) → seen.member_due (course_of st) ≡ counts.member_due st
+pub due_is : (st : spec.State) → seen.member_due (definitions_of st) ≡ counts.member_due st
 due_is (spec.at (between ds)) = refl
 due_is (spec.at (hinted k hs)) = refl
 due_is (spec.at (premised r t ps)) = refl
@@ -179,7 +179,7 @@ due_is (spec.inside (arg_slot ds w f o ts pre) (part.pathed p fs)) = refl
 due_is (spec.inside (arg_slot ds w f o ts pre) (part.indexing a fs)) = refl
 due_is (spec.inside (arg_slot ds w f o ts pre) (part.comparing a j fs)) = refl
 
-pub event_is : (b : Bool) (st : spec.State) → seen.event b (course_of st) ≡ counts.event b st
+pub event_is : (b : Bool) (st : spec.State) → seen.event b (definitions_of st) ≡ counts.event b st
 event_is b (spec.at (between ds)) = refl
 event_is b (spec.at (hinted k hs)) = refl
 event_is b (spec.at (premised r t ps)) = refl
@@ -228,51 +228,51 @@ event_is b (spec.inside (count_slot r t ps d os ls u i l) (part.comparing a j fs
 
 -- ---- verdicts
 
-abbrev pub outline : faults.Seen → seen.Outline
-outline s =
+abbrev pub summary : faults.Seen → seen.Summary
+summary s =
     record {
-      state = course_of s.state;
+      state = definitions_of s.state;
       nesting = s.nesting;
       counts = s.counts;
       tallies = tallies s.state;
     }
 
 abbrev pub view : faults.Verdict → seen.Verdict
-view (faults.passed s) = seen.passed (outline s)
+view (faults.passed s) = seen.passed (summary s)
 view (faults.broken r) = seen.broken r
 
-pub too_many_is : (s : faults.Seen) (l : Lexeme) → seen.opens_too_many (course_of s.state) s.nesting (shape l) ≡ faults.opens_too_many s l
+pub too_many_is : (s : faults.Seen) (l : Terminal) → seen.opens_too_many (definitions_of s.state) s.nesting (shape l) ≡ faults.opens_too_many s l
 too_many_is s l =
-    ap (λ b. b && nat_lt faults.nesting_limit (s.nesting + seen.bars (course_of s.state))) (may_open_is l)
+    ap (λ b. b && nat_lt faults.nesting_limit (s.nesting + seen.bars (definitions_of s.state))) (may_open_is l)
     ∙ ap (λ n. nest.may_open l && nat_lt faults.nesting_limit (s.nesting + n)) (bars_is s.state)
 
-pub kept_is : (s : faults.Seen) (l : Lexeme) → seen.kept (outline s) (shape l) ≡ view (faults.kept s l)
-kept_is s l = ap (λ b. seen.limited b (faults.passes_limit s) (outline s)) (too_many_is s l) ∙ go (faults.opens_too_many s l) (faults.passes_limit s)
+pub kept_is : (s : faults.Seen) (l : Terminal) → seen.kept (summary s) (shape l) ≡ view (faults.kept s l)
+kept_is s l = ap (λ b. seen.limited b (faults.passes_limit s) (summary s)) (too_many_is s l) ∙ go (faults.opens_too_many s l) (faults.passes_limit s)
   where
-    go : (b c : Bool) → seen.limited b c (outline s) ≡ view (faults.limited b c s)
+    go : (b c : Bool) → seen.limited b c (summary s) ≡ view (faults.limited b c s)
     go true c = refl
     go false true = refl
     go false false = refl
 
-abbrev pub known : course.State → ℕ → Counts → List Tally → seen.Outline
+abbrev pub known : definitions.State → ℕ → Counts → List Tally → seen.Summary
 known st n c ys = record { state = st; nesting = n; counts = c; tallies = ys }
 
-pub after_is : (s : faults.Seen) (l : Lexeme) (next : spec.State) → tallies next ≡ tallies_after (stance_of (course_of s.state) (shape l)) (shape l) (course_of next) (tallies s.state)
-    → seen.outline_after (outline s) (shape l) (course_of next) ≡ outline (faults.seen_after s l next)
+pub after_is : (s : faults.Seen) (l : Terminal) (next : spec.State) → tallies next ≡ tallies_after (attachment_of (definitions_of s.state) (shape l)) (shape l) (definitions_of next) (tallies s.state)
+    → seen.summary_after (summary s) (shape l) (definitions_of next) ≡ summary (faults.seen_after s l next)
 after_is s l next e =
-    ap (λ n. known (course_of next) n (counts.counts_after s.counts (seen.event (seen.member_due (course_of s.state)) (course_of next))) (tallies_after (stance_of (course_of s.state) (shape l)) (shape l) (course_of next) (tallies s.state))) (nesting_after_is s.nesting l)
-    ∙ ap (λ b. known (course_of next) (nest.nesting_after s.nesting l) (counts.counts_after s.counts (seen.event b (course_of next))) (tallies_after (stance_of (course_of s.state) (shape l)) (shape l) (course_of next) (tallies s.state))) (due_is s.state)
-    ∙ ap (λ f. known (course_of next) (nest.nesting_after s.nesting l) (counts.counts_after s.counts f) (tallies_after (stance_of (course_of s.state) (shape l)) (shape l) (course_of next) (tallies s.state))) (event_is (counts.member_due s.state) next)
-    ∙ ap (λ ys. known (course_of next) (nest.nesting_after s.nesting l) (counts.counts_after s.counts (counts.event (counts.member_due s.state) next)) ys) (sym e)
+    ap (λ n. known (definitions_of next) n (counts.counts_after s.counts (seen.event (seen.member_due (definitions_of s.state)) (definitions_of next))) (tallies_after (attachment_of (definitions_of s.state) (shape l)) (shape l) (definitions_of next) (tallies s.state))) (nesting_after_is s.nesting l)
+    ∙ ap (λ b. known (definitions_of next) (nest.nesting_after s.nesting l) (counts.counts_after s.counts (seen.event b (definitions_of next))) (tallies_after (attachment_of (definitions_of s.state) (shape l)) (shape l) (definitions_of next) (tallies s.state))) (due_is s.state)
+    ∙ ap (λ f. known (definitions_of next) (nest.nesting_after s.nesting l) (counts.counts_after s.counts f) (tallies_after (attachment_of (definitions_of s.state) (shape l)) (shape l) (definitions_of next) (tallies s.state))) (event_is (counts.member_due s.state) next)
+    ∙ ap (λ ys. known (definitions_of next) (nest.nesting_after s.nesting l) (counts.counts_after s.counts (counts.event (counts.member_due s.state) next)) ys) (sym e)
 
-pub judged_is : (s : faults.Seen) (x : Token) (l : Lexeme) (o : Option spec.State) → texts.Holds s.state → After (stance_of (course_of s.state) (shape l)) l (tallies s.state) o
-    → seen.judged (outline s) x.kind (shape l) (option_map course_of o) ≡ view (faults.judged s x l o)
+pub judged_is : (s : faults.Seen) (x : Token) (l : Terminal) (o : Option spec.State) → texts.Holds s.state → After (attachment_of (definitions_of s.state) (shape l)) l (tallies s.state) o
+    → seen.judged (summary s) x.kind (shape l) (option_map definitions_of o) ≡ view (faults.judged s x l o)
 judged_is s x l None h a = ap (λ b. seen.broken (seen.refusal b s.nesting x.kind)) (before_is s.state h)
 judged_is s x l (Some next) h a = ap (λ v. seen.kept v (shape l)) (after_is s l next a) ∙ kept_is (faults.seen_after s l next) l
 
 pub judge_is : (names : List (List ℕ)) (s : faults.Seen) (x : Token) → texts.Holds s.state
-    → seen.judge (outline s) x.kind (lexeme_of (lexeme names x)) ≡ view (faults.judge names s x)
+    → seen.judge (summary s) x.kind (class_of (terminal names x)) ≡ view (faults.judge names s x)
 judge_is names s x h =
-    let l = lexeme names x in
-    ap (seen.judged (outline s) x.kind (shape l)) (step_is s.state l h)
+    let l = terminal names x in
+    ap (seen.judged (summary s) x.kind (shape l)) (step_is s.state l h)
     ∙ judged_is s x l (spec.step s.state l) h (tallies_are s.state l h)

@@ -5,31 +5,31 @@ use Rattle.st_scan.specs.declared.token.Token.{Token}
 use Rattle.st_grammar.specs.declared.sort.Bracket.{Bracket}
 use Rattle.st_grammar.specs.declared.sort.Bracket.TheVariants as bracket_of
 use Rattle.st_grammar.specs.declared.sort.Closing.TheVariants as closings
-use Rattle.st_grammar.specs.Lexemes.{Lexeme, leaf, dot, sign, opening, closing, other}
+use Rattle.st_grammar.specs.Terminals.{Terminal, leaf, dot, sign, opening, closing, other}
 use Rattle.st_grammar.specs.Levels.{takes, encloses, computes, is_count, has_level, ahead_level}
 use Rattle.st_grammar.specs.Trees.{Tree, operand, bracket, ahead, none, more, plain, length, arguments, index, segment, update, below}
 use Rattle.st_grammar.specs.Reading.{Frames, bottom, within, over, timing, State, want, indexing, sort, least, settle, opened, begin_opening, begin}
 use Rattle.st_grammar.proofs.Sound.{Stand}
 use Rattle.st_parse_automaton.specs.Shapes.{shape}
 use Rattle.st_parse_automaton.proofs.View.{state_of}
-use Rattle.st_parse_faults.specs.declared.deed.Stance.{Stance}
-use Rattle.st_parse_faults.specs.declared.deed.Stance.TheVariants as stance
-use Rattle.st_parse_faults.specs.declared.deed.Deed.TheVariants as deed
+use Rattle.st_parse_faults.specs.declared.role.Attachment.{Attachment}
+use Rattle.st_parse_faults.specs.declared.role.Attachment.TheVariants as attachment
+use Rattle.st_parse_faults.specs.declared.role.TokenRole.TheVariants as role
 use Rattle.st_parse_faults.specs.declared.tally.Tally.{Tally}
 use Rattle.st_parse_faults.specs.Limits.{posts, is_turnstile, signs, signs_in, parts_in, elements_with, aheads, tally, fresh, held_tally, tallies_round, part_tallies}
-use Rattle.st_parse_faults.specs.Deeds.{none_open, begun, counted, moved}
+use Rattle.st_parse_faults.specs.Roles.{none_open, begun, counted, moved}
 
 -- Behind the token the tallies are those, and something is read.
-abbrev pub To : ℕ → Stance → Lexeme → List Tally → Option State → Type 0
+abbrev pub To : ℕ → Attachment → Terminal → List Tally → Option State → Type 0
 To n k l ys None = Unit {0}
 To n k l ys (Some next) =
     (part_tallies n next ≡ moved k (shape l) (state_of next) ys) × (none_open (state_of next) ≡ false)
 
-pub on_if : (n : ℕ) (k : Stance) (l : Lexeme) (ys : List Tally) (b : Bool) (x : State) (o : Option State) → (b ≡ true → To n k l ys (Some x)) → (b ≡ false → To n k l ys o) → To n k l ys (if b then Some x else o)
+pub on_if : (n : ℕ) (k : Attachment) (l : Terminal) (ys : List Tally) (b : Bool) (x : State) (o : Option State) → (b ≡ true → To n k l ys (Some x)) → (b ≡ false → To n k l ys o) → To n k l ys (if b then Some x else o)
 on_if n k l ys true x o f g = f refl
 on_if n k l ys false x o f g = g refl
 
-pub on_both : (n : ℕ) (k : Stance) (l : Lexeme) (ys : List Tally) (b : Bool) (p o : Option State) → (b ≡ true → To n k l ys p) → (b ≡ false → To n k l ys o) → To n k l ys (if b then p else o)
+pub on_both : (n : ℕ) (k : Attachment) (l : Terminal) (ys : List Tally) (b : Bool) (p o : Option State) → (b ≡ true → To n k l ys p) → (b ≡ false → To n k l ys o) → To n k l ys (if b then p else o)
 on_both n k l ys true p o f g = f refl
 on_both n k l ys false p o f g = g refl
 
@@ -70,7 +70,7 @@ pub record Ready (n : ℕ) (y : Tally) (fs : Frames) : Type 0 where
   pub element : y.elements + 1 ≡ elements_with fs
   pub sign : y.signs ≡ signs_in n fs
 
-pub operand_is : (n : ℕ) (y : Tally) (fs : Frames) → NoCount fs → Ready n y fs → counted y deed.Operand ≡ held_tally n 0 0 fs
+pub operand_is : (n : ℕ) (y : Tally) (fs : Frames) → NoCount fs → Ready n y fs → counted y role.Operand ≡ held_tally n 0 0 fs
 operand_is n y fs c r = same_tally _ _ _ _ _ _ _ _ false r.part r.element (omega (arith, r.sign)) refl ∙ sym (held n 0 0 fs c)
 
 -- what stands round an innermost bracket is in order
@@ -79,12 +79,12 @@ RoundStands (within h ts pre fs) = Stand fs
 RoundStands fs = Unit {0}
 
 -- where a sign may begin an operand, the prefix signs before it are counted
-abbrev pub RowReady : Lexeme → Tally → Frames → Type 0
+abbrev pub RowReady : Terminal → Tally → Frames → Type 0
 RowReady (sign m x) y fs = y.row ≡ aheads fs
 RowReady l y fs = Unit {0}
 
-pub leaf_begins : (n : ℕ) (y : Tally) (fs : Frames) (t : Tree) (l : Lexeme) → NoCount fs → Ready n y fs → signs t ≡ 0 → posts t ≡ 0
-    → part_tallies n (settle t fs) ≡ counted y deed.Operand ∷ tallies_round n fs
+pub leaf_begins : (n : ℕ) (y : Tally) (fs : Frames) (t : Tree) (l : Terminal) → NoCount fs → Ready n y fs → signs t ≡ 0 → posts t ≡ 0
+    → part_tallies n (settle t fs) ≡ counted y role.Operand ∷ tallies_round n fs
 leaf_begins n y (bottom σ) t l c r e f = ap (λ v. v ∷ []) (ap (λ v. tally 1 1 (v + n) (posts t) false) e ∙ ap (λ v. tally 1 1 (0 + n) v false) f ∙ sym (operand_is n y (bottom σ) c r))
 leaf_begins n y (within h ts pre fs) t l c r e f =
     ap (λ v. held_tally n v (posts t) (within h ts pre fs) ∷ tallies_round n (within h ts pre fs)) e ∙ ap (λ v. held_tally n 0 v (within h ts pre fs) ∷ tallies_round n (within h ts pre fs)) f
@@ -95,18 +95,18 @@ leaf_begins n y (over g fs) t l c r e f =
 leaf_begins n y (timing u m x fs) t l c r e f = absurd c
 
 pub sign_begins : (n : ℕ) (y : Tally) (fs : Frames) (m : Mark) (x : Token) → Ready n y fs → y.row ≡ aheads fs
-    → To n stance.Begins (sign m x) (y ∷ tallies_round n fs) (Some (want (over (ahead m x) fs)))
+    → To n attachment.Begins (sign m x) (y ∷ tallies_round n fs) (Some (want (over (ahead m x) fs)))
 sign_begins n y fs m x r w = (ap (λ v. v ∷ tallies_round n fs) (go (is_turnstile m)), refl)
   where
-    go : (b : Bool) → tally (parts_in fs + 1) 0 ((if b then 1 else 0) + signs_in n fs) (if b then 0 else aheads fs + 1) false ≡ counted y (if b then deed.Infix else deed.Prefix)
+    go : (b : Bool) → tally (parts_in fs + 1) 0 ((if b then 1 else 0) + signs_in n fs) (if b then 0 else aheads fs + 1) false ≡ counted y (if b then role.Infix else role.Prefix)
     go true = same_tally _ _ _ _ _ _ _ _ false (sym r.part) refl (omega (arith, r.sign)) refl
     go false = same_tally _ _ _ _ _ _ _ _ false (sym r.part) refl (omega (arith, r.sign)) (omega (arith, w))
 
 pub bracket_begins : (n : ℕ) (y : Tally) (fs : Frames) → NoCount fs → Ready n y fs
-    → fresh 0 ∷ held_tally n 0 0 fs ∷ tallies_round n fs ≡ fresh 0 ∷ counted y deed.Operand ∷ tallies_round n fs
+    → fresh 0 ∷ held_tally n 0 0 fs ∷ tallies_round n fs ≡ fresh 0 ∷ counted y role.Operand ∷ tallies_round n fs
 bracket_begins n y fs c r = ap (λ v. fresh 0 ∷ v ∷ tallies_round n fs) (sym (operand_is n y fs c r))
 
-pub plain_begins : (n : ℕ) (y : Tally) (fs : Frames) (b : Bracket) (x : Token) → NoCount fs → Ready n y fs → part_tallies n (opened b x fs) ≡ fresh 0 ∷ counted y deed.Operand ∷ tallies_round n fs
+pub plain_begins : (n : ℕ) (y : Tally) (fs : Frames) (b : Bracket) (x : Token) → NoCount fs → Ready n y fs → part_tallies n (opened b x fs) ≡ fresh 0 ∷ counted y role.Operand ∷ tallies_round n fs
 plain_begins n y fs bracket_of.Round x c r = bracket_begins n y fs c r
 plain_begins n y fs bracket_of.Square x c r = bracket_begins n y fs c r
 plain_begins n y fs bracket_of.Brace x c r = bracket_begins n y fs c r
@@ -125,13 +125,13 @@ plain_open bracket_of.TickBrace x fs = refl
 plain_open bracket_of.Dollar x fs = refl
 
 pub encloses_begins : (n : ℕ) (y : Tally) (fs : Frames) (b : Bracket) (x : Token) → NoCount fs → Ready n y fs
-    → To n stance.Begins (opening b x) (y ∷ tallies_round n fs) (if encloses (sort fs) b then Some (opened b x fs) else None)
-encloses_begins n y fs b x c r = on_if n stance.Begins (opening b x) (y ∷ tallies_round n fs) (encloses (sort fs) b) (opened b x fs) None (λ e. (plain_begins n y fs b x c r, plain_open b x fs)) (λ e. tt)
+    → To n attachment.Begins (opening b x) (y ∷ tallies_round n fs) (if encloses (sort fs) b then Some (opened b x fs) else None)
+encloses_begins n y fs b x c r = on_if n attachment.Begins (opening b x) (y ∷ tallies_round n fs) (encloses (sort fs) b) (opened b x fs) None (λ e. (plain_begins n y fs b x c r, plain_open b x fs)) (λ e. tt)
 
 pub opening_begins : (n : ℕ) (y : Tally) (fs : Frames) (b : Bracket) (x : Token) → NoCount fs → Ready n y fs
-    → To n stance.Begins (opening b x) (y ∷ tallies_round n fs) (begin_opening b x fs)
+    → To n attachment.Begins (opening b x) (y ∷ tallies_round n fs) (begin_opening b x fs)
 opening_begins n y fs bracket_of.Round x c r =
-    on_if n stance.Begins (opening bracket_of.Round x) (y ∷ tallies_round n fs) (is_count (sort fs)) (indexing x fs) (if encloses (sort fs) bracket_of.Round then Some (opened bracket_of.Round x fs) else None) (λ e. (bracket_begins n y fs c r, refl))
+    on_if n attachment.Begins (opening bracket_of.Round x) (y ∷ tallies_round n fs) (is_count (sort fs)) (indexing x fs) (if encloses (sort fs) bracket_of.Round then Some (opened bracket_of.Round x fs) else None) (λ e. (bracket_begins n y fs c r, refl))
     (λ e. encloses_begins n y fs bracket_of.Round x c r)
 opening_begins n y fs bracket_of.Square x c r = encloses_begins n y fs bracket_of.Square x c r
 opening_begins n y fs bracket_of.Brace x c r = encloses_begins n y fs bracket_of.Brace x c r
@@ -140,7 +140,7 @@ opening_begins n y fs bracket_of.TickSquare x c r = encloses_begins n y fs brack
 opening_begins n y fs bracket_of.TickBrace x c r = encloses_begins n y fs bracket_of.TickBrace x c r
 opening_begins n y fs bracket_of.Dollar x c r = encloses_begins n y fs bracket_of.Dollar x c r
 
-pub round_closes : (n : ℕ) (y : Tally) (fs : Frames) (x : Token) → RoundStands fs → To n stance.Begins (closing closings.ByRound x) (y ∷ tallies_round n fs) (begin fs (closing closings.ByRound x))
+pub round_closes : (n : ℕ) (y : Tally) (fs : Frames) (x : Token) → RoundStands fs → To n attachment.Begins (closing closings.ByRound x) (y ∷ tallies_round n fs) (begin fs (closing closings.ByRound x))
 round_closes n y (bottom σ) x s = tt
 round_closes n y (over g fs) x s = tt
 round_closes n y (timing t m z fs) x s = tt
@@ -154,14 +154,14 @@ round_closes n y (within (arguments f o) none [] fs) x s = (settled n (bracket (
 round_closes n y (within (arguments f o) none (l ∷ pre) fs) x s = tt
 round_closes n y (within (arguments f o) (more ts q t) pre fs) x s = tt
 
-pub begins : (n : ℕ) (y : Tally) (fs : Frames) (l : Lexeme) → NoCount fs → RoundStands fs → Ready n y fs → RowReady l y fs → To n stance.Begins l (y ∷ tallies_round n fs) (begin fs l)
+pub begins : (n : ℕ) (y : Tally) (fs : Frames) (l : Terminal) → NoCount fs → RoundStands fs → Ready n y fs → RowReady l y fs → To n attachment.Begins l (y ∷ tallies_round n fs) (begin fs l)
 begins n y fs (leaf k x) c s r w =
-    on_if n stance.Begins (leaf k x) (y ∷ tallies_round n fs) (takes (sort fs) k) (settle (operand k x) fs) None (λ e. (leaf_begins n y fs (operand k x) (leaf k x) c r refl refl, settled_open (operand k x) fs)) (λ e. tt)
+    on_if n attachment.Begins (leaf k x) (y ∷ tallies_round n fs) (takes (sort fs) k) (settle (operand k x) fs) None (λ e. (leaf_begins n y fs (operand k x) (leaf k x) c r refl refl, settled_open (operand k x) fs)) (λ e. tt)
 begins n y fs (dot x) c s r w = tt
-begins n y fs (sign m x) c s r w = on_if n stance.Begins (sign m x) (y ∷ tallies_round n fs) (has_level (sort fs) (ahead_level m) && nat_le (least fs) (ahead_level m)) (want (over (ahead m x) fs)) None (λ e. sign_begins n y fs m x r w) (λ e. tt)
+begins n y fs (sign m x) c s r w = on_if n attachment.Begins (sign m x) (y ∷ tallies_round n fs) (has_level (sort fs) (ahead_level m) && nat_le (least fs) (ahead_level m)) (want (over (ahead m x) fs)) None (λ e. sign_begins n y fs m x r w) (λ e. tt)
 begins n y fs (opening b x) c s r w = opening_begins n y fs b x c r
 begins n y fs (closing closings.ByBar x) c s r w =
-    on_if n stance.Begins (closing closings.ByBar x) (y ∷ tallies_round n fs) (computes (sort fs)) (want (within (length x) none [] fs)) None
+    on_if n attachment.Begins (closing closings.ByBar x) (y ∷ tallies_round n fs) (computes (sort fs)) (want (within (length x) none [] fs)) None
     (λ e. (ap (λ v. fresh v ∷ held_tally n 0 0 fs ∷ tallies_round n fs) (omega (arith, r.sign)) ∙ ap (λ v. fresh y.signs ∷ v ∷ tallies_round n fs) (sym (operand_is n y fs c r)), refl)) (λ e. tt)
 begins n y fs (closing closings.ByRound x) c s r w = round_closes n y fs x s
 begins n y fs (closing closings.BySquare x) c s r w = tt

@@ -3,37 +3,37 @@ use Rattle.std.proofs.Common.{◌≡◌, ℕ, ◌+◌, List, [], ◌∷◌, ◌+
 use Rattle.st_num.specs.declared.mark.Mark.{Mark}
 use Rattle.st_scan.specs.declared.token.Token.{Token}
 use Rattle.st_grammar.specs.declared.sort.Style.{Style}
-use Rattle.st_grammar.specs.declared.sort.Style.TheVariants.{Lone as lone, Parts as parts, Fields as fields, Ends as ends, Run as run}
+use Rattle.st_grammar.specs.declared.sort.Style.TheVariants.{Lone as lone, Parts as listing, Fields as fields, Ends as ends, Run as run}
 use Rattle.st_grammar.specs.declared.sort.Leaf.TheVariants.{Low as low, Function as function}
 use Rattle.st_grammar.specs.declared.sort.Leaf.TheVariants as leaves
 use Rattle.st_grammar.specs.declared.sort.Bracket.TheVariants as bracket_of
 use Rattle.st_grammar.specs.declared.sort.Closing.{Closing}
 use Rattle.st_grammar.specs.declared.sort.Closing.TheVariants as closings
 use Rattle.st_grammar.specs.declared.sort.Sort.TheVariants as sorts
-use Rattle.st_grammar.specs.Lexemes.{Lexeme, leaf, dot, sign, opening, closing, other}
+use Rattle.st_grammar.specs.Terminals.{Terminal, leaf, dot, sign, opening, closing, other}
 use Rattle.st_grammar.specs.Levels.{takes, computes, is_expression, has_level, level_of, left_of, is_caret, is_comma, is_colon, is_less, is_change}
 use Rattle.st_grammar.specs.Trees.{Tree, operand, post, times, bracket, led, Lead, left, ahead, items, Trees, none, more, Heading, plain, length, arguments, index, segment, update, below, Path, head, field, part, closes, agree}
 use Rattle.st_grammar.specs.Grammar.{style, is_label, follows, may_post, level, size}
 use Rattle.st_grammar.specs.Reading.{Frames, bottom, within, over, timing, State, want, got, naming, pathed, indexing, comparing, sort, least, settle, reach, lower, shut, close, next_part, begin, extend, separate, join, pull, behind_sign, behind_square, behind_round, behind, after, in_path, name_field, name_index, bound_index, step}
 use Rattle.st_grammar.proofs.Sound.{Stand, base, state_base, Holds}
-use Rattle.st_parse_automaton.specs.Outline as out
+use Rattle.st_parse_automaton.specs.PartAutomaton as parts
 use Rattle.st_parse_automaton.specs.Shapes.{shape}
 use Rattle.st_parse_automaton.proofs.View.{part_of, state_of, top_sort}
 use Rattle.st_parse_automaton.proofs.Simulation.{follows_is}
-use Rattle.st_parse_faults.specs.declared.deed.Stance.{Stance}
-use Rattle.st_parse_faults.specs.declared.deed.Stance.TheVariants as stance
-use Rattle.st_parse_faults.specs.declared.deed.Deed.TheVariants as deed
+use Rattle.st_parse_faults.specs.declared.role.Attachment.{Attachment}
+use Rattle.st_parse_faults.specs.declared.role.Attachment.TheVariants as attachment
+use Rattle.st_parse_faults.specs.declared.role.TokenRole.TheVariants as role
 use Rattle.st_parse_faults.specs.declared.tally.Tally.{Tally}
 use Rattle.st_parse_faults.specs.Limits.{posts, signs, all_signs, signs_in, parts_in, elements_in, elements_with, aheads, ends_with_label, with_one, tally, fresh, due_tally, held_tally, tallies_round, part_tallies}
-use Rattle.st_parse_faults.specs.Deeds.{part_stance, counted}
+use Rattle.st_parse_faults.specs.Roles.{part_attachment, counted}
 use Rattle.st_parse_faults.proofs.Tallies.{To, on_if, on_both, same_tally, NoCount, held, settled, settled_open, RowReady, begins}
 
 -- ---- counts
 
-pub count_begins : (n : ℕ) (u : Tree) (m : Mark) (z : Token) (fs : Frames) (l : Lexeme) → Stand (timing u m z fs)
-    → To n stance.Other l (due_tally n (timing u m z fs) ∷ tallies_round n fs) (begin (timing u m z fs) l)
+pub count_begins : (n : ℕ) (u : Tree) (m : Mark) (z : Token) (fs : Frames) (l : Terminal) → Stand (timing u m z fs)
+    → To n attachment.Other l (due_tally n (timing u m z fs) ∷ tallies_round n fs) (begin (timing u m z fs) l)
 count_begins n u m z fs (leaf k x) s =
-    on_if n stance.Other (leaf k x) (due_tally n (timing u m z fs) ∷ tallies_round n fs) (takes sorts.Count k) (settle (operand k x) (timing u m z fs)) None
+    on_if n attachment.Other (leaf k x) (due_tally n (timing u m z fs) ∷ tallies_round n fs) (takes sorts.Count k) (settle (operand k x) (timing u m z fs)) None
     (λ e. (settled n (operand k x) (timing u m z fs) s, refl)) (λ e. tt)
 count_begins n u m z fs (dot x) s = tt
 count_begins n u m z fs (sign k x) s = tt
@@ -83,9 +83,9 @@ lowered_stands m t (over g fs) s = go (nat_le (reach g) m) (lowered_stands m (le
 abbrev pub got_tally : ℕ → Tree → Frames → Tally
 got_tally n t fs = tally (parts_in fs + 1) (elements_with fs) (signs t + signs_in n fs) (posts t) false
 
-pub bars_close : (n : ℕ) (y : Tally) (o : Token) (ts : Trees) (pre : List Lexeme) (t : Tree) (x : Token) (fs : Frames) → Stand (within (length o) ts pre fs)
+pub bars_close : (n : ℕ) (y : Tally) (o : Token) (ts : Trees) (pre : List Terminal) (t : Tree) (x : Token) (fs : Frames) → Stand (within (length o) ts pre fs)
     → y.signs ≡ signs t + (all_signs ts + signs_in n fs)
-    → To n stance.Behind (closing closings.ByBar x) (y ∷ tallies_round n (within (length o) ts pre fs)) (Some (settle (bracket (length o) (more ts pre t) x) fs))
+    → To n attachment.Behind (closing closings.ByBar x) (y ∷ tallies_round n (within (length o) ts pre fs)) (Some (settle (bracket (length o) (more ts pre t) x) fs))
 bars_close n y o ts pre t x (bottom σ) s e = (ap (λ v. tally 1 1 v 0 false ∷ []) (omega (arith, e)), refl)
 bars_close n y o ts pre t x (within h us q fs) s e =
     (ap (λ v. tally (size us + 1) 1 v 0 false ∷ tallies_round n (within h us q fs)) (omega (arith, e)), refl)
@@ -94,8 +94,8 @@ bars_close n y o ts pre t x (over g fs) s e =
 bars_close n y o ts pre t x (timing u m z fs) s e = let no : false ≡ true = s.1 in absurd (cc)
 
 -- a bracket that is no length closes
-pub round_shuts : (n : ℕ) (y : Tally) (c : Closing) (h : Heading) (ts : Trees) (pre : List Lexeme) (t : Tree) (x : Token) (fs : Frames) → Stand fs → agree (closes h) c ≡ true → (c ≡ closings.ByBar → ⊥)
-    → To n stance.Behind (closing c x) (y ∷ tallies_round n (within h ts pre fs)) (Some (shut h (more ts pre t) x fs))
+pub round_shuts : (n : ℕ) (y : Tally) (c : Closing) (h : Heading) (ts : Trees) (pre : List Terminal) (t : Tree) (x : Token) (fs : Frames) → Stand fs → agree (closes h) c ≡ true → (c ≡ closings.ByBar → ⊥)
+    → To n attachment.Behind (closing c x) (y ∷ tallies_round n (within h ts pre fs)) (Some (shut h (more ts pre t) x fs))
 round_shuts n y closings.ByBar h ts pre t x fs s a b = absurd (b refl)
 round_shuts n y closings.ByRound (plain k o) ts pre t x fs s a b = (settled n (bracket (plain k o) (more ts pre t) x) fs s, settled_open (bracket (plain k o) (more ts pre t) x) fs)
 round_shuts n y closings.ByRound (length o) ts pre t x fs s a b = let no : false ≡ true = a in absurd (cc)
@@ -119,9 +119,9 @@ round_shuts n y closings.ByBrace (segment p o) ts pre t x fs s a b = let no : fa
 round_shuts n y closings.ByBrace (update p m z) ts pre t x fs s a b = let no : false ≡ true = a in absurd (cc)
 round_shuts n y closings.ByBrace (below o i m z) ts pre t x fs s a b = let no : false ≡ true = a in absurd (cc)
 
-pub bar_shuts : (n : ℕ) (y : Tally) (h : Heading) (ts : Trees) (pre : List Lexeme) (t : Tree) (x : Token) (fs : Frames) → Stand (within h ts pre fs) → agree (closes h) closings.ByBar ≡ true
+pub bar_shuts : (n : ℕ) (y : Tally) (h : Heading) (ts : Trees) (pre : List Terminal) (t : Tree) (x : Token) (fs : Frames) → Stand (within h ts pre fs) → agree (closes h) closings.ByBar ≡ true
     → y.signs ≡ signs t + signs_in n (within h ts pre fs)
-    → To n stance.Behind (closing closings.ByBar x) (y ∷ tallies_round n (within h ts pre fs)) (Some (shut h (more ts pre t) x fs))
+    → To n attachment.Behind (closing closings.ByBar x) (y ∷ tallies_round n (within h ts pre fs)) (Some (shut h (more ts pre t) x fs))
 bar_shuts n y (length o) ts pre t x fs s a e = bars_close n y o ts pre t x fs s e
 bar_shuts n y (plain bracket_of.Round o) ts pre t x fs s a e = let no : false ≡ true = a in absurd (cc)
 bar_shuts n y (plain bracket_of.Square o) ts pre t x fs s a e = let no : false ≡ true = a in absurd (cc)
@@ -136,26 +136,26 @@ bar_shuts n y (segment p o) ts pre t x fs s a e = let no : false ≡ true = a in
 bar_shuts n y (update p m z) ts pre t x fs s a e = let no : false ≡ true = a in absurd (cc)
 bar_shuts n y (below o i m z) ts pre t x fs s a e = let no : false ≡ true = a in absurd (cc)
 
-pub any_shuts : (n : ℕ) (y : Tally) (c : Closing) (h : Heading) (ts : Trees) (pre : List Lexeme) (t : Tree) (x : Token) (fs : Frames) → Stand (within h ts pre fs) → agree (closes h) c ≡ true
+pub any_shuts : (n : ℕ) (y : Tally) (c : Closing) (h : Heading) (ts : Trees) (pre : List Terminal) (t : Tree) (x : Token) (fs : Frames) → Stand (within h ts pre fs) → agree (closes h) c ≡ true
     → y.signs ≡ signs t + signs_in n (within h ts pre fs)
-    → To n stance.Behind (closing c x) (y ∷ tallies_round n (within h ts pre fs)) (Some (shut h (more ts pre t) x fs))
+    → To n attachment.Behind (closing c x) (y ∷ tallies_round n (within h ts pre fs)) (Some (shut h (more ts pre t) x fs))
 any_shuts n y closings.ByBar h ts pre t x fs s a e = bar_shuts n y h ts pre t x fs s a e
 any_shuts n y closings.ByRound h ts pre t x fs s a e = round_shuts n y closings.ByRound h ts pre t x fs s.0 a (λ f. absurd (cc))
 any_shuts n y closings.BySquare h ts pre t x fs s a e = round_shuts n y closings.BySquare h ts pre t x fs s.0 a (λ f. absurd (cc))
 any_shuts n y closings.ByBrace h ts pre t x fs s a e = round_shuts n y closings.ByBrace h ts pre t x fs s.0 a (λ f. absurd (cc))
 
 pub closes_to : (n : ℕ) (y : Tally) (c : Closing) (x : Token) (p : Tree × Frames) → Stand p.1 → y.signs ≡ signs p.0 + signs_in n p.1
-    → To n stance.Behind (closing c x) (y ∷ tallies_round n p.1) (close c x p)
+    → To n attachment.Behind (closing c x) (y ∷ tallies_round n p.1) (close c x p)
 closes_to n y c x (t, bottom σ) s e = tt
 closes_to n y c x (t, over g fs) s e = tt
 closes_to n y c x (t, timing u m z fs) s e = tt
 closes_to n y c x (t, within h ts pre fs) s e =
-    on_if n stance.Behind (closing c x) (y ∷ tallies_round n (within h ts pre fs)) (agree (closes h) c) (shut h (more ts pre t) x fs) None
+    on_if n attachment.Behind (closing c x) (y ∷ tallies_round n (within h ts pre fs)) (agree (closes h) c) (shut h (more ts pre t) x fs) None
     (λ a. any_shuts n y c h ts pre t x fs s a e) (λ a. tt)
 
 -- ---- signs
 
-pub part_signs : (n : ℕ) (h : Heading) (ts : Trees) (pre q : List Lexeme) (t : Tree) (fs : Frames) → signs_in n (within h (more ts pre t) q fs) ≡ signs t + signs_in n (within h ts pre fs)
+pub part_signs : (n : ℕ) (h : Heading) (ts : Trees) (pre q : List Terminal) (t : Tree) (fs : Frames) → signs_in n (within h (more ts pre t) q fs) ≡ signs t + signs_in n (within h ts pre fs)
 part_signs n (plain k o) ts pre q t fs = omega arith
 part_signs n (length o) ts pre q t fs = omega arith
 part_signs n (arguments f o) ts pre q t fs = omega arith
@@ -164,7 +164,7 @@ part_signs n (segment p o) ts pre q t fs = omega arith
 part_signs n (update p m x) ts pre q t fs = omega arith
 part_signs n (below o i m x) ts pre q t fs = omega arith
 
-pub round_parts : (n : ℕ) (h : Heading) (ts us : Trees) (pre q : List Lexeme) (fs : Frames) → tallies_round n (within h ts pre fs) ≡ tallies_round n (within h us q fs)
+pub round_parts : (n : ℕ) (h : Heading) (ts us : Trees) (pre q : List Terminal) (fs : Frames) → tallies_round n (within h ts pre fs) ≡ tallies_round n (within h us q fs)
 round_parts n (plain k o) ts us pre q fs = refl
 round_parts n (length o) ts us pre q fs = refl
 round_parts n (arguments f o) ts us pre q fs = refl
@@ -173,14 +173,14 @@ round_parts n (segment p o) ts us pre q fs = refl
 round_parts n (update p m x) ts us pre q fs = refl
 round_parts n (below o i m x) ts us pre q fs = refl
 
-pub part_set_off : (n : ℕ) (y : Tally) (h : Heading) (ts : Trees) (pre q : List Lexeme) (t : Tree) (fs : Frames) → y.parts ≡ size ts + 1 → y.signs ≡ signs t + signs_in n (within h ts pre fs)
+pub part_set_off : (n : ℕ) (y : Tally) (h : Heading) (ts : Trees) (pre q : List Terminal) (t : Tree) (fs : Frames) → y.parts ≡ size ts + 1 → y.signs ≡ signs t + signs_in n (within h ts pre fs)
     → tally (size ts + 1) 0 (signs_in n (within h (more ts pre t) q fs)) 0 true ∷ tallies_round n (within h (more ts pre t) q fs) ≡ tally y.parts 0 y.signs 0 true ∷ tallies_round n (within h ts pre fs)
 part_set_off n y h ts pre q t fs e f =
     ap (λ v. v ∷ tallies_round n (within h (more ts pre t) q fs)) (same_tally _ _ _ _ _ _ _ _ true (sym e) refl (part_signs n h ts pre q t fs ∙ sym f) refl)
     ∙ ap (λ v. tally y.parts 0 y.signs 0 true ∷ v) (round_parts n h (more ts pre t) ts q pre fs)
 
 pub separates : (n : ℕ) (y : Tally) (m : Mark) (x : Token) (p : Tree × Frames) → y.parts ≡ parts_in p.1 + 1 → y.signs ≡ signs p.0 + signs_in n p.1
-    → To n stance.Behind (sign m x) (y ∷ tallies_round n p.1) (separate m x p)
+    → To n attachment.Behind (sign m x) (y ∷ tallies_round n p.1) (separate m x p)
 separates n y m x (t, bottom σ) e f = tt
 separates n y m x (t, over g fs) e f = tt
 separates n y m x (t, timing u k z fs) e f = tt
@@ -189,35 +189,35 @@ separates n y m x (t, within h ts pre fs) e f = go (style (sort fs) h)
     ys : List Tally
     ys = y ∷ tallies_round n (within h ts pre fs)
 
-    ends_to : (us : Trees) → To n stance.Behind (sign m x) ys (next_part ends m x h us (more ts pre t) fs)
-    ends_to none = on_if n stance.Behind (sign m x) ys (is_colon m) (want (within h (more ts pre t) (sign m x ∷ []) fs)) None (λ a. (part_set_off n y h ts pre (sign m x ∷ []) t fs e f, refl)) (λ a. tt)
+    ends_to : (us : Trees) → To n attachment.Behind (sign m x) ys (next_part ends m x h us (more ts pre t) fs)
+    ends_to none = on_if n attachment.Behind (sign m x) ys (is_colon m) (want (within h (more ts pre t) (sign m x ∷ []) fs)) None (λ a. (part_set_off n y h ts pre (sign m x ∷ []) t fs e f, refl)) (λ a. tt)
     ends_to (more us q u) = tt
 
-    go : (v : Style) → To n stance.Behind (sign m x) ys (next_part v m x h ts (more ts pre t) fs)
+    go : (v : Style) → To n attachment.Behind (sign m x) ys (next_part v m x h ts (more ts pre t) fs)
     go lone = tt
     go run = tt
-    go parts = on_if n stance.Behind (sign m x) ys (is_comma m) (want (within h (more ts pre t) (sign m x ∷ []) fs)) None (λ a. (part_set_off n y h ts pre (sign m x ∷ []) t fs e f, refl)) (λ a. tt)
-    go fields = on_if n stance.Behind (sign m x) ys (is_comma m) (naming h (more ts pre t) (sign m x ∷ []) fs) None (λ a. (part_set_off n y h ts pre (sign m x ∷ []) t fs e f, refl)) (λ a. tt)
+    go listing = on_if n attachment.Behind (sign m x) ys (is_comma m) (want (within h (more ts pre t) (sign m x ∷ []) fs)) None (λ a. (part_set_off n y h ts pre (sign m x ∷ []) t fs e f, refl)) (λ a. tt)
+    go fields = on_if n attachment.Behind (sign m x) ys (is_comma m) (naming h (more ts pre t) (sign m x ∷ []) fs) None (λ a. (part_set_off n y h ts pre (sign m x ∷ []) t fs e f, refl)) (λ a. tt)
     go ends = ends_to ts
 
 pub joins : (n : ℕ) (y : Tally) (m : Mark) (x : Token) (p : Tree × Frames) → y.due ≡ false → y.parts ≡ parts_in p.1 + 1 → y.signs ≡ signs p.0 + signs_in n p.1
-    → To n stance.Behind (sign m x) (y ∷ tallies_round n p.1) (join m x p)
+    → To n attachment.Behind (sign m x) (y ∷ tallies_round n p.1) (join m x p)
 joins n y m x p d e f =
-    on_both n stance.Behind (sign m x) ys (has_level (sort p.1) (level_of m) && nat_le (least p.1) (level_of m)) _ (separate m x p)
-    (λ a. on_if n stance.Behind (sign m x) ys (nat_le (left_of m) (level p.0)) (want (over (left p.0 m x) p.1)) None (λ b. (ap (λ v. v ∷ tallies_round n p.1) infix_is, refl)) (λ b. tt))
+    on_both n attachment.Behind (sign m x) ys (has_level (sort p.1) (level_of m) && nat_le (least p.1) (level_of m)) _ (separate m x p)
+    (λ a. on_if n attachment.Behind (sign m x) ys (nat_le (left_of m) (level p.0)) (want (over (left p.0 m x) p.1)) None (λ b. (ap (λ v. v ∷ tallies_round n p.1) infix_is, refl)) (λ b. tt))
     (λ a. separates n y m x p e f)
   where
     ys : List Tally
     ys = y ∷ tallies_round n p.1
 
-    infix_is : tally (parts_in p.1 + 1) 0 ((signs p.0 + 1) + signs_in n p.1) 0 false ≡ counted y deed.Infix
+    infix_is : tally (parts_in p.1 + 1) 0 ((signs p.0 + 1) + signs_in n p.1) 0 false ≡ counted y role.Infix
     infix_is = same_tally _ _ _ _ _ _ _ _ false (sym e ∙ sym (ap (λ b. with_one b y.parts) d)) refl (omega (arith, f)) refl
 
-pub signs_behind : (n : ℕ) (t : Tree) (m : Mark) (x : Token) (fs : Frames) → NoCount fs → To n stance.Behind (sign m x) (got_tally n t fs ∷ tallies_round n fs) (behind_sign m x t fs)
+pub signs_behind : (n : ℕ) (t : Tree) (m : Mark) (x : Token) (fs : Frames) → NoCount fs → To n attachment.Behind (sign m x) (got_tally n t fs ∷ tallies_round n fs) (behind_sign m x t fs)
 signs_behind n t m x fs c =
-    on_if n stance.Behind (sign m x) ys (may_post (sort fs) t (sign m x)) (got (post t (sign m x)) fs) _
+    on_if n attachment.Behind (sign m x) ys (may_post (sort fs) t (sign m x)) (got (post t (sign m x)) fs) _
     (λ a. (ap (λ v. v ∷ tallies_round n fs) (held n (signs t) (posts t + 1) fs c), refl))
-    (λ a. on_if n stance.Behind (sign m x) ys (is_expression (sort fs) && is_caret m) (want (timing t m x fs)) (join m x (lower (pull (sort fs) m) t fs)) (λ b. (refl, refl)) (λ b. low))
+    (λ a. on_if n attachment.Behind (sign m x) ys (is_expression (sort fs) && is_caret m) (want (timing t m x fs)) (join m x (lower (pull (sort fs) m) t fs)) (λ b. (refl, refl)) (λ b. low))
   where
     ys : List Tally
     ys = got_tally n t fs ∷ tallies_round n fs
@@ -225,21 +225,21 @@ signs_behind n t m x fs c =
     r : Lowers n t fs (lower (pull (sort fs) m) t fs)
     r = lowers n (pull (sort fs) m) t fs
 
-    low : To n stance.Behind (sign m x) ys (join m x (lower (pull (sort fs) m) t fs))
+    low : To n attachment.Behind (sign m x) ys (join m x (lower (pull (sort fs) m) t fs))
     low =
-        subst (λ zs. To n stance.Behind (sign m x) (got_tally n t fs ∷ zs) (join m x (lower (pull (sort fs) m) t fs))) r.round
+        subst (λ zs. To n attachment.Behind (sign m x) (got_tally n t fs ∷ zs) (join m x (lower (pull (sort fs) m) t fs))) r.round
         (joins n (got_tally n t fs) m x (lower (pull (sort fs) m) t fs) refl (ap (λ v. v + 1) (sym r.part)) (sym r.sign))
 
-pub closing_behind : (n : ℕ) (t : Tree) (c : Closing) (x : Token) (fs : Frames) → Stand fs → To n stance.Behind (closing c x) (got_tally n t fs ∷ tallies_round n fs) (close c x (lower 0 t fs))
+pub closing_behind : (n : ℕ) (t : Tree) (c : Closing) (x : Token) (fs : Frames) → Stand fs → To n attachment.Behind (closing c x) (got_tally n t fs ∷ tallies_round n fs) (close c x (lower 0 t fs))
 closing_behind n t c x fs s =
     let r = lowers n 0 t fs in
-    subst (λ zs. To n stance.Behind (closing c x) (got_tally n t fs ∷ zs) (close c x (lower 0 t fs))) r.round
+    subst (λ zs. To n attachment.Behind (closing c x) (got_tally n t fs ∷ zs) (close c x (lower 0 t fs))) r.round
     (closes_to n (got_tally n t fs) c x (lower 0 t fs) (lowered_stands 0 t fs s) (sym r.sign))
 
-pub square_behind : (n : ℕ) (t : Tree) (x : Token) (fs : Frames) → NoCount fs → To n stance.Behind (opening bracket_of.Square x) (got_tally n t fs ∷ tallies_round n fs) (behind_square x t fs)
+pub square_behind : (n : ℕ) (t : Tree) (x : Token) (fs : Frames) → NoCount fs → To n attachment.Behind (opening bracket_of.Square x) (got_tally n t fs ∷ tallies_round n fs) (behind_square x t fs)
 square_behind n t x fs c =
-    on_if n stance.Behind (opening bracket_of.Square x) ys (is_expression (sort fs)) (pathed (head t x) fs) _ (λ a. (opens, refl))
-    (λ a. on_if n stance.Behind (opening bracket_of.Square x) ys (computes (sort fs)) (want (within (index t x) none [] fs)) None (λ b. (opens, refl)) (λ b. tt))
+    on_if n attachment.Behind (opening bracket_of.Square x) ys (is_expression (sort fs)) (pathed (head t x) fs) _ (λ a. (opens, refl))
+    (λ a. on_if n attachment.Behind (opening bracket_of.Square x) ys (computes (sort fs)) (want (within (index t x) none [] fs)) None (λ b. (opens, refl)) (λ b. tt))
   where
     ys : List Tally
     ys = got_tally n t fs ∷ tallies_round n fs
@@ -247,9 +247,9 @@ square_behind n t x fs c =
     opens : fresh 0 ∷ held_tally n (signs t) (posts t + 1) fs ∷ tallies_round n fs ≡ fresh 0 ∷ tally (parts_in fs + 1) (elements_with fs) (signs t + signs_in n fs) (posts t + 1) false ∷ tallies_round n fs
     opens = ap (λ v. fresh 0 ∷ v ∷ tallies_round n fs) (held n (signs t) (posts t + 1) fs c)
 
-pub round_behind : (n : ℕ) (t : Tree) (x : Token) (fs : Frames) → NoCount fs → To n stance.Behind (opening bracket_of.Round x) (got_tally n t fs ∷ tallies_round n fs) (behind_round x t fs)
+pub round_behind : (n : ℕ) (t : Tree) (x : Token) (fs : Frames) → NoCount fs → To n attachment.Behind (opening bracket_of.Round x) (got_tally n t fs ∷ tallies_round n fs) (behind_round x t fs)
 round_behind n (operand leaves.Function f) x fs c =
-    on_if n stance.Behind (opening bracket_of.Round x) (got_tally n (operand leaves.Function f) fs ∷ tallies_round n fs) (computes (sort fs) && x.touching) (want (within (arguments f x) none [] fs)) None
+    on_if n attachment.Behind (opening bracket_of.Round x) (got_tally n (operand leaves.Function f) fs ∷ tallies_round n fs) (computes (sort fs) && x.touching) (want (within (arguments f x) none [] fs)) None
     (λ a. (ap (λ v. fresh 0 ∷ v ∷ tallies_round n fs) (held n 0 0 fs c), refl)) (λ a. tt)
 round_behind n (operand leaves.Low f) x fs c = tt
 round_behind n (operand leaves.Basic f) x fs c = tt
@@ -262,10 +262,10 @@ round_behind n (times t m z u) x fs c = tt
 round_behind n (bracket h ts z) x fs c = tt
 round_behind n (led g t) x fs c = tt
 
-pub is_behind : (n : ℕ) (t : Tree) (fs : Frames) (l : Lexeme) → NoCount fs → Stand fs → To n stance.Behind l (got_tally n t fs ∷ tallies_round n fs) (behind t fs l)
+pub is_behind : (n : ℕ) (t : Tree) (fs : Frames) (l : Terminal) → NoCount fs → Stand fs → To n attachment.Behind l (got_tally n t fs ∷ tallies_round n fs) (behind t fs l)
 is_behind n t fs (leaf k x) c s = tt
 is_behind n t fs (dot x) c s =
-    on_if n stance.Behind (dot x) (got_tally n t fs ∷ tallies_round n fs) (may_post (sort fs) t (dot x)) (got (post t (dot x)) fs) None
+    on_if n attachment.Behind (dot x) (got_tally n t fs ∷ tallies_round n fs) (may_post (sort fs) t (dot x)) (got (post t (dot x)) fs) None
     (λ a. (ap (λ v. v ∷ tallies_round n fs) (held n (signs t) (posts t + 1) fs c), refl)) (λ a. tt)
 is_behind n t fs (sign m x) c s = signs_behind n t m x fs c
 is_behind n t fs (opening bracket_of.Round x) c s = round_behind n t x fs c
@@ -280,7 +280,7 @@ is_behind n t fs (other x) c s = tt
 
 -- ---- a next element
 
-pub no_sign : (t : Tree) (y : Tally) (fs gs : Frames) (l : Lexeme) → follows (sort fs) t l ≡ true → RowReady l y gs
+pub no_sign : (t : Tree) (y : Tally) (fs gs : Frames) (l : Terminal) → follows (sort fs) t l ≡ true → RowReady l y gs
 no_sign t y fs gs (leaf k x) e = tt
 no_sign t y fs gs (dot x) e = tt
 no_sign t y fs gs (sign m x) e = let no : false ≡ true = e in absurd (cc)
@@ -288,7 +288,7 @@ no_sign t y fs gs (opening b x) e = tt
 no_sign t y fs gs (closing c x) e = tt
 no_sign t y fs gs (other x) e = tt
 
-pub next_begins : (n : ℕ) (t : Tree) (fs : Frames) (l : Lexeme) → NoCount fs → follows (sort fs) t l ≡ true → To n stance.Begins l (got_tally n t fs ∷ tallies_round n fs) (begin (extend t fs) l)
+pub next_begins : (n : ℕ) (t : Tree) (fs : Frames) (l : Terminal) → NoCount fs → follows (sort fs) t l ≡ true → To n attachment.Begins l (got_tally n t fs ∷ tallies_round n fs) (begin (extend t fs) l)
 next_begins n t (bottom σ) l c e =
     begins n (got_tally n t (bottom σ)) (over (items (more none [] t)) (bottom σ)) l tt tt (record { part = refl; element = omega arith; sign = omega arith }) (no_sign t _ (bottom σ) _ l e)
 next_begins n t (within h ts pre fs) l c e =
@@ -301,15 +301,15 @@ next_begins n t (over (items ts) fs) l c e =
     begins n (got_tally n t (over (items ts) fs)) (over (items (more ts [] t)) fs) l tt tt (record { part = refl; element = omega arith; sign = omega arith }) (no_sign t _ (over (items ts) fs) _ l e)
 next_begins n t (timing u m x fs) l c e = absurd c
 
-abbrev pub begins_or : Bool → Stance
-begins_or b = if b then stance.Begins else stance.Behind
+abbrev pub begins_or : Bool → Attachment
+begins_or b = if b then attachment.Begins else attachment.Behind
 
-pub got_stance : (t : Tree) (fs : Frames) (l : Lexeme) → part_stance (base fs) (state_of (got t fs)) (shape l) ≡ begins_or (follows (sort fs) t l)
-got_stance t fs l = ap (λ σ. begins_or (out.follows σ (part_of t) (shape l))) (top_sort fs) ∙ ap begins_or (follows_is (sort fs) t l)
+pub got_attachment : (t : Tree) (fs : Frames) (l : Terminal) → part_attachment (base fs) (state_of (got t fs)) (shape l) ≡ begins_or (follows (sort fs) t l)
+got_attachment t fs l = ap (λ σ. begins_or (parts.follows σ (part_of t) (shape l))) (top_sort fs) ∙ ap begins_or (follows_is (sort fs) t l)
 
-pub got_moves : (n : ℕ) (t : Tree) (fs : Frames) (l : Lexeme) → NoCount fs → Stand fs → To n (part_stance (base fs) (state_of (got t fs)) (shape l)) l (part_tallies n (got t fs)) (after t fs l)
+pub got_moves : (n : ℕ) (t : Tree) (fs : Frames) (l : Terminal) → NoCount fs → Stand fs → To n (part_attachment (base fs) (state_of (got t fs)) (shape l)) l (part_tallies n (got t fs)) (after t fs l)
 got_moves n t fs l c s =
-    subst (λ k. To n k l (part_tallies n (got t fs)) (after t fs l)) (sym (got_stance t fs l))
+    subst (λ k. To n k l (part_tallies n (got t fs)) (after t fs l)) (sym (got_attachment t fs l))
     (subst (λ v. To n (begins_or (follows (sort fs) t l)) l (v ∷ tallies_round n fs) (after t fs l)) (sym (held n (signs t) (posts t) fs c)) (go (follows (sort fs) t l) refl))
   where
     go : (b : Bool) → follows (sort fs) t l ≡ b → To n (begins_or b) l (got_tally n t fs ∷ tallies_round n fs) (if b then begin (extend t fs) l else behind t fs l)
@@ -318,7 +318,7 @@ got_moves n t fs l c s =
 
 -- ---- behind a count nothing goes on
 
-pub none_after_count : (n : ℕ) (k : Stance) (ys : List Tally) (t u : Tree) (m : Mark) (z : Token) (fs : Frames) (l : Lexeme) → To n k l ys (after t (timing u m z fs) l)
+pub none_after_count : (n : ℕ) (k : Attachment) (ys : List Tally) (t u : Tree) (m : Mark) (z : Token) (fs : Frames) (l : Terminal) → To n k l ys (after t (timing u m z fs) l)
 none_after_count n k ys t u m z fs (leaf j x) = tt
 none_after_count n k ys t u m z fs (dot x) = tt
 none_after_count n k ys t u m z fs (sign j x) = tt
@@ -350,10 +350,10 @@ none_after_count n k ys t u m z fs (other x) = tt
 
 -- ---- paths, counts and names
 
-pub index_begins : (n : ℕ) (t : Tree) (o : Token) (fs : Frames) (l : Lexeme) → Stand fs → To n stance.Begins l (part_tallies n (pathed (head t o) fs)) (begin (within (index t o) none [] fs) l)
+pub index_begins : (n : ℕ) (t : Tree) (o : Token) (fs : Frames) (l : Terminal) → Stand fs → To n attachment.Begins l (part_tallies n (pathed (head t o) fs)) (begin (within (index t o) none [] fs) l)
 index_begins n t o fs l s = begins n (fresh 0) (within (index t o) none [] fs) l tt s (record { part = refl; element = refl; sign = refl }) (row l)
   where
-    row : (k : Lexeme) → RowReady k (fresh 0) (within (index t o) none [] fs)
+    row : (k : Terminal) → RowReady k (fresh 0) (within (index t o) none [] fs)
     row (leaf k x) = tt
     row (dot x) = tt
     row (sign m x) = refl
@@ -361,7 +361,7 @@ index_begins n t o fs l s = begins n (fresh 0) (within (index t o) none [] fs) l
     row (closing c x) = tt
     row (other x) = tt
 
-pub head_moves : (n : ℕ) (t : Tree) (o : Token) (fs : Frames) (l : Lexeme) → Stand fs → To n (part_stance (base fs) (state_of (pathed (head t o) fs)) (shape l)) l (part_tallies n (pathed (head t o) fs)) (in_path (head t o) fs l)
+pub head_moves : (n : ℕ) (t : Tree) (o : Token) (fs : Frames) (l : Terminal) → Stand fs → To n (part_attachment (base fs) (state_of (pathed (head t o) fs)) (shape l)) l (part_tallies n (pathed (head t o) fs)) (in_path (head t o) fs l)
 head_moves n t o fs (leaf k x) s = index_begins n t o fs (leaf k x) s
 head_moves n t o fs (dot x) s = (refl, refl)
 head_moves n t o fs (sign m x) s = index_begins n t o fs (sign m x) s
@@ -375,11 +375,11 @@ head_moves n t o fs (opening bracket_of.Dollar x) s = index_begins n t o fs (ope
 head_moves n t o fs (closing c x) s = index_begins n t o fs (closing c x) s
 head_moves n t o fs (other x) s = index_begins n t o fs (other x) s
 
-pub field_moves : (n : ℕ) (p : Path) (d : Token) (fs : Frames) (l : Lexeme) → To n stance.Other l (part_tallies n (pathed (field p d) fs)) (in_path (field p d) fs l)
+pub field_moves : (n : ℕ) (p : Path) (d : Token) (fs : Frames) (l : Terminal) → To n attachment.Other l (part_tallies n (pathed (field p d) fs)) (in_path (field p d) fs l)
 field_moves n p d fs (leaf k x) = tt
 field_moves n p d fs (dot x) = (refl, refl)
 field_moves n p d fs (sign m x) =
-    on_if n stance.Other (sign m x) (part_tallies n (pathed (field p d) fs)) (is_change m) (want (within (update (field p d) m x) none [] fs)) None (λ a. (refl, refl)) (λ a. tt)
+    on_if n attachment.Other (sign m x) (part_tallies n (pathed (field p d) fs)) (is_change m) (want (within (update (field p d) m x) none [] fs)) None (λ a. (refl, refl)) (λ a. tt)
 field_moves n p d fs (opening bracket_of.Round x) = tt
 field_moves n p d fs (opening bracket_of.Square x) = (refl, refl)
 field_moves n p d fs (opening bracket_of.Brace x) = tt
@@ -390,11 +390,11 @@ field_moves n p d fs (opening bracket_of.Dollar x) = tt
 field_moves n p d fs (closing c x) = tt
 field_moves n p d fs (other x) = tt
 
-pub part_path_moves : (n : ℕ) (p : Path) (o : Token) (ts : Trees) (c : Token) (fs : Frames) (l : Lexeme) → To n stance.Other l (part_tallies n (pathed (part p o ts c) fs)) (in_path (part p o ts c) fs l)
+pub part_path_moves : (n : ℕ) (p : Path) (o : Token) (ts : Trees) (c : Token) (fs : Frames) (l : Terminal) → To n attachment.Other l (part_tallies n (pathed (part p o ts c) fs)) (in_path (part p o ts c) fs l)
 part_path_moves n p o ts c fs (leaf k x) = tt
 part_path_moves n p o ts c fs (dot x) = (refl, refl)
 part_path_moves n p o ts c fs (sign m x) =
-    on_if n stance.Other (sign m x) (part_tallies n (pathed (part p o ts c) fs)) (is_change m) (want (within (update (part p o ts c) m x) none [] fs)) None (λ a. (refl, refl)) (λ a. tt)
+    on_if n attachment.Other (sign m x) (part_tallies n (pathed (part p o ts c) fs)) (is_change m) (want (within (update (part p o ts c) m x) none [] fs)) None (λ a. (refl, refl)) (λ a. tt)
 part_path_moves n p o ts c fs (opening bracket_of.Round x) = tt
 part_path_moves n p o ts c fs (opening bracket_of.Square x) = (refl, refl)
 part_path_moves n p o ts c fs (opening bracket_of.Brace x) = tt
@@ -405,12 +405,12 @@ part_path_moves n p o ts c fs (opening bracket_of.Dollar x) = tt
 part_path_moves n p o ts c fs (closing d x) = tt
 part_path_moves n p o ts c fs (other x) = tt
 
-pub last_label : (pre : List Lexeme) (l : Lexeme) → ends_with_label (pre ++ l ∷ []) ≡ is_label l
+pub last_label : (pre : List Terminal) (l : Terminal) → ends_with_label (pre ++ l ∷ []) ≡ is_label l
 last_label [] l = refl
 last_label (k ∷ []) l = refl
 last_label (k ∷ j ∷ pre) l = last_label (j ∷ pre) l
 
-pub same_signs : (n : ℕ) (h : Heading) (ts : Trees) (p q : List Lexeme) (fs : Frames) → signs_in n (within h ts p fs) ≡ signs_in n (within h ts q fs)
+pub same_signs : (n : ℕ) (h : Heading) (ts : Trees) (p q : List Terminal) (fs : Frames) → signs_in n (within h ts p fs) ≡ signs_in n (within h ts q fs)
 same_signs n (plain k o) ts p q fs = refl
 same_signs n (length o) ts p q fs = refl
 same_signs n (arguments f o) ts p q fs = refl
@@ -419,23 +419,23 @@ same_signs n (segment g o) ts p q fs = refl
 same_signs n (update g m x) ts p q fs = refl
 same_signs n (below o i m x) ts p q fs = refl
 
-pub names_part : (n : ℕ) (h : Heading) (ts : Trees) (pre : List Lexeme) (fs : Frames) (l : Lexeme) → is_label l ≡ true
+pub names_part : (n : ℕ) (h : Heading) (ts : Trees) (pre : List Terminal) (fs : Frames) (l : Terminal) → is_label l ≡ true
     → part_tallies n (want (within h ts (pre ++ l ∷ []) fs)) ≡ tally (size ts + 1) 0 (signs_in n (within h ts pre fs)) 0 false ∷ tallies_round n (within h ts pre fs)
 names_part n h ts pre fs l e =
     ap (λ b. tally (with_one b (size ts)) 0 (signs_in n (within h ts (pre ++ l ∷ []) fs)) 0 (not b) ∷ tallies_round n (within h ts (pre ++ l ∷ []) fs)) (last_label pre l ∙ e)
     ∙ ap (λ v. tally (size ts + 1) 0 v 0 false ∷ tallies_round n (within h ts (pre ++ l ∷ []) fs)) (same_signs n h ts (pre ++ l ∷ []) pre fs)
     ∙ ap (λ v. tally (size ts + 1) 0 (signs_in n (within h ts pre fs)) 0 false ∷ v) (round_parts n h ts ts (pre ++ l ∷ []) pre fs)
 
-pub name_moves : (n : ℕ) (h : Heading) (ts : Trees) (pre : List Lexeme) (fs : Frames) (l : Lexeme) → To n stance.Names l (part_tallies n (naming h ts pre fs)) (name_field h ts pre fs l)
+pub name_moves : (n : ℕ) (h : Heading) (ts : Trees) (pre : List Terminal) (fs : Frames) (l : Terminal) → To n attachment.Names l (part_tallies n (naming h ts pre fs)) (name_field h ts pre fs l)
 name_moves n h ts pre fs (leaf k x) =
-    on_if n stance.Names (leaf k x) (part_tallies n (naming h ts pre fs)) (is_label (leaf k x)) (want (within h ts (pre ++ leaf k x ∷ []) fs)) None (λ e. (names_part n h ts pre fs (leaf k x) e, refl)) (λ e. tt)
+    on_if n attachment.Names (leaf k x) (part_tallies n (naming h ts pre fs)) (is_label (leaf k x)) (want (within h ts (pre ++ leaf k x ∷ []) fs)) None (λ e. (names_part n h ts pre fs (leaf k x) e, refl)) (λ e. tt)
 name_moves n h ts pre fs (dot x) = tt
 name_moves n h ts pre fs (sign m x) = tt
 name_moves n h ts pre fs (opening b x) = tt
 name_moves n h ts pre fs (closing c x) = tt
 name_moves n h ts pre fs (other x) = tt
 
-pub index_name_moves : (n : ℕ) (o : Token) (fs : Frames) (l : Lexeme) → To n stance.Other l (part_tallies n (indexing o fs)) (name_index o fs l)
+pub index_name_moves : (n : ℕ) (o : Token) (fs : Frames) (l : Terminal) → To n attachment.Other l (part_tallies n (indexing o fs)) (name_index o fs l)
 index_name_moves n o fs (leaf leaves.Low x) = (refl, refl)
 index_name_moves n o fs (leaf leaves.Basic x) = tt
 index_name_moves n o fs (leaf leaves.Variable x) = tt
@@ -449,17 +449,17 @@ index_name_moves n o fs (opening b x) = tt
 index_name_moves n o fs (closing c x) = tt
 index_name_moves n o fs (other x) = tt
 
-pub bound_moves : (n : ℕ) (o i : Token) (fs : Frames) (l : Lexeme) → To n stance.Other l (part_tallies n (comparing o i fs)) (bound_index o i fs l)
+pub bound_moves : (n : ℕ) (o i : Token) (fs : Frames) (l : Terminal) → To n attachment.Other l (part_tallies n (comparing o i fs)) (bound_index o i fs l)
 bound_moves n o i fs (leaf k x) = tt
 bound_moves n o i fs (dot x) = tt
-bound_moves n o i fs (sign m x) = on_if n stance.Other (sign m x) (part_tallies n (comparing o i fs)) (is_less m) (want (within (below o i m x) none [] fs)) None (λ e. (refl, refl)) (λ e. tt)
+bound_moves n o i fs (sign m x) = on_if n attachment.Other (sign m x) (part_tallies n (comparing o i fs)) (is_less m) (want (within (below o i m x) none [] fs)) None (λ e. (refl, refl)) (λ e. tt)
 bound_moves n o i fs (opening b x) = tt
 bound_moves n o i fs (closing c x) = tt
 bound_moves n o i fs (other x) = tt
 
 -- ---- a token of a part
 
-pub row_ready : (l : Lexeme) (y : Tally) (fs : Frames) → y.row ≡ aheads fs → RowReady l y fs
+pub row_ready : (l : Terminal) (y : Tally) (fs : Frames) → y.row ≡ aheads fs → RowReady l y fs
 row_ready (leaf k x) y fs e = tt
 row_ready (dot x) y fs e = tt
 row_ready (sign m x) y fs e = e
@@ -476,7 +476,7 @@ lead_element (left t m x) fs = refl
 lead_element (ahead m x) fs = refl
 lead_element (items ts) fs = refl
 
-pub part_moves : (n : ℕ) (st : State) (l : Lexeme) → Holds st → To n (part_stance (state_base st) (state_of st) (shape l)) l (part_tallies n st) (step st l)
+pub part_moves : (n : ℕ) (st : State) (l : Terminal) → Holds st → To n (part_attachment (state_base st) (state_of st) (shape l)) l (part_tallies n st) (step st l)
 part_moves n (want (bottom σ)) l h = begins n (fresh n) (bottom σ) l tt tt (record { part = refl; element = refl; sign = refl }) (row_ready l (fresh n) (bottom σ) refl)
 part_moves n (want (within k ts pre fs)) l h =
     begins n (due_tally n (within k ts pre fs)) (within k ts pre fs) l tt h.0.0 (record { part = due_part (ends_with_label pre) (size ts); element = refl; sign = refl })
@@ -488,7 +488,7 @@ part_moves n (want (timing u m z fs)) l h = count_begins n u m z fs l h.0
 part_moves n (got t (bottom σ)) l h = got_moves n t (bottom σ) l tt h.0.frames
 part_moves n (got t (within k ts pre fs)) l h = got_moves n t (within k ts pre fs) l tt h.0.frames
 part_moves n (got t (over g fs)) l h = got_moves n t (over g fs) l tt h.0.frames
-part_moves n (got t (timing u m z fs)) l h = none_after_count n (part_stance (state_base (got t (timing u m z fs))) (state_of (got t (timing u m z fs))) (shape l)) (part_tallies n (got t (timing u m z fs))) t u m z fs l
+part_moves n (got t (timing u m z fs)) l h = none_after_count n (part_attachment (state_base (got t (timing u m z fs))) (state_of (got t (timing u m z fs))) (shape l)) (part_tallies n (got t (timing u m z fs))) t u m z fs l
 part_moves n (naming k ts pre fs) l h = name_moves n k ts pre fs l
 part_moves n (pathed (head t o) fs) l h = head_moves n t o fs l h.0
 part_moves n (pathed (field p x) fs) l h = field_moves n p x fs l

@@ -2,10 +2,10 @@
 use Rattle.std.specs.Prelude.{◌+◌, ◌≤◌, [], Bool, true, false, ◌||◌, nat_lt}
 use Rattle.st_grammar.specs.Definitions.{Iterations, no_iterations, closed, marked, counted}
 use Rattle.st_grammar.specs.Reading as part
-use Rattle.st_grammar.specs.Places.{State, at, inside, syntax_name, relation_name, rule_name, var_name, fun_name, premise_open, iterated, entering, field_name, arg_slot, count_slot}
+use Rattle.st_grammar.specs.Positions.{State, at, inside, syntax_name, relation_name, rule_name, var_name, fun_name, premise_open, iterated, entering, field_name, arg_slot, count_slot}
 use Rattle.st_parse_faults.specs.declared.counts.Counts.{Counts}
 use Rattle.st_parse_faults.specs.declared.counts.Event.{Event}
-use Rattle.st_parse_faults.specs.declared.counts.Event.TheVariants.{Definition, Premise, Member, Mark, Closed, Nothing}
+use Rattle.st_parse_faults.specs.declared.counts.Event.TheVariants.{Definition, Premise, Member, Iteration, Closed, Nothing}
 
 -- A part that the next token begins is an alternative, a field of a body, or an argument of a
 -- definition.
@@ -16,11 +16,11 @@ member_due (inside (arg_slot ds w f o ts pre) (part.want (part.bottom σ))) = tr
 member_due st = false
 
 -- behind a premise in parentheses
-abbrev pub mark_event : Iterations → Event
-mark_event no_iterations = Nothing
-mark_event (closed i l) = Closed
-mark_event (marked i l) = Mark
-mark_event (counted i l t) = Mark
+abbrev pub iteration_event : Iterations → Event
+iteration_event no_iterations = Nothing
+iteration_event (closed i l) = Closed
+iteration_event (marked i l) = Iteration
+iteration_event (counted i l t) = Iteration
 
 abbrev pub member_event : Bool → Event
 member_event true = Member
@@ -34,42 +34,42 @@ event b (at (rule_name ds w)) = Definition
 event b (at (var_name ds w)) = Definition
 event b (at (fun_name ds w)) = Definition
 event b (at (premise_open r t ps d [])) = Premise
-event b (at (iterated r t ps d os ls u i)) = mark_event i
+event b (at (iterated r t ps d os ls u i)) = iteration_event i
 event b (at p) = Nothing
-event b (inside (count_slot r t ps d os ls u i l) (part.want (part.bottom σ))) = Mark
+event b (inside (count_slot r t ps d os ls u i l) (part.want (part.bottom σ))) = Iteration
 event b (inside s st) = member_event b
 
--- Premises and members are those of one definition, marks those in a row.
+-- Premises and members are those of one definition, iterations those in a row.
 abbrev pub counts_after : Counts → Event → Counts
 counts_after c Definition =
-    record { definitions = c.definitions + 1; premises = 0; members = 0; marks = 0 }
+    record { definitions = c.definitions + 1; premises = 0; members = 0; iterations = 0 }
 counts_after c Premise =
     record {
       definitions = c.definitions;
       premises = c.premises + 1;
       members = c.members;
-      marks = 0;
+      iterations = 0;
     }
 counts_after c Member =
     record {
       definitions = c.definitions;
       premises = c.premises;
       members = c.members + 1;
-      marks = c.marks;
+      iterations = c.iterations;
     }
-counts_after c Mark =
+counts_after c Iteration =
     record {
       definitions = c.definitions;
       premises = c.premises;
       members = c.members;
-      marks = c.marks + 1;
+      iterations = c.iterations + 1;
     }
 counts_after c Closed =
     record {
       definitions = c.definitions;
       premises = c.premises;
       members = c.members;
-      marks = 0;
+      iterations = 0;
     }
 counts_after c Nothing = c
 
@@ -77,11 +77,11 @@ counts_after c Nothing = c
 abbrev pub counts_pass : Counts → Bool
 counts_pass c =
     nat_lt 65535 c.definitions || nat_lt 255 c.premises || nat_lt 4095 c.members
-    || nat_lt 32 c.marks
+    || nat_lt 32 c.iterations
 
 abbrev pub no_counts : Counts
-no_counts = record { definitions = 0; premises = 0; members = 0; marks = 0 }
+no_counts = record { definitions = 0; premises = 0; members = 0; iterations = 0 }
 
 -- None of them is.
 abbrev pub Kept : Counts → Type 0
-Kept c = (c.definitions ≤ 65535) × (c.premises ≤ 255) × (c.members ≤ 4095) × (c.marks ≤ 32)
+Kept c = (c.definitions ≤ 65535) × (c.premises ≤ 255) × (c.members ≤ 4095) × (c.iterations ≤ 32)

@@ -3,9 +3,9 @@ use Rattle.std.specs.Prelude.{◌≡◌, ℕ, ◌+◌, ◌<◌, ◌⊎◌, List,
 use Rattle.st_num.specs.declared.rule.RuleId.{RuleId}
 use Rattle.st_num.specs.declared.rule.RuleId.TheVariants.{S1, S2, S3, S4}
 use Rattle.st_scan.specs.declared.token.Token.{Token}
-use Rattle.st_grammar.specs.Lexemes.{Lexeme, lexeme, declared_names}
+use Rattle.st_grammar.specs.Terminals.{Terminal, terminal, declared_names}
 use Rattle.st_grammar.specs.Definitions.{Defs}
-use Rattle.st_grammar.specs.Places.{State, start, step, finish}
+use Rattle.st_grammar.specs.Positions.{State, start, step, finish}
 use Rattle.st_parse_faults.specs.LeftOut.{before_next, left_out}
 use Rattle.st_parse_faults.specs.Nesting.{nesting_after, bars, may_open}
 use Rattle.st_parse_faults.specs.declared.counts.Counts.{Counts}
@@ -29,7 +29,7 @@ abbrev pub nesting_limit : ℕ
 nesting_limit = 100
 
 -- The token is a bracket or bar behind which more are open.
-abbrev pub opens_too_many : Seen → Lexeme → Bool
+abbrev pub opens_too_many : Seen → Terminal → Bool
 opens_too_many seen l = may_open l && nat_lt nesting_limit (seen.nesting + bars seen.state)
 
 -- the rule that a refused token breaks
@@ -46,11 +46,11 @@ limited false false seen = passed seen
 abbrev pub passes_limit : Seen → Bool
 passes_limit seen = counts_pass seen.counts || part_passes seen.state
 
-abbrev pub kept : Seen → Lexeme → Verdict
+abbrev pub kept : Seen → Terminal → Verdict
 kept seen l = limited (opens_too_many seen l) (passes_limit seen) seen
 
 -- what is known behind a token that is read
-abbrev pub seen_after : Seen → Lexeme → State → Seen
+abbrev pub seen_after : Seen → Terminal → State → Seen
 seen_after seen l next =
     record {
       state = next;
@@ -58,13 +58,13 @@ seen_after seen l next =
       counts = counts_after seen.counts (event (member_due seen.state) next);
     }
 
-abbrev pub judged : Seen → Token → Lexeme → Option State → Verdict
+abbrev pub judged : Seen → Token → Terminal → Option State → Verdict
 judged seen x l None = broken (refusal seen x)
 judged seen x l (Some next) = kept (seen_after seen l next) l
 
 -- one token behind what is seen, where these names are declared by `var`
 abbrev pub judge : List (List ℕ) → Seen → Token → Verdict
-judge names seen x = judged seen x (lexeme names x) (step seen.state (lexeme names x))
+judge names seen x = judged seen x (terminal names x) (step seen.state (terminal names x))
 
 abbrev pub judge_all : List (List ℕ) → Verdict → List Token → Verdict
 judge_all names v [] = v

@@ -12,7 +12,7 @@ use Rattle.st_grammar.specs.Trees.{Tree}
 use Rattle.st_grammar.specs.Grammar.{is_type}
 use Rattle.st_grammar.specs.Definitions.{no_hints}
 use Rattle.st_grammar.specs.Reading as part
-use Rattle.st_grammar.specs.Places.{State, at, inside, hinted, premise_open, of_syntax}
+use Rattle.st_grammar.specs.Positions.{State, at, inside, hinted, premise_open, of_syntax}
 use Rattle.st_parse_faults.specs.declared.before.Before.{Before}
 use Rattle.st_parse_faults.specs.declared.before.Before.TheVariants as before
 

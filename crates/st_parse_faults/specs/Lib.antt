@@ -4,5 +4,5 @@ pub mod Counts
 pub mod Limits
 pub mod Faults
 pub mod Place
-pub mod Deeds
+pub mod Roles
 pub mod Seen

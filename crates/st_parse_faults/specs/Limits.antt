@@ -3,12 +3,12 @@ use Rattle.std.specs.Prelude.{ℕ, ◌+◌, List, [], ◌∷◌, Bool, true, fal
 use Rattle.std.specs.List.{list_any}
 use Rattle.st_num.specs.declared.mark.Mark.{Mark}
 use Rattle.st_num.specs.declared.mark.Mark.TheVariants as mark
-use Rattle.st_grammar.specs.Lexemes.{Lexeme}
+use Rattle.st_grammar.specs.Terminals.{Terminal}
 use Rattle.st_grammar.specs.Trees.{Tree, operand, post, times, bracket, led, Lead, left, ahead, items, Trees, none, more, Heading, plain, length, arguments, index, segment, update, below, Path, head, field, part}
 use Rattle.st_grammar.specs.Grammar.{is_label, size}
 use Rattle.st_grammar.specs.Reading.{Frames, bottom, within, over, timing, want, got, naming, pathed, indexing, comparing}
 use Rattle.st_grammar.specs.Reading as reading
-use Rattle.st_grammar.specs.Places.{State, Slot, Place, at, inside, arg_slot, argued, entering}
+use Rattle.st_grammar.specs.Positions.{State, Slot, Position, at, inside, arg_slot, argued, entering}
 use Rattle.st_parse_faults.specs.declared.tally.Tally.{Tally}
 
 -- ---- signs of trees
@@ -113,7 +113,7 @@ abbrev pub aheads : Frames → ℕ
 aheads (over (ahead m x) fs) = if is_turnstile m then 0 else aheads fs + 1
 aheads fs = 0
 
-abbrev pub ends_with_label : List Lexeme → Bool
+abbrev pub ends_with_label : List Terminal → Bool
 ends_with_label [] = false
 ends_with_label (l ∷ []) = is_label l
 ends_with_label (k ∷ l ∷ pre) = ends_with_label (l ∷ pre)
@@ -177,13 +177,13 @@ abbrev pub signs_before : Slot → ℕ
 signs_before (arg_slot ds w f o ts pre) = all_signs ts
 signs_before s = 0
 
-abbrev pub place_signs : Place → ℕ
-place_signs (argued ds w f o ts) = all_signs ts
-place_signs (entering s) = signs_before s
-place_signs p = 0
+abbrev pub position_signs : Position → ℕ
+position_signs (argued ds w f o ts) = all_signs ts
+position_signs (entering s) = signs_before s
+position_signs p = 0
 
 abbrev pub tallies : State → List Tally
-tallies (at p) = fresh (place_signs p) ∷ []
+tallies (at p) = fresh (position_signs p) ∷ []
 tallies (inside s st) = part_tallies (signs_before s) st
 
 -- ---- limits

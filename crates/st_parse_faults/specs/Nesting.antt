@@ -1,13 +1,13 @@
 -- How many brackets, and how many bars of lengths, are open.
 use Rattle.std.specs.Prelude.{ℕ, ◌+◌, ◌-◌, Bool, true, false}
 use Rattle.st_grammar.specs.declared.sort.Closing.TheVariants.{ByBar as by_bar}
-use Rattle.st_grammar.specs.Lexemes.{Lexeme, opening, closing}
+use Rattle.st_grammar.specs.Terminals.{Terminal, opening, closing}
 use Rattle.st_grammar.specs.Trees.{Heading, length}
 use Rattle.st_grammar.specs.Reading as part
-use Rattle.st_grammar.specs.Places.{State, at, inside}
+use Rattle.st_grammar.specs.Positions.{State, at, inside}
 
 -- the brackets that are open behind the token, where so many are open before it
-abbrev pub nesting_after : ℕ → Lexeme → ℕ
+abbrev pub nesting_after : ℕ → Terminal → ℕ
 nesting_after n (opening k x) = n + 1
 nesting_after n (closing by_bar x) = n
 nesting_after n (closing c x) = n - 1
@@ -37,7 +37,7 @@ bars (at p) = 0
 bars (inside s st) = part_bars st
 
 -- a bracket that opens, or a bar
-abbrev pub may_open : Lexeme → Bool
+abbrev pub may_open : Terminal → Bool
 may_open (opening k x) = true
 may_open (closing by_bar x) = true
 may_open l = false

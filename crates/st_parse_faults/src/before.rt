@@ -7,7 +7,9 @@ ghost use Rattle.st_parse_automaton.specs.Readings.{progress_of, reading_of};
 
 use st_grammar::{Bracket, Sort};
 use st_num::{Mark, Row};
-use st_parse_automaton::{At, Due, Host, Part, Place, Progress, Reading, Slot, slot_sort, top};
+use st_parse_automaton::{
+    At, Expected, Host, Part, Position, Progress, Reading, Slot, slot_sort, top,
+};
 use st_scan::{TokenKind, Word};
 
 /// What ends directly before a token.
@@ -32,12 +34,12 @@ fn ends_type(sort: Sort, part: Part) -> bool
     }
 }
 
-fn before_at(place: Place, brackets: &Row<Bracket>) -> Before
-    ensures { result ≡ seen.before_at place (reverse brackets.now) }
+fn before_at(position: Position, brackets: &Row<Bracket>) -> Before
+    ensures { result ≡ seen.before_at position (reverse brackets.now) }
 {
-    match place {
-        Place::Hinted(Host::Syntax, true) => Before::SyntaxName,
-        Place::PremiseOpen => match brackets.as_slice().last() {
+    match position {
+        Position::Hinted(Host::Syntax, true) => Before::SyntaxName,
+        Position::PremiseOpen => match brackets.as_slice().last() {
             None => Before::Dashes,
             Some(_) => Before::Other,
         },
@@ -48,15 +50,19 @@ fn before_at(place: Place, brackets: &Row<Bracket>) -> Before
 fn before_inside(slot: Slot, reading: &Reading) -> Before
     ensures { result ≡ seen.before_inside slot (reading_of reading.now) }
 {
-    match reading.due {
-        Due::Next(part) => {
+    match reading.expected {
+        Expected::Next(part) => {
             if ends_type(top(slot_sort(slot), &reading.frames), part) {
                 Before::Typ
             } else {
                 Before::Other
             }
         }
-        Due::Operand | Due::Label | Due::Step(_) | Due::Index | Due::Less => Before::Other,
+        Expected::Operand
+        | Expected::Label
+        | Expected::Step(_)
+        | Expected::Index
+        | Expected::Less => Before::Other,
     }
 }
 
@@ -65,7 +71,7 @@ pub(crate) fn stands_before(progress: &Progress) -> Before
     ensures { result ≡ seen.stands_before (progress_of progress.now) }
 {
     match progress {
-        Progress::At(here) => before_at(here.place, &here.brackets),
+        Progress::At(here) => before_at(here.position, &here.brackets),
         Progress::Inside(slot, reading, _) => before_inside(*slot, reading),
     }
 }

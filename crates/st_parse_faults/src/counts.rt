@@ -1,4 +1,4 @@
-//! What is counted between parts: definitions, premises, members of a body, and marks.
+//! What is counted between parts: definitions, premises, members of a body, and iterations.
 
 ghost use Rattle.std.specs.Prelude as Prelude;
 ghost use Rattle.std.specs.Prelude.{◌≡◌, reverse};
@@ -6,10 +6,10 @@ ghost use Rattle.st_parse_faults.specs.Counts as spec;
 ghost use Rattle.st_parse_faults.specs.Seen as seen;
 ghost use Rattle.st_parse_automaton.specs.Readings.{progress_of, reading_of};
 
-use crate::deed::none_open;
+use crate::role::none_open;
 use st_grammar::Bracket;
 use st_num::Row;
-use st_parse_automaton::{Marks, Place, Progress, Reading, Slot};
+use st_parse_automaton::{IterationState, Position, Progress, Reading, Slot};
 
 /// What a token begins between parts.
 #[derive(Clone, Copy, Debug, PartialEq, Eq)]
@@ -18,8 +18,8 @@ pub enum Event {
     Premise,
     /// An alternative, a field of a body, or an argument of a definition.
     Member,
-    /// A mark behind a premise in parentheses.
-    Mark,
+    /// An iteration behind a premise in parentheses.
+    Iteration,
     /// Nothing: it closes such parentheses.
     Closed,
     Nothing,
@@ -33,8 +33,8 @@ pub struct Counts {
     pub premises: u32,
     /// Alternatives or fields of the body, or arguments.
     pub members: u32,
-    /// Marks in a row behind the innermost premise in parentheses.
-    pub marks: u32,
+    /// IterationState in a row behind the innermost premise in parentheses.
+    pub iterations: u32,
 }
 
 /// Whether a part that the next token begins is a member.
@@ -42,27 +42,30 @@ pub(crate) fn member_due(progress: &Progress) -> bool
     ensures { result ≡ seen.member_due (progress_of progress.now) }
 {
     match progress {
-        Progress::At(here) => matches!(here.place, Place::Entering(_) | Place::FieldName(_)),
+        Progress::At(here) => matches!(
+            here.position,
+            Position::Entering(_) | Position::FieldName(_)
+        ),
         Progress::Inside(Slot::Argument(_, _), reading, _) => none_open(reading),
         Progress::Inside(_, _, _) => false,
     }
 }
 
-fn event_at(place: Place, brackets: &Row<Bracket>) -> Event
-    ensures { result ≡ seen.event_at place (reverse brackets.now) }
+fn event_at(position: Position, brackets: &Row<Bracket>) -> Event
+    ensures { result ≡ seen.event_at position (reverse brackets.now) }
 {
-    match place {
-        Place::SyntaxName
-        | Place::RelationName
-        | Place::RuleName
-        | Place::VarName
-        | Place::FunName => Event::Definition,
-        Place::PremiseOpen => match brackets.as_slice().last() {
+    match position {
+        Position::SyntaxName
+        | Position::RelationName
+        | Position::RuleName
+        | Position::VarName
+        | Position::FunName => Event::Definition,
+        Position::PremiseOpen => match brackets.as_slice().last() {
             None => Event::Premise,
             Some(_) => Event::Nothing,
         },
-        Place::Iterated(Marks::Marked) => Event::Mark,
-        Place::Iterated(Marks::Wanted) => Event::Closed,
+        Position::Iterated(IterationState::Complete) => Event::Iteration,
+        Position::Iterated(IterationState::Wanted) => Event::Closed,
         _ => Event::Nothing,
     }
 }
@@ -71,7 +74,7 @@ fn event_inside(due: bool, slot: Slot, reading: &Reading) -> Event
     ensures { result ≡ seen.event_inside due slot (reading_of reading.now) }
 {
     match slot {
-        Slot::Count if none_open(reading) => Event::Mark,
+        Slot::Count if none_open(reading) => Event::Iteration,
         _ => { if due { Event::Member } else { Event::Nothing } }
     }
 }
@@ -81,7 +84,7 @@ pub(crate) fn event_of(due: bool, next: &Progress) -> Event
     ensures { result ≡ seen.event due (progress_of next.now) }
 {
     match next {
-        Progress::At(here) => event_at(here.place, &here.brackets),
+        Progress::At(here) => event_at(here.position, &here.brackets),
         Progress::Inside(slot, reading, _) => event_inside(due, *slot, reading),
     }
 }
@@ -96,22 +99,25 @@ pub(crate) fn counts_after(counts: Counts, event: Event) -> Counts
             definitions: counts.definitions + 1,
             premises: 0,
             members: 0,
-            marks: 0,
+            iterations: 0,
         },
         Event::Premise => Counts {
             premises: counts.premises + 1,
-            marks: 0,
+            iterations: 0,
             ..counts
         },
         Event::Member => Counts {
             members: counts.members + 1,
             ..counts
         },
-        Event::Mark => Counts {
-            marks: counts.marks + 1,
+        Event::Iteration => Counts {
+            iterations: counts.iterations + 1,
             ..counts
         },
-        Event::Closed => Counts { marks: 0, ..counts },
+        Event::Closed => Counts {
+            iterations: 0,
+            ..counts
+        },
         Event::Nothing => counts,
     }
 }
@@ -124,5 +130,5 @@ pub(crate) fn counts_pass(counts: Counts) -> bool
     counts.definitions > 65_535
         || counts.premises > 255
         || counts.members > 4_095
-        || counts.marks > 32
+        || counts.iterations > 32
 }

@@ -6,11 +6,11 @@ ghost use Rattle.st_parse_automaton.specs.Readings.{progress_of};
 
 use crate::before::{Before, left_out, stands_before};
 use crate::counts::{Counts, counts_after, counts_pass, event_of, member_due};
-use crate::deed::stance_of;
 use crate::nesting::{NESTING_LIMIT, bars, may_open, nesting_after};
+use crate::role::attachment_of;
 use crate::tally::{Tally, any_passes, single, tallies_after};
 use st_num::{NoMemory, Row, RuleId};
-use st_parse_automaton::{At, Lexeme, Place, Progress, Shape, advance};
+use st_parse_automaton::{At, Position, Progress, Shape, TokenClass, advance};
 use st_scan::TokenKind;
 use std::alloc::Global;
 
@@ -51,11 +51,11 @@ fn opens_too_many(progress: &Progress, nesting: u8, shape: Shape) -> bool
 
 /// What is known before the first token.
 pub(crate) fn nothing_seen(alloc: Global) -> Result<Seen, NoMemory>
-    ensures value { IfOk result (λ seen. spec.outline_of seen ≡ spec.nothing_outlined) }
+    ensures value { IfOk result (λ seen. spec.summary_of seen ≡ spec.nothing_summarized) }
     ensures bound { IfOk result (λ seen. spec.SeenKept seen) }
 {
     let progress = Progress::At(At {
-        place: Place::Between,
+        position: Position::Between,
         brackets: Row::new(alloc),
     });
     nothing_counted(alloc, progress, 0)
@@ -65,7 +65,7 @@ pub(crate) fn nothing_seen(alloc: Global) -> Result<Seen, NoMemory>
 pub fn nothing_counted(alloc: Global, progress: Progress, nesting: u8) -> Result<Seen, NoMemory>
     requires { nesting ≤ 100 }
     ensures value { IfOk result (λ seen.
-        spec.outline_of seen ≡ spec.nothing_counted (progress_of progress) nesting) }
+        spec.summary_of seen ≡ spec.nothing_counted (progress_of progress) nesting) }
     ensures bound { IfOk result (λ seen. spec.SeenKept seen) }
 {
     let tallies = single(alloc, 0)?;
@@ -76,7 +76,7 @@ pub fn nothing_counted(alloc: Global, progress: Progress, nesting: u8) -> Result
             definitions: 0,
             premises: 0,
             members: 0,
-            marks: 0,
+            iterations: 0,
         },
         tallies,
     })
@@ -87,11 +87,11 @@ pub fn judge_token(
     alloc: Global,
     seen: Seen,
     kind: &TokenKind,
-    lexeme: Lexeme,
+    class: TokenClass,
 ) -> Result<Verdict, NoMemory>
     requires { spec.SeenKept seen }
     ensures value { IfOk result (λ verdict.
-        spec.verdict_of verdict ≡ spec.judge (spec.outline_of seen) kind.now lexeme) }
+        spec.verdict_of verdict ≡ spec.judge (spec.summary_of seen) kind.now class) }
     ensures bound { IfOk result (λ verdict. spec.IsBounded verdict) }
 {
     let Seen {
@@ -102,16 +102,16 @@ pub fn judge_token(
     } = seen;
     let before = stands_before(&progress);
     let due = member_due(&progress);
-    let stance = stance_of(&progress, lexeme.shape);
-    let Some(progress) = advance(alloc, progress, lexeme)? else {
+    let attachment = attachment_of(&progress, class.shape);
+    let Some(progress) = advance(alloc, progress, class)? else {
         return Ok(Verdict::Broken(refusal(before, nesting, kind)));
     };
-    let nesting = nesting_after(nesting, lexeme.shape);
-    if opens_too_many(&progress, nesting, lexeme.shape) {
+    let nesting = nesting_after(nesting, class.shape);
+    if opens_too_many(&progress, nesting, class.shape) {
         return Ok(Verdict::Broken(RuleId::S2));
     }
     let counts = counts_after(counts, event_of(due, &progress));
-    let tallies = tallies_after(alloc, stance, lexeme.shape, &progress, tallies)?;
+    let tallies = tallies_after(alloc, attachment, class.shape, &progress, tallies)?;
     if counts_pass(counts) || any_passes(&tallies) {
         return Ok(Verdict::Broken(RuleId::S3));
     }

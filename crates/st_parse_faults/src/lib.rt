@@ -10,18 +10,18 @@
 
 mod before;
 mod counts;
-mod deed;
 mod fault;
 mod judge;
 mod laws;
 mod nesting;
 mod place;
 mod reader;
+mod role;
 mod tally;
 #[cfg(test)]
 mod tests;
 
-pub use fault::Fault;
+pub use fault::TokenFault;
 pub use judge::{Seen, Verdict, judge_token, nothing_counted};
 pub use laws::{faults_of_the_grammar, one_fault};
 pub use place::place_at;

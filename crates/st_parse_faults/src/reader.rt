@@ -1,22 +1,22 @@
 //! The tokens of definitions, one after another.
 
 ghost use Rattle.std.specs.Prelude.{◌≡◌, IfOk, IfSome, IfNone};
-ghost use Rattle.st_grammar.specs.Lexemes as lexemes;
+ghost use Rattle.st_grammar.specs.Terminals as terminals;
 ghost use Rattle.st_parse_faults.specs.Faults.{Faultless, FirstFault};
 
-use crate::fault::Fault;
+use crate::fault::TokenFault;
 use crate::judge::{Verdict, judge_token, nothing_seen};
 use st_num::{Name, NoMemory, RuleId};
-use st_parse_automaton::{declared_names, may_end, token_lexeme};
+use st_parse_automaton::{declared_names, may_end, token_class};
 use st_scan::Token;
 use std::alloc::Global;
 
 /// The first token that breaks a rule, or the end where the tokens end too early; none where the
 /// tokens are those of definitions and each keeps the limits.
-pub fn first_fault(alloc: Global, tokens: &[Token]) -> Result<Option<Fault>, NoMemory>
+pub fn first_fault(alloc: Global, tokens: &[Token]) -> Result<Option<TokenFault>, NoMemory>
     ensures none { IfOk result (λ found. IfNone found (Faultless tokens.now)) }
     ensures some { IfOk result (λ found.
-        IfSome found (λ fault. FirstFault tokens.now (fault.place) (fault.rule))) }
+        IfSome found (λ fault. FirstFault tokens.now (fault.token) (fault.rule))) }
 {
     let names = declared_names(alloc, tokens)?;
     let found = read_tokens(alloc, names.as_slice(), tokens)?;
@@ -24,25 +24,29 @@ pub fn first_fault(alloc: Global, tokens: &[Token]) -> Result<Option<Fault>, NoM
 }
 
 /// The same, where these are the names that directly follow the word `var`.
-fn read_tokens(alloc: Global, names: &[Name], tokens: &[Token]) -> Result<Option<Fault>, NoMemory>
-    requires { names.now ≡ lexemes.declared_names tokens.now }
+fn read_tokens(
+    alloc: Global,
+    names: &[Name],
+    tokens: &[Token],
+) -> Result<Option<TokenFault>, NoMemory>
+    requires { names.now ≡ terminals.declared_names tokens.now }
     ensures none { IfOk result (λ found. IfNone found (Faultless tokens.now)) }
     ensures some { IfOk result (λ found.
-        IfSome found (λ fault. FirstFault tokens.now (fault.place) (fault.rule))) }
+        IfSome found (λ fault. FirstFault tokens.now (fault.token) (fault.rule))) }
 {
     let mut seen = nothing_seen(alloc)?;
     'tokens: for (at, token) in tokens.iter().enumerate() {
-        let lexeme = token_lexeme(names, token);
-        match judge_token(alloc, seen, &token.kind, lexeme)? {
-            Verdict::Broken(rule) => return Ok(Some(Fault { place: at, rule })),
+        let class = token_class(names, token);
+        match judge_token(alloc, seen, &token.kind, class)? {
+            Verdict::Broken(rule) => return Ok(Some(TokenFault { token: at, rule })),
             Verdict::Passed(next) => seen = next,
         }
     }
     if may_end(&seen.progress) {
         Ok(None)
     } else {
-        Ok(Some(Fault {
-            place: tokens.len(),
+        Ok(Some(TokenFault {
+            token: tokens.len(),
             rule: RuleId::S1,
         }))
     }

@@ -4,10 +4,10 @@ ghost use Rattle.std.specs.Prelude as Prelude;
 ghost use Rattle.std.specs.Prelude.{◌≡◌, ◌∷◌, [], IfOk, reverse};
 ghost use Rattle.std.specs.List.{AllByRecursion, list_any};
 ghost use Rattle.st_parse_faults.specs.Limits as limits;
-ghost use Rattle.st_parse_faults.specs.Deeds as deeds;
+ghost use Rattle.st_parse_faults.specs.Roles as roles;
 ghost use Rattle.st_parse_automaton.specs.Readings.{progress_of, reading_of};
 
-use crate::deed::{Deed, Shift, Stance, deed_of, none_open, shift_of};
+use crate::role::{Attachment, Shift, TokenRole, none_open, role_of, shift_of};
 use st_num::{NoMemory, Row};
 use st_parse_automaton::{Progress, Reading, Shape, Slot};
 use std::alloc::Global;
@@ -41,8 +41,8 @@ pub(crate) fn fresh(signs: u32) -> Tally
 
 /// The parts with the one that begins, if one is due.
 fn begun(tally: Tally) -> u32
-    requires { deeds.TallyKept tally }
-    ensures { result ≡ deeds.begun tally }
+    requires { roles.TallyKept tally }
+    ensures { result ≡ roles.begun tally }
 {
     if tally.due {
         tally.parts + 1
@@ -51,62 +51,62 @@ fn begun(tally: Tally) -> u32
     }
 }
 
-/// The tally behind such a deed.
-fn counted(tally: Tally, deed: Deed) -> Tally
-    requires { deeds.TallyKept tally }
-    ensures { result ≡ deeds.counted tally deed }
+/// The tally behind such a role.
+fn counted(tally: Tally, role: TokenRole) -> Tally
+    requires { roles.TallyKept tally }
+    ensures { result ≡ roles.counted tally role }
 {
-    match deed {
-        Deed::Operand => Tally {
+    match role {
+        TokenRole::Operand => Tally {
             parts: begun(tally),
             elements: tally.elements + 1,
             row: 0,
             due: false,
             ..tally
         },
-        Deed::Prefix => Tally {
+        TokenRole::Prefix => Tally {
             parts: begun(tally),
             elements: 0,
             row: tally.row + 1,
             due: false,
             ..tally
         },
-        Deed::Infix => Tally {
+        TokenRole::Infix => Tally {
             parts: begun(tally),
             elements: 0,
             signs: tally.signs + 1,
             row: 0,
             due: false,
         },
-        Deed::Postfix => Tally {
+        TokenRole::Postfix => Tally {
             row: tally.row + 1,
             ..tally
         },
-        Deed::Separator => Tally {
+        TokenRole::Separator => Tally {
             elements: 0,
             row: 0,
             due: true,
             ..tally
         },
-        Deed::Label => Tally {
+        TokenRole::Label => Tally {
             parts: tally.parts + 1,
             elements: 0,
             row: 0,
             due: false,
             ..tally
         },
-        Deed::Nothing => tally,
+        TokenRole::Nothing => tally,
     }
 }
 
-/// The tallies, the innermost of them behind such a deed.
-pub(crate) fn change(mut tallies: Row<Tally>, deed: Deed) -> Result<Row<Tally>, NoMemory>
-    requires { AllByRecursion deeds.TallyKept (reverse tallies) }
-    ensures { IfOk result (λ changed. reverse changed ≡ deeds.change deed (reverse tallies)) }
+/// The tallies, the innermost of them behind such a role.
+pub(crate) fn change(mut tallies: Row<Tally>, role: TokenRole) -> Result<Row<Tally>, NoMemory>
+    requires { AllByRecursion roles.TallyKept (reverse tallies) }
+    ensures { IfOk result (λ changed. reverse changed ≡ roles.change role (reverse tallies)) }
 {
     match tallies.pop() {
         Some(tally) => {
-            tallies.push(counted(tally, deed))?;
+            tallies.push(counted(tally, role))?;
             Ok(tallies)
         }
         None => Ok(tallies),
@@ -115,7 +115,7 @@ pub(crate) fn change(mut tallies: Row<Tally>, deed: Deed) -> Result<Row<Tally>, 
 
 /// The innermost bars end: the signs between them stand outside too.
 fn carry(mut tallies: Row<Tally>) -> Result<Row<Tally>, NoMemory>
-    ensures { IfOk result (λ carried. reverse carried ≡ deeds.carry (reverse tallies)) }
+    ensures { IfOk result (λ carried. reverse carried ≡ roles.carry (reverse tallies)) }
 {
     match tallies.pop() {
         Some(inner) => match tallies.pop() {
@@ -132,7 +132,7 @@ fn carry(mut tallies: Row<Tally>) -> Result<Row<Tally>, NoMemory>
 
 /// The signs of the innermost tally.
 pub(crate) fn signs_here(tallies: &Row<Tally>) -> u32
-    ensures { result ≡ deeds.signs_here (reverse tallies.now) }
+    ensures { result ≡ roles.signs_here (reverse tallies.now) }
 {
     match tallies.as_slice().last() {
         Some(tally) => tally.signs,
@@ -142,7 +142,7 @@ pub(crate) fn signs_here(tallies: &Row<Tally>) -> u32
 
 /// The tallies where a bracket or bar opens or closes.
 pub(crate) fn shift(mut tallies: Row<Tally>, shift: Shift) -> Result<Row<Tally>, NoMemory>
-    ensures { IfOk result (λ shifted. reverse shifted ≡ deeds.shift shift (reverse tallies)) }
+    ensures { IfOk result (λ shifted. reverse shifted ≡ roles.shift shift (reverse tallies)) }
 {
     match shift {
         Shift::Opens => {
@@ -186,7 +186,7 @@ fn some_pass(tallies: &[Tally]) -> bool
 /// Whether a number is passed between some brackets.
 pub(crate) fn any_passes(tallies: &Row<Tally>) -> bool
     ensures value { result ≡ list_any limits.tally_passes (reverse tallies.now) }
-    ensures kept { result ≡ Prelude.false → AllByRecursion deeds.TallyKept (reverse tallies.now) }
+    ensures kept { result ≡ Prelude.false → AllByRecursion roles.TallyKept (reverse tallies.now) }
 {
     some_pass(tallies.as_slice())
 }
@@ -202,7 +202,7 @@ pub(crate) fn single(alloc: Global, signs: u32) -> Result<Row<Tally>, NoMemory>
 
 /// The tallies of a part that begins; an argument of a definition is behind those before it.
 fn part_begins(alloc: Global, slot: Slot, signs: u32) -> Result<Row<Tally>, NoMemory>
-    ensures { IfOk result (λ tallies. reverse tallies ≡ deeds.part_begins slot signs) }
+    ensures { IfOk result (λ tallies. reverse tallies ≡ roles.part_begins slot signs) }
 {
     match slot {
         Slot::Argument(_, _) => single(alloc, signs),
@@ -219,16 +219,16 @@ fn part_begins(alloc: Global, slot: Slot, signs: u32) -> Result<Row<Tally>, NoMe
 
 /// The tallies behind a token that goes on with a part.
 fn moved(
-    stance: Stance,
+    attachment: Attachment,
     shape: Shape,
     next: &Reading,
     tallies: Row<Tally>,
 ) -> Result<Row<Tally>, NoMemory>
-    requires { AllByRecursion deeds.TallyKept (reverse tallies) }
+    requires { AllByRecursion roles.TallyKept (reverse tallies) }
     ensures { IfOk result (λ moved.
-        reverse moved ≡ deeds.moved stance shape (reading_of next.now) (reverse tallies)) }
+        reverse moved ≡ roles.moved attachment shape (reading_of next.now) (reverse tallies)) }
 {
-    let changed = change(tallies, deed_of(stance, shape, next))?;
+    let changed = change(tallies, role_of(attachment, shape, next))?;
     let shifted = shift(changed, shift_of(shape, next))?;
     Ok(shifted)
 }
@@ -236,15 +236,15 @@ fn moved(
 /// The tallies behind a token.
 pub(crate) fn tallies_after(
     alloc: Global,
-    stance: Stance,
+    attachment: Attachment,
     shape: Shape,
     next: &Progress,
     tallies: Row<Tally>,
 ) -> Result<Row<Tally>, NoMemory>
-    requires { AllByRecursion deeds.TallyKept (reverse tallies) }
+    requires { AllByRecursion roles.TallyKept (reverse tallies) }
     ensures { IfOk result (λ after.
         reverse after
-        ≡ deeds.tallies_after stance shape (progress_of next.now) (reverse tallies)) }
+        ≡ roles.tallies_after attachment shape (progress_of next.now) (reverse tallies)) }
 {
     match next {
         Progress::At(_) => single(alloc, 0),
@@ -252,7 +252,7 @@ pub(crate) fn tallies_after(
             if none_open(reading) {
                 part_begins(alloc, *slot, signs_here(&tallies))
             } else {
-                moved(stance, shape, reading, tallies)
+                moved(attachment, shape, reading, tallies)
             }
         }
     }

@@ -1,13 +1,13 @@
 //! Short texts around each rule, with the token counted by hand.
 
-use crate::{Fault, first_fault};
+use crate::{TokenFault, first_fault};
 use st_num::RuleId;
 use st_scan::scan;
 use std::alloc::{AllocError, Global};
 use std::process::Abort;
 use std::test::Fail;
 
-fn fault_of(rt: &impl Abort, alloc: Global, text: &str) -> Result<Option<Fault>, Fail> {
+fn fault_of(rt: &impl Abort, alloc: Global, text: &str) -> Result<Option<TokenFault>, Fail> {
     let bytes = text.as_bytes();
     assert!(rt; bytes.len() <= 1 << 20);
     let tokens = scan(alloc, 0, bytes)?;
@@ -19,11 +19,11 @@ fn expect(
     rt: &impl Abort,
     alloc: Global,
     text: &str,
-    place: usize,
+    token: usize,
     rule: RuleId,
 ) -> Result<(), Fail> {
     let found = fault_of(rt, alloc, text)?;
-    assert_eq!(rt; found, Some(Fault { place, rule }), "{text}");
+    assert_eq!(rt; found, Some(TokenFault { token, rule }), "{text}");
     Ok(())
 }
 
@@ -63,8 +63,8 @@ fn what_is_left_out_is_told(rt: HostRuntime) -> Result<(), Fail> {
         ("syntax a = A+", 4, RuleId::S1),
         ("def $f(nat+) : nat", 6, RuleId::S1),
     ];
-    for (text, place, rule) in texts {
-        expect(&rt, alloc, text, place, rule)?;
+    for (text, token, rule) in texts {
+        expect(&rt, alloc, text, token, rule)?;
     }
     Ok(())
 }
@@ -95,9 +95,9 @@ fn brackets_are_counted(rt: HostRuntime) -> Result<(), Fail> {
         ("syntax a hint(x ", "(", 100, "", 104, RuleId::S2),
         ("rule T: ", "(", 101, ",", 103, RuleId::S2),
     ];
-    for (front, part, count, back, place, rule) in texts {
+    for (front, part, count, back, token, rule) in texts {
         let text = repeated(alloc, front, part, count, back)?;
-        expect(&rt, alloc, text.as_str(), place, rule)?;
+        expect(&rt, alloc, text.as_str(), token, rule)?;
     }
     Ok(())
 }
@@ -120,9 +120,9 @@ fn signs_are_counted(rt: HostRuntime) -> Result<(), Fail> {
         ("var x : nat", "*", 33, "", 36),
         ("rule T: x -- (if x)", "*", 33, "", 41),
     ];
-    for (front, part, count, back, place) in texts {
+    for (front, part, count, back, token) in texts {
         let text = repeated(alloc, front, part, count, back)?;
-        expect(&rt, alloc, text.as_str(), place, RuleId::S3)?;
+        expect(&rt, alloc, text.as_str(), token, RuleId::S3)?;
     }
     Ok(())
 }
@@ -139,9 +139,9 @@ fn parts_are_counted(rt: HostRuntime) -> Result<(), Fail> {
         ("syntax a = {A nat", ", A nat", 4_095, "}", 12_289),
         ("def $f(x", ",x", 4_095, ") = x", 8_193),
     ];
-    for (front, part, count, back, place) in texts {
+    for (front, part, count, back, token) in texts {
         let text = repeated(alloc, front, part, count, back)?;
-        expect(&rt, alloc, text.as_str(), place, RuleId::S3)?;
+        expect(&rt, alloc, text.as_str(), token, RuleId::S3)?;
     }
     Ok(())
 }

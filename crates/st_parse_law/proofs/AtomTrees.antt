@@ -16,7 +16,7 @@ use Rattle.st_grammar.specs.declared.sort.Leaf.{Leaf}
 use Rattle.st_grammar.specs.declared.sort.Leaf.TheVariants.{Low as low, Variable as variable, Atom as atom, Number as number, Literal as literal, Function as function}
 use Rattle.st_grammar.specs.declared.sort.Bracket.TheVariants.{Round as round, Square as square, Brace as brace, TickRound as tick_round, TickSquare as tick_square, TickBrace as tick_brace, Dollar as dollar}
 use Rattle.st_grammar.specs.Levels.{takes}
-use Rattle.st_grammar.specs.Lexemes.{Lexeme, leaf, dot, sign, opening, closing, other, lexeme, kind_lexeme, is_variable}
+use Rattle.st_grammar.specs.Terminals.{Terminal, leaf, dot, sign, opening, closing, other, terminal, kind_terminal, is_variable}
 use Rattle.st_grammar.specs.Definitions.{token_in, is_minus}
 use Rattle.st_grammar.specs.Trees.{Tree, operand, post, times, bracket, led, left, ahead, items, plain, length, arguments, index, segment, update, below, text}
 use Rattle.st_grammar.specs.Grammar.{Fits}
@@ -38,43 +38,43 @@ use Rattle.st_parse_law.proofs.Atoms.{AtomPart, atom_one, atom_dot}
 -- ---- the tokens of a tree
 
 -- the token is what the grammar sees in it, and some text spells it
-abbrev pub IsReal : List (List ℕ) → Lexeme → Type 0
-IsReal names l = (l ≡ lexeme names (token_in l)) × IsWritten (token_in l).kind
+abbrev pub IsReal : List (List ℕ) → Terminal → Type 0
+IsReal names l = (l ≡ terminal names (token_in l)) × IsWritten (token_in l).kind
 
-abbrev pub AreReal : List (List ℕ) → List Lexeme → Type 0
+abbrev pub AreReal : List (List ℕ) → List Terminal → Type 0
 AreReal names [] = Unit {0}
 AreReal names (l ∷ w) = IsReal names l × AreReal names w
 
-pub real_left : (names : List (List ℕ)) (us vs : List Lexeme) → AreReal names (us ++ vs) → AreReal names us
+pub real_left : (names : List (List ℕ)) (us vs : List Terminal) → AreReal names (us ++ vs) → AreReal names us
 real_left names [] vs r = tt
 real_left names (l ∷ us) vs r = (r.0, real_left names us vs r.1)
 
-pub real_right : (names : List (List ℕ)) (us vs : List Lexeme) → AreReal names (us ++ vs) → AreReal names vs
+pub real_right : (names : List (List ℕ)) (us vs : List Terminal) → AreReal names (us ++ vs) → AreReal names vs
 real_right names [] vs r = r
 real_right names (l ∷ us) vs r = real_right names us vs r.1
 
 -- ---- dots
 
-abbrev is_dot_lexeme : Lexeme → Bool
-is_dot_lexeme (dot x) = true
-is_dot_lexeme l = false
+abbrev is_dot_terminal : Terminal → Bool
+is_dot_terminal (dot x) = true
+is_dot_terminal l = false
 
 -- the token is a dot with such a name
 abbrev pub IsDot : TokenKind → Type 0
 IsDot kd = (name : List ℕ) × (kd ≡ kind.Dot name) × IsField name
 
-no_dot : (l m : Lexeme) → l ≡ m → is_dot_lexeme l ≡ true → is_dot_lexeme m ≡ false → ⊥
-no_dot l m e h n = let same = ap is_dot_lexeme e in cc
+no_dot : (l m : Terminal) → l ≡ m → is_dot_terminal l ≡ true → is_dot_terminal m ≡ false → ⊥
+no_dot l m e h n = let same = ap is_dot_terminal e in cc
 
-up_no_dot : (v : Bool) (x : Token) → is_dot_lexeme (if v then leaf variable x else leaf atom x) ≡ false
+up_no_dot : (v : Bool) (x : Token) → is_dot_terminal (if v then leaf variable x else leaf atom x) ≡ false
 up_no_dot true x = refl
 up_no_dot false x = refl
 
-word_no_dot : (names : List (List ℕ)) (w : Word) (x : Token) → is_dot_lexeme (kind_lexeme names (kind.Reserved w) x) ≡ false
+word_no_dot : (names : List (List ℕ)) (w : Word) (x : Token) → is_dot_terminal (kind_terminal names (kind.Reserved w) x) ≡ false
 word_no_dot names word.Bool x = refl
 word_no_dot names _ x = refl
 
-sign_no_dot : (names : List (List ℕ)) (m : Mark) (x : Token) → is_dot_lexeme (kind_lexeme names (kind.Sign m) x) ≡ false
+sign_no_dot : (names : List (List ℕ)) (m : Mark) (x : Token) → is_dot_terminal (kind_terminal names (kind.Sign m) x) ≡ false
 sign_no_dot names mark.OpenParen x = refl
 sign_no_dot names _ x = refl
 
@@ -82,16 +82,16 @@ field_upper : (v : Bool) (x : Token) → dot x ≡ (if v then other x else dot x
 field_upper false x e = refl
 field_upper true x e = absurd (no_dot (dot x) (other x) e refl refl)
 
-pub is_dot : (names : List (List ℕ)) (kd : TokenKind) (x : Token) → dot x ≡ kind_lexeme names kd x → IsWritten kd → IsDot kd
+pub is_dot : (names : List (List ℕ)) (kd : TokenKind) (x : Token) → dot x ≡ kind_terminal names kd x → IsWritten kd → IsDot kd
 is_dot names (kind.Dot n) x e w = (n, refl, record { name = w.1.1; upper = field_upper (has_lower n) x e })
 is_dot names (kind.Low n) x e w = absurd (no_dot (dot x) (leaf low x) e refl refl)
 is_dot names (kind.Up n) x e w = absurd (no_dot (dot x) _ e refl (up_no_dot (is_variable names n) x))
 is_dot names (kind.Mix n) x e w = absurd (no_dot (dot x) (other x) e refl refl)
-is_dot names (kind.Reserved v) x e w = absurd (no_dot (dot x) (kind_lexeme names (kind.Reserved v) x) e refl (word_no_dot names v x))
+is_dot names (kind.Reserved v) x e w = absurd (no_dot (dot x) (kind_terminal names (kind.Reserved v) x) e refl (word_no_dot names v x))
 is_dot names (kind.Number n) x e w = absurd (no_dot (dot x) (leaf number x) e refl refl)
 is_dot names (kind.Text n) x e w = absurd (no_dot (dot x) (leaf literal x) e refl refl)
 is_dot names (kind.Fun n) x e w = absurd (no_dot (dot x) (leaf function x) e refl refl)
-is_dot names (kind.Sign m) x e w = absurd (no_dot (dot x) (kind_lexeme names (kind.Sign m) x) e refl (sign_no_dot names m x))
+is_dot names (kind.Sign m) x e w = absurd (no_dot (dot x) (kind_terminal names (kind.Sign m) x) e refl (sign_no_dot names m x))
 
 -- ---- what is no atom
 

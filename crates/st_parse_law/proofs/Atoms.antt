@@ -7,7 +7,7 @@ use Rattle.st_scan.specs.declared.token.Token.{Token}
 use Rattle.st_scan.specs.declared.token.TokenKind.TheVariants as kind
 use Rattle.st_grammar.specs.declared.sort.Sort.TheVariants.{Expression as expression}
 use Rattle.st_grammar.specs.declared.sort.Leaf.TheVariants.{Atom as atom}
-use Rattle.st_grammar.specs.Lexemes.{lexeme, dot, is_variable}
+use Rattle.st_grammar.specs.Terminals.{terminal, dot, is_variable}
 use Rattle.st_grammar.specs.Trees.{Tree, operand, post, text}
 use Rattle.st_grammar.specs.Grammar.{Fits, level}
 use Rattle.st_grammar.proofs.Complete.{begins_tree}
@@ -22,19 +22,19 @@ use Rattle.st_el.specs.Plain.{nowhere, plain_node}
 use Rattle.st_parse_builder.specs.Names.{name_of}
 use Rattle.st_parse_builder.specs.Meaning.{exp, place, meaning, is_atom, atom_name, opened, dotted, dotted_node}
 use Rattle.st_parse_law.specs.Written.{Piece, token, bytes_of, shape, shapes_behind, AreApart}
-use Rattle.st_parse_law.proofs.Cuts.{touch, touch-append, bytes-append, parted, single, one_lexeme, lexemes_of_both}
+use Rattle.st_parse_law.proofs.Cuts.{touch, touch-append, bytes-append, parted, single, one_terminal, terminals_of_both}
 use Rattle.st_parse_law.proofs.Ends.{Clear, before, point, Front, front_more, word_ends}
 use Rattle.st_parse_law.proofs.Plains.{plain-exp, plain-of, node-of}
 use Rattle.st_parse_law.proofs.Parts.{Part, starts_bar}
 use Rattle.st_parse_law.proofs.Placed.{Home, sort_of, bare_traits, Printable, printable}
 use Rattle.st_parse_law.proofs.Suffixes.{starts_bar_append}
 use Rattle.st_parse_law.proofs.Leaves.{an_atom, IsWritten, leaf_word}
-use Rattle.st_parse_law.proofs.Posts.{IsField, dot_lexeme}
+use Rattle.st_parse_law.proofs.Posts.{IsField, dot_terminal}
 
 -- the tokens are those of a tree that means this atom
 pub record AtomRead (names : List (List ℕ)) (b : Bool) (name : List ℕ) (xs : List Token) : Type 0 where
   pub tree : Tree
-  pub spelled : map (lexeme names) xs ≡ text tree
+  pub spelled : map (terminal names) xs ≡ text tree
   pub fits : Fits (expression b) tree
   pub level : 20 ≤ level tree
   pub is : (out-Exp (meaning tree)).node ≡ node.Atom name
@@ -61,7 +61,7 @@ atom_one names b n v w =
       apart = λ more c a. (o.spelled, tt, word_ends (kind.Up n) true (bytes_of more) refl c, a);
       reads = λ t xs s. let x = single xs (kind.Up n) t s in record {
         tree = operand atom x.only;
-        spelled = one_lexeme names xs (kind.Up n) t x ∙ ap (λ l. l ∷ []) (o.seen x.only);
+        spelled = one_terminal names xs (kind.Up n) t x ∙ ap (λ l. l ∷ []) (o.seen x.only);
         fits = refl;
         level = omega arith;
         is = node-of x.only.at (node.Atom (name_of x.only.kind)) ∙ ap (λ k. node.Atom (name_of k)) x.kind;
@@ -95,8 +95,8 @@ atom_dot names b name field h p = record {
       let x = single both.behind (kind.Dot field) (touch t p.pieces) both.backs in
       record {
         tree = post r.tree (dot x.only);
-        spelled = lexemes_of_both names xs both.ahead both.behind (text r.tree) (dot x.only ∷ []) both.whole r.spelled
-            (one_lexeme names both.behind (kind.Dot field) (touch t p.pieces) x ∙ ap (λ l. l ∷ []) (dot_lexeme names field x.only h));
+        spelled = terminals_of_both names xs both.ahead both.behind (text r.tree) (dot x.only ∷ []) both.whole r.spelled
+            (one_terminal names both.behind (kind.Dot field) (touch t p.pieces) x ∙ ap (λ l. l ∷ []) (dot_terminal names field x.only h));
         fits = (refl, r.fits, r.level);
         level = omega arith;
         is = dotted_atom (meaning r.tree) x.only name field r.is (x.touching ∙ p.ends t) x.kind;

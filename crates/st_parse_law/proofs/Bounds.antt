@@ -6,7 +6,7 @@ use Rattle.st_scan.specs.declared.token.TokenKind.TheVariants as kind
 use Rattle.st_grammar.specs.declared.sort.Leaf.TheVariants.{Low as low}
 use Rattle.st_grammar.specs.declared.sort.Bracket.TheVariants.{Round as round}
 use Rattle.st_grammar.specs.declared.sort.Closing.TheVariants.{ByRound as by_round}
-use Rattle.st_grammar.specs.Lexemes.{leaf, sign, opening, closing}
+use Rattle.st_grammar.specs.Terminals.{leaf, sign, opening, closing}
 use Rattle.st_grammar.specs.Trees.{bracket, none, more, below, text}
 use Rattle.st_el.specs.declared.expression.Exp.{Exp}
 use Rattle.st_el.specs.declared.expression.Count.{roll-Count}
@@ -18,7 +18,7 @@ use Rattle.st_el.specs.Plain.{plain_exp, plain_count}
 use Rattle.st_parse_builder.specs.Names.{name_of}
 use Rattle.st_parse_builder.specs.Meaning.{meaning}
 use Rattle.st_parse_law.specs.Written.{Piece, space, token, bytes_of, shape, shapes_behind, AreApart}
-use Rattle.st_parse_law.proofs.Cuts.{touch, touch-append, bytes-append, parted, cut, single, one_lexeme, lexemes_of_both}
+use Rattle.st_parse_law.proofs.Cuts.{touch, touch-append, bytes-append, parted, cut, single, one_terminal, terminals_of_both}
 use Rattle.st_parse_law.proofs.Ends.{Clear, Front, front_more, first_round, first_ends, by_round as round_closes, closer_clear, closer_last, last_ends}
 use Rattle.st_parse_law.proofs.Plains.{mark-of, plain-count}
 use Rattle.st_parse_law.proofs.Wraps.{signed}
@@ -67,14 +67,14 @@ module _ (names : List (List ℕ)) (i : List ℕ) (e : Exp) (w : IsWritten (kind
       let y = single four.behind (kind.Sign CloseParen) (touch false p.pieces) four.backs in
       record {
         tree = bracket (below o.only n.only Less x.only) (more none [] r.tree) y.only;
-        spelled = lexemes_of_both names xs one.ahead one.behind (opening round o.only ∷ []) (leaf low n.only ∷ sign Less x.only ∷ (text r.tree ++ closing by_round y.only ∷ [])) one.whole
-            (one_lexeme names one.ahead (kind.Sign OpenParen) b o)
-            (lexemes_of_both names one.behind two.ahead two.behind (leaf low n.only ∷ []) (sign Less x.only ∷ (text r.tree ++ closing by_round y.only ∷ [])) two.whole
-            (one_lexeme names two.ahead (kind.Low i) true n)
-            (lexemes_of_both names two.behind three.ahead three.behind (sign Less x.only ∷ []) (text r.tree ++ closing by_round y.only ∷ []) three.whole
-            (one_lexeme names three.ahead (kind.Sign Less) false x)
-            (lexemes_of_both names three.behind four.ahead four.behind (text r.tree) (closing by_round y.only ∷ []) four.whole r.spelled
-            (one_lexeme names four.behind (kind.Sign CloseParen) (touch false p.pieces) y))));
+        spelled = terminals_of_both names xs one.ahead one.behind (opening round o.only ∷ []) (leaf low n.only ∷ sign Less x.only ∷ (text r.tree ++ closing by_round y.only ∷ [])) one.whole
+            (one_terminal names one.ahead (kind.Sign OpenParen) b o)
+            (terminals_of_both names one.behind two.ahead two.behind (leaf low n.only ∷ []) (sign Less x.only ∷ (text r.tree ++ closing by_round y.only ∷ [])) two.whole
+            (one_terminal names two.ahead (kind.Low i) true n)
+            (terminals_of_both names two.behind three.ahead three.behind (sign Less x.only ∷ []) (text r.tree ++ closing by_round y.only ∷ []) three.whole
+            (one_terminal names three.ahead (kind.Sign Less) false x)
+            (terminals_of_both names three.behind four.ahead four.behind (text r.tree) (closing by_round y.only ∷ []) four.whole r.spelled
+            (one_terminal names four.behind (kind.Sign CloseParen) (touch false p.pieces) y))));
         fits = (refl, (refl, refl), (tt, refl, r.fits, r.level, tt), tt);
         plain = below_plain (name_of n.only.kind) i (meaning r.tree) e (ap name_of n.kind) r.plain;
       }

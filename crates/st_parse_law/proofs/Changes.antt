@@ -11,7 +11,7 @@ use Rattle.st_grammar.specs.declared.sort.Sort.TheVariants.{Expression as expres
 use Rattle.st_grammar.specs.declared.sort.Bracket.TheVariants.{Square as square}
 use Rattle.st_grammar.specs.declared.sort.Closing.TheVariants.{BySquare as by_square}
 use Rattle.st_grammar.specs.Levels.{is_change}
-use Rattle.st_grammar.specs.Lexemes.{kind_lexeme, sign, opening, closing}
+use Rattle.st_grammar.specs.Terminals.{kind_terminal, sign, opening, closing}
 use Rattle.st_grammar.specs.Trees.{none, more, bracket, update, Path, head, text}
 use Rattle.st_el.specs.declared.expression.Exp.{Exp}
 use Rattle.st_el.specs.declared.expression.Node.{roll-Node}
@@ -27,7 +27,7 @@ use Rattle.st_el.specs.SourceText.{printed, printed_step, postfix, parts_printed
 use Rattle.st_el.specs.Plain.{plain_exp, plain_seg}
 use Rattle.st_parse_builder.specs.Meaning.{exp, place, meaning, base, steps, is_atom, opened, changed_node}
 use Rattle.st_parse_law.specs.Written.{Piece, space, bytes_of, shape, shapes_behind, ends_before, AreApart}
-use Rattle.st_parse_law.proofs.Cuts.{touch, touch-append, bytes-append, parted, cut, single, one_lexeme, lexemes_of_both}
+use Rattle.st_parse_law.proofs.Cuts.{touch, touch-append, bytes-append, parted, cut, single, one_terminal, terminals_of_both}
 use Rattle.st_parse_law.proofs.Ends.{Clear, before, blank, open_square, Front, front_more, first_square, first_ends, by_square as square_closes, closer_clear, closer_last, last_ends}
 use Rattle.st_parse_law.proofs.Parts.{Traits, Part, Read}
 use Rattle.st_parse_law.proofs.Wraps.{signed, no_atom_at}
@@ -45,9 +45,9 @@ change_sign : (m : Mark) → IsChange m → is_change m ≡ true
 change_sign _ replaces = refl
 change_sign _ extends = refl
 
-change_lexeme : (names : List (List ℕ)) (m : Mark) (x : Token) → IsChange m → kind_lexeme names (kind.Sign m) x ≡ sign m x
-change_lexeme names _ x replaces = refl
-change_lexeme names _ x extends = refl
+change_terminal : (names : List (List ℕ)) (m : Mark) (x : Token) → IsChange m → kind_terminal names (kind.Sign m) x ≡ sign m x
+change_terminal names _ x replaces = refl
+change_terminal names _ x extends = refl
 
 change_ends : (m : Mark) (bs : List ℕ) → IsChange m → ends_before (kind.Sign m) (32 ∷ bs) ≡ true
 change_ends _ bs replaces = refl
@@ -111,13 +111,13 @@ module _ (names : List (List ℕ)) (b : Bool) (inner traits : Traits) (at : Span
       record {
         tree = bracket (update q m x.only) (more none [] v.tree) y.only;
         words = opening square o.only ∷ (p.words ++ sign m x.only ∷ (text v.tree ++ closing by_square y.only ∷ []));
-        spelled = lexemes_of_both names xs one.ahead one.behind (opening square o.only ∷ []) (p.words ++ sign m x.only ∷ (text v.tree ++ closing by_square y.only ∷ [])) one.whole
-            (one_lexeme names one.ahead (kind.Sign OpenBracket) true o)
-            (lexemes_of_both names one.behind two.ahead two.behind p.words (sign m x.only ∷ (text v.tree ++ closing by_square y.only ∷ [])) two.whole p.spelled
-            (lexemes_of_both names two.behind three.ahead three.behind (sign m x.only ∷ []) (text v.tree ++ closing by_square y.only ∷ []) three.whole
-            (one_lexeme names three.ahead (kind.Sign m) false x ∙ ap (λ l. l ∷ []) (change_lexeme names m x.only kind_of))
-            (lexemes_of_both names three.behind four.ahead four.behind (text v.tree) (closing by_square y.only ∷ []) four.whole v.spelled
-            (one_lexeme names four.behind (kind.Sign CloseBracket) (touch false gp.pieces) y))));
+        spelled = terminals_of_both names xs one.ahead one.behind (opening square o.only ∷ []) (p.words ++ sign m x.only ∷ (text v.tree ++ closing by_square y.only ∷ [])) one.whole
+            (one_terminal names one.ahead (kind.Sign OpenBracket) true o)
+            (terminals_of_both names one.behind two.ahead two.behind p.words (sign m x.only ∷ (text v.tree ++ closing by_square y.only ∷ [])) two.whole p.spelled
+            (terminals_of_both names two.behind three.ahead three.behind (sign m x.only ∷ []) (text v.tree ++ closing by_square y.only ∷ []) three.whole
+            (one_terminal names three.ahead (kind.Sign m) false x ∙ ap (λ l. l ∷ []) (change_terminal names m x.only kind_of))
+            (terminals_of_both names three.behind four.ahead four.behind (text v.tree) (closing by_square y.only ∷ []) four.whole v.spelled
+            (one_terminal names four.behind (kind.Sign CloseBracket) (touch false gp.pieces) y))));
         whole = ap (λ w. (w ++ sign m x.only ∷ []) ++ (text v.tree ++ closing by_square y.only ∷ [])) (p.whole (head r.tree o.only))
             ∙ words_text (text r.tree) p.words (text v.tree ++ closing by_square y.only ∷ []) (opening square o.only) (sign m x.only);
         fits = (refl, (p.fits b (head r.tree o.only) (refl, r.fits, omega (arith, tight, r.level)), p.has_step (head r.tree o.only), change_sign m kind_of), (tt, refl, v.fits, omega (arith, low, v.level), tt), tt);

@@ -6,7 +6,7 @@ use Rattle.st_num.specs.declared.mark.Mark.TheVariants as mark
 use Rattle.st_grammar.specs.declared.sort.Sort.TheVariants.{Count as count_sort}
 use Rattle.st_grammar.specs.declared.sort.Bracket.TheVariants.{Dollar as dollar}
 use Rattle.st_grammar.specs.declared.sort.Closing.TheVariants.{ByRound as by_round}
-use Rattle.st_grammar.specs.Lexemes.{Lexeme, leaf, dot, sign, opening, closing, other}
+use Rattle.st_grammar.specs.Terminals.{Terminal, leaf, dot, sign, opening, closing, other}
 use Rattle.st_grammar.specs.Trees.{Tree, operand, post, times, bracket, led, left, ahead, items, none, more, plain, length, arguments, index, segment, update, below, Path, head, field, part, text}
 use Rattle.st_grammar.specs.Grammar.{Fits, PathFits}
 use Rattle.st_el.specs.declared.expression.Exp.{Exp, the_lemmas}
@@ -31,7 +31,7 @@ in_mark : (m : Mark) → count_exps (mark_count m) ≡ []
 in_mark m = choice (is_star m) (is_plus m)
 
 -- a mark has none
-pub in_sign : (l : Lexeme) → count_exps (sign_count l) ≡ []
+pub in_sign : (l : Terminal) → count_exps (sign_count l) ≡ []
 in_sign (sign m x) = in_mark m
 in_sign (leaf k x) = in_mark mark.Question
 in_sign (dot x) = in_mark mark.Question

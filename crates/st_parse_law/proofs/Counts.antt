@@ -17,7 +17,7 @@ use Rattle.st_grammar.specs.declared.sort.Leaf.{Leaf}
 use Rattle.st_grammar.specs.declared.sort.Leaf.TheVariants.{Low as low, Basic as basic, Variable as variable, Atom as atom, Number as number, Literal as literal, Function as function}
 use Rattle.st_grammar.specs.declared.sort.Bracket.TheVariants.{Dollar as dollar}
 use Rattle.st_grammar.specs.Levels.{takes, encloses}
-use Rattle.st_grammar.specs.Lexemes.{leaf, dot, sign, opening, closing, other, lexeme}
+use Rattle.st_grammar.specs.Terminals.{leaf, dot, sign, opening, closing, other, terminal}
 use Rattle.st_grammar.specs.Trees.{Tree, operand, post, times, bracket, led, left, ahead, items, plain, length, arguments, index, segment, update, below, Path, head, field, part, text}
 use Rattle.st_grammar.specs.Grammar.{Fits, PathFits}
 use Rattle.st_el.specs.declared.expression.Exp.{Exp}
@@ -37,7 +37,7 @@ use Rattle.st_el.specs.Plain.{plain_exp, plain_count}
 use Rattle.st_parse_builder.specs.Names.{leaf_node}
 use Rattle.st_parse_builder.specs.Meaning.{exp, place, meaning, count_of}
 use Rattle.st_parse_law.specs.Written.{Piece, bytes_of, shape, shapes_behind, AreApart}
-use Rattle.st_parse_law.proofs.Cuts.{touch, bytes-append, single, cut, one_lexeme, lexemes_of_both}
+use Rattle.st_parse_law.proofs.Cuts.{touch, bytes-append, single, cut, one_terminal, terminals_of_both}
 use Rattle.st_parse_law.proofs.Ends.{Clear, Front, front_more, before, caret, first_caret, first_ends}
 use Rattle.st_parse_law.proofs.Plains.{printed-of, node-of, mark-of, plain-count}
 use Rattle.st_parse_law.proofs.Parts.{Traits, Part, part_as, weaker}
@@ -169,7 +169,7 @@ arith_printed names b at e x =
 -- the tokens are those of a count that means this one
 pub record CountRead (names : List (List ℕ)) (i : Count) (xs : List Token) : Type 0 where
   pub tree : Tree
-  pub spelled : map (lexeme names) xs ≡ text tree
+  pub spelled : map (terminal names) xs ≡ text tree
   pub fits : Fits count_sort tree
   pub plain : plain_count (count_of tree (meaning tree)) ≡ plain_count i
 
@@ -225,7 +225,7 @@ count_suffix names b a e at i home c = record {
       record {
         tree = times r.tree mark.Caret x.only n.tree;
         words = sign mark.Caret x.only ∷ text n.tree;
-        spelled = lexemes_of_both names xs one.ahead one.behind (sign mark.Caret x.only ∷ []) (text n.tree) one.whole (one_lexeme names one.ahead (kind.Sign mark.Caret) true x) n.spelled;
+        spelled = terminals_of_both names xs one.ahead one.behind (sign mark.Caret x.only ∷ []) (text n.tree) one.whole (one_terminal names one.ahead (kind.Sign mark.Caret) true x) n.spelled;
         whole = refl;
         fits = (refl, refl, r.fits, r.level, n.fits);
         plain = same_plain (place (meaning r.tree)) at (node.Iter (meaning r.tree) (count_of n.tree (meaning n.tree))) (node.Iter e i)

@@ -3,7 +3,7 @@ use Rattle.std.proofs.Common.{◌≡◌, ℕ, List, [], ◌∷◌, ◌++◌, map
 use Rattle.std.proofs.lemmas.List.{map-append}
 use Rattle.st_scan.specs.declared.token.Token.{Token}
 use Rattle.st_scan.specs.declared.token.TokenKind.{TokenKind}
-use Rattle.st_grammar.specs.Lexemes.{Lexeme, lexeme, kind_lexeme}
+use Rattle.st_grammar.specs.Terminals.{Terminal, terminal, kind_terminal}
 use Rattle.st_parse_law.specs.Written.{Piece, space, token, bytes_of, shape, shapes_behind}
 
 -- whether what comes behind these pieces touches them, where this says whether they touch
@@ -75,17 +75,17 @@ single (x ∷ y ∷ xs) k b e = absurd (cc)
 
 -- ---- tokens as the grammar sees them
 
-pub lexeme_is : (names : List (List ℕ)) (x : Token) (k : TokenKind) → x.kind ≡ k → lexeme names x ≡ kind_lexeme names k x
-lexeme_is names x k e = ap (λ k. kind_lexeme names k x) e
+pub terminal_is : (names : List (List ℕ)) (x : Token) (k : TokenKind) → x.kind ≡ k → terminal names x ≡ kind_terminal names k x
+terminal_is names x k e = ap (λ k. kind_terminal names k x) e
 
-pub one_lexeme :
+pub one_terminal :
     (names : List (List ℕ)) (xs : List Token) (k : TokenKind) (b : Bool) (s : Single xs k b)
-    → map (lexeme names) xs ≡ kind_lexeme names k s.only ∷ []
-one_lexeme names xs k b s = ap (map (lexeme names)) s.is ∙ ap (λ l. l ∷ []) (lexeme_is names s.only k s.kind)
+    → map (terminal names) xs ≡ kind_terminal names k s.only ∷ []
+one_terminal names xs k b s = ap (map (terminal names)) s.is ∙ ap (λ l. l ∷ []) (terminal_is names s.only k s.kind)
 
-pub lexemes_of_both :
-    (names : List (List ℕ)) (xs ahead behind : List Token) (us vs : List Lexeme) → xs ≡ ahead ++ behind
-    → map (lexeme names) ahead ≡ us → map (lexeme names) behind ≡ vs → map (lexeme names) xs ≡ us ++ vs
-lexemes_of_both names xs ahead behind us vs w u v =
-    ap (map (lexeme names)) w ∙ map-append (lexeme names) ahead behind
-    ∙ ap (λ l. l ++ map (lexeme names) behind) u ∙ ap (λ l. us ++ l) v
+pub terminals_of_both :
+    (names : List (List ℕ)) (xs ahead behind : List Token) (us vs : List Terminal) → xs ≡ ahead ++ behind
+    → map (terminal names) ahead ≡ us → map (terminal names) behind ≡ vs → map (terminal names) xs ≡ us ++ vs
+terminals_of_both names xs ahead behind us vs w u v =
+    ap (map (terminal names)) w ∙ map-append (terminal names) ahead behind
+    ∙ ap (λ l. l ++ map (terminal names) behind) u ∙ ap (λ l. us ++ l) v

@@ -5,7 +5,7 @@ use Rattle.std.proofs.lemmas.List.Elements.{All-nil, All-cons, All-append, All-s
 use Rattle.st_num.specs.declared.span.Span.{Span}
 use Rattle.st_scan.specs.declared.token.Token.{Token}
 use Rattle.st_grammar.specs.declared.sort.Sort.TheVariants.{Expression as expression}
-use Rattle.st_grammar.specs.Lexemes.{Lexeme}
+use Rattle.st_grammar.specs.Terminals.{Terminal}
 use Rattle.st_grammar.specs.Trees.{text, texts}
 use Rattle.st_grammar.specs.Definitions.{Iterations, no_iterations, closed, marked, counted, iterations_text, closings, IterationsFit, Premise, default, given, premise_text, PremiseFits, Premises, no_premises, more_premises, premises_text, PremisesFit, Args, no_args, args, args_text, ArgsFit, Def as Tokens, syntax_def, var_def, relation_def, rule_def, fun_def, clause_def, def_text, DefFits, Defs, no_defs, more_defs, defs_text, DefsFit}
 use Rattle.st_el.specs.declared.expression.Exp.{Exp}
@@ -50,7 +50,7 @@ at_place at p =
     let n : PremNode = (out-Prem p).node in
     in_node at n ∙ sym (in_node (out-Prem p).at n) ∙ ap prem_exps (roll-out-Prem p)
 
-in_condition : (ls : List Lexeme) (e : Exp) → prem_exps (condition ls e) ≡ e ∷ []
+in_condition : (ls : List Terminal) (e : Exp) → prem_exps (condition ls e) ≡ e ∷ []
 in_condition [] e = in_if _ e
 in_condition (r ∷ []) e = in_if _ e
 in_condition (r ∷ c ∷ ls) e = in_goal _ (name_in r) e
@@ -70,7 +70,7 @@ module _ (names : List (List ℕ)) where
   each_printed : (at : Span) (p : Prem) (c : Count) (es : List Exp) → count_exps c ≡ es → ArePrinted (prem_exps p) → ArePrinted es → ArePrinted (prem_exps (prem_at at (prem.Each p c)))
   each_printed at p c es e h k = same _ _ (in_each at p c) (both (prem_exps p) (count_exps c) h (same (count_exps c) es e k))
 
-  iterated_printed : (os : List Lexeme) (p : Prem) (i : Iterations) → IterationsFit i → AreReal names (iterations_text i) → ArePrinted (prem_exps p) → ArePrinted (prem_exps (iterated os p i))
+  iterated_printed : (os : List Terminal) (p : Prem) (i : Iterations) → IterationsFit i → AreReal names (iterations_text i) → ArePrinted (prem_exps p) → ArePrinted (prem_exps (iterated os p i))
   iterated_printed os p no_iterations f r h = h
   iterated_printed os p (closed i l) f r h = iterated_printed os p i f.0 (real_left names (iterations_text i) (l ∷ []) r) h
   iterated_printed os p (marked i l) f r h =

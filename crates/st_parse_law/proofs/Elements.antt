@@ -8,7 +8,7 @@ use Rattle.st_scan.specs.declared.token.Token.{Token}
 use Rattle.st_grammar.specs.declared.sort.Sort.{Sort}
 use Rattle.st_grammar.specs.declared.sort.Sort.TheVariants.{Expression as expression}
 use Rattle.st_grammar.specs.declared.sort.Style.TheVariants.{Run as run}
-use Rattle.st_grammar.specs.Lexemes.{Lexeme, lexeme}
+use Rattle.st_grammar.specs.Terminals.{Terminal, terminal}
 use Rattle.st_grammar.specs.Trees.{Tree, led, items, Trees, none, more, text, texts}
 use Rattle.st_grammar.specs.Grammar.{Fits, EachFits, size, level}
 use Rattle.st_el.specs.declared.expression.Exp.{Exp}
@@ -49,10 +49,10 @@ record AreElements (σ : Sort) (es : List Exp) (ts : Trees) : Type 0 where
 
 -- ---- a blank between elements
 
-abbrev IsNothing : List Lexeme → Type 0
+abbrev IsNothing : List Terminal → Type 0
 IsNothing w = w ≡ []
 
-no_tokens : (names : List (List ℕ)) (xs : List Token) → map shape xs ≡ [] → map (lexeme names) xs ≡ []
+no_tokens : (names : List (List ℕ)) (xs : List Token) → map shape xs ≡ [] → map (terminal names) xs ≡ []
 no_tokens names [] h = refl
 no_tokens names (x ∷ xs) h = absurd (cc)
 
@@ -84,7 +84,7 @@ module _ (names : List (List ℕ)) (b : Bool) where
   one_element c e traits xs r is = record { fits = (tt, refl, r.fits, omega (arith, is, r.level), tt); some = omega arith; plain = ap (λ p. p ∷ []) r.plain }
 
   more_elements :
-      (c : Bool) (es : List Exp) (e : Exp) (traits : Traits) (ts : Trees) (w : List Lexeme) (xs : List Token) → AreElements (expression c) es ts → w ≡ [] → IsFar xs
+      (c : Bool) (es : List Exp) (e : Exp) (traits : Traits) (ts : Trees) (w : List Terminal) (xs : List Token) → AreElements (expression c) es ts → w ≡ [] → IsFar xs
       → traits.level ≡ 20 → (c ≡ true → traits.no_bar ≡ true) → (r : Read names (expression c) e traits xs) → AreElements (expression c) (es ++ e ∷ []) (more ts w r.tree)
   more_elements c es e traits ts w xs l empty far is bars r = record {
     fits = (l.fits, empty, r.fits, omega (arith, is, r.level), element_follows names c ts r.tree xs r.fits (omega (arith, is, r.level)) r.spelled far (λ h. r.no_bar (bars h)));
@@ -134,7 +134,7 @@ module _ (names : List (List ℕ)) (b : Bool) where
     dots : is_atom (opened (meaning tree)) ≡ false
 
   sequence_tree :
-      (c : Bool) (at : Span) (es : List Exp) (e : Exp) (traits : Traits) (ts : Trees) (w : List Lexeme) (xs : List Token) → AreElements (expression c) es ts → w ≡ [] → IsFar xs
+      (c : Bool) (at : Span) (es : List Exp) (e : Exp) (traits : Traits) (ts : Trees) (w : List Terminal) (xs : List Token) → AreElements (expression c) es ts → w ≡ [] → IsFar xs
       → traits.level ≡ 20 → (c ≡ true → traits.no_bar ≡ true) → (r : Read names (expression c) e traits xs) → AreTree c (exp at (node.Seq (es ++ e ∷ []))) (more ts w r.tree)
   sequence_tree c at es e traits ts w xs l empty far is bars r = record {
     tree = led (items ts) r.tree;

@@ -11,7 +11,7 @@ use Rattle.st_grammar.specs.declared.sort.Sort.TheVariants.{Expression as expres
 use Rattle.st_grammar.specs.declared.sort.Style.TheVariants.{Fields as fields}
 use Rattle.st_grammar.specs.declared.sort.Leaf.{Leaf}
 use Rattle.st_grammar.specs.declared.sort.Bracket.TheVariants.{Brace as brace}
-use Rattle.st_grammar.specs.Lexemes.{Lexeme, leaf, sign}
+use Rattle.st_grammar.specs.Terminals.{Terminal, leaf, sign}
 use Rattle.st_grammar.specs.Definitions.{token_in}
 use Rattle.st_grammar.specs.Trees.{Trees, none, more, plain, text}
 use Rattle.st_grammar.specs.Grammar.{EachFits, SetsOff, is_label, size}
@@ -27,7 +27,7 @@ use Rattle.st_el.specs.Plain.{plain_exp}
 use Rattle.st_parse_builder.specs.Names.{name_of}
 use Rattle.st_parse_builder.specs.Meaning.{exp, meaning, field_meanings, label}
 use Rattle.st_parse_law.specs.Written.{space, token, bytes_of, shapes_behind}
-use Rattle.st_parse_law.proofs.Cuts.{single, cut, one_lexeme, lexemes_of_both}
+use Rattle.st_parse_law.proofs.Cuts.{single, cut, one_terminal, terminals_of_both}
 use Rattle.st_parse_law.proofs.Ends.{before, comma, front_more, first_brace, first_ends, by_brace}
 use Rattle.st_parse_law.proofs.Parts.{Part, part_as}
 use Rattle.st_parse_law.proofs.Wraps.{signed, tight_traits, no_atom_at}
@@ -60,8 +60,8 @@ pub record AreFields (fs : List (List ℕ × Exp)) (ts : Trees) : Type 0 where
 
 -- ---- what stands before a field
 
-abbrev IsNext : List ℕ → List Lexeme → Type 0
-IsNext name w = (x : Token) × (l : Lexeme) × (w ≡ sign Comma x ∷ l ∷ []) × (is_label l ≡ true) × (name_of (token_in l).kind ≡ name)
+abbrev IsNext : List ℕ → List Terminal → Type 0
+IsNext name w = (x : Token) × (l : Terminal) × (w ≡ sign Comma x ∷ l ∷ []) × (is_label l ≡ true) × (name_of (token_in l).kind ≡ name)
 
 next_joint : (names : List (List ℕ)) (name : List ℕ) → Label names name → Joint names (IsNext name) false false (codes ", " ++ name ++ codes " ")
 next_joint names name h = record {
@@ -76,17 +76,17 @@ next_joint names name h = record {
       let y = single one.behind (kind.Up name) false one.backs in
       record {
         words = sign Comma x.only ∷ leaf h.operand y.only ∷ [];
-        spelled = lexemes_of_both names xs one.ahead one.behind (sign Comma x.only ∷ []) (leaf h.operand y.only ∷ []) one.whole (one_lexeme names one.ahead (kind.Sign Comma) true x)
-            (one_lexeme names one.behind (kind.Up name) false y ∙ ap (λ l. l ∷ []) (h.word.seen y.only));
+        spelled = terminals_of_both names xs one.ahead one.behind (sign Comma x.only ∷ []) (leaf h.operand y.only ∷ []) one.whole (one_terminal names one.ahead (kind.Sign Comma) true x)
+            (one_terminal names one.behind (kind.Up name) false y ∙ ap (λ l. l ∷ []) (h.word.seen y.only));
         holds = (x.only, leaf h.operand y.only, refl, h.labels y.only, ap name_of y.kind);
       };
 }
 
-next_sets_off : (name : List ℕ) (ts : Trees) (w : List Lexeme) → 1 ≤ size ts → IsNext name w → SetsOff fields ts w
+next_sets_off : (name : List ℕ) (ts : Trees) (w : List Terminal) → 1 ≤ size ts → IsNext name w → SetsOff fields ts w
 next_sets_off name none w s n = absurd (omega (arith, s))
 next_sets_off name (more ts q t) w s n = (Comma, n.0, n.1, n.2, refl, n.3)
 
-next_label : (name : List ℕ) (w : List Lexeme) → IsNext name w → label w ≡ name
+next_label : (name : List ℕ) (w : List Terminal) → IsNext name w → label w ≡ name
 next_label name w n = ap label n.2 ∙ n.4
 
 field_snoc : (gs fs : List (List ℕ × Exp)) (k n : List ℕ) (u e : Exp) → map plain_field gs ≡ map plain_field fs → k ≡ n → plain_exp u ≡ plain_exp e
@@ -113,8 +113,8 @@ one_row names name e h x =
           let r = p.reads false one.behind one.backs in
           record {
             trees = more none (leaf h.operand y.only ∷ []) r.tree;
-            spelled = lexemes_of_both names xs one.ahead one.behind (leaf h.operand y.only ∷ []) (text r.tree) one.whole
-                (one_lexeme names one.ahead (kind.Up name) b y ∙ ap (λ l. l ∷ []) (h.word.seen y.only)) r.spelled;
+            spelled = terminals_of_both names xs one.ahead one.behind (leaf h.operand y.only ∷ []) (text r.tree) one.whole
+                (one_terminal names one.ahead (kind.Up name) b y ∙ ap (λ l. l ∷ []) (h.word.seen y.only)) r.spelled;
             holds = record {
               fits = (tt, (leaf h.operand y.only, refl, h.labels y.only), r.fits, r.level, tt);
               some = omega arith;
@@ -163,7 +163,7 @@ brace_opening names outer inner = record {
   after = λ b. refl;
   front = record { first = 123; rest = []; is = refl; no_semicolon = refl; no_minus = λ _. refl };
   apart = λ more f a. (refl, tt, first_ends OpenBrace inner (bytes_of more) (first_brace inner) f, a);
-  reads = λ b xs s. let x = single xs (kind.Sign OpenBrace) b s in record { of = x.only; spelled = one_lexeme names xs (kind.Sign OpenBrace) b x };
+  reads = λ b xs s. let x = single xs (kind.Sign OpenBrace) b s in record { of = x.only; spelled = one_terminal names xs (kind.Sign OpenBrace) b x };
 }
 
 module _ (names : List (List ℕ)) (at : Span) (fs : List (List ℕ × Exp)) (name : List ℕ) (e : Exp) (ps : FieldPrintables names fs) (h : Label names name) (x : Printable names (expression false) e) where

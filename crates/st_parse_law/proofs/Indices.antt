@@ -10,7 +10,7 @@ use Rattle.st_grammar.specs.declared.sort.Style.TheVariants.{Ends as ends}
 use Rattle.st_grammar.specs.declared.sort.Bracket.TheVariants.{Square as square}
 use Rattle.st_grammar.specs.declared.sort.Closing.TheVariants.{BySquare as by_square}
 use Rattle.st_grammar.specs.Levels.{computes}
-use Rattle.st_grammar.specs.Lexemes.{Lexeme, sign, opening, closing}
+use Rattle.st_grammar.specs.Terminals.{Terminal, sign, opening, closing}
 use Rattle.st_grammar.specs.Trees.{Tree, Trees, none, more, bracket, index, text, texts}
 use Rattle.st_grammar.specs.Grammar.{Fits, EachFits, index_style, size, level}
 use Rattle.st_el.specs.declared.expression.Exp.{Exp}
@@ -25,7 +25,7 @@ use Rattle.st_el.specs.SourceText.{printed, range, parts_printed}
 use Rattle.st_el.specs.Plain.{plain_exp}
 use Rattle.st_parse_builder.specs.Meaning.{exp, place, meaning, meanings, indexed, is_atom, opened}
 use Rattle.st_parse_law.specs.Written.{Piece, space, bytes_of, shape, shapes_behind, AreApart}
-use Rattle.st_parse_law.proofs.Cuts.{touch, touch-append, bytes-append, parted, cut, single, one_lexeme, lexemes_of_both}
+use Rattle.st_parse_law.proofs.Cuts.{touch, touch-append, bytes-append, parted, cut, single, one_terminal, terminals_of_both}
 use Rattle.st_parse_law.proofs.Ends.{Clear, before, blank, open_square, Front, front_more, first_square, first_ends, by_square as square_closes, closer_clear, closer_last, last_ends}
 use Rattle.st_parse_law.proofs.Parts.{Traits, Read}
 use Rattle.st_parse_law.proofs.Wraps.{signed, no_atom_at}
@@ -68,10 +68,10 @@ module _ (names : List (List ℕ)) (σ : Sort) (e f : Exp) (inner traits : Trait
       record {
         tree = bracket (index r.tree x.only) z.trees y.only;
         words = opening square x.only ∷ (texts z.trees ++ closing by_square y.only ∷ []);
-        spelled = lexemes_of_both names xs one.ahead one.behind (opening square x.only ∷ []) (texts z.trees ++ closing by_square y.only ∷ []) one.whole
-            (one_lexeme names one.ahead (kind.Sign OpenBracket) true x)
-            (lexemes_of_both names one.behind two.ahead two.behind (texts z.trees) (closing by_square y.only ∷ []) two.whole z.spelled
-            (one_lexeme names two.behind (kind.Sign CloseBracket) (touch true row.pieces) y));
+        spelled = terminals_of_both names xs one.ahead one.behind (opening square x.only ∷ []) (texts z.trees ++ closing by_square y.only ∷ []) one.whole
+            (one_terminal names one.ahead (kind.Sign OpenBracket) true x)
+            (terminals_of_both names one.behind two.ahead two.behind (texts z.trees) (closing by_square y.only ∷ []) two.whole z.spelled
+            (one_terminal names two.behind (kind.Sign CloseBracket) (touch true row.pieces) y));
         whole = append_assoc (text r.tree) (opening square x.only ∷ []) (texts z.trees ++ closing by_square y.only ∷ []);
         fits = (refl, (c, r.fits, omega (arith, tight, r.level)), ok.0, filled (index r.tree x.only) z.trees ok.1);
         plain = meant z.trees r.tree z.holds r.plain;
@@ -103,7 +103,7 @@ position_row names i x =
     row_one names (IsPosition i) (expression false) i (place_traits position (printed i)) ((printed i).at position) (λ xs r. (refl, r.fits, r.level, r.plain))
     (placed names (expression false) i position tt (omega arith) x)
 
-styled : (σ : Sort) (w : List Lexeme) (t : Tree) → w ≡ [] → Fits (expression false) t → 13 ≤ level t → EachFits (expression false) (index_style σ) 13 (more none w t)
+styled : (σ : Sort) (w : List Terminal) (t : Tree) → w ≡ [] → Fits (expression false) t → 13 ≤ level t → EachFits (expression false) (index_style σ) 13 (more none w t)
 styled arithmetic w t e f l = (tt, e, f, l, tt)
 styled (expression b) w t e f l = (tt, e, f, l, tt)
 styled σ w t e f l = (tt, e, f, l, tt)
@@ -136,7 +136,7 @@ at_printed names σ at e i x y =
 
 -- ---- a position and a length
 
-abbrev IsColon : List Lexeme → Type 0
+abbrev IsColon : List Terminal → Type 0
 IsColon w = (x : Token) × (w ≡ sign Colon x ∷ [])
 
 colon_joint : (names : List (List ℕ)) → Joint names IsColon false false (codes " : ")
@@ -148,7 +148,7 @@ colon_joint names = record {
   apart = λ behind f a. (refl, tt, refl, a);
   reads = λ xs s. let x = single xs (kind.Sign Colon) false s in record {
     words = sign Colon x.only ∷ [];
-    spelled = one_lexeme names xs (kind.Sign Colon) false x;
+    spelled = one_terminal names xs (kind.Sign Colon) false x;
     holds = (x.only, refl);
   };
 }

@@ -14,7 +14,7 @@ use Rattle.st_grammar.specs.declared.sort.Sort.{Sort}
 use Rattle.st_grammar.specs.declared.sort.Sort.TheVariants.{Expression as expression, Arithmetic as arithmetic}
 use Rattle.st_grammar.specs.Levels as grammar
 use Rattle.st_grammar.specs.Levels.{has_level}
-use Rattle.st_grammar.specs.Lexemes.{sign, lexeme, kind_lexeme}
+use Rattle.st_grammar.specs.Terminals.{sign, terminal, kind_terminal}
 use Rattle.st_grammar.specs.Trees.{Tree, led, left, text}
 use Rattle.st_el.specs.declared.expression.Exp.{Exp}
 use Rattle.st_el.specs.declared.expression.Node.{roll-Node}
@@ -31,7 +31,7 @@ use Rattle.st_el.specs.SourceText.{printed, left_side, blank_behind, parts_print
 use Rattle.st_el.specs.Plain.{plain_exp}
 use Rattle.st_parse_builder.specs.Meaning.{exp, place, meaning, is_atom, opened, joined_node, is_notation}
 use Rattle.st_parse_law.specs.Written.{Piece, space, bytes_of, shape, shapes_behind, ends_before, AreApart}
-use Rattle.st_parse_law.proofs.Cuts.{touch, touch-append, bytes-append, single, cut, parted, one_lexeme, lexemes_of_both}
+use Rattle.st_parse_law.proofs.Cuts.{touch, touch-append, bytes-append, single, cut, parted, one_terminal, terminals_of_both}
 use Rattle.st_parse_law.proofs.Ends.{Clear, clear_more, before, blank, Front, front_more, first_caret, first_ends}
 use Rattle.st_parse_law.proofs.Parts as parts
 use Rattle.st_parse_law.proofs.Parts.{Traits, Within, Part, Read, part_as, weaker}
@@ -66,19 +66,19 @@ sign_loose mark.Turnstile = refl
 sign_loose _ = refl
 
 -- a sign with a level is a sign to the grammar
-pub sign_lexeme_is : (names : List (List ℕ)) (m : Mark) (x : Token) → nat_le 1 (sign_level m) ≡ true → kind_lexeme names (kind.Sign m) x ≡ sign m x
-sign_lexeme_is names mark.OpenParen x h = absurd (cc)
-sign_lexeme_is names mark.OpenBracket x h = absurd (cc)
-sign_lexeme_is names mark.OpenBrace x h = absurd (cc)
-sign_lexeme_is names mark.TickParen x h = absurd (cc)
-sign_lexeme_is names mark.TickBracket x h = absurd (cc)
-sign_lexeme_is names mark.TickBrace x h = absurd (cc)
-sign_lexeme_is names mark.OpenArith x h = absurd (cc)
-sign_lexeme_is names mark.CloseParen x h = absurd (cc)
-sign_lexeme_is names mark.CloseBracket x h = absurd (cc)
-sign_lexeme_is names mark.CloseBrace x h = absurd (cc)
-sign_lexeme_is names mark.Bar x h = absurd (cc)
-sign_lexeme_is names _ x h = refl
+pub sign_terminal_is : (names : List (List ℕ)) (m : Mark) (x : Token) → nat_le 1 (sign_level m) ≡ true → kind_terminal names (kind.Sign m) x ≡ sign m x
+sign_terminal_is names mark.OpenParen x h = absurd (cc)
+sign_terminal_is names mark.OpenBracket x h = absurd (cc)
+sign_terminal_is names mark.OpenBrace x h = absurd (cc)
+sign_terminal_is names mark.TickParen x h = absurd (cc)
+sign_terminal_is names mark.TickBracket x h = absurd (cc)
+sign_terminal_is names mark.TickBrace x h = absurd (cc)
+sign_terminal_is names mark.OpenArith x h = absurd (cc)
+sign_terminal_is names mark.CloseParen x h = absurd (cc)
+sign_terminal_is names mark.CloseBracket x h = absurd (cc)
+sign_terminal_is names mark.CloseBrace x h = absurd (cc)
+sign_terminal_is names mark.Bar x h = absurd (cc)
+sign_terminal_is names _ x h = refl
 
 -- what stands between a sign and its right side
 abbrev gap : Mark → List Piece
@@ -166,10 +166,10 @@ module _ (names : List (List ℕ)) (σ : Sort) (e f : Exp) (m : Mark) (level_1 :
         let t : Tree = led (left y.tree m x.only) z.tree in
         record {
           tree = t;
-          spelled = lexemes_of_both names xs one.ahead one.behind (text y.tree) (sign m x.only ∷ text z.tree) one.whole y.spelled
-              (lexemes_of_both names one.behind two.ahead two.behind (sign m x.only ∷ []) (text z.tree) two.whole
-              (one_lexeme names two.ahead (kind.Sign m) false x ∙ ap (λ i. i ∷ []) (sign_lexeme_is names m x.only level_1))
-              (lexemes_of_both names two.behind three.ahead three.behind [] (text z.tree) three.whole (ap (map (lexeme names)) none) z.spelled))
+          spelled = terminals_of_both names xs one.ahead one.behind (text y.tree) (sign m x.only ∷ text z.tree) one.whole y.spelled
+              (terminals_of_both names one.behind two.ahead two.behind (sign m x.only ∷ []) (text z.tree) two.whole
+              (one_terminal names two.ahead (kind.Sign m) false x ∙ ap (λ i. i ∷ []) (sign_terminal_is names m x.only level_1))
+              (terminals_of_both names two.behind three.ahead three.behind [] (text z.tree) three.whole (ap (map (terminal names)) none) z.spelled))
               ∙ sym (append_assoc (text y.tree) (sign m x.only ∷ []) (text z.tree));
           fits = ((has, y.fits, omega (arith, left_is, y.level)), z.fits, omega (arith, right_is, z.level), tt);
           plain = joined_plain (place (meaning y.tree)) at m (meaning y.tree) e (meaning z.tree) f y.plain z.plain;

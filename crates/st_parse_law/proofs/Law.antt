@@ -11,7 +11,7 @@ use Rattle.st_scan.proofs.Answers.{tokens_texts}
 use Rattle.st_scan.proofs.Runs.{tokens_unique}
 use Rattle.st_grammar.specs.declared.sort.Style.TheVariants.{Parts as parts}
 use Rattle.st_grammar.specs.declared.sort.Sort.TheVariants.{Expression as expression}
-use Rattle.st_grammar.specs.Lexemes.{lexeme}
+use Rattle.st_grammar.specs.Terminals.{terminal}
 use Rattle.st_grammar.specs.Trees.{Trees, none, more, text, texts}
 use Rattle.st_grammar.specs.Grammar.{EachFits}
 use Rattle.st_el.specs.declared.expression.Exp.{Exp}
@@ -19,9 +19,9 @@ use Rattle.st_el.specs.declared.context.Around.TheVariants.{Brackets}
 use Rattle.st_el.specs.Contexts.{whole}
 use Rattle.st_el.specs.SourceText.{source_text}
 use Rattle.st_parse_builder.specs.Meaning.{meaning, meanings}
-use Rattle.st_parse_exp.specs.Expressions.{lexemes_of}
+use Rattle.st_parse_exp.specs.Expressions.{terminals_of}
 use Rattle.st_parse_exp.specs.Parse.{ParseExps}
-use Rattle.st_grammar.proofs.LexemeTokens.{lexeme_token}
+use Rattle.st_grammar.proofs.TerminalTokens.{terminal_token}
 use Rattle.st_parse_law.specs.Written.{IsAllowed, AreApart}
 use Rattle.st_parse_law.specs.ReadBack.{IsOfFile, AreOfFiles, MeanAgain, ReadBack}
 use Rattle.st_parse_law.proofs.Ends.{at_end}
@@ -59,12 +59,12 @@ file_written : (x : Token) → IsOfFile x → Written x
 file_written x f =
     All-contains Written f.tokens x (run_written f.number f.file f.file f.tokens f.scanned.left f.scanned.run (tokens_texts f.number f.file f.tokens f.scanned)) f.among
 
-real_lexeme : (names : List (List ℕ)) (x : Token) → Written x → IsReal names (lexeme names x)
-real_lexeme names x w = (ap (lexeme names) (sym (lexeme_token names x)), subst (λ y. IsWritten y.kind) (sym (lexeme_token names x)) w)
+real_terminal : (names : List (List ℕ)) (x : Token) → Written x → IsReal names (terminal names x)
+real_terminal names x w = (ap (terminal names) (sym (terminal_token names x)), subst (λ y. IsWritten y.kind) (sym (terminal_token names x)) w)
 
-pub files_real : (names : List (List ℕ)) (xs : List Token) → AreOfFiles xs → AreReal names (lexemes_of names xs)
+pub files_real : (names : List (List ℕ)) (xs : List Token) → AreOfFiles xs → AreReal names (terminals_of names xs)
 files_real names [] h = tt
-files_real names (x ∷ xs) h = (real_lexeme names x (file_written x (All-head IsOfFile x xs h)), files_real names xs (All-tail IsOfFile x xs h))
+files_real names (x ∷ xs) h = (real_terminal names x (file_written x (All-head IsOfFile x xs h)), files_real names xs (All-tail IsOfFile x xs h))
 
 module _ (names : List (List ℕ)) where
   -- it is read back wherever an expression may stand

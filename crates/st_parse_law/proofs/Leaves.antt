@@ -24,7 +24,7 @@ use Rattle.st_grammar.specs.declared.sort.Sort.TheVariants.{Expression as expres
 use Rattle.st_grammar.specs.declared.sort.Leaf.{Leaf}
 use Rattle.st_grammar.specs.declared.sort.Leaf.TheVariants.{Low as low, Basic as basic, Variable as variable, Atom as atom, Number as number, Literal as literal, Function as function}
 use Rattle.st_grammar.specs.Levels.{takes}
-use Rattle.st_grammar.specs.Lexemes.{Lexeme, leaf, dot, other, kind_lexeme, is_variable}
+use Rattle.st_grammar.specs.Terminals.{Terminal, leaf, dot, other, kind_terminal, is_variable}
 use Rattle.st_grammar.specs.Trees.{operand, text}
 use Rattle.st_el.specs.declared.expression.Node.{out-Node}
 use Rattle.st_el.specs.declared.expression.Node.TheVariants as node
@@ -38,7 +38,7 @@ use Rattle.st_el.specs.Plain.{nowhere, plain_exp, plain_node}
 use Rattle.st_parse_builder.specs.Names.{leaf_node}
 use Rattle.st_parse_builder.specs.Meaning.{exp, meaning, is_atom, opened}
 use Rattle.st_parse_law.specs.Written.{token, bytes_of, IsAllowed}
-use Rattle.st_parse_law.proofs.Cuts.{single, one_lexeme}
+use Rattle.st_parse_law.proofs.Cuts.{single, one_terminal}
 use Rattle.st_parse_law.proofs.Ends.{Front, letter_front, is_word, word_ends}
 use Rattle.st_parse_law.proofs.Plains.{plain-exp, node-of}
 use Rattle.st_parse_law.proofs.Parts.{Traits, Part, is_arithmetic, part_as}
@@ -60,7 +60,7 @@ pub data IsLeaf (names : List (List ℕ)) : Leaf → TokenKind → Type 0 where
   a_text : (t : List ℕ) → IsLeaf names literal (kind.Text t)
   a_function : (n : List ℕ) → IsLeaf names function (kind.Fun n)
 
-abbrev leaf_in : Lexeme → Leaf
+abbrev leaf_in : Terminal → Leaf
 leaf_in (leaf k x) = k
 leaf_in l = low
 
@@ -77,7 +77,7 @@ dot_leaf : (names : List (List ℕ)) (k : Leaf) (n : List ℕ) (x : Token) (v : 
 dot_leaf names k n x true e = absurd (cc)
 dot_leaf names k n x false e = absurd (cc)
 
-word_leaf : (names : List (List ℕ)) (k : Leaf) (w : Word) (x : Token) → leaf k x ≡ kind_lexeme names (kind.Reserved w) x → IsLeaf names k (kind.Reserved w)
+word_leaf : (names : List (List ℕ)) (k : Leaf) (w : Word) (x : Token) → leaf k x ≡ kind_terminal names (kind.Reserved w) x → IsLeaf names k (kind.Reserved w)
 word_leaf names k word.Bool x e = as_leaf names k basic _ x e a_bool
 word_leaf names k word.Nat x e = as_leaf names k basic _ x e a_nat
 word_leaf names k word.Int x e = as_leaf names k basic _ x e an_int
@@ -87,11 +87,11 @@ word_leaf names k word.False x e = as_leaf names k literal _ x e a_false
 word_leaf names k word.Eps x e = as_leaf names k literal _ x e an_eps
 word_leaf names k _ x e = absurd (cc)
 
-sign_leaf : (names : List (List ℕ)) (k : Leaf) (m : Mark) (x : Token) → leaf k x ≡ kind_lexeme names (kind.Sign m) x → ⊥
+sign_leaf : (names : List (List ℕ)) (k : Leaf) (m : Mark) (x : Token) → leaf k x ≡ kind_terminal names (kind.Sign m) x → ⊥
 sign_leaf names k mark.OpenParen x e = cc
 sign_leaf names k _ x e = cc
 
-pub is_leaf : (names : List (List ℕ)) (k : Leaf) (kd : TokenKind) (x : Token) → leaf k x ≡ kind_lexeme names kd x → IsLeaf names k kd
+pub is_leaf : (names : List (List ℕ)) (k : Leaf) (kd : TokenKind) (x : Token) → leaf k x ≡ kind_terminal names kd x → IsLeaf names k kd
 is_leaf names k (kind.Low n) x e = as_leaf names k low _ x e (a_low n)
 is_leaf names k (kind.Up n) x e = up_leaf names k n x (is_variable names n) refl e
 is_leaf names k (kind.Mix n) x e = absurd (cc)
@@ -117,7 +117,7 @@ pub record OneWord (names : List (List ℕ)) (k : Leaf) (kd : TokenKind) (bytes 
   pub allowed : IsAllowed kd
   pub word : is_word kd ≡ true
   pub front : (a : Bool) → Front a bytes
-  pub seen : (x : Token) → kind_lexeme names kd x ≡ leaf k x
+  pub seen : (x : Token) → kind_terminal names kd x ≡ leaf k x
 
 pub leaf_part :
     (names : List (List ℕ)) (σ : Sort) (at : Span) (k : Leaf) (kd : TokenKind) (traits : Traits) (bytes : List ℕ) → OneWord names k kd bytes → takes σ k ≡ true
@@ -131,7 +131,7 @@ leaf_part names σ at k kd traits bytes w taken under dots = record {
   apart = λ more c a. (w.spelled, w.allowed, word_ends kd traits.plus (bytes_of more) w.word c, a);
   reads = λ b xs s. let x = single xs kd b s in record {
     tree = operand k x.only;
-    spelled = one_lexeme names xs kd b x ∙ ap (λ l. l ∷ []) (w.seen x.only);
+    spelled = one_terminal names xs kd b x ∙ ap (λ l. l ∷ []) (w.seen x.only);
     fits = taken;
     plain = leaf_plain at k kd x.only x.kind;
     level = under;

@@ -11,7 +11,7 @@ use Rattle.st_scan.specs.declared.token.TokenKind.TheVariants as kind
 use Rattle.st_grammar.specs.declared.sort.Sort.{Sort}
 use Rattle.st_grammar.specs.declared.sort.Sort.TheVariants.{Expression as expression}
 use Rattle.st_grammar.specs.declared.sort.Style.TheVariants.{Parts as parts}
-use Rattle.st_grammar.specs.Lexemes.{Lexeme, sign, closing, lexeme, kind_lexeme}
+use Rattle.st_grammar.specs.Terminals.{Terminal, sign, closing, terminal, kind_terminal}
 use Rattle.st_grammar.specs.Trees.{Trees, none, more, bracket, Heading, texts, heading_text, closes}
 use Rattle.st_grammar.specs.Grammar.{Fits, EachFits, SetsOff, size}
 use Rattle.st_el.specs.declared.expression.Exp.{Exp}
@@ -22,7 +22,7 @@ use Rattle.st_el.specs.SourceText.{printed, listed}
 use Rattle.st_el.specs.Plain.{plain_exp}
 use Rattle.st_parse_builder.specs.Meaning.{meaning, meanings, is_atom, opened}
 use Rattle.st_parse_law.specs.Written.{Piece, space, bytes_of, shape, shapes_behind, AreApart}
-use Rattle.st_parse_law.proofs.Cuts.{touch, touch-append, bytes-append, single, parted, one_lexeme, lexemes_of_both}
+use Rattle.st_parse_law.proofs.Cuts.{touch, touch-append, bytes-append, single, parted, one_terminal, terminals_of_both}
 use Rattle.st_parse_law.proofs.Ends.{Clear, before, comma, Front, front_more, Closer, closer_clear, closer_last, last_ends}
 use Rattle.st_parse_law.proofs.Parts.{Part, Read, is_arithmetic, starts_bar}
 use Rattle.st_parse_law.proofs.Wraps.{signed, tight_traits}
@@ -43,7 +43,7 @@ pub record AreListed (es : List Exp) (ts : Trees) : Type 0 where
 
 -- ---- commas
 
-abbrev IsComma : List Lexeme → Type 0
+abbrev IsComma : List Terminal → Type 0
 IsComma w = (x : Token) × (w ≡ sign Comma x ∷ [])
 
 comma_joint : (names : List (List ℕ)) → Joint names IsComma false false (codes ", ")
@@ -55,12 +55,12 @@ comma_joint names = record {
   apart = λ more f a. (refl, tt, refl, a);
   reads = λ xs s. let x = single xs (kind.Sign Comma) true s in record {
     words = sign Comma x.only ∷ [];
-    spelled = one_lexeme names xs (kind.Sign Comma) true x;
+    spelled = one_terminal names xs (kind.Sign Comma) true x;
     holds = (x.only, refl);
   };
 }
 
-sets_off : (ts : Trees) (x : Token) (w : List Lexeme) → 1 ≤ size ts → w ≡ sign Comma x ∷ [] → SetsOff parts ts w
+sets_off : (ts : Trees) (x : Token) (w : List Terminal) → 1 ≤ size ts → w ≡ sign Comma x ∷ [] → SetsOff parts ts w
 sets_off none x w h e = absurd (omega (arith, h))
 sets_off (more ts q t) x w h e = (Comma, x, e, refl)
 
@@ -77,7 +77,7 @@ one_listed : (names : List (List ℕ)) (e : Exp) (xs : List Token) (r : Read nam
 one_listed names e xs r = record { fits = (tt, refl, r.fits, r.level, tt); some = omega arith; plain = ap (λ p. p ∷ []) r.plain }
 
 more_listed :
-    (names : List (List ℕ)) (es : List Exp) (e : Exp) (ts : Trees) (w : List Lexeme) (xs : List Token) → AreListed es ts → IsComma w
+    (names : List (List ℕ)) (es : List Exp) (e : Exp) (ts : Trees) (w : List Terminal) (xs : List Token) → AreListed es ts → IsComma w
     → (r : Read names (expression false) e (place_traits (whole Brackets) (printed e)) xs) → AreListed (es ++ e ∷ []) (more ts w r.tree)
 more_listed names es e ts w xs l c r = record {
   fits = (l.fits, sets_off ts c.0 w l.some c.1, r.fits, r.level, tt);
@@ -122,7 +122,7 @@ listed_row names _ e (one_more es d ps y) x =
 -- the tokens are those of such a heading
 pub record OpeningRead (names : List (List ℕ)) (A : Type 0) (heading : A → Heading) (xs : List Token) : Type 0 where
   pub of : A
-  pub spelled : map (lexeme names) xs ≡ heading_text (heading of)
+  pub spelled : map (terminal names) xs ≡ heading_text (heading of)
 
 -- pieces that open a bracket, read back as such headings
 pub record Opening (names : List (List ℕ)) (A : Type 0) (heading : A → Heading) (outer inner : Bool) (bytes : List ℕ) : Type 0 where
@@ -135,11 +135,11 @@ pub record Opening (names : List (List ℕ)) (A : Type 0) (heading : A → Headi
 
 module _ (names : List (List ℕ)) (A : Type 0) (heading : A → Heading) (P : Trees → Type 0) (σ : Sort) (inner plus : Bool) (f : Exp) (c : Mark) (ob rb : List ℕ)
     (closer : Closer c)
-    (closed : (z : A) (y : Token) → kind_lexeme names (kind.Sign c) y ≡ closing (closes (heading z)) y)
+    (closed : (z : A) (y : Token) → kind_terminal names (kind.Sign c) y ≡ closing (closes (heading z)) y)
     (fits : (z : A) (ts : Trees) (y : Token) → P ts → Fits σ (bracket (heading z) ts y))
     (meant : (z : A) (ts : Trees) (y : Token) → P ts → plain_exp (meaning (bracket (heading z) ts y)) ≡ plain_exp f)
     (no_atom : (z : A) (ts : Trees) (y : Token) → P ts → is_atom (opened (meaning (bracket (heading z) ts y))) ≡ false)
-    (no_bar : (z : A) (w : List Lexeme) → starts_bar (heading_text (heading z) ++ w) ≡ false) where
+    (no_bar : (z : A) (w : List Terminal) → starts_bar (heading_text (heading z) ++ w) ≡ false) where
   abbrev boxed_pieces : Opening names A heading (is_arithmetic σ) inner ob → Row names P inner plus rb → List Piece
   boxed_pieces o r = o.pieces ++ (r.pieces ++ signed c ∷ [])
 
@@ -163,9 +163,9 @@ module _ (names : List (List ℕ)) (A : Type 0) (heading : A → Heading) (P : T
       let y = single two.behind (kind.Sign c) (touch (touch b o.pieces) r.pieces) two.backs in
       record {
         tree = bracket (heading z.of) row.trees y.only;
-        spelled = lexemes_of_both names xs one.ahead one.behind (heading_text (heading z.of)) (texts row.trees ++ closing (closes (heading z.of)) y.only ∷ []) one.whole z.spelled
-            (lexemes_of_both names one.behind two.ahead two.behind (texts row.trees) (closing (closes (heading z.of)) y.only ∷ []) two.whole row.spelled
-            (one_lexeme names two.behind (kind.Sign c) (touch (touch b o.pieces) r.pieces) y ∙ ap (λ l. l ∷ []) (closed z.of y.only)));
+        spelled = terminals_of_both names xs one.ahead one.behind (heading_text (heading z.of)) (texts row.trees ++ closing (closes (heading z.of)) y.only ∷ []) one.whole z.spelled
+            (terminals_of_both names one.behind two.ahead two.behind (texts row.trees) (closing (closes (heading z.of)) y.only ∷ []) two.whole row.spelled
+            (one_terminal names two.behind (kind.Sign c) (touch (touch b o.pieces) r.pieces) y ∙ ap (λ l. l ∷ []) (closed z.of y.only)));
         fits = fits z.of row.trees y.only row.holds;
         plain = meant z.of row.trees y.only row.holds;
         level = omega arith;

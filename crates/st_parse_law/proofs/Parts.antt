@@ -4,7 +4,7 @@ use Rattle.st_scan.specs.declared.token.Token.{Token}
 use Rattle.st_grammar.specs.declared.sort.Sort.{Sort}
 use Rattle.st_grammar.specs.declared.sort.Sort.TheVariants.{Arithmetic as arithmetic}
 use Rattle.st_grammar.specs.declared.sort.Closing.TheVariants.{ByBar as by_bar}
-use Rattle.st_grammar.specs.Lexemes.{Lexeme, closing, lexeme}
+use Rattle.st_grammar.specs.Terminals.{Terminal, closing, terminal}
 use Rattle.st_grammar.specs.Trees.{Tree, text}
 use Rattle.st_grammar.specs.Grammar.{Fits, level}
 use Rattle.st_el.specs.declared.expression.Exp.{Exp}
@@ -30,11 +30,11 @@ pub record Within (less more : Traits) : Type 0 where
   pub no_bar : less.no_bar ≡ true → more.no_bar ≡ true
 
 -- the text begins with a bar
-abbrev pub is_bar : Lexeme → Bool
+abbrev pub is_bar : Terminal → Bool
 is_bar (closing by_bar x) = true
 is_bar l = false
 
-abbrev pub starts_bar : List Lexeme → Bool
+abbrev pub starts_bar : List Terminal → Bool
 starts_bar [] = false
 starts_bar (l ∷ w) = is_bar l
 
@@ -45,7 +45,7 @@ is_arithmetic σ = false
 -- the tokens are those of a tree that means this expression, layout and parentheses aside
 pub record Read (names : List (List ℕ)) (σ : Sort) (e : Exp) (traits : Traits) (xs : List Token) : Type 0 where
   pub tree : Tree
-  pub spelled : map (lexeme names) xs ≡ text tree
+  pub spelled : map (terminal names) xs ≡ text tree
   pub fits : Fits σ tree
   pub plain : plain_exp (meaning tree) ≡ plain_exp e
   pub level : traits.level ≤ level tree

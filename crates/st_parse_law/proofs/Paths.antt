@@ -10,7 +10,7 @@ use Rattle.st_grammar.specs.declared.sort.Sort.TheVariants.{Expression as expres
 use Rattle.st_grammar.specs.declared.sort.Style.TheVariants.{Ends as ends}
 use Rattle.st_grammar.specs.declared.sort.Bracket.TheVariants.{Square as square}
 use Rattle.st_grammar.specs.declared.sort.Closing.TheVariants.{BySquare as by_square}
-use Rattle.st_grammar.specs.Lexemes.{Lexeme, lexeme, dot, opening, closing}
+use Rattle.st_grammar.specs.Terminals.{Terminal, terminal, dot, opening, closing}
 use Rattle.st_grammar.specs.Trees.{Trees, none, more, Path, field, part, text, texts, path_text}
 use Rattle.st_grammar.specs.Grammar.{EachFits, PathFits, has_step, size}
 use Rattle.st_el.specs.declared.expression.Exp.{Exp}
@@ -23,12 +23,12 @@ use Rattle.st_el.specs.Plain.{plain_exp, plain_seg}
 use Rattle.st_parse_builder.specs.Names.{name_of}
 use Rattle.st_parse_builder.specs.Meaning.{meaning, meanings, base, steps, step_at}
 use Rattle.st_parse_law.specs.Written.{Piece, token, bytes_of, shape, shapes_behind, AreApart}
-use Rattle.st_parse_law.proofs.Cuts.{touch, touch-append, bytes-append, parted, cut, single, one_lexeme, lexemes_of_both}
+use Rattle.st_parse_law.proofs.Cuts.{touch, touch-append, bytes-append, parted, cut, single, one_terminal, terminals_of_both}
 use Rattle.st_parse_law.proofs.Ends.{Clear, clear_more, before, point, open_square, Front, front_more, first_square, first_ends, by_square as square_closes, closer_clear, closer_last, last_ends, word_ends}
 use Rattle.st_parse_law.proofs.Plains.{step-of, plain-step}
 use Rattle.st_parse_law.proofs.Wraps.{signed}
 use Rattle.st_parse_law.proofs.Placed.{Printable}
-use Rattle.st_parse_law.proofs.Posts.{IsField, dot_lexeme}
+use Rattle.st_parse_law.proofs.Posts.{IsField, dot_terminal}
 use Rattle.st_parse_law.proofs.Rows.{Row}
 use Rattle.st_parse_law.proofs.Lists.{map_snoc}
 use Rattle.st_parse_law.proofs.Indices.{IsPosition, position_row, IsRange, range_row, range_fits, range_text}
@@ -36,8 +36,8 @@ use Rattle.st_parse_law.proofs.Indices.{IsPosition, position_row, IsRange, range
 -- the tokens are those of steps that go on with any path
 pub record StepsRead (names : List (List ℕ)) (path : List Seg) (xs : List Token) : Type 0 where
   pub extend : Path → Path
-  pub words : List Lexeme
-  pub spelled : map (lexeme names) xs ≡ words
+  pub words : List Terminal
+  pub spelled : map (terminal names) xs ≡ words
   pub whole : (p : Path) → path_text (extend p) ≡ path_text p ++ words
   pub fits : (b : Bool) (p : Path) → PathFits (expression b) p → PathFits (expression b) (extend p)
   pub steps : (p : Path) → map plain_seg (steps (extend p)) ≡ map plain_seg (steps p) ++ map plain_seg path
@@ -70,7 +70,7 @@ field_step names name h = record {
   reads = λ xs s. let x = single xs (kind.Dot name) true s in record {
     extend = λ p. field p x.only;
     words = dot x.only ∷ [];
-    spelled = one_lexeme names xs (kind.Dot name) true x ∙ ap (λ l. l ∷ []) (dot_lexeme names name x.only h);
+    spelled = one_terminal names xs (kind.Dot name) true x ∙ ap (λ l. l ∷ []) (dot_terminal names name x.only h);
     whole = λ p. refl;
     fits = λ b p f. f;
     steps = λ p. one_step (steps p) (seg.Field (name_of x.only.kind)) (seg.Field name) (ap (λ k. plain_seg (seg.Field (name_of k))) x.kind);
@@ -106,10 +106,10 @@ module _ (names : List (List ℕ)) (P : Trees → Type 0) (bytes : List ℕ) (s 
       record {
         extend = λ p. part p x.only z.trees y.only;
         words = opening square x.only ∷ (texts z.trees ++ closing by_square y.only ∷ []);
-        spelled = lexemes_of_both names xs one.ahead one.behind (opening square x.only ∷ []) (texts z.trees ++ closing by_square y.only ∷ []) one.whole
-            (one_lexeme names one.ahead (kind.Sign OpenBracket) true x)
-            (lexemes_of_both names one.behind two.ahead two.behind (texts z.trees) (closing by_square y.only ∷ []) two.whole z.spelled
-            (one_lexeme names two.behind (kind.Sign CloseBracket) (touch true row.pieces) y));
+        spelled = terminals_of_both names xs one.ahead one.behind (opening square x.only ∷ []) (texts z.trees ++ closing by_square y.only ∷ []) one.whole
+            (one_terminal names one.ahead (kind.Sign OpenBracket) true x)
+            (terminals_of_both names one.behind two.ahead two.behind (texts z.trees) (closing by_square y.only ∷ []) two.whole z.spelled
+            (one_terminal names two.behind (kind.Sign CloseBracket) (touch true row.pieces) y));
         whole = λ p. refl;
         fits = λ b p f. (f, ok.0, ok.1);
         steps = λ p. one_step (steps p) (step_at (meanings z.trees)) s (meant z.trees z.holds);
@@ -187,7 +187,7 @@ then_steps names path s front_bytes back_bytes p q = record {
       record {
         extend = λ r. y.extend (x.extend r);
         words = x.words ++ y.words;
-        spelled = lexemes_of_both names xs both.ahead both.behind x.words y.words both.whole x.spelled y.spelled;
+        spelled = terminals_of_both names xs both.ahead both.behind x.words y.words both.whole x.spelled y.spelled;
         whole = λ r. y.whole (x.extend r) ∙ ap (λ w. w ++ y.words) (x.whole r) ∙ append_assoc (path_text r) x.words y.words;
         fits = λ b r f. y.fits b (x.extend r) (x.fits b r f);
         steps = λ r. y.steps (x.extend r) ∙ ap (λ w. w ++ map plain_seg (s ∷ [])) (x.steps r) ∙ append_assoc (map plain_seg (steps r)) (map plain_seg path) (map plain_seg (s ∷ []))

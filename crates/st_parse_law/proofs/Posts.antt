@@ -11,7 +11,7 @@ use Rattle.st_scan.specs.declared.token.Token.{Token}
 use Rattle.st_scan.specs.declared.token.TokenKind.TheVariants as kind
 use Rattle.st_grammar.specs.declared.sort.Sort.{Sort}
 use Rattle.st_grammar.specs.declared.sort.Sort.TheVariants.{Expression as expression, Arithmetic as arithmetic}
-use Rattle.st_grammar.specs.Lexemes.{dot, sign, other, kind_lexeme}
+use Rattle.st_grammar.specs.Terminals.{dot, sign, other, kind_terminal}
 use Rattle.st_grammar.specs.Trees.{Tree, post}
 use Rattle.st_grammar.specs.Grammar.{may_post}
 use Rattle.st_el.specs.declared.expression.Exp.{Exp}
@@ -32,7 +32,7 @@ use Rattle.st_el.specs.Plain.{nowhere, plain_exp, plain_count, plain_node_at}
 use Rattle.st_parse_builder.specs.Names.{name_of}
 use Rattle.st_parse_builder.specs.Meaning.{exp, place, meaning, is_atom, atom_name, opened, dotted, iterated, mark_count}
 use Rattle.st_parse_law.specs.Written.{token, bytes_of}
-use Rattle.st_parse_law.proofs.Cuts.{single, one_lexeme}
+use Rattle.st_parse_law.proofs.Cuts.{single, one_terminal}
 use Rattle.st_parse_law.proofs.Ends.{Clear, before, point, star, plus, quest, Last, last_star, last_plus, last_quest, last_ends, word_ends}
 use Rattle.st_parse_law.proofs.Plains.{plain-at, parts_plain, mark-of}
 use Rattle.st_parse_law.proofs.Parts.{part_as}
@@ -86,8 +86,8 @@ pub record IsField (field : List ℕ) : Type 0 where
   pub name : IsTrue (is_name field)
   pub upper : has_lower field ≡ false
 
-pub dot_lexeme : (names : List (List ℕ)) (field : List ℕ) (x : Token) → IsField field → kind_lexeme names (kind.Dot field) x ≡ dot x
-dot_lexeme names field x h = ap (λ t. if t then other x else dot x) h.upper
+pub dot_terminal : (names : List (List ℕ)) (field : List ℕ) (x : Token) → IsField field → kind_terminal names (kind.Dot field) x ≡ dot x
+dot_terminal names field x h = ap (λ t. if t then other x else dot x) h.upper
 
 dot_suffix :
     (names : List (List ℕ)) (σ : Sort) (a : Around) (e : Exp) (at : Span) (field : List ℕ) → Home σ a → IsField field
@@ -102,7 +102,7 @@ dot_suffix names σ a e at field home h = record {
   reads = λ ys xs s r. let x = single xs (kind.Dot field) true s in record {
     tree = post r.tree (dot x.only);
     words = dot x.only ∷ [];
-    spelled = one_lexeme names xs (kind.Dot field) true x ∙ ap (λ l. l ∷ []) (dot_lexeme names field x.only h);
+    spelled = one_terminal names xs (kind.Dot field) true x ∙ ap (λ l. l ∷ []) (dot_terminal names field x.only h);
     whole = refl;
     fits = (posts_dot σ a r.tree x.only home, r.fits, r.level);
     plain = ap plain_exp (dotted_is (meaning r.tree) x.only field (r.dots refl) x.kind)
@@ -128,10 +128,10 @@ pub data IsMark : Mark → Count → Behind → Type 0 where
   is_plus_mark : IsMark mark.Plus count.Plus Plus
   is_quest : IsMark mark.Question count.Quest Other
 
-mark_lexeme : (names : List (List ℕ)) (m : Mark) (c : Count) (d : Behind) (x : Token) → IsMark m c d → kind_lexeme names (kind.Sign m) x ≡ sign m x
-mark_lexeme names _ _ _ x is_star = refl
-mark_lexeme names _ _ _ x is_plus_mark = refl
-mark_lexeme names _ _ _ x is_quest = refl
+mark_terminal : (names : List (List ℕ)) (m : Mark) (c : Count) (d : Behind) (x : Token) → IsMark m c d → kind_terminal names (kind.Sign m) x ≡ sign m x
+mark_terminal names _ _ _ x is_star = refl
+mark_terminal names _ _ _ x is_plus_mark = refl
+mark_terminal names _ _ _ x is_quest = refl
 
 mark_posts : (b : Bool) (m : Mark) (c : Count) (d : Behind) (t : Tree) (x : Token) → IsMark m c d → may_post (expression b) t (sign m x) ≡ true
 mark_posts b _ _ _ t x is_star = refl
@@ -174,7 +174,7 @@ mark_suffix names b a e at m c d home h = record {
   reads = λ ys xs s r. let x = single xs (kind.Sign m) true s in record {
     tree = post r.tree (sign m x.only);
     words = sign m x.only ∷ [];
-    spelled = one_lexeme names xs (kind.Sign m) true x ∙ ap (λ l. l ∷ []) (mark_lexeme names m c d x.only h);
+    spelled = one_terminal names xs (kind.Sign m) true x ∙ ap (λ l. l ∷ []) (mark_terminal names m c d x.only h);
     whole = refl;
     fits = (mark_posts b m c d r.tree x.only h, r.fits, r.level);
     plain = ap (λ i. plain_exp (iterated (meaning r.tree) i)) (mark_counts m c d h)

@@ -10,7 +10,7 @@ use Rattle.st_scan.specs.declared.token.TokenKind.TheVariants as kind
 use Rattle.st_grammar.specs.declared.sort.Sort.{Sort}
 use Rattle.st_grammar.specs.declared.sort.Sort.TheVariants.{Expression as expression, Arithmetic as arithmetic}
 use Rattle.st_grammar.specs.Levels.{has_level, ahead_level, ahead_right}
-use Rattle.st_grammar.specs.Lexemes.{sign, kind_lexeme}
+use Rattle.st_grammar.specs.Terminals.{sign, kind_terminal}
 use Rattle.st_grammar.specs.Trees.{Tree, led, ahead, text}
 use Rattle.st_el.specs.declared.expression.Exp.{Exp}
 use Rattle.st_el.specs.declared.expression.Node.{roll-Node}
@@ -24,7 +24,7 @@ use Rattle.st_el.specs.SourceText.{printed, front, postfix, text_at, left_side, 
 use Rattle.st_el.specs.Plain.{plain_exp}
 use Rattle.st_parse_builder.specs.Meaning.{exp, meaning, is_atom, opened, prefixed}
 use Rattle.st_parse_law.specs.Written.{space, bytes_of, shapes_behind, ends_before}
-use Rattle.st_parse_law.proofs.Cuts.{single, cut, one_lexeme, lexemes_of_both}
+use Rattle.st_parse_law.proofs.Cuts.{single, cut, one_terminal, terminals_of_both}
 use Rattle.st_parse_law.proofs.Ends.{Clear, Front}
 use Rattle.st_parse_law.proofs.Plains.{printed-of, node-of}
 use Rattle.st_parse_law.proofs.Parts.{Traits, Part, is_arithmetic, part_as}
@@ -35,7 +35,7 @@ use Rattle.st_parse_law.proofs.Posts.{same_plain}
 -- a sign without a left side, in a sort of place, and what it makes of an expression
 record Prefix (names : List (List ℕ)) (σ : Sort) (m : Mark) (e f : Exp) : Type 0 where
   has : has_level σ (ahead_level m) ≡ true
-  seen : (x : Token) → kind_lexeme names (kind.Sign m) x ≡ sign m x
+  seen : (x : Token) → kind_terminal names (kind.Sign m) x ≡ sign m x
   ends : (bs : List ℕ) → ends_before (kind.Sign m) (32 ∷ bs) ≡ true
   front : (bs : List ℕ) → Front (is_arithmetic σ) (spelling m ++ bs)
   meant : (at : Span) (t : Tree) → plain_exp (meaning t) ≡ plain_exp e → plain_exp (prefixed m at (meaning t)) ≡ plain_exp f
@@ -59,7 +59,7 @@ prefix_part names σ m e f traits bytes h plus is p = record {
       let r = p.reads false one.behind one.backs in
       record {
         tree = led (ahead m x.only) r.tree;
-        spelled = lexemes_of_both names xs one.ahead one.behind (sign m x.only ∷ []) (text r.tree) one.whole (one_lexeme names one.ahead (kind.Sign m) b x ∙ ap (λ l. l ∷ []) (h.seen x.only)) r.spelled;
+        spelled = terminals_of_both names xs one.ahead one.behind (sign m x.only ∷ []) (text r.tree) one.whole (one_terminal names one.ahead (kind.Sign m) b x ∙ ap (λ l. l ∷ []) (h.seen x.only)) r.spelled;
         fits = (h.has, r.fits, omega (arith, is, r.level), tt);
         plain = h.meant x.only.at r.tree r.plain;
         level = omega arith;

@@ -17,8 +17,8 @@ use Rattle.st_grammar.specs.declared.sort.Leaf.{Leaf}
 use Rattle.st_grammar.specs.declared.sort.Leaf.TheVariants.{Low as low, Basic as basic, Variable as variable, Atom as atom, Number as number, Literal as literal, Function as function}
 use Rattle.st_grammar.specs.declared.sort.Bracket.TheVariants.{Round as round, Square as square, Brace as brace, TickRound as tick_round, TickSquare as tick_square, TickBrace as tick_brace, Dollar as dollar}
 use Rattle.st_grammar.specs.declared.sort.Closing.TheVariants.{ByRound as by_round, BySquare as by_square, ByBrace as by_brace, ByBar as by_bar}
-use Rattle.st_grammar.specs.Levels.{takes, is_mark, is_change}
-use Rattle.st_grammar.specs.Lexemes.{Lexeme, leaf, dot, sign, opening, closing, other}
+use Rattle.st_grammar.specs.Levels.{takes, is_iteration_sign, is_change}
+use Rattle.st_grammar.specs.Terminals.{Terminal, leaf, dot, sign, opening, closing, other}
 use Rattle.st_grammar.specs.Definitions.{token_in}
 use Rattle.st_grammar.specs.Trees.{Tree, operand, post, times, bracket, led, left, ahead, items, Trees, none, more, plain, length as bar_length, arguments, index, segment, update, below, Path, head, field, part, text, texts, path_text}
 use Rattle.st_grammar.specs.Grammar.{Fits, EachFits, PathFits, SetsOff, is_label, size}
@@ -59,7 +59,7 @@ record MarkOf (m : Mark) : Type 0 where
   behind : Behind
   is : IsMark m (mark_count m) behind
 
-mark_of : (m : Mark) → is_mark m ≡ true → MarkOf m
+mark_of : (m : Mark) → is_iteration_sign m ≡ true → MarkOf m
 mark_of mark.Star h = record { behind = Other; is = is_star }
 mark_of mark.Plus h = record { behind = Plus; is = is_plus_mark }
 mark_of mark.Question h = record { behind = Other; is = is_quest }
@@ -118,7 +118,7 @@ label_of names _ _ x an_eps w h = absurd (cc)
 label_of names _ _ x (a_number n) w h = absurd (cc)
 label_of names _ _ x (a_text n) w h = absurd (cc)
 
-label_real : (names : List (List ℕ)) (l : Lexeme) → IsReal names l → is_label l ≡ true → Label names (name_of (token_in l).kind)
+label_real : (names : List (List ℕ)) (l : Terminal) → IsReal names l → is_label l ≡ true → Label names (name_of (token_in l).kind)
 label_real names (leaf k x) r h = label_of names k x.kind x (is_leaf names k x.kind x r.0) r.1 h
 label_real names (dot x) r h = absurd (cc)
 label_real names (sign m x) r h = absurd (cc)
@@ -126,12 +126,12 @@ label_real names (opening k x) r h = absurd (cc)
 label_real names (closing k x) r h = absurd (cc)
 label_real names (other x) r h = absurd (cc)
 
-first_label : (names : List (List ℕ)) (pre : List Lexeme) → ((l : Lexeme) × (pre ≡ l ∷ []) × (is_label l ≡ true)) → AreReal names pre → Label names (label pre)
+first_label : (names : List (List ℕ)) (pre : List Terminal) → ((l : Terminal) × (pre ≡ l ∷ []) × (is_label l ≡ true)) → AreReal names pre → Label names (label pre)
 first_label names pre s r =
     let one : AreReal names (s.0 ∷ []) = subst (AreReal names) s.1 r in
     subst (λ n. Label names n) (sym (ap label s.1)) (label_real names s.0 one.0 s.2)
 
-next_label : (names : List (List ℕ)) (pre : List Lexeme) (m : Mark) (x : Token) (l : Lexeme) → pre ≡ sign m x ∷ l ∷ [] → is_label l ≡ true → AreReal names pre → Label names (label pre)
+next_label : (names : List (List ℕ)) (pre : List Terminal) (m : Mark) (x : Token) (l : Terminal) → pre ≡ sign m x ∷ l ∷ [] → is_label l ≡ true → AreReal names pre → Label names (label pre)
 next_label names pre m x l s h r =
     let both : AreReal names (sign m x ∷ l ∷ []) = subst (AreReal names) s r in
     subst (λ n. Label names n) (sym (ap label s)) (label_real names l both.1.0 h)
@@ -178,7 +178,7 @@ no_count_path (head t o) f = let no : ◌≡◌ {A = Bool} false true = f.0 in c
 no_count_path (field p x) f = no_count_path p f
 no_count_path (part p o ts c) f = no_count_path p f.0
 
-label_tree : (names : List (List ℕ)) (ts : Trees) (pre : List Lexeme) → SetsOff fields ts pre → AreReal names pre → Label names (label pre)
+label_tree : (names : List (List ℕ)) (ts : Trees) (pre : List Terminal) → SetsOff fields ts pre → AreReal names pre → Label names (label pre)
 label_tree names none pre s r = first_label names pre s r
 label_tree names (more ts q u) pre s r = next_label names pre s.0 s.1 s.2 s.3 s.5 r
 

@@ -2,18 +2,18 @@
 use Rattle.std.proofs.Common.{◌≡◌, ℕ, List, [], ◌++◌, map, Bool, true, false, sym, ap, ◌∙◌, subst, append_assoc}
 use Rattle.st_scan.specs.declared.token.Token.{Token}
 use Rattle.st_grammar.specs.declared.sort.Sort.{Sort}
-use Rattle.st_grammar.specs.Lexemes.{Lexeme, lexeme}
+use Rattle.st_grammar.specs.Terminals.{Terminal, terminal}
 use Rattle.st_grammar.specs.Trees.{Trees, none, more, text, texts}
 use Rattle.st_el.specs.declared.expression.Exp.{Exp}
 use Rattle.st_parse_law.specs.Written.{Piece, bytes_of, shape, shapes_behind, AreApart}
-use Rattle.st_parse_law.proofs.Cuts.{touch, touch-append, bytes-append, parted, lexemes_of_both}
+use Rattle.st_parse_law.proofs.Cuts.{touch, touch-append, bytes-append, parted, terminals_of_both}
 use Rattle.st_parse_law.proofs.Ends.{Clear, Front, front_more}
 use Rattle.st_parse_law.proofs.Parts.{Traits, Part, Read, is_arithmetic}
 
 -- the tokens are those of trees of which this holds
 pub record RowRead (names : List (List ℕ)) (P : Trees → Type 0) (xs : List Token) : Type 0 where
   pub trees : Trees
-  pub spelled : map (lexeme names) xs ≡ texts trees
+  pub spelled : map (terminal names) xs ≡ texts trees
   pub holds : P trees
 
 -- The bytes are pieces that are read back as such trees. It says whether they may begin with `-`,
@@ -30,14 +30,14 @@ pub row_as : (names : List (List ℕ)) (P : Trees → Type 0) (a p : Bool) (byte
 row_as names P a p bytes text e r = subst (Row names P a p) e r
 
 -- the tokens that set off a part, of which this holds
-pub record JointRead (names : List (List ℕ)) (W : List Lexeme → Type 0) (xs : List Token) : Type 0 where
-  pub words : List Lexeme
-  pub spelled : map (lexeme names) xs ≡ words
+pub record JointRead (names : List (List ℕ)) (W : List Terminal → Type 0) (xs : List Token) : Type 0 where
+  pub words : List Terminal
+  pub spelled : map (terminal names) xs ≡ words
   pub holds : W words
 
 -- Pieces that end with a blank set off a part that may begin with `-` or not, from one that a `+`
 -- may follow or not.
-pub record Joint (names : List (List ℕ)) (W : List Lexeme → Type 0) (arithmetic plus : Bool) (bytes : List ℕ) : Type 0 where
+pub record Joint (names : List (List ℕ)) (W : List Terminal → Type 0) (arithmetic plus : Bool) (bytes : List ℕ) : Type 0 where
   pub pieces : List Piece
   pub same : bytes_of pieces ≡ bytes
   pub after : (b : Bool) → touch b pieces ≡ false
@@ -60,9 +60,9 @@ row_one names P σ e traits bytes holds p = record {
 }
 
 -- a part behind others
-module _ (names : List (List ℕ)) (P Q : Trees → Type 0) (W : List Lexeme → Type 0) (σ : Sort) (e : Exp) (traits : Traits) (a plus : Bool) (rb jb pb : List ℕ)
+module _ (names : List (List ℕ)) (P Q : Trees → Type 0) (W : List Terminal → Type 0) (σ : Sort) (e : Exp) (traits : Traits) (a plus : Bool) (rb jb pb : List ℕ)
     (row : Row names P a plus rb) (joint : Joint names W (is_arithmetic σ) plus jb) (part : Part names σ e traits pb)
-    (holds : (ts : Trees) (w : List Lexeme) (xs : List Token) → P ts → W w → map shape xs ≡ shapes_behind false part.pieces → (r : Read names σ e traits xs) → Q (more ts w r.tree)) where
+    (holds : (ts : Trees) (w : List Terminal) (xs : List Token) → P ts → W w → map shape xs ≡ shapes_behind false part.pieces → (r : Read names σ e traits xs) → Q (more ts w r.tree)) where
   then_apart : (behind : List Piece) → Clear traits.plus (bytes_of behind) → AreApart behind → AreApart ((row.pieces ++ (joint.pieces ++ part.pieces)) ++ behind)
   then_apart behind c h =
       let last : AreApart (part.pieces ++ behind) = part.apart behind c h in
@@ -84,8 +84,8 @@ module _ (names : List (List ℕ)) (P Q : Trees → Type 0) (W : List Lexeme →
       let last = part.reads false two.behind last_shapes in
       record {
         trees = more first.trees joined.words last.tree;
-        spelled = lexemes_of_both names xs one.ahead one.behind (texts first.trees) (joined.words ++ text last.tree) one.whole first.spelled
-            (lexemes_of_both names one.behind two.ahead two.behind joined.words (text last.tree) two.whole joined.spelled last.spelled);
+        spelled = terminals_of_both names xs one.ahead one.behind (texts first.trees) (joined.words ++ text last.tree) one.whole first.spelled
+            (terminals_of_both names one.behind two.ahead two.behind joined.words (text last.tree) two.whole joined.spelled last.spelled);
         holds = holds first.trees joined.words two.behind first.holds joined.holds last_shapes last;
       }
 

@@ -12,29 +12,29 @@ use Rattle.st_grammar.specs.declared.sort.Bracket.{Bracket}
 use Rattle.st_grammar.specs.declared.sort.Bracket.TheVariants.{Round as round, Square as square, Brace as brace, TickRound as tick_round, TickSquare as tick_square, TickBrace as tick_brace, Dollar as dollar}
 use Rattle.st_grammar.specs.declared.sort.Closing.TheVariants.{ByRound as by_round, BySquare as by_square, ByBrace as by_brace, ByBar as by_bar}
 use Rattle.st_grammar.specs.Levels.{encloses, level_of, ahead_level}
-use Rattle.st_grammar.specs.Lexemes.{Lexeme, leaf, dot, sign, opening, closing, other, lexeme}
+use Rattle.st_grammar.specs.Terminals.{Terminal, leaf, dot, sign, opening, closing, other, terminal}
 use Rattle.st_grammar.specs.Trees.{Tree, operand, post, times, bracket, led, left, ahead, items, Trees, none, more, Heading, plain, length as bar_length, arguments, index, segment, update, below, Path, head, field, part, text, texts, heading_text, path_text, closes}
 use Rattle.st_grammar.specs.Grammar.{Fits, HeadingFits, PathFits, FollowsAll, follows, text_follows, is_function, level}
 use Rattle.st_grammar.specs.Definitions.{token_in}
-use Rattle.st_grammar.proofs.LexemeTokens.{lexeme_token}
+use Rattle.st_grammar.proofs.TerminalTokens.{terminal_token}
 use Rattle.st_parse_law.specs.Written.{Piece, space, token, shape, shapes_behind}
 use Rattle.st_parse_law.proofs.Parts.{starts_bar, is_bar}
 
 -- ---- what an operand begins with
 
 -- a token with which an operand may begin
-abbrev pub begins_operand : Lexeme → Bool
+abbrev pub begins_operand : Terminal → Bool
 begins_operand (leaf k x) = true
 begins_operand (opening square x) = false
 begins_operand (opening k x) = true
 begins_operand (closing by_bar x) = true
 begins_operand l = false
 
-abbrev pub begins_operands : List Lexeme → Bool
+abbrev pub begins_operands : List Terminal → Bool
 begins_operands [] = false
 begins_operands (l ∷ w) = begins_operand l
 
-begins_append : (us vs : List Lexeme) → begins_operands us ≡ true → begins_operands (us ++ vs) ≡ true
+begins_append : (us vs : List Terminal) → begins_operands us ≡ true → begins_operands (us ++ vs) ≡ true
 begins_append [] vs h = absurd (cc)
 begins_append (l ∷ us) vs h = h
 
@@ -82,7 +82,7 @@ and_not true c h = ap not h
 and_not false c h = refl
 
 -- an operand that touches nothing before it is a next element
-operand_follows : (b : Bool) (u : Tree) (l : Lexeme) → begins_operand l ≡ true → (token_in l).touching ≡ false → (b ≡ true → is_bar l ≡ false) → follows (expression b) u l ≡ true
+operand_follows : (b : Bool) (u : Tree) (l : Terminal) → begins_operand l ≡ true → (token_in l).touching ≡ false → (b ≡ true → is_bar l ≡ false) → follows (expression b) u l ≡ true
 operand_follows b u (leaf k x) h t n = refl
 operand_follows b u (dot x) h t n = absurd (cc)
 operand_follows b u (sign m x) h t n = absurd (cc)
@@ -122,22 +122,22 @@ far_pieces ps xs h = go xs (subst IsFarShape (sym h) (shapes_far ps))
     go (x ∷ xs) f = f
 
 text_operand :
-    (names : List (List ℕ)) (b : Bool) (u : Tree) (xs : List Token) (w : List Lexeme) → map (lexeme names) xs ≡ w → begins_operands w ≡ true → IsFar xs
+    (names : List (List ℕ)) (b : Bool) (u : Tree) (xs : List Token) (w : List Terminal) → map (terminal names) xs ≡ w → begins_operands w ≡ true → IsFar xs
     → (b ≡ true → starts_bar w ≡ false) → text_follows (expression b) u w ≡ true
 text_operand names b u [] [] e h f n = absurd (cc)
 text_operand names b u [] (l ∷ w) e h f n = absurd (cc)
 text_operand names b u (x ∷ xs) [] e h f n = absurd (cc)
 text_operand names b u (x ∷ xs) (l ∷ w) e h f n =
-    let first : lexeme names x ≡ l = cc in
-    operand_follows b u l h (ap (λ k. (token_in k).touching) (sym first) ∙ ap (λ y. y.touching) (lexeme_token names x) ∙ f) n
+    let first : terminal names x ≡ l = cc in
+    operand_follows b u l h (ap (λ k. (token_in k).touching) (sym first) ∙ ap (λ y. y.touching) (terminal_token names x) ∙ f) n
 
-pub all_follow : (σ : Sort) (ts : Trees) (w : List Lexeme) → ((u : Tree) → text_follows σ u w ≡ true) → FollowsAll σ ts w
+pub all_follow : (σ : Sort) (ts : Trees) (w : List Terminal) → ((u : Tree) → text_follows σ u w ≡ true) → FollowsAll σ ts w
 all_follow σ none w h = tt
 all_follow σ (more ts q u) w h = h u
 
 -- an operand that touches nothing before it may stand behind any elements
 pub element_follows :
-    (names : List (List ℕ)) (b : Bool) (ts : Trees) (t : Tree) (xs : List Token) → Fits (expression b) t → 20 ≤ level t → map (lexeme names) xs ≡ text t → IsFar xs
+    (names : List (List ℕ)) (b : Bool) (ts : Trees) (t : Tree) (xs : List Token) → Fits (expression b) t → 20 ≤ level t → map (terminal names) xs ≡ text t → IsFar xs
     → (b ≡ true → starts_bar (text t) ≡ false) → FollowsAll (expression b) ts (text t)
 element_follows names b ts t xs f l e far n =
     all_follow (expression b) ts (text t) (λ u. text_operand names b u xs (text t) e (operand_begins b t f l) far n)

@@ -2,7 +2,7 @@
 use Rattle.std.proofs.Common.{◌≡◌, ℕ, ◌≤◌, List, [], ◌∷◌, ◌++◌, map, Bool, true, false, sym, ap, ◌∙◌, subst, append_assoc}
 use Rattle.st_scan.specs.declared.token.Token.{Token}
 use Rattle.st_grammar.specs.declared.sort.Sort.{Sort}
-use Rattle.st_grammar.specs.Lexemes.{Lexeme, lexeme}
+use Rattle.st_grammar.specs.Terminals.{Terminal, terminal}
 use Rattle.st_grammar.specs.Trees.{Tree, text}
 use Rattle.st_grammar.specs.Grammar.{Fits, level}
 use Rattle.st_grammar.proofs.Complete.{starts_text, begins_tree}
@@ -10,15 +10,15 @@ use Rattle.st_el.specs.declared.expression.Exp.{Exp}
 use Rattle.st_el.specs.Plain.{plain_exp}
 use Rattle.st_parse_builder.specs.Meaning.{meaning, is_atom, opened}
 use Rattle.st_parse_law.specs.Written.{Piece, bytes_of, shape, shapes_behind, AreApart}
-use Rattle.st_parse_law.proofs.Cuts.{touch, touch-append, bytes-append, parted, lexemes_of_both}
+use Rattle.st_parse_law.proofs.Cuts.{touch, touch-append, bytes-append, parted, terminals_of_both}
 use Rattle.st_parse_law.proofs.Ends.{Clear, front_more}
 use Rattle.st_parse_law.proofs.Parts.{Traits, Part, Read, is_arithmetic, starts_bar}
 
 -- a tree with these tokens behind it, which means this expression
 pub record Longer (names : List (List ℕ)) (σ : Sort) (f : Exp) (traits : Traits) (t : Tree) (xs : List Token) : Type 0 where
   pub tree : Tree
-  pub words : List Lexeme
-  pub spelled : map (lexeme names) xs ≡ words
+  pub words : List Terminal
+  pub spelled : map (terminal names) xs ≡ words
   pub whole : text tree ≡ text t ++ words
   pub fits : Fits σ tree
   pub plain : plain_exp (meaning tree) ≡ plain_exp f
@@ -36,7 +36,7 @@ pub record Suffix (names : List (List ℕ)) (σ : Sort) (e f : Exp) (inner trait
   pub reads : (ys xs : List Token) → map shape xs ≡ shapes_behind true pieces → (r : Read names σ e inner ys)
       → Longer names σ f traits r.tree xs
 
-pub starts_bar_append : (us vs : List Lexeme) → starts_text us ≡ true → starts_bar us ≡ false → starts_bar (us ++ vs) ≡ false
+pub starts_bar_append : (us vs : List Terminal) → starts_text us ≡ true → starts_bar us ≡ false → starts_bar (us ++ vs) ≡ false
 starts_bar_append [] vs s b = absurd (cc)
 starts_bar_append (l ∷ us) vs s b = b
 
@@ -57,7 +57,7 @@ module _ (names : List (List ℕ)) (σ : Sort) (e f : Exp) (inner traits : Trait
       let l = s.reads both.ahead both.behind (both.backs ∙ ap (λ t. shapes_behind t s.pieces) (part.ends b)) r in
       record {
         tree = l.tree;
-        spelled = lexemes_of_both names xs both.ahead both.behind (text r.tree) l.words both.whole r.spelled l.spelled ∙ sym l.whole;
+        spelled = terminals_of_both names xs both.ahead both.behind (text r.tree) l.words both.whole r.spelled l.spelled ∙ sym l.whole;
         fits = l.fits;
         plain = l.plain;
         level = l.level;

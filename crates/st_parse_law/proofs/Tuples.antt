@@ -13,7 +13,7 @@ use Rattle.st_grammar.specs.declared.sort.Sort.TheVariants.{Expression as expres
 use Rattle.st_grammar.specs.declared.sort.Leaf.TheVariants.{Function as function}
 use Rattle.st_grammar.specs.declared.sort.Bracket.TheVariants.{Round as round}
 use Rattle.st_grammar.specs.Levels.{computes}
-use Rattle.st_grammar.specs.Lexemes.{leaf, opening}
+use Rattle.st_grammar.specs.Terminals.{leaf, opening}
 use Rattle.st_grammar.specs.Trees.{Trees, none, more, Heading, plain, arguments}
 use Rattle.st_grammar.specs.Grammar.{IsFilled, size}
 use Rattle.st_el.specs.declared.expression.Exp.{Exp}
@@ -27,7 +27,7 @@ use Rattle.st_el.specs.Plain.{plain_exp}
 use Rattle.st_parse_builder.specs.Names.{name_of}
 use Rattle.st_parse_builder.specs.Meaning.{exp, meanings, in_parens, is_atom, opened}
 use Rattle.st_parse_law.specs.Written.{token, bytes_of}
-use Rattle.st_parse_law.proofs.Cuts.{single, cut, one_lexeme, lexemes_of_both}
+use Rattle.st_parse_law.proofs.Cuts.{single, cut, one_terminal, terminals_of_both}
 use Rattle.st_parse_law.proofs.Ends.{first_round, first_ends, by_round}
 use Rattle.st_parse_law.proofs.Parts.{Part, part_as, is_arithmetic}
 use Rattle.st_parse_law.proofs.Wraps.{signed, tight_traits, no_atom_at}
@@ -49,7 +49,7 @@ round_opening names outer inner = record {
   after = λ b. refl;
   front = record { first = 40; rest = []; is = refl; no_semicolon = refl; no_minus = λ _. refl };
   apart = λ more f a. (refl, tt, first_ends OpenParen inner (bytes_of more) (first_round inner) f, a);
-  reads = λ b xs s. let x = single xs (kind.Sign OpenParen) b s in record { of = x.only; spelled = one_lexeme names xs (kind.Sign OpenParen) b x };
+  reads = λ b xs s. let x = single xs (kind.Sign OpenParen) b s in record { of = x.only; spelled = one_terminal names xs (kind.Sign OpenParen) b x };
 }
 
 pub many_parens : (us : List Exp) → 2 ≤ length us → in_parens us ≡ node.Tuple us
@@ -112,8 +112,8 @@ call_opening names name outer inner n l = record {
       let y = single one.behind (kind.Sign OpenParen) true one.backs in
       record {
         of = record { fn = x.only; paren = y.only; is = x.kind; touching = y.touching };
-        spelled = lexemes_of_both names xs one.ahead one.behind (leaf function x.only ∷ []) (opening round y.only ∷ []) one.whole
-            (one_lexeme names one.ahead (kind.Fun name) b x) (one_lexeme names one.behind (kind.Sign OpenParen) true y);
+        spelled = terminals_of_both names xs one.ahead one.behind (leaf function x.only ∷ []) (opening round y.only ∷ []) one.whole
+            (one_terminal names one.ahead (kind.Fun name) b x) (one_terminal names one.behind (kind.Sign OpenParen) true y);
       };
 }
 

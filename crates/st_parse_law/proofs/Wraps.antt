@@ -9,7 +9,7 @@ use Rattle.st_scan.specs.declared.token.TokenKind.TheVariants.{Sign}
 use Rattle.st_grammar.specs.declared.sort.Sort.{Sort}
 use Rattle.st_grammar.specs.declared.sort.Sort.TheVariants.{Expression as expression, Arithmetic as arithmetic}
 use Rattle.st_grammar.specs.declared.sort.Bracket.TheVariants.{Round as round, Dollar as dollar}
-use Rattle.st_grammar.specs.Lexemes.{closing, kind_lexeme}
+use Rattle.st_grammar.specs.Terminals.{closing, kind_terminal}
 use Rattle.st_grammar.specs.Levels.{encloses, computes}
 use Rattle.st_grammar.specs.Trees.{Tree, bracket, none, more, Heading, plain, length, text, heading_text, closes}
 use Rattle.st_grammar.specs.Grammar.{Fits, level}
@@ -23,7 +23,7 @@ use Rattle.st_el.specs.declared.expression.Seg.{Seg}
 use Rattle.st_el.specs.Plain.{nowhere, plain_exp}
 use Rattle.st_parse_builder.specs.Meaning.{exp, meaning, is_atom, opened}
 use Rattle.st_parse_law.specs.Written.{Piece, token, bytes_of, shape, shapes_behind, ends_before, AreApart}
-use Rattle.st_parse_law.proofs.Cuts.{touch, touch-append, bytes-append, parted, cut, single, one_lexeme, lexemes_of_both}
+use Rattle.st_parse_law.proofs.Cuts.{touch, touch-append, bytes-append, parted, cut, single, one_terminal, terminals_of_both}
 use Rattle.st_parse_law.proofs.Ends.{Clear, Front, last_ends, First, first_ends, Closer, by_round, by_bar as bar_closes, first_round, first_dollar, first_bar, closer_clear, closer_last, front_more}
 use Rattle.st_parse_law.proofs.Plains.{plain-at, plain-again, node-of}
 use Rattle.st_parse_law.proofs.Parts.{Traits, Part, Read, is_arithmetic, is_bar, starts_bar}
@@ -39,13 +39,13 @@ pub record Frame (names : List (List ℕ)) (opens ends : Mark) (σ inner : Sort)
   pub closer : Closer ends
   pub front : (bs : List ℕ) → Front (is_arithmetic σ) (spelling opens ++ bs)
   pub heading : Token → Heading
-  pub begun : (x : Token) → kind_lexeme names (Sign opens) x ∷ [] ≡ heading_text (heading x)
-  pub closed : (x y : Token) → kind_lexeme names (Sign ends) y ≡ closing (closes (heading x)) y
+  pub begun : (x : Token) → kind_terminal names (Sign opens) x ∷ [] ≡ heading_text (heading x)
+  pub closed : (x y : Token) → kind_terminal names (Sign ends) y ≡ closing (closes (heading x)) y
   pub fits : (x y : Token) (t : Tree) → Fits inner t → 1 ≤ level t → Fits σ (bracket (heading x) (more none [] t) y)
   pub meant : (x y : Token) (t : Tree) → plain_exp (meaning t) ≡ plain_exp e
       → plain_exp (meaning (bracket (heading x) (more none [] t) y)) ≡ plain_exp f
   pub no_atom : (x y : Token) (t : Tree) → is_atom (opened (meaning (bracket (heading x) (more none [] t) y))) ≡ false
-  pub bars : (x : Token) → no_bar ≡ true → is_bar (kind_lexeme names (Sign opens) x) ≡ false
+  pub bars : (x : Token) → no_bar ≡ true → is_bar (kind_terminal names (Sign opens) x) ≡ false
 
 -- what may stand round a bracket
 abbrev pub tight_traits : Bool → Traits
@@ -79,10 +79,10 @@ module _ (names : List (List ℕ)) (opens ends : Mark) (σ inner : Sort) (no_bar
         record {
           tree = t;
           spelled =
-              lexemes_of_both names xs one.ahead one.behind (heading_text (frame.heading x.only)) (text r.tree ++ closing (closes (frame.heading x.only)) y.only ∷ []) one.whole
-              (one_lexeme names one.ahead (Sign opens) b x ∙ frame.begun x.only)
-              (lexemes_of_both names one.behind two.ahead two.behind (text r.tree) (closing (closes (frame.heading x.only)) y.only ∷ []) two.whole r.spelled
-              (one_lexeme names two.behind (Sign ends) (touch true part.pieces) y ∙ ap (λ l. l ∷ []) (frame.closed x.only y.only)));
+              terminals_of_both names xs one.ahead one.behind (heading_text (frame.heading x.only)) (text r.tree ++ closing (closes (frame.heading x.only)) y.only ∷ []) one.whole
+              (one_terminal names one.ahead (Sign opens) b x ∙ frame.begun x.only)
+              (terminals_of_both names one.behind two.ahead two.behind (text r.tree) (closing (closes (frame.heading x.only)) y.only ∷ []) two.whole r.spelled
+              (one_terminal names two.behind (Sign ends) (touch true part.pieces) y ∙ ap (λ l. l ∷ []) (frame.closed x.only y.only)));
           fits = frame.fits x.only y.only r.tree r.fits (omega (arith, level_1, r.level));
           plain = frame.meant x.only y.only r.tree r.plain;
           level = omega arith;

@@ -1,7 +1,7 @@
 use Rattle.std.proofs.Common.{[], Err, IfErr, refl, sym, ap, subst, reverse, ◌∙◌}
-use Rattle.st_grammar.specs.Places.{start}
-use Rattle.st_parse_automaton.specs.declared.place.Place.TheVariants as place
-use Rattle.st_parse_automaton.specs.Course as course
+use Rattle.st_grammar.specs.Positions.{start}
+use Rattle.st_parse_automaton.specs.declared.position.Position.TheVariants as position
+use Rattle.st_parse_automaton.specs.DefinitionAutomaton as definitions
 use Rattle.st_el.specs.Plain.{nowhere}
 use Rattle.st_draft.specs.Drafts.{begun}
 use Rattle.st_draft.specs.Work.{work_of}
@@ -15,7 +15,7 @@ pub tokens-init : goal.tokens-init
 tokens-init g c =
     let kept = nothing_kept (begun [] nowhere) c.args.parts.now refl c.requires.arguments c.requires.actions c.requires.marks c.requires.words in (
       work_of (begun [] nowhere) c.args.parts.now,
-      (start, refl, ap (λ ks. course.at place.Between (reverse ks)) (sym c.new.ensures), kept),
+      (start, refl, ap (λ ks. definitions.at position.Between (reverse ks)) (sym c.new.ensures), kept),
       (c.requires.fresh, refl),
     )
 
@@ -28,7 +28,7 @@ tokens-preserved g c =
 
 pub returns-clause-read : goal.returns-clause-read
 returns-clause-read g c st e =
-    all_read g.row.S.Denot g.S.Sketch.Draws c.args.names.now c.args.tokens.now c.tokens.token-index c.tokens.progress c.tokens.invariant.0 c.tokens.sketch c.tokens.parts st
+    all_read g.row.S.Denot g.S.Listener.Draws c.args.names.now c.args.tokens.now c.tokens.token-index c.tokens.progress c.tokens.invariant.0 c.tokens.listener c.tokens.parts st
     c.tokens-test.false c.tokens.invariant.1 c.tokens.invariant.2 e
 
 pub returns-in_err-progress-clause-low : goal.returns-in_err-progress-clause-low
@@ -36,4 +36,4 @@ returns-in_err-progress-clause-low g c st e all =
     let failed = err_from_is_err_and c.from_residual.result c.from_residual.ensures.1 in
     subst (λ r. IfErr r OnlyMemory) (sym (failed.1 ∙ ap Err failed.2))
     (c.in_err-progress.ensures.low c.tokens.invariant.0 c.tokens.invariant.2
-    (may_go g.S.Sketch.Low c.args.names.now c.args.tokens.now c.tokens.token-index c.token-item.result c.tokens.progress c.tokens.invariant.0 st c.tokens-test.true c.tokens.invariant.1 c.token-item.is e all))
+    (may_go g.S.Listener.Low c.args.names.now c.args.tokens.now c.tokens.token-index c.token-item.result c.tokens.progress c.tokens.invariant.0 st c.tokens-test.true c.tokens.invariant.1 c.token-item.is e all))

@@ -1,10 +1,10 @@
 use Rattle.std.proofs.Common.{take, map}
-use Rattle.st_grammar.specs.Lexemes.{lexeme}
+use Rattle.st_grammar.specs.Terminals.{terminal}
 use Rattle.st_draft.specs.Work.{Work, Keeps}
 use Rattle.st_draft.proofs.Loop.{Reads}
 use Rattle.st_draft.proofs.reader.read_all.Given as goal
 
 abbrev pub invariant-tokens : goal.invariant-tokens
 invariant-tokens g l =
-    (w : Work) × Reads (take l.token-index (map (lexeme l.names) l.tokens)) l.progress w
-    × Keeps g.S.Sketch.Draws l.sketch l.parts w
+    (w : Work) × Reads (take l.token-index (map (terminal l.names) l.tokens)) l.progress w
+    × Keeps g.S.Listener.Draws l.listener l.parts w

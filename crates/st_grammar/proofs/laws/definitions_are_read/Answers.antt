@@ -1,6 +1,6 @@
-use Rattle.st_grammar.proofs.PlaceReading.{sound_defs}
-use Rattle.st_grammar.proofs.PlaceEnds.{viable}
-use Rattle.st_grammar.proofs.PlaceComplete.{dead_defs}
+use Rattle.st_grammar.proofs.PositionReading.{sound_defs}
+use Rattle.st_grammar.proofs.PositionEnds.{viable}
+use Rattle.st_grammar.proofs.PositionComplete.{dead_defs}
 use Rattle.st_grammar.proofs.laws.definitions_are_read.Goals as goal
 
 pub returns-clause-sound : goal.returns-clause-sound

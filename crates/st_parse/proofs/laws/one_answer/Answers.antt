@@ -1,4 +1,4 @@
-use Rattle.st_grammar.specs.Lexemes.{declared_names}
+use Rattle.st_grammar.specs.Terminals.{declared_names}
 use Rattle.st_parse.proofs.OneAnswer.{never_source, one_refusal}
 use Rattle.st_parse.proofs.laws.one_answer.Goals as goal
 

@@ -1,5 +1,5 @@
 use Rattle.std.proofs.Common.{subst}
-use Rattle.st_grammar.specs.Places.{finish}
+use Rattle.st_grammar.specs.Positions.{finish}
 use Rattle.st_measure.specs.Answers.{OnlyMemory}
 use Rattle.st_parse_builder.specs.Definitions.{defs_meaning}
 use Rattle.st_draft.specs.Known.{known}
@@ -7,7 +7,7 @@ use Rattle.st_parse.proofs.Fronts.{surveyed_so, all_measured}
 use Rattle.st_parse.proofs.limits.survey.Goals as goal
 
 pub returns-in-Ok : goal.returns-in-Ok
-returns-in-Ok c st e = surveyed_so c.read_source.new.sketch (defs_meaning (known st)) (c.in-Ok.ensures.kept st e)
+returns-in-Ok c st e = surveyed_so c.read_source.new.listener (defs_meaning (known st)) (c.in-Ok.ensures.kept st e)
 
 pub unreachable-requires : goal.unreachable-requires
 unreachable-requires c =

@@ -1,13 +1,13 @@
 use Rattle.std.proofs.Common.{◌≡◌, ◌++◌, length, reverse}
-use Rattle.st_parse_automaton.specs.declared.outline.Part.{Part}
-use Rattle.st_parse_automaton.specs.Outline as out
+use Rattle.st_parse_automaton.specs.declared.part_automaton.Part.{Part}
+use Rattle.st_parse_automaton.specs.PartAutomaton as parts
 use Rattle.st_parse_actions.specs.Emits.{lowering}
 use Rattle.st_parse_actions.proofs.ends.lower.Given as goal
 
 abbrev pub invariant-open : goal.invariant-open
 invariant-open l =
     (l.actions ++ lowering l.level (reverse l.rest) ≡ l.initial.actions ++ lowering l.level (reverse l.frames))
-    × ((p : Part) → (out.lower l.level 20 p (reverse l.frames)).2 ≡ (out.lower l.level 20 p (reverse l.rest)).2)
+    × ((p : Part) → (parts.lower l.level 20 p (reverse l.frames)).2 ≡ (parts.lower l.level 20 p (reverse l.rest)).2)
 
 abbrev pub decreases-open : goal.decreases-open
 decreases-open l = length l.rest

@@ -1,9 +1,9 @@
 use Rattle.std.proofs.Common.{◌≡◌, length, reverse}
-use Rattle.st_parse_automaton.specs.Outline as out
+use Rattle.st_parse_automaton.specs.PartAutomaton as parts
 use Rattle.st_parse_automaton.proofs.close.lower.Given as goal
 
 abbrev pub invariant-open : goal.invariant-open
-invariant-open l = out.lower l.level 20 l.fn.part (reverse l.initial.frames) ≡ out.lower l.level l.at l.part (reverse l.frames)
+invariant-open l = parts.lower l.level 20 l.fn.part (reverse l.initial.frames) ≡ parts.lower l.level l.at l.part (reverse l.frames)
 
 abbrev pub decreases-open : goal.decreases-open
 decreases-open l = length l.frames

@@ -1,22 +1,22 @@
 use Rattle.std.proofs.Common.{refl, sym, ap, reverse, arith}
-use Rattle.st_grammar.specs.Places.{start}
-use Rattle.st_parse_automaton.specs.declared.place.Place.TheVariants.{Between}
-use Rattle.st_parse_automaton.specs.Course as course
+use Rattle.st_grammar.specs.Positions.{start}
+use Rattle.st_parse_automaton.specs.declared.position.Position.TheVariants.{Between}
+use Rattle.st_parse_automaton.specs.DefinitionAutomaton as definitions
 use Rattle.st_parse_automaton.proofs.Loop.{token_goes_on, token_stops, ends_well, ends_early}
 use Rattle.st_parse_automaton.proofs.reader.read_tokens.Goals as goal
 
 pub tokens-init : goal.tokens-init
-tokens-init c = (start, refl, sym (ap (λ ks. course.at Between (reverse ks)) c.new.ensures))
+tokens-init c = (start, refl, sym (ap (λ ks. definitions.at Between (reverse ks)) c.new.ensures))
 
 pub returns-in_default-clause-some : goal.returns-in_default-clause-some
 returns-in_default-clause-some c =
-    token_stops c.args.tokens.now c.args.names.now c.tokens.at c.index-tokens-at.result c.token_lexeme.result c.tokens.progress c.in_ok-next.field-0 c.tokens-test.true c.tokens.invariant
-    c.index-tokens-at.is c.requires c.token_lexeme.ensures c.in_ok-next.ensures c.in_default.is
+    token_stops c.args.tokens.now c.args.names.now c.tokens.at c.index-tokens-at.result c.token_class.result c.tokens.progress c.in_ok-next.field-0 c.tokens-test.true c.tokens.invariant
+    c.index-tokens-at.is c.requires c.token_class.ensures c.in_ok-next.ensures c.in_default.is
 
 pub tokens-preserved : goal.tokens-preserved
 tokens-preserved c =
-    token_goes_on c.args.tokens.now c.args.names.now c.tokens.at c.index-tokens-at.result c.token_lexeme.result c.tokens.progress c.in_ok-next.field-0 c.in-Some.next c.tokens-test.true c.tokens.invariant
-    c.index-tokens-at.is c.requires c.token_lexeme.ensures c.in_ok-next.ensures c.in-Some.is
+    token_goes_on c.args.tokens.now c.args.names.now c.tokens.at c.index-tokens-at.result c.token_class.result c.tokens.progress c.in_ok-next.field-0 c.in-Some.next c.tokens-test.true c.tokens.invariant
+    c.index-tokens-at.is c.requires c.token_class.ensures c.in_ok-next.ensures c.in-Some.is
 
 pub returns-then-may_end-clause-none : goal.returns-then-may_end-clause-none
 returns-then-may_end-clause-none c = ends_well c.args.tokens.now c.tokens.at _ _ (omega arith) c.tokens.invariant c.may_end.ensures c.if-may_end.true

@@ -1,9 +1,9 @@
 use Rattle.std.proofs.Common.{◌≡◌, length, reverse}
-use Rattle.st_parse_automaton.specs.Outline as out
+use Rattle.st_parse_automaton.specs.PartAutomaton as parts
 use Rattle.st_parse_automaton.proofs.step.ended.Given as goal
 
 abbrev pub invariant-open : goal.invariant-open
-invariant-open l = out.lower 0 20 l.fn.part (reverse l.frames) ≡ out.lower 0 l.level l.whole (reverse l.rest)
+invariant-open l = parts.lower 0 20 l.fn.part (reverse l.frames) ≡ parts.lower 0 l.level l.whole (reverse l.rest)
 
 abbrev pub decreases-open : goal.decreases-open
 decreases-open l = length l.rest

@@ -1,12 +1,12 @@
 use Rattle.std.proofs.Common.{◌≡◌, reverse, sym, ap, ◌∙◌}
-use Rattle.st_parse_automaton.specs.Course as course
+use Rattle.st_parse_automaton.specs.DefinitionAutomaton as definitions
 use Rattle.st_parse_automaton.specs.Readings.{progress_of, reading_of}
 use Rattle.st_parse_exp.proofs.Drafted.{turned}
 use Rattle.st_parse_exp.proofs.draft.take.Goals as goal
 
 pub returns-then-separates : goal.returns-then-separates
 returns-then-separates c = λ k st ks e.
-    let same : course.inside c.in-Inside.field-0 (reading_of c.in-Inside.reading) (reverse c.in-Inside.field-2) ≡ course.inside k st ks = ap progress_of (sym c.in-Inside.is) ∙ e in
+    let same : definitions.inside c.in-Inside.field-0 (reading_of c.in-Inside.reading) (reverse c.in-Inside.field-2) ≡ definitions.inside k st ks = ap progress_of (sym c.in-Inside.is) ∙ e in
     let is : reading_of c.in-Inside.reading ≡ st = cc in
-    turned _ st (reading_of c.in-Inside.reading) c.args.lexeme.shape c.args.token.now c.args.exps c.args.marks.now _ c.args.actions.now c.replace-ended.result _ c.end.result
+    turned _ st (reading_of c.in-Inside.reading) c.args.class.shape c.args.token.now c.args.exps c.args.marks.now _ c.args.actions.now c.replace-ended.result _ c.end.result
     (sym c.separates.ensures ∙ c.if-separates.true) is c.new.ensures (c.replace-ended.ensures.after ∙ c.new-then-separates.ensures) c.replace-ended.ensures.value c.end.ensures

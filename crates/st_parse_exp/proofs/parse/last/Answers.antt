@@ -1,5 +1,5 @@
 use Rattle.std.proofs.Common.{◌≡◌, [], ◌∷◌, ◌++◌, reverse, sym, ap, ◌∙◌}
-use Rattle.st_parse_automaton.specs.Course as course
+use Rattle.st_parse_automaton.specs.DefinitionAutomaton as definitions
 use Rattle.st_parse_automaton.specs.Readings.{progress_of, reading_of}
 use Rattle.st_parse_builder.specs.Meaning.{meaning}
 use Rattle.st_parse_actions.specs.Emits.{finishing}
@@ -7,6 +7,6 @@ use Rattle.st_parse_exp.proofs.parse.last.Goals as goal
 
 pub returns : goal.returns
 returns c = λ k st ks t es e f q a.
-    let same : course.inside c.in-Inside.field-0 (reading_of c.in-Inside.reading) (reverse c.in-Inside.field-2) ≡ course.inside k st ks = ap progress_of (sym c.in-Inside.is) ∙ e in
+    let same : definitions.inside c.in-Inside.field-0 (reading_of c.in-Inside.reading) (reverse c.in-Inside.field-2) ≡ definitions.inside k st ks = ap progress_of (sym c.in-Inside.is) ∙ e in
     let is : reading_of c.in-Inside.reading ≡ st = cc in
     c.whole-2.ensures (es ++ meaning t ∷ []) (c.in_ok-exps.ensures t es f (q ∙ ap (λ v. c.args.actions ++ finishing v) (sym is)) a)

@@ -16,16 +16,16 @@ tokens-init c = (
 pub returns-in-Broken : goal.returns-in-Broken
 returns-in-Broken c =
     breaks c.args.variables.now c.args.tokens.now c.tokens.at c.in-Broken.rule c.refused.result
-    (token_breaks c.args.tokens.now c.args.variables.now c.tokens.at c.index-tokens-at.result c.token_lexeme-lexeme.result c.tokens.seen c.in_ok-rule.field-0 c.in-Broken.rule c.tokens-test.true
+    (token_breaks c.args.tokens.now c.args.variables.now c.tokens.at c.index-tokens-at.result c.token_class-class.result c.tokens.seen c.in_ok-rule.field-0 c.in-Broken.rule c.tokens-test.true
     (passing c.args.variables.now c.args.tokens.now c.tokens.at c.tokens.seen (draft c.tokens.exps (reverse c.tokens.marks) c.tokens.actions) c.tokens.invariant.0)
-    c.index-tokens-at.is c.token_lexeme-lexeme.ensures c.in_ok-rule.ensures.value c.in-Broken.is)
+    c.index-tokens-at.is c.token_class-class.ensures c.in_ok-rule.ensures.value c.in-Broken.is)
     c.refused.ensures
 
 pub tokens-preserved : goal.tokens-preserved
 tokens-preserved c = (
-  token_drafts c.args.tokens.now c.args.variables.now c.tokens.at c.index-tokens-at.result c.token_lexeme-lexeme.result c.tokens.seen c.in_ok-rule.field-0 c.in-Passed.next
+  token_drafts c.args.tokens.now c.args.variables.now c.tokens.at c.index-tokens-at.result c.token_class-class.result c.tokens.seen c.in_ok-rule.field-0 c.in-Passed.next
       (draft c.tokens.exps (reverse c.tokens.marks) c.tokens.actions) (draft c.in_ok-exps.exps (reverse c.take.new.marks) c.take.new.actions) c.tokens-test.true c.tokens.invariant.0
-      c.index-tokens-at.is c.token_lexeme-lexeme.ensures c.in_ok-rule.ensures.value c.in-Passed.is c.in_ok-exps.ensures,
+      c.index-tokens-at.is c.token_class-class.ensures c.in_ok-rule.ensures.value c.in-Passed.is c.in_ok-exps.ensures,
   bounded c.in_ok-rule.field-0 c.in-Passed.next c.in-Passed.is c.in_ok-rule.ensures.bound,
 )
 

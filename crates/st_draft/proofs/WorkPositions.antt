@@ -1,0 +1,229 @@
+-- What a token between parts makes of the work, and each token.
+use Rattle.std.proofs.Common.{◌≡◌, List, [], ◌∷◌, length, Bool, true, false, Option, Some, None, option_and_then, option_map, if◌then◌else◌, refl, sym, ap, subst, ◌∙◌}
+use Rattle.st_num.specs.declared.mark.Mark.{Mark}
+use Rattle.st_scan.specs.declared.token.Token.{Token}
+use Rattle.st_grammar.specs.Terminals.{Terminal}
+use Rattle.st_grammar.specs.Trees.{Tree, none, more}
+use Rattle.st_grammar.specs.Reading as part
+use Rattle.st_grammar.specs.Definitions.{token_in, no_args, args, Args, Members, no_members, member, cases, is_dots, is_bar, opens_brace, closes_round, signed}
+use Rattle.st_grammar.specs.Positions.{Head, Slot, field_slot, case_slot, var_slot, notation_slot, fun_slot, arg_slot, rule_slot, cond_slot, count_slot, slot_sort, Position, between, syntax_name, var_name, var_colon, relation_name, rule_name, rule_colon, fun_name, fun_named, argued, args_closed, syntax_id, rule_id, hinted, hint_open, hint_name, hint_words, entering, dotted, field_name, premised, premise_open, goal_colon, iterated, State, at, inside, syntax_whole, when, enter, enter_case, enter_other, first_of_two, filled, step, taken, position_step}
+use Rattle.st_grammar.proofs.PositionTexts.{Holds, PositionHolds}
+use Rattle.st_grammar.proofs.PositionReading.{filled_reached}
+use Rattle.st_parse_automaton.specs.declared.part_automaton.Shape.{Shape}
+use Rattle.st_parse_automaton.specs.declared.part_automaton.Expected.TheVariants.{Operand}
+use Rattle.st_parse_automaton.specs.declared.position.TokenClass.{TokenClass}
+use Rattle.st_parse_automaton.specs.Shapes.{shape, class_of}
+use Rattle.st_parse_automaton.specs.PartAutomaton as parts
+use Rattle.st_parse_automaton.specs.DefinitionAutomaton as definitions
+use Rattle.st_parse_automaton.proofs.View as view
+use Rattle.st_parse_automaton.proofs.View.{part_of}
+use Rattle.st_parse_automaton.proofs.Simulation as simulation
+use Rattle.st_parse_automaton.proofs.DefinitionView.{position_of, slot_of, slot_open, definitions_of}
+use Rattle.st_parse_automaton.proofs.DefinitionSimulation.{part_step_is, filled_is}
+use Rattle.st_draft.specs.declared.change.Change.{Change}
+use Rattle.st_draft.specs.declared.change.Change.TheVariants as change
+use Rattle.st_parse_builder.specs.declared.action.Action.{Action}
+use Rattle.st_parse_builder.specs.Definitions.{params, patterns}
+use Rattle.st_draft.specs.declared.draft.Draft.{Draft}
+use Rattle.st_draft.specs.Changes.{change_of}
+use Rattle.st_draft.specs.Drafts.{params_put, args_put, with_sides, applied, arguments_after}
+use Rattle.st_draft.specs.Parts.{redrafted}
+use Rattle.st_draft.specs.Work.{Work, position_work, part_work, filled_work, taken_work, work_after}
+use Rattle.st_draft.proofs.DraftOf.{position_draft, slot_draft, arguments_acts, args_acts, position_args, slot_args}
+use Rattle.st_draft.proofs.DraftSteps.{state_draft, FitsAs, Changes, Changed}
+use Rattle.st_draft.proofs.DraftEnds.{position_changes}
+use Rattle.st_draft.proofs.Built.{types_are, patterns_are}
+use Rattle.st_draft.proofs.WorkSteps.{slot_words, state_work, goes_on}
+use Rattle.st_draft.proofs.WorkEnds.{part_ends}
+
+-- ---- drafts
+
+redrafted_is : (c : Change) (sh : Shape) (x : Token) (a : Args) (d : Draft) → FitsAs c a → redrafted c sh x (args_acts a) d ≡ Some (applied c sh x (params a) (patterns a) d)
+redrafted_is change.Params sh x no_args d f = refl
+redrafted_is change.Params sh x (args o ts c) d f = ap (option_map (λ ks. with_sides (params_put ks d.sides) d)) (types_are ts f.2)
+redrafted_is change.Args sh x no_args d f = refl
+redrafted_is change.Args sh x (args o ts c) d f = ap (option_map (λ ks. with_sides (args_put ks d.sides) d)) (patterns_are ts f.2)
+redrafted_is change.Nothing sh x a d f = refl
+redrafted_is (change.Begin e) sh x a d f = refl
+redrafted_is (change.End e) sh x a d f = refl
+redrafted_is change.Name sh x a d f = refl
+redrafted_is change.Id sh x a d f = refl
+redrafted_is change.HintName sh x a d f = refl
+redrafted_is change.HintWord sh x a d f = refl
+redrafted_is (change.HintEnd b) sh x a d f = refl
+redrafted_is change.Dots sh x a d f = refl
+redrafted_is change.Label sh x a d f = refl
+redrafted_is (change.Premise b) sh x a d f = refl
+redrafted_is change.Parenthesis sh x a d f = refl
+redrafted_is change.If sh x a d f = refl
+redrafted_is change.Goal sh x a d f = refl
+redrafted_is change.Otherwise sh x a d f = refl
+redrafted_is (change.Mark n) sh x a d f = refl
+
+changes : (p : Position) (l : Terminal) (next : State) → PositionHolds p → position_step p l ≡ Some next → Changes p l next
+changes p l next h e = subst (Changed p l) e (position_changes p l h)
+
+-- the draft and the arguments behind the token
+drafts : (p : Position) (l : Terminal) (next : State) → Changes p l next → redrafted (change_of (position_of p) (definitions_of next)) (shape l) (token_in l) (args_acts (position_args p)) (position_draft p) ≡ Some (state_draft next)
+drafts p l next c = redrafted_is (change_of (position_of p) (definitions_of next)) (shape l) (token_in l) (position_args p) (position_draft p) c.fits ∙ ap (λ d. Some d) (sym c.draft)
+
+-- ---- where a part may begin with the token
+
+abbrev IsBetween : Option State → Type 0
+IsBetween None = Unit {0}
+IsBetween (Some (at q)) = Unit {0}
+IsBetween (Some (inside s st)) = ⊥
+
+between_if : (b : Bool) (p : Position) (o : Option State) → IsBetween o → IsBetween (if b then Some (at p) else o)
+between_if true p o h = tt
+between_if false p o h = h
+
+case_between : (h : Head) (ms : Members) (pre : List Terminal) (l : Terminal) → IsBetween (enter_case h ms pre l)
+case_between h no_members [] l =
+    between_if (opens_brace l) (field_name h l no_members []) (if signed is_dots l then Some (at (dotted h l)) else when (is_bar l) (at (entering (case_slot h no_members (l ∷ [])))))
+    (between_if (signed is_dots l) (dotted h l) (when (is_bar l) (at (entering (case_slot h no_members (l ∷ [])))))
+    (between_if (is_bar l) (entering (case_slot h no_members (l ∷ []))) None tt))
+case_between h no_members (b ∷ ls) l = tt
+case_between h (member ms q t hs) [] l = tt
+case_between h (member ms q t hs) (b ∷ []) l = between_if (signed is_dots l) (between (syntax_whole h (cases (member ms q t hs) (b ∷ l ∷ [])))) None tt
+case_between h (member ms q t hs) (b ∷ c ∷ ls) l = tt
+
+other_between : (s : Slot) (l : Terminal) → IsBetween (enter_other s l)
+other_between (field_slot h o ms pre) l = tt
+other_between (case_slot h ms pre) l = case_between h ms pre l
+other_between (var_slot ds w x c) l = tt
+other_between (notation_slot ds w r hs c) l = tt
+other_between (fun_slot ds w f a c) l = tt
+other_between (arg_slot ds w f o none []) l = between_if (closes_round l) (args_closed ds w f o none l) None tt
+other_between (arg_slot ds w f o none (k ∷ pre)) l = tt
+other_between (arg_slot ds w f o (more ts q t) pre) l = tt
+other_between (rule_slot r) l = tt
+other_between (cond_slot r t ps d os ls) l = tt
+other_between (count_slot r t ps d os ls u i k) l = tt
+
+never : (o : Option State) (s : Slot) (st : part.State) → o ≡ Some (inside s st) → IsBetween o → ⊥
+never o s st e h = subst IsBetween e h
+
+-- the part that is entered, and its first token
+enters : (r : Slot) (l : Terminal) (s : Slot) (st : part.State) → position_step (entering r) l ≡ Some (inside s st) → (r ≡ s) × (part.step (part.start (slot_sort r)) l ≡ Some st)
+enters r l s st e = go (part.step (part.start (slot_sort r)) l) refl e
+  where
+    other : (o : Option State) → IsBetween o → first_of_two o None ≡ Some (inside s st) → ⊥
+    other None h f = absurd (cc)
+    other (Some k) h f = never (Some k) s st f h
+
+    go : (o : Option part.State) → part.step (part.start (slot_sort r)) l ≡ o → first_of_two (enter r o (enter_other r l)) None ≡ Some (inside s st) → (r ≡ s) × (part.step (part.start (slot_sort r)) l ≡ Some st)
+    go (Some k) i f =
+        let same : r ≡ s = cc in
+        let is : k ≡ st = cc in
+        (same, i ∙ ap (λ v. Some v) is)
+    go None i f = absurd (other (enter_other r l) (other_between r l) f)
+
+-- ---- places
+
+abbrev placed_work : Draft → List (List Action) → List Action → List Mark → List (TokenClass × Token) → Work
+placed_work d ys acts marks words = record { draft = d; arguments = ys; actions = acts; marks = marks; words = words }
+
+no_words : (s : Slot) → slot_words s [] ≡ []
+no_words (field_slot h o ms pre) = refl
+no_words (case_slot h ms pre) = refl
+no_words (var_slot ds w x c) = refl
+no_words (notation_slot ds w r hs c) = refl
+no_words (fun_slot ds w f a c) = refl
+no_words (arg_slot ds w f o ts pre) = refl
+no_words (rule_slot r) = refl
+no_words (cond_slot r t ps d os ls) = refl
+no_words (count_slot r t ps d os ls u i k) = refl
+
+abbrev Placed : Position → Terminal → State → Type 0
+Placed p l next = position_work (definitions_of next) (position_of p) (class_of l) (token_in l) (state_work (at p)) ≡ Some (state_work next)
+
+-- a token that leads to a place
+to_position : (p q : Position) (l : Terminal) → Changes p l (at q) → Placed p l (at q)
+to_position p q l c =
+    ap (option_map (λ d. placed_work d (arguments_after (change_of (position_of p) (definitions_of (at q))) (args_acts (position_args p))) [] [] [])) (drafts p l (at q) c)
+    ∙ ap (λ ys. Some (placed_work (position_draft q) ys [] [] [])) (sym c.arguments)
+
+-- a token behind which a part begins
+to_part : (p : Position) (s : Slot) (st : part.State) (l : Terminal) → Changes p l (inside s st) → st ≡ part.start (slot_sort s)
+    → option_map (λ d. placed_work d (arguments_after (change_of (position_of p) (definitions_of (inside s st))) (args_acts (position_args p))) [] [] []) (redrafted (change_of (position_of p) (definitions_of (inside s st))) (shape l) (token_in l) (args_acts (position_args p)) (position_draft p))
+    ≡ Some (state_work (inside s st))
+to_part p s st l c f =
+    ap (option_map (λ d. placed_work d (arguments_after (change_of (position_of p) (definitions_of (inside s st))) (args_acts (position_args p))) [] [] [])) (drafts p l (inside s st) c)
+    ∙ ap (λ ys. Some (placed_work (slot_draft s) ys [] [] [])) (sym c.arguments)
+    ∙ ap (λ ws. Some (placed_work (slot_draft s) (arguments_acts (slot_args s)) [] [] ws)) (sym (no_words s))
+    ∙ ap (λ v. Some (state_work (inside s v))) (sym f)
+
+-- A part that may be entered has nothing yet.
+entering_same : (r : Slot) → state_work (at (entering r)) ≡ state_work (inside r (part.start (slot_sort r)))
+entering_same (field_slot h o ms pre) = refl
+entering_same (case_slot h ms pre) = refl
+entering_same (var_slot ds w x c) = refl
+entering_same (notation_slot ds w r hs c) = refl
+entering_same (fun_slot ds w f a c) = refl
+entering_same (arg_slot ds w f o ts pre) = refl
+entering_same (rule_slot r) = refl
+entering_same (cond_slot r t ps d os ls) = refl
+entering_same (count_slot r t ps d os ls u i k) = refl
+
+-- the first token of a part, where something other may stand
+to_first : (r s : Slot) (st : part.State) (l : Terminal) → PositionHolds (entering r) → r ≡ s → part.step (part.start (slot_sort r)) l ≡ Some st → Placed (entering r) l (inside s st)
+to_first r s st l h e f = subst (λ v. Placed (entering r) l (inside v st)) e (
+    ap (λ w. Some (part_work (slot_of r) (Operand, []) (class_of l) (token_in l) w)) (entering_same r)
+    ∙ ap (λ w. Some w) (goes_on r (part.start (slot_sort r)) l st (h, (tt, tt), refl) f))
+
+to_inside : (p : Position) (s : Slot) (st : part.State) (l : Terminal) → PositionHolds p → position_step p l ≡ Some (inside s st) → Changes p l (inside s st) → Placed p l (inside s st)
+to_inside (entering r) s st l h e c = let is = enters r l s st e in to_first r s st l h is.0 is.1
+to_inside (between ds) s st l h e c = to_part _ s st l c c.fresh
+to_inside (syntax_name ds w) s st l h e c = to_part _ s st l c c.fresh
+to_inside (var_name ds w) s st l h e c = to_part _ s st l c c.fresh
+to_inside (var_colon ds w x) s st l h e c = to_part _ s st l c c.fresh
+to_inside (relation_name ds w) s st l h e c = to_part _ s st l c c.fresh
+to_inside (rule_name ds w) s st l h e c = to_part _ s st l c c.fresh
+to_inside (rule_colon ds w r) s st l h e c = to_part _ s st l c c.fresh
+to_inside (fun_name ds w) s st l h e c = to_part _ s st l c c.fresh
+to_inside (fun_named ds w f) s st l h e c = to_part _ s st l c c.fresh
+to_inside (argued ds w f o ts) s st l h e c = to_part _ s st l c c.fresh
+to_inside (args_closed ds w f o ts k) s st l h e c = to_part _ s st l c c.fresh
+to_inside (syntax_id ds w x ls d) s st l h e c = to_part _ s st l c c.fresh
+to_inside (rule_id ds w r ls d) s st l h e c = to_part _ s st l c c.fresh
+to_inside (hinted k hs) s st l h e c = to_part _ s st l c c.fresh
+to_inside (hint_open k hs w) s st l h e c = to_part _ s st l c c.fresh
+to_inside (hint_name k hs w o) s st l h e c = to_part _ s st l c c.fresh
+to_inside (hint_words k hs w o n ws cs) s st l h e c = to_part _ s st l c c.fresh
+to_inside (dotted k d) s st l h e c = to_part _ s st l c c.fresh
+to_inside (field_name k o ms pre) s st l h e c = to_part _ s st l c c.fresh
+to_inside (premised r t ps) s st l h e c = to_part _ s st l c c.fresh
+to_inside (premise_open r t ps d os) s st l h e c = to_part _ s st l c c.fresh
+to_inside (goal_colon r t ps d os n) s st l h e c = to_part _ s st l c c.fresh
+to_inside (iterated r t ps d os ls u i) s st l h e c = to_part _ s st l c c.fresh
+
+pub placed : (p : Position) (l : Terminal) (next : State) → PositionHolds p → position_step p l ≡ Some next → Placed p l next
+placed p l (at q) h e = to_position p q l (changes p l (at q) h e)
+placed p l (inside s st) h e = to_inside p s st l h e (changes p l (inside s st) h e)
+
+-- ---- each token
+
+-- a token behind a part
+behind : (s : Slot) (st : part.State) (l : Terminal) (next : State) (q : Option Tree) → Holds (inside s st) → part.finish st ≡ q → option_and_then (λ t. position_step (filled s t) l) q ≡ Some next
+    → option_and_then (λ p. option_and_then (position_work (definitions_of next) (definitions.filled (slot_of s) p) (class_of l) (token_in l)) (filled_work (slot_of s) (length (slot_open s)) (view.state_of st) (state_work (inside s st)))) (option_map part_of q)
+    ≡ Some (state_work next)
+behind s st l next None h e f = absurd (cc)
+behind s st l next (Some t) h e f =
+    ap (option_and_then (position_work (definitions_of next) (definitions.filled (slot_of s) (part_of t)) (class_of l) (token_in l))) (part_ends s st t h e)
+    ∙ ap (λ p. position_work (definitions_of next) p (class_of l) (token_in l) (state_work (at (filled s t)))) (filled_is s t)
+    ∙ placed (filled s t) l next (filled_reached s st t h e).holds f
+
+pub works : (st : State) (l : Terminal) (next : State) → Holds st → step st l ≡ Some next → work_after (definitions_of st) (definitions_of next) (class_of l) (token_in l) (state_work st) ≡ Some (state_work next)
+works (at p) l next h e = placed p l next h e
+works (inside s st) l next h e =
+    ap (λ o. taken_work (slot_of s) (view.state_of st) (slot_open s) (definitions_of next) (class_of l) (token_in l) (state_work (inside s st)) o (parts.finish (view.state_of st))) (part_step_is s st l h.1 h.2)
+    ∙ ap (taken_work (slot_of s) (view.state_of st) (slot_open s) (definitions_of next) (class_of l) (token_in l) (state_work (inside s st)) (option_map view.state_of (part.step st l))) (simulation.finish_is st h.1)
+    ∙ go (part.step st l) refl e
+  where
+    go : (o : Option part.State) → part.step st l ≡ o → taken s st l o ≡ Some next
+        → taken_work (slot_of s) (view.state_of st) (slot_open s) (definitions_of next) (class_of l) (token_in l) (state_work (inside s st)) (option_map view.state_of o) (option_map part_of (part.finish st)) ≡ Some (state_work next)
+    go (Some k) i f =
+        let same : inside s k ≡ next = cc in
+        ap (λ w. Some w) (goes_on s st l k h i) ∙ ap (λ v. Some (state_work v)) same
+    go None i f = behind s st l next (part.finish st) h refl f

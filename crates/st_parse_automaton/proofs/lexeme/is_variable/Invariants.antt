@@ -1,6 +1,0 @@
-use Rattle.std.proofs.Common.{◌≡◌, [], take, drop}
-use Rattle.st_grammar.specs.Lexemes.{is_declared}
-use Rattle.st_parse_automaton.proofs.lexeme.is_variable.Given as goal
-
-abbrev pub invariant-parts : goal.invariant-parts
-invariant-parts l = is_declared l.names [] l.name ≡ is_declared l.names (take l.at l.name) (drop l.at l.name)

@@ -1,0 +1,449 @@
+//! One token of definitions.
+
+ghost use Rattle.std.specs.Prelude.{◌≡◌, IfOk, reverse};
+ghost use Rattle.std.specs.Option.{option_map};
+ghost use Rattle.st_parse_automaton.specs.DefinitionAutomaton as definitions;
+ghost use Rattle.st_parse_automaton.specs.Readings.{progress_of};
+ghost use Rattle.st_parse_automaton.specs.declared.position.Position.TheVariants as position;
+
+use crate::frame::{agree, closed_by};
+use crate::part_automaton::{Expected, Reading, Shape};
+use crate::position::{At, CaseAt, Host, Position, Progress, Slot, TokenClass};
+use crate::premise::{iterate, next_premise, premise_word};
+use crate::progress::{at, begins, filled, slot_sort, start_of, when, whole};
+use crate::step::{finish, is_label, step};
+use crate::token::{
+    at_colon, at_comma, at_dots, at_equal, at_slash, closes_brace, closes_round, id_step, is_bar,
+    is_fun, is_low, is_name, names_relation, opens_brace, opens_round,
+};
+use st_grammar::{Bracket, Closing, Keyword};
+use st_num::{NoMemory, Row};
+use std::alloc::Global;
+
+fn begin_definition(keyword: Keyword, brackets: Row<Bracket>) -> Option<Progress>
+    ensures { option_map progress_of result ≡ definitions.begin_def keyword (reverse brackets) }
+{
+    match keyword {
+        Keyword::SyntaxWord => Some(at(Position::SyntaxName, brackets)),
+        Keyword::RelationWord => Some(at(Position::RelationName, brackets)),
+        Keyword::RuleWord => Some(at(Position::RuleName, brackets)),
+        Keyword::VarWord => Some(at(Position::VarName, brackets)),
+        Keyword::DefWord => Some(at(Position::FunName, brackets)),
+        Keyword::HintWord
+        | Keyword::IfWord
+        | Keyword::OtherwiseWord
+        | Keyword::Dashes
+        | Keyword::NoWord => None,
+    }
+}
+
+fn enter_case(case: CaseAt, class: TokenClass, brackets: Row<Bracket>) -> Option<Progress>
+    ensures { option_map progress_of result ≡ definitions.enter_case case class (reverse brackets) }
+{
+    match case {
+        CaseAt::Start => {
+            if opens_brace(class) {
+                return Some(at(Position::FieldName(true), brackets));
+            }
+            if at_dots(class) {
+                return Some(at(Position::Dotted, brackets));
+            }
+            let led = Position::Entering(Slot::Case(CaseAt::Led));
+            when(is_bar(class), led, brackets)
+        }
+        CaseAt::Barred => when(at_dots(class), Position::Between, brackets),
+        CaseAt::Led | CaseAt::Nowhere => None,
+    }
+}
+
+/// What stands in the position of a part.
+fn enter_other(slot: Slot, class: TokenClass, brackets: Row<Bracket>) -> Option<Progress>
+    ensures { option_map progress_of result ≡ definitions.enter_other slot class (reverse brackets) }
+{
+    match slot {
+        Slot::Case(case) => enter_case(case, class, brackets),
+        Slot::Argument(true, types) => {
+            when(
+                closes_round(class),
+                Position::ArgumentsClosed(types),
+                brackets,
+            )
+        }
+        Slot::Argument(false, _)
+        | Slot::Field
+        | Slot::Var
+        | Slot::Notation
+        | Slot::Fun
+        | Slot::Rule
+        | Slot::Condition
+        | Slot::Count => None,
+    }
+}
+
+fn field_step(
+    alloc: Global,
+    first: bool,
+    class: TokenClass,
+    brackets: Row<Bracket>,
+) -> Option<Progress>
+    ensures { option_map progress_of result ≡ definitions.field_step first class (reverse brackets) }
+{
+    if is_label(class.shape) {
+        return Some(start_of(alloc, Slot::Field, brackets));
+    }
+    when(first && closes_brace(class), Position::Between, brackets)
+}
+
+fn host_step(
+    alloc: Global,
+    host: Host,
+    fresh: bool,
+    class: TokenClass,
+    brackets: Row<Bracket>,
+) -> Option<Progress>
+    ensures { option_map progress_of result
+        ≡ definitions.host_step host fresh class (reverse brackets) }
+{
+    match host {
+        Host::Syntax => {
+            if fresh && at_slash(class) {
+                return Some(at(Position::SyntaxId(true), brackets));
+            }
+            let body = Position::Entering(Slot::Case(CaseAt::Start));
+            when(at_equal(class), body, brackets)
+        }
+        Host::Field => {
+            if at_comma(class) {
+                return Some(at(Position::FieldName(false), brackets));
+            }
+            when(closes_brace(class), Position::Between, brackets)
+        }
+        Host::Case => {
+            let next = Position::Entering(Slot::Case(CaseAt::Barred));
+            when(is_bar(class), next, brackets)
+        }
+        Host::Relation => begins(alloc, at_colon(class), Slot::Notation, brackets),
+        Host::Var | Host::Notation | Host::Fun => None,
+    }
+}
+
+/// A hint, or what stands behind all hints.
+fn hint_or(
+    alloc: Global,
+    host: Host,
+    fresh: bool,
+    class: TokenClass,
+    brackets: Row<Bracket>,
+) -> Option<Progress>
+    ensures { option_map progress_of result
+        ≡ definitions.hint_or (class.keyword) host fresh class (reverse brackets) }
+{
+    match class.keyword {
+        Keyword::HintWord => Some(at(Position::HintOpen(host), brackets)),
+        Keyword::SyntaxWord
+        | Keyword::RelationWord
+        | Keyword::RuleWord
+        | Keyword::VarWord
+        | Keyword::DefWord
+        | Keyword::IfWord
+        | Keyword::OtherwiseWord
+        | Keyword::Dashes
+        | Keyword::NoWord => host_step(alloc, host, fresh, class, brackets),
+    }
+}
+
+/// A token in a hint: a bracket opens or closes, or the hint ends.
+fn hint_step(
+    host: Host,
+    class: TokenClass,
+    mut brackets: Row<Bracket>,
+) -> Result<Option<Progress>, NoMemory>
+    ensures { IfOk result (λ next.
+        option_map progress_of next
+        ≡ definitions.hint_step host (reverse brackets) class
+        (definitions.balance (reverse brackets) (class.shape))) }
+{
+    match class.shape {
+        Shape::Open(bracket, _) => {
+            brackets.push(bracket)?;
+            Ok(Some(at(Position::HintWords(host), brackets)))
+        }
+        Shape::Close(Closing::ByBar) => Ok(Some(at(Position::HintWords(host), brackets))),
+        Shape::Close(closing) => match brackets.pop() {
+            Some(bracket) => {
+                let closed = agree(closed_by(bracket), closing);
+                Ok(when(closed, Position::HintWords(host), brackets))
+            }
+            None => {
+                let ended = closes_round(class);
+                Ok(when(ended, Position::Hinted(host, false), brackets))
+            }
+        },
+        Shape::Single(_) | Shape::Dot(_) | Shape::Sign(_) | Shape::Other => {
+            Ok(Some(at(Position::HintWords(host), brackets)))
+        }
+    }
+}
+
+fn colon_step(alloc: Global, class: TokenClass, brackets: Row<Bracket>) -> Option<Progress>
+    ensures { option_map progress_of result ≡ definitions.colon_step class (reverse brackets) }
+{
+    begins(alloc, at_colon(class), Slot::Rule, brackets)
+}
+
+/// A token in the name of a fragment, or behind it.
+fn syntax_id(
+    alloc: Global,
+    due: bool,
+    class: TokenClass,
+    brackets: Row<Bracket>,
+) -> Option<Progress>
+    ensures { option_map progress_of result
+        ≡ definitions.own (position.SyntaxId due) class (reverse brackets) }
+{
+    match id_step(due, class) {
+        Some(next) => Some(at(Position::SyntaxId(next), brackets)),
+        None => {
+            if due {
+                None
+            } else {
+                hint_or(alloc, Host::Syntax, false, class, brackets)
+            }
+        }
+    }
+}
+
+/// A token in the name of a rule, or behind it.
+fn rule_id(alloc: Global, due: bool, class: TokenClass, brackets: Row<Bracket>) -> Option<Progress>
+    ensures { option_map progress_of result
+        ≡ definitions.own (position.RuleId due) class (reverse brackets) }
+{
+    match id_step(due, class) {
+        Some(next) => Some(at(Position::RuleId(next), brackets)),
+        None => {
+            if due {
+                None
+            } else {
+                colon_step(alloc, class, brackets)
+            }
+        }
+    }
+}
+
+/// What stands behind the parameters or arguments of a function.
+fn result_step(
+    alloc: Global,
+    types: bool,
+    class: TokenClass,
+    brackets: Row<Bracket>,
+) -> Option<Progress>
+    ensures { option_map progress_of result ≡ definitions.result_step types class (reverse brackets) }
+{
+    if at_colon(class) && types {
+        return Some(start_of(alloc, Slot::Fun, brackets));
+    }
+    begins(alloc, at_equal(class), Slot::Rule, brackets)
+}
+
+/// A part, or what stands in its position.
+fn enter(
+    alloc: Global,
+    slot: Slot,
+    class: TokenClass,
+    brackets: Row<Bracket>,
+) -> Result<Option<Progress>, NoMemory>
+    ensures { IfOk result (λ next.
+        option_map progress_of next ≡ definitions.own (position.Entering slot) class (reverse brackets)) }
+{
+    let reading = Reading {
+        expected: Expected::Operand,
+        frames: Row::new(alloc),
+    };
+    match step(slot_sort(slot), reading, class.shape)? {
+        Some(next) => Ok(Some(Progress::Inside(slot, next, brackets))),
+        None => Ok(enter_other(slot, class, brackets)),
+    }
+}
+
+/// A token behind the name of a function.
+fn fun_named(alloc: Global, class: TokenClass, brackets: Row<Bracket>) -> Option<Progress>
+    ensures { option_map progress_of result ≡ definitions.own position.FunNamed class (reverse brackets) }
+{
+    if opens_round(class) && class.touching {
+        let slot = Slot::Argument(true, true);
+        return Some(at(Position::Entering(slot), brackets));
+    }
+    result_step(alloc, true, class, brackets)
+}
+
+/// A token behind an argument.
+fn argued(alloc: Global, types: bool, class: TokenClass, brackets: Row<Bracket>) -> Option<Progress>
+    ensures { option_map progress_of result
+        ≡ definitions.own (position.Argued types) class (reverse brackets) }
+{
+    if at_comma(class) {
+        let slot = Slot::Argument(false, types);
+        return Some(start_of(alloc, slot, brackets));
+    }
+    when(
+        closes_round(class),
+        Position::ArgumentsClosed(types),
+        brackets,
+    )
+}
+
+/// A token behind the name of a relation, in a rule.
+fn rule_colon(alloc: Global, class: TokenClass, brackets: Row<Bracket>) -> Option<Progress>
+    ensures { option_map progress_of result ≡ definitions.own position.RuleColon class (reverse brackets) }
+{
+    if at_slash(class) {
+        return Some(at(Position::RuleId(true), brackets));
+    }
+    colon_step(alloc, class, brackets)
+}
+
+/// A token of a name.
+fn own_name(position: Position, class: TokenClass, brackets: Row<Bracket>) -> Option<Progress>
+    ensures { option_map progress_of result ≡ definitions.own_name position class (reverse brackets) }
+{
+    match position {
+        Position::SyntaxName => {
+            when(
+                is_low(class),
+                Position::Hinted(Host::Syntax, true),
+                brackets,
+            )
+        }
+        Position::VarName => {
+            let named = is_low(class) || is_label(class.shape);
+            when(named, Position::VarColon, brackets)
+        }
+        Position::RelationName => {
+            let next = Position::Hinted(Host::Relation, false);
+            when(names_relation(class), next, brackets)
+        }
+        Position::RuleName => when(names_relation(class), Position::RuleColon, brackets),
+        Position::FunName => when(is_fun(class), Position::FunNamed, brackets),
+        Position::HintOpen(host) => when(opens_round(class), Position::HintName(host), brackets),
+        Position::HintName(host) => when(is_name(class), Position::HintWords(host), brackets),
+        Position::Dotted => {
+            let next = Position::Entering(Slot::Case(CaseAt::Led));
+            when(is_bar(class), next, brackets)
+        }
+        _ => None,
+    }
+}
+
+/// A token that goes on with what is there.
+fn own(
+    alloc: Global,
+    position: Position,
+    class: TokenClass,
+    brackets: Row<Bracket>,
+) -> Result<Option<Progress>, NoMemory>
+    ensures { IfOk result (λ next.
+        option_map progress_of next ≡ definitions.own position class (reverse brackets)) }
+{
+    match position {
+        Position::Between => Ok(None),
+        Position::SyntaxName
+        | Position::VarName
+        | Position::RelationName
+        | Position::RuleName
+        | Position::FunName
+        | Position::HintOpen(_)
+        | Position::HintName(_)
+        | Position::Dotted => Ok(own_name(position, class, brackets)),
+        Position::VarColon => Ok(begins(alloc, at_colon(class), Slot::Var, brackets)),
+        Position::RuleColon => Ok(rule_colon(alloc, class, brackets)),
+        Position::FunNamed => Ok(fun_named(alloc, class, brackets)),
+        Position::Argued(types) => Ok(argued(alloc, types, class, brackets)),
+        Position::ArgumentsClosed(types) => Ok(result_step(alloc, types, class, brackets)),
+        Position::SyntaxId(due) => Ok(syntax_id(alloc, due, class, brackets)),
+        Position::RuleId(due) => Ok(rule_id(alloc, due, class, brackets)),
+        Position::Hinted(host, fresh) => Ok(hint_or(alloc, host, fresh, class, brackets)),
+        Position::HintWords(host) => hint_step(host, class, brackets),
+        Position::Entering(slot) => enter(alloc, slot, class, brackets),
+        Position::FieldName(first) => Ok(field_step(alloc, first, class, brackets)),
+        Position::Premised => Ok(next_premise(class.keyword, brackets)),
+        Position::PremiseOpen => premise_word(alloc, class, brackets),
+        Position::GoalColon => Ok(begins(alloc, at_colon(class), Slot::Condition, brackets)),
+        Position::Iterated(iterations) => Ok(iterate(alloc, iterations, class, brackets)),
+    }
+}
+
+/// Takes one more token at a position, if it may stand there.
+pub fn position_step(
+    alloc: Global,
+    position: Position,
+    class: TokenClass,
+    brackets: Row<Bracket>,
+) -> Result<Option<Progress>, NoMemory>
+    ensures { IfOk result (λ next.
+        option_map progress_of next ≡ definitions.position_step position class (reverse brackets)) }
+{
+    if whole(position, &brackets) {
+        turn(alloc, position, class, brackets)
+    } else {
+        own(alloc, position, class, brackets)
+    }
+}
+
+/// The same where definitions may end: then a next one may begin.
+fn turn(
+    alloc: Global,
+    position: Position,
+    class: TokenClass,
+    brackets: Row<Bracket>,
+) -> Result<Option<Progress>, NoMemory>
+    ensures { IfOk result (λ next.
+        option_map progress_of next
+        ≡ definitions.first_of_two (definitions.own position class (reverse brackets))
+        (definitions.begin_def (class.keyword) (reverse brackets))) }
+{
+    let same = brackets.copy(alloc)?;
+    match own(alloc, position, class, brackets)? {
+        Some(next) => Ok(Some(next)),
+        None => Ok(begin_definition(class.keyword, same)),
+    }
+}
+
+/// Takes one more token of definitions, if it may stand there.
+pub fn advance(
+    alloc: Global,
+    progress: Progress,
+    class: TokenClass,
+) -> Result<Option<Progress>, NoMemory>
+    ensures { IfOk result (λ next.
+        option_map progress_of next ≡ definitions.step (progress_of progress) class) }
+{
+    match progress {
+        Progress::At(here) => {
+            let At { position, brackets } = here;
+            position_step(alloc, position, class, brackets)
+        }
+        Progress::Inside(slot, reading, brackets) => {
+            let part = finish(&reading);
+            match step(slot_sort(slot), reading, class.shape)? {
+                Some(next) => Ok(Some(Progress::Inside(slot, next, brackets))),
+                None => match part {
+                    Some(part) => position_step(alloc, filled(slot, part), class, brackets),
+                    None => Ok(None),
+                },
+            }
+        }
+    }
+}
+
+/// Whether definitions may end here.
+pub fn may_end(progress: &Progress) -> bool
+    ensures { result ≡ definitions.may_end (progress_of progress.now) }
+{
+    match progress {
+        Progress::At(here) => whole(here.position, &here.brackets),
+        Progress::Inside(slot, reading, brackets) => match finish(reading) {
+            Some(part) => whole(filled(*slot, part), brackets),
+            None => false,
+        },
+    }
+}

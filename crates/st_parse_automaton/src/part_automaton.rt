@@ -1,0 +1,92 @@
+//! What is kept of a reading: what is open, and what later tokens ask of a part that is read.
+
+use st_grammar::{Bracket, Closing, Leaf, Sort};
+use st_num::{Mark, Row};
+
+/// A token as the grammar sees it, and whether it touches what stands before it.
+#[derive(Clone, Copy, Debug, PartialEq, Eq)]
+pub enum Shape {
+    Single(Leaf),
+    Dot(bool),
+    Sign(Mark),
+    Open(Bracket, bool),
+    Close(Closing),
+    Other,
+}
+
+/// What later tokens ask of a part: a function takes arguments, an atom goes on behind dots, and a
+/// type has marks and may be a parameter.
+#[derive(Clone, Copy, Debug, PartialEq, Eq)]
+pub enum Part {
+    Function,
+    Atom,
+    /// A name or parentheses, and whether all of it reads as a type.
+    Typ(bool),
+    Whole,
+}
+
+/// What stands before the parts of a bracket.
+#[derive(Clone, Copy, Debug, PartialEq, Eq)]
+pub enum Kind {
+    Plain(Bracket),
+    Length,
+    Arguments,
+    Index,
+    Segment,
+    Update,
+    Below,
+}
+
+/// How far a bracket is filled.
+#[derive(Clone, Copy, Debug, PartialEq, Eq)]
+pub enum Filling {
+    Empty,
+    /// Only what sets off the first part.
+    Begun,
+    /// One part or more.
+    Parts,
+}
+
+/// What stands before a last part.
+#[derive(Clone, Copy, Debug, PartialEq, Eq)]
+pub enum Lead {
+    /// A left side and its sign.
+    Left(Mark),
+    /// A sign that has no left side.
+    Ahead(Mark),
+    /// The elements of a sequence.
+    Items,
+}
+
+/// What is open, with the sort of the position in it.
+#[derive(Clone, Copy, Debug, PartialEq, Eq)]
+pub enum Frame {
+    /// A bracket, how far it is filled, and whether all of its parts read as types.
+    Within(Kind, Filling, bool, Sort),
+    Over(Lead, Sort),
+    /// A part and `^`.
+    Timing,
+}
+
+/// What is expected.
+#[derive(Clone, Copy, Debug, PartialEq, Eq)]
+pub enum Expected {
+    Operand,
+    /// This part is read.
+    Next(Part),
+    /// The name of a field, in the innermost bracket.
+    Label,
+    /// A step of a path, and whether there is one.
+    Step(bool),
+    /// The name behind `^ (`.
+    Index,
+    /// The `<` behind that name.
+    Less,
+}
+
+/// How far a part is read: what is expected, and what is open, the innermost last.
+#[derive(Drop)]
+pub struct Reading {
+    pub expected: Expected,
+    pub frames: Row<Frame>,
+}
