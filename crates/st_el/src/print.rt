@@ -2,9 +2,9 @@
 
 ghost use Rattle.std.specs.Prelude.{◌≡◌, ◌++◌, OnOk, OnErr, map, flat_map, codes};
 ghost use Rattle.std.specs.Fmt.{decimal};
-ghost use Rattle.st_num.specs.Signs.{spelling, level, left_of};
-ghost use Rattle.st_el.specs.Contexts.{context_at, operand_before};
-ghost use Rattle.st_el.specs.SourceText.{opened, printed, printed_mark, printed_step, printed_field, front, postfix, left_side, blank_behind, joined_by, elements, listed, fields_text, arguments, truth, closing, source_text};
+ghost use Rattle.st_num.specs.Signs.{spelling, level, prefix_level, left_of};
+ghost use Rattle.st_el.specs.Contexts.{context_at, operand_before, whole};
+ghost use Rattle.st_el.specs.SourceText.{opened, printed, printed_mark, printed_step, printed_field, front, postfix, left_side, blank_behind, elements, listed, fields_text, arguments, truth, closing, source_text};
 
 use crate::context::{Around, Behind, Context, in_parens, left_of, right_of};
 use crate::quote::print_quoted;
@@ -112,6 +112,37 @@ fn print_between(
     Ok(())
 }
 
+/// Prints a part that stands alone in its context, with a text before and behind it.
+#[cycle(print)]
+fn print_whole(
+    exp: &Exp,
+    around: Around,
+    before: &[u8],
+    behind: &[u8],
+    out: &mut Vec<u8>,
+) -> Result<(), NoMemory>
+    ensures { OnOk result (out.new.items
+        ≡ out.old.items ++ (before.now ++ (printed exp.now).at (whole around) ++ behind.now)) }
+{
+    print_between(exp, Context::whole(around), before, behind, out)
+}
+
+/// Prints a sign that has no left side, as it is written here, and the part behind it.
+#[cycle(print)]
+fn print_behind(
+    written: &[u8],
+    sign: Mark,
+    exp: &Exp,
+    around: Around,
+    out: &mut Vec<u8>,
+) -> Result<(), NoMemory>
+    ensures { OnOk result (out.new.items ≡ out.old.items
+        ++ (written.now ++ (printed exp.now).at (context_at around (prefix_level sign)))) }
+{
+    print_word(written, out)?;
+    print_at(exp, Context::after(around, sign), out)
+}
+
 /// Prints an operand with this behind it.
 #[cycle(print)]
 fn print_operand(
@@ -124,22 +155,6 @@ fn print_operand(
         ≡ out.old.items ++ (printed exp.now).at (operand_before around behind)) }
 {
     print_at(exp, Context::operand_before(around, behind), out)
-}
-
-/// Prints two parts with a sign between them.
-#[cycle(print)]
-fn print_joined(
-    left: &Exp,
-    sign: Mark,
-    right: &Exp,
-    around: Around,
-    out: &mut Vec<u8>,
-) -> Result<(), NoMemory>
-    ensures { OnOk result (out.new.items
-        ≡ out.old.items ++ joined_by around (printed left.now) sign (printed right.now)) }
-{
-    print_left(left, sign, around, out)?;
-    print_at(right, Context::at(around, right_of(sign)), out)
 }
 
 /// Prints parts in parentheses.
@@ -158,7 +173,6 @@ fn print_tuple(parts: &[Exp], out: &mut Vec<u8>) -> Result<(), NoMemory>
 fn print_front(node: &Node, around: Around, out: &mut Vec<u8>) -> Result<(), NoMemory>
     ensures { OnOk result (out.new.items ≡ out.old.items ++ front around (opened node.now)) }
 {
-    let brackets = Context::whole(Around::Brackets);
     match node {
         Node::Name(name) | Node::Atom(name) => print_word(name.as_slice(), out),
         Node::Bool(value) => print_word(truth(*value), out),
@@ -167,41 +181,22 @@ fn print_front(node: &Node, around: Around, out: &mut Vec<u8>) -> Result<(), NoM
         Node::Eps => print_word(b"eps", out),
         Node::Seq(parts) => print_elements(parts.as_slice(), around, out),
         Node::Infix(left, sign, right) | Node::Binary(left, sign, right) => {
-            print_joined(left.get(), *sign, right.get(), around, out)
+            print_left(left.get(), *sign, around, out)?;
+            print_at(right.get(), Context::at(around, right_of(*sign)), out)
         }
-        Node::Not(e) => print_between(
-            e.get(),
-            Context::after(around, Mark::Tilde),
-            b"~ ",
-            b"",
-            out,
-        ),
-        Node::Neg(e) => print_between(
-            e.get(),
-            Context::after(around, Mark::Minus),
-            b"- ",
-            b"",
-            out,
-        ),
-        Node::Arith(e) => {
-            print_between(
-                e.get(),
-                Context::whole(Around::Arithmetic),
-                b"$(",
-                b")",
-                out,
-            )
-        }
-        Node::Paren(e) => print_between(
-            e.get(),
-            Context::whole(in_parens(around)),
-            b"(",
-            b")",
-            out,
-        ),
+        Node::Not(e) => print_behind(b"~ ", Mark::Tilde, e.get(), around, out),
+        Node::Neg(e) => print_behind(b"- ", Mark::Minus, e.get(), around, out),
+        Node::Arith(e) => print_whole(e.get(), Around::Arithmetic, b"$(", b")", out),
+        Node::Paren(e) => print_whole(e.get(), in_parens(around), b"(", b")", out),
         Node::Bracket(sign, e) => {
             let close = closing(*sign).spelling().as_bytes();
-            print_between(e.get(), brackets, sign.spelling().as_bytes(), close, out)
+            print_whole(
+                e.get(),
+                Around::Brackets,
+                sign.spelling().as_bytes(),
+                close,
+                out,
+            )
         }
         Node::Tuple(parts) => print_tuple(parts.as_slice(), out),
         Node::Fields(fields) => print_fields(fields.as_slice(), out),
@@ -209,7 +204,7 @@ fn print_front(node: &Node, around: Around, out: &mut Vec<u8>) -> Result<(), NoM
         Node::At(e, _) | Node::Slice(e, _, _) | Node::Update(e, _, _) | Node::Extend(e, _, _) => {
             print_operand(e.get(), around, Behind::Other, out)
         }
-        Node::Len(e) => print_between(e.get(), Context::whole(Around::Bars), b"|", b"|", out),
+        Node::Len(e) => print_whole(e.get(), Around::Bars, b"|", b"|", out),
         Node::Call(name, _) => print_function(name, out),
         Node::Iter(e, count) => print_operand(e.get(), around, behind_of(count), out),
     }

@@ -1,9 +1,9 @@
 //! Templates: notations with their types as holes, and the parts of their tags.
 
-ghost use Rattle.std.specs.Prelude.{◌≡◌, nat_le, map};
+ghost use Rattle.std.specs.Prelude.{◌≡◌, ◌≢◌, ◌↔◌, IsTrue, nat_le, map};
 ghost use Rattle.st_num.specs.Signs.{left_of, right_of};
 ghost use Rattle.st_il.specs.Height.{highest};
-ghost use Rattle.st_il.specs.Notation.{role_of, has_role};
+ghost use Rattle.st_il.specs.Notation.{role_of};
 ghost use Rattle.st_il.specs.inner.Reading.{sign_level, level_of};
 ghost use Rattle.st_il.specs.Template.{template_height};
 
@@ -63,7 +63,7 @@ pub fn role_of(sign: Mark) -> Role
 
 /// Whether the sign stands in notations.
 pub fn has_role(sign: Mark) -> bool
-    ensures { result ≡ has_role sign }
+    ensures { IsTrue result ↔ (role_of sign ≢ Role.Other) }
 {
     !matches!(role_of(sign), Role::Other)
 }

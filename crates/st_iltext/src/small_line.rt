@@ -20,6 +20,12 @@ use st_num::{MOST_DEFINITIONS, MOST_PARTS, Name, NoMemory, Row};
 use st_text::{TextFault, TextTree, next_line, read_tree};
 use std::alloc::Global;
 
+/// How many atoms a syntax has at most.
+const MOST_ATOMS: usize = MOST_PARTS as usize;
+
+/// How many rules a relation has at most, behind the definitions of the syntax and the relation.
+const MOST_RULES: usize = MOST_DEFINITIONS as usize - 2;
+
 /// What stands in the first two lines.
 #[derive(Drop)]
 pub struct Head {
@@ -48,7 +54,7 @@ fn is_syntax(alloc: Global, syntax: &Name, atoms: &[Name]) -> Result<bool, NoMem
     if !is_lower_word(word) || is_reserved(word) {
         return Ok(false);
     }
-    if atoms.is_empty() || atoms.len() > usize::from(MOST_PARTS) || !are_upper_words(atoms) {
+    if atoms.is_empty() || atoms.len() > MOST_ATOMS || !are_upper_words(atoms) {
         return Ok(false);
     }
     Ok(distinct_names(alloc, atoms)?.is_some())
@@ -174,7 +180,7 @@ fn next_rule(
         × (line.now ≡ rule_line head.now rule)
         × (names.new.keys ≡ rule_names (rules.now ++ rule ∷ [])))) }
 {
-    if rules.len() == usize::from(MOST_DEFINITIONS) - 2 {
+    if rules.len() == MOST_RULES {
         return Ok(None);
     }
     let Some(rule) = read_rule_line(alloc, line, head, atoms)? else {

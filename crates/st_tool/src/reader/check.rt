@@ -9,6 +9,12 @@ use st_il::{Small, SmallRule, is_reserved};
 use st_num::{MOST_DEFINITIONS, MOST_PARTS, Name, NoMemory};
 use std::alloc::Global;
 
+/// How many atoms a syntax has at most.
+const MOST_ATOMS: usize = MOST_PARTS as usize;
+
+/// How many rules a relation has at most, behind the definitions of the syntax and the relation.
+const MOST_RULES: usize = MOST_DEFINITIONS as usize - 2;
+
 /// Adds a name, and answers whether it was not there.
 fn add_name<'a>(names: &mut IndexSet<&'a Name>, name: &'a Name) -> Result<bool, NoMemory>
     ensures { IfOk result (Adds (names_of names.old.keys) name.now (names_of names.new.keys)) }
@@ -76,10 +82,7 @@ pub fn is_small(alloc: Global, small: &Small) -> Result<bool, NoMemory>
 {
     let atoms = small.atoms.as_slice();
     let rules = small.rules.as_slice();
-    if atoms.is_empty() || atoms.len() > usize::from(MOST_PARTS) {
-        return Ok(false);
-    }
-    if rules.len() > usize::from(MOST_DEFINITIONS) - 2 {
+    if atoms.is_empty() || atoms.len() > MOST_ATOMS || rules.len() > MOST_RULES {
         return Ok(false);
     }
     if is_reserved(small.syntax.as_slice()) {

@@ -24,7 +24,7 @@ returns c =
     let rule = c.in-Some.rule in
     let adds = subst (Adds c.args.names.now.keys c.in_ok-copy.field-0 c.add_name.new.names.keys) c.if-not-branch.false c.in_ok-add_name.ensures in
     let new = λ (there : Contains (rule_names rules) rule.name). adds.0 (subst (Contains c.args.names.now.keys) (sym c.in_ok-copy.ensures) (subst (λ (names : List (List ℕ)). Contains names rule.name) (sym c.requires.2) there)) in (
-      small_more head rules rule c.requires.0 c.if-rules-eq-MAX_RULES.false found.0 new,
+      small_more head rules rule c.requires.0 c.if-rules-eq-MOST_RULES.false found.0 new,
       found.1,
       adds.1 ∙ ap (λ names. names ++ c.in_ok-copy.field-0 ∷ []) c.requires.2 ∙ ap (λ name. rule_names rules ++ name ∷ []) c.in_ok-copy.ensures ∙ sym (names-push rules rule),
     )

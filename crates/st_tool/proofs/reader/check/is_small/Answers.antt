@@ -20,8 +20,8 @@ returns c = λ words.
     small_made c.args.small.now words
     (λ h. true≢false (sym (c.is_reserved.ensures.1 (subst (λ (word : List ℕ). Contains reserved word) (sym c.as_slice.ensures) h)) ∙ c.if-is_reserved.false))
     (subst (λ (xs : List (List ℕ)). 1 ≤ length xs) atoms (some_of _ _ c.is_empty.ensures c.if-is_empty.false))
-    (subst (λ (xs : List (List ℕ)). length xs ≤ 4095) atoms c.if-atoms-gt-MAX_ATOMS.false)
-    (subst (λ (rs : List Rule). length rs ≤ 65533) rules c.if-rules-gt-MAX_RULES.false)
+    (subst (λ (xs : List (List ℕ)). length xs ≤ 4095) atoms c.if-atoms-gt-MOST_ATOMS.false)
+    (subst (λ (rs : List Rule). length rs ≤ 65533) rules c.if-rules-gt-MOST_RULES.false)
     (subst (λ (xs : List (List ℕ)). AreDistinct xs) atoms set.0)
     between-atoms
     (subst (λ (rs : List Rule). AreDistinct (rule_names rs)) rules distinct))
