@@ -8,7 +8,8 @@ use Rattle.st_grammar.specs.declared.sort.Bracket.TheVariants as bracket
 use Rattle.st_grammar.specs.declared.sort.Closing.{Closing}
 use Rattle.st_grammar.specs.declared.sort.Closing.TheVariants as closings
 use Rattle.st_grammar.specs.Terminals.{Terminal, leaf, dot, sign, opening, closing, other}
-use Rattle.st_grammar.specs.Levels.{tight, level_of, has_level, is_expression, is_count, is_caret}
+use Rattle.st_num.specs.Signs.{level as level_of}
+use Rattle.st_grammar.specs.Levels.{tight, has_level, is_expression, is_count, is_caret}
 use Rattle.st_grammar.specs.Trees as tree
 use Rattle.st_grammar.specs.Trees.{Tree, Trees, Heading, Path, none, more}
 use Rattle.st_grammar.specs.Grammar as grammar

@@ -10,7 +10,8 @@ use Rattle.st_grammar.specs.declared.sort.Bracket.TheVariants as bracket
 use Rattle.st_grammar.specs.declared.sort.Closing.{Closing}
 use Rattle.st_grammar.specs.declared.sort.Closing.TheVariants as closings
 use Rattle.st_grammar.specs.Terminals.{Terminal, leaf, dot, sign, opening, closing, other}
-use Rattle.st_grammar.specs.Levels.{takes, encloses, computes, is_expression, is_count, tight, level_of, ahead_level, has_level, left_of, is_caret, is_comma, is_colon, is_less, is_change}
+use Rattle.st_num.specs.Signs.{level as level_of, prefix_level}
+use Rattle.st_grammar.specs.Levels.{takes, encloses, computes, is_expression, is_count, tight, has_level, left_of, is_caret, is_comma, is_colon, is_less, is_change}
 use Rattle.st_grammar.specs.Trees as tree
 use Rattle.st_grammar.specs.Trees.{Tree, Trees, Heading, Path, none, more, agree, closes}
 use Rattle.st_grammar.specs.Grammar.{style, is_label, follows, may_post, level, has_step}
@@ -77,7 +78,7 @@ opening_keeps bracket.Dollar x fs = keeps_if (encloses (sort fs) bracket.Dollar)
 pub begin_keeps : (fs : Frames) (l : Terminal) → Keeps (open_marks fs) (begin fs l)
 begin_keeps fs (leaf k x) = keeps_if (takes (sort fs) k) (open_marks fs) (settle (tree.operand k x) fs) (settle_keeps (tree.operand k x) fs)
 begin_keeps fs (dot x) = tt
-begin_keeps fs (sign m x) = keeps_if (has_level (sort fs) (ahead_level m) && nat_le (least fs) (ahead_level m)) (open_marks fs) (want (over (tree.ahead m x) fs)) refl
+begin_keeps fs (sign m x) = keeps_if (has_level (sort fs) (prefix_level m) && nat_le (least fs) (prefix_level m)) (open_marks fs) (want (over (tree.ahead m x) fs)) refl
 begin_keeps fs (opening k x) = opening_keeps k x fs
 begin_keeps fs (closing c x) = closing_keeps c x fs
 begin_keeps fs (other x) = tt

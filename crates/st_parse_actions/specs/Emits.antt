@@ -10,7 +10,8 @@ use Rattle.st_grammar.specs.declared.sort.Bracket.TheVariants as bracket
 use Rattle.st_grammar.specs.declared.sort.Closing.{Closing}
 use Rattle.st_grammar.specs.declared.sort.Closing.TheVariants as closings
 use Rattle.st_grammar.specs.declared.sort.Sort.{Sort}
-use Rattle.st_grammar.specs.Levels.{is_expression, is_count, level_of, has_level, tight, is_caret, is_change}
+use Rattle.st_num.specs.Signs.{level as level_of}
+use Rattle.st_grammar.specs.Levels.{is_expression, is_count, has_level, tight, is_caret, is_change}
 use Rattle.st_parse_automaton.specs.declared.part_automaton.Shape.{Shape}
 use Rattle.st_parse_automaton.specs.declared.part_automaton.Shape.TheVariants.{Single, Dot, Sign, Open, Close}
 use Rattle.st_parse_automaton.specs.declared.part_automaton.Part.{Part}

@@ -11,7 +11,6 @@ mod ends;
 mod frame;
 mod laws;
 mod step;
-mod table;
 #[cfg(test)]
 mod tests;
 

@@ -12,7 +12,8 @@ use Rattle.st_grammar.specs.declared.sort.Sort.{Sort}
 use Rattle.st_grammar.specs.declared.sort.Sort.TheVariants as sort
 use Rattle.st_grammar.specs.declared.sort.Style.{Style}
 use Rattle.st_grammar.specs.declared.sort.Style.TheVariants as style
-use Rattle.st_grammar.specs.Levels.{takes, encloses, inside, computes, is_expression, is_count, juxtaposes, level_of, ahead_level, tight, has_level, left_of, right_of, ahead_right, is_iteration_sign, is_type_iteration_sign, is_caret, is_comma, is_colon, is_less, is_change}
+use Rattle.st_num.specs.Signs.{level as level_of, prefix_level}
+use Rattle.st_grammar.specs.Levels.{takes, encloses, inside, computes, is_expression, is_count, juxtaposes, tight, has_level, left_of, right_of, prefix_right, is_iteration_sign, is_type_iteration_sign, is_caret, is_comma, is_colon, is_less, is_change}
 use Rattle.st_grammar.specs.Trees.{closed_by, agree}
 use Rattle.st_grammar.specs.Grammar.{bracket_style, index_style, opens_length}
 use Rattle.st_parse_automaton.specs.declared.part_automaton.Shape.{Shape}
@@ -47,17 +48,17 @@ top base (f ∷ fs) = frame_sort f
 
 abbrev pub wanted : Lead → ℕ
 wanted (Left m) = right_of m
-wanted (Ahead m) = ahead_right m
+wanted (Ahead m) = prefix_right m
 wanted Items = tight
 
 abbrev pub reach : Lead → ℕ
 reach (Left m) = right_of m
-reach (Ahead m) = ahead_right m
+reach (Ahead m) = prefix_right m
 reach Items = 14
 
 abbrev pub lead_level : Lead → ℕ
 lead_level (Left m) = level_of m
-lead_level (Ahead m) = ahead_level m
+lead_level (Ahead m) = prefix_level m
 lead_level Items = 14
 
 abbrev pub kind_least : Kind → ℕ
@@ -228,7 +229,7 @@ begin_opening base b fs = begin_plain base b fs
 
 abbrev pub begin_sign : Sort → Mark → List Frame → Option State
 begin_sign base m fs =
-    if has_level (top base fs) (ahead_level m) && nat_le (least fs) (ahead_level m)
+    if has_level (top base fs) (prefix_level m) && nat_le (least fs) (prefix_level m)
     then Some (Operand, Over (Ahead m) (top base fs) ∷ fs) else None
 
 abbrev pub begin : Sort → List Frame → Shape → Option State

@@ -18,7 +18,6 @@ mod premise;
 mod progress;
 mod reader;
 mod step;
-mod table;
 #[cfg(test)]
 mod tests;
 mod token;

@@ -9,8 +9,7 @@ use crate::frame::agree;
 use crate::part_automaton::Shape;
 use crate::position::TokenClass;
 use crate::step::is_label;
-use crate::table::{is_caret, is_colon, is_comma, is_iteration_sign};
-use st_grammar::{Bracket, Closing, Leaf};
+use st_grammar::{Bracket, Closing, Leaf, is_caret, is_colon, is_comma, is_iteration_sign};
 use st_num::Mark;
 
 fn is_slash(mark: Mark) -> bool

@@ -10,7 +10,8 @@ use Rattle.st_grammar.specs.declared.sort.Closing.{Closing}
 use Rattle.st_grammar.specs.declared.sort.Closing.TheVariants.{ByRound as by_round, BySquare as by_square, ByBrace as by_brace, ByBar as by_bar}
 use Rattle.st_grammar.specs.declared.sort.Sort.{Sort}
 use Rattle.st_grammar.specs.Terminals.{Terminal, leaf, dot, sign, opening, closing, other}
-use Rattle.st_grammar.specs.Levels.{takes, encloses, computes, is_expression, is_count, level_of, ahead_level, has_level, left_of, is_caret, is_less, is_change}
+use Rattle.st_num.specs.Signs.{level as level_of, prefix_level}
+use Rattle.st_grammar.specs.Levels.{takes, encloses, computes, is_expression, is_count, has_level, left_of, is_caret, is_less, is_change}
 use Rattle.st_grammar.specs.Trees.{Tree, operand, post, times, bracket, led, left, ahead, items, Trees, none, more, Heading, plain, length, arguments, index, segment, update, below, Path, head, field, part}
 use Rattle.st_grammar.specs.Grammar.{is_label, follows, may_post, level, has_step}
 use Rattle.st_grammar.specs.Reading.{Frames, bottom, within, over, timing, State, want, got, naming, pathed, indexing, comparing, sort, least, settle, lower, ended, no_arguments, close, begin_closing, begin_opening, opened, begin, extend, separate, join, pull, behind_sign, behind_square, behind_round, behind_opening, behind, after, in_index, in_path, name_field, name_index, bound_index, step, finish, reading, reads, start}
@@ -85,7 +86,7 @@ begins fs (leaf k x) = go (takes (sort fs) k)
     go true = operand_settles k x fs
     go false = tt
 begins fs (dot x) = tt
-begins fs (sign m x) = go (has_level (sort fs) (ahead_level m) && nat_le (least fs) (ahead_level m))
+begins fs (sign m x) = go (has_level (sort fs) (prefix_level m) && nat_le (least fs) (prefix_level m))
   where
     go : (b : Bool) → Emits (frames_acts fs) (action.Here x.at ∷ []) (if b then Some (want (over (ahead m x) fs)) else None)
     go true = refl

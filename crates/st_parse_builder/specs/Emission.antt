@@ -10,7 +10,8 @@ use Rattle.st_grammar.specs.declared.sort.Bracket.TheVariants.{Round as round, S
 use Rattle.st_grammar.specs.declared.sort.Closing.{Closing}
 use Rattle.st_grammar.specs.declared.sort.Closing.TheVariants.{ByRound as by_round, ByBar as by_bar}
 use Rattle.st_grammar.specs.Terminals.{Terminal, leaf, dot, sign, opening, closing}
-use Rattle.st_grammar.specs.Levels.{is_expression, is_count, level_of, has_level, is_caret, is_change}
+use Rattle.st_num.specs.Signs.{level as level_of}
+use Rattle.st_grammar.specs.Levels.{is_expression, is_count, has_level, is_caret, is_change}
 use Rattle.st_grammar.specs.Trees.{Tree, operand, bracket, items, Trees, none, more, Heading, plain, length, arguments, index, segment, below, Path, head}
 use Rattle.st_grammar.specs.Grammar.{follows, may_post, has_step}
 use Rattle.st_grammar.specs.Reading.{Frames, bottom, within, over, timing, State, want, got, naming, pathed, indexing, comparing, sort, least, reach, lower, extend, pull, step}

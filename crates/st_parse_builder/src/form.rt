@@ -14,27 +14,6 @@ use st_num::{Boxed, Mark, Name, NoMemory, Row, Span};
 use st_scan::Token;
 use std::alloc::Global;
 
-/// A sign of the notation, which is none of logic, comparison, membership, `++` or arithmetic.
-fn is_notation(mark: Mark) -> bool
-    ensures { result ≡ meaning.is_notation mark }
-{
-    match mark {
-        Mark::Turnstile
-        | Mark::ReverseTurnstile
-        | Mark::SquigglyArrow
-        | Mark::SquigglyArrowStar
-        | Mark::Colon
-        | Mark::Subtype
-        | Mark::Supertype
-        | Mark::Approximately
-        | Mark::Define
-        | Mark::Semicolon
-        | Mark::Arrow
-        | Mark::DotDot => true,
-        _ => false,
-    }
-}
-
 /// Two sides with a sign between them.
 pub(crate) fn joined(alloc: Global, left: Exp, mark: Mark, right: Exp) -> Result<Exp, NoMemory>
     ensures { IfOk result (λ exp. exp ≡ meaning.joined left mark right) }
@@ -42,7 +21,7 @@ pub(crate) fn joined(alloc: Global, left: Exp, mark: Mark, right: Exp) -> Result
     let at = left.at;
     let left = Boxed::new(alloc, left)?;
     let right = Boxed::new(alloc, right)?;
-    let node = if is_notation(mark) {
+    let node = if mark.is_notation() {
         Node::Infix(left, mark, right)
     } else {
         Node::Binary(left, mark, right)

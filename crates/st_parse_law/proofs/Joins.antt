@@ -29,7 +29,8 @@ use Rattle.st_el.specs.Contexts.{context_at as place_at}
 use Rattle.st_el.specs.Wrappings.{Printed, Level, level_of, takes_in, has_bar}
 use Rattle.st_el.specs.SourceText.{printed, left_side, blank_behind, parts_printed}
 use Rattle.st_el.specs.Plain.{plain_exp}
-use Rattle.st_parse_builder.specs.Meaning.{exp, place, meaning, is_atom, opened, joined_node, is_notation}
+use Rattle.st_num.specs.Signs.{is_notation}
+use Rattle.st_parse_builder.specs.Meaning.{exp, place, meaning, is_atom, opened, joined_node}
 use Rattle.st_parse_law.specs.Written.{Piece, space, bytes_of, shape, shapes_behind, ends_before, AreApart}
 use Rattle.st_parse_law.proofs.Cuts.{touch, touch-append, bytes-append, single, cut, parted, one_terminal, terminals_of_both}
 use Rattle.st_parse_law.proofs.Ends.{Clear, clear_more, before, blank, Front, front_more, first_caret, first_ends}
