@@ -1,11 +1,11 @@
 //! The trees of definitions: what each change and each part makes of a draft.
 
 ghost use Rattle.std.specs.Prelude.{◌≡◌, [], Some, IfOk, IfErr};
-ghost use Rattle.st_measure.specs.Answers.{OnlyMemory};
+ghost use Rattle.st_measure.specs.inner.Answers.{OnlyMemory};
 ghost use Rattle.st_draft.specs.declared.draft.Draft.{Draft};
-ghost use Rattle.st_draft.specs.Drafts as drafts;
-ghost use Rattle.st_draft.specs.Heights.{IsLow};
-ghost use Rattle.st_draft.specs.Parts as spec;
+ghost use Rattle.st_draft.specs.inner.Drafts as drafts;
+ghost use Rattle.st_draft.specs.inner.Heights.{IsLow};
+ghost use Rattle.st_draft.specs.inner.Parts as spec;
 
 use crate::change::{Change, Ending};
 use crate::definition::turn;

@@ -4,7 +4,7 @@
 //! changes in one small way. Whoever keeps something of the draft, its trees or only what the
 //! limits ask of them, is a listener, and one reader of the tokens serves each.
 //!
-//! Read `listener` and `reader` first, then `step` with `specs/Work.antt`. The rules are in
+//! Read `listener` and `reader` first, then `step` with `specs/inner/Work.antt`. The rules are in
 //! `docs/source-trees.md`.
 #![tactic(auto)]
 

@@ -4,7 +4,7 @@ ghost use Rattle.std.specs.Prelude.{◌≡◌, [], ◌∷◌, ◌++◌, true, No
 ghost use Rattle.st_el.specs.declared.definition.PremNode.TheVariants as prem;
 ghost use Rattle.st_parse_builder.specs.Names.{name_of};
 ghost use Rattle.st_parse_builder.specs.Definitions.{prem_at};
-ghost use Rattle.st_draft.specs.Drafts as spec;
+ghost use Rattle.st_draft.specs.inner.Drafts as spec;
 
 use crate::draft::{Draft, Premises};
 use st_el::{Count, Exp, Prem, PremNode};

@@ -2,14 +2,14 @@
 
 ghost use Rattle.std.specs.Prelude.{◌≡◌, [], ◌∷◌, ◌++◌, length, map, reverse, Some, IfOk, IfErr, IfSome};
 ghost use Rattle.std.specs.Option.{option_map};
-ghost use Rattle.st_parse_automaton.specs.DefinitionAutomaton as definitions;
-ghost use Rattle.st_parse_automaton.specs.Readings.{progress_of, reading_of};
-ghost use Rattle.st_measure.specs.Answers.{OnlyMemory};
-ghost use Rattle.st_draft.specs.Drafts.{arguments_after};
-ghost use Rattle.st_draft.specs.Parts.{word_of};
+ghost use Rattle.st_parse_automaton.specs.inner.DefinitionAutomaton as definitions;
+ghost use Rattle.st_parse_automaton.specs.inner.Readings.{progress_of, reading_of};
+ghost use Rattle.st_measure.specs.inner.Answers.{OnlyMemory};
+ghost use Rattle.st_draft.specs.inner.Drafts.{arguments_after};
+ghost use Rattle.st_draft.specs.inner.Parts.{word_of};
 ghost use Rattle.st_draft.specs.declared.draft.Draft.{Draft};
-ghost use Rattle.st_draft.specs.Work as spec;
-ghost use Rattle.st_draft.specs.Work.{Work, Keeps, Goes};
+ghost use Rattle.st_draft.specs.inner.Work as spec;
+ghost use Rattle.st_draft.specs.inner.Work.{Work, Keeps, Goes};
 
 use crate::change::{Change, change_of};
 use crate::parts::{Parts, Word};

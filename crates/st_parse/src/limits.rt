@@ -5,7 +5,7 @@ ghost use Rattle.st_grammar.specs.Terminals as terminals;
 ghost use Rattle.st_grammar.specs.Positions as positions;
 ghost use Rattle.st_parse_builder.specs.Definitions.{defs_meaning};
 ghost use Rattle.st_draft.specs.Known.{known};
-ghost use Rattle.st_parse.specs.Found.{Judged, Found, Surveyed, end_of};
+ghost use Rattle.st_parse.specs.inner.Found.{Judged, Found, Surveyed, end_of};
 
 use crate::survey::begun_survey;
 use st_draft::read_source;

@@ -8,8 +8,8 @@ ghost use Rattle.st_parse_faults.specs.Faults.{Faultless};
 ghost use Rattle.st_el.specs.Plain.{nowhere};
 ghost use Rattle.st_el.specs.declared.definition.Def.{Def};
 ghost use Rattle.st_parse_builder.specs.Definitions.{defs_meaning};
-ghost use Rattle.st_measure.specs.Answers.{OnlyMemory};
-ghost use Rattle.st_draft.specs.Drafts as drafts;
+ghost use Rattle.st_measure.specs.inner.Answers.{OnlyMemory};
+ghost use Rattle.st_draft.specs.inner.Drafts as drafts;
 ghost use Rattle.st_parse.specs.Limits.{too_tall, first_that};
 ghost use Rattle.st_parse.specs.Source.{Answers, IsParsed};
 

@@ -2,8 +2,8 @@
 
 ghost use Rattle.std.specs.Prelude.{◌≡◌, []};
 ghost use Rattle.st_el.specs.Plain.{nowhere};
-ghost use Rattle.st_draft.specs.Drafts as drafts;
-ghost use Rattle.st_parse.specs.Surveys as spec;
+ghost use Rattle.st_draft.specs.inner.Drafts as drafts;
+ghost use Rattle.st_parse.specs.inner.Surveys as spec;
 
 use crate::measure::{Measure, without_variables};
 use st_draft::NOWHERE;

@@ -17,11 +17,11 @@ use Rattle.st_grammar.specs.Trees.{Tree, Trees, Heading, Path, none, more, agree
 use Rattle.st_grammar.specs.Grammar.{style, is_label, follows, may_post, level, has_step}
 use Rattle.st_grammar.specs.Reading.{Frames, bottom, within, over, timing, State, want, got, naming, pathed, indexing, comparing, sort, least, settle, lower, shut, close, opened, no_arguments, begin_closing, begin_opening, begin, extend, next_part, separate, join, pull, behind_sign, behind_square, behind_round, behind, after, in_index, in_path, name_index, bound_index, step}
 use Rattle.st_grammar.proofs.Sound.{state_base, Holds}
-use Rattle.st_parse_automaton.specs.Shapes.{shape}
-use Rattle.st_parse_automaton.specs.PartAutomaton as parts
+use Rattle.st_parse_automaton.specs.inner.Shapes.{shape}
+use Rattle.st_parse_automaton.specs.inner.PartAutomaton as parts
 use Rattle.st_parse_automaton.proofs.View.{part_of, kind_of, frames_of, state_of, top_sort}
 use Rattle.st_parse_automaton.proofs.Simulation.{follows_is, lower_tight, level_high}
-use Rattle.st_parse_actions.specs.Emits.{drop_change, closed_marks, behind_marks, path_marks, kept}
+use Rattle.st_parse_actions.specs.inner.Emits.{drop_change, closed_marks, behind_marks, path_marks, kept}
 use Rattle.st_parse_actions.proofs.EndView.{heading_marks, open_marks, lower_marks}
 use Rattle.st_parse_actions.proofs.Emitted.{state_marks}
 

@@ -1,7 +1,7 @@
 //! What a token adds where an operand begins.
 
 ghost use Rattle.std.specs.Prelude.{◌≡◌, ◌++◌, [], ◌∷◌, IfOk, reverse};
-ghost use Rattle.st_parse_actions.specs.Emits as emits;
+ghost use Rattle.st_parse_actions.specs.inner.Emits as emits;
 
 use crate::ends::settle;
 use crate::frame::innermost;

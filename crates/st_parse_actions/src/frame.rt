@@ -1,8 +1,8 @@
 //! What the innermost frame says of the place in it.
 
 ghost use Rattle.std.specs.Prelude.{◌≡◌, reverse};
-ghost use Rattle.st_parse_automaton.specs.PartAutomaton as parts;
-ghost use Rattle.st_parse_actions.specs.Emits as emits;
+ghost use Rattle.st_parse_automaton.specs.inner.PartAutomaton as parts;
+ghost use Rattle.st_parse_actions.specs.inner.Emits as emits;
 
 use st_grammar::{Sort, is_iteration_sign, is_type_iteration_sign, prefix_right, right_of};
 use st_num::Mark;

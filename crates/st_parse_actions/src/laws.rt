@@ -11,10 +11,10 @@ ghost use Rattle.st_parse_builder.specs.declared.piece.Piece.TheVariants.{Done};
 ghost use Rattle.st_parse_builder.specs.declared.notation_piece.NotationPiece.TheVariants.{Hole};
 ghost use Rattle.st_parse_builder.specs.Meaning.{meaning};
 ghost use Rattle.st_parse_builder.specs.Notations.{typ_meaning};
-ghost use Rattle.st_parse_builder.specs.NotationBuilding as notations;
-ghost use Rattle.st_parse_builder.specs.Actions.{acts};
-ghost use Rattle.st_parse_builder.specs.Building.{Stack, run};
-ghost use Rattle.st_parse_actions.specs.Emits.{emissions};
+ghost use Rattle.st_parse_builder.specs.inner.NotationBuilding as notations;
+ghost use Rattle.st_parse_builder.specs.inner.Actions.{acts};
+ghost use Rattle.st_parse_builder.specs.inner.Building.{Stack, run};
+ghost use Rattle.st_parse_actions.specs.inner.Emits.{emissions};
 
 use st_grammar::parts_are_read;
 use st_parse_builder::{notations_are_built, parts_are_built, types_are_built};

@@ -1,8 +1,8 @@
 //! What each token of a part adds to the actions.
 
 ghost use Rattle.std.specs.Prelude.{◌≡◌, ◌++◌, [], ◌∷◌, IfOk, reverse};
-ghost use Rattle.st_parse_automaton.specs.Readings.{reading_of};
-ghost use Rattle.st_parse_actions.specs.Emits as emits;
+ghost use Rattle.st_parse_automaton.specs.inner.Readings.{reading_of};
+ghost use Rattle.st_parse_actions.specs.inner.Emits as emits;
 
 use crate::begins::begin;
 use crate::ends::{close, end_part, lower};

@@ -26,8 +26,8 @@ use Rattle.st_parse_automaton.specs.declared.part_automaton.Frame.{Frame}
 use Rattle.st_parse_automaton.specs.declared.part_automaton.Frame.TheVariants.{Within, Over, Timing}
 use Rattle.st_parse_automaton.specs.declared.part_automaton.Expected.{Expected}
 use Rattle.st_parse_automaton.specs.declared.part_automaton.Expected.TheVariants.{Operand, Next, Label, Step, Index as IndexExpected}
-use Rattle.st_parse_automaton.specs.Shapes.{shape}
-use Rattle.st_parse_automaton.specs.PartAutomaton as parts
+use Rattle.st_parse_automaton.specs.inner.Shapes.{shape}
+use Rattle.st_parse_automaton.specs.inner.PartAutomaton as parts
 use Rattle.st_grammar.proofs.Sound.{base}
 use Rattle.st_grammar.specs.declared.sort.Style.{Style}
 use Rattle.st_grammar.specs.declared.sort.Style.TheVariants as styles

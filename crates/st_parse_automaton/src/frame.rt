@@ -3,7 +3,7 @@
 ghost use Rattle.std.specs.Prelude.{◌≡◌, reverse};
 ghost use Rattle.st_grammar.specs.Grammar as grammar;
 ghost use Rattle.st_grammar.specs.Trees as tree;
-ghost use Rattle.st_parse_automaton.specs.PartAutomaton as parts;
+ghost use Rattle.st_parse_automaton.specs.inner.PartAutomaton as parts;
 
 use crate::part_automaton::{Frame, Kind, Lead, Part, Shape};
 use st_grammar::{Bracket, Closing, Leaf, Sort, Style, is_iteration_sign, is_type_iteration_sign, prefix_right, right_of};

@@ -2,8 +2,8 @@
 
 ghost use Rattle.std.specs.Prelude.{◌≡◌, ◌∷◌, IfOk, reverse};
 ghost use Rattle.std.specs.Option.{option_map};
-ghost use Rattle.st_parse_automaton.specs.PartAutomaton as parts;
-ghost use Rattle.st_parse_automaton.specs.Readings.{reading_of};
+ghost use Rattle.st_parse_automaton.specs.inner.PartAutomaton as parts;
+ghost use Rattle.st_parse_automaton.specs.inner.Readings.{reading_of};
 
 use crate::begin::{begin, opened};
 use crate::close::{close, closes, join, lower};

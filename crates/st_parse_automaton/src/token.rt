@@ -3,7 +3,7 @@
 ghost use Rattle.std.specs.Prelude.{◌≡◌};
 ghost use Rattle.st_grammar.specs.Definitions as grammar;
 ghost use Rattle.st_grammar.specs.Levels as levels;
-ghost use Rattle.st_parse_automaton.specs.DefinitionAutomaton as definitions;
+ghost use Rattle.st_parse_automaton.specs.inner.DefinitionAutomaton as definitions;
 
 use crate::frame::agree;
 use crate::part_automaton::Shape;

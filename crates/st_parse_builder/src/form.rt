@@ -4,7 +4,7 @@ ghost use Rattle.std.specs.Prelude.{◌≡◌, [], ◌∷◌, ◌++◌, IfOk};
 ghost use Rattle.st_el.specs.declared.expression.Node.{out-Node};
 ghost use Rattle.st_el.specs.declared.expression.Node.TheVariants as node;
 ghost use Rattle.st_parse_builder.specs.Names.{name_of};
-ghost use Rattle.st_parse_builder.specs.Building.{call_name};
+ghost use Rattle.st_parse_builder.specs.inner.Building.{call_name};
 ghost use Rattle.st_parse_builder.specs.Meaning as meaning;
 
 use crate::leaf::{copy_name, name_of};

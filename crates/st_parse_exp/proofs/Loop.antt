@@ -10,18 +10,18 @@ use Rattle.st_grammar.specs.Reading as part
 use Rattle.st_grammar.specs.Positions as positions
 use Rattle.st_grammar.proofs.PositionTexts as texts
 use Rattle.st_parse_automaton.specs.declared.position.TokenClass.{TokenClass}
-use Rattle.st_parse_automaton.specs.DefinitionAutomaton as definitions
-use Rattle.st_parse_automaton.specs.Shapes.{class_of}
-use Rattle.st_parse_automaton.specs.Readings.{progress_of}
+use Rattle.st_parse_automaton.specs.inner.DefinitionAutomaton as definitions
+use Rattle.st_parse_automaton.specs.inner.Shapes.{class_of}
+use Rattle.st_parse_automaton.specs.inner.Readings.{progress_of}
 use Rattle.st_parse_automaton.proofs.DefinitionSimulation.{is_some}
 use Rattle.st_parse_faults.specs.declared.judge.Seen.{Seen as CodeSeen}
 use Rattle.st_parse_faults.specs.declared.judge.Verdict.{Verdict as Code}
 use Rattle.st_parse_faults.specs.declared.judge.Verdict.TheVariants as code
-use Rattle.st_parse_faults.specs.Seen as seen
+use Rattle.st_parse_faults.specs.inner.Seen as seen
 use Rattle.st_parse_exp.specs.Expressions.{terminals_of}
 use Rattle.st_parse_exp.specs.Reading.{whole}
 use Rattle.st_parse_exp.specs.Faults.{Seen, Verdict, passed, broken, judge, judge_all, verdict, nothing_seen, Faultless, FirstFault}
-use Rattle.st_parse_exp.specs.Seen as spec
+use Rattle.st_parse_exp.specs.inner.Seen as spec
 use Rattle.st_parse_exp.proofs.Readings.{reached}
 use Rattle.st_parse_exp.proofs.SeenView.{slot, rule_holds, summary_of, verdict_view, judge_is, may_end_as}
 use Rattle.st_parse_exp.proofs.Verdicts.{judge_next, verdict_more, verdict_reads}

@@ -15,13 +15,13 @@ use Rattle.st_grammar.proofs.Steps as steps
 use Rattle.st_el.specs.declared.expression.Exp.{Exp}
 use Rattle.st_parse_builder.specs.Meaning.{meaning, meanings}
 use Rattle.st_parse_builder.specs.Heights.{highest, height}
-use Rattle.st_parse_builder.specs.Actions.{acts}
+use Rattle.st_parse_builder.specs.inner.Actions.{acts}
 use Rattle.st_parse_automaton.specs.declared.position.TokenClass.{TokenClass}
 use Rattle.st_parse_automaton.specs.declared.position.Slot.{Slot}
-use Rattle.st_parse_automaton.specs.PartAutomaton as parts
-use Rattle.st_parse_automaton.specs.DefinitionAutomaton as definitions
-use Rattle.st_parse_automaton.specs.Shapes.{class_of}
-use Rattle.st_parse_automaton.specs.Readings.{progress_of}
+use Rattle.st_parse_automaton.specs.inner.PartAutomaton as parts
+use Rattle.st_parse_automaton.specs.inner.DefinitionAutomaton as definitions
+use Rattle.st_parse_automaton.specs.inner.Shapes.{class_of}
+use Rattle.st_parse_automaton.specs.inner.Readings.{progress_of}
 use Rattle.st_parse_automaton.proofs.View.{state_of}
 use Rattle.st_parse_automaton.proofs.DefinitionView.{definitions_of, slot_of, slot_open}
 use Rattle.st_parse_automaton.proofs.DefinitionSimulation.{is_some}
@@ -29,15 +29,15 @@ use Rattle.st_parse_faults.specs.declared.judge.Seen.{Seen as CodeSeen}
 use Rattle.st_parse_faults.specs.declared.judge.Verdict.{Verdict as Code}
 use Rattle.st_parse_faults.specs.declared.judge.Verdict.TheVariants as code
 use Rattle.st_parse_faults.specs.Place.{place_at}
-use Rattle.st_parse_faults.specs.Seen as seen
-use Rattle.st_parse_actions.specs.Emits.{finishing}
+use Rattle.st_parse_faults.specs.inner.Seen as seen
+use Rattle.st_parse_actions.specs.inner.Emits.{finishing}
 use Rattle.st_num.specs.declared.fault.Fault.{Fault as SyntaxFault}
 use Rattle.st_num.specs.declared.fault.Fault.TheVariants.{Refused, Memory}
 use Rattle.st_parse_exp.specs.Expressions.{ParseExpressions, terminals_of}
 use Rattle.st_parse_exp.specs.Reading.{finish, whole}
 use Rattle.st_parse_exp.specs.Faults.{Seen, passed, judge, verdict, FirstFault}
-use Rattle.st_parse_exp.specs.Seen as spec
-use Rattle.st_parse_exp.specs.Drafts.{AreBuilt, Draft, Takes}
+use Rattle.st_parse_exp.specs.inner.Seen as spec
+use Rattle.st_parse_exp.specs.inner.Drafts.{AreBuilt, Draft, Takes}
 use Rattle.st_parse_exp.specs.Parse.{ParseExps, IsFile, AreWhole, Answers}
 use Rattle.st_parse_exp.proofs.Readings.{one_list, sound}
 use Rattle.st_parse_exp.proofs.SeenView.{slot, summary_of, separates_is, may_end_as}

@@ -8,9 +8,9 @@ use Rattle.st_grammar.specs.Terminals.{terminal, declared_names}
 use Rattle.st_grammar.specs.Positions.{finish}
 use Rattle.st_grammar.proofs.PositionTexts.{Holds}
 use Rattle.st_parse_automaton.specs.declared.position.TokenClass.{TokenClass}
-use Rattle.st_parse_automaton.specs.DefinitionAutomaton as definitions
-use Rattle.st_parse_automaton.specs.Shapes.{class_of}
-use Rattle.st_parse_automaton.specs.Readings.{progress_of}
+use Rattle.st_parse_automaton.specs.inner.DefinitionAutomaton as definitions
+use Rattle.st_parse_automaton.specs.inner.Shapes.{class_of}
+use Rattle.st_parse_automaton.specs.inner.Readings.{progress_of}
 use Rattle.st_parse_automaton.specs.Refusal.{terminals_of}
 use Rattle.st_parse_automaton.proofs.DefinitionSimulation.{may_end_is, is_some}
 use Rattle.st_parse_automaton.proofs.Loop.{holds, found, not_found}
@@ -18,7 +18,7 @@ use Rattle.st_parse_faults.specs.declared.judge.Seen.{Seen as CodeSeen}
 use Rattle.st_parse_faults.specs.declared.judge.Verdict.{Verdict as Code}
 use Rattle.st_parse_faults.specs.declared.judge.Verdict.TheVariants as code
 use Rattle.st_parse_faults.specs.Faults.{Seen, Verdict, passed, broken, judge, judge_all, verdict, Faultless, FirstFault}
-use Rattle.st_parse_faults.specs.Seen as seen
+use Rattle.st_parse_faults.specs.inner.Seen as seen
 use Rattle.st_parse_faults.proofs.SeenView.{summary, view, judge_is}
 use Rattle.st_parse_faults.proofs.Verdicts.{judge_next, verdict_more, verdict_reads}
 

@@ -11,14 +11,14 @@ use Rattle.st_grammar.specs.Levels.{takes, encloses, computes, is_count, has_lev
 use Rattle.st_grammar.specs.Trees.{Tree, operand, bracket, ahead, none, more, plain, length, arguments, index, segment, update, below}
 use Rattle.st_grammar.specs.Reading.{Frames, bottom, within, over, timing, State, want, indexing, sort, least, settle, opened, begin_opening, begin}
 use Rattle.st_grammar.proofs.Sound.{Stand}
-use Rattle.st_parse_automaton.specs.Shapes.{shape}
+use Rattle.st_parse_automaton.specs.inner.Shapes.{shape}
 use Rattle.st_parse_automaton.proofs.View.{state_of}
 use Rattle.st_parse_faults.specs.declared.role.Attachment.{Attachment}
 use Rattle.st_parse_faults.specs.declared.role.Attachment.TheVariants as attachment
 use Rattle.st_parse_faults.specs.declared.role.TokenRole.TheVariants as role
 use Rattle.st_parse_faults.specs.declared.tally.Tally.{Tally}
 use Rattle.st_parse_faults.specs.Limits.{posts, is_turnstile, signs, signs_in, parts_in, elements_with, aheads, tally, fresh, held_tally, tallies_round, part_tallies}
-use Rattle.st_parse_faults.specs.Roles.{none_open, begun, counted, moved}
+use Rattle.st_parse_faults.specs.inner.Roles.{none_open, begun, counted, moved}
 
 -- Behind the token the tallies are those, and something is read.
 abbrev pub To : ℕ → Attachment → Terminal → List Tally → Option State → Type 0

@@ -10,7 +10,7 @@ use Rattle.st_measure.specs.declared.height.NotationHeight.{NotationHeight}
 use Rattle.st_measure.specs.Variables.{Occurrence, occurrences, variables, prem_variables}
 use Rattle.st_measure.specs.Variables.{def_node_variables}
 use Rattle.st_measure.specs.DefHeights.{prem_height, field_type_height, def_node_height}
-use Rattle.st_measure.specs.Answers.{capped, alias_height}
+use Rattle.st_measure.specs.inner.Answers.{capped, alias_height}
 use Rattle.st_draft.specs.declared.draft.Draft.{Draft}
 use Rattle.st_draft.specs.declared.draft.Members.{Members}
 use Rattle.st_draft.specs.declared.draft.Sides.{Sides}

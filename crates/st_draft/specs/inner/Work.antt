@@ -11,24 +11,24 @@ use Rattle.st_parse_automaton.specs.declared.position.Position.{Position}
 use Rattle.st_parse_automaton.specs.declared.position.Position.TheVariants as position
 use Rattle.st_parse_automaton.specs.declared.position.Slot.{Slot}
 use Rattle.st_parse_automaton.specs.declared.position.Slot.TheVariants as slot
-use Rattle.st_parse_automaton.specs.PartAutomaton as parts
-use Rattle.st_parse_automaton.specs.DefinitionAutomaton as definitions
-use Rattle.st_parse_automaton.specs.DefinitionAutomaton.{slot_sort, filled}
+use Rattle.st_parse_automaton.specs.inner.PartAutomaton as parts
+use Rattle.st_parse_automaton.specs.inner.DefinitionAutomaton as definitions
+use Rattle.st_parse_automaton.specs.inner.DefinitionAutomaton.{slot_sort, filled}
 use Rattle.st_parse_automaton.specs.declared.position.Progress.{Progress}
-use Rattle.st_parse_automaton.specs.Readings.{progress_of}
+use Rattle.st_parse_automaton.specs.inner.Readings.{progress_of}
 use Rattle.st_grammar.specs.Definitions.{Defs}
 use Rattle.st_grammar.specs.Positions.{State, finish}
 use Rattle.st_el.specs.declared.definition.Def.{Def}
 use Rattle.st_parse_builder.specs.Definitions.{defs_meaning}
 use Rattle.st_draft.specs.Known.{before}
 use Rattle.st_parse_builder.specs.declared.action.Action.{Action}
-use Rattle.st_parse_actions.specs.Emits.{emits, kept, finishing}
+use Rattle.st_parse_actions.specs.inner.Emits.{emits, kept, finishing}
 use Rattle.st_draft.specs.declared.parts.Parts.{Parts}
 use Rattle.st_draft.specs.declared.draft.Draft.{Draft}
-use Rattle.st_draft.specs.Changes.{ending_of, change_of}
-use Rattle.st_draft.specs.Drafts.{ended, arguments_after}
-use Rattle.st_draft.specs.Parts.{word_of, redrafted, refilled}
-use Rattle.st_draft.specs.Heights.{defs_height, Within}
+use Rattle.st_draft.specs.inner.Changes.{ending_of, change_of}
+use Rattle.st_draft.specs.inner.Drafts.{ended, arguments_after}
+use Rattle.st_draft.specs.inner.Parts.{word_of, redrafted, refilled}
+use Rattle.st_draft.specs.inner.Heights.{defs_height, Within}
 
 -- A draft, the actions of the arguments and of the part that is read, the signs of the changes
 -- that are open in it, the innermost first, and the tokens of a count.

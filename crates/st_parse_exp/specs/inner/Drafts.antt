@@ -9,10 +9,10 @@ use Rattle.st_el.specs.declared.expression.Exp.{Exp}
 use Rattle.st_parse_builder.specs.declared.action.Action.{Action}
 use Rattle.st_parse_builder.specs.Meaning.{meaning}
 use Rattle.st_parse_builder.specs.Heights.{highest, height}
-use Rattle.st_parse_builder.specs.Actions.{acts}
+use Rattle.st_parse_builder.specs.inner.Actions.{acts}
 use Rattle.st_parse_automaton.specs.declared.part_automaton.Shape.{Shape}
-use Rattle.st_parse_automaton.specs.PartAutomaton as parts
-use Rattle.st_parse_actions.specs.Emits as emits
+use Rattle.st_parse_automaton.specs.inner.PartAutomaton as parts
+use Rattle.st_parse_actions.specs.inner.Emits as emits
 
 -- the expression that is built of one that means this, where it is not too high
 abbrev pub IsBuilt : Exp → Option Exp → Type 0

@@ -6,7 +6,7 @@ use Rattle.st_el.specs.declared.definition.Def.{Def}
 use Rattle.st_parse_builder.specs.Heights.{highest, height, typ_height, notation_height}
 use Rattle.st_parse_builder.specs.Definitions.{defs_meaning}
 use Rattle.st_grammar.specs.Definitions.{Defs}
-use Rattle.st_measure.specs.Answers.{lone_typ}
+use Rattle.st_measure.specs.inner.Answers.{lone_typ}
 use Rattle.st_measure.specs.DefHeights.{prem_height, field_type_height, def_height}
 use Rattle.st_draft.specs.declared.draft.Draft.{Draft}
 

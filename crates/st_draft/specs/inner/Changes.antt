@@ -8,7 +8,7 @@ use Rattle.st_parse_automaton.specs.declared.position.Slot.TheVariants as slot
 use Rattle.st_parse_automaton.specs.declared.position.IterationState.TheVariants as iterations
 use Rattle.st_parse_automaton.specs.declared.position.Position.{Position}
 use Rattle.st_parse_automaton.specs.declared.position.Position.TheVariants as position
-use Rattle.st_parse_automaton.specs.DefinitionAutomaton as definitions
+use Rattle.st_parse_automaton.specs.inner.DefinitionAutomaton as definitions
 use Rattle.st_draft.specs.declared.change.Ending.{Ending}
 use Rattle.st_draft.specs.declared.change.Ending.TheVariants as ending
 use Rattle.st_draft.specs.declared.change.Change.{Change}

@@ -23,9 +23,9 @@ use Rattle.st_parse_automaton.specs.declared.position.Slot.{Slot}
 use Rattle.st_parse_automaton.specs.declared.position.Slot.TheVariants as slot
 use Rattle.st_parse_automaton.specs.declared.position.IterationState.TheVariants as iterations
 use Rattle.st_parse_automaton.specs.declared.position.TokenClass.{TokenClass}
-use Rattle.st_parse_automaton.specs.Readings.{progress_of}
-use Rattle.st_parse_automaton.specs.PartAutomaton as parts
-use Rattle.st_parse_automaton.specs.DefinitionAutomaton as definitions
+use Rattle.st_parse_automaton.specs.inner.Readings.{progress_of}
+use Rattle.st_parse_automaton.specs.inner.PartAutomaton as parts
+use Rattle.st_parse_automaton.specs.inner.DefinitionAutomaton as definitions
 use Rattle.st_parse_faults.specs.declared.before.Before.{Before}
 use Rattle.st_parse_faults.specs.declared.before.Before.TheVariants as before
 use Rattle.st_parse_faults.specs.declared.judge.Seen.{Seen as CodeSeen}
@@ -36,9 +36,9 @@ use Rattle.st_parse_faults.specs.LeftOut.{type_or_other, left_out}
 use Rattle.st_parse_faults.specs.declared.counts.Counts.{Counts}
 use Rattle.st_parse_faults.specs.declared.counts.Event.{Event}
 use Rattle.st_parse_faults.specs.declared.counts.Event.TheVariants.{Definition, Premise, Iteration, Closed, Nothing}
-use Rattle.st_parse_faults.specs.Counts.{member_event, counts_after, counts_pass, no_counts, Kept}
+use Rattle.st_parse_faults.specs.Counts.{member_event, counts_after, counts_pass, no_counts}
 use Rattle.st_parse_faults.specs.Limits.{fresh, tally_passes}
-use Rattle.st_parse_faults.specs.Roles.{none_open, attachment_of, tallies_after, TallyKept}
+use Rattle.st_parse_faults.specs.inner.Roles.{none_open, attachment_of, tallies_after, TallyKept}
 use Rattle.st_parse_faults.specs.Faults.{nesting_limit}
 
 abbrev pub ends_type : Sort → Part → Bool
@@ -191,6 +191,10 @@ summary_of s =
 abbrev pub verdict_of : Code → Verdict
 verdict_of (variant.Passed s) = passed (summary_of s)
 verdict_of (variant.Broken r) = broken r
+
+-- Nothing that is counted between parts passes a limit.
+abbrev pub Kept : Counts → Type 0
+Kept c = (c.definitions ≤ 65535) × (c.premises ≤ 255) × (c.members ≤ 4095) × (c.iterations ≤ 32)
 
 abbrev pub SeenKept : CodeSeen → Type 0
 SeenKept s =

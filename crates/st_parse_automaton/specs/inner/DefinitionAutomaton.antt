@@ -29,7 +29,7 @@ use Rattle.st_parse_automaton.specs.declared.position.IterationState.{IterationS
 use Rattle.st_parse_automaton.specs.declared.position.IterationState.TheVariants as iterations
 use Rattle.st_parse_automaton.specs.declared.position.Position.{Position}
 use Rattle.st_parse_automaton.specs.declared.position.Position.TheVariants as position
-use Rattle.st_parse_automaton.specs.PartAutomaton as parts
+use Rattle.st_parse_automaton.specs.inner.PartAutomaton as parts
 
 -- The innermost bracket comes first.
 pub data State : Type 0 where

@@ -6,9 +6,9 @@ use Rattle.st_scan.specs.declared.token.TokenKind.{TokenKind}
 use Rattle.st_grammar.specs.Levels.{is_comma}
 use Rattle.st_parse_automaton.specs.declared.position.TokenClass.{TokenClass}
 use Rattle.st_parse_automaton.specs.declared.position.Slot.TheVariants as slot
-use Rattle.st_parse_automaton.specs.DefinitionAutomaton as definitions
-use Rattle.st_parse_faults.specs.Seen as seen
-use Rattle.st_parse_faults.specs.Seen.{Summary, Verdict, passed, broken}
+use Rattle.st_parse_automaton.specs.inner.DefinitionAutomaton as definitions
+use Rattle.st_parse_faults.specs.inner.Seen as seen
+use Rattle.st_parse_faults.specs.inner.Seen.{Summary, Verdict, passed, broken}
 
 -- A comma stands behind a whole expression.
 abbrev pub separates : definitions.State → TokenClass → Bool

@@ -5,7 +5,8 @@ use Rattle.st_parse_builder.specs.declared.piece.Piece.{Piece}
 use Rattle.st_parse_builder.specs.declared.piece.Piece.TheVariants.{Done}
 use Rattle.st_parse_builder.specs.declared.fault.BuildFault.{BuildFault}
 use Rattle.st_parse_builder.specs.declared.fault.BuildFault.TheVariants.{Unfit, TooHigh, Memory}
-use Rattle.st_parse_builder.specs.Heights.{height, piece_height, stack_height}
+use Rattle.st_parse_builder.specs.Heights.{height}
+use Rattle.st_parse_builder.specs.inner.PieceHeights.{piece_height, stack_height}
 
 -- a stack that is made has a piece that is higher than 100
 pub record IsTooTall (made : Option (List Piece)) : Type 0 where

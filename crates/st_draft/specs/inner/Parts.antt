@@ -6,7 +6,7 @@ use Rattle.st_parse_automaton.specs.declared.part_automaton.Shape.{Shape}
 use Rattle.st_parse_automaton.specs.declared.position.TokenClass.{TokenClass}
 use Rattle.st_parse_automaton.specs.declared.position.Slot.{Slot}
 use Rattle.st_parse_automaton.specs.declared.position.Slot.TheVariants as slot
-use Rattle.st_parse_automaton.specs.DefinitionAutomaton.{opens_round}
+use Rattle.st_parse_automaton.specs.inner.DefinitionAutomaton.{opens_round}
 use Rattle.st_el.specs.declared.expression.Exp.{Exp}
 use Rattle.st_el.specs.declared.expression.Count.{Count}
 use Rattle.st_el.specs.declared.expression.Count.TheVariants as count
@@ -14,13 +14,13 @@ use Rattle.st_parse_builder.specs.declared.action.Action.{Action}
 use Rattle.st_parse_builder.specs.declared.piece.Piece.{Piece}
 use Rattle.st_parse_builder.specs.declared.piece.Piece.TheVariants.{Done}
 use Rattle.st_parse_builder.specs.Names.{name_of}
-use Rattle.st_parse_builder.specs.Building.{run}
-use Rattle.st_parse_builder.specs.NotationBuilding.{typ_built, notation_built}
+use Rattle.st_parse_builder.specs.inner.Building.{run}
+use Rattle.st_parse_builder.specs.inner.NotationBuilding.{typ_built, notation_built}
 use Rattle.st_draft.specs.declared.change.Change.{Change}
 use Rattle.st_draft.specs.declared.change.Change.TheVariants as change
 use Rattle.st_draft.specs.declared.parts.Word.{Word}
 use Rattle.st_draft.specs.declared.draft.Draft.{Draft}
-use Rattle.st_draft.specs.Drafts.{params_put, args_put, with_sides, applied, typ_filled, notation_filled, condition_filled, exp_filled, count_filled}
+use Rattle.st_draft.specs.inner.Drafts.{params_put, args_put, with_sides, applied, typ_filled, notation_filled, condition_filled, exp_filled, count_filled}
 
 -- ---- what is built
 

@@ -4,8 +4,8 @@ use Rattle.st_parse_automaton.specs.declared.part_automaton.Reading.{Reading}
 use Rattle.st_parse_automaton.specs.declared.close.Lowered.{Lowered}
 use Rattle.st_parse_automaton.specs.declared.position.Progress.{Progress}
 use Rattle.st_parse_automaton.specs.declared.position.Progress.TheVariants as code
-use Rattle.st_parse_automaton.specs.PartAutomaton as parts
-use Rattle.st_parse_automaton.specs.DefinitionAutomaton as definitions
+use Rattle.st_parse_automaton.specs.inner.PartAutomaton as parts
+use Rattle.st_parse_automaton.specs.inner.DefinitionAutomaton as definitions
 
 abbrev pub reading_of : Reading → parts.State
 reading_of r = (r.expected, reverse r.frames)

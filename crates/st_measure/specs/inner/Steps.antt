@@ -6,7 +6,7 @@ use Rattle.st_parse_builder.specs.declared.piece.Piece.TheVariants.{Label}
 use Rattle.st_measure.specs.declared.step.Step.{Step}
 use Rattle.st_measure.specs.declared.step.Step.TheVariants.{Begins, Occurs, Takes, Indexes}
 use Rattle.st_measure.specs.Variables.{Occurrence, occurrence, without}
-use Rattle.st_measure.specs.Noting.{piece_variables, stack_variables, Keeps}
+use Rattle.st_measure.specs.inner.Noting.{piece_variables, stack_variables, Keeps}
 
 -- a piece with these variables is put on the others
 pub record IsPut (name : Option Token) (more : List Occurrence) (s u : List Piece) : Type 0 where
