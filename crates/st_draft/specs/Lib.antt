@@ -2,6 +2,5 @@
 
 -- the definitions that stand whole, where the tokens so far are read
 pub mod Known
-
 -- ---- what only proofs need
 pub mod inner

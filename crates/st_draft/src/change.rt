@@ -62,7 +62,11 @@ fn names_definition(position: Position) -> bool
 {
     matches!(
         position,
-        Position::SyntaxName | Position::RelationName | Position::RuleName | Position::VarName | Position::FunName
+        Position::SyntaxName
+            | Position::RelationName
+            | Position::RuleName
+            | Position::VarName
+            | Position::FunName
     )
 }
 

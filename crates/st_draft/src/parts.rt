@@ -20,7 +20,7 @@ use crate::premise::{put_condition, put_each};
 use crate::sides::{put_exp, put_typ};
 use st_el::{Count, Exp, NotNode, Notation, Typ};
 use st_num::{Boxed, Mark, Name, NoMemory, Row};
-use st_parse_automaton::{TokenClass, Slot, opens_round};
+use st_parse_automaton::{Slot, TokenClass, opens_round};
 use st_parse_builder::{Action, BuildFault, TokenRef, build, build_notation, build_typ, copy_name};
 use std::alloc::Global;
 

@@ -8,6 +8,5 @@ pub mod Variables
 pub mod Limits
 -- how high premises and definitions are
 pub mod DefHeights
-
 -- ---- what only proofs need
 pub mod inner

@@ -4,6 +4,5 @@
 pub mod Limits
 -- the definitions that tokens mean, or the first fault and its place
 pub mod Source
-
 -- ---- what only proofs need
 pub mod inner

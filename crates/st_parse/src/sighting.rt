@@ -22,7 +22,7 @@ ghost use Rattle.st_parse.specs.inner.Surveys as spec;
 use crate::closing::{close, whole_premises};
 use crate::measure::{Measure, add_exp, measured, measured_all, raised, without_variables};
 use crate::survey::{MemberHeights, PremiseMeasures, SideMeasures, Survey, no_premises, surveyed};
-use st_draft::{Change, Ending, NOWHERE, Listener, Word, index_in};
+use st_draft::{Change, Ending, Listener, Word, index_in};
 use st_measure::{leave_out, measure_notation, measure_typ};
 use st_num::{NoMemory, Row, Span};
 use st_parse_automaton::{Shape, Slot};
@@ -171,7 +171,7 @@ fn apply<'a>(
 {
     match change {
         Change::Begin(ending) => turn(alloc, survey, ending, token.at)?,
-        Change::End(ending) => turn(alloc, survey, ending, NOWHERE)?,
+        Change::End(ending) => turn(alloc, survey, ending, Span::NOWHERE)?,
         Change::Dots => survey.members.dots = true,
         Change::Premise(condition) => begin_premise(alloc, &mut survey.premises, condition)?,
         Change::Otherwise => put_otherwise(&mut survey.premises),
@@ -351,7 +351,7 @@ impl<'a> Listener<'a> for Survey<'a> {
     }
 
     fn end(&mut self, alloc: Global, ending: Ending) -> Result<(), BuildFault> {
-        turn(alloc, self, ending, NOWHERE)?;
+        turn(alloc, self, ending, Span::NOWHERE)?;
         Ok(())
     }
 }

@@ -257,6 +257,10 @@ pub fn finish<'a>(reading: &Reading, actions: &mut Row<Action<'a>>) -> Result<()
             lower(0, reading.frames.as_slice(), actions)?;
             Ok(())
         }
-        Expected::Operand | Expected::Label | Expected::Step(_) | Expected::Index | Expected::Less => Ok(()),
+        Expected::Operand
+        | Expected::Label
+        | Expected::Step(_)
+        | Expected::Index
+        | Expected::Less => Ok(()),
     }
 }

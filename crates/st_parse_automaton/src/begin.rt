@@ -81,7 +81,8 @@ fn begin_opening(
 
 /// The end of arguments that are none.
 fn no_arguments(mut frames: Row<Frame>) -> Result<Option<Reading>, NoMemory>
-    ensures { IfOk result (λ next. option_map reading_of next ≡ parts.no_arguments (reverse frames)) }
+    ensures { IfOk result (λ next.
+        option_map reading_of next ≡ parts.no_arguments (reverse frames)) }
 {
     match frames.pop() {
         Some(Frame::Within(Kind::Arguments, Filling::Empty, _, _)) => {

@@ -6,7 +6,10 @@ ghost use Rattle.st_grammar.specs.Trees as tree;
 ghost use Rattle.st_parse_automaton.specs.inner.PartAutomaton as parts;
 
 use crate::part_automaton::{Frame, Kind, Lead, Part, Shape};
-use st_grammar::{Bracket, Closing, Leaf, Sort, Style, is_iteration_sign, is_type_iteration_sign, prefix_right, right_of};
+use st_grammar::{
+    Bracket, Closing, Leaf, Sort, Style, is_iteration_sign, is_type_iteration_sign, prefix_right,
+    right_of,
+};
 use st_num::{Mark, Row};
 
 /// The level of what binds tightest.

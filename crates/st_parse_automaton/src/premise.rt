@@ -97,7 +97,8 @@ pub(crate) fn iterate(
     class: TokenClass,
     brackets: Row<Bracket>,
 ) -> Option<Progress>
-    ensures { option_map progress_of result ≡ definitions.iterate iterations class (reverse brackets) }
+    ensures { option_map progress_of result
+        ≡ definitions.iterate iterations class (reverse brackets) }
 {
     let empty = none_open(&brackets);
     let wanting = wants_iteration(iterations);

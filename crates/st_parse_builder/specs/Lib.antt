@@ -10,6 +10,5 @@ pub mod Notations
 pub mod Definitions
 -- how high a source tree is
 pub mod Heights
-
 -- ---- what only proofs need
 pub mod inner

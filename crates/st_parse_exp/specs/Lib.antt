@@ -8,6 +8,5 @@ pub mod Reading
 pub mod Faults
 -- the expressions that the tokens mean, or the first fault
 pub mod Parse
-
 -- ---- what only proofs need
 pub mod inner

@@ -21,7 +21,7 @@ use st_el::Exp;
 use st_grammar::Sort;
 use st_num::{Mark, NoMemory, Row};
 use st_parse_actions::{emit, finish};
-use st_parse_automaton::{TokenClass, Progress, Reading};
+use st_parse_automaton::{Progress, Reading, TokenClass};
 use st_parse_builder::{Action, BuildFault, build};
 use st_scan::Token;
 use std::alloc::Global;

@@ -8,7 +8,7 @@ ghost use Rattle.st_parse_automaton.specs.inner.Readings.{progress_of};
 ghost use Rattle.st_parse_exp.specs.inner.Seen as spec;
 
 use st_num::{Mark, NoMemory, Row, RuleId};
-use st_parse_automaton::{Expected, TokenClass, Progress, Reading, Shape, Slot, may_end};
+use st_parse_automaton::{Expected, Progress, Reading, Shape, Slot, TokenClass, may_end};
 use st_parse_faults::{Seen, Verdict, judge_token, nothing_counted};
 use st_scan::TokenKind;
 use std::alloc::Global;

@@ -12,6 +12,5 @@ pub mod Limits
 pub mod Faults
 -- where a token stands in the text
 pub mod Place
-
 -- ---- what only proofs need
 pub mod inner

@@ -56,7 +56,8 @@ Keeps draws s p w = draws s w.draft × (work_of w.draft p ≡ w)
 -- ---- parts
 
 -- The tokens of a count are kept.
-abbrev pub words_after : Slot → TokenClass → Token → List (TokenClass × Token) → List (TokenClass × Token)
+abbrev pub words_after : Slot → TokenClass → Token → List (TokenClass × Token)
+    → List (TokenClass × Token)
 words_after slot.Count l x words = words ++ (l, x) ∷ []
 words_after s l x words = words
 
@@ -88,7 +89,8 @@ redrafted_work after p l x w =
 
 -- The first token of a part may stand where something other may.
 abbrev pub position_work : definitions.State → Position → TokenClass → Token → Work → Option Work
-position_work (definitions.inside t st ks) (position.Entering s) l x w = Some (part_work s (Operand, []) l x w)
+position_work (definitions.inside t st ks) (position.Entering s) l x w =
+    Some (part_work s (Operand, []) l x w)
 position_work after p l x w = redrafted_work after p l x w
 
 -- ---- the end of a part
@@ -111,15 +113,16 @@ filled_work s n st w =
     (refilled s n (w.actions ++ finishing st) w.words w.draft)
 
 -- a token that a part takes, or does not take
-abbrev pub taken_work : Slot → parts.State → List Bracket → definitions.State → TokenClass → Token → Work
-    → Option parts.State → Option Part → Option Work
+abbrev pub taken_work : Slot → parts.State → List Bracket → definitions.State → TokenClass
+    → Token → Work → Option parts.State → Option Part → Option Work
 taken_work s st ks after l x w (Some next) q = Some (part_work s st l x w)
 taken_work s st ks after l x w None q =
     option_and_then
     (λ p. option_and_then (position_work after (filled s p) l x) (filled_work s (length ks) st w)) q
 
 -- a token that leads from this state there
-abbrev pub work_after : definitions.State → definitions.State → TokenClass → Token → Work → Option Work
+abbrev pub work_after : definitions.State → definitions.State → TokenClass → Token → Work
+    → Option Work
 work_after (definitions.at p ks) after l x w = position_work after p l x w
 work_after (definitions.inside s st ks) after l x w =
     taken_work s st ks after l x w (parts.step (slot_sort s) st l.shape) (parts.finish st)

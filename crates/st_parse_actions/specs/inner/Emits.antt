@@ -1,6 +1,6 @@
--- What each token adds to the actions, told of what the parser keeps: the emission of `st_parse_builder`
--- without its trees. Beside the outline only the signs of the changes that are open are kept, the
--- innermost first, since a change acts where its bracket closes.
+-- What each token adds to the actions, told of what the parser keeps: the emission of
+-- `st_parse_builder` without its trees. Beside the part automaton only the signs of the changes
+-- that are open are kept, the innermost first, since a change acts where its bracket closes.
 use Rattle.std.specs.Prelude.{ℕ, List, [], ◌∷◌, ◌++◌, Bool, true, false, ◌&&◌, Option, Some, None, nat_le, if◌then◌else◌}
 use Rattle.st_num.specs.declared.mark.Mark.{Mark}
 use Rattle.st_scan.specs.declared.token.Token.{Token}

@@ -243,7 +243,8 @@ abbrev pub iterate : IterationState → TokenClass → List Bracket → Option S
 iterate m l ks =
     if closes_round l && (not (is_empty ks) && not (wants_iteration m))
     then Some (at (position.Iterated iterations.Wanted) (tail ks))
-    else if signed is_iteration_sign l && has_closed m then Some (at (position.Iterated iterations.Complete) ks)
+    else if signed is_iteration_sign l && has_closed m
+    then Some (at (position.Iterated iterations.Complete) ks)
     else if signed is_caret l && has_closed m then Some (start_of slot.Count ks)
     else if is_empty ks && not (wants_iteration m) then next_premise l.keyword ks
     else None
@@ -267,7 +268,8 @@ own position.Between l ks = None
 own position.SyntaxName l ks = when (is_low l) (at (position.Hinted host.Syntax true) ks)
 own position.VarName l ks = when (is_low l || is_label l) (at position.VarColon ks)
 own position.VarColon l ks = when (signed is_colon l) (start_of slot.Var ks)
-own position.RelationName l ks = when (names_relation l) (at (position.Hinted host.Relation false) ks)
+own position.RelationName l ks =
+    when (names_relation l) (at (position.Hinted host.Relation false) ks)
 own position.RuleName l ks = when (names_relation l) (at position.RuleColon ks)
 own position.RuleColon l ks =
     if signed is_slash l then Some (at (position.RuleId true) ks) else colon_step l ks
@@ -282,7 +284,8 @@ own (position.ArgumentsClosed t) l ks = result_step t l ks
 own (position.SyntaxId d) l ks =
     id_goes (id_step d l) d (λ e. at (position.SyntaxId e) ks)
     (hint_or l.keyword host.Syntax false l ks)
-own (position.RuleId d) l ks = id_goes (id_step d l) d (λ e. at (position.RuleId e) ks) (colon_step l ks)
+own (position.RuleId d) l ks =
+    id_goes (id_step d l) d (λ e. at (position.RuleId e) ks) (colon_step l ks)
 own (position.Hinted h b) l ks = hint_or l.keyword h b l ks
 own (position.HintOpen h) l ks = when (opens_round l) (at (position.HintName h) ks)
 own (position.HintName h) l ks = when (is_name l) (at (position.HintWords h) ks)
@@ -320,7 +323,8 @@ filled slot.Condition p = position.Iterated iterations.None
 filled slot.Count p = position.Iterated iterations.Complete
 
 -- a token that a part does not take goes to what is behind it
-abbrev pub taken : Slot → TokenClass → List Bracket → Option parts.State → Option Part → Option State
+abbrev pub taken : Slot → TokenClass → List Bracket → Option parts.State → Option Part
+    → Option State
 taken s l ks (Some next) q = Some (inside s next ks)
 taken s l ks None q = option_and_then (λ p. position_step (filled s p) l ks) q
 

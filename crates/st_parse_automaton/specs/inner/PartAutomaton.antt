@@ -220,7 +220,8 @@ begin_closing base c fs = None
 
 abbrev pub begin_plain : Sort → Bracket → List Frame → Option State
 begin_plain base b fs =
-    if encloses (top base fs) b then Some (plain_expected b, opened (Plain b) (top base fs) fs) else None
+    if encloses (top base fs) b then Some (plain_expected b, opened (Plain b) (top base fs) fs)
+    else None
 
 abbrev pub begin_opening : Sort → Bracket → List Frame → Option State
 begin_opening base bracket.Round fs =
