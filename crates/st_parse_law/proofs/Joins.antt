@@ -12,7 +12,7 @@ use Rattle.st_scan.specs.declared.token.Token.{Token}
 use Rattle.st_scan.specs.declared.token.TokenKind.TheVariants as kind
 use Rattle.st_grammar.specs.declared.sort.Sort.{Sort}
 use Rattle.st_grammar.specs.declared.sort.Sort.TheVariants.{Expression as expression, Arithmetic as arithmetic}
-use Rattle.st_grammar.specs.Levels as grammar
+use Rattle.st_num.specs.Signs as signs
 use Rattle.st_grammar.specs.Levels.{has_level}
 use Rattle.st_grammar.specs.Terminals.{sign, terminal, kind_terminal}
 use Rattle.st_grammar.specs.Trees.{Tree, led, left, text}
@@ -42,7 +42,7 @@ use Rattle.st_parse_law.proofs.Posts.{same_plain}
 
 -- ---- signs between two sides
 
-same_level : (m : Mark) → sign_level m ≡ grammar.level_of m
+same_level : (m : Mark) → sign_level m ≡ signs.level m
 same_level mark.Turnstile = refl
 same_level _ = refl
 
@@ -140,7 +140,7 @@ joined_no_atom at m e g = go (is_notation m)
     go true = no_atom_at at (node.Infix e m g) (Node-F.Infix e m g) (node.outs-Infix e m g) refl
     go false = no_atom_at at (node.Binary e m g) (Node-F.Binary e m g) (node.outs-Binary e m g) refl
 
-module _ (names : List (List ℕ)) (σ : Sort) (e f : Exp) (m : Mark) (level_1 : nat_le 1 (sign_level m) ≡ true) (has : has_level σ (grammar.level_of m) ≡ true) where
+module _ (names : List (List ℕ)) (σ : Sort) (e f : Exp) (m : Mark) (level_1 : nat_le 1 (sign_level m) ≡ true) (has : has_level σ (signs.level m) ≡ true) where
   module _ (lt rt : Traits) (lb rb : List ℕ) (l : Part names σ e lt lb) (r : Part names σ f rt rb) (left_is : lt.level ≡ grammar.left_of m) (right_is : rt.level ≡ grammar.right_of m) where
     joined_apart : (more : List Piece) → Clear false (bytes_of more) → AreApart more → AreApart (two_sides m l.pieces r.pieces ++ more)
     joined_apart more c a =
@@ -214,11 +214,11 @@ pub data IsHome : Sort → Type 0 where
   in_expression : (b : Bool) → IsHome (expression b)
   in_arithmetic : IsHome arithmetic
 
-level_some : (σ : Sort) (m : Mark) → IsHome σ → has_level σ (grammar.level_of m) ≡ true → nat_le 1 (sign_level m) ≡ true
-level_some _ m (in_expression b) h = ap (nat_le 1) (same_level m) ∙ (and_parts (nat_le 1 (grammar.level_of m)) (nat_le (grammar.level_of m) 13) h).0
-level_some _ m in_arithmetic h = le-leb 1 (sign_level m) (omega (arith, same_level m, leb-true 15 (grammar.level_of m) h))
+level_some : (σ : Sort) (m : Mark) → IsHome σ → has_level σ (signs.level m) ≡ true → nat_le 1 (sign_level m) ≡ true
+level_some _ m (in_expression b) h = ap (nat_le 1) (same_level m) ∙ (and_parts (nat_le 1 (signs.level m)) (nat_le (signs.level m) 13) h).0
+level_some _ m in_arithmetic h = le-leb 1 (sign_level m) (omega (arith, same_level m, leb-true 15 (signs.level m) h))
 
-no_arithmetic : (m : Mark) → nat_le (grammar.level_of m) 13 ≡ true → nat_le 15 (sign_level m) ≡ false
+no_arithmetic : (m : Mark) → nat_le (signs.level m) 13 ≡ true → nat_le 15 (sign_level m) ≡ false
 no_arithmetic mark.Plus h = absurd (cc)
 no_arithmetic mark.Minus h = absurd (cc)
 no_arithmetic mark.Star h = absurd (cc)
@@ -227,8 +227,8 @@ no_arithmetic mark.Backslash h = absurd (cc)
 no_arithmetic mark.Caret h = absurd (cc)
 no_arithmetic _ h = refl
 
-binary_normal : (σ : Sort) (m : Mark) (x y : Printed) → IsHome σ → has_level σ (grammar.level_of m) ≡ true → IsNormal σ (Node-F.Binary x m y)
-binary_normal _ m x y (in_expression b) h = no_arithmetic m (and_parts (nat_le 1 (grammar.level_of m)) (nat_le (grammar.level_of m) 13) h).1
+binary_normal : (σ : Sort) (m : Mark) (x y : Printed) → IsHome σ → has_level σ (signs.level m) ≡ true → IsNormal σ (Node-F.Binary x m y)
+binary_normal _ m x y (in_expression b) h = no_arithmetic m (and_parts (nat_le 1 (signs.level m)) (nat_le (signs.level m) 13) h).1
 binary_normal _ m x y in_arithmetic h = tt
 
 loose_traits : (m : Mark) (no_bar : Bool) → (nat_le 20 (sign_level m) && no_bar) ≡ true → false ≡ true
@@ -247,7 +247,7 @@ join_within m l is = record {
 
 -- two sides of a sign
 pub joined_printed :
-    (names : List (List ℕ)) (σ : Sort) (at : Span) (e f : Exp) (m : Mark) → IsHome σ → has_level σ (grammar.level_of m) ≡ true
+    (names : List (List ℕ)) (σ : Sort) (at : Span) (e f : Exp) (m : Mark) → IsHome σ → has_level σ (signs.level m) ≡ true
     → Printable names σ e → Printable names σ f → Printable names σ (exp at (joined_node e m f))
 joined_printed names σ at e f m ok has x y = go (is_notation m) refl
   where
@@ -258,7 +258,7 @@ joined_printed names σ at e f m ok has x y = go (is_notation m) refl
         let r = placed names σ f (right_place a m) home (leb-true (right_of (sign_level m)) 20 (right_low m)) y in
         part_as names (sort_of a) (exp at (joined_node e m f)) (exp at (joined_node e m f)) (join_traits m) _ _ refl
         (ap (λ w. ((w ++ spelling m) ++ blank_behind m) ++ (printed f).at (right_place a m)) (sym (left_side_is (parts.is_arithmetic (sort_of a)) ((printed e).at (left_place a m)) l.front)))
-        (joined_part names (sort_of a) e f m (level_some σ m ok has) (has_home σ a (grammar.level_of m) home has) (place_traits (left_place a m) (printed e)) (place_traits (right_place a m) (printed f))
+        (joined_part names (sort_of a) e f m (level_some σ m ok has) (has_home σ a (signs.level m) home has) (place_traits (left_place a m) (printed e)) (place_traits (right_place a m) (printed f))
         ((printed e).at (left_place a m)) ((printed f).at (right_place a m)) l r (same_left m) (same_right m) at)
 
     some : 1 ≤ sign_level m
