@@ -12,7 +12,8 @@ use Rattle.st_grammar.proofs.PositionReading.{sound_defs}
 use Rattle.st_grammar.proofs.PositionComplete.{one_list_of_defs}
 use Rattle.st_parse_automaton.specs.Refusal.{terminals_of}
 use Rattle.st_parse_faults.specs.declared.fault.TokenFault.{TokenFault}
-use Rattle.st_parse_faults.specs.Faults.{passed, verdict, Faultless, FirstFault}
+use Rattle.st_parse_faults.specs.Judging.{passed}
+use Rattle.st_parse_faults.specs.Faults.{verdict, Faultless, FirstFault}
 use Rattle.st_parse_faults.specs.Place.{place_at}
 use Rattle.st_parse_faults.proofs.Verdicts.{verdict_reads}
 use Rattle.st_el.specs.declared.definition.Def.{Def}

@@ -29,7 +29,8 @@ use Rattle.st_parse_automaton.proofs.DefinitionSimulation.{is_some}
 use Rattle.st_parse_actions.specs.inner.Emits.{kept, emits, finishing, on_next, emissions}
 use Rattle.st_parse_actions.proofs.Whole.{part_emits}
 use Rattle.st_parse_exp.specs.Reading.{State, begun, turn, goes, step, start}
-use Rattle.st_parse_exp.specs.Faults.{Seen, passed, opens_too_many, passes_limit, limited, seen_after, judged, judge}
+use Rattle.st_parse_faults.specs.Judging.{passed, limited}
+use Rattle.st_parse_exp.specs.Faults.{Seen, opens_too_many, passes_limit, seen_after, judged, judge}
 use Rattle.st_parse_exp.specs.inner.Drafts.{IsBuilt, AreBuilt, with_exp, Draft, draft, Ends, Takes}
 use Rattle.st_parse_exp.proofs.Readings.{at, comma_ends}
 

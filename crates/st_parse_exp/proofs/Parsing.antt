@@ -35,7 +35,8 @@ use Rattle.st_num.specs.declared.fault.Fault.{Fault as SyntaxFault}
 use Rattle.st_num.specs.declared.fault.Fault.TheVariants.{Refused, Memory}
 use Rattle.st_parse_exp.specs.Expressions.{ParseExpressions, terminals_of}
 use Rattle.st_parse_exp.specs.Reading.{finish, whole}
-use Rattle.st_parse_exp.specs.Faults.{Seen, passed, judge, verdict, FirstFault}
+use Rattle.st_parse_faults.specs.Judging.{passed}
+use Rattle.st_parse_exp.specs.Faults.{Seen, judge, verdict, FirstFault}
 use Rattle.st_parse_exp.specs.inner.Seen as spec
 use Rattle.st_parse_exp.specs.inner.Drafts.{AreBuilt, Draft, Takes}
 use Rattle.st_parse_exp.specs.Parse.{ParseExps, IsFile, AreWhole, Answers}

@@ -21,6 +21,7 @@ use Rattle.st_parse_automaton.proofs.DefinitionSimulation.{step_is}
 use Rattle.st_parse_faults.specs.LeftOut.{is_type_in, type_or_other, before_next}
 use Rattle.st_parse_faults.specs.Nesting as nest
 use Rattle.st_parse_faults.specs.Counts as counts
+use Rattle.st_parse_faults.specs.Judging as verdicts
 use Rattle.st_parse_faults.specs.Faults as faults
 use Rattle.st_parse_faults.specs.inner.Seen as seen
 use Rattle.st_parse_faults.specs.declared.counts.Counts.{Counts}
@@ -237,9 +238,9 @@ summary s =
       tallies = tallies s.state;
     }
 
-abbrev pub view : faults.Verdict → seen.Verdict
-view (faults.passed s) = seen.passed (summary s)
-view (faults.broken r) = seen.broken r
+abbrev pub view : verdicts.Verdict faults.Seen → seen.Verdict
+view (verdicts.passed s) = seen.passed (summary s)
+view (verdicts.broken r) = seen.broken r
 
 pub too_many_is : (s : faults.Seen) (l : Terminal) → seen.opens_too_many (definitions_of s.state) s.nesting (shape l) ≡ faults.opens_too_many s l
 too_many_is s l =
@@ -249,7 +250,7 @@ too_many_is s l =
 pub kept_is : (s : faults.Seen) (l : Terminal) → seen.kept (summary s) (shape l) ≡ view (faults.kept s l)
 kept_is s l = ap (λ b. seen.limited b (faults.passes_limit s) (summary s)) (too_many_is s l) ∙ go (faults.opens_too_many s l) (faults.passes_limit s)
   where
-    go : (b c : Bool) → seen.limited b c (summary s) ≡ view (faults.limited b c s)
+    go : (b c : Bool) → seen.limited b c (summary s) ≡ view (verdicts.limited b c s)
     go true c = refl
     go false true = refl
     go false false = refl

@@ -8,6 +8,8 @@ pub mod Nesting
 pub mod Counts
 -- how many parts, elements and signs stand between the same brackets
 pub mod Limits
+-- tokens are judged one after another, up to the first that breaks a rule
+pub mod Judging
 -- the first token that breaks a rule, and the rule
 pub mod Faults
 -- where a token stands in the text

@@ -1,4 +1,5 @@
-use Rattle.st_parse_faults.proofs.Exact.{are_definitions, is_refused, not_later, grammar_s1, grammar_s4}
+use Rattle.st_parse_faults.proofs.Exact.{are_definitions, is_refused, not_later}
+use Rattle.st_parse_faults.proofs.JudgingLemmas.{grammar_s1, grammar_s4}
 use Rattle.st_num.specs.declared.rule.RuleId.TheVariants.{S1, S4}
 use Rattle.st_parse_faults.proofs.laws.faults_of_the_grammar.Goals as goal
 
