@@ -19,6 +19,9 @@ use Rattle.st_parse_faults.proofs.Verdicts.{verdict_reads}
 
 -- ---- fronts
 
+pub front_passes : (tokens : List Token) (j k : ℕ) (last : Seen) → j ≤ k → j ≤ length tokens → verdict tokens k ≡ passed last → (seen : Seen) × (verdict tokens j ≡ passed seen)
+front_passes tokens = judging.front_passes Seen (judge (declared_names tokens)) nothing_seen tokens
+
 pub passes_viable : (tokens : List Token) (k : ℕ) (seen : Seen) → verdict tokens k ≡ passed seen → IsViable tokens k
 passes_viable tokens k seen e = viable (declared_names tokens) (take k (terminals_of tokens)) seen.state (verdict_reads tokens k seen e)
 
@@ -76,7 +79,7 @@ not_later tokens j k r f g = go (nat_lt j k) refl
 
     late : RefusedAt tokens j → j < k → ⊥
     late (inl a) h =
-        let seen = judging.front_passes Seen (judge (declared_names tokens)) nothing_seen tokens (j + 1) k last.0 (omega arith) (omega (arith, a.0)) last.1 in
+        let seen = front_passes tokens (j + 1) k last.0 (omega arith) (omega (arith, a.0)) last.1 in
         a.2 (passes_viable tokens (j + 1) seen.0 seen.1)
     late (inr a) h = absurd (omega (arith, a.0, judging.fault_within Seen (judge (declared_names tokens)) nothing_seen tokens Defs ended k r g))
 
