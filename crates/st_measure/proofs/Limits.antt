@@ -12,7 +12,7 @@ use Rattle.st_scan.specs.declared.token.Token.{Token}
 use Rattle.st_measure.specs.Names.{same_name}
 use Rattle.st_measure.specs.Variables.{Occurrence, occurrence, occurrences}
 use Rattle.st_measure.specs.Limits.{first_of_each, place_past}
-use Rattle.st_measure.specs.Counting.{Knows}
+use Rattle.st_measure.specs.inner.Counting.{Knows}
 use Rattle.st_measure.proofs.Lists.{next_taken, cut}
 
 abbrev differs : Occurrence → Occurrence → Bool

@@ -1,10 +1,12 @@
+-- What must be believed of what is measured, in reading order.
+
+-- a name is among others
 pub mod Names
+-- the variables that occur in a part or a definition, in the order of the text
 pub mod Variables
-pub mod Noting
-pub mod Steps
+-- the first variable that has so many others before it
 pub mod Limits
-pub mod Counting
+-- how high premises and definitions are
 pub mod DefHeights
-pub mod Parts
-pub mod Aliases
-pub mod Answers
+-- ---- what only proofs need
+pub mod inner
