@@ -12,7 +12,7 @@ ghost use Rattle.st_notation.specs.declared.filled.Shape.{Shape};
 ghost use Rattle.st_notation.specs.Fits.{Filling};
 ghost use Rattle.st_notation.specs.Fitted.{plain, fillings};
 ghost use Rattle.st_elab_table.specs.Records.{is_omissible, omitted, aligned, field_names, fields_of_record, record_row, case_row, notation_row};
-ghost use Rattle.st_elab_rows.specs.Asking.{AnswersAll, LeadsTo};
+ghost use Rattle.st_elab_rows.specs.inner.Asking.{AnswersAll, LeadsTo};
 
 use crate::collection::{all_holes, other_row};
 use st_el::Exp;
@@ -20,7 +20,8 @@ use st_elab_rows::asking::{Asking, Context, Found, Part};
 use st_elab_rows::choice::{chosen_case, fill, shapes_of};
 use st_elab_rows::fitting::give_at;
 use st_elab_rows::record::field_types;
-use st_elab_table::{ExpFault, Within};
+use st_dims::Within;
+use st_elab_table::ExpFault;
 use st_il::{IlExp, Ty};
 use st_notation::{Filled, Shape};
 use st_num::{Name, NoMemory, Row, RuleId, Span};

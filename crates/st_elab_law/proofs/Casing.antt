@@ -27,7 +27,7 @@ use Rattle.st_erase.specs.Tags.{template_of, IsOf}
 use Rattle.st_erase.specs.Erasure.{case_by, erased}
 use Rattle.st_erase.proofs.TagLemmas.{is_template}
 use Rattle.st_elab_table.specs.declared.decls.Decls.{Decls}
-use Rattle.st_elab_table.specs.declared.within.Within.{Within}
+use Rattle.st_dims.specs.declared.within.Within.{Within}
 use Rattle.st_elab_table.specs.Choice.{shape_at, HasShape, HaveShapes, IsFirstWith, here, later, IsChosenBy, keyed, keyless, IsCaseOf}
 use Rattle.st_elab_table.specs.Questions.{Made, Chosen}
 use Rattle.st_elab_table.specs.Steps.{give, holes, exps}

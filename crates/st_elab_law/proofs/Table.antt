@@ -21,7 +21,7 @@ use Rattle.st_erase.specs.Places.{exp, whole}
 use Rattle.st_erase.specs.Erasure.{erased}
 use Rattle.st_elab_table.specs.declared.decls.Decls.{Decls}
 use Rattle.st_elab_table.specs.declared.decls.Scope.{Scope}
-use Rattle.st_elab_table.specs.declared.within.Within.{Within}
+use Rattle.st_dims.specs.declared.within.Within.{Within}
 use Rattle.st_elab_table.specs.declared.operator.Operator.{Operator}
 use Rattle.st_elab_table.specs.declared.operator.Operator.TheVariants as operator
 use Rattle.st_elab_table.specs.Operators.{operator_of}

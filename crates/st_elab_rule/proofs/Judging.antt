@@ -13,7 +13,7 @@ use Rattle.st_notation.specs.Fitted.{fillings}
 use Rattle.st_elab_table.specs.declared.decls.Decls.{Decls}
 use Rattle.st_elab_table.specs.declared.decls.Scope.{Scope}
 use Rattle.st_num.specs.declared.fault.Fault.{Fault as ExpFault}
-use Rattle.st_elab_table.specs.declared.within.Within.{Within}
+use Rattle.st_dims.specs.declared.within.Within.{Within}
 use Rattle.st_elab_table.specs.Forms.{place}
 use Rattle.st_elab_table.specs.Steps.{exp_of, holes}
 use Rattle.st_elab_table.specs.Choice.{FillsCase}

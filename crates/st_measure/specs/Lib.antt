@@ -1,7 +1,5 @@
 -- What must be believed of what is measured, in reading order.
 
--- a name is among others
-pub mod Names
 -- the variables that occur in a part or a definition, in the order of the text
 pub mod Variables
 -- the first variable that has so many others before it

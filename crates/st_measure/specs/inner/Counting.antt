@@ -2,7 +2,7 @@
 use Rattle.std.specs.Prelude.{◌≡◌, ℕ, ◌≤◌, List, ◌++◌, length, Option, Some, MatchOption}
 use Rattle.std.specs.List.{list_any}
 use Rattle.st_num.specs.declared.span.Span.{Span}
-use Rattle.st_measure.specs.Names.{same_name}
+use Rattle.st_num.specs.Names.{same_name}
 use Rattle.st_measure.specs.Variables.{Occurrence}
 use Rattle.st_measure.specs.Limits.{first_of_each, place_past}
 

@@ -1,8 +1,8 @@
 use Rattle.std.proofs.Common.{subst}
 use Rattle.st_elab_table.specs.Steps.{lifted_to}
-use Rattle.st_elab_rows.specs.Asking.{made_by}
+use Rattle.st_elab_rows.specs.inner.Asking.{made_by}
 use Rattle.st_elab_rows.specs.Told.{Leading}
-use Rattle.st_elab_rows.specs.Words.{lift_of}
+use Rattle.st_elab_rows.specs.inner.Words.{lift_of}
 use Rattle.st_elab_rows.specs.declared.fitting.Lifting.TheVariants as lifting
 use Rattle.st_elab_rows.proofs.Leaves.{refuted, proved, fitted_same, fitted_up, fitted_list, fitted_option, fitted_fails}
 use Rattle.st_elab_rows.proofs.Builds.{leading_by, gives_is}
