@@ -19,7 +19,7 @@ pub fn plain_exp(alloc: Global, exp: &Exp) -> Result<Exp, NoMemory>
 }
 
 #[cycle(plain)]
-fn plain_boxed(alloc: Global, exp: &Boxed<Exp>) -> Result<Boxed<Exp>, NoMemory>
+fn plain_box(alloc: Global, exp: &Boxed<Exp>) -> Result<Boxed<Exp>, NoMemory>
     ensures { IfOk result (λ plain. plain ≡ plain_exp exp.now) }
 {
     Boxed::new(alloc, plain_exp(alloc, exp.get())?)
@@ -38,51 +38,36 @@ fn plain_node(alloc: Global, node: &Node) -> Result<Node, NoMemory>
         Node::Eps => Ok(Node::Eps),
         Node::Seq(parts) => Ok(Node::Seq(plain_exps(alloc, parts.as_slice())?)),
         Node::Infix(left, sign, right) => {
-            let left = plain_boxed(alloc, left)?;
-            Ok(Node::Infix(left, *sign, plain_boxed(alloc, right)?))
+            Ok(Node::Infix(plain_box(alloc, left)?, *sign, plain_box(alloc, right)?))
         }
         Node::Binary(left, sign, right) => {
-            let left = plain_boxed(alloc, left)?;
-            Ok(Node::Binary(left, *sign, plain_boxed(alloc, right)?))
+            Ok(Node::Binary(plain_box(alloc, left)?, *sign, plain_box(alloc, right)?))
         }
-        Node::Not(inner) => Ok(Node::Not(plain_boxed(alloc, inner)?)),
-        Node::Neg(inner) => Ok(Node::Neg(plain_boxed(alloc, inner)?)),
+        Node::Not(inner) => Ok(Node::Not(plain_box(alloc, inner)?)),
+        Node::Neg(inner) => Ok(Node::Neg(plain_box(alloc, inner)?)),
         Node::Arith(inner) | Node::Paren(inner) => plain_node(alloc, &inner.get().node),
-        Node::Bracket(sign, inner) => Ok(Node::Bracket(*sign, plain_boxed(alloc, inner)?)),
+        Node::Bracket(sign, inner) => Ok(Node::Bracket(*sign, plain_box(alloc, inner)?)),
         Node::Tuple(parts) => Ok(Node::Tuple(plain_exps(alloc, parts.as_slice())?)),
         Node::Fields(fields) => Ok(Node::Fields(plain_fields(alloc, fields.as_slice())?)),
-        Node::Dot(whole, field) => {
-            let whole = plain_boxed(alloc, whole)?;
-            Ok(Node::Dot(whole, field.copy(alloc)?))
-        }
-        Node::At(whole, at) => {
-            let whole = plain_boxed(alloc, whole)?;
-            Ok(Node::At(whole, plain_boxed(alloc, at)?))
-        }
+        Node::Dot(whole, field) => Ok(Node::Dot(plain_box(alloc, whole)?, field.copy(alloc)?)),
+        Node::At(whole, at) => Ok(Node::At(plain_box(alloc, whole)?, plain_box(alloc, at)?)),
         Node::Slice(whole, from, count) => {
-            let whole = plain_boxed(alloc, whole)?;
-            let from = plain_boxed(alloc, from)?;
-            Ok(Node::Slice(whole, from, plain_boxed(alloc, count)?))
+            let from = plain_box(alloc, from)?;
+            Ok(Node::Slice(plain_box(alloc, whole)?, from, plain_box(alloc, count)?))
         }
         Node::Update(whole, path, part) => {
-            let whole = plain_boxed(alloc, whole)?;
             let path = plain_path(alloc, path.as_slice())?;
-            Ok(Node::Update(whole, path, plain_boxed(alloc, part)?))
+            Ok(Node::Update(plain_box(alloc, whole)?, path, plain_box(alloc, part)?))
         }
         Node::Extend(whole, path, part) => {
-            let whole = plain_boxed(alloc, whole)?;
             let path = plain_path(alloc, path.as_slice())?;
-            Ok(Node::Extend(whole, path, plain_boxed(alloc, part)?))
+            Ok(Node::Extend(plain_box(alloc, whole)?, path, plain_box(alloc, part)?))
         }
-        Node::Len(inner) => Ok(Node::Len(plain_boxed(alloc, inner)?)),
+        Node::Len(inner) => Ok(Node::Len(plain_box(alloc, inner)?)),
         Node::Call(name, args) => {
-            let name = name.copy(alloc)?;
-            Ok(Node::Call(name, plain_exps(alloc, args.as_slice())?))
+            Ok(Node::Call(name.copy(alloc)?, plain_exps(alloc, args.as_slice())?))
         }
-        Node::Iter(body, count) => {
-            let body = plain_boxed(alloc, body)?;
-            Ok(Node::Iter(body, plain_count(alloc, count)?))
-        }
+        Node::Iter(exp, by) => Ok(Node::Iter(plain_box(alloc, exp)?, plain_count(alloc, by)?)),
     }
 }
 
@@ -143,10 +128,10 @@ pub fn plain_count(alloc: Global, count: &Count) -> Result<Count, NoMemory>
         Count::Star => Ok(Count::Star),
         Count::Plus => Ok(Count::Plus),
         Count::Quest => Ok(Count::Quest),
-        Count::Times(times) => Ok(Count::Times(plain_boxed(alloc, times)?)),
+        Count::Times(times) => Ok(Count::Times(plain_box(alloc, times)?)),
         Count::Below(index, times) => {
             let index = index.copy(alloc)?;
-            Ok(Count::Below(index, plain_boxed(alloc, times)?))
+            Ok(Count::Below(index, plain_box(alloc, times)?))
         }
     }
 }
