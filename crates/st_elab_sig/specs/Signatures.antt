@@ -5,8 +5,8 @@ use Rattle.st_el.specs.declared.notation.Notation.{Notation, fold-Notation}
 use Rattle.st_el.specs.declared.notation.NotNode.TheOpen.{NotNode-F}
 use Rattle.st_il.specs.declared.template.Template.{Template}
 use Rattle.st_il.specs.declared.template.Template.TheVariants as template
-use Rattle.st_il.specs.declared.template.Word.{Word}
-use Rattle.st_il.specs.Template.{words_of, written, tag_of}
+use Rattle.st_il.specs.declared.template.TagPart.{TagPart}
+use Rattle.st_il.specs.Template.{tag_parts_of, written, tag_of}
 use Rattle.st_elab_sig.specs.declared.signature.Signature.{Signature}
 use Rattle.st_elab_sig.specs.Types.{ty_of}
 
@@ -42,9 +42,9 @@ pub record IsSignature (notation : Notation) (signature : Signature) : Type 0 wh
 -- ---- how a tag is built
 
 -- the words of a notation, in order
-abbrev pub words_in : Notation → List Word
-words_in notation = words_of (template_of notation)
+abbrev pub words_in : Notation → List TagPart
+words_in notation = tag_parts_of (template_of notation)
 
 -- words with a space behind each
-abbrev pub trailed : List Word → List ℕ
+abbrev pub trailed : List TagPart → List ℕ
 trailed words = flat_map (λ word. written word ++ 32 ∷ []) words
