@@ -1,4 +1,5 @@
 pub mod Lists
+mod Counts
 mod Nodes
 mod Shortest
 mod Unique

@@ -8,10 +8,10 @@ use Rattle.st_el.specs.declared.expression.Node.TheVariants as v
 use Rattle.st_el.specs.declared.expression.Count.{Count}
 use Rattle.st_el.specs.declared.expression.Count.TheOpen.{Node-F}
 use Rattle.st_el.specs.declared.expression.Seg.{Seg}
-use Rattle.st_dims.specs.declared.mention.Within.{Within}
+use Rattle.st_dims.specs.declared.within.Within.{Within}
 use Rattle.st_dims.specs.declared.mention.Mention.{Mention}
 use Rattle.st_dims.specs.declared.mention.Mention.TheVariants.{Indexes}
-use Rattle.st_dims.specs.Mentions.{Sees, Marked, marked, marked_at, mentions_node_at, mentions_seg_at, mentions_exp_at, mentions_exp, mentions_node, mentions_seg, iterated, seen_in, fields_seen, field_mentions, iteration, inside}
+use Rattle.st_dims.specs.Mentions.{Sees, Marked, marked, marked_at, mentions_node_at, mentions_seg_at, mentions_exp_at, mentions_exp, mentions_node, mentions_seg, iterated, seen_in, fields_seen, field_mentions, iteration, body_round}
 
 -- a level with what is mentioned in its parts
 abbrev pub parts_seen : Node-F Count Node Seg Exp → Node-F Marked (Span → Sees) Sees Sees
@@ -58,25 +58,16 @@ node-Fields node fields at within is = node-opened node _ at within (ap out-Node
 
 -- ---- what stands behind what was there
 
-pub two_end :
-    {A : Type 0} (old first a b whole : List A) → first ≡ old ++ a → whole ≡ a ++ b → first ++ b ≡ old ++ whole
-two_end old first a b whole f w = grind (arith, common_steps)
-
-pub three_end :
-    {A : Type 0} (old first second a b c whole : List A) → first ≡ old ++ a → second ≡ first ++ b → whole ≡ a ++ b ++ c
-    → second ++ c ≡ old ++ whole
-three_end old first second a b c whole f s w = grind (arith, common_steps)
-
 four_end :
     {A : Type 0} (old first a b c d : List A) → first ≡ old ++ a ++ b ++ c → first ++ d ≡ old ++ (a ++ b ++ c ++ d)
 four_end old first a b c d f = grind (arith, common_steps)
 
 pub iterated_end :
     (mark : Marked) (sees : Sees) (at : Span) (within inner : Within) (body old first : List Mention)
-    → inner ≡ inside mark within → body ≡ [] ++ sees inner
+    → inner ≡ body_round mark within → body ≡ [] ++ sees inner
     → first ≡ old ++ iteration mark at within body ++ map Indexes mark.index ++ body
     → first ++ mark.count within ≡ old ++ iterated mark sees at within
 iterated_end mark sees at within inner body old first i b f =
-    let is : body ≡ sees (inside mark within) = b ∙ ap sees i in
+    let is : body ≡ sees (body_round mark within) = b ∙ ap sees i in
     four_end old first (iteration mark at within body) (map Indexes mark.index) body (mark.count within) f
     ∙ ap (λ x. old ++ (iteration mark at within x ++ map Indexes mark.index ++ x ++ mark.count within)) is

@@ -12,8 +12,8 @@ use Rattle.std.proofs.lemmas.Map.Text.{is_eq-slice_cmp}
 use Rattle.std.proofs.lemmas.Slice.Eq.{bytes_eq-Decides}
 use Rattle.st_num.specs.declared.dim.Kind.{Kind}
 use Rattle.st_dims.specs.declared.mention.Occurrence.{Occurrence}
-use Rattle.st_dims.specs.Names.{same_name}
-use Rattle.st_dims.specs.Noting.{is_shorter}
+use Rattle.st_num.specs.Names.{same_name}
+use Rattle.st_dims.specs.inner.Noting.{is_shorter}
 use Rattle.st_dims.specs.Dimensions.{Table, chains_of, IsFirstShortest, dimension_in, HasDimensions}
 
 -- a map finds names by their order

@@ -11,7 +11,7 @@ use Rattle.std.proofs.lemmas.List.Elements.{All-head, All-tail}
 use Rattle.std.proofs.lemmas.Map.Text.{is_eq-slice_cmp}
 use Rattle.st_num.specs.declared.dim.Kind.{Kind}
 use Rattle.st_dims.specs.declared.mention.Mention.{Mention}
-use Rattle.st_dims.specs.Names.{same_name}
+use Rattle.st_num.specs.Names.{same_name}
 use Rattle.st_dims.specs.Mentions.{occurrences_in}
 use Rattle.st_dims.specs.Dimensions.{Table, IsFirstShortest, IsOrdered, IsTable, IsOnlyTable, chains_of, dimension_in, HasDimensions}
 use Rattle.st_dims.proofs.Shortest.{Longer, NoShorter, Fits}

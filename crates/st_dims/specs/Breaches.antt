@@ -9,7 +9,7 @@ use Rattle.st_dims.specs.declared.fault.DimFault.TheVariants.{I1, I2, Memory}
 use Rattle.st_dims.specs.declared.mention.Occurrence.{Occurrence}
 use Rattle.st_dims.specs.declared.mention.Iteration.{Iteration}
 use Rattle.st_dims.specs.declared.mention.Mention.{Mention}
-use Rattle.st_dims.specs.Names.{is_among}
+use Rattle.st_num.specs.Names.{is_among}
 use Rattle.st_dims.specs.Mentions.{occurrences_in, indices_in, iterations_in}
 use Rattle.st_dims.specs.Dimensions.{Table, dimension_in, IsOnlyTable}
 

@@ -7,7 +7,7 @@ use Rattle.std.specs.Map.{lookup}
 use Rattle.st_num.specs.declared.dim.Kind.{Kind}
 use Rattle.st_dims.specs.declared.mention.Occurrence.{Occurrence}
 use Rattle.st_dims.specs.declared.mention.Mention.{Mention}
-use Rattle.st_dims.specs.Names.{same_name}
+use Rattle.st_num.specs.Names.{same_name}
 use Rattle.st_dims.specs.Mentions.{occurrences_in}
 
 -- variables with their dimensions

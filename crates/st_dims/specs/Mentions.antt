@@ -2,7 +2,6 @@
 use Rattle.std.specs.Prelude.{ℕ, List, [], ◌∷◌, ◌++◌, length, map, flat_map, Bool, true, false, if◌then◌else◌}
 use Rattle.st_num.specs.declared.span.Span.{Span}
 use Rattle.st_num.specs.declared.dim.Kind.{Kind}
-use Rattle.st_num.specs.declared.dim.Kind.TheVariants as kind
 use Rattle.st_el.specs.declared.expression.Exp.{Exp, Exp-F, fold-Exp}
 use Rattle.st_el.specs.declared.expression.Node.{Node, fold-Node}
 use Rattle.st_el.specs.declared.expression.Count.{Count, fold-Count}
@@ -11,12 +10,13 @@ use Rattle.st_el.specs.declared.expression.Seg.{Seg, fold-Seg}
 use Rattle.st_el.specs.declared.definition.Prem.{Prem, Prem-F, fold-Prem}
 use Rattle.st_el.specs.declared.definition.PremNode.{PremNode, fold-PremNode}
 use Rattle.st_el.specs.declared.definition.PremNode.TheOpen.{PremNode-F}
-use Rattle.st_dims.specs.declared.mention.Within.{Within}
+use Rattle.st_dims.specs.declared.within.Within.{Within}
+use Rattle.st_dims.specs.Around.{kind_at, index_at, outside, entered}
 use Rattle.st_dims.specs.declared.mention.Occurrence.{Occurrence}
 use Rattle.st_dims.specs.declared.mention.Iteration.{Iteration}
 use Rattle.st_dims.specs.declared.mention.Mention.{Mention}
 use Rattle.st_dims.specs.declared.mention.Mention.TheVariants.{Occurs, Indexes, Iterates}
-use Rattle.st_dims.specs.Names.{is_among}
+use Rattle.st_num.specs.Names.{is_among}
 
 -- the occurrences of variables, the names of indices, and the iterations among what is mentioned
 abbrev pub occurrence_of : Mention → List Occurrence
@@ -57,13 +57,9 @@ pub record Marked : Type 0 where
   pub must_iterate : Bool
   pub count : Sees
 
--- what stands round a part that is in no iteration, and round the body of an iteration
-abbrev pub outside : Within
-outside = record { kinds = []; indices = [] }
-
-abbrev pub inside : Marked → Within → Within
-inside mark within =
-    record { kinds = within.kinds ++ mark.kind ∷ []; indices = within.indices ++ mark.index }
+-- what stands round the body of this iteration
+abbrev pub body_round : Marked → Within → Within
+body_round mark within = entered mark.kind mark.index within
 
 -- a name belongs to a body that has it as its index, and is else a variable
 abbrev pub occurrence : List ℕ → Span → Within → List Mention
@@ -81,20 +77,24 @@ iteration mark at within body =
 -- An iteration, its index and its body. The count of the iteration stands outside of it.
 abbrev pub iterated : Marked → Sees → Span → Within → List Mention
 iterated mark body at within =
-    iteration mark at within (body (inside mark within)) ++ map Indexes mark.index
-    ++ body (inside mark within) ++ mark.count within
+    iteration mark at within (body (body_round mark within)) ++ map Indexes mark.index
+    ++ body (body_round mark within) ++ mark.count within
+
+-- an iteration that says how often it goes need not iterate anything
+abbrev pub must_iterate_at : {C N S E : Type 0} → Count-F C N S E → Bool
+must_iterate_at (Count-F.Times count) = false
+must_iterate_at (Count-F.Below index count) = false
+must_iterate_at _ = true
+
+abbrev pub count_at : Count-F Marked (Span → Sees) Sees Sees → Sees
+count_at (Count-F.Times count) = count
+count_at (Count-F.Below index count) = count
+count_at _ = λ within. []
 
 abbrev pub marked_at : Count-F Marked (Span → Sees) Sees Sees → Marked
-marked_at Count-F.Star =
-    record { kind = kind.List; index = []; must_iterate = true; count = λ within. [] }
-marked_at Count-F.Plus =
-    record { kind = kind.List; index = []; must_iterate = true; count = λ within. [] }
-marked_at Count-F.Quest =
-    record { kind = kind.Opt; index = []; must_iterate = true; count = λ within. [] }
-marked_at (Count-F.Times count) =
-    record { kind = kind.List; index = []; must_iterate = false; count = count }
-marked_at (Count-F.Below index count) =
-    record { kind = kind.List; index = index ∷ []; must_iterate = false; count = count }
+marked_at level =
+    record
+    { kind = kind_at level; index = index_at level; must_iterate = must_iterate_at level; count = count_at level }
 
 -- what is mentioned in parts, from left to right
 abbrev pub seen_in : List Sees → Within → List Mention

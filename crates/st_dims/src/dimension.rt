@@ -8,9 +8,10 @@ ghost use Rattle.st_dims.specs.Breaches.{begins_with, is_misplaced, misplaced, i
 
 use crate::DimFault;
 use crate::expression::{mention_exp, mention_exps};
-use crate::mention::{Iteration, Mention, Occurrence, Within, is_among};
+use crate::mention::{Iteration, Mention, Occurrence};
 use crate::premise::mention_prems;
 use crate::table::{Shortest, chain_of, dimensions, rows};
+use crate::within::{Within, is_among};
 use st_el::{Exp, Prem};
 use st_num::{Dim, Kind, Name, NoMemory, Row, Span};
 use std::alloc::Global;

@@ -18,7 +18,9 @@ mod premise;
 mod table;
 #[cfg(test)]
 mod tests;
+mod within;
 
 pub use dimension::{dimensions_of, dims, mentions_of};
 pub use fault::DimFault;
 pub use mention::{Iteration, Mention, Occurrence};
+pub use within::{Within, is_among, kind_of};

@@ -1,19 +1,11 @@
 //! What bears on dimensions: occurrences, indices and iterations.
 
-ghost use Rattle.std.specs.Prelude.{◌≡◌, ◌++◌, IfOk, OnOk};
-ghost use Rattle.st_dims.specs.Names.{is_among};
-ghost use Rattle.st_dims.specs.Mentions.{marked, inside, outside};
+ghost use Rattle.std.specs.Prelude.{◌≡◌};
+ghost use Rattle.st_el.specs.declared.expression.Count.{out-Count};
+ghost use Rattle.st_dims.specs.Mentions.{must_iterate_at};
 
 use st_el::Count;
-use st_num::{Dim, Kind, Name, NoMemory, Row, Span};
-use std::alloc::Global;
-
-/// What stands round a part: the kinds of its iterations, outermost first, and their indices.
-#[derive(Drop)]
-pub struct Within {
-    pub kinds: Dim,
-    pub indices: Row<Name>,
-}
+use st_num::{Dim, Name, Row, Span};
 
 /// A variable at a place, with the kinds of the iterations round it, outermost first.
 #[derive(Drop)]
@@ -40,74 +32,12 @@ pub enum Mention {
     Iterates(Iteration),
 }
 
-pub fn kind_of(count: &Count) -> Kind
-    ensures { result ≡ (marked count.now).kind }
-{
-    match count {
-        Count::Star | Count::Plus | Count::Times(_) | Count::Below(_, _) => Kind::List,
-        Count::Quest => Kind::Opt,
-    }
-}
-
 /// Whether the iteration has to iterate something: all but those that say how often they go.
 pub fn must_iterate(count: &Count) -> bool
-    ensures { result ≡ (marked count.now).must_iterate }
+    ensures { result ≡ must_iterate_at (out-Count count.now) }
 {
     match count {
         Count::Star | Count::Plus | Count::Quest => true,
         Count::Times(_) | Count::Below(_, _) => false,
-    }
-}
-
-/// The index of the iteration, where it has one.
-pub fn index_of(alloc: Global, count: &Count) -> Result<Row<Name>, NoMemory>
-    ensures { IfOk result (λ index. index ≡ (marked count.now).index) }
-{
-    let mut indices = Row::new(alloc);
-    match count {
-        Count::Below(index, _) => indices.push(index.copy(alloc)?)?,
-        Count::Star | Count::Plus | Count::Quest | Count::Times(_) => {}
-    }
-    Ok(indices)
-}
-
-pub fn is_among(name: &Name, names: &[Name]) -> bool
-    ensures { result ≡ is_among name.now names.now }
-{
-    names.contains(name)
-}
-
-/// Adds copies of names behind those that are there.
-pub fn copy_names(alloc: Global, names: &[Name], copies: &mut Row<Name>) -> Result<(), NoMemory>
-    ensures { OnOk result (copies.new ≡ copies.old ++ names.now) }
-{
-    for name in names {
-        copies.push(name.copy(alloc)?)?;
-    }
-    Ok(())
-}
-
-impl Within {
-    /// What stands round a part that is in no iteration.
-    pub fn new(alloc: Global) -> Within
-        ensures { result ≡ outside }
-    {
-        Within {
-            kinds: Dim::new(alloc),
-            indices: Row::new(alloc),
-        }
-    }
-
-    /// What stands round the body of an iteration that stands here.
-    pub fn inside(&self, alloc: Global, count: &Count) -> Result<Within, NoMemory>
-        ensures { IfOk result (λ within. within ≡ inside (marked count.now) self.now) }
-    {
-        let mut kinds = Dim::from_slice(alloc, self.kinds.as_slice())?;
-        kinds.push(kind_of(count))?;
-        let mut indices = Row::new(alloc);
-        copy_names(alloc, self.indices.as_slice(), &mut indices)?;
-        let index = index_of(alloc, count)?;
-        copy_names(alloc, index.as_slice(), &mut indices)?;
-        Ok(Within { kinds, indices })
     }
 }

@@ -1,10 +1,11 @@
 //! What is mentioned in premises.
 
 ghost use Rattle.std.specs.Prelude.{◌≡◌, ◌++◌, map, OnOk};
-ghost use Rattle.st_dims.specs.Mentions.{marked, inside, iteration, seen_in, mentions_exp, mentions_prem, mentions_prem_node};
+ghost use Rattle.st_dims.specs.Mentions.{marked, body_round, iteration, seen_in, mentions_exp, mentions_prem, mentions_prem_node};
 
 use crate::expression::{add_body, mention_count, mention_exp};
-use crate::mention::{Mention, Within};
+use crate::mention::Mention;
+use crate::within::Within;
 use st_el::{Prem, PremNode};
 use st_num::{NoMemory, Span};
 use std::alloc::Global;
@@ -23,6 +24,7 @@ pub fn mention_prem(
 }
 
 #[cycle(mention_prem)]
+#[tactic(auto, using(crate::proofs::Counts::marked_round))]
 fn mention_prem_node(
     alloc: Global,
     node: &PremNode,

@@ -6,7 +6,7 @@ ghost use Rattle.st_dims.specs.declared.mention.Occurrence.{Occurrence};
 ghost use Rattle.st_dims.specs.declared.mention.Mention.{Mention};
 ghost use Rattle.st_dims.specs.Mentions.{occurrences_in};
 ghost use Rattle.st_dims.specs.Dimensions.{HasDimensions, IsOrdered, dimension_in};
-ghost use Rattle.st_dims.specs.Noting.{is_shorter};
+ghost use Rattle.st_dims.specs.inner.Noting.{is_shorter};
 
 use crate::mention::{Mention, Occurrence};
 use st_num::{Dim, Name, NoMemory, Row};

@@ -2,7 +2,7 @@
 use Rattle.std.proofs.Common.{◌≡◌, ℕ, ◌+◌, ◌≤◌, ◌<◌, List, [], ◌∷◌, ◌++◌, length, take, get_or, Option, Some, sym, ap, ◌∙◌}
 use Rattle.std.proofs.lemmas.List.{take_more, take_all}
 use Rattle.st_parse_builder.specs.declared.action.Action.{Action}
-use Rattle.st_draft.specs.Parts.{all_built}
+use Rattle.st_draft.specs.inner.Parts.{all_built}
 use Rattle.st_draft.proofs.Built.{all_more}
 
 pub one_more : (A : Type 0) (f : List Action → Option A) (xs : List (List Action)) (i : ℕ) (x : List Action) (ys : List A) (a : A)

@@ -12,12 +12,12 @@ use Rattle.st_parse_builder.specs.declared.notation_piece.NotationPiece.TheVaria
 use Rattle.st_parse_builder.specs.Meaning.{meaning, meanings}
 use Rattle.st_parse_builder.specs.Notations.{hole, typ_meaning, typ_meanings, notation_meaning}
 use Rattle.st_parse_builder.specs.declared.piece.Piece.TheVariants.{Done}
-use Rattle.st_parse_builder.specs.Actions.{acts}
-use Rattle.st_parse_builder.specs.Building.{run}
-use Rattle.st_parse_builder.specs.NotationBuilding.{Stack, run as run_notation, the_typ, the_notation, typ_built, notation_built}
+use Rattle.st_parse_builder.specs.inner.Actions.{acts}
+use Rattle.st_parse_builder.specs.inner.Building.{run}
+use Rattle.st_parse_builder.specs.inner.NotationBuilding.{Stack, run as run_notation, the_typ, the_notation, typ_built, notation_built}
 use Rattle.st_parse_builder.proofs.Builds.{builds}
 use Rattle.st_parse_builder.proofs.NotationBuilds.{type_hole, typ_builds, notation_builds}
-use Rattle.st_draft.specs.Parts.{the_exp, exp_built, all_built}
+use Rattle.st_draft.specs.inner.Parts.{the_exp, exp_built, all_built}
 use Rattle.st_draft.proofs.DraftOf.{arguments_acts}
 
 pub exp_from : (actions : List Action) (e : Exp) → run actions [] ≡ Some (Done e ∷ []) → exp_built actions ≡ Some e

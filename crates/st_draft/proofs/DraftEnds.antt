@@ -14,7 +14,7 @@ use Rattle.st_grammar.specs.Positions.{Head, syntax_head, Rule, rule_head, claus
 use Rattle.st_grammar.proofs.Sound.{and_left, and_right}
 use Rattle.st_grammar.proofs.PositionTexts.{PositionHolds}
 use Rattle.st_parse_automaton.specs.declared.position.Position.TheVariants as position
-use Rattle.st_parse_automaton.specs.Shapes.{shape}
+use Rattle.st_parse_automaton.specs.inner.Shapes.{shape}
 use Rattle.st_parse_automaton.proofs.DefinitionView as view
 use Rattle.st_parse_automaton.proofs.DefinitionView.{definitions_of}
 use Rattle.st_el.specs.declared.notation.Notation.{Notation, out-Notation}
@@ -29,8 +29,8 @@ use Rattle.st_parse_builder.specs.Notations.{typ_meaning, notation_meaning, spel
 use Rattle.st_parse_builder.specs.Definitions.{name_in, fragment_name, rule_name as name_of_rule, hints_meaning, cases_meaning, body_meaning, premises_meaning, def_at, defs_meaning, params, patterns}
 use Rattle.st_draft.specs.declared.change.Change.TheVariants as change
 use Rattle.st_draft.specs.declared.change.Ending.TheVariants as ending
-use Rattle.st_draft.specs.Changes.{ending_of, change_at, change_of}
-use Rattle.st_draft.specs.Drafts.{alias_or, body_of, or_empty, begun, ended, applied, arguments_after}
+use Rattle.st_draft.specs.inner.Changes.{ending_of, change_at, change_of}
+use Rattle.st_draft.specs.inner.Drafts.{alias_or, body_of, or_empty, begun, ended, applied, arguments_after}
 use Rattle.st_draft.proofs.DraftOf.{place_of, has_dots, position_draft, args_acts, position_args}
 use Rattle.st_draft.proofs.DraftSteps.{FitsAs, Changes, Changed, own_changes, dots_same}
 

@@ -12,7 +12,7 @@ use Rattle.st_parse_builder.specs.Meaning.{meaning, count_of}
 use Rattle.st_parse_builder.specs.Notations.{typ_meaning, notation_meaning}
 use Rattle.st_parse_builder.specs.Definitions as meant
 use Rattle.st_parse_builder.specs.Definitions.{place_in, condition, hints_meaning, prem_at}
-use Rattle.st_draft.specs.Drafts.{no_sides, premises_so_far, condition_node, typ_filled, notation_filled, condition_filled, exp_filled, count_filled}
+use Rattle.st_draft.specs.inner.Drafts.{no_sides, premises_so_far, condition_node, typ_filled, notation_filled, condition_filled, exp_filled, count_filled}
 use Rattle.st_draft.proofs.DraftOf.{drafted, cases_body, rule_draft, goal_of, premise_at, slot_draft, position_draft}
 use Rattle.st_draft.proofs.DraftSteps.{span_opened}
 

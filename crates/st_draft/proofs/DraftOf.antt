@@ -14,14 +14,14 @@ use Rattle.st_el.specs.Plain.{nowhere}
 use Rattle.st_parse_builder.specs.declared.action.Action.{Action}
 use Rattle.st_parse_builder.specs.Meaning.{meaning, label}
 use Rattle.st_parse_builder.specs.Notations.{typ_meaning, notation_meaning}
-use Rattle.st_parse_builder.specs.Actions.{acts}
+use Rattle.st_parse_builder.specs.inner.Actions.{acts}
 use Rattle.st_parse_builder.specs.Definitions as meant
 use Rattle.st_parse_builder.specs.Definitions.{name_in, place_in, fragment_name, hints_meaning, fields_meaning, cases_meaning, has_dots_before, condition, premises_meaning, params, patterns, defs_meaning}
 use Rattle.st_draft.specs.declared.draft.Members.{Members as Body}
 use Rattle.st_draft.specs.declared.draft.Sides.{Sides}
 use Rattle.st_draft.specs.declared.draft.Premises.{Premises as Prems}
 use Rattle.st_draft.specs.declared.draft.Draft.{Draft}
-use Rattle.st_draft.specs.Drafts.{no_hint, no_members as no_body, no_sides, premises_so_far, begun, with_hints}
+use Rattle.st_draft.specs.inner.Drafts.{no_hint, no_members as no_body, no_sides, premises_so_far, begun, with_hints}
 
 abbrev pub place_of : Terminal → Span
 place_of l = (token_in l).at

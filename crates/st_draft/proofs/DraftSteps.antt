@@ -23,16 +23,16 @@ use Rattle.st_el.specs.declared.definition.DefNode.TheVariants as def
 use Rattle.st_parse_builder.specs.Definitions as meant
 use Rattle.st_parse_automaton.proofs.DefinitionView.{rounds, definitions_of}
 use Rattle.st_parse_automaton.proofs.DefinitionView as view
-use Rattle.st_parse_automaton.specs.Shapes.{shape}
+use Rattle.st_parse_automaton.specs.inner.Shapes.{shape}
 use Rattle.st_el.specs.declared.notation.Notation.{Notation}
 use Rattle.st_el.specs.declared.definition.Body.TheVariants as body
 use Rattle.st_el.specs.Plain.{nowhere}
 use Rattle.st_parse_builder.specs.Meaning.{meaning, label}
 use Rattle.st_parse_builder.specs.Notations.{notation_meaning}
 use Rattle.st_parse_builder.specs.Definitions.{name_in, place_in, fragment_name, piece_text, hint_meaning, hints_meaning, fields_meaning, opened_at, sign_count, condition, premises_meaning, prem_at, params, patterns, has_dots_before, cases_meaning, body_meaning, def_at, defs_meaning}
-use Rattle.st_draft.specs.Changes.{change_of}
+use Rattle.st_draft.specs.inner.Changes.{change_of}
 use Rattle.st_draft.specs.declared.draft.Draft.{Draft}
-use Rattle.st_draft.specs.Drafts.{no_hint, no_members as no_body, no_sides, premises_so_far, begun as begun_draft, with_hints, id_with, span_or, shape_count, body_of, applied, arguments_after}
+use Rattle.st_draft.specs.inner.Drafts.{no_hint, no_members as no_body, no_sides, premises_so_far, begun as begun_draft, with_hints, id_with, span_or, shape_count, body_of, applied, arguments_after}
 use Rattle.st_parse_builder.specs.declared.action.Action.{Action}
 use Rattle.st_draft.proofs.DraftOf.{place_of, drafted, fields_body, cases_body, head_draft, rule_draft, has_dots, host_draft, premise_at, slot_draft, position_draft, arguments_acts, args_acts, position_args, slot_args}
 

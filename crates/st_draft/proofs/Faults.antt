@@ -17,19 +17,19 @@ use Rattle.st_parse_builder.specs.declared.piece.Piece.{Piece}
 use Rattle.st_parse_builder.specs.declared.piece.Piece.TheVariants.{Done, Parts, Fields, Path, Label, Here}
 use Rattle.st_parse_builder.specs.declared.fault.BuildFault.{BuildFault}
 use Rattle.st_parse_builder.specs.declared.fault.BuildFault.TheVariants.{Unfit, TooHigh, Memory}
-use Rattle.st_parse_builder.specs.Answers.{Builds}
-use Rattle.st_parse_builder.specs.NotationAnswers as notations
+use Rattle.st_parse_builder.specs.inner.Answers.{Builds}
+use Rattle.st_parse_builder.specs.inner.NotationAnswers as notations
 use Rattle.st_parse_builder.specs.Definitions.{prem_at}
 use Rattle.st_parse_builder.specs.Heights.{highest, height, typ_height, notation_height}
-use Rattle.st_parse_builder.specs.NotationBuilding.{typ_built, notation_built}
-use Rattle.st_measure.specs.Answers.{OnlyMemory, lone_typ}
+use Rattle.st_parse_builder.specs.inner.NotationBuilding.{typ_built, notation_built}
+use Rattle.st_measure.specs.inner.Answers.{OnlyMemory, lone_typ}
 use Rattle.st_measure.specs.DefHeights.{prem_height, field_type_height}
 use Rattle.st_measure.proofs.Holes.{builds_typ}
 use Rattle.st_measure.proofs.Premises.{tall_if, tall_goal, tall_each, tall_times, tall_below}
 use Rattle.st_draft.specs.declared.draft.Draft.{Draft}
-use Rattle.st_draft.specs.Drafts.{params_put, args_put, with_sides, condition_node, each_of, span_or, typ_filled, notation_filled, condition_filled, exp_filled, count_filled}
-use Rattle.st_draft.specs.Parts.{the_exp, exp_built, all_built, count_with, index_in, redrafted_params, redrafted_args, refilled}
-use Rattle.st_draft.specs.Heights.{height_or, open_height, height_of, IsLow}
+use Rattle.st_draft.specs.inner.Drafts.{params_put, args_put, with_sides, condition_node, each_of, span_or, typ_filled, notation_filled, condition_filled, exp_filled, count_filled}
+use Rattle.st_draft.specs.inner.Parts.{the_exp, exp_built, all_built, count_with, index_in, redrafted_params, redrafted_args, refilled}
+use Rattle.st_draft.specs.inner.Heights.{height_or, open_height, height_of, IsLow}
 use Rattle.st_draft.proofs.Lowness.{last_of}
 
 -- ---- what is built

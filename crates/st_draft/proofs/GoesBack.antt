@@ -23,7 +23,7 @@ use Rattle.st_parse_builder.specs.Definitions.{cases_meaning, fields_meaning, bo
 use Rattle.st_parse_builder.proofs.NotationBuilds.{type_hole}
 use Rattle.st_measure.specs.DefHeights.{prem_height, field_type_height, body_height, def_height}
 use Rattle.st_measure.proofs.Premises.{tall_each}
-use Rattle.st_draft.specs.Heights.{open_height}
+use Rattle.st_draft.specs.inner.Heights.{open_height}
 use Rattle.st_draft.proofs.DraftSteps.{dots_end, body_after}
 use Rattle.st_draft.proofs.Lowness.{front_of, last_of, left_of, right_of, none_in, all_open, open_in, open_hole, height_at, DefsIn, CasesIn, FieldsIn, NotationIn, PremisesIn, PremiseIn, HeadIn, RuleIn, HostIn, SlotIn, PositionIn, StateIn}
 

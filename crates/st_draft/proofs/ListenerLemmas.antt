@@ -11,7 +11,7 @@ use Rattle.st_parse_automaton.specs.declared.position.Progress.TheVariants as co
 use Rattle.st_parse_automaton.specs.declared.part_automaton.Reading.{Reading}
 use Rattle.st_parse_automaton.specs.declared.part_automaton.Part.{Part}
 use Rattle.st_parse_automaton.specs.declared.part_automaton.Expected.TheVariants.{Operand}
-use Rattle.st_parse_automaton.specs.Readings.{progress_of}
+use Rattle.st_parse_automaton.specs.inner.Readings.{progress_of}
 use Rattle.st_grammar.specs.declared.sort.Bracket.{Bracket}
 use Rattle.st_grammar.specs.Definitions.{Defs}
 use Rattle.st_grammar.specs.Positions.{State, finish}
@@ -19,15 +19,15 @@ use Rattle.st_el.specs.declared.definition.Def.{Def}
 use Rattle.st_el.specs.Plain.{nowhere}
 use Rattle.st_parse_builder.specs.declared.fault.BuildFault.{BuildFault}
 use Rattle.st_parse_builder.specs.Definitions.{defs_meaning}
-use Rattle.st_parse_automaton.specs.PartAutomaton as parts
-use Rattle.st_parse_automaton.specs.DefinitionAutomaton as definitions
+use Rattle.st_parse_automaton.specs.inner.PartAutomaton as parts
+use Rattle.st_parse_automaton.specs.inner.DefinitionAutomaton as definitions
 use Rattle.st_draft.specs.declared.draft.Draft.{Draft}
 use Rattle.st_draft.specs.declared.parts.Parts.{Parts}
 use Rattle.st_draft.specs.declared.change.Ending.{Ending}
-use Rattle.st_draft.specs.Changes.{ending_of}
-use Rattle.st_draft.specs.Drafts.{begun, ended}
+use Rattle.st_draft.specs.inner.Changes.{ending_of}
+use Rattle.st_draft.specs.inner.Drafts.{begun, ended}
 use Rattle.st_draft.specs.Known.{before, defs_or, known}
-use Rattle.st_draft.specs.Work.{Work, work_of, Keeps, DrawsDefs, Ends, ReadTo, part_work, redrafted_work, position_work, filled_work, taken_work, work_after, ended_defs}
+use Rattle.st_draft.specs.inner.Work.{Work, work_of, Keeps, DrawsDefs, Ends, ReadTo, part_work, redrafted_work, position_work, filled_work, taken_work, work_after, ended_defs}
 
 -- a function that is defined where the whole is
 mapped : (A B : Type 0) (f : A → B) (o : Option A) (b : B) → option_map f o ≡ Some b → (a : A) × (o ≡ Some a) × (f a ≡ b)

@@ -12,9 +12,9 @@ use Rattle.st_grammar.proofs.PositionTexts.{Holds, PositionHolds}
 use Rattle.st_grammar.proofs.PositionReading.{filled_reached}
 use Rattle.st_parse_automaton.specs.declared.position.TokenClass.{TokenClass}
 use Rattle.st_parse_automaton.specs.declared.position.Progress.{Progress}
-use Rattle.st_parse_automaton.specs.DefinitionAutomaton as definitions
-use Rattle.st_parse_automaton.specs.Shapes.{class_of}
-use Rattle.st_parse_automaton.specs.Readings.{progress_of}
+use Rattle.st_parse_automaton.specs.inner.DefinitionAutomaton as definitions
+use Rattle.st_parse_automaton.specs.inner.Shapes.{class_of}
+use Rattle.st_parse_automaton.specs.inner.Readings.{progress_of}
 use Rattle.st_parse_automaton.proofs.View as view
 use Rattle.st_parse_automaton.proofs.View.{part_of}
 use Rattle.st_parse_automaton.proofs.Simulation as simulation
@@ -31,18 +31,18 @@ use Rattle.st_draft.specs.declared.draft.Draft.{Draft}
 use Rattle.st_draft.specs.declared.draft.Members.{Members as Body}
 use Rattle.st_draft.specs.declared.draft.Premises.{Premises as Prems}
 use Rattle.st_draft.specs.declared.parts.Parts.{Parts}
-use Rattle.st_draft.specs.Parts.{word_of}
-use Rattle.st_draft.specs.Changes.{ending_of}
-use Rattle.st_draft.specs.Drafts.{begun, ended}
+use Rattle.st_draft.specs.inner.Parts.{word_of}
+use Rattle.st_draft.specs.inner.Changes.{ending_of}
+use Rattle.st_draft.specs.inner.Drafts.{begun, ended}
 use Rattle.st_draft.specs.Known.{head_before, rule_before, host_before, slot_before, position_before, before}
-use Rattle.st_draft.specs.Work.{Work, work_of, filled_work, work_after, ended_defs, Keeps, LastWithin, Ends, ReadTo}
+use Rattle.st_draft.specs.inner.Work.{Work, work_of, filled_work, work_after, ended_defs, Keeps, LastWithin, Ends, ReadTo}
 use Rattle.st_draft.proofs.DraftOf.{host_draft, head_draft, rule_draft, slot_draft, position_draft}
 use Rattle.st_draft.proofs.DraftEnds.{EndsAs, position_ends}
 use Rattle.st_grammar.proofs.TerminalTokens.{terminal_token}
 use Rattle.st_draft.proofs.WorkSteps.{state_work}
 use Rattle.st_draft.proofs.WorkEnds.{part_ends}
 use Rattle.st_draft.proofs.WorkPositions.{works}
-use Rattle.st_draft.specs.Heights.{defs_height}
+use Rattle.st_draft.specs.inner.Heights.{defs_height}
 use Rattle.st_draft.proofs.Lowness.{state_within}
 use Rattle.st_draft.proofs.GoesBack.{from_whole}
 

@@ -12,16 +12,16 @@ use Rattle.st_grammar.proofs.TerminalTokens.{terminal_token}
 use Rattle.st_grammar.proofs.PositionTexts.{Holds}
 use Rattle.st_grammar.proofs.PositionComplete.{reading_append}
 use Rattle.st_parse_automaton.specs.declared.position.Progress.{Progress}
-use Rattle.st_parse_automaton.specs.Shapes.{class_of}
-use Rattle.st_parse_automaton.specs.Readings.{progress_of}
+use Rattle.st_parse_automaton.specs.inner.Shapes.{class_of}
+use Rattle.st_parse_automaton.specs.inner.Readings.{progress_of}
 use Rattle.st_parse_automaton.proofs.View as view
 use Rattle.st_parse_automaton.proofs.DefinitionView.{slot_of, slot_open, definitions_of}
 use Rattle.st_parse_automaton.proofs.DefinitionSimulation.{step_is, part_step_is}
 use Rattle.st_parse_automaton.proofs.Loop.{holds}
 use Rattle.st_parse_builder.specs.Definitions.{defs_meaning}
 use Rattle.st_draft.specs.declared.draft.Draft.{Draft}
-use Rattle.st_draft.specs.Heights.{defs_height, Within, AllLow}
-use Rattle.st_draft.specs.Work.{Work, EndsLow, LeavesLow, Goes}
+use Rattle.st_draft.specs.inner.Heights.{defs_height, Within, AllLow}
+use Rattle.st_draft.specs.inner.Work.{Work, EndsLow, LeavesLow, Goes}
 use Rattle.st_draft.proofs.WorkSteps.{state_work}
 use Rattle.st_draft.proofs.WorkEnds.{part_ends}
 use Rattle.st_draft.proofs.WorkPositions.{works}

@@ -6,18 +6,18 @@ use Rattle.st_parse_automaton.specs.declared.position.Slot.{Slot}
 use Rattle.st_parse_automaton.specs.declared.position.Position.{Position}
 use Rattle.st_parse_automaton.specs.declared.position.Progress.{Progress}
 use Rattle.st_parse_automaton.specs.declared.part_automaton.Part.{Part}
-use Rattle.st_parse_automaton.specs.Readings.{progress_of}
-use Rattle.st_parse_automaton.specs.PartAutomaton as parts
-use Rattle.st_parse_automaton.specs.DefinitionAutomaton as definitions
+use Rattle.st_parse_automaton.specs.inner.Readings.{progress_of}
+use Rattle.st_parse_automaton.specs.inner.PartAutomaton as parts
+use Rattle.st_parse_automaton.specs.inner.DefinitionAutomaton as definitions
 use Rattle.st_grammar.specs.declared.sort.Bracket.{Bracket}
 use Rattle.st_grammar.specs.Definitions.{Defs}
 use Rattle.st_grammar.specs.Positions.{State, finish}
 use Rattle.st_parse_builder.specs.declared.fault.BuildFault.{BuildFault}
-use Rattle.st_measure.specs.Answers.{OnlyMemory}
+use Rattle.st_measure.specs.inner.Answers.{OnlyMemory}
 use Rattle.st_draft.specs.declared.draft.Draft.{Draft}
 use Rattle.st_draft.specs.declared.parts.Parts.{Parts}
-use Rattle.st_draft.specs.Heights.{AllLow}
-use Rattle.st_draft.specs.Work.{Work, Keeps, Goes, EndsLow, Ends, ReadTo, position_work, filled_work, taken_work, last_work}
+use Rattle.st_draft.specs.inner.Heights.{AllLow}
+use Rattle.st_draft.specs.inner.Work.{Work, Keeps, Goes, EndsLow, Ends, ReadTo, position_work, filled_work, taken_work, last_work}
 use Rattle.st_draft.proofs.ListenerLemmas.{chained}
 
 -- ---- parts

@@ -19,9 +19,9 @@ use Rattle.st_parse_builder.specs.Notations.{hole, notation_at, notation_place, 
 use Rattle.st_parse_builder.specs.Definitions as meant
 use Rattle.st_parse_builder.specs.Definitions.{fields_meaning, cases_meaning, body_meaning, has_dots_before, condition, prem_at, opened_at, sign_count, premise_meaning, premises_meaning, params, patterns, def_meaning, defs_meaning}
 use Rattle.st_parse_builder.proofs.Tallness.{highest_behind}
-use Rattle.st_measure.specs.Answers.{typ_in, lone_typ}
+use Rattle.st_measure.specs.inner.Answers.{typ_in, lone_typ}
 use Rattle.st_measure.specs.DefHeights.{prem_node_height_at, prem_height_at, prem_height, field_type_height}
-use Rattle.st_draft.specs.Heights.{height_or, open_height, height_of, defs_height, Within}
+use Rattle.st_draft.specs.inner.Heights.{height_or, open_height, height_of, defs_height, Within}
 use Rattle.st_draft.proofs.DraftOf.{host_draft, head_draft, rule_draft, slot_draft, position_draft}
 use Rattle.st_el.specs.declared.expression.Exp.{Exp}
 use Rattle.st_draft.specs.declared.draft.Members.{Members as Body}

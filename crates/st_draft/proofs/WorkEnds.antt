@@ -14,23 +14,23 @@ use Rattle.st_grammar.proofs.PositionTexts.{Holds}
 use Rattle.st_grammar.proofs.PositionReading.{inner_finish}
 use Rattle.st_parse_automaton.specs.declared.position.Slot.TheVariants as slot
 use Rattle.st_parse_automaton.specs.declared.position.TokenClass.{TokenClass}
-use Rattle.st_parse_automaton.specs.DefinitionAutomaton.{opens_round}
-use Rattle.st_parse_automaton.specs.Shapes.{class_of}
+use Rattle.st_parse_automaton.specs.inner.DefinitionAutomaton.{opens_round}
+use Rattle.st_parse_automaton.specs.inner.Shapes.{class_of}
 use Rattle.st_parse_automaton.proofs.View as view
 use Rattle.st_parse_automaton.proofs.DefinitionView.{rounds, slot_of, slot_open}
 use Rattle.st_el.specs.declared.expression.Exp.{Exp}
 use Rattle.st_parse_builder.specs.declared.action.Action.{Action}
 use Rattle.st_parse_builder.specs.Names.{name_of}
 use Rattle.st_parse_builder.specs.Meaning.{meaning, count_of}
-use Rattle.st_parse_builder.specs.Actions.{acts}
-use Rattle.st_parse_builder.specs.Emission.{state_acts}
+use Rattle.st_parse_builder.specs.inner.Actions.{acts}
+use Rattle.st_parse_builder.specs.inner.Emission.{state_acts}
 use Rattle.st_parse_builder.proofs.Emission.{finish_emits}
-use Rattle.st_parse_actions.specs.Emits.{finishing}
+use Rattle.st_parse_actions.specs.inner.Emits.{finishing}
 use Rattle.st_parse_actions.proofs.Emitted.{finishing_is}
 use Rattle.st_draft.specs.declared.draft.Draft.{Draft}
-use Rattle.st_draft.specs.Drafts.{typ_filled, notation_filled, condition_filled, exp_filled, count_filled}
-use Rattle.st_draft.specs.Parts.{index_in, count_with, refilled}
-use Rattle.st_draft.specs.Work.{Work, arguments_with, filled_work}
+use Rattle.st_draft.specs.inner.Drafts.{typ_filled, notation_filled, condition_filled, exp_filled, count_filled}
+use Rattle.st_draft.specs.inner.Parts.{index_in, count_with, refilled}
+use Rattle.st_draft.specs.inner.Work.{Work, arguments_with, filled_work}
 use Rattle.st_draft.proofs.DraftOf.{position_draft, slot_draft, arguments_acts, args_acts, position_args, slot_args}
 use Rattle.st_draft.proofs.DraftFills.{field_fills, case_fills, var_fills, notation_fills, fun_fills, rule_fills, cond_fills, count_fills}
 use Rattle.st_draft.proofs.Built.{exp_is, typ_is, notation_is}

@@ -12,9 +12,9 @@ use Rattle.st_grammar.proofs.PositionReading.{filled_reached}
 use Rattle.st_parse_automaton.specs.declared.part_automaton.Shape.{Shape}
 use Rattle.st_parse_automaton.specs.declared.part_automaton.Expected.TheVariants.{Operand}
 use Rattle.st_parse_automaton.specs.declared.position.TokenClass.{TokenClass}
-use Rattle.st_parse_automaton.specs.Shapes.{shape, class_of}
-use Rattle.st_parse_automaton.specs.PartAutomaton as parts
-use Rattle.st_parse_automaton.specs.DefinitionAutomaton as definitions
+use Rattle.st_parse_automaton.specs.inner.Shapes.{shape, class_of}
+use Rattle.st_parse_automaton.specs.inner.PartAutomaton as parts
+use Rattle.st_parse_automaton.specs.inner.DefinitionAutomaton as definitions
 use Rattle.st_parse_automaton.proofs.View as view
 use Rattle.st_parse_automaton.proofs.View.{part_of}
 use Rattle.st_parse_automaton.proofs.Simulation as simulation
@@ -25,10 +25,10 @@ use Rattle.st_draft.specs.declared.change.Change.TheVariants as change
 use Rattle.st_parse_builder.specs.declared.action.Action.{Action}
 use Rattle.st_parse_builder.specs.Definitions.{params, patterns}
 use Rattle.st_draft.specs.declared.draft.Draft.{Draft}
-use Rattle.st_draft.specs.Changes.{change_of}
-use Rattle.st_draft.specs.Drafts.{params_put, args_put, with_sides, applied, arguments_after}
-use Rattle.st_draft.specs.Parts.{redrafted}
-use Rattle.st_draft.specs.Work.{Work, position_work, part_work, filled_work, taken_work, work_after}
+use Rattle.st_draft.specs.inner.Changes.{change_of}
+use Rattle.st_draft.specs.inner.Drafts.{params_put, args_put, with_sides, applied, arguments_after}
+use Rattle.st_draft.specs.inner.Parts.{redrafted}
+use Rattle.st_draft.specs.inner.Work.{Work, position_work, part_work, filled_work, taken_work, work_after}
 use Rattle.st_draft.proofs.DraftOf.{position_draft, slot_draft, arguments_acts, args_acts, position_args, slot_args}
 use Rattle.st_draft.proofs.DraftSteps.{state_draft, FitsAs, Changes, Changed}
 use Rattle.st_draft.proofs.DraftEnds.{position_changes}

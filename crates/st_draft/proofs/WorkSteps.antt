@@ -11,17 +11,17 @@ use Rattle.st_grammar.proofs.Sound as sound
 use Rattle.st_grammar.proofs.Steps as inner
 use Rattle.st_grammar.proofs.PositionTexts.{Holds}
 use Rattle.st_parse_automaton.specs.declared.position.TokenClass.{TokenClass}
-use Rattle.st_parse_automaton.specs.Shapes.{shape, class_of}
-use Rattle.st_parse_automaton.specs.DefinitionAutomaton as definitions
+use Rattle.st_parse_automaton.specs.inner.Shapes.{shape, class_of}
+use Rattle.st_parse_automaton.specs.inner.DefinitionAutomaton as definitions
 use Rattle.st_parse_automaton.proofs.View as view
 use Rattle.st_parse_automaton.proofs.DefinitionView.{slot_of, slot_sort_is}
 use Rattle.st_parse_builder.specs.declared.action.Action.{Action}
-use Rattle.st_parse_builder.specs.Emission.{state_acts}
+use Rattle.st_parse_builder.specs.inner.Emission.{state_acts}
 use Rattle.st_parse_builder.proofs.Emission.{emits_next}
-use Rattle.st_parse_actions.specs.Emits.{emits, kept}
+use Rattle.st_parse_actions.specs.inner.Emits.{emits, kept}
 use Rattle.st_parse_actions.proofs.Emitted.{state_marks, emits_is}
 use Rattle.st_parse_actions.proofs.Kept.{Keeps, step_keeps}
-use Rattle.st_draft.specs.Work.{Work, words_after, part_work}
+use Rattle.st_draft.specs.inner.Work.{Work, words_after, part_work}
 use Rattle.st_draft.proofs.DraftOf.{position_draft, slot_draft, arguments_acts, args_acts, position_args, slot_args}
 
 abbrev pub word : terminals.Terminal → TokenClass × Token

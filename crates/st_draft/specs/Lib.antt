@@ -1,6 +1,6 @@
-pub mod Changes
-pub mod Drafts
-pub mod Parts
+-- What must be believed of definitions that are read in part.
+
+-- the definitions that stand whole, where the tokens so far are read
 pub mod Known
-pub mod Heights
-pub mod Work
+-- ---- what only proofs need
+pub mod inner

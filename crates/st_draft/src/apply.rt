@@ -1,24 +1,24 @@
 //! The trees of definitions: what each change and each part makes of a draft.
 
 ghost use Rattle.std.specs.Prelude.{◌≡◌, [], Some, IfOk, IfErr};
-ghost use Rattle.st_measure.specs.Answers.{OnlyMemory};
+ghost use Rattle.st_measure.specs.inner.Answers.{OnlyMemory};
 ghost use Rattle.st_draft.specs.declared.draft.Draft.{Draft};
-ghost use Rattle.st_draft.specs.Drafts as drafts;
-ghost use Rattle.st_draft.specs.Heights.{IsLow};
-ghost use Rattle.st_draft.specs.Parts as spec;
+ghost use Rattle.st_draft.specs.inner.Drafts as drafts;
+ghost use Rattle.st_draft.specs.inner.Heights.{IsLow};
+ghost use Rattle.st_draft.specs.inner.Parts as spec;
 
 use crate::change::{Change, Ending};
 use crate::definition::turn;
 use crate::draft::Draft;
 use crate::head::{begin_hint, end_hint, put_id, put_name, put_word};
+use crate::listener::Listener;
 use crate::members::{put_dots, put_label};
 use crate::parts::{Word, build_patterns, build_types, fill};
 use crate::premise::{
-    NOWHERE, begin_premise, put_each, put_goal, put_if, put_otherwise, put_parenthesis, shape_count,
+    begin_premise, put_each, put_goal, put_if, put_otherwise, put_parenthesis, shape_count,
 };
 use crate::sides::{put_args, put_params};
-use crate::listener::Listener;
-use st_num::{NoMemory, Row};
+use st_num::{NoMemory, Row, Span};
 use st_parse_automaton::{Shape, Slot};
 use st_parse_builder::{Action, BuildFault};
 use st_scan::Token;
@@ -37,7 +37,7 @@ fn apply(
     match change {
         Change::Nothing => Ok(()),
         Change::Begin(ending) => turn(alloc, ending, draft, token.at),
-        Change::End(ending) => turn(alloc, ending, draft, NOWHERE),
+        Change::End(ending) => turn(alloc, ending, draft, Span::NOWHERE),
         Change::Name => put_name(alloc, draft, token),
         Change::Id => put_id(alloc, draft, token),
         Change::HintName => begin_hint(alloc, draft, token),
@@ -153,7 +153,7 @@ impl<'a> Listener<'a> for Draft {
     }
 
     fn end(&mut self, alloc: Global, ending: Ending) -> Result<(), BuildFault> {
-        turn(alloc, ending, self, NOWHERE)?;
+        turn(alloc, ending, self, Span::NOWHERE)?;
         Ok(())
     }
 }

@@ -1,8 +1,8 @@
 //! What a token between parts changes.
 
 ghost use Rattle.std.specs.Prelude.{◌≡◌, reverse};
-ghost use Rattle.st_draft.specs.Changes as spec;
-ghost use Rattle.st_parse_automaton.specs.Readings.{progress_of};
+ghost use Rattle.st_draft.specs.inner.Changes as spec;
+ghost use Rattle.st_parse_automaton.specs.inner.Readings.{progress_of};
 
 use st_parse_automaton::{Host, IterationState, Position, Progress, Slot};
 
@@ -62,7 +62,11 @@ fn names_definition(position: Position) -> bool
 {
     matches!(
         position,
-        Position::SyntaxName | Position::RelationName | Position::RuleName | Position::VarName | Position::FunName
+        Position::SyntaxName
+            | Position::RelationName
+            | Position::RuleName
+            | Position::VarName
+            | Position::FunName
     )
 }
 

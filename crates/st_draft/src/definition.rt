@@ -4,7 +4,7 @@ ghost use Rattle.std.specs.Prelude.{◌≡◌, IfOk, Some};
 ghost use Rattle.st_el.specs.declared.definition.DefNode.TheVariants as def;
 ghost use Rattle.st_el.specs.declared.notation.NotNode.{out-NotNode};
 ghost use Rattle.st_el.specs.declared.notation.Notation.{out-Notation};
-ghost use Rattle.st_draft.specs.Drafts as spec;
+ghost use Rattle.st_draft.specs.inner.Drafts as spec;
 
 use crate::change::Ending;
 use crate::draft::{Draft, Head, Members, Premises, Sides};

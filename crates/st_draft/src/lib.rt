@@ -4,7 +4,7 @@
 //! changes in one small way. Whoever keeps something of the draft, its trees or only what the
 //! limits ask of them, is a listener, and one reader of the tokens serves each.
 //!
-//! Read `listener` and `reader` first, then `step` with `specs/Work.antt`. The rules are in
+//! Read `listener` and `reader` first, then `step` with `specs/inner/Work.antt`. The rules are in
 //! `docs/source-trees.md`.
 #![tactic(auto)]
 
@@ -13,18 +13,17 @@ mod change;
 mod definition;
 mod draft;
 mod head;
+mod listener;
 mod members;
 mod parts;
 mod premise;
 mod reader;
 mod sides;
-mod listener;
 mod step;
 
 pub use change::{Change, Ending};
 pub use definition::begun;
 pub use draft::{Draft, Head, Members, Premises, Sides};
-pub use parts::{Parts, Word, index_in};
-pub use premise::NOWHERE;
-pub use reader::read_source;
 pub use listener::Listener;
+pub use parts::{Parts, Word, index_in};
+pub use reader::read_source;

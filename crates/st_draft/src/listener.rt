@@ -3,9 +3,9 @@
 ghost use Rattle.std.specs.Prelude.{◌≡◌, map, Some, IfOk, IfErr};
 ghost use Rattle.st_el.specs.Plain.{nowhere};
 ghost use Rattle.st_draft.specs.declared.draft.Draft.{Draft};
-ghost use Rattle.st_measure.specs.Answers.{OnlyMemory};
-ghost use Rattle.st_draft.specs.Drafts.{begun, ended};
-ghost use Rattle.st_draft.specs.Parts.{word_of, redrafted, refilled};
+ghost use Rattle.st_measure.specs.inner.Answers.{OnlyMemory};
+ghost use Rattle.st_draft.specs.inner.Drafts.{begun, ended};
+ghost use Rattle.st_draft.specs.inner.Parts.{word_of, redrafted, refilled};
 
 use crate::change::{Change, Ending};
 use crate::parts::Word;

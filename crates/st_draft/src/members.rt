@@ -1,7 +1,7 @@
 //! Fields and alternatives of the open definition.
 
 ghost use Rattle.std.specs.Prelude.{◌≡◌, IfOk};
-ghost use Rattle.st_draft.specs.Drafts as spec;
+ghost use Rattle.st_draft.specs.inner.Drafts as spec;
 
 use crate::draft::{Draft, Members};
 use st_el::{Notation, Typ};

@@ -6,13 +6,13 @@ ghost use Rattle.st_el.specs.declared.expression.Exp.{Exp};
 ghost use Rattle.st_el.specs.declared.notation.Notation.{Notation};
 ghost use Rattle.st_el.specs.declared.ty.Typ.{Typ};
 ghost use Rattle.st_parse_builder.specs.Heights.{highest, height, typ_height};
-ghost use Rattle.st_parse_builder.specs.NotationBuilding.{typ_built, notation_built};
+ghost use Rattle.st_parse_builder.specs.inner.NotationBuilding.{typ_built, notation_built};
 ghost use Rattle.st_parse_builder.specs.Notations as notations;
-ghost use Rattle.st_measure.specs.Answers.{OnlyMemory};
+ghost use Rattle.st_measure.specs.inner.Answers.{OnlyMemory};
 ghost use Rattle.st_draft.specs.declared.draft.Draft.{Draft};
-ghost use Rattle.st_draft.specs.Drafts as drafts;
-ghost use Rattle.st_draft.specs.Heights.{open_height, IsLow};
-ghost use Rattle.st_draft.specs.Parts as spec;
+ghost use Rattle.st_draft.specs.inner.Drafts as drafts;
+ghost use Rattle.st_draft.specs.inner.Heights.{open_height, IsLow};
+ghost use Rattle.st_draft.specs.inner.Parts as spec;
 
 use crate::draft::Draft;
 use crate::members::{put_field, put_notation};
@@ -20,7 +20,7 @@ use crate::premise::{put_condition, put_each};
 use crate::sides::{put_exp, put_typ};
 use st_el::{Count, Exp, NotNode, Notation, Typ};
 use st_num::{Boxed, Mark, Name, NoMemory, Row};
-use st_parse_automaton::{TokenClass, Slot, opens_round};
+use st_parse_automaton::{Slot, TokenClass, opens_round};
 use st_parse_builder::{Action, BuildFault, TokenRef, build, build_notation, build_typ, copy_name};
 use std::alloc::Global;
 

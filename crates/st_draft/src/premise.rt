@@ -4,7 +4,7 @@ ghost use Rattle.std.specs.Prelude.{◌≡◌, [], ◌∷◌, ◌++◌, true, No
 ghost use Rattle.st_el.specs.declared.definition.PremNode.TheVariants as prem;
 ghost use Rattle.st_parse_builder.specs.Names.{name_of};
 ghost use Rattle.st_parse_builder.specs.Definitions.{prem_at};
-ghost use Rattle.st_draft.specs.Drafts as spec;
+ghost use Rattle.st_draft.specs.inner.Drafts as spec;
 
 use crate::draft::{Draft, Premises};
 use st_el::{Count, Exp, Prem, PremNode};
@@ -14,22 +14,15 @@ use st_parse_builder::{copy_name, mark_count};
 use st_scan::Token;
 use std::alloc::Global;
 
-/// The place of what is not read.
-pub const NOWHERE: Span = Span {
-    file: 0,
-    line: 0,
-    column: 0,
-};
-
 /// Whole premises alone.
 pub(crate) fn premises_so_far(alloc: Global, whole: Row<Prem>) -> Premises
     ensures { result ≡ spec.premises_so_far whole }
 {
     Premises {
         whole,
-        at: NOWHERE,
+        at: Span::NOWHERE,
         opened: Row::new(alloc),
-        start: NOWHERE,
+        start: Span::NOWHERE,
         goal: None,
         prem: None,
     }
@@ -185,7 +178,7 @@ fn opened_at(opened: &[Span], around: usize) -> Span
 {
     match opened.get(around) {
         Some(at) => *at,
-        None => NOWHERE,
+        None => Span::NOWHERE,
     }
 }
 

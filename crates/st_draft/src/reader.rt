@@ -3,22 +3,22 @@
 ghost use Rattle.std.specs.Prelude.{◌≡◌, [], List, map, Some, IfOk, IfErr};
 ghost use Rattle.st_el.specs.declared.definition.Def.{Def};
 ghost use Rattle.st_el.specs.Plain.{nowhere};
-ghost use Rattle.st_grammar.specs.Terminals as terminals;
+ghost use Rattle.st_grammar.specs.Terminals.{terminal};
 ghost use Rattle.st_grammar.specs.Positions as positions;
 ghost use Rattle.st_parse_builder.specs.Definitions.{defs_meaning};
-ghost use Rattle.st_measure.specs.Answers.{OnlyMemory};
-ghost use Rattle.st_parse_automaton.specs.DefinitionAutomaton as definitions;
-ghost use Rattle.st_parse_automaton.specs.Readings.{progress_of};
-ghost use Rattle.st_parse_automaton.specs.Shapes.{class_of};
-ghost use Rattle.st_draft.specs.Drafts as drafts;
-ghost use Rattle.st_draft.specs.Heights.{AllLow};
+ghost use Rattle.st_measure.specs.inner.Answers.{OnlyMemory};
+ghost use Rattle.st_parse_automaton.specs.inner.DefinitionAutomaton as definitions;
+ghost use Rattle.st_parse_automaton.specs.inner.Readings.{progress_of};
+ghost use Rattle.st_parse_automaton.specs.inner.Shapes.{class_of};
+ghost use Rattle.st_draft.specs.inner.Drafts as drafts;
+ghost use Rattle.st_draft.specs.inner.Heights.{AllLow};
 ghost use Rattle.st_draft.specs.Known.{known};
-ghost use Rattle.st_draft.specs.Work as spec;
-ghost use Rattle.st_draft.specs.Work.{Work, Keeps, Goes, ReadTo, DrawsDefs};
+ghost use Rattle.st_draft.specs.inner.Work as spec;
+ghost use Rattle.st_draft.specs.inner.Work.{Work, Keeps, Goes, ReadTo, DrawsDefs};
 
 use crate::change::ending_of;
-use crate::parts::{Parts, no_parts};
 use crate::listener::Listener;
+use crate::parts::{Parts, no_parts};
 use crate::step::{end_part, read_token};
 use st_num::{Name, Row};
 use st_parse_automaton::{At, Position, Progress, filled, may_end, part_end, token_class};
@@ -62,13 +62,13 @@ fn read_next<'a, S: Listener<'a>>(
     parts: &mut Parts<'a>,
 ) -> Result<Progress, BuildFault>
     ensures next { IfOk result (λ next. definitions.step (progress_of progress)
-        (class_of (terminals.terminal names.now token.now)) ≡ Some (progress_of next)) }
+        (class_of (terminal names.now token.now)) ≡ Some (progress_of next)) }
     ensures work { (before after : Work) → Keeps S.Draws listener.old parts.old before
         → IfOk result (λ next. spec.work_after (progress_of progress) (progress_of next)
-        (class_of (terminals.terminal names.now token.now)) token.now before ≡ Some after
+        (class_of (terminal names.now token.now)) token.now before ≡ Some after
         → Keeps S.Draws listener.new parts.new after) }
     ensures low { (before : Work) → Keeps S.Draws listener.old parts.old before
-        → Goes S.Low (progress_of progress) (class_of (terminals.terminal names.now token.now))
+        → Goes S.Low (progress_of progress) (class_of (terminal names.now token.now))
         token.now before
         → IfErr result OnlyMemory }
 {
@@ -93,10 +93,10 @@ fn read_all<'a, S: Listener<'a>>(
     requires marks { parts.old.marks ≡ [] }
     requires words { parts.old.words ≡ [] }
     ensures read { (st : positions.State)
-        → positions.reading positions.start (map (terminals.terminal names.now) tokens.now) ≡ Some st
+        → positions.reading positions.start (map (terminal names.now) tokens.now) ≡ Some st
         → IfOk result (λ progress. ReadTo S.Draws st progress listener.new parts.new) }
     ensures low { (st : positions.State)
-        → positions.reading positions.start (map (terminals.terminal names.now) tokens.now) ≡ Some st
+        → positions.reading positions.start (map (terminal names.now) tokens.now) ≡ Some st
         → AllLow S.Low (positions.finish st) → IfErr result OnlyMemory }
 {
     let mut progress = Progress::At(At {
@@ -119,10 +119,10 @@ pub fn read_source<'a, S: Listener<'a>>(
 ) -> Result<(), BuildFault>
     requires { S.Draws listener.old (drafts.begun [] nowhere) }
     ensures kept { (st : positions.State)
-        → positions.reading positions.start (map (terminals.terminal names.now) tokens.now) ≡ Some st
+        → positions.reading positions.start (map (terminal names.now) tokens.now) ≡ Some st
         → IfOk result (λ _. DrawsDefs S.Draws listener.new (defs_meaning (known st))) }
     ensures low { (st : positions.State)
-        → positions.reading positions.start (map (terminals.terminal names.now) tokens.now) ≡ Some st
+        → positions.reading positions.start (map (terminal names.now) tokens.now) ≡ Some st
         → AllLow S.Low (positions.finish st) → IfErr result OnlyMemory }
 {
     let mut parts = no_parts(alloc);

@@ -1,7 +1,7 @@
 //! Parameters, arguments, types and results of the open definition.
 
 ghost use Rattle.std.specs.Prelude.{◌≡◌};
-ghost use Rattle.st_draft.specs.Drafts as spec;
+ghost use Rattle.st_draft.specs.inner.Drafts as spec;
 
 use crate::draft::{Draft, Sides};
 use st_el::{Exp, Typ};

@@ -2,23 +2,24 @@
 
 ghost use Rattle.std.specs.Prelude.{◌≡◌, [], ◌∷◌, ◌++◌, length, map, reverse, Some, IfOk, IfErr, IfSome};
 ghost use Rattle.std.specs.Option.{option_map};
-ghost use Rattle.st_parse_automaton.specs.DefinitionAutomaton as definitions;
-ghost use Rattle.st_parse_automaton.specs.Readings.{progress_of, reading_of};
-ghost use Rattle.st_measure.specs.Answers.{OnlyMemory};
-ghost use Rattle.st_draft.specs.Drafts.{arguments_after};
-ghost use Rattle.st_draft.specs.Parts.{word_of};
+ghost use Rattle.st_parse_automaton.specs.inner.DefinitionAutomaton as definitions;
+ghost use Rattle.st_parse_automaton.specs.inner.Readings.{progress_of, reading_of};
+ghost use Rattle.st_measure.specs.inner.Answers.{OnlyMemory};
+ghost use Rattle.st_draft.specs.inner.Drafts.{arguments_after};
+ghost use Rattle.st_draft.specs.inner.Parts.{word_of};
 ghost use Rattle.st_draft.specs.declared.draft.Draft.{Draft};
-ghost use Rattle.st_draft.specs.Work as spec;
-ghost use Rattle.st_draft.specs.Work.{Work, Keeps, Goes};
+ghost use Rattle.st_draft.specs.inner.Work as spec;
+ghost use Rattle.st_draft.specs.inner.Work.{Work, Keeps, Goes};
 
 use crate::change::{Change, change_of};
-use crate::parts::{Parts, Word};
 use crate::listener::Listener;
+use crate::parts::{Parts, Word};
 use st_grammar::Bracket;
 use st_num::{NoMemory, Row};
 use st_parse_actions::emit;
 use st_parse_automaton::{
-    Expected, TokenClass, Position, Progress, Reading, Slot, filled, part_end, part_step, position_step, slot_sort,
+    Expected, Position, Progress, Reading, Slot, TokenClass, filled, part_end, part_step,
+    position_step, slot_sort,
 };
 use st_parse_builder::{Action, BuildFault, TokenRef};
 use st_scan::Token;
@@ -227,14 +228,16 @@ fn in_part<'a, S: Listener<'a>>(
     parts: &mut Parts<'a>,
 ) -> Result<Option<Progress>, BuildFault>
     ensures next { IfOk result (λ next. option_map progress_of next
-        ≡ definitions.step (definitions.inside slot (reading_of reading) (reverse brackets)) class) }
+        ≡ definitions.step (definitions.inside slot (reading_of reading) (reverse brackets))
+        class) }
     ensures work { (before after : Work) → Keeps S.Draws listener.old parts.old before
         → IfOk result (λ next. IfSome next (λ there.
         spec.work_after (definitions.inside slot (reading_of reading) (reverse brackets))
         (progress_of there) class token.now before ≡ Some after
         → Keeps S.Draws listener.new parts.new after)) }
     ensures low { (before : Work) → Keeps S.Draws listener.old parts.old before
-        → Goes S.Low (definitions.inside slot (reading_of reading) (reverse brackets)) class token.now
+        → Goes S.Low (definitions.inside slot (reading_of reading) (reverse brackets)) class
+        token.now
         before
         → IfErr result OnlyMemory }
 {
@@ -288,7 +291,9 @@ pub(crate) fn read_token<'a, S: Listener<'a>>(
             parts,
         ),
         Progress::Inside(slot, reading, brackets) => {
-            in_part(alloc, slot, reading, brackets, class, token, listener, parts)
+            in_part(
+                alloc, slot, reading, brackets, class, token, listener, parts,
+            )
         }
     }
 }

@@ -2,8 +2,7 @@
 use Rattle.std.specs.Prelude.{ℕ, List, [], ◌∷◌, ◌++◌, map, filter, flat_map, codes, Bool, false, ◌&&◌, if◌then◌else◌, Option, Some, None}
 use Rattle.std.specs.Option.{is_some}
 use Rattle.std.specs.List.{list_any}
-use Rattle.std.specs.Bool.{nat_eq}
-use Rattle.std.specs.Cmp.Lexicographic.{pointwise}
+use Rattle.st_num.specs.Names.{same_name}
 use Rattle.st_scan.specs.declared.token.Token.{Token}
 use Rattle.st_el.specs.declared.notation.Notation.{Notation}
 use Rattle.st_el.specs.declared.definition.Hint.{Hint}
@@ -13,9 +12,6 @@ use Rattle.st_el.specs.declared.definition.DefNode.TheVariants.{Syntax, Var, Rel
 use Rattle.st_el.specs.declared.definition.Body.{Body}
 use Rattle.st_el.specs.declared.definition.Body.TheVariants.{Alias, Cases, Fields}
 use Rattle.st_el.specs.Plain.{nowhere, plain_exp, plain_typ, plain_notation, plain_prem}
-
-abbrev pub same_name : List ℕ → List ℕ → Bool
-same_name = pointwise nat_eq
 
 -- a token of a hint, wherever it stood
 abbrev pub plain_token : Token → Token

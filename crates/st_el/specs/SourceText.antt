@@ -1,9 +1,9 @@
 -- The text of an expression: its tokens, and parentheses round parts that do not suit their places.
 use Rattle.std.specs.Prelude.{ℕ, List, [], ◌∷◌, ◌++◌, map, flat_map, codes, Bool, true, false, not, ◌&&◌}
 use Rattle.std.specs.Fmt.{decimal}
-use Rattle.st_num.specs.Signs.{spelling, level, prefix_level, left_of, right_of}
+use Rattle.st_num.specs.Signs.{spelling, level, prefix_level, left_of, right_of, closing}
 use Rattle.st_num.specs.declared.mark.Mark.{Mark}
-use Rattle.st_num.specs.declared.mark.Mark.TheVariants.{TickBracket, TickBrace, CloseParen, CloseBracket, CloseBrace, Caret, Tilde, Minus}
+use Rattle.st_num.specs.declared.mark.Mark.TheVariants.{Caret, Tilde, Minus}
 use Rattle.st_scan.specs.Spelling.{quoted}
 use Rattle.st_el.specs.declared.expression.Exp.{Exp, Exp-F, fold-Exp}
 use Rattle.st_el.specs.declared.expression.Node.{Node, out-Node, map-Node, fold-Node}
@@ -63,12 +63,6 @@ arguments (part ∷ parts) = codes "(" ++ listed (part ∷ parts) ++ codes ")"
 abbrev pub truth : Bool → List ℕ
 truth true = codes "true"
 truth false = codes "false"
-
--- the sign that closes a backquoted bracket
-abbrev pub closing : Mark → Mark
-closing TickBracket = CloseBracket
-closing TickBrace = CloseBrace
-closing sign = CloseParen
 
 -- a path and the part at it, in the brackets of an update or an extension
 abbrev pub change : List (List ℕ) → List ℕ → Printed → List ℕ

@@ -37,7 +37,8 @@ fn plain_hint(alloc: Global, hint: &Hint) -> Result<Hint, NoMemory>
     })
 }
 
-fn is_mode(hint: &Hint) -> bool
+/// Whether the hint says a mode.
+pub fn is_mode(hint: &Hint) -> bool
     ensures { result ≡ is_mode hint.now }
 {
     hint.name.as_slice() == b"mode".as_slice()

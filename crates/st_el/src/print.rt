@@ -2,9 +2,9 @@
 
 ghost use Rattle.std.specs.Prelude.{◌≡◌, ◌++◌, OnOk, OnErr, map, flat_map, codes};
 ghost use Rattle.std.specs.Fmt.{decimal};
-ghost use Rattle.st_num.specs.Signs.{spelling, level, prefix_level, left_of};
+ghost use Rattle.st_num.specs.Signs.{spelling, level, prefix_level, left_of, closing};
 ghost use Rattle.st_el.specs.Contexts.{context_at, operand_before, whole};
-ghost use Rattle.st_el.specs.SourceText.{opened, printed, printed_mark, printed_step, printed_field, front, postfix, left_side, blank_behind, elements, listed, fields_text, arguments, truth, closing, source_text};
+ghost use Rattle.st_el.specs.SourceText.{opened, printed, printed_mark, printed_step, printed_field, front, postfix, left_side, blank_behind, elements, listed, fields_text, arguments, truth, source_text};
 
 use crate::context::{Around, Behind, Context, in_parens, left_of, right_of};
 use crate::quote::print_quoted;
@@ -13,17 +13,6 @@ use crate::{Count, Exp, Node, Seg};
 use itoa::Buffer;
 use st_num::{Mark, Name, NoMemory};
 use std::alloc::Global;
-
-/// The sign that closes a backquoted bracket.
-fn closing(sign: Mark) -> Mark
-    ensures { result ≡ closing sign }
-{
-    match sign {
-        Mark::TickBracket => Mark::CloseBracket,
-        Mark::TickBrace => Mark::CloseBrace,
-        _ => Mark::CloseParen,
-    }
-}
 
 fn truth(value: bool) -> &'static [u8]
     ensures { result.now ≡ truth value }
@@ -189,7 +178,7 @@ fn print_front(node: &Node, around: Around, out: &mut Vec<u8>) -> Result<(), NoM
         Node::Arith(e) => print_whole(e.get(), Around::Arithmetic, b"$(", b")", out),
         Node::Paren(e) => print_whole(e.get(), in_parens(around), b"(", b")", out),
         Node::Bracket(sign, e) => {
-            let close = closing(*sign).spelling().as_bytes();
+            let close = sign.closing().spelling().as_bytes();
             print_whole(
                 e.get(),
                 Around::Brackets,

@@ -15,7 +15,7 @@ use Rattle.st_il.specs.declared.ty.Ty.TheVariants as ty
 use Rattle.st_il.specs.declared.expression.IlExp.TheVariants as il
 use Rattle.st_elab_table.specs.declared.decls.Decls.{Decls}
 use Rattle.st_elab_table.specs.declared.decls.Scope.{Scope}
-use Rattle.st_elab_table.specs.declared.within.Within.{Within}
+use Rattle.st_dims.specs.declared.within.Within.{Within}
 use Rattle.st_num.specs.declared.fault.Fault.{Fault as ExpFault}
 use Rattle.st_elab_table.specs.declared.operator.Operator.{Operator}
 use Rattle.st_elab_table.specs.declared.operator.Operator.TheVariants as operator
@@ -30,7 +30,7 @@ use Rattle.st_elab_table.specs.Elaboration.{Leads}
 use Rattle.st_elab_rows.specs.declared.asking.Found.{Found}
 use Rattle.st_elab_rows.specs.declared.asking.Part.{Part}
 use Rattle.st_elab_rows.specs.declared.asking.Context.{Context}
-use Rattle.st_elab_rows.specs.Asking.{LeadsTo}
+use Rattle.st_elab_rows.specs.inner.Asking.{LeadsTo}
 use Rattle.st_elab_rows.proofs.Builds.{leads_then, leads_else}
 
 no_concatenation : (o : Operator) → (o ≡ operator.Concatenation → ⊥) → is_concatenation o ≡ false

@@ -11,13 +11,13 @@ use Rattle.st_il.specs.declared.ty.Ty.TheVariants as ty
 use Rattle.st_il.specs.declared.expression.IlExp.{IlExp}
 use Rattle.st_il.specs.declared.expression.IlExp.TheVariants as il
 use Rattle.st_il.specs.declared.expression.ListItem.{ListItem}
-use Rattle.st_types.specs.Meaning.{Means}
+use Rattle.st_type_table.specs.Meaning.{Means}
 use Rattle.st_notation.specs.declared.filled.Filled.{Filled}
 use Rattle.st_notation.specs.Fits.{Filling}
 use Rattle.st_notation.specs.Fitted.{plain, fillings}
 use Rattle.st_elab_table.specs.declared.decls.Decls.{Decls}
 use Rattle.st_elab_table.specs.declared.decls.Scope.{Scope}
-use Rattle.st_elab_table.specs.declared.within.Within.{Within}
+use Rattle.st_dims.specs.declared.within.Within.{Within}
 use Rattle.st_elab_table.specs.Questions.{Question, item, hole, Made, Breach, Answer, Gives, Fails, Step, Opens}
 use Rattle.st_elab_table.specs.Steps.{breach, give, pass, asked, holes, each_asked, exp_of, list_of_one}
 use Rattle.st_elab_table.specs.Collections.{element, other_row, eps_row, sequence, item_of, item_row, run_at, run_row}
@@ -25,7 +25,8 @@ use Rattle.st_elab_table.specs.Elaboration.{Leads, Answered, by_row, ends, goes_
 use Rattle.st_num.specs.declared.fault.Fault.{Fault as ExpFault}
 use Rattle.st_num.specs.declared.fault.Fault.TheVariants as fault
 use Rattle.st_elab_rows.specs.declared.asking.Context.{Context}
-use Rattle.st_elab_rows.specs.Parts.{Breaks, AskedAs, Continues, LeadsToItem}
+use Rattle.st_elab_rows.specs.Parts.{Breaks, AskedAs}
+use Rattle.st_elab_rows.specs.inner.Continuing.{Continues, LeadsToItem}
 use Rattle.st_elab_rows.proofs.Builds.{from_place, questions_from, continues_more, continues_ends}
 
 other_no : (w : Within) (at : Span) (p : Bool) (e : Exp) (t u : Ty) → ((x : Ty) → u ≡ ty.List x → ⊥) → ((x : Ty) → u ≡ ty.Opt x → ⊥)

@@ -6,7 +6,7 @@ use Rattle.std.specs.Map.{lookup}
 use Rattle.st_num.specs.declared.span.Span.{Span}
 use Rattle.st_num.specs.declared.rule.RuleId.TheVariants.{B2, B3, Y3}
 use Rattle.st_num.specs.declared.mark.Mark.{Mark}
-use Rattle.st_el.specs.Erasure.{same_name}
+use Rattle.st_num.specs.Names.{same_name}
 use Rattle.st_el.specs.declared.expression.Exp.{Exp}
 use Rattle.st_el.specs.declared.expression.Node.{Node, out-Node}
 use Rattle.st_el.specs.declared.expression.Node.TheVariants as node
@@ -18,18 +18,18 @@ use Rattle.st_il.specs.declared.ty.Ty.TheVariants as ty
 use Rattle.st_il.specs.declared.definition.FunDef.{FunDef}
 use Rattle.st_elab_table.specs.declared.decls.Decls.{Decls}
 use Rattle.st_elab_table.specs.declared.decls.Scope.{Scope}
-use Rattle.st_elab_table.specs.declared.within.Within.{Within}
+use Rattle.st_dims.specs.declared.within.Within.{Within}
 use Rattle.st_num.specs.declared.fault.Fault.{Fault as ExpFault}
 use Rattle.st_elab_table.specs.Variables.{type_of_name}
 use Rattle.st_elab_table.specs.Forms.{inferable}
-use Rattle.st_elab_table.specs.Iterations.{is_among}
+use Rattle.st_num.specs.Names.{is_among}
 use Rattle.st_elab_table.specs.Questions.{Answer, Fails}
 use Rattle.st_elab_table.specs.Steps.{breach}
 use Rattle.st_elab_table.specs.Inferred.{entry_of, variable_type, variable_row, call_row, inferred_at, inferred_row}
 use Rattle.st_elab_table.specs.Elaboration.{Leads, ends}
 use Rattle.st_elab_rows.specs.declared.asking.Found.{Found}
 use Rattle.st_elab_rows.specs.declared.asking.Context.{Context}
-use Rattle.st_elab_rows.specs.Asking.{LeadsTo}
+use Rattle.st_elab_rows.specs.inner.Asking.{LeadsTo}
 use Rattle.st_elab_rows.proofs.Builds.{leads_then, leads_else}
 
 -- ---- the type of a variable

@@ -6,18 +6,18 @@ use Rattle.std.specs.Option.{option_map}
 use Rattle.std.proofs.lemmas.List.{map-append}
 use Rattle.st_num.specs.declared.span.Span.{Span}
 use Rattle.st_num.specs.declared.rule.RuleId.TheVariants.{Y4}
-use Rattle.st_el.specs.Erasure.{same_name}
+use Rattle.st_num.specs.Names.{same_name}
 use Rattle.st_el.specs.declared.expression.Exp.{Exp}
 use Rattle.st_il.specs.declared.ty.Ty.{Ty, out-Ty, roll-Ty, roll-out-Ty}
 use Rattle.st_il.specs.declared.ty.Ty.TheOpen.{Ty-F}
 use Rattle.st_il.specs.declared.ty.Ty.TheVariants as ty
 use Rattle.st_il.specs.declared.definition.SyntaxDef.{SyntaxDef}
 use Rattle.st_il.specs.declared.expression.IlExp.TheVariants as il
-use Rattle.st_types.specs.declared.entry.CaseDef.{CaseDef}
-use Rattle.st_types.specs.Meaning.{Means, fields_of}
-use Rattle.st_types.specs.Cases.{HasCases, HasFields}
-use Rattle.st_types.proofs.MeansLemmas.{Means-single}
-use Rattle.st_types.proofs.CasesLemmas.{HasCases-single}
+use Rattle.st_type_table.specs.declared.entry.CaseDef.{CaseDef}
+use Rattle.st_type_table.specs.Meaning.{Means, fields_of}
+use Rattle.st_type_table.specs.Cases.{HasCases, HasFields}
+use Rattle.st_type_table.proofs.MeansLemmas.{Means-single}
+use Rattle.st_type_table.proofs.CasesLemmas.{HasCases-single}
 use Rattle.st_notation.specs.declared.filled.Shape.{Shape}
 use Rattle.st_notation.specs.declared.filled.Filled.{Filled}
 use Rattle.st_notation.specs.Fits.{Filling, one, missing}
@@ -25,7 +25,7 @@ use Rattle.st_notation.specs.Fitted.{plain, fillings}
 use Rattle.st_notation.specs.Key.{key_of}
 use Rattle.st_elab_table.specs.declared.decls.Decls.{Decls}
 use Rattle.st_elab_table.specs.declared.decls.Scope.{Scope}
-use Rattle.st_elab_table.specs.declared.within.Within.{Within}
+use Rattle.st_dims.specs.declared.within.Within.{Within}
 use Rattle.st_elab_table.proofs.ChoiceLemmas.{ChosenBy-single}
 use Rattle.st_elab_table.specs.Choice.{shape_of, HaveShapes, IsChosenBy, FillsCase, IsCaseOf}
 use Rattle.st_elab_table.specs.Questions.{Chosen, Answer, Fails, Step, asks}

@@ -7,11 +7,13 @@ use Rattle.st_il.specs.declared.ty.Ty.{Ty, out-Ty, roll-Ty, roll-out-Ty}
 use Rattle.st_il.specs.declared.ty.Ty.TheOpen.{Ty-F}
 use Rattle.st_il.specs.declared.ty.Ty.TheVariants as ty
 use Rattle.st_il.specs.declared.expression.IlExp.{IlExp}
+use Rattle.st_il.specs.Occurrences.{occurs}
 use Rattle.st_elab_table.specs.declared.decls.Decls.{Decls}
 use Rattle.st_elab_table.specs.declared.decls.Scope.{Scope}
-use Rattle.st_elab_table.specs.declared.within.Within.{Within}
+use Rattle.st_dims.specs.declared.within.Within.{Within}
 use Rattle.st_elab_table.specs.Forms.{goes_over_list}
-use Rattle.st_elab_table.specs.Iterations.{inside, iterated_type, iterated_in, iterated}
+use Rattle.st_dims.specs.Around.{inside}
+use Rattle.st_elab_table.specs.Iterations.{iterated_type, iterated_in, iterated}
 use Rattle.st_elab_table.specs.Questions.{Made, Answer, Step, Asks}
 use Rattle.st_elab_table.specs.Steps.{asked, found}
 use Rattle.st_elab_table.specs.Collections.{other_row, iteration, body_row, iteration_row}
@@ -71,7 +73,8 @@ module _ (D : Decls) (S : Scope) where
       there (λ m. iteration S w c m.exp (iterated_type c m.ty)) a (subst (λ z. Leads D S (iteration S w c m.exp z) a) same h)
 
 -- the variables that the iteration names
-pub names_are : (S : Scope) (w inner : Within) (c : Count) (names : List (List ℕ)) (x y : IlExp) → names ≡ iterated_in S.variables (length w.kinds) inner.indices x
-    → inner ≡ inside w c → x ≡ y → names ≡ iterated S w c y
+pub names_are : (S : Scope) (w inner : Within) (c : Count) (names : List (List ℕ)) (x y : IlExp) → names ≡ iterated_in S.variables (length w.kinds) inner.indices (λ name. occurs name x)
+    → inner ≡ inside w c → x ≡ y → names ≡ iterated S w c (λ name. occurs name y)
 names_are S w inner c names x y is there same =
-    is ∙ ap (λ (z : Within). iterated_in S.variables (length w.kinds) z.indices x) there ∙ ap (iterated_in S.variables (length w.kinds) (inside w c).indices) same
+    is ∙ ap (λ (z : Within). iterated_in S.variables (length w.kinds) z.indices (λ name. occurs name x)) there
+    ∙ ap (λ z. iterated_in S.variables (length w.kinds) (inside w c).indices (λ name. occurs name z)) same

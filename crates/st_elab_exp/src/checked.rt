@@ -2,10 +2,10 @@
 
 ghost use Rattle.st_el.specs.declared.expression.Node.{out-Node};
 ghost use Rattle.st_il.specs.declared.ty.Ty.{out-Ty};
-ghost use Rattle.st_types.specs.Meaning.{Means};
+ghost use Rattle.st_type_table.specs.Meaning.{Means};
 ghost use Rattle.st_notation.specs.Elements.{opened};
 ghost use Rattle.st_elab_table.specs.Checked.{sequence_at, form_row, plain_row, tuple_at, checked_row};
-ghost use Rattle.st_elab_rows.specs.Asking.{AnswersAll, LeadsTo};
+ghost use Rattle.st_elab_rows.specs.inner.Asking.{AnswersAll, LeadsTo};
 
 use crate::collection::{eps_row, other_row, sequence};
 use crate::inferred::arguments;
@@ -16,7 +16,8 @@ use st_elab_rows::ask::{asked_at, found_at};
 use st_elab_rows::asking::{Asking, Context, Found, Part};
 use st_elab_rows::fitting::{concatenation_row, fitted, give_at};
 use st_elab_rows::form::{inferable, is_run};
-use st_elab_table::{ExpFault, Operator, Within, operator_of};
+use st_dims::Within;
+use st_elab_table::{ExpFault, Operator, operator_of};
 use st_il::{IlExp, Ty};
 
 /// A sequence, at a type of this meaning.

@@ -7,9 +7,10 @@ ghost use Rattle.st_elab_table.specs.Questions.{item};
 ghost use Rattle.st_il.specs.declared.expression.IlExp.TheVariants as il;
 ghost use Rattle.st_elab_table.specs.Steps.{exp_of, give, holes};
 ghost use Rattle.st_elab_table.specs.Collections.{element, other_row, eps_row, sequence, item_of, item_row, found_item, run_row, hole_row};
-ghost use Rattle.st_elab_rows.specs.Asking.{AnswersAll, LeadsTo, made_by};
-ghost use Rattle.st_elab_rows.specs.Parts.{TellsAll, IsItem, LeadsToItem};
-ghost use Rattle.st_elab_rows.specs.Words.{lift_of};
+ghost use Rattle.st_elab_rows.specs.inner.Asking.{AnswersAll, LeadsTo, made_by};
+ghost use Rattle.st_elab_rows.specs.Parts.{TellsAll};
+ghost use Rattle.st_elab_rows.specs.inner.Continuing.{IsItem, LeadsToItem};
+ghost use Rattle.st_elab_rows.specs.inner.Words.{lift_of};
 
 use st_el::Exp;
 use st_elab_rows::ask::{asked, asked_at, found};
@@ -17,10 +18,12 @@ use st_elab_rows::asking::{Asking, Context, Found, Part};
 use st_elab_rows::fitting::{Lifting, give_at, lift};
 use st_elab_rows::form::{inferable, is_spliced, is_told_by_type};
 use st_elab_rows::found::{is_collection, raise};
-use st_elab_table::{ExpFault, Within};
+use st_dims::Within;
+use st_elab_table::ExpFault;
 use st_il::{IlExp, ListItem, Ty, copy_ty};
 use st_notation::Filled;
 use st_num::{Row, RuleId, Span};
+use st_types::is_sub;
 
 /// One element of this type, in a list or an option.
 fn element<F: Fn(&Within, &Asking<'_>) -> Result<Found, ExpFault>>(
@@ -176,11 +179,11 @@ fn found_item(
     ensures { LeadsToItem context.now (found_item at ty.now element.now (made_by given)) result }
 {
     let Found { exp, ty: has } = given;
-    if context.decls.types.is_sub(&has, element) {
+    if is_sub(&context.decls.types, &has, element) {
         let one = raise(context.alloc, context.decls, exp, &has, element)?;
         return Ok(ListItem::One(one.into_inner()));
     }
-    if context.decls.types.is_sub(&has, ty) {
+    if is_sub(&context.decls.types, &has, ty) {
         let list = raise(context.alloc, context.decls, exp, &has, ty)?;
         return Ok(ListItem::All(list.into_inner()));
     }

@@ -2,12 +2,13 @@
 
 ghost use Rattle.st_elab_table.specs.Elaboration.{row};
 ghost use Rattle.st_elab_rows.specs.Told.{Tells};
-ghost use Rattle.st_elab_rows.specs.Asking.{AnswersAll, LeadsTo, question, made_by};
+ghost use Rattle.st_elab_rows.specs.inner.Asking.{AnswersAll, LeadsTo, question, made_by};
 
 use crate::checked::checked_row;
 use crate::inferred::inferred_row;
 use st_elab_rows::asking::{Asking, Context, Found, Part};
-use st_elab_table::{Decls, ExpFault, Scope, Within};
+use st_dims::Within;
+use st_elab_table::{Decls, ExpFault, Scope};
 use std::alloc::Global;
 
 /// How many questions may lie inside one another.

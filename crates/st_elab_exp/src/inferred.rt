@@ -11,9 +11,9 @@ ghost use Rattle.st_elab_table.specs.Operators.{operator_of};
 ghost use Rattle.st_elab_table.specs.Operands.{binary_row};
 ghost use Rattle.st_elab_table.specs.Inferred.{variable_type, variable_row, fun_named, call_row, inferred_tuple, inferred_at, inferred_row};
 ghost use Rattle.st_elab_table.specs.Steps.{made, give, found, each_asked, exp_of};
-ghost use Rattle.st_elab_rows.specs.Asking.{AnswersAll, LeadsTo, made_by};
+ghost use Rattle.st_elab_rows.specs.inner.Asking.{AnswersAll, LeadsTo, made_by};
 ghost use Rattle.st_elab_rows.specs.Parts.{TellsAll};
-ghost use Rattle.st_elab_exp.specs.Pairs.{TellsPairs};
+ghost use Rattle.st_elab_exp.specs.inner.Pairs.{TellsPairs};
 
 use crate::turn::inferred_iteration;
 use st_el::{Exp, Node};
@@ -21,13 +21,13 @@ use st_elab_rows::ask::{asked, found, found_at};
 use st_elab_rows::asking::{Asking, Context, Found, give};
 use st_elab_rows::fitting::{give_at, inferred_concatenation};
 use st_elab_rows::form::inferable;
-use st_elab_rows::iteration::is_among;
 use st_elab_rows::number::{arithmetic_row, negation_row, order_row, power_row};
 use st_elab_rows::operand::{equation_row, logic_row, membership_row, not_row};
 use st_elab_rows::part::{field_row, length_row, position_row, slice_row};
 use st_elab_rows::path::{extension_row, update_row};
 use st_elab_rows::variable::{fun_named, scoped_type, type_of_name};
-use st_elab_table::{ExpFault, Operator, Within, operator_of};
+use st_dims::{Within, is_among};
+use st_elab_table::{ExpFault, Operator, operator_of};
 use st_il::{IlExp, Ty, copy_ty};
 use st_num::{Mark, Name, NoMemory, Row, RuleId, Span};
 

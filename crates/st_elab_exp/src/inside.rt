@@ -1,19 +1,23 @@
 //! Expressions and fillings, elaborated inside of iterations.
 
+ghost use Rattle.st_el.specs.declared.expression.Count.{out-Count};
 ghost use Rattle.st_notation.specs.Fitted.{fillings};
+ghost use Rattle.st_elab_table.specs.Collections.{counted_at};
 ghost use Rattle.st_elab_table.specs.Steps.{exp_of, holes, each_asked};
-ghost use Rattle.st_elab_rows.specs.Told.{Told, Tells};
-ghost use Rattle.st_elab_rows.specs.Asking.{question, made_by};
+ghost use Rattle.st_elab_rows.specs.Told.{Told, Tells, Reaches};
+ghost use Rattle.st_elab_rows.specs.inner.Asking.{question, made_by};
 ghost use Rattle.st_elab_rows.specs.Parts.{TellsAll};
 ghost use Rattle.st_elab_exp.specs.Inside.{ElabInside, InsideBreach};
 
 use crate::collection::all_holes;
 use crate::driver::{DEPTH, answer};
 use crate::inferred::arguments;
-use st_el::Exp;
+use crate::turn::counted;
+use st_el::{Count, Exp};
 use st_elab_rows::asking::{Asking, Context};
-use st_elab_table::{Decls, ExpFault, Scope, Within};
-use st_il::{IlExp, Ty};
+use st_dims::Within;
+use st_elab_table::{Decls, ExpFault, Scope};
+use st_il::{IlExp, Iteration, Ty};
 use st_notation::Filled;
 use st_num::{Boxed, Row, Span};
 use std::alloc::Global;
@@ -97,5 +101,32 @@ pub fn check_fillings(
         at,
         filled,
         tys,
+    )
+}
+
+/// How often an iteration goes that stands inside of this, or the first breach.
+pub fn check_count(
+    alloc: Global,
+    decls: &Decls,
+    scope: &Scope,
+    within: &Within,
+    count: &Count,
+) -> Result<Iteration, ExpFault>
+    ensures { Reaches decls.now scope.now (counted_at within.now (out-Count count.now))
+        (λ times. times) result }
+{
+    let context = Context {
+        alloc,
+        decls,
+        scope,
+        within,
+    };
+    counted(
+        &context,
+        &|inner: &Within, part: &Asking<'_>|
+            ensures { Tells decls.entry.now scope.entry.now (question inner.now part.now) made_by
+                result }
+        { answer(alloc, decls, scope, inner, part, DEPTH) },
+        count,
     )
 }

@@ -18,5 +18,5 @@ mod record_row;
 mod turn;
 
 pub use elaborate::{around, check_exp, infer_exp};
-pub use inside::{check_fillings, check_inside, check_parts};
+pub use inside::{check_count, check_fillings, check_inside, check_parts};
 pub use st_elab_table::{Decls, ExpFault, Scope};

@@ -4,10 +4,11 @@ ghost use Rattle.std.specs.Prelude.{◌≡◌, IfOk};
 ghost use Rattle.st_el.specs.declared.expression.Count.{out-Count};
 ghost use Rattle.st_il.specs.declared.ty.Ty.{out-Ty};
 ghost use Rattle.st_il.specs.declared.expression.IlExp.TheVariants as il;
-ghost use Rattle.st_elab_table.specs.Iterations.{inside, iterated_type};
+ghost use Rattle.st_dims.specs.Around.{inside};
+ghost use Rattle.st_elab_table.specs.Iterations.{iterated_type};
 ghost use Rattle.st_elab_table.specs.Collections.{counted_at, iteration, body_row, iteration_row};
 ghost use Rattle.st_elab_table.specs.Inferred.{inferred_iteration};
-ghost use Rattle.st_elab_rows.specs.Asking.{AnswersAll, LeadsTo};
+ghost use Rattle.st_elab_rows.specs.inner.Asking.{AnswersAll, LeadsTo};
 ghost use Rattle.st_elab_rows.specs.Told.{Reaches};
 
 use crate::collection::other_row;
@@ -15,8 +16,9 @@ use st_el::{Count, Exp};
 use st_elab_rows::ask::{asked, asked_inside, found_inside};
 use st_elab_rows::asking::{Asking, Context, Found, Part, give};
 use st_elab_rows::form::goes_over_list;
-use st_elab_rows::iteration::{inside, iterated, kind_of};
-use st_elab_table::{ExpFault, Within};
+use st_elab_rows::iteration::iterated;
+use st_dims::{Within, kind_of};
+use st_elab_table::ExpFault;
 use st_il::{IlExp, Iteration, Ty, copy_ty};
 use st_num::{Boxed, Kind, NoMemory};
 use std::alloc::Global;
@@ -33,7 +35,7 @@ fn iterated_type(alloc: Global, count: &Count, body: Ty) -> Result<Ty, NoMemory>
 }
 
 /// How often an iteration goes; the count stands outside of it.
-fn counted<F: Fn(&Within, &Asking<'_>) -> Result<Found, ExpFault>>(
+pub fn counted<F: Fn(&Within, &Asking<'_>) -> Result<Found, ExpFault>>(
     context: &Context<'_>,
     ask: &F,
     count: &Count,
@@ -99,7 +101,7 @@ fn body_row<F: Fn(&Within, &Asking<'_>) -> Result<Found, ExpFault>>(
     ensures { LeadsTo context.now (body_row context.now.scope.now context.now.within.now body.now
         count.now element.now ty.now) result }
 {
-    let inner = inside(context.alloc, context.within, count)?;
+    let inner = context.within.inside(context.alloc, count)?;
     let one = asked_inside(context, ask, &inner, body, element)?;
     let ty = copy_ty(context.alloc, ty)?;
     iteration(context, ask, &inner, count, one.exp, ty)
@@ -150,7 +152,7 @@ pub fn inferred_iteration<F: Fn(&Within, &Asking<'_>) -> Result<Found, ExpFault>
     ensures { LeadsTo context.now (inferred_iteration context.now.scope.now
         context.now.within.now body.now count.now) result }
 {
-    let inner = inside(context.alloc, context.within, count)?;
+    let inner = context.within.inside(context.alloc, count)?;
     let one = found_inside(context, ask, &inner, body)?;
     let ty = iterated_type(context.alloc, count, one.ty)?;
     iteration(context, ask, &inner, count, one.exp, ty)

@@ -14,9 +14,9 @@ use Rattle.st_il.specs.declared.definition.SyntaxDef.{SyntaxDef}
 use Rattle.st_il.specs.declared.definition.SyntaxBody.{SyntaxBody}
 use Rattle.st_il.specs.declared.definition.SyntaxBody.TheVariants as body
 use Rattle.st_il.specs.declared.definition.Alternative.{Alternative}
-use Rattle.st_types.specs.declared.entry.CaseDef.{CaseDef}
-use Rattle.st_types.specs.Meaning.{body_of, named_at, named, aliased, listed, recorded, alias_of, alternatives_of, fields_of, Means, itself, alias}
-use Rattle.st_types.specs.Cases.{or_none, Brings, own, included, Flatten, none, more, HasCases}
+use Rattle.st_type_table.specs.declared.entry.CaseDef.{CaseDef}
+use Rattle.st_type_table.specs.Meaning.{body_of, named_at, named, aliased, listed, recorded, alias_of, alternatives_of, fields_of, Means, itself, alias}
+use Rattle.st_type_table.specs.Cases.{or_none, Brings, own, included, Flatten, none, more, HasCases}
 use Rattle.st_erase.specs.Records.{next_name, on_by, fields_by, body_of as written_of, fields_of as names_of}
 use Rattle.st_elab_table.specs.declared.decls.Decls.{Decls}
 use Rattle.st_elab_table.specs.Records.{field_names}

@@ -13,8 +13,8 @@ use Rattle.st_il.specs.Template.{HasTag}
 use Rattle.st_il.specs.Key.{PlainKey, free}
 use Rattle.st_il.specs.declared.expression.IlExp.TheVariants as il
 use Rattle.st_il.proofs.Tags.{one_template}
-use Rattle.st_types.specs.declared.entry.CaseDef.{CaseDef}
-use Rattle.st_types.proofs.MeansLemmas.{Means-single}
+use Rattle.st_type_table.specs.declared.entry.CaseDef.{CaseDef}
+use Rattle.st_type_table.proofs.MeansLemmas.{Means-single}
 use Rattle.st_notation.specs.declared.filled.Shape.{Shape}
 use Rattle.st_notation.specs.Elements.{bare}
 use Rattle.st_notation.specs.Fits.{Filling, one, run, missing}
@@ -27,7 +27,7 @@ use Rattle.st_erase.specs.Tags.{template_of, IsOf}
 use Rattle.st_erase.specs.Erasure.{case_by, erased}
 use Rattle.st_erase.proofs.TagLemmas.{is_template}
 use Rattle.st_elab_table.specs.declared.decls.Decls.{Decls}
-use Rattle.st_elab_table.specs.declared.within.Within.{Within}
+use Rattle.st_dims.specs.declared.within.Within.{Within}
 use Rattle.st_elab_table.specs.Choice.{shape_at, HasShape, HaveShapes, IsFirstWith, here, later, IsChosenBy, keyed, keyless, IsCaseOf}
 use Rattle.st_elab_table.specs.Questions.{Made, Chosen}
 use Rattle.st_elab_table.specs.Steps.{give, holes, exps}

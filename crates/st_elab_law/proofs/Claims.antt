@@ -5,7 +5,7 @@ use Rattle.st_el.specs.Plain.{plain_exp}
 use Rattle.st_il.specs.declared.definition.IlDef.{IlDef}
 use Rattle.st_il.specs.declared.ty.Ty.{Ty}
 use Rattle.st_il.specs.declared.ty.Ty.TheVariants as ty
-use Rattle.st_types.specs.Meaning.{Means}
+use Rattle.st_type_table.specs.Meaning.{Means}
 use Rattle.st_notation.specs.Fits.{Filling, one, run, missing}
 use Rattle.st_erase.specs.declared.erased.Erased.{Erased}
 use Rattle.st_erase.specs.declared.erased.Kind.{Kind}

@@ -20,7 +20,7 @@ use Rattle.st_il.specs.declared.expression.IlExp.TheVariants as il
 use Rattle.st_il.specs.declared.expression.ListItem.TheVariants as part
 use Rattle.st_il.specs.declared.expression.Iteration.{Iteration}
 use Rattle.st_il.specs.declared.expression.Iteration.TheVariants as iteration
-use Rattle.st_types.specs.Meaning.{Means}
+use Rattle.st_type_table.specs.Meaning.{Means}
 use Rattle.st_notation.specs.Elements.{opened}
 use Rattle.st_notation.specs.Fits.{Filling, one, run, missing}
 use Rattle.st_erase.specs.declared.erased.Erased.{Erased}
@@ -29,12 +29,13 @@ use Rattle.st_erase.specs.Places.{exp, whole, count, parts_at, run as run_of}
 use Rattle.st_erase.specs.Erasure.{source, lifted, erased, erased_item, erased_iteration}
 use Rattle.st_elab_table.specs.declared.decls.Decls.{Decls}
 use Rattle.st_elab_table.specs.declared.decls.Scope.{Scope}
-use Rattle.st_elab_table.specs.declared.within.Within.{Within}
+use Rattle.st_dims.specs.declared.within.Within.{Within}
 use Rattle.st_elab_table.specs.declared.operator.Operator.TheVariants as operator
 use Rattle.st_elab_table.specs.Operators.{operator_of}
 use Rattle.st_elab_table.specs.Forms.{place, is_spliced, is_told_by_type, goes_over_list}
 use Rattle.st_elab_table.specs.Questions.{item, Made, Step, Asks}
 use Rattle.st_elab_table.specs.Steps.{made, give, asked, is_collection, list_of_one, lifted_to, lifted_at, fitted}
+use Rattle.st_il.specs.Occurrences.{occurs}
 use Rattle.st_elab_table.specs.Iterations.{iterated}
 use Rattle.st_elab_table.specs.Collections as table
 use Rattle.st_elab_table.proofs.Keeps.{Keeps}
@@ -124,10 +125,10 @@ module _ (defs : List IlDef) (D : Decls) where
 
   pub iteration_keeps : (Alone : Type 0) (S : Scope) (w : Within) (e b : Exp) (c : Count) (x : IlExp) (t : Ty) → opened e ≡ Node-F.Iter b c → IsSource (erased defs x) b
       → Kept defs D Alone e (table.iteration S w c x t)
-  iteration_keeps Alone S w e b c x t is h = counted_keeps (Writes defs Alone e) w c (out-Count c) (λ k. give (il.Iter k (iterated S w c x) x) t) refl (λ k g.
+  iteration_keeps Alone S w e b c x t is h = counted_keeps (Writes defs Alone e) w c (out-Count c) (λ k. give (il.Iter k (iterated S w c (λ name. occurs name x)) x) t) refl (λ k g.
       let part = whole_source (erased defs x) b h in
-      form_written Alone (erased defs (il.Iter k (iterated S w c x) x)) e (node.Iter (whole (erased defs x)) (erased_iteration defs k)) _ _
-      (erased-Iter defs k (iterated S w c x) x) (node.outs-Iter (whole (erased defs x)) (erased_iteration defs k)) is (λ i. exp (roll-Node (Node-F.Iter (part i) (g i)))))
+      form_written Alone (erased defs (il.Iter k (iterated S w c (λ name. occurs name x)) x)) e (node.Iter (whole (erased defs x)) (erased_iteration defs k)) _ _
+      (erased-Iter defs k (iterated S w c (λ name. occurs name x)) x) (node.outs-Iter (whole (erased defs x)) (erased_iteration defs k)) is (λ i. exp (roll-Node (Node-F.Iter (part i) (g i)))))
 
   pub iterated_keeps : (Alone : Type 0) (S : Scope) (w : Within) (at : Span) (p : Bool) (e b : Exp) (c : Count) (t : Ty) (y : Ty-F Ty) → opened e ≡ Node-F.Iter b c
       → Kept defs D Alone e (table.iteration_row S w at p e b c t y)

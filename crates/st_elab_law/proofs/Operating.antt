@@ -15,7 +15,7 @@ use Rattle.st_il.specs.declared.expression.IlExp.TheVariants as il
 use Rattle.st_notation.specs.Elements.{opened}
 use Rattle.st_erase.specs.Erasure.{erased, binary, operation}
 use Rattle.st_elab_table.specs.declared.decls.Decls.{Decls}
-use Rattle.st_elab_table.specs.declared.within.Within.{Within}
+use Rattle.st_dims.specs.declared.within.Within.{Within}
 use Rattle.st_elab_table.specs.declared.operator.Operator.{Operator}
 use Rattle.st_elab_table.specs.declared.operator.Operator.TheVariants as operator
 use Rattle.st_elab_table.specs.Operators.{operator_of, connected, equated, ordered, reckoned}

@@ -9,7 +9,7 @@ use Rattle.st_el.specs.declared.expression.Exp.{Exp}
 use Rattle.st_el.specs.declared.expression.Node.{roll-Node}
 use Rattle.st_el.specs.declared.expression.Node.TheVariants as node
 use Rattle.st_el.specs.declared.expression.Count.TheOpen.{Node-F}
-use Rattle.st_el.specs.Erasure.{same_name}
+use Rattle.st_num.specs.Names.{same_name}
 use Rattle.st_el.specs.Plain.{plain_exp}
 use Rattle.st_il.specs.declared.definition.IlDef.{IlDef}
 use Rattle.st_il.specs.declared.definition.FunDef.{FunDef}
@@ -17,7 +17,7 @@ use Rattle.st_il.specs.declared.ty.Ty.{Ty, out-Ty, roll-Ty, roll-out-Ty}
 use Rattle.st_il.specs.declared.ty.Ty.TheOpen.{Ty-F}
 use Rattle.st_il.specs.declared.ty.Ty.TheVariants as ty
 use Rattle.st_il.specs.declared.expression.IlExp.TheVariants as il
-use Rattle.st_types.specs.Meaning.{Means, fields_of}
+use Rattle.st_type_table.specs.Meaning.{Means, fields_of}
 use Rattle.st_notation.specs.declared.filled.Shape.{Shape}
 use Rattle.st_notation.specs.Elements.{opened}
 use Rattle.st_notation.specs.Fits.{Filling, one, missing}
@@ -27,7 +27,7 @@ use Rattle.st_erase.specs.Places.{exp, whole}
 use Rattle.st_erase.specs.Records.{fields_of as names_of}
 use Rattle.st_erase.specs.Erasure.{written, fields, erased}
 use Rattle.st_elab_table.specs.declared.decls.Decls.{Decls}
-use Rattle.st_elab_table.specs.declared.within.Within.{Within}
+use Rattle.st_dims.specs.declared.within.Within.{Within}
 use Rattle.st_elab_table.specs.Choice.{shape_of}
 use Rattle.st_elab_table.specs.Inferred.{fun_named, call_row, inferred_tuple}
 use Rattle.st_elab_table.specs.Questions.{Made, Step}

@@ -15,13 +15,13 @@ use Rattle.st_il.specs.declared.ty.Ty.{Ty, out-Ty}
 use Rattle.st_il.specs.declared.ty.Ty.TheOpen.{Ty-F}
 use Rattle.st_il.specs.declared.expression.IlExp.{IlExp}
 use Rattle.st_il.specs.declared.expression.IlExp.TheVariants as il
-use Rattle.st_types.specs.Meaning.{Means}
+use Rattle.st_type_table.specs.Meaning.{Means}
 use Rattle.st_notation.specs.Elements.{opened}
 use Rattle.st_erase.specs.Places.{exp, whole}
 use Rattle.st_erase.specs.Erasure.{erased}
 use Rattle.st_elab_table.specs.declared.decls.Decls.{Decls}
 use Rattle.st_elab_table.specs.declared.decls.Scope.{Scope}
-use Rattle.st_elab_table.specs.declared.within.Within.{Within}
+use Rattle.st_dims.specs.declared.within.Within.{Within}
 use Rattle.st_elab_table.specs.declared.operator.Operator.{Operator}
 use Rattle.st_elab_table.specs.declared.operator.Operator.TheVariants as operator
 use Rattle.st_elab_table.specs.Operators.{operator_of}

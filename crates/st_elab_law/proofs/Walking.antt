@@ -19,7 +19,7 @@ use Rattle.st_notation.specs.Elements.{opened}
 use Rattle.st_erase.specs.Places.{exp, whole}
 use Rattle.st_erase.specs.Erasure.{erased, erased_segment}
 use Rattle.st_elab_table.specs.declared.decls.Decls.{Decls}
-use Rattle.st_elab_table.specs.declared.within.Within.{Within}
+use Rattle.st_dims.specs.declared.within.Within.{Within}
 use Rattle.st_elab_table.specs.Forms.{place}
 use Rattle.st_elab_table.specs.Questions.{Made, Step, Asks}
 use Rattle.st_elab_table.specs.Steps.{give, asked, as_list}

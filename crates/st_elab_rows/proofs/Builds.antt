@@ -10,12 +10,12 @@ use Rattle.st_el.specs.declared.expression.Count.TheOpen.{Node-F}
 use Rattle.st_el.specs.declared.expression.Seg.{Seg}
 use Rattle.st_il.specs.declared.ty.Ty.{Ty}
 use Rattle.st_il.specs.declared.expression.IlExp.{IlExp}
-use Rattle.st_types.specs.Meaning.{Means}
+use Rattle.st_type_table.specs.Meaning.{Means}
 use Rattle.st_notation.specs.Elements.{node_of, opened}
 use Rattle.st_notation.specs.Fits.{Filling}
 use Rattle.st_elab_table.specs.declared.decls.Decls.{Decls}
 use Rattle.st_elab_table.specs.declared.decls.Scope.{Scope}
-use Rattle.st_elab_table.specs.declared.within.Within.{Within}
+use Rattle.st_dims.specs.declared.within.Within.{Within}
 use Rattle.st_num.specs.declared.fault.Fault.{Fault as ExpFault}
 use Rattle.st_num.specs.declared.fault.Fault.TheVariants as fault
 use Rattle.st_elab_table.specs.Forms.{inferable}
@@ -25,7 +25,8 @@ use Rattle.st_elab_table.specs.Checked.{form_row, plain_row, checked_row}
 use Rattle.st_elab_table.specs.Inferred.{inferred_at}
 use Rattle.st_elab_table.specs.Elaboration.{row, Answered, Leads, by_row, ends, goes_on, stops, opens}
 use Rattle.st_elab_rows.specs.Told.{Told, Tells, Leading, Reaches}
-use Rattle.st_elab_rows.specs.Parts.{Asked, Breaks, AskedAs, TellsAll, Continues}
+use Rattle.st_elab_rows.specs.Parts.{Asked, Breaks, AskedAs, TellsAll}
+use Rattle.st_elab_rows.specs.inner.Continuing.{Continues}
 
 -- a fault is handed on
 pub Told-stops : {A B : Type 0} (P : A → Type 0) (Q : B → Type 0) (F G : Breach → Type 0) (r : Result A ExpFault) (s : Result B ExpFault) (e : ExpFault)

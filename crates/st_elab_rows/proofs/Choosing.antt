@@ -11,9 +11,9 @@ use Rattle.st_il.specs.declared.template.Template.{Template}
 use Rattle.st_il.specs.Template.{HasTag}
 use Rattle.st_il.specs.Key.{PlainKey, free}
 use Rattle.st_il.proofs.Tags.{one_template}
-use Rattle.st_types.specs.declared.entry.CaseDef.{CaseDef}
-use Rattle.st_types.specs.Keys.{HasKey}
-use Rattle.st_types.proofs.KeyLemmas.{HasKey-single}
+use Rattle.st_type_table.specs.declared.entry.CaseDef.{CaseDef}
+use Rattle.st_type_table.specs.Keys.{HasKey}
+use Rattle.st_type_table.proofs.KeyLemmas.{HasKey-single}
 use Rattle.st_notation.specs.declared.filled.Shape.{Shape}
 use Rattle.st_notation.specs.Fits.{Filling, FitsWhole}
 use Rattle.st_elab_table.specs.Choice.{HasShape, HaveShapes, NoneHasKey, IsFirstWith, here, later, IsChosenBy, keyed, keyless, FillsCase}

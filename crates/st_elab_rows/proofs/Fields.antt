@@ -2,9 +2,9 @@
 use Rattle.std.proofs.Common.{◌≡◌, refl, subst, ℕ, List, Some, None}
 use Rattle.st_il.specs.declared.ty.Ty.{Ty}
 use Rattle.st_il.specs.declared.definition.SyntaxDef.{SyntaxDef}
-use Rattle.st_types.specs.Meaning.{alias_of, fields_of, Means, itself, alias}
-use Rattle.st_types.specs.Cases.{HasFields}
-use Rattle.st_types.proofs.MeansLemmas.{Means-single}
+use Rattle.st_type_table.specs.Meaning.{alias_of, fields_of, Means, itself, alias}
+use Rattle.st_type_table.specs.Cases.{HasFields}
+use Rattle.st_type_table.proofs.MeansLemmas.{Means-single}
 
 -- what a type means is no alias
 Means-ends : (defs : List SyntaxDef) (t u : Ty) → Means defs t u → alias_of defs u ≡ None

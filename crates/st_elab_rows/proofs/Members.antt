@@ -7,7 +7,7 @@ use Rattle.st_il.specs.declared.ty.Ty.TheVariants as ty
 use Rattle.st_il.specs.declared.expression.IlExp.TheVariants as il
 use Rattle.st_elab_table.specs.declared.decls.Decls.{Decls}
 use Rattle.st_elab_table.specs.declared.decls.Scope.{Scope}
-use Rattle.st_elab_table.specs.declared.within.Within.{Within}
+use Rattle.st_dims.specs.declared.within.Within.{Within}
 use Rattle.st_elab_table.specs.Forms.{place, inferable}
 use Rattle.st_elab_table.specs.Questions.{Made, Answer, Fails, Step, Asks}
 use Rattle.st_elab_table.specs.Steps.{breach, give, asked, found, as_list}

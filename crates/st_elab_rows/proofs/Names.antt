@@ -8,7 +8,7 @@ use Rattle.std.proofs.lemmas.List.{take_more, map-append}
 use Rattle.st_il.specs.declared.ty.Ty.{Ty}
 use Rattle.st_elab_table.specs.declared.decls.Decls.{Decls}
 use Rattle.st_elab_table.specs.Variables.{before_end, unprimed, fronts, named_type, first_type, type_of_name}
-use Rattle.st_elab_rows.specs.Searching.{remaining_at, remaining_before}
+use Rattle.st_elab_rows.specs.inner.Searching.{remaining_at, remaining_before}
 
 pub unprimed_prime : (cs : List ℕ) → unprimed (cs ++ byte "'" ∷ []) ≡ unprimed cs
 unprimed_prime [] = refl

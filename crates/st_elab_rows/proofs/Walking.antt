@@ -7,7 +7,7 @@ use Rattle.st_il.specs.declared.ty.Ty.{Ty}
 use Rattle.st_il.specs.declared.expression.PathSeg.{PathSeg}
 use Rattle.st_elab_table.specs.declared.decls.Decls.{Decls}
 use Rattle.st_elab_table.specs.declared.decls.Scope.{Scope}
-use Rattle.st_elab_table.specs.declared.within.Within.{Within}
+use Rattle.st_dims.specs.declared.within.Within.{Within}
 use Rattle.st_num.specs.declared.fault.Fault.{Fault as ExpFault}
 use Rattle.st_elab_table.specs.Questions.{Made, Answer, Gives, Fails, Step}
 use Rattle.st_elab_table.specs.Paths.{step_row, along}
@@ -15,7 +15,7 @@ use Rattle.st_elab_table.specs.Elaboration.{Leads}
 use Rattle.st_elab_rows.specs.declared.asking.Context.{Context}
 use Rattle.st_elab_rows.specs.declared.path.Walked.{Walked}
 use Rattle.st_elab_rows.specs.Told.{Leading}
-use Rattle.st_elab_rows.specs.Walks.{Walks}
+use Rattle.st_elab_rows.specs.inner.Walks.{Walks}
 use Rattle.st_elab_rows.proofs.Builds.{Told-stops, from_place}
 
 -- the steps that are left follow those that are done

@@ -1,7 +1,9 @@
+-- What must be believed of the answers of calls, in reading order.
+
+-- what a call gives is an elaboration, what it refuses a breach, and want of memory says nothing
 pub mod Told
-pub mod Asking
+-- several questions are answered one after another
 pub mod Parts
-pub mod Searching
-pub mod Numbers
-pub mod Words
-pub mod Walks
+
+-- ---- what only proofs need
+pub mod inner

@@ -1,13 +1,10 @@
 -- Several questions, as the code asks them one after another.
-use Rattle.std.specs.Prelude.{◌≡◌, ◌⊎◌, List, [], ◌∷◌, ◌++◌, map, Result}
+use Rattle.std.specs.Prelude.{◌≡◌, ◌⊎◌, List, [], ◌∷◌, map, Result}
 use Rattle.st_elab_table.specs.declared.decls.Decls.{Decls}
 use Rattle.st_elab_table.specs.declared.decls.Scope.{Scope}
 use Rattle.st_num.specs.declared.fault.Fault.{Fault as ExpFault}
-use Rattle.st_elab_table.specs.Questions.{Question, Made, Breach, Gives, Fails, Step}
-use Rattle.st_elab_table.specs.Elaboration.{Answered, Leads}
-use Rattle.st_il.specs.declared.expression.ListItem.{ListItem}
-use Rattle.st_elab_table.specs.Collections.{item_of}
-use Rattle.st_elab_rows.specs.declared.asking.Context.{Context}
+use Rattle.st_elab_table.specs.Questions.{Question, Made, Breach, Gives, Fails}
+use Rattle.st_elab_table.specs.Elaboration.{Answered}
 use Rattle.st_elab_rows.specs.Told.{Told}
 
 -- these are the answers to the questions, in order
@@ -34,17 +31,3 @@ pub record AskedAs (D : Decls) (S : Scope) (qs : List Question) (A : Type 0) (pa
 abbrev pub TellsAll : Decls → Scope → List Question → {A : Type 0} → (Made → A)
     → Result (List A) ExpFault → Type 0
 TellsAll D S qs {A} part r = Told (λ xs. AskedAs D S qs A part xs) (λ b. Breaks D S qs b) r
-
--- what is found so far, with the answers to the questions that are left, answers all questions
-pub record Continues (D : Decls) (S : Scope) (all left : List Question) (A : Type 0)
-    (part : Made → A) (so_far : List A) : Type 0 where
-  pub gives : (xs : List A) → AskedAs D S left A part xs → AskedAs D S all A part (so_far ++ xs)
-  pub breaks : (b : Breach) → Breaks D S left b → Breaks D S all b
-
--- an answer to which the steps lead, that is this item
-abbrev pub IsItem : Context → Step → ListItem → Type 0
-IsItem x s part = (m : Made) × Leads x.decls.now x.scope.now s (Gives m) × (item_of m ≡ part)
-
--- the steps lead to the item
-abbrev pub LeadsToItem : Context → Step → Result ListItem ExpFault → Type 0
-LeadsToItem x s r = Told (IsItem x s) (λ b. Leads x.decls.now x.scope.now s (Fails b)) r

@@ -4,8 +4,8 @@ use Rattle.st_elab_table.specs.declared.decls.Decls.{Decls}
 use Rattle.st_elab_table.specs.declared.decls.Scope.{Scope}
 use Rattle.st_num.specs.declared.fault.Fault.{Fault as ExpFault}
 use Rattle.st_num.specs.declared.fault.Fault.TheVariants as fault
-use Rattle.st_elab_table.specs.Questions.{Question, Made, Breach, Answer, Gives, Fails, Step}
-use Rattle.st_elab_table.specs.Elaboration.{Answered, Leads}
+use Rattle.st_elab_table.specs.Questions.{Question, Made, Breach, Gives, Fails, Step}
+use Rattle.st_elab_table.specs.Elaboration.{Answered, Leads, Reached, Stopped}
 
 -- P holds of what is given and F of a breach; want of memory says nothing
 abbrev pub Told : {A : Type 0} → (A → Type 0) → (Breach → Type 0) → Result A ExpFault → Type 0
@@ -26,5 +26,4 @@ Leading D S s f r = Told (λ x. Leads D S s (Gives (f x))) (λ b. Leads D S s (F
 abbrev pub Reaches : Decls → Scope → {X : Type 0} → ((X → Step) → Step) → {A : Type 0} → (A → X)
     → Result A ExpFault → Type 0
 Reaches D S {X} steps f r =
-    Told (λ x. (next : X → Step) (a : Answer) → Leads D S (next (f x)) a → Leads D S (steps next) a)
-    (λ b. (next : X → Step) → Leads D S (steps next) (Fails b)) r
+    Told (λ x. Reached D S steps (f x)) (Stopped D S steps) r

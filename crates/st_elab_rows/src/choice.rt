@@ -2,12 +2,12 @@
 
 ghost use Rattle.std.specs.Prelude.{◌≡◌, ◌↔◌, IsTrue, MatchOption, List, IfOk};
 ghost use Rattle.st_il.specs.Key.{plain};
-ghost use Rattle.st_types.specs.declared.entry.CaseDef.{CaseDef};
-ghost use Rattle.st_types.specs.Keys.{HasKey};
+ghost use Rattle.st_type_table.specs.declared.entry.CaseDef.{CaseDef};
+ghost use Rattle.st_type_table.specs.Keys.{HasKey};
 ghost use Rattle.st_notation.specs.Key.{key_of};
 ghost use Rattle.st_notation.specs.Fits.{Filling};
 ghost use Rattle.st_notation.specs.Fitted.{fillings};
-ghost use Rattle.st_types.specs.Flat.{plain_key};
+ghost use Rattle.st_type_table.specs.Keys.{plain_key};
 ghost use Rattle.st_elab_table.specs.Choice.{HasShape, HaveShapes, NoneHasKey, IsFirstWith, IsChosenBy, FillsCase, shape_of};
 
 use st_el::Exp;

@@ -5,17 +5,19 @@ ghost use Rattle.st_elab_table.specs.declared.decls.Scope.{Scope};
 ghost use Rattle.st_elab_table.specs.Steps.{made, list_of_one, as_joined, fitted, lifted_to};
 ghost use Rattle.st_elab_table.specs.Operands.{concatenated, inferred_concatenation};
 ghost use Rattle.st_elab_table.specs.Collections.{concatenation_row};
-ghost use Rattle.st_elab_rows.specs.Asking.{AnswersAll, LeadsTo, made_by};
+ghost use Rattle.st_elab_rows.specs.inner.Asking.{AnswersAll, LeadsTo, made_by};
 ghost use Rattle.st_elab_rows.specs.Told.{Reaches};
-ghost use Rattle.st_elab_rows.specs.Words.{join_of, lift_of};
+ghost use Rattle.st_elab_rows.specs.inner.Words.{join_of, lift_of};
 
 use crate::ask::{asked, found};
 use crate::asking::{Asking, Context, Found};
 use crate::found::{is_collection, larger, raise, up};
 use st_el::Exp;
-use st_elab_table::{Decls, ExpFault, Within};
+use st_dims::Within;
+use st_elab_table::{Decls, ExpFault};
 use st_il::{IlExp, ListItem, Ty, copy_ty};
 use st_num::{Boxed, NoMemory, Row, RuleId, Span};
+use st_types::is_sub;
 use std::alloc::Global;
 
 /// This expression of a type that was asked.
@@ -73,7 +75,7 @@ pub fn fitted(context: &Context<'_>, at: Span, given: Found, ty: &Ty) -> Result<
         let same = give_boxed(context.alloc, given.exp, ty)?;
         return Ok(same);
     }
-    if context.decls.types.is_sub(&given.ty, ty) {
+    if is_sub(&context.decls.types, &given.ty, ty) {
         let exp = up(context.alloc, ty, given.exp)?;
         let injected = give_boxed(context.alloc, exp, ty)?;
         return Ok(injected);
@@ -107,7 +109,7 @@ fn lifted_to(
         });
     }
     let Found { exp, ty: has } = given;
-    if context.decls.types.is_sub(&has, element) {
+    if is_sub(&context.decls.types, &has, element) {
         let one = raise(context.alloc, context.decls, exp, &has, element)?;
         let exp = lift(context.alloc, lifting, element, one)?;
         let lifted = give_at(context.alloc, exp, ty)?;

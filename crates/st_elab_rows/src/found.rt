@@ -13,6 +13,7 @@ ghost use Rattle.st_elab_rows.specs.Told.{Reaches};
 use st_elab_table::{Decls, ExpFault};
 use st_il::{IlExp, NumTy, Ty, copy_ty};
 use st_num::{Boxed, NoMemory, RuleId, Span};
+use st_types::is_sub;
 use std::alloc::Global;
 
 /// The element type of a list type; Y5 at this place where it is none.
@@ -87,10 +88,10 @@ pub fn larger<'a>(decls: &Decls, left: &'a Ty, right: &'a Ty) -> Option<&'a Ty>
         (λ ty. Leads decls.now S (next ty.now) a
         → Leads decls.now S (larger left.now right.now next none) a) }
 {
-    if decls.types.is_sub(right, left) {
+    if is_sub(&decls.types, right, left) {
         return Some(left);
     }
-    if decls.types.is_sub(left, right) {
+    if is_sub(&decls.types, left, right) {
         return Some(right);
     }
     None

@@ -1,15 +1,16 @@
 //! The rows of arithmetic and of orders.
 
 ghost use Rattle.st_elab_table.specs.Operands.{order_row, arithmetic_row, power_row, negation_row, numeric, both_numeric};
-ghost use Rattle.st_elab_rows.specs.Asking.{AnswersAll, LeadsTo};
-ghost use Rattle.st_elab_rows.specs.Numbers.{IsNumeric, AreNumeric};
+ghost use Rattle.st_elab_rows.specs.inner.Asking.{AnswersAll, LeadsTo};
+ghost use Rattle.st_elab_rows.specs.inner.Numbers.{IsNumeric, AreNumeric};
 
 use crate::ask::{asked, found};
 use crate::asking::{Asking, Context, Found, give};
 use crate::found::{as_number, inject, number_type, wider};
 use crate::operator::{ordered, reckoned};
 use st_el::Exp;
-use st_elab_table::{ExpFault, Within};
+use st_dims::Within;
+use st_elab_table::ExpFault;
 use st_il::{IlExp, NumTy, Ty};
 use st_num::{Boxed, Mark};
 

@@ -7,7 +7,7 @@ ghost use Rattle.st_elab_table.specs.Operators.{equated};
 ghost use Rattle.st_elab_table.specs.Questions.{Asks};
 ghost use Rattle.st_elab_table.specs.Forms.{place};
 ghost use Rattle.st_elab_table.specs.Steps.{give, asked, found, as_list};
-ghost use Rattle.st_elab_rows.specs.Asking.{AnswersAll, LeadsTo, made_by};
+ghost use Rattle.st_elab_rows.specs.inner.Asking.{AnswersAll, LeadsTo, made_by};
 
 use crate::ask::{asked, found};
 use crate::asking::{Asking, Context, Found, give};
@@ -16,7 +16,8 @@ use crate::found::{as_list, larger, raise};
 use crate::operator::{connected, equated};
 use crate::variable::list_of;
 use st_el::Exp;
-use st_elab_table::{ExpFault, Within};
+use st_dims::Within;
+use st_elab_table::ExpFault;
 use st_il::{IlExp, Ty};
 use st_num::{Mark, RuleId, Span};
 

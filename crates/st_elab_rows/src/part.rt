@@ -2,7 +2,7 @@
 
 ghost use Rattle.st_elab_table.specs.declared.decls.Scope.{Scope};
 ghost use Rattle.st_elab_table.specs.Paths.{length_row, position_row, slice_row, as_field, field_row};
-ghost use Rattle.st_elab_rows.specs.Asking.{AnswersAll, LeadsTo};
+ghost use Rattle.st_elab_rows.specs.inner.Asking.{AnswersAll, LeadsTo};
 ghost use Rattle.st_elab_rows.specs.Told.{Reaches};
 
 use crate::ask::{asked, found};
@@ -10,7 +10,8 @@ use crate::asking::{Asking, Context, Found, give};
 use crate::found::as_list;
 use crate::record::field_named;
 use st_el::Exp;
-use st_elab_table::{Decls, ExpFault, Within};
+use st_dims::Within;
+use st_elab_table::{Decls, ExpFault};
 use st_il::{IlExp, Ty, copy_ty};
 use st_num::{Name, RuleId, Span};
 

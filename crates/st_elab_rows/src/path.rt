@@ -2,15 +2,16 @@
 
 ghost use Rattle.st_el.specs.declared.expression.Seg.{out-Seg};
 ghost use Rattle.st_elab_table.specs.Paths.{step_row, along, update_row, extension_row};
-ghost use Rattle.st_elab_rows.specs.Asking.{AnswersAll, LeadsTo};
-ghost use Rattle.st_elab_rows.specs.Walks.{Steps, Walks};
+ghost use Rattle.st_elab_rows.specs.inner.Asking.{AnswersAll, LeadsTo};
+ghost use Rattle.st_elab_rows.specs.inner.Walks.{Steps, Walks};
 
 use crate::ask::{asked, found};
 use crate::asking::{Asking, Context, Found, give};
 use crate::found::as_list;
 use crate::part::as_field;
 use st_el::{Exp, Seg};
-use st_elab_table::{ExpFault, Within};
+use st_dims::Within;
+use st_elab_table::ExpFault;
 use st_il::{IlExp, PathSeg, Ty, copy_ty};
 use st_num::{Row, Span};
 

@@ -3,7 +3,7 @@
 ghost use Rattle.std.specs.Prelude.{◌≡◌, IfOk};
 ghost use Rattle.std.specs.Option.{option_copied};
 ghost use Rattle.std.specs.Map.{lookup};
-ghost use Rattle.st_el.specs.Erasure.{same_name};
+ghost use Rattle.st_num.specs.Names.{same_name};
 ghost use Rattle.st_elab_table.specs.Records.{field_types};
 
 use st_il::{Ty, copy_ty};

@@ -3,10 +3,10 @@
 ghost use Rattle.std.specs.Prelude.{◌≡◌, ◌↔◌, IsTrue, None, IfOk, length, map, ◌<◌};
 ghost use Rattle.std.specs.Option.{option_copied};
 ghost use Rattle.std.specs.Map.{lookup};
-ghost use Rattle.st_el.specs.Erasure.{same_name};
+ghost use Rattle.st_num.specs.Names.{same_name};
 ghost use Rattle.st_il.specs.declared.ty.Ty.TheVariants as typ;
-ghost use Rattle.st_types.specs.Meaning.{body_of};
-ghost use Rattle.st_elab_rows.specs.Searching.{remaining_at};
+ghost use Rattle.st_type_table.specs.Meaning.{body_of};
+ghost use Rattle.st_elab_rows.specs.inner.Searching.{remaining_at};
 ghost use Rattle.st_elab_table.specs.Inferred.{entry_of, fun_named};
 ghost use Rattle.st_elab_table.specs.Variables.{unprimed, first_type, written_type, named_type, type_of_name};
 

@@ -1,8 +1,7 @@
 -- Premises and variables, one after another, as the code takes them.
-use Rattle.std.proofs.Common.{◌≡◌, sym, ap, ◌∙◌, subst, ℕ, ◌+◌, ◌<◌, ◌≤◌, List, [], ◌∷◌, ◌++◌, length, map, take, drop, get_or, append-nil, Bool, true, false, if◌then◌else◌, inl, inr}
-use Rattle.std.specs.List.{filter, AllByRecursion}
+use Rattle.std.proofs.Common.{◌≡◌, sym, ap, ◌∙◌, subst, ℕ, ◌+◌, ◌<◌, ◌≤◌, List, [], ◌∷◌, ◌++◌, length, take, drop, get_or, inl, inr}
+use Rattle.std.specs.List.{AllByRecursion}
 use Rattle.std.proofs.lemmas.List.{map-append}
-use Rattle.std.proofs.lemmas.List.Elements.{filter-append}
 use Rattle.st_num.specs.declared.dim.Kind.{Kind}
 use Rattle.st_el.specs.declared.expression.Count.{Count}
 use Rattle.st_el.specs.declared.definition.Prem.{Prem}
@@ -12,34 +11,12 @@ use Rattle.st_dims.specs.Dimensions.{Table}
 use Rattle.st_dims.proofs.Lists.{next_taken, all_taken, cut}
 use Rattle.st_elab_table.specs.declared.decls.Decls.{Decls}
 use Rattle.st_elab_table.specs.declared.decls.Scope.{Scope}
-use Rattle.st_elab_table.specs.declared.within.Within.{Within}
+use Rattle.st_dims.specs.declared.within.Within.{Within}
 use Rattle.st_elab_table.specs.Questions.{Breach}
 use Rattle.st_elab_table.specs.Iterations.{Variable}
-use Rattle.st_elab_table.specs.Iterations.{inside}
+use Rattle.st_dims.specs.Around.{inside}
 use Rattle.st_elab_rule.specs.Premises.{node_of, ElabPrem, PremBreach, in_premise, ElabPrems, PremsBreach}
 use Rattle.st_elab_rule.specs.Variables.{table_of, HasItsType}
-
--- ---- variables that pass a test
-
-abbrev passing : (Variable → Bool) → List Variable → List (List ℕ)
-passing test vs = map (λ (v : Variable). v.0) (filter test vs)
-
-next_variable : (test : Variable → Bool) (vs : List Variable) (i : ℕ) (v : Variable) → i < length vs → v ≡ get_or vs i v
-    → passing test (take (i + 1) vs) ≡ passing test (take i vs) ++ passing test (v ∷ [])
-next_variable test vs i v h is =
-    ap (passing test) (next_taken vs i v h is)
-    ∙ ap (map (λ (v : Variable). v.0)) (filter-append test (take i vs) (v ∷ []))
-    ∙ map-append (λ (v : Variable). v.0) (filter test (take i vs)) (filter test (v ∷ []))
-
-pub named : (test : Variable → Bool) (vs : List Variable) (i : ℕ) (v : Variable) → i < length vs → v ≡ get_or vs i v
-    → test v ≡ true → passing test (take i vs) ++ v.0 ∷ [] ≡ passing test (take (i + 1) vs)
-named test vs i v h is e =
-    sym (next_variable test vs i v h is ∙ ap (λ b. passing test (take i vs) ++ map (λ (v : Variable). v.0) (if b then v ∷ [] else [])) e)
-
-pub not_named : (test : Variable → Bool) (vs : List Variable) (i : ℕ) (v : Variable) → i < length vs → v ≡ get_or vs i v
-    → test v ≡ false → passing test (take i vs) ≡ passing test (take (i + 1) vs)
-not_named test vs i v h is e =
-    sym (next_variable test vs i v h is ∙ ap (λ b. passing test (take i vs) ++ map (λ (v : Variable). v.0) (if b then v ∷ [] else [])) e ∙ append-nil (passing test (take i vs)))
 
 -- ---- premises
 

@@ -6,14 +6,14 @@ use Rattle.st_el.specs.declared.expression.Exp.{Exp}
 use Rattle.st_il.specs.declared.ty.Ty.{Ty}
 use Rattle.st_il.specs.declared.expression.IlExp.{IlExp}
 use Rattle.st_il.specs.declared.definition.RelationDef.{RelationDef}
-use Rattle.st_types.specs.declared.entry.CaseDef.{CaseDef}
+use Rattle.st_type_table.specs.declared.entry.CaseDef.{CaseDef}
 use Rattle.st_notation.specs.declared.filled.Filled.{Filled}
 use Rattle.st_notation.specs.Fits.{Filling}
 use Rattle.st_notation.specs.Fitted.{fillings}
 use Rattle.st_elab_table.specs.declared.decls.Decls.{Decls}
 use Rattle.st_elab_table.specs.declared.decls.Scope.{Scope}
 use Rattle.st_num.specs.declared.fault.Fault.{Fault as ExpFault}
-use Rattle.st_elab_table.specs.declared.within.Within.{Within}
+use Rattle.st_dims.specs.declared.within.Within.{Within}
 use Rattle.st_elab_table.specs.Forms.{place}
 use Rattle.st_elab_table.specs.Steps.{exp_of, holes}
 use Rattle.st_elab_table.specs.Choice.{FillsCase}

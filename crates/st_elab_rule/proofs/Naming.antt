@@ -6,12 +6,13 @@ use Rattle.st_num.specs.declared.span.Span.{Span}
 use Rattle.st_num.specs.declared.dim.Kind.{Kind}
 use Rattle.st_dims.specs.declared.mention.Occurrence.{Occurrence}
 use Rattle.st_dims.specs.declared.mention.Mention.{Mention}
-use Rattle.st_dims.specs.Names.{same_name}
+use Rattle.st_num.specs.Names.{same_name}
 use Rattle.st_dims.specs.Mentions.{occurrences_in}
 use Rattle.st_dims.specs.Dimensions.{Table, chains_of, dimension_in, IsFirstShortest, IsOnlyTable}
 use Rattle.st_elab_table.specs.declared.decls.Decls.{Decls}
 use Rattle.st_elab_table.specs.Variables.{type_of_name}
-use Rattle.st_elab_rule.specs.Variables.{is_none, is_untyped, untyped, AreTyped}
+use Rattle.st_elab_rule.specs.Variables.{is_none, is_untyped, untyped}
+use Rattle.st_elab_rule.specs.inner.Typing.{AreTyped}
 
 abbrev Untyped : Decls → List ℕ → Type 0
 Untyped D name = type_of_name D name ≡ None

@@ -1,16 +1,18 @@
 -- A premise has one outcome at most.
-use Rattle.std.proofs.Common.{◌≡◌, refl, sym, ap, ◌∙◌, subst, ℕ, List, [], ◌∷◌, inl, inr, Option, Some, None}
+use Rattle.std.proofs.Common.{◌≡◌, refl, sym, ap, ◌∙◌, subst, ℕ, List, [], ◌∷◌, inl, inr, Option, Some, None, true}
 use Rattle.st_num.specs.declared.rule.RuleId.TheVariants.{Y2, B2}
 use Rattle.st_el.specs.declared.expression.Exp.{Exp}
-use Rattle.st_el.specs.declared.expression.Node.{Node}
-use Rattle.st_el.specs.declared.expression.Seg.{Seg}
 use Rattle.st_el.specs.declared.expression.Count.{Count, out-Count}
-use Rattle.st_el.specs.declared.expression.Count.TheOpen.{Count-F}
 use Rattle.st_el.specs.declared.definition.Prem.{Prem, roll-Prem, out-roll-Prem, ind-Prem, Prem-F}
 use Rattle.st_el.specs.declared.definition.PremNode.{PremNode, out-PremNode, out-roll-PremNode, map-PremNode}
 use Rattle.st_el.specs.declared.definition.PremNode.TheOpen.{PremNode-F}
 use Rattle.st_il.specs.declared.ty.Ty.TheVariants as ty
-use Rattle.st_il.specs.declared.expression.IlExp.{IlExp}
+use Rattle.st_il.specs.declared.expression.IlExp.{IlExp, out-IlExp}
+use Rattle.st_il.specs.declared.expression.IlExp.TheOpen.{IlExp-F}
+use Rattle.st_il.specs.declared.expression.IlExp.TheVariants as il
+use Rattle.st_il.specs.declared.expression.ListItem.{ListItem}
+use Rattle.st_il.specs.declared.expression.PathSeg.{PathSeg}
+use Rattle.st_il.specs.Occurrences.{occurs_in_prem}
 use Rattle.st_il.specs.declared.expression.IlPrem.{IlPrem}
 use Rattle.st_il.specs.declared.expression.IlPrem.TheVariants as premise
 use Rattle.st_il.specs.declared.expression.Iteration.{Iteration}
@@ -19,17 +21,20 @@ use Rattle.st_il.specs.declared.definition.RelationDef.{RelationDef}
 use Rattle.st_notation.specs.Fits.{Filling}
 use Rattle.st_elab_table.specs.declared.decls.Decls.{Decls}
 use Rattle.st_elab_table.specs.declared.decls.Scope.{Scope}
-use Rattle.st_elab_table.specs.declared.within.Within.{Within}
+use Rattle.st_dims.specs.declared.within.Within.{Within}
 use Rattle.st_elab_table.specs.Forms.{place}
-use Rattle.st_elab_table.specs.Iterations.{inside}
-use Rattle.st_elab_table.specs.Questions.{Breach}
-use Rattle.st_elab_table.specs.Steps.{exp_of}
+use Rattle.st_dims.specs.Around.{inside}
+use Rattle.st_elab_table.specs.Iterations.{iterated}
+use Rattle.st_elab_table.specs.Questions.{Breach, Answer, Gives, Fails, Step}
+use Rattle.st_elab_table.specs.Steps.{exp_of, made, give}
+use Rattle.st_elab_table.specs.Collections.{counted_at}
+use Rattle.st_elab_table.specs.Elaboration.{Leads, ends, Reached, Stopped}
+use Rattle.st_elab_table.proofs.Single.{Leads-single}
 use Rattle.st_elab_table.specs.Choice.{FillsCase}
 use Rattle.st_elab_table.proofs.ChoiceLemmas.{FillsCase-single}
 use Rattle.st_elab_rows.specs.Parts.{AskedAs, Breaks}
 use Rattle.st_elab_exp.specs.Inside.{ElabInside, InsideBreach}
 use Rattle.st_elab_rule.specs.Single.{HasOneOutcome}
-use Rattle.st_elab_rule.specs.Iterated.{ElabCount, CountBreach, prem_iterated}
 use Rattle.st_elab_rule.specs.Judgements.{broken, relation_named, case_of, judgement_questions, Judged, JudgedBreach, unfit, filling}
 use Rattle.st_elab_rule.specs.Premises.{place_of, node_of, ElabPrem, condition, judgement, otherwise, each, PremBreach, in_condition, undeclared, in_judgement, in_premise, in_count, ElabPrems, PremsBreach}
 use Rattle.st_elab_rule.proofs.Outcomes.{Then, Or, then_one, one_by, this_one, this_breach, inside_one, asked_one}
@@ -37,21 +42,37 @@ use Rattle.st_elab_rule.proofs.Outcomes.{Then, Or, then_one, one_by, this_one, t
 module _ (D : Decls) (S : Scope) where
   -- ---- counts
 
-  abbrev number_gives : Within → Exp → (IlExp → Iteration) → Iteration → Type 0
-  number_gives w n by k = Then (ElabInside D S w n ty.Nat) (λ x k. k ≡ by x) k
+  -- an expression that shows how often an iteration goes
+  abbrev shown : Iteration → Step
+  shown k = give (il.Iter k [] (il.Bool true)) ty.Bool
 
-  number_one : (w : Within) (n : Exp) (by : IlExp → Iteration) → HasOneOutcome (number_gives w n by) (InsideBreach D S w n ty.Nat)
-  number_one w n by =
-      one_by (number_gives w n by) (number_gives w n by) (InsideBreach D S w n ty.Nat)
-      (Or (InsideBreach D S w n ty.Nat) (ElabInside D S w n ty.Nat) (λ x b. ⊥)) (λ k h. h) (λ b h. inl h)
-      (then_one (ElabInside D S w n ty.Nat) (InsideBreach D S w n ty.Nat) (λ x k. k ≡ by x) (λ x b. ⊥) (inside_one D S w n ty.Nat) (λ x h. this_one (by x)))
+  abbrev times_at : IlExp-F IlExp Iteration ListItem PathSeg → Iteration
+  times_at (IlExp-F.Iter k names x) = k
+  times_at x = times.Star
 
-  count_one : (w : Within) (c : Count-F Count Node Seg Exp) → HasOneOutcome (ElabCount D S w c) (CountBreach D S w c)
-  count_one w Count-F.Star = this_one times.Star
-  count_one w Count-F.Plus = this_one times.Plus
-  count_one w Count-F.Quest = this_one times.Quest
-  count_one w (Count-F.Times n) = number_one w n times.Times
-  count_one w (Count-F.Below i n) = number_one w n (times.Below i)
+  abbrev times_in : Answer → Iteration
+  times_in (Gives m) = times_at (out-IlExp m.exp)
+  times_in (Fails b) = times.Star
+
+  shown_gives : (k : Iteration) → Leads D S (shown k) (Gives (made (il.Iter k [] (il.Bool true)) ty.Bool))
+  shown_gives k = ends
+
+  shown_times : (k : Iteration) → times_in (Gives (made (il.Iter k [] (il.Bool true)) ty.Bool)) ≡ k
+  shown_times k = ap times_at (il.outs-Iter k [] (il.Bool true))
+
+  reached_one : (steps : (Iteration → Step) → Step) → HasOneOutcome (Reached D S steps) (Stopped D S steps)
+  reached_one steps = record { one = one; one_breach = one_breach; not_both = not_both }
+    where
+      one : (k l : Iteration) → Reached D S steps k → Reached D S steps l → k ≡ l
+      one k l h i =
+          sym (shown_times k) ∙ ap times_in (Leads-single D S (steps shown) _ _ (h shown _ (shown_gives k)) (i shown _ (shown_gives l))) ∙ shown_times l
+
+      one_breach : (b c : Breach) → Stopped D S steps b → Stopped D S steps c → b ≡ c
+      one_breach b c h i = let e : Fails b ≡ Fails c = Leads-single D S (steps shown) (Fails b) (Fails c) (h shown) (i shown) in cc
+
+      not_both : (k : Iteration) (b : Breach) → Reached D S steps k → Stopped D S steps b → ⊥
+      not_both k b h i =
+          let e : Gives (made (il.Iter k [] (il.Bool true)) ty.Bool) ≡ Fails b = Leads-single D S (steps shown) _ (Fails b) (h shown _ (shown_gives k)) (i shown) in cc
 
   -- ---- judgements
 
@@ -99,7 +120,7 @@ module _ (D : Decls) (S : Scope) where
   GoalBreach w p e (Some R) b = JudgedBreach D S w R e b
 
   abbrev Iterated : Within → Count → IlPrem → IlPrem → Type 0
-  Iterated w c y x = Then (ElabCount D S w (out-Count c)) (λ k x. x ≡ premise.Each k (prem_iterated S w c y) y) x
+  Iterated w c y x = Then (Reached D S (counted_at w (out-Count c))) (λ k x. x ≡ premise.Each k (iterated S w c (λ name. occurs_in_prem name y)) y) x
 
   abbrev At : Within → PremNode-F PremNode Prem → IlPrem → Type 0
   At w (PremNode-F.If e) x = Condition w e x
@@ -111,14 +132,14 @@ module _ (D : Decls) (S : Scope) where
   BreachAt w p (PremNode-F.If e) b = InsideBreach D S w e ty.Bool b
   BreachAt w p (PremNode-F.Goal name e) b = GoalBreach w p e (relation_named D.relations name) b
   BreachAt w p PremNode-F.Otherwise b = ⊥
-  BreachAt w p (PremNode-F.Each q c) b = Or (PremBreach D S (inside w c) q) (ElabPrem D S (inside w c) q) (λ x. CountBreach D S w (out-Count c)) b
+  BreachAt w p (PremNode-F.Each q c) b = Or (PremBreach D S (inside w c) q) (ElabPrem D S (inside w c) q) (λ x. Stopped D S (counted_at w (out-Count c))) b
 
   prem_open : (w : Within) (p : Prem) (x : IlPrem) → ElabPrem D S w p x → At w (node_of p) x
   prem_open w p x (condition e y is h) = subst (λ n. At w n (premise.If y)) (sym is) (y, h, refl)
   prem_open w p x (judgement name e R xs is r h) =
       subst (λ n. At w n (premise.Goal name xs)) (sym is) (subst (λ z. Goal w name e z (premise.Goal name xs)) (sym r) (xs, h, refl))
   prem_open w p x (otherwise is) = subst (λ n. At w n premise.Otherwise) (sym is) refl
-  prem_open w p x (each q c y k is h n) = subst (λ z. At w z (premise.Each k (prem_iterated S w c y) y)) (sym is) (y, h, (k, n, refl))
+  prem_open w p x (each q c y k is h n) = subst (λ z. At w z (premise.Each k (iterated S w c (λ name. occurs_in_prem name y)) y)) (sym is) (y, h, (k, n, refl))
 
   prem_breach_open : (w : Within) (p : Prem) (b : Breach) → PremBreach D S w p b → BreachAt w p (node_of p) b
   prem_breach_open w p b (in_condition e is h) = subst (λ n. BreachAt w p n b) (sym is) h
@@ -142,11 +163,11 @@ module _ (D : Decls) (S : Scope) where
       one_by (Goal w name e (Some R)) (Goal w name e (Some R)) (JudgedBreach D S w R e) (Or (JudgedBreach D S w R e) (Judged D S w R e) (λ xs b. ⊥)) (λ x h. h) (λ b h. inl h)
       (then_one (Judged D S w R e) (JudgedBreach D S w R e) (λ xs x. x ≡ premise.Goal name xs) (λ xs b. ⊥) (judged_one w R e) (λ xs h. this_one (premise.Goal name xs)))
 
-  iterated_one : (w : Within) (c : Count) (y : IlPrem) → HasOneOutcome (Iterated w c y) (CountBreach D S w (out-Count c))
+  iterated_one : (w : Within) (c : Count) (y : IlPrem) → HasOneOutcome (Iterated w c y) (Stopped D S (counted_at w (out-Count c)))
   iterated_one w c y =
-      one_by (Iterated w c y) (Iterated w c y) (CountBreach D S w (out-Count c)) (Or (CountBreach D S w (out-Count c)) (ElabCount D S w (out-Count c)) (λ k b. ⊥)) (λ x h. h) (λ b h. inl h)
-      (then_one (ElabCount D S w (out-Count c)) (CountBreach D S w (out-Count c)) (λ k x. x ≡ premise.Each k (prem_iterated S w c y) y) (λ k b. ⊥)
-      (count_one w (out-Count c)) (λ k h. this_one (premise.Each k (prem_iterated S w c y) y)))
+      one_by (Iterated w c y) (Iterated w c y) (Stopped D S (counted_at w (out-Count c))) (Or (Stopped D S (counted_at w (out-Count c))) (Reached D S (counted_at w (out-Count c))) (λ k b. ⊥)) (λ x h. h) (λ b h. inl h)
+      (then_one (Reached D S (counted_at w (out-Count c))) (Stopped D S (counted_at w (out-Count c))) (λ k x. x ≡ premise.Each k (iterated S w c (λ name. occurs_in_prem name y)) y) (λ k b. ⊥)
+      (reached_one (counted_at w (out-Count c))) (λ k h. this_one (premise.Each k (iterated S w c (λ name. occurs_in_prem name y)) y)))
 
   -- the premise has one outcome at most, whatever is round it
   abbrev One : Prem → Type 0
@@ -162,7 +183,7 @@ module _ (D : Decls) (S : Scope) where
   at_one w p (PremNode-F.Goal name e) one = goal_one w p name e (relation_named D.relations name)
   at_one w p PremNode-F.Otherwise one = this_one premise.Otherwise
   at_one w p (PremNode-F.Each q c) one =
-      then_one (ElabPrem D S (inside w c) q) (PremBreach D S (inside w c) q) (Iterated w c) (λ x. CountBreach D S w (out-Count c)) (one (inside w c)) (λ x h. iterated_one w c x)
+      then_one (ElabPrem D S (inside w c) q) (PremBreach D S (inside w c) q) (Iterated w c) (λ x. Stopped D S (counted_at w (out-Count c))) (one (inside w c)) (λ x h. iterated_one w c x)
 
   prem_level : (p : Prem) → PartsOne (node_of p) → One p
   prem_level p one w = one_by (ElabPrem D S w p) (At w (node_of p)) (PremBreach D S w p) (BreachAt w p (node_of p)) (prem_open w p) (prem_breach_open w p) (at_one w p (node_of p) one)

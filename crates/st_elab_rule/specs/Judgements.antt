@@ -3,15 +3,15 @@ use Rattle.std.specs.Prelude.{ℕ, List, [], ◌∷◌, if◌then◌else◌, Opt
 use Rattle.st_num.specs.declared.span.Span.{Span}
 use Rattle.st_num.specs.declared.rule.RuleId.{RuleId}
 use Rattle.st_num.specs.declared.rule.RuleId.TheVariants.{Y2}
-use Rattle.st_el.specs.Erasure.{same_name}
+use Rattle.st_num.specs.Names.{same_name}
 use Rattle.st_el.specs.declared.expression.Exp.{Exp}
 use Rattle.st_il.specs.declared.expression.IlExp.{IlExp}
 use Rattle.st_il.specs.declared.definition.RelationDef.{RelationDef}
-use Rattle.st_types.specs.declared.entry.CaseDef.{CaseDef}
+use Rattle.st_type_table.specs.declared.entry.CaseDef.{CaseDef}
 use Rattle.st_notation.specs.Fits.{Filling}
 use Rattle.st_elab_table.specs.declared.decls.Decls.{Decls}
 use Rattle.st_elab_table.specs.declared.decls.Scope.{Scope}
-use Rattle.st_elab_table.specs.declared.within.Within.{Within}
+use Rattle.st_dims.specs.declared.within.Within.{Within}
 use Rattle.st_elab_table.specs.Forms.{place}
 use Rattle.st_elab_table.specs.Questions.{Question, Breach}
 use Rattle.st_elab_table.specs.Steps.{exp_of, holes}

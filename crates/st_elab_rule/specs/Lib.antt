@@ -1,7 +1,17 @@
-pub mod Single
-pub mod Iterated
+-- What must be believed of the elaboration of rules and clauses, in reading order.
+
+-- an expression in the notation of a relation
 pub mod Judgements
+-- what a premise is, and the first breach in it
 pub mod Premises
+-- each variable of a rule or clause has a type and a dimension
 pub mod Variables
+-- what a rule is, and the first breach in it
 pub mod Rules
+-- what a clause is, and the first breach in it
 pub mod Clauses
+-- there is one outcome and no other
+pub mod Single
+
+-- ---- what only proofs need
+pub mod inner

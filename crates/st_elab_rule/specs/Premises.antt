@@ -13,13 +13,16 @@ use Rattle.st_il.specs.declared.expression.IlPrem.{IlPrem}
 use Rattle.st_il.specs.declared.expression.IlPrem.TheVariants as premise
 use Rattle.st_il.specs.declared.expression.Iteration.{Iteration}
 use Rattle.st_il.specs.declared.definition.RelationDef.{RelationDef}
+use Rattle.st_il.specs.Occurrences.{occurs_in_prem}
 use Rattle.st_elab_table.specs.declared.decls.Decls.{Decls}
 use Rattle.st_elab_table.specs.declared.decls.Scope.{Scope}
-use Rattle.st_elab_table.specs.declared.within.Within.{Within}
+use Rattle.st_dims.specs.declared.within.Within.{Within}
 use Rattle.st_elab_table.specs.Questions.{Breach}
-use Rattle.st_elab_table.specs.Iterations.{inside}
+use Rattle.st_dims.specs.Around.{inside}
+use Rattle.st_elab_table.specs.Iterations.{iterated}
+use Rattle.st_elab_table.specs.Collections.{counted_at}
+use Rattle.st_elab_table.specs.Elaboration.{Reached, Stopped}
 use Rattle.st_elab_exp.specs.Inside.{ElabInside, InsideBreach}
-use Rattle.st_elab_rule.specs.Iterated.{ElabCount, CountBreach, prem_iterated}
 use Rattle.st_elab_rule.specs.Judgements.{broken, relation_named, Judged, JudgedBreach}
 
 -- where a premise stands, and what it is
@@ -40,8 +43,9 @@ pub data ElabPrem (D : Decls) (S : Scope) : Within → Prem → IlPrem → Type 
       → ElabPrem D S w p premise.Otherwise
   each : {w : Within} {p : Prem} (q : Prem) (c : Count) (x : IlPrem) (k : Iteration)
       → node_of p ≡ PremNode-F.Each q c → ElabPrem D S (inside w c) q x
-      → ElabCount D S w (out-Count c) k
-      → ElabPrem D S w p (premise.Each k (prem_iterated S w c x) x)
+      → Reached D S (counted_at w (out-Count c)) k
+      → ElabPrem D S w p
+      (premise.Each k (iterated S w c (λ name. occurs_in_prem name x)) x)
 
 -- The first breach in a premise. The count of an iteration comes behind its premise.
 pub data PremBreach (D : Decls) (S : Scope) : Within → Prem → Breach → Type 0 where
@@ -57,7 +61,7 @@ pub data PremBreach (D : Decls) (S : Scope) : Within → Prem → Breach → Typ
       → node_of p ≡ PremNode-F.Each q c → PremBreach D S (inside w c) q b → PremBreach D S w p b
   in_count : {w : Within} {p : Prem} {b : Breach} (q : Prem) (c : Count) (x : IlPrem)
       → node_of p ≡ PremNode-F.Each q c → ElabPrem D S (inside w c) q x
-      → CountBreach D S w (out-Count c) b → PremBreach D S w p b
+      → Stopped D S (counted_at w (out-Count c)) b → PremBreach D S w p b
 
 -- each premise is elaborated, in order
 abbrev pub ElabPrems : Decls → Scope → Within → List Prem → List IlPrem → Type 0

@@ -1,8 +1,7 @@
 -- The variables of a rule or clause, with their types and dimensions.
-use Rattle.std.specs.Prelude.{◌≡◌, ◌≢◌, ℕ, List, [], map, filter, Bool, true, false, Option, Some, None}
+use Rattle.std.specs.Prelude.{◌≡◌, List, [], map, filter, Bool, true, false, Option, Some, None}
 use Rattle.std.specs.List.{AllByRecursion}
 use Rattle.st_num.specs.declared.span.Span.{Span}
-use Rattle.st_num.specs.declared.dim.Kind.{Kind}
 use Rattle.st_num.specs.declared.rule.RuleId.TheVariants.{B3, I1, I2}
 use Rattle.st_il.specs.declared.ty.Ty.{Ty}
 use Rattle.st_il.specs.declared.definition.Listed.{Listed}
@@ -38,11 +37,6 @@ table_of variables = map (λ (v : Variable). (v.0, v.2)) variables
 -- The variable has the type that its name leads to.
 abbrev pub HasItsType : Decls → Variable → Type 0
 HasItsType D v = type_of_name D v.0 ≡ Some v.1
-
--- Each name of the table leads to a type.
-abbrev pub AreTyped : Decls → Table → Type 0
-AreTyped D table =
-    AllByRecursion (λ (entry : List ℕ × List Kind). type_of_name D entry.0 ≢ None) table
 
 -- The scope of a rule or clause that mentions this:
 -- each variable with its type and dimension, where no rule on either is broken.

@@ -8,7 +8,8 @@ ghost use Rattle.st_elab_rule.specs.Judgements.{relation_named, case_of, Judged,
 use st_el::Exp;
 use st_elab_exp::{Decls, ExpFault, Scope, check_fillings};
 use st_elab_rows::choice::fill;
-use st_elab_table::Within;
+use st_dims::Within;
+
 use st_il::{IlExp, RelationDef, copy_tys};
 use st_num::{Name, NoMemory, Row, RuleId};
 use st_types::CaseDef;

@@ -8,7 +8,6 @@
 #![tactic(auto)]
 
 mod clause;
-mod iterated;
 mod judgement;
 mod laws;
 mod premise;

@@ -3,16 +3,16 @@
 ghost use Rattle.std.specs.Prelude.{◌≡◌};
 ghost use Rattle.st_el.specs.declared.definition.Prem.{Prem};
 ghost use Rattle.st_el.specs.declared.definition.PremNode.TheOpen.{PremNode-F};
-ghost use Rattle.st_elab_table.specs.Iterations.{inside};
+ghost use Rattle.st_dims.specs.Around.{inside};
 ghost use Rattle.st_elab_rows.specs.Told.{Told};
 ghost use Rattle.st_elab_rule.specs.Premises.{place_of, node_of, ElabPrem, PremBreach, ElabPrems, PremsBreach};
 
-use crate::iterated::{counted, iterated};
 use crate::judgement::{judged, relation_named};
 use st_el::{Count, Exp, Prem, PremNode};
-use st_elab_exp::{Decls, ExpFault, Scope, check_inside};
-use st_elab_rows::iteration::inside;
-use st_elab_table::Within;
+use st_elab_exp::{Decls, ExpFault, Scope, check_count, check_inside};
+use st_elab_rows::iteration::iterated;
+use st_dims::Within;
+
 use st_il::{IlPrem, Ty};
 use st_num::{Boxed, Name, Row, RuleId, Span};
 use std::alloc::Global;
@@ -73,7 +73,7 @@ fn each(
         → Told (ElabPrem decls.now scope.now within.now p)
         (PremBreach decls.now scope.now within.now p) result }
 {
-    let times = counted(alloc, decls, scope, within, count)?;
+    let times = check_count(alloc, decls, scope, within, count)?;
     let names = iterated(alloc, scope, within, inner, prem.get())?;
     Ok(IlPrem::Each(times, names, prem))
 }
@@ -94,7 +94,7 @@ fn elaborate_prem(
         PremNode::Goal(name, exp) => goal(alloc, decls, scope, within, prem.at, name, exp),
         PremNode::Otherwise => Ok(IlPrem::Otherwise),
         PremNode::Each(body, count) => {
-            let inner = inside(alloc, within, count)?;
+            let inner = within.inside(alloc, count)?;
             let one = elaborate_prem(alloc, decls, scope, &inner, body.get())?;
             let one = Boxed::new(alloc, one)?;
             each(alloc, decls, scope, within, &inner, count, one)

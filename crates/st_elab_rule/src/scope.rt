@@ -8,7 +8,8 @@ ghost use Rattle.st_dims.specs.Breaches.{IsFirst, IsSound};
 ghost use Rattle.st_elab_table.specs.declared.decls.Decls.{Decls};
 ghost use Rattle.st_elab_table.specs.Variables.{type_of_name};
 ghost use Rattle.st_elab_rows.specs.Told.{Told};
-ghost use Rattle.st_elab_rule.specs.Variables.{untyped, table_of, HasItsType, AreTyped, IsScope, VariableBreach, listed};
+ghost use Rattle.st_elab_rule.specs.Variables.{untyped, table_of, HasItsType, IsScope, VariableBreach, listed};
+ghost use Rattle.st_elab_rule.specs.inner.Typing.{AreTyped};
 
 use st_dims::{DimFault, Mention, dimensions_of};
 use st_elab_exp::{Decls, ExpFault, Scope};

@@ -9,10 +9,13 @@ use Rattle.st_el.specs.declared.notation.NotNode.TheVariants as node
 use Rattle.st_il.specs.declared.template.Template.{Template}
 use Rattle.st_il.specs.declared.template.Template.TheVariants as template
 use Rattle.st_il.specs.declared.template.TagPart.TheVariants as tag_part
-use Rattle.st_il.specs.Notation.{closing}
+use Rattle.st_num.specs.declared.mark.Mark.TheVariants.{TickParen, TickBracket, TickBrace}
+use Rattle.st_num.specs.Signs.{closing}
+use Rattle.st_il.specs.Notation as brackets
 use Rattle.st_il.specs.Template.{tag_parts_of}
 use Rattle.st_il.proofs.TemplateForms.{tag_parts_all, tag_parts-Atom, tag_parts-Hole, tag_parts-Seq, tag_parts-Infix, tag_parts-Bracket}
-use Rattle.st_elab_sig.specs.Signatures.{template_at, template_of, holes_at, holes_of, words_in}
+use Rattle.st_elab_sig.specs.Signatures.{template_at, template_of, holes_at, holes_of}
+use Rattle.st_elab_sig.specs.inner.Words.{words_in}
 
 -- ---- templates
 
@@ -56,10 +59,18 @@ pub words_in-Infix : (n left : Notation) (sign : Mark) (right : Notation) → (o
 words_in-Infix n left sign right e =
     ap tag_parts_of (template-is n _ e ∙ template-Infix left sign right) ∙ tag_parts-Infix (template_of left) sign (template_of right)
 
+-- the bracket that closes an opening one
+closing_same : (sign : Mark) → brackets.closing sign ≡ closing sign
+closing_same TickParen = refl
+closing_same TickBracket = refl
+closing_same TickBrace = refl
+closing_same sign = refl
+
 pub words_in-Bracket : (n : Notation) (opening : Mark) (inside : Notation) → (out-Notation n).node ≡ node.Bracket opening inside
     → words_in n ≡ tag_part.Sign opening ∷ (words_in inside ++ tag_part.Sign (closing opening) ∷ [])
 words_in-Bracket n opening inside e =
     ap tag_parts_of (template-is n _ e ∙ template-Bracket opening inside) ∙ tag_parts-Bracket opening (template_of inside)
+    ∙ ap (λ sign. tag_part.Sign opening ∷ (words_in inside ++ tag_part.Sign sign ∷ [])) (closing_same opening)
 
 -- ---- types
 

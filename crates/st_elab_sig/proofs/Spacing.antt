@@ -3,7 +3,7 @@ use Rattle.std.proofs.Common.{◌≡◌, refl, sym, ◌∙◌, ap, ℕ, List, []
 use Rattle.std.specs.Prelude.{None, Some, MatchOption}
 use Rattle.st_il.specs.declared.template.TagPart.{TagPart}
 use Rattle.st_il.specs.Template.{written, spaced}
-use Rattle.st_elab_sig.specs.Signatures.{trailed}
+use Rattle.st_elab_sig.specs.inner.Words.{trailed}
 
 trailed-spaced : (w : TagPart) (ws : List TagPart) → trailed (w ∷ ws) ≡ spaced (w ∷ ws) ++ 32 ∷ []
 trailed-spaced w [] = append-nil (written w ++ 32 ∷ [])

@@ -1,12 +1,11 @@
 -- Signatures: the tag of a notation, and the types of its operands.
-use Rattle.std.specs.Prelude.{◌≡◌, ℕ, List, [], ◌∷◌, ◌++◌, map, flat_map}
+use Rattle.std.specs.Prelude.{◌≡◌, List, [], ◌∷◌, ◌++◌, map, flat_map}
 use Rattle.st_el.specs.declared.ty.Typ.{Typ}
 use Rattle.st_el.specs.declared.notation.Notation.{Notation, fold-Notation}
 use Rattle.st_el.specs.declared.notation.NotNode.TheOpen.{NotNode-F}
 use Rattle.st_il.specs.declared.template.Template.{Template}
 use Rattle.st_il.specs.declared.template.Template.TheVariants as template
-use Rattle.st_il.specs.declared.template.TagPart.{TagPart}
-use Rattle.st_il.specs.Template.{tag_parts_of, written, tag_of}
+use Rattle.st_il.specs.Template.{tag_of}
 use Rattle.st_elab_sig.specs.declared.signature.Signature.{Signature}
 use Rattle.st_elab_sig.specs.Types.{ty_of}
 
@@ -38,13 +37,3 @@ holes_of = fold-Notation (List Typ) (List Typ) holes_at (λ notation. notation.n
 pub record IsSignature (notation : Notation) (signature : Signature) : Type 0 where
   pub tag : signature.tag ≡ tag_of (template_of notation)
   pub operands : signature.operands ≡ map ty_of (holes_of notation)
-
--- ---- how a tag is built
-
--- the words of a notation, in order
-abbrev pub words_in : Notation → List TagPart
-words_in notation = tag_parts_of (template_of notation)
-
--- words with a space behind each
-abbrev pub trailed : List TagPart → List ℕ
-trailed words = flat_map (λ word. written word ++ 32 ∷ []) words

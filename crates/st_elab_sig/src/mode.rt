@@ -4,16 +4,10 @@ ghost use Rattle.std.specs.Prelude.{◌≡◌, ◌≢◌, [], ◌∷◌, Bool, L
 ghost use Rattle.st_el.specs.Erasure.{is_mode};
 ghost use Rattle.st_elab_sig.specs.Modes.{mode_kind, AreModeWords, IsMode};
 
-use st_el::Hint;
+use st_el::{Hint, is_mode};
 use st_num::{NoMemory, Row};
 use st_scan::{Token, TokenKind};
 use std::alloc::Global;
-
-fn is_mode(hint: &Hint) -> bool
-    ensures { result ≡ is_mode hint.now }
-{
-    hint.name.as_slice() == b"mode".as_slice()
-}
 
 /// The first hint named `mode`, and the hints behind it.
 fn first_mode(hints: &[Hint]) -> Option<(&Hint, &[Hint])>

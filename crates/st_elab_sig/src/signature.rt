@@ -2,10 +2,10 @@
 
 ghost use Rattle.std.specs.Prelude.{◌≡◌, [], ◌∷◌, ◌++◌, map, flat_map, IfOk, OnOk};
 ghost use Rattle.st_num.specs.Signs.{spelling};
-ghost use Rattle.st_il.specs.Notation.{closing};
 ghost use Rattle.st_il.specs.Template.{tag_of};
 ghost use Rattle.st_elab_sig.specs.Types.{ty_of};
-ghost use Rattle.st_elab_sig.specs.Signatures.{template_of, holes_of, words_in, trailed, IsSignature};
+ghost use Rattle.st_elab_sig.specs.Signatures.{template_of, holes_of, IsSignature};
+ghost use Rattle.st_elab_sig.specs.inner.Words.{words_in, trailed};
 
 use crate::elaborate_typ;
 use st_el::{NotNode, Notation};
@@ -18,18 +18,6 @@ use std::alloc::Global;
 pub struct Signature {
     pub tag: Name,
     pub operands: Row<Ty>,
-}
-
-/// The bracket that closes what this one opens.
-fn closing(opening: Mark) -> Mark
-    ensures { result ≡ closing opening }
-{
-    match opening {
-        Mark::TickParen => Mark::CloseParen,
-        Mark::TickBracket => Mark::CloseBracket,
-        Mark::TickBrace => Mark::CloseBrace,
-        _ => opening,
-    }
 }
 
 /// Appends a word and a space.
@@ -65,7 +53,7 @@ fn push_words(notation: &Notation, tag: &mut Name) -> Result<(), NoMemory>
         NotNode::Bracket(opening, inside) => {
             push_sign(*opening, tag)?;
             push_words(inside.get(), tag)?;
-            push_sign(closing(*opening), tag)
+            push_sign(opening.closing(), tag)
         }
     }
 }

@@ -1,6 +1,6 @@
 -- What each row keeps holds of each answer.
 use Rattle.st_il.specs.declared.ty.Ty.{Ty}
-use Rattle.st_types.specs.Meaning.{Means}
+use Rattle.st_type_table.specs.Meaning.{Means}
 use Rattle.st_elab_table.specs.declared.decls.Decls.{Decls}
 use Rattle.st_elab_table.specs.declared.decls.Scope.{Scope}
 use Rattle.st_elab_table.specs.Choice.{IsCaseOf}

@@ -4,7 +4,7 @@ use Rattle.std.specs.Map.{lookup}
 use Rattle.st_num.specs.declared.span.Span.{Span}
 use Rattle.st_num.specs.declared.mark.Mark.{Mark}
 use Rattle.st_num.specs.declared.rule.RuleId.TheVariants.{Y1, Y2, Y3, Y4, Y5, Y6}
-use Rattle.st_el.specs.Erasure.{same_name}
+use Rattle.st_num.specs.Names.{same_name}
 use Rattle.st_el.specs.declared.expression.Exp.{Exp}
 use Rattle.st_il.specs.declared.ty.Ty.{Ty, out-Ty, roll-Ty, roll-out-Ty}
 use Rattle.st_il.specs.declared.ty.Ty.TheOpen.{Ty-F}
@@ -12,13 +12,13 @@ use Rattle.st_il.specs.declared.ty.Ty.TheVariants as ty
 use Rattle.st_il.specs.declared.definition.FunDef.{FunDef}
 use Rattle.st_il.specs.declared.expression.IlExp.{IlExp}
 use Rattle.st_il.specs.declared.expression.IlExp.TheVariants as il
-use Rattle.st_types.specs.declared.entry.CaseDef.{CaseDef}
-use Rattle.st_types.specs.Meaning.{Means, fields_of}
-use Rattle.st_types.specs.Cases.{HasCases, HasFields}
-use Rattle.st_types.specs.Joins.{Joins}
+use Rattle.st_type_table.specs.declared.entry.CaseDef.{CaseDef}
+use Rattle.st_type_table.specs.Meaning.{Means, fields_of}
+use Rattle.st_type_table.specs.Cases.{HasCases, HasFields}
+use Rattle.st_type_table.specs.Joins.{Joins}
 use Rattle.st_elab_table.specs.declared.decls.Decls.{Decls}
 use Rattle.st_elab_table.specs.declared.decls.Scope.{Scope}
-use Rattle.st_elab_table.specs.declared.within.Within.{Within}
+use Rattle.st_dims.specs.declared.within.Within.{Within}
 use Rattle.st_elab_table.specs.Forms.{place, inferable, is_spliced, is_told_by_type}
 use Rattle.st_elab_table.specs.Choice.{IsCaseOf}
 use Rattle.st_elab_table.specs.Questions.{check, item, Answer, Fails, Chosen, can_join, Step, Asks, Tests, asks}

@@ -1,6 +1,6 @@
 -- A question has one answer at most.
 use Rattle.std.proofs.Common.{◌≡◌, refl, subst}
-use Rattle.st_types.proofs.MeansLemmas.{Means-single}
+use Rattle.st_type_table.proofs.MeansLemmas.{Means-single}
 use Rattle.st_elab_table.specs.declared.decls.Decls.{Decls}
 use Rattle.st_elab_table.specs.declared.decls.Scope.{Scope}
 use Rattle.st_elab_table.specs.Questions.{Question, Answer, Gives, Fails, Step, Ends, Asks, Tests, Opens, Fills}

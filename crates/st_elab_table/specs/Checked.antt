@@ -12,7 +12,7 @@ use Rattle.st_il.specs.declared.expression.IlExp.TheVariants as il
 use Rattle.st_notation.specs.Elements.{opened}
 use Rattle.st_elab_table.specs.declared.decls.Decls.{Decls}
 use Rattle.st_elab_table.specs.declared.decls.Scope.{Scope}
-use Rattle.st_elab_table.specs.declared.within.Within.{Within}
+use Rattle.st_dims.specs.declared.within.Within.{Within}
 use Rattle.st_elab_table.specs.Operators.{operator_of}
 use Rattle.st_elab_table.specs.Forms.{inferable, is_concatenation}
 use Rattle.st_elab_table.specs.Questions.{check, infer, Step, Asks, Opens, asks}

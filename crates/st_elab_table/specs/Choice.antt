@@ -9,10 +9,10 @@ use Rattle.st_il.specs.declared.definition.SyntaxDef.{SyntaxDef}
 use Rattle.st_il.specs.declared.template.Template.{Template}
 use Rattle.st_il.specs.Template.{HasTag}
 use Rattle.st_il.specs.Key.{PlainKey, free}
-use Rattle.st_types.specs.declared.entry.CaseDef.{CaseDef}
-use Rattle.st_types.specs.Meaning.{Means}
-use Rattle.st_types.specs.Cases.{HasCases}
-use Rattle.st_types.specs.Keys.{HasKey}
+use Rattle.st_type_table.specs.declared.entry.CaseDef.{CaseDef}
+use Rattle.st_type_table.specs.Meaning.{Means}
+use Rattle.st_type_table.specs.Cases.{HasCases}
+use Rattle.st_type_table.specs.Keys.{HasKey}
 use Rattle.st_notation.specs.declared.filled.Shape.{Shape}
 use Rattle.st_notation.specs.declared.filled.Shape.TheVariants as shape
 use Rattle.st_notation.specs.Fits.{Filling, FitsWhole}

@@ -16,11 +16,13 @@ use Rattle.st_il.specs.declared.expression.Iteration.{Iteration}
 use Rattle.st_il.specs.declared.expression.Iteration.TheVariants as times
 use Rattle.st_il.specs.declared.expression.ListItem.{ListItem}
 use Rattle.st_il.specs.declared.expression.ListItem.TheVariants as part
+use Rattle.st_il.specs.Occurrences.{occurs}
 use Rattle.st_notation.specs.Fits.{Filling, one, run, missing}
 use Rattle.st_elab_table.specs.declared.decls.Scope.{Scope}
-use Rattle.st_elab_table.specs.declared.within.Within.{Within}
-use Rattle.st_elab_table.specs.Forms.{place, inferable, is_spliced, is_told_by_type, goes_over_list}
-use Rattle.st_elab_table.specs.Iterations.{inside, iterated}
+use Rattle.st_dims.specs.declared.within.Within.{Within}
+use Rattle.st_elab_table.specs.Forms.{place, is_spliced, is_told_by_type, goes_over_list}
+use Rattle.st_dims.specs.Around.{inside}
+use Rattle.st_elab_table.specs.Iterations.{iterated}
 use Rattle.st_elab_table.specs.Questions.{check, item, Made, Gives, is_below, Step, Ends, Asks, Tests, Opens, asks}
 use Rattle.st_elab_table.specs.Steps.{breach, made, give, pass, asked, found, is_collection, raised, list_of_one, as_joined}
 
@@ -61,7 +63,7 @@ counted_at w (Count-F.Below i n) next = Asks (asked w n ty.Nat) (λ m. next (tim
 -- an iteration with this body, of this type
 abbrev pub iteration : Scope → Within → Count → IlExp → Ty → Step
 iteration S w c body t =
-    counted_at w (out-Count c) (λ k. give (il.Iter k (iterated S w c body) body) t)
+    counted_at w (out-Count c) (λ k. give (il.Iter k (iterated S w c (λ name. occurs name body)) body) t)
 
 abbrev pub body_row : Scope → Within → Exp → Count → Ty → Ty → Step
 body_row S w b c x t = Asks (asked (inside w c) b x) (λ m. iteration S w c m.exp t)

@@ -3,15 +3,16 @@ use Rattle.std.specs.Prelude.{List, []}
 use Rattle.st_el.specs.declared.expression.Exp.{Exp}
 use Rattle.st_il.specs.declared.ty.Ty.{Ty}
 use Rattle.st_il.specs.declared.expression.IlExp.{IlExp}
-use Rattle.st_types.specs.declared.entry.CaseDef.{CaseDef}
-use Rattle.st_types.specs.Meaning.{Means}
-use Rattle.st_types.specs.Cases.{HasCases}
-use Rattle.st_types.specs.Sub.{Same, Sub}
-use Rattle.st_types.specs.Joins.{Joins}
+use Rattle.st_type_table.specs.declared.entry.CaseDef.{CaseDef}
+use Rattle.st_type_table.specs.Meaning.{Means}
+use Rattle.st_type_table.specs.Cases.{HasCases}
+use Rattle.st_type_table.specs.Same.{Same}
+use Rattle.st_types.specs.Sub.{Sub}
+use Rattle.st_type_table.specs.Joins.{Joins}
 use Rattle.st_notation.specs.Elements.{opened}
 use Rattle.st_elab_table.specs.declared.decls.Decls.{Decls}
 use Rattle.st_elab_table.specs.declared.decls.Scope.{Scope}
-use Rattle.st_elab_table.specs.declared.within.Within.{Within}
+use Rattle.st_dims.specs.declared.within.Within.{Within}
 use Rattle.st_elab_table.specs.Choice.{IsCaseOf}
 use Rattle.st_elab_table.specs.Questions.{Question, check, infer, item, hole, Made, Breach, Answer, Gives, Fails, Condition, are_same, is_below, is_variant, can_join, Chosen, Step, Ends, Asks, Tests, Opens, Fills}
 use Rattle.st_elab_table.specs.Steps.{made, asked, found}
@@ -55,6 +56,15 @@ mutual
     fits_none : {t : Ty} {e : Exp} {next : Chosen → Step} {unfit : Step} {a : Answer}
         → ((c : Chosen) → IsCaseOf D.types t e c → ⊥) → Leads D S unfit a
         → Leads D S (Fills t e next unfit) a
+
+-- The steps go on with this: they lead where what follows it leads.
+abbrev pub Reached : Decls → Scope → {X : Type 0} → ((X → Step) → Step) → X → Type 0
+Reached D S {X} steps x =
+    (next : X → Step) (a : Answer) → Leads D S (next x) a → Leads D S (steps next) a
+
+-- the steps end with this breach, whatever follows them
+abbrev pub Stopped : Decls → Scope → {X : Type 0} → ((X → Step) → Step) → Breach → Type 0
+Stopped D S {X} steps b = (next : X → Step) → Leads D S (steps next) (Fails b)
 
 -- ---- readings
 

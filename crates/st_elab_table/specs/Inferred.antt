@@ -4,7 +4,7 @@ use Rattle.std.specs.Option.{option_or}
 use Rattle.std.specs.Map.{lookup}
 use Rattle.st_num.specs.declared.span.Span.{Span}
 use Rattle.st_num.specs.declared.rule.RuleId.TheVariants.{B2, B3, Y3, Y6}
-use Rattle.st_el.specs.Erasure.{same_name}
+use Rattle.st_num.specs.Names.{same_name}
 use Rattle.st_el.specs.declared.expression.Exp.{Exp}
 use Rattle.st_el.specs.declared.expression.Node.{Node}
 use Rattle.st_el.specs.declared.expression.Count.{Count}
@@ -16,11 +16,13 @@ use Rattle.st_il.specs.declared.definition.FunDef.{FunDef}
 use Rattle.st_il.specs.declared.expression.IlExp.TheVariants as il
 use Rattle.st_elab_table.specs.declared.decls.Decls.{Decls}
 use Rattle.st_elab_table.specs.declared.decls.Scope.{Scope}
-use Rattle.st_elab_table.specs.declared.within.Within.{Within}
+use Rattle.st_dims.specs.declared.within.Within.{Within}
 use Rattle.st_elab_table.specs.Operators.{operator_of}
 use Rattle.st_elab_table.specs.Variables.{type_of_name}
 use Rattle.st_elab_table.specs.Forms.{inferable}
-use Rattle.st_elab_table.specs.Iterations.{is_among, inside, iterated_type, Variable}
+use Rattle.st_num.specs.Names.{is_among}
+use Rattle.st_dims.specs.Around.{inside}
+use Rattle.st_elab_table.specs.Iterations.{iterated_type, Variable}
 use Rattle.st_elab_table.specs.Questions.{infer, Step, Asks, asks}
 use Rattle.st_elab_table.specs.Steps.{breach, give, pass, asked, found, each_asked, ty_of, exps}
 use Rattle.st_elab_table.specs.Collections.{iteration}

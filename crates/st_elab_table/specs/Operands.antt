@@ -9,7 +9,7 @@ use Rattle.st_il.specs.declared.ty.NumTy.{NumTy}
 use Rattle.st_il.specs.declared.ty.NumTy.TheVariants as number
 use Rattle.st_il.specs.declared.expression.IlExp.{IlExp}
 use Rattle.st_il.specs.declared.expression.IlExp.TheVariants as il
-use Rattle.st_elab_table.specs.declared.within.Within.{Within}
+use Rattle.st_dims.specs.declared.within.Within.{Within}
 use Rattle.st_elab_table.specs.declared.operator.Operator.{Operator}
 use Rattle.st_elab_table.specs.declared.operator.Operator.TheVariants as operator
 use Rattle.st_elab_table.specs.Operators.{connected, equated, ordered, reckoned}

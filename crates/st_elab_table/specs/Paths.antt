@@ -3,7 +3,7 @@ use Rattle.std.specs.Prelude.{ℕ, List, [], ◌∷◌, Option, Some, None}
 use Rattle.std.specs.Map.{lookup}
 use Rattle.st_num.specs.declared.span.Span.{Span}
 use Rattle.st_num.specs.declared.rule.RuleId.TheVariants.{Y4, Y5}
-use Rattle.st_el.specs.Erasure.{same_name}
+use Rattle.st_num.specs.Names.{same_name}
 use Rattle.st_el.specs.declared.expression.Exp.{Exp}
 use Rattle.st_el.specs.declared.expression.Node.{Node}
 use Rattle.st_el.specs.declared.expression.Count.{Count}
@@ -14,9 +14,9 @@ use Rattle.st_il.specs.declared.ty.Ty.TheVariants as ty
 use Rattle.st_il.specs.declared.expression.IlExp.TheVariants as il
 use Rattle.st_il.specs.declared.expression.PathSeg.{PathSeg}
 use Rattle.st_il.specs.declared.expression.PathSeg.TheVariants as step
-use Rattle.st_types.specs.Meaning.{fields_of}
+use Rattle.st_type_table.specs.Meaning.{fields_of}
 use Rattle.st_elab_table.specs.declared.decls.Decls.{Decls}
-use Rattle.st_elab_table.specs.declared.within.Within.{Within}
+use Rattle.st_dims.specs.declared.within.Within.{Within}
 use Rattle.st_elab_table.specs.Forms.{place}
 use Rattle.st_elab_table.specs.Questions.{Step, Asks, Opens}
 use Rattle.st_elab_table.specs.Steps.{breach, give, asked, found, as_list}

@@ -6,7 +6,7 @@ use Rattle.st_el.specs.declared.expression.Exp.{Exp}
 use Rattle.st_il.specs.declared.ty.Ty.{Ty}
 use Rattle.st_il.specs.declared.expression.IlExp.{IlExp}
 use Rattle.st_notation.specs.Fits.{Filling}
-use Rattle.st_elab_table.specs.declared.within.Within.{Within}
+use Rattle.st_dims.specs.declared.within.Within.{Within}
 
 -- What is asked of a part, inside of this.
 -- The place is that of a breach at the part itself: of its parentheses, where it has any.

@@ -13,7 +13,7 @@ use Rattle.st_il.specs.declared.expression.IlExp.{IlExp}
 use Rattle.st_il.specs.declared.expression.IlExp.TheVariants as il
 use Rattle.st_il.specs.declared.expression.ListItem.TheVariants as part
 use Rattle.st_notation.specs.Fits.{Filling}
-use Rattle.st_elab_table.specs.declared.within.Within.{Within}
+use Rattle.st_dims.specs.declared.within.Within.{Within}
 use Rattle.st_elab_table.specs.Forms.{place}
 use Rattle.st_elab_table.specs.Questions.{Question, check, infer, hole, Made, Gives, Fails, are_same, is_below, can_join, Step, Ends, Asks, Tests, Opens}
 

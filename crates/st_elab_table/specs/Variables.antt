@@ -3,10 +3,10 @@ use Rattle.std.specs.Prelude.{ℕ, List, [], ◌∷◌, ◌++◌, map, codes, if
 use Rattle.std.specs.Option.{option_map, option_or}
 use Rattle.std.specs.Map.{lookup}
 use Rattle.std.specs.Str.{byte}
-use Rattle.st_el.specs.Erasure.{same_name}
+use Rattle.st_num.specs.Names.{same_name}
 use Rattle.st_il.specs.declared.ty.Ty.{Ty}
 use Rattle.st_il.specs.declared.ty.Ty.TheVariants as ty
-use Rattle.st_types.specs.Meaning.{body_of}
+use Rattle.st_type_table.specs.Meaning.{body_of}
 use Rattle.st_elab_table.specs.declared.decls.Decls.{Decls}
 
 -- ---- the names that remain of a name

@@ -11,10 +11,8 @@
 mod decls;
 mod laws;
 mod operator;
-mod within;
 
 pub use decls::{Decls, Scope};
 pub use st_num::Fault as ExpFault;
 pub use laws::one_answer;
 pub use operator::{Operator, operator_of};
-pub use within::Within;

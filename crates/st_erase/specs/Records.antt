@@ -1,6 +1,6 @@
 -- The fields of the record that a name leads to.
 use Rattle.std.specs.Prelude.{ℕ, zero, suc, List, [], ◌∷◌, map, if◌then◌else◌, Option, Some, None}
-use Rattle.st_el.specs.Erasure.{same_name}
+use Rattle.st_num.specs.Names.{same_name}
 use Rattle.st_il.specs.declared.definition.IlDef.{IlDef}
 use Rattle.st_il.specs.declared.definition.IlDef.TheVariants as def
 use Rattle.st_il.specs.declared.definition.SyntaxDef.{SyntaxDef}

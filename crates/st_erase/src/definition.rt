@@ -6,11 +6,11 @@ ghost use Rattle.st_erase.specs.Definitions.{erased_field, erased_alternative, e
 
 use crate::Erased;
 use crate::expression::{Eraser, case};
-use crate::form::{NOWHERE, unplaced};
+use crate::form::unplaced;
 use crate::notation::{erased_ty, erased_tys, notation, notation_of, typ};
 use st_el::{Body, Def, DefNode, Exp, Hint, Node, NotNode, Notation, Prem, PremNode, Typ, TypNode};
 use st_il::{Alternative, ClauseDef, IlDef, IlExp, IlPrem, RuleDef, SyntaxBody, Ty};
-use st_num::{Boxed, Name, NoMemory, Row};
+use st_num::{Boxed, Name, NoMemory, Row, Span};
 use st_scan::{Token, TokenKind};
 use std::alloc::Global;
 
@@ -71,7 +71,7 @@ fn mode_word(alloc: Global, input: bool) -> Result<Token, NoMemory>
         b"out".as_slice()
     };
     Ok(Token {
-        at: NOWHERE,
+        at: Span::NOWHERE,
         touching: false,
         kind: TokenKind::Low(Row::from_slice(alloc, word)?),
     })
@@ -139,7 +139,7 @@ fn judged(alloc: Global, tag: &Name, operands: Row<Erased>) -> Result<Exp, NoMem
 fn prem(node: PremNode) -> Prem
     ensures { result ≡ prem node }
 {
-    Prem { at: NOWHERE, node }
+    Prem { at: Span::NOWHERE, node }
 }
 
 #[cycle(prem)]
@@ -237,7 +237,7 @@ pub fn erased_def(eraser: &Eraser, def: &IlDef) -> Result<Def, NoMemory>
 {
     let hints = erased_hints(eraser.alloc, def)?;
     Ok(Def {
-        at: NOWHERE,
+        at: Span::NOWHERE,
         hints,
         node: erased_node(eraser, def)?,
     })

@@ -1,29 +1,21 @@
 //! How erased expressions are made of their parts.
 
 ghost use Rattle.std.specs.Prelude.{◌≡◌, [], ◌∷◌, ◌++◌, IfOk, MatchOption};
-ghost use Rattle.st_el.specs.declared.expression.Node.TheVariants as node;
 ghost use Rattle.st_erase.specs.Places.{exp};
 ghost use Rattle.st_erase.specs.Filling.{sequence};
 ghost use Rattle.st_erase.specs.Erasure.{plain_form, arithmetic, absent, lifted};
 
 use crate::{Erased, Kind};
 use st_el::{Exp, Node};
-use st_num::{Boxed, Mark, NoMemory, Row, Span};
+use st_num::{Boxed, NoMemory, Row, Span};
 use std::alloc::Global;
 use std::collections::VecDeque;
-
-/// The place of what stands in no text.
-pub const NOWHERE: Span = Span {
-    file: 0,
-    line: 0,
-    column: 0,
-};
 
 /// An expression that stands in no text.
 pub fn unplaced(node: Node) -> Exp
     ensures { result ≡ exp node }
 {
-    Exp { at: NOWHERE, node }
+    Exp { at: Span::NOWHERE, node }
 }
 
 pub fn plain_form(node: Node) -> Erased
@@ -42,20 +34,6 @@ pub fn arithmetic(node: Node) -> Erased
         exp: unplaced(node),
         kind: Kind::Arithmetic,
     }
-}
-
-/// Two sides of a sign of logic, comparison, membership or `++`.
-pub fn binary(left: Boxed<Exp>, sign: Mark, right: Boxed<Exp>) -> Erased
-    ensures { result ≡ plain_form (node.Binary left sign right) }
-{
-    plain_form(Node::Binary(left, sign, right))
-}
-
-/// Two operands of arithmetic.
-pub fn operation(left: Boxed<Exp>, sign: Mark, right: Boxed<Exp>) -> Erased
-    ensures { result ≡ arithmetic (node.Binary left sign right) }
-{
-    arithmetic(Node::Binary(left, sign, right))
 }
 
 /// What was left out.

@@ -14,6 +14,7 @@ mod expression;
 mod filling;
 mod form;
 mod notation;
+mod operator;
 mod record;
 mod source;
 mod template;

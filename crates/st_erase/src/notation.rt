@@ -4,11 +4,10 @@ ghost use Rattle.std.specs.Prelude.{◌≡◌, [], ◌∷◌, map, IfOk, OnOk, M
 ghost use Rattle.st_erase.specs.Notations.{typ, erased_ty, notation, note_hole, note_of, note_parts, note_by, notation_of};
 ghost use Rattle.st_erase.specs.Tags.{template_of};
 
-use crate::form::NOWHERE;
 use crate::template::template_of;
 use st_el::{NotNode, Notation, Typ, TypNode};
 use st_il::{Template, Ty};
-use st_num::{Boxed, Name, NoMemory, Row};
+use st_num::{Boxed, Name, NoMemory, Row, Span};
 use std::alloc::Global;
 use std::collections::VecDeque;
 
@@ -16,14 +15,14 @@ use std::collections::VecDeque;
 pub fn typ(node: TypNode) -> Typ
     ensures { result ≡ typ node }
 {
-    Typ { at: NOWHERE, node }
+    Typ { at: Span::NOWHERE, node }
 }
 
 /// A notation that stands in no text.
 pub fn notation(node: NotNode) -> Notation
     ensures { result ≡ notation node }
 {
-    Notation { at: NOWHERE, node }
+    Notation { at: Span::NOWHERE, node }
 }
 
 #[cycle(ty)]

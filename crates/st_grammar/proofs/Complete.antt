@@ -12,7 +12,8 @@ use Rattle.st_grammar.specs.declared.sort.Closing.TheVariants.{ByRound as by_rou
 use Rattle.st_grammar.specs.declared.sort.Sort.{Sort}
 use Rattle.st_grammar.specs.declared.sort.Sort.TheVariants.{Expression as expression, Arithmetic as arithmetic, Notation as notation, Typ as typ, Count as count, Bound as bound}
 use Rattle.st_grammar.specs.Terminals.{Terminal, leaf, dot, sign, opening, closing, other}
-use Rattle.st_grammar.specs.Levels.{encloses, computes, is_expression, is_count, juxtaposes, level_of, ahead_level, tight, has_level, left_of, is_iteration_sign, is_caret, is_comma, is_colon}
+use Rattle.st_num.specs.Signs.{level as level_of, prefix_level}
+use Rattle.st_grammar.specs.Levels.{encloses, computes, is_expression, is_count, juxtaposes, tight, has_level, left_of, is_iteration_sign, is_caret, is_comma, is_colon}
 use Rattle.st_grammar.specs.Trees.{Tree, operand, post, times, bracket, led, Lead, left, ahead, items, Trees, none, more, Heading, plain, length, arguments, index, segment, update, below, Path, head, field, part, closes, text, lead_text, texts, heading_text, path_text, agree}
 use Rattle.st_grammar.specs.Grammar.{style, opens_length, sort_in, least_in, is_label, SetsOff, IsFilled, size, follows, may_post, lead_level, wanted, level, is_operand, Fits, LeadFits, EachFits, HeadingFits, PathFits}
 use Rattle.st_grammar.specs.Reading.{Frames, bottom, within, over, timing, State, want, got, naming, sort, least, settle, reach, lower, shut, close, ended, begin, extend, separate, join, pull, after, finish, reading, reads}
@@ -66,7 +67,7 @@ reach_wanted (items ts) = omega arith
 
 pub lead_pos : (σ : Sort) (g : Lead) → LeadFits σ g → 1 ≤ lead_level g
 lead_pos σ (left l m x) f = has_low σ (level_of m) f.0
-lead_pos σ (ahead m x) f = has_low σ (ahead_level m) f
+lead_pos σ (ahead m x) f = has_low σ (prefix_level m) f
 lead_pos σ (items ts) f = omega arith
 
 pub level_pos : (σ : Sort) (t : Tree) → Fits σ t → 1 ≤ level t
@@ -133,7 +134,7 @@ left_ends σ m (post t l) f h = omega (arith, level_low m)
 left_ends σ m (times t k x c) f h = omega (arith, level_low m)
 left_ends σ m (bracket k ts c) f h = omega (arith, level_low m)
 left_ends σ m (led (left l k x) t) f h = level_after (level_of m) (level_of k) h
-left_ends σ m (led (ahead k x) t) f h = ahead_after m k (has_low σ (ahead_level k) f.0) h
+left_ends σ m (led (ahead k x) t) f h = ahead_after m k (has_low σ (prefix_level k) f.0) h
 left_ends σ m (led (items ts) t) f h = level_before (level_of m) 14 refl h
 
 -- ---- the machine at one token
@@ -185,7 +186,7 @@ juxtaposes_no_count bound e = refl
 
 pub lead_no_count : (σ : Sort) (g : Lead) → LeadFits σ g → is_count σ ≡ false
 lead_no_count σ (left l m x) f = level_no_count σ (level_of m) f.0
-lead_no_count σ (ahead m x) f = level_no_count σ (ahead_level m) f
+lead_no_count σ (ahead m x) f = level_no_count σ (prefix_level m) f
 lead_no_count σ (items ts) f = juxtaposes_no_count σ f.0
 
 pub computes_no_count : (σ : Sort) → computes σ ≡ true → is_count σ ≡ false
@@ -331,10 +332,10 @@ read_join l m x fs w j h k =
     ∙ ap (λ b. if b then if nat_le (left_of m) (level l) then Some (want (over (left l m x) fs)) else None else separate m x (l, fs)) (both_true _ _ j yes)
     ∙ ap (λ b. if b then Some (want (over (left l m x) fs)) else None) takes_left)
 
-pub read_ahead : (m : Mark) (x : Token) (fs : Frames) (w : List Terminal) → has_level (sort fs) (ahead_level m) ≡ true → least fs ≤ ahead_level m
+pub read_ahead : (m : Mark) (x : Token) (fs : Frames) (w : List Terminal) → has_level (sort fs) (prefix_level m) ≡ true → least fs ≤ prefix_level m
     → reads (want fs) (sign m x ∷ w) ≡ reads (want (over (ahead m x) fs)) w
 read_ahead m x fs w j h =
-    let yes = above (least fs) (ahead_level m) h in
+    let yes = above (least fs) (prefix_level m) h in
     reads_by _ _ w (ap (λ b. if b then Some (want (over (ahead m x) fs)) else None) (both_true _ _ j yes))
 
 -- ---- what a tree begins with

@@ -11,7 +11,8 @@ use Rattle.st_grammar.specs.declared.sort.Closing.TheVariants.{BySquare as by_sq
 use Rattle.st_grammar.specs.declared.sort.Sort.{Sort}
 use Rattle.st_grammar.specs.declared.sort.Sort.TheVariants.{Expression as expression, Arithmetic as arithmetic, Notation as notation, Typ as typ, Count as count, Bound as bound}
 use Rattle.st_grammar.specs.Terminals.{Terminal, leaf, dot, sign, opening, closing, other}
-use Rattle.st_grammar.specs.Levels.{takes, encloses, computes, is_expression, is_count, juxtaposes, level_of, tight, has_level, left_of, is_comma, is_colon, is_less, is_change}
+use Rattle.st_num.specs.Signs.{level as level_of}
+use Rattle.st_grammar.specs.Levels.{takes, encloses, computes, is_expression, is_count, juxtaposes, tight, has_level, left_of, is_comma, is_colon, is_less, is_change}
 use Rattle.st_grammar.specs.Trees.{Tree, operand, post, times, bracket, led, Lead, left, ahead, items, Trees, none, more, Heading, plain, length, arguments, index, segment, update, below, Path, head, field, part, closes, text, lead_text, texts, heading_text, path_text}
 use Rattle.st_grammar.specs.Grammar.{bracket_style, index_style, style, sort_in, least_in, SetsOff, IsFilled, size, text_follows, FollowsAll, lead_level, wanted, level, is_operand, has_step, MayEnd, Fits, LeadFits, EachFits, HeadingFits, PathFits, Parse}
 use Rattle.st_grammar.specs.Reading.{Frames, bottom, within, over, timing, State, want, got, naming, pathed, indexing, sort, least, settle, reach, begin, extend, next_part, pull, behind, after, in_index, reads, start}

@@ -6,7 +6,10 @@ use Rattle.st_scan.specs.declared.token.Token.{Token}
 use Rattle.st_grammar.specs.declared.sort.Sort.{Sort}
 use Rattle.st_grammar.specs.declared.sort.Sort.TheVariants.{Expression as expression, Arithmetic as arithmetic, Notation as notation, Typ as typ, Count as count, Bound as bound}
 use Rattle.st_grammar.specs.Terminals.{sign}
-use Rattle.st_grammar.specs.Levels.{is_expression, level_of, ahead_level, has_level, Group, to_none, to_left, to_right, group_of, left_gap, right_gap, left_of, right_of, ahead_right, is_iteration_sign, is_type_iteration_sign, is_caret, is_comma, is_colon}
+use Rattle.st_num.specs.Signs.{level as level_of, prefix_level, grouping_at, left_gap, right_gap}
+use Rattle.st_num.specs.declared.mark.Grouping.{Grouping}
+use Rattle.st_num.specs.declared.mark.Grouping.TheVariants.{None as to_none, Left as to_left, Right as to_right}
+use Rattle.st_grammar.specs.Levels.{is_expression, has_level, left_of, right_of, prefix_right, is_iteration_sign, is_type_iteration_sign, is_caret, is_comma, is_colon}
 use Rattle.st_grammar.specs.Trees.{Tree}
 use Rattle.st_grammar.specs.Grammar.{may_post}
 
@@ -59,35 +62,35 @@ level_low mark.TickParen = omega arith
 level_low mark.TickBracket = omega arith
 level_low mark.TickBrace = omega arith
 
-pub ahead_low : (m : Mark) → ahead_right m ≤ 17
+pub ahead_low : (m : Mark) → prefix_right m ≤ 17
 ahead_low mark.Tilde = omega arith
 ahead_low mark.Turnstile = omega arith
 ahead_low mark.Minus = omega arith
 ahead_low m = omega arith
 
-pub ahead_below : (m : Mark) → ahead_level m ≤ ahead_right m
+pub ahead_below : (m : Mark) → prefix_level m ≤ prefix_right m
 ahead_below mark.Turnstile = omega arith
 ahead_below m = omega arith
 
-pub gap_low : (g : Group) → right_gap g ≤ 1
+pub gap_low : (g : Grouping) → right_gap g ≤ 1
 gap_low to_none = omega arith
 gap_low to_left = omega arith
 gap_low to_right = omega arith
 
 pub right_low : (m : Mark) → right_of m ≤ 19
-right_low m = omega (arith, level_low m, gap_low (group_of (level_of m)))
+right_low m = omega (arith, level_low m, gap_low (grouping_at (level_of m)))
 
-pub one_side : (g : Group) → 1 ≤ left_gap g + right_gap g
+pub one_side : (g : Grouping) → 1 ≤ left_gap g + right_gap g
 one_side to_none = omega arith
 one_side to_left = omega arith
 one_side to_right = omega arith
 
 -- a sign that takes a pair as its left side does not bind into it
-pub level_after : (m n : ℕ) → m + left_gap (group_of m) ≤ n → m < n + right_gap (group_of n)
-level_after m n h = grind (arith, one_side (group_of n))
+pub level_after : (m n : ℕ) → m + left_gap (grouping_at m) ≤ n → m < n + right_gap (grouping_at n)
+level_after m n h = grind (arith, one_side (grouping_at n))
 
 -- a sign that takes something of a level without signs of its own as its left side is looser
-pub level_before : (m n : ℕ) → left_gap (group_of n) ≡ 1 → m + left_gap (group_of m) ≤ n → m < n
+pub level_before : (m n : ℕ) → left_gap (grouping_at n) ≡ 1 → m + left_gap (grouping_at m) ≤ n → m < n
 level_before m n g h = grind arith
 
 pub has_low : (σ : Sort) (n : ℕ) → has_level σ n ≡ true → 1 ≤ n
@@ -98,7 +101,7 @@ has_low typ n h = absurd (cc)
 has_low count n h = absurd (cc)
 has_low bound n h = absurd (cc)
 
-pub ahead_after : (m k : Mark) → 1 ≤ ahead_level k → left_of m ≤ ahead_level k → level_of m < ahead_right k
+pub ahead_after : (m k : Mark) → 1 ≤ prefix_level k → left_of m ≤ prefix_level k → level_of m < prefix_right k
 ahead_after m mark.Turnstile p h = omega arith
 ahead_after m mark.ReverseTurnstile p h = absurd (omega arith)
 ahead_after m mark.SquigglyArrowStar p h = absurd (omega arith)

@@ -24,7 +24,8 @@ use Rattle.st_num.specs.declared.word.Word.{Word}
 use Rattle.st_num.specs.declared.word.Word.TheVariants as word
 use Rattle.st_scan.specs.declared.token.TokenKind.{TokenKind}
 use Rattle.st_scan.specs.declared.token.TokenKind.TheVariants as kind
-use Rattle.st_grammar.specs.Levels.{level_of, has_level, tight, left_of}
+use Rattle.st_num.specs.Signs.{level as level_of}
+use Rattle.st_grammar.specs.Levels.{has_level, tight, left_of}
 use Rattle.st_grammar.specs.Trees.{left}
 use Rattle.st_grammar.specs.Reading.{Frames, bottom, within, over, timing, sort}
 use Rattle.st_grammar.specs.Definitions.{mark_keyword, kind_keyword, is_mix_kind}

@@ -12,7 +12,8 @@ use Rattle.st_grammar.specs.declared.sort.Closing.TheVariants.{ByRound as by_rou
 use Rattle.st_grammar.specs.declared.sort.Sort.{Sort}
 use Rattle.st_grammar.specs.declared.sort.Sort.TheVariants.{Expression as expression, Arithmetic as arithmetic, Notation as notation, Typ as typ, Count as count, Bound as bound}
 use Rattle.st_grammar.specs.Terminals.{Terminal, leaf, dot, sign, opening, closing, other}
-use Rattle.st_grammar.specs.Levels.{takes, encloses, computes, is_expression, is_count, level_of, ahead_level, tight, has_level, left_of, is_caret, is_comma, is_colon}
+use Rattle.st_num.specs.Signs.{level as level_of, prefix_level}
+use Rattle.st_grammar.specs.Levels.{takes, encloses, computes, is_expression, is_count, tight, has_level, left_of, is_caret, is_comma, is_colon}
 use Rattle.st_grammar.specs.Trees.{Tree, operand, post, bracket, led, Lead, left, ahead, items, Trees, none, more, Heading, plain, length, arguments, index, segment, update, below, Path, part, closes, text, lead_text, texts, heading_text, path_text, agree}
 use Rattle.st_grammar.specs.Grammar.{bracket_style, index_style, style, sort_in, least_in, SetsOff, text_follows, FollowsAll, may_post, lead_level, level, is_operand, MayEnd, MayFollow, Fits, LeadFits, EachFits, HeadingFits, PathFits}
 use Rattle.st_grammar.specs.Reading.{Frames, bottom, within, over, timing, State, want, got, naming, pathed, indexing, comparing, sort, least, settle, reach, lower, shut, close, no_arguments, begin_closing, begin_opening, begin, next_part, separate, join, pull, behind_sign}
@@ -499,10 +500,10 @@ begins fs (leaf k x) s b = go (takes (sort fs) k) refl
     go true e = settles (operand k x) fs (frames_text fs ++ leaf k x ∷ []) (record { frames = s; fits = e; level = least_low fs; begins = b }) (omega arith) refl
     go false e = tt
 begins fs (dot x) s b = tt
-begins fs (sign m x) s b = go (has_level (sort fs) (ahead_level m) && nat_le (least fs) (ahead_level m)) refl
+begins fs (sign m x) s b = go (has_level (sort fs) (prefix_level m) && nat_le (least fs) (prefix_level m)) refl
   where
-    go : (c : Bool) → has_level (sort fs) (ahead_level m) && nat_le (least fs) (ahead_level m) ≡ c → ReachedBy (base fs) (frames_text fs ++ sign m x ∷ []) (if c then Some (want (over (ahead m x) fs)) else None)
-    go true e = record { holds = ((s, and_left _ _ e, is_above (least fs) (ahead_level m) (and_right _ _ e)), tt); spelled = refl; based = refl }
+    go : (c : Bool) → has_level (sort fs) (prefix_level m) && nat_le (least fs) (prefix_level m) ≡ c → ReachedBy (base fs) (frames_text fs ++ sign m x ∷ []) (if c then Some (want (over (ahead m x) fs)) else None)
+    go true e = record { holds = ((s, and_left _ _ e, is_above (least fs) (prefix_level m) (and_right _ _ e)), tt); spelled = refl; based = refl }
     go false e = tt
 begins fs (opening k x) s b = opens k x fs s b
 begins fs (closing c x) s b = begin_closes c x fs s b

@@ -10,7 +10,8 @@ use Rattle.st_grammar.specs.declared.sort.Closing.TheVariants.{ByRound as by_rou
 use Rattle.st_grammar.specs.declared.sort.Sort.{Sort}
 use Rattle.st_grammar.specs.declared.sort.Sort.TheVariants.{Expression as expression, Arithmetic as arithmetic, Notation as notation, Typ as typ, Count as count, Bound as bound}
 use Rattle.st_grammar.specs.Terminals.{Terminal, leaf, dot, sign, opening, closing, other}
-use Rattle.st_grammar.specs.Levels.{computes, is_expression, juxtaposes, level_of, ahead_level, tight, has_level, ahead_right, is_less, is_change, group_of}
+use Rattle.st_num.specs.Signs.{level as level_of, prefix_level, grouping_at}
+use Rattle.st_grammar.specs.Levels.{computes, is_expression, juxtaposes, tight, has_level, prefix_right, is_less, is_change}
 use Rattle.st_grammar.specs.Trees.{Tree, operand, post, times, bracket, led, left, ahead, items, Trees, none, more, Heading, plain, length, arguments, index, segment, update, below, Path, head, field, part, text, texts, heading_text, path_text}
 use Rattle.st_grammar.specs.Grammar.{opens_length, is_label, SetsOff, is_function, follows, may_post, level, has_step, Fits, Parse}
 use Rattle.st_grammar.specs.Reading.{Frames, bottom, within, over, timing, State, want, got, naming, pathed, indexing, comparing, sort, least, lower, ended, begin, extend, behind_square, behind_round, behind, after, in_index, in_path, name_field, name_index, bound_index, step, finish, reading, start}
@@ -52,7 +53,7 @@ juxtaposed_low typ n j h = absurd (cc)
 juxtaposed_low count n j h = absurd (cc)
 juxtaposed_low bound n j h = absurd (cc)
 
-pub ahead_near : (m : Mark) → ahead_right m ≤ ahead_level m + 1
+pub ahead_near : (m : Mark) → prefix_right m ≤ prefix_level m + 1
 ahead_near mark.Turnstile = omega arith
 ahead_near m = omega arith
 
@@ -65,8 +66,8 @@ wide_enough (within (length o) ts pre fs) s j n = omega arith
 wide_enough (within (arguments f o) ts pre fs) s j n = omega arith
 wide_enough (within (update p m x) ts pre fs) s j n = omega arith
 wide_enough (within (below o i m x) ts pre fs) s j n = omega arith
-wide_enough (over (left l m x) fs) s j n = omega (arith, juxtaposed_low (sort fs) (level_of m) j s.1.0, gap_low (group_of (level_of m)))
-wide_enough (over (ahead m x) fs) s j n = omega (arith, juxtaposed_low (sort fs) (ahead_level m) j s.1, ahead_near m)
+wide_enough (over (left l m x) fs) s j n = omega (arith, juxtaposed_low (sort fs) (level_of m) j s.1.0, gap_low (grouping_at (level_of m)))
+wide_enough (over (ahead m x) fs) s j n = omega (arith, juxtaposed_low (sort fs) (prefix_level m) j s.1, ahead_near m)
 wide_enough (over (items ts) fs) s j n = absurd n
 wide_enough (timing t m x fs) s j n = omega arith
 

@@ -285,7 +285,8 @@ wants_iteration i = false
 abbrev pub IterationsFit : Iterations → Type 0
 IterationsFit no_iterations = Unit {0}
 IterationsFit (closed i l) = IterationsFit i × (wants_iteration i ≡ false) × (closes_round l ≡ true)
-IterationsFit (marked i l) = IterationsFit i × (has_closed i ≡ true) × (signed is_iteration_sign l ≡ true)
+IterationsFit (marked i l) =
+    IterationsFit i × (has_closed i ≡ true) × (signed is_iteration_sign l ≡ true)
 IterationsFit (counted i l t) =
     IterationsFit i × (has_closed i ≡ true) × (signed is_caret l ≡ true) × Fits count t
 

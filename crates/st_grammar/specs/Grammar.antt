@@ -12,7 +12,8 @@ use Rattle.st_grammar.specs.declared.sort.Closing.TheVariants.{ByBar as by_bar}
 use Rattle.st_grammar.specs.declared.sort.Sort.{Sort}
 use Rattle.st_grammar.specs.declared.sort.Sort.TheVariants.{Expression as expression, Arithmetic as arithmetic, Notation as notation, Typ as typ, Count as count, Bound as bound}
 use Rattle.st_grammar.specs.Terminals.{Terminal, leaf, dot, sign, opening, closing, terminal}
-use Rattle.st_grammar.specs.Levels.{takes, encloses, inside, computes, is_expression, is_count, juxtaposes, level_of, ahead_level, sequence_level, tight, has_level, left_of, right_of, ahead_right, is_iteration_sign, is_type_iteration_sign, is_caret, is_comma, is_colon, is_less, is_change}
+use Rattle.st_num.specs.Signs.{level as level_of, prefix_level}
+use Rattle.st_grammar.specs.Levels.{takes, encloses, inside, computes, is_expression, is_count, juxtaposes, sequence_level, tight, has_level, left_of, right_of, prefix_right, is_iteration_sign, is_type_iteration_sign, is_caret, is_comma, is_colon, is_less, is_change}
 use Rattle.st_grammar.specs.Trees.{Tree, operand, post, times, bracket, led, Lead, left, ahead, items, Trees, none, more, Heading, plain, length, arguments, index, segment, update, below, Path, head, field, part, text}
 
 -- ---- lists of parts
@@ -145,13 +146,13 @@ may_post σ t l = false
 
 abbrev pub lead_level : Lead → ℕ
 lead_level (left l m x) = level_of m
-lead_level (ahead m x) = ahead_level m
+lead_level (ahead m x) = prefix_level m
 lead_level (items ts) = sequence_level
 
 -- the least level of what stands behind
 abbrev pub wanted : Lead → ℕ
 wanted (left l m x) = right_of m
-wanted (ahead m x) = ahead_right m
+wanted (ahead m x) = prefix_right m
 wanted (items ts) = tight
 
 abbrev pub level : Tree → ℕ
@@ -193,7 +194,7 @@ abbrev mutual
 
   pub LeadFits : Sort → Lead → Type 0
   LeadFits σ (left l m x) = (has_level σ (level_of m) ≡ true) × Fits σ l × (left_of m ≤ level l)
-  LeadFits σ (ahead m x) = has_level σ (ahead_level m) ≡ true
+  LeadFits σ (ahead m x) = has_level σ (prefix_level m) ≡ true
   LeadFits σ (items ts) = (juxtaposes σ ≡ true) × EachFits σ run tight ts × (1 ≤ size ts)
 
   -- each part is set off so, and has at least this level

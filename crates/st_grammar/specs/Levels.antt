@@ -1,7 +1,8 @@
--- The levels of signs, and what may stand in each sort of place.
-use Rattle.std.specs.Prelude.{ℕ, ◌+◌, Bool, true, false, ◌&&◌, ◌||◌, ◌==◌, nat_le, if◌then◌else◌}
+-- What may stand in each sort of part, and how tightly its signs hold.
+use Rattle.std.specs.Prelude.{ℕ, Bool, true, false, ◌&&◌, nat_le}
 use Rattle.st_num.specs.declared.mark.Mark.{Mark}
 use Rattle.st_num.specs.declared.mark.Mark.TheVariants as mark
+use Rattle.st_num.specs.Signs as signs
 use Rattle.st_grammar.specs.declared.sort.Leaf.{Leaf}
 use Rattle.st_grammar.specs.declared.sort.Leaf.TheVariants.{Low as low, Basic as basic, Atom as atom, Number as number, Literal as literal, Function as function}
 use Rattle.st_grammar.specs.declared.sort.Bracket.{Bracket}
@@ -55,7 +56,7 @@ inside notation k = notation
 inside typ k = typ
 inside σ k = expression false
 
--- Lengths, calls and elements at a place stand in expressions and in arithmetic.
+-- Lengths, calls and elements at a position stand in expressions and in arithmetic.
 abbrev pub computes : Sort → Bool
 computes (expression b) = true
 computes arithmetic = true
@@ -77,48 +78,6 @@ juxtaposes σ = false
 
 -- ---- signs
 
--- The level of a sign between two sides, 0 where it is none: the looser have the lower numbers.
--- Those of arithmetic stand behind those of expressions.
-abbrev pub level_of : Mark → ℕ
-level_of mark.Equivalent = 1
-level_of mark.Implies = 2
-level_of mark.Or = 3
-level_of mark.And = 4
-level_of mark.Equal = 6
-level_of mark.NotEqual = 6
-level_of mark.Less = 6
-level_of mark.Greater = 6
-level_of mark.LessOrEqual = 6
-level_of mark.GreaterOrEqual = 6
-level_of mark.ElementOf = 6
-level_of mark.Turnstile = 7
-level_of mark.ReverseTurnstile = 7
-level_of mark.SquigglyArrow = 8
-level_of mark.SquigglyArrowStar = 8
-level_of mark.Colon = 9
-level_of mark.Subtype = 9
-level_of mark.Supertype = 9
-level_of mark.Approximately = 9
-level_of mark.Define = 9
-level_of mark.Semicolon = 10
-level_of mark.Arrow = 11
-level_of mark.DotDot = 12
-level_of mark.PlusPlus = 13
-level_of mark.Plus = 15
-level_of mark.Minus = 15
-level_of mark.Star = 16
-level_of mark.Slash = 16
-level_of mark.Backslash = 16
-level_of mark.Caret = 18
-level_of m = 0
-
--- the level of a sign that has no left side
-abbrev pub ahead_level : Mark → ℕ
-ahead_level mark.Tilde = 5
-ahead_level mark.Turnstile = 7
-ahead_level mark.Minus = 17
-ahead_level m = 0
-
 -- the level of a sequence, and of what binds tightest
 abbrev pub sequence_level : ℕ
 sequence_level = 14
@@ -126,57 +85,35 @@ sequence_level = 14
 abbrev pub tight : ℕ
 tight = 20
 
--- the levels whose signs stand in a sort of place
+-- the levels whose signs stand in a sort of part
 abbrev pub has_level : Sort → ℕ → Bool
 has_level (expression b) n = nat_le 1 n && nat_le n 13
 has_level arithmetic n = nat_le 15 n
 has_level notation n = nat_le 7 n && nat_le n 12
 has_level σ n = false
 
--- how the signs of a level group
-pub data Group : Type 0 where
-  to_none : Group
-  to_left : Group
-  to_right : Group
-
-abbrev pub group_of : ℕ → Group
-group_of n =
-    if n == 2 || n == 11 || n == 18 then to_right
-    else if n == 3 || n == 4 || n == 10 || n == 13 || n == 15 || n == 16 then to_left
-    else to_none
-
--- how much tighter than the level what stands to its left and to its right is at least
-abbrev pub left_gap : Group → ℕ
-left_gap to_none = 1
-left_gap to_left = 0
-left_gap to_right = 1
-
-abbrev pub right_gap : Group → ℕ
-right_gap to_none = 1
-right_gap to_left = 1
-right_gap to_right = 0
-
+-- the loosest level that a sign allows to its left, and to its right
 abbrev pub left_of : Mark → ℕ
-left_of m = level_of m + left_gap (group_of (level_of m))
+left_of m = signs.left_of (signs.level m)
 
 abbrev pub right_of : Mark → ℕ
-right_of m = level_of m + right_gap (group_of (level_of m))
+right_of m = signs.right_of (signs.level m)
 
 -- Only `|-` wants something tighter than itself behind it.
-abbrev pub ahead_right : Mark → ℕ
-ahead_right mark.Turnstile = 8
-ahead_right m = ahead_level m
+abbrev pub prefix_right : Mark → ℕ
+prefix_right mark.Turnstile = 8
+prefix_right m = signs.prefix_level m
 
--- ---- signs of one place
+-- ---- signs of one use
 
--- the marks behind an expression
+-- the signs of an iteration of an expression
 abbrev pub is_iteration_sign : Mark → Bool
 is_iteration_sign mark.Star = true
 is_iteration_sign mark.Plus = true
 is_iteration_sign mark.Question = true
 is_iteration_sign m = false
 
--- the marks behind a type
+-- the signs of an iteration of a type
 abbrev pub is_type_iteration_sign : Mark → Bool
 is_type_iteration_sign mark.Star = true
 is_type_iteration_sign mark.Question = true

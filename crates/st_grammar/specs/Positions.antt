@@ -81,7 +81,8 @@ pub data Position : Type 0 where
   hinted : Host → Hints → Position
   hint_open : Host → Hints → Terminal → Position
   hint_name : Host → Hints → Terminal → Terminal → Position
-  hint_words : Host → Hints → Terminal → Terminal → Terminal → List Terminal → List Bracket → Position
+  hint_words : Host → Hints → Terminal → Terminal → Terminal → List Terminal → List Bracket
+      → Position
   -- where a part or something else may stand
   entering : Slot → Position
   -- behind the dots before the alternatives
@@ -94,7 +95,8 @@ pub data Position : Type 0 where
   premise_open : Rule → Tree → Premises → Terminal → List Terminal → Position
   goal_colon : Rule → Tree → Premises → Terminal → List Terminal → Terminal → Position
   -- behind a condition and its iterations so far
-  iterated : Rule → Tree → Premises → Terminal → List Terminal → List Terminal → Tree → Iterations → Position
+  iterated : Rule → Tree → Premises → Terminal → List Terminal → List Terminal → Tree
+      → Iterations → Position
 
 pub data State : Type 0 where
   at : Position → State
@@ -231,7 +233,8 @@ result_step ds w f a b l =
     if signed is_colon l && b then Some (begun (fun_slot ds w f a l))
     else when (signed is_equal l) (begun (rule_slot (clause_head ds w f a l)))
 
-abbrev pub premise_step : Rule → Tree → Premises → Terminal → List Terminal → Terminal → Option State
+abbrev pub premise_step : Rule → Tree → Premises → Terminal → List Terminal → Terminal
+    → Option State
 premise_step r t ps d os l =
     if opens_round l then Some (at (premise_open r t ps d (os ++ l ∷ [])))
     else when (names_relation l) (at (goal_colon r t ps d os l))
@@ -255,7 +258,8 @@ abbrev pub iterate : Rule → Tree → Premises → Terminal → List Terminal �
     → Iterations → Terminal → Option State
 iterate r t ps d os ls u i l =
     if closes_round l && may_close os i then Some (at (iterated r t ps d os ls u (closed i l)))
-    else if signed is_iteration_sign l && has_closed i then Some (at (iterated r t ps d os ls u (marked i l)))
+    else if signed is_iteration_sign l && has_closed i
+    then Some (at (iterated r t ps d os ls u (marked i l)))
     else if signed is_caret l && has_closed i then Some (begun (count_slot r t ps d os ls u i l))
     else if is_whole os i then next_premise (keyword l) r t (more_premises ps (given d os ls u i)) l
     else None

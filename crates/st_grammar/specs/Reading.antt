@@ -13,7 +13,8 @@ use Rattle.st_grammar.specs.declared.sort.Closing.TheVariants.{ByRound as by_rou
 use Rattle.st_grammar.specs.declared.sort.Sort.{Sort}
 use Rattle.st_grammar.specs.declared.sort.Sort.TheVariants.{Count as count}
 use Rattle.st_grammar.specs.Terminals.{Terminal, leaf, dot, sign, opening, closing, other}
-use Rattle.st_grammar.specs.Levels.{takes, encloses, computes, is_expression, is_count, level_of, ahead_level, has_level, left_of, right_of, ahead_right, is_caret, is_comma, is_colon, is_less, is_change}
+use Rattle.st_num.specs.Signs.{level as level_of, prefix_level}
+use Rattle.st_grammar.specs.Levels.{takes, encloses, computes, is_expression, is_count, has_level, left_of, right_of, prefix_right, is_caret, is_comma, is_colon, is_less, is_change}
 use Rattle.st_grammar.specs.Trees.{Tree, operand, post, times, bracket, led, Lead, left, ahead, items, Trees, none, more, Heading, plain, length, arguments, index, segment, update, below, Path, head, field, part, closes, agree}
 use Rattle.st_grammar.specs.Grammar.{style, sort_in, least_in, is_label, follows, may_post, level, wanted, has_step}
 
@@ -66,7 +67,7 @@ settle t fs = got t fs
 -- how loose a sign must be to close over a part behind this
 abbrev pub reach : Lead → ℕ
 reach (left l m x) = right_of m
-reach (ahead m x) = ahead_right m
+reach (ahead m x) = prefix_right m
 reach (items ts) = 14
 
 -- what binds tighter than this level is closed over the part
@@ -120,7 +121,7 @@ abbrev pub begin : Frames → Terminal → Option State
 begin fs (leaf k x) = if takes (sort fs) k then Some (settle (operand k x) fs) else None
 begin fs (dot x) = None
 begin fs (sign m x) =
-    if has_level (sort fs) (ahead_level m) && nat_le (least fs) (ahead_level m)
+    if has_level (sort fs) (prefix_level m) && nat_le (least fs) (prefix_level m)
     then Some (want (over (ahead m x) fs)) else None
 begin fs (opening k x) = begin_opening k x fs
 begin fs (closing c x) = begin_closing c x fs

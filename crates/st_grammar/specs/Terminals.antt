@@ -103,7 +103,8 @@ sign_terminal m x = sign m x
 
 abbrev pub kind_terminal : List (List ℕ) → TokenKind → Token → Terminal
 kind_terminal names (kind.Low name) x = leaf low x
-kind_terminal names (kind.Up name) x = if is_variable names name then leaf variable x else leaf atom x
+kind_terminal names (kind.Up name) x =
+    if is_variable names name then leaf variable x else leaf atom x
 kind_terminal names (kind.Mix name) x = other x
 kind_terminal names (kind.Reserved w) x = word_terminal w x
 kind_terminal names (kind.Number n) x = leaf number x

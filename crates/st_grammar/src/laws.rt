@@ -41,7 +41,8 @@ pub fn definitions_are_read()
     ensures complete { (us : List Terminal) (ds : Defs)
         → ParseDefs us ds → position.reads position.start us ≡ Some ds }
     ensures sound { (us : List Terminal) (st : position.State) (ds : Defs)
-        → position.reading position.start us ≡ Some st → position.finish st ≡ Some ds → ParseDefs us ds }
+        → position.reading position.start us ≡ Some st → position.finish st ≡ Some ds
+        → ParseDefs us ds }
     ensures viable { (names : List (List ℕ)) (us : List Terminal) (st : position.State)
         → position.reading position.start us ≡ Some st → ViableDefs names us }
     ensures dead { (names : List (List ℕ)) (us : List Terminal)

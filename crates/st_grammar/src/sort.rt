@@ -1,4 +1,7 @@
-//! What a token can be in a part of a definition, and the sorts of places that parts stand in.
+//! What a token can be in a part of a definition, and the sorts of parts.
+
+ghost use Rattle.std.specs.Prelude.{◌≡◌};
+ghost use Rattle.st_grammar.specs.Levels as levels;
 
 /// What a token is that can stand alone as a part.
 #[derive(Clone, Copy, Debug, PartialEq, Eq)]
@@ -39,7 +42,7 @@ pub enum Closing {
     ByBar,
 }
 
-/// What may stand in a place.
+/// What a part is, which tells what may stand in it.
 #[derive(Clone, Copy, Debug, PartialEq, Eq)]
 pub enum Sort {
     /// An expression, and whether it stands directly between the bars of a length.
@@ -52,6 +55,93 @@ pub enum Sort {
     Count,
     /// What stands behind `<` in a count.
     Bound,
+}
+
+impl Sort {
+    /// Whether the operand of one token stands in such a position.
+    pub fn takes(self, leaf: Leaf) -> bool
+        ensures { result ≡ levels.takes self leaf }
+    {
+        match self {
+            Sort::Expression(_) => true,
+            Sort::Arithmetic => !matches!(leaf, Leaf::Atom | Leaf::Literal),
+            Sort::Notation => !matches!(leaf, Leaf::Number | Leaf::Literal | Leaf::Function),
+            Sort::Typ => matches!(leaf, Leaf::Low | Leaf::Basic),
+            Sort::Count | Sort::Bound => {
+                !matches!(leaf, Leaf::Atom | Leaf::Literal | Leaf::Function)
+            }
+        }
+    }
+
+    /// Whether such a bracket begins an operand there.
+    pub fn encloses(self, bracket: Bracket) -> bool
+        ensures { result ≡ levels.encloses self bracket }
+    {
+        match self {
+            Sort::Expression(_) => !matches!(bracket, Bracket::Square),
+            Sort::Arithmetic => matches!(bracket, Bracket::Round | Bracket::Dollar),
+            Sort::Notation => !matches!(
+                bracket,
+                Bracket::Square | Bracket::Brace | Bracket::Dollar
+            ),
+            Sort::Typ => matches!(bracket, Bracket::Round),
+            Sort::Count | Sort::Bound => matches!(bracket, Bracket::Dollar),
+        }
+    }
+
+    /// What stands in such a bracket.
+    pub fn inside(self, bracket: Bracket) -> Sort
+        ensures { result ≡ levels.inside self bracket }
+    {
+        match (self, bracket) {
+            (_, Bracket::Dollar) => Sort::Arithmetic,
+            (Sort::Arithmetic, _) => Sort::Arithmetic,
+            (Sort::Notation, Bracket::Round) => Sort::Typ,
+            (Sort::Notation, _) => Sort::Notation,
+            (Sort::Typ, _) => Sort::Typ,
+            (_, _) => Sort::Expression(false),
+        }
+    }
+
+    /// Whether lengths, calls and elements at a position stand in it.
+    pub fn computes(self) -> bool
+        ensures { result ≡ levels.computes self }
+    {
+        matches!(self, Sort::Expression(_) | Sort::Arithmetic)
+    }
+
+    /// Whether it is an expression, directly between bars or not.
+    pub fn is_expression(self) -> bool
+        ensures { result ≡ levels.is_expression self }
+    {
+        matches!(self, Sort::Expression(_))
+    }
+
+    /// Whether it is what stands behind `^`.
+    pub fn is_count(self) -> bool
+        ensures { result ≡ levels.is_count self }
+    {
+        matches!(self, Sort::Count)
+    }
+
+    /// Whether parts one behind the other are a sequence in it.
+    pub fn juxtaposes(self) -> bool
+        ensures { result ≡ levels.juxtaposes self }
+    {
+        matches!(self, Sort::Expression(_) | Sort::Notation)
+    }
+
+    /// Whether signs of this level stand in it.
+    pub fn has_level(self, level: u8) -> bool
+        ensures { result ≡ levels.has_level self level }
+    {
+        match self {
+            Sort::Expression(_) => 1 <= level && level <= 13,
+            Sort::Arithmetic => 15 <= level,
+            Sort::Notation => 7 <= level && level <= 12,
+            Sort::Typ | Sort::Count | Sort::Bound => false,
+        }
+    }
 }
 
 /// How parts are set off from one another.

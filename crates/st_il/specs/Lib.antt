@@ -12,6 +12,8 @@ pub mod Notation
 pub mod Template
 -- the key of a notation: what tells apart the cases of a syntax
 pub mod Key
+-- a name occurs as a variable in an expression or a premise
+pub mod Occurrences
 -- an expression has this value in an environment
 pub mod Evaluation
 -- a premise holds in an environment

@@ -12,6 +12,7 @@ mod definition;
 mod expression;
 mod height;
 mod key;
+mod occurs;
 mod order;
 mod reading;
 mod reserved;
@@ -34,6 +35,7 @@ pub use definition::{
 pub use expression::{IlExp, IlPrem, Iteration, ListItem, PathSeg};
 pub use height::is_within_height;
 pub use key::{Key, key_of, same_key};
+pub use occurs::HasVariables;
 pub use order::{compare, compare_values};
 pub use reading::template_of;
 pub use reserved::is_reserved;

@@ -18,11 +18,11 @@ use Rattle.st_parse_builder.specs.declared.piece.Piece.{Piece}
 use Rattle.st_parse_builder.specs.declared.piece.Piece.TheVariants.{Done, Parts, Fields, Path, Label, Here}
 use Rattle.st_parse_builder.specs.Names.{name_of, number_of, leaf_node}
 use Rattle.st_parse_builder.specs.Meaning.{exp, place, opened, is_atom, atom_name, joined, prefixed, dotted, iterated, mark_count, in_parens, enclosed, changed}
-use Rattle.st_parse_builder.specs.Building.{Stack, put, top_done, top_parts, top_fields, top_path, top_pair, top_whole, top_label, top_place, call_name, applied}
+use Rattle.st_parse_builder.specs.inner.Building.{Stack, put, top_done, top_parts, top_fields, top_path, top_pair, top_whole, top_label, top_place, call_name, applied}
 use Rattle.st_parse_builder.proofs.Growth.{on_some}
 use Rattle.st_measure.specs.Variables.{Occurrence, occurrence, variables, seg_variables}
-use Rattle.st_measure.specs.Noting.{operand_step, step_of, field_variables, piece_variables, stack_variables, Keeps}
-use Rattle.st_measure.specs.Steps.{IsPut, AreTaken, Does}
+use Rattle.st_measure.specs.inner.Noting.{operand_step, step_of, field_variables, piece_variables, stack_variables, Keeps}
+use Rattle.st_measure.specs.inner.Steps.{IsPut, AreTaken, Does}
 use Rattle.st_measure.proofs.Occurring.{one_behind, in_joined, in_prefixed, in_iterated, in_below, in_marked, in_enclosed, in_length, in_seq, in_call, in_round, in_fields, in_at, in_slice, in_step, in_steps, in_field_step, in_changed, in_name, in_atom, in_dot, in_number, in_literal}
 
 -- ---- what is on top

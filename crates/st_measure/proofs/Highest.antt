@@ -3,10 +3,11 @@ use Rattle.std.proofs.Common.{arith, ◌≡◌, ℕ, ◌+◌, ◌<◌, List, [],
 use Rattle.st_el.specs.declared.expression.Exp.{Exp, the_lemmas}
 use Rattle.st_el.specs.declared.expression.Node.{Node}
 use Rattle.st_el.specs.declared.expression.Node.TheVariants as node
-use Rattle.st_parse_builder.specs.Heights.{highest, height, field_height}
-use Rattle.st_measure.specs.Parts.{node_height}
+use Rattle.st_parse_builder.specs.Heights.{highest, height}
+use Rattle.st_parse_builder.specs.inner.PieceHeights.{field_height}
+use Rattle.st_measure.specs.inner.Parts.{node_height}
 use Rattle.st_parse_builder.proofs.Tallness.{highest_behind}
-use Rattle.st_measure.specs.Answers.{capped}
+use Rattle.st_measure.specs.inner.Answers.{capped}
 use Rattle.st_measure.proofs.Lists.{next_taken}
 
 capped_max : (a b : ℕ) → max (capped a) (capped b) ≡ capped (max a b)

@@ -16,9 +16,9 @@ use Rattle.st_parse_builder.specs.declared.notation_piece.NotationPiece.{Notatio
 use Rattle.st_parse_builder.specs.declared.notation_piece.NotationPiece.TheVariants.{Hole as a_type, Whole as whole, Types as types, Elements as elements, From as from_place}
 use Rattle.st_parse_builder.specs.Names.{name_of}
 use Rattle.st_parse_builder.specs.Notations.{marked, typ_in_parens, notation_at, notation_place, hole, spelled_on, atom_on, tick, notation_joined}
-use Rattle.st_parse_builder.specs.NotationBuilding.{Stack, operand_piece, put, put_part, top_notation, top_type, top_whole, top_place, applied, run, the_typ, the_notation, typ_built, notation_built}
-use Rattle.st_measure.specs.Answers.{typ_in, lone_typ}
-use Rattle.st_measure.specs.Aliases.{makes_type}
+use Rattle.st_parse_builder.specs.inner.NotationBuilding.{Stack, operand_piece, put, put_part, top_notation, top_type, top_whole, top_place, applied, run, the_typ, the_notation, typ_built, notation_built}
+use Rattle.st_measure.specs.inner.Answers.{typ_in, lone_typ}
+use Rattle.st_measure.specs.inner.Aliases.{makes_type}
 
 -- ---- notations
 

@@ -9,10 +9,10 @@ use Rattle.std.proofs.lemmas.List.Folds.{list_any-append}
 use Rattle.std.proofs.lemmas.Slice.Eq.{bytes_eq-Decides}
 use Rattle.st_num.specs.declared.span.Span.{Span}
 use Rattle.st_scan.specs.declared.token.Token.{Token}
-use Rattle.st_measure.specs.Names.{same_name}
+use Rattle.st_num.specs.Names.{same_name}
 use Rattle.st_measure.specs.Variables.{Occurrence, occurrence, occurrences}
 use Rattle.st_measure.specs.Limits.{first_of_each, place_past}
-use Rattle.st_measure.specs.Counting.{Knows}
+use Rattle.st_measure.specs.inner.Counting.{Knows}
 use Rattle.st_measure.proofs.Lists.{next_taken, cut}
 
 abbrev differs : Occurrence → Occurrence → Bool

@@ -14,9 +14,10 @@ use Rattle.st_grammar.specs.declared.sort.Bracket.{Bracket}
 use Rattle.st_grammar.specs.declared.sort.Bracket.TheVariants as bracket
 use Rattle.st_grammar.specs.Definitions.{is_minus}
 use Rattle.st_parse_builder.specs.Names.{literal_node}
-use Rattle.st_parse_builder.specs.Meaning.{exp, joined, is_notation, is_tilde, prefixed, is_star, is_plus, iterated, mark_count, in_parens, enclosed, is_extension, changed}
+use Rattle.st_num.specs.Signs.{is_notation}
+use Rattle.st_parse_builder.specs.Meaning.{exp, joined, is_tilde, prefixed, is_star, is_plus, iterated, mark_count, in_parens, enclosed, is_extension, changed}
 use Rattle.st_measure.specs.Variables.{Occurrence, without, in_all, variables, seg_variables}
-use Rattle.st_measure.specs.Noting.{field_variables}
+use Rattle.st_measure.specs.inner.Noting.{field_variables}
 
 -- ---- lists
 

@@ -8,12 +8,12 @@ use Rattle.st_parse_builder.specs.Names.{name_of}
 use Rattle.st_parse_builder.specs.declared.action.Action.{Action}
 use Rattle.st_parse_builder.specs.declared.piece.Piece.{Piece}
 use Rattle.st_parse_builder.specs.declared.piece.Piece.TheVariants.{Label}
-use Rattle.st_parse_builder.specs.Building.{Stack, applied, run}
+use Rattle.st_parse_builder.specs.inner.Building.{Stack, applied, run}
 use Rattle.st_parse_builder.proofs.Growth.{on_some}
 use Rattle.st_measure.specs.declared.start.Start.{Start}
 use Rattle.st_measure.specs.Variables.{Occurrence, occurrences, without}
-use Rattle.st_measure.specs.Noting.{piece_variables, stack_variables, Keeps, Begin, IsNoted}
-use Rattle.st_measure.specs.Steps.{AreTaken, IsIndexed}
+use Rattle.st_measure.specs.inner.Noting.{piece_variables, stack_variables, Keeps, Begin, IsNoted}
+use Rattle.st_measure.specs.inner.Steps.{AreTaken, IsIndexed}
 
 -- ---- lists
 

@@ -1,10 +1,10 @@
-pub mod Names
+-- What must be believed of what is measured, in reading order.
+
+-- the variables that occur in a part or a definition, in the order of the text
 pub mod Variables
-pub mod Noting
-pub mod Steps
+-- the first variable that has so many others before it
 pub mod Limits
-pub mod Counting
+-- how high premises and definitions are
 pub mod DefHeights
-pub mod Parts
-pub mod Aliases
-pub mod Answers
+-- ---- what only proofs need
+pub mod inner

@@ -1,7 +1,7 @@
 -- Where the first variable stands that is past a limit.
 use Rattle.std.specs.Prelude.{ℕ, List, [], ◌∷◌, map, filter, not, Option, slice_get}
 use Rattle.st_num.specs.declared.span.Span.{Span}
-use Rattle.st_measure.specs.Names.{same_name}
+use Rattle.st_num.specs.Names.{same_name}
 use Rattle.st_measure.specs.Variables.{Occurrence}
 
 -- the first occurrence of each name

@@ -12,7 +12,7 @@ use Rattle.st_el.specs.declared.definition.Def.{Def}
 use Rattle.st_el.specs.declared.definition.DefNode.{DefNode}
 use Rattle.st_el.specs.declared.definition.DefNode.TheVariants as def
 use Rattle.st_parse_builder.specs.Names.{name_of}
-use Rattle.st_measure.specs.Names.{is_among}
+use Rattle.st_num.specs.Names.{is_among}
 
 -- a name and its place
 abbrev pub Occurrence : Type 0

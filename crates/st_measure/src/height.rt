@@ -5,11 +5,11 @@ ghost use Rattle.st_el.specs.declared.expression.Exp.{Exp};
 ghost use Rattle.st_el.specs.declared.ty.Typ.{Typ};
 ghost use Rattle.st_el.specs.declared.notation.Notation.{Notation};
 ghost use Rattle.st_parse_builder.specs.declared.piece.Piece.TheVariants.{Done};
-ghost use Rattle.st_parse_builder.specs.Building.{run};
-ghost use Rattle.st_parse_builder.specs.NotationBuilding.{typ_built, notation_built};
+ghost use Rattle.st_parse_builder.specs.inner.Building.{run};
+ghost use Rattle.st_parse_builder.specs.inner.NotationBuilding.{typ_built, notation_built};
 ghost use Rattle.st_parse_builder.specs.Heights as tall;
-ghost use Rattle.st_measure.specs.Aliases.{makes_type};
-ghost use Rattle.st_measure.specs.Answers.{Measures, MeasuresAlias, MeasuresNotation, lone_typ};
+ghost use Rattle.st_measure.specs.inner.Aliases.{makes_type};
+ghost use Rattle.st_measure.specs.inner.Answers.{Measures, MeasuresAlias, MeasuresNotation, lone_typ};
 
 use crate::{exp_height, notation_height, typ_height};
 use st_grammar::Leaf;

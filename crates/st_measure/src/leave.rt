@@ -2,7 +2,7 @@
 
 ghost use Rattle.std.specs.Prelude.{◌≡◌, [], ◌∷◌, ◌++◌, take, drop, reverse, IfOk, OnOk};
 ghost use Rattle.st_parse_builder.specs.Names.{name_of};
-ghost use Rattle.st_measure.specs.Names.{same_name};
+ghost use Rattle.st_num.specs.Names.{same_name};
 ghost use Rattle.st_measure.specs.Variables.{occurrences, without};
 
 use st_num::{NoMemory, Row};

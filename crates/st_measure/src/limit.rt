@@ -4,7 +4,7 @@ ghost use Rattle.std.specs.Prelude.{◌≡◌, [], ◌∷◌, ◌++◌, List, If
 ghost use Rattle.st_scan.specs.declared.token.Token.{Token};
 ghost use Rattle.st_measure.specs.Variables.{Occurrence, occurrence, occurrences};
 ghost use Rattle.st_measure.specs.Limits.{place_past};
-ghost use Rattle.st_measure.specs.Counting.{Knows, Counted};
+ghost use Rattle.st_measure.specs.inner.Counting.{Knows, Counted};
 
 use indexmap::IndexSet;
 use st_num::{Name, NoMemory, Span};

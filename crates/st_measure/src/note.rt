@@ -5,12 +5,12 @@ ghost use Rattle.st_scan.specs.declared.token.Token.{Token};
 ghost use Rattle.st_el.specs.declared.expression.Exp.{Exp};
 ghost use Rattle.st_parse_builder.specs.declared.piece.Piece.TheVariants.{Done};
 ghost use Rattle.st_parse_builder.specs.Names.{name_of};
-ghost use Rattle.st_parse_builder.specs.Building.{Stack, applied, run};
+ghost use Rattle.st_parse_builder.specs.inner.Building.{Stack, applied, run};
 ghost use Rattle.st_measure.specs.declared.start.Start.{Start};
 ghost use Rattle.st_measure.specs.Variables.{Occurrence, occurrences, variables, without};
-ghost use Rattle.st_measure.specs.Noting.{IsNoted};
-ghost use Rattle.st_measure.specs.Steps.{Does};
-ghost use Rattle.st_measure.specs.Answers.{OnlyMemory};
+ghost use Rattle.st_measure.specs.inner.Noting.{IsNoted};
+ghost use Rattle.st_measure.specs.inner.Steps.{Does};
+ghost use Rattle.st_measure.specs.inner.Answers.{OnlyMemory};
 
 use crate::leave::{leave_out, put_back, take_off};
 use crate::start::Start;

@@ -1,7 +1,7 @@
 //! What actions do to pieces.
 
 ghost use Rattle.std.specs.Prelude.{◌≡◌};
-ghost use Rattle.st_measure.specs.Noting.{operand_step, step_of};
+ghost use Rattle.st_measure.specs.inner.Noting.{operand_step, step_of};
 
 use st_grammar::Leaf;
 use st_parse_builder::{Action, TokenRef};

@@ -2,9 +2,10 @@
 
 ghost use Rattle.std.specs.Prelude.{◌≡◌, ◌+◌, ◌≤◌, max, map};
 ghost use Rattle.st_parse_builder.specs.Heights as tall;
+ghost use Rattle.st_parse_builder.specs.inner.PieceHeights as piece_heights;
 ghost use Rattle.st_measure.specs.DefHeights.{count_height};
-ghost use Rattle.st_measure.specs.Parts.{node_height, typ_node_height, not_node_height};
-ghost use Rattle.st_measure.specs.Answers.{capped};
+ghost use Rattle.st_measure.specs.inner.Parts.{node_height, typ_node_height, not_node_height};
+ghost use Rattle.st_measure.specs.inner.Answers.{capped};
 
 use st_el::{Count, Exp, Node, NotNode, Notation, Seg, Typ, TypNode};
 use st_num::Name;
@@ -82,7 +83,7 @@ fn exps_height(exps: &[Exp]) -> usize
 
 #[cycle(height)]
 fn fields_height(fields: &[(Name, Exp)]) -> usize
-    ensures { result ≡ capped (tall.highest (map tall.field_height fields.now)) }
+    ensures { result ≡ capped (tall.highest (map piece_heights.field_height fields.now)) }
 {
     let mut highest = 0;
     for field in fields {

@@ -16,7 +16,8 @@ use Rattle.st_notation.specs.declared.filled.FitFault.{FitFault}
 use Rattle.st_notation.specs.declared.filled.FitFault.TheVariants as fault
 use Rattle.st_notation.specs.Elements.{opened, bare, elements, is_atom, begins, before}
 use Rattle.st_notation.specs.Fits.{Filling, one, Take, takes, Fits, hole, atom, bracket, sides, sequence, FitInOrder, end, next_atom, next_bracket, next_hole}
-use Rattle.st_notation.specs.Fitted.{Reaches, Refuses, Fitted, plain, fillings}
+use Rattle.st_notation.specs.Fitted.{Refuses, Fitted, plain, fillings}
+use Rattle.st_notation.specs.inner.Steps.{Reaches}
 use Rattle.st_notation.proofs.FitsLemmas.{Fits-in-Atom, Fits-in-Bracket, Fits-in-Infix, Fits-in-Seq, FitInOrder-in-Atom, FitInOrder-in-Bracket, FitInOrder-in-Hole, Fits-single}
 
 -- ---- ways through a sequence

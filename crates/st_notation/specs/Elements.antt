@@ -5,7 +5,7 @@ use Rattle.st_el.specs.declared.expression.Node.{Node, out-Node}
 use Rattle.st_el.specs.declared.expression.Count.{Count}
 use Rattle.st_el.specs.declared.expression.Count.TheOpen.{Node-F}
 use Rattle.st_el.specs.declared.expression.Seg.{Seg}
-use Rattle.st_el.specs.Erasure.{same_name}
+use Rattle.st_num.specs.Names.{same_name}
 
 abbrev pub node_of : Exp → Node
 node_of e = (out-Exp e).node

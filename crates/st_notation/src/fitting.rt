@@ -2,7 +2,8 @@
 
 ghost use Rattle.std.specs.Prelude.{◌≡◌, ◌++◌, [], ◌∷◌, length, IfOk};
 ghost use Rattle.st_notation.specs.Fits.{Fits, FitInOrder, FitsWhole, holes};
-ghost use Rattle.st_notation.specs.Fitted.{Fitted, IsOnly, Took};
+ghost use Rattle.st_notation.specs.Fitted.{Fitted, IsOnly};
+ghost use Rattle.st_notation.specs.inner.Steps.{Took};
 
 use crate::element::{bare, begins, behind, elements, inside, is_atom, sides};
 use crate::share::share_of;

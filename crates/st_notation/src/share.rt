@@ -3,7 +3,7 @@
 ghost use Rattle.std.specs.Prelude.{◌≡◌, ◌≤◌, length, take};
 ghost use Rattle.std.specs.Option.{option_map};
 ghost use Rattle.st_notation.specs.Fits.{takes, one_element, list_takes, option_takes, shared_run};
-ghost use Rattle.st_notation.specs.Fitted.{plain_share};
+ghost use Rattle.st_notation.specs.inner.Steps.{plain_share};
 
 use crate::element::before;
 use crate::{Filled, Shape};

@@ -1,5 +1,7 @@
 -- What must be believed of base values, in reading order.
 
+-- a name is another, or is among others
+pub mod Names
 -- the table of signs: how each is written, how tightly it holds, and how it groups
 pub mod Signs
 -- how each reserved word is written

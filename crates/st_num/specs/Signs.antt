@@ -127,3 +127,10 @@ right_of n = n + right_gap (grouping_at n)
 -- the signs that divide two sides of a notation
 abbrev pub is_notation : Mark → Bool
 is_notation m = nat_le 7 (level m) && nat_le (level m) 12
+
+-- the sign that closes a backquoted bracket, and else the sign itself
+abbrev pub closing : Mark → Mark
+closing TickParen = CloseParen
+closing TickBracket = CloseBracket
+closing TickBrace = CloseBrace
+closing m = m

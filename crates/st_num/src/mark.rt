@@ -1,7 +1,7 @@
 //! The signs of the language: the one table of how each is written, and how tightly it holds.
 
 ghost use Rattle.std.specs.Prelude.{◌≡◌, ◌<◌};
-ghost use Rattle.st_num.specs.Signs.{spelling, level, prefix_level, grouping, grouping_at, left_gap, right_gap, is_notation};
+ghost use Rattle.st_num.specs.Signs.{spelling, level, prefix_level, grouping, grouping_at, left_gap, right_gap, is_notation, closing};
 
 /// A sign of the language: one variant for each sign of the table in `docs/language.md`.
 #[derive(Clone, Copy, Debug, PartialEq, Eq)]
@@ -260,5 +260,17 @@ impl Mark {
     {
         let level = self.level();
         7 <= level && level <= 12
+    }
+
+    /// The sign that closes a backquoted bracket; any other sign is itself.
+    pub fn closing(self) -> Mark
+        ensures { result ≡ closing self }
+    {
+        match self {
+            Mark::TickParen => Mark::CloseParen,
+            Mark::TickBracket => Mark::CloseBracket,
+            Mark::TickBrace => Mark::CloseBrace,
+            _ => self,
+        }
     }
 }

@@ -6,7 +6,7 @@ use Rattle.st_parse_automaton.specs.declared.position.TokenClass.{TokenClass}
 use Rattle.st_parse_automaton.specs.declared.position.CaseAt.{CaseAt}
 use Rattle.st_parse_automaton.specs.declared.position.Slot.{Slot}
 use Rattle.st_parse_automaton.specs.declared.position.Slot.TheVariants as slot
-use Rattle.st_parse_builder.specs.NotationBuilding.{typ_built, notation_built}
+use Rattle.st_parse_builder.specs.inner.NotationBuilding.{typ_built, notation_built}
 use Rattle.st_parse_builder.specs.declared.action.Action.{Action}
 use Rattle.st_draft.specs.declared.change.Change.{Change}
 use Rattle.st_draft.specs.declared.change.Change.TheVariants as change
@@ -14,13 +14,13 @@ use Rattle.st_draft.specs.declared.draft.Draft.{Draft}
 use Rattle.st_draft.specs.declared.draft.Members.{Members}
 use Rattle.st_draft.specs.declared.draft.Sides.{Sides}
 use Rattle.st_draft.specs.declared.draft.Premises.{Premises}
-use Rattle.st_draft.specs.Drafts.{with_members, with_sides, with_premises, premise_begun, applied, typ_filled, notation_filled}
-use Rattle.st_draft.specs.Parts.{redrafted, refilled}
+use Rattle.st_draft.specs.inner.Drafts.{with_members, with_sides, with_premises, premise_begun, applied, typ_filled, notation_filled}
+use Rattle.st_draft.specs.inner.Parts.{redrafted, refilled}
 use Rattle.st_parse.specs.declared.survey.Survey.{Survey}
 use Rattle.st_parse.specs.declared.survey.MemberHeights.{MemberHeights}
 use Rattle.st_parse.specs.declared.survey.SideMeasures.{SideMeasures}
 use Rattle.st_parse.specs.declared.survey.PremiseMeasures.{PremiseMeasures}
-use Rattle.st_parse.specs.Surveys.{OfMembers, OfSides, OfPremises, Surveys}
+use Rattle.st_parse.specs.inner.Surveys.{OfMembers, OfSides, OfPremises, Surveys}
 use Rattle.st_parse.proofs.Surveying.{mapped}
 
 -- ---- one part is another

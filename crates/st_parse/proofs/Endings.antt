@@ -14,14 +14,14 @@ use Rattle.st_measure.specs.declared.height.NotationHeight.{NotationHeight}
 use Rattle.st_measure.specs.Variables.{occurrences, variables, prem_variables}
 use Rattle.st_measure.specs.Limits.{place_past}
 use Rattle.st_measure.specs.DefHeights.{prem_height, def_node_height}
-use Rattle.st_measure.specs.Answers.{capped}
+use Rattle.st_measure.specs.inner.Answers.{capped}
 use Rattle.st_draft.specs.declared.draft.Draft.{Draft}
 use Rattle.st_draft.specs.declared.draft.Head.{Head}
 use Rattle.st_draft.specs.declared.draft.Sides.{Sides}
-use Rattle.st_draft.specs.Drafts.{rule_of, def_put}
+use Rattle.st_draft.specs.inner.Drafts.{rule_of, def_put}
 use Rattle.st_parse.specs.declared.measure.Measure.{Measure}
 use Rattle.st_parse.specs.Limits.{variable_past, tall_at, too_tall, first_that}
-use Rattle.st_parse.specs.Surveys.{Is, OfNode, OfAny, notation_heights}
+use Rattle.st_parse.specs.inner.Surveys.{Is, OfNode, OfAny, notation_heights}
 use Rattle.st_parse.proofs.Surveying.{capped_max, first_behind}
 
 -- ---- where there is one

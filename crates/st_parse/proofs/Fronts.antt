@@ -12,7 +12,8 @@ use Rattle.st_grammar.proofs.PositionReading.{sound_defs}
 use Rattle.st_grammar.proofs.PositionComplete.{one_list_of_defs}
 use Rattle.st_parse_automaton.specs.Refusal.{terminals_of}
 use Rattle.st_parse_faults.specs.declared.fault.TokenFault.{TokenFault}
-use Rattle.st_parse_faults.specs.Faults.{passed, verdict, Faultless, FirstFault}
+use Rattle.st_parse_faults.specs.Judging.{passed}
+use Rattle.st_parse_faults.specs.Faults.{verdict, Faultless, FirstFault}
 use Rattle.st_parse_faults.specs.Place.{place_at}
 use Rattle.st_parse_faults.proofs.Verdicts.{verdict_reads}
 use Rattle.st_el.specs.declared.definition.Def.{Def}
@@ -20,17 +21,17 @@ use Rattle.st_parse_builder.specs.Definitions.{defs_meaning}
 use Rattle.st_parse_builder.specs.declared.fault.BuildFault.{BuildFault}
 use Rattle.st_draft.specs.declared.draft.Draft.{Draft}
 use Rattle.st_draft.specs.Known.{before, defs_or, known}
-use Rattle.st_draft.specs.Heights.{defs_height, IsLow, AllLow}
-use Rattle.st_draft.specs.Work.{DrawsDefs}
+use Rattle.st_draft.specs.inner.Heights.{defs_height, IsLow, AllLow}
+use Rattle.st_draft.specs.inner.Work.{DrawsDefs}
 use Rattle.st_draft.proofs.Lowness.{no_higher}
 use Rattle.st_measure.specs.DefHeights.{def_height}
 use Rattle.std.specs.Option.{option_or}
 use Rattle.st_parse.specs.declared.survey.Survey.{Survey}
-use Rattle.st_parse.specs.Surveys.{Surveys}
+use Rattle.st_parse.specs.inner.Surveys.{Surveys}
 use Rattle.st_parse.specs.Limits.{variable_past, too_tall, first_that}
 use Rattle.st_parse.specs.declared.limits.LimitFaults.{LimitFaults}
 use Rattle.st_parse.specs.Source.{Front, IsParsed, IsSource, FaultAt}
-use Rattle.st_parse.specs.Found.{Surveyed, end_of, Judged, Found}
+use Rattle.st_parse.specs.inner.Found.{Surveyed, end_of, Judged, Found}
 
 abbrev pub all_of : (tokens : List Token) → Faultless tokens → Front tokens
 all_of tokens h = record { count = length tokens; seen = h.0; faultless = h.2; longest = inl refl }

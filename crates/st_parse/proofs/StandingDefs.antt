@@ -15,7 +15,7 @@ use Rattle.st_el.specs.declared.definition.Def.{Def}
 use Rattle.st_parse_builder.specs.Meaning.{meaning, count_of}
 use Rattle.st_parse_builder.specs.Names.{name_of}
 use Rattle.st_parse_builder.specs.Definitions.{name_in, prem_at, condition, opened_at, sign_count, iterated, premise_meaning, premises_meaning, patterns, def_meaning, defs_meaning}
-use Rattle.st_measure.specs.Names.{same_name}
+use Rattle.st_num.specs.Names.{same_name}
 use Rattle.st_measure.specs.Variables.{Occurrence, Times, without, variables, times as times_of, iterated as repeated, prem_variables, def_variables}
 use Rattle.st_measure.specs.Limits.{first_of_each}
 use Rattle.st_measure.specs.DefHeights.{def_height}

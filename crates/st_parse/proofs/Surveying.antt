@@ -10,14 +10,14 @@ use Rattle.st_parse_builder.specs.declared.action.Action.{Action}
 use Rattle.st_parse_builder.specs.Heights.{highest}
 use Rattle.st_parse_builder.specs.Definitions.{prem_at}
 use Rattle.st_parse_builder.proofs.Tallness.{highest_behind}
-use Rattle.st_draft.specs.Parts.{all_built}
+use Rattle.st_draft.specs.inner.Parts.{all_built}
 use Rattle.st_measure.specs.Variables.{Occurrence, Seen, prem_node_variables_at, prem_variables}
-use Rattle.st_measure.specs.Answers.{capped}
+use Rattle.st_measure.specs.inner.Answers.{capped}
 use Rattle.st_measure.proofs.Occurring.{one_behind}
 use Rattle.st_draft.proofs.Faults.{nth_low}
 use Rattle.st_parse.specs.declared.measure.Measure.{Measure}
 use Rattle.st_parse.specs.Limits.{first_that}
-use Rattle.st_parse.specs.Surveys.{Is}
+use Rattle.st_parse.specs.inner.Surveys.{Is}
 
 -- ---- parts that stand together
 

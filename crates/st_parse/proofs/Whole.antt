@@ -14,15 +14,15 @@ use Rattle.st_parse_automaton.specs.declared.part_automaton.Shape.TheVariants as
 use Rattle.st_parse_builder.specs.Meaning.{mark_count}
 use Rattle.st_parse_builder.specs.Definitions.{prem_at}
 use Rattle.st_parse_builder.specs.Heights.{highest, height}
-use Rattle.st_draft.specs.Parts.{count_with}
-use Rattle.st_draft.specs.Drafts.{whole_prem, condition_node, shape_count}
+use Rattle.st_draft.specs.inner.Parts.{count_with}
+use Rattle.st_draft.specs.inner.Drafts.{whole_prem, condition_node, shape_count}
 use Rattle.st_measure.specs.Variables.{Occurrence, Times, occurrences, without, variables, times, iterated, prem_variables}
 use Rattle.st_measure.specs.DefHeights.{count_height, prem_height}
-use Rattle.st_measure.specs.Answers.{capped}
+use Rattle.st_measure.specs.inner.Answers.{capped}
 use Rattle.st_measure.proofs.Occurring.{one_behind, without-none}
 use Rattle.st_measure.proofs.Premises.{in_if, in_goal, in_otherwise, in_each, times_mark, times_times, times_below, tall_if, tall_goal, tall_otherwise, tall_each, tall_mark, tall_times, tall_below}
 use Rattle.st_parse.specs.declared.measure.Measure.{Measure}
-use Rattle.st_parse.specs.Surveys.{Is, OfPrem, OfPrems}
+use Rattle.st_parse.specs.inner.Surveys.{Is, OfPrem, OfPrems}
 use Rattle.st_draft.proofs.Lowness.{height_at}
 use Rattle.st_parse.proofs.Surveying.{higher, one_more, variables_at}
 

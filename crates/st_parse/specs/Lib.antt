@@ -1,4 +1,8 @@
+-- What must be believed of the parser, in reading order.
+
+-- the first variable and the first tree that pass a limit
 pub mod Limits
-pub mod Surveys
+-- the definitions that tokens mean, or the first fault and its place
 pub mod Source
-pub mod Found
+-- ---- what only proofs need
+pub mod inner

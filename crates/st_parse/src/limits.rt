@@ -2,10 +2,11 @@
 
 ghost use Rattle.std.specs.Prelude.{◌≡◌, map, Some, IfOk};
 ghost use Rattle.st_grammar.specs.Terminals as terminals;
+ghost use Rattle.st_grammar.specs.Terminals.{terminal};
 ghost use Rattle.st_grammar.specs.Positions as positions;
 ghost use Rattle.st_parse_builder.specs.Definitions.{defs_meaning};
 ghost use Rattle.st_draft.specs.Known.{known};
-ghost use Rattle.st_parse.specs.Found.{Judged, Found, Surveyed, end_of};
+ghost use Rattle.st_parse.specs.inner.Found.{Judged, Found, Surveyed, end_of};
 
 use crate::survey::begun_survey;
 use st_draft::read_source;
@@ -36,9 +37,9 @@ fn front_end(tokens: &[Token], fault: Option<TokenFault>) -> usize
 /// are declared by `var`.
 fn survey(alloc: Global, names: &[Name], tokens: &[Token]) -> Result<LimitFaults, NoMemory>
     requires reads { (st : positions.State)
-        × (positions.reading positions.start (map (terminals.terminal names.now) tokens.now) ≡ Some st) }
+        × (positions.reading positions.start (map (terminal names.now) tokens.now) ≡ Some st) }
     ensures { (st : positions.State)
-        → positions.reading positions.start (map (terminals.terminal names.now) tokens.now) ≡ Some st
+        → positions.reading positions.start (map (terminal names.now) tokens.now) ≡ Some st
         → IfOk result (Surveyed (defs_meaning (known st))) }
 {
     let mut survey = begun_survey(alloc);

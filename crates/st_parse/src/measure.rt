@@ -3,10 +3,10 @@
 ghost use Rattle.std.specs.Prelude.{◌≡◌, ℕ, ◌+◌, ◌++◌, [], max, List, Some, None, IfOk, IfErr};
 ghost use Rattle.st_el.specs.declared.expression.Exp.{Exp};
 ghost use Rattle.st_parse_builder.specs.Heights.{height};
-ghost use Rattle.st_measure.specs.Answers.{OnlyMemory, capped};
+ghost use Rattle.st_measure.specs.inner.Answers.{OnlyMemory, capped};
 ghost use Rattle.st_measure.specs.Variables.{Occurrence, variables};
-ghost use Rattle.st_draft.specs.Parts.{exp_built, all_built};
-ghost use Rattle.st_parse.specs.Surveys as spec;
+ghost use Rattle.st_draft.specs.inner.Parts.{exp_built, all_built};
+ghost use Rattle.st_parse.specs.inner.Surveys as spec;
 
 use st_measure::{measure_exp, note_variables};
 use st_num::{NoMemory, Row};

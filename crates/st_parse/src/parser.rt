@@ -2,21 +2,22 @@
 
 ghost use Rattle.std.specs.Prelude.{◌≡◌, [], map, List, None, Some, IfOk, IfErr};
 ghost use Rattle.st_grammar.specs.Terminals as terminals;
+ghost use Rattle.st_grammar.specs.Terminals.{terminal};
 ghost use Rattle.st_grammar.specs.Positions as positions;
 ghost use Rattle.st_grammar.specs.Definitions.{Defs};
 ghost use Rattle.st_parse_faults.specs.Faults.{Faultless};
 ghost use Rattle.st_el.specs.Plain.{nowhere};
 ghost use Rattle.st_el.specs.declared.definition.Def.{Def};
 ghost use Rattle.st_parse_builder.specs.Definitions.{defs_meaning};
-ghost use Rattle.st_measure.specs.Answers.{OnlyMemory};
-ghost use Rattle.st_draft.specs.Drafts as drafts;
+ghost use Rattle.st_measure.specs.inner.Answers.{OnlyMemory};
+ghost use Rattle.st_draft.specs.inner.Drafts as drafts;
 ghost use Rattle.st_parse.specs.Limits.{too_tall, first_that};
 ghost use Rattle.st_parse.specs.Source.{Answers, IsParsed};
 
 use crate::limits::limit_faults;
-use st_draft::{Draft, NOWHERE, begun, read_source};
+use st_draft::{Draft, begun, read_source};
 use st_el::Def;
-use st_num::{Name, NoMemory, Row, RuleId};
+use st_num::{Name, NoMemory, Row, RuleId, Span};
 use st_parse_automaton::declared_names;
 use st_parse_builder::BuildFault;
 use st_parse_faults::{SyntaxFault, first_fault, place_at};
@@ -32,11 +33,11 @@ fn build_all(
 ) -> Result<(), BuildFault>
     requires fresh { draft.old ≡ drafts.begun [] nowhere }
     ensures built { (st : positions.State) (ds : Defs)
-        → positions.reading positions.start (map (terminals.terminal names.now) tokens.now) ≡ Some st
+        → positions.reading positions.start (map (terminal names.now) tokens.now) ≡ Some st
         → positions.finish st ≡ Some ds
         → IfOk result (λ _. draft.new.defs ≡ defs_meaning ds) }
     ensures low { (st : positions.State) (ds : Defs)
-        → positions.reading positions.start (map (terminals.terminal names.now) tokens.now) ≡ Some st
+        → positions.reading positions.start (map (terminal names.now) tokens.now) ≡ Some st
         → positions.finish st ≡ Some ds → first_that too_tall (defs_meaning ds) ≡ None
         → IfErr result OnlyMemory }
 {
@@ -52,7 +53,7 @@ fn read_definitions(alloc: Global, names: &[Name], tokens: &[Token]) -> Result<R
         → first_that too_tall defs ≡ None }
     ensures { IfOk result (IsParsed tokens.now) }
 {
-    let mut draft = begun(alloc, Row::new(alloc), NOWHERE);
+    let mut draft = begun(alloc, Row::new(alloc), Span::NOWHERE);
     match build_all(alloc, names, tokens, &mut draft) {
         Ok(()) => Ok(draft.defs),
         Err(BuildFault::Memory) => Err(NoMemory),

@@ -8,21 +8,21 @@ ghost use Rattle.st_el.specs.declared.definition.Prem.{Prem};
 ghost use Rattle.st_el.specs.declared.definition.PremNode.TheVariants as node;
 ghost use Rattle.st_parse_builder.specs.Definitions.{prem_at};
 ghost use Rattle.st_parse_builder.specs.Heights.{highest, typ_height};
-ghost use Rattle.st_parse_builder.specs.NotationBuilding.{typ_built, notation_built};
-ghost use Rattle.st_measure.specs.Answers.{OnlyMemory, capped};
+ghost use Rattle.st_parse_builder.specs.inner.NotationBuilding.{typ_built, notation_built};
+ghost use Rattle.st_measure.specs.inner.Answers.{OnlyMemory, capped};
 ghost use Rattle.st_measure.specs.Variables.{Occurrence, times, without};
 ghost use Rattle.st_draft.specs.declared.draft.Draft.{Draft};
 ghost use Rattle.st_draft.specs.declared.draft.Members.{Members};
 ghost use Rattle.st_draft.specs.declared.draft.Premises.{Premises};
 ghost use Rattle.st_draft.specs.declared.draft.Sides.{Sides};
-ghost use Rattle.st_draft.specs.Drafts as drafts;
-ghost use Rattle.st_draft.specs.Parts as parts;
-ghost use Rattle.st_parse.specs.Surveys as spec;
+ghost use Rattle.st_draft.specs.inner.Drafts as drafts;
+ghost use Rattle.st_draft.specs.inner.Parts as parts;
+ghost use Rattle.st_parse.specs.inner.Surveys as spec;
 
 use crate::closing::{close, whole_premises};
 use crate::measure::{Measure, add_exp, measured, measured_all, raised, without_variables};
 use crate::survey::{MemberHeights, PremiseMeasures, SideMeasures, Survey, no_premises, surveyed};
-use st_draft::{Change, Ending, NOWHERE, Listener, Word, index_in};
+use st_draft::{Change, Ending, Listener, Word, index_in};
 use st_measure::{leave_out, measure_notation, measure_typ};
 use st_num::{NoMemory, Row, Span};
 use st_parse_automaton::{Shape, Slot};
@@ -171,7 +171,7 @@ fn apply<'a>(
 {
     match change {
         Change::Begin(ending) => turn(alloc, survey, ending, token.at)?,
-        Change::End(ending) => turn(alloc, survey, ending, NOWHERE)?,
+        Change::End(ending) => turn(alloc, survey, ending, Span::NOWHERE)?,
         Change::Dots => survey.members.dots = true,
         Change::Premise(condition) => begin_premise(alloc, &mut survey.premises, condition)?,
         Change::Otherwise => put_otherwise(&mut survey.premises),
@@ -351,7 +351,7 @@ impl<'a> Listener<'a> for Survey<'a> {
     }
 
     fn end(&mut self, alloc: Global, ending: Ending) -> Result<(), BuildFault> {
-        turn(alloc, self, ending, NOWHERE)?;
+        turn(alloc, self, ending, Span::NOWHERE)?;
         Ok(())
     }
 }

@@ -2,11 +2,10 @@
 
 ghost use Rattle.std.specs.Prelude.{◌≡◌, []};
 ghost use Rattle.st_el.specs.Plain.{nowhere};
-ghost use Rattle.st_draft.specs.Drafts as drafts;
-ghost use Rattle.st_parse.specs.Surveys as spec;
+ghost use Rattle.st_draft.specs.inner.Drafts as drafts;
+ghost use Rattle.st_parse.specs.inner.Surveys as spec;
 
 use crate::measure::{Measure, without_variables};
-use st_draft::NOWHERE;
 use st_measure::NotationHeight;
 use st_num::{Row, Span};
 use std::alloc::Global;
@@ -109,5 +108,5 @@ pub(crate) fn surveyed<'a>(
 pub fn begun_survey<'a>(alloc: Global) -> Survey<'a>
     ensures { spec.Surveys result (drafts.begun [] nowhere) }
 {
-    surveyed(alloc, None, None, NOWHERE)
+    surveyed(alloc, None, None, Span::NOWHERE)
 }

@@ -12,9 +12,9 @@ use Rattle.st_parse_automaton.specs.declared.part_automaton.Filling.TheVariants.
 use Rattle.st_parse_automaton.specs.declared.part_automaton.Lead.TheVariants.{Left, Ahead, Items}
 use Rattle.st_parse_automaton.specs.declared.part_automaton.Frame.{Frame}
 use Rattle.st_parse_automaton.specs.declared.part_automaton.Frame.TheVariants.{Within, Over, Timing}
-use Rattle.st_parse_automaton.specs.PartAutomaton as parts
+use Rattle.st_parse_automaton.specs.inner.PartAutomaton as parts
 use Rattle.st_parse_builder.specs.declared.action.Action.{Action}
-use Rattle.st_parse_actions.specs.Emits.{extending, beginning, beginning_next}
+use Rattle.st_parse_actions.specs.inner.Emits.{extending, beginning, beginning_next}
 
 pub over_alone : (base σ : Sort) (fs : List Frame) (s : Shape) (x : Token) → beginning base (Over Items σ ∷ fs) s x ≡ beginning base (Over Items σ ∷ []) s x
 over_alone base σ fs (Single k) x = refl

@@ -8,7 +8,8 @@ use Rattle.st_grammar.specs.declared.sort.Bracket.TheVariants as bracket
 use Rattle.st_grammar.specs.declared.sort.Closing.{Closing}
 use Rattle.st_grammar.specs.declared.sort.Closing.TheVariants as closings
 use Rattle.st_grammar.specs.Terminals.{Terminal, leaf, dot, sign, opening, closing, other}
-use Rattle.st_grammar.specs.Levels.{tight, level_of, has_level, is_expression, is_count, is_caret}
+use Rattle.st_num.specs.Signs.{level as level_of}
+use Rattle.st_grammar.specs.Levels.{tight, has_level, is_expression, is_count, is_caret}
 use Rattle.st_grammar.specs.Trees as tree
 use Rattle.st_grammar.specs.Trees.{Tree, Trees, Heading, Path, none, more}
 use Rattle.st_grammar.specs.Grammar as grammar
@@ -16,15 +17,15 @@ use Rattle.st_grammar.specs.Reading as part
 use Rattle.st_grammar.specs.Definitions.{token_in}
 use Rattle.st_grammar.proofs.Sound.{base, state_base, Stand, Holds}
 use Rattle.st_grammar.proofs.Steps.{extend_base}
-use Rattle.st_parse_automaton.specs.Shapes.{shape}
-use Rattle.st_parse_automaton.specs.PartAutomaton as parts
+use Rattle.st_parse_automaton.specs.inner.Shapes.{shape}
+use Rattle.st_parse_automaton.specs.inner.PartAutomaton as parts
 use Rattle.st_parse_automaton.proofs.View.{part_of, frames_of, state_of, top_sort, least_is, opened_is}
 use Rattle.st_parse_automaton.proofs.Simulation.{both_and, lower_base, follows_is, extend_is, may_iterate_is, lower_tight, level_high}
 use Rattle.st_parse_builder.specs.declared.action.Action.{Action}
 use Rattle.st_parse_builder.specs.declared.action.Action.TheVariants as action
-use Rattle.st_parse_builder.specs.Actions.{post_acts}
-use Rattle.st_parse_builder.specs.Emission as emission
-use Rattle.st_parse_actions.specs.Emits.{lowering, closed, no_arguments_end, beginning_closing, opening as opens, beginning_opening, beginning, extending, separating, joining, behind_sign, behind, after, in_index, in_path, naming, name_index, emits, finishing}
+use Rattle.st_parse_builder.specs.inner.Actions.{post_acts}
+use Rattle.st_parse_builder.specs.inner.Emission as emission
+use Rattle.st_parse_actions.specs.inner.Emits.{lowering, closed, no_arguments_end, beginning_closing, opening as opens, beginning_opening, beginning, extending, separating, joining, behind_sign, behind, after, in_index, in_path, naming, name_index, emits, finishing}
 use Rattle.st_parse_actions.proofs.EndView.{open_marks, label_is, operand_settles, bracket_settles, lowering_is, part_end_is, closed_is, lower_marks}
 
 pub if_same : (b c : Bool) (x y u v : List Action) → b ≡ c → x ≡ u → y ≡ v → (if b then x else y) ≡ (if c then u else v)

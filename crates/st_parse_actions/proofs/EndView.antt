@@ -10,9 +10,9 @@ use Rattle.st_grammar.specs.Trees.{Tree, Trees, Heading, none, more}
 use Rattle.st_grammar.specs.Reading as part
 use Rattle.st_parse_automaton.proofs.View.{kind_of, lead_of, filling, frames_of, lead_reach}
 use Rattle.st_parse_builder.specs.declared.action.Action.{Action}
-use Rattle.st_parse_builder.specs.Actions.{end_acts, closing_acts}
-use Rattle.st_parse_builder.specs.Emission as emission
-use Rattle.st_parse_actions.specs.Emits.{index_label, settling, lead_end, lead_closes, lowering, part_end, kind_end, is_below, shutting, closed}
+use Rattle.st_parse_builder.specs.inner.Actions.{end_acts, closing_acts}
+use Rattle.st_parse_builder.specs.inner.Emission as emission
+use Rattle.st_parse_actions.specs.inner.Emits.{index_label, settling, lead_end, lead_closes, lowering, part_end, kind_end, is_below, shutting, closed}
 
 -- the signs of the changes that are open, the innermost first
 abbrev pub heading_marks : Heading → List Mark

@@ -10,17 +10,18 @@ use Rattle.st_grammar.specs.declared.sort.Bracket.TheVariants as bracket
 use Rattle.st_grammar.specs.declared.sort.Closing.{Closing}
 use Rattle.st_grammar.specs.declared.sort.Closing.TheVariants as closings
 use Rattle.st_grammar.specs.Terminals.{Terminal, leaf, dot, sign, opening, closing, other}
-use Rattle.st_grammar.specs.Levels.{takes, encloses, computes, is_expression, is_count, tight, level_of, ahead_level, has_level, left_of, is_caret, is_comma, is_colon, is_less, is_change}
+use Rattle.st_num.specs.Signs.{level as level_of, prefix_level}
+use Rattle.st_grammar.specs.Levels.{takes, encloses, computes, is_expression, is_count, tight, has_level, left_of, is_caret, is_comma, is_colon, is_less, is_change}
 use Rattle.st_grammar.specs.Trees as tree
 use Rattle.st_grammar.specs.Trees.{Tree, Trees, Heading, Path, none, more, agree, closes}
 use Rattle.st_grammar.specs.Grammar.{style, is_label, follows, may_post, level, has_step}
 use Rattle.st_grammar.specs.Reading.{Frames, bottom, within, over, timing, State, want, got, naming, pathed, indexing, comparing, sort, least, settle, lower, shut, close, opened, no_arguments, begin_closing, begin_opening, begin, extend, next_part, separate, join, pull, behind_sign, behind_square, behind_round, behind, after, in_index, in_path, name_index, bound_index, step}
 use Rattle.st_grammar.proofs.Sound.{state_base, Holds}
-use Rattle.st_parse_automaton.specs.Shapes.{shape}
-use Rattle.st_parse_automaton.specs.PartAutomaton as parts
+use Rattle.st_parse_automaton.specs.inner.Shapes.{shape}
+use Rattle.st_parse_automaton.specs.inner.PartAutomaton as parts
 use Rattle.st_parse_automaton.proofs.View.{part_of, kind_of, frames_of, state_of, top_sort}
 use Rattle.st_parse_automaton.proofs.Simulation.{follows_is, lower_tight, level_high}
-use Rattle.st_parse_actions.specs.Emits.{drop_change, closed_marks, behind_marks, path_marks, kept}
+use Rattle.st_parse_actions.specs.inner.Emits.{drop_change, closed_marks, behind_marks, path_marks, kept}
 use Rattle.st_parse_actions.proofs.EndView.{heading_marks, open_marks, lower_marks}
 use Rattle.st_parse_actions.proofs.Emitted.{state_marks}
 
@@ -77,7 +78,7 @@ opening_keeps bracket.Dollar x fs = keeps_if (encloses (sort fs) bracket.Dollar)
 pub begin_keeps : (fs : Frames) (l : Terminal) → Keeps (open_marks fs) (begin fs l)
 begin_keeps fs (leaf k x) = keeps_if (takes (sort fs) k) (open_marks fs) (settle (tree.operand k x) fs) (settle_keeps (tree.operand k x) fs)
 begin_keeps fs (dot x) = tt
-begin_keeps fs (sign m x) = keeps_if (has_level (sort fs) (ahead_level m) && nat_le (least fs) (ahead_level m)) (open_marks fs) (want (over (tree.ahead m x) fs)) refl
+begin_keeps fs (sign m x) = keeps_if (has_level (sort fs) (prefix_level m) && nat_le (least fs) (prefix_level m)) (open_marks fs) (want (over (tree.ahead m x) fs)) refl
 begin_keeps fs (opening k x) = opening_keeps k x fs
 begin_keeps fs (closing c x) = closing_keeps c x fs
 begin_keeps fs (other x) = tt

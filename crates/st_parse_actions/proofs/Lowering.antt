@@ -5,9 +5,9 @@ use Rattle.st_parse_automaton.specs.declared.part_automaton.Part.{Part}
 use Rattle.st_parse_automaton.specs.declared.part_automaton.Part.TheVariants.{Whole}
 use Rattle.st_parse_automaton.specs.declared.part_automaton.Lead.{Lead}
 use Rattle.st_parse_automaton.specs.declared.part_automaton.Frame.{Frame}
-use Rattle.st_parse_automaton.specs.PartAutomaton as parts
+use Rattle.st_parse_automaton.specs.inner.PartAutomaton as parts
 use Rattle.st_parse_builder.specs.declared.action.Action.{Action}
-use Rattle.st_parse_actions.specs.Emits.{lead_end, lead_closes, lowering}
+use Rattle.st_parse_actions.specs.inner.Emits.{lead_end, lead_closes, lowering}
 
 pub lowering_stays : (n : ℕ) (f : Frame) (fs : List Frame) → parts.closes f n ≡ None → lowering n (f ∷ fs) ≡ []
 lowering_stays n f fs e = ap (lead_closes (lowering n fs)) e

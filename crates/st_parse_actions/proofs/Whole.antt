@@ -7,14 +7,14 @@ use Rattle.st_grammar.specs.Reading.{State, step, reads, start}
 use Rattle.st_grammar.proofs.Sound.{seen, state_base, Holds, ReachedBy}
 use Rattle.st_grammar.proofs.Steps.{steps}
 use Rattle.st_parse_automaton.specs.declared.part_automaton.Expected.TheVariants.{Operand}
-use Rattle.st_parse_automaton.specs.Shapes.{shape}
-use Rattle.st_parse_automaton.specs.PartAutomaton as parts
+use Rattle.st_parse_automaton.specs.inner.Shapes.{shape}
+use Rattle.st_parse_automaton.specs.inner.PartAutomaton as parts
 use Rattle.st_parse_automaton.proofs.View.{state_of}
 use Rattle.st_parse_automaton.proofs.Simulation.{step_is}
-use Rattle.st_parse_builder.specs.Actions.{acts}
-use Rattle.st_parse_builder.specs.Emission as emission
+use Rattle.st_parse_builder.specs.inner.Actions.{acts}
+use Rattle.st_parse_builder.specs.inner.Emission as emission
 use Rattle.st_parse_builder.proofs.Emission.{emits_part}
-use Rattle.st_parse_actions.specs.Emits.{kept, on_next, emissions}
+use Rattle.st_parse_actions.specs.inner.Emits.{kept, on_next, emissions}
 use Rattle.st_parse_actions.proofs.Emitted.{state_marks, emits_is, finishing_is}
 use Rattle.st_parse_actions.proofs.Kept.{Keeps, step_keeps}
 

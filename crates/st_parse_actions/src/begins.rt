@@ -1,11 +1,10 @@
 //! What a token adds where an operand begins.
 
 ghost use Rattle.std.specs.Prelude.{◌≡◌, ◌++◌, [], ◌∷◌, IfOk, reverse};
-ghost use Rattle.st_parse_actions.specs.Emits as emits;
+ghost use Rattle.st_parse_actions.specs.inner.Emits as emits;
 
 use crate::ends::settle;
 use crate::frame::innermost;
-use crate::table::is_count;
 use st_grammar::{Bracket, Closing, Sort};
 use st_num::{NoMemory, Row};
 use st_parse_automaton::{Frame, Kind, Shape};
@@ -67,7 +66,7 @@ fn begin_opening<'a>(
         ≡ actions.old ++ emits.beginning_opening base (reverse frames.now) bracket token.now) }
 {
     match bracket {
-        Bracket::Round if is_count(innermost(base, frames)) => Ok(()),
+        Bracket::Round if innermost(base, frames).is_count() => Ok(()),
         _ => actions.push(opening(bracket, token)),
     }
 }

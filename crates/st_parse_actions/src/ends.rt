@@ -2,8 +2,8 @@
 
 ghost use Rattle.std.specs.Prelude.{◌≡◌, ◌++◌, [], ◌∷◌, IfOk, reverse};
 ghost use Rattle.st_parse_automaton.specs.declared.part_automaton.Part.{Part};
-ghost use Rattle.st_parse_automaton.specs.PartAutomaton as parts;
-ghost use Rattle.st_parse_actions.specs.Emits as emits;
+ghost use Rattle.st_parse_automaton.specs.inner.PartAutomaton as parts;
+ghost use Rattle.st_parse_actions.specs.inner.Emits as emits;
 
 use crate::frame::closes;
 use st_grammar::Bracket;

@@ -1,11 +1,10 @@
 //! What the innermost frame says of the place in it.
 
 ghost use Rattle.std.specs.Prelude.{◌≡◌, reverse};
-ghost use Rattle.st_parse_automaton.specs.PartAutomaton as parts;
-ghost use Rattle.st_parse_actions.specs.Emits as emits;
+ghost use Rattle.st_parse_automaton.specs.inner.PartAutomaton as parts;
+ghost use Rattle.st_parse_actions.specs.inner.Emits as emits;
 
-use crate::table::{ahead_right, has_level, is_iteration_sign, is_type_iteration_sign, level_of, right_of};
-use st_grammar::Sort;
+use st_grammar::{Sort, is_iteration_sign, is_type_iteration_sign, prefix_right, right_of};
 use st_num::Mark;
 use st_parse_automaton::{Frame, Kind, Lead, Part};
 
@@ -33,7 +32,7 @@ fn wanted(lead: Lead) -> u8
 {
     match lead {
         Lead::Left(mark) => right_of(mark),
-        Lead::Ahead(mark) => ahead_right(mark),
+        Lead::Ahead(mark) => prefix_right(mark),
         Lead::Items => 20,
     }
 }
@@ -43,7 +42,7 @@ fn reach(lead: Lead) -> u8
 {
     match lead {
         Lead::Left(mark) => right_of(mark),
-        Lead::Ahead(mark) => ahead_right(mark),
+        Lead::Ahead(mark) => prefix_right(mark),
         Lead::Items => 14,
     }
 }
@@ -87,16 +86,16 @@ pub(crate) fn closes(frame: Frame, level: u8) -> Option<Lead>
 pub(crate) fn joins(base: Sort, mark: Mark, frames: &[Frame]) -> bool
     ensures { result ≡ emits.is_joined base mark (reverse frames.now) }
 {
-    let level = level_of(mark);
-    has_level(innermost(base, frames), level) && least(frames) <= level
+    let level = mark.level();
+    innermost(base, frames).has_level(level) && least(frames) <= level
 }
 
 /// The level of the sign between two sides there, or 0.
 pub(crate) fn pull(sort: Sort, mark: Mark) -> u8
     ensures { result ≡ parts.pull sort mark }
 {
-    let level = level_of(mark);
-    if has_level(sort, level) { level } else { 0 }
+    let level = mark.level();
+    if sort.has_level(level) { level } else { 0 }
 }
 
 fn is_type(part: Part) -> bool

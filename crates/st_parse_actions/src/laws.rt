@@ -11,10 +11,10 @@ ghost use Rattle.st_parse_builder.specs.declared.piece.Piece.TheVariants.{Done};
 ghost use Rattle.st_parse_builder.specs.declared.notation_piece.NotationPiece.TheVariants.{Hole};
 ghost use Rattle.st_parse_builder.specs.Meaning.{meaning};
 ghost use Rattle.st_parse_builder.specs.Notations.{typ_meaning};
-ghost use Rattle.st_parse_builder.specs.NotationBuilding as notations;
-ghost use Rattle.st_parse_builder.specs.Actions.{acts};
-ghost use Rattle.st_parse_builder.specs.Building.{Stack, run};
-ghost use Rattle.st_parse_actions.specs.Emits.{emissions};
+ghost use Rattle.st_parse_builder.specs.inner.NotationBuilding as notations;
+ghost use Rattle.st_parse_builder.specs.inner.Actions.{acts};
+ghost use Rattle.st_parse_builder.specs.inner.Building.{Stack, run};
+ghost use Rattle.st_parse_actions.specs.inner.Emits.{emissions};
 
 use st_grammar::parts_are_read;
 use st_parse_builder::{notations_are_built, parts_are_built, types_are_built};
@@ -22,21 +22,21 @@ use st_parse_builder::{notations_are_built, parts_are_built, types_are_built};
 /// What the tokens of a part add, and their end, are the actions of its tree.
 #[tactic(auto, using(crate::proofs::Whole::part_emits))]
 pub fn tokens_emit()
-    ensures { (σ : Sort) (us : List TokenClass) (t : Tree)
+    ensures { (σ : Sort) (us : List Terminal) (t : Tree)
         → reads (start σ) us ≡ Some t → acts t ≡ emissions σ [] (Operand, []) us }
 {}
 
 /// What the tokens of a part add builds its meaning:
 /// of an expression, of a type, and of a notation.
 pub fn tokens_build()
-    ensures part { (σ : Sort) (us : List TokenClass) (t : Tree) (s : Stack)
+    ensures part { (σ : Sort) (us : List Terminal) (t : Tree) (s : Stack)
         → reads (start σ) us ≡ Some t
         → run (emissions σ [] (Operand, []) us) s ≡ Some (Done (meaning t) ∷ s) }
-    ensures types { (us : List TokenClass) (t : Tree) (s : notations.Stack)
+    ensures types { (us : List Terminal) (t : Tree) (s : notations.Stack)
         → reads (start typ) us ≡ Some t
         → notations.run (emissions typ [] (Operand, []) us) s
         ≡ Some (Hole (typ_meaning t) ∷ s) }
-    ensures notations { (us : List TokenClass) (t : Tree) (s : notations.Stack)
+    ensures notations { (us : List Terminal) (t : Tree) (s : notations.Stack)
         → reads (start notation) us ≡ Some t
         → notations.run (emissions notation [] (Operand, []) us) s
         ≡ Some (notations.piece_of t ∷ s) }

@@ -3,7 +3,7 @@
 //! The one idea: what a token adds is told of what the parser keeps, so no tree is made between
 //! the tokens and the source tree.
 //!
-//! Read `laws` first, with `specs/Emits.antt`. The rules are in `docs/source-trees.md`.
+//! Read `laws` first, with `specs/inner/Emits.antt`. The rules are in `docs/source-trees.md`.
 #![tactic(auto)]
 
 mod begins;
@@ -11,7 +11,6 @@ mod ends;
 mod frame;
 mod laws;
 mod step;
-mod table;
 #[cfg(test)]
 mod tests;
 

@@ -1,14 +1,13 @@
 //! What each token of a part adds to the actions.
 
 ghost use Rattle.std.specs.Prelude.{◌≡◌, ◌++◌, [], ◌∷◌, IfOk, reverse};
-ghost use Rattle.st_parse_automaton.specs.Readings.{reading_of};
-ghost use Rattle.st_parse_actions.specs.Emits as emits;
+ghost use Rattle.st_parse_automaton.specs.inner.Readings.{reading_of};
+ghost use Rattle.st_parse_actions.specs.inner.Emits as emits;
 
 use crate::begins::begin;
 use crate::ends::{close, end_part, lower};
 use crate::frame::{innermost, joins, may_iterate, pull};
-use crate::table::{is_caret, is_change, is_expression};
-use st_grammar::{Bracket, Leaf, Sort};
+use st_grammar::{Bracket, Leaf, Sort, is_caret, is_change};
 use st_num::{Mark, NoMemory, Row};
 use st_parse_automaton::{Expected, Filling, Frame, Kind, Lead, Part, Reading, Shape, follows};
 use st_parse_builder::{Action, TokenRef};
@@ -65,7 +64,7 @@ fn behind_sign<'a>(
     if may_iterate(sort, part, mark) {
         return actions.push(Action::Mark(mark));
     }
-    if is_expression(sort) && is_caret(mark) {
+    if sort.is_expression() && is_caret(mark) {
         return Ok(());
     }
     let rest = lower(pull(sort, mark), frames, actions)?;
@@ -258,6 +257,10 @@ pub fn finish<'a>(reading: &Reading, actions: &mut Row<Action<'a>>) -> Result<()
             lower(0, reading.frames.as_slice(), actions)?;
             Ok(())
         }
-        Expected::Operand | Expected::Label | Expected::Step(_) | Expected::Index | Expected::Less => Ok(()),
+        Expected::Operand
+        | Expected::Label
+        | Expected::Step(_)
+        | Expected::Index
+        | Expected::Less => Ok(()),
     }
 }

@@ -23,9 +23,9 @@ use Rattle.st_parse_automaton.specs.declared.position.IterationState.{IterationS
 use Rattle.st_parse_automaton.specs.declared.position.IterationState.TheVariants as iterations
 use Rattle.st_parse_automaton.specs.declared.position.Position.{Position}
 use Rattle.st_parse_automaton.specs.declared.position.Position.TheVariants as position
-use Rattle.st_parse_automaton.specs.Shapes.{shape, class_of}
-use Rattle.st_parse_automaton.specs.DefinitionAutomaton as definitions
-use Rattle.st_parse_automaton.specs.DefinitionAutomaton.{at, inside}
+use Rattle.st_parse_automaton.specs.inner.Shapes.{shape, class_of}
+use Rattle.st_parse_automaton.specs.inner.DefinitionAutomaton as definitions
+use Rattle.st_parse_automaton.specs.inner.DefinitionAutomaton.{at, inside}
 use Rattle.st_parse_automaton.proofs.View.{part_of, part_reads}
 use Rattle.st_parse_automaton.proofs.View as view
 use Rattle.st_parse_automaton.proofs.Simulation as simulation

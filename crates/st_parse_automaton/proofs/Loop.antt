@@ -12,9 +12,9 @@ use Rattle.st_grammar.proofs.PositionEnds.{viable}
 use Rattle.st_grammar.proofs.PositionComplete.{reading_append, dead_defs, complete_defs}
 use Rattle.st_parse_automaton.specs.declared.position.TokenClass.{TokenClass}
 use Rattle.st_parse_automaton.specs.declared.position.Progress.{Progress}
-use Rattle.st_parse_automaton.specs.DefinitionAutomaton as definitions
-use Rattle.st_parse_automaton.specs.Shapes.{class_of}
-use Rattle.st_parse_automaton.specs.Readings.{progress_of}
+use Rattle.st_parse_automaton.specs.inner.DefinitionAutomaton as definitions
+use Rattle.st_parse_automaton.specs.inner.Shapes.{class_of}
+use Rattle.st_parse_automaton.specs.inner.Readings.{progress_of}
 use Rattle.st_parse_automaton.specs.Refusal.{terminals_of, AreDefinitions, RefusedAt}
 use Rattle.st_parse_automaton.proofs.DefinitionView.{definitions_of}
 use Rattle.st_parse_automaton.proofs.DefinitionSimulation.{step_is, may_end_is, is_some}

@@ -10,7 +10,8 @@ use Rattle.st_grammar.specs.declared.sort.Closing.TheVariants as closings
 use Rattle.st_grammar.specs.declared.sort.Sort.{Sort}
 use Rattle.st_grammar.specs.declared.sort.Sort.TheVariants as sorts
 use Rattle.st_grammar.specs.Terminals.{Terminal, leaf, dot, sign, opening, closing, other}
-use Rattle.st_grammar.specs.Levels.{tight, level_of, ahead_level, is_type_iteration_sign, has_level}
+use Rattle.st_num.specs.Signs.{level as level_of, prefix_level}
+use Rattle.st_grammar.specs.Levels.{tight, is_type_iteration_sign, has_level}
 use Rattle.st_grammar.specs.Trees as tree
 use Rattle.st_grammar.specs.Trees.{Tree, Trees, Heading, Path, none, more}
 use Rattle.st_grammar.specs.Grammar as grammar
@@ -25,8 +26,8 @@ use Rattle.st_parse_automaton.specs.declared.part_automaton.Frame.{Frame}
 use Rattle.st_parse_automaton.specs.declared.part_automaton.Frame.TheVariants.{Within, Over, Timing}
 use Rattle.st_parse_automaton.specs.declared.part_automaton.Expected.{Expected}
 use Rattle.st_parse_automaton.specs.declared.part_automaton.Expected.TheVariants.{Operand, Next, Label, Step, Index as IndexExpected}
-use Rattle.st_parse_automaton.specs.Shapes.{shape}
-use Rattle.st_parse_automaton.specs.PartAutomaton as parts
+use Rattle.st_parse_automaton.specs.inner.Shapes.{shape}
+use Rattle.st_parse_automaton.specs.inner.PartAutomaton as parts
 use Rattle.st_grammar.proofs.Sound.{base}
 use Rattle.st_grammar.specs.declared.sort.Style.{Style}
 use Rattle.st_grammar.specs.declared.sort.Style.TheVariants as styles
@@ -165,9 +166,9 @@ begin_is fs (leaf k x) =
     (ap (λ σ. takes σ k) (top_sort fs)) (settle_is (tree.operand k x) fs) refl
 begin_is fs (dot x) = refl
 begin_is fs (sign m x) =
-    same_if (has_level (parts.top (base fs) (frames_of fs)) (ahead_level m) && nat_le (parts.least (frames_of fs)) (ahead_level m)) (has_level (part.sort fs) (ahead_level m) && nat_le (part.least fs) (ahead_level m))
+    same_if (has_level (parts.top (base fs) (frames_of fs)) (prefix_level m) && nat_le (parts.least (frames_of fs)) (prefix_level m)) (has_level (part.sort fs) (prefix_level m) && nat_le (part.least fs) (prefix_level m))
     (Operand, Over (Ahead m) (parts.top (base fs) (frames_of fs)) ∷ frames_of fs) (part.want (part.over (tree.ahead m x) fs)) None None
-    (both_and _ _ _ _ (ap (λ σ. has_level σ (ahead_level m)) (top_sort fs)) (ap (λ n. nat_le n (ahead_level m)) (least_is fs)))
+    (both_and _ _ _ _ (ap (λ σ. has_level σ (prefix_level m)) (top_sort fs)) (ap (λ n. nat_le n (prefix_level m)) (least_is fs)))
     (ap (λ σ. (Operand, Over (Ahead m) σ ∷ frames_of fs)) (top_sort fs)) refl
 begin_is fs (opening b x) = opening_is b x fs
 begin_is fs (closing c x) = closing_is c x fs

@@ -13,7 +13,7 @@ use Rattle.st_grammar.specs.declared.keyword.Keyword.TheVariants as key
 use Rattle.st_grammar.specs.Terminals.{leaf, dot, other, terminal, kind_terminal, word_terminal, sign_terminal, is_variable}
 use Rattle.st_grammar.specs.Definitions.{kind_keyword, is_mix_kind, is_piece_kind, is_dot_kind}
 use Rattle.st_parse_automaton.specs.declared.part_automaton.Shape.TheVariants.{Single, Dot, Other}
-use Rattle.st_parse_automaton.specs.Shapes.{class_of, made, kind_shape, word_shape}
+use Rattle.st_parse_automaton.specs.inner.Shapes.{class_of, made, kind_shape, word_shape}
 
 -- a token that no part has, by its kind
 pub other_is : (x : Token) (k : TokenKind) → x.kind ≡ k → class_of (other x) ≡ made Other x.touching (kind_keyword k) (is_mix_kind k) (is_piece_kind k) (is_dot_kind k)

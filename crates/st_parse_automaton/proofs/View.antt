@@ -23,7 +23,7 @@ use Rattle.st_parse_automaton.specs.declared.part_automaton.Lead.TheVariants.{Le
 use Rattle.st_parse_automaton.specs.declared.part_automaton.Frame.{Frame}
 use Rattle.st_parse_automaton.specs.declared.part_automaton.Frame.TheVariants.{Within, Over, Timing}
 use Rattle.st_parse_automaton.specs.declared.part_automaton.Expected.TheVariants.{Operand, Next, Label, Step, Index as IndexExpected, Less}
-use Rattle.st_parse_automaton.specs.PartAutomaton as parts
+use Rattle.st_parse_automaton.specs.inner.PartAutomaton as parts
 use Rattle.st_grammar.proofs.Sound.{base}
 
 abbrev pub part_of : Tree → Part

@@ -2,13 +2,12 @@
 
 ghost use Rattle.std.specs.Prelude.{◌≡◌, ◌∷◌, IfOk, reverse};
 ghost use Rattle.std.specs.Option.{option_map};
-ghost use Rattle.st_parse_automaton.specs.PartAutomaton as parts;
-ghost use Rattle.st_parse_automaton.specs.Readings.{reading_of};
+ghost use Rattle.st_parse_automaton.specs.inner.PartAutomaton as parts;
+ghost use Rattle.st_parse_automaton.specs.inner.Readings.{reading_of};
 
 use crate::close::settle;
 use crate::frame::{kind_sort, leaf_part, least, top};
 use crate::part_automaton::{Expected, Filling, Frame, Kind, Lead, Part, Reading, Shape};
-use crate::table::{ahead_level, computes, encloses, has_level, is_count, takes};
 use st_grammar::{Bracket, Closing, Sort};
 use st_num::{Mark, NoMemory, Row};
 
@@ -50,7 +49,7 @@ fn begin_plain(
         option_map reading_of next ≡ parts.begin_plain base bracket (reverse frames)) }
 {
     let sort = top(base, &frames);
-    if !encloses(sort, bracket) {
+    if !sort.encloses(bracket) {
         return Ok(None);
     }
     let next = opened(plain_expected(bracket), Kind::Plain(bracket), sort, frames)?;
@@ -66,7 +65,7 @@ fn begin_opening(
         option_map reading_of next ≡ parts.begin_opening base bracket (reverse frames)) }
 {
     match bracket {
-        Bracket::Round if is_count(top(base, &frames)) => Ok(Some(Reading {
+        Bracket::Round if top(base, &frames).is_count() => Ok(Some(Reading {
             expected: Expected::Index,
             frames,
         })),
@@ -82,7 +81,8 @@ fn begin_opening(
 
 /// The end of arguments that are none.
 fn no_arguments(mut frames: Row<Frame>) -> Result<Option<Reading>, NoMemory>
-    ensures { IfOk result (λ next. option_map reading_of next ≡ parts.no_arguments (reverse frames)) }
+    ensures { IfOk result (λ next.
+        option_map reading_of next ≡ parts.no_arguments (reverse frames)) }
 {
     match frames.pop() {
         Some(Frame::Within(Kind::Arguments, Filling::Empty, _, _)) => {
@@ -104,7 +104,7 @@ fn begin_closing(
     match closing {
         Closing::ByBar => {
             let sort = top(base, &frames);
-            if !computes(sort) {
+            if !sort.computes() {
                 return Ok(None);
             }
             let next = opened(Expected::Operand, Kind::Length, sort, frames)?;
@@ -120,8 +120,8 @@ fn begin_sign(base: Sort, mark: Mark, mut frames: Row<Frame>) -> Result<Option<R
         option_map reading_of next ≡ parts.begin_sign base mark (reverse frames)) }
 {
     let sort = top(base, &frames);
-    let level = ahead_level(mark);
-    if !(has_level(sort, level) && least(&frames) <= level) {
+    let level = mark.prefix_level();
+    if !(sort.has_level(level) && least(&frames) <= level) {
         return Ok(None);
     }
     frames.push(Frame::Over(Lead::Ahead(mark), sort))?;
@@ -142,7 +142,7 @@ pub(crate) fn begin(
 {
     match shape {
         Shape::Single(leaf) => {
-            if !takes(top(base, &frames), leaf) {
+            if !top(base, &frames).takes(leaf) {
                 return Ok(None);
             }
             let next = settle(leaf_part(leaf), frames)?;

@@ -9,8 +9,8 @@ ghost use Rattle.std.specs.Prelude as Prelude;
 ghost use Rattle.st_scan.specs.declared.token.TokenKind.TheVariants as kind;
 ghost use Rattle.st_grammar.specs.declared.keyword.Keyword.TheVariants as key;
 ghost use Rattle.st_grammar.specs.Definitions as definitions;
-ghost use Rattle.st_parse_automaton.specs.Shapes as shapes;
-ghost use Rattle.st_parse_automaton.specs.Shapes.{class_of};
+ghost use Rattle.st_parse_automaton.specs.inner.Shapes as shapes;
+ghost use Rattle.st_parse_automaton.specs.inner.Shapes.{class_of};
 
 use crate::part_automaton::Shape;
 use crate::position::TokenClass;

@@ -2,15 +2,14 @@
 
 ghost use Rattle.std.specs.Prelude.{◌≡◌, ◌∷◌, IfOk, reverse};
 ghost use Rattle.std.specs.Option.{option_map};
-ghost use Rattle.st_parse_automaton.specs.PartAutomaton as parts;
-ghost use Rattle.st_parse_automaton.specs.Readings.{reading_of, lowered_of};
+ghost use Rattle.st_parse_automaton.specs.inner.PartAutomaton as parts;
+ghost use Rattle.st_parse_automaton.specs.inner.Readings.{reading_of, lowered_of};
 
 use crate::frame::{
     TIGHT, agree, kind_closing, kind_part, kind_style, lead_level, least, reach, reads_type, top,
 };
 use crate::part_automaton::{Expected, Filling, Frame, Kind, Lead, Part, Reading};
-use crate::table::{has_level, is_colon, is_comma, left_of, level_of};
-use st_grammar::{Closing, Sort, Style};
+use st_grammar::{Closing, Sort, Style, is_colon, is_comma, left_of};
 use st_num::{Mark, NoMemory, Row};
 
 /// A part with its level, and what is open round it.
@@ -177,8 +176,8 @@ pub(crate) fn join(base: Sort, mark: Mark, lowered: Lowered) -> Result<Option<Re
         option_map reading_of next ≡ parts.join base mark (lowered_of lowered)) }
 {
     let sort = top(base, &lowered.frames);
-    let level = level_of(mark);
-    if !(has_level(sort, level) && least(&lowered.frames) <= level) {
+    let level = mark.level();
+    if !(sort.has_level(level) && least(&lowered.frames) <= level) {
         return separate(base, mark, lowered);
     }
     if left_of(mark) > lowered.level {

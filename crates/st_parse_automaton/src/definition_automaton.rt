@@ -2,8 +2,8 @@
 
 ghost use Rattle.std.specs.Prelude.{◌≡◌, IfOk, reverse};
 ghost use Rattle.std.specs.Option.{option_map};
-ghost use Rattle.st_parse_automaton.specs.DefinitionAutomaton as definitions;
-ghost use Rattle.st_parse_automaton.specs.Readings.{progress_of};
+ghost use Rattle.st_parse_automaton.specs.inner.DefinitionAutomaton as definitions;
+ghost use Rattle.st_parse_automaton.specs.inner.Readings.{progress_of};
 ghost use Rattle.st_parse_automaton.specs.declared.position.Position.TheVariants as position;
 
 use crate::frame::{agree, closed_by};
@@ -58,7 +58,8 @@ fn enter_case(case: CaseAt, class: TokenClass, brackets: Row<Bracket>) -> Option
 
 /// What stands in the position of a part.
 fn enter_other(slot: Slot, class: TokenClass, brackets: Row<Bracket>) -> Option<Progress>
-    ensures { option_map progress_of result ≡ definitions.enter_other slot class (reverse brackets) }
+    ensures { option_map progress_of result
+        ≡ definitions.enter_other slot class (reverse brackets) }
 {
     match slot {
         Slot::Case(case) => enter_case(case, class, brackets),
@@ -86,7 +87,8 @@ fn field_step(
     class: TokenClass,
     brackets: Row<Bracket>,
 ) -> Option<Progress>
-    ensures { option_map progress_of result ≡ definitions.field_step first class (reverse brackets) }
+    ensures { option_map progress_of result
+        ≡ definitions.field_step first class (reverse brackets) }
 {
     if is_label(class.shape) {
         return Some(start_of(alloc, Slot::Field, brackets));
@@ -237,7 +239,8 @@ fn result_step(
     class: TokenClass,
     brackets: Row<Bracket>,
 ) -> Option<Progress>
-    ensures { option_map progress_of result ≡ definitions.result_step types class (reverse brackets) }
+    ensures { option_map progress_of result
+        ≡ definitions.result_step types class (reverse brackets) }
 {
     if at_colon(class) && types {
         return Some(start_of(alloc, Slot::Fun, brackets));
@@ -253,7 +256,8 @@ fn enter(
     brackets: Row<Bracket>,
 ) -> Result<Option<Progress>, NoMemory>
     ensures { IfOk result (λ next.
-        option_map progress_of next ≡ definitions.own (position.Entering slot) class (reverse brackets)) }
+        option_map progress_of next
+        ≡ definitions.own (position.Entering slot) class (reverse brackets)) }
 {
     let reading = Reading {
         expected: Expected::Operand,
@@ -267,7 +271,8 @@ fn enter(
 
 /// A token behind the name of a function.
 fn fun_named(alloc: Global, class: TokenClass, brackets: Row<Bracket>) -> Option<Progress>
-    ensures { option_map progress_of result ≡ definitions.own position.FunNamed class (reverse brackets) }
+    ensures { option_map progress_of result
+        ≡ definitions.own position.FunNamed class (reverse brackets) }
 {
     if opens_round(class) && class.touching {
         let slot = Slot::Argument(true, true);
@@ -294,7 +299,8 @@ fn argued(alloc: Global, types: bool, class: TokenClass, brackets: Row<Bracket>)
 
 /// A token behind the name of a relation, in a rule.
 fn rule_colon(alloc: Global, class: TokenClass, brackets: Row<Bracket>) -> Option<Progress>
-    ensures { option_map progress_of result ≡ definitions.own position.RuleColon class (reverse brackets) }
+    ensures { option_map progress_of result
+        ≡ definitions.own position.RuleColon class (reverse brackets) }
 {
     if at_slash(class) {
         return Some(at(Position::RuleId(true), brackets));
@@ -304,7 +310,8 @@ fn rule_colon(alloc: Global, class: TokenClass, brackets: Row<Bracket>) -> Optio
 
 /// A token of a name.
 fn own_name(position: Position, class: TokenClass, brackets: Row<Bracket>) -> Option<Progress>
-    ensures { option_map progress_of result ≡ definitions.own_name position class (reverse brackets) }
+    ensures { option_map progress_of result
+        ≡ definitions.own_name position class (reverse brackets) }
 {
     match position {
         Position::SyntaxName => {

@@ -3,14 +3,13 @@
 ghost use Rattle.std.specs.Prelude.{◌≡◌, reverse};
 ghost use Rattle.st_grammar.specs.Grammar as grammar;
 ghost use Rattle.st_grammar.specs.Trees as tree;
-ghost use Rattle.st_parse_automaton.specs.PartAutomaton as parts;
+ghost use Rattle.st_parse_automaton.specs.inner.PartAutomaton as parts;
 
 use crate::part_automaton::{Frame, Kind, Lead, Part, Shape};
-use crate::table::{
-    ahead_level, ahead_right, inside, is_iteration_sign, is_type_iteration_sign, juxtaposes,
-    level_of, right_of,
+use st_grammar::{
+    Bracket, Closing, Leaf, Sort, Style, is_iteration_sign, is_type_iteration_sign, prefix_right,
+    right_of,
 };
-use st_grammar::{Bracket, Closing, Leaf, Sort, Style};
 use st_num::{Mark, Row};
 
 /// The level of what binds tightest.
@@ -40,7 +39,7 @@ fn wanted(lead: Lead) -> u8
 {
     match lead {
         Lead::Left(mark) => right_of(mark),
-        Lead::Ahead(mark) => ahead_right(mark),
+        Lead::Ahead(mark) => prefix_right(mark),
         Lead::Items => TIGHT,
     }
 }
@@ -51,7 +50,7 @@ pub(crate) fn reach(lead: Lead) -> u8
 {
     match lead {
         Lead::Left(mark) => right_of(mark),
-        Lead::Ahead(mark) => ahead_right(mark),
+        Lead::Ahead(mark) => prefix_right(mark),
         Lead::Items => 14,
     }
 }
@@ -60,8 +59,8 @@ pub(crate) fn lead_level(lead: Lead) -> u8
     ensures { result ≡ parts.lead_level lead }
 {
     match lead {
-        Lead::Left(mark) => level_of(mark),
-        Lead::Ahead(mark) => ahead_level(mark),
+        Lead::Left(mark) => mark.level(),
+        Lead::Ahead(mark) => mark.prefix_level(),
         Lead::Items => 14,
     }
 }
@@ -168,7 +167,7 @@ pub(crate) fn kind_sort(sort: Sort, kind: Kind) -> Sort
     ensures { result ≡ parts.kind_sort sort kind }
 {
     match kind {
-        Kind::Plain(bracket) => inside(sort, bracket),
+        Kind::Plain(bracket) => sort.inside(bracket),
         Kind::Length => Sort::Expression(true),
         Kind::Below => Sort::Bound,
         Kind::Arguments | Kind::Index | Kind::Segment | Kind::Update => Sort::Expression(false),
@@ -282,12 +281,12 @@ pub fn follows(sort: Sort, part: Part, shape: Shape) -> bool
     ensures { result ≡ parts.follows sort part shape }
 {
     match shape {
-        Shape::Single(_) => juxtaposes(sort),
+        Shape::Single(_) => sort.juxtaposes(),
         Shape::Open(Bracket::Square, _) => false,
         Shape::Open(Bracket::Round, touching) => {
-            juxtaposes(sort) && !(is_function(part) && touching)
+            sort.juxtaposes() && !(is_function(part) && touching)
         }
-        Shape::Open(_, _) => juxtaposes(sort),
+        Shape::Open(_, _) => sort.juxtaposes(),
         Shape::Close(closing) => opens_length(closing, sort),
         Shape::Dot(_) | Shape::Sign(_) | Shape::Other => false,
     }

@@ -3,7 +3,8 @@
 //! The one idea: the reader keeps what is open, and of what it has read only what later tokens
 //! ask. That abbreviates the reading of `st_grammar`, so it stops at the same token.
 //!
-//! Read `reader` first, with `specs/PartAutomaton.antt`. The rules are in `docs/language.md`, "Grammar".
+//! Read `reader` first, with `specs/inner/PartAutomaton.antt`. The rules are in
+//! `docs/language.md`, "Grammar".
 #![tactic(auto)]
 
 mod begin;
@@ -18,7 +19,6 @@ mod premise;
 mod progress;
 mod reader;
 mod step;
-mod table;
 #[cfg(test)]
 mod tests;
 mod token;

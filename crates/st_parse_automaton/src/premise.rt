@@ -3,8 +3,8 @@
 ghost use Rattle.std.specs.Prelude.{◌≡◌, IfOk, reverse};
 ghost use Rattle.std.specs.Option.{option_map};
 ghost use Rattle.st_grammar.specs.declared.keyword.Keyword.TheVariants as key;
-ghost use Rattle.st_parse_automaton.specs.DefinitionAutomaton as definitions;
-ghost use Rattle.st_parse_automaton.specs.Readings.{progress_of};
+ghost use Rattle.st_parse_automaton.specs.inner.DefinitionAutomaton as definitions;
+ghost use Rattle.st_parse_automaton.specs.inner.Readings.{progress_of};
 
 use crate::position::{IterationState, Position, Progress, Slot, TokenClass};
 use crate::progress::{at, has_closed, none_open, start_of, wants_iteration, when};
@@ -97,7 +97,8 @@ pub(crate) fn iterate(
     class: TokenClass,
     brackets: Row<Bracket>,
 ) -> Option<Progress>
-    ensures { option_map progress_of result ≡ definitions.iterate iterations class (reverse brackets) }
+    ensures { option_map progress_of result
+        ≡ definitions.iterate iterations class (reverse brackets) }
 {
     let empty = none_open(&brackets);
     let wanting = wants_iteration(iterations);

@@ -11,8 +11,8 @@ use st_num::{Name, NoMemory, Row};
 use st_scan::Token;
 use std::alloc::Global;
 
-/// The position of the first token that no definitions have behind those before it, or the number of
-/// the tokens where they end too early; none where the tokens are those of definitions.
+/// The number of the first token that no definitions have behind those before it, or of all tokens
+/// where they end too early; none where the tokens are those of definitions.
 pub fn first_refused(alloc: Global, tokens: &[Token]) -> Result<Option<usize>, NoMemory>
     ensures none { IfOk result (λ found. IfNone found (AreDefinitions tokens.now)) }
     ensures some { IfOk result (λ found. IfSome found (λ k. RefusedAt tokens.now k)) }

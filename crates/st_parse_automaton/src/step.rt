@@ -2,8 +2,8 @@
 
 ghost use Rattle.std.specs.Prelude.{◌≡◌, ◌∷◌, IfOk, reverse};
 ghost use Rattle.std.specs.Option.{option_map};
-ghost use Rattle.st_parse_automaton.specs.PartAutomaton as parts;
-ghost use Rattle.st_parse_automaton.specs.Readings.{reading_of};
+ghost use Rattle.st_parse_automaton.specs.inner.PartAutomaton as parts;
+ghost use Rattle.st_parse_automaton.specs.inner.Readings.{reading_of};
 
 use crate::begin::{begin, opened};
 use crate::close::{close, closes, join, lower};
@@ -11,8 +11,7 @@ use crate::frame::{
     TIGHT, dotted, follows, is_function, lead_level, marked, may_dot, may_iterate, top,
 };
 use crate::part_automaton::{Expected, Filling, Frame, Kind, Lead, Part, Reading, Shape};
-use crate::table::{computes, has_level, is_caret, is_change, is_expression, is_less, level_of};
-use st_grammar::{Bracket, Leaf, Sort};
+use st_grammar::{Bracket, Leaf, Sort, is_caret, is_change, is_less};
 use st_num::{Mark, NoMemory, Row};
 
 /// The frames with one more element of a sequence.
@@ -41,8 +40,8 @@ fn extend(base: Sort, mut frames: Row<Frame>) -> Result<Row<Frame>, NoMemory>
 fn pull(sort: Sort, mark: Mark) -> u8
     ensures { result ≡ parts.pull sort mark }
 {
-    let level = level_of(mark);
-    if has_level(sort, level) { level } else { 0 }
+    let level = mark.level();
+    if sort.has_level(level) { level } else { 0 }
 }
 
 fn behind_sign(
@@ -61,7 +60,7 @@ fn behind_sign(
             frames,
         }));
     }
-    if is_expression(sort) && is_caret(mark) {
+    if sort.is_expression() && is_caret(mark) {
         frames.push(Frame::Timing)?;
         return Ok(Some(Reading {
             expected: Expected::Operand,
@@ -79,13 +78,13 @@ fn behind_square(base: Sort, frames: Row<Frame>) -> Result<Option<Reading>, NoMe
         option_map reading_of next ≡ parts.behind_square base (reverse frames)) }
 {
     let sort = top(base, &frames);
-    if is_expression(sort) {
+    if sort.is_expression() {
         return Ok(Some(Reading {
             expected: Expected::Step(false),
             frames,
         }));
     }
-    if !computes(sort) {
+    if !sort.computes() {
         return Ok(None);
     }
     let next = opened(Expected::Operand, Kind::Index, sort, frames)?;
@@ -103,7 +102,7 @@ fn behind_round(
         option_map reading_of next ≡ parts.behind_round base touching part (reverse frames)) }
 {
     let sort = top(base, &frames);
-    if !(is_function(part) && (computes(sort) && touching)) {
+    if !(is_function(part) && (sort.computes() && touching)) {
         return Ok(None);
     }
     let next = opened(Expected::Operand, Kind::Arguments, sort, frames)?;

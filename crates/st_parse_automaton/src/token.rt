@@ -3,14 +3,13 @@
 ghost use Rattle.std.specs.Prelude.{◌≡◌};
 ghost use Rattle.st_grammar.specs.Definitions as grammar;
 ghost use Rattle.st_grammar.specs.Levels as levels;
-ghost use Rattle.st_parse_automaton.specs.DefinitionAutomaton as definitions;
+ghost use Rattle.st_parse_automaton.specs.inner.DefinitionAutomaton as definitions;
 
 use crate::frame::agree;
 use crate::part_automaton::Shape;
 use crate::position::TokenClass;
 use crate::step::is_label;
-use crate::table::{is_caret, is_colon, is_comma, is_iteration_sign};
-use st_grammar::{Bracket, Closing, Leaf};
+use st_grammar::{Bracket, Closing, Leaf, is_caret, is_colon, is_comma, is_iteration_sign};
 use st_num::Mark;
 
 fn is_slash(mark: Mark) -> bool

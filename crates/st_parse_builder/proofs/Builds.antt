@@ -17,8 +17,8 @@ use Rattle.st_parse_builder.specs.declared.action.Action.TheVariants as action
 use Rattle.st_parse_builder.specs.declared.piece.Piece.TheVariants.{Done, Parts, Fields, Path as path_piece, Label}
 use Rattle.st_parse_builder.specs.Names.{name_of}
 use Rattle.st_parse_builder.specs.Meaning.{exp, first_place, posted, count_of, iterated, only, step_at, indexed, label, meaning, meanings, field_meanings, base, steps}
-use Rattle.st_parse_builder.specs.Actions.{post_acts, index_acts, count_act, label_acts, at_act, step_act, acts, path_acts, each_acts, part_acts, field_acts, item_acts}
-use Rattle.st_parse_builder.specs.Building.{Stack, put, call_name, called, applied, run}
+use Rattle.st_parse_builder.specs.inner.Actions.{post_acts, index_acts, count_act, label_acts, at_act, step_act, acts, path_acts, each_acts, part_acts, field_acts, item_acts}
+use Rattle.st_parse_builder.specs.inner.Building.{Stack, put, call_name, called, applied, run}
 
 -- ---- one list of actions behind another
 

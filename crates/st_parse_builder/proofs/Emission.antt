@@ -10,15 +10,16 @@ use Rattle.st_grammar.specs.declared.sort.Closing.{Closing}
 use Rattle.st_grammar.specs.declared.sort.Closing.TheVariants.{ByRound as by_round, BySquare as by_square, ByBrace as by_brace, ByBar as by_bar}
 use Rattle.st_grammar.specs.declared.sort.Sort.{Sort}
 use Rattle.st_grammar.specs.Terminals.{Terminal, leaf, dot, sign, opening, closing, other}
-use Rattle.st_grammar.specs.Levels.{takes, encloses, computes, is_expression, is_count, level_of, ahead_level, has_level, left_of, is_caret, is_less, is_change}
+use Rattle.st_num.specs.Signs.{level as level_of, prefix_level}
+use Rattle.st_grammar.specs.Levels.{takes, encloses, computes, is_expression, is_count, has_level, left_of, is_caret, is_less, is_change}
 use Rattle.st_grammar.specs.Trees.{Tree, operand, post, times, bracket, led, left, ahead, items, Trees, none, more, Heading, plain, length, arguments, index, segment, update, below, Path, head, field, part}
 use Rattle.st_grammar.specs.Grammar.{is_label, follows, may_post, level, has_step}
 use Rattle.st_grammar.specs.Reading.{Frames, bottom, within, over, timing, State, want, got, naming, pathed, indexing, comparing, sort, least, settle, lower, ended, no_arguments, close, begin_closing, begin_opening, opened, begin, extend, separate, join, pull, behind_sign, behind_square, behind_round, behind_opening, behind, after, in_index, in_path, name_field, name_index, bound_index, step, finish, reading, reads, start}
 use Rattle.st_grammar.specs.Definitions.{token_in}
 use Rattle.st_parse_builder.specs.declared.action.Action.{Action}
 use Rattle.st_parse_builder.specs.declared.action.Action.TheVariants as action
-use Rattle.st_parse_builder.specs.Actions.{post_acts, label_acts, item_act, inner_acts, acts, opening_acts, path_acts, each_acts, part_acts, field_acts, item_acts}
-use Rattle.st_parse_builder.specs.Emission.{index_label, heading_acts, frames_acts, state_acts, settling, lowering, separating, closed, no_arguments_end, beginning_closing, beginning_opening, beginning, extending, joining, behind_sign_acts, behind_opening_acts, behind_acts, after_acts, index_acts_in, path_step_acts, name_acts, name_index_acts, emitted, finishing, on_next, emissions}
+use Rattle.st_parse_builder.specs.inner.Actions.{post_acts, label_acts, item_act, inner_acts, acts, opening_acts, path_acts, each_acts, part_acts, field_acts, item_acts}
+use Rattle.st_parse_builder.specs.inner.Emission.{index_label, heading_acts, frames_acts, state_acts, settling, lowering, separating, closed, no_arguments_end, beginning_closing, beginning_opening, beginning, extending, joining, behind_sign_acts, behind_opening_acts, behind_acts, after_acts, index_acts_in, path_step_acts, name_acts, name_index_acts, emitted, finishing, on_next, emissions}
 use Rattle.st_parse_builder.proofs.EmissionEnds.{Emits, pair_acts, operand_settles, bracket_settles, lowers, separates, closes_emit}
 
 -- ---- what begins
@@ -85,7 +86,7 @@ begins fs (leaf k x) = go (takes (sort fs) k)
     go true = operand_settles k x fs
     go false = tt
 begins fs (dot x) = tt
-begins fs (sign m x) = go (has_level (sort fs) (ahead_level m) && nat_le (least fs) (ahead_level m))
+begins fs (sign m x) = go (has_level (sort fs) (prefix_level m) && nat_le (least fs) (prefix_level m))
   where
     go : (b : Bool) → Emits (frames_acts fs) (action.Here x.at ∷ []) (if b then Some (want (over (ahead m x) fs)) else None)
     go true = refl

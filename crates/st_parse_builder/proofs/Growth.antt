@@ -17,8 +17,9 @@ use Rattle.st_parse_builder.specs.declared.piece.Piece.TheVariants.{Done, Parts,
 use Rattle.st_grammar.specs.Definitions.{is_minus}
 use Rattle.st_parse_builder.specs.Names.{name_of, leaf_node}
 use Rattle.st_parse_builder.specs.Meaning.{exp, place, opened, is_atom, atom_name, is_tilde, joined, prefixed, dotted, iterated, mark_count, in_parens, enclosed, changed}
-use Rattle.st_parse_builder.specs.Heights.{highest, height, seg_height, field_height, piece_height, stack_height}
-use Rattle.st_parse_builder.specs.Building.{Stack, put, top_done, top_parts, top_fields, top_path, top_pair, top_whole, top_label, top_place, call_name, applied, run}
+use Rattle.st_parse_builder.specs.Heights.{highest, height, seg_height}
+use Rattle.st_parse_builder.specs.inner.PieceHeights.{field_height, piece_height, stack_height}
+use Rattle.st_parse_builder.specs.inner.Building.{Stack, put, top_done, top_parts, top_fields, top_path, top_pair, top_whole, top_label, top_place, call_name, applied, run}
 use Rattle.st_parse_builder.proofs.Tallness.{tall_joined, tall_iterated, tall_below, tall_enclosed, tall_seq, tall_call, tall_fields, tall_changed, tall_marked, tall_parens, tall_prefixed, tall_length, tall_field_of, tall_at, tall_slice, tall_atom, tall_step, tall_steps, highest_behind}
 
 -- ---- what is on top

@@ -10,8 +10,9 @@ use Rattle.st_parse_builder.specs.declared.action.Action.TheVariants as action
 use Rattle.st_parse_builder.specs.declared.notation_piece.NotationPiece.{NotationPiece}
 use Rattle.st_parse_builder.specs.declared.notation_piece.NotationPiece.TheVariants.{Hole as a_type, Whole as whole, Types as types, Elements as elements, From as from_place}
 use Rattle.st_parse_builder.specs.Notations.{hole, marked, tick, notation_at, notation_place, notation_joined, atom_on, typ_in_parens}
-use Rattle.st_parse_builder.specs.Heights.{highest, typ_height, notation_height, notation_piece_height, notation_stack_height}
-use Rattle.st_parse_builder.specs.NotationBuilding.{Stack, put, operand_piece, top_notation, top_type, top_whole, top_place, put_part, the_typ, the_notation, applied, run}
+use Rattle.st_parse_builder.specs.Heights.{highest, typ_height, notation_height}
+use Rattle.st_parse_builder.specs.inner.PieceHeights.{notation_piece_height, notation_stack_height}
+use Rattle.st_parse_builder.specs.inner.NotationBuilding.{Stack, put, operand_piece, top_notation, top_type, top_whole, top_place, put_part, the_typ, the_notation, applied, run}
 use Rattle.st_parse_builder.proofs.Tallness.{highest_behind}
 use Rattle.st_parse_builder.proofs.NotationTallness.{tall_hole, tall_tuple, tall_typ_marked, tall_bracket, tall_sequence, tall_notation_joined, tall_absent, tall_atom_on}
 

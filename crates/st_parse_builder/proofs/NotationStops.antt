@@ -12,10 +12,11 @@ use Rattle.st_parse_builder.specs.declared.fault.BuildFault.TheVariants.{Unfit, 
 use Rattle.st_parse_builder.specs.declared.notation_entry.NotationEntry.{NotationEntry}
 use Rattle.st_parse_builder.specs.declared.notation_piece.NotationPiece.TheVariants.{Hole as a_type, Whole as whole}
 use Rattle.st_parse_builder.specs.Notations.{typ_meaning, notation_meaning}
-use Rattle.st_parse_builder.specs.Heights.{typ_height, notation_height, notation_stack_height}
-use Rattle.st_parse_builder.specs.Actions.{acts}
-use Rattle.st_parse_builder.specs.NotationBuilding.{Stack, top_notation, applied, run, the_typ, the_notation, typ_built, notation_built}
-use Rattle.st_parse_builder.specs.NotationAnswers.{Fails, Builds, pieces}
+use Rattle.st_parse_builder.specs.Heights.{typ_height, notation_height}
+use Rattle.st_parse_builder.specs.inner.PieceHeights.{notation_stack_height}
+use Rattle.st_parse_builder.specs.inner.Actions.{acts}
+use Rattle.st_parse_builder.specs.inner.NotationBuilding.{Stack, top_notation, applied, run, the_typ, the_notation, typ_built, notation_built}
+use Rattle.st_parse_builder.specs.inner.NotationAnswers.{Fails, Builds, pieces}
 use Rattle.st_parse_builder.proofs.NotationBuilds.{chain, typ_builds, notation_builds, one_notation}
 use Rattle.st_parse_builder.proofs.NotationGrowth.{on_some, grows_all}
 

@@ -10,12 +10,13 @@ use Rattle.st_parse_builder.specs.declared.piece.Piece.TheVariants.{Done}
 use Rattle.st_parse_builder.specs.declared.fault.BuildFault.{BuildFault}
 use Rattle.st_parse_builder.specs.declared.fault.BuildFault.TheVariants.{Unfit, TooHigh, Memory}
 use Rattle.st_parse_builder.specs.declared.entry.Entry.{Entry}
-use Rattle.st_parse_builder.specs.Pieces.{pieces}
+use Rattle.st_parse_builder.specs.inner.Pieces.{pieces}
 use Rattle.st_parse_builder.specs.Meaning.{meaning}
-use Rattle.st_parse_builder.specs.Heights.{height, stack_height}
-use Rattle.st_parse_builder.specs.Actions.{acts}
-use Rattle.st_parse_builder.specs.Building.{Stack, applied, run}
-use Rattle.st_parse_builder.specs.Answers.{IsUnfit, Fails, Builds, Means}
+use Rattle.st_parse_builder.specs.Heights.{height}
+use Rattle.st_parse_builder.specs.inner.PieceHeights.{stack_height}
+use Rattle.st_parse_builder.specs.inner.Actions.{acts}
+use Rattle.st_parse_builder.specs.inner.Building.{Stack, applied, run}
+use Rattle.st_parse_builder.specs.inner.Answers.{IsUnfit, Fails, Builds, Means}
 use Rattle.st_parse_builder.proofs.Builds.{chain, builds}
 use Rattle.st_parse_builder.proofs.Growth.{on_some, grows_all}
 

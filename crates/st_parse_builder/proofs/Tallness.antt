@@ -17,9 +17,11 @@ use Rattle.st_grammar.specs.declared.sort.Leaf.{Leaf}
 use Rattle.st_grammar.specs.declared.sort.Leaf.TheVariants as leaf
 use Rattle.st_el.specs.declared.expression.Seg.TheVariants as seg
 use Rattle.st_parse_builder.specs.Names.{name_of, number_of, literal_node, leaf_node}
-use Rattle.st_parse_builder.specs.Meaning.{exp, joined, is_notation, is_tilde, prefixed, is_star, is_plus, iterated, mark_count, in_parens, enclosed, is_extension, changed}
+use Rattle.st_num.specs.Signs.{is_notation}
+use Rattle.st_parse_builder.specs.Meaning.{exp, joined, is_tilde, prefixed, is_star, is_plus, iterated, mark_count, in_parens, enclosed, is_extension, changed}
 use Rattle.st_grammar.specs.Definitions.{is_minus}
-use Rattle.st_parse_builder.specs.Heights.{highest, height, seg_height, field_height, prefixed_height}
+use Rattle.st_parse_builder.specs.Heights.{highest, height, seg_height}
+use Rattle.st_parse_builder.specs.inner.PieceHeights.{field_height, prefixed_height}
 
 tall_sides : (b : Bool) (at : Span) (l : Exp) (m : Mark) (r : Exp) → height (exp at (if b then node.Infix l m r else node.Binary l m r)) ≡ max (height l) (height r) + 1
 tall_sides true at l m r = search (rules, the_lemmas)

@@ -1,7 +1,5 @@
 -- The height of a tree: each expression, type, notation and premise in it adds 1.
-use Rattle.std.specs.Prelude.{ℕ, ◌+◌, max, List, [], ◌∷◌, map, ◌||◌, if◌then◌else◌}
-use Rattle.st_num.specs.declared.mark.Mark.{Mark}
-use Rattle.st_grammar.specs.Definitions.{is_minus}
+use Rattle.std.specs.Prelude.{ℕ, ◌+◌, max, List, [], ◌∷◌, map}
 use Rattle.st_el.specs.declared.expression.Exp.{Exp, Exp-F, fold-Exp}
 use Rattle.st_el.specs.declared.expression.Count.TheOpen.{Count-F, Node-F, Seg-F}
 use Rattle.st_el.specs.declared.expression.Seg.{Seg, fold-Seg}
@@ -9,11 +7,6 @@ use Rattle.st_el.specs.declared.ty.Typ.{Typ, Typ-F, fold-Typ}
 use Rattle.st_el.specs.declared.ty.TypNode.TheOpen.{TypNode-F}
 use Rattle.st_el.specs.declared.notation.Notation.{Notation, Notation-F, fold-Notation}
 use Rattle.st_el.specs.declared.notation.NotNode.TheOpen.{NotNode-F}
-use Rattle.st_parse_builder.specs.Meaning.{is_tilde}
-use Rattle.st_parse_builder.specs.declared.piece.Piece.{Piece}
-use Rattle.st_parse_builder.specs.declared.piece.Piece.TheVariants.{Done, Parts, Fields, Path, Label, Here}
-use Rattle.st_parse_builder.specs.declared.notation_piece.NotationPiece.{NotationPiece}
-use Rattle.st_parse_builder.specs.declared.notation_piece.NotationPiece.TheVariants.{Hole as a_type, Whole as whole, Types as types, Elements as elements, From as from_place}
 
 -- the largest of these heights, and 0 where there is none
 abbrev pub highest : List ℕ → ℕ
@@ -88,34 +81,3 @@ height_notation_at n = n.node + 1
 
 abbrev pub notation_height : Notation → ℕ
 notation_height = fold-Notation ℕ ℕ height_not_node_at height_notation_at
-
--- ---- pieces
-
-abbrev pub field_height : List ℕ × Exp → ℕ
-field_height f = height f.1
-
-abbrev pub piece_height : Piece → ℕ
-piece_height (Done e) = height e
-piece_height (Parts at es) = highest (map height es)
-piece_height (Fields at fs) = highest (map field_height fs)
-piece_height (Path ps) = highest (map seg_height ps)
-piece_height (Label name) = 0
-piece_height (Here at) = 0
-
-abbrev pub stack_height : List Piece → ℕ
-stack_height s = highest (map piece_height s)
-
--- the height of a sign with a part of this height behind it: where it is no prefix sign, its left
--- side is absent
-abbrev pub prefixed_height : Mark → ℕ → ℕ
-prefixed_height m h = (if is_tilde m || is_minus m then h else max 1 h) + 1
-
-abbrev pub notation_piece_height : NotationPiece → ℕ
-notation_piece_height (a_type t) = typ_height t
-notation_piece_height (whole n) = notation_height n
-notation_piece_height (types at ts) = highest (map typ_height ts)
-notation_piece_height (elements at ns) = highest (map notation_height ns)
-notation_piece_height (from_place at) = 0
-
-abbrev pub notation_stack_height : List NotationPiece → ℕ
-notation_stack_height s = highest (map notation_piece_height s)

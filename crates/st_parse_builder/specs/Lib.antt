@@ -1,12 +1,14 @@
+-- What must be believed of the trees that tokens mean, in reading order.
+
+-- what one token stands for in a source tree
 pub mod Names
+-- the expression that a tree of the grammar means
 pub mod Meaning
+-- the type and the notation that a tree of the grammar means
 pub mod Notations
+-- the definitions that tokens mean
 pub mod Definitions
-pub mod Actions
-pub mod Emission
-pub mod Building
+-- how high a source tree is
 pub mod Heights
-pub mod Pieces
-pub mod Answers
-pub mod NotationBuilding
-pub mod NotationAnswers
+-- ---- what only proofs need
+pub mod inner

@@ -7,7 +7,7 @@ use Rattle.st_scan.specs.declared.token.Token.{Token}
 use Rattle.st_grammar.specs.declared.sort.Bracket.{Bracket}
 use Rattle.st_grammar.specs.declared.sort.Bracket.TheVariants.{Round as round, Brace as brace, TickRound as tick_round, TickSquare as tick_square, TickBrace as tick_brace}
 use Rattle.st_grammar.specs.Terminals.{Terminal, dot, sign}
-use Rattle.st_grammar.specs.Levels.{level_of}
+use Rattle.st_num.specs.Signs.{is_notation}
 use Rattle.st_grammar.specs.Trees.{Tree, operand, post, times, bracket, led, Lead, left, ahead, items, Trees, none, more, Heading, plain, length, arguments, index, segment, update, below, Path, head, field, part}
 use Rattle.st_grammar.specs.Definitions.{token_in, is_minus}
 use Rattle.st_el.specs.declared.expression.Exp.{Exp, out-Exp, roll-Exp}
@@ -39,11 +39,6 @@ abbrev pub nothing : Exp
 nothing = exp nowhere node.Eps
 
 -- ---- signs
-
--- The signs of the notation have the levels 7 to 12. The others between two sides are those of
--- logic, comparison, membership, `++` and arithmetic.
-abbrev pub is_notation : Mark → Bool
-is_notation m = nat_le 7 (level_of m) && nat_le (level_of m) 12
 
 abbrev pub joined_node : Exp → Mark → Exp → Node
 joined_node l m r = if is_notation m then node.Infix l m r else node.Binary l m r

@@ -6,11 +6,11 @@ ghost use Rattle.st_grammar.specs.Trees.{Tree};
 ghost use Rattle.st_grammar.specs.Grammar.{Fits};
 ghost use Rattle.st_parse_builder.specs.declared.piece.Piece.TheVariants as piece;
 ghost use Rattle.st_parse_builder.specs.Meaning.{meaning};
-ghost use Rattle.st_parse_builder.specs.Heights as tall;
-ghost use Rattle.st_parse_builder.specs.Actions.{acts};
-ghost use Rattle.st_parse_builder.specs.Building.{applied, run};
-ghost use Rattle.st_parse_builder.specs.Pieces.{pieces, Makes};
-ghost use Rattle.st_parse_builder.specs.Answers.{Fails, Overflows, Builds, Means};
+ghost use Rattle.st_parse_builder.specs.inner.PieceHeights as piece_heights;
+ghost use Rattle.st_parse_builder.specs.inner.Actions.{acts};
+ghost use Rattle.st_parse_builder.specs.inner.Building.{applied, run};
+ghost use Rattle.st_parse_builder.specs.inner.Pieces.{pieces, Makes};
+ghost use Rattle.st_parse_builder.specs.inner.Answers.{Fails, Overflows, Builds, Means};
 
 use crate::entry::{Entry, HIGHEST, Made};
 use crate::leaf::copy_name;
@@ -25,7 +25,7 @@ use std::alloc::Global;
 
 /// A piece with no expression in it.
 fn begun(piece: Piece) -> Made
-    requires { tall.piece_height piece ≡ 0 }
+    requires { piece_heights.piece_height piece ≡ 0 }
     ensures { result.piece ≡ piece }
 {
     Made { piece, height: 0 }

@@ -2,6 +2,7 @@
 
 ghost use Rattle.std.specs.Prelude.{◌≡◌, ◌≤◌, map};
 ghost use Rattle.st_parse_builder.specs.Heights as tall;
+ghost use Rattle.st_parse_builder.specs.inner.PieceHeights as piece_heights;
 
 use crate::Piece;
 use st_el::{Exp, Seg};
@@ -15,7 +16,7 @@ pub const HIGHEST: u8 = 100;
 pub struct Entry {
     pub piece: Piece,
     pub height: u8,
-    ghost measured: { height ≡ tall.piece_height piece },
+    ghost measured: { height ≡ piece_heights.piece_height piece },
     ghost low: { height ≤ 100 },
 }
 
@@ -24,7 +25,7 @@ pub struct Entry {
 pub struct Made {
     pub piece: Piece,
     pub height: u8,
-    ghost measured: { height ≡ tall.piece_height piece },
+    ghost measured: { height ≡ piece_heights.piece_height piece },
     ghost low: { height ≤ 101 },
 }
 
@@ -53,7 +54,7 @@ pub struct TallFields {
     pub at: Span,
     pub fields: Row<(Name, Exp)>,
     pub height: u8,
-    ghost measured: { height ≡ tall.highest (map tall.field_height fields) },
+    ghost measured: { height ≡ tall.highest (map piece_heights.field_height fields) },
     ghost low: { height ≤ 100 },
 }
 

@@ -4,7 +4,7 @@ ghost use Rattle.std.specs.Prelude.{◌≡◌, [], ◌∷◌, ◌++◌, IfOk};
 ghost use Rattle.st_el.specs.declared.expression.Node.{out-Node};
 ghost use Rattle.st_el.specs.declared.expression.Node.TheVariants as node;
 ghost use Rattle.st_parse_builder.specs.Names.{name_of};
-ghost use Rattle.st_parse_builder.specs.Building.{call_name};
+ghost use Rattle.st_parse_builder.specs.inner.Building.{call_name};
 ghost use Rattle.st_parse_builder.specs.Meaning as meaning;
 
 use crate::leaf::{copy_name, name_of};
@@ -14,27 +14,6 @@ use st_num::{Boxed, Mark, Name, NoMemory, Row, Span};
 use st_scan::Token;
 use std::alloc::Global;
 
-/// A sign of the notation, which is none of logic, comparison, membership, `++` or arithmetic.
-fn is_notation(mark: Mark) -> bool
-    ensures { result ≡ meaning.is_notation mark }
-{
-    match mark {
-        Mark::Turnstile
-        | Mark::ReverseTurnstile
-        | Mark::SquigglyArrow
-        | Mark::SquigglyArrowStar
-        | Mark::Colon
-        | Mark::Subtype
-        | Mark::Supertype
-        | Mark::Approximately
-        | Mark::Define
-        | Mark::Semicolon
-        | Mark::Arrow
-        | Mark::DotDot => true,
-        _ => false,
-    }
-}
-
 /// Two sides with a sign between them.
 pub(crate) fn joined(alloc: Global, left: Exp, mark: Mark, right: Exp) -> Result<Exp, NoMemory>
     ensures { IfOk result (λ exp. exp ≡ meaning.joined left mark right) }
@@ -42,7 +21,7 @@ pub(crate) fn joined(alloc: Global, left: Exp, mark: Mark, right: Exp) -> Result
     let at = left.at;
     let left = Boxed::new(alloc, left)?;
     let right = Boxed::new(alloc, right)?;
-    let node = if is_notation(mark) {
+    let node = if mark.is_notation() {
         Node::Infix(left, mark, right)
     } else {
         Node::Binary(left, mark, right)

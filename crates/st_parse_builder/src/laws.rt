@@ -13,11 +13,11 @@ ghost use Rattle.st_parse_builder.specs.declared.piece.Piece.TheVariants.{Done};
 ghost use Rattle.st_parse_builder.specs.declared.notation_piece.NotationPiece.TheVariants.{Hole};
 ghost use Rattle.st_parse_builder.specs.Meaning.{meaning};
 ghost use Rattle.st_parse_builder.specs.Notations.{typ_meaning};
-ghost use Rattle.st_parse_builder.specs.NotationBuilding as notations;
+ghost use Rattle.st_parse_builder.specs.inner.NotationBuilding as notations;
 ghost use Rattle.st_parse_builder.specs.Definitions.{Parse};
-ghost use Rattle.st_parse_builder.specs.Actions.{acts};
-ghost use Rattle.st_parse_builder.specs.Emission.{state_acts, emitted, emissions};
-ghost use Rattle.st_parse_builder.specs.Building.{Stack, run};
+ghost use Rattle.st_parse_builder.specs.inner.Actions.{acts};
+ghost use Rattle.st_parse_builder.specs.inner.Emission.{state_acts, emitted, emissions};
+ghost use Rattle.st_parse_builder.specs.inner.Building.{Stack, run};
 
 use st_grammar::{one_list, parts_are_read};
 

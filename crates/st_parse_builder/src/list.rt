@@ -2,8 +2,8 @@
 
 ghost use Rattle.std.specs.Prelude.{◌≡◌, IfOk};
 ghost use Rattle.st_parse_builder.specs.declared.action.Action.TheVariants as action;
-ghost use Rattle.st_parse_builder.specs.Building.{applied};
-ghost use Rattle.st_parse_builder.specs.Pieces.{pieces, Makes};
+ghost use Rattle.st_parse_builder.specs.inner.Building.{applied};
+ghost use Rattle.st_parse_builder.specs.inner.Pieces.{pieces, Makes};
 
 use crate::Piece;
 use crate::entry::{Entry, Made};

@@ -6,8 +6,9 @@ ghost use Rattle.st_parse_builder.specs.declared.piece.Piece.TheVariants as piec
 ghost use Rattle.st_parse_builder.specs.Names.{leaf_node};
 ghost use Rattle.st_parse_builder.specs.Meaning as meaning;
 ghost use Rattle.st_parse_builder.specs.Heights as tall;
-ghost use Rattle.st_parse_builder.specs.Building.{applied};
-ghost use Rattle.st_parse_builder.specs.Pieces.{pieces, Makes};
+ghost use Rattle.st_parse_builder.specs.inner.PieceHeights as piece_heights;
+ghost use Rattle.st_parse_builder.specs.inner.Building.{applied};
+ghost use Rattle.st_parse_builder.specs.inner.Pieces.{pieces, Makes};
 
 use crate::Piece;
 use crate::entry::{Entry, Made, Pair, Tall};
@@ -121,7 +122,7 @@ pub(crate) fn below(alloc: Global, stack: &mut Row<Entry>) -> Result<Option<Made
 /// The height of a sign with a part of this height behind it.
 fn prefixed_height(mark: Mark, height: u8) -> u8
     requires { height ≤ 100 }
-    ensures is { result ≡ tall.prefixed_height mark height }
+    ensures is { result ≡ piece_heights.prefixed_height mark height }
     ensures low { result ≤ 101 }
 {
     match mark {

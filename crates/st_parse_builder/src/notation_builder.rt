@@ -5,10 +5,11 @@ ghost use Rattle.st_grammar.specs.declared.sort.Sort.TheVariants.{Typ as typ, No
 ghost use Rattle.st_grammar.specs.Trees.{Tree};
 ghost use Rattle.st_grammar.specs.Grammar.{Fits};
 ghost use Rattle.st_parse_builder.specs.Heights as tall;
-ghost use Rattle.st_parse_builder.specs.Actions.{acts};
+ghost use Rattle.st_parse_builder.specs.inner.PieceHeights as piece_heights;
+ghost use Rattle.st_parse_builder.specs.inner.Actions.{acts};
 ghost use Rattle.st_parse_builder.specs.Notations.{typ_meaning, notation_meaning};
-ghost use Rattle.st_parse_builder.specs.NotationBuilding.{applied, run, the_typ, the_notation, typ_built, notation_built};
-ghost use Rattle.st_parse_builder.specs.NotationAnswers.{pieces, Makes, Fails, Builds};
+ghost use Rattle.st_parse_builder.specs.inner.NotationBuilding.{applied, run, the_typ, the_notation, typ_built, notation_built};
+ghost use Rattle.st_parse_builder.specs.inner.NotationAnswers.{pieces, Makes, Fails, Builds};
 
 use crate::entry::HIGHEST;
 use crate::notation_entry::{NotationEntry, NotationMade};
@@ -24,7 +25,7 @@ use std::alloc::Global;
 
 /// A piece with no type or notation in it.
 fn begun(piece: NotationPiece) -> NotationMade
-    requires { tall.notation_piece_height piece ≡ 0 }
+    requires { piece_heights.notation_piece_height piece ≡ 0 }
     ensures { result.piece ≡ piece }
 {
     NotationMade { piece, height: 0 }
@@ -74,7 +75,7 @@ fn make(
 fn finish(stack: &mut Row<NotationEntry>, made: NotationMade) -> Result<(), BuildFault>
     ensures ok { OnOk result (pieces stack.new ≡ made.piece ∷ pieces stack.old) }
     ensures err { IfErr result (λ fault.
-        Fails tall.notation_piece_height (Some made.piece) fault) }
+        Fails piece_heights.notation_piece_height (Some made.piece) fault) }
 {
     let NotationMade { piece, height } = made;
     if height > HIGHEST {
@@ -92,7 +93,7 @@ fn apply(
 ) -> Result<(), BuildFault>
     ensures ok { OnOk result (applied action.now (pieces stack.old) ≡ Some (pieces stack.new)) }
     ensures err { IfErr result (λ fault.
-        Fails tall.notation_stack_height (applied action.now (pieces stack.old)) fault) }
+        Fails piece_heights.notation_stack_height (applied action.now (pieces stack.old)) fault) }
 {
     let Some(made) = make(alloc, stack, action)? else {
         return Err(BuildFault::Unfit);
@@ -105,7 +106,7 @@ fn apply(
 fn apply_all(alloc: Global, actions: &[Action<'_>]) -> Result<Row<NotationEntry>, BuildFault>
     ensures ok { IfOk result (λ stack. run actions.now [] ≡ Some (pieces stack)) }
     ensures err { IfErr result (λ fault.
-        Fails tall.notation_stack_height (run actions.now []) fault) }
+        Fails piece_heights.notation_stack_height (run actions.now []) fault) }
 {
     let mut stack = Row::new(alloc);
     'actions: for action in actions {

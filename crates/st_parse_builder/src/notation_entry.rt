@@ -2,6 +2,7 @@
 
 ghost use Rattle.std.specs.Prelude.{◌≡◌, ◌≤◌, map};
 ghost use Rattle.st_parse_builder.specs.Heights as tall;
+ghost use Rattle.st_parse_builder.specs.inner.PieceHeights as piece_heights;
 
 use crate::NotationPiece;
 use st_el::{Notation, Typ};
@@ -12,7 +13,7 @@ use st_num::{Row, Span};
 pub struct NotationEntry {
     pub piece: NotationPiece,
     pub height: u8,
-    ghost measured: { height ≡ tall.notation_piece_height piece },
+    ghost measured: { height ≡ piece_heights.notation_piece_height piece },
     ghost low: { height ≤ 100 },
 }
 
@@ -21,7 +22,7 @@ pub struct NotationEntry {
 pub struct NotationMade {
     pub piece: NotationPiece,
     pub height: u8,
-    ghost measured: { height ≡ tall.notation_piece_height piece },
+    ghost measured: { height ≡ piece_heights.notation_piece_height piece },
     ghost low: { height ≤ 102 },
 }
 

@@ -5,8 +5,8 @@ ghost use Rattle.st_parse_builder.specs.declared.action.Action.TheVariants as ac
 ghost use Rattle.st_parse_builder.specs.declared.notation_piece.NotationPiece.TheVariants as piece;
 ghost use Rattle.st_parse_builder.specs.Heights as tall;
 ghost use Rattle.st_parse_builder.specs.Notations as notations;
-ghost use Rattle.st_parse_builder.specs.NotationBuilding.{operand_piece, put_part, applied};
-ghost use Rattle.st_parse_builder.specs.NotationAnswers.{pieces, Makes};
+ghost use Rattle.st_parse_builder.specs.inner.NotationBuilding.{operand_piece, put_part, applied};
+ghost use Rattle.st_parse_builder.specs.inner.NotationAnswers.{pieces, Makes};
 
 use crate::NotationPiece;
 use crate::make::higher;

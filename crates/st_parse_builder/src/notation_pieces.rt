@@ -2,8 +2,8 @@
 
 ghost use Rattle.std.specs.Prelude.{◌≡◌, [], ◌∷◌, OnOk, MatchOption, None, Some};
 ghost use Rattle.st_parse_builder.specs.declared.notation_piece.NotationPiece.TheVariants as piece;
-ghost use Rattle.st_parse_builder.specs.NotationBuilding.{top_notation, top_type, top_whole, top_place};
-ghost use Rattle.st_parse_builder.specs.NotationAnswers.{pieces};
+ghost use Rattle.st_parse_builder.specs.inner.NotationBuilding.{top_notation, top_type, top_whole, top_place};
+ghost use Rattle.st_parse_builder.specs.inner.NotationAnswers.{pieces};
 
 use crate::NotationPiece;
 use crate::notation_entry::{NotationEntry, TallNotation, TallTyp};

@@ -3,8 +3,8 @@
 ghost use Rattle.std.specs.Prelude.{◌≡◌, [], ◌∷◌, ◌↔◌, IsTrue, IsFalse, OnOk, MatchOption};
 ghost use Rattle.st_parse_builder.specs.declared.piece.Piece.TheVariants as piece;
 ghost use Rattle.st_parse_builder.specs.Heights as tall;
-ghost use Rattle.st_parse_builder.specs.Building.{top_done, top_parts, top_fields, top_path, top_pair, top_whole, top_label, top_place};
-ghost use Rattle.st_parse_builder.specs.Pieces.{pieces};
+ghost use Rattle.st_parse_builder.specs.inner.Building.{top_done, top_parts, top_fields, top_path, top_pair, top_whole, top_label, top_place};
+ghost use Rattle.st_parse_builder.specs.inner.Pieces.{pieces};
 
 use crate::Piece;
 use crate::entry::{Entry, Pair, Tall, TallFields, TallParts, TallPath};

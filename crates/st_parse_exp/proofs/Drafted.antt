@@ -17,20 +17,21 @@ use Rattle.st_el.specs.declared.expression.Exp.{Exp}
 use Rattle.st_parse_builder.specs.declared.action.Action.{Action}
 use Rattle.st_parse_builder.specs.Meaning.{meaning, meanings}
 use Rattle.st_parse_builder.specs.Heights.{height}
-use Rattle.st_parse_builder.specs.Actions.{acts}
+use Rattle.st_parse_builder.specs.inner.Actions.{acts}
 use Rattle.st_parse_builder.proofs.Tallness.{highest_behind}
 use Rattle.st_parse_automaton.specs.declared.part_automaton.Expected.TheVariants.{Operand}
-use Rattle.st_parse_automaton.specs.PartAutomaton as parts
+use Rattle.st_parse_automaton.specs.inner.PartAutomaton as parts
 use Rattle.st_parse_automaton.specs.declared.part_automaton.Shape.{Shape}
-use Rattle.st_parse_automaton.specs.Shapes.{shape}
+use Rattle.st_parse_automaton.specs.inner.Shapes.{shape}
 use Rattle.st_parse_automaton.proofs.View.{state_of}
 use Rattle.st_parse_automaton.proofs.Simulation.{step_is}
 use Rattle.st_parse_automaton.proofs.DefinitionSimulation.{is_some}
-use Rattle.st_parse_actions.specs.Emits.{kept, emits, finishing, on_next, emissions}
+use Rattle.st_parse_actions.specs.inner.Emits.{kept, emits, finishing, on_next, emissions}
 use Rattle.st_parse_actions.proofs.Whole.{part_emits}
 use Rattle.st_parse_exp.specs.Reading.{State, begun, turn, goes, step, start}
-use Rattle.st_parse_exp.specs.Faults.{Seen, passed, opens_too_many, passes_limit, limited, seen_after, judged, judge}
-use Rattle.st_parse_exp.specs.Drafts.{IsBuilt, AreBuilt, with_exp, Draft, draft, Ends, Takes}
+use Rattle.st_parse_faults.specs.Judging.{passed, limited}
+use Rattle.st_parse_exp.specs.Faults.{Seen, opens_too_many, passes_limit, seen_after, judged, judge}
+use Rattle.st_parse_exp.specs.inner.Drafts.{IsBuilt, AreBuilt, with_exp, Draft, draft, Ends, Takes}
 use Rattle.st_parse_exp.proofs.Readings.{at, comma_ends}
 
 -- ---- one more expression

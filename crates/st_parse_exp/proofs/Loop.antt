@@ -1,6 +1,5 @@
 -- The loop over the tokens of expressions.
 use Rattle.std.proofs.Common.{◌≡◌, ℕ, ◌+◌, ◌≤◌, ◌<◌, inl, inr, List, length, take, get_or, Bool, true, false, Option, Some, None, refl, sym, ap, subst, ◌∙◌, arith}
-use Rattle.std.proofs.lemmas.List.{take_all}
 use Rattle.st_num.specs.declared.rule.RuleId.{RuleId}
 use Rattle.st_num.specs.declared.rule.RuleId.TheVariants.{S1}
 use Rattle.st_scan.specs.declared.token.Token.{Token}
@@ -10,21 +9,23 @@ use Rattle.st_grammar.specs.Reading as part
 use Rattle.st_grammar.specs.Positions as positions
 use Rattle.st_grammar.proofs.PositionTexts as texts
 use Rattle.st_parse_automaton.specs.declared.position.TokenClass.{TokenClass}
-use Rattle.st_parse_automaton.specs.DefinitionAutomaton as definitions
-use Rattle.st_parse_automaton.specs.Shapes.{class_of}
-use Rattle.st_parse_automaton.specs.Readings.{progress_of}
+use Rattle.st_parse_automaton.specs.inner.DefinitionAutomaton as definitions
+use Rattle.st_parse_automaton.specs.inner.Shapes.{class_of}
+use Rattle.st_parse_automaton.specs.inner.Readings.{progress_of}
 use Rattle.st_parse_automaton.proofs.DefinitionSimulation.{is_some}
 use Rattle.st_parse_faults.specs.declared.judge.Seen.{Seen as CodeSeen}
 use Rattle.st_parse_faults.specs.declared.judge.Verdict.{Verdict as Code}
 use Rattle.st_parse_faults.specs.declared.judge.Verdict.TheVariants as code
-use Rattle.st_parse_faults.specs.Seen as seen
+use Rattle.st_parse_faults.specs.inner.Seen as seen
 use Rattle.st_parse_exp.specs.Expressions.{terminals_of}
 use Rattle.st_parse_exp.specs.Reading.{whole}
-use Rattle.st_parse_exp.specs.Faults.{Seen, Verdict, passed, broken, judge, judge_all, verdict, nothing_seen, Faultless, FirstFault}
-use Rattle.st_parse_exp.specs.Seen as spec
+use Rattle.st_parse_faults.specs.Judging.{Verdict, passed, broken}
+use Rattle.st_parse_exp.specs.Faults.{Seen, judge, verdict, nothing_seen, Faultless, FirstFault}
+use Rattle.st_parse_exp.specs.inner.Seen as spec
 use Rattle.st_parse_exp.proofs.Readings.{reached}
 use Rattle.st_parse_exp.proofs.SeenView.{slot, rule_holds, summary_of, verdict_view, judge_is, may_end_as}
-use Rattle.st_parse_exp.proofs.Verdicts.{judge_next, verdict_more, verdict_reads}
+use Rattle.st_parse_faults.proofs.JudgingLemmas as judging
+use Rattle.st_parse_exp.proofs.Verdicts.{verdict_reads}
 
 -- these tokens passed up to here
 abbrev pub Passes : List (List ℕ) → List Token → ℕ → CodeSeen → Type 0
@@ -35,11 +36,11 @@ passes_holds names tokens k s e =
     let r = reached (take k (terminals_of names tokens)) s.state (verdict_reads names tokens k s e) in
     rule_holds s.state.here r.now r.read
 
-pub view_passes : (v : Verdict) (w : seen.Summary) → verdict_view v ≡ seen.passed w → (s : Seen) × (v ≡ passed s) × (summary_of s ≡ w)
+pub view_passes : (v : Verdict Seen) (w : seen.Summary) → verdict_view v ≡ seen.passed w → (s : Seen) × (v ≡ passed s) × (summary_of s ≡ w)
 view_passes (passed s) w e = (s, refl, cc)
 view_passes (broken r) w e = absurd (cc)
 
-pub view_breaks : (v : Verdict) (r : RuleId) → verdict_view v ≡ seen.broken r → v ≡ broken r
+pub view_breaks : (v : Verdict Seen) (r : RuleId) → verdict_view v ≡ seen.broken r → v ≡ broken r
 view_breaks (passed s) r e = absurd (cc)
 view_breaks (broken q) r e = let f : q ≡ r = cc in ap broken f
 
@@ -53,8 +54,8 @@ at_token tokens names i x l p w h (s, e, o) t k f =
     ∙ ap (λ v. spec.judge v x.kind (class_of (terminal names x))) (sym o)
     ∙ judge_is names s x (passes_holds names tokens i s e)
     ∙ ap (λ y. verdict_view (judge names s y)) t
-    ∙ ap (λ v. verdict_view (judge_next names v (get_or tokens i x))) (sym e)
-    ∙ ap verdict_view (sym (verdict_more names tokens i x h))
+    ∙ ap (λ v. verdict_view (judging.judge_next Seen (judge names) v (get_or tokens i x))) (sym e)
+    ∙ ap verdict_view (sym (judging.verdict_more Seen (judge names) nothing_seen tokens i x h))
 
 pub token_passes : (tokens : List Token) (names : List (List ℕ)) (i : ℕ) (x : Token) (l : TokenClass) (p : CodeSeen) (v : Code) (q : CodeSeen) → i < length tokens → Passes names tokens i p
     → x ≡ get_or tokens i x → l ≡ class_of (terminal names x) → seen.verdict_of v ≡ spec.judge (seen.summary_of p) x.kind l → v ≡ code.Passed q
@@ -74,11 +75,6 @@ token_breaks tokens names i x l p v r h a t k f e =
           (sym (at_token tokens names i x l p (seen.verdict_of v) h a t k f) ∙ ap seen.verdict_of e),
     )
 
-pub all_tokens : (names : List (List ℕ)) (tokens : List Token) (i : ℕ) → length tokens ≤ i → verdict names tokens i ≡ verdict names tokens (length tokens)
-all_tokens names tokens i h =
-    let same : take i tokens ≡ take (length tokens) tokens = take_all i tokens h ∙ sym (take_all (length tokens) tokens (omega arith)) in
-    ap (judge_all names (passed nothing_seen)) same
-
 whole_some : (s : Seen) (q : Option Tree) → is_some q ≡ true → (ts : Trees) × (whole s.state q ≡ Some ts)
 whole_some s None e = absurd (cc)
 whole_some s (Some t) e = (_, refl)
@@ -91,13 +87,13 @@ pub ends_well : (names : List (List ℕ)) (tokens : List Token) (i : ℕ) (p : C
 ends_well names tokens i p b h (s, e, o) f t =
     let yes : is_some (part.finish s.state.here) ≡ true = sym (may_end_as s (passes_holds names tokens i s e)) ∙ ap (λ v. definitions.may_end v.state) o ∙ sym f ∙ t in
     let r = whole_some s (part.finish s.state.here) yes in
-    (s, r.0, sym (all_tokens names tokens i h) ∙ e, r.1)
+    (s, r.0, sym (judging.all_tokens Seen (judge names) nothing_seen tokens i h) ∙ e, r.1)
 
 pub ends_early : (names : List (List ℕ)) (tokens : List Token) (i : ℕ) (p : CodeSeen) (b : Bool) → length tokens ≤ i → Passes names tokens i p → b ≡ definitions.may_end (progress_of p.progress) → b ≡ false
     → FirstFault names tokens (length tokens) S1
 ends_early names tokens i p b h (s, e, o) f t =
     let no : is_some (part.finish s.state.here) ≡ false = sym (may_end_as s (passes_holds names tokens i s e)) ∙ ap (λ v. definitions.may_end v.state) o ∙ sym f ∙ t in
-    inr (refl, refl, (s, sym (all_tokens names tokens i h) ∙ e, whole_none s (part.finish s.state.here) no))
+    inr (refl, refl, (s, sym (judging.all_tokens Seen (judge names) nothing_seen tokens i h) ∙ e, whole_none s (part.finish s.state.here) no))
 
 pub bounded : (v : Code) (q : CodeSeen) → v ≡ code.Passed q → seen.IsBounded v → seen.SeenKept q
 bounded v q e b = subst seen.IsBounded e b

@@ -15,13 +15,13 @@ use Rattle.st_grammar.proofs.Steps as steps
 use Rattle.st_el.specs.declared.expression.Exp.{Exp}
 use Rattle.st_parse_builder.specs.Meaning.{meaning, meanings}
 use Rattle.st_parse_builder.specs.Heights.{highest, height}
-use Rattle.st_parse_builder.specs.Actions.{acts}
+use Rattle.st_parse_builder.specs.inner.Actions.{acts}
 use Rattle.st_parse_automaton.specs.declared.position.TokenClass.{TokenClass}
 use Rattle.st_parse_automaton.specs.declared.position.Slot.{Slot}
-use Rattle.st_parse_automaton.specs.PartAutomaton as parts
-use Rattle.st_parse_automaton.specs.DefinitionAutomaton as definitions
-use Rattle.st_parse_automaton.specs.Shapes.{class_of}
-use Rattle.st_parse_automaton.specs.Readings.{progress_of}
+use Rattle.st_parse_automaton.specs.inner.PartAutomaton as parts
+use Rattle.st_parse_automaton.specs.inner.DefinitionAutomaton as definitions
+use Rattle.st_parse_automaton.specs.inner.Shapes.{class_of}
+use Rattle.st_parse_automaton.specs.inner.Readings.{progress_of}
 use Rattle.st_parse_automaton.proofs.View.{state_of}
 use Rattle.st_parse_automaton.proofs.DefinitionView.{definitions_of, slot_of, slot_open}
 use Rattle.st_parse_automaton.proofs.DefinitionSimulation.{is_some}
@@ -29,21 +29,23 @@ use Rattle.st_parse_faults.specs.declared.judge.Seen.{Seen as CodeSeen}
 use Rattle.st_parse_faults.specs.declared.judge.Verdict.{Verdict as Code}
 use Rattle.st_parse_faults.specs.declared.judge.Verdict.TheVariants as code
 use Rattle.st_parse_faults.specs.Place.{place_at}
-use Rattle.st_parse_faults.specs.Seen as seen
-use Rattle.st_parse_actions.specs.Emits.{finishing}
+use Rattle.st_parse_faults.specs.inner.Seen as seen
+use Rattle.st_parse_actions.specs.inner.Emits.{finishing}
 use Rattle.st_num.specs.declared.fault.Fault.{Fault as SyntaxFault}
 use Rattle.st_num.specs.declared.fault.Fault.TheVariants.{Refused, Memory}
 use Rattle.st_parse_exp.specs.Expressions.{ParseExpressions, terminals_of}
 use Rattle.st_parse_exp.specs.Reading.{finish, whole}
-use Rattle.st_parse_exp.specs.Faults.{Seen, passed, judge, verdict, FirstFault}
-use Rattle.st_parse_exp.specs.Seen as spec
-use Rattle.st_parse_exp.specs.Drafts.{AreBuilt, Draft, Takes}
+use Rattle.st_parse_faults.specs.Judging.{passed}
+use Rattle.st_parse_exp.specs.Faults.{Seen, judge, verdict, nothing_seen, FirstFault}
+use Rattle.st_parse_exp.specs.inner.Seen as spec
+use Rattle.st_parse_exp.specs.inner.Drafts.{AreBuilt, Draft, Takes}
 use Rattle.st_parse_exp.specs.Parse.{ParseExps, IsFile, AreWhole, Answers}
 use Rattle.st_parse_exp.proofs.Readings.{one_list, sound}
 use Rattle.st_parse_exp.proofs.SeenView.{slot, summary_of, separates_is, may_end_as}
-use Rattle.st_parse_exp.proofs.Verdicts.{judge_next, verdict_more, verdict_reads}
+use Rattle.st_parse_faults.proofs.JudgingLemmas.{judge_next, verdict_more, all_tokens}
+use Rattle.st_parse_exp.proofs.Verdicts.{verdict_reads}
 use Rattle.st_parse_exp.proofs.Exact.{whole_list}
-use Rattle.st_parse_exp.proofs.Loop.{Passes, passes_holds, token_passes, all_tokens}
+use Rattle.st_parse_exp.proofs.Loop.{Passes, passes_holds, token_passes}
 use Rattle.st_parse_exp.proofs.Drafted.{DraftOf, drafted, end_acts}
 
 -- these tokens passed up to here, and this is built of them
@@ -74,8 +76,8 @@ token_drafts tokens names i x l p v q d e h (s, f, o, r) t k g c n =
     ∙ separates_is s lx (passes_holds names tokens i s f) in
     let one : judge names s x ≡ passed next.0 =
     ap (judge names s) t
-    ∙ ap (λ w. judge_next names w (get_or tokens i x)) (sym f)
-    ∙ sym (verdict_more names tokens i x h)
+    ∙ ap (λ w. judge_next Seen (judge names) w (get_or tokens i x)) (sym f)
+    ∙ sym (verdict_more Seen (judge names) nothing_seen tokens i x h)
     ∙ next.1 in
     let taken : Takes (spec.separates (progress_of p.progress) l) (state_of s.state.here) l.shape x d e = n (slot_of slot) (state_of s.state.here) (slot_open slot) inside in (
       next.0,
@@ -112,7 +114,7 @@ answers names tokens i p d b result h (s, e, o, r) f t n =
     let u = found (part.finish s.state.here) yes in
     let fits = (steps.sound (expression false) r.now s.state.here u.0 r.read u.1).fits in
     let ts = more s.state.before s.state.apart u.0 in
-    let last : verdict names tokens (length tokens) ≡ passed s = sym (all_tokens names tokens i h) ∙ e in
+    let last : verdict names tokens (length tokens) ≡ passed s = sym (all_tokens Seen (judge names) nothing_seen tokens i h) ∙ e in
     let trees : finish s.state ≡ Some ts = ap (whole s.state) u.1 in
     let grammar = sound (take (length tokens) (terminals_of names tokens)) s.state ts (verdict_reads names tokens (length tokens) s last) trees in
     whole_answers names tokens (meanings s.state.before ++ meaning u.0 ∷ []) result

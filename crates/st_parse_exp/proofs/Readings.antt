@@ -5,7 +5,8 @@ use Rattle.st_scan.specs.declared.token.Token.{Token}
 use Rattle.st_grammar.specs.declared.sort.Style.TheVariants.{Parts as parts}
 use Rattle.st_grammar.specs.declared.sort.Sort.TheVariants.{Expression as expression}
 use Rattle.st_grammar.specs.Terminals.{Terminal, sign, terminal}
-use Rattle.st_grammar.specs.Levels.{level_of, left_of, is_comma}
+use Rattle.st_num.specs.Signs.{level as level_of}
+use Rattle.st_grammar.specs.Levels.{left_of, is_comma}
 use Rattle.st_grammar.specs.Trees.{Tree, left, Trees, none, more, text, texts}
 use Rattle.st_grammar.specs.Grammar.{level, SetsOff, Fits, EachFits}
 use Rattle.st_grammar.specs.Definitions.{signed}

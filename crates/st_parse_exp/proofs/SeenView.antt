@@ -27,8 +27,8 @@ use Rattle.st_grammar.proofs.PositionComplete as complete
 use Rattle.st_grammar.proofs.PositionSteps.{signed_is}
 use Rattle.st_grammar.proofs.PositionTexts as texts
 use Rattle.st_grammar.proofs.Sound as sound
-use Rattle.st_parse_automaton.specs.DefinitionAutomaton as definitions
-use Rattle.st_parse_automaton.specs.Shapes.{class_of}
+use Rattle.st_parse_automaton.specs.inner.DefinitionAutomaton as definitions
+use Rattle.st_parse_automaton.specs.inner.Shapes.{class_of}
 use Rattle.st_parse_automaton.proofs.DefinitionView.{definitions_of}
 use Rattle.st_parse_automaton.proofs.DefinitionSimulation.{may_end_is, is_some}
 use Rattle.st_parse_automaton.proofs.Loop as loop
@@ -36,11 +36,12 @@ use Rattle.st_parse_faults.specs.declared.before.Before.TheVariants as before
 use Rattle.st_parse_faults.specs.Counts.{no_counts}
 use Rattle.st_parse_faults.specs.LeftOut.{is_type_in, type_or_other, before_next, left_out}
 use Rattle.st_parse_faults.specs.Faults as defs
-use Rattle.st_parse_faults.specs.Seen as judging
+use Rattle.st_parse_faults.specs.inner.Seen as judging
 use Rattle.st_parse_faults.proofs.SeenView as view
 use Rattle.st_parse_exp.specs.Reading.{begun, turn, goes, step}
-use Rattle.st_parse_exp.specs.Faults.{Seen, Verdict, passed, broken, opens_too_many, passes_limit, refusal, limited, seen_after, judged, judge}
-use Rattle.st_parse_exp.specs.Seen as spec
+use Rattle.st_parse_faults.specs.Judging.{Verdict, passed, broken, limited}
+use Rattle.st_parse_exp.specs.Faults.{Seen, opens_too_many, passes_limit, refusal, seen_after, judged, judge}
+use Rattle.st_parse_exp.specs.inner.Seen as spec
 use Rattle.st_parse_exp.proofs.Readings.{comma_ends}
 
 -- ---- the rule
@@ -82,7 +83,7 @@ as_rule s = record { state = positions.inside slot s.state.here; nesting = s.nes
 abbrev pub summary_of : Seen → judging.Summary
 summary_of s = view.summary (as_rule s)
 
-abbrev pub verdict_view : Verdict → judging.Verdict
+abbrev pub verdict_view : Verdict Seen → judging.Verdict
 verdict_view (passed s) = judging.passed (summary_of s)
 verdict_view (broken r) = judging.broken r
 

@@ -1,14 +1,14 @@
 //! The verdict on one token of expressions.
 
 ghost use Rattle.std.specs.Prelude.{◌≡◌, ◌≤◌, IfOk, [], reverse};
-ghost use Rattle.st_parse_faults.specs.Seen as seen;
-ghost use Rattle.st_parse_automaton.specs.DefinitionAutomaton as definitions;
+ghost use Rattle.st_parse_faults.specs.inner.Seen as seen;
+ghost use Rattle.st_parse_automaton.specs.inner.DefinitionAutomaton as definitions;
 ghost use Rattle.st_parse_automaton.specs.declared.position.Slot.TheVariants as slot;
-ghost use Rattle.st_parse_automaton.specs.Readings.{progress_of};
-ghost use Rattle.st_parse_exp.specs.Seen as spec;
+ghost use Rattle.st_parse_automaton.specs.inner.Readings.{progress_of};
+ghost use Rattle.st_parse_exp.specs.inner.Seen as spec;
 
 use st_num::{Mark, NoMemory, Row, RuleId};
-use st_parse_automaton::{Expected, TokenClass, Progress, Reading, Shape, Slot, may_end};
+use st_parse_automaton::{Expected, Progress, Reading, Shape, Slot, TokenClass, may_end};
 use st_parse_faults::{Seen, Verdict, judge_token, nothing_counted};
 use st_scan::TokenKind;
 use std::alloc::Global;

@@ -15,7 +15,7 @@ ghost use Rattle.st_parse_exp.specs.Faults.{Faultless, FirstFault};
 /// The tokens of expressions have one list of trees.
 #[tactic(auto, using(crate::proofs::Readings::one_list))]
 pub fn one_list_of_expressions()
-    ensures { (us : List TokenClass) (a b : Trees)
+    ensures { (us : List Terminal) (a b : Trees)
         → ParseExpressions us a → ParseExpressions us b → a ≡ b }
 {}
 
@@ -28,14 +28,14 @@ pub fn one_meaning()
 /// Expressions are read as their trees, tokens are read exactly where some further tokens make
 /// expressions, and what is read and may end is expressions.
 pub fn expressions_are_read()
-    ensures complete { (us : List TokenClass) (ts : Trees)
+    ensures complete { (us : List Terminal) (ts : Trees)
         → ParseExpressions us ts → read.reads read.start us ≡ Some ts }
-    ensures sound { (us : List TokenClass) (st : read.State) (ts : Trees)
+    ensures sound { (us : List Terminal) (st : read.State) (ts : Trees)
         → read.reading read.start us ≡ Some st → read.finish st ≡ Some ts
         → ParseExpressions us ts }
-    ensures viable { (names : List (List ℕ)) (us : List TokenClass) (st : read.State)
+    ensures viable { (names : List (List ℕ)) (us : List Terminal) (st : read.State)
         → read.reading read.start us ≡ Some st → ViableExpressions names us }
-    ensures dead { (names : List (List ℕ)) (us : List TokenClass)
+    ensures dead { (names : List (List ℕ)) (us : List Terminal)
         → read.reading read.start us ≡ None → ViableExpressions names us → ⊥ }
 {}
 

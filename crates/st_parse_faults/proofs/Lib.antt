@@ -3,6 +3,7 @@ pub mod Tallies
 pub mod TallyMoves
 pub mod PositionTallies
 pub mod SeenView
+pub mod JudgingLemmas
 pub mod Verdicts
 pub mod Loop
 pub mod Exact

@@ -1,6 +1,5 @@
 -- The loop over the tokens.
 use Rattle.std.proofs.Common.{◌≡◌, ℕ, ◌+◌, ◌≤◌, ◌<◌, inl, inr, List, length, take, get_or, Bool, true, false, refl, sym, ap, subst, ◌∙◌, arith}
-use Rattle.std.proofs.lemmas.List.{take_all}
 use Rattle.st_num.specs.declared.rule.RuleId.{RuleId}
 use Rattle.st_num.specs.declared.rule.RuleId.TheVariants.{S1}
 use Rattle.st_scan.specs.declared.token.Token.{Token}
@@ -8,19 +7,21 @@ use Rattle.st_grammar.specs.Terminals.{terminal, declared_names}
 use Rattle.st_grammar.specs.Positions.{finish}
 use Rattle.st_grammar.proofs.PositionTexts.{Holds}
 use Rattle.st_parse_automaton.specs.declared.position.TokenClass.{TokenClass}
-use Rattle.st_parse_automaton.specs.DefinitionAutomaton as definitions
-use Rattle.st_parse_automaton.specs.Shapes.{class_of}
-use Rattle.st_parse_automaton.specs.Readings.{progress_of}
+use Rattle.st_parse_automaton.specs.inner.DefinitionAutomaton as definitions
+use Rattle.st_parse_automaton.specs.inner.Shapes.{class_of}
+use Rattle.st_parse_automaton.specs.inner.Readings.{progress_of}
 use Rattle.st_parse_automaton.specs.Refusal.{terminals_of}
 use Rattle.st_parse_automaton.proofs.DefinitionSimulation.{may_end_is, is_some}
 use Rattle.st_parse_automaton.proofs.Loop.{holds, found, not_found}
 use Rattle.st_parse_faults.specs.declared.judge.Seen.{Seen as CodeSeen}
 use Rattle.st_parse_faults.specs.declared.judge.Verdict.{Verdict as Code}
 use Rattle.st_parse_faults.specs.declared.judge.Verdict.TheVariants as code
-use Rattle.st_parse_faults.specs.Faults.{Seen, Verdict, passed, broken, judge, judge_all, verdict, Faultless, FirstFault}
-use Rattle.st_parse_faults.specs.Seen as seen
+use Rattle.st_parse_faults.specs.Judging.{Verdict, passed, broken}
+use Rattle.st_parse_faults.specs.Faults.{Seen, judge, verdict, nothing_seen, Faultless, FirstFault}
+use Rattle.st_parse_faults.specs.inner.Seen as seen
 use Rattle.st_parse_faults.proofs.SeenView.{summary, view, judge_is}
-use Rattle.st_parse_faults.proofs.Verdicts.{judge_next, verdict_more, verdict_reads}
+use Rattle.st_parse_faults.proofs.JudgingLemmas as judging
+use Rattle.st_parse_faults.proofs.Verdicts.{verdict_reads}
 
 -- these tokens passed up to here
 abbrev pub Passes : List Token → ℕ → CodeSeen → Type 0
@@ -29,11 +30,11 @@ Passes tokens k p = (s : Seen) × (verdict tokens k ≡ passed s) × (summary s 
 pub passes_holds : (tokens : List Token) (k : ℕ) (s : Seen) → verdict tokens k ≡ passed s → Holds s.state
 passes_holds tokens k s e = holds (take k (terminals_of tokens)) s.state (verdict_reads tokens k s e)
 
-pub view_passes : (v : Verdict) (w : seen.Summary) → view v ≡ seen.passed w → (s : Seen) × (v ≡ passed s) × (summary s ≡ w)
+pub view_passes : (v : Verdict Seen) (w : seen.Summary) → view v ≡ seen.passed w → (s : Seen) × (v ≡ passed s) × (summary s ≡ w)
 view_passes (passed s) w e = (s, refl, cc)
 view_passes (broken r) w e = absurd (cc)
 
-pub view_breaks : (v : Verdict) (r : RuleId) → view v ≡ seen.broken r → v ≡ broken r
+pub view_breaks : (v : Verdict Seen) (r : RuleId) → view v ≡ seen.broken r → v ≡ broken r
 view_breaks (passed s) r e = absurd (cc)
 view_breaks (broken q) r e = let f : q ≡ r = cc in ap broken f
 
@@ -48,8 +49,8 @@ at_token tokens names i x l p w h (s, e, o) t g k f =
     ∙ judge_is names s x (passes_holds tokens i s e)
     ∙ ap (λ y. view (judge names s y)) t
     ∙ ap (λ ns. view (judge ns s (get_or tokens i x))) g
-    ∙ ap (λ v. view (judge_next (declared_names tokens) v (get_or tokens i x))) (sym e)
-    ∙ ap view (sym (verdict_more tokens i x h))
+    ∙ ap (λ v. view (judging.judge_next Seen (judge (declared_names tokens)) v (get_or tokens i x))) (sym e)
+    ∙ ap view (sym (judging.verdict_more Seen (judge (declared_names tokens)) nothing_seen tokens i x h))
 
 pub token_passes : (tokens : List Token) (names : List (List ℕ)) (i : ℕ) (x : Token) (l : TokenClass) (p : CodeSeen) (v : Code) (q : CodeSeen) → i < length tokens → Passes tokens i p
     → x ≡ get_or tokens i x → names ≡ declared_names tokens → l ≡ class_of (terminal names x) → seen.verdict_of v ≡ seen.judge (seen.summary_of p) x.kind l → v ≡ code.Passed q
@@ -69,22 +70,17 @@ token_breaks tokens names i x l p v r h a t g k f e =
           (sym (at_token tokens names i x l p (seen.verdict_of v) h a t g k f) ∙ ap seen.verdict_of e),
     )
 
-pub all_tokens : (tokens : List Token) (i : ℕ) → length tokens ≤ i → verdict tokens i ≡ verdict tokens (length tokens)
-all_tokens tokens i h =
-    let same : take i tokens ≡ take (length tokens) tokens = take_all i tokens h ∙ sym (take_all (length tokens) tokens (omega arith)) in
-    ap (judge_all (declared_names tokens) _) same
-
 pub ends_well : (tokens : List Token) (i : ℕ) (p : CodeSeen) (b : Bool) → length tokens ≤ i → Passes tokens i p → b ≡ definitions.may_end (progress_of p.progress) → b ≡ true → Faultless tokens
 ends_well tokens i p b h (s, e, o) f t =
     let yes : is_some (finish s.state) ≡ true = sym (may_end_is s.state (passes_holds tokens i s e)) ∙ ap (λ v. definitions.may_end v.state) o ∙ sym f ∙ t in
     let r = found (finish s.state) yes in
-    (s, r.0, sym (all_tokens tokens i h) ∙ e, r.1)
+    (s, r.0, sym (judging.all_tokens Seen (judge (declared_names tokens)) nothing_seen tokens i h) ∙ e, r.1)
 
 pub ends_early : (tokens : List Token) (i : ℕ) (p : CodeSeen) (b : Bool) → length tokens ≤ i → Passes tokens i p → b ≡ definitions.may_end (progress_of p.progress) → b ≡ false
     → FirstFault tokens (length tokens) S1
 ends_early tokens i p b h (s, e, o) f t =
     let no : is_some (finish s.state) ≡ false = sym (may_end_is s.state (passes_holds tokens i s e)) ∙ ap (λ v. definitions.may_end v.state) o ∙ sym f ∙ t in
-    inr (refl, refl, (s, sym (all_tokens tokens i h) ∙ e, not_found (finish s.state) no))
+    inr (refl, refl, (s, sym (judging.all_tokens Seen (judge (declared_names tokens)) nothing_seen tokens i h) ∙ e, not_found (finish s.state) no))
 
 pub bounded : (v : Code) (q : CodeSeen) → v ≡ code.Passed q → seen.IsBounded v → seen.SeenKept q
 bounded v q e b = subst seen.IsBounded e b

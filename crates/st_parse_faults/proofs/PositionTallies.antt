@@ -11,15 +11,15 @@ use Rattle.st_grammar.specs.Grammar.{is_label}
 use Rattle.st_grammar.specs.Reading as part
 use Rattle.st_grammar.specs.Positions.{Head, syntax_head, Rule, rule_head, clause_head, Host, of_syntax, of_field, of_case, of_var, of_relation, of_notation, of_fun, Slot, field_slot, case_slot, var_slot, notation_slot, fun_slot, arg_slot, rule_slot, cond_slot, count_slot, Position, between, syntax_name, var_name, var_colon, relation_name, rule_name, rule_colon, fun_name, fun_named, argued, args_closed, syntax_id, rule_id, hinted, hint_open, hint_name, hint_words, entering, dotted, field_name, premised, premise_open, goal_colon, iterated, State, at, inside, slot_sort, syntax_whole, is_whole, whole, begin_def, begun, when, enter, enter_case, enter_other, field_step, host_step, hint_or, hint_step, id_goes, colon_step, reads_types, result_step, premise_step, premise_word, next_premise, may_close, iterate, own, first_of_two, position_step, filled, taken, step}
 use Rattle.st_grammar.proofs.PositionTexts as texts
-use Rattle.st_parse_automaton.specs.DefinitionAutomaton as definitions
-use Rattle.st_parse_automaton.specs.Shapes.{shape}
+use Rattle.st_parse_automaton.specs.inner.DefinitionAutomaton as definitions
+use Rattle.st_parse_automaton.specs.inner.Shapes.{shape}
 use Rattle.st_parse_automaton.proofs.View.{state_of}
 use Rattle.st_parse_automaton.proofs.DefinitionView.{definitions_of, slot_of, slot_sort_is}
 use Rattle.st_parse_faults.specs.declared.role.Attachment.{Attachment}
 use Rattle.st_parse_faults.specs.declared.role.Attachment.TheVariants as attachment
 use Rattle.st_parse_faults.specs.declared.tally.Tally.{Tally}
 use Rattle.st_parse_faults.specs.Limits.{signs, all_signs, signs_in, fresh, part_tallies, signs_before, position_signs, tallies}
-use Rattle.st_parse_faults.specs.Roles.{part_attachment, attachment_of, signs_here, moved, part_begins, begun_or, tallies_after}
+use Rattle.st_parse_faults.specs.inner.Roles.{part_attachment, attachment_of, signs_here, moved, part_begins, begun_or, tallies_after}
 use Rattle.st_parse_faults.proofs.Tallies.{To}
 use Rattle.st_parse_faults.proofs.TallyMoves.{lowers, part_moves}
 

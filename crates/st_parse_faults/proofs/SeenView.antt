@@ -12,21 +12,22 @@ use Rattle.st_grammar.specs.Reading as part
 use Rattle.st_grammar.specs.Positions as spec
 use Rattle.st_grammar.specs.Positions.{field_slot, case_slot, var_slot, notation_slot, fun_slot, arg_slot, rule_slot, cond_slot, count_slot, of_syntax, of_field, of_case, of_var, of_relation, of_notation, of_fun, between, syntax_name, var_name, var_colon, relation_name, rule_name, rule_colon, fun_name, fun_named, argued, args_closed, syntax_id, rule_id, hinted, hint_open, hint_name, hint_words, entering, dotted, field_name, premised, premise_open, goal_colon, iterated}
 use Rattle.st_grammar.proofs.PositionTexts as texts
-use Rattle.st_parse_automaton.specs.PartAutomaton as parts
-use Rattle.st_parse_automaton.specs.DefinitionAutomaton as definitions
-use Rattle.st_parse_automaton.specs.Shapes.{shape, class_of}
+use Rattle.st_parse_automaton.specs.inner.PartAutomaton as parts
+use Rattle.st_parse_automaton.specs.inner.DefinitionAutomaton as definitions
+use Rattle.st_parse_automaton.specs.inner.Shapes.{shape, class_of}
 use Rattle.st_parse_automaton.proofs.View.{part_of, kind_of, frames_of, part_type, top_sort}
 use Rattle.st_parse_automaton.proofs.DefinitionView.{definitions_of, slot_sort_is}
 use Rattle.st_parse_automaton.proofs.DefinitionSimulation.{step_is}
 use Rattle.st_parse_faults.specs.LeftOut.{is_type_in, type_or_other, before_next}
 use Rattle.st_parse_faults.specs.Nesting as nest
 use Rattle.st_parse_faults.specs.Counts as counts
+use Rattle.st_parse_faults.specs.Judging as verdicts
 use Rattle.st_parse_faults.specs.Faults as faults
-use Rattle.st_parse_faults.specs.Seen as seen
+use Rattle.st_parse_faults.specs.inner.Seen as seen
 use Rattle.st_parse_faults.specs.declared.counts.Counts.{Counts}
 use Rattle.st_parse_faults.specs.declared.tally.Tally.{Tally}
 use Rattle.st_parse_faults.specs.Limits.{tallies}
-use Rattle.st_parse_faults.specs.Roles.{attachment_of, tallies_after}
+use Rattle.st_parse_faults.specs.inner.Roles.{attachment_of, tallies_after}
 use Rattle.st_parse_faults.proofs.PositionTallies.{After, tallies_are}
 
 -- ---- what stands before
@@ -237,9 +238,9 @@ summary s =
       tallies = tallies s.state;
     }
 
-abbrev pub view : faults.Verdict → seen.Verdict
-view (faults.passed s) = seen.passed (summary s)
-view (faults.broken r) = seen.broken r
+abbrev pub view : verdicts.Verdict faults.Seen → seen.Verdict
+view (verdicts.passed s) = seen.passed (summary s)
+view (verdicts.broken r) = seen.broken r
 
 pub too_many_is : (s : faults.Seen) (l : Terminal) → seen.opens_too_many (definitions_of s.state) s.nesting (shape l) ≡ faults.opens_too_many s l
 too_many_is s l =
@@ -249,7 +250,7 @@ too_many_is s l =
 pub kept_is : (s : faults.Seen) (l : Terminal) → seen.kept (summary s) (shape l) ≡ view (faults.kept s l)
 kept_is s l = ap (λ b. seen.limited b (faults.passes_limit s) (summary s)) (too_many_is s l) ∙ go (faults.opens_too_many s l) (faults.passes_limit s)
   where
-    go : (b c : Bool) → seen.limited b c (summary s) ≡ view (faults.limited b c s)
+    go : (b c : Bool) → seen.limited b c (summary s) ≡ view (verdicts.limited b c s)
     go true c = refl
     go false true = refl
     go false false = refl

@@ -6,18 +6,19 @@ use Rattle.st_grammar.specs.declared.sort.Bracket.{Bracket}
 use Rattle.st_grammar.specs.declared.sort.Bracket.TheVariants as bracket_of
 use Rattle.st_grammar.specs.declared.sort.Closing.TheVariants as closings
 use Rattle.st_grammar.specs.Terminals.{Terminal, leaf, dot, sign, opening, closing, other}
-use Rattle.st_grammar.specs.Levels.{takes, encloses, computes, is_count, has_level, ahead_level}
+use Rattle.st_num.specs.Signs.{prefix_level}
+use Rattle.st_grammar.specs.Levels.{takes, encloses, computes, is_count, has_level}
 use Rattle.st_grammar.specs.Trees.{Tree, operand, bracket, ahead, none, more, plain, length, arguments, index, segment, update, below}
 use Rattle.st_grammar.specs.Reading.{Frames, bottom, within, over, timing, State, want, indexing, sort, least, settle, opened, begin_opening, begin}
 use Rattle.st_grammar.proofs.Sound.{Stand}
-use Rattle.st_parse_automaton.specs.Shapes.{shape}
+use Rattle.st_parse_automaton.specs.inner.Shapes.{shape}
 use Rattle.st_parse_automaton.proofs.View.{state_of}
 use Rattle.st_parse_faults.specs.declared.role.Attachment.{Attachment}
 use Rattle.st_parse_faults.specs.declared.role.Attachment.TheVariants as attachment
 use Rattle.st_parse_faults.specs.declared.role.TokenRole.TheVariants as role
 use Rattle.st_parse_faults.specs.declared.tally.Tally.{Tally}
 use Rattle.st_parse_faults.specs.Limits.{posts, is_turnstile, signs, signs_in, parts_in, elements_with, aheads, tally, fresh, held_tally, tallies_round, part_tallies}
-use Rattle.st_parse_faults.specs.Roles.{none_open, begun, counted, moved}
+use Rattle.st_parse_faults.specs.inner.Roles.{none_open, begun, counted, moved}
 
 -- Behind the token the tallies are those, and something is read.
 abbrev pub To : ℕ → Attachment → Terminal → List Tally → Option State → Type 0
@@ -158,7 +159,7 @@ pub begins : (n : ℕ) (y : Tally) (fs : Frames) (l : Terminal) → NoCount fs �
 begins n y fs (leaf k x) c s r w =
     on_if n attachment.Begins (leaf k x) (y ∷ tallies_round n fs) (takes (sort fs) k) (settle (operand k x) fs) None (λ e. (leaf_begins n y fs (operand k x) (leaf k x) c r refl refl, settled_open (operand k x) fs)) (λ e. tt)
 begins n y fs (dot x) c s r w = tt
-begins n y fs (sign m x) c s r w = on_if n attachment.Begins (sign m x) (y ∷ tallies_round n fs) (has_level (sort fs) (ahead_level m) && nat_le (least fs) (ahead_level m)) (want (over (ahead m x) fs)) None (λ e. sign_begins n y fs m x r w) (λ e. tt)
+begins n y fs (sign m x) c s r w = on_if n attachment.Begins (sign m x) (y ∷ tallies_round n fs) (has_level (sort fs) (prefix_level m) && nat_le (least fs) (prefix_level m)) (want (over (ahead m x) fs)) None (λ e. sign_begins n y fs m x r w) (λ e. tt)
 begins n y fs (opening b x) c s r w = opening_begins n y fs b x c r
 begins n y fs (closing closings.ByBar x) c s r w =
     on_if n attachment.Begins (closing closings.ByBar x) (y ∷ tallies_round n fs) (computes (sort fs)) (want (within (length x) none [] fs)) None

@@ -11,13 +11,14 @@ use Rattle.st_grammar.specs.declared.sort.Closing.{Closing}
 use Rattle.st_grammar.specs.declared.sort.Closing.TheVariants as closings
 use Rattle.st_grammar.specs.declared.sort.Sort.TheVariants as sorts
 use Rattle.st_grammar.specs.Terminals.{Terminal, leaf, dot, sign, opening, closing, other}
-use Rattle.st_grammar.specs.Levels.{takes, computes, is_expression, has_level, level_of, left_of, is_caret, is_comma, is_colon, is_less, is_change}
+use Rattle.st_num.specs.Signs.{level as level_of}
+use Rattle.st_grammar.specs.Levels.{takes, computes, is_expression, has_level, left_of, is_caret, is_comma, is_colon, is_less, is_change}
 use Rattle.st_grammar.specs.Trees.{Tree, operand, post, times, bracket, led, Lead, left, ahead, items, Trees, none, more, Heading, plain, length, arguments, index, segment, update, below, Path, head, field, part, closes, agree}
 use Rattle.st_grammar.specs.Grammar.{style, is_label, follows, may_post, level, size}
 use Rattle.st_grammar.specs.Reading.{Frames, bottom, within, over, timing, State, want, got, naming, pathed, indexing, comparing, sort, least, settle, reach, lower, shut, close, next_part, begin, extend, separate, join, pull, behind_sign, behind_square, behind_round, behind, after, in_path, name_field, name_index, bound_index, step}
 use Rattle.st_grammar.proofs.Sound.{Stand, base, state_base, Holds}
-use Rattle.st_parse_automaton.specs.PartAutomaton as parts
-use Rattle.st_parse_automaton.specs.Shapes.{shape}
+use Rattle.st_parse_automaton.specs.inner.PartAutomaton as parts
+use Rattle.st_parse_automaton.specs.inner.Shapes.{shape}
 use Rattle.st_parse_automaton.proofs.View.{part_of, state_of, top_sort}
 use Rattle.st_parse_automaton.proofs.Simulation.{follows_is}
 use Rattle.st_parse_faults.specs.declared.role.Attachment.{Attachment}
@@ -25,7 +26,7 @@ use Rattle.st_parse_faults.specs.declared.role.Attachment.TheVariants as attachm
 use Rattle.st_parse_faults.specs.declared.role.TokenRole.TheVariants as role
 use Rattle.st_parse_faults.specs.declared.tally.Tally.{Tally}
 use Rattle.st_parse_faults.specs.Limits.{posts, signs, all_signs, signs_in, parts_in, elements_in, elements_with, aheads, ends_with_label, with_one, tally, fresh, due_tally, held_tally, tallies_round, part_tallies}
-use Rattle.st_parse_faults.specs.Roles.{part_attachment, counted}
+use Rattle.st_parse_faults.specs.inner.Roles.{part_attachment, counted}
 use Rattle.st_parse_faults.proofs.Tallies.{To, on_if, on_both, same_tally, NoCount, held, settled, settled_open, RowReady, begins}
 
 -- ---- counts

@@ -1,5 +1,5 @@
 -- What is counted between parts, and how much of it there may be.
-use Rattle.std.specs.Prelude.{◌+◌, ◌≤◌, [], Bool, true, false, ◌||◌, nat_lt}
+use Rattle.std.specs.Prelude.{◌+◌, [], Bool, true, false, ◌||◌, nat_lt}
 use Rattle.st_grammar.specs.Definitions.{Iterations, no_iterations, closed, marked, counted}
 use Rattle.st_grammar.specs.Reading as part
 use Rattle.st_grammar.specs.Positions.{State, at, inside, syntax_name, relation_name, rule_name, var_name, fun_name, premise_open, iterated, entering, field_name, arg_slot, count_slot}
@@ -81,7 +81,3 @@ counts_pass c =
 
 abbrev pub no_counts : Counts
 no_counts = record { definitions = 0; premises = 0; members = 0; iterations = 0 }
-
--- None of them is.
-abbrev pub Kept : Counts → Type 0
-Kept c = (c.definitions ≤ 65535) × (c.premises ≤ 255) × (c.members ≤ 4095) × (c.iterations ≤ 32)

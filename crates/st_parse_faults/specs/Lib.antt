@@ -1,8 +1,18 @@
+-- What must be believed of the faults of tokens, in reading order.
+
+-- the tokens that begin a form of SpecTec that is left out
 pub mod LeftOut
+-- how many brackets and bars of lengths are open
 pub mod Nesting
+-- how many definitions, premises, members and iterations are begun
 pub mod Counts
+-- how many parts, elements and signs stand between the same brackets
 pub mod Limits
+-- tokens are judged one after another, up to the first that breaks a rule
+pub mod Judging
+-- the first token that breaks a rule, and the rule
 pub mod Faults
+-- where a token stands in the text
 pub mod Place
-pub mod Roles
-pub mod Seen
+-- ---- what only proofs need
+pub mod inner

@@ -2,8 +2,8 @@
 
 ghost use Rattle.std.specs.Prelude.{◌≡◌, reverse};
 ghost use Rattle.st_parse_faults.specs.LeftOut as spec;
-ghost use Rattle.st_parse_faults.specs.Seen as seen;
-ghost use Rattle.st_parse_automaton.specs.Readings.{progress_of, reading_of};
+ghost use Rattle.st_parse_faults.specs.inner.Seen as seen;
+ghost use Rattle.st_parse_automaton.specs.inner.Readings.{progress_of, reading_of};
 
 use st_grammar::{Bracket, Sort};
 use st_num::{Mark, Row};

@@ -3,8 +3,8 @@
 ghost use Rattle.std.specs.Prelude as Prelude;
 ghost use Rattle.std.specs.Prelude.{◌≡◌, reverse};
 ghost use Rattle.st_parse_faults.specs.Counts as spec;
-ghost use Rattle.st_parse_faults.specs.Seen as seen;
-ghost use Rattle.st_parse_automaton.specs.Readings.{progress_of, reading_of};
+ghost use Rattle.st_parse_faults.specs.inner.Seen as seen;
+ghost use Rattle.st_parse_automaton.specs.inner.Readings.{progress_of, reading_of};
 
 use crate::role::none_open;
 use st_grammar::Bracket;
@@ -91,7 +91,7 @@ pub(crate) fn event_of(due: bool, next: &Progress) -> Event
 
 /// What is counted behind a token.
 pub(crate) fn counts_after(counts: Counts, event: Event) -> Counts
-    requires { spec.Kept counts }
+    requires { seen.Kept counts }
     ensures { result ≡ spec.counts_after counts event }
 {
     match event {
@@ -125,7 +125,7 @@ pub(crate) fn counts_after(counts: Counts, event: Event) -> Counts
 /// Whether one of the numbers is passed.
 pub(crate) fn counts_pass(counts: Counts) -> bool
     ensures value { result ≡ spec.counts_pass counts }
-    ensures kept { result ≡ Prelude.false → spec.Kept counts }
+    ensures kept { result ≡ Prelude.false → seen.Kept counts }
 {
     counts.definitions > 65_535
         || counts.premises > 255

@@ -1,8 +1,8 @@
 //! The verdict on one token.
 
 ghost use Rattle.std.specs.Prelude.{◌≡◌, ◌≤◌, IfOk};
-ghost use Rattle.st_parse_faults.specs.Seen as spec;
-ghost use Rattle.st_parse_automaton.specs.Readings.{progress_of};
+ghost use Rattle.st_parse_faults.specs.inner.Seen as spec;
+ghost use Rattle.st_parse_automaton.specs.inner.Readings.{progress_of};
 
 use crate::before::{Before, left_out, stands_before};
 use crate::counts::{Counts, counts_after, counts_pass, event_of, member_due};

@@ -1,8 +1,8 @@
 //! Where source is refused first, and by which rule: what it breaks of the grammar, or of the
 //! limits.
 //!
-//! The one idea: the parser of `st_parse_automaton` takes the tokens one after another, and what is counted
-//! of the reading is asked behind each of them.
+//! The one idea: the parser of `st_parse_automaton` takes the tokens one after another, and what is
+//! counted of the reading is asked behind each of them.
 //!
 //! Read `reader` first, with `specs/Faults.antt`. The rules are in `docs/language.md`, "Places of
 //! refusals".

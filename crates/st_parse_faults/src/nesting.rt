@@ -2,8 +2,8 @@
 
 ghost use Rattle.std.specs.Prelude as Prelude;
 ghost use Rattle.std.specs.Prelude.{◌≡◌, ◌≤◌, reverse};
-ghost use Rattle.st_parse_faults.specs.Seen as seen;
-ghost use Rattle.st_parse_automaton.specs.Readings.{progress_of};
+ghost use Rattle.st_parse_faults.specs.inner.Seen as seen;
+ghost use Rattle.st_parse_automaton.specs.inner.Readings.{progress_of};
 
 use st_grammar::Closing;
 use st_parse_automaton::{Frame, Kind, Progress, Shape};

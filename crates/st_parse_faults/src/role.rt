@@ -1,8 +1,8 @@
 //! What a token does in a part.
 
 ghost use Rattle.std.specs.Prelude.{◌≡◌, reverse};
-ghost use Rattle.st_parse_faults.specs.Roles as roles;
-ghost use Rattle.st_parse_automaton.specs.Readings.{progress_of, reading_of};
+ghost use Rattle.st_parse_faults.specs.inner.Roles as roles;
+ghost use Rattle.st_parse_automaton.specs.inner.Readings.{progress_of, reading_of};
 
 use st_grammar::{Bracket, Closing, Sort};
 use st_num::{Mark, Row};

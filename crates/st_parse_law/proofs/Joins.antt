@@ -4,7 +4,6 @@ use Rattle.std.specs.Prelude.{nat_le, if◌then◌else◌}
 use Rattle.std.proofs.lemmas.Bool.{and_parts, leb-true, le-leb}
 use Rattle.std.proofs.lemmas.Grind.{common_steps}
 use Rattle.std.proofs.lemmas.List.{append-nil}
-use Rattle.st_num.specs.Signs.{spelling}
 use Rattle.st_num.specs.declared.span.Span.{Span}
 use Rattle.st_num.specs.declared.mark.Mark.{Mark}
 use Rattle.st_num.specs.declared.mark.Mark.TheVariants as mark
@@ -24,12 +23,12 @@ use Rattle.st_el.specs.declared.context.Around.{Around}
 use Rattle.st_el.specs.declared.context.Around.TheVariants.{Brackets, Bars, Arithmetic, Caret}
 use Rattle.st_el.specs.declared.context.Behind.TheVariants.{Plus}
 use Rattle.st_el.specs.declared.context.Context.{Context as Place}
-use Rattle.st_num.specs.Signs.{level as sign_level, left_of, right_of}
+use Rattle.st_num.specs.Signs.{spelling, level as sign_level, left_of, right_of, is_notation}
 use Rattle.st_el.specs.Contexts.{context_at as place_at}
 use Rattle.st_el.specs.Wrappings.{Printed, Level, level_of, takes_in, has_bar}
 use Rattle.st_el.specs.SourceText.{printed, left_side, blank_behind, parts_printed}
 use Rattle.st_el.specs.Plain.{plain_exp}
-use Rattle.st_parse_builder.specs.Meaning.{exp, place, meaning, is_atom, opened, joined_node, is_notation}
+use Rattle.st_parse_builder.specs.Meaning.{exp, place, meaning, is_atom, opened, joined_node}
 use Rattle.st_parse_law.specs.Written.{Piece, space, bytes_of, shape, shapes_behind, ends_before, AreApart}
 use Rattle.st_parse_law.proofs.Cuts.{touch, touch-append, bytes-append, single, cut, parted, one_terminal, terminals_of_both}
 use Rattle.st_parse_law.proofs.Ends.{Clear, clear_more, before, blank, Front, front_more, first_caret, first_ends}
@@ -40,18 +39,6 @@ use Rattle.st_parse_law.proofs.Placed.{Home, sort_of, bare_traits, place_traits,
 use Rattle.st_parse_law.proofs.Posts.{same_plain}
 
 -- ---- signs between two sides
-
-same_level : (m : Mark) → sign_level m ≡ grammar.level_of m
-same_level mark.Turnstile = refl
-same_level _ = refl
-
-same_left : (m : Mark) → left_of (sign_level m) ≡ grammar.left_of m
-same_left mark.Turnstile = refl
-same_left _ = refl
-
-same_right : (m : Mark) → right_of (sign_level m) ≡ grammar.right_of m
-same_right mark.Turnstile = refl
-same_right _ = refl
 
 left_low : (m : Mark) → nat_le (left_of (sign_level m)) 20 ≡ true
 left_low mark.Turnstile = refl
@@ -139,7 +126,7 @@ joined_no_atom at m e g = go (is_notation m)
     go true = no_atom_at at (node.Infix e m g) (Node-F.Infix e m g) (node.outs-Infix e m g) refl
     go false = no_atom_at at (node.Binary e m g) (Node-F.Binary e m g) (node.outs-Binary e m g) refl
 
-module _ (names : List (List ℕ)) (σ : Sort) (e f : Exp) (m : Mark) (level_1 : nat_le 1 (sign_level m) ≡ true) (has : has_level σ (grammar.level_of m) ≡ true) where
+module _ (names : List (List ℕ)) (σ : Sort) (e f : Exp) (m : Mark) (level_1 : nat_le 1 (sign_level m) ≡ true) (has : has_level σ (sign_level m) ≡ true) where
   module _ (lt rt : Traits) (lb rb : List ℕ) (l : Part names σ e lt lb) (r : Part names σ f rt rb) (left_is : lt.level ≡ grammar.left_of m) (right_is : rt.level ≡ grammar.right_of m) where
     joined_apart : (more : List Piece) → Clear false (bytes_of more) → AreApart more → AreApart (two_sides m l.pieces r.pieces ++ more)
     joined_apart more c a =
@@ -173,7 +160,7 @@ module _ (names : List (List ℕ)) (σ : Sort) (e f : Exp) (m : Mark) (level_1 :
               ∙ sym (append_assoc (text y.tree) (sign m x.only ∷ []) (text z.tree));
           fits = ((has, y.fits, omega (arith, left_is, y.level)), z.fits, omega (arith, right_is, z.level), tt);
           plain = joined_plain (place (meaning y.tree)) at m (meaning y.tree) e (meaning z.tree) f y.plain z.plain;
-          level = omega (arith, same_level m);
+          level = omega arith;
           dots = λ _. joined_no_atom (place (meaning y.tree)) m (meaning y.tree) (meaning z.tree);
           no_bar = λ h. absurd (cc);
         }
@@ -213,11 +200,11 @@ pub data IsHome : Sort → Type 0 where
   in_expression : (b : Bool) → IsHome (expression b)
   in_arithmetic : IsHome arithmetic
 
-level_some : (σ : Sort) (m : Mark) → IsHome σ → has_level σ (grammar.level_of m) ≡ true → nat_le 1 (sign_level m) ≡ true
-level_some _ m (in_expression b) h = ap (nat_le 1) (same_level m) ∙ (and_parts (nat_le 1 (grammar.level_of m)) (nat_le (grammar.level_of m) 13) h).0
-level_some _ m in_arithmetic h = le-leb 1 (sign_level m) (omega (arith, same_level m, leb-true 15 (grammar.level_of m) h))
+level_some : (σ : Sort) (m : Mark) → IsHome σ → has_level σ (sign_level m) ≡ true → nat_le 1 (sign_level m) ≡ true
+level_some _ m (in_expression b) h = (and_parts (nat_le 1 (sign_level m)) (nat_le (sign_level m) 13) h).0
+level_some _ m in_arithmetic h = le-leb 1 (sign_level m) (omega (arith, leb-true 15 (sign_level m) h))
 
-no_arithmetic : (m : Mark) → nat_le (grammar.level_of m) 13 ≡ true → nat_le 15 (sign_level m) ≡ false
+no_arithmetic : (m : Mark) → nat_le (sign_level m) 13 ≡ true → nat_le 15 (sign_level m) ≡ false
 no_arithmetic mark.Plus h = absurd (cc)
 no_arithmetic mark.Minus h = absurd (cc)
 no_arithmetic mark.Star h = absurd (cc)
@@ -226,8 +213,8 @@ no_arithmetic mark.Backslash h = absurd (cc)
 no_arithmetic mark.Caret h = absurd (cc)
 no_arithmetic _ h = refl
 
-binary_normal : (σ : Sort) (m : Mark) (x y : Printed) → IsHome σ → has_level σ (grammar.level_of m) ≡ true → IsNormal σ (Node-F.Binary x m y)
-binary_normal _ m x y (in_expression b) h = no_arithmetic m (and_parts (nat_le 1 (grammar.level_of m)) (nat_le (grammar.level_of m) 13) h).1
+binary_normal : (σ : Sort) (m : Mark) (x y : Printed) → IsHome σ → has_level σ (sign_level m) ≡ true → IsNormal σ (Node-F.Binary x m y)
+binary_normal _ m x y (in_expression b) h = no_arithmetic m (and_parts (nat_le 1 (sign_level m)) (nat_le (sign_level m) 13) h).1
 binary_normal _ m x y in_arithmetic h = tt
 
 loose_traits : (m : Mark) (no_bar : Bool) → (nat_le 20 (sign_level m) && no_bar) ≡ true → false ≡ true
@@ -246,7 +233,7 @@ join_within m l is = record {
 
 -- two sides of a sign
 pub joined_printed :
-    (names : List (List ℕ)) (σ : Sort) (at : Span) (e f : Exp) (m : Mark) → IsHome σ → has_level σ (grammar.level_of m) ≡ true
+    (names : List (List ℕ)) (σ : Sort) (at : Span) (e f : Exp) (m : Mark) → IsHome σ → has_level σ (sign_level m) ≡ true
     → Printable names σ e → Printable names σ f → Printable names σ (exp at (joined_node e m f))
 joined_printed names σ at e f m ok has x y = go (is_notation m) refl
   where
@@ -257,8 +244,8 @@ joined_printed names σ at e f m ok has x y = go (is_notation m) refl
         let r = placed names σ f (right_place a m) home (leb-true (right_of (sign_level m)) 20 (right_low m)) y in
         part_as names (sort_of a) (exp at (joined_node e m f)) (exp at (joined_node e m f)) (join_traits m) _ _ refl
         (ap (λ w. ((w ++ spelling m) ++ blank_behind m) ++ (printed f).at (right_place a m)) (sym (left_side_is (parts.is_arithmetic (sort_of a)) ((printed e).at (left_place a m)) l.front)))
-        (joined_part names (sort_of a) e f m (level_some σ m ok has) (has_home σ a (grammar.level_of m) home has) (place_traits (left_place a m) (printed e)) (place_traits (right_place a m) (printed f))
-        ((printed e).at (left_place a m)) ((printed f).at (right_place a m)) l r (same_left m) (same_right m) at)
+        (joined_part names (sort_of a) e f m (level_some σ m ok has) (has_home σ a (sign_level m) home has) (place_traits (left_place a m) (printed e)) (place_traits (right_place a m) (printed f))
+        ((printed e).at (left_place a m)) ((printed f).at (right_place a m)) l r refl refl at)
 
     some : 1 ≤ sign_level m
     some = leb-true 1 (sign_level m) (level_some σ m ok has)

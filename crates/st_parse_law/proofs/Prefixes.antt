@@ -9,7 +9,8 @@ use Rattle.st_scan.specs.declared.token.Token.{Token}
 use Rattle.st_scan.specs.declared.token.TokenKind.TheVariants as kind
 use Rattle.st_grammar.specs.declared.sort.Sort.{Sort}
 use Rattle.st_grammar.specs.declared.sort.Sort.TheVariants.{Expression as expression, Arithmetic as arithmetic}
-use Rattle.st_grammar.specs.Levels.{has_level, ahead_level, ahead_right}
+use Rattle.st_num.specs.Signs.{prefix_level}
+use Rattle.st_grammar.specs.Levels.{has_level, prefix_right}
 use Rattle.st_grammar.specs.Terminals.{sign, kind_terminal}
 use Rattle.st_grammar.specs.Trees.{Tree, led, ahead, text}
 use Rattle.st_el.specs.declared.expression.Exp.{Exp}
@@ -34,7 +35,7 @@ use Rattle.st_parse_law.proofs.Posts.{same_plain}
 
 -- a sign without a left side, in a sort of place, and what it makes of an expression
 record Prefix (names : List (List ℕ)) (σ : Sort) (m : Mark) (e f : Exp) : Type 0 where
-  has : has_level σ (ahead_level m) ≡ true
+  has : has_level σ (prefix_level m) ≡ true
   seen : (x : Token) → kind_terminal names (kind.Sign m) x ≡ sign m x
   ends : (bs : List ℕ) → ends_before (kind.Sign m) (32 ∷ bs) ≡ true
   front : (bs : List ℕ) → Front (is_arithmetic σ) (spelling m ++ bs)
@@ -42,10 +43,10 @@ record Prefix (names : List (List ℕ)) (σ : Sort) (m : Mark) (e f : Exp) : Typ
   no_atom : (at : Span) (t : Tree) → is_atom (opened (prefixed m at (meaning t))) ≡ false
 
 abbrev prefix_traits : Mark → Traits
-prefix_traits m = record { level = ahead_level m; dots = true; plus = false; no_bar = false }
+prefix_traits m = record { level = prefix_level m; dots = true; plus = false; no_bar = false }
 
 prefix_part :
-    (names : List (List ℕ)) (σ : Sort) (m : Mark) (e f : Exp) (traits : Traits) (bytes : List ℕ) → Prefix names σ m e f → traits.plus ≡ false → traits.level ≡ ahead_right m
+    (names : List (List ℕ)) (σ : Sort) (m : Mark) (e f : Exp) (traits : Traits) (bytes : List ℕ) → Prefix names σ m e f → traits.plus ≡ false → traits.level ≡ prefix_right m
     → Part names σ e traits bytes → Part names σ f (prefix_traits m) ((spelling m ++ codes " ") ++ bytes)
 prefix_part names σ m e f traits bytes h plus is p = record {
   pieces = signed m ∷ space ∷ p.pieces;

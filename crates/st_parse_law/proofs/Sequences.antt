@@ -11,7 +11,8 @@ use Rattle.st_grammar.specs.declared.sort.Sort.TheVariants.{Expression as expres
 use Rattle.st_grammar.specs.declared.sort.Bracket.{Bracket}
 use Rattle.st_grammar.specs.declared.sort.Bracket.TheVariants.{Round as round, Square as square, Brace as brace, TickRound as tick_round, TickSquare as tick_square, TickBrace as tick_brace, Dollar as dollar}
 use Rattle.st_grammar.specs.declared.sort.Closing.TheVariants.{ByRound as by_round, BySquare as by_square, ByBrace as by_brace, ByBar as by_bar}
-use Rattle.st_grammar.specs.Levels.{encloses, level_of, ahead_level}
+use Rattle.st_num.specs.Signs.{level as level_of, prefix_level}
+use Rattle.st_grammar.specs.Levels.{encloses}
 use Rattle.st_grammar.specs.Terminals.{Terminal, leaf, dot, sign, opening, closing, other, terminal}
 use Rattle.st_grammar.specs.Trees.{Tree, operand, post, times, bracket, led, left, ahead, items, Trees, none, more, Heading, plain, length as bar_length, arguments, index, segment, update, below, Path, head, field, part, text, texts, heading_text, path_text, closes}
 use Rattle.st_grammar.specs.Grammar.{Fits, HeadingFits, PathFits, FollowsAll, follows, text_follows, is_function, level}
@@ -42,7 +43,7 @@ loose_sign : (m : Mark) → nat_le 20 (level_of m) ≡ false
 loose_sign mark.Turnstile = refl
 loose_sign _ = refl
 
-loose_ahead : (m : Mark) → nat_le 20 (ahead_level m) ≡ false
+loose_ahead : (m : Mark) → nat_le 20 (prefix_level m) ≡ false
 loose_ahead mark.Turnstile = refl
 loose_ahead _ = refl
 
@@ -58,7 +59,7 @@ mutual
   operand_begins b (times t m x c) f h = begins_append (text t) (sign m x ∷ text c) (operand_begins b t f.2 f.3)
   operand_begins b (bracket g ts c) f h = begins_append (heading_text g) (texts ts ++ closing (closes g) c ∷ []) (heading_begins b g f.1)
   operand_begins b (led (left l m x) t) f h = let tight : nat_le 20 (level_of m) ≡ true = le-leb 20 (level_of m) h in let loose = loose_sign m in absurd (cc)
-  operand_begins b (led (ahead m x) t) f h = let tight : nat_le 20 (ahead_level m) ≡ true = le-leb 20 (ahead_level m) h in let loose = loose_ahead m in absurd (cc)
+  operand_begins b (led (ahead m x) t) f h = let tight : nat_le 20 (prefix_level m) ≡ true = le-leb 20 (prefix_level m) h in let loose = loose_ahead m in absurd (cc)
   operand_begins b (led (items ts) t) f h = absurd (omega (arith, h))
 
   heading_begins : (b : Bool) (g : Heading) → HeadingFits (expression b) g → begins_operands (heading_text g) ≡ true

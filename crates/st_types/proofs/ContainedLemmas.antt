@@ -3,10 +3,10 @@ use Rattle.std.proofs.Common.{◌≡◌, ◌↔◌, sym, subst, List, Bool}
 use Rattle.std.specs.Prelude.{IsTrue}
 use Rattle.st_il.specs.declared.ty.Ty.{Ty}
 use Rattle.st_il.specs.declared.definition.SyntaxDef.{SyntaxDef}
-use Rattle.st_types.specs.declared.entry.CaseDef.{CaseDef}
-use Rattle.st_types.specs.Cases.{HasCases}
+use Rattle.st_type_table.specs.declared.entry.CaseDef.{CaseDef}
+use Rattle.st_type_table.specs.Cases.{HasCases}
 use Rattle.st_types.specs.Sub.{AllStandIn, IsContained}
-use Rattle.st_types.proofs.CasesLemmas.{HasCases-single}
+use Rattle.st_type_table.proofs.CasesLemmas.{HasCases-single}
 
 pub contained-exact : (defs : List SyntaxDef) (a b : Ty) (xs ys : List CaseDef) (r : Bool) (cs ds : List CaseDef) → xs ≡ cs → ys ≡ ds
     → HasCases defs a cs → HasCases defs b ds → (IsTrue r ↔ AllStandIn defs xs ys) → IsTrue r ↔ IsContained defs a b

@@ -1,6 +1,8 @@
 -- Which values have which types, one level at a time, and lists from a place on.
 use Rattle.std.proofs.Common.{◌≡◌, ◌↔◌, refl, sym, ap, ◌∙◌, subst, ℕ, ℤ, pos, negsuc, suc, ◌+◌, ◌<◌, ◌≤◌, List, [], ◌∷◌, Bool, Option, Some, None, length, drop, get_or, drop-cons, add-one}
-use Rattle.std.specs.Prelude.{IsTrue}
+use Rattle.std.specs.Prelude.{IsTrue, MatchOption}
+use Rattle.std.specs.Borrow.{Bor}
+use Rattle.std.specs.Option.{option_copied}
 use Rattle.std.proofs.lemmas.List.{drop_all}
 use Rattle.st_il.specs.declared.ty.Ty.{Ty, out-Ty, roll-Ty, roll-out-Ty}
 use Rattle.st_il.specs.declared.ty.Ty.TheOpen.{Ty-F}
@@ -9,12 +11,13 @@ use Rattle.st_il.specs.declared.value.Value.{Value, out-Value, roll-Value, roll-
 use Rattle.st_il.specs.declared.value.Value.TheOpen.{Value-F}
 use Rattle.st_il.specs.declared.value.Value.TheVariants as value
 use Rattle.st_il.specs.declared.definition.SyntaxDef.{SyntaxDef}
-use Rattle.st_types.specs.Meaning.{Means}
+use Rattle.st_type_table.specs.Meaning.{Means}
 use Rattle.st_types.specs.HasType.{HasType, HaveTypes, AllHaveType, FieldsHaveTypes}
-use Rattle.st_types.specs.Cases.{HasFields, operands_of}
-use Rattle.st_types.specs.Levels.{TypedAt, CaseHasType, RecordHasType, HasOperands, TruthAt, NumberAt, TextAt, TupleAt, ListAt, OptionAt}
-use Rattle.st_types.proofs.MeansLemmas.{Means-single}
-use Rattle.st_types.proofs.CasesLemmas.{HasCases-single, HasFields-single}
+use Rattle.st_type_table.specs.declared.entry.CaseDef.{CaseDef}
+use Rattle.st_type_table.specs.Cases.{HasCases, HasFields, operands_of}
+use Rattle.st_types.specs.inner.Levels.{TypedAt, CaseHasType, RecordHasType, HasOperands, TruthAt, NumberAt, TextAt, TupleAt, ListAt, OptionAt}
+use Rattle.st_type_table.proofs.MeansLemmas.{Means-single}
+use Rattle.st_type_table.proofs.CasesLemmas.{HasCases-single, HasFields-single}
 
 module _ (defs : List SyntaxDef) where
   level : (t u w : Ty) (l : Ty-F Ty) → Means defs t u → Means defs t w → out-Ty w ≡ l → out-Ty u ≡ l
@@ -191,3 +194,12 @@ module _ (defs : List SyntaxDef) where
 
   pub Fields-end : (vs : List (List ℕ × Value)) (ts : List (List ℕ × Ty)) (i : ℕ) → length vs ≤ i → length ts ≤ i → FieldsHaveTypes defs (drop i vs) (drop i ts)
   Fields-end vs ts i hv ht = subst (λ z. FieldsHaveTypes defs z (drop i ts)) (sym (drop_all i vs hv)) (subst (λ z. FieldsHaveTypes defs [] z) (sym (drop_all i ts ht)) FieldsHaveTypes.no_field)
+
+-- the operands of a case of a type
+pub operands-found : (defs : List SyntaxDef) (t : Ty) (tag : List ℕ) (cs : List CaseDef) (o : Option (Bor (List Ty))) → HasCases defs t cs → option_copied o ≡ operands_of cs tag
+    → MatchOption o ((operands : List Ty) → HasOperands defs t tag operands → ⊥) (λ operands. HasOperands defs t tag operands.now)
+operands-found defs t tag cs None h e = λ operands has.
+    let s = HasCases-single defs t cs has.cases h has.has in
+    let d : None ≡ Some operands = e ∙ ap (λ xs. operands_of xs tag) s ∙ has.found in
+    cc
+operands-found defs t tag cs (Some x) h e = record { cases = cs; has = h; found = sym e }

@@ -4,14 +4,15 @@ use Rattle.st_il.specs.declared.ty.Ty.{Ty, out-Ty}
 use Rattle.st_il.specs.declared.ty.Ty.TheOpen.{Ty-F}
 use Rattle.st_il.specs.declared.ty.Ty.TheVariants as ty
 use Rattle.st_il.specs.declared.definition.SyntaxDef.{SyntaxDef}
-use Rattle.st_types.specs.declared.entry.CaseDef.{CaseDef}
-use Rattle.st_types.specs.Meaning.{Means, named_at, listed}
-use Rattle.st_types.specs.Cases.{HasCases}
-use Rattle.st_types.specs.Sub.{Same, SameAll, Sub, IsContained, AllStandIn}
-use Rattle.st_types.specs.Levels.{SameAt}
-use Rattle.st_types.proofs.MeansLemmas.{Means-single}
-use Rattle.st_types.proofs.CasesLemmas.{HasCases-single, no_cases, moved_cases}
-use Rattle.st_types.proofs.SubLemmas.{Same-refl, same-opened}
+use Rattle.st_type_table.specs.declared.entry.CaseDef.{CaseDef}
+use Rattle.st_type_table.specs.Meaning.{Means, named_at, listed}
+use Rattle.st_type_table.specs.Cases.{HasCases}
+use Rattle.st_type_table.specs.Same.{Same, SameAll}
+use Rattle.st_types.specs.Sub.{Sub, IsContained, AllStandIn}
+use Rattle.st_type_table.specs.inner.SameLevels.{SameAt}
+use Rattle.st_type_table.proofs.MeansLemmas.{Means-single}
+use Rattle.st_type_table.proofs.CasesLemmas.{HasCases-single, no_cases, moved_cases}
+use Rattle.st_type_table.proofs.SameLemmas.{Same-refl, same-opened}
 use Rattle.st_types.proofs.UpLaws.{stands}
 
 module _ (defs : List SyntaxDef) (total : (t : Ty) → (u : Ty) × Means defs t u) where

@@ -11,15 +11,16 @@ use Rattle.st_il.specs.declared.definition.SyntaxDef.{SyntaxDef}
 use Rattle.st_il.specs.declared.definition.SyntaxBody.{SyntaxBody}
 use Rattle.st_il.specs.declared.definition.SyntaxBody.TheVariants as body
 use Rattle.st_il.specs.declared.definition.Alternative.{Alternative}
-use Rattle.st_types.specs.declared.entry.CaseDef.{CaseDef}
-use Rattle.st_types.specs.Meaning.{Means, named, named_at, listed, recorded}
-use Rattle.st_types.specs.Cases.{HasCases, HasFields, operands_of}
+use Rattle.st_type_table.specs.declared.entry.CaseDef.{CaseDef}
+use Rattle.st_type_table.specs.Meaning.{Means, named, named_at, listed, recorded}
+use Rattle.st_type_table.specs.Cases.{HasCases, HasFields, operands_of}
 use Rattle.st_types.specs.HasType.{HasType, HaveTypes, AllHaveType}
-use Rattle.st_types.specs.Sub.{Same, SameAll, Sub, IsContained, AllStandIn}
+use Rattle.st_type_table.specs.Same.{Same, SameAll}
+use Rattle.st_types.specs.Sub.{Sub, IsContained, AllStandIn}
 use Rattle.st_types.specs.Laws.{GoesUp}
-use Rattle.st_types.specs.Levels.{TypedAt}
-use Rattle.st_types.proofs.MeansLemmas.{Means-single}
-use Rattle.st_types.proofs.CasesLemmas.{HasCases-single, no_cases, no_fields, moved_cases, moved_fields}
+use Rattle.st_types.specs.inner.Levels.{TypedAt}
+use Rattle.st_type_table.proofs.MeansLemmas.{Means-single}
+use Rattle.st_type_table.proofs.CasesLemmas.{HasCases-single, no_cases, no_fields, moved_cases, moved_fields}
 use Rattle.st_types.proofs.HasTypeLemmas.{typed-opened, typed-closed}
 
 -- no body is both a record and a variant

@@ -5,9 +5,9 @@ use Rattle.st_il.specs.declared.ty.Ty.TheVariants as ty
 use Rattle.st_il.specs.declared.value.Value.{Value}
 use Rattle.st_il.specs.declared.value.Value.TheVariants as value
 use Rattle.st_il.specs.declared.definition.SyntaxDef.{SyntaxDef}
-use Rattle.st_types.specs.declared.entry.CaseDef.{CaseDef}
-use Rattle.st_types.specs.Meaning.{Means}
-use Rattle.st_types.specs.Cases.{HasCases, HasFields, operands_of}
+use Rattle.st_type_table.specs.declared.entry.CaseDef.{CaseDef}
+use Rattle.st_type_table.specs.Meaning.{Means}
+use Rattle.st_type_table.specs.Cases.{HasCases, HasFields, operands_of}
 
 mutual
   -- The value has the type. An alias is its meaning.

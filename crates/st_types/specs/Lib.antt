@@ -1,15 +1,11 @@
-pub mod Meaning
-pub mod Cases
-pub mod Joins
+-- What must be believed of typing and subtyping, in reading order.
+
+-- a value has a type
 pub mod HasType
+-- one type is a subtype of another
 pub mod Sub
+-- a value of a type has each type above it
 pub mod Laws
-pub mod Leads
-pub mod Keys
-pub mod Breach
-pub mod Levels
-pub mod Kept
-pub mod Flat
-pub mod Graph
-pub mod JoinGraph
-pub mod Checking
+
+-- ---- what only proofs need
+pub mod inner

@@ -1,28 +1,12 @@
--- Which types are equal through aliases, and which types are subtypes.
+-- Which types are subtypes.
 use Rattle.std.specs.Prelude.{◌≡◌, List, [], ◌∷◌, Some}
 use Rattle.st_il.specs.declared.ty.Ty.{Ty}
 use Rattle.st_il.specs.declared.ty.Ty.TheVariants as ty
 use Rattle.st_il.specs.declared.definition.SyntaxDef.{SyntaxDef}
-use Rattle.st_types.specs.declared.entry.CaseDef.{CaseDef}
-use Rattle.st_types.specs.Meaning.{Means}
-use Rattle.st_types.specs.Cases.{HasCases, operands_of}
-
-mutual
-  -- Two types are equal through aliases:
-  -- they mean the same, or lists, options or tuples of such types.
-  pub data Same (defs : List SyntaxDef) : Ty → Ty → Type 0 where
-    equal : {a b : Ty} (t : Ty) → Means defs a t → Means defs b t → Same defs a b
-    list : {a b : Ty} (x y : Ty) → Means defs a (ty.List x) → Means defs b (ty.List y)
-        → Same defs x y → Same defs a b
-    option : {a b : Ty} (x y : Ty) → Means defs a (ty.Opt x) → Means defs b (ty.Opt y)
-        → Same defs x y → Same defs a b
-    tuple : {a b : Ty} (xs ys : List Ty) → Means defs a (ty.Tuple xs) → Means defs b (ty.Tuple ys)
-        → SameAll defs xs ys → Same defs a b
-
-  pub data SameAll (defs : List SyntaxDef) : List Ty → List Ty → Type 0 where
-    none : SameAll defs [] []
-    more : {x y : Ty} {xs ys : List Ty} → Same defs x y → SameAll defs xs ys
-        → SameAll defs (x ∷ xs) (y ∷ ys)
+use Rattle.st_type_table.specs.declared.entry.CaseDef.{CaseDef}
+use Rattle.st_type_table.specs.Meaning.{Means}
+use Rattle.st_type_table.specs.Cases.{HasCases, operands_of}
+use Rattle.st_type_table.specs.Same.{Same, SameAll}
 
 -- the case stands among these, with the same tag and equal operand types
 pub record StandsIn (defs : List SyntaxDef) (c : CaseDef) (cases : List CaseDef) : Type 0 where
@@ -54,11 +38,3 @@ pub data Sub (defs : List SyntaxDef) : Ty → Ty → Type 0 where
       → Sub defs a b
   option : {a b : Ty} (x y : Ty) → Means defs a (ty.Opt x) → Means defs b (ty.Opt y) → Sub defs x y
       → Sub defs a b
-
--- the same by numbers or by elements alone
-pub data IsUnder (defs : List SyntaxDef) : Ty → Ty → Type 0 where
-  number : {a b : Ty} → Means defs a ty.Nat → Means defs b ty.Int → IsUnder defs a b
-  list : {a b : Ty} (x y : Ty) → Means defs a (ty.List x) → Means defs b (ty.List y) → Sub defs x y
-      → IsUnder defs a b
-  option : {a b : Ty} (x y : Ty) → Means defs a (ty.Opt x) → Means defs b (ty.Opt y) → Sub defs x y
-      → IsUnder defs a b

@@ -1,29 +1,16 @@
-//! Types: which values have them, which are subtypes, and the cases and fields that they have.
+//! Types: which values have them, and which are subtypes.
 //!
-//! A `TypeTable` is seen as the definitions of the syntaxes that it was made from. What it keeps
-//! beside them, the flattened cases of each variant among others, no contract names: the
-//! definitions of `specs/` follow aliases and inclusions by themselves.
+//! Both are asked of a `TypeTable`, which is seen as the definitions of the syntaxes that it was
+//! made from; it answers itself what a type means and which types are equal.
 //!
-//! Read `table` first, with `specs/Meaning.antt`, `specs/Cases.antt`, `specs/HasType.antt`,
-//! `specs/Sub.antt` and `specs/Joins.antt`.
+//! Read `typing` and `sub`, with `specs/HasType.antt` and `specs/Sub.antt`.
 #![tactic(auto)]
 
-mod build;
-mod check;
-mod entry;
-mod fault;
-mod flat;
-mod graph;
-mod joining;
-mod meaning;
-mod place;
-mod resolve;
 mod sub;
-mod table;
 #[cfg(test)]
 mod tests;
 mod typing;
 
-pub use entry::CaseDef;
-pub use fault::TypeFault;
-pub use table::TypeTable;
+pub use st_type_table::{CaseDef, TypeFault, TypeTable};
+pub use sub::is_sub;
+pub use typing::has_type;

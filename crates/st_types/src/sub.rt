@@ -1,56 +1,26 @@
-//! Equality of types through aliases, and subtypes.
+//! Which types are subtypes.
 
 ghost use Rattle.std.specs.Prelude.{◌↔◌, IsTrue};
-ghost use Rattle.st_il.specs.declared.ty.Ty.{out-Ty};
-ghost use Rattle.st_types.specs.Levels.{SameAt, UnderAt};
-ghost use Rattle.st_types.specs.Kept.{defs_of, IsKept};
-ghost use Rattle.st_types.specs.Sub.{Same, SameAll, Sub, StandsIn, AllStandIn, IsContained, IsUnder};
+ghost use Rattle.st_il.specs.declared.ty.Ty.{Ty, out-Ty};
+ghost use Rattle.st_type_table.specs.Breach.{IsSound};
+ghost use Rattle.st_type_table.specs.Same.{SameAll};
+ghost use Rattle.st_types.specs.inner.Levels.{UnderAt, IsUnder};
+ghost use Rattle.st_types.specs.Laws.{GoesUp};
+ghost use Rattle.st_types.specs.Sub.{Sub, StandsIn, AllStandIn, IsContained};
 
-use crate::entry::{CaseDef, Entries};
-use crate::meaning::{cases_of, meaning_of};
 use crate::typing::operands_of;
 use st_il::Ty;
+use st_type_table::{CaseDef, TypeTable};
 
-/// Whether the types are equal through aliases.
-#[cycle(same)]
-pub(crate) fn same(entries: &Entries, a: &Ty, b: &Ty) -> bool
-    requires { IsKept entries.now.entries }
-    ensures { IsTrue result ↔ Same (defs_of entries.now.entries) a.now b.now }
-{
-    same_at(entries, meaning_of(entries, a), meaning_of(entries, b))
-}
-
-/// The same of two meanings.
-#[cycle(same)]
-fn same_at(entries: &Entries, a: &Ty, b: &Ty) -> bool
-    requires { IsKept entries.now.entries }
-    ensures { IsTrue result ↔ SameAt (defs_of entries.now.entries) (out-Ty a.now) (out-Ty b.now) }
-{
-    match (a, b) {
-        (Ty::Bool, Ty::Bool) => true,
-        (Ty::Nat, Ty::Nat) => true,
-        (Ty::Int, Ty::Int) => true,
-        (Ty::Text, Ty::Text) => true,
-        (Ty::Name(one), Ty::Name(other)) => *one == *other,
-        (Ty::List(one), Ty::List(other)) => same(entries, one.get(), other.get()),
-        (Ty::Opt(one), Ty::Opt(other)) => same(entries, one.get(), other.get()),
-        (Ty::Tuple(ones), Ty::Tuple(others)) => {
-            same_all(entries, ones.as_slice(), others.as_slice())
-        }
-        _ => false,
-    }
-}
-
-#[cycle(same)]
-fn same_all(entries: &Entries, ones: &[Ty], others: &[Ty]) -> bool
-    requires { IsKept entries.now.entries }
-    ensures { IsTrue result ↔ SameAll (defs_of entries.now.entries) ones.now others.now }
+/// Whether the types are equal through aliases, one by one.
+fn are_same(table: &TypeTable, ones: &[Ty], others: &[Ty]) -> bool
+    ensures { IsTrue result ↔ SameAll table.now ones.now others.now }
 {
     if ones.len() != others.len() {
         return false;
     }
     for i in 0..ones.len() {
-        if !same(entries, &ones[i], &others[i]) {
+        if !table.same(&ones[i], &others[i]) {
             return false;
         }
     }
@@ -58,22 +28,20 @@ fn same_all(entries: &Entries, ones: &[Ty], others: &[Ty]) -> bool
 }
 
 /// Whether the case stands among these, with the same tag and equal operand types.
-fn stands_in(entries: &Entries, case: &CaseDef, cases: &[CaseDef]) -> bool
-    requires { IsKept entries.now.entries }
-    ensures { IsTrue result ↔ StandsIn (defs_of entries.now.entries) case.now cases.now }
+fn stands_in(table: &TypeTable, case: &CaseDef, cases: &[CaseDef]) -> bool
+    ensures { IsTrue result ↔ StandsIn table.now case.now cases.now }
 {
     match operands_of(cases, &case.tag) {
-        Some(operands) => same_all(entries, case.operands.as_slice(), operands.as_slice()),
+        Some(operands) => are_same(table, case.operands.as_slice(), operands.as_slice()),
         None => false,
     }
 }
 
-fn all_stand_in(entries: &Entries, lower: &[CaseDef], upper: &[CaseDef]) -> bool
-    requires { IsKept entries.now.entries }
-    ensures { IsTrue result ↔ AllStandIn (defs_of entries.now.entries) lower.now upper.now }
+fn all_stand_in(table: &TypeTable, lower: &[CaseDef], upper: &[CaseDef]) -> bool
+    ensures { IsTrue result ↔ AllStandIn table.now lower.now upper.now }
 {
     for case in lower {
-        if !stands_in(entries, case, upper) {
+        if !stands_in(table, case, upper) {
             return false;
         }
     }
@@ -81,57 +49,65 @@ fn all_stand_in(entries: &Entries, lower: &[CaseDef], upper: &[CaseDef]) -> bool
 }
 
 /// Whether both types are variants, and each case of the first stands in the second.
-fn is_contained(entries: &Entries, lower: &Ty, upper: &Ty) -> bool
-    requires { IsKept entries.now.entries }
-    ensures { IsTrue result ↔ IsContained (defs_of entries.now.entries) lower.now upper.now }
+fn is_contained(table: &TypeTable, lower: &Ty, upper: &Ty) -> bool
+    ensures { IsTrue result ↔ IsContained table.now lower.now upper.now }
 {
-    match (cases_of(entries, lower), cases_of(entries, upper)) {
+    match (table.cases(lower), table.cases(upper)) {
         (Some(cases), Some(others)) => {
-            all_stand_in(entries, cases.as_slice(), others.as_slice())
+            all_stand_in(table, cases.as_slice(), others.as_slice())
         }
         _ => false,
     }
 }
 
-/// Whether the first type is a subtype of the second.
-#[cycle(is_sub)]
-pub(crate) fn is_sub(entries: &Entries, lower: &Ty, upper: &Ty) -> bool
-    requires { IsKept entries.now.entries }
-    ensures { IsTrue result ↔ Sub (defs_of entries.now.entries) lower.now upper.now }
+/// Whether the first type is a subtype of the second. Each value of a type has the types above
+/// it; each type is above itself, and above what is below a type below it.
+pub fn is_sub(table: &TypeTable, lower: &Ty, upper: &Ty) -> bool
+    ensures exact { IsTrue result ↔ Sub table.now lower.now upper.now }
+    ensures up { IsTrue result → GoesUp table.now lower.now upper.now }
+    ensures reflexive { (t : Ty) → Sub table.now t t }
+    ensures transitive { (a b c : Ty) → Sub table.now a b → Sub table.now b c → Sub table.now a c }
 {
-    if same(entries, lower, upper) {
+    is_below(table, lower, upper)
+}
+
+/// The same, by way of elements.
+#[cycle(below)]
+fn is_below(table: &TypeTable, lower: &Ty, upper: &Ty) -> bool
+    ensures exact { IsTrue result ↔ Sub table.now lower.now upper.now }
+    ensures sound { IsSound table.now }
+{
+    if table.same(lower, upper) {
         return true;
     }
-    if is_contained(entries, lower, upper) {
+    if is_contained(table, lower, upper) {
         return true;
     }
-    is_under(entries, lower, upper)
+    is_under(table, lower, upper)
 }
 
 /// Whether the first type is a subtype of the second by numbers or by elements.
-#[cycle(is_sub)]
-fn is_under(entries: &Entries, lower: &Ty, upper: &Ty) -> bool
-    requires { IsKept entries.now.entries }
-    ensures { IsTrue result ↔ IsUnder (defs_of entries.now.entries) lower.now upper.now }
+#[cycle(below)]
+fn is_under(table: &TypeTable, lower: &Ty, upper: &Ty) -> bool
+    ensures { IsTrue result ↔ IsUnder table.now lower.now upper.now }
 {
     is_under_at(
-        entries,
-        meaning_of(entries, lower),
-        meaning_of(entries, upper),
+        table,
+        table.meaning(lower),
+        table.meaning(upper),
     )
 }
 
 /// The same of two meanings.
-#[cycle(is_sub)]
-fn is_under_at(entries: &Entries, lower: &Ty, upper: &Ty) -> bool
-    requires { IsKept entries.now.entries }
+#[cycle(below)]
+fn is_under_at(table: &TypeTable, lower: &Ty, upper: &Ty) -> bool
     ensures { IsTrue result
-        ↔ UnderAt (defs_of entries.now.entries) (out-Ty lower.now) (out-Ty upper.now) }
+        ↔ UnderAt table.now (out-Ty lower.now) (out-Ty upper.now) }
 {
     match (lower, upper) {
         (Ty::Nat, Ty::Int) => true,
-        (Ty::List(one), Ty::List(other)) => is_sub(entries, one.get(), other.get()),
-        (Ty::Opt(one), Ty::Opt(other)) => is_sub(entries, one.get(), other.get()),
+        (Ty::List(one), Ty::List(other)) => is_below(table, one.get(), other.get()),
+        (Ty::Opt(one), Ty::Opt(other)) => is_below(table, one.get(), other.get()),
         _ => false,
     }
 }

@@ -1,8 +1,8 @@
-//! Tables of small specifications.
+//! Subtypes in a small specification.
 
-use crate::{TypeFault, TypeTable};
+use crate::{TypeTable, is_sub};
 use st_il::{Alternative, SyntaxBody, SyntaxDef, Ty};
-use st_num::{Boxed, Name, NoMemory, Row, RuleId};
+use st_num::{Boxed, Name, NoMemory, Row};
 use std::alloc::Global;
 use std::test::Fail;
 
@@ -31,17 +31,6 @@ fn push(
     defs.push(SyntaxDef { name, body })
 }
 
-/// The fault of these definitions, where they are few and have one.
-fn fault_of(alloc: Global, defs: &Row<SyntaxDef>) -> Option<TypeFault> {
-    if !TypeTable::can_build(defs) {
-        return None;
-    }
-    match TypeTable::build(alloc, defs) {
-        Ok(_) => None,
-        Err(fault) => Some(fault),
-    }
-}
-
 /// `syntax numtype = | I32 | I64`, `syntax val = CONST numtype nat` and
 /// `syntax instr = | NOP | DROP | ADD numtype | val`.
 fn stack(alloc: Global) -> Result<Row<SyntaxDef>, NoMemory> {
@@ -67,24 +56,6 @@ fn stack(alloc: Global) -> Result<Row<SyntaxDef>, NoMemory> {
     Ok(defs)
 }
 
-#[test]
-fn subtypes_of_stack(rt: HostRuntime) -> Result<(), Fail> {
-    let alloc = rt.alloc();
-    let defs = stack(alloc)?;
-    assert!(rt; TypeTable::can_build(&defs));
-    let table = TypeTable::build(alloc, &defs)?;
-    let val = named(alloc, b"val")?;
-    let instr = named(alloc, b"instr")?;
-    assert!(rt; table.is_sub(&val, &instr));
-    assert!(rt; !table.is_sub(&instr, &val));
-    let cases = table.cases(&instr).ok_or("no variant")?;
-    assert_eq!(rt; cases.len(), 4);
-    let vals = Ty::List(Boxed::new(alloc, val)?);
-    let instrs = Ty::List(Boxed::new(alloc, instr)?);
-    assert!(rt; table.is_sub(&vals, &instrs));
-    Ok(())
-}
-
 /// The tuple of a type twice.
 fn pair(alloc: Global, first: Ty, second: Ty) -> Result<Ty, NoMemory> {
     let mut parts = Row::new(alloc);
@@ -94,137 +65,21 @@ fn pair(alloc: Global, first: Ty, second: Ty) -> Result<Ty, NoMemory> {
 }
 
 #[test]
-fn included_cases_come_last(rt: HostRuntime) -> Result<(), Fail> {
+fn subtypes_of_stack(rt: HostRuntime) -> Result<(), Fail> {
     let alloc = rt.alloc();
     let defs = stack(alloc)?;
     assert!(rt; TypeTable::can_build(&defs));
     let table = TypeTable::build(alloc, &defs)?;
+    let val = named(alloc, b"val")?;
     let instr = named(alloc, b"instr")?;
-    let cases = table.cases(&instr).ok_or("no variant")?;
-    let last = cases.get(3).ok_or("no case")?;
-    let tag = name(alloc, b"CONST % %")?;
-    assert!(rt; last.tag == tag);
+    assert!(rt; is_sub(&table, &val, &instr));
+    assert!(rt; !is_sub(&table, &instr, &val));
     let nats = pair(alloc, Ty::Nat, Ty::Nat)?;
     let ints = pair(alloc, Ty::Int, Ty::Int)?;
-    assert!(rt; !table.is_sub(&nats, &ints));
-    assert!(rt; table.is_sub(&Ty::Nat, &Ty::Int));
-    Ok(())
-}
-
-/// `syntax a = b` and this alias again.
-fn aliases(alloc: Global, target: &[u8], again: &[u8]) -> Result<Row<SyntaxDef>, NoMemory> {
-    let mut defs = Row::new(alloc);
-    push(alloc, &mut defs, b"a", SyntaxBody::Alias(Ty::Nat))?;
-    push(
-        alloc,
-        &mut defs,
-        again,
-        SyntaxBody::Alias(named(alloc, target)?),
-    )?;
-    Ok(defs)
-}
-
-/// `syntax a = nat`, and a variant of the atom A and this alternative.
-fn variants(alloc: Global, second: Alternative) -> Result<Row<SyntaxDef>, NoMemory> {
-    let mut defs = Row::new(alloc);
-    push(alloc, &mut defs, b"a", SyntaxBody::Alias(Ty::Nat))?;
-    let mut parts = Row::new(alloc);
-    parts.push(atom(alloc, b"A")?)?;
-    parts.push(second)?;
-    push(alloc, &mut defs, b"v", SyntaxBody::Variant(parts))?;
-    Ok(defs)
-}
-
-#[test]
-fn each_rule(rt: HostRuntime) -> Result<(), Fail> {
-    let alloc = rt.alloc();
-    let twice = fault_of(alloc, &aliases(alloc, b"a", b"a")?);
-    assert!(rt;
-        twice
-            == Some(TypeFault::Refused {
-                syntax: 1,
-                part: 0,
-                rule: RuleId::B1
-            })
-    );
-    let unknown = fault_of(alloc, &aliases(alloc, b"c", b"b")?);
-    assert!(rt;
-        unknown
-            == Some(TypeFault::Refused {
-                syntax: 1,
-                part: 0,
-                rule: RuleId::B2
-            })
-    );
-    let returns = fault_of(alloc, &aliases(alloc, b"b", b"b")?);
-    assert!(rt;
-        returns
-            == Some(TypeFault::Refused {
-                syntax: 1,
-                part: 0,
-                rule: RuleId::B4
-            })
-    );
-    let no_variant = variants(alloc, Alternative::Incl(name(alloc, b"a")?))?;
-    assert!(rt;
-        fault_of(alloc, &no_variant)
-            == Some(TypeFault::Refused {
-                syntax: 1,
-                part: 1,
-                rule: RuleId::B5
-            })
-    );
-    let same_keys = variants(alloc, atom(alloc, b"A")?)?;
-    assert!(rt;
-        fault_of(alloc, &same_keys)
-            == Some(TypeFault::Refused {
-                syntax: 1,
-                part: 1,
-                rule: RuleId::Y7
-            })
-    );
-    Ok(())
-}
-
-/// A record of one field of this type.
-fn one_field(alloc: Global, ty: Ty) -> Result<SyntaxBody, NoMemory> {
-    let mut fields = Row::new(alloc);
-    fields.push((name(alloc, b"F")?, ty))?;
-    Ok(SyntaxBody::Fields(fields))
-}
-
-/// `syntax nats = nat*`, and records of a field of `nats`, of the record before by its alias, of
-/// a number, of themselves, and of an option of themselves.
-fn records(alloc: Global) -> Result<Row<SyntaxDef>, NoMemory> {
-    let mut defs = Row::new(alloc);
-    let nats = SyntaxBody::Alias(Ty::List(Boxed::new(alloc, Ty::Nat)?));
-    push(alloc, &mut defs, b"nats", nats)?;
-    let inner = one_field(alloc, named(alloc, b"nats")?)?;
-    push(alloc, &mut defs, b"inner", inner)?;
-    let again = SyntaxBody::Alias(named(alloc, b"inner")?);
-    push(alloc, &mut defs, b"again", again)?;
-    let outer = one_field(alloc, named(alloc, b"again")?)?;
-    push(alloc, &mut defs, b"outer", outer)?;
-    let number = one_field(alloc, Ty::Nat)?;
-    push(alloc, &mut defs, b"number", number)?;
-    let circle = one_field(alloc, named(alloc, b"circle")?)?;
-    push(alloc, &mut defs, b"circle", circle)?;
-    let chain = Ty::Opt(Boxed::new(alloc, named(alloc, b"chain")?)?);
-    push(alloc, &mut defs, b"chain", one_field(alloc, chain)?)?;
-    Ok(defs)
-}
-
-#[test]
-fn records_that_join(rt: HostRuntime) -> Result<(), Fail> {
-    let alloc = rt.alloc();
-    let defs = records(alloc)?;
-    assert!(rt; TypeTable::can_build(&defs));
-    let table = TypeTable::build(alloc, &defs)?;
-    assert!(rt; table.joinable(&named(alloc, b"outer")?));
-    assert!(rt; table.joinable(&named(alloc, b"again")?));
-    assert!(rt; table.joinable(&named(alloc, b"chain")?));
-    assert!(rt; !table.joinable(&named(alloc, b"number")?));
-    assert!(rt; !table.joinable(&named(alloc, b"circle")?));
-    assert!(rt; !table.joinable(&named(alloc, b"nats")?));
+    assert!(rt; !is_sub(&table, &nats, &ints));
+    assert!(rt; is_sub(&table, &Ty::Nat, &Ty::Int));
+    let vals = Ty::List(Boxed::new(alloc, val)?);
+    let instrs = Ty::List(Boxed::new(alloc, instr)?);
+    assert!(rt; is_sub(&table, &vals, &instrs));
     Ok(())
 }

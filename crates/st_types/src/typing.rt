@@ -2,17 +2,15 @@
 
 ghost use Rattle.std.specs.Prelude.{◌≡◌, ◌↔◌, IsTrue, List, MatchOption};
 ghost use Rattle.std.specs.Option.{option_copied};
-ghost use Rattle.st_types.specs.Cases.{operands_of};
+ghost use Rattle.st_type_table.specs.Cases.{operands_of};
 ghost use Rattle.st_types.specs.HasType.{HasType, HaveTypes, AllHaveType, FieldsHaveTypes};
 ghost use Rattle.st_il.specs.declared.ty.Ty.{Ty, out-Ty};
 ghost use Rattle.st_il.specs.declared.value.Value.{out-Value};
-ghost use Rattle.st_types.specs.Levels.{TypedAt, HasOperands};
-ghost use Rattle.st_types.specs.Kept.{defs_of, IsKept};
+ghost use Rattle.st_types.specs.inner.Levels.{TypedAt, HasOperands};
 
-use crate::entry::{CaseDef, Entries};
-use crate::meaning::{cases_of, fields_of, meaning_of};
 use st_il::{Ty, Value};
 use st_num::{Name, Row};
+use st_type_table::{CaseDef, TypeTable};
 
 /// The types of the operands of the case with this tag.
 pub(crate) fn operands_of<'a>(cases: &'a [CaseDef], tag: &Name) -> Option<&'a Row<Ty>>
@@ -28,19 +26,17 @@ pub(crate) fn operands_of<'a>(cases: &'a [CaseDef], tag: &Name) -> Option<&'a Ro
 
 /// Whether the value has the type.
 #[cycle(typing)]
-pub(crate) fn has_type(entries: &Entries, value: &Value, ty: &Ty) -> bool
-    requires { IsKept entries.now.entries }
-    ensures { IsTrue result ↔ HasType (defs_of entries.now.entries) value.now ty.now }
+pub fn has_type(table: &TypeTable, value: &Value, ty: &Ty) -> bool
+    ensures { IsTrue result ↔ HasType table.now value.now ty.now }
 {
-    typed_at(entries, value, meaning_of(entries, ty), ty)
+    typed_at(table, value, table.meaning(ty), ty)
 }
 
 /// The same where the meaning of the type is known.
 #[cycle(typing)]
-fn typed_at(entries: &Entries, value: &Value, meaning: &Ty, ty: &Ty) -> bool
-    requires { IsKept entries.now.entries }
+fn typed_at(table: &TypeTable, value: &Value, meaning: &Ty, ty: &Ty) -> bool
     ensures { IsTrue result
-        ↔ TypedAt (defs_of entries.now.entries) (out-Value value.now) (out-Ty meaning.now) ty.now }
+        ↔ TypedAt table.now (out-Value value.now) (out-Ty meaning.now) ty.now }
 {
     match value {
         Value::Bool(_) => matches!(meaning, Ty::Bool),
@@ -50,53 +46,51 @@ fn typed_at(entries: &Entries, value: &Value, meaning: &Ty, ty: &Ty) -> bool
             _ => false,
         },
         Value::Text(_) => matches!(meaning, Ty::Text),
-        Value::Case(tag, parts) => match operands(entries, tag, ty) {
-            Some(operands) => have_types(entries, parts.as_slice(), operands.as_slice()),
+        Value::Case(tag, parts) => match operands(table, tag, ty) {
+            Some(operands) => have_types(table, parts.as_slice(), operands.as_slice()),
             None => false,
         },
-        Value::Fields(parts) => match fields_of(entries, ty) {
-            Some(fields) => fields_have_types(entries, parts.as_slice(), fields),
+        Value::Fields(parts) => match table.fields(ty) {
+            Some(fields) => fields_have_types(table, parts.as_slice(), fields),
             None => false,
         },
         Value::Tuple(parts) => match meaning {
-            Ty::Tuple(types) => have_types(entries, parts.as_slice(), types.as_slice()),
+            Ty::Tuple(types) => have_types(table, parts.as_slice(), types.as_slice()),
             _ => false,
         },
         Value::List(parts) => match meaning {
-            Ty::List(element) => all_have_type(entries, parts.as_slice(), element.get()),
+            Ty::List(element) => all_have_type(table, parts.as_slice(), element.get()),
             _ => false,
         },
         Value::Opt(None) => matches!(meaning, Ty::Opt(_)),
         Value::Opt(Some(part)) => match meaning {
-            Ty::Opt(element) => has_type(entries, part.get(), element.get()),
+            Ty::Opt(element) => has_type(table, part.get(), element.get()),
             _ => false,
         },
     }
 }
 
 /// The types of the operands of the case of this type with this tag.
-fn operands<'a>(entries: &'a Entries, tag: &Name, ty: &Ty) -> Option<&'a Row<Ty>>
-    requires { IsKept entries.now.entries }
+fn operands<'a>(table: &'a TypeTable, tag: &Name, ty: &Ty) -> Option<&'a Row<Ty>>
     ensures { MatchOption result ((operands : List Ty)
-        → HasOperands (defs_of entries.now.entries) ty.now tag.now operands → ⊥)
-        (λ operands. HasOperands (defs_of entries.now.entries) ty.now tag.now operands.now) }
+        → HasOperands table.now ty.now tag.now operands → ⊥)
+        (λ operands. HasOperands table.now ty.now tag.now operands.now) }
 {
-    match cases_of(entries, ty) {
+    match table.cases(ty) {
         Some(cases) => operands_of(cases.as_slice(), tag),
         None => None,
     }
 }
 
 #[cycle(typing)]
-fn have_types(entries: &Entries, values: &[Value], types: &[Ty]) -> bool
-    requires { IsKept entries.now.entries }
-    ensures { IsTrue result ↔ HaveTypes (defs_of entries.now.entries) values.now types.now }
+fn have_types(table: &TypeTable, values: &[Value], types: &[Ty]) -> bool
+    ensures { IsTrue result ↔ HaveTypes table.now values.now types.now }
 {
     if values.len() != types.len() {
         return false;
     }
     for i in 0..values.len() {
-        if !has_type(entries, &values[i], &types[i]) {
+        if !has_type(table, &values[i], &types[i]) {
             return false;
         }
     }
@@ -104,12 +98,11 @@ fn have_types(entries: &Entries, values: &[Value], types: &[Ty]) -> bool
 }
 
 #[cycle(typing)]
-fn all_have_type(entries: &Entries, values: &[Value], ty: &Ty) -> bool
-    requires { IsKept entries.now.entries }
-    ensures { IsTrue result ↔ AllHaveType (defs_of entries.now.entries) values.now ty.now }
+fn all_have_type(table: &TypeTable, values: &[Value], ty: &Ty) -> bool
+    ensures { IsTrue result ↔ AllHaveType table.now values.now ty.now }
 {
     for value in values {
-        if !has_type(entries, value, ty) {
+        if !has_type(table, value, ty) {
             return false;
         }
     }
@@ -117,9 +110,8 @@ fn all_have_type(entries: &Entries, values: &[Value], ty: &Ty) -> bool
 }
 
 #[cycle(typing)]
-fn fields_have_types(entries: &Entries, values: &[(Name, Value)], fields: &[(Name, Ty)]) -> bool
-    requires { IsKept entries.now.entries }
-    ensures { IsTrue result ↔ FieldsHaveTypes (defs_of entries.now.entries) values.now fields.now }
+fn fields_have_types(table: &TypeTable, values: &[(Name, Value)], fields: &[(Name, Ty)]) -> bool
+    ensures { IsTrue result ↔ FieldsHaveTypes table.now values.now fields.now }
 {
     if values.len() != fields.len() {
         return false;
@@ -129,7 +121,7 @@ fn fields_have_types(entries: &Entries, values: &[(Name, Value)], fields: &[(Nam
         if field.0 != declared.0 {
             return false;
         }
-        if !has_type(entries, &field.1, &declared.1) {
+        if !has_type(table, &field.1, &declared.1) {
             return false;
         }
     }

@@ -2,8 +2,8 @@ use Rattle.std.proofs.Common.{Some, Err, IfErr, sym, ap, subst, ◌∙◌}
 use Rattle.std.proofs.lemmas.Result.{err_from_is_err_and}
 use Rattle.st_el.specs.declared.expression.Exp.{Exp}
 use Rattle.st_parse_builder.specs.Heights.{height}
-use Rattle.st_measure.specs.Answers.{OnlyMemory}
-use Rattle.st_draft.specs.Parts.{exp_built}
+use Rattle.st_measure.specs.inner.Answers.{OnlyMemory}
+use Rattle.st_draft.specs.inner.Parts.{exp_built}
 use Rattle.st_draft.proofs.Faults.{nth_low}
 use Rattle.st_draft.proofs.Arguments.{one_more}
 use Rattle.st_draft.proofs.parts.build_patterns.Goals as goal

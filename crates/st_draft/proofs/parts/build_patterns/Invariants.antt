@@ -1,5 +1,5 @@
 use Rattle.std.proofs.Common.{◌≡◌, take, Some}
-use Rattle.st_draft.specs.Parts.{all_built, exp_built}
+use Rattle.st_draft.specs.inner.Parts.{all_built, exp_built}
 use Rattle.st_draft.proofs.parts.build_patterns.Given as goal
 
 abbrev pub invariant-arguments : goal.invariant-arguments

@@ -2,8 +2,8 @@ use Rattle.std.proofs.Common.{Some, Err, IfErr, sym, ap, subst, ◌∙◌}
 use Rattle.std.proofs.lemmas.Result.{err_from_is_err_and}
 use Rattle.st_el.specs.declared.ty.Typ.{Typ}
 use Rattle.st_parse_builder.specs.Heights.{typ_height}
-use Rattle.st_parse_builder.specs.NotationBuilding.{typ_built}
-use Rattle.st_measure.specs.Answers.{OnlyMemory}
+use Rattle.st_parse_builder.specs.inner.NotationBuilding.{typ_built}
+use Rattle.st_measure.specs.inner.Answers.{OnlyMemory}
 use Rattle.st_draft.proofs.Faults.{nth_low, made_low}
 use Rattle.st_draft.proofs.Arguments.{one_more}
 use Rattle.st_draft.proofs.parts.build_types.Goals as goal

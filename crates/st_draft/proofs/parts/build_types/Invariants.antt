@@ -1,6 +1,6 @@
 use Rattle.std.proofs.Common.{◌≡◌, take, Some}
-use Rattle.st_parse_builder.specs.NotationBuilding.{typ_built}
-use Rattle.st_draft.specs.Parts.{all_built}
+use Rattle.st_parse_builder.specs.inner.NotationBuilding.{typ_built}
+use Rattle.st_draft.specs.inner.Parts.{all_built}
 use Rattle.st_draft.proofs.parts.build_types.Given as goal
 
 abbrev pub invariant-arguments : goal.invariant-arguments

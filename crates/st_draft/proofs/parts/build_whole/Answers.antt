@@ -1,6 +1,6 @@
 use Rattle.std.proofs.Common.{Err, IfErr, sym, ap, subst, ◌∙◌}
 use Rattle.std.proofs.lemmas.Result.{err_from_is_err_and}
-use Rattle.st_measure.specs.Answers.{OnlyMemory}
+use Rattle.st_measure.specs.inner.Answers.{OnlyMemory}
 use Rattle.st_draft.proofs.Faults.{alias_low}
 use Rattle.st_draft.proofs.parts.build_whole.Goals as goal
 

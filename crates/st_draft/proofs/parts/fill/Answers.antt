@@ -1,5 +1,5 @@
 use Rattle.std.proofs.Common.{◌≡◌, map, true, is_some, rules}
-use Rattle.st_draft.specs.Parts.{word_of}
+use Rattle.st_draft.specs.inner.Parts.{word_of}
 use Rattle.st_draft.proofs.Faults.{typ_low, notation_part_low, count_low}
 use Rattle.st_draft.proofs.parts.fill.Goals as goal
 

@@ -1,9 +1,9 @@
 use Rattle.std.proofs.Common.{rules, reverse, ap, ◌∙◌, sym}
 use Rattle.std.proofs.lemmas.List.{length-reverse}
-use Rattle.st_parse_automaton.specs.Readings.{reading_of}
+use Rattle.st_parse_automaton.specs.inner.Readings.{reading_of}
 use Rattle.st_draft.proofs.ListenerLemmas.{ended_inside}
-use Rattle.st_draft.specs.Work.{ended_defs}
-use Rattle.st_parse_automaton.specs.Readings.{progress_of}
+use Rattle.st_draft.specs.inner.Work.{ended_defs}
+use Rattle.st_parse_automaton.specs.inner.Readings.{progress_of}
 use Rattle.st_draft.proofs.reader.end_tokens.Goals as goal
 
 pub returns-in_ok-end_part-in-Inside-clause-defs : goal.returns-in_ok-end_part-in-Inside-clause-defs

@@ -1,13 +1,13 @@
 use Rattle.std.proofs.Common.{[], Err, IfErr, refl, sym, ap, subst, reverse, ◌∙◌}
 use Rattle.st_grammar.specs.Positions.{start}
 use Rattle.st_parse_automaton.specs.declared.position.Position.TheVariants as position
-use Rattle.st_parse_automaton.specs.DefinitionAutomaton as definitions
+use Rattle.st_parse_automaton.specs.inner.DefinitionAutomaton as definitions
 use Rattle.st_el.specs.Plain.{nowhere}
-use Rattle.st_draft.specs.Drafts.{begun}
-use Rattle.st_draft.specs.Work.{work_of}
+use Rattle.st_draft.specs.inner.Drafts.{begun}
+use Rattle.st_draft.specs.inner.Work.{work_of}
 use Rattle.st_draft.proofs.Loop.{next_token, all_read, nothing_kept}
 use Rattle.std.proofs.lemmas.Result.{err_from_is_err_and}
-use Rattle.st_measure.specs.Answers.{OnlyMemory}
+use Rattle.st_measure.specs.inner.Answers.{OnlyMemory}
 use Rattle.st_draft.proofs.LowReading.{may_go}
 use Rattle.st_draft.proofs.reader.read_all.Goals as goal
 

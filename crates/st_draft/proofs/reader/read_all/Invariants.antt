@@ -1,6 +1,6 @@
 use Rattle.std.proofs.Common.{take, map}
 use Rattle.st_grammar.specs.Terminals.{terminal}
-use Rattle.st_draft.specs.Work.{Work, Keeps}
+use Rattle.st_draft.specs.inner.Work.{Work, Keeps}
 use Rattle.st_draft.proofs.Loop.{Reads}
 use Rattle.st_draft.proofs.reader.read_all.Given as goal
 

@@ -1,7 +1,7 @@
 use Rattle.std.proofs.Common.{◌≡◌, Some, ap, ◌∙◌}
 use Rattle.st_parse_automaton.specs.declared.position.Progress.{Progress}
-use Rattle.st_parse_automaton.specs.Readings.{progress_of}
-use Rattle.st_draft.specs.Work.{Keeps, work_after}
+use Rattle.st_parse_automaton.specs.inner.Readings.{progress_of}
+use Rattle.st_draft.specs.inner.Work.{Keeps, work_after}
 use Rattle.st_draft.proofs.ListenerLemmas.{held}
 use Rattle.st_draft.proofs.reader.read_next.Goals as goal
 

@@ -1,6 +1,6 @@
 use Rattle.std.proofs.Common.{rules, [], reverse, sym, ap, ◌∙◌}
 use Rattle.st_parse_automaton.specs.declared.part_automaton.Expected.TheVariants.{Operand}
-use Rattle.st_draft.specs.Work.{part_work, work_of}
+use Rattle.st_draft.specs.inner.Work.{part_work, work_of}
 use Rattle.st_draft.proofs.ListenerLemmas.{at_is, entering_is, not_entering, gone_on}
 use Rattle.st_draft.proofs.step.change_work.Goals as goal
 

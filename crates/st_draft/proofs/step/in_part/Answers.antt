@@ -1,12 +1,12 @@
 use Rattle.std.proofs.Common.{rules, Err, IfErr, refl, reverse, sym, ap, subst, ◌∙◌}
 use Rattle.std.proofs.lemmas.List.{length-reverse}
-use Rattle.st_parse_automaton.specs.PartAutomaton as parts
-use Rattle.st_parse_automaton.specs.DefinitionAutomaton as definitions
-use Rattle.st_parse_automaton.specs.Readings.{reading_of}
-use Rattle.st_draft.specs.Work.{work_of, part_work, filled_work}
+use Rattle.st_parse_automaton.specs.inner.PartAutomaton as parts
+use Rattle.st_parse_automaton.specs.inner.DefinitionAutomaton as definitions
+use Rattle.st_parse_automaton.specs.inner.Readings.{reading_of}
+use Rattle.st_draft.specs.inner.Work.{work_of, part_work, filled_work}
 use Rattle.st_draft.proofs.ListenerLemmas.{taken_goes, gone_on, behind_part}
 use Rattle.std.proofs.lemmas.Result.{err_from_is_err_and}
-use Rattle.st_measure.specs.Answers.{OnlyMemory}
+use Rattle.st_measure.specs.inner.Answers.{OnlyMemory}
 use Rattle.st_draft.proofs.LowSteps.{ended_low}
 use Rattle.st_draft.proofs.step.in_part.Goals as goal
 

@@ -1,6 +1,6 @@
 use Rattle.std.proofs.Common.{IfOk, IfSome, ◌≡◌, Some, sym, subst}
-use Rattle.st_parse_automaton.specs.Readings.{progress_of}
-use Rattle.st_draft.specs.Work.{Keeps, work_after}
+use Rattle.st_parse_automaton.specs.inner.Readings.{progress_of}
+use Rattle.st_draft.specs.inner.Work.{Keeps, work_after}
 use Rattle.st_draft.proofs.step.read_token.Goals as goal
 
 pub returns-in-At-clause-work : goal.returns-in-At-clause-work

@@ -2,7 +2,7 @@ use Rattle.std.proofs.Common.{drop}
 use Rattle.st_il.specs.declared.expression.IlExp.{IlExp}
 use Rattle.st_notation.specs.Fitted.{fillings}
 use Rattle.st_elab_table.specs.Steps.{exp_of, holes}
-use Rattle.st_elab_rows.specs.Parts.{Continues}
+use Rattle.st_elab_rows.specs.inner.Continuing.{Continues}
 use Rattle.st_elab_exp.proofs.collection.all_holes.Given as goal
 
 abbrev pub invariant-loop-filling : goal.invariant-loop-filling

@@ -1,6 +1,6 @@
 use Rattle.std.proofs.Common.{rules, sym, ◌∙◌}
 use Rattle.st_elab_table.proofs.RowLemmas.{element_collection, element_plain}
-use Rattle.st_elab_rows.specs.Words.{lift_of}
+use Rattle.st_elab_rows.specs.inner.Words.{lift_of}
 use Rattle.st_elab_rows.proofs.Builds.{leading_by, reaches_stops, gives_made}
 use Rattle.st_elab_exp.proofs.collection.element.Goals as goal
 

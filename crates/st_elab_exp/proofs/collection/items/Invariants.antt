@@ -2,7 +2,7 @@ use Rattle.std.proofs.Common.{drop, map}
 use Rattle.st_il.specs.declared.expression.ListItem.{ListItem}
 use Rattle.st_elab_table.specs.Questions.{item}
 use Rattle.st_elab_table.specs.Collections.{item_of}
-use Rattle.st_elab_rows.specs.Parts.{Continues}
+use Rattle.st_elab_rows.specs.inner.Continuing.{Continues}
 use Rattle.st_elab_exp.proofs.collection.items.Given as goal
 
 abbrev pub invariant-loop-part : goal.invariant-loop-part

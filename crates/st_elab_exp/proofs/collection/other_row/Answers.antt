@@ -1,7 +1,7 @@
 use Rattle.std.proofs.Common.{subst}
 use Rattle.st_elab_table.specs.Collections.{element}
-use Rattle.st_elab_rows.specs.Asking.{LeadsTo}
-use Rattle.st_elab_rows.specs.Words.{lift_of}
+use Rattle.st_elab_rows.specs.inner.Asking.{LeadsTo}
+use Rattle.st_elab_rows.specs.inner.Words.{lift_of}
 use Rattle.st_elab_rows.specs.declared.fitting.Lifting.TheVariants as lifting
 use Rattle.st_elab_rows.proofs.Builds.{leading_by}
 use Rattle.st_elab_exp.proofs.Collecting.{other_list, other_option, other_fails}

@@ -1,7 +1,7 @@
 use Rattle.std.proofs.Common.{drop}
 use Rattle.st_il.specs.declared.expression.IlExp.{IlExp}
 use Rattle.st_elab_table.specs.Steps.{exp_of, each_asked}
-use Rattle.st_elab_rows.specs.Parts.{Continues}
+use Rattle.st_elab_rows.specs.inner.Continuing.{Continues}
 use Rattle.st_elab_exp.proofs.inferred.arguments.Given as goal
 
 abbrev pub invariant-loop-exp : goal.invariant-loop-exp

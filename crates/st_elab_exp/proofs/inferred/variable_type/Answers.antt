@@ -2,9 +2,9 @@ use Rattle.std.proofs.Common.{◌≡◌, sym, ap, subst, map, ◌∙◌}
 use Rattle.std.specs.Prelude.{IfOk, Some}
 use Rattle.std.specs.Map.{lookup}
 use Rattle.std.specs.Option.{option_copied}
-use Rattle.st_el.specs.Erasure.{same_name}
+use Rattle.st_num.specs.Names.{same_name}
 use Rattle.st_elab_table.specs.Inferred.{entry_of}
-use Rattle.st_elab_table.specs.Iterations.{is_among}
+use Rattle.st_num.specs.Names.{is_among}
 use Rattle.st_elab_exp.proofs.Inferring.{index_type, scope_type, other_type}
 use Rattle.st_elab_exp.proofs.inferred.variable_type.Goals as goal
 

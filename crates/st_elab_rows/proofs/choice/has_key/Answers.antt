@@ -1,7 +1,7 @@
 use Rattle.std.proofs.Common.{sym, subst}
 use Rattle.st_il.specs.Key.{plain}
-use Rattle.st_types.specs.Keys.{HasKey}
-use Rattle.st_types.proofs.KeyLemmas.{found-key}
+use Rattle.st_type_table.specs.Keys.{HasKey}
+use Rattle.st_type_table.proofs.KeyLemmas.{found-key}
 use Rattle.st_elab_rows.proofs.Choosing.{key_exact}
 use Rattle.st_elab_rows.proofs.choice.has_key.Goals as goal
 

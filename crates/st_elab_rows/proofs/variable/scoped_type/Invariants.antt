@@ -1,6 +1,6 @@
 use Rattle.std.proofs.Common.{◌≡◌, drop, map}
 use Rattle.std.specs.Map.{lookup}
-use Rattle.st_el.specs.Erasure.{same_name}
+use Rattle.st_num.specs.Names.{same_name}
 use Rattle.st_elab_table.specs.Inferred.{entry_of}
 use Rattle.st_elab_rows.proofs.variable.scoped_type.Given as goal
 

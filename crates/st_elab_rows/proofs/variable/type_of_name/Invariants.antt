@@ -1,6 +1,6 @@
 use Rattle.std.proofs.Common.{◌≡◌, ◌≤◌, length, map}
 use Rattle.st_elab_table.specs.Variables.{unprimed, fronts, first_type}
-use Rattle.st_elab_rows.specs.Searching.{remaining_before}
+use Rattle.st_elab_rows.specs.inner.Searching.{remaining_before}
 use Rattle.st_elab_rows.proofs.variable.type_of_name.Given as goal
 
 abbrev pub invariant-loop-at : goal.invariant-loop-at

@@ -1,6 +1,7 @@
 use Rattle.std.proofs.Common.{subst, sym, ◌≡◌, []}
 use Rattle.st_dims.specs.Breaches.{IsFirst}
-use Rattle.st_elab_rule.specs.Variables.{untyped, AreTyped, no_type}
+use Rattle.st_elab_rule.specs.Variables.{untyped, no_type}
+use Rattle.st_elab_rule.specs.inner.Typing.{AreTyped}
 use Rattle.st_elab_rule.proofs.Naming.{all_named}
 use Rattle.st_elab_rule.proofs.scope.scope_of.Goals as goal
 

@@ -1,5 +1,5 @@
 use Rattle.std.proofs.Common.{◌++◌, ap, ◌∙◌}
-use Rattle.st_elab_sig.specs.Signatures.{words_in, trailed}
+use Rattle.st_elab_sig.specs.inner.Words.{words_in, trailed}
 use Rattle.st_elab_sig.proofs.Spacing.{last_off}
 use Rattle.st_elab_sig.proofs.signature.tag_of.Goals as goal
 

@@ -1,5 +1,5 @@
 use Rattle.std.proofs.Common.{sym, ap, ◌∙◌}
-use Rattle.st_parse_builder.specs.NotationBuilding.{notation_built}
+use Rattle.st_parse_builder.specs.inner.NotationBuilding.{notation_built}
 use Rattle.st_measure.proofs.Holes.{last_tells}
 use Rattle.st_measure.proofs.height.ends_type.Goals as goal
 

@@ -1,7 +1,7 @@
 use Rattle.std.proofs.Common.{Some, Err, option_map, subst, sym, ap, ◌∙◌}
 use Rattle.std.proofs.lemmas.Result.{err_from_is_err_and}
 use Rattle.st_parse_builder.specs.Heights.{typ_height}
-use Rattle.st_measure.specs.Answers.{capped, MeasuresAlias}
+use Rattle.st_measure.specs.inner.Answers.{capped, MeasuresAlias}
 use Rattle.st_measure.proofs.Holes.{builds_typ}
 use Rattle.st_measure.proofs.height.measure_alias.Goals as goal
 

@@ -1,9 +1,9 @@
 use Rattle.std.proofs.Common.{◌≡◌, ◌≤◌, [], ◌∷◌, ◌++◌, ap, subst, sym, ◌∙◌, arith, true, false, Some, if◌then◌else◌}
 use Rattle.std.specs.List.{list_any}
 use Rattle.st_parse_builder.specs.Names.{name_of}
-use Rattle.st_measure.specs.Names.{same_name}
+use Rattle.st_num.specs.Names.{same_name}
 use Rattle.st_measure.specs.Variables.{occurrence}
-use Rattle.st_measure.specs.Counting.{Knows}
+use Rattle.st_measure.specs.inner.Counting.{Knows}
 use Rattle.st_measure.proofs.Limits.{knows_again, knows_more, past_known}
 use Rattle.st_measure.proofs.limit.count.Goals as goal
 

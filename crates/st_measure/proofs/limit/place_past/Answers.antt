@@ -1,7 +1,7 @@
 use Rattle.std.proofs.Common.{sym, subst, ◌++◌, ◌∷◌, [], take, drop, ap, ◌∙◌, arith, ◌+◌}
 use Rattle.st_measure.specs.Variables.{occurrence, occurrences}
 use Rattle.st_measure.specs.Limits.{place_past}
-use Rattle.st_measure.specs.Counting.{Counted, Knows}
+use Rattle.st_measure.specs.inner.Counting.{Counted, Knows}
 use Rattle.st_measure.proofs.Limits.{none_past, next_seen, all_seen}
 use Rattle.st_measure.proofs.Lists.{all_taken}
 use Rattle.st_measure.proofs.limit.place_past.Goals as goal

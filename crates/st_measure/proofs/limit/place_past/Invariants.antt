@@ -1,6 +1,6 @@
 use Rattle.std.proofs.Common.{take}
 use Rattle.st_measure.specs.Variables.{occurrences}
-use Rattle.st_measure.specs.Counting.{Knows}
+use Rattle.st_measure.specs.inner.Counting.{Knows}
 use Rattle.st_measure.proofs.limit.place_past.Given as goal
 
 abbrev pub invariant-tokens : goal.invariant-tokens

@@ -1,5 +1,5 @@
 use Rattle.std.proofs.Common.{sym, subst}
-use Rattle.st_measure.specs.Steps.{Does}
+use Rattle.st_measure.specs.inner.Steps.{Does}
 use Rattle.st_measure.proofs.Applied.{does}
 use Rattle.st_measure.proofs.note.note.Goals as goal
 

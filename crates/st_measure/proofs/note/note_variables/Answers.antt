@@ -1,9 +1,9 @@
 use Rattle.std.proofs.Common.{◌+◌, [], ◌∷◌, Err, IfErr, take, drop, subst, sym, ap, ◌∙◌, arith}
 use Rattle.std.proofs.lemmas.Result.{err_from_is_err_and}
 use Rattle.st_parse_builder.specs.declared.piece.Piece.TheVariants.{Done}
-use Rattle.st_parse_builder.specs.Building.{run}
+use Rattle.st_parse_builder.specs.inner.Building.{run}
 use Rattle.st_measure.specs.Variables.{occurrences}
-use Rattle.st_measure.specs.Answers.{OnlyMemory}
+use Rattle.st_measure.specs.inner.Answers.{OnlyMemory}
 use Rattle.st_measure.proofs.Lists.{next_taken, all_taken, cut}
 use Rattle.st_measure.proofs.Taken.{run_at}
 use Rattle.st_measure.proofs.note.note_variables.Goals as goal

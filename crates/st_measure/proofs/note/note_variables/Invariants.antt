@@ -1,7 +1,7 @@
 use Rattle.std.proofs.Common.{◌≡◌, [], take, Some}
-use Rattle.st_parse_builder.specs.Building.{Stack, run}
+use Rattle.st_parse_builder.specs.inner.Building.{Stack, run}
 use Rattle.st_measure.specs.Variables.{occurrences}
-use Rattle.st_measure.specs.Noting.{IsNoted}
+use Rattle.st_measure.specs.inner.Noting.{IsNoted}
 use Rattle.st_measure.proofs.note.note_variables.Given as goal
 
 abbrev pub invariant-actions : goal.invariant-actions

@@ -2,7 +2,7 @@ use Rattle.std.proofs.Common.{[], ◌∷◌, ◌++◌, take, drop, subst, ap, �
 use Rattle.st_parse_builder.specs.Names.{name_of}
 use Rattle.st_measure.specs.declared.note.Body.{Body}
 use Rattle.st_measure.specs.Variables.{occurrences, without}
-use Rattle.st_measure.specs.Steps.{IsIndexed, Does}
+use Rattle.st_measure.specs.inner.Steps.{IsIndexed, Does}
 use Rattle.st_measure.proofs.Taken.{taken_noted, bounds_in, indexed_noted}
 use Rattle.st_measure.proofs.note.take_step.Goals as goal
 

@@ -3,7 +3,8 @@ use Rattle.st_il.specs.declared.template.Template.{out-Template}
 use Rattle.st_il.specs.declared.template.Template.TheVariants as template
 use Rattle.st_notation.specs.Elements.{opened}
 use Rattle.st_notation.specs.Fits.{Fits}
-use Rattle.st_notation.specs.Fitted.{plain_share, fillings, Refuses, Reaches}
+use Rattle.st_notation.specs.Fitted.{fillings, Refuses}
+use Rattle.st_notation.specs.inner.Steps.{plain_share, Reaches}
 use Rattle.st_notation.proofs.Steps.{atom-took, atom-missed, hole-took, bracket-took, atom-fits, atom-fails, hole-fits, bracket-fails, bracket-answers, sequence-answers, sides-fail, sides-fit, right-refuses, first-is, turn, Reaches-end, Reaches-left, empty-is, empty-is_not, loop-end, Fitted-err}
 use Rattle.st_notation.proofs.fitting.+fit.Goals as goal
 

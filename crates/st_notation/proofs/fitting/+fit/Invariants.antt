@@ -1,5 +1,6 @@
 use Rattle.std.proofs.Common.{drop}
-use Rattle.st_notation.specs.Fitted.{Reaches, fillings}
+use Rattle.st_notation.specs.Fitted.{fillings}
+use Rattle.st_notation.specs.inner.Steps.{Reaches}
 use Rattle.st_notation.proofs.fitting.+fit.Given as goal
 
 abbrev pub invariant-fit_sequence-loop-index : goal.invariant-fit_sequence-loop-index

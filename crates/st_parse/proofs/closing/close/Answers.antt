@@ -1,6 +1,6 @@
 use Rattle.std.proofs.Common.{Option, ap, ◌∙◌}
 use Rattle.st_el.specs.declared.definition.DefNode.{DefNode}
-use Rattle.st_draft.specs.Drafts.{node_of}
+use Rattle.st_draft.specs.inner.Drafts.{node_of}
 use Rattle.st_measure.specs.Variables.{occurrences}
 use Rattle.st_measure.specs.Limits.{place_past}
 use Rattle.st_parse.proofs.Endings.{past_put, tall_put}

@@ -3,7 +3,7 @@ use Rattle.st_el.specs.declared.expression.Exp.{Exp}
 use Rattle.st_parse_builder.specs.Heights.{highest, height}
 use Rattle.st_measure.specs.Variables.{variables, prem_variables}
 use Rattle.st_measure.specs.DefHeights.{prem_height}
-use Rattle.st_parse.specs.Surveys.{OfExp}
+use Rattle.st_parse.specs.inner.Surveys.{OfExp}
 use Rattle.st_parse.proofs.Endings.{some_of, a_clause}
 use Rattle.st_parse.proofs.closing.rule_measure.Goals as goal
 

@@ -3,7 +3,7 @@ use Rattle.st_el.specs.declared.definition.Prem.{Prem}
 use Rattle.st_parse_builder.specs.Heights.{highest}
 use Rattle.st_measure.specs.Variables.{prem_variables}
 use Rattle.st_measure.specs.DefHeights.{prem_height}
-use Rattle.st_parse.specs.Surveys.{OfPrem}
+use Rattle.st_parse.specs.inner.Surveys.{OfPrem}
 use Rattle.st_parse.proofs.Endings.{some_of}
 use Rattle.st_parse.proofs.Whole.{one_open}
 use Rattle.st_parse.proofs.closing.with_open.Goals as goal

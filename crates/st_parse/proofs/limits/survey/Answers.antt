@@ -1,6 +1,6 @@
 use Rattle.std.proofs.Common.{subst}
 use Rattle.st_grammar.specs.Positions.{finish}
-use Rattle.st_measure.specs.Answers.{OnlyMemory}
+use Rattle.st_measure.specs.inner.Answers.{OnlyMemory}
 use Rattle.st_parse_builder.specs.Definitions.{defs_meaning}
 use Rattle.st_draft.specs.Known.{known}
 use Rattle.st_parse.proofs.Fronts.{surveyed_so, all_measured}

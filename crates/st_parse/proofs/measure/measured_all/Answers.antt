@@ -2,10 +2,10 @@ use Rattle.std.proofs.Common.{Err, IfErr, map, flat_map, sym, ap, subst, ◌∙�
 use Rattle.std.proofs.lemmas.Result.{err_from_is_err_and}
 use Rattle.st_el.specs.declared.expression.Exp.{Exp}
 use Rattle.st_parse_builder.specs.Heights.{highest, height}
-use Rattle.st_draft.specs.Parts.{exp_built}
-use Rattle.st_measure.specs.Answers.{OnlyMemory}
+use Rattle.st_draft.specs.inner.Parts.{exp_built}
+use Rattle.st_measure.specs.inner.Answers.{OnlyMemory}
 use Rattle.st_measure.specs.Variables.{variables}
-use Rattle.st_parse.specs.Surveys.{OfExps}
+use Rattle.st_parse.specs.inner.Surveys.{OfExps}
 use Rattle.st_parse.proofs.Surveying.{one_more, next_built, nth_built}
 use Rattle.st_parse.proofs.measure.measured_all.Goals as goal
 

@@ -2,7 +2,7 @@ use Rattle.std.proofs.Common.{map, ap, subst, ◌∙◌}
 use Rattle.st_grammar.specs.Terminals.{terminal}
 use Rattle.st_grammar.specs.Positions.{reading, start}
 use Rattle.st_parse_builder.specs.Definitions.{defs_meaning}
-use Rattle.st_measure.specs.Answers.{OnlyMemory}
+use Rattle.st_measure.specs.inner.Answers.{OnlyMemory}
 use Rattle.st_parse.proofs.Sources.{reads_all, parsed, built_source}
 use Rattle.st_parse.proofs.parser.read_definitions.Goals as goal
 

@@ -1,6 +1,6 @@
 use Rattle.std.proofs.Common.{map, max, ◌++◌}
 use Rattle.st_parse_builder.specs.Heights.{height}
-use Rattle.st_draft.specs.Parts.{word_of, index_in, count_with}
+use Rattle.st_draft.specs.inner.Parts.{word_of, index_in, count_with}
 use Rattle.st_measure.specs.Variables.{variables, times, without, prem_variables}
 use Rattle.st_measure.specs.DefHeights.{prem_height}
 use Rattle.st_parse.proofs.Whole.{counted_is}

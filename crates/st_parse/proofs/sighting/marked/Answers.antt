@@ -2,8 +2,8 @@ use Rattle.std.proofs.Common.{Some, sym, subst}
 use Rattle.st_el.specs.declared.definition.Prem.{Prem}
 use Rattle.st_measure.specs.Variables.{prem_variables}
 use Rattle.st_measure.specs.DefHeights.{prem_height}
-use Rattle.st_draft.specs.Drafts.{each_of, shape_count}
-use Rattle.st_parse.specs.Surveys.{OfAny, OfPrem}
+use Rattle.st_draft.specs.inner.Drafts.{each_of, shape_count}
+use Rattle.st_parse.specs.inner.Surveys.{OfAny, OfPrem}
 use Rattle.st_parse.proofs.Endings.{some_of}
 use Rattle.st_parse.proofs.Whole.{marked_is}
 use Rattle.st_parse.proofs.sighting.marked.Goals as goal

@@ -2,8 +2,8 @@ use Rattle.std.proofs.Common.{◌≡◌, Err, IfErr, map, sym, ap, subst, ◌∙
 use Rattle.std.proofs.lemmas.Result.{err_from_is_err_and}
 use Rattle.st_el.specs.declared.ty.Typ.{Typ}
 use Rattle.st_parse_builder.specs.Heights.{highest, typ_height}
-use Rattle.st_parse_builder.specs.NotationBuilding.{typ_built}
-use Rattle.st_measure.specs.Answers.{OnlyMemory, capped}
+use Rattle.st_parse_builder.specs.inner.NotationBuilding.{typ_built}
+use Rattle.st_measure.specs.inner.Answers.{OnlyMemory, capped}
 use Rattle.st_parse.proofs.Surveying.{higher, next_built, nth_built}
 use Rattle.st_parse.proofs.sighting.params_height.Goals as goal
 

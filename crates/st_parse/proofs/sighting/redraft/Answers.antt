@@ -1,5 +1,5 @@
 use Rattle.std.proofs.Common.{subst}
-use Rattle.st_parse.specs.Surveys.{Surveys}
+use Rattle.st_parse.specs.inner.Surveys.{Surveys}
 use Rattle.st_parse.proofs.Drawn.{other_change}
 use Rattle.st_parse.proofs.sighting.redraft.Goals as goal
 

@@ -1,5 +1,5 @@
 use Rattle.std.proofs.Common.{[], ◌∷◌, map, sym, ap, ◌∙◌}
-use Rattle.st_draft.specs.Parts.{word_of, index_in}
+use Rattle.st_draft.specs.inner.Parts.{word_of, index_in}
 use Rattle.st_measure.specs.Variables.{occurrences, without}
 use Rattle.st_parse.proofs.Whole.{all_kept, others_kept}
 use Rattle.st_parse.proofs.sighting.without_index.Goals as goal

@@ -1,7 +1,7 @@
 use Rattle.std.proofs.Common.{◌≡◌, ◌++◌, length, reverse}
 use Rattle.st_parse_automaton.specs.declared.part_automaton.Part.{Part}
-use Rattle.st_parse_automaton.specs.PartAutomaton as parts
-use Rattle.st_parse_actions.specs.Emits.{lowering}
+use Rattle.st_parse_automaton.specs.inner.PartAutomaton as parts
+use Rattle.st_parse_actions.specs.inner.Emits.{lowering}
 use Rattle.st_parse_actions.proofs.ends.lower.Given as goal
 
 abbrev pub invariant-open : goal.invariant-open

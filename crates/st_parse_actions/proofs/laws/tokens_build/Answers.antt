@@ -1,8 +1,8 @@
 use Rattle.std.proofs.Common.{sym, ap, ◌∙◌}
 use Rattle.st_grammar.specs.declared.sort.Sort.TheVariants.{Typ as typ, Notation as notation}
 use Rattle.st_grammar.specs.Reading.{start}
-use Rattle.st_parse_builder.specs.NotationBuilding as notations
-use Rattle.st_parse_builder.specs.Building.{run}
+use Rattle.st_parse_builder.specs.inner.NotationBuilding as notations
+use Rattle.st_parse_builder.specs.inner.Building.{run}
 use Rattle.st_parse_builder.proofs.Emission.{read_state}
 use Rattle.st_parse_actions.proofs.Whole.{part_emits}
 use Rattle.st_parse_actions.proofs.laws.tokens_build.Goals as goal

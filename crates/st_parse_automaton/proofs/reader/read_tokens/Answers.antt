@@ -1,7 +1,7 @@
 use Rattle.std.proofs.Common.{refl, sym, ap, reverse, arith}
 use Rattle.st_grammar.specs.Positions.{start}
 use Rattle.st_parse_automaton.specs.declared.position.Position.TheVariants.{Between}
-use Rattle.st_parse_automaton.specs.DefinitionAutomaton as definitions
+use Rattle.st_parse_automaton.specs.inner.DefinitionAutomaton as definitions
 use Rattle.st_parse_automaton.proofs.Loop.{token_goes_on, token_stops, ends_well, ends_early}
 use Rattle.st_parse_automaton.proofs.reader.read_tokens.Goals as goal
 

@@ -1,8 +1,8 @@
 use Rattle.std.proofs.Common.{[], Err, subst, sym, ap, ◌∙◌}
 use Rattle.std.proofs.lemmas.Result.{err_from_is_err_and}
-use Rattle.st_parse_builder.specs.Building.{run}
-use Rattle.st_parse_builder.specs.Pieces.{pieces}
-use Rattle.st_parse_builder.specs.Answers.{Builds}
+use Rattle.st_parse_builder.specs.inner.Building.{run}
+use Rattle.st_parse_builder.specs.inner.Pieces.{pieces}
+use Rattle.st_parse_builder.specs.inner.Answers.{Builds}
 use Rattle.st_parse_builder.proofs.builder.build.Goals as goal
 use Rattle.st_parse_builder.proofs.Stops.{stops, goes_on, ended, means}
 

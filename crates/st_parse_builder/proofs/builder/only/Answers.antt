@@ -1,4 +1,4 @@
-use Rattle.st_parse_builder.specs.Pieces.{pieces}
+use Rattle.st_parse_builder.specs.inner.Pieces.{pieces}
 use Rattle.st_parse_builder.proofs.Stops.{unfit_more}
 use Rattle.st_parse_builder.proofs.builder.only.Goals as goal
 

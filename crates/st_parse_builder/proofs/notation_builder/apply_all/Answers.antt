@@ -1,8 +1,8 @@
 use Rattle.std.proofs.Common.{[], Err, IfErr, subst, sym, ap, ◌∙◌}
 use Rattle.std.proofs.lemmas.Result.{err_from_is_err_and}
-use Rattle.st_parse_builder.specs.Heights.{notation_stack_height}
-use Rattle.st_parse_builder.specs.NotationBuilding.{run}
-use Rattle.st_parse_builder.specs.NotationAnswers.{pieces, Fails}
+use Rattle.st_parse_builder.specs.inner.PieceHeights.{notation_stack_height}
+use Rattle.st_parse_builder.specs.inner.NotationBuilding.{run}
+use Rattle.st_parse_builder.specs.inner.NotationAnswers.{pieces, Fails}
 use Rattle.st_parse_builder.proofs.notation_builder.apply_all.Goals as goal
 use Rattle.st_parse_builder.proofs.NotationStops.{stops, goes_on, ended}
 

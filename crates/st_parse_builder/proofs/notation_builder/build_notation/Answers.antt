@@ -1,8 +1,8 @@
 use Rattle.std.proofs.Common.{[], Err, subst, sym, ap, ◌∙◌, option_and_then}
 use Rattle.std.proofs.lemmas.Result.{err_from_is_err_and}
 use Rattle.st_parse_builder.specs.Heights.{notation_height}
-use Rattle.st_parse_builder.specs.NotationBuilding.{run, the_notation, notation_built}
-use Rattle.st_parse_builder.specs.NotationAnswers.{Builds}
+use Rattle.st_parse_builder.specs.inner.NotationBuilding.{run, the_notation, notation_built}
+use Rattle.st_parse_builder.specs.inner.NotationAnswers.{Builds}
 use Rattle.st_parse_builder.proofs.NotationGrowth.{notation_low}
 use Rattle.st_parse_builder.proofs.NotationStops.{unread, notation_means}
 use Rattle.st_parse_builder.proofs.notation_builder.build_notation.Goals as goal

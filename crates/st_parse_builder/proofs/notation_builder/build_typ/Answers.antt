@@ -1,8 +1,8 @@
 use Rattle.std.proofs.Common.{[], Err, subst, sym, ap, ◌∙◌, option_and_then}
 use Rattle.std.proofs.lemmas.Result.{err_from_is_err_and}
 use Rattle.st_parse_builder.specs.Heights.{typ_height}
-use Rattle.st_parse_builder.specs.NotationBuilding.{run, the_typ, typ_built}
-use Rattle.st_parse_builder.specs.NotationAnswers.{Builds}
+use Rattle.st_parse_builder.specs.inner.NotationBuilding.{run, the_typ, typ_built}
+use Rattle.st_parse_builder.specs.inner.NotationAnswers.{Builds}
 use Rattle.st_parse_builder.proofs.NotationGrowth.{typ_low}
 use Rattle.st_parse_builder.proofs.NotationStops.{unread, typ_means}
 use Rattle.st_parse_builder.proofs.notation_builder.build_typ.Goals as goal

@@ -1,4 +1,4 @@
-use Rattle.st_parse_builder.specs.NotationAnswers.{pieces}
+use Rattle.st_parse_builder.specs.inner.NotationAnswers.{pieces}
 use Rattle.st_parse_builder.proofs.NotationStops.{more_than_notation}
 use Rattle.st_parse_builder.proofs.notation_builder.only_notation.Goals as goal
 

@@ -1,6 +1,6 @@
 use Rattle.std.proofs.Common.{◌≡◌, reverse, sym, ap, ◌∙◌}
-use Rattle.st_parse_automaton.specs.DefinitionAutomaton as definitions
-use Rattle.st_parse_automaton.specs.Readings.{progress_of, reading_of}
+use Rattle.st_parse_automaton.specs.inner.DefinitionAutomaton as definitions
+use Rattle.st_parse_automaton.specs.inner.Readings.{progress_of, reading_of}
 use Rattle.st_parse_exp.proofs.Drafted.{turned}
 use Rattle.st_parse_exp.proofs.draft.take.Goals as goal
 

@@ -1,5 +1,6 @@
 use Rattle.st_num.specs.declared.rule.RuleId.TheVariants.{S1, S4}
-use Rattle.st_parse_exp.proofs.Exact.{one_fault, never_both, are_expressions, is_refused, not_later, grammar_s1, grammar_s4}
+use Rattle.st_parse_faults.proofs.JudgingLemmas.{grammar_s1, grammar_s4}
+use Rattle.st_parse_exp.proofs.Exact.{one_fault, never_both, are_expressions, is_refused, not_later}
 use Rattle.st_parse_exp.proofs.laws.faults_of_expressions.Goals as goal
 
 pub returns-clause-never : goal.returns-clause-never

@@ -1,7 +1,7 @@
 use Rattle.std.proofs.Common.{length, reverse, refl, sym, arith}
 use Rattle.st_num.specs.declared.rule.RuleId.TheVariants.{S1}
 use Rattle.st_parse_exp.specs.Faults.{nothing_seen}
-use Rattle.st_parse_exp.specs.Drafts.{draft}
+use Rattle.st_parse_exp.specs.inner.Drafts.{draft}
 use Rattle.st_parse_exp.proofs.Loop.{token_breaks, ends_early, bounded}
 use Rattle.st_parse_exp.proofs.Drafted.{starts}
 use Rattle.st_parse_exp.proofs.Parsing.{passing, token_drafts, breaks, answers}

@@ -1,6 +1,6 @@
 use Rattle.std.proofs.Common.{reverse}
-use Rattle.st_parse_faults.specs.Seen.{SeenKept}
-use Rattle.st_parse_exp.specs.Drafts.{draft}
+use Rattle.st_parse_faults.specs.inner.Seen.{SeenKept}
+use Rattle.st_parse_exp.specs.inner.Drafts.{draft}
 use Rattle.st_parse_exp.proofs.Parsing.{Drafting}
 use Rattle.st_parse_exp.proofs.parse.parse_exp.Given as goal
 

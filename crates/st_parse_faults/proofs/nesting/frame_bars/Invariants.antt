@@ -1,5 +1,5 @@
 use Rattle.std.proofs.Common.{◌≡◌, ◌+◌, ◌≤◌, length, reverse}
-use Rattle.st_parse_faults.specs.Seen as seen
+use Rattle.st_parse_faults.specs.inner.Seen as seen
 use Rattle.st_parse_faults.proofs.nesting.frame_bars.Given as goal
 
 abbrev pub invariant-open : goal.invariant-open

@@ -1,4 +1,4 @@
-use Rattle.st_parse_faults.specs.Seen.{SeenKept}
+use Rattle.st_parse_faults.specs.inner.Seen.{SeenKept}
 use Rattle.st_parse_faults.proofs.Loop.{Passes}
 use Rattle.st_parse_faults.proofs.reader.read_tokens.Given as goal
 

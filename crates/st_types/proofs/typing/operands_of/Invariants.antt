@@ -1,5 +1,5 @@
 use Rattle.std.proofs.Common.{◌≡◌, drop}
-use Rattle.st_types.specs.Cases.{operands_of}
+use Rattle.st_type_table.specs.Cases.{operands_of}
 use Rattle.st_types.proofs.typing.operands_of.Given as goal
 
 abbrev pub invariant-loop-case : goal.invariant-loop-case

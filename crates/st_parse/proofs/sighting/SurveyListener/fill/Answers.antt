@@ -3,9 +3,9 @@ use Rattle.st_el.specs.declared.expression.Exp.{Exp}
 use Rattle.st_el.specs.declared.ty.Typ.{Typ}
 use Rattle.st_el.specs.declared.notation.Notation.{Notation}
 use Rattle.st_parse_automaton.specs.declared.position.Slot.{Slot}
-use Rattle.st_parse_builder.specs.NotationBuilding.{typ_built, notation_built}
-use Rattle.st_draft.specs.Parts.{exp_built, word_of, index_in, count_with, refilled}
-use Rattle.st_draft.specs.Drafts.{notation_put, exp_put, condition_put, each_put, typ_filled, notation_filled, exp_filled, condition_filled, count_filled}
+use Rattle.st_parse_builder.specs.inner.NotationBuilding.{typ_built, notation_built}
+use Rattle.st_draft.specs.inner.Parts.{exp_built, word_of, index_in, count_with, refilled}
+use Rattle.st_draft.specs.inner.Drafts.{notation_put, exp_put, condition_put, each_put, typ_filled, notation_filled, exp_filled, condition_filled, count_filled}
 use Rattle.st_parse.proofs.Drawn.{other_members, other_sides, other_premises, filled_so, typ_slot, notation_slot}
 use Rattle.st_parse.proofs.sighting.SurveyListener.fill.Goals as goal
 

@@ -1,0 +1,2 @@
+-- What only the proofs of dimensions need.
+pub mod Noting

@@ -1,0 +1,6 @@
+-- What is kept of the open definition, for the proofs alone.
+pub mod Drafts
+pub mod Parts
+pub mod Heights
+pub mod Changes
+pub mod Work

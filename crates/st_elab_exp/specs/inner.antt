@@ -1,0 +1,2 @@
+-- What only the proofs of the driver need.
+pub mod Pairs

@@ -1,0 +1,35 @@
+-- Questions of the code, in the words of the table.
+use Rattle.std.specs.Prelude.{Result}
+use Rattle.std.specs.Borrow.{Bor}
+use Rattle.st_dims.specs.declared.within.Within.{Within}
+use Rattle.st_num.specs.declared.fault.Fault.{Fault as ExpFault}
+use Rattle.st_elab_table.specs.Questions.{Question, check, infer, Made, Step}
+use Rattle.st_elab_table.specs.Steps.{made}
+use Rattle.st_elab_rows.specs.declared.asking.Found.{Found}
+use Rattle.st_elab_rows.specs.declared.asking.Asking.{Asking}
+use Rattle.st_elab_rows.specs.declared.asking.Asking.TheVariants as asking
+use Rattle.st_elab_rows.specs.declared.asking.Context.{Context}
+use Rattle.st_elab_rows.specs.Told.{Tells, Leading, Reaches}
+
+abbrev pub made_by : Found → Made
+made_by found = made found.exp found.ty
+
+-- the question, inside of this
+abbrev pub question : Within → Asking → Question
+question w (asking.Check at p e t) = check w at p e.now t.now
+question w (asking.Infer at e) = infer w at e.now
+
+-- whatever is asked is answered as the table says
+abbrev pub AnswersAll : Context → (Bor Within → Bor Asking → Result Found ExpFault → Type 0)
+    → Type 0
+AnswersAll x post =
+    (w : Bor Within) (a : Bor Asking) (r : Result Found ExpFault) → post w a r
+    → Tells x.decls.now x.scope.now (question w.now a.now) made_by r
+
+-- the steps lead to the result
+abbrev pub LeadsTo : Context → Step → Result Found ExpFault → Type 0
+LeadsTo x s r = Leading x.decls.now x.scope.now s made_by r
+
+-- what follows from the answer to the question leads to the result
+abbrev pub Meets : Context → ((Made → Step) → Step) → Result Found ExpFault → Type 0
+Meets x steps r = Reaches x.decls.now x.scope.now steps made_by r

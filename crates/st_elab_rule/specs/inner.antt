@@ -1,0 +1,2 @@
+-- What only the proofs of rules and clauses need.
+pub mod Typing

@@ -1,0 +1,2 @@
+-- What only the proofs of signatures need.
+pub mod Words

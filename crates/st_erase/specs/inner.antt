@@ -1,0 +1,2 @@
+-- What only the proofs of erasure need.
+pub mod Operators

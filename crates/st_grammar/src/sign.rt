@@ -1,0 +1,85 @@
+//! The signs of parts: what each may be, and how tightly it holds.
+
+ghost use Rattle.std.specs.Prelude.{◌≡◌};
+ghost use Rattle.st_grammar.specs.Levels as levels;
+
+use st_num::{Grouping, Mark};
+
+/// The least level to the left of a sign.
+pub fn left_of(mark: Mark) -> u8
+    ensures { result ≡ levels.left_of mark }
+{
+    match mark.grouping() {
+        Grouping::Left => mark.level(),
+        Grouping::None | Grouping::Right => mark.level() + 1,
+    }
+}
+
+/// The least level to the right of a sign.
+pub fn right_of(mark: Mark) -> u8
+    ensures { result ≡ levels.right_of mark }
+{
+    match mark.grouping() {
+        Grouping::Right => mark.level(),
+        Grouping::None | Grouping::Left => mark.level() + 1,
+    }
+}
+
+/// The least level behind a sign that has no left side.
+pub fn prefix_right(mark: Mark) -> u8
+    ensures { result ≡ levels.prefix_right mark }
+{
+    match mark {
+        Mark::Turnstile => 8,
+        _ => mark.prefix_level(),
+    }
+}
+
+/// Whether it iterates an expression.
+pub fn is_iteration_sign(mark: Mark) -> bool
+    ensures { result ≡ levels.is_iteration_sign mark }
+{
+    matches!(mark, Mark::Star | Mark::Plus | Mark::Question)
+}
+
+/// Whether it iterates a type.
+pub fn is_type_iteration_sign(mark: Mark) -> bool
+    ensures { result ≡ levels.is_type_iteration_sign mark }
+{
+    matches!(mark, Mark::Star | Mark::Question)
+}
+
+/// Whether it is the sign before a count.
+pub fn is_caret(mark: Mark) -> bool
+    ensures { result ≡ levels.is_caret mark }
+{
+    matches!(mark, Mark::Caret)
+}
+
+/// Whether it sets off a next part.
+pub fn is_comma(mark: Mark) -> bool
+    ensures { result ≡ levels.is_comma mark }
+{
+    matches!(mark, Mark::Comma)
+}
+
+/// Whether it sets off the second end of a slice.
+pub fn is_colon(mark: Mark) -> bool
+    ensures { result ≡ levels.is_colon mark }
+{
+    matches!(mark, Mark::Colon)
+}
+
+/// Whether it stands before the bound of an index.
+pub fn is_less(mark: Mark) -> bool
+    ensures { result ≡ levels.is_less mark }
+{
+    matches!(mark, Mark::Less)
+}
+
+/// Whether it puts a new value at a path, or extends a list there.
+pub fn is_change(mark: Mark) -> bool
+    ensures { result ≡ levels.is_change mark }
+{
+    matches!(mark, Mark::Equal | Mark::ExtendBy)
+}

@@ -1,0 +1,2 @@
+-- What only the proofs of fitting need.
+pub mod Steps

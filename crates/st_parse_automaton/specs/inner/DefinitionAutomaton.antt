@@ -1,0 +1,342 @@
+-- What the parser keeps of a reading of definitions, and what each token makes of it: the reading
+-- of `st_grammar` without its trees.
+use Rattle.std.specs.Prelude.{List, [], ◌∷◌, Bool, true, false, not, ◌&&◌, ◌||◌, Option, Some, None, option_and_then, if◌then◌else◌}
+use Rattle.st_num.specs.declared.mark.Mark.{Mark}
+use Rattle.st_grammar.specs.declared.sort.Leaf.TheVariants as leaf
+use Rattle.st_grammar.specs.declared.sort.Bracket.{Bracket}
+use Rattle.st_grammar.specs.declared.sort.Bracket.TheVariants as bracket
+use Rattle.st_grammar.specs.declared.sort.Closing.{Closing}
+use Rattle.st_grammar.specs.declared.sort.Closing.TheVariants as closing
+use Rattle.st_grammar.specs.declared.sort.Sort.{Sort}
+use Rattle.st_grammar.specs.declared.sort.Sort.TheVariants as sort
+use Rattle.st_grammar.specs.declared.keyword.Keyword.{Keyword}
+use Rattle.st_grammar.specs.declared.keyword.Keyword.TheVariants as key
+use Rattle.st_grammar.specs.Levels.{is_iteration_sign, is_caret, is_comma, is_colon}
+use Rattle.st_grammar.specs.Trees.{closed_by, agree}
+use Rattle.st_grammar.specs.Definitions.{is_slash, is_minus, is_equal, is_dots}
+use Rattle.st_parse_automaton.specs.declared.part_automaton.Shape.{Shape}
+use Rattle.st_parse_automaton.specs.declared.part_automaton.Shape.TheVariants.{Single, Sign, Open, Close}
+use Rattle.st_parse_automaton.specs.declared.part_automaton.Part.{Part}
+use Rattle.st_parse_automaton.specs.declared.part_automaton.Expected.TheVariants.{Operand}
+use Rattle.st_parse_automaton.specs.declared.position.TokenClass.{TokenClass}
+use Rattle.st_parse_automaton.specs.declared.position.Host.{Host}
+use Rattle.st_parse_automaton.specs.declared.position.Host.TheVariants as host
+use Rattle.st_parse_automaton.specs.declared.position.CaseAt.{CaseAt}
+use Rattle.st_parse_automaton.specs.declared.position.CaseAt.TheVariants as case
+use Rattle.st_parse_automaton.specs.declared.position.Slot.{Slot}
+use Rattle.st_parse_automaton.specs.declared.position.Slot.TheVariants as slot
+use Rattle.st_parse_automaton.specs.declared.position.IterationState.{IterationState}
+use Rattle.st_parse_automaton.specs.declared.position.IterationState.TheVariants as iterations
+use Rattle.st_parse_automaton.specs.declared.position.Position.{Position}
+use Rattle.st_parse_automaton.specs.declared.position.Position.TheVariants as position
+use Rattle.st_parse_automaton.specs.inner.PartAutomaton as parts
+
+-- The innermost bracket comes first.
+pub data State : Type 0 where
+  at : Position → List Bracket → State
+  inside : Slot → parts.State → List Bracket → State
+
+-- ---- tests
+
+abbrev pub shape_signed : (Mark → Bool) → Shape → Bool
+shape_signed p (Sign m) = p m
+shape_signed p s = false
+
+abbrev pub signed : (Mark → Bool) → TokenClass → Bool
+signed p l = shape_signed p l.shape
+
+abbrev pub shape_low : Shape → Bool
+shape_low (Single leaf.Low) = true
+shape_low s = false
+
+abbrev pub is_low : TokenClass → Bool
+is_low l = shape_low l.shape
+
+abbrev pub shape_fun : Shape → Bool
+shape_fun (Single leaf.Function) = true
+shape_fun s = false
+
+abbrev pub is_fun : TokenClass → Bool
+is_fun l = shape_fun l.shape
+
+abbrev pub is_label : TokenClass → Bool
+is_label l = parts.is_label l.shape
+
+abbrev pub names_relation : TokenClass → Bool
+names_relation l = l.mix || is_label l
+
+abbrev pub is_name : TokenClass → Bool
+is_name l = is_low l || names_relation l
+
+abbrev pub shape_closes : Closing → Shape → Bool
+shape_closes c (Close d) = agree d c
+shape_closes c s = false
+
+abbrev pub is_bar : TokenClass → Bool
+is_bar l = shape_closes closing.ByBar l.shape
+
+abbrev pub closes_round : TokenClass → Bool
+closes_round l = shape_closes closing.ByRound l.shape
+
+abbrev pub closes_brace : TokenClass → Bool
+closes_brace l = shape_closes closing.ByBrace l.shape
+
+abbrev pub shape_round : Shape → Bool
+shape_round (Open bracket.Round t) = true
+shape_round s = false
+
+abbrev pub opens_round : TokenClass → Bool
+opens_round l = shape_round l.shape
+
+abbrev pub shape_brace : Shape → Bool
+shape_brace (Open bracket.Brace t) = true
+shape_brace s = false
+
+abbrev pub opens_brace : TokenClass → Bool
+opens_brace l = shape_brace l.shape
+
+abbrev pub id_step : Bool → TokenClass → Option Bool
+id_step true l = if l.touching && l.piece then Some false else None
+id_step false l =
+    if l.touching && signed is_minus l then Some true
+    else if l.touching && l.dot then Some false
+    else None
+
+abbrev pub balance : List Bracket → Shape → Option (List Bracket)
+balance ks (Open k t) = Some (k ∷ ks)
+balance ks (Close closing.ByBar) = Some ks
+balance [] (Close c) = None
+balance (k ∷ ks) (Close c) = if agree (closed_by k) c then Some ks else None
+balance ks s = Some ks
+
+-- ---- places
+
+abbrev pub slot_sort : Slot → Sort
+slot_sort slot.Field = sort.Typ
+slot_sort (slot.Case c) = sort.Notation
+slot_sort slot.Var = sort.Typ
+slot_sort slot.Notation = sort.Notation
+slot_sort slot.Fun = sort.Typ
+slot_sort (slot.Argument e t) = sort.Expression false
+slot_sort slot.Rule = sort.Expression false
+slot_sort slot.Condition = sort.Expression false
+slot_sort slot.Count = sort.Count
+
+abbrev pub wants_iteration : IterationState → Bool
+wants_iteration iterations.Wanted = true
+wants_iteration m = false
+
+abbrev pub has_closed : IterationState → Bool
+has_closed iterations.None = false
+has_closed m = true
+
+abbrev pub is_empty : List Bracket → Bool
+is_empty [] = true
+is_empty ks = false
+
+abbrev pub host_whole : Host → Bool
+host_whole host.Case = true
+host_whole host.Var = true
+host_whole host.Notation = true
+host_whole host.Fun = true
+host_whole h = false
+
+-- The definitions may end here.
+abbrev pub whole : Position → List Bracket → Bool
+whole position.Between ks = true
+whole (position.Hinted h b) ks = host_whole h
+whole position.Premised ks = true
+whole (position.Iterated m) ks = is_empty ks && not (wants_iteration m)
+whole p ks = false
+
+abbrev pub start_of : Slot → List Bracket → State
+start_of s ks = inside s (Operand, []) ks
+
+abbrev pub when : Bool → State → Option State
+when b st = if b then Some st else None
+
+-- ---- steps
+
+abbrev pub begin_def : Keyword → List Bracket → Option State
+begin_def key.SyntaxWord ks = Some (at position.SyntaxName ks)
+begin_def key.RelationWord ks = Some (at position.RelationName ks)
+begin_def key.RuleWord ks = Some (at position.RuleName ks)
+begin_def key.VarWord ks = Some (at position.VarName ks)
+begin_def key.DefWord ks = Some (at position.FunName ks)
+begin_def k ks = None
+
+abbrev pub enter_case : CaseAt → TokenClass → List Bracket → Option State
+enter_case case.Start l ks =
+    if opens_brace l then Some (at (position.FieldName true) ks)
+    else if signed is_dots l then Some (at position.Dotted ks)
+    else when (is_bar l) (at (position.Entering (slot.Case case.Led)) ks)
+enter_case case.Barred l ks = when (signed is_dots l) (at position.Between ks)
+enter_case c l ks = None
+
+abbrev pub enter_other : Slot → TokenClass → List Bracket → Option State
+enter_other (slot.Case c) l ks = enter_case c l ks
+enter_other (slot.Argument true t) l ks = when (closes_round l) (at (position.ArgumentsClosed t) ks)
+enter_other s l ks = None
+
+abbrev pub enter : Slot → Option parts.State → List Bracket → Option State → Option State
+enter s (Some st) ks o = Some (inside s st ks)
+enter s None ks o = o
+
+abbrev pub field_step : Bool → TokenClass → List Bracket → Option State
+field_step true l ks =
+    if is_label l then Some (start_of slot.Field ks)
+    else when (closes_brace l) (at position.Between ks)
+field_step false l ks = when (is_label l) (start_of slot.Field ks)
+
+abbrev pub host_step : Host → Bool → TokenClass → List Bracket → Option State
+host_step host.Syntax b l ks =
+    if b && signed is_slash l then Some (at (position.SyntaxId true) ks)
+    else when (signed is_equal l) (at (position.Entering (slot.Case case.Start)) ks)
+host_step host.Field b l ks =
+    if signed is_comma l then Some (at (position.FieldName false) ks)
+    else when (closes_brace l) (at position.Between ks)
+host_step host.Case b l ks = when (is_bar l) (at (position.Entering (slot.Case case.Barred)) ks)
+host_step host.Relation b l ks = when (signed is_colon l) (start_of slot.Notation ks)
+host_step h b l ks = None
+
+abbrev pub hint_or : Keyword → Host → Bool → TokenClass → List Bracket → Option State
+hint_or key.HintWord h b l ks = Some (at (position.HintOpen h) ks)
+hint_or k h b l ks = host_step h b l ks
+
+abbrev pub hint_step : Host → List Bracket → TokenClass → Option (List Bracket) → Option State
+hint_step h ks l (Some js) = Some (at (position.HintWords h) js)
+hint_step h [] l None = when (closes_round l) (at (position.Hinted h false) [])
+hint_step h ks l None = None
+
+abbrev pub id_goes : Option Bool → Bool → (Bool → State) → Option State → Option State
+id_goes (Some e) d next o = Some (next e)
+id_goes None true next o = None
+id_goes None false next o = o
+
+abbrev pub colon_step : TokenClass → List Bracket → Option State
+colon_step l ks = when (signed is_colon l) (start_of slot.Rule ks)
+
+abbrev pub result_step : Bool → TokenClass → List Bracket → Option State
+result_step b l ks =
+    if signed is_colon l && b then Some (start_of slot.Fun ks)
+    else when (signed is_equal l) (start_of slot.Rule ks)
+
+abbrev pub premise_step : TokenClass → List Bracket → Option State
+premise_step l ks =
+    if opens_round l then Some (at position.PremiseOpen (bracket.Round ∷ ks))
+    else when (names_relation l) (at position.GoalColon ks)
+
+abbrev pub premise_word : Keyword → TokenClass → List Bracket → Option State
+premise_word key.IfWord l ks = Some (start_of slot.Condition ks)
+premise_word key.OtherwiseWord l [] = Some (at position.Premised [])
+premise_word k l ks = premise_step l ks
+
+abbrev pub next_premise : Keyword → List Bracket → Option State
+next_premise key.Dashes ks = Some (at position.PremiseOpen ks)
+next_premise k ks = None
+
+abbrev pub tail : List Bracket → List Bracket
+tail [] = []
+tail (k ∷ ks) = ks
+
+abbrev pub iterate : IterationState → TokenClass → List Bracket → Option State
+iterate m l ks =
+    if closes_round l && (not (is_empty ks) && not (wants_iteration m))
+    then Some (at (position.Iterated iterations.Wanted) (tail ks))
+    else if signed is_iteration_sign l && has_closed m
+    then Some (at (position.Iterated iterations.Complete) ks)
+    else if signed is_caret l && has_closed m then Some (start_of slot.Count ks)
+    else if is_empty ks && not (wants_iteration m) then next_premise l.keyword ks
+    else None
+
+-- a token of a name, and others that lead to one position
+abbrev pub own_name : Position → TokenClass → List Bracket → Option State
+own_name position.SyntaxName l ks = when (is_low l) (at (position.Hinted host.Syntax true) ks)
+own_name position.VarName l ks = when (is_low l || is_label l) (at position.VarColon ks)
+own_name position.RelationName l ks =
+    when (names_relation l) (at (position.Hinted host.Relation false) ks)
+own_name position.RuleName l ks = when (names_relation l) (at position.RuleColon ks)
+own_name position.FunName l ks = when (is_fun l) (at position.FunNamed ks)
+own_name (position.HintOpen h) l ks = when (opens_round l) (at (position.HintName h) ks)
+own_name (position.HintName h) l ks = when (is_name l) (at (position.HintWords h) ks)
+own_name position.Dotted l ks = when (is_bar l) (at (position.Entering (slot.Case case.Led)) ks)
+own_name p l ks = None
+
+-- a token that goes on with what is there
+abbrev pub own : Position → TokenClass → List Bracket → Option State
+own position.Between l ks = None
+own position.SyntaxName l ks = when (is_low l) (at (position.Hinted host.Syntax true) ks)
+own position.VarName l ks = when (is_low l || is_label l) (at position.VarColon ks)
+own position.VarColon l ks = when (signed is_colon l) (start_of slot.Var ks)
+own position.RelationName l ks =
+    when (names_relation l) (at (position.Hinted host.Relation false) ks)
+own position.RuleName l ks = when (names_relation l) (at position.RuleColon ks)
+own position.RuleColon l ks =
+    if signed is_slash l then Some (at (position.RuleId true) ks) else colon_step l ks
+own position.FunName l ks = when (is_fun l) (at position.FunNamed ks)
+own position.FunNamed l ks =
+    if opens_round l && l.touching then Some (at (position.Entering (slot.Argument true true)) ks)
+    else result_step true l ks
+own (position.Argued t) l ks =
+    if signed is_comma l then Some (start_of (slot.Argument false t) ks)
+    else when (closes_round l) (at (position.ArgumentsClosed t) ks)
+own (position.ArgumentsClosed t) l ks = result_step t l ks
+own (position.SyntaxId d) l ks =
+    id_goes (id_step d l) d (λ e. at (position.SyntaxId e) ks)
+    (hint_or l.keyword host.Syntax false l ks)
+own (position.RuleId d) l ks =
+    id_goes (id_step d l) d (λ e. at (position.RuleId e) ks) (colon_step l ks)
+own (position.Hinted h b) l ks = hint_or l.keyword h b l ks
+own (position.HintOpen h) l ks = when (opens_round l) (at (position.HintName h) ks)
+own (position.HintName h) l ks = when (is_name l) (at (position.HintWords h) ks)
+own (position.HintWords h) l ks = hint_step h ks l (balance ks l.shape)
+own (position.Entering s) l ks =
+    enter s (parts.step (slot_sort s) (Operand, []) l.shape) ks (enter_other s l ks)
+own position.Dotted l ks = when (is_bar l) (at (position.Entering (slot.Case case.Led)) ks)
+own (position.FieldName b) l ks = field_step b l ks
+own position.Premised l ks = next_premise l.keyword ks
+own position.PremiseOpen l ks = premise_word l.keyword l ks
+own position.GoalColon l ks = when (signed is_colon l) (start_of slot.Condition ks)
+own (position.Iterated m) l ks = iterate m l ks
+
+abbrev pub first_of_two : Option State → Option State → Option State
+first_of_two (Some st) o = Some st
+first_of_two None o = o
+
+abbrev pub turn : Bool → Keyword → List Bracket → Option State
+turn b k ks = if b then begin_def k ks else None
+
+-- behind whole definitions a next one begins
+abbrev pub position_step : Position → TokenClass → List Bracket → Option State
+position_step p l ks = first_of_two (own p l ks) (turn (whole p ks) l.keyword ks)
+
+-- where a part that is read leads to
+abbrev pub filled : Slot → Part → Position
+filled slot.Field p = position.Hinted host.Field false
+filled (slot.Case c) p = position.Hinted host.Case false
+filled slot.Var p = position.Hinted host.Var false
+filled slot.Notation p = position.Hinted host.Notation false
+filled slot.Fun p = position.Hinted host.Fun false
+filled (slot.Argument e t) p = position.Argued (t && parts.reads_type p)
+filled slot.Rule p = position.Premised
+filled slot.Condition p = position.Iterated iterations.None
+filled slot.Count p = position.Iterated iterations.Complete
+
+-- a token that a part does not take goes to what is behind it
+abbrev pub taken : Slot → TokenClass → List Bracket → Option parts.State → Option Part
+    → Option State
+taken s l ks (Some next) q = Some (inside s next ks)
+taken s l ks None q = option_and_then (λ p. position_step (filled s p) l ks) q
+
+abbrev pub step : State → TokenClass → Option State
+step (at p ks) l = position_step p l ks
+step (inside s st ks) l = taken s l ks (parts.step (slot_sort s) st l.shape) (parts.finish st)
+
+abbrev pub part_ends : Slot → List Bracket → Option Part → Bool
+part_ends s ks None = false
+part_ends s ks (Some p) = whole (filled s p) ks
+
+-- The tokens may end here.
+abbrev pub may_end : State → Bool
+may_end (at p ks) = whole p ks
+may_end (inside s st ks) = part_ends s ks (parts.finish st)

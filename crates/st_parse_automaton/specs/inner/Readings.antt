@@ -1,0 +1,18 @@
+-- The states of the parser as those of the automata: the innermost frame comes first.
+use Rattle.std.specs.Prelude.{reverse}
+use Rattle.st_parse_automaton.specs.declared.part_automaton.Reading.{Reading}
+use Rattle.st_parse_automaton.specs.declared.close.Lowered.{Lowered}
+use Rattle.st_parse_automaton.specs.declared.position.Progress.{Progress}
+use Rattle.st_parse_automaton.specs.declared.position.Progress.TheVariants as code
+use Rattle.st_parse_automaton.specs.inner.PartAutomaton as parts
+use Rattle.st_parse_automaton.specs.inner.DefinitionAutomaton as definitions
+
+abbrev pub reading_of : Reading → parts.State
+reading_of r = (r.expected, reverse r.frames)
+
+abbrev pub lowered_of : Lowered → parts.Lowered
+lowered_of l = (l.level, l.part, reverse l.frames)
+
+abbrev pub progress_of : Progress → definitions.State
+progress_of (code.At a) = definitions.at a.position (reverse a.brackets)
+progress_of (code.Inside s r ks) = definitions.inside s (reading_of r) (reverse ks)

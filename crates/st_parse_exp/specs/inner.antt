@@ -1,0 +1,3 @@
+-- What the reader keeps, for its proofs alone.
+pub mod Seen
+pub mod Drafts

@@ -1,0 +1,54 @@
+-- What is built of expressions while their tokens are read.
+use Rattle.std.specs.Prelude.{◌≡◌, ◌≤◌, ◌<◌, List, [], ◌∷◌, ◌++◌, map, Bool, true, false, Option, Some, None}
+use Rattle.st_num.specs.declared.mark.Mark.{Mark}
+use Rattle.st_scan.specs.declared.token.Token.{Token}
+use Rattle.st_grammar.specs.declared.sort.Sort.TheVariants.{Expression as expression}
+use Rattle.st_grammar.specs.Trees.{Tree}
+use Rattle.st_grammar.specs.Grammar.{Fits}
+use Rattle.st_el.specs.declared.expression.Exp.{Exp}
+use Rattle.st_parse_builder.specs.declared.action.Action.{Action}
+use Rattle.st_parse_builder.specs.Meaning.{meaning}
+use Rattle.st_parse_builder.specs.Heights.{highest, height}
+use Rattle.st_parse_builder.specs.inner.Actions.{acts}
+use Rattle.st_parse_automaton.specs.declared.part_automaton.Shape.{Shape}
+use Rattle.st_parse_automaton.specs.inner.PartAutomaton as parts
+use Rattle.st_parse_actions.specs.inner.Emits as emits
+
+-- the expression that is built of one that means this, where it is not too high
+abbrev pub IsBuilt : Exp → Option Exp → Type 0
+IsBuilt e (Some built) = (built ≡ e) × (height e ≤ 100)
+IsBuilt e None = 100 < height e
+
+-- the same of several
+abbrev pub AreBuilt : List Exp → Option (List Exp) → Type 0
+AreBuilt es (Some built) = (built ≡ es) × (highest (map height es) ≤ 100)
+AreBuilt es None = 100 < highest (map height es)
+
+abbrev pub with_exp : Option (List Exp) → Option Exp → Option (List Exp)
+with_exp (Some es) (Some e) = Some (es ++ e ∷ [])
+with_exp es e = None
+
+-- The expressions that are whole, the signs of the changes that are open in the next one, the
+-- innermost first, and its actions.
+pub record Draft : Type 0 where
+  pub exps : Option (List Exp)
+  pub marks : List Mark
+  pub actions : List Action
+
+abbrev pub draft : Option (List Exp) → List Mark → List Action → Draft
+draft es ms done = record { exps = es; marks = ms; actions = done }
+
+-- A comma ends an expression, whose actions are all there with those of its end.
+pub record Ends (st : parts.State) (old new : Draft) : Type 0 where
+  pub marks : new.marks ≡ []
+  pub actions : new.actions ≡ []
+  pub exps : (t : Tree) (es : List Exp) → Fits (expression false) t
+      → acts t ≡ old.actions ++ emits.finishing st → AreBuilt es old.exps
+      → AreBuilt (es ++ meaning t ∷ []) new.exps
+
+-- what a token makes of a draft: a comma behind a whole expression, or another
+abbrev pub Takes : Bool → parts.State → Shape → Token → Draft → Draft → Type 0
+Takes true st s x old new = Ends st old new
+Takes false st s x old new =
+    new ≡ draft old.exps (emits.kept (expression false) old.marks st s)
+    (old.actions ++ emits.emits (expression false) old.marks st s x)

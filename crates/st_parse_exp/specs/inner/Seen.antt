@@ -1,0 +1,30 @@
+-- The same of what the parser keeps: an expression is read as the conclusion of a rule, behind
+-- which nothing but a comma stands.
+use Rattle.std.specs.Prelude.{[], Bool, true, false, ◌&&◌, if◌then◌else◌}
+use Rattle.st_num.specs.declared.rule.RuleId.TheVariants.{S1}
+use Rattle.st_scan.specs.declared.token.TokenKind.{TokenKind}
+use Rattle.st_grammar.specs.Levels.{is_comma}
+use Rattle.st_parse_automaton.specs.declared.position.TokenClass.{TokenClass}
+use Rattle.st_parse_automaton.specs.declared.position.Slot.TheVariants as slot
+use Rattle.st_parse_automaton.specs.inner.DefinitionAutomaton as definitions
+use Rattle.st_parse_faults.specs.inner.Seen as seen
+use Rattle.st_parse_faults.specs.inner.Seen.{Summary, Verdict, passed, broken}
+
+-- A comma stands behind a whole expression.
+abbrev pub separates : definitions.State → TokenClass → Bool
+separates st l = definitions.signed is_comma l && definitions.may_end st
+
+abbrev pub begun : Summary → Summary
+begun v = seen.nothing_counted (definitions.start_of slot.Rule []) v.nesting
+
+abbrev pub is_inside : definitions.State → Bool
+is_inside (definitions.inside s st ks) = true
+is_inside (definitions.at p ks) = false
+
+-- Behind an expression no rule goes on.
+abbrev pub alone : Verdict → Verdict
+alone (passed v) = if is_inside v.state then passed v else broken S1
+alone (broken r) = broken r
+
+abbrev pub judge : Summary → TokenKind → TokenClass → Verdict
+judge v k l = if separates v.state l then passed (begun v) else alone (seen.judge v k l)

@@ -1,0 +1,3 @@
+-- What the parser keeps of what is counted, for its proofs alone.
+pub mod Roles
+pub mod Seen

@@ -1,0 +1,205 @@
+-- The same of what the parser keeps of a reading.
+use Rattle.std.specs.Prelude.{ℕ, ◌+◌, ◌-◌, ◌≤◌, List, [], ◌∷◌, reverse, Bool, true, false, ◌&&◌, ◌||◌, Option, Some, None, nat_lt, if◌then◌else◌}
+use Rattle.std.specs.List.{AllByRecursion, list_any}
+use Rattle.st_num.specs.declared.rule.RuleId.{RuleId}
+use Rattle.st_num.specs.declared.rule.RuleId.TheVariants.{S1, S2, S3, S4}
+use Rattle.st_scan.specs.declared.token.TokenKind.{TokenKind}
+use Rattle.st_grammar.specs.declared.sort.Closing.TheVariants as closing
+use Rattle.st_grammar.specs.declared.sort.Bracket.{Bracket}
+use Rattle.st_grammar.specs.declared.sort.Sort.{Sort}
+use Rattle.st_grammar.specs.declared.sort.Sort.TheVariants as sort
+use Rattle.st_parse_automaton.specs.declared.part_automaton.Shape.{Shape}
+use Rattle.st_parse_automaton.specs.declared.part_automaton.Shape.TheVariants.{Open, Close}
+use Rattle.st_parse_automaton.specs.declared.part_automaton.Part.{Part}
+use Rattle.st_parse_automaton.specs.declared.part_automaton.Kind.{Kind}
+use Rattle.st_parse_automaton.specs.declared.part_automaton.Kind.TheVariants.{Length}
+use Rattle.st_parse_automaton.specs.declared.part_automaton.Frame.{Frame}
+use Rattle.st_parse_automaton.specs.declared.part_automaton.Frame.TheVariants.{Within}
+use Rattle.st_parse_automaton.specs.declared.part_automaton.Expected.TheVariants.{Next}
+use Rattle.st_parse_automaton.specs.declared.position.Position.{Position}
+use Rattle.st_parse_automaton.specs.declared.position.Position.TheVariants as position
+use Rattle.st_parse_automaton.specs.declared.position.Host.TheVariants as host
+use Rattle.st_parse_automaton.specs.declared.position.Slot.{Slot}
+use Rattle.st_parse_automaton.specs.declared.position.Slot.TheVariants as slot
+use Rattle.st_parse_automaton.specs.declared.position.IterationState.TheVariants as iterations
+use Rattle.st_parse_automaton.specs.declared.position.TokenClass.{TokenClass}
+use Rattle.st_parse_automaton.specs.inner.Readings.{progress_of}
+use Rattle.st_parse_automaton.specs.inner.PartAutomaton as parts
+use Rattle.st_parse_automaton.specs.inner.DefinitionAutomaton as definitions
+use Rattle.st_parse_faults.specs.declared.before.Before.{Before}
+use Rattle.st_parse_faults.specs.declared.before.Before.TheVariants as before
+use Rattle.st_parse_faults.specs.declared.judge.Seen.{Seen as CodeSeen}
+use Rattle.st_parse_faults.specs.declared.judge.Verdict.{Verdict as Code}
+use Rattle.st_parse_faults.specs.declared.tally.Tally.{Tally}
+use Rattle.st_parse_faults.specs.declared.judge.Verdict.TheVariants as variant
+use Rattle.st_parse_faults.specs.LeftOut.{type_or_other, left_out}
+use Rattle.st_parse_faults.specs.declared.counts.Counts.{Counts}
+use Rattle.st_parse_faults.specs.declared.counts.Event.{Event}
+use Rattle.st_parse_faults.specs.declared.counts.Event.TheVariants.{Definition, Premise, Iteration, Closed, Nothing}
+use Rattle.st_parse_faults.specs.Counts.{member_event, counts_after, counts_pass, no_counts}
+use Rattle.st_parse_faults.specs.Limits.{fresh, tally_passes}
+use Rattle.st_parse_faults.specs.inner.Roles.{none_open, attachment_of, tallies_after, TallyKept}
+use Rattle.st_parse_faults.specs.Faults.{nesting_limit}
+
+abbrev pub ends_type : Sort → Part → Bool
+ends_type sort.Typ p = true
+ends_type sort.Notation p = parts.is_type p
+ends_type σ p = false
+
+abbrev pub before_at : Position → List Bracket → Before
+before_at (position.Hinted host.Syntax true) ks = before.SyntaxName
+before_at position.PremiseOpen [] = before.Dashes
+before_at p ks = before.Other
+
+abbrev pub before_inside : Slot → parts.State → Before
+before_inside s (Next p, fs) = type_or_other (ends_type (parts.top (definitions.slot_sort s) fs) p)
+before_inside s st = before.Other
+
+abbrev pub stands_before : definitions.State → Before
+stands_before (definitions.at p ks) = before_at p ks
+stands_before (definitions.inside s st ks) = before_inside s st
+
+abbrev pub nesting_after : ℕ → Shape → ℕ
+nesting_after n (Open k t) = n + 1
+nesting_after n (Close closing.ByBar) = n
+nesting_after n (Close c) = n - 1
+nesting_after n s = n
+
+abbrev pub kind_bars : Kind → ℕ
+kind_bars Length = 1
+kind_bars k = 0
+
+abbrev pub bars_in : Frame → ℕ
+bars_in (Within k f t σ) = kind_bars k
+bars_in f = 0
+
+abbrev pub frame_bars : List Frame → ℕ
+frame_bars [] = 0
+frame_bars (f ∷ fs) = bars_in f + frame_bars fs
+
+abbrev pub bars : definitions.State → ℕ
+bars (definitions.at p ks) = 0
+bars (definitions.inside s st ks) = frame_bars st.1
+
+abbrev pub may_open : Shape → Bool
+may_open (Open k t) = true
+may_open (Close closing.ByBar) = true
+may_open s = false
+
+-- ---- counts
+
+abbrev pub argument_due : Slot → Bool → Bool
+argument_due (slot.Argument e t) b = b
+argument_due s b = false
+
+abbrev pub position_due : Position → Bool
+position_due (position.Entering s) = true
+position_due (position.FieldName b) = true
+position_due p = false
+
+abbrev pub member_due : definitions.State → Bool
+member_due (definitions.at p ks) = position_due p
+member_due (definitions.inside s st ks) = argument_due s (none_open st)
+
+abbrev pub event_at : Position → List Bracket → Event
+event_at position.SyntaxName ks = Definition
+event_at position.RelationName ks = Definition
+event_at position.RuleName ks = Definition
+event_at position.VarName ks = Definition
+event_at position.FunName ks = Definition
+event_at position.PremiseOpen [] = Premise
+event_at (position.Iterated iterations.Complete) ks = Iteration
+event_at (position.Iterated iterations.Wanted) ks = Closed
+event_at p ks = Nothing
+
+abbrev pub count_event : Bool → Event → Event
+count_event true e = Iteration
+count_event false e = e
+
+abbrev pub event_inside : Bool → Slot → parts.State → Event
+event_inside b slot.Count st = count_event (none_open st) (member_event b)
+event_inside b s st = member_event b
+
+abbrev pub event : Bool → definitions.State → Event
+event b (definitions.at p ks) = event_at p ks
+event b (definitions.inside s st ks) = event_inside b s st
+
+-- ---- verdicts
+
+-- what the code keeps, as the definitions see it
+pub record Summary : Type 0 where
+  pub state : definitions.State
+  pub nesting : ℕ
+  pub counts : Counts
+  pub tallies : List Tally
+
+pub data Verdict : Type 0 where
+  passed : Summary → Verdict
+  broken : RuleId → Verdict
+
+abbrev pub opens_too_many : definitions.State → ℕ → Shape → Bool
+opens_too_many st n s = may_open s && nat_lt nesting_limit (n + bars st)
+
+abbrev pub limited : Bool → Bool → Summary → Verdict
+limited true b v = broken S2
+limited false true v = broken S3
+limited false false v = passed v
+
+abbrev pub passes_limit : Summary → Bool
+passes_limit v = counts_pass v.counts || list_any tally_passes v.tallies
+
+abbrev pub kept : Summary → Shape → Verdict
+kept v s = limited (opens_too_many v.state v.nesting s) (passes_limit v) v
+
+abbrev pub refusal : Before → ℕ → TokenKind → RuleId
+refusal b n k = if left_out b n k then S4 else S1
+
+abbrev pub summary_after : Summary → Shape → definitions.State → Summary
+summary_after v s next =
+    record {
+      state = next;
+      nesting = nesting_after v.nesting s;
+      counts = counts_after v.counts (event (member_due v.state) next);
+      tallies = tallies_after (attachment_of v.state s) s next v.tallies;
+    }
+
+abbrev pub judged : Summary → TokenKind → Shape → Option definitions.State → Verdict
+judged v k s None = broken (refusal (stands_before v.state) v.nesting k)
+judged v k s (Some next) = kept (summary_after v s next) s
+
+abbrev pub judge : Summary → TokenKind → TokenClass → Verdict
+judge v k l = judged v k l.shape (definitions.step v.state l)
+
+-- a part begins, and nothing else is counted
+abbrev pub nothing_counted : definitions.State → ℕ → Summary
+nothing_counted st n =
+    record { state = st; nesting = n; counts = no_counts; tallies = fresh 0 ∷ [] }
+
+abbrev pub nothing_summarized : Summary
+nothing_summarized = nothing_counted (definitions.at position.Between []) 0
+
+abbrev pub summary_of : CodeSeen → Summary
+summary_of s =
+    record {
+      state = progress_of s.progress;
+      nesting = s.nesting;
+      counts = s.counts;
+      tallies = reverse s.tallies;
+    }
+
+-- the verdict of the code
+abbrev pub verdict_of : Code → Verdict
+verdict_of (variant.Passed s) = passed (summary_of s)
+verdict_of (variant.Broken r) = broken r
+
+-- Nothing that is counted between parts passes a limit.
+abbrev pub Kept : Counts → Type 0
+Kept c = (c.definitions ≤ 65535) × (c.premises ≤ 255) × (c.members ≤ 4095) × (c.iterations ≤ 32)
+
+abbrev pub SeenKept : CodeSeen → Type 0
+SeenKept s =
+    (s.nesting ≤ nesting_limit) × Kept s.counts × AllByRecursion TallyKept (reverse s.tallies)
+
+abbrev pub IsBounded : Code → Type 0
+IsBounded (variant.Passed s) = SeenKept s
+IsBounded (variant.Broken r) = Unit {0}

@@ -1,0 +1,135 @@
+-- Cases that are found rank by rank.
+use Rattle.std.proofs.Common.{◌≡◌, ◌≢◌, refl, sym, ap, ◌∙◌, subst, ℕ, zero, suc, ◌+◌, ◌<◌, ◌≤◌, List, [], ◌∷◌, set, Option, Some, None, arith, inl, inr, ◌⊎◌}
+use Rattle.std.proofs.lemmas.List.{length-set}
+use Rattle.std.specs.Prelude.{slice_get, slice_index}
+use Rattle.std.specs.List.{flat_map}
+use Rattle.st_il.specs.declared.ty.Ty.{Ty, out-Ty}
+use Rattle.st_il.specs.declared.ty.Ty.TheOpen.{Ty-F}
+use Rattle.st_il.specs.declared.ty.Ty.TheVariants as ty
+use Rattle.st_il.specs.declared.definition.SyntaxDef.{SyntaxDef}
+use Rattle.st_il.specs.declared.definition.SyntaxBody.{SyntaxBody}
+use Rattle.st_il.specs.declared.definition.SyntaxBody.TheVariants as body
+use Rattle.st_il.specs.declared.definition.Alternative.{Alternative}
+use Rattle.st_il.specs.declared.definition.Alternative.TheVariants as alternative
+use Rattle.st_type_table.specs.declared.flat.Flat.{Flat}
+use Rattle.st_type_table.specs.Meaning.{Means, listed}
+use Rattle.st_type_table.specs.Cases.{or_none}
+use Rattle.st_type_table.specs.Leads.{Among, Ends, leads_to, included}
+use Rattle.st_type_table.specs.inner.Graph.{graph_of, AreRanks, EndsIn, place_of, places_of, IsOne, EndsAt}
+use Rattle.st_type_table.specs.inner.Flat.{AreFlats, IsFlat, IsFlatAt, AllReady, alternatives_in}
+use Rattle.st_type_table.proofs.GraphLemmas.{same_place}
+use Rattle.st_type_table.proofs.PlaceLemmas.{place-among, EndsAt-Ends, Ends-EndsAt, node_at, alias-lower, alias-ends, name_rank, rank_at, place_rank, ends_by}
+
+-- the flats of lower ranks, and those of the next up to this place
+pub record Filling (defs : List SyntaxDef) (ranks : List ℕ) (rank : ℕ) (flats : List Flat) (i : ℕ) : Type 0 where
+  pub lower : AreFlats defs ranks rank flats
+  pub next : (place : ℕ) (d : SyntaxDef) (f : Flat) → place < i → slice_get defs place ≡ Some d → slice_index ranks place ≡ suc rank
+      → slice_get flats place ≡ Some f → IsFlat defs (alternatives_in d) f
+
+pub set-other : {A : Type 0} (xs : List A) (i j : ℕ) (x : A) → j ≢ i → slice_get (set xs i x) j ≡ slice_get xs j
+set-other [] i j x d = refl
+set-other (y ∷ xs) zero zero x d = absurd (d refl)
+set-other (y ∷ xs) zero (suc j) x d = refl
+set-other (y ∷ xs) (suc i) zero x d = refl
+set-other (y ∷ xs) (suc i) (suc j) x d = set-other xs i j x (λ e. d (ap suc e))
+
+pub set-same : {A : Type 0} (xs : List A) (i : ℕ) (x y : A) → slice_get (set xs i x) i ≡ Some y → x ≡ y
+set-same [] i x y e = cc
+set-same (z ∷ xs) zero x y e = cc
+set-same (z ∷ xs) (suc i) x y e = set-same xs i x y e
+
+pub name-same : (x y : List ℕ) → ty.Name x ≡ ty.Name y → x ≡ y
+name-same x y q = let e : Ty-F.Name x ≡ Ty-F.Name y = sym (ty.outs-Name x) ∙ ap out-Ty q ∙ ty.outs-Name y in cc
+
+module _ (defs : List SyntaxDef) (ranks : List ℕ) (right : AreRanks (graph_of defs) ranks) where
+  -- aliases lead to no larger ranks
+  pub means-lower : (t u : Ty) → EndsIn defs t → Means defs t u → (name_rank defs ranks u ≤ name_rank defs ranks t) × EndsIn defs u
+  means-lower t u ends (Means.itself p q) = (let e : name_rank defs ranks t ≡ name_rank defs ranks u = ap (name_rank defs ranks) q in omega (arith, e), subst (EndsIn defs) q ends)
+  means-lower t u ends (Means.alias s p q) =
+      let a = alias-lower defs ranks right t s p ends in
+      let b = means-lower s u (alias-ends defs t s p ends) q in
+      let c = b.0 in
+      (omega (arith, a, c), b.1)
+
+  rank-of-name : (name : List ℕ) (p : ℕ) → place_of defs name ≡ Some p → name_rank defs ranks (ty.Name name) ≡ suc (slice_index ranks p)
+  rank-of-name name p e = ap (rank_at defs ranks) (ty.outs-Name name) ∙ ap (place_rank defs ranks) e
+
+  -- what a place leads to ends, and its cases are known
+  module _ (flats : List Flat) (limit i : ℕ) (d : SyntaxDef) (known : AreFlats defs ranks limit flats) (there : slice_get defs i ≡ Some d) (ranked : slice_index ranks i ≡ suc limit) where
+    ends_at : EndsAt (graph_of defs) i
+    ends_at = (right.exact i).0 (omega (arith, ranked))
+
+    leads-ends : (name : List ℕ) → Among (leads_to d.body) name → Ends defs name
+    leads-ends name a = by ends_at
+      where
+        by : EndsAt (graph_of defs) i → Ends defs name
+        by (EndsAt.ends next g all) =
+            let e : Some (Some next) ≡ Some (Some (places_of defs (leads_to d.body))) = sym g ∙ node_at defs defs i d there in
+            let s : next ≡ places_of defs (leads_to d.body) = cc in
+            ends_by defs name (place_of defs name) refl (λ j f. EndsAt-Ends defs j (all j (subst (λ ns. IsOne ns j) (sym s) (place-among defs (leads_to d.body) name j a f))) name f)
+
+    below_limit : (name : List ℕ) (o : Option ℕ) → place_of defs name ≡ o → Among (leads_to d.body) name → (n : ℕ) → suc n ≤ name_rank defs ranks (ty.Name name) → n ≤ limit
+    below_limit name None e a n h =
+        let z : name_rank defs ranks (ty.Name name) ≡ 0 = ap (rank_at defs ranks) (ty.outs-Name name) ∙ ap (place_rank defs ranks) e in
+        absurd (omega (arith, h, z))
+    below_limit name (Some j) e a n h =
+        let r = rank-of-name name j e in
+        let f = (right.falls i j (places_of defs (leads_to d.body)) (omega (arith, ranked)) (node_at defs defs i d there) (place-among defs (leads_to d.body) name j a e)).1 in
+        omega (arith, h, r, f, ranked)
+
+    leads-known : (name : List ℕ) → Among (leads_to d.body) name → IsFlatAt defs flats (ty.Name name)
+    leads-known name a variant place v f m p g h =
+        let ends : EndsIn defs (ty.Name name) = λ x q. subst (Ends defs) (name-same name x q) (leads-ends name a) in
+        let l = means-lower (ty.Name name) (ty.Name variant) ends m in
+        let r = rank-of-name variant place p in
+        let b = l.0 in
+        let low = below_limit name (place_of defs name) refl a (slice_index ranks place) (omega (arith, b, r)) in
+        known.right place v f g ((right.exact place).1 (Ends-EndsAt defs variant (l.1 variant refl) place p)) low h
+
+    ready_list : (as' : List Alternative) → ((name : List ℕ) → Among (flat_map included as') name → Ends defs name × IsFlatAt defs flats (ty.Name name)) → AllReady defs flats as'
+    ready_list [] h = tt
+    ready_list (alternative.Case tag operands ∷ as') h = (λ name e. cc, ready_list as' h)
+    ready_list (alternative.Incl y ∷ as') h =
+        ((λ name e. let q : y ≡ name = cc in subst (λ n. Ends defs n × IsFlatAt defs flats (ty.Name n)) q (h y (inl refl))), ready_list as' (λ n a. h n (inr a)))
+
+    ready_body : (b : SyntaxBody) → d.body ≡ b → AllReady defs flats (or_none (listed (Some b)))
+    ready_body (body.Alias t) e = tt
+    ready_body (body.Fields fs) e = tt
+    ready_body (body.Variant as') e = ready_list as' (λ name a.
+        let m : Among (leads_to d.body) name = subst (λ b. Among (leads_to b) name) (sym e) a in
+        (leads-ends name m, leads-known name m))
+
+    pub ready : AllReady defs flats (alternatives_in d)
+    ready = ready_body d.body refl
+
+-- ---- a place of the rank in turn
+
+module _ (defs : List SyntaxDef) (ranks : List ℕ) (rank : ℕ) where
+  pub fill-then : (flats after : List Flat) (i : ℕ) (d : SyntaxDef) (flat : Flat) → Filling defs ranks rank flats i → slice_get defs i ≡ Some d → slice_index ranks i ≡ suc rank
+      → IsFlat defs (alternatives_in d) flat → after ≡ set flats i flat → Filling defs ranks rank after (i + 1)
+  fill-then flats after i d flat f g r is q = subst (λ z. Filling defs ranks rank z (i + 1)) (sym q) (record {
+    lower = record { size = length-set flats i flat ∙ f.lower.size; right = λ p v w a b c e. f.lower.right p v w a b c (sym (set-other flats i p flat (other p c)) ∙ e) };
+    next = λ p v w h a b e. by p v w h a b e (same_place p i);
+  })
+    where
+      other : (p : ℕ) → slice_index ranks p ≤ rank → p ≢ i
+      other p c e = let z : slice_index ranks p ≡ slice_index ranks i = ap (slice_index ranks) e in omega (arith, c, z, r)
+
+      by : (p : ℕ) (v : SyntaxDef) (w : Flat) → p < i + 1 → slice_get defs p ≡ Some v → slice_index ranks p ≡ suc rank → slice_get (set flats i flat) p ≡ Some w
+          → (p ≡ i) ⊎ (p ≢ i) → IsFlat defs (alternatives_in v) w
+      by p v w h a b e (inl q) =
+          let s : flat ≡ w = set-same flats i flat w (ap (slice_get (set flats i flat)) (sym q) ∙ e) in
+          let t : Some d ≡ Some v = sym g ∙ ap (slice_get defs) (sym q) ∙ a in
+          let u : d ≡ v = cc in
+          subst (IsFlat defs (alternatives_in v)) s (subst (λ z. IsFlat defs (alternatives_in z) flat) u is)
+      by p v w h a b e (inr n) = f.next p v w (omega (arith, h, n)) a b (sym (set-other flats i p flat n) ∙ e)
+
+  pub fill-else : (flats after : List Flat) (i : ℕ) → Filling defs ranks rank flats i → (slice_index ranks i ≡ suc rank → ⊥) → after ≡ flats → Filling defs ranks rank after (i + 1)
+  fill-else flats after i f no_rank q = subst (λ z. Filling defs ranks rank z (i + 1)) (sym q) (record {
+    lower = f.lower;
+    next = λ p v w h a b e. by p v w h a b e (same_place p i);
+  })
+    where
+      by : (p : ℕ) (v : SyntaxDef) (w : Flat) → p < i + 1 → slice_get defs p ≡ Some v → slice_index ranks p ≡ suc rank → slice_get flats p ≡ Some w → (p ≡ i) ⊎ (p ≢ i) → IsFlat defs (alternatives_in v) w
+      by p v w h a b e (inl q) = absurd (no_rank (ap (slice_index ranks) (sym q) ∙ b))
+      by p v w h a b e (inr n) = f.next p v w (omega (arith, h, n)) a b e

@@ -1,0 +1,155 @@
+-- The conditions on definitions of syntaxes, in their order, and the first that is false.
+use Rattle.std.specs.Prelude.{◌≡◌, ◌⊎◌, ◌<◌, ◌^◌, ℕ, suc, List, [], ◌∷◌, ◌++◌, map, take, length, Option, Some, None, slice_get, MatchOption}
+use Rattle.st_num.specs.declared.rule.RuleId.{RuleId}
+use Rattle.st_num.specs.declared.rule.RuleId.TheVariants.{B1, B2, B4, B5, Y7}
+use Rattle.st_il.specs.declared.ty.Ty.{Ty}
+use Rattle.st_il.specs.declared.ty.Ty.TheVariants as ty
+use Rattle.st_il.specs.declared.definition.SyntaxDef.{SyntaxDef}
+use Rattle.st_il.specs.declared.definition.SyntaxBody.{SyntaxBody}
+use Rattle.st_il.specs.declared.definition.SyntaxBody.TheVariants as body
+use Rattle.st_il.specs.declared.definition.Alternative.{Alternative}
+use Rattle.st_il.specs.declared.definition.Alternative.TheVariants as alternative
+use Rattle.st_type_table.specs.declared.entry.CaseDef.{CaseDef}
+use Rattle.st_type_table.specs.Meaning.{body_of, Means, alternatives_of}
+use Rattle.st_type_table.specs.Cases.{Flatten}
+use Rattle.st_type_table.specs.Leads.{names_in, joined, Leads, Ends}
+use Rattle.st_type_table.specs.Keys.{KeysDiffer}
+
+pub data Condition : Type 0 where
+  -- no definition of these has this name
+  new_name : List SyntaxDef → List ℕ → Condition
+  -- no field of these has this name
+  new_field : List (List ℕ × Ty) → List ℕ → Condition
+  -- the name is that of a syntax
+  declared : List ℕ → Condition
+  -- the first name does not lead to the second
+  no_return : List ℕ → List ℕ → Condition
+  -- the name is that of a variant
+  variant : List ℕ → Condition
+  -- the cases of these alternatives have different keys
+  keys : List Alternative → Condition
+
+abbrev pub rule_of : Condition → RuleId
+rule_of (new_name before name) = B1
+rule_of (new_field before name) = B1
+rule_of (declared name) = B2
+rule_of (no_return name target) = B4
+rule_of (variant name) = B5
+rule_of (keys alternatives) = Y7
+
+abbrev pub field_type : List (List ℕ × Ty) → List ℕ → Type 0
+field_type [] name = ⊥
+field_type (f ∷ fs) name = (name ≡ f.0) ⊎ field_type fs name
+
+-- What the name means is a variant, and no way from it runs for ever.
+pub record IsVariant (defs : List SyntaxDef) (name : List ℕ) : Type 0 where
+  pub meaning : Ty
+  pub alternatives : List Alternative
+  pub means : Means defs (ty.Name name) meaning
+  pub listed : alternatives_of defs meaning ≡ Some alternatives
+  pub ends : Ends defs name
+
+abbrev pub Holds : List SyntaxDef → Condition → Type 0
+Holds defs (new_name before name) = body_of before name ≡ None
+Holds defs (new_field before name) = field_type before name → ⊥
+Holds defs (declared name) = body_of defs name ≡ None → ⊥
+Holds defs (no_return name target) = Leads defs name target → ⊥
+Holds defs (variant name) = IsVariant defs name
+Holds defs (keys alternatives) =
+    (cases : List CaseDef) → Flatten defs alternatives cases → KeysDiffer cases
+
+-- ---- the conditions on a definition, each with the number of its part
+
+abbrev pub Placed : Type 0
+Placed = ℕ × Condition
+
+-- the names are declared
+abbrev pub all_declared : ℕ → List (List ℕ) → List Placed
+all_declared part [] = []
+all_declared part (name ∷ names) = (part, declared name) ∷ all_declared part names
+
+-- each name in an alias is declared and does not lead back
+abbrev pub on_alias : List ℕ → List (List ℕ) → List Placed
+on_alias target [] = []
+on_alias target (name ∷ names) =
+    (0, declared name) ∷ (0, no_return name target) ∷ on_alias target names
+
+-- what is included is declared, does not lead back, and is a variant
+abbrev pub on_included : List ℕ → ℕ → List ℕ → List Placed
+on_included target part name =
+    (part, declared name) ∷ (part, no_return name target) ∷ (part, variant name) ∷ []
+
+abbrev pub on_alternative : List ℕ → ℕ → List Alternative → Alternative → List Placed
+on_alternative target part so_far (alternative.Case tag operands) =
+    (part, keys so_far) ∷ all_declared part (joined (map names_in operands))
+on_alternative target part so_far (alternative.Incl name) =
+    on_included target part name ++ (part, keys so_far) ∷ []
+
+-- an alternative after those before it
+abbrev pub on_alternatives : List ℕ → ℕ → List Alternative → List Alternative → List Placed
+on_alternatives target part before [] = []
+on_alternatives target part before (a ∷ as') =
+    on_alternative target part (before ++ a ∷ []) a
+    ++ on_alternatives target (suc part) (before ++ a ∷ []) as'
+
+-- a field after those before it
+abbrev pub on_field : ℕ → List (List ℕ × Ty) → List ℕ × Ty → List Placed
+on_field part before f = (part, new_field before f.0) ∷ all_declared part (names_in f.1)
+
+abbrev pub on_fields : ℕ → List (List ℕ × Ty) → List (List ℕ × Ty) → List Placed
+on_fields part before [] = []
+on_fields part before (f ∷ fs) =
+    on_field part before f ++ on_fields (suc part) (before ++ f ∷ []) fs
+
+abbrev pub on_body : List ℕ → SyntaxBody → List Placed
+on_body name (body.Alias t) = on_alias name (names_in t)
+on_body name (body.Variant alternatives) = on_alternatives name 0 [] alternatives
+on_body name (body.Fields fields) = on_fields 0 [] fields
+
+-- the conditions on a definition behind these
+abbrev pub conditions_on : List SyntaxDef → SyntaxDef → List Placed
+conditions_on before d = (0, new_name before d.name) ∷ on_body d.name d.body
+
+-- ---- the first that is false
+
+abbrev pub AllHold : List SyntaxDef → List Placed → Type 0
+AllHold defs [] = Unit {0}
+AllHold defs (p ∷ ps) = Holds defs p.1 × AllHold defs ps
+
+abbrev pub FirstFalse : List SyntaxDef → List Placed → ℕ → RuleId → Type 0
+FirstFalse defs [] part rule = ⊥
+FirstFalse defs (p ∷ ps) part rule =
+    ((Holds defs p.1 → ⊥) × (part ≡ p.0) × (rule ≡ rule_of p.1))
+    ⊎ (Holds defs p.1 × FirstFalse defs ps part rule)
+
+-- what was found among these conditions: nothing, or the first that is false
+abbrev pub Finds : List SyntaxDef → List Placed → Option (ℕ × RuleId) → Type 0
+Finds defs ps found = MatchOption found (AllHold defs ps) (λ f. FirstFalse defs ps f.0 f.1)
+
+-- all conditions on the first k definitions hold
+abbrev pub SoundTo : List SyntaxDef → ℕ → Type 0
+SoundTo defs k =
+    (i : ℕ) → i < k → (d : SyntaxDef) → slice_get defs i ≡ Some d
+    → AllHold defs (conditions_on (take i defs) d)
+
+-- all conditions hold
+abbrev pub IsSound : List SyntaxDef → Type 0
+IsSound defs = SoundTo defs (length defs)
+
+-- the first condition that is false is one of this rule, at this part of this definition
+pub record FirstBreach (defs : List SyntaxDef) (syntax part : ℕ) (rule : RuleId) : Type 0 where
+  pub definition : SyntaxDef
+  pub there : slice_get defs syntax ≡ Some definition
+  pub before : SoundTo defs syntax
+  pub first : FirstFalse defs (conditions_on (take syntax defs) definition) part rule
+
+-- ---- lists that can be counted
+
+-- fewer than 2^32 alternatives or fields
+abbrev pub HasFewParts : SyntaxBody → Type 0
+HasFewParts (body.Alias t) = Unit {0}
+HasFewParts (body.Variant alternatives) = length alternatives < 2 ^ 32
+HasFewParts (body.Fields fields) = length fields < 2 ^ 32
+
+abbrev pub AllHaveFewParts : List SyntaxDef → Type 0
+AllHaveFewParts defs = (i : ℕ) (d : SyntaxDef) → slice_get defs i ≡ Some d → HasFewParts d.body

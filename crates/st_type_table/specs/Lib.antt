@@ -1,0 +1,18 @@
+-- What must be believed of the table of types, in reading order.
+
+-- what the name of a syntax stands for, and what a type is without the aliases at its top
+pub mod Meaning
+-- the cases of a variant, with those of the variants that it names, and the fields of a record
+pub mod Cases
+-- two types are equal through aliases
+pub mod Same
+-- a record type can be joined where each field is a list, an option or such a record
+pub mod Joins
+-- the tags of two cases have the same key
+pub mod Keys
+-- one syntax leads to another by aliases and inclusions
+pub mod Leads
+-- the conditions on definitions, in their order, and the first that is false
+pub mod Breach
+-- ---- what only proofs need
+pub mod inner

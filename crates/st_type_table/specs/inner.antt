@@ -1,0 +1,7 @@
+-- What the making of the table keeps, for its proofs alone.
+pub mod Graph
+pub mod Flat
+pub mod Kept
+pub mod JoinGraph
+pub mod Checking
+pub mod SameLevels

@@ -1,0 +1,62 @@
+-- What is known while the conditions on a definition are checked.
+use Rattle.std.specs.Prelude.{◌≡◌, ◌↔◌, ℕ, suc, Bool, true, List, take, slice_get, Option, Some, IfNone}
+use Rattle.std.specs.Bool.{MatchBool}
+use Rattle.st_num.specs.declared.rule.RuleId.{RuleId}
+use Rattle.st_type_table.specs.declared.entry.CaseDef.{CaseDef}
+use Rattle.st_type_table.specs.declared.flat.Flat.{Flat}
+use Rattle.st_type_table.specs.Cases.{Flatten}
+use Rattle.st_type_table.specs.Keys.{KeysDiffer}
+use Rattle.st_type_table.specs.inner.Flat.{IsReady}
+use Rattle.st_type_table.specs.Breach.{Holds, keys, Finds, on_alternative, conditions_on}
+use Rattle.st_il.specs.declared.ty.Ty.{Ty}
+use Rattle.st_il.specs.declared.definition.SyntaxDef.{SyntaxDef}
+use Rattle.st_il.specs.declared.definition.Alternative.{Alternative}
+use Rattle.st_type_table.specs.Meaning.{alternatives_of}
+use Rattle.st_type_table.specs.Leads.{Among, Leads, Ends}
+use Rattle.st_type_table.specs.inner.Graph.{place_of, mark}
+
+-- of these names, those that lead back to the target are marked at their places
+abbrev pub Returns : List SyntaxDef → List ℕ → List Bool → List (List ℕ) → Type 0
+Returns defs target marks names =
+    (name : List ℕ) (place : ℕ) → Among names name → place_of defs name ≡ Some place
+    → (mark marks place ≡ true) ↔ Leads defs name target
+
+-- the type is the name of a variant
+abbrev pub IsListed : List SyntaxDef → Ty → Type 0
+IsListed defs t = (alternatives : List Alternative) × (alternatives_of defs t ≡ Some alternatives)
+
+-- the name is declared, and each way from it ends
+pub record IsEnding (defs : List SyntaxDef) (name : List ℕ) : Type 0 where
+  pub place : ℕ
+  pub there : place_of defs name ≡ Some place
+  pub ends : Ends defs name
+
+-- the cases of the alternatives before this place, whose keys differ
+pub record IsSoFar (defs : List SyntaxDef) (parts : List Alternative) (at : ℕ)
+    (cases : List CaseDef) : Type 0 where
+  pub flattened : Flatten defs (take at parts) cases
+  pub differ : KeysDiffer cases
+
+-- the alternative at this place is ready
+abbrev pub IsReadyAt : List SyntaxDef → List Flat → List Alternative → ℕ → Type 0
+IsReadyAt defs flats parts at =
+    (a : Alternative) → slice_get parts at ≡ Some a → IsReady defs flats a
+
+-- whether the keys up to this place differ
+abbrev pub KeysTo : List SyntaxDef → List Alternative → ℕ → List CaseDef → Bool → Type 0
+KeysTo defs parts at cases differ =
+    MatchBool differ (IsSoFar defs parts (suc at) cases)
+    (Holds defs (keys (take (suc at) parts)) → ⊥)
+
+-- what is found at this place; where nothing is, the keys differ
+abbrev pub ChecksAt : List SyntaxDef → List ℕ → List Alternative → ℕ → List CaseDef
+    → Option (ℕ × RuleId) → Type 0
+ChecksAt defs target parts at cases found =
+    ((a : Alternative) → slice_get parts at ≡ Some a
+    → Finds defs (on_alternative target at (take (suc at) parts) a) found)
+    × IfNone found (IsSoFar defs parts (suc at) cases)
+
+-- what is found at a definition
+abbrev pub CheckedAt : List SyntaxDef → ℕ → Option (ℕ × RuleId) → Type 0
+CheckedAt defs at found =
+    (d : SyntaxDef) → slice_get defs at ≡ Some d → Finds defs (conditions_on (take at defs) d) found

@@ -1,0 +1,87 @@
+-- Cases that are added one after another, as long as their keys differ.
+use Rattle.std.specs.Prelude.{◌≡◌, ◌⊎◌, ℕ, List, [], ◌∷◌, ◌++◌, ◌<◌, ◌≤◌, Bool, true, false, length, slice_get, slice_index, Option, Some, None, MatchOption}
+use Rattle.std.specs.Borrow.{Bor}
+use Rattle.std.specs.Bool.{MatchBool}
+use Rattle.st_type_table.specs.declared.entry.CaseDef.{CaseDef}
+use Rattle.st_il.specs.declared.ty.Ty.{Ty}
+use Rattle.st_il.specs.declared.ty.Ty.TheVariants as ty
+use Rattle.st_il.specs.declared.definition.SyntaxDef.{SyntaxDef}
+use Rattle.st_il.specs.declared.definition.Alternative.{Alternative}
+use Rattle.st_il.specs.declared.definition.Alternative.TheVariants as alternative
+use Rattle.st_type_table.specs.declared.flat.Flat.{Flat}
+use Rattle.st_type_table.specs.Meaning.{Means, listed, alternatives_of}
+use Rattle.st_type_table.specs.Cases.{Brings, Flatten, or_none}
+use Rattle.st_type_table.specs.Leads.{Ends}
+use Rattle.st_type_table.specs.inner.Graph.{place_of}
+use Rattle.st_type_table.specs.Keys.{SameKey, KeysDiffer}
+
+-- one of the cases has the key of this tag
+abbrev pub Clashes : List CaseDef → List ℕ → Type 0
+Clashes [] tag = ⊥
+Clashes (c ∷ cs) tag = SameKey c.tag tag ⊎ Clashes cs tag
+
+-- the cases are added, or two of them all would have one key
+abbrev pub Adds : List CaseDef → List CaseDef → List CaseDef → Bool → Type 0
+Adds before after more added =
+    MatchBool added ((after ≡ before ++ more) × KeysDiffer after) (KeysDiffer (before ++ more) → ⊥)
+
+-- ---- what is kept of a syntax's alternatives
+
+-- some cases of these alternatives have one key
+abbrev pub IsBroken : List SyntaxDef → List Alternative → Type 0
+IsBroken defs alternatives =
+    (cases : List CaseDef) × (Flatten defs alternatives cases × (KeysDiffer cases → ⊥))
+
+-- all cases of these alternatives, or the word that some have one key
+abbrev pub IsFlat : List SyntaxDef → List Alternative → Flat → Type 0
+IsFlat defs alternatives f =
+    MatchBool f.whole (Flatten defs alternatives f.cases × KeysDiffer f.cases)
+    (IsBroken defs alternatives)
+
+abbrev pub alternatives_in : SyntaxDef → List Alternative
+alternatives_in d = or_none (listed (Some d.body))
+
+-- right at the place of what the type means
+abbrev pub IsFlatAt : List SyntaxDef → List Flat → Ty → Type 0
+IsFlatAt defs flats t =
+    (variant : List ℕ) (place : ℕ) (d : SyntaxDef) (f : Flat) → Means defs t (ty.Name variant)
+    → place_of defs variant ≡ Some place → slice_get defs place ≡ Some d
+    → slice_get flats place ≡ Some f → IsFlat defs (alternatives_in d) f
+
+-- what is kept of the variant that the type means
+abbrev pub IsFlatOf : List SyntaxDef → Ty → Option (Bor Flat) → Type 0
+IsFlatOf defs t found =
+    (u : Ty) × (Means defs t u
+    × MatchOption found (alternatives_of defs u ≡ None)
+    (λ f. IsFlat defs (or_none (alternatives_of defs u)) f.now))
+
+-- the way from what the alternative includes ends, and its cases are known
+abbrev pub IsReady : List SyntaxDef → List Flat → Alternative → Type 0
+IsReady defs flats a =
+    (name : List ℕ) → a ≡ alternative.Incl name
+    → Ends defs name × IsFlatAt defs flats (ty.Name name)
+
+abbrev pub AllReady : List SyntaxDef → List Flat → List Alternative → Type 0
+AllReady defs flats [] = Unit {0}
+AllReady defs flats (a ∷ as') = IsReady defs flats a × AllReady defs flats as'
+
+-- the cases of the other variant are added, or two of them all would have one key
+abbrev pub AddsIncluded : List CaseDef → List CaseDef → Flat → Bool → Type 0
+AddsIncluded before after f added = MatchBool added
+    ((f.whole ≡ true) × ((after ≡ before ++ f.cases) × KeysDiffer after))
+    ((f.whole ≡ false) ⊎ (KeysDiffer (before ++ f.cases) → ⊥))
+
+-- the cases of the alternative are added, or two of them all would have one key
+abbrev pub AddsAlternative : List SyntaxDef → List CaseDef → List CaseDef → Alternative
+    → Bool → Type 0
+AddsAlternative defs before after a added = MatchBool added
+    ((more : List CaseDef) × (Brings defs a more × ((after ≡ before ++ more) × KeysDiffer after)))
+    ((more : List CaseDef) × (Brings defs a more × (KeysDiffer (before ++ more) → ⊥)))
+
+-- the flats are right at all places with ranks up to this
+pub record AreFlats (defs : List SyntaxDef) (ranks : List ℕ) (limit : ℕ)
+    (flats : List Flat) : Type 0 where
+  pub size : length flats ≡ length defs
+  pub right : (place : ℕ) (d : SyntaxDef) (f : Flat) → slice_get defs place ≡ Some d
+      → 0 < slice_index ranks place → slice_index ranks place ≤ limit
+      → slice_get flats place ≡ Some f → IsFlat defs (alternatives_in d) f

@@ -1,0 +1,46 @@
+-- Syntaxes by their places: for which others one waits before it can be joined as a field.
+use Rattle.std.specs.Prelude.{ℕ, List, [], ◌∷◌, length, map, Option, Some, None}
+use Rattle.std.specs.List.{flat_map}
+use Rattle.st_il.specs.declared.ty.Ty.{Ty, out-Ty}
+use Rattle.st_il.specs.declared.ty.Ty.TheOpen.{Ty-F}
+use Rattle.st_il.specs.declared.definition.SyntaxDef.{SyntaxDef}
+use Rattle.st_il.specs.declared.definition.SyntaxBody.{SyntaxBody}
+use Rattle.st_il.specs.declared.definition.SyntaxBody.TheVariants as body
+use Rattle.st_type_table.specs.inner.Graph.{Graph, place_of}
+
+-- the place behind all definitions: nothing is there, and so what waits for it waits for ever
+abbrev pub never : List SyntaxDef → ℕ
+never defs = length defs
+
+abbrev pub place_or_never : List SyntaxDef → Option ℕ → ℕ
+place_or_never defs None = never defs
+place_or_never defs (Some place) = place
+
+-- what a field of this type waits for
+abbrev pub waits_at : {X : Type 0} → List SyntaxDef → Ty-F X → List ℕ
+waits_at defs (Ty-F.List t) = []
+waits_at defs (Ty-F.Opt t) = []
+waits_at defs (Ty-F.Name name) = place_or_never defs (place_of defs name) ∷ []
+waits_at defs Ty-F.Bool = never defs ∷ []
+waits_at defs Ty-F.Nat = never defs ∷ []
+waits_at defs Ty-F.Int = never defs ∷ []
+waits_at defs Ty-F.Text = never defs ∷ []
+waits_at defs (Ty-F.Tuple ts) = never defs ∷ []
+
+abbrev pub waits_in : List SyntaxDef → Ty → List ℕ
+waits_in defs t = waits_at defs (out-Ty t)
+
+abbrev pub field_waits : List SyntaxDef → List (List ℕ × Ty) → List ℕ
+field_waits defs = flat_map (λ f. waits_in defs f.1)
+
+-- what a syntax of this body waits for
+abbrev pub waits_of : List SyntaxDef → SyntaxBody → List ℕ
+waits_of defs (body.Alias t) = waits_in defs t
+waits_of defs (body.Variant alternatives) = never defs ∷ []
+waits_of defs (body.Fields fields) = field_waits defs fields
+
+abbrev pub join_node : List SyntaxDef → SyntaxDef → Option (List ℕ)
+join_node defs d = Some (waits_of defs d.body)
+
+abbrev pub join_graph : List SyntaxDef → Graph
+join_graph defs = map (join_node defs) defs

@@ -1,0 +1,226 @@
+//! The table of a list of definitions.
+
+ghost use Rattle.std.specs.Prelude.{◌≡◌, ◌↔◌, ◌<◌, ◌^◌, ℕ, IsTrue, length, IfOk, OnOk, Err, nat_eq};
+ghost use Rattle.st_num.specs.declared.rule.RuleId.{RuleId};
+ghost use Rattle.st_type_table.specs.Breach.{IsSound, FirstBreach, AllHaveFewParts, HasFewParts};
+ghost use Rattle.st_type_table.specs.inner.Graph.{AreRanks, graph_of};
+ghost use Rattle.st_type_table.specs.inner.Flat.{AreFlats};
+ghost use Rattle.st_type_table.specs.inner.Kept.{IsKept, defs_of, kept_of};
+ghost use Rattle.std.specs.Cmp.Lexicographic.{pointwise};
+ghost use Rattle.indexmap.specs.IndexMap.{insert_entry};
+
+use crate::check::check_def;
+use crate::entry::{CaseDef, Entries, Entry};
+use crate::fault::TypeFault;
+use crate::flat::{Flat, flats_of};
+use crate::graph::{Node, settle};
+use crate::joining::join_graph;
+use crate::place::leads_graph;
+use indexmap::IndexMap;
+use st_il::{Alternative, SyntaxBody, SyntaxDef, Ty, copy_ty, copy_tys};
+use st_num::{Name, NoMemory, Row};
+use std::alloc::Global;
+
+/// Lists that positions of 32 bits can count are shorter.
+const LIMIT: usize = 4_294_967_296;
+
+/// Whether the definitions, and the parts of each, are fewer than the limit.
+pub(crate) fn are_few(defs: &[SyntaxDef]) -> bool
+    ensures { IsTrue result ↔ ((length defs.now < 2 ^ 32) × AllHaveFewParts defs.now) }
+{
+    if defs.len() >= LIMIT {
+        return false;
+    }
+    for def in defs {
+        if !has_few_parts(&def.body) {
+            return false;
+        }
+    }
+    true
+}
+
+fn has_few_parts(body: &SyntaxBody) -> bool
+    ensures { IsTrue result ↔ HasFewParts body.now }
+{
+    match body {
+        SyntaxBody::Alias(_) => true,
+        SyntaxBody::Variant(parts) => parts.len() < LIMIT,
+        SyntaxBody::Fields(fields) => fields.len() < LIMIT,
+    }
+}
+
+/// Whether all conditions hold, or the first that is false.
+fn check_all(
+    alloc: Global,
+    defs: &[SyntaxDef],
+    graph: &[Node],
+    ranks: &[usize],
+    flats: &[Flat],
+) -> Result<(), TypeFault>
+    requires graph { graph.now ≡ graph_of defs.now }
+    requires ranks { AreRanks (graph_of defs.now) ranks.now }
+    requires flats { AreFlats defs.now ranks.now (length defs.now) flats.now }
+    requires few { AllHaveFewParts defs.now }
+    requires few_definitions { length defs.now < 2 ^ 32 }
+    ensures ok { OnOk result (IsSound defs.now) }
+    ensures refused { (s p : ℕ) (r : RuleId) → result ≡ Err (TypeFault.Refused s p r)
+        → FirstBreach defs.now s p r }
+{
+    for at in 0..defs.len() {
+        match check_def(alloc, defs, graph, ranks, flats, at)? {
+            Some((part, rule)) => {
+                let syntax = at as u32;
+                return Err(TypeFault::Refused { syntax, part, rule });
+            }
+            None => {}
+        }
+    }
+    Ok(())
+}
+
+/// What is kept of the definitions, where they break no rule.
+pub(crate) fn entries_of(alloc: Global, defs: &[SyntaxDef]) -> Result<Entries, TypeFault>
+    requires few { AllHaveFewParts defs.now }
+    requires few_definitions { length defs.now < 2 ^ 32 }
+    ensures kept { IfOk result (λ map. IsKept map.entries) }
+    ensures whole { IfOk result (λ map. defs_of map.entries ≡ defs.now) }
+    ensures sound { OnOk result (IsSound defs.now) }
+    ensures refused { (s p : ℕ) (r : RuleId) → result ≡ Err (TypeFault.Refused s p r)
+        → FirstBreach defs.now s p r }
+{
+    let graph = leads_graph(alloc, defs)?;
+    let ranks = settle(alloc, graph.as_slice())?;
+    let ranks = ranks.as_slice();
+    let flats = flats_of(alloc, defs, ranks)?;
+    let flats = flats.as_slice();
+    match check_all(alloc, defs, graph.as_slice(), ranks, flats) {
+        Ok(()) => {}
+        Err(fault) => return Err(fault),
+    }
+    let join_graph = join_graph(alloc, defs)?;
+    let joins = settle(alloc, join_graph.as_slice())?;
+    let entries = fill(alloc, defs, ranks, flats, joins.as_slice())?;
+    Ok(entries)
+}
+
+/// An entry for each definition.
+fn fill(
+    alloc: Global,
+    defs: &[SyntaxDef],
+    ranks: &[usize],
+    flats: &[Flat],
+    joins: &[usize],
+) -> Result<Entries, NoMemory>
+    requires sound { IsSound defs.now }
+    requires ranks { length ranks.now ≡ length defs.now }
+    requires flats { length flats.now ≡ length defs.now }
+    requires joins { length joins.now ≡ length defs.now }
+    ensures { IfOk result (λ map. map.entries ≡ kept_of defs.now ranks.now flats.now joins.now) }
+{
+    let mut map = IndexMap::new(alloc);
+    for at in 0..defs.len() {
+        let name = defs[at].name.copy(alloc)?;
+        let entry = entry_for(alloc, &defs[at], ranks[at], &flats[at], joins[at])?;
+        insert(&mut map, name, entry)?;
+    }
+    Ok(map)
+}
+
+fn insert(map: &mut Entries, name: Name, entry: Entry) -> Result<(), NoMemory>
+    ensures { OnOk result
+        (map.new.entries ≡ insert_entry (pointwise nat_eq) map.old.entries name entry) }
+{
+    match map.insert(name, entry) {
+        Ok(_) => Ok(()),
+        Err(_) => Err(NoMemory),
+    }
+}
+
+fn entry_for(
+    alloc: Global,
+    def: &SyntaxDef,
+    rank: usize,
+    flat: &Flat,
+    join_rank: usize,
+) -> Result<Entry, NoMemory>
+    ensures { IfOk result (λ entry. entry ≡ record {
+      body = def.now.body;
+      rank = rank;
+      cases = flat.now.cases;
+      join_rank = join_rank;
+    }) }
+{
+    let body = copy_body(alloc, &def.body)?;
+    let cases = copy_cases(alloc, flat.cases.as_slice())?;
+    Ok(Entry {
+        body,
+        rank,
+        cases,
+        join_rank,
+    })
+}
+
+/// The same cases again.
+fn copy_cases(alloc: Global, cases: &[CaseDef]) -> Result<Row<CaseDef>, NoMemory>
+    ensures { IfOk result (λ copies. copies ≡ cases.now) }
+{
+    let mut copies = Row::new(alloc);
+    for case in cases {
+        let tag = case.tag.copy(alloc)?;
+        let operands = copy_tys(alloc, case.operands.as_slice())?;
+        copies.push(CaseDef { tag, operands })?;
+    }
+    Ok(copies)
+}
+
+/// The same alternatives again.
+fn copy_alternatives(alloc: Global, parts: &[Alternative]) -> Result<Row<Alternative>, NoMemory>
+    ensures { IfOk result (λ copies. copies ≡ parts.now) }
+{
+    let mut copies = Row::new(alloc);
+    for part in parts {
+        let copy = copy_alternative(alloc, part)?;
+        copies.push(copy)?;
+    }
+    Ok(copies)
+}
+
+fn copy_alternative(alloc: Global, part: &Alternative) -> Result<Alternative, NoMemory>
+    ensures { IfOk result (λ copy. copy ≡ part.now) }
+{
+    match part {
+        Alternative::Case(tag, operands) => {
+            let tag = tag.copy(alloc)?;
+            Ok(Alternative::Case(tag, copy_tys(alloc, operands.as_slice())?))
+        }
+        Alternative::Incl(name) => Ok(Alternative::Incl(name.copy(alloc)?)),
+    }
+}
+
+/// The same fields again.
+fn copy_fields(alloc: Global, fields: &[(Name, Ty)]) -> Result<Row<(Name, Ty)>, NoMemory>
+    ensures { IfOk result (λ copies. copies ≡ fields.now) }
+{
+    let mut copies = Row::new(alloc);
+    for field in fields {
+        let name = field.0.copy(alloc)?;
+        copies.push((name, copy_ty(alloc, &field.1)?))?;
+    }
+    Ok(copies)
+}
+
+/// The same body again.
+fn copy_body(alloc: Global, body: &SyntaxBody) -> Result<SyntaxBody, NoMemory>
+    ensures { IfOk result (λ copy. copy ≡ body.now) }
+{
+    match body {
+        SyntaxBody::Alias(ty) => Ok(SyntaxBody::Alias(copy_ty(alloc, ty)?)),
+        SyntaxBody::Variant(parts) => {
+            let parts = copy_alternatives(alloc, parts.as_slice())?;
+            Ok(SyntaxBody::Variant(parts))
+        }
+        SyntaxBody::Fields(fields) => {
+            Ok(SyntaxBody::Fields(copy_fields(alloc, fields.as_slice())?))
+        }
+    }
+}

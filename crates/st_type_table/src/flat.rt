@@ -1,0 +1,254 @@
+//! The cases of a list of alternatives, as long as their keys differ.
+
+ghost use Rattle.std.specs.Prelude.{◌≡◌, ◌<◌, ◌↔◌, ◌++◌, ◌∷◌, [], length, slice_get, suc, IsTrue, IfOk, OnOk};
+ghost use Rattle.std.specs.Option.{option_copied};
+ghost use Rattle.st_il.specs.Key.{plain};
+ghost use Rattle.st_type_table.specs.Keys.{SameKey, KeysDiffer};
+ghost use Rattle.st_type_table.specs.Keys.{plain_key};
+ghost use Rattle.st_type_table.specs.inner.Flat.{Clashes, Adds, AddsAlternative, AddsIncluded, IsReady, AllReady, AreFlats, alternatives_in, IsFlat, IsFlatAt, IsFlatOf};
+ghost use Rattle.st_type_table.specs.inner.Graph.{AreRanks, graph_of, EndsIn};
+
+use crate::entry::CaseDef;
+use crate::place::place_of;
+use crate::resolve::meaning_in;
+use st_il::{
+    Alternative, Key, SyntaxBody, SyntaxDef, Template, Ty, copy_tys, key_of, same_key, template_of,
+};
+use st_num::{Name, NoMemory, Row};
+use std::alloc::Global;
+
+/// The key of a template, where there is one.
+fn key_or_free<'a>(template: &'a Option<Template>) -> Key<'a>
+    ensures { plain result ≡ plain_key template.now }
+{
+    match template {
+        Some(template) => key_of(template),
+        None => Key::Free,
+    }
+}
+
+/// Whether both tags have one key, or both have none.
+fn have_same_key(alloc: Global, a: &Name, b: &Name) -> Result<bool, NoMemory>
+    ensures { IfOk result (λ yes. IsTrue yes ↔ SameKey a.now b.now) }
+{
+    let one = template_of(alloc, a)?;
+    let other = template_of(alloc, b)?;
+    let same = same_key(&key_or_free(&one), &key_or_free(&other));
+    Ok(same)
+}
+
+/// Whether one of the cases has the key of this tag.
+fn clashes(alloc: Global, cases: &[CaseDef], tag: &Name) -> Result<bool, NoMemory>
+    ensures { IfOk result (λ yes. IsTrue yes ↔ Clashes cases.now tag.now) }
+{
+    for case in cases {
+        if have_same_key(alloc, &case.tag, tag)? {
+            return Ok(true);
+        }
+    }
+    Ok(false)
+}
+
+/// Adds a case where its key differs from those of the others, and says whether it does.
+fn add_case(
+    alloc: Global,
+    cases: &mut Row<CaseDef>,
+    tag: &Name,
+    operands: &[Ty],
+) -> Result<bool, NoMemory>
+    requires { KeysDiffer cases.old }
+    ensures { IfOk result
+        (λ added. Adds cases.old cases.new
+        (record { tag = tag.now; operands = operands.now } ∷ []) added) }
+{
+    if clashes(alloc, cases.as_slice(), tag)? {
+        return Ok(false);
+    }
+    let tag = tag.copy(alloc)?;
+    let operands = copy_tys(alloc, operands)?;
+    cases.push(CaseDef { tag, operands })?;
+    Ok(true)
+}
+
+/// The cases of a syntax, in order, where no two have one key.
+#[derive(Drop)]
+pub(crate) struct Flat {
+    pub(crate) cases: Row<CaseDef>,
+    pub(crate) whole: bool,
+}
+
+/// Adds the cases of another variant, and says whether all keys differ.
+fn add_included(alloc: Global, cases: &mut Row<CaseDef>, flat: &Flat) -> Result<bool, NoMemory>
+    requires { KeysDiffer cases.old }
+    ensures { IfOk result (λ added. AddsIncluded cases.old cases.new flat.now added) }
+{
+    if !flat.whole {
+        return Ok(false);
+    }
+    for case in flat.cases.as_slice() {
+        if !add_case(alloc, cases, &case.tag, case.operands.as_slice())? {
+            return Ok(false);
+        }
+    }
+    Ok(true)
+}
+
+fn flat_at<'a>(flats: &'a [Flat], place: usize) -> Option<&'a Flat>
+    ensures { option_copied result ≡ slice_get flats.now place }
+{
+    flats.get(place)
+}
+
+/// What is kept of the variant that the type means.
+fn flat_of<'a>(defs: &[SyntaxDef], ranks: &[usize], flats: &'a [Flat], ty: &Ty) -> Option<&'a Flat>
+    requires ranks { AreRanks (graph_of defs.now) ranks.now }
+    requires size { length flats.now ≡ length defs.now }
+    requires ends { EndsIn defs.now ty.now }
+    requires known { IsFlatAt defs.now flats.now ty.now }
+    ensures { IsFlatOf defs.now ty.now result }
+{
+    match meaning_in(defs, ranks, ty) {
+        Ty::Name(name) => match place_of(defs, name) {
+            Some(place) => flat_at(flats, place),
+            None => None,
+        },
+        Ty::Bool => None,
+        Ty::Nat => None,
+        Ty::Int => None,
+        Ty::Text => None,
+        Ty::List(_) => None,
+        Ty::Opt(_) => None,
+        Ty::Tuple(_) => None,
+    }
+}
+
+/// Adds the cases that an alternative brings, and says whether all keys differ.
+pub(crate) fn add_alternative(
+    alloc: Global,
+    defs: &[SyntaxDef],
+    ranks: &[usize],
+    flats: &[Flat],
+    alternative: &Alternative,
+    cases: &mut Row<CaseDef>,
+) -> Result<bool, NoMemory>
+    requires ranks { AreRanks (graph_of defs.now) ranks.now }
+    requires size { length flats.now ≡ length defs.now }
+    requires ready { IsReady defs.now flats.now alternative.now }
+    requires differ { KeysDiffer cases.old }
+    ensures { IfOk result
+        (λ added. AddsAlternative defs.now cases.old cases.new alternative.now added) }
+{
+    match alternative {
+        Alternative::Case(tag, operands) => {
+            let added = add_case(alloc, cases, tag, operands.as_slice())?;
+            Ok(added)
+        }
+        Alternative::Incl(name) => {
+            let ty = Ty::Name(name.copy(alloc)?);
+            match flat_of(defs, ranks, flats, &ty) {
+                Some(flat) => {
+                    let added = add_included(alloc, cases, flat)?;
+                    Ok(added)
+                }
+                None => Ok(true),
+            }
+        }
+    }
+}
+
+/// The cases of these alternatives.
+fn flatten(
+    alloc: Global,
+    defs: &[SyntaxDef],
+    ranks: &[usize],
+    flats: &[Flat],
+    alternatives: &[Alternative],
+) -> Result<Flat, NoMemory>
+    requires ranks { AreRanks (graph_of defs.now) ranks.now }
+    requires size { length flats.now ≡ length defs.now }
+    requires ready { AllReady defs.now flats.now alternatives.now }
+    ensures { IfOk result (λ flat. IsFlat defs.now alternatives.now flat) }
+{
+    let mut cases = Row::new(alloc);
+    for alternative in alternatives {
+        if !add_alternative(alloc, defs, ranks, flats, alternative, &mut cases)? {
+            let whole = false;
+            return Ok(Flat { cases, whole });
+        }
+    }
+    let whole = true;
+    Ok(Flat { cases, whole })
+}
+
+/// An empty list of cases for each definition.
+fn empty_flats(alloc: Global, len: usize) -> Result<Vec<Flat>, NoMemory>
+    ensures { IfOk result (λ flats. length flats.items ≡ len) }
+{
+    let mut flats = Vec::new(alloc);
+    for i in 0..len {
+        let cases = Row::new(alloc);
+        flats.push(Flat {
+            cases,
+            whole: i < len,
+        })?;
+    }
+    Ok(flats)
+}
+
+/// The cases of a definition whose inclusions are known.
+fn flat_of_body(
+    alloc: Global,
+    defs: &[SyntaxDef],
+    ranks: &[usize],
+    flats: &[Flat],
+    def: &SyntaxDef,
+) -> Result<Flat, NoMemory>
+    requires ranks { AreRanks (graph_of defs.now) ranks.now }
+    requires size { length flats.now ≡ length defs.now }
+    requires ready { AllReady defs.now flats.now (alternatives_in def.now) }
+    ensures { IfOk result (λ flat. IsFlat defs.now (alternatives_in def.now) flat) }
+{
+    match &def.body {
+        SyntaxBody::Alias(_) => flatten(alloc, defs, ranks, flats, &[]),
+        SyntaxBody::Variant(parts) => flatten(alloc, defs, ranks, flats, parts.as_slice()),
+        SyntaxBody::Fields(_) => flatten(alloc, defs, ranks, flats, &[]),
+    }
+}
+
+/// Adds the cases of the definitions of this rank to those of lower ranks.
+fn fill_rank(
+    alloc: Global,
+    defs: &[SyntaxDef],
+    ranks: &[usize],
+    rank: usize,
+    flats: &mut Vec<Flat>,
+) -> Result<(), NoMemory>
+    requires ranks { AreRanks (graph_of defs.now) ranks.now }
+    requires flats { AreFlats defs.now ranks.now rank flats.old.items }
+    requires within { rank < length defs.now }
+    ensures { OnOk result (AreFlats defs.now ranks.now (suc rank) flats.new.items) }
+{
+    for i in 0..defs.len() {
+        if ranks[i] == rank + 1 {
+            let flat = flat_of_body(alloc, defs, ranks, flats, &defs[i])?;
+            flats[i] = flat;
+        }
+    }
+    Ok(())
+}
+
+/// The cases of all definitions whose inclusions end.
+pub(crate) fn flats_of(
+    alloc: Global,
+    defs: &[SyntaxDef],
+    ranks: &[usize],
+) -> Result<Vec<Flat>, NoMemory>
+    requires ranks { AreRanks (graph_of defs.now) ranks.now }
+    ensures { IfOk result (λ flats. AreFlats defs.now ranks.now (length defs.now) flats.items) }
+{
+    let mut flats = empty_flats(alloc, defs.len())?;
+    for rank in 0..defs.len() {
+        fill_rank(alloc, defs, ranks, rank, &mut flats)?;
+    }
+    Ok(flats)
+}

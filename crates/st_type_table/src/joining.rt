@@ -1,0 +1,97 @@
+//! Which record types can be joined.
+
+ghost use Rattle.std.specs.Prelude.{◌≡◌, ◌↔◌, ◌++◌, IsTrue, IfOk, OnOk};
+ghost use Rattle.st_type_table.specs.Joins.{Joins};
+ghost use Rattle.st_type_table.specs.inner.JoinGraph.{place_or_never, waits_in, field_waits, waits_of, join_graph};
+ghost use Rattle.st_type_table.specs.inner.Graph.{place_of};
+ghost use Rattle.st_type_table.specs.inner.Kept.{defs_of, IsKept};
+
+use crate::entry::Entries;
+use crate::graph::Node;
+use crate::meaning::{entry_named, meaning_of};
+use crate::place::place_of;
+use st_il::{SyntaxBody, SyntaxDef, Ty};
+use st_num::{Name, NoMemory, Row};
+use std::alloc::Global;
+
+/// The place of the first definition of this name, or the place behind all definitions: nothing
+/// is there, and so what waits for it waits for ever.
+fn place_or_never(defs: &[SyntaxDef], name: &Name) -> usize
+    ensures { result ≡ place_or_never defs.now (place_of defs.now name.now) }
+{
+    match place_of(defs, name) {
+        Some(place) => place,
+        None => defs.len(),
+    }
+}
+
+/// Appends what a field of this type waits for before it can be joined.
+fn push_waits(defs: &[SyntaxDef], ty: &Ty, out: &mut Row<usize>) -> Result<(), NoMemory>
+    ensures { OnOk result (out.new ≡ out.old ++ waits_in defs.now ty.now) }
+{
+    match ty {
+        Ty::List(_) | Ty::Opt(_) => Ok(()),
+        Ty::Name(name) => out.push(place_or_never(defs, name)),
+        Ty::Bool | Ty::Nat | Ty::Int | Ty::Text | Ty::Tuple(_) => out.push(defs.len()),
+    }
+}
+
+fn field_waits(
+    alloc: Global,
+    defs: &[SyntaxDef],
+    fields: &[(Name, Ty)],
+) -> Result<Row<usize>, NoMemory>
+    ensures { IfOk result (λ places. places ≡ field_waits defs.now fields.now) }
+{
+    let mut places = Row::new(alloc);
+    for field in fields {
+        push_waits(defs, &field.1, &mut places)?;
+    }
+    Ok(places)
+}
+
+/// What a syntax of this body waits for before it can be joined as a field.
+fn waits_of(alloc: Global, defs: &[SyntaxDef], body: &SyntaxBody) -> Result<Row<usize>, NoMemory>
+    ensures { IfOk result (λ places. places ≡ waits_of defs.now body.now) }
+{
+    match body {
+        SyntaxBody::Alias(ty) => {
+            let mut places = Row::new(alloc);
+            push_waits(defs, ty, &mut places)?;
+            Ok(places)
+        }
+        SyntaxBody::Variant(_) => {
+            let mut places = Row::new(alloc);
+            places.push(defs.len())?;
+            Ok(places)
+        }
+        SyntaxBody::Fields(fields) => field_waits(alloc, defs, fields.as_slice()),
+    }
+}
+
+/// For each definition the places that it waits for before it can be joined as a field.
+pub(crate) fn join_graph(alloc: Global, defs: &[SyntaxDef]) -> Result<Row<Node>, NoMemory>
+    ensures { IfOk result (λ graph. graph ≡ join_graph defs.now) }
+{
+    let mut graph = Row::new(alloc);
+    for def in defs {
+        let places = waits_of(alloc, defs, &def.body)?;
+        graph.push(Some(places))?;
+    }
+    Ok(graph)
+}
+
+/// Whether the type is a record type that can be joined.
+pub(crate) fn joins(entries: &Entries, ty: &Ty) -> bool
+    requires { IsKept entries.now.entries }
+    ensures { IsTrue result ↔ Joins (defs_of entries.now.entries) ty.now }
+{
+    match entry_named(entries, meaning_of(entries, ty)) {
+        Some(entry) => match &entry.body {
+            SyntaxBody::Fields(_) => entry.join_rank > 0,
+            SyntaxBody::Alias(_) => false,
+            SyntaxBody::Variant(_) => false,
+        },
+        None => false,
+    }
+}

@@ -1,0 +1,27 @@
+//! The table of the syntaxes: what each name stands for, and the conditions on its definition.
+//!
+//! A `TypeTable` is seen as the definitions of the syntaxes that it was made from. What it keeps
+//! beside them, the flattened cases of each variant among others, no contract names: the
+//! definitions of `specs/` follow aliases and inclusions by themselves.
+//!
+//! Read `table` first, with `specs/Meaning.antt`, `specs/Cases.antt` and `specs/Breach.antt`.
+#![tactic(auto)]
+
+mod build;
+mod check;
+mod entry;
+mod fault;
+mod flat;
+mod graph;
+mod joining;
+mod meaning;
+mod place;
+mod resolve;
+mod same;
+mod table;
+#[cfg(test)]
+mod tests;
+
+pub use entry::CaseDef;
+pub use fault::TypeFault;
+pub use table::TypeTable;

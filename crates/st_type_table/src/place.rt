@@ -1,0 +1,111 @@
+//! Names by the places of their definitions, and the names that a body leads to.
+
+ghost use Rattle.std.specs.Prelude.{◌≡◌, ◌++◌, map, OnOk, IfOk};
+ghost use Rattle.std.specs.List.{flat_map};
+ghost use Rattle.st_type_table.specs.Leads.{names_in, joined, included, leads_to};
+ghost use Rattle.st_type_table.specs.inner.Graph.{place_of, places_of, graph_of};
+
+use st_il::{Alternative, SyntaxBody, SyntaxDef, Ty};
+use st_num::{Name, NoMemory, Row};
+use std::alloc::Global;
+
+/// The place of the first definition of this name.
+pub(crate) fn place_of(defs: &[SyntaxDef], name: &Name) -> Option<usize>
+    ensures { result ≡ place_of defs.now name.now }
+{
+    for (k, def) in defs.iter().enumerate() {
+        if *name == def.name {
+            return Some(k);
+        }
+    }
+    None
+}
+
+/// Appends the names in a type, in order.
+#[cycle(names)]
+pub(crate) fn push_names(alloc: Global, ty: &Ty, out: &mut Row<Name>) -> Result<(), NoMemory>
+    ensures { OnOk result (out.new ≡ out.old ++ names_in ty.now) }
+{
+    match ty {
+        Ty::Bool | Ty::Nat | Ty::Int | Ty::Text => Ok(()),
+        Ty::Name(name) => {
+            let name = name.copy(alloc)?;
+            out.push(name)
+        }
+        Ty::List(inner) => push_names(alloc, inner.get(), out),
+        Ty::Opt(inner) => push_names(alloc, inner.get(), out),
+        Ty::Tuple(parts) => push_all_names(alloc, parts.as_slice(), out),
+    }
+}
+
+/// Appends the names in types, in order.
+#[cycle(names)]
+pub(crate) fn push_all_names(alloc: Global, tys: &[Ty], out: &mut Row<Name>) -> Result<(), NoMemory>
+    ensures { OnOk result (out.new ≡ out.old ++ joined (map names_in tys.now)) }
+{
+    for ty in tys {
+        push_names(alloc, ty, out)?;
+    }
+    Ok(())
+}
+
+/// The names that alternatives include.
+fn included_names(alloc: Global, alternatives: &[Alternative]) -> Result<Row<Name>, NoMemory>
+    ensures { IfOk result (λ names. names ≡ flat_map included alternatives.now) }
+{
+    let mut names = Row::new(alloc);
+    for alternative in alternatives {
+        match alternative {
+            Alternative::Case(_, _) => {}
+            Alternative::Incl(name) => {
+                let name = name.copy(alloc)?;
+                names.push(name)?;
+            }
+        }
+    }
+    Ok(names)
+}
+
+/// The names that a body leads to: those in an alias, and those that a variant includes.
+fn lead_names(alloc: Global, body: &SyntaxBody) -> Result<Row<Name>, NoMemory>
+    ensures { IfOk result (λ names. names ≡ leads_to body.now) }
+{
+    match body {
+        SyntaxBody::Alias(ty) => {
+            let mut names = Row::new(alloc);
+            push_names(alloc, ty, &mut names)?;
+            Ok(names)
+        }
+        SyntaxBody::Variant(alternatives) => included_names(alloc, alternatives.as_slice()),
+        SyntaxBody::Fields(_) => Ok(Row::new(alloc)),
+    }
+}
+
+/// The places of those names that are declared.
+fn places_of(alloc: Global, defs: &[SyntaxDef], names: &[Name]) -> Result<Row<usize>, NoMemory>
+    ensures { IfOk result (λ places. places ≡ places_of defs.now names.now) }
+{
+    let mut places = Row::new(alloc);
+    for name in names {
+        if let Some(place) = place_of(defs, name) {
+            places.push(place)?;
+        }
+    }
+    Ok(places)
+}
+
+/// For each definition the places that it leads to.
+pub(crate) fn leads_graph(
+    alloc: Global,
+    defs: &[SyntaxDef],
+) -> Result<Row<Option<Row<usize>>>, NoMemory>
+    ensures { IfOk result (λ graph. graph ≡ graph_of defs.now) }
+{
+    let mut graph = Row::new(alloc);
+    for def in defs {
+        let names = lead_names(alloc, &def.body)?;
+        let places = places_of(alloc, defs, names.as_slice())?;
+        graph.push(Some(places))?;
+    }
+    Ok(graph)
+}

@@ -1,6 +1,0 @@
-use Rattle.std.proofs.Common.{◌≡◌, ◌++◌, take}
-use Rattle.st_types.specs.Keys.{KeysDiffer}
-use Rattle.st_types.proofs.flat.add_included.Given as goal
-
-abbrev pub invariant-loop-case : goal.invariant-loop-case
-invariant-loop-case l = (l.cases ≡ l.initial.cases ++ take l.case-index l.case-items) × KeysDiffer l.cases

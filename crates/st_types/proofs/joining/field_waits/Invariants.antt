@@ -1,6 +1,0 @@
-use Rattle.std.proofs.Common.{◌≡◌, take}
-use Rattle.st_types.specs.JoinGraph.{field_waits}
-use Rattle.st_types.proofs.joining.field_waits.Given as goal
-
-abbrev pub invariant-loop-field : goal.invariant-loop-field
-invariant-loop-field l = l.places ≡ field_waits l.defs (take l.field-index l.fields)

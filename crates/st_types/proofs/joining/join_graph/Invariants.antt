@@ -1,6 +1,0 @@
-use Rattle.std.proofs.Common.{◌≡◌, map, take}
-use Rattle.st_types.specs.JoinGraph.{join_node}
-use Rattle.st_types.proofs.joining.join_graph.Given as goal
-
-abbrev pub invariant-loop-def : goal.invariant-loop-def
-invariant-loop-def l = l.graph ≡ map (join_node l.defs) (take l.def-index l.defs)

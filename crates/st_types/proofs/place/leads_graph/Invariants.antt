@@ -1,6 +1,0 @@
-use Rattle.std.proofs.Common.{◌≡◌, map, take}
-use Rattle.st_types.specs.Graph.{node_of}
-use Rattle.st_types.proofs.place.leads_graph.Given as goal
-
-abbrev pub invariant-loop-def : goal.invariant-loop-def
-invariant-loop-def l = l.graph ≡ map (node_of l.defs) (take l.def-index l.defs)

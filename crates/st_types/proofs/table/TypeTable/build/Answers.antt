@@ -1,6 +1,0 @@
-use Rattle.std.proofs.Common.{subst}
-use Rattle.st_types.specs.Breach.{IsSound}
-use Rattle.st_types.proofs.table.TypeTable.build.Goals as goal
-
-pub returns-in-Ok-clause-sound : goal.returns-in-Ok-clause-sound
-returns-in-Ok-clause-sound c = subst IsSound c.as_slice.ensures c.in-Ok.ensures.sound

@@ -1,0 +1,2 @@
+-- What the code compares, level by level, for its proofs alone.
+pub mod Levels
