@@ -37,7 +37,7 @@ pub enum Ref {
 }
 
 /// How a run ended.
-#[derive(Clone, Copy, Debug, PartialEq, Eq)]
+#[derive(Clone, Copy)]
 pub enum Ending {
     Stuck,
     Fuel,

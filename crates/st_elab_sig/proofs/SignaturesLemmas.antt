@@ -8,12 +8,12 @@ use Rattle.st_el.specs.declared.notation.NotNode.{NotNode, fold-NotNode}
 use Rattle.st_el.specs.declared.notation.NotNode.TheVariants as node
 use Rattle.st_il.specs.declared.template.Template.{Template}
 use Rattle.st_il.specs.declared.template.Template.TheVariants as template
-use Rattle.st_il.specs.declared.template.Word.TheVariants as word
+use Rattle.st_il.specs.declared.template.TagPart.TheVariants as tag_part
 use Rattle.st_num.specs.declared.mark.Mark.TheVariants.{TickParen, TickBracket, TickBrace}
 use Rattle.st_num.specs.Signs.{closing}
 use Rattle.st_il.specs.Notation as brackets
-use Rattle.st_il.specs.Template.{words_of}
-use Rattle.st_il.proofs.TemplateForms.{words_all, words-Atom, words-Hole, words-Seq, words-Infix, words-Bracket}
+use Rattle.st_il.specs.Template.{tag_parts_of}
+use Rattle.st_il.proofs.TemplateForms.{tag_parts_all, tag_parts-Atom, tag_parts-Hole, tag_parts-Seq, tag_parts-Infix, tag_parts-Bracket}
 use Rattle.st_elab_sig.specs.Signatures.{template_at, template_of, holes_at, holes_of}
 use Rattle.st_elab_sig.specs.inner.Words.{words_in}
 
@@ -42,22 +42,22 @@ template-Bracket opening inside = search (rules, the_lemmas)
 
 -- ---- words
 
-words_all-map : (parts : List Notation) → words_all (map template_of parts) ≡ flat_map words_in parts
+words_all-map : (parts : List Notation) → tag_parts_all (map template_of parts) ≡ flat_map words_in parts
 words_all-map [] = refl
 words_all-map (part ∷ parts) = ap (λ ws. words_in part ++ ws) (words_all-map parts)
 
-pub words_in-Atom : (n : Notation) (name : List ℕ) → (out-Notation n).node ≡ node.Atom name → words_in n ≡ word.Atom name ∷ []
-words_in-Atom n name e = ap words_of (template-is n _ e ∙ template-Atom name) ∙ words-Atom name
+pub words_in-Atom : (n : Notation) (name : List ℕ) → (out-Notation n).node ≡ node.Atom name → words_in n ≡ tag_part.Atom name ∷ []
+words_in-Atom n name e = ap tag_parts_of (template-is n _ e ∙ template-Atom name) ∙ tag_parts-Atom name
 
-pub words_in-Hole : (n : Notation) (typ : Typ) → (out-Notation n).node ≡ node.Hole typ → words_in n ≡ word.Hole ∷ []
-words_in-Hole n typ e = ap words_of (template-is n _ e ∙ template-Hole typ) ∙ words-Hole
+pub words_in-Hole : (n : Notation) (typ : Typ) → (out-Notation n).node ≡ node.Hole typ → words_in n ≡ tag_part.Hole ∷ []
+words_in-Hole n typ e = ap tag_parts_of (template-is n _ e ∙ template-Hole typ) ∙ tag_parts-Hole
 
 pub words_in-Seq : (n : Notation) (parts : List Notation) → (out-Notation n).node ≡ node.Seq parts → words_in n ≡ flat_map words_in parts
-words_in-Seq n parts e = ap words_of (template-is n _ e ∙ template-Seq parts) ∙ words-Seq (map template_of parts) ∙ words_all-map parts
+words_in-Seq n parts e = ap tag_parts_of (template-is n _ e ∙ template-Seq parts) ∙ tag_parts-Seq (map template_of parts) ∙ words_all-map parts
 
-pub words_in-Infix : (n left : Notation) (sign : Mark) (right : Notation) → (out-Notation n).node ≡ node.Infix left sign right → words_in n ≡ words_in left ++ word.Sign sign ∷ words_in right
+pub words_in-Infix : (n left : Notation) (sign : Mark) (right : Notation) → (out-Notation n).node ≡ node.Infix left sign right → words_in n ≡ words_in left ++ tag_part.Sign sign ∷ words_in right
 words_in-Infix n left sign right e =
-    ap words_of (template-is n _ e ∙ template-Infix left sign right) ∙ words-Infix (template_of left) sign (template_of right)
+    ap tag_parts_of (template-is n _ e ∙ template-Infix left sign right) ∙ tag_parts-Infix (template_of left) sign (template_of right)
 
 -- the bracket that closes an opening one
 closing_same : (sign : Mark) → brackets.closing sign ≡ closing sign
@@ -67,10 +67,10 @@ closing_same TickBrace = refl
 closing_same sign = refl
 
 pub words_in-Bracket : (n : Notation) (opening : Mark) (inside : Notation) → (out-Notation n).node ≡ node.Bracket opening inside
-    → words_in n ≡ word.Sign opening ∷ (words_in inside ++ word.Sign (closing opening) ∷ [])
+    → words_in n ≡ tag_part.Sign opening ∷ (words_in inside ++ tag_part.Sign (closing opening) ∷ [])
 words_in-Bracket n opening inside e =
-    ap words_of (template-is n _ e ∙ template-Bracket opening inside) ∙ words-Bracket opening (template_of inside)
-    ∙ ap (λ sign. word.Sign opening ∷ (words_in inside ++ word.Sign sign ∷ [])) (closing_same opening)
+    ap tag_parts_of (template-is n _ e ∙ template-Bracket opening inside) ∙ tag_parts-Bracket opening (template_of inside)
+    ∙ ap (λ sign. tag_part.Sign opening ∷ (words_in inside ++ tag_part.Sign sign ∷ [])) (closing_same opening)
 
 -- ---- types
 

@@ -1,11 +1,11 @@
 -- Words with a space behind each are words with one space between them, and one more.
 use Rattle.std.proofs.Common.{◌≡◌, refl, sym, ◌∙◌, ap, ℕ, List, [], ◌∷◌, ◌++◌, Option, append_assoc, append-nil}
 use Rattle.std.specs.Prelude.{None, Some, MatchOption}
-use Rattle.st_il.specs.declared.template.Word.{Word}
+use Rattle.st_il.specs.declared.template.TagPart.{TagPart}
 use Rattle.st_il.specs.Template.{written, spaced}
 use Rattle.st_elab_sig.specs.inner.Words.{trailed}
 
-trailed-spaced : (w : Word) (ws : List Word) → trailed (w ∷ ws) ≡ spaced (w ∷ ws) ++ 32 ∷ []
+trailed-spaced : (w : TagPart) (ws : List TagPart) → trailed (w ∷ ws) ≡ spaced (w ∷ ws) ++ 32 ∷ []
 trailed-spaced w [] = append-nil (written w ++ 32 ∷ [])
 trailed-spaced w (v ∷ ws) =
     ap (λ text. (written w ++ 32 ∷ []) ++ text) (trailed-spaced v ws)
@@ -24,7 +24,7 @@ front (a ∷ xs) (b ∷ ys) x y e =
     let same : xs ≡ ys = front xs ys x y others in
     cc
 
-none-empty : (w : Word) (ws : List Word) → trailed (w ∷ ws) ≡ [] → ⊥
+none-empty : (w : TagPart) (ws : List TagPart) → trailed (w ∷ ws) ≡ [] → ⊥
 none-empty w ws e = never (spaced (w ∷ ws)) (sym (trailed-spaced w ws) ∙ e)
   where
     never : (text : List ℕ) → text ++ 32 ∷ [] ≡ [] → ⊥
@@ -32,7 +32,7 @@ none-empty w ws e = never (spaced (w ∷ ws)) (sym (trailed-spaced w ws) ∙ e)
     never (byte ∷ text) f = cc
 
 -- what is left when the last byte is taken off
-pub last_off : (ws : List Word) (text left : List ℕ) (last : Option ℕ) → text ≡ trailed ws
+pub last_off : (ws : List TagPart) (text left : List ℕ) (last : Option ℕ) → text ≡ trailed ws
     → MatchOption last ((text ≡ []) × (left ≡ [])) (λ byte. text ≡ left ++ byte ∷ []) → left ≡ spaced ws
 last_off [] text left None e h = h.1
 last_off [] text [] (Some byte) e h = refl

@@ -22,6 +22,5 @@ pub mod Holding
 pub mod Derivation
 -- a small specification means this internal language
 pub mod Small
-
 -- ---- what only proofs need
 pub mod inner

@@ -61,7 +61,7 @@ fn read_tag(alloc: Global, tag: &[u8]) -> Result<Option<Template>, NoMemory>
 
 /// The template of these parts.
 fn read_tag_parts(alloc: Global, parts: &[TagPart]) -> Result<Option<Template>, NoMemory>
-    ensures { IfOk result (λ found. found ≡ spec.reads (spec.due []) tag_parts.now) }
+    ensures { IfOk result (λ found. found ≡ spec.reads (spec.due []) parts.now) }
 {
     let mut state = State::Due(Row::new(alloc));
     for part in parts {

@@ -18,9 +18,15 @@ fn is_one_of(words: &[Word], text: &[u8]) -> bool
     ensures { IsTrue result ↔ Contains (map word_spelling words.now) text.now }
 {
     for word in words {
-        if word.spelling().as_bytes() == text {
+        if is_written(*word, text) {
             return true;
         }
     }
     false
+}
+
+fn is_written(word: Word, text: &[u8]) -> bool
+    ensures { IsTrue result ↔ (word_spelling word ≡ text.now) }
+{
+    word.spelling().as_bytes() == text
 }

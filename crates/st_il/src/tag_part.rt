@@ -76,6 +76,13 @@ fn sign_of(text: &[u8]) -> Option<Mark>
     find_sign(&Mark::ALL, text)
 }
 
+/// Whether the sign stands in notations and is written so.
+fn is_written(sign: Mark, text: &[u8]) -> bool
+    ensures { IsTrue result ↔ ((role_of sign ≢ Role.Other) × (spelling sign ≡ text.now)) }
+{
+    has_role(sign) && sign.spelling().as_bytes() == text
+}
+
 /// The first of the signs that stands in notations and is written so, if there is one.
 fn find_sign(signs: &[Mark], text: &[u8]) -> Option<Mark>
     ensures some { IfSome result
@@ -84,7 +91,7 @@ fn find_sign(signs: &[Mark], text: &[u8]) -> Option<Mark>
         (All (λ sign. role_of sign ≢ Role.Other → spelling sign ≢ text.now) signs.now) }
 {
     for sign in signs {
-        if has_role(*sign) && sign.spelling().as_bytes() == text {
+        if is_written(*sign, text) {
             return Some(*sign);
         }
     }

@@ -1,7 +1,7 @@
 -- Brackets round one part.
 use Rattle.std.proofs.Common.{◌≡◌, ℕ, List, [], ◌∷◌, ◌++◌, codes, Bool, true, false, refl, sym, ap, arith}
 use Rattle.std.proofs.lemmas.List.{append-nil}
-use Rattle.st_num.specs.Signs.{spelling}
+use Rattle.st_num.specs.Signs.{spelling, closing}
 use Rattle.st_num.specs.declared.span.Span.{Span}
 use Rattle.st_num.specs.declared.mark.Mark.{Mark}
 use Rattle.st_num.specs.declared.mark.Mark.TheVariants.{OpenParen, CloseParen, Bar, TickParen, TickBracket, TickBrace}
@@ -18,7 +18,7 @@ use Rattle.st_el.specs.declared.expression.Count.TheOpen.{Node-F}
 use Rattle.st_el.specs.declared.context.Around.{Around}
 use Rattle.st_el.specs.declared.context.Around.TheVariants.{Brackets, Bars, Arithmetic, Caret}
 use Rattle.st_el.specs.Contexts.{whole}
-use Rattle.st_el.specs.SourceText.{printed, closing, front, postfix, parts_printed}
+use Rattle.st_el.specs.SourceText.{printed, front, postfix, parts_printed}
 use Rattle.st_el.specs.Plain.{plain_exp}
 use Rattle.st_parse_builder.specs.Meaning.{exp, meaning}
 use Rattle.st_parse_law.proofs.Ends.{first_tick_round, first_tick_square, first_tick_brace, by_round, by_square, by_brace}

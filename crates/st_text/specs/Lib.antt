@@ -12,6 +12,5 @@ pub mod Numbers
 pub mod Reading
 -- a tree has one text, a text one tree, and a text ends at one place
 pub mod Laws
-
 -- ---- what only proofs need
 pub mod inner

@@ -1,8 +1,6 @@
 //! Texts, their trees, and numbers as words.
 
-use crate::{
-    TextFault, TextTree, print_row, read_integer, read_natural, read_row, read_tree,
-};
+use crate::{TextFault, TextTree, print_row, read_integer, read_natural, read_row, read_tree};
 use st_num::Row;
 use std::alloc::Global;
 use std::test::Fail;

@@ -13,7 +13,7 @@ use st_num::{Name, NoMemory};
 use std::alloc::Global;
 
 /// How a run ended.
-#[derive(Clone, Copy, Debug, PartialEq, Eq)]
+#[derive(Clone, Copy)]
 pub enum Ending {
     /// Nothing more is derivable.
     Stuck,

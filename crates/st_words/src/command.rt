@@ -8,7 +8,7 @@ use st_num::{NoMemory, Row};
 use std::alloc::Global;
 
 /// What the words of a command ask for. The words stand in the order of the command's words.
-#[derive(Debug, Drop)]
+#[derive(Drop)]
 pub enum Command {
     /// To check a specification: its files.
     Check(Row<CommandWord>),

@@ -7,7 +7,7 @@ use std::alloc::Global;
 use std::marker::Model;
 
 /// A word of a command. Contracts see it as its bytes.
-#[derive(Debug, Drop)]
+#[derive(Drop)]
 pub struct CommandWord {
     text: String,
 }

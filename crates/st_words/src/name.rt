@@ -5,7 +5,7 @@ ghost use Rattle.st_words.specs.Names.{name_spelling};
 ghost use Rattle.st_words.specs.declared.name.CommandName.{CommandName};
 
 /// The name of a command, which is its first word.
-#[derive(Clone, Copy, Debug, PartialEq, Eq)]
+#[derive(Clone, Copy)]
 pub(crate) enum CommandName {
     Check,
     Il,
