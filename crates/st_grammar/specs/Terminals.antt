@@ -1,6 +1,7 @@
 -- Tokens as the grammar sees them: what each of them can be in a part of a definition.
 use Rattle.std.specs.Prelude.{ℕ, List, [], ◌∷◌, ◌++◌, Bool, true, false, not, ◌&&◌, ◌||◌, ◌==◌, if◌then◌else◌}
 use Rattle.std.specs.List.{list_any}
+use Rattle.st_num.specs.Names.{same_name}
 use Rattle.st_num.specs.declared.mark.Mark.{Mark}
 use Rattle.st_num.specs.declared.mark.Mark.TheVariants as mark
 use Rattle.st_scan.specs.Spelling.{has_lower}
@@ -34,12 +35,6 @@ abbrev pub drop_primes : List ℕ → List ℕ
 drop_primes [] = []
 drop_primes (b ∷ name) =
     if list_any (λ c. not (c == 39)) (b ∷ name) then b ∷ drop_primes name else []
-
-abbrev pub same_name : List ℕ → List ℕ → Bool
-same_name [] [] = true
-same_name [] (c ∷ cs) = false
-same_name (b ∷ bs) [] = false
-same_name (b ∷ bs) (c ∷ cs) = b == c && same_name bs cs
 
 -- the name is one of these, trailing primes aside
 abbrev pub is_named : List (List ℕ) → List ℕ → Bool

@@ -3,7 +3,8 @@ use Rattle.std.proofs.Common.{◌≡◌, ℕ, ◌+◌, ◌<◌, List, [], ◌∷
 use Rattle.std.specs.List.{list_any}
 use Rattle.std.proofs.lemmas.List.Folds.{list_any-append}
 use Rattle.std.proofs.lemmas.List.{take_more, drop_more}
-use Rattle.st_grammar.specs.Terminals.{drop_primes, same_name, is_named, is_declared}
+use Rattle.st_num.specs.Names.{same_name}
+use Rattle.st_grammar.specs.Terminals.{drop_primes, is_named, is_declared}
 
 abbrev pub no_prime : ℕ → Bool
 no_prime c = not (c == 39)

@@ -1,8 +1,9 @@
 //! What the parser takes a token for.
 
 ghost use Rattle.std.specs.Prelude.{◌≡◌, ◌++◌, IfOk};
+ghost use Rattle.st_num.specs.Names.{same_name};
 ghost use Rattle.st_grammar.specs.Terminals as terminals;
-ghost use Rattle.st_grammar.specs.Terminals.{drop_primes, same_name, is_variable, is_var, name_in, declared_names};
+ghost use Rattle.st_grammar.specs.Terminals.{drop_primes, is_variable, is_var, name_in, declared_names};
 ghost use Rattle.st_scan.specs.Bytes as bytes;
 ghost use Rattle.st_scan.specs.Spelling as spelling;
 ghost use Rattle.std.specs.Prelude as Prelude;
