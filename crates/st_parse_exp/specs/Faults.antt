@@ -11,7 +11,7 @@ use Rattle.st_parse_faults.specs.Judging.{Verdict, broken, limited, verdict_on, 
 use Rattle.st_parse_faults.specs.LeftOut.{left_out}
 use Rattle.st_parse_faults.specs.Nesting.{nesting_after, part_bars, may_open}
 use Rattle.st_parse_faults.specs.Limits.{tally_passes, part_tallies}
-use Rattle.st_parse_faults.specs.Faults.{nesting_limit}
+use Rattle.st_num.specs.declared.limit.TheConstants.{HIGHEST_TREE}
 use Rattle.st_parse_exp.specs.Reading.{State, start, step, finish}
 
 -- what is known behind some tokens: how they are read, and how many brackets are open
@@ -22,7 +22,7 @@ pub record Seen : Type 0 where
 -- The token is a bracket or bar behind which more are open than may be.
 abbrev pub opens_too_many : Seen → Terminal → Bool
 opens_too_many seen l =
-    may_open l && nat_lt nesting_limit (seen.nesting + part_bars seen.state.here)
+    may_open l && nat_lt HIGHEST_TREE (seen.nesting + part_bars seen.state.here)
 
 -- Between some brackets of the expression, or outside all, a number is passed.
 abbrev pub passes_limit : Seen → Bool

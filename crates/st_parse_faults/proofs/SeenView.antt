@@ -1,5 +1,6 @@
 -- What the parser keeps gives the verdict of the reading.
 use Rattle.std.proofs.Common.{◌≡◌, ℕ, ◌+◌, List, [], ◌∷◌, Bool, true, false, ◌&&◌, Option, Some, None, option_map, nat_lt, refl, sym, ap, ◌∙◌, arith}
+use Rattle.st_num.specs.declared.limit.TheConstants.{HIGHEST_TREE}
 use Rattle.st_scan.specs.declared.token.Token.{Token}
 use Rattle.st_grammar.specs.declared.sort.Sort.{Sort}
 use Rattle.st_grammar.specs.declared.sort.Sort.TheVariants as sort
@@ -244,8 +245,8 @@ view (verdicts.broken r) = seen.broken r
 
 pub too_many_is : (s : faults.Seen) (l : Terminal) → seen.opens_too_many (definitions_of s.state) s.nesting (shape l) ≡ faults.opens_too_many s l
 too_many_is s l =
-    ap (λ b. b && nat_lt faults.nesting_limit (s.nesting + seen.bars (definitions_of s.state))) (may_open_is l)
-    ∙ ap (λ n. nest.may_open l && nat_lt faults.nesting_limit (s.nesting + n)) (bars_is s.state)
+    ap (λ b. b && nat_lt HIGHEST_TREE (s.nesting + seen.bars (definitions_of s.state))) (may_open_is l)
+    ∙ ap (λ n. nest.may_open l && nat_lt HIGHEST_TREE (s.nesting + n)) (bars_is s.state)
 
 pub kept_is : (s : faults.Seen) (l : Terminal) → seen.kept (summary s) (shape l) ≡ view (faults.kept s l)
 kept_is s l = ap (λ b. seen.limited b (faults.passes_limit s) (summary s)) (too_many_is s l) ∙ go (faults.opens_too_many s l) (faults.passes_limit s)

@@ -1,5 +1,6 @@
 -- What is counted between parts, and how much of it there may be.
 use Rattle.std.specs.Prelude.{◌+◌, [], Bool, true, false, ◌||◌, nat_lt}
+use Rattle.st_num.specs.declared.limit.TheConstants.{MOST_DEFINITIONS, MOST_PREMISES, MOST_PARTS, MOST_SIGNS}
 use Rattle.st_grammar.specs.Definitions.{Iterations, no_iterations, closed, marked, counted}
 use Rattle.st_grammar.specs.Reading as part
 use Rattle.st_grammar.specs.Positions.{State, at, inside, syntax_name, relation_name, rule_name, var_name, fun_name, premise_open, iterated, entering, field_name, arg_slot, count_slot}
@@ -76,8 +77,8 @@ counts_after c Nothing = c
 -- One of the numbers is passed.
 abbrev pub counts_pass : Counts → Bool
 counts_pass c =
-    nat_lt 65535 c.definitions || nat_lt 255 c.premises || nat_lt 4095 c.members
-    || nat_lt 32 c.iterations
+    nat_lt MOST_DEFINITIONS c.definitions || nat_lt MOST_PREMISES c.premises
+    || nat_lt MOST_PARTS c.members || nat_lt MOST_SIGNS c.iterations
 
 abbrev pub no_counts : Counts
 no_counts = record { definitions = 0; premises = 0; members = 0; iterations = 0 }

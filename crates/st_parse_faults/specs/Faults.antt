@@ -2,6 +2,7 @@
 use Rattle.std.specs.Prelude.{ℕ, ◌+◌, List, Bool, ◌&&◌, ◌||◌, Option, Some, None, nat_lt, if◌then◌else◌}
 use Rattle.st_num.specs.declared.rule.RuleId.{RuleId}
 use Rattle.st_num.specs.declared.rule.RuleId.TheVariants.{S1, S4}
+use Rattle.st_num.specs.declared.limit.TheConstants.{HIGHEST_TREE}
 use Rattle.st_scan.specs.declared.token.Token.{Token}
 use Rattle.st_grammar.specs.Terminals.{Terminal, terminal, declared_names}
 use Rattle.st_grammar.specs.Definitions.{Defs}
@@ -20,13 +21,9 @@ pub record Seen : Type 0 where
   pub nesting : ℕ
   pub counts : Counts
 
--- the most brackets and bars of lengths that are open at once
-abbrev pub nesting_limit : ℕ
-nesting_limit = 100
-
 -- The token is a bracket or bar behind which more are open.
 abbrev pub opens_too_many : Seen → Terminal → Bool
-opens_too_many seen l = may_open l && nat_lt nesting_limit (seen.nesting + bars seen.state)
+opens_too_many seen l = may_open l && nat_lt HIGHEST_TREE (seen.nesting + bars seen.state)
 
 -- the rule that a refused token breaks
 abbrev pub refusal : Seen → Token → RuleId

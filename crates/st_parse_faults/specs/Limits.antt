@@ -3,6 +3,7 @@ use Rattle.std.specs.Prelude.{ℕ, ◌+◌, List, [], ◌∷◌, Bool, true, fal
 use Rattle.std.specs.List.{list_any}
 use Rattle.st_num.specs.declared.mark.Mark.{Mark}
 use Rattle.st_num.specs.declared.mark.Mark.TheVariants as mark
+use Rattle.st_num.specs.declared.limit.TheConstants.{MOST_PARTS, MOST_SIGNS}
 use Rattle.st_grammar.specs.Terminals.{Terminal}
 use Rattle.st_grammar.specs.Trees.{Tree, operand, post, times, bracket, led, Lead, left, ahead, items, Trees, none, more, Heading, plain, length, arguments, index, segment, update, below, Path, head, field, part}
 use Rattle.st_grammar.specs.Grammar.{is_label, size}
@@ -190,7 +191,8 @@ tallies (inside s st) = part_tallies (signs_before s) st
 
 abbrev pub tally_passes : Tally → Bool
 tally_passes y =
-    nat_lt 4095 y.parts || nat_lt 4095 y.elements || nat_lt 32 y.signs || nat_lt 32 y.row
+    nat_lt MOST_PARTS y.parts || nat_lt MOST_PARTS y.elements || nat_lt MOST_SIGNS y.signs
+    || nat_lt MOST_SIGNS y.row
 
 -- Between some brackets a number is passed.
 abbrev pub part_passes : State → Bool

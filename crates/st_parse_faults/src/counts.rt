@@ -8,7 +8,7 @@ ghost use Rattle.st_parse_automaton.specs.inner.Readings.{progress_of, reading_o
 
 use crate::role::none_open;
 use st_grammar::Bracket;
-use st_num::Row;
+use st_num::{MOST_DEFINITIONS, MOST_PARTS, MOST_PREMISES, MOST_SIGNS, Row};
 use st_parse_automaton::{IterationState, Position, Progress, Reading, Slot};
 
 /// What a token begins between parts.
@@ -127,8 +127,8 @@ pub(crate) fn counts_pass(counts: Counts) -> bool
     ensures value { result ≡ spec.counts_pass counts }
     ensures kept { result ≡ Prelude.false → seen.Kept counts }
 {
-    counts.definitions > 65_535
-        || counts.premises > 255
-        || counts.members > 4_095
-        || counts.iterations > 32
+    counts.definitions > u32::from(MOST_DEFINITIONS)
+        || counts.premises > u32::from(MOST_PREMISES)
+        || counts.members > u32::from(MOST_PARTS)
+        || counts.iterations > u32::from(MOST_SIGNS)
 }

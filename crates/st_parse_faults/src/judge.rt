@@ -1,15 +1,16 @@
 //! The verdict on one token.
 
 ghost use Rattle.std.specs.Prelude.{◌≡◌, ◌≤◌, IfOk};
+ghost use Rattle.st_num.specs.declared.limit.TheConstants.{HIGHEST_TREE};
 ghost use Rattle.st_parse_faults.specs.inner.Seen as spec;
 ghost use Rattle.st_parse_automaton.specs.inner.Readings.{progress_of};
 
 use crate::before::{Before, left_out, stands_before};
 use crate::counts::{Counts, counts_after, counts_pass, event_of, member_due};
-use crate::nesting::{NESTING_LIMIT, bars, may_open, nesting_after};
+use crate::nesting::{bars, may_open, nesting_after};
 use crate::role::attachment_of;
 use crate::tally::{Tally, any_passes, single, tallies_after};
-use st_num::{NoMemory, Row, RuleId};
+use st_num::{HIGHEST_TREE, NoMemory, Row, RuleId};
 use st_parse_automaton::{At, Position, Progress, Shape, TokenClass, advance};
 use st_scan::TokenKind;
 use std::alloc::Global;
@@ -46,7 +47,8 @@ fn refusal(before: Before, nesting: u8, kind: &TokenKind) -> RuleId
 fn opens_too_many(progress: &Progress, nesting: u8, shape: Shape) -> bool
     ensures { result ≡ spec.opens_too_many (progress_of progress.now) nesting shape }
 {
-    may_open(shape) && NESTING_LIMIT < bars(progress).saturating_add(usize::from(nesting))
+    may_open(shape)
+        && usize::from(HIGHEST_TREE) < bars(progress).saturating_add(usize::from(nesting))
 }
 
 /// What is known before the first token.
@@ -63,7 +65,7 @@ pub(crate) fn nothing_seen(alloc: Global) -> Result<Seen, NoMemory>
 
 /// What is known where a part begins and nothing else is counted.
 pub fn nothing_counted(alloc: Global, progress: Progress, nesting: u8) -> Result<Seen, NoMemory>
-    requires { nesting ≤ 100 }
+    requires { nesting ≤ HIGHEST_TREE }
     ensures value { IfOk result (λ seen.
         spec.summary_of seen ≡ spec.nothing_counted (progress_of progress) nesting) }
     ensures bound { IfOk result (λ seen. spec.SeenKept seen) }

@@ -2,18 +2,16 @@
 
 ghost use Rattle.std.specs.Prelude as Prelude;
 ghost use Rattle.std.specs.Prelude.{◌≡◌, ◌≤◌, reverse};
+ghost use Rattle.st_num.specs.declared.limit.TheConstants.{HIGHEST_TREE};
 ghost use Rattle.st_parse_faults.specs.inner.Seen as seen;
 ghost use Rattle.st_parse_automaton.specs.inner.Readings.{progress_of};
 
 use st_grammar::Closing;
 use st_parse_automaton::{Frame, Kind, Progress, Shape};
 
-/// The most brackets and bars of lengths that are open at once.
-pub(crate) const NESTING_LIMIT: usize = 100;
-
 /// The brackets that are open behind the token.
 pub(crate) fn nesting_after(nesting: u8, shape: Shape) -> u8
-    requires { nesting ≤ 100 }
+    requires { nesting ≤ HIGHEST_TREE }
     ensures value { result ≡ seen.nesting_after nesting shape }
     ensures bound { seen.may_open shape ≡ Prelude.false → result ≤ nesting }
 {

@@ -8,7 +8,7 @@ ghost use Rattle.st_parse_faults.specs.inner.Roles as roles;
 ghost use Rattle.st_parse_automaton.specs.inner.Readings.{progress_of, reading_of};
 
 use crate::role::{Attachment, Shift, TokenRole, none_open, role_of, shift_of};
-use st_num::{NoMemory, Row};
+use st_num::{MOST_PARTS, MOST_SIGNS, NoMemory, Row};
 use st_parse_automaton::{Progress, Reading, Shape, Slot};
 use std::alloc::Global;
 
@@ -166,7 +166,9 @@ pub(crate) fn shift(mut tallies: Row<Tally>, shift: Shift) -> Result<Row<Tally>,
 fn tally_passes(tally: Tally) -> bool
     ensures { result ≡ limits.tally_passes tally }
 {
-    tally.parts > 4_095 || tally.elements > 4_095 || tally.signs > 32 || tally.row > 32
+    let parts = u32::from(MOST_PARTS);
+    let signs = u32::from(MOST_SIGNS);
+    tally.parts > parts || tally.elements > parts || tally.signs > signs || tally.row > signs
 }
 
 /// Whether one of these passes a number.

@@ -1,5 +1,6 @@
 -- What a token adds to the tallies, by what the parser keeps before it and behind it.
 use Rattle.std.specs.Prelude.{ℕ, ◌+◌, ◌≤◌, List, [], ◌∷◌, Bool, true, false, if◌then◌else◌}
+use Rattle.st_num.specs.declared.limit.TheConstants.{MOST_PARTS, MOST_SIGNS}
 use Rattle.st_grammar.specs.declared.sort.Bracket.TheVariants as bracket
 use Rattle.st_grammar.specs.declared.sort.Closing.TheVariants as closing
 use Rattle.st_grammar.specs.declared.sort.Sort.{Sort}
@@ -90,7 +91,9 @@ shift_of s next = shift_case.Stays
 -- ---- tallies
 
 abbrev pub TallyKept : Tally → Type 0
-TallyKept y = (y.parts ≤ 4095) × (y.elements ≤ 4095) × (y.signs ≤ 32) × (y.row ≤ 32)
+TallyKept y =
+    (y.parts ≤ MOST_PARTS) × (y.elements ≤ MOST_PARTS) × (y.signs ≤ MOST_SIGNS)
+    × (y.row ≤ MOST_SIGNS)
 
 abbrev pub begun : Tally → ℕ
 begun y = with_one y.due y.parts

@@ -3,6 +3,7 @@ use Rattle.std.specs.Prelude.{ℕ, ◌+◌, ◌-◌, ◌≤◌, List, [], ◌∷
 use Rattle.std.specs.List.{AllByRecursion, list_any}
 use Rattle.st_num.specs.declared.rule.RuleId.{RuleId}
 use Rattle.st_num.specs.declared.rule.RuleId.TheVariants.{S1, S2, S3, S4}
+use Rattle.st_num.specs.declared.limit.TheConstants.{HIGHEST_TREE, MOST_DEFINITIONS, MOST_PREMISES, MOST_PARTS, MOST_SIGNS}
 use Rattle.st_scan.specs.declared.token.TokenKind.{TokenKind}
 use Rattle.st_grammar.specs.declared.sort.Closing.TheVariants as closing
 use Rattle.st_grammar.specs.declared.sort.Bracket.{Bracket}
@@ -39,7 +40,6 @@ use Rattle.st_parse_faults.specs.declared.counts.Event.TheVariants.{Definition, 
 use Rattle.st_parse_faults.specs.Counts.{member_event, counts_after, counts_pass, no_counts}
 use Rattle.st_parse_faults.specs.Limits.{fresh, tally_passes}
 use Rattle.st_parse_faults.specs.inner.Roles.{none_open, attachment_of, tallies_after, TallyKept}
-use Rattle.st_parse_faults.specs.Faults.{nesting_limit}
 
 abbrev pub ends_type : Sort → Part → Bool
 ends_type sort.Typ p = true
@@ -138,7 +138,7 @@ pub data Verdict : Type 0 where
   broken : RuleId → Verdict
 
 abbrev pub opens_too_many : definitions.State → ℕ → Shape → Bool
-opens_too_many st n s = may_open s && nat_lt nesting_limit (n + bars st)
+opens_too_many st n s = may_open s && nat_lt HIGHEST_TREE (n + bars st)
 
 abbrev pub limited : Bool → Bool → Summary → Verdict
 limited true b v = broken S2
@@ -194,11 +194,13 @@ verdict_of (variant.Broken r) = broken r
 
 -- Nothing that is counted between parts passes a limit.
 abbrev pub Kept : Counts → Type 0
-Kept c = (c.definitions ≤ 65535) × (c.premises ≤ 255) × (c.members ≤ 4095) × (c.iterations ≤ 32)
+Kept c =
+    (c.definitions ≤ MOST_DEFINITIONS) × (c.premises ≤ MOST_PREMISES) × (c.members ≤ MOST_PARTS)
+    × (c.iterations ≤ MOST_SIGNS)
 
 abbrev pub SeenKept : CodeSeen → Type 0
 SeenKept s =
-    (s.nesting ≤ nesting_limit) × Kept s.counts × AllByRecursion TallyKept (reverse s.tallies)
+    (s.nesting ≤ HIGHEST_TREE) × Kept s.counts × AllByRecursion TallyKept (reverse s.tallies)
 
 abbrev pub IsBounded : Code → Type 0
 IsBounded (variant.Passed s) = SeenKept s
