@@ -48,7 +48,7 @@ gone_on S draws s slot st l x p q b a k e h =
 pub some_is : (A : Type 0) (a b : A) → Some a ≡ Some b → a ≡ b
 some_is A a b e = cc
 
--- ---- places
+-- ---- positions
 
 pub at_is : (n : Progress) (a : At) (p : Position) (l : TokenClass) (x : Token) (b : Work) → n ≡ code.At a → position_work (progress_of n) p l x b ≡ redrafted_work (progress_of n) p l x b
 at_is n a p l x b e = subst (λ m. position_work (progress_of m) p l x b ≡ redrafted_work (progress_of m) p l x b) (sym e) refl

@@ -69,7 +69,7 @@ tall_star at t = search (rules, typ_lemmas)
 tall_quest : (at : Span) (t : Typ) → typ_height (typ_at at (typ_node.Quest t)) ≡ typ_height t + 1
 tall_quest at t = search (rules, typ_lemmas)
 
--- any mark but `?` makes a list
+-- any sign but `?` makes a list
 tall_mark : (m : Mark) (at : Span) (t : Typ) → typ_height (typ_at at (marked_node m t)) ≡ typ_height t + 1
 tall_mark mark.Question at t = tall_quest at t
 tall_mark m at t = tall_star at t

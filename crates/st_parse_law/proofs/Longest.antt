@@ -12,18 +12,19 @@ use Rattle.st_num.specs.Signs.{spelling}
 use Rattle.st_num.specs.Numeral.{Spells as SpellsNumber}
 use Rattle.st_num.specs.declared.mark.Mark.{Mark}
 use Rattle.st_num.specs.declared.mark.Mark.TheVariants.{Turnstile, Semicolon, OpenParen}
+use Rattle.st_num.specs.declared.mark.TheConstants.Mark.{ALL as SIGNS}
 use Rattle.st_scan.specs.declared.token.TokenKind.{TokenKind}
 use Rattle.st_scan.specs.declared.token.TokenKind.TheVariants.{Low, Up, Mix, Reserved, Number, Text, Dot, Fun, Sign}
 use Rattle.st_scan.specs.Bytes.{is_name_part, is_blank}
 use Rattle.st_scan.specs.Gaps.{gap, between, opens_comment, opens, starts_line}
 use Rattle.st_scan.specs.Spelling.{Spells, quoted}
 use Rattle.st_scan.specs.Tokens.{Longest}
-use Rattle.st_scan.proofs.Tables.{sign_place, sign_place_below}
+use Rattle.st_scan.proofs.Tables.{sign_place, sign_there, sign_place_below}
 use Rattle.st_scan.proofs.Texts.{heads, tail_of, texts_unique, quoted_behind}
 use Rattle.st_scan.proofs.Gaps.{gap_ends, gap_last}
 use Rattle.st_scan.proofs.Readings.{front_short}
 use Rattle.st_scan.proofs.Spelled.{group, group_at, spelled_group, name_parts, as_word, as_number, as_text, as_dot, as_fun, as_sign}
-use Rattle.st_parse_law.specs.Written.{signs, opens_with, runs_on, ends_before}
+use Rattle.st_parse_law.specs.Written.{opens_with, runs_on, ends_before}
 
 -- ---- bytes that pass a test
 
@@ -92,20 +93,16 @@ goes_on (a ∷ front) more (b ∷ other) behind split h =
       is = ap (λ c. c ∷ other) (sym (heads a b (front ++ more) (other ++ behind) split)) ∙ ap (λ u. a ∷ u) on.is;
     }
 
-sign_at : (m : Mark) → get_or signs (sign_place m) Turnstile ≡ m
-sign_at Turnstile = refl
-sign_at _ = refl
-
-signs_many : length signs ≡ 47
+signs_many : length SIGNS ≡ 47
 signs_many = refl
 
 -- a longer sign is found among the signs
 longer_found : (m j : Mark) (b : ℕ) (left : List ℕ) → spelling j ≡ spelling m ++ b ∷ left → runs_on m b ≡ true
 longer_found m j b left is =
     ap (λ t. t || opens_with (spelling m) b)
-    (list_any_at (λ other. starts_with eqb (spelling other) (spelling m ++ b ∷ [])) signs (sign_place j) Turnstile
+    (list_any_at (λ other. starts_with eqb (spelling other) (spelling m ++ b ∷ [])) SIGNS (sign_place j) Turnstile
     (omega (arith, sign_place_below j, signs_many))
-    (ap (λ other. starts_with eqb (spelling other) (spelling m ++ b ∷ [])) (sign_at j)
+    (ap (λ other. starts_with eqb (spelling other) (spelling m ++ b ∷ [])) (sign_there j)
     ∙ (starts_is Decides-eqb (spelling j) (spelling m ++ b ∷ []) (starts_with eqb (spelling j) (spelling m ++ b ∷ [])) refl).1 left
     (is ∙ sym (append_assoc (spelling m) (b ∷ []) left))))
 
@@ -196,7 +193,7 @@ sign_before _ b bs e = refl
 sign_open : (m : Mark) (more : List ℕ) → ends_before (Sign m) more ≡ true → is_open (spelling m ++ more) ≡ true
 sign_open m [] e = sign_alone m
 sign_open m (b ∷ bs) e =
-    sign_before m b bs (or_parts (list_any (λ other. starts_with eqb (spelling other) (spelling m ++ b ∷ [])) signs) (opens_with (spelling m) b) (is_not (runs_on m b) e)).1
+    sign_before m b bs (or_parts (list_any (λ other. starts_with eqb (spelling other) (spelling m ++ b ∷ [])) SIGNS) (opens_with (spelling m) b) (is_not (runs_on m b) e)).1
 
 -- ---- all tokens
 

@@ -5,7 +5,7 @@ use Rattle.std.specs.Bool.{nat_eq}
 use Rattle.std.specs.Str.{IsUtf8}
 use Rattle.st_num.specs.Signs.{spelling}
 use Rattle.st_num.specs.declared.mark.Mark.{Mark}
-use Rattle.st_num.specs.declared.mark.Mark.TheVariants.{Turnstile, ReverseTurnstile, SquigglyArrowStar, SquigglyArrow, Colon, Subtype, Supertype, Approximately, Define, Semicolon, Arrow, DotDot, Ellipsis, PlusPlus, ExtendBy, Equal, NotEqual, Less, Greater, LessOrEqual, GreaterOrEqual, ElementOf, Tilde, And, Or, Implies, Equivalent, Plus, Minus, Star, Slash, Backslash, Caret, Question, Bar, Comma, DashDash, OpenParen, CloseParen, OpenBracket, CloseBracket, OpenBrace, CloseBrace, OpenArith, TickParen, TickBracket, TickBrace}
+use Rattle.st_num.specs.declared.mark.TheConstants.Mark.{ALL as SIGNS}
 use Rattle.st_scan.specs.Bytes.{is_name_part}
 use Rattle.st_scan.specs.Gaps.{opens, starts_line}
 use Rattle.st_scan.specs.Spelling.{Spells}
@@ -27,15 +27,6 @@ bytes_of (token k text ∷ ps) = text ++ bytes_of ps
 
 -- ---- what may stand directly behind a token
 
-abbrev pub signs : List Mark
-signs =
-    SquigglyArrowStar ∷ Ellipsis ∷ ExtendBy ∷ NotEqual ∷ Equivalent ∷ Turnstile ∷ ReverseTurnstile
-    ∷ SquigglyArrow ∷ Subtype ∷ Supertype ∷ Approximately ∷ Define ∷ Arrow ∷ DotDot ∷ PlusPlus
-    ∷ LessOrEqual ∷ GreaterOrEqual ∷ ElementOf ∷ And ∷ Or ∷ Implies ∷ DashDash ∷ OpenArith
-    ∷ TickParen ∷ TickBracket ∷ TickBrace ∷ Colon ∷ Semicolon ∷ Equal ∷ Less ∷ Greater ∷ Tilde
-    ∷ Plus ∷ Minus ∷ Star ∷ Slash ∷ Backslash ∷ Caret ∷ Question ∷ Bar ∷ Comma ∷ OpenParen
-    ∷ CloseParen ∷ OpenBracket ∷ CloseBracket ∷ OpenBrace ∷ CloseBrace ∷ []
-
 -- with a byte behind it, the front of a comment
 abbrev pub opens_with : List ℕ → ℕ → Bool
 opens_with (a ∷ []) b = opens a b || starts_line a b
@@ -44,7 +35,7 @@ opens_with text b = false
 -- A sign and a byte behind it begin a longer sign, or a comment.
 abbrev pub runs_on : Mark → ℕ → Bool
 runs_on m b =
-    list_any (λ other. starts_with nat_eq (spelling other) (spelling m ++ b ∷ [])) signs
+    list_any (λ other. starts_with nat_eq (spelling other) (spelling m ++ b ∷ [])) SIGNS
     || opens_with (spelling m) b
 
 -- The token ends where this stands behind it.
