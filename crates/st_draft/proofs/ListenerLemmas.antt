@@ -30,7 +30,7 @@ use Rattle.st_draft.specs.Known.{before, defs_or, known}
 use Rattle.st_draft.specs.inner.Work.{Work, work_of, Keeps, DrawsDefs, Ends, ReadTo, part_work, redrafted_work, position_work, filled_work, taken_work, work_after, ended_defs}
 
 -- a function that is defined where the whole is
-mapped : (A B : Type 0) (f : A → B) (o : Option A) (b : B) → option_map f o ≡ Some b → (a : A) × (o ≡ Some a) × (f a ≡ b)
+pub mapped : (A B : Type 0) (f : A → B) (o : Option A) (b : B) → option_map f o ≡ Some b → (a : A) × (o ≡ Some a) × (f a ≡ b)
 mapped A B f None b e = absurd (cc)
 mapped A B f (Some a) b e = (a, refl, cc)
 

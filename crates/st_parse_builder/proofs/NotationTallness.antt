@@ -109,7 +109,7 @@ same_height at (NotNode-F.Seq ns) behind = refl
 same_height at (NotNode-F.Infix l m r) behind = refl
 same_height at (NotNode-F.Bracket m n) behind = refl
 
-rolled : (n : Notation) → notation_at (notation_place n) (roll-NotNode (out-NotNode (out-Notation n).node)) ≡ n
+pub rolled : (n : Notation) → notation_at (notation_place n) (roll-NotNode (out-NotNode (out-Notation n).node)) ≡ n
 rolled n = ap (λ m. notation_at (notation_place n) m) (roll-out-NotNode (out-Notation n).node) ∙ roll-out-Notation n
 
 pub tall_atom_on : (n : Notation) (x : Token) → notation_height (atom_on n x) ≡ notation_height n
