@@ -177,7 +177,7 @@ position_ends (goal_colon r t ps d os n) h = tt
 
 -- ---- a next definition
 
--- From this place each first word begins a definition.
+-- From this position each first word begins a definition.
 abbrev pub BeginsNext : Position → Type 0
 BeginsNext p =
     (change_at (view.position_of p) position.SyntaxName ≡ change.Begin (ending_of (view.position_of p)))

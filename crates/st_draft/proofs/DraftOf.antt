@@ -1,4 +1,4 @@
--- The draft at each place of a reading.
+-- The draft at each position of a reading.
 use Rattle.std.proofs.Common.{ℕ, List, [], ◌∷◌, ◌++◌, map, Bool, true, false, Option, Some, None}
 use Rattle.st_num.specs.declared.span.Span.{Span}
 use Rattle.st_grammar.specs.Terminals.{Terminal}

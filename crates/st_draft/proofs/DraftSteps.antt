@@ -45,7 +45,7 @@ abbrev pub state_arguments : State → List (List Action)
 state_arguments (at p) = args_acts (position_args p)
 state_arguments (inside s st) = arguments_acts (slot_args s)
 
--- A part has not begun, but where something other may stand in its place.
+-- A part has not begun, but where something other may stand instead.
 abbrev pub Fresh : State → Position → Type 0
 Fresh (at q) p = Unit {0}
 Fresh (inside s st) (entering r) = Unit {0}
@@ -57,7 +57,7 @@ FitsAs change.Params a = ArgsFit typ a
 FitsAs change.Args a = ArgsFit (expression false) a
 FitsAs c a = Unit {0}
 
--- The token leads from this place there, and changes the draft and the arguments as it does.
+-- The token leads from this position there, and changes the draft and the arguments as it does.
 pub record Changes (p : Position) (l : Terminal) (next : State) : Type 0 where
   pub draft : state_draft next ≡ applied (change_of (view.position_of p) (definitions_of next)) (shape l) (token_in l) (params (position_args p)) (patterns (position_args p)) (position_draft p)
   pub arguments : state_arguments next ≡ arguments_after (change_of (view.position_of p) (definitions_of next)) (args_acts (position_args p))
@@ -362,7 +362,7 @@ iterate_changes r t ps d os ls u i l =
     go true = next_changes (keyword l) r t ps d os ls u i l
     go false = tt
 
--- ---- all places
+-- ---- all positions
 
 pub own_changes : (p : Position) (l : Terminal) → PositionHolds p → Changed p l (own p l)
 own_changes (between ds) l h = tt

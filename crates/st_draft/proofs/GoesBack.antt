@@ -75,7 +75,7 @@ given_back n ps d os ls u j i =
     let one = last_of prem_height n (premises_meaning ps) _ i in
     (front_of prem_height n (premises_meaning ps) _ i, subst (λ k. k ≤ n) (height_at _ (meant.iterated os (condition ls (meaning u)) j)) one)
 
--- The trees of a place stand in the definitions where they may end.
+-- The trees of a position stand in the definitions where they may end.
 abbrev pub EndsIn : ℕ → Position → Option Defs → Type 0
 EndsIn n p None = Unit {0}
 EndsIn n p (Some ds) = DefsIn n ds → PositionIn n p
@@ -129,7 +129,7 @@ position_ends n (goal_colon r t ps d os x) = tt
 
 -- ---- one token
 
--- The trees of a place are those of the state behind it, or there is none.
+-- The trees of a position are those of the state behind it, or there is none.
 abbrev Back : ℕ → Type 0 → Option State → Type 0
 Back n P None = Unit {0}
 Back n P (Some next) = StateIn n next → P

@@ -30,7 +30,7 @@ use Rattle.st_draft.specs.Known.{before, defs_or, known}
 use Rattle.st_draft.specs.inner.Work.{Work, work_of, Keeps, DrawsDefs, Ends, ReadTo, part_work, redrafted_work, position_work, filled_work, taken_work, work_after, ended_defs}
 
 -- a function that is defined where the whole is
-mapped : (A B : Type 0) (f : A → B) (o : Option A) (b : B) → option_map f o ≡ Some b → (a : A) × (o ≡ Some a) × (f a ≡ b)
+pub mapped : (A B : Type 0) (f : A → B) (o : Option A) (b : B) → option_map f o ≡ Some b → (a : A) × (o ≡ Some a) × (f a ≡ b)
 mapped A B f None b e = absurd (cc)
 mapped A B f (Some a) b e = (a, refl, cc)
 
@@ -48,7 +48,7 @@ gone_on S draws s slot st l x p q b a k e h =
 pub some_is : (A : Type 0) (a b : A) → Some a ≡ Some b → a ≡ b
 some_is A a b e = cc
 
--- ---- places
+-- ---- positions
 
 pub at_is : (n : Progress) (a : At) (p : Position) (l : TokenClass) (x : Token) (b : Work) → n ≡ code.At a → position_work (progress_of n) p l x b ≡ redrafted_work (progress_of n) p l x b
 at_is n a p l x b e = subst (λ m. position_work (progress_of m) p l x b ≡ redrafted_work (progress_of m) p l x b) (sym e) refl

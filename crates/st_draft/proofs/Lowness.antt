@@ -28,6 +28,7 @@ use Rattle.st_draft.specs.declared.draft.Members.{Members as Body}
 use Rattle.st_draft.specs.declared.draft.Premises.{Premises as Prems}
 use Rattle.st_draft.specs.declared.draft.Draft.{Draft}
 use Rattle.st_draft.proofs.WorkSteps.{state_work}
+use Rattle.st_parse_builder.proofs.NotationTallness.{rolled}
 
 -- ---- one more
 
@@ -58,9 +59,6 @@ open_node s (NotNode-F.Seq ns) = omega arith
 open_node s (NotNode-F.Infix l m r) = omega arith
 open_node s (NotNode-F.Bracket m n) = omega arith
 open_node s (NotNode-F.Atom name) = omega arith
-
-rolled : (n : Notation) → notation_at (notation_place n) (roll-NotNode (out-NotNode (out-Notation n).node)) ≡ n
-rolled n = ap (λ m. notation_at (notation_place n) m) (roll-out-NotNode (out-Notation n).node) ∙ roll-out-Notation n
 
 open_low : (n : Notation) → open_height n ≤ notation_height n
 open_low n = subst (λ m. height_or (notation_height m) (lone_typ n) ≤ notation_height m) (rolled n) (open_node (notation_place n) (out-NotNode (out-Notation n).node))

@@ -119,7 +119,7 @@ enters r l s st e = go (part.step (part.start (slot_sort r)) l) refl e
         (same, i ∙ ap (λ v. Some v) is)
     go None i f = absurd (other (enter_other r l) (other_between r l) f)
 
--- ---- places
+-- ---- positions
 
 abbrev placed_work : Draft → List (List Action) → List Action → List Mark → List (TokenClass × Token) → Work
 placed_work d ys acts marks words = record { draft = d; arguments = ys; actions = acts; marks = marks; words = words }
@@ -138,7 +138,7 @@ no_words (count_slot r t ps d os ls u i k) = refl
 abbrev Placed : Position → Terminal → State → Type 0
 Placed p l next = position_work (definitions_of next) (position_of p) (class_of l) (token_in l) (state_work (at p)) ≡ Some (state_work next)
 
--- a token that leads to a place
+-- a token that leads to a position
 to_position : (p q : Position) (l : Terminal) → Changes p l (at q) → Placed p l (at q)
 to_position p q l c =
     ap (option_map (λ d. placed_work d (arguments_after (change_of (position_of p) (definitions_of (at q))) (args_acts (position_args p))) [] [] [])) (drafts p l (at q) c)

@@ -53,7 +53,7 @@ pub enum Change {
     /// The relation of a judgement.
     Goal,
     Otherwise,
-    /// A mark behind a premise in parentheses, with so many open round it.
+    /// An iteration sign behind a premise in parentheses, with so many open round it.
     Mark(usize),
 }
 

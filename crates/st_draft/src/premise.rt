@@ -182,7 +182,7 @@ fn opened_at(opened: &[Span], around: usize) -> Span
     }
 }
 
-/// A mark, or `^` and a count, behind a premise in parentheses is read.
+/// An iteration sign, or `^` and a count, behind a premise in parentheses is read.
 pub(crate) fn put_each(
     alloc: Global,
     draft: &mut Draft,
@@ -197,7 +197,7 @@ pub(crate) fn put_each(
     Ok(())
 }
 
-/// The count that a mark stands for.
+/// The count that an iteration sign stands for.
 pub(crate) fn shape_count(shape: Shape) -> Count
     ensures { result ≡ spec.shape_count shape }
 {

@@ -31,12 +31,12 @@ IsSingle k = Unit {0}
 -- ---- claims
 
 -- What is erased is this expression, once both are plain.
-abbrev pub IsSource : Erased → Exp → Type 0
-IsSource x e = plain_exp x.exp ≡ plain_exp e
+abbrev pub IsErasedTo : Erased → Exp → Type 0
+IsErasedTo x e = plain_exp x.exp ≡ plain_exp e
 
 -- It is that and is written, as one element where it stands alone.
 pub record IsWritten (Alone : Type 0) (x : Erased) (e : Exp) : Type 0 where
-  pub same : IsSource x e
+  pub same : IsErasedTo x e
   pub present : IsPresent x.kind
   pub single : Alone → IsSingle x.kind
 
@@ -57,7 +57,7 @@ module _ (defs : List IlDef) (D : Decls) where
   abbrev pub Claim : Question → Made → Type 0
   Claim (check w at p e t) m = IsWritten (IsAlone D p t) (erased defs m.exp) e
   Claim (infer w at e) m = IsWritten (Unit {0}) (erased defs m.exp) e
-  Claim (item w t element e) m = IsSource (erased defs m.exp) e
+  Claim (item w t element e) m = IsErasedTo (erased defs m.exp) e
   Claim (hole w at filling t) m = IsFilledBy (IsNoList D t) filling (erased defs m.exp)
 
 -- the claims of several questions

@@ -39,7 +39,7 @@ use Rattle.st_il.specs.Occurrences.{occurs}
 use Rattle.st_elab_table.specs.Iterations.{iterated}
 use Rattle.st_elab_table.specs.Collections as table
 use Rattle.st_elab_table.proofs.Keeps.{Keeps}
-use Rattle.st_elab_law.proofs.Claims.{IsPresent, IsSource, IsWritten, IsAlone, IsNoList, IsFilledBy, Claim, Claims}
+use Rattle.st_elab_law.proofs.Claims.{IsPresent, IsErasedTo, IsWritten, IsAlone, IsNoList, IsFilledBy, Claim, Claims}
 use Rattle.st_elab_law.proofs.Plainness.{opened-exp, plain-count, count-is}
 use Rattle.st_elab_law.proofs.Erasings.{erased-List, erased-Empty, erased-Present, erased-Absent, erased-Up, erased-Iter, item-One, item-All, iteration-Star, iteration-Plus, iteration-Quest, iteration-Times, iteration-Below}
 use Rattle.st_elab_law.proofs.Writing.{whole_source, source_as, written_as, form_written, leaf_written, single_run, levels_alike, erased-one, lifted_written}
@@ -65,7 +65,7 @@ module _ (defs : List IlDef) (D : Decls) where
   module _ (Alone : Type 0) (e : Exp) where
     lifted_to_keeps : (at : Span) (m : Made) (t x : Ty) (lift : IlExp → IlExp)
         → ((y : IlExp) → erased defs (lift y) ≡ record { exp = lifted (whole (erased defs y)); kind = kind.Plain })
-        → IsSource (erased defs m.exp) e → Kept defs D Alone e (lifted_to at m t x lift)
+        → IsErasedTo (erased defs m.exp) e → Kept defs D Alone e (lifted_to at m t x lift)
     lifted_to_keeps at m t x lift is h = λ v _. keeps_if D (Claim defs D) (Writes defs Alone e) (is_collection v) _ _ (λ _. tt)
         (λ _. (
           (λ _. keeps_raised defs D (Claim defs D) (Writes defs Alone e) m x (λ y. give (lift y) t)
@@ -73,7 +73,7 @@ module _ (defs : List IlDef) (D : Decls) where
           (λ _. tt),
         ))
 
-    lifted_at_keeps : (at : Span) (m : Made) (t : Ty) (y : Ty-F Ty) → IsSource (erased defs m.exp) e → Kept defs D Alone e (lifted_at at m t y)
+    lifted_at_keeps : (at : Span) (m : Made) (t : Ty) (y : Ty-F Ty) → IsErasedTo (erased defs m.exp) e → Kept defs D Alone e (lifted_at at m t y)
     lifted_at_keeps at m t (Ty-F.List x) h = lifted_to_keeps at m t x (list_of_one x) (erased-one defs x) h
     lifted_at_keeps at m t (Ty-F.Opt x) h = lifted_to_keeps at m t x il.Present (erased-Present defs) h
     lifted_at_keeps at m t y h = tt
@@ -123,7 +123,7 @@ module _ (defs : List IlDef) (D : Decls) where
       h (iteration.Below index m.exp)
       (ap plain_count (iteration-Below defs index m.exp) ∙ count-is (times.Below index (count (erased defs m.exp))) _ (times.outs-Below index (count (erased defs m.exp))) ∙ (λ i. roll-Count (count_below index (part i))) ∙ sym (count-is c _ is))
 
-  pub iteration_keeps : (Alone : Type 0) (S : Scope) (w : Within) (e b : Exp) (c : Count) (x : IlExp) (t : Ty) → opened e ≡ Node-F.Iter b c → IsSource (erased defs x) b
+  pub iteration_keeps : (Alone : Type 0) (S : Scope) (w : Within) (e b : Exp) (c : Count) (x : IlExp) (t : Ty) → opened e ≡ Node-F.Iter b c → IsErasedTo (erased defs x) b
       → Kept defs D Alone e (table.iteration S w c x t)
   iteration_keeps Alone S w e b c x t is h = counted_keeps (Writes defs Alone e) w c (out-Count c) (λ k. give (il.Iter k (iterated S w c (λ name. occurs name x)) x) t) refl (λ k g.
       let part = whole_source (erased defs x) b h in
@@ -191,16 +191,16 @@ module _ (defs : List IlDef) (D : Decls) where
 
   -- ---- items
 
-  found_item_keeps : (at : Span) (t x : Ty) (m : Made) (e : Exp) → IsSource (erased defs m.exp) e → Keeps D (Claim defs D) (λ r. IsSource (erased defs r.exp) e) (table.found_item at t x m)
+  found_item_keeps : (at : Span) (t x : Ty) (m : Made) (e : Exp) → IsErasedTo (erased defs m.exp) e → Keeps D (Claim defs D) (λ r. IsErasedTo (erased defs r.exp) e) (table.found_item at t x m)
   found_item_keeps at t x m e h = (
-    (λ _. keeps_raised defs D (Claim defs D) (λ r. IsSource (erased defs r.exp) e) m x (λ y. give y x) (λ y k. source_as (erased defs y) (erased defs m.exp) e k h)),
-    (λ _. ((λ _. keeps_raised defs D (Claim defs D) (λ r. IsSource (erased defs r.exp) e) m t (λ y. table.splice (made y t)) (λ y k. source_as (erased defs y) (erased defs m.exp) e k h)), (λ _. tt))),
+    (λ _. keeps_raised defs D (Claim defs D) (λ r. IsErasedTo (erased defs r.exp) e) m x (λ y. give y x) (λ y k. source_as (erased defs y) (erased defs m.exp) e k h)),
+    (λ _. ((λ _. keeps_raised defs D (Claim defs D) (λ r. IsErasedTo (erased defs r.exp) e) m t (λ y. table.splice (made y t)) (λ y k. source_as (erased defs y) (erased defs m.exp) e k h)), (λ _. tt))),
   )
 
-  pub item_keeps : (w : Within) (t x : Ty) (e : Exp) → Keeps D (Claim defs D) (λ r. IsSource (erased defs r.exp) e) (table.item_row w t x e)
+  pub item_keeps : (w : Within) (t x : Ty) (e : Exp) → Keeps D (Claim defs D) (λ r. IsErasedTo (erased defs r.exp) e) (table.item_row w t x e)
   item_keeps w t x e =
-      keeps_if D (Claim defs D) (λ r. IsSource (erased defs r.exp) e) (is_spliced e) _ _ (λ _. λ m h. h.same)
-      (λ _. keeps_if D (Claim defs D) (λ r. IsSource (erased defs r.exp) e) (is_told_by_type e) _ _ (λ _. λ m h. found_item_keeps (place e) t x m e h.same) (λ _. λ m h. h.same))
+      keeps_if D (Claim defs D) (λ r. IsErasedTo (erased defs r.exp) e) (is_spliced e) _ _ (λ _. λ m h. h.same)
+      (λ _. keeps_if D (Claim defs D) (λ r. IsErasedTo (erased defs r.exp) e) (is_told_by_type e) _ _ (λ _. λ m h. found_item_keeps (place e) t x m e h.same) (λ _. λ m h. h.same))
 
   -- ---- holes
 

@@ -23,7 +23,7 @@ use Rattle.st_elab_table.specs.Forms.{place, inferable}
 use Rattle.st_elab_table.specs.Questions.{Made, Step, Asks}
 use Rattle.st_elab_table.specs.Steps.{breach, give, asked, raised, injected, wider, number_type, as_joined}
 use Rattle.st_elab_table.specs.Operands.{logic_row, numeric, compared, equation_row, membership_row, both_numeric, order_row, arithmetic_row, power_row, negation_row, concatenated, binary_row}
-use Rattle.st_elab_law.proofs.Claims.{IsSource, IsWritten, Claim}
+use Rattle.st_elab_law.proofs.Claims.{IsErasedTo, IsWritten, Claim}
 use Rattle.st_elab_law.proofs.Erasings.{erased-And, erased-Or, erased-Imp, erased-Iff, erased-Neg, erased-Add, erased-Sub, erased-Mul, erased-Div, erased-Rem, erased-Pow, erased-Eq, erased-Ne, erased-Lt, erased-Gt, erased-Le, erased-Ge, erased-Member}
 use Rattle.st_elab_law.proofs.Writing.{source_as, binary_written, operation_written, negation_written}
 use Rattle.st_elab_law.proofs.Keeping.{keeps_if, keeps_list, keeps_number, keeps_larger, erased-injected, keeps_joined, keeps_both_raised, Writes, Kept}
@@ -76,10 +76,10 @@ module _ (defs : List IlDef) (D : Decls) (e l r : Exp) (sign : Mark) (at' : open
   logic_keeps : (w : Within) → operator_of sign ≡ operator.Logic → Kept defs D (Unit {0}) e (logic_row w sign l r)
   logic_keeps w is = λ a f b g. binary_written (Unit {0}) (erased defs (connected sign a.exp b.exp)) e sign (erased defs a.exp) (erased defs b.exp) l r (erased-connected defs sign a.exp b.exp is) at' f.same g.same
 
-  equated_written : (x y : IlExp) → operator_of sign ≡ operator.Equation → IsSource (erased defs x) l → IsSource (erased defs y) r → IsWritten (Unit {0}) (erased defs (equated sign x y)) e
+  equated_written : (x y : IlExp) → operator_of sign ≡ operator.Equation → IsErasedTo (erased defs x) l → IsErasedTo (erased defs y) r → IsWritten (Unit {0}) (erased defs (equated sign x y)) e
   equated_written x y is f g = binary_written (Unit {0}) (erased defs (equated sign x y)) e sign (erased defs x) (erased defs y) l r (erased-equated defs sign x y is) at' f g
 
-  compared_keeps : (at : Span) (a b : Made) → operator_of sign ≡ operator.Equation → IsSource (erased defs a.exp) l → IsSource (erased defs b.exp) r → Kept defs D (Unit {0}) e (compared at sign a b)
+  compared_keeps : (at : Span) (a b : Made) → operator_of sign ≡ operator.Equation → IsErasedTo (erased defs a.exp) l → IsErasedTo (erased defs b.exp) r → Kept defs D (Unit {0}) e (compared at sign a b)
   compared_keeps at a b is f g =
       keeps_larger D (Claim defs D) (Writes defs (Unit {0}) e) a.ty b.ty (λ t. raised a t (λ x. raised b t (λ y. give (equated sign x y) ty.Bool)))
       (λ t. keeps_both_raised defs D (Claim defs D) (Writes defs (Unit {0}) e) a b t (λ x y. give (equated sign x y) ty.Bool)
@@ -94,7 +94,7 @@ module _ (defs : List IlDef) (D : Decls) (e l r : Exp) (sign : Mark) (at' : open
       (λ _. λ b g. equated_written a.exp b.exp is f.same g.same))
       (λ _. keeps_if D (Claim defs D) (Writes defs (Unit {0}) e) (inferable r) _ _ (λ _. λ b g a f. equated_written a.exp b.exp is f.same g.same) (λ _. tt))
 
-  member_written : (x y : IlExp) → operator_of sign ≡ operator.Membership → IsSource (erased defs x) l → IsSource (erased defs y) r → IsWritten (Unit {0}) (erased defs (il.Member x y)) e
+  member_written : (x y : IlExp) → operator_of sign ≡ operator.Membership → IsErasedTo (erased defs x) l → IsErasedTo (erased defs y) r → IsWritten (Unit {0}) (erased defs (il.Member x y)) e
   member_written x y is f g =
       binary_written (Unit {0}) (erased defs (il.Member x y)) e sign (erased defs x) (erased defs y) l r (erased-Member defs x y ∙ ap (λ z. binary z (erased defs x) (erased defs y)) (member_sign sign is)) at' f g
 
@@ -108,7 +108,7 @@ module _ (defs : List IlDef) (D : Decls) (e l r : Exp) (sign : Mark) (at' : open
   -- ---- numbers
 
   both_keep : (w : Within) (next : NumTy → IlExp → IlExp → Step)
-      → ((n : NumTy) (x y : IlExp) → IsSource (erased defs x) l → IsSource (erased defs y) r → Kept defs D (Unit {0}) e (next n x y)) → Kept defs D (Unit {0}) e (both_numeric w l r next)
+      → ((n : NumTy) (x y : IlExp) → IsErasedTo (erased defs x) l → IsErasedTo (erased defs y) r → Kept defs D (Unit {0}) e (next n x y)) → Kept defs D (Unit {0}) e (both_numeric w l r next)
   both_keep w next h = λ a f. keeps_number D (Claim defs D) (Writes defs (Unit {0}) e) (place l) a.ty
       (λ m. numeric w r (λ b n. next (wider m n) (injected m (wider m n) a.exp) (injected n (wider m n) b.exp)))
       (λ m. λ b g. keeps_number D (Claim defs D) (Writes defs (Unit {0}) e) (place r) b.ty
@@ -123,7 +123,7 @@ module _ (defs : List IlDef) (D : Decls) (e l r : Exp) (sign : Mark) (at' : open
   arithmetic_keeps : (w : Within) → operator_of sign ≡ operator.Arithmetic → Kept defs D (Unit {0}) e (arithmetic_row w sign l r)
   arithmetic_keeps w is = both_keep w (λ n x y. give (reckoned sign n x y) (number_type n)) (λ n x y f g. operation_written (Unit {0}) (erased defs (reckoned sign n x y)) e sign (erased defs x) (erased defs y) l r (erased-reckoned defs sign n x y is) at' f g)
 
-  power_written : (n : NumTy) (x y : IlExp) → operator_of sign ≡ operator.Power → IsSource (erased defs x) l → IsSource (erased defs y) r → IsWritten (Unit {0}) (erased defs (il.Pow n x y)) e
+  power_written : (n : NumTy) (x y : IlExp) → operator_of sign ≡ operator.Power → IsErasedTo (erased defs x) l → IsErasedTo (erased defs y) r → IsWritten (Unit {0}) (erased defs (il.Pow n x y)) e
   power_written n x y is f g =
       operation_written (Unit {0}) (erased defs (il.Pow n x y)) e sign (erased defs x) (erased defs y) l r (erased-Pow defs n x y ∙ ap (λ z. operation z (erased defs x) (erased defs y)) (power_sign sign is)) at' f g
 
@@ -134,11 +134,11 @@ module _ (defs : List IlDef) (D : Decls) (e l r : Exp) (sign : Mark) (at' : open
   -- ---- `++`
 
   pub joined_written : (Alone : Type 0) (join : IlExp → IlExp → IlExp) (x y : IlExp) → operator_of sign ≡ operator.Concatenation
-      → erased defs (join x y) ≡ binary mark.PlusPlus (erased defs x) (erased defs y) → IsSource (erased defs x) l → IsSource (erased defs y) r → IsWritten Alone (erased defs (join x y)) e
+      → erased defs (join x y) ≡ binary mark.PlusPlus (erased defs x) (erased defs y) → IsErasedTo (erased defs x) l → IsErasedTo (erased defs y) r → IsWritten Alone (erased defs (join x y)) e
   joined_written Alone join x y is j f g =
       binary_written Alone (erased defs (join x y)) e sign (erased defs x) (erased defs y) l r (j ∙ ap (λ z. binary z (erased defs x) (erased defs y)) (joining_sign sign is)) at' f g
 
-  concatenated_keeps : (at : Span) (a b : Made) → operator_of sign ≡ operator.Concatenation → IsSource (erased defs a.exp) l → IsSource (erased defs b.exp) r → Kept defs D (Unit {0}) e (concatenated at a b)
+  concatenated_keeps : (at : Span) (a b : Made) → operator_of sign ≡ operator.Concatenation → IsErasedTo (erased defs a.exp) l → IsErasedTo (erased defs b.exp) r → Kept defs D (Unit {0}) e (concatenated at a b)
   concatenated_keeps at a b is f g =
       keeps_larger D (Claim defs D) (Writes defs (Unit {0}) e) a.ty b.ty (λ t. as_joined at t (λ join. raised a t (λ x. raised b t (λ y. give (join x y) t))))
       (λ t. keeps_joined defs D (Claim defs D) (Writes defs (Unit {0}) e) at t (λ join. raised a t (λ x. raised b t (λ y. give (join x y) t)))

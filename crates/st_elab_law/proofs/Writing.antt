@@ -19,7 +19,7 @@ use Rattle.st_erase.specs.declared.erased.Kind.TheVariants as kind
 use Rattle.st_erase.specs.Places.{exp, whole, run_by, run as run_of}
 use Rattle.st_erase.specs.Erasure.{plain_form, arithmetic, binary, operation, lifted, list_of, erased}
 use Rattle.st_elab_table.specs.Steps.{list_of_one}
-use Rattle.st_elab_law.proofs.Claims.{IsPresent, IsSingle, IsSource, IsWritten}
+use Rattle.st_elab_law.proofs.Claims.{IsPresent, IsSingle, IsErasedTo, IsWritten}
 use Rattle.st_elab_law.proofs.Plainness.{plain_of, exp-opens, node-is, plain-in_arithmetic, plain-whole, plain-lifted}
 use Rattle.st_elab_law.proofs.Erasings.{erased-List, item-One}
 
@@ -29,11 +29,11 @@ present kind.Arithmetic h = tt
 present kind.Run h = absurd h
 present kind.Absent h = absurd h
 
-pub whole_source : (x : Erased) (e : Exp) → IsSource x e → plain_exp (whole x) ≡ plain_exp e
+pub whole_source : (x : Erased) (e : Exp) → IsErasedTo x e → plain_exp (whole x) ≡ plain_exp e
 whole_source x e h = plain-whole x ∙ h
 
 -- what is written as one element by itself
-pub alone_written : (Alone : Type 0) (x y : Erased) (e : Exp) → x ≡ y → IsSingle y.kind → IsSource y e → IsWritten Alone x e
+pub alone_written : (Alone : Type 0) (x y : Erased) (e : Exp) → x ≡ y → IsSingle y.kind → IsErasedTo y e → IsWritten Alone x e
 alone_written Alone x y e is single same = record {
   same = ap (λ z. plain_exp z.exp) is ∙ same;
   present = subst (λ z. IsPresent z.kind) (sym is) (present y.kind single);
@@ -48,11 +48,11 @@ written_as Alone Other x y e is goes h = record {
   single = λ alone. subst (λ z. IsSingle z.kind) (sym is) (h.single (goes alone));
 }
 
-pub source_as : (x y : Erased) (e : Exp) → x ≡ y → IsSource y e → IsSource x e
+pub source_as : (x y : Erased) (e : Exp) → x ≡ y → IsErasedTo y e → IsErasedTo x e
 source_as x y e is h = ap (λ z. plain_exp z.exp) is ∙ h
 
 -- an expression that is written as one element is a run of one
-pub single_run : (x : Erased) (e : Exp) → IsSingle x.kind → IsSource x e → map plain_exp (run_of x) ≡ plain_exp e ∷ []
+pub single_run : (x : Erased) (e : Exp) → IsSingle x.kind → IsErasedTo x e → map plain_exp (run_of x) ≡ plain_exp e ∷ []
 single_run x e single h = by x.kind single
   where
     by : (k : Kind) → IsSingle k → map plain_exp (run_by k x.exp) ≡ plain_exp e ∷ []
@@ -74,18 +74,18 @@ module _ (Alone : Type 0) (x : Erased) (e : Exp) where
   pub leaf_written : (n : Node) (y : Node-F Count Node Seg Exp) → x ≡ plain_form n → out-Node n ≡ y → opened e ≡ y → IsWritten Alone x e
   leaf_written n y is out at = form_written n y y is out at refl
 
-  pub binary_written : (sign : Mark) (a b : Erased) (l r : Exp) → x ≡ binary sign a b → opened e ≡ Node-F.Binary l sign r → IsSource a l → IsSource b r → IsWritten Alone x e
+  pub binary_written : (sign : Mark) (a b : Erased) (l r : Exp) → x ≡ binary sign a b → opened e ≡ Node-F.Binary l sign r → IsErasedTo a l → IsErasedTo b r → IsWritten Alone x e
   binary_written sign a b l r is at f g =
       let left = whole_source a l f in
       let right = whole_source b r g in
       form_written (node.Binary (whole a) sign (whole b)) _ _ is (node.outs-Binary (whole a) sign (whole b)) at (λ i. exp (roll-Node (Node-F.Binary (left i) sign (right i))))
 
-  pub operation_written : (sign : Mark) (a b : Erased) (l r : Exp) → x ≡ operation sign a b → opened e ≡ Node-F.Binary l sign r → IsSource a l → IsSource b r → IsWritten Alone x e
+  pub operation_written : (sign : Mark) (a b : Erased) (l r : Exp) → x ≡ operation sign a b → opened e ≡ Node-F.Binary l sign r → IsErasedTo a l → IsErasedTo b r → IsWritten Alone x e
   operation_written sign a b l r is at f g =
       alone_written Alone x (operation sign a b) e is tt
       (levels_alike (node.Binary a.exp sign b.exp) e _ _ (node.outs-Binary a.exp sign b.exp) at (λ i. exp (roll-Node (Node-F.Binary (f i) sign (g i)))))
 
-  pub negation_written : (a : Erased) (inner : Exp) → x ≡ arithmetic (node.Neg a.exp) → opened e ≡ Node-F.Neg inner → IsSource a inner → IsWritten Alone x e
+  pub negation_written : (a : Erased) (inner : Exp) → x ≡ arithmetic (node.Neg a.exp) → opened e ≡ Node-F.Neg inner → IsErasedTo a inner → IsWritten Alone x e
   negation_written a inner is at f =
       alone_written Alone x (arithmetic (node.Neg a.exp)) e is tt
       (levels_alike (node.Neg a.exp) e _ _ (node.outs-Neg a.exp) at (λ i. exp (roll-Node (Node-F.Neg (f i)))))
@@ -96,7 +96,7 @@ module _ (defs : List IlDef) where
   pub erased-one : (t : Ty) (x : IlExp) → erased defs (list_of_one t x) ≡ record { exp = lifted (whole (erased defs x)); kind = kind.Plain }
   erased-one t x = erased-List defs t (part.One x ∷ []) ∙ ap (λ z. list_of (z ∷ [])) (item-One defs x)
 
-  pub lifted_written : (Alone : Type 0) (x y : IlExp) (e : Exp) → erased defs y ≡ record { exp = lifted (whole (erased defs x)); kind = kind.Plain } → IsSource (erased defs x) e
+  pub lifted_written : (Alone : Type 0) (x y : IlExp) (e : Exp) → erased defs y ≡ record { exp = lifted (whole (erased defs x)); kind = kind.Plain } → IsErasedTo (erased defs x) e
       → IsWritten Alone (erased defs y) e
   lifted_written Alone x y e is h =
       alone_written Alone (erased defs y) (record { exp = lifted (whole (erased defs x)); kind = kind.Plain }) e is tt

@@ -207,7 +207,7 @@ not_above a b h = grind arith
 pub lower_over : (n : ℕ) (t : Tree) (g : Lead) (fs : Frames) → n < reach g → lower n t (over g fs) ≡ lower n (led g t) fs
 lower_over n t g fs h = ap (λ b. if b then (t, over g fs) else lower n (led g t) fs) (not_above n (reach g) h)
 
--- what the place wants is not closed
+-- what the part wants is not closed
 pub lower_stays : (n : ℕ) (t : Tree) (fs : Frames) → least fs ≤ n → n < tight → lower n t fs ≡ (t, fs)
 lower_stays n t (bottom σ) h k = refl
 lower_stays n t (within g ts pre fs) h k = refl
@@ -216,7 +216,7 @@ lower_stays n t (over g fs) h k =
     ap (λ b. if b then (t, over g fs) else lower n (led g t) fs) yes
 lower_stays n t (timing u m x fs) h k = refl
 
--- a sign that is no mark joins or separates
+-- a sign that iterates nothing joins or separates
 pub sign_joins : (t : Tree) (fs : Frames) (m : Mark) (x : Token) → may_iterate (sort fs) m ≡ false
     → after t fs (sign m x) ≡ join m x (lower (pull (sort fs) m) t fs)
 sign_joins t fs m x e =
@@ -258,7 +258,7 @@ over_read t g fs (closing by_bar x ∷ w) f e = go (bar_ends (sort fs)) refl e
     go false h k = absurd (omega (arith, reach_low g))
 over_read t g fs (other x ∷ w) f e = refl
 
--- ---- marks, counts and signs behind a tree
+-- ---- iterations, counts and signs behind a tree
 
 pub read_post : (t : Tree) (l : Terminal) (fs : Frames) (w : List Terminal) → may_post (sort fs) t l ≡ true → reads (got t fs) (l ∷ w) ≡ reads (got (post t l) fs) w
 read_post t (leaf k x) fs w f = absurd (no_leaf (sort fs) f)

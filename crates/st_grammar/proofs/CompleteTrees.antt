@@ -118,7 +118,7 @@ pub next_element : (u : Tree) (fs : Frames) (us w : List Terminal) → text_foll
 next_element u fs [] w e = absurd (cc)
 next_element u fs (l ∷ us) w e = reads_by _ _ (us ++ w) (ap (λ b. if b then begin (extend u fs) l else behind u fs l) e)
 
--- an element that is read at each place is read behind these
+-- an element that is read in each part is read behind these
 pub one_more : (ts : Trees) (t : Tree) (fs : Frames) (w : List Terminal)
     → ((gs : Frames) → least gs ≤ level t → sort gs ≡ sort fs → reads (want gs) (text t ++ w) ≡ reads (settle t gs) w)
     → EachFits (sort fs) run tight ts → FollowsAll (sort fs) ts (text t) → tight ≤ level t → least fs ≤ 14 → is_count (sort fs) ≡ false

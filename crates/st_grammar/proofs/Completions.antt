@@ -39,7 +39,7 @@ closing_is ns by_square = refl
 closing_is ns by_brace = refl
 closing_is ns by_bar = refl
 
--- the least operand of a sort of place
+-- the least operand of a sort of part
 abbrev pub filler : Sort → Token
 filler notation = token_of (kind.Reserved word.Nat)
 filler typ = token_of (kind.Reserved word.Nat)

@@ -150,9 +150,9 @@ ahead_after m mark.TickParen p h = absurd (omega arith)
 ahead_after m mark.TickBracket p h = absurd (omega arith)
 ahead_after m mark.TickBrace p h = absurd (omega arith)
 
--- ---- marks
+-- ---- iteration signs
 
--- the sign may be a mark there
+-- the sign may iterate there
 abbrev pub may_iterate : Sort → Mark → Bool
 may_iterate (expression b) m = is_iteration_sign m || is_caret m
 may_iterate notation m = is_type_iteration_sign m

@@ -65,7 +65,7 @@ whole_ends ns p ds e h =
     let q = subst (ParsedAs (position_text p)) e (wholes p h) in
     ([], ds, record { fits = q.fits; spelled = append-nil (position_text p) ∙ q.spelled })
 
--- a part that is read has a completion, where each place behind it has one
+-- a part that is read has a completion, where each position behind it has one
 pub slot_ends : (ns : List (List ℕ)) (s : Slot) (st : part.State) → ((t : Tree) → Ends ns (at (filled s t))) → Ends ns (inside s st)
 slot_ends ns s st k h =
     let v = completions.can_end ns st h.1 in

@@ -1,4 +1,4 @@
--- Parts of definitions are read in their places.
+-- Parts of definitions are read at their positions.
 use Rattle.std.proofs.Common.{◌≡◌, ℕ, List, [], ◌∷◌, ◌++◌, Bool, true, false, Option, Some, None, option_and_then, if◌then◌else◌, refl, sym, ap, subst, ◌∙◌, arith}
 use Rattle.st_num.specs.declared.mark.Mark.{Mark}
 use Rattle.st_scan.specs.declared.token.Token.{Token}
@@ -538,7 +538,7 @@ pub and_then_some : (o : Option part.State) (t : Tree) → option_and_then part.
 and_then_some None t e = absurd (cc)
 and_then_some (Some st) t e = (st, refl, e)
 
--- a part in its place
+-- a part at its position
 pub slot_read : (s : Slot) (t : Tree) (w : List Terminal) → Fits (slot_sort s) t → Stops (slot_sort s) w → reads (begun s) (text t ++ w) ≡ reads (at (filled s t)) w
 slot_read s t w f g =
     let σ = slot_sort s in
@@ -547,7 +547,7 @@ slot_read s t w f g =
     let r = inner.reached_by σ (text t) last.0 last.1 in
     ap (option_and_then finish) (inner_run s (text t) (part.start σ) last.0 w last.1) ∙ ends_part s last.0 t w last.2 r.based g
 
--- the same where something else may stand in its place
+-- the same where something else may stand instead
 pub enter_read : (s : Slot) (t : Tree) (w : List Terminal) → Fits (slot_sort s) t → reads (at (entering s)) (text t ++ w) ≡ reads (begun s) (text t ++ w)
 enter_read s t w f = go (text t) (complete (slot_sort s) (text t) t (record { fits = f; spelled = refl }))
   where

@@ -102,7 +102,7 @@ pub turns_stop : (σ : Sort) (w : List Terminal) → Turns w → Stops σ w
 turns_stop σ [] t = tt
 turns_stop σ (l ∷ w) t = subst (λ k. grip σ k ≡ 0) (sym (at_word l (def_word_reserved (keyword l) t)).1) refl
 
--- Nothing of the place itself begins with the word of a definition.
+-- Nothing of the position itself begins with the word of a definition.
 abbrev pub Leaves : Position → Type 0
 Leaves p = (x : Token) → is_def_word (keyword (other x)) ≡ true → own p (other x) ≡ None
 

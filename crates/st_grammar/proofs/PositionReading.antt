@@ -103,7 +103,7 @@ position_steps p l h = go (own p l) (owns p l h)
 pub inner_finish : (s : Slot) (st : part.State) (t : Tree) → Holds (inside s st) → part.finish st ≡ Some t → Parse (slot_sort s) (sound.seen st) t
 inner_finish s st t h e = inner.finishes (slot_sort s) (sound.seen st) st t (record { holds = h.1; spelled = refl; based = h.2 }) e
 
--- the place behind a part that ends here
+-- the position behind a part that ends here
 pub filled_reached : (s : Slot) (st : part.State) (t : Tree) → Holds (inside s st) → part.finish st ≡ Some t → Reached (slot_text s ++ sound.seen st) (at (filled s t))
 filled_reached s st t h e =
     let q = inner_finish s st t h e in

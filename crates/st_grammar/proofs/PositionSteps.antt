@@ -1,4 +1,4 @@
--- Each step of the reading of definitions goes from a place in order to one in order.
+-- Each step of the reading of definitions goes from a position in order to one in order.
 use Rattle.std.proofs.Common.{◌≡◌, ℕ, ◌+◌, ◌≤◌, List, [], ◌∷◌, ◌++◌, length, Bool, true, false, not, ◌&&◌, ◌==◌, Option, Some, None, option_and_then, if◌then◌else◌, refl, sym, ap, subst, ◌∙◌, append_assoc, append-nil, arith}
 use Rattle.std.specs.List.{AllByRecursion}
 use Rattle.st_num.specs.declared.mark.Mark.{Mark}
@@ -32,7 +32,7 @@ tested false us st o h k = k
 pub when_tested : (b : Bool) (us : List Terminal) (st : State) → (b ≡ true → Reached us st) → ReachedBy us (when b st)
 when_tested b us st h = tested b us st None h tt
 
--- a place that holds, by its text
+-- a position that holds, by its text
 pub reach : (p : Position) (us : List Terminal) → PositionHolds p → position_text p ≡ us → Reached us (at p)
 reach p us h e = record { holds = h; spelled = e }
 
@@ -211,7 +211,7 @@ pub opens_more : (os : List Terminal) (l : Terminal) → AllByRecursion OpensRou
 opens_more [] l h e = (e, tt)
 opens_more (o ∷ os) l h e = (h.0, opens_more os l h.1 e)
 
--- ---- steps of places
+-- ---- steps of positions
 
 pub colons : (ds : Defs) (w r : Terminal) (ls : List Terminal) (l : Terminal) → DefsFit ds → keyword w ≡ rule_word → names_relation r ≡ true → FragmentFits ls
     → ReachedBy ((defs_text ds ++ (w ∷ r ∷ ls)) ++ l ∷ []) (colon_step ds w r ls l)

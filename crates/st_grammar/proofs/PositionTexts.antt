@@ -1,4 +1,4 @@
--- The tokens that led to a place of a definition, and what holds of what they led to.
+-- The tokens that led to a position of a definition, and what holds of what they led to.
 use Rattle.std.proofs.Common.{◌≡◌, ◌≤◌, List, [], ◌∷◌, ◌++◌, length, Bool, true, false, ◌||◌, Option, Some, None, append_assoc, append-nil, arith}
 use Rattle.std.specs.List.{AllByRecursion}
 use Rattle.st_grammar.specs.declared.sort.Style.TheVariants.{Parts as parts}

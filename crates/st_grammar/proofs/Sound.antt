@@ -57,7 +57,7 @@ abbrev pub MayBegin : Frames → List Terminal → Type 0
 MayBegin (over (items ts) fs) w = FollowsAll (sort fs) ts w
 MayBegin fs w = Unit {0}
 
--- each frame holds what its place allows
+-- each frame holds what its part allows
 abbrev pub Stand : Frames → Type 0
 Stand (bottom σ) = Unit {0}
 Stand (within h ts pre fs) =

@@ -253,7 +253,7 @@ BodyFits (cases ms ls) = CasesFit ms × (has_member ms ≡ true) × EndsCases ls
 
 -- ---- premises
 
--- behind a condition each `)` with its marks
+-- behind a condition each `)` with its iterations
 pub data Iterations : Type 0 where
   no_iterations : Iterations
   closed : Iterations → Terminal → Iterations
@@ -277,7 +277,7 @@ abbrev pub has_closed : Iterations → Bool
 has_closed no_iterations = false
 has_closed i = true
 
--- It ends with a `)`, which wants a mark.
+-- It ends with a `)`, which wants an iteration.
 abbrev pub wants_iteration : Iterations → Bool
 wants_iteration (closed i l) = true
 wants_iteration i = false

@@ -1,4 +1,4 @@
--- Which trees the grammar allows in each sort of place.
+-- Which trees the grammar allows in each sort of part.
 use Rattle.std.specs.Prelude.{◌≡◌, ℕ, ◌+◌, ◌≤◌, List, [], ◌∷◌, ◌++◌, map, Bool, true, false, not, ◌&&◌}
 use Rattle.st_num.specs.declared.mark.Mark.{Mark}
 use Rattle.st_scan.specs.declared.token.Token.{Token}
@@ -38,7 +38,7 @@ style σ (segment p o) = ends
 style σ (update p m x) = lone
 style σ (below o i m x) = lone
 
--- what stands in a bracket that stands in such a place
+-- what stands in a bracket that stands in such a part
 abbrev pub sort_in : Sort → Heading → Sort
 sort_in σ (plain k o) = inside σ k
 sort_in σ (length o) = expression true
@@ -117,7 +117,7 @@ abbrev pub FollowsAll : Sort → Trees → List Terminal → Type 0
 FollowsAll σ none w = Unit {0}
 FollowsAll σ (more ts pre u) w = text_follows σ u w ≡ true
 
--- in a notation a type, which may have marks
+-- in a notation a type, which may be iterated
 abbrev pub is_type : Tree → Bool
 is_type (operand low x) = true
 is_type (operand basic x) = true
@@ -132,7 +132,7 @@ is_atom (operand variable x) = true
 is_atom (post t (dot x)) = is_atom t
 is_atom t = false
 
--- the marks and dots behind a tree
+-- the iteration signs and dots behind a tree
 abbrev pub may_post : Sort → Tree → Terminal → Bool
 may_post (expression b) t (dot x) = true
 may_post (expression b) t (sign m x) = is_iteration_sign m
@@ -180,7 +180,7 @@ abbrev pub MayFollow : Sort → Style → Trees → List Terminal → Type 0
 MayFollow σ run ts w = FollowsAll σ ts w
 MayFollow σ y ts w = Unit {0}
 
--- what the grammar allows in a sort of place
+-- what the grammar allows in a sort of part
 abbrev mutual
   pub Fits : Sort → Tree → Type 0
   Fits σ (operand k x) = takes σ k ≡ true

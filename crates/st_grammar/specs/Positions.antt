@@ -1,4 +1,4 @@
--- How the tokens of definitions are read: the places between tokens, and the parts that are read
+-- How the tokens of definitions are read: the positions between tokens, and the parts that are read
 -- in them.
 use Rattle.std.specs.Prelude.{List, [], ◌∷◌, ◌++◌, length, Bool, true, false, not, ◌&&◌, ◌||◌, ◌==◌, Option, Some, None, option_and_then, if◌then◌else◌}
 use Rattle.st_grammar.specs.declared.keyword.Keyword.{Keyword}
@@ -15,7 +15,7 @@ use Rattle.st_grammar.specs.Grammar.{is_label}
 use Rattle.st_grammar.specs.Reading as part
 use Rattle.st_grammar.specs.Definitions.{keyword, touches, signed, is_slash, is_equal, is_dots, is_bar, opens_round, closes_round, opens_brace, closes_brace, is_low, is_fun, names_relation, is_name, id_step, balance_step, hint, Hints, no_hints, more_hints, Members, no_members, member, Body, fields, cases, Iterations, no_iterations, closed, marked, counted, closings, has_closed, wants_iteration, default, given, Premises, no_premises, more_premises, Args, no_args, args, syntax_def, var_def, relation_def, rule_def, fun_def, clause_def, Defs, no_defs, more_defs}
 
--- ---- what stands before a place
+-- ---- what stands before a position
 
 -- a syntax up to its `=`
 pub data Head : Type 0 where
@@ -120,7 +120,7 @@ host_whole (of_relation ds w r) hs = None
 host_whole (of_notation ds w r hs c t) ks = Some (more_defs ds (relation_def w r hs c t ks))
 host_whole (of_fun ds w f a c t) hs = Some (more_defs ds (fun_def w f a c t hs))
 
--- Each `(` before the condition is closed, and each `)` has a mark.
+-- Each `(` before the condition is closed, and each `)` has an iteration.
 abbrev pub is_whole : List Terminal → Iterations → Bool
 is_whole os i = closings i == length os && not (wants_iteration i)
 

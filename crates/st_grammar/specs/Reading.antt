@@ -20,7 +20,7 @@ use Rattle.st_grammar.specs.Grammar.{style, sort_in, least_in, is_label, follows
 
 -- what is open, the innermost first
 pub data Frames : Type 0 where
-  -- a place of this sort, with nothing open
+  -- a part of this sort, with nothing open
   bottom : Sort → Frames
   -- a bracket, the parts before the one that is read now, and what sets that one off
   within : Heading → Trees → List Terminal → Frames → Frames
@@ -43,7 +43,7 @@ pub data State : Type 0 where
   -- behind `^ ( i` a `<` is due
   comparing : Token → Token → Frames → State
 
--- the sort of the innermost place
+-- the sort of the innermost part
 abbrev pub sort : Frames → Sort
 sort (bottom σ) = σ
 sort (within h ts pre fs) = sort_in (sort fs) h

@@ -14,7 +14,7 @@ mutual
   pub data Tree : Type 0 where
     -- a token that stands alone
     operand : Leaf → Token → Tree
-    -- a mark or a dot behind a tree
+    -- an iteration sign or a dot behind a tree
     post : Tree → Terminal → Tree
     -- `^` behind a tree, and its count
     times : Tree → Mark → Token → Tree → Tree

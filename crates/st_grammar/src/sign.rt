@@ -3,26 +3,20 @@
 ghost use Rattle.std.specs.Prelude.{◌≡◌};
 ghost use Rattle.st_grammar.specs.Levels as levels;
 
-use st_num::{Grouping, Mark};
+use st_num::Mark;
 
 /// The least level to the left of a sign.
 pub fn left_of(mark: Mark) -> u8
     ensures { result ≡ levels.left_of mark }
 {
-    match mark.grouping() {
-        Grouping::Left => mark.level(),
-        Grouping::None | Grouping::Right => mark.level() + 1,
-    }
+    mark.level() + mark.grouping().left_gap()
 }
 
 /// The least level to the right of a sign.
 pub fn right_of(mark: Mark) -> u8
     ensures { result ≡ levels.right_of mark }
 {
-    match mark.grouping() {
-        Grouping::Right => mark.level(),
-        Grouping::None | Grouping::Left => mark.level() + 1,
-    }
+    mark.level() + mark.grouping().right_gap()
 }
 
 /// The least level behind a sign that has no left side.

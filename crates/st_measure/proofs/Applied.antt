@@ -19,7 +19,7 @@ use Rattle.st_parse_builder.specs.declared.piece.Piece.TheVariants.{Done, Parts,
 use Rattle.st_parse_builder.specs.Names.{name_of, number_of, leaf_node}
 use Rattle.st_parse_builder.specs.Meaning.{exp, place, opened, is_atom, atom_name, joined, prefixed, dotted, iterated, mark_count, in_parens, enclosed, changed}
 use Rattle.st_parse_builder.specs.inner.Building.{Stack, put, top_done, top_parts, top_fields, top_path, top_pair, top_whole, top_label, top_place, call_name, applied}
-use Rattle.st_parse_builder.proofs.Growth.{on_some}
+use Rattle.st_parse_builder.proofs.Growth.{on_some, rolled, second}
 use Rattle.st_measure.specs.Variables.{Occurrence, occurrence, variables, seg_variables}
 use Rattle.st_measure.specs.inner.Noting.{operand_step, step_of, field_variables, piece_variables, stack_variables, Keeps}
 use Rattle.st_measure.specs.inner.Steps.{IsPut, AreTaken, Does}
@@ -130,9 +130,6 @@ on_whole (Here at ∷ s) u g h k = absurd (cc)
 
 -- ---- a function alone, and an atom
 
-rolled : (e : Exp) (n : Node-F Count Node Seg Exp) → opened e ≡ n → e ≡ exp (place e) (roll-Node n)
-rolled e n h = sym (roll-out-Exp e) ∙ ap (λ m. exp (place e) m) (sym (roll-out-Node (out-Exp e).node) ∙ ap roll-Node h)
-
 call_alone : (n : Node-F Count Node Seg Exp) (name : List ℕ) (at : Span) → call_name n ≡ Some name → variables (exp at (roll-Node n)) ≡ []
 call_alone (Node-F.Name x) name at h = absurd (cc)
 call_alone (Node-F.Atom x) name at h = absurd (cc)
@@ -191,10 +188,6 @@ lone e name h = ap variables (rolled e (opened e) refl) ∙ call_alone (opened e
 
 atomic : (e : Exp) → is_atom (opened e) ≡ true → variables e ≡ []
 atomic e h = ap variables (rolled e (opened e) refl) ∙ atom_alone (opened e) (place e) h
-
-second : (a b : Bool) → (a && b) ≡ true → b ≡ true
-second true b h = h
-second false b h = absurd (cc)
 
 dots : (b : Bool) (e : Exp) (behind : List ℕ) → (b ≡ true → variables e ≡ [])
     → variables (exp (place e) (if b then node.Atom (atom_name (opened e) ++ 46 ∷ behind) else node.Dot e behind)) ≡ variables e

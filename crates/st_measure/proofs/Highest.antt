@@ -6,11 +6,11 @@ use Rattle.st_el.specs.declared.expression.Node.TheVariants as node
 use Rattle.st_parse_builder.specs.Heights.{highest, height}
 use Rattle.st_parse_builder.specs.inner.PieceHeights.{field_height}
 use Rattle.st_measure.specs.inner.Parts.{node_height}
-use Rattle.st_parse_builder.proofs.Tallness.{highest_behind}
+use Rattle.st_parse_builder.proofs.Tallness.{highest_behind, heights_of}
 use Rattle.st_measure.specs.inner.Answers.{capped}
 use Rattle.st_measure.proofs.Lists.{next_taken}
 
-capped_max : (a b : ℕ) → max (capped a) (capped b) ≡ capped (max a b)
+pub capped_max : (a b : ℕ) → max (capped a) (capped b) ≡ capped (max a b)
 capped_max a b = omega arith
 
 -- one more is measured
@@ -22,10 +22,6 @@ highest_next f xs i x m n k h is p q r =
     ∙ capped_max (highest (map f (take i xs))) (f x)
     ∙ ap capped (sym (highest_behind f (take i xs) x))
     ∙ ap (λ ys. capped (highest (map f ys))) (sym (next_taken xs i x h is))
-
-heights_of : (fs : List (List ℕ × Exp)) → map (λ (f : List ℕ × ℕ). f.1) (map (λ (f : List ℕ × Exp). (f.0, height f.1)) fs) ≡ map field_height fs
-heights_of [] = refl
-heights_of (f ∷ fs) = ap (λ hs. height f.1 ∷ hs) (heights_of fs)
 
 -- the node of a record is as high as its highest field
 pub fields_highest : (n : Node) (fs gs : List (List ℕ × Exp)) → gs ≡ fs → n ≡ node.Fields fs → highest (map field_height gs) ≡ node_height n

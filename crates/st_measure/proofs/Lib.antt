@@ -4,6 +4,6 @@ mod Applied
 mod Taken
 mod Leaving
 mod Limits
-mod Highest
+pub mod Highest
 pub mod Holes
 pub mod Premises

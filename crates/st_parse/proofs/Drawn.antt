@@ -21,7 +21,7 @@ use Rattle.st_parse.specs.declared.survey.MemberHeights.{MemberHeights}
 use Rattle.st_parse.specs.declared.survey.SideMeasures.{SideMeasures}
 use Rattle.st_parse.specs.declared.survey.PremiseMeasures.{PremiseMeasures}
 use Rattle.st_parse.specs.inner.Surveys.{OfMembers, OfSides, OfPremises, Surveys}
-use Rattle.st_parse.proofs.Surveying.{mapped}
+use Rattle.st_draft.proofs.ListenerLemmas.{mapped}
 
 -- ---- one part is another
 

@@ -2,6 +2,7 @@
 use Rattle.std.proofs.Common.{◌≡◌, ℕ, ◌+◌, ◌<◌, max, List, [], ◌∷◌, ◌++◌, length, get_or, take, map, flat_map, Bool, true, false, Option, Some, None, refl, sym, ap, subst, ◌∙◌, arith}
 use Rattle.std.specs.Option.{option_or}
 use Rattle.std.proofs.lemmas.List.{take_more}
+use Rattle.st_num.specs.declared.limit.TheConstants.{MOST_PREMISES}
 use Rattle.st_num.specs.declared.span.Span.{Span}
 use Rattle.st_el.specs.declared.expression.Exp.{Exp}
 use Rattle.st_el.specs.declared.notation.Notation.{Notation}
@@ -9,7 +10,7 @@ use Rattle.st_el.specs.declared.definition.Prem.{Prem}
 use Rattle.st_el.specs.declared.definition.Def.{Def}
 use Rattle.st_el.specs.declared.definition.DefNode.{DefNode}
 use Rattle.st_parse_builder.specs.Heights.{highest, height, notation_height}
-use Rattle.st_parse_builder.proofs.Tallness.{highest_behind}
+use Rattle.st_parse_builder.proofs.Tallness.{highest_behind, max_assoc}
 use Rattle.st_measure.specs.declared.height.NotationHeight.{NotationHeight}
 use Rattle.st_measure.specs.Variables.{occurrences, variables, prem_variables}
 use Rattle.st_measure.specs.Limits.{place_past}
@@ -22,7 +23,8 @@ use Rattle.st_draft.specs.inner.Drafts.{rule_of, def_put}
 use Rattle.st_parse.specs.declared.measure.Measure.{Measure}
 use Rattle.st_parse.specs.Limits.{variable_past, tall_at, too_tall, first_that}
 use Rattle.st_parse.specs.inner.Surveys.{Is, OfNode, OfAny, notation_heights}
-use Rattle.st_parse.proofs.Surveying.{capped_max, first_behind}
+use Rattle.st_measure.proofs.Highest.{capped_max}
+use Rattle.st_parse.proofs.Surveying.{first_behind}
 
 -- ---- where there is one
 
@@ -52,9 +54,6 @@ next_whole hs i d m k l e f =
 
 -- ---- rules and clauses
 
-max_assoc : (a b c : ℕ) → max (max a b) c ≡ max a (max b c)
-max_assoc a b c = omega arith
-
 pub a_clause : (h : Head) (s : Sides) (ps : List Prem) (e : Exp) (m : Measure) → s.exp ≡ Some e → s.clause ≡ true
     → Is (max (max (highest (map height s.args)) (height e)) (highest (map prem_height ps))) ((flat_map variables s.args ++ variables e) ++ flat_map prem_variables ps) m → OfAny OfNode (rule_of h s s.exp ps) (Some m)
 a_clause h s ps e m is b i = subst (λ o. OfAny OfNode (rule_of h s o ps) (Some m)) (sym is) (go s.clause b)
@@ -66,12 +65,12 @@ a_clause h s ps e m is b i = subst (λ o. OfAny OfNode (rule_of h s o ps) (Some 
 -- ---- definitions behind others
 
 pub past_put : (d : Draft) (o : Option DefNode) (q : Option Measure) (m : Measure) (place here : Option Span) → OfAny OfNode o q → q ≡ Some m → place ≡ first_that variable_past d.defs
-    → here ≡ place_past 255 (occurrences m.variables) → option_or place here ≡ first_that variable_past (def_put d o)
+    → here ≡ place_past MOST_PREMISES (occurrences m.variables) → option_or place here ≡ first_that variable_past (def_put d o)
 past_put d o q m place here h e is k =
     let n = some_of DefNode OfNode o q m h e in
     let def : Def = record { at = d.head.at; hints = d.hints; node = n.it } in
     subst (λ p. option_or place here ≡ first_that variable_past (def_put d p)) (sym n.is)
-    (ap (λ p. option_or p here) is ∙ ap (option_or (first_that variable_past d.defs)) (k ∙ ap (place_past 255) n.measured.variables) ∙ sym (first_behind variable_past d.defs def))
+    (ap (λ p. option_or p here) is ∙ ap (option_or (first_that variable_past d.defs)) (k ∙ ap (place_past MOST_PREMISES) n.measured.variables) ∙ sym (first_behind variable_past d.defs def))
 
 pub tall_put : (d : Draft) (o : Option DefNode) (q : Option Measure) (m : Measure) (at : Span) (place here : Option Span) → OfAny OfNode o q → q ≡ Some m → place ≡ first_that too_tall d.defs → at ≡ d.head.at
     → ((tall : ℕ) → m.height ≡ capped tall → here ≡ tall_at at tall) → option_or place here ≡ first_that too_tall (def_put d o)

@@ -1,6 +1,7 @@
 -- The tokens before the first one with a fault, and what is surveyed of them.
 use Rattle.std.proofs.Common.{◌≡◌, ℕ, ◌≤◌, inl, inr, List, [], ◌∷◌, length, take, map, Bool, true, false, nat_lt, if◌then◌else◌, Option, Some, None, Result, Ok, Err, IfOk, refl, sym, ap, subst, ◌∙◌, arith}
 use Rattle.std.proofs.lemmas.List.{take-map, take_all, length-map}
+use Rattle.st_num.specs.declared.limit.TheConstants.{HIGHEST_TREE}
 use Rattle.st_num.specs.declared.memory.NoMemory.{NoMemory}
 use Rattle.st_num.specs.declared.span.Span.{Span}
 use Rattle.st_num.specs.declared.rule.RuleId.TheVariants.{S2, S3}
@@ -89,15 +90,15 @@ built_so s st ds (Err f) h e = tt
 built_so s st ds (Ok z) h e = ap (λ (d : Draft). d.defs) h.1 ∙ h.2 ∙ ap (λ o. defs_meaning (defs_or (before st) o)) e
 
 -- Definitions with no tree that is too high are low.
-low_defs : (defs : List Def) → first_that too_tall defs ≡ None → defs_height defs ≤ 100
+low_defs : (defs : List Def) → first_that too_tall defs ≡ None → defs_height defs ≤ HIGHEST_TREE
 low_defs [] h = omega arith
-low_defs (d ∷ defs) h = go (nat_lt 100 (def_height d)) refl h (λ k. low_defs defs k)
+low_defs (d ∷ defs) h = go (nat_lt HIGHEST_TREE (def_height d)) refl h (λ k. low_defs defs k)
   where
-    go : (b : Bool) → nat_lt 100 (def_height d) ≡ b → option_or (if b then Some d.at else None) (first_that too_tall defs) ≡ None → (first_that too_tall defs ≡ None → defs_height defs ≤ 100) → defs_height (d ∷ defs) ≤ 100
+    go : (b : Bool) → nat_lt HIGHEST_TREE (def_height d) ≡ b → option_or (if b then Some d.at else None) (first_that too_tall defs) ≡ None → (first_that too_tall defs ≡ None → defs_height defs ≤ HIGHEST_TREE) → defs_height (d ∷ defs) ≤ HIGHEST_TREE
     go true e k later = absurd (cc)
     go false e k later =
-        let here : def_height d ≤ 100 = grind (arith, e) in
-        let rest : defs_height defs ≤ 100 = later k in
+        let here : def_height d ≤ HIGHEST_TREE = grind (arith, e) in
+        let rest : defs_height defs ≤ HIGHEST_TREE = later k in
         omega (arith, here, rest)
 
 pub all_low : (st : State) (ds : Defs) → finish st ≡ Some ds → first_that too_tall (defs_meaning ds) ≡ None → AllLow IsLow (finish st)

@@ -2,6 +2,7 @@
 use Rattle.std.proofs.Common.{◌≡◌, ℕ, ◌-◌, List, [], ◌∷◌, ◌++◌, flat_map, map, zero, suc, Bool, true, false, nat_lt, Option, Some, None, sym, ap, ◌∙◌, subst, if◌then◌else◌}
 use Rattle.std.specs.Prelude.{slice_get, not}
 use Rattle.std.specs.Option.{option_or}
+use Rattle.st_num.specs.declared.limit.TheConstants.{HIGHEST_TREE, MOST_PREMISES}
 use Rattle.st_num.specs.declared.mark.Mark.TheVariants as mark
 use Rattle.st_num.specs.declared.span.Span.{Span}
 use Rattle.st_grammar.specs.Terminals.{Terminal, leaf, dot, sign, opening, closing, other}
@@ -131,10 +132,10 @@ module _ (P : Span → Type 0) where
   Tells f = (d : Tokens) (at : Span) → Stand P (def_text d) → f (def_meaning d) ≡ Some at → P at
 
   pub past_stands : Tells variable_past
-  past_stands d at s e = at_number (first_of_each (def_variables (def_meaning d))) 255 at (each_once (def_variables (def_meaning d)) (def_occurs d s)) e
+  past_stands d at s e = at_number (first_of_each (def_variables (def_meaning d))) MOST_PREMISES at (each_once (def_variables (def_meaning d)) (def_occurs d s)) e
 
   pub tall_is_there : Tells too_tall
-  tall_is_there d at s e = tall_stands (nat_lt 100 (def_height (def_meaning d))) at (def_meaning d).at (def_stands d s) e
+  tall_is_there d at s e = tall_stands (nat_lt HIGHEST_TREE (def_height (def_meaning d))) at (def_meaning d).at (def_stands d s) e
 
   told : (o p : Option Span) (at : Span) → (o ≡ Some at → P at) → (p ≡ Some at → P at) → option_or o p ≡ Some at → P at
   told (Some s) p at h k e = h e

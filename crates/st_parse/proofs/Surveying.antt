@@ -18,11 +18,10 @@ use Rattle.st_draft.proofs.Faults.{nth_low}
 use Rattle.st_parse.specs.declared.measure.Measure.{Measure}
 use Rattle.st_parse.specs.Limits.{first_that}
 use Rattle.st_parse.specs.inner.Surveys.{Is}
+use Rattle.st_draft.proofs.ListenerLemmas.{mapped}
+use Rattle.st_measure.proofs.Highest.{capped_max}
 
 -- ---- parts that stand together
-
-pub capped_max : (a b : ℕ) → max (capped a) (capped b) ≡ capped (max a b)
-capped_max a b = omega arith
 
 -- nothing is measured before it
 pub alone : (k : ℕ) (vs : List Occurrence) (m : Measure) → Is (max 0 k) ([] ++ vs) m → Is k vs m
@@ -79,11 +78,6 @@ behind A f (y ∷ xs) x ys e = go (f y) (all_built f (xs ++ x ∷ [])) refl refl
 pub next_built : (A : Type 0) (f : List Action → Option A) (xs : List (List Action)) (i : ℕ) (x : List Action) (ys : List A) → i < length xs → x ≡ get_or xs i x
     → all_built f (take (i + 1) xs) ≡ Some ys → IsBehind A f (take i xs) x ys
 next_built A f xs i x ys h is e = behind A f (take i xs) x ys (ap (all_built f) (sym (next_taken xs i x h is)) ∙ e)
-
--- a function that is defined where the whole is
-pub mapped : (A B : Type 0) (f : A → B) (o : Option A) (b : B) → option_map f o ≡ Some b → (a : A) × (o ≡ Some a) × (f a ≡ b)
-mapped A B f None b e = absurd (cc)
-mapped A B f (Some a) b e = (a, refl, cc)
 
 -- each part is built, where all are
 pub nth_built : (A : Type 0) (f : List Action → Option A) (xs : List (List Action)) (i : ℕ) (x : List Action) (ys : List A) → all_built f xs ≡ Some ys → i < length xs → x ≡ get_or xs i x → (a : A) × (f x ≡ Some a)

@@ -2,18 +2,19 @@
 use Rattle.std.specs.Prelude.{ℕ, List, [], ◌∷◌, Option, Some, None, nat_lt, if◌then◌else◌}
 use Rattle.std.specs.Option.{option_or}
 use Rattle.st_num.specs.declared.span.Span.{Span}
+use Rattle.st_num.specs.declared.limit.TheConstants.{HIGHEST_TREE, MOST_PREMISES}
 use Rattle.st_el.specs.declared.definition.Def.{Def}
 use Rattle.st_measure.specs.Variables.{def_variables}
 use Rattle.st_measure.specs.Limits.{place_past}
 use Rattle.st_measure.specs.DefHeights.{def_height}
 
--- the first variable that has 255 others before it in its definition
+-- the first variable that has as many others before it in its definition as there may be
 abbrev pub variable_past : Def → Option Span
-variable_past d = place_past 255 (def_variables d)
+variable_past d = place_past MOST_PREMISES (def_variables d)
 
--- the place of a definition with a tree that is higher than 100
+-- the place of a definition with a tree that is too high
 abbrev pub tall_at : Span → ℕ → Option Span
-tall_at at height = if nat_lt 100 height then Some at else None
+tall_at at height = if nat_lt HIGHEST_TREE height then Some at else None
 
 abbrev pub too_tall : Def → Option Span
 too_tall d = tall_at d.at (def_height d)

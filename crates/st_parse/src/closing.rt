@@ -22,7 +22,7 @@ use crate::measure::{Measure, joined, without_variables};
 use crate::survey::{MemberHeights, PremiseMeasures, SideMeasures, Survey, surveyed};
 use st_draft::Ending;
 use st_measure::{NotationHeight, place_past};
-use st_num::{NoMemory, Span};
+use st_num::{HIGHEST_TREE, MOST_PREMISES, NoMemory, Span};
 use std::alloc::Global;
 
 /// The height of the highest of these alternatives.
@@ -187,7 +187,11 @@ fn node_measure<'a>(
 fn tall_at(at: Span, height: usize) -> Option<Span>
     ensures { (tall : ℕ) → height ≡ capped tall → result ≡ limits.tall_at at tall }
 {
-    if height > 100 { Some(at) } else { None }
+    if height > usize::from(HIGHEST_TREE) {
+        Some(at)
+    } else {
+        None
+    }
 }
 
 /// The open definition ends so, and a next one begins there.
@@ -212,7 +216,8 @@ pub(crate) fn close<'a>(
     let Some(measure) = measure else {
         return Ok(surveyed(alloc, past, tall, at));
     };
-    let past_here = place_past(alloc, measure.variables.as_slice(), 255)?;
+    let most = usize::from(MOST_PREMISES);
+    let past_here = place_past(alloc, measure.variables.as_slice(), most)?;
     let tall_here = tall_at(start, measure.height);
     Ok(surveyed(alloc, past.or(past_here), tall.or(tall_here), at))
 }

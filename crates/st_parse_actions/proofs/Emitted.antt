@@ -26,14 +26,11 @@ use Rattle.st_parse_builder.specs.declared.action.Action.TheVariants as action
 use Rattle.st_parse_builder.specs.inner.Actions.{post_acts}
 use Rattle.st_parse_builder.specs.inner.Emission as emission
 use Rattle.st_parse_actions.specs.inner.Emits.{lowering, closed, no_arguments_end, beginning_closing, opening as opens, beginning_opening, beginning, extending, separating, joining, behind_sign, behind, after, in_index, in_path, naming, name_index, emits, finishing}
-use Rattle.st_parse_actions.proofs.EndView.{open_marks, label_is, operand_settles, bracket_settles, lowering_is, part_end_is, closed_is, lower_marks}
+use Rattle.st_parse_actions.proofs.EndView.{open_marks, label_is, operand_settles, bracket_settles, lowering_is, part_end_is, closed_is, lower_marks, both_append}
 
 pub if_same : (b c : Bool) (x y u v : List Action) → b ≡ c → x ≡ u → y ≡ v → (if b then x else y) ≡ (if c then u else v)
 if_same b true x y u v e f g = ap (λ d. if d then x else y) e ∙ f
 if_same b false x y u v e f g = ap (λ d. if d then x else y) e ∙ g
-
-both_append : (a b c d : List Action) → a ≡ b → c ≡ d → a ++ c ≡ b ++ d
-both_append a b c d e f = ap (λ l. l ++ c) e ∙ ap (λ l. b ++ l) f
 
 -- ---- what begins
 

@@ -102,7 +102,7 @@ kind_end_is (tree.segment p o) (more ts q v) pre t fs = refl
 kind_end_is (tree.update p m x) ts pre t fs = refl
 kind_end_is (tree.below o i m x) ts pre t fs = refl
 
-both_append : (a b c d : List Action) → a ≡ b → c ≡ d → a ++ c ≡ b ++ d
+pub both_append : (a b c d : List Action) → a ≡ b → c ≡ d → a ++ c ≡ b ++ d
 both_append a b c d e f = ap (λ l. l ++ c) e ∙ ap (λ l. b ++ l) f
 
 pub closed_is : (x : Token) (t : Tree) (fs : part.Frames) → closed (open_marks fs) (frames_of fs) ≡ emission.closed x (t, fs)

@@ -1,4 +1,4 @@
-//! What the innermost frame says of the place in it.
+//! What the innermost frame says of the part in it.
 
 ghost use Rattle.std.specs.Prelude.{◌≡◌, reverse};
 ghost use Rattle.st_parse_automaton.specs.inner.PartAutomaton as parts;
@@ -17,7 +17,7 @@ fn frame_sort(frame: Frame) -> Sort
     }
 }
 
-/// The sort of the innermost place.
+/// The sort of the innermost part.
 pub(crate) fn innermost(base: Sort, frames: &[Frame]) -> Sort
     ensures { result ≡ parts.top base (reverse frames.now) }
 {
@@ -104,7 +104,7 @@ fn is_type(part: Part) -> bool
     matches!(part, Part::Typ(_))
 }
 
-/// Whether the sign is a mark behind the part.
+/// Whether the sign iterates the part.
 pub(crate) fn may_iterate(sort: Sort, part: Part, mark: Mark) -> bool
     ensures { result ≡ parts.may_iterate sort part mark }
 {

@@ -48,7 +48,7 @@ both_if b false o r q s e f g = ap (λ d. if d then o else r) e ∙ g
 pub both_and : (a b c d : Bool) → a ≡ b → c ≡ d → (a && c) ≡ (b && d)
 both_and a b c d e f = ap (λ v. v && c) e ∙ ap (λ v. b && v) f
 
--- ---- places
+-- ---- positions
 
 pub begin_def_is : (ds : def.Defs) (l : terminals.Terminal) (k : Keyword) → definitions.begin_def k [] ≡ option_map definitions_of (spec.begin_def ds l k)
 begin_def_is ds l key.SyntaxWord = refl

@@ -243,7 +243,7 @@ part_reads (tree.bracket (tree.update p m x) ts c) = refl
 part_reads (tree.bracket (tree.below o i m x) ts c) = refl
 part_reads (tree.led g t) = refl
 
--- ---- places
+-- ---- positions
 
 pub top_sort : (fs : part.Frames) → parts.top (base fs) (frames_of fs) ≡ part.sort fs
 top_sort (part.bottom σ) = refl

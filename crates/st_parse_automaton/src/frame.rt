@@ -234,7 +234,7 @@ pub(crate) fn dotted(part: Part) -> Part
     }
 }
 
-/// The part with a mark behind it.
+/// The part with an iteration sign behind it.
 pub(crate) fn marked(mark: Mark, part: Part) -> Part
     ensures { result ≡ parts.marked mark part }
 {
@@ -255,7 +255,7 @@ pub(crate) fn may_dot(sort: Sort, part: Part, touching: bool) -> bool
     }
 }
 
-/// Whether the sign is a mark behind the part.
+/// Whether the sign iterates the part.
 pub(crate) fn may_iterate(sort: Sort, part: Part, mark: Mark) -> bool
     ensures { result ≡ parts.may_iterate sort part mark }
 {

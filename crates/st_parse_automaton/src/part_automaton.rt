@@ -15,7 +15,7 @@ pub enum Shape {
 }
 
 /// What later tokens ask of a part: a function takes arguments, an atom goes on behind dots, and a
-/// type has marks and may be a parameter.
+/// type is iterated and may be a parameter.
 #[derive(Clone, Copy, Debug, PartialEq, Eq)]
 pub enum Part {
     Function,

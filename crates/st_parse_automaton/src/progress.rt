@@ -1,4 +1,4 @@
-//! Places, what is open there, and parts that begin and end there.
+//! Positions, what is open there, and parts that begin and end there.
 
 ghost use Rattle.std.specs.Prelude.{◌≡◌, reverse};
 ghost use Rattle.std.specs.Option.{option_map};

@@ -139,7 +139,7 @@ laid s u p h = grown s s u 0 p (omega arith) (omega arith) h
 
 -- ---- a function alone, and an atom
 
-rolled : (e : Exp) (n : Node-F Count Node Seg Exp) → opened e ≡ n → e ≡ exp (place e) (roll-Node n)
+pub rolled : (e : Exp) (n : Node-F Count Node Seg Exp) → opened e ≡ n → e ≡ exp (place e) (roll-Node n)
 rolled e n h = sym (roll-out-Exp e) ∙ ap (λ m. exp (place e) m) (sym (roll-out-Node (out-Exp e).node) ∙ ap roll-Node h)
 
 call_low : (n : Node-F Count Node Seg Exp) (name : List ℕ) (at : Span) → call_name n ≡ Some name → height (exp at (roll-Node n)) ≡ 1
@@ -201,7 +201,7 @@ alone e name h = ap height (rolled e (opened e) refl) ∙ call_low (opened e) na
 atomic : (e : Exp) → is_atom (opened e) ≡ true → height e ≡ 1
 atomic e h = ap height (rolled e (opened e) refl) ∙ atom_low (opened e) (place e) h
 
-second : (a b : Bool) → (a && b) ≡ true → b ≡ true
+pub second : (a b : Bool) → (a && b) ≡ true → b ≡ true
 second true b h = h
 second false b h = absurd (cc)
 

@@ -69,7 +69,7 @@ tall_star at t = search (rules, typ_lemmas)
 tall_quest : (at : Span) (t : Typ) → typ_height (typ_at at (typ_node.Quest t)) ≡ typ_height t + 1
 tall_quest at t = search (rules, typ_lemmas)
 
--- any mark but `?` makes a list
+-- any sign but `?` makes a list
 tall_mark : (m : Mark) (at : Span) (t : Typ) → typ_height (typ_at at (marked_node m t)) ≡ typ_height t + 1
 tall_mark mark.Question at t = tall_quest at t
 tall_mark m at t = tall_star at t
@@ -109,7 +109,7 @@ same_height at (NotNode-F.Seq ns) behind = refl
 same_height at (NotNode-F.Infix l m r) behind = refl
 same_height at (NotNode-F.Bracket m n) behind = refl
 
-rolled : (n : Notation) → notation_at (notation_place n) (roll-NotNode (out-NotNode (out-Notation n).node)) ≡ n
+pub rolled : (n : Notation) → notation_at (notation_place n) (roll-NotNode (out-NotNode (out-Notation n).node)) ≡ n
 rolled n = ap (λ m. notation_at (notation_place n) m) (roll-out-NotNode (out-Notation n).node) ∙ roll-out-Notation n
 
 pub tall_atom_on : (n : Notation) (x : Token) → notation_height (atom_on n x) ≡ notation_height n

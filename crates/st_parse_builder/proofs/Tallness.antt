@@ -54,7 +54,7 @@ tall_tuple at es = search (rules, the_lemmas)
 pub tall_call : (at : Span) (name : List ℕ) (es : List Exp) → height (exp at (node.Call name es)) ≡ highest (map height es) + 1
 tall_call at name es = search (rules, the_lemmas)
 
-heights_of : (fs : List (List ℕ × Exp)) → map (λ (f : List ℕ × ℕ). f.1) (map (λ (f : List ℕ × Exp). (f.0, height f.1)) fs) ≡ map field_height fs
+pub heights_of : (fs : List (List ℕ × Exp)) → map (λ (f : List ℕ × ℕ). f.1) (map (λ (f : List ℕ × Exp). (f.0, height f.1)) fs) ≡ map field_height fs
 heights_of [] = refl
 heights_of (f ∷ fs) = ap (λ hs. height f.1 ∷ hs) (heights_of fs)
 
@@ -64,7 +64,7 @@ tall_levels at fs = search (rules, the_lemmas)
 pub tall_fields : (at : Span) (fs : List (List ℕ × Exp)) → height (exp at (node.Fields fs)) ≡ highest (map field_height fs) + 1
 tall_fields at fs = tall_levels at fs ∙ ap (λ hs. highest hs + 1) (heights_of fs)
 
-max_assoc : (a b c : ℕ) → max (max a b) c ≡ max a (max b c)
+pub max_assoc : (a b c : ℕ) → max (max a b) c ≡ max a (max b c)
 max_assoc a b c = omega arith
 
 -- one more is behind

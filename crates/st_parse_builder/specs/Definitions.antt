@@ -122,7 +122,7 @@ abbrev pub sign_count : Terminal → Count
 sign_count (sign m x) = mark_count m
 sign_count l = mark_count mark.Question
 
--- A mark behind a `)` iterates what stands in the parentheses, which begins with their `(`.
+-- A sign behind a `)` iterates what stands in the parentheses, which begins with their `(`.
 abbrev pub iterated : List Terminal → Prem → Iterations → Prem
 iterated os p no_iterations = p
 iterated os p (closed i l) = iterated os p i

@@ -98,7 +98,7 @@ abbrev pub atom_on : Notation → Token → Notation
 atom_on n x =
     notation_at (notation_place n) (spelled_on (out-NotNode (out-Notation n).node) (name_of x.kind))
 
--- The marks behind a type, whose meaning is the first, are part of it.
+-- The iteration signs behind a type, whose meaning is the first, are part of it.
 abbrev pub notation_posted : Typ → Notation → Terminal → Notation
 notation_posted t n (sign m x) = hole (marked m t)
 notation_posted t n (dot x) = atom_on n x

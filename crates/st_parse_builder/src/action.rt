@@ -42,7 +42,7 @@ pub enum Action<'a> {
     Operand(Leaf, TokenRef<'a>),
     /// A dot with a name, behind the part on top.
     Dot(TokenRef<'a>),
-    /// A mark behind the part on top.
+    /// An iteration sign behind the part on top.
     Mark(Mark),
     /// The part on top is the count of the one below.
     Times,

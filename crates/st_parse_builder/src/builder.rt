@@ -12,7 +12,7 @@ ghost use Rattle.st_parse_builder.specs.inner.Building.{applied, run};
 ghost use Rattle.st_parse_builder.specs.inner.Pieces.{pieces, Makes};
 ghost use Rattle.st_parse_builder.specs.inner.Answers.{Fails, Overflows, Builds, Means};
 
-use crate::entry::{Entry, HIGHEST, Made};
+use crate::entry::{Entry, Made};
 use crate::leaf::copy_name;
 use crate::list::{end_call, end_fields, end_parens, end_sequence, field, first, part};
 use crate::make::{below, dot, enclose, join, length, marked, operand, prefix, times};
@@ -20,7 +20,7 @@ use crate::path::{change, position, slice, step_at, step_field, step_slice};
 use crate::pieces::{pop_done, push};
 use crate::{Action, BuildFault, Piece};
 use st_el::Exp;
-use st_num::{NoMemory, Row};
+use st_num::{HIGHEST_TREE, NoMemory, Row};
 use std::alloc::Global;
 
 /// A piece with no expression in it.
@@ -80,7 +80,7 @@ fn finish(stack: &mut Row<Entry>, made: Made) -> Result<(), BuildFault>
     ensures err { IfErr result (λ fault. Overflows made.piece fault) }
 {
     let Made { piece, height } = made;
-    if height > HIGHEST {
+    if height > HIGHEST_TREE {
         return Err(BuildFault::TooHigh);
     }
     push(stack, Entry { piece, height })?;

@@ -8,9 +8,6 @@ use crate::Piece;
 use st_el::{Exp, Seg};
 use st_num::{Name, Row, Span};
 
-/// The height that no tree of a source passes.
-pub const HIGHEST: u8 = 100;
-
 /// A piece on the stack, and the height of the highest expression in it.
 #[derive(Drop)]
 pub struct Entry {

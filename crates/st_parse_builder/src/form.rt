@@ -69,7 +69,7 @@ pub(crate) fn iterated(alloc: Global, exp: Exp, count: Count) -> Result<Exp, NoM
     })
 }
 
-/// What a mark counts.
+/// What an iteration sign counts.
 pub fn mark_count(mark: Mark) -> Count
     ensures { result ≡ meaning.mark_count mark }
 {

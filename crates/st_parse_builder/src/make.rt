@@ -66,7 +66,7 @@ pub(crate) fn join(
     Ok(Some(done(exp, height)))
 }
 
-/// Puts a mark behind the part on top.
+/// Puts an iteration sign behind the part on top.
 #[tactic(auto, using(crate::proofs::Tallness::tall_marked))]
 pub(crate) fn marked(
     alloc: Global,

@@ -11,7 +11,6 @@ ghost use Rattle.st_parse_builder.specs.Notations.{typ_meaning, notation_meaning
 ghost use Rattle.st_parse_builder.specs.inner.NotationBuilding.{applied, run, the_typ, the_notation, typ_built, notation_built};
 ghost use Rattle.st_parse_builder.specs.inner.NotationAnswers.{pieces, Makes, Fails, Builds};
 
-use crate::entry::HIGHEST;
 use crate::notation_entry::{NotationEntry, NotationMade};
 use crate::notation_make::{
     end_elements, end_types, first_element, leaf_part, next_part, notation_dot, notation_enclose,
@@ -20,7 +19,7 @@ use crate::notation_make::{
 use crate::notation_pieces::{put, take_notation, take_type};
 use crate::{Action, BuildFault, NotationPiece};
 use st_el::{Notation, Typ};
-use st_num::{NoMemory, Row};
+use st_num::{HIGHEST_TREE, NoMemory, Row};
 use std::alloc::Global;
 
 /// A piece with no type or notation in it.
@@ -78,7 +77,7 @@ fn finish(stack: &mut Row<NotationEntry>, made: NotationMade) -> Result<(), Buil
         Fails piece_heights.notation_piece_height (Some made.piece) fault) }
 {
     let NotationMade { piece, height } = made;
-    if height > HIGHEST {
+    if height > HIGHEST_TREE {
         return Err(BuildFault::TooHigh);
     }
     put(stack, NotationEntry { piece, height })?;
@@ -138,7 +137,7 @@ fn only_notation(stack: &mut Row<NotationEntry>) -> Result<Notation, BuildFault>
     if !stack.is_empty() {
         return Err(BuildFault::Unfit);
     }
-    if top.height > HIGHEST {
+    if top.height > HIGHEST_TREE {
         return Err(BuildFault::TooHigh);
     }
     Ok(top.notation)

@@ -59,7 +59,7 @@ pub(crate) fn hole(typ: Typ) -> Notation
     }
 }
 
-/// A type with a mark.
+/// An iterated type.
 pub(crate) fn marked(alloc: Global, mark: Mark, typ: Typ) -> Result<Typ, NoMemory>
     ensures { IfOk result (λ whole. whole ≡ notations.marked mark typ) }
 {

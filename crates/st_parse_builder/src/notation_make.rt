@@ -85,7 +85,7 @@ pub(crate) fn notation_dot(
     Ok(Some(made_whole(notation, height)))
 }
 
-/// Puts a mark behind the type on top.
+/// Puts an iteration sign behind the type on top.
 #[tactic(auto, using(crate::proofs::NotationTallness::tall_typ_marked))]
 pub(crate) fn typ_mark(
     alloc: Global,

@@ -6,7 +6,7 @@ use st_num::{Row, Span};
 /// A piece of a type or a notation that is built.
 #[derive(Drop)]
 pub enum NotationPiece {
-    /// A finished type, which may have further marks.
+    /// A finished type, which may be iterated further.
     Hole(Typ),
     /// A finished notation that is no type alone.
     Whole(Notation),

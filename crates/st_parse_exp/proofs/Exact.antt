@@ -85,7 +85,7 @@ is_refused names tokens k r h (inr (e, i, (seen, f, n))) =
           absurd (cc),
     )
 
--- no fault stands behind the refused place
+-- no fault stands behind the refused token
 pub not_later : (names : List (List ℕ)) (tokens : List Token) (j k : ℕ) (r : RuleId) → RefusedAt names tokens j → FirstFault names tokens k r → k ≤ j
 not_later names tokens j k r f g = go (nat_lt j k) refl
   where

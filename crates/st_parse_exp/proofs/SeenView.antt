@@ -261,7 +261,7 @@ turns names s x t h f e =
     (separates_is s l h ∙ ap (λ q. signed is_comma l && is_some q) f ∙ ap (λ b. b && true) e)
     ∙ sym (comma_turns s x l c.0 c.1 t c.2 c.3 f)
 
-and_false : (b : Bool) → (b && false) ≡ false
+pub and_false : (b : Bool) → (b && false) ≡ false
 and_false true = refl
 and_false false = refl
 

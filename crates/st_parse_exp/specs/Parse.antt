@@ -1,5 +1,6 @@
 -- What the parser of expressions answers.
 use Rattle.std.specs.Prelude.{◌≡◌, ℕ, ◌≤◌, ◌<◌, ◌⊎◌, List, map, Result, Ok, Err, ⊤}
+use Rattle.st_num.specs.declared.limit.TheConstants.{HIGHEST_TREE}
 use Rattle.st_num.specs.declared.span.Span.{Span}
 use Rattle.st_num.specs.declared.rule.RuleId.{RuleId}
 use Rattle.st_num.specs.declared.rule.RuleId.TheVariants.{S2}
@@ -31,18 +32,19 @@ FaultAt names tokens at rule = (k : ℕ) × FirstFault names tokens k rule × (a
 -- No token has a fault, and an expression is too high: that stands at the first token.
 abbrev pub HeightFault : List (List ℕ) → List Token → Span → RuleId → Type 0
 HeightFault names tokens at rule =
-    (exps : List Exp) × IsFile names tokens exps × (100 < highest (map height exps)) × (rule ≡ S2)
-    × (at ≡ place_at tokens 0)
+    (exps : List Exp) × IsFile names tokens exps × (HIGHEST_TREE < highest (map height exps))
+    × (rule ≡ S2) × (at ≡ place_at tokens 0)
 
 -- what is answered where these expressions are built
 abbrev pub AreWhole : List Token → List Exp → Result (List Exp) SyntaxFault → Type 0
-AreWhole tokens es (Ok built) = (built ≡ es) × (highest (map height es) ≤ 100)
+AreWhole tokens es (Ok built) = (built ≡ es) × (highest (map height es) ≤ HIGHEST_TREE)
 AreWhole tokens es (Err (Refused at rule)) =
-    (100 < highest (map height es)) × (rule ≡ S2) × (at ≡ place_at tokens 0)
+    (HIGHEST_TREE < highest (map height es)) × (rule ≡ S2) × (at ≡ place_at tokens 0)
 AreWhole tokens es (Err Memory) = ⊤
 
 abbrev pub Answers : List (List ℕ) → List Token → Result (List Exp) SyntaxFault → Type 0
-Answers names tokens (Ok exps) = IsFile names tokens exps × (highest (map height exps) ≤ 100)
+Answers names tokens (Ok exps) =
+    IsFile names tokens exps × (highest (map height exps) ≤ HIGHEST_TREE)
 Answers names tokens (Err (Refused at rule)) =
     FaultAt names tokens at rule ⊎ HeightFault names tokens at rule
 Answers names tokens (Err Memory) = ⊤

@@ -1,6 +1,7 @@
 //! The verdict on one token of expressions.
 
 ghost use Rattle.std.specs.Prelude.{◌≡◌, ◌≤◌, IfOk, [], reverse};
+ghost use Rattle.st_num.specs.declared.limit.TheConstants.{HIGHEST_TREE};
 ghost use Rattle.st_parse_faults.specs.inner.Seen as seen;
 ghost use Rattle.st_parse_automaton.specs.inner.DefinitionAutomaton as definitions;
 ghost use Rattle.st_parse_automaton.specs.declared.position.Slot.TheVariants as slot;
@@ -26,7 +27,7 @@ fn start(alloc: Global) -> Progress
 
 /// What is known where an expression begins.
 pub(crate) fn begin(alloc: Global, nesting: u8) -> Result<Seen, NoMemory>
-    requires { nesting ≤ 100 }
+    requires { nesting ≤ HIGHEST_TREE }
     ensures value { IfOk result (λ next. seen.summary_of next
         ≡ seen.nothing_counted (definitions.start_of slot.Rule []) nesting) }
     ensures bound { IfOk result (λ next. seen.SeenKept next) }

@@ -70,7 +70,7 @@ is_refused tokens k r h (inr (e, i, (seen, f, n))) =
           absurd (cc),
     )
 
--- no fault stands behind the refused place
+-- no fault stands behind the refused token
 pub not_later : (tokens : List Token) (j k : ℕ) (r : RuleId) → RefusedAt tokens j → FirstFault tokens k r → k ≤ j
 not_later tokens j k r f g = go (nat_lt j k) refl
   where

@@ -16,7 +16,7 @@ use Rattle.st_grammar.specs.Positions.{State, at, inside, hinted, premise_open, 
 use Rattle.st_parse_faults.specs.declared.before.Before.{Before}
 use Rattle.st_parse_faults.specs.declared.before.Before.TheVariants as before
 
--- In such a place this is a type, perhaps with marks.
+-- In such a part this is a type, perhaps iterated.
 abbrev pub is_type_in : Sort → Tree → Bool
 is_type_in typ t = true
 is_type_in notation t = is_type t

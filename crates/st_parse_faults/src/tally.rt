@@ -51,33 +51,30 @@ fn begun(tally: Tally) -> u32
     }
 }
 
+/// The tally where a part goes on, with so many elements, signs between two sides and signs in a
+/// row.
+fn going(tally: Tally, elements: u32, signs: u32, row: u32) -> Tally
+    requires { roles.TallyKept tally }
+    ensures { result ≡ limits.tally (roles.begun tally) elements signs row Prelude.false }
+{
+    Tally {
+        parts: begun(tally),
+        elements,
+        signs,
+        row,
+        due: false,
+    }
+}
+
 /// The tally behind such a role.
 fn counted(tally: Tally, role: TokenRole) -> Tally
     requires { roles.TallyKept tally }
     ensures { result ≡ roles.counted tally role }
 {
     match role {
-        TokenRole::Operand => Tally {
-            parts: begun(tally),
-            elements: tally.elements + 1,
-            row: 0,
-            due: false,
-            ..tally
-        },
-        TokenRole::Prefix => Tally {
-            parts: begun(tally),
-            elements: 0,
-            row: tally.row + 1,
-            due: false,
-            ..tally
-        },
-        TokenRole::Infix => Tally {
-            parts: begun(tally),
-            elements: 0,
-            signs: tally.signs + 1,
-            row: 0,
-            due: false,
-        },
+        TokenRole::Operand => going(tally, tally.elements + 1, tally.signs, 0),
+        TokenRole::Prefix => going(tally, 0, tally.signs, tally.row + 1),
+        TokenRole::Infix => going(tally, 0, tally.signs + 1, 0),
         TokenRole::Postfix => Tally {
             row: tally.row + 1,
             ..tally

@@ -13,6 +13,7 @@ use Rattle.st_parse_builder.specs.Meaning.{meaning, is_atom, opened}
 use Rattle.st_parse_law.specs.Written.{Piece, bytes_of, shape, shapes_behind, AreApart}
 use Rattle.st_parse_law.proofs.Cuts.{touch}
 use Rattle.st_parse_law.proofs.Ends.{Clear, clear_more, Front}
+use Rattle.st_grammar.specs.Definitions.{is_bar}
 
 -- what may stand round a part: how tightly it holds together, whether a dot or a `+` may touch it,
 -- and whether it begins with no bar
@@ -28,11 +29,6 @@ pub record Within (less more : Traits) : Type 0 where
   pub dots : less.dots ≡ true → more.dots ≡ true
   pub plus : less.plus ≡ true → more.plus ≡ true
   pub no_bar : less.no_bar ≡ true → more.no_bar ≡ true
-
--- the text begins with a bar
-abbrev pub is_bar : Terminal → Bool
-is_bar (closing by_bar x) = true
-is_bar l = false
 
 abbrev pub starts_bar : List Terminal → Bool
 starts_bar [] = false

@@ -39,6 +39,7 @@ use Rattle.st_parse_law.proofs.Parts.{part_as}
 use Rattle.st_parse_law.proofs.Wraps.{signed, no_atom_at}
 use Rattle.st_parse_law.proofs.Placed.{Home, sort_of, bare_traits, place_traits, Printable, printable, placed, normal}
 use Rattle.st_parse_law.proofs.Suffixes.{Suffix, suffixed}
+use Rattle.st_parse_exp.proofs.SeenView.{and_false}
 
 -- nodes with the same plain parts are the same in plain trees
 pub same_plain :
@@ -60,10 +61,6 @@ operand_then names σ e at n l d is tight ok fronts x suffix =
     (placed names σ e (operand_before a d) home (omega arith) x) (suffix a home)))
 
 -- ---- dots
-
-and_false : (b : Bool) → (b && false) ≡ false
-and_false true = refl
-and_false false = refl
 
 dotted_is : (e : Exp) (x : Token) (field : List ℕ) → is_atom (opened e) ≡ false → x.kind ≡ kind.Dot field → dotted e x ≡ exp (place e) (node.Dot e field)
 dotted_is e x field h k =

@@ -16,10 +16,10 @@ use Rattle.st_grammar.specs.Levels.{encloses}
 use Rattle.st_grammar.specs.Terminals.{Terminal, leaf, dot, sign, opening, closing, other, terminal}
 use Rattle.st_grammar.specs.Trees.{Tree, operand, post, times, bracket, led, left, ahead, items, Trees, none, more, Heading, plain, length as bar_length, arguments, index, segment, update, below, Path, head, field, part, text, texts, heading_text, path_text, closes}
 use Rattle.st_grammar.specs.Grammar.{Fits, HeadingFits, PathFits, FollowsAll, follows, text_follows, is_function, level}
-use Rattle.st_grammar.specs.Definitions.{token_in}
+use Rattle.st_grammar.specs.Definitions.{token_in, is_bar}
 use Rattle.st_grammar.proofs.TerminalTokens.{terminal_token}
 use Rattle.st_parse_law.specs.Written.{Piece, space, token, shape, shapes_behind}
-use Rattle.st_parse_law.proofs.Parts.{starts_bar, is_bar}
+use Rattle.st_parse_law.proofs.Parts.{starts_bar}
 
 -- ---- what an operand begins with
 

@@ -26,7 +26,8 @@ use Rattle.st_parse_law.specs.Written.{Piece, token, bytes_of, shape, shapes_beh
 use Rattle.st_parse_law.proofs.Cuts.{touch, touch-append, bytes-append, parted, cut, single, one_terminal, terminals_of_both}
 use Rattle.st_parse_law.proofs.Ends.{Clear, Front, last_ends, First, first_ends, Closer, by_round, by_bar as bar_closes, first_round, first_dollar, first_bar, closer_clear, closer_last, front_more}
 use Rattle.st_parse_law.proofs.Plains.{plain-at, plain-again, node-of}
-use Rattle.st_parse_law.proofs.Parts.{Traits, Part, Read, is_arithmetic, is_bar, starts_bar}
+use Rattle.st_grammar.specs.Definitions.{is_bar}
+use Rattle.st_parse_law.proofs.Parts.{Traits, Part, Read, is_arithmetic, starts_bar}
 
 -- the piece of a sign
 abbrev pub signed : Mark → Piece

@@ -77,7 +77,7 @@ entering position.Dotted = change.Dots
 entering position.Between = change.End (ending.Cases true)
 entering p = change.Nothing
 
--- what changes from a place to a place
+-- what changes from a position to a position
 abbrev pub change_at : Position → Position → Change
 change_at position.Between after = change.Begin ending.Nothing
 change_at position.SyntaxName after = change.Name
@@ -103,7 +103,7 @@ behind_arguments slot.Fun = change.Params
 behind_arguments slot.Rule = change.Args
 behind_arguments s = change.Nothing
 
--- what changes from a place into a part
+-- what changes from a position into a part
 abbrev pub change_into : Position → Slot → Change
 change_into position.FunNamed s = behind_arguments s
 change_into (position.ArgumentsClosed b) s = behind_arguments s
@@ -115,7 +115,7 @@ abbrev pub change_to : Position → Position → List Bracket → Change
 change_to before (position.Iterated iterations.Complete) ks = change.Mark (length ks)
 change_to before after ks = change_at before after
 
--- what a token changes that leads from this place there
+-- what a token changes that leads from this position there
 abbrev pub change_of : Position → definitions.State → Change
 change_of before (definitions.at p ks) = change_to before p ks
 change_of before (definitions.inside s st ks) = change_into before s

@@ -281,7 +281,7 @@ each_put n c p =
       prem = each_of (span_or (slice_get p.opened n)) c p.prem;
     }
 
--- the count that a mark stands for
+-- the count that an iteration sign stands for
 abbrev pub shape_count : Shape → Count
 shape_count (Sign m) = mark_count m
 shape_count sh = mark_count mark.Question

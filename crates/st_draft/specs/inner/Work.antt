@@ -72,9 +72,9 @@ part_work s st l x w =
       words = words_after s l x w.words;
     }
 
--- ---- places
+-- ---- positions
 
--- a token that leads from a place to this state
+-- a token that leads from a position to this state
 abbrev pub redrafted_work : definitions.State → Position → TokenClass → Token → Work → Option Work
 redrafted_work after p l x w =
     option_map

@@ -109,7 +109,7 @@ balance [] (Close c) = None
 balance (k ∷ ks) (Close c) = if agree (closed_by k) c then Some ks else None
 balance ks s = Some ks
 
--- ---- places
+-- ---- positions
 
 abbrev pub slot_sort : Slot → Sort
 slot_sort slot.Field = sort.Typ

@@ -35,7 +35,7 @@ use Rattle.st_parse_automaton.specs.declared.part_automaton.Expected.TheVariants
 abbrev pub State : Type 0
 State = Expected × List Frame
 
--- ---- places
+-- ---- positions
 
 abbrev pub frame_sort : Frame → Sort
 frame_sort (Within k f t σ) = σ
@@ -133,7 +133,7 @@ abbrev pub kind_part : Kind → Bool → Part
 kind_part (Plain bracket.Round) t = Typ t
 kind_part k t = Whole
 
--- a part with a dot, and with a mark behind it
+-- a part with a dot, and with an iteration sign behind it
 abbrev pub dotted : Part → Part
 dotted Atom = Atom
 dotted p = Whole

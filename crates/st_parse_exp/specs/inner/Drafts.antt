@@ -1,5 +1,6 @@
 -- What is built of expressions while their tokens are read.
 use Rattle.std.specs.Prelude.{◌≡◌, ◌≤◌, ◌<◌, List, [], ◌∷◌, ◌++◌, map, Bool, true, false, Option, Some, None}
+use Rattle.st_num.specs.declared.limit.TheConstants.{HIGHEST_TREE}
 use Rattle.st_num.specs.declared.mark.Mark.{Mark}
 use Rattle.st_scan.specs.declared.token.Token.{Token}
 use Rattle.st_grammar.specs.declared.sort.Sort.TheVariants.{Expression as expression}
@@ -16,13 +17,13 @@ use Rattle.st_parse_actions.specs.inner.Emits as emits
 
 -- the expression that is built of one that means this, where it is not too high
 abbrev pub IsBuilt : Exp → Option Exp → Type 0
-IsBuilt e (Some built) = (built ≡ e) × (height e ≤ 100)
-IsBuilt e None = 100 < height e
+IsBuilt e (Some built) = (built ≡ e) × (height e ≤ HIGHEST_TREE)
+IsBuilt e None = HIGHEST_TREE < height e
 
 -- the same of several
 abbrev pub AreBuilt : List Exp → Option (List Exp) → Type 0
-AreBuilt es (Some built) = (built ≡ es) × (highest (map height es) ≤ 100)
-AreBuilt es None = 100 < highest (map height es)
+AreBuilt es (Some built) = (built ≡ es) × (highest (map height es) ≤ HIGHEST_TREE)
+AreBuilt es None = HIGHEST_TREE < highest (map height es)
 
 abbrev pub with_exp : Option (List Exp) → Option Exp → Option (List Exp)
 with_exp (Some es) (Some e) = Some (es ++ e ∷ [])

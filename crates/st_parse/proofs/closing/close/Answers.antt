@@ -1,4 +1,5 @@
 use Rattle.std.proofs.Common.{Option, ap, ◌∙◌}
+use Rattle.st_num.specs.declared.limit.TheConstants.{MOST_PREMISES}
 use Rattle.st_el.specs.declared.definition.DefNode.{DefNode}
 use Rattle.st_draft.specs.inner.Drafts.{node_of}
 use Rattle.st_measure.specs.Variables.{occurrences}
@@ -14,7 +15,7 @@ returns c d i =
     record {
       past = next.past ∙ c.or.ensures
           ∙ past_put d node c.in_ok-measure.measure c.in-Some.measure c.args.survey.past c.in_ok-past_here.past_here of_node c.in-Some.is i.past
-          (c.in_ok-past_here.ensures ∙ ap (λ tokens. place_past 255 (occurrences tokens)) c.as_slice.ensures);
+          (c.in_ok-past_here.ensures ∙ ap (λ tokens. place_past MOST_PREMISES (occurrences tokens)) c.as_slice.ensures);
       tall = next.tall ∙ c.or-2.ensures
           ∙ tall_put d node c.in_ok-measure.measure c.in-Some.measure c.args.survey.at c.args.survey.tall c.tall_at-tall_here.result of_node c.in-Some.is i.tall i.at c.tall_at-tall_here.ensures;
       at = next.at;
