@@ -4,6 +4,5 @@
 pub mod LineText
 -- a line has one text, a text one line, and a text no line feed
 pub mod Laws
-
 -- ---- what only proofs need
 pub mod inner

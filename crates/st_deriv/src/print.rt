@@ -10,8 +10,8 @@ ghost use Rattle.st_deriv.specs.declared.line.Line.TheVariants.{Node};
 
 use crate::{Ending, Line, NodeLine};
 use st_il::Value;
-use st_text::{print_natural, print_quoted};
 use st_num::NoMemory;
+use st_text::{print_natural, print_quoted};
 
 /// Appends the texts of the lines, each with a line feed behind it.
 pub fn print_lines(lines: &[Line], out: &mut Vec<u8>) -> Result<(), NoMemory>

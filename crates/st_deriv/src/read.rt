@@ -14,8 +14,8 @@ use crate::part::{
 };
 use crate::{Line, NodeLine};
 use st_il::{Env, Value};
-use st_text::{TextFault, TextTree, read_row};
 use st_num::{Name, Row};
+use st_text::{TextFault, TextTree, read_row};
 use std::alloc::Global;
 
 /// The line whose text the bytes are, without its line feed.

@@ -5,8 +5,8 @@ ghost use Rattle.std.specs.List.{All};
 ghost use Rattle.st_deriv.specs.LineText.{HasText};
 
 use crate::{Line, print_lines, read_line};
-use st_text::TextFault;
 use st_num::Row;
+use st_text::TextFault;
 use std::alloc::Global;
 use std::test::Fail;
 

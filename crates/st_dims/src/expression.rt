@@ -142,13 +142,34 @@ fn mention_node(
         Node::Fields(fields) => mention_fields(alloc, fields.as_slice(), within, mentions),
         Node::At(whole, from) => mention_two(alloc, whole.get(), from.get(), within, mentions),
         Node::Slice(whole, from, length) => {
-            mention_three(alloc, whole.get(), from.get(), length.get(), within, mentions)
+            mention_three(
+                alloc,
+                whole.get(),
+                from.get(),
+                length.get(),
+                within,
+                mentions,
+            )
         }
         Node::Update(whole, path, part) => {
-            mention_change(alloc, whole.get(), path.as_slice(), part.get(), within, mentions)
+            mention_change(
+                alloc,
+                whole.get(),
+                path.as_slice(),
+                part.get(),
+                within,
+                mentions,
+            )
         }
         Node::Extend(whole, path, part) => {
-            mention_change(alloc, whole.get(), path.as_slice(), part.get(), within, mentions)
+            mention_change(
+                alloc,
+                whole.get(),
+                path.as_slice(),
+                part.get(),
+                within,
+                mentions,
+            )
         }
         Node::Call(_, parts) => mention_exps(alloc, parts.as_slice(), within, mentions),
         Node::Iter(body, count) => {

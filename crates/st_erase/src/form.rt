@@ -15,7 +15,10 @@ use std::collections::VecDeque;
 pub fn unplaced(node: Node) -> Exp
     ensures { result ≡ exp node }
 {
-    Exp { at: Span::NOWHERE, node }
+    Exp {
+        at: Span::NOWHERE,
+        node,
+    }
 }
 
 pub fn plain_form(node: Node) -> Erased

@@ -8,6 +8,5 @@ pub mod Definitions
 pub mod IlText
 -- an internal language has one text, and a text one internal language
 pub mod IlLaws
-
 -- ---- what only proofs need
 pub mod inner

@@ -16,6 +16,5 @@ pub mod Tokens
 pub mod Faults
 -- a file has one list of tokens, or one first fault
 pub mod Answers
-
 -- ---- what only proofs need
 pub mod inner

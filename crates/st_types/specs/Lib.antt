@@ -6,6 +6,5 @@ pub mod HasType
 pub mod Sub
 -- a value of a type has each type above it
 pub mod Laws
-
 -- ---- what only proofs need
 pub mod inner

@@ -53,9 +53,7 @@ fn is_contained(table: &TypeTable, lower: &Ty, upper: &Ty) -> bool
     ensures { IsTrue result ↔ IsContained table.now lower.now upper.now }
 {
     match (table.cases(lower), table.cases(upper)) {
-        (Some(cases), Some(others)) => {
-            all_stand_in(table, cases.as_slice(), others.as_slice())
-        }
+        (Some(cases), Some(others)) => { all_stand_in(table, cases.as_slice(), others.as_slice()) }
         _ => false,
     }
 }
@@ -91,11 +89,7 @@ fn is_below(table: &TypeTable, lower: &Ty, upper: &Ty) -> bool
 fn is_under(table: &TypeTable, lower: &Ty, upper: &Ty) -> bool
     ensures { IsTrue result ↔ IsUnder table.now lower.now upper.now }
 {
-    is_under_at(
-        table,
-        table.meaning(lower),
-        table.meaning(upper),
-    )
+    is_under_at(table, table.meaning(lower), table.meaning(upper))
 }
 
 /// The same of two meanings.

@@ -12,6 +12,5 @@ pub mod Table
 pub mod Reads
 -- a command loads these files, in this order
 pub mod FileNames
-
 -- ---- what only proofs need
 pub mod inner
