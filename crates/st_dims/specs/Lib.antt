@@ -8,6 +8,5 @@ pub mod Mentions
 pub mod Dimensions
 -- the first place that breaks a rule on dimensions
 pub mod Breaches
-
 -- ---- what only proofs need
 pub mod inner

@@ -4,6 +4,5 @@
 pub mod Exactly
 -- what an expression is inside of iterations, and the first breach in it
 pub mod Inside
-
 -- ---- what only proofs need
 pub mod inner

@@ -11,12 +11,12 @@ use crate::collection::{eps_row, other_row, sequence};
 use crate::inferred::arguments;
 use crate::record_row::{notation_row, record_row};
 use crate::turn::iteration_row;
+use st_dims::Within;
 use st_el::{Exp, Node};
 use st_elab_rows::ask::{asked_at, found_at};
 use st_elab_rows::asking::{Asking, Context, Found, Part};
 use st_elab_rows::fitting::{concatenation_row, fitted, give_at};
 use st_elab_rows::form::{inferable, is_run};
-use st_dims::Within;
 use st_elab_table::{ExpFault, Operator, operator_of};
 use st_il::{IlExp, Ty};
 

@@ -12,13 +12,13 @@ ghost use Rattle.st_elab_rows.specs.Parts.{TellsAll};
 ghost use Rattle.st_elab_rows.specs.inner.Continuing.{IsItem, LeadsToItem};
 ghost use Rattle.st_elab_rows.specs.inner.Words.{lift_of};
 
+use st_dims::Within;
 use st_el::Exp;
 use st_elab_rows::ask::{asked, asked_at, found};
 use st_elab_rows::asking::{Asking, Context, Found, Part};
 use st_elab_rows::fitting::{Lifting, give_at, lift};
 use st_elab_rows::form::{inferable, is_spliced, is_told_by_type};
 use st_elab_rows::found::{is_collection, raise};
-use st_dims::Within;
 use st_elab_table::ExpFault;
 use st_il::{IlExp, ListItem, Ty, copy_ty};
 use st_notation::Filled;

@@ -6,8 +6,8 @@ ghost use Rattle.st_elab_rows.specs.inner.Asking.{AnswersAll, LeadsTo, question,
 
 use crate::checked::checked_row;
 use crate::inferred::inferred_row;
-use st_elab_rows::asking::{Asking, Context, Found, Part};
 use st_dims::Within;
+use st_elab_rows::asking::{Asking, Context, Found, Part};
 use st_elab_table::{Decls, ExpFault, Scope};
 use std::alloc::Global;
 

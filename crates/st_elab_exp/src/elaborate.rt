@@ -14,9 +14,9 @@ ghost use Rattle.st_elab_exp.specs.Exactly.{IsGiven, IsRefused};
 
 use crate::driver::{DEPTH, answer};
 use crate::inside::check_inside;
+use st_dims::Within;
 use st_el::Exp;
 use st_elab_rows::asking::Asking;
-use st_dims::Within;
 use st_elab_table::{Decls, ExpFault, Scope};
 use st_il::{IlExp, Ty};
 use st_num::{Dim, NoMemory, Row};

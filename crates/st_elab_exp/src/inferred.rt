@@ -16,6 +16,7 @@ ghost use Rattle.st_elab_rows.specs.Parts.{TellsAll};
 ghost use Rattle.st_elab_exp.specs.inner.Pairs.{TellsPairs};
 
 use crate::turn::inferred_iteration;
+use st_dims::{Within, is_among};
 use st_el::{Exp, Node};
 use st_elab_rows::ask::{asked, found, found_at};
 use st_elab_rows::asking::{Asking, Context, Found, give};
@@ -26,7 +27,6 @@ use st_elab_rows::operand::{equation_row, logic_row, membership_row, not_row};
 use st_elab_rows::part::{field_row, length_row, position_row, slice_row};
 use st_elab_rows::path::{extension_row, update_row};
 use st_elab_rows::variable::{fun_named, scoped_type, type_of_name};
-use st_dims::{Within, is_among};
 use st_elab_table::{ExpFault, Operator, operator_of};
 use st_il::{IlExp, Ty, copy_ty};
 use st_num::{Mark, Name, NoMemory, Row, RuleId, Span};

@@ -15,12 +15,12 @@ ghost use Rattle.st_elab_table.specs.Records.{is_omissible, omitted, aligned, fi
 ghost use Rattle.st_elab_rows.specs.inner.Asking.{AnswersAll, LeadsTo};
 
 use crate::collection::{all_holes, other_row};
+use st_dims::Within;
 use st_el::Exp;
 use st_elab_rows::asking::{Asking, Context, Found, Part};
 use st_elab_rows::choice::{chosen_case, fill, shapes_of};
 use st_elab_rows::fitting::give_at;
 use st_elab_rows::record::field_types;
-use st_dims::Within;
 use st_elab_table::ExpFault;
 use st_il::{IlExp, Ty};
 use st_notation::{Filled, Shape};

@@ -12,12 +12,12 @@ ghost use Rattle.st_elab_rows.specs.inner.Asking.{AnswersAll, LeadsTo};
 ghost use Rattle.st_elab_rows.specs.Told.{Reaches};
 
 use crate::collection::other_row;
+use st_dims::{Within, kind_of};
 use st_el::{Count, Exp};
 use st_elab_rows::ask::{asked, asked_inside, found_inside};
 use st_elab_rows::asking::{Asking, Context, Found, Part, give};
 use st_elab_rows::form::goes_over_list;
 use st_elab_rows::iteration::iterated;
-use st_dims::{Within, kind_of};
 use st_elab_table::ExpFault;
 use st_il::{IlExp, Iteration, Ty, copy_ty};
 use st_num::{Boxed, Kind, NoMemory};

@@ -4,6 +4,5 @@
 pub mod Told
 -- several questions are answered one after another
 pub mod Parts
-
 -- ---- what only proofs need
 pub mod inner

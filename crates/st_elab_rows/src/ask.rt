@@ -5,8 +5,8 @@ ghost use Rattle.st_elab_table.specs.Steps.{asked, found};
 ghost use Rattle.st_elab_rows.specs.inner.Asking.{AnswersAll, Meets};
 
 use crate::asking::{Asking, Context, Found, Part};
-use st_el::Exp;
 use st_dims::Within;
+use st_el::Exp;
 use st_elab_table::ExpFault;
 use st_il::Ty;
 use st_num::Span;

@@ -4,8 +4,8 @@ ghost use Rattle.std.specs.Prelude.{◌≡◌, IfOk};
 ghost use Rattle.st_elab_table.specs.Steps.{made};
 ghost use Rattle.st_elab_rows.specs.inner.Asking.{made_by};
 
-use st_el::Exp;
 use st_dims::Within;
+use st_el::Exp;
 use st_elab_table::{Decls, Scope};
 use st_il::{IlExp, Ty};
 use st_num::{Boxed, NoMemory, Span};

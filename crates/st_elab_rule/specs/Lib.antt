@@ -12,6 +12,5 @@ pub mod Rules
 pub mod Clauses
 -- there is one outcome and no other
 pub mod Single
-
 -- ---- what only proofs need
 pub mod inner

@@ -5,11 +5,10 @@ ghost use Rattle.std.specs.Option.{option_copied};
 ghost use Rattle.st_elab_rows.specs.Told.{Told};
 ghost use Rattle.st_elab_rule.specs.Judgements.{relation_named, case_of, Judged, JudgedBreach};
 
+use st_dims::Within;
 use st_el::Exp;
 use st_elab_exp::{Decls, ExpFault, Scope, check_fillings};
 use st_elab_rows::choice::fill;
-use st_dims::Within;
-
 use st_il::{IlExp, RelationDef, copy_tys};
 use st_num::{Name, NoMemory, Row, RuleId};
 use st_types::CaseDef;

@@ -8,11 +8,10 @@ ghost use Rattle.st_elab_rows.specs.Told.{Told};
 ghost use Rattle.st_elab_rule.specs.Premises.{place_of, node_of, ElabPrem, PremBreach, ElabPrems, PremsBreach};
 
 use crate::judgement::{judged, relation_named};
+use st_dims::Within;
 use st_el::{Count, Exp, Prem, PremNode};
 use st_elab_exp::{Decls, ExpFault, Scope, check_count, check_inside};
 use st_elab_rows::iteration::iterated;
-use st_dims::Within;
-
 use st_il::{IlPrem, Ty};
 use st_num::{Boxed, Name, Row, RuleId, Span};
 use std::alloc::Global;

@@ -6,6 +6,5 @@ pub mod Types
 pub mod Signatures
 -- which holes of a relation are inputs, by its hints
 pub mod Modes
-
 -- ---- what only proofs need
 pub mod inner

@@ -13,6 +13,6 @@ mod laws;
 mod operator;
 
 pub use decls::{Decls, Scope};
-pub use st_num::Fault as ExpFault;
 pub use laws::one_answer;
 pub use operator::{Operator, operator_of};
+pub use st_num::Fault as ExpFault;

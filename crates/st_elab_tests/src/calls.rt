@@ -204,17 +204,11 @@ fn constant(alloc: Global) -> Result<FunDef, NoMemory> {
     })
 }
 
-fn expect_clause(
-    rt: &impl Abort,
-    alloc: Global,
-    decls: &Decls,
-    fun: &FunDef,
-) -> Result<(), Fail> {
+fn expect_clause(rt: &impl Abort, alloc: Global, decls: &Decls, fun: &FunDef) -> Result<(), Fail> {
     let value = unplaced(Node::Number(1));
     let none = Row::new(alloc);
     let premises = Row::new(alloc);
-    let clause =
-        elaborate_clause(alloc, decls, fun, Span::NOWHERE, &none, &value, &premises)?;
+    let clause = elaborate_clause(alloc, decls, fun, Span::NOWHERE, &none, &value, &premises)?;
     assert!(rt; clause.fun == fun.name && matches!(&clause.result, IlExp::Number(1)));
     Ok(())
 }

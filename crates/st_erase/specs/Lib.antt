@@ -14,6 +14,5 @@ pub mod Erasure
 pub mod Notations
 -- the source that a specification was written as
 pub mod Definitions
-
 -- ---- what only proofs need
 pub mod inner

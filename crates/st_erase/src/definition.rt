@@ -139,7 +139,10 @@ fn judged(alloc: Global, tag: &Name, operands: Row<Erased>) -> Result<Exp, NoMem
 fn prem(node: PremNode) -> Prem
     ensures { result ≡ prem node }
 {
-    Prem { at: Span::NOWHERE, node }
+    Prem {
+        at: Span::NOWHERE,
+        node,
+    }
 }
 
 #[cycle(prem)]

@@ -15,14 +15,20 @@ use std::collections::VecDeque;
 pub fn typ(node: TypNode) -> Typ
     ensures { result ≡ typ node }
 {
-    Typ { at: Span::NOWHERE, node }
+    Typ {
+        at: Span::NOWHERE,
+        node,
+    }
 }
 
 /// A notation that stands in no text.
 pub fn notation(node: NotNode) -> Notation
     ensures { result ≡ notation node }
 {
-    Notation { at: Span::NOWHERE, node }
+    Notation {
+        at: Span::NOWHERE,
+        node,
+    }
 }
 
 #[cycle(ty)]

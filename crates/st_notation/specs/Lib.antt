@@ -8,6 +8,5 @@ pub mod Key
 pub mod Fits
 -- a call answers the one filling, or that there is none
 pub mod Fitted
-
 -- ---- what only proofs need
 pub mod inner
