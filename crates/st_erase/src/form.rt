@@ -51,10 +51,10 @@ pub fn operation(left: Boxed<Exp>, sign: Mark, right: Boxed<Exp>) -> Erased
     arithmetic(Node::Binary(left, sign, right))
 }
 
-pub fn dot(record: Boxed<Exp>, field: Name) -> Erased
-    ensures { result ≡ plain_form (node.Dot record field) }
+pub fn dot(value: Boxed<Exp>, field: Name) -> Erased
+    ensures { result ≡ plain_form (node.Dot value field) }
 {
-    plain_form(Node::Dot(record, field))
+    plain_form(Node::Dot(value, field))
 }
 
 pub fn update(whole: Boxed<Exp>, path: Row<Seg>, part: Boxed<Exp>) -> Erased
