@@ -58,6 +58,15 @@ node-Fields node fields at within is = node-opened node _ at within (ap out-Node
 
 -- ---- what stands behind what was there
 
+pub two_end :
+    {A : Type 0} (old first a b whole : List A) → first ≡ old ++ a → whole ≡ a ++ b → first ++ b ≡ old ++ whole
+two_end old first a b whole f w = grind (arith, common_steps)
+
+pub three_end :
+    {A : Type 0} (old first second a b c whole : List A) → first ≡ old ++ a → second ≡ first ++ b → whole ≡ a ++ b ++ c
+    → second ++ c ≡ old ++ whole
+three_end old first second a b c whole f s w = grind (arith, common_steps)
+
 four_end :
     {A : Type 0} (old first a b c d : List A) → first ≡ old ++ a ++ b ++ c → first ++ d ≡ old ++ (a ++ b ++ c ++ d)
 four_end old first a b c d f = grind (arith, common_steps)

@@ -1,7 +1,7 @@
 //! What is mentioned in expressions.
 
 ghost use Rattle.std.specs.Prelude.{◌≡◌, ◌++◌, map, flat_map, IfOk, OnOk};
-ghost use Rattle.st_dims.specs.Mentions.{marked, body_round, names_in, occurrence, occurrences_in, occurrence_of, iteration, iterated, seen_in, mentions_exp, mentions_node, mentions_seg, fields_seen, field_mentions};
+ghost use Rattle.st_dims.specs.Mentions.{marked, body_round, names_in, occurrence, occurrences_in, occurrence_of, iteration, seen_in, mentions_exp, mentions_node, mentions_seg, fields_seen, field_mentions};
 ghost use Rattle.st_dims.specs.declared.mention.Mention.TheVariants.{Indexes};
 
 use crate::mention::{Iteration, Mention, Occurrence, must_iterate};
@@ -126,10 +126,12 @@ fn mention_node(
         Node::Atom(_) | Node::Bool(_) | Node::Number(_) | Node::Text(_) | Node::Eps => Ok(()),
         Node::Seq(parts) => mention_exps(alloc, parts.as_slice(), within, mentions),
         Node::Infix(left, _, right) => {
-            mention_two(alloc, left.get(), right.get(), within, mentions)
+            mention_exp(alloc, left.get(), within, mentions)?;
+            mention_exp(alloc, right.get(), within, mentions)
         }
         Node::Binary(left, _, right) => {
-            mention_two(alloc, left.get(), right.get(), within, mentions)
+            mention_exp(alloc, left.get(), within, mentions)?;
+            mention_exp(alloc, right.get(), within, mentions)
         }
         Node::Tuple(parts) => mention_exps(alloc, parts.as_slice(), within, mentions),
         Node::Not(inner)
@@ -140,112 +142,34 @@ fn mention_node(
         | Node::Dot(inner, _)
         | Node::Len(inner) => mention_exp(alloc, inner.get(), within, mentions),
         Node::Fields(fields) => mention_fields(alloc, fields.as_slice(), within, mentions),
-        Node::At(whole, from) => mention_two(alloc, whole.get(), from.get(), within, mentions),
+        Node::At(whole, from) => {
+            mention_exp(alloc, whole.get(), within, mentions)?;
+            mention_exp(alloc, from.get(), within, mentions)
+        }
         Node::Slice(whole, from, length) => {
-            mention_three(
-                alloc,
-                whole.get(),
-                from.get(),
-                length.get(),
-                within,
-                mentions,
-            )
+            mention_exp(alloc, whole.get(), within, mentions)?;
+            mention_exp(alloc, from.get(), within, mentions)?;
+            mention_exp(alloc, length.get(), within, mentions)
         }
         Node::Update(whole, path, part) => {
-            mention_change(
-                alloc,
-                whole.get(),
-                path.as_slice(),
-                part.get(),
-                within,
-                mentions,
-            )
+            mention_exp(alloc, whole.get(), within, mentions)?;
+            mention_path(alloc, path.as_slice(), within, mentions)?;
+            mention_exp(alloc, part.get(), within, mentions)
         }
         Node::Extend(whole, path, part) => {
-            mention_change(
-                alloc,
-                whole.get(),
-                path.as_slice(),
-                part.get(),
-                within,
-                mentions,
-            )
+            mention_exp(alloc, whole.get(), within, mentions)?;
+            mention_path(alloc, path.as_slice(), within, mentions)?;
+            mention_exp(alloc, part.get(), within, mentions)
         }
         Node::Call(_, parts) => mention_exps(alloc, parts.as_slice(), within, mentions),
         Node::Iter(body, count) => {
-            mention_iteration(alloc, body.get(), count, at, within, mentions)
+            let inside = within.inside(alloc, count)?;
+            let mut inner = Vec::new(alloc);
+            mention_exp(alloc, body.get(), &inside, &mut inner)?;
+            add_body(alloc, count, at, within, inner, mentions)?;
+            mention_count(alloc, count, within, mentions)
         }
     }
-}
-
-#[cycle(mention)]
-fn mention_two(
-    alloc: Global,
-    first: &Exp,
-    second: &Exp,
-    within: &Within,
-    mentions: &mut Vec<Mention>,
-) -> Result<(), NoMemory>
-    ensures { OnOk result (mentions.new.items ≡ mentions.old.items
-        ++ (mentions_exp first.now within.now ++ mentions_exp second.now within.now)) }
-{
-    mention_exp(alloc, first, within, mentions)?;
-    mention_exp(alloc, second, within, mentions)
-}
-
-#[cycle(mention)]
-fn mention_three(
-    alloc: Global,
-    first: &Exp,
-    second: &Exp,
-    third: &Exp,
-    within: &Within,
-    mentions: &mut Vec<Mention>,
-) -> Result<(), NoMemory>
-    ensures { OnOk result (mentions.new.items ≡ mentions.old.items
-        ++ (mentions_exp first.now within.now ++ mentions_exp second.now within.now
-        ++ mentions_exp third.now within.now)) }
-{
-    mention_two(alloc, first, second, within, mentions)?;
-    mention_exp(alloc, third, within, mentions)
-}
-
-/// A change of a part of a whole, at a path.
-#[cycle(mention)]
-fn mention_change(
-    alloc: Global,
-    whole: &Exp,
-    path: &[Seg],
-    part: &Exp,
-    within: &Within,
-    mentions: &mut Vec<Mention>,
-) -> Result<(), NoMemory>
-    ensures { OnOk result (mentions.new.items ≡ mentions.old.items
-        ++ (mentions_exp whole.now within.now ++ seen_in (map mentions_seg path.now) within.now
-        ++ mentions_exp part.now within.now)) }
-{
-    mention_exp(alloc, whole, within, mentions)?;
-    mention_path(alloc, path, within, mentions)?;
-    mention_exp(alloc, part, within, mentions)
-}
-
-#[cycle(mention)]
-fn mention_iteration(
-    alloc: Global,
-    body: &Exp,
-    count: &Count,
-    at: Span,
-    within: &Within,
-    mentions: &mut Vec<Mention>,
-) -> Result<(), NoMemory>
-    ensures { OnOk result (mentions.new.items ≡ mentions.old.items
-        ++ iterated (marked count.now) (mentions_exp body.now) at within.now) }
-{
-    let inside = within.inside(alloc, count)?;
-    let mut inner = Vec::new(alloc);
-    mention_exp(alloc, body, &inside, &mut inner)?;
-    add_body(alloc, count, at, within, inner, mentions)?;
-    mention_count(alloc, count, within, mentions)
 }
 
 #[cycle(mention)]

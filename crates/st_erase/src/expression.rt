@@ -1,13 +1,15 @@
 //! The source that an expression of the internal language was written as.
 
 ghost use Rattle.std.specs.Prelude.{◌≡◌, [], ◌∷◌, map, IfOk};
-ghost use Rattle.st_el.specs.declared.expression.Node.TheVariants as node;
 ghost use Rattle.st_erase.specs.Places.{whole, count};
-ghost use Rattle.st_erase.specs.Erasure.{one, source, list_of, case_by, plain_form, binary, operation, erased, erased_iteration, erased_item, erased_segment};
+ghost use Rattle.st_erase.specs.Erasure.{one, source, list_of, case_by, erased, erased_iteration, erased_item, erased_segment};
 ghost use Rattle.st_erase.specs.Tags.{template_of};
 
 use crate::filling::filled;
-use crate::form::{absent, arithmetic, lifted, plain_form, unplaced};
+use crate::form::{
+    absent, arithmetic, at, binary, call, dot, extension, iterated, lifted, operation, plain_form,
+    slice, unplaced, update,
+};
 use crate::operator::sign_of;
 use crate::record::record;
 use crate::template::template_of;
@@ -30,169 +32,46 @@ impl<'a> Eraser<'a> {
     pub fn erased(&self, exp: &IlExp) -> Result<Erased, NoMemory>
         ensures { IfOk result (λ found. found ≡ erased self.now.defs.now exp.now) }
     {
+        let sign = sign_of(exp);
         match exp {
             IlExp::Bool(truth) => Ok(plain_form(Node::Bool(*truth))),
             IlExp::Number(number) => Ok(plain_form(Node::Number(*number))),
             IlExp::Text(text) => Ok(plain_form(Node::Text(text.copy(self.alloc)?))),
             IlExp::Var(name) => Ok(plain_form(Node::Name(name.copy(self.alloc)?))),
-            IlExp::Not(inner) => Ok(plain_form(Node::Not(self.side(inner)?))),
-            IlExp::And(x, y) | IlExp::Or(x, y) => self.binary(x, sign_of(exp), y),
-            IlExp::Imp(x, y) | IlExp::Iff(x, y) => self.binary(x, sign_of(exp), y),
-            IlExp::Neg(inner) => Ok(arithmetic(Node::Neg(self.operand(inner)?))),
-            IlExp::Add(_, x, y) | IlExp::Sub(_, x, y) => self.operation(x, sign_of(exp), y),
-            IlExp::Mul(_, x, y) | IlExp::Div(_, x, y) => self.operation(x, sign_of(exp), y),
-            IlExp::Rem(_, x, y) | IlExp::Pow(_, x, y) => self.operation(x, sign_of(exp), y),
-            IlExp::Eq(x, y) | IlExp::Ne(x, y) => self.binary(x, sign_of(exp), y),
-            IlExp::Lt(x, y) | IlExp::Gt(x, y) => self.binary(x, sign_of(exp), y),
-            IlExp::Le(x, y) | IlExp::Ge(x, y) => self.binary(x, sign_of(exp), y),
-            IlExp::Member(x, y) => self.binary(x, sign_of(exp), y),
+            IlExp::Not(x) => Ok(plain_form(Node::Not(self.side(x)?))),
+            IlExp::And(x, y) | IlExp::Or(x, y) => Ok(binary(self.side(x)?, sign, self.side(y)?)),
+            IlExp::Imp(x, y) | IlExp::Iff(x, y) => Ok(binary(self.side(x)?, sign, self.side(y)?)),
+            IlExp::Neg(x) => Ok(arithmetic(Node::Neg(self.operand(x)?))),
+            IlExp::Add(_, x, y) | IlExp::Sub(_, x, y) | IlExp::Mul(_, x, y) => {
+                Ok(operation(self.operand(x)?, sign, self.operand(y)?))
+            }
+            IlExp::Div(_, x, y) | IlExp::Rem(_, x, y) | IlExp::Pow(_, x, y) => {
+                Ok(operation(self.operand(x)?, sign, self.operand(y)?))
+            }
+            IlExp::Eq(x, y) | IlExp::Ne(x, y) => Ok(binary(self.side(x)?, sign, self.side(y)?)),
+            IlExp::Lt(x, y) | IlExp::Gt(x, y) => Ok(binary(self.side(x)?, sign, self.side(y)?)),
+            IlExp::Le(x, y) | IlExp::Ge(x, y) => Ok(binary(self.side(x)?, sign, self.side(y)?)),
+            IlExp::Member(x, y) => Ok(binary(self.side(x)?, sign, self.side(y)?)),
             IlExp::Case(_, tag, exps) => case(self.alloc, tag, self.all(exps)?),
             IlExp::Fields(ty, exps) => record(self.alloc, self.defs, ty, self.all(exps)?),
-            IlExp::Dot(value, field) => self.dot(value, field),
-            IlExp::Set(value, path, part) => self.update(value, path, part),
-            IlExp::Extend(value, path, part) => self.extension(value, path, part),
+            IlExp::Dot(x, field) => Ok(dot(self.side(x)?, field.copy(self.alloc)?)),
+            IlExp::Set(x, path, y) => Ok(update(self.side(x)?, self.path(path)?, self.side(y)?)),
+            IlExp::Extend(x, path, y) => {
+                Ok(extension(self.side(x)?, self.path(path)?, self.side(y)?))
+            }
             IlExp::Tuple(exps) => Ok(plain_form(Node::Tuple(self.wholes(exps)?))),
             IlExp::List(_, items) => self.list(items.as_slice()),
-            IlExp::Cat(x, y) | IlExp::Join(x, y) => self.binary(x, sign_of(exp), y),
+            IlExp::Cat(x, y) | IlExp::Join(x, y) => Ok(binary(self.side(x)?, sign, self.side(y)?)),
             IlExp::Empty(_) => Ok(plain_form(Node::Eps)),
-            IlExp::Present(inner) => self.element(inner.get()),
+            IlExp::Present(x) => self.element(x.get()),
             IlExp::Absent(_) => Ok(absent()),
-            IlExp::Len(inner) => Ok(plain_form(Node::Len(self.side(inner)?))),
-            IlExp::At(list, at) => self.at(list, at),
-            IlExp::Slice(list, from, count) => self.slice(list, from, count),
-            IlExp::Call(name, exps) => self.call(name, exps),
+            IlExp::Len(x) => Ok(plain_form(Node::Len(self.side(x)?))),
+            IlExp::At(x, y) => Ok(at(self.side(x)?, self.side(y)?)),
+            IlExp::Slice(x, y, z) => Ok(slice(self.side(x)?, self.side(y)?, self.side(z)?)),
+            IlExp::Call(name, exps) => Ok(call(name.copy(self.alloc)?, self.wholes(exps)?)),
             IlExp::Up(_, inner) => self.erased(inner.get()),
-            IlExp::Iter(iteration, _, body) => self.iterated(iteration, body),
+            IlExp::Iter(count, _, x) => Ok(iterated(self.side(x)?, self.iteration(count)?)),
         }
-    }
-
-    /// Two sides of a sign of logic, comparison, membership or `++`.
-    #[cycle(erase)]
-    fn binary(
-        &self,
-        left: &Boxed<IlExp>,
-        sign: Mark,
-        right: &Boxed<IlExp>,
-    ) -> Result<Erased, NoMemory>
-        ensures { IfOk result (λ found. found ≡ binary sign (erased self.now.defs.now left.now)
-            (erased self.now.defs.now right.now)) }
-    {
-        let left = self.side(left)?;
-        let right = self.side(right)?;
-        Ok(plain_form(Node::Binary(left, sign, right)))
-    }
-
-    /// Two operands of arithmetic.
-    #[cycle(erase)]
-    fn operation(
-        &self,
-        left: &Boxed<IlExp>,
-        sign: Mark,
-        right: &Boxed<IlExp>,
-    ) -> Result<Erased, NoMemory>
-        ensures { IfOk result (λ found. found ≡ operation sign (erased self.now.defs.now left.now)
-            (erased self.now.defs.now right.now)) }
-    {
-        let left = self.operand(left)?;
-        let right = self.operand(right)?;
-        Ok(arithmetic(Node::Binary(left, sign, right)))
-    }
-
-    #[cycle(erase)]
-    fn dot(&self, value: &Boxed<IlExp>, field: &Name) -> Result<Erased, NoMemory>
-        ensures { IfOk result (λ found. found
-            ≡ plain_form (node.Dot (whole (erased self.now.defs.now value.now)) field.now)) }
-    {
-        let value = self.side(value)?;
-        let field = field.copy(self.alloc)?;
-        Ok(plain_form(Node::Dot(value, field)))
-    }
-
-    #[cycle(erase)]
-    fn update(
-        &self,
-        value: &Boxed<IlExp>,
-        path: &Row<PathSeg>,
-        part: &Boxed<IlExp>,
-    ) -> Result<Erased, NoMemory>
-        ensures { IfOk result (λ found. found
-            ≡ plain_form (node.Update (whole (erased self.now.defs.now value.now))
-            (map (erased_segment self.now.defs.now) path.now)
-            (whole (erased self.now.defs.now part.now)))) }
-    {
-        let value = self.side(value)?;
-        let path = self.path(path)?;
-        let part = self.side(part)?;
-        Ok(plain_form(Node::Update(value, path, part)))
-    }
-
-    #[cycle(erase)]
-    fn extension(
-        &self,
-        value: &Boxed<IlExp>,
-        path: &Row<PathSeg>,
-        part: &Boxed<IlExp>,
-    ) -> Result<Erased, NoMemory>
-        ensures { IfOk result (λ found. found
-            ≡ plain_form (node.Extend (whole (erased self.now.defs.now value.now))
-            (map (erased_segment self.now.defs.now) path.now)
-            (whole (erased self.now.defs.now part.now)))) }
-    {
-        let value = self.side(value)?;
-        let path = self.path(path)?;
-        let part = self.side(part)?;
-        Ok(plain_form(Node::Extend(value, path, part)))
-    }
-
-    #[cycle(erase)]
-    fn at(&self, list: &Boxed<IlExp>, at: &Boxed<IlExp>) -> Result<Erased, NoMemory>
-        ensures { IfOk result (λ found. found
-            ≡ plain_form (node.At (whole (erased self.now.defs.now list.now))
-            (whole (erased self.now.defs.now at.now)))) }
-    {
-        let list = self.side(list)?;
-        let at = self.side(at)?;
-        Ok(plain_form(Node::At(list, at)))
-    }
-
-    #[cycle(erase)]
-    fn slice(
-        &self,
-        list: &Boxed<IlExp>,
-        from: &Boxed<IlExp>,
-        count: &Boxed<IlExp>,
-    ) -> Result<Erased, NoMemory>
-        ensures { IfOk result (λ found. found
-            ≡ plain_form (node.Slice (whole (erased self.now.defs.now list.now))
-            (whole (erased self.now.defs.now from.now))
-            (whole (erased self.now.defs.now count.now)))) }
-    {
-        let list = self.side(list)?;
-        let from = self.side(from)?;
-        let count = self.side(count)?;
-        Ok(plain_form(Node::Slice(list, from, count)))
-    }
-
-    #[cycle(erase)]
-    fn call(&self, name: &Name, exps: &Row<IlExp>) -> Result<Erased, NoMemory>
-        ensures { IfOk result (λ found. found
-            ≡ plain_form (node.Call name.now
-            (map whole (map (erased self.now.defs.now) exps.now)))) }
-    {
-        let name = name.copy(self.alloc)?;
-        let exps = self.wholes(exps)?;
-        Ok(plain_form(Node::Call(name, exps)))
-    }
-
-    #[cycle(erase)]
-    fn iterated(&self, iteration: &Iteration, body: &Boxed<IlExp>) -> Result<Erased, NoMemory>
-        ensures { IfOk result (λ found. found
-            ≡ plain_form (node.Iter (whole (erased self.now.defs.now body.now))
-            (erased_iteration self.now.defs.now iteration.now))) }
-    {
-        let body = self.side(body)?;
-        let iteration = self.iteration(iteration)?;
-        Ok(plain_form(Node::Iter(body, iteration)))
     }
 
     /// The source of an expression that is no operand of arithmetic.

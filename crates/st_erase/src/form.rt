@@ -1,13 +1,14 @@
 //! How erased expressions are made of their parts.
 
 ghost use Rattle.std.specs.Prelude.{◌≡◌, [], ◌∷◌, ◌++◌, IfOk, MatchOption};
+ghost use Rattle.st_el.specs.declared.expression.Node.TheVariants as node;
 ghost use Rattle.st_erase.specs.Places.{exp};
 ghost use Rattle.st_erase.specs.Filling.{sequence};
 ghost use Rattle.st_erase.specs.Erasure.{plain_form, arithmetic, absent, lifted};
 
 use crate::{Erased, Kind};
-use st_el::{Exp, Node};
-use st_num::{Boxed, NoMemory, Row, Span};
+use st_el::{Count, Exp, Node, Seg};
+use st_num::{Boxed, Mark, Name, NoMemory, Row, Span};
 use std::alloc::Global;
 use std::collections::VecDeque;
 
@@ -37,6 +38,62 @@ pub fn arithmetic(node: Node) -> Erased
         exp: unplaced(node),
         kind: Kind::Arithmetic,
     }
+}
+
+/// Two sides of a sign of logic, comparison, membership or `++`.
+pub fn binary(left: Boxed<Exp>, sign: Mark, right: Boxed<Exp>) -> Erased
+    ensures { result ≡ plain_form (node.Binary left sign right) }
+{
+    plain_form(Node::Binary(left, sign, right))
+}
+
+/// Two operands of arithmetic.
+pub fn operation(left: Boxed<Exp>, sign: Mark, right: Boxed<Exp>) -> Erased
+    ensures { result ≡ arithmetic (node.Binary left sign right) }
+{
+    arithmetic(Node::Binary(left, sign, right))
+}
+
+pub fn dot(value: Boxed<Exp>, field: Name) -> Erased
+    ensures { result ≡ plain_form (node.Dot value field) }
+{
+    plain_form(Node::Dot(value, field))
+}
+
+pub fn update(whole: Boxed<Exp>, path: Row<Seg>, part: Boxed<Exp>) -> Erased
+    ensures { result ≡ plain_form (node.Update whole path part) }
+{
+    plain_form(Node::Update(whole, path, part))
+}
+
+pub fn extension(whole: Boxed<Exp>, path: Row<Seg>, part: Boxed<Exp>) -> Erased
+    ensures { result ≡ plain_form (node.Extend whole path part) }
+{
+    plain_form(Node::Extend(whole, path, part))
+}
+
+pub fn at(list: Boxed<Exp>, position: Boxed<Exp>) -> Erased
+    ensures { result ≡ plain_form (node.At list position) }
+{
+    plain_form(Node::At(list, position))
+}
+
+pub fn slice(list: Boxed<Exp>, from: Boxed<Exp>, length: Boxed<Exp>) -> Erased
+    ensures { result ≡ plain_form (node.Slice list from length) }
+{
+    plain_form(Node::Slice(list, from, length))
+}
+
+pub fn call(name: Name, arguments: Row<Exp>) -> Erased
+    ensures { result ≡ plain_form (node.Call name arguments) }
+{
+    plain_form(Node::Call(name, arguments))
+}
+
+pub fn iterated(body: Boxed<Exp>, count: Count) -> Erased
+    ensures { result ≡ plain_form (node.Iter body count) }
+{
+    plain_form(Node::Iter(body, count))
 }
 
 /// What was left out.

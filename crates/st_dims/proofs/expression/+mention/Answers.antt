@@ -3,7 +3,7 @@ use Rattle.st_el.specs.declared.expression.Node.TheVariants as v
 use Rattle.st_dims.specs.declared.mention.Mention.{Mention}
 use Rattle.st_dims.specs.Mentions.{mentions_exp, marked, fields_seen, field_mentions}
 use Rattle.st_dims.proofs.Counts.{marked_round}
-use Rattle.st_dims.proofs.Nodes.{node-At, node-Slice, node-Update, node-Extend, node-Iter, node-Fields, iterated_end}
+use Rattle.st_dims.proofs.Nodes.{node-At, node-Slice, node-Update, node-Extend, node-Iter, node-Fields, two_end, three_end, iterated_end}
 use Rattle.st_dims.proofs.expression.+mention.Goals as goal
 
 pub mention_node-returns-in-Fields : goal.mention_node-returns-in-Fields
@@ -11,45 +11,40 @@ mention_node-returns-in-Fields t c =
     let P : List Mention → Type 0 = λ seen. OnOk c.mention_fields.result (c.mention_fields.new.mentions.items ≡ c.args.mentions.now.items ++ seen) in
     subst P (ap (λ fields. fields_seen (map field_mentions fields) c.args.within.now) c.as_slice-in-Fields.ensures ∙ sym (node-Fields c.args.node.now c.in-Fields.fields c.args.at c.args.within.now c.in-Fields.is)) c.mention_fields.ensures
 
-pub mention_node-returns-in-At : goal.mention_node-returns-in-At
-mention_node-returns-in-At t c =
-    let P : List Mention → Type 0 = λ seen. OnOk c.mention_two-in-At.result (c.mention_two-in-At.new.mentions.items ≡ c.args.mentions.now.items ++ seen) in
+pub mention_node-returns-in_ok-mention_exp-in-At : goal.mention_node-returns-in_ok-mention_exp-in-At
+mention_node-returns-in_ok-mention_exp-in-At t c =
+    let P : List Mention → Type 0 = λ items. OnOk c.mention_exp-in-At-2.result (c.mention_exp-in-At-2.new.mentions.items ≡ items) in
     let is = c.in-At.is ∙ ap (λ e. v.At e c.in-At.from) (sym c.get-in-At.ensures) ∙ ap (λ e. v.At c.get-in-At.result.now e) (sym c.get-in-At-2.ensures) in
-    subst P (sym (node-At c.args.node.now _ _ c.args.at c.args.within.now is)) c.mention_two-in-At.ensures
+    subst P (two_end _ _ _ _ _ c.in_ok-mention_exp-in-At.ensures (node-At c.args.node.now _ _ c.args.at c.args.within.now is)) c.mention_exp-in-At-2.ensures
 
-pub mention_node-returns-in-Slice : goal.mention_node-returns-in-Slice
-mention_node-returns-in-Slice t c =
-    let P : List Mention → Type 0 = λ seen. OnOk c.mention_three.result (c.mention_three.new.mentions.items ≡ c.args.mentions.now.items ++ seen) in
+pub mention_node-returns-in_ok-mention_exp-in-Slice-2 : goal.mention_node-returns-in_ok-mention_exp-in-Slice-2
+mention_node-returns-in_ok-mention_exp-in-Slice-2 t c =
+    let P : List Mention → Type 0 = λ items. OnOk c.mention_exp-in-Slice-3.result (c.mention_exp-in-Slice-3.new.mentions.items ≡ items) in
     let is = c.in-Slice.is ∙ ap (λ e. v.Slice e c.in-Slice.from c.in-Slice.length) (sym c.get-in-Slice.ensures)
     ∙ ap (λ e. v.Slice c.get-in-Slice.result.now e c.in-Slice.length) (sym c.get-in-Slice-2.ensures)
     ∙ ap (λ e. v.Slice c.get-in-Slice.result.now c.get-in-Slice-2.result.now e) (sym c.get-in-Slice-3.ensures) in
-    subst P (sym (node-Slice c.args.node.now _ _ _ c.args.at c.args.within.now is)) c.mention_three.ensures
+    subst P (three_end _ _ _ _ _ _ _ c.in_ok-mention_exp-in-Slice.ensures c.in_ok-mention_exp-in-Slice-2.ensures (node-Slice c.args.node.now _ _ _ c.args.at c.args.within.now is)) c.mention_exp-in-Slice-3.ensures
 
-pub mention_node-returns-in-Update : goal.mention_node-returns-in-Update
-mention_node-returns-in-Update t c =
-    let P : List Mention → Type 0 = λ seen. OnOk c.mention_change.result (c.mention_change.new.mentions.items ≡ c.args.mentions.now.items ++ seen) in
+pub mention_node-returns-in_ok-mention_path-in-Update : goal.mention_node-returns-in_ok-mention_path-in-Update
+mention_node-returns-in_ok-mention_path-in-Update t c =
+    let P : List Mention → Type 0 = λ items. OnOk c.mention_exp-in-Update-2.result (c.mention_exp-in-Update-2.new.mentions.items ≡ items) in
     let is = c.in-Update.is ∙ ap (λ e. v.Update e c.in-Update.path c.in-Update.part) (sym c.get-in-Update.ensures)
     ∙ ap (λ e. v.Update c.get-in-Update.result.now e c.in-Update.part) (sym c.as_slice-in-Update.ensures)
     ∙ ap (λ e. v.Update c.get-in-Update.result.now c.as_slice-in-Update.result.now e) (sym c.get-in-Update-2.ensures) in
-    subst P (sym (node-Update c.args.node.now _ _ _ c.args.at c.args.within.now is)) c.mention_change.ensures
+    subst P (three_end _ _ _ _ _ _ _ c.in_ok-mention_exp-in-Update.ensures c.in_ok-mention_path-in-Update.ensures (node-Update c.args.node.now _ _ _ c.args.at c.args.within.now is)) c.mention_exp-in-Update-2.ensures
 
-pub mention_node-returns-in-Extend : goal.mention_node-returns-in-Extend
-mention_node-returns-in-Extend t c =
-    let P : List Mention → Type 0 = λ seen. OnOk c.mention_change-in-Extend.result (c.mention_change-in-Extend.new.mentions.items ≡ c.args.mentions.now.items ++ seen) in
+pub mention_node-returns-in_ok-mention_path-in-Extend : goal.mention_node-returns-in_ok-mention_path-in-Extend
+mention_node-returns-in_ok-mention_path-in-Extend t c =
+    let P : List Mention → Type 0 = λ items. OnOk c.mention_exp-in-Extend-2.result (c.mention_exp-in-Extend-2.new.mentions.items ≡ items) in
     let is = c.in-Extend.is ∙ ap (λ e. v.Extend e c.in-Extend.path c.in-Extend.part) (sym c.get-in-Extend.ensures)
     ∙ ap (λ e. v.Extend c.get-in-Extend.result.now e c.in-Extend.part) (sym c.as_slice-in-Extend.ensures)
     ∙ ap (λ e. v.Extend c.get-in-Extend.result.now c.as_slice-in-Extend.result.now e) (sym c.get-in-Extend-2.ensures) in
-    subst P (sym (node-Extend c.args.node.now _ _ _ c.args.at c.args.within.now is)) c.mention_change-in-Extend.ensures
+    subst P (three_end _ _ _ _ _ _ _ c.in_ok-mention_exp-in-Extend.ensures c.in_ok-mention_path-in-Extend.ensures (node-Extend c.args.node.now _ _ _ c.args.at c.args.within.now is)) c.mention_exp-in-Extend-2.ensures
 
-pub mention_node-returns-in-Iter : goal.mention_node-returns-in-Iter
-mention_node-returns-in-Iter t c =
-    let P : List Mention → Type 0 = λ seen. OnOk c.mention_iteration.result (c.mention_iteration.new.mentions.items ≡ c.args.mentions.now.items ++ seen) in
-    let is = c.in-Iter.is ∙ ap (λ e. v.Iter e c.in-Iter.count) (sym c.get-in-Iter.ensures) in
-    subst P (sym (node-Iter c.args.node.now _ _ c.args.at c.args.within.now is)) c.mention_iteration.ensures
-
-pub mention_iteration-returns : goal.mention_iteration-returns
-mention_iteration-returns t c =
+pub mention_node-returns-in_ok-add_body-in-Iter : goal.mention_node-returns-in_ok-add_body-in-Iter
+mention_node-returns-in_ok-add_body-in-Iter t c =
     let P : List Mention → Type 0 = λ items. OnOk c.mention_count.result (c.mention_count.new.mentions.items ≡ items) in
-    let body = c.in_ok-mention_exp.ensures ∙ ap (λ items. items ++ mentions_exp c.args.body.now c.in_ok-inside.inside) c.new-inner.ensures.items in
-    subst P (iterated_end (marked c.args.count.now) (mentions_exp c.args.body.now) c.args.at c.args.within.now _ _ _ _
-    (c.in_ok-inside.ensures ∙ sym (marked_round c.args.within.now c.args.count.now)) body c.in_ok-add_body.ensures) c.mention_count.ensures
+    let is = c.in-Iter.is ∙ ap (λ e. v.Iter e c.in-Iter.count) (sym c.get-in-Iter.ensures) in
+    let body = c.in_ok-mention_exp-in-Iter.ensures ∙ ap (λ items. items ++ mentions_exp c.get-in-Iter.result.now c.in_ok-inside-in-Iter.inside) c.new-inner.ensures.items in
+    subst P (iterated_end (marked c.in-Iter.count) (mentions_exp c.get-in-Iter.result.now) c.args.at c.args.within.now _ _ _ _ (c.in_ok-inside-in-Iter.ensures ∙ sym (marked_round c.args.within.now c.in-Iter.count)) body c.in_ok-add_body-in-Iter.ensures
+    ∙ ap (λ seen. c.args.mentions.now.items ++ seen) (sym (node-Iter c.args.node.now _ _ c.args.at c.args.within.now is))) c.mention_count.ensures
