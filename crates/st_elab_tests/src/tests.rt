@@ -263,3 +263,26 @@ fn names_and_calls(rt: HostRuntime) -> Result<(), Fail> {
 fn places_of_breaches(rt: HostRuntime) -> Result<(), Fail> {
     expect_all(&rt, rt.alloc(), PLACES_OF_BREACHES.as_slice())
 }
+
+/// Two syntaxes, the later of which names the earlier one last.
+const INCLUDING: [&str; 2] = [
+    r#"(syntax "val" (variant (case "CONST % %" nat nat)))"#,
+    r#"(syntax "instr" (variant (case "NOP") (case "DROP") (case "ADD %" nat) (incl "val")))"#,
+];
+
+#[test]
+fn the_cases_of_an_included_variant_come_last(rt: HostRuntime) -> Result<(), Fail> {
+    let alloc = rt.alloc();
+    let defs = syntaxes_of(alloc, INCLUDING.as_slice())?;
+    assert!(rt; TypeTable::can_build(&defs));
+    let types = TypeTable::build(alloc, &defs)?;
+    let instr = type_of(alloc, r#"(n "instr")"#)?;
+    let cases = types.cases(&instr).ok_or("no variant")?;
+    let mut tags: Vec<u8> = Vec::new(alloc);
+    for case in cases.as_slice() {
+        tags.extend_from_slice(case.tag.as_slice())?;
+        tags.push(b',')?;
+    }
+    assert_eq!(rt; tags.as_slice(), b"NOP,DROP,ADD %,CONST % %,".as_slice());
+    Ok(())
+}
