@@ -26,8 +26,8 @@ use Rattle.st_semantics.specs.Holding.{Meaning, HaveValues, Place, each_place, A
 use Rattle.st_semantics.specs.Calls.{CallAt, ValueAt, has_value, no_goal}
 use Rattle.st_semantics.specs.Derivation as d
 use Rattle.st_semantics.specs.Derivation.{Root, Exclusion, Proved, HasTree, IsValid, excluded}
-use Rattle.st_semantics.specs.Checks.{Answer, depth}
-use Rattle.st_semantics.specs.Walks.{Taken, ComeTo, Judges, judged, Tests, Walks, otherwise, condition, goal, goal_of_many, each_of_one, each_ends, each, done, left_over, plain_goes, plain_stops, missing, cites_goes, cites_stops}
+use Rattle.st_semantics.specs.Checks.{Answer, checking_depth}
+use Rattle.st_semantics.specs.Walks.{TakenChild, ComeTo, Judges, judged, Tests, Walks, otherwise, condition, goal, goal_of_many, each_of_one, each_ends, each, done, left_over, plain_goes, plain_stops, missing, cites_goes, cites_stops}
 
 pub no_refusal : {a : Answer} (rule : VerifyRule) → a ≡ Some rule → a ≡ None → ⊥
 no_refusal rule p q = let bad : Some rule ≡ None = sym p ∙ q in cc
@@ -56,7 +56,7 @@ module _ (il : Il) where
   V : Meaning
   V = has_value il
 
-  all_values : (ts : List Task) (vs : List Value) (r : Outcomes) → GivesAll (syntaxes il) (CallAt il depth) ts r → r ≡ Values vs → HaveValues (has_value il) ts vs
+  all_values : (ts : List Task) (vs : List Value) (r : Outcomes) → GivesAll (syntaxes il) (CallAt il checking_depth) ts r → r ≡ Values vs → HaveValues (has_value il) ts vs
   all_values [] [] r (none e) q = tt
   all_values [] (v ∷ vs) r (none e) q = let bad : Values (v ∷ vs) ≡ Values [] = sym q ∙ e in cc
   all_values (t ∷ ts) vs r (stop o g s e) q = let bad : Values vs ≡ Stopped o = sym q ∙ e in cc
@@ -66,7 +66,7 @@ module _ (il : Il) where
       let both : Values (w ∷ vs) ≡ Values (v ∷ ws) = sym q ∙ e in
       let head : v ≡ w = cc in
       let tail : ws ≡ vs = cc in
-      ((depth, subst (λ z. ValueAt il depth t.0 t.1 (Val z)) head g), all_values ts vs (Values ws) all (ap Values tail))
+      ((checking_depth, subst (λ z. ValueAt il checking_depth t.0 t.1 (Val z)) head g), all_values ts vs (Values ws) all (ap Values tail))
 
   elements_of : (how : Iteration) (xs : List Name) (env : Env) (r : Outcomes) (envs : List Env) → ComeTo il env (count_of how) r → way how xs env r ≡ Goes envs → AreElements (has_value il) how xs env envs
   elements_of how xs env (Values count) envs come w = (count, all_values (tasks env (count_of how)) count (Values count) come refl, over (spread how xs env count) envs w)
@@ -100,9 +100,9 @@ module _ (il : Il) where
     inner_cites p how xs body is = cites-level p (IlPrem-F.Each how xs body) is
 
     mutual
-      holds_of : {at : Place} {taken : Taken} {a : Answer} → Tests il notes at taken a → a ≡ None → cites at.1 ≡ false → Allowed at.1 → Holds (has_value il) (excluded il root) no_goal at.0 at.1
+      holds_of : {at : Place} {taken : TakenChild} {a : Answer} → Tests il notes at taken a → a ≡ None → cites at.1 ≡ false → Allowed at.1 → Holds (has_value il) (excluded il root) no_goal at.0 at.1
       holds_of {at = at} (otherwise is p) n c w = h.otherwise is (w (otherwise-level at.1 IlPrem-F.Otherwise is))
-      holds_of (condition e is (inl p)) n c w = h.condition e is (depth, p.0)
+      holds_of (condition e is (inl p)) n c w = h.condition e is (checking_depth, p.0)
       holds_of (condition e is (inr p)) n c w = absurd (no_refusal _ p.3 n)
       holds_of {at = at} (goal rel es ch line r is t l come p) n c w = let bad : true ≡ false = sym (cites-level at.1 (IlPrem-F.Goal rel es) is) ∙ c in cc
       holds_of (goal_of_many rel es ch is t m p) n c w = absurd (no_refusal _ p n)
@@ -142,7 +142,7 @@ module _ (il : Il) where
     )
 
     mutual
-      child_of : {at : Place} {taken : Taken} {a : Answer} → Tests il notes at taken a → a ≡ None → cites at.1 ≡ true → Allowed at.1 → Grown at
+      child_of : {at : Place} {taken : TakenChild} {a : Answer} → Tests il notes at taken a → a ≡ None → cites at.1 ≡ true → Allowed at.1 → Grown at
       child_of {at = at} (otherwise is p) n c w = let bad : false ≡ true = sym (cites-level at.1 IlPrem-F.Otherwise is) ∙ c in cc
       child_of {at = at} (condition e is p) n c w = let bad : false ≡ true = sym (cites-level at.1 (IlPrem-F.If e) is) ∙ c in cc
       child_of {at = at} {a = a} (goal rel es ch line r is t l come p) n c w =

@@ -36,8 +36,8 @@ use Rattle.st_semantics.specs.Walks.{Walks, Tests}
 use Rattle.st_semantics.specs.Names.{Name}
 use Rattle.st_semantics.specs.Definitions.{rules_of}
 use Rattle.st_semantics.specs.Directions.{mask, inputs_of, outputs_of}
-use Rattle.st_semantics.specs.Environments.{IsOf, numbers_of}
-use Rattle.st_semantics.specs.Forms.{told}
+use Rattle.st_semantics.specs.Environments.{EnvOk, HasListed, IsOrdered, IsTypedValue, numbers_of}
+use Rattle.st_semantics.specs.Forms.{by_itself}
 use Rattle.st_semantics.specs.Iterations.{spread, Misfit, count_of}
 use Rattle.st_semantics.specs.Evaluation.{Answers, Gives, iteration_ends, strict, variable, none, next}
 use Rattle.st_semantics.specs.Derivation.{Derivable, IsValid, node, done}
@@ -65,7 +65,7 @@ misfit = simp (iteration.outs-Star, value.outs-List (value.Bool true ∷ value.B
 
 pub uneven_has_no_value : (defs : List SyntaxDef) (C : Answers) (body : IlExp) → Gives defs C uneven (exp.Iter iteration.Star xs body) NoValue
 uneven_has_no_value defs C body =
-    iteration_ends iteration.Star xs body (Values []) (told (simp (exp.outs-Iter iteration.Star xs body) refl))
+    iteration_ends iteration.Star xs body (Values []) (by_itself (simp (exp.outs-Iter iteration.Star xs body) refl))
     (simp no_count (none refl)) (simp misfit refl)
 
 -- ---- `relation R: nat -> nat hint(mode out in)`, `rule R/a: $(n + 1) -> n`: 5 is derived from 4
@@ -124,7 +124,7 @@ none_of P = search (rules)
 all_one : {A : Type 0} (P : A → Type 0) (x : A) → P x → All P (x ∷ [])
 all_one P x p = search (rules, p)
 
-is_nat : (n : ℕ) → n < 2 ^ 128 → IsOf [] ty.Nat (value.Num (pos n))
+is_nat : (n : ℕ) → n < 2 ^ 128 → IsTypedValue [] ty.Nat (value.Num (pos n))
 is_nat n small = record {
   form = natural n refl (itself (no_alias (codes "nat")) refl);
   value = record { height = subst (λ h. h ≤ 1000) (sym (low n)) (omega arith); texts = subst (All IsText) (sym (no_texts n)) (none_of IsText) };
@@ -138,10 +138,10 @@ abbrev tree : Tree
 tree = record { relation = 0; rule = 0; env = at_four; values = five ∷ four ∷ []; children = [] }
 
 n_is : (C : Answers) → Gives [] C at_four (exp.Var (codes "n")) (Val four)
-n_is C = variable (codes "n") (told (simp (exp.outs-Var (codes "n")) refl)) refl
+n_is C = variable (codes "n") (by_itself (simp (exp.outs-Var (codes "n")) refl)) refl
 
 one_is : (C : Answers) → Gives [] C at_four (exp.Number 1) (Val (value.Num (pos 1)))
-one_is C = strict [] (constant (value.Num (pos 1))) (Values []) (told (simp (exp.outs-Number 1) refl)) (none refl) refl
+one_is C = strict [] (constant (value.Num (pos 1))) (Values []) (by_itself (simp (exp.outs-Number 1) refl)) (none refl) refl
 
 sum_is : binary (arithmetic sum numbers.Nat) (four ∷ value.Num (pos 1) ∷ []) ≡ Val five
 sum_is = simp (value.outs-Num (pos 4), value.outs-Num (pos 1), low 5) refl
@@ -149,13 +149,23 @@ sum_is = simp (value.outs-Num (pos 4), value.outs-Num (pos 1), low 5) refl
 more_is : (C : Answers) → Gives [] C at_four more (Val five)
 more_is C =
     strict (exp.Var (codes "n") ∷ exp.Number 1 ∷ []) (binary (arithmetic sum numbers.Nat)) (Values (four ∷ value.Num (pos 1) ∷ []))
-    (told (simp (exp.outs-Add numbers.Nat (exp.Var (codes "n")) (exp.Number 1)) refl))
+    (by_itself (simp (exp.outs-Add numbers.Nat (exp.Var (codes "n")) (exp.Number 1)) refl))
     (next four (Values (value.Num (pos 1) ∷ [])) (n_is C) (next (value.Num (pos 1)) (Values []) (one_is C) (none refl) refl) refl)
     (sym sum_is)
 
+one_ordered : (x : Name) (v : Value) → IsOrdered (record { entries = (x, v) ∷ [] })
+one_ordered x v = search (rules)
+
+env_ok : EnvOk [] rule_a.variables at_four
+env_ok = record {
+  ordered = one_ordered (codes "n") four;
+  no_other = refl;
+  typed = all_one (HasListed [] at_four) (record { name = codes "n"; ty = ty.Nat; dim = [] }) (is_nat 4 (omega arith));
+}
+
 is_valid : IsValid il tree
 is_valid =
-    node (codes "R") rule_a (R, refl, refl) refl (refl, is_nat 4 (omega arith), tt)
+    node (codes "R") rule_a (R, refl, refl) refl env_ok
     ((0, more_is (CallAt il 0)), ((0, n_is (CallAt il 0)), tt)) done
 
 -- the outputs are the first hole, and the inputs the second
@@ -193,7 +203,7 @@ accepted =
     inl (
       inl ((omega arith, refl), refl),
       inl (
-        inl ((refl, is_nat 4 (omega arith), tt), refl),
+        inl (env_ok, refl),
         inl (
           inl (none_of (IsNode noted_so), refl),
           inl (
@@ -214,7 +224,7 @@ refused =
     inl (
       inl ((omega arith, refl), refl),
       inl (
-        inl ((refl, is_nat 4 (omega arith), tt), refl),
+        inl (env_ok, refl),
         inl (
           inl (none_of (IsNode noted_so), refl),
           inl (

@@ -14,6 +14,7 @@ use Rattle.st_il.specs.declared.tree.Child.{Child}
 use Rattle.st_il.specs.declared.tree.Tree.{Tree}
 use Rattle.st_il.specs.declared.value.Env.{Env}
 use Rattle.st_il.specs.declared.value.Value.{Value}
+use Rattle.st_semantics.proofs.Modes.{modes_by_name}
 use Rattle.st_semantics.specs.declared.verify_rule.VerifyRule.{VerifyRule}
 use Rattle.st_semantics.specs.declared.verify_rule.VerifyRule.TheVariants.{V4, V5, V6, V7, V10, V13}
 use Rattle.st_semantics.specs.declared.notes.Notes.{Notes}
@@ -30,10 +31,11 @@ use Rattle.st_semantics.specs.Holding.{Meaning, HaveValues, Place, places, HoldA
 use Rattle.st_semantics.specs.Calls.{has_value, no_goal}
 use Rattle.st_semantics.specs.Derivation as d
 use Rattle.st_semantics.specs.Derivation.{Root, Exclusion, Valid, Proved, HasTree, IsValid, excluded, exclusion_to, NoneBefore, derived}
-use Rattle.st_semantics.specs.Checks.{Answer, asks, forbids, and_then, evaluates, evaluate_each, depth}
+use Rattle.st_semantics.specs.Checks.{Answer, asks, forbids, and_then, evaluates, evaluate_each, checking_depth}
 use Rattle.st_semantics.specs.Walks.{Judges, Walks}
 use Rattle.st_semantics.specs.Verdict.{Found, find_rule, rule_named, IsNode, lines_cited, tests_node}
-use Rattle.st_semantics.specs.Evidence.{IsDeepTrial, GivesOutputs, tries, try_each, try_all, excludes, HasShape}
+use Rattle.st_semantics.specs.Laws.{TrialsAreStable}
+use Rattle.st_semantics.specs.Evidence.{IsDeepTrial, GivesOutputs, in_trial, in_trial_at, tries, try_each, try_all, excludes, HasShape}
 use Rattle.st_semantics.proofs.Maps.{Holds-map}
 use Rattle.st_semantics.proofs.Acceptance.{no_refusal, cites-level, AllAllowed, proved_of}
 
@@ -144,27 +146,33 @@ all_get test [] j x e get = cc
 all_get test (y ∷ ys) zero x e get = let same : y ≡ x = cc in subst (λ z. test z ≡ true) same (and_true (test y) _ e).0
 all_get test (y ∷ ys) (suc j) x e get = all_get test ys j x (and_true (test y) _ e).1 get
 
+pub asked : (P : Type 0) (rule : VerifyRule) → asks P rule None → P
+asked P rule (inl p) = p.0
+asked P rule (inr p) = absurd (no_refusal rule p.1 refl)
+
 forbidden : (P : Type 0) (rule : VerifyRule) → forbids P rule None → P → ⊥
 forbidden P rule (inl p) q = p.0 q
 forbidden P rule (inr p) q = no_refusal rule p.1 refl
 
-tried : (il : Il) (inputs : List Value) (rs : List RuleDef) (orders : List (List ℕ)) → try_each il inputs rs orders None
-    → (j : ℕ) (r : RuleDef) → slice_get rs j ≡ Some r → GivesOutputs il r inputs → ⊥
-tried il inputs [] orders t j r get gives = cc
-tried il inputs (r ∷ rs) [] t j x get gives = no_refusal _ t refl
-tried il inputs (r ∷ rs) (o ∷ os) t zero x get gives =
+tried : (il : Il) → TrialsAreStable il → (inputs : List Value) (rs : List RuleDef) (orders : List (List ℕ)) → try_each il inputs rs orders None
+    → (j : ℕ) (r : RuleDef) → slice_get rs j ≡ Some r → cites_nothing r ≡ true → GivesOutputs (in_trial il) r inputs → ⊥
+tried il stable inputs [] orders t j r get c gives = cc
+tried il stable inputs (r ∷ rs) [] t j x get c gives = no_refusal _ t refl
+tried il stable inputs (r ∷ rs) (o ∷ os) t zero x get c gives =
     let same : r ≡ x = cc in
     let one = both (tries il inputs r o) (try_each il inputs rs os) None t refl in
-    let two = both (asks (is_order il r o ≡ true) V10) (and_then (forbids (IsDeepTrial il r o inputs) V13) (forbids (GivesOutputs il r inputs) V10)) None one.0 refl in
-    let three = both (forbids (IsDeepTrial il r o inputs) V13) (forbids (GivesOutputs il r inputs) V10) None two.1 refl in
-    forbidden (GivesOutputs il r inputs) V10 three.1 (subst (λ z. GivesOutputs il z inputs) (sym same) gives)
-tried il inputs (r ∷ rs) (o ∷ os) t (suc j) x get gives =
-    tried il inputs rs os (both (tries il inputs r o) (try_each il inputs rs os) None t refl).1 j x get gives
+    let two = both (asks (is_order il r o ≡ true) V10) (and_then (forbids (IsDeepTrial il r o inputs) V13) (forbids (GivesOutputs (in_trial_at il) r inputs) V10)) None one.0 refl in
+    let three = both (forbids (IsDeepTrial il r o inputs) V13) (forbids (GivesOutputs (in_trial_at il) r inputs) V10) None two.1 refl in
+    stable r o inputs (ap cites_nothing same ∙ c) (asked (is_order il r o ≡ true) V10 two.0)
+    (forbidden (IsDeepTrial il r o inputs) V13 three.0) (subst (λ z. GivesOutputs (in_trial il) z inputs) (sym same) gives)
+    (forbidden (GivesOutputs (in_trial_at il) r inputs) V10 three.1)
+tried il stable inputs (r ∷ rs) (o ∷ os) t (suc j) x get c gives =
+    tried il stable inputs rs os (both (tries il inputs r o) (try_each il inputs rs os) None t refl).1 j x get c gives
 
 pub relation_single : (il : Il) (k : ℕ) (a b : Name) → IsRelation il k a → IsRelation il k b → a ≡ b
 relation_single il k a b p q = let same : p.0 ≡ q.0 = cc in sym p.2 ∙ (ap (λ (r : RelationDef). r.name) same ∙ q.2)
 
-module _ (il : Il) (modes : KeepModes il) (name : Name) (number : ℕ) (rule : RuleDef) (inputs : List Value)
+module _ (il : Il) (modes : KeepModes il) (stable : TrialsAreStable il) (name : Name) (number : ℕ) (rule : RuleDef) (inputs : List Value)
     (has : IsOtherwise il name number rule) (orders : List (List ℕ)) (all : try_each il inputs (take number (rules_of il name)) orders None) where
   refute : (O : Exclusion) (tree : Tree) → Valid il (has_value il) O tree → IsRelation il tree.relation name → tree.rule < number
       → inputs_of il name tree.values ≡ inputs → ⊥
@@ -173,8 +181,8 @@ module _ (il : Il) (modes : KeepModes il) (name : Name) (number : ℕ) (rule : R
       let here : slice_get (rules_of il name) tree.rule ≡ Some rule' = subst (λ z. slice_get (rules_of il z) tree.rule ≡ Some rule') nn at in
       let rn : name ≡ rule'.relation = (rule_of name (rules_in il.defs) tree.rule rule' here).0 in
       let early : slice_get (take number (rules_of il name)) tree.rule ≡ Some rule' = take_get number tree.rule (rules_of il name) rule' less here in
-      let nothing_cited : cites_nothing rule' ≡ true = all_get cites_nothing (take number (rules_of il name)) tree.rule rule' (modes.rules name number rule has).m5 early in
-      tried il inputs (take number (rules_of il name)) orders all tree.rule rule' early (record {
+      let nothing_cited : cites_nothing rule' ≡ true = all_get cites_nothing (take number (rules_of il name)) tree.rule rule' ((modes_by_name il modes).rules name number rule has).m5 early in
+      tried il stable inputs (take number (rules_of il name)) orders all tree.rule rule' early nothing_cited (record {
         env = tree.env;
         reached = record {
           typed = ok;
@@ -195,12 +203,8 @@ module _ (il : Il) (modes : KeepModes il) (name : Name) (number : ℕ) (rule : R
 
 -- ---- the node
 
-pub asked : (P : Type 0) (rule : VerifyRule) → asks P rule None → P
-asked P rule (inl p) = p.0
-asked P rule (inr p) = absurd (no_refusal rule p.1 refl)
-
 evaluated_one : (il : Il) (env : Env) (e : IlExp) (v : Value) → evaluates il V7 env e v None → has_value il env e v
-evaluated_one il env e v (inl p) = (depth, p.0)
+evaluated_one il env e v (inl p) = (checking_depth, p.0)
 evaluated_one il env e v (inr p) = absurd (no_refusal _ p.3 refl)
 
 evaluated_all : (il : Il) (env : Env) (es : List IlExp) (vs : List Value) → evaluate_each il env es vs None → length vs ≡ length es → HaveValues (has_value il) (tasks env es) vs
@@ -229,7 +233,7 @@ named_so : (il : Il) (relation : Option RelationDef) (found : Option Found) (f :
 named_so il (Some r) found f e = ((r, refl), e)
 named_so il None found f e = cc
 
-module _ (il : Il) (modes : KeepModes il) (notes : Notes)
+module _ (il : Il) (modes : KeepModes il) (stable : TrialsAreStable il) (notes : Notes)
     (trees : (line : ℕ) (relation : Name) (vs : List Value) → Judges notes line relation vs → HasTree il relation vs) (node : NodeLine) where
   allowed_all : (root : Root) (env : Env) (ps : List IlPrem) → (have_otherwise ps ≡ true → excluded il root) → AllAllowed il notes trees root (places env ps)
   allowed_all root env [] f = tt
@@ -243,7 +247,7 @@ module _ (il : Il) (modes : KeepModes il) (notes : Notes)
       (try_all il (inputs_of il node.relation node.values) (take number (rules_of il node.relation)) node.evidence) None t refl in
       let shape = asked (HasShape (have_otherwise rule.premises) number node.evidence) V10 parts.0 in
       let evidence = evidence_of (have_otherwise rule.premises) number node.evidence shape h in
-      is_excluded il modes node.relation number rule (inputs_of il node.relation node.values)
+      is_excluded il modes stable node.relation number rule (inputs_of il node.relation node.values)
       (record { is_rule = at; has = h }) evidence.0
       (subst (λ e. try_all il (inputs_of il node.relation node.values) (take number (rules_of il node.relation)) e None) evidence.1 parts.1)
 

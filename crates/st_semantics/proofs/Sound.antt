@@ -19,7 +19,7 @@ use Rattle.st_semantics.specs.Walks.{Judges}
 use Rattle.st_semantics.specs.Verdict.{Verdict, IsInPlace, IsNode, Continues, tests, tests_node, rule_named}
 use Rattle.st_semantics.specs.Accepts as reads
 use Rattle.st_semantics.specs.Accepts.{ReadsTo, Accepts, IsDerivedStep, AreSound}
-use Rattle.st_semantics.specs.Laws.{LawOfReading, LawOfAcceptance}
+use Rattle.st_semantics.specs.Laws.{TrialsAreStable, LawOfReading, LawOfAcceptance}
 use Rattle.st_semantics.proofs.Nodes.{both, asked, node_tree}
 
 -- ---- lists
@@ -60,14 +60,14 @@ no_members (x ∷ xs) e = absurd (omega (arith, e))
 
 -- ---- what is noted
 
-module _ (il : Il) (modes : KeepModes il) where
+module _ (il : Il) (modes : KeepModes il) (stable : TrialsAreStable il) where
   -- each judgement that is noted is derived
   abbrev Trees : Notes → Type 0
   Trees notes = (line : ℕ) (relation : Name) (vs : List Value) → Judges notes line relation vs → HasTree il relation vs
 
   node_here : (before : Notes) (node : NodeLine) → Trees before → Verdict il before (Node node) None → HasTree il node.relation node.values
   node_here before node trees v =
-      node_tree il modes before trees node
+      node_tree il modes stable before trees node
       (both (asks (IsInPlace before (Node node)) V3) (tests_node il before node (rule_named il node)) None v refl).1
 
   old_or_new : (before : Notes) (x : Option Judgement) (k : ℕ) (j : Judgement) → option_and_then (λ (n : Option Judgement). n) (slice_get (before.lines ++ x ∷ []) k) ≡ Some j
@@ -194,7 +194,7 @@ module _ (il : Il) (modes : KeepModes il) where
   }
 
 pub law_of_reading : LawOfReading
-law_of_reading il modes lines notes taken = sound il modes lines notes taken
+law_of_reading il modes stable lines notes taken = sound il modes stable lines notes taken
 
 pub law_of_acceptance : (Typed : Il → Type 0) → LawOfAcceptance Typed
-law_of_acceptance Typed il lines accepts = sound il accepts.modes lines accepts.notes accepts.read
+law_of_acceptance Typed il stable lines accepts = sound il accepts.modes stable lines accepts.notes accepts.read

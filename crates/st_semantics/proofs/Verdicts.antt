@@ -24,8 +24,8 @@ use Rattle.st_semantics.specs.Iterations.{count_of}
 use Rattle.st_semantics.specs.Evaluation.{tasks, way, Ends, Goes}
 use Rattle.st_semantics.specs.Holding.{Place, each_place}
 use Rattle.st_semantics.specs.Calls.{CallAt}
-use Rattle.st_semantics.specs.Checks.{Answer, Test, accepts, refuses, asks, forbids, and_then, evaluates, evaluate_each, refusal, depth}
-use Rattle.st_semantics.specs.Walks.{ComeTo, judged, rule_at, Taken, IsTakenFor, IsOneLine, Tests, Walks, otherwise, condition, goal, goal_of_many, each_of_one, each_ends, each, done, left_over, plain_goes, plain_stops, missing, cites_goes, cites_stops}
+use Rattle.st_semantics.specs.Checks.{Answer, Test, accepts, refuses, asks, forbids, and_then, evaluates, evaluate_each, refusal, checking_depth}
+use Rattle.st_semantics.specs.Walks.{ComeTo, judged, rule_at, TakenChild, IsTakenFor, IsOneLine, Tests, Walks, otherwise, condition, goal, goal_of_many, each_of_one, each_ends, each, done, left_over, plain_goes, plain_stops, missing, cites_goes, cites_stops}
 use Rattle.st_semantics.specs.Verdict.{Found, rule_named, tests_node, tests, Verdict}
 use Rattle.st_semantics.specs.Evidence.{tries, try_each, try_all, excludes}
 use Rattle.st_semantics.specs.Laws.{LawOfVerdicts}
@@ -63,18 +63,18 @@ and_then-single first second one two a b (inr p) (inr q) =
 none_some : (rule : VerifyRule) → None ≡ Some rule → ⊥
 none_some rule e = cc
 
-module _ (il : Il) (notes : Notes) (one : IsSingle (CallAt il depth)) where
+module _ (il : Il) (notes : Notes) (one : IsSingle (CallAt il checking_depth)) where
   all_single : (env : Env) (es : List IlExp) (r s : Outcomes) → ComeTo il env es r → ComeTo il env es s → r ≡ s
-  all_single env es r s a b = GivesAll-single (syntaxes il) (CallAt il depth) one (tasks env es) r s a b
+  all_single env es r s a b = GivesAll-single (syntaxes il) (CallAt il checking_depth) one (tasks env es) r s a b
 
   evaluates-single : (rule : VerifyRule) (env : Env) (e : IlExp) (v : Value) → Single (evaluates il rule env e v)
   evaluates-single rule env e v a b (inl p) (inl q) = p.1 ∙ sym q.1
   evaluates-single rule env e v a b (inl p) (inr q) =
-      absurd (q.2 (Gives-single (syntaxes il) (CallAt il depth) one env e q.0 (Val v) q.1 p.0))
+      absurd (q.2 (Gives-single (syntaxes il) (CallAt il checking_depth) one env e q.0 (Val v) q.1 p.0))
   evaluates-single rule env e v a b (inr p) (inl q) =
-      absurd (p.2 (Gives-single (syntaxes il) (CallAt il depth) one env e p.0 (Val v) p.1 q.0))
+      absurd (p.2 (Gives-single (syntaxes il) (CallAt il checking_depth) one env e p.0 (Val v) p.1 q.0))
   evaluates-single rule env e v a b (inr p) (inr q) =
-      let same : p.0 ≡ q.0 = Gives-single (syntaxes il) (CallAt il depth) one env e p.0 q.0 p.1 q.1 in
+      let same : p.0 ≡ q.0 = Gives-single (syntaxes il) (CallAt il checking_depth) one env e p.0 q.0 p.1 q.1 in
       p.3 ∙ ap (λ o. Some (refusal rule o)) same ∙ sym q.3
 
   evaluate_each-single : (env : Env) (es : List IlExp) (vs : List Value) → Single (evaluate_each il env es vs)
@@ -87,17 +87,17 @@ module _ (il : Il) (notes : Notes) (one : IsSingle (CallAt il depth)) where
   judged-single line relation (Values vs) = asks-single _ V9
   judged-single line relation (Stopped o) = refuses-single (refusal V9 o)
 
-  taken-single : (xs ys : List Ref) (taken : Taken) → IsTakenFor xs taken → IsTakenFor ys taken → xs ≡ ys
+  taken-single : (xs ys : List Ref) (taken : TakenChild) → IsTakenFor xs taken → IsTakenFor ys taken → xs ≡ ys
   taken-single xs ys None p q = p ∙ sym q
   taken-single xs ys (Some child) p q = let same : Ref-F.Many xs ≡ Ref-F.Many ys = sym p ∙ q in cc
 
-  one_or_many : (child : Ref) (inner : List Ref) (taken : Taken) → taken ≡ Some child → IsOneLine child → IsTakenFor inner taken → ⊥
+  one_or_many : (child : Ref) (inner : List Ref) (taken : TakenChild) → taken ≡ Some child → IsOneLine child → IsTakenFor inner taken → ⊥
   one_or_many child inner taken is line many =
       let at : IsTakenFor inner (Some child) = subst (IsTakenFor inner) is many in
       let bad : Ref-F.Line line.0 ≡ Ref-F.Many inner = sym line.1 ∙ at in cc
 
   mutual
-    Tests-single : (at : Place) (taken : Taken) (a b : Answer) → Tests il notes at taken a → Tests il notes at taken b → a ≡ b
+    Tests-single : (at : Place) (taken : TakenChild) (a b : Answer) → Tests il notes at taken a → Tests il notes at taken b → a ≡ b
     Tests-single at taken a b (otherwise is p) (otherwise is' p') = p ∙ sym p'
     Tests-single at taken a b (otherwise is p) (condition e' is' p') = cc
     Tests-single at taken a b (otherwise is p) (goal rel' es' child' line' r' is' t' l' come' p') = cc
@@ -246,4 +246,4 @@ module _ (il : Il) (notes : Notes) (one : IsSingle (CallAt il depth)) where
   Verdict-single line = and_then-single _ _ (asks-single _ _) (tests-single line)
 
 pub law_of_verdicts : LawOfVerdicts
-law_of_verdicts il one notes line a b p q = Verdict-single il notes (one depth) line a b p q
+law_of_verdicts il one notes line a b p q = Verdict-single il notes (one checking_depth) line a b p q

@@ -40,8 +40,8 @@ and_then first second answer =
 
 -- ---- evaluations, which are at 500
 
-abbrev pub depth : ℕ
-depth = 500
+abbrev pub checking_depth : ℕ
+checking_depth = 500
 
 -- where an evaluation gives no value: V13 where it is Deep, else this rule
 abbrev pub refusal : VerifyRule → Outcome → VerifyRule
@@ -52,8 +52,8 @@ refusal rule Deep = V13
 -- the expression has this value
 abbrev pub evaluates : Il → VerifyRule → Env → IlExp → Value → Test
 evaluates il rule env e v answer =
-    (ValueAt il depth env e (Val v) × accepts answer)
-    ⊎ ((o : Outcome) × ValueAt il depth env e o × (o ≢ Val v) × refuses (refusal rule o) answer)
+    (ValueAt il checking_depth env e (Val v) × accepts answer)
+    ⊎ ((o : Outcome) × ValueAt il checking_depth env e o × (o ≢ Val v) × refuses (refusal rule o) answer)
 
 -- The holes have these values: their number is asked first, and then each is evaluated.
 abbrev pub evaluate_each : Il → Env → List IlExp → List Value → Test

@@ -14,21 +14,32 @@ use Rattle.st_semantics.specs.Orders.{inputs_of_rule, outputs_of_rule, is_order}
 use Rattle.st_semantics.specs.Holding.{HaveValues}
 use Rattle.st_semantics.specs.Depth.{Setting}
 use Rattle.st_semantics.specs.Reaching.{Reached}
+use Rattle.st_semantics.specs.Calls.{CallAt, has_value_at}
+use Rattle.st_semantics.specs.Derivation.{derived}
 use Rattle.st_semantics.specs.RuleDepth.{in_rule, MeetsDeep}
-use Rattle.st_semantics.specs.Checks.{Test, accepts, refuses, asks, forbids, and_then, depth}
+use Rattle.st_semantics.specs.Checks.{Test, accepts, refuses, asks, forbids, and_then, checking_depth}
 
--- where an earlier rule is tried: an `otherwise` counts as true
+-- where an earlier rule is tried: an `otherwise` counts as true, and what is Deep is so at 500
 abbrev pub in_trial : Il → Setting
-in_trial il = in_rule il depth (Unit {0})
+in_trial il = in_rule il checking_depth (Unit {0})
+
+-- the same with every value taken at 500
+abbrev pub in_trial_at : Il → Setting
+in_trial_at il = record {
+  il = il;
+  calls = CallAt il checking_depth;
+  meaning = has_value_at il checking_depth;
+  otherwise = Unit {0};
+  derives = derived il;
+}
 
 -- some typed environment gives the inputs of the rule these values, makes the premises hold and
 -- gives the outputs values
-pub record GivesOutputs (il : Il) (rule : RuleDef) (inputs : List Value) : Type 0 where
+pub record GivesOutputs (s : Setting) (rule : RuleDef) (inputs : List Value) : Type 0 where
   pub env : Env
-  pub reached : Reached (in_trial il) rule.variables
-      (inputs_of_rule il rule) inputs rule.premises env
+  pub reached : Reached s rule.variables (inputs_of_rule s.il rule) inputs rule.premises env
   pub outputs : List Value
-  pub values : HaveValues (in_trial il).meaning (tasks env (outputs_of_rule il rule)) outputs
+  pub values : HaveValues s.meaning (tasks env (outputs_of_rule s.il rule)) outputs
 
 abbrev pub IsDeepTrial : Il → RuleDef → List ℕ → List Value → Type 0
 IsDeepTrial il rule order inputs = (number : ℕ) × MeetsDeep (in_trial il) rule order inputs number
@@ -39,7 +50,7 @@ abbrev pub tries : Il → List Value → RuleDef → List ℕ → Test
 tries il inputs rule order =
     and_then (asks (is_order il rule order ≡ true) V10)
     (and_then (forbids (IsDeepTrial il rule order inputs) V13)
-    (forbids (GivesOutputs il rule inputs) V10))
+    (forbids (GivesOutputs (in_trial_at il) rule inputs) V10))
 
 -- the earlier rules in order, each by its list
 abbrev pub try_each : Il → List Value → List RuleDef → List (List ℕ) → Test

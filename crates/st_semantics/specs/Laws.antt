@@ -1,11 +1,10 @@
 -- The laws of these definitions, as statements. `Typed` is the typing of an internal language, and
 -- `Typing` that of its expressions: with these variables listed, an expression has a type.
-use Rattle.std.specs.Prelude.{◌≡◌, ◌↔◌, ℕ, ◌≤◌, true, List, Option, Some, None, Ok, Contains}
+use Rattle.std.specs.Prelude.{◌≡◌, ◌↔◌, ℕ, ◌≤◌, true, false, List, Option, Some, None, Ok, Contains}
 use Rattle.st_deriv.specs.declared.line.Line.{Line}
 use Rattle.st_il.specs.declared.definition.ClauseDef.{ClauseDef}
 use Rattle.st_il.specs.declared.definition.Il.{Il}
 use Rattle.st_il.specs.declared.definition.Listed.{Listed}
-use Rattle.st_il.specs.declared.definition.RelationDef.{RelationDef}
 use Rattle.st_il.specs.declared.definition.RuleDef.{RuleDef}
 use Rattle.st_il.specs.declared.expression.IlExp.{IlExp}
 use Rattle.st_il.specs.declared.tree.Tree.{Tree}
@@ -17,17 +16,19 @@ use Rattle.st_semantics.specs.declared.notes.Notes.{Notes}
 use Rattle.st_semantics.specs.declared.outcome.Outcome.{Outcome}
 use Rattle.st_semantics.specs.declared.outcome.Outcome.TheVariants.{Val, Deep}
 use Rattle.st_semantics.specs.Names.{Name}
-use Rattle.st_semantics.specs.Definitions.{syntaxes, relation_named, clauses_in}
-use Rattle.st_semantics.specs.Environments.{EnvOk, IsOf}
+use Rattle.st_semantics.specs.Definitions.{syntaxes, clauses_in}
+use Rattle.st_semantics.specs.Environments.{EnvOk, IsTypedValue}
 use Rattle.st_semantics.specs.Orders.{is_order}
 use Rattle.st_semantics.specs.OrderOf.{order_of}
-use Rattle.st_semantics.specs.ModeRules.{KeepModes, IsOtherwise}
+use Rattle.st_semantics.specs.ModeRules.{KeepModes, IsOtherwise, cites_nothing}
 use Rattle.st_semantics.specs.Marks.{HasMark}
 use Rattle.st_semantics.specs.Calls.{Chosen, TooDeep, CallAt, ValueAt}
 use Rattle.st_semantics.specs.Derivation.{Root, excluded, NoneBefore, IsValid}
 use Rattle.st_semantics.specs.Chains.{DeepAt, IsValidAt}
 use Rattle.st_semantics.specs.Transcript.{Term, Ending, Transcript, GoesOn, IsNext}
-use Rattle.st_semantics.specs.Verdict.{Verdict, AreInputs}
+use Rattle.st_semantics.specs.Goals.{AreInputs}
+use Rattle.st_semantics.specs.Evidence.{IsDeepTrial, GivesOutputs, in_trial, in_trial_at}
+use Rattle.st_semantics.specs.Verdict.{Verdict}
 use Rattle.st_semantics.specs.Accepts.{ReadsTo, Accepts, AreSound}
 
 -- ---- evaluation
@@ -71,7 +72,7 @@ Typing = Il → List Listed → IlExp → Ty → Type 0
 abbrev pub ValuesAreTyped : Typing → Il → Type 0
 ValuesAreTyped T il =
     (n : ℕ) (ls : List Listed) (env : Env) (e : IlExp) (t : Ty) (v : Value) → T il ls e t
-    → EnvOk (syntaxes il) ls env → ValueAt il n env e (Val v) → IsOf (syntaxes il) t v
+    → EnvOk (syntaxes il) ls env → ValueAt il n env e (Val v) → IsTypedValue (syntaxes il) t v
 
 -- the laws of evaluation, where the internal language is typed and keeps the rules M1 to M7
 pub record EvaluationIsLawful (T : Typing) (il : Il) : Type 0 where
@@ -123,11 +124,10 @@ LawOfTranscripts =
 -- every depth
 abbrev pub LawOfNoLeast : (Il → Type 0) → Type 0
 LawOfNoLeast Typed =
-    (il : Il) → Typed il → KeepModes il → (relation : RelationDef)
-    → relation_named il relation.name ≡ Some relation → HasMark il relation None
-    → (term : Term) → AreInputs il relation.name term → GoesOn il relation.name term
-    → ((next : Term) → IsNext il relation.name term next → ⊥)
-    → (n : ℕ) → 1 ≤ n → DeepAt il n (record { relation = relation.name; inputs = term })
+    (il : Il) → Typed il → KeepModes il → (name : Name) → HasMark il false name None
+    → (term : Term) → AreInputs il name term → GoesOn il name term
+    → ((next : Term) → IsNext il name term next → ⊥)
+    → (n : ℕ) → 1 ≤ n → DeepAt il n (record { relation = name; inputs = term })
 
 -- a line has one verdict at most, where calls come to one outcome at most
 abbrev pub LawOfVerdicts : Type 0
@@ -135,12 +135,22 @@ LawOfVerdicts =
     (il : Il) → CallsAreSingle il → (notes : Notes) (line : Line) (a b : Option VerifyRule)
     → Verdict il notes line a → Verdict il notes line b → a ≡ b
 
--- lines that are taken vouch for their nodes and steps
+-- Where a rule without relation premises gives outputs at some depth, and does not meet Deep at 500
+-- in an executable order, it cannot but give outputs at 500.
+abbrev pub TrialsAreStable : Il → Type 0
+TrialsAreStable il =
+    (rule : RuleDef) (order : List ℕ) (inputs : List Value) → cites_nothing rule ≡ true
+    → is_order il rule order ≡ true → (IsDeepTrial il rule order inputs → ⊥)
+    → GivesOutputs (in_trial il) rule inputs → (GivesOutputs (in_trial_at il) rule inputs → ⊥) → ⊥
+
+-- lines that are taken vouch for their nodes and steps, where trials are stable
 abbrev pub LawOfReading : Type 0
 LawOfReading =
-    (il : Il) → KeepModes il → (lines : List Line) (notes : Notes) → ReadsTo il lines notes
-    → AreSound il lines
+    (il : Il) → KeepModes il → TrialsAreStable il → (lines : List Line) (notes : Notes)
+    → ReadsTo il lines notes → AreSound il lines
 
 -- so do accepted lines
 abbrev pub LawOfAcceptance : (Il → Type 0) → Type 0
-LawOfAcceptance Typed = (il : Il) (lines : List Line) → Accepts Typed il lines → AreSound il lines
+LawOfAcceptance Typed =
+    (il : Il) → TrialsAreStable il → (lines : List Line) → Accepts Typed il lines
+    → AreSound il lines

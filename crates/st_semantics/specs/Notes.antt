@@ -18,19 +18,19 @@ judgement_on notes (suc before) =
     option_and_then (λ (noted : Option Judgement). noted) (slice_get notes.lines before)
 
 -- a line that is no node
-abbrev pub passed : Notes → Notes
-passed notes = record notes { lines = notes.lines ++ None ∷ [] }
+abbrev pub with_line : Notes → Notes
+with_line notes = record notes { lines = notes.lines ++ None ∷ [] }
 
 -- what is noted of one line more
 abbrev pub noted : Il → Notes → Line → Notes
-noted il notes (Head format relation) = record (passed notes) { relation = Some relation }
-noted il notes (From values) = record (passed notes) { term = Some values }
+noted il notes (Head format relation) = record (with_line notes) { relation = Some relation }
+noted il notes (From values) = record (with_line notes) { term = Some values }
 noted il notes (Node node) = record notes {
   lines = notes.lines ++ Some (record { relation = node.relation; values = node.values }) ∷ [];
 }
-noted il notes (Step line) = record (passed notes) {
+noted il notes (Step line) = record (with_line notes) {
   term = option_map (λ (j : Judgement). outputs_of il j.relation j.values)
       (judgement_on notes line);
   steps = notes.steps + 1;
 }
-noted il notes (End ending) = record (passed notes) { ended = true }
+noted il notes (End ending) = record (with_line notes) { ended = true }

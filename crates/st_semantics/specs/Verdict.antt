@@ -8,17 +8,15 @@ use Rattle.st_deriv.specs.declared.line.NodeLine.{NodeLine}
 use Rattle.st_deriv.specs.declared.line.Ref.{Ref, fold-Ref}
 use Rattle.st_deriv.specs.declared.line.Ref.TheOpen.{Ref-F}
 use Rattle.st_il.specs.declared.definition.Il.{Il}
-use Rattle.st_il.specs.declared.definition.RelationDef.{RelationDef}
 use Rattle.st_il.specs.declared.definition.RuleDef.{RuleDef}
-use Rattle.st_il.specs.declared.ty.Ty.{Ty}
-use Rattle.st_il.specs.declared.value.Value.{Value}
 use Rattle.st_semantics.specs.declared.verify_rule.VerifyRule.TheVariants.{V3, V4, V5, V6, V7, V11}
 use Rattle.st_semantics.specs.declared.notes.Judgement.{Judgement}
 use Rattle.st_semantics.specs.declared.notes.Notes.{Notes}
 use Rattle.st_semantics.specs.Names.{Name}
 use Rattle.st_semantics.specs.Definitions.{relation_named, rules_of, syntaxes}
 use Rattle.st_semantics.specs.Directions.{inputs_of}
-use Rattle.st_semantics.specs.Environments.{EnvOk, IsOf}
+use Rattle.st_semantics.specs.Environments.{EnvOk}
+use Rattle.st_semantics.specs.Goals.{AreInputs}
 use Rattle.st_semantics.specs.ModeRules.{IsStepping}
 use Rattle.st_semantics.specs.Holding.{places}
 use Rattle.st_semantics.specs.Notes.{judgement_on}
@@ -36,33 +34,20 @@ IsInPlace notes (Node node) = (2 ≤ length notes.lines) × (notes.ended ≡ fal
 IsInPlace notes (Step line) = (2 ≤ length notes.lines) × (notes.ended ≡ false)
 IsInPlace notes (End ending) = (2 ≤ length notes.lines) × (notes.ended ≡ false)
 
--- ---- V5 and V6 of the first two lines
+-- ---- V5 of the first line
 
 -- the relation is declared, directed, and its outputs have the types of its inputs
 abbrev pub CanStep : Il → Name → Type 0
 CanStep il relation = IsSomeAnd (relation_named il relation) (IsStepping il)
 
--- each value is of the type in its place
-abbrev pub AreOf : Il → List Ty → List Value → Type 0
-AreOf il [] [] = Unit {0}
-AreOf il [] (v ∷ vs) = ⊥
-AreOf il (t ∷ ts) [] = ⊥
-AreOf il (t ∷ ts) (v ∷ vs) = IsOf (syntaxes il) t v × AreOf il ts vs
-
--- the values are one for each input of the relation, of its type
-abbrev pub AreInputs : Il → Name → List Value → Type 0
-AreInputs il relation vs =
-    IsSomeAnd (relation_named il relation)
-    (λ (r : RelationDef). AreOf il (inputs_of il relation r.holes) vs)
-
 -- ---- V4: the lines that are cited are those of nodes
 
-abbrev pub cited_at : Ref-F (List ℕ) → List ℕ
-cited_at (Ref-F.Line line) = line ∷ []
-cited_at (Ref-F.Many children) = flat_map (λ (lines : List ℕ). lines) children
+abbrev pub lines_cited_at : Ref-F (List ℕ) → List ℕ
+lines_cited_at (Ref-F.Line line) = line ∷ []
+lines_cited_at (Ref-F.Many children) = flat_map (λ (lines : List ℕ). lines) children
 
 abbrev pub lines_cited : List Ref → List ℕ
-lines_cited children = flat_map (fold-Ref (List ℕ) cited_at) children
+lines_cited children = flat_map (fold-Ref (List ℕ) lines_cited_at) children
 
 abbrev pub IsNode : Notes → ℕ → Type 0
 IsNode notes line = IsSome (judgement_on notes line)

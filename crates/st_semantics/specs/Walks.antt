@@ -24,11 +24,11 @@ use Rattle.st_semantics.specs.Variables.{cites}
 use Rattle.st_semantics.specs.Holding.{Place, each_place}
 use Rattle.st_semantics.specs.Calls.{CallAt}
 use Rattle.st_semantics.specs.Notes.{judgement_on}
-use Rattle.st_semantics.specs.Checks.{Answer, Test, accepts, refuses, asks, evaluates, refusal, depth}
+use Rattle.st_semantics.specs.Checks.{Answer, Test, accepts, refuses, asks, evaluates, refusal, checking_depth}
 
 -- several expressions come to these outcomes at 500
 abbrev pub ComeTo : Il → Env → List IlExp → Outcomes → Type 0
-ComeTo il env es r = GivesAll (syntaxes il) (CallAt il depth) (tasks env es) r
+ComeTo il env es r = GivesAll (syntaxes il) (CallAt il checking_depth) (tasks env es) r
 
 -- the node on a line has this judgement
 abbrev pub Judges : Notes → ℕ → Name → List Value → Type 0
@@ -45,11 +45,11 @@ abbrev pub rule_at : IlPrem → VerifyRule
 rule_at p = if cites p then V9 else V8
 
 -- a premise takes a child where it cites a relation
-abbrev pub Taken : Type 0
-Taken = Option Ref
+abbrev pub TakenChild : Type 0
+TakenChild = Option Ref
 
 -- what an iterated premise takes stands for its elements: one child each, or none at all
-abbrev pub IsTakenFor : List Ref → Taken → Type 0
+abbrev pub IsTakenFor : List Ref → TakenChild → Type 0
 IsTakenFor inner None = inner ≡ []
 IsTakenFor inner (Some child) = out-Ref child ≡ Ref-F.Many inner
 
@@ -61,34 +61,34 @@ IsOneLine child = (line : ℕ) × (out-Ref child ≡ Ref-F.Line line)
 
 mutual
   -- A premise, with the child that it takes, is tested with this answer.
-  pub data Tests (il : Il) (notes : Notes) : Place → Taken → Answer → Type 0 where
-    otherwise : {at : Place} {taken : Taken} {answer : Answer}
+  pub data Tests (il : Il) (notes : Notes) : Place → TakenChild → Answer → Type 0 where
+    otherwise : {at : Place} {taken : TakenChild} {answer : Answer}
         → out-IlPrem at.1 ≡ IlPrem-F.Otherwise
         → accepts answer → Tests il notes at taken answer
-    condition : {at : Place} {taken : Taken} {answer : Answer} (e : IlExp)
+    condition : {at : Place} {taken : TakenChild} {answer : Answer} (e : IlExp)
         → out-IlPrem at.1 ≡ IlPrem-F.If e → evaluates il V8 at.0 e (value.Bool true) answer
         → Tests il notes at taken answer
-    goal : {at : Place} {taken : Taken} {answer : Answer} (relation : Name) (es : List IlExp)
+    goal : {at : Place} {taken : TakenChild} {answer : Answer} (relation : Name) (es : List IlExp)
         (child : Ref)
         (line : ℕ) (r : Outcomes)
         → out-IlPrem at.1 ≡ IlPrem-F.Goal relation es → taken ≡ Some child
         → out-Ref child ≡ Ref-F.Line line
         → ComeTo il at.0 es r → judged notes line relation r answer → Tests il notes at taken answer
-    goal_of_many : {at : Place} {taken : Taken} {answer : Answer} (relation : Name)
+    goal_of_many : {at : Place} {taken : TakenChild} {answer : Answer} (relation : Name)
         (es : List IlExp)
         (child : Ref)
         → out-IlPrem at.1 ≡ IlPrem-F.Goal relation es → taken ≡ Some child → IsNoLine child
         → refuses V9 answer → Tests il notes at taken answer
-    each_of_one : {at : Place} {taken : Taken} {answer : Answer} (how : Iteration) (xs : List Name)
+    each_of_one : {at : Place} {taken : TakenChild} {answer : Answer} (how : Iteration) (xs : List Name)
         (body : IlPrem) (child : Ref)
         → out-IlPrem at.1 ≡ IlPrem-F.Each how xs body → taken ≡ Some child → IsOneLine child
         → refuses V9 answer → Tests il notes at taken answer
-    each_ends : {at : Place} {taken : Taken} {answer : Answer} (how : Iteration) (xs : List Name)
+    each_ends : {at : Place} {taken : TakenChild} {answer : Answer} (how : Iteration) (xs : List Name)
         (body : IlPrem) (inner : List Ref) (r : Outcomes) (o : Outcome)
         → out-IlPrem at.1 ≡ IlPrem-F.Each how xs body → IsTakenFor inner taken
         → ComeTo il at.0 (count_of how) r → way how xs at.0 r ≡ Ends o
         → refuses (refusal (rule_at at.1) o) answer → Tests il notes at taken answer
-    each : {at : Place} {taken : Taken} {answer : Answer} (how : Iteration) (xs : List Name)
+    each : {at : Place} {taken : TakenChild} {answer : Answer} (how : Iteration) (xs : List Name)
         (body : IlPrem) (inner : List Ref) (r : Outcomes) (envs : List Env)
         → out-IlPrem at.1 ≡ IlPrem-F.Each how xs body → IsTakenFor inner taken
         → ComeTo il at.0 (count_of how) r → way how xs at.0 r ≡ Goes envs
