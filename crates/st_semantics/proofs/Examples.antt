@@ -18,8 +18,9 @@ use Rattle.st_il.specs.declared.value.Value.TheVariants as value
 use Rattle.st_il.specs.declared.ty.Ty.TheVariants as ty
 use Rattle.st_il.specs.declared.ty.NumTy.TheVariants as numbers
 use Rattle.st_il.specs.Height.{height}
-use Rattle.st_il.specs.Value.{IsText, texts_of}
-use Rattle.st_types.specs.Meaning.{itself, alias_of}
+use Rattle.st_num.specs.Texts.{IsText}
+use Rattle.st_il.specs.Value.{texts_of}
+use Rattle.st_type_table.specs.Meaning.{itself, alias_of}
 use Rattle.st_types.specs.HasType.{natural}
 use Rattle.st_semantics.specs.declared.outcome.Outcome.TheVariants.{Val, NoValue}
 use Rattle.st_semantics.specs.declared.outcome.Outcomes.TheVariants.{Values}

@@ -123,10 +123,10 @@ pub modes_by_name : (il : Il) → KeepModes il → ModesByName il
 modes_by_name il keep = record {
   clauses = clauses_run il il.defs keep;
   rules = λ name number rule has.
-    let kept : RuleKept il name number (rules_of il name) rule = rule_kept il il.defs keep name number rule has.is_rule has.has in
-    record {
-      m1 = subst (IsDirected il) (sym kept.relation) (directed il rule.relation kept.m1);
-      m2 = subst (λ z. Leads il (mode.Relation z) (mode.Relation z) → ⊥) (sym kept.relation) kept.m2;
-      m5 = kept.m5;
-    };
+      let kept : RuleKept il name number (rules_of il name) rule = rule_kept il il.defs keep name number rule has.is_rule has.has in
+      record {
+        m1 = subst (IsDirected il) (sym kept.relation) (directed il rule.relation kept.m1);
+        m2 = subst (λ z. Leads il (mode.Relation z) (mode.Relation z) → ⊥) (sym kept.relation) kept.m2;
+        m5 = kept.m5;
+      };
 }

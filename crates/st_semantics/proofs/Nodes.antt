@@ -36,7 +36,7 @@ use Rattle.st_semantics.specs.Walks.{Judges, Walks}
 use Rattle.st_semantics.specs.Verdict.{Found, find_rule, rule_named, IsNode, lines_cited, tests_node}
 use Rattle.st_semantics.specs.Laws.{TrialsAreStable}
 use Rattle.st_semantics.specs.Evidence.{IsDeepTrial, GivesOutputs, in_trial, in_trial_at, tries, try_each, try_all, excludes, HasShape}
-use Rattle.st_semantics.proofs.Maps.{Holds-map}
+use Rattle.st_semantics.proofs.Holding.{Holds-map}
 use Rattle.st_semantics.proofs.Acceptance.{no_refusal, cites-level, AllAllowed, proved_of}
 
 -- ---- of tests one after another each accepts

@@ -127,7 +127,7 @@ no : false ≡ true → ⊥
 no e = cc
 
 abbrev IsTold : IlExp-F IlExp Iteration ListItem PathSeg → Option Form → Type 0
-IsTold y None = Unit {0}
+IsTold y None = (told_at (map-IlExp IlExp Iteration ListItem PathSeg Told Bool Told (List Told) told has_simple_count told_item told_segment y)).pattern ≡ true → Unit {0}
 IsTold y (Some f) = (told_at (map-IlExp IlExp Iteration ListItem PathSeg Told Bool Told (List Told) told has_simple_count told_item told_segment y)).pattern ≡ true → form_patterns f
 
 two_parts : (e g : IlExp) → (is_pattern e && is_pattern g) ≡ true → list_all is_pattern (e ∷ g ∷ []) ≡ true
@@ -141,47 +141,47 @@ iterated_parts how body h =
     (simple-parts (count_of how) (sym (count-simple how) ∙ b.0), b.1)
 
 told-parts : (y : IlExp-F IlExp Iteration ListItem PathSeg) → IsTold y (form_at y)
-told-parts (IlExp-F.Bool truth) h = refl
-told-parts (IlExp-F.Number n) h = refl
-told-parts (IlExp-F.Text text) h = refl
-told-parts (IlExp-F.Var x) h = tt
-told-parts (IlExp-F.Not e) h = absurd (no h)
-told-parts (IlExp-F.And e g) h = absurd (no h)
-told-parts (IlExp-F.Or e g) h = absurd (no h)
-told-parts (IlExp-F.Imp e g) h = absurd (no h)
-told-parts (IlExp-F.Iff e g) h = absurd (no h)
-told-parts (IlExp-F.Neg e) h = absurd (no h)
-told-parts (IlExp-F.Add type e g) h = absurd (no h)
-told-parts (IlExp-F.Sub type e g) h = absurd (no h)
-told-parts (IlExp-F.Mul type e g) h = absurd (no h)
-told-parts (IlExp-F.Div type e g) h = absurd (no h)
-told-parts (IlExp-F.Rem type e g) h = absurd (no h)
-told-parts (IlExp-F.Pow type e g) h = absurd (no h)
-told-parts (IlExp-F.Eq e g) h = absurd (no h)
-told-parts (IlExp-F.Ne e g) h = absurd (no h)
-told-parts (IlExp-F.Lt e g) h = absurd (no h)
-told-parts (IlExp-F.Gt e g) h = absurd (no h)
-told-parts (IlExp-F.Le e g) h = absurd (no h)
-told-parts (IlExp-F.Ge e g) h = absurd (no h)
-told-parts (IlExp-F.Member e g) h = absurd (no h)
-told-parts (IlExp-F.Case type tag es) h = parts es h
-told-parts (IlExp-F.Fields type es) = tt
-told-parts (IlExp-F.Dot e name) h = absurd (no h)
-told-parts (IlExp-F.Set e path g) h = absurd (no h)
-told-parts (IlExp-F.Extend e path g) h = absurd (no h)
-told-parts (IlExp-F.Tuple es) h = parts es h
-told-parts (IlExp-F.List type items) h = parts (map item_exp items) (ap all_patterns (sym (items-told items)) ∙ h)
-told-parts (IlExp-F.Cat e g) h = two_parts e g h
-told-parts (IlExp-F.Join e g) h = absurd (no h)
-told-parts (IlExp-F.Empty type) h = refl
-told-parts (IlExp-F.Present e) h = one_part e h
-told-parts (IlExp-F.Absent type) = tt
-told-parts (IlExp-F.Len e) h = absurd (no h)
-told-parts (IlExp-F.IlExp::At e g) h = absurd (no h)
-told-parts (IlExp-F.IlExp::Slice e g i) h = absurd (no h)
-told-parts (IlExp-F.Call fun es) h = absurd (no h)
-told-parts (IlExp-F.Up type e) h = one_part e h
-told-parts (IlExp-F.Iter how names body) h = iterated_parts how body h
+told-parts (IlExp-F.Bool truth) = λ h. refl
+told-parts (IlExp-F.Number n) = λ h. refl
+told-parts (IlExp-F.Text text) = λ h. refl
+told-parts (IlExp-F.Var x) = λ h. tt
+told-parts (IlExp-F.Not e) = λ h. absurd (no h)
+told-parts (IlExp-F.And e g) = λ h. absurd (no h)
+told-parts (IlExp-F.Or e g) = λ h. absurd (no h)
+told-parts (IlExp-F.Imp e g) = λ h. absurd (no h)
+told-parts (IlExp-F.Iff e g) = λ h. absurd (no h)
+told-parts (IlExp-F.Neg e) = λ h. absurd (no h)
+told-parts (IlExp-F.Add type e g) = λ h. absurd (no h)
+told-parts (IlExp-F.Sub type e g) = λ h. absurd (no h)
+told-parts (IlExp-F.Mul type e g) = λ h. absurd (no h)
+told-parts (IlExp-F.Div type e g) = λ h. absurd (no h)
+told-parts (IlExp-F.Rem type e g) = λ h. absurd (no h)
+told-parts (IlExp-F.Pow type e g) = λ h. absurd (no h)
+told-parts (IlExp-F.Eq e g) = λ h. absurd (no h)
+told-parts (IlExp-F.Ne e g) = λ h. absurd (no h)
+told-parts (IlExp-F.Lt e g) = λ h. absurd (no h)
+told-parts (IlExp-F.Gt e g) = λ h. absurd (no h)
+told-parts (IlExp-F.Le e g) = λ h. absurd (no h)
+told-parts (IlExp-F.Ge e g) = λ h. absurd (no h)
+told-parts (IlExp-F.Member e g) = λ h. absurd (no h)
+told-parts (IlExp-F.Case type tag es) = λ h. parts es h
+told-parts (IlExp-F.Fields type es) = λ h. tt
+told-parts (IlExp-F.Dot e name) = λ h. absurd (no h)
+told-parts (IlExp-F.Set e path g) = λ h. absurd (no h)
+told-parts (IlExp-F.Extend e path g) = λ h. absurd (no h)
+told-parts (IlExp-F.Tuple es) = λ h. parts es h
+told-parts (IlExp-F.List type items) = λ h. parts (map item_exp items) (ap all_patterns (sym (items-told items)) ∙ h)
+told-parts (IlExp-F.Cat e g) = λ h. two_parts e g h
+told-parts (IlExp-F.Join e g) = λ h. absurd (no h)
+told-parts (IlExp-F.Empty type) = λ h. refl
+told-parts (IlExp-F.Present e) = λ h. one_part e h
+told-parts (IlExp-F.Absent type) = λ h. tt
+told-parts (IlExp-F.Len e) = λ h. absurd (no h)
+told-parts (IlExp-F.IlExp::At e g) = λ h. absurd (no h)
+told-parts (IlExp-F.IlExp::Slice e g i) = λ h. absurd (no h)
+told-parts (IlExp-F.Call fun es) = λ h. absurd (no h)
+told-parts (IlExp-F.Up type e) = λ h. one_part e h
+told-parts (IlExp-F.Iter how names body) = λ h. iterated_parts how body h
 
 -- the form of a pattern has patterns as its parts
 pub pattern-form : (defs : List SyntaxDef) (e : IlExp) (f : Form) → HasForm defs e f → is_pattern e ≡ true → form_patterns f
