@@ -54,7 +54,7 @@ items-told (i ∷ is) = ap₂ (λ a b. a ∷ b) (item-told i) (items-told is)
 told-out : (e : IlExp) → told e ≡ told_at (map-IlExp IlExp Iteration ListItem PathSeg Told Bool Told (List Told) told has_simple_count told_item told_segment (out-IlExp e))
 told-out e = fold_out-IlExp Told Bool Told (List Told) told_at simple_count_at item_at segment_at e
 
-told-level : (e : IlExp) (y : IlExp-F IlExp Iteration ListItem PathSeg) → out-IlExp e ≡ y → told e ≡ told_at (map-IlExp IlExp Iteration ListItem PathSeg Told Bool Told (List Told) told has_simple_count told_item told_segment y)
+pub told-level : (e : IlExp) (y : IlExp-F IlExp Iteration ListItem PathSeg) → out-IlExp e ≡ y → told e ≡ told_at (map-IlExp IlExp Iteration ListItem PathSeg Told Bool Told (List Told) told has_simple_count told_item told_segment y)
 told-level e y h = told-out e ∙ ap (λ z. told_at (map-IlExp IlExp Iteration ListItem PathSeg Told Bool Told (List Told) told has_simple_count told_item told_segment z)) h
 
 abbrev SimpleIsPattern : Told → Type 0

@@ -21,6 +21,7 @@ use Rattle.st_semantics.specs.Environments.{EnvOk, IsTypedValue}
 use Rattle.st_semantics.specs.Orders.{is_order}
 use Rattle.st_semantics.specs.OrderOf.{order_of}
 use Rattle.st_semantics.specs.ModeRules.{KeepModes, IsOtherwise, cites_nothing}
+use Rattle.st_semantics.specs.Kinds.{AreKinded}
 use Rattle.st_semantics.specs.Marks.{HasMark}
 use Rattle.st_semantics.specs.Calls.{Chosen, TooDeep, CallAt, ValueAt}
 use Rattle.st_semantics.specs.Derivation.{Root, excluded, NoneBefore, IsValid}
@@ -85,6 +86,11 @@ pub record EvaluationIsLawful (T : Typing) (il : Il) : Type 0 where
 
 abbrev pub LawOfEvaluation : (Il → Type 0) → Typing → Type 0
 LawOfEvaluation Typed T = (il : Il) → Typed il → KeepModes il → EvaluationIsLawful T il
+
+-- Where the rules M1 to M7 are kept and iterated premises name only variables of their kind, an
+-- outcome that is not Deep is the outcome at every larger depth.
+abbrev pub LawOfDepths : Type 0
+LawOfDepths = (il : Il) → KeepModes il → AreKinded il → IsStable il × IsDeepBelow il
 
 -- ---- orders
 
