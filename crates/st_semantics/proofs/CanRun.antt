@@ -26,7 +26,8 @@ use Rattle.st_semantics.specs.Reaching.{bound_behind}
 use Rattle.st_semantics.specs.Executable as run
 use Rattle.st_semantics.specs.Executable.{Class, Test, Equation, class_of, class_of_condition, class_of_equation, class_of_sides, is_matched, class_of_each, is_anchored, is_countable, is_variable_at, bound_inside, runs_at}
 use Rattle.st_semantics.specs.Orders.{run_on}
-use Rattle.st_semantics.specs.ModeRules.{keeps_m3, keeps_m4, keeps_m7, KeepModes, patterns_have_one_open}
+use Rattle.st_semantics.specs.ModeRules.{keeps_m3, keeps_m4, keeps_m7, patterns_have_one_open}
+use Rattle.st_semantics.specs.Breaches.{KeepModes}
 use Rattle.st_semantics.specs.Kinds.{IsKinded, AreKinded}
 use Rattle.st_semantics.specs.Kinds as kinded
 use Rattle.st_semantics.specs.inner.Modes.{ClauseRuns, ModesByName}
@@ -62,13 +63,13 @@ Runs-wider {few = few} (each how xs body is c k r) many w =
 
 -- ---- the class of a premise, by its level
 
-abbrev runs_of : Il → IlPrem → run.Runs
+abbrev pub runs_of : Il → IlPrem → run.Runs
 runs_of il = fold-IlPrem run.Runs (runs_at il)
 
 runs-level : (il : Il) (p : IlPrem) (y : IlPrem-F IlPrem) → out-IlPrem p ≡ y → runs_of il p ≡ runs_at il (map-IlPrem IlPrem run.Runs (runs_of il) y)
 runs-level il p y is = fold_out-IlPrem run.Runs (runs_at il) p ∙ ap (λ z. runs_at il (map-IlPrem IlPrem run.Runs (runs_of il) z)) is
 
-class-level : (il : Il) (bound : List Name) (p : IlPrem) (y : IlPrem-F IlPrem) → out-IlPrem p ≡ y → class_of il bound p ≡ (runs_at il (map-IlPrem IlPrem run.Runs (runs_of il) y)).class bound
+pub class-level : (il : Il) (bound : List Name) (p : IlPrem) (y : IlPrem-F IlPrem) → out-IlPrem p ≡ y → class_of il bound p ≡ (runs_at il (map-IlPrem IlPrem run.Runs (runs_of il) y)).class bound
 class-level il bound p y is = ap (λ (z : run.Runs). z.class bound) (runs-level il p y is)
 
 is-cited : (p : IlPrem) (y : IlPrem-F IlPrem) → out-IlPrem p ≡ y → cites p ≡ cites_at (map-IlPrem IlPrem Bool cites y)

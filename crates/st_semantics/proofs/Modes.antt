@@ -15,7 +15,8 @@ use Rattle.st_semantics.specs.Names.{Name}
 use Rattle.st_semantics.specs.Definitions.{relation_named, rules_in, rules_from, rules_of, clauses_in}
 use Rattle.st_semantics.specs.Directions.{direction}
 use Rattle.st_semantics.specs.Variables.{have_otherwise}
-use Rattle.st_semantics.specs.ModeRules.{KeepModes, Standing, standings, Breaks, IsDirected, IsOtherwise, cites_nothing, is_decided_behind, Leads, keeps_m3, keeps_m4, keeps_m6, keeps_m7}
+use Rattle.st_semantics.specs.ModeRules.{IsDirected, IsOtherwise, cites_nothing, Leads, keeps_m3, keeps_m4, keeps_m6, keeps_m7}
+use Rattle.st_semantics.specs.Breaches.{KeepModes, Standing, standings, Breaks, is_decided_behind}
 use Rattle.st_semantics.specs.ModeRules as mode
 use Rattle.st_semantics.specs.inner.Modes.{ClauseRuns, OtherwiseDecides, ModesByName}
 

@@ -25,7 +25,8 @@ use Rattle.st_semantics.specs.Environments.{EnvOk}
 use Rattle.st_semantics.specs.Evaluation.{tasks}
 use Rattle.st_semantics.specs.Variables.{cites, has_otherwise, have_otherwise}
 use Rattle.st_semantics.specs.Orders.{is_order}
-use Rattle.st_semantics.specs.ModeRules.{KeepModes, IsOtherwise, cites_nothing}
+use Rattle.st_semantics.specs.ModeRules.{IsOtherwise, cites_nothing}
+use Rattle.st_semantics.specs.Breaches.{KeepModes}
 use Rattle.st_semantics.specs.Holding as h
 use Rattle.st_semantics.specs.Holding.{Meaning, HaveValues, Place, places, HoldAll}
 use Rattle.st_semantics.specs.Calls.{has_value, no_goal}
@@ -34,7 +35,7 @@ use Rattle.st_semantics.specs.Derivation.{Root, Exclusion, Valid, Proved, HasTre
 use Rattle.st_semantics.specs.Checks.{Answer, asks, forbids, and_then, evaluates, evaluate_each, checking_depth}
 use Rattle.st_semantics.specs.Walks.{Judges, Walks}
 use Rattle.st_semantics.specs.Verdict.{Found, find_rule, rule_named, IsNode, lines_cited, tests_node}
-use Rattle.st_semantics.specs.Laws.{TrialsAreStable}
+use Rattle.st_semantics.specs.inner.Trials.{TrialsAreStable}
 use Rattle.st_semantics.specs.Evidence.{IsDeepTrial, GivesOutputs, in_trial, in_trial_at, tries, try_each, try_all, excludes, HasShape}
 use Rattle.st_semantics.proofs.Holding.{Holds-map}
 use Rattle.st_semantics.proofs.Acceptance.{no_refusal, cites-level, AllAllowed, proved_of}
@@ -154,20 +155,20 @@ forbidden : (P : Type 0) (rule : VerifyRule) → forbids P rule None → P → �
 forbidden P rule (inl p) q = p.0 q
 forbidden P rule (inr p) q = no_refusal rule p.1 refl
 
-tried : (il : Il) → TrialsAreStable il → (inputs : List Value) (rs : List RuleDef) (orders : List (List ℕ)) → try_each il inputs rs orders None
-    → (j : ℕ) (r : RuleDef) → slice_get rs j ≡ Some r → cites_nothing r ≡ true → GivesOutputs (in_trial il) r inputs → ⊥
-tried il stable inputs [] orders t j r get c gives = cc
-tried il stable inputs (r ∷ rs) [] t j x get c gives = no_refusal _ t refl
-tried il stable inputs (r ∷ rs) (o ∷ os) t zero x get c gives =
-    let same : r ≡ x = cc in
+tried : (il : Il) → TrialsAreStable il → (name : Name) (number : ℕ) (one : RuleDef) → slice_get (rules_of il name) number ≡ Some one → (inputs : List Value) (rs : List RuleDef) (orders : List (List ℕ)) → try_each il inputs rs orders None
+    → (j : ℕ) → slice_get rs j ≡ Some one → cites_nothing one ≡ true → GivesOutputs (in_trial il) one inputs → ⊥
+tried il stable name number one is inputs [] orders t j get c gives = cc
+tried il stable name number one is inputs (r ∷ rs) [] t j get c gives = no_refusal _ t refl
+tried il stable name number one is inputs (r ∷ rs) (o ∷ os) t zero get c gives =
+    let same : r ≡ one = cc in
     let one = both (tries il inputs r o) (try_each il inputs rs os) None t refl in
     let two = both (asks (is_order il r o ≡ true) V10) (and_then (forbids (IsDeepTrial il r o inputs) V13) (forbids (GivesOutputs (in_trial_at il) r inputs) V10)) None one.0 refl in
     let three = both (forbids (IsDeepTrial il r o inputs) V13) (forbids (GivesOutputs (in_trial_at il) r inputs) V10) None two.1 refl in
-    stable r o inputs (ap cites_nothing same ∙ c) (asked (is_order il r o ≡ true) V10 two.0)
+    stable name number r (is ∙ ap Some (sym same)) o inputs (ap cites_nothing same ∙ c) (asked (is_order il r o ≡ true) V10 two.0)
     (forbidden (IsDeepTrial il r o inputs) V13 three.0) (subst (λ z. GivesOutputs (in_trial il) z inputs) (sym same) gives)
     (forbidden (GivesOutputs (in_trial_at il) r inputs) V10 three.1)
-tried il stable inputs (r ∷ rs) (o ∷ os) t (suc j) x get c gives =
-    tried il stable inputs rs os (both (tries il inputs r o) (try_each il inputs rs os) None t refl).1 j x get c gives
+tried il stable name number one is inputs (r ∷ rs) (o ∷ os) t (suc j) get c gives =
+    tried il stable name number one is inputs rs os (both (tries il inputs r o) (try_each il inputs rs os) None t refl).1 j get c gives
 
 pub relation_single : (il : Il) (k : ℕ) (a b : Name) → IsRelation il k a → IsRelation il k b → a ≡ b
 relation_single il k a b p q = let same : p.0 ≡ q.0 = cc in sym p.2 ∙ (ap (λ (r : RelationDef). r.name) same ∙ q.2)
@@ -182,7 +183,7 @@ module _ (il : Il) (modes : KeepModes il) (stable : TrialsAreStable il) (name : 
       let rn : name ≡ rule'.relation = (rule_of name (rules_in il.defs) tree.rule rule' here).0 in
       let early : slice_get (take number (rules_of il name)) tree.rule ≡ Some rule' = take_get number tree.rule (rules_of il name) rule' less here in
       let nothing_cited : cites_nothing rule' ≡ true = all_get cites_nothing (take number (rules_of il name)) tree.rule rule' ((modes_by_name il modes).rules name number rule has).m5 early in
-      tried il stable inputs (take number (rules_of il name)) orders all tree.rule rule' early nothing_cited (record {
+      tried il stable name tree.rule rule' here inputs (take number (rules_of il name)) orders all tree.rule early nothing_cited (record {
         env = tree.env;
         reached = record {
           typed = ok;

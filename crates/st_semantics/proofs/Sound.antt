@@ -11,7 +11,7 @@ use Rattle.st_semantics.specs.declared.notes.Judgement.{Judgement}
 use Rattle.st_semantics.specs.declared.notes.Notes.{Notes}
 use Rattle.st_semantics.specs.Names.{Name}
 use Rattle.st_semantics.specs.Directions.{inputs_of, outputs_of}
-use Rattle.st_semantics.specs.ModeRules.{KeepModes}
+use Rattle.st_semantics.specs.Breaches.{KeepModes}
 use Rattle.st_semantics.specs.Derivation.{HasTree}
 use Rattle.st_semantics.specs.Notes.{nothing_noted, judgement_on, noted}
 use Rattle.st_semantics.specs.Checks.{asks}
@@ -19,7 +19,9 @@ use Rattle.st_semantics.specs.Walks.{Judges}
 use Rattle.st_semantics.specs.Verdict.{Verdict, IsInPlace, IsNode, Continues, tests, tests_node, rule_named}
 use Rattle.st_semantics.specs.Accepts as reads
 use Rattle.st_semantics.specs.Accepts.{ReadsTo, Accepts, IsDerivedStep, AreSound}
-use Rattle.st_semantics.specs.Laws.{TrialsAreStable, LawOfReading, LawOfAcceptance}
+use Rattle.st_semantics.specs.inner.Trials.{TrialsAreStable}
+use Rattle.st_semantics.proofs.Trials.{trials_are_stable}
+use Rattle.st_semantics.specs.Laws.{LawOfReading, LawOfAcceptance}
 use Rattle.st_semantics.proofs.Nodes.{both, asked, node_tree}
 
 -- ---- lists
@@ -194,7 +196,7 @@ module _ (il : Il) (modes : KeepModes il) (stable : TrialsAreStable il) where
   }
 
 pub law_of_reading : LawOfReading
-law_of_reading il modes stable lines notes taken = sound il modes stable lines notes taken
+law_of_reading il modes kinds lines notes taken = sound il modes (trials_are_stable il modes kinds) lines notes taken
 
 pub law_of_acceptance : (Typed : Il → Type 0) → LawOfAcceptance Typed
-law_of_acceptance Typed il stable lines accepts = sound il accepts.modes stable lines accepts.notes accepts.read
+law_of_acceptance Typed il kinds lines accepts = sound il accepts.modes (trials_are_stable il accepts.modes kinds) lines accepts.notes accepts.read

@@ -53,7 +53,8 @@ refusal rule Deep = V13
 abbrev pub evaluates : Il → VerifyRule → Env → IlExp → Value → Test
 evaluates il rule env e v answer =
     (ValueAt il checking_depth env e (Val v) × accepts answer)
-    ⊎ ((o : Outcome) × ValueAt il checking_depth env e o × (o ≢ Val v) × refuses (refusal rule o) answer)
+    ⊎ ((o : Outcome) × ValueAt il checking_depth env e o × (o ≢ Val v)
+    × refuses (refusal rule o) answer)
 
 -- The holes have these values: their number is asked first, and then each is evaluated.
 abbrev pub evaluate_each : Il → Env → List IlExp → List Value → Test

@@ -20,7 +20,8 @@ use Rattle.st_semantics.specs.Definitions.{syntaxes, clauses_in}
 use Rattle.st_semantics.specs.Environments.{EnvOk, IsTypedValue}
 use Rattle.st_semantics.specs.Orders.{is_order}
 use Rattle.st_semantics.specs.OrderOf.{order_of}
-use Rattle.st_semantics.specs.ModeRules.{KeepModes, IsOtherwise, cites_nothing}
+use Rattle.st_semantics.specs.ModeRules.{IsOtherwise}
+use Rattle.st_semantics.specs.Breaches.{KeepModes}
 use Rattle.st_semantics.specs.Kinds.{AreKinded}
 use Rattle.st_semantics.specs.Marks.{HasMark}
 use Rattle.st_semantics.specs.Calls.{Chosen, TooDeep, CallAt, ValueAt}
@@ -28,7 +29,6 @@ use Rattle.st_semantics.specs.Derivation.{Root, excluded, NoneBefore, IsValid}
 use Rattle.st_semantics.specs.Chains.{DeepAt, IsValidAt}
 use Rattle.st_semantics.specs.Transcript.{Term, Ending, Transcript, GoesOn, IsNext}
 use Rattle.st_semantics.specs.Goals.{AreInputs}
-use Rattle.st_semantics.specs.Evidence.{IsDeepTrial, GivesOutputs, in_trial, in_trial_at}
 use Rattle.st_semantics.specs.Verdict.{Verdict}
 use Rattle.st_semantics.specs.Accepts.{ReadsTo, Accepts, AreSound}
 
@@ -141,22 +141,14 @@ LawOfVerdicts =
     (il : Il) → CallsAreSingle il → (notes : Notes) (line : Line) (a b : Option VerifyRule)
     → Verdict il notes line a → Verdict il notes line b → a ≡ b
 
--- Where a rule without relation premises gives outputs at some depth, and does not meet Deep at 500
--- in an executable order, it cannot but give outputs at 500.
-abbrev pub TrialsAreStable : Il → Type 0
-TrialsAreStable il =
-    (rule : RuleDef) (order : List ℕ) (inputs : List Value) → cites_nothing rule ≡ true
-    → is_order il rule order ≡ true → (IsDeepTrial il rule order inputs → ⊥)
-    → GivesOutputs (in_trial il) rule inputs → (GivesOutputs (in_trial_at il) rule inputs → ⊥) → ⊥
-
--- lines that are taken vouch for their nodes and steps, where trials are stable
+-- Lines that are taken vouch for their nodes and steps, where the rules M1 to M7 are kept and
+-- iterated premises name only variables of their kind.
 abbrev pub LawOfReading : Type 0
 LawOfReading =
-    (il : Il) → KeepModes il → TrialsAreStable il → (lines : List Line) (notes : Notes)
+    (il : Il) → KeepModes il → AreKinded il → (lines : List Line) (notes : Notes)
     → ReadsTo il lines notes → AreSound il lines
 
 -- so do accepted lines
 abbrev pub LawOfAcceptance : (Il → Type 0) → Type 0
 LawOfAcceptance Typed =
-    (il : Il) → TrialsAreStable il → (lines : List Line) → Accepts Typed il lines
-    → AreSound il lines
+    (il : Il) → AreKinded il → (lines : List Line) → Accepts Typed il lines → AreSound il lines

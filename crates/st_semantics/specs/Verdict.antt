@@ -14,10 +14,9 @@ use Rattle.st_semantics.specs.declared.notes.Judgement.{Judgement}
 use Rattle.st_semantics.specs.declared.notes.Notes.{Notes}
 use Rattle.st_semantics.specs.Names.{Name}
 use Rattle.st_semantics.specs.Definitions.{relation_named, rules_of, syntaxes}
-use Rattle.st_semantics.specs.Directions.{inputs_of}
+use Rattle.st_semantics.specs.Directions.{inputs_of, IsStepping}
 use Rattle.st_semantics.specs.Environments.{EnvOk}
 use Rattle.st_semantics.specs.Goals.{AreInputs}
-use Rattle.st_semantics.specs.ModeRules.{IsStepping}
 use Rattle.st_semantics.specs.Holding.{places}
 use Rattle.st_semantics.specs.Notes.{judgement_on}
 use Rattle.st_semantics.specs.Checks.{Test, accepts, refuses, asks, and_then, evaluate_each}

@@ -79,12 +79,12 @@ mutual
         (child : Ref)
         → out-IlPrem at.1 ≡ IlPrem-F.Goal relation es → taken ≡ Some child → IsNoLine child
         → refuses V9 answer → Tests il notes at taken answer
-    each_of_one : {at : Place} {taken : TakenChild} {answer : Answer} (how : Iteration) (xs : List Name)
-        (body : IlPrem) (child : Ref)
+    each_of_one : {at : Place} {taken : TakenChild} {answer : Answer} (how : Iteration)
+        (xs : List Name) (body : IlPrem) (child : Ref)
         → out-IlPrem at.1 ≡ IlPrem-F.Each how xs body → taken ≡ Some child → IsOneLine child
         → refuses V9 answer → Tests il notes at taken answer
-    each_ends : {at : Place} {taken : TakenChild} {answer : Answer} (how : Iteration) (xs : List Name)
-        (body : IlPrem) (inner : List Ref) (r : Outcomes) (o : Outcome)
+    each_ends : {at : Place} {taken : TakenChild} {answer : Answer} (how : Iteration)
+        (xs : List Name) (body : IlPrem) (inner : List Ref) (r : Outcomes) (o : Outcome)
         → out-IlPrem at.1 ≡ IlPrem-F.Each how xs body → IsTakenFor inner taken
         → ComeTo il at.0 (count_of how) r → way how xs at.0 r ≡ Ends o
         → refuses (refusal (rule_at at.1) o) answer → Tests il notes at taken answer
