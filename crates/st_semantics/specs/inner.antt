@@ -1,0 +1,3 @@
+-- What only proofs need.
+pub mod Modes
+pub mod Trials

@@ -1,0 +1,18 @@
+//! What the rules of a specification mean: definitions, the types that they speak of, and laws.
+//!
+//! Read `specs/Lib.antt` for the order in which to read them.
+#![tactic(auto)]
+
+mod laws;
+mod notes;
+mod outcome;
+mod pattern;
+mod unfit;
+mod verify_rule;
+
+pub use laws::meaning_of_rules;
+pub use notes::{Judgement, Notes};
+pub use outcome::{Outcome, Outcomes};
+pub use pattern::is_pattern;
+pub use unfit::{Unfit, Unordered};
+pub use verify_rule::VerifyRule;
