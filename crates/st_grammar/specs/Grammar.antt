@@ -18,17 +18,19 @@ use Rattle.st_grammar.specs.Trees.{Tree, operand, post, times, bracket, led, Lea
 
 -- ---- lists of parts
 
--- how parts are set off from one another
+-- how the parts in a bracket that stands in such a part are set off from one another
 abbrev pub bracket_style : Bracket → Sort → Style
 bracket_style round arithmetic = lone
 bracket_style round σ = parts
 bracket_style brace σ = fields
 bracket_style k σ = lone
 
+-- how the parts behind a tree and `[` are set off: in arithmetic there is one alone
 abbrev pub index_style : Sort → Style
 index_style arithmetic = lone
 index_style σ = ends
 
+-- how the parts that stand behind this heading are set off from one another
 abbrev pub style : Sort → Heading → Style
 style σ (plain k o) = bracket_style k σ
 style σ (length o) = lone
@@ -83,12 +85,14 @@ IsFilled h (more ts pre t) = Unit {0}
 IsFilled (arguments f o) none = Unit {0}
 IsFilled h none = ⊥
 
+-- how many parts these are
 abbrev pub size : Trees → ℕ
 size none = 0
 size (more ts pre t) = size ts + 1
 
 -- ---- what may follow
 
+-- the tree is the name of a function
 abbrev pub is_function : Tree → Bool
 is_function (operand function x) = true
 is_function t = false
@@ -108,6 +112,7 @@ follows σ u (opening k x) = juxtaposes σ
 follows σ u (closing c x) = opens_length c σ
 follows σ u l = false
 
+-- the first of these tokens begins a next element of a sequence behind this one
 abbrev pub text_follows : Sort → Tree → List Terminal → Bool
 text_follows σ u [] = false
 text_follows σ u (l ∷ w) = follows σ u l
@@ -144,6 +149,7 @@ may_post σ t l = false
 
 -- ---- trees
 
+-- the level of what leads to a last part: that of its sign, or of a sequence
 abbrev pub lead_level : Lead → ℕ
 lead_level (left l m x) = level_of m
 lead_level (ahead m x) = prefix_level m
@@ -155,6 +161,7 @@ wanted (left l m x) = right_of m
 wanted (ahead m x) = prefix_right m
 wanted (items ts) = tight
 
+-- the level of a tree: that of what leads to its last part, and else the tightest
 abbrev pub level : Tree → ℕ
 level (operand k x) = tight
 level (post t l) = tight
@@ -162,10 +169,12 @@ level (times t m x c) = tight
 level (bracket h ts c) = tight
 level (led g t) = lead_level g
 
+-- the bracket is an operand by itself; a step of a path is none
 abbrev pub is_operand : Heading → Bool
 is_operand (segment p o) = false
 is_operand h = true
 
+-- a step stands behind the `[` of the path
 abbrev pub has_step : Path → Bool
 has_step (head t o) = false
 has_step p = true
@@ -182,6 +191,7 @@ MayFollow σ y ts w = Unit {0}
 
 -- what the grammar allows in a sort of part
 abbrev mutual
+  -- the grammar allows the tree in this sort of part
   pub Fits : Sort → Tree → Type 0
   Fits σ (operand k x) = takes σ k ≡ true
   Fits σ (post t l) = (may_post σ t l ≡ true) × Fits σ t × (tight ≤ level t)
@@ -192,6 +202,7 @@ abbrev mutual
       × IsFilled h ts
   Fits σ (led g t) = LeadFits σ g × Fits σ t × (wanted g ≤ level t) × MayEnd σ g (text t)
 
+  -- it allows what leads to a last part
   pub LeadFits : Sort → Lead → Type 0
   LeadFits σ (left l m x) = (has_level σ (level_of m) ≡ true) × Fits σ l × (left_of m ≤ level l)
   LeadFits σ (ahead m x) = has_level σ (prefix_level m) ≡ true
@@ -203,6 +214,7 @@ abbrev mutual
   EachFits σ y n (more ts pre t) =
       EachFits σ y n ts × SetsOff y ts pre × Fits σ t × (n ≤ level t) × MayFollow σ y ts (text t)
 
+  -- it allows what stands before the parts that a bracket holds
   pub HeadingFits : Sort → Heading → Type 0
   HeadingFits σ (plain k o) = encloses σ k ≡ true
   HeadingFits σ (length o) = computes σ ≡ true
@@ -212,6 +224,7 @@ abbrev mutual
   HeadingFits σ (update p m x) = PathFits σ p × (has_step p ≡ true) × (is_change m ≡ true)
   HeadingFits σ (below o i m x) = (is_count σ ≡ true) × (is_less m ≡ true)
 
+  -- it allows the path
   pub PathFits : Sort → Path → Type 0
   PathFits σ (head t o) = (is_expression σ ≡ true) × Fits σ t × (tight ≤ level t)
   PathFits σ (field p x) = PathFits σ p

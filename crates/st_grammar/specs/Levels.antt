@@ -62,10 +62,12 @@ computes (expression b) = true
 computes arithmetic = true
 computes σ = false
 
+-- an expression, directly between bars or not
 abbrev pub is_expression : Sort → Bool
 is_expression (expression b) = true
 is_expression σ = false
 
+-- what stands behind `^`
 abbrev pub is_count : Sort → Bool
 is_count count = true
 is_count σ = false
@@ -78,10 +80,11 @@ juxtaposes σ = false
 
 -- ---- signs
 
--- the level of a sequence, and of what binds tightest
+-- the level of a sequence
 abbrev pub sequence_level : ℕ
 sequence_level = 14
 
+-- the level of what binds tightest, as operands do
 abbrev pub tight : ℕ
 tight = 20
 
@@ -92,10 +95,11 @@ has_level arithmetic n = nat_le 15 n
 has_level notation n = nat_le 7 n && nat_le n 12
 has_level σ n = false
 
--- the loosest level that a sign allows to its left, and to its right
+-- the loosest level that a sign allows to its left
 abbrev pub left_of : Mark → ℕ
 left_of m = signs.left_of (signs.level m)
 
+-- the loosest level that a sign allows to its right
 abbrev pub right_of : Mark → ℕ
 right_of m = signs.right_of (signs.level m)
 
@@ -119,18 +123,22 @@ is_type_iteration_sign mark.Star = true
 is_type_iteration_sign mark.Question = true
 is_type_iteration_sign m = false
 
+-- the sign before a count
 abbrev pub is_caret : Mark → Bool
 is_caret mark.Caret = true
 is_caret m = false
 
+-- the sign that sets off a next part
 abbrev pub is_comma : Mark → Bool
 is_comma mark.Comma = true
 is_comma m = false
 
+-- the sign that sets off the second end of a slice
 abbrev pub is_colon : Mark → Bool
 is_colon mark.Colon = true
 is_colon m = false
 
+-- the sign before the bound of an index
 abbrev pub is_less : Mark → Bool
 is_less mark.Less = true
 is_less m = false

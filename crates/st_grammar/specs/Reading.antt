@@ -29,6 +29,7 @@ pub data Frames : Type 0 where
   -- a tree and `^`
   timing : Tree → Mark → Token → Frames → Frames
 
+-- how far the tokens of a part are read
 pub data State : Type 0 where
   -- an operand is due
   want : Frames → State
@@ -75,21 +76,25 @@ abbrev pub lower : ℕ → Tree → Frames → Tree × Frames
 lower n t (over g fs) = if nat_le (reach g) n then (t, over g fs) else lower n (led g t) fs
 lower n t fs = (t, fs)
 
+-- a bracket with its parts has closed: it is a step of a path, or a part that is read
 abbrev pub shut : Heading → Trees → Token → Frames → State
 shut (segment p o) ts x fs = pathed (part p o ts x) fs
 shut h ts x fs = settle (bracket h ts x) fs
 
+-- what a closing token makes of a part that is read, where it closes the innermost bracket
 abbrev pub close : Closing → Token → Tree × Frames → Option State
 close c x (t, within h ts pre fs) =
     if agree (closes h) c then Some (shut h (more ts pre t) x fs) else None
 close c x p = None
 
+-- the part that is read, where nothing is open round it
 abbrev pub ended : Tree × Frames → Option Tree
 ended (t, bottom σ) = Some t
 ended p = None
 
 -- ---- what begins
 
+-- a bracket has opened: in braces the name of a field is due, else a part
 abbrev pub opened : Bracket → Token → Frames → State
 opened brace x fs = naming (plain brace x) none [] fs
 opened k x fs = want (within (plain k x) none [] fs)
@@ -100,18 +105,22 @@ no_arguments x (within (arguments f o) none [] fs) =
     Some (settle (bracket (arguments f o) none x) fs)
 no_arguments x fs = None
 
+-- what a closing token makes where an operand is due: a bar opens a length, and a parenthesis
+-- closes arguments that are none
 abbrev pub begin_closing : Closing → Token → Frames → Option State
 begin_closing by_bar x fs =
     if computes (sort fs) then Some (want (within (length x) none [] fs)) else None
 begin_closing by_round x fs = no_arguments x fs
 begin_closing c x fs = None
 
+-- what `(` makes where an operand is due
 abbrev pub begin_round : Token → Frames → Option State
 begin_round x fs =
     if is_count (sort fs) then Some (indexing x fs)
     else if encloses (sort fs) round then Some (want (within (plain round x) none [] fs))
     else None
 
+-- what a token that opens a bracket makes where an operand is due
 abbrev pub begin_opening : Bracket → Token → Frames → Option State
 begin_opening round x fs = begin_round x fs
 begin_opening k x fs = if encloses (sort fs) k then Some (opened k x fs) else None
@@ -144,10 +153,12 @@ next_part ends m x h none ts fs =
     if is_colon m then Some (want (within h ts (sign m x ∷ []) fs)) else None
 next_part y m x h before ts fs = None
 
+-- the sign sets off a next part in the innermost bracket
 abbrev pub separate : Mark → Token → Tree × Frames → Option State
 separate m x (t, within h ts pre fs) = next_part (style (sort fs) h) m x h ts (more ts pre t) fs
 separate m x p = None
 
+-- the sign makes what is read its left side, or else sets off a next part
 abbrev pub join : Mark → Token → Tree × Frames → Option State
 join m x p =
     if has_level (sort p.1) (level_of m) && nat_le (least p.1) (level_of m)
@@ -158,6 +169,7 @@ join m x p =
 abbrev pub pull : Sort → Mark → ℕ
 pull σ m = if has_level σ (level_of m) then level_of m else 0
 
+-- what a sign makes behind a part: it iterates it, wants a count, joins it or sets it off
 abbrev pub behind_sign : Mark → Token → Tree → Frames → Option State
 behind_sign m x t fs =
     if may_post (sort fs) t (sign m x) then Some (got (post t (sign m x)) fs)
@@ -171,17 +183,20 @@ behind_square x t fs =
     else if computes (sort fs) then Some (want (within (index t x) none [] fs))
     else None
 
+-- `(` behind a part begins the arguments of a function, which it touches
 abbrev pub behind_round : Token → Tree → Frames → Option State
 behind_round x (operand function f) fs =
     if computes (sort fs) && x.touching then Some (want (within (arguments f x) none [] fs))
     else None
 behind_round x t fs = None
 
+-- what a token that opens a bracket makes behind a part
 abbrev pub behind_opening : Bracket → Token → Tree → Frames → Option State
 behind_opening square x t fs = behind_square x t fs
 behind_opening round x t fs = behind_round x t fs
 behind_opening k x t fs = None
 
+-- what a token makes behind a part, where it begins no next element of a sequence
 abbrev pub behind : Tree → Frames → Terminal → Option State
 behind t fs (leaf k x) = None
 behind t fs (dot x) = if may_post (sort fs) t (dot x) then Some (got (post t (dot x)) fs) else None
@@ -190,6 +205,7 @@ behind t fs (opening k x) = behind_opening k x t fs
 behind t fs (closing c x) = close c x (lower 0 t fs)
 behind t fs (other x) = None
 
+-- what a token makes behind a part
 abbrev pub after : Tree → Frames → Terminal → Option State
 after t fs l = if follows (sort fs) t l then begin (extend t fs) l else behind t fs l
 
@@ -200,6 +216,7 @@ abbrev pub in_index : Path → Frames → Terminal → Option State
 in_index (head t o) fs l = begin (within (index t o) none [] fs) l
 in_index p fs l = None
 
+-- what a token makes in a path: a step, or a sign of change and the new value
 abbrev pub in_path : Path → Frames → Terminal → Option State
 in_path p fs (dot x) = Some (pathed (field p x) fs)
 in_path p fs (opening square x) = Some (want (within (segment p x) none [] fs))
@@ -208,13 +225,16 @@ in_path p fs (sign m x) =
     else in_index p fs (sign m x)
 in_path p fs l = in_index p fs l
 
+-- the name of a field, and then its part is due
 abbrev pub name_field : Heading → Trees → List Terminal → Frames → Terminal → Option State
 name_field h ts pre fs l = if is_label l then Some (want (within h ts (pre ++ l ∷ []) fs)) else None
 
+-- behind `^ (` the name of an index
 abbrev pub name_index : Token → Frames → Terminal → Option State
 name_index o fs (leaf low i) = Some (comparing o i fs)
 name_index o fs l = None
 
+-- behind that name a `<`, and then the bound is due
 abbrev pub bound_index : Token → Token → Frames → Terminal → Option State
 bound_index o i fs (sign m x) =
     if is_less m then Some (want (within (below o i m x) none [] fs)) else None
@@ -222,6 +242,7 @@ bound_index o i fs l = None
 
 -- ---- the reading
 
+-- what a token makes of a state, where the grammar allows it there
 abbrev pub step : State → Terminal → Option State
 step (want fs) l = begin fs l
 step (got t fs) l = after t fs l
@@ -230,16 +251,20 @@ step (pathed p fs) l = in_path p fs l
 step (indexing o fs) l = name_index o fs l
 step (comparing o i fs) l = bound_index o i fs l
 
+-- the tree that is read, where the part may end here
 abbrev pub finish : State → Option Tree
 finish (got t fs) = ended (lower 0 t fs)
 finish st = None
 
+-- what tokens make of a state, one after another
 abbrev pub reading : State → List Terminal → Option State
 reading st [] = Some st
 reading st (l ∷ w) = option_and_then (λ next. reading next w) (step st l)
 
+-- the tree that tokens make, read from a state up to their end
 abbrev pub reads : State → List Terminal → Option Tree
 reads st w = option_and_then finish (reading st w)
 
+-- a part of this sort, of which nothing is read yet
 abbrev pub start : Sort → State
 start σ = want (bottom σ)

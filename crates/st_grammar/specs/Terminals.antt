@@ -19,11 +19,15 @@ use Rattle.st_grammar.specs.declared.sort.Closing.TheVariants.{ByRound as by_rou
 
 -- a token with what it can be
 pub data Terminal : Type 0 where
+  -- a token that can stand alone as an operand
   leaf : Leaf → Token → Terminal
   -- a dot with a name without a lower-case letter
   dot : Token → Terminal
+  -- a sign, which joins parts, iterates one or sets one off
   sign : Mark → Token → Terminal
+  -- a token that opens a bracket
   opening : Bracket → Token → Terminal
+  -- a token that closes a bracket, or a bar, which opens a length too
   closing : Closing → Token → Terminal
   -- a token that no such part has
   other : Token → Terminal
@@ -47,20 +51,24 @@ is_declared names front [] = is_named names front
 is_declared names front (b ∷ rest) =
     (b == 95 && is_named names front) || is_declared names (front ++ b ∷ []) rest
 
+-- the name stands for a variable, where these names are declared by `var`
 abbrev pub is_variable : List (List ℕ) → List ℕ → Bool
 is_variable names name = is_declared names [] name
 
+-- the token is the word `var`
 abbrev pub is_var : TokenKind → Bool
 is_var (kind.Reserved word.Var) = true
 is_var _ = false
 
+-- the name that a token is, and nothing where it is none
 abbrev pub name_in : TokenKind → List (List ℕ)
 name_in (kind.Low name) = name ∷ []
 name_in (kind.Up name) = name ∷ []
 name_in (kind.Mix name) = name ∷ []
 name_in _ = []
 
--- the names in these tokens that directly follow the word `var`, which stands before them or not
+-- the names in these tokens that directly follow the word `var`; whether it stands right before
+-- the first token is told
 abbrev pub names_behind : Bool → List Token → List (List ℕ)
 names_behind b [] = []
 names_behind b (x ∷ tokens) =
@@ -72,6 +80,7 @@ declared_names tokens = names_behind false tokens
 
 -- ---- terminals
 
+-- what a reserved word can be
 abbrev pub word_terminal : Word → Token → Terminal
 word_terminal word.Bool x = leaf basic x
 word_terminal word.Nat x = leaf basic x
@@ -82,6 +91,7 @@ word_terminal word.False x = leaf literal x
 word_terminal word.Eps x = leaf literal x
 word_terminal _ x = other x
 
+-- what a sign can be: one that opens, one that closes, or another
 abbrev pub sign_terminal : Mark → Token → Terminal
 sign_terminal mark.OpenParen x = opening round x
 sign_terminal mark.OpenBracket x = opening square x
@@ -96,6 +106,7 @@ sign_terminal mark.CloseBrace x = closing by_brace x
 sign_terminal mark.Bar x = closing by_bar x
 sign_terminal m x = sign m x
 
+-- what a token of this kind can be, where these names are declared by `var`
 abbrev pub kind_terminal : List (List ℕ) → TokenKind → Token → Terminal
 kind_terminal names (kind.Low name) x = leaf low x
 kind_terminal names (kind.Up name) x =

@@ -11,6 +11,7 @@ use Rattle.st_grammar.specs.declared.sort.Closing.TheVariants.{ByRound as by_rou
 use Rattle.st_grammar.specs.Terminals.{Terminal, leaf, dot, sign, opening, closing}
 
 mutual
+  -- a part, or a piece of one, with each of its tokens
   pub data Tree : Type 0 where
     -- a token that stands alone
     operand : Leaf → Token → Tree
@@ -59,6 +60,7 @@ mutual
     field : Path → Token → Path
     part : Path → Token → Trees → Token → Path
 
+-- what closes such a bracket
 abbrev pub closed_by : Bracket → Closing
 closed_by round = by_round
 closed_by square = by_square
@@ -78,6 +80,7 @@ closes (segment p o) = by_square
 closes (update p m x) = by_square
 closes (below o i m x) = by_round
 
+-- these two are the same closing token
 abbrev pub agree : Closing → Closing → Bool
 agree by_round by_round = true
 agree by_square by_square = true
@@ -87,6 +90,7 @@ agree c d = false
 
 -- the tokens of a tree
 abbrev mutual
+  -- all tokens of a tree, in their order
   pub text : Tree → List Terminal
   text (operand k x) = leaf k x ∷ []
   text (post t l) = text t ++ l ∷ []
@@ -94,15 +98,18 @@ abbrev mutual
   text (bracket h ts c) = heading_text h ++ (texts ts ++ closing (closes h) c ∷ [])
   text (led g t) = lead_text g ++ text t
 
+  -- the tokens before a last part
   pub lead_text : Lead → List Terminal
   lead_text (left l m x) = text l ++ sign m x ∷ []
   lead_text (ahead m x) = sign m x ∷ []
   lead_text (items ts) = texts ts
 
+  -- the tokens of parts, with those that set them off
   pub texts : Trees → List Terminal
   texts none = []
   texts (more ts pre t) = texts ts ++ (pre ++ text t)
 
+  -- the tokens before the parts that a bracket holds
   pub heading_text : Heading → List Terminal
   heading_text (plain k o) = opening k o ∷ []
   heading_text (length o) = closing by_bar o ∷ []
@@ -112,6 +119,7 @@ abbrev mutual
   heading_text (update p m x) = path_text p ++ sign m x ∷ []
   heading_text (below o i m x) = opening round o ∷ leaf low i ∷ sign m x ∷ []
 
+  -- the tokens of a path up to its last step
   pub path_text : Path → List Terminal
   path_text (head t o) = text t ++ opening square o ∷ []
   path_text (field p x) = path_text p ++ dot x ∷ []

@@ -20,12 +20,15 @@ below_zero (negsuc n) = true
 abbrev pub in_range : ℤ → Option ℤ
 in_range z = if nat_lt (unsigned_abs z) (2 ^ 128) then Some z else None
 
+-- the sum, where it is in range
 abbrev pub sum : ℤ → ℤ → Option ℤ
 sum a b = in_range (a +ℤ b)
 
+-- the difference, where it is in range
 abbrev pub difference : ℤ → ℤ → Option ℤ
 difference a b = in_range (a -ℤ b)
 
+-- the product, where it is in range
 abbrev pub product : ℤ → ℤ → Option ℤ
 product a b = in_range (a *ℤ b)
 

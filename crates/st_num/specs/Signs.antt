@@ -5,6 +5,7 @@ use Rattle.st_num.specs.declared.mark.Grouping.TheVariants.{None, Left, Right}
 use Rattle.st_num.specs.declared.mark.Mark.{Mark}
 use Rattle.st_num.specs.declared.mark.Mark.TheVariants.{Turnstile, ReverseTurnstile, SquigglyArrowStar, SquigglyArrow, Colon, Subtype, Supertype, Approximately, Define, Semicolon, Arrow, DotDot, Ellipsis, PlusPlus, ExtendBy, Equal, NotEqual, Less, Greater, LessOrEqual, GreaterOrEqual, ElementOf, Tilde, And, Or, Implies, Equivalent, Plus, Minus, Star, Slash, Backslash, Caret, Question, Bar, Comma, DashDash, OpenParen, CloseParen, OpenBracket, CloseBracket, OpenBrace, CloseBrace, OpenArith, TickParen, TickBracket, TickBrace}
 
+-- the characters by which a sign is written
 abbrev pub spelling : Mark → List ℕ
 spelling Turnstile = codes "|-"
 spelling ReverseTurnstile = codes "-|"
@@ -103,28 +104,31 @@ grouping_at n =
     else if n == 3 || n == 4 || n == 10 || n == 13 || n == 15 || n == 16 then Left
     else None
 
+-- how the signs of the level of this one group
 abbrev pub grouping : Mark → Grouping
 grouping m = grouping_at (level m)
 
--- how much tighter than the level what stands to the left, and to the right, is at least
+-- how much tighter than the level of a sign its left side is at least, by how it groups
 abbrev pub left_gap : Grouping → ℕ
 left_gap None = 1
 left_gap Left = 0
 left_gap Right = 1
 
+-- how much tighter than the level of a sign its right side is at least, by how it groups
 abbrev pub right_gap : Grouping → ℕ
 right_gap None = 1
 right_gap Left = 1
 right_gap Right = 0
 
--- the loosest level that a sign of this level allows to its left, and to its right
+-- the loosest level that a sign of this level allows to its left
 abbrev pub left_of : ℕ → ℕ
 left_of n = n + left_gap (grouping_at n)
 
+-- the loosest level that a sign of this level allows to its right
 abbrev pub right_of : ℕ → ℕ
 right_of n = n + right_gap (grouping_at n)
 
--- the signs that divide two sides of a notation
+-- whether the sign divides two sides of a notation
 abbrev pub is_notation : Mark → Bool
 is_notation m = nat_le 7 (level m) && nat_le (level m) 12
 

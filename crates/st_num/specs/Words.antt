@@ -3,6 +3,7 @@ use Rattle.std.specs.Prelude.{ℕ, List, codes}
 use Rattle.st_num.specs.declared.word.Word.{Word}
 use Rattle.st_num.specs.declared.word.Word.TheVariants.{Syntax, Relation, Rule, Var, Def, Grammar, Hint, If, Otherwise, Eps, True, False, Bool, Nat, Int, Text, Rat, Real}
 
+-- the characters by which a reserved word is written
 abbrev pub word_spelling : Word → List ℕ
 word_spelling Syntax = codes "syntax"
 word_spelling Relation = codes "relation"

@@ -21,6 +21,7 @@ impl<T> Model for Boxed<T> {
 }
 
 impl<T> Boxed<T> {
+    /// The value, which stays in the box.
     pub fn get(&self) -> &T
         ensures { result.now ≡ self.now }
     {

@@ -29,6 +29,7 @@ abbrev pub TellsFirst : ℕ → List ℕ → LexFault → Type 0
 TellsFirst number file (Refused at rule) = FirstFault number file at rule
 TellsFirst number file Memory = ⊤
 
+-- a refusal tells the only fault of the file; want of memory tells nothing
 abbrev pub TellsOnly : ℕ → List ℕ → LexFault → Type 0
 TellsOnly number file (Refused at rule) = IsOnlyFault number file at rule
 TellsOnly number file Memory = ⊤

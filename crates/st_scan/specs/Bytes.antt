@@ -1,21 +1,27 @@
 -- Kinds of bytes.
 use Rattle.std.specs.Prelude.{ℕ, Bool, not, ◌&&◌, ◌||◌, ◌==◌, nat_le}
 
+-- a space, a tab, a carriage return or a line feed
 abbrev pub is_blank : ℕ → Bool
 is_blank b = b == 32 || b == 9 || b == 13 || b == 10
 
+-- the byte that ends a line
 abbrev pub is_line_feed : ℕ → Bool
 is_line_feed b = b == 10
 
+-- a lower-case letter
 abbrev pub is_lower : ℕ → Bool
 is_lower b = nat_le 97 b && nat_le b 122
 
+-- an upper-case letter
 abbrev pub is_upper : ℕ → Bool
 is_upper b = nat_le 65 b && nat_le b 90
 
+-- a letter of either case
 abbrev pub is_letter : ℕ → Bool
 is_letter b = is_lower b || is_upper b
 
+-- a decimal digit
 abbrev pub is_digit : ℕ → Bool
 is_digit b = nat_le 48 b && nat_le b 57
 

@@ -2,10 +2,11 @@
 use Rattle.std.specs.Prelude.{ℕ, zero, suc, List, [], ◌∷◌, Bool, false, ◌&&◌, ◌==◌, if◌then◌else◌}
 use Rattle.st_scan.specs.Bytes.{is_blank, is_line_feed}
 
--- `(;` and `;)`, the signs round a comment
+-- `(;`, the sign before a comment that may go over several lines
 abbrev pub opens : ℕ → ℕ → Bool
 opens b c = b == 40 && c == 59
 
+-- `;)`, the sign behind such a comment
 abbrev pub closes : ℕ → ℕ → Bool
 closes b c = b == 59 && c == 41
 

@@ -19,9 +19,11 @@ abbrev pub begins_lower : List ℕ → Bool
 begins_lower [] = false
 begins_lower (b ∷ bs) = is_lower b
 
+-- a lower-case letter is among these bytes
 abbrev pub has_lower : List ℕ → Bool
 has_lower bs = list_any is_lower bs
 
+-- the name is one that the language keeps for itself
 abbrev pub IsReserved : List ℕ → Type 0
 IsReserved name = (word : Word) × (name ≡ word_spelling word)
 

@@ -4,24 +4,28 @@ ghost use Rattle.std.specs.Prelude.{◌≡◌, ◌≤◌, length, List, ℕ, Mat
 ghost use Rattle.st_scan.specs.Bytes.{is_blank, is_line_feed};
 ghost use Rattle.st_scan.specs.Gaps.{gap, between, line, comment, opens, closes, starts_line, opens_comment};
 
+/// Whether it is a space, a tab, a carriage return or a line feed.
 pub(crate) fn is_blank(byte: u8) -> bool
     ensures { result ≡ is_blank byte }
 {
     byte == b' ' || byte == b'\t' || byte == b'\r' || byte == b'\n'
 }
 
+/// Whether these two are `(;`, which opens a comment.
 fn opens(first: u8, second: u8) -> bool
     ensures { result ≡ opens first second }
 {
     first == b'(' && second == b';'
 }
 
+/// Whether these two are `;)`, which closes a comment.
 fn closes(first: u8, second: u8) -> bool
     ensures { result ≡ closes first second }
 {
     first == b';' && second == b')'
 }
 
+/// Whether these two are `;;`, which begins a comment up to the end of the line.
 fn starts_line(first: u8, second: u8) -> bool
     ensures { result ≡ starts_line first second }
 {

@@ -10,18 +10,21 @@ use crate::word::word_of;
 use st_num::{Name, NoMemory};
 use std::alloc::Global;
 
+/// Whether it is a lower-case letter.
 pub(crate) fn is_lower(byte: u8) -> bool
     ensures { result ≡ is_lower byte }
 {
     byte.is_ascii_lowercase()
 }
 
+/// Whether it is a letter of either case.
 pub(crate) fn is_letter(byte: u8) -> bool
     ensures { result ≡ is_letter byte }
 {
     byte.is_ascii_alphabetic()
 }
 
+/// Whether it may stand in a name: a letter, a digit, `_` or `'`.
 fn is_name_part(byte: u8) -> bool
     ensures { result ≡ is_name_part byte }
 {

@@ -13,6 +13,7 @@ pub(crate) struct Place {
     column: usize,
 }
 
+/// Whether a character of UTF-8 begins with it.
 fn begins_character(byte: u8) -> bool
     ensures { result ≡ begins_character byte }
 {
@@ -67,6 +68,7 @@ impl Place {
         place
     }
 
+    /// This place in the file of this number.
     pub(crate) fn span(self, file: u16) -> Span
         requires lines { self.line < 2 ^ 32 }
         requires columns { self.column < 2 ^ 32 }

@@ -52,6 +52,7 @@ impl From<NoMemory> for Stop {
     }
 }
 
+/// Whether a letter stands first.
 fn begins_letter(bytes: &[u8]) -> bool
     ensures { result ≡ begins_letter bytes.now }
 {
@@ -61,6 +62,7 @@ fn begins_letter(bytes: &[u8]) -> bool
     }
 }
 
+/// Whether a decimal digit stands first.
 fn begins_digit(bytes: &[u8]) -> bool
     ensures { result ≡ begins_digit bytes.now }
 {
@@ -70,6 +72,7 @@ fn begins_digit(bytes: &[u8]) -> bool
     }
 }
 
+/// Whether a quote stands first.
 fn begins_quote(bytes: &[u8]) -> bool
     ensures { result ≡ begins_quote bytes.now }
 {
@@ -79,6 +82,7 @@ fn begins_quote(bytes: &[u8]) -> bool
     }
 }
 
+/// Whether a dot stands first, with a letter right behind.
 fn begins_dot(bytes: &[u8]) -> bool
     ensures { result ≡ begins_dot bytes.now }
 {
@@ -88,6 +92,7 @@ fn begins_dot(bytes: &[u8]) -> bool
     }
 }
 
+/// Whether a dollar sign stands first, with a lower-case letter right behind.
 fn begins_fun(bytes: &[u8]) -> bool
     ensures { result ≡ begins_fun bytes.now }
 {

@@ -9,14 +9,17 @@ use Rattle.st_scan.specs.declared.read.Reading.{Reading}
 use Rattle.st_scan.specs.declared.read.Stop.{Stop}
 use Rattle.st_scan.specs.declared.read.Stop.TheVariants.{Refused, Memory}
 
+-- a letter stands first
 abbrev pub begins_letter : List ℕ → Bool
 begins_letter [] = false
 begins_letter (b ∷ bs) = is_letter b
 
+-- a decimal digit stands first
 abbrev pub begins_digit : List ℕ → Bool
 begins_digit [] = false
 begins_digit (b ∷ bs) = is_digit b
 
+-- a quote stands first
 abbrev pub begins_quote : List ℕ → Bool
 begins_quote [] = false
 begins_quote (b ∷ bs) = b == 34

@@ -26,6 +26,7 @@ use Rattle.st_num.specs.contracts.boxed.Boxed.TheInside as inside
 abbrev pub the_former : Former {0} → Former {0}
 the_former held = held
 
+-- a box weighs as what it holds
 abbrev pub the_weighed : {held : Former {0}} → Weighed held → Weighed (the_former held)
 the_weighed weight = weight
 
@@ -50,6 +51,7 @@ module _ (R S : RattleType) (h : R.Denot → S.Denot) where
     shr_same = λ b i. (boxed_row (one_value R (alike.mir_same i) (alike.own_same b.value i) (alike.shr_same b.value i) gnil)).shr_at (holding b tt);
   }
 
+  -- where a map makes two types alike, it makes boxes of them alike
   pub the_places : Alike R S h → Alike (contract.the_row R) (contract.the_row S) ((the_former this).map R.Denot S.Denot h)
   the_places alike = view_places box_field this view (λ X Y k u. refl) (λ X u. refl) R.Denot S.Denot h
       (contract.the_row R).coded (contract.the_row S).coded
@@ -57,5 +59,6 @@ module _ (R S : RattleType) (h : R.Denot → S.Denot) where
       (over (inside.the_row R)) (over (inside.the_row S))
       (struct_places (inside.the_type R) (inside.the_type S) ((λ b. holding b (h b.value)), tt) _ (λ d. refl) refl (laid _ _ _ (boxes_alike alike), tt))
 
+  -- where a map keeps the codes of values, it keeps those of their boxes
   pub the_codes_placed : Recodes R S h → Recodes (contract.the_row R) (contract.the_row S) ((the_former this).map R.Denot S.Denot h)
   the_codes_placed same value = same value

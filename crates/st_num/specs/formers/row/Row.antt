@@ -23,15 +23,19 @@ use Rattle.st_num.specs.contracts.row.Row.TheInside as inside
 abbrev pub the_former : Former {0} → Former {0}
 the_former held = list held
 
+-- a row weighs as the list of what it holds
 abbrev pub the_weighed : {held : Former {0}} → Weighed held → Weighed (the_former held)
 the_weighed weight = w_list weight
 
+-- the row that holds nothing
 pub the_empty : List ⊥
 the_empty = []
 
+-- the elements of a row, as a list
 abbrev pub the_items : (X : Type 0) → List X → List X
 the_items X elements = elements
 
+-- the elements of a row are the list of what it holds
 pub the_items_listed : (X : Type 0) (elements : List X) → listed _ (children (the_former this) X elements) ≡ the_items X elements
 the_items_listed X elements = list-listed X elements
 
@@ -40,6 +44,7 @@ abbrev vector_field : Former {0}
 vector_field = via (vectors.the_former this Global) Inside (λ X row. row.items) (λ X items. record { items = items }) (λ X row. refl) (λ X items. refl)
 
 module _ (R S : RattleType) (h : R.Denot → S.Denot) where
+  -- where a map makes two types alike, it makes rows of them alike
   pub the_places : Alike R S h → Alike (contract.the_row R) (contract.the_row S) ((the_former this).map R.Denot S.Denot h)
   the_places alike = view_places vector_field (list this) view (λ X Y k u. refl) (λ X u. refl) R.Denot S.Denot h
       (contract.the_row R).coded (contract.the_row S).coded
@@ -48,5 +53,6 @@ module _ (R S : RattleType) (h : R.Denot → S.Denot) where
       (struct_places (inside.the_type R) (inside.the_type S) (vectors.mapped h, tt) _ (λ d. refl) refl
       (laid _ _ _ (vectors.the_places heap.the_row ghosts R S h alike), tt))
 
+  -- where a map keeps the codes of values, it keeps those of their rows
   pub the_codes_placed : Recodes R S h → Recodes (contract.the_row R) (contract.the_row S) ((the_former this).map R.Denot S.Denot h)
   the_codes_placed same elements = sym (code_map R.coded.code S.coded.code h (λ x. sym (same x)) elements)
