@@ -23,6 +23,7 @@ use Rattle.st_grammar.specs.Grammar.{is_label, Fits, EachFits}
 
 -- ---- tokens of definitions
 
+-- what such a kind of token begins: a definition, a hint, a premise, or none of these
 abbrev pub kind_keyword : TokenKind → Keyword
 kind_keyword (kind.Reserved word.Syntax) = syntax_word
 kind_keyword (kind.Reserved word.Relation) = relation_word
@@ -34,15 +35,18 @@ kind_keyword (kind.Reserved word.If) = if_word
 kind_keyword (kind.Reserved word.Otherwise) = otherwise_word
 kind_keyword k = no_word
 
+-- what such a sign begins: `--` a premise, and others nothing
 abbrev pub mark_keyword : Mark → Keyword
 mark_keyword mark.DashDash = dashes
 mark_keyword m = no_word
 
+-- what the token begins: a definition, a hint, a premise, or none of these
 abbrev pub keyword : Terminal → Keyword
 keyword (other x) = kind_keyword x.kind
 keyword (sign m x) = mark_keyword m
 keyword l = no_word
 
+-- the token alone
 abbrev pub token_in : Terminal → Token
 token_in (leaf k x) = x
 token_in (dot x) = x
@@ -51,6 +55,7 @@ token_in (opening k x) = x
 token_in (closing c x) = x
 token_in (other x) = x
 
+-- no blank and no comment stands before the token
 abbrev pub touches : Terminal → Bool
 touches l = (token_in l).touching
 
@@ -59,50 +64,62 @@ abbrev pub signed : (Mark → Bool) → Terminal → Bool
 signed p (sign m x) = p m
 signed p l = false
 
+-- `/`, which stands before the name of a rule or a fragment
 abbrev pub is_slash : Mark → Bool
 is_slash mark.Slash = true
 is_slash m = false
 
+-- `-`, which stands between the pieces of such a name
 abbrev pub is_minus : Mark → Bool
 is_minus mark.Minus = true
 is_minus m = false
 
+-- `=`, which stands before a body or a result
 abbrev pub is_equal : Mark → Bool
 is_equal mark.Equal = true
 is_equal m = false
 
+-- `...`, which stands before the first alternative or behind the last
 abbrev pub is_dots : Mark → Bool
 is_dots mark.Ellipsis = true
 is_dots m = false
 
+-- a bar, which stands before an alternative
 abbrev pub is_bar : Terminal → Bool
 is_bar (closing by_bar x) = true
 is_bar l = false
 
+-- `(`
 abbrev pub opens_round : Terminal → Bool
 opens_round (opening round x) = true
 opens_round l = false
 
+-- `)`
 abbrev pub closes_round : Terminal → Bool
 closes_round (closing by_round x) = true
 closes_round l = false
 
+-- `{`
 abbrev pub opens_brace : Terminal → Bool
 opens_brace (opening brace x) = true
 opens_brace l = false
 
+-- `}`
 abbrev pub closes_brace : Terminal → Bool
 closes_brace (closing by_brace x) = true
 closes_brace l = false
 
+-- a name that begins with a lower-case letter
 abbrev pub is_low : Terminal → Bool
 is_low (leaf low x) = true
 is_low l = false
 
+-- a name right behind a dollar sign
 abbrev pub is_fun : Terminal → Bool
 is_fun (leaf function x) = true
 is_fun l = false
 
+-- a name that begins upper-case and has a lower-case letter
 abbrev pub is_mix_kind : TokenKind → Bool
 is_mix_kind (kind.Mix name) = true
 is_mix_kind k = false
@@ -112,9 +129,11 @@ abbrev pub names_relation : Terminal → Bool
 names_relation (other x) = is_mix_kind x.kind
 names_relation l = is_label l
 
+-- a name of any kind
 abbrev pub is_name : Terminal → Bool
 is_name l = is_low l || names_relation l
 
+-- such a kind of token is a name, a reserved word or a number
 abbrev pub is_piece_kind : TokenKind → Bool
 is_piece_kind (kind.Low name) = true
 is_piece_kind (kind.Up name) = true
@@ -129,6 +148,7 @@ is_piece (leaf k x) = is_piece_kind x.kind
 is_piece (other x) = is_piece_kind x.kind
 is_piece l = false
 
+-- such a kind of token is a dot with a name
 abbrev pub is_dot_kind : TokenKind → Bool
 is_dot_kind (kind.Dot name) = true
 is_dot_kind k = false
@@ -155,6 +175,7 @@ id_step false l =
     else if touches l && is_dot l then Some false
     else None
 
+-- the tokens are the name of a rule or a fragment
 abbrev pub IsId : List Terminal → Type 0
 IsId ls = scan id_step true ls ≡ Some false
 
@@ -173,26 +194,32 @@ balance_step [] (closing c x) = None
 balance_step (k ∷ ks) (closing c x) = if agree (closed_by k) c then Some ks else None
 balance_step ks l = Some ks
 
+-- a hint: a name, and tokens in which brackets are balanced
 pub data Hint : Type 0 where
   -- `hint`, `(`, a name, some tokens and `)`
   hint : Terminal → Terminal → Terminal → List Terminal → Terminal → Hint
 
+-- the tokens of a hint
 abbrev pub hint_text : Hint → List Terminal
 hint_text (hint w o n ws c) = w ∷ o ∷ n ∷ (ws ++ c ∷ [])
 
+-- the grammar allows the hint
 abbrev pub HintFits : Hint → Type 0
 HintFits (hint w o n ws c) =
     (keyword w ≡ hint_word) × (opens_round o ≡ true) × (is_name n ≡ true)
     × (scan balance_step [] ws ≡ Some []) × (closes_round c ≡ true)
 
+-- hints, in a row
 pub data Hints : Type 0 where
   no_hints : Hints
   more_hints : Hints → Hint → Hints
 
+-- the tokens of hints
 abbrev pub hints_text : Hints → List Terminal
 hints_text no_hints = []
 hints_text (more_hints hs h) = hints_text hs ++ hint_text h
 
+-- the grammar allows each hint
 abbrev pub HintsFit : Hints → Type 0
 HintsFit no_hints = Unit {0}
 HintsFit (more_hints hs h) = HintsFit hs × HintFits h
@@ -204,6 +231,7 @@ pub data Members : Type 0 where
   no_members : Members
   member : Members → List Terminal → Tree → Hints → Members
 
+-- the tokens of alternatives or fields
 abbrev pub members_text : Members → List Terminal
 members_text no_members = []
 members_text (member ms pre t hs) = members_text ms ++ (pre ++ (text t ++ hints_text hs))
@@ -221,14 +249,17 @@ SetsOffCase ms (b ∷ []) = is_bar b ≡ true
 SetsOffCase no_members (d ∷ b ∷ []) = (signed is_dots d ≡ true) × (is_bar b ≡ true)
 SetsOffCase ms pre = ⊥
 
+-- the grammar allows these fields
 abbrev pub FieldsFit : Members → Type 0
 FieldsFit no_members = Unit {0}
 FieldsFit (member ms pre t hs) = FieldsFit ms × SetsOffField ms pre × Fits typ t × HintsFit hs
 
+-- the grammar allows these alternatives
 abbrev pub CasesFit : Members → Type 0
 CasesFit no_members = Unit {0}
 CasesFit (member ms pre t hs) = CasesFit ms × SetsOffCase ms pre × Fits notation t × HintsFit hs
 
+-- there is an alternative or a field
 abbrev pub has_member : Members → Bool
 has_member no_members = false
 has_member (member ms pre t hs) = true
@@ -239,14 +270,19 @@ EndsCases [] = Unit {0}
 EndsCases (b ∷ d ∷ []) = (is_bar b ≡ true) × (signed is_dots d ≡ true)
 EndsCases ls = ⊥
 
+-- what a syntax is
 pub data Body : Type 0 where
+  -- `{`, fields and `}`
   fields : Terminal → Members → Terminal → Body
+  -- alternatives, and what ends them
   cases : Members → List Terminal → Body
 
+-- the tokens of a body
 abbrev pub body_text : Body → List Terminal
 body_text (fields o ms c) = o ∷ (members_text ms ++ c ∷ [])
 body_text (cases ms ls) = members_text ms ++ ls
 
+-- the grammar allows the body
 abbrev pub BodyFits : Body → Type 0
 BodyFits (fields o ms c) = (opens_brace o ≡ true) × FieldsFit ms × (closes_brace c ≡ true)
 BodyFits (cases ms ls) = CasesFit ms × (has_member ms ≡ true) × EndsCases ls
@@ -256,23 +292,28 @@ BodyFits (cases ms ls) = CasesFit ms × (has_member ms ≡ true) × EndsCases ls
 -- behind a condition each `)` with its iterations
 pub data Iterations : Type 0 where
   no_iterations : Iterations
+  -- `)`
   closed : Iterations → Terminal → Iterations
+  -- an iteration sign
   marked : Iterations → Terminal → Iterations
   -- `^` and a count
   counted : Iterations → Terminal → Tree → Iterations
 
+-- the tokens behind a condition
 abbrev pub iterations_text : Iterations → List Terminal
 iterations_text no_iterations = []
 iterations_text (closed i l) = iterations_text i ++ l ∷ []
 iterations_text (marked i l) = iterations_text i ++ l ∷ []
 iterations_text (counted i l t) = iterations_text i ++ (l ∷ text t)
 
+-- how many `)` these are
 abbrev pub closings : Iterations → ℕ
 closings no_iterations = 0
 closings (closed i l) = closings i + 1
 closings (marked i l) = closings i
 closings (counted i l t) = closings i
 
+-- a `)` or an iteration stands there
 abbrev pub has_closed : Iterations → Bool
 has_closed no_iterations = false
 has_closed i = true
@@ -282,6 +323,7 @@ abbrev pub wants_iteration : Iterations → Bool
 wants_iteration (closed i l) = true
 wants_iteration i = false
 
+-- the grammar allows these behind a condition
 abbrev pub IterationsFit : Iterations → Type 0
 IterationsFit no_iterations = Unit {0}
 IterationsFit (closed i l) = IterationsFit i × (wants_iteration i ≡ false) × (closes_round l ≡ true)
@@ -296,33 +338,40 @@ CondFits (l ∷ []) = keyword l ≡ if_word
 CondFits (r ∷ c ∷ []) = (names_relation r ≡ true) × (signed is_colon c ≡ true)
 CondFits ls = ⊥
 
+-- what must hold where a rule or a clause is used
 pub data Premise : Type 0 where
   -- `--` and `otherwise`
   default : Terminal → Terminal → Premise
   -- `--`, each `(`, what begins a condition, its expression, and the iterations
   given : Terminal → List Terminal → List Terminal → Tree → Iterations → Premise
 
+-- the tokens of a premise
 abbrev pub premise_text : Premise → List Terminal
 premise_text (default d o) = d ∷ o ∷ []
 premise_text (given d os ls t i) = d ∷ (os ++ (ls ++ (text t ++ iterations_text i)))
 
+-- the token is `(`
 abbrev pub OpensRound : Terminal → Type 0
 OpensRound l = opens_round l ≡ true
 
+-- the grammar allows the premise
 abbrev pub PremiseFits : Premise → Type 0
 PremiseFits (default d o) = (keyword d ≡ dashes) × (keyword o ≡ otherwise_word)
 PremiseFits (given d os ls t i) =
     (keyword d ≡ dashes) × AllByRecursion OpensRound os × CondFits ls × Fits (expression false) t
     × IterationsFit i × (closings i ≡ length os) × (wants_iteration i ≡ false)
 
+-- premises, in a row
 pub data Premises : Type 0 where
   no_premises : Premises
   more_premises : Premises → Premise → Premises
 
+-- the tokens of premises
 abbrev pub premises_text : Premises → List Terminal
 premises_text no_premises = []
 premises_text (more_premises ps p) = premises_text ps ++ premise_text p
 
+-- the grammar allows each premise
 abbrev pub PremisesFit : Premises → Type 0
 PremisesFit no_premises = Unit {0}
 PremisesFit (more_premises ps p) = PremisesFit ps × PremiseFits p
@@ -332,25 +381,36 @@ PremisesFit (more_premises ps p) = PremisesFit ps × PremiseFits p
 -- what stands behind the name of a function
 pub data Args : Type 0 where
   no_args : Args
+  -- `(`, the arguments and `)`
   args : Terminal → Trees → Terminal → Args
 
+-- the tokens of arguments
 abbrev pub args_text : Args → List Terminal
 args_text no_args = []
 args_text (args o ts c) = o ∷ (texts ts ++ c ∷ [])
 
+-- the grammar allows the arguments, each of this sort
 abbrev pub ArgsFit : Sort → Args → Type 0
 ArgsFit σ no_args = Unit {0}
 ArgsFit σ (args o ts c) =
     (opens_round o ≡ true) × (touches o ≡ true) × EachFits σ parts 1 ts × (closes_round c ≡ true)
 
+-- a definition, with its words, names, signs and parts in their order
 pub data Def : Type 0 where
+  -- `syntax`, its name, that of its fragment, hints, `=` and the body
   syntax_def : Terminal → Terminal → List Terminal → Hints → Terminal → Body → Def
+  -- `var`, its name, `:`, its type and hints
   var_def : Terminal → Terminal → Terminal → Tree → Hints → Def
+  -- `relation`, its name, hints, `:`, its notation and hints
   relation_def : Terminal → Terminal → Hints → Terminal → Tree → Hints → Def
+  -- `rule`, the name of its relation, its own, `:`, the conclusion and premises
   rule_def : Terminal → Terminal → List Terminal → Terminal → Tree → Premises → Def
+  -- `def`, the name of a function, its arguments, `:`, the type of its result and hints
   fun_def : Terminal → Terminal → Args → Terminal → Tree → Hints → Def
+  -- `def`, the name of a function, its arguments, `=`, its result and premises
   clause_def : Terminal → Terminal → Args → Terminal → Tree → Premises → Def
 
+-- the tokens of a definition
 abbrev pub def_text : Def → List Terminal
 def_text (syntax_def w x ls hs e b) = w ∷ x ∷ (ls ++ (hints_text hs ++ (e ∷ body_text b)))
 def_text (var_def w x c t hs) = w ∷ x ∷ c ∷ (text t ++ hints_text hs)
@@ -359,6 +419,7 @@ def_text (rule_def w r ls c t ps) = w ∷ r ∷ (ls ++ (c ∷ (text t ++ premise
 def_text (fun_def w f a c t hs) = w ∷ f ∷ (args_text a ++ (c ∷ (text t ++ hints_text hs)))
 def_text (clause_def w f a e t ps) = w ∷ f ∷ (args_text a ++ (e ∷ (text t ++ premises_text ps)))
 
+-- the grammar allows the definition
 abbrev pub DefFits : Def → Type 0
 DefFits (syntax_def w x ls hs e b) =
     (keyword w ≡ syntax_word) × (is_low x ≡ true) × FragmentFits ls × HintsFit hs
@@ -380,14 +441,17 @@ DefFits (clause_def w f a e t ps) =
     × (signed is_equal e ≡ true)
     × Fits (expression false) t × PremisesFit ps
 
+-- definitions, in a row
 pub data Defs : Type 0 where
   no_defs : Defs
   more_defs : Defs → Def → Defs
 
+-- the tokens of definitions
 abbrev pub defs_text : Defs → List Terminal
 defs_text no_defs = []
 defs_text (more_defs ds d) = defs_text ds ++ def_text d
 
+-- the grammar allows each definition
 abbrev pub DefsFit : Defs → Type 0
 DefsFit no_defs = Unit {0}
 DefsFit (more_defs ds d) = DefsFit ds × DefFits d

@@ -19,36 +19,56 @@ use Rattle.st_grammar.specs.Definitions.{keyword, touches, signed, is_slash, is_
 
 -- a syntax up to its `=`
 pub data Head : Type 0 where
+  -- the definitions before, `syntax`, its name, that of its fragment, hints and `=`
   syntax_head : Defs → Terminal → Terminal → List Terminal → Hints → Terminal → Head
 
 -- a rule or a clause up to its conclusion or result
 pub data Rule : Type 0 where
+  -- the definitions before, `rule`, the name of its relation, its own and `:`
   rule_head : Defs → Terminal → Terminal → List Terminal → Terminal → Rule
+  -- the definitions before, `def`, the name of a function, its arguments and `=`
   clause_head : Defs → Terminal → Terminal → Args → Terminal → Rule
 
 -- what hints stand behind
 pub data Host : Type 0 where
+  -- the name of a syntax, with that of its fragment
   of_syntax : Defs → Terminal → Terminal → List Terminal → Host
+  -- the type of a field
   of_field : Head → Terminal → Members → List Terminal → Tree → Host
+  -- the notation of an alternative
   of_case : Head → Members → List Terminal → Tree → Host
+  -- the type of a variable
   of_var : Defs → Terminal → Terminal → Terminal → Tree → Host
+  -- the name of a relation
   of_relation : Defs → Terminal → Terminal → Host
+  -- the notation of a relation
   of_notation : Defs → Terminal → Terminal → Hints → Terminal → Tree → Host
+  -- the type of the result of a function
   of_fun : Defs → Terminal → Terminal → Args → Terminal → Tree → Host
 
 -- what a part is read for
 pub data Slot : Type 0 where
+  -- the type of a field
   field_slot : Head → Terminal → Members → List Terminal → Slot
+  -- the notation of an alternative
   case_slot : Head → Members → List Terminal → Slot
+  -- the type of a variable
   var_slot : Defs → Terminal → Terminal → Terminal → Slot
+  -- the notation of a relation
   notation_slot : Defs → Terminal → Terminal → Hints → Terminal → Slot
+  -- the type of the result of a function
   fun_slot : Defs → Terminal → Terminal → Args → Terminal → Slot
+  -- an argument of a function
   arg_slot : Defs → Terminal → Terminal → Terminal → Trees → List Terminal → Slot
+  -- the conclusion of a rule, or the result of a clause
   rule_slot : Rule → Slot
+  -- the condition of a premise
   cond_slot : Rule → Tree → Premises → Terminal → List Terminal → List Terminal → Slot
+  -- the count behind `^` behind a condition
   count_slot : Rule → Tree → Premises → Terminal → List Terminal → List Terminal → Tree → Iterations
       → Terminal → Slot
 
+-- the sort of the part that is read for this
 abbrev pub slot_sort : Slot → Sort
 slot_sort (field_slot h o ms pre) = typ
 slot_sort (case_slot h ms pre) = notation
@@ -60,14 +80,23 @@ slot_sort (rule_slot r) = expression false
 slot_sort (cond_slot r t ps d os ls) = expression false
 slot_sort (count_slot r t ps d os ls u i l) = count
 
+-- a position between two tokens of definitions, with all that is read before it
 pub data Position : Type 0 where
+  -- behind whole definitions
   between : Defs → Position
+  -- behind `syntax`: its name is due
   syntax_name : Defs → Terminal → Position
+  -- behind `var`: its name is due
   var_name : Defs → Terminal → Position
+  -- behind the name of a variable: `:` is due
   var_colon : Defs → Terminal → Terminal → Position
+  -- behind `relation`: its name is due
   relation_name : Defs → Terminal → Position
+  -- behind `rule`: the name of its relation is due
   rule_name : Defs → Terminal → Position
+  -- behind that name: `/` and the name of the rule, or `:`, is due
   rule_colon : Defs → Terminal → Terminal → Position
+  -- behind `def`: the name of a function is due
   fun_name : Defs → Terminal → Position
   -- behind the name of a function
   fun_named : Defs → Terminal → Terminal → Position
@@ -93,24 +122,31 @@ pub data Position : Type 0 where
   premised : Rule → Tree → Premises → Position
   -- behind `--` and each `(`
   premise_open : Rule → Tree → Premises → Terminal → List Terminal → Position
+  -- behind the name of a relation in a premise: `:` is due
   goal_colon : Rule → Tree → Premises → Terminal → List Terminal → Terminal → Position
   -- behind a condition and its iterations so far
   iterated : Rule → Tree → Premises → Terminal → List Terminal → List Terminal → Tree
       → Iterations → Position
 
+-- how far the tokens of definitions are read
 pub data State : Type 0 where
+  -- at a position between parts
   at : Position → State
+  -- in a part, which is read for this
   inside : Slot → part.State → State
 
 -- ---- what is whole
 
+-- the definitions with the syntax that this head and body make
 abbrev pub syntax_whole : Head → Body → Defs
 syntax_whole (syntax_head ds w x ls hs e) b = more_defs ds (syntax_def w x ls hs e b)
 
+-- the definitions with the rule or clause that these make
 abbrev pub rule_whole : Rule → Tree → Premises → Defs
 rule_whole (rule_head ds w r ls c) t ps = more_defs ds (rule_def w r ls c t ps)
 rule_whole (clause_head ds w f a e) t ps = more_defs ds (clause_def w f a e t ps)
 
+-- the definitions that end behind these hints, where they may
 abbrev pub host_whole : Host → Hints → Option Defs
 host_whole (of_syntax ds w x ls) hs = None
 host_whole (of_field h o ms pre t) hs = None
@@ -135,6 +171,7 @@ whole p = None
 
 -- ---- steps
 
+-- such a word begins a next definition, whose name is due
 abbrev pub begin_def : Defs → Terminal → Keyword → Option State
 begin_def ds l syntax_word = Some (at (syntax_name ds l))
 begin_def ds l relation_word = Some (at (relation_name ds l))
@@ -147,6 +184,7 @@ begin_def ds l k = None
 abbrev pub begun : Slot → State
 begun s = inside s (part.start (slot_sort s))
 
+-- the state, where this holds
 abbrev pub when : Bool → State → Option State
 when b st = if b then Some st else None
 
@@ -155,6 +193,7 @@ abbrev pub enter : Slot → Option part.State → Option State → Option State
 enter s (Some st) o = Some (inside s st)
 enter s None o = o
 
+-- what a token makes where an alternative may begin, and where it begins no notation
 abbrev pub enter_case : Head → Members → List Terminal → Terminal → Option State
 enter_case h no_members [] l =
     if opens_brace l then Some (at (field_name h l no_members []))
@@ -165,17 +204,20 @@ enter_case h (member ms q t hs) (b ∷ []) l =
     when (signed is_dots l) (at (between (syntax_whole h (cases (member ms q t hs) (b ∷ l ∷ [])))))
 enter_case h (member ms q t hs) ls l = None
 
+-- what a token makes where a part may begin, and where it begins none
 abbrev pub enter_other : Slot → Terminal → Option State
 enter_other (case_slot h ms pre) l = enter_case h ms pre l
 enter_other (arg_slot ds w f o none []) l = when (closes_round l) (at (args_closed ds w f o none l))
 enter_other s l = None
 
+-- behind `{` or a comma the name of a field, or `}` where there is no field
 abbrev pub field_step : Head → Terminal → Members → List Terminal → Terminal → Option State
 field_step h o no_members pre l =
     if is_label l then Some (begun (field_slot h o no_members (pre ++ l ∷ [])))
     else when (closes_brace l) (at (between (syntax_whole h (fields o no_members l))))
 field_step h o ms pre l = when (is_label l) (begun (field_slot h o ms (pre ++ l ∷ [])))
 
+-- what a token makes behind hints, or where they may stand
 abbrev pub host_step : Host → Hints → Terminal → Option State
 host_step (of_syntax ds w x []) no_hints l =
     if signed is_slash l then Some (at (syntax_id ds w x (l ∷ []) true))
@@ -192,10 +234,12 @@ host_step (of_case h ms pre t) hs l =
 host_step (of_relation ds w r) hs l = when (signed is_colon l) (begun (notation_slot ds w r hs l))
 host_step h hs l = None
 
+-- `hint` begins a hint, and another token goes on behind the hints
 abbrev pub hint_or : Keyword → Host → Hints → Terminal → Option State
 hint_or hint_word h hs l = Some (at (hint_open h hs l))
 hint_or k h hs l = host_step h hs l
 
+-- in a hint: a token that stays balanced goes on with it, and a further `)` ends it
 abbrev pub hint_step : Host → Hints → Terminal → Terminal → Terminal → List Terminal → List Bracket
     → Terminal → Option (List Bracket) → Option State
 hint_step h hs w o n ws cs l (Some ds) = Some (at (hint_words h hs w o n (ws ++ l ∷ []) ds))
@@ -203,16 +247,19 @@ hint_step h hs w o n ws [] l None =
     when (closes_round l) (at (hinted h (more_hints hs (hint w o n ws l))))
 hint_step h hs w o n ws cs l None = None
 
+-- a token goes on with a name, or else, where the name is whole, does what stands last
 abbrev pub id_goes : Option Bool → Bool → (Bool → State) → Option State → Option State
 id_goes (Some e) d next o = Some (next e)
 id_goes None true next o = None
 id_goes None false next o = o
 
+-- `:` behind the name of a rule, whose conclusion is due
 abbrev pub colon_step : Defs → Terminal → Terminal → List Terminal → Terminal → Option State
 colon_step ds w r ls l = when (signed is_colon l) (begun (rule_slot (rule_head ds w r ls l)))
 
 -- a tree of an expression that is a type
 abbrev mutual
+  -- the tree reads as a type
   pub reads_type : Tree → Bool
   reads_type (operand low x) = true
   reads_type (operand basic x) = true
@@ -224,21 +271,26 @@ abbrev mutual
   reads_type (bracket h ts c) = false
   reads_type (led g t) = false
 
+  -- each of these trees reads as a type
   pub reads_types : Trees → Bool
   reads_types none = true
   reads_types (more ts pre t) = reads_types ts && reads_type t
 
+-- behind the arguments: `:`, where they are types, and the type of the result is due,
+-- or `=` and the result is due
 abbrev pub result_step : Defs → Terminal → Terminal → Args → Bool → Terminal → Option State
 result_step ds w f a b l =
     if signed is_colon l && b then Some (begun (fun_slot ds w f a l))
     else when (signed is_equal l) (begun (rule_slot (clause_head ds w f a l)))
 
+-- behind `--` and each `(`: one more `(`, or the name of a relation
 abbrev pub premise_step : Rule → Tree → Premises → Terminal → List Terminal → Terminal
     → Option State
 premise_step r t ps d os l =
     if opens_round l then Some (at (premise_open r t ps d (os ++ l ∷ [])))
     else when (names_relation l) (at (goal_colon r t ps d os l))
 
+-- behind `--` and each `(`: `if`, `otherwise`, one more `(`, or the name of a relation
 abbrev pub premise_word : Keyword → Rule → Tree → Premises → Terminal → List Terminal → Terminal
     → Option State
 premise_word if_word r t ps d os l = Some (begun (cond_slot r t ps d os (l ∷ [])))
@@ -246,6 +298,7 @@ premise_word otherwise_word r t ps d [] l =
     Some (at (premised r t (more_premises ps (default d l))))
 premise_word k r t ps d os l = premise_step r t ps d os l
 
+-- `--` begins a next premise
 abbrev pub next_premise : Keyword → Rule → Tree → Premises → Terminal → Option State
 next_premise dashes r t ps l = Some (at (premise_open r t ps l []))
 next_premise k r t ps l = None
@@ -254,6 +307,7 @@ next_premise k r t ps l = None
 abbrev pub may_close : List Terminal → Iterations → Bool
 may_close os i = not (closings i == length os) && not (wants_iteration i)
 
+-- behind a condition: `)`, an iteration, or the `--` of a next premise
 abbrev pub iterate : Rule → Tree → Premises → Terminal → List Terminal → List Terminal → Tree
     → Iterations → Terminal → Option State
 iterate r t ps d os ls u i l =
@@ -327,20 +381,25 @@ abbrev pub taken : Slot → part.State → Terminal → Option part.State → Op
 taken s st l (Some next) = Some (inside s next)
 taken s st l None = option_and_then (λ t. position_step (filled s t) l) (part.finish st)
 
+-- what a token makes of a state, where the grammar allows it there
 abbrev pub step : State → Terminal → Option State
 step (at p) l = position_step p l
 step (inside s st) l = taken s st l (part.step st l)
 
+-- the definitions that are read, where they may end here
 abbrev pub finish : State → Option Defs
 finish (at p) = whole p
 finish (inside s st) = option_and_then (λ t. whole (filled s t)) (part.finish st)
 
+-- what tokens make of a state, one after another
 abbrev pub reading : State → List Terminal → Option State
 reading st [] = Some st
 reading st (l ∷ w) = option_and_then (λ next. reading next w) (step st l)
 
+-- the definitions that tokens make, read from a state up to their end
 abbrev pub reads : State → List Terminal → Option Defs
 reads st w = option_and_then finish (reading st w)
 
+-- nothing is read yet
 abbrev pub start : State
 start = at (between no_defs)

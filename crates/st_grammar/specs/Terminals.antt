@@ -67,8 +67,7 @@ name_in (kind.Up name) = name ∷ []
 name_in (kind.Mix name) = name ∷ []
 name_in _ = []
 
--- the names in these tokens that directly follow the word `var`; whether it stands right before
--- the first token is told
+-- the names in these tokens that directly follow the word `var`, which stands before them or not
 abbrev pub names_behind : Bool → List Token → List (List ℕ)
 names_behind b [] = []
 names_behind b (x ∷ tokens) =

@@ -119,7 +119,7 @@ abbrev mutual
   heading_text (update p m x) = path_text p ++ sign m x ∷ []
   heading_text (below o i m x) = opening round o ∷ leaf low i ∷ sign m x ∷ []
 
-  -- the tokens of a path up to its last step
+  -- the tokens of a path: those of its tree, `[` and those of its steps
   pub path_text : Path → List Terminal
   path_text (head t o) = text t ++ opening square o ∷ []
   path_text (field p x) = path_text p ++ dot x ∷ []
