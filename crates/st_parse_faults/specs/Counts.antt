@@ -16,13 +16,14 @@ member_due (at (field_name h o ms pre)) = true
 member_due (inside (arg_slot ds w f o ts pre) (part.want (part.bottom σ))) = true
 member_due st = false
 
--- behind a premise in parentheses
+-- what a token makes that these iterations end with: one more of them, a `)`, or nothing
 abbrev pub iteration_event : Iterations → Event
 iteration_event no_iterations = Nothing
 iteration_event (closed i l) = Closed
 iteration_event (marked i l) = Iteration
 iteration_event (counted i l t) = Iteration
 
+-- a member, where one was due, and else nothing
 abbrev pub member_event : Bool → Event
 member_event true = Member
 member_event false = Nothing
@@ -74,11 +75,12 @@ counts_after c Closed =
     }
 counts_after c Nothing = c
 
--- One of the numbers is passed.
+-- One of the numbers passes its limit.
 abbrev pub counts_pass : Counts → Bool
 counts_pass c =
     nat_lt MOST_DEFINITIONS c.definitions || nat_lt MOST_PREMISES c.premises
     || nat_lt MOST_PARTS c.members || nat_lt MOST_SIGNS c.iterations
 
+-- nothing is begun yet
 abbrev pub no_counts : Counts
 no_counts = record { definitions = 0; premises = 0; members = 0; iterations = 0 }

@@ -29,10 +29,11 @@ opens_too_many seen l = may_open l && nat_lt HIGHEST_TREE (seen.nesting + bars s
 abbrev pub refusal : Seen → Token → RuleId
 refusal seen x = if left_out (before_next seen.state) seen.nesting x.kind then S4 else S1
 
--- A number is passed.
+-- Something that is counted passes its limit.
 abbrev pub passes_limit : Seen → Bool
 passes_limit seen = counts_pass seen.counts || part_passes seen.state
 
+-- the verdict where a token is read: too many brackets, too much of something else, or no fault
 abbrev pub kept : Seen → Terminal → Verdict Seen
 kept seen l = limited (opens_too_many seen l) (passes_limit seen) seen
 
@@ -45,6 +46,7 @@ seen_after seen l next =
       counts = counts_after seen.counts (event (member_due seen.state) next);
     }
 
+-- the verdict on a token, by the state behind it: with none, the grammar refuses it there
 abbrev pub judged : Seen → Token → Terminal → Option State → Verdict Seen
 judged seen x l None = broken (refusal seen x)
 judged seen x l (Some next) = kept (seen_after seen l next) l
@@ -53,6 +55,7 @@ judged seen x l (Some next) = kept (seen_after seen l next) l
 abbrev pub judge : List (List ℕ) → Seen → Token → Verdict Seen
 judge names seen x = judged seen x (terminal names x) (step seen.state (terminal names x))
 
+-- what is known before the first token
 abbrev pub nothing_seen : Seen
 nothing_seen = record { state = start; nesting = 0; counts = no_counts }
 

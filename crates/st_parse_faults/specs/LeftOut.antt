@@ -22,6 +22,7 @@ is_type_in typ t = true
 is_type_in notation t = is_type t
 is_type_in σ t = false
 
+-- a type, where this holds, and else something else
 abbrev pub type_or_other : Bool → Before
 type_or_other true = before.Typ
 type_or_other false = before.Other
@@ -33,14 +34,17 @@ before_next (at (premise_open r t ps d [])) = before.Dashes
 before_next (inside s (part.got t fs)) = type_or_other (is_type_in (part.sort fs) t)
 before_next st = before.Other
 
+-- the name of a syntax stands directly before
 abbrev pub is_syntax_name : Before → Bool
 is_syntax_name before.SyntaxName = true
 is_syntax_name b = false
 
+-- the `--` of a premise stands directly before
 abbrev pub is_dashes : Before → Bool
 is_dashes before.Dashes = true
 is_dashes b = false
 
+-- a type stands directly before
 abbrev pub is_typ : Before → Bool
 is_typ before.Typ = true
 is_typ b = false

@@ -16,6 +16,7 @@ use Rattle.st_parse_faults.specs.declared.tally.Tally.{Tally}
 
 -- the postfix signs in a row behind an operand
 abbrev mutual
+  -- the postfix signs that a tree ends with, in a row; a path counts as one
   pub posts : Tree → ℕ
   posts (operand k x) = 0
   posts (post t l) = posts t + 1
@@ -23,6 +24,7 @@ abbrev mutual
   posts (bracket h ts c) = heading_posts h
   posts (led g t) = 0
 
+  -- those of the operand on which a bracket stands, with the bracket itself
   pub heading_posts : Heading → ℕ
   heading_posts (plain k o) = 0
   heading_posts (length o) = 0
@@ -32,6 +34,7 @@ abbrev mutual
   heading_posts (update p m x) = path_posts p
   heading_posts (below o i m x) = 0
 
+  -- those of the operand on which a path stands, with the path itself
   pub path_posts : Path → ℕ
   path_posts (head t o) = posts t + 1
   path_posts (field p x) = path_posts p
@@ -42,15 +45,18 @@ abbrev pub is_turnstile : Mark → Bool
 is_turnstile mark.Turnstile = true
 is_turnstile m = false
 
+-- how many signs between two sides a sign without a left side counts for
 abbrev pub ahead_signs : Mark → ℕ
 ahead_signs m = if is_turnstile m then 1 else 0
 
+-- the first number for the bars of a length, and the second for any other bracket
 abbrev pub in_bars : Heading → ℕ → ℕ → ℕ
 in_bars (length o) m n = m
 in_bars h m n = n
 
 -- the signs between two sides, outside brackets; the bars of a length are no brackets
 abbrev mutual
+  -- the signs between two sides in a tree
   pub signs : Tree → ℕ
   signs (operand k x) = 0
   signs (post t l) = signs t
@@ -58,6 +64,7 @@ abbrev mutual
   signs (bracket h ts c) = in_bars h (all_signs ts) (heading_signs h)
   signs (led g t) = lead_signs g + signs t
 
+  -- those in what stands before the parts of a bracket
   pub heading_signs : Heading → ℕ
   heading_signs (plain k o) = 0
   heading_signs (length o) = 0
@@ -67,16 +74,19 @@ abbrev mutual
   heading_signs (update p m x) = path_signs p
   heading_signs (below o i m x) = 0
 
+  -- those in the operand on which a path stands
   pub path_signs : Path → ℕ
   path_signs (head t o) = signs t
   path_signs (field p x) = path_signs p
   path_signs (part p o ts c) = path_signs p
 
+  -- those in what leads to a last part, with its own sign
   pub lead_signs : Lead → ℕ
   lead_signs (left l m x) = signs l + 1
   lead_signs (ahead m x) = ahead_signs m
   lead_signs (items ts) = all_signs ts
 
+  -- those in all of these parts
   pub all_signs : Trees → ℕ
   all_signs none = 0
   all_signs (more ts pre t) = all_signs ts + signs t
@@ -114,11 +124,13 @@ abbrev pub aheads : Frames → ℕ
 aheads (over (ahead m x) fs) = if is_turnstile m then 0 else aheads fs + 1
 aheads fs = 0
 
+-- these tokens end with the name of a field
 abbrev pub ends_with_label : List Terminal → Bool
 ends_with_label [] = false
 ends_with_label (l ∷ []) = is_label l
 ends_with_label (k ∷ l ∷ pre) = ends_with_label (l ∷ pre)
 
+-- one more, where this holds
 abbrev pub with_one : Bool → ℕ → ℕ
 with_one true n = n + 1
 with_one false n = n
@@ -130,6 +142,7 @@ with_one false n = n
 abbrev pub tally : ℕ → ℕ → ℕ → ℕ → Bool → Tally
 tally p e s r d = record { parts = p; elements = e; signs = s; row = r; due = d }
 
+-- the tally where no part is begun, and so many signs stand before between the same brackets
 abbrev pub fresh : ℕ → Tally
 fresh n = tally 0 0 n 0 true
 
@@ -178,22 +191,25 @@ abbrev pub signs_before : Slot → ℕ
 signs_before (arg_slot ds w f o ts pre) = all_signs ts
 signs_before s = 0
 
+-- the signs before a position, between the same brackets
 abbrev pub position_signs : Position → ℕ
 position_signs (argued ds w f o ts) = all_signs ts
 position_signs (entering s) = signs_before s
 position_signs p = 0
 
+-- the tallies between the brackets that are open, the innermost first
 abbrev pub tallies : State → List Tally
 tallies (at p) = fresh (position_signs p) ∷ []
 tallies (inside s st) = part_tallies (signs_before s) st
 
 -- ---- limits
 
+-- one of the numbers of the tally passes its limit
 abbrev pub tally_passes : Tally → Bool
 tally_passes y =
     nat_lt MOST_PARTS y.parts || nat_lt MOST_PARTS y.elements || nat_lt MOST_SIGNS y.signs
     || nat_lt MOST_SIGNS y.row
 
--- Between some brackets a number is passed.
+-- Between some brackets a number passes its limit.
 abbrev pub part_passes : State → Bool
 part_passes st = list_any tally_passes (tallies st)

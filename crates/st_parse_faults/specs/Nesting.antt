@@ -13,6 +13,7 @@ nesting_after n (closing by_bar x) = n
 nesting_after n (closing c x) = n - 1
 nesting_after n l = n
 
+-- one for the opening bar of a length, and none for another bracket
 abbrev pub heading_bars : Heading → ℕ
 heading_bars (length o) = 1
 heading_bars h = 0
@@ -24,6 +25,7 @@ frame_bars (part.within h ts pre fs) = heading_bars h + frame_bars fs
 frame_bars (part.over g fs) = frame_bars fs
 frame_bars (part.timing t m x fs) = frame_bars fs
 
+-- the lengths that are open where a part is read so far
 abbrev pub part_bars : part.State → ℕ
 part_bars (part.want fs) = frame_bars fs
 part_bars (part.got t fs) = frame_bars fs
@@ -32,6 +34,7 @@ part_bars (part.pathed p fs) = frame_bars fs
 part_bars (part.indexing o fs) = frame_bars fs
 part_bars (part.comparing o i fs) = frame_bars fs
 
+-- the lengths that are open where definitions are read so far
 abbrev pub bars : State → ℕ
 bars (at p) = 0
 bars (inside s st) = part_bars st
