@@ -202,19 +202,19 @@ abbrev mutual
       × IsFilled h ts
   Fits σ (led g t) = LeadFits σ g × Fits σ t × (wanted g ≤ level t) × MayEnd σ g (text t)
 
-  -- it allows what leads to a last part
+  -- the grammar allows what leads to a last part
   pub LeadFits : Sort → Lead → Type 0
   LeadFits σ (left l m x) = (has_level σ (level_of m) ≡ true) × Fits σ l × (left_of m ≤ level l)
   LeadFits σ (ahead m x) = has_level σ (prefix_level m) ≡ true
   LeadFits σ (items ts) = (juxtaposes σ ≡ true) × EachFits σ run tight ts × (1 ≤ size ts)
 
-  -- each part is set off so, and has at least this level
+  -- the grammar allows each part: it is set off so, and has at least this level
   pub EachFits : Sort → Style → ℕ → Trees → Type 0
   EachFits σ y n none = Unit {0}
   EachFits σ y n (more ts pre t) =
       EachFits σ y n ts × SetsOff y ts pre × Fits σ t × (n ≤ level t) × MayFollow σ y ts (text t)
 
-  -- it allows what stands before the parts that a bracket holds
+  -- the grammar allows what stands before the parts that a bracket holds
   pub HeadingFits : Sort → Heading → Type 0
   HeadingFits σ (plain k o) = encloses σ k ≡ true
   HeadingFits σ (length o) = computes σ ≡ true
@@ -224,7 +224,7 @@ abbrev mutual
   HeadingFits σ (update p m x) = PathFits σ p × (has_step p ≡ true) × (is_change m ≡ true)
   HeadingFits σ (below o i m x) = (is_count σ ≡ true) × (is_less m ≡ true)
 
-  -- it allows the path
+  -- the grammar allows the path
   pub PathFits : Sort → Path → Type 0
   PathFits σ (head t o) = (is_expression σ ≡ true) × Fits σ t × (tight ≤ level t)
   PathFits σ (field p x) = PathFits σ p

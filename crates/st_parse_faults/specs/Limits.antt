@@ -24,7 +24,7 @@ abbrev mutual
   posts (bracket h ts c) = heading_posts h
   posts (led g t) = 0
 
-  -- those of the operand on which a bracket stands, with the bracket itself
+  -- the postfix signs in a row that a bracket ends; none where it begins an operand itself
   pub heading_posts : Heading → ℕ
   heading_posts (plain k o) = 0
   heading_posts (length o) = 0
@@ -34,7 +34,7 @@ abbrev mutual
   heading_posts (update p m x) = path_posts p
   heading_posts (below o i m x) = 0
 
-  -- those of the operand on which a path stands, with the path itself
+  -- the postfix signs in a row that a path ends, which counts as one
   pub path_posts : Path → ℕ
   path_posts (head t o) = posts t + 1
   path_posts (field p x) = path_posts p
@@ -64,7 +64,7 @@ abbrev mutual
   signs (bracket h ts c) = in_bars h (all_signs ts) (heading_signs h)
   signs (led g t) = lead_signs g + signs t
 
-  -- those in what stands before the parts of a bracket
+  -- the signs between two sides in what stands before the parts of a bracket
   pub heading_signs : Heading → ℕ
   heading_signs (plain k o) = 0
   heading_signs (length o) = 0
@@ -74,19 +74,19 @@ abbrev mutual
   heading_signs (update p m x) = path_signs p
   heading_signs (below o i m x) = 0
 
-  -- those in the operand on which a path stands
+  -- the signs between two sides in the operand on which a path stands
   pub path_signs : Path → ℕ
   path_signs (head t o) = signs t
   path_signs (field p x) = path_signs p
   path_signs (part p o ts c) = path_signs p
 
-  -- those in what leads to a last part, with its own sign
+  -- the signs between two sides in what leads to a last part, with its own
   pub lead_signs : Lead → ℕ
   lead_signs (left l m x) = signs l + 1
   lead_signs (ahead m x) = ahead_signs m
   lead_signs (items ts) = all_signs ts
 
-  -- those in all of these parts
+  -- the signs between two sides in all of these parts
   pub all_signs : Trees → ℕ
   all_signs none = 0
   all_signs (more ts pre t) = all_signs ts + signs t
@@ -113,7 +113,7 @@ abbrev pub elements_in : Frames → ℕ
 elements_in (over (items ts) fs) = size ts
 elements_in fs = 0
 
--- those with the one that is read there
+-- the elements of the sequence that are begun, with the one that is read there
 abbrev pub elements_with : Frames → ℕ
 elements_with (timing t m x fs) = elements_with fs
 elements_with (over (items ts) fs) = size ts + 1
@@ -174,7 +174,7 @@ tallies_round n (within h ts pre fs) =
 tallies_round n (over g fs) = tallies_round n fs
 tallies_round n (timing t m x fs) = tallies_round n fs
 
--- those between the brackets that are open, the innermost first
+-- the tallies between the brackets that are open in a part, the innermost first
 abbrev pub part_tallies : ℕ → reading.State → List Tally
 part_tallies n (want fs) = due_tally n fs ∷ tallies_round n fs
 part_tallies n (got t fs) = held_tally n (signs t) (posts t) fs ∷ tallies_round n fs

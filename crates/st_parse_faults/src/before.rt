@@ -34,6 +34,7 @@ fn ends_type(sort: Sort, part: Part) -> bool
     }
 }
 
+/// What ends directly before a position.
 fn before_at(position: Position, brackets: &Row<Bracket>) -> Before
     ensures { result ≡ seen.before_at position (reverse brackets.now) }
 {
@@ -47,6 +48,7 @@ fn before_at(position: Position, brackets: &Row<Bracket>) -> Before
     }
 }
 
+/// What ends directly before the next token of a part.
 fn before_inside(slot: Slot, reading: &Reading) -> Before
     ensures { result ≡ seen.before_inside slot (reading_of reading.now) }
 {
@@ -76,6 +78,7 @@ pub(crate) fn stands_before(progress: &Progress) -> Before
     }
 }
 
+/// Whether a sign begins a form that is left out, behind this and in so many brackets.
 fn sign_left_out(before: Before, nesting: u8, mark: Mark) -> bool
     ensures { result ≡ spec.sign_left_out before nesting mark }
 {
@@ -88,6 +91,7 @@ fn sign_left_out(before: Before, nesting: u8, mark: Mark) -> bool
     }
 }
 
+/// Whether a reserved word begins a form that is left out, behind this.
 fn word_left_out(before: Before, word: Word) -> bool
     ensures { result ≡ spec.word_left_out before word }
 {

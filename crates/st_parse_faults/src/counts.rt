@@ -33,7 +33,7 @@ pub struct Counts {
     pub premises: u32,
     /// Alternatives or fields of the body, or arguments.
     pub members: u32,
-    /// IterationState in a row behind the innermost premise in parentheses.
+    /// Iterations in a row behind the innermost premise in parentheses.
     pub iterations: u32,
 }
 
@@ -51,6 +51,7 @@ pub(crate) fn member_due(progress: &Progress) -> bool
     }
 }
 
+/// What a token begins that leads to this position.
 fn event_at(position: Position, brackets: &Row<Bracket>) -> Event
     ensures { result ≡ seen.event_at position (reverse brackets.now) }
 {
@@ -70,6 +71,7 @@ fn event_at(position: Position, brackets: &Row<Bracket>) -> Event
     }
 }
 
+/// What a token begins that leads into a part, where a member was due or not.
 fn event_inside(due: bool, slot: Slot, reading: &Reading) -> Event
     ensures { result ≡ seen.event_inside due slot (reading_of reading.now) }
 {

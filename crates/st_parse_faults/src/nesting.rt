@@ -30,6 +30,7 @@ pub(crate) fn may_open(shape: Shape) -> bool
     matches!(shape, Shape::Open(_, _) | Shape::Close(Closing::ByBar))
 }
 
+/// One for a length that is open in this frame, and else none.
 fn bars_in(frame: Frame) -> usize
     ensures value { result ≡ seen.bars_in frame }
     ensures bound { result ≤ 1 }

@@ -64,6 +64,7 @@ pub(crate) fn none_open(reading: &Reading) -> bool
     }
 }
 
+/// Whether a count behind `^` is due.
 fn is_timing(frames: &Row<Frame>) -> bool
     ensures { result ≡ roles.is_timing (reverse frames.now) }
 {
@@ -84,6 +85,7 @@ fn head_attachment(shape: Shape) -> Attachment
     }
 }
 
+/// How a token stands in a part, where this much of it is read.
 fn part_attachment(base: Sort, reading: &Reading, shape: Shape) -> Attachment
     ensures { result ≡ roles.part_attachment base (reading_of reading.now) shape }
 {
@@ -151,6 +153,7 @@ fn sign_role(next: &Reading) -> TokenRole
     }
 }
 
+/// What a token behind an operand adds, by the reading behind it.
 fn behind_role(shape: Shape, next: &Reading) -> TokenRole
     ensures { result ≡ roles.behind_role shape (reading_of next.now) }
 {

@@ -160,6 +160,7 @@ pub(crate) fn shift(mut tallies: Row<Tally>, shift: Shift) -> Result<Row<Tally>,
     }
 }
 
+/// Whether one of the numbers of the tally passes its limit.
 fn tally_passes(tally: Tally) -> bool
     ensures { result ≡ limits.tally_passes tally }
 {
