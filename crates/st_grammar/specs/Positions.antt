@@ -94,7 +94,7 @@ pub data Position : Type 0 where
   relation_name : Defs → Terminal → Position
   -- behind `rule`: the name of its relation is due
   rule_name : Defs → Terminal → Position
-  -- behind that name: `/` and the name of the rule, or `:`, is due
+  -- behind the name of a relation in a rule: `/` and the name of the rule, or `:`, is due
   rule_colon : Defs → Terminal → Terminal → Position
   -- behind `def`: the name of a function is due
   fun_name : Defs → Terminal → Position

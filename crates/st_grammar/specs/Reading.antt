@@ -234,7 +234,7 @@ abbrev pub name_index : Token → Frames → Terminal → Option State
 name_index o fs (leaf low i) = Some (comparing o i fs)
 name_index o fs l = None
 
--- behind that name a `<`, and then the bound is due
+-- behind `^ (` and the name of an index a `<`, and then the bound is due
 abbrev pub bound_index : Token → Token → Frames → Terminal → Option State
 bound_index o i fs (sign m x) =
     if is_less m then Some (want (within (below o i m x) none [] fs)) else None

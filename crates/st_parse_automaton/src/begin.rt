@@ -26,6 +26,7 @@ pub(crate) fn opened(
     Ok(Some(Reading { expected, frames }))
 }
 
+/// What is expected where such a bracket has opened.
 fn plain_expected(bracket: Bracket) -> Expected
     ensures { result ≡ parts.plain_expected bracket }
 {
@@ -40,6 +41,7 @@ fn plain_expected(bracket: Bracket) -> Expected
     }
 }
 
+/// Opens such a bracket, where it begins an operand.
 fn begin_plain(
     base: Sort,
     bracket: Bracket,
@@ -56,6 +58,7 @@ fn begin_plain(
     Ok(next)
 }
 
+/// What a token that opens a bracket makes where an operand is expected.
 fn begin_opening(
     base: Sort,
     bracket: Bracket,
@@ -93,6 +96,7 @@ fn no_arguments(mut frames: Row<Frame>) -> Result<Option<Reading>, NoMemory>
     }
 }
 
+/// A bar opens a length where an operand is expected, and `)` closes arguments that are none.
 fn begin_closing(
     base: Sort,
     closing: Closing,
@@ -115,6 +119,7 @@ fn begin_closing(
     }
 }
 
+/// A sign without a left side, where it begins an operand.
 fn begin_sign(base: Sort, mark: Mark, mut frames: Row<Frame>) -> Result<Option<Reading>, NoMemory>
     ensures { IfOk result (λ next.
         option_map reading_of next ≡ parts.begin_sign base mark (reverse frames)) }

@@ -35,6 +35,7 @@ fn drop_primes(name: &[u8]) -> &[u8]
     rest
 }
 
+/// Whether the names are the same.
 #[tactic(auto, using(crate::proofs::Names::same_name_is))]
 fn same_name(left: &[u8], right: &[u8]) -> bool
     ensures { result ≡ same_name left.now right.now }
@@ -62,6 +63,7 @@ fn is_variable(names: &[Name], name: &[u8]) -> bool
     is_named(names, name)
 }
 
+/// Whether it is a lower-case letter.
 fn is_lower(byte: u8) -> bool
     ensures { result ≡ bytes.is_lower byte }
 {
@@ -75,6 +77,7 @@ fn has_lower(name: &[u8]) -> bool
     name.iter().any(|byte| is_lower(*byte))
 }
 
+/// What a reserved word is in a part.
 fn word_shape(word: Word) -> Shape
     ensures { result ≡ shapes.word_shape word }
 {
@@ -95,6 +98,7 @@ fn word_shape(word: Word) -> Shape
     }
 }
 
+/// What a reserved word begins: a definition, a hint, a premise, or none of these.
 fn word_keyword(word: Word) -> Keyword
     ensures { result ≡ definitions.kind_keyword (kind.Reserved word) }
 {
@@ -120,6 +124,7 @@ fn word_keyword(word: Word) -> Keyword
     }
 }
 
+/// What a sign is in a part, which touches what stands before it or not.
 fn sign_shape(mark: Mark, touching: bool) -> Shape
     ensures { result ≡ shapes.sign_shape mark touching }
 {
@@ -139,6 +144,7 @@ fn sign_shape(mark: Mark, touching: bool) -> Shape
     }
 }
 
+/// What a sign begins: `--` a premise, and others nothing.
 fn mark_keyword(mark: Mark) -> Keyword
     ensures { result ≡ definitions.mark_keyword mark }
 {
@@ -212,6 +218,7 @@ pub fn token_class(names: &[Name], token: &Token) -> TokenClass
     kind_class(names, &token.kind, token.touching)
 }
 
+/// Whether it is the word `var`.
 fn is_var(kind: &TokenKind) -> bool
     ensures { result ≡ is_var kind.now }
 {

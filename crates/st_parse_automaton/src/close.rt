@@ -137,6 +137,7 @@ fn next_expected(style: Style, mark: Mark, first: bool) -> Option<Expected>
     }
 }
 
+/// Whether the part that is read in a bracket is its first one.
 fn is_first(filling: Filling) -> bool
     ensures { result ≡ parts.is_first filling }
 {

@@ -20,6 +20,7 @@ use st_grammar::{Bracket, Closing, Keyword};
 use st_num::{NoMemory, Row};
 use std::alloc::Global;
 
+/// Begins a next definition, whose name is due, where the word is one of its first words.
 fn begin_definition(keyword: Keyword, brackets: Row<Bracket>) -> Option<Progress>
     ensures { option_map progress_of result ≡ definitions.begin_def keyword (reverse brackets) }
 {
@@ -37,6 +38,7 @@ fn begin_definition(keyword: Keyword, brackets: Row<Bracket>) -> Option<Progress
     }
 }
 
+/// What a token makes where an alternative may begin, and where it begins no notation.
 fn enter_case(case: CaseAt, class: TokenClass, brackets: Row<Bracket>) -> Option<Progress>
     ensures { option_map progress_of result ≡ definitions.enter_case case class (reverse brackets) }
 {
@@ -56,7 +58,7 @@ fn enter_case(case: CaseAt, class: TokenClass, brackets: Row<Bracket>) -> Option
     }
 }
 
-/// What stands in the position of a part.
+/// What a token makes where a part may begin, and where it begins none.
 fn enter_other(slot: Slot, class: TokenClass, brackets: Row<Bracket>) -> Option<Progress>
     ensures { option_map progress_of result
         ≡ definitions.enter_other slot class (reverse brackets) }
@@ -81,6 +83,7 @@ fn enter_other(slot: Slot, class: TokenClass, brackets: Row<Bracket>) -> Option<
     }
 }
 
+/// The name of a field, or `}` where there is no field.
 fn field_step(
     alloc: Global,
     first: bool,
@@ -96,6 +99,7 @@ fn field_step(
     when(first && closes_brace(class), Position::Between, brackets)
 }
 
+/// What a token makes behind hints, or where they may stand.
 fn host_step(
     alloc: Global,
     host: Host,
@@ -187,6 +191,7 @@ fn hint_step(
     }
 }
 
+/// The colon behind the name of a rule, whose conclusion is due.
 fn colon_step(alloc: Global, class: TokenClass, brackets: Row<Bracket>) -> Option<Progress>
     ensures { option_map progress_of result ≡ definitions.colon_step class (reverse brackets) }
 {
@@ -248,7 +253,7 @@ fn result_step(
     begins(alloc, at_equal(class), Slot::Rule, brackets)
 }
 
-/// A part, or what stands in its position.
+/// A part begins with the token, or it makes what else it may there.
 fn enter(
     alloc: Global,
     slot: Slot,

@@ -15,6 +15,7 @@ use st_num::{Mark, Row};
 /// The level of what binds tightest.
 pub(crate) const TIGHT: u8 = 20;
 
+/// The sort of the part that is read in the frame.
 fn frame_sort(frame: Frame) -> Sort
     ensures { result ≡ parts.frame_sort frame }
 {
@@ -34,6 +35,7 @@ pub fn top(base: Sort, frames: &Row<Frame>) -> Sort
     }
 }
 
+/// The least level of what stands behind it.
 fn wanted(lead: Lead) -> u8
     ensures { result ≡ parts.wanted lead }
 {
@@ -55,6 +57,7 @@ pub(crate) fn reach(lead: Lead) -> u8
     }
 }
 
+/// The level of what leads to a last part: that of its sign, or of a sequence.
 pub(crate) fn lead_level(lead: Lead) -> u8
     ensures { result ≡ parts.lead_level lead }
 {
@@ -65,6 +68,7 @@ pub(crate) fn lead_level(lead: Lead) -> u8
     }
 }
 
+/// The least level of a part in such a bracket.
 fn kind_least(kind: Kind) -> u8
     ensures { result ≡ parts.kind_least kind }
 {
@@ -74,6 +78,7 @@ fn kind_least(kind: Kind) -> u8
     }
 }
 
+/// The least level that is wanted in the frame.
 fn frame_least(frame: Frame) -> u8
     ensures { result ≡ parts.frame_least frame }
 {
@@ -94,6 +99,7 @@ pub(crate) fn least(frames: &Row<Frame>) -> u8
     }
 }
 
+/// What closes such a bracket.
 pub(crate) fn closed_by(bracket: Bracket) -> Closing
     ensures { result ≡ tree.closed_by bracket }
 {
@@ -129,6 +135,7 @@ pub(crate) fn agree(left: Closing, right: Closing) -> bool
     }
 }
 
+/// How the parts in such a bracket are set off, where it stands in a part of this sort.
 fn bracket_style(bracket: Bracket, sort: Sort) -> Style
     ensures { result ≡ grammar.bracket_style bracket sort }
 {
@@ -140,6 +147,7 @@ fn bracket_style(bracket: Bracket, sort: Sort) -> Style
     }
 }
 
+/// How the parts behind an operand and `[` are set off, in a part of this sort.
 fn index_style(sort: Sort) -> Style
     ensures { result ≡ grammar.index_style sort }
 {
@@ -196,18 +204,21 @@ pub(crate) fn kind_part(kind: Kind, types: bool) -> Part
     }
 }
 
+/// Whether it is the name of a function.
 pub(crate) fn is_function(part: Part) -> bool
     ensures { result ≡ parts.is_function part }
 {
     matches!(part, Part::Function)
 }
 
+/// Whether it is an atom, which goes on behind dots.
 fn is_atom(part: Part) -> bool
     ensures { result ≡ parts.is_atom part }
 {
     matches!(part, Part::Atom)
 }
 
+/// Whether it is a name or parentheses, perhaps iterated.
 fn is_type(part: Part) -> bool
     ensures { result ≡ parts.is_type part }
 {
@@ -267,6 +278,7 @@ pub(crate) fn may_iterate(sort: Sort, part: Part, mark: Mark) -> bool
     }
 }
 
+/// Whether it is a bar that opens a length there.
 fn opens_length(closing: Closing, sort: Sort) -> bool
     ensures { result ≡ grammar.opens_length closing sort }
 {

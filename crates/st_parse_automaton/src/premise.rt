@@ -13,6 +13,7 @@ use st_grammar::{Bracket, Keyword};
 use st_num::{NoMemory, Row};
 use std::alloc::Global;
 
+/// Behind `--` and each `(`: one more `(`, or the name of a relation.
 fn premise_step(class: TokenClass, mut brackets: Row<Bracket>) -> Result<Option<Progress>, NoMemory>
     ensures { IfOk result (λ next.
         option_map progress_of next ≡ definitions.premise_step class (reverse brackets)) }
@@ -63,6 +64,7 @@ pub(crate) fn premise_word(
     }
 }
 
+/// The `--` of a next premise.
 pub(crate) fn next_premise(keyword: Keyword, brackets: Row<Bracket>) -> Option<Progress>
     ensures { option_map progress_of result ≡ definitions.next_premise keyword (reverse brackets) }
 {

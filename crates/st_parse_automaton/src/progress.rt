@@ -24,12 +24,14 @@ pub fn slot_sort(slot: Slot) -> Sort
     }
 }
 
+/// Whether a `)` stands last, which wants an iteration.
 pub(crate) fn wants_iteration(iterations: IterationState) -> bool
     ensures { result ≡ definitions.wants_iteration iterations }
 {
     matches!(iterations, IterationState::Wanted)
 }
 
+/// Whether a `)` stands there.
 pub(crate) fn has_closed(iterations: IterationState) -> bool
     ensures { result ≡ definitions.has_closed iterations }
 {
@@ -39,6 +41,7 @@ pub(crate) fn has_closed(iterations: IterationState) -> bool
     }
 }
 
+/// Whether definitions may end behind it, with its hints.
 fn host_whole(host: Host) -> bool
     ensures { result ≡ definitions.host_whole host }
 {
@@ -48,6 +51,7 @@ fn host_whole(host: Host) -> bool
     }
 }
 
+/// Whether no bracket is open.
 pub(crate) fn none_open(brackets: &Row<Bracket>) -> bool
     ensures { result ≡ definitions.is_empty (reverse brackets.now) }
 {

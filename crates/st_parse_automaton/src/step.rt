@@ -44,6 +44,7 @@ fn pull(sort: Sort, mark: Mark) -> u8
     if sort.has_level(level) { level } else { 0 }
 }
 
+/// A sign behind a part: it iterates it, wants a count, joins it or sets it off.
 fn behind_sign(
     base: Sort,
     mark: Mark,
@@ -109,6 +110,7 @@ fn behind_round(
     Ok(next)
 }
 
+/// A token behind a part, where it begins no next element of a sequence.
 fn behind(
     base: Sort,
     part: Part,
@@ -140,6 +142,7 @@ fn behind(
     }
 }
 
+/// A token behind a part.
 fn after(
     base: Sort,
     part: Part,
@@ -175,6 +178,7 @@ fn in_index(
     Ok(next)
 }
 
+/// A token in a path: a step, or a sign of change and the new value.
 fn in_path(
     base: Sort,
     stepped: bool,
@@ -204,12 +208,14 @@ fn in_path(
     }
 }
 
+/// Whether it is the name of a field.
 pub(crate) fn is_label(shape: Shape) -> bool
     ensures { result ≡ parts.is_label shape }
 {
     matches!(shape, Shape::Single(Leaf::Atom | Leaf::Variable))
 }
 
+/// How far a bracket is filled behind the name of a field.
 fn named(filling: Filling) -> Filling
     ensures { result ≡ parts.named filling }
 {
@@ -239,7 +245,7 @@ fn name_field(mut frames: Row<Frame>, shape: Shape) -> Result<Option<Reading>, N
     }
 }
 
-/// The name behind `^ (`.
+/// The name of an index behind `^ (`.
 fn name_index(frames: Row<Frame>, shape: Shape) -> Option<Reading>
     ensures { option_map reading_of result ≡ parts.name_index (reverse frames) shape }
 {
@@ -252,7 +258,7 @@ fn name_index(frames: Row<Frame>, shape: Shape) -> Option<Reading>
     }
 }
 
-/// The `<` behind that name.
+/// The `<` behind `^ (` and the name of an index: the bound is due.
 fn bound_index(base: Sort, frames: Row<Frame>, shape: Shape) -> Result<Option<Reading>, NoMemory>
     ensures { IfOk result (λ next.
         option_map reading_of next ≡ parts.bound_index base (reverse frames) shape) }

@@ -12,30 +12,35 @@ use crate::step::is_label;
 use st_grammar::{Bracket, Closing, Leaf, is_caret, is_colon, is_comma, is_iteration_sign};
 use st_num::Mark;
 
+/// Whether it is `/`.
 fn is_slash(mark: Mark) -> bool
     ensures { result ≡ grammar.is_slash mark }
 {
     matches!(mark, Mark::Slash)
 }
 
+/// Whether it is `-`.
 fn is_minus(mark: Mark) -> bool
     ensures { result ≡ grammar.is_minus mark }
 {
     matches!(mark, Mark::Minus)
 }
 
+/// Whether it is `=`.
 fn is_equal(mark: Mark) -> bool
     ensures { result ≡ grammar.is_equal mark }
 {
     matches!(mark, Mark::Equal)
 }
 
+/// Whether it is `...`.
 fn is_dots(mark: Mark) -> bool
     ensures { result ≡ grammar.is_dots mark }
 {
     matches!(mark, Mark::Ellipsis)
 }
 
+/// Whether the token is `/`.
 pub(crate) fn at_slash(class: TokenClass) -> bool
     ensures { result ≡ definitions.signed grammar.is_slash class }
 {
@@ -45,6 +50,7 @@ pub(crate) fn at_slash(class: TokenClass) -> bool
     }
 }
 
+/// Whether the token is `-`.
 pub(crate) fn at_minus(class: TokenClass) -> bool
     ensures { result ≡ definitions.signed grammar.is_minus class }
 {
@@ -54,6 +60,7 @@ pub(crate) fn at_minus(class: TokenClass) -> bool
     }
 }
 
+/// Whether the token is `=`.
 pub(crate) fn at_equal(class: TokenClass) -> bool
     ensures { result ≡ definitions.signed grammar.is_equal class }
 {
@@ -63,6 +70,7 @@ pub(crate) fn at_equal(class: TokenClass) -> bool
     }
 }
 
+/// Whether the token is `...`.
 pub(crate) fn at_dots(class: TokenClass) -> bool
     ensures { result ≡ definitions.signed grammar.is_dots class }
 {
@@ -72,6 +80,7 @@ pub(crate) fn at_dots(class: TokenClass) -> bool
     }
 }
 
+/// Whether the token is a comma.
 pub(crate) fn at_comma(class: TokenClass) -> bool
     ensures { result ≡ definitions.signed levels.is_comma class }
 {
@@ -81,6 +90,7 @@ pub(crate) fn at_comma(class: TokenClass) -> bool
     }
 }
 
+/// Whether the token is a colon.
 pub(crate) fn at_colon(class: TokenClass) -> bool
     ensures { result ≡ definitions.signed levels.is_colon class }
 {
@@ -90,6 +100,7 @@ pub(crate) fn at_colon(class: TokenClass) -> bool
     }
 }
 
+/// Whether the token iterates an expression.
 pub(crate) fn at_iteration_sign(class: TokenClass) -> bool
     ensures { result ≡ definitions.signed levels.is_iteration_sign class }
 {
@@ -99,6 +110,7 @@ pub(crate) fn at_iteration_sign(class: TokenClass) -> bool
     }
 }
 
+/// Whether the token is `^`.
 pub(crate) fn at_caret(class: TokenClass) -> bool
     ensures { result ≡ definitions.signed levels.is_caret class }
 {
@@ -108,30 +120,35 @@ pub(crate) fn at_caret(class: TokenClass) -> bool
     }
 }
 
+/// Whether the token is a name that begins with a lower-case letter.
 pub(crate) fn is_low(class: TokenClass) -> bool
     ensures { result ≡ definitions.is_low class }
 {
     matches!(class.shape, Shape::Single(Leaf::Low))
 }
 
+/// Whether the token is a name right behind a dollar sign.
 pub(crate) fn is_fun(class: TokenClass) -> bool
     ensures { result ≡ definitions.is_fun class }
 {
     matches!(class.shape, Shape::Single(Leaf::Function))
 }
 
+/// Whether the token is the name of a relation.
 pub(crate) fn names_relation(class: TokenClass) -> bool
     ensures { result ≡ definitions.names_relation class }
 {
     class.mix || is_label(class.shape)
 }
 
+/// Whether the token is a name of any kind.
 pub(crate) fn is_name(class: TokenClass) -> bool
     ensures { result ≡ definitions.is_name class }
 {
     is_low(class) || names_relation(class)
 }
 
+/// Whether it is this closing token.
 fn shape_closes(closing: Closing, shape: Shape) -> bool
     ensures { result ≡ definitions.shape_closes closing shape }
 {
@@ -141,18 +158,21 @@ fn shape_closes(closing: Closing, shape: Shape) -> bool
     }
 }
 
+/// Whether the token is a bar.
 pub(crate) fn is_bar(class: TokenClass) -> bool
     ensures { result ≡ definitions.is_bar class }
 {
     shape_closes(Closing::ByBar, class.shape)
 }
 
+/// Whether it closes parentheses.
 pub(crate) fn closes_round(class: TokenClass) -> bool
     ensures { result ≡ definitions.closes_round class }
 {
     shape_closes(Closing::ByRound, class.shape)
 }
 
+/// Whether it closes braces.
 pub(crate) fn closes_brace(class: TokenClass) -> bool
     ensures { result ≡ definitions.closes_brace class }
 {
@@ -166,6 +186,7 @@ pub fn opens_round(class: TokenClass) -> bool
     matches!(class.shape, Shape::Open(Bracket::Round, _))
 }
 
+/// Whether it opens braces.
 pub(crate) fn opens_brace(class: TokenClass) -> bool
     ensures { result ≡ definitions.opens_brace class }
 {

@@ -14,6 +14,7 @@ const START: Span = Span {
     column: 1,
 };
 
+/// The place of a token, or the start of the first file where there is none.
 fn place_of(token: Option<&Token>) -> Span
     ensures { result ≡ place_of (option_copied token.entry) }
 {

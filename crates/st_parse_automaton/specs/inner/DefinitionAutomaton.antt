@@ -31,70 +31,89 @@ use Rattle.st_parse_automaton.specs.declared.position.Position.{Position}
 use Rattle.st_parse_automaton.specs.declared.position.Position.TheVariants as position
 use Rattle.st_parse_automaton.specs.inner.PartAutomaton as parts
 
--- The innermost bracket comes first.
+-- how far definitions are read: at a position between parts or in a part, and the brackets that
+-- are open there, the innermost first
 pub data State : Type 0 where
   at : Position → List Bracket → State
   inside : Slot → parts.State → List Bracket → State
 
 -- ---- tests
 
+-- such a token is a sign of this kind
 abbrev pub shape_signed : (Mark → Bool) → Shape → Bool
 shape_signed p (Sign m) = p m
 shape_signed p s = false
 
+-- the token is a sign of this kind
 abbrev pub signed : (Mark → Bool) → TokenClass → Bool
 signed p l = shape_signed p l.shape
 
+-- such a token is a name that begins with a lower-case letter
 abbrev pub shape_low : Shape → Bool
 shape_low (Single leaf.Low) = true
 shape_low s = false
 
+-- the token is a name that begins with a lower-case letter
 abbrev pub is_low : TokenClass → Bool
 is_low l = shape_low l.shape
 
+-- such a token is a name right behind a dollar sign
 abbrev pub shape_fun : Shape → Bool
 shape_fun (Single leaf.Function) = true
 shape_fun s = false
 
+-- the token is a name right behind a dollar sign
 abbrev pub is_fun : TokenClass → Bool
 is_fun l = shape_fun l.shape
 
+-- the token is the name of a field
 abbrev pub is_label : TokenClass → Bool
 is_label l = parts.is_label l.shape
 
+-- the token is the name of a relation
 abbrev pub names_relation : TokenClass → Bool
 names_relation l = l.mix || is_label l
 
+-- the token is a name of any kind
 abbrev pub is_name : TokenClass → Bool
 is_name l = is_low l || names_relation l
 
+-- such a token is this closing token
 abbrev pub shape_closes : Closing → Shape → Bool
 shape_closes c (Close d) = agree d c
 shape_closes c s = false
 
+-- the token is a bar
 abbrev pub is_bar : TokenClass → Bool
 is_bar l = shape_closes closing.ByBar l.shape
 
+-- the token is `)`
 abbrev pub closes_round : TokenClass → Bool
 closes_round l = shape_closes closing.ByRound l.shape
 
+-- the token is `}`
 abbrev pub closes_brace : TokenClass → Bool
 closes_brace l = shape_closes closing.ByBrace l.shape
 
+-- such a token is `(`
 abbrev pub shape_round : Shape → Bool
 shape_round (Open bracket.Round t) = true
 shape_round s = false
 
+-- the token is `(`
 abbrev pub opens_round : TokenClass → Bool
 opens_round l = shape_round l.shape
 
+-- such a token is `{`
 abbrev pub shape_brace : Shape → Bool
 shape_brace (Open bracket.Brace t) = true
 shape_brace s = false
 
+-- the token is `{`
 abbrev pub opens_brace : TokenClass → Bool
 opens_brace l = shape_brace l.shape
 
+-- whether a piece of a name is due behind the token, where it goes on with the name
 abbrev pub id_step : Bool → TokenClass → Option Bool
 id_step true l = if l.touching && l.piece then Some false else None
 id_step false l =
@@ -102,6 +121,7 @@ id_step false l =
     else if l.touching && l.dot then Some false
     else None
 
+-- what is still to be closed behind the token, the innermost first
 abbrev pub balance : List Bracket → Shape → Option (List Bracket)
 balance ks (Open k t) = Some (k ∷ ks)
 balance ks (Close closing.ByBar) = Some ks
@@ -111,6 +131,7 @@ balance ks s = Some ks
 
 -- ---- positions
 
+-- the sort of the part that is read for this
 abbrev pub slot_sort : Slot → Sort
 slot_sort slot.Field = sort.Typ
 slot_sort (slot.Case c) = sort.Notation
@@ -122,18 +143,22 @@ slot_sort slot.Rule = sort.Expression false
 slot_sort slot.Condition = sort.Expression false
 slot_sort slot.Count = sort.Count
 
+-- a `)` stands last, which wants an iteration
 abbrev pub wants_iteration : IterationState → Bool
 wants_iteration iterations.Wanted = true
 wants_iteration m = false
 
+-- a `)` stands there
 abbrev pub has_closed : IterationState → Bool
 has_closed iterations.None = false
 has_closed m = true
 
+-- no bracket is open
 abbrev pub is_empty : List Bracket → Bool
 is_empty [] = true
 is_empty ks = false
 
+-- definitions may end behind this, with its hints
 abbrev pub host_whole : Host → Bool
 host_whole host.Case = true
 host_whole host.Var = true
@@ -149,14 +174,17 @@ whole position.Premised ks = true
 whole (position.Iterated m) ks = is_empty ks && not (wants_iteration m)
 whole p ks = false
 
+-- a part begins for this
 abbrev pub start_of : Slot → List Bracket → State
 start_of s ks = inside s (Operand, []) ks
 
+-- the state, where this holds
 abbrev pub when : Bool → State → Option State
 when b st = if b then Some st else None
 
 -- ---- steps
 
+-- such a word begins a next definition, whose name is due
 abbrev pub begin_def : Keyword → List Bracket → Option State
 begin_def key.SyntaxWord ks = Some (at position.SyntaxName ks)
 begin_def key.RelationWord ks = Some (at position.RelationName ks)
@@ -165,6 +193,7 @@ begin_def key.VarWord ks = Some (at position.VarName ks)
 begin_def key.DefWord ks = Some (at position.FunName ks)
 begin_def k ks = None
 
+-- what a token makes where an alternative may begin, and where it begins no notation
 abbrev pub enter_case : CaseAt → TokenClass → List Bracket → Option State
 enter_case case.Start l ks =
     if opens_brace l then Some (at (position.FieldName true) ks)
@@ -173,21 +202,25 @@ enter_case case.Start l ks =
 enter_case case.Barred l ks = when (signed is_dots l) (at position.Between ks)
 enter_case c l ks = None
 
+-- what a token makes where a part may begin, and where it begins none
 abbrev pub enter_other : Slot → TokenClass → List Bracket → Option State
 enter_other (slot.Case c) l ks = enter_case c l ks
 enter_other (slot.Argument true t) l ks = when (closes_round l) (at (position.ArgumentsClosed t) ks)
 enter_other s l ks = None
 
+-- a part begins with this token, or else something other does
 abbrev pub enter : Slot → Option parts.State → List Bracket → Option State → Option State
 enter s (Some st) ks o = Some (inside s st ks)
 enter s None ks o = o
 
+-- behind `{` or a comma the name of a field, or `}` where there is no field
 abbrev pub field_step : Bool → TokenClass → List Bracket → Option State
 field_step true l ks =
     if is_label l then Some (start_of slot.Field ks)
     else when (closes_brace l) (at position.Between ks)
 field_step false l ks = when (is_label l) (start_of slot.Field ks)
 
+-- what a token makes behind hints, or where they may stand
 abbrev pub host_step : Host → Bool → TokenClass → List Bracket → Option State
 host_step host.Syntax b l ks =
     if b && signed is_slash l then Some (at (position.SyntaxId true) ks)
@@ -199,46 +232,57 @@ host_step host.Case b l ks = when (is_bar l) (at (position.Entering (slot.Case c
 host_step host.Relation b l ks = when (signed is_colon l) (start_of slot.Notation ks)
 host_step h b l ks = None
 
+-- `hint` begins a hint, and another token goes on behind the hints
 abbrev pub hint_or : Keyword → Host → Bool → TokenClass → List Bracket → Option State
 hint_or key.HintWord h b l ks = Some (at (position.HintOpen h) ks)
 hint_or k h b l ks = host_step h b l ks
 
+-- in a hint: a token that stays balanced goes on with it, and a further `)` ends it
 abbrev pub hint_step : Host → List Bracket → TokenClass → Option (List Bracket) → Option State
 hint_step h ks l (Some js) = Some (at (position.HintWords h) js)
 hint_step h [] l None = when (closes_round l) (at (position.Hinted h false) [])
 hint_step h ks l None = None
 
+-- a token goes on with a name, or else, where the name is whole, does what stands last
 abbrev pub id_goes : Option Bool → Bool → (Bool → State) → Option State → Option State
 id_goes (Some e) d next o = Some (next e)
 id_goes None true next o = None
 id_goes None false next o = o
 
+-- `:` behind the name of a rule, whose conclusion is due
 abbrev pub colon_step : TokenClass → List Bracket → Option State
 colon_step l ks = when (signed is_colon l) (start_of slot.Rule ks)
 
+-- behind the arguments: `:`, where they are types, and the type of the result is due,
+-- or `=` and the result is due
 abbrev pub result_step : Bool → TokenClass → List Bracket → Option State
 result_step b l ks =
     if signed is_colon l && b then Some (start_of slot.Fun ks)
     else when (signed is_equal l) (start_of slot.Rule ks)
 
+-- behind `--` and each `(`: one more `(`, or the name of a relation
 abbrev pub premise_step : TokenClass → List Bracket → Option State
 premise_step l ks =
     if opens_round l then Some (at position.PremiseOpen (bracket.Round ∷ ks))
     else when (names_relation l) (at position.GoalColon ks)
 
+-- behind `--` and each `(`: `if`, `otherwise`, one more `(`, or the name of a relation
 abbrev pub premise_word : Keyword → TokenClass → List Bracket → Option State
 premise_word key.IfWord l ks = Some (start_of slot.Condition ks)
 premise_word key.OtherwiseWord l [] = Some (at position.Premised [])
 premise_word k l ks = premise_step l ks
 
+-- `--` begins a next premise
 abbrev pub next_premise : Keyword → List Bracket → Option State
 next_premise key.Dashes ks = Some (at position.PremiseOpen ks)
 next_premise k ks = None
 
+-- the brackets without the innermost
 abbrev pub tail : List Bracket → List Bracket
 tail [] = []
 tail (k ∷ ks) = ks
 
+-- behind a condition: `)`, an iteration, or the `--` of a next premise
 abbrev pub iterate : IterationState → TokenClass → List Bracket → Option State
 iterate m l ks =
     if closes_round l && (not (is_empty ks) && not (wants_iteration m))
@@ -299,10 +343,12 @@ own position.PremiseOpen l ks = premise_word l.keyword l ks
 own position.GoalColon l ks = when (signed is_colon l) (start_of slot.Condition ks)
 own (position.Iterated m) l ks = iterate m l ks
 
+-- the first of two, where there is one
 abbrev pub first_of_two : Option State → Option State → Option State
 first_of_two (Some st) o = Some st
 first_of_two None o = o
 
+-- where definitions may end, such a word begins a next one
 abbrev pub turn : Bool → Keyword → List Bracket → Option State
 turn b k ks = if b then begin_def k ks else None
 
@@ -328,10 +374,12 @@ abbrev pub taken : Slot → TokenClass → List Bracket → Option parts.State �
 taken s l ks (Some next) q = Some (inside s next ks)
 taken s l ks None q = option_and_then (λ p. position_step (filled s p) l ks) q
 
+-- what a token makes of a state, where the grammar allows it there
 abbrev pub step : State → TokenClass → Option State
 step (at p ks) l = position_step p l ks
 step (inside s st ks) l = taken s l ks (parts.step (slot_sort s) st l.shape) (parts.finish st)
 
+-- definitions may end behind a part that is read for this, where it may end itself
 abbrev pub part_ends : Slot → List Bracket → Option Part → Bool
 part_ends s ks None = false
 part_ends s ks (Some p) = whole (filled s p) ks

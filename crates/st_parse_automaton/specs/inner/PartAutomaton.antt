@@ -31,50 +31,59 @@ use Rattle.st_parse_automaton.specs.declared.part_automaton.Frame.TheVariants.{W
 use Rattle.st_parse_automaton.specs.declared.part_automaton.Expected.{Expected}
 use Rattle.st_parse_automaton.specs.declared.part_automaton.Expected.TheVariants.{Operand, Next, Label, Step, Index as IndexExpected, Less}
 
--- what is expected, and what is open, the innermost first
+-- how far a part is read: what is expected, and what is open, the innermost first
 abbrev pub State : Type 0
 State = Expected × List Frame
 
 -- ---- positions
 
+-- the sort of the part that is read in this frame
 abbrev pub frame_sort : Frame → Sort
 frame_sort (Within k f t σ) = σ
 frame_sort (Over g σ) = σ
 frame_sort Timing = sort.Count
 
+-- the sort of the part that is read innermost; with nothing open it is the base
 abbrev pub top : Sort → List Frame → Sort
 top base [] = base
 top base (f ∷ fs) = frame_sort f
 
+-- the least level of what stands behind such a lead
 abbrev pub wanted : Lead → ℕ
 wanted (Left m) = right_of m
 wanted (Ahead m) = prefix_right m
 wanted Items = tight
 
+-- how loose a sign must be to close over a part behind this
 abbrev pub reach : Lead → ℕ
 reach (Left m) = right_of m
 reach (Ahead m) = prefix_right m
 reach Items = 14
 
+-- the level of what leads to a last part: that of its sign, or of a sequence
 abbrev pub lead_level : Lead → ℕ
 lead_level (Left m) = level_of m
 lead_level (Ahead m) = prefix_level m
 lead_level Items = 14
 
+-- the least level of a part in such a bracket
 abbrev pub kind_least : Kind → ℕ
 kind_least InIndex = 13
 kind_least Segment = 13
 kind_least k = 1
 
+-- the least level that is wanted in this frame
 abbrev pub frame_least : Frame → ℕ
 frame_least (Within k f t σ) = kind_least k
 frame_least (Over g σ) = wanted g
 frame_least Timing = 1
 
+-- the least level that is wanted innermost
 abbrev pub least : List Frame → ℕ
 least [] = 1
 least (f ∷ fs) = frame_least f
 
+-- what closes such a bracket
 abbrev pub kind_closing : Kind → Closing
 kind_closing (Plain b) = closed_by b
 kind_closing Length = closing.ByBar
@@ -84,6 +93,7 @@ kind_closing Segment = closing.BySquare
 kind_closing Update = closing.BySquare
 kind_closing Below = closing.ByRound
 
+-- how the parts in such a bracket are set off, where it stands in a part of this sort
 abbrev pub kind_style : Sort → Kind → Style
 kind_style σ (Plain b) = bracket_style b σ
 kind_style σ Length = style.Lone
@@ -93,6 +103,7 @@ kind_style σ Segment = style.Ends
 kind_style σ Update = style.Lone
 kind_style σ Below = style.Lone
 
+-- the sort of the parts in such a bracket, where it stands in a part of this sort
 abbrev pub kind_sort : Sort → Kind → Sort
 kind_sort σ (Plain b) = inside σ b
 kind_sort σ Length = sort.Expression true
@@ -104,22 +115,27 @@ kind_sort σ Below = sort.Bound
 
 -- ---- parts
 
+-- the part is the name of a function
 abbrev pub is_function : Part → Bool
 is_function Function = true
 is_function p = false
 
+-- the part is an atom, which goes on behind dots
 abbrev pub is_atom : Part → Bool
 is_atom Atom = true
 is_atom p = false
 
+-- the part is a name or parentheses, perhaps iterated
 abbrev pub is_type : Part → Bool
 is_type (Typ b) = true
 is_type p = false
 
+-- all of the part reads as a type
 abbrev pub reads_type : Part → Bool
 reads_type (Typ b) = b
 reads_type p = false
 
+-- what part such an operand of one token is
 abbrev pub leaf_part : Leaf → Part
 leaf_part leaf.Low = Typ true
 leaf_part leaf.Basic = Typ true
@@ -129,31 +145,36 @@ leaf_part leaf.Number = Whole
 leaf_part leaf.Literal = Whole
 leaf_part leaf.Function = Function
 
+-- what part a bracket is that has closed, where all in it reads as types or not
 abbrev pub kind_part : Kind → Bool → Part
 kind_part (Plain bracket.Round) t = Typ t
 kind_part k t = Whole
 
--- a part with a dot, and with an iteration sign behind it
+-- the part with a dot behind it
 abbrev pub dotted : Part → Part
 dotted Atom = Atom
 dotted p = Whole
 
+-- the part with an iteration sign behind it
 abbrev pub marked : Mark → Part → Part
 marked m (Typ b) = Typ (is_type_iteration_sign m && b)
 marked m p = Whole
 
+-- a dot may stand behind the part, which it touches or not
 abbrev pub may_dot : Sort → Part → Bool → Bool
 may_dot (sort.Expression b) p t = true
 may_dot sort.Arithmetic p t = true
 may_dot sort.Notation p t = is_atom p && t
 may_dot σ p t = false
 
+-- the sign may iterate the part
 abbrev pub may_iterate : Sort → Part → Mark → Bool
 may_iterate (sort.Expression b) p m = is_iteration_sign m
 may_iterate sort.Notation p m = is_type_iteration_sign m && is_type p
 may_iterate sort.Typ p m = is_type_iteration_sign m
 may_iterate σ p m = false
 
+-- the token begins a next element of a sequence behind this part
 abbrev pub follows : Sort → Part → Shape → Bool
 follows σ p (Single k) = juxtaposes σ
 follows σ p (Open bracket.Square t) = false
@@ -164,6 +185,7 @@ follows σ p l = false
 
 -- ---- what closes
 
+-- a part is read; behind `^` it is the count
 abbrev pub settle : Part → List Frame → State
 settle p (Timing ∷ fs) = (Next Whole, fs)
 settle p fs = (Next p, fs)
@@ -177,23 +199,28 @@ abbrev pub closes : Frame → ℕ → Option Lead
 closes (Over g σ) n = if nat_le (reach g) n then None else Some g
 closes f n = None
 
+-- the part where its frame stays open, or what goes on behind the frame that it closes
 abbrev pub lower_at : ℕ → ℕ → Part → Frame → List Frame → (Lead → Lowered) → Option Lead → Lowered
 lower_at n v p f fs next None = (v, p, f ∷ fs)
 lower_at n v p f fs next (Some g) = next g
 
+-- what binds tighter than this level is closed over the part
 abbrev pub lower : ℕ → ℕ → Part → List Frame → Lowered
 lower n v p [] = (v, p, [])
 lower n v p (f ∷ fs) = lower_at n v p f fs (λ g. lower n (lead_level g) Whole fs) (closes f n)
 
+-- a bracket with its parts has closed: it is a step of a path, or a part that is read
 abbrev pub shut : Kind → Bool → List Frame → State
 shut Segment t fs = (Step true, fs)
 shut k t fs = settle (kind_part k t) fs
 
+-- what a closing token makes of a part that is read, where it closes the innermost bracket
 abbrev pub close : Closing → Lowered → Option State
 close c (v, p, Within k f t σ ∷ fs) =
     if agree (kind_closing k) c then Some (shut k (t && reads_type p) fs) else None
 close c q = None
 
+-- the part that is read, where nothing is open round it
 abbrev pub ended : Lowered → Option Part
 ended (v, p, []) = Some p
 ended q = None
@@ -204,35 +231,43 @@ ended q = None
 abbrev pub opened : Kind → Sort → List Frame → List Frame
 opened k σ fs = Within k Empty true (kind_sort σ k) ∷ fs
 
+-- what is expected where such a bracket has opened: in braces the name of a field
 abbrev pub plain_expected : Bracket → Expected
 plain_expected bracket.Brace = Label
 plain_expected b = Operand
 
+-- the arguments of a function close that are none
 abbrev pub no_arguments : List Frame → Option State
 no_arguments (Within Arguments Empty t σ ∷ fs) = Some (settle Whole fs)
 no_arguments fs = None
 
+-- what a closing token makes where an operand is due: a bar opens a length, and a parenthesis
+-- closes arguments that are none
 abbrev pub begin_closing : Sort → Closing → List Frame → Option State
 begin_closing base closing.ByBar fs =
     if computes (top base fs) then Some (Operand, opened Length (top base fs) fs) else None
 begin_closing base closing.ByRound fs = no_arguments fs
 begin_closing base c fs = None
 
+-- such a bracket opens, where it begins an operand
 abbrev pub begin_plain : Sort → Bracket → List Frame → Option State
 begin_plain base b fs =
     if encloses (top base fs) b then Some (plain_expected b, opened (Plain b) (top base fs) fs)
     else None
 
+-- what a token that opens a bracket makes where an operand is due
 abbrev pub begin_opening : Sort → Bracket → List Frame → Option State
 begin_opening base bracket.Round fs =
     if is_count (top base fs) then Some (IndexExpected, fs) else begin_plain base bracket.Round fs
 begin_opening base b fs = begin_plain base b fs
 
+-- a sign without a left side, where it begins an operand
 abbrev pub begin_sign : Sort → Mark → List Frame → Option State
 begin_sign base m fs =
     if has_level (top base fs) (prefix_level m) && nat_le (least fs) (prefix_level m)
     then Some (Operand, Over (Ahead m) (top base fs) ∷ fs) else None
 
+-- what a token makes where an operand is due
 abbrev pub begin : Sort → List Frame → Shape → Option State
 begin base fs (Single k) = if takes (top base fs) k then Some (settle (leaf_part k) fs) else None
 begin base fs (Dot t) = None
@@ -243,10 +278,12 @@ begin base fs Other = None
 
 -- ---- what stands behind a part
 
+-- what is open, with one more element of a sequence
 abbrev pub extend : Sort → List Frame → List Frame
 extend base (Over Items σ ∷ fs) = Over Items σ ∷ fs
 extend base fs = Over Items (top base fs) ∷ fs
 
+-- the part that is read in a bracket is its first one
 abbrev pub is_first : Filling → Bool
 is_first Parts = false
 is_first f = true
@@ -258,47 +295,56 @@ next_expected style.Fields m b = if is_comma m then Some Label else None
 next_expected style.Ends m b = if b && is_colon m then Some Operand else None
 next_expected y m b = None
 
+-- a next part of a bracket, where something is expected
 abbrev pub next_part : Option Expected → List Frame → Option State
 next_part (Some d) fs = Some (d, fs)
 next_part None fs = None
 
+-- the sign sets off a next part in the innermost bracket
 abbrev pub separate : Sort → Mark → Lowered → Option State
 separate base m (v, p, Within k f t σ ∷ fs) =
     next_part (next_expected (kind_style (top base fs) k) m (is_first f))
     (Within k Parts (t && reads_type p) σ ∷ fs)
 separate base m q = None
 
+-- the sign makes what is read its left side, or else sets off a next part
 abbrev pub join : Sort → Mark → Lowered → Option State
 join base m q =
     if has_level (top base q.2) (level_of m) && nat_le (least q.2) (level_of m)
     then if nat_le (left_of m) q.0 then Some (Operand, Over (Left m) (top base q.2) ∷ q.2) else None
     else separate base m q
 
+-- the level of the sign between two sides in such a part, or 0 where it is none
 abbrev pub pull : Sort → Mark → ℕ
 pull σ m = if has_level σ (level_of m) then level_of m else 0
 
+-- what a sign makes behind a part: it iterates it, wants a count, joins it or sets it off
 abbrev pub behind_sign : Sort → Mark → Part → List Frame → Option State
 behind_sign base m p fs =
     if may_iterate (top base fs) p m then Some (Next (marked m p), fs)
     else if is_expression (top base fs) && is_caret m then Some (Operand, Timing ∷ fs)
     else join base m (lower (pull (top base fs) m) tight p fs)
 
+-- `[` behind a part; no path stands in arithmetic
 abbrev pub behind_square : Sort → List Frame → Option State
 behind_square base fs =
     if is_expression (top base fs) then Some (Step false, fs)
     else if computes (top base fs) then Some (Operand, opened InIndex (top base fs) fs)
     else None
 
+-- `(` behind a part begins the arguments of a function, which it touches
 abbrev pub behind_round : Sort → Bool → Part → List Frame → Option State
 behind_round base t p fs =
     if is_function p && (computes (top base fs) && t)
     then Some (Operand, opened Arguments (top base fs) fs) else None
 
+-- what a token that opens a bracket makes behind a part
 abbrev pub behind_opening : Sort → Bracket → Bool → Part → List Frame → Option State
 behind_opening base bracket.Square t p fs = behind_square base fs
 behind_opening base bracket.Round t p fs = behind_round base t p fs
 behind_opening base b t p fs = None
 
+-- what a token makes behind a part, where it begins no next element of a sequence
 abbrev pub behind : Sort → Part → List Frame → Shape → Option State
 behind base p fs (Single k) = None
 behind base p fs (Dot t) = if may_dot (top base fs) p t then Some (Next (dotted p), fs) else None
@@ -307,20 +353,24 @@ behind base p fs (Open b t) = behind_opening base b t p fs
 behind base p fs (Close c) = close c (lower 0 tight p fs)
 behind base p fs Other = None
 
+-- what a token makes behind a part
 abbrev pub after : Sort → Part → List Frame → Shape → Option State
 after base p fs l =
     if follows (top base fs) p l then begin base (extend base fs) l else behind base p fs l
 
 -- ---- paths and counts
 
+-- behind `[` and no step of a path an expression begins
 abbrev pub in_index : Sort → Bool → List Frame → Shape → Option State
 in_index base true fs l = None
 in_index base false fs l = begin base (opened InIndex (top base fs) fs) l
 
+-- what a token that opens a bracket makes in a path, which has a step or not
 abbrev pub path_opening : Sort → Bool → List Frame → Bracket → Bool → Option State
 path_opening base s fs bracket.Square t = Some (Operand, opened Segment (top base fs) fs)
 path_opening base s fs b t = in_index base s fs (Open b t)
 
+-- what a token makes in a path: a step, or a sign of change and the new value
 abbrev pub in_path : Sort → Bool → List Frame → Shape → Option State
 in_path base s fs (Dot t) = Some (Step true, fs)
 in_path base s fs (Open b t) = path_opening base s fs b t
@@ -329,24 +379,29 @@ in_path base s fs (Sign m) =
     else in_index base s fs (Sign m)
 in_path base s fs l = in_index base s fs l
 
+-- the token is the name of a field
 abbrev pub is_label : Shape → Bool
 is_label (Single leaf.Atom) = true
 is_label (Single leaf.Variable) = true
 is_label l = false
 
+-- how far a bracket is filled behind the name of a field
 abbrev pub named : Filling → Filling
 named Parts = Parts
 named f = Begun
 
+-- the name of a field, and then its part is due
 abbrev pub name_field : List Frame → Shape → Option State
 name_field (Within k f t σ ∷ fs) l =
     if is_label l then Some (Operand, Within k (named f) t σ ∷ fs) else None
 name_field fs l = None
 
+-- behind `^ (` the name of an index
 abbrev pub name_index : List Frame → Shape → Option State
 name_index fs (Single leaf.Low) = Some (Less, fs)
 name_index fs l = None
 
+-- behind `^ (` and the name of an index a `<`, and then the bound is due
 abbrev pub bound_index : Sort → List Frame → Shape → Option State
 bound_index base fs (Sign m) =
     if is_less m then Some (Operand, opened Below (top base fs) fs) else None
@@ -354,6 +409,7 @@ bound_index base fs l = None
 
 -- ---- the reading
 
+-- what a token makes of a state, where the grammar allows it there
 abbrev pub step : Sort → State → Shape → Option State
 step base (Operand, fs) l = begin base fs l
 step base (Next p, fs) l = after base p fs l

@@ -7,12 +7,15 @@ use Rattle.st_parse_automaton.specs.declared.position.Progress.TheVariants as co
 use Rattle.st_parse_automaton.specs.inner.PartAutomaton as parts
 use Rattle.st_parse_automaton.specs.inner.DefinitionAutomaton as definitions
 
+-- how far the parser has read a part, as a state of the automaton of parts
 abbrev pub reading_of : Reading → parts.State
 reading_of r = (r.expected, reverse r.frames)
 
+-- what the parser has closed over a part, as the automaton of parts has it
 abbrev pub lowered_of : Lowered → parts.Lowered
 lowered_of l = (l.level, l.part, reverse l.frames)
 
+-- how far the parser has read definitions, as a state of their automaton
 abbrev pub progress_of : Progress → definitions.State
 progress_of (code.At a) = definitions.at a.position (reverse a.brackets)
 progress_of (code.Inside s r ks) = definitions.inside s (reading_of r) (reverse ks)

@@ -21,6 +21,7 @@ use Rattle.st_parse_automaton.specs.declared.part_automaton.Shape.{Shape}
 use Rattle.st_parse_automaton.specs.declared.part_automaton.Shape.TheVariants.{Single, Dot, Sign, Open, Close, Other}
 use Rattle.st_parse_automaton.specs.declared.position.TokenClass.{TokenClass}
 
+-- what the parser takes a token for in a part
 abbrev pub shape : terminals.Terminal → Shape
 shape (leaf k x) = Single k
 shape (dot x) = Dot x.touching
@@ -29,10 +30,12 @@ shape (opening b x) = Open b x.touching
 shape (closing c x) = Close c
 shape (other x) = Other
 
+-- a name that begins upper-case and has a lower-case letter
 abbrev pub is_mix : terminals.Terminal → Bool
 is_mix (other x) = is_mix_kind x.kind
 is_mix l = false
 
+-- what the parser takes a token for, in a part and between parts
 abbrev pub class_of : terminals.Terminal → TokenClass
 class_of l =
     record {
@@ -46,9 +49,11 @@ class_of l =
 
 -- ---- by the kind of the token
 
+-- the class of a token with these fields, in their order
 abbrev pub made : Shape → Bool → Keyword → Bool → Bool → Bool → TokenClass
 made s t k m p d = record { shape = s; touching = t; keyword = k; mix = m; piece = p; dot = d }
 
+-- what the parser takes a reserved word for in a part
 abbrev pub word_shape : Word → Shape
 word_shape word.Bool = Single leaves.Basic
 word_shape word.Nat = Single leaves.Basic
@@ -59,6 +64,7 @@ word_shape word.False = Single leaves.Literal
 word_shape word.Eps = Single leaves.Literal
 word_shape w = Other
 
+-- what the parser takes a sign for in a part, which touches what stands before it or not
 abbrev pub sign_shape : Mark → Bool → Shape
 sign_shape mark.OpenParen t = Open bracket.Round t
 sign_shape mark.OpenBracket t = Open bracket.Square t
@@ -73,6 +79,7 @@ sign_shape mark.CloseBrace t = Close closings.ByBrace
 sign_shape mark.Bar t = Close closings.ByBar
 sign_shape m t = Sign m
 
+-- what the parser takes such a kind of token for, where these names are declared by `var`
 abbrev pub kind_shape : List (List ℕ) → TokenKind → Bool → TokenClass
 kind_shape names (kind.Low name) t = made (Single leaves.Low) t key.NoWord false true false
 kind_shape names (kind.Up name) t =
@@ -93,6 +100,6 @@ abbrev pub listed : Option (Bor (List ℕ)) → List (List ℕ)
 listed None = []
 listed (Some name) = name.now ∷ []
 
--- the name that directly follows the word `var`
+-- the name that such a token is, where it directly follows the word `var`
 abbrev pub name_behind : Bool → TokenKind → List (List ℕ)
 name_behind b k = if b then name_in k else []

@@ -125,7 +125,7 @@ abbrev pub change : TokenRole → List Tally → List Tally
 change d [] = []
 change d (y ∷ ys) = counted y d ∷ ys
 
--- the tally round a length that closes goes on with the signs between its bars
+-- the tallies where a length closes: the one round it takes over its signs
 abbrev pub carry : List Tally → List Tally
 carry (x ∷ y ∷ ys) = tally y.parts y.elements x.signs y.row y.due ∷ ys
 carry ys = []
@@ -152,7 +152,7 @@ shift shift_case.Stays ys = ys
 abbrev pub moved : Attachment → Shape → parts.State → List Tally → List Tally
 moved k s next ys = shift (shift_of s next) (change (role_of k s next) ys)
 
--- the tallies where a part begins; an argument of a definition counts on from those before it
+-- the tallies where a part begins; for an argument of a definition the signs before it count
 abbrev pub part_begins : Slot → ℕ → List Tally
 part_begins (slot.Argument e t) n = fresh n ∷ []
 part_begins c n = fresh 0 ∷ []
