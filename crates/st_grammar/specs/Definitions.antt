@@ -55,81 +55,81 @@ token_in (opening k x) = x
 token_in (closing c x) = x
 token_in (other x) = x
 
--- no blank and no comment stands before the token
+-- the token touches what stands before it, with no blank and no comment between
 abbrev pub touches : Terminal → Bool
 touches l = (token_in l).touching
 
--- a sign of this kind
+-- the token is a sign of this kind
 abbrev pub signed : (Mark → Bool) → Terminal → Bool
 signed p (sign m x) = p m
 signed p l = false
 
--- `/`, which stands before the name of a rule or a fragment
+-- the sign `/`, which stands before the name of a rule or a fragment
 abbrev pub is_slash : Mark → Bool
 is_slash mark.Slash = true
 is_slash m = false
 
--- `-`, which stands between the pieces of such a name
+-- the sign `-`, which stands between the pieces of the name of a rule or a fragment
 abbrev pub is_minus : Mark → Bool
 is_minus mark.Minus = true
 is_minus m = false
 
--- `=`, which stands before a body or a result
+-- the sign `=`, which stands before a body or a result
 abbrev pub is_equal : Mark → Bool
 is_equal mark.Equal = true
 is_equal m = false
 
--- `...`, which stands before the first alternative or behind the last
+-- the sign `...`, which stands before the first alternative or behind the last
 abbrev pub is_dots : Mark → Bool
 is_dots mark.Ellipsis = true
 is_dots m = false
 
--- a bar, which stands before an alternative
+-- the token is a bar, which stands before an alternative
 abbrev pub is_bar : Terminal → Bool
 is_bar (closing by_bar x) = true
 is_bar l = false
 
--- `(`
+-- the token is `(`
 abbrev pub opens_round : Terminal → Bool
 opens_round (opening round x) = true
 opens_round l = false
 
--- `)`
+-- the token is `)`
 abbrev pub closes_round : Terminal → Bool
 closes_round (closing by_round x) = true
 closes_round l = false
 
--- `{`
+-- the token is `{`
 abbrev pub opens_brace : Terminal → Bool
 opens_brace (opening brace x) = true
 opens_brace l = false
 
--- `}`
+-- the token is `}`
 abbrev pub closes_brace : Terminal → Bool
 closes_brace (closing by_brace x) = true
 closes_brace l = false
 
--- a name that begins with a lower-case letter
+-- the token is a name that begins with a lower-case letter
 abbrev pub is_low : Terminal → Bool
 is_low (leaf low x) = true
 is_low l = false
 
--- a name right behind a dollar sign
+-- the token is a name right behind a dollar sign
 abbrev pub is_fun : Terminal → Bool
 is_fun (leaf function x) = true
 is_fun l = false
 
--- a name that begins upper-case and has a lower-case letter
+-- such a kind of token is a name that begins upper-case and has a lower-case letter
 abbrev pub is_mix_kind : TokenKind → Bool
 is_mix_kind (kind.Mix name) = true
 is_mix_kind k = false
 
--- the name of a relation
+-- the token is the name of a relation
 abbrev pub names_relation : Terminal → Bool
 names_relation (other x) = is_mix_kind x.kind
 names_relation l = is_label l
 
--- a name of any kind
+-- the token is a name of any kind
 abbrev pub is_name : Terminal → Bool
 is_name l = is_low l || names_relation l
 
@@ -142,7 +142,7 @@ is_piece_kind (kind.Reserved w) = true
 is_piece_kind (kind.Number n) = true
 is_piece_kind k = false
 
--- a name, a reserved word or a number
+-- the token is a name, a reserved word or a number
 abbrev pub is_piece : Terminal → Bool
 is_piece (leaf k x) = is_piece_kind x.kind
 is_piece (other x) = is_piece_kind x.kind
@@ -153,7 +153,7 @@ abbrev pub is_dot_kind : TokenKind → Bool
 is_dot_kind (kind.Dot name) = true
 is_dot_kind k = false
 
--- a dot with a name
+-- the token is a dot with a name
 abbrev pub is_dot : Terminal → Bool
 is_dot (dot x) = true
 is_dot (other x) = is_dot_kind x.kind
@@ -179,14 +179,14 @@ id_step false l =
 abbrev pub IsId : List Terminal → Type 0
 IsId ls = scan id_step true ls ≡ Some false
 
--- no name, or `/` and one
+-- the tokens are no name of a rule or a fragment, or `/` and one
 abbrev pub FragmentFits : List Terminal → Type 0
 FragmentFits [] = Unit {0}
 FragmentFits (s ∷ ls) = (signed is_slash s ≡ true) × IsId ls
 
 -- ---- hints
 
--- what is still to be closed, the innermost first
+-- the brackets of a hint that are open behind the token, the innermost first
 abbrev pub balance_step : List Bracket → Terminal → Option (List Bracket)
 balance_step ks (opening k x) = Some (k ∷ ks)
 balance_step ks (closing by_bar x) = Some ks
@@ -236,13 +236,13 @@ abbrev pub members_text : Members → List Terminal
 members_text no_members = []
 members_text (member ms pre t hs) = members_text ms ++ (pre ++ (text t ++ hints_text hs))
 
--- a name, behind a comma from the second field on
+-- a field stands behind a name, and from the second one on behind a comma and a name
 abbrev pub SetsOffField : Members → List Terminal → Type 0
 SetsOffField no_members (n ∷ []) = is_label n ≡ true
 SetsOffField (member ms q t hs) (k ∷ n ∷ []) = (signed is_comma k ≡ true) × (is_label n ≡ true)
 SetsOffField ms pre = ⊥
 
--- a bar, and before the first alternative nothing, a bar, or dots and a bar
+-- An alternative stands behind a bar, and the first one behind nothing, a bar, or dots and a bar.
 abbrev pub SetsOffCase : Members → List Terminal → Type 0
 SetsOffCase no_members [] = Unit {0}
 SetsOffCase ms (b ∷ []) = is_bar b ≡ true
@@ -264,13 +264,13 @@ abbrev pub has_member : Members → Bool
 has_member no_members = false
 has_member (member ms pre t hs) = true
 
--- nothing, or a bar and dots
+-- behind the alternatives stands nothing, or a bar and dots
 abbrev pub EndsCases : List Terminal → Type 0
 EndsCases [] = Unit {0}
 EndsCases (b ∷ d ∷ []) = (is_bar b ≡ true) × (signed is_dots d ≡ true)
 EndsCases ls = ⊥
 
--- what a syntax is
+-- what a syntax is: fields in braces, or alternatives
 pub data Body : Type 0 where
   -- `{`, fields and `}`
   fields : Terminal → Members → Terminal → Body
@@ -306,24 +306,24 @@ iterations_text (closed i l) = iterations_text i ++ l ∷ []
 iterations_text (marked i l) = iterations_text i ++ l ∷ []
 iterations_text (counted i l t) = iterations_text i ++ (l ∷ text t)
 
--- how many `)` these are
+-- how many `)` stand behind a condition
 abbrev pub closings : Iterations → ℕ
 closings no_iterations = 0
 closings (closed i l) = closings i + 1
 closings (marked i l) = closings i
 closings (counted i l t) = closings i
 
--- a `)` or an iteration stands there
+-- a `)` stands behind a condition, perhaps with iterations
 abbrev pub has_closed : Iterations → Bool
 has_closed no_iterations = false
 has_closed i = true
 
--- It ends with a `)`, which wants an iteration.
+-- A `)` stands last behind a condition, which wants an iteration.
 abbrev pub wants_iteration : Iterations → Bool
 wants_iteration (closed i l) = true
 wants_iteration i = false
 
--- the grammar allows these behind a condition
+-- the grammar allows each `)` and each iteration behind a condition
 abbrev pub IterationsFit : Iterations → Type 0
 IterationsFit no_iterations = Unit {0}
 IterationsFit (closed i l) = IterationsFit i × (wants_iteration i ≡ false) × (closes_round l ≡ true)
@@ -332,7 +332,7 @@ IterationsFit (marked i l) =
 IterationsFit (counted i l t) =
     IterationsFit i × (has_closed i ≡ true) × (signed is_caret l ≡ true) × Fits count t
 
--- `if`, or the name of a relation and `:`
+-- a condition begins with `if`, or with the name of a relation and `:`
 abbrev pub CondFits : List Terminal → Type 0
 CondFits (l ∷ []) = keyword l ≡ if_word
 CondFits (r ∷ c ∷ []) = (names_relation r ≡ true) × (signed is_colon c ≡ true)
@@ -378,7 +378,7 @@ PremisesFit (more_premises ps p) = PremisesFit ps × PremiseFits p
 
 -- ---- definitions
 
--- what stands behind the name of a function
+-- what stands behind the name of a function: no arguments, or some in parentheses
 pub data Args : Type 0 where
   no_args : Args
   -- `(`, the arguments and `)`
@@ -461,7 +461,7 @@ pub record ParseDefs (us : List Terminal) (ds : Defs) : Type 0 where
   pub fits : DefsFit ds
   pub spelled : us ≡ defs_text ds
 
--- some tokens behind these make definitions
+-- some tokens behind these make definitions, where these names are declared by `var`
 abbrev pub ViableDefs : List (List ℕ) → List Terminal → Type 0
 ViableDefs names us =
     (rest : List Token) × (ds : Defs) × ParseDefs (us ++ map (terminal names) rest) ds

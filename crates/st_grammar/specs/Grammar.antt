@@ -40,7 +40,7 @@ style σ (segment p o) = ends
 style σ (update p m x) = lone
 style σ (below o i m x) = lone
 
--- what stands in a bracket that stands in such a part
+-- the sort of what stands in a bracket, by the sort of the part in which the bracket stands
 abbrev pub sort_in : Sort → Heading → Sort
 sort_in σ (plain k o) = inside σ k
 sort_in σ (length o) = expression true
@@ -50,7 +50,7 @@ sort_in σ (segment p o) = expression false
 sort_in σ (update p m x) = expression false
 sort_in σ (below o i m x) = bound
 
--- the least level of a part in a bracket
+-- the least level of a part in such a bracket
 abbrev pub least_in : Heading → ℕ
 least_in (index t o) = 13
 least_in (segment p o) = 13
@@ -79,7 +79,7 @@ SetsOff ends (more none q t) pre =
 SetsOff ends (more (more ts q t) r u) pre = ⊥
 SetsOff run ts pre = pre ≡ []
 
--- Only arguments may be none.
+-- There is a part in the bracket, unless it holds arguments.
 abbrev pub IsFilled : Heading → Trees → Type 0
 IsFilled h (more ts pre t) = Unit {0}
 IsFilled (arguments f o) none = Unit {0}
@@ -97,7 +97,7 @@ abbrev pub is_function : Tree → Bool
 is_function (operand function x) = true
 is_function t = false
 
--- A bar opens a length, where it doesn't close one.
+-- A bar opens a length in such a part, where it doesn't close one.
 abbrev pub opens_length : Closing → Sort → Bool
 opens_length by_bar (expression b) = not b
 opens_length c σ = false
@@ -117,12 +117,12 @@ abbrev pub text_follows : Sort → Tree → List Terminal → Bool
 text_follows σ u [] = false
 text_follows σ u (l ∷ w) = follows σ u l
 
--- the tokens may stand behind the elements
+-- the tokens may stand behind the elements of a sequence
 abbrev pub FollowsAll : Sort → Trees → List Terminal → Type 0
 FollowsAll σ none w = Unit {0}
 FollowsAll σ (more ts pre u) w = text_follows σ u w ≡ true
 
--- in a notation a type, which may be iterated
+-- in a notation the tree is a type, which may be iterated
 abbrev pub is_type : Tree → Bool
 is_type (operand low x) = true
 is_type (operand basic x) = true
@@ -130,14 +130,14 @@ is_type (bracket (plain round o) ts c) = true
 is_type (post t (sign m x)) = is_type t
 is_type t = false
 
--- in a notation an atom, also one of several names
+-- in a notation the tree is an atom, also one of several names
 abbrev pub is_atom : Tree → Bool
 is_atom (operand atom x) = true
 is_atom (operand variable x) = true
 is_atom (post t (dot x)) = is_atom t
 is_atom t = false
 
--- the iteration signs and dots behind a tree
+-- the iteration sign or dot may stand behind the tree, in this sort of part
 abbrev pub may_post : Sort → Tree → Terminal → Bool
 may_post (expression b) t (dot x) = true
 may_post (expression b) t (sign m x) = is_iteration_sign m
@@ -155,7 +155,7 @@ lead_level (left l m x) = level_of m
 lead_level (ahead m x) = prefix_level m
 lead_level (items ts) = sequence_level
 
--- the least level of what stands behind
+-- the least level of what stands behind what leads to it
 abbrev pub wanted : Lead → ℕ
 wanted (left l m x) = right_of m
 wanted (ahead m x) = prefix_right m
@@ -179,12 +179,12 @@ abbrev pub has_step : Path → Bool
 has_step (head t o) = false
 has_step p = true
 
--- the tokens may stand behind what leads to them
+-- The tokens may stand behind what leads to a last part.
 abbrev pub MayEnd : Sort → Lead → List Terminal → Type 0
 MayEnd σ (items ts) w = FollowsAll σ ts w
 MayEnd σ g w = Unit {0}
 
--- In a sequence the tokens may stand behind the elements before.
+-- In a sequence the tokens may stand behind the elements before them.
 abbrev pub MayFollow : Sort → Style → Trees → List Terminal → Type 0
 MayFollow σ run ts w = FollowsAll σ ts w
 MayFollow σ y ts w = Unit {0}
@@ -235,6 +235,6 @@ pub record Parse (σ : Sort) (us : List Terminal) (t : Tree) : Type 0 where
   pub fits : Fits σ t
   pub spelled : us ≡ text t
 
--- some tokens behind these make a tree
+-- some tokens behind these make a tree, where these names are declared by `var`
 abbrev pub Viable : List (List ℕ) → Sort → List Terminal → Type 0
 Viable names σ us = (rest : List Token) × (t : Tree) × Parse σ (us ++ map (terminal names) rest) t

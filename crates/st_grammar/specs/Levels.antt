@@ -12,7 +12,7 @@ use Rattle.st_grammar.specs.declared.sort.Sort.TheVariants.{Expression as expres
 
 -- ---- sorts
 
--- the operands of one token
+-- such an operand of one token stands in such a part
 abbrev pub takes : Sort → Leaf → Bool
 takes (expression b) k = true
 takes arithmetic atom = false
@@ -30,7 +30,7 @@ takes σ literal = false
 takes σ function = false
 takes σ k = true
 
--- the brackets that begin an operand
+-- such a bracket begins an operand in such a part
 abbrev pub encloses : Sort → Bracket → Bool
 encloses (expression b) square = false
 encloses (expression b) k = true
@@ -47,7 +47,7 @@ encloses typ k = false
 encloses σ dollar = true
 encloses σ k = false
 
--- what stands in such a bracket
+-- the sort of what stands in a bracket, by the sort of the part in which the bracket stands
 abbrev pub inside : Sort → Bracket → Sort
 inside σ dollar = arithmetic
 inside arithmetic k = arithmetic
@@ -56,23 +56,23 @@ inside notation k = notation
 inside typ k = typ
 inside σ k = expression false
 
--- Lengths, calls and elements at a position stand in expressions and in arithmetic.
+-- Lengths, calls and elements at a position stand in such a part.
 abbrev pub computes : Sort → Bool
 computes (expression b) = true
 computes arithmetic = true
 computes σ = false
 
--- an expression, directly between bars or not
+-- the part is an expression, directly between bars or not
 abbrev pub is_expression : Sort → Bool
 is_expression (expression b) = true
 is_expression σ = false
 
--- what stands behind `^`
+-- the part is what stands behind `^`
 abbrev pub is_count : Sort → Bool
 is_count count = true
 is_count σ = false
 
--- Parts one behind the other are a sequence.
+-- Parts one behind the other are a sequence in such a part.
 abbrev pub juxtaposes : Sort → Bool
 juxtaposes (expression b) = true
 juxtaposes notation = true
@@ -88,7 +88,7 @@ sequence_level = 14
 abbrev pub tight : ℕ
 tight = 20
 
--- the levels whose signs stand in a sort of part
+-- signs of this level stand in such a part
 abbrev pub has_level : Sort → ℕ → Bool
 has_level (expression b) n = nat_le 1 n && nat_le n 13
 has_level arithmetic n = nat_le 15 n
@@ -103,47 +103,48 @@ left_of m = signs.left_of (signs.level m)
 abbrev pub right_of : Mark → ℕ
 right_of m = signs.right_of (signs.level m)
 
--- Only `|-` wants something tighter than itself behind it.
+-- the loosest level that a sign without a left side allows to its right; only `|-` wants
+-- something tighter than itself there
 abbrev pub prefix_right : Mark → ℕ
 prefix_right mark.Turnstile = 8
 prefix_right m = signs.prefix_level m
 
 -- ---- signs of one use
 
--- the signs of an iteration of an expression
+-- the sign iterates an expression
 abbrev pub is_iteration_sign : Mark → Bool
 is_iteration_sign mark.Star = true
 is_iteration_sign mark.Plus = true
 is_iteration_sign mark.Question = true
 is_iteration_sign m = false
 
--- the signs of an iteration of a type
+-- the sign iterates a type
 abbrev pub is_type_iteration_sign : Mark → Bool
 is_type_iteration_sign mark.Star = true
 is_type_iteration_sign mark.Question = true
 is_type_iteration_sign m = false
 
--- the sign before a count
+-- the sign is `^`, which stands before a count
 abbrev pub is_caret : Mark → Bool
 is_caret mark.Caret = true
 is_caret m = false
 
--- the sign that sets off a next part
+-- the sign is `,`, which sets off a next part
 abbrev pub is_comma : Mark → Bool
 is_comma mark.Comma = true
 is_comma m = false
 
--- the sign that sets off the second end of a slice
+-- the sign is `:`, which sets off the second end of a slice
 abbrev pub is_colon : Mark → Bool
 is_colon mark.Colon = true
 is_colon m = false
 
--- the sign before the bound of an index
+-- the sign is `<`, which stands before the bound of an index
 abbrev pub is_less : Mark → Bool
 is_less mark.Less = true
 is_less m = false
 
--- `=` puts a new value at a path, and `=++` extends a list there
+-- the sign is `=`, which puts a new value at a path, or `=++`, which extends a list there
 abbrev pub is_change : Mark → Bool
 is_change mark.Equal = true
 is_change mark.ExtendBy = true

@@ -156,11 +156,11 @@ host_whole (of_relation ds w r) hs = None
 host_whole (of_notation ds w r hs c t) ks = Some (more_defs ds (relation_def w r hs c t ks))
 host_whole (of_fun ds w f a c t) hs = Some (more_defs ds (fun_def w f a c t hs))
 
--- Each `(` before the condition is closed, and each `)` has an iteration.
+-- Each `(` before the condition is closed behind it, and each `)` has an iteration.
 abbrev pub is_whole : List Terminal → Iterations → Bool
 is_whole os i = closings i == length os && not (wants_iteration i)
 
--- the definitions, where they may end here
+-- the definitions, where they may end at the position
 abbrev pub whole : Position → Option Defs
 whole (between ds) = Some ds
 whole (hinted h hs) = host_whole h hs
@@ -180,7 +180,7 @@ begin_def ds l var_word = Some (at (var_name ds l))
 begin_def ds l def_word = Some (at (fun_name ds l))
 begin_def ds l k = None
 
--- a part begins
+-- a part begins that is read for this
 abbrev pub begun : Slot → State
 begun s = inside s (part.start (slot_sort s))
 
@@ -303,7 +303,7 @@ abbrev pub next_premise : Keyword → Rule → Tree → Premises → Terminal �
 next_premise dashes r t ps l = Some (at (premise_open r t ps l []))
 next_premise k r t ps l = None
 
--- one more `)`
+-- one more `)` may stand behind the condition
 abbrev pub may_close : List Terminal → Iterations → Bool
 may_close os i = not (closings i == length os) && not (wants_iteration i)
 
@@ -318,7 +318,7 @@ iterate r t ps d os ls u i l =
     else if is_whole os i then next_premise (keyword l) r t (more_premises ps (given d os ls u i)) l
     else None
 
--- a token that goes on with what is there
+-- what a token makes at a position, where it goes on with what stands before
 abbrev pub own : Position → Terminal → Option State
 own (between ds) l = None
 own (syntax_name ds w) l = when (is_low l) (at (hinted (of_syntax ds w l []) no_hints))
@@ -359,12 +359,12 @@ abbrev pub first_of_two : Option State → Option State → Option State
 first_of_two (Some st) o = Some st
 first_of_two None o = o
 
--- behind whole definitions a next one begins
+-- what a token makes at a position: it goes on, or begins a next definition behind whole ones
 abbrev pub position_step : Position → Terminal → Option State
 position_step p l =
     first_of_two (own p l) (option_and_then (λ ds. begin_def ds l (keyword l)) (whole p))
 
--- where a part that is read leads to
+-- the position behind a part that is read for this
 abbrev pub filled : Slot → Tree → Position
 filled (field_slot h o ms pre) t = hinted (of_field h o ms pre t) no_hints
 filled (case_slot h ms pre) t = hinted (of_case h ms pre t) no_hints
@@ -376,7 +376,7 @@ filled (rule_slot r) t = premised r t no_premises
 filled (cond_slot r t ps d os ls) u = iterated r t ps d os ls u no_iterations
 filled (count_slot r t ps d os ls u i l) c = iterated r t ps d os ls u (counted i l c)
 
--- a token that a part does not take goes to what is behind it
+-- what a token makes in a part: the part takes it, or else it stands behind the part
 abbrev pub taken : Slot → part.State → Terminal → Option part.State → Option State
 taken s st l (Some next) = Some (inside s next)
 taken s st l None = option_and_then (λ t. position_step (filled s t) l) (part.finish st)

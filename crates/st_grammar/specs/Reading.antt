@@ -44,14 +44,14 @@ pub data State : Type 0 where
   -- behind `^ ( i` a `<` is due
   comparing : Token → Token → Frames → State
 
--- the sort of the innermost part
+-- the sort of the part that is read innermost
 abbrev pub sort : Frames → Sort
 sort (bottom σ) = σ
 sort (within h ts pre fs) = sort_in (sort fs) h
 sort (over g fs) = sort fs
 sort (timing t m x fs) = count
 
--- the least level that is wanted there
+-- the least level that is wanted innermost
 abbrev pub least : Frames → ℕ
 least (bottom σ) = 1
 least (within h ts pre fs) = least_in h
@@ -99,7 +99,7 @@ abbrev pub opened : Bracket → Token → Frames → State
 opened brace x fs = naming (plain brace x) none [] fs
 opened k x fs = want (within (plain k x) none [] fs)
 
--- arguments that are none
+-- the arguments of a function close that are none
 abbrev pub no_arguments : Token → Frames → Option State
 no_arguments x (within (arguments f o) none [] fs) =
     Some (settle (bracket (arguments f o) none x) fs)
@@ -125,7 +125,7 @@ abbrev pub begin_opening : Bracket → Token → Frames → Option State
 begin_opening round x fs = begin_round x fs
 begin_opening k x fs = if encloses (sort fs) k then Some (opened k x fs) else None
 
--- what an operand that begins with this token makes
+-- what a token makes where an operand is due
 abbrev pub begin : Frames → Terminal → Option State
 begin fs (leaf k x) = if takes (sort fs) k then Some (settle (operand k x) fs) else None
 begin fs (dot x) = None
@@ -138,12 +138,12 @@ begin fs (other x) = None
 
 -- ---- what stands behind a part
 
--- one more element of a sequence
+-- what is open, with this part as one more element of a sequence
 abbrev pub extend : Tree → Frames → Frames
 extend t (over (items ts) fs) = over (items (more ts [] t)) fs
 extend t fs = over (items (more none [] t)) fs
 
--- a next part of a bracket
+-- a sign sets off a next part of a bracket, where the style allows it
 abbrev pub next_part : Style → Mark → Token → Heading → Trees → Trees → Frames → Option State
 next_part parts m x h before ts fs =
     if is_comma m then Some (want (within h ts (sign m x ∷ []) fs)) else None
@@ -165,7 +165,7 @@ join m x p =
     then if nat_le (left_of m) (level p.0) then Some (want (over (left p.0 m x) p.1)) else None
     else separate m x p
 
--- the level of the sign between two sides there, or 0
+-- the level of the sign between two sides in such a part, or 0 where it is none
 abbrev pub pull : Sort → Mark → ℕ
 pull σ m = if has_level σ (level_of m) then level_of m else 0
 
@@ -211,7 +211,7 @@ after t fs l = if follows (sort fs) t l then begin (extend t fs) l else behind t
 
 -- ---- paths and counts
 
--- behind `[` an expression
+-- behind `[` and no step of a path an expression begins
 abbrev pub in_index : Path → Frames → Terminal → Option State
 in_index (head t o) fs l = begin (within (index t o) none [] fs) l
 in_index p fs l = None

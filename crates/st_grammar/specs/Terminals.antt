@@ -44,8 +44,7 @@ drop_primes (b ∷ name) =
 abbrev pub is_named : List (List ℕ) → List ℕ → Bool
 is_named names name = list_any (same_name (drop_primes name)) names
 
--- The whole is declared by `var`, or what stands before one of its `_` is: this front and the
--- rest behind it.
+-- A name of this front and rest is declared by `var`, or what stands before a `_` of the rest is.
 abbrev pub is_declared : List (List ℕ) → List ℕ → List ℕ → Bool
 is_declared names front [] = is_named names front
 is_declared names front (b ∷ rest) =

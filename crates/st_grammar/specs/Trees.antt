@@ -24,7 +24,7 @@ mutual
     -- a last part behind what leads to it
     led : Lead → Tree → Tree
 
-  -- what stands before a last part
+  -- what leads to a last part: a left side and its sign, a sign without one, or elements
   pub data Lead : Type 0 where
     -- a left side and its sign
     left : Tree → Mark → Token → Lead
@@ -33,7 +33,7 @@ mutual
     -- the elements of a sequence before the last one
     items : Trees → Lead
 
-  -- Parts end with the last one, and each has before it what sets it off from the one before.
+  -- parts in a row, each with the tokens before it that set it off
   pub data Trees : Type 0 where
     none : Trees
     more : Trees → List Terminal → Tree → Trees

@@ -1,4 +1,4 @@
-//! Laws of the grammar.
+//! Laws of the grammar: tokens have one tree, and reading them finds it.
 
 ghost use Rattle.std.specs.Prelude.{◌≡◌, List, ℕ, Some, None};
 ghost use Rattle.st_grammar.specs.Terminals.{Terminal};
@@ -35,7 +35,8 @@ pub fn parts_are_read()
         → part.reading (part.start σ) us ≡ None → Viable names σ us → ⊥ }
 {}
 
-/// The same of definitions.
+/// Definitions are read as their trees, tokens are read exactly where some further tokens make
+/// definitions, and what is read and may end is definitions.
 #[tactic(auto, using(crate::proofs::PositionComplete::complete_defs))]
 pub fn definitions_are_read()
     ensures complete { (us : List Terminal) (ds : Defs)

@@ -43,35 +43,35 @@ pub fn is_type_iteration_sign(mark: Mark) -> bool
     matches!(mark, Mark::Star | Mark::Question)
 }
 
-/// Whether it is the sign before a count.
+/// Whether it is `^`, which stands before a count.
 pub fn is_caret(mark: Mark) -> bool
     ensures { result ≡ levels.is_caret mark }
 {
     matches!(mark, Mark::Caret)
 }
 
-/// Whether it sets off a next part.
+/// Whether it is `,`, which sets off a next part.
 pub fn is_comma(mark: Mark) -> bool
     ensures { result ≡ levels.is_comma mark }
 {
     matches!(mark, Mark::Comma)
 }
 
-/// Whether it sets off the second end of a slice.
+/// Whether it is `:`, which sets off the second end of a slice.
 pub fn is_colon(mark: Mark) -> bool
     ensures { result ≡ levels.is_colon mark }
 {
     matches!(mark, Mark::Colon)
 }
 
-/// Whether it stands before the bound of an index.
+/// Whether it is `<`, which stands before the bound of an index.
 pub fn is_less(mark: Mark) -> bool
     ensures { result ≡ levels.is_less mark }
 {
     matches!(mark, Mark::Less)
 }
 
-/// Whether it puts a new value at a path, or extends a list there.
+/// Whether it is `=`, which puts a new value at a path, or `=++`, which extends a list there.
 pub fn is_change(mark: Mark) -> bool
     ensures { result ≡ levels.is_change mark }
 {

@@ -58,7 +58,7 @@ pub enum Sort {
 }
 
 impl Sort {
-    /// Whether the operand of one token stands in such a position.
+    /// Whether such an operand of one token stands in such a part.
     pub fn takes(self, leaf: Leaf) -> bool
         ensures { result ≡ levels.takes self leaf }
     {
@@ -73,7 +73,7 @@ impl Sort {
         }
     }
 
-    /// Whether such a bracket begins an operand there.
+    /// Whether such a bracket begins an operand in such a part.
     pub fn encloses(self, bracket: Bracket) -> bool
         ensures { result ≡ levels.encloses self bracket }
     {
@@ -89,7 +89,7 @@ impl Sort {
         }
     }
 
-    /// What stands in such a bracket.
+    /// The sort of what stands in such a bracket, by the sort of the part in which it stands.
     pub fn inside(self, bracket: Bracket) -> Sort
         ensures { result ≡ levels.inside self bracket }
     {

@@ -1,4 +1,4 @@
--- Names among names.
+-- When two names are the same, and a name is among others.
 use Rattle.std.specs.Prelude.{ℕ, List, Bool}
 use Rattle.std.specs.List.{list_any}
 use Rattle.std.specs.Bool.{nat_eq}

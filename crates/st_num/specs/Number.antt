@@ -2,7 +2,7 @@
 use Rattle.std.specs.Prelude.{ℕ, ◌^◌, ◌<◌, Bool, true, false, Option, Some, None, nat_lt, nat_eq, if◌then◌else◌, ℤ, pos, negsuc, neg_ℤ, ◌+ℤ◌, ◌-ℤ◌, ◌*ℤ◌, unsigned_abs, int_div, int_rem}
 use Rattle.std.specs.Int.{int_pow}
 
--- its magnitude is in range
+-- its size is below 2 ^ 128, as that of each number of the language
 abbrev pub IsNumber : ℤ → Type 0
 IsNumber z = unsigned_abs z < 2 ^ 128
 
@@ -11,7 +11,7 @@ abbrev pub signed : Bool → ℕ → ℤ
 signed false n = pos n
 signed true n = neg_ℤ (pos n)
 
--- whether it is below zero
+-- whether the number is below zero
 abbrev pub below_zero : ℤ → Bool
 below_zero (pos n) = false
 below_zero (negsuc n) = true

@@ -136,7 +136,7 @@ fn begin_sign(base: Sort, mark: Mark, mut frames: Row<Frame>) -> Result<Option<R
     }))
 }
 
-/// What an operand that begins with this token makes.
+/// What a token makes where an operand is expected.
 pub(crate) fn begin(
     base: Sort,
     frames: Row<Frame>,

@@ -77,7 +77,7 @@ fn has_lower(name: &[u8]) -> bool
     name.iter().any(|byte| is_lower(*byte))
 }
 
-/// What a reserved word is in a part.
+/// What the parser takes a reserved word for in a part.
 fn word_shape(word: Word) -> Shape
     ensures { result ≡ shapes.word_shape word }
 {
@@ -124,7 +124,7 @@ fn word_keyword(word: Word) -> Keyword
     }
 }
 
-/// What a sign is in a part, which touches what stands before it or not.
+/// What the parser takes a sign for in a part, which touches what stands before it or not.
 fn sign_shape(mark: Mark, touching: bool) -> Shape
     ensures { result ≡ shapes.sign_shape mark touching }
 {
@@ -168,7 +168,7 @@ fn plain(shape: Shape, touching: bool, piece: bool) -> TokenClass
     }
 }
 
-/// What a token of this kind is, where these names are declared by `var`.
+/// What the parser takes such a kind of token for, where these names are declared by `var`.
 fn kind_class(names: &[Name], kind: &TokenKind, touching: bool) -> TokenClass
     ensures { result ≡ shapes.kind_shape names.now kind.now touching }
 {
@@ -210,7 +210,7 @@ fn kind_class(names: &[Name], kind: &TokenKind, touching: bool) -> TokenClass
     }
 }
 
-/// What the token is, where these names are declared by `var`.
+/// What the parser takes the token for, where these names are declared by `var`.
 #[tactic(auto, using(crate::proofs::TokenKinds::token_is))]
 pub fn token_class(names: &[Name], token: &Token) -> TokenClass
     ensures { result ≡ class_of (terminals.terminal names.now token.now) }

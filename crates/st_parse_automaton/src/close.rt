@@ -69,7 +69,7 @@ pub(crate) fn lower(level: u8, part: Part, mut frames: Row<Frame>) -> Result<Low
     })
 }
 
-/// What such a level closes of a frame.
+/// What leads to a last part in the frame, where such a level closes it over the part.
 pub(crate) fn closes(frame: Frame, level: u8) -> Option<Lead>
     ensures { result ≡ parts.closes frame level }
 {
@@ -85,7 +85,7 @@ pub(crate) fn closes(frame: Frame, level: u8) -> Option<Lead>
     }
 }
 
-/// Ends the innermost bracket, if it is closed so.
+/// Ends the innermost bracket with a part that is read, where it closes so.
 pub(crate) fn close(closing: Closing, lowered: Lowered) -> Result<Option<Reading>, NoMemory>
     ensures { IfOk result (λ next.
         option_map reading_of next ≡ parts.close closing (lowered_of lowered)) }
@@ -107,7 +107,7 @@ pub(crate) fn close(closing: Closing, lowered: Lowered) -> Result<Option<Reading
     }
 }
 
-/// A bracket that is closed.
+/// A bracket with its parts has closed: it is a step of a path, or a part that is read.
 fn shut(kind: Kind, types: bool, frames: Row<Frame>) -> Result<Reading, NoMemory>
     ensures { IfOk result (λ reading. reading_of reading ≡ parts.shut kind types (reverse frames)) }
 {
@@ -171,7 +171,7 @@ fn separate(base: Sort, mark: Mark, lowered: Lowered) -> Result<Option<Reading>,
     }
 }
 
-/// A sign between two sides, or before a next part.
+/// A sign between two sides, or else before a next part of the innermost bracket.
 pub(crate) fn join(base: Sort, mark: Mark, lowered: Lowered) -> Result<Option<Reading>, NoMemory>
     ensures { IfOk result (λ next.
         option_map reading_of next ≡ parts.join base mark (lowered_of lowered)) }

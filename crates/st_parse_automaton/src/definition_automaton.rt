@@ -83,7 +83,7 @@ fn enter_other(slot: Slot, class: TokenClass, brackets: Row<Bracket>) -> Option<
     }
 }
 
-/// The name of a field, or `}` where there is no field.
+/// Behind `{` or a comma: the name of a field, or `}` where there is no field.
 fn field_step(
     alloc: Global,
     first: bool,
@@ -313,7 +313,7 @@ fn rule_colon(alloc: Global, class: TokenClass, brackets: Row<Bracket>) -> Optio
     colon_step(alloc, class, brackets)
 }
 
-/// A token of a name.
+/// A token at a position where a name, or one sign, leads on to a next position.
 fn own_name(position: Position, class: TokenClass, brackets: Row<Bracket>) -> Option<Progress>
     ensures { option_map progress_of result
         ≡ definitions.own_name position class (reverse brackets) }
@@ -346,7 +346,7 @@ fn own_name(position: Position, class: TokenClass, brackets: Row<Bracket>) -> Op
     }
 }
 
-/// A token that goes on with what is there.
+/// A token at a position, where it goes on with what stands before.
 fn own(
     alloc: Global,
     position: Position,
@@ -401,7 +401,7 @@ pub fn position_step(
     }
 }
 
-/// The same where definitions may end: then a next one may begin.
+/// A token at a position where definitions may end: it goes on, or begins a next definition.
 fn turn(
     alloc: Global,
     position: Position,

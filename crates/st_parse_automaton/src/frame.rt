@@ -25,7 +25,7 @@ fn frame_sort(frame: Frame) -> Sort
     }
 }
 
-/// The sort of the innermost position.
+/// The sort of the part that is read innermost; with nothing open it is the base.
 pub fn top(base: Sort, frames: &Row<Frame>) -> Sort
     ensures { result ≡ parts.top base (reverse frames.now) }
 {
@@ -35,7 +35,7 @@ pub fn top(base: Sort, frames: &Row<Frame>) -> Sort
     }
 }
 
-/// The least level of what stands behind it.
+/// The least level of what stands behind what leads to it.
 fn wanted(lead: Lead) -> u8
     ensures { result ≡ parts.wanted lead }
 {
@@ -89,7 +89,7 @@ fn frame_least(frame: Frame) -> u8
     }
 }
 
-/// The least level that is wanted in the innermost position.
+/// The least level that is wanted innermost.
 pub(crate) fn least(frames: &Row<Frame>) -> u8
     ensures { result ≡ parts.least (reverse frames.now) }
 {
@@ -122,7 +122,7 @@ pub(crate) fn kind_closing(kind: Kind) -> Closing
     }
 }
 
-/// Whether the two are the same.
+/// Whether the two are the same closing token.
 pub(crate) fn agree(left: Closing, right: Closing) -> bool
     ensures { result ≡ tree.agree left right }
 {
@@ -170,7 +170,7 @@ pub(crate) fn kind_style(sort: Sort, kind: Kind) -> Style
     }
 }
 
-/// What stands in such a bracket.
+/// The sort of the parts in such a bracket, by the sort of the part in which it stands.
 pub(crate) fn kind_sort(sort: Sort, kind: Kind) -> Sort
     ensures { result ≡ parts.kind_sort sort kind }
 {
@@ -278,7 +278,7 @@ pub(crate) fn may_iterate(sort: Sort, part: Part, mark: Mark) -> bool
     }
 }
 
-/// Whether it is a bar that opens a length there.
+/// Whether it is a bar that opens a length in such a part.
 fn opens_length(closing: Closing, sort: Sort) -> bool
     ensures { result ≡ grammar.opens_length closing sort }
 {

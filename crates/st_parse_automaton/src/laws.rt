@@ -1,4 +1,4 @@
-//! Laws of refusals.
+//! The law of refused tokens: at most one is refused, and none of definitions.
 
 ghost use Rattle.std.specs.Prelude.{◌≡◌, List, ℕ};
 ghost use Rattle.st_scan.specs.declared.token.Token.{Token};

@@ -47,7 +47,7 @@ pub enum Filling {
     Parts,
 }
 
-/// What stands before a last part.
+/// What leads to a last part.
 #[derive(Clone, Copy, Debug, PartialEq, Eq)]
 pub enum Lead {
     /// A left side and its sign.
@@ -68,7 +68,7 @@ pub enum Frame {
     Timing,
 }
 
-/// What is expected.
+/// What is expected next in a part.
 #[derive(Clone, Copy, Debug, PartialEq, Eq)]
 pub enum Expected {
     Operand,

@@ -40,7 +40,7 @@ fn otherwise(class: TokenClass, mut brackets: Row<Bracket>) -> Result<Option<Pro
     }
 }
 
-/// What stands behind `--` and each `(`.
+/// Behind `--` and each `(`: `if`, `otherwise`, one more `(`, or the name of a relation.
 pub(crate) fn premise_word(
     alloc: Global,
     class: TokenClass,
@@ -92,7 +92,7 @@ fn tail(mut brackets: Row<Bracket>) -> Row<Bracket>
     }
 }
 
-/// What stands behind a condition and its iterations so far.
+/// Behind a condition: `)`, an iteration, or the `--` of a next premise.
 pub(crate) fn iterate(
     alloc: Global,
     iterations: IterationState,

@@ -12,7 +12,7 @@ use st_grammar::{Bracket, Sort};
 use st_num::Row;
 use std::alloc::Global;
 
-/// The sort of the part that is read there.
+/// The sort of the part that is read for this.
 pub fn slot_sort(slot: Slot) -> Sort
     ensures { result ≡ definitions.slot_sort slot }
 {
@@ -24,14 +24,14 @@ pub fn slot_sort(slot: Slot) -> Sort
     }
 }
 
-/// Whether a `)` stands last, which wants an iteration.
+/// Whether a `)` stands last behind a condition, which wants an iteration.
 pub(crate) fn wants_iteration(iterations: IterationState) -> bool
     ensures { result ≡ definitions.wants_iteration iterations }
 {
     matches!(iterations, IterationState::Wanted)
 }
 
-/// Whether a `)` stands there.
+/// Whether a `)` stands behind a condition, perhaps with iterations.
 pub(crate) fn has_closed(iterations: IterationState) -> bool
     ensures { result ≡ definitions.has_closed iterations }
 {
@@ -41,7 +41,7 @@ pub(crate) fn has_closed(iterations: IterationState) -> bool
     }
 }
 
-/// Whether definitions may end behind it, with its hints.
+/// Whether definitions may end behind this, with its hints.
 fn host_whole(host: Host) -> bool
     ensures { result ≡ definitions.host_whole host }
 {
@@ -80,7 +80,7 @@ pub(crate) fn at(position: Position, brackets: Row<Bracket>) -> Progress
     Progress::At(At { position, brackets })
 }
 
-/// A part begins.
+/// A part begins that is read for this.
 pub(crate) fn start_of(alloc: Global, slot: Slot, brackets: Row<Bracket>) -> Progress
     ensures { progress_of result ≡ definitions.start_of slot (reverse brackets) }
 {
@@ -91,7 +91,7 @@ pub(crate) fn start_of(alloc: Global, slot: Slot, brackets: Row<Bracket>) -> Pro
     Progress::Inside(slot, reading, brackets)
 }
 
-/// Where a part that is read leads to.
+/// The position behind a part that is read for this.
 pub fn filled(slot: Slot, part: Part) -> Position
     ensures { result ≡ definitions.filled slot part }
 {
@@ -120,7 +120,7 @@ pub(crate) fn when(passed: bool, position: Position, brackets: Row<Bracket>) -> 
     }
 }
 
-/// A part begins, where a test is passed.
+/// A part begins that is read for this, where a test is passed.
 pub(crate) fn begins(
     alloc: Global,
     passed: bool,

@@ -14,7 +14,7 @@ use crate::part_automaton::{Expected, Filling, Frame, Kind, Lead, Part, Reading,
 use st_grammar::{Bracket, Leaf, Sort, is_caret, is_change, is_less};
 use st_num::{Mark, NoMemory, Row};
 
-/// The frames with one more element of a sequence.
+/// What is open, with one more element of a sequence.
 fn extend(base: Sort, mut frames: Row<Frame>) -> Result<Row<Frame>, NoMemory>
     ensures { IfOk result (λ extended. reverse extended ≡ parts.extend base (reverse frames)) }
 {
@@ -36,7 +36,7 @@ fn extend(base: Sort, mut frames: Row<Frame>) -> Result<Row<Frame>, NoMemory>
     }
 }
 
-/// The level of the sign between two sides there, or 0.
+/// The level of the sign between two sides in such a part, or 0 where it is none.
 fn pull(sort: Sort, mark: Mark) -> u8
     ensures { result ≡ parts.pull sort mark }
 {
@@ -92,7 +92,7 @@ fn behind_square(base: Sort, frames: Row<Frame>) -> Result<Option<Reading>, NoMe
     Ok(next)
 }
 
-/// `(` behind a part: a function has arguments.
+/// `(` behind a part begins the arguments of a function, which it touches.
 fn behind_round(
     base: Sort,
     touching: bool,
@@ -289,7 +289,7 @@ pub fn step(base: Sort, reading: Reading, shape: Shape) -> Result<Option<Reading
     }
 }
 
-/// The part, where it may end here.
+/// The part that is read, where it may end here.
 pub fn finish(reading: &Reading) -> Option<Part>
     ensures { result ≡ parts.finish (reading_of reading.now) }
 {

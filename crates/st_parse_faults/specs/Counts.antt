@@ -16,7 +16,7 @@ member_due (at (field_name h o ms pre)) = true
 member_due (inside (arg_slot ds w f o ts pre) (part.want (part.bottom σ))) = true
 member_due st = false
 
--- what a token makes that these iterations end with: one more of them, a `)`, or nothing
+-- what a token begins with which these iterations end: an iteration, a `)`, or nothing
 abbrev pub iteration_event : Iterations → Event
 iteration_event no_iterations = Nothing
 iteration_event (closed i l) = Closed
@@ -41,7 +41,8 @@ event b (at p) = Nothing
 event b (inside (count_slot r t ps d os ls u i l) (part.want (part.bottom σ))) = Iteration
 event b (inside s st) = member_event b
 
--- Premises and members are those of one definition, iterations those in a row.
+-- The counts behind what a token begins: premises and members are those of one definition, and
+-- iterations those in a row.
 abbrev pub counts_after : Counts → Event → Counts
 counts_after c Definition =
     record { definitions = c.definitions + 1; premises = 0; members = 0; iterations = 0 }

@@ -21,7 +21,7 @@ pub record Seen : Type 0 where
   pub nesting : ℕ
   pub counts : Counts
 
--- The token is a bracket or bar behind which more are open.
+-- The token is a bracket or bar behind which more are open than may be.
 abbrev pub opens_too_many : Seen → Terminal → Bool
 opens_too_many seen l = may_open l && nat_lt HIGHEST_TREE (seen.nesting + bars seen.state)
 
@@ -51,7 +51,7 @@ abbrev pub judged : Seen → Token → Terminal → Option State → Verdict See
 judged seen x l None = broken (refusal seen x)
 judged seen x l (Some next) = kept (seen_after seen l next) l
 
--- one token behind what is seen, where these names are declared by `var`
+-- the verdict on one token behind what is seen, where these names are declared by `var`
 abbrev pub judge : List (List ℕ) → Seen → Token → Verdict Seen
 judge names seen x = judged seen x (terminal names x) (step seen.state (terminal names x))
 
@@ -59,11 +59,11 @@ judge names seen x = judged seen x (terminal names x) (step seen.state (terminal
 abbrev pub nothing_seen : Seen
 nothing_seen = record { state = start; nesting = 0; counts = no_counts }
 
--- the verdict on the first k tokens
+-- the verdict on the first k of these tokens
 abbrev pub verdict : List Token → ℕ → Verdict Seen
 verdict tokens k = verdict_on (judge (declared_names tokens)) nothing_seen tokens k
 
--- what is read, where it may end
+-- the definitions that are read, where they may end
 abbrev pub ended : Seen → Option Defs
 ended seen = finish seen.state
 

@@ -10,7 +10,7 @@ pub data Verdict (S : Type 0) : Type 0 where
   passed : S → Verdict S
   broken : RuleId → Verdict S
 
--- too many brackets before too much else
+-- the verdict where too many brackets are open, or else too much is counted, or neither
 abbrev pub limited : {S : Type 0} → Bool → Bool → S → Verdict S
 limited true b seen = broken S2
 limited false true seen = broken S3
@@ -26,7 +26,7 @@ judge_all judge (broken r) (x ∷ tokens) = broken r
 abbrev pub verdict_on : {S : Type 0} → (S → Token → Verdict S) → S → List Token → ℕ → Verdict S
 verdict_on judge start tokens k = judge_all judge (passed start) (take k tokens)
 
--- No token has a fault, and they may end, where that tells what is read.
+-- No token has a fault, and the tokens may end, as this tells of what is known behind them.
 abbrev pub Pass : {S : Type 0} → {A : Type 0} → (S → Token → Verdict S) → (S → Option A) → S
     → List Token → Type 0
 Pass {S} {A} judge finish start tokens =

@@ -16,7 +16,7 @@ use Rattle.st_grammar.specs.Positions.{State, at, inside, hinted, premise_open, 
 use Rattle.st_parse_faults.specs.declared.before.Before.{Before}
 use Rattle.st_parse_faults.specs.declared.before.Before.TheVariants as before
 
--- In such a part this is a type, perhaps iterated.
+-- a tree that is read in a part of this sort is a type, perhaps iterated
 abbrev pub is_type_in : Sort → Tree → Bool
 is_type_in typ t = true
 is_type_in notation t = is_type t
@@ -49,7 +49,8 @@ abbrev pub is_typ : Before → Bool
 is_typ before.Typ = true
 is_typ b = false
 
--- `(` behind the name of a syntax, `,` outside all brackets, `...`, and `+` or `^` behind a type
+-- a sign begins a form that is left out: `(` behind the name of a syntax, `,` outside all
+-- brackets, `...`, and `+` or `^` behind a type
 abbrev pub sign_left_out : Before → ℕ → Mark → Bool
 sign_left_out b nesting mark.OpenParen = is_syntax_name b
 sign_left_out b nesting mark.Comma = nesting == 0
@@ -58,7 +59,7 @@ sign_left_out b nesting mark.Plus = is_typ b
 sign_left_out b nesting mark.Caret = is_typ b
 sign_left_out b nesting m = false
 
--- `grammar`, `rat` and `real`, and `var` behind `--`
+-- a word begins a form that is left out: `grammar`, `rat` or `real`, or `var` behind `--`
 abbrev pub word_left_out : Before → Word → Bool
 word_left_out b word.Grammar = true
 word_left_out b word.Rat = true

@@ -40,7 +40,7 @@ abbrev mutual
   path_posts (field p x) = path_posts p
   path_posts (part p o ts c) = path_posts p
 
--- It stands between two sides, also where the left one is absent.
+-- the sign is `|-`, which stands between two sides also where the left one is absent
 abbrev pub is_turnstile : Mark → Bool
 is_turnstile mark.Turnstile = true
 is_turnstile m = false
@@ -137,7 +137,7 @@ with_one false n = n
 
 -- ---- tallies
 
--- parts that are begun, elements that are begun, signs between two sides, prefix or postfix signs
+-- a tally: parts and elements that are begun, signs between two sides, prefix or postfix signs
 -- in a row, and whether a next part is due
 abbrev pub tally : ℕ → ℕ → ℕ → ℕ → Bool → Tally
 tally p e s r d = record { parts = p; elements = e; signs = s; row = r; due = d }

@@ -39,7 +39,7 @@ abbrev pub bars : State → ℕ
 bars (at p) = 0
 bars (inside s st) = part_bars st
 
--- a bracket that opens, or a bar
+-- the token is a bracket that opens, or a bar
 abbrev pub may_open : Terminal → Bool
 may_open (opening k x) = true
 may_open (closing by_bar x) = true

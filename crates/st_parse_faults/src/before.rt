@@ -23,7 +23,7 @@ pub enum Before {
     Other,
 }
 
-/// Whether a part that is read in such a part is a type.
+/// Whether a part that is read in a part of this sort is a type.
 fn ends_type(sort: Sort, part: Part) -> bool
     ensures { result ≡ seen.ends_type sort part }
 {

@@ -25,7 +25,7 @@ pub enum Event {
     Nothing,
 }
 
-/// How much is begun.
+/// How many definitions, premises, members and iterations are begun.
 #[derive(Clone, Copy, Debug, PartialEq, Eq)]
 pub struct Counts {
     pub definitions: u32,
@@ -37,7 +37,7 @@ pub struct Counts {
     pub iterations: u32,
 }
 
-/// Whether a part that the next token begins is a member.
+/// Whether a part that the next token begins is an alternative, a field or an argument.
 pub(crate) fn member_due(progress: &Progress) -> bool
     ensures { result ≡ seen.member_due (progress_of progress.now) }
 {
@@ -81,7 +81,7 @@ fn event_inside(due: bool, slot: Slot, reading: &Reading) -> Event
     }
 }
 
-/// What a token begins that leads there.
+/// What a token begins that leads to this, where a member was due or not.
 pub(crate) fn event_of(due: bool, next: &Progress) -> Event
     ensures { result ≡ seen.event due (progress_of next.now) }
 {
@@ -91,7 +91,7 @@ pub(crate) fn event_of(due: bool, next: &Progress) -> Event
     }
 }
 
-/// What is counted behind a token.
+/// The counts behind what a token begins.
 pub(crate) fn counts_after(counts: Counts, event: Event) -> Counts
     requires { seen.Kept counts }
     ensures { result ≡ spec.counts_after counts event }
@@ -124,7 +124,7 @@ pub(crate) fn counts_after(counts: Counts, event: Event) -> Counts
     }
 }
 
-/// Whether one of the numbers is passed.
+/// Whether one of the numbers passes its limit.
 pub(crate) fn counts_pass(counts: Counts) -> bool
     ensures value { result ≡ spec.counts_pass counts }
     ensures kept { result ≡ Prelude.false → seen.Kept counts }

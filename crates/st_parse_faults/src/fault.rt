@@ -1,4 +1,4 @@
-//! A fault.
+//! The first fault of tokens: at which of them, and by which rule.
 
 use st_num::RuleId;
 

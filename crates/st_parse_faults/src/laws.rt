@@ -1,4 +1,4 @@
-//! Laws of faults.
+//! Laws of first faults: there is at most one, and what those of the grammar say.
 
 ghost use Rattle.std.specs.Prelude.{◌≡◌, ◌≤◌, List, ℕ};
 ghost use Rattle.st_num.specs.declared.rule.RuleId.{RuleId};

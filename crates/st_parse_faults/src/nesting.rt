@@ -9,7 +9,7 @@ ghost use Rattle.st_parse_automaton.specs.inner.Readings.{progress_of};
 use st_grammar::Closing;
 use st_parse_automaton::{Frame, Kind, Progress, Shape};
 
-/// The brackets that are open behind the token.
+/// How many brackets are open behind the token, where so many are open before it.
 pub(crate) fn nesting_after(nesting: u8, shape: Shape) -> u8
     requires { nesting ≤ HIGHEST_TREE }
     ensures value { result ≡ seen.nesting_after nesting shape }

@@ -23,7 +23,8 @@ pub fn first_fault(alloc: Global, tokens: &[Token]) -> Result<Option<TokenFault>
     Ok(found)
 }
 
-/// The same, where these are the names that directly follow the word `var`.
+/// The first token that breaks a rule, or the end where the tokens end too early, where these are
+/// the names that directly follow the word `var`.
 fn read_tokens(
     alloc: Global,
     names: &[Name],

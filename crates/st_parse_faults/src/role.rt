@@ -110,7 +110,7 @@ fn part_attachment(base: Sort, reading: &Reading, shape: Shape) -> Attachment
     }
 }
 
-/// How a token stands there.
+/// How a token stands where this much of the definitions is read.
 pub(crate) fn attachment_of(progress: &Progress, shape: Shape) -> Attachment
     ensures { result ≡ roles.attachment_of (progress_of progress.now) shape }
 {
@@ -120,7 +120,7 @@ pub(crate) fn attachment_of(progress: &Progress, shape: Shape) -> Attachment
     }
 }
 
-/// What a token that begins an operand adds.
+/// What a token that begins an operand adds to the tally.
 fn first_role(shape: Shape) -> TokenRole
     ensures { result ≡ roles.first_role shape }
 {
@@ -137,7 +137,7 @@ fn first_role(shape: Shape) -> TokenRole
     }
 }
 
-/// What a sign behind an operand adds, by the reading behind it.
+/// What a sign behind an operand adds to the tally, by the reading behind it.
 fn sign_role(next: &Reading) -> TokenRole
     ensures { result ≡ roles.sign_role (reading_of next.now) }
 {
@@ -153,7 +153,7 @@ fn sign_role(next: &Reading) -> TokenRole
     }
 }
 
-/// What a token behind an operand adds, by the reading behind it.
+/// What a token behind an operand adds to the tally, by the reading behind it.
 fn behind_role(shape: Shape, next: &Reading) -> TokenRole
     ensures { result ≡ roles.behind_role shape (reading_of next.now) }
 {
@@ -164,7 +164,7 @@ fn behind_role(shape: Shape, next: &Reading) -> TokenRole
     }
 }
 
-/// What a token adds, by the reading behind it.
+/// What a token adds to the tally, by how it stands and the reading behind it.
 pub(crate) fn role_of(attachment: Attachment, shape: Shape, next: &Reading) -> TokenRole
     ensures { result ≡ roles.role_of attachment shape (reading_of next.now) }
 {

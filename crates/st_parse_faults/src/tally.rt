@@ -26,7 +26,7 @@ pub struct Tally {
     pub due: bool,
 }
 
-/// The tally behind an opening bracket, where so many signs stand before.
+/// The tally where no part is begun, and so many signs stand before between the same brackets.
 pub(crate) fn fresh(signs: u32) -> Tally
     ensures { result ≡ limits.fresh signs }
 {
@@ -39,7 +39,7 @@ pub(crate) fn fresh(signs: u32) -> Tally
     }
 }
 
-/// The parts with the one that begins, if one is due.
+/// The parts that are begun, with the next one where it is due.
 fn begun(tally: Tally) -> u32
     requires { roles.TallyKept tally }
     ensures { result ≡ roles.begun tally }
@@ -66,7 +66,7 @@ fn going(tally: Tally, elements: u32, signs: u32, row: u32) -> Tally
     }
 }
 
-/// The tally behind such a role.
+/// The tally with what such a token adds.
 fn counted(tally: Tally, role: TokenRole) -> Tally
     requires { roles.TallyKept tally }
     ensures { result ≡ roles.counted tally role }
@@ -96,7 +96,7 @@ fn counted(tally: Tally, role: TokenRole) -> Tally
     }
 }
 
-/// The tallies, the innermost of them behind such a role.
+/// The tallies, with what such a token adds to the innermost.
 pub(crate) fn change(mut tallies: Row<Tally>, role: TokenRole) -> Result<Row<Tally>, NoMemory>
     requires { AllByRecursion roles.TallyKept (reverse tallies) }
     ensures { IfOk result (λ changed. reverse changed ≡ roles.change role (reverse tallies)) }
@@ -110,7 +110,7 @@ pub(crate) fn change(mut tallies: Row<Tally>, role: TokenRole) -> Result<Row<Tal
     }
 }
 
-/// The innermost bars end: the signs between them stand outside too.
+/// The tallies where a length closes: the one round it takes over its signs.
 fn carry(mut tallies: Row<Tally>) -> Result<Row<Tally>, NoMemory>
     ensures { IfOk result (λ carried. reverse carried ≡ roles.carry (reverse tallies)) }
 {
@@ -137,7 +137,7 @@ pub(crate) fn signs_here(tallies: &Row<Tally>) -> u32
     }
 }
 
-/// The tallies where a bracket or bar opens or closes.
+/// The tallies behind a token that opens or closes this.
 pub(crate) fn shift(mut tallies: Row<Tally>, shift: Shift) -> Result<Row<Tally>, NoMemory>
     ensures { IfOk result (λ shifted. reverse shifted ≡ roles.shift shift (reverse tallies)) }
 {
@@ -169,7 +169,7 @@ fn tally_passes(tally: Tally) -> bool
     tally.parts > parts || tally.elements > parts || tally.signs > signs || tally.row > signs
 }
 
-/// Whether one of these passes a number.
+/// Whether a number of one of these tallies passes its limit.
 fn some_pass(tallies: &[Tally]) -> bool
     ensures { result ≡ list_any limits.tally_passes (reverse tallies.now) }
 {
@@ -183,7 +183,7 @@ fn some_pass(tallies: &[Tally]) -> bool
     false
 }
 
-/// Whether a number is passed between some brackets.
+/// Whether between some brackets a number passes its limit.
 pub(crate) fn any_passes(tallies: &Row<Tally>) -> bool
     ensures value { result ≡ list_any limits.tally_passes (reverse tallies.now) }
     ensures kept { result ≡ Prelude.false → AllByRecursion roles.TallyKept (reverse tallies.now) }
@@ -191,7 +191,7 @@ pub(crate) fn any_passes(tallies: &Row<Tally>) -> bool
     some_pass(tallies.as_slice())
 }
 
-/// The tally of a part that begins.
+/// The tallies where a part begins, and so many signs stand before.
 pub(crate) fn single(alloc: Global, signs: u32) -> Result<Row<Tally>, NoMemory>
     ensures { IfOk result (λ tallies. reverse tallies ≡ limits.fresh signs ∷ []) }
 {
@@ -200,7 +200,7 @@ pub(crate) fn single(alloc: Global, signs: u32) -> Result<Row<Tally>, NoMemory>
     Ok(tallies)
 }
 
-/// The tallies of a part that begins; an argument of a definition is behind those before it.
+/// The tallies where a part begins; for an argument of a definition the signs before it count.
 fn part_begins(alloc: Global, slot: Slot, signs: u32) -> Result<Row<Tally>, NoMemory>
     ensures { IfOk result (λ tallies. reverse tallies ≡ roles.part_begins slot signs) }
 {
@@ -233,7 +233,7 @@ fn moved(
     Ok(shifted)
 }
 
-/// The tallies behind a token.
+/// The tallies behind a token, by how it stood and what is read behind it.
 pub(crate) fn tallies_after(
     alloc: Global,
     attachment: Attachment,

@@ -49,6 +49,6 @@ text_in (Dot name) = name
 text_in (Fun name) = name
 text_in _ = []
 
--- all names and texts are texts
+-- the name or the text in each token is UTF-8 without control characters but line feeds and tabs
 abbrev pub HaveTexts : List Token → Type 0
 HaveTexts tokens = All (λ token. IsText (text_in token.kind)) tokens

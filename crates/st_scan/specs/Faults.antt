@@ -65,7 +65,7 @@ pub data Cause (bytes : List ℕ) : List ℕ → RuleId → Type 0 where
       → ((behind : List ℕ) → ¬ (IsQuote bytes behind))
       → Cause bytes bytes L1
 
--- tokens stand in the file up to a place where none can be taken, for this cause
+-- tokens stand at the front of the file, and none can be taken behind them, for this cause
 pub record TokenFault (number : ℕ) (file here : List ℕ) (rule : RuleId) : Type 0 where
   pub tokens : List Token
   pub left : List ℕ
@@ -74,10 +74,12 @@ pub record TokenFault (number : ℕ) (file here : List ℕ) (rule : RuleId) : Ty
 
 -- the first fault of the file: that of a token, or the first byte that is not UTF-8
 pub data FirstFault (number : ℕ) (file : List ℕ) (at : Span) : RuleId → Type 0 where
+  -- a token cannot be taken, and the fault stands before the first byte that is not UTF-8
   of_token : (here : List ℕ) (rule : RuleId) → TokenFault number file here rule
       → at ≡ place number file here
       → ((n : ℕ) → IsValidUpTo file n → offset file here < n)
       → FirstFault number file at rule
+  -- a byte is not UTF-8, and no token fails before it
   of_utf8 : (n : ℕ) → IsValidUpTo file n
       → at ≡ place number file (drop n file)
       → ((here : List ℕ) (rule : RuleId) → TokenFault number file here rule → n ≤ offset file here)

@@ -2,19 +2,19 @@
 use Rattle.std.specs.Prelude.{ℕ, zero, suc, List, [], ◌∷◌, Bool, false, ◌&&◌, ◌==◌, if◌then◌else◌}
 use Rattle.st_scan.specs.Bytes.{is_blank, is_line_feed}
 
--- `(;`, the sign before a comment that may go over several lines
+-- these two bytes are `(;`, which opens a comment over any number of lines
 abbrev pub opens : ℕ → ℕ → Bool
 opens b c = b == 40 && c == 59
 
--- `;)`, the sign behind such a comment
+-- these two bytes are `;)`, which closes such a comment
 abbrev pub closes : ℕ → ℕ → Bool
 closes b c = b == 59 && c == 41
 
--- `;;`, the sign before a comment up to the end of the line
+-- these two bytes are `;;`, which begins a comment up to the end of the line
 abbrev pub starts_line : ℕ → ℕ → Bool
 starts_line b c = b == 59 && c == 59
 
--- where a place of the file stands
+-- what the next byte of a file stands in: a gap between tokens, or a comment of either kind
 pub data Within : Type 0 where
   between : Within
   line : Within

@@ -13,17 +13,17 @@ offset file rest = length file - length rest
 abbrev pub line_behind : List ℕ → ℕ
 line_behind before = count_by is_line_feed before + 1
 
--- its column: one more than the characters on that line
+-- the column of what stands behind these bytes: one more than the characters on its line
 abbrev pub column_behind : List ℕ → ℕ
 column_behind before = count_by begins_character (after_last is_line_feed before) + 1
 
--- the place of the rest of a file
+-- the place of the rest of a file, which has this number
 abbrev pub place : ℕ → List ℕ → List ℕ → Span
 place number file rest =
     let before = take (offset file rest) file in
     record { file = number; line = line_behind before; column = column_behind before }
 
--- the counts are those of what stands behind these bytes
+-- these are the line and the column of what stands behind these bytes
 pub record IsBehind (before : List ℕ) (here : Place) : Type 0 where
   pub line : here.line ≡ line_behind before
   pub column : here.column ≡ column_behind before

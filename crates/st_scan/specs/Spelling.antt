@@ -14,12 +14,12 @@ abbrev pub is_name : List ℕ → Bool
 is_name [] = false
 is_name (b ∷ bs) = is_letter b && list_all is_name_part bs
 
--- it begins with a lower-case letter
+-- a lower-case letter stands first
 abbrev pub begins_lower : List ℕ → Bool
 begins_lower [] = false
 begins_lower (b ∷ bs) = is_lower b
 
--- a lower-case letter is among these bytes
+-- a lower-case letter stands anywhere
 abbrev pub has_lower : List ℕ → Bool
 has_lower bs = list_any is_lower bs
 
@@ -40,7 +40,7 @@ escaped b =
 abbrev pub quoted : List ℕ → List ℕ
 quoted text = 34 ∷ flat_map escaped text ++ 34 ∷ []
 
--- the bytes are this token
+-- the bytes spell this token
 abbrev pub Spells : List ℕ → TokenKind → Type 0
 Spells bytes (Low name) =
     (bytes ≡ name) × IsTrue (is_name name) × IsTrue (begins_lower name) × ¬ (IsReserved name)

@@ -16,7 +16,7 @@ pub record Longest (bytes text rest : List ℕ) (kind : TokenKind) : Type 0 wher
       → bytes ≡ other ++ more → Spells other another → length other ≤ length text
   pub no_comment : opens_comment bytes ≡ false
 
--- a number is below 2 ^ 128
+-- a number is below 2 ^ 128, and any other token is in range
 abbrev pub IsInRange : TokenKind → Type 0
 IsInRange (Number n) = n < 2 ^ 128
 IsInRange _ = Unit {0}

@@ -45,7 +45,7 @@ pub(crate) fn opens_comment(bytes: &[u8]) -> bool
     opens(*first, *second)
 }
 
-/// What stands behind the line feed.
+/// What stands behind the line feed that ends a comment of one line.
 #[tactic(auto, unfolding(crate::specs::Gaps::gap))]
 fn skip_line(bytes: &[u8]) -> &[u8]
     ensures same { gap line bytes.now ≡ gap between result.now }

@@ -1,4 +1,4 @@
-//! One token at a place behind blanks and comments.
+//! One token at the front of what stands behind blanks and comments.
 
 ghost use Rattle.std.specs.Prelude.{◌≡◌, ◌-◌, ◌<◌, length, IsTrue, IfOk, MatchResult};
 ghost use Rattle.st_scan.specs.Gaps.{opens_comment};

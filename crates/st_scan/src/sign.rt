@@ -1,4 +1,4 @@
-//! The longest sign at a place.
+//! The longest sign at the front of some bytes.
 
 ghost use Rattle.std.specs.Prelude.{MatchOption};
 ghost use Rattle.st_scan.specs.Signs.{NoSign, LongestSign};

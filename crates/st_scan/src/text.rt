@@ -30,7 +30,7 @@ fn escape_of(letter: u8) -> Option<u8>
     }
 }
 
-/// What stands next where a backslash does, with these bytes behind it.
+/// What stands next in a text where a backslash does, with these bytes behind it.
 fn piece_behind_backslash(behind: &[u8]) -> Piece
     ensures { IsPiece (92 ∷ behind.now) result }
 {

@@ -6,7 +6,7 @@ ghost use Rattle.st_scan.specs.Spelling.{IsReserved};
 
 use st_num::Word;
 
-/// The word that is spelled so, where the name is reserved.
+/// The reserved word that is spelled so, where the name is reserved.
 pub(crate) fn word_of(name: &[u8]) -> Option<Word>
     ensures { MatchOption result
         (¬ (IsReserved name.now))

@@ -1,2 +1,2 @@
--- A row.
+-- What contracts see a row as.
 pub mod Row

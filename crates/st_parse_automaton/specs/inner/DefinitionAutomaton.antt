@@ -143,12 +143,12 @@ slot_sort slot.Rule = sort.Expression false
 slot_sort slot.Condition = sort.Expression false
 slot_sort slot.Count = sort.Count
 
--- a `)` stands last, which wants an iteration
+-- a `)` stands last behind a condition, which wants an iteration
 abbrev pub wants_iteration : IterationState → Bool
 wants_iteration iterations.Wanted = true
 wants_iteration m = false
 
--- a `)` stands there
+-- a `)` stands behind a condition, perhaps with iterations
 abbrev pub has_closed : IterationState → Bool
 has_closed iterations.None = false
 has_closed m = true
@@ -166,7 +166,7 @@ host_whole host.Notation = true
 host_whole host.Fun = true
 host_whole h = false
 
--- The definitions may end here.
+-- Definitions may end at the position.
 abbrev pub whole : Position → List Bracket → Bool
 whole position.Between ks = true
 whole (position.Hinted h b) ks = host_whole h
@@ -174,7 +174,7 @@ whole position.Premised ks = true
 whole (position.Iterated m) ks = is_empty ks && not (wants_iteration m)
 whole p ks = false
 
--- a part begins for this
+-- a part begins that is read for this
 abbrev pub start_of : Slot → List Bracket → State
 start_of s ks = inside s (Operand, []) ks
 
@@ -293,7 +293,7 @@ iterate m l ks =
     else if is_empty ks && not (wants_iteration m) then next_premise l.keyword ks
     else None
 
--- a token of a name, and others that lead to one position
+-- what a token makes at a position where a name, or one sign, leads on to a next position
 abbrev pub own_name : Position → TokenClass → List Bracket → Option State
 own_name position.SyntaxName l ks = when (is_low l) (at (position.Hinted host.Syntax true) ks)
 own_name position.VarName l ks = when (is_low l || is_label l) (at position.VarColon ks)
@@ -306,7 +306,7 @@ own_name (position.HintName h) l ks = when (is_name l) (at (position.HintWords h
 own_name position.Dotted l ks = when (is_bar l) (at (position.Entering (slot.Case case.Led)) ks)
 own_name p l ks = None
 
--- a token that goes on with what is there
+-- what a token makes at a position, where it goes on with what stands before
 abbrev pub own : Position → TokenClass → List Bracket → Option State
 own position.Between l ks = None
 own position.SyntaxName l ks = when (is_low l) (at (position.Hinted host.Syntax true) ks)
@@ -352,11 +352,11 @@ first_of_two None o = o
 abbrev pub turn : Bool → Keyword → List Bracket → Option State
 turn b k ks = if b then begin_def k ks else None
 
--- behind whole definitions a next one begins
+-- what a token makes at a position: it goes on, or begins a next definition behind whole ones
 abbrev pub position_step : Position → TokenClass → List Bracket → Option State
 position_step p l ks = first_of_two (own p l ks) (turn (whole p ks) l.keyword ks)
 
--- where a part that is read leads to
+-- the position behind a part that is read for this
 abbrev pub filled : Slot → Part → Position
 filled slot.Field p = position.Hinted host.Field false
 filled (slot.Case c) p = position.Hinted host.Case false
@@ -368,7 +368,7 @@ filled slot.Rule p = position.Premised
 filled slot.Condition p = position.Iterated iterations.None
 filled slot.Count p = position.Iterated iterations.Complete
 
--- a token that a part does not take goes to what is behind it
+-- what a token makes in a part: the part takes it, or else it stands behind the part
 abbrev pub taken : Slot → TokenClass → List Bracket → Option parts.State → Option Part
     → Option State
 taken s l ks (Some next) q = Some (inside s next ks)
@@ -384,7 +384,7 @@ abbrev pub part_ends : Slot → List Bracket → Option Part → Bool
 part_ends s ks None = false
 part_ends s ks (Some p) = whole (filled s p) ks
 
--- The tokens may end here.
+-- Definitions may end in this state.
 abbrev pub may_end : State → Bool
 may_end (at p ks) = whole p ks
 may_end (inside s st ks) = part_ends s ks (parts.finish st)

@@ -194,7 +194,7 @@ settle p fs = (Next p, fs)
 abbrev pub Lowered : Type 0
 Lowered = ℕ × Part × List Frame
 
--- what such a level closes of a frame
+-- what leads to a last part in this frame, where such a level closes it over the part
 abbrev pub closes : Frame → ℕ → Option Lead
 closes (Over g σ) n = if nat_le (reach g) n then None else Some g
 closes f n = None
@@ -227,7 +227,7 @@ ended q = None
 
 -- ---- what begins
 
--- a bracket that opens in such a position
+-- what is open, with a bracket that opens in a part of this sort
 abbrev pub opened : Kind → Sort → List Frame → List Frame
 opened k σ fs = Within k Empty true (kind_sort σ k) ∷ fs
 
@@ -418,7 +418,7 @@ step base (Step s, fs) l = in_path base s fs l
 step base (IndexExpected, fs) l = name_index fs l
 step base (Less, fs) l = bound_index base fs l
 
--- the part, where it may end here
+-- the part that is read, where it may end here
 abbrev pub finish : State → Option Part
 finish (Next p, fs) = ended (lower 0 tight p fs)
 finish st = None

@@ -162,7 +162,7 @@ abbrev pub begun_or : Bool → List Tally → List Tally → List Tally
 begun_or true xs ys = xs
 begun_or false xs ys = ys
 
--- the tallies behind a token, where definitions are read so far
+-- the tallies behind a token, by how it stood and what is read behind it
 abbrev pub tallies_after : Attachment → Shape → definitions.State → List Tally → List Tally
 tallies_after k s (definitions.at p ks) ys = fresh 0 ∷ []
 tallies_after k s (definitions.inside c st ks) ys =

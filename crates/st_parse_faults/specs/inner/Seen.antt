@@ -159,7 +159,7 @@ pub data Verdict : Type 0 where
 abbrev pub opens_too_many : definitions.State → ℕ → Shape → Bool
 opens_too_many st n s = may_open s && nat_lt HIGHEST_TREE (n + bars st)
 
--- too many brackets before too much else
+-- the verdict where too many brackets are open, or else too much is counted, or neither
 abbrev pub limited : Bool → Bool → Summary → Verdict
 limited true b v = broken S2
 limited false true v = broken S3

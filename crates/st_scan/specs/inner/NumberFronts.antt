@@ -3,11 +3,11 @@ use Rattle.std.specs.Prelude.{◌≡◌, ◌≢◌, ℕ, ◌+◌, ◌≤◌, Lis
 use Rattle.std.specs.Str.Parse.{AllDigits, IsNumeral}
 use Rattle.st_num.specs.Numeral.{Spells}
 
--- no `0x` with hexadecimal digits stands there
+-- no `0x` with hexadecimal digits stands at the front of the bytes
 pub record NoHexadecimal (bytes : List ℕ) : Type 0 where
   pub never : (digits rest : List ℕ) → IsNumeral 16 digits → bytes ≢ (codes "0x" ++ digits) ++ rest
 
--- `0x` and as many hexadecimal digits as may be stand there, so many bytes in all
+-- `0x` and as many hexadecimal digits as may be stand at the front, so many bytes in all
 pub record LongestHexadecimal (bytes : List ℕ) (size : ℕ) : Type 0 where
   pub digits : List ℕ
   pub rest : List ℕ
@@ -17,7 +17,7 @@ pub record LongestHexadecimal (bytes : List ℕ) (size : ℕ) : Type 0 where
       → bytes ≡ (codes "0x" ++ other) ++ more → length other ≤ length digits
   pub counted : size ≡ length digits + 2
 
--- the text is a number, and no longer one stands there
+-- the text is a number, and no longer one stands at the front of the bytes
 pub record LongestNumber (bytes text : List ℕ) : Type 0 where
   pub rest : List ℕ
   pub split : bytes ≡ text ++ rest

@@ -34,7 +34,7 @@ abbrev pub begins_fun : List ℕ → Bool
 begins_fun [] = false
 begins_fun (b ∷ bs) = b == 36 && begins_lower bs
 
--- no comment, and no token but a sign, begins there
+-- no comment, and no token but a sign, begins at the front of the bytes
 pub record BeginsSign (bytes : List ℕ) : Type 0 where
   pub some : bytes ≢ []
   pub no_comment : opens_comment bytes ≡ false
@@ -44,7 +44,7 @@ pub record BeginsSign (bytes : List ℕ) : Type 0 where
   pub no_dot : begins_dot bytes ≡ false
   pub no_fun : begins_fun bytes ≡ false
 
--- the token is the longest at the front, and it is so long
+-- the token that is read is the longest at the front of the bytes, with its length
 pub record IsReading (bytes : List ℕ) (reading : Reading) : Type 0 where
   pub text : List ℕ
   pub rest : List ℕ
@@ -63,7 +63,7 @@ abbrev pub farther : ℕ → Stop → Stop
 farther count (Refused skipped rule) = Refused (count + skipped) rule
 farther count Memory = Memory
 
--- it stands within so many bytes
+-- the fault stands within so many bytes
 abbrev pub IsWithin : ℕ → Stop → Type 0
 IsWithin limit (Refused skipped rule) = skipped ≤ limit
 IsWithin limit Memory = ⊤

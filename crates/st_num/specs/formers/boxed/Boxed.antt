@@ -22,7 +22,7 @@ use Rattle.st_num.specs.declared.boxed.Boxed.TheView.{view, invariant}
 use Rattle.st_num.specs.contracts.boxed.Boxed as contract
 use Rattle.st_num.specs.contracts.boxed.Boxed.TheInside as inside
 
--- a box of what another type holds is that
+-- what a box holds: a value of another type
 abbrev pub the_former : Former {0} → Former {0}
 the_former held = held
 

@@ -19,7 +19,7 @@ use Rattle.st_num.specs.declared.row.Row.TheView.{view, invariant}
 use Rattle.st_num.specs.contracts.row.Row as contract
 use Rattle.st_num.specs.contracts.row.Row.TheInside as inside
 
--- a row of what another type holds is a list of it
+-- what a row holds: a list of values of another type
 abbrev pub the_former : Former {0} → Former {0}
 the_former held = list held
 
