@@ -354,7 +354,7 @@ own (goal_colon r t ps d os n) l =
     when (signed is_colon l) (begun (cond_slot r t ps d os (n ∷ l ∷ [])))
 own (iterated r t ps d os ls u i) l = iterate r t ps d os ls u i l
 
--- the first of two, where there is one
+-- the first of two states, or the second where there is no first
 abbrev pub first_of_two : Option State → Option State → Option State
 first_of_two (Some st) o = Some st
 first_of_two None o = o

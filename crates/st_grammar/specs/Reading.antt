@@ -58,7 +58,7 @@ least (within h ts pre fs) = least_in h
 least (over g fs) = wanted g
 least (timing t m x fs) = 1
 
--- a part that is read, behind `^` as its count
+-- a part is read; behind `^` it is the count
 abbrev pub settle : Tree → Frames → State
 settle c (timing t m x fs) = got (times t m x c) fs
 settle t fs = got t fs
@@ -99,7 +99,7 @@ abbrev pub opened : Bracket → Token → Frames → State
 opened brace x fs = naming (plain brace x) none [] fs
 opened k x fs = want (within (plain k x) none [] fs)
 
--- the arguments of a function close that are none
+-- `)` closes the arguments of a function, which are none
 abbrev pub no_arguments : Token → Frames → Option State
 no_arguments x (within (arguments f o) none [] fs) =
     Some (settle (bracket (arguments f o) none x) fs)

@@ -70,7 +70,7 @@ closed_by tick_square = by_square
 closed_by tick_brace = by_brace
 closed_by dollar = by_round
 
--- how a bracket closes
+-- what closes the bracket before whose parts this stands
 abbrev pub closes : Heading → Closing
 closes (plain k o) = closed_by k
 closes (length o) = by_bar

@@ -104,7 +104,7 @@ grouping_at n =
     else if n == 3 || n == 4 || n == 10 || n == 13 || n == 15 || n == 16 then Left
     else None
 
--- how the signs of the level of this one group
+-- how this sign groups with others of its level
 abbrev pub grouping : Mark → Grouping
 grouping m = grouping_at (level m)
 

@@ -41,6 +41,7 @@ impl Dim {
         }
     }
 
+    /// The dimension of these kinds, outermost first.
     pub fn from_slice(alloc: Global, kinds: &[Kind]) -> Result<Dim, NoMemory>
         ensures { IfOk result (λ dim. dim ≡ kinds.now) }
     {
@@ -51,6 +52,7 @@ impl Dim {
         Ok(dim)
     }
 
+    /// The kinds, outermost first.
     pub fn as_slice(&self) -> &[Kind]
         ensures { result.now ≡ self.now }
     {

@@ -11,7 +11,7 @@ use crate::part_automaton::{Expected, Filling, Frame, Kind, Lead, Part, Reading,
 use st_grammar::{Bracket, Closing, Sort};
 use st_num::{Mark, NoMemory, Row};
 
-/// A bracket that opens in a position of this sort.
+/// What is expected and open, with a bracket that opens in a part of this sort.
 pub(crate) fn opened(
     expected: Expected,
     kind: Kind,
@@ -82,7 +82,7 @@ fn begin_opening(
     }
 }
 
-/// The end of arguments that are none.
+/// `)` closes the arguments of a function, which are none.
 fn no_arguments(mut frames: Row<Frame>) -> Result<Option<Reading>, NoMemory>
     ensures { IfOk result (λ next.
         option_map reading_of next ≡ parts.no_arguments (reverse frames)) }

@@ -65,7 +65,7 @@ pub data Cause (bytes : List ℕ) : List ℕ → RuleId → Type 0 where
       → ((behind : List ℕ) → ¬ (IsQuote bytes behind))
       → Cause bytes bytes L1
 
--- tokens stand at the front of the file, and none can be taken behind them, for this cause
+-- tokens stand at the front of the file, and what stands behind them is none and breaks this rule
 pub record TokenFault (number : ℕ) (file here : List ℕ) (rule : RuleId) : Type 0 where
   pub tokens : List Token
   pub left : List ℕ

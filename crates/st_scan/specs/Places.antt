@@ -17,7 +17,7 @@ line_behind before = count_by is_line_feed before + 1
 abbrev pub column_behind : List ℕ → ℕ
 column_behind before = count_by begins_character (after_last is_line_feed before) + 1
 
--- the place of the rest of a file, which has this number
+-- the place where the rest of the file of this number begins
 abbrev pub place : ℕ → List ℕ → List ℕ → Span
 place number file rest =
     let before = take (offset file rest) file in

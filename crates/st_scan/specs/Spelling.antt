@@ -19,7 +19,7 @@ abbrev pub begins_lower : List ℕ → Bool
 begins_lower [] = false
 begins_lower (b ∷ bs) = is_lower b
 
--- a lower-case letter stands anywhere
+-- a lower-case letter stands among these bytes
 abbrev pub has_lower : List ℕ → Bool
 has_lower bs = list_any is_lower bs
 

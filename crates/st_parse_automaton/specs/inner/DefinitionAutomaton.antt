@@ -343,7 +343,7 @@ own position.PremiseOpen l ks = premise_word l.keyword l ks
 own position.GoalColon l ks = when (signed is_colon l) (start_of slot.Condition ks)
 own (position.Iterated m) l ks = iterate m l ks
 
--- the first of two, where there is one
+-- the first of two states, or the second where there is no first
 abbrev pub first_of_two : Option State → Option State → Option State
 first_of_two (Some st) o = Some st
 first_of_two None o = o

@@ -236,7 +236,7 @@ abbrev pub plain_expected : Bracket → Expected
 plain_expected bracket.Brace = Label
 plain_expected b = Operand
 
--- the arguments of a function close that are none
+-- `)` closes the arguments of a function, which are none
 abbrev pub no_arguments : List Frame → Option State
 no_arguments (Within Arguments Empty t σ ∷ fs) = Some (settle Whole fs)
 no_arguments fs = None
