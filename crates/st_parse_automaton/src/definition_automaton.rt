@@ -20,7 +20,7 @@ use st_grammar::{Bracket, Closing, Keyword};
 use st_num::{NoMemory, Row};
 use std::alloc::Global;
 
-/// Begins a next definition, whose name is due, where the word is one of its first words.
+/// A next definition begins with such a word: its name is due.
 fn begin_definition(keyword: Keyword, brackets: Row<Bracket>) -> Option<Progress>
     ensures { option_map progress_of result ≡ definitions.begin_def keyword (reverse brackets) }
 {

@@ -22,8 +22,8 @@ pub fn first_refused(alloc: Global, tokens: &[Token]) -> Result<Option<usize>, N
     Ok(found)
 }
 
-/// The number of the first token that no definitions have behind those before it, where these are
-/// the names that directly follow the word `var`.
+/// The number of the first token that no definitions have behind those before it, or of all tokens
+/// where they end too early, where these are the names that directly follow the word `var`.
 fn read_tokens(alloc: Global, names: &[Name], tokens: &[Token]) -> Result<Option<usize>, NoMemory>
     requires { names.now ≡ terminals.declared_names tokens.now }
     ensures none { IfOk result (λ found. IfNone found (AreDefinitions tokens.now)) }
