@@ -16,6 +16,7 @@ variable_past d = place_past MOST_PREMISES (def_variables d)
 abbrev pub tall_at : Span → ℕ → Option Span
 tall_at at height = if nat_lt HIGHEST_TREE height then Some at else None
 
+-- the place of a definition that has a tree higher than a tree may be
 abbrev pub too_tall : Def → Option Span
 too_tall d = tall_at d.at (def_height d)
 

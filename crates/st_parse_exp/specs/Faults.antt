@@ -32,6 +32,7 @@ passes_limit seen = list_any tally_passes (part_tallies 0 seen.state.here)
 abbrev pub refusal : Seen → Token → RuleId
 refusal seen x = if left_out before.Other seen.nesting x.kind then S4 else S1
 
+-- what is known behind a token that the reading takes, where no limit is passed
 abbrev pub kept : Seen → Terminal → Verdict Seen
 kept seen l = limited (opens_too_many seen l) (passes_limit seen) seen
 
@@ -39,6 +40,7 @@ kept seen l = limited (opens_too_many seen l) (passes_limit seen) seen
 abbrev pub seen_after : Seen → Terminal → State → Seen
 seen_after seen l next = record { state = next; nesting = nesting_after seen.nesting l }
 
+-- the verdict on a token: it breaks a rule, or leads on to this state of the reading
 abbrev pub judged : Seen → Token → Terminal → Option State → Verdict Seen
 judged seen x l None = broken (refusal seen x)
 judged seen x l (Some next) = kept (seen_after seen l next) l
@@ -47,6 +49,7 @@ judged seen x l (Some next) = kept (seen_after seen l next) l
 abbrev pub judge : List (List ℕ) → Seen → Token → Verdict Seen
 judge names seen x = judged seen x (terminal names x) (step seen.state (terminal names x))
 
+-- before the first token nothing is read, and no bracket is open
 abbrev pub nothing_seen : Seen
 nothing_seen = record { state = start; nesting = 0 }
 
@@ -54,7 +57,7 @@ nothing_seen = record { state = start; nesting = 0 }
 abbrev pub verdict : List (List ℕ) → List Token → ℕ → Verdict Seen
 verdict names tokens k = verdict_on (judge names) nothing_seen tokens k
 
--- what is read, where it may end
+-- the expressions that are read, where they may end here
 abbrev pub ended : Seen → Option Trees
 ended seen = finish seen.state
 

@@ -42,6 +42,7 @@ AreWhole tokens es (Err (Refused at rule)) =
     (HIGHEST_TREE < highest (map height es)) × (rule ≡ S2) × (at ≡ place_at tokens 0)
 AreWhole tokens es (Err Memory) = ⊤
 
+-- what the parser answers: the expressions, the first fault, or that memory is short
 abbrev pub Answers : List (List ℕ) → List Token → Result (List Exp) SyntaxFault → Type 0
 Answers names tokens (Ok exps) =
     IsFile names tokens exps × (highest (map height exps) ≤ HIGHEST_TREE)

@@ -27,7 +27,7 @@ bytes_of (token k text ∷ ps) = text ++ bytes_of ps
 
 -- ---- what may stand directly behind a token
 
--- with a byte behind it, the front of a comment
+-- The text of a token and a byte behind it are the front of a comment.
 abbrev pub opens_with : List ℕ → ℕ → Bool
 opens_with (a ∷ []) b = opens a b || starts_line a b
 opens_with text b = false
