@@ -15,7 +15,8 @@ use Rattle.st_parse_builder.specs.Heights.{highest, height_count_at, height_node
 abbrev pub count_height : Count → ℕ
 count_height = fold-Count ℕ ℕ ℕ ℕ height_count_at height_node_at height_seg_at height_exp_at
 
--- the height of the highest part of a premise: its expression, or the premise that it iterates
+-- the height of the highest part of a premise: an expression, or a premise that is iterated and
+-- its count
 abbrev pub prem_node_height_at : PremNode-F ℕ ℕ → ℕ
 prem_node_height_at (PremNode-F.If e) = height e
 prem_node_height_at (PremNode-F.Goal name e) = height e

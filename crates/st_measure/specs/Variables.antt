@@ -41,7 +41,7 @@ pub record Times : Type 0 where
   pub index : List (List ℕ)
   pub count : Seen
 
--- what occurs in an iteration: in its body, but not its index there, and in its count outside of it
+-- what occurs in an iteration: in its body without its index, and behind that in its count
 abbrev pub iterated : Seen → Times → Seen
 iterated body times = without times.index body ++ times.count
 

@@ -134,7 +134,7 @@ abbrev pub in_parens : List Exp → Node
 in_parens (e ∷ []) = node.Paren e
 in_parens es = node.Tuple es
 
--- One part in a bracket: backquoted ones are named by their opening sign, and `$( )` is arithmetic.
+-- one part in a bracket: backquoted ones are named by their opening sign, `$( )` is arithmetic
 abbrev pub enclosed : Bracket → Exp → Node
 enclosed tick_round e = node.Bracket mark.TickParen e
 enclosed tick_square e = node.Bracket mark.TickBracket e

@@ -39,6 +39,7 @@ pub record Work : Type 0 where
   pub marks : List Mark
   pub words : List (TokenClass × Token)
 
+-- the work that a draft and the parts of the code are
 abbrev pub work_of : Draft → Parts → Work
 work_of d p =
     record {
@@ -95,6 +96,7 @@ position_work after p l x w = redrafted_work after p l x w
 
 -- ---- the end of a part
 
+-- the arguments, with one more where the part that ended is one
 abbrev pub arguments_with : Slot → List Action → List (List Action) → List (List Action)
 arguments_with (slot.Argument e t) acts arguments = arguments ++ acts ∷ []
 arguments_with s acts arguments = arguments

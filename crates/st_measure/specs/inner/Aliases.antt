@@ -4,6 +4,7 @@ use Rattle.st_grammar.specs.declared.sort.Leaf.TheVariants as leaf
 use Rattle.st_parse_builder.specs.declared.action.Action.{Action}
 use Rattle.st_parse_builder.specs.declared.action.Action.TheVariants as action
 
+-- The action makes a type of what is on top: a name, an iteration sign or closed parentheses do.
 abbrev pub makes_type : Action → Bool
 makes_type (action.Operand leaf.Low x) = true
 makes_type (action.Operand leaf.Basic x) = true

@@ -14,9 +14,11 @@ use Rattle.st_parse_faults.specs.inner.Seen.{Summary, Verdict, passed, broken}
 abbrev pub separates : definitions.State → TokenClass → Bool
 separates st l = definitions.signed is_comma l && definitions.may_end st
 
+-- what is known where a next expression begins, with the open brackets told before it
 abbrev pub begun : Summary → Summary
 begun v = seen.nothing_counted (definitions.start_of slot.Rule []) v.nesting
 
+-- A part is read, and not what stands between parts.
 abbrev pub is_inside : definitions.State → Bool
 is_inside (definitions.inside s st ks) = true
 is_inside (definitions.at p ks) = false
@@ -26,5 +28,6 @@ abbrev pub alone : Verdict → Verdict
 alone (passed v) = if is_inside v.state then passed v else broken S1
 alone (broken r) = broken r
 
+-- the verdict on a token: a comma begins a next expression, and another goes on with the open one
 abbrev pub judge : Summary → TokenKind → TokenClass → Verdict
 judge v k l = if separates v.state l then passed (begun v) else alone (seen.judge v k l)
