@@ -25,7 +25,7 @@ names_definition position.VarName = true
 names_definition position.FunName = true
 names_definition p = false
 
--- what ends behind hints, where a next definition may begin there
+-- what of a definition ends where its hints may stand
 abbrev pub host_ending : Host → Ending
 host_ending host.Case = ending.Cases false
 host_ending host.Var = ending.Var
@@ -46,7 +46,7 @@ keeps_hints host.Field = false
 keeps_hints host.Case = false
 keeps_hints h = true
 
--- what a token changes where hints may stand and none begins
+-- what a token changes where hints may stand
 abbrev pub behind_hints : Host → Position → Change
 behind_hints h (position.SyntaxId d) = change.Id
 behind_hints h position.Between = change.End ending.Fields
@@ -69,7 +69,7 @@ in_premise position.PremiseOpen = change.Parenthesis
 in_premise position.GoalColon = change.Goal
 in_premise p = change.Otherwise
 
--- what a token changes in the name of a fragment or a rule
+-- what a token changes in the name of a fragment or a rule, or before that of a rule
 abbrev pub in_id : Position → Change
 in_id (position.SyntaxId d) = change.Id
 in_id (position.RuleId d) = change.Id

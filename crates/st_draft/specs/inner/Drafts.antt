@@ -40,7 +40,7 @@ use Rattle.st_draft.specs.declared.change.Change.TheVariants as change
 
 -- ---- nothing yet
 
--- the hint before one is read
+-- a hint without a name and without a word
 abbrev pub no_hint : Hint
 no_hint = record { name = []; words = [] }
 
@@ -52,7 +52,7 @@ no_members = record { label = []; fields = []; dots = false; notations = [] }
 abbrev pub no_sides : Sides
 no_sides = record { clause = false; params = []; args = []; typ = None; exp = None }
 
--- these premises are whole, and none is open.
+-- These premises are whole, and none is open.
 abbrev pub premises_so_far : List Prem → Premises
 premises_so_far ps =
     record { whole = ps; at = nowhere; opened = []; start = nowhere; goal = None; prem = None }
@@ -139,7 +139,7 @@ with_premises p d =
 
 -- ---- heads and hints
 
--- the name of the definition is this token.
+-- the head of a definition that this token names
 abbrev pub named : Token → Head → Head
 named x h = record { at = h.at; name = name_of x.kind; id = h.id }
 
@@ -148,7 +148,7 @@ abbrev pub id_with : Option (List ℕ) → TokenKind → List ℕ
 id_with None k = []
 id_with (Some text) k = text ++ piece_text k
 
--- the name of the fragment or rule, with one more token
+-- the head with one more token of the name of a fragment or rule
 abbrev pub identified : Token → Head → Head
 identified x h = record { at = h.at; name = h.name; id = Some (id_with h.id x.kind) }
 
@@ -170,7 +170,7 @@ hints_with b h hs = if b then hs ++ h ∷ [] else hs
 abbrev pub dotted : Members → Members
 dotted ms = record { label = ms.label; fields = ms.fields; dots = true; notations = ms.notations }
 
--- the name of the next field is this token.
+-- The next field is named by this token.
 abbrev pub labelled : Token → Members → Members
 labelled x ms =
     record {
@@ -190,7 +190,7 @@ field_put t ms =
       notations = ms.notations;
     }
 
--- one more alternative
+-- one more alternative, or the notation of a relation
 abbrev pub notation_put : Notation → Members → Members
 notation_put n ms =
     record {
@@ -202,16 +202,16 @@ notation_put n ms =
 
 -- ---- sides
 
--- the arguments are the types of parameters.
+-- The arguments are the types of parameters.
 abbrev pub params_put : List Typ → Sides → Sides
 params_put ts s =
     record { clause = false; params = ts; args = s.args; typ = s.typ; exp = s.exp }
 
--- the arguments are the patterns of a clause.
+-- The arguments are the patterns of a clause.
 abbrev pub args_put : List Exp → Sides → Sides
 args_put es s = record { clause = true; params = s.params; args = es; typ = s.typ; exp = s.exp }
 
--- the type of a variable, a field or a result of a function
+-- the type of a variable, or of the result of a function
 abbrev pub typ_put : Typ → Sides → Sides
 typ_put t s =
     record { clause = s.clause; params = s.params; args = s.args; typ = Some t; exp = s.exp }
@@ -232,7 +232,7 @@ whole_prem at (Some p) = prem_at at (out-Prem p).node ∷ []
 abbrev pub prem_whole : Bool → Premises → List Prem
 prem_whole b p = if b then p.whole ++ whole_prem p.at p.prem else p.whole
 
--- the next premise begins with its `--`, behind one that may be whole
+-- The next premise begins with this `--`, behind one that may be whole.
 abbrev pub premise_begun : Bool → Token → Premises → Premises
 premise_begun b x p =
     record {
@@ -256,7 +256,7 @@ premise_opened x p =
       prem = p.prem;
     }
 
--- a condition begins with this token, and may name a relation
+-- A condition begins with this token, and may name a relation.
 abbrev pub condition_begun : Token → Option (List ℕ) → Premises → Premises
 condition_begun x goal p =
     record {
@@ -268,11 +268,11 @@ condition_begun x goal p =
       prem = p.prem;
     }
 
--- the premise is `otherwise`, and whole
+-- The open premise is `otherwise`, and whole.
 abbrev pub otherwise_put : Premises → Premises
 otherwise_put p = premises_so_far (p.whole ++ prem_at p.at prem.Otherwise ∷ [])
 
--- what a condition asks: an expression, or one that a relation holds of
+-- what a condition asks: that an expression holds, or that the relation of this name does
 abbrev pub condition_node : Option (List ℕ) → Exp → PremNode
 condition_node None e = prem.If e
 condition_node (Some name) e = prem.Goal name e
@@ -289,7 +289,7 @@ condition_put e p =
       prem = Some (prem_at p.start (condition_node p.goal e));
     }
 
--- a place, or none known
+-- the place, and no place of the text where there is none
 abbrev pub span_or : Option Span → Span
 span_or None = nowhere
 span_or (Some at) = at
@@ -299,7 +299,7 @@ abbrev pub each_of : Span → Count → Option Prem → Option Prem
 each_of at c None = None
 each_of at c (Some p) = Some (prem_at at (prem.Each p c))
 
--- the open premise so far is iterated, with so many parentheses open round it.
+-- The open premise so far is iterated, with so many parentheses open round it.
 abbrev pub each_put : ℕ → Count → Premises → Premises
 each_put n c p =
     record {
@@ -323,7 +323,8 @@ abbrev pub alias_or : NotNode-F NotNode Notation → Notation → Body
 alias_or (NotNode-F.Hole t) n = body.Alias t
 alias_or k n = body.Cases false (n ∷ []) false
 
--- the alternatives of a syntax, with dots before and behind them or without
+-- what a syntax is defined by, with dots before and behind the alternatives or without: an alias,
+-- or a variant
 abbrev pub body_of : Bool → List Notation → Bool → Body
 body_of false (n ∷ []) false = alias_or (out-NotNode (out-Notation n).node) n
 body_of b ns c = body.Cases b ns c

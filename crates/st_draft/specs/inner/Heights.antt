@@ -10,7 +10,7 @@ use Rattle.st_measure.specs.inner.Answers.{lone_typ}
 use Rattle.st_measure.specs.DefHeights.{prem_height, field_type_height, def_height}
 use Rattle.st_draft.specs.declared.draft.Draft.{Draft}
 
--- the height of a type where there is one, and else this one
+-- the height of the type where there is one, and else this height
 abbrev pub height_or : ℕ → Option Typ → ℕ
 height_or tall None = tall
 height_or tall (Some t) = typ_height t

@@ -39,7 +39,7 @@ pub record Work : Type 0 where
   pub marks : List Mark
   pub words : List (TokenClass × Token)
 
--- the work that a draft and the parts of the code are
+-- a draft and what the code keeps of a part, as one work
 abbrev pub work_of : Draft → Parts → Work
 work_of d p =
     record {

@@ -30,7 +30,7 @@ abbrev pub typ_in : NotNode-F NotNode Notation → Option Typ
 typ_in (NotNode-F.Hole t) = Some t
 typ_in n = None
 
--- the type that a notation is, where it is a type alone, told of the notation with its place
+-- the same of a notation with its place
 abbrev pub lone_typ : Notation → Option Typ
 lone_typ n = typ_in (out-NotNode (out-Notation n).node)
 

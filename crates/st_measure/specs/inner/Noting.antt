@@ -24,7 +24,7 @@ operand_step leaf.Basic x = Occurs x
 operand_step leaf.Variable x = Occurs x
 operand_step k x = Begins None
 
--- what an action does to the pieces: it begins one, or takes so many above one into it
+-- the step that an action is: a piece begins, or takes so many on top of it
 abbrev pub step_of : Action → Step
 step_of (action.Operand k x) = operand_step k x
 step_of (action.Label x) = Begins (Some x)

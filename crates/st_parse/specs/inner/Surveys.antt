@@ -65,7 +65,7 @@ notation_heights n =
 
 -- ---- drafts
 
--- This is measured of fields and alternatives.
+-- This is measured of these fields and alternatives.
 pub record OfMembers (ms : Members) (m : MemberHeights) : Type 0 where
   pub dots : m.dots ≡ ms.dots
   pub fields : m.fields ≡ capped (highest (map field_type_height ms.fields))

@@ -105,7 +105,7 @@ abbrev pub call_name : Node-F Count Node Seg Exp → Option (List ℕ)
 call_name (Node-F.Call name []) = Some name
 call_name n = None
 
--- a function alone becomes the call with these arguments.
+-- A function alone becomes its call with these arguments.
 abbrev pub called : Exp → List Exp → Stack → Option Stack
 called e es s =
     option_and_then (λ name. put (Done (exp (place e) (node.Call name es))) s)

@@ -88,7 +88,7 @@ no_arguments_end x (within (arguments f o) ts pre fs) =
     action.EndCall ∷ settling (bracket (arguments f o) none x) fs
 no_arguments_end x fs = []
 
--- A bar begins a length, and `)` ends arguments that are none.
+-- A closing sign where an operand is due: a bar begins a length, `)` ends arguments that are none.
 abbrev pub beginning_closing : Closing → Token → Frames → List Action
 beginning_closing by_bar x fs = opening_acts (length x)
 beginning_closing by_round x fs = no_arguments_end x fs
@@ -114,7 +114,7 @@ abbrev pub extending : Frames → List Action
 extending (over (items ts) fs) = item_act ts ∷ []
 extending fs = action.First ∷ []
 
--- A sign that sets off the parts of a bracket ends the part before it.
+-- what ends a part of the innermost bracket, where a sign sets off the next one
 abbrev pub separating : Frames → List Action
 separating (within h ts pre fs) = part_end h
 separating fs = []
@@ -169,7 +169,7 @@ path_step_acts p fs l = index_acts_in p fs l
 abbrev pub name_acts : Heading → Terminal → List Action
 name_acts h l = inner_acts h [] [] (action.Label (token_in l) ∷ [])
 
--- the name of an index in a count
+-- the action of the name of an index in a count
 abbrev pub name_index_acts : Frames → Terminal → List Action
 name_index_acts fs (leaf low i) = index_label i fs
 name_index_acts fs l = []
@@ -190,7 +190,7 @@ abbrev pub finishing : State → List Action
 finishing (got t fs) = lowering 0 fs
 finishing st = []
 
--- what this tells of the next state, where the token leads to one
+-- the actions from the next state on, where there is one
 abbrev pub on_next : (State → List Action) → Option State → List Action
 on_next f None = []
 on_next f (Some next) = f next

@@ -14,11 +14,11 @@ use Rattle.st_parse_faults.specs.inner.Seen.{Summary, Verdict, passed, broken}
 abbrev pub separates : definitions.State → TokenClass → Bool
 separates st l = definitions.signed is_comma l && definitions.may_end st
 
--- what is known where a next expression begins, with the open brackets told before it
+-- what is known where a next expression begins, with as many brackets open as before
 abbrev pub begun : Summary → Summary
 begun v = seen.nothing_counted (definitions.start_of slot.Rule []) v.nesting
 
--- A part is read, and not what stands between parts.
+-- The reading is in a part, and not at a position between parts.
 abbrev pub is_inside : definitions.State → Bool
 is_inside (definitions.inside s st ks) = true
 is_inside (definitions.at p ks) = false
