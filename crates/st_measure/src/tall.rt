@@ -107,7 +107,7 @@ fn path_height(path: &[Seg]) -> usize
     highest
 }
 
-/// The height of the highest expression in a step of a path, told so too.
+/// The height of the highest expression in a step of a path, and 101 where that is higher than 100.
 #[cycle(height)]
 fn seg_height(seg: &Seg) -> usize
     ensures { result ≡ capped (tall.seg_height seg.now) }
@@ -119,7 +119,7 @@ fn seg_height(seg: &Seg) -> usize
     }
 }
 
-/// The height of the expression in a count, told so too.
+/// The height of the expression in a count, and 101 where that is higher than 100.
 #[cycle(height)]
 fn count_height(count: &Count) -> usize
     ensures { result ≡ capped (count_height count.now) }

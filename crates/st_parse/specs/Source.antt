@@ -36,6 +36,7 @@ pub record Front (tokens : List Token) : Type 0 where
   pub count : ℕ
   pub seen : Seen
   pub faultless : verdict tokens count ≡ passed seen
+  -- Behind them the tokens end, or the next one has a fault.
   pub longest : (count ≡ length tokens)
       ⊎ ((r : RuleId) × (count < length tokens) × (verdict tokens (count + 1) ≡ broken r))
 

@@ -28,7 +28,7 @@ fn end_no_arguments<'a>(frames: &[Frame], actions: &mut Row<Action<'a>>) -> Resu
     }
 }
 
-/// A closing sign where an operand is due: a bar begins a length, `)` ends a call without arguments.
+/// A closing sign where an operand is due: a bar begins a length, `)` ends an empty call.
 fn begin_closing<'a>(
     frames: &[Frame],
     closing: Closing,

@@ -103,7 +103,7 @@ pub(crate) fn pull(sort: Sort, mark: Mark) -> u8
     if sort.has_level(level) { level } else { 0 }
 }
 
-/// Whether a part reads as a type.
+/// Whether a part is a name or parentheses, which can be a type.
 fn is_type(part: Part) -> bool
     ensures { result ≡ parts.is_type part }
 {

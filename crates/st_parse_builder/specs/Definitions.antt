@@ -62,7 +62,7 @@ rule_name (s ∷ ls) = id_text ls
 
 -- ---- hints
 
--- a hint keeps its name and the tokens between its parentheses
+-- A hint keeps its name and the tokens between its parentheses.
 abbrev pub hint_meaning : grammar.Hint → Hint
 hint_meaning (hint w o n ws c) = record { name = name_in n; words = map token_in ws }
 
@@ -89,7 +89,7 @@ has_dots_before (member no_members (d ∷ b ∷ []) t hs) = true
 has_dots_before (member ms pre t hs) = has_dots_before ms
 has_dots_before no_members = false
 
--- Dots stand behind the last one.
+-- Dots stand behind the last alternative.
 abbrev pub has_dots_behind : List Terminal → Bool
 has_dots_behind [] = false
 has_dots_behind (b ∷ ls) = true

@@ -221,7 +221,7 @@ abbrev mutual
   bracketed (update p m x) es fs = changed m (base p) (steps p) (only es)
   bracketed (below o i m x) es fs = only es
 
-  -- what a path goes into, and its steps
+  -- the expression that a path goes into
   pub base : Path → Exp
   base (head t o) = meaning t
   base (field p x) = base p

@@ -24,7 +24,7 @@ abbrev pub opens_too_many : Seen → Terminal → Bool
 opens_too_many seen l =
     may_open l && nat_lt HIGHEST_TREE (seen.nesting + part_bars seen.state.here)
 
--- Between some brackets of the expression, or outside all, a number is passed.
+-- Between some brackets of the open expression, or outside all, there are too many parts or signs.
 abbrev pub passes_limit : Seen → Bool
 passes_limit seen = list_any tally_passes (part_tallies 0 seen.state.here)
 
@@ -32,7 +32,7 @@ passes_limit seen = list_any tally_passes (part_tallies 0 seen.state.here)
 abbrev pub refusal : Seen → Token → RuleId
 refusal seen x = if left_out before.Other seen.nesting x.kind then S4 else S1
 
--- what is known behind a token that the reading takes, where no limit is passed
+-- what is known behind a token that is read, or the limit that is passed there
 abbrev pub kept : Seen → Terminal → Verdict Seen
 kept seen l = limited (opens_too_many seen l) (passes_limit seen) seen
 
@@ -45,11 +45,11 @@ abbrev pub judged : Seen → Token → Terminal → Option State → Verdict See
 judged seen x l None = broken (refusal seen x)
 judged seen x l (Some next) = kept (seen_after seen l next) l
 
--- one token behind what is seen, where these names are declared by `var`
+-- the verdict on one token behind what is seen, where these names are declared by `var`
 abbrev pub judge : List (List ℕ) → Seen → Token → Verdict Seen
 judge names seen x = judged seen x (terminal names x) (step seen.state (terminal names x))
 
--- before the first token nothing is read, and no bracket is open
+-- Before the first token nothing is read, and no bracket is open.
 abbrev pub nothing_seen : Seen
 nothing_seen = record { state = start; nesting = 0 }
 

@@ -17,6 +17,7 @@ use Rattle.st_parse_exp.specs.Faults.{Faultless, FirstFault}
 
 -- the tokens mean these expressions, where these names are declared by `var`
 pub record ParseExps (names : List (List ℕ)) (tokens : List Token) (exps : List Exp) : Type 0 where
+  -- what the grammar reads the tokens as
   pub trees : Trees
   pub grammar : ParseExpressions (terminals_of names tokens) trees
   pub meant : meanings trees ≡ exps

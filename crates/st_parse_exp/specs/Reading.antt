@@ -14,7 +14,7 @@ pub record State : Type 0 where
   pub apart : List Terminal
   pub here : part.State
 
--- a next expression begins
+-- how far it is read where a next expression begins, behind these
 abbrev pub begun : Trees → List Terminal → State
 begun ts pre = record { before = ts; apart = pre; here = part.start (expression false) }
 
@@ -52,6 +52,6 @@ reading st (l ∷ w) = option_and_then (λ next. reading next w) (step st l)
 abbrev pub reads : State → List Terminal → Option Trees
 reads st w = option_and_then finish (reading st w)
 
--- before the first token an expression is due
+-- Before the first token an expression is due.
 abbrev pub start : State
 start = begun none []

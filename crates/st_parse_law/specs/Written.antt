@@ -65,7 +65,7 @@ shapes_behind touching [] = []
 shapes_behind touching (space ∷ ps) = shapes_behind false ps
 shapes_behind touching (token k text ∷ ps) = (k, touching) ∷ shapes_behind true ps
 
--- At the start of a file nothing stands between.
+-- the same of a whole file, whose start the first token touches where no blank is before it
 abbrev pub shapes : List Piece → List (TokenKind × Bool)
 shapes ps = shapes_behind true ps
 

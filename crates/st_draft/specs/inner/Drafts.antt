@@ -139,7 +139,7 @@ with_premises p d =
 
 -- ---- heads and hints
 
--- the head of a definition that this token names
+-- the head with this token as the name of the definition
 abbrev pub named : Token → Head → Head
 named x h = record { at = h.at; name = name_of x.kind; id = h.id }
 
@@ -223,12 +223,12 @@ exp_put e s =
 
 -- ---- premises
 
--- A whole premise begins with its `--`.
+-- the open premise, placed at its `--`, where there is one
 abbrev pub whole_prem : Span → Option Prem → List Prem
 whole_prem at None = []
 whole_prem at (Some p) = prem_at at (out-Prem p).node ∷ []
 
--- the premise so far is whole
+-- the whole premises, also the open one where that is whole
 abbrev pub prem_whole : Bool → Premises → List Prem
 prem_whole b p = if b then p.whole ++ whole_prem p.at p.prem else p.whole
 
@@ -289,7 +289,7 @@ condition_put e p =
       prem = Some (prem_at p.start (condition_node p.goal e));
     }
 
--- the place, and no place of the text where there is none
+-- the place, and nowhere in the text where there is none
 abbrev pub span_or : Option Span → Span
 span_or None = nowhere
 span_or (Some at) = at

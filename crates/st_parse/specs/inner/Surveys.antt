@@ -49,7 +49,7 @@ OfPrems ps m = Is (highest (map prem_height ps)) (flat_map prem_variables ps) m
 abbrev pub OfNode : DefNode → Measure → Type 0
 OfNode n m = Is (def_node_height n) (def_node_variables n) m
 
--- where there is one, of it
+-- This is measured of what there is, and nothing where there is none.
 abbrev pub OfAny : {A : Type 0} → (A → Measure → Type 0) → Option A → Option Measure → Type 0
 OfAny of None m = m ≡ None
 OfAny of (Some a) None = ⊥

@@ -38,7 +38,7 @@ abbrev pub index_label : Token → List Frame → List Action
 index_label i (Timing ∷ fs) = action.Label i ∷ []
 index_label i fs = []
 
--- a count that has an index, or has none
+-- the action of a count that has an index, or has none
 abbrev pub count_act : Bool → Action
 count_act true = action.Below
 count_act false = action.Times
@@ -64,19 +64,19 @@ abbrev pub lowering : ℕ → List Frame → List Action
 lowering n [] = []
 lowering n (f ∷ fs) = lead_closes (lowering n fs) (parts.closes f n)
 
--- behind a part of a bracket
+-- what ends a part of a bracket
 abbrev pub part_end : Kind → List Action
 part_end (Plain bracket.Round) = action.Part ∷ []
 part_end (Plain bracket.Brace) = action.Field ∷ []
 part_end Arguments = action.Part ∷ []
 part_end k = []
 
--- One part stands before the last one, or none.
+-- the action of a position, or of a position and how many elements where a part stands before
 abbrev pub at_act : Filling → Action
 at_act Parts = action.Slice
 at_act f = action.At
 
--- the same in a path
+-- the action of the same as a step of a path
 abbrev pub step_act : Filling → Action
 step_act Parts = action.StepSlice
 step_act f = action.StepAt

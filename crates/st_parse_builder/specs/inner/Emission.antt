@@ -65,7 +65,7 @@ abbrev pub lowering : ℕ → Frames → List Action
 lowering n (over g fs) = if nat_le (reach g) n then [] else end_acts g ++ lowering n fs
 lowering n fs = []
 
--- behind a part of a bracket: the sort of bracket
+-- what ends a part of a bracket: the sort of bracket
 abbrev pub part_end : Heading → List Action
 part_end h = inner_acts h [] (action.Part ∷ []) (action.Field ∷ [])
 
@@ -82,13 +82,13 @@ closed x p = []
 
 -- ---- what begins
 
--- arguments that are none
+-- A call without arguments ends.
 abbrev pub no_arguments_end : Token → Frames → List Action
 no_arguments_end x (within (arguments f o) ts pre fs) =
     action.EndCall ∷ settling (bracket (arguments f o) none x) fs
 no_arguments_end x fs = []
 
--- A closing sign where an operand is due: a bar begins a length, `)` ends arguments that are none.
+-- a closing sign where an operand is due: a bar begins a length, `)` ends a call without arguments
 abbrev pub beginning_closing : Closing → Token → Frames → List Action
 beginning_closing by_bar x fs = opening_acts (length x)
 beginning_closing by_round x fs = no_arguments_end x fs
@@ -124,8 +124,8 @@ abbrev pub joining : Mark → Frames → List Action
 joining m fs =
     if has_level (sort fs) (level_of m) && nat_le (least fs) (level_of m) then [] else separating fs
 
--- a sign behind a part: it iterates the part, or closes what holds tighter, and then joins or
--- sets off
+-- a sign behind a part: it iterates the part, or closes what binds tighter and joins sides or
+-- sets off parts
 abbrev pub behind_sign_acts : Mark → Token → Tree → Frames → List Action
 behind_sign_acts m x t fs =
     if may_post (sort fs) t (sign m x) then post_acts (sign m x)

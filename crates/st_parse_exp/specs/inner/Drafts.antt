@@ -45,6 +45,7 @@ draft es ms done = record { exps = es; marks = ms; actions = done }
 pub record Ends (st : parts.State) (old new : Draft) : Type 0 where
   pub marks : new.marks ≡ []
   pub actions : new.actions ≡ []
+  -- The expression that the actions build is one more of those that are built.
   pub exps : (t : Tree) (es : List Exp) → Fits (expression false) t
       → acts t ≡ old.actions ++ emits.finishing st → AreBuilt es old.exps
       → AreBuilt (es ++ meaning t ∷ []) new.exps
