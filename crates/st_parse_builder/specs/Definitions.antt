@@ -98,8 +98,8 @@ has_dots_behind (b ∷ ls) = true
 abbrev pub variant : Members → List Terminal → Body
 variant ms ls = body.Cases (has_dots_before ms) (cases_meaning ms) (has_dots_behind ls)
 
--- What a syntax is defined by:
--- one alternative without dots that is a type is an alias, also with a bar before it.
+-- What a syntax is defined by. One alternative without dots that is a type is an alias, also with a
+-- bar before it.
 abbrev pub body_meaning : grammar.Body → Body
 body_meaning (fields o ms c) = body.Fields (fields_meaning ms)
 body_meaning (cases (member no_members (d ∷ b ∷ []) t hs) ls) =

@@ -1,5 +1,5 @@
--- The same of what the parser keeps: an expression is read as the conclusion of a rule, behind
--- which nothing but a comma stands.
+-- The verdicts on tokens of expressions, told of what the parser keeps: an expression is read as
+-- the conclusion of a rule, behind which nothing but a comma stands.
 use Rattle.std.specs.Prelude.{[], Bool, true, false, ◌&&◌, if◌then◌else◌}
 use Rattle.st_num.specs.declared.rule.RuleId.TheVariants.{S1}
 use Rattle.st_scan.specs.declared.token.TokenKind.{TokenKind}
