@@ -5,13 +5,16 @@ use Rattle.st_grammar.specs.Positions.{Head, syntax_head, Rule, rule_head, claus
 
 -- ---- the definitions before the one that is read
 
+-- the definitions before a syntax that is open
 abbrev pub head_before : Head → Defs
 head_before (syntax_head ds w x ls hs e) = ds
 
+-- the definitions before a rule or a clause that is open
 abbrev pub rule_before : Rule → Defs
 rule_before (rule_head ds w r ls c) = ds
 rule_before (clause_head ds w f a e) = ds
 
+-- the definitions before the one whose hints are read
 abbrev pub host_before : Host → Defs
 host_before (of_syntax ds w x ls) = ds
 host_before (of_field h o ms pre t) = head_before h
@@ -21,6 +24,7 @@ host_before (of_relation ds w r) = ds
 host_before (of_notation ds w r hs c t) = ds
 host_before (of_fun ds w f a c t) = ds
 
+-- the definitions before the one that a part is read for
 abbrev pub slot_before : Slot → Defs
 slot_before (field_slot h o ms pre) = head_before h
 slot_before (case_slot h ms pre) = head_before h
@@ -32,6 +36,7 @@ slot_before (rule_slot r) = rule_before r
 slot_before (cond_slot r t ps d os ls) = rule_before r
 slot_before (count_slot r t ps d os ls u i l) = rule_before r
 
+-- the definitions before the one that stands open at a position between tokens
 abbrev pub position_before : Position → Defs
 position_before (between ds) = ds
 position_before (syntax_name ds w) = ds
@@ -58,15 +63,18 @@ position_before (premise_open r t ps d os) = rule_before r
 position_before (goal_colon r t ps d os n) = rule_before r
 position_before (iterated r t ps d os ls u i) = rule_before r
 
+-- the definitions before the one that is read, wherever in it the reading is
 abbrev pub before : State → Defs
 before (at p) = position_before p
 before (inside s st) = slot_before s
 
 -- ---- with it, where it may end
 
+-- the definitions with the open one, where it is whole, and else those before it
 abbrev pub defs_or : Defs → Option Defs → Defs
 defs_or ds None = ds
 defs_or ds (Some whole) = whole
 
+-- the definitions that stand whole: all before the open one, and that too where it may end
 abbrev pub known : State → Defs
 known st = defs_or (before st) (finish st)

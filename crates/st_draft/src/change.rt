@@ -57,6 +57,7 @@ pub enum Change {
     Mark(usize),
 }
 
+/// Whether the name of a definition is due, behind its word.
 fn names_definition(position: Position) -> bool
     ensures { result ≡ spec.names_definition position }
 {
@@ -102,6 +103,7 @@ fn keeps_hints(host: Host) -> bool
     !matches!(host, Host::Field | Host::Case)
 }
 
+/// What a token changes where hints may stand.
 fn behind_hints(host: Host, after: Position) -> Change
     ensures { result ≡ spec.behind_hints host after }
 {
@@ -118,6 +120,7 @@ fn behind_hints(host: Host, after: Position) -> Change
     }
 }
 
+/// What a token changes behind whole premises or a condition.
 fn in_premises(before: Position, after: Position) -> Change
     ensures { result ≡ spec.in_premises before after }
 {
@@ -128,6 +131,7 @@ fn in_premises(before: Position, after: Position) -> Change
     }
 }
 
+/// What a token changes behind `--` and the parentheses that are open.
 fn in_premise(after: Position) -> Change
     ensures { result ≡ spec.in_premise after }
 {
@@ -138,6 +142,7 @@ fn in_premise(after: Position) -> Change
     }
 }
 
+/// What a token changes in the name of a fragment or a rule, or before that of a rule.
 fn in_id(after: Position) -> Change
     ensures { result ≡ spec.in_id after }
 {
@@ -147,6 +152,7 @@ fn in_id(after: Position) -> Change
     }
 }
 
+/// What a token changes in a hint: it goes on with it, or ends it.
 fn in_hint(host: Host, after: Position) -> Change
     ensures { result ≡ spec.in_hint host after }
 {
@@ -156,6 +162,7 @@ fn in_hint(host: Host, after: Position) -> Change
     }
 }
 
+/// What a token changes that stands where a part may begin, but begins none.
 fn entering(after: Position) -> Change
     ensures { result ≡ spec.entering after }
 {
@@ -195,6 +202,7 @@ fn change_at(before: Position, after: Position) -> Change
     }
 }
 
+/// What the arguments of a function are, told by the part behind them.
 fn behind_arguments(slot: Slot) -> Change
     ensures { result ≡ spec.behind_arguments slot }
 {

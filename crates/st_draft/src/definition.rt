@@ -62,6 +62,7 @@ fn body_of(
     }
 }
 
+/// The declaration of a variable, where its type is known.
 fn var_of(name: Name, typ: Option<Typ>) -> Option<DefNode>
     ensures { result ≡ spec.var_of name typ }
 {
@@ -71,6 +72,7 @@ fn var_of(name: Name, typ: Option<Typ>) -> Option<DefNode>
     }
 }
 
+/// The declaration of a relation, where its one notation is known.
 fn relation_of(name: Name, mut notations: Row<Notation>) -> Option<DefNode>
     ensures { result ≡ spec.relation_of name notations }
 {
@@ -83,6 +85,7 @@ fn relation_of(name: Name, mut notations: Row<Notation>) -> Option<DefNode>
     }
 }
 
+/// The declaration of a function, where the type of its result is known.
 fn fun_of(name: Name, params: Row<Typ>, typ: Option<Typ>) -> Option<DefNode>
     ensures { result ≡ spec.fun_of name params typ }
 {
@@ -96,6 +99,7 @@ fn fun_of(name: Name, params: Row<Typ>, typ: Option<Typ>) -> Option<DefNode>
     }
 }
 
+/// The name, and the empty one where there is none.
 fn or_empty(alloc: Global, name: Option<Name>) -> Name
     ensures { result ≡ spec.or_empty name }
 {
@@ -105,6 +109,7 @@ fn or_empty(alloc: Global, name: Option<Name>) -> Name
     }
 }
 
+/// A rule or a clause, where its conclusion or result is known.
 fn rule_of(alloc: Global, head: Head, sides: Sides, premises: Row<Prem>) -> Option<DefNode>
     ensures { result ≡ spec.rule_of head sides sides.exp premises }
 {

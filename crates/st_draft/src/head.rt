@@ -56,6 +56,7 @@ fn identify(alloc: Global, head: &mut Head, token: &Token) -> Result<(), NoMemor
     Ok(())
 }
 
+/// A hint with this name, and no word behind it yet.
 fn hint_begun(alloc: Global, token: &Token) -> Result<Hint, NoMemory>
     ensures { IfOk result (λ hint. hint ≡ spec.hint_begun token.now) }
 {

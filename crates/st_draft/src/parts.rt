@@ -41,7 +41,7 @@ pub struct Parts<'a> {
     pub words: Row<Word<'a>>,
 }
 
-/// Nothing of a part.
+/// Nothing is read of a part yet.
 pub(crate) fn no_parts<'a>(alloc: Global) -> Parts<'a>
     ensures arguments { result.arguments ≡ [] }
     ensures actions { result.actions ≡ [] }

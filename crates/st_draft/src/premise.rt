@@ -136,6 +136,7 @@ pub(crate) fn put_otherwise(alloc: Global, draft: &mut Draft) -> Result<(), NoMe
     Ok(())
 }
 
+/// What a condition asks: that an expression holds, or that the relation of this name does.
 fn condition_node(goal: Option<Name>, exp: Exp) -> PremNode
     ensures { result ≡ spec.condition_node goal exp }
 {

@@ -8,7 +8,7 @@ use st_el::{Exp, Typ};
 use st_num::Row;
 use std::alloc::Global;
 
-/// None of them.
+/// No parameters, no arguments, no type and no expression.
 pub(crate) fn no_sides(alloc: Global) -> Sides
     ensures { result ≡ spec.no_sides }
 {

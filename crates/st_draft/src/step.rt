@@ -206,6 +206,7 @@ pub(crate) fn end_part<'a, S: Listener<'a>>(
     Ok(())
 }
 
+/// A copy of how far a part is read.
 fn copy_reading(alloc: Global, reading: &Reading) -> Result<Reading, NoMemory>
     ensures { IfOk result (λ copy. copy ≡ reading.now) }
 {

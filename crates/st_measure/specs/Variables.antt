@@ -14,18 +14,19 @@ use Rattle.st_el.specs.declared.definition.DefNode.TheVariants as def
 use Rattle.st_parse_builder.specs.Names.{name_of}
 use Rattle.st_num.specs.Names.{is_among}
 
--- a name and its place
+-- a name that stands in the text, and where it stands
 abbrev pub Occurrence : Type 0
 Occurrence = List ℕ × Span
 
--- the names that these tokens stand for
+-- the name that a token stands for, and where it stands
 abbrev pub occurrence : Token → Occurrence
 occurrence x = (name_of x.kind, x.at)
 
+-- those of several tokens, in a row
 abbrev pub occurrences : List Token → List Occurrence
 occurrences tokens = map occurrence tokens
 
--- those of other names
+-- what occurs with a name that is none of these
 abbrev pub without : List (List ℕ) → List Occurrence → List Occurrence
 without names occurring = filter (λ o. not (is_among o.0 names)) occurring
 
@@ -40,18 +41,21 @@ pub record Times : Type 0 where
   pub index : List (List ℕ)
   pub count : Seen
 
--- An index belongs to the body, and the count stands outside of it.
+-- what occurs in an iteration: in its body without its index, and behind that in its count
 abbrev pub iterated : Seen → Times → Seen
 iterated body times = without times.index body ++ times.count
 
+-- what occurs in several parts, one part behind the other
 abbrev pub in_all : List Seen → Seen
 in_all parts = flat_map (λ part. part) parts
 
+-- what a count says: its expression gives variables, `i < n` an index too, and a sign nothing
 abbrev pub times_at : Count-F Times (Span → Seen) Seen Seen → Times
 times_at (Count-F.Times e) = record { index = []; count = e }
 times_at (Count-F.Below name e) = record { index = name ∷ []; count = e }
 times_at c = record { index = []; count = [] }
 
+-- what occurs in the positions of a step of a path
 abbrev pub seg_variables_at : Seg-F Times (Span → Seen) Seen Seen → Seen
 seg_variables_at (Seg-F.Field name) = []
 seg_variables_at (Seg-F.Seg::At e) = e
@@ -80,19 +84,23 @@ node_variables_at (Node-F.Call name es) at = in_all es
 node_variables_at (Node-F.Iter e c) at = iterated e c
 node_variables_at n at = []
 
+-- what occurs in an expression, which is told where it begins
 abbrev pub exp_variables_at : Exp-F Times (Span → Seen) Seen Seen → Seen
 exp_variables_at e = e.node e.at
 
+-- the variables that occur in an expression
 abbrev pub variables : Exp → Seen
 variables =
     fold-Exp Times (Span → Seen) Seen Seen
     times_at node_variables_at seg_variables_at exp_variables_at
 
+-- the variables that occur in a step of a path
 abbrev pub seg_variables : Seg → Seen
 seg_variables =
     fold-Seg Times (Span → Seen) Seen Seen
     times_at node_variables_at seg_variables_at exp_variables_at
 
+-- the index of a count, and the variables that occur in it
 abbrev pub times : Count → Times
 times =
     fold-Count Times (Span → Seen) Seen Seen
@@ -100,12 +108,14 @@ times =
 
 -- ---- premises and definitions
 
+-- the variables of what a premise asks, and of an iteration of one those of its count too
 abbrev pub prem_node_variables_at : PremNode-F Seen Seen → Seen
 prem_node_variables_at (PremNode-F.If e) = variables e
 prem_node_variables_at (PremNode-F.Goal name e) = variables e
 prem_node_variables_at PremNode-F.Otherwise = []
 prem_node_variables_at (PremNode-F.Each p c) = iterated p (times c)
 
+-- the variables that occur in a premise
 abbrev pub prem_variables : Prem → Seen
 prem_variables =
     fold-Prem Seen Seen prem_node_variables_at (λ p. p.node)
@@ -117,5 +127,6 @@ def_node_variables (def.Clause name args e ps) =
     flat_map variables args ++ variables e ++ flat_map prem_variables ps
 def_node_variables d = []
 
+-- the variables that occur in a definition
 abbrev pub def_variables : Def → Seen
 def_variables d = def_node_variables d.node

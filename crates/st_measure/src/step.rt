@@ -19,12 +19,14 @@ pub enum Step<'a> {
     Indexes,
 }
 
+/// The same token once more.
 fn copy<'a>(token: &TokenRef<'a>) -> TokenRef<'a>
     ensures { result ≡ token.now }
 {
     TokenRef::new(token.get())
 }
 
+/// A name is a variable, and any other operand has none.
 fn operand_step<'a>(leaf: Leaf, token: &TokenRef<'a>) -> Step<'a>
     ensures { result ≡ operand_step leaf token.now }
 {

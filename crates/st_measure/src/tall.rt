@@ -32,6 +32,7 @@ pub fn exp_height(exp: &Exp) -> usize
     above(node_height(&exp.node))
 }
 
+/// The height of the highest part of an expression, and 101 where that is higher than 100.
 #[cycle(height)]
 fn node_height(node: &Node) -> usize
     ensures { result ≡ capped (node_height node.now) }
@@ -70,6 +71,7 @@ fn node_height(node: &Node) -> usize
     }
 }
 
+/// The height of the highest of these expressions, and 101 where that is higher than 100.
 #[cycle(height)]
 fn exps_height(exps: &[Exp]) -> usize
     ensures { result ≡ capped (tall.highest (map tall.height exps.now)) }
@@ -81,6 +83,7 @@ fn exps_height(exps: &[Exp]) -> usize
     highest
 }
 
+/// The height of the highest expression of these fields, and 101 where that is higher than 100.
 #[cycle(height)]
 fn fields_height(fields: &[(Name, Exp)]) -> usize
     ensures { result ≡ capped (tall.highest (map piece_heights.field_height fields.now)) }
@@ -92,6 +95,7 @@ fn fields_height(fields: &[(Name, Exp)]) -> usize
     highest
 }
 
+/// The height of the highest step of a path, and 101 where that is higher than 100.
 #[cycle(height)]
 fn path_height(path: &[Seg]) -> usize
     ensures { result ≡ capped (tall.highest (map tall.seg_height path.now)) }
@@ -103,6 +107,7 @@ fn path_height(path: &[Seg]) -> usize
     highest
 }
 
+/// The height of the highest expression in a step of a path, and 101 where that is higher than 100.
 #[cycle(height)]
 fn seg_height(seg: &Seg) -> usize
     ensures { result ≡ capped (tall.seg_height seg.now) }
@@ -114,6 +119,7 @@ fn seg_height(seg: &Seg) -> usize
     }
 }
 
+/// The height of the expression in a count, and 101 where that is higher than 100.
 #[cycle(height)]
 fn count_height(count: &Count) -> usize
     ensures { result ≡ capped (count_height count.now) }
@@ -132,6 +138,7 @@ pub fn typ_height(typ: &Typ) -> usize
     above(typ_node_height(&typ.node))
 }
 
+/// The height of the highest part of a type, and 101 where that is higher than 100.
 #[cycle(typ_height)]
 fn typ_node_height(node: &TypNode) -> usize
     ensures { result ≡ capped (typ_node_height node.now) }
@@ -143,6 +150,7 @@ fn typ_node_height(node: &TypNode) -> usize
     }
 }
 
+/// The height of the highest of these types, and 101 where that is higher than 100.
 #[cycle(typ_height)]
 fn typs_height(typs: &[Typ]) -> usize
     ensures { result ≡ capped (tall.highest (map tall.typ_height typs.now)) }
@@ -162,6 +170,7 @@ pub fn notation_height(notation: &Notation) -> usize
     above(not_node_height(&notation.node))
 }
 
+/// The height of the highest part of a notation, and 101 where that is higher than 100.
 #[cycle(notation_height)]
 fn not_node_height(node: &NotNode) -> usize
     ensures { result ≡ capped (not_node_height node.now) }
@@ -177,6 +186,7 @@ fn not_node_height(node: &NotNode) -> usize
     }
 }
 
+/// The height of the highest of these notations, and 101 where that is higher than 100.
 #[cycle(notation_height)]
 fn notations_height(notations: &[Notation]) -> usize
     ensures { result ≡ capped (tall.highest (map tall.notation_height notations.now)) }

@@ -12,10 +12,11 @@ use Rattle.st_measure.specs.DefHeights.{def_height}
 abbrev pub variable_past : Def → Option Span
 variable_past d = place_past MOST_PREMISES (def_variables d)
 
--- the place of a definition with a tree that is too high
+-- the place, where this is the height of a definition that is too high
 abbrev pub tall_at : Span → ℕ → Option Span
 tall_at at height = if nat_lt HIGHEST_TREE height then Some at else None
 
+-- the place of a definition that has a tree higher than a tree may be, if it has one
 abbrev pub too_tall : Def → Option Span
 too_tall d = tall_at d.at (def_height d)
 

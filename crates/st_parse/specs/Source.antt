@@ -25,7 +25,7 @@ KeepsLimits defs = (first_that variable_past defs ≡ None) × (first_that too_t
 abbrev pub IsParsed : List Token → List Def → Type 0
 IsParsed tokens defs = Faultless tokens × Parse (declared_names tokens) tokens defs
 
--- the same, and no limit is passed
+-- No token has a fault, the tokens mean these definitions, and no limit is passed.
 abbrev pub IsSource : List Token → List Def → Type 0
 IsSource tokens defs = IsParsed tokens defs × KeepsLimits defs
 
@@ -36,6 +36,7 @@ pub record Front (tokens : List Token) : Type 0 where
   pub count : ℕ
   pub seen : Seen
   pub faultless : verdict tokens count ≡ passed seen
+  -- Behind them the tokens end, or the next one has a fault.
   pub longest : (count ≡ length tokens)
       ⊎ ((r : RuleId) × (count < length tokens) × (verdict tokens (count + 1) ≡ broken r))
 
@@ -48,7 +49,8 @@ Standing tokens f answer =
 abbrev pub VariableFault : List Token → Span → RuleId → Type 0
 VariableFault tokens at rule = Standing tokens variable_past (Some at) × (rule ≡ S3)
 
--- a token, or the end of the tokens
+-- a fault of a token, or of the end of the tokens, where no definition before it has too many
+-- variables
 abbrev pub FaultyToken : List Token → Span → RuleId → Type 0
 FaultyToken tokens at rule =
     Standing tokens variable_past None
@@ -65,6 +67,7 @@ abbrev pub FaultAt : List Token → Span → RuleId → Type 0
 FaultAt tokens at rule =
     VariableFault tokens at rule ⊎ (FaultyToken tokens at rule ⊎ HeightFault tokens at rule)
 
+-- what the parser answers: the definitions of a source, its first fault, or that memory is short
 abbrev pub Answers : List Token → Result (List Def) SyntaxFault → Type 0
 Answers tokens (Ok defs) = IsSource tokens defs
 Answers tokens (Err (Refused at rule)) = FaultAt tokens at rule

@@ -99,7 +99,7 @@ fn put_condition<'a>(
     Ok(())
 }
 
-/// What is measured of a premise with a mark behind it.
+/// What is measured of a premise with an iteration sign behind it.
 fn marked<'a>(prem: Option<Measure<'a>>) -> Option<Measure<'a>>
     ensures { (p : Option Prem) (at : Span) (sh : Shape) → spec.OfAny spec.OfPrem p prem.entry
         → spec.OfAny spec.OfPrem (drafts.each_of at (drafts.shape_count sh) p) result }
@@ -110,7 +110,7 @@ fn marked<'a>(prem: Option<Measure<'a>>) -> Option<Measure<'a>>
     }
 }
 
-/// A mark is read behind a premise in parentheses.
+/// An iteration sign is read behind a premise in parentheses.
 fn put_mark<'a>(premises: &mut PremiseMeasures<'a>)
     ensures { (ps : Premises) (n : ℕ) (sh : Shape) → spec.OfPremises ps premises.old
         → spec.OfPremises (drafts.each_put n (drafts.shape_count sh) ps) premises.new }

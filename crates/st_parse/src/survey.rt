@@ -49,6 +49,7 @@ pub struct Survey<'a> {
     pub premises: PremiseMeasures<'a>,
 }
 
+/// What is measured of fields and alternatives before the first.
 fn no_members(alloc: Global) -> MemberHeights
     ensures { spec.OfMembers drafts.no_members result }
 {
@@ -59,6 +60,7 @@ fn no_members(alloc: Global) -> MemberHeights
     }
 }
 
+/// What is measured before any parameter, argument, type or expression.
 fn no_sides<'a>(alloc: Global) -> SideMeasures<'a>
     ensures { spec.OfSides drafts.no_sides result }
 {
@@ -71,6 +73,7 @@ fn no_sides<'a>(alloc: Global) -> SideMeasures<'a>
     }
 }
 
+/// What is measured of premises before the first.
 pub(crate) fn no_premises<'a>(alloc: Global) -> PremiseMeasures<'a>
     ensures { spec.OfPremises (drafts.premises_so_far []) result }
 {

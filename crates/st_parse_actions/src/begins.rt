@@ -28,6 +28,7 @@ fn end_no_arguments<'a>(frames: &[Frame], actions: &mut Row<Action<'a>>) -> Resu
     }
 }
 
+/// A closing sign where an operand is due: a bar begins a length, `)` ends an empty call.
 fn begin_closing<'a>(
     frames: &[Frame],
     closing: Closing,
@@ -44,6 +45,7 @@ fn begin_closing<'a>(
     }
 }
 
+/// The action of a bracket that opens where an operand is due.
 fn opening<'a>(bracket: Bracket, token: &Token) -> Action<'a>
     ensures { result ≡ emits.opening bracket token.now }
 {

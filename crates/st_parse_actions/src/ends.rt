@@ -11,6 +11,7 @@ use st_num::{Mark, NoMemory, Row};
 use st_parse_automaton::{Filling, Frame, Kind, Lead};
 use st_parse_builder::Action;
 
+/// The action of a count, with an index or without.
 fn count<'a>(indexed: bool) -> Action<'a>
     ensures { result ≡ emits.count_act indexed }
 {
@@ -36,6 +37,7 @@ pub(crate) fn settle<'a>(
     }
 }
 
+/// Ends what leads to a last part: a sign joins its sides or is a prefix, a sequence ends.
 fn end_lead<'a>(lead: Lead, actions: &mut Row<Action<'a>>) -> Result<(), NoMemory>
     ensures { IfOk result (λ _. actions.new ≡ actions.old ++ emits.lead_end lead) }
 {
@@ -84,6 +86,7 @@ pub(crate) fn end_part<'a>(kind: Kind, actions: &mut Row<Action<'a>>) -> Result<
     }
 }
 
+/// The action that ends parentheses, a record, or a bracket round one part.
 fn plain_end<'a>(bracket: Bracket) -> Action<'a>
     ensures { result ≡ emits.plain_end bracket }
 {
@@ -94,6 +97,7 @@ fn plain_end<'a>(bracket: Bracket) -> Action<'a>
     }
 }
 
+/// The action of a position in a part, or of a position and how many elements.
 fn position<'a>(filling: Filling) -> Action<'a>
     ensures { result ≡ emits.at_act filling }
 {
@@ -103,6 +107,7 @@ fn position<'a>(filling: Filling) -> Action<'a>
     }
 }
 
+/// The action of the same as a step of a path.
 fn step_position<'a>(filling: Filling) -> Action<'a>
     ensures { result ≡ emits.step_act filling }
 {

@@ -8,6 +8,7 @@ use st_grammar::{Sort, is_iteration_sign, is_type_iteration_sign, prefix_right, 
 use st_num::Mark;
 use st_parse_automaton::{Frame, Kind, Lead, Part};
 
+/// The sort of the parts that stand in a frame.
 fn frame_sort(frame: Frame) -> Sort
     ensures { result ≡ parts.frame_sort frame }
 {
@@ -27,6 +28,7 @@ pub(crate) fn innermost(base: Sort, frames: &[Frame]) -> Sort
     }
 }
 
+/// How tight a last part behind this must be.
 fn wanted(lead: Lead) -> u8
     ensures { result ≡ parts.wanted lead }
 {
@@ -37,6 +39,7 @@ fn wanted(lead: Lead) -> u8
     }
 }
 
+/// How loose a sign must be to close over a part behind this.
 fn reach(lead: Lead) -> u8
     ensures { result ≡ parts.reach lead }
 {
@@ -47,6 +50,7 @@ fn reach(lead: Lead) -> u8
     }
 }
 
+/// The least level that is wanted in a frame.
 fn frame_least(frame: Frame) -> u8
     ensures { result ≡ parts.frame_least frame }
 {
@@ -57,6 +61,7 @@ fn frame_least(frame: Frame) -> u8
     }
 }
 
+/// The least level that is wanted in the innermost frame.
 fn least(frames: &[Frame]) -> u8
     ensures { result ≡ parts.least (reverse frames.now) }
 {
@@ -98,6 +103,7 @@ pub(crate) fn pull(sort: Sort, mark: Mark) -> u8
     if sort.has_level(level) { level } else { 0 }
 }
 
+/// Whether a part is a name or parentheses, which can be a type.
 fn is_type(part: Part) -> bool
     ensures { result ≡ parts.is_type part }
 {

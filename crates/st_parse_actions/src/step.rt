@@ -34,6 +34,7 @@ fn separate<'a>(frames: &[Frame], actions: &mut Row<Action<'a>>) -> Result<(), N
     }
 }
 
+/// Ends a part of a bracket, where a sign does not stand between two sides.
 fn join<'a>(
     base: Sort,
     mark: Mark,
@@ -50,6 +51,7 @@ fn join<'a>(
     }
 }
 
+/// A sign behind a part: it iterates the part, or closes what binds tighter.
 fn behind_sign<'a>(
     base: Sort,
     mark: Mark,
@@ -71,6 +73,7 @@ fn behind_sign<'a>(
     join(base, mark, rest, actions)
 }
 
+/// The action of a bracket behind a part: `[` opens a path, and `(` arguments.
 fn behind_opening<'a>(bracket: Bracket, token: &Token) -> Action<'a>
     ensures { emits.behind_opening bracket token.now ≡ result ∷ [] }
 {
@@ -80,6 +83,7 @@ fn behind_opening<'a>(bracket: Bracket, token: &Token) -> Action<'a>
     }
 }
 
+/// A token behind a part that goes on with it or ends it.
 fn behind<'a>(
     base: Sort,
     part: Part,
@@ -124,6 +128,7 @@ fn begin_next<'a>(
     Ok(())
 }
 
+/// A token behind a part: the next element of a sequence, or what goes on with the part.
 fn after<'a>(
     base: Sort,
     part: Part,
@@ -165,6 +170,7 @@ fn in_index<'a>(
     begin(base, &index, shape, token, actions)
 }
 
+/// A token behind `[` or behind a step of a path.
 fn in_path<'a>(
     base: Sort,
     stepped: bool,

@@ -13,11 +13,13 @@ abbrev pub highest : List ℕ → ℕ
 highest [] = 0
 highest (h ∷ hs) = max h (highest hs)
 
+-- the height of the expression in a count, and 0 for a count that is a sign
 abbrev pub height_count_at : Count-F ℕ ℕ ℕ ℕ → ℕ
 height_count_at (Count-F.Times e) = e
 height_count_at (Count-F.Below name e) = e
 height_count_at c = 0
 
+-- the height of the highest expression in a step of a path
 abbrev pub height_seg_at : Seg-F ℕ ℕ ℕ ℕ → ℕ
 height_seg_at (Seg-F.Field name) = 0
 height_seg_at (Seg-F.Seg::At e) = e
@@ -45,26 +47,32 @@ height_node_at (Node-F.Call name es) = highest es
 height_node_at (Node-F.Iter e c) = max e c
 height_node_at n = 0
 
+-- An expression is one higher than the highest part of it.
 abbrev pub height_exp_at : Exp-F ℕ ℕ ℕ ℕ → ℕ
 height_exp_at e = e.node + 1
 
+-- the height of an expression
 abbrev pub height : Exp → ℕ
 height = fold-Exp ℕ ℕ ℕ ℕ height_count_at height_node_at height_seg_at height_exp_at
 
+-- the height of a step of a path
 abbrev pub seg_height : Seg → ℕ
 seg_height = fold-Seg ℕ ℕ ℕ ℕ height_count_at height_node_at height_seg_at height_exp_at
 
 -- ---- types and notations
 
+-- the height of the highest part of a type
 abbrev pub height_typ_node_at : TypNode-F ℕ ℕ → ℕ
 height_typ_node_at (TypNode-F.Star t) = t
 height_typ_node_at (TypNode-F.Quest t) = t
 height_typ_node_at (TypNode-F.Tuple ts) = highest ts
 height_typ_node_at n = 0
 
+-- A type is one higher than the highest part of it.
 abbrev pub height_typ_at : Typ-F ℕ ℕ → ℕ
 height_typ_at t = t.node + 1
 
+-- the height of a type
 abbrev pub typ_height : Typ → ℕ
 typ_height = fold-Typ ℕ ℕ height_typ_node_at height_typ_at
 
@@ -76,8 +84,10 @@ height_not_node_at (NotNode-F.Infix l m r) = max l r
 height_not_node_at (NotNode-F.Bracket m n) = n
 height_not_node_at (NotNode-F.Atom name) = 0
 
+-- A notation is one higher than the highest part of it.
 abbrev pub height_notation_at : Notation-F ℕ ℕ → ℕ
 height_notation_at n = n.node + 1
 
+-- the height of a notation
 abbrev pub notation_height : Notation → ℕ
 notation_height = fold-Notation ℕ ℕ height_not_node_at height_notation_at

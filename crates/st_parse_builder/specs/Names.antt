@@ -9,7 +9,7 @@ use Rattle.st_grammar.specs.declared.sort.Leaf.TheVariants.{Low as low, Basic as
 use Rattle.st_el.specs.declared.expression.Node.{Node}
 use Rattle.st_el.specs.declared.expression.Node.TheVariants as node
 
--- the name, without a dot or a dollar sign before it
+-- the name that a token spells, without a dot or a dollar sign before it
 abbrev pub name_of : TokenKind → List ℕ
 name_of (kind.Low name) = name
 name_of (kind.Up name) = name
@@ -19,18 +19,19 @@ name_of (kind.Dot name) = name
 name_of (kind.Fun name) = name
 name_of k = []
 
+-- the number that a token writes, and 0 for any other token
 abbrev pub number_of : TokenKind → ℕ
 number_of (kind.Number n) = n
 number_of k = 0
 
--- a text, a truth value or `eps`
+-- the node of a literal: a text, a truth value or `eps`
 abbrev pub literal_node : TokenKind → Node
 literal_node (kind.Text text) = node.Text text
 literal_node (kind.Reserved word.True) = node.Bool true
 literal_node (kind.Reserved word.False) = node.Bool false
 literal_node k = node.Eps
 
--- A function alone is a call without arguments.
+-- the node of one token, of each sort of leaf; a function alone is a call without arguments
 abbrev pub leaf_node : Leaf → TokenKind → Node
 leaf_node low k = node.Name (name_of k)
 leaf_node basic k = node.Name (name_of k)

@@ -25,9 +25,11 @@ use Rattle.st_parse_builder.specs.Names.{name_of}
 
 -- ---- types
 
+-- the type with this node that begins there
 abbrev pub typ_at : Span → TypNode → Typ
 typ_at at n = roll-Typ (record { at = at; node = n })
 
+-- where a type begins
 abbrev pub typ_place : Typ → Span
 typ_place t = (out-Typ t).at
 
@@ -35,6 +37,7 @@ typ_place t = (out-Typ t).at
 abbrev pub no_typ : Typ
 no_typ = typ_at nowhere (typ_node.Name [])
 
+-- the type of one token: one of the four basic types, or a name
 abbrev pub typ_leaf : TokenKind → TypNode
 typ_leaf (kind.Reserved word.Bool) = typ_node.Bool
 typ_leaf (kind.Reserved word.Nat) = typ_node.Nat
@@ -42,13 +45,16 @@ typ_leaf (kind.Reserved word.Int) = typ_node.Int
 typ_leaf (kind.Reserved word.Text) = typ_node.Text
 typ_leaf k = typ_node.Name (name_of k)
 
+-- `?` behind a type makes it optional, and any other iteration sign makes it a list.
 abbrev pub marked_node : Mark → Typ → TypNode
 marked_node mark.Question t = typ_node.Quest t
 marked_node m t = typ_node.Star t
 
+-- a type with an iteration sign behind it, placed where the type begins
 abbrev pub marked : Mark → Typ → Typ
 marked m t = typ_at (typ_place t) (marked_node m t)
 
+-- the same for a token of the grammar, which is such a sign or is not allowed there
 abbrev pub marked_by : Terminal → Typ → Typ
 marked_by (sign m x) t = marked m t
 marked_by l t = no_typ
@@ -59,27 +65,33 @@ typ_in_parens at (t ∷ []) = t
 typ_in_parens at ts = typ_at at (typ_node.Tuple ts)
 
 abbrev mutual
+  -- the type that a tree means
   pub typ_meaning : Tree → Typ
   typ_meaning (operand k x) = typ_at x.at (typ_leaf x.kind)
   typ_meaning (post t l) = marked_by l (typ_meaning t)
   typ_meaning (bracket (plain round o) ts c) = typ_in_parens o.at (typ_meanings ts)
   typ_meaning t = no_typ
 
+  -- the types that parts of a tree mean, in the order of the text
   pub typ_meanings : Trees → List Typ
   typ_meanings none = []
   typ_meanings (more ts pre t) = typ_meanings ts ++ typ_meaning t ∷ []
 
 -- ---- notations
 
+-- the notation with this node that begins there
 abbrev pub notation_at : Span → NotNode → Notation
 notation_at at n = roll-Notation (record { at = at; node = n })
 
+-- where a notation begins
 abbrev pub notation_place : Notation → Span
 notation_place n = (out-Notation n).at
 
+-- what stands for a notation that the grammar does not allow
 abbrev pub no_notation : Notation
 no_notation = notation_at nowhere (not_node.Seq [])
 
+-- a type as a part of a notation, where an operand of that type goes
 abbrev pub hole : Typ → Notation
 hole t = notation_at (typ_place t) (not_node.Hole t)
 
@@ -94,6 +106,7 @@ abbrev pub spelled_on : NotNode-F NotNode Notation → List ℕ → NotNode
 spelled_on (NotNode-F.Atom name) behind = not_node.Atom (name ++ 46 ∷ behind)
 spelled_on n behind = roll-NotNode n
 
+-- a notation with a dot and its name behind it, placed where the notation begins
 abbrev pub atom_on : Notation → Token → Notation
 atom_on n x =
     notation_at (notation_place n) (spelled_on (out-NotNode (out-Notation n).node) (name_of x.kind))
@@ -104,15 +117,18 @@ notation_posted t n (sign m x) = hole (marked m t)
 notation_posted t n (dot x) = atom_on n x
 notation_posted t n l = no_notation
 
+-- the sign that names backquoted brackets, which is the opening one
 abbrev pub tick : Bracket → Mark
 tick tick_round = mark.TickParen
 tick tick_square = mark.TickBracket
 tick k = mark.TickBrace
 
+-- the one notation that a bracket holds
 abbrev pub only_notation : List Notation → Notation
 only_notation (n ∷ []) = n
 only_notation ns = no_notation
 
+-- a bracket in a notation: parentheses are a type, and backquoted ones hold one notation
 abbrev pub notation_bracketed : Heading → List Typ → List Notation → Notation
 notation_bracketed (plain round o) ts ns = hole (typ_in_parens o.at ts)
 notation_bracketed (plain k o) ts ns =
@@ -123,14 +139,17 @@ notation_bracketed h ts ns = no_notation
 abbrev pub notation_joined : Notation → Mark → Notation → Notation
 notation_joined l m r = notation_at (notation_place l) (not_node.Infix l m r)
 
+-- where several notations begin, which is with the first
 abbrev pub notation_first : List Notation → Span
 notation_first [] = nowhere
 notation_first (n ∷ ns) = notation_place n
 
+-- notations side by side, placed where the first begins
 abbrev pub notation_sequence : List Notation → Notation
 notation_sequence ns = notation_at (notation_first ns) (not_node.Seq ns)
 
 abbrev mutual
+  -- the notation that a tree means
   pub notation_meaning : Tree → Notation
   notation_meaning (operand k x) = notation_leaf k x
   notation_meaning (post t l) = notation_posted (typ_meaning t) (notation_meaning t) l
@@ -138,11 +157,13 @@ abbrev mutual
   notation_meaning (led g t) = notation_led g (notation_meaning t)
   notation_meaning (times t m x c) = no_notation
 
+  -- the notation of a tree whose last part means this, behind what leads to it
   pub notation_led : Lead → Notation → Notation
   notation_led (left l m x) n = notation_joined (notation_meaning l) m n
   notation_led (ahead m x) n = notation_joined (notation_at x.at (not_node.Seq [])) m n
   notation_led (items ts) n = notation_sequence (notation_meanings ts ++ n ∷ [])
 
+  -- the notations that parts of a tree mean, in the order of the text
   pub notation_meanings : Trees → List Notation
   notation_meanings none = []
   notation_meanings (more ts pre t) = notation_meanings ts ++ notation_meaning t ∷ []

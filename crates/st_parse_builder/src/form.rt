@@ -157,12 +157,14 @@ pub(crate) fn with_dot(name: Name, behind: &[u8]) -> Result<Name, NoMemory>
     Ok(Name::from_vec(bytes))
 }
 
+/// Whether an expression is an atom.
 pub(crate) fn is_atom(exp: &Exp) -> bool
     ensures { result ≡ meaning.is_atom (meaning.opened exp.now) }
 {
     matches!(&exp.node, Node::Atom(_))
 }
 
+/// The name of an atom, and the empty one for anything else.
 fn atom_name(alloc: Global, node: Node) -> Name
     ensures { result ≡ meaning.atom_name (out-Node node) }
 {

@@ -9,7 +9,7 @@ use st_num::{Name, NoMemory, Row};
 use st_scan::{TokenKind, Word};
 use std::alloc::Global;
 
-/// The name, without a dot or a dollar sign before it.
+/// The name that a token spells, without a dot or a dollar sign before it.
 pub fn name_of(kind: &TokenKind) -> &[u8]
     ensures { result.now ≡ name_of kind.now }
 {
@@ -31,6 +31,7 @@ pub fn copy_name(alloc: Global, kind: &TokenKind) -> Result<Name, NoMemory>
     Name::from_slice(alloc, name_of(kind))
 }
 
+/// The number that a token writes, and 0 for any other token.
 fn number_of(kind: &TokenKind) -> u128
     ensures { result ≡ number_of kind.now }
 {
@@ -40,7 +41,7 @@ fn number_of(kind: &TokenKind) -> u128
     }
 }
 
-/// A text, a truth value or `eps`.
+/// The node of a literal: a text, a truth value or `eps`.
 fn literal_node(alloc: Global, kind: &TokenKind) -> Result<Node, NoMemory>
     ensures { IfOk result (λ node. node ≡ literal_node kind.now) }
 {
@@ -52,6 +53,7 @@ fn literal_node(alloc: Global, kind: &TokenKind) -> Result<Node, NoMemory>
     }
 }
 
+/// The node of one token, of each sort of leaf.
 pub(crate) fn leaf_node(alloc: Global, leaf: Leaf, kind: &TokenKind) -> Result<Node, NoMemory>
     ensures { IfOk result (λ node. node ≡ leaf_node leaf kind.now) }
 {

@@ -72,6 +72,7 @@ pub(crate) fn marked(alloc: Global, mark: Mark, typ: Typ) -> Result<Typ, NoMemor
     Ok(Typ { at, node })
 }
 
+/// The sign that names a backquoted bracket, which is the opening one.
 fn tick(bracket: Bracket) -> Mark
     ensures { result ≡ notations.tick bracket }
 {

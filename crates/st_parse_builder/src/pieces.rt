@@ -112,6 +112,7 @@ pub(crate) fn pop_pair(stack: &mut Row<Entry>) -> Option<Pair>
     Some(Pair { left, right })
 }
 
+/// Whether a path has no step yet.
 fn is_start(top: &TallPath) -> bool
     ensures { IsTrue result ↔ (top.now.path ≡ []) }
 {

@@ -10,8 +10,10 @@ use Rattle.st_grammar.specs.Grammar.{size, EachFits}
 
 -- the tokens are those of these expressions
 pub record ParseExpressions (us : List Terminal) (ts : Trees) : Type 0 where
+  -- Each is an expression that the grammar allows.
   pub fits : EachFits (expression false) parts 1 ts
   pub some : 1 ≤ size ts
+  -- These are their tokens, with the commas between them.
   pub spelled : us ≡ texts ts
 
 -- some tokens behind these make expressions

@@ -24,7 +24,7 @@ abbrev pub opens_too_many : Seen → Terminal → Bool
 opens_too_many seen l =
     may_open l && nat_lt HIGHEST_TREE (seen.nesting + part_bars seen.state.here)
 
--- Between some brackets of the expression, or outside all, a number is passed.
+-- Between some brackets of the open expression, or outside all, there are too many parts or signs.
 abbrev pub passes_limit : Seen → Bool
 passes_limit seen = list_any tally_passes (part_tallies 0 seen.state.here)
 
@@ -32,6 +32,7 @@ passes_limit seen = list_any tally_passes (part_tallies 0 seen.state.here)
 abbrev pub refusal : Seen → Token → RuleId
 refusal seen x = if left_out before.Other seen.nesting x.kind then S4 else S1
 
+-- what is known behind a token that is read, or the limit that is passed there
 abbrev pub kept : Seen → Terminal → Verdict Seen
 kept seen l = limited (opens_too_many seen l) (passes_limit seen) seen
 
@@ -39,14 +40,16 @@ kept seen l = limited (opens_too_many seen l) (passes_limit seen) seen
 abbrev pub seen_after : Seen → Terminal → State → Seen
 seen_after seen l next = record { state = next; nesting = nesting_after seen.nesting l }
 
+-- the verdict on a token: it breaks a rule, or leads on to this state of the reading
 abbrev pub judged : Seen → Token → Terminal → Option State → Verdict Seen
 judged seen x l None = broken (refusal seen x)
 judged seen x l (Some next) = kept (seen_after seen l next) l
 
--- one token behind what is seen, where these names are declared by `var`
+-- the verdict on one token behind what is seen, where these names are declared by `var`
 abbrev pub judge : List (List ℕ) → Seen → Token → Verdict Seen
 judge names seen x = judged seen x (terminal names x) (step seen.state (terminal names x))
 
+-- Before the first token nothing is read, and no bracket is open.
 abbrev pub nothing_seen : Seen
 nothing_seen = record { state = start; nesting = 0 }
 
@@ -54,7 +57,7 @@ nothing_seen = record { state = start; nesting = 0 }
 abbrev pub verdict : List (List ℕ) → List Token → ℕ → Verdict Seen
 verdict names tokens k = verdict_on (judge names) nothing_seen tokens k
 
--- what is read, where it may end
+-- the expressions that are read, where they may end here
 abbrev pub ended : Seen → Option Trees
 ended seen = finish seen.state
 

@@ -17,6 +17,7 @@ use Rattle.st_parse_exp.specs.Faults.{Faultless, FirstFault}
 
 -- the tokens mean these expressions, where these names are declared by `var`
 pub record ParseExps (names : List (List ℕ)) (tokens : List Token) (exps : List Exp) : Type 0 where
+  -- what the grammar reads the tokens as
   pub trees : Trees
   pub grammar : ParseExpressions (terminals_of names tokens) trees
   pub meant : meanings trees ≡ exps
@@ -42,6 +43,7 @@ AreWhole tokens es (Err (Refused at rule)) =
     (HIGHEST_TREE < highest (map height es)) × (rule ≡ S2) × (at ≡ place_at tokens 0)
 AreWhole tokens es (Err Memory) = ⊤
 
+-- what the parser answers: the expressions, the first fault, or that memory is short
 abbrev pub Answers : List (List ℕ) → List Token → Result (List Exp) SyntaxFault → Type 0
 Answers names tokens (Ok exps) =
     IsFile names tokens exps × (highest (map height exps) ≤ HIGHEST_TREE)

@@ -42,6 +42,7 @@ pub(crate) fn separates(progress: &Progress, class: TokenClass) -> bool
     matches!(class.shape, Shape::Sign(Mark::Comma)) && may_end(progress)
 }
 
+/// Whether the reading is in a part, and not at a position between parts.
 fn is_inside(progress: &Progress) -> bool
     ensures { result ≡ spec.is_inside (progress_of progress.now) }
 {

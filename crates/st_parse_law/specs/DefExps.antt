@@ -17,6 +17,7 @@ count_exps_at (Count-F.Times e) = e ∷ []
 count_exps_at (Count-F.Below index e) = e ∷ []
 count_exps_at c = []
 
+-- the expression in a count, and none where the count is an iteration sign
 abbrev pub count_exps : Count → List Exp
 count_exps c = count_exps_at (out-Count c)
 
@@ -27,6 +28,7 @@ prem_exps_at (PremNode-F.Goal relation e) = e ∷ []
 prem_exps_at PremNode-F.Otherwise = []
 prem_exps_at (PremNode-F.Each held count) = held ++ count_exps count
 
+-- the expressions that a premise holds
 abbrev pub prem_exps : Prem → List Exp
 prem_exps = fold-Prem (List Exp) (List Exp) prem_exps_at (λ p. p.node)
 
@@ -36,5 +38,6 @@ exps_in (Rule relation name conclusion premises) = conclusion ∷ flat_map prem_
 exps_in (Clause name args result premises) = args ++ result ∷ flat_map prem_exps premises
 exps_in d = []
 
+-- the expressions that a definition holds, in the order of the text
 abbrev pub exps_of : Def → List Exp
 exps_of d = exps_in d.node

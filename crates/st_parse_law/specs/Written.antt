@@ -27,7 +27,7 @@ bytes_of (token k text ∷ ps) = text ++ bytes_of ps
 
 -- ---- what may stand directly behind a token
 
--- with a byte behind it, the front of a comment
+-- The text of a token and a byte behind it are the front of a comment.
 abbrev pub opens_with : List ℕ → ℕ → Bool
 opens_with (a ∷ []) b = opens a b || starts_line a b
 opens_with text b = false
@@ -65,7 +65,7 @@ shapes_behind touching [] = []
 shapes_behind touching (space ∷ ps) = shapes_behind false ps
 shapes_behind touching (token k text ∷ ps) = (k, touching) ∷ shapes_behind true ps
 
--- At the start of a file nothing stands between.
+-- the same of a whole file, whose start the first token touches where no blank is before it
 abbrev pub shapes : List Piece → List (TokenKind × Bool)
 shapes ps = shapes_behind true ps
 

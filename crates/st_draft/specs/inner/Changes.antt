@@ -16,6 +16,7 @@ use Rattle.st_draft.specs.declared.change.Change.TheVariants as change
 
 -- ---- which change
 
+-- The name of a definition is due, behind its word.
 abbrev pub names_definition : Position → Bool
 names_definition position.SyntaxName = true
 names_definition position.RelationName = true
@@ -24,6 +25,7 @@ names_definition position.VarName = true
 names_definition position.FunName = true
 names_definition p = false
 
+-- what of a definition ends where its hints may stand
 abbrev pub host_ending : Host → Ending
 host_ending host.Case = ending.Cases false
 host_ending host.Var = ending.Var
@@ -44,34 +46,41 @@ keeps_hints host.Field = false
 keeps_hints host.Case = false
 keeps_hints h = true
 
+-- what a token changes where hints may stand
 abbrev pub behind_hints : Host → Position → Change
 behind_hints h (position.SyntaxId d) = change.Id
 behind_hints h position.Between = change.End ending.Fields
 behind_hints h p = if names_definition p then change.Begin (host_ending h) else change.Nothing
 
+-- A condition stands before, with its iterations so far.
 abbrev pub is_iterated : Position → Bool
 is_iterated (position.Iterated m) = true
 is_iterated p = false
 
+-- what a token changes behind whole premises or a condition
 abbrev pub in_premises : Position → Position → Change
 in_premises before position.PremiseOpen = change.Premise (is_iterated before)
 in_premises before (position.Iterated iterations.Wanted) = change.Nothing
 in_premises before p = change.Begin (ending_of before)
 
+-- what a token changes behind `--` and the parentheses that are open
 abbrev pub in_premise : Position → Change
 in_premise position.PremiseOpen = change.Parenthesis
 in_premise position.GoalColon = change.Goal
 in_premise p = change.Otherwise
 
+-- what a token changes in the name of a fragment or a rule, or before that of a rule
 abbrev pub in_id : Position → Change
 in_id (position.SyntaxId d) = change.Id
 in_id (position.RuleId d) = change.Id
 in_id p = change.Nothing
 
+-- what a token changes in a hint: it goes on with it, or ends it
 abbrev pub in_hint : Host → Position → Change
 in_hint h (position.HintWords k) = change.HintWord
 in_hint h p = change.HintEnd (keeps_hints h)
 
+-- what a token changes that stands where a part may begin, but begins none
 abbrev pub entering : Position → Change
 entering position.Dotted = change.Dots
 entering position.Between = change.End (ending.Cases true)
@@ -98,6 +107,7 @@ change_at (position.Iterated m) after = in_premises (position.Iterated m) after
 change_at position.PremiseOpen after = in_premise after
 change_at before after = change.Nothing
 
+-- what the arguments of a function are, told by the part behind them
 abbrev pub behind_arguments : Slot → Change
 behind_arguments slot.Fun = change.Params
 behind_arguments slot.Rule = change.Args
@@ -111,6 +121,7 @@ change_into (position.FieldName b) s = change.Label
 change_into position.PremiseOpen s = change.If
 change_into before s = change.Nothing
 
+-- what a token changes that leads to a position, with these brackets open there
 abbrev pub change_to : Position → Position → List Bracket → Change
 change_to before (position.Iterated iterations.Complete) ks = change.Mark (length ks)
 change_to before after ks = change_at before after

@@ -10,6 +10,7 @@ use Rattle.st_measure.specs.inner.Answers.{lone_typ}
 use Rattle.st_measure.specs.DefHeights.{prem_height, field_type_height, def_height}
 use Rattle.st_draft.specs.declared.draft.Draft.{Draft}
 
+-- the height of the type where there is one, and else this height
 abbrev pub height_or : ℕ → Option Typ → ℕ
 height_or tall None = tall
 height_or tall (Some t) = typ_height t
@@ -23,6 +24,7 @@ abbrev pub height_of : {A : Type 0} → (A → ℕ) → Option A → ℕ
 height_of f None = 0
 height_of f (Some a) = f a
 
+-- the height of the highest of these definitions
 abbrev pub defs_height : List Def → ℕ
 defs_height defs = highest (map def_height defs)
 

@@ -24,6 +24,7 @@ use Rattle.st_draft.specs.inner.Drafts.{params_put, args_put, with_sides, applie
 
 -- ---- what is built
 
+-- the one finished expression on the stack
 abbrev pub the_exp : List Piece → Option Exp
 the_exp (Done e ∷ []) = Some e
 the_exp s = None
@@ -41,10 +42,12 @@ all_built f (actions ∷ later) =
 
 -- ---- changes
 
+-- a draft behind the arguments that these actions build, as types of parameters
 abbrev pub redrafted_params : List (List Action) → Draft → Option Draft
 redrafted_params arguments d =
     option_map (λ ts. with_sides (params_put ts d.sides) d) (all_built typ_built arguments)
 
+-- a draft behind the arguments that these actions build, as patterns of a clause
 abbrev pub redrafted_args : List (List Action) → Draft → Option Draft
 redrafted_args arguments d =
     option_map (λ es. with_sides (args_put es d.sides) d) (all_built exp_built arguments)
@@ -57,6 +60,7 @@ redrafted c sh x arguments d = Some (applied c sh x [] [] d)
 
 -- ---- parts that end
 
+-- a token of a count, as the parser sees it and as it stands in the text
 abbrev pub word_of : Word → TokenClass × Token
 word_of w = (w.class, w.token)
 
@@ -65,6 +69,7 @@ abbrev pub index_in : List (TokenClass × Token) → Option (List ℕ)
 index_in ((o, x) ∷ (l, i) ∷ words) = if opens_round o then Some (name_of i.kind) else None
 index_in words = None
 
+-- a count of so many, with an index that runs below it where there is one
 abbrev pub count_with : Option (List ℕ) → Exp → Count
 count_with None e = count.Times e
 count_with (Some name) e = count.Below name e

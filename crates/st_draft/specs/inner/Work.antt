@@ -39,6 +39,7 @@ pub record Work : Type 0 where
   pub marks : List Mark
   pub words : List (TokenClass × Token)
 
+-- a draft and what the code keeps of a part, as one work
 abbrev pub work_of : Draft → Parts → Work
 work_of d p =
     record {
@@ -55,13 +56,13 @@ Keeps draws s p w = draws s w.draft × (work_of w.draft p ≡ w)
 
 -- ---- parts
 
--- The tokens of a count are kept.
+-- The tokens of a count are kept, and those of other parts are not.
 abbrev pub words_after : Slot → TokenClass → Token → List (TokenClass × Token)
     → List (TokenClass × Token)
 words_after slot.Count l x words = words ++ (l, x) ∷ []
 words_after s l x words = words
 
--- a token that goes on with a part
+-- the work behind a token that goes on with a part
 abbrev pub part_work : Slot → parts.State → TokenClass → Token → Work → Work
 part_work s st l x w =
     record {
@@ -74,7 +75,7 @@ part_work s st l x w =
 
 -- ---- positions
 
--- a token that leads from a position to this state
+-- the work behind a token that leads from a position to this state
 abbrev pub redrafted_work : definitions.State → Position → TokenClass → Token → Work → Option Work
 redrafted_work after p l x w =
     option_map
@@ -87,7 +88,7 @@ redrafted_work after p l x w =
     })
     (redrafted (change_of p after) l.shape x w.arguments w.draft)
 
--- The first token of a part may stand where something other may.
+-- the work behind a token at a position, which may be the first one of a part
 abbrev pub position_work : definitions.State → Position → TokenClass → Token → Work → Option Work
 position_work (definitions.inside t st ks) (position.Entering s) l x w =
     Some (part_work s (Operand, []) l x w)
@@ -95,11 +96,12 @@ position_work after p l x w = redrafted_work after p l x w
 
 -- ---- the end of a part
 
+-- the arguments, with one more where the part that ended is one
 abbrev pub arguments_with : Slot → List Action → List (List Action) → List (List Action)
 arguments_with (slot.Argument e t) acts arguments = arguments ++ acts ∷ []
 arguments_with s acts arguments = arguments
 
--- the end of a part, with so many brackets open round it
+-- the work behind the end of a part, with so many brackets open round it
 abbrev pub filled_work : Slot → ℕ → parts.State → Work → Option Work
 filled_work s n st w =
     option_map
@@ -112,7 +114,7 @@ filled_work s n st w =
     })
     (refilled s n (w.actions ++ finishing st) w.words w.draft)
 
--- a token that a part takes, or does not take
+-- the work behind a token that a part takes, or that ends the part
 abbrev pub taken_work : Slot → parts.State → List Bracket → definitions.State → TokenClass
     → Token → Work → Option parts.State → Option Part → Option Work
 taken_work s st ks after l x w (Some next) q = Some (part_work s st l x w)
@@ -120,7 +122,7 @@ taken_work s st ks after l x w None q =
     option_and_then
     (λ p. option_and_then (position_work after (filled s p) l x) (filled_work s (length ks) st w)) q
 
--- a token that leads from this state there
+-- the work behind a token that leads from this state there
 abbrev pub work_after : definitions.State → definitions.State → TokenClass → Token → Work
     → Option Work
 work_after (definitions.at p ks) after l x w = position_work after p l x w

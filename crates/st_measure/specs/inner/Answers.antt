@@ -20,6 +20,7 @@ OnlyMemory Memory = ⊤
 abbrev pub capped : ℕ → ℕ
 capped height = min height 101
 
+-- what measuring answers of what is this high; only memory may fail
 abbrev pub Measures : ℕ → Result ℕ BuildFault → Type 0
 Measures height (Ok n) = n ≡ capped height
 Measures height (Err fault) = OnlyMemory fault
@@ -29,12 +30,15 @@ abbrev pub typ_in : NotNode-F NotNode Notation → Option Typ
 typ_in (NotNode-F.Hole t) = Some t
 typ_in n = None
 
+-- the same of a notation with its place
 abbrev pub lone_typ : Notation → Option Typ
 lone_typ n = typ_in (out-NotNode (out-Notation n).node)
 
+-- the height of the type that a notation is, where it is a type alone
 abbrev pub alias_height : Notation → Option ℕ
 alias_height n = option_map (λ t. capped (typ_height t)) (lone_typ n)
 
+-- what measuring answers of the type that a notation is, or that it is none
 abbrev pub MeasuresAlias : Notation → Result (Option ℕ) BuildFault → Type 0
 MeasuresAlias n (Ok alias) = alias ≡ alias_height n
 MeasuresAlias n (Err fault) = OnlyMemory fault

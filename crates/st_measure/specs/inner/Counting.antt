@@ -8,6 +8,7 @@ use Rattle.st_measure.specs.Limits.{first_of_each, place_past}
 
 -- These are the names of the occurrences, each once, and no more than so many.
 pub record Knows (limit : ℕ) (before : List Occurrence) (names : List (List ℕ)) : Type 0 where
+  -- A name is among them exactly where it occurs.
   pub same : (name : List ℕ)
       → list_any (λ known. same_name name known) names
       ≡ list_any (λ o. same_name name o.0) before

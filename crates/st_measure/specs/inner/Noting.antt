@@ -24,6 +24,7 @@ operand_step leaf.Basic x = Occurs x
 operand_step leaf.Variable x = Occurs x
 operand_step k x = Begins None
 
+-- the step that an action is: a piece begins, or takes so many on top of it
 abbrev pub step_of : Action → Step
 step_of (action.Operand k x) = operand_step k x
 step_of (action.Label x) = Begins (Some x)
@@ -55,9 +56,11 @@ step_of action.Below = Indexes
 
 -- ---- pieces
 
+-- the variables that occur in the expression of a field
 abbrev pub field_variables : List ℕ × Exp → List Occurrence
 field_variables f = variables f.1
 
+-- the variables that occur in a piece
 abbrev pub piece_variables : Piece → List Occurrence
 piece_variables (Done e) = variables e
 piece_variables (Parts at es) = flat_map variables es

@@ -40,6 +40,7 @@ pub record IsIndexed (s u : List Piece) : Type 0 where
       ≡ without (index ∷ []) (piece_variables body) ++ piece_variables count
   pub kept : (name : Option Token) → Keeps made name
 
+-- The step makes the second of these stacks of the first.
 abbrev pub Does : Step → List Piece → List Piece → Type 0
 Does (Begins name) s u = IsPut name [] s u
 Does (Occurs x) s u = IsPut None (occurrence x ∷ []) s u

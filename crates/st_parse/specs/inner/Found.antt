@@ -19,7 +19,7 @@ abbrev pub Judged : List Token → Option TokenFault → Type 0
 Judged tokens None = Faultless tokens
 Judged tokens (Some f) = FirstFault tokens f.token f.rule
 
--- how many tokens stand before it
+-- how many tokens stand before this first fault of a token, or all where there is none
 abbrev pub end_of : List Token → Option TokenFault → ℕ
 end_of tokens None = length tokens
 end_of tokens (Some f) = f.token

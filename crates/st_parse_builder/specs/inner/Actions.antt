@@ -8,6 +8,7 @@ use Rattle.st_grammar.specs.Definitions.{token_in}
 use Rattle.st_parse_builder.specs.declared.action.Action.{Action}
 use Rattle.st_parse_builder.specs.declared.action.Action.TheVariants as action
 
+-- the action of a dot or an iteration sign behind a part
 abbrev pub post_acts : Terminal → List Action
 post_acts (dot x) = action.Dot x ∷ []
 post_acts (sign m x) = action.Mark m ∷ []
@@ -18,19 +19,23 @@ abbrev pub index_acts : Tree → List Action
 index_acts (bracket (below o i m x) ts c) = action.Label i ∷ []
 index_acts t = []
 
+-- the action that makes the part on top the count of the one below it, with an index or without
 abbrev pub count_act : Tree → Action
 count_act (bracket (below o i m x) ts c) = action.Below
 count_act t = action.Times
 
+-- the action that puts the name before a field on the stack
 abbrev pub label_acts : List Terminal → List Action
 label_acts [] = []
 label_acts (l ∷ []) = action.Label (token_in l) ∷ []
 label_acts (k ∷ ls) = label_acts ls
 
+-- the action of a position in a part, or of a position and how many elements
 abbrev pub at_act : Trees → Action
 at_act (more (more ts q u) pre t) = action.Slice
 at_act ts = action.At
 
+-- the action that makes the same a step of a path
 abbrev pub step_act : Trees → Action
 step_act (more (more ts q u) pre t) = action.StepSlice
 step_act ts = action.StepAt
@@ -66,6 +71,7 @@ inner_acts (arguments f o) each parts fields = parts
 inner_acts h each parts fields = each
 
 abbrev mutual
+  -- the actions that build the meaning of a tree
   pub acts : Tree → List Action
   acts (operand k x) = action.Operand k x ∷ []
   acts (post t l) = acts t ++ post_acts l
@@ -81,6 +87,7 @@ abbrev mutual
   lead_acts (ahead m x) = action.Here x.at ∷ []
   lead_acts (items ts) = item_acts ts
 
+  -- the actions before the parts of a bracket: where it begins, or those of what it stands behind
   pub opening_acts : Heading → List Action
   opening_acts (plain round o) = action.Open o.at ∷ []
   opening_acts (plain brace o) = action.OpenFields o.at ∷ []
@@ -92,6 +99,7 @@ abbrev mutual
   opening_acts (update p m x) = path_acts p
   opening_acts (below o i m x) = []
 
+  -- the actions of a path: those of what it goes into, and those of its steps
   pub path_acts : Path → List Action
   path_acts (head t o) = acts t ++ action.OpenPath ∷ []
   path_acts (field p x) = path_acts p ++ action.StepField x ∷ []
@@ -107,6 +115,7 @@ abbrev mutual
   part_acts none = []
   part_acts (more ts pre t) = part_acts ts ++ (acts t ++ action.Part ∷ [])
 
+  -- fields of which each is put behind those before it, with its name
   pub field_acts : Trees → List Action
   field_acts none = []
   field_acts (more ts pre t) = field_acts ts ++ (label_acts pre ++ (acts t ++ action.Field ∷ []))

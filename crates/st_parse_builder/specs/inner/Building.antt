@@ -16,23 +16,28 @@ use Rattle.st_parse_builder.specs.declared.piece.Piece.TheVariants.{Done, Parts,
 use Rattle.st_parse_builder.specs.Names.{name_of, leaf_node}
 use Rattle.st_parse_builder.specs.Meaning.{exp, place, opened, joined, prefixed, dotted, iterated, mark_count, in_parens, enclosed, changed}
 
+-- the pieces that are built so far
 abbrev pub Stack : Type 0
 Stack = List Piece
 
 -- ---- what is on top
 
+-- a finished part, and what is below it
 abbrev pub top_done : Stack → Option (Exp × Stack)
 top_done (Done e ∷ s) = Some (e, s)
 top_done s = None
 
+-- parts so far with the place where they begin, and what is below them
 abbrev pub top_parts : Stack → Option (Span × List Exp × Stack)
 top_parts (Parts at es ∷ s) = Some (at, es, s)
 top_parts s = None
 
+-- fields so far with the place where they begin, and what is below them
 abbrev pub top_fields : Stack → Option (Span × List (List ℕ × Exp) × Stack)
 top_fields (Fields at fs ∷ s) = Some (at, fs, s)
 top_fields s = None
 
+-- the steps of a path so far, and what is below them
 abbrev pub top_path : Stack → Option (List Seg × Stack)
 top_path (Path ps ∷ s) = Some (ps, s)
 top_path s = None
@@ -47,38 +52,49 @@ abbrev pub top_whole : Stack → Option (Exp × Stack)
 top_whole (Path [] ∷ Done e ∷ s) = Some (e, s)
 top_whole s = None
 
+-- the name of a field or an index, and what is below it
 abbrev pub top_label : Stack → Option (List ℕ × Stack)
 top_label (Label name ∷ s) = Some (name, s)
 top_label s = None
 
+-- where a part begins whose sign or bracket is read, and what is below
 abbrev pub top_place : Stack → Option (Span × Stack)
 top_place (Here at ∷ s) = Some (at, s)
 top_place s = None
 
+-- what an action makes of the finished part on top, where there is one
 abbrev pub with_done : Stack → (Exp → Stack → Option Stack) → Option Stack
 with_done s f = option_and_then (λ t. f t.0 t.1) (top_done s)
 
+-- what an action makes of the parts on top, where there are such
 abbrev pub with_parts : Stack → (Span → List Exp → Stack → Option Stack) → Option Stack
 with_parts s f = option_and_then (λ t. f t.0 t.1 t.2) (top_parts s)
 
+-- what an action makes of the fields on top, where there are such
 abbrev pub with_fields : Stack → (Span → List (List ℕ × Exp) → Stack → Option Stack) → Option Stack
 with_fields s f = option_and_then (λ t. f t.0 t.1 t.2) (top_fields s)
 
+-- what an action makes of the path on top, where there is one
 abbrev pub with_path : Stack → (List Seg → Stack → Option Stack) → Option Stack
 with_path s f = option_and_then (λ t. f t.0 t.1) (top_path s)
 
+-- what an action makes of the two finished parts on top, where there are two
 abbrev pub with_pair : Stack → (Exp → Exp → Stack → Option Stack) → Option Stack
 with_pair s f = option_and_then (λ t. f t.0 t.1 t.2) (top_pair s)
 
+-- what an action makes of the part that a position is in, where it is on top
 abbrev pub with_whole : Stack → (Exp → Stack → Option Stack) → Option Stack
 with_whole s f = option_and_then (λ t. f t.0 t.1) (top_whole s)
 
+-- what an action makes of the name on top, where there is one
 abbrev pub with_label : Stack → (List ℕ → Stack → Option Stack) → Option Stack
 with_label s f = option_and_then (λ t. f t.0 t.1) (top_label s)
 
+-- what an action makes of the place on top, where there is one
 abbrev pub with_place : Stack → (Span → Stack → Option Stack) → Option Stack
 with_place s f = option_and_then (λ t. f t.0 t.1) (top_place s)
 
+-- the stack with one more piece
 abbrev pub put : Piece → Stack → Option Stack
 put p s = Some (p ∷ s)
 
@@ -89,11 +105,13 @@ abbrev pub call_name : Node-F Count Node Seg Exp → Option (List ℕ)
 call_name (Node-F.Call name []) = Some name
 call_name n = None
 
+-- A function alone becomes its call with these arguments.
 abbrev pub called : Exp → List Exp → Stack → Option Stack
 called e es s =
     option_and_then (λ name. put (Done (exp (place e) (node.Call name es))) s)
     (call_name (opened e))
 
+-- the stack behind an action, and none where the action does not fit what is on top
 abbrev pub applied : Action → Stack → Option Stack
 applied (action.Operand k x) s = put (Done (exp x.at (leaf_node k x.kind))) s
 applied (action.Dot x) s = with_done s (λ e. put (Done (dotted e x)))

@@ -42,6 +42,7 @@ frames_acts (within h ts pre fs) =
 frames_acts (over g fs) = frames_acts fs ++ lead_acts g
 frames_acts (timing t m x fs) = frames_acts fs ++ acts t
 
+-- the actions of what is read so far
 abbrev pub state_acts : State → List Action
 state_acts (want fs) = frames_acts fs
 state_acts (got t fs) = frames_acts fs ++ acts t
@@ -64,7 +65,7 @@ abbrev pub lowering : ℕ → Frames → List Action
 lowering n (over g fs) = if nat_le (reach g) n then [] else end_acts g ++ lowering n fs
 lowering n fs = []
 
--- behind a part of a bracket: the sort of bracket
+-- what ends a part of a bracket: the sort of bracket
 abbrev pub part_end : Heading → List Action
 part_end h = inner_acts h [] (action.Part ∷ []) (action.Field ∷ [])
 
@@ -74,18 +75,20 @@ abbrev pub shutting : Heading → Trees → Token → Frames → List Action
 shutting (segment p o) ts x fs = closing_acts (segment p o) ts
 shutting h ts x fs = closing_acts h ts ++ settling (bracket h ts x) fs
 
+-- the actions of a bracket that closes behind this part, if one is innermost
 abbrev pub closed : Token → Tree × Frames → List Action
 closed x (t, within h ts pre fs) = part_end h ++ shutting h (more ts pre t) x fs
 closed x p = []
 
 -- ---- what begins
 
--- arguments that are none
+-- A call without arguments ends.
 abbrev pub no_arguments_end : Token → Frames → List Action
 no_arguments_end x (within (arguments f o) ts pre fs) =
     action.EndCall ∷ settling (bracket (arguments f o) none x) fs
 no_arguments_end x fs = []
 
+-- a closing sign where an operand is due: a bar begins a length, `)` ends a call without arguments
 abbrev pub beginning_closing : Closing → Token → Frames → List Action
 beginning_closing by_bar x fs = opening_acts (length x)
 beginning_closing by_round x fs = no_arguments_end x fs
@@ -111,6 +114,7 @@ abbrev pub extending : Frames → List Action
 extending (over (items ts) fs) = item_act ts ∷ []
 extending fs = action.First ∷ []
 
+-- what ends a part of the innermost bracket, where a sign sets off the next one
 abbrev pub separating : Frames → List Action
 separating (within h ts pre fs) = part_end h
 separating fs = []
@@ -120,16 +124,20 @@ abbrev pub joining : Mark → Frames → List Action
 joining m fs =
     if has_level (sort fs) (level_of m) && nat_le (least fs) (level_of m) then [] else separating fs
 
+-- a sign behind a part: it iterates the part, or closes what binds tighter and joins sides or
+-- sets off parts
 abbrev pub behind_sign_acts : Mark → Token → Tree → Frames → List Action
 behind_sign_acts m x t fs =
     if may_post (sort fs) t (sign m x) then post_acts (sign m x)
     else if is_expression (sort fs) && is_caret m then []
     else lowering (pull (sort fs) m) fs ++ joining m (lower (pull (sort fs) m) t fs).1
 
+-- a bracket that opens behind a part: a path behind `[`, and arguments behind `(`
 abbrev pub behind_opening_acts : Bracket → Token → List Action
 behind_opening_acts square x = action.OpenPath ∷ []
 behind_opening_acts k x = action.Open x.at ∷ []
 
+-- a token behind a part that goes on with it or ends it
 abbrev pub behind_acts : Tree → Frames → Terminal → List Action
 behind_acts t fs (dot x) = post_acts (dot x)
 behind_acts t fs (sign m x) = behind_sign_acts m x t fs
@@ -137,6 +145,7 @@ behind_acts t fs (opening k x) = behind_opening_acts k x
 behind_acts t fs (closing c x) = lowering 0 fs ++ closed x (lower 0 t fs)
 behind_acts t fs l = []
 
+-- a token behind a part: the next element of a sequence, or what goes on with the part
 abbrev pub after_acts : Tree → Frames → Terminal → List Action
 after_acts t fs l =
     if follows (sort fs) t l then extending fs ++ beginning (extend t fs) l else behind_acts t fs l
@@ -160,6 +169,7 @@ path_step_acts p fs l = index_acts_in p fs l
 abbrev pub name_acts : Heading → Terminal → List Action
 name_acts h l = inner_acts h [] [] (action.Label (token_in l) ∷ [])
 
+-- the action of the name of an index in a count
 abbrev pub name_index_acts : Frames → Terminal → List Action
 name_index_acts fs (leaf low i) = index_label i fs
 name_index_acts fs l = []
@@ -180,6 +190,7 @@ abbrev pub finishing : State → List Action
 finishing (got t fs) = lowering 0 fs
 finishing st = []
 
+-- the actions from the next state on, where there is one
 abbrev pub on_next : (State → List Action) → Option State → List Action
 on_next f None = []
 on_next f (Some next) = f next

@@ -15,14 +15,17 @@ use Rattle.st_parse_builder.specs.declared.notation_piece.NotationPiece.{Notatio
 use Rattle.st_parse_builder.specs.declared.notation_piece.NotationPiece.TheVariants.{Hole as a_type, Whole as whole, Types as types, Elements as elements, From as from_place}
 use Rattle.st_parse_builder.specs.Notations.{typ_at, typ_leaf, marked, typ_in_parens, typ_meaning, notation_at, notation_place, hole, notation_leaf, atom_on, tick, notation_joined, notation_meaning}
 
+-- the pieces that are built so far
 abbrev pub Stack : Type 0
 Stack = List NotationPiece
 
+-- the piece of one token: a type, or an atom
 abbrev pub operand_piece : Leaf → Token → NotationPiece
 operand_piece leaf.Low x = a_type (typ_at x.at (typ_leaf x.kind))
 operand_piece leaf.Basic x = a_type (typ_at x.at (typ_leaf x.kind))
 operand_piece k x = whole (notation_leaf k x)
 
+-- the stack with one more piece
 abbrev pub put : NotationPiece → Stack → Option Stack
 put p s = Some (p ∷ s)
 
@@ -34,39 +37,47 @@ top_notation (a_type t ∷ s) = Some (hole t, s)
 top_notation (whole n ∷ s) = Some (n, s)
 top_notation s = None
 
+-- the type on top, and what is below it
 abbrev pub top_type : Stack → Option (Typ × Stack)
 top_type (a_type t ∷ s) = Some (t, s)
 top_type s = None
 
+-- the notation on top that is no type alone, and what is below it
 abbrev pub top_whole : Stack → Option (Notation × Stack)
 top_whole (whole n ∷ s) = Some (n, s)
 top_whole s = None
 
+-- where a part begins whose sign or bracket is read, and what is below
 abbrev pub top_place : Stack → Option (Span × Stack)
 top_place (from_place at ∷ s) = Some (at, s)
 top_place s = None
 
+-- what an action makes of the part on top as a notation, where there is one
 abbrev pub with_notation : Stack → (Notation → Stack → Option Stack) → Option Stack
 with_notation s f = option_and_then (λ t. f t.0 t.1) (top_notation s)
 
+-- what an action makes of the type on top, where there is one
 abbrev pub with_type : Stack → (Typ → Stack → Option Stack) → Option Stack
 with_type s f = option_and_then (λ t. f t.0 t.1) (top_type s)
 
+-- what an action makes of the notation on top that is no type alone, where there is one
 abbrev pub with_whole : Stack → (Notation → Stack → Option Stack) → Option Stack
 with_whole s f = option_and_then (λ t. f t.0 t.1) (top_whole s)
 
+-- what an action makes of the place on top, where there is one
 abbrev pub with_place : Stack → (Span → Stack → Option Stack) → Option Stack
 with_place s f = option_and_then (λ t. f t.0 t.1) (top_place s)
 
 -- ---- actions
 
--- one more type or element
+-- one more type in parentheses, or one more element of a sequence
 abbrev pub put_part : NotationPiece → Stack → Option Stack
 put_part (a_type t) (types at ts ∷ s) = put (types at (ts ++ t ∷ [])) s
 put_part (a_type t) (elements at ns ∷ s) = put (elements at (ns ++ hole t ∷ [])) s
 put_part (whole n) (elements at ns ∷ s) = put (elements at (ns ++ n ∷ [])) s
 put_part p s = None
 
+-- the stack behind an action, and none where the action does not fit what is on top
 abbrev pub applied : Action → Stack → Option Stack
 applied (action.Operand k x) s = put (operand_piece k x) s
 applied (action.Dot x) s = with_whole s (λ n. put (whole (atom_on n x)))
@@ -93,20 +104,22 @@ abbrev pub run : List Action → Stack → Option Stack
 run [] s = Some s
 run (a ∷ later) s = option_and_then (run later) (applied a s)
 
--- the one type on the stack, and the one notation
+-- the one type on the stack
 abbrev pub the_typ : Stack → Option Typ
 the_typ (a_type t ∷ []) = Some t
 the_typ s = None
 
+-- the one part on the stack, as a notation
 abbrev pub the_notation : Stack → Option Notation
 the_notation (a_type t ∷ []) = Some (hole t)
 the_notation (whole n ∷ []) = Some n
 the_notation s = None
 
--- the type that actions build, and the notation
+-- the type that actions build
 abbrev pub typ_built : List Action → Option Typ
 typ_built actions = option_and_then the_typ (run actions [])
 
+-- the notation that actions build
 abbrev pub notation_built : List Action → Option Notation
 notation_built actions = option_and_then the_notation (run actions [])
 

@@ -10,9 +10,11 @@ use Rattle.st_parse_builder.specs.declared.notation_piece.NotationPiece.{Notatio
 use Rattle.st_parse_builder.specs.declared.notation_piece.NotationPiece.TheVariants.{Hole as a_type, Whole as whole, Types as types, Elements as elements, From as from_place}
 use Rattle.st_parse_builder.specs.Heights.{highest, height, seg_height, typ_height, notation_height}
 
+-- the height of the expression of a field
 abbrev pub field_height : List ℕ × Exp → ℕ
 field_height f = height f.1
 
+-- the height of the highest expression in a piece, and 0 where it holds none
 abbrev pub piece_height : Piece → ℕ
 piece_height (Done e) = height e
 piece_height (Parts at es) = highest (map height es)
@@ -21,6 +23,7 @@ piece_height (Path ps) = highest (map seg_height ps)
 piece_height (Label name) = 0
 piece_height (Here at) = 0
 
+-- the height of the highest piece on a stack
 abbrev pub stack_height : List Piece → ℕ
 stack_height s = highest (map piece_height s)
 
@@ -29,6 +32,7 @@ stack_height s = highest (map piece_height s)
 abbrev pub prefixed_height : Mark → ℕ → ℕ
 prefixed_height m h = (if is_tilde m || is_minus m then h else max 1 h) + 1
 
+-- the height of the highest type or notation in a piece, and 0 where it holds none
 abbrev pub notation_piece_height : NotationPiece → ℕ
 notation_piece_height (a_type t) = typ_height t
 notation_piece_height (whole n) = notation_height n
@@ -36,5 +40,6 @@ notation_piece_height (types at ts) = highest (map typ_height ts)
 notation_piece_height (elements at ns) = highest (map notation_height ns)
 notation_piece_height (from_place at) = 0
 
+-- the height of the highest of these pieces on a stack
 abbrev pub notation_stack_height : List NotationPiece → ℕ
 notation_stack_height s = highest (map notation_piece_height s)

@@ -4,6 +4,7 @@ use Rattle.st_parse_builder.specs.declared.entry.Entry.{Entry}
 use Rattle.st_parse_builder.specs.declared.entry.Made.{Made}
 use Rattle.st_parse_builder.specs.declared.piece.Piece.{Piece}
 
+-- the pieces of a stack without their heights, the innermost first
 abbrev pub pieces : List Entry → List Piece
 pieces entries = map (λ e. e.piece) (reverse entries)
 

@@ -25,6 +25,7 @@ abbrev pub AreBuilt : List Exp → Option (List Exp) → Type 0
 AreBuilt es (Some built) = (built ≡ es) × (highest (map height es) ≤ HIGHEST_TREE)
 AreBuilt es None = HIGHEST_TREE < highest (map height es)
 
+-- the expressions with one more, where all are built
 abbrev pub with_exp : Option (List Exp) → Option Exp → Option (List Exp)
 with_exp (Some es) (Some e) = Some (es ++ e ∷ [])
 with_exp es e = None
@@ -36,6 +37,7 @@ pub record Draft : Type 0 where
   pub marks : List Mark
   pub actions : List Action
 
+-- a draft of these expressions, signs and actions
 abbrev pub draft : Option (List Exp) → List Mark → List Action → Draft
 draft es ms done = record { exps = es; marks = ms; actions = done }
 
@@ -43,6 +45,7 @@ draft es ms done = record { exps = es; marks = ms; actions = done }
 pub record Ends (st : parts.State) (old new : Draft) : Type 0 where
   pub marks : new.marks ≡ []
   pub actions : new.actions ≡ []
+  -- The expression that the actions build is one more of those that are built.
   pub exps : (t : Tree) (es : List Exp) → Fits (expression false) t
       → acts t ≡ old.actions ++ emits.finishing st → AreBuilt es old.exps
       → AreBuilt (es ++ meaning t ∷ []) new.exps

@@ -1,5 +1,5 @@
--- The same of what the parser keeps: an expression is read as the conclusion of a rule, behind
--- which nothing but a comma stands.
+-- The verdicts on tokens of expressions, told of what the parser keeps: an expression is read as
+-- the conclusion of a rule, behind which nothing but a comma stands.
 use Rattle.std.specs.Prelude.{[], Bool, true, false, ◌&&◌, if◌then◌else◌}
 use Rattle.st_num.specs.declared.rule.RuleId.TheVariants.{S1}
 use Rattle.st_scan.specs.declared.token.TokenKind.{TokenKind}
@@ -14,9 +14,11 @@ use Rattle.st_parse_faults.specs.inner.Seen.{Summary, Verdict, passed, broken}
 abbrev pub separates : definitions.State → TokenClass → Bool
 separates st l = definitions.signed is_comma l && definitions.may_end st
 
+-- what is known where a next expression begins, with as many brackets open as before
 abbrev pub begun : Summary → Summary
 begun v = seen.nothing_counted (definitions.start_of slot.Rule []) v.nesting
 
+-- The reading is in a part, and not at a position between parts.
 abbrev pub is_inside : definitions.State → Bool
 is_inside (definitions.inside s st ks) = true
 is_inside (definitions.at p ks) = false
@@ -26,5 +28,6 @@ abbrev pub alone : Verdict → Verdict
 alone (passed v) = if is_inside v.state then passed v else broken S1
 alone (broken r) = broken r
 
+-- the verdict on a token: a comma begins a next expression, and another goes on with the open one
 abbrev pub judge : Summary → TokenKind → TokenClass → Verdict
 judge v k l = if separates v.state l then passed (begun v) else alone (seen.judge v k l)
