@@ -19,6 +19,7 @@ abbrev pub tag_at : {X : Type 0} → Value-F X → List ℕ
 tag_at (Value-F.Case tag parts) = tag
 tag_at _ = []
 
+-- the tag of a value that is a case; other values have none
 abbrev pub tag_of : Value → List ℕ
 tag_of val = tag_at (out-Value val)
 
@@ -30,6 +31,7 @@ IsPlainCase val = val ≡ value.Case (tag_of val) []
 abbrev pub case_tree : List ℕ → TextTree
 case_tree tag = list (more (word (codes "c")) (more (quote tag) none))
 
+-- the tree of a value that is a case without operands
 abbrev pub value_tree : Value → TextTree
 value_tree val = case_tree (tag_of val)
 
@@ -41,15 +43,18 @@ value_trees vals = row_of (map value_tree vals)
 abbrev pub IsUpperLetter : ℕ → Type 0
 IsUpperLetter byte = (65 ≤ byte) × (byte ≤ 90)
 
+-- a byte with which the name of a relation goes on: a letter, a digit, `_` or `'`
 abbrev pub IsNameByte : ℕ → Type 0
 IsNameByte byte =
     IsUpperLetter byte ⊎ ((97 ≤ byte) × (byte ≤ 122)) ⊎ ((48 ≤ byte) × (byte ≤ 57)) ⊎ (byte ≡ 95)
     ⊎ (byte ≡ 39)
 
+-- the name of a relation: an upper-case letter, and then letters, digits, `_` and `'`
 abbrev pub IsRelationName : List ℕ → Type 0
 IsRelationName [] = ⊥
 IsRelationName (byte ∷ bytes) = IsUpperLetter byte × All IsNameByte bytes
 
+-- the word of how a run ended
 abbrev pub ending_word : Ending → List ℕ
 ending_word Stuck = codes "stuck"
 ending_word Fuel = codes "fuel"

@@ -124,6 +124,7 @@ pub fn sequence<F: Fn(&Within, &Asking<'_>) -> Result<Found, ExpFault>>(
     Ok(given)
 }
 
+/// The items of a sequence at a list type with this element type.
 fn items<F: Fn(&Within, &Asking<'_>) -> Result<Found, ExpFault>>(
     context: &Context<'_>,
     ask: &F,

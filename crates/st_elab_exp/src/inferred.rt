@@ -45,6 +45,7 @@ fn variable_type(context: &Context<'_>, name: &Name) -> Result<Option<Ty>, NoMem
     type_of_name(context.alloc, context.decls, name)
 }
 
+/// A variable, of the type that its scope or its name gives it; B3 where none does.
 fn variable_row(context: &Context<'_>, at: Span, name: &Name) -> Result<Found, ExpFault>
     ensures { LeadsTo context.now (variable_row at name.now (variable_type context.now.decls.now
         context.now.scope.now context.now.within.now name.now)) result }
@@ -60,6 +61,7 @@ fn variable_row(context: &Context<'_>, at: Span, name: &Name) -> Result<Found, E
     Ok(given)
 }
 
+/// A truth value, of type `bool`.
 fn bool_row(context: &Context<'_>, truth: bool) -> Result<Found, ExpFault>
     ensures { LeadsTo context.now (give (il.Bool truth) typ.Bool) result }
 {
@@ -67,6 +69,7 @@ fn bool_row(context: &Context<'_>, truth: bool) -> Result<Found, ExpFault>
     Ok(given)
 }
 
+/// A number, of type `nat`.
 fn number_row(context: &Context<'_>, number: u128) -> Result<Found, ExpFault>
     ensures { LeadsTo context.now (give (il.Number number) typ.Nat) result }
 {
@@ -74,6 +77,7 @@ fn number_row(context: &Context<'_>, number: u128) -> Result<Found, ExpFault>
     Ok(given)
 }
 
+/// A text, of type `text`.
 fn text_row(context: &Context<'_>, text: &Name) -> Result<Found, ExpFault>
     ensures { LeadsTo context.now (give (il.Text text.now) typ.Text) result }
 {
@@ -107,6 +111,7 @@ pub fn arguments<F: Fn(&Within, &Asking<'_>) -> Result<Found, ExpFault>>(
     Ok(all)
 }
 
+/// A call of a declared function, its arguments at the types of the parameters.
 fn call_row<F: Fn(&Within, &Asking<'_>) -> Result<Found, ExpFault>>(
     context: &Context<'_>,
     ask: &F,
@@ -144,6 +149,7 @@ pub struct FoundAll {
     pub tys: Row<Ty>,
 }
 
+/// Each expression with its inferred type.
 fn each_found<F: Fn(&Within, &Asking<'_>) -> Result<Found, ExpFault>>(
     context: &Context<'_>,
     ask: &F,
@@ -163,6 +169,7 @@ fn each_found<F: Fn(&Within, &Asking<'_>) -> Result<Found, ExpFault>>(
     Ok(FoundAll { exps: parts, tys })
 }
 
+/// A tuple of inferred parts, of the tuple of their types.
 fn tuple_row<F: Fn(&Within, &Asking<'_>) -> Result<Found, ExpFault>>(
     context: &Context<'_>,
     ask: &F,

@@ -28,6 +28,7 @@ pub fn give_at(alloc: Global, exp: IlExp, ty: &Ty) -> Result<Found, NoMemory>
     give_boxed(alloc, exp, ty)
 }
 
+/// This expression in its box, of a type that was asked.
 fn give_boxed(alloc: Global, exp: Boxed<IlExp>, ty: &Ty) -> Result<Found, NoMemory>
     ensures { IfOk result (λ given. made_by given ≡ made exp ty.now) }
 {
@@ -128,6 +129,7 @@ pub enum Joining {
     Records,
 }
 
+/// Two lists behind each other, or two records joined.
 fn joined_by(join: Joining, x: Boxed<IlExp>, y: Boxed<IlExp>) -> IlExp
     ensures { result ≡ join_of join x y }
 {

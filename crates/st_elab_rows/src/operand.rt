@@ -83,6 +83,7 @@ pub fn equation_row<F: Fn(&Within, &Asking<'_>) -> Result<Found, ExpFault>>(
     })
 }
 
+/// An equation whose left side is inferable.
 fn equation_from_left<F: Fn(&Within, &Asking<'_>) -> Result<Found, ExpFault>>(
     context: &Context<'_>,
     ask: &F,
@@ -154,6 +155,7 @@ fn compared(
     Ok(given)
 }
 
+/// An equation whose right side alone is inferable: the left one is asked at its type.
 fn equation_from_right<F: Fn(&Within, &Asking<'_>) -> Result<Found, ExpFault>>(
     context: &Context<'_>,
     ask: &F,

@@ -18,6 +18,7 @@ use Rattle.st_elab_table.specs.Steps.{exp_of, holes}
 use Rattle.st_elab_table.specs.Choice.{FillsCase}
 use Rattle.st_elab_rows.specs.Parts.{AskedAs, Breaks}
 
+-- this rule is broken at this place
 abbrev pub broken : Span → RuleId → Breach
 broken at rule = record { at = at; rule = rule }
 

@@ -29,6 +29,7 @@ use Rattle.st_elab_rule.specs.Judgements.{broken, relation_named, Judged, Judged
 abbrev pub place_of : Prem → Span
 place_of p = (out-Prem p).at
 
+-- the condition, judgement, `otherwise` or iteration that a premise is
 abbrev pub node_of : Prem → PremNode-F PremNode Prem
 node_of p = out-PremNode (out-Prem p).node
 

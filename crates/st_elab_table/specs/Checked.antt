@@ -28,6 +28,7 @@ sequence_at w at p e es t u (Ty-F.List x) =
     if is_run es p then sequence w at es t x else other_row w at p e t (Ty-F.List x)
 sequence_at w at p e es t u y = notation_row w at p e t u
 
+-- an expression that is not inferable, by its form, at the type t that means u
 abbrev pub form_row : Decls → Scope → Within → Span → Bool → Exp → Ty → Ty
     → Node-F Count Node Seg Exp → Step
 form_row D S w at p e t u Node-F.Eps = eps_row at t (out-Ty u)
@@ -50,6 +51,8 @@ plain_row D S w at p e t =
 
 -- ---- all rows at a type
 
+-- a tuple at a type of this meaning: by parts at a tuple type of its length,
+-- and else as any other expression
 abbrev pub tuple_at : Decls → Scope → Within → Span → Bool → Exp → List Exp → Ty → Ty-F Ty → Step
 tuple_at D S w at p e es t (Ty-F.Tuple ts) =
     if nat_eq (length es) (length ts)

@@ -27,6 +27,7 @@ row D S (infer w at e) = inferred_row D S w at e (opened e)
 row D S (item w t x e) = item_row w t x e
 row D S (hole w at filling t) = hole_row w at filling t
 
+-- the condition holds of its types, as they are declared
 abbrev pub Holds : Decls → Condition → Type 0
 Holds D (are_same a b) = Same D.types a b
 Holds D (is_below a b) = Sub D.types a b

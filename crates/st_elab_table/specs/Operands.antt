@@ -70,9 +70,11 @@ both_numeric w l r next =
     numeric w l (λ a m. numeric w r (λ b n.
     next (wider m n) (injected m (wider m n) a.exp) (injected n (wider m n) b.exp)))
 
+-- two numbers, compared by size
 abbrev pub order_row : Within → Mark → Exp → Exp → Step
 order_row w sign l r = both_numeric w l r (λ n x y. give (ordered sign x y) ty.Bool)
 
+-- arithmetic on two numbers, of the wider type of the two
 abbrev pub arithmetic_row : Within → Mark → Exp → Exp → Step
 arithmetic_row w sign l r = both_numeric w l r (λ n x y. give (reckoned sign n x y) (number_type n))
 
@@ -94,9 +96,11 @@ concatenated at a b =
     (λ t. as_joined at t (λ join. raised a t (λ x. raised b t (λ y. give (join x y) t))))
     (breach at Y5)
 
+-- `++` between two sides whose types are inferred
 abbrev pub inferred_concatenation : Within → Span → Exp → Exp → Step
 inferred_concatenation w at l r = Asks (found w l) (λ a. Asks (found w r) (concatenated at a))
 
+-- two operands of a sign, by the kind of operator that it is
 abbrev pub binary_row : Within → Span → Mark → Exp → Exp → Operator → Step
 binary_row w at sign l r operator.Logic = logic_row w sign l r
 binary_row w at sign l r operator.Equation = equation_row w at sign l r

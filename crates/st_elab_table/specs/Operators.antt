@@ -7,6 +7,7 @@ use Rattle.st_il.specs.declared.expression.IlExp.TheVariants as il
 use Rattle.st_elab_table.specs.declared.operator.Operator.{Operator}
 use Rattle.st_elab_table.specs.declared.operator.Operator.TheVariants as operator
 
+-- the kind of operator that a sign between two operands is
 abbrev pub operator_of : Mark → Operator
 operator_of mark.And = operator.Logic
 operator_of mark.Or = operator.Logic

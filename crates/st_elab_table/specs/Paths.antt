@@ -23,9 +23,11 @@ use Rattle.st_elab_table.specs.Steps.{breach, give, asked, found, as_list}
 
 -- ---- lists and paths
 
+-- the length of a list whose type is inferred, a `nat`
 abbrev pub length_row : Within → Exp → Step
 length_row w e = Asks (found w e) (λ m. as_list (place e) m.ty (λ x. give (il.Len m.exp) ty.Nat))
 
+-- the element of a list at a position, which is asked at `nat`
 abbrev pub position_row : Within → Exp → Exp → Step
 position_row w e i =
     Asks (found w e)
@@ -38,10 +40,13 @@ slice_row w e i n =
     Asks (asked w i ty.Nat)
     (λ a. Asks (asked w n ty.Nat) (λ b. give (il.Slice m.exp a.exp b.exp) m.ty))))
 
+-- what follows from the type of a field that was looked up; Y4 here where there is none
 abbrev pub declared_field : Span → (Ty → Step) → Option Ty → Step
 declared_field at next None = breach at Y4
 declared_field at next (Some t) = next t
 
+-- what follows from the type of a field among those of a type:
+-- Y5 at the first place where it has no fields, Y4 at the other where it has none of this name
 abbrev pub field_by : Span → Span → List ℕ → (Ty → Step) → Option (List (List ℕ × Ty)) → Step
 field_by at whole name next None = breach at Y5
 field_by at whole name next (Some fields) =
@@ -52,6 +57,7 @@ field_by at whole name next (Some fields) =
 abbrev pub as_field : Decls → Span → Span → List ℕ → Ty → (Ty → Step) → Step
 as_field D at whole name t next = Opens t (λ u. field_by at whole name next (fields_of D.types u))
 
+-- a field of a record whose type is inferred
 abbrev pub field_row : Decls → Within → Span → Exp → List ℕ → Step
 field_row D w at e name =
     Asks (found w e) (λ m. as_field D (place e) at name m.ty (λ t. give (il.Dot m.exp name) t))

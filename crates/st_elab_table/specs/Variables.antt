@@ -11,6 +11,7 @@ use Rattle.st_elab_table.specs.declared.decls.Decls.{Decls}
 
 -- ---- the names that remain of a name
 
+-- a byte put before a name without primes at its end; a prime alone is dropped
 abbrev pub before_end : ℕ → List ℕ → List ℕ
 before_end c [] = if nat_eq c (byte "'") then [] else c ∷ []
 before_end c (d ∷ ds) = c ∷ d ∷ ds

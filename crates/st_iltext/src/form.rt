@@ -9,12 +9,14 @@ use st_num::{Name, NoMemory, Row};
 use st_text::TextTree;
 use std::alloc::Global;
 
+/// A word as a tree.
 pub fn word_tree(alloc: Global, bytes: &[u8]) -> Result<TextTree, NoMemory>
     ensures { IfOk result (λ tree. tree_of tree ≡ word bytes.now) }
 {
     Ok(TextTree::Word(Row::from_slice(alloc, bytes)?))
 }
 
+/// A quoted text as a tree.
 pub fn quote_tree(alloc: Global, text: &Name) -> Result<TextTree, NoMemory>
     ensures { IfOk result (λ tree. tree_of tree ≡ quote text.now) }
 {

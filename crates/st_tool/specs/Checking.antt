@@ -31,6 +31,7 @@ pub record IsTokenFault (files : List (List ℕ)) (at : Span) (rule : RuleId) : 
   pub is_file : slice_get files at.file ≡ Some file
   pub fault : FirstFault at.file file at rule
 
+-- the fault is the first one by which a file has no tokens, unless memory gave out
 abbrev pub TellsFault : List (List ℕ) → LexFault → Type 0
 TellsFault files (Refused at rule) = IsTokenFault files at rule
 TellsFault files Memory = ⊤

@@ -25,6 +25,7 @@ use Rattle.st_words.specs.Arranged.{has_options}
 abbrev pub default_fuel : ℕ
 default_fuel = 1000
 
+-- the status of a run that ended so
 abbrev pub status_of : Ending → Status
 status_of Stuck = answer.Done
 status_of Fuel = answer.Fuel
@@ -135,6 +136,7 @@ IsBuilt words command = HasBuiltForm command × (has_options words ≡ false)
 abbrev pub source_limit : ℕ
 source_limit = 1048576
 
+-- the most bytes of a text that the program itself prints: of an internal language or a derivation
 abbrev pub text_limit : ℕ
 text_limit = 67108864
 

@@ -15,6 +15,7 @@ pub record Counts : Type 0 where
   pub faults : ℕ
   pub last : Option (List ℕ)
 
+-- so many loads, so many faults, and this name as the one whose load failed last
 abbrev pub counts_of : ℕ → ℕ → Option (List ℕ) → Counts
 counts_of loads faults last = record { loads = loads; faults = faults; last = last }
 

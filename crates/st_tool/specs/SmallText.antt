@@ -9,6 +9,7 @@ use Rattle.st_il.specs.Small.{IsSmall}
 abbrev pub alternative_text : List ℕ → List ℕ
 alternative_text atom = codes " | " ++ atom
 
+-- the line `syntax x = | A | B ..`
 abbrev pub syntax_line : List ℕ → List (List ℕ) → List ℕ
 syntax_line syntax atoms =
     codes "syntax " ++ syntax ++ codes " =" ++ flat_map alternative_text atoms ++ codes "\n"

@@ -48,6 +48,7 @@ pub record TakenTo (il : Il) (bytes : List ℕ) (checking : Checking) (rest : Li
   pub parts : bytes ≡ front ++ rest
   pub taken : HasTaken il lines checking
 
+-- the bytes are not those of lines of a derivation with something behind them
 abbrev pub HasNoLines : List ℕ → Type 0
 HasNoLines bytes = (lines : List Line) (rest : List ℕ) → ¬ (AreLines bytes lines rest)
 
