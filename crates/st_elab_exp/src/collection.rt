@@ -52,7 +52,7 @@ fn element<F: Fn(&Within, &Asking<'_>) -> Result<Found, ExpFault>>(
     Ok(given)
 }
 
-/// Any other expression, at a type of this meaning.
+/// Any other expression, at a type of this meaning: one element of a list or an option, or Y1.
 pub fn other_row<F: Fn(&Within, &Asking<'_>) -> Result<Found, ExpFault>>(
     context: &Context<'_>,
     ask: &F,
@@ -228,7 +228,7 @@ fn run_row<F: Fn(&Within, &Asking<'_>) -> Result<Found, ExpFault>>(
     }
 }
 
-/// A part that was left out.
+/// What fills a hole of this type that was left out.
 fn absent(context: &Context<'_>, ty: &Ty) -> Result<Found, ExpFault>
     ensures { LeadsTo context.now (give (il.Absent ty.now) ty.now) result }
 {

@@ -31,7 +31,7 @@ use st_elab_table::{ExpFault, Operator, operator_of};
 use st_il::{IlExp, Ty, copy_ty};
 use st_num::{Mark, Name, NoMemory, Row, RuleId, Span};
 
-/// The type of a variable.
+/// The type of a variable, by its scope or by its name, if it has one.
 fn variable_type(context: &Context<'_>, name: &Name) -> Result<Option<Ty>, NoMemory>
     ensures { IfOk result (λ ty. ty ≡ variable_type context.now.decls.now context.now.scope.now
         context.now.within.now name.now) }
@@ -86,7 +86,7 @@ fn text_row(context: &Context<'_>, text: &Name) -> Result<Found, ExpFault>
     Ok(given)
 }
 
-/// Each expression at its type.
+/// What each expression is at its type.
 pub fn arguments<F: Fn(&Within, &Asking<'_>) -> Result<Found, ExpFault>>(
     context: &Context<'_>,
     ask: &F,
@@ -184,7 +184,7 @@ fn tuple_row<F: Fn(&Within, &Asking<'_>) -> Result<Found, ExpFault>>(
     Ok(given)
 }
 
-/// Two operands of a sign.
+/// Two operands of a sign, by the kind of operator that it is.
 fn binary_row<F: Fn(&Within, &Asking<'_>) -> Result<Found, ExpFault>>(
     context: &Context<'_>,
     ask: &F,
@@ -264,7 +264,7 @@ fn inferred_at<F: Fn(&Within, &Asking<'_>) -> Result<Found, ExpFault>>(
     }
 }
 
-/// No type of its own can be found.
+/// The breach of Y3: no type of its own can be found.
 fn untyped(at: Span) -> Result<Found, ExpFault>
     ensures { result ≡ Err (fault.Refused at Y3) }
 {
@@ -274,7 +274,7 @@ fn untyped(at: Span) -> Result<Found, ExpFault>
     })
 }
 
-/// An expression for its type.
+/// What an expression is, and its type; Y3 where it is not inferable.
 pub fn inferred_row<F: Fn(&Within, &Asking<'_>) -> Result<Found, ExpFault>>(
     context: &Context<'_>,
     ask: &F,

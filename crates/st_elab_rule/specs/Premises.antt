@@ -25,7 +25,7 @@ use Rattle.st_elab_table.specs.Elaboration.{Reached, Stopped}
 use Rattle.st_elab_exp.specs.Inside.{ElabInside, InsideBreach}
 use Rattle.st_elab_rule.specs.Judgements.{broken, relation_named, Judged, JudgedBreach}
 
--- where a premise stands, and what it is
+-- where a premise stands
 abbrev pub place_of : Prem → Span
 place_of p = (out-Prem p).at
 

@@ -22,7 +22,7 @@ use Rattle.st_elab_table.specs.Records.{record_row, notation_row}
 
 -- ---- the rows for an expression that is not inferable
 
--- a sequence
+-- a sequence: at a list type its items, or one element; at any other type by its notation
 abbrev pub sequence_at : Within → Span → Bool → Exp → List Exp → Ty → Ty → Ty-F Ty → Step
 sequence_at w at p e es t u (Ty-F.List x) =
     if is_run es p then sequence w at es t x else other_row w at p e t (Ty-F.List x)
@@ -43,7 +43,7 @@ form_row D S w at p e t u (Node-F.Infix l sign r) = notation_row w at p e t u
 form_row D S w at p e t u (Node-F.Bracket opening b) = notation_row w at p e t u
 form_row D S w at p e t u _ = other_row w at p e t (out-Ty u)
 
--- an inferable expression, and else by its form
+-- an expression at the type t: an inferable one is fitted to it, any other goes by its form
 abbrev pub plain_row : Decls → Scope → Within → Span → Bool → Exp → Ty → Step
 plain_row D S w at p e t =
     if inferable e then Asks (infer w at e) (fitted at t)
@@ -60,7 +60,8 @@ tuple_at D S w at p e es t (Ty-F.Tuple ts) =
     else plain_row D S w at p e t
 tuple_at D S w at p e es t _ = plain_row D S w at p e t
 
--- A tuple at a tuple type of its length goes by parts. Parentheses change nothing but the place.
+-- An expression at the type t: a tuple at a tuple type of its length goes by parts.
+-- Parentheses change nothing but the place.
 abbrev pub checked_row : Decls → Scope → Within → Span → Bool → Exp → Ty
     → Node-F Count Node Seg Exp → Step
 checked_row D S w at p e t (Node-F.Paren inner) = pass (check w at true inner t)

@@ -28,7 +28,7 @@ use Rattle.st_elab_table.specs.Steps.{breach, made, give, pass, asked, found, is
 
 -- ---- lists and options
 
--- one element of this type, in a list or an option of the type t
+-- the expression as one element of the type x, in a list or an option of the type t
 abbrev pub element : Within → Span → Bool → Exp → Ty → Ty → (IlExp → IlExp) → Step
 element w at p e t x lift =
     Opens x (λ v. if is_collection v then breach at Y1
@@ -40,13 +40,13 @@ other_row w at p e t (Ty-F.List x) = element w at p e t x (list_of_one x)
 other_row w at p e t (Ty-F.Opt x) = element w at p e t x il.Present
 other_row w at p e t _ = breach at Y1
 
--- `eps`
+-- `eps` at the type t: the empty list or the empty option; Y1 at any other type
 abbrev pub eps_row : Span → Ty → Ty-F Ty → Step
 eps_row at t (Ty-F.List x) = give (il.List x []) t
 eps_row at t (Ty-F.Opt x) = give (il.Empty x) t
 eps_row at t _ = breach at Y1
 
--- `++`
+-- `++` at the type t, at which both sides are asked; Y5 where `++` does not put it together
 abbrev pub concatenation_row : Within → Span → Exp → Exp → Ty → Step
 concatenation_row w at l r t =
     as_joined at t

@@ -35,8 +35,8 @@ use Rattle.st_elab_table.specs.Paths.{length_row, position_row, slice_row, field
 abbrev pub entry_of : Variable → List ℕ × Ty
 entry_of v = (v.0, v.1)
 
--- An index is `nat` in its body.
--- Any other variable has the type that the scope gives it, or else the one that its name leads to.
+-- The type of a variable, if it has one: an index is `nat` in its body, any other has the type that
+-- the scope gives it, or else the one that its name leads to.
 abbrev pub variable_type : Decls → Scope → Within → List ℕ → Option Ty
 variable_type D S w name =
     if is_among name w.indices then Some ty.Nat
@@ -49,7 +49,7 @@ variable_row at name (Some t) = give (il.Var name) t
 
 -- ---- calls
 
--- the declaration of a function
+-- the declaration of the function of this name, if there is one
 abbrev pub fun_named : List FunDef → List ℕ → Option FunDef
 fun_named [] name = None
 fun_named (f ∷ fs) name = if same_name name f.name then Some f else fun_named fs name

@@ -17,7 +17,7 @@ use Rattle.st_dims.specs.declared.within.Within.{Within}
 use Rattle.st_elab_table.specs.Forms.{place}
 use Rattle.st_elab_table.specs.Questions.{Question, check, infer, hole, Made, Gives, Fails, are_same, is_below, can_join, Step, Ends, Asks, Tests, Opens}
 
--- the place breaks the rule
+-- the answer is that this rule is broken at this place
 abbrev pub breach : Span → RuleId → Step
 breach at rule = Ends (Fails (record { at = at; rule = rule }))
 
@@ -33,21 +33,21 @@ give x t = Ends (Gives (made x t))
 abbrev pub pass : Question → Step
 pass q = Asks q (λ m. Ends (Gives m))
 
--- the expression by itself at a type
+-- the question what the expression by itself is at a type
 abbrev pub asked : Within → Exp → Ty → Question
 asked w e t = check w (place e) false e t
 
--- the expression by itself, for its type
+-- the question what the expression by itself is, and its type
 abbrev pub found : Within → Exp → Question
 found w e = infer w (place e) e
 
--- each expression at its type
+-- the questions what each expression is at its type
 abbrev pub each_asked : Within → List Exp → List Ty → List Question
 each_asked w [] ts = []
 each_asked w (e ∷ es) [] = []
 each_asked w (e ∷ es) (t ∷ ts) = asked w e t ∷ each_asked w es ts
 
--- what fills each hole, at the type of the hole
+-- the questions what fills each hole, at the type of the hole
 abbrev pub holes : Within → Span → List Filling → List Ty → List Question
 holes w at [] ts = []
 holes w at (f ∷ fs) [] = []

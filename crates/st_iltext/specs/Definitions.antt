@@ -33,7 +33,7 @@ abbrev pub kind_word : Kind → TextTree
 kind_word kind.List = word (codes "l")
 kind_word kind.Opt = word (codes "o")
 
--- a variable with its type and its dimension
+-- the tree of a variable with its type and its dimension
 abbrev pub listed_tree : Listed → TextTree
 listed_tree x = group (quote x.name ∷ ty_tree x.ty ∷ map kind_word x.dim)
 

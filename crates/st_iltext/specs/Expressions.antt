@@ -15,7 +15,7 @@ use Rattle.st_il.specs.declared.expression.IlPrem.TheOpen.{IlPrem-F}
 use Rattle.st_text.specs.Text.{TextTree, word, quote, list, more}
 use Rattle.st_text.specs.Trees.{row_of}
 
--- a list of these trees, and one that a word begins
+-- a list of these trees
 abbrev pub group : List TextTree → TextTree
 group trees = list (row_of trees)
 

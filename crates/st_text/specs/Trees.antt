@@ -10,7 +10,7 @@ abbrev pub row_of : List spec.TextTree → TextTrees
 row_of [] = none
 row_of (t ∷ ts) = more t (row_of ts)
 
--- the level of a tree whose parts are these trees
+-- the tree of a level whose parts are these trees
 abbrev pub tree_at : TextTree-F spec.TextTree → spec.TextTree
 tree_at (TextTree-F.Word w) = word w
 tree_at (TextTree-F.Quote s) = quote s

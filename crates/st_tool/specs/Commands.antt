@@ -53,7 +53,7 @@ pub record IsTerm (small : Small) (bytes atom : List ℕ) : Type 0 where
   pub text : IsAtomText bytes atom
   pub known : Contains small.atoms atom
 
--- so they are, and the relation has this name
+-- the bytes of a term file are such an atom, and the relation has this name
 pub record IsStart (small : Small) (relation bytes atom : List ℕ) : Type 0 where
   pub relation_is : small.relation ≡ relation
   pub term : IsTerm small bytes atom
@@ -132,7 +132,7 @@ HasBuiltForm command = ⊥
 abbrev pub IsBuilt : List (List ℕ) → Command → Type 0
 IsBuilt words command = HasBuiltForm command × (has_options words ≡ false)
 
--- the most bytes of a source or a term, and those of a text that the program itself prints
+-- the most bytes of a source or a term
 abbrev pub source_limit : ℕ
 source_limit = 1048576
 

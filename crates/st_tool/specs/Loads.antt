@@ -29,7 +29,7 @@ pub record IsGiven (held : Held) (limit : ℕ) (name bytes : List ℕ) : Type 0 
   pub short : length bytes ≤ limit
   pub holds : IfSome held (λ entries. bytes_of entries name ≡ Some bytes)
 
--- so do all these files
+-- all these files keep the limit, and these are their bytes where that is told
 abbrev pub AreGiven : Held → ℕ → List (List ℕ) → List (List ℕ) → Type 0
 AreGiven held limit [] [] = Unit {0}
 AreGiven held limit (name ∷ names) (bytes ∷ files) =

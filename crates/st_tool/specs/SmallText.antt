@@ -5,7 +5,7 @@ use Rattle.st_il.specs.declared.small.Small.{Small}
 use Rattle.st_il.specs.declared.small.SmallRule.{SmallRule}
 use Rattle.st_il.specs.Small.{IsSmall}
 
--- the line `syntax x = | A | B ..`
+-- an atom among the alternatives of a syntax, as ` | A`
 abbrev pub alternative_text : List ℕ → List ℕ
 alternative_text atom = codes " | " ++ atom
 

@@ -11,7 +11,7 @@ use Rattle.st_tool.specs.Transcript.{Term}
 use Rattle.st_verify.specs.declared.fault.VerifyRule.{VerifyRule}
 use Rattle.st_verify.specs.declared.fault.VerifyRule.TheVariants.{V1, V2, V3, V4, V5, V6, V7, V8, V9, V10, V11, V12, V13}
 
--- A term as it is printed. So far a case without operands, which is its tag.
+-- A value by its outermost form, as it is printed. So far a case without operands, which is its tag.
 abbrev pub layer_text : {X : Type 0} → Value-F X → List ℕ
 layer_text (Value-F.Case tag []) = tag
 layer_text _ = []
@@ -20,7 +20,7 @@ layer_text _ = []
 abbrev pub value_text : Value → List ℕ
 value_text value = layer_text (out-Value value)
 
--- a term of one value, as it is printed
+-- a term as it is printed: so far of one value
 abbrev pub term_text : Term → List ℕ
 term_text (value ∷ []) = value_text value
 term_text _ = []

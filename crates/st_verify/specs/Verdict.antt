@@ -87,7 +87,7 @@ HasTypedValues il notes (From values) = IsTerm il notes.relation values
 HasTypedValues il notes (Node node) = node.env.entries ≡ []
 HasTypedValues il notes _ = Unit {0}
 
--- the lines that a child refers to
+-- the lines that a child refers to, by those that its parts refer to
 abbrev pub child_lines_at : Ref-F (List ℕ) → List ℕ
 child_lines_at (Ref-F.Line line) = line ∷ []
 child_lines_at (Ref-F.Many children) = flat_map (λ lines. lines) children

@@ -68,7 +68,7 @@ FeedsLine old bytes result new =
     ((line : Line) × LineText line bytes × JudgesNext old line result new)
     ⊎ (IsNoLine bytes × Refuses {V = Unit {0}} V3 old result new)
 
--- so is it, but for want of memory, where nothing changes
+-- the bytes are judged as the next line; for want of memory nothing changes
 abbrev pub FeedsNext : Checking → List ℕ → Result (Unit {0}) VerifyFault → Checking → Type 0
 FeedsNext old bytes (Ok done) new = FeedsLine old bytes (Ok done) new
 FeedsNext old bytes (Err Memory) new = new ≡ old

@@ -12,7 +12,7 @@ use Rattle.st_iltext.specs.Definitions.{definition_tree}
 use Rattle.std.specs.Borrow.{Bor}
 use Rattle.st_iltext.specs.IlText.{lines_text, IsNoIl, IsFirstBadLine}
 
--- the three kinds of lines
+-- the line of the syntax x of these atoms
 unfoldable pub syntax_line : List ℕ → List (List ℕ) → List ℕ
 syntax_line x atoms = text (definition_tree (syntax_def x atoms))
 
@@ -24,7 +24,7 @@ relation_line r x = text (definition_tree (relation_def r x))
 unfoldable pub rule_line : Head → SmallRule → List ℕ
 rule_line head rule = text (definition_tree (rule_def head.relation head.syntax rule))
 
--- what is asked of the first line
+-- what is asked of the names in the first line: that of the syntax, and those of its atoms
 pub record IsSyntax (x : List ℕ) (tags : List (List ℕ)) : Type 0 where
   pub syntax : IsWordOf IsLower x
   pub unreserved : Contains reserved x → ⊥
@@ -67,7 +67,7 @@ ReadsRules head bytes (Ok rules) =
 ReadsRules head bytes (Err (Malformed line)) = StopsAt head bytes line
 ReadsRules head bytes (Err Memory) = Unit {0}
 
--- the first two lines
+-- the first two lines: that of the syntax, and that of the relation
 abbrev pub head_lines : Head → List (List ℕ)
 head_lines head = syntax_line head.syntax head.atoms ∷ relation_line head.relation head.syntax ∷ []
 

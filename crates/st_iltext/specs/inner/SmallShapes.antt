@@ -8,7 +8,7 @@ use Rattle.st_iltext.specs.Expressions.{form, group}
 abbrev pub tag_shape : List ℕ → TextTree
 tag_shape tag = form (codes "case") (quote tag ∷ [])
 
--- a syntax whose alternatives are these trees
+-- the tree of a syntax whose alternatives are these trees
 abbrev pub syntax_tree : List ℕ → TextTrees → TextTree
 syntax_tree x alternatives =
     form (codes "syntax") (quote x ∷ list (more (word (codes "variant")) alternatives) ∷ [])

@@ -33,7 +33,7 @@ pub record ReadsContent (bytes s rest : List ℕ) : Type 0 where
   pub printable : All IsTextByte s
   pub is : bytes ≡ flat_map escaped s ++ 34 ∷ rest
 
--- nothing of that kind is at the front of the bytes
+-- no tree is at the front of the bytes
 pub record ReadsNoTree (limit : ℕ) (bytes : List ℕ) : Type 0 where
   pub never : (t : TextTree) (rest : List ℕ) → Reads limit bytes t rest → ⊥
 

@@ -66,7 +66,7 @@ abbrev pub Ends : Checking → List ℕ → Result Accepted VerifyFault → Type
 Ends old rest result =
     MatchOption old.refusal (EndsNow old rest result) (λ fault. result ≡ Err fault)
 
--- how it is told
+-- the status and the text with which that is told
 abbrev pub Tells : Result Accepted VerifyFault → Status → List ℕ → Type 0
 Tells (Ok accepted) status bytes =
     (status ≡ answer.Done) × (bytes ≡ accepted_text accepted.lines accepted.steps)
