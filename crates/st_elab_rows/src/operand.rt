@@ -176,7 +176,8 @@ fn equation_from_right<F: Fn(&Within, &Asking<'_>) -> Result<Found, ExpFault>>(
     Ok(given)
 }
 
-/// A membership. An inferable list says the type of the element, or else the element that of the list.
+/// A membership. An inferable list says the type of the element, or else the element that of the
+/// list.
 pub fn membership_row<F: Fn(&Within, &Asking<'_>) -> Result<Found, ExpFault>>(
     context: &Context<'_>,
     ask: &F,

@@ -70,7 +70,7 @@ abbrev pub inferred_tuple : Within → List Exp → Step
 inferred_tuple w es =
     asks (map (found w) es) (λ ms. give (il.Tuple (exps ms)) (ty.Tuple (map ty_of ms)))
 
--- an iteration with an inferred body, of lists or options of the type of the body
+-- an iteration with an inferred body: a list or an option of the type of the body
 abbrev pub inferred_iteration : Scope → Within → Exp → Count → Step
 inferred_iteration S w b c =
     Asks (found (inside w c) b) (λ m. iteration S w c m.exp (iterated_type c m.ty))

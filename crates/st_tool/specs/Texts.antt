@@ -11,7 +11,7 @@ use Rattle.st_tool.specs.Transcript.{Term}
 use Rattle.st_verify.specs.declared.fault.VerifyRule.{VerifyRule}
 use Rattle.st_verify.specs.declared.fault.VerifyRule.TheVariants.{V1, V2, V3, V4, V5, V6, V7, V8, V9, V10, V11, V12, V13}
 
--- A value by its outermost form, as it is printed. So far a case without operands, which is its tag.
+-- A value by its outermost form, as it is printed: so far the tag of a case without operands.
 abbrev pub layer_text : {X : Type 0} → Value-F X → List ℕ
 layer_text (Value-F.Case tag []) = tag
 layer_text _ = []

@@ -57,7 +57,7 @@ JudgesNext old line (Err (Refused rule at typing)) new =
     Verdict old.il old.notes line (Some rule)
     × Refuses {V = Unit {0}} rule old (Err (Refused rule at typing)) new
 
--- a line is judged as the next one; after a refusal this is given again, and nothing changes
+-- a line is judged as the next one; after a refusal it is answered again, and nothing changes
 abbrev pub Judges : Checking → Line → Result (Unit {0}) VerifyFault → Checking → Type 0
 Judges old line result new = UnlessRefused old result new (JudgesNext old line result new)
 
@@ -75,7 +75,7 @@ FeedsNext old bytes (Err Memory) new = new ≡ old
 FeedsNext old bytes (Err (Refused rule at typing)) new =
     FeedsLine old bytes (Err (Refused rule at typing)) new
 
--- the bytes are judged as the next line; after a refusal this is given again, and nothing changes
+-- the bytes are judged as the next line; after a refusal it is answered again, and nothing changes
 abbrev pub Feeds : Checking → List ℕ → Result (Unit {0}) VerifyFault → Checking → Type 0
 Feeds old bytes result new = UnlessRefused old result new (FeedsNext old bytes result new)
 
@@ -87,7 +87,7 @@ FinishesNow old (Ok accepted) new =
 FinishesNow old (Err fault) new =
     (old.notes.ended ≡ false) × Refuses {V = Accepted} V12 old (Err fault) new
 
--- it is asked whether the lines are accepted as a whole; after a refusal this is given again,
+-- it is asked whether the lines are accepted as a whole; after a refusal it is answered again,
 -- and nothing changes
 abbrev pub Finishes : Checking → Result Accepted VerifyFault → Checking → Type 0
 Finishes old result new = UnlessRefused old result new (FinishesNow old result new)
