@@ -169,7 +169,7 @@ fn item<F: Fn(&Within, &Asking<'_>) -> Result<Found, ExpFault>>(
     Ok(ListItem::One(one.exp.into_inner()))
 }
 
-/// An inferable item: one element, or spliced.
+/// An inferable item: one element, or all elements of a list, as its type says.
 fn found_item(
     context: &Context<'_>,
     at: Span,
@@ -194,7 +194,7 @@ fn found_item(
     })
 }
 
-/// A run of none is left out, and of one is that element. Two and more are a sequence.
+/// A run in a hole: of none it is left out, of one it is that element; two and more are a sequence.
 fn run_row<F: Fn(&Within, &Asking<'_>) -> Result<Found, ExpFault>>(
     context: &Context<'_>,
     ask: &F,

@@ -43,12 +43,12 @@ HoldsOperands (alternative.Case tag operands) =
     HasItsOperands (record { tag = tag; operands = operands })
 HoldsOperands (alternative.Incl name) = Unit {0}
 
--- so does each case, where the body of a syntax is a variant
+-- each case has an operand for each hole of its notation, where the body of a syntax is a variant
 abbrev pub HoldsAll : SyntaxBody → Type 0
 HoldsAll (body.Variant alternatives) = AllByRecursion HoldsOperands alternatives
 HoldsAll _ = Unit {0}
 
--- so does each case of these syntaxes
+-- each case of these syntaxes has an operand for each hole of its notation
 abbrev pub AreWhole : List SyntaxDef → Type 0
 AreWhole = AllByRecursion (λ (d : SyntaxDef). HoldsAll d.body)
 

@@ -119,7 +119,7 @@ abbrev pub run_at : Within → Span → List Exp → Ty → Ty-F Ty → Step
 run_at w at es t (Ty-F.List x) = sequence w at es t x
 run_at w at es t _ = breach at Y1
 
--- A run of none is left out, and of one is that element. Two and more are a sequence.
+-- A run in a hole: of none it is left out, of one it is that element; two and more are a sequence.
 abbrev pub run_row : Within → Span → List Exp → Ty → Step
 run_row w at [] t = give (il.Absent t) t
 run_row w at (e ∷ []) t = pass (check w (place e) true e t)

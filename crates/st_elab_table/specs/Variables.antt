@@ -43,7 +43,7 @@ written_type name =
     else if same_name name (codes "text") then Some ty.Text
     else None
 
--- the name itself, where it is that of a syntax
+-- the type of this name, where it is that of a syntax
 abbrev pub syntax_type : Decls → List ℕ → Option Ty
 syntax_type D name = option_map (λ body. ty.Name name) (body_of D.types name)
 

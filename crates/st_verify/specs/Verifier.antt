@@ -87,7 +87,7 @@ FinishesNow old (Ok accepted) new =
 FinishesNow old (Err fault) new =
     (old.notes.ended ≡ false) × Refuses {V = Accepted} V12 old (Err fault) new
 
--- it is asked whether the lines are accepted as a whole; after a refusal it is answered again,
--- and nothing changes
+-- the lines are accepted as a whole, or refused behind the last one; after a refusal
+-- it is answered again, and nothing changes
 abbrev pub Finishes : Checking → Result Accepted VerifyFault → Checking → Type 0
 Finishes old result new = UnlessRefused old result new (FinishesNow old result new)
