@@ -24,6 +24,7 @@ fn command_words(rt: &(impl env::Env + AllocGlobal)) -> Result<Vec<String>, Stat
     }
 }
 
+/// Runs the command that the words of the command line ask for, and ends with its status.
 fn main(rt: HostRuntime) -> ExitCode {
     let status = match command_words(&rt) {
         Ok(words) => {

@@ -19,6 +19,7 @@ abbrev pub tag_at : {X : Type 0} → Value-F X → List ℕ
 tag_at (Value-F.Case tag parts) = tag
 tag_at _ = []
 
+-- the tag of a value
 abbrev pub tag_of : Value → List ℕ
 tag_of val = tag_at (out-Value val)
 
@@ -26,10 +27,11 @@ tag_of val = tag_at (out-Value val)
 abbrev pub IsPlainCase : Value → Type 0
 IsPlainCase val = val ≡ value.Case (tag_of val) []
 
--- such a value is printed as `(c "TAG")`
+-- the tree of a case without operands, which is printed as `(c "TAG")`
 abbrev pub case_tree : List ℕ → TextTree
 case_tree tag = list (more (word (codes "c")) (more (quote tag) none))
 
+-- the tree of a value that is a case without operands
 abbrev pub value_tree : Value → TextTree
 value_tree val = case_tree (tag_of val)
 
@@ -37,19 +39,22 @@ value_tree val = case_tree (tag_of val)
 abbrev pub value_trees : List Value → TextTrees
 value_trees vals = row_of (map value_tree vals)
 
--- the name of a relation: a letter that is upper-case, and then letters, digits, `_` and `'`
+-- an upper-case letter
 abbrev pub IsUpperLetter : ℕ → Type 0
 IsUpperLetter byte = (65 ≤ byte) × (byte ≤ 90)
 
+-- a byte with which the name of a relation goes on: a letter, a digit, `_` or `'`
 abbrev pub IsNameByte : ℕ → Type 0
 IsNameByte byte =
     IsUpperLetter byte ⊎ ((97 ≤ byte) × (byte ≤ 122)) ⊎ ((48 ≤ byte) × (byte ≤ 57)) ⊎ (byte ≡ 95)
     ⊎ (byte ≡ 39)
 
+-- the name of a relation: an upper-case letter, and then letters, digits, `_` and `'`
 abbrev pub IsRelationName : List ℕ → Type 0
 IsRelationName [] = ⊥
 IsRelationName (byte ∷ bytes) = IsUpperLetter byte × All IsNameByte bytes
 
+-- the word of how a run ended
 abbrev pub ending_word : Ending → List ℕ
 ending_word Stuck = codes "stuck"
 ending_word Fuel = codes "fuel"
@@ -71,7 +76,7 @@ IsPlainLine (Node node) = IsPlainNode node
 IsPlainLine (Step number) = number < 2 ^ 128
 IsPlainLine (End ending) = Unit {0}
 
--- what stands behind a node's word
+-- what stands behind the word `node` in the line of a node
 abbrev pub node_trees : NodeLine → TextTrees
 node_trees node =
     more (quote node.relation)

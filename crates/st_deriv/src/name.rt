@@ -14,6 +14,7 @@ fn is_name_byte(byte: u8) -> bool
     }
 }
 
+/// Whether names may go on with each of these bytes.
 fn are_name_bytes(bytes: &[u8]) -> bool
     ensures { IsTrue result ↔ All IsNameByte bytes.now }
 {

@@ -26,6 +26,7 @@ pub fn print_lines(lines: &[Line], out: &mut Vec<u8>) -> Result<(), NoMemory>
     Ok(())
 }
 
+/// Appends the text of the line, without a line feed.
 fn print_line(line: &Line, out: &mut Vec<u8>) -> Result<(), NoMemory>
     ensures ok { OnOk result (out.new.items ≡ out.old.items ++ line_text line.now) }
     ensures err { OnErr result (IsCutOff out.old.items (line_text line.now) out.new.items) }
@@ -56,6 +57,7 @@ fn print_line(line: &Line, out: &mut Vec<u8>) -> Result<(), NoMemory>
     }
 }
 
+/// Appends the text of the line of a node.
 fn print_node(node: &NodeLine, out: &mut Vec<u8>) -> Result<(), NoMemory>
     ensures ok { OnOk result (out.new.items ≡ out.old.items ++ line_text (Node node.now)) }
     ensures err { OnErr result (IsCutOff out.old.items (line_text (Node node.now)) out.new.items) }
@@ -96,6 +98,7 @@ fn print_behind(values: &[Value], out: &mut Vec<u8>) -> Result<(), NoMemory>
     Ok(())
 }
 
+/// Appends the text of a value that is a case without operands.
 fn print_value(value: &Value, out: &mut Vec<u8>) -> Result<(), NoMemory>
     ensures ok { OnOk result (out.new.items ≡ out.old.items ++ text (value_tree value.now)) }
     ensures err { OnErr result
@@ -123,6 +126,7 @@ fn tag_of(value: &Value) -> &[u8]
     }
 }
 
+/// The word of how a run ended.
 fn word_of(ending: Ending) -> &'static [u8]
     ensures { result.now ≡ ending_word ending }
 {

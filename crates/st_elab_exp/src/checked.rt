@@ -20,7 +20,7 @@ use st_elab_rows::form::{inferable, is_run};
 use st_elab_table::{ExpFault, Operator, operator_of};
 use st_il::{IlExp, Ty};
 
-/// A sequence, at a type of this meaning.
+/// A sequence: at a list type its items, or one element; at any other type by its notation.
 fn sequence_at<F: Fn(&Within, &Asking<'_>) -> Result<Found, ExpFault>>(
     context: &Context<'_>,
     ask: &F,
@@ -82,7 +82,7 @@ fn form_row<F: Fn(&Within, &Asking<'_>) -> Result<Found, ExpFault>>(
     }
 }
 
-/// An inferable expression, and else by its form.
+/// An expression at a type: an inferable one is fitted to it, any other goes by its form.
 fn plain_row<F: Fn(&Within, &Asking<'_>) -> Result<Found, ExpFault>>(
     context: &Context<'_>,
     ask: &F,
@@ -103,7 +103,7 @@ fn plain_row<F: Fn(&Within, &Asking<'_>) -> Result<Found, ExpFault>>(
     form_row(context, ask, part, &part.exp.node, ty, meaning)
 }
 
-/// A tuple of as many parts as the type goes by parts.
+/// A tuple: by parts at a tuple type of its length, and else as any other expression.
 fn tuple_at<F: Fn(&Within, &Asking<'_>) -> Result<Found, ExpFault>>(
     context: &Context<'_>,
     ask: &F,
@@ -131,7 +131,7 @@ fn tuple_at<F: Fn(&Within, &Asking<'_>) -> Result<Found, ExpFault>>(
     }
 }
 
-/// A part at a type. Parentheses change nothing but the place.
+/// A part at a type, by its form. Parentheses change nothing but the place.
 pub fn checked_row<F: Fn(&Within, &Asking<'_>) -> Result<Found, ExpFault>>(
     context: &Context<'_>,
     ask: &F,

@@ -52,7 +52,7 @@ fn element<F: Fn(&Within, &Asking<'_>) -> Result<Found, ExpFault>>(
     Ok(given)
 }
 
-/// Any other expression, at a type of this meaning.
+/// Any other expression, at a type of this meaning: one element of a list or an option, or Y1.
 pub fn other_row<F: Fn(&Within, &Asking<'_>) -> Result<Found, ExpFault>>(
     context: &Context<'_>,
     ask: &F,
@@ -124,6 +124,7 @@ pub fn sequence<F: Fn(&Within, &Asking<'_>) -> Result<Found, ExpFault>>(
     Ok(given)
 }
 
+/// The items of a sequence at a list type with this element type.
 fn items<F: Fn(&Within, &Asking<'_>) -> Result<Found, ExpFault>>(
     context: &Context<'_>,
     ask: &F,
@@ -168,7 +169,7 @@ fn item<F: Fn(&Within, &Asking<'_>) -> Result<Found, ExpFault>>(
     Ok(ListItem::One(one.exp.into_inner()))
 }
 
-/// An inferable item: one element, or spliced.
+/// An inferable item: one element, or all elements of a list, as its type says.
 fn found_item(
     context: &Context<'_>,
     at: Span,
@@ -193,7 +194,7 @@ fn found_item(
     })
 }
 
-/// A run of none is left out, and of one is that element. Two and more are a sequence.
+/// A run in a hole: of none it is left out, of one it is that element; two and more are a sequence.
 fn run_row<F: Fn(&Within, &Asking<'_>) -> Result<Found, ExpFault>>(
     context: &Context<'_>,
     ask: &F,
@@ -227,7 +228,7 @@ fn run_row<F: Fn(&Within, &Asking<'_>) -> Result<Found, ExpFault>>(
     }
 }
 
-/// A part that was left out.
+/// What fills a hole of this type that was left out.
 fn absent(context: &Context<'_>, ty: &Ty) -> Result<Found, ExpFault>
     ensures { LeadsTo context.now (give (il.Absent ty.now) ty.now) result }
 {

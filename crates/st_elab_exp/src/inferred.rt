@@ -31,7 +31,7 @@ use st_elab_table::{ExpFault, Operator, operator_of};
 use st_il::{IlExp, Ty, copy_ty};
 use st_num::{Mark, Name, NoMemory, Row, RuleId, Span};
 
-/// The type of a variable.
+/// The type of a variable, by its scope or by its name, if it has one.
 fn variable_type(context: &Context<'_>, name: &Name) -> Result<Option<Ty>, NoMemory>
     ensures { IfOk result (λ ty. ty ≡ variable_type context.now.decls.now context.now.scope.now
         context.now.within.now name.now) }
@@ -45,6 +45,7 @@ fn variable_type(context: &Context<'_>, name: &Name) -> Result<Option<Ty>, NoMem
     type_of_name(context.alloc, context.decls, name)
 }
 
+/// A variable, of the type that its scope or its name gives it; B3 where none does.
 fn variable_row(context: &Context<'_>, at: Span, name: &Name) -> Result<Found, ExpFault>
     ensures { LeadsTo context.now (variable_row at name.now (variable_type context.now.decls.now
         context.now.scope.now context.now.within.now name.now)) result }
@@ -60,6 +61,7 @@ fn variable_row(context: &Context<'_>, at: Span, name: &Name) -> Result<Found, E
     Ok(given)
 }
 
+/// A truth value, of type `bool`.
 fn bool_row(context: &Context<'_>, truth: bool) -> Result<Found, ExpFault>
     ensures { LeadsTo context.now (give (il.Bool truth) typ.Bool) result }
 {
@@ -67,6 +69,7 @@ fn bool_row(context: &Context<'_>, truth: bool) -> Result<Found, ExpFault>
     Ok(given)
 }
 
+/// A number, of type `nat`.
 fn number_row(context: &Context<'_>, number: u128) -> Result<Found, ExpFault>
     ensures { LeadsTo context.now (give (il.Number number) typ.Nat) result }
 {
@@ -74,6 +77,7 @@ fn number_row(context: &Context<'_>, number: u128) -> Result<Found, ExpFault>
     Ok(given)
 }
 
+/// A text, of type `text`.
 fn text_row(context: &Context<'_>, text: &Name) -> Result<Found, ExpFault>
     ensures { LeadsTo context.now (give (il.Text text.now) typ.Text) result }
 {
@@ -82,7 +86,7 @@ fn text_row(context: &Context<'_>, text: &Name) -> Result<Found, ExpFault>
     Ok(given)
 }
 
-/// Each expression at its type.
+/// What each expression is at its type.
 pub fn arguments<F: Fn(&Within, &Asking<'_>) -> Result<Found, ExpFault>>(
     context: &Context<'_>,
     ask: &F,
@@ -107,6 +111,7 @@ pub fn arguments<F: Fn(&Within, &Asking<'_>) -> Result<Found, ExpFault>>(
     Ok(all)
 }
 
+/// A call of a declared function, its arguments at the types of the parameters.
 fn call_row<F: Fn(&Within, &Asking<'_>) -> Result<Found, ExpFault>>(
     context: &Context<'_>,
     ask: &F,
@@ -144,6 +149,7 @@ pub struct FoundAll {
     pub tys: Row<Ty>,
 }
 
+/// Each expression with its inferred type.
 fn each_found<F: Fn(&Within, &Asking<'_>) -> Result<Found, ExpFault>>(
     context: &Context<'_>,
     ask: &F,
@@ -163,6 +169,7 @@ fn each_found<F: Fn(&Within, &Asking<'_>) -> Result<Found, ExpFault>>(
     Ok(FoundAll { exps: parts, tys })
 }
 
+/// A tuple of inferred parts, of the tuple of their types.
 fn tuple_row<F: Fn(&Within, &Asking<'_>) -> Result<Found, ExpFault>>(
     context: &Context<'_>,
     ask: &F,
@@ -177,7 +184,7 @@ fn tuple_row<F: Fn(&Within, &Asking<'_>) -> Result<Found, ExpFault>>(
     Ok(given)
 }
 
-/// Two operands of a sign.
+/// Two operands of a sign, by the kind of operator that it is.
 fn binary_row<F: Fn(&Within, &Asking<'_>) -> Result<Found, ExpFault>>(
     context: &Context<'_>,
     ask: &F,
@@ -257,7 +264,7 @@ fn inferred_at<F: Fn(&Within, &Asking<'_>) -> Result<Found, ExpFault>>(
     }
 }
 
-/// No type of its own can be found.
+/// The breach of Y3: no type of its own can be found.
 fn untyped(at: Span) -> Result<Found, ExpFault>
     ensures { result ≡ Err (fault.Refused at Y3) }
 {
@@ -267,7 +274,7 @@ fn untyped(at: Span) -> Result<Found, ExpFault>
     })
 }
 
-/// An expression for its type.
+/// What an expression is, and its type; Y3 where it is not inferable.
 pub fn inferred_row<F: Fn(&Within, &Asking<'_>) -> Result<Found, ExpFault>>(
     context: &Context<'_>,
     ask: &F,

@@ -199,7 +199,7 @@ fn case_row<F: Fn(&Within, &Asking<'_>) -> Result<Found, ExpFault>>(
     Ok(given)
 }
 
-/// The expression is no case of the type.
+/// The breach of Y2: the expression is no case of the type.
 fn unfit(at: Span) -> Result<Found, ExpFault>
     ensures { result ≡ Err (fault.Refused at Y2) }
 {

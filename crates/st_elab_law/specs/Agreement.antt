@@ -17,6 +17,7 @@ use Rattle.st_elab_table.specs.declared.decls.Decls.{Decls}
 
 -- ---- the table of types
 
+-- the syntax that this definition declares, if it is one, before later ones
 abbrev pub with_syntax : IlDef → List SyntaxDef → List SyntaxDef
 with_syntax (def.Syntax syntax) later = syntax ∷ later
 with_syntax _ later = later
@@ -36,16 +37,18 @@ IsTableOf defs D = D.types ≡ syntaxes defs
 abbrev pub HasItsOperands : CaseDef → Type 0
 HasItsOperands c = (t : Template) → HasTag t c.tag → length c.operands ≡ holes t
 
+-- a case of a variant has an operand for each hole of its notation
 abbrev pub HoldsOperands : Alternative → Type 0
 HoldsOperands (alternative.Case tag operands) =
     HasItsOperands (record { tag = tag; operands = operands })
 HoldsOperands (alternative.Incl name) = Unit {0}
 
+-- each case has an operand for each hole of its notation, where the body of a syntax is a variant
 abbrev pub HoldsAll : SyntaxBody → Type 0
 HoldsAll (body.Variant alternatives) = AllByRecursion HoldsOperands alternatives
 HoldsAll _ = Unit {0}
 
--- so does each case of these syntaxes
+-- each case of these syntaxes has an operand for each hole of its notation
 abbrev pub AreWhole : List SyntaxDef → Type 0
 AreWhole = AllByRecursion (λ (d : SyntaxDef). HoldsAll d.body)
 

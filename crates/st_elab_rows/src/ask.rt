@@ -1,4 +1,4 @@
-//! Questions, asked.
+//! The questions that rows ask, each through the call that is passed.
 
 ghost use Rattle.st_elab_table.specs.Questions.{check, infer, Asks};
 ghost use Rattle.st_elab_table.specs.Steps.{asked, found};
@@ -11,7 +11,7 @@ use st_elab_table::ExpFault;
 use st_il::Ty;
 use st_num::Span;
 
-/// The expression by itself, for its type.
+/// Asks what the expression by itself is, and its type.
 pub fn found<F: Fn(&Within, &Asking<'_>) -> Result<Found, ExpFault>>(
     context: &Context<'_>,
     ask: &F,
@@ -24,7 +24,7 @@ pub fn found<F: Fn(&Within, &Asking<'_>) -> Result<Found, ExpFault>>(
     ask(context.within, &Asking::Infer { at: exp.at, exp })
 }
 
-/// The expression, at the place of its parentheses, for its type.
+/// Asks what the expression is, and its type; a breach at the part itself is at this place.
 pub fn found_at<F: Fn(&Within, &Asking<'_>) -> Result<Found, ExpFault>>(
     context: &Context<'_>,
     ask: &F,
@@ -38,7 +38,7 @@ pub fn found_at<F: Fn(&Within, &Asking<'_>) -> Result<Found, ExpFault>>(
     ask(context.within, &Asking::Infer { at, exp })
 }
 
-/// The body of an iteration, for its type.
+/// Asks what the body of an iteration is, and its type, inside of that iteration.
 pub fn found_inside<F: Fn(&Within, &Asking<'_>) -> Result<Found, ExpFault>>(
     context: &Context<'_>,
     ask: &F,
@@ -52,7 +52,7 @@ pub fn found_inside<F: Fn(&Within, &Asking<'_>) -> Result<Found, ExpFault>>(
     ask(inner, &Asking::Infer { at: exp.at, exp })
 }
 
-/// The expression by itself, at a type.
+/// Asks what the expression by itself is at a type.
 pub fn asked<F: Fn(&Within, &Asking<'_>) -> Result<Found, ExpFault>>(
     context: &Context<'_>,
     ask: &F,
@@ -66,7 +66,7 @@ pub fn asked<F: Fn(&Within, &Asking<'_>) -> Result<Found, ExpFault>>(
     asked_inside(context, ask, context.within, exp, ty)
 }
 
-/// The body of an iteration, at a type.
+/// Asks what the body of an iteration is at a type, inside of that iteration.
 pub fn asked_inside<F: Fn(&Within, &Asking<'_>) -> Result<Found, ExpFault>>(
     context: &Context<'_>,
     ask: &F,
@@ -89,7 +89,7 @@ pub fn asked_inside<F: Fn(&Within, &Asking<'_>) -> Result<Found, ExpFault>>(
     )
 }
 
-/// A part at a type.
+/// Asks what a part is at a type.
 pub fn asked_at<F: Fn(&Within, &Asking<'_>) -> Result<Found, ExpFault>>(
     context: &Context<'_>,
     ask: &F,

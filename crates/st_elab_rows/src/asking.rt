@@ -18,7 +18,7 @@ pub struct Found {
     pub ty: Ty,
 }
 
-/// This expression of this type.
+/// What is found: this expression of this type.
 pub fn give(alloc: Global, exp: IlExp, ty: Ty) -> Result<Found, NoMemory>
     ensures { IfOk result (λ given. made_by given ≡ made exp ty) }
 {

@@ -24,6 +24,7 @@ pub fn shape_of(types: &TypeTable, ty: &Ty) -> Shape
     shape_at(types.meaning(ty))
 }
 
+/// What a type is to a notation, where it is no alias.
 fn shape_at(meaning: &Ty) -> Shape
     ensures { result ≡ shape_of meaning.now }
 {

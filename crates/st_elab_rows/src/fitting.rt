@@ -20,7 +20,7 @@ use st_num::{Boxed, NoMemory, Row, RuleId, Span};
 use st_types::is_sub;
 use std::alloc::Global;
 
-/// This expression of a type that was asked.
+/// What is found: this expression, of the type that was asked.
 pub fn give_at(alloc: Global, exp: IlExp, ty: &Ty) -> Result<Found, NoMemory>
     ensures { IfOk result (λ given. made_by given ≡ made exp ty.now) }
 {
@@ -28,6 +28,7 @@ pub fn give_at(alloc: Global, exp: IlExp, ty: &Ty) -> Result<Found, NoMemory>
     give_boxed(alloc, exp, ty)
 }
 
+/// What is found: this expression in its box, of the type that was asked.
 fn give_boxed(alloc: Global, exp: Boxed<IlExp>, ty: &Ty) -> Result<Found, NoMemory>
     ensures { IfOk result (λ given. made_by given ≡ made exp ty.now) }
 {
@@ -35,7 +36,7 @@ fn give_boxed(alloc: Global, exp: Boxed<IlExp>, ty: &Ty) -> Result<Found, NoMemo
     Ok(Found { exp, ty })
 }
 
-/// What one element stands in.
+/// What one element is put in.
 #[derive(Clone, Copy, Debug, PartialEq, Eq)]
 pub enum Lifting {
     List,
@@ -90,7 +91,7 @@ pub fn fitted(context: &Context<'_>, at: Span, given: Found, ty: &Ty) -> Result<
     }
 }
 
-/// What is found, as one element.
+/// What is found, as one element of a list or an option; Y1 at this place where it is none.
 fn lifted_to(
     context: &Context<'_>,
     at: Span,
@@ -128,6 +129,7 @@ pub enum Joining {
     Records,
 }
 
+/// Two lists behind each other, or two records joined.
 fn joined_by(join: Joining, x: Boxed<IlExp>, y: Boxed<IlExp>) -> IlExp
     ensures { result ≡ join_of join x y }
 {

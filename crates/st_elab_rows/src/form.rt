@@ -34,6 +34,7 @@ pub fn inferable(exp: &Exp) -> bool
     }
 }
 
+/// Whether each of these expressions has a type of its own.
 #[cycle(inferable)]
 fn all_inferable(parts: &[Exp]) -> bool
     ensures { result ≡ all_true (map inferable parts.now) }
@@ -69,6 +70,7 @@ pub fn is_spliced(exp: &Exp) -> bool
     }
 }
 
+/// Whether the expression is a tuple, in parentheses or not.
 fn is_tuple(exp: &Exp) -> bool
     ensures { result ≡ is_tuple exp.now }
 {

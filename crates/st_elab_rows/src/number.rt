@@ -109,7 +109,7 @@ pub fn arithmetic_row<F: Fn(&Within, &Asking<'_>) -> Result<Found, ExpFault>>(
     Ok(given)
 }
 
-/// The exponent is asked at `nat` and does not change the type of the other operand.
+/// A power. The exponent is asked at `nat` and does not change the type of the other operand.
 pub fn power_row<F: Fn(&Within, &Asking<'_>) -> Result<Found, ExpFault>>(
     context: &Context<'_>,
     ask: &F,
@@ -127,7 +127,7 @@ pub fn power_row<F: Fn(&Within, &Asking<'_>) -> Result<Found, ExpFault>>(
     Ok(given)
 }
 
-/// The operand of a prefix `-` is injected into `int`.
+/// A prefix `-`, whose operand is injected into `int`.
 pub fn negation_row<F: Fn(&Within, &Asking<'_>) -> Result<Found, ExpFault>>(
     context: &Context<'_>,
     ask: &F,

@@ -37,7 +37,7 @@ pub fn not_row<F: Fn(&Within, &Asking<'_>) -> Result<Found, ExpFault>>(
     Ok(given)
 }
 
-/// Two operands of logic.
+/// Two truth values, joined by a sign of logic.
 pub fn logic_row<F: Fn(&Within, &Asking<'_>) -> Result<Found, ExpFault>>(
     context: &Context<'_>,
     ask: &F,
@@ -57,7 +57,7 @@ pub fn logic_row<F: Fn(&Within, &Asking<'_>) -> Result<Found, ExpFault>>(
     Ok(given)
 }
 
-/// A side that is not inferable is asked at the type of the other.
+/// An equation by `=` or `=/=`. A side that is not inferable is asked at the type of the other.
 pub fn equation_row<F: Fn(&Within, &Asking<'_>) -> Result<Found, ExpFault>>(
     context: &Context<'_>,
     ask: &F,
@@ -83,6 +83,7 @@ pub fn equation_row<F: Fn(&Within, &Asking<'_>) -> Result<Found, ExpFault>>(
     })
 }
 
+/// An equation whose left side is inferable.
 fn equation_from_left<F: Fn(&Within, &Asking<'_>) -> Result<Found, ExpFault>>(
     context: &Context<'_>,
     ask: &F,
@@ -154,6 +155,7 @@ fn compared(
     Ok(given)
 }
 
+/// An equation whose right side alone is inferable: the left one is asked at its type.
 fn equation_from_right<F: Fn(&Within, &Asking<'_>) -> Result<Found, ExpFault>>(
     context: &Context<'_>,
     ask: &F,
@@ -174,7 +176,8 @@ fn equation_from_right<F: Fn(&Within, &Asking<'_>) -> Result<Found, ExpFault>>(
     Ok(given)
 }
 
-/// An inferable list says the type of the element, or else the element that of the list.
+/// A membership. An inferable list says the type of the element, or else the element that of the
+/// list.
 pub fn membership_row<F: Fn(&Within, &Asking<'_>) -> Result<Found, ExpFault>>(
     context: &Context<'_>,
     ask: &F,
@@ -199,7 +202,7 @@ pub fn membership_row<F: Fn(&Within, &Asking<'_>) -> Result<Found, ExpFault>>(
     })
 }
 
-/// An element of a list with a type of its own.
+/// A membership in an inferable list, which says the type of the element.
 fn member_of_found<F: Fn(&Within, &Asking<'_>) -> Result<Found, ExpFault>>(
     context: &Context<'_>,
     ask: &F,
@@ -219,7 +222,7 @@ fn member_of_found<F: Fn(&Within, &Asking<'_>) -> Result<Found, ExpFault>>(
     Ok(given)
 }
 
-/// An element with a type of its own.
+/// A membership of an inferable element, which says the type of the list.
 fn found_member<F: Fn(&Within, &Asking<'_>) -> Result<Found, ExpFault>>(
     context: &Context<'_>,
     ask: &F,

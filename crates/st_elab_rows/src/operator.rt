@@ -6,7 +6,7 @@ ghost use Rattle.st_elab_table.specs.Operators.{connected, equated, ordered, rec
 use st_il::{IlExp, NumTy};
 use st_num::{Boxed, Mark};
 
-/// Two truth values, joined.
+/// Two truth values, joined by this sign of logic.
 pub fn connected(sign: Mark, x: Boxed<IlExp>, y: Boxed<IlExp>) -> IlExp
     ensures { result ≡ connected sign x y }
 {
@@ -18,7 +18,7 @@ pub fn connected(sign: Mark, x: Boxed<IlExp>, y: Boxed<IlExp>) -> IlExp
     }
 }
 
-/// Two values of one type, compared.
+/// Two values of one type, compared by `=` or `=/=`.
 pub fn equated(sign: Mark, x: Boxed<IlExp>, y: Boxed<IlExp>) -> IlExp
     ensures { result ≡ equated sign x y }
 {
@@ -28,7 +28,7 @@ pub fn equated(sign: Mark, x: Boxed<IlExp>, y: Boxed<IlExp>) -> IlExp
     }
 }
 
-/// Two numbers, compared by size.
+/// Two numbers, compared by size with this sign.
 pub fn ordered(sign: Mark, x: Boxed<IlExp>, y: Boxed<IlExp>) -> IlExp
     ensures { result ≡ ordered sign x y }
 {
@@ -40,7 +40,7 @@ pub fn ordered(sign: Mark, x: Boxed<IlExp>, y: Boxed<IlExp>) -> IlExp
     }
 }
 
-/// Arithmetic on two numbers of this type.
+/// Arithmetic on two numbers of this type, by this sign.
 pub fn reckoned(sign: Mark, number: NumTy, x: Boxed<IlExp>, y: Boxed<IlExp>) -> IlExp
     ensures { result ≡ reckoned sign number x y }
 {

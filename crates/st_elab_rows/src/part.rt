@@ -51,7 +51,7 @@ pub fn position_row<F: Fn(&Within, &Asking<'_>) -> Result<Found, ExpFault>>(
     Ok(given)
 }
 
-/// A slice has the type of its operand.
+/// A slice of a list, which has the type of that list.
 pub fn slice_row<F: Fn(&Within, &Asking<'_>) -> Result<Found, ExpFault>>(
     context: &Context<'_>,
     ask: &F,

@@ -15,21 +15,21 @@ use st_elab_table::ExpFault;
 use st_il::{IlExp, PathSeg, Ty, copy_ty};
 use st_num::{Row, Span};
 
-/// A step of a path, and the type of the place to which it leads.
+/// A step of a path, and the type of the part to which it leads.
 #[derive(Drop)]
 pub struct Stepped {
     pub step: PathSeg,
     pub ty: Ty,
 }
 
-/// A path, and the type of the place at it.
+/// A path, and the type of the part to which it leads.
 #[derive(Drop)]
 pub struct Walked {
     pub path: Row<PathSeg>,
     pub ty: Ty,
 }
 
-/// A step of a path from a place of this type.
+/// A step of a path from a part of this type.
 fn step<F: Fn(&Within, &Asking<'_>) -> Result<Found, ExpFault>>(
     context: &Context<'_>,
     ask: &F,
@@ -74,7 +74,7 @@ fn step<F: Fn(&Within, &Asking<'_>) -> Result<Found, ExpFault>>(
     }
 }
 
-/// The path from a place of this type.
+/// The path from a part of this type.
 fn along<F: Fn(&Within, &Asking<'_>) -> Result<Found, ExpFault>>(
     context: &Context<'_>,
     ask: &F,
@@ -100,7 +100,7 @@ fn along<F: Fn(&Within, &Asking<'_>) -> Result<Found, ExpFault>>(
     })
 }
 
-/// An update asks the new value at the type of the place at the path.
+/// An update asks the new value at the type of the part at the path.
 pub fn update_row<F: Fn(&Within, &Asking<'_>) -> Result<Found, ExpFault>>(
     context: &Context<'_>,
     ask: &F,
@@ -122,7 +122,7 @@ pub fn update_row<F: Fn(&Within, &Asking<'_>) -> Result<Found, ExpFault>>(
     Ok(given)
 }
 
-/// So does an extension with its list, at a place of a list type.
+/// An extension asks the list that it adds at the type of the part at the path, a list type.
 pub fn extension_row<F: Fn(&Within, &Asking<'_>) -> Result<Found, ExpFault>>(
     context: &Context<'_>,
     ask: &F,

@@ -104,7 +104,7 @@ fn unprimed_type(alloc: Global, decls: &Decls, name: &[u8]) -> Result<Option<Ty>
     named_type(alloc, decls, &front)
 }
 
-/// The type of what stands before the place, where an `_` stands there.
+/// The type of the name that remains where this byte is an `_`, if it has one.
 fn type_before(alloc: Global, decls: &Decls, name: &[u8], at: usize) -> Result<Option<Ty>, NoMemory>
     requires { at < length name.now }
     ensures { IfOk result (λ ty. ty ≡ first_type decls.now (remaining_at at name.now)) }

@@ -26,9 +26,11 @@ pub record ClauseParts : Type 0 where
   pub result : Exp
   pub premises : List Prem
 
+-- a clause with these arguments, this result and these premises
 abbrev pub parts_of : List Exp → Exp → List Prem → ClauseParts
 parts_of args result premises = record { args = args; result = result; premises = premises }
 
+-- what a clause mentions: in its arguments and its result, and then in its premises
 abbrev pub mentions_of : ClauseParts → List Mention
 mentions_of c = mentions_in (c.args ++ c.result ∷ []) c.premises
 

@@ -18,19 +18,20 @@ use Rattle.st_elab_table.specs.Steps.{exp_of, holes}
 use Rattle.st_elab_table.specs.Choice.{FillsCase}
 use Rattle.st_elab_rows.specs.Parts.{AskedAs, Breaks}
 
+-- this rule is broken at this place
 abbrev pub broken : Span → RuleId → Breach
 broken at rule = record { at = at; rule = rule }
 
--- the declaration of a relation
+-- the declaration of the relation of this name, if there is one
 abbrev pub relation_named : List RelationDef → List ℕ → Option RelationDef
 relation_named [] name = None
 relation_named (R ∷ Rs) name = if same_name name R.name then Some R else relation_named Rs name
 
--- The notation of a relation is fitted as that of a case.
+-- A relation as a case: its notation is fitted as that of one.
 abbrev pub case_of : RelationDef → CaseDef
 case_of R = record { tag = R.tag; operands = R.holes }
 
--- What fills each hole of the relation is asked at the type of the hole.
+-- The questions what fills each hole of the relation, at the type of the hole.
 abbrev pub judgement_questions : Within → Exp → List Filling → RelationDef → List Question
 judgement_questions w e fillings R = holes w (place e) fillings R.holes
 

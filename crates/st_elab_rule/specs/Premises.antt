@@ -25,10 +25,11 @@ use Rattle.st_elab_table.specs.Elaboration.{Reached, Stopped}
 use Rattle.st_elab_exp.specs.Inside.{ElabInside, InsideBreach}
 use Rattle.st_elab_rule.specs.Judgements.{broken, relation_named, Judged, JudgedBreach}
 
--- where a premise stands, and what it is
+-- where a premise stands
 abbrev pub place_of : Prem → Span
 place_of p = (out-Prem p).at
 
+-- the condition, judgement, `otherwise` or iteration that a premise is
 abbrev pub node_of : Prem → PremNode-F PremNode Prem
 node_of p = out-PremNode (out-Prem p).node
 

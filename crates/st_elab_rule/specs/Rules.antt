@@ -14,7 +14,7 @@ use Rattle.st_elab_rule.specs.Judgements.{Judged, JudgedBreach}
 use Rattle.st_elab_rule.specs.Premises.{ElabPrems, PremsBreach}
 use Rattle.st_elab_rule.specs.Variables.{IsScope, VariableBreach, listed}
 
--- The scope of a rule.
+-- The scope of a rule with this conclusion and these premises.
 abbrev pub IsRuleScope : Decls → Exp → List Prem → Scope → Type 0
 IsRuleScope D conclusion premises S = IsScope D (mentions_in (conclusion ∷ []) premises) S
 

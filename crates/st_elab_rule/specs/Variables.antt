@@ -17,6 +17,7 @@ use Rattle.st_elab_table.specs.Iterations.{Variable}
 use Rattle.st_elab_table.specs.Variables.{type_of_name}
 use Rattle.st_elab_rule.specs.Judgements.{broken}
 
+-- there is no type
 abbrev pub is_none : Option Ty → Bool
 is_none None = true
 is_none (Some t) = false

@@ -30,6 +30,7 @@ fn push_word(word: &[u8], tag: &mut Name) -> Result<(), NoMemory>
     tag.push(b' ')
 }
 
+/// Appends the spelling of a sign, and a space.
 fn push_sign(sign: Mark, tag: &mut Name) -> Result<(), NoMemory>
     ensures { OnOk result (tag.new ≡ tag.old ++ (spelling sign ++ 32 ∷ [])) }
 {
@@ -58,6 +59,7 @@ fn push_words(notation: &Notation, tag: &mut Name) -> Result<(), NoMemory>
     }
 }
 
+/// Appends the words of each part of a notation, with a space behind each.
 #[cycle(words)]
 fn push_parts(parts: &[Notation], tag: &mut Name) -> Result<(), NoMemory>
     ensures { OnOk result (tag.new ≡ tag.old ++ trailed (flat_map words_in parts.now)) }
@@ -95,6 +97,7 @@ fn push_operands(alloc: Global, notation: &Notation, operands: &mut Row<Ty>) -> 
     }
 }
 
+/// Appends what the types of each part of a notation are in the internal language.
 #[cycle(operands)]
 fn push_part_operands(
     alloc: Global,

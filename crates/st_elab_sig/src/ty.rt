@@ -8,6 +8,7 @@ use st_il::Ty;
 use st_num::{Boxed, NoMemory, Row};
 use std::alloc::Global;
 
+/// What a written type is in the internal language.
 #[cycle(ty)]
 pub fn elaborate_typ(alloc: Global, typ: &Typ) -> Result<Ty, NoMemory>
     ensures { IfOk result (λ ty. ty ≡ ty_of typ.now) }
@@ -24,6 +25,7 @@ pub fn elaborate_typ(alloc: Global, typ: &Typ) -> Result<Ty, NoMemory>
     }
 }
 
+/// What a written type in its box is in the internal language, in a box too.
 #[cycle(ty)]
 fn boxed_ty(alloc: Global, typ: &Boxed<Typ>) -> Result<Boxed<Ty>, NoMemory>
     ensures { IfOk result (λ ty. ty ≡ ty_of typ.now) }
@@ -32,6 +34,7 @@ fn boxed_ty(alloc: Global, typ: &Boxed<Typ>) -> Result<Boxed<Ty>, NoMemory>
     Boxed::new(alloc, ty)
 }
 
+/// What written types are in the internal language, one after another.
 #[cycle(ty)]
 pub fn elaborate_typs(alloc: Global, typs: &[Typ]) -> Result<Row<Ty>, NoMemory>
     ensures { IfOk result (λ tys. tys ≡ map ty_of typs.now) }

@@ -22,12 +22,13 @@ use Rattle.st_elab_table.specs.Records.{record_row, notation_row}
 
 -- ---- the rows for an expression that is not inferable
 
--- a sequence
+-- a sequence: at a list type its items, or one element; at any other type by its notation
 abbrev pub sequence_at : Within → Span → Bool → Exp → List Exp → Ty → Ty → Ty-F Ty → Step
 sequence_at w at p e es t u (Ty-F.List x) =
     if is_run es p then sequence w at es t x else other_row w at p e t (Ty-F.List x)
 sequence_at w at p e es t u y = notation_row w at p e t u
 
+-- an expression that is not inferable, by its form, at the type t that means u
 abbrev pub form_row : Decls → Scope → Within → Span → Bool → Exp → Ty → Ty
     → Node-F Count Node Seg Exp → Step
 form_row D S w at p e t u Node-F.Eps = eps_row at t (out-Ty u)
@@ -42,7 +43,7 @@ form_row D S w at p e t u (Node-F.Infix l sign r) = notation_row w at p e t u
 form_row D S w at p e t u (Node-F.Bracket opening b) = notation_row w at p e t u
 form_row D S w at p e t u _ = other_row w at p e t (out-Ty u)
 
--- an inferable expression, and else by its form
+-- an expression at the type t: an inferable one is fitted to it, any other goes by its form
 abbrev pub plain_row : Decls → Scope → Within → Span → Bool → Exp → Ty → Step
 plain_row D S w at p e t =
     if inferable e then Asks (infer w at e) (fitted at t)
@@ -50,6 +51,8 @@ plain_row D S w at p e t =
 
 -- ---- all rows at a type
 
+-- a tuple at a type of this meaning: by parts at a tuple type of its length,
+-- and else as any other expression
 abbrev pub tuple_at : Decls → Scope → Within → Span → Bool → Exp → List Exp → Ty → Ty-F Ty → Step
 tuple_at D S w at p e es t (Ty-F.Tuple ts) =
     if nat_eq (length es) (length ts)
@@ -57,7 +60,8 @@ tuple_at D S w at p e es t (Ty-F.Tuple ts) =
     else plain_row D S w at p e t
 tuple_at D S w at p e es t _ = plain_row D S w at p e t
 
--- A tuple at a tuple type of its length goes by parts. Parentheses change nothing but the place.
+-- An expression at the type t: a tuple at a tuple type of its length goes by parts.
+-- Parentheses change nothing but the place.
 abbrev pub checked_row : Decls → Scope → Within → Span → Bool → Exp → Ty
     → Node-F Count Node Seg Exp → Step
 checked_row D S w at p e t (Node-F.Paren inner) = pass (check w at true inner t)

@@ -21,11 +21,13 @@ use Rattle.st_elab_table.specs.Questions.{Chosen}
 
 -- ---- shapes
 
+-- the shape that the form of a type gives: a list, an option, or plain
 abbrev pub shape_at : Ty-F Ty → Shape
 shape_at (Ty-F.List t) = shape.List
 shape_at (Ty-F.Opt t) = shape.Opt
 shape_at _ = shape.Plain
 
+-- the shape of a type as it is written: a name is plain, whatever it means
 abbrev pub shape_of : Ty → Shape
 shape_of t = shape_at (out-Ty t)
 
@@ -33,6 +35,7 @@ shape_of t = shape_at (out-Ty t)
 abbrev pub HasShape : List SyntaxDef → Ty → Shape → Type 0
 HasShape defs t s = (u : Ty) × Means defs t u × (s ≡ shape_of u)
 
+-- these are the shapes of as many types, one after another
 abbrev pub HaveShapes : List SyntaxDef → List Ty → List Shape → Type 0
 HaveShapes defs [] [] = Unit {0}
 HaveShapes defs [] (s ∷ ss) = ⊥
@@ -41,6 +44,7 @@ HaveShapes defs (t ∷ ts) (s ∷ ss) = HasShape defs t s × HaveShapes defs ts 
 
 -- ---- the case
 
+-- no case of these has this key
 abbrev pub NoneHasKey : PlainKey → List CaseDef → Type 0
 NoneHasKey k = AllByRecursion (λ (c : CaseDef). HasKey c.tag k → ⊥)
 

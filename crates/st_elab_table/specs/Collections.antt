@@ -28,7 +28,7 @@ use Rattle.st_elab_table.specs.Steps.{breach, made, give, pass, asked, found, is
 
 -- ---- lists and options
 
--- one element of this type, in a list or an option of the type t
+-- the expression as one element of the type x, in a list or an option of the type t
 abbrev pub element : Within → Span → Bool → Exp → Ty → Ty → (IlExp → IlExp) → Step
 element w at p e t x lift =
     Opens x (λ v. if is_collection v then breach at Y1
@@ -40,13 +40,13 @@ other_row w at p e t (Ty-F.List x) = element w at p e t x (list_of_one x)
 other_row w at p e t (Ty-F.Opt x) = element w at p e t x il.Present
 other_row w at p e t _ = breach at Y1
 
--- `eps`
+-- `eps` at the type t: the empty list or the empty option; Y1 at any other type
 abbrev pub eps_row : Span → Ty → Ty-F Ty → Step
 eps_row at t (Ty-F.List x) = give (il.List x []) t
 eps_row at t (Ty-F.Opt x) = give (il.Empty x) t
 eps_row at t _ = breach at Y1
 
--- `++`
+-- `++` at the type t, at which both sides are asked; Y5 where `++` does not put it together
 abbrev pub concatenation_row : Within → Span → Exp → Exp → Ty → Step
 concatenation_row w at l r t =
     as_joined at t
@@ -65,6 +65,7 @@ abbrev pub iteration : Scope → Within → Count → IlExp → Ty → Step
 iteration S w c body t =
     counted_at w (out-Count c) (λ k. give (il.Iter k (iterated S w c (λ name. occurs name body)) body) t)
 
+-- an iteration of the type t, whose body is asked at the element type x
 abbrev pub body_row : Scope → Within → Exp → Count → Ty → Ty → Step
 body_row S w b c x t = Asks (asked (inside w c) b x) (λ m. iteration S w c m.exp t)
 
@@ -79,6 +80,7 @@ iteration_row S w at p e b c t y = other_row w at p e t y
 
 -- ---- sequences
 
+-- what is made, as an item of a list: one element, or all elements where it is spliced
 abbrev pub item_of : Made → ListItem
 item_of m = if m.spliced then part.All m.exp else part.One m.exp
 
@@ -112,16 +114,18 @@ is_run es p = nat_le 2 (length es) && not p
 
 -- ---- holes
 
+-- a run of two or more elements: a sequence at a list type, and Y1 at any other
 abbrev pub run_at : Within → Span → List Exp → Ty → Ty-F Ty → Step
 run_at w at es t (Ty-F.List x) = sequence w at es t x
 run_at w at es t _ = breach at Y1
 
--- A run of none is left out, and of one is that element. Two and more are a sequence.
+-- A run in a hole: of none it is left out, of one it is that element; two and more are a sequence.
 abbrev pub run_row : Within → Span → List Exp → Ty → Step
 run_row w at [] t = give (il.Absent t) t
 run_row w at (e ∷ []) t = pass (check w (place e) true e t)
 run_row w at (e ∷ f ∷ es) t = Opens t (λ u. run_at w at (e ∷ f ∷ es) t (out-Ty u))
 
+-- what fills a hole of the type t: one expression, a run of elements, or nothing
 abbrev pub hole_row : Within → Span → Filling → Ty → Step
 hole_row w at (one e) t = pass (asked w e t)
 hole_row w at (run es) t = run_row w at es t

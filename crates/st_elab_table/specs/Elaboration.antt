@@ -27,6 +27,7 @@ row D S (infer w at e) = inferred_row D S w at e (opened e)
 row D S (item w t x e) = item_row w t x e
 row D S (hole w at filling t) = hole_row w at filling t
 
+-- the condition holds of its types, as they are declared
 abbrev pub Holds : Decls → Condition → Type 0
 Holds D (are_same a b) = Same D.types a b
 Holds D (is_below a b) = Sub D.types a b
@@ -40,19 +41,27 @@ mutual
 
   -- steps lead to an answer
   pub data Leads (D : Decls) (S : Scope) : Step → Answer → Type 0 where
+    -- steps that end lead to their answer
     ends : {a : Answer} → Leads D S (Ends a) a
+    -- an answer to the question that is asked goes on with what follows from it
     goes_on : {q : Question} {next : Made → Step} {a : Answer} (m : Made)
         → Answered D S q (Gives m) → Leads D S (next m) a → Leads D S (Asks q next) a
+    -- a breach there is the answer
     stops : {q : Question} {next : Made → Step} (b : Breach)
         → Answered D S q (Fails b) → Leads D S (Asks q next) (Fails b)
+    -- where the condition holds, the first steps lead on
     passes : {c : Condition} {first second : Step} {a : Answer}
         → Holds D c → Leads D S first a → Leads D S (Tests c first second) a
+    -- where it does not, the second ones do
     misses : {c : Condition} {first second : Step} {a : Answer}
         → (Holds D c → ⊥) → Leads D S second a → Leads D S (Tests c first second) a
+    -- what the type means goes on with what follows from it
     opens : {t : Ty} {next : Ty → Step} {a : Answer} (u : Ty)
         → Means D.types t u → Leads D S (next u) a → Leads D S (Opens t next) a
+    -- so does the case of the type that the expression is
     fills : {t : Ty} {e : Exp} {next : Chosen → Step} {unfit : Step} {a : Answer} (c : Chosen)
         → IsCaseOf D.types t e c → Leads D S (next c) a → Leads D S (Fills t e next unfit) a
+    -- where it is none, the steps for that lead on
     fits_none : {t : Ty} {e : Exp} {next : Chosen → Step} {unfit : Step} {a : Answer}
         → ((c : Chosen) → IsCaseOf D.types t e c → ⊥) → Leads D S unfit a
         → Leads D S (Fills t e next unfit) a

@@ -15,11 +15,14 @@ place e = (out-Exp e).at
 
 -- ---- inferable expressions
 
+-- an operation is inferable: `++` where both sides are,
+-- and any other where its sign is that of an operator
 abbrev pub inferable_by : Operator → Bool → Bool → Bool
 inferable_by operator.Concatenation left right = left && right
 inferable_by operator.Other left right = false
 inferable_by _ left right = true
 
+-- all of these are true
 abbrev pub all_true : List Bool → Bool
 all_true parts = list_all (λ (part : Bool). part) parts
 
@@ -52,6 +55,7 @@ inferable_at (Node-F.Len e) = true
 inferable_at (Node-F.Call name parts) = true
 inferable_at (Node-F.Iter e count) = e
 
+-- an expression is inferable where its node is
 abbrev pub inferable_exp_at : Exp-F Bool Bool Bool Bool → Bool
 inferable_exp_at e = e.node
 
@@ -62,6 +66,7 @@ inferable =
 
 -- ---- items that are spliced
 
+-- the operator is `++`
 abbrev pub is_concatenation : Operator → Bool
 is_concatenation operator.Concatenation = true
 is_concatenation _ = false
@@ -71,6 +76,7 @@ abbrev pub goes_over_list : {C N S E : Type 0} → Count-F C N S E → Bool
 goes_over_list Count-F.Quest = false
 goes_over_list _ = true
 
+-- the form of a node, or of its part in parentheses, says that all elements are meant
 abbrev pub spliced_at : Node-F Bool Bool Bool Bool → Bool
 spliced_at Node-F.Eps = true
 spliced_at (Node-F.Binary left sign right) = is_concatenation (operator_of sign)
@@ -78,6 +84,7 @@ spliced_at (Node-F.Paren e) = e
 spliced_at (Node-F.Iter e over_list) = over_list
 spliced_at _ = false
 
+-- what the form of a node says is said of its expression
 abbrev pub form_exp_at : Exp-F Bool Bool Bool Bool → Bool
 form_exp_at e = e.node
 
@@ -86,6 +93,7 @@ form_exp_at e = e.node
 abbrev pub is_spliced : Exp → Bool
 is_spliced = fold-Exp Bool Bool Bool Bool goes_over_list spliced_at (λ step. false) form_exp_at
 
+-- the node is a tuple, or parentheses round one
 abbrev pub tuple_at : Node-F Bool Bool Bool Bool → Bool
 tuple_at (Node-F.Tuple parts) = true
 tuple_at (Node-F.Paren e) = e

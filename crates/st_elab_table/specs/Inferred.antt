@@ -31,27 +31,31 @@ use Rattle.st_elab_table.specs.Paths.{length_row, position_row, slice_row, field
 
 -- ---- variables
 
+-- a variable with its type alone
 abbrev pub entry_of : Variable → List ℕ × Ty
 entry_of v = (v.0, v.1)
 
--- An index is `nat` in its body.
--- Any other variable has the type that the scope gives it, or else the one that its name leads to.
+-- The type of a variable, if it has one: an index is `nat` in its body, any other has the type that
+-- the scope gives it, or else the one that its name leads to.
 abbrev pub variable_type : Decls → Scope → Within → List ℕ → Option Ty
 variable_type D S w name =
     if is_among name w.indices then Some ty.Nat
     else option_or (lookup (same_name name) (map entry_of S.variables)) (type_of_name D name)
 
+-- a variable, of the type that was found for it; B3 where none was
 abbrev pub variable_row : Span → List ℕ → Option Ty → Step
 variable_row at name None = breach at B3
 variable_row at name (Some t) = give (il.Var name) t
 
 -- ---- calls
 
--- the declaration of a function
+-- the declaration of the function of this name, if there is one
 abbrev pub fun_named : List FunDef → List ℕ → Option FunDef
 fun_named [] name = None
 fun_named (f ∷ fs) name = if same_name name f.name then Some f else fun_named fs name
 
+-- a call of this function, its arguments at the types of the parameters:
+-- B2 where it is not declared, Y6 where it has another number of parameters
 abbrev pub call_row : Within → Span → List Exp → Option FunDef → Step
 call_row w at es None = breach at B2
 call_row w at es (Some f) =
@@ -61,16 +65,19 @@ call_row w at es (Some f) =
 
 -- ---- tuples and iterations
 
+-- a tuple of inferred parts, of the tuple of their types
 abbrev pub inferred_tuple : Within → List Exp → Step
 inferred_tuple w es =
     asks (map (found w) es) (λ ms. give (il.Tuple (exps ms)) (ty.Tuple (map ty_of ms)))
 
+-- an iteration with an inferred body: a list or an option of the type of the body
 abbrev pub inferred_iteration : Scope → Within → Exp → Count → Step
 inferred_iteration S w b c =
     Asks (found (inside w c) b) (λ m. iteration S w c m.exp (iterated_type c m.ty))
 
 -- ---- all rows
 
+-- an inferable expression, by its form; Y3 at a form whose type is never inferred
 abbrev pub inferred_at : Decls → Scope → Within → Span → Node-F Count Node Seg Exp → Step
 inferred_at D S w at (Node-F.Name name) = variable_row at name (variable_type D S w name)
 inferred_at D S w at (Node-F.Bool truth) = give (il.Bool truth) ty.Bool

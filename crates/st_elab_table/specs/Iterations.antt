@@ -10,6 +10,7 @@ use Rattle.st_dims.specs.declared.within.Within.{Within}
 use Rattle.st_dims.specs.Around.{kind_at, inside}
 use Rattle.st_elab_table.specs.declared.decls.Scope.{Scope}
 
+-- a list or an option of this type
 abbrev pub of_kind : Kind → Ty → Ty
 of_kind kind.List t = ty.List t
 of_kind kind.Opt t = ty.Opt t
@@ -20,6 +21,7 @@ iterated_type c t = of_kind (kind_at (out-Count c)) t
 
 -- ---- the variables that an iteration names
 
+-- a variable of a scope: its name, its type, and the iterations that it varies over
 abbrev pub Variable : Type 0
 Variable = List ℕ × Ty × List Kind
 
@@ -29,6 +31,7 @@ abbrev pub is_iterated : ℕ → List (List ℕ) → (List ℕ → Bool) → Var
 is_iterated depth indices occurs v =
     nat_lt depth (length v.2) && not (is_among v.0 indices) && occurs v.0
 
+-- the names of the variables that an iteration inside of so many others goes over
 abbrev pub iterated_in : List Variable → ℕ → List (List ℕ) → (List ℕ → Bool) → List (List ℕ)
 iterated_in variables depth indices occurs =
     map (λ (v : Variable). v.0) (filter (is_iterated depth indices occurs) variables)

@@ -32,6 +32,7 @@ pub record Breach : Type 0 where
   pub at : Span
   pub rule : RuleId
 
+-- what a question is answered with: what the part is made to, or the first breach in it
 pub data Answer : Type 0 where
   Gives : (m : Made) → Answer
   Fails : (b : Breach) → Answer

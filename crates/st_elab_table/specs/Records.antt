@@ -26,6 +26,8 @@ abbrev pub is_omissible : Shape → Bool
 is_omissible shape.Plain = false
 is_omissible _ = true
 
+-- what fills a field of this shape and those behind it, where it is not written;
+-- none where it may not be left out
 abbrev pub omitted : Shape → Option (List Filling) → Option (List Filling)
 omitted s rest =
     if is_omissible s then option_map (λ (fs : List Filling). missing ∷ fs) rest else None
@@ -47,12 +49,15 @@ abbrev pub shaped : List Ty → (List Shape → Step) → Step
 shaped [] next = next []
 shaped (t ∷ ts) next = Opens t (λ u. shaped ts (λ ss. next (shape_of u ∷ ss)))
 
+-- the names of declared fields
 abbrev pub field_names : List (List ℕ × Ty) → List (List ℕ)
 field_names fields = map (λ (f : List ℕ × Ty). f.0) fields
 
+-- the types of declared fields
 abbrev pub field_types : List (List ℕ × Ty) → List Ty
 field_types fields = map (λ (f : List ℕ × Ty). f.1) fields
 
+-- a record of this name and the type t, its fields filled with these; Y4 here where none are
 abbrev pub filled_fields : Within → Span → List ℕ → List Ty → Ty → Option (List Filling) → Step
 filled_fields w at name ts t None = breach at Y4
 filled_fields w at name ts t (Some fs) =
@@ -65,6 +70,8 @@ fields_of_record w at name written t fields =
     shaped (field_types fields)
     (λ ss. filled_fields w at name (field_types fields) t (aligned (field_names fields) ss written))
 
+-- written fields: a record where the type t is a name and means declared fields,
+-- and else one element of a list or an option
 abbrev pub record_by : Within → Span → Bool → Exp → List (List ℕ × Exp) → Ty → Ty → Ty-F Ty
     → Option (List (List ℕ × Ty)) → Step
 record_by w at p e written t u (Ty-F.Name name) (Some fields) =
@@ -77,6 +84,7 @@ record_row D w at p e written t u = record_by w at p e written t u (out-Ty t) (f
 
 -- ---- variants
 
+-- a case of the variant t, by its notation; Y2 where the expression fits none
 abbrev pub case_row : Within → Span → Exp → Ty → Step
 case_row w at e t =
     Fills t e

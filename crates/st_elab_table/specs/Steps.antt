@@ -17,10 +17,11 @@ use Rattle.st_dims.specs.declared.within.Within.{Within}
 use Rattle.st_elab_table.specs.Forms.{place}
 use Rattle.st_elab_table.specs.Questions.{Question, check, infer, hole, Made, Gives, Fails, are_same, is_below, can_join, Step, Ends, Asks, Tests, Opens}
 
--- the place breaks the rule
+-- the answer is that this rule is broken at this place
 abbrev pub breach : Span → RuleId → Step
 breach at rule = Ends (Fails (record { at = at; rule = rule }))
 
+-- this expression of this type, which is not spliced
 abbrev pub made : IlExp → Ty → Made
 made x t = record { exp = x; ty = t; spliced = false }
 
@@ -32,37 +33,41 @@ give x t = Ends (Gives (made x t))
 abbrev pub pass : Question → Step
 pass q = Asks q (λ m. Ends (Gives m))
 
--- the expression by itself at a type
+-- the question what the expression by itself is at a type
 abbrev pub asked : Within → Exp → Ty → Question
 asked w e t = check w (place e) false e t
 
--- the expression by itself, for its type
+-- the question what the expression by itself is, and its type
 abbrev pub found : Within → Exp → Question
 found w e = infer w (place e) e
 
--- each expression at its type
+-- the questions what each expression is at its type
 abbrev pub each_asked : Within → List Exp → List Ty → List Question
 each_asked w [] ts = []
 each_asked w (e ∷ es) [] = []
 each_asked w (e ∷ es) (t ∷ ts) = asked w e t ∷ each_asked w es ts
 
--- what fills each hole, at the type of the hole
+-- the questions what fills each hole, at the type of the hole
 abbrev pub holes : Within → Span → List Filling → List Ty → List Question
 holes w at [] ts = []
 holes w at (f ∷ fs) [] = []
 holes w at (f ∷ fs) (t ∷ ts) = hole w at f t ∷ holes w at fs ts
 
+-- the expression that a part was made to
 abbrev pub exp_of : Made → IlExp
 exp_of m = m.exp
 
+-- the type of what a part was made to
 abbrev pub ty_of : Made → Ty
 ty_of m = m.ty
 
+-- the expressions that several parts were made to
 abbrev pub exps : List Made → List IlExp
 exps ms = map exp_of ms
 
 -- ---- types
 
+-- the form of a type is that of a list or an option
 abbrev pub is_collection_at : Ty-F Ty → Bool
 is_collection_at (Ty-F.List t) = true
 is_collection_at (Ty-F.Opt t) = true
@@ -72,6 +77,7 @@ is_collection_at _ = false
 abbrev pub is_collection : Ty → Bool
 is_collection t = is_collection_at (out-Ty t)
 
+-- what follows from the element type, where this is the form of a list type; Y5 here where not
 abbrev pub list_at : Span → (Ty → Step) → Ty-F Ty → Step
 list_at at next (Ty-F.List element) = next element
 list_at at next _ = breach at Y5
@@ -80,6 +86,7 @@ list_at at next _ = breach at Y5
 abbrev pub as_list : Span → Ty → (Ty → Step) → Step
 as_list at t next = Opens t (λ u. list_at at next (out-Ty u))
 
+-- what follows from `nat` or `int`, where this is the form of one; Y5 here where not
 abbrev pub number_at : Span → (NumTy → Step) → Ty-F Ty → Step
 number_at at next Ty-F.Nat = next number.Nat
 number_at at next Ty-F.Int = next number.Int
@@ -109,12 +116,14 @@ abbrev pub wider : NumTy → NumTy → NumTy
 wider number.Nat n = n
 wider number.Int n = number.Int
 
+-- the type of these numbers
 abbrev pub number_type : NumTy → Ty
 number_type number.Nat = ty.Nat
 number_type number.Int = ty.Int
 
 -- ---- one element
 
+-- the list of this one element
 abbrev pub list_of_one : Ty → IlExp → IlExp
 list_of_one element x = il.List element (part.One x ∷ [])
 
@@ -124,6 +133,8 @@ lifted_to at m t element lift =
     Opens element (λ v. if is_collection v then breach at Y1
     else Tests (is_below m.ty element) (raised m element (λ x. give (lift x) t)) (breach at Y1))
 
+-- what is found, as one element of the type t, where that is the form of a list or an option;
+-- Y1 here where not
 abbrev pub lifted_at : Span → Made → Ty → Ty-F Ty → Step
 lifted_at at m t (Ty-F.List element) = lifted_to at m t element (list_of_one element)
 lifted_at at m t (Ty-F.Opt element) = lifted_to at m t element il.Present
@@ -139,6 +150,8 @@ fitted at t m =
 
 -- ---- `++`
 
+-- how `++` puts two expressions of the type t together, where it has this form;
+-- Y5 here where it does not
 abbrev pub joined_at : Span → Ty → ((IlExp → IlExp → IlExp) → Step) → Ty-F Ty → Step
 joined_at at t next (Ty-F.List element) = next il.Cat
 joined_at at t next _ = Tests (can_join t) (next il.Join) (breach at Y5)

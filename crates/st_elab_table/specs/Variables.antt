@@ -11,6 +11,7 @@ use Rattle.st_elab_table.specs.declared.decls.Decls.{Decls}
 
 -- ---- the names that remain of a name
 
+-- a byte put before a name without primes at its end; a prime alone is dropped
 abbrev pub before_end : ℕ → List ℕ → List ℕ
 before_end c [] = if nat_eq c (byte "'") then [] else c ∷ []
 before_end c (d ∷ ds) = c ∷ d ∷ ds
@@ -42,7 +43,7 @@ written_type name =
     else if same_name name (codes "text") then Some ty.Text
     else None
 
--- the name itself, where it is that of a syntax
+-- the type of this name, where it is that of a syntax
 abbrev pub syntax_type : Decls → List ℕ → Option Ty
 syntax_type D name = option_map (λ body. ty.Name name) (body_of D.types name)
 

@@ -24,6 +24,7 @@ pub enum Operator {
     Other,
 }
 
+/// The kind of operator that a sign is between two operands.
 pub fn operator_of(sign: Mark) -> Operator
     ensures { result ≡ operator_of sign }
 {

@@ -13,6 +13,7 @@ use std::alloc::Global;
 use std::process::Abort;
 use std::test::Fail;
 
+/// An expression without a place in a file.
 fn unplaced(node: Node) -> Exp {
     Exp {
         at: Span::NOWHERE,
@@ -20,6 +21,7 @@ fn unplaced(node: Node) -> Exp {
     }
 }
 
+/// Whether this is the number 1 alone.
 fn is_one(exps: &[IlExp]) -> bool {
     match exps {
         [IlExp::Number(number)] => *number == 1,
@@ -47,6 +49,7 @@ fn variable(alloc: Global) -> Result<Row<IlDef>, NoMemory> {
     Ok(defs)
 }
 
+/// Whether the first definition is `var x : nat`.
 fn is_variable(defs: &[Def]) -> bool {
     match defs.first() {
         Some(def) => match &def.node {
@@ -79,18 +82,21 @@ fn none_declared(alloc: Global) -> Result<Decls, Fail> {
     Ok(decls)
 }
 
+/// The type `nat`, once.
 fn naturals(alloc: Global) -> Result<Row<Ty>, NoMemory> {
     let mut tys = Row::new(alloc);
     tys.push(Ty::Nat)?;
     Ok(tys)
 }
 
+/// The number 1 of the source, once.
 fn ones(alloc: Global) -> Result<Row<Exp>, NoMemory> {
     let mut exps = Row::new(alloc);
     exps.push(unplaced(Node::Number(1)))?;
     Ok(exps)
 }
 
+/// What the expressions are as parts, the first of type `nat`.
 fn parts(alloc: Global, decls: &Decls, scope: &Scope, exps: &[Exp]) -> Result<Row<IlExp>, Fail> {
     let tys = naturals(alloc)?;
     let within = around(alloc, scope)?;
@@ -98,6 +104,7 @@ fn parts(alloc: Global, decls: &Decls, scope: &Scope, exps: &[Exp]) -> Result<Ro
     Ok(parts)
 }
 
+/// What the expression is, where it fills a hole of type `nat`.
 fn fillings(alloc: Global, decls: &Decls, scope: &Scope, exp: &Exp) -> Result<Row<IlExp>, Fail> {
     let tys = naturals(alloc)?;
     let within = around(alloc, scope)?;
@@ -108,12 +115,14 @@ fn fillings(alloc: Global, decls: &Decls, scope: &Scope, exp: &Exp) -> Result<Ro
     Ok(fillings)
 }
 
+/// What `+` is elaborated to.
 fn times(alloc: Global, decls: &Decls, scope: &Scope) -> Result<Iteration, Fail> {
     let within = around(alloc, scope)?;
     let times = check_count(alloc, decls, scope, &within, &Count::Plus)?;
     Ok(times)
 }
 
+/// The number 1 is elaborated to itself, as a part and where it fills a hole.
 fn expect_ones(rt: &impl Abort, alloc: Global, decls: &Decls) -> Result<(), Fail> {
     let scope = scope_of(alloc, &[])?;
     let exps = ones(alloc)?;
@@ -161,6 +170,7 @@ fn truth(alloc: Global) -> Result<Row<Prem>, NoMemory> {
     Ok(premises)
 }
 
+/// Whether the one premise is the condition `true`.
 fn is_truth(premises: &[IlPrem]) -> bool {
     match premises {
         [IlPrem::If(IlExp::Bool(truth))] => *truth,
@@ -168,6 +178,7 @@ fn is_truth(premises: &[IlPrem]) -> bool {
     }
 }
 
+/// The rule is named as its relation's tag, and its premise is the condition `true`.
 fn expect_rule(
     rt: &impl Abort,
     alloc: Global,
@@ -182,6 +193,7 @@ fn expect_rule(
     Ok(())
 }
 
+/// A rule whose conclusion is `P` is elaborated.
 fn expect_judgement(rt: &impl Abort, alloc: Global, decls: &Decls) -> Result<(), Fail> {
     let relation = relation(alloc)?;
     let conclusion = unplaced(Node::Atom(Name::from_slice(alloc, b"P")?));
@@ -204,6 +216,7 @@ fn constant(alloc: Global) -> Result<FunDef, NoMemory> {
     })
 }
 
+/// A clause of the function, whose result is 1, is elaborated.
 fn expect_clause(rt: &impl Abort, alloc: Global, decls: &Decls, fun: &FunDef) -> Result<(), Fail> {
     let value = unplaced(Node::Number(1));
     let none = Row::new(alloc);

@@ -12,6 +12,7 @@ fn tree_of(alloc: Global, text: &str) -> Result<TextTree, NoMemory> {
     read_tree(alloc, text.as_bytes()).map_err(|_| NoMemory)
 }
 
+/// The bytes of a word or a quoted text; none of a list.
 fn word_of(tree: &TextTree) -> &[u8] {
     match tree {
         TextTree::Word(text) => text.as_slice(),
@@ -20,6 +21,7 @@ fn word_of(tree: &TextTree) -> &[u8] {
     }
 }
 
+/// The trees of a list; none of a word or a quoted text.
 fn parts_of(tree: &TextTree) -> &[TextTree] {
     match tree {
         TextTree::List(parts) => parts.as_slice(),
@@ -27,6 +29,7 @@ fn parts_of(tree: &TextTree) -> &[TextTree] {
     }
 }
 
+/// The bytes of the first tree, where it is a word or a quoted text.
 fn first_word(trees: &[TextTree]) -> &[u8] {
     match trees.first() {
         Some(tree) => word_of(tree),
@@ -34,6 +37,7 @@ fn first_word(trees: &[TextTree]) -> &[u8] {
     }
 }
 
+/// The trees behind the first.
 fn behind(trees: &[TextTree]) -> &[TextTree] {
     match trees.split_first() {
         Some((_, others)) => others,
@@ -41,10 +45,12 @@ fn behind(trees: &[TextTree]) -> &[TextTree] {
     }
 }
 
+/// The name that the first tree is.
 fn first_name(alloc: Global, trees: &[TextTree]) -> Result<Name, NoMemory> {
     Name::from_slice(alloc, first_word(trees))
 }
 
+/// The type that is a word.
 fn word_type(word: &[u8]) -> Ty {
     match word {
         b"bool" => Ty::Bool,
@@ -54,6 +60,7 @@ fn word_type(word: &[u8]) -> Ty {
     }
 }
 
+/// The type of which this is the tree.
 #[cycle(ty)]
 fn ty_of(alloc: Global, tree: &TextTree) -> Result<Ty, NoMemory> {
     match tree {
@@ -103,6 +110,7 @@ fn first_type(alloc: Global, trees: &[TextTree]) -> Result<Ty, NoMemory> {
     }
 }
 
+/// An alternative, as `(case "TAG" T T)` or `(incl "x")`.
 fn alternative_of(alloc: Global, tree: &TextTree) -> Result<Alternative, NoMemory> {
     let parts = parts_of(tree);
     let name = first_name(alloc, behind(parts))?;
@@ -113,6 +121,7 @@ fn alternative_of(alloc: Global, tree: &TextTree) -> Result<Alternative, NoMemor
     Ok(Alternative::Case(name, operands))
 }
 
+/// The variant of the alternatives of which these are the trees.
 fn alternatives(alloc: Global, trees: &[TextTree]) -> Result<SyntaxBody, NoMemory> {
     let mut all = Row::new(alloc);
     for tree in trees {
@@ -128,6 +137,7 @@ fn typed_name(alloc: Global, parts: &[TextTree]) -> Result<(Name, Ty), NoMemory>
     Ok((name, ty))
 }
 
+/// The record of the fields of which these are the trees.
 fn fields(alloc: Global, trees: &[TextTree]) -> Result<SyntaxBody, NoMemory> {
     let mut all = Row::new(alloc);
     for tree in trees {
@@ -136,6 +146,7 @@ fn fields(alloc: Global, trees: &[TextTree]) -> Result<SyntaxBody, NoMemory> {
     Ok(SyntaxBody::Fields(all))
 }
 
+/// The body of a syntax, as `(variant ..)`, `(fields ..)` or `(alias T)`.
 fn body_of(alloc: Global, tree: &TextTree) -> Result<SyntaxBody, NoMemory> {
     let parts = parts_of(tree);
     match first_word(parts) {
@@ -209,6 +220,7 @@ fn funs_of(alloc: Global, texts: &[&str]) -> Result<Row<FunDef>, NoMemory> {
     Ok(all)
 }
 
+/// The level of a dimension: `o` is an option, and any other word a list.
 fn kind_of(word: &[u8]) -> Kind {
     match word {
         b"o" => Kind::Opt,

@@ -4,11 +4,13 @@ use st_il::{IlExp, Iteration, ListItem, NumTy, PathSeg, Ty};
 use st_num::{Name, NoMemory};
 use st_text::{print_natural, print_quoted};
 
+/// Appends the bytes of a word.
 fn word(text: &[u8], out: &mut Vec<u8>) -> Result<(), NoMemory> {
     out.extend_from_slice(text)?;
     Ok(())
 }
 
+/// Appends a space, and the name in quotes.
 fn quoted(name: &Name, out: &mut Vec<u8>) -> Result<(), NoMemory> {
     out.push(b' ')?;
     print_quoted(name.as_slice(), out)
@@ -33,6 +35,7 @@ pub(crate) fn print_ty(ty: &Ty, out: &mut Vec<u8>) -> Result<(), NoMemory> {
     }
 }
 
+/// Appends the text of the type of a list or an option, which begins so.
 #[cycle(ty)]
 fn print_collection(front: &[u8], element: &Ty, out: &mut Vec<u8>) -> Result<(), NoMemory> {
     word(front, out)?;
@@ -40,6 +43,7 @@ fn print_collection(front: &[u8], element: &Ty, out: &mut Vec<u8>) -> Result<(),
     word(b")", out)
 }
 
+/// Appends the text of the type of a tuple.
 #[cycle(ty)]
 fn print_tuple(parts: &[Ty], out: &mut Vec<u8>) -> Result<(), NoMemory> {
     word(b"(t", out)?;
@@ -50,6 +54,7 @@ fn print_tuple(parts: &[Ty], out: &mut Vec<u8>) -> Result<(), NoMemory> {
     word(b")", out)
 }
 
+/// Appends a space, and the text of the type.
 fn typed(ty: &Ty, out: &mut Vec<u8>) -> Result<(), NoMemory> {
     out.push(b' ')?;
     print_ty(ty, out)
@@ -118,6 +123,7 @@ fn number_word(exp: &IlExp) -> &[u8] {
     }
 }
 
+/// The word of a number type, with a space before it.
 fn word_of(number: NumTy) -> &'static [u8] {
     match number {
         NumTy::Nat => b" nat",
@@ -235,12 +241,14 @@ fn print_both(exp: &IlExp, out: &mut Vec<u8>) -> Result<(), NoMemory> {
     }
 }
 
+/// Appends a space, and the text of the expression.
 #[cycle(exp)]
 fn next(exp: &IlExp, out: &mut Vec<u8>) -> Result<(), NoMemory> {
     out.push(b' ')?;
     print_exp(exp, out)
 }
 
+/// Appends the texts of the expressions, with a space before each.
 #[cycle(exp)]
 fn each(parts: &[IlExp], out: &mut Vec<u8>) -> Result<(), NoMemory> {
     for part in parts {
@@ -249,6 +257,7 @@ fn each(parts: &[IlExp], out: &mut Vec<u8>) -> Result<(), NoMemory> {
     Ok(())
 }
 
+/// Appends the texts of the items of a list, with a space before each.
 #[cycle(exp)]
 fn each_item(items: &[ListItem], out: &mut Vec<u8>) -> Result<(), NoMemory> {
     for item in items {
@@ -257,6 +266,7 @@ fn each_item(items: &[ListItem], out: &mut Vec<u8>) -> Result<(), NoMemory> {
     Ok(())
 }
 
+/// Appends the text of an item of a list, with a space before it.
 #[cycle(exp)]
 fn print_item(item: &ListItem, out: &mut Vec<u8>) -> Result<(), NoMemory> {
     match item {
@@ -272,6 +282,7 @@ fn print_item(item: &ListItem, out: &mut Vec<u8>) -> Result<(), NoMemory> {
     word(b")", out)
 }
 
+/// Appends the text of a path, with a space before it.
 #[cycle(exp)]
 fn print_path(path: &[PathSeg], out: &mut Vec<u8>) -> Result<(), NoMemory> {
     word(b" (", out)?;
@@ -284,6 +295,7 @@ fn print_path(path: &[PathSeg], out: &mut Vec<u8>) -> Result<(), NoMemory> {
     word(b")", out)
 }
 
+/// Appends the text of a step of a path.
 #[cycle(exp)]
 fn print_step(step: &PathSeg, out: &mut Vec<u8>) -> Result<(), NoMemory> {
     match step {
@@ -304,6 +316,7 @@ fn print_step(step: &PathSeg, out: &mut Vec<u8>) -> Result<(), NoMemory> {
     word(b")", out)
 }
 
+/// Appends the text of how often an iteration goes, with a space before it.
 #[cycle(exp)]
 fn print_count(count: &Iteration, out: &mut Vec<u8>) -> Result<(), NoMemory> {
     match count {

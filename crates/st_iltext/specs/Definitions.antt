@@ -13,30 +13,36 @@ use Rattle.st_il.specs.declared.ty.Ty.{Ty}
 use Rattle.st_text.specs.Text.{TextTree, word, quote}
 use Rattle.st_iltext.specs.Expressions.{group, form, ty_tree, exp_tree, prem_tree}
 
+-- the tree of an alternative of a variant: a case, or another variant that it includes
 abbrev pub alternative_tree : Alternative → TextTree
 alternative_tree (Case tag operands) = form (codes "case") (quote tag ∷ map ty_tree operands)
 alternative_tree (Incl y) = form (codes "incl") (quote y ∷ [])
 
+-- the tree of a field of a record: its name and its type
 abbrev pub field_tree : List ℕ × Ty → TextTree
 field_tree field = group (quote field.0 ∷ ty_tree field.1 ∷ [])
 
+-- the tree of what a syntax is: an alias, a variant or a record
 abbrev pub body_tree : SyntaxBody → TextTree
 body_tree (Alias t) = form (codes "alias") (ty_tree t ∷ [])
 body_tree (Variant alternatives) = form (codes "variant") (map alternative_tree alternatives)
 body_tree (Fields fields) = form (codes "fields") (map field_tree fields)
 
+-- the word of one level of a dimension: a list or an option
 abbrev pub kind_word : Kind → TextTree
 kind_word kind.List = word (codes "l")
 kind_word kind.Opt = word (codes "o")
 
--- a variable with its type and its dimension
+-- the tree of a variable with its type and its dimension
 abbrev pub listed_tree : Listed → TextTree
 listed_tree x = group (quote x.name ∷ ty_tree x.ty ∷ map kind_word x.dim)
 
+-- the word of a hole of a relation: an input or an output
 abbrev pub mode_word : Bool → TextTree
 mode_word true = word (codes "in")
 mode_word false = word (codes "out")
 
+-- the tree of a definition of the internal language
 abbrev pub definition_tree : IlDef → TextTree
 definition_tree (Syntax d) = form (codes "syntax") (quote d.name ∷ body_tree d.body ∷ [])
 definition_tree (Var x t) = form (codes "var") (quote x ∷ ty_tree t ∷ [])

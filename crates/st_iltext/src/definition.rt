@@ -16,6 +16,7 @@ use st_num::{Dim, Kind, Name, NoMemory, Row};
 use st_text::TextTree;
 use std::alloc::Global;
 
+/// The tree of an alternative of a variant.
 fn alternative_tree(alloc: Global, alternative: &Alternative) -> Result<TextTree, NoMemory>
     ensures { IfOk result (λ tree. tree_of tree ≡ alternative_tree alternative.now) }
 {
@@ -30,6 +31,7 @@ fn alternative_tree(alloc: Global, alternative: &Alternative) -> Result<TextTree
     }
 }
 
+/// The tree of a variant of these alternatives.
 fn variant_tree(alloc: Global, alternatives: &[Alternative]) -> Result<TextTree, NoMemory>
     ensures { IfOk result (λ tree. tree_of tree
         ≡ body_tree (SyntaxBody.Variant alternatives.now)) }
@@ -41,6 +43,7 @@ fn variant_tree(alloc: Global, alternatives: &[Alternative]) -> Result<TextTree,
     Ok(TextTree::List(trees))
 }
 
+/// The tree of a field of a record, with its type.
 fn field_tree(alloc: Global, name: &Name, ty: &Ty) -> Result<TextTree, NoMemory>
     ensures { IfOk result (λ tree. tree_of tree ≡ field_tree (name.now, ty.now)) }
 {
@@ -50,6 +53,7 @@ fn field_tree(alloc: Global, name: &Name, ty: &Ty) -> Result<TextTree, NoMemory>
     Ok(TextTree::List(trees))
 }
 
+/// The tree of a record of these fields.
 fn fields_tree(alloc: Global, fields: &[(Name, Ty)]) -> Result<TextTree, NoMemory>
     ensures { IfOk result (λ tree. tree_of tree ≡ body_tree (SyntaxBody.Fields fields.now)) }
 {
@@ -60,6 +64,7 @@ fn fields_tree(alloc: Global, fields: &[(Name, Ty)]) -> Result<TextTree, NoMemor
     Ok(TextTree::List(trees))
 }
 
+/// The tree of a syntax.
 fn syntax_tree(alloc: Global, def: &SyntaxDef) -> Result<TextTree, NoMemory>
     ensures { IfOk result (λ tree. tree_of tree ≡ definition_tree (IlDef.Syntax def.now)) }
 {
@@ -81,6 +86,7 @@ fn types_tree(alloc: Global, types: &[Ty]) -> Result<TextTree, NoMemory>
     Ok(TextTree::List(trees))
 }
 
+/// The tree of a mode: which holes of a relation are inputs.
 fn mode_tree(alloc: Global, mode: &[bool]) -> Result<TextTree, NoMemory>
     ensures { IfOk result (λ tree. tree_of tree ≡ form (codes "mode") (map mode_word mode.now)) }
 {
@@ -92,6 +98,7 @@ fn mode_tree(alloc: Global, mode: &[bool]) -> Result<TextTree, NoMemory>
     Ok(TextTree::List(trees))
 }
 
+/// The tree of a relation.
 fn relation_tree(alloc: Global, def: &RelationDef) -> Result<TextTree, NoMemory>
     ensures { IfOk result (λ tree. tree_of tree ≡ definition_tree (IlDef.Relation def.now)) }
 {
@@ -117,6 +124,7 @@ fn push_kinds(alloc: Global, dim: &Dim, trees: &mut Row<TextTree>) -> Result<(),
     Ok(())
 }
 
+/// The tree of a variable, with its type and its dimension.
 fn listed_tree(alloc: Global, variable: &Listed) -> Result<TextTree, NoMemory>
     ensures { IfOk result (λ tree. tree_of tree ≡ listed_tree variable.now) }
 {
@@ -150,6 +158,7 @@ fn exps_tree(alloc: Global, exps: &[IlExp]) -> Result<TextTree, NoMemory>
     Ok(TextTree::List(trees))
 }
 
+/// The tree of a rule that has no premises, and whose conclusion is of atoms.
 fn rule_tree(alloc: Global, def: &RuleDef) -> Result<TextTree, NoMemory>
     requires { All IsAtom def.now.conclusion × (def.now.premises ≡ []) }
     ensures { IfOk result (λ tree. tree_of tree ≡ definition_tree (IlDef.Rule def.now)) }
@@ -162,6 +171,7 @@ fn rule_tree(alloc: Global, def: &RuleDef) -> Result<TextTree, NoMemory>
     Ok(TextTree::List(trees))
 }
 
+/// The tree of a function, with the types of its parameters and its result.
 fn function_tree(alloc: Global, def: &FunDef) -> Result<TextTree, NoMemory>
     ensures { IfOk result (λ tree. tree_of tree ≡ definition_tree (IlDef.Fun def.now)) }
 {

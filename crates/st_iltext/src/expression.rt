@@ -11,6 +11,7 @@ use st_num::{NoMemory, Row};
 use st_text::TextTree;
 use std::alloc::Global;
 
+/// The tree of a type.
 #[cycle(ty)]
 pub fn ty_tree(alloc: Global, ty: &Ty) -> Result<TextTree, NoMemory>
     ensures { IfOk result (λ tree. tree_of tree ≡ ty_tree ty.now) }

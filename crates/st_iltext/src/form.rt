@@ -9,19 +9,21 @@ use st_num::{Name, NoMemory, Row};
 use st_text::TextTree;
 use std::alloc::Global;
 
+/// A word as a tree.
 pub fn word_tree(alloc: Global, bytes: &[u8]) -> Result<TextTree, NoMemory>
     ensures { IfOk result (λ tree. tree_of tree ≡ word bytes.now) }
 {
     Ok(TextTree::Word(Row::from_slice(alloc, bytes)?))
 }
 
+/// A quoted text as a tree.
 pub fn quote_tree(alloc: Global, text: &Name) -> Result<TextTree, NoMemory>
     ensures { IfOk result (λ tree. tree_of tree ≡ quote text.now) }
 {
     Ok(TextTree::Quote(text.copy(alloc)?))
 }
 
-/// The word that begins a list.
+/// The trees of a list that begins with this word, so far that word alone.
 pub fn headed(alloc: Global, head: &[u8]) -> Result<Row<TextTree>, NoMemory>
     ensures { IfOk result (λ trees. map tree_of trees ≡ word head.now ∷ []) }
 {
@@ -30,7 +32,7 @@ pub fn headed(alloc: Global, head: &[u8]) -> Result<Row<TextTree>, NoMemory>
     Ok(trees)
 }
 
-/// A list of a word and this tree.
+/// A list of this word and this tree.
 pub fn unary(alloc: Global, head: &[u8], one: TextTree) -> Result<TextTree, NoMemory>
     ensures { IfOk result (λ tree. tree_of tree ≡ form head.now (tree_of one ∷ [])) }
 {
@@ -39,7 +41,7 @@ pub fn unary(alloc: Global, head: &[u8], one: TextTree) -> Result<TextTree, NoMe
     Ok(TextTree::List(trees))
 }
 
-/// A list of a word and these two trees.
+/// A list of this word and these two trees.
 pub fn binary(
     alloc: Global,
     head: &[u8],

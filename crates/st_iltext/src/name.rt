@@ -8,6 +8,7 @@ use indexmap::IndexSet;
 use st_num::{Name, NoMemory};
 use std::alloc::Global;
 
+/// Whether the byte is a lower-case letter.
 fn is_lower(byte: u8) -> bool
     ensures { IsTrue result ↔ IsLower byte }
 {
@@ -29,6 +30,7 @@ pub fn is_lower_word(word: &[u8]) -> bool
     true
 }
 
+/// Whether the byte is an upper-case letter.
 fn is_upper(byte: u8) -> bool
     ensures { IsTrue result ↔ IsUpper byte }
 {
@@ -69,6 +71,7 @@ pub fn add_name(names: &mut IndexSet<Name>, name: Name) -> Result<bool, NoMemory
     Ok(names.insert(name)?)
 }
 
+/// Whether the name is one of these.
 pub fn has_name(names: &IndexSet<Name>, name: &Name) -> bool
     ensures { IsTrue result ↔ Contains names.now.keys name.now }
 {

@@ -8,7 +8,7 @@ ghost use Rattle.st_text.specs.Trees.{tree_of, trees_of};
 use st_num::Name;
 use st_text::TextTree;
 
-/// The trees of a list.
+/// The trees of the list that the tree is, if it is one.
 pub fn list_parts(tree: &TextTree) -> Option<&[TextTree]>
     ensures { MatchOption result ((ts : TextTrees) → tree_of tree.now ≢ list ts)
         (λ parts. tree_of tree.now ≡ list (trees_of parts.now)) }
@@ -19,7 +19,7 @@ pub fn list_parts(tree: &TextTree) -> Option<&[TextTree]>
     }
 }
 
-/// The text of a quoted text.
+/// The bytes of a quoted text, where the tree is one.
 pub fn quoted(tree: &TextTree) -> Option<&Name>
     ensures { MatchOption result ((text : List ℕ) → tree_of tree.now ≢ quote text)
         (λ text. tree_of tree.now ≡ quote text.now) }
@@ -50,7 +50,7 @@ pub fn is_quote(tree: &TextTree, bytes: &[u8]) -> bool
     }
 }
 
-/// What stands behind the word that begins a list.
+/// The trees behind the word, where the tree is a list that this word begins.
 pub fn form_parts<'a>(tree: &'a TextTree, head: &[u8]) -> Option<&'a [TextTree]>
     ensures { MatchOption result
         ((ts : TextTrees) → tree_of tree.now ≢ list (more (word head.now) ts))
@@ -74,7 +74,7 @@ pub fn are_none(trees: &[TextTree]) -> bool
     }
 }
 
-/// The only tree.
+/// The only tree, where there is one alone.
 pub fn one(trees: &[TextTree]) -> Option<&TextTree>
     ensures { MatchOption result ((t : spec.TextTree) → trees_of trees.now ≢ more t none)
         (λ tree. trees_of trees.now ≡ more (tree_of tree.now) none) }

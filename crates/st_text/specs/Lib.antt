@@ -10,7 +10,7 @@ pub mod Printing
 pub mod Numbers
 -- the readers give what the bytes are the text of, or say that they are none
 pub mod Reading
--- a tree has one text, a text one tree, and a text ends at one place
+-- a tree has one text, a text one tree, and at the front of bytes stands one text at most
 pub mod Laws
 -- ---- what only proofs need
 pub mod inner

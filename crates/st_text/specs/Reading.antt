@@ -4,7 +4,7 @@ use Rattle.st_text.specs.declared.fault.TextFault.{TextFault}
 use Rattle.st_text.specs.declared.fault.TextFault.TheVariants.{Malformed, Memory}
 use Rattle.st_text.specs.Text.{TextTree, TextTrees, TreeText, RowText, FrontText}
 
--- what was read is so; bytes that are malformed are so, and the line named is the first
+-- what is read is so; bytes that are malformed are so, at line 1; want of memory says nothing
 abbrev pub Answers : {T : Type 0} → Result T TextFault → (T → Type 0) → Type 0 → Type 0
 Answers (Ok x) IsRead IsRefused = IsRead x
 Answers (Err (Malformed line)) IsRead IsRefused = (line ≡ 1) × IsRefused

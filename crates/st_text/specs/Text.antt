@@ -5,11 +5,13 @@ use Rattle.st_num.specs.declared.limit.TheConstants.{MOST_PARENTHESES}
 use Rattle.st_num.specs.Texts.{IsText}
 
 mutual
+  -- a tree: a word, a quoted text, or a list of trees in parentheses
   pub data TextTree : Type 0 where
     word : List ℕ → TextTree
     quote : List ℕ → TextTree
     list : TextTrees → TextTree
 
+  -- a row of trees, one after another
   pub data TextTrees : Type 0 where
     none : TextTrees
     more : TextTree → TextTrees → TextTrees
@@ -23,16 +25,19 @@ escape_letter b =
 unfoldable pub escaped : ℕ → List ℕ
 escaped b = if escape_letter b == 0 then b ∷ [] else 92 ∷ escape_letter b ∷ []
 
+-- the bytes between quotes, with their escapes
 abbrev pub quoted : List ℕ → List ℕ
 quoted s = 34 ∷ (flat_map escaped s ++ 34 ∷ [])
 
 -- one space stands between the trees of a row
 abbrev mutual
+  -- the text of a tree
   pub text : TextTree → List ℕ
   text (word w) = w
   text (quote s) = quoted s
   text (list ts) = 40 ∷ (row_text ts ++ 41 ∷ [])
 
+  -- the text of a row: the texts of its trees with one space between them
   pub row_text : TextTrees → List ℕ
   row_text none = []
   row_text (more t ts) = text t ++ behind ts
@@ -44,11 +49,13 @@ abbrev mutual
 
 -- how many parentheses are open at once
 abbrev mutual
+  -- how many parentheses are open at once in a tree, at most
   pub depth : TextTree → ℕ
   depth (word w) = 0
   depth (quote s) = 0
   depth (list ts) = row_depth ts + 1
 
+  -- how many are open at once in a row, at most
   pub row_depth : TextTrees → ℕ
   row_depth none = 0
   row_depth (more t ts) = max (depth t) (row_depth ts)
@@ -59,16 +66,19 @@ is_word_byte b =
     (nat_le 97 b && nat_le b 122) || (nat_le 65 b && nat_le b 90) || (nat_le 48 b && nat_le b 57)
     || b == 42 || b == 43 || b == 45 || b == 63 || b == 94 || b == 95 || b == 39
 
+-- the bytes are a word: one or more that a word may have
 abbrev pub IsWord : List ℕ → Type 0
 IsWord w = (1 ≤ length w) × (list_all is_word_byte w ≡ true)
 
 -- its words are words, and its quoted texts are texts
 abbrev mutual
+  -- a tree whose words and quoted texts can be written
   pub IsSpelled : TextTree → Type 0
   IsSpelled (word w) = IsWord w
   IsSpelled (quote s) = IsText s
   IsSpelled (list ts) = AreSpelled ts
 
+  -- a row of such trees
   pub AreSpelled : TextTrees → Type 0
   AreSpelled none = Unit {0}
   AreSpelled (more t ts) = IsSpelled t × AreSpelled ts

@@ -4,7 +4,7 @@ ghost use Rattle.std.specs.Prelude.{◌≡◌, ◌≢◌, ℕ, List, MatchOption
 ghost use Rattle.st_text.specs.Text.{Ends};
 ghost use Rattle.st_text.specs.inner.Fronts.{Closes};
 
-/// Whether a text may end here.
+/// Whether a text may end before these bytes.
 pub(crate) fn ends(bytes: &[u8]) -> bool
     ensures { IsTrue result ↔ Ends bytes.now }
 {
@@ -14,7 +14,7 @@ pub(crate) fn ends(bytes: &[u8]) -> bool
     }
 }
 
-/// Whether a row may end here.
+/// Whether a row may end before these bytes.
 pub(crate) fn closes(bytes: &[u8]) -> bool
     ensures { IsTrue result ↔ Closes bytes.now }
 {

@@ -9,8 +9,8 @@ pub fn one_text_one_tree()
     ensures row { OneRow }
 {}
 
-/// A text ends at one place: with a space, a closing parenthesis or a line feed behind it, it does
-/// not begin another text with one of these behind it.
+/// At the front of bytes stands one text at most: with a space, a closing parenthesis or a line
+/// feed behind it, a text does not begin another with one of these behind it.
 pub fn texts_end()
     ensures front { OneFront }
     ensures no_front { NoFrontOfAnother }

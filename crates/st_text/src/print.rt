@@ -20,6 +20,7 @@ fn escape_letter(byte: u8) -> u8
     }
 }
 
+/// Appends a byte as it is written between quotes.
 #[tactic(auto, unfolding(crate::specs::Text::escaped))]
 fn print_byte(byte: u8, out: &mut Vec<u8>) -> Result<(), NoMemory>
     ensures ok { OnOk result (out.new.items ≡ out.old.items ++ escaped byte) }
@@ -35,6 +36,7 @@ fn print_byte(byte: u8, out: &mut Vec<u8>) -> Result<(), NoMemory>
     Ok(())
 }
 
+/// Appends the text as it is written between quotes, without these.
 fn print_content(text: &[u8], out: &mut Vec<u8>) -> Result<(), NoMemory>
     ensures ok { OnOk result (out.new.items ≡ out.old.items ++ flat_map escaped text.now) }
     ensures err { OnErr result (IsCutOff out.old.items (flat_map escaped text.now) out.new.items) }

@@ -67,6 +67,7 @@ fn read_content(alloc: Global, bytes: &[u8]) -> Result<(Name, &[u8]), TextFault>
     Err(MALFORMED)
 }
 
+/// Whether the bytes are a text in UTF-8.
 fn is_utf8(bytes: &[u8]) -> bool
     ensures { IsTrue result ↔ IsUtf8 bytes.now }
 {

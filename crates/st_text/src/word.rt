@@ -22,7 +22,7 @@ pub(crate) fn is_word_byte(byte: u8) -> bool
     }
 }
 
-/// How many bytes at the front are of words.
+/// How many bytes that words may have stand at the front.
 fn word_len(bytes: &[u8]) -> usize
     ensures within { result ≤ length bytes.now }
     ensures word { list_all is_word_byte (take result bytes.now) ≡ true }

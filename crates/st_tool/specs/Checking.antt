@@ -31,6 +31,7 @@ pub record IsTokenFault (files : List (List ℕ)) (at : Span) (rule : RuleId) : 
   pub is_file : slice_get files at.file ≡ Some file
   pub fault : FirstFault at.file file at rule
 
+-- the fault is the first one by which a file has no tokens, unless memory gave out
 abbrev pub TellsFault : List (List ℕ) → LexFault → Type 0
 TellsFault files (Refused at rule) = IsTokenFault files at rule
 TellsFault files Memory = ⊤
@@ -61,11 +62,14 @@ SmallGives files status bytes =
 
 -- What is said of the files of these names: the first fault, or how many definitions they have.
 pub data CheckGives (names files : List (List ℕ)) : Status → List ℕ → Type 0 where
+  -- the first fault, with its place, in the file of this name
   refused : {bytes : List ℕ} (name : List ℕ) (at : Span) (rule : RuleId)
       → IsSourceFault files at rule → slice_get names at.file ≡ Some name
       → bytes ≡ refused_source_text name at rule → CheckGives names files answer.Specification bytes
+  -- the files have no token, so no definition
   empty : {bytes : List ℕ} → AllTokens 0 files [] → bytes ≡ definitions_text 0
       → CheckGives names files answer.Done bytes
+  -- the tokens of the files are those of a source
   parsed : {status : Status} {bytes : List ℕ} (tokens : List Token) (defs : List Def)
       → AllTokens 0 files tokens → tokens ≢ [] → IsSource tokens defs
       → SmallGives files status bytes → CheckGives names files status bytes

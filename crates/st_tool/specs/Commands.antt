@@ -25,6 +25,7 @@ use Rattle.st_words.specs.Arranged.{has_options}
 abbrev pub default_fuel : ℕ
 default_fuel = 1000
 
+-- the status of a run that ended so
 abbrev pub status_of : Ending → Status
 status_of Stuck = answer.Done
 status_of Fuel = answer.Fuel
@@ -52,7 +53,7 @@ pub record IsTerm (small : Small) (bytes atom : List ℕ) : Type 0 where
   pub text : IsAtomText bytes atom
   pub known : Contains small.atoms atom
 
--- so they are, and the relation has this name
+-- the bytes of a term file are such an atom, and the relation has this name
 pub record IsStart (small : Small) (relation bytes atom : List ℕ) : Type 0 where
   pub relation_is : small.relation ≡ relation
   pub term : IsTerm small bytes atom
@@ -131,10 +132,11 @@ HasBuiltForm command = ⊥
 abbrev pub IsBuilt : List (List ℕ) → Command → Type 0
 IsBuilt words command = HasBuiltForm command × (has_options words ≡ false)
 
--- the most bytes of a source or a term, and those of a text that the program itself prints
+-- the most bytes of a source or a term
 abbrev pub source_limit : ℕ
 source_limit = 1048576
 
+-- the most bytes of a text that the program itself prints: of an internal language or a derivation
 abbrev pub text_limit : ℕ
 text_limit = 67108864
 

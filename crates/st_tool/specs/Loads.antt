@@ -15,6 +15,7 @@ pub record Counts : Type 0 where
   pub faults : ℕ
   pub last : Option (List ℕ)
 
+-- so many loads, so many faults, and this name as the one whose load failed last
 abbrev pub counts_of : ℕ → ℕ → Option (List ℕ) → Counts
 counts_of loads faults last = record { loads = loads; faults = faults; last = last }
 
@@ -28,7 +29,7 @@ pub record IsGiven (held : Held) (limit : ℕ) (name bytes : List ℕ) : Type 0 
   pub short : length bytes ≤ limit
   pub holds : IfSome held (λ entries. bytes_of entries name ≡ Some bytes)
 
--- so do all these files
+-- all these files keep the limit, and these are their bytes where that is told
 abbrev pub AreGiven : Held → ℕ → List (List ℕ) → List (List ℕ) → Type 0
 AreGiven held limit [] [] = Unit {0}
 AreGiven held limit (name ∷ names) (bytes ∷ files) =

@@ -37,15 +37,19 @@ pub record Asks (words : List (List ℕ)) (command : Command) : Type 0 where
 -- What a call gives: of words, over files of these counts before and after.
 pub data HasOutcome (held : Held) (words : List (List ℕ)) (before after : Counts) : Status → List ℕ
     → Type 0 where
+  -- the words ask for no command
   unread : {bytes : List ℕ} → HasNoReading words → after ≡ before → bytes ≡ usage_text
       → HasOutcome held words before after answer.Usage bytes
+  -- the words name too many files
   too_many : {bytes : List ℕ} (command : Command) → Reads words command
       → most_files < length (file_names command)
       → after ≡ before → bytes ≡ too_many_text
       → HasOutcome held words before after answer.TooLarge bytes
+  -- what they ask for is not built
   unbuilt : {bytes : List ℕ} (command : Command) → Asks words command → (IsBuilt words command → ⊥)
       → after ≡ before → bytes ≡ unbuilt_text
       → HasOutcome held words before after answer.Unbuilt bytes
+  -- the files of the command were loaded, as far as they are given
   loads : {status : Status} {bytes : List ℕ} (command : Command) (loaded : Loaded)
       → Asks words command → IsBuilt words command
       → LoadsTo held (limit_of command) (file_names command) before loaded after

@@ -5,10 +5,11 @@ use Rattle.st_il.specs.declared.small.Small.{Small}
 use Rattle.st_il.specs.declared.small.SmallRule.{SmallRule}
 use Rattle.st_il.specs.Small.{IsSmall}
 
--- the line `syntax x = | A | B ..`
+-- an atom among the alternatives of a syntax, as ` | A`
 abbrev pub alternative_text : List ℕ → List ℕ
 alternative_text atom = codes " | " ++ atom
 
+-- the line `syntax x = | A | B ..`
 abbrev pub syntax_line : List ℕ → List (List ℕ) → List ℕ
 syntax_line syntax atoms =
     codes "syntax " ++ syntax ++ codes " =" ++ flat_map alternative_text atoms ++ codes "\n"

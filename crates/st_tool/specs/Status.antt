@@ -3,6 +3,7 @@ use Rattle.std.specs.Prelude.{ℕ}
 use Rattle.st_tool.specs.declared.status.Status.{Status}
 use Rattle.st_tool.specs.declared.status.Status.TheVariants as answer
 
+-- the number with which the program ends
 abbrev pub number_of : Status → ℕ
 number_of answer.Done = 0
 number_of answer.Usage = 1

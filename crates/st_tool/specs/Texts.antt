@@ -11,14 +11,16 @@ use Rattle.st_tool.specs.Transcript.{Term}
 use Rattle.st_verify.specs.declared.fault.VerifyRule.{VerifyRule}
 use Rattle.st_verify.specs.declared.fault.VerifyRule.TheVariants.{V1, V2, V3, V4, V5, V6, V7, V8, V9, V10, V11, V12, V13}
 
--- A term as it is printed. So far a case without operands, which is its tag.
+-- A value by its outermost form, as it is printed: so far the tag of a case without operands.
 abbrev pub layer_text : {X : Type 0} → Value-F X → List ℕ
 layer_text (Value-F.Case tag []) = tag
 layer_text _ = []
 
+-- a value as it is printed: so far the tag of a case without operands
 abbrev pub value_text : Value → List ℕ
 value_text value = layer_text (out-Value value)
 
+-- a term as it is printed: so far of one value
 abbrev pub term_text : Term → List ℕ
 term_text (value ∷ []) = value_text value
 term_text _ = []
@@ -36,6 +38,7 @@ abbrev pub term_lines : ℕ → List Term → List ℕ
 term_lines number [] = []
 term_lines number (term ∷ terms) = term_line number term ++ term_lines (number + 1) terms
 
+-- the word of how a run ended
 abbrev pub ending_word : Ending → List ℕ
 ending_word Stuck = codes "stuck"
 ending_word Fuel = codes "fuel"
@@ -74,6 +77,7 @@ abbrev pub accepted_text : ℕ → ℕ → List ℕ
 accepted_text lines steps =
     codes "accepted " ++ decimal lines ++ codes " lines " ++ decimal steps ++ codes " steps\n"
 
+-- the name of a rule on derivations, as it is printed
 abbrev pub rule_word : VerifyRule → List ℕ
 rule_word V1 = codes "V1"
 rule_word V2 = codes "V2"
@@ -98,6 +102,7 @@ refused_text line rule =
 abbrev pub definitions_text : ℕ → List ℕ
 definitions_text count = codes "accepted " ++ decimal count ++ codes " definitions\n"
 
+-- the name of a rule on specifications, as it is printed
 abbrev pub rule_id_word : RuleId → List ℕ
 rule_id_word id.L1 = codes "L1"
 rule_id_word id.L2 = codes "L2"

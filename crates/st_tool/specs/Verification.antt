@@ -37,17 +37,21 @@ steps_in (_ ∷ lines) = steps_in lines
 -- What is said of lines and of what stands behind them:
 -- that they are accepted, or the first line that is refused, and the rule that it breaks.
 pub data Verified (il : Il) (lines : List Line) (rest : List ℕ) : Status → List ℕ → Type 0 where
+  -- the lines are accepted, and nothing stands behind them
   accepted : {bytes : List ℕ} → Accepts il lines → rest ≡ []
       → bytes ≡ accepted_text (length lines) (steps_in lines)
       → Verified il lines rest answer.Done bytes
+  -- a line is the first that breaks a rule
   refused : {bytes : List ℕ} (good after : List Line) (line : Line) (notes : Notes)
       (rule : VerifyRule)
       → lines ≡ good ++ line ∷ after → ReadsTo il good notes → Verdict il notes line (Some rule)
       → bytes ≡ refused_text (length good + 1) rule
       → Verified il lines rest answer.Verification bytes
+  -- no line breaks a rule, and behind them stand bytes without a line feed
   unfinished : {bytes : List ℕ} (notes : Notes) → ReadsTo il lines notes → rest ≢ []
       → bytes ≡ refused_text (length lines + 1) V3
       → Verified il lines rest answer.Verification bytes
+  -- no line breaks a rule, and none is an end line
   endless : {bytes : List ℕ} (notes : Notes) → ReadsTo il lines notes → notes.ended ≡ false
       → rest ≡ []
       → bytes ≡ refused_text (length lines + 1) V12

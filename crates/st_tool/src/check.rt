@@ -40,7 +40,7 @@ fn scan_all(alloc: Global, files: &[Row<u8>]) -> Result<Vec<Token>, LexFault>
     Ok(tokens)
 }
 
-/// The name of a rule.
+/// The name of a rule on specifications, as it is printed.
 fn rule_id_word(rule: RuleId) -> &'static str
     ensures { result.now ≡ rule_id_word rule }
 {

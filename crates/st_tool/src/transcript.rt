@@ -22,6 +22,7 @@ pub enum Ending {
 }
 
 impl Ending {
+    /// The word with which the last line of the run begins.
     pub fn word(self) -> &'static str
         ensures { result.now ≡ ending_word self }
     {
@@ -31,6 +32,7 @@ impl Ending {
         }
     }
 
+    /// The status with which the program ends.
     pub fn status(self) -> Status
         ensures { result ≡ status_of self }
     {

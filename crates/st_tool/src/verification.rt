@@ -91,7 +91,7 @@ fn accepted_line(alloc: Global, accepted: Accepted) -> Result<Vec<u8>, NoMemory>
     Ok(bytes)
 }
 
-/// The name of a rule.
+/// The name of a rule on derivations, as it is printed.
 fn rule_word(rule: VerifyRule) -> &'static str
     ensures { result.now ≡ rule_word rule }
 {

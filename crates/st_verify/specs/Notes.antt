@@ -7,7 +7,7 @@ use Rattle.st_il.specs.declared.value.Value.{Value}
 use Rattle.st_verify.specs.declared.notes.Judgement.{Judgement}
 use Rattle.st_verify.specs.declared.notes.Notes.{Notes}
 
--- before the first line
+-- what is noted before the first line: nothing
 abbrev pub nothing_noted : Notes
 nothing_noted = record { lines = []; relation = None; term = None; steps = 0; ended = false }
 

@@ -87,11 +87,12 @@ HasTypedValues il notes (From values) = IsTerm il notes.relation values
 HasTypedValues il notes (Node node) = node.env.entries ≡ []
 HasTypedValues il notes _ = Unit {0}
 
--- the lines that a child refers to
+-- the lines that a child refers to, by those that its parts refer to
 abbrev pub child_lines_at : Ref-F (List ℕ) → List ℕ
 child_lines_at (Ref-F.Line line) = line ∷ []
 child_lines_at (Ref-F.Many children) = flat_map (λ lines. lines) children
 
+-- the lines that a child of a node refers to
 abbrev pub child_lines : Ref → List ℕ
 child_lines = fold-Ref (List ℕ) child_lines_at
 
@@ -112,6 +113,7 @@ Concludes node (Rule rule) =
     × HaveValues HasValue node.env rule.conclusion node.values
 Concludes node _ = ⊥
 
+-- a node states the values of the conclusion of its rule
 abbrev pub HasItsValues : Il → Line → Type 0
 HasItsValues il (Node node) = Any (Concludes node) il.defs
 HasItsValues il _ = Unit {0}

@@ -57,6 +57,7 @@ JudgesNext old line (Err (Refused rule at typing)) new =
     Verdict old.il old.notes line (Some rule)
     × Refuses {V = Unit {0}} rule old (Err (Refused rule at typing)) new
 
+-- a line is judged as the next one; after a refusal it is answered again, and nothing changes
 abbrev pub Judges : Checking → Line → Result (Unit {0}) VerifyFault → Checking → Type 0
 Judges old line result new = UnlessRefused old result new (JudgesNext old line result new)
 
@@ -67,13 +68,14 @@ FeedsLine old bytes result new =
     ((line : Line) × LineText line bytes × JudgesNext old line result new)
     ⊎ (IsNoLine bytes × Refuses {V = Unit {0}} V3 old result new)
 
--- so is it, but for want of memory, where nothing changes
+-- the bytes are judged as the next line; for want of memory nothing changes
 abbrev pub FeedsNext : Checking → List ℕ → Result (Unit {0}) VerifyFault → Checking → Type 0
 FeedsNext old bytes (Ok done) new = FeedsLine old bytes (Ok done) new
 FeedsNext old bytes (Err Memory) new = new ≡ old
 FeedsNext old bytes (Err (Refused rule at typing)) new =
     FeedsLine old bytes (Err (Refused rule at typing)) new
 
+-- the bytes are judged as the next line; after a refusal it is answered again, and nothing changes
 abbrev pub Feeds : Checking → List ℕ → Result (Unit {0}) VerifyFault → Checking → Type 0
 Feeds old bytes result new = UnlessRefused old result new (FeedsNext old bytes result new)
 
@@ -85,5 +87,7 @@ FinishesNow old (Ok accepted) new =
 FinishesNow old (Err fault) new =
     (old.notes.ended ≡ false) × Refuses {V = Accepted} V12 old (Err fault) new
 
+-- the lines are accepted as a whole, or refused behind the last one; after a refusal
+-- it is answered again, and nothing changes
 abbrev pub Finishes : Checking → Result Accepted VerifyFault → Checking → Type 0
 Finishes old result new = UnlessRefused old result new (FinishesNow old result new)

@@ -97,7 +97,7 @@ impl Verifier {
         }
     }
 
-    /// Takes the next line where none was refused.
+    /// Takes the next line, as its bytes, where none was refused.
     fn feed_next(&mut self, alloc: Global, line: &[u8]) -> Result<(), VerifyFault>
         requires { length self.old.notes.lines < 2 ^ 32 }
         ensures { FeedsNext self.old line.now result self.new }

@@ -18,6 +18,7 @@ pub record LineTrees (line : Line) (trees : TextTrees) : Type 0 where
 pub record AreNoLine (trees : TextTrees) : Type 0 where
   pub never : (line : Line) → LineTrees line trees → ⊥
 
+-- the result is the line that is printed as these trees; they are malformed only where none is
 abbrev pub AnswersLine : TextTrees → Result Line TextFault → Type 0
 AnswersLine trees result = Answers result (λ line. LineTrees line trees) (AreNoLine trees)
 
@@ -30,12 +31,16 @@ pub record ValueTrees (vals : List Value) (trees : TextTrees) : Type 0 where
 pub record AreNoValues (trees : TextTrees) : Type 0 where
   pub never : (vals : List Value) → ValueTrees vals trees → ⊥
 
+-- the result is the values that are printed as these trees; they are malformed
+-- only where none are
 abbrev pub AnswersValues : TextTrees → Result (List Value) TextFault → Type 0
 AnswersValues trees result = Answers result (λ vals. ValueTrees vals trees) (AreNoValues trees)
 
+-- the tree is no quoted text
 pub record IsNoQuote (tree : TextTree) : Type 0 where
   pub never : (s : List ℕ) → tree ≡ quote s → ⊥
 
+-- the tree is no list
 pub record IsNoList (tree : TextTree) : Type 0 where
   pub never : (trees : TextTrees) → tree ≡ list trees → ⊥
 
@@ -43,11 +48,14 @@ pub record IsNoList (tree : TextTree) : Type 0 where
 pub record IsNoCase (tree : TextTree) : Type 0 where
   pub never : (tag : List ℕ) → tree ≡ case_tree tag → ⊥
 
+-- the tree is not the name of a relation
 pub record IsNoRelation (tree : TextTree) : Type 0 where
   pub never : (name : List ℕ) → IsRelationName name → tree ≡ word name → ⊥
 
+-- the tree is no number below 2^128 in decimal digits
 pub record IsNoNumber (tree : TextTree) : Type 0 where
   pub never : (n : ℕ) → n < 2 ^ 128 → tree ≡ word (decimal n) → ⊥
 
+-- the tree is no word of how a run ended
 pub record IsNoEnding (tree : TextTree) : Type 0 where
   pub never : (ending : Ending) → tree ≡ word (ending_word ending) → ⊥

@@ -15,5 +15,6 @@ pub record AreFound (x : Context) (qs : List Question) (all : FoundAll) : Type 0
   pub exps-are : exps mades ≡ all.exps
   pub tys-are : map ty_of mades ≡ all.tys
 
+-- the result is the expressions and types that the questions ask for, or their first breach
 abbrev pub TellsPairs : Context → List Question → Result FoundAll ExpFault → Type 0
 TellsPairs x qs r = Told (AreFound x qs) (λ b. Breaks x.decls.now x.scope.now qs b) r

@@ -11,6 +11,7 @@ use Rattle.st_elab_rows.specs.declared.asking.Asking.TheVariants as asking
 use Rattle.st_elab_rows.specs.declared.asking.Context.{Context}
 use Rattle.st_elab_rows.specs.Told.{Tells, Leading, Reaches}
 
+-- what the code finds, as what a part is made to: an expression of a type, not spliced
 abbrev pub made_by : Found → Made
 made_by found = made found.exp found.ty
 

@@ -8,7 +8,7 @@ use Rattle.st_elab_rows.specs.declared.fitting.Lifting.TheVariants as lifting
 use Rattle.st_elab_rows.specs.declared.fitting.Joining.{Joining}
 use Rattle.st_elab_rows.specs.declared.fitting.Joining.TheVariants as joining
 
--- how two expressions are put together
+-- how `++` puts two expressions together: lists behind each other, or records joined
 abbrev pub join_of : Joining → IlExp → IlExp → IlExp
 join_of joining.Lists = il.Cat
 join_of joining.Records = il.Join

@@ -2,7 +2,7 @@
 use Rattle.std.specs.Prelude.{◌≡◌, ℕ, Bool, List, [], ◌∷◌, ◌++◌, Contains}
 use Rattle.std.specs.Bool.{MatchBool}
 
--- where the name is new, it goes behind the others, and else it is among them
+-- a name is added to a set: where it is new, it goes behind the others, and else it is among them
 abbrev pub Adds : List (List ℕ) → List ℕ → List (List ℕ) → Bool → Type 0
 Adds old name new added =
     MatchBool added ((Contains old name → ⊥) × (new ≡ old ++ name ∷ [])) (Contains old name)

@@ -5,7 +5,7 @@ use Rattle.st_il.specs.declared.definition.IlDef.TheVariants.{Syntax, Var, Relat
 use Rattle.st_il.specs.declared.expression.IlExp.{IlExp}
 use Rattle.st_il.specs.declared.expression.IlExp.TheVariants.{Case}
 
--- a case without operands
+-- the expression is a case without operands
 abbrev pub IsAtom : IlExp → Type 0
 IsAtom exp = (syntax tag : List ℕ) × (exp ≡ Case syntax tag [])
 

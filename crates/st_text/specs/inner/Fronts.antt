@@ -33,29 +33,36 @@ pub record ReadsContent (bytes s rest : List ℕ) : Type 0 where
   pub printable : All IsTextByte s
   pub is : bytes ≡ flat_map escaped s ++ 34 ∷ rest
 
--- nothing of that kind is at the front of the bytes
+-- no tree is at the front of the bytes
 pub record ReadsNoTree (limit : ℕ) (bytes : List ℕ) : Type 0 where
   pub never : (t : TextTree) (rest : List ℕ) → Reads limit bytes t rest → ⊥
 
+-- no row is at the front of the bytes
 pub record ReadsNoRow (limit : ℕ) (bytes : List ℕ) : Type 0 where
   pub never : (ts : TextTrees) (rest : List ℕ) → ReadsRow limit bytes ts rest → ⊥
 
+-- no text up to a closing quote is at the front of the bytes
 pub record ReadsNoContent (bytes : List ℕ) : Type 0 where
   pub never : (s rest : List ℕ) → ReadsContent bytes s rest → ⊥
 
+-- the result is the tree at the front of the bytes with the rest; they are malformed
+-- only where there is none
 abbrev pub AnswersTree : ℕ → List ℕ → Result (program.TextTree × Bor (List ℕ)) TextFault → Type 0
 AnswersTree limit bytes result =
     Answers result (λ p. Reads limit bytes (tree_of p.0) p.1.now) (ReadsNoTree limit bytes)
 
+-- the same of a row
 abbrev pub AnswersRow : ℕ → List ℕ
     → Result (List program.TextTree × Bor (List ℕ)) TextFault → Type 0
 AnswersRow limit bytes result =
     Answers result (λ p. ReadsRow limit bytes (trees_of p.0) p.1.now) (ReadsNoRow limit bytes)
 
+-- the same of a text up to its closing quote
 abbrev pub AnswersContent : List ℕ → Result (List ℕ × Bor (List ℕ)) TextFault → Type 0
 AnswersContent bytes result =
     Answers result (λ p. ReadsContent bytes p.0 p.1.now) (ReadsNoContent bytes)
 
+-- a byte of a word is first
 abbrev pub FirstIsWord : List ℕ → Type 0
 FirstIsWord [] = ⊥
 FirstIsWord (b ∷ bytes) = is_word_byte b ≡ true

@@ -48,6 +48,7 @@ pub record TakenTo (il : Il) (bytes : List ℕ) (checking : Checking) (rest : Li
   pub parts : bytes ≡ front ++ rest
   pub taken : HasTaken il lines checking
 
+-- the bytes are not those of lines of a derivation with something behind them
 abbrev pub HasNoLines : List ℕ → Type 0
 HasNoLines bytes = (lines : List Line) (rest : List ℕ) → ¬ (AreLines bytes lines rest)
 
@@ -65,7 +66,7 @@ abbrev pub Ends : Checking → List ℕ → Result Accepted VerifyFault → Type
 Ends old rest result =
     MatchOption old.refusal (EndsNow old rest result) (λ fault. result ≡ Err fault)
 
--- how it is told
+-- the status and the text with which that is told
 abbrev pub Tells : Result Accepted VerifyFault → Status → List ℕ → Type 0
 Tells (Ok accepted) status bytes =
     (status ≡ answer.Done) × (bytes ≡ accepted_text accepted.lines accepted.steps)

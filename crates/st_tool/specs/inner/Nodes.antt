@@ -4,7 +4,7 @@ use Rattle.st_deriv.specs.declared.line.NodeLine.{NodeLine}
 use Rattle.st_il.specs.declared.small.SmallRule.{SmallRule}
 use Rattle.st_il.specs.declared.value.Value.TheVariants.{Case}
 
--- the rule has no variables and no premises, and the node no bindings and no children
+-- the node by a rule without variables and premises: it has no bindings and no children
 abbrev pub rule_node : List ℕ → SmallRule → NodeLine
 rule_node relation rule =
     record {

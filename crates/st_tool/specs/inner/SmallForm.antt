@@ -32,13 +32,13 @@ Answers answer word rest = IsSomeAnd answer (λ read. (read.0.now ≡ word) × (
 abbrev pub rule_of : RuleWords → SmallRule
 rule_of words = record { name = words.name.now; from = words.from.now; to = words.to.now }
 
--- a rule of words
+-- the name of the rule is a word of lower-case letters, and its atoms are words of upper-case ones
 pub record IsRuleOfWords (rule : SmallRule) : Type 0 where
   pub name : IsWordOf IsLower rule.name
   pub from : IsWordOf IsUpper rule.from
   pub to : IsWordOf IsUpper rule.to
 
--- a specification of words
+-- the names of the specification are words of lower-case or upper-case letters
 pub record IsOfWords (s : Small) : Type 0 where
   pub syntax : IsWordOf IsLower s.syntax
   pub atoms : All (IsWordOf IsUpper) s.atoms
@@ -49,7 +49,7 @@ pub record IsOfWords (s : Small) : Type 0 where
 abbrev pub names_of : List (Bor (List ℕ)) → List (List ℕ)
 names_of names = map (λ name. name.now) names
 
--- where the name is new, it goes behind the others, and else it is among them
+-- a name is added to a set: where it is new, it goes behind the others, and else it is among them
 abbrev pub Adds : List (List ℕ) → List ℕ → List (List ℕ) → Bool → Type 0
 Adds old name new added =
     MatchBool added ((Contains old name → ⊥) × (new ≡ old ++ name ∷ [])) (Contains old name)

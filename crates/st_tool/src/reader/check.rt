@@ -22,6 +22,7 @@ fn add_name<'a>(names: &mut IndexSet<&'a Name>, name: &'a Name) -> Result<bool, 
     Ok(names.insert(name)?)
 }
 
+/// Whether the name is one of these.
 fn has_name(names: &IndexSet<&Name>, name: &Name) -> bool
     ensures { IsTrue result ↔ Contains (names_of names.now.keys) name.now }
 {
@@ -58,6 +59,7 @@ fn have_distinct_names(alloc: Global, rules: &[SmallRule]) -> Result<bool, NoMem
     Ok(true)
 }
 
+/// Whether the rule goes from an atom to an atom.
 fn goes_between(atoms: &IndexSet<&Name>, rule: &SmallRule) -> bool
     ensures { IsTrue result ↔ GoesBetween (names_of atoms.now.keys) rule.now }
 {

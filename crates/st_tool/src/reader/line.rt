@@ -91,6 +91,7 @@ fn read_rule_words<'a>(bytes: &'a [u8], relation: &[u8]) -> Option<(RuleWords<'a
 }
 
 impl RuleWords<'_> {
+    /// The rule of these words.
     fn copy(&self, alloc: Global) -> Result<SmallRule, NoMemory>
         ensures { IfOk result (λ rule. rule ≡ rule_of self.now) }
     {

@@ -11,6 +11,7 @@ pub enum Case {
 }
 
 impl Case {
+    /// Whether the byte is a letter of this case.
     fn has(self, byte: u8) -> bool
         ensures { IsTrue result ↔ IsLetter self byte }
     {
