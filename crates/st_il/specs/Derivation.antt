@@ -53,6 +53,7 @@ pub record Root : Type 0 where
   pub rule : ℕ
   pub inputs : List Value
 
+-- the root of a tree: its relation, its rule and the values of its input holes
 abbrev pub root_of : Tree → Root
 root_of tree = record { relation = tree.relation; rule = tree.rule; inputs = inputs_of tree.values }
 
@@ -93,6 +94,7 @@ mutual
 abbrev pub undecided : Exclusion
 undecided = λ root. ⊥
 
+-- a tree is valid in an internal language
 abbrev pub IsValid : Il → Tree → Type 0
 IsValid il tree = Valid il HasValue undecided tree
 

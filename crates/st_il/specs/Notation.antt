@@ -24,6 +24,7 @@ role_of CloseBracket = Closes Brackets
 role_of CloseBrace = Closes Braces
 role_of sign = if is_notation sign then Divides (level sign) else Other
 
+-- a sign of this role stands in notations
 abbrev pub is_role : Role → Bool
 is_role Other = false
 is_role _ = true
@@ -38,6 +39,7 @@ closing_of Parens = CloseParen
 closing_of Brackets = CloseBracket
 closing_of Braces = CloseBrace
 
+-- the bracket that closes what a sign of this role opens
 abbrev pub closing_by : Mark → Role → Mark
 closing_by sign (Opens enclosure) = closing_of enclosure
 closing_by sign _ = sign

@@ -52,9 +52,11 @@ module _ {X : Type 0} (part_cmp : X → Value → Ordering) where
 abbrev pub Compares : Type 0
 Compares = Value → Ordering
 
+-- a level whose parts can be compared with other values is compared with one
 abbrev pub compare_at : Value-F Compares → Compares
 compare_at level other = level_cmp (λ part. part) level (out-Value other)
 
+-- the order of values
 abbrev pub value_cmp : Value → Value → Ordering
 value_cmp = fold-Value Compares compare_at
 
@@ -66,6 +68,7 @@ values_cmp = slice_cmp value_cmp
 abbrev pub fields_cmp : List (List ℕ × Value) → List (List ℕ × Value) → Ordering
 fields_cmp = slice_cmp (field_cmp value_cmp)
 
+-- a value stands before another
 abbrev pub Less : Value → Value → Type 0
 Less a b = value_cmp a b ≡ Below
 
