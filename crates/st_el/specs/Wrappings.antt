@@ -57,13 +57,13 @@ has_bar (Node-F.Extend e path part) = e.begins_with_bar Other
 has_bar (Node-F.Iter e mark) = e.begins_with_bar mark.behind
 has_bar node = false
 
--- its signs are those of arithmetic, which stand in `$( )` alone
+-- the signs of a level are those of arithmetic, which stand in `$( )` alone
 abbrev pub is_arithmetic : Level → Bool
 is_arithmetic (Node-F.Binary left sign right) = nat_le 15 (level sign)
 is_arithmetic (Node-F.Neg e) = true
 is_arithmetic node = false
 
--- a number, a variable or `$( )`, which may stand behind `^`
+-- a level is a number, a variable or `$( )`, which may stand behind `^`
 abbrev pub is_count : Level → Bool
 is_count (Node-F.Number n) = true
 is_count (Node-F.Name name) = true

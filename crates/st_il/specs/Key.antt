@@ -14,7 +14,7 @@ pub data PlainKey : Type 0 where
   atom : List ℕ → PlainKey
   free : PlainKey
 
--- the key of an element
+-- the key of an element of a sequence
 abbrev pub element_key : {X : Type 0} → Template-F X → PlainKey
 element_key (Template-F.Atom name) = atom name
 element_key Template-F.Hole = free

@@ -60,7 +60,7 @@ IsUpName [] = ⊥
 IsUpName (byte ∷ bytes) =
     IsTrue (is_ascii_uppercase byte) × AllByRecursion (λ b. IsTrue (is_name_byte b)) bytes
 
--- such a name, or several joined by dots, as LOCAL.GET
+-- a name of capitals, or several joined by dots, as LOCAL.GET
 pub data IsAtom : List ℕ → Type 0 where
   single : {atom : List ℕ} → IsUpName atom → IsAtom atom
   dotted : {atom : List ℕ} (first rest : List ℕ) → atom ≡ first ++ 46 ∷ rest → IsUpName first

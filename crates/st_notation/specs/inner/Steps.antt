@@ -26,6 +26,7 @@ TookPart t ts ss es taken =
     Reaches (t ∷ ts) ss es (fillings taken.filled) ts (drop (length taken.filled) ss)
     (drop taken.count es)
 
+-- what the first part took of the elements, or a refusal where they do not fit
 abbrev pub Took : Span → Template → List Template → List Shape → List Exp
     → Result Taken FitFault → Type 0
 Took at t ts ss es = Answers (TookPart t ts ss es) (Refuses at (FitInOrder (t ∷ ts) ss es))

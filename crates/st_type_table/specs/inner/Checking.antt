@@ -21,7 +21,7 @@ Returns defs target marks names =
     (name : List ℕ) (place : ℕ) → Among names name → place_of defs name ≡ Some place
     → (mark marks place ≡ true) ↔ Leads defs name target
 
--- the type is the name of a variant
+-- the type is the name of a variant, whose alternatives are known
 abbrev pub IsListed : List SyntaxDef → Ty → Type 0
 IsListed defs t = (alternatives : List Alternative) × (alternatives_of defs t ≡ Some alternatives)
 

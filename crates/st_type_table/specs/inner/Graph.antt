@@ -14,6 +14,7 @@ place_of [] name = None
 place_of (d ∷ ds) name =
     if pointwise nat_eq name d.name then Some 0 else option_map suc (place_of ds name)
 
+-- the one number that there is, or none
 abbrev pub one_place : Option ℕ → List ℕ
 one_place None = []
 one_place (Some place) = place ∷ []
@@ -26,6 +27,7 @@ places_of defs = flat_map (λ name. one_place (place_of defs name))
 abbrev pub node_of : List SyntaxDef → SyntaxDef → Option (List ℕ)
 node_of defs d = Some (places_of defs (leads_to d.body))
 
+-- the graph of definitions, by what each leads to
 abbrev pub graph_of : List SyntaxDef → List (Option (List ℕ))
 graph_of defs = map (node_of defs) defs
 
@@ -87,13 +89,16 @@ pub record SoFar (graph : Graph) (ranks : List ℕ) (count : ℕ) : Type 0 where
 
 -- ---- what leads to a place
 
+-- this number is marked; one behind the last is not
 abbrev pub mark : List Bool → ℕ → Bool
 mark marks i = slice_index_or marks i false
 
+-- one of the numbers that a definition leads to is marked
 abbrev pub AnyMarked : Option (List ℕ) → List Bool → Type 0
 AnyMarked None marks = ⊥
 AnyMarked (Some next) marks = (j : ℕ) × IsOne next j × (mark marks j ≡ true)
 
+-- how many are not marked
 abbrev pub unmarked : List Bool → ℕ
 unmarked [] = 0
 unmarked (true ∷ ms) = unmarked ms
