@@ -1,4 +1,4 @@
-//! What waits for what, and the order in which it ends.
+//! Graphs of definitions: which waits for which, in which order they end, and which lead back.
 
 ghost use Rattle.std.specs.Prelude.{◌≡◌, ◌↔◌, ◌≤◌, ◌<◌, IsTrue, IfOk, slice_index, replicate, Some, true, false, length, ℕ};
 ghost use Rattle.st_type_table.specs.inner.Graph.{AreRanks, AllRanked, IsClosed, SoFar, mark, AnyMarked, unmarked, IsClosedBack, LeadBack, LeadsAt, LeadsBack};
@@ -6,9 +6,10 @@ ghost use Rattle.st_type_table.specs.inner.Graph.{AreRanks, AllRanked, IsClosed,
 use st_num::{NoMemory, Row};
 use std::alloc::Global;
 
-/// For each place those that it waits for, or none where it waits for ever.
+/// The definitions that one waits for, by their numbers, or none where it waits for ever.
 pub(crate) type Node = Option<Row<usize>>;
 
+/// Whether the definition of this number has a rank, and so comes to an end.
 pub(crate) fn is_ranked(ranks: &[usize], place: usize) -> bool
     ensures { IsTrue result ↔ (0 < slice_index ranks.now place) }
 {
@@ -18,6 +19,7 @@ pub(crate) fn is_ranked(ranks: &[usize], place: usize) -> bool
     }
 }
 
+/// Whether all that a definition waits for has ranks; it is false where it waits for ever.
 fn all_ranked(node: &Node, ranks: &[usize]) -> bool
     ensures { IsTrue result ↔ AllRanked node.now ranks.now }
 {
@@ -27,6 +29,7 @@ fn all_ranked(node: &Node, ranks: &[usize]) -> bool
     }
 }
 
+/// Whether all definitions of these numbers have ranks.
 fn are_ranked(places: &[usize], ranks: &[usize]) -> bool
     ensures { IsTrue result ↔ AllRanked (Some places.now) ranks.now }
 {
@@ -55,6 +58,7 @@ fn pass(graph: &[Node], ranks: &mut [usize], before: usize) -> usize
     count
 }
 
+/// So many ranks, of which none is known yet.
 fn zeros(alloc: Global, len: usize) -> Result<Vec<usize>, NoMemory>
     ensures { IfOk result (λ zeros. zeros.items ≡ replicate len 0) }
 {
@@ -77,6 +81,7 @@ pub(crate) fn settle(alloc: Global, graph: &[Node]) -> Result<Row<usize>, NoMemo
     }
 }
 
+/// Whether the definition of this number is marked, as one that leads back.
 pub(crate) fn mark(marks: &[bool], place: usize) -> bool
     ensures { result ≡ mark marks.now place }
 {
@@ -86,6 +91,7 @@ pub(crate) fn mark(marks: &[bool], place: usize) -> bool
     }
 }
 
+/// Whether one of those that a definition leads to is marked.
 fn any_marked(node: &Node, marks: &[bool]) -> bool
     ensures { IsTrue result ↔ AnyMarked node.now marks.now }
 {
@@ -95,6 +101,7 @@ fn any_marked(node: &Node, marks: &[bool]) -> bool
     }
 }
 
+/// Whether one of the definitions of these numbers is marked.
 fn are_any_marked(places: &[usize], marks: &[bool]) -> bool
     ensures { IsTrue result ↔ AnyMarked (Some places.now) marks.now }
 {
@@ -123,6 +130,7 @@ fn pass_back(graph: &[Node], marks: &mut [bool], target: usize) -> bool
     changed
 }
 
+/// So many definitions, of which none is marked yet.
 fn unmarked(alloc: Global, len: usize) -> Result<Vec<bool>, NoMemory>
     ensures { IfOk result (λ marks. marks.items ≡ replicate len false) }
 {

@@ -36,6 +36,7 @@ fn push_waits(defs: &[SyntaxDef], ty: &Ty, out: &mut Row<usize>) -> Result<(), N
     }
 }
 
+/// The definitions that a record of these fields waits for.
 fn field_waits(
     alloc: Global,
     defs: &[SyntaxDef],

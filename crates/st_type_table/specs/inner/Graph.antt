@@ -1,4 +1,4 @@
--- Syntaxes by their places: which place is that of a name, and to which places a place leads.
+-- Graphs of definitions: the number of a name's definition, and which definitions lead to which.
 use Rattle.std.specs.Prelude.{◌≡◌, ◌⊎◌, ◌<◌, ◌≤◌, ◌↔◌, ℕ, zero, suc, Bool, true, false, List, [], ◌∷◌, length, map, slice_get, slice_index, slice_index_or, Option, Some, None, nat_eq, if◌then◌else◌}
 use Rattle.std.specs.List.{flat_map}
 use Rattle.std.specs.Option.{option_map}
