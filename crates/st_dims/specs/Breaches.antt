@@ -61,7 +61,7 @@ IsFirst (Some at) places = (rest : List Span) × (places ≡ at ∷ rest)
 abbrev pub misplaced_in : List Mention → Table → List Span
 misplaced_in mentions table = misplaced (indices_in mentions) mentions table
 
--- no rule is broken
+-- no rule on dimensions is broken
 pub record IsSound (mentions : List Mention) (table : Table) : Type 0 where
   pub placed : misplaced_in mentions table ≡ []
   pub iterating : idle mentions table ≡ []

@@ -86,7 +86,7 @@ iterated mark body at within =
     iteration mark at within (body (body_round mark within)) ++ map Indexes mark.index
     ++ body (body_round mark within) ++ mark.count within
 
--- an iteration that says how often it goes need not iterate anything
+-- an iteration has to iterate something, unless it says how often it goes
 abbrev pub must_iterate_at : {C N S E : Type 0} → Count-F C N S E → Bool
 must_iterate_at (Count-F.Times count) = false
 must_iterate_at (Count-F.Below index count) = false

@@ -48,7 +48,7 @@ abbrev pub next_element : Around → Context
 next_element around =
     record { around = around; least = operand_level; bar_closes = is_bars around; behind = Other }
 
--- inside parentheses
+-- what is round a part in parentheses
 abbrev pub in_parens : Around → Around
 in_parens Arithmetic = Arithmetic
 in_parens around = Brackets

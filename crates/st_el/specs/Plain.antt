@@ -32,7 +32,7 @@ plain_node_at n = roll-Node n
 abbrev pub plain_exp : Exp → Exp
 plain_exp = fold-Exp Count Node Seg Exp roll-Count plain_node_at roll-Seg plain_exp_at
 
--- what an expression is, made plain likewise
+-- what an expression is, without its places, its parentheses and its `$( )`
 abbrev pub plain_node : Node → Node
 plain_node = fold-Node Count Node Seg Exp roll-Count plain_node_at roll-Seg plain_exp_at
 
@@ -89,6 +89,6 @@ plain_prem_at prem = roll-Prem (record { at = nowhere; node = prem.node })
 abbrev pub plain_prem : Prem → Prem
 plain_prem = fold-Prem PremNode Prem plain_prem_node_at plain_prem_at
 
--- what a premise is, made plain likewise
+-- what a premise is, without the places of its parts, its expressions made plain
 abbrev pub plain_prem_node : PremNode → PremNode
 plain_prem_node = fold-PremNode PremNode Prem plain_prem_node_at plain_prem_at

@@ -18,7 +18,7 @@ use Rattle.st_el.specs.declared.context.Wrapping.{Wrapping}
 use Rattle.st_el.specs.Contexts.{context_at, whole, operand_before, position, count, next_element, in_parens}
 use Rattle.st_el.specs.Wrappings.{Printed, Marked, Level, takes_in, has_bar, wrapping, opening, ending, around_in}
 
--- these texts with a text between them
+-- texts with this text between them
 abbrev pub separated : List ℕ → List (List ℕ) → List ℕ
 separated between [] = []
 separated between (text ∷ texts) = text ++ flat_map (λ next. between ++ next) texts
@@ -40,7 +40,7 @@ joined_by around left sign right =
     ++ spelling sign ++ blank_behind sign
     ++ right.at (context_at around (right_of (level sign)))
 
--- the elements of a sequence
+-- the elements of a sequence with blanks between them
 abbrev pub elements : Around → List Printed → List ℕ
 elements around [] = []
 elements around (part ∷ parts) =
@@ -59,7 +59,7 @@ field_text field = field.0 ++ codes " " ++ field.1.at (whole Brackets)
 abbrev pub fields_text : List (List ℕ × Printed) → List ℕ
 fields_text fields = separated (codes ", ") (map field_text fields)
 
--- arguments, where there are any
+-- the arguments of a call in parentheses, where there are any
 abbrev pub arguments : List Printed → List ℕ
 arguments [] = []
 arguments (part ∷ parts) = codes "(" ++ listed (part ∷ parts) ++ codes ")"
@@ -161,7 +161,7 @@ printed =
     fold-Exp Marked Printed (List ℕ) Printed
     printed_mark_at printed_node_at printed_step_at printed_exp_at
 
--- the same of what an expression is, without its place
+-- whether what an expression is begins with a bar, and its text in each context
 abbrev pub printed_node : Node → Printed
 printed_node =
     fold-Node Marked Printed (List ℕ) Printed

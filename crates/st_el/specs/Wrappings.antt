@@ -40,7 +40,7 @@ abbrev pub is_plus : Behind → Bool
 is_plus Plus = true
 is_plus behind = false
 
--- An atom with a dot behind it would be read as one longer atom, and two marks `+` as `++`.
+-- An atom with a dot behind it would be read as one longer atom, and two signs `+` as `++`.
 abbrev pub takes_in : Behind → Level → Bool
 takes_in Dot (Node-F.Atom name) = true
 takes_in Plus (Node-F.Iter e mark) = is_plus mark.behind
@@ -77,7 +77,7 @@ suits context node =
     && not (takes_in context.behind node)
     && not (context.bar_closes && has_bar node)
 
--- what is written round a part
+-- what is written round a part in arithmetic, behind `^` or elsewhere
 abbrev pub wrapping_in : Around → Context → Level → Wrapping
 wrapping_in BehindCaret context node = if is_count node then Bare else Dollar
 wrapping_in Arithmetic context node = if suits context node then Bare else Parens

@@ -65,7 +65,7 @@ mode_word input =
     record
     { at = nowhere; touching = false; kind = Low (if input then codes "in" else codes "out") }
 
--- no hint where there is no mode
+-- the hint of a mode, and no hint where there is no mode
 abbrev pub mode_hints : List Bool → List Hint
 mode_hints [] = []
 mode_hints (hole ∷ holes) =

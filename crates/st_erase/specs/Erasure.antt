@@ -88,7 +88,7 @@ written kind.Plain e = e ∷ []
 written kind.Arithmetic e = e ∷ []
 written kind.Run e = e ∷ []
 
--- a part that was left out is not written
+-- a field of a record where it is written: a part that was left out is not
 abbrev pub field_by : List ℕ → Erased → List (List ℕ × Exp)
 field_by name x = map (λ (e : Exp). (name, e)) (written x.kind (whole x))
 
@@ -100,7 +100,7 @@ fields (name ∷ names) (x ∷ xs) = field_by name x ++ fields names xs
 
 -- ---- cases
 
--- What has no template is no tag, and nothing is written for it.
+-- the source of a case by the template of its tag; it is `eps` where there is none
 abbrev pub case_by : Option Template → List Erased → Erased
 case_by None xs = plain_form node.Eps
 case_by (Some t) xs = record { exp = filled t xs; kind = kind.Plain }

@@ -30,7 +30,7 @@ whole_by kind.Arithmetic e = in_arithmetic e
 whole_by kind.Run e = e
 whole_by kind.Absent e = e
 
--- Arithmetic stands in `$( )` where it is no operand of arithmetic.
+-- an expression where it is no operand of arithmetic: arithmetic stands in `$( )`
 abbrev pub whole : Erased → Exp
 whole x = whole_by x.kind x.exp
 
@@ -40,7 +40,7 @@ count_at e (Node-F.Number n) = e
 count_at e (Node-F.Name x) = e
 count_at e _ = in_arithmetic e
 
--- A count that is neither a number nor a variable stands in `$( )`.
+-- an expression as a count: what is neither a number nor a variable stands in `$( )`
 abbrev pub count : Erased → Exp
 count x = count_at x.exp (opened x.exp)
 

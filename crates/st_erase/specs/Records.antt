@@ -44,7 +44,7 @@ fields_by behind (Some (body.Fields fields)) = map field_name fields
 fields_by behind (Some (body.Variant cases)) = []
 fields_by behind (Some (body.Alias t)) = on_by behind (next_name (out-Ty t))
 
--- the names of the fields, after so many aliases at most
+-- the names of the fields of the record that a name leads to, after so many aliases at most
 abbrev pub fields_of : ℕ → List IlDef → List ℕ → List (List ℕ)
 fields_of zero ds name = []
 fields_of (suc n) ds name = fields_by (fields_of n ds) (body_of name ds)

@@ -18,7 +18,7 @@ use Rattle.st_il.specs.declared.value.Value.{Value}
 use Rattle.st_il.specs.Evaluation.{Meaning, HasValue, HaveValues}
 use Rattle.st_il.specs.Holding.{Holds}
 
--- the relations, in order
+-- the relations of a specification, in order
 abbrev pub relations : List IlDef → List RelationDef
 relations [] = []
 relations (Relation relation ∷ defs) = relation ∷ relations defs

@@ -27,7 +27,7 @@ abbrev pub first_key : List Template → PlainKey
 first_key [] = free
 first_key (t ∷ ts) = element_key (out-Template t)
 
--- the key of a level
+-- the key of a template, by its top
 abbrev pub key_at : Template-F Template → PlainKey
 key_at (Template-F.Atom name) = atom name
 key_at Template-F.Hole = free

@@ -24,7 +24,7 @@ IsLower letter = (97 ≤ letter) × (letter ≤ 122)
 abbrev pub IsUpper : ℕ → Type 0
 IsUpper letter = (65 ≤ letter) × (letter ≤ 90)
 
--- a word of one or more such letters
+-- a word of one or more letters of this kind
 abbrev pub IsWordOf : (ℕ → Type 0) → List ℕ → Type 0
 IsWordOf IsLetter word = (word ≢ []) × All IsLetter word
 
@@ -85,7 +85,7 @@ relation_def relation syntax =
     Relation (record
     { name = relation; tag = codes "% ~> %"; holes = Name syntax ∷ Name syntax ∷ []; mode = [] })
 
--- its internal language: the syntax, the relation and the rules
+-- the internal language of a small specification: the syntax, the relation and the rules
 abbrev pub il_of : Small → Il
 il_of s =
     record {

@@ -43,7 +43,7 @@ tag_parts_at (Template-F.Bracket opening inside) =
 abbrev pub tag_parts_of : Template → List TagPart
 tag_parts_of = fold-Template (List TagPart) tag_parts_at
 
--- how a part is written; a hole is `%`
+-- how a part of a tag is written; a hole is `%`
 abbrev pub written : TagPart → List ℕ
 written tag_part.Hole = codes "%"
 written (tag_part.Atom name) = name

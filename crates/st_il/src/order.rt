@@ -96,7 +96,7 @@ fn compare_fields(fields: &[(Name, Value)], others: &[(Name, Value)]) -> Orderin
     fields.len().cmp(&others.len())
 }
 
-/// The place of a value's kind among the kinds.
+/// The number of a value's kind, by which kinds are ordered.
 fn kind(value: &Value) -> u8
     ensures { result ≡ kind_of (out-Value value.now) }
 {

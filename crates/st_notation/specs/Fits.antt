@@ -61,7 +61,7 @@ run_up_to (Template-F.Seq parts) es = one_element es
 run_up_to (Template-F.Infix left sign right) es = one_element es
 run_up_to (Template-F.Bracket opening inside) es = one_element es
 
--- One that is last takes all elements that are left.
+-- A hole of list type that is last takes all elements that are left.
 abbrev pub list_takes : List Template → List Exp → Option Take
 list_takes [] es = run_to es (length es)
 list_takes (next ∷ behind) es = run_up_to (out-Template next) es

@@ -31,6 +31,6 @@ Answers P Q (Err refused) = Q refused
 abbrev pub Fitted : Span → (List Filling → Type 0) → Result (List Filled) FitFault → Type 0
 Fitted at P = Answers (λ found. P (fillings found)) (Refuses at P)
 
--- nothing else fits
+-- no other fillings fit than these
 abbrev pub IsOnly : (List Filling → Type 0) → List Filled → Type 0
 IsOnly P found = (fs : List Filling) → P fs → fs ≡ fillings found

@@ -68,18 +68,18 @@ Holds defs (keys alternatives) =
 abbrev pub Placed : Type 0
 Placed = ℕ × Condition
 
--- the names are declared
+-- the conditions that the names are declared
 abbrev pub all_declared : ℕ → List (List ℕ) → List Placed
 all_declared part [] = []
 all_declared part (name ∷ names) = (part, declared name) ∷ all_declared part names
 
--- each name in an alias is declared and does not lead back
+-- the conditions on an alias: each name in it is declared and does not lead back
 abbrev pub on_alias : List ℕ → List (List ℕ) → List Placed
 on_alias target [] = []
 on_alias target (name ∷ names) =
     (0, declared name) ∷ (0, no_return name target) ∷ on_alias target names
 
--- what is included is declared, does not lead back, and is a variant
+-- the conditions on what is included: it is declared, does not lead back, and is a variant
 abbrev pub on_included : List ℕ → ℕ → List ℕ → List Placed
 on_included target part name =
     (part, declared name) ∷ (part, no_return name target) ∷ (part, variant name) ∷ []
@@ -142,7 +142,7 @@ SoundTo defs k =
     (i : ℕ) → i < k → (d : SyntaxDef) → slice_get defs i ≡ Some d
     → AllHold defs (conditions_on (take i defs) d)
 
--- all conditions hold
+-- all conditions on the definitions hold
 abbrev pub IsSound : List SyntaxDef → Type 0
 IsSound defs = SoundTo defs (length defs)
 
@@ -155,7 +155,7 @@ pub record FirstBreach (defs : List SyntaxDef) (syntax part : ℕ) (rule : RuleI
 
 -- ---- lists that can be counted
 
--- fewer than 2^32 alternatives or fields
+-- a body has fewer than 2^32 alternatives or fields
 abbrev pub HasFewParts : SyntaxBody → Type 0
 HasFewParts (body.Alias t) = Unit {0}
 HasFewParts (body.Variant alternatives) = length alternatives < 2 ^ 32

@@ -41,7 +41,7 @@ fn are_ranked(places: &[usize], ranks: &[usize]) -> bool
     true
 }
 
-/// Ranks the places that wait for ranked ones alone, in one pass, and gives how many are ranked.
+/// Ranks those that wait for ranked ones alone, in one pass, and gives how many are ranked.
 fn pass(graph: &[Node], ranks: &mut [usize], before: usize) -> usize
     requires { SoFar graph.now ranks.old before }
     ensures so_far { SoFar graph.now ranks.new result }
@@ -66,7 +66,7 @@ fn zeros(alloc: Global, len: usize) -> Result<Vec<usize>, NoMemory>
     Ok(zeros)
 }
 
-/// The ranks of all places that end: each has more than all that it waits for.
+/// The ranks of all definitions that end: each has more than all that it waits for.
 pub(crate) fn settle(alloc: Global, graph: &[Node]) -> Result<Row<usize>, NoMemory>
     ensures { IfOk result (λ ranks. AreRanks graph.now ranks) }
 {
@@ -113,7 +113,7 @@ fn are_any_marked(places: &[usize], marks: &[bool]) -> bool
     false
 }
 
-/// Marks the places that lead to marked ones, in one pass, and says whether there were any.
+/// Marks those that lead to marked ones, in one pass, and says whether there were any.
 fn pass_back(graph: &[Node], marks: &mut [bool], target: usize) -> bool
     requires { LeadBack graph.now marks.old target }
     ensures back { LeadBack graph.now marks.new target }
@@ -138,7 +138,7 @@ fn unmarked(alloc: Global, len: usize) -> Result<Vec<bool>, NoMemory>
     Ok(marks)
 }
 
-/// Which places lead to this one.
+/// Which definitions lead to the one of this number.
 pub(crate) fn leading_to(
     alloc: Global,
     graph: &[Node],
@@ -156,7 +156,7 @@ pub(crate) fn leading_to(
     }
 }
 
-/// Marks of the places that lead to this one, right at those that it leads to.
+/// Which definitions lead back to the one of this number: it is right of those that it leads to.
 pub(crate) fn leading_back(
     alloc: Global,
     graph: &[Node],

@@ -26,7 +26,7 @@ IsOption name value words =
     ((words ≡ name ∷ value ∷ []) × (begins_with_dash value ≡ false))
     ⊎ (words ≡ (name ++ codes "=" ++ value) ∷ [])
 
--- plain words and no options
+-- the arrangement of plain words and no options
 abbrev pub plain_words : List (List ℕ) → Arrangement
 plain_words words = record { plain = words; fuels = []; depths = [] }
 

@@ -49,7 +49,7 @@ IsFlatAt defs flats t =
     → place_of defs variant ≡ Some place → slice_get defs place ≡ Some d
     → slice_get flats place ≡ Some f → IsFlat defs (alternatives_in d) f
 
--- what is kept of the variant that the type means
+-- what is kept of the variant that the type means, or nothing where it means none
 abbrev pub IsFlatOf : List SyntaxDef → Ty → Option (Bor Flat) → Type 0
 IsFlatOf defs t found =
     (u : Ty) × (Means defs t u
@@ -80,7 +80,7 @@ AddsAlternative defs before after a added = MatchBool added
     ((more : List CaseDef) × (Brings defs a more × ((after ≡ before ++ more) × KeysDiffer after)))
     ((more : List CaseDef) × (Brings defs a more × (KeysDiffer (before ++ more) → ⊥)))
 
--- the flats are right at all places with ranks up to this
+-- what is kept of the definitions with ranks up to this is right
 pub record AreFlats (defs : List SyntaxDef) (ranks : List ℕ) (limit : ℕ)
     (flats : List Flat) : Type 0 where
   pub size : length flats ≡ length defs

@@ -1,4 +1,4 @@
--- Syntaxes by their places: for which others one waits before it can be joined as a field.
+-- The graph of definitions by joining: for which others one waits before it is joined as a field.
 use Rattle.std.specs.Prelude.{ℕ, List, [], ◌∷◌, length, map, Option, Some, None}
 use Rattle.std.specs.List.{flat_map}
 use Rattle.st_il.specs.declared.ty.Ty.{Ty, out-Ty}
@@ -8,7 +8,7 @@ use Rattle.st_il.specs.declared.definition.SyntaxBody.{SyntaxBody}
 use Rattle.st_il.specs.declared.definition.SyntaxBody.TheVariants as body
 use Rattle.st_type_table.specs.inner.Graph.{Graph, place_of}
 
--- the place behind all definitions: nothing is there, and so what waits for it waits for ever
+-- the number behind all definitions: nothing is there, and so what waits for it waits for ever
 abbrev pub never : List SyntaxDef → ℕ
 never defs = length defs
 

@@ -20,7 +20,7 @@ pub data IsUnder (defs : List SyntaxDef) : Ty → Ty → Type 0 where
   option : {a b : Ty} (x y : Ty) → Means defs a (ty.Opt x) → Means defs b (ty.Opt y) → Sub defs x y
       → IsUnder defs a b
 
--- the one is below the other by numbers or by elements
+-- the first meaning is below the second by numbers or by elements
 abbrev pub UnderAt : List SyntaxDef → Ty-F Ty → Ty-F Ty → Type 0
 UnderAt defs Ty-F.Nat Ty-F.Int = Unit {0}
 UnderAt defs (Ty-F.List x) (Ty-F.List y) = Sub defs x y

@@ -29,7 +29,7 @@ prepended given (Some rest) = Some (record {
 })
 prepended given None = None
 
--- a value that is a word of its own
+-- an option whose value is the word behind it, which does not begin with `-`
 abbrev pub as_value : (List ℕ → Option Arrangement → Option Arrangement)
     → List ℕ → Option Arrangement → Option Arrangement
 as_value add value rest = if begins_with_dash value then None else add value rest
