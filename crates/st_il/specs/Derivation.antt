@@ -75,12 +75,15 @@ mutual
   -- and these children stand for those that cite a relation, in order.
   pub data Proved (il : Il) (V : Meaning) (O : Exclusion) : Root → Env → List IlPrem → List Child
       → Type 0 where
+    -- no premise is left
     done : {root : Root} {env : Env} → Proved il V O root env [] []
+    -- the next premise cites no relation, and has no child
     plain : {root : Root} {env : Env} {premise : IlPrem} {premises : List IlPrem}
         {children : List Child}
         → Holds V (O root) env premise
         → Proved il V O root env premises children
         → Proved il V O root env (premise ∷ premises) children
+    -- the next premise cites a relation, and the first child derives it
     goal : {root : Root} {env : Env} {premise : IlPrem} {premises : List IlPrem} {child : Child}
         {children : List Child}
         (name : List ℕ) (exps : List IlExp) (below : Tree)

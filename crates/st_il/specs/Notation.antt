@@ -77,9 +77,11 @@ mutual
         → IsNotation 7 inside → IsNotation n t
     sequence : {n : ℕ} {t : Template} (parts : List Template)
         → n ≤ 14 → t ≡ template.Seq parts → AreElements parts → 2 ≤ length parts → IsNotation n t
+    -- two sides of a sign
     divided : {n : ℕ} {t : Template} (level : ℕ) (left : Template) (sign : Mark) (right : Template)
         → n ≤ level → t ≡ template.Infix left sign right → role_of sign ≡ Divides level
         → IsNotation (left_of level) left → IsNotation (right_of level) right → IsNotation n t
+    -- a sign whose left side is absent
     without_left : {n : ℕ} {t : Template} (right : Template)
         → n ≤ 7 → t ≡ template.Infix (template.Seq []) Turnstile right → IsNotation 8 right
         → IsNotation n t
