@@ -13,6 +13,7 @@ use Rattle.st_num.specs.Names.{is_among}
 use Rattle.st_dims.specs.Mentions.{occurrences_in, indices_in, iterations_in}
 use Rattle.st_dims.specs.Dimensions.{Table, dimension_in, IsOnlyTable}
 
+-- two kinds of iteration are equal
 abbrev pub same_kind : Kind → Kind → Bool
 same_kind kind.List kind.List = true
 same_kind kind.Opt kind.Opt = true
@@ -36,6 +37,7 @@ misplaced indices mentions table =
     map (λ occurrence. occurrence.at)
     (filter (is_misplaced indices table) (occurrences_in mentions))
 
+-- a dimension has more iterations than this
 abbrev pub is_longer : ℕ → Option (List Kind) → Bool
 is_longer depth None = false
 is_longer depth (Some dimension) = nat_lt depth (length dimension)
@@ -59,7 +61,7 @@ IsFirst (Some at) places = (rest : List Span) × (places ≡ at ∷ rest)
 abbrev pub misplaced_in : List Mention → Table → List Span
 misplaced_in mentions table = misplaced (indices_in mentions) mentions table
 
--- no rule is broken
+-- no rule on dimensions is broken
 pub record IsSound (mentions : List Mention) (table : Table) : Type 0 where
   pub placed : misplaced_in mentions table ≡ []
   pub iterating : idle mentions table ≡ []
@@ -77,7 +79,8 @@ pub record IsIdle (mentions : List Mention) (at : Span) : Type 0 where
   pub placed : misplaced_in mentions table ≡ []
   pub first : IsFirst (Some at) (idle mentions table)
 
--- what a fault says
+-- what a fault says: the first misplaced occurrence, or else the first iteration that iterates
+-- nothing
 abbrev pub IsFault : List Mention → DimFault → Type 0
 IsFault mentions (I1 at) = IsMisplaced mentions at
 IsFault mentions (I2 at) = IsIdle mentions at

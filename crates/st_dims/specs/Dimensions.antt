@@ -43,12 +43,12 @@ HasDimensions occurrences table =
 abbrev pub IsOrdered : Table → Type 0
 IsOrdered table = IsStrictlySortedBy (slice_cmp nat_cmp) (map (λ entry. entry.0) table)
 
--- the variables with their dimensions
+-- the table has the variables with their dimensions, in order
 pub record IsTable (mentions : List Mention) (table : Table) : Type 0 where
   pub ordered : IsOrdered table
   pub dimensions : HasDimensions (occurrences_in mentions) table
 
--- There is no other table of these mentions.
+-- The table is the only one of these mentions.
 pub record IsOnlyTable (mentions : List Mention) (table : Table) : Type 0 where
   pub is : IsTable mentions table
   pub only : (other : Table) → IsTable mentions other → other ≡ table

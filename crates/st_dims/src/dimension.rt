@@ -70,6 +70,7 @@ fn begins_with(chain: &[Kind], shortest: &Shortest, name: &Name) -> bool
     }
 }
 
+/// Whether the name is an index, or the chain does not begin with the dimension of the name.
 fn is_misplaced(indices: &[Name], shortest: &Shortest, occurrence: &Occurrence) -> bool
     ensures { result ≡ is_misplaced indices.now shortest.now.entries occurrence.now }
 {
@@ -118,6 +119,7 @@ fn is_longer(depth: usize, shortest: &Shortest, name: &Name) -> bool
     }
 }
 
+/// Whether no variable in the body has more iterations than stand round the iteration.
 fn is_idle(shortest: &Shortest, iteration: &Iteration) -> bool
     ensures { result ≡ is_idle shortest.now.entries iteration.now }
 {

@@ -97,6 +97,7 @@ pub fn add_body(
     Ok(())
 }
 
+/// Adds what is mentioned in the expression.
 #[cycle(mention)]
 pub fn mention_exp(
     alloc: Global,
@@ -110,6 +111,7 @@ pub fn mention_exp(
     mention_node(alloc, &exp.node, exp.at, within, mentions)
 }
 
+/// Adds what is mentioned in an expression of this place.
 #[cycle(mention)]
 fn mention_node(
     alloc: Global,
@@ -172,6 +174,7 @@ fn mention_node(
     }
 }
 
+/// Adds what is mentioned in the expressions, from left to right.
 #[cycle(mention)]
 pub fn mention_exps(
     alloc: Global,
@@ -188,6 +191,7 @@ pub fn mention_exps(
     Ok(())
 }
 
+/// Adds what is mentioned in the fields of a record, from left to right.
 #[cycle(mention)]
 fn mention_fields(
     alloc: Global,
@@ -204,6 +208,7 @@ fn mention_fields(
     Ok(())
 }
 
+/// Adds what is mentioned in the steps of a path, from left to right.
 #[cycle(mention)]
 fn mention_path(
     alloc: Global,
@@ -220,6 +225,7 @@ fn mention_path(
     Ok(())
 }
 
+/// Adds what is mentioned in a step of a path.
 #[cycle(mention)]
 fn mention_seg(
     alloc: Global,
@@ -240,7 +246,7 @@ fn mention_seg(
     }
 }
 
-/// What is mentioned in the count of an iteration.
+/// Adds what is mentioned in the count of an iteration.
 #[cycle(mention)]
 pub fn mention_count(
     alloc: Global,

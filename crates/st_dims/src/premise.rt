@@ -10,6 +10,7 @@ use st_el::{Prem, PremNode};
 use st_num::{NoMemory, Span};
 use std::alloc::Global;
 
+/// Adds what is mentioned in the premise.
 #[cycle(mention_prem)]
 pub fn mention_prem(
     alloc: Global,
@@ -23,6 +24,7 @@ pub fn mention_prem(
     mention_prem_node(alloc, &prem.node, prem.at, within, mentions)
 }
 
+/// Adds what is mentioned in a premise of this place.
 #[cycle(mention_prem)]
 #[tactic(auto, using(crate::proofs::Counts::marked_round))]
 fn mention_prem_node(
@@ -49,6 +51,7 @@ fn mention_prem_node(
     }
 }
 
+/// Adds what is mentioned in the premises, in their order.
 pub fn mention_prems(
     alloc: Global,
     prems: &[Prem],

@@ -23,6 +23,7 @@ pub fn chain_of<'a>(shortest: &'a Shortest, name: &Name) -> Option<&'a Dim>
     shortest.get(name)
 }
 
+/// Whether the chain of the occurrence is shorter than the one known of its name, if one is.
 fn is_shorter(occurrence: &Occurrence, shortest: &Shortest) -> bool
     ensures { result ≡ is_shorter occurrence.now.chain
         (dimension_in shortest.now.entries occurrence.now.name) }
@@ -47,6 +48,7 @@ fn note(alloc: Global, occurrence: &Occurrence, shortest: &mut Shortest) -> Resu
     Ok(())
 }
 
+/// Takes what is mentioned into account, where it is the occurrence of a variable.
 fn note_mention(alloc: Global, mention: &Mention, shortest: &mut Shortest) -> Result<(), NoMemory>
     ensures { OnOk result ((before : List Mention)
         → HasDimensions (occurrences_in before) shortest.old.entries

@@ -6,10 +6,11 @@ use Rattle.st_el.specs.declared.context.Behind.{Behind}
 use Rattle.st_el.specs.declared.context.Behind.TheVariants.{Other}
 use Rattle.st_el.specs.declared.context.Context.{Context}
 
--- the level of a sequence, and of what holds together by itself
+-- the level of a sequence
 abbrev pub sequence_level : ℕ
 sequence_level = 14
 
+-- the level of what holds together by itself
 abbrev pub operand_level : ℕ
 operand_level = 20
 
@@ -37,16 +38,17 @@ position = context_at Brackets 13
 abbrev pub count : Context
 count = context_at BehindCaret 1
 
--- a context for an element of a sequence behind another: directly in bars a bar would close them
+-- what is directly round a part is the bars of a length
 abbrev pub is_bars : Around → Bool
 is_bars Bars = true
 is_bars around = false
 
+-- a context for an element of a sequence behind another: directly in bars a bar would close them
 abbrev pub next_element : Around → Context
 next_element around =
     record { around = around; least = operand_level; bar_closes = is_bars around; behind = Other }
 
--- inside parentheses
+-- what is round a part in parentheses
 abbrev pub in_parens : Around → Around
 in_parens Arithmetic = Arithmetic
 in_parens around = Brackets

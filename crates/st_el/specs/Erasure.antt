@@ -17,9 +17,11 @@ use Rattle.st_el.specs.Plain.{nowhere, plain_exp, plain_typ, plain_notation, pla
 abbrev pub plain_token : Token → Token
 plain_token token = record { at = nowhere; touching = false; kind = token.kind }
 
+-- a hint, wherever its tokens stood
 abbrev pub plain_hint : Hint → Hint
 plain_hint hint = record { name = hint.name; words = map plain_token hint.words }
 
+-- a hint tells which holes of a relation are inputs
 abbrev pub is_mode : Hint → Bool
 is_mode hint = same_name hint.name (codes "mode")
 
@@ -28,11 +30,13 @@ abbrev pub kept_hints : DefNode → List Hint → List Hint
 kept_hints (Relation name notation) hints = map plain_hint (filter is_mode hints)
 kept_hints node hints = []
 
+-- the body of a syntax, with its parts made plain
 abbrev pub plain_body : Body → Body
 plain_body (Alias typ) = Alias (plain_typ typ)
 plain_body (Cases before cases after) = Cases before (map plain_notation cases) after
 plain_body (Fields fields) = Fields (map (λ field. (field.0, plain_typ field.1)) fields)
 
+-- what a definition is, with its parts made plain and no fragment's name
 abbrev pub plain_def_node : DefNode → DefNode
 plain_def_node (Syntax name fragment body) = Syntax name None (plain_body body)
 plain_def_node (Var name typ) = Var name (plain_typ typ)
@@ -43,25 +47,28 @@ plain_def_node (Fun name params result) = Fun name (map plain_typ params) (plain
 plain_def_node (Clause name args result premises) =
     Clause name (map plain_exp args) (plain_exp result) (map plain_prem premises)
 
+-- a definition without its place, with its parts made plain and no hints but modes
 abbrev pub plain_def : Def → Def
 plain_def def =
     record { at = nowhere; hints = kept_hints def.node def.hints; node = plain_def_node def.node }
 
 -- ---- fragments
 
--- the definition is a fragment of the syntax of this name
+-- this is a fragment of the syntax of this name
 abbrev pub is_fragment_node : List ℕ → DefNode → Bool
 is_fragment_node name (Syntax other fragment body) = is_some fragment && same_name name other
 is_fragment_node name node = false
 
+-- the definition is a fragment of the syntax of this name
 abbrev pub is_fragment : List ℕ → Def → Bool
 is_fragment name def = is_fragment_node name def.node
 
--- the alternatives of a definition
+-- the alternatives in the body of a syntax
 abbrev pub alternatives_in : Body → List Notation
 alternatives_in (Cases before cases after) = cases
 alternatives_in body = []
 
+-- the alternatives of a definition, which are none where it is no syntax
 abbrev pub alternatives_of : DefNode → List Notation
 alternatives_of (Syntax name fragment body) = alternatives_in body
 alternatives_of node = []
@@ -82,6 +89,8 @@ joined_syntax before name (Some fragment) body behind =
     if list_any (is_fragment name) before then []
     else Syntax name None (joined body (alternatives name behind)) ∷ []
 
+-- what a definition stands for: a fragment for all fragments of its syntax or for nothing, and
+-- every other definition for itself
 abbrev pub joined_node : List Def → DefNode → List Def → List DefNode
 joined_node before (Syntax name fragment body) behind =
     joined_syntax before name fragment body behind
@@ -92,6 +101,7 @@ abbrev pub joined_at : List Def → Def → List Def → List Def
 joined_at before def behind =
     map (λ node. record def { node = node }) (joined_node before def.node behind)
 
+-- definitions behind others, with the fragments of each syntax joined at the first one
 abbrev pub joined_behind : List Def → List Def → List Def
 joined_behind before [] = []
 joined_behind before (def ∷ behind) =

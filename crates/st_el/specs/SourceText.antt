@@ -18,7 +18,7 @@ use Rattle.st_el.specs.declared.context.Wrapping.{Wrapping}
 use Rattle.st_el.specs.Contexts.{context_at, whole, operand_before, position, count, next_element, in_parens}
 use Rattle.st_el.specs.Wrappings.{Printed, Marked, Level, takes_in, has_bar, wrapping, opening, ending, around_in}
 
--- these texts with a text between them
+-- texts with this text between them
 abbrev pub separated : List ℕ → List (List ℕ) → List ℕ
 separated between [] = []
 separated between (text ∷ texts) = text ++ flat_map (λ next. between ++ next) texts
@@ -33,33 +33,38 @@ abbrev pub blank_behind : Mark → List ℕ
 blank_behind Caret = []
 blank_behind sign = codes " "
 
+-- two sides with a sign between them, and a blank on each side of it that has one
 abbrev pub joined_by : Around → Printed → Mark → Printed → List ℕ
 joined_by around left sign right =
     left_side (left.at (context_at around (left_of (level sign))))
     ++ spelling sign ++ blank_behind sign
     ++ right.at (context_at around (right_of (level sign)))
 
--- the elements of a sequence
+-- the elements of a sequence with blanks between them
 abbrev pub elements : Around → List Printed → List ℕ
 elements around [] = []
 elements around (part ∷ parts) =
     part.at (operand_before around Other)
     ++ flat_map (λ next. codes " " ++ next.at (next_element around)) parts
 
+-- whole expressions with commas between them
 abbrev pub listed : List Printed → List ℕ
 listed parts = separated (codes ", ") (map (λ part. part.at (whole Brackets)) parts)
 
+-- a field of a record: its name and its expression
 abbrev pub field_text : List ℕ × Printed → List ℕ
 field_text field = field.0 ++ codes " " ++ field.1.at (whole Brackets)
 
+-- the fields of a record with commas between them
 abbrev pub fields_text : List (List ℕ × Printed) → List ℕ
 fields_text fields = separated (codes ", ") (map field_text fields)
 
--- arguments, where there are any
+-- the arguments of a call in parentheses, where there are any
 abbrev pub arguments : List Printed → List ℕ
 arguments [] = []
 arguments (part ∷ parts) = codes "(" ++ listed (part ∷ parts) ++ codes ")"
 
+-- how a truth value is written
 abbrev pub truth : Bool → List ℕ
 truth true = codes "true"
 truth false = codes "false"
@@ -112,6 +117,7 @@ front around (Node-F.Len e) = codes "|" ++ e.at (whole Bars) ++ codes "|"
 front around (Node-F.Call name parts) = codes "$" ++ name
 front around (Node-F.Iter e mark) = e.at (operand_before around mark.behind)
 
+-- a level with what is written round it
 abbrev pub wrapped : Wrapping → Around → Level → List ℕ
 wrapped wrapping around node =
     opening wrapping ++ front (around_in wrapping around) node ++ postfix node ++ ending wrapping
@@ -122,6 +128,7 @@ text_at node context = wrapped (wrapping context node) context.around node
 
 -- ---- all levels
 
+-- what is known of a level: whether it begins with a bar, and its text in each context
 abbrev pub printed_node_at : Level → Printed
 printed_node_at node =
     record {
@@ -129,9 +136,11 @@ printed_node_at node =
       at = text_at node;
     }
 
+-- an expression is printed as what it is, without its place
 abbrev pub printed_exp_at : Exp-F Marked Printed (List ℕ) Printed → Printed
 printed_exp_at e = e.node
 
+-- how an iteration is written behind the part before it
 abbrev pub printed_mark_at : Count-F Marked Printed (List ℕ) Printed → Marked
 printed_mark_at Count-F.Star = record { behind = Other; text = codes "*" }
 printed_mark_at Count-F.Plus = record { behind = Plus; text = codes "+" }
@@ -140,31 +149,37 @@ printed_mark_at (Count-F.Times e) = record { behind = Other; text = codes "^" ++
 printed_mark_at (Count-F.Below index e) =
     record { behind = Other; text = codes "^(" ++ index ++ codes " < " ++ e.at count ++ codes ")" }
 
+-- how a step of a path is written
 abbrev pub printed_step_at : Seg-F Marked Printed (List ℕ) Printed → List ℕ
 printed_step_at (Seg-F.Field name) = codes "." ++ name
 printed_step_at (Seg-F.Seg::At at) = codes "[" ++ at.at position ++ codes "]"
 printed_step_at (Seg-F.Seg::Slice from length) = range from length
 
+-- whether an expression begins with a bar, and its text in each context
 abbrev pub printed : Exp → Printed
 printed =
     fold-Exp Marked Printed (List ℕ) Printed
     printed_mark_at printed_node_at printed_step_at printed_exp_at
 
+-- whether what an expression is begins with a bar, and its text in each context
 abbrev pub printed_node : Node → Printed
 printed_node =
     fold-Node Marked Printed (List ℕ) Printed
     printed_mark_at printed_node_at printed_step_at printed_exp_at
 
+-- how an iteration is written, from the source tree
 abbrev pub printed_mark : Count → Marked
 printed_mark =
     fold-Count Marked Printed (List ℕ) Printed
     printed_mark_at printed_node_at printed_step_at printed_exp_at
 
+-- how a step of a path is written, from the source tree
 abbrev pub printed_step : Seg → List ℕ
 printed_step =
     fold-Seg Marked Printed (List ℕ) Printed
     printed_mark_at printed_node_at printed_step_at printed_exp_at
 
+-- a field of a record, its expression printed
 abbrev pub printed_field : List ℕ × Exp → List ℕ × Printed
 printed_field field = (field.0, printed field.1)
 
@@ -174,6 +189,7 @@ parts_printed =
     map-Node Count Node Seg Exp Marked Printed (List ℕ) Printed
     printed_mark printed_node printed_step printed
 
+-- the top level of what an expression is, with its parts printed
 abbrev pub opened : Node → Level
 opened node = parts_printed (out-Node node)
 

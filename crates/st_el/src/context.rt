@@ -129,6 +129,7 @@ impl Context {
 }
 
 impl Wrapping {
+    /// What the wrapping begins with.
     pub fn opening(self) -> &'static [u8]
         ensures { result.now ≡ opening self }
     {
@@ -139,6 +140,7 @@ impl Wrapping {
         }
     }
 
+    /// What the wrapping ends with.
     pub fn ending(self) -> &'static [u8]
         ensures { result.now ≡ ending self }
     {

@@ -13,6 +13,7 @@ use st_num::{Name, NoMemory, Row, Span};
 use st_scan::Token;
 use std::alloc::Global;
 
+/// The tokens of a hint, wherever they stood.
 fn plain_tokens(alloc: Global, tokens: &[Token]) -> Result<Row<Token>, NoMemory>
     ensures { IfOk result (λ plain. plain ≡ map plain_token tokens.now) }
 {
@@ -27,6 +28,7 @@ fn plain_tokens(alloc: Global, tokens: &[Token]) -> Result<Row<Token>, NoMemory>
     Ok(plain)
 }
 
+/// The hint, wherever its tokens stood.
 fn plain_hint(alloc: Global, hint: &Hint) -> Result<Hint, NoMemory>
     ensures { IfOk result (λ plain. plain ≡ plain_hint hint.now) }
 {
@@ -57,6 +59,7 @@ fn plain_modes(alloc: Global, hints: &[Hint]) -> Result<Row<Hint>, NoMemory>
     Ok(plain)
 }
 
+/// The hints of a definition that are kept: the modes of a relation.
 fn kept_hints(alloc: Global, node: &DefNode, hints: &Row<Hint>) -> Result<Row<Hint>, NoMemory>
     ensures { IfOk result (λ kept. kept ≡ kept_hints node.now hints.now) }
 {
@@ -70,6 +73,7 @@ fn kept_hints(alloc: Global, node: &DefNode, hints: &Row<Hint>) -> Result<Row<Hi
     }
 }
 
+/// The fields of a record, with their types made plain.
 fn plain_fields(alloc: Global, fields: &[(Name, Typ)]) -> Result<Row<(Name, Typ)>, NoMemory>
     ensures { IfOk result
         (λ plain. plain ≡ map (λ field. (field.0, plain_typ field.1)) fields.now) }
@@ -82,6 +86,7 @@ fn plain_fields(alloc: Global, fields: &[(Name, Typ)]) -> Result<Row<(Name, Typ)
     Ok(plain)
 }
 
+/// The body of a syntax, with its parts made plain.
 fn plain_body(alloc: Global, body: &Body) -> Result<Body, NoMemory>
     ensures { IfOk result (λ plain. plain ≡ plain_body body.now) }
 {
@@ -100,6 +105,7 @@ fn plain_body(alloc: Global, body: &Body) -> Result<Body, NoMemory>
     }
 }
 
+/// The rule, with its conclusion and its premises made plain.
 fn plain_rule(
     alloc: Global,
     relation: &Name,
@@ -118,6 +124,7 @@ fn plain_rule(
     })
 }
 
+/// The clause, with its arguments, its result and its premises made plain.
 fn plain_clause(
     alloc: Global,
     name: &Name,
@@ -137,6 +144,7 @@ fn plain_clause(
     })
 }
 
+/// What the definition is, with its parts made plain and no fragment's name.
 fn plain_def_node(alloc: Global, node: &DefNode) -> Result<DefNode, NoMemory>
     ensures { IfOk result (λ plain. plain ≡ plain_def_node node.now) }
 {
@@ -178,6 +186,7 @@ fn plain_def_node(alloc: Global, node: &DefNode) -> Result<DefNode, NoMemory>
     }
 }
 
+/// The definition without its place, with its parts made plain and no hints but modes.
 fn plain_def(alloc: Global, def: &Def) -> Result<Def, NoMemory>
     ensures { IfOk result (λ plain. plain ≡ plain_def def.now) }
 {
@@ -189,6 +198,7 @@ fn plain_def(alloc: Global, def: &Def) -> Result<Def, NoMemory>
     })
 }
 
+/// Whether the definition is a fragment of the syntax of this name.
 fn is_fragment(name: &Name, def: &Def) -> bool
     ensures { result ≡ is_fragment name.now def.now }
 {
@@ -206,6 +216,7 @@ fn is_fragment(name: &Name, def: &Def) -> bool
     }
 }
 
+/// Whether one of the definitions is a fragment of the syntax of this name.
 fn has_fragment(name: &Name, defs: &[Def]) -> bool
     ensures { result ≡ list_any (is_fragment name.now) defs.now }
 {
@@ -217,6 +228,7 @@ fn has_fragment(name: &Name, defs: &[Def]) -> bool
     false
 }
 
+/// Adds the notations, made plain.
 fn push_notations(
     alloc: Global,
     notations: &[Notation],
@@ -230,6 +242,7 @@ fn push_notations(
     Ok(())
 }
 
+/// Adds the alternatives of a definition, made plain; what is no syntax has none.
 fn push_alternatives(
     alloc: Global,
     node: &DefNode,
@@ -246,7 +259,7 @@ fn push_alternatives(
     }
 }
 
-/// The alternatives of the fragments of a syntax.
+/// Adds the alternatives of the fragments of a syntax, made plain.
 fn push_fragments(
     alloc: Global,
     name: &Name,
@@ -283,7 +296,7 @@ fn joined_body(alloc: Global, body: &Body, name: &Name, behind: &[Def]) -> Resul
     }
 }
 
-/// A syntax, with its fragments joined at the first of them.
+/// Adds the definition, made plain; the fragments of a syntax are joined at the first of them.
 fn push_joined(
     alloc: Global,
     before: &[Def],

@@ -7,6 +7,7 @@ use crate::{Count, Exp, Node, Seg};
 use st_num::{Boxed, Name, NoMemory, Row, Span};
 use std::alloc::Global;
 
+/// The expression without its places, its parentheses and its `$( )`.
 #[cycle(plain)]
 pub fn plain_exp(alloc: Global, exp: &Exp) -> Result<Exp, NoMemory>
     ensures { IfOk result (λ plain. plain ≡ plain_exp exp.now) }
@@ -18,6 +19,7 @@ pub fn plain_exp(alloc: Global, exp: &Exp) -> Result<Exp, NoMemory>
     })
 }
 
+/// The expression made plain, in a box of its own.
 #[cycle(plain)]
 fn plain_box(alloc: Global, exp: &Boxed<Exp>) -> Result<Boxed<Exp>, NoMemory>
     ensures { IfOk result (λ plain. plain ≡ plain_exp exp.now) }
@@ -25,6 +27,7 @@ fn plain_box(alloc: Global, exp: &Boxed<Exp>) -> Result<Boxed<Exp>, NoMemory>
     Boxed::new(alloc, plain_exp(alloc, exp.get())?)
 }
 
+/// What the expression is, without the parentheses and the `$( )` round it and in it.
 #[cycle(plain)]
 fn plain_node(alloc: Global, node: &Node) -> Result<Node, NoMemory>
     ensures { IfOk result (λ plain. plain ≡ plain_node node.now) }
@@ -71,6 +74,7 @@ fn plain_node(alloc: Global, node: &Node) -> Result<Node, NoMemory>
     }
 }
 
+/// The expressions made plain, in order.
 #[cycle(plain)]
 pub fn plain_exps(alloc: Global, exps: &[Exp]) -> Result<Row<Exp>, NoMemory>
     ensures { IfOk result (λ plain. plain ≡ map plain_exp exps.now) }
@@ -82,6 +86,7 @@ pub fn plain_exps(alloc: Global, exps: &[Exp]) -> Result<Row<Exp>, NoMemory>
     Ok(plain)
 }
 
+/// The fields of a record, with their expressions made plain.
 #[cycle(plain)]
 fn plain_fields(alloc: Global, fields: &[(Name, Exp)]) -> Result<Row<(Name, Exp)>, NoMemory>
     ensures { IfOk result
@@ -95,6 +100,7 @@ fn plain_fields(alloc: Global, fields: &[(Name, Exp)]) -> Result<Row<(Name, Exp)
     Ok(plain)
 }
 
+/// The steps of a path, with their expressions made plain.
 #[cycle(plain)]
 fn plain_path(alloc: Global, path: &[Seg]) -> Result<Row<Seg>, NoMemory>
     ensures { IfOk result (λ plain. plain ≡ map plain_seg path.now) }
@@ -106,6 +112,7 @@ fn plain_path(alloc: Global, path: &[Seg]) -> Result<Row<Seg>, NoMemory>
     Ok(plain)
 }
 
+/// The step of a path, with its expressions made plain.
 #[cycle(plain)]
 fn plain_seg(alloc: Global, seg: &Seg) -> Result<Seg, NoMemory>
     ensures { IfOk result (λ plain. plain ≡ plain_seg seg.now) }
@@ -120,6 +127,7 @@ fn plain_seg(alloc: Global, seg: &Seg) -> Result<Seg, NoMemory>
     }
 }
 
+/// How often an iteration goes, with its expression made plain.
 #[cycle(plain)]
 pub fn plain_count(alloc: Global, count: &Count) -> Result<Count, NoMemory>
     ensures { IfOk result (λ plain. plain ≡ plain_count count.now) }

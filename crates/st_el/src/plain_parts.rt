@@ -8,6 +8,7 @@ use crate::{NotNode, Notation, Prem, PremNode, Typ, TypNode};
 use st_num::{Boxed, NoMemory, Row, Span};
 use std::alloc::Global;
 
+/// The type without its places.
 #[cycle(plain_typ)]
 pub fn plain_typ(alloc: Global, typ: &Typ) -> Result<Typ, NoMemory>
     ensures { IfOk result (λ plain. plain ≡ plain_typ typ.now) }
@@ -19,6 +20,7 @@ pub fn plain_typ(alloc: Global, typ: &Typ) -> Result<Typ, NoMemory>
     })
 }
 
+/// What the type is, without the places of its parts.
 #[cycle(plain_typ)]
 fn plain_typ_node(alloc: Global, node: &TypNode) -> Result<TypNode, NoMemory>
     ensures { IfOk result (λ plain. plain ≡ plain_typ_node node.now) }
@@ -41,6 +43,7 @@ fn plain_typ_node(alloc: Global, node: &TypNode) -> Result<TypNode, NoMemory>
     }
 }
 
+/// The types without their places, in order.
 #[cycle(plain_typ)]
 pub fn plain_typs(alloc: Global, typs: &[Typ]) -> Result<Row<Typ>, NoMemory>
     ensures { IfOk result (λ plain. plain ≡ map plain_typ typs.now) }
@@ -52,6 +55,7 @@ pub fn plain_typs(alloc: Global, typs: &[Typ]) -> Result<Row<Typ>, NoMemory>
     Ok(plain)
 }
 
+/// The notation without its places.
 #[cycle(plain_notation)]
 pub fn plain_notation(alloc: Global, notation: &Notation) -> Result<Notation, NoMemory>
     ensures { IfOk result (λ plain. plain ≡ plain_notation notation.now) }
@@ -63,6 +67,7 @@ pub fn plain_notation(alloc: Global, notation: &Notation) -> Result<Notation, No
     })
 }
 
+/// What the notation is, without the places of its parts.
 #[cycle(plain_notation)]
 fn plain_not_node(alloc: Global, node: &NotNode) -> Result<NotNode, NoMemory>
     ensures { IfOk result (λ plain. plain ≡ plain_not_node node.now) }
@@ -83,6 +88,7 @@ fn plain_not_node(alloc: Global, node: &NotNode) -> Result<NotNode, NoMemory>
     }
 }
 
+/// The notations without their places, in order.
 #[cycle(plain_notation)]
 pub fn plain_notations(alloc: Global, notations: &[Notation]) -> Result<Row<Notation>, NoMemory>
     ensures { IfOk result (λ plain. plain ≡ map plain_notation notations.now) }
@@ -94,6 +100,7 @@ pub fn plain_notations(alloc: Global, notations: &[Notation]) -> Result<Row<Nota
     Ok(plain)
 }
 
+/// The premise without its places, with its expressions made plain.
 #[cycle(plain_prem)]
 pub fn plain_prem(alloc: Global, prem: &Prem) -> Result<Prem, NoMemory>
     ensures { IfOk result (λ plain. plain ≡ plain_prem prem.now) }
@@ -105,6 +112,7 @@ pub fn plain_prem(alloc: Global, prem: &Prem) -> Result<Prem, NoMemory>
     })
 }
 
+/// What the premise is, with its expressions made plain.
 #[cycle(plain_prem)]
 fn plain_prem_node(alloc: Global, node: &PremNode) -> Result<PremNode, NoMemory>
     ensures { IfOk result (λ plain. plain ≡ plain_prem_node node.now) }
@@ -123,6 +131,7 @@ fn plain_prem_node(alloc: Global, node: &PremNode) -> Result<PremNode, NoMemory>
     }
 }
 
+/// The premises without their places, in order.
 pub fn plain_prems(alloc: Global, prems: &[Prem]) -> Result<Row<Prem>, NoMemory>
     ensures { IfOk result (λ plain. plain ≡ map plain_prem prems.now) }
 {

@@ -14,12 +14,14 @@ use itoa::Buffer;
 use st_num::{Mark, Name, NoMemory};
 use std::alloc::Global;
 
+/// How a truth value is written.
 fn truth(value: bool) -> &'static [u8]
     ensures { result.now ≡ truth value }
 {
     if value { b"true" } else { b"false" }
 }
 
+/// Appends a text as it is.
 fn print_word(word: &[u8], out: &mut Vec<u8>) -> Result<(), NoMemory>
     ensures { OnOk result (out.new.items ≡ out.old.items ++ word.now) }
 {
@@ -27,6 +29,7 @@ fn print_word(word: &[u8], out: &mut Vec<u8>) -> Result<(), NoMemory>
     Ok(())
 }
 
+/// Appends a number in decimal digits.
 fn print_natural(n: u128, out: &mut Vec<u8>) -> Result<(), NoMemory>
     ensures { OnOk result (out.new.items ≡ out.old.items ++ decimal n) }
 {
@@ -34,6 +37,7 @@ fn print_natural(n: u128, out: &mut Vec<u8>) -> Result<(), NoMemory>
     Ok(())
 }
 
+/// Appends the name of a field between this text and a blank.
 fn print_label(before: &[u8], name: &Name, out: &mut Vec<u8>) -> Result<(), NoMemory>
     ensures { OnOk result (out.new.items ≡ out.old.items ++ (before.now ++ name.now ++ codes " ")) }
 {
@@ -43,7 +47,7 @@ fn print_label(before: &[u8], name: &Name, out: &mut Vec<u8>) -> Result<(), NoMe
     Ok(())
 }
 
-/// There is no blank behind `^`.
+/// Appends a sign and a blank. There is no blank behind `^`.
 fn print_sign(sign: Mark, out: &mut Vec<u8>) -> Result<(), NoMemory>
     ensures { OnOk result (out.new.items ≡ out.old.items ++ (spelling sign ++ blank_behind sign)) }
 {
@@ -54,6 +58,7 @@ fn print_sign(sign: Mark, out: &mut Vec<u8>) -> Result<(), NoMemory>
     Ok(())
 }
 
+/// Appends a dot and the name of a field.
 fn print_field(field: &Name, out: &mut Vec<u8>) -> Result<(), NoMemory>
     ensures { OnOk result (out.new.items ≡ out.old.items ++ (codes "." ++ field.now)) }
 {
@@ -62,6 +67,7 @@ fn print_field(field: &Name, out: &mut Vec<u8>) -> Result<(), NoMemory>
     Ok(())
 }
 
+/// Appends the name of a function behind its `$`.
 fn print_function(name: &Name, out: &mut Vec<u8>) -> Result<(), NoMemory>
     ensures { OnOk result (out.new.items ≡ out.old.items ++ (codes "$" ++ name.now)) }
 {
@@ -306,6 +312,7 @@ fn print_path(path: &[Seg], out: &mut Vec<u8>) -> Result<(), NoMemory>
     Ok(())
 }
 
+/// Prints a step of a path.
 #[cycle(print)]
 fn print_step(step: &Seg, out: &mut Vec<u8>) -> Result<(), NoMemory>
     ensures { OnOk result (out.new.items ≡ out.old.items ++ printed_step step.now) }
@@ -320,6 +327,7 @@ fn print_step(step: &Seg, out: &mut Vec<u8>) -> Result<(), NoMemory>
     }
 }
 
+/// Prints how often an iteration goes, as it stands behind what is repeated.
 #[cycle(print)]
 fn print_mark(count: &Count, out: &mut Vec<u8>) -> Result<(), NoMemory>
     ensures { OnOk result (out.new.items ≡ out.old.items ++ (printed_mark count.now).text) }

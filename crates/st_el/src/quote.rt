@@ -5,6 +5,7 @@ ghost use Rattle.st_scan.specs.Spelling.{escaped, quoted};
 
 use st_num::NoMemory;
 
+/// Appends a byte of a quoted text, with its escape where it has one.
 fn print_byte(byte: u8, out: &mut Vec<u8>) -> Result<(), NoMemory>
     ensures { OnOk result (out.new.items ≡ out.old.items ++ escaped byte) }
 {
@@ -18,6 +19,7 @@ fn print_byte(byte: u8, out: &mut Vec<u8>) -> Result<(), NoMemory>
     Ok(())
 }
 
+/// Appends the inside of a quoted text, with its escapes.
 fn print_bytes(text: &[u8], out: &mut Vec<u8>) -> Result<(), NoMemory>
     ensures { OnOk result (out.new.items ≡ out.old.items ++ flat_map escaped text.now) }
 {

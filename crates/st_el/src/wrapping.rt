@@ -22,7 +22,7 @@ fn level_of(node: &Node) -> u8
     }
 }
 
-/// What the mark of an iteration is to the part before it.
+/// What an iteration is to the part before it.
 pub fn behind_of(count: &Count) -> Behind
     ensures { result ≡ (printed_mark count.now).behind }
 {
@@ -60,6 +60,7 @@ fn has_bar(node: &Node) -> bool
     }
 }
 
+/// Whether a part begins with a bar where this is behind it.
 #[cycle(bar)]
 fn begins_with_bar(exp: &Exp, behind: Behind) -> bool
     ensures { result ≡ (printed exp.now).begins_with_bar behind }
@@ -85,6 +86,7 @@ fn is_count(node: &Node) -> bool
     matches!(node, Node::Number(_) | Node::Name(_) | Node::Arith(_))
 }
 
+/// Whether a part may stand in its context without parentheses.
 fn suits(node: &Node, context: Context) -> bool
     ensures { result ≡ suits context (opened node.now) }
 {
@@ -116,6 +118,7 @@ pub fn wrapping(node: &Node, context: Context) -> Wrapping
     }
 }
 
+/// Parentheses, unless the part suits its context.
 fn parens_unless(suits: bool) -> Wrapping
     ensures { result ≡ (if suits then Bare else Parens) }
 {

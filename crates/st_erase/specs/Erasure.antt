@@ -28,12 +28,15 @@ use Rattle.st_erase.specs.Tags.{template_of}
 
 -- ---- forms of source
 
+-- the source with this at its top, which is no arithmetic
 abbrev pub plain_form : Node → Erased
 plain_form n = record { exp = exp n; kind = kind.Plain }
 
+-- the source with a sign of arithmetic at its top
 abbrev pub arithmetic : Node → Erased
 arithmetic n = record { exp = exp n; kind = kind.Arithmetic }
 
+-- the source of a part that was left out
 abbrev pub absent : Erased
 absent = record { exp = exp node.Eps; kind = kind.Absent }
 
@@ -47,6 +50,7 @@ operation sign left right = arithmetic (node.Binary left.exp sign right.exp)
 
 -- ---- lists
 
+-- a sequence or a sign of notation in parentheses, and any other expression as it is
 abbrev pub lifted_at : Exp → Node-F Count Node Seg Exp → Exp
 lifted_at e (Node-F.Seq parts) = exp (node.Paren e)
 lifted_at e (Node-F.Infix left sign right) = exp (node.Paren e)
@@ -62,10 +66,12 @@ pub data Item : Type 0 where
   one : Exp → Item
   all : Exp → Item
 
+-- the source of an item of a list
 abbrev pub source : Item → Exp
 source (one e) = e
 source (all e) = e
 
+-- the source of a list of these items
 abbrev pub list_of : List Item → Erased
 list_of [] = plain_form node.Eps
 list_of (one e ∷ []) = record { exp = lifted e; kind = kind.Plain }
@@ -75,16 +81,18 @@ list_of (item ∷ next ∷ items) =
 
 -- ---- records
 
+-- the value of a field where it is written: a part that was left out is not
 abbrev pub written : Kind → Exp → List Exp
 written kind.Absent e = []
 written kind.Plain e = e ∷ []
 written kind.Arithmetic e = e ∷ []
 written kind.Run e = e ∷ []
 
--- a part that was left out is not written
+-- a field of a record where it is written: a part that was left out is not
 abbrev pub field_by : List ℕ → Erased → List (List ℕ × Exp)
 field_by name x = map (λ (e : Exp). (name, e)) (written x.kind (whole x))
 
+-- the fields of a record that are written, with these names and values in order
 abbrev pub fields : List (List ℕ) → List Erased → List (List ℕ × Exp)
 fields [] xs = []
 fields (name ∷ names) [] = []
@@ -92,12 +100,13 @@ fields (name ∷ names) (x ∷ xs) = field_by name x ++ fields names xs
 
 -- ---- cases
 
--- What has no template is no tag, and nothing is written for it.
+-- the source of a case by the template of its tag; it is `eps` where there is none
 abbrev pub case_by : Option Template → List Erased → Erased
 case_by None xs = plain_form node.Eps
 case_by (Some t) xs = record { exp = filled t xs; kind = kind.Plain }
 
 module _ (defs : List IlDef) where
+  -- the source of an expression, where its parts are erased
   abbrev pub exp_at : IlExp-F Erased Count Item Seg → Erased
   exp_at (IlExp-F.Bool b) = plain_form (node.Bool b)
   exp_at (IlExp-F.Number n) = plain_form (node.Number n)
@@ -142,6 +151,7 @@ module _ (defs : List IlDef) where
   exp_at (IlExp-F.Up ty x) = x
   exp_at (IlExp-F.Iter k names x) = plain_form (node.Iter (whole x) k)
 
+  -- the source of how often an iteration goes, where its expression is erased
   abbrev pub iteration_at : Iteration-F Erased Count Item Seg → Count
   iteration_at Iteration-F.Star = times.Star
   iteration_at Iteration-F.Plus = times.Plus
@@ -149,10 +159,12 @@ module _ (defs : List IlDef) where
   iteration_at (Iteration-F.Times x) = times.Times (count x)
   iteration_at (Iteration-F.Below i x) = times.Below i (count x)
 
+  -- what an item of a list is, where its expression is erased
   abbrev pub item_at : ListItem-F Erased Count Item Seg → Item
   item_at (ListItem-F.One x) = one (whole x)
   item_at (ListItem-F.All x) = all (whole x)
 
+  -- the source of a step of a path, where its expressions are erased
   abbrev pub segment_at : PathSeg-F Erased Count Item Seg → Seg
   segment_at (PathSeg-F.Field f) = seg.Field f
   segment_at (PathSeg-F.PathSeg::At x) = seg.At (whole x)
@@ -162,12 +174,15 @@ module _ (defs : List IlDef) where
   abbrev pub erased : IlExp → Erased
   erased = fold-IlExp Erased Count Item Seg exp_at iteration_at item_at segment_at
 
+  -- the source of how often an iteration goes
   abbrev pub erased_iteration : Iteration → Count
   erased_iteration = fold-Iteration Erased Count Item Seg exp_at iteration_at item_at segment_at
 
+  -- what an item of a list is, with its source
   abbrev pub erased_item : ListItem → Item
   erased_item = fold-ListItem Erased Count Item Seg exp_at iteration_at item_at segment_at
 
+  -- the source of a step of a path
   abbrev pub erased_segment : PathSeg → Seg
   erased_segment = fold-PathSeg Erased Count Item Seg exp_at iteration_at item_at segment_at
 

@@ -15,38 +15,45 @@ use Rattle.st_erase.specs.declared.erased.Kind.TheVariants as kind
 abbrev pub exp : Node → Exp
 exp n = roll-Exp (record { at = nowhere; node = n })
 
+-- an expression, opened by one level
 abbrev pub opened : Exp → Node-F Count Node Seg Exp
 opened e = out-Node (out-Exp e).node
 
+-- an expression in `$( )`
 abbrev pub in_arithmetic : Exp → Exp
 in_arithmetic e = exp (node.Arith e)
 
+-- an expression of this kind where it is no operand of arithmetic
 abbrev pub whole_by : Kind → Exp → Exp
 whole_by kind.Plain e = e
 whole_by kind.Arithmetic e = in_arithmetic e
 whole_by kind.Run e = e
 whole_by kind.Absent e = e
 
--- Arithmetic stands in `$( )` where it is no operand of arithmetic.
+-- an expression where it is no operand of arithmetic: arithmetic stands in `$( )`
 abbrev pub whole : Erased → Exp
 whole x = whole_by x.kind x.exp
 
+-- a number or a variable as it is, and any other expression in `$( )`
 abbrev pub count_at : Exp → Node-F Count Node Seg Exp → Exp
 count_at e (Node-F.Number n) = e
 count_at e (Node-F.Name x) = e
 count_at e _ = in_arithmetic e
 
--- A count that is neither a number nor a variable stands in `$( )`.
+-- an expression as a count: what is neither a number nor a variable stands in `$( )`
 abbrev pub count : Erased → Exp
 count x = count_at x.exp (opened x.exp)
 
+-- the elements of a sequence, or the expression itself where it is none
 abbrev pub parts_at : Exp → Node-F Count Node Seg Exp → List Exp
 parts_at e (Node-F.Seq parts) = parts
 parts_at e _ = e ∷ []
 
+-- the elements of an expression; one that is no sequence is its one element
 abbrev pub parts_of : Exp → List Exp
 parts_of e = parts_at e (opened e)
 
+-- the elements that an expression of this kind is in a hole that takes a run
 abbrev pub run_by : Kind → Exp → List Exp
 run_by kind.Plain e = e ∷ []
 run_by kind.Arithmetic e = in_arithmetic e ∷ []

@@ -14,6 +14,7 @@ use st_num::{Boxed, Name, NoMemory, Row, Span};
 use st_scan::{Token, TokenKind};
 use std::alloc::Global;
 
+/// The fields of a record, with their types as they are written.
 fn fields(alloc: Global, fields: &[(Name, Ty)]) -> Result<Row<(Name, Typ)>, NoMemory>
     ensures { IfOk result (λ found. found ≡ map erased_field fields.now) }
 {
@@ -25,6 +26,7 @@ fn fields(alloc: Global, fields: &[(Name, Ty)]) -> Result<Row<(Name, Typ)>, NoMe
     Ok(found)
 }
 
+/// The alternative as it is written: the notation of a case, or the name of what it includes.
 fn erased_alternative(alloc: Global, alternative: &Alternative) -> Result<Notation, NoMemory>
     ensures { IfOk result (λ found. found ≡ erased_alternative alternative.now) }
 {
@@ -37,6 +39,7 @@ fn erased_alternative(alloc: Global, alternative: &Alternative) -> Result<Notati
     }
 }
 
+/// The alternatives of a variant as they are written.
 fn alternatives(alloc: Global, alternatives: &[Alternative]) -> Result<Row<Notation>, NoMemory>
     ensures { IfOk result (λ found. found ≡ map erased_alternative alternatives.now) }
 {
@@ -47,6 +50,7 @@ fn alternatives(alloc: Global, alternatives: &[Alternative]) -> Result<Row<Notat
     Ok(found)
 }
 
+/// The body of a syntax as it is written.
 fn erased_body(alloc: Global, body: &SyntaxBody) -> Result<Body, NoMemory>
     ensures { IfOk result (λ found. found ≡ erased_body body.now) }
 {
@@ -77,6 +81,7 @@ fn mode_word(alloc: Global, input: bool) -> Result<Token, NoMemory>
     })
 }
 
+/// The words of a hint of a mode, one for each hole.
 fn mode_words(alloc: Global, mode: &[bool]) -> Result<Row<Token>, NoMemory>
     ensures { IfOk result (λ found. found ≡ map mode_word mode.now) }
 {
@@ -128,6 +133,7 @@ fn judgement(eraser: &Eraser, name: &Name, exps: &Row<IlExp>) -> Result<Exp, NoM
     judged(eraser.alloc, tag, operands)
 }
 
+/// The judgement of a relation with this tag.
 fn judged(alloc: Global, tag: &Name, operands: Row<Erased>) -> Result<Exp, NoMemory>
     ensures { IfOk result (λ found. found ≡ judged (Some tag.now) operands) }
 {
@@ -145,6 +151,7 @@ fn prem(node: PremNode) -> Prem
     }
 }
 
+/// The premise as it is written.
 #[cycle(prem)]
 fn erased_prem(eraser: &Eraser, premise: &IlPrem) -> Result<Prem, NoMemory>
     ensures { IfOk result (λ found. found ≡ erased_prem eraser.now.defs.now premise.now) }
@@ -165,6 +172,7 @@ fn erased_prem(eraser: &Eraser, premise: &IlPrem) -> Result<Prem, NoMemory>
     }
 }
 
+/// The premises as they are written, in order.
 fn erased_prems(eraser: &Eraser, premises: &[IlPrem]) -> Result<Row<Prem>, NoMemory>
     ensures { IfOk result
         (λ found. found ≡ map (erased_prem eraser.now.defs.now) premises.now) }
@@ -176,6 +184,7 @@ fn erased_prems(eraser: &Eraser, premises: &[IlPrem]) -> Result<Row<Prem>, NoMem
     Ok(found)
 }
 
+/// The rule as it is written.
 fn erased_rule(eraser: &Eraser, rule: &RuleDef) -> Result<DefNode, NoMemory>
     ensures { IfOk result (λ found. found ≡ erased_rule eraser.now.defs.now rule.now) }
 {
@@ -187,6 +196,7 @@ fn erased_rule(eraser: &Eraser, rule: &RuleDef) -> Result<DefNode, NoMemory>
     })
 }
 
+/// The clause of a function as it is written.
 fn erased_clause(eraser: &Eraser, clause: &ClauseDef) -> Result<DefNode, NoMemory>
     ensures { IfOk result (λ found. found ≡ erased_clause eraser.now.defs.now clause.now) }
 {
@@ -198,6 +208,7 @@ fn erased_clause(eraser: &Eraser, clause: &ClauseDef) -> Result<DefNode, NoMemor
     })
 }
 
+/// What the definition is, as it is written.
 fn erased_node(eraser: &Eraser, def: &IlDef) -> Result<DefNode, NoMemory>
     ensures { IfOk result (λ found. found ≡ erased_node eraser.now.defs.now def.now) }
 {
@@ -226,6 +237,7 @@ fn erased_node(eraser: &Eraser, def: &IlDef) -> Result<DefNode, NoMemory>
     }
 }
 
+/// The hints of a definition: the mode of a relation.
 fn erased_hints(alloc: Global, def: &IlDef) -> Result<Row<Hint>, NoMemory>
     ensures { IfOk result (λ found. found ≡ hints_of def.now) }
 {
@@ -235,6 +247,7 @@ fn erased_hints(alloc: Global, def: &IlDef) -> Result<Row<Hint>, NoMemory>
     }
 }
 
+/// The definition as it is written.
 pub fn erased_def(eraser: &Eraser, def: &IlDef) -> Result<Def, NoMemory>
     ensures { IfOk result (λ found. found ≡ erased_def eraser.now.defs.now def.now) }
 {

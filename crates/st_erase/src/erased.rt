@@ -75,6 +75,7 @@ fn elements(alloc: Global, exp: Exp) -> Result<Row<Exp>, NoMemory>
     }
 }
 
+/// The expression in `$( )`.
 fn in_arithmetic(alloc: Global, exp: Exp) -> Result<Exp, NoMemory>
     ensures { IfOk result (λ whole. whole ≡ in_arithmetic exp) }
 {

@@ -27,7 +27,7 @@ pub struct Eraser<'a> {
 }
 
 impl<'a> Eraser<'a> {
-    /// What an expression is to the place where it stands.
+    /// The source of an expression, and what it is to the place where it stands.
     #[cycle(erase)]
     pub fn erased(&self, exp: &IlExp) -> Result<Erased, NoMemory>
         ensures { IfOk result (λ found. found ≡ erased self.now.defs.now exp.now) }
@@ -82,6 +82,7 @@ impl<'a> Eraser<'a> {
         self.erased(exp)?.whole(self.alloc)
     }
 
+    /// The source of an expression that is no operand of arithmetic, in a box of its own.
     #[cycle(erase)]
     fn side(&self, exp: &Boxed<IlExp>) -> Result<Boxed<Exp>, NoMemory>
         ensures { IfOk result (λ found. found ≡ whole (erased self.now.defs.now exp.now)) }
@@ -99,6 +100,7 @@ impl<'a> Eraser<'a> {
         Boxed::new(self.alloc, found)
     }
 
+    /// The expressions erased, in order.
     #[cycle(erase)]
     pub fn all(&self, exps: &Row<IlExp>) -> Result<Row<Erased>, NoMemory>
         ensures { IfOk result (λ found. found ≡ map (erased self.now.defs.now) exps.now) }
@@ -110,6 +112,7 @@ impl<'a> Eraser<'a> {
         Ok(found)
     }
 
+    /// The sources of expressions that are no operands of arithmetic, in order.
     #[cycle(erase)]
     pub fn wholes(&self, exps: &Row<IlExp>) -> Result<Row<Exp>, NoMemory>
         ensures { IfOk result
@@ -122,6 +125,7 @@ impl<'a> Eraser<'a> {
         Ok(found)
     }
 
+    /// The source of a path.
     #[cycle(erase)]
     fn path(&self, path: &Row<PathSeg>) -> Result<Row<Seg>, NoMemory>
         ensures { IfOk result
@@ -134,6 +138,7 @@ impl<'a> Eraser<'a> {
         Ok(found)
     }
 
+    /// The source of a step of a path.
     #[cycle(erase)]
     fn segment(&self, segment: &PathSeg) -> Result<Seg, NoMemory>
         ensures { IfOk result (λ found. found ≡ erased_segment self.now.defs.now segment.now) }
@@ -148,6 +153,7 @@ impl<'a> Eraser<'a> {
         }
     }
 
+    /// The source of a list of these items.
     #[cycle(erase)]
     fn list(&self, items: &[ListItem]) -> Result<Erased, NoMemory>
         ensures { IfOk result
@@ -193,6 +199,7 @@ impl<'a> Eraser<'a> {
         Ok(found)
     }
 
+    /// The source of an item of a list.
     #[cycle(erase)]
     fn item_source(&self, item: &ListItem) -> Result<Exp, NoMemory>
         ensures { IfOk result (λ found. found ≡ source (erased_item self.now.defs.now item.now)) }
@@ -203,7 +210,7 @@ impl<'a> Eraser<'a> {
         }
     }
 
-    /// How often an iteration goes.
+    /// The source of how often an iteration goes.
     #[cycle(erase)]
     pub fn iteration(&self, iteration: &Iteration) -> Result<Count, NoMemory>
         ensures { IfOk result (λ found. found ≡ erased_iteration self.now.defs.now iteration.now) }
@@ -220,6 +227,7 @@ impl<'a> Eraser<'a> {
         }
     }
 
+    /// The source of the count of an iteration.
     #[cycle(erase)]
     fn count(&self, times: &Boxed<IlExp>) -> Result<Boxed<Exp>, NoMemory>
         ensures { IfOk result (λ found. found ≡ count (erased self.now.defs.now times.now)) }

@@ -20,6 +20,7 @@ pub fn filled(alloc: Global, template: &Template, operands: Row<Erased>) -> Resu
     Ok(exp)
 }
 
+/// How the template is written with the first operands; those that it takes are taken off.
 #[cycle(fill)]
 fn write(
     alloc: Global,
@@ -50,6 +51,7 @@ fn write(
     }
 }
 
+/// How the template is written with the first operands, in a box of its own.
 #[cycle(fill)]
 fn write_boxed(
     alloc: Global,
@@ -126,6 +128,7 @@ fn write_run(alloc: Global, operands: &mut VecDeque<Erased>) -> Result<Row<Exp>,
     }
 }
 
+/// Whether the template is a hole.
 fn is_hole(template: &Template) -> bool
     ensures { result ≡ (part_of template.now).is_hole }
 {
@@ -135,6 +138,7 @@ fn is_hole(template: &Template) -> bool
     }
 }
 
+/// Whether the template is an atom.
 fn is_atom(template: &Template) -> bool
     ensures { result ≡ (part_of template.now).is_atom }
 {

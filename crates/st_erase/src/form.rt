@@ -22,6 +22,7 @@ pub fn unplaced(node: Node) -> Exp
     }
 }
 
+/// The source with this at its top, which is no arithmetic.
 pub fn plain_form(node: Node) -> Erased
     ensures { result ≡ plain_form node }
 {
@@ -31,6 +32,7 @@ pub fn plain_form(node: Node) -> Erased
     }
 }
 
+/// The source with a sign of arithmetic at its top.
 pub fn arithmetic(node: Node) -> Erased
     ensures { result ≡ arithmetic node }
 {
@@ -54,49 +56,56 @@ pub fn operation(left: Boxed<Exp>, sign: Mark, right: Boxed<Exp>) -> Erased
     arithmetic(Node::Binary(left, sign, right))
 }
 
+/// The source of a field of a record.
 pub fn dot(value: Boxed<Exp>, field: Name) -> Erased
     ensures { result ≡ plain_form (node.Dot value field) }
 {
     plain_form(Node::Dot(value, field))
 }
 
+/// The source of an update: the whole with its part at the path replaced.
 pub fn update(whole: Boxed<Exp>, path: Row<Seg>, part: Boxed<Exp>) -> Erased
     ensures { result ≡ plain_form (node.Update whole path part) }
 {
     plain_form(Node::Update(whole, path, part))
 }
 
+/// The source of an extension: the whole with a list behind the one at the path.
 pub fn extension(whole: Boxed<Exp>, path: Row<Seg>, part: Boxed<Exp>) -> Erased
     ensures { result ≡ plain_form (node.Extend whole path part) }
 {
     plain_form(Node::Extend(whole, path, part))
 }
 
+/// The source of the element of a list at a position.
 pub fn at(list: Boxed<Exp>, position: Boxed<Exp>) -> Erased
     ensures { result ≡ plain_form (node.At list position) }
 {
     plain_form(Node::At(list, position))
 }
 
+/// The source of so many elements of a list, from a position on.
 pub fn slice(list: Boxed<Exp>, from: Boxed<Exp>, length: Boxed<Exp>) -> Erased
     ensures { result ≡ plain_form (node.Slice list from length) }
 {
     plain_form(Node::Slice(list, from, length))
 }
 
+/// The source of a call of the function of this name.
 pub fn call(name: Name, arguments: Row<Exp>) -> Erased
     ensures { result ≡ plain_form (node.Call name arguments) }
 {
     plain_form(Node::Call(name, arguments))
 }
 
+/// The source of an iteration of this body.
 pub fn iterated(body: Boxed<Exp>, count: Count) -> Erased
     ensures { result ≡ plain_form (node.Iter body count) }
 {
     plain_form(Node::Iter(body, count))
 }
 
-/// What was left out.
+/// The source of a part that was left out.
 pub fn absent() -> Erased
     ensures { result ≡ absent }
 {
@@ -106,7 +115,7 @@ pub fn absent() -> Erased
     }
 }
 
-/// The element of a one-element list or option.
+/// The element of a one-element list or option, in parentheses where it needs them.
 pub fn lifted(alloc: Global, element: Exp) -> Result<Exp, NoMemory>
     ensures { IfOk result (λ lift. lift ≡ lifted element) }
 {
@@ -119,7 +128,7 @@ pub fn lifted(alloc: Global, element: Exp) -> Result<Exp, NoMemory>
     }
 }
 
-/// These elements. One stands by itself.
+/// A sequence of these elements. One stands by itself.
 pub fn sequence(mut elements: Row<Exp>) -> Exp
     ensures { result ≡ sequence elements }
 {

@@ -31,6 +31,7 @@ pub fn notation(node: NotNode) -> Notation
     }
 }
 
+/// The type as it is written.
 #[cycle(ty)]
 pub fn erased_ty(alloc: Global, ty: &Ty) -> Result<Typ, NoMemory>
     ensures { IfOk result (λ found. found ≡ erased_ty ty.now) }
@@ -47,6 +48,7 @@ pub fn erased_ty(alloc: Global, ty: &Ty) -> Result<Typ, NoMemory>
     }
 }
 
+/// The type as it is written, in a box of its own.
 #[cycle(ty)]
 fn boxed_ty(alloc: Global, ty: &Boxed<Ty>) -> Result<Boxed<Typ>, NoMemory>
     ensures { IfOk result (λ found. found ≡ erased_ty ty.now) }
@@ -55,6 +57,7 @@ fn boxed_ty(alloc: Global, ty: &Boxed<Ty>) -> Result<Boxed<Typ>, NoMemory>
     Boxed::new(alloc, found)
 }
 
+/// The types as they are written, in order.
 #[cycle(ty)]
 pub fn erased_tys(alloc: Global, tys: &Row<Ty>) -> Result<Row<Typ>, NoMemory>
     ensures { IfOk result (λ found. found ≡ map erased_ty tys.now) }
@@ -75,6 +78,7 @@ pub fn notation_of(alloc: Global, tag: &Name, tys: &Row<Ty>) -> Result<Notation,
     Ok(found)
 }
 
+/// The notation of a tag, with these types in its holes; it is empty where the tag is none.
 fn noted(alloc: Global, tag: &Name, typs: Row<Typ>) -> Result<Notation, NoMemory>
     ensures { IfOk result (λ found. found ≡ note_by (template_of tag.now) typs) }
 {
@@ -94,6 +98,7 @@ fn next(typs: &mut VecDeque<Typ>) -> Option<Typ>
     typs.pop_front()
 }
 
+/// The template as a notation with the first types; those that it takes are taken off.
 #[cycle(note)]
 fn note(alloc: Global, template: &Template, typs: &mut VecDeque<Typ>) -> Result<Notation, NoMemory>
     ensures out { IfOk result (λ found. found ≡ (note_of template.now typs.old.items).out) }
@@ -115,6 +120,7 @@ fn note(alloc: Global, template: &Template, typs: &mut VecDeque<Typ>) -> Result<
     }
 }
 
+/// The template as a notation with the first types, in a box of its own.
 #[cycle(note)]
 fn note_boxed(
     alloc: Global,
@@ -128,6 +134,7 @@ fn note_boxed(
     Boxed::new(alloc, found)
 }
 
+/// The parts of a sequence as notations with the first types, from left to right.
 #[cycle(note)]
 fn note_parts(
     alloc: Global,

@@ -75,6 +75,7 @@ pub fn record(
     Ok(plain_form(Node::Fields(written)))
 }
 
+/// The fields of a record that are written, with these names and values in order.
 fn written_fields(
     alloc: Global,
     names: &[(Name, Ty)],

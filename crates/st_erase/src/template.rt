@@ -7,6 +7,7 @@ use st_il::Template;
 use st_num::{Name, NoMemory};
 use std::alloc::Global;
 
+/// The template that has this tag, where one has.
 pub fn template_of(alloc: Global, tag: &Name) -> Result<Option<Template>, NoMemory>
     ensures { IfOk result (λ found. found ≡ template_of tag.now) }
 {

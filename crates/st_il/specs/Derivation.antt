@@ -18,7 +18,7 @@ use Rattle.st_il.specs.declared.value.Value.{Value}
 use Rattle.st_il.specs.Evaluation.{Meaning, HasValue, HaveValues}
 use Rattle.st_il.specs.Holding.{Holds}
 
--- the relations, in order
+-- the relations of a specification, in order
 abbrev pub relations : List IlDef → List RelationDef
 relations [] = []
 relations (Relation relation ∷ defs) = relation ∷ relations defs
@@ -53,6 +53,7 @@ pub record Root : Type 0 where
   pub rule : ℕ
   pub inputs : List Value
 
+-- the root of a tree: its relation, its rule and the values of its input holes
 abbrev pub root_of : Tree → Root
 root_of tree = record { relation = tree.relation; rule = tree.rule; inputs = inputs_of tree.values }
 
@@ -74,12 +75,15 @@ mutual
   -- and these children stand for those that cite a relation, in order.
   pub data Proved (il : Il) (V : Meaning) (O : Exclusion) : Root → Env → List IlPrem → List Child
       → Type 0 where
+    -- no premise is left
     done : {root : Root} {env : Env} → Proved il V O root env [] []
+    -- the next premise cites no relation, and has no child
     plain : {root : Root} {env : Env} {premise : IlPrem} {premises : List IlPrem}
         {children : List Child}
         → Holds V (O root) env premise
         → Proved il V O root env premises children
         → Proved il V O root env (premise ∷ premises) children
+    -- the next premise cites a relation, and the first child derives it
     goal : {root : Root} {env : Env} {premise : IlPrem} {premises : List IlPrem} {child : Child}
         {children : List Child}
         (name : List ℕ) (exps : List IlExp) (below : Tree)
@@ -93,6 +97,7 @@ mutual
 abbrev pub undecided : Exclusion
 undecided = λ root. ⊥
 
+-- a tree is valid in an internal language
 abbrev pub IsValid : Il → Tree → Type 0
 IsValid il tree = Valid il HasValue undecided tree
 

@@ -20,6 +20,7 @@ height_at (Value-F.List parts) = 1 + highest parts
 height_at (Value-F.Opt None) = 1
 height_at (Value-F.Opt (Some part)) = 1 + part
 
+-- the height of a value
 abbrev pub height : Value → ℕ
 height = fold-Value ℕ height_at
 

@@ -24,6 +24,7 @@ role_of CloseBracket = Closes Brackets
 role_of CloseBrace = Closes Braces
 role_of sign = if is_notation sign then Divides (level sign) else Other
 
+-- a sign of this role stands in notations
 abbrev pub is_role : Role → Bool
 is_role Other = false
 is_role _ = true
@@ -38,6 +39,7 @@ closing_of Parens = CloseParen
 closing_of Brackets = CloseBracket
 closing_of Braces = CloseBrace
 
+-- the bracket that closes what a sign of this role opens
 abbrev pub closing_by : Mark → Role → Mark
 closing_by sign (Opens enclosure) = closing_of enclosure
 closing_by sign _ = sign
@@ -58,7 +60,7 @@ IsUpName [] = ⊥
 IsUpName (byte ∷ bytes) =
     IsTrue (is_ascii_uppercase byte) × AllByRecursion (λ b. IsTrue (is_name_byte b)) bytes
 
--- such a name, or several joined by dots, as LOCAL.GET
+-- a name of capitals, or several joined by dots, as LOCAL.GET
 pub data IsAtom : List ℕ → Type 0 where
   single : {atom : List ℕ} → IsUpName atom → IsAtom atom
   dotted : {atom : List ℕ} (first rest : List ℕ) → atom ≡ first ++ 46 ∷ rest → IsUpName first
@@ -75,9 +77,11 @@ mutual
         → IsNotation 7 inside → IsNotation n t
     sequence : {n : ℕ} {t : Template} (parts : List Template)
         → n ≤ 14 → t ≡ template.Seq parts → AreElements parts → 2 ≤ length parts → IsNotation n t
+    -- two sides of a sign
     divided : {n : ℕ} {t : Template} (level : ℕ) (left : Template) (sign : Mark) (right : Template)
         → n ≤ level → t ≡ template.Infix left sign right → role_of sign ≡ Divides level
         → IsNotation (left_of level) left → IsNotation (right_of level) right → IsNotation n t
+    -- a sign whose left side is absent
     without_left : {n : ℕ} {t : Template} (right : Template)
         → n ≤ 7 → t ≡ template.Infix (template.Seq []) Turnstile right → IsNotation 8 right
         → IsNotation n t

@@ -15,9 +15,11 @@ pub record Counted : Type 0 where
   pub is_index : Bool
   pub in_count : Bool
 
+-- the name occurs in one of several parts
 abbrev pub in_any : List Bool → Bool
 in_any parts = list_any (λ (part : Bool). part) parts
 
+-- the name occurs in a level, of whose parts it is known whether it occurs in them
 abbrev pub occurs_at : List ℕ → IlExp-F Bool Counted Bool Bool → Bool
 occurs_at name (IlExp-F.Bool truth) = false
 occurs_at name (IlExp-F.Number n) = false
@@ -61,6 +63,7 @@ occurs_at name (IlExp-F.Call f xs) = in_any xs
 occurs_at name (IlExp-F.Up t x) = x
 occurs_at name (IlExp-F.Iter k names x) = k.in_count || not k.is_index && x
 
+-- whether the name is the index of an iteration, and whether it occurs in its count
 abbrev pub occurs_count_at : List ℕ → Iteration-F Bool Counted Bool Bool → Counted
 occurs_count_at name Iteration-F.Star = record { is_index = false; in_count = false }
 occurs_count_at name Iteration-F.Plus = record { is_index = false; in_count = false }
@@ -69,10 +72,12 @@ occurs_count_at name (Iteration-F.Times x) = record { is_index = false; in_count
 occurs_count_at name (Iteration-F.Below index x) =
     record { is_index = same_name name index; in_count = x }
 
+-- the name occurs in a part of a list, by what is known of its expression
 abbrev pub occurs_item_at : ListItem-F Bool Counted Bool Bool → Bool
 occurs_item_at (ListItem-F.One x) = x
 occurs_item_at (ListItem-F.All x) = x
 
+-- the name occurs in a step of a path, by what is known of its expressions
 abbrev pub occurs_step_at : PathSeg-F Bool Counted Bool Bool → Bool
 occurs_step_at (PathSeg-F.Field field) = false
 occurs_step_at (PathSeg-F.PathSeg::At x) = x
@@ -84,16 +89,19 @@ occurs name =
     fold-IlExp Bool Counted Bool Bool
     (occurs_at name) (occurs_count_at name) occurs_item_at occurs_step_at
 
+-- whether the name is the index of an iteration, and whether it occurs in its count
 abbrev pub occurs_in_count : List ℕ → Iteration → Counted
 occurs_in_count name =
     fold-Iteration Bool Counted Bool Bool
     (occurs_at name) (occurs_count_at name) occurs_item_at occurs_step_at
 
+-- the name occurs in a part of a list
 abbrev pub occurs_in_item : List ℕ → ListItem → Bool
 occurs_in_item name =
     fold-ListItem Bool Counted Bool Bool
     (occurs_at name) (occurs_count_at name) occurs_item_at occurs_step_at
 
+-- the name occurs in a step of a path
 abbrev pub occurs_in_step : List ℕ → PathSeg → Bool
 occurs_in_step name =
     fold-PathSeg Bool Counted Bool Bool
@@ -101,6 +109,7 @@ occurs_in_step name =
 
 -- ---- premises
 
+-- the name occurs in a premise, by what is known of the premise that it repeats
 abbrev pub occurs_prem_at : List ℕ → IlPrem-F Bool → Bool
 occurs_prem_at name (IlPrem-F.If x) = occurs name x
 occurs_prem_at name (IlPrem-F.Goal relation xs) = in_any (map (occurs name) xs)

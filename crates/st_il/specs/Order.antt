@@ -8,7 +8,7 @@ use Rattle.std.specs.declared.cmp.Ordering.TheVariants.{Less as Below, Equal, Gr
 use Rattle.st_il.specs.declared.value.Value.{Value, out-Value, fold-Value}
 use Rattle.st_il.specs.declared.value.Value.TheOpen.{Value-F}
 
--- the place of a value's kind among the kinds
+-- the number of a value's kind, by which kinds are ordered
 abbrev pub kind_of : {X : Type 0} → Value-F X → ℕ
 kind_of (Value-F.Bool b) = 0
 kind_of (Value-F.Num n) = 1
@@ -19,23 +19,24 @@ kind_of (Value-F.Tuple parts) = 5
 kind_of (Value-F.List parts) = 6
 kind_of (Value-F.Opt part) = 7
 
--- texts and tags, by their bytes; of two of which one begins the other the shorter is first
+-- the order of texts and tags, by their bytes; of two of which one begins the other the shorter is
+-- first
 abbrev pub text_cmp : List ℕ → List ℕ → Ordering
 text_cmp = slice_cmp nat_cmp
 
 module _ {X : Type 0} (part_cmp : X → Value → Ordering) where
-  -- fields, by name and then by value
+  -- the order of two fields, by name and then by value
   abbrev pub field_cmp : List ℕ × X → List ℕ × Value → Ordering
   field_cmp field other = ordering_then (text_cmp field.0 other.0) (part_cmp field.1 other.1)
 
-  -- options; the empty one is first
+  -- the order of two options; the empty one is first
   abbrev pub option_cmp : Option X → Option Value → Ordering
   option_cmp None None = Equal
   option_cmp None (Some other) = Below
   option_cmp (Some part) None = Greater
   option_cmp (Some part) (Some other) = part_cmp part other
 
-  -- values, where `part_cmp` compares their parts
+  -- the order of two values, where `part_cmp` compares their parts
   abbrev pub level_cmp : Value-F X → Value-F Value → Ordering
   level_cmp (Value-F.Bool truth) (Value-F.Bool other) = bool_cmp truth other
   level_cmp (Value-F.Num number) (Value-F.Num other) = int_cmp number other
@@ -52,24 +53,27 @@ module _ {X : Type 0} (part_cmp : X → Value → Ordering) where
 abbrev pub Compares : Type 0
 Compares = Value → Ordering
 
+-- a level whose parts can be compared with other values is compared with one
 abbrev pub compare_at : Value-F Compares → Compares
 compare_at level other = level_cmp (λ part. part) level (out-Value other)
 
+-- the order of values
 abbrev pub value_cmp : Value → Value → Ordering
 value_cmp = fold-Value Compares compare_at
 
--- lists of values: the first pair that is not equal decides, and else the lengths do
+-- the order of lists of values: the first pair that is not equal decides, and else the lengths do
 abbrev pub values_cmp : List Value → List Value → Ordering
 values_cmp = slice_cmp value_cmp
 
--- lists of fields, likewise
+-- the order of lists of fields, likewise
 abbrev pub fields_cmp : List (List ℕ × Value) → List (List ℕ × Value) → Ordering
 fields_cmp = slice_cmp (field_cmp value_cmp)
 
+-- a value stands before another
 abbrev pub Less : Value → Value → Type 0
 Less a b = value_cmp a b ≡ Below
 
--- it is a total order, and answers Equal exactly at equal values
+-- the comparison is a total order, and answers Equal exactly at equal values
 pub record IsOrder {A : Type 0} (compares : A → A → Ordering) : Type 0 where
   pub total : IsTotalOrder compares
   pub equal : (a b : A) → (compares a b ≡ Equal) ↔ (a ≡ b)

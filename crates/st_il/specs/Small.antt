@@ -16,13 +16,15 @@ use Rattle.st_il.specs.declared.small.Small.{Small}
 use Rattle.st_il.specs.declared.small.SmallRule.{SmallRule}
 use Rattle.st_il.specs.declared.ty.Ty.TheVariants.{Name}
 
--- words of letters of one case
+-- a lower-case letter
 abbrev pub IsLower : ℕ → Type 0
 IsLower letter = (97 ≤ letter) × (letter ≤ 122)
 
+-- a capital letter
 abbrev pub IsUpper : ℕ → Type 0
 IsUpper letter = (65 ≤ letter) × (letter ≤ 90)
 
+-- a word of one or more letters of this kind
 abbrev pub IsWordOf : (ℕ → Type 0) → List ℕ → Type 0
 IsWordOf IsLetter word = (word ≢ []) × All IsLetter word
 
@@ -30,10 +32,11 @@ IsWordOf IsLetter word = (word ≢ []) × All IsLetter word
 abbrev pub reserved : List (List ℕ)
 reserved = map word_spelling ALL
 
--- no two of them are equal
+-- no two names are equal
 abbrev pub AreDistinct : List (List ℕ) → Type 0
 AreDistinct names = AllPairs (λ one other. one ≢ other) names
 
+-- the names of rules, in order
 abbrev pub rule_names : List SmallRule → List (List ℕ)
 rule_names rules = map (λ rule. rule.name) rules
 
@@ -56,10 +59,11 @@ pub record IsSmall (s : Small) : Type 0 where
   pub few_rules : length s.rules ≤ MOST_DEFINITIONS - 2
   pub distinct_rules : AreDistinct (rule_names s.rules)
 
--- its internal language: the syntax, the relation and the rules
+-- an atom as an expression: a case without operands
 abbrev pub atom_exp : List ℕ → List ℕ → IlExp
 atom_exp syntax atom = Case syntax atom []
 
+-- a rule from an atom to an atom, without variables and premises
 abbrev pub rule_def : List ℕ → List ℕ → SmallRule → IlDef
 rule_def relation syntax rule =
     Rule (record {
@@ -70,15 +74,18 @@ rule_def relation syntax rule =
       premises = [];
     })
 
+-- the syntax, with a case without operands for each atom
 abbrev pub syntax_def : List ℕ → List (List ℕ) → IlDef
 syntax_def syntax atoms =
     Syntax (record { name = syntax; body = Variant (map (λ atom. CaseAlternative atom []) atoms) })
 
+-- the relation between two values of the syntax, which is written with `~>`
 abbrev pub relation_def : List ℕ → List ℕ → IlDef
 relation_def relation syntax =
     Relation (record
     { name = relation; tag = codes "% ~> %"; holes = Name syntax ∷ Name syntax ∷ []; mode = [] })
 
+-- the internal language of a small specification: the syntax, the relation and the rules
 abbrev pub il_of : Small → Il
 il_of s =
     record {

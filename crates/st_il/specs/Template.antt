@@ -19,6 +19,7 @@ template_height_at (Template-F.Seq parts) = 1 + highest parts
 template_height_at (Template-F.Infix left sign right) = 1 + max left right
 template_height_at (Template-F.Bracket opening inside) = 1 + inside
 
+-- the height of a template: 1 without parts, else 1 more than its highest part
 abbrev pub template_height : Template → ℕ
 template_height = fold-Template ℕ template_height_at
 
@@ -42,7 +43,7 @@ tag_parts_at (Template-F.Bracket opening inside) =
 abbrev pub tag_parts_of : Template → List TagPart
 tag_parts_of = fold-Template (List TagPart) tag_parts_at
 
--- how a part is written; a hole is `%`
+-- how a part of a tag is written; a hole is `%`
 abbrev pub written : TagPart → List ℕ
 written tag_part.Hole = codes "%"
 written (tag_part.Atom name) = name

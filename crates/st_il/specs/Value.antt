@@ -7,6 +7,7 @@ use Rattle.st_il.specs.declared.value.Value.{Value, fold-Value}
 use Rattle.st_il.specs.declared.value.Value.TheOpen.{Value-F}
 use Rattle.st_il.specs.Height.{height}
 
+-- the texts in several parts, those of one part behind those of another
 abbrev pub joined : List (List (List ℕ)) → List (List ℕ)
 joined = flat_map (λ texts. texts)
 
@@ -30,6 +31,7 @@ texts_at (Value-F.Opt (Some part)) = part
 abbrev pub texts_of : Value → List (List ℕ)
 texts_of = fold-Value (List (List ℕ)) texts_at
 
+-- a value is not too high, and its texts, tags and field names are texts
 pub record IsValue (value : Value) : Type 0 where
   pub height : height value ≤ HIGHEST_VALUE
   pub texts : All IsText (texts_of value)

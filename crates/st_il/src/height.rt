@@ -24,6 +24,7 @@ pub fn is_within_height(value: &Value, limit: u32) -> bool
     }
 }
 
+/// Whether no part is higher than this.
 #[cycle(height)]
 fn parts_are_within(parts: &[Value], limit: u32) -> bool
     ensures { result ≡ nat_le (highest (map height parts.now)) limit }
@@ -36,6 +37,7 @@ fn parts_are_within(parts: &[Value], limit: u32) -> bool
     true
 }
 
+/// Whether no field has a value higher than this.
 #[cycle(height)]
 fn fields_are_within(fields: &[(Name, Value)], limit: u32) -> bool
     ensures { result ≡ nat_le (highest (field_heights fields.now)) limit }

@@ -31,6 +31,7 @@ pub fn key_of<'a>(template: &'a Template) -> Key<'a>
     }
 }
 
+/// The key of an element of a sequence.
 fn key_of_element<'a>(element: &'a Template) -> Key<'a>
     ensures { plain result ≡ element_key (out-Template element.now) }
 {

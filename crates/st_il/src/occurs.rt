@@ -81,6 +81,7 @@ fn any_has(parts: &[IlExp], name: &Name) -> bool
     false
 }
 
+/// Whether the name occurs in one of the parts of a list.
 #[cycle(occurs)]
 fn any_item_has(items: &[ListItem], name: &Name) -> bool
     ensures { result ≡ in_any (map (occurs_in_item name.now) items.now) }
@@ -93,6 +94,7 @@ fn any_item_has(items: &[ListItem], name: &Name) -> bool
     false
 }
 
+/// Whether the name occurs in this part of a list.
 #[cycle(occurs)]
 fn item_has(item: &ListItem, name: &Name) -> bool
     ensures { result ≡ occurs_in_item name.now item.now }
@@ -102,6 +104,7 @@ fn item_has(item: &ListItem, name: &Name) -> bool
     }
 }
 
+/// Whether the name occurs in one of the steps of a path.
 #[cycle(occurs)]
 fn any_step_has(path: &[PathSeg], name: &Name) -> bool
     ensures { result ≡ in_any (map (occurs_in_step name.now) path.now) }
@@ -114,6 +117,7 @@ fn any_step_has(path: &[PathSeg], name: &Name) -> bool
     false
 }
 
+/// Whether the name occurs in this step of a path.
 #[cycle(occurs)]
 fn step_has(step: &PathSeg, name: &Name) -> bool
     ensures { result ≡ occurs_in_step name.now step.now }

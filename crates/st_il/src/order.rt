@@ -26,6 +26,7 @@ pub fn compare_values(a: &[Value], b: &[Value]) -> Ordering
     compare_parts(a, b)
 }
 
+/// How the first value is ordered to the second.
 #[cycle(compare)]
 fn compare_value(a: &Value, b: &Value) -> Ordering
     ensures { result ≡ value_cmp a.now b.now }
@@ -57,6 +58,7 @@ fn compare_value(a: &Value, b: &Value) -> Ordering
     }
 }
 
+/// How two lists of values are ordered: by the first that differ, or else by their lengths.
 #[cycle(compare)]
 fn compare_parts(parts: &[Value], others: &[Value]) -> Ordering
     ensures { result ≡ values_cmp parts.now others.now }
@@ -73,6 +75,7 @@ fn compare_parts(parts: &[Value], others: &[Value]) -> Ordering
     parts.len().cmp(&others.len())
 }
 
+/// How two lists of fields are ordered: by the first that differ, or else by their lengths.
 #[cycle(compare)]
 fn compare_fields(fields: &[(Name, Value)], others: &[(Name, Value)]) -> Ordering
     ensures { result ≡ fields_cmp fields.now others.now }
@@ -93,7 +96,7 @@ fn compare_fields(fields: &[(Name, Value)], others: &[(Name, Value)]) -> Orderin
     fields.len().cmp(&others.len())
 }
 
-/// The place of a value's kind among the kinds.
+/// The number of a value's kind, by which kinds are ordered.
 fn kind(value: &Value) -> u8
     ensures { result ≡ kind_of (out-Value value.now) }
 {

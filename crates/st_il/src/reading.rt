@@ -47,6 +47,7 @@ pub fn template_of(alloc: Global, tag: &Name) -> Result<Option<Template>, NoMemo
     Ok(found)
 }
 
+/// The template that has this tag, where one has.
 fn read_tag(alloc: Global, tag: &[u8]) -> Result<Option<Template>, NoMemory>
     ensures some { IfOk result (λ found. IfSome found (λ template. HasTag template tag.now)) }
     ensures none { IfOk result

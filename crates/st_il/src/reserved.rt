@@ -25,6 +25,7 @@ fn is_one_of(words: &[Word], text: &[u8]) -> bool
     false
 }
 
+/// Whether the word is spelled like this.
 fn is_written(word: Word, text: &[u8]) -> bool
     ensures { IsTrue result ↔ (word_spelling word ≡ text.now) }
 {

@@ -10,6 +10,7 @@ use crate::{
 use st_num::{Name, NoMemory, Row};
 use std::alloc::Global;
 
+/// An atom as an expression: a case without operands.
 fn build_atom(alloc: Global, syntax: &Name, atom: &Name) -> Result<IlExp, NoMemory>
     ensures { IfOk result (λ exp. exp ≡ atom_exp syntax.now atom.now) }
 {
@@ -18,6 +19,7 @@ fn build_atom(alloc: Global, syntax: &Name, atom: &Name) -> Result<IlExp, NoMemo
     Ok(IlExp::Case(syntax, atom, Row::new(alloc)))
 }
 
+/// A rule from an atom to an atom, without variables and premises.
 fn build_rule(
     alloc: Global,
     relation: &Name,
@@ -38,6 +40,7 @@ fn build_rule(
     }))
 }
 
+/// The syntax, with a case without operands for each atom.
 fn build_syntax(alloc: Global, syntax: &Name, atoms: &[Name]) -> Result<IlDef, NoMemory>
     ensures { IfOk result (λ def. def ≡ syntax_def syntax.now atoms.now) }
 {
@@ -51,6 +54,7 @@ fn build_syntax(alloc: Global, syntax: &Name, atoms: &[Name]) -> Result<IlDef, N
     }))
 }
 
+/// The relation between two values of the syntax, which is written with `~>`.
 fn build_relation(alloc: Global, relation: &Name, syntax: &Name) -> Result<IlDef, NoMemory>
     ensures { IfOk result (λ def. def ≡ relation_def relation.now syntax.now) }
 {

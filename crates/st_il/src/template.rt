@@ -46,6 +46,7 @@ pub enum Role {
     Other,
 }
 
+/// What the sign is for in a notation.
 pub fn role_of(sign: Mark) -> Role
     ensures { result ≡ role_of sign }
 {
@@ -121,6 +122,7 @@ pub fn is_within(template: &Template, limit: u32) -> bool
     }
 }
 
+/// Whether no template is higher than this.
 #[cycle(height)]
 fn are_within(parts: &[Template], limit: u32) -> bool
     ensures { result ≡ nat_le (highest (map template_height parts.now)) limit }

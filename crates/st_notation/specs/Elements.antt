@@ -7,6 +7,7 @@ use Rattle.st_el.specs.declared.expression.Count.TheOpen.{Node-F}
 use Rattle.st_el.specs.declared.expression.Seg.{Seg}
 use Rattle.st_num.specs.Names.{same_name}
 
+-- what an expression is, without its place
 abbrev pub node_of : Exp → Node
 node_of e = (out-Exp e).node
 
@@ -16,6 +17,7 @@ opened e = out-Node (node_of e)
 
 -- ---- parentheses
 
+-- how many parentheses stand round the whole, by how many stand round the inside
 abbrev pub parentheses_at : Node-F ℕ ℕ ℕ ℕ → ℕ
 parentheses_at (Node-F.Paren e) = suc e
 parentheses_at _ = 0
@@ -24,6 +26,7 @@ parentheses_at _ = 0
 abbrev pub parentheses : Exp → ℕ
 parentheses = fold-Exp ℕ ℕ ℕ ℕ (λ count. 0) parentheses_at (λ seg. 0) (λ e. e.node)
 
+-- the inside of parentheses, or the expression itself where it is no parentheses
 abbrev pub inner_at : Exp → Node-F Count Node Seg Exp → Exp
 inner_at e (Node-F.Paren inner) = inner
 inner_at e _ = e
@@ -50,6 +53,7 @@ elements e = elements_at e (opened e)
 
 -- ---- atoms
 
+-- the expression at this level is this atom
 abbrev pub is_atom_at : List ℕ → Node-F Count Node Seg Exp → Bool
 is_atom_at name (Node-F.Atom other) = same_name name other
 is_atom_at name _ = false

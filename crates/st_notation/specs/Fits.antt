@@ -11,6 +11,7 @@ use Rattle.st_notation.specs.Elements.{opened, bare, elements, is_atom, before}
 
 -- ---- holes
 
+-- how many holes a level has, by how many its parts have
 abbrev pub holes_at : Template-F ℕ → ℕ
 holes_at (Template-F.Atom name) = 0
 holes_at Template-F.Hole = 1
@@ -24,8 +25,11 @@ holes = fold-Template ℕ holes_at
 
 -- what fills a hole
 pub data Filling : Type 0 where
+  -- one expression
   one : Exp → Filling
+  -- the elements that a hole of list type takes
   run : List Exp → Filling
+  -- nothing, where the hole is of option type
   missing : Filling
 
 -- ---- a hole in a sequence
@@ -35,13 +39,16 @@ pub record Take : Type 0 where
   pub filling : Filling
   pub count : ℕ
 
+-- a hole takes the first of the elements that are left
 abbrev pub one_element : List Exp → Option Take
 one_element [] = None
 one_element (e ∷ es) = Some (record { filling = one e; count = 1 })
 
+-- the first so many of the elements, as the share of a hole of list type
 abbrev pub shared_run : List Exp → ℕ → Take
 shared_run es count = record { filling = run (take count es); count = count }
 
+-- a hole of list type takes the first so many of the elements
 abbrev pub run_to : List Exp → ℕ → Option Take
 run_to es count = Some (shared_run es count)
 
@@ -54,7 +61,7 @@ run_up_to (Template-F.Seq parts) es = one_element es
 run_up_to (Template-F.Infix left sign right) es = one_element es
 run_up_to (Template-F.Bracket opening inside) es = one_element es
 
--- One that is last takes all elements that are left.
+-- A hole of list type that is last takes all elements that are left.
 abbrev pub list_takes : List Template → List Exp → Option Take
 list_takes [] es = run_to es (length es)
 list_takes (next ∷ behind) es = run_up_to (out-Template next) es

@@ -36,6 +36,7 @@ pub fn fit<'a>(
     Ok(filled)
 }
 
+/// What fills the holes of a template where the expression fits it, parentheses or not.
 #[cycle(fit)]
 fn fit_side<'a>(
     alloc: Global,
@@ -76,6 +77,7 @@ fn fit_side<'a>(
     }
 }
 
+/// What fills the holes of a sequence where the elements fit its parts one after another.
 #[cycle(fit)]
 fn fit_sequence<'a>(
     alloc: Global,
@@ -103,6 +105,7 @@ fn fit_sequence<'a>(
     }
 }
 
+/// What the first part of a sequence takes of the elements that are left.
 #[cycle(fit)]
 fn fit_part<'a>(
     alloc: Global,
@@ -151,6 +154,7 @@ fn fit_part<'a>(
     }
 }
 
+/// One filling, in a row.
 fn only<'a>(alloc: Global, filling: Filled<'a>) -> Result<Row<Filled<'a>>, NoMemory>
     ensures { IfOk result (λ row. row ≡ filling.entry ∷ []) }
 {
@@ -159,6 +163,7 @@ fn only<'a>(alloc: Global, filling: Filled<'a>) -> Result<Row<Filled<'a>>, NoMem
     Ok(row)
 }
 
+/// The fillings of the front, and those of the back behind them.
 fn joined<'a>(front: Row<Filled<'a>>, back: Row<Filled<'a>>) -> Result<Row<Filled<'a>>, NoMemory>
     ensures { IfOk result (λ row. row ≡ front.entry ++ back.entry) }
 {

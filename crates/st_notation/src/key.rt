@@ -20,6 +20,7 @@ pub fn key_of_exp<'a>(exp: &'a Exp) -> Key<'a>
     }
 }
 
+/// The key of the first element, where there is one.
 fn key_of_first<'a>(elements: &'a [Exp]) -> Key<'a>
     ensures { plain result ≡ first_key elements.now }
 {

@@ -28,6 +28,7 @@ pub fn share_of<'a>(shape: Shape, next: &[Template], elements: &'a [Exp]) -> Opt
     }
 }
 
+/// The first of the elements, where there is one.
 fn one_of<'a>(elements: &'a [Exp]) -> Option<Share<'a>>
     ensures { option_map plain_share result ≡ one_element elements.now }
 {
@@ -38,6 +39,7 @@ fn one_of<'a>(elements: &'a [Exp]) -> Option<Share<'a>>
     })
 }
 
+/// What a hole of list type takes, with these parts behind it.
 fn list_of<'a>(next: &[Template], elements: &'a [Exp]) -> Option<Share<'a>>
     ensures { option_map plain_share result ≡ list_takes next.now elements.now }
 {
@@ -53,6 +55,7 @@ fn list_of<'a>(next: &[Template], elements: &'a [Exp]) -> Option<Share<'a>>
     }
 }
 
+/// The first so many of the elements, as a run.
 fn run_of<'a>(elements: &'a [Exp], count: usize) -> Share<'a>
     requires { count ≤ length elements.now }
     ensures { plain_share result ≡ shared_run elements.now count }
@@ -63,6 +66,7 @@ fn run_of<'a>(elements: &'a [Exp], count: usize) -> Share<'a>
     }
 }
 
+/// What a hole of option type takes, with these parts behind it.
 fn option_of<'a>(next: &[Template], elements: &'a [Exp]) -> Option<Share<'a>>
     ensures { option_map plain_share result ≡ option_takes next.now elements.now }
 {

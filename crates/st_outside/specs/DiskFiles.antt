@@ -6,7 +6,7 @@ use Rattle.st_outside.specs.declared.disk.DiskFiles.{DiskFiles}
 abbrev pub loads_of : {R : Type 0} → DiskFiles R → ℕ
 loads_of files = files.loads
 
--- how many of them failed
+-- how many loads failed
 abbrev pub faults_of : {R : Type 0} → DiskFiles R → ℕ
 faults_of files = files.faults
 

@@ -2,7 +2,7 @@
 use Rattle.std.specs.Prelude.{ℕ}
 use Rattle.st_outside.specs.declared.stdout.StdSink.{StdSink}
 
--- the writer
+-- the writer that a sink writes to
 abbrev pub writer_of : {W : Type 0} → StdSink W → W
 writer_of sink = sink.writer
 

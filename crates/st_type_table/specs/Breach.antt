@@ -15,6 +15,7 @@ use Rattle.st_type_table.specs.Cases.{Flatten}
 use Rattle.st_type_table.specs.Leads.{names_in, joined, Leads, Ends}
 use Rattle.st_type_table.specs.Keys.{KeysDiffer}
 
+-- a condition on the definition of a syntax
 pub data Condition : Type 0 where
   -- no definition of these has this name
   new_name : List SyntaxDef → List ℕ → Condition
@@ -29,6 +30,7 @@ pub data Condition : Type 0 where
   -- the cases of these alternatives have different keys
   keys : List Alternative → Condition
 
+-- the rule that is broken where the condition is false
 abbrev pub rule_of : Condition → RuleId
 rule_of (new_name before name) = B1
 rule_of (new_field before name) = B1
@@ -37,6 +39,7 @@ rule_of (no_return name target) = B4
 rule_of (variant name) = B5
 rule_of (keys alternatives) = Y7
 
+-- one of these fields has this name
 abbrev pub field_type : List (List ℕ × Ty) → List ℕ → Type 0
 field_type [] name = ⊥
 field_type (f ∷ fs) name = (name ≡ f.0) ⊎ field_type fs name
@@ -49,6 +52,7 @@ pub record IsVariant (defs : List SyntaxDef) (name : List ℕ) : Type 0 where
   pub listed : alternatives_of defs meaning ≡ Some alternatives
   pub ends : Ends defs name
 
+-- the condition is true of these definitions
 abbrev pub Holds : List SyntaxDef → Condition → Type 0
 Holds defs (new_name before name) = body_of before name ≡ None
 Holds defs (new_field before name) = field_type before name → ⊥
@@ -60,47 +64,51 @@ Holds defs (keys alternatives) =
 
 -- ---- the conditions on a definition, each with the number of its part
 
+-- a condition, with the number of the part of a definition that it is asked of
 abbrev pub Placed : Type 0
 Placed = ℕ × Condition
 
--- the names are declared
+-- the conditions that the names are declared
 abbrev pub all_declared : ℕ → List (List ℕ) → List Placed
 all_declared part [] = []
 all_declared part (name ∷ names) = (part, declared name) ∷ all_declared part names
 
--- each name in an alias is declared and does not lead back
+-- the conditions on an alias: each name in it is declared and does not lead back
 abbrev pub on_alias : List ℕ → List (List ℕ) → List Placed
 on_alias target [] = []
 on_alias target (name ∷ names) =
     (0, declared name) ∷ (0, no_return name target) ∷ on_alias target names
 
--- what is included is declared, does not lead back, and is a variant
+-- the conditions on what is included: it is declared, does not lead back, and is a variant
 abbrev pub on_included : List ℕ → ℕ → List ℕ → List Placed
 on_included target part name =
     (part, declared name) ∷ (part, no_return name target) ∷ (part, variant name) ∷ []
 
+-- the conditions on an alternative, which is the last of those so far
 abbrev pub on_alternative : List ℕ → ℕ → List Alternative → Alternative → List Placed
 on_alternative target part so_far (alternative.Case tag operands) =
     (part, keys so_far) ∷ all_declared part (joined (map names_in operands))
 on_alternative target part so_far (alternative.Incl name) =
     on_included target part name ++ (part, keys so_far) ∷ []
 
--- an alternative after those before it
+-- the conditions on alternatives behind others, the first of which has this number
 abbrev pub on_alternatives : List ℕ → ℕ → List Alternative → List Alternative → List Placed
 on_alternatives target part before [] = []
 on_alternatives target part before (a ∷ as') =
     on_alternative target part (before ++ a ∷ []) a
     ++ on_alternatives target (suc part) (before ++ a ∷ []) as'
 
--- a field after those before it
+-- the conditions on the field of this number behind others
 abbrev pub on_field : ℕ → List (List ℕ × Ty) → List ℕ × Ty → List Placed
 on_field part before f = (part, new_field before f.0) ∷ all_declared part (names_in f.1)
 
+-- the conditions on fields behind others, the first of which has this number
 abbrev pub on_fields : ℕ → List (List ℕ × Ty) → List (List ℕ × Ty) → List Placed
 on_fields part before [] = []
 on_fields part before (f ∷ fs) =
     on_field part before f ++ on_fields (suc part) (before ++ f ∷ []) fs
 
+-- the conditions on the body of the syntax of this name
 abbrev pub on_body : List ℕ → SyntaxBody → List Placed
 on_body name (body.Alias t) = on_alias name (names_in t)
 on_body name (body.Variant alternatives) = on_alternatives name 0 [] alternatives
@@ -112,10 +120,12 @@ conditions_on before d = (0, new_name before d.name) ∷ on_body d.name d.body
 
 -- ---- the first that is false
 
+-- all these conditions are true
 abbrev pub AllHold : List SyntaxDef → List Placed → Type 0
 AllHold defs [] = Unit {0}
 AllHold defs (p ∷ ps) = Holds defs p.1 × AllHold defs ps
 
+-- the first of these conditions that is false is asked of this part, and its rule is this
 abbrev pub FirstFalse : List SyntaxDef → List Placed → ℕ → RuleId → Type 0
 FirstFalse defs [] part rule = ⊥
 FirstFalse defs (p ∷ ps) part rule =
@@ -132,7 +142,7 @@ SoundTo defs k =
     (i : ℕ) → i < k → (d : SyntaxDef) → slice_get defs i ≡ Some d
     → AllHold defs (conditions_on (take i defs) d)
 
--- all conditions hold
+-- all conditions on the definitions hold
 abbrev pub IsSound : List SyntaxDef → Type 0
 IsSound defs = SoundTo defs (length defs)
 
@@ -145,11 +155,12 @@ pub record FirstBreach (defs : List SyntaxDef) (syntax part : ℕ) (rule : RuleI
 
 -- ---- lists that can be counted
 
--- fewer than 2^32 alternatives or fields
+-- a body has fewer than 2^32 alternatives or fields
 abbrev pub HasFewParts : SyntaxBody → Type 0
 HasFewParts (body.Alias t) = Unit {0}
 HasFewParts (body.Variant alternatives) = length alternatives < 2 ^ 32
 HasFewParts (body.Fields fields) = length fields < 2 ^ 32
 
+-- each definition has fewer than 2^32 alternatives or fields
 abbrev pub AllHaveFewParts : List SyntaxDef → Type 0
 AllHaveFewParts defs = (i : ℕ) (d : SyntaxDef) → slice_get defs i ≡ Some d → HasFewParts d.body

@@ -10,6 +10,7 @@ use Rattle.st_il.specs.declared.definition.Alternative.TheVariants as alternativ
 use Rattle.st_type_table.specs.declared.entry.CaseDef.{CaseDef}
 use Rattle.st_type_table.specs.Meaning.{Means, alternatives_of, fields_of}
 
+-- the alternatives where there are some given, and else none
 abbrev pub or_none : Option (List Alternative) → List Alternative
 or_none None = []
 or_none (Some alternatives) = alternatives

@@ -19,7 +19,7 @@ mutual
     option : {t : Ty} (element : Ty) → Means defs t (ty.Opt element) → FieldJoins defs t
     structure : {t : Ty} → Joins defs t → FieldJoins defs t
 
-  -- all these fields are of such types
+  -- each of these fields is a list, an option, or a record that can be joined
   pub data AllJoin (defs : List SyntaxDef) : List (List ℕ × Ty) → Type 0 where
     none : AllJoin defs []
     more : {f : List ℕ × Ty} {fs : List (List ℕ × Ty)} → FieldJoins defs f.1 → AllJoin defs fs

@@ -15,6 +15,7 @@ abbrev pub Among : List (List ℕ) → List ℕ → Type 0
 Among [] name = ⊥
 Among (x ∷ xs) name = (name ≡ x) ⊎ Among xs name
 
+-- the names in several parts, those of one part behind those of another
 abbrev pub joined : List (List (List ℕ)) → List (List ℕ)
 joined = flat_map (λ names. names)
 
@@ -30,6 +31,7 @@ names_at _ = []
 abbrev pub names_in : Ty → List (List ℕ)
 names_in = fold-Ty (List (List ℕ)) names_at
 
+-- the name of the variant that an alternative includes, where it includes one
 abbrev pub included : Alternative → List (List ℕ)
 included (alternative.Case tag operands) = []
 included (alternative.Incl name) = name ∷ []
@@ -40,6 +42,7 @@ leads_to (body.Alias t) = names_in t
 leads_to (body.Variant alternatives) = flat_map included alternatives
 leads_to (body.Fields fields) = []
 
+-- the names that a body leads to, and none where there is no body
 abbrev pub leads_from : Option SyntaxBody → List (List ℕ)
 leads_from None = []
 leads_from (Some b) = leads_to b

@@ -17,6 +17,7 @@ mutual
     tuple : {a b : Ty} (xs ys : List Ty) → Means defs a (ty.Tuple xs) → Means defs b (ty.Tuple ys)
         → SameAll defs xs ys → Same defs a b
 
+  -- the types of two lists are equal through aliases, one by one
   pub data SameAll (defs : List SyntaxDef) : List Ty → List Ty → Type 0 where
     none : SameAll defs [] []
     more : {x y : Ty} {xs ys : List Ty} → Same defs x y → SameAll defs xs ys

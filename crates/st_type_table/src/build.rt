@@ -21,7 +21,7 @@ use st_il::{Alternative, SyntaxBody, SyntaxDef, Ty, copy_ty, copy_tys};
 use st_num::{Name, NoMemory, Row};
 use std::alloc::Global;
 
-/// Lists that positions of 32 bits can count are shorter.
+/// How many positions 32 bits can tell: a list that they count is shorter.
 const LIMIT: usize = 4_294_967_296;
 
 /// Whether the definitions, and the parts of each, are fewer than the limit.
@@ -39,6 +39,7 @@ pub(crate) fn are_few(defs: &[SyntaxDef]) -> bool
     true
 }
 
+/// Whether the body has fewer alternatives or fields than the limit.
 fn has_few_parts(body: &SyntaxBody) -> bool
     ensures { IsTrue result ↔ HasFewParts body.now }
 {
@@ -126,6 +127,7 @@ fn fill(
     Ok(map)
 }
 
+/// Keeps the entry under this name.
 fn insert(map: &mut Entries, name: Name, entry: Entry) -> Result<(), NoMemory>
     ensures { OnOk result
         (map.new.entries ≡ insert_entry (pointwise nat_eq) map.old.entries name entry) }
@@ -136,6 +138,7 @@ fn insert(map: &mut Entries, name: Name, entry: Entry) -> Result<(), NoMemory>
     }
 }
 
+/// The entry of a definition: its body, its ranks and its cases.
 fn entry_for(
     alloc: Global,
     def: &SyntaxDef,
@@ -185,6 +188,7 @@ fn copy_alternatives(alloc: Global, parts: &[Alternative]) -> Result<Row<Alterna
     Ok(copies)
 }
 
+/// A copy of the alternative.
 fn copy_alternative(alloc: Global, part: &Alternative) -> Result<Alternative, NoMemory>
     ensures { IfOk result (λ copy. copy ≡ part.now) }
 {

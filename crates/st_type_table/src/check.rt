@@ -96,6 +96,7 @@ fn is_variant_name(defs: &[SyntaxDef], ty: &Ty) -> bool
     }
 }
 
+/// Whether one of the fields has this name.
 fn has_field(fields: &[(Name, Ty)], name: &Name) -> bool
     ensures { IsTrue result ↔ field_type fields.now name.now }
 {
@@ -144,7 +145,7 @@ fn check_types(alloc: Global, defs: &[SyntaxDef], part: u32, tys: &[Ty]) -> Resu
     Ok(found)
 }
 
-/// The conditions on the fields of a record.
+/// The conditions on a field of a record, behind the fields before it.
 fn check_field(
     alloc: Global,
     defs: &[SyntaxDef],

@@ -93,6 +93,7 @@ fn add_included(alloc: Global, cases: &mut Row<CaseDef>, flat: &Flat) -> Result<
     Ok(true)
 }
 
+/// What is kept of the definition of this number, where there is one.
 fn flat_at<'a>(flats: &'a [Flat], place: usize) -> Option<&'a Flat>
     ensures { option_copied result ≡ slice_get flats.now place }
 {

@@ -1,4 +1,4 @@
-//! What waits for what, and the order in which it ends.
+//! Graphs of definitions: which waits for which, in which order they end, and which lead back.
 
 ghost use Rattle.std.specs.Prelude.{◌≡◌, ◌↔◌, ◌≤◌, ◌<◌, IsTrue, IfOk, slice_index, replicate, Some, true, false, length, ℕ};
 ghost use Rattle.st_type_table.specs.inner.Graph.{AreRanks, AllRanked, IsClosed, SoFar, mark, AnyMarked, unmarked, IsClosedBack, LeadBack, LeadsAt, LeadsBack};
@@ -6,9 +6,10 @@ ghost use Rattle.st_type_table.specs.inner.Graph.{AreRanks, AllRanked, IsClosed,
 use st_num::{NoMemory, Row};
 use std::alloc::Global;
 
-/// For each place those that it waits for, or none where it waits for ever.
+/// The definitions that one waits for, by their numbers, or none where it waits for ever.
 pub(crate) type Node = Option<Row<usize>>;
 
+/// Whether the definition of this number has a rank, and so comes to an end.
 pub(crate) fn is_ranked(ranks: &[usize], place: usize) -> bool
     ensures { IsTrue result ↔ (0 < slice_index ranks.now place) }
 {
@@ -18,6 +19,7 @@ pub(crate) fn is_ranked(ranks: &[usize], place: usize) -> bool
     }
 }
 
+/// Whether all that a definition waits for has ranks; it is false where it waits for ever.
 fn all_ranked(node: &Node, ranks: &[usize]) -> bool
     ensures { IsTrue result ↔ AllRanked node.now ranks.now }
 {
@@ -27,6 +29,7 @@ fn all_ranked(node: &Node, ranks: &[usize]) -> bool
     }
 }
 
+/// Whether all definitions of these numbers have ranks.
 fn are_ranked(places: &[usize], ranks: &[usize]) -> bool
     ensures { IsTrue result ↔ AllRanked (Some places.now) ranks.now }
 {
@@ -38,7 +41,7 @@ fn are_ranked(places: &[usize], ranks: &[usize]) -> bool
     true
 }
 
-/// Ranks the places that wait for ranked ones alone, in one pass, and gives how many are ranked.
+/// Ranks those that wait for ranked ones alone, in one pass, and gives how many are ranked.
 fn pass(graph: &[Node], ranks: &mut [usize], before: usize) -> usize
     requires { SoFar graph.now ranks.old before }
     ensures so_far { SoFar graph.now ranks.new result }
@@ -55,6 +58,7 @@ fn pass(graph: &[Node], ranks: &mut [usize], before: usize) -> usize
     count
 }
 
+/// So many ranks, of which none is known yet.
 fn zeros(alloc: Global, len: usize) -> Result<Vec<usize>, NoMemory>
     ensures { IfOk result (λ zeros. zeros.items ≡ replicate len 0) }
 {
@@ -62,7 +66,7 @@ fn zeros(alloc: Global, len: usize) -> Result<Vec<usize>, NoMemory>
     Ok(zeros)
 }
 
-/// The ranks of all places that end: each has more than all that it waits for.
+/// The ranks of all definitions that end: each has more than all that it waits for.
 pub(crate) fn settle(alloc: Global, graph: &[Node]) -> Result<Row<usize>, NoMemory>
     ensures { IfOk result (λ ranks. AreRanks graph.now ranks) }
 {
@@ -77,6 +81,7 @@ pub(crate) fn settle(alloc: Global, graph: &[Node]) -> Result<Row<usize>, NoMemo
     }
 }
 
+/// Whether the definition of this number is marked, as one that leads back.
 pub(crate) fn mark(marks: &[bool], place: usize) -> bool
     ensures { result ≡ mark marks.now place }
 {
@@ -86,6 +91,7 @@ pub(crate) fn mark(marks: &[bool], place: usize) -> bool
     }
 }
 
+/// Whether one of those that a definition leads to is marked.
 fn any_marked(node: &Node, marks: &[bool]) -> bool
     ensures { IsTrue result ↔ AnyMarked node.now marks.now }
 {
@@ -95,6 +101,7 @@ fn any_marked(node: &Node, marks: &[bool]) -> bool
     }
 }
 
+/// Whether one of the definitions of these numbers is marked.
 fn are_any_marked(places: &[usize], marks: &[bool]) -> bool
     ensures { IsTrue result ↔ AnyMarked (Some places.now) marks.now }
 {
@@ -106,7 +113,7 @@ fn are_any_marked(places: &[usize], marks: &[bool]) -> bool
     false
 }
 
-/// Marks the places that lead to marked ones, in one pass, and says whether there were any.
+/// Marks those that lead to marked ones, in one pass, and says whether there were any.
 fn pass_back(graph: &[Node], marks: &mut [bool], target: usize) -> bool
     requires { LeadBack graph.now marks.old target }
     ensures back { LeadBack graph.now marks.new target }
@@ -123,6 +130,7 @@ fn pass_back(graph: &[Node], marks: &mut [bool], target: usize) -> bool
     changed
 }
 
+/// So many definitions, of which none is marked yet.
 fn unmarked(alloc: Global, len: usize) -> Result<Vec<bool>, NoMemory>
     ensures { IfOk result (λ marks. marks.items ≡ replicate len false) }
 {
@@ -130,7 +138,7 @@ fn unmarked(alloc: Global, len: usize) -> Result<Vec<bool>, NoMemory>
     Ok(marks)
 }
 
-/// Which places lead to this one.
+/// Which definitions lead to the one of this number.
 pub(crate) fn leading_to(
     alloc: Global,
     graph: &[Node],
@@ -148,7 +156,7 @@ pub(crate) fn leading_to(
     }
 }
 
-/// Marks of the places that lead to this one, right at those that it leads to.
+/// Which definitions lead back to the one of this number: it is right of those that it leads to.
 pub(crate) fn leading_back(
     alloc: Global,
     graph: &[Node],

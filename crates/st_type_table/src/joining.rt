@@ -14,7 +14,7 @@ use st_il::{SyntaxBody, SyntaxDef, Ty};
 use st_num::{Name, NoMemory, Row};
 use std::alloc::Global;
 
-/// The place of the first definition of this name, or the place behind all definitions: nothing
+/// The number of the first definition of this name, or the number behind all definitions: nothing
 /// is there, and so what waits for it waits for ever.
 fn place_or_never(defs: &[SyntaxDef], name: &Name) -> usize
     ensures { result ≡ place_or_never defs.now (place_of defs.now name.now) }
@@ -36,6 +36,7 @@ fn push_waits(defs: &[SyntaxDef], ty: &Ty, out: &mut Row<usize>) -> Result<(), N
     }
 }
 
+/// The definitions that a record of these fields waits for.
 fn field_waits(
     alloc: Global,
     defs: &[SyntaxDef],
@@ -69,7 +70,7 @@ fn waits_of(alloc: Global, defs: &[SyntaxDef], body: &SyntaxBody) -> Result<Row<
     }
 }
 
-/// For each definition the places that it waits for before it can be joined as a field.
+/// For each definition the numbers of those that it waits for before it can be joined as a field.
 pub(crate) fn join_graph(alloc: Global, defs: &[SyntaxDef]) -> Result<Row<Node>, NoMemory>
     ensures { IfOk result (λ graph. graph ≡ join_graph defs.now) }
 {

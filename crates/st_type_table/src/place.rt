@@ -1,4 +1,4 @@
-//! Names by the places of their definitions, and the names that a body leads to.
+//! Names by the numbers of their definitions, and the names that a body leads to.
 
 ghost use Rattle.std.specs.Prelude.{◌≡◌, ◌++◌, map, OnOk, IfOk};
 ghost use Rattle.std.specs.List.{flat_map};
@@ -9,7 +9,7 @@ use st_il::{Alternative, SyntaxBody, SyntaxDef, Ty};
 use st_num::{Name, NoMemory, Row};
 use std::alloc::Global;
 
-/// The place of the first definition of this name.
+/// The number of the first definition of this name.
 pub(crate) fn place_of(defs: &[SyntaxDef], name: &Name) -> Option<usize>
     ensures { result ≡ place_of defs.now name.now }
 {
@@ -81,7 +81,7 @@ fn lead_names(alloc: Global, body: &SyntaxBody) -> Result<Row<Name>, NoMemory>
     }
 }
 
-/// The places of those names that are declared.
+/// The numbers of the definitions of those names that are declared.
 fn places_of(alloc: Global, defs: &[SyntaxDef], names: &[Name]) -> Result<Row<usize>, NoMemory>
     ensures { IfOk result (λ places. places ≡ places_of defs.now names.now) }
 {
@@ -94,7 +94,7 @@ fn places_of(alloc: Global, defs: &[SyntaxDef], names: &[Name]) -> Result<Row<us
     Ok(places)
 }
 
-/// For each definition the places that it leads to.
+/// For each definition the numbers of those that it leads to.
 pub(crate) fn leads_graph(
     alloc: Global,
     defs: &[SyntaxDef],

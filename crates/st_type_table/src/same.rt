@@ -19,7 +19,7 @@ pub(crate) fn same(entries: &Entries, a: &Ty, b: &Ty) -> bool
     same_at(entries, meaning_of(entries, a), meaning_of(entries, b))
 }
 
-/// The same of two meanings.
+/// Whether two types without aliases at their tops are equal through aliases.
 #[cycle(same)]
 fn same_at(entries: &Entries, a: &Ty, b: &Ty) -> bool
     requires { IsKept entries.now.entries }
@@ -40,6 +40,7 @@ fn same_at(entries: &Entries, a: &Ty, b: &Ty) -> bool
     }
 }
 
+/// Whether the types of two lists are equal through aliases, one by one.
 #[cycle(same)]
 fn same_all(entries: &Entries, ones: &[Ty], others: &[Ty]) -> bool
     requires { IsKept entries.now.entries }

@@ -14,7 +14,7 @@ pub record StandsIn (defs : List SyntaxDef) (c : CaseDef) (cases : List CaseDef)
   pub found : operands_of cases c.tag ≡ Some operands
   pub equal : SameAll defs c.operands operands
 
--- so does each of these cases
+-- each of these cases stands among the others, with the same tag and equal operand types
 abbrev pub AllStandIn : List SyntaxDef → List CaseDef → List CaseDef → Type 0
 AllStandIn defs [] others = Unit {0}
 AllStandIn defs (c ∷ cs) others = StandsIn defs c others × AllStandIn defs cs others

@@ -37,6 +37,7 @@ fn stands_in(table: &TypeTable, case: &CaseDef, cases: &[CaseDef]) -> bool
     }
 }
 
+/// Whether each of these cases stands among the others, with equal operand types.
 fn all_stand_in(table: &TypeTable, lower: &[CaseDef], upper: &[CaseDef]) -> bool
     ensures { IsTrue result ↔ AllStandIn table.now lower.now upper.now }
 {
@@ -69,7 +70,7 @@ pub fn is_sub(table: &TypeTable, lower: &Ty, upper: &Ty) -> bool
     is_below(table, lower, upper)
 }
 
-/// The same, by way of elements.
+/// Whether the first type is a subtype of the second.
 #[cycle(below)]
 fn is_below(table: &TypeTable, lower: &Ty, upper: &Ty) -> bool
     ensures exact { IsTrue result ↔ Sub table.now lower.now upper.now }
@@ -92,7 +93,7 @@ fn is_under(table: &TypeTable, lower: &Ty, upper: &Ty) -> bool
     is_under_at(table, table.meaning(lower), table.meaning(upper))
 }
 
-/// The same of two meanings.
+/// Whether a type is a subtype by numbers or by elements, where neither has an alias at its top.
 #[cycle(below)]
 fn is_under_at(table: &TypeTable, lower: &Ty, upper: &Ty) -> bool
     ensures { IsTrue result

@@ -32,7 +32,7 @@ pub fn has_type(table: &TypeTable, value: &Value, ty: &Ty) -> bool
     typed_at(table, value, table.meaning(ty), ty)
 }
 
-/// The same where the meaning of the type is known.
+/// Whether the value has the type, which has this meaning.
 #[cycle(typing)]
 fn typed_at(table: &TypeTable, value: &Value, meaning: &Ty, ty: &Ty) -> bool
     ensures { IsTrue result
@@ -82,6 +82,7 @@ fn operands<'a>(table: &'a TypeTable, tag: &Name, ty: &Ty) -> Option<&'a Row<Ty>
     }
 }
 
+/// Whether each value has the type in its place.
 #[cycle(typing)]
 fn have_types(table: &TypeTable, values: &[Value], types: &[Ty]) -> bool
     ensures { IsTrue result ↔ HaveTypes table.now values.now types.now }
@@ -97,6 +98,7 @@ fn have_types(table: &TypeTable, values: &[Value], types: &[Ty]) -> bool
     true
 }
 
+/// Whether each value has the one type.
 #[cycle(typing)]
 fn all_have_type(table: &TypeTable, values: &[Value], ty: &Ty) -> bool
     ensures { IsTrue result ↔ AllHaveType table.now values.now ty.now }
@@ -109,6 +111,7 @@ fn all_have_type(table: &TypeTable, values: &[Value], ty: &Ty) -> bool
     true
 }
 
+/// Whether the fields are those declared, in their order, each with a value of its type.
 #[cycle(typing)]
 fn fields_have_types(table: &TypeTable, values: &[(Name, Value)], fields: &[(Name, Ty)]) -> bool
     ensures { IsTrue result ↔ FieldsHaveTypes table.now values.now fields.now }

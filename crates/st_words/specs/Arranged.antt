@@ -9,13 +9,13 @@ abbrev pub begins_with_dash : List ℕ → Bool
 begins_with_dash [] = false
 begins_with_dash (byte ∷ bytes) = byte == 45
 
--- whether it begins with `-` and is longer than one character
+-- whether a word begins with `-` and is longer than one character
 abbrev pub is_dashed : List ℕ → Bool
 is_dashed [] = false
 is_dashed (byte ∷ []) = false
 is_dashed (byte ∷ next ∷ bytes) = byte == 45
 
--- whether it is `--`, behind which no word is an option
+-- whether a word is `--`, behind which no word is an option
 abbrev pub is_end : List ℕ → Bool
 is_end word = pointwise nat_eq word (codes "--")
 
@@ -26,7 +26,7 @@ IsOption name value words =
     ((words ≡ name ∷ value ∷ []) × (begins_with_dash value ≡ false))
     ⊎ (words ≡ (name ++ codes "=" ++ value) ∷ [])
 
--- plain words and no options
+-- the arrangement of plain words and no options
 abbrev pub plain_words : List (List ℕ) → Arrangement
 plain_words words = record { plain = words; fuels = []; depths = [] }
 

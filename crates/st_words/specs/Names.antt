@@ -3,6 +3,7 @@ use Rattle.std.specs.Prelude.{ℕ, List, codes}
 use Rattle.st_words.specs.declared.name.CommandName.{CommandName}
 use Rattle.st_words.specs.declared.name.CommandName.TheVariants.{Check, Il, Groups, Order, Eval, Next, Run, Derive, Verify, Prose, Latex, Make}
 
+-- how the name of a command is written
 abbrev pub name_spelling : CommandName → List ℕ
 name_spelling Check = codes "check"
 name_spelling Il = codes "il"

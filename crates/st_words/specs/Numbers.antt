@@ -15,8 +15,10 @@ Says default low high [] n = n ≡ default
 Says default low high (text ∷ []) n = IsNumber low high text n
 Says default low high (text ∷ other ∷ more) n = ⊥
 
+-- the values of `--fuel` say n, which is 1000 by default and at most 1000000
 abbrev pub SaysFuel : List (List ℕ) → ℕ → Type 0
 SaysFuel fuels n = Says 1000 0 1000000 fuels n
 
+-- the values of `--depth` say n, which is 200 by default and lies between 2 and 500
 abbrev pub SaysDepth : List (List ℕ) → ℕ → Type 0
 SaysDepth depths n = Says 200 2 500 depths n

@@ -18,15 +18,15 @@ pub record Reads (words : List (List ℕ)) (command : Command) : Type 0 where
   pub arranged : IsArranged behind given
   pub asks : Asks name given command
 
--- they ask for no other
+-- the words ask for no command but this one
 abbrev pub IsOnlyReading : List (List ℕ) → Command → Type 0
 IsOnlyReading words command = (other : Command) → Reads words other → other ≡ command
 
--- they ask for no command
+-- the words ask for no command
 abbrev pub HasNoReading : List (List ℕ) → Type 0
 HasNoReading words = (command : Command) → ¬ (Reads words command)
 
--- usage tells that they ask for none; want of memory tells nothing
+-- usage tells that the words ask for no command; want of memory tells nothing
 abbrev pub TellsUsage : List (List ℕ) → WordsFault → Type 0
 TellsUsage words Usage = HasNoReading words
 TellsUsage words Memory = ⊤

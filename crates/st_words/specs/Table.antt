@@ -11,30 +11,31 @@ use Rattle.st_words.specs.Numbers.{IsNumber, SaysFuel, SaysDepth}
 abbrev pub NoOptions : Arrangement → Type 0
 NoOptions given = (given.fuels ≡ []) × (given.depths ≡ [])
 
--- FILE+
+-- FILE+: the words are files, at least one, and no options
 abbrev pub TakesFiles : Arrangement → List (List ℕ) → Type 0
 TakesFiles given files = (given.plain ≡ files) × (files ≢ []) × NoOptions given
 
--- TERM FILE+
+-- TERM FILE+: the words are the file of a term and other files, and no options
 abbrev pub TakesTerm : Arrangement → List ℕ → List (List ℕ) → Type 0
 TakesTerm given term files = (given.plain ≡ term ∷ files) × (files ≢ []) × NoOptions given
 
--- REL TERM FILE+
+-- REL TERM FILE+: the words are a relation, the file of a term and other files, and no options
 abbrev pub TakesRelation : Arrangement → List ℕ → List ℕ → List (List ℕ) → Type 0
 TakesRelation given relation term files =
     (given.plain ≡ relation ∷ term ∷ files) × (files ≢ []) × NoOptions given
 
--- REL TERM FILE+ with options
+-- REL TERM FILE+ with options, which say the fuel and the depth
 abbrev pub TakesRun : Arrangement → List ℕ → List ℕ → List (List ℕ) → ℕ → ℕ → Type 0
 TakesRun given relation term files fuel depth =
     (given.plain ≡ relation ∷ term ∷ files) × (files ≢ [])
     × SaysFuel given.fuels fuel × SaysDepth given.depths depth
 
--- IL DERIVATION
+-- IL DERIVATION: the words are the files of an internal language and of a derivation, and no
+-- options
 abbrev pub TakesVerify : Arrangement → List ℕ → List ℕ → Type 0
 TakesVerify given il derivation = (given.plain ≡ il ∷ derivation ∷ []) × NoOptions given
 
--- N
+-- N: the word is a number from 1 to 16, and there are no options
 abbrev pub TakesMake : Arrangement → ℕ → Type 0
 TakesMake given n =
     ((text : List ℕ) × (given.plain ≡ text ∷ []) × IsNumber 1 16 text n) × NoOptions given

@@ -43,7 +43,7 @@ fn said(values: &[CommandWord], default: u32, low: u32, high: u32) -> Result<u32
     }
 }
 
-/// The fuel.
+/// The fuel that the values of `--fuel` say.
 pub(crate) fn fuel_of(values: &[CommandWord]) -> Result<u32, WordsFault>
     ensures { MatchResult result
         (λ n. SaysFuel values.now n)
@@ -52,7 +52,7 @@ pub(crate) fn fuel_of(values: &[CommandWord]) -> Result<u32, WordsFault>
     said(values, 1_000, 0, 1_000_000)
 }
 
-/// The depth.
+/// The depth that the values of `--depth` say.
 pub(crate) fn depth_of(values: &[CommandWord]) -> Result<u32, WordsFault>
     ensures { MatchResult result
         (λ n. SaysDepth values.now n)

@@ -1,4 +1,4 @@
-//! Words are read.
+//! How the words of a command are read.
 
 ghost use Rattle.std.specs.Prelude.{◌≡◌, map, string_bytes, IfOk, IfErr};
 ghost use Rattle.st_words.specs.Reads.{Reads, IsOnlyReading, TellsUsage};

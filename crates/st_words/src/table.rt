@@ -47,7 +47,7 @@ fn without_options(given: Arrangement) -> Result<Vec<CommandWord>, WordsFault>
     Ok(given.plain.into_vec())
 }
 
-/// FILE+
+/// FILE+: the names of the files, with no option.
 fn take_files(given: Arrangement) -> Result<Row<CommandWord>, WordsFault>
     ensures { MatchResult result
         (λ files. TakesFiles given files)
@@ -56,7 +56,7 @@ fn take_files(given: Arrangement) -> Result<Row<CommandWord>, WordsFault>
     some_files(without_options(given)?)
 }
 
-/// TERM FILE+
+/// TERM FILE+: the file of a term and the other files, with no option.
 fn take_term(given: Arrangement) -> Result<(CommandWord, Row<CommandWord>), WordsFault>
     ensures { MatchResult result
         (λ taken. TakesTerm given taken.0 taken.1)
@@ -76,7 +76,7 @@ struct Goal {
     files: Row<CommandWord>,
 }
 
-/// REL TERM FILE+
+/// REL TERM FILE+: the relation, the file of a term and the other files.
 fn goal_of(mut words: Vec<CommandWord>) -> Result<Goal, WordsFault>
     ensures { MatchResult result
         (λ goal. IsGoal words.items goal)
@@ -92,7 +92,7 @@ fn goal_of(mut words: Vec<CommandWord>) -> Result<Goal, WordsFault>
     })
 }
 
-/// REL TERM FILE+, with no option.
+/// REL TERM FILE+: the relation, the file of a term and the other files, with no option.
 fn take_relation(given: Arrangement) -> Result<Goal, WordsFault>
     ensures { MatchResult result
         (λ goal. TakesRelation given goal.relation goal.term goal.files)
@@ -102,7 +102,7 @@ fn take_relation(given: Arrangement) -> Result<Goal, WordsFault>
     goal_of(without_options(given)?)
 }
 
-/// REL TERM FILE+, with fuel and depth.
+/// REL TERM FILE+ with options: the same, and the fuel and the depth.
 fn take_run(given: Arrangement) -> Result<(Goal, u32, u32), WordsFault>
     ensures { MatchResult result
         (λ taken. TakesRun given taken.0.relation taken.0.term taken.0.files taken.1 taken.2)
@@ -115,7 +115,7 @@ fn take_run(given: Arrangement) -> Result<(Goal, u32, u32), WordsFault>
     Ok((goal, fuel, depth))
 }
 
-/// IL DERIVATION
+/// IL DERIVATION: the files of an internal language and of a derivation, with no option.
 fn take_verify(given: Arrangement) -> Result<(CommandWord, CommandWord), WordsFault>
     ensures { MatchResult result
         (λ taken. TakesVerify given taken.0 taken.1)
@@ -130,7 +130,7 @@ fn take_verify(given: Arrangement) -> Result<(CommandWord, CommandWord), WordsFa
     Ok((il, derivation))
 }
 
-/// N
+/// N: the number, with no option.
 fn take_make(given: Arrangement) -> Result<u8, WordsFault>
     ensures { MatchResult result
         (λ n. TakesMake given n)

@@ -22,12 +22,14 @@ use Rattle.st_num.specs.declared.limit.TheConstants.{HIGHEST_TREE}
 use Rattle.st_il.specs.Notation.{role_of}
 use Rattle.st_il.specs.Template.{template_height}
 
+-- how far the parts of a tag are read, with the frames that are open
 pub data State : Type 0 where
   -- an operand is due
   due : List Frame → State
   -- this element is read
   read : Template → List Frame → State
 
+-- the level at which a sign of this role divides, and 0 where it does not divide
 abbrev pub divided_at : Role → ℕ
 divided_at (Divides level) = level
 divided_at _ = 0
@@ -36,6 +38,7 @@ divided_at _ = 0
 abbrev pub sign_level : Mark → ℕ
 sign_level sign = divided_at (role_of sign)
 
+-- the level of a template, by its top
 abbrev pub level_at : {X : Type 0} → Template-F X → ℕ
 level_at (Template-F.Atom name) = 15
 level_at Template-F.Hole = 15
@@ -59,6 +62,7 @@ is_outermost (Open opening enclosure ∷ fs) = true
 is_outermost (Left left sign ∷ fs) = false
 is_outermost (Elements parts ∷ fs) = false
 
+-- what a sign of this role makes where an operand is due
 abbrev pub begin_sign : List Frame → Mark → Role → Option State
 begin_sign fs sign (Divides level) =
     if may_lack_left sign && is_outermost fs then Some (due (Left (template.Seq []) sign ∷ fs))
@@ -108,6 +112,7 @@ abbrev pub divide : Mark → ℕ → Template × List Frame → Option State
 divide sign level p =
     if nat_le (left_of level) (level_of p.0) then Some (due (Left p.0 sign ∷ p.1)) else None
 
+-- two enclosures are the same
 abbrev pub is_same : Enclosure → Enclosure → Bool
 is_same Parens Parens = true
 is_same Brackets Brackets = true
@@ -124,6 +129,7 @@ shut enclosure t (Open opening opened ∷ fs) =
 shut enclosure t (Left left sign ∷ fs) = None
 shut enclosure t (Elements parts ∷ fs) = None
 
+-- what a sign of this role makes behind an element
 abbrev pub after_sign : Template → List Frame → Mark → Role → Option State
 after_sign t fs sign (Divides level) = option_and_then (divide sign level) (reduce level t fs)
 after_sign t fs sign (Opens enclosure) = begin (extend t fs) (tag_part.Sign sign)
@@ -137,14 +143,17 @@ after t fs tag_part.Hole = begin (extend t fs) tag_part.Hole
 after t fs (tag_part.Atom name) = begin (extend t fs) (tag_part.Atom name)
 after t fs (tag_part.Sign sign) = after_sign t fs sign (role_of sign)
 
+-- what a part makes of a state
 abbrev pub step : State → TagPart → Option State
 step (due fs) w = begin fs w
 step (read t fs) w = after t fs w
 
+-- the state behind these parts
 abbrev pub run : State → List TagPart → Option State
 run st [] = Some st
 run st (w ∷ ws) = option_and_then (λ next. run next ws) (step st w)
 
+-- the template, where no frame is open
 abbrev pub whole : Template → List Frame → Option Template
 whole t [] = Some t
 whole t (f ∷ fs) = None
@@ -154,14 +163,17 @@ abbrev pub finish : State → Option Template
 finish (due fs) = None
 finish (read t fs) = option_and_then (λ p. whole p.0 p.1) (reduce 0 t fs)
 
+-- the template that is read when these parts end, from this state on
 abbrev pub reads : State → List TagPart → Option Template
 reads st ws = option_and_then finish (run st ws)
 
 -- ---- in code the innermost frame is the last one
 
+-- what a state of the code is
 abbrev pub state_of : code.State → State
 state_of (Due fs) = due (reverse fs)
 state_of (Read t fs) = read t (reverse fs)
 
+-- a template with its frames in the other order
 abbrev pub reversed : Template × List Frame → Template × List Frame
 reversed p = (p.0, reverse p.1)

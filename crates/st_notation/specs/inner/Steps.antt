@@ -20,12 +20,13 @@ pub record Reaches (ts : List Template) (ss : List Shape) (es : List Exp) (fs : 
   pub back : (gs : List Filling) → FitInOrder ts ss es gs
       → (hs : List Filling) × FitInOrder us rs xs hs
 
--- what the first part took
+-- what the first part took of the elements, so that the other parts are to fit what it left
 abbrev pub TookPart : Template → List Template → List Shape → List Exp → Taken → Type 0
 TookPart t ts ss es taken =
     Reaches (t ∷ ts) ss es (fillings taken.filled) ts (drop (length taken.filled) ss)
     (drop taken.count es)
 
+-- what the first part took of the elements, or a refusal where they do not fit
 abbrev pub Took : Span → Template → List Template → List Shape → List Exp
     → Result Taken FitFault → Type 0
 Took at t ts ss es = Answers (TookPart t ts ss es) (Refuses at (FitInOrder (t ∷ ts) ss es))

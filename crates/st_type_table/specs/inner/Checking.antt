@@ -15,13 +15,13 @@ use Rattle.st_type_table.specs.Meaning.{alternatives_of}
 use Rattle.st_type_table.specs.Leads.{Among, Leads, Ends}
 use Rattle.st_type_table.specs.inner.Graph.{place_of, mark}
 
--- of these names, those that lead back to the target are marked at their places
+-- of these names, those that lead back to the target are marked
 abbrev pub Returns : List SyntaxDef → List ℕ → List Bool → List (List ℕ) → Type 0
 Returns defs target marks names =
     (name : List ℕ) (place : ℕ) → Among names name → place_of defs name ≡ Some place
     → (mark marks place ≡ true) ↔ Leads defs name target
 
--- the type is the name of a variant
+-- the type is the name of a variant, whose alternatives are known
 abbrev pub IsListed : List SyntaxDef → Ty → Type 0
 IsListed defs t = (alternatives : List Alternative) × (alternatives_of defs t ≡ Some alternatives)
 
@@ -31,24 +31,24 @@ pub record IsEnding (defs : List SyntaxDef) (name : List ℕ) : Type 0 where
   pub there : place_of defs name ≡ Some place
   pub ends : Ends defs name
 
--- the cases of the alternatives before this place, whose keys differ
+-- the cases of the alternatives before the one of this number, whose keys differ
 pub record IsSoFar (defs : List SyntaxDef) (parts : List Alternative) (at : ℕ)
     (cases : List CaseDef) : Type 0 where
   pub flattened : Flatten defs (take at parts) cases
   pub differ : KeysDiffer cases
 
--- the alternative at this place is ready
+-- the alternative of this number is ready
 abbrev pub IsReadyAt : List SyntaxDef → List Flat → List Alternative → ℕ → Type 0
 IsReadyAt defs flats parts at =
     (a : Alternative) → slice_get parts at ≡ Some a → IsReady defs flats a
 
--- whether the keys up to this place differ
+-- whether the keys of the cases up to the alternative of this number differ
 abbrev pub KeysTo : List SyntaxDef → List Alternative → ℕ → List CaseDef → Bool → Type 0
 KeysTo defs parts at cases differ =
     MatchBool differ (IsSoFar defs parts (suc at) cases)
     (Holds defs (keys (take (suc at) parts)) → ⊥)
 
--- what is found at this place; where nothing is, the keys differ
+-- what is found at the alternative of this number; where nothing is, the keys differ
 abbrev pub ChecksAt : List SyntaxDef → List ℕ → List Alternative → ℕ → List CaseDef
     → Option (ℕ × RuleId) → Type 0
 ChecksAt defs target parts at cases found =
@@ -56,7 +56,7 @@ ChecksAt defs target parts at cases found =
     → Finds defs (on_alternative target at (take (suc at) parts) a) found)
     × IfNone found (IsSoFar defs parts (suc at) cases)
 
--- what is found at a definition
+-- what is found at the definition of this number
 abbrev pub CheckedAt : List SyntaxDef → ℕ → Option (ℕ × RuleId) → Type 0
 CheckedAt defs at found =
     (d : SyntaxDef) → slice_get defs at ≡ Some d → Finds defs (conditions_on (take at defs) d) found

@@ -38,17 +38,18 @@ IsFlat defs alternatives f =
     MatchBool f.whole (Flatten defs alternatives f.cases × KeysDiffer f.cases)
     (IsBroken defs alternatives)
 
+-- the alternatives of a definition, which are none where it is no variant
 abbrev pub alternatives_in : SyntaxDef → List Alternative
 alternatives_in d = or_none (listed (Some d.body))
 
--- right at the place of what the type means
+-- what is kept of the variant that the type means is right
 abbrev pub IsFlatAt : List SyntaxDef → List Flat → Ty → Type 0
 IsFlatAt defs flats t =
     (variant : List ℕ) (place : ℕ) (d : SyntaxDef) (f : Flat) → Means defs t (ty.Name variant)
     → place_of defs variant ≡ Some place → slice_get defs place ≡ Some d
     → slice_get flats place ≡ Some f → IsFlat defs (alternatives_in d) f
 
--- what is kept of the variant that the type means
+-- what is kept of the variant that the type means, or nothing where it means none
 abbrev pub IsFlatOf : List SyntaxDef → Ty → Option (Bor Flat) → Type 0
 IsFlatOf defs t found =
     (u : Ty) × (Means defs t u
@@ -61,6 +62,7 @@ IsReady defs flats a =
     (name : List ℕ) → a ≡ alternative.Incl name
     → Ends defs name × IsFlatAt defs flats (ty.Name name)
 
+-- all these alternatives are ready: the ways from what they include end, and its cases are known
 abbrev pub AllReady : List SyntaxDef → List Flat → List Alternative → Type 0
 AllReady defs flats [] = Unit {0}
 AllReady defs flats (a ∷ as') = IsReady defs flats a × AllReady defs flats as'
@@ -78,7 +80,7 @@ AddsAlternative defs before after a added = MatchBool added
     ((more : List CaseDef) × (Brings defs a more × ((after ≡ before ++ more) × KeysDiffer after)))
     ((more : List CaseDef) × (Brings defs a more × (KeysDiffer (before ++ more) → ⊥)))
 
--- the flats are right at all places with ranks up to this
+-- what is kept of the definitions with ranks up to this is right
 pub record AreFlats (defs : List SyntaxDef) (ranks : List ℕ) (limit : ℕ)
     (flats : List Flat) : Type 0 where
   pub size : length flats ≡ length defs

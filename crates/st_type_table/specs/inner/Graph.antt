@@ -1,4 +1,4 @@
--- Syntaxes by their places: which place is that of a name, and to which places a place leads.
+-- Graphs of definitions: the number of a name's definition, and which definitions lead to which.
 use Rattle.std.specs.Prelude.{◌≡◌, ◌⊎◌, ◌<◌, ◌≤◌, ◌↔◌, ℕ, zero, suc, Bool, true, false, List, [], ◌∷◌, length, map, slice_get, slice_index, slice_index_or, Option, Some, None, nat_eq, if◌then◌else◌}
 use Rattle.std.specs.List.{flat_map}
 use Rattle.std.specs.Option.{option_map}
@@ -8,53 +8,55 @@ use Rattle.st_il.specs.declared.ty.Ty.{Ty}
 use Rattle.st_il.specs.declared.ty.Ty.TheVariants as ty
 use Rattle.st_type_table.specs.Leads.{leads_to, Ends}
 
--- the place of the first definition of this name
+-- the number of the first definition of this name
 abbrev pub place_of : List SyntaxDef → List ℕ → Option ℕ
 place_of [] name = None
 place_of (d ∷ ds) name =
     if pointwise nat_eq name d.name then Some 0 else option_map suc (place_of ds name)
 
+-- the number that there is, or none, as a list
 abbrev pub one_place : Option ℕ → List ℕ
 one_place None = []
 one_place (Some place) = place ∷ []
 
--- the places of those names that are declared
+-- the numbers of the definitions of those names that are declared
 abbrev pub places_of : List SyntaxDef → List (List ℕ) → List ℕ
 places_of defs = flat_map (λ name. one_place (place_of defs name))
 
--- for a definition the places that it leads to
+-- the numbers of the definitions that a definition leads to
 abbrev pub node_of : List SyntaxDef → SyntaxDef → Option (List ℕ)
 node_of defs d = Some (places_of defs (leads_to d.body))
 
+-- the graph of definitions, by what each leads to
 abbrev pub graph_of : List SyntaxDef → List (Option (List ℕ))
 graph_of defs = map (node_of defs) defs
 
--- the place is one of these
+-- the number is one of these
 abbrev pub IsOne : List ℕ → ℕ → Type 0
 IsOne [] i = ⊥
 IsOne (x ∷ xs) i = (i ≡ x) ⊎ IsOne xs i
 
--- for each place those that it waits for, or none where it waits for ever
+-- for each definition the numbers of those that it waits for, or none where it waits for ever
 abbrev pub Graph : Type 0
 Graph = List (Option (List ℕ))
 
--- All that the place waits for ends, and so it ends.
+-- All that the definition of this number waits for ends, and so it ends.
 pub data EndsAt (graph : Graph) : ℕ → Type 0 where
   ends : {i : ℕ} (next : List ℕ) → slice_get graph i ≡ Some (Some next)
       → ((j : ℕ) → IsOne next j → EndsAt graph j) → EndsAt graph i
 
--- all that a place waits for is ranked
+-- all that a definition waits for has ranks
 abbrev pub AllRanked : Option (List ℕ) → List ℕ → Type 0
 AllRanked None ranks = ⊥
 AllRanked (Some next) ranks = (j : ℕ) → IsOne next j → 0 < slice_index ranks j
 
--- The first place leads to the second.
+-- The first definition leads to the second, by their numbers.
 pub data LeadsAt (graph : Graph) : ℕ → ℕ → Type 0 where
   here : {i k : ℕ} → i ≡ k → LeadsAt graph i k
   step : {i k : ℕ} (next : List ℕ) (j : ℕ) → slice_get graph i ≡ Some (Some next) → IsOne next j
       → LeadsAt graph j k → LeadsAt graph i k
 
--- the ranks of places: 0 where one does not end, else more than those of all that it waits for
+-- the ranks of definitions: 0 where one does not end, else more than those of all that it waits for
 pub record AreRanks (graph : Graph) (ranks : List ℕ) : Type 0 where
   pub size : length ranks ≡ length graph
   pub exact : (i : ℕ) → (0 < slice_index ranks i) ↔ EndsAt graph i
@@ -63,19 +65,19 @@ pub record AreRanks (graph : Graph) (ranks : List ℕ) : Type 0 where
       → slice_get graph i ≡ Some (Some next) → IsOne next j
       → (0 < slice_index ranks j) × (slice_index ranks j < slice_index ranks i)
 
--- no place is left that waits for ranked ones alone
+-- no definition is left that waits for ranked ones alone
 abbrev pub IsClosed : Graph → List ℕ → Type 0
 IsClosed graph ranks =
     (i : ℕ) (node : Option (List ℕ)) → slice_get graph i ≡ Some node → slice_index ranks i ≡ 0
     → AllRanked node ranks → ⊥
 
--- how many are ranked
+-- how many definitions have a rank
 abbrev pub ranked : List ℕ → ℕ
 ranked [] = 0
 ranked (zero ∷ rs) = ranked rs
 ranked (suc r ∷ rs) = suc (ranked rs)
 
--- ranks so far, as many as this
+-- the ranks that are found so far, as many as this
 pub record SoFar (graph : Graph) (ranks : List ℕ) (count : ℕ) : Type 0 where
   pub size : length ranks ≡ length graph
   pub counted : count ≡ ranked ranks
@@ -87,31 +89,34 @@ pub record SoFar (graph : Graph) (ranks : List ℕ) (count : ℕ) : Type 0 where
 
 -- ---- what leads to a place
 
+-- the definition of this number is marked; one behind the last is not
 abbrev pub mark : List Bool → ℕ → Bool
 mark marks i = slice_index_or marks i false
 
+-- one of those that a definition leads to is marked
 abbrev pub AnyMarked : Option (List ℕ) → List Bool → Type 0
 AnyMarked None marks = ⊥
 AnyMarked (Some next) marks = (j : ℕ) × IsOne next j × (mark marks j ≡ true)
 
+-- how many definitions are not marked
 abbrev pub unmarked : List Bool → ℕ
 unmarked [] = 0
 unmarked (true ∷ ms) = unmarked ms
 unmarked (false ∷ ms) = suc (unmarked ms)
 
--- no place is left that leads to a marked one
+-- no definition is left that leads to a marked one
 abbrev pub IsClosedBack : Graph → List Bool → Type 0
 IsClosedBack graph marks =
     (i : ℕ) (there : Option (List ℕ)) → slice_get graph i ≡ Some there → mark marks i ≡ false
     → AnyMarked there marks → ⊥
 
--- places that lead to the target, among them itself
+-- the marked definitions lead to the target, which is one of them
 pub record LeadBack (graph : Graph) (marks : List Bool) (target : ℕ) : Type 0 where
   pub size : length marks ≡ length graph
   pub started : mark marks target ≡ true
   pub sound : (i : ℕ) → mark marks i ≡ true → LeadsAt graph i target
 
--- of the places that the target leads to, those that lead back are marked
+-- of the definitions that the target leads to, those that lead back are marked
 abbrev pub LeadsBack : Graph → List Bool → ℕ → Type 0
 LeadsBack graph marks target =
     (j : ℕ) (next : List ℕ) → slice_get graph target ≡ Some (Some next) → IsOne next j

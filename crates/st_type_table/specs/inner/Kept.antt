@@ -14,19 +14,23 @@ use Rattle.st_type_table.specs.Joins.{AllJoin}
 use Rattle.st_type_table.specs.Breach.{IsSound}
 use Rattle.st_type_table.specs.Leads.{Among, names_in}
 
+-- what a table keeps: the names of syntaxes, each with its entry
 abbrev pub Kept : Type 0
 Kept = List (List ℕ × Entry)
 
+-- the definition that an entry is kept of
 abbrev pub declared : List ℕ × Entry → SyntaxDef
 declared e = record { name = e.0; body = e.1.body }
 
--- the definitions
+-- the definitions that a table keeps
 abbrev pub defs_of : Kept → List SyntaxDef
 defs_of kept = map declared kept
 
+-- the entry of this name
 abbrev pub entry_of : Kept → List ℕ → Option Entry
 entry_of kept name = lookup (pointwise nat_eq name) kept
 
+-- the entry that a type names, by the top of the type
 abbrev pub entry_at : {X : Type 0} → Kept → Ty-F X → Option Entry
 entry_at kept (Ty-F.Name name) = entry_of kept name
 entry_at kept Ty-F.Bool = None
@@ -37,16 +41,20 @@ entry_at kept (Ty-F.List t) = None
 entry_at kept (Ty-F.Opt t) = None
 entry_at kept (Ty-F.Tuple ts) = None
 
+-- the entry that a type names
 abbrev pub entry_named : Kept → Ty → Option Entry
 entry_named kept t = entry_at kept (out-Ty t)
 
+-- the rank of an entry, and 0 where there is none
 abbrev pub ranked : Option Entry → ℕ
 ranked None = 0
 ranked (Some e) = e.rank
 
+-- the rank of the syntax of this name, and 0 where there is none
 abbrev pub rank_of : Kept → List ℕ → ℕ
 rank_of kept name = ranked (entry_of kept name)
 
+-- what an entry keeps of an alias, a variant or a record with this body is right
 abbrev pub IsSettled : Kept → Entry → SyntaxBody → Type 0
 IsSettled kept e (body.Alias t) =
     (name : List ℕ) → Among (names_in t) name → rank_of kept name < e.rank

@@ -20,7 +20,7 @@ pub data IsUnder (defs : List SyntaxDef) : Ty → Ty → Type 0 where
   option : {a b : Ty} (x y : Ty) → Means defs a (ty.Opt x) → Means defs b (ty.Opt y) → Sub defs x y
       → IsUnder defs a b
 
--- the one is below the other by numbers or by elements
+-- the first meaning is below the second by numbers or by elements
 abbrev pub UnderAt : List SyntaxDef → Ty-F Ty → Ty-F Ty → Type 0
 UnderAt defs Ty-F.Nat Ty-F.Int = Unit {0}
 UnderAt defs (Ty-F.List x) (Ty-F.List y) = Sub defs x y
@@ -36,43 +36,52 @@ pub record HasOperands (defs : List SyntaxDef) (t : Ty) (tag : List ℕ)
   pub has : HasCases defs t cases
   pub found : operands_of cases tag ≡ Some operands
 
+-- a case with this tag and these operands has the type
 pub record CaseHasType (defs : List SyntaxDef) (tag : List ℕ) (parts : List Value)
     (t : Ty) : Type 0 where
   pub operands : List Ty
   pub has : HasOperands defs t tag operands
   pub typed : HaveTypes defs parts operands
 
+-- a record of these fields has the type
 pub record RecordHasType (defs : List SyntaxDef) (parts : List (List ℕ × Value))
     (t : Ty) : Type 0 where
   pub declared : List (List ℕ × Ty)
   pub has : HasFields defs t declared
   pub typed : FieldsHaveTypes defs parts declared
 
+-- truth values have the type with this meaning
 abbrev pub TruthAt : {X : Type 0} → Ty-F X → Type 0
 TruthAt Ty-F.Bool = Unit {0}
 TruthAt _ = ⊥
 
+-- an integer is not negative
 abbrev pub IsNatural : ℤ → Type 0
 IsNatural (pos n) = Unit {0}
 IsNatural (negsuc n) = ⊥
 
+-- a number has the type with this meaning
 abbrev pub NumberAt : {X : Type 0} → ℤ → Ty-F X → Type 0
 NumberAt z Ty-F.Nat = IsNatural z
 NumberAt z Ty-F.Int = Unit {0}
 NumberAt z _ = ⊥
 
+-- texts have the type with this meaning
 abbrev pub TextAt : {X : Type 0} → Ty-F X → Type 0
 TextAt Ty-F.Text = Unit {0}
 TextAt _ = ⊥
 
+-- a tuple of these parts has the type with this meaning
 abbrev pub TupleAt : List SyntaxDef → List Value → Ty-F Ty → Type 0
 TupleAt defs parts (Ty-F.Tuple types) = HaveTypes defs parts types
 TupleAt defs parts _ = ⊥
 
+-- a list of these elements has the type with this meaning
 abbrev pub ListAt : List SyntaxDef → List Value → Ty-F Ty → Type 0
 ListAt defs parts (Ty-F.List element) = AllHaveType defs parts element
 ListAt defs parts _ = ⊥
 
+-- an option, empty or with a part, has the type with this meaning
 abbrev pub OptionAt : List SyntaxDef → Option Value → Ty-F Ty → Type 0
 OptionAt defs None (Ty-F.Opt element) = Unit {0}
 OptionAt defs (Some part) (Ty-F.Opt element) = HasType defs part element

@@ -5,15 +5,17 @@ use Rattle.std.specs.Cmp.Lexicographic.{pointwise}
 use Rattle.st_words.specs.declared.arrangement.Arrangement.{Arrangement}
 use Rattle.st_words.specs.Arranged.{begins_with_dash, is_dashed, is_end, plain_words}
 
--- an arrangement with a word more in front
+-- an arrangement with a plain word more in front
 abbrev pub with_plain : List ℕ → Option Arrangement → Option Arrangement
 with_plain word (Some rest) = Some (record rest { plain = word ∷ rest.plain })
 with_plain word None = None
 
+-- an arrangement with a value of `--fuel` more in front
 abbrev pub with_fuel : List ℕ → Option Arrangement → Option Arrangement
 with_fuel value (Some rest) = Some (record rest { fuels = value ∷ rest.fuels })
 with_fuel value None = None
 
+-- an arrangement with a value of `--depth` more in front
 abbrev pub with_depth : List ℕ → Option Arrangement → Option Arrangement
 with_depth value (Some rest) = Some (record rest { depths = value ∷ rest.depths })
 with_depth value None = None
@@ -27,7 +29,7 @@ prepended given (Some rest) = Some (record {
 })
 prepended given None = None
 
--- a value that is a word of its own
+-- an option whose value is the word behind it, which does not begin with `-`
 abbrev pub as_value : (List ℕ → Option Arrangement → Option Arrangement)
     → List ℕ → Option Arrangement → Option Arrangement
 as_value add value rest = if begins_with_dash value then None else add value rest
@@ -54,7 +56,7 @@ arranged (word ∷ next ∷ words) =
     in_front word (next ∷ words) (arranged (next ∷ words))
     (λ add. as_value add next (arranged words))
 
--- the value of an option stands in this word
+-- the word is an option with its value in it, which is added to the arrangement
 abbrev pub AddsJoined : Arrangement → Arrangement → List ℕ → Type 0
 AddsJoined before after word =
     ((value : List ℕ) × (word ≡ codes "--fuel=" ++ value)
@@ -62,7 +64,7 @@ AddsJoined before after word =
     ⊎ ((value : List ℕ) × (word ≡ codes "--depth=" ++ value)
     × (after ≡ record before { depths = before.depths ++ value ∷ [] }))
 
--- it stands not
+-- the word is no option with its value in it
 pub record IsNotJoined (word : List ℕ) : Type 0 where
   pub no_fuel : (value : List ℕ) → ¬ (word ≡ codes "--fuel=" ++ value)
   pub no_depth : (value : List ℕ) → ¬ (word ≡ codes "--depth=" ++ value)
