@@ -139,7 +139,7 @@ refusal_is s x h = ap (λ b. judging.broken (if left_out b s.nesting x.kind then
 
 -- ---- a token that goes on with an expression
 
-limited_is : (s : Seen) (b c : Bool) → spec.alone (view.view (defs.limited b c (as_rule s))) ≡ verdict_view (limited b c s)
+limited_is : (s : Seen) (b c : Bool) → spec.alone (view.view (limited b c (as_rule s))) ≡ verdict_view (limited b c s)
 limited_is s true c = refl
 limited_is s false true = refl
 limited_is s false false = refl
