@@ -15,7 +15,7 @@ returns c d i =
     record {
       past = next.past ∙ c.or.ensures
           ∙ past_put d node c.in_ok-measure.measure c.in-Some.measure c.args.survey.past c.in_ok-past_here.past_here of_node c.in-Some.is i.past
-          (c.in_ok-past_here.ensures ∙ ap (λ tokens. place_past MOST_PREMISES (occurrences tokens)) c.as_slice.ensures);
+          (c.in_ok-past_here.ensures ∙ ap (λ most. place_past most (occurrences c.as_slice.result.now)) c.from-most.ensures ∙ ap (λ tokens. place_past MOST_PREMISES (occurrences tokens)) c.as_slice.ensures);
       tall = next.tall ∙ c.or-2.ensures
           ∙ tall_put d node c.in_ok-measure.measure c.in-Some.measure c.args.survey.at c.args.survey.tall c.tall_at-tall_here.result of_node c.in-Some.is i.tall i.at c.tall_at-tall_here.ensures;
       at = next.at;
