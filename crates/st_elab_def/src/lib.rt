@@ -1,0 +1,15 @@
+//! Elaboration of a source: its definitions in the internal language, or the first breach.
+//!
+//! The definitions of a source come in. The one idea: a source is a list of conditions, each at a
+//! place, in the order of four phases (declarations, bodies, signatures, rules and clauses); the
+//! first that is false is the breach, and where all hold there is one internal language.
+//!
+//! Read `specs/Conditions.antt` and `specs/Phases.antt` first, then `specs/Elaboration.antt` and
+//! `specs/Breaches.antt`. The rules are in `docs/elaboration.md`, "Definitions".
+#![tactic(auto)]
+
+mod breach;
+mod elaborated;
+
+pub use breach::{Breach, DefFault};
+pub use elaborated::Elaborated;
