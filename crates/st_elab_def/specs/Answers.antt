@@ -37,6 +37,12 @@ IsGiven x r = Told (λ y. y ≡ x) (λ b. ⊥) r
 abbrev pub IsRefused : {A : Type 0} → Breach → Result A DefFault → Type 0
 IsRefused b r = Told (λ y. ⊥) (λ c. c ≡ b) r
 
+-- There is one internal language or one first breach, and not both.
+pub record HasOneOutcome (defs : List Def) : Type 0 where
+  pub one : (x y : Elaborated) → IsElaborated defs x → IsElaborated defs y → x ≡ y
+  pub one_breach : (b c : Breach) → IsBreach defs b → IsBreach defs c → b ≡ c
+  pub not_both : (x : Elaborated) (b : Breach) → IsElaborated defs x → IsBreach defs b → ⊥
+
 -- ---- erasure
 
 abbrev pub HasTemplate : Notation → Type 0

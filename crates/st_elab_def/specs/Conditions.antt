@@ -13,7 +13,7 @@ use Rattle.st_el.specs.declared.definition.DefNode.TheVariants.{Rule}
 use Rattle.st_el.specs.declared.definition.Hint.{Hint}
 use Rattle.st_il.specs.declared.definition.RelationDef.{RelationDef}
 use Rattle.st_il.specs.declared.definition.FunDef.{FunDef}
-use Rattle.st_types.specs.Breach as types
+use Rattle.st_type_table.specs.Breach as types
 use Rattle.st_elab_sig.specs.Modes.{IsMode}
 use Rattle.st_elab_table.specs.declared.decls.Decls.{Decls}
 use Rattle.st_elab_table.specs.Inferred.{fun_named}

@@ -17,7 +17,7 @@ use Rattle.st_el.specs.declared.definition.DefNode.TheVariants.{Syntax, Var, Rel
 use Rattle.st_el.specs.declared.definition.Prem.{Prem}
 use Rattle.st_il.specs.declared.ty.Ty.{Ty}
 use Rattle.st_il.specs.declared.definition.Alternative.{Alternative}
-use Rattle.st_types.specs.Breach as types
+use Rattle.st_type_table.specs.Breach as types
 use Rattle.st_elab_sig.specs.Signatures.{holes_of}
 use Rattle.st_elab_rule.specs.Clauses.{ClauseParts, parts_of}
 use Rattle.st_elab_def.specs.Definitions.{Definition, number_of, definitions}

@@ -10,6 +10,8 @@
 
 mod breach;
 mod elaborated;
+mod laws;
 
 pub use breach::{Breach, DefFault};
 pub use elaborated::Elaborated;
+pub use laws::one_outcome;
