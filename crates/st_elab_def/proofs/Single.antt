@@ -5,7 +5,6 @@ use Rattle.st_el.specs.declared.expression.Exp.{Exp}
 use Rattle.st_el.specs.declared.definition.Def.{Def}
 use Rattle.st_el.specs.declared.definition.DefNode.{DefNode}
 use Rattle.st_el.specs.declared.definition.DefNode.TheVariants.{Rule, Clause}
-use Rattle.st_el.specs.declared.definition.Hint.{Hint}
 use Rattle.st_el.specs.declared.definition.Prem.{Prem}
 use Rattle.st_il.specs.declared.definition.ClauseDef.{ClauseDef}
 use Rattle.st_il.specs.declared.definition.FunDef.{FunDef}

@@ -1,5 +1,5 @@
 -- The first breach of a source: the first part that is asked and whose condition is false.
-use Rattle.std.specs.Prelude.{◌≡◌, ◌⊎◌, ℕ, List, [], ◌∷◌}
+use Rattle.std.specs.Prelude.{◌≡◌, ◌⊎◌, List, [], ◌∷◌}
 use Rattle.st_num.specs.declared.span.Span.{Span}
 use Rattle.st_el.specs.declared.definition.Def.{Def}
 use Rattle.st_il.specs.declared.definition.ClauseDef.{ClauseDef}

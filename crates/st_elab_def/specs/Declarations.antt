@@ -1,8 +1,8 @@
 -- What a definition declares, and whether one before declares the same.
-use Rattle.std.specs.Prelude.{◌≡◌, Bool, false, not, ◌&&◌}
+use Rattle.std.specs.Prelude.{Bool, false, not, ◌&&◌}
 use Rattle.std.specs.List.{list_any}
 use Rattle.std.specs.Option.{is_some}
-use Rattle.st_el.specs.Erasure.{same_name}
+use Rattle.st_num.specs.Names.{same_name}
 use Rattle.st_el.specs.declared.definition.Def.{Def}
 use Rattle.st_el.specs.declared.definition.DefNode.{DefNode}
 use Rattle.st_el.specs.declared.definition.DefNode.TheVariants.{Syntax, Var, Relation, Fun}

@@ -3,7 +3,8 @@ use Rattle.std.specs.Prelude.{ℕ, List, [], ◌∷◌, map, filter, flat_map, c
 use Rattle.st_scan.specs.declared.token.Token.{Token}
 use Rattle.st_scan.specs.declared.token.TokenKind.{TokenKind}
 use Rattle.st_scan.specs.declared.token.TokenKind.TheVariants.{Low}
-use Rattle.st_el.specs.Erasure.{same_name, is_mode}
+use Rattle.st_num.specs.Names.{same_name}
+use Rattle.st_el.specs.Erasure.{is_mode}
 use Rattle.st_el.specs.declared.ty.Typ.{Typ, out-Typ}
 use Rattle.st_el.specs.declared.ty.TypNode.{TypNode, out-TypNode}
 use Rattle.st_el.specs.declared.ty.TypNode.TheOpen.{TypNode-F}

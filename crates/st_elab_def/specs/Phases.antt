@@ -1,5 +1,5 @@
 -- What is asked of the parts of a source, in the four phases and in their order.
-use Rattle.std.specs.Prelude.{ℕ, List, [], ◌∷◌, ◌++◌, length, map, flat_map, Option}
+use Rattle.std.specs.Prelude.{ℕ, List, [], ◌∷◌, ◌++◌, length, map, flat_map}
 use Rattle.st_num.specs.declared.span.Span.{Span}
 use Rattle.st_el.specs.Erasure.{alternatives}
 use Rattle.st_el.specs.declared.expression.Exp.{Exp}
@@ -192,8 +192,10 @@ of_definition d p = record { definition = number_of d; placed = p }
 abbrev pub phase : (Definition → List Placed) → List Definition → List Question
 phase on ds = flat_map (λ (d : Definition). map (of_definition d) (on d)) ds
 
--- all that is asked of a source, in order
+-- the four phases, in their order
+abbrev pub phases : List (Definition → List Placed)
+phases = on_declaration ∷ on_body ∷ on_signature ∷ on_content ∷ []
+
+-- all that is asked of a source, phase by phase
 abbrev pub questions : List Def → List Question
-questions defs =
-    phase on_declaration (definitions defs) ++ phase on_body (definitions defs)
-    ++ phase on_signature (definitions defs) ++ phase on_content (definitions defs)
+questions defs = flat_map (λ (on : Definition → List Placed). phase on (definitions defs)) phases

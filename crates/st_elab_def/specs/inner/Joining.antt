@@ -1,5 +1,5 @@
 -- What a definition that is no later fragment stands for.
-use Rattle.std.specs.Prelude.{◌≡◌, List, map, filter, flat_map, not, Option, Some, None}
+use Rattle.std.specs.Prelude.{◌≡◌, List, map, filter, flat_map, not, Some, None}
 use Rattle.st_el.specs.Erasure.{joined, joined_at, alternatives}
 use Rattle.st_el.specs.declared.definition.Def.{Def}
 use Rattle.st_el.specs.declared.definition.DefNode.{DefNode}
