@@ -26,7 +26,6 @@ use Rattle.st_elab_def.specs.Phases.{Asked, condition, rule, clause, Question, q
 use Rattle.st_elab_def.specs.Breaches.{Passes, Fails, IsBrokenBy, AllPass, FirstBreach, IsBreach}
 use Rattle.st_elab_def.specs.Elaboration.{ElabDef, declaration, rule as rule_def, clause as clause_def, ElabDefs, IsElaborated}
 
-
 module _ (D : Decls) where
   -- ---- rules and clauses, by the names of what they belong to
 

@@ -80,8 +80,12 @@ mode_of hints = mode_by (filter is_mode hints)
 
 abbrev pub relation_of : List Hint → List ℕ → Notation → RelationDef
 relation_of hints name n =
-    record
-    { name = name; tag = tag_of (template_of n); holes = map ty_of (holes_of n); mode = mode_of hints }
+    record {
+      name = name;
+      tag = tag_of (template_of n);
+      holes = map ty_of (holes_of n);
+      mode = mode_of hints;
+    }
 
 -- ---- declarations
 
@@ -113,8 +117,12 @@ relation_in def = []
 -- what these definitions declare
 abbrev pub decls_in : List IlDef → Decls
 decls_in defs =
-    record
-    { types = syntaxes defs; vars = flat_map var_in defs; funs = flat_map fun_in defs; relations = flat_map relation_in defs }
+    record {
+      types = syntaxes defs;
+      vars = flat_map var_in defs;
+      funs = flat_map fun_in defs;
+      relations = flat_map relation_in defs;
+    }
 
 -- the declarations of a source, its fragments joined
 abbrev pub decls_of : List Def → Decls

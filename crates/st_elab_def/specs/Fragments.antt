@@ -21,8 +21,9 @@ abbrev pub ends : Body → Bool
 ends (Cases before cases after) = after
 ends body = false
 
--- The dots suit a body with fragments of its syntax before it, or behind it, or both: the first
--- ends in `...`, each later one begins with it, the last does not end in it, and one alone has none.
+-- The dots suit a body with fragments of its syntax before it, or behind it, or both:
+-- the first ends in `...`, each later one begins with it, the last does not end in it,
+-- and one alone has none.
 abbrev pub dots_suit : (before behind : Bool) → Body → Bool
 dots_suit false false body = not (begins body) && not (ends body)
 dots_suit false true body = ends body

@@ -20,6 +20,5 @@ pub mod Breaches
 pub mod Elaboration
 -- what the two calls answer
 pub mod Answers
-
 -- ---- what only proofs need
 pub mod inner

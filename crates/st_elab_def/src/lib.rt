@@ -4,8 +4,9 @@
 //! place, in the order of four phases (declarations, bodies, signatures, rules and clauses); the
 //! first that is false is the breach, and where all hold there is one internal language.
 //!
-//! Read `specs/Conditions.antt` and `specs/Phases.antt` first, then `specs/Elaboration.antt` and
-//! `specs/Breaches.antt`. The rules are in `docs/elaboration.md`, "Definitions".
+//! Read `specs/Conditions.antt` and `specs/Phases.antt` first, then `specs/Breaches.antt` and
+//! `specs/Elaboration.antt`. The rules on syntaxes and signatures are in
+//! `docs/internal-language.md`, and those on rules and clauses in `docs/elaboration.md`.
 #![tactic(auto)]
 
 mod breach;
