@@ -15,5 +15,6 @@ mod rule;
 mod scope;
 
 pub use clause::elaborate_clause;
+pub use judgement::relation_named;
 pub use laws::{one_clause, one_rule};
 pub use rule::elaborate_rule;
