@@ -24,6 +24,6 @@ mod wrapping;
 pub use definition::{Body, Def, DefNode, Hint, Prem, PremNode};
 pub use expression::{Count, Exp, Node, Seg};
 pub use notation::{NotNode, Notation};
-pub use plain_definition::{has_fragment, is_fragment, is_mode, plain};
+pub use plain_definition::{is_mode, plain};
 pub use print::print_el;
 pub use ty::{Typ, TypNode};

@@ -189,7 +189,7 @@ fn plain_def(alloc: Global, def: &Def) -> Result<Def, NoMemory>
     })
 }
 
-pub fn is_fragment(name: &Name, def: &Def) -> bool
+fn is_fragment(name: &Name, def: &Def) -> bool
     ensures { result ≡ is_fragment name.now def.now }
 {
     match &def.node {
@@ -206,7 +206,7 @@ pub fn is_fragment(name: &Name, def: &Def) -> bool
     }
 }
 
-pub fn has_fragment(name: &Name, defs: &[Def]) -> bool
+fn has_fragment(name: &Name, defs: &[Def]) -> bool
     ensures { result ≡ list_any (is_fragment name.now) defs.now }
 {
     for def in defs {

@@ -15,6 +15,5 @@ mod rule;
 mod scope;
 
 pub use clause::elaborate_clause;
-pub use judgement::relation_named;
 pub use laws::{one_clause, one_rule};
 pub use rule::elaborate_rule;
