@@ -1,7 +1,7 @@
 mod Outcomes
 mod Premising
 mod Scoping
-mod Defining
+pub mod Defining
 mod Building
 mod Naming
 mod Judging

@@ -1,0 +1,6 @@
+pub mod Single
+pub mod Walking
+pub mod PlainTwice
+mod Examples
+mod ExamplesOfCases
+mod Light

@@ -1,0 +1,18 @@
+//! Elaboration of a source: its definitions in the internal language, or the first breach.
+//!
+//! The definitions of a source come in. The one idea: a source is a list of conditions, each at a
+//! place, in the order of four phases (declarations, bodies, signatures, rules and clauses); the
+//! first that is false is the breach, and where all hold there is one internal language.
+//!
+//! Read `specs/Conditions.antt` and `specs/Phases.antt` first, then `specs/Breaches.antt` and
+//! `specs/Elaboration.antt`. The rules on syntaxes and signatures are in
+//! `docs/internal-language.md`, and those on rules and clauses in `docs/elaboration.md`.
+#![tactic(auto)]
+
+mod breach;
+mod elaborated;
+mod laws;
+
+pub use breach::{Breach, DefFault};
+pub use elaborated::Elaborated;
+pub use laws::one_outcome;
