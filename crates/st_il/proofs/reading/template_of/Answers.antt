@@ -1,3 +1,5 @@
+use Rattle.std.proofs.Common.{ap, ◌∙◌}
+use Rattle.st_il.specs.Tags.{template_of}
 use Rattle.st_il.proofs.Tags.{one_template}
 use Rattle.st_il.proofs.TagTemplates.{template-told}
 use Rattle.st_il.proofs.reading.template_of.Goals as goal
@@ -10,4 +12,5 @@ returns-clause-one c = one_template c.args.tag.now
 
 pub returns-clause-gives : goal.returns-clause-gives
 returns-clause-gives c =
-    template-told c.in_ok-found.found c.args.tag.now c.in_ok-found.ensures.some c.in_ok-found.ensures.none (one_template c.args.tag.now)
+    template-told c.in_ok-found.found c.as_slice.result.now c.in_ok-found.ensures.some c.in_ok-found.ensures.none (one_template c.as_slice.result.now)
+    ∙ ap template_of c.as_slice.ensures
