@@ -9,17 +9,6 @@ use Rattle.st_deriv.specs.inner.Reading.{IsNoCase}
 
 -- ---- lists of a known length
 
-pub one_is : {X : Type 0} (xs : List X) (a : X) → length xs ≡ 1 → a ≡ get_or xs 0 a → xs ≡ a ∷ []
-one_is [] a one ea = absurd (omega arith)
-one_is (p ∷ []) a one ea = cc
-one_is (p ∷ q ∷ xs) a one ea = absurd (omega arith)
-
-pub two_is : {X : Type 0} (xs : List X) (a b : X) → length xs ≡ 2 → a ≡ get_or xs 0 a → b ≡ get_or xs 1 b → xs ≡ a ∷ b ∷ []
-two_is [] a b two ea eb = absurd (omega arith)
-two_is (p ∷ []) a b two ea eb = absurd (omega arith)
-two_is (p ∷ q ∷ []) a b two ea eb = cc
-two_is (p ∷ q ∷ r ∷ xs) a b two ea eb = absurd (omega arith)
-
 pub five_is : {X : Type 0} (xs : List X) (a b c d e : X) → length xs ≡ 5 → a ≡ get_or xs 0 a → b ≡ get_or xs 1 b → c ≡ get_or xs 2 c
     → d ≡ get_or xs 3 d → e ≡ get_or xs 4 e → xs ≡ a ∷ b ∷ c ∷ d ∷ e ∷ []
 five_is [] a b c d e five ea eb ec ed ee = absurd (omega arith)

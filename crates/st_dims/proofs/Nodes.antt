@@ -11,14 +11,14 @@ use Rattle.st_el.specs.declared.expression.Seg.{Seg}
 use Rattle.st_dims.specs.declared.within.Within.{Within}
 use Rattle.st_dims.specs.declared.mention.Mention.{Mention}
 use Rattle.st_dims.specs.declared.mention.Mention.TheVariants.{Indexes}
-use Rattle.st_dims.specs.Mentions.{Sees, Marked, marked, marked_at, mentions_node_at, mentions_seg_at, mentions_exp_at, mentions_exp, mentions_node, mentions_seg, iterated, seen_in, fields_seen, field_mentions, iteration, body_round}
+use Rattle.st_dims.specs.Mentions.{Sees, CountMeaning, count_meaning, count_meaning_at, mentions_node_at, mentions_seg_at, mentions_exp_at, mentions_exp, mentions_node, mentions_seg, iterated, seen_in, fields_seen, field_mentions, iteration, body_round}
 
 -- a level with what is mentioned in its parts
-abbrev pub parts_seen : Node-F Count Node Seg Exp → Node-F Marked (Span → Sees) Sees Sees
-parts_seen = map-Node Count Node Seg Exp Marked (Span → Sees) Sees Sees marked mentions_node mentions_seg mentions_exp
+abbrev pub parts_seen : Node-F Count Node Seg Exp → Node-F CountMeaning (Span → Sees) Sees Sees
+parts_seen = map-Node Count Node Seg Exp CountMeaning (Span → Sees) Sees Sees count_meaning mentions_node mentions_seg mentions_exp
 
 node-seen : (node : Node) → mentions_node node ≡ mentions_node_at (parts_seen (out-Node node))
-node-seen node = fold_out-Node Marked (Span → Sees) Sees Sees marked_at mentions_node_at mentions_seg_at mentions_exp_at node
+node-seen node = fold_out-Node CountMeaning (Span → Sees) Sees Sees count_meaning_at mentions_node_at mentions_seg_at mentions_exp_at node
 
 node-opened :
     (node : Node) (level : Node-F Count Node Seg Exp) (at : Span) (within : Within) → out-Node node ≡ level
@@ -48,7 +48,7 @@ node-Extend node whole path part at within is = node-opened node _ at within (ap
 
 pub node-Iter :
     (node : Node) (body : Exp) (count : Count) (at : Span) (within : Within) → node ≡ v.Iter body count
-    → mentions_node node at within ≡ iterated (marked count) (mentions_exp body) at within
+    → mentions_node node at within ≡ iterated (count_meaning count) (mentions_exp body) at within
 node-Iter node body count at within is = node-opened node _ at within (ap out-Node is ∙ v.outs-Iter body count)
 
 pub node-Fields :
@@ -72,7 +72,7 @@ four_end :
 four_end old first a b c d f = grind (arith, common_steps)
 
 pub iterated_end :
-    (mark : Marked) (sees : Sees) (at : Span) (within inner : Within) (body old first : List Mention)
+    (mark : CountMeaning) (sees : Sees) (at : Span) (within inner : Within) (body old first : List Mention)
     → inner ≡ body_round mark within → body ≡ [] ++ sees inner
     → first ≡ old ++ iteration mark at within body ++ map Indexes mark.index ++ body
     → first ++ mark.count within ≡ old ++ iterated mark sees at within

@@ -57,14 +57,14 @@ Sees = Within → List Mention
 
 -- what an iteration is to dimensions: what it makes of its body, its index, whether it has to
 -- iterate something, and its count
-pub record Marked : Type 0 where
+pub record CountMeaning : Type 0 where
   pub kind : Kind
   pub index : List (List ℕ)
   pub must_iterate : Bool
   pub count : Sees
 
 -- what stands round the body of this iteration
-abbrev pub body_round : Marked → Within → Within
+abbrev pub body_round : CountMeaning → Within → Within
 body_round mark within = entered mark.kind mark.index within
 
 -- a name belongs to a body that has it as its index, and is else a variable
@@ -74,14 +74,14 @@ occurrence name at within =
     else Occurs (record { name = name; at = at; chain = within.kinds }) ∷ []
 
 -- an iteration that has to iterate something, with what is mentioned in its body
-abbrev pub iteration : Marked → Span → Within → List Mention → List Mention
+abbrev pub iteration : CountMeaning → Span → Within → List Mention → List Mention
 iteration mark at within body =
     if mark.must_iterate
     then Iterates (record { at = at; depth = length within.kinds; names = names_in body }) ∷ []
     else []
 
 -- An iteration, its index and its body. The count of the iteration stands outside of it.
-abbrev pub iterated : Marked → Sees → Span → Within → List Mention
+abbrev pub iterated : CountMeaning → Sees → Span → Within → List Mention
 iterated mark body at within =
     iteration mark at within (body (body_round mark within)) ++ map Indexes mark.index
     ++ body (body_round mark within) ++ mark.count within
@@ -93,16 +93,20 @@ must_iterate_at (Count-F.Below index count) = false
 must_iterate_at _ = true
 
 -- what is mentioned in the count of an iteration, which is nothing where it has none
-abbrev pub count_at : Count-F Marked (Span → Sees) Sees Sees → Sees
+abbrev pub count_at : Count-F CountMeaning (Span → Sees) Sees Sees → Sees
 count_at (Count-F.Times count) = count
 count_at (Count-F.Below index count) = count
 count_at _ = λ within. []
 
 -- what an iteration is to dimensions, by what is mentioned in its count
-abbrev pub marked_at : Count-F Marked (Span → Sees) Sees Sees → Marked
-marked_at level =
-    record
-    { kind = kind_at level; index = index_at level; must_iterate = must_iterate_at level; count = count_at level }
+abbrev pub count_meaning_at : Count-F CountMeaning (Span → Sees) Sees Sees → CountMeaning
+count_meaning_at level =
+    record {
+      kind = kind_at level;
+      index = index_at level;
+      must_iterate = must_iterate_at level;
+      count = count_at level;
+    }
 
 -- what is mentioned in parts, from left to right
 abbrev pub seen_in : List Sees → Within → List Mention
@@ -113,7 +117,8 @@ abbrev pub fields_seen : List (List ℕ × Sees) → Within → List Mention
 fields_seen fields within = flat_map (λ field. field.1 within) fields
 
 -- what is mentioned in an expression of this place, by what is mentioned in its parts
-abbrev pub mentions_node_at : Node-F Marked (Span → Sees) Sees Sees → Span → Within → List Mention
+abbrev pub mentions_node_at : Node-F CountMeaning (Span → Sees) Sees Sees → Span → Within
+    → List Mention
 mentions_node_at (Node-F.Name name) at within = occurrence name at within
 mentions_node_at (Node-F.Seq parts) at within = seen_in parts within
 mentions_node_at (Node-F.Infix left sign right) at within = left within ++ right within
@@ -139,38 +144,38 @@ mentions_node_at (Node-F.Iter e mark) at within = iterated mark e at within
 mentions_node_at node at within = []
 
 -- what is mentioned in a step of a path, by what is mentioned in its parts
-abbrev pub mentions_seg_at : Seg-F Marked (Span → Sees) Sees Sees → Sees
+abbrev pub mentions_seg_at : Seg-F CountMeaning (Span → Sees) Sees Sees → Sees
 mentions_seg_at (Seg-F.Field name) within = []
 mentions_seg_at (Seg-F.Seg::At from) within = from within
 mentions_seg_at (Seg-F.Seg::Slice from length) within = from within ++ length within
 
 -- what is mentioned in an expression, by what it is and its place
-abbrev pub mentions_exp_at : Exp-F Marked (Span → Sees) Sees Sees → Sees
+abbrev pub mentions_exp_at : Exp-F CountMeaning (Span → Sees) Sees Sees → Sees
 mentions_exp_at e within = e.node e.at within
 
 -- what is mentioned in an expression
 abbrev pub mentions_exp : Exp → Sees
 mentions_exp =
-    fold-Exp Marked (Span → Sees) Sees Sees
-    marked_at mentions_node_at mentions_seg_at mentions_exp_at
+    fold-Exp CountMeaning (Span → Sees) Sees Sees
+    count_meaning_at mentions_node_at mentions_seg_at mentions_exp_at
 
 -- what is mentioned in what an expression of this place is
 abbrev pub mentions_node : Node → Span → Sees
 mentions_node =
-    fold-Node Marked (Span → Sees) Sees Sees
-    marked_at mentions_node_at mentions_seg_at mentions_exp_at
+    fold-Node CountMeaning (Span → Sees) Sees Sees
+    count_meaning_at mentions_node_at mentions_seg_at mentions_exp_at
 
 -- what is mentioned in a step of a path
 abbrev pub mentions_seg : Seg → Sees
 mentions_seg =
-    fold-Seg Marked (Span → Sees) Sees Sees
-    marked_at mentions_node_at mentions_seg_at mentions_exp_at
+    fold-Seg CountMeaning (Span → Sees) Sees Sees
+    count_meaning_at mentions_node_at mentions_seg_at mentions_exp_at
 
 -- what an iteration is to dimensions, from the source tree
-abbrev pub marked : Count → Marked
-marked =
-    fold-Count Marked (Span → Sees) Sees Sees
-    marked_at mentions_node_at mentions_seg_at mentions_exp_at
+abbrev pub count_meaning : Count → CountMeaning
+count_meaning =
+    fold-Count CountMeaning (Span → Sees) Sees Sees
+    count_meaning_at mentions_node_at mentions_seg_at mentions_exp_at
 
 -- a field of a record, with what is mentioned in it
 abbrev pub field_mentions : List ℕ × Exp → List ℕ × Sees
@@ -184,7 +189,7 @@ mentions_prem_node_at (PremNode-F.If e) at within = mentions_exp e within
 mentions_prem_node_at (PremNode-F.Goal name e) at within = mentions_exp e within
 mentions_prem_node_at PremNode-F.Otherwise at within = []
 mentions_prem_node_at (PremNode-F.Each prem count) at within =
-    iterated (marked count) prem at within
+    iterated (count_meaning count) prem at within
 
 -- what is mentioned in a premise, by what it is and its place
 abbrev pub mentions_prem_at : Prem-F (Span → Sees) Sees → Sees

@@ -1,7 +1,7 @@
 //! What is mentioned in expressions.
 
 ghost use Rattle.std.specs.Prelude.{◌≡◌, ◌++◌, map, flat_map, IfOk, OnOk};
-ghost use Rattle.st_dims.specs.Mentions.{marked, body_round, names_in, occurrence, occurrences_in, occurrence_of, iteration, seen_in, mentions_exp, mentions_node, mentions_seg, fields_seen, field_mentions};
+ghost use Rattle.st_dims.specs.Mentions.{count_meaning, body_round, names_in, occurrence, occurrences_in, occurrence_of, iteration, seen_in, mentions_exp, mentions_node, mentions_seg, fields_seen, field_mentions};
 ghost use Rattle.st_dims.specs.declared.mention.Mention.TheVariants.{Indexes};
 
 use crate::mention::{Iteration, Mention, Occurrence, must_iterate};
@@ -56,7 +56,7 @@ fn add_iteration(
 ) -> Result<(), NoMemory>
     ensures { OnOk result
         (mentions.new.items
-        ≡ mentions.old.items ++ iteration (marked count.now) at within.now body.now) }
+        ≡ mentions.old.items ++ iteration (count_meaning count.now) at within.now body.now) }
 {
     if must_iterate(count) {
         let depth = within.kinds.as_slice().len();
@@ -87,8 +87,8 @@ pub fn add_body(
     mentions: &mut Vec<Mention>,
 ) -> Result<(), NoMemory>
     ensures { OnOk result (mentions.new.items ≡ mentions.old.items
-        ++ iteration (marked count.now) at within.now body.items
-        ++ map Indexes (marked count.now).index ++ body.items) }
+        ++ iteration (count_meaning count.now) at within.now body.items
+        ++ map Indexes (count_meaning count.now).index ++ body.items) }
 {
     add_iteration(alloc, count, at, within, &body, mentions)?;
     let index = index_of(alloc, count)?;
@@ -255,7 +255,7 @@ pub fn mention_count(
     mentions: &mut Vec<Mention>,
 ) -> Result<(), NoMemory>
     ensures { OnOk result
-        (mentions.new.items ≡ mentions.old.items ++ (marked count.now).count within.now) }
+        (mentions.new.items ≡ mentions.old.items ++ (count_meaning count.now).count within.now) }
 {
     match count {
         Count::Star | Count::Plus | Count::Quest => Ok(()),

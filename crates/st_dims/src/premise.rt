@@ -1,7 +1,7 @@
 //! What is mentioned in premises.
 
 ghost use Rattle.std.specs.Prelude.{◌≡◌, ◌++◌, map, OnOk};
-ghost use Rattle.st_dims.specs.Mentions.{marked, body_round, iteration, seen_in, mentions_exp, mentions_prem, mentions_prem_node};
+ghost use Rattle.st_dims.specs.Mentions.{count_meaning, body_round, iteration, seen_in, mentions_exp, mentions_prem, mentions_prem_node};
 
 use crate::expression::{add_body, mention_count, mention_exp};
 use crate::mention::Mention;

@@ -28,7 +28,7 @@ use Rattle.st_parse_builder.specs.Meaning.{meaning}
 use Rattle.st_parse_builder.specs.Notations.{typ_meaning, notation_meaning, spelled_on}
 use Rattle.st_parse_builder.specs.Definitions.{name_in, fragment_name, rule_name as name_of_rule, hints_meaning, cases_meaning, body_meaning, premises_meaning, def_at, defs_meaning, params, patterns}
 use Rattle.st_draft.specs.declared.change.Change.TheVariants as change
-use Rattle.st_draft.specs.declared.change.Ending.TheVariants as ending
+use Rattle.st_draft.specs.declared.change.DefinitionEnd.TheVariants as ending
 use Rattle.st_draft.specs.inner.Changes.{ending_of, change_at, change_of}
 use Rattle.st_draft.specs.inner.Drafts.{alias_or, body_of, or_empty, begun, ended, applied, arguments_after}
 use Rattle.st_draft.proofs.DraftOf.{place_of, has_dots, position_draft, args_acts, position_args}

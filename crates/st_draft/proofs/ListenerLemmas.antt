@@ -23,7 +23,7 @@ use Rattle.st_parse_automaton.specs.inner.PartAutomaton as parts
 use Rattle.st_parse_automaton.specs.inner.DefinitionAutomaton as definitions
 use Rattle.st_draft.specs.declared.draft.Draft.{Draft}
 use Rattle.st_draft.specs.declared.parts.Parts.{Parts}
-use Rattle.st_draft.specs.declared.change.Ending.{Ending}
+use Rattle.st_draft.specs.declared.change.DefinitionEnd.{DefinitionEnd}
 use Rattle.st_draft.specs.inner.Changes.{ending_of}
 use Rattle.st_draft.specs.inner.Drafts.{begun, ended}
 use Rattle.st_draft.specs.Known.{before, defs_or, known}
@@ -117,7 +117,7 @@ behind_part S draws s t u p q v slot st ks n part position l x b a (Ok (Some the
 
 -- ---- the end
 
-pub ended_inside : (S : Type 0) (draws : S → Draft → Type 0) (s t u : S) (p q : Parts) (slot : Slot) (st : parts.State) (ks : List Bracket) (n : ℕ) (part : Part) (position : Position) (ending : Ending) (b : Work) (defs : List Def)
+pub ended_inside : (S : Type 0) (draws : S → Draft → Type 0) (s t u : S) (p q : Parts) (slot : Slot) (st : parts.State) (ks : List Bracket) (n : ℕ) (part : Part) (position : Position) (ending : DefinitionEnd) (b : Work) (defs : List Def)
     (r : Result (Unit {0}) BuildFault)
     → n ≡ length ks → parts.finish st ≡ Some part → position ≡ definitions.filled slot part → ending ≡ ending_of position → Keeps draws s p b
     → ((c d : Work) → Keeps draws s p c → filled_work slot n st c ≡ Some d → Keeps draws t q d)

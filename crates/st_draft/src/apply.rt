@@ -7,13 +7,13 @@ ghost use Rattle.st_draft.specs.inner.Drafts as drafts;
 ghost use Rattle.st_draft.specs.inner.Heights.{IsLow};
 ghost use Rattle.st_draft.specs.inner.Parts as spec;
 
-use crate::change::{Change, Ending};
+use crate::change::{Change, DefinitionEnd};
 use crate::definition::turn;
 use crate::draft::Draft;
 use crate::head::{begin_hint, end_hint, put_id, put_name, put_word};
 use crate::listener::Listener;
 use crate::members::{put_dots, put_label};
-use crate::parts::{Word, build_patterns, build_types, fill};
+use crate::parts::{PartToken, build_patterns, build_types, fill};
 use crate::premise::{
     begin_premise, put_each, put_goal, put_if, put_otherwise, put_parenthesis, shape_count,
 };
@@ -147,12 +147,12 @@ impl<'a> Listener<'a> for Draft {
         slot: Slot,
         around: usize,
         actions: &[Action<'a>],
-        words: &[Word<'a>],
+        words: &[PartToken<'a>],
     ) -> Result<(), BuildFault> {
         fill(alloc, slot, around, actions, words, self)
     }
 
-    fn end(&mut self, alloc: Global, ending: Ending) -> Result<(), BuildFault> {
+    fn end(&mut self, alloc: Global, ending: DefinitionEnd) -> Result<(), BuildFault> {
         turn(alloc, ending, self, Span::NOWHERE)?;
         Ok(())
     }

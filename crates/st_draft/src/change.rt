@@ -8,7 +8,7 @@ use st_parse_automaton::{Host, IterationState, Position, Progress, Slot};
 
 /// What of a definition ends before the next one begins.
 #[derive(Clone, Copy, Debug, PartialEq, Eq)]
-pub enum Ending {
+pub enum DefinitionEnd {
     /// No definition is open.
     Nothing,
     Fields,
@@ -28,9 +28,9 @@ pub enum Ending {
 pub enum Change {
     Nothing,
     /// A definition begins, behind one that ends so.
-    Begin(Ending),
+    Begin(DefinitionEnd),
     /// The open definition ends with the token.
-    End(Ending),
+    End(DefinitionEnd),
     Name,
     /// One more token of the name of a fragment or rule.
     Id,
@@ -72,27 +72,27 @@ fn names_definition(position: Position) -> bool
 }
 
 /// What ends where hints may stand.
-fn host_ending(host: Host) -> Ending
+fn host_ending(host: Host) -> DefinitionEnd
     ensures { result ≡ spec.host_ending host }
 {
     match host {
-        Host::Case => Ending::Cases(false),
-        Host::Var => Ending::Var,
-        Host::Notation => Ending::Relation,
-        Host::Fun => Ending::Fun,
-        Host::Syntax | Host::Field | Host::Relation => Ending::Nothing,
+        Host::Case => DefinitionEnd::Cases(false),
+        Host::Var => DefinitionEnd::Var,
+        Host::Notation => DefinitionEnd::Relation,
+        Host::Fun => DefinitionEnd::Fun,
+        Host::Syntax | Host::Field | Host::Relation => DefinitionEnd::Nothing,
     }
 }
 
 /// What ends where a next definition may begin.
-pub(crate) fn ending_of(position: Position) -> Ending
+pub(crate) fn ending_of(position: Position) -> DefinitionEnd
     ensures { result ≡ spec.ending_of position }
 {
     match position {
         Position::Hinted(host, _) => host_ending(host),
-        Position::Premised => Ending::Rule,
-        Position::Iterated(_) => Ending::Condition,
-        _ => Ending::Nothing,
+        Position::Premised => DefinitionEnd::Rule,
+        Position::Iterated(_) => DefinitionEnd::Condition,
+        _ => DefinitionEnd::Nothing,
     }
 }
 
@@ -109,7 +109,7 @@ fn behind_hints(host: Host, after: Position) -> Change
 {
     match after {
         Position::SyntaxId(_) => Change::Id,
-        Position::Between => Change::End(Ending::Fields),
+        Position::Between => Change::End(DefinitionEnd::Fields),
         _ => {
             if names_definition(after) {
                 Change::Begin(host_ending(host))
@@ -168,7 +168,7 @@ fn entering(after: Position) -> Change
 {
     match after {
         Position::Dotted => Change::Dots,
-        Position::Between => Change::End(Ending::Cases(true)),
+        Position::Between => Change::End(DefinitionEnd::Cases(true)),
         _ => Change::Nothing,
     }
 }
@@ -178,7 +178,7 @@ fn change_at(before: Position, after: Position) -> Change
     ensures { result ≡ spec.change_at before after }
 {
     match before {
-        Position::Between => Change::Begin(Ending::Nothing),
+        Position::Between => Change::Begin(DefinitionEnd::Nothing),
         Position::SyntaxName
         | Position::RelationName
         | Position::RuleName
@@ -189,7 +189,7 @@ fn change_at(before: Position, after: Position) -> Change
         Position::HintName(_) => Change::HintName,
         Position::HintWords(host) => in_hint(host, after),
         Position::Entering(_) => entering(after),
-        Position::FieldName(_) => Change::End(Ending::Fields),
+        Position::FieldName(_) => Change::End(DefinitionEnd::Fields),
         Position::Premised | Position::Iterated(_) => in_premises(before, after),
         Position::PremiseOpen => in_premise(after),
         Position::VarColon

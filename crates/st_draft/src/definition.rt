@@ -6,7 +6,7 @@ ghost use Rattle.st_el.specs.declared.notation.NotNode.{out-NotNode};
 ghost use Rattle.st_el.specs.declared.notation.Notation.{out-Notation};
 ghost use Rattle.st_draft.specs.inner.Drafts as spec;
 
-use crate::change::Ending;
+use crate::change::DefinitionEnd;
 use crate::draft::{Draft, Head, Members, Premises, Sides};
 use crate::head::no_hint;
 use crate::members::no_members;
@@ -154,7 +154,7 @@ fn cases_of(alloc: Global, head: Head, members: Members, after: bool) -> Result<
 /// What the open definition is, where it ends so.
 fn node_of(
     alloc: Global,
-    ending: Ending,
+    ending: DefinitionEnd,
     head: Head,
     members: Members,
     sides: Sides,
@@ -163,21 +163,21 @@ fn node_of(
     ensures { IfOk result (λ node. node ≡ spec.node_of ending head members sides premises) }
 {
     match ending {
-        Ending::Nothing => Ok(None),
-        Ending::Fields => Ok(Some(DefNode::Syntax {
+        DefinitionEnd::Nothing => Ok(None),
+        DefinitionEnd::Fields => Ok(Some(DefNode::Syntax {
             name: head.name,
             fragment: head.id,
             body: Body::Fields(members.fields),
         })),
-        Ending::Cases(after) => Ok(Some(cases_of(alloc, head, members, after)?)),
-        Ending::Var => Ok(var_of(head.name, sides.typ)),
-        Ending::Relation => Ok(relation_of(head.name, members.notations)),
-        Ending::Fun => Ok(fun_of(head.name, sides.params, sides.typ)),
-        Ending::Rule => {
+        DefinitionEnd::Cases(after) => Ok(Some(cases_of(alloc, head, members, after)?)),
+        DefinitionEnd::Var => Ok(var_of(head.name, sides.typ)),
+        DefinitionEnd::Relation => Ok(relation_of(head.name, members.notations)),
+        DefinitionEnd::Fun => Ok(fun_of(head.name, sides.params, sides.typ)),
+        DefinitionEnd::Rule => {
             let whole = whole_premises(premises, false)?;
             Ok(rule_of(alloc, head, sides, whole))
         }
-        Ending::Condition => {
+        DefinitionEnd::Condition => {
             let whole = whole_premises(premises, true)?;
             Ok(rule_of(alloc, head, sides, whole))
         }
@@ -204,7 +204,7 @@ pub fn begun(alloc: Global, defs: Row<Def>, at: Span) -> Draft
 }
 
 /// All definitions, where the open one ends so.
-fn ended(alloc: Global, ending: Ending, draft: Draft) -> Result<Row<Def>, NoMemory>
+fn ended(alloc: Global, ending: DefinitionEnd, draft: Draft) -> Result<Row<Def>, NoMemory>
     ensures { IfOk result (λ defs. defs ≡ spec.ended ending draft) }
 {
     let Draft {
@@ -226,7 +226,7 @@ fn ended(alloc: Global, ending: Ending, draft: Draft) -> Result<Row<Def>, NoMemo
 /// The open definition ends so, and a next one begins there.
 pub(crate) fn turn(
     alloc: Global,
-    ending: Ending,
+    ending: DefinitionEnd,
     draft: &mut Draft,
     at: Span,
 ) -> Result<(), NoMemory>

@@ -21,9 +21,9 @@ mod reader;
 mod sides;
 mod step;
 
-pub use change::{Change, Ending};
+pub use change::{Change, DefinitionEnd};
 pub use definition::begun;
 pub use draft::{Draft, Head, Members, Premises, Sides};
 pub use listener::Listener;
-pub use parts::{Parts, Word, index_in};
+pub use parts::{PartToken, Parts, index_in};
 pub use reader::read_source;

@@ -7,8 +7,8 @@ ghost use Rattle.st_measure.specs.inner.Answers.{OnlyMemory};
 ghost use Rattle.st_draft.specs.inner.Drafts.{begun, ended};
 ghost use Rattle.st_draft.specs.inner.Parts.{word_of, redrafted, refilled};
 
-use crate::change::{Change, Ending};
-use crate::parts::Word;
+use crate::change::{Change, DefinitionEnd};
+use crate::parts::PartToken;
 use st_num::Row;
 use st_parse_automaton::{Shape, Slot};
 use st_parse_builder::{Action, BuildFault};
@@ -46,7 +46,7 @@ pub trait Listener<'a> {
         slot: Slot,
         around: usize,
         actions: &[Action<'a>],
-        words: &[Word<'a>],
+        words: &[PartToken<'a>],
     ) -> Result<(), BuildFault>
         ensures kept { (draft next : Draft) → Draws self.old draft
             → refilled slot around actions.now (map word_of words.now) draft ≡ Some next
@@ -56,7 +56,7 @@ pub trait Listener<'a> {
             → Low next → IfErr result OnlyMemory };
 
     /// The tokens end, and the open definition so.
-    fn end(&mut self, alloc: Global, ending: Ending) -> Result<(), BuildFault>
+    fn end(&mut self, alloc: Global, ending: DefinitionEnd) -> Result<(), BuildFault>
         ensures kept { (draft : Draft) → Draws self.old draft
             → IfOk result (λ _. Draws self.new (begun (ended ending draft) nowhere)) }
         ensures memory { IfErr result OnlyMemory };

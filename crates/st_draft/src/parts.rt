@@ -26,7 +26,7 @@ use std::alloc::Global;
 
 /// A token of a part, as the parser sees it and as it stands in the text.
 #[derive(Drop)]
-pub struct Word<'a> {
+pub struct PartToken<'a> {
     pub class: TokenClass,
     pub token: TokenRef<'a>,
 }
@@ -38,7 +38,7 @@ pub struct Parts<'a> {
     pub arguments: Row<Row<Action<'a>>>,
     pub actions: Row<Action<'a>>,
     pub marks: Row<Mark>,
-    pub words: Row<Word<'a>>,
+    pub words: Row<PartToken<'a>>,
 }
 
 /// Nothing is read of a part yet.
@@ -112,7 +112,7 @@ fn count_with(alloc: Global, index: Option<Name>, exp: Exp) -> Result<Count, NoM
 }
 
 /// The index of a count that begins with these tokens.
-pub fn index_in(alloc: Global, words: &[Word<'_>]) -> Result<Option<Name>, NoMemory>
+pub fn index_in(alloc: Global, words: &[PartToken<'_>]) -> Result<Option<Name>, NoMemory>
     ensures { IfOk result (λ index. index ≡ spec.index_in (map spec.word_of words.now)) }
 {
     let Some((first, rest)) = words.split_first() else {
@@ -224,7 +224,7 @@ fn fill_count(
     alloc: Global,
     around: usize,
     actions: &[Action<'_>],
-    words: &[Word<'_>],
+    words: &[PartToken<'_>],
     draft: &mut Draft,
 ) -> Result<(), BuildFault>
     ensures kept { IfOk result (λ _.
@@ -250,7 +250,7 @@ pub(crate) fn fill(
     slot: Slot,
     around: usize,
     actions: &[Action<'_>],
-    words: &[Word<'_>],
+    words: &[PartToken<'_>],
     draft: &mut Draft,
 ) -> Result<(), BuildFault>
     ensures kept { (next : Draft)

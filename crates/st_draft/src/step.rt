@@ -13,7 +13,7 @@ ghost use Rattle.st_draft.specs.inner.Work.{Work, Keeps, Goes};
 
 use crate::change::{Change, change_of};
 use crate::listener::Listener;
-use crate::parts::{Parts, Word};
+use crate::parts::{PartToken, Parts};
 use st_grammar::Bracket;
 use st_num::{NoMemory, Row};
 use st_parse_actions::emit;
@@ -45,13 +45,13 @@ fn keep_word<'a>(
     slot: Slot,
     class: TokenClass,
     token: &'a Token,
-    words: &mut Row<Word<'a>>,
+    words: &mut Row<PartToken<'a>>,
 ) -> Result<(), NoMemory>
     ensures { IfOk result (λ _. map word_of words.new
         ≡ spec.words_after slot class token.now (map word_of words.old)) }
 {
     match slot {
-        Slot::Count => words.push(Word {
+        Slot::Count => words.push(PartToken {
             class,
             token: TokenRef::new(token),
         }),

@@ -1,1 +1,3 @@
 mod FieldTexts
+pub mod TypInduction
+pub mod NotationInduction

@@ -16,7 +16,7 @@ use Rattle.st_el.specs.declared.context.Behind.TheVariants.{Other, Dot, Plus}
 use Rattle.st_el.specs.declared.context.Context.{Context}
 use Rattle.st_el.specs.declared.context.Wrapping.{Wrapping}
 use Rattle.st_el.specs.Contexts.{context_at, whole, operand_before, position, count, next_element, in_parens}
-use Rattle.st_el.specs.Wrappings.{Printed, Marked, Level, takes_in, has_bar, wrapping, opening, ending, around_in}
+use Rattle.st_el.specs.Wrappings.{Printed, IterationText, Level, takes_in, has_bar, wrapping, opening, ending, around_in}
 
 -- texts with this text between them
 abbrev pub separated : List ℕ → List (List ℕ) → List ℕ
@@ -137,11 +137,11 @@ printed_node_at node =
     }
 
 -- an expression is printed as what it is, without its place
-abbrev pub printed_exp_at : Exp-F Marked Printed (List ℕ) Printed → Printed
+abbrev pub printed_exp_at : Exp-F IterationText Printed (List ℕ) Printed → Printed
 printed_exp_at e = e.node
 
 -- how an iteration is written behind the part before it
-abbrev pub printed_mark_at : Count-F Marked Printed (List ℕ) Printed → Marked
+abbrev pub printed_mark_at : Count-F IterationText Printed (List ℕ) Printed → IterationText
 printed_mark_at Count-F.Star = record { behind = Other; text = codes "*" }
 printed_mark_at Count-F.Plus = record { behind = Plus; text = codes "+" }
 printed_mark_at Count-F.Quest = record { behind = Other; text = codes "?" }
@@ -150,7 +150,7 @@ printed_mark_at (Count-F.Below index e) =
     record { behind = Other; text = codes "^(" ++ index ++ codes " < " ++ e.at count ++ codes ")" }
 
 -- how a step of a path is written
-abbrev pub printed_step_at : Seg-F Marked Printed (List ℕ) Printed → List ℕ
+abbrev pub printed_step_at : Seg-F IterationText Printed (List ℕ) Printed → List ℕ
 printed_step_at (Seg-F.Field name) = codes "." ++ name
 printed_step_at (Seg-F.Seg::At at) = codes "[" ++ at.at position ++ codes "]"
 printed_step_at (Seg-F.Seg::Slice from length) = range from length
@@ -158,25 +158,25 @@ printed_step_at (Seg-F.Seg::Slice from length) = range from length
 -- whether an expression begins with a bar, and its text in each context
 abbrev pub printed : Exp → Printed
 printed =
-    fold-Exp Marked Printed (List ℕ) Printed
+    fold-Exp IterationText Printed (List ℕ) Printed
     printed_mark_at printed_node_at printed_step_at printed_exp_at
 
 -- whether what an expression is begins with a bar, and its text in each context
 abbrev pub printed_node : Node → Printed
 printed_node =
-    fold-Node Marked Printed (List ℕ) Printed
+    fold-Node IterationText Printed (List ℕ) Printed
     printed_mark_at printed_node_at printed_step_at printed_exp_at
 
 -- how an iteration is written, from the source tree
-abbrev pub printed_mark : Count → Marked
+abbrev pub printed_mark : Count → IterationText
 printed_mark =
-    fold-Count Marked Printed (List ℕ) Printed
+    fold-Count IterationText Printed (List ℕ) Printed
     printed_mark_at printed_node_at printed_step_at printed_exp_at
 
 -- how a step of a path is written, from the source tree
 abbrev pub printed_step : Seg → List ℕ
 printed_step =
-    fold-Seg Marked Printed (List ℕ) Printed
+    fold-Seg IterationText Printed (List ℕ) Printed
     printed_mark_at printed_node_at printed_step_at printed_exp_at
 
 -- a field of a record, its expression printed
@@ -186,7 +186,7 @@ printed_field field = (field.0, printed field.1)
 -- the level of an expression, with its parts printed
 abbrev pub parts_printed : Node-F Count Node Seg Exp → Level
 parts_printed =
-    map-Node Count Node Seg Exp Marked Printed (List ℕ) Printed
+    map-Node Count Node Seg Exp IterationText Printed (List ℕ) Printed
     printed_mark printed_node printed_step printed
 
 -- the top level of what an expression is, with its parts printed

@@ -18,13 +18,13 @@ pub record Printed : Type 0 where
   pub at : Context → List ℕ
 
 -- how an iteration stands behind a part: what it is to the part, and how it is written
-pub record Marked : Type 0 where
+pub record IterationText : Type 0 where
   pub behind : Behind
   pub text : List ℕ
 
 -- one level of an expression, with its parts printed
 abbrev pub Level : Type 0
-Level = Node-F Marked Printed (List ℕ) Printed
+Level = Node-F IterationText Printed (List ℕ) Printed
 
 -- how tightly a level holds together
 abbrev pub level_of : Level → ℕ

@@ -1,20 +1,21 @@
 -- What is plain stays as it is when it is made plain again: types, notations and hints.
 use Rattle.std.proofs.Common.{rules, ◌≡◌, refl, sym, ◌∙◌, ap, subst, List, [], ◌∷◌, map}
-use Rattle.st_num.specs.declared.mark.Mark.{Mark}
+use Rattle.std.specs.List.{AllByRecursion}
 use Rattle.st_scan.specs.declared.token.Token.{Token}
 use Rattle.st_el.specs.declared.definition.Hint.{Hint}
-use Rattle.st_el.specs.declared.ty.Typ.{Typ, Typ-F, ind-Typ, roll-Typ, the_lemmas}
-use Rattle.st_el.specs.declared.ty.TypNode.{TypNode, map-TypNode, roll-TypNode}
+use Rattle.st_el.specs.declared.ty.Typ.{Typ, Typ-F, roll-Typ, the_lemmas}
+use Rattle.st_el.specs.declared.ty.TypNode.{TypNode, roll-TypNode}
 use Rattle.st_el.specs.declared.ty.TypNode.TheOpen.{TypNode-F}
 use Rattle.st_el.specs.declared.ty.TypNode.TheVariants as node
-use Rattle.st_el.specs.declared.notation.Notation.{Notation, Notation-F, ind-Notation, roll-Notation}
+use Rattle.st_el.specs.declared.notation.Notation.{Notation, Notation-F, roll-Notation}
 use Rattle.st_el.specs.declared.notation.Notation.{the_lemmas as notation_lemmas}
-use Rattle.st_el.specs.declared.notation.NotNode.{NotNode, map-NotNode, roll-NotNode}
+use Rattle.st_el.specs.declared.notation.NotNode.{NotNode, roll-NotNode}
 use Rattle.st_el.specs.declared.notation.NotNode.TheOpen.{NotNode-F}
 use Rattle.st_el.specs.declared.notation.NotNode.TheVariants as not_node
 use Rattle.st_el.specs.Plain.{nowhere, plain_typ, plain_typ_node, plain_notation, plain_not_node}
+use Rattle.st_el.proofs.TypInduction.{TypParts, typ_induction, plain-Star, plain-Quest, plain-Tuple}
+use Rattle.st_el.proofs.NotationInduction.{NotationParts, notation_induction, plain-Hole, plain-Seq, plain-Infix, plain-Bracket}
 use Rattle.st_el.specs.Erasure.{plain_token, plain_hint}
-use Rattle.st_il.proofs.Induction.{Every}
 
 -- ---- types
 
@@ -24,46 +25,11 @@ Twice t = plain_typ (plain_typ t) ≡ plain_typ t
 abbrev NodeTwice : TypNode → Type 0
 NodeTwice k = plain_typ_node (plain_typ_node k) ≡ plain_typ_node k
 
-abbrev PartsTwice : TypNode-F TypNode Typ → Type 0
-PartsTwice (TypNode-F.Star t) = Twice t
-PartsTwice (TypNode-F.Quest t) = Twice t
-PartsTwice (TypNode-F.Tuple ts) = Every Twice ts
-PartsTwice x = Unit {0}
-
-abbrev Such : Type 0
-Such = (t : Typ) × Twice t
-
-abbrev SuchNode : Type 0
-SuchNode = (k : TypNode) × NodeTwice k
-
-each_twice : (ys : List Such) → Every Twice (map (λ y. y.0) ys)
-each_twice [] = tt
-each_twice (y ∷ ys) = (y.1, each_twice ys)
-
-parts_twice : (y : TypNode-F SuchNode Such) → PartsTwice (map-TypNode SuchNode Such TypNode Typ (λ e. e.0) (λ e. e.0) y)
-parts_twice TypNode-F.Bool = tt
-parts_twice TypNode-F.Nat = tt
-parts_twice TypNode-F.Int = tt
-parts_twice TypNode-F.Text = tt
-parts_twice (TypNode-F.Name name) = tt
-parts_twice (TypNode-F.Star t) = t.1
-parts_twice (TypNode-F.Quest t) = t.1
-parts_twice (TypNode-F.Tuple ts) = each_twice ts
-
-all_twice : (ts : List Typ) → Every Twice ts → map plain_typ (map plain_typ ts) ≡ map plain_typ ts
+all_twice : (ts : List Typ) → AllByRecursion Twice ts → map plain_typ (map plain_typ ts) ≡ map plain_typ ts
 all_twice [] h = refl
 all_twice (t ∷ ts) h = λ i. h.0 i ∷ all_twice ts h.1 i
 
-plain-Star : (t : Typ) → plain_typ_node (node.Star t) ≡ node.Star (plain_typ t)
-plain-Star t = search (rules, the_lemmas)
-
-plain-Quest : (t : Typ) → plain_typ_node (node.Quest t) ≡ node.Quest (plain_typ t)
-plain-Quest t = search (rules, the_lemmas)
-
-plain-Tuple : (ts : List Typ) → plain_typ_node (node.Tuple ts) ≡ node.Tuple (map plain_typ ts)
-plain-Tuple ts = search (rules, the_lemmas)
-
-node_twice : (x : TypNode-F TypNode Typ) → PartsTwice x → NodeTwice (roll-TypNode x)
+node_twice : (x : TypNode-F TypNode Typ) → TypParts Twice x → NodeTwice (roll-TypNode x)
 node_twice TypNode-F.Bool h = search (rules, the_lemmas)
 node_twice TypNode-F.Nat h = search (rules, the_lemmas)
 node_twice TypNode-F.Int h = search (rules, the_lemmas)
@@ -85,9 +51,7 @@ level_twice x h =
     ∙ ap (λ k. roll-Typ (record { at = nowhere; node = k })) h ∙ sym (plain-roll x)
 
 pub plain_typ-twice : (t : Typ) → plain_typ (plain_typ t) ≡ plain_typ t
-plain_typ-twice =
-    ind-Typ NodeTwice Twice (λ x y e. node_twice x (subst PartsTwice e (parts_twice y)))
-    (λ x y e. level_twice x (subst NodeTwice (ap (λ z. z.node) e) y.node.1))
+plain_typ-twice = typ_induction NodeTwice Twice node_twice level_twice
 
 pub plain_typs-twice : (ts : List Typ) → map plain_typ (map plain_typ ts) ≡ map plain_typ ts
 plain_typs-twice [] = refl
@@ -101,47 +65,11 @@ NotTwice n = plain_notation (plain_notation n) ≡ plain_notation n
 abbrev NotNodeTwice : NotNode → Type 0
 NotNodeTwice k = plain_not_node (plain_not_node k) ≡ plain_not_node k
 
-abbrev PartsNotTwice : NotNode-F NotNode Notation → Type 0
-PartsNotTwice (NotNode-F.Atom name) = Unit {0}
-PartsNotTwice (NotNode-F.Hole typ) = Unit {0}
-PartsNotTwice (NotNode-F.Seq ns) = Every NotTwice ns
-PartsNotTwice (NotNode-F.Infix left sign right) = NotTwice left × NotTwice right
-PartsNotTwice (NotNode-F.Bracket opening inside) = NotTwice inside
-
-abbrev SuchNot : Type 0
-SuchNot = (n : Notation) × NotTwice n
-
-abbrev SuchNotNode : Type 0
-SuchNotNode = (k : NotNode) × NotNodeTwice k
-
-each_not_twice : (ys : List SuchNot) → Every NotTwice (map (λ y. y.0) ys)
-each_not_twice [] = tt
-each_not_twice (y ∷ ys) = (y.1, each_not_twice ys)
-
-parts_not_twice : (y : NotNode-F SuchNotNode SuchNot) → PartsNotTwice (map-NotNode SuchNotNode SuchNot NotNode Notation (λ e. e.0) (λ e. e.0) y)
-parts_not_twice (NotNode-F.Atom name) = tt
-parts_not_twice (NotNode-F.Hole typ) = tt
-parts_not_twice (NotNode-F.Seq ns) = each_not_twice ns
-parts_not_twice (NotNode-F.Infix left sign right) = (left.1, right.1)
-parts_not_twice (NotNode-F.Bracket opening inside) = inside.1
-
-all_not_twice : (ns : List Notation) → Every NotTwice ns → map plain_notation (map plain_notation ns) ≡ map plain_notation ns
+all_not_twice : (ns : List Notation) → AllByRecursion NotTwice ns → map plain_notation (map plain_notation ns) ≡ map plain_notation ns
 all_not_twice [] h = refl
 all_not_twice (n ∷ ns) h = λ i. h.0 i ∷ all_not_twice ns h.1 i
 
-plain-Hole : (typ : Typ) → plain_not_node (not_node.Hole typ) ≡ not_node.Hole (plain_typ typ)
-plain-Hole typ = search (rules, notation_lemmas)
-
-plain-Seq : (ns : List Notation) → plain_not_node (not_node.Seq ns) ≡ not_node.Seq (map plain_notation ns)
-plain-Seq ns = search (rules, notation_lemmas)
-
-plain-Infix : (left : Notation) (sign : Mark) (right : Notation) → plain_not_node (not_node.Infix left sign right) ≡ not_node.Infix (plain_notation left) sign (plain_notation right)
-plain-Infix left sign right = search (rules, notation_lemmas)
-
-plain-Bracket : (opening : Mark) (inside : Notation) → plain_not_node (not_node.Bracket opening inside) ≡ not_node.Bracket opening (plain_notation inside)
-plain-Bracket opening inside = search (rules, notation_lemmas)
-
-not_node_twice : (x : NotNode-F NotNode Notation) → PartsNotTwice x → NotNodeTwice (roll-NotNode x)
+not_node_twice : (x : NotNode-F NotNode Notation) → NotationParts NotTwice x → NotNodeTwice (roll-NotNode x)
 not_node_twice (NotNode-F.Atom name) h = search (rules, notation_lemmas)
 not_node_twice (NotNode-F.Hole typ) h =
     subst NotNodeTwice (sym (not_node.rolls-Hole typ)) (ap plain_not_node (plain-Hole typ) ∙ plain-Hole (plain_typ typ) ∙ ap not_node.Hole (plain_typ-twice typ) ∙ sym (plain-Hole typ))
@@ -165,9 +93,7 @@ not_level_twice x h =
     ∙ ap (λ k. roll-Notation (record { at = nowhere; node = k })) h ∙ sym (plain_not-roll x)
 
 pub plain_notation-twice : (n : Notation) → plain_notation (plain_notation n) ≡ plain_notation n
-plain_notation-twice =
-    ind-Notation NotNodeTwice NotTwice (λ x y e. not_node_twice x (subst PartsNotTwice e (parts_not_twice y)))
-    (λ x y e. not_level_twice x (subst NotNodeTwice (ap (λ z. z.node) e) y.node.1))
+plain_notation-twice = notation_induction NotNodeTwice NotTwice not_node_twice not_level_twice
 
 -- ---- hints
 

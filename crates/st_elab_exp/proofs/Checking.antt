@@ -30,7 +30,7 @@ use Rattle.st_elab_table.specs.Elaboration.{Leads}
 use Rattle.st_elab_rows.specs.declared.asking.Found.{Found}
 use Rattle.st_elab_rows.specs.declared.asking.Part.{Part}
 use Rattle.st_elab_rows.specs.declared.asking.Context.{Context}
-use Rattle.st_elab_rows.specs.inner.Asking.{LeadsTo}
+use Rattle.st_elab_rows.specs.Asking.{LeadsTo}
 use Rattle.st_elab_rows.proofs.Builds.{leads_then, leads_else}
 
 no_concatenation : (o : Operator) → (o ≡ operator.Concatenation → ⊥) → is_concatenation o ≡ false

@@ -29,7 +29,7 @@ use Rattle.st_elab_table.specs.Inferred.{entry_of, variable_type, variable_row, 
 use Rattle.st_elab_table.specs.Elaboration.{Leads, ends}
 use Rattle.st_elab_rows.specs.declared.asking.Found.{Found}
 use Rattle.st_elab_rows.specs.declared.asking.Context.{Context}
-use Rattle.st_elab_rows.specs.inner.Asking.{LeadsTo}
+use Rattle.st_elab_rows.specs.Asking.{LeadsTo}
 use Rattle.st_elab_rows.proofs.Builds.{leads_then, leads_else}
 
 -- ---- the type of a variable

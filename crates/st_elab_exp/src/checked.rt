@@ -5,7 +5,7 @@ ghost use Rattle.st_il.specs.declared.ty.Ty.{out-Ty};
 ghost use Rattle.st_type_table.specs.Meaning.{Means};
 ghost use Rattle.st_notation.specs.Elements.{opened};
 ghost use Rattle.st_elab_table.specs.Checked.{sequence_at, form_row, plain_row, tuple_at, checked_row};
-ghost use Rattle.st_elab_rows.specs.inner.Asking.{AnswersAll, LeadsTo};
+ghost use Rattle.st_elab_rows.specs.Asking.{AnswersAll, LeadsTo};
 
 use crate::collection::{eps_row, other_row, sequence};
 use crate::inferred::arguments;

@@ -2,7 +2,7 @@
 
 ghost use Rattle.st_elab_table.specs.Elaboration.{row};
 ghost use Rattle.st_elab_rows.specs.Told.{Tells};
-ghost use Rattle.st_elab_rows.specs.inner.Asking.{AnswersAll, LeadsTo, question, made_by};
+ghost use Rattle.st_elab_rows.specs.Asking.{AnswersAll, LeadsTo, question, made_by};
 
 use crate::checked::checked_row;
 use crate::inferred::inferred_row;

@@ -5,7 +5,7 @@ ghost use Rattle.st_notation.specs.Fitted.{fillings};
 ghost use Rattle.st_elab_table.specs.Collections.{counted_at};
 ghost use Rattle.st_elab_table.specs.Steps.{exp_of, holes, each_asked};
 ghost use Rattle.st_elab_rows.specs.Told.{Told, Tells, Reaches};
-ghost use Rattle.st_elab_rows.specs.inner.Asking.{question, made_by};
+ghost use Rattle.st_elab_rows.specs.Asking.{question, made_by};
 ghost use Rattle.st_elab_rows.specs.Parts.{TellsAll};
 ghost use Rattle.st_elab_exp.specs.Inside.{ElabInside, InsideBreach};
 

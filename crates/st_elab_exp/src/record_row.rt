@@ -12,7 +12,7 @@ ghost use Rattle.st_notation.specs.declared.filled.Shape.{Shape};
 ghost use Rattle.st_notation.specs.Fits.{Filling};
 ghost use Rattle.st_notation.specs.Fitted.{plain, fillings};
 ghost use Rattle.st_elab_table.specs.Records.{is_omissible, omitted, aligned, field_names, fields_of_record, record_row, case_row, notation_row};
-ghost use Rattle.st_elab_rows.specs.inner.Asking.{AnswersAll, LeadsTo};
+ghost use Rattle.st_elab_rows.specs.Asking.{AnswersAll, LeadsTo};
 
 use crate::collection::{all_holes, other_row};
 use st_dims::Within;

@@ -8,7 +8,7 @@ ghost use Rattle.st_dims.specs.Around.{inside};
 ghost use Rattle.st_elab_table.specs.Iterations.{iterated_type};
 ghost use Rattle.st_elab_table.specs.Collections.{counted_at, iteration, body_row, iteration_row};
 ghost use Rattle.st_elab_table.specs.Inferred.{inferred_iteration};
-ghost use Rattle.st_elab_rows.specs.inner.Asking.{AnswersAll, LeadsTo};
+ghost use Rattle.st_elab_rows.specs.Asking.{AnswersAll, LeadsTo};
 ghost use Rattle.st_elab_rows.specs.Told.{Reaches};
 
 use crate::collection::other_row;

@@ -21,11 +21,11 @@ use Rattle.st_notation.specs.Fits.{Filling, one, run, missing}
 use Rattle.st_notation.specs.Key.{key_of}
 use Rattle.st_notation.proofs.FitsLemmas.{Fits-length}
 use Rattle.st_erase.specs.declared.erased.Erased.{Erased}
-use Rattle.st_erase.specs.declared.erased.Kind.TheVariants as kind
+use Rattle.st_erase.specs.declared.erased.ErasedKind.TheVariants as kind
 use Rattle.st_erase.specs.Filling.{filled}
-use Rattle.st_erase.specs.Tags.{template_of, IsOf}
+use Rattle.st_il.specs.Tags.{template_of, IsTemplateOf}
 use Rattle.st_erase.specs.Erasure.{case_by, erased}
-use Rattle.st_erase.proofs.TagLemmas.{is_template}
+use Rattle.st_il.proofs.TagTemplates.{is_template}
 use Rattle.st_elab_table.specs.declared.decls.Decls.{Decls}
 use Rattle.st_dims.specs.declared.within.Within.{Within}
 use Rattle.st_elab_table.specs.Choice.{shape_at, HasShape, HaveShapes, IsFirstWith, here, later, IsChosenBy, keyed, keyless, IsCaseOf}
@@ -81,7 +81,7 @@ module _ (defs : List IlDef) (D : Decls) where
   case-is : (tag : List ℕ) (t : Template) (xs : List Erased) → HasTag t tag → case_by (template_of tag) xs ≡ record { exp = filled t xs; kind = kind.Plain }
   case-is tag t xs h = by (template_of tag) (is_template tag)
     where
-      by : (o : Option Template) → IsOf tag o → case_by o xs ≡ record { exp = filled t xs; kind = kind.Plain }
+      by : (o : Option Template) → IsTemplateOf tag o → case_by o xs ≡ record { exp = filled t xs; kind = kind.Plain }
       by None k = absurd (k t h)
       by (Some u) k = ap (λ z. record { exp = filled z xs; kind = kind.Plain }) (one_template tag u t k h)
 

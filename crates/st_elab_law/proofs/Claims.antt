@@ -8,8 +8,8 @@ use Rattle.st_il.specs.declared.ty.Ty.TheVariants as ty
 use Rattle.st_type_table.specs.Meaning.{Means}
 use Rattle.st_notation.specs.Fits.{Filling, one, run, missing}
 use Rattle.st_erase.specs.declared.erased.Erased.{Erased}
-use Rattle.st_erase.specs.declared.erased.Kind.{Kind}
-use Rattle.st_erase.specs.declared.erased.Kind.TheVariants as kind
+use Rattle.st_erase.specs.declared.erased.ErasedKind.{ErasedKind}
+use Rattle.st_erase.specs.declared.erased.ErasedKind.TheVariants as kind
 use Rattle.st_erase.specs.Places.{run as run_of}
 use Rattle.st_erase.specs.Erasure.{erased}
 use Rattle.st_elab_table.specs.declared.decls.Decls.{Decls}
@@ -18,12 +18,12 @@ use Rattle.st_elab_table.specs.Questions.{Question, check, infer, item, hole, Ma
 -- ---- kinds
 
 -- it is written
-abbrev pub IsPresent : Kind → Type 0
+abbrev pub IsPresent : ErasedKind → Type 0
 IsPresent kind.Absent = ⊥
 IsPresent k = Unit {0}
 
 -- it is written as one element
-abbrev pub IsSingle : Kind → Type 0
+abbrev pub IsSingle : ErasedKind → Type 0
 IsSingle kind.Absent = ⊥
 IsSingle kind.Run = ⊥
 IsSingle k = Unit {0}

@@ -20,10 +20,10 @@ use Rattle.st_il.specs.declared.expression.ListItem.TheVariants as part
 use Rattle.st_il.specs.declared.expression.PathSeg.{PathSeg, out-PathSeg, map-PathSeg, fold_out-PathSeg}
 use Rattle.st_il.specs.declared.expression.PathSeg.TheVariants as step
 use Rattle.st_erase.specs.declared.erased.Erased.{Erased}
-use Rattle.st_erase.specs.declared.erased.Kind.TheVariants as kind
+use Rattle.st_erase.specs.declared.erased.ErasedKind.TheVariants as kind
 use Rattle.st_erase.specs.Places.{whole, count}
 use Rattle.st_erase.specs.Records.{fields_of}
-use Rattle.st_erase.specs.Tags.{template_of}
+use Rattle.st_il.specs.Tags.{template_of}
 use Rattle.st_erase.specs.Erasure.{plain_form, arithmetic, absent, binary, operation, lifted, Item, one, all, list_of, fields, case_by, exp_at, iteration_at, item_at, segment_at, erased, erased_iteration, erased_item, erased_segment}
 
 module _ (defs : List IlDef) where

@@ -24,7 +24,7 @@ use Rattle.st_type_table.specs.Meaning.{Means}
 use Rattle.st_notation.specs.Elements.{opened}
 use Rattle.st_notation.specs.Fits.{Filling, one, run, missing}
 use Rattle.st_erase.specs.declared.erased.Erased.{Erased}
-use Rattle.st_erase.specs.declared.erased.Kind.TheVariants as kind
+use Rattle.st_erase.specs.declared.erased.ErasedKind.TheVariants as kind
 use Rattle.st_erase.specs.Places.{exp, whole, count, parts_at, run as run_of}
 use Rattle.st_erase.specs.Erasure.{source, lifted, erased, erased_item, erased_iteration}
 use Rattle.st_elab_table.specs.declared.decls.Decls.{Decls}

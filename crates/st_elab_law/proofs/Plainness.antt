@@ -9,8 +9,8 @@ use Rattle.st_el.specs.declared.expression.Seg.{Seg, out-Seg, roll-Seg, map-Seg,
 use Rattle.st_el.specs.Plain.{nowhere, plain_exp, plain_exp_at, plain_node, plain_node_at, plain_count, plain_seg}
 use Rattle.st_notation.specs.Elements.{opened, parentheses, inner_at, without, bare}
 use Rattle.st_erase.specs.declared.erased.Erased.{Erased}
-use Rattle.st_erase.specs.declared.erased.Kind.{Kind}
-use Rattle.st_erase.specs.declared.erased.Kind.TheVariants as kind
+use Rattle.st_erase.specs.declared.erased.ErasedKind.{ErasedKind}
+use Rattle.st_erase.specs.declared.erased.ErasedKind.TheVariants as kind
 use Rattle.st_erase.specs.Places.{exp, in_arithmetic, whole_by, whole, count_at, count}
 use Rattle.st_erase.specs.Erasure.{lifted_at, lifted}
 
@@ -73,7 +73,7 @@ plain-in_arithmetic e = plain-Arith (in_arithmetic e) e (opened-exp (node.Arith 
 pub plain-whole : (x : Erased) → plain_exp (whole x) ≡ plain_exp x.exp
 plain-whole x = by x.kind
   where
-    by : (k : Kind) → plain_exp (whole_by k x.exp) ≡ plain_exp x.exp
+    by : (k : ErasedKind) → plain_exp (whole_by k x.exp) ≡ plain_exp x.exp
     by kind.Plain = refl
     by kind.Arithmetic = plain-in_arithmetic x.exp
     by kind.Run = refl

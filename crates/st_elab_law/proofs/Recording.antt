@@ -21,8 +21,8 @@ use Rattle.st_type_table.specs.Meaning.{Means, fields_of}
 use Rattle.st_notation.specs.declared.filled.Shape.{Shape}
 use Rattle.st_notation.specs.Elements.{opened}
 use Rattle.st_notation.specs.Fits.{Filling, one, missing}
-use Rattle.st_erase.specs.declared.erased.Kind.{Kind}
-use Rattle.st_erase.specs.declared.erased.Kind.TheVariants as kind
+use Rattle.st_erase.specs.declared.erased.ErasedKind.{ErasedKind}
+use Rattle.st_erase.specs.declared.erased.ErasedKind.TheVariants as kind
 use Rattle.st_erase.specs.Places.{exp, whole}
 use Rattle.st_erase.specs.Records.{fields_of as names_of}
 use Rattle.st_erase.specs.Erasure.{written, fields, erased}
@@ -59,7 +59,7 @@ one_some : (e : Exp) (rest : Option (List Filling)) (fs : List Filling) → opti
 one_some e None fs h = absurd (cc)
 one_some e (Some gs) fs h = (gs, refl, cc)
 
-written_one : (k : Kind) (e : Exp) → IsPresent k → written k e ≡ e ∷ []
+written_one : (k : ErasedKind) (e : Exp) → IsPresent k → written k e ≡ e ∷ []
 written_one kind.Plain e h = refl
 written_one kind.Arithmetic e h = refl
 written_one kind.Run e h = refl

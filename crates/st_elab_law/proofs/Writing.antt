@@ -14,8 +14,8 @@ use Rattle.st_il.specs.declared.ty.Ty.{Ty}
 use Rattle.st_il.specs.declared.expression.ListItem.TheVariants as part
 use Rattle.st_notation.specs.Elements.{opened}
 use Rattle.st_erase.specs.declared.erased.Erased.{Erased}
-use Rattle.st_erase.specs.declared.erased.Kind.{Kind}
-use Rattle.st_erase.specs.declared.erased.Kind.TheVariants as kind
+use Rattle.st_erase.specs.declared.erased.ErasedKind.{ErasedKind}
+use Rattle.st_erase.specs.declared.erased.ErasedKind.TheVariants as kind
 use Rattle.st_erase.specs.Places.{exp, whole, run_by, run as run_of}
 use Rattle.st_erase.specs.Erasure.{plain_form, arithmetic, binary, operation, lifted, list_of, erased}
 use Rattle.st_elab_table.specs.Steps.{list_of_one}
@@ -23,7 +23,7 @@ use Rattle.st_elab_law.proofs.Claims.{IsPresent, IsSingle, IsErasedTo, IsWritten
 use Rattle.st_elab_law.proofs.Plainness.{plain_of, exp-opens, node-is, plain-in_arithmetic, plain-whole, plain-lifted}
 use Rattle.st_elab_law.proofs.Erasings.{erased-List, item-One}
 
-present : (k : Kind) → IsSingle k → IsPresent k
+present : (k : ErasedKind) → IsSingle k → IsPresent k
 present kind.Plain h = tt
 present kind.Arithmetic h = tt
 present kind.Run h = absurd h
@@ -55,7 +55,7 @@ source_as x y e is h = ap (λ z. plain_exp z.exp) is ∙ h
 pub single_run : (x : Erased) (e : Exp) → IsSingle x.kind → IsErasedTo x e → map plain_exp (run_of x) ≡ plain_exp e ∷ []
 single_run x e single h = by x.kind single
   where
-    by : (k : Kind) → IsSingle k → map plain_exp (run_by k x.exp) ≡ plain_exp e ∷ []
+    by : (k : ErasedKind) → IsSingle k → map plain_exp (run_by k x.exp) ≡ plain_exp e ∷ []
     by kind.Plain s = ap (λ z. z ∷ []) h
     by kind.Arithmetic s = ap (λ z. z ∷ []) (plain-in_arithmetic x.exp ∙ h)
     by kind.Run s = absurd s

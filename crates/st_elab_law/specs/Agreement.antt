@@ -10,9 +10,8 @@ use Rattle.st_il.specs.declared.definition.SyntaxBody.TheVariants as body
 use Rattle.st_il.specs.declared.definition.Alternative.{Alternative}
 use Rattle.st_il.specs.declared.definition.Alternative.TheVariants as alternative
 use Rattle.st_il.specs.declared.template.Template.{Template}
-use Rattle.st_il.specs.Template.{HasTag}
+use Rattle.st_il.specs.Template.{HasTag, holes}
 use Rattle.st_type_table.specs.declared.entry.CaseDef.{CaseDef}
-use Rattle.st_notation.specs.Fits.{holes}
 use Rattle.st_elab_table.specs.declared.decls.Decls.{Decls}
 
 -- ---- the table of types

@@ -2,6 +2,8 @@
 
 -- what a call gives is an elaboration, what it refuses a breach, and want of memory says nothing
 pub mod Told
+-- what a row asks of the call that it is given, and what it answers then
+pub mod Asking
 -- several questions are answered one after another
 pub mod Parts
 -- ---- what only proofs need

@@ -1,5 +1,4 @@
 -- What the code of the rows answers, for proofs and for contracts inside elaboration.
-pub mod Asking
 pub mod Searching
 pub mod Numbers
 pub mod Words

@@ -2,7 +2,7 @@
 
 ghost use Rattle.st_elab_table.specs.Questions.{check, infer, Asks};
 ghost use Rattle.st_elab_table.specs.Steps.{asked, found};
-ghost use Rattle.st_elab_rows.specs.inner.Asking.{AnswersAll, Meets};
+ghost use Rattle.st_elab_rows.specs.Asking.{AnswersAll, Meets};
 
 use crate::asking::{Asking, Context, Found, Part};
 use st_dims::Within;

@@ -2,7 +2,7 @@
 
 ghost use Rattle.std.specs.Prelude.{◌≡◌, IfOk};
 ghost use Rattle.st_elab_table.specs.Steps.{made};
-ghost use Rattle.st_elab_rows.specs.inner.Asking.{made_by};
+ghost use Rattle.st_elab_rows.specs.Asking.{made_by};
 
 use st_dims::Within;
 use st_el::Exp;

@@ -5,7 +5,7 @@ ghost use Rattle.st_elab_table.specs.declared.decls.Scope.{Scope};
 ghost use Rattle.st_elab_table.specs.Steps.{made, list_of_one, as_joined, fitted, lifted_to};
 ghost use Rattle.st_elab_table.specs.Operands.{concatenated, inferred_concatenation};
 ghost use Rattle.st_elab_table.specs.Collections.{concatenation_row};
-ghost use Rattle.st_elab_rows.specs.inner.Asking.{AnswersAll, LeadsTo, made_by};
+ghost use Rattle.st_elab_rows.specs.Asking.{AnswersAll, LeadsTo, made_by};
 ghost use Rattle.st_elab_rows.specs.Told.{Reaches};
 ghost use Rattle.st_elab_rows.specs.inner.Words.{join_of, lift_of};
 

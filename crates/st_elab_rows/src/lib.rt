@@ -5,7 +5,7 @@
 //! `st_elab_table` and asks its questions in the same order, over a call that it is passed, so
 //! that no row recurses.
 //!
-//! Read `asking` and `ask` first, with `specs/Told.antt` and `specs/inner/Asking.antt`. The rules are in
+//! Read `asking` and `ask` first, with `specs/Told.antt` and `specs/Asking.antt`. The rules are in
 //! `docs/elaboration.md`.
 #![tactic(auto)]
 

@@ -1,7 +1,7 @@
 //! The rows of arithmetic and of orders.
 
 ghost use Rattle.st_elab_table.specs.Operands.{order_row, arithmetic_row, power_row, negation_row, numeric, both_numeric};
-ghost use Rattle.st_elab_rows.specs.inner.Asking.{AnswersAll, LeadsTo};
+ghost use Rattle.st_elab_rows.specs.Asking.{AnswersAll, LeadsTo};
 ghost use Rattle.st_elab_rows.specs.inner.Numbers.{IsNumeric, AreNumeric};
 
 use crate::ask::{asked, found};

@@ -7,7 +7,7 @@ ghost use Rattle.st_elab_table.specs.Operators.{equated};
 ghost use Rattle.st_elab_table.specs.Questions.{Asks};
 ghost use Rattle.st_elab_table.specs.Forms.{place};
 ghost use Rattle.st_elab_table.specs.Steps.{give, asked, found, as_list};
-ghost use Rattle.st_elab_rows.specs.inner.Asking.{AnswersAll, LeadsTo, made_by};
+ghost use Rattle.st_elab_rows.specs.Asking.{AnswersAll, LeadsTo, made_by};
 
 use crate::ask::{asked, found};
 use crate::asking::{Asking, Context, Found, give};

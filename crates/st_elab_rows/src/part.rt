@@ -2,7 +2,7 @@
 
 ghost use Rattle.st_elab_table.specs.declared.decls.Scope.{Scope};
 ghost use Rattle.st_elab_table.specs.Paths.{length_row, position_row, slice_row, as_field, field_row};
-ghost use Rattle.st_elab_rows.specs.inner.Asking.{AnswersAll, LeadsTo};
+ghost use Rattle.st_elab_rows.specs.Asking.{AnswersAll, LeadsTo};
 ghost use Rattle.st_elab_rows.specs.Told.{Reaches};
 
 use crate::ask::{asked, found};

@@ -2,7 +2,7 @@
 
 ghost use Rattle.st_el.specs.declared.expression.Seg.{out-Seg};
 ghost use Rattle.st_elab_table.specs.Paths.{step_row, along, update_row, extension_row};
-ghost use Rattle.st_elab_rows.specs.inner.Asking.{AnswersAll, LeadsTo};
+ghost use Rattle.st_elab_rows.specs.Asking.{AnswersAll, LeadsTo};
 ghost use Rattle.st_elab_rows.specs.inner.Walks.{Steps, Walks};
 
 use crate::ask::{asked, found};

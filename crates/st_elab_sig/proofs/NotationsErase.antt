@@ -1,25 +1,26 @@
 -- A notation is erased to itself, but for places: the induction over notations.
 use Rattle.std.proofs.Common.{rules, ◌≡◌, refl, sym, ◌∙◌, ap, subst, List, [], ◌∷◌, ◌++◌, ℕ, map, append_assoc, append-nil, Option}
 use Rattle.std.specs.Prelude.{flat_map, Some, None}
+use Rattle.std.specs.List.{AllByRecursion}
 use Rattle.std.proofs.lemmas.List.{map-append}
 use Rattle.st_num.specs.declared.mark.Mark.{Mark}
 use Rattle.st_el.specs.declared.ty.Typ.{Typ}
-use Rattle.st_el.specs.declared.notation.Notation.{Notation, Notation-F, ind-Notation, roll-Notation, the_lemmas}
-use Rattle.st_el.specs.declared.notation.NotNode.{NotNode, map-NotNode, roll-NotNode}
+use Rattle.st_el.specs.declared.notation.Notation.{Notation, Notation-F, roll-Notation, the_lemmas}
+use Rattle.st_el.specs.declared.notation.NotNode.{NotNode, roll-NotNode}
 use Rattle.st_el.specs.declared.notation.NotNode.TheOpen.{NotNode-F}
 use Rattle.st_el.specs.declared.notation.NotNode.TheVariants as node
 use Rattle.st_el.specs.Plain.{plain_typ, plain_notation, plain_not_node}
+use Rattle.st_el.proofs.NotationInduction.{NotationParts, notation_induction, plain-Atom, plain-Hole, plain-Seq, plain-Infix, plain-Bracket}
 use Rattle.st_il.specs.declared.template.Template.{Template}
 use Rattle.st_il.specs.declared.template.Template.{the_lemmas as template_lemmas}
 use Rattle.st_il.specs.declared.template.Template.TheVariants as template
 use Rattle.st_il.specs.declared.template.Template.TheOpen.{Template-F}
 use Rattle.st_il.specs.Template.{IsTemplate, tag_of}
-use Rattle.st_il.proofs.Induction.{Every}
 use Rattle.st_il.proofs.Tags.{one_template}
 use Rattle.st_erase.specs.Notations.{notation, Noted, Note, note_at, note_of, note_parts, behind_note, note_infix, note_by, notation_of}
-use Rattle.st_erase.specs.Tags.{IsOf}
-use Rattle.st_erase.specs.Tags.{template_of as template_for}
-use Rattle.st_erase.proofs.TagLemmas.{is_template}
+use Rattle.st_il.specs.Tags.{IsTemplateOf}
+use Rattle.st_il.specs.Tags.{template_of as template_for}
+use Rattle.st_il.proofs.TagTemplates.{is_template}
 use Rattle.st_elab_sig.specs.Types.{ty_of}
 use Rattle.st_elab_sig.specs.Signatures.{template_of, holes_of}
 use Rattle.st_elab_sig.proofs.TypesErase.{each_type_back}
@@ -52,30 +53,6 @@ Back n = (ts : List Typ) → note_of (template_of n) (map plain_typ (holes_of n)
 abbrev NodeBack : NotNode → Type 0
 NodeBack k = (ts : List Typ) → note_of (template_in k) (map plain_typ (holes_in k) ++ ts) ≡ noted (notation (plain_not_node k)) ts
 
-abbrev PartsBack : NotNode-F NotNode Notation → Type 0
-PartsBack (NotNode-F.Atom name) = Unit {0}
-PartsBack (NotNode-F.Hole typ) = Unit {0}
-PartsBack (NotNode-F.Seq ns) = Every Back ns
-PartsBack (NotNode-F.Infix left sign right) = Back left × Back right
-PartsBack (NotNode-F.Bracket opening inside) = Back inside
-
-abbrev Such : Type 0
-Such = (n : Notation) × Back n
-
-abbrev SuchNode : Type 0
-SuchNode = (k : NotNode) × NodeBack k
-
-each_back : (ys : List Such) → Every Back (map (λ y. y.0) ys)
-each_back [] = tt
-each_back (y ∷ ys) = (y.1, each_back ys)
-
-parts_back : (y : NotNode-F SuchNode Such) → PartsBack (map-NotNode SuchNode Such NotNode Notation (λ e. e.0) (λ e. e.0) y)
-parts_back (NotNode-F.Atom name) = tt
-parts_back (NotNode-F.Hole typ) = tt
-parts_back (NotNode-F.Seq ns) = each_back ns
-parts_back (NotNode-F.Infix left sign right) = (left.1, right.1)
-parts_back (NotNode-F.Bracket opening inside) = inside.1
-
 -- ---- the levels
 
 holes-Atom : (name : List ℕ) → holes_in (node.Atom name) ≡ []
@@ -86,21 +63,6 @@ holes-Hole typ = search (rules, the_lemmas)
 
 holes-Bracket : (opening : Mark) (inside : Notation) → holes_in (node.Bracket opening inside) ≡ holes_of inside
 holes-Bracket opening inside = search (rules, the_lemmas)
-
-plain-Atom : (name : List ℕ) → plain_not_node (node.Atom name) ≡ node.Atom name
-plain-Atom name = search (rules, the_lemmas)
-
-plain-Hole : (typ : Typ) → plain_not_node (node.Hole typ) ≡ node.Hole (plain_typ typ)
-plain-Hole typ = search (rules, the_lemmas)
-
-plain-Seq : (ns : List Notation) → plain_not_node (node.Seq ns) ≡ node.Seq (map plain_notation ns)
-plain-Seq ns = search (rules, the_lemmas)
-
-plain-Infix : (left : Notation) (sign : Mark) (right : Notation) → plain_not_node (node.Infix left sign right) ≡ node.Infix (plain_notation left) sign (plain_notation right)
-plain-Infix left sign right = search (rules, the_lemmas)
-
-plain-Bracket : (opening : Mark) (inside : Notation) → plain_not_node (node.Bracket opening inside) ≡ node.Bracket opening (plain_notation inside)
-plain-Bracket opening inside = search (rules, the_lemmas)
 
 -- a level, by its template, its types and what it is without places
 level : (k l : NotNode) (t : Template) (note : Note) (hs ts : List Typ) → template_in k ≡ t → note_of t ≡ note → holes_in k ≡ hs → plain_not_node k ≡ l
@@ -128,14 +90,14 @@ others ns = note_parts (map note_of (map template_of ns))
 abbrev holes_all : List Notation → List Typ
 holes_all ns = flat_map (λ (part : List Typ). part) (map holes_of ns)
 
-all_back : (ns : List Notation) → Every Back ns → (ts : List Typ) → others ns (map plain_typ (holes_all ns) ++ ts) ≡ noted (map plain_notation ns) ts
+all_back : (ns : List Notation) → AllByRecursion Back ns → (ts : List Typ) → others ns (map plain_typ (holes_all ns) ++ ts) ≡ noted (map plain_notation ns) ts
 all_back [] h ts = refl
 all_back (n ∷ ns) h ts =
     ap (λ us. behind_note (note_of (template_of n) us) (others ns)) (split (holes_of n) (holes_all ns) ts)
     ∙ ap (λ first. behind_note first (others ns)) (h.0 (map plain_typ (holes_all ns) ++ ts))
     ∙ ap (λ (all : Noted (List Notation)). noted (plain_notation n ∷ all.out) all.rest) (all_back ns h.1 ts)
 
-seq_back : (ns : List Notation) → Every Back ns → NodeBack (node.Seq ns)
+seq_back : (ns : List Notation) → AllByRecursion Back ns → NodeBack (node.Seq ns)
 seq_back ns h ts =
     level (node.Seq ns) _ _ _ _ ts (template-Seq ns) (note-Seq (map template_of ns)) (holes-Seq ns) (plain-Seq ns)
     (ap (λ (all : Noted (List Notation)). noted (notation (node.Seq all.out)) all.rest) (all_back ns h ts))
@@ -152,7 +114,7 @@ bracket_back opening inside h ts =
     level (node.Bracket opening inside) _ _ _ _ ts (template-Bracket opening inside) (note-Bracket opening (template_of inside)) (holes-Bracket opening inside) (plain-Bracket opening inside)
     (ap (λ (all : Noted Notation). noted (notation (node.Bracket opening all.out)) all.rest) (h ts))
 
-node_back : (x : NotNode-F NotNode Notation) → PartsBack x → NodeBack (roll-NotNode x)
+node_back : (x : NotNode-F NotNode Notation) → NotationParts Back x → NodeBack (roll-NotNode x)
 node_back (NotNode-F.Atom name) h = subst NodeBack (sym (node.rolls-Atom name)) (atom_back name)
 node_back (NotNode-F.Hole typ) h = subst NodeBack (sym (node.rolls-Hole typ)) (hole_back typ)
 node_back (NotNode-F.Seq ns) h = subst NodeBack (sym (node.rolls-Seq ns)) (seq_back ns h)
@@ -176,12 +138,10 @@ level_back x h ts =
     ∙ ap (λ n. noted n ts) (sym (plain-roll x))
 
 pub notation_back : (n : Notation) → Back n
-notation_back =
-    ind-Notation NodeBack Back (λ x y e. node_back x (subst PartsBack e (parts_back y)))
-    (λ x y e. level_back x (subst NodeBack (ap (λ z. z.node) e) y.node.1))
+notation_back = notation_induction NodeBack Back node_back level_back
 
 -- the template that a tag leads to is the notation's
-template-same : (t : Template) → IsTemplate t → (o : Option Template) → IsOf (tag_of t) o → o ≡ Some t
+template-same : (t : Template) → IsTemplate t → (o : Option Template) → IsTemplateOf (tag_of t) o → o ≡ Some t
 template-same t h None never = absurd (never t (record { template = h; spelled = refl }))
 template-same t h (Some u) has = ap Some (one_template (tag_of t) u t has (record { template = h; spelled = refl }))
 

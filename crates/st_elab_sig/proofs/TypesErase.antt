@@ -1,13 +1,14 @@
 -- A written type is erased to itself, but for places: the induction over written types.
 use Rattle.std.proofs.Common.{rules, ◌≡◌, refl, sym, ◌∙◌, ap, subst, List, [], ◌∷◌, map}
-use Rattle.st_el.specs.declared.ty.Typ.{Typ, Typ-F, ind-Typ, roll-Typ, the_lemmas}
-use Rattle.st_el.specs.declared.ty.TypNode.{TypNode, map-TypNode, roll-TypNode, fold-TypNode}
+use Rattle.std.specs.List.{AllByRecursion}
+use Rattle.st_el.specs.declared.ty.Typ.{Typ, Typ-F, roll-Typ, the_lemmas}
+use Rattle.st_el.specs.declared.ty.TypNode.{TypNode, roll-TypNode, fold-TypNode}
 use Rattle.st_el.specs.declared.ty.TypNode.TheOpen.{TypNode-F}
 use Rattle.st_el.specs.declared.ty.TypNode.TheVariants as node
 use Rattle.st_el.specs.Plain.{plain_typ, plain_typ_node}
+use Rattle.st_el.proofs.TypInduction.{TypParts, typ_induction, plain-Star, plain-Quest, plain-Tuple}
 use Rattle.st_il.specs.declared.ty.Ty.{Ty}
 use Rattle.st_il.specs.declared.ty.Ty.{the_lemmas as ty_lemmas}
-use Rattle.st_il.proofs.Induction.{Every}
 use Rattle.st_erase.specs.Notations.{typ, erased_ty}
 use Rattle.st_elab_sig.specs.Types.{ty_at, ty_of}
 
@@ -20,56 +21,20 @@ Back t = erased_ty (ty_of t) ≡ plain_typ t
 abbrev NodeBack : TypNode → Type 0
 NodeBack k = erased_ty (ty_in k) ≡ typ (plain_typ_node k)
 
--- the parts of a level are erased to themselves
-abbrev PartsBack : TypNode-F TypNode Typ → Type 0
-PartsBack (TypNode-F.Star t) = Back t
-PartsBack (TypNode-F.Quest t) = Back t
-PartsBack (TypNode-F.Tuple ts) = Every Back ts
-PartsBack x = Unit {0}
-
-abbrev Such : Type 0
-Such = (t : Typ) × Back t
-
-abbrev SuchNode : Type 0
-SuchNode = (k : TypNode) × NodeBack k
-
-each_back : (ys : List Such) → Every Back (map (λ y. y.0) ys)
-each_back [] = tt
-each_back (y ∷ ys) = (y.1, each_back ys)
-
-parts_back : (y : TypNode-F SuchNode Such) → PartsBack (map-TypNode SuchNode Such TypNode Typ (λ e. e.0) (λ e. e.0) y)
-parts_back TypNode-F.Bool = tt
-parts_back TypNode-F.Nat = tt
-parts_back TypNode-F.Int = tt
-parts_back TypNode-F.Text = tt
-parts_back (TypNode-F.Name name) = tt
-parts_back (TypNode-F.Star t) = t.1
-parts_back (TypNode-F.Quest t) = t.1
-parts_back (TypNode-F.Tuple ts) = each_back ts
-
-all_back : (ts : List Typ) → Every Back ts → map erased_ty (map ty_of ts) ≡ map plain_typ ts
+all_back : (ts : List Typ) → AllByRecursion Back ts → map erased_ty (map ty_of ts) ≡ map plain_typ ts
 all_back [] h = refl
 all_back (t ∷ ts) h = λ i. h.0 i ∷ all_back ts h.1 i
 
 star-is : (t : Typ) → erased_ty (ty_in (node.Star t)) ≡ typ (node.Star (erased_ty (ty_of t)))
 star-is t = search (rules, the_lemmas, ty_lemmas)
 
-plain-Star : (t : Typ) → plain_typ_node (node.Star t) ≡ node.Star (plain_typ t)
-plain-Star t = search (rules, the_lemmas)
-
 quest-is : (t : Typ) → erased_ty (ty_in (node.Quest t)) ≡ typ (node.Quest (erased_ty (ty_of t)))
 quest-is t = search (rules, the_lemmas, ty_lemmas)
-
-plain-Quest : (t : Typ) → plain_typ_node (node.Quest t) ≡ node.Quest (plain_typ t)
-plain-Quest t = search (rules, the_lemmas)
 
 tuple-is : (ts : List Typ) → erased_ty (ty_in (node.Tuple ts)) ≡ typ (node.Tuple (map erased_ty (map ty_of ts)))
 tuple-is ts = search (rules, the_lemmas, ty_lemmas)
 
-plain-Tuple : (ts : List Typ) → plain_typ_node (node.Tuple ts) ≡ node.Tuple (map plain_typ ts)
-plain-Tuple ts = search (rules, the_lemmas)
-
-node_back : (x : TypNode-F TypNode Typ) → PartsBack x → NodeBack (roll-TypNode x)
+node_back : (x : TypNode-F TypNode Typ) → TypParts Back x → NodeBack (roll-TypNode x)
 node_back TypNode-F.Bool h = search (rules, the_lemmas, ty_lemmas)
 node_back TypNode-F.Nat h = search (rules, the_lemmas, ty_lemmas)
 node_back TypNode-F.Int h = search (rules, the_lemmas, ty_lemmas)
@@ -89,9 +54,7 @@ level_back : (x : Typ-F TypNode Typ) → NodeBack x.node → Back (roll-Typ x)
 level_back x h = ap erased_ty (ty-roll x) ∙ h ∙ sym (plain-roll x)
 
 pub types_back : (t : Typ) → Back t
-types_back =
-    ind-Typ NodeBack Back (λ x y e. node_back x (subst PartsBack e (parts_back y)))
-    (λ x y e. level_back x (subst NodeBack (ap (λ z. z.node) e) y.node.1))
+types_back = typ_induction NodeBack Back node_back level_back
 
 pub each_type_back : (ts : List Typ) → map erased_ty (map ty_of ts) ≡ map plain_typ ts
 each_type_back [] = refl

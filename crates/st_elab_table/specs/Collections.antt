@@ -63,7 +63,8 @@ counted_at w (Count-F.Below i n) next = Asks (asked w n ty.Nat) (λ m. next (tim
 -- an iteration with this body, of this type
 abbrev pub iteration : Scope → Within → Count → IlExp → Ty → Step
 iteration S w c body t =
-    counted_at w (out-Count c) (λ k. give (il.Iter k (iterated S w c (λ name. occurs name body)) body) t)
+    counted_at w (out-Count c)
+    (λ k. give (il.Iter k (iterated S w c (λ name. occurs name body)) body) t)
 
 -- an iteration of the type t, whose body is asked at the element type x
 abbrev pub body_row : Scope → Within → Exp → Count → Ty → Ty → Step

@@ -35,7 +35,7 @@ use Rattle.st_il.specs.declared.expression.IlPrem.TheOpen.{IlPrem-F}
 use Rattle.st_il.specs.declared.ty.Ty.{Ty}
 use Rattle.st_erase.specs.declared.erased.Erased.{Erased}
 use Rattle.st_erase.specs.Places.{exp, whole}
-use Rattle.st_erase.specs.Tags.{template_of}
+use Rattle.st_il.specs.Tags.{template_of}
 use Rattle.st_erase.specs.Erasure.{case_by, erased, erased_iteration}
 use Rattle.st_erase.specs.Notations.{typ, erased_ty, notation, notation_of}
 

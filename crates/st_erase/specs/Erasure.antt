@@ -19,12 +19,12 @@ use Rattle.st_il.specs.declared.expression.Iteration.{Iteration, fold-Iteration}
 use Rattle.st_il.specs.declared.expression.ListItem.{ListItem, fold-ListItem}
 use Rattle.st_il.specs.declared.expression.PathSeg.{PathSeg, fold-PathSeg}
 use Rattle.st_erase.specs.declared.erased.Erased.{Erased}
-use Rattle.st_erase.specs.declared.erased.Kind.{Kind}
-use Rattle.st_erase.specs.declared.erased.Kind.TheVariants as kind
+use Rattle.st_erase.specs.declared.erased.ErasedKind.{ErasedKind}
+use Rattle.st_erase.specs.declared.erased.ErasedKind.TheVariants as kind
 use Rattle.st_erase.specs.Places.{exp, opened, whole, count}
 use Rattle.st_erase.specs.Filling.{filled, sequence}
 use Rattle.st_erase.specs.Records.{fields_of}
-use Rattle.st_erase.specs.Tags.{template_of}
+use Rattle.st_il.specs.Tags.{template_of}
 
 -- ---- forms of source
 
@@ -82,7 +82,7 @@ list_of (item ∷ next ∷ items) =
 -- ---- records
 
 -- the value of a field where it is written: a part that was left out is not
-abbrev pub written : Kind → Exp → List Exp
+abbrev pub written : ErasedKind → Exp → List Exp
 written kind.Absent e = []
 written kind.Plain e = e ∷ []
 written kind.Arithmetic e = e ∷ []

@@ -76,8 +76,11 @@ in_bracket opening w = record { out = exp (node.Bracket opening w.out); rest = w
 -- what a template is as a part, by what its parts are
 abbrev pub part_at : Template-F Part → Part
 part_at (Template-F.Atom name) =
-    record
-    { is_hole = false; is_atom = true; write = λ xs. record { out = exp (node.Atom name); rest = xs } }
+    record {
+      is_hole = false;
+      is_atom = true;
+      write = λ xs. record { out = exp (node.Atom name); rest = xs };
+    }
 part_at Template-F.Hole = record { is_hole = true; is_atom = false; write = write_hole }
 part_at (Template-F.Seq parts) =
     record { is_hole = false; is_atom = false; write = λ xs. in_sequence (write_parts parts xs) }

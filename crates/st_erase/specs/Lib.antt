@@ -1,7 +1,5 @@
 -- What must be believed of erasure, in reading order.
 
--- the template of a tag is read off its words
-pub mod Tags
 -- an erased expression at the places where it may stand
 pub mod Places
 -- a template is written with its holes filled

@@ -12,7 +12,7 @@ use Rattle.st_il.specs.declared.template.Template.{Template, fold-Template}
 use Rattle.st_il.specs.declared.template.Template.TheOpen.{Template-F}
 use Rattle.st_il.specs.declared.ty.Ty.{Ty, fold-Ty}
 use Rattle.st_il.specs.declared.ty.Ty.TheOpen.{Ty-F}
-use Rattle.st_erase.specs.Tags.{template_of}
+use Rattle.st_il.specs.Tags.{template_of}
 
 -- ---- types
 
@@ -68,8 +68,10 @@ note_parts (part ∷ parts) ts = behind_note (part ts) (note_parts parts)
 -- how two sides are written with a sign between them
 abbrev pub note_infix : Noted Notation → Mark → Note → Noted Notation
 note_infix left sign right =
-    record
-    { out = notation (not_node.Infix left.out sign (right left.rest).out); rest = (right left.rest).rest }
+    record {
+      out = notation (not_node.Infix left.out sign (right left.rest).out);
+      rest = (right left.rest).rest;
+    }
 
 -- how a template is written as a notation, by how its parts are
 abbrev pub note_at : Template-F Note → Note

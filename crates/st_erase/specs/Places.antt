@@ -8,8 +8,8 @@ use Rattle.st_el.specs.declared.expression.Count.{Count}
 use Rattle.st_el.specs.declared.expression.Count.TheOpen.{Node-F}
 use Rattle.st_el.specs.declared.expression.Seg.{Seg}
 use Rattle.st_erase.specs.declared.erased.Erased.{Erased}
-use Rattle.st_erase.specs.declared.erased.Kind.{Kind}
-use Rattle.st_erase.specs.declared.erased.Kind.TheVariants as kind
+use Rattle.st_erase.specs.declared.erased.ErasedKind.{ErasedKind}
+use Rattle.st_erase.specs.declared.erased.ErasedKind.TheVariants as kind
 
 -- an expression that stands in no text
 abbrev pub exp : Node → Exp
@@ -24,7 +24,7 @@ abbrev pub in_arithmetic : Exp → Exp
 in_arithmetic e = exp (node.Arith e)
 
 -- an expression of this kind where it is no operand of arithmetic
-abbrev pub whole_by : Kind → Exp → Exp
+abbrev pub whole_by : ErasedKind → Exp → Exp
 whole_by kind.Plain e = e
 whole_by kind.Arithmetic e = in_arithmetic e
 whole_by kind.Run e = e
@@ -54,7 +54,7 @@ abbrev pub parts_of : Exp → List Exp
 parts_of e = parts_at e (opened e)
 
 -- the elements that an expression of this kind is in a hole that takes a run
-abbrev pub run_by : Kind → Exp → List Exp
+abbrev pub run_by : ErasedKind → Exp → List Exp
 run_by kind.Plain e = e ∷ []
 run_by kind.Arithmetic e = in_arithmetic e ∷ []
 run_by kind.Run e = parts_of e

@@ -10,7 +10,7 @@ use std::alloc::Global;
 
 /// What an erased expression is to the place where it stands.
 #[derive(Clone, Copy, Debug, PartialEq, Eq)]
-pub enum Kind {
+pub enum ErasedKind {
     Plain,
     /// It stands in `$( )`, except as an operand of arithmetic.
     Arithmetic,
@@ -24,7 +24,7 @@ pub enum Kind {
 #[derive(Drop)]
 pub struct Erased {
     pub exp: Exp,
-    pub kind: Kind,
+    pub kind: ErasedKind,
 }
 
 impl Erased {
@@ -34,8 +34,8 @@ impl Erased {
     {
         let Erased { exp, kind } = self;
         match kind {
-            Kind::Arithmetic => in_arithmetic(alloc, exp),
-            Kind::Plain | Kind::Run | Kind::Absent => Ok(exp),
+            ErasedKind::Arithmetic => in_arithmetic(alloc, exp),
+            ErasedKind::Plain | ErasedKind::Run | ErasedKind::Absent => Ok(exp),
         }
     }
 
@@ -56,10 +56,10 @@ impl Erased {
     {
         let Erased { exp, kind } = self;
         match kind {
-            Kind::Absent => Ok(Row::new(alloc)),
-            Kind::Arithmetic => only(alloc, in_arithmetic(alloc, exp)?),
-            Kind::Plain => only(alloc, exp),
-            Kind::Run => elements(alloc, exp),
+            ErasedKind::Absent => Ok(Row::new(alloc)),
+            ErasedKind::Arithmetic => only(alloc, in_arithmetic(alloc, exp)?),
+            ErasedKind::Plain => only(alloc, exp),
+            ErasedKind::Run => elements(alloc, exp),
         }
     }
 }

@@ -3,7 +3,7 @@
 ghost use Rattle.std.specs.Prelude.{◌≡◌, [], ◌∷◌, map, IfOk};
 ghost use Rattle.st_erase.specs.Places.{whole, count};
 ghost use Rattle.st_erase.specs.Erasure.{one, source, list_of, case_by, erased, erased_iteration, erased_item, erased_segment};
-ghost use Rattle.st_erase.specs.Tags.{template_of};
+ghost use Rattle.st_il.specs.Tags.{template_of};
 
 use crate::filling::filled;
 use crate::form::{
@@ -12,10 +12,9 @@ use crate::form::{
 };
 use crate::operator::sign_of;
 use crate::record::record;
-use crate::template::template_of;
-use crate::{Erased, Kind};
+use crate::{Erased, ErasedKind};
 use st_el::{Count, Exp, Node, Seg};
-use st_il::{IlDef, IlExp, Iteration, ListItem, PathSeg};
+use st_il::{IlDef, IlExp, Iteration, ListItem, PathSeg, template_of};
 use st_num::{Boxed, Mark, Name, NoMemory, Row};
 use std::alloc::Global;
 
@@ -164,11 +163,11 @@ impl<'a> Eraser<'a> {
             [ListItem::One(exp)] => self.element(exp),
             [ListItem::All(exp)] => Ok(Erased {
                 exp: self.whole(exp)?,
-                kind: Kind::Plain,
+                kind: ErasedKind::Plain,
             }),
             _ => Ok(Erased {
                 exp: unplaced(Node::Seq(self.sources(items)?)),
-                kind: Kind::Run,
+                kind: ErasedKind::Run,
             }),
         }
     }
@@ -182,7 +181,7 @@ impl<'a> Eraser<'a> {
         let found = self.whole(exp)?;
         Ok(Erased {
             exp: lifted(self.alloc, found)?,
-            kind: Kind::Plain,
+            kind: ErasedKind::Plain,
         })
     }
 
@@ -247,6 +246,6 @@ pub fn case(alloc: Global, tag: &Name, operands: Row<Erased>) -> Result<Erased, 
     let exp = filled(alloc, &template, operands)?;
     Ok(Erased {
         exp,
-        kind: Kind::Plain,
+        kind: ErasedKind::Plain,
     })
 }

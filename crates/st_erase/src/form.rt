@@ -6,7 +6,7 @@ ghost use Rattle.st_erase.specs.Places.{exp};
 ghost use Rattle.st_erase.specs.Filling.{sequence};
 ghost use Rattle.st_erase.specs.Erasure.{plain_form, arithmetic, absent, lifted};
 
-use crate::{Erased, Kind};
+use crate::{Erased, ErasedKind};
 use st_el::{Count, Exp, Node, Seg};
 use st_num::{Boxed, Mark, Name, NoMemory, Row, Span};
 use std::alloc::Global;
@@ -28,7 +28,7 @@ pub fn plain_form(node: Node) -> Erased
 {
     Erased {
         exp: unplaced(node),
-        kind: Kind::Plain,
+        kind: ErasedKind::Plain,
     }
 }
 
@@ -38,7 +38,7 @@ pub fn arithmetic(node: Node) -> Erased
 {
     Erased {
         exp: unplaced(node),
-        kind: Kind::Arithmetic,
+        kind: ErasedKind::Arithmetic,
     }
 }
 
@@ -111,7 +111,7 @@ pub fn absent() -> Erased
 {
     Erased {
         exp: unplaced(Node::Eps),
-        kind: Kind::Absent,
+        kind: ErasedKind::Absent,
     }
 }
 

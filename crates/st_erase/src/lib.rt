@@ -17,7 +17,6 @@ mod notation;
 mod operator;
 mod record;
 mod source;
-mod template;
 
-pub use erased::{Erased, Kind};
+pub use erased::{Erased, ErasedKind};
 pub use source::{erase, erase_exp};

@@ -2,11 +2,10 @@
 
 ghost use Rattle.std.specs.Prelude.{◌≡◌, [], ◌∷◌, map, IfOk, OnOk, MatchOption};
 ghost use Rattle.st_erase.specs.Notations.{typ, erased_ty, notation, note_hole, note_of, note_parts, note_by, notation_of};
-ghost use Rattle.st_erase.specs.Tags.{template_of};
+ghost use Rattle.st_il.specs.Tags.{template_of};
 
-use crate::template::template_of;
 use st_el::{NotNode, Notation, Typ, TypNode};
-use st_il::{Template, Ty};
+use st_il::{Template, Ty, template_of};
 use st_num::{Boxed, Name, NoMemory, Row, Span};
 use std::alloc::Global;
 use std::collections::VecDeque;

@@ -8,7 +8,7 @@ ghost use Rattle.st_erase.specs.Erasure.{plain_form, field_by, fields};
 ghost use Rattle.st_erase.specs.Records.{body_of, next_name, field_name, fields_of};
 
 use crate::form::{next, plain_form};
-use crate::{Erased, Kind};
+use crate::{Erased, ErasedKind};
 use st_el::{Exp, Node};
 use st_il::{IlDef, SyntaxBody, Ty};
 use st_num::{Name, NoMemory, Row};
@@ -104,8 +104,8 @@ fn push_field(
     ensures { OnOk result (written.new ≡ written.old ++ field_by name.now part) }
 {
     match part.kind {
-        Kind::Absent => Ok(()),
-        Kind::Plain | Kind::Arithmetic | Kind::Run => {
+        ErasedKind::Absent => Ok(()),
+        ErasedKind::Plain | ErasedKind::Arithmetic | ErasedKind::Run => {
             let name = name.copy(alloc)?;
             written.push((name, part.whole(alloc)?))
         }

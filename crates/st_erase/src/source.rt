@@ -3,7 +3,7 @@
 ghost use Rattle.std.specs.Prelude.{◌≡◌, IfOk};
 ghost use Rattle.st_erase.specs.Definitions.{erased_defs};
 ghost use Rattle.st_erase.specs.Erasure.{erased_exp};
-ghost use Rattle.st_erase.specs.Tags.{template_of, AreTemplates};
+ghost use Rattle.st_il.specs.Tags.{template_of, AreTemplates};
 
 use crate::definition::erased_def;
 use crate::expression::Eraser;

@@ -9,4 +9,5 @@ pub mod ReservedWords
 pub mod TagParts
 pub mod Atoms
 pub mod Tags
+pub mod TagTemplates
 pub mod ReadingLoop

@@ -10,6 +10,8 @@ pub mod Order
 pub mod Notation
 -- a template has this tag, and a tag at most one template
 pub mod Template
+-- the template of a tag is read off its parts
+pub mod Tags
 -- the key of a notation: what tells apart the cases of a syntax
 pub mod Key
 -- a name occurs as a variable in an expression or a premise

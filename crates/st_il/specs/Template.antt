@@ -1,5 +1,5 @@
 -- Templates, and their tags: the parts of a notation with one space between them.
-use Rattle.std.specs.Prelude.{◌≡◌, ◌≢◌, ℕ, ◌+◌, ◌≤◌, max, List, [], ◌∷◌, ◌++◌, flat_map, codes}
+use Rattle.std.specs.Prelude.{◌≡◌, ◌≢◌, ℕ, ◌+◌, ◌≤◌, max, List, [], ◌∷◌, ◌++◌, sum, flat_map, codes}
 use Rattle.std.specs.List.{AllByRecursion}
 use Rattle.st_num.specs.Signs.{spelling}
 use Rattle.st_num.specs.declared.limit.TheConstants.{HIGHEST_TREE}
@@ -27,6 +27,20 @@ template_height = fold-Template ℕ template_height_at
 pub record IsTemplate (t : Template) : Type 0 where
   pub notation : IsNotation 7 t
   pub height : template_height t ≤ HIGHEST_TREE
+
+-- ---- holes
+
+-- how many holes a level has, by how many its parts have
+abbrev pub holes_at : Template-F ℕ → ℕ
+holes_at (Template-F.Atom name) = 0
+holes_at Template-F.Hole = 1
+holes_at (Template-F.Seq parts) = sum parts
+holes_at (Template-F.Infix left sign right) = left + right
+holes_at (Template-F.Bracket opening inside) = inside
+
+-- how many holes a template has
+abbrev pub holes : Template → ℕ
+holes = fold-Template ℕ holes_at
 
 -- ---- tags
 

@@ -5,6 +5,7 @@ ghost use Rattle.std.specs.Prelude.{◌≡◌, [], IfOk, IfSome, IfNone, reverse
 ghost use Rattle.std.specs.Option.{option_map, option_and_then};
 ghost use Rattle.st_il.specs.inner.Reading as spec;
 ghost use Rattle.st_il.specs.inner.Reading.{state_of, reversed};
+ghost use Rattle.st_il.specs.Tags.{template_of};
 ghost use Rattle.st_il.specs.Template.{HasTag, HasOneTemplate};
 ghost use Rattle.st_il.specs.declared.template.Template.{Template};
 
@@ -42,6 +43,7 @@ pub fn template_of(alloc: Global, tag: &Name) -> Result<Option<Template>, NoMemo
     ensures none { IfOk result
         (λ found. IfNone found ((template : Template) → HasTag template tag.now → ⊥)) }
     ensures one { HasOneTemplate tag.now }
+    ensures gives { IfOk result (λ found. found ≡ template_of tag.now) }
 {
     let found = read_tag(alloc, tag.as_slice())?;
     Ok(found)

@@ -9,7 +9,8 @@ use Rattle.st_il.specs.declared.template.Template.{Template, out-Template, map-T
 use Rattle.st_il.specs.declared.template.Template.TheOpen.{Template-F}
 use Rattle.st_notation.specs.declared.filled.Shape.{Shape}
 use Rattle.st_notation.specs.Elements.{opened, bare, elements, is_atom}
-use Rattle.st_notation.specs.Fits.{holes, holes_at, Filling, one, Take, takes, Fits, hole, atom, bracket, sides, sequence, FitInOrder, end, next_atom, next_bracket, next_hole}
+use Rattle.st_notation.specs.Fits.{Filling, one, Take, takes, Fits, hole, atom, bracket, sides, sequence, FitInOrder, end, next_atom, next_bracket, next_hole}
+use Rattle.st_il.specs.Template.{holes, holes_at}
 
 -- ---- the whole
 

@@ -1,27 +1,13 @@
 -- How an expression fits a template, and what then fills the holes.
-use Rattle.std.specs.Prelude.{◌≡◌, ℕ, ◌+◌, sum, List, [], ◌∷◌, ◌++◌, length, take, drop, IsTrue, Option, Some, None}
+use Rattle.std.specs.Prelude.{◌≡◌, ℕ, ◌+◌, List, [], ◌∷◌, ◌++◌, length, take, drop, IsTrue, Option, Some, None}
 use Rattle.st_num.specs.declared.mark.Mark.{Mark}
 use Rattle.st_el.specs.declared.expression.Exp.{Exp}
 use Rattle.st_el.specs.declared.expression.Count.TheOpen.{Node-F}
-use Rattle.st_il.specs.declared.template.Template.{Template, out-Template, fold-Template}
+use Rattle.st_il.specs.declared.template.Template.{Template, out-Template}
 use Rattle.st_il.specs.declared.template.Template.TheOpen.{Template-F}
 use Rattle.st_notation.specs.declared.filled.Shape.{Shape}
 use Rattle.st_notation.specs.declared.filled.Shape.TheVariants as shape
 use Rattle.st_notation.specs.Elements.{opened, bare, elements, is_atom, before}
-
--- ---- holes
-
--- how many holes a level has, by how many its parts have
-abbrev pub holes_at : Template-F ℕ → ℕ
-holes_at (Template-F.Atom name) = 0
-holes_at Template-F.Hole = 1
-holes_at (Template-F.Seq parts) = sum parts
-holes_at (Template-F.Infix left sign right) = left + right
-holes_at (Template-F.Bracket opening inside) = inside
-
--- how many holes a template has
-abbrev pub holes : Template → ℕ
-holes = fold-Template ℕ holes_at
 
 -- what fills a hole
 pub data Filling : Type 0 where

@@ -1,7 +1,8 @@
 //! The fit of an expression to a template.
 
 ghost use Rattle.std.specs.Prelude.{◌≡◌, ◌++◌, [], ◌∷◌, length, IfOk};
-ghost use Rattle.st_notation.specs.Fits.{Fits, FitInOrder, FitsWhole, holes};
+ghost use Rattle.st_notation.specs.Fits.{Fits, FitInOrder, FitsWhole};
+ghost use Rattle.st_il.specs.Template.{holes};
 ghost use Rattle.st_notation.specs.Fitted.{Fitted, IsOnly};
 ghost use Rattle.st_notation.specs.inner.Steps.{Took};
 

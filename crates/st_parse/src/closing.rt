@@ -20,7 +20,7 @@ ghost use Rattle.st_parse.specs.inner.Surveys as spec;
 
 use crate::measure::{Measure, joined, without_variables};
 use crate::survey::{MemberHeights, PremiseMeasures, SideMeasures, Survey, surveyed};
-use st_draft::Ending;
+use st_draft::DefinitionEnd;
 use st_measure::{NotationHeight, place_past};
 use st_num::{HIGHEST_TREE, MOST_PREMISES, NoMemory, Span};
 use std::alloc::Global;
@@ -150,7 +150,7 @@ fn rule_measure<'a>(
 /// What is measured of the open definition, where it ends so.
 fn node_measure<'a>(
     alloc: Global,
-    ending: Ending,
+    ending: DefinitionEnd,
     members: &MemberHeights,
     sides: SideMeasures<'a>,
     premises: PremiseMeasures<'a>,
@@ -161,21 +161,21 @@ fn node_measure<'a>(
         → IfOk result (spec.OfAny spec.OfNode (drafts.node_of ending h ms s ps)) }
 {
     match ending {
-        Ending::Nothing => Ok(None),
-        Ending::Fields => Ok(Some(without_variables(alloc, members.fields))),
-        Ending::Cases(after) => {
+        DefinitionEnd::Nothing => Ok(None),
+        DefinitionEnd::Fields => Ok(Some(without_variables(alloc, members.fields))),
+        DefinitionEnd::Cases(after) => {
             let height = cases_height(members, after);
             Ok(Some(without_variables(alloc, height)))
         }
-        Ending::Var => Ok(var_measure(alloc, &sides)),
-        Ending::Relation => Ok(relation_measure(alloc, members)),
-        Ending::Fun => Ok(fun_measure(alloc, &sides)),
-        Ending::Rule => {
+        DefinitionEnd::Var => Ok(var_measure(alloc, &sides)),
+        DefinitionEnd::Relation => Ok(relation_measure(alloc, members)),
+        DefinitionEnd::Fun => Ok(fun_measure(alloc, &sides)),
+        DefinitionEnd::Rule => {
             let whole = whole_premises(alloc, premises, false)?;
             let rule = rule_measure(alloc, sides, whole)?;
             Ok(rule)
         }
-        Ending::Condition => {
+        DefinitionEnd::Condition => {
             let whole = whole_premises(alloc, premises, true)?;
             let rule = rule_measure(alloc, sides, whole)?;
             Ok(rule)
@@ -198,7 +198,7 @@ fn tall_at(at: Span, height: usize) -> Option<Span>
 pub(crate) fn close<'a>(
     alloc: Global,
     survey: Survey<'a>,
-    ending: Ending,
+    ending: DefinitionEnd,
     at: Span,
 ) -> Result<Survey<'a>, NoMemory>
     ensures { (d : Draft) → spec.Surveys survey.entry d

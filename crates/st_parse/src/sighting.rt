@@ -22,7 +22,7 @@ ghost use Rattle.st_parse.specs.inner.Surveys as spec;
 use crate::closing::{close, whole_premises};
 use crate::measure::{Measure, add_exp, measured, measured_all, raised, without_variables};
 use crate::survey::{MemberHeights, PremiseMeasures, SideMeasures, Survey, no_premises, surveyed};
-use st_draft::{Change, Ending, Listener, Word, index_in};
+use st_draft::{Change, DefinitionEnd, Listener, PartToken, index_in};
 use st_measure::{leave_out, measure_notation, measure_typ};
 use st_num::{NoMemory, Row, Span};
 use st_parse_automaton::{Shape, Slot};
@@ -34,7 +34,7 @@ use std::alloc::Global;
 fn turn<'a>(
     alloc: Global,
     survey: &mut Survey<'a>,
-    ending: Ending,
+    ending: DefinitionEnd,
     at: Span,
 ) -> Result<(), NoMemory>
     ensures { (d : Draft) → spec.Surveys survey.old d
@@ -123,7 +123,7 @@ fn put_mark<'a>(premises: &mut PremiseMeasures<'a>)
 fn without_index<'a>(
     alloc: Global,
     body: Measure<'a>,
-    words: &[Word<'_>],
+    words: &[PartToken<'_>],
 ) -> Result<Measure<'a>, NoMemory>
     ensures { (tall : ℕ) (vs : List Occurrence) (e : Exp) → spec.Is tall vs body.entry
         → IfOk result (spec.Is tall
@@ -146,7 +146,7 @@ fn iterated<'a>(
     alloc: Global,
     prem: Measure<'a>,
     actions: &[Action<'a>],
-    words: &[Word<'_>],
+    words: &[PartToken<'_>],
 ) -> Result<Measure<'a>, BuildFault>
     ensures measured { (p : Prem) (e : Exp) (at : Span) → spec.OfPrem p prem.entry
         → parts.exp_built actions.now ≡ Some e
@@ -298,7 +298,7 @@ fn put_count<'a>(
     alloc: Global,
     premises: &mut PremiseMeasures<'a>,
     actions: &[Action<'a>],
-    words: &[Word<'_>],
+    words: &[PartToken<'_>],
 ) -> Result<(), BuildFault>
     ensures measured { (ps : Premises) (n : ℕ) (e : Exp) → spec.OfPremises ps premises.old
         → parts.exp_built actions.now ≡ Some e
@@ -337,7 +337,7 @@ impl<'a> Listener<'a> for Survey<'a> {
         slot: Slot,
         _around: usize,
         actions: &[Action<'a>],
-        words: &[Word<'a>],
+        words: &[PartToken<'a>],
     ) -> Result<(), BuildFault> {
         match slot {
             Slot::Field | Slot::Var | Slot::Fun => put_typ(alloc, self, slot, actions)?,
@@ -350,7 +350,7 @@ impl<'a> Listener<'a> for Survey<'a> {
         Ok(())
     }
 
-    fn end(&mut self, alloc: Global, ending: Ending) -> Result<(), BuildFault> {
+    fn end(&mut self, alloc: Global, ending: DefinitionEnd) -> Result<(), BuildFault> {
         turn(alloc, self, ending, Span::NOWHERE)?;
         Ok(())
     }

@@ -7,7 +7,7 @@ use Rattle.st_grammar.specs.declared.sort.Sort.{Sort}
 use Rattle.st_grammar.specs.declared.sort.Sort.TheVariants as sorts
 use Rattle.st_parse_automaton.specs.declared.part_automaton.Shape.{Shape}
 use Rattle.st_parse_automaton.specs.declared.part_automaton.Shape.TheVariants.{Single, Dot, Sign, Open, Close, Other}
-use Rattle.st_parse_automaton.specs.declared.part_automaton.Kind.TheVariants.{Index as InIndex}
+use Rattle.st_parse_automaton.specs.declared.part_automaton.PartKind.TheVariants.{Index as InIndex}
 use Rattle.st_parse_automaton.specs.declared.part_automaton.Filling.TheVariants.{Empty}
 use Rattle.st_parse_automaton.specs.declared.part_automaton.Lead.TheVariants.{Left, Ahead, Items}
 use Rattle.st_parse_automaton.specs.declared.part_automaton.Frame.{Frame}

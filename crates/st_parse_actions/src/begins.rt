@@ -7,7 +7,7 @@ use crate::ends::settle;
 use crate::frame::innermost;
 use st_grammar::{Bracket, Closing, Sort};
 use st_num::{NoMemory, Row};
-use st_parse_automaton::{Frame, Kind, Shape};
+use st_parse_automaton::{Frame, PartKind, Shape};
 use st_parse_builder::{Action, TokenRef};
 use st_scan::Token;
 
@@ -20,7 +20,7 @@ fn end_no_arguments<'a>(frames: &[Frame], actions: &mut Row<Action<'a>>) -> Resu
         return Ok(());
     };
     match *frame {
-        Frame::Within(Kind::Arguments, _, _, _) => {
+        Frame::Within(PartKind::Arguments, _, _, _) => {
             actions.push(Action::EndCall)?;
             settle(false, below, actions)
         }

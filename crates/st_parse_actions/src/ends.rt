@@ -8,7 +8,7 @@ ghost use Rattle.st_parse_actions.specs.inner.Emits as emits;
 use crate::frame::closes;
 use st_grammar::Bracket;
 use st_num::{Mark, NoMemory, Row};
-use st_parse_automaton::{Filling, Frame, Kind, Lead};
+use st_parse_automaton::{Filling, Frame, Lead, PartKind};
 use st_parse_builder::Action;
 
 /// The action of a count, with an index or without.
@@ -75,14 +75,18 @@ pub(crate) fn lower<'a, 'f>(
 }
 
 /// The end of one more part of a bracket.
-pub(crate) fn end_part<'a>(kind: Kind, actions: &mut Row<Action<'a>>) -> Result<(), NoMemory>
+pub(crate) fn end_part<'a>(kind: PartKind, actions: &mut Row<Action<'a>>) -> Result<(), NoMemory>
     ensures { IfOk result (λ _. actions.new ≡ actions.old ++ emits.part_end kind) }
 {
     match kind {
-        Kind::Plain(Bracket::Round) | Kind::Arguments => actions.push(Action::Part),
-        Kind::Plain(Bracket::Brace) => actions.push(Action::Field),
-        Kind::Plain(_) | Kind::Length | Kind::Index | Kind::Segment | Kind::Update | Kind::Below =>
-            Ok(()),
+        PartKind::Plain(Bracket::Round) | PartKind::Arguments => actions.push(Action::Part),
+        PartKind::Plain(Bracket::Brace) => actions.push(Action::Field),
+        PartKind::Plain(_)
+        | PartKind::Length
+        | PartKind::Index
+        | PartKind::Segment
+        | PartKind::Update
+        | PartKind::Below => Ok(()),
     }
 }
 
@@ -131,7 +135,7 @@ fn change<'a>(marks: &mut Row<Mark>, actions: &mut Row<Action<'a>>) -> Result<()
 
 /// The end of a bracket that is filled so.
 fn end_bracket<'a>(
-    kind: Kind,
+    kind: PartKind,
     filling: Filling,
     marks: &mut Row<Mark>,
     actions: &mut Row<Action<'a>>,
@@ -142,19 +146,19 @@ fn end_bracket<'a>(
         reverse marks.new ≡ emits.drop_change kind (reverse marks.old)) }
 {
     match kind {
-        Kind::Plain(bracket) => actions.push(plain_end(bracket)),
-        Kind::Length => actions.push(Action::Length),
-        Kind::Arguments => actions.push(Action::EndCall),
-        Kind::Index => actions.push(position(filling)),
-        Kind::Segment => actions.push(step_position(filling)),
-        Kind::Update => change(marks, actions),
-        Kind::Below => Ok(()),
+        PartKind::Plain(bracket) => actions.push(plain_end(bracket)),
+        PartKind::Length => actions.push(Action::Length),
+        PartKind::Arguments => actions.push(Action::EndCall),
+        PartKind::Index => actions.push(position(filling)),
+        PartKind::Segment => actions.push(step_position(filling)),
+        PartKind::Update => change(marks, actions),
+        PartKind::Below => Ok(()),
     }
 }
 
 /// A bracket that ends, and the count that it may be.
 fn shut<'a>(
-    kind: Kind,
+    kind: PartKind,
     filling: Filling,
     below: &[Frame],
     marks: &mut Row<Mark>,
@@ -167,11 +171,13 @@ fn shut<'a>(
 {
     end_bracket(kind, filling, marks, actions)?;
     match kind {
-        Kind::Segment => Ok(()),
-        Kind::Below => settle(true, below, actions),
-        Kind::Plain(_) | Kind::Length | Kind::Arguments | Kind::Index | Kind::Update => {
-            settle(false, below, actions)
-        }
+        PartKind::Segment => Ok(()),
+        PartKind::Below => settle(true, below, actions),
+        PartKind::Plain(_)
+        | PartKind::Length
+        | PartKind::Arguments
+        | PartKind::Index
+        | PartKind::Update => { settle(false, below, actions) }
     }
 }
 

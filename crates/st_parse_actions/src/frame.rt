@@ -6,7 +6,7 @@ ghost use Rattle.st_parse_actions.specs.inner.Emits as emits;
 
 use st_grammar::{Sort, is_iteration_sign, is_type_iteration_sign, prefix_right, right_of};
 use st_num::Mark;
-use st_parse_automaton::{Frame, Kind, Lead, Part};
+use st_parse_automaton::{Frame, Lead, Part, PartKind};
 
 /// The sort of the parts that stand in a frame.
 fn frame_sort(frame: Frame) -> Sort
@@ -55,7 +55,7 @@ fn frame_least(frame: Frame) -> u8
     ensures { result ≡ parts.frame_least frame }
 {
     match frame {
-        Frame::Within(Kind::Index | Kind::Segment, _, _, _) => 13,
+        Frame::Within(PartKind::Index | PartKind::Segment, _, _, _) => 13,
         Frame::Within(_, _, _, _) | Frame::Timing => 1,
         Frame::Over(lead, _) => wanted(lead),
     }

@@ -9,7 +9,7 @@ use crate::ends::{close, end_part, lower};
 use crate::frame::{innermost, joins, may_iterate, pull};
 use st_grammar::{Bracket, Leaf, Sort, is_caret, is_change};
 use st_num::{Mark, NoMemory, Row};
-use st_parse_automaton::{Expected, Filling, Frame, Kind, Lead, Part, Reading, Shape, follows};
+use st_parse_automaton::{Expected, Filling, Frame, Lead, Part, PartKind, Reading, Shape, follows};
 use st_parse_builder::{Action, TokenRef};
 use st_scan::Token;
 
@@ -166,7 +166,12 @@ fn in_index<'a>(
     if stepped {
         return Ok(());
     }
-    let index = [Frame::Within(Kind::Index, Filling::Empty, true, Sort::Expression(false))];
+    let index = [Frame::Within(
+        PartKind::Index,
+        Filling::Empty,
+        true,
+        Sort::Expression(false),
+    )];
     begin(base, &index, shape, token, actions)
 }
 
@@ -203,7 +208,7 @@ fn name<'a>(
         actions.new ≡ actions.old ++ emits.naming (reverse frames.now) token.now) }
 {
     match frames.last() {
-        Some(Frame::Within(Kind::Plain(Bracket::Brace), _, _, _)) => {
+        Some(Frame::Within(PartKind::Plain(Bracket::Brace), _, _, _)) => {
             actions.push(Action::Label(TokenRef::new(token)))
         }
         _ => Ok(()),

@@ -19,7 +19,7 @@ use Rattle.st_grammar.specs.Reading as part
 use Rattle.st_grammar.specs.Positions.{reads_types}
 use Rattle.st_parse_automaton.specs.declared.part_automaton.Shape.TheVariants.{Sign}
 use Rattle.st_parse_automaton.specs.declared.part_automaton.Part.TheVariants.{Whole}
-use Rattle.st_parse_automaton.specs.declared.part_automaton.Kind.TheVariants.{Plain, Length, Arguments, Index as InIndex, Update, Below}
+use Rattle.st_parse_automaton.specs.declared.part_automaton.PartKind.TheVariants.{Plain, Length, Arguments, Index as InIndex, Update, Below}
 use Rattle.st_parse_automaton.specs.declared.part_automaton.Filling.TheVariants.{Parts}
 use Rattle.st_parse_automaton.specs.declared.part_automaton.Lead.TheVariants.{Left, Ahead}
 use Rattle.st_parse_automaton.specs.declared.part_automaton.Frame.{Frame}

@@ -14,8 +14,8 @@ use Rattle.st_grammar.specs.Reading as part
 use Rattle.st_grammar.specs.Positions.{reads_type, reads_types}
 use Rattle.st_parse_automaton.specs.declared.part_automaton.Part.{Part}
 use Rattle.st_parse_automaton.specs.declared.part_automaton.Part.TheVariants.{Function, Atom, Typ, Whole}
-use Rattle.st_parse_automaton.specs.declared.part_automaton.Kind.{Kind}
-use Rattle.st_parse_automaton.specs.declared.part_automaton.Kind.TheVariants.{Plain, Length, Arguments, Index as InIndex, Segment, Update, Below}
+use Rattle.st_parse_automaton.specs.declared.part_automaton.PartKind.{PartKind}
+use Rattle.st_parse_automaton.specs.declared.part_automaton.PartKind.TheVariants.{Plain, Length, Arguments, Index as InIndex, Segment, Update, Below}
 use Rattle.st_parse_automaton.specs.declared.part_automaton.Filling.{Filling}
 use Rattle.st_parse_automaton.specs.declared.part_automaton.Filling.TheVariants.{Empty, Begun, Parts}
 use Rattle.st_parse_automaton.specs.declared.part_automaton.Lead.{Lead}
@@ -36,7 +36,7 @@ part_of (tree.bracket (tree.plain bracket.Round o) ts c) = Typ (reads_types ts)
 part_of (tree.bracket h ts c) = Whole
 part_of (tree.led g t) = Whole
 
-abbrev pub kind_of : Heading → Kind
+abbrev pub kind_of : Heading → PartKind
 kind_of (tree.plain b o) = Plain b
 kind_of (tree.length o) = Length
 kind_of (tree.arguments f o) = Arguments

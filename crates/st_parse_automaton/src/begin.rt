@@ -7,14 +7,14 @@ ghost use Rattle.st_parse_automaton.specs.inner.Readings.{reading_of};
 
 use crate::close::settle;
 use crate::frame::{kind_sort, leaf_part, least, top};
-use crate::part_automaton::{Expected, Filling, Frame, Kind, Lead, Part, Reading, Shape};
+use crate::part_automaton::{Expected, Filling, Frame, Lead, Part, PartKind, Reading, Shape};
 use st_grammar::{Bracket, Closing, Sort};
 use st_num::{Mark, NoMemory, Row};
 
 /// What is expected and open, with a bracket that opens in a part of this sort.
 pub(crate) fn opened(
     expected: Expected,
-    kind: Kind,
+    kind: PartKind,
     sort: Sort,
     mut frames: Row<Frame>,
 ) -> Result<Option<Reading>, NoMemory>
@@ -54,7 +54,12 @@ fn begin_plain(
     if !sort.encloses(bracket) {
         return Ok(None);
     }
-    let next = opened(plain_expected(bracket), Kind::Plain(bracket), sort, frames)?;
+    let next = opened(
+        plain_expected(bracket),
+        PartKind::Plain(bracket),
+        sort,
+        frames,
+    )?;
     Ok(next)
 }
 
@@ -88,7 +93,7 @@ fn no_arguments(mut frames: Row<Frame>) -> Result<Option<Reading>, NoMemory>
         option_map reading_of next ≡ parts.no_arguments (reverse frames)) }
 {
     match frames.pop() {
-        Some(Frame::Within(Kind::Arguments, Filling::Empty, _, _)) => {
+        Some(Frame::Within(PartKind::Arguments, Filling::Empty, _, _)) => {
             let next = settle(Part::Whole, frames)?;
             Ok(Some(next))
         }
@@ -111,7 +116,7 @@ fn begin_closing(
             if !sort.computes() {
                 return Ok(None);
             }
-            let next = opened(Expected::Operand, Kind::Length, sort, frames)?;
+            let next = opened(Expected::Operand, PartKind::Length, sort, frames)?;
             Ok(next)
         }
         Closing::ByRound => no_arguments(frames),

@@ -8,7 +8,7 @@ ghost use Rattle.st_parse_automaton.specs.inner.Readings.{reading_of, lowered_of
 use crate::frame::{
     TIGHT, agree, kind_closing, kind_part, kind_style, lead_level, least, reach, reads_type, top,
 };
-use crate::part_automaton::{Expected, Filling, Frame, Kind, Lead, Part, Reading};
+use crate::part_automaton::{Expected, Filling, Frame, Lead, Part, PartKind, Reading};
 use st_grammar::{Closing, Sort, Style, is_colon, is_comma, left_of};
 use st_num::{Mark, NoMemory, Row};
 
@@ -108,20 +108,20 @@ pub(crate) fn close(closing: Closing, lowered: Lowered) -> Result<Option<Reading
 }
 
 /// A bracket with its parts has closed: it is a step of a path, or a part that is read.
-fn shut(kind: Kind, types: bool, frames: Row<Frame>) -> Result<Reading, NoMemory>
+fn shut(kind: PartKind, types: bool, frames: Row<Frame>) -> Result<Reading, NoMemory>
     ensures { IfOk result (λ reading. reading_of reading ≡ parts.shut kind types (reverse frames)) }
 {
     match kind {
-        Kind::Segment => Ok(Reading {
+        PartKind::Segment => Ok(Reading {
             expected: Expected::Step(true),
             frames,
         }),
-        Kind::Plain(_)
-        | Kind::Length
-        | Kind::Arguments
-        | Kind::Index
-        | Kind::Update
-        | Kind::Below => settle(kind_part(kind, types), frames),
+        PartKind::Plain(_)
+        | PartKind::Length
+        | PartKind::Arguments
+        | PartKind::Index
+        | PartKind::Update
+        | PartKind::Below => settle(kind_part(kind, types), frames),
     }
 }
 

@@ -5,7 +5,7 @@ ghost use Rattle.st_grammar.specs.Grammar as grammar;
 ghost use Rattle.st_grammar.specs.Trees as tree;
 ghost use Rattle.st_parse_automaton.specs.inner.PartAutomaton as parts;
 
-use crate::part_automaton::{Frame, Kind, Lead, Part, Shape};
+use crate::part_automaton::{Frame, Lead, Part, PartKind, Shape};
 use st_grammar::{
     Bracket, Closing, Leaf, Sort, Style, is_iteration_sign, is_type_iteration_sign, prefix_right,
     right_of,
@@ -69,12 +69,16 @@ pub(crate) fn lead_level(lead: Lead) -> u8
 }
 
 /// The least level of a part in such a bracket.
-fn kind_least(kind: Kind) -> u8
+fn kind_least(kind: PartKind) -> u8
     ensures { result ≡ parts.kind_least kind }
 {
     match kind {
-        Kind::Index | Kind::Segment => 13,
-        Kind::Plain(_) | Kind::Length | Kind::Arguments | Kind::Update | Kind::Below => 1,
+        PartKind::Index | PartKind::Segment => 13,
+        PartKind::Plain(_)
+        | PartKind::Length
+        | PartKind::Arguments
+        | PartKind::Update
+        | PartKind::Below => 1,
     }
 }
 
@@ -111,14 +115,14 @@ pub(crate) fn closed_by(bracket: Bracket) -> Closing
 }
 
 /// What closes such a bracket.
-pub(crate) fn kind_closing(kind: Kind) -> Closing
+pub(crate) fn kind_closing(kind: PartKind) -> Closing
     ensures { result ≡ parts.kind_closing kind }
 {
     match kind {
-        Kind::Plain(bracket) => closed_by(bracket),
-        Kind::Length => Closing::ByBar,
-        Kind::Arguments | Kind::Below => Closing::ByRound,
-        Kind::Index | Kind::Segment | Kind::Update => Closing::BySquare,
+        PartKind::Plain(bracket) => closed_by(bracket),
+        PartKind::Length => Closing::ByBar,
+        PartKind::Arguments | PartKind::Below => Closing::ByRound,
+        PartKind::Index | PartKind::Segment | PartKind::Update => Closing::BySquare,
     }
 }
 
@@ -158,27 +162,28 @@ fn index_style(sort: Sort) -> Style
 }
 
 /// How the parts of such a bracket are set off, where it stands in a position of this sort.
-pub(crate) fn kind_style(sort: Sort, kind: Kind) -> Style
+pub(crate) fn kind_style(sort: Sort, kind: PartKind) -> Style
     ensures { result ≡ parts.kind_style sort kind }
 {
     match kind {
-        Kind::Plain(bracket) => bracket_style(bracket, sort),
-        Kind::Arguments => Style::Parts,
-        Kind::Index => index_style(sort),
-        Kind::Segment => Style::Ends,
-        Kind::Length | Kind::Update | Kind::Below => Style::Lone,
+        PartKind::Plain(bracket) => bracket_style(bracket, sort),
+        PartKind::Arguments => Style::Parts,
+        PartKind::Index => index_style(sort),
+        PartKind::Segment => Style::Ends,
+        PartKind::Length | PartKind::Update | PartKind::Below => Style::Lone,
     }
 }
 
 /// The sort of the parts in such a bracket, by the sort of the part in which it stands.
-pub(crate) fn kind_sort(sort: Sort, kind: Kind) -> Sort
+pub(crate) fn kind_sort(sort: Sort, kind: PartKind) -> Sort
     ensures { result ≡ parts.kind_sort sort kind }
 {
     match kind {
-        Kind::Plain(bracket) => sort.inside(bracket),
-        Kind::Length => Sort::Expression(true),
-        Kind::Below => Sort::Bound,
-        Kind::Arguments | Kind::Index | Kind::Segment | Kind::Update => Sort::Expression(false),
+        PartKind::Plain(bracket) => sort.inside(bracket),
+        PartKind::Length => Sort::Expression(true),
+        PartKind::Below => Sort::Bound,
+        PartKind::Arguments | PartKind::Index | PartKind::Segment | PartKind::Update =>
+            Sort::Expression(false),
     }
 }
 
@@ -195,11 +200,11 @@ pub(crate) fn leaf_part(leaf: Leaf) -> Part
 }
 
 /// A bracket as a part, where all in it reads as types or not.
-pub(crate) fn kind_part(kind: Kind, types: bool) -> Part
+pub(crate) fn kind_part(kind: PartKind, types: bool) -> Part
     ensures { result ≡ parts.kind_part kind types }
 {
     match kind {
-        Kind::Plain(Bracket::Round) => Part::Typ(types),
+        PartKind::Plain(Bracket::Round) => Part::Typ(types),
         _ => Part::Whole,
     }
 }

@@ -27,7 +27,7 @@ pub enum Part {
 
 /// What stands before the parts of a bracket.
 #[derive(Clone, Copy, Debug, PartialEq, Eq)]
-pub enum Kind {
+pub enum PartKind {
     Plain(Bracket),
     Length,
     Arguments,
@@ -62,7 +62,7 @@ pub enum Lead {
 #[derive(Clone, Copy, Debug, PartialEq, Eq)]
 pub enum Frame {
     /// A bracket, how far it is filled, and whether all of its parts read as types.
-    Within(Kind, Filling, bool, Sort),
+    Within(PartKind, Filling, bool, Sort),
     Over(Lead, Sort),
     /// A part and `^`.
     Timing,

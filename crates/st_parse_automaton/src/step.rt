@@ -10,7 +10,7 @@ use crate::close::{close, closes, join, lower};
 use crate::frame::{
     TIGHT, dotted, follows, is_function, lead_level, marked, may_dot, may_iterate, top,
 };
-use crate::part_automaton::{Expected, Filling, Frame, Kind, Lead, Part, Reading, Shape};
+use crate::part_automaton::{Expected, Filling, Frame, Lead, Part, PartKind, Reading, Shape};
 use st_grammar::{Bracket, Leaf, Sort, is_caret, is_change, is_less};
 use st_num::{Mark, NoMemory, Row};
 
@@ -88,7 +88,7 @@ fn behind_square(base: Sort, frames: Row<Frame>) -> Result<Option<Reading>, NoMe
     if !sort.computes() {
         return Ok(None);
     }
-    let next = opened(Expected::Operand, Kind::Index, sort, frames)?;
+    let next = opened(Expected::Operand, PartKind::Index, sort, frames)?;
     Ok(next)
 }
 
@@ -106,7 +106,7 @@ fn behind_round(
     if !(is_function(part) && (sort.computes() && touching)) {
         return Ok(None);
     }
-    let next = opened(Expected::Operand, Kind::Arguments, sort, frames)?;
+    let next = opened(Expected::Operand, PartKind::Arguments, sort, frames)?;
     Ok(next)
 }
 
@@ -173,7 +173,12 @@ fn in_index(
     if stepped {
         return Ok(None);
     }
-    frames.push(Frame::Within(Kind::Index, Filling::Empty, true, Sort::Expression(false)))?;
+    frames.push(Frame::Within(
+        PartKind::Index,
+        Filling::Empty,
+        true,
+        Sort::Expression(false),
+    ))?;
     let next = begin(base, frames, shape)?;
     Ok(next)
 }
@@ -195,12 +200,12 @@ fn in_path(
         })),
         Shape::Open(Bracket::Square, _) => {
             let sort = top(base, &frames);
-            let next = opened(Expected::Operand, Kind::Segment, sort, frames)?;
+            let next = opened(Expected::Operand, PartKind::Segment, sort, frames)?;
             Ok(next)
         }
         Shape::Sign(mark) if stepped && is_change(mark) => {
             let sort = top(base, &frames);
-            let next = opened(Expected::Operand, Kind::Update, sort, frames)?;
+            let next = opened(Expected::Operand, PartKind::Update, sort, frames)?;
             Ok(next)
         }
         Shape::Sign(_) | Shape::Open(_, _) | Shape::Single(_) | Shape::Close(_) | Shape::Other =>
@@ -266,7 +271,7 @@ fn bound_index(base: Sort, frames: Row<Frame>, shape: Shape) -> Result<Option<Re
     match shape {
         Shape::Sign(mark) if is_less(mark) => {
             let sort = top(base, &frames);
-            let next = opened(Expected::Operand, Kind::Below, sort, frames)?;
+            let next = opened(Expected::Operand, PartKind::Below, sort, frames)?;
             Ok(next)
         }
         _ => Ok(None),

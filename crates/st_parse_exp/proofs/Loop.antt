@@ -14,12 +14,12 @@ use Rattle.st_parse_automaton.specs.inner.Shapes.{class_of}
 use Rattle.st_parse_automaton.specs.inner.Readings.{progress_of}
 use Rattle.st_parse_automaton.proofs.DefinitionSimulation.{is_some}
 use Rattle.st_parse_faults.specs.declared.judge.Seen.{Seen as CodeSeen}
-use Rattle.st_parse_faults.specs.declared.judge.Verdict.{Verdict as Code}
-use Rattle.st_parse_faults.specs.declared.judge.Verdict.TheVariants as code
+use Rattle.st_parse_faults.specs.declared.judge.TokenVerdict.{TokenVerdict as Code}
+use Rattle.st_parse_faults.specs.declared.judge.TokenVerdict.TheVariants as code
 use Rattle.st_parse_faults.specs.inner.Seen as seen
 use Rattle.st_parse_exp.specs.Expressions.{terminals_of}
 use Rattle.st_parse_exp.specs.Reading.{whole}
-use Rattle.st_parse_faults.specs.Judging.{Verdict, passed, broken}
+use Rattle.st_parse_faults.specs.Judging.{TokenVerdict, passed, broken}
 use Rattle.st_parse_exp.specs.Faults.{Seen, judge, verdict, nothing_seen, Faultless, FirstFault}
 use Rattle.st_parse_exp.specs.inner.Seen as spec
 use Rattle.st_parse_exp.proofs.Readings.{reached}
@@ -36,16 +36,16 @@ passes_holds names tokens k s e =
     let r = reached (take k (terminals_of names tokens)) s.state (verdict_reads names tokens k s e) in
     rule_holds s.state.here r.now r.read
 
-pub view_passes : (v : Verdict Seen) (w : seen.Summary) → verdict_view v ≡ seen.passed w → (s : Seen) × (v ≡ passed s) × (summary_of s ≡ w)
+pub view_passes : (v : TokenVerdict Seen) (w : seen.Summary) → verdict_view v ≡ seen.passed w → (s : Seen) × (v ≡ passed s) × (summary_of s ≡ w)
 view_passes (passed s) w e = (s, refl, cc)
 view_passes (broken r) w e = absurd (cc)
 
-pub view_breaks : (v : Verdict Seen) (r : RuleId) → verdict_view v ≡ seen.broken r → v ≡ broken r
+pub view_breaks : (v : TokenVerdict Seen) (r : RuleId) → verdict_view v ≡ seen.broken r → v ≡ broken r
 view_breaks (passed s) r e = absurd (cc)
 view_breaks (broken q) r e = let f : q ≡ r = cc in ap broken f
 
 -- the verdict on the token of the list
-pub at_token : (tokens : List Token) (names : List (List ℕ)) (i : ℕ) (x : Token) (l : TokenClass) (p : CodeSeen) (w : seen.Verdict) → i < length tokens → Passes names tokens i p
+pub at_token : (tokens : List Token) (names : List (List ℕ)) (i : ℕ) (x : Token) (l : TokenClass) (p : CodeSeen) (w : seen.TokenVerdict) → i < length tokens → Passes names tokens i p
     → x ≡ get_or tokens i x → l ≡ class_of (terminal names x) → w ≡ spec.judge (seen.summary_of p) x.kind l
     → w ≡ verdict_view (verdict names tokens (i + 1))
 at_token tokens names i x l p w h (s, e, o) t k f =

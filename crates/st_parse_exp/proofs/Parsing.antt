@@ -26,8 +26,8 @@ use Rattle.st_parse_automaton.proofs.View.{state_of}
 use Rattle.st_parse_automaton.proofs.DefinitionView.{definitions_of, slot_of, slot_open}
 use Rattle.st_parse_automaton.proofs.DefinitionSimulation.{is_some}
 use Rattle.st_parse_faults.specs.declared.judge.Seen.{Seen as CodeSeen}
-use Rattle.st_parse_faults.specs.declared.judge.Verdict.{Verdict as Code}
-use Rattle.st_parse_faults.specs.declared.judge.Verdict.TheVariants as code
+use Rattle.st_parse_faults.specs.declared.judge.TokenVerdict.{TokenVerdict as Code}
+use Rattle.st_parse_faults.specs.declared.judge.TokenVerdict.TheVariants as code
 use Rattle.st_parse_faults.specs.Place.{place_at}
 use Rattle.st_parse_faults.specs.inner.Seen as seen
 use Rattle.st_parse_actions.specs.inner.Emits.{finishing}

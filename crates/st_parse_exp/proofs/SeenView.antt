@@ -39,7 +39,7 @@ use Rattle.st_parse_faults.specs.Faults as defs
 use Rattle.st_parse_faults.specs.inner.Seen as judging
 use Rattle.st_parse_faults.proofs.SeenView as view
 use Rattle.st_parse_exp.specs.Reading.{begun, turn, goes, step}
-use Rattle.st_parse_faults.specs.Judging.{Verdict, passed, broken, limited}
+use Rattle.st_parse_faults.specs.Judging.{TokenVerdict, passed, broken, limited}
 use Rattle.st_parse_exp.specs.Faults.{Seen, opens_too_many, passes_limit, refusal, seen_after, judged, judge}
 use Rattle.st_parse_exp.specs.inner.Seen as spec
 use Rattle.st_parse_exp.proofs.Readings.{comma_ends}
@@ -83,7 +83,7 @@ as_rule s = record { state = positions.inside slot s.state.here; nesting = s.nes
 abbrev pub summary_of : Seen → judging.Summary
 summary_of s = view.summary (as_rule s)
 
-abbrev pub verdict_view : Verdict Seen → judging.Verdict
+abbrev pub verdict_view : TokenVerdict Seen → judging.TokenVerdict
 verdict_view (passed s) = judging.passed (summary_of s)
 verdict_view (broken r) = judging.broken r
 

@@ -7,7 +7,7 @@ use Rattle.st_scan.specs.declared.token.Token.{Token}
 use Rattle.st_grammar.specs.Terminals.{Terminal, terminal}
 use Rattle.st_grammar.specs.Trees.{Trees}
 use Rattle.st_parse_faults.specs.declared.before.Before.TheVariants as before
-use Rattle.st_parse_faults.specs.Judging.{Verdict, broken, limited, verdict_on, Pass, BreaksAt}
+use Rattle.st_parse_faults.specs.Judging.{TokenVerdict, broken, limited, verdict_on, Pass, BreaksAt}
 use Rattle.st_parse_faults.specs.LeftOut.{left_out}
 use Rattle.st_parse_faults.specs.Nesting.{nesting_after, part_bars, may_open}
 use Rattle.st_parse_faults.specs.Limits.{tally_passes, part_tallies}
@@ -33,7 +33,7 @@ abbrev pub refusal : Seen → Token → RuleId
 refusal seen x = if left_out before.Other seen.nesting x.kind then S4 else S1
 
 -- what is known behind a token that is read, or the limit that is passed there
-abbrev pub kept : Seen → Terminal → Verdict Seen
+abbrev pub kept : Seen → Terminal → TokenVerdict Seen
 kept seen l = limited (opens_too_many seen l) (passes_limit seen) seen
 
 -- what is known behind a token that is read
@@ -41,12 +41,12 @@ abbrev pub seen_after : Seen → Terminal → State → Seen
 seen_after seen l next = record { state = next; nesting = nesting_after seen.nesting l }
 
 -- the verdict on a token: it breaks a rule, or leads on to this state of the reading
-abbrev pub judged : Seen → Token → Terminal → Option State → Verdict Seen
+abbrev pub judged : Seen → Token → Terminal → Option State → TokenVerdict Seen
 judged seen x l None = broken (refusal seen x)
 judged seen x l (Some next) = kept (seen_after seen l next) l
 
 -- the verdict on one token behind what is seen, where these names are declared by `var`
-abbrev pub judge : List (List ℕ) → Seen → Token → Verdict Seen
+abbrev pub judge : List (List ℕ) → Seen → Token → TokenVerdict Seen
 judge names seen x = judged seen x (terminal names x) (step seen.state (terminal names x))
 
 -- Before the first token nothing is read, and no bracket is open.
@@ -54,7 +54,7 @@ abbrev pub nothing_seen : Seen
 nothing_seen = record { state = start; nesting = 0 }
 
 -- the verdict on the first k tokens
-abbrev pub verdict : List (List ℕ) → List Token → ℕ → Verdict Seen
+abbrev pub verdict : List (List ℕ) → List Token → ℕ → TokenVerdict Seen
 verdict names tokens k = verdict_on (judge names) nothing_seen tokens k
 
 -- the expressions that are read, where they may end here

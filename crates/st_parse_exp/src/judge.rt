@@ -10,7 +10,7 @@ ghost use Rattle.st_parse_exp.specs.inner.Seen as spec;
 
 use st_num::{Mark, NoMemory, Row, RuleId};
 use st_parse_automaton::{Expected, Progress, Reading, Shape, Slot, TokenClass, may_end};
-use st_parse_faults::{Seen, Verdict, judge_token, nothing_counted};
+use st_parse_faults::{Seen, TokenVerdict, judge_token, nothing_counted};
 use st_scan::TokenKind;
 use std::alloc::Global;
 
@@ -50,19 +50,19 @@ fn is_inside(progress: &Progress) -> bool
 }
 
 /// The verdict where no rule goes on behind an expression.
-fn alone(verdict: Verdict) -> Verdict
+fn alone(verdict: TokenVerdict) -> TokenVerdict
     ensures value { seen.verdict_of result ≡ spec.alone (seen.verdict_of verdict) }
     ensures bound { seen.IsBounded verdict → seen.IsBounded result }
 {
     match verdict {
-        Verdict::Passed(next) => {
+        TokenVerdict::Passed(next) => {
             if is_inside(&next.progress) {
-                Verdict::Passed(next)
+                TokenVerdict::Passed(next)
             } else {
-                Verdict::Broken(RuleId::S1)
+                TokenVerdict::Broken(RuleId::S1)
             }
         }
-        Verdict::Broken(rule) => Verdict::Broken(rule),
+        TokenVerdict::Broken(rule) => TokenVerdict::Broken(rule),
     }
 }
 
@@ -72,7 +72,7 @@ pub(crate) fn judge_next(
     known: Seen,
     kind: &TokenKind,
     class: TokenClass,
-) -> Result<Verdict, NoMemory>
+) -> Result<TokenVerdict, NoMemory>
     requires { seen.SeenKept known }
     ensures value { IfOk result (λ verdict.
         seen.verdict_of verdict ≡ spec.judge (seen.summary_of known) kind.now class) }
@@ -80,7 +80,7 @@ pub(crate) fn judge_next(
 {
     if separates(&known.progress, class) {
         let next = begin(alloc, known.nesting)?;
-        return Ok(Verdict::Passed(next));
+        return Ok(TokenVerdict::Passed(next));
     }
     let verdict = judge_token(alloc, known, kind, class)?;
     Ok(alone(verdict))

@@ -24,7 +24,7 @@ use st_el::Exp;
 use st_num::{Name, Row, RuleId};
 use st_parse_automaton::{Progress, may_end, token_class};
 use st_parse_builder::Action;
-use st_parse_faults::{SyntaxFault, Verdict, place_at};
+use st_parse_faults::{SyntaxFault, TokenVerdict, place_at};
 use st_scan::Token;
 use std::alloc::Global;
 
@@ -93,8 +93,8 @@ pub fn parse_exp(
             exps,
         )?;
         match judge_next(alloc, seen, &token.kind, class)? {
-            Verdict::Broken(rule) => return Err(refused(tokens, at, rule)),
-            Verdict::Passed(next) => seen = next,
+            TokenVerdict::Broken(rule) => return Err(refused(tokens, at, rule)),
+            TokenVerdict::Passed(next) => seen = next,
         }
     }
     if !may_end(&seen.progress) {

@@ -5,7 +5,7 @@ use Rattle.st_num.specs.declared.rule.RuleId.{RuleId}
 use Rattle.st_num.specs.declared.rule.RuleId.TheVariants.{S1, S2, S3, S4}
 use Rattle.st_scan.specs.declared.token.Token.{Token}
 use Rattle.st_parse_automaton.proofs.Exact.{take_shorter}
-use Rattle.st_parse_faults.specs.Judging.{Verdict, passed, broken, limited, judge_all, verdict_on, Pass, BreaksAt}
+use Rattle.st_parse_faults.specs.Judging.{TokenVerdict, passed, broken, limited, judge_all, verdict_on, Pass, BreaksAt}
 
 -- ---- rules
 
@@ -30,7 +30,7 @@ some_token (x ∷ tokens) k h = x
 
 -- ---- more tokens
 
-module _ (S : Type 0) (judge : S → Token → Verdict S) where
+module _ (S : Type 0) (judge : S → Token → TokenVerdict S) where
   stays_broken : (r : RuleId) (xs : List Token) → judge_all judge (broken r) xs ≡ broken r
   stays_broken r [] = refl
   stays_broken r (x ∷ xs) = refl
@@ -38,17 +38,17 @@ module _ (S : Type 0) (judge : S → Token → Verdict S) where
   pub never_passes : (r : RuleId) (xs : List Token) (last : S) → judge_all judge (broken r) xs ≡ passed last → ⊥
   never_passes r xs last e = let f : broken r ≡ passed last = sym (stays_broken r xs) ∙ e in absurd (cc)
 
-  abbrev pub judge_next : Verdict S → Token → Verdict S
+  abbrev pub judge_next : TokenVerdict S → Token → TokenVerdict S
   judge_next (passed seen) x = judge seen x
   judge_next (broken r) x = broken r
 
-  judge_more : (v : Verdict S) (xs : List Token) (x : Token) → judge_all judge v (xs ++ x ∷ []) ≡ judge_next (judge_all judge v xs) x
+  judge_more : (v : TokenVerdict S) (xs : List Token) (x : Token) → judge_all judge v (xs ++ x ∷ []) ≡ judge_next (judge_all judge v xs) x
   judge_more (passed seen) [] x = refl
   judge_more (broken r) [] x = refl
   judge_more (passed seen) (y ∷ xs) x = judge_more (judge seen y) xs x
   judge_more (broken r) (y ∷ xs) x = refl
 
-  judge_append : (v : Verdict S) (xs ys : List Token) → judge_all judge v (xs ++ ys) ≡ judge_all judge (judge_all judge v xs) ys
+  judge_append : (v : TokenVerdict S) (xs ys : List Token) → judge_all judge v (xs ++ ys) ≡ judge_all judge (judge_all judge v xs) ys
   judge_append (passed seen) [] ys = refl
   judge_append (broken r) [] [] = refl
   judge_append (broken r) [] (y ∷ ys) = refl
@@ -74,7 +74,7 @@ module _ (S : Type 0) (judge : S → Token → Verdict S) where
         let split : take k tokens ≡ take j tokens ++ drop j (take k tokens) = sym (take-append-drop j (take k tokens)) ∙ ap (λ front. front ++ drop j (take k tokens)) (take_shorter j k tokens h g) in
         go (verdict_on judge start tokens j) refl (sym (judge_append (passed start) (take j tokens) (drop j (take k tokens))) ∙ ap (judge_all judge (passed start)) (sym split) ∙ e)
       where
-        go : (v : Verdict S) → verdict_on judge start tokens j ≡ v → judge_all judge (verdict_on judge start tokens j) (drop j (take k tokens)) ≡ passed last
+        go : (v : TokenVerdict S) → verdict_on judge start tokens j ≡ v → judge_all judge (verdict_on judge start tokens j) (drop j (take k tokens)) ≡ passed last
             → (seen : S) × (verdict_on judge start tokens j ≡ passed seen)
         go (passed seen) f i = (seen, f)
         go (broken r) f i = absurd (never_passes r (drop j (take k tokens)) last (ap (λ v. judge_all judge v (drop j (take k tokens))) (sym f) ∙ i))

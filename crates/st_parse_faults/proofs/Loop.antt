@@ -14,9 +14,9 @@ use Rattle.st_parse_automaton.specs.Refusal.{terminals_of}
 use Rattle.st_parse_automaton.proofs.DefinitionSimulation.{may_end_is, is_some}
 use Rattle.st_parse_automaton.proofs.Loop.{holds, found, not_found}
 use Rattle.st_parse_faults.specs.declared.judge.Seen.{Seen as CodeSeen}
-use Rattle.st_parse_faults.specs.declared.judge.Verdict.{Verdict as Code}
-use Rattle.st_parse_faults.specs.declared.judge.Verdict.TheVariants as code
-use Rattle.st_parse_faults.specs.Judging.{Verdict, passed, broken}
+use Rattle.st_parse_faults.specs.declared.judge.TokenVerdict.{TokenVerdict as Code}
+use Rattle.st_parse_faults.specs.declared.judge.TokenVerdict.TheVariants as code
+use Rattle.st_parse_faults.specs.Judging.{TokenVerdict, passed, broken}
 use Rattle.st_parse_faults.specs.Faults.{Seen, judge, verdict, nothing_seen, Faultless, FirstFault}
 use Rattle.st_parse_faults.specs.inner.Seen as seen
 use Rattle.st_parse_faults.proofs.SeenView.{summary, view, judge_is}
@@ -30,16 +30,16 @@ Passes tokens k p = (s : Seen) × (verdict tokens k ≡ passed s) × (summary s 
 pub passes_holds : (tokens : List Token) (k : ℕ) (s : Seen) → verdict tokens k ≡ passed s → Holds s.state
 passes_holds tokens k s e = holds (take k (terminals_of tokens)) s.state (verdict_reads tokens k s e)
 
-pub view_passes : (v : Verdict Seen) (w : seen.Summary) → view v ≡ seen.passed w → (s : Seen) × (v ≡ passed s) × (summary s ≡ w)
+pub view_passes : (v : TokenVerdict Seen) (w : seen.Summary) → view v ≡ seen.passed w → (s : Seen) × (v ≡ passed s) × (summary s ≡ w)
 view_passes (passed s) w e = (s, refl, cc)
 view_passes (broken r) w e = absurd (cc)
 
-pub view_breaks : (v : Verdict Seen) (r : RuleId) → view v ≡ seen.broken r → v ≡ broken r
+pub view_breaks : (v : TokenVerdict Seen) (r : RuleId) → view v ≡ seen.broken r → v ≡ broken r
 view_breaks (passed s) r e = absurd (cc)
 view_breaks (broken q) r e = let f : q ≡ r = cc in ap broken f
 
 -- the verdict on the token of the list
-pub at_token : (tokens : List Token) (names : List (List ℕ)) (i : ℕ) (x : Token) (l : TokenClass) (p : CodeSeen) (w : seen.Verdict) → i < length tokens → Passes tokens i p
+pub at_token : (tokens : List Token) (names : List (List ℕ)) (i : ℕ) (x : Token) (l : TokenClass) (p : CodeSeen) (w : seen.TokenVerdict) → i < length tokens → Passes tokens i p
     → x ≡ get_or tokens i x → names ≡ declared_names tokens → l ≡ class_of (terminal names x) → w ≡ seen.judge (seen.summary_of p) x.kind l
     → w ≡ view (verdict tokens (i + 1))
 at_token tokens names i x l p w h (s, e, o) t g k f =

@@ -239,7 +239,7 @@ summary s =
       tallies = tallies s.state;
     }
 
-abbrev pub view : verdicts.Verdict faults.Seen → seen.Verdict
+abbrev pub view : verdicts.TokenVerdict faults.Seen → seen.TokenVerdict
 view (verdicts.passed s) = seen.passed (summary s)
 view (verdicts.broken r) = seen.broken r
 

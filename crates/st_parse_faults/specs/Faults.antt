@@ -7,7 +7,7 @@ use Rattle.st_scan.specs.declared.token.Token.{Token}
 use Rattle.st_grammar.specs.Terminals.{Terminal, terminal, declared_names}
 use Rattle.st_grammar.specs.Definitions.{Defs}
 use Rattle.st_grammar.specs.Positions.{State, start, step, finish}
-use Rattle.st_parse_faults.specs.Judging.{Verdict, broken, limited, verdict_on, Pass, BreaksAt}
+use Rattle.st_parse_faults.specs.Judging.{TokenVerdict, broken, limited, verdict_on, Pass, BreaksAt}
 use Rattle.st_parse_faults.specs.LeftOut.{before_next, left_out}
 use Rattle.st_parse_faults.specs.Nesting.{nesting_after, bars, may_open}
 use Rattle.st_parse_faults.specs.declared.counts.Counts.{Counts}
@@ -34,7 +34,7 @@ abbrev pub passes_limit : Seen → Bool
 passes_limit seen = counts_pass seen.counts || part_passes seen.state
 
 -- the verdict where a token is read: too many brackets, too much of something else, or no fault
-abbrev pub kept : Seen → Terminal → Verdict Seen
+abbrev pub kept : Seen → Terminal → TokenVerdict Seen
 kept seen l = limited (opens_too_many seen l) (passes_limit seen) seen
 
 -- what is known behind a token that is read
@@ -47,12 +47,12 @@ seen_after seen l next =
     }
 
 -- the verdict on a token, by the state behind it: with none, the grammar refuses it there
-abbrev pub judged : Seen → Token → Terminal → Option State → Verdict Seen
+abbrev pub judged : Seen → Token → Terminal → Option State → TokenVerdict Seen
 judged seen x l None = broken (refusal seen x)
 judged seen x l (Some next) = kept (seen_after seen l next) l
 
 -- the verdict on one token behind what is seen, where these names are declared by `var`
-abbrev pub judge : List (List ℕ) → Seen → Token → Verdict Seen
+abbrev pub judge : List (List ℕ) → Seen → Token → TokenVerdict Seen
 judge names seen x = judged seen x (terminal names x) (step seen.state (terminal names x))
 
 -- what is known before the first token
@@ -60,7 +60,7 @@ abbrev pub nothing_seen : Seen
 nothing_seen = record { state = start; nesting = 0; counts = no_counts }
 
 -- the verdict on the first k of these tokens
-abbrev pub verdict : List Token → ℕ → Verdict Seen
+abbrev pub verdict : List Token → ℕ → TokenVerdict Seen
 verdict tokens k = verdict_on (judge (declared_names tokens)) nothing_seen tokens k
 
 -- the definitions that are read, where they may end

@@ -27,7 +27,7 @@ pub struct Seen {
 
 /// A token is read, or it breaks a rule.
 #[derive(Drop)]
-pub enum Verdict {
+pub enum TokenVerdict {
     Passed(Seen),
     Broken(RuleId),
 }
@@ -90,7 +90,7 @@ pub fn judge_token(
     seen: Seen,
     kind: &TokenKind,
     class: TokenClass,
-) -> Result<Verdict, NoMemory>
+) -> Result<TokenVerdict, NoMemory>
     requires { spec.SeenKept seen }
     ensures value { IfOk result (λ verdict.
         spec.verdict_of verdict ≡ spec.judge (spec.summary_of seen) kind.now class) }
@@ -106,18 +106,18 @@ pub fn judge_token(
     let due = member_due(&progress);
     let attachment = attachment_of(&progress, class.shape);
     let Some(progress) = advance(alloc, progress, class)? else {
-        return Ok(Verdict::Broken(refusal(before, nesting, kind)));
+        return Ok(TokenVerdict::Broken(refusal(before, nesting, kind)));
     };
     let nesting = nesting_after(nesting, class.shape);
     if opens_too_many(&progress, nesting, class.shape) {
-        return Ok(Verdict::Broken(RuleId::S2));
+        return Ok(TokenVerdict::Broken(RuleId::S2));
     }
     let counts = counts_after(counts, event_of(due, &progress));
     let tallies = tallies_after(alloc, attachment, class.shape, &progress, tallies)?;
     if counts_pass(counts) || any_passes(&tallies) {
-        return Ok(Verdict::Broken(RuleId::S3));
+        return Ok(TokenVerdict::Broken(RuleId::S3));
     }
-    Ok(Verdict::Passed(Seen {
+    Ok(TokenVerdict::Passed(Seen {
         progress,
         nesting,
         counts,

@@ -22,7 +22,7 @@ mod tally;
 mod tests;
 
 pub use fault::TokenFault;
-pub use judge::{Seen, Verdict, judge_token, nothing_counted};
+pub use judge::{Seen, TokenVerdict, judge_token, nothing_counted};
 pub use laws::{faults_of_the_grammar, one_fault};
 pub use place::place_at;
 pub use reader::first_fault;

@@ -7,7 +7,7 @@ ghost use Rattle.st_parse_faults.specs.inner.Seen as seen;
 ghost use Rattle.st_parse_automaton.specs.inner.Readings.{progress_of};
 
 use st_grammar::Closing;
-use st_parse_automaton::{Frame, Kind, Progress, Shape};
+use st_parse_automaton::{Frame, PartKind, Progress, Shape};
 
 /// How many brackets are open behind the token, where so many are open before it.
 pub(crate) fn nesting_after(nesting: u8, shape: Shape) -> u8
@@ -36,7 +36,7 @@ fn bars_in(frame: Frame) -> usize
     ensures bound { result ≤ 1 }
 {
     match frame {
-        Frame::Within(Kind::Length, _, _, _) => 1,
+        Frame::Within(PartKind::Length, _, _, _) => 1,
         _ => 0,
     }
 }

@@ -5,7 +5,7 @@ ghost use Rattle.st_grammar.specs.Terminals as terminals;
 ghost use Rattle.st_parse_faults.specs.Faults.{Faultless, FirstFault};
 
 use crate::fault::TokenFault;
-use crate::judge::{Verdict, judge_token, nothing_seen};
+use crate::judge::{TokenVerdict, judge_token, nothing_seen};
 use st_num::{Name, NoMemory, RuleId};
 use st_parse_automaton::{declared_names, may_end, token_class};
 use st_scan::Token;
@@ -39,8 +39,8 @@ fn read_tokens(
     'tokens: for (at, token) in tokens.iter().enumerate() {
         let class = token_class(names, token);
         match judge_token(alloc, seen, &token.kind, class)? {
-            Verdict::Broken(rule) => return Ok(Some(TokenFault { token: at, rule })),
-            Verdict::Passed(next) => seen = next,
+            TokenVerdict::Broken(rule) => return Ok(Some(TokenFault { token: at, rule })),
+            TokenVerdict::Passed(next) => seen = next,
         }
     }
     if may_end(&seen.progress) {

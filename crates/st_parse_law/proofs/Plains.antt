@@ -6,7 +6,7 @@ use Rattle.st_el.specs.declared.expression.Node.{Node, out-Node, map-Node, fold_
 use Rattle.st_el.specs.declared.expression.Count.{Count, roll-Count, out-Count, map-Count, fold_out-Count}
 use Rattle.st_el.specs.declared.expression.Count.TheOpen.{Count-F, Node-F, Seg-F}
 use Rattle.st_el.specs.declared.expression.Seg.{Seg, roll-Seg, out-Seg, map-Seg, fold_out-Seg}
-use Rattle.st_el.specs.Wrappings.{Printed, Marked}
+use Rattle.st_el.specs.Wrappings.{Printed, IterationText}
 use Rattle.st_el.specs.SourceText.{printed, printed_node, printed_mark, printed_step, printed_mark_at, printed_node_at, printed_step_at, printed_exp_at, opened}
 use Rattle.st_el.specs.Plain.{nowhere, plain_exp, plain_node, plain_count, plain_seg, plain_node_at, plain_exp_at}
 use Rattle.st_parse_builder.specs.Meaning.{exp}
@@ -29,8 +29,8 @@ plain-at at n l e = plain-exp at n ∙ ap (exp nowhere) (plain-node n l e)
 
 pub printed-of : (e : Exp) → printed e ≡ printed_node_at (opened (out-Exp e).node)
 printed-of e =
-    fold_out-Exp Marked Printed (List ℕ) Printed printed_mark_at printed_node_at printed_step_at printed_exp_at e
-    ∙ fold_out-Node Marked Printed (List ℕ) Printed printed_mark_at printed_node_at printed_step_at printed_exp_at (out-Exp e).node
+    fold_out-Exp IterationText Printed (List ℕ) Printed printed_mark_at printed_node_at printed_step_at printed_exp_at e
+    ∙ fold_out-Node IterationText Printed (List ℕ) Printed printed_mark_at printed_node_at printed_step_at printed_exp_at (out-Exp e).node
 
 pub node-of : (at : Span) (n : Node) → (out-Exp (exp at n)).node ≡ n
 node-of at n = ap (λ e. e.node) (out-roll-Exp (record { at = at; node = n }))
@@ -45,10 +45,10 @@ plain-again e =
 
 -- ---- counts
 
-pub mark-of : (c : Count) (k : Count-F Count Node Seg Exp) → out-Count c ≡ k → printed_mark c ≡ printed_mark_at (map-Count Count Node Seg Exp Marked Printed (List ℕ) Printed printed_mark printed_node printed_step printed k)
+pub mark-of : (c : Count) (k : Count-F Count Node Seg Exp) → out-Count c ≡ k → printed_mark c ≡ printed_mark_at (map-Count Count Node Seg Exp IterationText Printed (List ℕ) Printed printed_mark printed_node printed_step printed k)
 mark-of c k e =
-    fold_out-Count Marked Printed (List ℕ) Printed printed_mark_at printed_node_at printed_step_at printed_exp_at c
-    ∙ ap (λ i. printed_mark_at (map-Count Count Node Seg Exp Marked Printed (List ℕ) Printed printed_mark printed_node printed_step printed i)) e
+    fold_out-Count IterationText Printed (List ℕ) Printed printed_mark_at printed_node_at printed_step_at printed_exp_at c
+    ∙ ap (λ i. printed_mark_at (map-Count Count Node Seg Exp IterationText Printed (List ℕ) Printed printed_mark printed_node printed_step printed i)) e
 
 pub plain-count : (c : Count) (k : Count-F Count Node Seg Exp) → out-Count c ≡ k → plain_count c ≡ roll-Count (map-Count Count Node Seg Exp Count Node Seg Exp plain_count plain_node plain_seg plain_exp k)
 plain-count c k e =
@@ -57,10 +57,10 @@ plain-count c k e =
 
 -- ---- steps of paths
 
-pub step-of : (s : Seg) (k : Seg-F Count Node Seg Exp) → out-Seg s ≡ k → printed_step s ≡ printed_step_at (map-Seg Count Node Seg Exp Marked Printed (List ℕ) Printed printed_mark printed_node printed_step printed k)
+pub step-of : (s : Seg) (k : Seg-F Count Node Seg Exp) → out-Seg s ≡ k → printed_step s ≡ printed_step_at (map-Seg Count Node Seg Exp IterationText Printed (List ℕ) Printed printed_mark printed_node printed_step printed k)
 step-of s k e =
-    fold_out-Seg Marked Printed (List ℕ) Printed printed_mark_at printed_node_at printed_step_at printed_exp_at s
-    ∙ ap (λ i. printed_step_at (map-Seg Count Node Seg Exp Marked Printed (List ℕ) Printed printed_mark printed_node printed_step printed i)) e
+    fold_out-Seg IterationText Printed (List ℕ) Printed printed_mark_at printed_node_at printed_step_at printed_exp_at s
+    ∙ ap (λ i. printed_step_at (map-Seg Count Node Seg Exp IterationText Printed (List ℕ) Printed printed_mark printed_node printed_step printed i)) e
 
 pub plain-step : (s : Seg) (k : Seg-F Count Node Seg Exp) → out-Seg s ≡ k → plain_seg s ≡ roll-Seg (map-Seg Count Node Seg Exp Count Node Seg Exp plain_count plain_node plain_seg plain_exp k)
 plain-step s k e =

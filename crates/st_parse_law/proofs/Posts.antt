@@ -26,7 +26,7 @@ use Rattle.st_el.specs.declared.context.Around.TheVariants.{Brackets, Bars, Arit
 use Rattle.st_el.specs.declared.context.Behind.{Behind}
 use Rattle.st_el.specs.declared.context.Behind.TheVariants.{Other, Dot, Plus}
 use Rattle.st_el.specs.Contexts.{operand_before}
-use Rattle.st_el.specs.Wrappings.{Level, Marked, level_of, is_arithmetic, is_plus}
+use Rattle.st_el.specs.Wrappings.{Level, IterationText, level_of, is_arithmetic, is_plus}
 use Rattle.st_el.specs.SourceText.{printed, printed_mark, front, postfix, parts_printed, opened as printed_parts}
 use Rattle.st_el.specs.Plain.{nowhere, plain_exp, plain_count, plain_node_at}
 use Rattle.st_parse_builder.specs.Names.{name_of}
@@ -150,7 +150,7 @@ mark_clear _ _ _ bs is_star = before star bs refl
 mark_clear _ _ _ bs is_plus_mark = before plus bs refl
 mark_clear _ _ _ bs is_quest = before quest bs refl
 
-abbrev marked_as : Mark → Behind → Marked
+abbrev marked_as : Mark → Behind → IterationText
 marked_as m d = record { behind = d; text = spelling m }
 
 mark_text : (m : Mark) (c : Count) (d : Behind) → IsMark m c d → printed_mark c ≡ marked_as m d

@@ -7,7 +7,7 @@ use Rattle.std.specs.Prelude.{reverse}
 use Rattle.std.specs.List.{after_last, suffix_len, prefix_len, count_by}
 use Rattle.st_scan.specs.Bytes.{is_line_feed, begins_character}
 use Rattle.st_scan.specs.Places.{line_behind, column_behind, IsBehind}
-use Rattle.st_scan.specs.declared.place.Place.{Place}
+use Rattle.st_scan.specs.declared.line_column.LineColumn.{LineColumn}
 
 suffix_push : (q : ℕ → Bool) (xs : List ℕ) (b : ℕ) → suffix_len q (xs ++ b ∷ []) ≡ prefix_len q (b ∷ reverse xs)
 suffix_push q xs b = ap (prefix_len q) (reverse-append xs (b ∷ []))
@@ -43,19 +43,19 @@ column_other before b e =
     let pushed : count_by begins_character (after_last is_line_feed (before ++ b ∷ [])) ≡ count_by begins_character (after_last is_line_feed before) + cond (begins_character b) 1 0 = ap (count_by begins_character) (after_other before b (ne_eqb b 10 e)) ∙ characters_push (after_last is_line_feed before) b in
     omega (arith, pushed)
 
-pub behind_feed : (before : List ℕ) (here there : Place) (b : ℕ) → IsBehind before here → b ≡ 10 → there.line ≡ here.line + 1 → there.column ≡ 1 → IsBehind (before ++ b ∷ []) there
+pub behind_feed : (before : List ℕ) (here there : LineColumn) (b : ℕ) → IsBehind before here → b ≡ 10 → there.line ≡ here.line + 1 → there.column ≡ 1 → IsBehind (before ++ b ∷ []) there
 behind_feed before here there b h e l c =
     let feed : is_line_feed b ≡ true = eq-eqb b 10 e in
     let one : ◌≡◌ {A = ℕ} (cond (is_line_feed b) 1 0) 1 = ap (λ t. cond t 1 0) feed in
     let none : count_by begins_character (after_last is_line_feed (before ++ b ∷ [])) ≡ 0 = ap (count_by begins_character) (after_feed before b feed) in
     record { line = omega (arith, l, h.line, feeds_push before b, one); column = omega (arith, c, none) }
 
-pub behind_first : (before : List ℕ) (here there : Place) (b : ℕ) → IsBehind before here → b ≢ 10 → begins_character b ≡ true → there.line ≡ here.line → there.column ≡ here.column + 1 → IsBehind (before ++ b ∷ []) there
+pub behind_first : (before : List ℕ) (here there : LineColumn) (b : ℕ) → IsBehind before here → b ≢ 10 → begins_character b ≡ true → there.line ≡ here.line → there.column ≡ here.column + 1 → IsBehind (before ++ b ∷ []) there
 behind_first before here there b h e f l c =
     let one : ◌≡◌ {A = ℕ} (cond (begins_character b) 1 0) 1 = ap (λ t. cond t 1 0) f in
     record { line = l ∙ h.line ∙ sym (line_other before b e); column = omega (arith, c, h.column, column_other before b e, one) }
 
-pub behind_other : (before : List ℕ) (here there : Place) (b : ℕ) → IsBehind before here → b ≢ 10 → begins_character b ≡ false → there.line ≡ here.line → there.column ≡ here.column → IsBehind (before ++ b ∷ []) there
+pub behind_other : (before : List ℕ) (here there : LineColumn) (b : ℕ) → IsBehind before here → b ≢ 10 → begins_character b ≡ false → there.line ≡ here.line → there.column ≡ here.column → IsBehind (before ++ b ∷ []) there
 behind_other before here there b h e f l c =
     let none : ◌≡◌ {A = ℕ} (cond (begins_character b) 1 0) 0 = ap (λ t. cond t 1 0) f in
     record { line = l ∙ h.line ∙ sym (line_other before b e); column = omega (arith, c, h.column, column_other before b e, none) }

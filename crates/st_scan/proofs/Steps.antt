@@ -6,7 +6,7 @@ use Rattle.std.proofs.lemmas.List.{take_at, drop_at, drop_all, take-append-drop,
 use Rattle.std.proofs.lemmas.List.Prefix.{end_rest}
 use Rattle.st_num.specs.declared.span.Span.{Span}
 use Rattle.st_num.specs.declared.rule.RuleId.{RuleId}
-use Rattle.st_scan.specs.declared.place.Place.{Place}
+use Rattle.st_scan.specs.declared.line_column.LineColumn.{LineColumn}
 use Rattle.st_scan.specs.declared.read.Reading.{Reading}
 use Rattle.st_scan.specs.declared.read.Stop.{Stop}
 use Rattle.st_scan.specs.declared.read.Stop.TheVariants.{Refused, Memory}
@@ -30,27 +30,27 @@ before_is file front rest e =
     let from : length front ≡ offset file rest = omega (arith, all) in
     ap (take (offset file rest)) e ∙ take_at front rest (offset file rest) from
 
-pub at_moves : (file rest front here : List ℕ) (p q : Place) → IsAt file rest p → rest ≡ front ++ here → IsBehind (take (offset file rest) file ++ front) q → IsAt file here q
+pub at_moves : (file rest front here : List ℕ) (p q : LineColumn) → IsAt file rest p → rest ≡ front ++ here → IsBehind (take (offset file rest) file ++ front) q → IsAt file here q
 at_moves file rest front here p q at e behind =
     let before : List ℕ = take (offset file rest) file in
     let joined : file ≡ (take (offset file rest) file ++ front) ++ here = at.split ∙ ap (λ u. take (offset file rest) file ++ u) e ∙ sym (append_assoc (take (offset file rest) file) front here) in
     let is : take (offset file here) file ≡ take (offset file rest) file ++ front = before_is file (take (offset file rest) file ++ front) here joined in
     record { split = joined ∙ ap (λ u. u ++ here) (sym is); behind = subst (λ u. IsBehind u q) (sym is) behind }
 
-pub place_is : (number : ℕ) (file here : List ℕ) (q : Place) (s : Span) → s ≡ record { file = number; line = q.line; column = q.column } → IsAt file here q → s ≡ place number file here
+pub place_is : (number : ℕ) (file here : List ℕ) (q : LineColumn) (s : Span) → s ≡ record { file = number; line = q.line; column = q.column } → IsAt file here q → s ≡ place number file here
 place_is number file here q s e at =
     e ∙ ap (λ n. span_of n q.column) at.behind.line ∙ ap (λ n. span_of (line_behind (take (offset file here) file)) n) at.behind.column
   where
     span_of : ℕ → ℕ → Span
     span_of line column = record { file = number; line = line; column = column }
 
-at_start : (file : List ℕ) (p : Place) → IsBehind [] p → IsAt file file p
+at_start : (file : List ℕ) (p : LineColumn) → IsBehind [] p → IsAt file file p
 at_start file p h =
     let is : take (offset file file) file ≡ [] = before_is file [] file refl in
     record { split = ap (λ u. u ++ file) (sym is); behind = subst (λ u. IsBehind u p) (sym is) h }
 
 -- the place behind so many bytes from the start on
-pub at_skipped : (file : List ℕ) (n : ℕ) (p q : Place) → IsBehind [] p → ((before : List ℕ) → IsBehind before p → IsBehind (before ++ take n file) q) → IsAt file (drop n file) q
+pub at_skipped : (file : List ℕ) (n : ℕ) (p q : LineColumn) → IsBehind [] p → ((before : List ℕ) → IsBehind before p → IsBehind (before ++ take n file) q) → IsAt file (drop n file) q
 at_skipped file n p q start moved =
     let at : IsAt file file p = at_start file p start in
     at_moves file file (take n file) (drop n file) p q at (sym (take-append-drop n file)) (moved (take (offset file file) file) at.behind)
@@ -76,7 +76,7 @@ touches m n h = grind (arith, nat_tests)
 
 -- ---- a token
 
-module _ (number : ℕ) (file rest here : List ℕ) (p q : Place) (is : here ≡ gap between rest) (at : IsAt file rest p) (moved : (before : List ℕ) → IsBehind before p → IsBehind (before ++ take (length rest - length here) rest) q) where
+module _ (number : ℕ) (file rest here : List ℕ) (p q : LineColumn) (is : here ≡ gap between rest) (at : IsAt file rest p) (moved : (before : List ℕ) → IsBehind before p → IsBehind (before ++ take (length rest - length here) rest) q) where
   pub at_here : IsAt file here q
   at_here =
       let split : rest ≡ take (length rest - length here) rest ++ here = subst (λ u. rest ≡ take (length rest - length u) rest ++ u) (sym is) (gap_split rest) in
@@ -131,7 +131,7 @@ cause_here bytes here rule (large text rest n long big) e = nothing text refl
     nothing (b ∷ bs) is = absurd (cc (sym (long.split ∙ ap (λ u. u ++ rest) is) ∙ e))
 cause_here bytes here rule (no_token some none closed quoteless) e = some e
 
-pub stops_file : (number : ℕ) (file rest : List ℕ) (ts : List Token) (p : Place) (stop : Stop) → IsAt file rest p → Run number file file ts rest → StopsNext rest stop → StopsFile number file (farther (length file - length rest) stop)
+pub stops_file : (number : ℕ) (file rest : List ℕ) (ts : List Token) (p : LineColumn) (stop : Stop) → IsAt file rest p → Run number file file ts rest → StopsNext rest stop → StopsFile number file (farther (length file - length rest) stop)
 stops_file number file rest ts p (Refused skipped rule) at run s =
     let rest_is : drop (offset file rest) file ≡ rest = end_rest file rest (take (offset file rest) file) at.split in
     let same : drop skipped rest ≡ drop (offset file rest + skipped) file = ap (drop skipped) (sym rest_is) ∙ drop-drop skipped (offset file rest) file in

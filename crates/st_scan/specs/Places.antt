@@ -2,7 +2,7 @@
 use Rattle.std.specs.Prelude.{◌≡◌, ℕ, ◌+◌, ◌-◌, List, length, take, count_by}
 use Rattle.std.specs.List.{after_last}
 use Rattle.st_num.specs.declared.span.Span.{Span}
-use Rattle.st_scan.specs.declared.place.Place.{Place}
+use Rattle.st_scan.specs.declared.line_column.LineColumn.{LineColumn}
 use Rattle.st_scan.specs.Bytes.{is_line_feed, begins_character}
 
 -- how many bytes of the file stand before its rest
@@ -24,6 +24,6 @@ place number file rest =
     record { file = number; line = line_behind before; column = column_behind before }
 
 -- these are the line and the column of what stands behind these bytes
-pub record IsBehind (before : List ℕ) (here : Place) : Type 0 where
+pub record IsBehind (before : List ℕ) (here : LineColumn) : Type 0 where
   pub line : here.line ≡ line_behind before
   pub column : here.column ≡ column_behind before

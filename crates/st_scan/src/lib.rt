@@ -8,9 +8,9 @@
 #![tactic(auto)]
 
 mod gap;
+mod line_column;
 mod name;
 mod number;
-mod place;
 mod read;
 mod scanner;
 mod sign;

@@ -8,7 +8,7 @@ ghost use Rattle.st_num.specs.declared.fault.Fault.TheVariants.{Refused};
 ghost use Rattle.st_scan.specs.inner.Steps.{IsAt, IsNext, StopsNext, ReadsAll, StopsFile, IsUtf8Length};
 
 use crate::gap::skip_gap;
-use crate::place::Place;
+use crate::line_column::LineColumn;
 use crate::read::{Stop, read_token};
 use crate::{LexFault, Token};
 use st_num::{Row, RuleId};
@@ -19,7 +19,7 @@ use std::alloc::Global;
 struct Step<'a> {
     token: Token,
     rest: &'a [u8],
-    place: Place,
+    place: LineColumn,
 }
 
 /// The next token of what is left of a file, or nothing where only blanks and comments are left.
@@ -27,7 +27,7 @@ fn read_next<'a>(
     alloc: Global,
     file: u16,
     rest: &'a [u8],
-    place: Place,
+    place: LineColumn,
 ) -> Result<Option<Step<'a>>, Stop>
     requires lines { place.line + length rest.now ≤ 2 ^ 32 }
     requires columns { place.column + length rest.now ≤ 2 ^ 32 }
@@ -64,7 +64,7 @@ fn read_tokens(alloc: Global, file: u16, bytes: &[u8]) -> Result<Row<Token>, Sto
 {
     let mut tokens = Row::new(alloc);
     let mut rest = bytes;
-    let mut place = Place::start();
+    let mut place = LineColumn::start();
     'tokens: loop {
         let next = match read_next(alloc, file, rest, place) {
             Ok(next) => next,
@@ -95,7 +95,7 @@ fn refusal(file: u16, bytes: &[u8], skipped: usize, rule: RuleId) -> LexFault
     requires inside { skipped < length bytes.now }
     ensures { result ≡ Refused (place file bytes.now (drop skipped bytes.now)) rule }
 {
-    let here = Place::start().behind(&bytes[..skipped]);
+    let here = LineColumn::start().behind(&bytes[..skipped]);
     LexFault::Refused {
         at: here.span(file),
         rule,

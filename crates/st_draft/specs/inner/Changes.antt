@@ -9,8 +9,8 @@ use Rattle.st_parse_automaton.specs.declared.position.IterationState.TheVariants
 use Rattle.st_parse_automaton.specs.declared.position.Position.{Position}
 use Rattle.st_parse_automaton.specs.declared.position.Position.TheVariants as position
 use Rattle.st_parse_automaton.specs.inner.DefinitionAutomaton as definitions
-use Rattle.st_draft.specs.declared.change.Ending.{Ending}
-use Rattle.st_draft.specs.declared.change.Ending.TheVariants as ending
+use Rattle.st_draft.specs.declared.change.DefinitionEnd.{DefinitionEnd}
+use Rattle.st_draft.specs.declared.change.DefinitionEnd.TheVariants as ending
 use Rattle.st_draft.specs.declared.change.Change.{Change}
 use Rattle.st_draft.specs.declared.change.Change.TheVariants as change
 
@@ -26,7 +26,7 @@ names_definition position.FunName = true
 names_definition p = false
 
 -- what of a definition ends where its hints may stand
-abbrev pub host_ending : Host → Ending
+abbrev pub host_ending : Host → DefinitionEnd
 host_ending host.Case = ending.Cases false
 host_ending host.Var = ending.Var
 host_ending host.Notation = ending.Relation
@@ -34,7 +34,7 @@ host_ending host.Fun = ending.Fun
 host_ending h = ending.Nothing
 
 -- what ends where a next definition may begin
-abbrev pub ending_of : Position → Ending
+abbrev pub ending_of : Position → DefinitionEnd
 ending_of (position.Hinted h b) = host_ending h
 ending_of position.Premised = ending.Rule
 ending_of (position.Iterated m) = ending.Condition

@@ -33,8 +33,8 @@ use Rattle.st_draft.specs.declared.draft.Members.{Members}
 use Rattle.st_draft.specs.declared.draft.Sides.{Sides}
 use Rattle.st_draft.specs.declared.draft.Premises.{Premises}
 use Rattle.st_draft.specs.declared.draft.Draft.{Draft}
-use Rattle.st_draft.specs.declared.change.Ending.{Ending}
-use Rattle.st_draft.specs.declared.change.Ending.TheVariants as ending
+use Rattle.st_draft.specs.declared.change.DefinitionEnd.{DefinitionEnd}
+use Rattle.st_draft.specs.declared.change.DefinitionEnd.TheVariants as ending
 use Rattle.st_draft.specs.declared.change.Change.{Change}
 use Rattle.st_draft.specs.declared.change.Change.TheVariants as change
 
@@ -357,7 +357,7 @@ rule_of h s (Some e) ps =
     else Some (def.Rule h.name (or_empty h.id) e ps)
 
 -- the open definition, where it ends so
-abbrev pub node_of : Ending → Head → Members → Sides → Premises → Option DefNode
+abbrev pub node_of : DefinitionEnd → Head → Members → Sides → Premises → Option DefNode
 node_of ending.Nothing h ms s p = None
 node_of ending.Fields h ms s p = Some (def.Syntax h.name h.id (body.Fields ms.fields))
 node_of (ending.Cases b) h ms s p = Some (def.Syntax h.name h.id (body_of ms.dots ms.notations b))
@@ -373,7 +373,7 @@ def_put d None = d.defs
 def_put d (Some n) = d.defs ++ record { at = d.head.at; hints = d.hints; node = n } ∷ []
 
 -- all definitions, where the open one ends so
-abbrev pub ended : Ending → Draft → List Def
+abbrev pub ended : DefinitionEnd → Draft → List Def
 ended e d = def_put d (node_of e d.head d.members d.sides d.premises)
 
 -- ---- changes

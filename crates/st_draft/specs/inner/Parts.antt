@@ -18,7 +18,7 @@ use Rattle.st_parse_builder.specs.inner.Building.{run}
 use Rattle.st_parse_builder.specs.inner.NotationBuilding.{typ_built, notation_built}
 use Rattle.st_draft.specs.declared.change.Change.{Change}
 use Rattle.st_draft.specs.declared.change.Change.TheVariants as change
-use Rattle.st_draft.specs.declared.parts.Word.{Word}
+use Rattle.st_draft.specs.declared.parts.PartToken.{PartToken}
 use Rattle.st_draft.specs.declared.draft.Draft.{Draft}
 use Rattle.st_draft.specs.inner.Drafts.{params_put, args_put, with_sides, applied, typ_filled, notation_filled, condition_filled, exp_filled, count_filled}
 
@@ -61,7 +61,7 @@ redrafted c sh x arguments d = Some (applied c sh x [] [] d)
 -- ---- parts that end
 
 -- a token of a count, as the parser sees it and as it stands in the text
-abbrev pub word_of : Word → TokenClass × Token
+abbrev pub word_of : PartToken → TokenClass × Token
 word_of w = (w.class, w.token)
 
 -- the index of a count that begins with these tokens

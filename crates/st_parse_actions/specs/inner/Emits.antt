@@ -15,8 +15,8 @@ use Rattle.st_grammar.specs.Levels.{is_expression, is_count, has_level, tight, i
 use Rattle.st_parse_automaton.specs.declared.part_automaton.Shape.{Shape}
 use Rattle.st_parse_automaton.specs.declared.part_automaton.Shape.TheVariants.{Single, Dot, Sign, Open, Close}
 use Rattle.st_parse_automaton.specs.declared.part_automaton.Part.{Part}
-use Rattle.st_parse_automaton.specs.declared.part_automaton.Kind.{Kind}
-use Rattle.st_parse_automaton.specs.declared.part_automaton.Kind.TheVariants.{Plain, Length, Arguments, Index as InIndex, Segment, Update, Below}
+use Rattle.st_parse_automaton.specs.declared.part_automaton.PartKind.{PartKind}
+use Rattle.st_parse_automaton.specs.declared.part_automaton.PartKind.TheVariants.{Plain, Length, Arguments, Index as InIndex, Segment, Update, Below}
 use Rattle.st_parse_automaton.specs.declared.part_automaton.Filling.{Filling}
 use Rattle.st_parse_automaton.specs.declared.part_automaton.Filling.TheVariants.{Parts}
 use Rattle.st_parse_automaton.specs.declared.part_automaton.Lead.{Lead}
@@ -65,7 +65,7 @@ lowering n [] = []
 lowering n (f ∷ fs) = lead_closes (lowering n fs) (parts.closes f n)
 
 -- what ends a part of a bracket
-abbrev pub part_end : Kind → List Action
+abbrev pub part_end : PartKind → List Action
 part_end (Plain bracket.Round) = action.Part ∷ []
 part_end (Plain bracket.Brace) = action.Field ∷ []
 part_end Arguments = action.Part ∷ []
@@ -93,7 +93,7 @@ plain_end bracket.Brace = action.EndFields
 plain_end b = action.Enclose b
 
 -- the end of a bracket of each kind that is filled so, with the signs of the open changes
-abbrev pub kind_end : Kind → Filling → List Mark → List Action
+abbrev pub kind_end : PartKind → Filling → List Mark → List Action
 kind_end (Plain b) f marks = plain_end b ∷ []
 kind_end Length f marks = action.Length ∷ []
 kind_end Arguments f marks = action.EndCall ∷ []
@@ -103,12 +103,12 @@ kind_end Update f marks = changing marks
 kind_end Below f marks = []
 
 -- The bracket holds a count with an index.
-abbrev pub is_below : Kind → Bool
+abbrev pub is_below : PartKind → Bool
 is_below Below = true
 is_below k = false
 
 -- the end of a bracket, and of the count that it may be
-abbrev pub shutting : Kind → Filling → List Mark → List Frame → List Action
+abbrev pub shutting : PartKind → Filling → List Mark → List Frame → List Action
 shutting Segment f marks fs = kind_end Segment f marks
 shutting k f marks fs = kind_end k f marks ++ settling (is_below k) fs
 
@@ -256,7 +256,7 @@ dropped [] = []
 dropped (m ∷ marks) = marks
 
 -- the same where the bracket that closes is a change
-abbrev pub drop_change : Kind → List Mark → List Mark
+abbrev pub drop_change : PartKind → List Mark → List Mark
 drop_change Update marks = dropped marks
 drop_change k marks = marks
 

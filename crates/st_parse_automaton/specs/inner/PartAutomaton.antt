@@ -20,8 +20,8 @@ use Rattle.st_parse_automaton.specs.declared.part_automaton.Shape.{Shape}
 use Rattle.st_parse_automaton.specs.declared.part_automaton.Shape.TheVariants.{Single, Dot, Sign, Open, Close, Other}
 use Rattle.st_parse_automaton.specs.declared.part_automaton.Part.{Part}
 use Rattle.st_parse_automaton.specs.declared.part_automaton.Part.TheVariants.{Function, Atom, Typ, Whole}
-use Rattle.st_parse_automaton.specs.declared.part_automaton.Kind.{Kind}
-use Rattle.st_parse_automaton.specs.declared.part_automaton.Kind.TheVariants.{Plain, Length, Arguments, Index as InIndex, Segment, Update, Below}
+use Rattle.st_parse_automaton.specs.declared.part_automaton.PartKind.{PartKind}
+use Rattle.st_parse_automaton.specs.declared.part_automaton.PartKind.TheVariants.{Plain, Length, Arguments, Index as InIndex, Segment, Update, Below}
 use Rattle.st_parse_automaton.specs.declared.part_automaton.Filling.{Filling}
 use Rattle.st_parse_automaton.specs.declared.part_automaton.Filling.TheVariants.{Empty, Begun, Parts}
 use Rattle.st_parse_automaton.specs.declared.part_automaton.Lead.{Lead}
@@ -67,7 +67,7 @@ lead_level (Ahead m) = prefix_level m
 lead_level Items = 14
 
 -- the least level of a part in such a bracket
-abbrev pub kind_least : Kind → ℕ
+abbrev pub kind_least : PartKind → ℕ
 kind_least InIndex = 13
 kind_least Segment = 13
 kind_least k = 1
@@ -84,7 +84,7 @@ least [] = 1
 least (f ∷ fs) = frame_least f
 
 -- what closes such a bracket
-abbrev pub kind_closing : Kind → Closing
+abbrev pub kind_closing : PartKind → Closing
 kind_closing (Plain b) = closed_by b
 kind_closing Length = closing.ByBar
 kind_closing Arguments = closing.ByRound
@@ -94,7 +94,7 @@ kind_closing Update = closing.BySquare
 kind_closing Below = closing.ByRound
 
 -- how the parts in such a bracket are set off, where it stands in a part of this sort
-abbrev pub kind_style : Sort → Kind → Style
+abbrev pub kind_style : Sort → PartKind → Style
 kind_style σ (Plain b) = bracket_style b σ
 kind_style σ Length = style.Lone
 kind_style σ Arguments = style.Parts
@@ -104,7 +104,7 @@ kind_style σ Update = style.Lone
 kind_style σ Below = style.Lone
 
 -- the sort of the parts in such a bracket, where it stands in a part of this sort
-abbrev pub kind_sort : Sort → Kind → Sort
+abbrev pub kind_sort : Sort → PartKind → Sort
 kind_sort σ (Plain b) = inside σ b
 kind_sort σ Length = sort.Expression true
 kind_sort σ Arguments = sort.Expression false
@@ -146,7 +146,7 @@ leaf_part leaf.Literal = Whole
 leaf_part leaf.Function = Function
 
 -- what part a bracket is that has closed, where all in it reads as types or not
-abbrev pub kind_part : Kind → Bool → Part
+abbrev pub kind_part : PartKind → Bool → Part
 kind_part (Plain bracket.Round) t = Typ t
 kind_part k t = Whole
 
@@ -210,7 +210,7 @@ lower n v p [] = (v, p, [])
 lower n v p (f ∷ fs) = lower_at n v p f fs (λ g. lower n (lead_level g) Whole fs) (closes f n)
 
 -- a bracket with its parts has closed: it is a step of a path, or a part that is read
-abbrev pub shut : Kind → Bool → List Frame → State
+abbrev pub shut : PartKind → Bool → List Frame → State
 shut Segment t fs = (Step true, fs)
 shut k t fs = settle (kind_part k t) fs
 
@@ -228,7 +228,7 @@ ended q = None
 -- ---- what begins
 
 -- what is open, with a bracket that opens in a part of this sort
-abbrev pub opened : Kind → Sort → List Frame → List Frame
+abbrev pub opened : PartKind → Sort → List Frame → List Frame
 opened k σ fs = Within k Empty true (kind_sort σ k) ∷ fs
 
 -- what is expected where such a bracket has opened: in braces the name of a field

@@ -8,7 +8,7 @@ use Rattle.st_parse_automaton.specs.declared.position.TokenClass.{TokenClass}
 use Rattle.st_parse_automaton.specs.declared.position.Slot.TheVariants as slot
 use Rattle.st_parse_automaton.specs.inner.DefinitionAutomaton as definitions
 use Rattle.st_parse_faults.specs.inner.Seen as seen
-use Rattle.st_parse_faults.specs.inner.Seen.{Summary, Verdict, passed, broken}
+use Rattle.st_parse_faults.specs.inner.Seen.{Summary, TokenVerdict, passed, broken}
 
 -- A comma stands behind a whole expression.
 abbrev pub separates : definitions.State → TokenClass → Bool
@@ -24,10 +24,10 @@ is_inside (definitions.inside s st ks) = true
 is_inside (definitions.at p ks) = false
 
 -- Behind an expression no rule goes on.
-abbrev pub alone : Verdict → Verdict
+abbrev pub alone : TokenVerdict → TokenVerdict
 alone (passed v) = if is_inside v.state then passed v else broken S1
 alone (broken r) = broken r
 
 -- the verdict on a token: a comma begins a next expression, and another goes on with the open one
-abbrev pub judge : Summary → TokenKind → TokenClass → Verdict
+abbrev pub judge : Summary → TokenKind → TokenClass → TokenVerdict
 judge v k l = if separates v.state l then passed (begun v) else alone (seen.judge v k l)

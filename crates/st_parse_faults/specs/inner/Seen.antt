@@ -12,8 +12,8 @@ use Rattle.st_grammar.specs.declared.sort.Sort.TheVariants as sort
 use Rattle.st_parse_automaton.specs.declared.part_automaton.Shape.{Shape}
 use Rattle.st_parse_automaton.specs.declared.part_automaton.Shape.TheVariants.{Open, Close}
 use Rattle.st_parse_automaton.specs.declared.part_automaton.Part.{Part}
-use Rattle.st_parse_automaton.specs.declared.part_automaton.Kind.{Kind}
-use Rattle.st_parse_automaton.specs.declared.part_automaton.Kind.TheVariants.{Length}
+use Rattle.st_parse_automaton.specs.declared.part_automaton.PartKind.{PartKind}
+use Rattle.st_parse_automaton.specs.declared.part_automaton.PartKind.TheVariants.{Length}
 use Rattle.st_parse_automaton.specs.declared.part_automaton.Frame.{Frame}
 use Rattle.st_parse_automaton.specs.declared.part_automaton.Frame.TheVariants.{Within}
 use Rattle.st_parse_automaton.specs.declared.part_automaton.Expected.TheVariants.{Next}
@@ -30,9 +30,9 @@ use Rattle.st_parse_automaton.specs.inner.DefinitionAutomaton as definitions
 use Rattle.st_parse_faults.specs.declared.before.Before.{Before}
 use Rattle.st_parse_faults.specs.declared.before.Before.TheVariants as before
 use Rattle.st_parse_faults.specs.declared.judge.Seen.{Seen as CodeSeen}
-use Rattle.st_parse_faults.specs.declared.judge.Verdict.{Verdict as Code}
+use Rattle.st_parse_faults.specs.declared.judge.TokenVerdict.{TokenVerdict as Code}
 use Rattle.st_parse_faults.specs.declared.tally.Tally.{Tally}
-use Rattle.st_parse_faults.specs.declared.judge.Verdict.TheVariants as variant
+use Rattle.st_parse_faults.specs.declared.judge.TokenVerdict.TheVariants as variant
 use Rattle.st_parse_faults.specs.LeftOut.{type_or_other, left_out}
 use Rattle.st_parse_faults.specs.declared.counts.Counts.{Counts}
 use Rattle.st_parse_faults.specs.declared.counts.Event.{Event}
@@ -71,7 +71,7 @@ nesting_after n (Close c) = n - 1
 nesting_after n s = n
 
 -- one for the bars of a length, and none for another bracket
-abbrev pub kind_bars : Kind → ℕ
+abbrev pub kind_bars : PartKind → ℕ
 kind_bars Length = 1
 kind_bars k = 0
 
@@ -151,16 +151,16 @@ pub record Summary : Type 0 where
   pub tallies : List Tally
 
 -- what is known behind some tokens, or the rule that one of them breaks
-pub data Verdict : Type 0 where
-  passed : Summary → Verdict
-  broken : RuleId → Verdict
+pub data TokenVerdict : Type 0 where
+  passed : Summary → TokenVerdict
+  broken : RuleId → TokenVerdict
 
 -- the token is a bracket or bar behind which more are open than may be
 abbrev pub opens_too_many : definitions.State → ℕ → Shape → Bool
 opens_too_many st n s = may_open s && nat_lt HIGHEST_TREE (n + bars st)
 
 -- the verdict where too many brackets are open, or else too much is counted, or neither
-abbrev pub limited : Bool → Bool → Summary → Verdict
+abbrev pub limited : Bool → Bool → Summary → TokenVerdict
 limited true b v = broken S2
 limited false true v = broken S3
 limited false false v = passed v
@@ -170,7 +170,7 @@ abbrev pub passes_limit : Summary → Bool
 passes_limit v = counts_pass v.counts || list_any tally_passes v.tallies
 
 -- the verdict where a token is read: too many brackets, too much of something else, or no fault
-abbrev pub kept : Summary → Shape → Verdict
+abbrev pub kept : Summary → Shape → TokenVerdict
 kept v s = limited (opens_too_many v.state v.nesting s) (passes_limit v) v
 
 -- the rule that a refused token breaks
@@ -188,12 +188,12 @@ summary_after v s next =
     }
 
 -- the verdict on a token, by the state behind it: with none, the grammar refuses it there
-abbrev pub judged : Summary → TokenKind → Shape → Option definitions.State → Verdict
+abbrev pub judged : Summary → TokenKind → Shape → Option definitions.State → TokenVerdict
 judged v k s None = broken (refusal (stands_before v.state) v.nesting k)
 judged v k s (Some next) = kept (summary_after v s next) s
 
 -- the verdict on one more token
-abbrev pub judge : Summary → TokenKind → TokenClass → Verdict
+abbrev pub judge : Summary → TokenKind → TokenClass → TokenVerdict
 judge v k l = judged v k l.shape (definitions.step v.state l)
 
 -- a part begins, and nothing else is counted
@@ -216,7 +216,7 @@ summary_of s =
     }
 
 -- the verdict of the code
-abbrev pub verdict_of : Code → Verdict
+abbrev pub verdict_of : Code → TokenVerdict
 verdict_of (variant.Passed s) = passed (summary_of s)
 verdict_of (variant.Broken r) = broken r
 

@@ -5,14 +5,14 @@ use Rattle.st_scan.specs.Gaps.{gap, between}
 use Rattle.st_scan.specs.Places.{offset, IsBehind}
 use Rattle.st_scan.specs.Tokens.{Next, Run}
 use Rattle.st_scan.specs.Faults.{Cause, TokenFault}
-use Rattle.st_scan.specs.declared.place.Place.{Place}
+use Rattle.st_scan.specs.declared.line_column.LineColumn.{LineColumn}
 use Rattle.st_scan.specs.declared.token.Token.{Token}
 use Rattle.st_scan.specs.declared.read.Stop.{Stop}
 use Rattle.st_scan.specs.declared.read.Stop.TheVariants.{Refused, Memory}
 use Rattle.st_scan.specs.declared.scanner.Step.{Step}
 
 -- the rest ends the file, and the counts are those of its place
-pub record IsAt (file rest : List ℕ) (here : Place) : Type 0 where
+pub record IsAt (file rest : List ℕ) (here : LineColumn) : Type 0 where
   pub split : file ≡ take (offset file rest) file ++ rest
   pub behind : IsBehind (take (offset file rest) file) here
 

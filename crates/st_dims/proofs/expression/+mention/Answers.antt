@@ -1,7 +1,7 @@
 use Rattle.std.proofs.Common.{◌≡◌, List, ◌++◌, map, ap, sym, ◌∙◌, subst, OnOk}
 use Rattle.st_el.specs.declared.expression.Node.TheVariants as v
 use Rattle.st_dims.specs.declared.mention.Mention.{Mention}
-use Rattle.st_dims.specs.Mentions.{mentions_exp, marked, fields_seen, field_mentions}
+use Rattle.st_dims.specs.Mentions.{mentions_exp, count_meaning, fields_seen, field_mentions}
 use Rattle.st_dims.proofs.Counts.{marked_round}
 use Rattle.st_dims.proofs.Nodes.{node-At, node-Slice, node-Update, node-Extend, node-Iter, node-Fields, two_end, three_end, iterated_end}
 use Rattle.st_dims.proofs.expression.+mention.Goals as goal
@@ -46,5 +46,5 @@ mention_node-returns-in_ok-add_body-in-Iter t c =
     let P : List Mention → Type 0 = λ items. OnOk c.mention_count.result (c.mention_count.new.mentions.items ≡ items) in
     let is = c.in-Iter.is ∙ ap (λ e. v.Iter e c.in-Iter.count) (sym c.get-in-Iter.ensures) in
     let body = c.in_ok-mention_exp-in-Iter.ensures ∙ ap (λ items. items ++ mentions_exp c.get-in-Iter.result.now c.in_ok-inside-in-Iter.inside) c.new-inner.ensures.items in
-    subst P (iterated_end (marked c.in-Iter.count) (mentions_exp c.get-in-Iter.result.now) c.args.at c.args.within.now _ _ _ _ (c.in_ok-inside-in-Iter.ensures ∙ sym (marked_round c.args.within.now c.in-Iter.count)) body c.in_ok-add_body-in-Iter.ensures
+    subst P (iterated_end (count_meaning c.in-Iter.count) (mentions_exp c.get-in-Iter.result.now) c.args.at c.args.within.now _ _ _ _ (c.in_ok-inside-in-Iter.ensures ∙ sym (marked_round c.args.within.now c.in-Iter.count)) body c.in_ok-add_body-in-Iter.ensures
     ∙ ap (λ seen. c.args.mentions.now.items ++ seen) (sym (node-Iter c.args.node.now _ _ c.args.at c.args.within.now is))) c.mention_count.ensures

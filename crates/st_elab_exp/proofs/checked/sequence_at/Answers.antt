@@ -1,6 +1,6 @@
 use Rattle.std.proofs.Common.{sym, subst, ◌∙◌}
 use Rattle.st_elab_table.specs.Collections.{sequence}
-use Rattle.st_elab_rows.specs.inner.Asking.{LeadsTo}
+use Rattle.st_elab_rows.specs.Asking.{LeadsTo}
 use Rattle.st_elab_rows.proofs.Builds.{leading_by}
 use Rattle.st_elab_exp.proofs.Checking.{run_at_list, element_at_list, notation_at}
 use Rattle.st_elab_exp.proofs.checked.sequence_at.Goals as goal

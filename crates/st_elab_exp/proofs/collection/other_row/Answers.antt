@@ -1,6 +1,6 @@
 use Rattle.std.proofs.Common.{subst}
 use Rattle.st_elab_table.specs.Collections.{element}
-use Rattle.st_elab_rows.specs.inner.Asking.{LeadsTo}
+use Rattle.st_elab_rows.specs.Asking.{LeadsTo}
 use Rattle.st_elab_rows.specs.inner.Words.{lift_of}
 use Rattle.st_elab_rows.specs.declared.fitting.Lifting.TheVariants as lifting
 use Rattle.st_elab_rows.proofs.Builds.{leading_by}

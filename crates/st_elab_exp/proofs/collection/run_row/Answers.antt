@@ -1,6 +1,6 @@
 use Rattle.std.proofs.Common.{ap, subst, arith}
 use Rattle.st_elab_table.specs.Collections.{sequence, run_row}
-use Rattle.st_elab_rows.specs.inner.Asking.{LeadsTo}
+use Rattle.st_elab_rows.specs.Asking.{LeadsTo}
 use Rattle.st_elab_rows.proofs.Builds.{leading_by, leading_is, pass_reach}
 use Rattle.st_elab_exp.proofs.Collecting.{empty, only_one, run_list, run_fails}
 use Rattle.st_elab_exp.proofs.collection.run_row.Goals as goal

@@ -3,7 +3,7 @@ use Rattle.std.proofs.lemmas.List.{drop_all}
 use Rattle.st_elab_table.specs.Questions.{Made, Breach, Gives, Fails, Step, Ends, Asks}
 use Rattle.st_elab_table.specs.Steps.{found}
 use Rattle.st_elab_table.specs.Elaboration.{Leads, ends}
-use Rattle.st_elab_rows.specs.inner.Asking.{made_by}
+use Rattle.st_elab_rows.specs.Asking.{made_by}
 use Rattle.st_elab_rows.specs.Parts.{Breaks}
 use Rattle.st_elab_rows.proofs.Builds.{Told-stops, questions_from}
 use Rattle.st_elab_exp.proofs.Collecting.{passed}

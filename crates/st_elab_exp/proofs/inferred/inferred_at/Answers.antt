@@ -2,7 +2,7 @@ use Rattle.std.proofs.Common.{sym, ap, subst, ◌∙◌}
 use Rattle.st_el.specs.declared.expression.Node.{out-Node}
 use Rattle.st_el.specs.declared.expression.Node.TheVariants as node
 use Rattle.st_elab_table.specs.Inferred.{inferred_at}
-use Rattle.st_elab_rows.specs.inner.Asking.{LeadsTo}
+use Rattle.st_elab_rows.specs.Asking.{LeadsTo}
 use Rattle.st_elab_rows.proofs.Builds.{pass_reach}
 use Rattle.st_elab_exp.proofs.Inferring.{inferred_arm, notation_untyped, bracket_untyped}
 use Rattle.st_elab_exp.proofs.inferred.inferred_at.Goals as goal

@@ -1,7 +1,7 @@
 use Rattle.std.proofs.Common.{sym, subst, ◌∙◌}
 use Rattle.st_notation.specs.Elements.{opened}
 use Rattle.st_elab_table.specs.Inferred.{inferred_row}
-use Rattle.st_elab_rows.specs.inner.Asking.{LeadsTo}
+use Rattle.st_elab_rows.specs.Asking.{LeadsTo}
 use Rattle.st_elab_rows.proofs.Builds.{leading_by}
 use Rattle.st_elab_exp.proofs.Inferring.{row_inferable, row_uninferable}
 use Rattle.st_elab_exp.proofs.inferred.inferred_row.Goals as goal

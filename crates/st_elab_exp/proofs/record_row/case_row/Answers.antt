@@ -5,7 +5,7 @@ use Rattle.st_notation.specs.Fitted.{fillings}
 use Rattle.st_elab_table.specs.Records.{case_row}
 use Rattle.st_elab_table.specs.Steps.{give, holes, exp_of}
 use Rattle.st_elab_table.proofs.RowLemmas.{case_unfit}
-use Rattle.st_elab_rows.specs.inner.Asking.{LeadsTo}
+use Rattle.st_elab_rows.specs.Asking.{LeadsTo}
 use Rattle.st_elab_rows.specs.Parts.{TellsAll, AskedAs}
 use Rattle.st_elab_rows.proofs.Builds.{leading_by, leading_breaks, leads_asks, gives_made}
 use Rattle.st_elab_exp.proofs.Recording.{case_fills, picked, none_picked, filled_in, none_filled, unnamed_unfit, none_chosen, none_fills}

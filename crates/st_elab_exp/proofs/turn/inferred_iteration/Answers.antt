@@ -1,7 +1,7 @@
 use Rattle.std.proofs.Common.{rules, subst}
 use Rattle.st_elab_table.specs.Questions.{Asks}
 use Rattle.st_elab_table.specs.Steps.{found}
-use Rattle.st_elab_rows.specs.inner.Asking.{Meets, made_by}
+use Rattle.st_elab_rows.specs.Asking.{Meets, made_by}
 use Rattle.st_elab_rows.proofs.Builds.{leading_by, reaches_stops}
 use Rattle.st_elab_exp.proofs.Turning.{found_body_leads}
 use Rattle.st_elab_exp.proofs.turn.inferred_iteration.Goals as goal

@@ -1,6 +1,6 @@
 use Rattle.std.proofs.Common.{sym, subst, ◌∙◌}
 use Rattle.st_elab_table.specs.Collections.{body_row}
-use Rattle.st_elab_rows.specs.inner.Asking.{LeadsTo}
+use Rattle.st_elab_rows.specs.Asking.{LeadsTo}
 use Rattle.st_elab_rows.proofs.Builds.{leading_by}
 use Rattle.st_elab_exp.proofs.Turning.{turn_list, turn_option, element_of_list, element_of_option, turn_other}
 use Rattle.st_elab_exp.proofs.turn.iteration_row.Goals as goal

@@ -2,7 +2,7 @@ use Rattle.std.proofs.Common.{rules}
 use Rattle.st_num.specs.declared.rule.RuleId.TheVariants.{Y5}
 use Rattle.st_elab_table.specs.Elaboration.{ends}
 use Rattle.st_elab_table.specs.Steps.{breach, give, raised, as_joined}
-use Rattle.st_elab_rows.specs.inner.Asking.{made_by}
+use Rattle.st_elab_rows.specs.Asking.{made_by}
 use Rattle.st_elab_rows.specs.inner.Words.{join_of}
 use Rattle.st_elab_rows.proofs.Builds.{leading_by, reaches_stops, gives_made}
 use Rattle.st_elab_rows.proofs.fitting.concatenated.Goals as goal

@@ -1,6 +1,6 @@
 use Rattle.std.proofs.Common.{subst}
 use Rattle.st_elab_table.specs.Steps.{lifted_to}
-use Rattle.st_elab_rows.specs.inner.Asking.{made_by}
+use Rattle.st_elab_rows.specs.Asking.{made_by}
 use Rattle.st_elab_rows.specs.Told.{Leading}
 use Rattle.st_elab_rows.specs.inner.Words.{lift_of}
 use Rattle.st_elab_rows.specs.declared.fitting.Lifting.TheVariants as lifting

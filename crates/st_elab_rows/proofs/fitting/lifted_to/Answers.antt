@@ -1,6 +1,6 @@
 use Rattle.std.proofs.Common.{rules, sym, ◌∙◌}
 use Rattle.st_elab_table.specs.Steps.{give}
-use Rattle.st_elab_rows.specs.inner.Asking.{made_by}
+use Rattle.st_elab_rows.specs.Asking.{made_by}
 use Rattle.st_elab_rows.specs.inner.Words.{lift_of}
 use Rattle.st_elab_rows.proofs.Leaves.{refuted, proved, lifts, lifts_no_collection, lifts_none_above}
 use Rattle.st_elab_rows.proofs.Builds.{gives_made}

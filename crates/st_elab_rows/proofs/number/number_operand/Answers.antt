@@ -5,7 +5,7 @@ use Rattle.st_elab_table.specs.Forms.{place}
 use Rattle.st_elab_table.specs.Operands.{numeric}
 use Rattle.st_elab_table.specs.Steps.{as_number}
 use Rattle.st_elab_table.specs.Elaboration.{Leads}
-use Rattle.st_elab_rows.specs.inner.Asking.{made_by}
+use Rattle.st_elab_rows.specs.Asking.{made_by}
 use Rattle.st_elab_rows.proofs.Builds.{Told-stops}
 use Rattle.st_elab_rows.proofs.number.number_operand.Goals as goal
 

@@ -1,5 +1,5 @@
 use Rattle.std.proofs.Common.{rules, sym, ◌∙◌}
-use Rattle.st_elab_rows.specs.inner.Asking.{made_by}
+use Rattle.st_elab_rows.specs.Asking.{made_by}
 use Rattle.st_elab_rows.proofs.Builds.{gives_made}
 use Rattle.st_elab_rows.proofs.Members.{beside_asked}
 use Rattle.st_elab_rows.proofs.operand.beside.Goals as goal

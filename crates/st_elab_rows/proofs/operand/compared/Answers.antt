@@ -4,7 +4,7 @@ use Rattle.st_il.specs.declared.ty.Ty.TheVariants as typ
 use Rattle.st_elab_table.specs.Elaboration.{ends}
 use Rattle.st_elab_table.specs.Operators.{equated}
 use Rattle.st_elab_table.specs.Steps.{breach, give, raised}
-use Rattle.st_elab_rows.specs.inner.Asking.{made_by}
+use Rattle.st_elab_rows.specs.Asking.{made_by}
 use Rattle.st_elab_rows.proofs.Builds.{gives_made}
 use Rattle.st_elab_rows.proofs.operand.compared.Goals as goal
 

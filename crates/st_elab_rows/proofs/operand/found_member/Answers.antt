@@ -2,7 +2,7 @@ use Rattle.std.proofs.Common.{rules, subst}
 use Rattle.st_elab_table.specs.Questions.{Made, Answer, Step, Asks}
 use Rattle.st_elab_table.specs.Steps.{asked}
 use Rattle.st_elab_table.specs.Elaboration.{Leads}
-use Rattle.st_elab_rows.specs.inner.Asking.{made_by}
+use Rattle.st_elab_rows.specs.Asking.{made_by}
 use Rattle.st_elab_rows.specs.Told.{Reaches}
 use Rattle.st_elab_rows.proofs.Builds.{gives_made, leading_by, reaches_stops}
 use Rattle.st_elab_rows.proofs.operand.found_member.Goals as goal

@@ -1,4 +1,4 @@
-use Rattle.st_erase.proofs.TagLemmas.{is_template}
+use Rattle.st_il.proofs.TagTemplates.{is_template}
 use Rattle.st_erase.proofs.source.erase_exp.Goals as goal
 
 pub returns-in_err-source-clause-templates : goal.returns-in_err-source-clause-templates

@@ -1,4 +1,4 @@
-use Rattle.st_tool.proofs.ReaderNames.{names_more}
+use Rattle.st_iltext.proofs.NameSets.{names_more}
 use Rattle.st_tool.proofs.reader.check.distinct_atoms.Goals as goal
 
 pub loop-atom-preserved : goal.loop-atom-preserved

@@ -1,7 +1,7 @@
 use Rattle.std.proofs.Common.{length, ◌<◌, sym, ◌∙◌, ap, true≢false}
 use Rattle.std.proofs.lemmas.List.{length-map, get_or-map}
 use Rattle.st_il.specs.Small.{rule_names}
-use Rattle.st_tool.proofs.ReaderNames.{names_more, names_again}
+use Rattle.st_iltext.proofs.NameSets.{names_more, names_again}
 use Rattle.st_tool.proofs.reader.check.have_distinct_names.Goals as goal
 
 pub loop-rule-preserved : goal.loop-rule-preserved

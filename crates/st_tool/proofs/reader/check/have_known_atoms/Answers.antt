@@ -2,7 +2,7 @@ use Rattle.std.proofs.Common.{sym, ◌∙◌, subst, true≢false, refl}
 use Rattle.std.proofs.lemmas.List.{take_all}
 use Rattle.std.proofs.lemmas.List.Elements.{All-more, All-same}
 use Rattle.st_tool.specs.inner.SmallForm.{names_of, GoesBetween}
-use Rattle.st_tool.proofs.ReaderNames.{not_all}
+use Rattle.st_iltext.proofs.NameSets.{not_all}
 use Rattle.st_tool.proofs.reader.check.have_known_atoms.Goals as goal
 
 pub loop-rule-preserved : goal.loop-rule-preserved

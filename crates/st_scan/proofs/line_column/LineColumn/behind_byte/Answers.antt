@@ -1,6 +1,6 @@
 use Rattle.std.proofs.Common.{refl, sym, ◌∙◌}
 use Rattle.st_scan.proofs.Places.{behind_feed, behind_first, behind_other}
-use Rattle.st_scan.proofs.place.Place.behind_byte.Goals as goal
+use Rattle.st_scan.proofs.line_column.LineColumn.behind_byte.Goals as goal
 
 pub returns-then-byte-eq10-clause-same : goal.returns-then-byte-eq10-clause-same
 returns-then-byte-eq10-clause-same c = λ before h. behind_feed before _ _ _ h c.if-byte-eq10.true refl refl

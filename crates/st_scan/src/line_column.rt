@@ -8,7 +8,7 @@ use st_num::Span;
 
 /// The line and the column of the next character.
 #[derive(Clone, Copy)]
-pub(crate) struct Place {
+pub(crate) struct LineColumn {
     line: usize,
     column: usize,
 }
@@ -20,16 +20,16 @@ fn begins_character(byte: u8) -> bool
     !(128..=191).contains(&byte)
 }
 
-impl Place {
+impl LineColumn {
     /// The place of the first character of a file.
-    pub(crate) fn start() -> Place
+    pub(crate) fn start() -> LineColumn
         ensures { IsBehind [] result }
     {
-        Place { line: 1, column: 1 }
+        LineColumn { line: 1, column: 1 }
     }
 
     /// The place behind one more byte.
-    fn behind_byte(self, byte: u8) -> Place
+    fn behind_byte(self, byte: u8) -> LineColumn
         requires lines { self.line + 1 < 2 ^ 64 }
         requires columns { self.column + 1 < 2 ^ 64 }
         ensures same { (before : List ℕ) → IsBehind before self
@@ -38,12 +38,12 @@ impl Place {
         ensures columns { result.column ≤ self.column + 1 }
     {
         if byte == b'\n' {
-            Place {
+            LineColumn {
                 line: self.line + 1,
                 column: 1,
             }
         } else if begins_character(byte) {
-            Place {
+            LineColumn {
                 line: self.line,
                 column: self.column + 1,
             }
@@ -53,7 +53,7 @@ impl Place {
     }
 
     /// The place behind some more bytes.
-    pub(crate) fn behind(self, bytes: &[u8]) -> Place
+    pub(crate) fn behind(self, bytes: &[u8]) -> LineColumn
         requires lines { self.line + length bytes.now < 2 ^ 64 }
         requires columns { self.column + length bytes.now < 2 ^ 64 }
         ensures same { (before : List ℕ) → IsBehind before self
@@ -61,11 +61,11 @@ impl Place {
         ensures lines { result.line ≤ self.line + length bytes.now }
         ensures columns { result.column ≤ self.column + length bytes.now }
     {
-        let mut place = self;
+        let mut here = self;
         for byte in bytes {
-            place = place.behind_byte(*byte);
+            here = here.behind_byte(*byte);
         }
-        place
+        here
     }
 
     /// This place in the file of this number.

@@ -22,7 +22,7 @@ use Rattle.st_il.specs.Template.{written, spaced, IsTagPart, AreTagParts, HasTag
 use Rattle.st_il.proofs.Atoms.{is_rest, atom_from, atom-read}
 use Rattle.st_il.proofs.TagParts.{Differs, NoSpace, written-no_space, no_sign}
 use Rattle.st_il.proofs.Tags.{found, not_found, no_tag}
-use Rattle.st_erase.specs.Tags.{ends_atom, sign_in, tag_part_of, onto, tag_parts_of, template_of, IsOf}
+use Rattle.st_il.specs.Tags.{ends_atom, sign_in, tag_part_of, onto, tag_parts_of, template_of, IsTemplateOf}
 
 -- ---- texts with spaces between them
 
@@ -140,10 +140,10 @@ are_tag_parts (text ∷ texts) = by_tag_part (tag_part_of text) (told text) (tag
 
 -- ---- templates
 
-pub is_template : (tag : List ℕ) → IsOf tag (template_of tag)
+pub is_template : (tag : List ℕ) → IsTemplateOf tag (template_of tag)
 is_template tag = by_tag_parts (tag_parts_of (slice_split is_space tag)) (are_tag_parts (slice_split is_space tag))
   where
-    by_reading : (ws : List TagPart) → AreTagParts ws tag → (p : Option Template) → reads (due []) ws ≡ p → IsOf tag p
+    by_reading : (ws : List TagPart) → AreTagParts ws tag → (p : Option Template) → reads (due []) ws ≡ p → IsTemplateOf tag p
     by_reading ws a None e = not_found ws tag a e
     by_reading ws a (Some t) e = found ws tag t a e
 
@@ -153,7 +153,7 @@ is_template tag = by_tag_parts (tag_parts_of (slice_split is_space tag)) (are_ta
         let none : length (slice_split is_space tag) ≡ 0 = sym (ap length e) ∙ ap (λ vs. length (map written vs)) f in
         absurd (omega (arith, parts, none))
 
-    by_tag_parts : (o : Option (List TagPart)) → TagParts (slice_split is_space tag) o → IsOf tag (option_and_then (reads (due [])) o)
+    by_tag_parts : (o : Option (List TagPart)) → TagParts (slice_split is_space tag) o → IsTemplateOf tag (option_and_then (reads (due [])) o)
     by_tag_parts None h = no_tag tag (λ ws a. h ws a.tag_parts (split-tag ws tag a))
     by_tag_parts (Some ws) h = by_reading ws (record { some = some ws h.1; tag_parts = h.0; spelled = joined ws ∙ ap (join_with_byte 32) h.1 ∙ join_with_byte-slice_split 32 tag }) (reads (due []) ws) refl
 
@@ -162,7 +162,7 @@ is_template tag = by_tag_parts (tag_parts_of (slice_split is_space tag)) (are_ta
 pub template-told : (o : Option Template) (tag : List ℕ) → IfSome o (λ t. HasTag t tag) → IfNone o ((t : Template) → HasTag t tag → ⊥) → HasOneTemplate tag → o ≡ template_of tag
 template-told o tag h k one = same o (template_of tag) h k (is_template tag)
   where
-    same : (o p : Option Template) → IfSome o (λ t. HasTag t tag) → IfNone o ((t : Template) → HasTag t tag → ⊥) → IsOf tag p → o ≡ p
+    same : (o p : Option Template) → IfSome o (λ t. HasTag t tag) → IfNone o ((t : Template) → HasTag t tag → ⊥) → IsTemplateOf tag p → o ≡ p
     same None None h k i = refl
     same (Some t) (Some u) h k i = ap Some (one t u h i)
     same None (Some u) h k i = absurd (k u i)
