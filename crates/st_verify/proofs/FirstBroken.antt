@@ -26,10 +26,10 @@ AllKept K (rule ∷ rules) = K rule × AllKept K rules
 pub all_kept : (K : VerifyRule → Type 0) (rules : List VerifyRule) (broken : Option VerifyRule) → AllKept K rules → FirstBroken K rules broken → broken ≡ None
 all_kept K [] broken kept first = first
 all_kept K (rule ∷ rules) broken kept (inl here) = all_kept K rules broken kept.1 here.1
-all_kept K (rule ∷ rules) broken kept (inr no) = absurd (no.0 kept.0)
+all_kept K (rule ∷ rules) broken kept (inr never) = absurd (never.0 kept.0)
 
 -- a rule that is kept is passed over
 pub passed : (K : VerifyRule → Type 0) (rule : VerifyRule) (rules : List VerifyRule) (broken : Option VerifyRule) → K rule → FirstBroken K (rule ∷ rules) broken
     → FirstBroken K rules broken
 passed K rule rules broken kept (inl here) = here.1
-passed K rule rules broken kept (inr no) = absurd (no.0 kept)
+passed K rule rules broken kept (inr never) = absurd (never.0 kept)

@@ -43,9 +43,9 @@ rule_def_there s P k rule at p =
 -- ---- names
 
 named_of : (s : Small) (name : List ℕ) → OneOf s (IsRelationNamed name) → name ≡ s.relation
-named_of s name (inl no) = absurd no
+named_of s name (inl never) = absurd never
 named_of s name (inr (inl is)) = sym is
-named_of s name (inr (inr no)) = absurd no.3
+named_of s name (inr (inr never)) = absurd never.3
 
 pub named_relation : (s : Small) (name : List ℕ) → Any (IsRelationNamed name) (il_of s).defs → name ≡ s.relation
 named_relation s name any = named_of s name (any_def s (IsRelationNamed name) any)
@@ -54,8 +54,8 @@ pub relation_there : (s : Small) → Any (IsRelationNamed s.relation) (il_of s).
 relation_there s = (1, relation_def s.relation s.syntax, omega arith, refl, refl)
 
 rule_of_one : (s : Small) (relation name : List ℕ) → OneOf s (IsRuleNamed relation name) → RuleWith s.rules (λ rule. rule.name ≡ name)
-rule_of_one s relation name (inl no) = absurd no
-rule_of_one s relation name (inr (inl no)) = absurd no
+rule_of_one s relation name (inl never) = absurd never
+rule_of_one s relation name (inr (inl never)) = absurd never
 rule_of_one s relation name (inr (inr (k, rule, at, named))) = (k, rule, at, named.1)
 
 pub named_rule : (s : Small) (relation name : List ℕ) → Any (IsRuleNamed relation name) (il_of s).defs → RuleWith s.rules (λ rule. rule.name ≡ name)
@@ -77,8 +77,8 @@ contained_case (atom ∷ atoms) tag (suc k, below, is) =
 
 case_of_one : (s : Small) (name tag : List ℕ) → OneOf s (HasCase name tag) → Contains s.atoms tag
 case_of_one s name tag (inl has) = case_contained s.atoms tag has.1
-case_of_one s name tag (inr (inl no)) = absurd no
-case_of_one s name tag (inr (inr no)) = absurd no.3
+case_of_one s name tag (inr (inl never)) = absurd never
+case_of_one s name tag (inr (inr never)) = absurd never.3
 
 pub case_known : (s : Small) (name tag : List ℕ) → Any (HasCase name tag) (il_of s).defs → Contains s.atoms tag
 case_known s name tag any = case_of_one s name tag (any_def s (HasCase name tag) any)

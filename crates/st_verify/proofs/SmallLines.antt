@@ -52,7 +52,7 @@ can_step s name is =
 
 -- a relation of which something holds is that of the specification
 is_found : (s : Small) (name : Name) (P : RelationDef → Type 0) (b : Bool) → bytes_eq name s.relation ≡ b → IsSomeAnd (relation_named (il_of s) name) P → name ≡ s.relation
-is_found s name P true same found = same_text name s.relation same
+is_found s name P true same found = same_text name s.relation (sym same)
 is_found s name P false same found = absurd (subst (λ r. IsSomeAnd r P) (relation-named s name false same) found)
 
 pub steps_by : (s : Small) (name : Name) → CanStep (il_of s) name → name ≡ s.relation
@@ -92,29 +92,29 @@ takes s name v any = of_one (any_def s (TakesInput (il_of s) name v) any)
   where
     of_one : TakesInput (il_of s) name v (syntax_def s.syntax s.atoms) ⊎ TakesInput (il_of s) name v (relation_def s.relation s.syntax)
         ⊎ RuleWith s.rules (λ rule. TakesInput (il_of s) name v (rule_def s.relation s.syntax rule)) → IsAtomInput s name v
-    of_one (inl no) = absurd no
+    of_one (inl never) = absurd never
     of_one (inr (inl is)) = of_hole s name v (ty.Name s.syntax) (sym is.0) is.1
-    of_one (inr (inr no)) = absurd no.3
+    of_one (inr (inr never)) = absurd never.3
 
 pub term_inputs : (s : Small) → IsSmall s → (relation : Option Name) (values : List Value) → IsTerm (il_of s) relation values
     → IsSomeAnd relation (λ (r : Name). AreInputs (il_of s) r values)
-term_inputs s small None values no = absurd no
-term_inputs s small (Some name) [] no = absurd no
-term_inputs s small (Some name) (v ∷ w ∷ values) no = absurd no
+term_inputs s small None values never = absurd never
+term_inputs s small (Some name) [] never = absurd never
+term_inputs s small (Some name) (v ∷ w ∷ values) never = absurd never
 term_inputs s small (Some name) (v ∷ []) any =
     let (named, tag, is, known) = takes s name v any in
     subst (λ n. AreInputs (il_of s) n (v ∷ [])) (sym named)
     (subst (λ one. AreInputs (il_of s) s.relation (one ∷ [])) (sym is) (atom_inputs s tag small known))
 
 term_of : (s : Small) (name : Name) (values : List Value) → name ≡ s.relation → AreTypedValues (syntax_of s ∷ []) (ty.Name s.syntax ∷ []) values → IsTerm (il_of s) (Some name) values
-term_of s name [] named no = absurd no
-term_of s name (v ∷ w ∷ values) named no = absurd no.1
+term_of s name [] named never = absurd never
+term_of s name (v ∷ w ∷ values) named never = absurd never.1
 term_of s name (v ∷ []) named typed =
     let (tag, is, known) = typed_atom s.syntax s.atoms v typed.0.form in
     (1, relation_def s.relation s.syntax, omega arith, refl, (sym named, (s.syntax, tag, refl, is, known_case s tag known)))
 
 pub inputs_term : (s : Small) (relation : Option Name) (values : List Value) → IsSomeAnd relation (λ (r : Name). AreInputs (il_of s) r values) → IsTerm (il_of s) relation values
-inputs_term s None values no = absurd no
+inputs_term s None values never = absurd never
 inputs_term s (Some name) values are =
     let named = is_found s name (λ (r : RelationDef). AreTypedValues (syntaxes (il_of s)) (inputs_of (il_of s) name r.holes) values) (bytes_eq name s.relation) refl are in
     term_of s name values named (inputs_are s values (subst (λ n. AreInputs (il_of s) n values) named are))
@@ -178,10 +178,10 @@ GoesOnBy notes j = (notes.relation ≡ Some j.relation) × (notes.term ≡ Some 
 
 pub continues : (s : Small) (notes : Notes) (found : Option Judgement) → ((j : Judgement) → found ≡ Some j → HasTree (il_of s) j.relation j.values)
     → IsSomeAnd found (GoesOnBy notes) → IsSomeAnd found (Continues (il_of s) notes)
-continues s notes None tree no = absurd no
+continues s notes None tree never = absurd never
 continues s notes (Some j) tree goes = (goes.0, goes.1 ∙ ap Some (sym (inputs_same s j.relation j.values (tree j refl))))
 
 pub goes_on : (s : Small) (notes : Notes) (found : Option Judgement) → ((j : Judgement) → found ≡ Some j → HasTree (il_of s) j.relation j.values)
     → IsSomeAnd found (Continues (il_of s) notes) → IsSomeAnd found (GoesOnBy notes)
-goes_on s notes None tree no = absurd no
+goes_on s notes None tree never = absurd never
 goes_on s notes (Some j) tree goes = (goes.0, goes.1 ∙ ap Some (inputs_same s j.relation j.values (tree j refl)))

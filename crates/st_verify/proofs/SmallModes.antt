@@ -27,9 +27,9 @@ abbrev Keeps : Il → Standing → Type 0
 Keeps il at = (m : RuleId) → Breaks il at m → ⊥
 
 rule_keeps : (il : Il) (relation syntax : List ℕ) (rule : SmallRule) (after : List IlDef) (m : RuleId) → RuleBreaks il (rule_of relation syntax rule) after m → ⊥
-rule_keeps il relation syntax rule after M1 breaks = let no = breaks.0 in cc
-rule_keeps il relation syntax rule after M2 breaks = let no = breaks.0 in cc
-rule_keeps il relation syntax rule after M5 breaks = let no = breaks.0 in cc
+rule_keeps il relation syntax rule after M1 breaks = let never = breaks.0 in cc
+rule_keeps il relation syntax rule after M2 breaks = let never = breaks.0 in cc
+rule_keeps il relation syntax rule after M5 breaks = let never = breaks.0 in cc
 rule_keeps il relation syntax rule after _ breaks = breaks
 
 rules_keep : (il : Il) (relation syntax : List ℕ) (some : List SmallRule) → All (Keeps il) (standings (map (rule_def relation syntax) some))

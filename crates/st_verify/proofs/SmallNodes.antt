@@ -67,27 +67,27 @@ finds_later : (relation syntax : List ℕ) (n : ℕ) (rule : SmallRule) (some : 
 finds_later relation syntax n rule some name other (inl (k, one, at, named, found)) =
     let place : n + 1 + k ≡ n + suc k = omega arith in
     inl (suc k, one, at, named, rw other (found ∙ ap (λ p. Some (p, rule_of relation syntax one)) place))
-finds_later relation syntax n rule some name other (inr (none, no)) = inr (rw other none, not_here)
+finds_later relation syntax n rule some name other (inr (none, never)) = inr (rw other none, not_here)
   where
     not_here : RuleWith (rule ∷ some) (λ r. r.name ≡ name) → ⊥
     not_here (zero, one, at, named) =
         let same : rule ≡ one = cc in
         let same_name : bytes_eq name rule.name ≡ true = subst (λ r. bytes_eq name r ≡ true) (sym named ∙ ap (λ (r : SmallRule). r.name) (sym same)) (itself name) in
-        let no : true ≡ false = sym same_name ∙ other in cc
-    not_here (suc k, one, at, named) = no (k, one, at, named)
+        let never : true ≡ false = sym same_name ∙ other in cc
+    not_here (suc k, one, at, named) = never (k, one, at, named)
 
 finds_here : (relation syntax : List ℕ) (n : ℕ) (rule : SmallRule) (some : List SmallRule) (name : List ℕ) (b : Bool) → bytes_eq name rule.name ≡ b
     → FindsFrom relation syntax (n + 1) some name → FindsFrom relation syntax n (rule ∷ some) name
 finds_here relation syntax n rule some name true same later =
     let place : n ≡ n + 0 = omega arith in
-    inl (0, rule, refl, sym (same_text name rule.name same), rw same (ap (λ p. Some (p, rule_of relation syntax rule)) place))
+    inl (0, rule, refl, sym (same_text name rule.name (sym same)), rw same (ap (λ p. Some (p, rule_of relation syntax rule)) place))
 finds_here relation syntax n rule some name false other later = finds_later relation syntax n rule some name other later
 
 finds : (relation syntax : List ℕ) (n : ℕ) (some : List SmallRule) (name : List ℕ) → FindsFrom relation syntax n some name
-finds relation syntax n [] name = inr (refl, λ none. no none)
+finds relation syntax n [] name = inr (refl, λ none. never none)
   where
-    no : RuleWith [] (λ rule. rule.name ≡ name) → ⊥
-    no (k, rule, at, named) = cc
+    never : RuleWith [] (λ rule. rule.name ≡ name) → ⊥
+    never (k, rule, at, named) = cc
 finds relation syntax n (rule ∷ some) name =
     finds_here relation syntax n rule some name (bytes_eq name rule.name) refl (finds relation syntax (n + 1) some name)
 
@@ -117,14 +117,14 @@ named_among s node named (inl (k, rule, at, name, found)) =
       relation = named; number = k; rule = rule; is_rule = at; name = name;
       found = rule_named-here s node named ∙ found ∙ ap (λ p. Some (p, rule_of s.relation s.syntax rule)) place;
     })
-named_among s node named (inr (none, no)) = inr (rule_named-here s node named ∙ none, λ knows. no (named_rule s node.relation node.rule knows.1))
+named_among s node named (inr (none, never)) = inr (rule_named-here s node named ∙ none, λ knows. never (named_rule s node.relation node.rule knows.1))
 
 named_by : (s : Small) (node : NodeLine) (b : Bool) → bytes_eq node.relation s.relation ≡ b → NamedOrNot s node
-named_by s node true same = named_among s node (same_text node.relation s.relation same) (finds s.relation s.syntax 0 s.rules node.rule)
+named_by s node true same = named_among s node (same_text node.relation s.relation (sym same)) (finds s.relation s.syntax 0 s.rules node.rule)
 named_by s node false other =
     inr (rule_named-other s node other, λ knows.
     let same : bytes_eq node.relation s.relation ≡ true = subst (λ n. bytes_eq n s.relation ≡ true) (sym (named_relation s node.relation knows.0)) (itself s.relation) in
-    let no : true ≡ false = sym same ∙ other in cc)
+    let never : true ≡ false = sym same ∙ other in cc)
 
 pub named_or_not : (s : Small) (node : NodeLine) → NamedOrNot s node
 named_or_not s node = named_by s node (bytes_eq node.relation s.relation) refl
@@ -167,8 +167,8 @@ concluded s node small names any = of_one (any_def s (Concludes node) any)
   where
     of_one : Concludes node (syntax_def s.syntax s.atoms) ⊎ Concludes node (relation_def s.relation s.syntax)
         ⊎ RuleWith s.rules (λ rule. Concludes node (rule_def s.relation s.syntax rule)) → node.values ≡ values_of names.rule
-    of_one (inl no) = absurd no
-    of_one (inr (inl no)) = absurd no
+    of_one (inl never) = absurd never
+    of_one (inr (inl never)) = absurd never
     of_one (inr (inr (k, rule, at, (named, have)))) =
         let same : rule ≡ names.rule = one_name s.rules small.distinct_rules k names.number rule names.rule at names.is_rule (named.1 ∙ sym names.name) in
         value_of_atom_exp s.syntax rule.from rule.to node.values have ∙ ap values_of same
@@ -184,8 +184,8 @@ concludes s node names is =
 -- values are equal or not
 decided : (a b : Value) (o : Ordering) → value_cmp a b ≡ o → (a ≡ b) ⊎ (a ≡ b → ⊥)
 decided a b Equal is = inl ((value_cmp_order.equal a b).0 is)
-decided a b Less is = inr (λ same. let no = (value_cmp_order.equal a b).1 same in cc)
-decided a b Greater is = inr (λ same. let no = (value_cmp_order.equal a b).1 same in cc)
+decided a b Less is = inr (λ same. let never = (value_cmp_order.equal a b).1 same in cc)
+decided a b Greater is = inr (λ same. let never = (value_cmp_order.equal a b).1 same in cc)
 
 same_or_not : (a b : Value) → (a ≡ b) ⊎ (a ≡ b → ⊥)
 same_or_not a b = decided a b (value_cmp a b) refl
@@ -208,7 +208,7 @@ module _ (s : Small) (env : Env) where
 
   each_refused : (one other : List ℕ) (x y : Value) → (x ≡ value.Case one []) ⊎ (x ≡ value.Case one [] → ⊥) → (x ∷ y ∷ [] ≡ value.Case one [] ∷ value.Case other [] ∷ [] → ⊥)
       → evaluate_each (il_of s) env (TwoAtoms one other) (x ∷ y ∷ []) (Some V7)
-  each_refused one other x y (inr no) differ = inr (V7, refused one x no, refl)
+  each_refused one other x y (inr never) differ = inr (V7, refused one x never, refl)
   each_refused one other x y (inl is) differ =
       inl (subst (λ v. evaluates (il_of s) V7 env (atom_exp s.syntax one) v None) (sym is) (evaluated one),
       inr (V7, refused other y (λ same. differ (let all : x ∷ y ∷ [] ≡ value.Case one [] ∷ value.Case other [] ∷ [] = cc in all)), refl))

@@ -48,9 +48,9 @@ pub no_alias : (name : List ℕ) (atoms : List (List ℕ)) → alias_of (one_syn
 no_alias name atoms = ap aliased (named_here name atoms)
 
 means_itself : (name : List ℕ) (atoms : List (List ℕ)) (t u : Ty) → t ≡ ty.Name name → Means (one_syntax name atoms) t u → u ≡ ty.Name name
-means_itself name atoms t u is (itself no same) = sym same ∙ is
+means_itself name atoms t u is (itself never same) = sym same ∙ is
 means_itself name atoms t u is (alias written some rest) =
-    let no : alias_of (one_syntax name atoms) t ≡ None = ap (alias_of (one_syntax name atoms)) is ∙ no_alias name atoms in cc
+    let never : alias_of (one_syntax name atoms) t ≡ None = ap (alias_of (one_syntax name atoms)) is ∙ no_alias name atoms in cc
 
 -- it has a case for each atom
 abbrev case_of : List ℕ → CaseDef
@@ -85,7 +85,7 @@ finds : (atom : List ℕ) (atoms : List (List ℕ)) (tag : List ℕ) (operands :
     → cond b (Some []) (operands_of (map case_of atoms) tag) ≡ Some operands
     → (operands_of (map case_of atoms) tag ≡ Some operands → FindsAtom atoms tag operands) → FindsAtom (atom ∷ atoms) tag operands
 finds atom atoms tag operands true same found later =
-    ((0, omega arith, same_text atom tag same), cc)
+    ((0, omega arith, same_text atom tag (sym same)), cc)
 finds atom atoms tag operands false same found later = finds_next atom atoms tag operands (later found)
 
 found_atom : (atoms : List (List ℕ)) (tag : List ℕ) (operands : List Ty) → operands_of (map case_of atoms) tag ≡ Some operands → FindsAtom atoms tag operands
@@ -136,26 +136,26 @@ named_level name t level at is = sym at ∙ ap out-Ty is ∙ ty.outs-Name name
 
 pub typed_atom : (name : List ℕ) (atoms : List (List ℕ)) (v : Value) → HasType (one_syntax name atoms) v (ty.Name name) → IsAtomOf atoms v
 typed_atom name atoms v (has.truth b is means) =
-    let no = named_level name ty.Bool Ty-F.Bool ty.outs-Bool (means_itself name atoms _ _ refl means) in cc
+    let never = named_level name ty.Bool Ty-F.Bool ty.outs-Bool (means_itself name atoms _ _ refl means) in cc
 typed_atom name atoms v (has.natural n is means) =
-    let no = named_level name ty.Nat Ty-F.Nat ty.outs-Nat (means_itself name atoms _ _ refl means) in cc
+    let never = named_level name ty.Nat Ty-F.Nat ty.outs-Nat (means_itself name atoms _ _ refl means) in cc
 typed_atom name atoms v (has.number z is means) =
-    let no = named_level name ty.Int Ty-F.Int ty.outs-Int (means_itself name atoms _ _ refl means) in cc
+    let never = named_level name ty.Int Ty-F.Int ty.outs-Int (means_itself name atoms _ _ refl means) in cc
 typed_atom name atoms v (has.text bytes is means) =
-    let no = named_level name ty.Text Ty-F.Text ty.outs-Text (means_itself name atoms _ _ refl means) in cc
+    let never = named_level name ty.Text Ty-F.Text ty.outs-Text (means_itself name atoms _ _ refl means) in cc
 typed_atom name atoms v (has.case tag parts cases operands is has_cases found typed) =
     of_case name atoms v tag parts cases operands is has_cases found typed
 typed_atom name atoms v (has.fields parts declared is has_fields typed) =
     let structure = means_itself name atoms (ty.Name name) has_fields.structure refl has_fields.means in
-    let no = sym (ap recorded (named_here name atoms)) ∙ ap (fields_of (one_syntax name atoms)) (sym structure) ∙ has_fields.declared in cc
+    let never = sym (ap recorded (named_here name atoms)) ∙ ap (fields_of (one_syntax name atoms)) (sym structure) ∙ has_fields.declared in cc
 typed_atom name atoms v (has.tuple parts types is means typed) =
-    let no = named_level name (ty.Tuple types) (Ty-F.Tuple types) (ty.outs-Tuple types) (means_itself name atoms _ _ refl means) in cc
+    let never = named_level name (ty.Tuple types) (Ty-F.Tuple types) (ty.outs-Tuple types) (means_itself name atoms _ _ refl means) in cc
 typed_atom name atoms v (has.list parts element is means typed) =
-    let no = named_level name (ty.List element) (Ty-F.List element) (ty.outs-List element) (means_itself name atoms _ _ refl means) in cc
+    let never = named_level name (ty.List element) (Ty-F.List element) (ty.outs-List element) (means_itself name atoms _ _ refl means) in cc
 typed_atom name atoms v (has.absent element is means) =
-    let no = named_level name (ty.Opt element) (Ty-F.Opt element) (ty.outs-Opt element) (means_itself name atoms _ _ refl means) in cc
+    let never = named_level name (ty.Opt element) (Ty-F.Opt element) (ty.outs-Opt element) (means_itself name atoms _ _ refl means) in cc
 typed_atom name atoms v (has.present part element is means typed) =
-    let no = named_level name (ty.Opt element) (Ty-F.Opt element) (ty.outs-Opt element) (means_itself name atoms _ _ refl means) in cc
+    let never = named_level name (ty.Opt element) (Ty-F.Opt element) (ty.outs-Opt element) (means_itself name atoms _ _ refl means) in cc
 
 atom_typed : (name : List ℕ) (atoms : List (List ℕ)) (tag : List ℕ) → Contains atoms tag → HasType (one_syntax name atoms) (value.Case tag []) (ty.Name name)
 atom_typed name atoms tag known =
@@ -172,12 +172,9 @@ atom_typed name atoms tag known =
 -- ---- atoms are values: they are low, and texts
 
 upper_ascii : (word : List ℕ) → All IsUpper word → IsAscii word
-upper_ascii [] upper = λ i. omega arith
-upper_ascii (b ∷ word) upper = on
-  where
-    on : IsAscii (b ∷ word)
-    on zero = let first = upper 0 b (omega arith) in omega (arith, first.1)
-    on (suc i) = upper_ascii word (λ k d below. upper (suc k) d (omega arith)) i
+upper_ascii [] upper i = omega arith
+upper_ascii (b ∷ word) upper zero = let first = upper 0 b (omega arith) in omega (arith, first.1)
+upper_ascii (b ∷ word) upper (suc i) = upper_ascii word (λ k d below. upper (suc k) d (omega arith)) i
 
 pub upper_text : (word : List ℕ) → IsWordOf IsUpper word → IsText word
 upper_text word is = record {

@@ -1,6 +1,9 @@
 -- What atoms come to, and what environments of no variables are.
 use Rattle.std.proofs.Common.{◌≡◌, ℕ, List, [], ◌∷◌, true, map, ap, ◌∙◌, sym, refl, subst, arith, rules, length}
+use Rattle.std.specs.Prelude.{AllPairs}
+use Rattle.std.specs.Ordering.{is_lt}
 use Rattle.std.proofs.lemmas.List.Elements.{All-nil}
+use Rattle.st_il.specs.Order.{text_cmp}
 use Rattle.st_il.specs.declared.definition.SyntaxDef.{SyntaxDef}
 use Rattle.st_il.specs.declared.expression.IlExp.{IlExp}
 use Rattle.st_il.specs.declared.expression.IlExp.TheVariants as exp
@@ -13,7 +16,7 @@ use Rattle.st_semantics.specs.declared.outcome.Outcome.{Outcome}
 use Rattle.st_semantics.specs.declared.outcome.Outcome.TheVariants.{Val}
 use Rattle.st_semantics.specs.declared.outcome.Outcomes.{Outcomes}
 use Rattle.st_semantics.specs.declared.outcome.Outcomes.TheVariants.{Values}
-use Rattle.st_semantics.specs.Names.{all_known}
+use Rattle.st_semantics.specs.Names.{Name, all_known}
 use Rattle.st_semantics.specs.Environments.{Entry, EnvOk, HasListed}
 use Rattle.st_semantics.specs.Parts.{Operation, limited}
 use Rattle.st_semantics.specs.Forms.{Form, HasForm, Strict, Variable, Calls, Iterates, by_itself}
@@ -56,13 +59,13 @@ pub atom_only : (defs : List SyntaxDef) (C : Answers) (env : Env) (syntax atom :
 atom_only defs C env syntax atom o (gives.strict es f r form all is) =
     strict_atom defs C env atom es f r o (HasForm-single defs (atom_exp syntax atom) _ _ form (atom_form defs syntax atom)) all is
 atom_only defs C env syntax atom o (gives.variable x form is) =
-    let no : Variable x ≡ Strict [] (making atom) = HasForm-single defs (atom_exp syntax atom) _ _ form (atom_form defs syntax atom) in cc
+    let never : Variable x ≡ Strict [] (making atom) = HasForm-single defs (atom_exp syntax atom) _ _ form (atom_form defs syntax atom) in cc
 atom_only defs C env syntax atom o (gives.call fun args r form all called) =
-    let no : Calls fun args ≡ Strict [] (making atom) = HasForm-single defs (atom_exp syntax atom) _ _ form (atom_form defs syntax atom) in cc
+    let never : Calls fun args ≡ Strict [] (making atom) = HasForm-single defs (atom_exp syntax atom) _ _ form (atom_form defs syntax atom) in cc
 atom_only defs C env syntax atom o (gives.iteration_ends how xs body r form all way) =
-    let no : Iterates how xs body ≡ Strict [] (making atom) = HasForm-single defs (atom_exp syntax atom) _ _ form (atom_form defs syntax atom) in cc
+    let never : Iterates how xs body ≡ Strict [] (making atom) = HasForm-single defs (atom_exp syntax atom) _ _ form (atom_form defs syntax atom) in cc
 atom_only defs C env syntax atom o (gives.iteration how xs body r envs t form all way each is) =
-    let no : Iterates how xs body ≡ Strict [] (making atom) = HasForm-single defs (atom_exp syntax atom) _ _ form (atom_form defs syntax atom) in cc
+    let never : Iterates how xs body ≡ Strict [] (making atom) = HasForm-single defs (atom_exp syntax atom) _ _ form (atom_form defs syntax atom) in cc
 
 -- ---- environments of no variables
 
@@ -73,9 +76,12 @@ no_entry (e ∷ es) known = cc
 pub env_empty : (defs : List SyntaxDef) (env : Env) → EnvOk defs [] env → env.entries ≡ []
 env_empty defs env ok = no_entry env.entries ok.no_other
 
+abbrev Precedes : Name → Name → Type 0
+Precedes x y = is_lt (text_cmp x y) ≡ true
+
 pub empty_env : (defs : List SyntaxDef) (env : Env) → env.entries ≡ [] → EnvOk defs [] env
 empty_env defs env empty = record {
-  ordered = λ i j d below at. absurd (omega (arith, ap length empty, at));
+  ordered = subst (λ (es : List Entry). AllPairs Precedes (map (λ (e : Entry). e.0) es)) (sym empty) (λ i j d below at. absurd (omega arith));
   no_other = ap (λ (es : List Entry). all_known [] (map (λ (e : Entry). e.0) es)) empty;
   typed = All-nil (HasListed defs env);
 }

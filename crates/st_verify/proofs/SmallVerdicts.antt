@@ -19,6 +19,7 @@ use Rattle.st_semantics.specs.Definitions.{syntaxes}
 use Rattle.st_semantics.specs.Environments.{EnvOk}
 use Rattle.st_semantics.specs.Goals.{AreInputs}
 use Rattle.st_semantics.specs.Checks.{Answer, and_then, asks, accepts, evaluate_each}
+use Rattle.st_semantics.specs.Derivation.{HasTree}
 use Rattle.st_semantics.specs.Evidence.{excludes}
 use Rattle.st_semantics.specs.Notes.{judgement_on}
 use Rattle.st_semantics.specs.Verdict.{IsInPlace, IsNode, CanStep, Continues, rule_named, tests, tests_node, Verdict, lines_cited as lines_of_children}
@@ -40,11 +41,11 @@ Decides P X rule broken = (P × X) ⊎ ((P → ⊥) × (broken ≡ Some rule))
 asked_then : (P Q X : Type 0) (rule : VerifyRule) (T : Answer → Type 0) (broken : Answer) → (P → Q) → (Q → P) → (P → X → T broken) → Decides P X rule broken
     → and_then (asks Q rule) T broken
 asked_then P Q X rule T broken to back behind (inl (p, x)) = inl (inl (to p, refl), behind p x)
-asked_then P Q X rule T broken to back behind (inr (no, is)) = inr (rule, inr ((λ q. no (back q)), refl), is)
+asked_then P Q X rule T broken to back behind (inr (never, is)) = inr (rule, inr ((λ q. never (back q)), refl), is)
 
 asked_last : (P Q X : Type 0) (rule : VerifyRule) (broken : Answer) → (P → Q) → (Q → P) → (X → broken ≡ None) → Decides P X rule broken → asks Q rule broken
 asked_last P Q X rule broken to back behind (inl (p, x)) = inl (to p, behind x)
-asked_last P Q X rule broken to back behind (inr (no, is)) = inr ((λ q. no (back q)), is)
+asked_last P Q X rule broken to back behind (inr (never, is)) = inr ((λ q. never (back q)), is)
 
 module _ (s : Small) (small : IsSmall s) (notes : Notes) (broken : Answer) where
   -- ---- the first two lines and the last
@@ -92,7 +93,7 @@ module _ (s : Small) (small : IsSmall s) (notes : Notes) (broken : Answer) where
       let line = Step number in
       let K = Keeps (il_of s) notes line in
       let found = judgement_on notes number in
-      let tree = λ (j : Judgement) is. trees j (judgement_noted notes number j is) in
+      let tree : (j : Judgement) → judgement_on notes number ≡ Some j → HasTree (il_of s) j.relation j.values = λ j is. trees j (judgement_noted notes number j is) in
       let Goes = IsSomeAnd found (Continues (il_of s) notes) in
       asked_then (K V3) (IsInPlace notes line) (FirstBroken K (V5 ∷ V6 ∷ V4 ∷ V7 ∷ V9 ∷ V10 ∷ V11 ∷ []) broken) V3 (tests (il_of s) notes line) broken (λ p. p) (λ p. p)
       (λ place behind.
@@ -132,8 +133,8 @@ module _ (s : Small) (small : IsSmall s) (notes : Notes) (broken : Answer) where
     values_verdict (inl (any, behind)) =
         let values = concluded s node small names any in
         inl (inl (ap length values, refl), inl (each_evaluated s node.env names.rule.from names.rule.to node.values values, children_verdict behind))
-    values_verdict (inr (no, is)) =
-        values_refused s node.env names.rule.from names.rule.to node.values Rest broken is (λ values. no (concludes s node names values))
+    values_verdict (inr (never, is)) =
+        values_refused s node.env names.rule.from names.rule.to node.values Rest broken is (λ values. never (concludes s node names values))
 
     named_verdict : FirstBroken K (V6 ∷ V4 ∷ V7 ∷ V9 ∷ V10 ∷ V11 ∷ []) broken
         → tests_node (il_of s) notes node (Some (names.number, rule_of s.relation s.syntax names.rule)) broken
@@ -156,13 +157,13 @@ module _ (s : Small) (small : IsSmall s) (notes : Notes) (broken : Answer) where
   OfNode node rules = FirstBroken (Keeps (il_of s) notes (Node node)) rules broken
 
   not_known : (node : NodeLine) → (Keeps (il_of s) notes (Node node) V5 → ⊥) → OfNode node (V5 ∷ V6 ∷ V4 ∷ V7 ∷ V9 ∷ V10 ∷ V11 ∷ []) → broken ≡ Some V5
-  not_known node no (inl (knows, behind)) = absurd (no knows)
-  not_known node no (inr (unknown, is)) = is
+  not_known node never (inl (knows, behind)) = absurd (never knows)
+  not_known node never (inr (unknown, is)) = is
 
   node_tested : (node : NodeLine) → Names s node ⊎ ((rule_named (il_of s) node ≡ None) × (Keeps (il_of s) notes (Node node) V5 → ⊥))
       → OfNode node (V5 ∷ V6 ∷ V4 ∷ V7 ∷ V9 ∷ V10 ∷ V11 ∷ []) → tests_node (il_of s) notes node (rule_named (il_of s) node) broken
   node_tested node (inl names) first = node_named node names first
-  node_tested node (inr (none, no)) first = subst (λ found. tests_node (il_of s) notes node found broken) (sym none) (not_known node no first)
+  node_tested node (inr (none, never)) first = subst (λ found. tests_node (il_of s) notes node found broken) (sym none) (not_known node never first)
 
   node_verdict : (node : NodeLine) → FirstBreach (il_of s) notes (Node node) broken → Verdict (il_of s) notes (Node node) broken
   node_verdict node first =
