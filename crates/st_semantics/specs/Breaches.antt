@@ -16,6 +16,7 @@ use Rattle.st_semantics.specs.ModeRules.{keeps_m3, keeps_m4, keeps_m6, keeps_m7,
 abbrev pub Standing : Type 0
 Standing = IlDef × List IlDef
 
+-- each of these definitions, with those behind it
 abbrev pub standings : List IlDef → List Standing
 standings [] = []
 standings (d ∷ ds) = (d, ds) ∷ standings ds
@@ -38,6 +39,9 @@ RuleBreaks il rule after M5 =
     (cites_nothing rule ≡ false) × (is_decided_behind rule after ≡ true)
 RuleBreaks il rule after _ = ⊥
 
+-- M3: a premise cannot be run at its place. M4: an argument is no pattern that binds its variables,
+-- or a list in a pattern has two parts of open length. M6: a variable of the result is unbound. M7:
+-- a premise cites a relation.
 abbrev pub ClauseBreaks : Il → ClauseDef → RuleId → Type 0
 ClauseBreaks il c M3 = keeps_m3 il c ≡ false
 ClauseBreaks il c M4 = keeps_m4 il c ≡ false

@@ -14,6 +14,7 @@ AreInputs il relation vs =
     IsSomeAnd (relation_named il relation)
     (λ (r : RelationDef). AreTypedValues (syntaxes il) (inputs_of il relation r.holes) vs)
 
+-- what is asked of a relation: which outputs it derives from these inputs
 pub record Goal : Type 0 where
   pub relation : Name
   pub inputs : List Value

@@ -37,6 +37,7 @@ IsDeepBelow il =
     (n m : ℕ) → n ≤ m → (env : Env) (e : IlExp) → ValueAt il m env e Deep
     → (ValueAt il n env e Deep → ⊥) → ⊥
 
+-- a call has one outcome at most, at each depth
 abbrev pub CallsAreSingle : Il → Type 0
 CallsAreSingle il =
     (n : ℕ) (fun : Name) (vs : List Value) (o p : Outcome) → CallAt il n fun vs o
