@@ -257,7 +257,8 @@ fn expect(
     wanted: &str,
 ) -> Result<(), Fail> {
     let told = told(rt, alloc, call, text.as_bytes())?;
-    assert!(rt; told.as_slice() == wanted.as_bytes(), "{text}");
+    let told = std::str::from_utf8(told.as_slice())?;
+    assert!(rt; told == wanted, "{text} is {told}");
     Ok(())
 }
 
