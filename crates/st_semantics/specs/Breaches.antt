@@ -21,7 +21,7 @@ abbrev pub standings : List IlDef → List Standing
 standings [] = []
 standings (d ∷ ds) = (d, ds) ∷ standings ds
 
--- one of the rules behind it, of the same relation, has an `otherwise`
+-- a rule of the same relation behind this one has an `otherwise`
 abbrev pub is_decided_behind : RuleDef → List IlDef → Bool
 is_decided_behind rule after =
     list_any (λ (r : RuleDef). have_otherwise r.premises)

@@ -23,7 +23,7 @@ use Rattle.st_semantics.specs.Checks.{Test, accepts, refuses, asks, forbids, and
 abbrev pub in_trial : Il → Setting
 in_trial il = in_rule il checking_depth (Unit {0})
 
--- the same with every value taken at 500
+-- where an earlier rule is tried with every value taken at 500
 abbrev pub in_trial_at : Il → Setting
 in_trial_at il = record {
   il = il;

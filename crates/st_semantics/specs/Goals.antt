@@ -19,6 +19,6 @@ pub record Goal : Type 0 where
   pub relation : Name
   pub inputs : List Value
 
--- its inputs are typed
+-- the inputs of the goal are typed
 abbrev pub IsGoal : Il → Goal → Type 0
 IsGoal il g = AreInputs il g.relation g.inputs
