@@ -37,6 +37,7 @@ IsDeepBelow il =
     (n m : ℕ) → n ≤ m → (env : Env) (e : IlExp) → ValueAt il m env e Deep
     → (ValueAt il n env e Deep → ⊥) → ⊥
 
+-- a call has one outcome at most, at each depth
 abbrev pub CallsAreSingle : Il → Type 0
 CallsAreSingle il =
     (n : ℕ) (fun : Name) (vs : List Value) (o p : Outcome) → CallAt il n fun vs o
@@ -84,7 +85,7 @@ LawOfReading =
     (il : Il) → KeepModes il → AreKinded il → (lines : List Line) (notes : Notes)
     → ReadsTo il lines notes → AreSound il lines
 
--- so do accepted lines
+-- Accepted lines vouch for their nodes and steps.
 abbrev pub LawOfAcceptance : (Il → Type 0) → Type 0
 LawOfAcceptance Typed =
     (il : Il) → AreKinded il → (lines : List Line) → Accepts Typed il lines → AreSound il lines

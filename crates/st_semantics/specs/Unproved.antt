@@ -58,6 +58,7 @@ pub record EvaluationIsLawful (T : Typing) (il : Il) : Type 0 where
   pub once : ChoosesOnce il
   pub typed : ValuesAreTyped T il
 
+-- each typed internal language that keeps the rules M1 to M7 has the laws of evaluation
 abbrev pub LawOfEvaluation : (Il → Type 0) → Typing → Type 0
 LawOfEvaluation Typed T = (il : Il) → Typed il → KeepModes il → EvaluationIsLawful T il
 

@@ -28,9 +28,9 @@ LawOfSmallSteps =
     → Derivable (il_of s) s.relation term next ↔ IsSmallStep s term next
 
 -- The verdict on a line is the first of the rules of derivations that it breaks, as the code asks
--- them one after another.
+-- them one after another, and no other.
 abbrev pub LawOfSmallVerdicts : Type 0
 LawOfSmallVerdicts =
     (s : Small) → IsSmall s → (lines : List Line) (notes : Notes) → ReadsTo (il_of s) lines notes
-    → (line : Line) (broken : Option VerifyRule) → FirstBreach (il_of s) notes line broken
-    → Verdict (il_of s) notes line broken
+    → (line : Line) (broken answer : Option VerifyRule) → FirstBreach (il_of s) notes line broken
+    → Verdict (il_of s) notes line answer ↔ (answer ≡ broken)
