@@ -1,5 +1,5 @@
 -- What a small specification derives is what its rules give.
-use Rattle.std.proofs.Common.{◌≡◌, ℕ, List, [], ◌∷◌, Option, Some, None, ap, ◌∙◌, sym, refl, subst, ⊎_elim, length, ◌<◌}
+use Rattle.std.proofs.Common.{◌≡◌, ℕ, List, [], Option, Some, None, ap, ◌∙◌, sym, refl, subst, ⊎_elim, length, ◌<◌}
 use Rattle.std.specs.Prelude.{slice_get, MatchOption}
 use Rattle.std.specs.Option.{option_copied}
 use Rattle.std.specs.Ordering.{is_gt}

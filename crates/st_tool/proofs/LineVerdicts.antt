@@ -82,9 +82,13 @@ step_verdict s atom lines notes rule at from =
     let here = judged s atom lines notes rule at in
     let long : length then.lines ≡ length notes.lines + 1 = length-append notes.lines (Some (judgement_of s rule) ∷ []) in
     let term = at.term ∙ ap (λ a. Some (atom_term a)) (sym from) ∙ ap Some (sym (inputs-small s (CaseOf rule.from []) (CaseOf rule.to []))) in
-    inl (inl ((omega (arith, at.same, at.some, long), at.ended), refl),
-    inl (inl (ap is_some here, refl),
-    inl (subst (λ found. IsSomeAnd found (Continues (il_of s) then)) (sym here) (at.relation, term), refl)))
+    inl (
+      inl ((omega (arith, at.same, at.some, long), at.ended), refl),
+      inl (
+        inl (ap is_some here, refl),
+        inl (subst (λ found. IsSomeAnd found (Continues (il_of s) then)) (sym here) (at.relation, term), refl),
+      ),
+    )
 
 pub at_next : (s : Small) (atom : List ℕ) (lines all : List Line) (notes : Notes) (rule : SmallRule) → IsAt s atom lines notes
     → length all ≡ length lines + 2

@@ -1,5 +1,5 @@
 -- A run that has come to its end has its transcript.
-use Rattle.std.proofs.Common.{◌≡◌, ℕ, zero, suc, ◌+◌, ◌-◌, ◌≤◌, List, [], ◌∷◌, ◌++◌, length, ap, ◌∙◌, sym, refl, subst, arith, append_assoc, length-append}
+use Rattle.std.proofs.Common.{◌≡◌, ℕ, suc, ◌+◌, ◌-◌, List, [], ◌∷◌, ◌++◌, length, ◌∙◌, refl, subst, arith, append_assoc, length-append}
 use Rattle.st_il.specs.declared.definition.Il.{Il}
 use Rattle.st_semantics.specs.Names.{Name}
 use Rattle.st_semantics.specs.Transcript as run

@@ -1,5 +1,5 @@
 -- The definitions of a small specification one by one, and what the code finds among them.
-use Rattle.std.proofs.Common.{◌≡◌, ℕ, zero, suc, ◌<◌, List, [], ◌∷◌, Some, map, ap, ◌∙◌, sym, refl, subst, arith, ◌⊎◌, inl, inr, get_or, length}
+use Rattle.std.proofs.Common.{◌≡◌, ℕ, zero, suc, ◌<◌, List, [], ◌∷◌, Some, map, ap, sym, refl, subst, arith, ◌⊎◌, inl, inr, get_or, length}
 use Rattle.std.specs.Prelude.{slice_get, Any, Contains}
 use Rattle.st_il.specs.declared.definition.Alternative.TheVariants as alternative
 use Rattle.st_il.specs.declared.definition.IlDef.{IlDef}

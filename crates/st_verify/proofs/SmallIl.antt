@@ -1,6 +1,6 @@
 -- What stands in the internal language of a small specification: one relation, whose first hole is
 -- its input, and its rules.
-use Rattle.std.proofs.Common.{◌≡◌, ℕ, zero, suc, List, [], ◌∷◌, Option, Some, None, Bool, true, false, nat_eq, map, ap, ◌∙◌, sym, refl, cond, rules}
+use Rattle.std.proofs.Common.{◌≡◌, ℕ, zero, suc, List, [], ◌∷◌, Some, None, Bool, true, false, nat_eq, map, ap, ◌∙◌, sym, refl, cond, rules}
 use Rattle.std.specs.Prelude.{codes, slice_get, find, bytes_eq, unwrap_or, replicate}
 use Rattle.std.specs.Cmp.Lexicographic.{pointwise}
 use Rattle.std.proofs.lemmas.Cmp.{nat_list_eq_equiv}
@@ -13,7 +13,7 @@ use Rattle.st_il.specs.declared.definition.SyntaxBody.TheVariants.{Variant}
 use Rattle.st_il.specs.declared.definition.SyntaxDef.{SyntaxDef}
 use Rattle.st_il.specs.declared.small.Small.{Small}
 use Rattle.st_il.specs.declared.small.SmallRule.{SmallRule}
-use Rattle.st_il.specs.declared.template.Template.{Template, the_lemmas}
+use Rattle.st_il.specs.declared.template.Template.{the_lemmas}
 use Rattle.st_il.specs.declared.template.Template.TheVariants as template
 use Rattle.st_il.specs.declared.ty.Ty.TheVariants.{Name as NameOf}
 use Rattle.st_il.specs.Small.{atom_exp, rule_def, il_of}

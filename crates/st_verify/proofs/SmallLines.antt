@@ -1,30 +1,27 @@
 -- What the code asks of the first two lines and of steps, and what it notes, on a small specification.
-use Rattle.std.proofs.Common.{◌+◌, ◌≡◌, ℕ, zero, suc, ◌<◌, ◌≤◌, List, [], ◌∷◌, ◌++◌, Option, Some, None, Bool, true, false, map, ap, ◌∙◌, sym, refl, subst, arith, ◌⊎◌, inl, inr, ⊎_elim, cond, length, get_or, replicate}
-use Rattle.std.specs.Prelude.{slice_get, bytes_eq, All, Any, Contains, IsSomeAnd, IsSome, unwrap_or}
-use Rattle.std.specs.Option.{option_map, option_and_then}
+use Rattle.std.proofs.Common.{◌+◌, ◌≡◌, ℕ, zero, suc, ◌<◌, ◌≤◌, List, [], ◌∷◌, ◌++◌, Option, Some, None, Bool, true, false, ap, ◌∙◌, sym, refl, subst, arith, ◌⊎◌, inl, inr, ⊎_elim, length, get_or}
+use Rattle.std.specs.Prelude.{slice_get, bytes_eq, Any, Contains, IsSomeAnd}
+use Rattle.std.specs.Option.{option_map}
 use Rattle.std.specs.Cmp.Lexicographic.{same_text}
 use Rattle.std.proofs.lemmas.Option.{slice_get_cases, get_or_from_slice_get, option_and_then_some}
 use Rattle.st_deriv.specs.declared.line.Line.{Line}
 use Rattle.st_deriv.specs.declared.line.Line.TheVariants.{Head, From, Node, Step, End}
 use Rattle.st_il.specs.declared.definition.Il.{Il}
-use Rattle.st_il.specs.declared.definition.IlDef.{IlDef}
 use Rattle.st_il.specs.declared.definition.RelationDef.{RelationDef}
-use Rattle.st_il.specs.declared.definition.SyntaxDef.{SyntaxDef}
 use Rattle.st_il.specs.declared.small.Small.{Small}
-use Rattle.st_il.specs.declared.small.SmallRule.{SmallRule}
 use Rattle.st_il.specs.declared.ty.Ty.{Ty}
 use Rattle.st_il.specs.declared.ty.Ty.TheVariants as ty
 use Rattle.st_il.specs.declared.value.Value.{Value}
 use Rattle.st_il.specs.declared.value.Value.TheVariants as value
 use Rattle.st_il.specs.Small.{il_of, relation_def, syntax_def, rule_def, IsSmall}
 use Rattle.st_type_table.specs.Meaning.{itself as means}
-use Rattle.st_type_table.specs.Same.{Same, SameAll, equal, none, more}
+use Rattle.st_type_table.specs.Same.{SameAll, equal, none, more}
 use Rattle.st_semantics.specs.declared.notes.Judgement.{Judgement}
 use Rattle.st_semantics.specs.declared.notes.Notes.{Notes}
 use Rattle.st_semantics.specs.Names.{Name}
 use Rattle.st_semantics.specs.Definitions.{relation_named, syntaxes}
-use Rattle.st_semantics.specs.Directions.{mask, inputs_of, outputs_of, inputs_by, outputs_by, IsStepping}
-use Rattle.st_semantics.specs.Environments.{AreTypedValues, IsTypedValue}
+use Rattle.st_semantics.specs.Directions.{inputs_of, outputs_of, inputs_by, IsStepping}
+use Rattle.st_semantics.specs.Environments.{AreTypedValues}
 use Rattle.st_semantics.specs.Goals.{AreInputs}
 use Rattle.st_semantics.specs.Derivation.{HasTree}
 use Rattle.st_semantics.specs.Notes.{judgement_on, noted}
@@ -32,8 +29,8 @@ use Rattle.st_semantics.specs.Verdict.{CanStep, Continues}
 use Rattle.st_verify.specs.inner.SmallNotes.{small_noted, small_outputs}
 use Rattle.st_verify.specs.inner.SmallVerdict.{small_inputs, IsTyped, TakesInput, IsTerm}
 use Rattle.st_verify.proofs.SmallDefinitions.{RuleWith, any_def, case_known, known_case}
-use Rattle.st_verify.proofs.SmallIl.{arrow, itself, relation_of, syntax_of, relation-named, relation-here, mask-small, syntaxes-small}
-use Rattle.st_verify.proofs.SmallTrees.{IsTreeOf, has_tree_rule, values_of, inputs-small, outputs-small}
+use Rattle.st_verify.proofs.SmallIl.{arrow, relation_of, syntax_of, relation-named, relation-here, mask-small, syntaxes-small}
+use Rattle.st_verify.proofs.SmallTrees.{has_tree_rule, inputs-small, outputs-small}
 use Rattle.st_verify.proofs.SmallTypes.{no_alias, typed_atom, is_typed_atom}
 
 -- ---- the relation can be run step by step

@@ -1,6 +1,6 @@
 -- A small specification keeps the rules M1 to M7, and its premises, of which it has none, are of
 -- their kinds.
-use Rattle.std.proofs.Common.{◌≡◌, ℕ, zero, suc, List, [], ◌∷◌, map, ap, ◌∙◌, sym, refl, subst}
+use Rattle.std.proofs.Common.{◌≡◌, ℕ, zero, suc, List, [], ◌∷◌, map, ◌∙◌, sym, subst}
 use Rattle.std.specs.Prelude.{All}
 use Rattle.std.proofs.lemmas.List.Elements.{All-nil, All-cons, All-map}
 use Rattle.st_num.specs.declared.rule.RuleId.{RuleId}

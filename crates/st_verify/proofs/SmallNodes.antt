@@ -1,15 +1,13 @@
 -- What the code asks of a node of a small specification.
 use Rattle.std.proofs.Common.{◌≡◌, ℕ, zero, suc, ◌+◌, ◌<◌, List, [], ◌∷◌, Option, Some, None, Bool, true, false, map, ap, ◌∙◌, sym, refl, subst, arith, ◌⊎◌, inl, inr, cond, length, get_or, take}
-use Rattle.std.specs.Prelude.{slice_get, bytes_eq, Any, is_some, Contains}
-use Rattle.std.specs.List.{enumerate_from, AllPairs}
+use Rattle.std.specs.Prelude.{slice_get, bytes_eq, Any, is_some}
+use Rattle.std.specs.List.{enumerate_from}
 use Rattle.std.specs.Cmp.Lexicographic.{same_text}
 use Rattle.std.specs.declared.cmp.Ordering.{Ordering}
 use Rattle.std.specs.declared.cmp.Ordering.TheVariants.{Less, Equal, Greater}
-use Rattle.std.proofs.lemmas.Option.{slice_get_within, get_or_from_slice_get}
 use Rattle.st_deriv.specs.declared.line.NodeLine.{NodeLine}
 use Rattle.st_deriv.specs.declared.line.Ref.{Ref}
 use Rattle.st_il.specs.declared.definition.Il.{Il}
-use Rattle.st_il.specs.declared.definition.IlDef.{IlDef}
 use Rattle.st_il.specs.declared.definition.RuleDef.{RuleDef}
 use Rattle.st_il.specs.declared.expression.IlExp.{IlExp}
 use Rattle.st_il.specs.declared.small.Small.{Small}
@@ -22,9 +20,7 @@ use Rattle.st_il.specs.Small.{il_of, atom_exp, rule_def, syntax_def, relation_de
 use Rattle.st_il.proofs.OrderLaws.{value_cmp_order}
 use Rattle.st_semantics.specs.declared.outcome.Outcome.TheVariants.{Val}
 use Rattle.st_semantics.specs.declared.notes.Notes.{Notes}
-use Rattle.st_semantics.specs.declared.verify_rule.VerifyRule.{VerifyRule}
 use Rattle.st_semantics.specs.declared.verify_rule.VerifyRule.TheVariants.{V7, V9, V10}
-use Rattle.st_semantics.specs.Names.{Name}
 use Rattle.st_semantics.specs.Definitions.{relation_named, rules_of, syntaxes}
 use Rattle.st_semantics.specs.Directions.{inputs_of}
 use Rattle.st_semantics.specs.Calls.{CallAt}
@@ -33,7 +29,7 @@ use Rattle.st_semantics.specs.Evidence.{HasShape, try_all, excludes}
 use Rattle.st_semantics.specs.Verdict.{Found, find_rule, rule_named}
 use Rattle.st_semantics.specs.Walks as walks
 use Rattle.st_semantics.specs.Walks.{Walks}
-use Rattle.st_verify.specs.inner.SmallValues.{IsCaseValue, AreCaseValues}
+use Rattle.st_verify.specs.inner.SmallValues.{AreCaseValues}
 use Rattle.st_verify.specs.inner.SmallVerdict.{IsRelationNamed, IsRuleNamed, Concludes}
 use Rattle.st_verify.proofs.SmallDefinitions.{RuleWith, any_def, rule_def_there, named_relation, relation_there, named_rule}
 use Rattle.st_verify.proofs.SmallIl.{rule_of, itself, relation-named, relation-here, rules-small}
@@ -114,7 +110,11 @@ named_among : (s : Small) (node : NodeLine) → node.relation ≡ s.relation →
 named_among s node named (inl (k, rule, at, name, found)) =
     let place : 0 + k ≡ k = omega arith in
     inl (record {
-      relation = named; number = k; rule = rule; is_rule = at; name = name;
+      relation = named;
+      number = k;
+      rule = rule;
+      is_rule = at;
+      name = name;
       found = rule_named-here s node named ∙ found ∙ ap (λ p. Some (p, rule_of s.relation s.syntax rule)) place;
     })
 named_among s node named (inr (none, never)) = inr (rule_named-here s node named ∙ none, λ knows. never (named_rule s node.relation node.rule knows.1))
@@ -122,9 +122,12 @@ named_among s node named (inr (none, never)) = inr (rule_named-here s node named
 named_by : (s : Small) (node : NodeLine) (b : Bool) → bytes_eq node.relation s.relation ≡ b → NamedOrNot s node
 named_by s node true same = named_among s node (same_text node.relation s.relation (sym same)) (finds s.relation s.syntax 0 s.rules node.rule)
 named_by s node false other =
-    inr (rule_named-other s node other, λ knows.
-    let same : bytes_eq node.relation s.relation ≡ true = subst (λ n. bytes_eq n s.relation ≡ true) (sym (named_relation s node.relation knows.0)) (itself s.relation) in
-    let never : true ≡ false = sym same ∙ other in cc)
+    inr (
+      rule_named-other s node other,
+      λ knows.
+          let same : bytes_eq node.relation s.relation ≡ true = subst (λ n. bytes_eq n s.relation ≡ true) (sym (named_relation s node.relation knows.0)) (itself s.relation) in
+          let never : true ≡ false = sym same ∙ other in cc,
+    )
 
 pub named_or_not : (s : Small) (node : NodeLine) → NamedOrNot s node
 named_or_not s node = named_by s node (bytes_eq node.relation s.relation) refl
@@ -175,9 +178,11 @@ concluded s node small names any = of_one (any_def s (Concludes node) any)
 
 pub concludes : (s : Small) (node : NodeLine) (names : Names s node) → node.values ≡ values_of names.rule → Any (Concludes node) (il_of s).defs
 concludes s node names is =
-    rule_def_there s (Concludes node) names.number names.rule names.is_rule
-    ((sym names.relation, names.name), subst (AreCaseValues (atom_exp s.syntax names.rule.from ∷ atom_exp s.syntax names.rule.to ∷ [])) (sym is)
-    (atom_exp_value s.syntax names.rule.from, (atom_exp_value s.syntax names.rule.to, tt)))
+    rule_def_there s (Concludes node) names.number names.rule names.is_rule (
+      (sym names.relation, names.name),
+      subst (AreCaseValues (atom_exp s.syntax names.rule.from ∷ atom_exp s.syntax names.rule.to ∷ [])) (sym is)
+          (atom_exp_value s.syntax names.rule.from, (atom_exp_value s.syntax names.rule.to, tt)),
+    )
 
 -- ---- the conclusion is evaluated
 
@@ -210,8 +215,10 @@ module _ (s : Small) (env : Env) where
       → evaluate_each (il_of s) env (TwoAtoms one other) (x ∷ y ∷ []) (Some V7)
   each_refused one other x y (inr never) differ = inr (V7, refused one x never, refl)
   each_refused one other x y (inl is) differ =
-      inl (subst (λ v. evaluates (il_of s) V7 env (atom_exp s.syntax one) v None) (sym is) (evaluated one),
-      inr (V7, refused other y (λ same. differ (let all : x ∷ y ∷ [] ≡ value.Case one [] ∷ value.Case other [] ∷ [] = cc in all)), refl))
+      inl (
+        subst (λ v. evaluates (il_of s) V7 env (atom_exp s.syntax one) v None) (sym is) (evaluated one),
+        inr (V7, refused other y (λ same. differ (let all : x ∷ y ∷ [] ≡ value.Case one [] ∷ value.Case other [] ∷ [] = cc in all)), refl),
+      )
 
   -- where the values are not those of the conclusion, V7 is the answer
   pub values_refused : (one other : List ℕ) (values : List Value) (T : Answer → Type 0) (broken : Answer) → broken ≡ Some V7
@@ -242,8 +249,10 @@ no_shape number (Some orders) some shape = shape
 pub no_evidence : (il : Il) (node : NodeLine) (number : ℕ) (relation syntax : List ℕ) (rule : SmallRule) (broken : Answer) → broken ≡ None → node.evidence ≡ None
     → excludes il node number (rule_of relation syntax rule) broken
 no_evidence il node number relation syntax rule broken is none =
-    inl (inl (shape_of_none number node.evidence none, refl),
-    subst (λ e. try_all il (inputs_of il node.relation node.values) (take number (rules_of il node.relation)) e broken) (sym none) is)
+    inl (
+      inl (shape_of_none number node.evidence none, refl),
+      subst (λ e. try_all il (inputs_of il node.relation node.values) (take number (rules_of il node.relation)) e broken) (sym none) is,
+    )
 
 pub some_evidence : (il : Il) (node : NodeLine) (number : ℕ) (relation syntax : List ℕ) (rule : SmallRule) (broken : Answer) → broken ≡ Some V10 → (node.evidence ≡ None → ⊥)
     → excludes il node number (rule_of relation syntax rule) broken

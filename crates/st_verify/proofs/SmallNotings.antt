@@ -1,23 +1,20 @@
 -- What is noted of lines that are read has valid trees, and what a verifier keeps is kept.
-use Rattle.std.proofs.Common.{◌≡◌, ℕ, suc, List, [], ◌∷◌, ◌++◌, Some, None, length, refl, ◌∙◌, sym, ap, subst, ⊎_elim, arith, length-append}
+use Rattle.std.proofs.Common.{◌≡◌, suc, List, [], ◌∷◌, ◌++◌, Some, None, length, refl, sym, subst, ⊎_elim, arith, length-append}
 use Rattle.std.specs.Prelude.{Contains}
 use Rattle.std.proofs.lemmas.List.Elements.{Contains-push_cases}
 use Rattle.st_deriv.specs.declared.line.Line.{Line}
 use Rattle.st_deriv.specs.declared.line.Line.TheVariants.{Head, From, Node, Step, End}
 use Rattle.st_deriv.specs.declared.line.NodeLine.{NodeLine}
 use Rattle.st_il.specs.declared.definition.Il.{Il}
-use Rattle.st_il.specs.declared.value.Value.{Value}
 use Rattle.st_il.specs.Small.{IsSmallIl}
 use Rattle.st_semantics.specs.declared.notes.Judgement.{Judgement}
 use Rattle.st_semantics.specs.declared.notes.Notes.{Notes}
 use Rattle.st_semantics.specs.declared.verify_rule.VerifyRule.TheVariants.{V3}
-use Rattle.st_semantics.specs.Names.{Name}
 use Rattle.st_semantics.specs.Accepts.{ReadsTo, none, more}
 use Rattle.st_semantics.specs.Checks.{asks}
 use Rattle.st_semantics.specs.Derivation.{HasTree}
 use Rattle.st_semantics.specs.Notes.{noted, nothing_noted}
-use Rattle.st_semantics.specs.Verdict.{Verdict, IsInPlace, tests, tests_node, rule_named}
-use Rattle.st_semantics.specs.Walks.{Judges}
+use Rattle.st_semantics.specs.Verdict.{Verdict, IsInPlace, tests}
 use Rattle.st_semantics.proofs.Nodes.{both, asked, node_tree}
 use Rattle.st_semantics.proofs.Trials.{trials_are_stable}
 use Rattle.st_verify.proofs.SmallLines.{AreTrees, judgement_noted}

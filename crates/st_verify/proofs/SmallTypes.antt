@@ -1,5 +1,5 @@
 -- Which values have the type of the syntax of a small specification: its atoms.
-use Rattle.std.proofs.Common.{inl, ◌≡◌, ℕ, zero, suc, ◌≤◌, ◌<◌, List, [], ◌∷◌, ◌++◌, Option, Some, None, Bool, true, false, nat_eq, map, ap, ◌∙◌, sym, refl, subst, arith, rules, length, cond}
+use Rattle.std.proofs.Common.{inl, ◌≡◌, ℕ, zero, suc, ◌≤◌, List, [], ◌∷◌, ◌++◌, Option, Some, None, Bool, true, false, nat_eq, map, ap, ◌∙◌, sym, refl, subst, arith, rules, cond}
 use Rattle.std.specs.Prelude.{Contains, All}
 use Rattle.std.specs.Cmp.Lexicographic.{pointwise, same_text}
 use Rattle.std.specs.Str.{IsAscii}
@@ -22,7 +22,7 @@ use Rattle.st_il.specs.Small.{IsUpper, IsWordOf}
 use Rattle.st_il.specs.Value.{texts_of}
 use Rattle.st_type_table.specs.declared.entry.CaseDef.{CaseDef}
 use Rattle.st_type_table.specs.Meaning.{Means, itself, alias, alias_of, aliased, alternatives_of, listed, recorded, fields_of, body_of, named, named_at}
-use Rattle.st_type_table.specs.Cases.{Brings, Flatten, own, included, none, more, HasCases, HasFields, operands_of}
+use Rattle.st_type_table.specs.Cases.{Brings, Flatten, own, included, none, more, HasCases, operands_of}
 use Rattle.st_types.specs.HasType as has
 use Rattle.st_types.specs.HasType.{HasType, HaveTypes}
 use Rattle.st_semantics.specs.Environments.{IsTypedValue, numbers_of}

@@ -1,5 +1,5 @@
 -- What atoms come to, and what environments of no variables are.
-use Rattle.std.proofs.Common.{◌≡◌, ℕ, List, [], ◌∷◌, true, map, ap, ◌∙◌, sym, refl, subst, arith, rules, length}
+use Rattle.std.proofs.Common.{◌≡◌, ℕ, List, [], ◌∷◌, true, map, ap, ◌∙◌, sym, refl, subst, arith, rules}
 use Rattle.std.specs.Prelude.{AllPairs}
 use Rattle.std.specs.Ordering.{is_lt}
 use Rattle.std.proofs.lemmas.List.Elements.{All-nil}
@@ -8,7 +8,7 @@ use Rattle.st_il.specs.declared.definition.SyntaxDef.{SyntaxDef}
 use Rattle.st_il.specs.declared.expression.IlExp.{IlExp}
 use Rattle.st_il.specs.declared.expression.IlExp.TheVariants as exp
 use Rattle.st_il.specs.declared.value.Env.{Env}
-use Rattle.st_il.specs.declared.value.Value.{Value, the_lemmas}
+use Rattle.st_il.specs.declared.value.Value.{the_lemmas}
 use Rattle.st_il.specs.declared.value.Value.TheVariants as value
 use Rattle.st_il.specs.Height.{height}
 use Rattle.st_il.specs.Small.{atom_exp}
@@ -19,9 +19,9 @@ use Rattle.st_semantics.specs.declared.outcome.Outcomes.TheVariants.{Values}
 use Rattle.st_semantics.specs.Names.{Name, all_known}
 use Rattle.st_semantics.specs.Environments.{Entry, EnvOk, HasListed}
 use Rattle.st_semantics.specs.Parts.{Operation, limited}
-use Rattle.st_semantics.specs.Forms.{Form, HasForm, Strict, Variable, Calls, Iterates, by_itself}
+use Rattle.st_semantics.specs.Forms.{HasForm, Strict, Variable, Calls, Iterates, by_itself}
 use Rattle.st_semantics.specs.Evaluation as gives
-use Rattle.st_semantics.specs.Evaluation.{Answers, Gives, GivesAll, Task, tasks, applied}
+use Rattle.st_semantics.specs.Evaluation.{Answers, Gives, GivesAll, tasks, applied}
 use Rattle.st_semantics.proofs.Singles.{HasForm-single}
 
 -- ---- an atom is its own value

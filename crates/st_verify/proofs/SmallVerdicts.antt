@@ -1,15 +1,14 @@
 -- On a small specification the verdict on a line is the first rule that it breaks.
-use Rattle.std.proofs.Common.{◌≡◌, ℕ, List, [], ◌∷◌, Option, Some, None, ap, sym, refl, subst, ◌⊎◌, inl, inr, length, lit≤}
+use Rattle.std.proofs.Common.{◌≡◌, ℕ, List, [], ◌∷◌, Some, None, ap, sym, refl, subst, ◌⊎◌, inl, inr, length, lit≤}
 use Rattle.std.specs.Prelude.{All, IsSomeAnd}
 use Rattle.std.proofs.lemmas.List.Elements.{All-nil, All-cons}
 use Rattle.st_deriv.specs.declared.line.Line.{Line}
 use Rattle.st_deriv.specs.declared.line.Line.TheVariants.{Head, From, Node, Step, End}
 use Rattle.st_deriv.specs.declared.line.Ending.{Ending}
 use Rattle.st_deriv.specs.declared.line.NodeLine.{NodeLine}
-use Rattle.st_il.specs.declared.definition.Il.{Il}
 use Rattle.st_il.specs.declared.small.Small.{Small}
 use Rattle.st_il.specs.declared.value.Value.{Value}
-use Rattle.st_il.specs.Small.{il_of, IsSmall, IsSmallIl}
+use Rattle.st_il.specs.Small.{il_of, IsSmall}
 use Rattle.st_semantics.specs.declared.notes.Judgement.{Judgement}
 use Rattle.st_semantics.specs.declared.notes.Notes.{Notes}
 use Rattle.st_semantics.specs.declared.verify_rule.VerifyRule.{VerifyRule}
@@ -24,7 +23,7 @@ use Rattle.st_semantics.specs.Evidence.{excludes}
 use Rattle.st_semantics.specs.Notes.{judgement_on}
 use Rattle.st_semantics.specs.Verdict.{IsInPlace, IsNode, CanStep, Continues, rule_named, tests, tests_node, Verdict, lines_cited as lines_of_children}
 use Rattle.st_semantics.specs.Walks.{Walks}
-use Rattle.st_verify.specs.inner.SmallVerdict.{Keeps, FirstBroken, FirstBreach, lines_cited, IsTerm}
+use Rattle.st_verify.specs.inner.SmallVerdict.{Keeps, FirstBroken, FirstBreach}
 use Rattle.st_verify.proofs.FirstBroken.{all_kept, passed}
 use Rattle.st_verify.proofs.SmallDefinitions.{named_relation, relation_there}
 use Rattle.st_verify.proofs.SmallIl.{rule_of}

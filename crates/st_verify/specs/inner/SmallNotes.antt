@@ -1,6 +1,6 @@
 -- What the code notes of a line: it is so on a small specification, whose relation has one input and
 -- one output.
-use Rattle.std.specs.Prelude.{ℕ, ◌+◌, true, List, [], ◌∷◌, ◌++◌, drop, Some, None}
+use Rattle.std.specs.Prelude.{◌+◌, true, List, [], ◌∷◌, ◌++◌, drop, Some, None}
 use Rattle.std.specs.Option.{option_map}
 use Rattle.st_deriv.specs.declared.line.Line.{Line}
 use Rattle.st_deriv.specs.declared.line.Line.TheVariants.{Head, From, Node, Step, End}

@@ -2,7 +2,7 @@
 -- small specification.
 use Rattle.std.specs.Prelude.{◌≡◌, ◌⊎◌, ℕ, List, [], ◌∷◌, Option, Some, None, IsSomeAnd, slice_get, take, All, Any}
 use Rattle.st_deriv.specs.declared.line.Line.{Line}
-use Rattle.st_deriv.specs.declared.line.Line.TheVariants.{Head, From, Node, Step, End}
+use Rattle.st_deriv.specs.declared.line.Line.TheVariants.{Head, From, Node, Step}
 use Rattle.st_deriv.specs.declared.line.NodeLine.{NodeLine}
 use Rattle.st_deriv.specs.declared.line.Ref.{Ref, fold-Ref}
 use Rattle.st_il.specs.declared.definition.Alternative.{Alternative}

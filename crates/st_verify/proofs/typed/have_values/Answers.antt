@@ -16,13 +16,13 @@ returns-then-not-has_value c = (
 )
 
 pub loop-i-preserved : goal.loop-i-preserved
-loop-i-preserved c = 
+loop-i-preserved c =
     let at : c.loop-i.i < length c.args.values.now = omega arith in
     AreCaseValues-more c.args.exps.now c.args.values.now c.loop-i.i c.index-exps-i.result c.index-values-i.result c.loop-i-test.true at
     c.index-exps-i.is c.index-values-i.is c.loop-i.invariant (c.has_value.ensures.0 c.if-not-has_value.false)
 
 pub returns : goal.returns
-returns c = 
+returns c =
     let whole : take c.loop-i.i c.args.exps.now ≡ c.args.exps.now = take_all _ _ c.loop-i-test.false in
     let whole_values : take c.loop-i.i c.args.values.now ≡ c.args.values.now = take_all _ _ (omega arith) in
     (λ yes. rw (whole, whole_values) at c.loop-i.invariant, λ have. refl)
