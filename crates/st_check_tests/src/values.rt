@@ -19,18 +19,62 @@ fn word_value(word: &[u8]) -> Value {
     }
 }
 
-#[cycle(value)]
-fn value_of(alloc: Global, tree: &TextTree) -> Result<Value, NoMemory> {
+/// The value that is a word or a quoted text.
+fn plain_value(alloc: Global, tree: &TextTree) -> Result<Value, NoMemory> {
     match tree {
         TextTree::Word(word) => Ok(word_value(word.as_slice())),
         TextTree::Quote(text) => Ok(Value::Text(text.copy(alloc)?)),
-        TextTree::List(parts) => compound(alloc, parts.as_slice()),
+        TextTree::List(_) => Err(NoMemory),
     }
 }
 
-#[cycle(value)]
-fn compound(alloc: Global, parts: &[TextTree]) -> Result<Value, NoMemory> {
-    match parts {
+fn plain_values(alloc: Global, trees: &[TextTree]) -> Result<Row<Value>, NoMemory> {
+    let mut values = Row::new(alloc);
+    for tree in trees {
+        values.push(plain_value(alloc, tree)?)?;
+    }
+    Ok(values)
+}
+
+fn field(alloc: Global, name: &Name, value: Value) -> Result<Value, NoMemory> {
+    let mut fields = Row::new(alloc);
+    fields.push((name.copy(alloc)?, value))?;
+    Ok(Value::Fields(fields))
+}
+
+/// A record of one field, or a case.
+fn named(
+    alloc: Global,
+    kind: &[u8],
+    name: &Name,
+    operands: &[TextTree],
+) -> Result<Value, NoMemory> {
+    match (kind, operands) {
+        (b"f", [operand]) => field(alloc, name, plain_value(alloc, operand)?),
+        _ => {
+            let operands = plain_values(alloc, operands)?;
+            Ok(Value::Case(name.copy(alloc)?, operands))
+        }
+    }
+}
+
+fn unnamed(alloc: Global, kind: &[u8], operands: &[TextTree]) -> Result<Value, NoMemory> {
+    match (kind, operands) {
+        (b"t", _) => Ok(Value::Tuple(plain_values(alloc, operands)?)),
+        (b"o", [operand]) => {
+            let value = plain_value(alloc, operand)?;
+            Ok(Value::Opt(Some(Boxed::new(alloc, value)?)))
+        }
+        (b"o", _) => Ok(Value::Opt(None)),
+        _ => Ok(Value::List(plain_values(alloc, operands)?)),
+    }
+}
+
+fn value_of(alloc: Global, tree: &TextTree) -> Result<Value, NoMemory> {
+    let TextTree::List(parts) = tree else {
+        return plain_value(alloc, tree);
+    };
+    match parts.as_slice() {
         [TextTree::Word(kind), TextTree::Quote(name), operands @ ..] => {
             named(alloc, kind.as_slice(), name, operands)
         }
@@ -39,56 +83,14 @@ fn compound(alloc: Global, parts: &[TextTree]) -> Result<Value, NoMemory> {
     }
 }
 
-/// A case of this tag, or a record of a field of this name.
-#[cycle(value)]
-fn named(
-    alloc: Global,
-    kind: &[u8],
-    name: &Name,
-    operands: &[TextTree],
-) -> Result<Value, NoMemory> {
-    let name = name.copy(alloc)?;
-    match kind {
-        b"c" => Ok(Value::Case(name, values_of(alloc, operands)?)),
-        _ => Ok(Value::Fields(field(alloc, name, operands)?)),
-    }
-}
-
-#[cycle(value)]
-fn field(alloc: Global, name: Name, operands: &[TextTree]) -> Result<Row<(Name, Value)>, NoMemory> {
-    let mut fields = Row::new(alloc);
-    if let Some(operand) = operands.first() {
-        fields.push((name, value_of(alloc, operand)?))?;
-    }
-    Ok(fields)
-}
-
-#[cycle(value)]
-fn unnamed(alloc: Global, kind: &[u8], operands: &[TextTree]) -> Result<Value, NoMemory> {
-    match (kind, operands) {
-        (b"t", _) => Ok(Value::Tuple(values_of(alloc, operands)?)),
-        (b"l", _) => Ok(Value::List(values_of(alloc, operands)?)),
-        (_, [operand]) => {
-            let value = value_of(alloc, operand)?;
-            Ok(Value::Opt(Some(Boxed::new(alloc, value)?)))
-        }
-        _ => Ok(Value::Opt(None)),
-    }
-}
-
-#[cycle(value)]
-fn values_of(alloc: Global, trees: &[TextTree]) -> Result<Row<Value>, NoMemory> {
-    let mut values = Row::new(alloc);
-    for tree in trees {
-        values.push(value_of(alloc, tree)?)?;
-    }
-    Ok(values)
-}
-
 /// The values of which this is the text.
 fn read_values(alloc: Global, text: &[u8]) -> Result<Row<Value>, NoMemory> {
     let trees = read_row(alloc, text).map_err(|_| NoMemory)?;
-    values_of(alloc, trees.as_slice())
+    let mut values = Row::new(alloc);
+    for tree in trees.as_slice() {
+        values.push(value_of(alloc, tree)?)?;
+    }
+    Ok(values)
 }
 
 #[test]
@@ -104,20 +106,17 @@ fn values_of_all_kinds_in_order(rt: HostRuntime) -> Result<(), Fail> {
     Ok(())
 }
 
-/// A variable `n` for each of these values.
-fn env_of(alloc: Global, text: &[u8]) -> Result<Env, NoMemory> {
-    let values = read_values(alloc, text)?;
+/// A variable `n` of this value.
+fn env_of(alloc: Global, value: &Value) -> Result<Env, NoMemory> {
     let mut entries = Row::new(alloc);
-    for value in values.as_slice() {
-        let name = Name::from_slice(alloc, b"n")?;
-        entries.push((name, copy_value(alloc, value)?))?;
-    }
+    let copy = copy_value(alloc, value)?;
+    entries.push((Name::from_slice(alloc, b"n")?, copy))?;
     Ok(Env { entries })
 }
 
 #[test]
 fn an_environment_is_copied(rt: HostRuntime) -> Result<(), Fail> {
-    let env = env_of(rt.alloc(), ASCENDING)?;
+    let env = env_of(rt.alloc(), &Value::Bool(true))?;
     let copy = copy_env(rt.alloc(), &env)?;
     assert!(rt; same_env(&copy, &env));
     Ok(())

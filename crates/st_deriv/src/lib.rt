@@ -14,8 +14,6 @@ mod name;
 mod part;
 mod print;
 mod read;
-#[cfg(test)]
-mod tests;
 
 pub use law::one_text_one_line;
 pub use line::{Ending, Line, NodeLine, Ref};

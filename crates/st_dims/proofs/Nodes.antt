@@ -1,5 +1,5 @@
 -- What is mentioned in each form of expression.
-use Rattle.std.proofs.Common.{arith, ◌≡◌, ℕ, List, [], ◌++◌, map, ap, ◌∙◌}
+use Rattle.std.proofs.Common.{arith, ◌≡◌, ◌⊎◌, inl, inr, ℕ, List, [], ◌++◌, map, ap, ◌∙◌}
 use Rattle.std.proofs.lemmas.Grind.{common_steps}
 use Rattle.st_num.specs.declared.span.Span.{Span}
 use Rattle.st_el.specs.declared.expression.Exp.{Exp}
@@ -36,15 +36,22 @@ pub node-Slice :
     → mentions_node node at within ≡ mentions_exp whole within ++ mentions_exp from within ++ mentions_exp length within
 node-Slice node whole from length at within is = node-opened node _ at within (ap out-Node is ∙ v.outs-Slice whole from length)
 
-pub node-Update :
+node-Update :
     (node : Node) (whole : Exp) (path : List Seg) (part : Exp) (at : Span) (within : Within) → node ≡ v.Update whole path part
     → mentions_node node at within ≡ mentions_exp whole within ++ seen_in (map mentions_seg path) within ++ mentions_exp part within
 node-Update node whole path part at within is = node-opened node _ at within (ap out-Node is ∙ v.outs-Update whole path part)
 
-pub node-Extend :
+node-Extend :
     (node : Node) (whole : Exp) (path : List Seg) (part : Exp) (at : Span) (within : Within) → node ≡ v.Extend whole path part
     → mentions_node node at within ≡ mentions_exp whole within ++ seen_in (map mentions_seg path) within ++ mentions_exp part within
 node-Extend node whole path part at within is = node-opened node _ at within (ap out-Node is ∙ v.outs-Extend whole path part)
+
+pub node-Change :
+    (node : Node) (whole : Exp) (path : List Seg) (part : Exp) (at : Span) (within : Within)
+    → (node ≡ v.Update whole path part) ⊎ (node ≡ v.Extend whole path part)
+    → mentions_node node at within ≡ mentions_exp whole within ++ seen_in (map mentions_seg path) within ++ mentions_exp part within
+node-Change node whole path part at within (inl is) = node-Update node whole path part at within is
+node-Change node whole path part at within (inr is) = node-Extend node whole path part at within is
 
 pub node-Iter :
     (node : Node) (body : Exp) (count : Count) (at : Span) (within : Within) → node ≡ v.Iter body count

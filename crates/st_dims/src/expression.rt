@@ -126,16 +126,13 @@ fn mention_node(
     match node {
         Node::Name(name) => add_variable(alloc, name, at, within, mentions),
         Node::Atom(_) | Node::Bool(_) | Node::Number(_) | Node::Text(_) | Node::Eps => Ok(()),
-        Node::Seq(parts) => mention_exps(alloc, parts.as_slice(), within, mentions),
-        Node::Infix(left, _, right) => {
+        Node::Seq(parts) | Node::Tuple(parts) | Node::Call(_, parts) => {
+            mention_exps(alloc, parts.as_slice(), within, mentions)
+        }
+        Node::Infix(left, _, right) | Node::Binary(left, _, right) => {
             mention_exp(alloc, left.get(), within, mentions)?;
             mention_exp(alloc, right.get(), within, mentions)
         }
-        Node::Binary(left, _, right) => {
-            mention_exp(alloc, left.get(), within, mentions)?;
-            mention_exp(alloc, right.get(), within, mentions)
-        }
-        Node::Tuple(parts) => mention_exps(alloc, parts.as_slice(), within, mentions),
         Node::Not(inner)
         | Node::Neg(inner)
         | Node::Arith(inner)
@@ -153,17 +150,11 @@ fn mention_node(
             mention_exp(alloc, from.get(), within, mentions)?;
             mention_exp(alloc, length.get(), within, mentions)
         }
-        Node::Update(whole, path, part) => {
+        Node::Update(whole, path, part) | Node::Extend(whole, path, part) => {
             mention_exp(alloc, whole.get(), within, mentions)?;
             mention_path(alloc, path.as_slice(), within, mentions)?;
             mention_exp(alloc, part.get(), within, mentions)
         }
-        Node::Extend(whole, path, part) => {
-            mention_exp(alloc, whole.get(), within, mentions)?;
-            mention_path(alloc, path.as_slice(), within, mentions)?;
-            mention_exp(alloc, part.get(), within, mentions)
-        }
-        Node::Call(_, parts) => mention_exps(alloc, parts.as_slice(), within, mentions),
         Node::Iter(body, count) => {
             let inside = within.inside(alloc, count)?;
             let mut inner = Vec::new(alloc);

@@ -16,8 +16,6 @@ mod fault;
 mod mention;
 mod premise;
 mod table;
-#[cfg(test)]
-mod tests;
 mod within;
 
 pub use dimension::{dimensions_of, dims, mentions_of};

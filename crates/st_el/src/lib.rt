@@ -16,8 +16,6 @@ mod plain_expression;
 mod plain_parts;
 mod print;
 mod quote;
-#[cfg(test)]
-mod tests;
 mod ty;
 mod wrapping;
 

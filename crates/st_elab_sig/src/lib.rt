@@ -11,8 +11,6 @@
 mod laws;
 mod mode;
 mod signature;
-#[cfg(test)]
-mod tests;
 mod ty;
 
 pub use laws::{one_mode, signatures_erase_back};

@@ -17,4 +17,8 @@ mod printed;
 #[cfg(test)]
 mod rows;
 #[cfg(test)]
+mod sources;
+#[cfg(test)]
+mod tags;
+#[cfg(test)]
 mod tests;

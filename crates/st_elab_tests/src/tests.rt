@@ -203,11 +203,17 @@ fn read(rt: &impl Abort, alloc: Global, text: &str) -> Result<Row<Exp>, Fail> {
     parsed(alloc, tokens.as_slice())
 }
 
-/// What is told of the first expression of the text.
+/// The one expression of the text.
+pub(crate) fn first_exp(rt: &impl Abort, alloc: Global, text: &str) -> Result<Exp, Fail> {
+    let mut exps = read(rt, alloc, text)?;
+    let exp = exps.pop().ok_or("no expression")?;
+    Ok(exp)
+}
+
+/// What is told of the expression that is the text.
 fn told(rt: &impl Abort, alloc: Global, text: &str, ty: &str) -> Result<Vec<u8>, Fail> {
-    let exps = read(rt, alloc, text)?;
-    let exp = exps.as_slice().first().ok_or("no expression")?;
-    elaborated(rt, alloc, exp, ty)
+    let exp = first_exp(rt, alloc, text)?;
+    elaborated(rt, alloc, &exp, ty)
 }
 
 fn expect(rt: &impl Abort, alloc: Global, text: &str, ty: &str, wanted: &str) -> Result<(), Fail> {
@@ -226,42 +232,42 @@ fn expect_all(rt: &impl Abort, alloc: Global, rows: &[(&str, &str, &str)]) -> Re
 
 #[test]
 fn worked_rows(rt: HostRuntime) -> Result<(), Fail> {
-    expect_all(&rt, rt.alloc(), WORKED_ROWS.as_slice())
+    expect_all(&rt, rt.alloc(), &WORKED_ROWS)
 }
 
 #[test]
 fn forms_at_a_type(rt: HostRuntime) -> Result<(), Fail> {
-    expect_all(&rt, rt.alloc(), FORMS_AT_A_TYPE.as_slice())
+    expect_all(&rt, rt.alloc(), &FORMS_AT_A_TYPE)
 }
 
 #[test]
 fn records_and_cases(rt: HostRuntime) -> Result<(), Fail> {
-    expect_all(&rt, rt.alloc(), RECORDS_AND_CASES.as_slice())
+    expect_all(&rt, rt.alloc(), &RECORDS_AND_CASES)
 }
 
 #[test]
 fn items_of_sequences(rt: HostRuntime) -> Result<(), Fail> {
-    expect_all(&rt, rt.alloc(), ITEMS_OF_SEQUENCES.as_slice())
+    expect_all(&rt, rt.alloc(), &ITEMS_OF_SEQUENCES)
 }
 
 #[test]
 fn operators(rt: HostRuntime) -> Result<(), Fail> {
-    expect_all(&rt, rt.alloc(), OPERATORS.as_slice())
+    expect_all(&rt, rt.alloc(), &OPERATORS)
 }
 
 #[test]
 fn parts_and_joins(rt: HostRuntime) -> Result<(), Fail> {
-    expect_all(&rt, rt.alloc(), PARTS_AND_JOINS.as_slice())
+    expect_all(&rt, rt.alloc(), &PARTS_AND_JOINS)
 }
 
 #[test]
 fn names_and_calls(rt: HostRuntime) -> Result<(), Fail> {
-    expect_all(&rt, rt.alloc(), NAMES_AND_CALLS.as_slice())
+    expect_all(&rt, rt.alloc(), &NAMES_AND_CALLS)
 }
 
 #[test]
 fn places_of_breaches(rt: HostRuntime) -> Result<(), Fail> {
-    expect_all(&rt, rt.alloc(), PLACES_OF_BREACHES.as_slice())
+    expect_all(&rt, rt.alloc(), &PLACES_OF_BREACHES)
 }
 
 /// Two syntaxes, the later of which names the earlier one last.

@@ -21,8 +21,6 @@ mod small;
 mod small_il;
 mod tag_part;
 mod template;
-#[cfg(test)]
-mod tests;
 mod tree;
 mod ty;
 mod type_rule;

@@ -16,8 +16,6 @@ mod name;
 mod shape;
 mod small;
 mod small_line;
-#[cfg(test)]
-mod tests;
 
 pub use il::{print_il, read_il};
 pub use law::one_text_one_il;

@@ -15,8 +15,6 @@ mod note;
 mod start;
 mod step;
 mod tall;
-#[cfg(test)]
-mod tests;
 
 pub use height::{NotationHeight, measure_exp, measure_notation, measure_typ};
 pub use leave::leave_out;

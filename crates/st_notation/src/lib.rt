@@ -12,8 +12,6 @@ mod filled;
 mod fitting;
 mod key;
 mod share;
-#[cfg(test)]
-mod tests;
 
 pub use filled::{Filled, FitFault, Shape};
 pub use fitting::fit;

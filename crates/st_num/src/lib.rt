@@ -21,8 +21,6 @@ mod numeral;
 mod row;
 mod rule;
 mod span;
-#[cfg(test)]
-mod tests;
 mod word;
 
 pub use arithmetic::{add, compare, div_exact, mul, pow, rem, sub};

@@ -13,8 +13,6 @@ mod files;
 mod memory;
 mod sink;
 mod stdout;
-#[cfg(test)]
-mod tests;
 
 pub use disk::DiskFiles;
 pub use files::{Files, LoadFault};

@@ -16,8 +16,6 @@ mod measure;
 mod parser;
 mod sighting;
 mod survey;
-#[cfg(test)]
-mod tests;
 
 pub use laws::one_answer;
 pub use limits::LimitFaults;

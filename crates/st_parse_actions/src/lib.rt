@@ -11,8 +11,6 @@ mod ends;
 mod frame;
 mod laws;
 mod step;
-#[cfg(test)]
-mod tests;
 
 pub use laws::{tokens_build, tokens_emit};
 pub use step::{emit, finish};

@@ -20,8 +20,6 @@ mod premise;
 mod progress;
 mod reader;
 mod step;
-#[cfg(test)]
-mod tests;
 mod token;
 
 pub use class::{declared_names, token_class};

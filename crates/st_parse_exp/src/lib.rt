@@ -11,8 +11,6 @@ mod draft;
 mod judge;
 mod laws;
 mod parse;
-#[cfg(test)]
-mod tests;
 
 pub use laws::{expressions_are_read, faults_of_expressions, one_list_of_expressions, one_meaning};
 pub use parse::parse_exp;

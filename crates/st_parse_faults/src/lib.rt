@@ -18,8 +18,6 @@ mod place;
 mod reader;
 mod role;
 mod tally;
-#[cfg(test)]
-mod tests;
 
 pub use fault::TokenFault;
 pub use judge::{Seen, TokenVerdict, judge_token, nothing_counted};

@@ -14,8 +14,6 @@ mod number;
 mod read;
 mod scanner;
 mod sign;
-#[cfg(test)]
-mod tests;
 mod text;
 mod token;
 mod word;

@@ -16,8 +16,6 @@ mod number;
 mod print;
 mod quote;
 mod read;
-#[cfg(test)]
-mod tests;
 mod tree;
 mod word;
 

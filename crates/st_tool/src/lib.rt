@@ -22,8 +22,6 @@ mod reader;
 mod source;
 mod status;
 mod step;
-#[cfg(test)]
-mod tests;
 mod text;
 mod transcript;
 mod verification;

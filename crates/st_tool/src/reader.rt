@@ -7,8 +7,6 @@ ghost use Rattle.st_tool.specs.inner.SmallForm.{IsOfWords};
 
 mod check;
 mod line;
-#[cfg(test)]
-mod tests;
 mod word;
 
 use check::is_small;

@@ -12,5 +12,4 @@ pub mod SmallNodes
 pub mod SmallVerdicts
 pub mod SmallNotings
 pub mod Judging
-pub mod Light
 pub mod Feeding

@@ -12,8 +12,6 @@ mod fault;
 mod known;
 mod noted;
 mod small;
-#[cfg(test)]
-mod tests;
 mod typed;
 mod verdict;
 mod verifier;

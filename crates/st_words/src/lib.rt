@@ -15,8 +15,6 @@ mod name;
 mod number;
 mod read;
 mod table;
-#[cfg(test)]
-mod tests;
 
 pub use command::Command;
 pub use command_word::CommandWord;

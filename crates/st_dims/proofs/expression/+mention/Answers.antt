@@ -1,21 +1,21 @@
 use Rattle.std.proofs.Common.{◌≡◌, List, ◌++◌, map, ap, sym, ◌∙◌, subst, OnOk}
 use Rattle.st_el.specs.declared.expression.Node.TheVariants as v
 use Rattle.st_dims.specs.declared.mention.Mention.{Mention}
-use Rattle.st_dims.specs.Mentions.{mentions_exp, count_meaning, fields_seen, field_mentions}
+use Rattle.st_dims.specs.Mentions.{mentions_exp, mentions_seg, seen_in, count_meaning, fields_seen, field_mentions}
 use Rattle.st_dims.proofs.Counts.{marked_round}
-use Rattle.st_dims.proofs.Nodes.{node-At, node-Slice, node-Update, node-Extend, node-Iter, node-Fields, two_end, three_end, iterated_end}
+use Rattle.st_dims.proofs.Nodes.{node-At, node-Slice, node-Change, node-Iter, node-Fields, two_end, three_end, iterated_end}
 use Rattle.st_dims.proofs.expression.+mention.Goals as goal
 
 pub mention_node-returns-in-Fields : goal.mention_node-returns-in-Fields
 mention_node-returns-in-Fields t c =
     let P : List Mention → Type 0 = λ seen. OnOk c.mention_fields.result (c.mention_fields.new.mentions.items ≡ c.args.mentions.now.items ++ seen) in
-    subst P (ap (λ fields. fields_seen (map field_mentions fields) c.args.within.now) c.as_slice-in-Fields.ensures ∙ sym (node-Fields c.args.node.now c.in-Fields.fields c.args.at c.args.within.now c.in-Fields.is)) c.mention_fields.ensures
+    subst P (ap (λ fields. fields_seen (map field_mentions fields) c.args.within.now) c.as_slice.ensures ∙ sym (node-Fields c.args.node.now c.in-Fields.fields c.args.at c.args.within.now c.in-Fields.is)) c.mention_fields.ensures
 
 pub mention_node-returns-in_ok-mention_exp-in-At : goal.mention_node-returns-in_ok-mention_exp-in-At
 mention_node-returns-in_ok-mention_exp-in-At t c =
-    let P : List Mention → Type 0 = λ items. OnOk c.mention_exp-in-At-2.result (c.mention_exp-in-At-2.new.mentions.items ≡ items) in
-    let is = c.in-At.is ∙ ap (λ e. v.At e c.in-At.from) (sym c.get-in-At.ensures) ∙ ap (λ e. v.At c.get-in-At.result.now e) (sym c.get-in-At-2.ensures) in
-    subst P (two_end _ _ _ _ _ c.in_ok-mention_exp-in-At.ensures (node-At c.args.node.now _ _ c.args.at c.args.within.now is)) c.mention_exp-in-At-2.ensures
+    let P : List Mention → Type 0 = λ items. OnOk c.mention_exp-in-At.result (c.mention_exp-in-At.new.mentions.items ≡ items) in
+    let is = c.in-At.is ∙ ap (λ e. v.At e c.in-At.from) (sym c.get.ensures) ∙ ap (λ e. v.At c.get.result.now e) (sym c.get-in-At.ensures) in
+    subst P (two_end _ _ _ _ _ c.in_ok-mention_exp-in-At.ensures (node-At c.args.node.now _ _ c.args.at c.args.within.now is)) c.mention_exp-in-At.ensures
 
 pub mention_node-returns-in_ok-mention_exp-in-Slice-2 : goal.mention_node-returns-in_ok-mention_exp-in-Slice-2
 mention_node-returns-in_ok-mention_exp-in-Slice-2 t c =
@@ -27,19 +27,13 @@ mention_node-returns-in_ok-mention_exp-in-Slice-2 t c =
 
 pub mention_node-returns-in_ok-mention_path-in-Update : goal.mention_node-returns-in_ok-mention_path-in-Update
 mention_node-returns-in_ok-mention_path-in-Update t c =
+    let w = c.args.within.now in
     let P : List Mention → Type 0 = λ items. OnOk c.mention_exp-in-Update-2.result (c.mention_exp-in-Update-2.new.mentions.items ≡ items) in
-    let is = c.in-Update.is ∙ ap (λ e. v.Update e c.in-Update.path c.in-Update.part) (sym c.get-in-Update.ensures)
-    ∙ ap (λ e. v.Update c.get-in-Update.result.now e c.in-Update.part) (sym c.as_slice-in-Update.ensures)
-    ∙ ap (λ e. v.Update c.get-in-Update.result.now c.as_slice-in-Update.result.now e) (sym c.get-in-Update-2.ensures) in
-    subst P (three_end _ _ _ _ _ _ _ c.in_ok-mention_exp-in-Update.ensures c.in_ok-mention_path-in-Update.ensures (node-Update c.args.node.now _ _ _ c.args.at c.args.within.now is)) c.mention_exp-in-Update-2.ensures
-
-pub mention_node-returns-in_ok-mention_path-in-Extend : goal.mention_node-returns-in_ok-mention_path-in-Extend
-mention_node-returns-in_ok-mention_path-in-Extend t c =
-    let P : List Mention → Type 0 = λ items. OnOk c.mention_exp-in-Extend-2.result (c.mention_exp-in-Extend-2.new.mentions.items ≡ items) in
-    let is = c.in-Extend.is ∙ ap (λ e. v.Extend e c.in-Extend.path c.in-Extend.part) (sym c.get-in-Extend.ensures)
-    ∙ ap (λ e. v.Extend c.get-in-Extend.result.now e c.in-Extend.part) (sym c.as_slice-in-Extend.ensures)
-    ∙ ap (λ e. v.Extend c.get-in-Extend.result.now c.as_slice-in-Extend.result.now e) (sym c.get-in-Extend-2.ensures) in
-    subst P (three_end _ _ _ _ _ _ _ c.in_ok-mention_exp-in-Extend.ensures c.in_ok-mention_path-in-Extend.ensures (node-Extend c.args.node.now _ _ _ c.args.at c.args.within.now is)) c.mention_exp-in-Extend-2.ensures
+    let seen = node-Change c.args.node.now _ _ _ c.args.at w c.in-Update.is
+    ∙ ap (λ e. mentions_exp e w ++ seen_in (map mentions_seg c.in-Update.path) w ++ mentions_exp c.in-Update.part w) (sym c.get-in-Update.ensures)
+    ∙ ap (λ p. mentions_exp c.get-in-Update.result.now w ++ seen_in (map mentions_seg p) w ++ mentions_exp c.in-Update.part w) (sym c.as_slice-in-Update.ensures)
+    ∙ ap (λ e. mentions_exp c.get-in-Update.result.now w ++ seen_in (map mentions_seg c.as_slice-in-Update.result.now) w ++ mentions_exp e w) (sym c.get-in-Update-2.ensures) in
+    subst P (three_end _ _ _ _ _ _ _ c.in_ok-mention_exp-in-Update.ensures c.in_ok-mention_path-in-Update.ensures seen) c.mention_exp-in-Update-2.ensures
 
 pub mention_node-returns-in_ok-add_body-in-Iter : goal.mention_node-returns-in_ok-add_body-in-Iter
 mention_node-returns-in_ok-add_body-in-Iter t c =
