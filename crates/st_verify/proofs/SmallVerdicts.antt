@@ -164,7 +164,7 @@ module _ (s : Small) (small : IsSmall s) (notes : Notes) (broken : Answer) where
   node_tested node (inl names) first = node_named node names first
   node_tested node (inr (none, never)) first = subst (λ found. tests_node (il_of s) notes node found broken) (sym none) (not_known node never first)
 
-  node_verdict : (node : NodeLine) → FirstBreach (il_of s) notes (Node node) broken → Verdict (il_of s) notes (Node node) broken
+  pub node_verdict : (node : NodeLine) → FirstBreach (il_of s) notes (Node node) broken → Verdict (il_of s) notes (Node node) broken
   node_verdict node first =
       let line = Node node in
       asked_then (Keeps (il_of s) notes line V3) (IsInPlace notes line) (OfNode node (V5 ∷ V6 ∷ V4 ∷ V7 ∷ V9 ∷ V10 ∷ V11 ∷ [])) V3 (tests (il_of s) notes line) broken
