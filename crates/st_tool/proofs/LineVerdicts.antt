@@ -1,6 +1,6 @@
 -- The checker accepts the lines of a derivation of a small specification, one after another.
 use Rattle.std.proofs.Common.{◌≡◌, ℕ, ◌+◌, ◌≤◌, List, [], ◌∷◌, ◌++◌, Some, None, length, false, ◌∙◌, sym, ap, refl, subst, arith, inl, add-one, length-append}
-use Rattle.std.specs.Prelude.{slice_get, Contains, is_some, IsSomeAnd}
+use Rattle.std.specs.Prelude.{slice_get, Any, Contains, is_some, IsSomeAnd}
 use Rattle.std.specs.Option.{option_map, option_and_then}
 use Rattle.std.proofs.lemmas.List.Elements.{All-nil}
 use Rattle.st_deriv.specs.declared.line.Line.{Line}
@@ -18,7 +18,7 @@ use Rattle.st_tool.specs.declared.transcript.Ending.{Ending}
 use Rattle.st_tool.specs.Derivation.{last_line}
 use Rattle.st_tool.specs.inner.Nodes.{rule_node}
 use Rattle.st_tool.specs.Transcript.{atom_term}
-use Rattle.st_verify.specs.inner.SmallVerdict.{IsRuleNamed, Concludes}
+use Rattle.st_verify.specs.inner.SmallVerdict.{IsRelationNamed, IsRuleNamed, Concludes}
 use Rattle.st_verify.proofs.SmallDefinitions.{relation_there, rule_def_there}
 use Rattle.st_verify.proofs.SmallLines.{can_step, atom_inputs}
 use Rattle.st_verify.proofs.SmallTrees.{inputs-small, outputs-small}
@@ -52,7 +52,8 @@ pub node_verdict : (s : Small) (atom : List ℕ) (lines : List Line) (notes : No
     → Verdict (il_of s) notes (Node (rule_node s.relation rule)) None
 node_verdict s atom lines notes k rule small at is_rule =
     let node = rule_node s.relation rule in
-    let known = (relation_there s, rule_def_there s (IsRuleNamed s.relation rule.name) k rule is_rule (refl, refl)) in
+    let rule_there = rule_def_there s (IsRuleNamed s.relation rule.name) k rule is_rule (refl, refl) in
+    let known : Any (IsRelationNamed s.relation) (il_of s).defs × Any (IsRuleNamed s.relation rule.name) (il_of s).defs = (relation_there s, rule_there) in
     let values = rule_def_there s (Concludes node) k rule is_rule ((refl, refl), (atom_exp_value s.syntax rule.from, (atom_exp_value s.syntax rule.to, tt))) in
     verdict_of_node s small notes None node
     (inl ((omega (arith, at.same, at.some), at.ended), inl (known, inl (refl, inl (All-nil (IsNode notes), inl (values, inl (refl, inl (refl, inl (tt, refl)))))))))
