@@ -5,5 +5,4 @@ pub mod Declared
 pub mod Judged
 pub mod Soundness
 pub mod Judging
-pub mod Light
 pub mod Feeding
