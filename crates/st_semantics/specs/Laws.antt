@@ -1,7 +1,8 @@
 -- The laws of these definitions, as statements: each is a clause of `meaning_of_rules`. `Typed` is
 -- the typing of an internal language.
-use Rattle.std.specs.Prelude.{◌≡◌, ◌↔◌, ℕ, ◌≤◌, List, Option}
+use Rattle.std.specs.Prelude.{◌≡◌, ◌↔◌, ℕ, ◌≤◌, true, List, Option, Ok, Contains}
 use Rattle.st_deriv.specs.declared.line.Line.{Line}
+use Rattle.st_il.specs.declared.definition.ClauseDef.{ClauseDef}
 use Rattle.st_il.specs.declared.definition.Il.{Il}
 use Rattle.st_il.specs.declared.definition.RuleDef.{RuleDef}
 use Rattle.st_il.specs.declared.expression.IlExp.{IlExp}
@@ -13,10 +14,14 @@ use Rattle.st_semantics.specs.declared.notes.Notes.{Notes}
 use Rattle.st_semantics.specs.declared.outcome.Outcome.{Outcome}
 use Rattle.st_semantics.specs.declared.outcome.Outcome.TheVariants.{Deep}
 use Rattle.st_semantics.specs.Names.{Name}
-use Rattle.st_semantics.specs.ModeRules.{IsOtherwise}
-use Rattle.st_semantics.specs.Breaches.{KeepModes}
-use Rattle.st_semantics.specs.Kinds.{AreKinded}
-use Rattle.st_semantics.specs.Calls.{CallAt, ValueAt}
+use Rattle.st_semantics.specs.Definitions.{clauses_in}
+use Rattle.st_semantics.specs.Environments.{AgreeOn}
+use Rattle.st_semantics.specs.Orders.{is_order}
+use Rattle.st_semantics.specs.OrderOf.{order_of}
+use Rattle.st_semantics.specs.ModeRules.{IsOtherwise, bound_in_clause}
+use Rattle.st_semantics.specs.Breaches.{KeepModes, ClausesKeep}
+use Rattle.st_semantics.specs.Kinds.{AreKinded, ClausesNameOccurring, ListsOccurring}
+use Rattle.st_semantics.specs.Calls.{Chosen, TooDeep, CallAt, ValueAt}
 use Rattle.st_semantics.specs.Derivation.{Root, excluded, NoneBefore, IsValid}
 use Rattle.st_semantics.specs.Chains.{IsValidAt}
 use Rattle.st_semantics.specs.Transcript.{Term, Ending, Transcript}
@@ -37,15 +42,44 @@ IsDeepBelow il =
     (n m : ℕ) → n ≤ m → (env : Env) (e : IlExp) → ValueAt il m env e Deep
     → (ValueAt il n env e Deep → ⊥) → ⊥
 
+-- a call comes to one outcome at most
 abbrev pub CallsAreSingle : Il → Type 0
 CallsAreSingle il =
     (n : ℕ) (fun : Name) (vs : List Value) (o p : Outcome) → CallAt il n fun vs o
     → CallAt il n fun vs p → o ≡ p
 
--- Where the rules M1 to M7 are kept and iterated premises name only variables of their kind, an
--- outcome that is not Deep is the outcome at every larger depth.
+-- an expression comes to one outcome at most
+abbrev pub ExpressionsAreSingle : Il → Type 0
+ExpressionsAreSingle il =
+    (n : ℕ) (env : Env) (e : IlExp) (o p : Outcome) → ValueAt il n env e o → ValueAt il n env e p
+    → o ≡ p
+
+-- Two environments that choose a clause agree on all that it binds, and they are one where all
+-- variables that it lists occur in it.
+abbrev pub ChoosesOnce : Il → Type 0
+ChoosesOnce il =
+    (n : ℕ) (c : ClauseDef) → Contains (clauses_in il.defs) c → (vs : List Value) (a b : Env)
+    → Chosen il (CallAt il n) c vs a → Chosen il (CallAt il n) c vs b
+    → AgreeOn (bound_in_clause c c.premises) a b × (ListsOccurring c → a ≡ b)
+
+-- a clause that is chosen does not meet Deep
+abbrev pub ChosenIsNotDeep : Il → Type 0
+ChosenIsNotDeep il =
+    (n : ℕ) (c : ClauseDef) → Contains (clauses_in il.defs) c → (vs : List Value) (env : Env)
+    → Chosen il (CallAt il n) c vs env → TooDeep il (CallAt il n) c vs → ⊥
+
+-- Where clauses keep the rules M3, M4, M6 and M7 and iterated premises name only variables of their
+-- kind, an outcome that is not Deep is the outcome at every larger depth.
 abbrev pub LawOfDepths : Type 0
-LawOfDepths = (il : Il) → KeepModes il → AreKinded il → IsStable il × IsDeepBelow il
+LawOfDepths = (il : Il) → ClausesKeep il → AreKinded il → IsStable il × IsDeepBelow il
+
+-- Where clauses keep these rules and the iterated premises of clauses name only variables that
+-- occur inside, each clause is chosen under one environment at most, a clause that is chosen does
+-- not meet Deep, and calls and expressions come to one outcome at most.
+abbrev pub LawOfChoice : Type 0
+LawOfChoice =
+    (il : Il) → ClausesKeep il → ClausesNameOccurring il
+    → ChoosesOnce il × ChosenIsNotDeep il × CallsAreSingle il × ExpressionsAreSingle il
 
 -- ---- derivation
 
@@ -71,10 +105,10 @@ LawOfTranscripts =
     → Transcript il relation fuel term terms ending → Transcript il relation fuel term others other
     → (terms ≡ others) × (ending ≡ other)
 
--- a line has one verdict at most, where calls come to one outcome at most
+-- a line has one verdict at most
 abbrev pub LawOfVerdicts : Type 0
 LawOfVerdicts =
-    (il : Il) → CallsAreSingle il → (notes : Notes) (line : Line) (a b : Option VerifyRule)
+    (il : Il) → ClausesKeep il → ClausesNameOccurring il → (notes : Notes) (line : Line) (a b : Option VerifyRule)
     → Verdict il notes line a → Verdict il notes line b → a ≡ b
 
 -- Lines that are taken vouch for their nodes and steps, where the rules M1 to M7 are kept and
@@ -88,3 +122,14 @@ LawOfReading =
 abbrev pub LawOfAcceptance : (Il → Type 0) → Type 0
 LawOfAcceptance Typed =
     (il : Il) → AreKinded il → (lines : List Line) → Accepts Typed il lines → AreSound il lines
+
+-- ---- orders
+
+-- The order that a rule is run in is an executable one, and there is one wherever there is an
+-- executable order.
+abbrev pub LawOfOrders : Type 0
+LawOfOrders =
+    (il : Il) (rule : RuleDef)
+    → ((order : List ℕ) → order_of il rule ≡ Ok order → is_order il rule order ≡ true)
+    × ((order : List ℕ) → is_order il rule order ≡ true
+    → (chosen : List ℕ) × (order_of il rule ≡ Ok chosen))
