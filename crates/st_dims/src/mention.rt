@@ -24,7 +24,8 @@ pub struct Iteration {
     pub names: Row<Name>,
 }
 
-/// What bears on dimensions.
+/// What is mentioned in a rule or clause and bears on dimensions: a variable that occurs, the index
+/// of an iteration, or an iteration that has to iterate something.
 #[derive(Drop)]
 pub enum Mention {
     Occurs(Occurrence),

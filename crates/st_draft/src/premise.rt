@@ -89,7 +89,7 @@ pub(crate) fn put_parenthesis(draft: &mut Draft, token: &Token) -> Result<(), No
     Ok(())
 }
 
-/// `if` is read.
+/// The `if` of a condition is read.
 pub(crate) fn put_if(draft: &mut Draft, token: &Token)
     ensures { draft.new
         ≡ spec.with_premises (spec.condition_begun token.now None draft.old.premises) draft.old }

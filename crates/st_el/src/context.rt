@@ -150,7 +150,7 @@ impl Wrapping {
         }
     }
 
-    /// What is round the inside.
+    /// What the innermost brackets round a part are, where it is written in this wrapping.
     pub fn around_in(self, around: Around) -> Around
         ensures { result ≡ around_in self around }
     {

@@ -45,13 +45,16 @@ pub record HasOneOutcome (defs : List Def) : Type 0 where
 
 -- ---- erasure
 
+-- the notation has a template
 abbrev pub HasTemplate : Notation → Type 0
 HasTemplate n = IsTemplate (template_of n)
 
+-- the notations of all alternatives of a body have templates
 abbrev pub BodyHasTemplates : Body → Type 0
 BodyHasTemplates (Cases before cases after) = AllByRecursion HasTemplate cases
 BodyHasTemplates body = ⊤
 
+-- the notations in what is defined have templates
 abbrev pub NodeHasTemplates : DefNode → Type 0
 NodeHasTemplates (Syntax name fragment body) = BodyHasTemplates body
 NodeHasTemplates (Relation name n) = HasTemplate n

@@ -27,6 +27,7 @@ Fails D at (condition c) b = (Holds D c → ⊥) × (b ≡ broken at (rule_of c)
 Fails D at (rule r name conclusion premises) b = RuleBreachOf D r conclusion premises b
 Fails D at (clause name c) b = ClauseBreachOf D name at c b
 
+-- the breach as one of a part: its place and its rule, without its definition
 abbrev pub part_of : Breach → PartBreach
 part_of b = broken b.at b.rule
 
@@ -34,6 +35,7 @@ part_of b = broken b.at b.rule
 abbrev pub IsBrokenBy : Decls → Question → Breach → Type 0
 IsBrokenBy D q b = (b.definition ≡ q.definition) × Fails D q.placed.at q.placed.asked (part_of b)
 
+-- whatever is asked is as it should be
 abbrev pub AllPass : Decls → List Question → Type 0
 AllPass D [] = Unit {0}
 AllPass D (q ∷ qs) = Passes D q.placed.asked × AllPass D qs

@@ -23,6 +23,7 @@ use Rattle.st_elab_def.specs.Declarations.{is_declared_before}
 use Rattle.st_elab_def.specs.Fragments.{joins}
 use Rattle.st_elab_def.specs.DeclsOf.{type_node}
 
+-- a condition on a part of a source
 pub data Condition : Type 0 where
   -- no definition before this one declares the same
   new_declaration : (d : Definition) → Condition
@@ -41,6 +42,7 @@ pub data Condition : Type 0 where
   -- no rule of this relation before has this name
   new_rule : (before : List Def) (relation name : List ℕ) → Condition
 
+-- the rule that is broken where the condition is false
 abbrev pub rule_of : Condition → RuleId
 rule_of (new_declaration d) = B1
 rule_of (joining d name fragment b) = B5
@@ -51,6 +53,7 @@ rule_of (relation name) = B2
 rule_of (function name) = B2
 rule_of (new_rule before r name) = B6
 
+-- the type is a name
 abbrev pub IsNamed : Typ → Type 0
 IsNamed t = (name : List ℕ) × (type_node t ≡ TypNode-F.Name name)
 
@@ -60,6 +63,7 @@ is_rule r name (Rule other_relation other conclusion premises) =
     same_name r other_relation && same_name name other
 is_rule r name node = false
 
+-- one of these definitions is a rule of this relation and name
 abbrev pub has_rule : List ℕ → List ℕ → List Def → Bool
 has_rule r name defs = list_any (λ (def : Def). is_rule r name def.node) defs
 

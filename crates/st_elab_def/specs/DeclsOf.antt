@@ -35,16 +35,20 @@ use Rattle.st_elab_def.specs.Fragments.{joined}
 
 -- ---- syntaxes
 
+-- the top level of a type, without places
 abbrev pub type_node : Typ → TypNode-F TypNode Typ
 type_node t = out-TypNode (out-Typ t).node
 
+-- the top level of a notation, without its place
 abbrev pub not_node : Notation → NotNode-F NotNode Notation
 not_node n = out-NotNode (out-Notation n).node
 
+-- a type that is an alternative by itself includes the variant of its name, where it is a name
 abbrev pub bare_alternative : TypNode-F TypNode Typ → List Alternative
 bare_alternative (TypNode-F.Name name) = alternative.Incl name ∷ []
 bare_alternative node = []
 
+-- the alternative that a notation of this top level is, if it is one
 abbrev pub alternative_at : Notation → NotNode-F NotNode Notation → List Alternative
 alternative_at n (NotNode-F.Hole t) = bare_alternative (type_node t)
 alternative_at n node =
@@ -55,6 +59,7 @@ alternative_at n node =
 abbrev pub alternative_of : Notation → List Alternative
 alternative_of n = alternative_at n (not_node n)
 
+-- the field of a record in the internal language
 abbrev pub field_of : List ℕ × Typ → List ℕ × Ty
 field_of field = (field.0, ty_of field.1)
 
@@ -66,10 +71,12 @@ body_of (el_body.Fields fields) = body.Fields (map field_of fields)
 
 -- ---- relations
 
+-- the word is `in`
 abbrev pub is_input_kind : TokenKind → Bool
 is_input_kind (Low name) = same_name name (codes "in")
 is_input_kind kind = false
 
+-- the mode that the first of these hints says; without a hint none is said
 abbrev pub mode_by : List Hint → List Bool
 mode_by [] = []
 mode_by (hint ∷ hints) = map (λ (word : Token). is_input_kind word.kind) hint.words
@@ -78,6 +85,7 @@ mode_by (hint ∷ hints) = map (λ (word : Token). is_input_kind word.kind) hint
 abbrev pub mode_of : List Hint → List Bool
 mode_of hints = mode_by (filter is_mode hints)
 
+-- a relation with its hints in the internal language
 abbrev pub relation_of : List Hint → List ℕ → Notation → RelationDef
 relation_of hints name n =
     record {
@@ -89,6 +97,7 @@ relation_of hints name n =
 
 -- ---- declarations
 
+-- what is declared, with these hints, by what is defined
 abbrev pub declared_at : List Hint → DefNode → List IlDef
 declared_at hints (Syntax name fragment b) =
     il.Syntax (record { name = name; body = body_of b }) ∷ []
@@ -102,14 +111,17 @@ declared_at hints node = []
 abbrev pub declared_by : Def → List IlDef
 declared_by def = declared_at def.hints def.node
 
+-- the variable that a definition gives a type, if it gives one
 abbrev pub var_in : IlDef → List (List ℕ × Ty)
 var_in (il.Var name t) = (name, t) ∷ []
 var_in def = []
 
+-- the function that a definition declares, if it declares one
 abbrev pub fun_in : IlDef → List FunDef
 fun_in (il.Fun fun) = fun ∷ []
 fun_in def = []
 
+-- the relation that a definition declares, if it declares one
 abbrev pub relation_in : IlDef → List RelationDef
 relation_in (il.Relation relation) = relation ∷ []
 relation_in def = []

@@ -12,6 +12,7 @@ pub record Definition : Type 0 where
 abbrev pub number_of : Definition → ℕ
 number_of d = length d.before
 
+-- these definitions where they stand, behind those before them
 abbrev pub definitions_from : List Def → List Def → List Definition
 definitions_from before [] = []
 definitions_from before (def ∷ behind) =

@@ -30,6 +30,7 @@ dots_suit false true body = ends body
 dots_suit true true body = begins body
 dots_suit true false body = begins body && not (ends body)
 
+-- one of these definitions is a fragment of the syntax of this name
 abbrev pub has_fragment : List ℕ → List Def → Bool
 has_fragment name defs = list_any (is_fragment name) defs
 
@@ -45,6 +46,7 @@ joins d name (Some fragment) body =
 abbrev pub joined : List Def → List Def
 joined defs = joined_behind [] defs
 
+-- what is defined is a fragment, and one of its syntax stands before it
 abbrev pub is_later_at : Definition → DefNode → Bool
 is_later_at d (Syntax name (Some fragment) body) = has_fragment name d.before
 is_later_at d node = false

@@ -38,9 +38,11 @@ pub record Placed : Type 0 where
   pub at : Span
   pub asked : Asked
 
+-- what is asked at a place is whether this condition holds
 abbrev pub placed : Span → Condition → Placed
 placed at c = record { at = at; asked = condition c }
 
+-- what is asked at a place is whether this condition on syntaxes holds
 abbrev pub placed_type : Span → types.Condition → Placed
 placed_type at c = placed at (on_syntaxes c)
 
@@ -51,6 +53,7 @@ pub record Named : Type 0 where
   pub at : Span
   pub name : List ℕ
 
+-- the names in a level of types at this place, whose parts have these names in them
 abbrev pub named_at : TypNode-F (Span → List Named) (List Named) → Span → List Named
 named_at (TypNode-F.Name name) at = record { at = at; name = name } ∷ []
 named_at (TypNode-F.Star element) at = element
@@ -68,6 +71,7 @@ all_declared names = map (λ (n : Named). placed_type n.at (types.declared n.nam
 
 -- ---- the phase of declarations
 
+-- the declaration is new
 abbrev pub on_declaration : Definition → List Placed
 on_declaration d = placed d.def.at (new_declaration d) ∷ []
 
@@ -89,6 +93,7 @@ on_bare target so_far at t (TypNode-F.Name name) =
     ∷ placed_type at (types.keys so_far) ∷ []
 on_bare target so_far at t node = placed at (named t) ∷ []
 
+-- what is asked of an alternative, by the top level of its notation
 abbrev pub on_alternative_at : List ℕ → List Alternative → Notation → NotNode-F NotNode Notation
     → List Placed
 on_alternative_at target so_far n (NotNode-F.Hole t) =
@@ -113,6 +118,7 @@ on_alternatives target before (n ∷ ns) =
 abbrev pub on_field : Span → List (List ℕ × Ty) → List ℕ × Typ → List Placed
 on_field at before f = placed_type at (types.new_field before f.0) ∷ all_declared (names_in f.1)
 
+-- the fields of a record, behind those before them
 abbrev pub on_fields : Span → List (List ℕ × Ty) → List (List ℕ × Typ) → List Placed
 on_fields at before [] = []
 on_fields at before (f ∷ fs) = on_field at before f ++ on_fields at (before ++ field_of f ∷ []) fs
@@ -121,12 +127,14 @@ on_fields at before (f ∷ fs) = on_field at before f ++ on_fields at (before ++
 abbrev pub alternatives_before : List ℕ → List Def → List Alternative
 alternatives_before name before = flat_map alternative_of (alternatives name before)
 
+-- what is asked of the names in an alias, of the alternatives, or of the fields
 abbrev pub on_parts : Definition → List ℕ → Body → List Placed
 on_parts d name (Alias t) = flat_map (on_alias_name name) (names_in t)
 on_parts d name (Cases dots cases more) =
     on_alternatives name (alternatives_before name d.before) cases
 on_parts d name (Fields fields) = on_fields d.def.at [] fields
 
+-- what is asked of the body of a syntax, and of nothing else
 abbrev pub on_body_at : Definition → DefNode → List Placed
 on_body_at d (Syntax name fragment b) =
     placed d.def.at (joining d name fragment b) ∷ on_parts d name b
@@ -138,11 +146,13 @@ on_body d = on_body_at d d.def.node
 
 -- ---- the phase of signatures
 
+-- the hints of a relation say its mode, and the names in its types are declared
 abbrev pub on_relation : Def → Notation → List Placed
 on_relation def n =
     placed def.at (mode def.hints (length (holes_of n)))
     ∷ all_declared (flat_map names_in (holes_of n))
 
+-- what is asked of what is defined, where it has a signature
 abbrev pub on_signature_at : Definition → DefNode → List Placed
 on_signature_at d (Var name t) = all_declared (names_in t)
 on_signature_at d (Relation name n) = on_relation d.def n
@@ -167,6 +177,7 @@ abbrev pub on_clause : Span → List ℕ → ClauseParts → List Placed
 on_clause at name c =
     placed at (function name) ∷ record { at = at; asked = clause name c } ∷ []
 
+-- what is asked of what is defined, where it is a rule or a clause
 abbrev pub on_content_at : Definition → DefNode → List Placed
 on_content_at d (Rule r name conclusion premises) =
     on_rule d.before d.def.at r name conclusion premises
@@ -185,6 +196,7 @@ pub record Question : Type 0 where
   pub definition : ℕ
   pub placed : Placed
 
+-- what is asked at a place of this definition
 abbrev pub of_definition : Definition → Placed → Question
 of_definition d p = record { definition = number_of d; placed = p }
 

@@ -21,7 +21,7 @@ use Rattle.st_elab_table.specs.Questions.{Question, check, infer, hole, Made, Gi
 abbrev pub breach : Span → RuleId → Step
 breach at rule = Ends (Fails (record { at = at; rule = rule }))
 
--- this expression of this type, which is not spliced
+-- an expression of this type that is one element, not spliced
 abbrev pub made : IlExp → Ty → Made
 made x t = record { exp = x; ty = t; spliced = false }
 

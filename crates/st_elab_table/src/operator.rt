@@ -5,7 +5,7 @@ ghost use Rattle.st_elab_table.specs.Operators.{operator_of};
 
 use st_num::Mark;
 
-/// A kind of operator.
+/// What a sign between two operands does with them.
 #[derive(Clone, Copy, Debug, PartialEq, Eq)]
 pub enum Operator {
     /// It joins two truth values.

@@ -44,7 +44,7 @@ absent = record { exp = exp node.Eps; kind = kind.Absent }
 abbrev pub binary : Mark → Erased → Erased → Erased
 binary sign left right = plain_form (node.Binary (whole left) sign (whole right))
 
--- two operands of arithmetic, which need no `$( )` of their own
+-- the source of arithmetic on two operands, which need no `$( )` of their own
 abbrev pub operation : Mark → Erased → Erased → Erased
 operation sign left right = arithmetic (node.Binary left.exp sign right.exp)
 
@@ -66,7 +66,7 @@ pub data Item : Type 0 where
   one : Exp → Item
   all : Exp → Item
 
--- the source of an item of a list
+-- the expression in an item of a list
 abbrev pub source : Item → Exp
 source (one e) = e
 source (all e) = e

@@ -141,7 +141,8 @@ pub data State : Type 0 where
 abbrev pub syntax_whole : Head → Body → Defs
 syntax_whole (syntax_head ds w x ls hs e) b = more_defs ds (syntax_def w x ls hs e b)
 
--- the definitions with the rule or clause that these make
+-- the definitions with the rule or clause of this head, this conclusion or result, and these
+-- premises
 abbrev pub rule_whole : Rule → Tree → Premises → Defs
 rule_whole (rule_head ds w r ls c) t ps = more_defs ds (rule_def w r ls c t ps)
 rule_whole (clause_head ds w f a e) t ps = more_defs ds (clause_def w f a e t ps)
@@ -364,7 +365,7 @@ abbrev pub position_step : Position → Terminal → Option State
 position_step p l =
     first_of_two (own p l) (option_and_then (λ ds. begin_def ds l (keyword l)) (whole p))
 
--- the position behind a part that is read for this
+-- the position behind a part that is read for this slot
 abbrev pub filled : Slot → Tree → Position
 filled (field_slot h o ms pre) t = hinted (of_field h o ms pre t) no_hints
 filled (case_slot h ms pre) t = hinted (of_case h ms pre t) no_hints

@@ -29,49 +29,49 @@ pub fn prefix_right(mark: Mark) -> u8
     }
 }
 
-/// Whether it iterates an expression.
+/// Whether the sign iterates an expression.
 pub fn is_iteration_sign(mark: Mark) -> bool
     ensures { result ≡ levels.is_iteration_sign mark }
 {
     matches!(mark, Mark::Star | Mark::Plus | Mark::Question)
 }
 
-/// Whether it iterates a type.
+/// Whether the sign iterates a type.
 pub fn is_type_iteration_sign(mark: Mark) -> bool
     ensures { result ≡ levels.is_type_iteration_sign mark }
 {
     matches!(mark, Mark::Star | Mark::Question)
 }
 
-/// Whether it is `^`, which stands before a count.
+/// Whether the sign is `^`, which stands before a count.
 pub fn is_caret(mark: Mark) -> bool
     ensures { result ≡ levels.is_caret mark }
 {
     matches!(mark, Mark::Caret)
 }
 
-/// Whether it is `,`, which sets off a next part.
+/// Whether the sign is `,`, which sets off a next part.
 pub fn is_comma(mark: Mark) -> bool
     ensures { result ≡ levels.is_comma mark }
 {
     matches!(mark, Mark::Comma)
 }
 
-/// Whether it is `:`, which sets off the second end of a slice.
+/// Whether the sign is `:`, which sets off the second end of a slice.
 pub fn is_colon(mark: Mark) -> bool
     ensures { result ≡ levels.is_colon mark }
 {
     matches!(mark, Mark::Colon)
 }
 
-/// Whether it is `<`, which stands before the bound of an index.
+/// Whether the sign is `<`, which stands before the bound of an index.
 pub fn is_less(mark: Mark) -> bool
     ensures { result ≡ levels.is_less mark }
 {
     matches!(mark, Mark::Less)
 }
 
-/// Whether it is `=`, which puts a new value at a path, or `=++`, which extends a list there.
+/// Whether the sign is `=`, which puts a new value at a path, or `=++`, which extends a list there.
 pub fn is_change(mark: Mark) -> bool
     ensures { result ≡ levels.is_change mark }
 {

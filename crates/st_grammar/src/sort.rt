@@ -103,35 +103,35 @@ impl Sort {
         }
     }
 
-    /// Whether lengths, calls and elements at a position stand in it.
+    /// Whether lengths, calls and elements at a position stand in such a part.
     pub fn computes(self) -> bool
         ensures { result ≡ levels.computes self }
     {
         matches!(self, Sort::Expression(_) | Sort::Arithmetic)
     }
 
-    /// Whether it is an expression, directly between bars or not.
+    /// Whether such a part is an expression, directly between bars or not.
     pub fn is_expression(self) -> bool
         ensures { result ≡ levels.is_expression self }
     {
         matches!(self, Sort::Expression(_))
     }
 
-    /// Whether it is what stands behind `^`.
+    /// Whether such a part is the count behind `^`.
     pub fn is_count(self) -> bool
         ensures { result ≡ levels.is_count self }
     {
         matches!(self, Sort::Count)
     }
 
-    /// Whether parts one behind the other are a sequence in it.
+    /// Whether parts one behind the other are a sequence in such a part.
     pub fn juxtaposes(self) -> bool
         ensures { result ≡ levels.juxtaposes self }
     {
         matches!(self, Sort::Expression(_) | Sort::Notation)
     }
 
-    /// Whether signs of this level stand in it.
+    /// Whether signs of this level stand in such a part.
     pub fn has_level(self, level: u8) -> bool
         ensures { result ≡ levels.has_level self level }
     {

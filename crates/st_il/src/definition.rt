@@ -3,7 +3,7 @@
 use crate::{IlExp, IlPrem, Ty};
 use st_num::{Dim, Name, Row};
 
-/// A specification.
+/// A specification in the internal language.
 #[derive(Drop)]
 pub struct Il {
     pub defs: Row<IlDef>,

@@ -6,7 +6,7 @@ ghost use Rattle.st_il.specs.Occurrences.{occurs, occurs_in_count, occurs_in_ite
 use crate::{IlExp, IlPrem, Iteration, ListItem, PathSeg};
 use st_num::Name;
 
-/// What variables occur in.
+/// An expression or a premise, in which variables occur.
 pub trait HasVariables {
     /// The name occurs as a variable.
     ghost occurs: { Self → List ℕ → Bool };

@@ -12,7 +12,7 @@ use crate::template::{Role, TagPart, has_role};
 use st_num::{Mark, Name, NoMemory, Row};
 use std::alloc::Global;
 
-/// The parts that are spaced so, if there are any.
+/// The parts of a tag, with one space between them; none where the bytes are no such parts.
 pub fn tag_parts(alloc: Global, tag: &[u8]) -> Result<Option<Row<TagPart>>, NoMemory>
     ensures some { IfOk result (λ found. IfSome found (λ ws. AreTagParts ws tag.now)) }
     ensures none { IfOk result

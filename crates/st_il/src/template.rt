@@ -28,7 +28,7 @@ pub enum TagPart {
     Sign(Mark),
 }
 
-/// A kind of brackets.
+/// The brackets round a part of a notation, of which the opening one stands behind a backquote.
 #[derive(Clone, Copy, Debug, PartialEq, Eq)]
 pub enum Enclosure {
     Parens,

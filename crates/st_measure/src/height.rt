@@ -46,7 +46,7 @@ pub fn measure_typ(alloc: Global, actions: &[Action<'_>]) -> Result<usize, Build
     }
 }
 
-/// The same of a notation.
+/// The height of the notation that these actions build, and 101 where it is higher than 100.
 fn measure_whole(alloc: Global, actions: &[Action<'_>]) -> Result<usize, BuildFault>
     ensures { (n : Notation) → notation_built actions.now ≡ Some n
         → Measures (tall.notation_height n) result }

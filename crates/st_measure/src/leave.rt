@@ -64,7 +64,7 @@ fn put_others<'a>(
     Ok(())
 }
 
-/// Takes the occurrences of this name out of those that stand from there on.
+/// Takes the occurrences of this name out of those seen, from the one of number `from` on.
 pub fn leave_out<'a>(
     alloc: Global,
     seen: &mut Row<TokenRef<'a>>,

@@ -34,8 +34,8 @@ fn count(
     Ok(None)
 }
 
-/// Where the first name occurs that has as many others before it; none where there are no more
-/// names than that.
+/// Where the first name occurs that is one more than the limit allows; none where there are no more
+/// different names than that.
 pub fn place_past(
     alloc: Global,
     seen: &[TokenRef<'_>],

@@ -42,7 +42,7 @@ fn begin<'a>(
     })
 }
 
-/// A variable begins.
+/// Begins a piece that is a variable, and adds its occurrence.
 fn occur<'a>(
     starts: &mut Row<Start<'a>>,
     seen: &mut Row<TokenRef<'a>>,

@@ -36,7 +36,7 @@ fn operand_step<'a>(leaf: Leaf, token: &TokenRef<'a>) -> Step<'a>
     }
 }
 
-/// What this action does.
+/// What this action does to the pieces so far.
 pub fn step_of<'a>(action: &Action<'a>) -> Step<'a>
     ensures { result ≡ step_of action.now }
 {

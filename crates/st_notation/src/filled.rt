@@ -26,7 +26,7 @@ pub enum Filled<'a> {
     Missing,
 }
 
-/// Why no filling is given.
+/// Why an expression gives no fillings of a template: it does not fit, or memory is wanting.
 #[derive(Debug, Drop, PartialEq, Eq, Error)]
 pub enum FitFault {
     #[error("no fit")]

@@ -54,7 +54,7 @@ fn survey(alloc: Global, names: &[Name], tokens: &[Token]) -> Result<LimitFaults
     }
 }
 
-/// The same of the definitions that stand whole before the first token with a fault.
+/// What the limits ask of the definitions that stand whole before the first token with a fault.
 #[tactic(auto, using(crate::proofs::Fronts::within))]
 pub(crate) fn limit_faults(
     alloc: Global,

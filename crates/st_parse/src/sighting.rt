@@ -235,7 +235,7 @@ fn put_field(members: &mut MemberHeights, height: usize)
     members.fields = members.fields.max(height);
 }
 
-/// A type ends.
+/// The type of a field, of a variable or of a function ends, and its height is kept.
 fn put_typ<'a>(
     alloc: Global,
     survey: &mut Survey<'a>,
@@ -260,7 +260,7 @@ fn put_typ<'a>(
     }
 }
 
-/// A notation ends.
+/// The notation of an alternative or a relation ends, and its heights are kept.
 fn put_notation<'a>(
     alloc: Global,
     members: &mut MemberHeights,
@@ -293,7 +293,7 @@ fn put_exp<'a>(
     Ok(())
 }
 
-/// A count ends.
+/// A count ends, and is measured with the premise that it iterates.
 fn put_count<'a>(
     alloc: Global,
     premises: &mut PremiseMeasures<'a>,

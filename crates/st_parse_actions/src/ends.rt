@@ -111,7 +111,7 @@ fn position<'a>(filling: Filling) -> Action<'a>
     }
 }
 
-/// The action of the same as a step of a path.
+/// The action of a position as a step of a path, or of a position and how many elements.
 fn step_position<'a>(filling: Filling) -> Action<'a>
     ensures { result ≡ emits.step_act filling }
 {

@@ -47,7 +47,8 @@ pub enum Filling {
     Parts,
 }
 
-/// What leads to a last part.
+/// What waits for the part that is read, as the last of its own: a sign for its right side, or a
+/// sequence for its next element.
 #[derive(Clone, Copy, Debug, PartialEq, Eq)]
 pub enum Lead {
     /// A left side and its sign.

@@ -18,7 +18,7 @@ pub struct TokenClass {
     pub dot: bool,
 }
 
-/// What hints stand behind.
+/// What a hint stands behind.
 #[derive(Clone, Copy, Debug, PartialEq, Eq)]
 pub enum Host {
     Syntax,

@@ -43,7 +43,8 @@ pub fn types_are_built()
         → Fits typ t → notations.run (acts t) s ≡ Some (Hole (typ_meaning t) ∷ s) }
 {}
 
-/// The same of a notation, which is a type where all of it is one.
+/// The actions of a notation that the grammar allows put its meaning on the stack, as a type where
+/// all of it is one, and nothing else.
 #[tactic(auto, using(crate::proofs::NotationBuilds::notation_builds))]
 pub fn notations_are_built()
     ensures { (t : Tree) (s : notations.Stack)

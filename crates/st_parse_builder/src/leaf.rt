@@ -24,7 +24,7 @@ pub fn name_of(kind: &TokenKind) -> &[u8]
     }
 }
 
-/// A copy of that name.
+/// A copy of the name that a token spells.
 pub fn copy_name(alloc: Global, kind: &TokenKind) -> Result<Name, NoMemory>
     ensures { IfOk result (λ name. name ≡ name_of kind.now) }
 {

@@ -21,7 +21,7 @@ use st_num::{Boxed, Mark, NoMemory, Row};
 use st_scan::Token;
 use std::alloc::Global;
 
-/// The larger height.
+/// The larger of two heights.
 pub(crate) fn higher(left: u8, right: u8) -> u8
     ensures { result ≡ max left right }
 {
@@ -36,7 +36,7 @@ pub(crate) fn above(parts: u8) -> u8
     parts + 1
 }
 
-/// A finished part.
+/// A finished expression of this height.
 pub(crate) fn done(exp: Exp, height: u8) -> Made
     requires measured { height ≡ tall.height exp }
     requires low { height ≤ 101 }
@@ -98,7 +98,7 @@ pub(crate) fn times(alloc: Global, stack: &mut Row<Entry>) -> Result<Option<Made
     Ok(Some(done(exp, height)))
 }
 
-/// The same with an index, whose name stands between them.
+/// Makes the part on top the count of the one below, with an index whose name stands between them.
 #[tactic(auto, using(crate::proofs::Tallness::tall_below))]
 pub(crate) fn below(alloc: Global, stack: &mut Row<Entry>) -> Result<Option<Made>, NoMemory>
     ensures { IfOk result (λ made.

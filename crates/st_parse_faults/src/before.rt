@@ -12,7 +12,7 @@ use st_parse_automaton::{
 };
 use st_scan::{TokenKind, Word};
 
-/// What ends directly before a token.
+/// What the tokens before a refused one end with, where a form that is left out could go on.
 #[derive(Clone, Copy, Debug, PartialEq, Eq)]
 pub enum Before {
     /// The name of a syntax, with nothing behind it.

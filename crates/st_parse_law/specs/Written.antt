@@ -19,7 +19,7 @@ pub data Piece : Type 0 where
   space : Piece
   token : TokenKind → List ℕ → Piece
 
--- the bytes of pieces
+-- the bytes of a text that is written in these pieces, tokens and spaces
 abbrev pub bytes_of : List Piece → List ℕ
 bytes_of [] = []
 bytes_of (space ∷ ps) = 32 ∷ bytes_of ps

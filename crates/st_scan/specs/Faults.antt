@@ -24,7 +24,7 @@ closes_text (b ∷ c ∷ bs) =
     else if b == 92 then not (is_line_feed c) && closes_text bs
     else closes_text (c ∷ bs)
 
--- a control character, or a `\` that begins no escape
+-- at the front stands what no text has: a control character, or a `\` that begins no escape
 abbrev pub is_wrong : List ℕ → Bool
 is_wrong [] = false
 is_wrong (b ∷ []) = nat_lt b 32 || b == 92

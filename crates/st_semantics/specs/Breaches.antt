@@ -16,11 +16,12 @@ use Rattle.st_semantics.specs.ModeRules.{keeps_m3, keeps_m4, keeps_m6, keeps_m7,
 abbrev pub Standing : Type 0
 Standing = IlDef × List IlDef
 
+-- each of these definitions, with those behind it
 abbrev pub standings : List IlDef → List Standing
 standings [] = []
 standings (d ∷ ds) = (d, ds) ∷ standings ds
 
--- one of the rules behind it, of the same relation, has an `otherwise`
+-- a rule of the same relation behind this one has an `otherwise`
 abbrev pub is_decided_behind : RuleDef → List IlDef → Bool
 is_decided_behind rule after =
     list_any (λ (r : RuleDef). have_otherwise r.premises)
@@ -38,6 +39,9 @@ RuleBreaks il rule after M5 =
     (cites_nothing rule ≡ false) × (is_decided_behind rule after ≡ true)
 RuleBreaks il rule after _ = ⊥
 
+-- M3: a premise cannot be run at its place. M4: an argument is no pattern that binds its variables,
+-- or a list in a pattern has two parts of open length. M6: a variable of the result is unbound. M7:
+-- a premise cites a relation.
 abbrev pub ClauseBreaks : Il → ClauseDef → RuleId → Type 0
 ClauseBreaks il c M3 = keeps_m3 il c ≡ false
 ClauseBreaks il c M4 = keeps_m4 il c ≡ false

@@ -19,9 +19,11 @@ Answer = Option VerifyRule
 abbrev pub Test : Type 1
 Test = Answer → Type 0
 
+-- nothing is said against the line
 abbrev pub accepts : Test
 accepts answer = answer ≡ None
 
+-- the line is refused by this rule
 abbrev pub refuses : VerifyRule → Test
 refuses rule answer = answer ≡ Some rule
 
@@ -40,6 +42,7 @@ and_then first second answer =
 
 -- ---- evaluations, which are at 500
 
+-- how many calls may be open at once where a line is tested
 abbrev pub checking_depth : ℕ
 checking_depth = 500
 

@@ -23,7 +23,7 @@ use Rattle.st_semantics.specs.Checks.{Test, accepts, refuses, asks, forbids, and
 abbrev pub in_trial : Il → Setting
 in_trial il = in_rule il checking_depth (Unit {0})
 
--- the same with every value taken at 500
+-- where an earlier rule is tried with every value taken at 500
 abbrev pub in_trial_at : Il → Setting
 in_trial_at il = record {
   il = il;
@@ -41,6 +41,7 @@ pub record GivesOutputs (s : Setting) (rule : RuleDef) (inputs : List Value) : T
   pub outputs : List Value
   pub values : HaveValues s.meaning (tasks env (outputs_of_rule s.il rule)) outputs
 
+-- the rule meets Deep at 500 where it is tried with its premises in this order
 abbrev pub IsDeepTrial : Il → RuleDef → List ℕ → List Value → Type 0
 IsDeepTrial il rule order inputs = (number : ℕ) × MeetsDeep (in_trial il) rule order inputs number
 
@@ -67,10 +68,12 @@ HasShape true number None = ⊥
 HasShape false number (Some orders) = ⊥
 HasShape false number None = Unit {0}
 
+-- the earlier rules are tried by the evidence, where there is any
 abbrev pub try_all : Il → List Value → List RuleDef → Option (List (List ℕ)) → Test
 try_all il inputs rules None = accepts
 try_all il inputs rules (Some orders) = try_each il inputs rules orders
 
+-- V10: the evidence of a node has its shape, and none of the earlier rules gives outputs by it
 abbrev pub excludes : Il → NodeLine → ℕ → RuleDef → Test
 excludes il node number rule =
     and_then (asks (HasShape (have_otherwise rule.premises) number node.evidence) V10)

@@ -14,10 +14,11 @@ AreInputs il relation vs =
     IsSomeAnd (relation_named il relation)
     (λ (r : RelationDef). AreTypedValues (syntaxes il) (inputs_of il relation r.holes) vs)
 
+-- what is asked of a relation: which outputs it derives from these inputs
 pub record Goal : Type 0 where
   pub relation : Name
   pub inputs : List Value
 
--- its inputs are typed
+-- the inputs of the goal are typed
 abbrev pub IsGoal : Il → Goal → Type 0
 IsGoal il g = AreInputs il g.relation g.inputs

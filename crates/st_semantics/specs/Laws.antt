@@ -118,7 +118,7 @@ LawOfReading =
     (il : Il) → KeepModes il → AreKinded il → (lines : List Line) (notes : Notes)
     → ReadsTo il lines notes → AreSound il lines
 
--- so do accepted lines
+-- Accepted lines vouch for their nodes and steps.
 abbrev pub LawOfAcceptance : (Il → Type 0) → Type 0
 LawOfAcceptance Typed =
     (il : Il) → AreKinded il → (lines : List Line) → Accepts Typed il lines → AreSound il lines

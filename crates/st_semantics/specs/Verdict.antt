@@ -25,6 +25,8 @@ use Rattle.st_semantics.specs.Evidence.{excludes}
 
 -- ---- V3: a line stands where one of its kind belongs, and before the end
 
+-- The first line names format 1, the term is on the second, and all others stand behind these; an
+-- end line has no line behind it.
 abbrev pub IsInPlace : Notes → Line → Type 0
 IsInPlace notes (Head format relation) =
     (length notes.lines ≡ 0) × (notes.ended ≡ false) × (format ≡ 1)
@@ -41,13 +43,16 @@ CanStep il relation = IsSomeAnd (relation_named il relation) (IsStepping il)
 
 -- ---- V4: the lines that are cited are those of nodes
 
+-- the lines in a level of children, whose parts have these lines in them
 abbrev pub lines_cited_at : Ref-F (List ℕ) → List ℕ
 lines_cited_at (Ref-F.Line line) = line ∷ []
 lines_cited_at (Ref-F.Many children) = flat_map (λ (lines : List ℕ). lines) children
 
+-- the lines that stand in the children of a node, in order
 abbrev pub lines_cited : List Ref → List ℕ
 lines_cited children = flat_map (fold-Ref (List ℕ) lines_cited_at) children
 
+-- the line of this number is that of a node
 abbrev pub IsNode : Notes → ℕ → Type 0
 IsNode notes line = IsSome (judgement_on notes line)
 
@@ -57,6 +62,7 @@ IsNode notes line = IsSome (judgement_on notes line)
 abbrev pub Found : Type 0
 Found = ℕ × RuleDef
 
+-- the first of these rules that has this name
 abbrev pub find_rule : Name → List Found → Option Found
 find_rule name [] = None
 find_rule name (r ∷ rs) = if bytes_eq name r.1.name then Some r else find_rule name rs
@@ -87,6 +93,7 @@ Continues il notes j =
 
 -- ---- lines
 
+-- what is asked of a line that is in place, by its kind
 abbrev pub tests : Il → Notes → Line → Test
 tests il notes (Head format relation) = asks (CanStep il relation) V5
 tests il notes (From values) = asks (IsSomeAnd notes.relation

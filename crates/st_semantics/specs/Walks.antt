@@ -53,9 +53,11 @@ abbrev pub IsTakenFor : List Ref → TakenChild → Type 0
 IsTakenFor inner None = inner ≡ []
 IsTakenFor inner (Some child) = out-Ref child ≡ Ref-F.Many inner
 
+-- the child is not one line, as a goal has it
 abbrev pub IsNoLine : Ref → Type 0
 IsNoLine child = (line : ℕ) → out-Ref child ≡ Ref-F.Line line → ⊥
 
+-- the child is one line, as a goal has it
 abbrev pub IsOneLine : Ref → Type 0
 IsOneLine child = (line : ℕ) × (out-Ref child ≡ Ref-F.Line line)
 

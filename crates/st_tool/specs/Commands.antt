@@ -96,8 +96,8 @@ RunGives IsText relation term file status bytes =
 
 -- ---- verification
 
--- Of the text of an internal language and of lines it is said whether they are accepted;
--- other files are not built.
+-- What `verify` answers: of an internal language and lines whether they are accepted, and of other
+-- files that they are not built.
 abbrev pub VerifyGives : List ℕ → List ℕ → Status → List ℕ → Type 0
 VerifyGives il_bytes derivation status bytes =
     ((il : Il) × (lines : List Line) × (rest : List ℕ) × AreTexts il_bytes derivation il lines rest

@@ -85,7 +85,7 @@ pub fn run_file(alloc: Global, relation: &str, term: &[u8], file: &[u8]) -> Resu
     }
 }
 
-/// Derives such a run.
+/// Runs a relation of the specification in a file, from the term in another, and derives each step.
 pub fn derive_file(
     alloc: Global,
     relation: &str,

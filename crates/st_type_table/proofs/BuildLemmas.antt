@@ -3,12 +3,12 @@ use Rattle.std.proofs.Common.{◌≡◌, ◌≢◌, refl, sym, ap, ◌∙◌, su
 use Rattle.std.specs.Prelude.{slice_get, slice_index}
 use Rattle.std.specs.List.{flat_map}
 use Rattle.std.proofs.lemmas.Option.{slice_get_within}
-use Rattle.st_num.specs.declared.rule.RuleId.{RuleId}
 use Rattle.st_il.specs.declared.definition.SyntaxDef.{SyntaxDef}
 use Rattle.st_il.specs.declared.definition.SyntaxBody.{SyntaxBody}
 use Rattle.st_il.specs.declared.definition.SyntaxBody.TheVariants as body
 use Rattle.st_il.specs.declared.definition.Alternative.{Alternative}
 use Rattle.st_il.specs.declared.definition.Alternative.TheVariants as alternative
+use Rattle.st_type_table.specs.declared.fault.Broken.{Broken}
 use Rattle.st_type_table.specs.declared.fault.TypeFault.TheVariants as fault
 use Rattle.st_type_table.specs.Meaning.{body_of}
 use Rattle.st_type_table.specs.Leads.{Among, leads_to, included, names_in, Leads}
@@ -28,13 +28,11 @@ sound-next defs at s f i h d g = by (same_place i at)
     by (inl e) = subst (λ n. AllHold defs (conditions_on (take n defs) d)) (sym e) (f d (ap (slice_get defs) (sym e) ∙ g))
     by (inr n) = s i (omega (arith, h, n)) d g
 
-pub breach-is : (defs : List SyntaxDef) (at part : ℕ) (rule : RuleId) (s p : ℕ) (r : RuleId) → fault.Refused at part rule ≡ fault.Refused s p r
-    → FirstBreach defs at part rule → FirstBreach defs s p r
-breach-is defs at part rule s p r e b =
+pub breach-is : (defs : List SyntaxDef) (at : ℕ) (b : Broken) (s : ℕ) (other : Broken) → fault.Refused at b ≡ fault.Refused s other → FirstBreach defs at b → FirstBreach defs s other
+breach-is defs at b s other e h =
     let x : at ≡ s = cc in
-    let y : part ≡ p = cc in
-    let z : rule ≡ r = cc in
-    subst (λ n. FirstBreach defs n p r) x (subst (λ n. FirstBreach defs at n r) y (subst (FirstBreach defs at part) z b))
+    let y : b ≡ other = cc in
+    subst (λ n. FirstBreach defs n other) x (subst (FirstBreach defs at) y h)
 
 -- ---- nothing leads back to itself
 
@@ -46,10 +44,10 @@ pub back_hold : (defs : List SyntaxDef) (ps qs : List Placed) → AllHold defs (
 back_hold defs [] qs h = h
 back_hold defs (p ∷ ps) qs h = back_hold defs ps qs h.1
 
-alias_returns : (defs : List SyntaxDef) (target : List ℕ) (names : List (List ℕ)) → AllHold defs (on_alias target names) → (name : List ℕ) → Among names name → Leads defs name target → ⊥
-alias_returns defs target [] h name a l = absurd a
-alias_returns defs target (x ∷ names) h name (inl e) l = h.1.0 (subst (λ n. Leads defs n target) e l)
-alias_returns defs target (x ∷ names) h name (inr a) l = alias_returns defs target names h.1.1 name a l
+alias_returns : (defs : List SyntaxDef) (target : List ℕ) (number : ℕ) (names : List (List ℕ)) → AllHold defs (on_alias target number names) → (name : List ℕ) → Among names name → Leads defs name target → ⊥
+alias_returns defs target number [] h name a l = absurd a
+alias_returns defs target number (x ∷ names) h name (inl e) l = h.1.0 (subst (λ n. Leads defs n target) e l)
+alias_returns defs target number (x ∷ names) h name (inr a) l = alias_returns defs target (suc number) names h.1.1 name a l
 
 parts_return : (defs : List SyntaxDef) (target : List ℕ) (part : ℕ) (before parts : List Alternative) → AllHold defs (on_alternatives target part before parts)
     → (name : List ℕ) → Among (flat_map included parts) name → Leads defs name target → ⊥
@@ -64,7 +62,7 @@ parts_return defs target part before (alternative.Incl x ∷ parts) h name (inr 
     (back_hold defs (on_alternative target part (before ++ alternative.Incl x ∷ []) (alternative.Incl x)) (on_alternatives target (suc part) (before ++ alternative.Incl x ∷ []) parts) h) name a l
 
 body_returns : (defs : List SyntaxDef) (target : List ℕ) (b : SyntaxBody) → AllHold defs (on_body target b) → (name : List ℕ) → Among (leads_to b) name → Leads defs name target → ⊥
-body_returns defs target (body.Alias t) h name a l = alias_returns defs target (names_in t) h name a l
+body_returns defs target (body.Alias t) h name a l = alias_returns defs target 0 (names_in t) h name a l
 body_returns defs target (body.Variant parts) h name a l = parts_return defs target 0 [] parts h name a l
 body_returns defs target (body.Fields fs) h name a l = absurd a
 

@@ -1,8 +1,6 @@
 -- A variant has one list of cases and a record one list of fields, and what is neither has none.
 use Rattle.std.proofs.Common.{◌≡◌, sym, ap, ◌∙◌, subst, ℕ, List, [], ◌∷◌, ◌++◌, Option, Some, None}
 use Rattle.std.specs.Prelude.{MatchOption, IfNone, IfSome}
-use Rattle.std.specs.Borrow.{Bor}
-use Rattle.std.specs.Option.{option_copied}
 use Rattle.st_il.specs.declared.ty.Ty.{Ty, out-Ty}
 use Rattle.st_il.specs.declared.ty.Ty.TheOpen.{Ty-F}
 use Rattle.st_il.specs.declared.ty.Ty.TheVariants as ty
@@ -13,7 +11,7 @@ use Rattle.st_il.specs.declared.definition.Alternative.TheVariants as alternativ
 use Rattle.st_type_table.specs.declared.entry.CaseDef.{CaseDef}
 use Rattle.st_type_table.specs.declared.entry.Entry.{Entry}
 use Rattle.st_type_table.specs.Meaning.{Means, alias_of, alternatives_of, fields_of, listed, recorded, aliased}
-use Rattle.st_type_table.specs.Cases.{Brings, Flatten, HasCases, HasFields, operands_of, or_none}
+use Rattle.st_type_table.specs.Cases.{Brings, Flatten, HasCases, HasFields, or_none}
 use Rattle.st_type_table.specs.inner.Kept.{Kept, defs_of, entry_named, entry_at, IsKept, AllSettled, IsSettled}
 use Rattle.st_type_table.proofs.KeptLemmas.{named-kept, bodied}
 use Rattle.st_type_table.proofs.MeansLemmas.{Means-single}

@@ -1,54 +1,53 @@
 -- What is found among conditions, and what the rest of them says of all.
-use Rattle.std.proofs.Common.{◌≡◌, ◌↔◌, refl, sym, ap, ◌∙◌, ℕ, List, [], ◌∷◌, ◌++◌, Option, Some, None, inl, inr}
+use Rattle.std.proofs.Common.{◌≡◌, ◌↔◌, refl, sym, ap, ◌∙◌, ℕ, suc, List, [], ◌∷◌, ◌++◌, Option, Some, None, inl, inr}
 use Rattle.std.specs.Prelude.{IsTrue, Bool, slice_index, ◌<◌}
 use Rattle.st_num.specs.declared.rule.RuleId.{RuleId}
-use Rattle.st_num.specs.declared.rule.RuleId.TheVariants.{B2, B4}
 use Rattle.st_il.specs.declared.definition.SyntaxDef.{SyntaxDef}
 use Rattle.st_type_table.specs.Meaning.{body_of, Means, named, listed, aliased, alternatives_of}
-use Rattle.st_type_table.specs.Leads.{Leads}
 use Rattle.st_type_table.specs.inner.Graph.{place_of, AreRanks, graph_of}
-use Rattle.st_type_table.specs.Breach.{IsVariant, declared, no_return, on_alias, Condition, Holds, Placed, AllHold, FirstFalse, Finds, rule_of}
+use Rattle.st_type_table.specs.Breach.{IsVariant, declared, no_return, on_alias, Holds, Placed, placed_name, AllHold, broken, FirstFalse, Finds}
 use Rattle.st_il.specs.declared.ty.Ty.{Ty}
 use Rattle.st_il.specs.declared.ty.Ty.TheVariants as ty
-use Rattle.st_type_table.specs.inner.Checking.{IsEnding, IsListed}
+use Rattle.st_type_table.specs.declared.fault.Broken.{Broken}
+use Rattle.st_type_table.specs.inner.Checking.{NameBreaks, IsEnding, IsListed}
 use Rattle.st_type_table.proofs.MeansLemmas.{Means-single}
 use Rattle.st_type_table.proofs.FlatLemmas.{name-level}
 use Rattle.st_type_table.proofs.PlaceLemmas.{placed, unplaced, EndsAt-Ends, Ends-EndsAt}
 
 -- what is found among the rest is found among all
 abbrev pub Rest : List SyntaxDef → List Placed → List Placed → Type 0
-Rest defs rest all = (found : Option (ℕ × RuleId)) → Finds defs rest found → Finds defs all found
+Rest defs rest all = (found : Option Broken) → Finds defs rest found → Finds defs all found
 
 -- a condition that holds is passed over
-pub Finds-hold : (defs : List SyntaxDef) (p : Placed) (ps : List Placed) (found : Option (ℕ × RuleId)) → Holds defs p.1 → Finds defs ps found → Finds defs (p ∷ ps) found
+pub Finds-hold : (defs : List SyntaxDef) (p : Placed) (ps : List Placed) (found : Option Broken) → Holds defs p.condition → Finds defs ps found → Finds defs (p ∷ ps) found
 Finds-hold defs p ps None h f = (h, f)
 Finds-hold defs p ps (Some x) h f = inr (h, f)
 
 -- a condition that is false is found
-pub Finds-false : (defs : List SyntaxDef) (part : ℕ) (c : Condition) (ps : List Placed) → (Holds defs c → ⊥) → Finds defs ((part, c) ∷ ps) (Some (part, rule_of c))
-Finds-false defs part c ps h = inl (h, refl, refl)
+pub Finds-false : (defs : List SyntaxDef) (p : Placed) (ps : List Placed) → (Holds defs p.condition → ⊥) → Finds defs (p ∷ ps) (Some (broken p))
+Finds-false defs p ps h = inl (h, refl)
 
 AllHold-append : (defs : List SyntaxDef) (ps qs : List Placed) → AllHold defs ps → AllHold defs qs → AllHold defs (ps ++ qs)
 AllHold-append defs [] qs h g = g
 AllHold-append defs (p ∷ ps) qs h g = (h.0, AllHold-append defs ps qs h.1 g)
 
-FirstFalse-front : (defs : List SyntaxDef) (ps qs : List Placed) (part : ℕ) (rule : RuleId) → FirstFalse defs ps part rule → FirstFalse defs (ps ++ qs) part rule
-FirstFalse-front defs [] qs part rule h = absurd h
-FirstFalse-front defs (p ∷ ps) qs part rule (inl h) = inl h
-FirstFalse-front defs (p ∷ ps) qs part rule (inr h) = inr (h.0, FirstFalse-front defs ps qs part rule h.1)
+FirstFalse-front : (defs : List SyntaxDef) (ps qs : List Placed) (b : Broken) → FirstFalse defs ps b → FirstFalse defs (ps ++ qs) b
+FirstFalse-front defs [] qs b h = absurd h
+FirstFalse-front defs (p ∷ ps) qs b (inl h) = inl h
+FirstFalse-front defs (p ∷ ps) qs b (inr h) = inr (h.0, FirstFalse-front defs ps qs b h.1)
 
-FirstFalse-back : (defs : List SyntaxDef) (ps qs : List Placed) (part : ℕ) (rule : RuleId) → AllHold defs ps → FirstFalse defs qs part rule → FirstFalse defs (ps ++ qs) part rule
-FirstFalse-back defs [] qs part rule h g = g
-FirstFalse-back defs (p ∷ ps) qs part rule h g = inr (h.0, FirstFalse-back defs ps qs part rule h.1 g)
+FirstFalse-back : (defs : List SyntaxDef) (ps qs : List Placed) (b : Broken) → AllHold defs ps → FirstFalse defs qs b → FirstFalse defs (ps ++ qs) b
+FirstFalse-back defs [] qs b h g = g
+FirstFalse-back defs (p ∷ ps) qs b h g = inr (h.0, FirstFalse-back defs ps qs b h.1 g)
 
 -- what is found in the first of two lists
-pub Finds-front : (defs : List SyntaxDef) (ps qs : List Placed) (x : ℕ × RuleId) → Finds defs ps (Some x) → Finds defs (ps ++ qs) (Some x)
-Finds-front defs ps qs x h = FirstFalse-front defs ps qs x.0 x.1 h
+pub Finds-front : (defs : List SyntaxDef) (ps qs : List Placed) (x : Broken) → Finds defs ps (Some x) → Finds defs (ps ++ qs) (Some x)
+Finds-front defs ps qs x h = FirstFalse-front defs ps qs x h
 
 -- what is found in the second, where nothing is in the first
-pub Finds-back : (defs : List SyntaxDef) (ps qs : List Placed) (found : Option (ℕ × RuleId)) → Finds defs ps None → Finds defs qs found → Finds defs (ps ++ qs) found
+pub Finds-back : (defs : List SyntaxDef) (ps qs : List Placed) (found : Option Broken) → Finds defs ps None → Finds defs qs found → Finds defs (ps ++ qs) found
 Finds-back defs ps qs None h g = AllHold-append defs ps qs h g
-Finds-back defs ps qs (Some x) h g = FirstFalse-back defs ps qs x.0 x.1 h g
+Finds-back defs ps qs (Some x) h g = FirstFalse-back defs ps qs x h g
 
 -- a name with a place is declared
 pub is-declared : (defs : List SyntaxDef) (name : List ℕ) (p : ℕ) → place_of defs name ≡ Some p → body_of defs name ≡ None → ⊥
@@ -91,15 +90,13 @@ variant-exact defs name t r i m h = (
 
 -- ---- a name in an alias
 
-pub alias-undeclared : (defs : List SyntaxDef) (target name : List ℕ) (names : List (List ℕ)) → place_of defs name ≡ None → Finds defs (on_alias target (name ∷ names)) (Some (0, B2))
-alias-undeclared defs target name names e = inl ((λ h. h (unplaced defs name e)), refl, refl)
+module _ (defs : List SyntaxDef) (target name : List ℕ) (number : ℕ) (names : List (List ℕ)) where
+  pub alias-breaks : (rule : RuleId) → NameBreaks defs target name (Some rule) → Finds defs (on_alias target number (name ∷ names)) (Some (record { part = 0; name = number; rule = rule }))
+  alias-breaks rule (inl (h, e)) = inl (h, ap (λ r. record { part = 0; name = number; rule = r }) e)
+  alias-breaks rule (inr (h, (g, e))) = inr (h, inl (g, ap (λ r. record { part = 0; name = number; rule = r }) e))
 
-pub alias-returns : (defs : List SyntaxDef) (target name : List ℕ) (names : List (List ℕ)) (p : ℕ) → place_of defs name ≡ Some p → Leads defs name target
-    → Finds defs (on_alias target (name ∷ names)) (Some (0, B4))
-alias-returns defs target name names p e l = inr (is-declared defs name p e, inl ((λ h. h l), refl, refl))
-
-pub alias-passes : (defs : List SyntaxDef) (target name : List ℕ) (names : List (List ℕ)) (p : ℕ) (found : Option (ℕ × RuleId)) → place_of defs name ≡ Some p → (Leads defs name target → ⊥)
-    → Finds defs (on_alias target names) found → Finds defs (on_alias target (name ∷ names)) found
-alias-passes defs target name names p found e l f =
-    Finds-hold defs (0, declared name) ((0, no_return name target) ∷ on_alias target names) found (is-declared defs name p e)
-    (Finds-hold defs (0, no_return name target) (on_alias target names) found l f)
+  pub alias-passes : (found : Option Broken) → NameBreaks defs target name None → Finds defs (on_alias target (suc number) names) found
+      → Finds defs (on_alias target number (name ∷ names)) found
+  alias-passes found h f =
+      Finds-hold defs (placed_name 0 number (declared name)) (placed_name 0 number (no_return name target) ∷ on_alias target (suc number) names) found h.0
+      (Finds-hold defs (placed_name 0 number (no_return name target)) (on_alias target (suc number) names) found h.1 f)

@@ -22,7 +22,7 @@ use Rattle.st_type_table.specs.Keys.{KeysDiffer}
 use Rattle.st_type_table.specs.inner.Graph.{graph_of, node_of, place_of, places_of, AreRanks}
 use Rattle.st_type_table.specs.inner.Flat.{AreFlats, IsFlat, IsBroken}
 use Rattle.st_type_table.specs.inner.Kept.{kept_of, defs_of, entry_of, ranked, AllSettled, IsSettled}
-use Rattle.st_type_table.specs.Breach.{IsSound, AllHold, Holds, keys, on_alternative, on_alternatives, on_included, on_body}
+use Rattle.st_type_table.specs.Breach.{IsSound, AllHold, Holds, keys, placed, on_alternative, on_alternatives, on_included, on_body}
 use Rattle.st_type_table.specs.Joins.{AllJoin}
 use Rattle.st_type_table.specs.inner.JoinGraph.{join_graph}
 use Rattle.st_type_table.proofs.JoinLemmas.{ranked-joins}
@@ -167,7 +167,7 @@ keys_all defs target part before (a ∷ parts) k h =
   where
     one : (b : Alternative) → AllHold defs (on_alternative target part (before ++ a ∷ []) b) → Holds defs (keys (before ++ a ∷ []))
     one (alternative.Case tag operands) h = h.0
-    one (alternative.Incl name) h = (back_hold defs (on_included target part name) ((part, keys (before ++ a ∷ [])) ∷ []) h).0
+    one (alternative.Incl name) h = (back_hold defs (on_included target part name) (placed part (keys (before ++ a ∷ [])) ∷ []) h).0
 
 no_keys : (defs : List SyntaxDef) → Holds defs (keys [])
 no_keys defs cases (Flatten.none e) = subst KeysDiffer (sym e) tt

@@ -3,7 +3,6 @@ use Rattle.std.proofs.Common.{◌≡◌, refl, sym, ap, ◌∙◌, subst, ℕ, z
 use Rattle.std.specs.Prelude.{slice_get}
 use Rattle.std.specs.List.{flat_map}
 use Rattle.std.proofs.lemmas.List.{length-map}
-use Rattle.st_num.specs.declared.rule.RuleId.{RuleId}
 use Rattle.st_num.specs.declared.rule.RuleId.TheVariants.{B1, Y7}
 use Rattle.st_il.specs.declared.ty.Ty.{Ty}
 use Rattle.st_il.specs.declared.ty.Ty.TheVariants as ty
@@ -11,13 +10,14 @@ use Rattle.st_il.specs.declared.definition.SyntaxDef.{SyntaxDef}
 use Rattle.st_il.specs.declared.definition.Alternative.{Alternative}
 use Rattle.st_il.specs.declared.definition.Alternative.TheVariants as alternative
 use Rattle.st_type_table.specs.declared.entry.CaseDef.{CaseDef}
+use Rattle.st_type_table.specs.declared.fault.Broken.{Broken}
 use Rattle.st_type_table.specs.declared.flat.Flat.{Flat}
 use Rattle.st_type_table.specs.Cases.{Flatten}
 use Rattle.st_type_table.specs.Leads.{Among, Ends, included, joined, names_in, leads_to}
 use Rattle.st_type_table.specs.Keys.{KeysDiffer}
 use Rattle.st_type_table.specs.inner.Flat.{AddsAlternative, AreFlats}
 use Rattle.st_type_table.specs.inner.Graph.{AreRanks, graph_of, node_of, place_of, places_of, EndsIn, LeadsBack}
-use Rattle.st_type_table.specs.Breach.{Holds, keys, IsVariant, Finds, all_declared, on_included, on_alternative, on_alternatives, on_field, on_fields, on_body, conditions_on, new_name}
+use Rattle.st_type_table.specs.Breach.{Holds, keys, IsVariant, placed, broken, Finds, all_declared, on_included, on_alternative, on_alternatives, on_field, on_fields, on_body, conditions_on, new_name}
 use Rattle.st_type_table.specs.inner.Checking.{Returns, IsSoFar, IsReadyAt, KeysTo, ChecksAt, CheckedAt}
 use Rattle.st_type_table.proofs.CasesLemmas.{Flatten-single}
 use Rattle.st_type_table.proofs.PlaceLemmas.{Ends-EndsAt, unplaced, node_at, place-among, LeadsAt-Leads, Leads-LeadsAt}
@@ -97,20 +97,20 @@ module _ (defs : List SyntaxDef) (target : List ℕ) (parts : List Alternative) 
   one : (b : Alternative) → slice_get parts at ≡ Some b → a ≡ b
   one b g = let s : Some a ≡ Some b = sym there ∙ g in cc
 
-  pub case-keys : (tag : List ℕ) (operands : List Ty) (cases : List CaseDef) → a ≡ alternative.Case tag operands → (Holds defs (keys (take (suc at) parts)) → ⊥)
-      → ChecksAt defs target parts at cases (Some (at, Y7))
-  case-keys tag operands cases e clash = (
-    λ b g. subst (λ z. Finds defs (on_alternative target at (take (suc at) parts) z) (Some (at, Y7))) (sym e ∙ one b g)
-        (Finds-false defs at (keys (take (suc at) parts)) (all_declared at (joined (map names_in operands))) clash),
+  pub case-keys : (tag : List ℕ) (operands : List Ty) (cases : List CaseDef) (b : Broken) → a ≡ alternative.Case tag operands → broken (placed at (keys (take (suc at) parts))) ≡ b
+      → (Holds defs (keys (take (suc at) parts)) → ⊥) → ChecksAt defs target parts at cases (Some b)
+  case-keys tag operands cases b e is clash = subst (λ x. ChecksAt defs target parts at cases (Some x)) is (
+    λ other g. subst (λ z. Finds defs (on_alternative target at (take (suc at) parts) z) (Some (broken (placed at (keys (take (suc at) parts)))))) (sym e ∙ one other g)
+        (Finds-false defs (placed at (keys (take (suc at) parts))) (all_declared at 0 (joined (map names_in operands))) clash),
     tt,
   )
 
-  finds-of : (tag : List ℕ) (operands : List Ty) (found : Option (ℕ × RuleId)) → Holds defs (keys (take (suc at) parts)) → Finds defs (all_declared at (joined (map names_in operands))) found
+  finds-of : (tag : List ℕ) (operands : List Ty) (found : Option Broken) → Holds defs (keys (take (suc at) parts)) → Finds defs (all_declared at 0 (joined (map names_in operands))) found
       → Finds defs (on_alternative target at (take (suc at) parts) (alternative.Case tag operands)) found
-  finds-of tag operands found k f = Finds-hold defs (at, keys (take (suc at) parts)) (all_declared at (joined (map names_in operands))) found k f
+  finds-of tag operands found k f = Finds-hold defs (placed at (keys (take (suc at) parts))) (all_declared at 0 (joined (map names_in operands))) found k f
 
-  pub case-types : (tag : List ℕ) (operands : List Ty) (cases : List CaseDef) (found : Option (ℕ × RuleId)) → a ≡ alternative.Case tag operands → IsSoFar defs parts (suc at) cases
-      → Finds defs (all_declared at (joined (map names_in operands))) found → ChecksAt defs target parts at cases found
+  pub case-types : (tag : List ℕ) (operands : List Ty) (cases : List CaseDef) (found : Option Broken) → a ≡ alternative.Case tag operands → IsSoFar defs parts (suc at) cases
+      → Finds defs (all_declared at 0 (joined (map names_in operands))) found → ChecksAt defs target parts at cases found
   case-types tag operands cases None e s f = (
     λ b g. subst (λ z. Finds defs (on_alternative target at (take (suc at) parts) z) None) (sym e ∙ one b g)
         (finds-of tag operands None (holds-keys defs (take (suc at) parts) cases s.flattened s.differ) f),
@@ -122,41 +122,42 @@ module _ (defs : List SyntaxDef) (target : List ℕ) (parts : List Alternative) 
     tt,
   )
 
-  pub incl-found : (name : List ℕ) (cases : List CaseDef) (x : ℕ × RuleId) → a ≡ alternative.Incl name → Finds defs (on_included target at name) (Some x) → ChecksAt defs target parts at cases (Some x)
+  pub incl-found : (name : List ℕ) (cases : List CaseDef) (x : Broken) → a ≡ alternative.Incl name → Finds defs (on_included target at name) (Some x) → ChecksAt defs target parts at cases (Some x)
   incl-found name cases x e f = (
     λ b g. subst (λ z. Finds defs (on_alternative target at (take (suc at) parts) z) (Some x)) (sym e ∙ one b g)
-        (Finds-front defs (on_included target at name) ((at, keys (take (suc at) parts)) ∷ []) x f),
+        (Finds-front defs (on_included target at name) ((placed at (keys (take (suc at) parts))) ∷ []) x f),
     tt,
   )
 
-  pub incl-keys : (name : List ℕ) (cases : List CaseDef) → a ≡ alternative.Incl name → Finds defs (on_included target at name) None → (Holds defs (keys (take (suc at) parts)) → ⊥)
-      → ChecksAt defs target parts at cases (Some (at, Y7))
-  incl-keys name cases e f clash = (
-    λ b g. subst (λ z. Finds defs (on_alternative target at (take (suc at) parts) z) (Some (at, Y7))) (sym e ∙ one b g)
-        (Finds-back defs (on_included target at name) ((at, keys (take (suc at) parts)) ∷ []) (Some (at, Y7)) f (Finds-false defs at (keys (take (suc at) parts)) [] clash)),
+  pub incl-keys : (name : List ℕ) (cases : List CaseDef) (b : Broken) → a ≡ alternative.Incl name → broken (placed at (keys (take (suc at) parts))) ≡ b → Finds defs (on_included target at name) None
+      → (Holds defs (keys (take (suc at) parts)) → ⊥) → ChecksAt defs target parts at cases (Some b)
+  incl-keys name cases b e is f clash = subst (λ x. ChecksAt defs target parts at cases (Some x)) is (
+    λ other g. subst (λ z. Finds defs (on_alternative target at (take (suc at) parts) z) (Some (broken (placed at (keys (take (suc at) parts)))))) (sym e ∙ one other g)
+        (Finds-back defs (on_included target at name) (placed at (keys (take (suc at) parts)) ∷ []) (Some (broken (placed at (keys (take (suc at) parts))))) f
+        (Finds-false defs (placed at (keys (take (suc at) parts))) [] clash)),
     tt,
   )
 
   pub incl-whole : (name : List ℕ) (cases : List CaseDef) → a ≡ alternative.Incl name → Finds defs (on_included target at name) None → IsSoFar defs parts (suc at) cases → ChecksAt defs target parts at cases None
   incl-whole name cases e f s = (
     λ b g. subst (λ z. Finds defs (on_alternative target at (take (suc at) parts) z) None) (sym e ∙ one b g)
-        (Finds-back defs (on_included target at name) ((at, keys (take (suc at) parts)) ∷ []) None f (holds-keys defs (take (suc at) parts) cases s.flattened s.differ, tt)),
+        (Finds-back defs (on_included target at name) ((placed at (keys (take (suc at) parts))) ∷ []) None f (holds-keys defs (take (suc at) parts) cases s.flattened s.differ, tt)),
     s,
   )
 
 -- ---- part by part
 
-suc-drop : {A : Type 0} (xs : List A) (i : ℕ) (x : A) → i < length xs → x ≡ get_or xs i x → drop i xs ≡ x ∷ drop (suc i) xs
+pub suc-drop : {A : Type 0} (xs : List A) (i : ℕ) (x : A) → i < length xs → x ≡ get_or xs i x → drop i xs ≡ x ∷ drop (suc i) xs
 suc-drop xs i x h e = drop-cons xs i x h ∙ ap (λ z. z ∷ drop (suc i) xs) (sym e)
 
 module _ (defs : List SyntaxDef) (target : List ℕ) (parts : List Alternative) (at : ℕ) (a : Alternative) (h : at < length parts) (e : a ≡ get_or parts at a) where
-  pub alternatives-found : (x : ℕ × RuleId) → Finds defs (on_alternative target at (take (suc at) parts) a) (Some x)
+  pub alternatives-found : (x : Broken) → Finds defs (on_alternative target at (take (suc at) parts) a) (Some x)
       → Finds defs (on_alternatives target at (take at parts) (drop at parts)) (Some x)
   alternatives-found x f = subst (λ z. Finds defs (on_alternatives target at (take at parts) z) (Some x)) (sym (suc-drop parts at a h e))
       (Finds-front defs (on_alternative target at (take at parts ++ a ∷ []) a) (on_alternatives target (suc at) (take at parts ++ a ∷ []) (drop (suc at) parts)) x
       (subst (λ z. Finds defs (on_alternative target at z a) (Some x)) (take-suc parts at a h e) f))
 
-  pub alternatives-step : (found : Option (ℕ × RuleId)) → Finds defs (on_alternative target at (take (suc at) parts) a) None
+  pub alternatives-step : (found : Option Broken) → Finds defs (on_alternative target at (take (suc at) parts) a) None
       → Finds defs (on_alternatives target (at + 1) (take (at + 1) parts) (drop (at + 1) parts)) found → Finds defs (on_alternatives target at (take at parts) (drop at parts)) found
   alternatives-step found f g = subst (λ z. Finds defs (on_alternatives target at (take at parts) z) found) (sym (suc-drop parts at a h e))
       (Finds-back defs (on_alternative target at (take at parts ++ a ∷ []) a) (on_alternatives target (suc at) (take at parts ++ a ∷ []) (drop (suc at) parts)) found
@@ -165,16 +166,20 @@ module _ (defs : List SyntaxDef) (target : List ℕ) (parts : List Alternative) 
       (subst (λ n. Finds defs (on_alternatives target n (take n parts) (drop n parts)) found) (add-one at) g)))
 
 module _ (defs : List SyntaxDef) (fields : List (List ℕ × Ty)) (at : ℕ) (f : List ℕ × Ty) (h : at < length fields) (e : f ≡ get_or fields at f) where
-  pub fields-found : (x : ℕ × RuleId) → Finds defs (on_field at (take at fields) f) (Some x) → Finds defs (on_fields at (take at fields) (drop at fields)) (Some x)
+  pub fields-found : (x : Broken) → Finds defs (on_field at (take at fields) f) (Some x) → Finds defs (on_fields at (take at fields) (drop at fields)) (Some x)
   fields-found x g = subst (λ z. Finds defs (on_fields at (take at fields) z) (Some x)) (sym (suc-drop fields at f h e))
       (Finds-front defs (on_field at (take at fields) f) (on_fields (suc at) (take at fields ++ f ∷ []) (drop (suc at) fields)) x g)
 
-  pub fields-step : (found : Option (ℕ × RuleId)) → Finds defs (on_field at (take at fields) f) None
+  pub fields-step : (found : Option Broken) → Finds defs (on_field at (take at fields) f) None
       → Finds defs (on_fields (at + 1) (take (at + 1) fields) (drop (at + 1) fields)) found → Finds defs (on_fields at (take at fields) (drop at fields)) found
   fields-step found g k = subst (λ z. Finds defs (on_fields at (take at fields) z) found) (sym (suc-drop fields at f h e))
       (Finds-back defs (on_field at (take at fields) f) (on_fields (suc at) (take at fields ++ f ∷ []) (drop (suc at) fields)) found g
       (subst (λ z. Finds defs (on_fields (suc at) z (drop (suc at) fields)) found) (take-suc fields at f h e)
       (subst (λ n. Finds defs (on_fields n (take n fields) (drop n fields)) found) (add-one at) k)))
+
+-- a breach of keys, by its numbers
+pub keys-broken : (part at : ℕ) (so_far : List Alternative) (b : Broken) → b ≡ record { part = part; name = 0; rule = Y7 } → part ≡ at → broken (placed at (keys so_far)) ≡ b
+keys-broken part at so_far b e same = ap (λ n. record { part = n; name = 0; rule = Y7 }) (sym same) ∙ sym e
 
 -- ---- a definition behind those before it
 
@@ -200,14 +205,16 @@ Returns-back defs marks at d e h back name place a p =
     let b = back place (places_of defs (leads_to d.body)) (node_at defs defs at d e) (place-among defs (leads_to d.body) name place a p) in
     (λ m. LeadsAt-Leads defs place at (b.0 m) name d.name p here, λ l. b.1 (Leads-LeadsAt defs name d.name l place at p here))
 
-pub check-whole : (defs : List SyntaxDef) (at : ℕ) (d : SyntaxDef) (found : Option (ℕ × RuleId)) → place_of (take at defs) d.name ≡ None → Finds defs (on_body d.name d.body) found
+pub check-whole : (defs : List SyntaxDef) (at : ℕ) (d : SyntaxDef) (found : Option Broken) → place_of (take at defs) d.name ≡ None → Finds defs (on_body d.name d.body) found
     → Finds defs (conditions_on (take at defs) d) found
-check-whole defs at d found h f = Finds-hold defs (0, new_name (take at defs) d.name) (on_body d.name d.body) found (unplaced (take at defs) d.name h) f
+check-whole defs at d found h f = Finds-hold defs (placed 0 (new_name (take at defs) d.name)) (on_body d.name d.body) found (unplaced (take at defs) d.name h) f
 
-pub check-twice : (defs : List SyntaxDef) (at : ℕ) (d : SyntaxDef) (p : ℕ) → place_of (take at defs) d.name ≡ Some p → Finds defs (conditions_on (take at defs) d) (Some (0, B1))
-check-twice defs at d p e = Finds-false defs 0 (new_name (take at defs) d.name) (on_body d.name d.body) (λ b. is-declared (take at defs) d.name p e b)
+pub check-twice : (defs : List SyntaxDef) (at : ℕ) (d : SyntaxDef) (p : ℕ) (b : Broken) → place_of (take at defs) d.name ≡ Some p → b ≡ record { part = 0; name = 0; rule = B1 }
+    → Finds defs (conditions_on (take at defs) d) (Some b)
+check-twice defs at d p b e is = subst (λ x. Finds defs (conditions_on (take at defs) d) (Some x)) (sym is)
+    (Finds-false defs (placed 0 (new_name (take at defs) d.name)) (on_body d.name d.body) (λ h. is-declared (take at defs) d.name p e h))
 
-pub checked-at : (defs : List SyntaxDef) (at : ℕ) (d : SyntaxDef) → slice_get defs at ≡ Some d → (found : Option (ℕ × RuleId)) → Finds defs (conditions_on (take at defs) d) found → CheckedAt defs at found
+pub checked-at : (defs : List SyntaxDef) (at : ℕ) (d : SyntaxDef) → slice_get defs at ≡ Some d → (found : Option Broken) → Finds defs (conditions_on (take at defs) d) found → CheckedAt defs at found
 checked-at defs at d e found f other g =
     let s : Some d ≡ Some other = sym e ∙ g in
     let t : d ≡ other = cc in

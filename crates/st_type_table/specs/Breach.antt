@@ -10,6 +10,7 @@ use Rattle.st_il.specs.declared.definition.SyntaxBody.TheVariants as body
 use Rattle.st_il.specs.declared.definition.Alternative.{Alternative}
 use Rattle.st_il.specs.declared.definition.Alternative.TheVariants as alternative
 use Rattle.st_type_table.specs.declared.entry.CaseDef.{CaseDef}
+use Rattle.st_type_table.specs.declared.fault.Broken.{Broken}
 use Rattle.st_type_table.specs.Meaning.{body_of, Means, alternatives_of}
 use Rattle.st_type_table.specs.Cases.{Flatten}
 use Rattle.st_type_table.specs.Leads.{names_in, joined, Leads, Ends}
@@ -64,32 +65,47 @@ Holds defs (keys alternatives) =
 
 -- ---- the conditions on a definition, each with the number of its part
 
--- a condition, with the number of the part of a definition that it is asked of
-abbrev pub Placed : Type 0
-Placed = ℕ × Condition
+-- A condition is asked of the part of this number in a definition; where it is about one name in
+-- the types of the part, the name has this number, and else the number is 0.
+pub record Placed : Type 0 where
+  pub part : ℕ
+  pub name : ℕ
+  pub condition : Condition
 
--- the conditions that the names are declared
-abbrev pub all_declared : ℕ → List (List ℕ) → List Placed
-all_declared part [] = []
-all_declared part (name ∷ names) = (part, declared name) ∷ all_declared part names
+-- the condition on the part as a whole, or on its only name
+abbrev pub placed : ℕ → Condition → Placed
+placed part c = record { part = part; name = 0; condition = c }
 
--- the conditions on an alias: each name in it is declared and does not lead back
-abbrev pub on_alias : List ℕ → List (List ℕ) → List Placed
-on_alias target [] = []
-on_alias target (name ∷ names) =
-    (0, declared name) ∷ (0, no_return name target) ∷ on_alias target names
+-- the condition on the name of this number
+abbrev pub placed_name : ℕ → ℕ → Condition → Placed
+placed_name part number c = record { part = part; name = number; condition = c }
+
+-- the conditions that names of a part are declared, the first of which has this number
+abbrev pub all_declared : ℕ → ℕ → List (List ℕ) → List Placed
+all_declared part number [] = []
+all_declared part number (name ∷ names) =
+    placed_name part number (declared name) ∷ all_declared part (suc number) names
+
+-- the conditions on names of an alias, the first of which has this number: each is declared and
+-- does not lead back
+abbrev pub on_alias : List ℕ → ℕ → List (List ℕ) → List Placed
+on_alias target number [] = []
+on_alias target number (name ∷ names) =
+    placed_name 0 number (declared name) ∷ placed_name 0 number (no_return name target)
+    ∷ on_alias target (suc number) names
 
 -- the conditions on what is included: it is declared, does not lead back, and is a variant
 abbrev pub on_included : List ℕ → ℕ → List ℕ → List Placed
 on_included target part name =
-    (part, declared name) ∷ (part, no_return name target) ∷ (part, variant name) ∷ []
+    placed part (declared name) ∷ placed part (no_return name target)
+    ∷ placed part (variant name) ∷ []
 
 -- the conditions on an alternative, which is the last of those so far
 abbrev pub on_alternative : List ℕ → ℕ → List Alternative → Alternative → List Placed
 on_alternative target part so_far (alternative.Case tag operands) =
-    (part, keys so_far) ∷ all_declared part (joined (map names_in operands))
+    placed part (keys so_far) ∷ all_declared part 0 (joined (map names_in operands))
 on_alternative target part so_far (alternative.Incl name) =
-    on_included target part name ++ (part, keys so_far) ∷ []
+    on_included target part name ++ placed part (keys so_far) ∷ []
 
 -- the conditions on alternatives behind others, the first of which has this number
 abbrev pub on_alternatives : List ℕ → ℕ → List Alternative → List Alternative → List Placed
@@ -100,7 +116,8 @@ on_alternatives target part before (a ∷ as') =
 
 -- the conditions on the field of this number behind others
 abbrev pub on_field : ℕ → List (List ℕ × Ty) → List ℕ × Ty → List Placed
-on_field part before f = (part, new_field before f.0) ∷ all_declared part (names_in f.1)
+on_field part before f =
+    placed part (new_field before f.0) ∷ all_declared part 0 (names_in f.1)
 
 -- the conditions on fields behind others, the first of which has this number
 abbrev pub on_fields : ℕ → List (List ℕ × Ty) → List (List ℕ × Ty) → List Placed
@@ -110,31 +127,35 @@ on_fields part before (f ∷ fs) =
 
 -- the conditions on the body of the syntax of this name
 abbrev pub on_body : List ℕ → SyntaxBody → List Placed
-on_body name (body.Alias t) = on_alias name (names_in t)
+on_body name (body.Alias t) = on_alias name 0 (names_in t)
 on_body name (body.Variant alternatives) = on_alternatives name 0 [] alternatives
 on_body name (body.Fields fields) = on_fields 0 [] fields
 
 -- the conditions on a definition behind these
 abbrev pub conditions_on : List SyntaxDef → SyntaxDef → List Placed
-conditions_on before d = (0, new_name before d.name) ∷ on_body d.name d.body
+conditions_on before d = placed 0 (new_name before d.name) ∷ on_body d.name d.body
 
 -- ---- the first that is false
 
 -- all these conditions are true
 abbrev pub AllHold : List SyntaxDef → List Placed → Type 0
 AllHold defs [] = Unit {0}
-AllHold defs (p ∷ ps) = Holds defs p.1 × AllHold defs ps
+AllHold defs (p ∷ ps) = Holds defs p.condition × AllHold defs ps
 
--- the first of these conditions that is false is asked of this part, and its rule is this
-abbrev pub FirstFalse : List SyntaxDef → List Placed → ℕ → RuleId → Type 0
-FirstFalse defs [] part rule = ⊥
-FirstFalse defs (p ∷ ps) part rule =
-    ((Holds defs p.1 → ⊥) × (part ≡ p.0) × (rule ≡ rule_of p.1))
-    ⊎ (Holds defs p.1 × FirstFalse defs ps part rule)
+-- what a false condition is answered with
+abbrev pub broken : Placed → Broken
+broken p = record { part = p.part; name = p.name; rule = rule_of p.condition }
+
+-- the first of these conditions that is false is answered with this
+abbrev pub FirstFalse : List SyntaxDef → List Placed → Broken → Type 0
+FirstFalse defs [] b = ⊥
+FirstFalse defs (p ∷ ps) b =
+    ((Holds defs p.condition → ⊥) × (b ≡ broken p))
+    ⊎ (Holds defs p.condition × FirstFalse defs ps b)
 
 -- what was found among these conditions: nothing, or the first that is false
-abbrev pub Finds : List SyntaxDef → List Placed → Option (ℕ × RuleId) → Type 0
-Finds defs ps found = MatchOption found (AllHold defs ps) (λ f. FirstFalse defs ps f.0 f.1)
+abbrev pub Finds : List SyntaxDef → List Placed → Option Broken → Type 0
+Finds defs ps found = MatchOption found (AllHold defs ps) (FirstFalse defs ps)
 
 -- all conditions on the first k definitions hold
 abbrev pub SoundTo : List SyntaxDef → ℕ → Type 0
@@ -146,12 +167,12 @@ SoundTo defs k =
 abbrev pub IsSound : List SyntaxDef → Type 0
 IsSound defs = SoundTo defs (length defs)
 
--- the first condition that is false is one of this rule, at this part of this definition
-pub record FirstBreach (defs : List SyntaxDef) (syntax part : ℕ) (rule : RuleId) : Type 0 where
+-- the first condition that is false is one on this definition, and is answered with this
+pub record FirstBreach (defs : List SyntaxDef) (syntax : ℕ) (b : Broken) : Type 0 where
   pub definition : SyntaxDef
   pub there : slice_get defs syntax ≡ Some definition
   pub before : SoundTo defs syntax
-  pub first : FirstFalse defs (conditions_on (take syntax defs) definition) part rule
+  pub first : FirstFalse defs (conditions_on (take syntax defs) definition) b
 
 -- ---- lists that can be counted
 

@@ -1,7 +1,7 @@
 //! The table of a list of definitions.
 
 ghost use Rattle.std.specs.Prelude.{◌≡◌, ◌↔◌, ◌<◌, ◌^◌, ℕ, IsTrue, length, IfOk, OnOk, Err, nat_eq};
-ghost use Rattle.st_num.specs.declared.rule.RuleId.{RuleId};
+ghost use Rattle.st_type_table.specs.declared.fault.Broken.{Broken};
 ghost use Rattle.st_type_table.specs.Breach.{IsSound, FirstBreach, AllHaveFewParts, HasFewParts};
 ghost use Rattle.st_type_table.specs.inner.Graph.{AreRanks, graph_of};
 ghost use Rattle.st_type_table.specs.inner.Flat.{AreFlats};
@@ -61,17 +61,16 @@ fn check_all(
     requires graph { graph.now ≡ graph_of defs.now }
     requires ranks { AreRanks (graph_of defs.now) ranks.now }
     requires flats { AreFlats defs.now ranks.now (length defs.now) flats.now }
-    requires few { AllHaveFewParts defs.now }
-    requires few_definitions { length defs.now < 2 ^ 32 }
+    requires few { length defs.now < 2 ^ 32 }
     ensures ok { OnOk result (IsSound defs.now) }
-    ensures refused { (s p : ℕ) (r : RuleId) → result ≡ Err (TypeFault.Refused s p r)
-        → FirstBreach defs.now s p r }
+    ensures refused { (s : ℕ) (b : Broken) → result ≡ Err (TypeFault.Refused s b)
+        → FirstBreach defs.now s b }
 {
     for at in 0..defs.len() {
         match check_def(alloc, defs, graph, ranks, flats, at)? {
-            Some((part, rule)) => {
+            Some(broken) => {
                 let syntax = at as u32;
-                return Err(TypeFault::Refused { syntax, part, rule });
+                return Err(TypeFault::Refused { syntax, broken });
             }
             None => {}
         }
@@ -81,13 +80,12 @@ fn check_all(
 
 /// What is kept of the definitions, where they break no rule.
 pub(crate) fn entries_of(alloc: Global, defs: &[SyntaxDef]) -> Result<Entries, TypeFault>
-    requires few { AllHaveFewParts defs.now }
-    requires few_definitions { length defs.now < 2 ^ 32 }
+    requires few { length defs.now < 2 ^ 32 }
     ensures kept { IfOk result (λ map. IsKept map.entries) }
     ensures whole { IfOk result (λ map. defs_of map.entries ≡ defs.now) }
     ensures sound { OnOk result (IsSound defs.now) }
-    ensures refused { (s p : ℕ) (r : RuleId) → result ≡ Err (TypeFault.Refused s p r)
-        → FirstBreach defs.now s p r }
+    ensures refused { (s : ℕ) (b : Broken) → result ≡ Err (TypeFault.Refused s b)
+        → FirstBreach defs.now s b }
 {
     let graph = leads_graph(alloc, defs)?;
     let ranks = settle(alloc, graph.as_slice())?;

@@ -5,10 +5,11 @@ ghost use Rattle.st_type_table.specs.Leads.{joined, names_in, included, leads_to
 ghost use Rattle.std.specs.List.{flat_map};
 ghost use Rattle.st_type_table.specs.inner.Flat.{AreFlats};
 ghost use Rattle.st_type_table.specs.inner.Graph.{AreRanks, graph_of};
-ghost use Rattle.st_type_table.specs.Breach.{Finds, IsVariant, all_declared, on_alias, on_included, on_field, on_alternatives, on_fields, on_body, field_type, HasFewParts, AllHaveFewParts};
-ghost use Rattle.st_type_table.specs.inner.Checking.{Returns, IsEnding, IsListed, IsReadyAt, IsSoFar, KeysTo, ChecksAt, CheckedAt};
+ghost use Rattle.st_type_table.specs.Breach.{Finds, IsVariant, all_declared, on_alias, on_included, on_field, on_alternatives, on_fields, on_body, field_type};
+ghost use Rattle.st_type_table.specs.inner.Checking.{Returns, NameBreaks, IsEnding, IsListed, IsReadyAt, IsSoFar, KeysTo, ChecksAt, CheckedAt};
 
 use crate::entry::CaseDef;
+use crate::fault::Broken;
 use crate::flat::{Flat, add_alternative};
 use crate::graph::{Node, is_ranked, leading_back, mark};
 use crate::place::{place_of, push_all_names, push_names};
@@ -17,38 +18,84 @@ use st_il::{Alternative, SyntaxBody, SyntaxDef, Ty};
 use st_num::{Name, NoMemory, Row, RuleId};
 use std::alloc::Global;
 
-/// The first part whose condition is false, and the rule that it breaks.
-pub(crate) type Found = Option<(u32, RuleId)>;
+/// The first condition that is false, where one is.
+pub(crate) type Found = Option<Broken>;
+
+/// The number in 32 bits. A list that has more members is too long for memory.
+fn numbered(number: usize) -> Result<u32, NoMemory>
+    ensures { IfOk result (λ same. same ≡ number) }
+{
+    match u32::try_from(number) {
+        Ok(same) => Ok(same),
+        Err(_) => Err(NoMemory),
+    }
+}
+
+/// A condition on the part as a whole, or on its only name, is false.
+fn whole(part: u32, rule: RuleId) -> Broken
+    ensures { result ≡ record { part = part; name = 0; rule = rule } }
+{
+    Broken {
+        part,
+        name: 0,
+        rule,
+    }
+}
 
 /// Whether all the names are declared.
-fn check_declared(defs: &[SyntaxDef], part: u32, names: &[Name]) -> Found
-    ensures { Finds defs.now (all_declared part names.now) result }
+fn check_declared(defs: &[SyntaxDef], part: u32, names: &[Name]) -> Result<Found, NoMemory>
+    ensures { IfOk result (λ found. Finds defs.now (all_declared part 0 names.now) found) }
 {
-    for name in names {
+    for (k, name) in names.iter().enumerate() {
         match place_of(defs, name) {
             Some(_) => {}
-            None => return Some((part, RuleId::B2)),
+            None => {
+                let name = numbered(k)?;
+                let rule = RuleId::B2;
+                return Ok(Some(Broken { part, name, rule }));
+            }
         }
     }
-    None
+    Ok(None)
+}
+
+/// The rule that a name in an alias breaks, where it breaks one.
+fn rule_of_name(defs: &[SyntaxDef], target: &Name, marks: &[bool], name: &Name) -> Option<RuleId>
+    requires { Returns defs.now target.now marks.now (name.now ∷ []) }
+    ensures { NameBreaks defs.now target.now name.now result }
+{
+    match place_of(defs, name) {
+        Some(place) => {
+            if mark(marks, place) {
+                return Some(RuleId::B4);
+            }
+            None
+        }
+        None => Some(RuleId::B2),
+    }
 }
 
 /// The conditions on the names in an alias.
-fn check_alias(defs: &[SyntaxDef], target: &Name, marks: &[bool], names: &[Name]) -> Found
+fn check_alias(
+    defs: &[SyntaxDef],
+    target: &Name,
+    marks: &[bool],
+    names: &[Name],
+) -> Result<Found, NoMemory>
     requires { Returns defs.now target.now marks.now names.now }
-    ensures { Finds defs.now (on_alias target.now names.now) result }
+    ensures { IfOk result (λ found. Finds defs.now (on_alias target.now 0 names.now) found) }
 {
-    for name in names {
-        match place_of(defs, name) {
-            Some(place) => {
-                if mark(marks, place) {
-                    return Some((0, RuleId::B4));
-                }
+    for (k, name) in names.iter().enumerate() {
+        match rule_of_name(defs, target, marks, name) {
+            Some(rule) => {
+                let name = numbered(k)?;
+                let part = 0;
+                return Ok(Some(Broken { part, name, rule }));
             }
-            None => return Some((0, RuleId::B2)),
+            None => {}
         }
     }
-    None
+    Ok(None)
 }
 
 /// Whether the name is declared, and no way from it runs for ever.
@@ -123,13 +170,13 @@ fn check_included(
     ensures { IfOk result (λ found. Finds defs.now (on_included target.now part name.now) found) }
 {
     let Some(place) = place_of(defs, name) else {
-        return Ok(Some((part, RuleId::B2)));
+        return Ok(Some(whole(part, RuleId::B2)));
     };
     if mark(marks, place) {
-        return Ok(Some((part, RuleId::B4)));
+        return Ok(Some(whole(part, RuleId::B4)));
     }
     if !is_variant(alloc, defs, ranks, name)? {
-        return Ok(Some((part, RuleId::B5)));
+        return Ok(Some(whole(part, RuleId::B5)));
     }
     Ok(None)
 }
@@ -137,11 +184,11 @@ fn check_included(
 /// The conditions on the types of operands.
 fn check_types(alloc: Global, defs: &[SyntaxDef], part: u32, tys: &[Ty]) -> Result<Found, NoMemory>
     ensures { IfOk result
-        (λ found. Finds defs.now (all_declared part (joined (map names_in tys.now))) found) }
+        (λ found. Finds defs.now (all_declared part 0 (joined (map names_in tys.now))) found) }
 {
     let mut names = Row::new(alloc);
     push_all_names(alloc, tys, &mut names)?;
-    let found = check_declared(defs, part, names.as_slice());
+    let found = check_declared(defs, part, names.as_slice())?;
     Ok(found)
 }
 
@@ -156,11 +203,11 @@ fn check_field(
     ensures { IfOk result (λ found. Finds defs.now (on_field part before.now field.now) found) }
 {
     if has_field(before, &field.0) {
-        return Ok(Some((part, RuleId::B1)));
+        return Ok(Some(whole(part, RuleId::B1)));
     }
     let mut names = Row::new(alloc);
     push_names(alloc, &field.1, &mut names)?;
-    let found = check_declared(defs, part, names.as_slice());
+    let found = check_declared(defs, part, names.as_slice())?;
     Ok(found)
 }
 
@@ -201,15 +248,14 @@ fn check_alternative(
     requires flats { AreFlats defs.now ranks.now (length defs.now) flats.now }
     requires marks { Returns defs.now target.now marks.now (flat_map included parts.now) }
     requires within { at < length parts.now }
-    requires few { length parts.now < 2 ^ 32 }
     requires so_far { IsSoFar defs.now parts.now at cases.old }
     ensures { IfOk result (λ found. ChecksAt defs.now target.now parts.now at cases.new found) }
 {
-    let part = at as u32;
+    let part = numbered(at)?;
     match &parts[at] {
         Alternative::Case(_, operands) => {
             if !keys_differ(alloc, defs, ranks, flats, parts, at, cases)? {
-                return Ok(Some((part, RuleId::Y7)));
+                return Ok(Some(whole(part, RuleId::Y7)));
             }
             let found = check_types(alloc, defs, part, operands.as_slice())?;
             Ok(found)
@@ -220,7 +266,7 @@ fn check_alternative(
                 None => {}
             }
             if !keys_differ(alloc, defs, ranks, flats, parts, at, cases)? {
-                return Ok(Some((part, RuleId::Y7)));
+                return Ok(Some(whole(part, RuleId::Y7)));
             }
             Ok(None)
         }
@@ -240,7 +286,6 @@ fn check_alternatives(
     requires ranks { AreRanks (graph_of defs.now) ranks.now }
     requires flats { AreFlats defs.now ranks.now (length defs.now) flats.now }
     requires marks { Returns defs.now target.now marks.now (flat_map included parts.now) }
-    requires few { length parts.now < 2 ^ 32 }
     ensures { IfOk result
         (λ found. Finds defs.now (on_alternatives target.now 0 [] parts.now) found) }
 {
@@ -258,11 +303,11 @@ fn check_alternatives(
 
 /// The conditions on the fields of a record.
 fn check_fields(alloc: Global, defs: &[SyntaxDef], fields: &[(Name, Ty)]) -> Result<Found, NoMemory>
-    requires { length fields.now < 2 ^ 32 }
     ensures { IfOk result (λ found. Finds defs.now (on_fields 0 [] fields.now) found) }
 {
     for at in 0..fields.len() {
-        match check_field(alloc, defs, at as u32, &fields[..at], &fields[at])? {
+        let part = numbered(at)?;
+        match check_field(alloc, defs, part, &fields[..at], &fields[at])? {
             Some(found) => return Ok(Some(found)),
             None => {}
         }
@@ -283,14 +328,13 @@ fn check_body(
     requires ranks { AreRanks (graph_of defs.now) ranks.now }
     requires flats { AreFlats defs.now ranks.now (length defs.now) flats.now }
     requires marks { Returns defs.now name.now marks.now (leads_to body.now) }
-    requires few { HasFewParts body.now }
     ensures { IfOk result (λ found. Finds defs.now (on_body name.now body.now) found) }
 {
     match body {
         SyntaxBody::Alias(ty) => {
             let mut names = Row::new(alloc);
             push_names(alloc, ty, &mut names)?;
-            let found = check_alias(defs, name, marks, names.as_slice());
+            let found = check_alias(defs, name, marks, names.as_slice())?;
             Ok(found)
         }
         SyntaxBody::Variant(parts) => {
@@ -318,12 +362,11 @@ pub(crate) fn check_def(
     requires ranks { AreRanks (graph_of defs.now) ranks.now }
     requires flats { AreFlats defs.now ranks.now (length defs.now) flats.now }
     requires within { at < length defs.now }
-    requires few { AllHaveFewParts defs.now }
     ensures { IfOk result (λ found. CheckedAt defs.now at found) }
 {
     let def = &defs[at];
     match place_of(&defs[..at], &def.name) {
-        Some(_) => return Ok(Some((0, RuleId::B1))),
+        Some(_) => return Ok(Some(whole(0, RuleId::B1))),
         None => {}
     }
     let marks = leading_back(alloc, graph, ranks, at)?;

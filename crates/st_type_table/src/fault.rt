@@ -5,15 +5,22 @@ ghost use Rattle.std.specs.Prelude.{◌≡◌};
 use st_num::{NoMemory, RuleId};
 use thiserror::Error;
 
-/// Why definitions have no table. `part` is the number of the alternative or field, from 0.
+/// A condition on a part of a definition that is false.
+#[derive(Clone, Copy, Debug, PartialEq, Eq)]
+pub struct Broken {
+    /// The number of the alternative or field, from 0; 0 in an alias.
+    pub part: u32,
+    /// The number, from 0, of the name that B2, B4 or B5 is about, among those in the types of the
+    /// part, from left to right; 0 where the breach is one of the part as a whole.
+    pub name: u32,
+    pub rule: RuleId,
+}
+
+/// Why definitions have no table.
 #[derive(Clone, Copy, Debug, PartialEq, Eq, Error)]
 pub enum TypeFault {
-    #[error("part {part} of syntax {syntax} breaks {rule:?}")]
-    Refused {
-        syntax: u32,
-        part: u32,
-        rule: RuleId,
-    },
+    #[error("syntax {syntax} is refused: {broken:?}")]
+    Refused { syntax: u32, broken: Broken },
     #[error("out of memory")]
     Memory,
 }

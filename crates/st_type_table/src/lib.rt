@@ -23,5 +23,5 @@ mod table;
 mod tests;
 
 pub use entry::CaseDef;
-pub use fault::TypeFault;
+pub use fault::{Broken, TypeFault};
 pub use table::TypeTable;

@@ -37,7 +37,7 @@ impl Model for TypeTable {
 
 impl TypeTable {
     ghost use Rattle.std.specs.Prelude.{◌≡◌, ◌↔◌, ◌<◌, ◌^◌, IsTrue, IfSome, IfNone, IfOk, OnOk, Err, List, ℕ, length, is_some};
-    ghost use Rattle.st_num.specs.declared.rule.RuleId.{RuleId};
+    ghost use Rattle.st_type_table.specs.declared.fault.Broken.{Broken};
     ghost use Rattle.st_type_table.specs.Breach.{IsSound, FirstBreach, AllHaveFewParts};
     ghost use Rattle.st_il.specs.declared.ty.Ty.{Ty};
     ghost use Rattle.st_type_table.specs.declared.entry.CaseDef.{CaseDef};
@@ -54,14 +54,14 @@ impl TypeTable {
     }
 
     /// The table of these definitions; or the first condition on them that is false, by its
-    /// definition, part and rule. Lists have fewer than 2^32 members.
+    /// definition, part, name and rule. Lists have fewer than 2^32 members.
     pub fn build(alloc: Global, defs: &Row<SyntaxDef>) -> Result<TypeTable, TypeFault>
         requires few { AllHaveFewParts defs.now }
         requires few_definitions { length defs.now < 2 ^ 32 }
         ensures ok { IfOk result (λ table. table ≡ defs.now) }
         ensures sound { OnOk result (IsSound defs.now) }
-        ensures refused { (s p : ℕ) (r : RuleId) → result ≡ Err (TypeFault.Refused s p r)
-            → FirstBreach defs.now s p r }
+        ensures refused { (s : ℕ) (b : Broken) → result ≡ Err (TypeFault.Refused s b)
+            → FirstBreach defs.now s b }
     {
         match entries_of(alloc, defs.as_slice()) {
             Ok(entries) => Ok(TypeTable { entries }),

@@ -1,6 +1,6 @@
 //! Tables of small specifications.
 
-use crate::{TypeFault, TypeTable};
+use crate::{Broken, TypeFault, TypeTable};
 use st_il::{Alternative, SyntaxBody, SyntaxDef, Ty};
 use st_num::{Boxed, Name, NoMemory, Row, RuleId};
 use std::alloc::Global;
@@ -105,54 +105,61 @@ fn variants(alloc: Global, second: Alternative) -> Result<Row<SyntaxDef>, NoMemo
     Ok(defs)
 }
 
+/// Whether building these definitions is refused with this answer.
+fn is_refused(
+    alloc: Global,
+    defs: &Row<SyntaxDef>,
+    syntax: u32,
+    part: u32,
+    name: u32,
+    rule: RuleId,
+) -> bool {
+    let broken = Broken { part, name, rule };
+    fault_of(alloc, defs) == Some(TypeFault::Refused { syntax, broken })
+}
+
 #[test]
 fn each_rule(rt: HostRuntime) -> Result<(), Fail> {
     let alloc = rt.alloc();
-    let twice = fault_of(alloc, &aliases(alloc, b"a", b"a")?);
-    assert!(rt;
-        twice
-            == Some(TypeFault::Refused {
-                syntax: 1,
-                part: 0,
-                rule: RuleId::B1
-            })
-    );
-    let unknown = fault_of(alloc, &aliases(alloc, b"c", b"b")?);
-    assert!(rt;
-        unknown
-            == Some(TypeFault::Refused {
-                syntax: 1,
-                part: 0,
-                rule: RuleId::B2
-            })
-    );
-    let returns = fault_of(alloc, &aliases(alloc, b"b", b"b")?);
-    assert!(rt;
-        returns
-            == Some(TypeFault::Refused {
-                syntax: 1,
-                part: 0,
-                rule: RuleId::B4
-            })
-    );
+    let twice = aliases(alloc, b"a", b"a")?;
+    assert!(rt; is_refused(alloc, &twice, 1, 0, 0, RuleId::B1));
+    let unknown = aliases(alloc, b"c", b"b")?;
+    assert!(rt; is_refused(alloc, &unknown, 1, 0, 0, RuleId::B2));
+    let returns = aliases(alloc, b"b", b"b")?;
+    assert!(rt; is_refused(alloc, &returns, 1, 0, 0, RuleId::B4));
     let no_variant = variants(alloc, Alternative::Incl(name(alloc, b"a")?))?;
-    assert!(rt;
-        fault_of(alloc, &no_variant)
-            == Some(TypeFault::Refused {
-                syntax: 1,
-                part: 1,
-                rule: RuleId::B5
-            })
-    );
+    assert!(rt; is_refused(alloc, &no_variant, 1, 1, 0, RuleId::B5));
     let same_keys = variants(alloc, atom(alloc, b"A")?)?;
-    assert!(rt;
-        fault_of(alloc, &same_keys)
-            == Some(TypeFault::Refused {
-                syntax: 1,
-                part: 1,
-                rule: RuleId::Y7
-            })
-    );
+    assert!(rt; is_refused(alloc, &same_keys, 1, 1, 0, RuleId::Y7));
+    Ok(())
+}
+
+/// `syntax a = (nat, b, a)`, `syntax b = (c, nat)` and `syntax c = a`.
+fn circle(alloc: Global) -> Result<Row<SyntaxDef>, NoMemory> {
+    let mut defs = Row::new(alloc);
+    let mut first = Row::new(alloc);
+    first.push(Ty::Nat)?;
+    first.push(named(alloc, b"b")?)?;
+    first.push(named(alloc, b"a")?)?;
+    push(alloc, &mut defs, b"a", SyntaxBody::Alias(Ty::Tuple(first)))?;
+    let mut second = Row::new(alloc);
+    second.push(named(alloc, b"c")?)?;
+    second.push(Ty::Nat)?;
+    push(alloc, &mut defs, b"b", SyntaxBody::Alias(Ty::Tuple(second)))?;
+    let back = SyntaxBody::Alias(named(alloc, b"a")?);
+    push(alloc, &mut defs, b"c", back)?;
+    Ok(defs)
+}
+
+#[test]
+fn names_by_number(rt: HostRuntime) -> Result<(), Fail> {
+    let alloc = rt.alloc();
+    assert!(rt; is_refused(alloc, &circle(alloc)?, 0, 0, 0, RuleId::B4));
+    let mut operands = Row::new(alloc);
+    operands.push(named(alloc, b"a")?)?;
+    operands.push(Ty::List(Boxed::new(alloc, named(alloc, b"c")?)?))?;
+    let unknown = variants(alloc, Alternative::Case(name(alloc, b"B % %")?, operands))?;
+    assert!(rt; is_refused(alloc, &unknown, 1, 1, 1, RuleId::B2));
     Ok(())
 }
 

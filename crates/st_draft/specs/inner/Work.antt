@@ -179,7 +179,7 @@ abbrev pub LastWithin : definitions.State → Work → List Def → Type 0
 LastWithin st w defs =
     (last : Work) × (last_work st w ≡ Some last) × Within (defs_height defs) last.draft
 
--- whether there are definitions that end so
+-- the answer is whether there are whole definitions here
 abbrev pub Ends : Bool → Option Defs → Type 0
 Ends true o = (ds : Defs) × (o ≡ Some ds)
 Ends false o = o ≡ None

@@ -17,7 +17,7 @@ pub record Continues (D : Decls) (S : Scope) (all left : List Question) (A : Typ
   pub gives : (xs : List A) → AskedAs D S left A part xs → AskedAs D S all A part (so_far ++ xs)
   pub breaks : (b : Breach) → Breaks D S left b → Breaks D S all b
 
--- an answer to which the steps lead, that is this item
+-- the steps lead to an answer, and this item of a list is made of it
 abbrev pub IsItem : Context → Step → ListItem → Type 0
 IsItem x s part = (m : Made) × Leads x.decls.now x.scope.now s (Gives m) × (item_of m ≡ part)
 

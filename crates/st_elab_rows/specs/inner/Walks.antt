@@ -19,7 +19,8 @@ Steps x steps r =
     → Leads x.decls.now x.scope.now (steps next) a)
     (λ b. (next : PathSeg → Ty → Step) → Leads x.decls.now x.scope.now (steps next) (Fails b)) r
 
--- the same of a whole path
+-- Where a whole path is found, the steps lead where those behind it lead; a breach is theirs
+-- whatever stands behind.
 abbrev pub Walks : Context → ((List PathSeg → Ty → Step) → Step) → Result Walked ExpFault → Type 0
 Walks x steps r =
     Told (λ s. (next : List PathSeg → Ty → Step) (a : Answer)

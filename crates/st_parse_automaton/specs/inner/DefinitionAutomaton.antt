@@ -356,7 +356,7 @@ turn b k ks = if b then begin_def k ks else None
 abbrev pub position_step : Position → TokenClass → List Bracket → Option State
 position_step p l ks = first_of_two (own p l ks) (turn (whole p ks) l.keyword ks)
 
--- the position behind a part that is read for this
+-- the position behind a part that is read for this slot
 abbrev pub filled : Slot → Part → Position
 filled slot.Field p = position.Hinted host.Field false
 filled (slot.Case c) p = position.Hinted host.Case false

@@ -114,7 +114,7 @@ abbrev pub extending : Frames → List Action
 extending (over (items ts) fs) = item_act ts ∷ []
 extending fs = action.First ∷ []
 
--- what ends a part of the innermost bracket, where a sign sets off the next one
+-- the action that ends a part of the innermost bracket, where a sign sets off the next part
 abbrev pub separating : Frames → List Action
 separating (within h ts pre fs) = part_end h
 separating fs = []

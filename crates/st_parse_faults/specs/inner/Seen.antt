@@ -41,7 +41,7 @@ use Rattle.st_parse_faults.specs.Counts.{member_event, counts_after, counts_pass
 use Rattle.st_parse_faults.specs.Limits.{fresh, tally_passes}
 use Rattle.st_parse_faults.specs.inner.Roles.{none_open, attachment_of, tallies_after, TallyKept}
 
--- a part that is read in a part of this sort is a type
+-- whether the part that ends so is a type
 abbrev pub ends_type : Sort → Part → Bool
 ends_type sort.Typ p = true
 ends_type sort.Notation p = parts.is_type p

@@ -77,7 +77,8 @@ ranked [] = 0
 ranked (zero ∷ rs) = ranked rs
 ranked (suc r ∷ rs) = suc (ranked rs)
 
--- the ranks that are found so far, as many as this
+-- These ranks are found so far, and are so many; each way from what is ranked ends, and ranks fall
+-- along it.
 pub record SoFar (graph : Graph) (ranks : List ℕ) (count : ℕ) : Type 0 where
   pub size : length ranks ≡ length graph
   pub counted : count ≡ ranked ranks

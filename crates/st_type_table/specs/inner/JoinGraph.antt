@@ -17,7 +17,7 @@ abbrev pub place_or_never : List SyntaxDef → Option ℕ → ℕ
 place_or_never defs None = never defs
 place_or_never defs (Some place) = place
 
--- what a field waits for, by the top of its type
+-- the numbers of the definitions that must join before a field does, by the top of its type
 abbrev pub waits_at : {X : Type 0} → List SyntaxDef → Ty-F X → List ℕ
 waits_at defs (Ty-F.List t) = []
 waits_at defs (Ty-F.Opt t) = []

@@ -39,6 +39,7 @@ box_field = via (pair (const (Ptr × Global)) this) Inside (λ X b. ((b.inner.pt
 abbrev holding : {X Y : Type 0} → Box X Global → Y → Box Y Global
 holding b value = record { ptr = b.ptr; alloc = b.alloc; value = value }
 
+-- a type as it is described within a box, by its own description
 abbrev boxed_row : RattleType → RattleType
 boxed_row R = boxes.the_row R heap.the_row ghosts
 

@@ -1,4 +1,4 @@
-use Rattle.std.proofs.Common.{sym, ap, ◌∙◌, Some, None}
+use Rattle.std.proofs.Common.{sym, ap, ◌∙◌}
 use Rattle.std.specs.Prelude.{is_some}
 use Rattle.st_type_table.proofs.KeptLemmas.{bodied, body_of-kept}
 use Rattle.st_type_table.proofs.meaning.is_declared.Goals as goal

@@ -1,0 +1,157 @@
+//! Derivations of a small specification that are refused.
+
+ghost use Rattle.st_il.specs.Small.{IsSmallIl};
+
+use st_deriv::{Line, NodeLine, Ref, read_line};
+use st_il::{Il, Value};
+use st_iltext::read_il;
+use st_num::{Name, NoMemory, Row};
+use st_text::TextFault;
+use st_verify::{Accepted, Verifier, VerifyFault, VerifyRule};
+use std::alloc::Global;
+use std::process::Abort;
+use std::test::Fail;
+
+/// A light, which goes from red to green and from green to amber.
+const LIGHT: &[u8] = b"(syntax \"color\" (variant (case \"RED\") (case \"GREEN\") (case \"AMBER\")))
+(relation \"T\" \"% ~> %\" ((n \"color\") (n \"color\")) (mode))
+(rule \"T\" \"a\" () ((case \"color\" \"RED\") (case \"color\" \"GREEN\")))
+(rule \"T\" \"b\" () ((case \"color\" \"GREEN\") (case \"color\" \"AMBER\")))
+";
+
+/// The derivation of the run from red.
+const LINES: [&[u8]; 7] = [
+    b"derivation 1 T",
+    b"from (c \"RED\")",
+    NODE,
+    b"step 3",
+    b"node \"T\" \"b\" () () ((c \"GREEN\") (c \"AMBER\"))",
+    b"step 5",
+    b"end stuck",
+];
+
+const NODE: &[u8] = b"node \"T\" \"a\" () () ((c \"RED\") (c \"GREEN\"))";
+
+/// What is put into a node.
+#[derive(Clone, Copy)]
+enum Odd {
+    Nothing,
+    Binding,
+    Evidence,
+    Child(u128),
+}
+
+/// How many lines of the derivation are taken, the line behind them, what is put into it, and the
+/// rule by which it is refused.
+const REFUSED: [(usize, &[u8], Odd, VerifyRule); 18] = [
+    (0, b"step 3", Odd::Nothing, VerifyRule::V3),
+    (1, b"derivation 1 T", Odd::Nothing, VerifyRule::V3),
+    (7, b"step 5", Odd::Nothing, VerifyRule::V3),
+    (0, b"derivation 1 U", Odd::Nothing, VerifyRule::V5),
+    (
+        2,
+        b"node \"U\" \"a\" () () ((c \"RED\") (c \"GREEN\"))",
+        Odd::Nothing,
+        VerifyRule::V5,
+    ),
+    (
+        2,
+        b"node \"T\" \"c\" () () ((c \"RED\") (c \"GREEN\"))",
+        Odd::Nothing,
+        VerifyRule::V5,
+    ),
+    (1, b"from (c \"BLUE\")", Odd::Nothing, VerifyRule::V6),
+    (
+        1,
+        b"from (c \"RED\") (c \"RED\")",
+        Odd::Nothing,
+        VerifyRule::V6,
+    ),
+    (2, NODE, Odd::Binding, VerifyRule::V6),
+    (3, b"step 0", Odd::Nothing, VerifyRule::V4),
+    (3, b"step 2", Odd::Nothing, VerifyRule::V4),
+    (3, b"step 4", Odd::Nothing, VerifyRule::V4),
+    (3, b"step 5", Odd::Nothing, VerifyRule::V4),
+    (4, NODE, Odd::Child(5), VerifyRule::V4),
+    (
+        2,
+        b"node \"T\" \"a\" () () ((c \"RED\") (c \"AMBER\"))",
+        Odd::Nothing,
+        VerifyRule::V7,
+    ),
+    (4, NODE, Odd::Child(3), VerifyRule::V9),
+    (2, NODE, Odd::Evidence, VerifyRule::V10),
+    (4, b"step 3", Odd::Nothing, VerifyRule::V11),
+];
+
+/// Whether there is enough memory to put it there.
+fn put(alloc: Global, odd: Odd, node: &mut NodeLine) -> Result<(), NoMemory> {
+    match odd {
+        Odd::Nothing => {}
+        Odd::Binding => {
+            let name = Name::from_slice(alloc, b"x")?;
+            node.env.entries.push((name, Value::Bool(true)))?;
+        }
+        Odd::Evidence => node.evidence = Some(Row::new(alloc)),
+        Odd::Child(line) => node.children.push(Ref::Line(line))?,
+    }
+    Ok(())
+}
+
+/// The line of the text, with what is put into it where it is a node.
+fn line_of(alloc: Global, text: &[u8], odd: Odd) -> Result<Line, TextFault> {
+    match read_line(alloc, text)? {
+        Line::Node(mut node) => {
+            put(alloc, odd, &mut node)?;
+            Ok(Line::Node(node))
+        }
+        line => Ok(line),
+    }
+}
+
+/// The lines of the texts, and the line of the text behind them.
+fn lines_of(alloc: Global, front: &[&[u8]], text: &[u8], odd: Odd) -> Result<Row<Line>, TextFault> {
+    let mut lines = Row::new(alloc);
+    for text in front {
+        lines.push(line_of(alloc, *text, Odd::Nothing)?)?;
+    }
+    lines.push(line_of(alloc, text, odd)?)?;
+    Ok(lines)
+}
+
+fn verify(rt: &impl Abort, alloc: Global, il: Il, lines: &[Line]) -> Result<Accepted, VerifyFault>
+    requires { IsSmallIl il }
+{
+    assert!(rt; lines.len() < 100);
+    let mut verifier = Verifier::new(alloc, il)?;
+    for line in lines {
+        verifier.judge(alloc, line)?;
+    }
+    verifier.finish()
+}
+
+/// The answer to the lines, in the language of the light.
+fn answer(rt: &impl Abort, alloc: Global, lines: &Row<Line>) -> Result<Accepted, VerifyFault> {
+    match read_il(alloc, LIGHT) {
+        Ok(il) => verify(rt, alloc, il, lines.as_slice()),
+        Err(_) => Err(VerifyFault::Memory),
+    }
+}
+
+#[test]
+fn a_wrong_line_is_refused_by_its_rule(rt: HostRuntime) -> Result<(), Fail> {
+    for (kept, text, odd, rule) in &REFUSED {
+        let front = LINES.get(..*kept).ok_or("fewer lines")?;
+        let lines = lines_of(rt.alloc(), front, *text, *odd)?;
+        let refusal = VerifyFault::Refused {
+            rule: *rule,
+            line: *kept as u64 + 1,
+            typing: None,
+        };
+        assert!(rt;
+            answer(&rt, rt.alloc(), &lines) == Err(refusal),
+            "{kept} {rule:?}"
+        );
+    }
+    Ok(())
+}
