@@ -14,10 +14,12 @@ use Rattle.st_semantics.specs.declared.notes.Notes.{Notes}
 use Rattle.st_semantics.specs.declared.outcome.Outcome.{Outcome}
 use Rattle.st_semantics.specs.declared.outcome.Outcome.TheVariants.{Deep}
 use Rattle.st_semantics.specs.Names.{Name}
-use Rattle.st_semantics.specs.Definitions.{clauses_in}
+use Rattle.st_semantics.specs.Definitions.{syntaxes, clauses_in}
 use Rattle.st_semantics.specs.Environments.{AgreeOn}
 use Rattle.st_semantics.specs.Orders.{is_order}
 use Rattle.st_semantics.specs.OrderOf.{order_of}
+use Rattle.st_semantics.specs.Formed.{IsFormed, ResultsAreFormed}
+use Rattle.st_semantics.specs.Variables.{vars}
 use Rattle.st_semantics.specs.ModeRules.{IsOtherwise, bound_in_clause}
 use Rattle.st_semantics.specs.Breaches.{KeepModes, ClausesKeep}
 use Rattle.st_semantics.specs.Kinds.{AreKinded, ClausesNameOccurring, ListsOccurring}
@@ -80,6 +82,19 @@ abbrev pub LawOfChoice : Type 0
 LawOfChoice =
     (il : Il) → ClausesKeep il → ClausesNameOccurring il
     → ChoosesOnce il × ChosenIsNotDeep il × CallsAreSingle il × ExpressionsAreSingle il
+
+-- an outcome depends only on the values of the variables that occur in the expression
+abbrev pub LawOfVariables : Type 0
+LawOfVariables =
+    (il : Il) (n : ℕ) (a b : Env) (e : IlExp) (o : Outcome) → AgreeOn (vars e) a b
+    → ValueAt il n a e o → ValueAt il n b e o
+
+-- Where each record and each absent part of an expression fits its type, and so in the results of
+-- clauses, it is not that the expression comes to no outcome.
+abbrev pub LawOfOutcomes : Type 0
+LawOfOutcomes =
+    (il : Il) → ResultsAreFormed il → (n : ℕ) (env : Env) (e : IlExp) → IsFormed (syntaxes il) e
+    → ((o : Outcome) → ValueAt il n env e o → ⊥) → ⊥
 
 -- ---- derivation
 

@@ -8,12 +8,11 @@ use Rattle.st_il.specs.declared.expression.IlExp.{IlExp}
 use Rattle.st_il.specs.declared.ty.Ty.{Ty}
 use Rattle.st_il.specs.declared.value.Env.{Env}
 use Rattle.st_il.specs.declared.value.Value.{Value}
-use Rattle.st_semantics.specs.declared.outcome.Outcome.{Outcome}
 use Rattle.st_semantics.specs.declared.outcome.Outcome.TheVariants.{Val}
 use Rattle.st_semantics.specs.Names.{Name}
 use Rattle.st_semantics.specs.Definitions.{syntaxes}
 use Rattle.st_semantics.specs.Environments.{EnvOk, IsTypedValue}
-use Rattle.st_semantics.specs.Breaches.{KeepModes, ClausesKeep}
+use Rattle.st_semantics.specs.Breaches.{KeepModes}
 use Rattle.st_semantics.specs.Marks.{HasMark}
 use Rattle.st_semantics.specs.Calls.{ValueAt}
 use Rattle.st_semantics.specs.Chains.{DeepAt}
@@ -33,14 +32,6 @@ ValuesAreTyped T il =
 -- the law of types, where the internal language is typed
 abbrev pub LawOfTypes : (Il → Type 0) → Typing → Type 0
 LawOfTypes Typed T = (il : Il) → Typed il → ValuesAreTyped T il
-
--- an expression comes to an outcome, in every environment
-abbrev pub HaveOutcomes : Il → Type 0
-HaveOutcomes il = (n : ℕ) (env : Env) (e : IlExp) → (o : Outcome) × ValueAt il n env e o
-
--- the law of outcomes, where the internal language is typed and its clauses keep their rules
-abbrev pub LawOfOutcomes : (Il → Type 0) → Type 0
-LawOfOutcomes Typed = (il : Il) → Typed il → ClausesKeep il → HaveOutcomes il
 
 -- where something is derivable from typed inputs, but no least output, a chain begins there at
 -- every depth
