@@ -28,7 +28,7 @@ use Rattle.st_semantics.specs.Executable.{Class, Test, Equation, class_of, class
 use Rattle.st_semantics.specs.Orders.{run_on}
 use Rattle.st_semantics.specs.ModeRules.{keeps_m3, keeps_m4, keeps_m7, patterns_have_one_open}
 use Rattle.st_semantics.specs.Breaches.{ClausesKeep}
-use Rattle.st_semantics.specs.Kinds.{IsKinded, AreKinded}
+use Rattle.st_semantics.specs.Kinds.{IsKinded, ClausesAreKinded}
 use Rattle.st_semantics.specs.Kinds as kinded
 use Rattle.st_semantics.specs.inner.Modes.{ClauseRuns}
 use Rattle.st_semantics.proofs.Modes.{clauses_run}
@@ -213,5 +213,5 @@ all_can_run il (c ∷ cs) runs kinds = (
 )
 
 -- the clauses of an internal language that keeps the rules can be met
-pub clauses_can_be_run : (il : Il) → ClausesKeep il → AreKinded il → AllCanRun (clauses_in il.defs)
-clauses_can_be_run il keep kinds = all_can_run il (clauses_in il.defs) (clauses_run il keep) kinds.clauses
+pub clauses_can_be_run : (il : Il) → ClausesKeep il → ClausesAreKinded il → AllCanRun (clauses_in il.defs)
+clauses_can_be_run il keep kinds = all_can_run il (clauses_in il.defs) (clauses_run il keep) kinds

@@ -148,6 +148,9 @@ natural_out (Value-F.Num (pos m)) n e = cc
 natural_out (Value-F.Num (negsuc m)) n e = cc
 natural_out _ n e = cc
 
+pub natural_is : (v : Value) (n : ℕ) → natural v ≡ Some n → v ≡ value.Num (pos n)
+natural_is v n e = same_out v (value.Num (pos n)) (natural_out (out-Value v) n e ∙ sym (value.outs-Num (pos n)))
+
 pub natural_value : (v w : Value) (n : ℕ) → natural v ≡ Some n → natural w ≡ Some n → v ≡ w
 natural_value v w n e f = same_out v w (natural_out (out-Value v) n e ∙ sym (natural_out (out-Value w) n f))
 

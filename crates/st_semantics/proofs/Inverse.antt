@@ -17,7 +17,7 @@ use Rattle.st_semantics.specs.Environments.{value_in}
 use Rattle.st_semantics.specs.Parts.{Operation, given}
 use Rattle.st_semantics.specs.Forms.{Form, HasForm, Strict, Variable, Calls, Iterates}
 use Rattle.st_semantics.specs.Iterations.{count_of, spread, Spread, Misfit, Over, gathered}
-use Rattle.st_semantics.specs.Evaluation.{Answers, Task, tasks, each_task, applied, Way, Ends, Goes, way, way_over, Gives, GivesAll, strict, variable, call, iteration_ends, iteration}
+use Rattle.st_semantics.specs.Evaluation.{Answers, Task, tasks, each_task, applied, Called, Way, Ends, Goes, way, way_over, Gives, GivesAll, strict, variable, call, iteration_ends, iteration}
 use Rattle.st_semantics.specs.Holding as h
 use Rattle.st_semantics.specs.Holding.{Meaning, value_by, HaveValues, Derives, AreElements, each_place, Holds, HoldAll}
 use Rattle.st_semantics.proofs.Singles.{HasForm-single}
@@ -72,6 +72,21 @@ module _ (defs : List SyntaxDef) (C : Answers) where
   variable_value env e x v h (call g es r fe all c) = let same = HasForm-single defs e _ _ fe h in cc
   variable_value env e x v h (iteration_ends k xs body r fe all we) = let same = HasForm-single defs e _ _ fe h in cc
   variable_value env e x v h (iteration k xs body r envs s fe all we every oe) = let same = HasForm-single defs e _ _ fe h in cc
+
+  -- a call comes to its value with the values of its arguments
+  called_by : (ts : List Task) (fun : Name) (r : Outcomes) (v : Value) → GivesAll defs C ts r → Called C fun r (Val v) → (vs : List Value) × C fun vs (Val v)
+  called_by ts fun (Values vs) v all c = (vs, c)
+  called_by ts fun (Stopped o) v all c = absurd (not_value defs C ts (Stopped o) v all (ap Stopped (sym c)))
+
+  pub called_value : (env : Env) (e : IlExp) (fun : Name) (args : List IlExp) (v : Value) → HasForm defs e (Calls fun args) → Gives defs C env e (Val v) → (vs : List Value) × C fun vs (Val v)
+  called_value env e fun args v h (strict es g r fe all oe) = let same = HasForm-single defs e _ _ fe h in cc
+  called_value env e fun args v h (variable y fe oe) = let same = HasForm-single defs e _ _ fe h in cc
+  called_value env e fun args v h (call g es r fe all c) =
+      let same = HasForm-single defs e _ _ fe h in
+      let name : g ≡ fun = cc in
+      called_by (tasks env es) fun r v all (subst (λ z. Called C z r (Val v)) name c)
+  called_value env e fun args v h (iteration_ends k ys g r fe all we) = let same = HasForm-single defs e _ _ fe h in cc
+  called_value env e fun args v h (iteration k ys g r envs s fe all we every oe) = let same = HasForm-single defs e _ _ fe h in cc
 
   -- an iteration has its elements, and its body a value at each
   pub record Elements (env : Env) (k : Iteration) (xs : List Name) (body : IlExp) (v : Value) : Type 0 where

@@ -87,7 +87,7 @@ tails_low xs cs h x c is = at (column x xs cs) refl (sym (column-tails x xs cs) 
     at (Some []) k e = let same : [] ≡ c = cc in subst AllLow same tt
     at (Some (v ∷ vs)) k e = let same : vs ≡ c = cc in subst AllLow same (h x (v ∷ vs) k).1
 
-number_low : (n : ℕ) → IsLow (value.Num (pos n))
+pub number_low : (n : ℕ) → IsLow (value.Num (pos n))
 number_low n = let h = height-level (value.Num (pos n)) (Value-F.Num (pos n)) (value.outs-Num (pos n)) in omega (arith, h)
 
 row_low : (n : ℕ) (xs : List Name) (cs : List Column) (env : List Entry) → all_long (suc n) cs ≡ true → LowColumns xs cs → LowEntries env → LowEntries (bound_to xs (heads cs) env)

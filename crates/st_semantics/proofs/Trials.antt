@@ -338,4 +338,4 @@ rule_kinds name (r ∷ rs) number rule e kinds =
 
 pub trials_are_stable : (il : Il) → KeepModes il → AreKinded il → TrialsAreStable il
 trials_are_stable il modes kinds name number rule at order inputs plain is not_deep gives =
-    trial_at il (clauses_can_be_run il (clauses_keep il modes) kinds) rule (rule_kinds name (rules_in il.defs) number rule at kinds.rules) order inputs plain is not_deep gives
+    trial_at il (clauses_can_be_run il (clauses_keep il modes) kinds.clauses) rule (rule_kinds name (rules_in il.defs) number rule at kinds.rules) order inputs plain is not_deep gives

@@ -40,10 +40,15 @@ pub data IsKinded : List Listed → IlPrem → Type 0 where
       → out-IlPrem p ≡ IlPrem-F.Each how xs body → AreOfItsKind how xs ls
       → IsKinded (listed_inside how xs ls) body → IsKinded ls p
 
+-- All premises of clauses name only variables of their own kind.
+abbrev pub ClausesAreKinded : Il → Type 0
+ClausesAreKinded il =
+    All (λ (c : ClauseDef). All (IsKinded c.variables) c.premises) (clauses_in il.defs)
+
 -- All premises of rules and clauses name only variables of their own kind.
 pub record AreKinded (il : Il) : Type 0 where
   pub rules : All (λ (r : RuleDef). All (IsKinded r.variables) r.premises) (rules_in il.defs)
-  pub clauses : All (λ (c : ClauseDef). All (IsKinded c.variables) c.premises) (clauses_in il.defs)
+  pub clauses : ClausesAreKinded il
 
 -- ---- names that occur
 

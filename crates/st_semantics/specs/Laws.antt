@@ -5,24 +5,27 @@ use Rattle.st_deriv.specs.declared.line.Line.{Line}
 use Rattle.st_il.specs.declared.definition.ClauseDef.{ClauseDef}
 use Rattle.st_il.specs.declared.definition.Il.{Il}
 use Rattle.st_il.specs.declared.definition.RuleDef.{RuleDef}
+use Rattle.st_il.specs.declared.definition.Listed.{Listed}
 use Rattle.st_il.specs.declared.expression.IlExp.{IlExp}
 use Rattle.st_il.specs.declared.tree.Tree.{Tree}
+use Rattle.st_il.specs.declared.ty.Ty.{Ty}
 use Rattle.st_il.specs.declared.value.Env.{Env}
 use Rattle.st_il.specs.declared.value.Value.{Value}
 use Rattle.st_semantics.specs.declared.verify_rule.VerifyRule.{VerifyRule}
 use Rattle.st_semantics.specs.declared.notes.Notes.{Notes}
 use Rattle.st_semantics.specs.declared.outcome.Outcome.{Outcome}
-use Rattle.st_semantics.specs.declared.outcome.Outcome.TheVariants.{Deep}
+use Rattle.st_semantics.specs.declared.outcome.Outcome.TheVariants.{Val, Deep}
 use Rattle.st_semantics.specs.Names.{Name}
 use Rattle.st_semantics.specs.Definitions.{syntaxes, clauses_in}
-use Rattle.st_semantics.specs.Environments.{AgreeOn}
+use Rattle.st_semantics.specs.Environments.{AgreeOn, EnvOk, IsTypedValue}
 use Rattle.st_semantics.specs.Orders.{is_order}
 use Rattle.st_semantics.specs.OrderOf.{order_of}
 use Rattle.st_semantics.specs.Formed.{IsFormed, ResultsAreFormed}
+use Rattle.st_semantics.specs.Typing.{ExpHasType, ResultsAreTyped}
 use Rattle.st_semantics.specs.Variables.{vars}
 use Rattle.st_semantics.specs.ModeRules.{IsOtherwise, bound_in_clause}
 use Rattle.st_semantics.specs.Breaches.{KeepModes, ClausesKeep}
-use Rattle.st_semantics.specs.Kinds.{AreKinded, ClausesNameOccurring, ListsOccurring}
+use Rattle.st_semantics.specs.Kinds.{AreKinded, ClausesAreKinded, ClausesNameOccurring, ListsOccurring}
 use Rattle.st_semantics.specs.Calls.{Chosen, TooDeep, CallAt, ValueAt}
 use Rattle.st_semantics.specs.Derivation.{Root, excluded, NoneBefore, IsValid}
 use Rattle.st_semantics.specs.Chains.{IsValidAt}
@@ -70,10 +73,10 @@ ChosenIsNotDeep il =
     (n : ℕ) (c : ClauseDef) → Contains (clauses_in il.defs) c → (vs : List Value) (env : Env)
     → Chosen il (CallAt il n) c vs env → TooDeep il (CallAt il n) c vs → ⊥
 
--- Where clauses keep the rules M3, M4, M6 and M7 and iterated premises name only variables of their
--- kind, an outcome that is not Deep is the outcome at every larger depth.
+-- Where clauses keep the rules M3, M4, M6 and M7 and their iterated premises name only variables of
+-- their kind, an outcome that is not Deep is the outcome at every larger depth.
 abbrev pub LawOfDepths : Type 0
-LawOfDepths = (il : Il) → ClausesKeep il → AreKinded il → IsStable il × IsDeepBelow il
+LawOfDepths = (il : Il) → ClausesKeep il → ClausesAreKinded il → IsStable il × IsDeepBelow il
 
 -- Where clauses keep these rules and the iterated premises of clauses name only variables that
 -- occur inside, each clause is chosen under one environment at most, a clause that is chosen does
@@ -95,6 +98,13 @@ abbrev pub LawOfOutcomes : Type 0
 LawOfOutcomes =
     (il : Il) → ResultsAreFormed il → (n : ℕ) (env : Env) (e : IlExp) → IsFormed (syntaxes il) e
     → ((o : Outcome) → ValueAt il n env e o → ⊥) → ⊥
+
+-- Where the results of clauses have the declared types, the value of an expression has its type.
+abbrev pub LawOfTypes : Type 0
+LawOfTypes =
+    (il : Il) → ResultsAreTyped il → (n : ℕ) (ls : List Listed) (env : Env) (e : IlExp) (t : Ty)
+    (v : Value) → ExpHasType il ls e t → EnvOk (syntaxes il) ls env → ValueAt il n env e (Val v)
+    → IsTypedValue (syntaxes il) t v
 
 -- ---- derivation
 
