@@ -16,12 +16,6 @@ pub mod Tags
 pub mod Key
 -- a name occurs as a variable in an expression or a premise
 pub mod Occurrences
--- an expression has this value in an environment
-pub mod Evaluation
--- a premise holds in an environment
-pub mod Holding
--- a judgement is derivable: some tree of nodes that keep the rules derives it
-pub mod Derivation
 -- a small specification means this internal language
 pub mod Small
 -- ---- what only proofs need

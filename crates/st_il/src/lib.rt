@@ -3,7 +3,7 @@
 //! Definitions are named by their positions, notation has become tags, and each conversion between
 //! types is written out. Values, environments and derivation trees are plain data to contracts.
 //!
-//! Read `definition` and `expression` first, then `specs/Derivation.antt`: what can be derived.
+//! Read `definition` and `expression` first. What can be derived is told by `st_semantics`.
 //! The language is told in `docs/internal-language.md`, its meaning in `docs/semantics.md`.
 #![tactic(auto)]
 

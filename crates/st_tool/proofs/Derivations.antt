@@ -13,23 +13,28 @@ use Rattle.st_num.specs.declared.memory.NoMemory.{NoMemory}
 use Rattle.st_tool.specs.declared.answer.Answer.{Answer}
 use Rattle.st_tool.specs.declared.transcript.Ending.{Ending}
 use Rattle.st_tool.specs.Commands.{IsDerivationText, default_fuel, status_of}
-use Rattle.st_tool.specs.Derivation.{StepLines, begins, goes_on, last_line}
+use Rattle.st_tool.specs.Derivation.{IsStepTree, StepLines, begins, goes_on, last_line}
 use Rattle.st_tool.specs.inner.Nodes.{rule_node}
 use Rattle.st_tool.specs.inner.Step.{IsNextRule}
-use Rattle.st_tool.specs.Transcript.{Term, atom_term, Reaches, begins as starts, goes_on as comes, EndsBy}
-use Rattle.st_tool.proofs.Derives.{tree_of_rule, rule_is_valid, node_of_rule}
+use Rattle.st_semantics.specs.Transcript.{Term}
+use Rattle.st_tool.specs.inner.Reaches.{Reaches, begins as starts, goes_on as comes, EndsBehind}
+use Rattle.st_tool.specs.Transcript.{atom_term}
+use Rattle.st_tool.proofs.Derives.{step_tree, node_of_rule}
 use Rattle.st_tool.proofs.LineTexts.{head_text, from_text, node_text, step_text, end_text}
-use Rattle.st_tool.proofs.LineVerdicts.{IsAt, head_verdict, from_verdict, at_start, node_verdict, step_verdict, at_next, end_verdict}
-use Rattle.st_verify.specs.declared.notes.Notes.{Notes}
-use Rattle.st_verify.specs.Accepts.{ReadsTo, none, more}
-use Rattle.st_verify.specs.Notes.{nothing_noted, noted}
+use Rattle.st_tool.proofs.LineVerdicts.{IsAt, head_verdict, behind_head, from_verdict, at_start, node_verdict, step_verdict, at_next, end_verdict}
+use Rattle.st_tool.proofs.Reaching.{transcript_of}
+use Rattle.st_verify.proofs.SmallModes.{keep_modes}
+use Rattle.st_verify.proofs.SmallTrees.{tree_of_rule}
+use Rattle.st_semantics.specs.declared.notes.Notes.{Notes}
+use Rattle.st_semantics.specs.Accepts.{ReadsTo, none, more}
+use Rattle.st_semantics.specs.Notes.{noted}
 
 -- so many steps of a run are derived: it has come to this atom, by these lines
 pub record HasDerived (s : Small) (start atom : List ℕ) (k : ℕ) (lines : List Line) : Type 0 where
   pub before : List Term
-  pub reaches : Reaches (il_of s) 0 (atom_term start) before (atom_term atom)
+  pub reaches : Reaches (il_of s) s.relation (atom_term start) before (atom_term atom)
   pub count : length before ≡ k
-  pub takes : StepLines (il_of s) 0 s.relation (atom_term start) before (atom_term atom) lines
+  pub takes : StepLines (il_of s) s.relation (atom_term start) before (atom_term atom) lines
   pub long : length lines ≡ 2 * k + 2
   pub notes : Notes
   pub read : ReadsTo (il_of s) lines notes
@@ -57,8 +62,8 @@ before_steps s start lines small known are =
       count = refl;
       takes = begins are;
       long = ap length are;
-      notes = noted (noted nothing_noted head) from;
-      read = more from read_head (from_verdict s start known) are refl;
+      notes = noted (il_of s) (behind_head s) from;
+      read = more from read_head (from_verdict s start small known) are refl;
       at = at_start s start lines (ap length are);
       texts = subst (All HasText) (sym are)
           (All-cons HasText head (from ∷ []) (head_text s small) (All-cons HasText from [] (from_text start (atom_word s start small known)) (All-nil HasText)));
@@ -71,19 +76,19 @@ one_step s start atom k lines all rule small below derived next are =
     let node = Node (rule_node s.relation rule) in
     let step = Step (length lines + 1) in
     let is = small_rule s next.number rule small next.is_rule in
-    let tree = tree_of_rule s next.number rule in
+    let tree = tree_of_rule next.number rule in
     let apart : all ≡ (lines ++ node ∷ []) ++ step ∷ [] = are ∙ sym (append_assoc lines (node ∷ []) (step ∷ [])) in
     let longer : length all ≡ length lines + 2 = ap length are ∙ length-append lines (node ∷ step ∷ []) in
-    let read_node = more {all = lines ++ node ∷ []} node derived.read (node_verdict s atom lines derived.notes next.number rule derived.at next.is_rule) refl refl in
+    let read_node = more {all = lines ++ node ∷ []} node derived.read (node_verdict s atom lines derived.notes next.number rule small derived.at next.is_rule) refl refl in
     record {
       before = derived.before ++ atom_term atom ∷ [];
       reaches = comes derived.reaches next.next;
       count = omega (arith, derived.count, length-append derived.before (atom_term atom ∷ []));
       takes = goes_on tree (rule_node s.relation rule) derived.takes
-          (record { valid = rule_is_valid s next.number rule next.is_rule; relation_is = refl; values_are = ap (λ a. atom_term a ++ atom_term rule.to) next.goes })
+          (subst (λ a. IsStepTree (il_of s) s.relation (atom_term a) (atom_term rule.to) tree) next.goes (step_tree s next.number rule next.is_rule))
           (node_of_rule s next.number rule next.is_rule) are;
       long = omega (arith, derived.long, longer);
-      notes = noted (noted derived.notes node) step;
+      notes = noted (il_of s) (noted (il_of s) derived.notes node) step;
       read = more step read_node (step_verdict s atom lines derived.notes rule derived.at next.goes) apart refl;
       at = at_next s atom lines all derived.notes rule derived.at longer;
       texts = subst (All HasText) (sym apart)
@@ -94,30 +99,28 @@ one_step s start atom k lines all rule small below derived next are =
 
 -- the answer of a run that ends here
 pub derived_answer : (s : Small) (start atom : List ℕ) (k : ℕ) (lines : List Line) (ending : Ending) (result : Result Answer NoMemory)
-    → HasDerived s start atom k lines → EndsBy (il_of s) 0 default_fuel k (atom_term atom) ending
+    → IsSmall s → HasDerived s start atom k lines → EndsBehind (il_of s) s.relation default_fuel k (atom_term atom) ending
     → IfOk result (λ answer. answer.status ≡ status_of ending) → IfOk result (λ answer. answer.bytes.items ≡ lines_text (lines ++ End (last_line ending) ∷ []))
     → IfOk result (λ answer. IsDerivationText s start answer.status answer.bytes.items)
-derived_answer s start atom k lines ending (Err e) derived ends status bytes = tt
-derived_answer s start atom k lines ending (Ok answer) derived ends status bytes =
+derived_answer s start atom k lines ending (Err e) small derived ends status bytes = tt
+derived_answer s start atom k lines ending (Ok answer) small derived ends status bytes =
     let end = End (last_line ending) in
     record {
       ending = ending;
       lines = lines ++ end ∷ [];
       derivation = record {
-        terms = derived.before ++ atom_term atom ∷ [];
-        transcript = record {
-          before = derived.before;
-          last = atom_term atom;
-          reaches = derived.reaches;
-          ends = subst (λ n. EndsBy (il_of s) 0 default_fuel n (atom_term atom) ending) (sym derived.count) ends;
-          terms_are = refl;
-        };
+        before = derived.before;
+        last = atom_term atom;
+        transcript = transcript_of (il_of s) s.relation default_fuel (atom_term start) derived.before (atom_term atom) ending derived.reaches
+            (subst (λ n. EndsBehind (il_of s) s.relation default_fuel n (atom_term atom) ending) (sym derived.count) ends);
         steps = lines;
         takes = derived.takes;
         lines_are = refl;
       };
       accepted = record {
-        notes = noted derived.notes end;
+        typed = record { source = s; small = small; means = refl };
+        modes = keep_modes s;
+        notes = noted (il_of s) derived.notes end;
         read = more end derived.read (end_verdict s atom lines derived.notes ending derived.at) refl refl;
         before = lines;
         ending = last_line ending;

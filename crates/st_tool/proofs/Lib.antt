@@ -2,6 +2,7 @@ mod Lists
 mod Lines
 mod Atoms
 mod StepLemmas
+mod Reaching
 mod Derives
 mod LineTexts
 mod LineVerdicts

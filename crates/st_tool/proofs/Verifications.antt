@@ -23,22 +23,23 @@ use Rattle.st_tool.specs.Verification.{steps_in, Verified, accepted, refused as 
 use Rattle.st_verify.specs.declared.accepted.Accepted.{Accepted}
 use Rattle.st_verify.specs.declared.fault.VerifyFault.{VerifyFault}
 use Rattle.st_verify.specs.declared.fault.VerifyFault.TheVariants.{Refused}
-use Rattle.st_verify.specs.declared.fault.VerifyRule.{VerifyRule}
-use Rattle.st_verify.specs.declared.fault.VerifyRule.TheVariants.{V3, V12}
-use Rattle.st_verify.specs.declared.notes.Notes.{Notes}
-use Rattle.st_verify.specs.Accepts.{ReadsTo, none, more, Accepts}
-use Rattle.st_verify.specs.Notes.{nothing_noted, noted}
-use Rattle.st_verify.specs.Verdict.{Verdict, IsInPlace}
+use Rattle.st_semantics.specs.declared.verify_rule.VerifyRule.{VerifyRule}
+use Rattle.st_semantics.specs.declared.verify_rule.VerifyRule.TheVariants.{V3, V12}
+use Rattle.st_semantics.specs.declared.notes.Notes.{Notes}
+use Rattle.st_il.specs.Small.{IsSmallIl}
+use Rattle.st_semantics.specs.Accepts.{ReadsTo, none, more, Accepts}
+use Rattle.st_semantics.specs.Notes.{nothing_noted, noted}
+use Rattle.st_semantics.specs.Verdict.{Verdict, IsInPlace}
 use Rattle.st_verify.specs.Verifier.{Checking, Feeds, FeedsNext}
-use Rattle.st_verify.proofs.Judged.{accepted as accepted_line}
-use Rattle.st_verify.proofs.Soundness.{length-noted}
+use Rattle.st_verify.proofs.SmallModes.{small_keeps_modes}
+use Rattle.st_verify.proofs.SmallNotings.{length-noted, accepted_place}
 
 -- ---- what is noted of lines
 
 pub read_length : (il : Il) (lines : List Line) (notes : Notes) → ReadsTo il lines notes → length notes.lines ≡ length lines
 read_length il lines notes (none is) = ap (λ (n : Notes). length n.lines) is
 read_length il all notes (more {lines} {before = before} line read verdict are is) =
-    ap (λ (n : Notes). length n.lines) is ∙ length-noted before line ∙ ap suc (read_length il lines before read)
+    ap (λ (n : Notes). length n.lines) is ∙ length-noted il before line ∙ ap suc (read_length il lines before read)
     ∙ sym (ap length are ∙ longer lines)
   where
     longer : (xs : List Line) → length (xs ++ line ∷ []) ≡ suc (length xs)
@@ -55,40 +56,40 @@ steps_in-append (Node node ∷ lines) others = steps_in-append lines others
 steps_in-append (Step number ∷ lines) others = omega (arith, steps_in-append lines others)
 steps_in-append (End ending ∷ lines) others = steps_in-append lines others
 
-steps-noted : (notes : Notes) (line : Line) → (noted notes line).steps ≡ notes.steps + steps_one line
-steps-noted notes (Head format relation) = omega arith
-steps-noted notes (From values) = omega arith
-steps-noted notes (Node node) = omega arith
-steps-noted notes (Step number) = omega arith
-steps-noted notes (End ending) = omega arith
+steps-noted : (il : Il) (notes : Notes) (line : Line) → (noted il notes line).steps ≡ notes.steps + steps_one line
+steps-noted il notes (Head format relation) = omega arith
+steps-noted il notes (From values) = omega arith
+steps-noted il notes (Node node) = omega arith
+steps-noted il notes (Step number) = omega arith
+steps-noted il notes (End ending) = omega arith
 
 read_steps : (il : Il) (lines : List Line) (notes : Notes) → ReadsTo il lines notes → notes.steps ≡ steps_in lines
 read_steps il lines notes (none is) = ap (λ (n : Notes). n.steps) is
 read_steps il all notes (more {lines} {before = before} line read verdict are is) =
-    ap (λ (n : Notes). n.steps) is ∙ steps-noted before line ∙ ap (λ n. n + steps_one line) (read_steps il lines before read)
+    ap (λ (n : Notes). n.steps) is ∙ steps-noted il before line ∙ ap (λ n. n + steps_one line) (read_steps il lines before read)
     ∙ sym (ap steps_in are ∙ steps_in-append lines (line ∷ []))
 
 -- where the end was taken, the last line is an end line
 in_place : (il : Il) (notes : Notes) (line : Line) → Verdict il notes line None → IsInPlace notes line
-in_place il notes line verdict = (accepted_line il notes line verdict).in_place
+in_place il notes line verdict = accepted_place il notes line verdict
 
 record EndsLine (lines : List Line) : Type 0 where
   before : List Line
   ending : Ending
   is : lines ≡ before ++ End ending ∷ []
 
-last_ended : (il : Il) (before : Notes) (lines all : List Line) (line : Line) → Verdict il before line None → all ≡ lines ++ line ∷ [] → (noted before line).ended ≡ true → EndsLine all
+last_ended : (il : Il) (before : Notes) (lines all : List Line) (line : Line) → Verdict il before line None → all ≡ lines ++ line ∷ [] → (noted il before line).ended ≡ true → EndsLine all
 last_ended il before lines all (End ending) verdict are ended = record { before = lines; ending = ending; is = are }
 last_ended il before lines all (Head format relation) verdict are ended = let place = in_place il before (Head format relation) verdict in cc (place.1, ended)
 last_ended il before lines all (From values) verdict are ended = let place = in_place il before (From values) verdict in cc (place.1, ended)
 last_ended il before lines all (Node node) verdict are ended = let place = in_place il before (Node node) verdict in cc (place.1, ended)
 last_ended il before lines all (Step number) verdict are ended = let place = in_place il before (Step number) verdict in cc (place.1, ended)
 
-accepts : (il : Il) (lines : List Line) (notes : Notes) → ReadsTo il lines notes → notes.ended ≡ true → Accepts il lines
-accepts il lines notes (none is) ended = cc
-accepts il all notes (more {lines} {before = before} line read verdict are is) ended =
+accepts : (il : Il) (lines : List Line) (notes : Notes) → IsSmallIl il → ReadsTo il lines notes → notes.ended ≡ true → Accepts IsSmallIl il lines
+accepts il lines notes small (none is) ended = cc
+accepts il all notes small (more {lines} {before = before} line read verdict are is) ended =
     let last = last_ended il before lines all line verdict are (sym (ap (λ (n : Notes). n.ended) is) ∙ ended) in
-    record { notes = notes; read = more line read verdict are is; before = last.before; ending = last.ending; ended = last.is }
+    record { typed = small; modes = small_keeps_modes il small; notes = notes; read = more line read verdict are is; before = last.before; ending = last.ending; ended = last.is }
 
 -- ---- a verifier takes lines
 
@@ -96,7 +97,7 @@ pub take_more : (il : Il) (lines : List Line) (line : Line) (old new : Checking)
 take_more il lines line old new (going notes read is) takes = first (subst (λ o. Takes o line new) is takes)
   where
     first : TakesFirst (record { il = il; notes = notes; refusal = None }) line new → HasTaken il (lines ++ line ∷ []) new
-    first (inl (verdict, then)) = going (noted notes line) (more line read verdict refl refl) then
+    first (inl (verdict, then)) = going (noted il notes line) (more line read verdict refl refl) then
     first (inr (rule, verdict, then)) = refused lines [] line notes rule refl read verdict then
 take_more il lines line old new (refused good after bad notes rule parts read verdict is) takes =
     let same = subst (λ o. Takes o line new) is takes in
@@ -205,26 +206,26 @@ not_taken il bytes rest text behind is_line old new taken parts single known rea
 
 -- ---- the answer
 
-told : (il : Il) (lines : List Line) (rest : List ℕ) (notes : Notes) (result : Result Accepted VerifyFault) (status : Status) (bytes : List ℕ) → ReadsTo il lines notes
+told : (il : Il) (lines : List Line) (rest : List ℕ) (notes : Notes) (result : Result Accepted VerifyFault) (status : Status) (bytes : List ℕ) → IsSmallIl il → ReadsTo il lines notes
     → EndsNow (record { il = il; notes = notes; refusal = None }) rest result → Tells result status bytes → Verified il lines rest status bytes
-told il lines rest notes (Ok a) status bytes read (empty, ended, count, steps) (is, text) =
+told il lines rest notes (Ok a) status bytes small read (empty, ended, count, steps) (is, text) =
     subst (λ s. Verified il lines rest s bytes) (sym is)
-    (accepted (accepts il lines notes read ended) empty
+    (accepted (accepts il lines notes small read ended) empty
     (text ∙ ap₂ accepted_text (count ∙ read_length il lines notes read) (steps ∙ read_steps il lines notes read)))
-told il lines rest notes (Err fault) status bytes read (inl (empty, ended, is)) tells =
+told il lines rest notes (Err fault) status bytes small read (inl (empty, ended, is)) tells =
     let (status_is, text) = subst (λ f. Tells (Err f) status bytes) is tells in
     subst (λ s. Verified il lines rest s bytes) (sym status_is)
     (endless notes read ended empty (text ∙ ap (λ n. refused_text (n + 1) V12) (read_length il lines notes read)))
-told il lines rest notes (Err fault) status bytes read (inr (some, is)) tells =
+told il lines rest notes (Err fault) status bytes small read (inr (some, is)) tells =
     let (status_is, text) = subst (λ f. Tells (Err f) status bytes) is tells in
     subst (λ s. Verified il lines rest s bytes) (sym status_is)
     (unfinished notes read some (text ∙ ap (λ n. refused_text (n + 1) V3) (read_length il lines notes read)))
 
-verified : (il : Il) (lines : List Line) (rest : List ℕ) (checking : Checking) (result : Result Accepted VerifyFault) (status : Status) (bytes : List ℕ) → HasTaken il lines checking
+verified : (il : Il) (lines : List Line) (rest : List ℕ) (checking : Checking) (result : Result Accepted VerifyFault) (status : Status) (bytes : List ℕ) → IsSmallIl il → HasTaken il lines checking
     → Ends checking rest result → Tells result status bytes → Verified il lines rest status bytes
-verified il lines rest checking result status bytes (going notes read is) ends tells =
-    told il lines rest notes result status bytes read (subst (λ c. Ends c rest result) is ends) tells
-verified il lines rest checking result status bytes (refused good after line notes rule parts read verdict is) ends tells =
+verified il lines rest checking result status bytes small (going notes read is) ends tells =
+    told il lines rest notes result status bytes small read (subst (λ c. Ends c rest result) is ends) tells
+verified il lines rest checking result status bytes small (refused good after line notes rule parts read verdict is) ends tells =
     let result_is = subst (λ c. Ends c rest result) is ends in
     let (status_is, text) = subst (λ r. Tells r status bytes) result_is tells in
     subst (λ s. Verified il lines rest s bytes) (sym status_is)
@@ -241,7 +242,7 @@ verify_answer il_bytes derivation rest il checking verdict (Ok answer) text take
       taken.lines,
       rest,
       record { language = text; lines_are = record { front = taken.front; texts = taken.texts; rest_has_no_end = ends; parts = taken.parts } },
-      verified il taken.lines rest checking verdict answer.status answer.bytes.items taken.taken says tells,
+      verified il taken.lines rest checking verdict answer.status answer.bytes.items text.small taken.taken says tells,
     )
 
 -- other files are not built

@@ -4,7 +4,7 @@ use Rattle.st_deriv.specs.declared.line.Line.{Line}
 use Rattle.st_deriv.specs.LineText.{LinesText}
 use Rattle.st_il.specs.declared.definition.Il.{Il}
 use Rattle.st_il.specs.declared.small.Small.{Small}
-use Rattle.st_il.specs.Small.{il_of}
+use Rattle.st_il.specs.Small.{il_of, IsSmallIl}
 use Rattle.st_iltext.specs.IlText.{IlText}
 use Rattle.st_tool.specs.declared.status.Status.{Status}
 use Rattle.st_tool.specs.declared.status.Status.TheVariants as answer
@@ -14,9 +14,10 @@ use Rattle.st_tool.specs.Checking.{CheckGives}
 use Rattle.st_tool.specs.Derivation.{IsDerivation}
 use Rattle.st_tool.specs.SmallText.{IsTextOf}
 use Rattle.st_tool.specs.Texts.{transcript_text, unbuilt_text}
-use Rattle.st_tool.specs.Transcript.{Term, atom_term, IsTranscript}
+use Rattle.st_semantics.specs.Accepts.{Accepts}
+use Rattle.st_semantics.specs.Transcript.{Term}
+use Rattle.st_tool.specs.Transcript.{atom_term, IsTranscript}
 use Rattle.st_tool.specs.Verification.{AreTexts, Verified}
-use Rattle.st_verify.specs.Accepts.{Accepts}
 use Rattle.st_words.specs.declared.command.Command.{Command}
 use Rattle.st_words.specs.declared.command.Command.TheVariants.{Check, Il as IlOf, Run, Derive, Verify}
 use Rattle.st_words.specs.Arranged.{has_options}
@@ -69,7 +70,8 @@ pub record IsRunText (small : Small) (atom : List ℕ) (status : Status)
     (bytes : List ℕ) : Type 0 where
   pub terms : List Term
   pub ending : Ending
-  pub transcript : IsTranscript (il_of small) 0 (atom_term atom) default_fuel terms ending
+  pub transcript : IsTranscript (il_of small) small.relation default_fuel (atom_term atom) terms
+      ending
   pub status_is : status ≡ status_of ending
   pub bytes_are : bytes ≡ transcript_text terms ending
 
@@ -79,9 +81,9 @@ pub record IsDerivationText (small : Small) (atom : List ℕ) (status : Status)
     (bytes : List ℕ) : Type 0 where
   pub ending : Ending
   pub lines : List Line
-  pub derivation : IsDerivation (il_of small) 0 small.relation
-      (atom_term atom) default_fuel ending lines
-  pub accepted : Accepts (il_of small) lines
+  pub derivation : IsDerivation (il_of small) small.relation default_fuel (atom_term atom)
+      ending lines
+  pub accepted : Accepts IsSmallIl (il_of small) lines
   pub status_is : status ≡ status_of ending
   pub text : LinesText lines bytes
 

@@ -8,24 +8,29 @@ use Rattle.st_deriv.specs.declared.line.NodeLine.{NodeLine}
 use Rattle.st_il.specs.declared.definition.Il.{Il}
 use Rattle.st_il.specs.declared.definition.RuleDef.{RuleDef}
 use Rattle.st_il.specs.declared.tree.Tree.{Tree}
-use Rattle.st_il.specs.Derivation.{rules_of, IsRelation, IsValid}
+use Rattle.st_semantics.specs.Names.{Name}
+use Rattle.st_semantics.specs.Definitions.{rules_of, IsRelation}
+use Rattle.st_semantics.specs.Derivation.{IsValid}
+use Rattle.st_semantics.specs.Directions.{inputs_of, outputs_of}
+use Rattle.st_semantics.specs.Transcript.{Term}
 use Rattle.st_tool.specs.declared.transcript.Ending.{Ending}
 use Rattle.st_tool.specs.declared.transcript.Ending.TheVariants.{Stuck, Fuel}
-use Rattle.st_tool.specs.Transcript.{Term, IsTranscript}
+use Rattle.st_tool.specs.Transcript.{IsTranscript}
 
 -- A valid tree of the relation takes a step:
 -- its judgement has the term as inputs and the next as outputs.
-pub record IsStepTree (il : Il) (relation : ℕ) (term next : Term) (tree : Tree) : Type 0 where
+pub record IsStepTree (il : Il) (relation : Name) (term next : Term) (tree : Tree) : Type 0 where
   pub valid : IsValid il tree
-  pub relation_is : tree.relation ≡ relation
-  pub values_are : tree.values ≡ term ++ next
+  pub relation_is : IsRelation il tree.relation relation
+  pub inputs_are : inputs_of il relation tree.values ≡ term
+  pub outputs_are : outputs_of il relation tree.values ≡ next
 
 -- The line of a tree's root, which names its relation and its rule.
 -- So far of a tree without children, by a rule without `otherwise`.
 pub record IsNodeOf (il : Il) (tree : Tree) (node : NodeLine) : Type 0 where
   pub relation : IsRelation il tree.relation node.relation
   pub rule : RuleDef
-  pub is_rule : slice_get (rules_of node.relation il.defs) tree.rule ≡ Some rule
+  pub is_rule : slice_get (rules_of il node.relation) tree.rule ≡ Some rule
   pub rule_is : node.rule ≡ rule.name
   pub env : node.env ≡ tree.env
   pub values : node.values ≡ tree.values
@@ -36,16 +41,16 @@ pub record IsNodeOf (il : Il) (tree : Tree) (node : NodeLine) : Type 0 where
 -- The lines of a run from the start to a term, over the terms before it:
 -- the first two lines, and then for each step the node of a tree that takes it,
 -- and behind it the step, which names the node's line.
-pub data StepLines (il : Il) (relation : ℕ) (name : List ℕ) (start : Term) : List Term → Term
-    → List Line → Type 0 where
-  begins : {lines : List Line} → lines ≡ Head 1 name ∷ From start ∷ []
-      → StepLines il relation name start [] start lines
+pub data StepLines (il : Il) (relation : Name) (start : Term) : List Term → Term → List Line
+    → Type 0 where
+  begins : {lines : List Line} → lines ≡ Head 1 relation ∷ From start ∷ []
+      → StepLines il relation start [] start lines
   goes_on : {before : List Term} {term next : Term} {lines all : List Line} (tree : Tree)
       (node : NodeLine)
-      → StepLines il relation name start before term lines → IsStepTree il relation term next tree
+      → StepLines il relation start before term lines → IsStepTree il relation term next tree
       → IsNodeOf il tree node
       → all ≡ lines ++ Node node ∷ Step (length lines + 1) ∷ []
-      → StepLines il relation name start (before ++ term ∷ []) next all
+      → StepLines il relation start (before ++ term ∷ []) next all
 
 -- how the last line says that a run ended
 abbrev pub last_line : Ending → LastLine
@@ -53,10 +58,11 @@ last_line Stuck = last.Stuck
 last_line Fuel = last.Fuel
 
 -- the lines of the derivation of a transcript: those of its steps, and then its end
-pub record IsDerivation (il : Il) (relation : ℕ) (name : List ℕ) (start : Term) (limit : ℕ)
-    (ending : Ending) (lines : List Line) : Type 0 where
-  pub terms : List Term
-  pub transcript : IsTranscript il relation start limit terms ending
+pub record IsDerivation (il : Il) (relation : Name) (fuel : ℕ) (start : Term) (ending : Ending)
+    (lines : List Line) : Type 0 where
+  pub before : List Term
+  pub last : Term
+  pub transcript : IsTranscript il relation fuel start (before ++ last ∷ []) ending
   pub steps : List Line
-  pub takes : StepLines il relation name start transcript.before transcript.last steps
+  pub takes : StepLines il relation start before last steps
   pub lines_are : lines ≡ steps ++ End (last_line ending) ∷ []

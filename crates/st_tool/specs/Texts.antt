@@ -7,9 +7,9 @@ use Rattle.st_num.specs.declared.rule.RuleId.TheVariants as id
 use Rattle.st_num.specs.declared.span.Span.{Span}
 use Rattle.st_tool.specs.declared.transcript.Ending.{Ending}
 use Rattle.st_tool.specs.declared.transcript.Ending.TheVariants.{Stuck, Fuel}
-use Rattle.st_tool.specs.Transcript.{Term}
-use Rattle.st_verify.specs.declared.fault.VerifyRule.{VerifyRule}
-use Rattle.st_verify.specs.declared.fault.VerifyRule.TheVariants.{V1, V2, V3, V4, V5, V6, V7, V8, V9, V10, V11, V12, V13}
+use Rattle.st_semantics.specs.Transcript.{Term}
+use Rattle.st_semantics.specs.declared.verify_rule.VerifyRule.{VerifyRule}
+use Rattle.st_semantics.specs.declared.verify_rule.VerifyRule.TheVariants.{V1, V2, V3, V4, V5, V6, V7, V8, V9, V10, V11, V12, V13}
 
 -- A value by its outermost form, as it is printed: so far the tag of a case without operands.
 abbrev pub layer_text : {X : Type 0} → Value-F X → List ℕ

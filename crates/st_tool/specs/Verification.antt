@@ -8,11 +8,12 @@ use Rattle.st_iltext.specs.IlText.{IlText}
 use Rattle.st_tool.specs.declared.status.Status.{Status}
 use Rattle.st_tool.specs.declared.status.Status.TheVariants as answer
 use Rattle.st_tool.specs.Texts.{accepted_text, refused_text}
-use Rattle.st_verify.specs.declared.fault.VerifyRule.{VerifyRule}
-use Rattle.st_verify.specs.declared.fault.VerifyRule.TheVariants.{V3, V12}
-use Rattle.st_verify.specs.declared.notes.Notes.{Notes}
-use Rattle.st_verify.specs.Accepts.{ReadsTo, Accepts}
-use Rattle.st_verify.specs.Verdict.{Verdict}
+use Rattle.st_il.specs.Small.{IsSmallIl}
+use Rattle.st_semantics.specs.declared.notes.Notes.{Notes}
+use Rattle.st_semantics.specs.declared.verify_rule.VerifyRule.{VerifyRule}
+use Rattle.st_semantics.specs.declared.verify_rule.VerifyRule.TheVariants.{V3, V12}
+use Rattle.st_semantics.specs.Accepts.{ReadsTo, Accepts}
+use Rattle.st_semantics.specs.Verdict.{Verdict}
 
 -- The bytes are texts of lines, each ended by a line feed, and more behind them that has no line
 -- feed.
@@ -37,8 +38,8 @@ steps_in (_ ∷ lines) = steps_in lines
 -- What is said of lines and of what stands behind them:
 -- that they are accepted, or the first line that is refused, and the rule that it breaks.
 pub data Verified (il : Il) (lines : List Line) (rest : List ℕ) : Status → List ℕ → Type 0 where
-  -- the lines are accepted, and nothing stands behind them
-  accepted : {bytes : List ℕ} → Accepts il lines → rest ≡ []
+  -- the lines are accepted, and nothing stands behind them; so far the internal language is small
+  accepted : {bytes : List ℕ} → Accepts IsSmallIl il lines → rest ≡ []
       → bytes ≡ accepted_text (length lines) (steps_in lines)
       → Verified il lines rest answer.Done bytes
   -- a line is the first that breaks a rule

@@ -1,6 +1,7 @@
 -- What only the private steps of `serve` keep, for their proofs alone.
 pub mod SmallForm
 pub mod Step
+pub mod Reaches
 pub mod Starts
 pub mod Nodes
 pub mod Checks

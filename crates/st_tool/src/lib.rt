@@ -10,7 +10,7 @@
 ghost use Rattle.std.specs.Prelude.{◌≡◌, map, string_bytes};
 ghost use Rattle.st_outside.specs.Counts.{Rose};
 ghost use Rattle.st_tool.specs.Causes.{IsLoadFault, FaultIsTold};
-ghost use Rattle.st_tool.specs.Laws.{DerivedIsAccepted};
+ghost use Rattle.st_tool.specs.Laws.{DerivedIsAccepted, AcceptedIsSound};
 ghost use Rattle.st_tool.specs.Loads.{counts_of};
 ghost use Rattle.st_tool.specs.Outcome.{Written};
 
@@ -55,6 +55,7 @@ pub fn serve<F: Files, K: Sink>(
         (counts_of (F.loads files.old) (F.faults files.old) (F.last files.old))
         (counts_of (F.loads files.new) (F.faults files.new) (F.last files.new)) result }
     ensures accepted { DerivedIsAccepted }
+    ensures sound { AcceptedIsSound }
     ensures write { result ≡ Status.Write → Rose (K.faults out.old) (K.faults out.new) }
 {
     match answer_words(alloc, words.as_slice(), files) {

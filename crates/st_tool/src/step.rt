@@ -4,7 +4,8 @@ ghost use Rattle.std.specs.Prelude.{◌≡◌, ◌⊎◌, length, MatchOption};
 ghost use Rattle.std.specs.Option.{option_copied};
 ghost use Rattle.st_il.specs.Small.{il_of};
 ghost use Rattle.st_tool.specs.inner.Step.{IsAtMost, IsBetter, IsLeastOf, IsNextRule};
-ghost use Rattle.st_tool.specs.Transcript.{IsStuck, atom_term};
+ghost use Rattle.st_tool.specs.inner.Reaches.{IsStuck};
+ghost use Rattle.st_tool.specs.Transcript.{atom_term};
 
 use st_il::{Small, SmallRule};
 use st_num::Name;
@@ -54,7 +55,8 @@ fn least_step<'a>(rules: &'a [SmallRule], from: &Name) -> Option<&'a SmallRule>
 /// A rule by which the relation goes to the next atom, the least that is derivable; none where it
 /// is stuck.
 pub fn next_rule<'a>(small: &'a Small, from: &Name) -> Option<&'a SmallRule>
-    ensures { MatchOption result (IsStuck (il_of small.now) 0 (atom_term from.now))
+    ensures { MatchOption result
+        (IsStuck (il_of small.now) small.now.relation (atom_term from.now))
         (λ rule. IsNextRule small.now from.now rule.now) }
 {
     least_step(small.rules.as_slice(), from)

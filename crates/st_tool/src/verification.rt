@@ -7,7 +7,7 @@ ghost use Rattle.st_deriv.specs.LineText.{IsNoLine};
 ghost use Rattle.st_tool.specs.inner.Checks.{Takes, TakenTo, HasNoLines, Ends, Tells};
 ghost use Rattle.st_tool.specs.Commands.{VerifyGives, text_limit};
 ghost use Rattle.st_tool.specs.Texts.{accepted_text, refused_text, rule_word};
-ghost use Rattle.st_verify.specs.Notes.{nothing_noted};
+ghost use Rattle.st_semantics.specs.Notes.{nothing_noted};
 
 use crate::Status;
 use crate::answer::{Answer, unbuilt};

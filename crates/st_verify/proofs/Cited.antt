@@ -8,12 +8,13 @@ use Rattle.std.proofs.Math.Seq.{take-append_seam, drop-append_seam}
 use Rattle.std.proofs.lemmas.List.Folds.{flat_map-map}
 use Rattle.st_deriv.specs.declared.line.Ref.{Ref, map-Ref, fold_out-Ref}
 use Rattle.st_deriv.specs.declared.line.Ref.TheVariants as ref
-use Rattle.st_verify.specs.Verdict.{child_lines_at, child_lines}
+use Rattle.st_semantics.specs.Verdict.{lines_cited_at}
+use Rattle.st_verify.specs.inner.SmallVerdict.{child_lines}
 
 pub child_lines-many : (children : List Ref) → child_lines (ref.Many children) ≡ flat_map child_lines children
 child_lines-many children =
-    fold_out-Ref (List ℕ) child_lines_at (ref.Many children)
-    ∙ ap (λ layer. child_lines_at (map-Ref Ref (List ℕ) child_lines layer)) (ref.outs-Many children)
+    fold_out-Ref (List ℕ) lines_cited_at (ref.Many children)
+    ∙ ap (λ layer. lines_cited_at (map-Ref Ref (List ℕ) child_lines layer)) (ref.outs-Many children)
     ∙ flat_map-map (λ lines. lines) child_lines children
 
 -- what holds of each element of two lists, one behind the other, holds of those of each list

@@ -1,8 +1,8 @@
 -- The first rule that is not kept, of those from a place on.
 use Rattle.std.proofs.Common.{◌≡◌, ℕ, ◌+◌, ◌<◌, ◌≤◌, List, [], ◌∷◌, Option, Some, None, length, get_or, drop, refl, ◌∙◌, sym, ap, subst, inl, inr, drop-cons, add-one}
 use Rattle.std.proofs.lemmas.List.{drop_all}
-use Rattle.st_verify.specs.declared.fault.VerifyRule.{VerifyRule}
-use Rattle.st_verify.specs.Verdict.{FirstBroken}
+use Rattle.st_semantics.specs.declared.verify_rule.VerifyRule.{VerifyRule}
+use Rattle.st_verify.specs.inner.SmallVerdict.{FirstBroken}
 
 pub kept_here : (K : VerifyRule → Type 0) (rules : List VerifyRule) (i : ℕ) (rule : VerifyRule) (broken : Option VerifyRule) → i < length rules → K (get_or rules i rule)
     → FirstBroken K (drop (i + 1) rules) broken → FirstBroken K (drop i rules) broken
@@ -18,11 +18,18 @@ broken_here K rules i rule at broken =
 pub none_broken : (K : VerifyRule → Type 0) (rules : List VerifyRule) (i : ℕ) → length rules ≤ i → FirstBroken K (drop i rules) None
 none_broken K rules i past = subst (λ left. FirstBroken K left None) (sym (drop_all i rules past)) refl
 
--- one rule at most is the first that is not kept
-pub FirstBroken-single : (K : VerifyRule → Type 0) (rules : List VerifyRule) (broken other : Option VerifyRule) → FirstBroken K rules broken → FirstBroken K rules other
-    → broken ≡ other
-FirstBroken-single K [] broken other first second = first ∙ sym second
-FirstBroken-single K (rule ∷ rules) broken other (inl kept) (inl also) = FirstBroken-single K rules broken other kept.1 also.1
-FirstBroken-single K (rule ∷ rules) broken other (inl kept) (inr not) = absurd (not.0 kept.0)
-FirstBroken-single K (rule ∷ rules) broken other (inr not) (inl kept) = absurd (not.0 kept.0)
-FirstBroken-single K (rule ∷ rules) broken other (inr not) (inr also) = not.1 ∙ sym also.1
+-- where all are kept, none is broken
+abbrev pub AllKept : (VerifyRule → Type 0) → List VerifyRule → Type 0
+AllKept K [] = Unit {0}
+AllKept K (rule ∷ rules) = K rule × AllKept K rules
+
+pub all_kept : (K : VerifyRule → Type 0) (rules : List VerifyRule) (broken : Option VerifyRule) → AllKept K rules → FirstBroken K rules broken → broken ≡ None
+all_kept K [] broken kept first = first
+all_kept K (rule ∷ rules) broken kept (inl here) = all_kept K rules broken kept.1 here.1
+all_kept K (rule ∷ rules) broken kept (inr never) = absurd (never.0 kept.0)
+
+-- a rule that is kept is passed over
+pub passed : (K : VerifyRule → Type 0) (rule : VerifyRule) (rules : List VerifyRule) (broken : Option VerifyRule) → K rule → FirstBroken K (rule ∷ rules) broken
+    → FirstBroken K rules broken
+passed K rule rules broken kept (inl here) = here.1
+passed K rule rules broken kept (inr never) = absurd (never.0 kept)

@@ -8,13 +8,13 @@ use Rattle.st_il.specs.Small.{IsSmallIl}
 use Rattle.st_verify.specs.declared.accepted.Accepted.{Accepted}
 use Rattle.st_verify.specs.declared.fault.VerifyFault.{VerifyFault}
 use Rattle.st_verify.specs.declared.fault.VerifyFault.TheVariants.{Refused, Memory}
-use Rattle.st_verify.specs.declared.fault.VerifyRule.{VerifyRule}
-use Rattle.st_verify.specs.declared.fault.VerifyRule.TheVariants.{V3, V12}
-use Rattle.st_verify.specs.declared.notes.Judgement.{Judgement}
-use Rattle.st_verify.specs.declared.notes.Notes.{Notes}
-use Rattle.st_verify.specs.Notes.{noted}
-use Rattle.st_verify.specs.Sound.{IsJudged}
-use Rattle.st_verify.specs.Verdict.{Verdict}
+use Rattle.st_semantics.specs.declared.notes.Judgement.{Judgement}
+use Rattle.st_semantics.specs.declared.notes.Notes.{Notes}
+use Rattle.st_semantics.specs.declared.verify_rule.VerifyRule.{VerifyRule}
+use Rattle.st_semantics.specs.declared.verify_rule.VerifyRule.TheVariants.{V3, V12}
+use Rattle.st_semantics.specs.Derivation.{HasTree}
+use Rattle.st_semantics.specs.Notes.{noted}
+use Rattle.st_semantics.specs.Verdict.{Verdict}
 
 -- A verifier as its callers see it:
 -- the internal language, what is noted of the lines, and the refusal that it gave, if any.
@@ -23,11 +23,11 @@ pub record Checking : Type 0 where
   pub notes : Notes
   pub refusal : Option VerifyFault
 
--- What a verifier keeps: each judgement that it noted is derivable.
+-- What a verifier keeps: each judgement that it noted has a valid tree.
 pub record IsKept (il : Il) (notes : Notes) : Type 0 where
   pub small : IsSmallIl il
   pub judged : (judgement : Judgement) → Contains notes.lines (Some judgement)
-      → IsJudged il judgement.relation judgement.values
+      → HasTree il judgement.relation judgement.values
   pub few : length notes.lines ≤ 2 ^ 32
   pub few_steps : notes.steps ≤ length notes.lines
 
@@ -51,7 +51,7 @@ UnlessRefused old result new P =
 -- for want of memory nothing changes
 abbrev pub JudgesNext : Checking → Line → Result (Unit {0}) VerifyFault → Checking → Type 0
 JudgesNext old line (Ok done) new =
-    Verdict old.il old.notes line None × (new ≡ record old { notes = noted old.notes line })
+    Verdict old.il old.notes line None × (new ≡ record old { notes = noted old.il old.notes line })
 JudgesNext old line (Err Memory) new = new ≡ old
 JudgesNext old line (Err (Refused rule at typing)) new =
     Verdict old.il old.notes line (Some rule)

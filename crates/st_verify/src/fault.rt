@@ -5,25 +5,8 @@ ghost use Rattle.st_verify.specs.Typing.{typing_of};
 
 use st_il::TypeRule;
 use st_num::NoMemory;
+use st_semantics::VerifyRule;
 use thiserror::Error;
-
-/// The rules that an accepted derivation keeps (`docs/derivations.md`).
-#[derive(Clone, Copy, Debug, PartialEq, Eq)]
-pub enum VerifyRule {
-    V1,
-    V2,
-    V3,
-    V4,
-    V5,
-    V6,
-    V7,
-    V8,
-    V9,
-    V10,
-    V11,
-    V12,
-    V13,
-}
 
 /// Why a derivation, or the internal language that it speaks of, is not accepted.
 #[derive(Clone, Copy, Debug, PartialEq, Eq, Error)]

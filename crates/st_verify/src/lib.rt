@@ -3,20 +3,21 @@
 //! A line is judged by what was noted of the lines before it. What is noted of a node is derivable,
 //! whatever the lines are and whoever wrote them.
 //!
-//! Read `specs/Verdict.antt` first: which lines are accepted, and by which rule one is refused.
-//! The rules are told in `docs/derivations.md`.
+//! Which lines are accepted, and by which rule one is refused, is told by `Verdict` of
+//! `st_semantics`; read it first. The rules are told in `docs/derivations.md`.
 #![tactic(auto)]
 
 mod accepted;
 mod fault;
 mod known;
 mod noted;
-mod notes;
+mod small;
 mod typed;
 mod verdict;
 mod verifier;
 
 pub use accepted::Accepted;
-pub use fault::{VerifyFault, VerifyRule, definition_rule};
-pub use notes::{Judgement, Notes};
+pub use fault::{VerifyFault, definition_rule};
+pub use small::small_specifications;
+pub use st_semantics::{Judgement, Notes, VerifyRule};
 pub use verifier::Verifier;

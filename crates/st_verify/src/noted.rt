@@ -2,7 +2,9 @@
 
 ghost use Rattle.std.specs.Prelude.{◌≡◌, ◌+◌, ◌^◌, ◌<◌, IfOk, OnOk, OnErr};
 ghost use Rattle.std.specs.Option.{option_copied, option_map};
-ghost use Rattle.st_verify.specs.Notes.{nothing_noted, noted, judgement_on, outputs_of};
+ghost use Rattle.st_semantics.specs.declared.notes.Judgement.{Judgement as Noted};
+ghost use Rattle.st_semantics.specs.Notes.{nothing_noted, judgement_on};
+ghost use Rattle.st_verify.specs.inner.SmallNotes.{small_noted, small_outputs};
 
 use crate::{Judgement, Notes};
 use st_deriv::Line;
@@ -38,7 +40,7 @@ pub fn noted_on(notes: &Notes, line: u128) -> Option<&Judgement>
 
 /// A copy of the values of the outputs.
 fn copy_outputs(alloc: Global, values: &[Value]) -> Result<Row<Value>, NoMemory>
-    ensures { IfOk result (λ outputs. outputs ≡ outputs_of values.now) }
+    ensures { IfOk result (λ outputs. outputs ≡ small_outputs values.now) }
 {
     match values {
         [] => Ok(Row::new(alloc)),
@@ -49,7 +51,7 @@ fn copy_outputs(alloc: Global, values: &[Value]) -> Result<Row<Value>, NoMemory>
 /// A copy of the term behind a step by the node on that line.
 fn term_after(alloc: Global, notes: &Notes, line: u128) -> Result<Option<Row<Value>>, NoMemory>
     ensures { IfOk result (λ term. term
-        ≡ option_map (λ judgement. outputs_of judgement.values) (judgement_on notes.now line)) }
+        ≡ option_map (λ (judgement : Noted). small_outputs judgement.values) (judgement_on notes.now line)) }
 {
     match noted_on(notes, line) {
         Some(judgement) => {
@@ -63,7 +65,7 @@ fn term_after(alloc: Global, notes: &Notes, line: u128) -> Result<Option<Row<Val
 /// Notes one line more. For want of memory nothing changes.
 pub fn note(notes: &mut Notes, alloc: Global, line: &Line) -> Result<(), NoMemory>
     requires { notes.old.steps + 1 < 2 ^ 64 }
-    ensures ok { OnOk result (notes.new ≡ noted notes.old line.now) }
+    ensures ok { OnOk result (notes.new ≡ small_noted notes.old line.now) }
     ensures err { OnErr result (notes.new ≡ notes.old) }
 {
     match line {

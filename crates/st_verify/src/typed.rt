@@ -1,9 +1,8 @@
 //! Values against types, and against the conclusion of a rule.
 
 ghost use Rattle.std.specs.Prelude.{◌≡◌, ◌↔◌, [], IsTrue, Any};
-ghost use Rattle.st_il.specs.declared.value.Env.{Env};
-ghost use Rattle.st_il.specs.Evaluation.{HasValue, HaveValues};
-ghost use Rattle.st_verify.specs.Verdict.{IsTyped, TakesInput, IsTerm, Concludes};
+ghost use Rattle.st_verify.specs.inner.SmallValues.{IsCaseValue, AreCaseValues};
+ghost use Rattle.st_verify.specs.inner.SmallVerdict.{IsTyped, TakesInput, IsTerm, Concludes};
 
 use crate::known::has_case;
 use st_deriv::NodeLine;
@@ -63,7 +62,7 @@ fn is_case_of(value: &Value, tag: &Name) -> bool
 
 /// Whether an expression has that value.
 fn has_value(exp: &IlExp, value: &Value) -> bool
-    ensures { (env : Env) → (IsTrue result ↔ HasValue env exp.now value.now) }
+    ensures { IsTrue result ↔ IsCaseValue exp.now value.now }
 {
     match exp {
         IlExp::Case(_, tag, operands) => operands.is_empty() && is_case_of(value, tag),
@@ -73,7 +72,7 @@ fn has_value(exp: &IlExp, value: &Value) -> bool
 
 /// Whether the expressions have those values, one each.
 fn have_values(exps: &[IlExp], values: &[Value]) -> bool
-    ensures { (env : Env) → (IsTrue result ↔ HaveValues HasValue env exps.now values.now) }
+    ensures { IsTrue result ↔ AreCaseValues exps.now values.now }
 {
     if exps.len() != values.len() {
         return false;

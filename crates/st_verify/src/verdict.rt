@@ -1,8 +1,8 @@
 //! The first rule that a line breaks.
 
 ghost use Rattle.std.specs.Prelude.{◌≡◌, ◌↔◌, IsTrue, All, flat_map};
-ghost use Rattle.st_il.specs.Derivation.{inputs_of};
-ghost use Rattle.st_verify.specs.Verdict.{IsInPlace, IsKnown, HasTypedValues, IsNode, child_lines, lines_cited, HasItsValues, HasItsChildren, HasItsEvidence, GoesOn, Keeps, Verdict};
+ghost use Rattle.st_semantics.specs.Verdict.{IsInPlace, IsNode};
+ghost use Rattle.st_verify.specs.inner.SmallVerdict.{small_inputs, IsKnown, HasTypedValues, child_lines, lines_cited, HasItsValues, HasItsChildren, HasItsEvidence, GoesOn, Keeps, FirstBreach};
 
 use crate::known::{has_rule, is_declared};
 use crate::noted::noted_on;
@@ -167,7 +167,7 @@ fn has_its_evidence(line: &Line) -> bool
 
 /// Whether the values are the inputs of a judgement.
 fn are_inputs(term: &[Value], values: &[Value]) -> bool
-    ensures { IsTrue result ↔ (term.now ≡ inputs_of values.now) }
+    ensures { IsTrue result ↔ (term.now ≡ small_inputs values.now) }
 {
     let inputs = &values[..values.len().min(1)];
     same_values(term, inputs)
@@ -215,7 +215,7 @@ fn keeps(il: &Il, notes: &Notes, line: &Line, rule: VerifyRule) -> bool
 
 /// The first rule that the line breaks, if any.
 pub fn broken_rule(il: &Il, notes: &Notes, line: &Line) -> Option<VerifyRule>
-    ensures { Verdict il.now notes.now line.now result }
+    ensures { FirstBreach il.now notes.now line.now result }
 {
     for rule in RULES_ON_LINES {
         if !keeps(il, notes, line, rule) {

@@ -3,13 +3,12 @@
 ghost use Rattle.std.specs.Prelude.{◌≡◌, ◌^◌, ◌<◌, List, Option, None, Some, length, IsOkAnd};
 ghost use Rattle.st_deriv.specs.declared.line.Line.{Line};
 ghost use Rattle.st_il.specs.Small.{IsSmallIl};
-ghost use Rattle.st_verify.specs.declared.fault.VerifyRule.{VerifyRule};
-ghost use Rattle.st_verify.specs.declared.fault.VerifyRule.TheVariants.{V3};
-ghost use Rattle.st_verify.specs.declared.notes.Notes.{Notes};
-ghost use Rattle.st_verify.specs.Accepts.{ReadsTo, Accepts};
-ghost use Rattle.st_verify.specs.Notes.{nothing_noted};
-ghost use Rattle.st_verify.specs.Sound.{AreSound};
-ghost use Rattle.st_verify.specs.Verdict.{Verdict};
+ghost use Rattle.st_semantics.specs.declared.notes.Notes.{Notes};
+ghost use Rattle.st_semantics.specs.declared.verify_rule.VerifyRule.{VerifyRule};
+ghost use Rattle.st_semantics.specs.declared.verify_rule.VerifyRule.TheVariants.{V3};
+ghost use Rattle.st_semantics.specs.Accepts.{ReadsTo, Accepts, AreSound};
+ghost use Rattle.st_semantics.specs.Notes.{nothing_noted};
+ghost use Rattle.st_semantics.specs.Verdict.{Verdict};
 ghost use Rattle.st_verify.specs.Verifier.{Refuses, UnlessRefused, JudgesNext, Judges, Feeds, FeedsNext, Finishes, refusal_by};
 
 use crate::noted::{no_notes, note};
@@ -32,7 +31,7 @@ pub struct Verifier {
 impl Model for Verifier {
     ghost use Rattle.std.specs.Coded.{codes};
     ghost use Rattle.st_il.specs.contracts.definition.Il.{the_row as il_row};
-    ghost use Rattle.st_verify.specs.contracts.notes.Notes.{the_row as notes_row};
+    ghost use Rattle.st_semantics.specs.contracts.notes.Notes.{the_row as notes_row};
     ghost use Rattle.st_verify.specs.Verifier.{Checking, IsKept};
 
     ghost Value = { Checking };
@@ -122,7 +121,7 @@ impl Verifier {
     /// Ends the derivation behind its last line. It takes no memory.
     pub fn finish(&mut self) -> Result<Accepted, VerifyFault>
         ensures finishes { Finishes self.old result self.new }
-        ensures sound { (lines : List Line) → Accepts self.old.il lines
+        ensures sound { (lines : List Line) → Accepts IsSmallIl self.old.il lines
             → AreSound self.old.il lines }
     {
         match self.refusal {

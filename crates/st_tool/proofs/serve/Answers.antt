@@ -2,7 +2,7 @@ use Rattle.std.proofs.Common.{map, string_bytes, subst}
 use Rattle.st_outside.specs.Sink.{Takes}
 use Rattle.st_tool.specs.Loads.{counts_of}
 use Rattle.st_tool.specs.Outcome.{HasOutcome}
-use Rattle.st_tool.proofs.DerivedAccepted.{derived_is_accepted}
+use Rattle.st_tool.proofs.DerivedAccepted.{derived_is_accepted, accepted_is_sound}
 use Rattle.st_tool.proofs.WrittenLemmas.{all_written, load_fault, fault_told, no_write}
 use Rattle.st_tool.proofs.serve.Goals as goal
 
@@ -51,3 +51,12 @@ returns-in-Ok-write_all_of-clause-accepted g c = derived_is_accepted
 
 pub returns-clause-accepted : goal.returns-clause-accepted
 returns-clause-accepted g c = derived_is_accepted
+
+pub returns-in-Err-clause-sound : goal.returns-in-Err-clause-sound
+returns-in-Err-clause-sound g c = accepted_is_sound
+
+pub returns-in-Ok-write_all_of-clause-sound : goal.returns-in-Ok-write_all_of-clause-sound
+returns-in-Ok-write_all_of-clause-sound g c = accepted_is_sound
+
+pub returns-clause-sound : goal.returns-clause-sound
+returns-clause-sound g c = accepted_is_sound

@@ -10,19 +10,19 @@ use Rattle.st_tool.specs.Verification.{AreLines}
 use Rattle.st_verify.specs.declared.accepted.Accepted.{Accepted}
 use Rattle.st_verify.specs.declared.fault.VerifyFault.{VerifyFault}
 use Rattle.st_verify.specs.declared.fault.VerifyFault.TheVariants.{Refused, Memory}
-use Rattle.st_verify.specs.declared.fault.VerifyRule.{VerifyRule}
-use Rattle.st_verify.specs.declared.fault.VerifyRule.TheVariants.{V3, V12}
-use Rattle.st_verify.specs.declared.notes.Notes.{Notes}
-use Rattle.st_verify.specs.Accepts.{ReadsTo}
-use Rattle.st_verify.specs.Notes.{noted}
-use Rattle.st_verify.specs.Verdict.{Verdict}
+use Rattle.st_semantics.specs.declared.verify_rule.VerifyRule.{VerifyRule}
+use Rattle.st_semantics.specs.declared.verify_rule.VerifyRule.TheVariants.{V3, V12}
+use Rattle.st_semantics.specs.declared.notes.Notes.{Notes}
+use Rattle.st_semantics.specs.Accepts.{ReadsTo}
+use Rattle.st_semantics.specs.Notes.{noted}
+use Rattle.st_semantics.specs.Verdict.{Verdict}
 use Rattle.st_verify.specs.Verifier.{Checking, refusal_by}
 
 -- a verifier that refused nothing takes a line:
 -- it is noted, or refused by the first rule that it breaks
 abbrev pub TakesFirst : Checking → Line → Checking → Type 0
 TakesFirst old line new =
-    (Verdict old.il old.notes line None × (new ≡ record old { notes = noted old.notes line }))
+    (Verdict old.il old.notes line None × (new ≡ record old { notes = noted old.il old.notes line }))
     ⊎ ((rule : VerifyRule) × Verdict old.il old.notes line (Some rule)
     × (new ≡ record old { refusal = Some (refusal_by rule old.notes) }))
 

@@ -5,7 +5,8 @@ use Rattle.std.specs.Cmp.Lexicographic.{slice_cmp}
 use Rattle.st_il.specs.declared.small.Small.{Small}
 use Rattle.st_il.specs.declared.small.SmallRule.{SmallRule}
 use Rattle.st_il.specs.Small.{il_of}
-use Rattle.st_tool.specs.Transcript.{IsNext, atom_term}
+use Rattle.st_semantics.specs.Transcript.{IsNext}
+use Rattle.st_tool.specs.Transcript.{atom_term}
 
 -- the first atom is not above the second, by bytes
 abbrev pub IsAtMost : List ℕ → List ℕ → Type 0
@@ -44,4 +45,4 @@ pub record IsNextRule (s : Small) (from : List ℕ) (rule : SmallRule) : Type 0 
   pub number : ℕ
   pub is_rule : slice_get s.rules number ≡ Some rule
   pub goes : rule.from ≡ from
-  pub next : IsNext (il_of s) 0 (atom_term from) (atom_term rule.to)
+  pub next : IsNext (il_of s) s.relation (atom_term from) (atom_term rule.to)

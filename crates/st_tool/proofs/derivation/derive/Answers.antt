@@ -2,7 +2,8 @@ use Rattle.std.proofs.Common.{◌≡◌, ◌≤◌, sym, subst, refl, arith}
 use Rattle.st_il.specs.Small.{il_of}
 use Rattle.st_tool.specs.declared.transcript.Ending.TheVariants.{Stuck}
 use Rattle.st_tool.specs.Commands.{default_fuel}
-use Rattle.st_tool.specs.Transcript.{EndsBy, atom_term}
+use Rattle.st_tool.specs.inner.Reaches.{EndsBehind}
+use Rattle.st_tool.specs.Transcript.{atom_term}
 use Rattle.st_tool.proofs.Derivations.{HasDerived, before_steps, one_step, derived_answer}
 use Rattle.st_tool.proofs.derivation.derive.Goals as goal
 use Rattle.st_tool.proofs.derivation.derive.Goals.{in-None-next_rule, in-Some-next_rule}
@@ -13,7 +14,7 @@ loop-init c = before_steps c.args.small.now c.args.start.now c.in_ok-lines.lines
 pub returns-in-None : goal.returns-in-None
 returns-in-None c =
     let fits : c.loop.counter ≤ 1000 = omega arith in
-    derived_answer c.args.small.now c.args.start.now c.loop.atom.now c.loop.counter c.loop.lines Stuck c.ended.result c.loop.invariant
+    derived_answer c.args.small.now c.args.start.now c.loop.atom.now c.loop.counter c.loop.lines Stuck c.ended.result c.requires.small c.loop.invariant
     (fits, c.in-None.ensures) c.ended.ensures.status c.ended.ensures.bytes
 
 pub loop-preserved : goal.loop-preserved
@@ -27,9 +28,9 @@ returns c =
     let term = atom_term c.loop.atom.now in
     let at_end : c.loop.counter ≡ 1000 = omega arith in
     let derived = subst (λ k. HasDerived s c.args.start.now c.loop.atom.now k c.loop.lines) at_end c.loop.invariant in
-    let how : EndsBy (il_of s) 0 default_fuel 1000 term c.match-next_rule-2.ending =
+    let how : EndsBehind (il_of s) s.relation default_fuel 1000 term c.match-next_rule-2.ending =
     elim c.match-next_rule-2.branch [
-      | in-None-next_rule w ↦ subst (λ e. EndsBy (il_of s) 0 default_fuel 1000 term e) (sym w.ending-is) (let fits : 1000 ≤ 1000 = omega arith in fits, w.in-None-next_rule.ensures)
-      | in-Some-next_rule w ↦ subst (λ e. EndsBy (il_of s) 0 default_fuel 1000 term e) (sym w.ending-is) (refl, (_, w.in-Some-next_rule.ensures.next.derivable))
+      | in-None-next_rule w ↦ subst (λ e. EndsBehind (il_of s) s.relation default_fuel 1000 term e) (sym w.ending-is) (let fits : 1000 ≤ 1000 = omega arith in fits, w.in-None-next_rule.ensures)
+      | in-Some-next_rule w ↦ subst (λ e. EndsBehind (il_of s) s.relation default_fuel 1000 term e) (sym w.ending-is) (refl, (_, w.in-Some-next_rule.ensures.next.derivable))
     ] in
-    derived_answer s c.args.start.now c.loop.atom.now 1000 c.loop.lines c.match-next_rule-2.ending c.ended-2.result derived how c.ended-2.ensures.status c.ended-2.ensures.bytes
+    derived_answer s c.args.start.now c.loop.atom.now 1000 c.loop.lines c.match-next_rule-2.ending c.ended-2.result c.requires.small derived how c.ended-2.ensures.status c.ended-2.ensures.bytes

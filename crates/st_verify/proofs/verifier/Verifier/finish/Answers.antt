@@ -1,5 +1,5 @@
 use Rattle.std.proofs.Common.{ap}
-use Rattle.st_verify.proofs.Soundness.{kept_sound}
+use Rattle.st_verify.proofs.Judging.{kept_sound}
 use Rattle.st_verify.proofs.verifier.Verifier.finish.Goals as goal
 
 pub returns-in-Some-clause-sound : goal.returns-in-Some-clause-sound

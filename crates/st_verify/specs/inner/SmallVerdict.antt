@@ -1,10 +1,10 @@
--- Which lines of a derivation are accepted, and by which rule one is refused.
-use Rattle.std.specs.Prelude.{◌≡◌, ◌⊎◌, ℕ, ◌≤◌, false, List, [], ◌∷◌, length, Option, Some, None, IsSome, IsSomeAnd, slice_get, flat_map, All, Any}
+-- What the code asks of a line, one rule after another: what the rules of derivations come to on a
+-- small specification.
+use Rattle.std.specs.Prelude.{◌≡◌, ◌⊎◌, ℕ, List, [], ◌∷◌, Option, Some, None, IsSomeAnd, slice_get, take, All, Any}
 use Rattle.st_deriv.specs.declared.line.Line.{Line}
-use Rattle.st_deriv.specs.declared.line.Line.TheVariants.{Head, From, Node, Step, End}
+use Rattle.st_deriv.specs.declared.line.Line.TheVariants.{Head, From, Node, Step}
 use Rattle.st_deriv.specs.declared.line.NodeLine.{NodeLine}
 use Rattle.st_deriv.specs.declared.line.Ref.{Ref, fold-Ref}
-use Rattle.st_deriv.specs.declared.line.Ref.TheOpen.{Ref-F}
 use Rattle.st_il.specs.declared.definition.Alternative.{Alternative}
 use Rattle.st_il.specs.declared.definition.Alternative.TheVariants as alternative
 use Rattle.st_il.specs.declared.definition.Il.{Il}
@@ -16,21 +16,13 @@ use Rattle.st_il.specs.declared.ty.Ty.{Ty}
 use Rattle.st_il.specs.declared.ty.Ty.TheVariants as ty
 use Rattle.st_il.specs.declared.value.Value.{Value}
 use Rattle.st_il.specs.declared.value.Value.TheVariants as value
-use Rattle.st_il.specs.Derivation.{inputs_of}
-use Rattle.st_il.specs.Evaluation.{HasValue, HaveValues}
-use Rattle.st_verify.specs.declared.fault.VerifyRule.{VerifyRule}
-use Rattle.st_verify.specs.declared.fault.VerifyRule.TheVariants.{V3, V4, V5, V6, V7, V9, V10, V11}
-use Rattle.st_verify.specs.declared.notes.Notes.{Notes}
-use Rattle.st_verify.specs.Notes.{judgement_on}
-
--- a line stands where a line of its kind belongs, and before the end; the head is of format 1
-abbrev pub IsInPlace : Notes → Line → Type 0
-IsInPlace notes (Head format relation) =
-    (length notes.lines ≡ 0) × (notes.ended ≡ false) × (format ≡ 1)
-IsInPlace notes (From values) = (length notes.lines ≡ 1) × (notes.ended ≡ false)
-IsInPlace notes (Node node) = (2 ≤ length notes.lines) × (notes.ended ≡ false)
-IsInPlace notes (Step line) = (2 ≤ length notes.lines) × (notes.ended ≡ false)
-IsInPlace notes (End ending) = (2 ≤ length notes.lines) × (notes.ended ≡ false)
+use Rattle.st_semantics.specs.declared.verify_rule.VerifyRule.{VerifyRule}
+use Rattle.st_semantics.specs.declared.verify_rule.VerifyRule.TheVariants.{V3, V4, V5, V6, V7, V9, V10, V11}
+use Rattle.st_semantics.specs.declared.notes.Judgement.{Judgement}
+use Rattle.st_semantics.specs.declared.notes.Notes.{Notes}
+use Rattle.st_semantics.specs.Notes.{judgement_on}
+use Rattle.st_semantics.specs.Verdict.{IsInPlace, IsNode, lines_cited_at, lines_cited as lines_of_children}
+use Rattle.st_verify.specs.inner.SmallValues.{AreCaseValues}
 
 -- a definition is the relation of that name
 abbrev pub IsRelationNamed : List ℕ → IlDef → Type 0
@@ -87,30 +79,21 @@ HasTypedValues il notes (From values) = IsTerm il notes.relation values
 HasTypedValues il notes (Node node) = node.env.entries ≡ []
 HasTypedValues il notes _ = Unit {0}
 
--- the lines that a child refers to, by those that its parts refer to
-abbrev pub child_lines_at : Ref-F (List ℕ) → List ℕ
-child_lines_at (Ref-F.Line line) = line ∷ []
-child_lines_at (Ref-F.Many children) = flat_map (λ lines. lines) children
-
 -- the lines that a child of a node refers to
 abbrev pub child_lines : Ref → List ℕ
-child_lines = fold-Ref (List ℕ) child_lines_at
+child_lines = fold-Ref (List ℕ) lines_cited_at
 
 -- the lines that a line refers to
 abbrev pub lines_cited : Line → List ℕ
 lines_cited (Step line) = line ∷ []
-lines_cited (Node node) = flat_map child_lines node.children
+lines_cited (Node node) = lines_of_children node.children
 lines_cited _ = []
-
--- the line that is cited is that of a node
-abbrev pub IsNode : Notes → ℕ → Type 0
-IsNode notes line = IsSome (judgement_on notes line)
 
 -- the conclusion of a rule of that name has the values that the node states
 abbrev pub Concludes : NodeLine → IlDef → Type 0
 Concludes node (Rule rule) =
     IsRuleNamed node.relation node.rule (Rule rule)
-    × HaveValues HasValue node.env rule.conclusion node.values
+    × AreCaseValues rule.conclusion node.values
 Concludes node _ = ⊥
 
 -- a node states the values of the conclusion of its rule
@@ -128,12 +111,16 @@ abbrev pub HasItsEvidence : Line → Type 0
 HasItsEvidence (Node node) = node.evidence ≡ None
 HasItsEvidence _ = Unit {0}
 
+-- the values of the first hole, if any
+abbrev pub small_inputs : List Value → List Value
+small_inputs values = take 1 values
+
 -- a step's node is of the relation of the first line, and its inputs are the current term
 abbrev pub GoesOn : Notes → Line → Type 0
 GoesOn notes (Step line) =
     IsSomeAnd (judgement_on notes line)
-    (λ judgement. (notes.relation ≡ Some judgement.relation)
-    × (notes.term ≡ Some (inputs_of judgement.values)))
+    (λ (judgement : Judgement). (notes.relation ≡ Some judgement.relation)
+    × (notes.term ≡ Some (small_inputs judgement.values)))
 GoesOn notes _ = Unit {0}
 
 -- a line keeps a rule
@@ -158,6 +145,6 @@ FirstBroken K (rule ∷ rules) broken =
 abbrev pub rules_on_lines : List VerifyRule
 rules_on_lines = V3 ∷ V5 ∷ V6 ∷ V4 ∷ V7 ∷ V9 ∷ V10 ∷ V11 ∷ []
 
--- what is said of a line after what was noted: nothing against it, or the first rule that it breaks
-abbrev pub Verdict : Il → Notes → Line → Option VerifyRule → Type 0
-Verdict il notes line broken = FirstBroken (Keeps il notes line) rules_on_lines broken
+-- the first rule that a line breaks, if any
+abbrev pub FirstBreach : Il → Notes → Line → Option VerifyRule → Type 0
+FirstBreach il notes line broken = FirstBroken (Keeps il notes line) rules_on_lines broken

@@ -1,0 +1,36 @@
+-- What the meaning of rules comes to on a small specification.
+use Rattle.std.specs.Prelude.{◌≡◌, ◌↔◌, ℕ, List, [], ◌∷◌, Option, Some, slice_get}
+use Rattle.st_deriv.specs.declared.line.Line.{Line}
+use Rattle.st_il.specs.declared.small.Small.{Small}
+use Rattle.st_il.specs.declared.small.SmallRule.{SmallRule}
+use Rattle.st_il.specs.declared.value.Value.{Value}
+use Rattle.st_il.specs.declared.value.Value.TheVariants.{Case}
+use Rattle.st_il.specs.Small.{IsSmall, il_of}
+use Rattle.st_semantics.specs.declared.notes.Notes.{Notes}
+use Rattle.st_semantics.specs.declared.verify_rule.VerifyRule.{VerifyRule}
+use Rattle.st_semantics.specs.Accepts.{ReadsTo}
+use Rattle.st_semantics.specs.Derivation.{Derivable}
+use Rattle.st_semantics.specs.Verdict.{Verdict}
+use Rattle.st_verify.specs.inner.SmallVerdict.{FirstBreach}
+
+-- a rule goes from this term to that: each is an atom
+pub record IsSmallStep (s : Small) (term next : List Value) : Type 0 where
+  pub number : ℕ
+  pub rule : SmallRule
+  pub is_rule : slice_get s.rules number ≡ Some rule
+  pub term_is : term ≡ Case rule.from [] ∷ []
+  pub next_is : next ≡ Case rule.to [] ∷ []
+
+-- On a small specification what is derivable is what one of its rules says.
+abbrev pub LawOfSmallSteps : Type 0
+LawOfSmallSteps =
+    (s : Small) (term next : List Value)
+    → Derivable (il_of s) s.relation term next ↔ IsSmallStep s term next
+
+-- The verdict on a line is the first of the rules of derivations that it breaks, as the code asks
+-- them one after another, and no other.
+abbrev pub LawOfSmallVerdicts : Type 0
+LawOfSmallVerdicts =
+    (s : Small) → IsSmall s → (lines : List Line) (notes : Notes) → ReadsTo (il_of s) lines notes
+    → (line : Line) (broken answer : Option VerifyRule) → FirstBreach (il_of s) notes line broken
+    → Verdict (il_of s) notes line answer ↔ (answer ≡ broken)

@@ -1,0 +1,3 @@
+pub mod SmallNotes
+pub mod SmallValues
+pub mod SmallVerdict

@@ -1,0 +1,10 @@
+//! What the meaning of rules comes to on a small specification.
+
+ghost use Rattle.st_verify.specs.SmallMeaning.{LawOfSmallSteps, LawOfSmallVerdicts};
+
+/// On a small specification what is derivable is what one of its rules says, and the verdict on a
+/// line is the first rule of derivations that it breaks.
+pub fn small_specifications()
+    ensures steps { LawOfSmallSteps }
+    ensures verdicts { LawOfSmallVerdicts }
+{}
