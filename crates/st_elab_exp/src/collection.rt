@@ -7,15 +7,15 @@ ghost use Rattle.st_elab_table.specs.Questions.{item};
 ghost use Rattle.st_il.specs.declared.expression.IlExp.TheVariants as il;
 ghost use Rattle.st_elab_table.specs.Steps.{exp_of, give, holes};
 ghost use Rattle.st_elab_table.specs.Collections.{element, other_row, eps_row, sequence, item_of, item_row, found_item, run_row, hole_row};
-ghost use Rattle.st_elab_rows.specs.Asking.{AnswersAll, LeadsTo, made_by};
+ghost use Rattle.st_elab_rows.specs.Asking.{LeadsTo, made_by};
 ghost use Rattle.st_elab_rows.specs.Parts.{TellsAll};
 ghost use Rattle.st_elab_rows.specs.inner.Continuing.{IsItem, LeadsToItem};
 ghost use Rattle.st_elab_rows.specs.inner.Words.{lift_of};
 
-use st_dims::Within;
 use st_el::Exp;
 use st_elab_rows::ask::{asked, asked_at, found};
-use st_elab_rows::asking::{Asking, Context, Found, Part};
+use st_elab_rows::asking::{Context, Found, Part};
+use st_elab_rows::elaborator::Elaborator;
 use st_elab_rows::fitting::{Lifting, give_at, lift};
 use st_elab_rows::form::{inferable, is_spliced, is_told_by_type};
 use st_elab_rows::found::{is_collection, raise};
@@ -26,16 +26,15 @@ use st_num::{Row, RuleId, Span};
 use st_types::is_sub;
 
 /// One element of this type, in a list or an option.
-fn element<F: Fn(&Within, &Asking<'_>) -> Result<Found, ExpFault>>(
+fn element<E: Elaborator>(
     context: &Context<'_>,
-    ask: &F,
+    elaborator: &E,
     part: &Part<'_>,
     ty: &Ty,
     inner: &Ty,
     lifting: Lifting,
 ) -> Result<Found, ExpFault>
-    requires callable { F.IsAlwaysCallable ask.now }
-    requires answers { AnswersAll context.now (F.post ask.now) }
+    requires answers { E.AnswersByTable elaborator.now }
     ensures { LeadsTo context.now (element context.now.within.now part.now.at
         part.now.in_parentheses part.now.exp.now ty.now inner.now
         (lift_of lifting inner.now)) result }
@@ -46,28 +45,27 @@ fn element<F: Fn(&Within, &Asking<'_>) -> Result<Found, ExpFault>>(
             rule: RuleId::Y1,
         });
     }
-    let one = asked_at(context, ask, part, inner)?;
+    let one = asked_at(context, elaborator, part, inner)?;
     let exp = lift(context.alloc, lifting, inner, one.exp)?;
     let given = give_at(context.alloc, exp, ty)?;
     Ok(given)
 }
 
 /// Any other expression, at a type of this meaning: one element of a list or an option, or Y1.
-pub fn other_row<F: Fn(&Within, &Asking<'_>) -> Result<Found, ExpFault>>(
+pub fn other_row<E: Elaborator>(
     context: &Context<'_>,
-    ask: &F,
+    elaborator: &E,
     part: &Part<'_>,
     ty: &Ty,
     meaning: &Ty,
 ) -> Result<Found, ExpFault>
-    requires callable { F.IsAlwaysCallable ask.now }
-    requires answers { AnswersAll context.now (F.post ask.now) }
+    requires answers { E.AnswersByTable elaborator.now }
     ensures { LeadsTo context.now (other_row context.now.within.now part.now.at
         part.now.in_parentheses part.now.exp.now ty.now (out-Ty meaning.now)) result }
 {
     match meaning {
-        Ty::List(of) => element(context, ask, part, ty, of.get(), Lifting::List),
-        Ty::Opt(of) => element(context, ask, part, ty, of.get(), Lifting::Option),
+        Ty::List(of) => element(context, elaborator, part, ty, of.get(), Lifting::List),
+        Ty::Opt(of) => element(context, elaborator, part, ty, of.get(), Lifting::Option),
         _ => Err(ExpFault::Refused {
             at: part.at,
             rule: RuleId::Y1,
@@ -99,16 +97,15 @@ pub fn eps_row(context: &Context<'_>, at: Span, ty: &Ty, meaning: &Ty) -> Result
 }
 
 /// The items of a sequence, at a list type with these elements.
-pub fn sequence<F: Fn(&Within, &Asking<'_>) -> Result<Found, ExpFault>>(
+pub fn sequence<E: Elaborator>(
     context: &Context<'_>,
-    ask: &F,
+    elaborator: &E,
     at: Span,
     parts: &[Exp],
     ty: &Ty,
     element: &Ty,
 ) -> Result<Found, ExpFault>
-    requires callable { F.IsAlwaysCallable ask.now }
-    requires answers { AnswersAll context.now (F.post ask.now) }
+    requires answers { E.AnswersByTable elaborator.now }
     ensures { LeadsTo context.now
         (sequence context.now.within.now at parts.now ty.now element.now) result }
 {
@@ -118,54 +115,52 @@ pub fn sequence<F: Fn(&Within, &Asking<'_>) -> Result<Found, ExpFault>>(
             rule: RuleId::Y2,
         });
     }
-    let all = items(context, ask, parts, ty, element)?;
+    let all = items(context, elaborator, parts, ty, element)?;
     let of = copy_ty(context.alloc, element)?;
     let given = give_at(context.alloc, IlExp::List(of, all), ty)?;
     Ok(given)
 }
 
 /// The items of a sequence at a list type with this element type.
-fn items<F: Fn(&Within, &Asking<'_>) -> Result<Found, ExpFault>>(
+fn items<E: Elaborator>(
     context: &Context<'_>,
-    ask: &F,
+    elaborator: &E,
     parts: &[Exp],
     ty: &Ty,
     element: &Ty,
 ) -> Result<Row<ListItem>, ExpFault>
-    requires callable { F.IsAlwaysCallable ask.now }
-    requires answers { AnswersAll context.now (F.post ask.now) }
+    requires answers { E.AnswersByTable elaborator.now }
     ensures { TellsAll context.now.decls.now context.now.scope.now
         (map (item context.now.within.now ty.now element.now) parts.now) item_of result }
 {
     let mut all = Row::new(context.alloc);
     for part in parts {
-        all.push(item(context, ask, ty, element, part)?)?;
+        all.push(item(context, elaborator, ty, element, part)?)?;
     }
     Ok(all)
 }
 
 /// An item: all elements of what is spliced, or one element.
-fn item<F: Fn(&Within, &Asking<'_>) -> Result<Found, ExpFault>>(
+fn item<E: Elaborator>(
     context: &Context<'_>,
-    ask: &F,
+    elaborator: &E,
     ty: &Ty,
     element: &Ty,
     part: &Exp,
 ) -> Result<ListItem, ExpFault>
-    requires callable { F.IsAlwaysCallable ask.now }
-    requires answers { AnswersAll context.now (F.post ask.now) }
+    requires answers { E.AnswersByTable elaborator.now }
     ensures { LeadsToItem context.now
         (item_row context.now.within.now ty.now element.now part.now) result }
 {
     if is_spliced(part) {
-        let list = asked(context, ask, part, ty)?;
+        let list = asked(context, elaborator, part, ty)?;
         return Ok(ListItem::All(list.exp.into_inner()));
     }
     if is_told_by_type(part) {
-        let given = found(context, ask, part)?;
+        let given = found(context, elaborator, part)?;
         return found_item(context, part.at, ty, element, given);
     }
-    let one = asked(context, ask, part, element)?;
+    let one = asked(context, elaborator, part, element)?;
     Ok(ListItem::One(one.exp.into_inner()))
 }
 
@@ -195,22 +190,21 @@ fn found_item(
 }
 
 /// A run in a hole: of none it is left out, of one it is that element; two and more are a sequence.
-fn run_row<F: Fn(&Within, &Asking<'_>) -> Result<Found, ExpFault>>(
+fn run_row<E: Elaborator>(
     context: &Context<'_>,
-    ask: &F,
+    elaborator: &E,
     at: Span,
     parts: &[Exp],
     ty: &Ty,
 ) -> Result<Found, ExpFault>
-    requires callable { F.IsAlwaysCallable ask.now }
-    requires answers { AnswersAll context.now (F.post ask.now) }
+    requires answers { E.AnswersByTable elaborator.now }
     ensures { LeadsTo context.now (run_row context.now.within.now at parts.now ty.now) result }
 {
     match parts {
         [] => absent(context, ty),
         [one] => asked_at(
             context,
-            ask,
+            elaborator,
             &Part {
                 at: one.at,
                 in_parentheses: true,
@@ -219,7 +213,7 @@ fn run_row<F: Fn(&Within, &Asking<'_>) -> Result<Found, ExpFault>>(
             ty,
         ),
         _ => match context.decls.types.meaning(ty) {
-            Ty::List(of) => sequence(context, ask, at, parts, ty, of.get()),
+            Ty::List(of) => sequence(context, elaborator, at, parts, ty, of.get()),
             _ => Err(ExpFault::Refused {
                 at,
                 rule: RuleId::Y1,
@@ -238,35 +232,33 @@ fn absent(context: &Context<'_>, ty: &Ty) -> Result<Found, ExpFault>
 }
 
 /// What fills a hole of this type.
-fn hole<F: Fn(&Within, &Asking<'_>) -> Result<Found, ExpFault>>(
+fn hole<E: Elaborator>(
     context: &Context<'_>,
-    ask: &F,
+    elaborator: &E,
     at: Span,
     filling: &Filled<'_>,
     ty: &Ty,
 ) -> Result<Found, ExpFault>
-    requires callable { F.IsAlwaysCallable ask.now }
-    requires answers { AnswersAll context.now (F.post ask.now) }
+    requires answers { E.AnswersByTable elaborator.now }
     ensures { LeadsTo context.now
         (hole_row context.now.within.now at (plain filling.now) ty.now) result }
 {
     match filling {
-        Filled::One(exp) => asked(context, ask, exp, ty),
-        Filled::Run(parts) => run_row(context, ask, at, parts, ty),
+        Filled::One(exp) => asked(context, elaborator, exp, ty),
+        Filled::Run(parts) => run_row(context, elaborator, at, parts, ty),
         Filled::Missing => absent(context, ty),
     }
 }
 
 /// What fills each hole, at the type of the hole.
-pub fn all_holes<F: Fn(&Within, &Asking<'_>) -> Result<Found, ExpFault>>(
+pub fn all_holes<E: Elaborator>(
     context: &Context<'_>,
-    ask: &F,
+    elaborator: &E,
     at: Span,
     filled: &[Filled<'_>],
     tys: &[Ty],
 ) -> Result<Row<IlExp>, ExpFault>
-    requires callable { F.IsAlwaysCallable ask.now }
-    requires answers { AnswersAll context.now (F.post ask.now) }
+    requires answers { E.AnswersByTable elaborator.now }
     ensures { TellsAll context.now.decls.now context.now.scope.now
         (holes context.now.within.now at (fillings filled.now) tys.now) exp_of result }
 {
@@ -276,7 +268,7 @@ pub fn all_holes<F: Fn(&Within, &Asking<'_>) -> Result<Found, ExpFault>>(
         let Some((ty, others)) = rest.split_first() else {
             return Ok(all);
         };
-        let one = hole(context, ask, at, filling, ty)?;
+        let one = hole(context, elaborator, at, filling, ty)?;
         all.push(one.exp.into_inner())?;
         rest = others;
     }

@@ -1,27 +1,24 @@
 //! The answer to a question, by its row, which asks further questions.
 
 ghost use Rattle.st_elab_table.specs.Elaboration.{row};
-ghost use Rattle.st_elab_rows.specs.Told.{Tells};
-ghost use Rattle.st_elab_rows.specs.Asking.{AnswersAll, LeadsTo, question, made_by};
+ghost use Rattle.st_elab_rows.specs.Asking.{LeadsTo, IsAnswer, question};
 
 use crate::checked::checked_row;
 use crate::inferred::inferred_row;
-use st_dims::Within;
 use st_elab_rows::asking::{Asking, Context, Found, Part};
-use st_elab_table::{Decls, ExpFault, Scope};
-use std::alloc::Global;
+use st_elab_rows::elaborator::Elaborator;
+use st_elab_table::ExpFault;
 
 /// How many questions may lie inside one another.
-pub const DEPTH: u32 = 10_000;
+const DEPTH: u32 = 10_000;
 
 /// The row of a question.
-fn row<F: Fn(&Within, &Asking<'_>) -> Result<Found, ExpFault>>(
+fn row<E: Elaborator>(
     context: &Context<'_>,
-    ask: &F,
+    elaborator: &E,
     asking: &Asking<'_>,
 ) -> Result<Found, ExpFault>
-    requires callable { F.IsAlwaysCallable ask.now }
-    requires answers { AnswersAll context.now (F.post ask.now) }
+    requires answers { E.AnswersByTable elaborator.now }
     ensures { LeadsTo context.now (row context.now.decls.now context.now.scope.now
         (question context.now.within.now asking.now)) result }
 {
@@ -33,7 +30,7 @@ fn row<F: Fn(&Within, &Asking<'_>) -> Result<Found, ExpFault>>(
             ty,
         } => checked_row(
             context,
-            ask,
+            elaborator,
             &Part {
                 at,
                 in_parentheses,
@@ -41,37 +38,35 @@ fn row<F: Fn(&Within, &Asking<'_>) -> Result<Found, ExpFault>>(
             },
             ty,
         ),
-        Asking::Infer { at, exp } => inferred_row(context, ask, at, exp),
+        Asking::Infer { at, exp } => inferred_row(context, elaborator, at, exp),
     }
 }
 
-/// The answer to a question. Each question that it asks has one less of the depth; where none is
-/// left, memory is said to be wanting.
-pub fn answer(
-    alloc: Global,
-    decls: &Decls,
-    scope: &Scope,
-    within: &Within,
+/// The answer to a question, where so many others may lie inside of it. Each question that it asks
+/// has one less of the depth; where none is left, memory is said to be wanting.
+fn answer_at_depth(
+    context: &Context<'_>,
     asking: &Asking<'_>,
     depth: u32,
 ) -> Result<Found, ExpFault>
-    ensures { Tells decls.now scope.now (question within.now asking.now) made_by result }
+    ensures { IsAnswer context.now asking.now result }
 {
     let Some(depth) = depth.checked_sub(1) else {
         return Err(ExpFault::Memory);
     };
-    let context = Context {
-        alloc,
-        decls,
-        scope,
-        within,
-    };
     row(
-        &context,
-        &|inner: &Within, part: &Asking<'_>|
-            ensures { Tells decls.entry.now scope.entry.now (question inner.now part.now) made_by
-                result }
-        { answer(alloc, decls, scope, inner, part, depth) },
+        context,
+        &|inner: &Context<'_>, part: &Asking<'_>|
+            ensures { IsAnswer inner.now part.now result }
+        { answer_at_depth(inner, part, depth) },
         asking,
     )
+}
+
+/// The answer to a question. Memory is wanting also where more than 10,000 questions lie inside
+/// one another.
+pub fn answer(context: &Context<'_>, asking: &Asking<'_>) -> Result<Found, ExpFault>
+    ensures { IsAnswer context.now asking.now result }
+{
+    answer_at_depth(context, asking, DEPTH)
 }

@@ -12,11 +12,11 @@ ghost use Rattle.st_elab_law.specs.Agreement.{Agrees};
 ghost use Rattle.st_elab_rows.specs.Told.{Told};
 ghost use Rattle.st_elab_exp.specs.Exactly.{IsGiven, IsRefused};
 
-use crate::driver::{DEPTH, answer};
+use crate::driver::answer;
 use crate::inside::check_inside;
 use st_dims::Within;
 use st_el::Exp;
-use st_elab_rows::asking::Asking;
+use st_elab_rows::asking::{Asking, Context};
 use st_elab_table::{Decls, ExpFault, Scope};
 use st_il::{IlExp, Ty};
 use st_num::{Dim, NoMemory, Row};
@@ -73,7 +73,12 @@ pub fn infer_exp(
         → IfOk result (λ found. plain_exp (erased_exp il found.0) ≡ plain_exp exp.now) }
 {
     let within = around(alloc, scope)?;
-    let asking = Asking::Infer { at: exp.at, exp };
-    let found = answer(alloc, decls, scope, &within, &asking, DEPTH)?;
+    let context = Context {
+        alloc,
+        decls,
+        scope,
+        within: &within,
+    };
+    let found = answer(&context, &Asking::Infer { at: exp.at, exp })?;
     Ok((found.exp.into_inner(), found.ty))
 }

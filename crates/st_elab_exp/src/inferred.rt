@@ -11,15 +11,16 @@ ghost use Rattle.st_elab_table.specs.Operators.{operator_of};
 ghost use Rattle.st_elab_table.specs.Operands.{binary_row};
 ghost use Rattle.st_elab_table.specs.Inferred.{variable_type, variable_row, fun_named, call_row, inferred_tuple, inferred_at, inferred_row};
 ghost use Rattle.st_elab_table.specs.Steps.{made, give, found, each_asked, exp_of};
-ghost use Rattle.st_elab_rows.specs.Asking.{AnswersAll, LeadsTo, made_by};
+ghost use Rattle.st_elab_rows.specs.Asking.{LeadsTo, made_by};
 ghost use Rattle.st_elab_rows.specs.Parts.{TellsAll};
 ghost use Rattle.st_elab_exp.specs.inner.Pairs.{TellsPairs};
 
 use crate::turn::inferred_iteration;
-use st_dims::{Within, is_among};
+use st_dims::is_among;
 use st_el::{Exp, Node};
 use st_elab_rows::ask::{asked, found, found_at};
-use st_elab_rows::asking::{Asking, Context, Found, give};
+use st_elab_rows::asking::{Context, Found, give};
+use st_elab_rows::elaborator::Elaborator;
 use st_elab_rows::fitting::{give_at, inferred_concatenation};
 use st_elab_rows::form::inferable;
 use st_elab_rows::number::{arithmetic_row, negation_row, order_row, power_row};
@@ -87,14 +88,13 @@ fn text_row(context: &Context<'_>, text: &Name) -> Result<Found, ExpFault>
 }
 
 /// What each expression is at its type.
-pub fn arguments<F: Fn(&Within, &Asking<'_>) -> Result<Found, ExpFault>>(
+pub fn arguments<E: Elaborator>(
     context: &Context<'_>,
-    ask: &F,
+    elaborator: &E,
     exps: &[Exp],
     tys: &[Ty],
 ) -> Result<Row<IlExp>, ExpFault>
-    requires callable { F.IsAlwaysCallable ask.now }
-    requires answers { AnswersAll context.now (F.post ask.now) }
+    requires answers { E.AnswersByTable elaborator.now }
     ensures { TellsAll context.now.decls.now context.now.scope.now
         (each_asked context.now.within.now exps.now tys.now) exp_of result }
 {
@@ -104,7 +104,7 @@ pub fn arguments<F: Fn(&Within, &Asking<'_>) -> Result<Found, ExpFault>>(
         let Some((ty, others)) = rest.split_first() else {
             return Ok(all);
         };
-        let one = asked(context, ask, exp, ty)?;
+        let one = asked(context, elaborator, exp, ty)?;
         all.push(one.exp.into_inner())?;
         rest = others;
     }
@@ -112,15 +112,14 @@ pub fn arguments<F: Fn(&Within, &Asking<'_>) -> Result<Found, ExpFault>>(
 }
 
 /// A call of a declared function, its arguments at the types of the parameters.
-fn call_row<F: Fn(&Within, &Asking<'_>) -> Result<Found, ExpFault>>(
+fn call_row<E: Elaborator>(
     context: &Context<'_>,
-    ask: &F,
+    elaborator: &E,
     at: Span,
     name: &Name,
     exps: &[Exp],
 ) -> Result<Found, ExpFault>
-    requires callable { F.IsAlwaysCallable ask.now }
-    requires answers { AnswersAll context.now (F.post ask.now) }
+    requires answers { E.AnswersByTable elaborator.now }
     ensures { LeadsTo context.now (call_row context.now.within.now at exps.now
         (fun_named context.now.decls.now.funs name.now)) result }
 {
@@ -136,7 +135,7 @@ fn call_row<F: Fn(&Within, &Asking<'_>) -> Result<Found, ExpFault>>(
             rule: RuleId::Y6,
         });
     }
-    let all = arguments(context, ask, exps, fun.params.as_slice())?;
+    let all = arguments(context, elaborator, exps, fun.params.as_slice())?;
     let exp = IlExp::Call(fun.name.copy(context.alloc)?, all);
     let given = give_at(context.alloc, exp, &fun.result)?;
     Ok(given)
@@ -150,19 +149,18 @@ pub struct FoundAll {
 }
 
 /// Each expression with its inferred type.
-fn each_found<F: Fn(&Within, &Asking<'_>) -> Result<Found, ExpFault>>(
+fn each_found<E: Elaborator>(
     context: &Context<'_>,
-    ask: &F,
+    elaborator: &E,
     exps: &[Exp],
 ) -> Result<FoundAll, ExpFault>
-    requires callable { F.IsAlwaysCallable ask.now }
-    requires answers { AnswersAll context.now (F.post ask.now) }
+    requires answers { E.AnswersByTable elaborator.now }
     ensures { TellsPairs context.now (map (found context.now.within.now) exps.now) result }
 {
     let mut parts = Row::new(context.alloc);
     let mut tys = Row::new(context.alloc);
     for exp in exps {
-        let one = found(context, ask, exp)?;
+        let one = found(context, elaborator, exp)?;
         parts.push(one.exp.into_inner())?;
         tys.push(one.ty)?;
     }
@@ -170,42 +168,40 @@ fn each_found<F: Fn(&Within, &Asking<'_>) -> Result<Found, ExpFault>>(
 }
 
 /// A tuple of inferred parts, of the tuple of their types.
-fn tuple_row<F: Fn(&Within, &Asking<'_>) -> Result<Found, ExpFault>>(
+fn tuple_row<E: Elaborator>(
     context: &Context<'_>,
-    ask: &F,
+    elaborator: &E,
     exps: &[Exp],
 ) -> Result<Found, ExpFault>
-    requires callable { F.IsAlwaysCallable ask.now }
-    requires answers { AnswersAll context.now (F.post ask.now) }
+    requires answers { E.AnswersByTable elaborator.now }
     ensures { LeadsTo context.now (inferred_tuple context.now.within.now exps.now) result }
 {
-    let all = each_found(context, ask, exps)?;
+    let all = each_found(context, elaborator, exps)?;
     let given = give(context.alloc, IlExp::Tuple(all.exps), Ty::Tuple(all.tys))?;
     Ok(given)
 }
 
 /// Two operands of a sign, by the kind of operator that it is.
-fn binary_row<F: Fn(&Within, &Asking<'_>) -> Result<Found, ExpFault>>(
+fn binary_row<E: Elaborator>(
     context: &Context<'_>,
-    ask: &F,
+    elaborator: &E,
     at: Span,
     left: &Exp,
     sign: Mark,
     right: &Exp,
 ) -> Result<Found, ExpFault>
-    requires callable { F.IsAlwaysCallable ask.now }
-    requires answers { AnswersAll context.now (F.post ask.now) }
+    requires answers { E.AnswersByTable elaborator.now }
     ensures { LeadsTo context.now (binary_row context.now.within.now at sign left.now right.now
         (operator_of sign)) result }
 {
     match operator_of(sign) {
-        Operator::Logic => logic_row(context, ask, sign, left, right),
-        Operator::Equation => equation_row(context, ask, at, sign, left, right),
-        Operator::Order => order_row(context, ask, sign, left, right),
-        Operator::Membership => membership_row(context, ask, at, left, right),
-        Operator::Concatenation => inferred_concatenation(context, ask, at, left, right),
-        Operator::Arithmetic => arithmetic_row(context, ask, sign, left, right),
-        Operator::Power => power_row(context, ask, left, right),
+        Operator::Logic => logic_row(context, elaborator, sign, left, right),
+        Operator::Equation => equation_row(context, elaborator, at, sign, left, right),
+        Operator::Order => order_row(context, elaborator, sign, left, right),
+        Operator::Membership => membership_row(context, elaborator, at, left, right),
+        Operator::Concatenation => inferred_concatenation(context, elaborator, at, left, right),
+        Operator::Arithmetic => arithmetic_row(context, elaborator, sign, left, right),
+        Operator::Power => power_row(context, elaborator, left, right),
         Operator::Other => Err(ExpFault::Refused {
             at,
             rule: RuleId::Y3,
@@ -214,14 +210,13 @@ fn binary_row<F: Fn(&Within, &Asking<'_>) -> Result<Found, ExpFault>>(
 }
 
 /// An expression of a form that has a type of its own, or Y3.
-fn inferred_at<F: Fn(&Within, &Asking<'_>) -> Result<Found, ExpFault>>(
+fn inferred_at<E: Elaborator>(
     context: &Context<'_>,
-    ask: &F,
+    elaborator: &E,
     at: Span,
     node: &Node,
 ) -> Result<Found, ExpFault>
-    requires callable { F.IsAlwaysCallable ask.now }
-    requires answers { AnswersAll context.now (F.post ask.now) }
+    requires answers { E.AnswersByTable elaborator.now }
     ensures { LeadsTo context.now (inferred_at context.now.decls.now context.now.scope.now
         context.now.within.now at (out-Node node.now)) result }
 {
@@ -231,22 +226,22 @@ fn inferred_at<F: Fn(&Within, &Asking<'_>) -> Result<Found, ExpFault>>(
         Node::Number(number) => number_row(context, *number),
         Node::Text(text) => text_row(context, text),
         Node::Binary(left, sign, right) => {
-            binary_row(context, ask, at, left.get(), *sign, right.get())
+            binary_row(context, elaborator, at, left.get(), *sign, right.get())
         }
-        Node::Not(inner) => not_row(context, ask, inner.get()),
-        Node::Neg(operand) => negation_row(context, ask, operand.get()),
-        Node::Arith(inner) => found(context, ask, inner.get()),
-        Node::Paren(inner) => found_at(context, ask, at, inner.get()),
-        Node::Tuple(parts) => tuple_row(context, ask, parts.as_slice()),
-        Node::Dot(operand, name) => field_row(context, ask, at, operand.get(), name),
-        Node::At(operand, from) => position_row(context, ask, operand.get(), from.get()),
+        Node::Not(inner) => not_row(context, elaborator, inner.get()),
+        Node::Neg(operand) => negation_row(context, elaborator, operand.get()),
+        Node::Arith(inner) => found(context, elaborator, inner.get()),
+        Node::Paren(inner) => found_at(context, elaborator, at, inner.get()),
+        Node::Tuple(parts) => tuple_row(context, elaborator, parts.as_slice()),
+        Node::Dot(operand, name) => field_row(context, elaborator, at, operand.get(), name),
+        Node::At(operand, from) => position_row(context, elaborator, operand.get(), from.get()),
         Node::Slice(operand, from, length) => {
-            slice_row(context, ask, operand.get(), from.get(), length.get())
+            slice_row(context, elaborator, operand.get(), from.get(), length.get())
         }
         Node::Update(operand, path, value) => {
             update_row(
                 context,
-                ask,
+                elaborator,
                 at,
                 operand.get(),
                 path.as_slice(),
@@ -254,11 +249,18 @@ fn inferred_at<F: Fn(&Within, &Asking<'_>) -> Result<Found, ExpFault>>(
             )
         }
         Node::Extend(operand, path, list) => {
-            extension_row(context, ask, at, operand.get(), path.as_slice(), list.get())
+            extension_row(
+                context,
+                elaborator,
+                at,
+                operand.get(),
+                path.as_slice(),
+                list.get(),
+            )
         }
-        Node::Len(operand) => length_row(context, ask, operand.get()),
-        Node::Call(name, parts) => call_row(context, ask, at, name, parts.as_slice()),
-        Node::Iter(body, count) => inferred_iteration(context, ask, body.get(), count),
+        Node::Len(operand) => length_row(context, elaborator, operand.get()),
+        Node::Call(name, parts) => call_row(context, elaborator, at, name, parts.as_slice()),
+        Node::Iter(body, count) => inferred_iteration(context, elaborator, body.get(), count),
         Node::Atom(_) | Node::Eps | Node::Seq(_) | Node::Infix(_, _, _) => untyped(at),
         Node::Bracket(_, _) | Node::Fields(_) => untyped(at),
     }
@@ -275,19 +277,18 @@ fn untyped(at: Span) -> Result<Found, ExpFault>
 }
 
 /// What an expression is, and its type; Y3 where it is not inferable.
-pub fn inferred_row<F: Fn(&Within, &Asking<'_>) -> Result<Found, ExpFault>>(
+pub fn inferred_row<E: Elaborator>(
     context: &Context<'_>,
-    ask: &F,
+    elaborator: &E,
     at: Span,
     exp: &Exp,
 ) -> Result<Found, ExpFault>
-    requires callable { F.IsAlwaysCallable ask.now }
-    requires answers { AnswersAll context.now (F.post ask.now) }
+    requires answers { E.AnswersByTable elaborator.now }
     ensures { LeadsTo context.now (inferred_row context.now.decls.now context.now.scope.now
         context.now.within.now at exp.now (opened exp.now)) result }
 {
     if inferable(exp) {
-        return inferred_at(context, ask, at, &exp.node);
+        return inferred_at(context, elaborator, at, &exp.node);
     }
     untyped(at)
 }

@@ -4,13 +4,12 @@ ghost use Rattle.st_el.specs.declared.expression.Count.{out-Count};
 ghost use Rattle.st_notation.specs.Fitted.{fillings};
 ghost use Rattle.st_elab_table.specs.Collections.{counted_at};
 ghost use Rattle.st_elab_table.specs.Steps.{exp_of, holes, each_asked};
-ghost use Rattle.st_elab_rows.specs.Told.{Told, Tells, Reaches};
-ghost use Rattle.st_elab_rows.specs.Asking.{question, made_by};
+ghost use Rattle.st_elab_rows.specs.Told.{Told, Reaches};
 ghost use Rattle.st_elab_rows.specs.Parts.{TellsAll};
 ghost use Rattle.st_elab_exp.specs.Inside.{ElabInside, InsideBreach};
 
 use crate::collection::all_holes;
-use crate::driver::{DEPTH, answer};
+use crate::driver::answer;
 use crate::inferred::arguments;
 use crate::turn::counted;
 use st_dims::Within;
@@ -34,13 +33,19 @@ pub fn check_inside(
     ensures { Told (ElabInside decls.now scope.now within.now exp.now ty.now)
         (InsideBreach decls.now scope.now within.now exp.now ty.now) result }
 {
+    let context = Context {
+        alloc,
+        decls,
+        scope,
+        within,
+    };
     let asking = Asking::Check {
         at: exp.at,
         in_parentheses: false,
         exp,
         ty,
     };
-    let found = answer(alloc, decls, scope, within, &asking, DEPTH)?;
+    let found = answer(&context, &asking)?;
     Ok(found.exp)
 }
 
@@ -62,15 +67,7 @@ pub fn check_parts(
         scope,
         within,
     };
-    arguments(
-        &context,
-        &|inner: &Within, part: &Asking<'_>|
-            ensures { Tells decls.entry.now scope.entry.now (question inner.now part.now) made_by
-                result }
-        { answer(alloc, decls, scope, inner, part, DEPTH) },
-        parts,
-        tys,
-    )
+    arguments(&context, &answer, parts, tys)
 }
 
 /// What fills each hole, at the type of the hole, inside of this, or the first breach.
@@ -92,16 +89,7 @@ pub fn check_fillings(
         scope,
         within,
     };
-    all_holes(
-        &context,
-        &|inner: &Within, part: &Asking<'_>|
-            ensures { Tells decls.entry.now scope.entry.now (question inner.now part.now) made_by
-                result }
-        { answer(alloc, decls, scope, inner, part, DEPTH) },
-        at,
-        filled,
-        tys,
-    )
+    all_holes(&context, &answer, at, filled, tys)
 }
 
 /// How often an iteration goes that stands inside of this, or the first breach.
@@ -121,12 +109,5 @@ pub fn check_count(
         scope,
         within,
     };
-    counted(
-        &context,
-        &|inner: &Within, part: &Asking<'_>|
-            ensures { Tells decls.entry.now scope.entry.now (question inner.now part.now) made_by
-                result }
-        { answer(alloc, decls, scope, inner, part, DEPTH) },
-        count,
-    )
+    counted(&context, &answer, count)
 }

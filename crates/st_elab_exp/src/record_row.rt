@@ -12,13 +12,13 @@ ghost use Rattle.st_notation.specs.declared.filled.Shape.{Shape};
 ghost use Rattle.st_notation.specs.Fits.{Filling};
 ghost use Rattle.st_notation.specs.Fitted.{plain, fillings};
 ghost use Rattle.st_elab_table.specs.Records.{is_omissible, omitted, aligned, field_names, fields_of_record, record_row, case_row, notation_row};
-ghost use Rattle.st_elab_rows.specs.Asking.{AnswersAll, LeadsTo};
+ghost use Rattle.st_elab_rows.specs.Asking.{LeadsTo};
 
 use crate::collection::{all_holes, other_row};
-use st_dims::Within;
 use st_el::Exp;
-use st_elab_rows::asking::{Asking, Context, Found, Part};
+use st_elab_rows::asking::{Context, Found, Part};
 use st_elab_rows::choice::{chosen_case, fill, shapes_of};
+use st_elab_rows::elaborator::Elaborator;
 use st_elab_rows::fitting::give_at;
 use st_elab_rows::record::field_types;
 use st_elab_table::ExpFault;
@@ -115,17 +115,16 @@ fn aligned<'e>(
 }
 
 /// The written fields, at the record type of this name.
-fn fields_of_record<F: Fn(&Within, &Asking<'_>) -> Result<Found, ExpFault>>(
+fn fields_of_record<E: Elaborator>(
     context: &Context<'_>,
-    ask: &F,
+    elaborator: &E,
     at: Span,
     name: &Name,
     written: &[(Name, Exp)],
     ty: &Ty,
     fields: &[(Name, Ty)],
 ) -> Result<Found, ExpFault>
-    requires callable { F.IsAlwaysCallable ask.now }
-    requires answers { AnswersAll context.now (F.post ask.now) }
+    requires answers { E.AnswersByTable elaborator.now }
     ensures { LeadsTo context.now (fields_of_record context.now.within.now at name.now written.now
         ty.now fields.now) result }
 {
@@ -137,23 +136,22 @@ fn fields_of_record<F: Fn(&Within, &Asking<'_>) -> Result<Found, ExpFault>>(
             rule: RuleId::Y4,
         });
     };
-    let all = all_holes(context, ask, at, filled.as_slice(), tys.as_slice())?;
+    let all = all_holes(context, elaborator, at, filled.as_slice(), tys.as_slice())?;
     let exp = IlExp::Fields(name.copy(context.alloc)?, all);
     let given = give_at(context.alloc, exp, ty)?;
     Ok(given)
 }
 
 /// A record, at a type of this meaning.
-pub fn record_row<F: Fn(&Within, &Asking<'_>) -> Result<Found, ExpFault>>(
+pub fn record_row<E: Elaborator>(
     context: &Context<'_>,
-    ask: &F,
+    elaborator: &E,
     part: &Part<'_>,
     written: &[(Name, Exp)],
     ty: &Ty,
     meaning: &Ty,
 ) -> Result<Found, ExpFault>
-    requires callable { F.IsAlwaysCallable ask.now }
-    requires answers { AnswersAll context.now (F.post ask.now) }
+    requires answers { E.AnswersByTable elaborator.now }
     requires means { Means context.now.decls.now.types ty.now meaning.now }
     ensures { LeadsTo context.now (record_row context.now.decls.now context.now.within.now
         part.now.at part.now.in_parentheses part.now.exp.now written.now ty.now meaning.now)
@@ -161,23 +159,24 @@ pub fn record_row<F: Fn(&Within, &Asking<'_>) -> Result<Found, ExpFault>>(
 {
     match ty {
         Ty::Name(name) => match context.decls.types.fields(ty) {
-            Some(fields) => fields_of_record(context, ask, part.at, name, written, ty, fields),
-            None => other_row(context, ask, part, ty, meaning),
+            Some(fields) => fields_of_record(
+                context, elaborator, part.at, name, written, ty, fields,
+            ),
+            None => other_row(context, elaborator, part, ty, meaning),
         },
-        _ => other_row(context, ask, part, ty, meaning),
+        _ => other_row(context, elaborator, part, ty, meaning),
     }
 }
 
 /// The case of a variant of this name that the expression is.
-fn case_row<F: Fn(&Within, &Asking<'_>) -> Result<Found, ExpFault>>(
+fn case_row<E: Elaborator>(
     context: &Context<'_>,
-    ask: &F,
+    elaborator: &E,
     part: &Part<'_>,
     ty: &Ty,
     cases: &[CaseDef],
 ) -> Result<Found, ExpFault>
-    requires callable { F.IsAlwaysCallable ask.now }
-    requires answers { AnswersAll context.now (F.post ask.now) }
+    requires answers { E.AnswersByTable elaborator.now }
     requires has { HasCases context.now.decls.now.types ty.now cases.now }
     ensures { LeadsTo context.now
         (case_row context.now.within.now part.now.at part.now.exp.now ty.now) result }
@@ -192,7 +191,7 @@ fn case_row<F: Fn(&Within, &Asking<'_>) -> Result<Found, ExpFault>>(
         return unfit(part.at);
     };
     let operands = case.operands.as_slice();
-    let all = all_holes(context, ask, part.at, filled.as_slice(), operands)?;
+    let all = all_holes(context, elaborator, part.at, filled.as_slice(), operands)?;
     let name = name.copy(context.alloc)?;
     let tag = case.tag.copy(context.alloc)?;
     let given = give_at(context.alloc, IlExp::Case(name, tag, all), ty)?;
@@ -210,20 +209,19 @@ fn unfit(at: Span) -> Result<Found, ExpFault>
 }
 
 /// An atom, a sequence, a sign of notation or a bracket, at a type of this meaning.
-pub fn notation_row<F: Fn(&Within, &Asking<'_>) -> Result<Found, ExpFault>>(
+pub fn notation_row<E: Elaborator>(
     context: &Context<'_>,
-    ask: &F,
+    elaborator: &E,
     part: &Part<'_>,
     ty: &Ty,
     meaning: &Ty,
 ) -> Result<Found, ExpFault>
-    requires callable { F.IsAlwaysCallable ask.now }
-    requires answers { AnswersAll context.now (F.post ask.now) }
+    requires answers { E.AnswersByTable elaborator.now }
     ensures { LeadsTo context.now (notation_row context.now.within.now part.now.at
         part.now.in_parentheses part.now.exp.now ty.now meaning.now) result }
 {
     match context.decls.types.cases(ty) {
-        Some(cases) => case_row(context, ask, part, ty, cases.as_slice()),
-        None => other_row(context, ask, part, ty, meaning),
+        Some(cases) => case_row(context, elaborator, part, ty, cases.as_slice()),
+        None => other_row(context, elaborator, part, ty, meaning),
     }
 }

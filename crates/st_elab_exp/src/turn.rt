@@ -8,14 +8,15 @@ ghost use Rattle.st_dims.specs.Around.{inside};
 ghost use Rattle.st_elab_table.specs.Iterations.{iterated_type};
 ghost use Rattle.st_elab_table.specs.Collections.{counted_at, iteration, body_row, iteration_row};
 ghost use Rattle.st_elab_table.specs.Inferred.{inferred_iteration};
-ghost use Rattle.st_elab_rows.specs.Asking.{AnswersAll, LeadsTo};
+ghost use Rattle.st_elab_rows.specs.Asking.{LeadsTo};
 ghost use Rattle.st_elab_rows.specs.Told.{Reaches};
 
 use crate::collection::other_row;
 use st_dims::{Within, kind_of};
 use st_el::{Count, Exp};
 use st_elab_rows::ask::{asked, asked_inside, found_inside};
-use st_elab_rows::asking::{Asking, Context, Found, Part, give};
+use st_elab_rows::asking::{Context, Found, Part, give};
+use st_elab_rows::elaborator::Elaborator;
 use st_elab_rows::form::goes_over_list;
 use st_elab_rows::iteration::iterated;
 use st_elab_table::ExpFault;
@@ -35,13 +36,12 @@ fn iterated_type(alloc: Global, count: &Count, body: Ty) -> Result<Ty, NoMemory>
 }
 
 /// How often an iteration goes; the count stands outside of it.
-pub fn counted<F: Fn(&Within, &Asking<'_>) -> Result<Found, ExpFault>>(
+pub fn counted<E: Elaborator>(
     context: &Context<'_>,
-    ask: &F,
+    elaborator: &E,
     count: &Count,
 ) -> Result<Iteration, ExpFault>
-    requires callable { F.IsAlwaysCallable ask.now }
-    requires answers { AnswersAll context.now (F.post ask.now) }
+    requires answers { E.AnswersByTable elaborator.now }
     ensures { Reaches context.now.decls.now context.now.scope.now
         (counted_at context.now.within.now (out-Count count.now)) (λ times. times) result }
 {
@@ -50,32 +50,31 @@ pub fn counted<F: Fn(&Within, &Asking<'_>) -> Result<Found, ExpFault>>(
         Count::Plus => Ok(Iteration::Plus),
         Count::Quest => Ok(Iteration::Quest),
         Count::Times(number) => {
-            let number = asked(context, ask, number.get(), &Ty::Nat)?;
+            let number = asked(context, elaborator, number.get(), &Ty::Nat)?;
             Ok(Iteration::Times(number.exp))
         }
         Count::Below(index, number) => {
-            let number = asked(context, ask, number.get(), &Ty::Nat)?;
+            let number = asked(context, elaborator, number.get(), &Ty::Nat)?;
             Ok(Iteration::Below(index.copy(context.alloc)?, number.exp))
         }
     }
 }
 
 /// An iteration with this body, of this type.
-fn iteration<F: Fn(&Within, &Asking<'_>) -> Result<Found, ExpFault>>(
+fn iteration<E: Elaborator>(
     context: &Context<'_>,
-    ask: &F,
+    elaborator: &E,
     inner: &Within,
     count: &Count,
     body: Boxed<IlExp>,
     ty: Ty,
 ) -> Result<Found, ExpFault>
-    requires callable { F.IsAlwaysCallable ask.now }
-    requires answers { AnswersAll context.now (F.post ask.now) }
+    requires answers { E.AnswersByTable elaborator.now }
     requires inside { inner.now ≡ inside context.now.within.now count.now }
     ensures { LeadsTo context.now
         (iteration context.now.scope.now context.now.within.now count.now body ty) result }
 {
-    let times = counted(context, ask, count)?;
+    let times = counted(context, elaborator, count)?;
     let names = iterated(
         context.alloc,
         context.scope,
@@ -88,37 +87,35 @@ fn iteration<F: Fn(&Within, &Asking<'_>) -> Result<Found, ExpFault>>(
 }
 
 /// An iteration whose body is asked at a type.
-fn body_row<F: Fn(&Within, &Asking<'_>) -> Result<Found, ExpFault>>(
+fn body_row<E: Elaborator>(
     context: &Context<'_>,
-    ask: &F,
+    elaborator: &E,
     body: &Exp,
     count: &Count,
     element: &Ty,
     ty: &Ty,
 ) -> Result<Found, ExpFault>
-    requires callable { F.IsAlwaysCallable ask.now }
-    requires answers { AnswersAll context.now (F.post ask.now) }
+    requires answers { E.AnswersByTable elaborator.now }
     ensures { LeadsTo context.now (body_row context.now.scope.now context.now.within.now body.now
         count.now element.now ty.now) result }
 {
     let inner = context.within.inside(context.alloc, count)?;
-    let one = asked_inside(context, ask, &inner, body, element)?;
+    let one = asked_inside(context, elaborator, &inner, body, element)?;
     let ty = copy_ty(context.alloc, ty)?;
-    iteration(context, ask, &inner, count, one.exp, ty)
+    iteration(context, elaborator, &inner, count, one.exp, ty)
 }
 
 /// An iteration: by `* + ^` at a list, by `?` at an option.
-pub fn iteration_row<F: Fn(&Within, &Asking<'_>) -> Result<Found, ExpFault>>(
+pub fn iteration_row<E: Elaborator>(
     context: &Context<'_>,
-    ask: &F,
+    elaborator: &E,
     part: &Part<'_>,
     body: &Exp,
     count: &Count,
     ty: &Ty,
     meaning: &Ty,
 ) -> Result<Found, ExpFault>
-    requires callable { F.IsAlwaysCallable ask.now }
-    requires answers { AnswersAll context.now (F.post ask.now) }
+    requires answers { E.AnswersByTable elaborator.now }
     ensures { LeadsTo context.now (iteration_row context.now.scope.now context.now.within.now
         part.now.at part.now.in_parentheses part.now.exp.now body.now count.now ty.now
         (out-Ty meaning.now)) result }
@@ -126,34 +123,33 @@ pub fn iteration_row<F: Fn(&Within, &Asking<'_>) -> Result<Found, ExpFault>>(
     match meaning {
         Ty::List(of) => {
             if goes_over_list(count) {
-                return body_row(context, ask, body, count, of.get(), ty);
+                return body_row(context, elaborator, body, count, of.get(), ty);
             }
-            other_row(context, ask, part, ty, meaning)
+            other_row(context, elaborator, part, ty, meaning)
         }
         Ty::Opt(of) => {
             if goes_over_list(count) {
-                return other_row(context, ask, part, ty, meaning);
+                return other_row(context, elaborator, part, ty, meaning);
             }
-            body_row(context, ask, body, count, of.get(), ty)
+            body_row(context, elaborator, body, count, of.get(), ty)
         }
-        _ => other_row(context, ask, part, ty, meaning),
+        _ => other_row(context, elaborator, part, ty, meaning),
     }
 }
 
 /// An iteration of an inferable expression.
-pub fn inferred_iteration<F: Fn(&Within, &Asking<'_>) -> Result<Found, ExpFault>>(
+pub fn inferred_iteration<E: Elaborator>(
     context: &Context<'_>,
-    ask: &F,
+    elaborator: &E,
     body: &Exp,
     count: &Count,
 ) -> Result<Found, ExpFault>
-    requires callable { F.IsAlwaysCallable ask.now }
-    requires answers { AnswersAll context.now (F.post ask.now) }
+    requires answers { E.AnswersByTable elaborator.now }
     ensures { LeadsTo context.now (inferred_iteration context.now.scope.now
         context.now.within.now body.now count.now) result }
 {
     let inner = context.within.inside(context.alloc, count)?;
-    let one = found_inside(context, ask, &inner, body)?;
+    let one = found_inside(context, elaborator, &inner, body)?;
     let ty = iterated_type(context.alloc, count, one.ty)?;
-    iteration(context, ask, &inner, count, one.exp, ty)
+    iteration(context, elaborator, &inner, count, one.exp, ty)
 }

@@ -20,12 +20,15 @@ abbrev pub question : Within → Asking → Question
 question w (asking.Check at p e t) = check w at p e.now t.now
 question w (asking.Infer at e) = infer w at e.now
 
--- whatever is asked is answered as the table says
-abbrev pub AnswersAll : Context → (Bor Within → Bor Asking → Result Found ExpFault → Type 0)
-    → Type 0
-AnswersAll x post =
-    (w : Bor Within) (a : Bor Asking) (r : Result Found ExpFault) → post w a r
-    → Tells x.decls.now x.scope.now (question w.now a.now) made_by r
+-- the result is the answer of the table to the question in this context
+abbrev pub IsAnswer : Context → Asking → Result Found ExpFault → Type 0
+IsAnswer x a r = Tells x.decls.now x.scope.now (question x.within.now a) made_by r
+
+-- whatever is asked, in whatever context, is answered as the table says
+abbrev pub AnswersAll : (Bor Context → Bor Asking → Result Found ExpFault → Type 0) → Type 0
+AnswersAll post =
+    (x : Bor Context) (a : Bor Asking) (r : Result Found ExpFault) → post x a r
+    → IsAnswer x.now a.now r
 
 -- the steps lead to the result
 abbrev pub LeadsTo : Context → Step → Result Found ExpFault → Type 0

@@ -2,7 +2,7 @@
 
 -- what a call gives is an elaboration, what it refuses a breach, and want of memory says nothing
 pub mod Told
--- what a row asks of the call that it is given, and what it answers then
+-- what is asked, when a result is the answer of the table, and what a row answers
 pub mod Asking
 -- several questions are answered one after another
 pub mod Parts

@@ -1,10 +1,11 @@
-//! The questions that rows ask, each through the call that is passed.
+//! The questions that rows ask of the elaborator that is passed.
 
 ghost use Rattle.st_elab_table.specs.Questions.{check, infer, Asks};
 ghost use Rattle.st_elab_table.specs.Steps.{asked, found};
-ghost use Rattle.st_elab_rows.specs.Asking.{AnswersAll, Meets};
+ghost use Rattle.st_elab_rows.specs.Asking.{Meets};
 
 use crate::asking::{Asking, Context, Found, Part};
+use crate::elaborator::Elaborator;
 use st_dims::Within;
 use st_el::Exp;
 use st_elab_table::ExpFault;
@@ -12,74 +13,89 @@ use st_il::Ty;
 use st_num::Span;
 
 /// Asks what the expression by itself is, and its type.
-pub fn found<F: Fn(&Within, &Asking<'_>) -> Result<Found, ExpFault>>(
+pub fn found<E: Elaborator>(
     context: &Context<'_>,
-    ask: &F,
+    elaborator: &E,
     exp: &Exp,
 ) -> Result<Found, ExpFault>
-    requires callable { F.IsAlwaysCallable ask.now }
-    requires answers { AnswersAll context.now (F.post ask.now) }
+    requires answers { E.AnswersByTable elaborator.now }
     ensures { Meets context.now (Asks (found context.now.within.now exp.now)) result }
 {
-    ask(context.within, &Asking::Infer { at: exp.at, exp })
+    elaborator.answer(context, &Asking::Infer { at: exp.at, exp })
 }
 
 /// Asks what the expression is, and its type; a breach at the part itself is at this place.
-pub fn found_at<F: Fn(&Within, &Asking<'_>) -> Result<Found, ExpFault>>(
+pub fn found_at<E: Elaborator>(
     context: &Context<'_>,
-    ask: &F,
+    elaborator: &E,
     at: Span,
     exp: &Exp,
 ) -> Result<Found, ExpFault>
-    requires callable { F.IsAlwaysCallable ask.now }
-    requires answers { AnswersAll context.now (F.post ask.now) }
+    requires answers { E.AnswersByTable elaborator.now }
     ensures { Meets context.now (Asks (infer context.now.within.now at exp.now)) result }
 {
-    ask(context.within, &Asking::Infer { at, exp })
+    elaborator.answer(context, &Asking::Infer { at, exp })
 }
 
 /// Asks what the body of an iteration is, and its type, inside of that iteration.
-pub fn found_inside<F: Fn(&Within, &Asking<'_>) -> Result<Found, ExpFault>>(
+pub fn found_inside<E: Elaborator>(
     context: &Context<'_>,
-    ask: &F,
+    elaborator: &E,
     inner: &Within,
     exp: &Exp,
 ) -> Result<Found, ExpFault>
-    requires callable { F.IsAlwaysCallable ask.now }
-    requires answers { AnswersAll context.now (F.post ask.now) }
+    requires answers { E.AnswersByTable elaborator.now }
     ensures { Meets context.now (Asks (found inner.now exp.now)) result }
 {
-    ask(inner, &Asking::Infer { at: exp.at, exp })
+    let inside = Context {
+        alloc: context.alloc,
+        decls: context.decls,
+        scope: context.scope,
+        within: inner,
+    };
+    elaborator.answer(&inside, &Asking::Infer { at: exp.at, exp })
 }
 
 /// Asks what the expression by itself is at a type.
-pub fn asked<F: Fn(&Within, &Asking<'_>) -> Result<Found, ExpFault>>(
+pub fn asked<E: Elaborator>(
     context: &Context<'_>,
-    ask: &F,
+    elaborator: &E,
     exp: &Exp,
     ty: &Ty,
 ) -> Result<Found, ExpFault>
-    requires callable { F.IsAlwaysCallable ask.now }
-    requires answers { AnswersAll context.now (F.post ask.now) }
+    requires answers { E.AnswersByTable elaborator.now }
     ensures { Meets context.now (Asks (asked context.now.within.now exp.now ty.now)) result }
 {
-    asked_inside(context, ask, context.within, exp, ty)
+    elaborator.answer(
+        context,
+        &Asking::Check {
+            at: exp.at,
+            in_parentheses: false,
+            exp,
+            ty,
+        },
+    )
 }
 
 /// Asks what the body of an iteration is at a type, inside of that iteration.
-pub fn asked_inside<F: Fn(&Within, &Asking<'_>) -> Result<Found, ExpFault>>(
+pub fn asked_inside<E: Elaborator>(
     context: &Context<'_>,
-    ask: &F,
+    elaborator: &E,
     inner: &Within,
     exp: &Exp,
     ty: &Ty,
 ) -> Result<Found, ExpFault>
-    requires callable { F.IsAlwaysCallable ask.now }
-    requires answers { AnswersAll context.now (F.post ask.now) }
+    requires answers { E.AnswersByTable elaborator.now }
     ensures { Meets context.now (Asks (asked inner.now exp.now ty.now)) result }
 {
-    ask(
-        inner,
+    let inside = Context {
+        alloc: context.alloc,
+        decls: context.decls,
+        scope: context.scope,
+        within: inner,
+    };
+    elaborator.answer(
+        &inside,
         &Asking::Check {
             at: exp.at,
             in_parentheses: false,
@@ -90,19 +106,18 @@ pub fn asked_inside<F: Fn(&Within, &Asking<'_>) -> Result<Found, ExpFault>>(
 }
 
 /// Asks what a part is at a type.
-pub fn asked_at<F: Fn(&Within, &Asking<'_>) -> Result<Found, ExpFault>>(
+pub fn asked_at<E: Elaborator>(
     context: &Context<'_>,
-    ask: &F,
+    elaborator: &E,
     part: &Part<'_>,
     ty: &Ty,
 ) -> Result<Found, ExpFault>
-    requires callable { F.IsAlwaysCallable ask.now }
-    requires answers { AnswersAll context.now (F.post ask.now) }
+    requires answers { E.AnswersByTable elaborator.now }
     ensures { Meets context.now (Asks (check context.now.within.now part.now.at
         part.now.in_parentheses part.now.exp.now ty.now)) result }
 {
-    ask(
-        context.within,
+    elaborator.answer(
+        context,
         &Asking::Check {
             at: part.at,
             in_parentheses: part.in_parentheses,

@@ -5,14 +5,14 @@ ghost use Rattle.st_elab_table.specs.declared.decls.Scope.{Scope};
 ghost use Rattle.st_elab_table.specs.Steps.{made, list_of_one, as_joined, fitted, lifted_to};
 ghost use Rattle.st_elab_table.specs.Operands.{concatenated, inferred_concatenation};
 ghost use Rattle.st_elab_table.specs.Collections.{concatenation_row};
-ghost use Rattle.st_elab_rows.specs.Asking.{AnswersAll, LeadsTo, made_by};
+ghost use Rattle.st_elab_rows.specs.Asking.{LeadsTo, made_by};
 ghost use Rattle.st_elab_rows.specs.Told.{Reaches};
 ghost use Rattle.st_elab_rows.specs.inner.Words.{join_of, lift_of};
 
 use crate::ask::{asked, found};
-use crate::asking::{Asking, Context, Found};
+use crate::asking::{Context, Found};
+use crate::elaborator::Elaborator;
 use crate::found::{is_collection, larger, raise, up};
-use st_dims::Within;
 use st_el::Exp;
 use st_elab_table::{Decls, ExpFault};
 use st_il::{IlExp, ListItem, Ty, copy_ty};
@@ -156,41 +156,39 @@ pub fn as_joined(decls: &Decls, at: Span, ty: &Ty) -> Result<Joining, ExpFault>
 }
 
 /// Two sides of `++`, both asked at a type.
-pub fn concatenation_row<F: Fn(&Within, &Asking<'_>) -> Result<Found, ExpFault>>(
+pub fn concatenation_row<E: Elaborator>(
     context: &Context<'_>,
-    ask: &F,
+    elaborator: &E,
     at: Span,
     left: &Exp,
     right: &Exp,
     ty: &Ty,
 ) -> Result<Found, ExpFault>
-    requires callable { F.IsAlwaysCallable ask.now }
-    requires answers { AnswersAll context.now (F.post ask.now) }
+    requires answers { E.AnswersByTable elaborator.now }
     ensures { LeadsTo context.now
         (concatenation_row context.now.within.now at left.now right.now ty.now) result }
 {
     let join = as_joined(context.decls, at, ty)?;
-    let one = asked(context, ask, left, ty)?;
-    let other = asked(context, ask, right, ty)?;
+    let one = asked(context, elaborator, left, ty)?;
+    let other = asked(context, elaborator, right, ty)?;
     let given = give_at(context.alloc, joined_by(join, one.exp, other.exp), ty)?;
     Ok(given)
 }
 
 /// Two sides of `++` with types of their own.
-pub fn inferred_concatenation<F: Fn(&Within, &Asking<'_>) -> Result<Found, ExpFault>>(
+pub fn inferred_concatenation<E: Elaborator>(
     context: &Context<'_>,
-    ask: &F,
+    elaborator: &E,
     at: Span,
     left: &Exp,
     right: &Exp,
 ) -> Result<Found, ExpFault>
-    requires callable { F.IsAlwaysCallable ask.now }
-    requires answers { AnswersAll context.now (F.post ask.now) }
+    requires answers { E.AnswersByTable elaborator.now }
     ensures { LeadsTo context.now
         (inferred_concatenation context.now.within.now at left.now right.now) result }
 {
-    let one = found(context, ask, left)?;
-    let other = found(context, ask, right)?;
+    let one = found(context, elaborator, left)?;
+    let other = found(context, elaborator, right)?;
     concatenated(context, at, one, other)
 }
 

@@ -2,14 +2,14 @@
 
 ghost use Rattle.st_el.specs.declared.expression.Seg.{out-Seg};
 ghost use Rattle.st_elab_table.specs.Paths.{step_row, along, update_row, extension_row};
-ghost use Rattle.st_elab_rows.specs.Asking.{AnswersAll, LeadsTo};
+ghost use Rattle.st_elab_rows.specs.Asking.{LeadsTo};
 ghost use Rattle.st_elab_rows.specs.inner.Walks.{Steps, Walks};
 
 use crate::ask::{asked, found};
-use crate::asking::{Asking, Context, Found, give};
+use crate::asking::{Context, Found, give};
+use crate::elaborator::Elaborator;
 use crate::found::as_list;
 use crate::part::as_field;
-use st_dims::Within;
 use st_el::{Exp, Seg};
 use st_elab_table::ExpFault;
 use st_il::{IlExp, PathSeg, Ty, copy_ty};
@@ -30,15 +30,14 @@ pub struct Walked {
 }
 
 /// A step of a path from a part of this type.
-fn step<F: Fn(&Within, &Asking<'_>) -> Result<Found, ExpFault>>(
+fn step<E: Elaborator>(
     context: &Context<'_>,
-    ask: &F,
+    elaborator: &E,
     at: Span,
     ty: &Ty,
     seg: &Seg,
 ) -> Result<Stepped, ExpFault>
-    requires callable { F.IsAlwaysCallable ask.now }
-    requires answers { AnswersAll context.now (F.post ask.now) }
+    requires answers { E.AnswersByTable elaborator.now }
     ensures { Steps context.now (λ next. step_row context.now.decls.now context.now.within.now at
         ty.now next (out-Seg seg.now)) result }
 {
@@ -54,7 +53,7 @@ fn step<F: Fn(&Within, &Asking<'_>) -> Result<Found, ExpFault>>(
         }
         Seg::At(from) => {
             let element = as_list(context.decls, at, ty)?;
-            let position = asked(context, ask, from, &Ty::Nat)?;
+            let position = asked(context, elaborator, from, &Ty::Nat)?;
             let ty = copy_ty(context.alloc, element)?;
             Ok(Stepped {
                 step: PathSeg::At(position.exp.into_inner()),
@@ -63,8 +62,8 @@ fn step<F: Fn(&Within, &Asking<'_>) -> Result<Found, ExpFault>>(
         }
         Seg::Slice(from, length) => {
             as_list(context.decls, at, ty)?;
-            let position = asked(context, ask, from, &Ty::Nat)?;
-            let count = asked(context, ask, length, &Ty::Nat)?;
+            let position = asked(context, elaborator, from, &Ty::Nat)?;
+            let count = asked(context, elaborator, length, &Ty::Nat)?;
             let ty = copy_ty(context.alloc, ty)?;
             Ok(Stepped {
                 step: PathSeg::Slice(position.exp.into_inner(), count.exp.into_inner()),
@@ -75,22 +74,21 @@ fn step<F: Fn(&Within, &Asking<'_>) -> Result<Found, ExpFault>>(
 }
 
 /// The path from a part of this type.
-fn along<F: Fn(&Within, &Asking<'_>) -> Result<Found, ExpFault>>(
+fn along<E: Elaborator>(
     context: &Context<'_>,
-    ask: &F,
+    elaborator: &E,
     at: Span,
     path: &[Seg],
     ty: &Ty,
 ) -> Result<Walked, ExpFault>
-    requires callable { F.IsAlwaysCallable ask.now }
-    requires answers { AnswersAll context.now (F.post ask.now) }
+    requires answers { E.AnswersByTable elaborator.now }
     ensures { Walks context.now (along context.now.decls.now context.now.within.now at path.now
         ty.now) result }
 {
     let mut done = Row::new(context.alloc);
     let mut place = copy_ty(context.alloc, ty)?;
     for seg in path {
-        let stepped = step(context, ask, at, &place, seg)?;
+        let stepped = step(context, elaborator, at, &place, seg)?;
         done.push(stepped.step)?;
         place = stepped.ty;
     }
@@ -101,45 +99,43 @@ fn along<F: Fn(&Within, &Asking<'_>) -> Result<Found, ExpFault>>(
 }
 
 /// An update asks the new value at the type of the part at the path.
-pub fn update_row<F: Fn(&Within, &Asking<'_>) -> Result<Found, ExpFault>>(
+pub fn update_row<E: Elaborator>(
     context: &Context<'_>,
-    ask: &F,
+    elaborator: &E,
     at: Span,
     operand: &Exp,
     path: &[Seg],
     value: &Exp,
 ) -> Result<Found, ExpFault>
-    requires callable { F.IsAlwaysCallable ask.now }
-    requires answers { AnswersAll context.now (F.post ask.now) }
+    requires answers { E.AnswersByTable elaborator.now }
     ensures { LeadsTo context.now (update_row context.now.decls.now context.now.within.now at
         operand.now path.now value.now) result }
 {
-    let whole = found(context, ask, operand)?;
-    let walked = along(context, ask, at, path, &whole.ty)?;
-    let part = asked(context, ask, value, &walked.ty)?;
+    let whole = found(context, elaborator, operand)?;
+    let walked = along(context, elaborator, at, path, &whole.ty)?;
+    let part = asked(context, elaborator, value, &walked.ty)?;
     let exp = IlExp::Set(whole.exp, walked.path, part.exp);
     let given = give(context.alloc, exp, whole.ty)?;
     Ok(given)
 }
 
 /// An extension asks the list that it adds at the type of the part at the path, a list type.
-pub fn extension_row<F: Fn(&Within, &Asking<'_>) -> Result<Found, ExpFault>>(
+pub fn extension_row<E: Elaborator>(
     context: &Context<'_>,
-    ask: &F,
+    elaborator: &E,
     at: Span,
     operand: &Exp,
     path: &[Seg],
     list: &Exp,
 ) -> Result<Found, ExpFault>
-    requires callable { F.IsAlwaysCallable ask.now }
-    requires answers { AnswersAll context.now (F.post ask.now) }
+    requires answers { E.AnswersByTable elaborator.now }
     ensures { LeadsTo context.now (extension_row context.now.decls.now context.now.within.now at
         operand.now path.now list.now) result }
 {
-    let whole = found(context, ask, operand)?;
-    let walked = along(context, ask, at, path, &whole.ty)?;
+    let whole = found(context, elaborator, operand)?;
+    let walked = along(context, elaborator, at, path, &whole.ty)?;
     as_list(context.decls, at, &walked.ty)?;
-    let part = asked(context, ask, list, &walked.ty)?;
+    let part = asked(context, elaborator, list, &walked.ty)?;
     let exp = IlExp::Extend(whole.exp, walked.path, part.exp);
     let given = give(context.alloc, exp, whole.ty)?;
     Ok(given)

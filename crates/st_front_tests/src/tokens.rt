@@ -128,8 +128,8 @@ fn faults_have_their_places(rt: HostRuntime) -> Result<(), Fail> {
     Ok(())
 }
 
-const SIGNS: &[u8] =
-    b"|- -| ~>* ~> : <: :> ~~ := ; -> .. ... ++ =++ = =/= < > <= >= <- ~ /\\ \\/ => <=> + - * / \\ ^ ? | , -- ( ) [ ] { } $( `( `[ `{";
+const SIGNS: &[u8] = b"|- -| ~>* ~> : <: :> ~~ := ; -> .. ... ++ =++ = =/= < > <= >= <- ~ \
+    /\\ \\/ => <=> + - * / \\ ^ ? | , -- ( ) [ ] { } $( `( `[ `{";
 
 /// What `SIGNS` holds, in order.
 const MARKS: [Mark; 47] = [

@@ -27,7 +27,7 @@ use Rattle.st_semantics.specs.Calls.{CallAt, ValueAt, has_value, no_goal}
 use Rattle.st_semantics.specs.Derivation as d
 use Rattle.st_semantics.specs.Derivation.{Root, Exclusion, Proved, HasTree, IsValid, excluded}
 use Rattle.st_semantics.specs.Checks.{Answer, checking_depth}
-use Rattle.st_semantics.specs.Walks.{TakenChild, ComeTo, Judges, judged, Tests, Walks, otherwise, condition, goal, goal_of_many, each_of_one, each_ends, each, done, left_over, plain_goes, plain_stops, missing, cites_goes, cites_stops}
+use Rattle.st_semantics.specs.Walks.{TakenChild, ComeTo, Judges, judged, TakenBy, Tests, Walks, otherwise, condition, goal, on_line, of_many, each_refused, of_one, ends, at_once, each, done, left_over, missing, goes, stops}
 
 pub no_refusal : {a : Answer} (rule : VerifyRule) → a ≡ Some rule → a ≡ None → ⊥
 no_refusal rule p q = let bad : Some rule ≡ None = sym p ∙ q in cc
@@ -101,13 +101,13 @@ module _ (il : Il) where
 
     mutual
       holds_of : {at : Place} {taken : TakenChild} {a : Answer} → Tests il notes at taken a → a ≡ None → cites at.1 ≡ false → Allowed at.1 → Holds (has_value il) (excluded il root) no_goal at.0 at.1
-      holds_of {at = at} (otherwise is p) n c w = h.otherwise is (w (otherwise-level at.1 IlPrem-F.Otherwise is))
-      holds_of (condition e is (inl p)) n c w = h.condition e is (checking_depth, p.0)
-      holds_of (condition e is (inr p)) n c w = absurd (no_refusal _ p.3 n)
-      holds_of {at = at} (goal rel es ch line r is t l come p) n c w = let bad : true ≡ false = sym (cites-level at.1 (IlPrem-F.Goal rel es) is) ∙ c in cc
-      holds_of (goal_of_many rel es ch is t m p) n c w = absurd (no_refusal _ p n)
-      holds_of (each_of_one how xs body ch is t m p) n c w = absurd (no_refusal _ p n)
-      holds_of (each_ends how xs body inner r o is t come g p) n c w = absurd (no_refusal _ p n)
+      holds_of {at = at} (at_once (otherwise is p)) n c w = h.otherwise is (w (otherwise-level at.1 IlPrem-F.Otherwise is))
+      holds_of (at_once (condition e is (inl p))) n c w = h.condition e is (checking_depth, p.0)
+      holds_of (at_once (condition e is (inr p))) n c w = absurd (no_refusal _ p.3 n)
+      holds_of {at = at} (at_once (goal rel es ch is t (on_line line r l come p))) n c w = let bad : true ≡ false = sym (cites-level at.1 (IlPrem-F.Goal rel es) is) ∙ c in cc
+      holds_of (at_once (goal rel es ch is t (of_many m p))) n c w = absurd (no_refusal _ p n)
+      holds_of (at_once (each_refused how xs body is (of_one ch t m p))) n c w = absurd (no_refusal _ p n)
+      holds_of (at_once (each_refused how xs body is (ends inner r o t come g p))) n c w = absurd (no_refusal _ p n)
       holds_of {at = at} (each how xs body inner r envs is t come g walk) n c w =
           h.each how xs body envs is (elements_of how xs at.0 r envs come g)
           (hold_all_of walk n (each_plain envs body (sym (inner_cites at.1 how xs body is) ∙ c)) (each_allowed envs body (inner_allowed at.1 how xs body is w)))
@@ -115,11 +115,10 @@ module _ (il : Il) where
       hold_all_of : {ps : List Place} {cs : List Ref} {a : Answer} → Walks il notes ps cs a → a ≡ None → AllPlain ps → AllAllowed ps → HoldAll (has_value il) (excluded il root) no_goal ps
       hold_all_of (done p) n c w = h.done
       hold_all_of (left_over p) n c w = absurd (no_refusal _ p n)
-      hold_all_of (plain_goes k x rest) n c w = h.more (holds_of x refl (c.0) (w.0)) (hold_all_of rest n (c.1) (w.1))
-      hold_all_of (plain_stops rule k x p) n c w = absurd (no_refusal _ p n)
       hold_all_of (missing k p) n c w = absurd (no_refusal _ p n)
-      hold_all_of (cites_goes k x rest) n c w = let bad : true ≡ false = sym k ∙ c.0 in cc
-      hold_all_of (cites_stops rule k x p) n c w = absurd (no_refusal _ p n)
+      hold_all_of (goes None others t x rest) n c w = h.more (holds_of x refl (c.0) (w.0)) (hold_all_of rest n (c.1) (w.1))
+      hold_all_of (goes (Some child) others t x rest) n c w = let bad : true ≡ false = sym t.0 ∙ c.0 in cc
+      hold_all_of (stops taken others rule t x p) n c w = absurd (no_refusal _ p n)
 
     -- a child, and what it adds to the premises that hold
     abbrev Grown : Place → Type 0
@@ -143,14 +142,14 @@ module _ (il : Il) where
 
     mutual
       child_of : {at : Place} {taken : TakenChild} {a : Answer} → Tests il notes at taken a → a ≡ None → cites at.1 ≡ true → Allowed at.1 → Grown at
-      child_of {at = at} (otherwise is p) n c w = let bad : false ≡ true = sym (cites-level at.1 IlPrem-F.Otherwise is) ∙ c in cc
-      child_of {at = at} (condition e is p) n c w = let bad : false ≡ true = sym (cites-level at.1 (IlPrem-F.If e) is) ∙ c in cc
-      child_of {at = at} {a = a} (goal rel es ch line r is t l come p) n c w =
+      child_of {at = at} (at_once (otherwise is p)) n c w = let bad : false ≡ true = sym (cites-level at.1 IlPrem-F.Otherwise is) ∙ c in cc
+      child_of {at = at} (at_once (condition e is p)) n c w = let bad : false ≡ true = sym (cites-level at.1 (IlPrem-F.If e) is) ∙ c in cc
+      child_of {at = at} {a = a} (at_once (goal rel es ch is t (on_line line r l come p))) n c w =
           let found = judged_tree line rel r a p n in
           grown_goal at rel es r is come found.0 found.1 found.2
-      child_of (goal_of_many rel es ch is t m p) n c w = absurd (no_refusal _ p n)
-      child_of (each_of_one how xs body ch is t m p) n c w = absurd (no_refusal _ p n)
-      child_of (each_ends how xs body inner r o is t come g p) n c w = absurd (no_refusal _ p n)
+      child_of (at_once (goal rel es ch is t (of_many m p))) n c w = absurd (no_refusal _ p n)
+      child_of (at_once (each_refused how xs body is (of_one ch t m p))) n c w = absurd (no_refusal _ p n)
+      child_of (at_once (each_refused how xs body is (ends inner r o t come g p))) n c w = absurd (no_refusal _ p n)
       child_of {at = at} (each how xs body inner r envs is t come g walk) n c w =
           let below = proved_of walk n (each_allowed envs body (inner_allowed at.1 how xs body is w)) in (
             child.Many below.0,
@@ -161,12 +160,11 @@ module _ (il : Il) where
       pub proved_of : {ps : List Place} {cs : List Ref} {a : Answer} → Walks il notes ps cs a → a ≡ None → AllAllowed ps → HasChildren ps
       proved_of (done p) n w = ([], d.done)
       proved_of (left_over p) n w = absurd (no_refusal _ p n)
-      proved_of (plain_goes k x rest) n w =
-          let more = proved_of rest n (w.1) in (more.0, d.plain k (holds_of x refl k (w.0)) more.1)
-      proved_of (plain_stops rule k x p) n w = absurd (no_refusal _ p n)
       proved_of (missing k p) n w = absurd (no_refusal _ p n)
-      proved_of (cites_goes {rest = ps} k x rest) n w =
+      proved_of (goes None others t x rest) n w =
+          let more = proved_of rest n (w.1) in (more.0, d.plain t.0 (holds_of x refl t.0 (w.0)) more.1)
+      proved_of (goes {rest = ps} (Some child) others t x rest) n w =
           let more = proved_of rest n (w.1) in
-          let one = child_of x refl k (w.0) in
+          let one = child_of x refl t.0 (w.0) in
           (one.0 ∷ more.0, one.1 ps more.0 more.1)
-      proved_of (cites_stops rule k x p) n w = absurd (no_refusal _ p n)
+      proved_of (stops taken others rule t x p) n w = absurd (no_refusal _ p n)

@@ -54,7 +54,7 @@ index_choice true y p q g = refl
 index_choice false y p q g = g refl
 
 -- no name, or one
-abbrev IsShort : List Name → Type 0
+abbrev pub IsShort : List Name → Type 0
 IsShort [] = Unit {0}
 IsShort (i ∷ []) = Unit {0}
 IsShort (i ∷ j ∷ more) = ⊥

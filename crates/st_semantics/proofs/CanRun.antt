@@ -27,11 +27,11 @@ use Rattle.st_semantics.specs.Executable as run
 use Rattle.st_semantics.specs.Executable.{Class, Test, Equation, class_of, class_of_condition, class_of_equation, class_of_sides, is_matched, class_of_each, is_anchored, is_countable, is_variable_at, bound_inside, runs_at}
 use Rattle.st_semantics.specs.Orders.{run_on}
 use Rattle.st_semantics.specs.ModeRules.{keeps_m3, keeps_m4, keeps_m7, patterns_have_one_open}
-use Rattle.st_semantics.specs.Breaches.{KeepModes}
-use Rattle.st_semantics.specs.Kinds.{IsKinded, AreKinded}
+use Rattle.st_semantics.specs.Breaches.{ClausesKeep}
+use Rattle.st_semantics.specs.Kinds.{IsKinded, ClausesAreKinded}
 use Rattle.st_semantics.specs.Kinds as kinded
-use Rattle.st_semantics.specs.inner.Modes.{ClauseRuns, ModesByName}
-use Rattle.st_semantics.proofs.Modes.{modes_by_name}
+use Rattle.st_semantics.specs.inner.Modes.{ClauseRuns}
+use Rattle.st_semantics.proofs.Modes.{clauses_run}
 use Rattle.st_semantics.proofs.Names.{Within, within-left, within-right, within-both, known-within, and-both, or-cases, or-left, or-right, bytes-path}
 use Rattle.st_semantics.proofs.PatternParts.{told-level as pattern-level}
 use Rattle.st_semantics.proofs.Elements.{All-back}
@@ -46,7 +46,7 @@ known-wider few many (x ∷ xs) w h =
     let b = and-both (has_name few x) (all_known few xs) h in
     ap₂ (λ p q. p && q) (w x b.0) (known-wider few many xs w b.1)
 
-within-index : (index few many : List Name) → Within few many → Within (index ++ few) (index ++ many)
+pub within-index : (index few many : List Name) → Within few many → Within (index ++ few) (index ++ many)
 within-index index few many w = within-both index few (index ++ many) (within-left index many) (λ x h. within-right index many x (w x h))
 
 count-wider : (few many : List Name) (how : Iteration) → Within few many → CountRuns few how → CountRuns many how
@@ -66,13 +66,13 @@ Runs-wider {few = few} (each how xs body is c k r) many w =
 abbrev pub runs_of : Il → IlPrem → run.Runs
 runs_of il = fold-IlPrem run.Runs (runs_at il)
 
-runs-level : (il : Il) (p : IlPrem) (y : IlPrem-F IlPrem) → out-IlPrem p ≡ y → runs_of il p ≡ runs_at il (map-IlPrem IlPrem run.Runs (runs_of il) y)
+pub runs-level : (il : Il) (p : IlPrem) (y : IlPrem-F IlPrem) → out-IlPrem p ≡ y → runs_of il p ≡ runs_at il (map-IlPrem IlPrem run.Runs (runs_of il) y)
 runs-level il p y is = fold_out-IlPrem run.Runs (runs_at il) p ∙ ap (λ z. runs_at il (map-IlPrem IlPrem run.Runs (runs_of il) z)) is
 
 pub class-level : (il : Il) (bound : List Name) (p : IlPrem) (y : IlPrem-F IlPrem) → out-IlPrem p ≡ y → class_of il bound p ≡ (runs_at il (map-IlPrem IlPrem run.Runs (runs_of il) y)).class bound
 class-level il bound p y is = ap (λ (z : run.Runs). z.class bound) (runs-level il p y is)
 
-is-cited : (p : IlPrem) (y : IlPrem-F IlPrem) → out-IlPrem p ≡ y → cites p ≡ cites_at (map-IlPrem IlPrem Bool cites y)
+pub is-cited : (p : IlPrem) (y : IlPrem-F IlPrem) → out-IlPrem p ≡ y → cites p ≡ cites_at (map-IlPrem IlPrem Bool cites y)
 is-cited p y is = fold_out-IlPrem Bool cites_at p ∙ ap (λ z. cites_at (map-IlPrem IlPrem Bool cites z)) is
 
 -- ---- conditions
@@ -103,12 +103,12 @@ condition-runs bound ls p e c is h = whole (all_known bound (vars e)) refl h
 
 -- ---- iterated premises
 
-abbrev IsShort : List IlExp → Type 0
+abbrev pub IsShort : List IlExp → Type 0
 IsShort [] = Unit {0}
 IsShort (e ∷ []) = Unit {0}
 IsShort (e ∷ g ∷ more) = ⊥
 
-count_short : (how : Iteration) → IsShort (count_of how)
+pub count_short : (how : Iteration) → IsShort (count_of how)
 count_short how = at (out-Iteration how)
   where
     at : (y : Iteration-F IlExp Iteration ListItem PathSeg) → IsShort (count_at y)
@@ -138,7 +138,7 @@ among-within some (y ∷ ys) x h = at (has_name some y) refl (among-within some 
     at true k ih h = elim (or-cases (bytes_eq x y) (has_name (among some ys) x) h) [ inl e ↦ subst (λ z. has_name some z ≡ true) (sym (bytes-path x y e)) k | inr later ↦ ih later ]
     at false k ih h = ih h
 
-inside-within : (bound : List Name) (how : Iteration) (xs others : List Name) → all_known bound others ≡ true → Within (bound_inside bound how xs others) (index_of how ++ bound)
+pub inside-within : (bound : List Name) (how : Iteration) (xs others : List Name) → all_known bound others ≡ true → Within (bound_inside bound how xs others) (index_of how ++ bound)
 inside-within bound how xs others k =
     within-both (among bound xs ++ others) (index_of how) (index_of how ++ bound)
     (within-both (among bound xs) others (index_of how ++ bound) (λ x h. within-right (index_of how) bound x (among-within bound xs x h)) (λ x h. within-right (index_of how) bound x (known-within bound others k x h)))
@@ -177,7 +177,7 @@ run_split il asked (q ∷ before) bound p after h =
     let more = run_split il asked before (bound ++ prem_vars q) p after (and-both (is_some (class_of il bound q)) (run_on il (bound ++ prem_vars q) (before ++ p ∷ after) asked) h).1 in
     (more.0, subst (λ z. class_of il z p ≡ Some more.0) (append_assoc bound (prem_vars q) (prems_vars before)) more.1)
 
-not_cited : (before : List IlPrem) (p : IlPrem) (after : List IlPrem) → list_all (λ (q : IlPrem). not (cites q)) (before ++ p ∷ after) ≡ true → cites p ≡ false
+pub not_cited : (before : List IlPrem) (p : IlPrem) (after : List IlPrem) → list_all (λ (q : IlPrem). not (cites q)) (before ++ p ∷ after) ≡ true → cites p ≡ false
 not_cited [] p after h = not_true (cites p) (and-both (not (cites p)) _ h).0
   where
     not_true : (a : Bool) → not a ≡ true → a ≡ false
@@ -213,5 +213,5 @@ all_can_run il (c ∷ cs) runs kinds = (
 )
 
 -- the clauses of an internal language that keeps the rules can be met
-pub clauses_can_be_run : (il : Il) → KeepModes il → AreKinded il → AllCanRun (clauses_in il.defs)
-clauses_can_be_run il modes kinds = all_can_run il (clauses_in il.defs) (modes_by_name il modes).clauses kinds.clauses
+pub clauses_can_be_run : (il : Il) → ClausesKeep il → ClausesAreKinded il → AllCanRun (clauses_in il.defs)
+clauses_can_be_run il keep kinds = all_can_run il (clauses_in il.defs) (clauses_run il keep) kinds

@@ -107,10 +107,10 @@ module _ (defs : List SyntaxDef) where
   option_parts v (Value-F.Tuple parts) t c hi te nu typed at e = cc
   option_parts v (Value-F.List parts) t c hi te nu typed at e = cc
 
-  no_alias_list : (t : Ty) → alias_of defs (ty.List t) ≡ None
+  pub no_alias_list : (t : Ty) → alias_of defs (ty.List t) ≡ None
   no_alias_list t = simp (ty.outs-List t) refl
 
-  no_alias_option : (t : Ty) → alias_of defs (ty.Opt t) ≡ None
+  pub no_alias_option : (t : Ty) → alias_of defs (ty.Opt t) ≡ None
   no_alias_option t = simp (ty.outs-Opt t) refl
 
   list_column : (t : Ty) (v : Value) (c : Column) → IsTypedValue defs (ty.List t) v → column_of kind.List (Some v) ≡ Some c → EachTyped t c

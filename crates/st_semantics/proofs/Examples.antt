@@ -243,4 +243,4 @@ goal_first _ notes goal condition c = w.missing c refl
 
 pub condition_first : (il : Il) (notes : Notes) (goal condition : Place) → cites condition.1 ≡ false → Tests il notes condition None (Some V8)
     → Walks il notes (condition ∷ goal ∷ []) [] (Some V8)
-condition_first _ notes goal condition c t = w.plain_stops V8 c t refl
+condition_first _ notes goal condition c t = w.stops None [] V8 (c, refl) t refl

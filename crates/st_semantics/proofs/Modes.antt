@@ -16,7 +16,7 @@ use Rattle.st_semantics.specs.Definitions.{relation_named, rules_in, rules_from,
 use Rattle.st_semantics.specs.Directions.{direction}
 use Rattle.st_semantics.specs.Variables.{have_otherwise}
 use Rattle.st_semantics.specs.ModeRules.{IsDirected, IsOtherwise, cites_nothing, Leads, keeps_m3, keeps_m4, keeps_m6, keeps_m7}
-use Rattle.st_semantics.specs.Breaches.{KeepModes, Standing, standings, Breaks, is_decided_behind}
+use Rattle.st_semantics.specs.Breaches.{KeepModes, ClausesKeep, ClauseBreaks, Standing, standings, Breaks, is_decided_behind}
 use Rattle.st_semantics.specs.ModeRules as mode
 use Rattle.st_semantics.specs.inner.Modes.{ClauseRuns, OtherwiseDecides, ModesByName}
 
@@ -54,21 +54,29 @@ module _ (il : Il) where
   abbrev Kept : Standing → Type 0
   Kept at = (m : RuleId) → Breaks il at m → ⊥
 
-  clauses_run : (defs : List IlDef) → All Kept (standings defs) → All (ClauseRuns il) (clauses_in defs)
-  clauses_run [] h = All-nil (ClauseRuns il)
-  clauses_run (Syntax d ∷ ds) h = clauses_run ds (All-tail Kept (Syntax d, ds) (standings ds) h)
-  clauses_run (Var x t ∷ ds) h = clauses_run ds (All-tail Kept (Var x t, ds) (standings ds) h)
-  clauses_run (Relation d ∷ ds) h = clauses_run ds (All-tail Kept (Relation d, ds) (standings ds) h)
-  clauses_run (Rule d ∷ ds) h = clauses_run ds (All-tail Kept (Rule d, ds) (standings ds) h)
-  clauses_run (Fun d ∷ ds) h = clauses_run ds (All-tail Kept (Fun d, ds) (standings ds) h)
-  clauses_run (Clause c ∷ ds) h =
-      let here : Kept (Clause c, ds) = All-head Kept (Clause c, ds) (standings ds) h in
-      All-cons (ClauseRuns il) c (clauses_in ds) (record {
+  abbrev ClauseKept : ClauseDef → Type 0
+  ClauseKept c = (m : RuleId) → ClauseBreaks il c m → ⊥
+
+  kept_clauses : (defs : List IlDef) → All Kept (standings defs) → All ClauseKept (clauses_in defs)
+  kept_clauses [] h = All-nil ClauseKept
+  kept_clauses (Syntax d ∷ ds) h = kept_clauses ds (All-tail Kept (Syntax d, ds) (standings ds) h)
+  kept_clauses (Var x t ∷ ds) h = kept_clauses ds (All-tail Kept (Var x t, ds) (standings ds) h)
+  kept_clauses (Relation d ∷ ds) h = kept_clauses ds (All-tail Kept (Relation d, ds) (standings ds) h)
+  kept_clauses (Rule d ∷ ds) h = kept_clauses ds (All-tail Kept (Rule d, ds) (standings ds) h)
+  kept_clauses (Fun d ∷ ds) h = kept_clauses ds (All-tail Kept (Fun d, ds) (standings ds) h)
+  kept_clauses (Clause c ∷ ds) h =
+      All-cons ClauseKept c (clauses_in ds) (All-head Kept (Clause c, ds) (standings ds) h) (kept_clauses ds (All-tail Kept (Clause c, ds) (standings ds) h))
+
+  kept_run : (cs : List ClauseDef) → All ClauseKept cs → All (ClauseRuns il) cs
+  kept_run [] h = All-nil (ClauseRuns il)
+  kept_run (c ∷ cs) h =
+      let here : ClauseKept c = All-head ClauseKept c cs h in
+      All-cons (ClauseRuns il) c cs (record {
         m3 = not_false (keeps_m3 il c) (here M3);
         m4 = not_false (keeps_m4 il c) (here M4);
         m6 = not_false (keeps_m6 c) (here M6);
         m7 = not_false (keeps_m7 c) (here M7);
-      }) (clauses_run ds (All-tail Kept (Clause c, ds) (standings ds) h))
+      }) (kept_run cs (All-tail ClauseKept c cs h))
 
   -- what is known of a rule with an `otherwise`
   record RuleKept (name : Name) (number : ℕ) (rules : List RuleDef) (rule : RuleDef) : Type 0 where
@@ -120,9 +128,17 @@ module _ (il : Il) where
           }
       by false n k e more = more k e
 
+-- where no definition breaks a rule, no clause does
+pub clauses_keep : (il : Il) → KeepModes il → ClausesKeep il
+clauses_keep il keep = kept_clauses il il.defs keep
+
+-- what is known of the clauses then
+pub clauses_run : (il : Il) → ClausesKeep il → All (ClauseRuns il) (clauses_in il.defs)
+clauses_run il keep = kept_run il (clauses_in il.defs) keep
+
 pub modes_by_name : (il : Il) → KeepModes il → ModesByName il
 modes_by_name il keep = record {
-  clauses = clauses_run il il.defs keep;
+  clauses = clauses_run il (clauses_keep il keep);
   rules = λ name number rule has.
       let kept : RuleKept il name number (rules_of il name) rule = rule_kept il il.defs keep name number rule has.is_rule has.has in
       record {

@@ -144,7 +144,7 @@ path-vars path last = ap (λ z. z ++ vars last ∷ []) (at path) ∙ sym (map-ap
     at [] = refl
     at (s ∷ ss) = ap₂ (λ a b. a ++ b) (segment-vars s) (at ss) ∙ sym (map-append vars (segment_exps s) (flattened (map segment_exps ss)))
 
-map-same : {A : Type 0} (xs : List A) → map (λ (x : A). x) xs ≡ xs
+pub map-same : {A : Type 0} (xs : List A) → map (λ (x : A). x) xs ≡ xs
 map-same [] = refl
 map-same (x ∷ xs) = ap (λ z. x ∷ z) (map-same xs)
 

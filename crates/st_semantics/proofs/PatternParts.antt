@@ -21,7 +21,7 @@ use Rattle.st_semantics.specs.Patterns.{Told, told, told_at, told_item, simple_c
 use Rattle.st_semantics.specs.Holding.{value_by, HaveValues}
 use Rattle.st_semantics.proofs.Names.{and-both}
 
-abbrev told_segment : PathSeg → List Told
+abbrev pub told_segment : PathSeg → List Told
 told_segment = fold-PathSeg Told Bool Told (List Told) told_at simple_count_at item_at segment_at
 
 -- the parts of a form are patterns, and it is no call
@@ -199,7 +199,7 @@ pub tasks_patterns : (env : Env) (es : List IlExp) → list_all is_pattern es �
 tasks_patterns env [] h = tt
 tasks_patterns env (e ∷ es) h = let b = and-both (is_pattern e) (list_all is_pattern es) h in (b.0, tasks_patterns env es b.1)
 
-each_patterns : (envs : List Env) (e : IlExp) → is_pattern e ≡ true → TasksArePatterns (each_task envs e)
+pub each_patterns : (envs : List Env) (e : IlExp) → is_pattern e ≡ true → TasksArePatterns (each_task envs e)
 each_patterns [] e h = tt
 each_patterns (env ∷ envs) e h = (h, each_patterns envs e h)
 

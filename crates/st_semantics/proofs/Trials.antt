@@ -45,6 +45,7 @@ use Rattle.st_semantics.proofs.Premises.{Falls, agree_known}
 use Rattle.st_semantics.proofs.Restrict.{restricted, agree_picked, ok_restricted}
 use Rattle.st_semantics.proofs.Clauses.{CanRun, AllCanRun, up_to, down_to, body_down, fits_all}
 use Rattle.st_semantics.proofs.CanRun.{can_run, clauses_can_be_run}
+use Rattle.st_semantics.proofs.Modes.{clauses_keep}
 use Rattle.st_semantics.specs.Definitions.{clauses_in}
 
 pub le_or : (n m : ℕ) → (n ≤ m) ⊎ (m ≤ n)
@@ -92,7 +93,7 @@ member_of P ps (j ∷ js) k p m e h = elim (or-cases (nat_eq k j) (list_any (nat
     first None e h = cc
     first (Some q) e h = let same : q ≡ p = cc in subst P same h.0
 
-get_behind : {A : Type 0} (front : List A) (x : A) (rest : List A) → slice_get (front ++ x ∷ rest) (length front) ≡ Some x
+pub get_behind : {A : Type 0} (front : List A) (x : A) (rest : List A) → slice_get (front ++ x ∷ rest) (length front) ≡ Some x
 get_behind [] x rest = refl
 get_behind (y ∷ ys) x rest = get_behind ys x rest
 
@@ -160,7 +161,7 @@ true_each test (x ∷ xs) h = both (test x) (list_all test xs) h.0 (true_each te
     both true b p q = q
     both false b p q = cc
 
-run_end : (il : Il) (asked : List Name) (ps : List IlPrem) (bound : List Name) → run_on il bound ps asked ≡ true → all_known (bound ++ prems_vars ps) asked ≡ true
+pub run_end : (il : Il) (asked : List Name) (ps : List IlPrem) (bound : List Name) → run_on il bound ps asked ≡ true → all_known (bound ++ prems_vars ps) asked ≡ true
 run_end il asked [] bound h = subst (λ z. all_known z asked ≡ true) (sym (append-nil bound)) h
 run_end il asked (p ∷ ps) bound h =
     subst (λ z. all_known z asked ≡ true) (append_assoc bound (prem_vars p) (prems_vars ps))
@@ -337,4 +338,4 @@ rule_kinds name (r ∷ rs) number rule e kinds =
 
 pub trials_are_stable : (il : Il) → KeepModes il → AreKinded il → TrialsAreStable il
 trials_are_stable il modes kinds name number rule at order inputs plain is not_deep gives =
-    trial_at il (clauses_can_be_run il modes kinds) rule (rule_kinds name (rules_in il.defs) number rule at kinds.rules) order inputs plain is not_deep gives
+    trial_at il (clauses_can_be_run il (clauses_keep il modes) kinds.clauses) rule (rule_kinds name (rules_in il.defs) number rule at kinds.rules) order inputs plain is not_deep gives

@@ -45,7 +45,7 @@ module _ (defs : List SyntaxDef) (C : Answers) where
   val_stops NoValue w s e = cc
   val_stops Deep w s e = cc
 
-  not_value : (ts : List Task) (r : Outcomes) (w : Value) → GivesAll defs C ts r → r ≡ Stopped (Val w) → ⊥
+  pub not_value : (ts : List Task) (r : Outcomes) (w : Value) → GivesAll defs C ts r → r ≡ Stopped (Val w) → ⊥
   not_value ts r w (none e) k = cc
   not_value ts r w (stop o g b e) k = val_stops o w b (sym e ∙ k)
   not_value ts r w (next {ts = us} y rest g all e) k = more rest (sym e ∙ k) (not_value us rest w all)

@@ -1,6 +1,5 @@
 -- A line has one verdict at most, where calls come to one outcome at most.
-use Rattle.std.proofs.Common.{◌≡◌, ℕ, sym, ◌∙◌, ap, subst, List, [], ◌∷◌, Option, Some, None, inl, inr}
-use Rattle.std.specs.Prelude.{true}
+use Rattle.std.proofs.Common.{◌≡◌, ℕ, refl, sym, ◌∙◌, ap, subst, List, [], ◌∷◌, Option, Some, None, inl, inr, true, false}
 use Rattle.st_deriv.specs.declared.line.Line.{Line}
 use Rattle.st_deriv.specs.declared.line.Line.TheVariants.{Head, From, Node, Step, End}
 use Rattle.st_deriv.specs.declared.line.NodeLine.{NodeLine}
@@ -9,6 +8,7 @@ use Rattle.st_deriv.specs.declared.line.Ref.TheOpen.{Ref-F}
 use Rattle.st_il.specs.declared.definition.Il.{Il}
 use Rattle.st_il.specs.declared.definition.RuleDef.{RuleDef}
 use Rattle.st_il.specs.declared.expression.IlExp.{IlExp}
+use Rattle.st_il.specs.declared.expression.IlPrem.{IlPrem}
 use Rattle.st_il.specs.declared.value.Env.{Env}
 use Rattle.st_il.specs.declared.value.Value.{Value}
 use Rattle.st_il.specs.declared.value.Value.TheVariants as value
@@ -25,11 +25,13 @@ use Rattle.st_semantics.specs.Evaluation.{tasks, way, Ends, Goes}
 use Rattle.st_semantics.specs.Holding.{Place, each_place}
 use Rattle.st_semantics.specs.Calls.{CallAt}
 use Rattle.st_semantics.specs.Checks.{Answer, Test, accepts, refuses, asks, forbids, and_then, evaluates, evaluate_each, refusal, checking_depth}
-use Rattle.st_semantics.specs.Walks.{ComeTo, judged, rule_at, TakenChild, IsTakenFor, IsOneLine, Tests, Walks, otherwise, condition, goal, goal_of_many, each_of_one, each_ends, each, done, left_over, plain_goes, plain_stops, missing, cites_goes, cites_stops}
+use Rattle.st_semantics.specs.Variables.{cites}
+use Rattle.st_semantics.specs.Walks.{ComeTo, judged, rule_at, TakenChild, IsTakenFor, IsOneLine, TakenBy, Tests, Walks, otherwise, condition, goal, on_line, of_many, each_refused, of_one, ends, at_once, each, done, left_over, missing, goes, stops}
 use Rattle.st_semantics.specs.Verdict.{Found, rule_named, tests_node, tests, Verdict}
 use Rattle.st_semantics.specs.Evidence.{tries, try_each, try_all, excludes}
 use Rattle.st_semantics.specs.Laws.{LawOfVerdicts}
 use Rattle.st_semantics.proofs.Singles.{IsSingle, Gives-single, GivesAll-single, same_way}
+use Rattle.st_semantics.proofs.Choices.{clauses_single}
 
 -- a test gives one answer at most
 abbrev pub Single : Test → Type 0
@@ -96,26 +98,42 @@ module _ (il : Il) (notes : Notes) (one : IsSingle (CallAt il checking_depth)) w
       let at : IsTakenFor inner (Some child) = subst (IsTakenFor inner) is many in
       let bad : Ref-F.Line line.0 ≡ Ref-F.Many inner = sym line.1 ∙ at in cc
 
+  -- what a premise takes is one
+  taken_one : (p : IlPrem) (cs : List Ref) (taken taken' : TakenChild) (others others' : List Ref) → TakenBy p cs taken others → TakenBy p cs taken' others' → (taken ≡ taken') × (others ≡ others')
+  taken_one p cs None None others others' t u = (refl, sym t.1 ∙ u.1)
+  taken_one p cs None (Some child) others others' t u = let bad : false ≡ true = sym t.0 ∙ u.0 in cc
+  taken_one p cs (Some child) None others others' t u = let bad : true ≡ false = sym t.0 ∙ u.0 in cc
+  taken_one p cs (Some child) (Some child') others others' t u =
+      let both : child ∷ others ≡ child' ∷ others' = sym t.1 ∙ u.1 in
+      let first : child ≡ child' = cc in
+      let rest : others ≡ others' = cc in
+      (ap Some first, rest)
+
+  -- where a premise cites a relation, it takes a child
+  none_missing : (p : IlPrem) (taken : TakenChild) (others : List Ref) → cites p ≡ true → TakenBy p [] taken others → ⊥
+  none_missing p None others c t = let bad : true ≡ false = sym c ∙ t.0 in cc
+  none_missing p (Some child) others c t = let bad : [] ≡ child ∷ others = t.1 in cc
+
   mutual
     Tests-single : (at : Place) (taken : TakenChild) (a b : Answer) → Tests il notes at taken a → Tests il notes at taken b → a ≡ b
-    Tests-single at taken a b (otherwise is p) (otherwise is' p') = p ∙ sym p'
-    Tests-single at taken a b (otherwise is p) (condition e' is' p') = cc
-    Tests-single at taken a b (otherwise is p) (goal rel' es' child' line' r' is' t' l' come' p') = cc
-    Tests-single at taken a b (otherwise is p) (goal_of_many rel' es' child' is' t' n' p') = cc
-    Tests-single at taken a b (otherwise is p) (each_of_one how' xs' body' child' is' t' n' p') = cc
-    Tests-single at taken a b (otherwise is p) (each_ends how' xs' body' inner' r' o' is' t' come' w' p') = cc
-    Tests-single at taken a b (otherwise is p) (each how' xs' body' inner' r' envs' is' t' come' w' p') = cc
-    Tests-single at taken a b (condition e is p) (otherwise is' p') = cc
-    Tests-single at taken a b (condition e is p) (condition e' is' p') =
+    Tests-single at taken a b (at_once (otherwise is p)) (at_once (otherwise is' p')) = p ∙ sym p'
+    Tests-single at taken a b (at_once (otherwise is p)) (at_once (condition e' is' p')) = cc
+    Tests-single at taken a b (at_once (otherwise is p)) (at_once (goal rel' es' child' is' t' (on_line line' r' l' come' p'))) = cc
+    Tests-single at taken a b (at_once (otherwise is p)) (at_once (goal rel' es' child' is' t' (of_many n' p'))) = cc
+    Tests-single at taken a b (at_once (otherwise is p)) (at_once (each_refused how' xs' body' is' (of_one child' t' n' p'))) = cc
+    Tests-single at taken a b (at_once (otherwise is p)) (at_once (each_refused how' xs' body' is' (ends inner' r' o' t' come' w' p'))) = cc
+    Tests-single at taken a b (at_once (otherwise is p)) (each how' xs' body' inner' r' envs' is' t' come' w' p') = cc
+    Tests-single at taken a b (at_once (condition e is p)) (at_once (otherwise is' p')) = cc
+    Tests-single at taken a b (at_once (condition e is p)) (at_once (condition e' is' p')) =
         let ee : e' ≡ e = cc in evaluates-single V8 at.0 e (value.Bool true) a b p (subst (λ z. evaluates il V8 at.0 z (value.Bool true) b) ee p')
-    Tests-single at taken a b (condition e is p) (goal rel' es' child' line' r' is' t' l' come' p') = cc
-    Tests-single at taken a b (condition e is p) (goal_of_many rel' es' child' is' t' n' p') = cc
-    Tests-single at taken a b (condition e is p) (each_of_one how' xs' body' child' is' t' n' p') = cc
-    Tests-single at taken a b (condition e is p) (each_ends how' xs' body' inner' r' o' is' t' come' w' p') = cc
-    Tests-single at taken a b (condition e is p) (each how' xs' body' inner' r' envs' is' t' come' w' p') = cc
-    Tests-single at taken a b (goal rel es child line r is t l come p) (otherwise is' p') = cc
-    Tests-single at taken a b (goal rel es child line r is t l come p) (condition e' is' p') = cc
-    Tests-single at taken a b (goal rel es child line r is t l come p) (goal rel' es' child' line' r' is' t' l' come' p') =
+    Tests-single at taken a b (at_once (condition e is p)) (at_once (goal rel' es' child' is' t' (on_line line' r' l' come' p'))) = cc
+    Tests-single at taken a b (at_once (condition e is p)) (at_once (goal rel' es' child' is' t' (of_many n' p'))) = cc
+    Tests-single at taken a b (at_once (condition e is p)) (at_once (each_refused how' xs' body' is' (of_one child' t' n' p'))) = cc
+    Tests-single at taken a b (at_once (condition e is p)) (at_once (each_refused how' xs' body' is' (ends inner' r' o' t' come' w' p'))) = cc
+    Tests-single at taken a b (at_once (condition e is p)) (each how' xs' body' inner' r' envs' is' t' come' w' p') = cc
+    Tests-single at taken a b (at_once (goal rel es child is t (on_line line r l come p))) (at_once (otherwise is' p')) = cc
+    Tests-single at taken a b (at_once (goal rel es child is t (on_line line r l come p))) (at_once (condition e' is' p')) = cc
+    Tests-single at taken a b (at_once (goal rel es child is t (on_line line r l come p))) (at_once (goal rel' es' child' is' t' (on_line line' r' l' come' p'))) =
         let rr : rel' ≡ rel = cc in
         let ee : es' ≡ es = cc in
         let cc' : child' ≡ child = cc in
@@ -123,30 +141,30 @@ module _ (il : Il) (notes : Notes) (one : IsSingle (CallAt il checking_depth)) w
         let ss : r' ≡ r = sym (all_single at.0 es r r' come (subst (λ z. ComeTo il at.0 z r') ee come')) in
         judged-single line rel r a b p
         (subst (λ z. judged notes line rel z b) ss (subst (λ z. judged notes line z r' b) rr (subst (λ z. judged notes z rel' r' b) ll p')))
-    Tests-single at taken a b (goal rel es child line r is t l come p) (goal_of_many rel' es' child' is' t' n' p') = let same : child ≡ child' = cc in absurd (n' line (ap out-Ref (sym same) ∙ l))
-    Tests-single at taken a b (goal rel es child line r is t l come p) (each_of_one how' xs' body' child' is' t' n' p') = cc
-    Tests-single at taken a b (goal rel es child line r is t l come p) (each_ends how' xs' body' inner' r' o' is' t' come' w' p') = cc
-    Tests-single at taken a b (goal rel es child line r is t l come p) (each how' xs' body' inner' r' envs' is' t' come' w' p') = cc
-    Tests-single at taken a b (goal_of_many rel es child is t n p) (otherwise is' p') = cc
-    Tests-single at taken a b (goal_of_many rel es child is t n p) (condition e' is' p') = cc
-    Tests-single at taken a b (goal_of_many rel es child is t n p) (goal rel' es' child' line' r' is' t' l' come' p') = let same : child ≡ child' = cc in absurd (n line' (ap out-Ref same ∙ l'))
-    Tests-single at taken a b (goal_of_many rel es child is t n p) (goal_of_many rel' es' child' is' t' n' p') = p ∙ sym p'
-    Tests-single at taken a b (goal_of_many rel es child is t n p) (each_of_one how' xs' body' child' is' t' n' p') = cc
-    Tests-single at taken a b (goal_of_many rel es child is t n p) (each_ends how' xs' body' inner' r' o' is' t' come' w' p') = cc
-    Tests-single at taken a b (goal_of_many rel es child is t n p) (each how' xs' body' inner' r' envs' is' t' come' w' p') = cc
-    Tests-single at taken a b (each_of_one how xs body child is t n p) (otherwise is' p') = cc
-    Tests-single at taken a b (each_of_one how xs body child is t n p) (condition e' is' p') = cc
-    Tests-single at taken a b (each_of_one how xs body child is t n p) (goal rel' es' child' line' r' is' t' l' come' p') = cc
-    Tests-single at taken a b (each_of_one how xs body child is t n p) (goal_of_many rel' es' child' is' t' n' p') = cc
-    Tests-single at taken a b (each_of_one how xs body child is t n p) (each_of_one how' xs' body' child' is' t' n' p') = p ∙ sym p'
-    Tests-single at taken a b (each_of_one how xs body child is t n p) (each_ends how' xs' body' inner' r' o' is' t' come' w' p') = absurd (one_or_many child inner' taken t n t')
-    Tests-single at taken a b (each_of_one how xs body child is t n p) (each how' xs' body' inner' r' envs' is' t' come' w' p') = absurd (one_or_many child inner' taken t n t')
-    Tests-single at taken a b (each_ends how xs body inner r o is t come w p) (otherwise is' p') = cc
-    Tests-single at taken a b (each_ends how xs body inner r o is t come w p) (condition e' is' p') = cc
-    Tests-single at taken a b (each_ends how xs body inner r o is t come w p) (goal rel' es' child' line' r' is' t' l' come' p') = cc
-    Tests-single at taken a b (each_ends how xs body inner r o is t come w p) (goal_of_many rel' es' child' is' t' n' p') = cc
-    Tests-single at taken a b (each_ends how xs body inner r o is t come w p) (each_of_one how' xs' body' child' is' t' n' p') = absurd (one_or_many child' inner taken t' n' t)
-    Tests-single at taken a b (each_ends how xs body inner r o is t come w p) (each_ends how' xs' body' inner' r' o' is' t' come' w' p') =
+    Tests-single at taken a b (at_once (goal rel es child is t (on_line line r l come p))) (at_once (goal rel' es' child' is' t' (of_many n' p'))) = let same : child ≡ child' = cc in absurd (n' line (ap out-Ref (sym same) ∙ l))
+    Tests-single at taken a b (at_once (goal rel es child is t (on_line line r l come p))) (at_once (each_refused how' xs' body' is' (of_one child' t' n' p'))) = cc
+    Tests-single at taken a b (at_once (goal rel es child is t (on_line line r l come p))) (at_once (each_refused how' xs' body' is' (ends inner' r' o' t' come' w' p'))) = cc
+    Tests-single at taken a b (at_once (goal rel es child is t (on_line line r l come p))) (each how' xs' body' inner' r' envs' is' t' come' w' p') = cc
+    Tests-single at taken a b (at_once (goal rel es child is t (of_many n p))) (at_once (otherwise is' p')) = cc
+    Tests-single at taken a b (at_once (goal rel es child is t (of_many n p))) (at_once (condition e' is' p')) = cc
+    Tests-single at taken a b (at_once (goal rel es child is t (of_many n p))) (at_once (goal rel' es' child' is' t' (on_line line' r' l' come' p'))) = let same : child ≡ child' = cc in absurd (n line' (ap out-Ref same ∙ l'))
+    Tests-single at taken a b (at_once (goal rel es child is t (of_many n p))) (at_once (goal rel' es' child' is' t' (of_many n' p'))) = p ∙ sym p'
+    Tests-single at taken a b (at_once (goal rel es child is t (of_many n p))) (at_once (each_refused how' xs' body' is' (of_one child' t' n' p'))) = cc
+    Tests-single at taken a b (at_once (goal rel es child is t (of_many n p))) (at_once (each_refused how' xs' body' is' (ends inner' r' o' t' come' w' p'))) = cc
+    Tests-single at taken a b (at_once (goal rel es child is t (of_many n p))) (each how' xs' body' inner' r' envs' is' t' come' w' p') = cc
+    Tests-single at taken a b (at_once (each_refused how xs body is (of_one child t n p))) (at_once (otherwise is' p')) = cc
+    Tests-single at taken a b (at_once (each_refused how xs body is (of_one child t n p))) (at_once (condition e' is' p')) = cc
+    Tests-single at taken a b (at_once (each_refused how xs body is (of_one child t n p))) (at_once (goal rel' es' child' is' t' (on_line line' r' l' come' p'))) = cc
+    Tests-single at taken a b (at_once (each_refused how xs body is (of_one child t n p))) (at_once (goal rel' es' child' is' t' (of_many n' p'))) = cc
+    Tests-single at taken a b (at_once (each_refused how xs body is (of_one child t n p))) (at_once (each_refused how' xs' body' is' (of_one child' t' n' p'))) = p ∙ sym p'
+    Tests-single at taken a b (at_once (each_refused how xs body is (of_one child t n p))) (at_once (each_refused how' xs' body' is' (ends inner' r' o' t' come' w' p'))) = absurd (one_or_many child inner' taken t n t')
+    Tests-single at taken a b (at_once (each_refused how xs body is (of_one child t n p))) (each how' xs' body' inner' r' envs' is' t' come' w' p') = absurd (one_or_many child inner' taken t n t')
+    Tests-single at taken a b (at_once (each_refused how xs body is (ends inner r o t come w p))) (at_once (otherwise is' p')) = cc
+    Tests-single at taken a b (at_once (each_refused how xs body is (ends inner r o t come w p))) (at_once (condition e' is' p')) = cc
+    Tests-single at taken a b (at_once (each_refused how xs body is (ends inner r o t come w p))) (at_once (goal rel' es' child' is' t' (on_line line' r' l' come' p'))) = cc
+    Tests-single at taken a b (at_once (each_refused how xs body is (ends inner r o t come w p))) (at_once (goal rel' es' child' is' t' (of_many n' p'))) = cc
+    Tests-single at taken a b (at_once (each_refused how xs body is (ends inner r o t come w p))) (at_once (each_refused how' xs' body' is' (of_one child' t' n' p'))) = absurd (one_or_many child' inner taken t' n' t)
+    Tests-single at taken a b (at_once (each_refused how xs body is (ends inner r o t come w p))) (at_once (each_refused how' xs' body' is' (ends inner' r' o' t' come' w' p'))) =
         let kk : how' ≡ how = cc in
         let xx : xs' ≡ xs = cc in
         let bb : body' ≡ body = cc in
@@ -155,19 +173,19 @@ module _ (il : Il) (notes : Notes) (one : IsSingle (CallAt il checking_depth)) w
         let ends : Ends o ≡ Ends o' = same_way w w' ww in
         let oo : o ≡ o' = cc in
         p ∙ ap (λ z. Some (refusal (rule_at at.1) z)) oo ∙ sym p'
-    Tests-single at taken a b (each_ends how xs body inner r o is t come w p) (each how' xs' body' inner' r' envs' is' t' come' w' p') =
+    Tests-single at taken a b (at_once (each_refused how xs body is (ends inner r o t come w p))) (each how' xs' body' inner' r' envs' is' t' come' w' p') =
         let kk : how' ≡ how = cc in
         let xx : xs' ≡ xs = cc in
         let bb : body' ≡ body = cc in
         let rr : r ≡ r' = all_single at.0 (count_of how) r r' come (subst (λ z. ComeTo il at.0 (count_of z) r') kk come') in
         let ww : way how xs at.0 r ≡ way how' xs' at.0 r' = cc in
         let bad : Ends o ≡ Goes envs' = same_way w w' ww in cc
-    Tests-single at taken a b (each how xs body inner r envs is t come w p) (otherwise is' p') = cc
-    Tests-single at taken a b (each how xs body inner r envs is t come w p) (condition e' is' p') = cc
-    Tests-single at taken a b (each how xs body inner r envs is t come w p) (goal rel' es' child' line' r' is' t' l' come' p') = cc
-    Tests-single at taken a b (each how xs body inner r envs is t come w p) (goal_of_many rel' es' child' is' t' n' p') = cc
-    Tests-single at taken a b (each how xs body inner r envs is t come w p) (each_of_one how' xs' body' child' is' t' n' p') = absurd (one_or_many child' inner taken t' n' t)
-    Tests-single at taken a b (each how xs body inner r envs is t come w p) (each_ends how' xs' body' inner' r' o' is' t' come' w' p') =
+    Tests-single at taken a b (each how xs body inner r envs is t come w p) (at_once (otherwise is' p')) = cc
+    Tests-single at taken a b (each how xs body inner r envs is t come w p) (at_once (condition e' is' p')) = cc
+    Tests-single at taken a b (each how xs body inner r envs is t come w p) (at_once (goal rel' es' child' is' t' (on_line line' r' l' come' p'))) = cc
+    Tests-single at taken a b (each how xs body inner r envs is t come w p) (at_once (goal rel' es' child' is' t' (of_many n' p'))) = cc
+    Tests-single at taken a b (each how xs body inner r envs is t come w p) (at_once (each_refused how' xs' body' is' (of_one child' t' n' p'))) = absurd (one_or_many child' inner taken t' n' t)
+    Tests-single at taken a b (each how xs body inner r envs is t come w p) (at_once (each_refused how' xs' body' is' (ends inner' r' o' t' come' w' p'))) =
         let kk : how' ≡ how = cc in
         let xx : xs' ≡ xs = cc in
         let bb : body' ≡ body = cc in
@@ -191,26 +209,22 @@ module _ (il : Il) (notes : Notes) (one : IsSingle (CallAt il checking_depth)) w
     Walks-single ps cs a b (done p) (done q) = p ∙ sym q
     Walks-single ps cs a b (left_over p) (left_over q) = p ∙ sym q
     Walks-single ps cs a b (missing c p) (missing d q) = p ∙ sym q
-    Walks-single ps cs a b (missing c p) (plain_goes d x rest) = cc
-    Walks-single ps cs a b (missing c p) (plain_stops rule d x q) = cc
-    Walks-single ps cs a b (plain_goes c x rest) (missing d q) = cc
-    Walks-single ps cs a b (plain_stops rule c x p) (missing d q) = cc
-    Walks-single ps cs a b (plain_goes {at = at} {rest = ps'} {children = cs'} c x rest) (plain_goes d y more) = Walks-single ps' cs' a b rest more
-    Walks-single ps cs a b (plain_goes {at = at} {rest = ps'} {children = cs'} c x rest) (plain_stops rule d y q) = absurd (none_some rule (Tests-single at None None (Some rule) x y))
-    Walks-single ps cs a b (plain_stops {at = at} {rest = ps'} {children = cs'} rule c x p) (plain_goes d y more) = absurd (none_some rule (sym (Tests-single at None (Some rule) None x y)))
-    Walks-single ps cs a b (plain_stops {at = at} {rest = ps'} {children = cs'} rule c x p) (plain_stops other d y q) = p ∙ Tests-single at None (Some rule) (Some other) x y ∙ sym q
-    Walks-single ps cs a b (cites_goes {at = at} {rest = ps'} {child = child} {children = cs'} c x rest) (cites_goes d y more) = Walks-single ps' cs' a b rest more
-    Walks-single ps cs a b (cites_goes {at = at} {rest = ps'} {child = child} {children = cs'} c x rest) (cites_stops rule d y q) = absurd (none_some rule (Tests-single at (Some child) None (Some rule) x y))
-    Walks-single ps cs a b (cites_stops {at = at} {rest = ps'} {child = child} {children = cs'} rule c x p) (cites_goes d y more) = absurd (none_some rule (sym (Tests-single at (Some child) (Some rule) None x y)))
-    Walks-single ps cs a b (cites_stops {at = at} {rest = ps'} {child = child} {children = cs'} rule c x p) (cites_stops other d y q) = p ∙ Tests-single at (Some child) (Some rule) (Some other) x y ∙ sym q
-    Walks-single ps cs a b (plain_goes c x rest) (cites_goes d y more) = cc
-    Walks-single ps cs a b (cites_goes c x rest) (plain_goes d y more) = cc
-    Walks-single ps cs a b (plain_goes c x rest) (cites_stops other d y q) = cc
-    Walks-single ps cs a b (cites_stops rule c x p) (plain_goes d y more) = cc
-    Walks-single ps cs a b (plain_stops rule c x p) (cites_goes d y more) = cc
-    Walks-single ps cs a b (cites_goes c x rest) (plain_stops other d y q) = cc
-    Walks-single ps cs a b (plain_stops rule c x p) (cites_stops other d y q) = cc
-    Walks-single ps cs a b (cites_stops rule c x p) (plain_stops other d y q) = cc
+    Walks-single ps cs a b (missing {at = at} c p) (goes taken others t x rest) = absurd (none_missing at.1 taken others c t)
+    Walks-single ps cs a b (missing {at = at} c p) (stops taken others rule t x q) = absurd (none_missing at.1 taken others c t)
+    Walks-single ps cs a b (goes {at = at} taken others t x rest) (missing d q) = absurd (none_missing at.1 taken others d t)
+    Walks-single ps cs a b (stops {at = at} taken others rule t x p) (missing d q) = absurd (none_missing at.1 taken others d t)
+    Walks-single ps cs a b (goes {at = at} {rest = ps'} taken others t x rest) (goes taken' others' u y more) =
+        let one = taken_one at.1 cs taken taken' others others' t u in
+        Walks-single ps' others a b rest (subst (λ z. Walks il notes ps' z b) (sym one.1) more)
+    Walks-single ps cs a b (goes {at = at} taken others t x rest) (stops taken' others' rule u y q) =
+        let one = taken_one at.1 cs taken taken' others others' t u in
+        absurd (none_some rule (Tests-single at taken None (Some rule) x (subst (λ z. Tests il notes at z (Some rule)) (sym one.0) y)))
+    Walks-single ps cs a b (stops {at = at} taken others rule t x p) (goes taken' others' u y more) =
+        let one = taken_one at.1 cs taken taken' others others' t u in
+        absurd (none_some rule (sym (Tests-single at taken (Some rule) None x (subst (λ z. Tests il notes at z None) (sym one.0) y))))
+    Walks-single ps cs a b (stops {at = at} taken others rule t x p) (stops taken' others' other u y q) =
+        let one = taken_one at.1 cs taken taken' others others' t u in
+        p ∙ Tests-single at taken (Some rule) (Some other) x (subst (λ z. Tests il notes at z (Some other)) (sym one.0) y) ∙ sym q
 
   tries-single : (inputs : List Value) (rule : RuleDef) (order : List ℕ) → Single (tries il inputs rule order)
   tries-single inputs rule order =
@@ -246,4 +260,4 @@ module _ (il : Il) (notes : Notes) (one : IsSingle (CallAt il checking_depth)) w
   Verdict-single line = and_then-single _ _ (asks-single _ _) (tests-single line)
 
 pub law_of_verdicts : LawOfVerdicts
-law_of_verdicts il one notes line a b p q = Verdict-single il notes (one checking_depth) line a b p q
+law_of_verdicts il keep named notes line a b p q = Verdict-single il notes (clauses_single il keep named checking_depth) line a b p q

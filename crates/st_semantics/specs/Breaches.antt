@@ -8,7 +8,7 @@ use Rattle.st_il.specs.declared.definition.Il.{Il}
 use Rattle.st_il.specs.declared.definition.IlDef.{IlDef}
 use Rattle.st_il.specs.declared.definition.IlDef.TheVariants.{Rule, Clause}
 use Rattle.st_il.specs.declared.definition.RuleDef.{RuleDef}
-use Rattle.st_semantics.specs.Definitions.{rules_from, rules_in, IsFirst}
+use Rattle.st_semantics.specs.Definitions.{rules_from, rules_in, clauses_in, IsFirst}
 use Rattle.st_semantics.specs.Variables.{have_otherwise}
 use Rattle.st_semantics.specs.ModeRules.{keeps_m3, keeps_m4, keeps_m6, keeps_m7, Relation, Leads, IsDirected, cites_nothing}
 
@@ -54,6 +54,11 @@ abbrev pub Breaks : Il → Standing → RuleId → Type 0
 Breaks il (Rule rule, after) m = RuleBreaks il rule after m
 Breaks il (Clause c, after) m = ClauseBreaks il c m
 Breaks il (_, after) m = ⊥
+
+-- No clause breaks one of M3, M4, M6 and M7.
+abbrev pub ClausesKeep : Il → Type 0
+ClausesKeep il =
+    All (λ (c : ClauseDef). (m : RuleId) → ClauseBreaks il c m → ⊥) (clauses_in il.defs)
 
 -- No definition breaks one of them.
 abbrev pub KeepModes : Il → Type 0

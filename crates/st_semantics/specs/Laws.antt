@@ -1,22 +1,32 @@
 -- The laws of these definitions, as statements: each is a clause of `meaning_of_rules`. `Typed` is
 -- the typing of an internal language.
-use Rattle.std.specs.Prelude.{◌≡◌, ◌↔◌, ℕ, ◌≤◌, List, Option}
+use Rattle.std.specs.Prelude.{◌≡◌, ◌↔◌, ℕ, ◌≤◌, true, List, Option, Ok, Contains}
 use Rattle.st_deriv.specs.declared.line.Line.{Line}
+use Rattle.st_il.specs.declared.definition.ClauseDef.{ClauseDef}
 use Rattle.st_il.specs.declared.definition.Il.{Il}
 use Rattle.st_il.specs.declared.definition.RuleDef.{RuleDef}
+use Rattle.st_il.specs.declared.definition.Listed.{Listed}
 use Rattle.st_il.specs.declared.expression.IlExp.{IlExp}
 use Rattle.st_il.specs.declared.tree.Tree.{Tree}
+use Rattle.st_il.specs.declared.ty.Ty.{Ty}
 use Rattle.st_il.specs.declared.value.Env.{Env}
 use Rattle.st_il.specs.declared.value.Value.{Value}
 use Rattle.st_semantics.specs.declared.verify_rule.VerifyRule.{VerifyRule}
 use Rattle.st_semantics.specs.declared.notes.Notes.{Notes}
 use Rattle.st_semantics.specs.declared.outcome.Outcome.{Outcome}
-use Rattle.st_semantics.specs.declared.outcome.Outcome.TheVariants.{Deep}
+use Rattle.st_semantics.specs.declared.outcome.Outcome.TheVariants.{Val, Deep}
 use Rattle.st_semantics.specs.Names.{Name}
-use Rattle.st_semantics.specs.ModeRules.{IsOtherwise}
-use Rattle.st_semantics.specs.Breaches.{KeepModes}
-use Rattle.st_semantics.specs.Kinds.{AreKinded}
-use Rattle.st_semantics.specs.Calls.{CallAt, ValueAt}
+use Rattle.st_semantics.specs.Definitions.{syntaxes, clauses_in}
+use Rattle.st_semantics.specs.Environments.{AgreeOn, EnvOk, IsTypedValue}
+use Rattle.st_semantics.specs.Orders.{is_order}
+use Rattle.st_semantics.specs.OrderOf.{order_of}
+use Rattle.st_semantics.specs.Formed.{IsFormed, ResultsAreFormed}
+use Rattle.st_semantics.specs.Typing.{ExpHasType, ResultsAreTyped}
+use Rattle.st_semantics.specs.Variables.{vars}
+use Rattle.st_semantics.specs.ModeRules.{IsOtherwise, bound_in_clause}
+use Rattle.st_semantics.specs.Breaches.{KeepModes, ClausesKeep}
+use Rattle.st_semantics.specs.Kinds.{AreKinded, ClausesAreKinded, ClausesNameOccurring, ListsOccurring}
+use Rattle.st_semantics.specs.Calls.{Chosen, TooDeep, CallAt, ValueAt}
 use Rattle.st_semantics.specs.Derivation.{Root, excluded, NoneBefore, IsValid}
 use Rattle.st_semantics.specs.Chains.{IsValidAt}
 use Rattle.st_semantics.specs.Transcript.{Term, Ending, Transcript}
@@ -37,16 +47,64 @@ IsDeepBelow il =
     (n m : ℕ) → n ≤ m → (env : Env) (e : IlExp) → ValueAt il m env e Deep
     → (ValueAt il n env e Deep → ⊥) → ⊥
 
--- a call has one outcome at most, at each depth
+-- a call comes to one outcome at most
 abbrev pub CallsAreSingle : Il → Type 0
 CallsAreSingle il =
     (n : ℕ) (fun : Name) (vs : List Value) (o p : Outcome) → CallAt il n fun vs o
     → CallAt il n fun vs p → o ≡ p
 
--- Where the rules M1 to M7 are kept and iterated premises name only variables of their kind, an
--- outcome that is not Deep is the outcome at every larger depth.
+-- an expression comes to one outcome at most
+abbrev pub ExpressionsAreSingle : Il → Type 0
+ExpressionsAreSingle il =
+    (n : ℕ) (env : Env) (e : IlExp) (o p : Outcome) → ValueAt il n env e o → ValueAt il n env e p
+    → o ≡ p
+
+-- Two environments that choose a clause agree on all that it binds, and they are one where all
+-- variables that it lists occur in it.
+abbrev pub ChoosesOnce : Il → Type 0
+ChoosesOnce il =
+    (n : ℕ) (c : ClauseDef) → Contains (clauses_in il.defs) c → (vs : List Value) (a b : Env)
+    → Chosen il (CallAt il n) c vs a → Chosen il (CallAt il n) c vs b
+    → AgreeOn (bound_in_clause c c.premises) a b × (ListsOccurring c → a ≡ b)
+
+-- a clause that is chosen does not meet Deep
+abbrev pub ChosenIsNotDeep : Il → Type 0
+ChosenIsNotDeep il =
+    (n : ℕ) (c : ClauseDef) → Contains (clauses_in il.defs) c → (vs : List Value) (env : Env)
+    → Chosen il (CallAt il n) c vs env → TooDeep il (CallAt il n) c vs → ⊥
+
+-- Where clauses keep the rules M3, M4, M6 and M7 and their iterated premises name only variables of
+-- their kind, an outcome that is not Deep is the outcome at every larger depth.
 abbrev pub LawOfDepths : Type 0
-LawOfDepths = (il : Il) → KeepModes il → AreKinded il → IsStable il × IsDeepBelow il
+LawOfDepths = (il : Il) → ClausesKeep il → ClausesAreKinded il → IsStable il × IsDeepBelow il
+
+-- Where clauses keep these rules and the iterated premises of clauses name only variables that
+-- occur inside, each clause is chosen under one environment at most, a clause that is chosen does
+-- not meet Deep, and calls and expressions come to one outcome at most.
+abbrev pub LawOfChoice : Type 0
+LawOfChoice =
+    (il : Il) → ClausesKeep il → ClausesNameOccurring il
+    → ChoosesOnce il × ChosenIsNotDeep il × CallsAreSingle il × ExpressionsAreSingle il
+
+-- an outcome depends only on the values of the variables that occur in the expression
+abbrev pub LawOfVariables : Type 0
+LawOfVariables =
+    (il : Il) (n : ℕ) (a b : Env) (e : IlExp) (o : Outcome) → AgreeOn (vars e) a b
+    → ValueAt il n a e o → ValueAt il n b e o
+
+-- Where each record and each absent part of an expression fits its type, and so in the results of
+-- clauses, it is not that the expression comes to no outcome.
+abbrev pub LawOfOutcomes : Type 0
+LawOfOutcomes =
+    (il : Il) → ResultsAreFormed il → (n : ℕ) (env : Env) (e : IlExp) → IsFormed (syntaxes il) e
+    → ((o : Outcome) → ValueAt il n env e o → ⊥) → ⊥
+
+-- Where the results of clauses have the declared types, the value of an expression has its type.
+abbrev pub LawOfTypes : Type 0
+LawOfTypes =
+    (il : Il) → ResultsAreTyped il → (n : ℕ) (ls : List Listed) (env : Env) (e : IlExp) (t : Ty)
+    (v : Value) → ExpHasType il ls e t → EnvOk (syntaxes il) ls env → ValueAt il n env e (Val v)
+    → IsTypedValue (syntaxes il) t v
 
 -- ---- derivation
 
@@ -72,10 +130,10 @@ LawOfTranscripts =
     → Transcript il relation fuel term terms ending → Transcript il relation fuel term others other
     → (terms ≡ others) × (ending ≡ other)
 
--- a line has one verdict at most, where calls come to one outcome at most
+-- a line has one verdict at most
 abbrev pub LawOfVerdicts : Type 0
 LawOfVerdicts =
-    (il : Il) → CallsAreSingle il → (notes : Notes) (line : Line) (a b : Option VerifyRule)
+    (il : Il) → ClausesKeep il → ClausesNameOccurring il → (notes : Notes) (line : Line) (a b : Option VerifyRule)
     → Verdict il notes line a → Verdict il notes line b → a ≡ b
 
 -- Lines that are taken vouch for their nodes and steps, where the rules M1 to M7 are kept and
@@ -89,3 +147,14 @@ LawOfReading =
 abbrev pub LawOfAcceptance : (Il → Type 0) → Type 0
 LawOfAcceptance Typed =
     (il : Il) → AreKinded il → (lines : List Line) → Accepts Typed il lines → AreSound il lines
+
+-- ---- orders
+
+-- The order that a rule is run in is an executable one, and there is one wherever there is an
+-- executable order.
+abbrev pub LawOfOrders : Type 0
+LawOfOrders =
+    (il : Il) (rule : RuleDef)
+    → ((order : List ℕ) → order_of il rule ≡ Ok order → is_order il rule order ≡ true)
+    × ((order : List ℕ) → is_order il rule order ≡ true
+    → (chosen : List ℕ) × (order_of il rule ≡ Ok chosen))

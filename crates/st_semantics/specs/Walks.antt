@@ -61,65 +61,68 @@ IsNoLine child = (line : ℕ) → out-Ref child ≡ Ref-F.Line line → ⊥
 abbrev pub IsOneLine : Ref → Type 0
 IsOneLine child = (line : ℕ) × (out-Ref child ≡ Ref-F.Line line)
 
+-- the child of a goal is one line, and its node has the judgement of the goal
+pub data JudgesChild (il : Il) (notes : Notes) (env : Env) (relation : Name) (es : List IlExp)
+    (child : Ref) (answer : Answer) : Type 0 where
+  on_line : (line : ℕ) (r : Outcomes) → out-Ref child ≡ Ref-F.Line line → ComeTo il env es r
+      → judged notes line relation r answer → JudgesChild il notes env relation es child answer
+  of_many : IsNoLine child → refuses V9 answer → JudgesChild il notes env relation es child answer
+
+-- an iterated premise is refused before an element is tested: its child is one line, or it comes to
+-- no elements
+pub data RefusesEach (il : Il) (at : Place) (how : Iteration) (xs : List Name) (taken : TakenChild)
+    (answer : Answer) : Type 0 where
+  of_one : (child : Ref) → taken ≡ Some child → IsOneLine child → refuses V9 answer
+      → RefusesEach il at how xs taken answer
+  ends : (inner : List Ref) (r : Outcomes) (o : Outcome)
+      → IsTakenFor inner taken → ComeTo il at.0 (count_of how) r → way how xs at.0 r ≡ Ends o
+      → refuses (refusal (rule_at at.1) o) answer → RefusesEach il at how xs taken answer
+
+-- a premise is tested with this answer, and no premise inside of it is
+pub data TestsAtOnce (il : Il) (notes : Notes) (at : Place) (taken : TakenChild) (answer : Answer)
+    : Type 0 where
+  otherwise : out-IlPrem at.1 ≡ IlPrem-F.Otherwise → accepts answer
+      → TestsAtOnce il notes at taken answer
+  condition : (e : IlExp) → out-IlPrem at.1 ≡ IlPrem-F.If e
+      → evaluates il V8 at.0 e (value.Bool true) answer → TestsAtOnce il notes at taken answer
+  goal : (relation : Name) (es : List IlExp) (child : Ref)
+      → out-IlPrem at.1 ≡ IlPrem-F.Goal relation es → taken ≡ Some child
+      → JudgesChild il notes at.0 relation es child answer → TestsAtOnce il notes at taken answer
+  each_refused : (how : Iteration) (xs : List Name) (body : IlPrem)
+      → out-IlPrem at.1 ≡ IlPrem-F.Each how xs body → RefusesEach il at how xs taken answer
+      → TestsAtOnce il notes at taken answer
+
+-- What a premise takes of the children: nothing, or the first one where it cites a relation. The
+-- others are left.
+abbrev pub TakenBy : IlPrem → List Ref → TakenChild → List Ref → Type 0
+TakenBy p children None others = (cites p ≡ false) × (children ≡ others)
+TakenBy p children (Some child) others = (cites p ≡ true) × (children ≡ child ∷ others)
+
 mutual
   -- A premise, with the child that it takes, is tested with this answer.
   pub data Tests (il : Il) (notes : Notes) : Place → TakenChild → Answer → Type 0 where
-    otherwise : {at : Place} {taken : TakenChild} {answer : Answer}
-        → out-IlPrem at.1 ≡ IlPrem-F.Otherwise
-        → accepts answer → Tests il notes at taken answer
-    condition : {at : Place} {taken : TakenChild} {answer : Answer} (e : IlExp)
-        → out-IlPrem at.1 ≡ IlPrem-F.If e → evaluates il V8 at.0 e (value.Bool true) answer
-        → Tests il notes at taken answer
-    goal : {at : Place} {taken : TakenChild} {answer : Answer} (relation : Name) (es : List IlExp)
-        (child : Ref)
-        (line : ℕ) (r : Outcomes)
-        → out-IlPrem at.1 ≡ IlPrem-F.Goal relation es → taken ≡ Some child
-        → out-Ref child ≡ Ref-F.Line line
-        → ComeTo il at.0 es r → judged notes line relation r answer → Tests il notes at taken answer
-    goal_of_many : {at : Place} {taken : TakenChild} {answer : Answer} (relation : Name)
-        (es : List IlExp)
-        (child : Ref)
-        → out-IlPrem at.1 ≡ IlPrem-F.Goal relation es → taken ≡ Some child → IsNoLine child
-        → refuses V9 answer → Tests il notes at taken answer
-    each_of_one : {at : Place} {taken : TakenChild} {answer : Answer} (how : Iteration)
-        (xs : List Name) (body : IlPrem) (child : Ref)
-        → out-IlPrem at.1 ≡ IlPrem-F.Each how xs body → taken ≡ Some child → IsOneLine child
-        → refuses V9 answer → Tests il notes at taken answer
-    each_ends : {at : Place} {taken : TakenChild} {answer : Answer} (how : Iteration)
-        (xs : List Name) (body : IlPrem) (inner : List Ref) (r : Outcomes) (o : Outcome)
-        → out-IlPrem at.1 ≡ IlPrem-F.Each how xs body → IsTakenFor inner taken
-        → ComeTo il at.0 (count_of how) r → way how xs at.0 r ≡ Ends o
-        → refuses (refusal (rule_at at.1) o) answer → Tests il notes at taken answer
+    at_once : {at : Place} {taken : TakenChild} {answer : Answer}
+        → TestsAtOnce il notes at taken answer → Tests il notes at taken answer
     each : {at : Place} {taken : TakenChild} {answer : Answer} (how : Iteration) (xs : List Name)
         (body : IlPrem) (inner : List Ref) (r : Outcomes) (envs : List Env)
         → out-IlPrem at.1 ≡ IlPrem-F.Each how xs body → IsTakenFor inner taken
         → ComeTo il at.0 (count_of how) r → way how xs at.0 r ≡ Goes envs
         → Walks il notes (each_place envs body) inner answer → Tests il notes at taken answer
 
-  -- The premises are tested one after another; one that cites a relation takes the next child. The
-  -- first refusal is the answer. A child that is missing is V9 there, and one that is left over is
-  -- V9 after the last premise.
+  -- The premises are tested one after another, each with what it takes. The first refusal is the
+  -- answer. A child that is missing is V9 there, and one that is left over is V9 after the last
+  -- premise.
   pub data Walks (il : Il) (notes : Notes) : List Place → List Ref → Answer → Type 0 where
     done : {answer : Answer} → accepts answer → Walks il notes [] [] answer
     left_over : {child : Ref} {children : List Ref} {answer : Answer} → refuses V9 answer
         → Walks il notes [] (child ∷ children) answer
-    plain_goes : {at : Place} {rest : List Place} {children : List Ref} {answer : Answer}
-        → cites at.1 ≡ false → Tests il notes at None None → Walks il notes rest children answer
-        → Walks il notes (at ∷ rest) children answer
-    plain_stops : {at : Place} {rest : List Place} {children : List Ref} {answer : Answer}
-        (rule : VerifyRule)
-        → cites at.1 ≡ false → Tests il notes at None (Some rule) → refuses rule answer
-        → Walks il notes (at ∷ rest) children answer
     missing : {at : Place} {rest : List Place} {answer : Answer} → cites at.1 ≡ true
-        → refuses V9 answer
-        → Walks il notes (at ∷ rest) [] answer
-    cites_goes : {at : Place} {rest : List Place} {child : Ref} {children : List Ref}
-        {answer : Answer}
-        → cites at.1 ≡ true → Tests il notes at (Some child) None
-        → Walks il notes rest children answer
-        → Walks il notes (at ∷ rest) (child ∷ children) answer
-    cites_stops : {at : Place} {rest : List Place} {child : Ref} {children : List Ref}
-        {answer : Answer}
-        (rule : VerifyRule)
-        → cites at.1 ≡ true → Tests il notes at (Some child) (Some rule) → refuses rule answer
-        → Walks il notes (at ∷ rest) (child ∷ children) answer
+        → refuses V9 answer → Walks il notes (at ∷ rest) [] answer
+    goes : {at : Place} {rest : List Place} {children : List Ref} {answer : Answer}
+        (taken : TakenChild) (others : List Ref) → TakenBy at.1 children taken others
+        → Tests il notes at taken None → Walks il notes rest others answer
+        → Walks il notes (at ∷ rest) children answer
+    stops : {at : Place} {rest : List Place} {children : List Ref} {answer : Answer}
+        (taken : TakenChild) (others : List Ref) (rule : VerifyRule)
+        → TakenBy at.1 children taken others → Tests il notes at taken (Some rule)
+        → refuses rule answer → Walks il notes (at ∷ rest) children answer

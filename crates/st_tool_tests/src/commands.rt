@@ -10,7 +10,7 @@ use std::test::Fail;
 
 const LIGHT_RUN: &str = "0 RED\n1 GREEN\n2 AMBER\nstuck after 2 steps\n";
 
-fn words_of(alloc: Global, text: &str) -> Result<Vec<String>, AllocError> {
+pub(crate) fn words_of(alloc: Global, text: &str) -> Result<Vec<String>, AllocError> {
     let mut words = Vec::new(alloc);
     for word in text.split_whitespace() {
         words.push(String::from_str(alloc, word)?)?;
@@ -36,24 +36,26 @@ fn served(
     Ok((status, out))
 }
 
+/// The words of a command, its status and what it prints.
+type Case = (&'static str, Status, &'static str);
+
 fn expect(
     rt: &impl Abort,
     alloc: Global,
-    words: &str,
     fails: u64,
-    status: Status,
-    printed: &str,
+    bytes: usize,
+    case: &Case,
 ) -> Result<(), Fail> {
-    let words = words_of(alloc, words)?;
-    let (answer, out) = served(alloc, &words, fails, TOO_MANY, 1000)?;
+    let words = words_of(alloc, case.0)?;
+    let (status, out) = served(alloc, &words, fails, bytes, 1000)?;
     assert!(rt;
-        answer == status && out.taken.as_slice() == printed.as_bytes(),
-        "{printed}"
+        status == case.1 && out.taken.as_slice() == case.2.as_bytes(),
+        "{case:?}"
     );
     Ok(())
 }
 
-const COMMANDS: [(&str, Status, &str); 39] = [
+const COMMANDS: [Case; 35] = [
     ("run T red light", Status::Done, LIGHT_RUN),
     ("run T red_line light", Status::Done, LIGHT_RUN),
     (
@@ -77,8 +79,6 @@ const COMMANDS: [(&str, Status, &str); 39] = [
     ("run T -red light", Status::Usage, "usage\n"),
     ("frob", Status::Usage, "usage\n"),
     ("run T gone light", Status::Load, "load failed gone\n"),
-    ("il big", Status::TooLarge, "too large big\n"),
-    ("run T red big", Status::TooLarge, "too large big\n"),
     ("il light", Status::Done, LIGHT_IL),
     ("il empty", Status::Unbuilt, "unbuilt\n"),
     ("derive T red light", Status::Done, LIGHT_LINES),
@@ -113,11 +113,6 @@ const COMMANDS: [(&str, Status, &str); 39] = [
         Status::Verification,
         "refused derivation 1 V12\n",
     ),
-    (
-        "verify light.il big",
-        Status::Verification,
-        "refused derivation 1 V3\n",
-    ),
     ("verify light.il malformed", Status::Unbuilt, "unbuilt\n"),
     ("verify light lines", Status::Unbuilt, "unbuilt\n"),
     ("check light", Status::Done, "accepted 4 definitions\n"),
@@ -140,28 +135,44 @@ const COMMANDS: [(&str, Status, &str); 39] = [
         "refused large:1:3 - L3\n",
     ),
     ("check gone", Status::Load, "load failed gone\n"),
-    ("check big", Status::TooLarge, "too large big\n"),
 ];
 
 #[test]
 fn a_command_prints_its_text(rt: HostRuntime) -> Result<(), Fail> {
-    for (words, status, printed) in &COMMANDS {
-        expect(&rt, rt.alloc(), words, 99, *status, printed)?;
+    for case in &COMMANDS {
+        expect(&rt, rt.alloc(), 99, 0, case)?;
     }
     Ok(())
 }
 
+const BIG: [Case; 4] = [
+    ("il big", Status::TooLarge, "too large big\n"),
+    ("run T red big", Status::TooLarge, "too large big\n"),
+    (
+        "verify light.il big",
+        Status::Verification,
+        "refused derivation 1 V3\n",
+    ),
+    ("check big", Status::TooLarge, "too large big\n"),
+];
+
+#[test]
+fn a_file_that_is_too_large_is_named(rt: HostRuntime) -> Result<(), Fail> {
+    for case in &BIG {
+        expect(&rt, rt.alloc(), 99, TOO_MANY, case)?;
+    }
+    Ok(())
+}
+
+const LOADS: [(u64, Case); 2] = [
+    (0, ("run T red light", Status::Load, "load failed red\n")),
+    (1, ("run T red light", Status::Load, "load failed light\n")),
+];
+
 #[test]
 fn a_failed_load_is_named(rt: HostRuntime) -> Result<(), Fail> {
-    for (number, printed) in &[(0, "load failed red\n"), (1, "load failed light\n")] {
-        expect(
-            &rt,
-            rt.alloc(),
-            "run T red light",
-            *number,
-            Status::Load,
-            printed,
-        )?;
+    for (number, case) in &LOADS {
+        expect(&rt, rt.alloc(), *number, 0, case)?;
     }
     Ok(())
 }

@@ -68,3 +68,10 @@ pub(crate) fn files_of(alloc: Global, fails: u64, bytes: usize) -> Result<MemFil
     push_entry(alloc, &mut entries, "big", big.as_slice())?;
     Ok(MemFiles::new(entries, Row::from_slice(alloc, &[fails])?))
 }
+
+/// One file, `x`, of these bytes.
+pub(crate) fn file_of(alloc: Global, bytes: &[u8]) -> Result<MemFiles, NoMemory> {
+    let mut entries = Row::new(alloc);
+    push_entry(alloc, &mut entries, "x", bytes)?;
+    Ok(MemFiles::new(entries, Row::new(alloc)))
+}

@@ -8,3 +8,5 @@
 mod commands;
 #[cfg(test)]
 mod files;
+#[cfg(test)]
+mod small;

@@ -13,12 +13,12 @@ use Rattle.st_type_table.specs.declared.fault.TypeFault.TheVariants as fault
 use Rattle.st_type_table.specs.Meaning.{body_of}
 use Rattle.st_type_table.specs.Leads.{Among, leads_to, included, names_in, Leads}
 use Rattle.st_type_table.specs.inner.Graph.{Graph, graph_of, place_of, places_of, IsOne, LeadsAt, EndsAt, AreRanks}
-use Rattle.st_type_table.specs.Breach.{SoundTo, IsSound, FirstBreach, AllHold, Placed, conditions_on, on_alias, on_alternative, on_alternatives, on_body}
+use Rattle.st_type_table.specs.Breach.{SoundTo, IsSound, FirstBreach, AllHold, conditions_on, on_alias, on_alternative, on_alternatives, on_body}
 use Rattle.st_type_table.specs.inner.Checking.{CheckedAt}
 use Rattle.st_type_table.proofs.GraphLemmas.{same_place}
 use Rattle.st_type_table.proofs.PlaceLemmas.{placed, node_at, name-of, LeadsAt-Leads}
 use Rattle.st_type_table.proofs.PartLemmas.{place-here, item-at}
-use Rattle.st_type_table.proofs.CheckLemmas.{is-declared}
+use Rattle.st_type_table.proofs.CheckLemmas.{is-declared, front_hold, back_hold}
 use Rattle.st_type_table.proofs.Ranks.{Between, leads_via, reach, reach-falls}
 
 pub sound-next : (defs : List SyntaxDef) (at : ℕ) → SoundTo defs at → CheckedAt defs at None → SoundTo defs (at + 1)
@@ -35,14 +35,6 @@ breach-is defs at b s other e h =
     subst (λ n. FirstBreach defs n other) x (subst (FirstBreach defs at) y h)
 
 -- ---- nothing leads back to itself
-
-pub front_hold : (defs : List SyntaxDef) (ps qs : List Placed) → AllHold defs (ps ++ qs) → AllHold defs ps
-front_hold defs [] qs h = tt
-front_hold defs (p ∷ ps) qs h = (h.0, front_hold defs ps qs h.1)
-
-pub back_hold : (defs : List SyntaxDef) (ps qs : List Placed) → AllHold defs (ps ++ qs) → AllHold defs qs
-back_hold defs [] qs h = h
-back_hold defs (p ∷ ps) qs h = back_hold defs ps qs h.1
 
 alias_returns : (defs : List SyntaxDef) (target : List ℕ) (number : ℕ) (names : List (List ℕ)) → AllHold defs (on_alias target number names) → (name : List ℕ) → Among names name → Leads defs name target → ⊥
 alias_returns defs target number [] h name a l = absurd a

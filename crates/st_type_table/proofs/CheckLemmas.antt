@@ -49,6 +49,14 @@ pub Finds-back : (defs : List SyntaxDef) (ps qs : List Placed) (found : Option B
 Finds-back defs ps qs None h g = AllHold-append defs ps qs h g
 Finds-back defs ps qs (Some x) h g = FirstFalse-back defs ps qs x h g
 
+pub front_hold : (defs : List SyntaxDef) (ps qs : List Placed) → AllHold defs (ps ++ qs) → AllHold defs ps
+front_hold defs [] qs h = tt
+front_hold defs (p ∷ ps) qs h = (h.0, front_hold defs ps qs h.1)
+
+pub back_hold : (defs : List SyntaxDef) (ps qs : List Placed) → AllHold defs (ps ++ qs) → AllHold defs qs
+back_hold defs [] qs h = h
+back_hold defs (p ∷ ps) qs h = back_hold defs ps qs h.1
+
 -- a name with a place is declared
 pub is-declared : (defs : List SyntaxDef) (name : List ℕ) (p : ℕ) → place_of defs name ≡ Some p → body_of defs name ≡ None → ⊥
 is-declared defs name p e b =

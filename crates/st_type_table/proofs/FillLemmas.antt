@@ -27,7 +27,8 @@ use Rattle.st_type_table.specs.Joins.{AllJoin}
 use Rattle.st_type_table.specs.inner.JoinGraph.{join_graph}
 use Rattle.st_type_table.proofs.JoinLemmas.{ranked-joins}
 use Rattle.st_type_table.proofs.PlaceLemmas.{node_at, place-among}
-use Rattle.st_type_table.proofs.BuildLemmas.{front_hold, back_hold, all-ranked}
+use Rattle.st_type_table.proofs.BuildLemmas.{all-ranked}
+use Rattle.st_type_table.proofs.CheckLemmas.{front_hold, back_hold}
 
 pub kept-next : (defs : List SyntaxDef) (ranks : List ℕ) (flats : List Flat) (joins : List ℕ) (at : ℕ) (d : SyntaxDef) (r : ℕ) (f : Flat) (j : ℕ) → slice_get defs at ≡ Some d → slice_get ranks at ≡ Some r
     → slice_get flats at ≡ Some f → slice_get joins at ≡ Some j

@@ -32,7 +32,7 @@ Flatten-append defs [] bs xs ys (Flatten.none p) g = subst (λ z. Flatten defs b
 Flatten-append defs (a ∷ as') bs xs ys (Flatten.more f r b s p) g =
     Flatten.more f (r ++ ys) b (Flatten-append defs as' bs r ys s g) (ap (λ z. z ++ ys) p ∙ append_assoc f r ys)
 
-append_nil : {A : Type 0} (xs : List A) → xs ++ [] ≡ xs
+pub append_nil : {A : Type 0} (xs : List A) → xs ++ [] ≡ xs
 append_nil [] = refl
 append_nil (x ∷ xs) = ap (λ ys. x ∷ ys) (append_nil xs)
 
@@ -138,25 +138,11 @@ module _ (defs : List SyntaxDef) where
   pub Ends-known : (x : List ℕ) → Ends defs x → Known defs (ty.Name x)
   Ends-known x (Ends.ends all) = known_body x (body_of defs x) refl (λ y a. Ends-known y (all y a))
 
-  ready_known : (flats : List Flat) (as' : List Alternative) → AllReady defs flats as' → (name : List ℕ) → Among (flat_map included as') name → Known defs (ty.Name name)
+  pub ready_known : (flats : List Flat) (as' : List Alternative) → AllReady defs flats as' → (name : List ℕ) → Among (flat_map included as') name → Known defs (ty.Name name)
   ready_known flats [] ready name a = absurd a
   ready_known flats (alternative.Case tag operands ∷ as') ready name a = ready_known flats as' ready.1 name a
   ready_known flats (alternative.Incl y ∷ as') ready name (inl e) = subst (λ z. Known defs (ty.Name z)) (sym e) (Ends-known y (ready.0 y refl).0)
   ready_known flats (alternative.Incl y ∷ as') ready name (inr a) = ready_known flats as' ready.1 name a
-
-  -- the cases so far with those of the next, and some of the rest, break the keys of all
-  pub broken : (flats : List Flat) (as' : List Alternative) (i : ℕ) (a : Alternative) (xs more : List CaseDef) → i < length as' → a ≡ get_or as' i a
-      → Flatten defs (take i as') xs → AllReady defs flats (drop i as') → Brings defs a more → (KeysDiffer (xs ++ more) → ⊥) → IsBroken defs as'
-  broken flats as' i a xs more h e f ready b clash =
-      let d = drop-step as' i a h e in
-      let rest = Flatten-known (drop (i + 1) as') (ready_known flats (drop (i + 1) as') (subst (AllReady defs flats) d ready).1) in
-      let tail : Flatten defs (drop i as') (more ++ rest.0) = subst (λ z. Flatten defs z (more ++ rest.0)) (sym d) (Flatten.more more rest.0 b rest.1 refl) in (
-        xs ++ (more ++ rest.0),
-        (
-          subst (λ z. Flatten defs z (xs ++ (more ++ rest.0))) (take-split as' i) (Flatten-append defs (take i as') (drop i as') xs (more ++ rest.0) f tail),
-          λ k. clash (KeysDiffer-front (xs ++ more) rest.0 (subst KeysDiffer (sym (append_assoc xs more rest.0)) k)),
-        ),
-      )
 
   -- the cases so far with those of the next
   pub grown : (as' : List Alternative) (i : ℕ) (a : Alternative) (xs more ys : List CaseDef) → i < length as' → a ≡ get_or as' i a
@@ -203,8 +189,8 @@ module _ (defs : List SyntaxDef) where
           lost : (d : SyntaxDef) → slice_get defs place ≡ Some d → ⊥
           lost d g =
               let h = within defs place d g in
-              let s : slice_get flats place ≡ Some (get_or flats place (record { cases = []; whole = true })) = slice_get-get_or flats place (record { cases = []; whole = true }) (omega (arith, h, size)) in
-              let c : None ≡ Some (get_or flats place (record { cases = []; whole = true })) = e ∙ s in cc
+              let s : slice_get flats place ≡ Some (get_or flats place (record { cases = []; whole = true; reach = 0 })) = slice_get-get_or flats place (record { cases = []; whole = true; reach = 0 }) (omega (arith, h, size)) in
+              let c : None ≡ Some (get_or flats place (record { cases = []; whole = true; reach = 0 })) = e ∙ s in cc
 
   -- a name without a place, or a type that is no name, has no alternatives
   pub flat-unplaced : (t u : Ty) (name : List ℕ) → Means defs t u → u ≡ ty.Name name → place_of defs name ≡ None → IsFlatOf defs t None

@@ -10,6 +10,7 @@ pub mod KeyLemmas
 pub mod FlatLemmas
 pub mod RankLemmas
 pub mod CheckLemmas
+pub mod ReachLemmas
 pub mod PartLemmas
 pub mod Ranks
 pub mod BuildLemmas

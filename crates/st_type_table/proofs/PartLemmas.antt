@@ -1,32 +1,28 @@
 -- What is found at one part of a definition.
-use Rattle.std.proofs.Common.{◌≡◌, refl, sym, ap, ◌∙◌, subst, ℕ, zero, suc, ◌+◌, ◌<◌, List, [], ◌∷◌, ◌++◌, map, length, take, drop, get_or, drop-cons, add-one, Bool, true, false, Option, Some, None, nat_eq, if◌then◌else◌, arith, inl, inr}
+use Rattle.std.proofs.Common.{◌≡◌, ◌↔◌, refl, sym, ap, ◌∙◌, subst, ℕ, zero, suc, ◌+◌, ◌<◌, List, [], ◌∷◌, ◌++◌, map, length, take, drop, get_or, drop-cons, add-one, Bool, true, false, Option, Some, None, nat_eq, if◌then◌else◌, arith, inl, inr, ◌⊎◌}
 use Rattle.std.specs.Prelude.{slice_get}
 use Rattle.std.specs.List.{flat_map}
-use Rattle.std.proofs.lemmas.List.{length-map}
-use Rattle.st_num.specs.declared.rule.RuleId.TheVariants.{B1, Y7}
-use Rattle.st_il.specs.declared.ty.Ty.{Ty}
-use Rattle.st_il.specs.declared.ty.Ty.TheVariants as ty
-use Rattle.st_il.specs.declared.definition.SyntaxDef.{SyntaxDef}
-use Rattle.st_il.specs.declared.definition.Alternative.{Alternative}
-use Rattle.st_il.specs.declared.definition.Alternative.TheVariants as alternative
-use Rattle.st_type_table.specs.declared.entry.CaseDef.{CaseDef}
-use Rattle.st_type_table.specs.declared.fault.Broken.{Broken}
-use Rattle.st_type_table.specs.declared.flat.Flat.{Flat}
-use Rattle.st_type_table.specs.Cases.{Flatten}
-use Rattle.st_type_table.specs.Leads.{Among, Ends, included, joined, names_in, leads_to}
-use Rattle.st_type_table.specs.Keys.{KeysDiffer}
-use Rattle.st_type_table.specs.inner.Flat.{AddsAlternative, AreFlats}
-use Rattle.st_type_table.specs.inner.Graph.{AreRanks, graph_of, node_of, place_of, places_of, EndsIn, LeadsBack}
-use Rattle.st_type_table.specs.Breach.{Holds, keys, IsVariant, placed, broken, Finds, all_declared, on_included, on_alternative, on_alternatives, on_field, on_fields, on_body, conditions_on, new_name}
-use Rattle.st_type_table.specs.inner.Checking.{Returns, IsSoFar, IsReadyAt, KeysTo, ChecksAt, CheckedAt}
-use Rattle.st_type_table.proofs.CasesLemmas.{Flatten-single}
-use Rattle.st_type_table.proofs.PlaceLemmas.{Ends-EndsAt, unplaced, node_at, place-among, LeadsAt-Leads, Leads-LeadsAt}
-use Rattle.std.proofs.lemmas.Slice.Eq.{bytes_eq-Decides}
 use Rattle.std.specs.Option.{option_map}
 use Rattle.std.specs.Cmp.Lexicographic.{pointwise}
-use Rattle.st_type_table.proofs.FlatLemmas.{Flatten-append, Flatten-one, take-suc}
-use Rattle.st_type_table.proofs.RankLemmas.{means-lower, name-same}
+use Rattle.std.proofs.Math.Seq.{take-length}
+use Rattle.std.proofs.lemmas.Slice.Eq.{bytes_eq-Decides}
+use Rattle.st_num.specs.declared.rule.RuleId.TheVariants.{B1, Y7}
+use Rattle.st_il.specs.declared.ty.Ty.{Ty}
+use Rattle.st_il.specs.declared.definition.SyntaxDef.{SyntaxDef}
+use Rattle.st_il.specs.declared.definition.SyntaxBody.{SyntaxBody}
+use Rattle.st_il.specs.declared.definition.SyntaxBody.TheVariants as body
+use Rattle.st_il.specs.declared.definition.Alternative.{Alternative}
+use Rattle.st_il.specs.declared.definition.Alternative.TheVariants as alternative
+use Rattle.st_type_table.specs.declared.fault.Broken.{Broken}
+use Rattle.st_type_table.specs.Leads.{Among, Ends, included, joined, names_in, leads_to}
+use Rattle.st_type_table.specs.inner.Flat.{IsReached, IsEndless}
+use Rattle.st_type_table.specs.inner.Graph.{graph_of, place_of, places_of, LeadsAt, LeadsBack, mark}
+use Rattle.st_type_table.specs.Breach.{Holds, keys, placed, broken, Finds, FindsAt, AllHold, all_declared, on_alias, on_included, on_alternative, on_alternatives, on_field, on_fields, on_body, on_parts, run, conditions_on, new_name}
+use Rattle.st_type_table.specs.inner.Checking.{Returns, ChecksAt, CheckedAt, part_count}
+use Rattle.st_type_table.proofs.PlaceLemmas.{unplaced, node_at, place-among, LeadsAt-Leads, Leads-LeadsAt}
+use Rattle.st_type_table.proofs.FlatLemmas.{append_nil, take-suc}
 use Rattle.st_type_table.proofs.CheckLemmas.{Finds-hold, Finds-false, Finds-front, Finds-back, is-declared}
+use Rattle.st_type_table.proofs.ReachLemmas.{run-step, reach-keys, reach-clash}
 
 -- an item that is read
 pub read-at : {A : Type 0} (xs : List A) (i : ℕ) (x : A) → i < length xs → x ≡ get_or xs i x → slice_get xs i ≡ Some x
@@ -38,16 +34,6 @@ pub item-at : {A : Type 0} (xs : List A) (i : ℕ) → i < length xs → (x : A)
 item-at [] i h = absurd (omega arith)
 item-at (y ∷ ys) zero h = (y, refl, refl)
 item-at (y ∷ ys) (suc i) h = item-at ys i (omega arith)
-
-pub keys-to : (defs : List SyntaxDef) (parts : List Alternative) (at : ℕ) (a : Alternative) (before after : List CaseDef) (differ : Bool) → IsSoFar defs parts at before
-    → at < length parts → a ≡ get_or parts at a → AddsAlternative defs before after a differ → KeysTo defs parts at after differ
-keys-to defs parts at a before after true s h e adds = record {
-  flattened = subst (Flatten defs (take (suc at) parts)) (sym adds.1.1.0) (subst (λ z. Flatten defs z (before ++ adds.0)) (sym (take-suc parts at a h e))
-      (Flatten-append defs (take at parts) (a ∷ []) before adds.0 s.flattened (Flatten-one defs a adds.0 adds.1.0)));
-  differ = adds.1.1.1;
-}
-keys-to defs parts at a before after false s h e adds = λ holds. adds.1.1 (holds (before ++ adds.0) (subst (λ z. Flatten defs z (before ++ adds.0)) (sym (take-suc parts at a h e))
-    (Flatten-append defs (take at parts) (a ∷ []) before adds.0 s.flattened (Flatten-one defs a adds.0 adds.1.0))))
 
 -- what is known of all is known of an inclusion
 among-front : (xs ys : List (List ℕ)) (x : List ℕ) → Among xs x → Among (xs ++ ys) x
@@ -71,37 +57,22 @@ pub Returns-one : (defs : List SyntaxDef) (target : List ℕ) (marks : List Bool
 Returns-one defs target marks parts at name e r x p (inl q) f = r x p (subst (Among (flat_map included parts)) (sym q) (included-among parts at name e)) f
 Returns-one defs target marks parts at name e r x p (inr q) f = absurd q
 
--- a variant is ready to be included
-pub variant-ready : (defs : List SyntaxDef) (ranks : List ℕ) (flats : List Flat) → AreRanks (graph_of defs) ranks → AreFlats defs ranks (length defs) flats
-    → (parts : List Alternative) (at : ℕ) (name : List ℕ) → slice_get parts at ≡ Some (alternative.Incl name) → IsVariant defs name → IsReadyAt defs flats parts at
-variant-ready defs ranks flats right known parts at name e v a g n q =
-    let s : Some (alternative.Incl name) ≡ Some a = sym e ∙ g in
-    let t : alternative.Incl name ≡ alternative.Incl n = by a s ∙ q in
-    let u : name ≡ n = cc in (
-      subst (Ends defs) u v.ends,
-      λ variant place d f m p k h.
-          let ends : EndsIn defs (ty.Name n) = λ x r. subst (Ends defs) (u ∙ name-same n x r) v.ends in
-          let l = means-lower defs ranks right (ty.Name n) (ty.Name variant) ends m in
-          let b = right.bounded place in
-          let c = length-map defs (node_of defs) in
-          known.right place d f k ((right.exact place).1 (Ends-EndsAt defs variant (l.1 variant refl) place p)) (omega (arith, b, c)) h,
-    )
-  where
-    by : (a : Alternative) → Some (alternative.Incl name) ≡ Some a → alternative.Incl name ≡ a
-    by a s = cc
-
-holds-keys : (defs : List SyntaxDef) (parts : List Alternative) (cases : List CaseDef) → Flatten defs parts cases → KeysDiffer cases → Holds defs (keys parts)
-holds-keys defs parts cases f k = λ others g. subst KeysDiffer (Flatten-single defs parts cases others f g) k
-
-module _ (defs : List SyntaxDef) (target : List ℕ) (parts : List Alternative) (at : ℕ) (a : Alternative) (there : slice_get parts at ≡ Some a) where
+module _ (defs : List SyntaxDef) (target : List ℕ) (parts : List Alternative) (reach at : ℕ) (a : Alternative) (there : slice_get parts at ≡ Some a) (reached : IsReached defs parts reach) where
   one : (b : Alternative) → slice_get parts at ≡ Some b → a ≡ b
   one b g = let s : Some a ≡ Some b = sym there ∙ g in cc
 
-  pub case-keys : (tag : List ℕ) (operands : List Ty) (cases : List CaseDef) (b : Broken) → a ≡ alternative.Case tag operands → broken (placed at (keys (take (suc at) parts))) ≡ b
-      → (Holds defs (keys (take (suc at) parts)) → ⊥) → ChecksAt defs target parts at cases (Some b)
-  case-keys tag operands cases b e is clash = subst (λ x. ChecksAt defs target parts at cases (Some x)) is (
+  -- the keys up to this alternative
+  clash : at ≡ reach → (IsEndless defs a → ⊥) → Holds defs (keys (take (suc at) parts)) → ⊥
+  clash e ends h = reach-clash defs parts reach a reached (ap (slice_get parts) (sym e) ∙ there) ends (subst (λ n. Holds defs (keys (take (suc n) parts))) e h)
+
+  differ : at < reach → Holds defs (keys (take (suc at) parts))
+  differ h = reach-keys defs parts reach (suc at) reached (omega (arith, h))
+
+  pub case-keys : (tag : List ℕ) (operands : List Ty) (b : Broken) → a ≡ alternative.Case tag operands → broken (placed at (keys (take (suc at) parts))) ≡ b → at ≡ reach
+      → ChecksAt defs target parts reach at (Some b)
+  case-keys tag operands b e is h = subst (λ x. ChecksAt defs target parts reach at (Some x)) is (
     λ other g. subst (λ z. Finds defs (on_alternative target at (take (suc at) parts) z) (Some (broken (placed at (keys (take (suc at) parts)))))) (sym e ∙ one other g)
-        (Finds-false defs (placed at (keys (take (suc at) parts))) (all_declared at 0 (joined (map names_in operands))) clash),
+        (Finds-false defs (placed at (keys (take (suc at) parts))) (all_declared at 0 (joined (map names_in operands))) (clash h (λ (name, q, never). let z : alternative.Case tag operands ≡ alternative.Incl name = sym e ∙ q in cc))),
     tt,
   )
 
@@ -109,40 +80,44 @@ module _ (defs : List SyntaxDef) (target : List ℕ) (parts : List Alternative) 
       → Finds defs (on_alternative target at (take (suc at) parts) (alternative.Case tag operands)) found
   finds-of tag operands found k f = Finds-hold defs (placed at (keys (take (suc at) parts))) (all_declared at 0 (joined (map names_in operands))) found k f
 
-  pub case-types : (tag : List ℕ) (operands : List Ty) (cases : List CaseDef) (found : Option Broken) → a ≡ alternative.Case tag operands → IsSoFar defs parts (suc at) cases
-      → Finds defs (all_declared at 0 (joined (map names_in operands))) found → ChecksAt defs target parts at cases found
-  case-types tag operands cases None e s f = (
-    λ b g. subst (λ z. Finds defs (on_alternative target at (take (suc at) parts) z) None) (sym e ∙ one b g)
-        (finds-of tag operands None (holds-keys defs (take (suc at) parts) cases s.flattened s.differ) f),
-    s,
+  pub case-types : (tag : List ℕ) (operands : List Ty) (found : Option Broken) → a ≡ alternative.Case tag operands → at < reach
+      → Finds defs (all_declared at 0 (joined (map names_in operands))) found → ChecksAt defs target parts reach at found
+  case-types tag operands None e h f = (
+    λ b g. subst (λ z. Finds defs (on_alternative target at (take (suc at) parts) z) None) (sym e ∙ one b g) (finds-of tag operands None (differ h) f),
+    h,
   )
-  case-types tag operands cases (Some x) e s f = (
-    λ b g. subst (λ z. Finds defs (on_alternative target at (take (suc at) parts) z) (Some x)) (sym e ∙ one b g)
-        (finds-of tag operands (Some x) (holds-keys defs (take (suc at) parts) cases s.flattened s.differ) f),
+  case-types tag operands (Some x) e h f = (
+    λ b g. subst (λ z. Finds defs (on_alternative target at (take (suc at) parts) z) (Some x)) (sym e ∙ one b g) (finds-of tag operands (Some x) (differ h) f),
     tt,
   )
 
-  pub incl-found : (name : List ℕ) (cases : List CaseDef) (x : Broken) → a ≡ alternative.Incl name → Finds defs (on_included target at name) (Some x) → ChecksAt defs target parts at cases (Some x)
-  incl-found name cases x e f = (
+  pub incl-found : (name : List ℕ) (x : Broken) → a ≡ alternative.Incl name → Finds defs (on_included target at name) (Some x) → ChecksAt defs target parts reach at (Some x)
+  incl-found name x e f = (
     λ b g. subst (λ z. Finds defs (on_alternative target at (take (suc at) parts) z) (Some x)) (sym e ∙ one b g)
         (Finds-front defs (on_included target at name) ((placed at (keys (take (suc at) parts))) ∷ []) x f),
     tt,
   )
 
-  pub incl-keys : (name : List ℕ) (cases : List CaseDef) (b : Broken) → a ≡ alternative.Incl name → broken (placed at (keys (take (suc at) parts))) ≡ b → Finds defs (on_included target at name) None
-      → (Holds defs (keys (take (suc at) parts)) → ⊥) → ChecksAt defs target parts at cases (Some b)
-  incl-keys name cases b e is f clash = subst (λ x. ChecksAt defs target parts at cases (Some x)) is (
+  ends-there : (name : List ℕ) → a ≡ alternative.Incl name → Finds defs (on_included target at name) None → IsEndless defs a → ⊥
+  ends-there name e f (other, q, never) =
+      let z : alternative.Incl name ≡ alternative.Incl other = sym e ∙ q in
+      let y : name ≡ other = cc in
+      never (subst (Ends defs) y (f.1.1.0).ends)
+
+  pub incl-keys : (name : List ℕ) (b : Broken) → a ≡ alternative.Incl name → broken (placed at (keys (take (suc at) parts))) ≡ b → Finds defs (on_included target at name) None → at ≡ reach
+      → ChecksAt defs target parts reach at (Some b)
+  incl-keys name b e is f h = subst (λ x. ChecksAt defs target parts reach at (Some x)) is (
     λ other g. subst (λ z. Finds defs (on_alternative target at (take (suc at) parts) z) (Some (broken (placed at (keys (take (suc at) parts)))))) (sym e ∙ one other g)
         (Finds-back defs (on_included target at name) (placed at (keys (take (suc at) parts)) ∷ []) (Some (broken (placed at (keys (take (suc at) parts))))) f
-        (Finds-false defs (placed at (keys (take (suc at) parts))) [] clash)),
+        (Finds-false defs (placed at (keys (take (suc at) parts))) [] (clash h (ends-there name e f)))),
     tt,
   )
 
-  pub incl-whole : (name : List ℕ) (cases : List CaseDef) → a ≡ alternative.Incl name → Finds defs (on_included target at name) None → IsSoFar defs parts (suc at) cases → ChecksAt defs target parts at cases None
-  incl-whole name cases e f s = (
+  pub incl-whole : (name : List ℕ) → a ≡ alternative.Incl name → Finds defs (on_included target at name) None → at < reach → ChecksAt defs target parts reach at None
+  incl-whole name e f h = (
     λ b g. subst (λ z. Finds defs (on_alternative target at (take (suc at) parts) z) None) (sym e ∙ one b g)
-        (Finds-back defs (on_included target at name) ((placed at (keys (take (suc at) parts))) ∷ []) None f (holds-keys defs (take (suc at) parts) cases s.flattened s.differ, tt)),
-    s,
+        (Finds-back defs (on_included target at name) ((placed at (keys (take (suc at) parts))) ∷ []) None f (differ h, tt)),
+    h,
   )
 
 -- ---- part by part
@@ -150,32 +125,32 @@ module _ (defs : List SyntaxDef) (target : List ℕ) (parts : List Alternative) 
 pub suc-drop : {A : Type 0} (xs : List A) (i : ℕ) (x : A) → i < length xs → x ≡ get_or xs i x → drop i xs ≡ x ∷ drop (suc i) xs
 suc-drop xs i x h e = drop-cons xs i x h ∙ ap (λ z. z ∷ drop (suc i) xs) (sym e)
 
-module _ (defs : List SyntaxDef) (target : List ℕ) (parts : List Alternative) (at : ℕ) (a : Alternative) (h : at < length parts) (e : a ≡ get_or parts at a) where
+module _ (defs : List SyntaxDef) (target : List ℕ) (parts : List Alternative) (at to : ℕ) (a : Alternative) (before_to : at < to) (h : at < length parts) (e : a ≡ get_or parts at a) where
   pub alternatives-found : (x : Broken) → Finds defs (on_alternative target at (take (suc at) parts) a) (Some x)
-      → Finds defs (on_alternatives target at (take at parts) (drop at parts)) (Some x)
-  alternatives-found x f = subst (λ z. Finds defs (on_alternatives target at (take at parts) z) (Some x)) (sym (suc-drop parts at a h e))
-      (Finds-front defs (on_alternative target at (take at parts ++ a ∷ []) a) (on_alternatives target (suc at) (take at parts ++ a ∷ []) (drop (suc at) parts)) x
+      → Finds defs (on_alternatives target at (take at parts) (run at to parts)) (Some x)
+  alternatives-found x f = subst (λ z. Finds defs (on_alternatives target at (take at parts) z) (Some x)) (sym (run-step parts at to a before_to h e))
+      (Finds-front defs (on_alternative target at (take at parts ++ a ∷ []) a) (on_alternatives target (suc at) (take at parts ++ a ∷ []) (run (suc at) to parts)) x
       (subst (λ z. Finds defs (on_alternative target at z a) (Some x)) (take-suc parts at a h e) f))
 
   pub alternatives-step : (found : Option Broken) → Finds defs (on_alternative target at (take (suc at) parts) a) None
-      → Finds defs (on_alternatives target (at + 1) (take (at + 1) parts) (drop (at + 1) parts)) found → Finds defs (on_alternatives target at (take at parts) (drop at parts)) found
-  alternatives-step found f g = subst (λ z. Finds defs (on_alternatives target at (take at parts) z) found) (sym (suc-drop parts at a h e))
-      (Finds-back defs (on_alternative target at (take at parts ++ a ∷ []) a) (on_alternatives target (suc at) (take at parts ++ a ∷ []) (drop (suc at) parts)) found
+      → Finds defs (on_alternatives target (at + 1) (take (at + 1) parts) (run (at + 1) to parts)) found → Finds defs (on_alternatives target at (take at parts) (run at to parts)) found
+  alternatives-step found f g = subst (λ z. Finds defs (on_alternatives target at (take at parts) z) found) (sym (run-step parts at to a before_to h e))
+      (Finds-back defs (on_alternative target at (take at parts ++ a ∷ []) a) (on_alternatives target (suc at) (take at parts ++ a ∷ []) (run (suc at) to parts)) found
       (subst (λ z. Finds defs (on_alternative target at z a) None) (take-suc parts at a h e) f)
-      (subst (λ z. Finds defs (on_alternatives target (suc at) z (drop (suc at) parts)) found) (take-suc parts at a h e)
-      (subst (λ n. Finds defs (on_alternatives target n (take n parts) (drop n parts)) found) (add-one at) g)))
+      (subst (λ z. Finds defs (on_alternatives target (suc at) z (run (suc at) to parts)) found) (take-suc parts at a h e)
+      (subst (λ n. Finds defs (on_alternatives target n (take n parts) (run n to parts)) found) (add-one at) g)))
 
-module _ (defs : List SyntaxDef) (fields : List (List ℕ × Ty)) (at : ℕ) (f : List ℕ × Ty) (h : at < length fields) (e : f ≡ get_or fields at f) where
-  pub fields-found : (x : Broken) → Finds defs (on_field at (take at fields) f) (Some x) → Finds defs (on_fields at (take at fields) (drop at fields)) (Some x)
-  fields-found x g = subst (λ z. Finds defs (on_fields at (take at fields) z) (Some x)) (sym (suc-drop fields at f h e))
-      (Finds-front defs (on_field at (take at fields) f) (on_fields (suc at) (take at fields ++ f ∷ []) (drop (suc at) fields)) x g)
+module _ (defs : List SyntaxDef) (fields : List (List ℕ × Ty)) (at to : ℕ) (f : List ℕ × Ty) (before_to : at < to) (h : at < length fields) (e : f ≡ get_or fields at f) where
+  pub fields-found : (x : Broken) → Finds defs (on_field at (take at fields) f) (Some x) → Finds defs (on_fields at (take at fields) (run at to fields)) (Some x)
+  fields-found x g = subst (λ z. Finds defs (on_fields at (take at fields) z) (Some x)) (sym (run-step fields at to f before_to h e))
+      (Finds-front defs (on_field at (take at fields) f) (on_fields (suc at) (take at fields ++ f ∷ []) (run (suc at) to fields)) x g)
 
   pub fields-step : (found : Option Broken) → Finds defs (on_field at (take at fields) f) None
-      → Finds defs (on_fields (at + 1) (take (at + 1) fields) (drop (at + 1) fields)) found → Finds defs (on_fields at (take at fields) (drop at fields)) found
-  fields-step found g k = subst (λ z. Finds defs (on_fields at (take at fields) z) found) (sym (suc-drop fields at f h e))
-      (Finds-back defs (on_field at (take at fields) f) (on_fields (suc at) (take at fields ++ f ∷ []) (drop (suc at) fields)) found g
-      (subst (λ z. Finds defs (on_fields (suc at) z (drop (suc at) fields)) found) (take-suc fields at f h e)
-      (subst (λ n. Finds defs (on_fields n (take n fields) (drop n fields)) found) (add-one at) k)))
+      → Finds defs (on_fields (at + 1) (take (at + 1) fields) (run (at + 1) to fields)) found → Finds defs (on_fields at (take at fields) (run at to fields)) found
+  fields-step found g k = subst (λ z. Finds defs (on_fields at (take at fields) z) found) (sym (run-step fields at to f before_to h e))
+      (Finds-back defs (on_field at (take at fields) f) (on_fields (suc at) (take at fields ++ f ∷ []) (run (suc at) to fields)) found g
+      (subst (λ z. Finds defs (on_fields (suc at) z (run (suc at) to fields)) found) (take-suc fields at f h e)
+      (subst (λ n. Finds defs (on_fields n (take n fields) (run n to fields)) found) (add-one at) k)))
 
 -- a breach of keys, by its numbers
 pub keys-broken : (part at : ℕ) (so_far : List Alternative) (b : Broken) → b ≡ record { part = part; name = 0; rule = Y7 } → part ≡ at → broken (placed at (keys so_far)) ≡ b
@@ -198,16 +173,78 @@ place-here (x ∷ xs) (suc at) d e h = by (pointwise nat_eq d.name x.name) (plac
     by false (Some q) g h next = cc
 
 -- marks at places are marks of names
-pub Returns-back : (defs : List SyntaxDef) (marks : List Bool) (at : ℕ) (d : SyntaxDef) → slice_get defs at ≡ Some d → place_of (take at defs) d.name ≡ None
+pub Returns-back : (defs : List SyntaxDef) (marks : List Bool) (at : ℕ) (d : SyntaxDef) → slice_get defs at ≡ Some d → place_of defs d.name ≡ Some at
     → LeadsBack (graph_of defs) marks at → Returns defs d.name marks (leads_to d.body)
-Returns-back defs marks at d e h back name place a p =
-    let here = place-here defs at d e h in
+Returns-back defs marks at d e here back name place a p =
     let b = back place (places_of defs (leads_to d.body)) (node_at defs defs at d e) (place-among defs (leads_to d.body) name place a p) in
     (λ m. LeadsAt-Leads defs place at (b.0 m) name d.name p here, λ l. b.1 (Leads-LeadsAt defs name d.name l place at p here))
 
 pub check-whole : (defs : List SyntaxDef) (at : ℕ) (d : SyntaxDef) (found : Option Broken) → place_of (take at defs) d.name ≡ None → Finds defs (on_body d.name d.body) found
     → Finds defs (conditions_on (take at defs) d) found
 check-whole defs at d found h f = Finds-hold defs (placed 0 (new_name (take at defs) d.name)) (on_body d.name d.body) found (unplaced (take at defs) d.name h) f
+
+-- the parts of a definition that is found at its place
+pub parts-at : (defs : List SyntaxDef) (at from to : ℕ) (d : SyntaxDef) (found : Option Broken) → slice_get defs at ≡ Some d → Finds defs (on_parts d.name d.body from to) found → FindsAt defs at from to found
+parts-at defs at from to d found e f other g =
+    let s : Some d ≡ Some other = sym e ∙ g in
+    let t : d ≡ other = cc in
+    subst (λ z. Finds defs (on_parts z.name z.body from to) found) t f
+
+-- an alias is one part
+take-nil : (A : Type 0) (n : ℕ) → take {A = A} n [] ≡ []
+take-nil A zero = refl
+take-nil A (suc n) = refl
+
+drop-nil : (A : Type 0) (n : ℕ) → drop {A = A} n [] ≡ []
+drop-nil A zero = refl
+drop-nil A (suc n) = refl
+
+pub alias-part : (defs : List SyntaxDef) (name : List ℕ) (t : Ty) (to : ℕ) (found : Option Broken) → 0 < to → Finds defs (on_alias name 0 (names_in t)) found → Finds defs (on_parts name (body.Alias t) 0 to) found
+alias-part defs name t zero found h f = absurd (omega arith)
+alias-part defs name t (suc to) found h f = subst (λ ts. Finds defs (flat_map (λ u. on_alias name 0 (names_in u)) (t ∷ ts)) found) (sym (take-nil Ty to))
+    (subst (λ ps. Finds defs ps found) (sym (append_nil (on_alias name 0 (names_in t)))) f)
+
+pub no-part : (defs : List SyntaxDef) (name : List ℕ) (t : Ty) (from to : ℕ) → (0 < from) ⊎ (to ≡ 0) → Finds defs (on_parts name (body.Alias t) from to) None
+no-part defs name t from to h = subst (λ ts. Finds defs (flat_map (λ u. on_alias name 0 (names_in u)) ts) None) (sym (none from to h)) tt
+  where
+    none : (from to : ℕ) → (0 < from) ⊎ (to ≡ 0) → run from to (t ∷ []) ≡ []
+    none zero to (inl h) = absurd (omega arith)
+    none (suc from) zero (inl h) = refl
+    none (suc from) (suc to) (inl h) = ap (drop from) (take-nil Ty to) ∙ drop-nil Ty from
+    none from to (inr e) = ap (λ n. run from n (t ∷ [])) e ∙ drop-nil Ty from
+
+-- all parts together are the body
+pub on_parts-whole : (name : List ℕ) (b : SyntaxBody) → on_parts name b 0 (part_count b) ≡ on_body name b
+on_parts-whole name (body.Alias t) = append_nil (on_alias name 0 (names_in t))
+on_parts-whole name (body.Variant parts) = ap (on_alternatives name 0 []) (take-length parts)
+on_parts-whole name (body.Fields fields) = ap (on_fields 0 []) (take-length fields)
+
+pub FindsAt-none : (defs : List SyntaxDef) (at : ℕ) → FindsAt defs at 0 0 None
+FindsAt-none defs at d e = by d.body
+  where
+    by : (b : SyntaxBody) → AllHold defs (on_parts d.name b 0 0)
+    by (body.Alias t) = tt
+    by (body.Variant parts) = tt
+    by (body.Fields fields) = tt
+
+-- marks at places are marks of names, where another definition has the name
+pub Returns-other : (defs : List SyntaxDef) (marks : List Bool) (at first : ℕ) (d : SyntaxDef) → slice_get defs at ≡ Some d → place_of defs d.name ≡ Some first
+    → ((i : ℕ) → (mark marks i ≡ true) ↔ LeadsAt (graph_of defs) i first) → Returns defs d.name marks (leads_to d.body)
+Returns-other defs marks at first d e there back name place a p =
+    (λ m. LeadsAt-Leads defs place first ((back place).0 m) name d.name p there, λ l. (back place).1 (Leads-LeadsAt defs name d.name l place first p there))
+
+pub place-some : (defs : List SyntaxDef) (at : ℕ) (d : SyntaxDef) → slice_get defs at ≡ Some d → place_of defs d.name ≡ None → ⊥
+place-some [] at d e n = cc
+place-some (x ∷ xs) zero d e n =
+    let s : x ≡ d = cc in
+    let h : place_of (x ∷ xs) d.name ≡ Some 0 = ap (λ b. if b then Some 0 else option_map suc (place_of xs d.name)) ((bytes_eq-Decides d.name x.name).1 (ap (λ z. z.name) (sym s))) in
+    let c : None ≡ Some 0 = sym n ∙ h in cc
+place-some (x ∷ xs) (suc at) d e n = by (pointwise nat_eq d.name x.name) (place_of xs d.name) n (place-some xs at d e)
+  where
+    by : (b : Bool) (o : Option ℕ) → (if b then Some 0 else option_map suc o) ≡ None → (o ≡ None → ⊥) → ⊥
+    by true o n next = cc
+    by false None n next = next refl
+    by false (Some q) n next = cc
 
 pub check-twice : (defs : List SyntaxDef) (at : ℕ) (d : SyntaxDef) (p : ℕ) (b : Broken) → place_of (take at defs) d.name ≡ Some p → b ≡ record { part = 0; name = 0; rule = B1 }
     → Finds defs (conditions_on (take at defs) d) (Some b)

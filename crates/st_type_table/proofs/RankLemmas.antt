@@ -1,6 +1,7 @@
 -- Cases that are found rank by rank.
-use Rattle.std.proofs.Common.{◌≡◌, ◌≢◌, refl, sym, ap, ◌∙◌, subst, ℕ, zero, suc, ◌+◌, ◌<◌, ◌≤◌, List, [], ◌∷◌, set, Option, Some, None, arith, inl, inr, ◌⊎◌}
-use Rattle.std.proofs.lemmas.List.{length-set}
+use Rattle.std.proofs.Common.{◌≡◌, ◌≢◌, refl, sym, ap, ◌∙◌, subst, ℕ, zero, suc, ◌+◌, ◌<◌, ◌≤◌, List, [], ◌∷◌, length, set, Option, Some, None, arith, inl, inr, ◌⊎◌}
+use Rattle.std.proofs.lemmas.List.{length-set, length-map}
+use Rattle.std.proofs.lemmas.Option.{slice_get_within}
 use Rattle.std.specs.Prelude.{slice_get, slice_index}
 use Rattle.std.specs.List.{flat_map}
 use Rattle.st_il.specs.declared.ty.Ty.{Ty, out-Ty}
@@ -15,8 +16,8 @@ use Rattle.st_type_table.specs.declared.flat.Flat.{Flat}
 use Rattle.st_type_table.specs.Meaning.{Means, listed}
 use Rattle.st_type_table.specs.Cases.{or_none}
 use Rattle.st_type_table.specs.Leads.{Among, Ends, leads_to, included}
-use Rattle.st_type_table.specs.inner.Graph.{graph_of, AreRanks, EndsIn, place_of, places_of, IsOne, EndsAt}
-use Rattle.st_type_table.specs.inner.Flat.{AreFlats, IsFlat, IsFlatAt, AllReady, alternatives_in}
+use Rattle.st_type_table.specs.inner.Graph.{graph_of, node_of, AreRanks, EndsIn, place_of, places_of, IsOne, EndsAt}
+use Rattle.st_type_table.specs.inner.Flat.{AreFlats, AllReached, IsFlat, IsReached, IsFlatAt, AllReady, alternatives_in}
 use Rattle.st_type_table.proofs.GraphLemmas.{same_place}
 use Rattle.st_type_table.proofs.PlaceLemmas.{place-among, EndsAt-Ends, Ends-EndsAt, node_at, alias-lower, alias-ends, name_rank, rank_at, place_rank, ends_by}
 
@@ -24,7 +25,13 @@ use Rattle.st_type_table.proofs.PlaceLemmas.{place-among, EndsAt-Ends, Ends-Ends
 pub record Filling (defs : List SyntaxDef) (ranks : List ℕ) (rank : ℕ) (flats : List Flat) (i : ℕ) : Type 0 where
   pub lower : AreFlats defs ranks rank flats
   pub next : (place : ℕ) (d : SyntaxDef) (f : Flat) → place < i → slice_get defs place ≡ Some d → slice_index ranks place ≡ suc rank
-      → slice_get flats place ≡ Some f → IsFlat defs (alternatives_in d) f
+      → slice_get flats place ≡ Some f → IsFlat defs (alternatives_in d) f × IsReached defs (alternatives_in d) f.reach
+
+-- the flats of all ranks, and those of no rank up to this place
+pub record Resting (defs : List SyntaxDef) (ranks : List ℕ) (flats : List Flat) (i : ℕ) : Type 0 where
+  pub known : AreFlats defs ranks (length defs) flats
+  pub rest : (place : ℕ) (d : SyntaxDef) (f : Flat) → place < i → slice_get defs place ≡ Some d → slice_index ranks place ≡ 0
+      → slice_get flats place ≡ Some f → IsReached defs (alternatives_in d) f.reach
 
 pub set-other : {A : Type 0} (xs : List A) (i j : ℕ) (x : A) → j ≢ i → slice_get (set xs i x) j ≡ slice_get xs j
 set-other [] i j x d = refl
@@ -104,11 +111,24 @@ module _ (defs : List SyntaxDef) (ranks : List ℕ) (right : AreRanks (graph_of 
 
 -- ---- a place of the rank in turn
 
+-- the definition and what is kept at a place that was set
+module _ {A B : Type 0} (defs : List A) (flats : List B) (i : ℕ) (d : A) (flat : B) (there : slice_get defs i ≡ Some d) where
+  pub set-here : (p : ℕ) (v : A) (w : B) → p ≡ i → slice_get defs p ≡ Some v → slice_get (set flats i flat) p ≡ Some w → (d ≡ v) × (flat ≡ w)
+  set-here p v w q a e =
+      let s : flat ≡ w = set-same flats i flat w (ap (slice_get (set flats i flat)) (sym q) ∙ e) in
+      let t : Some d ≡ Some v = sym there ∙ ap (slice_get defs) (sym q) ∙ a in
+      let u : d ≡ v = cc in
+      (u, s)
+
 module _ (defs : List SyntaxDef) (ranks : List ℕ) (rank : ℕ) where
   pub fill-then : (flats after : List Flat) (i : ℕ) (d : SyntaxDef) (flat : Flat) → Filling defs ranks rank flats i → slice_get defs i ≡ Some d → slice_index ranks i ≡ suc rank
-      → IsFlat defs (alternatives_in d) flat → after ≡ set flats i flat → Filling defs ranks rank after (i + 1)
-  fill-then flats after i d flat f g r is q = subst (λ z. Filling defs ranks rank z (i + 1)) (sym q) (record {
-    lower = record { size = length-set flats i flat ∙ f.lower.size; right = λ p v w a b c e. f.lower.right p v w a b c (sym (set-other flats i p flat (other p c)) ∙ e) };
+      → IsFlat defs (alternatives_in d) flat → IsReached defs (alternatives_in d) flat.reach → after ≡ set flats i flat → Filling defs ranks rank after (i + 1)
+  fill-then flats after i d flat f g r is reached q = subst (λ z. Filling defs ranks rank z (i + 1)) (sym q) (record {
+    lower = record {
+      size = length-set flats i flat ∙ f.lower.size;
+      right = λ p v w a b c e. f.lower.right p v w a b c (sym (set-other flats i p flat (other p c)) ∙ e);
+      reached = λ p v w a b c e. f.lower.reached p v w a b c (sym (set-other flats i p flat (other p c)) ∙ e);
+    };
     next = λ p v w h a b e. by p v w h a b e (same_place p i);
   })
     where
@@ -116,12 +136,11 @@ module _ (defs : List SyntaxDef) (ranks : List ℕ) (rank : ℕ) where
       other p c e = let z : slice_index ranks p ≡ slice_index ranks i = ap (slice_index ranks) e in omega (arith, c, z, r)
 
       by : (p : ℕ) (v : SyntaxDef) (w : Flat) → p < i + 1 → slice_get defs p ≡ Some v → slice_index ranks p ≡ suc rank → slice_get (set flats i flat) p ≡ Some w
-          → (p ≡ i) ⊎ (p ≢ i) → IsFlat defs (alternatives_in v) w
+          → (p ≡ i) ⊎ (p ≢ i) → IsFlat defs (alternatives_in v) w × IsReached defs (alternatives_in v) w.reach
       by p v w h a b e (inl q) =
-          let s : flat ≡ w = set-same flats i flat w (ap (slice_get (set flats i flat)) (sym q) ∙ e) in
-          let t : Some d ≡ Some v = sym g ∙ ap (slice_get defs) (sym q) ∙ a in
-          let u : d ≡ v = cc in
-          subst (IsFlat defs (alternatives_in v)) s (subst (λ z. IsFlat defs (alternatives_in z) flat) u is)
+          let s = set-here defs flats i d flat g p v w q a e in
+          subst (λ z. IsFlat defs (alternatives_in v) z × IsReached defs (alternatives_in v) z.reach) s.1
+          (subst (λ z. IsFlat defs (alternatives_in z) flat × IsReached defs (alternatives_in z) flat.reach) s.0 (is, reached))
       by p v w h a b e (inr n) = f.next p v w (omega (arith, h, n)) a b (sym (set-other flats i p flat n) ∙ e)
 
   pub fill-else : (flats after : List Flat) (i : ℕ) → Filling defs ranks rank flats i → (slice_index ranks i ≡ suc rank → ⊥) → after ≡ flats → Filling defs ranks rank after (i + 1)
@@ -130,6 +149,62 @@ module _ (defs : List SyntaxDef) (ranks : List ℕ) (rank : ℕ) where
     next = λ p v w h a b e. by p v w h a b e (same_place p i);
   })
     where
-      by : (p : ℕ) (v : SyntaxDef) (w : Flat) → p < i + 1 → slice_get defs p ≡ Some v → slice_index ranks p ≡ suc rank → slice_get flats p ≡ Some w → (p ≡ i) ⊎ (p ≢ i) → IsFlat defs (alternatives_in v) w
+      by : (p : ℕ) (v : SyntaxDef) (w : Flat) → p < i + 1 → slice_get defs p ≡ Some v → slice_index ranks p ≡ suc rank → slice_get flats p ≡ Some w → (p ≡ i) ⊎ (p ≢ i)
+          → IsFlat defs (alternatives_in v) w × IsReached defs (alternatives_in v) w.reach
       by p v w h a b e (inl q) = absurd (no_rank (ap (slice_index ranks) (sym q) ∙ b))
       by p v w h a b e (inr n) = f.next p v w (omega (arith, h, n)) a b e
+
+  -- all places of the rank
+  pub filled : (flats : List Flat) (i : ℕ) → Filling defs ranks rank flats i → length defs ≤ i → AreFlats defs ranks (suc rank) flats
+  filled flats i f h = record {
+    size = f.lower.size;
+    right = λ p v w a b c e. by p v w a b c e (same_place (slice_index ranks p) (suc rank)) (λ l. f.lower.right p v w a b l e) (λ x. x.0);
+    reached = λ p v w a b c e. by p v w a b c e (same_place (slice_index ranks p) (suc rank)) (λ l. f.lower.reached p v w a b l e) (λ x. x.1);
+  }
+    where
+      by : {G : Type 0} (p : ℕ) (v : SyntaxDef) (w : Flat) → slice_get defs p ≡ Some v → 0 < slice_index ranks p → slice_index ranks p ≤ suc rank → slice_get flats p ≡ Some w
+          → (slice_index ranks p ≡ suc rank) ⊎ (slice_index ranks p ≢ suc rank) → (slice_index ranks p ≤ rank → G)
+          → (IsFlat defs (alternatives_in v) w × IsReached defs (alternatives_in v) w.reach → G) → G
+      by p v w a b c e (inl q) low here = here (f.next p v w (let l = slice_get_within defs p v a in omega (arith, l, h)) a q e)
+      by p v w a b c e (inr n) low here = low (omega (arith, c, n))
+
+-- ---- places of no rank
+
+module _ (defs : List SyntaxDef) (ranks : List ℕ) where
+  pub rest-then : (flats after : List Flat) (i : ℕ) (d : SyntaxDef) (flat : Flat) → Resting defs ranks flats i → slice_get defs i ≡ Some d → slice_index ranks i ≡ 0
+      → IsReached defs (alternatives_in d) flat.reach → after ≡ set flats i flat → Resting defs ranks after (i + 1)
+  rest-then flats after i d flat f g r reached q = subst (λ z. Resting defs ranks z (i + 1)) (sym q) (record {
+    known = record {
+      size = length-set flats i flat ∙ f.known.size;
+      right = λ p v w a b c e. f.known.right p v w a b c (sym (set-other flats i p flat (other p b)) ∙ e);
+      reached = λ p v w a b c e. f.known.reached p v w a b c (sym (set-other flats i p flat (other p b)) ∙ e);
+    };
+    rest = λ p v w h a b e. by p v w h a b e (same_place p i);
+  })
+    where
+      other : (p : ℕ) → 0 < slice_index ranks p → p ≢ i
+      other p b e = let z : slice_index ranks p ≡ slice_index ranks i = ap (slice_index ranks) e in omega (arith, b, z, r)
+
+      by : (p : ℕ) (v : SyntaxDef) (w : Flat) → p < i + 1 → slice_get defs p ≡ Some v → slice_index ranks p ≡ 0 → slice_get (set flats i flat) p ≡ Some w
+          → (p ≡ i) ⊎ (p ≢ i) → IsReached defs (alternatives_in v) w.reach
+      by p v w h a b e (inl q) =
+          let s = set-here defs flats i d flat g p v w q a e in
+          subst (λ z. IsReached defs (alternatives_in v) z.reach) s.1 (subst (λ z. IsReached defs (alternatives_in z) flat.reach) s.0 reached)
+      by p v w h a b e (inr n) = f.rest p v w (omega (arith, h, n)) a b (sym (set-other flats i p flat n) ∙ e)
+
+  pub rest-else : (flats after : List Flat) (i : ℕ) → Resting defs ranks flats i → (slice_index ranks i ≡ 0 → ⊥) → after ≡ flats → Resting defs ranks after (i + 1)
+  rest-else flats after i f ranked q = subst (λ z. Resting defs ranks z (i + 1)) (sym q) (record {
+    known = f.known;
+    rest = λ p v w h a b e. by p v w h a b e (same_place p i);
+  })
+    where
+      by : (p : ℕ) (v : SyntaxDef) (w : Flat) → p < i + 1 → slice_get defs p ≡ Some v → slice_index ranks p ≡ 0 → slice_get flats p ≡ Some w → (p ≡ i) ⊎ (p ≢ i) → IsReached defs (alternatives_in v) w.reach
+      by p v w h a b e (inl q) = absurd (ranked (ap (slice_index ranks) (sym q) ∙ b))
+      by p v w h a b e (inr n) = f.rest p v w (omega (arith, h, n)) a b e
+
+  pub rested : (flats : List Flat) (i : ℕ) → AreRanks (graph_of defs) ranks → Resting defs ranks flats i → length defs ≤ i → AllReached defs flats
+  rested flats i right f h p v w a e = by (same_place (slice_index ranks p) 0)
+    where
+      by : (slice_index ranks p ≡ 0) ⊎ (slice_index ranks p ≢ 0) → IsReached defs (alternatives_in v) w.reach
+      by (inl q) = f.rest p v w (let l = slice_get_within defs p v a in omega (arith, l, h)) a q e
+      by (inr n) = f.known.reached p v w a (omega (arith, n)) (let b = right.bounded p in let c = length-map defs (node_of defs) in omega (arith, b, c)) e

@@ -1,5 +1,6 @@
 -- The conditions on definitions of syntaxes, in their order, and the first that is false.
-use Rattle.std.specs.Prelude.{◌≡◌, ◌⊎◌, ◌<◌, ◌^◌, ℕ, suc, List, [], ◌∷◌, ◌++◌, map, take, length, Option, Some, None, slice_get, MatchOption}
+use Rattle.std.specs.Prelude.{◌≡◌, ◌⊎◌, ◌<◌, ◌^◌, ℕ, suc, List, [], ◌∷◌, ◌++◌, map, take, drop, length, Option, Some, None, slice_get, MatchOption}
+use Rattle.std.specs.List.{flat_map}
 use Rattle.st_num.specs.declared.rule.RuleId.{RuleId}
 use Rattle.st_num.specs.declared.rule.RuleId.TheVariants.{B1, B2, B4, B5, Y7}
 use Rattle.st_il.specs.declared.ty.Ty.{Ty}
@@ -131,6 +132,20 @@ on_body name (body.Alias t) = on_alias name 0 (names_in t)
 on_body name (body.Variant alternatives) = on_alternatives name 0 [] alternatives
 on_body name (body.Fields fields) = on_fields 0 [] fields
 
+-- the members of a list from this number up to that
+abbrev pub run : {A : Type 0} → ℕ → ℕ → List A → List A
+run from to xs = drop from (take to xs)
+
+-- The conditions on the parts from this number up to that of the body of the syntax of this name.
+-- An alias is one part.
+abbrev pub on_parts : List ℕ → SyntaxBody → ℕ → ℕ → List Placed
+on_parts name (body.Alias t) from to =
+    flat_map (λ u. on_alias name 0 (names_in u)) (run from to (t ∷ []))
+on_parts name (body.Variant alternatives) from to =
+    on_alternatives name from (take from alternatives) (run from to alternatives)
+on_parts name (body.Fields fields) from to =
+    on_fields from (take from fields) (run from to fields)
+
 -- the conditions on a definition behind these
 abbrev pub conditions_on : List SyntaxDef → SyntaxDef → List Placed
 conditions_on before d = placed 0 (new_name before d.name) ∷ on_body d.name d.body
@@ -156,6 +171,12 @@ FirstFalse defs (p ∷ ps) b =
 -- what was found among these conditions: nothing, or the first that is false
 abbrev pub Finds : List SyntaxDef → List Placed → Option Broken → Type 0
 Finds defs ps found = MatchOption found (AllHold defs ps) (FirstFalse defs ps)
+
+-- what was found at the parts from this number up to that of the definition of this number
+abbrev pub FindsAt : List SyntaxDef → ℕ → ℕ → ℕ → Option Broken → Type 0
+FindsAt defs syntax from to found =
+    (d : SyntaxDef) → slice_get defs syntax ≡ Some d
+    → Finds defs (on_parts d.name d.body from to) found
 
 -- all conditions on the first k definitions hold
 abbrev pub SoundTo : List SyntaxDef → ℕ → Type 0

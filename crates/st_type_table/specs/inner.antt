@@ -3,5 +3,6 @@ pub mod Graph
 pub mod Flat
 pub mod Kept
 pub mod JoinGraph
+pub mod Survey
 pub mod Checking
 pub mod SameLevels

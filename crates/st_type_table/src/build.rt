@@ -3,19 +3,18 @@
 ghost use Rattle.std.specs.Prelude.{◌≡◌, ◌↔◌, ◌<◌, ◌^◌, ℕ, IsTrue, length, IfOk, OnOk, Err, nat_eq};
 ghost use Rattle.st_type_table.specs.declared.fault.Broken.{Broken};
 ghost use Rattle.st_type_table.specs.Breach.{IsSound, FirstBreach, AllHaveFewParts, HasFewParts};
-ghost use Rattle.st_type_table.specs.inner.Graph.{AreRanks, graph_of};
-ghost use Rattle.st_type_table.specs.inner.Flat.{AreFlats};
+ghost use Rattle.st_type_table.specs.inner.Survey.{IsSurvey};
 ghost use Rattle.st_type_table.specs.inner.Kept.{IsKept, defs_of, kept_of};
 ghost use Rattle.std.specs.Cmp.Lexicographic.{pointwise};
 ghost use Rattle.indexmap.specs.IndexMap.{insert_entry};
 
-use crate::check::check_def;
 use crate::entry::{CaseDef, Entries, Entry};
 use crate::fault::TypeFault;
-use crate::flat::{Flat, flats_of};
-use crate::graph::{Node, settle};
+use crate::flat::Flat;
+use crate::graph::settle;
 use crate::joining::join_graph;
-use crate::place::leads_graph;
+use crate::parts::check_def;
+use crate::survey::{Survey, survey_of};
 use indexmap::IndexMap;
 use st_il::{Alternative, SyntaxBody, SyntaxDef, Ty, copy_ty, copy_tys};
 use st_num::{Name, NoMemory, Row};
@@ -51,23 +50,15 @@ fn has_few_parts(body: &SyntaxBody) -> bool
 }
 
 /// Whether all conditions hold, or the first that is false.
-fn check_all(
-    alloc: Global,
-    defs: &[SyntaxDef],
-    graph: &[Node],
-    ranks: &[usize],
-    flats: &[Flat],
-) -> Result<(), TypeFault>
-    requires graph { graph.now ≡ graph_of defs.now }
-    requires ranks { AreRanks (graph_of defs.now) ranks.now }
-    requires flats { AreFlats defs.now ranks.now (length defs.now) flats.now }
+fn check_all(alloc: Global, defs: &[SyntaxDef], survey: &Survey) -> Result<(), TypeFault>
+    requires survey { IsSurvey defs.now survey.now }
     requires few { length defs.now < 2 ^ 32 }
     ensures ok { OnOk result (IsSound defs.now) }
     ensures refused { (s : ℕ) (b : Broken) → result ≡ Err (TypeFault.Refused s b)
         → FirstBreach defs.now s b }
 {
     for at in 0..defs.len() {
-        match check_def(alloc, defs, graph, ranks, flats, at)? {
+        match check_def(alloc, defs, survey, at)? {
             Some(broken) => {
                 let syntax = at as u32;
                 return Err(TypeFault::Refused { syntax, broken });
@@ -87,18 +78,27 @@ pub(crate) fn entries_of(alloc: Global, defs: &[SyntaxDef]) -> Result<Entries, T
     ensures refused { (s : ℕ) (b : Broken) → result ≡ Err (TypeFault.Refused s b)
         → FirstBreach defs.now s b }
 {
-    let graph = leads_graph(alloc, defs)?;
-    let ranks = settle(alloc, graph.as_slice())?;
-    let ranks = ranks.as_slice();
-    let flats = flats_of(alloc, defs, ranks)?;
-    let flats = flats.as_slice();
-    match check_all(alloc, defs, graph.as_slice(), ranks, flats) {
+    let survey = survey_of(alloc, defs)?;
+    match check_all(alloc, defs, &survey) {
         Ok(()) => {}
         Err(fault) => return Err(fault),
     }
-    let join_graph = join_graph(alloc, defs)?;
-    let joins = settle(alloc, join_graph.as_slice())?;
-    let entries = fill(alloc, defs, ranks, flats, joins.as_slice())?;
+    let entries = settled_entries(alloc, defs, &survey)?;
+    Ok(entries)
+}
+
+/// What is kept of definitions that break no rule.
+fn settled_entries(alloc: Global, defs: &[SyntaxDef], survey: &Survey) -> Result<Entries, NoMemory>
+    requires survey { IsSurvey defs.now survey.now }
+    requires sound { IsSound defs.now }
+    ensures kept { IfOk result (λ map. IsKept map.entries) }
+    ensures whole { IfOk result (λ map. defs_of map.entries ≡ defs.now) }
+{
+    let graph = join_graph(alloc, defs)?;
+    let joins = settle(alloc, graph.as_slice())?;
+    let joins = joins.as_slice();
+    let ranks = survey.ranks.as_slice();
+    let entries = fill(alloc, defs, ranks, survey.flats.as_slice(), joins)?;
     Ok(entries)
 }
 

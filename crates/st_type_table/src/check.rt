@@ -1,17 +1,16 @@
-//! The conditions on definitions of syntaxes, in their order.
+//! The conditions on parts of definitions, in their order.
 
-ghost use Rattle.std.specs.Prelude.{◌≡◌, ◌↔◌, ◌<◌, ◌^◌, ◌∷◌, [], map, length, IsTrue, IfOk};
-ghost use Rattle.st_type_table.specs.Leads.{joined, names_in, included, leads_to};
+ghost use Rattle.std.specs.Prelude.{◌≡◌, ◌↔◌, ◌<◌, ◌≤◌, ◌∷◌, [], None, map, take, length, IsTrue, IfOk};
 ghost use Rattle.std.specs.List.{flat_map};
-ghost use Rattle.st_type_table.specs.inner.Flat.{AreFlats};
+ghost use Rattle.st_il.specs.declared.definition.SyntaxBody.TheVariants as body;
+ghost use Rattle.st_type_table.specs.Leads.{joined, names_in, included};
+ghost use Rattle.st_type_table.specs.Breach.{Finds, AllHold, IsVariant, all_declared, on_alias, on_included, on_field, on_fields, on_parts, run, field_type};
 ghost use Rattle.st_type_table.specs.inner.Graph.{AreRanks, graph_of};
-ghost use Rattle.st_type_table.specs.Breach.{Finds, IsVariant, all_declared, on_alias, on_included, on_field, on_alternatives, on_fields, on_body, field_type};
-ghost use Rattle.st_type_table.specs.inner.Checking.{Returns, NameBreaks, IsEnding, IsListed, IsReadyAt, IsSoFar, KeysTo, ChecksAt, CheckedAt};
+ghost use Rattle.st_type_table.specs.inner.Flat.{IsReached};
+ghost use Rattle.st_type_table.specs.inner.Checking.{Returns, NameBreaks, IsEnding, IsListed, ChecksAt};
 
-use crate::entry::CaseDef;
 use crate::fault::Broken;
-use crate::flat::{Flat, add_alternative};
-use crate::graph::{Node, is_ranked, leading_back, mark};
+use crate::graph::{is_ranked, mark};
 use crate::place::{place_of, push_all_names, push_names};
 use crate::resolve::{body_of, meaning_in};
 use st_il::{Alternative, SyntaxBody, SyntaxDef, Ty};
@@ -32,7 +31,7 @@ fn numbered(number: usize) -> Result<u32, NoMemory>
 }
 
 /// A condition on the part as a whole, or on its only name, is false.
-fn whole(part: u32, rule: RuleId) -> Broken
+pub(crate) fn whole(part: u32, rule: RuleId) -> Broken
     ensures { result ≡ record { part = part; name = 0; rule = rule } }
 {
     Broken {
@@ -211,50 +210,29 @@ fn check_field(
     Ok(found)
 }
 
-/// Adds the cases of an alternative to those before it, and says whether their keys differ.
-fn keys_differ(
-    alloc: Global,
-    defs: &[SyntaxDef],
-    ranks: &[usize],
-    flats: &[Flat],
-    parts: &[Alternative],
-    at: usize,
-    cases: &mut Row<CaseDef>,
-) -> Result<bool, NoMemory>
-    requires ranks { AreRanks (graph_of defs.now) ranks.now }
-    requires size { length flats.now ≡ length defs.now }
-    requires within { at < length parts.now }
-    requires ready { IsReadyAt defs.now flats.now parts.now at }
-    requires so_far { IsSoFar defs.now parts.now at cases.old }
-    ensures { IfOk result (λ differ. KeysTo defs.now parts.now at cases.new differ) }
-{
-    let differ = add_alternative(alloc, defs, ranks, flats, &parts[at], cases)?;
-    Ok(differ)
-}
-
-/// The conditions on an alternative.
+/// The conditions on an alternative. The alternatives before it have cases with different keys,
+/// and so have as many as are reached.
 fn check_alternative(
     alloc: Global,
     defs: &[SyntaxDef],
     ranks: &[usize],
-    flats: &[Flat],
     target: &Name,
     marks: &[bool],
+    reach: usize,
     parts: &[Alternative],
     at: usize,
-    cases: &mut Row<CaseDef>,
 ) -> Result<Found, NoMemory>
     requires ranks { AreRanks (graph_of defs.now) ranks.now }
-    requires flats { AreFlats defs.now ranks.now (length defs.now) flats.now }
     requires marks { Returns defs.now target.now marks.now (flat_map included parts.now) }
+    requires reach { IsReached defs.now parts.now reach }
     requires within { at < length parts.now }
-    requires so_far { IsSoFar defs.now parts.now at cases.old }
-    ensures { IfOk result (λ found. ChecksAt defs.now target.now parts.now at cases.new found) }
+    requires so_far { at ≤ reach }
+    ensures { IfOk result (λ found. ChecksAt defs.now target.now parts.now reach at found) }
 {
     let part = numbered(at)?;
     match &parts[at] {
         Alternative::Case(_, operands) => {
-            if !keys_differ(alloc, defs, ranks, flats, parts, at, cases)? {
+            if at == reach {
                 return Ok(Some(whole(part, RuleId::Y7)));
             }
             let found = check_types(alloc, defs, part, operands.as_slice())?;
@@ -265,7 +243,7 @@ fn check_alternative(
                 Some(found) => return Ok(Some(found)),
                 None => {}
             }
-            if !keys_differ(alloc, defs, ranks, flats, parts, at, cases)? {
+            if at == reach {
                 return Ok(Some(whole(part, RuleId::Y7)));
             }
             Ok(None)
@@ -273,27 +251,27 @@ fn check_alternative(
     }
 }
 
-/// The conditions on the alternatives of a variant.
-fn check_alternatives(
+/// The conditions on the alternatives of a variant from one number up to another.
+pub(crate) fn check_alternatives(
     alloc: Global,
     defs: &[SyntaxDef],
     ranks: &[usize],
-    flats: &[Flat],
     target: &Name,
     marks: &[bool],
+    reach: usize,
     parts: &[Alternative],
+    from: usize,
+    to: usize,
 ) -> Result<Found, NoMemory>
     requires ranks { AreRanks (graph_of defs.now) ranks.now }
-    requires flats { AreFlats defs.now ranks.now (length defs.now) flats.now }
     requires marks { Returns defs.now target.now marks.now (flat_map included parts.now) }
+    requires reach { IsReached defs.now parts.now reach }
+    requires before { AllHold defs.now (on_parts target.now (body.Variant parts.now) 0 from) }
     ensures { IfOk result
-        (λ found. Finds defs.now (on_alternatives target.now 0 [] parts.now) found) }
+        (λ found. Finds defs.now (on_parts target.now (body.Variant parts.now) from to) found) }
 {
-    let mut cases = Row::new(alloc);
-    for at in 0..parts.len() {
-        match check_alternative(
-            alloc, defs, ranks, flats, target, marks, parts, at, &mut cases,
-        )? {
+    for at in from..to.min(parts.len()) {
+        match check_alternative(alloc, defs, ranks, target, marks, reach, parts, at)? {
             Some(found) => return Ok(Some(found)),
             None => {}
         }
@@ -301,11 +279,19 @@ fn check_alternatives(
     Ok(None)
 }
 
-/// The conditions on the fields of a record.
-fn check_fields(alloc: Global, defs: &[SyntaxDef], fields: &[(Name, Ty)]) -> Result<Found, NoMemory>
-    ensures { IfOk result (λ found. Finds defs.now (on_fields 0 [] fields.now) found) }
+/// The conditions on the fields of a record from one number up to another.
+pub(crate) fn check_fields(
+    alloc: Global,
+    defs: &[SyntaxDef],
+    fields: &[(Name, Ty)],
+    from: usize,
+    to: usize,
+) -> Result<Found, NoMemory>
+    ensures { IfOk result
+        (λ found. Finds defs.now (on_fields from (take from fields.now) (run from to fields.now))
+        found) }
 {
-    for at in 0..fields.len() {
+    for at in from..to.min(fields.len()) {
         let part = numbered(at)?;
         match check_field(alloc, defs, part, &fields[..at], &fields[at])? {
             Some(found) => return Ok(Some(found)),
@@ -315,69 +301,25 @@ fn check_fields(alloc: Global, defs: &[SyntaxDef], fields: &[(Name, Ty)]) -> Res
     Ok(None)
 }
 
-/// The conditions on the body of a definition.
-fn check_body(
+/// The conditions on the names of an alias, where its one part is among those asked.
+pub(crate) fn check_whole_alias(
     alloc: Global,
     defs: &[SyntaxDef],
-    ranks: &[usize],
-    flats: &[Flat],
     name: &Name,
     marks: &[bool],
-    body: &SyntaxBody,
+    ty: &Ty,
+    from: usize,
+    to: usize,
 ) -> Result<Found, NoMemory>
-    requires ranks { AreRanks (graph_of defs.now) ranks.now }
-    requires flats { AreFlats defs.now ranks.now (length defs.now) flats.now }
-    requires marks { Returns defs.now name.now marks.now (leads_to body.now) }
-    ensures { IfOk result (λ found. Finds defs.now (on_body name.now body.now) found) }
+    requires { Returns defs.now name.now marks.now (names_in ty.now) }
+    ensures { IfOk result
+        (λ found. Finds defs.now (on_parts name.now (body.Alias ty.now) from to) found) }
 {
-    match body {
-        SyntaxBody::Alias(ty) => {
-            let mut names = Row::new(alloc);
-            push_names(alloc, ty, &mut names)?;
-            let found = check_alias(defs, name, marks, names.as_slice())?;
-            Ok(found)
-        }
-        SyntaxBody::Variant(parts) => {
-            let parts = parts.as_slice();
-            let found = check_alternatives(alloc, defs, ranks, flats, name, marks, parts)?;
-            Ok(found)
-        }
-        SyntaxBody::Fields(fields) => {
-            let found = check_fields(alloc, defs, fields.as_slice())?;
-            Ok(found)
-        }
+    if from > 0 || to == 0 {
+        return Ok(None);
     }
-}
-
-/// The conditions on a definition.
-pub(crate) fn check_def(
-    alloc: Global,
-    defs: &[SyntaxDef],
-    graph: &[Node],
-    ranks: &[usize],
-    flats: &[Flat],
-    at: usize,
-) -> Result<Found, NoMemory>
-    requires graph { graph.now ≡ graph_of defs.now }
-    requires ranks { AreRanks (graph_of defs.now) ranks.now }
-    requires flats { AreFlats defs.now ranks.now (length defs.now) flats.now }
-    requires within { at < length defs.now }
-    ensures { IfOk result (λ found. CheckedAt defs.now at found) }
-{
-    let def = &defs[at];
-    match place_of(&defs[..at], &def.name) {
-        Some(_) => return Ok(Some(whole(0, RuleId::B1))),
-        None => {}
-    }
-    let marks = leading_back(alloc, graph, ranks, at)?;
-    let found = check_body(
-        alloc,
-        defs,
-        ranks,
-        flats,
-        &def.name,
-        marks.as_slice(),
-        &def.body,
-    )?;
+    let mut names = Row::new(alloc);
+    push_names(alloc, ty, &mut names)?;
+    let found = check_alias(defs, name, marks, names.as_slice())?;
     Ok(found)
 }

@@ -1,14 +1,17 @@
 //! The cases of a list of alternatives, as long as their keys differ.
 
 ghost use Rattle.std.specs.Prelude.{◌≡◌, ◌<◌, ◌↔◌, ◌++◌, ◌∷◌, [], length, slice_get, suc, IsTrue, IfOk, OnOk};
+ghost use Rattle.std.specs.Bool.{MatchBool};
 ghost use Rattle.std.specs.Option.{option_copied};
 ghost use Rattle.st_il.specs.Key.{plain};
 ghost use Rattle.st_type_table.specs.Keys.{SameKey, KeysDiffer};
 ghost use Rattle.st_type_table.specs.Keys.{plain_key};
-ghost use Rattle.st_type_table.specs.inner.Flat.{Clashes, Adds, AddsAlternative, AddsIncluded, IsReady, AllReady, AreFlats, alternatives_in, IsFlat, IsFlatAt, IsFlatOf};
+ghost use Rattle.st_type_table.specs.Leads.{Ends};
+ghost use Rattle.st_type_table.specs.inner.Flat.{Clashes, Adds, AddsAlternative, AddsIncluded, IsReady, AreFlats, AllReached, alternatives_in, IsFlatAt, IsFlatOf, IsEndingPart, IsEndless, IsKnownPart, AllKnownParts, TriesAlternative, IsFlattened};
 ghost use Rattle.st_type_table.specs.inner.Graph.{AreRanks, graph_of, EndsIn};
 
 use crate::entry::CaseDef;
+use crate::graph::is_ranked;
 use crate::place::place_of;
 use crate::resolve::meaning_in;
 use st_il::{
@@ -75,6 +78,8 @@ fn add_case(
 pub(crate) struct Flat {
     pub(crate) cases: Row<CaseDef>,
     pub(crate) whole: bool,
+    /// How many of the alternatives have cases with different keys, and end.
+    pub(crate) reach: usize,
 }
 
 /// Adds the cases of another variant, and says whether all keys differ.
@@ -157,7 +162,53 @@ pub(crate) fn add_alternative(
     }
 }
 
-/// The cases of these alternatives.
+/// Whether each way from the name comes to an end.
+fn ends(defs: &[SyntaxDef], ranks: &[usize], name: &Name) -> bool
+    requires { AreRanks (graph_of defs.now) ranks.now }
+    ensures { IsTrue result ↔ Ends defs.now name.now }
+{
+    match place_of(defs, name) {
+        Some(place) => is_ranked(ranks, place),
+        None => true,
+    }
+}
+
+/// Whether what the alternative includes ends.
+fn is_ending(defs: &[SyntaxDef], ranks: &[usize], alternative: &Alternative) -> bool
+    requires { AreRanks (graph_of defs.now) ranks.now }
+    ensures { MatchBool result (IsEndingPart defs.now alternative.now)
+        (IsEndless defs.now alternative.now) }
+{
+    match alternative {
+        Alternative::Case(_, _) => true,
+        Alternative::Incl(name) => ends(defs, ranks, name),
+    }
+}
+
+/// Adds the cases that an alternative brings, and says whether it ends and all keys differ.
+fn try_alternative(
+    alloc: Global,
+    defs: &[SyntaxDef],
+    ranks: &[usize],
+    flats: &[Flat],
+    alternative: &Alternative,
+    cases: &mut Row<CaseDef>,
+) -> Result<bool, NoMemory>
+    requires ranks { AreRanks (graph_of defs.now) ranks.now }
+    requires size { length flats.now ≡ length defs.now }
+    requires known { IsKnownPart defs.now flats.now alternative.now }
+    requires differ { KeysDiffer cases.old }
+    ensures { IfOk result
+        (λ added. TriesAlternative defs.now cases.old cases.new alternative.now added) }
+{
+    if !is_ending(defs, ranks, alternative) {
+        return Ok(false);
+    }
+    let added = add_alternative(alloc, defs, ranks, flats, alternative, cases)?;
+    Ok(added)
+}
+
+/// The cases of these alternatives, as far as they end and have different keys.
 fn flatten(
     alloc: Global,
     defs: &[SyntaxDef],
@@ -167,18 +218,27 @@ fn flatten(
 ) -> Result<Flat, NoMemory>
     requires ranks { AreRanks (graph_of defs.now) ranks.now }
     requires size { length flats.now ≡ length defs.now }
-    requires ready { AllReady defs.now flats.now alternatives.now }
-    ensures { IfOk result (λ flat. IsFlat defs.now alternatives.now flat) }
+    requires known { AllKnownParts defs.now flats.now alternatives.now }
+    ensures { IfOk result (λ flat. IsFlattened defs.now alternatives.now flat) }
 {
     let mut cases = Row::new(alloc);
-    for alternative in alternatives {
-        if !add_alternative(alloc, defs, ranks, flats, alternative, &mut cases)? {
+    for reach in 0..alternatives.len() {
+        if !try_alternative(alloc, defs, ranks, flats, &alternatives[reach], &mut cases)? {
             let whole = false;
-            return Ok(Flat { cases, whole });
+            return Ok(Flat {
+                cases,
+                whole,
+                reach,
+            });
         }
     }
     let whole = true;
-    Ok(Flat { cases, whole })
+    let reach = alternatives.len();
+    Ok(Flat {
+        cases,
+        whole,
+        reach,
+    })
 }
 
 /// An empty list of cases for each definition.
@@ -191,6 +251,7 @@ fn empty_flats(alloc: Global, len: usize) -> Result<Vec<Flat>, NoMemory>
         flats.push(Flat {
             cases,
             whole: i < len,
+            reach: 0,
         })?;
     }
     Ok(flats)
@@ -206,8 +267,8 @@ fn flat_of_body(
 ) -> Result<Flat, NoMemory>
     requires ranks { AreRanks (graph_of defs.now) ranks.now }
     requires size { length flats.now ≡ length defs.now }
-    requires ready { AllReady defs.now flats.now (alternatives_in def.now) }
-    ensures { IfOk result (λ flat. IsFlat defs.now (alternatives_in def.now) flat) }
+    requires known { AllKnownParts defs.now flats.now (alternatives_in def.now) }
+    ensures { IfOk result (λ flat. IsFlattened defs.now (alternatives_in def.now) flat) }
 {
     match &def.body {
         SyntaxBody::Alias(_) => flatten(alloc, defs, ranks, flats, &[]),
@@ -238,18 +299,41 @@ fn fill_rank(
     Ok(())
 }
 
-/// The cases of all definitions whose inclusions end.
+/// Adds the cases of the definitions that do not end, as far as they go.
+fn fill_rest(
+    alloc: Global,
+    defs: &[SyntaxDef],
+    ranks: &[usize],
+    flats: &mut Vec<Flat>,
+) -> Result<(), NoMemory>
+    requires ranks { AreRanks (graph_of defs.now) ranks.now }
+    requires flats { AreFlats defs.now ranks.now (length defs.now) flats.old.items }
+    ensures right { OnOk result (AreFlats defs.now ranks.now (length defs.now) flats.new.items) }
+    ensures reached { OnOk result (AllReached defs.now flats.new.items) }
+{
+    for i in 0..defs.len() {
+        if ranks[i] == 0 {
+            let flat = flat_of_body(alloc, defs, ranks, flats, &defs[i])?;
+            flats[i] = flat;
+        }
+    }
+    Ok(())
+}
+
+/// The cases of all definitions, as far as they end and have different keys.
 pub(crate) fn flats_of(
     alloc: Global,
     defs: &[SyntaxDef],
     ranks: &[usize],
-) -> Result<Vec<Flat>, NoMemory>
+) -> Result<Row<Flat>, NoMemory>
     requires ranks { AreRanks (graph_of defs.now) ranks.now }
-    ensures { IfOk result (λ flats. AreFlats defs.now ranks.now (length defs.now) flats.items) }
+    ensures right { IfOk result (λ flats. AreFlats defs.now ranks.now (length defs.now) flats) }
+    ensures reached { IfOk result (λ flats. AllReached defs.now flats) }
 {
     let mut flats = empty_flats(alloc, defs.len())?;
     for rank in 0..defs.len() {
         fill_rank(alloc, defs, ranks, rank, &mut flats)?;
     }
-    Ok(flats)
+    fill_rest(alloc, defs, ranks, &mut flats)?;
+    Ok(Row::from_vec(flats))
 }

@@ -7,6 +7,7 @@
 //! Read `table` first, with `specs/Meaning.antt`, `specs/Cases.antt` and `specs/Breach.antt`.
 #![tactic(auto)]
 
+mod bodies;
 mod build;
 mod check;
 mod entry;
@@ -15,13 +16,16 @@ mod flat;
 mod graph;
 mod joining;
 mod meaning;
+mod parts;
 mod place;
 mod resolve;
 mod same;
+mod survey;
 mod table;
 #[cfg(test)]
 mod tests;
 
+pub use bodies::Bodies;
 pub use entry::CaseDef;
 pub use fault::{Broken, TypeFault};
 pub use table::TypeTable;

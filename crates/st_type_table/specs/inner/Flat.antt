@@ -1,5 +1,5 @@
 -- Cases that are added one after another, as long as their keys differ.
-use Rattle.std.specs.Prelude.{◌≡◌, ◌⊎◌, ℕ, List, [], ◌∷◌, ◌++◌, ◌<◌, ◌≤◌, Bool, true, false, length, slice_get, slice_index, Option, Some, None, MatchOption}
+use Rattle.std.specs.Prelude.{◌≡◌, ◌⊎◌, ℕ, List, [], ◌∷◌, ◌++◌, ◌<◌, ◌≤◌, Bool, true, false, length, suc, take, slice_get, slice_index, Option, Some, None, MatchOption}
 use Rattle.std.specs.Borrow.{Bor}
 use Rattle.std.specs.Bool.{MatchBool}
 use Rattle.st_type_table.specs.declared.entry.CaseDef.{CaseDef}
@@ -80,6 +80,50 @@ AddsAlternative defs before after a added = MatchBool added
     ((more : List CaseDef) × (Brings defs a more × ((after ≡ before ++ more) × KeysDiffer after)))
     ((more : List CaseDef) × (Brings defs a more × (KeysDiffer (before ++ more) → ⊥)))
 
+-- what the alternative includes ends
+abbrev pub IsEndingPart : List SyntaxDef → Alternative → Type 0
+IsEndingPart defs a = (name : List ℕ) → a ≡ alternative.Incl name → Ends defs name
+
+-- the alternative includes what does not end
+abbrev pub IsEndless : List SyntaxDef → Alternative → Type 0
+IsEndless defs a = (name : List ℕ) × (a ≡ alternative.Incl name) × (Ends defs name → ⊥)
+
+-- where what the alternative includes ends, its cases are known
+abbrev pub IsKnownPart : List SyntaxDef → List Flat → Alternative → Type 0
+IsKnownPart defs flats a =
+    (name : List ℕ) → a ≡ alternative.Incl name → Ends defs name → IsFlatAt defs flats (ty.Name name)
+
+-- this is so of all these alternatives
+abbrev pub AllKnownParts : List SyntaxDef → List Flat → List Alternative → Type 0
+AllKnownParts defs flats alternatives =
+    (at : ℕ) (a : Alternative) → slice_get alternatives at ≡ Some a → IsKnownPart defs flats a
+
+-- the cases of the alternative are added, or it includes what does not end, or two of all the
+-- cases would have one key
+abbrev pub TriesAlternative : List SyntaxDef → List CaseDef → List CaseDef → Alternative
+    → Bool → Type 0
+TriesAlternative defs before after a added = MatchBool added
+    ((more : List CaseDef) × (Brings defs a more × ((after ≡ before ++ more) × KeysDiffer after)))
+    (IsEndless defs a
+    ⊎ ((more : List CaseDef) × (Brings defs a more × (KeysDiffer (before ++ more) → ⊥))))
+
+-- The cases of so many of the alternatives have different keys. The next one includes what does
+-- not end, or with it two cases have one key.
+pub record IsReached (defs : List SyntaxDef) (alternatives : List Alternative)
+    (reach : ℕ) : Type 0 where
+  pub cases : List CaseDef
+  pub flattened : Flatten defs (take reach alternatives) cases
+  pub differ : KeysDiffer cases
+  pub stops : (a : Alternative) → slice_get alternatives reach ≡ Some a
+      → IsEndless defs a ⊎ IsBroken defs (take (suc reach) alternatives)
+
+-- the cases of as many of the alternatives as have different keys
+pub record IsFlattened (defs : List SyntaxDef) (alternatives : List Alternative)
+    (f : Flat) : Type 0 where
+  pub reached : IsReached defs alternatives f.reach
+  pub whole : f.whole ≡ true → Flatten defs alternatives f.cases × KeysDiffer f.cases
+  pub stopped : f.whole ≡ false → (a : Alternative) × (slice_get alternatives f.reach ≡ Some a)
+
 -- what is kept of the definitions with ranks up to this is right
 pub record AreFlats (defs : List SyntaxDef) (ranks : List ℕ) (limit : ℕ)
     (flats : List Flat) : Type 0 where
@@ -87,3 +131,12 @@ pub record AreFlats (defs : List SyntaxDef) (ranks : List ℕ) (limit : ℕ)
   pub right : (place : ℕ) (d : SyntaxDef) (f : Flat) → slice_get defs place ≡ Some d
       → 0 < slice_index ranks place → slice_index ranks place ≤ limit
       → slice_get flats place ≡ Some f → IsFlat defs (alternatives_in d) f
+  pub reached : (place : ℕ) (d : SyntaxDef) (f : Flat) → slice_get defs place ≡ Some d
+      → 0 < slice_index ranks place → slice_index ranks place ≤ limit
+      → slice_get flats place ≡ Some f → IsReached defs (alternatives_in d) f.reach
+
+-- it is kept of each definition how many alternatives have cases with different keys
+abbrev pub AllReached : List SyntaxDef → List Flat → Type 0
+AllReached defs flats =
+    (place : ℕ) (d : SyntaxDef) (f : Flat) → slice_get defs place ≡ Some d
+    → slice_get flats place ≡ Some f → IsReached defs (alternatives_in d) f.reach

@@ -2,4 +2,4 @@ use Rattle.st_elab_rows.proofs.Builds.{asks_reach}
 use Rattle.st_elab_rows.proofs.ask.asked_at.Goals as goal
 
 pub returns : goal.returns
-returns g c = asks_reach _ _ _ _ _ (c.requires.answers _ _ _ c.ask.ensures)
+returns g c = asks_reach _ _ _ _ _ c.answer.ensures

@@ -1,29 +1,41 @@
-use Rattle.std.proofs.Common.{sym, subst}
+use Rattle.std.proofs.Common.{◌≡◌, sym, subst, true, false}
 use Rattle.st_type_table.specs.Cases.{Flatten}
 use Rattle.st_type_table.specs.Keys.{KeysDiffer}
-use Rattle.st_type_table.specs.inner.Flat.{AllReady, AddsAlternative}
-use Rattle.st_type_table.proofs.FlatLemmas.{broken, grown, drop-step}
+use Rattle.st_type_table.specs.inner.Flat.{TriesAlternative}
+use Rattle.st_type_table.proofs.FlatLemmas.{grown}
+use Rattle.st_type_table.proofs.PartLemmas.{read-at}
+use Rattle.st_type_table.proofs.ReachLemmas.{stop-here, stop-nowhere}
 use Rattle.st_type_table.proofs.flat.flatten.Goals as goal
 
-pub loop-alternative-init : goal.loop-alternative-init
-loop-alternative-init c = (Flatten.none c.new-cases.ensures, subst KeysDiffer (sym c.new-cases.ensures) tt, c.requires.ready)
+pub loop-reach-init : goal.loop-reach-init
+loop-reach-init c = (Flatten.none c.new-cases.ensures, subst KeysDiffer (sym c.new-cases.ensures) tt)
 
-pub add_alternative-requires-clause-ready : goal.add_alternative-requires-clause-ready
-add_alternative-requires-clause-ready c = (subst (AllReady c.args.defs.now c.args.flats.now)
-    (drop-step c.args.alternatives.now c.loop-alternative.alternative-index c.alternative-item.result c.loop-alternative-test.true c.alternative-item.is) c.loop-alternative.invariant.2).0
+pub try_alternative-requires-clause-known : goal.try_alternative-requires-clause-known
+try_alternative-requires-clause-known c = c.requires.known c.loop-reach.reach c.index-alternatives-reach.result
+    (read-at c.args.alternatives.now c.loop-reach.reach c.index-alternatives-reach.result c.loop-reach-test.true c.index-alternatives-reach.is)
 
 pub returns-then-not-branch : goal.returns-then-not-branch
 returns-then-not-branch c =
-    let a = subst (AddsAlternative c.args.defs.now c.loop-alternative.cases c.add_alternative.new.cases c.alternative-item.result) c.if-not-branch.true c.in_ok-add_alternative.ensures in
-    broken c.args.defs.now c.args.flats.now c.args.alternatives.now c.loop-alternative.alternative-index c.alternative-item.result c.loop-alternative.cases a.0
-    c.loop-alternative-test.true c.alternative-item.is c.loop-alternative.invariant.0 c.loop-alternative.invariant.2 a.1.0 a.1.1
+    let there = read-at c.args.alternatives.now c.loop-reach.reach c.index-alternatives-reach.result c.loop-reach-test.true c.index-alternatives-reach.is in record {
+      reached = stop-here c.args.defs.now c.args.alternatives.now c.loop-reach.reach c.loop-reach.cases c.try_alternative.new.cases c.index-alternatives-reach.result
+          c.loop-reach.invariant.0 c.loop-reach.invariant.1 c.loop-reach-test.true c.index-alternatives-reach.is there
+          (subst (TriesAlternative c.args.defs.now c.loop-reach.cases c.try_alternative.new.cases c.index-alternatives-reach.result) c.if-not-branch.true c.in_ok-try_alternative.ensures);
+      whole = λ e. let f : false ≡ true = e in cc;
+      stopped = λ e. (c.index-alternatives-reach.result, there);
+    }
 
-pub loop-alternative-preserved : goal.loop-alternative-preserved
-loop-alternative-preserved c =
-    let a = subst (AddsAlternative c.args.defs.now c.loop-alternative.cases c.add_alternative.new.cases c.alternative-item.result) c.if-not-branch.false c.in_ok-add_alternative.ensures in (
-      grown c.args.defs.now c.args.alternatives.now c.loop-alternative.alternative-index c.alternative-item.result c.loop-alternative.cases a.0 c.add_alternative.new.cases
-          c.loop-alternative-test.true c.alternative-item.is c.loop-alternative.invariant.0 a.1.0 a.1.1.0,
+pub loop-reach-preserved : goal.loop-reach-preserved
+loop-reach-preserved c =
+    let a = subst (TriesAlternative c.args.defs.now c.loop-reach.cases c.try_alternative.new.cases c.index-alternatives-reach.result) c.if-not-branch.false c.in_ok-try_alternative.ensures in (
+      grown c.args.defs.now c.args.alternatives.now c.loop-reach.reach c.index-alternatives-reach.result c.loop-reach.cases a.0 c.try_alternative.new.cases
+          c.loop-reach-test.true c.index-alternatives-reach.is c.loop-reach.invariant.0 a.1.0 a.1.1.0,
       a.1.1.1,
-      (subst (AllReady c.args.defs.now c.args.flats.now)
-          (drop-step c.args.alternatives.now c.loop-alternative.alternative-index c.alternative-item.result c.loop-alternative-test.true c.alternative-item.is) c.loop-alternative.invariant.2).1,
     )
+
+pub returns : goal.returns
+returns c =
+    let r = stop-nowhere c.args.defs.now c.args.alternatives.now c.loop-reach.reach c.loop-reach.cases c.loop-reach.invariant.0 c.loop-reach.invariant.1 c.loop-reach-test.false in record {
+      reached = r.0;
+      whole = λ e. (r.1, c.loop-reach.invariant.1);
+      stopped = λ e. let f : true ≡ false = e in cc;
+    }

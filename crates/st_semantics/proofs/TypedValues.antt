@@ -1,0 +1,282 @@
+-- The value of an expression has its type, where operations keep types.
+use Rattle.std.proofs.Common.{◌≡◌, ℕ, ℤ, zero, suc, ◌+◌, ◌≤◌, ◌<◌, pos, refl, sym, ◌∙◌, ap, subst, List, [], ◌∷◌, ◌++◌, map, ◌⊎◌, inl, inr, Bool, true, false, ◌||◌, if◌then◌else◌, Option, Some, None, bytes_eq, nat_le, arith, All}
+use Rattle.std.specs.Prelude.{unsigned_abs}
+use Rattle.std.proofs.lemmas.Bool.{leb-true}
+use Rattle.std.proofs.lemmas.List.Elements.{All-nil, All-cons, All-head, All-tail, All-append}
+use Rattle.st_num.specs.Number.{IsNumber}
+use Rattle.st_num.specs.Texts.{IsText}
+use Rattle.st_num.specs.declared.limit.TheConstants.{HIGHEST_VALUE}
+use Rattle.st_num.specs.declared.dim.Kind.{Kind}
+use Rattle.st_num.specs.declared.dim.Kind.TheVariants as kind
+use Rattle.st_il.specs.declared.definition.ClauseDef.{ClauseDef}
+use Rattle.st_il.specs.declared.definition.Il.{Il}
+use Rattle.st_il.specs.declared.definition.Listed.{Listed}
+use Rattle.st_il.specs.declared.definition.SyntaxDef.{SyntaxDef}
+use Rattle.st_il.specs.declared.expression.IlExp.{IlExp}
+use Rattle.st_il.specs.declared.expression.IlExp.TheOpen.{Iteration-F}
+use Rattle.st_il.specs.declared.expression.Iteration.{Iteration, out-Iteration}
+use Rattle.st_il.specs.declared.expression.ListItem.{ListItem}
+use Rattle.st_il.specs.declared.expression.PathSeg.{PathSeg}
+use Rattle.st_il.specs.declared.ty.Ty.{Ty}
+use Rattle.st_il.specs.declared.ty.Ty.TheVariants as ty
+use Rattle.st_il.specs.declared.value.Env.{Env}
+use Rattle.st_il.specs.declared.value.Value.{Value, out-Value, fold_out-Value, map-Value}
+use Rattle.st_il.specs.declared.value.Value.TheOpen.{Value-F}
+use Rattle.st_il.specs.declared.value.Value.TheVariants as value
+use Rattle.st_il.specs.Height.{height}
+use Rattle.st_il.specs.Value.{texts_of, texts_at}
+use Rattle.st_il.specs.Value as texts
+use Rattle.st_type_table.specs.Meaning.{Means, alias_of, itself}
+use Rattle.st_types.specs.HasType as type
+use Rattle.st_types.specs.HasType.{HasType, AllHaveType}
+use Rattle.st_semantics.specs.declared.outcome.Outcome.{Outcome}
+use Rattle.st_semantics.specs.declared.outcome.Outcome.TheVariants.{Val, Deep}
+use Rattle.st_semantics.specs.Names.{Name, flattened, has_name}
+use Rattle.st_semantics.specs.Definitions.{syntaxes, clauses_in, clauses_of, clauses_from}
+use Rattle.st_semantics.specs.Environments.{Entry, lookup, value_in, IsTypedValue, AreTypedValues, IsSomeTyped, numbers_of, numbers_at, wrapped, type_of, listed_as, TypedIn, EnvOk}
+use Rattle.st_semantics.specs.Parts.{limited, natural}
+use Rattle.st_semantics.specs.Forms.{HasForm, Iterates}
+use Rattle.st_semantics.specs.Iterations.{count_of, count_at, index_of, index_at, kind_of, Column, columns, size_of, heads, tails, bound_to, counted_to, rows, Over, spread, gathered, gathered_as}
+use Rattle.st_semantics.specs.Scopes.{indices, stepped_all, listed_inside}
+use Rattle.st_semantics.specs.Evaluation.{Answers, tasks, each_task, Gives}
+use Rattle.st_semantics.specs.Holding.{value_by, HaveValues}
+use Rattle.st_semantics.specs.Depth.{AllTypedIn}
+use Rattle.st_semantics.specs.Kinds.{AreOfItsKind}
+use Rattle.st_semantics.specs.Calls.{Decides, CallAt}
+use Rattle.st_semantics.specs.Typing as typing
+use Rattle.st_semantics.specs.Typing.{KeepsTypes, result_of, ExpHasType, ExpsHaveTypes, ResultsAreTyped}
+use Rattle.st_semantics.specs.Laws.{LawOfTypes}
+use Rattle.st_semantics.proofs.Names.{bytes-path, bytes-same, or-cases, or-left, true_false}
+use Rattle.st_semantics.proofs.Agree.{IsShort, index_short}
+use Rattle.st_semantics.proofs.Restrict.{typed_of}
+use Rattle.st_semantics.proofs.Elements.{EachTyped, elements_typed, no_alias_list, no_alias_option}
+use Rattle.st_semantics.proofs.Columns.{SpreadParts, spread_parts, natural_value, natural_is}
+use Rattle.st_semantics.proofs.Inverse.{operands, variable_value, called_value, Elements, elements_in}
+use Rattle.st_semantics.proofs.Lengths.{limited_is}
+use Rattle.st_semantics.proofs.Low.{number_low}
+
+-- ---- what is gathered
+
+limited_height : (x v : Value) → limited x ≡ Val v → height x ≤ HIGHEST_VALUE
+limited_height x v e = at (nat_le (height x) HIGHEST_VALUE) refl e
+  where
+    at : (b : Bool) → nat_le (height x) HIGHEST_VALUE ≡ b → (if b then Val x else Deep) ≡ Val v → height x ≤ HIGHEST_VALUE
+    at true k e = leb-true (height x) HIGHEST_VALUE k
+    at false k e = cc
+
+module _ (defs : List SyntaxDef) where
+  all_types : (t : Ty) (vs : List Value) → EachTyped defs t vs → AllHaveType defs vs t
+  all_types t [] h = type.no_more
+  all_types t (v ∷ vs) h = type.one_more h.0.form (all_types t vs h.1)
+
+  all_texts : (t : Ty) (vs : List Value) → EachTyped defs t vs → All IsText (texts.joined (map texts_of vs))
+  all_texts t [] h = All-nil IsText
+  all_texts t (v ∷ vs) h = All-append IsText (texts_of v) (texts.joined (map texts_of vs)) h.0.value.texts (all_texts t vs h.1)
+
+  all_numbers : (t : Ty) (vs : List Value) → EachTyped defs t vs → All IsNumber (flattened (map numbers_of vs))
+  all_numbers t [] h = All-nil IsNumber
+  all_numbers t (v ∷ vs) h = All-append IsNumber (numbers_of v) (flattened (map numbers_of vs)) h.0.numbers (all_numbers t vs h.1)
+
+  texts-level : (v : Value) (y : Value-F Value) → out-Value v ≡ y → texts_of v ≡ texts_at (map-Value Value (List (List ℕ)) texts_of y)
+  texts-level v y e = fold_out-Value (List (List ℕ)) texts_at v ∙ ap (λ z. texts_at (map-Value Value (List (List ℕ)) texts_of z)) e
+
+  numbers-level : (v : Value) (y : Value-F Value) → out-Value v ≡ y → numbers_of v ≡ numbers_at (map-Value Value (List ℤ) numbers_of y)
+  numbers-level v y e = fold_out-Value (List ℤ) numbers_at v ∙ ap (λ z. numbers_at (map-Value Value (List ℤ) numbers_of z)) e
+
+  list_typed : (t : Ty) (vs : List Value) → EachTyped defs t vs → height (value.List vs) ≤ HIGHEST_VALUE → IsTypedValue defs (ty.List t) (value.List vs)
+  list_typed t vs h low = record {
+    form = type.list vs t refl (itself (no_alias_list defs t) refl) (all_types t vs h);
+    value = record { height = low; texts = subst (All IsText) (sym (texts-level (value.List vs) (Value-F.List vs) (value.outs-List vs))) (all_texts t vs h) };
+    numbers = subst (All IsNumber) (sym (numbers-level (value.List vs) (Value-F.List vs) (value.outs-List vs))) (all_numbers t vs h);
+  }
+
+  absent_typed : (t : Ty) → height (value.Opt None) ≤ HIGHEST_VALUE → IsTypedValue defs (ty.Opt t) (value.Opt None)
+  absent_typed t low = record {
+    form = type.absent t refl (itself (no_alias_option defs t) refl);
+    value = record { height = low; texts = subst (All IsText) (sym (texts-level (value.Opt None) (Value-F.Opt None) (value.outs-Opt None))) (All-nil IsText) };
+    numbers = subst (All IsNumber) (sym (numbers-level (value.Opt None) (Value-F.Opt None) (value.outs-Opt None))) (All-nil IsNumber);
+  }
+
+  present_typed : (t : Ty) (v : Value) → IsTypedValue defs t v → height (value.Opt (Some v)) ≤ HIGHEST_VALUE → IsTypedValue defs (ty.Opt t) (value.Opt (Some v))
+  present_typed t v h low = record {
+    form = type.present v t refl (itself (no_alias_option defs t) refl) h.form;
+    value = record { height = low; texts = subst (All IsText) (sym (texts-level (value.Opt (Some v)) (Value-F.Opt (Some v)) (value.outs-Opt (Some v)))) h.value.texts };
+    numbers = subst (All IsNumber) (sym (numbers-level (value.Opt (Some v)) (Value-F.Opt (Some v)) (value.outs-Opt (Some v)))) h.numbers;
+  }
+
+  gathered_typed : (k : Kind) (t : Ty) (vs : List Value) (v : Value) → EachTyped defs t vs → gathered_as k vs ≡ Val v → IsTypedValue defs (wrapped (k ∷ []) t) v
+  gathered_typed kind.List t vs v h e = subst (IsTypedValue defs (ty.List t)) (limited_is (value.List vs) v e) (list_typed t vs h (limited_height (value.List vs) v e))
+  gathered_typed kind.Opt t [] v h e = subst (IsTypedValue defs (ty.Opt t)) (limited_is (value.Opt None) v e) (absent_typed t (limited_height (value.Opt None) v e))
+  gathered_typed kind.Opt t (w ∷ ws) v h e = subst (IsTypedValue defs (ty.Opt t)) (limited_is (value.Opt (Some w)) v e) (present_typed t w h.0 (limited_height (value.Opt (Some w)) v e))
+
+-- ---- typed environments
+
+no_alias_nat : (defs : List SyntaxDef) → alias_of defs ty.Nat ≡ None
+no_alias_nat defs = simp ty.outs-Nat refl
+
+number_below : (j n : ℕ) → j ≤ n → IsNumber (pos n) → IsNumber (pos j)
+number_below j n le h = omega (arith, le, h)
+
+-- a number that is not negative, where it is in range
+natural_typed : (defs : List SyntaxDef) (n : ℕ) → IsNumber (pos n) → IsTypedValue defs ty.Nat (value.Num (pos n))
+natural_typed defs n h = record {
+  form = type.natural n refl (itself (no_alias_nat defs) refl);
+  value = record { height = number_low n; texts = subst (All IsText) (sym (texts-level defs (value.Num (pos n)) (Value-F.Num (pos n)) (value.outs-Num (pos n)))) (All-nil IsText) };
+  numbers = subst (All IsNumber) (sym (numbers-level defs (value.Num (pos n)) (Value-F.Num (pos n)) (value.outs-Num (pos n)))) (All-cons IsNumber (pos n) [] h (All-nil IsNumber));
+}
+
+-- the number of a typed value
+number_in_range : (defs : List SyntaxDef) (t : Ty) (n : ℕ) → IsTypedValue defs t (value.Num (pos n)) → IsNumber (pos n)
+number_in_range defs t n h = All-head IsNumber (pos n) [] (subst (All IsNumber) (numbers-level defs (value.Num (pos n)) (Value-F.Num (pos n)) (value.outs-Num (pos n))) h.numbers)
+
+module _ (il : Il) where
+  -- each listed variable has a value of its type
+  abbrev TypedEnv : List Listed → Env → Type 0
+  TypedEnv ls env = (x : Name) (l : Listed) → listed_as x ls ≡ Some l → IsSomeTyped (syntaxes il) (type_of l) (value_in env x)
+
+  abbrev AllTypedEnv : List Listed → List Env → Type 0
+  AllTypedEnv ls [] = Unit {0}
+  AllTypedEnv ls (env ∷ envs) = TypedEnv ls env × AllTypedEnv ls envs
+
+  -- the index is a number in each row
+  abbrev IndexTyped : List Name → List Listed → Env → Type 0
+  IndexTyped index ls env = (x : Name) → has_name index x ≡ true → (l : Listed) → listed_as x (indices index ++ ls) ≡ Some l → IsSomeTyped (syntaxes il) (type_of l) (value_in env x)
+
+  abbrev AllIndexTyped : List Name → List Listed → List Env → Type 0
+  AllIndexTyped index ls [] = Unit {0}
+  AllIndexTyped index ls (env ∷ envs) = IndexTyped index ls env × AllIndexTyped index ls envs
+
+  index_typed : (index : List Name) → IsShort index → (ls : List Listed) (env : List Entry) (k : ℕ) → (has : (i : Name) → has_name index i ≡ true → IsNumber (pos k))
+      → IndexTyped index ls (record { entries = counted_to index k env })
+  index_typed [] s ls env k has x h l e = cc
+  index_typed (i ∷ j ∷ more) s ls env k has x h l e = absurd s
+  index_typed (i ∷ []) s ls env k has x h l e = at (bytes_eq x i) (or-cases (bytes_eq x i) false h) e
+    where
+      number : IsNumber (pos k)
+      number = has i (or-left (bytes_eq i i) false (bytes-same i))
+
+      at : (b : Bool) → (b ≡ true) ⊎ (false ≡ true) → (if b then Some (record { name = i; ty = ty.Nat; dim = [] }) else listed_as x ls) ≡ Some l → IsSomeTyped (syntaxes il) (type_of l) (if b then Some (value.Num (pos k)) else lookup x env)
+      at true w e =
+          let listed : Listed = record { name = i; ty = ty.Nat; dim = [] } in
+          let same : listed ≡ l = cc in
+          subst (λ z. IsTypedValue (syntaxes il) (type_of z) (value.Num (pos k))) same (natural_typed (syntaxes il) k number)
+      at false (inl bad) e = cc
+      at false (inr bad) e = cc
+
+  rows_index : (index xs : List Name) → IsShort index → (ls : List Listed) (env : List Entry) (limit : ℕ) → ((i : Name) → has_name index i ≡ true → IsNumber (pos limit)) → (n k : ℕ) (cs : List Column) → k + n ≤ limit
+      → AllIndexTyped index ls (rows index xs env n k cs)
+  rows_index index xs s ls env limit has zero k cs le = tt
+  rows_index index xs s ls env limit has (suc n) k cs le = (
+    index_typed index s ls (bound_to xs (heads cs) env) k (λ i h. number_below k limit (omega (arith, le)) (has i h)),
+    rows_index index xs s ls env limit has n (k + 1) (tails cs) (omega (arith, le)),
+  )
+
+  -- all rows, from the index and the other variables
+  all_rows : (index : List Name) (ls : List Listed) (envs : List Env) → AllIndexTyped index ls envs
+      → ((x : Name) → has_name index x ≡ false → AllTypedIn il (indices index ++ ls) (x ∷ []) envs) → AllTypedEnv (indices index ++ ls) envs
+  all_rows index ls [] h g = tt
+  all_rows index ls (env ∷ envs) h g = (λ x l e. at x l e (has_name index x) refl, all_rows index ls envs h.1 (λ x n. (g x n).1))
+    where
+      at : (x : Name) (l : Listed) → listed_as x (indices index ++ ls) ≡ Some l → (b : Bool) → has_name index x ≡ b → IsSomeTyped (syntaxes il) (type_of l) (value_in env x)
+      at x l e true k = h.0 x k l e
+      at x l e false k = (g x k).0 x (or-left (bytes_eq x x) false (bytes-same x)) l e
+
+  -- an iteration with an index has a count
+  counted_index : (how : Iteration) (i : Name) → has_name (index_of how) i ≡ true → (e : IlExp) × (count_of how ≡ e ∷ [])
+  counted_index how i h = at (out-Iteration how) h
+    where
+      at : (y : Iteration-F IlExp Iteration ListItem PathSeg) → has_name (index_at y) i ≡ true → (e : IlExp) × (count_at y ≡ e ∷ [])
+      at Iteration-F.Star h = cc
+      at Iteration-F.Plus h = cc
+      at Iteration-F.Quest h = cc
+      at (Iteration-F.Times e) h = cc
+      at (Iteration-F.Below j e) h = (e, refl)
+
+  -- each element of an iteration in a typed environment is typed
+  spread_typed : (how : Iteration) (xs : List Name) (ls : List Listed) (env : Env) (count : List Value) (envs : List Env) → AreOfItsKind how xs ls → TypedEnv ls env
+      → AreTypedValues (syntaxes il) (map (λ (e : IlExp). ty.Nat) (count_of how)) count → spread how xs env count ≡ Over envs → AllTypedEnv (listed_inside how xs ls) envs
+  spread_typed how xs ls env count envs kinded t counts over =
+      let p = spread_parts how xs env count envs over in
+      all_rows (index_of how) (stepped_all xs ls) envs
+      (subst (AllIndexTyped (index_of how) (stepped_all xs ls)) p.5
+      (rows_index (index_of how) xs (index_short how) (stepped_all xs ls) env.entries p.0 (λ i h. limit p.0 p.2 i h) p.0 0 p.1 (omega arith)))
+      (λ x n. elements_typed il how xs (x ∷ []) ls env count envs kinded (λ y h. subst (λ z. has_name (index_of how) z ≡ false) (sym (one y x h)) n) (λ y h l e. t y l e) over)
+    where
+      one : (y x : Name) → has_name (x ∷ []) y ≡ true → y ≡ x
+      one y x h = elim (or-cases (bytes_eq y x) false h) [ inl k ↦ bytes-path y x k | inr bad ↦ cc ]
+
+      limit : (n : ℕ) → size_of count (columns (kind_of how) xs env.entries) ≡ Some n → (i : Name) → has_name (index_of how) i ≡ true → IsNumber (pos n)
+      limit n size i h = at (counted_index how i h) count counts size
+        where
+          at : ((e : IlExp) × (count_of how ≡ e ∷ [])) → (cs : List Value) → AreTypedValues (syntaxes il) (map (λ (e : IlExp). ty.Nat) (count_of how)) cs → size_of cs (columns (kind_of how) xs env.entries) ≡ Some n → IsNumber (pos n)
+          at (e, is) cs typed size = by cs (subst (λ z. AreTypedValues (syntaxes il) (map (λ (e : IlExp). ty.Nat) z) cs) is typed) size
+            where
+              by : (cs : List Value) → AreTypedValues (syntaxes il) (ty.Nat ∷ []) cs → size_of cs (columns (kind_of how) xs env.entries) ≡ Some n → IsNumber (pos n)
+              by [] t size = absurd t
+              by (c ∷ []) t size = number_in_range (syntaxes il) ty.Nat n (subst (IsTypedValue (syntaxes il) ty.Nat) (natural_is c n size) t.0)
+              by (c ∷ d ∷ cs) t size = absurd t.1
+
+  -- ---- expressions
+
+  module _ (C : Answers) (calls : (fun : Name) (t : Ty) (vs : List Value) (v : Value) → result_of il fun ≡ Some t → C fun vs (Val v) → IsTypedValue (syntaxes il) t v) where
+    each_typed_value : (body : IlExp) (u : Ty) (ls : List Listed) → ((env : Env) → TypedEnv ls env → (v : Value) → Gives (syntaxes il) C env body (Val v) → IsTypedValue (syntaxes il) u v)
+        → (envs : List Env) → AllTypedEnv ls envs → (vs : List Value) → HaveValues (value_by (syntaxes il) C) (each_task envs body) vs → EachTyped (syntaxes il) u vs
+    each_typed_value body u ls f [] t [] h = tt
+    each_typed_value body u ls f [] t (v ∷ vs) h = absurd h
+    each_typed_value body u ls f (env ∷ envs) t [] h = absurd h
+    each_typed_value body u ls f (env ∷ envs) t (v ∷ vs) h = (f env t.0 v h.0, each_typed_value body u ls f envs t.1 vs h.1)
+
+    mutual
+      pub value_typed : {ls : List Listed} {e : IlExp} {t : Ty} → ExpHasType il ls e t → (env : Env) → TypedEnv ls env → (v : Value) → Gives (syntaxes il) C env e (Val v) → IsTypedValue (syntaxes il) t v
+      value_typed {e = e} (typing.strict es f ts h parts keeps) env typed v g =
+          let w = operands (syntaxes il) C env e es f v h g in
+          keeps w.0 v (values_typed parts env typed w.0 w.1) w.2
+      value_typed {e = e} {t = t} (typing.variable x l h at is) env typed v g =
+          let found = variable_value (syntaxes il) C env e x v h g in
+          subst (λ z. IsTypedValue (syntaxes il) z v) (sym is) (subst (IsSomeTyped (syntaxes il) (type_of l)) found (typed x l at))
+      value_typed {e = e} {t = t} (typing.call fun args h result) env typed v g =
+          let w = called_value (syntaxes il) C env e fun args v h g in
+          calls fun t w.0 v result w.1
+      value_typed {ls = ls} {e = e} (typing.iteration how xs body u h counts kinded inside is) env typed v g =
+          let w = elements_in (syntaxes il) C env e how xs body v h g in
+          let rows_are = spread_typed how xs ls env w.count w.envs kinded typed (values_typed counts env typed w.count w.counted) w.over in
+          subst (λ z. IsTypedValue (syntaxes il) z v) (sym is)
+          (gathered_typed (syntaxes il) (kind_of how) u w.values v (each_typed_value body u (listed_inside how xs ls) (value_typed inside) w.envs rows_are w.values w.each) w.makes)
+
+      values_typed : {ls : List Listed} {es : List IlExp} {ts : List Ty} → ExpsHaveTypes il ls es ts → (env : Env) → TypedEnv ls env → (vs : List Value) → HaveValues (value_by (syntaxes il) C) (tasks env es) vs → AreTypedValues (syntaxes il) ts vs
+      values_typed typing.none env typed [] h = tt
+      values_typed typing.none env typed (v ∷ vs) h = absurd h
+      values_typed (typing.more x xs) env typed [] h = absurd h
+      values_typed (typing.more x xs) env typed (v ∷ vs) h = (value_typed x env typed v h.0, values_typed xs env typed vs h.1)
+
+    -- ---- clauses
+
+    abbrev ResultTyped : Ty → ClauseDef → Type 0
+    ResultTyped t c = ExpHasType il c.variables c.result t
+
+    decides_typed : (t : Ty) (cs : List ClauseDef) → All (ResultTyped t) cs → (vs : List Value) (v : Value) → Decides il C cs vs (Val v) → IsTypedValue (syntaxes il) t v
+    decides_typed t [] h vs v d = cc
+    decides_typed t (c ∷ cs) h vs v (inl d) = value_typed (All-head (ResultTyped t) c cs h) d.0 (λ x l e. typed_of (syntaxes il) c.variables d.0 d.1.typed x l e) v d.2
+    decides_typed t (c ∷ cs) h vs v (inr (inl d)) = let bad : Val v ≡ Deep = d.1 in cc
+    decides_typed t (c ∷ cs) h vs v (inr (inr d)) = decides_typed t cs (All-tail (ResultTyped t) c cs h) vs v d.2
+
+abbrev Declared : Il → ClauseDef → Type 0
+Declared il c = (t : Ty) → result_of il c.fun ≡ Some t → ExpHasType il c.variables c.result t
+
+abbrev Resulting : Il → Ty → ClauseDef → Type 0
+Resulting il t c = ExpHasType il c.variables c.result t
+
+of_function : (il : Il) (fun : Name) (t : Ty) → result_of il fun ≡ Some t → (cs : List ClauseDef) → All (Declared il) cs → All (Resulting il t) (clauses_from fun cs)
+of_function il fun t e [] h = All-nil (Resulting il t)
+of_function il fun t e (c ∷ cs) h = at (bytes_eq fun c.fun) refl (of_function il fun t e cs (All-tail (Declared il) c cs h))
+  where
+    at : (b : Bool) → bytes_eq fun c.fun ≡ b → All (Resulting il t) (clauses_from fun cs) → All (Resulting il t) (if b then c ∷ clauses_from fun cs else clauses_from fun cs)
+    at true k ih = All-cons (Resulting il t) c (clauses_from fun cs) (All-head (Declared il) c cs h t (ap (result_of il) (sym (bytes-path fun c.fun k)) ∙ e)) ih
+    at false k ih = ih
+
+calls_typed : (il : Il) → ResultsAreTyped il → (n : ℕ) (fun : Name) (t : Ty) (vs : List Value) (v : Value) → result_of il fun ≡ Some t → CallAt il n fun vs (Val v) → IsTypedValue (syntaxes il) t v
+calls_typed il h zero fun t vs v e d = let bad : Val v ≡ Deep = d in cc
+calls_typed il h (suc n) fun t vs v e d = decides_typed il (CallAt il n) (calls_typed il h n) t (clauses_of il fun) (of_function il fun t e (clauses_in il.defs) h) vs v d
+
+pub law_of_types : LawOfTypes
+law_of_types il h n ls env e t v typed ok g = value_typed il (CallAt il n) (calls_typed il h n) typed env (λ x l at. typed_of (syntaxes il) ls env ok x l at) v g

@@ -1,0 +1,36 @@
+-- Expressions that have a form in all their parts: each record has the fields of its type, and each
+-- absent part is of a list or an option.
+use Rattle.std.specs.Prelude.{List, [], ◌∷◌, All}
+use Rattle.st_il.specs.declared.definition.ClauseDef.{ClauseDef}
+use Rattle.st_il.specs.declared.definition.Il.{Il}
+use Rattle.st_il.specs.declared.definition.SyntaxDef.{SyntaxDef}
+use Rattle.st_il.specs.declared.expression.IlExp.{IlExp}
+use Rattle.st_il.specs.declared.expression.Iteration.{Iteration}
+use Rattle.st_semantics.specs.Names.{Name}
+use Rattle.st_semantics.specs.Definitions.{syntaxes, clauses_in}
+use Rattle.st_semantics.specs.Parts.{Operation}
+use Rattle.st_semantics.specs.Forms.{HasForm, Strict, Variable, Calls, Iterates}
+use Rattle.st_semantics.specs.Iterations.{count_of}
+
+mutual
+  -- An expression has a form, and so have its parts.
+  pub data IsFormed (defs : List SyntaxDef) : IlExp → Type 0 where
+    strict : {e : IlExp} (es : List IlExp) (f : Operation) → HasForm defs e (Strict es f)
+        → AreFormed defs es → IsFormed defs e
+    variable : {e : IlExp} (x : Name) → HasForm defs e (Variable x) → IsFormed defs e
+    call : {e : IlExp} (fun : Name) (args : List IlExp) → HasForm defs e (Calls fun args)
+        → AreFormed defs args → IsFormed defs e
+    iteration : {e : IlExp} (how : Iteration) (xs : List Name) (body : IlExp)
+        → HasForm defs e (Iterates how xs body) → AreFormed defs (count_of how)
+        → IsFormed defs body → IsFormed defs e
+
+  -- each of some expressions does
+  pub data AreFormed (defs : List SyntaxDef) : List IlExp → Type 0 where
+    none : AreFormed defs []
+    more : {e : IlExp} {es : List IlExp} → IsFormed defs e → AreFormed defs es
+        → AreFormed defs (e ∷ es)
+
+-- the result of each clause does
+abbrev pub ResultsAreFormed : Il → Type 0
+ResultsAreFormed il =
+    All (λ (c : ClauseDef). IsFormed (syntaxes il) c.result) (clauses_in il.defs)
