@@ -17,7 +17,7 @@ use Rattle.st_verify.specs.inner.SmallNotes.{small_noted}
 use Rattle.st_verify.specs.inner.SmallVerdict.{FirstBreach}
 use Rattle.st_verify.specs.Verifier.{Checking, IsKept, JudgesNext, refusal_by}
 use Rattle.st_verify.proofs.SmallLines.{AreTrees, noted_same}
-use Rattle.st_verify.proofs.SmallModes.{small_keeps_modes, small_kinded, small_calls_single}
+use Rattle.st_verify.proofs.SmallModes.{small_keeps_modes, small_kinded, small_clauses_keep, small_clauses_name}
 use Rattle.st_verify.proofs.SmallNotings.{length-noted, trees_more}
 use Rattle.st_verify.proofs.SmallVerdicts.{verdict_of_breach}
 
@@ -76,7 +76,9 @@ kept_small checking il notes same kept = subst IsSmallIl same kept.small
 -- a line has one verdict, and lines that are read vouch for what they say
 pub kept_one : (checking : Checking) (il : Il) (notes : Notes) → il ≡ checking.il → IsKept il notes → (line : Line) (broken other : Option VerifyRule)
     → Verdict checking.il checking.notes line broken → Verdict checking.il checking.notes line other → broken ≡ other
-kept_one checking il notes same kept line = law_of_verdicts checking.il (small_calls_single checking.il (kept_small checking il notes same kept)) checking.notes line
+kept_one checking il notes same kept line =
+    let small = kept_small checking il notes same kept in
+    law_of_verdicts checking.il (small_clauses_keep checking.il small) (small_clauses_name checking.il small) checking.notes line
 
 pub kept_sound : (checking : Checking) (il : Il) (notes : Notes) → il ≡ checking.il → IsKept il notes → (lines : List Line) (read : Notes) → ReadsTo checking.il lines read
     → AreSound checking.il lines

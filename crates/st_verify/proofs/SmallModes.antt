@@ -1,6 +1,6 @@
 -- A small specification keeps the rules M1 to M7, and its premises, of which it has none, are of
 -- their kinds.
-use Rattle.std.proofs.Common.{◌≡◌, ℕ, zero, suc, List, [], ◌∷◌, map, ◌∙◌, sym, subst}
+use Rattle.std.proofs.Common.{ℕ, List, [], ◌∷◌, map, sym, subst}
 use Rattle.std.specs.Prelude.{All}
 use Rattle.std.proofs.lemmas.List.Elements.{All-nil, All-cons, All-map}
 use Rattle.st_num.specs.declared.rule.RuleId.{RuleId}
@@ -11,16 +11,9 @@ use Rattle.st_il.specs.declared.definition.IlDef.{IlDef}
 use Rattle.st_il.specs.declared.definition.RuleDef.{RuleDef}
 use Rattle.st_il.specs.declared.small.Small.{Small}
 use Rattle.st_il.specs.declared.small.SmallRule.{SmallRule}
-use Rattle.st_il.specs.declared.value.Value.{Value}
 use Rattle.st_il.specs.Small.{il_of, rule_def, syntax_def, relation_def, IsSmallIl}
-use Rattle.st_semantics.specs.declared.outcome.Outcome.{Outcome}
-use Rattle.st_semantics.specs.declared.outcome.Outcome.TheVariants.{NoValue}
-use Rattle.st_semantics.specs.Names.{Name}
-use Rattle.st_semantics.specs.Definitions.{clauses_from}
-use Rattle.st_semantics.specs.Breaches.{Standing, standings, Breaks, RuleBreaks, KeepModes}
-use Rattle.st_semantics.specs.Kinds.{IsKinded, AreKinded}
-use Rattle.st_semantics.specs.Calls.{CallAt, Decides}
-use Rattle.st_semantics.specs.Laws.{CallsAreSingle}
+use Rattle.st_semantics.specs.Breaches.{Standing, standings, Breaks, RuleBreaks, ClauseBreaks, KeepModes, ClausesKeep}
+use Rattle.st_semantics.specs.Kinds.{IsKinded, AreKinded, NamesOccurring, ClausesNameOccurring}
 use Rattle.st_verify.proofs.SmallIl.{rule_of, clauses-small, all_rules-small}
 
 abbrev Keeps : Il → Standing → Type 0
@@ -45,6 +38,12 @@ keep_modes s =
     All-cons (Keeps (il_of s)) (syntax_def s.syntax s.atoms, relation ∷ rules) (standings (relation ∷ rules)) (λ m breaks. breaks)
     (All-cons (Keeps (il_of s)) (relation, rules) (standings rules) (λ m breaks. breaks) (rules_keep (il_of s) s.relation s.syntax s.rules))
 
+abbrev ClauseKeeps : Il → ClauseDef → Type 0
+ClauseKeeps il c = (m : RuleId) → ClauseBreaks il c m → ⊥
+
+abbrev PremisesName : ClauseDef → Type 0
+PremisesName c = All NamesOccurring c.premises
+
 abbrev RuleKinded : RuleDef → Type 0
 RuleKinded r = All (IsKinded r.variables) r.premises
 
@@ -57,13 +56,12 @@ are_kinded s = record {
   clauses = subst (All ClauseKinded) (sym (clauses-small s)) (All-nil ClauseKinded);
 }
 
--- it has no function
-no_value : (s : Small) (n : ℕ) (fun : Name) (vs : List Value) (o : Outcome) → CallAt (il_of s) (suc n) fun vs o → o ≡ NoValue
-no_value s n fun vs o call = subst (λ cs. Decides (il_of s) (CallAt (il_of s) n) (clauses_from fun cs) vs o) (clauses-small s) call
+-- it has no clauses
+pub clauses_keep : (s : Small) → ClausesKeep (il_of s)
+clauses_keep s = subst (All (ClauseKeeps (il_of s))) (sym (clauses-small s)) (All-nil (ClauseKeeps (il_of s)))
 
-pub calls_single : (s : Small) → CallsAreSingle (il_of s)
-calls_single s zero fun vs o p first second = first ∙ sym second
-calls_single s (suc n) fun vs o p first second = no_value s n fun vs o first ∙ sym (no_value s n fun vs p second)
+pub clauses_name_occurring : (s : Small) → ClausesNameOccurring (il_of s)
+clauses_name_occurring s = subst (All PremisesName) (sym (clauses-small s)) (All-nil PremisesName)
 
 -- so it is with each internal language that a small specification means
 pub small_keeps_modes : (il : Il) → IsSmallIl il → KeepModes il
@@ -72,5 +70,8 @@ small_keeps_modes il small = subst KeepModes (sym small.means) (keep_modes small
 pub small_kinded : (il : Il) → IsSmallIl il → AreKinded il
 small_kinded il small = subst AreKinded (sym small.means) (are_kinded small.source)
 
-pub small_calls_single : (il : Il) → IsSmallIl il → CallsAreSingle il
-small_calls_single il small = subst CallsAreSingle (sym small.means) (calls_single small.source)
+pub small_clauses_keep : (il : Il) → IsSmallIl il → ClausesKeep il
+small_clauses_keep il small = subst ClausesKeep (sym small.means) (clauses_keep small.source)
+
+pub small_clauses_name : (il : Il) → IsSmallIl il → ClausesNameOccurring il
+small_clauses_name il small = subst ClausesNameOccurring (sym small.means) (clauses_name_occurring small.source)

@@ -2,7 +2,7 @@ use Rattle.std.proofs.Common.{refl, sym, subst}
 use Rattle.st_il.specs.Small.{il_of}
 use Rattle.st_semantics.specs.Verdict.{Verdict}
 use Rattle.st_semantics.proofs.Verdicts.{law_of_verdicts}
-use Rattle.st_verify.proofs.SmallModes.{calls_single}
+use Rattle.st_verify.proofs.SmallModes.{clauses_keep, clauses_name_occurring}
 use Rattle.st_verify.proofs.SmallNotings.{read_trees}
 use Rattle.st_verify.proofs.SmallTrees.{derivable_step, step_derivable}
 use Rattle.st_verify.proofs.SmallVerdicts.{verdict_of_breach}
@@ -15,6 +15,6 @@ pub returns-clause-verdicts : goal.returns-clause-verdicts
 returns-clause-verdicts c = λ s small lines notes read line broken answer first.
     let trees = read_trees (il_of s) lines notes (record { source = s; small = small; means = refl }) read in
     let verdict = verdict_of_breach s small notes broken line trees first in (
-      λ other. law_of_verdicts (il_of s) (calls_single s) notes line answer broken other verdict,
+      λ other. law_of_verdicts (il_of s) (clauses_keep s) (clauses_name_occurring s) notes line answer broken other verdict,
       λ same. subst (Verdict (il_of s) notes line) (sym same) verdict,
     )
