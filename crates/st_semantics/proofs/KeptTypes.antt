@@ -48,7 +48,6 @@ use Rattle.st_semantics.specs.Operands.{item_exp}
 use Rattle.st_semantics.specs.Typing.{KeepsTypes}
 use Rattle.st_semantics.specs.OperationTypes as row
 use Rattle.st_semantics.specs.OperationTypes.{number_type, both, plain_types, IsCompared, part_type, part_type_at, field_type, AccessType, Level, OperationType}
-use Rattle.st_semantics.specs.Laws.{LawOfOperations}
 use Rattle.st_semantics.proofs.Singles.{HasForm-single}
 use Rattle.st_semantics.proofs.Elements.{All-front, All-back, EachTyped, list_column}
 use Rattle.st_semantics.proofs.Lengths.{some_one, limited_is, listing_is, Chunk, splice_parts}
@@ -56,14 +55,14 @@ use Rattle.st_semantics.proofs.Low.{height-level}
 use Rattle.st_semantics.proofs.TypedValues.{limited_height, texts-level, numbers-level, list_typed, absent_typed, present_typed, natural_typed}
 
 -- the types of operands, and that of the value
-abbrev types_to : List Ty → Ty → List Ty × Ty
+abbrev pub types_to : List Ty → Ty → List Ty × Ty
 types_to ts t = (ts, t)
 
 -- what was made is there, and is not too high
-abbrev Made : Option Value → Value → Type 0
+abbrev pub Made : Option Value → Value → Type 0
 Made o v = (o ≡ Some v) × (height v ≤ HIGHEST_VALUE)
 
-made_parts : (o : Option Value) (v : Value) → made o ≡ Val v → Made o v
+pub made_parts : (o : Option Value) (v : Value) → made o ≡ Val v → Made o v
 made_parts None v e = cc
 made_parts (Some x) v e = let same = limited_is x v e in (ap Some same, subst (λ z. height z ≤ HIGHEST_VALUE) same (limited_height x v e))
 
@@ -89,7 +88,7 @@ module _ (defs : List SyntaxDef) where
   ternary_keeps f s t r u k (a ∷ b ∷ c ∷ []) v h e = k a b c v h.0 h.1.0 h.1.1.0 (made_parts (f a b c) v e)
   ternary_keeps f s t r u k (a ∷ b ∷ c ∷ d ∷ more) v h e = absurd h.1.1.1
 
-  constant_keeps : (w : Value) (t : Ty) → IsTypedValue defs t w → KeepsTypes defs (constant w) [] t
+  pub constant_keeps : (w : Value) (t : Ty) → IsTypedValue defs t w → KeepsTypes defs (constant w) [] t
   constant_keeps w t k vs v h e = let same : w ≡ v = cc in subst (IsTypedValue defs t) same k
 
   -- ---- truth values
@@ -103,7 +102,7 @@ module _ (defs : List SyntaxDef) where
   no_alias_text : alias_of defs ty.Text ≡ None
   no_alias_text = simp ty.outs-Text refl
 
-  truth_typed : (b : Bool) → IsTypedValue defs ty.Bool (value.Bool b)
+  pub truth_typed : (b : Bool) → IsTypedValue defs ty.Bool (value.Bool b)
   truth_typed b = record {
     form = type.truth b refl (itself no_alias_truth refl);
     value = record { height = low; texts = subst (All IsText) (sym (texts-level defs (value.Bool b) (Value-F.Bool b) (value.outs-Bool b))) (All-nil IsText) };
@@ -122,10 +121,10 @@ module _ (defs : List SyntaxDef) where
   logic_truth f (Some x) None v e = cc
   logic_truth f (Some x) (Some y) v e = some_truth (Some (value.Bool (f x y))) (f x y) v refl e
 
-  logic_keeps : (f : Bool → Bool → Bool) → KeepsTypes defs (binary (operator.logic f)) (ty.Bool ∷ ty.Bool ∷ []) ty.Bool
+  pub logic_keeps : (f : Bool → Bool → Bool) → KeepsTypes defs (binary (operator.logic f)) (ty.Bool ∷ ty.Bool ∷ []) ty.Bool
   logic_keeps f = binary_keeps (operator.logic f) ty.Bool ty.Bool ty.Bool (λ a b v p q m. logic_truth f (truth a) (truth b) v m.0)
 
-  negation_keeps : KeepsTypes defs (unary operator.negation) (ty.Bool ∷ []) ty.Bool
+  pub negation_keeps : KeepsTypes defs (unary operator.negation) (ty.Bool ∷ []) ty.Bool
   negation_keeps = unary_keeps operator.negation ty.Bool ty.Bool (λ a v p m. at (truth a) v m.0)
     where
       at : (o : Option Bool) (v : Value) → option_map (λ (x : Bool). value.Bool (not x)) o ≡ Some v → IsTypedValue defs ty.Bool v
@@ -137,16 +136,16 @@ module _ (defs : List SyntaxDef) where
   comparison_truth f (Some x) None v e = cc
   comparison_truth f (Some x) (Some y) v e = some_truth (Some (value.Bool (f x y))) (f x y) v refl e
 
-  comparison_keeps : (f : ℤ → ℤ → Bool) (t : Ty) → KeepsTypes defs (binary (operator.comparison f)) (t ∷ t ∷ []) ty.Bool
+  pub comparison_keeps : (f : ℤ → ℤ → Bool) (t : Ty) → KeepsTypes defs (binary (operator.comparison f)) (t ∷ t ∷ []) ty.Bool
   comparison_keeps f t = binary_keeps (operator.comparison f) t t ty.Bool (λ a b v p q m. comparison_truth f (number a) (number b) v m.0)
 
-  equality_keeps : (t : Ty) → KeepsTypes defs (binary operator.equality) (t ∷ t ∷ []) ty.Bool
+  pub equality_keeps : (t : Ty) → KeepsTypes defs (binary operator.equality) (t ∷ t ∷ []) ty.Bool
   equality_keeps t = binary_keeps operator.equality t t ty.Bool (λ a b v p q m. some_truth (operator.equality a b) (operator.is_same a b) v refl m.0)
 
-  inequality_keeps : (t : Ty) → KeepsTypes defs (binary operator.inequality) (t ∷ t ∷ []) ty.Bool
+  pub inequality_keeps : (t : Ty) → KeepsTypes defs (binary operator.inequality) (t ∷ t ∷ []) ty.Bool
   inequality_keeps t = binary_keeps operator.inequality t t ty.Bool (λ a b v p q m. some_truth (operator.inequality a b) (not (operator.is_same a b)) v refl m.0)
 
-  membership_keeps : (t : Ty) → KeepsTypes defs (binary operator.membership) (t ∷ ty.List t ∷ []) ty.Bool
+  pub membership_keeps : (t : Ty) → KeepsTypes defs (binary operator.membership) (t ∷ ty.List t ∷ []) ty.Bool
   membership_keeps t = binary_keeps operator.membership t (ty.List t) ty.Bool (λ a b v p q m. at a (elements b) v m.0)
     where
       at : (a : Value) (o : Option (List Value)) (v : Value) → option_map (λ (xs : List Value). value.Bool (list_any (operator.is_same a) xs)) o ≡ Some v → IsTypedValue defs ty.Bool v
@@ -169,7 +168,7 @@ module _ (defs : List SyntaxDef) where
   abbrev Ranged : (ℤ → ℤ → Option ℤ) → Type 0
   Ranged f = (x y z : ℤ) → f x y ≡ Some z → IsNumber z
 
-  in_range_number : (w z : ℤ) → in_range w ≡ Some z → IsNumber z
+  pub in_range_number : (w z : ℤ) → in_range w ≡ Some z → IsNumber z
   in_range_number w z e = at (nat_lt (unsigned_abs w) (2 ^ 128)) refl e
     where
       at : (b : Bool) → nat_lt (unsigned_abs w) (2 ^ 128) ≡ b → (if b then Some w else None) ≡ Some z → IsNumber z
@@ -183,14 +182,14 @@ module _ (defs : List SyntaxDef) where
       at true e = cc
       at false e = cc
 
-  remainder_ranged : Ranged remainder
+  pub remainder_ranged : Ranged remainder
   remainder_ranged x y z e = at (nat_eq (unsigned_abs y) 0) e
     where
       at : (b : Bool) → (if b then None else in_range (int_rem x y)) ≡ Some z → IsNumber z
       at true e = cc
       at false e = in_range_number (int_rem x y) z e
 
-  quotient_ranged : Ranged quotient
+  pub quotient_ranged : Ranged quotient
   quotient_ranged x y z e = at (nat_eq (unsigned_abs y) 0) (nat_eq (unsigned_abs (int_rem x y)) 0) e
     where
       at : (b c : Bool) → (if b then None else (if c then in_range (int_div x y) else None)) ≡ Some z → IsNumber z
@@ -198,7 +197,7 @@ module _ (defs : List SyntaxDef) where
       at false true e = in_range_number (int_div x y) z e
       at false false e = cc
 
-  power_ranged : Ranged power
+  pub power_ranged : Ranged power
   power_ranged x (pos n) z e = in_range_number (int_pow x n) z e
   power_ranged x (negsuc n) z e = cc
 
@@ -216,10 +215,10 @@ module _ (defs : List SyntaxDef) where
       at None k e = cc
       at (Some z) k e = at_type_typed n z v (r x y z k) e
 
-  arithmetic_keeps : (f : ℤ → ℤ → Option ℤ) → Ranged f → (n : NumTy) (s : Ty) → KeepsTypes defs (binary (operator.arithmetic f n)) (number_type n ∷ s ∷ []) (number_type n)
+  pub arithmetic_keeps : (f : ℤ → ℤ → Option ℤ) → Ranged f → (n : NumTy) (s : Ty) → KeepsTypes defs (binary (operator.arithmetic f n)) (number_type n ∷ s ∷ []) (number_type n)
   arithmetic_keeps f r n s = binary_keeps (operator.arithmetic f n) (number_type n) s (number_type n) (λ a b v p q m. arithmetic_typed f r n (number a) (number b) v m.0)
 
-  opposite_keeps : KeepsTypes defs (unary operator.opposite) (ty.Int ∷ []) ty.Int
+  pub opposite_keeps : KeepsTypes defs (unary operator.opposite) (ty.Int ∷ []) ty.Int
   opposite_keeps = unary_keeps operator.opposite ty.Int ty.Int (λ a v p m. at (number a) v m.0)
     where
       by : (x : ℤ) (o : Option ℤ) (v : Value) → difference (pos 0) x ≡ o → option_map value.Num o ≡ Some v → IsTypedValue defs ty.Int v
@@ -257,7 +256,7 @@ module _ (defs : List SyntaxDef) where
   made_list : (t : Ty) (xs : List Value) (v : Value) → EachTyped defs t xs → value.List xs ≡ v → height v ≤ HIGHEST_VALUE → IsTypedValue defs (ty.List t) v
   made_list t xs v h e low = subst (IsTypedValue defs (ty.List t)) e (list_typed defs t xs h (subst (λ z. height z ≤ HIGHEST_VALUE) (sym e) low))
 
-  cat_keeps : (t : Ty) → KeepsTypes defs (binary operator.concatenation) (ty.List t ∷ ty.List t ∷ []) (ty.List t)
+  pub cat_keeps : (t : Ty) → KeepsTypes defs (binary operator.concatenation) (ty.List t ∷ ty.List t ∷ []) (ty.List t)
   cat_keeps t = binary_keeps operator.concatenation (ty.List t) (ty.List t) (ty.List t) (λ a b v p q m. at a b (elements a) (elements b) refl refl p q v m.1 m.0)
     where
       at : (a b : Value) (o r : Option (List Value)) → elements a ≡ o → elements b ≡ r → IsTypedValue defs (ty.List t) a → IsTypedValue defs (ty.List t) b → (v : Value) → height v ≤ HIGHEST_VALUE
@@ -268,7 +267,7 @@ module _ (defs : List SyntaxDef) where
           let same : value.List (xs ++ ys) ≡ v = cc in
           made_list t (xs ++ ys) v (each_append t xs ys (parts_of_list t a xs p j) (parts_of_list t b ys q k)) same low
 
-  count_keeps : (t : Ty) → KeepsTypes defs (unary operator.count) (ty.List t ∷ []) ty.Nat
+  pub count_keeps : (t : Ty) → KeepsTypes defs (unary operator.count) (ty.List t ∷ []) ty.Nat
   count_keeps t = unary_keeps operator.count (ty.List t) ty.Nat (λ a v p m. at (elements a) v m.0)
     where
       by : (xs : List Value) (o : Option ℤ) (v : Value) → in_range (pos (length xs)) ≡ o → option_map value.Num o ≡ Some v → IsTypedValue defs ty.Nat v
@@ -282,7 +281,7 @@ module _ (defs : List SyntaxDef) where
       at None v e = cc
       at (Some xs) v e = by xs (in_range (pos (length xs))) v refl e
 
-  element_keeps : (t : Ty) → KeepsTypes defs (binary operator.element) (ty.List t ∷ ty.Nat ∷ []) t
+  pub element_keeps : (t : Ty) → KeepsTypes defs (binary operator.element) (ty.List t ∷ ty.Nat ∷ []) t
   element_keeps t = binary_keeps operator.element (ty.List t) ty.Nat t (λ a b v p q m. at a (elements a) (natural b) refl p v m.0)
     where
       at : (a : Value) (o : Option (List Value)) (n : Option ℕ) → elements a ≡ o → IsTypedValue defs (ty.List t) a → (v : Value) → with_both slice_get o n ≡ Some v → IsTypedValue defs t v
@@ -290,7 +289,7 @@ module _ (defs : List SyntaxDef) where
       at a (Some xs) None j p v e = cc
       at a (Some xs) (Some n) j p v e = each_get t xs n v (parts_of_list t a xs p j) e
 
-  part_keeps : (t : Ty) → KeepsTypes defs (ternary operator.part) (ty.List t ∷ ty.Nat ∷ ty.Nat ∷ []) (ty.List t)
+  pub part_keeps : (t : Ty) → KeepsTypes defs (ternary operator.part) (ty.List t ∷ ty.Nat ∷ ty.Nat ∷ []) (ty.List t)
   part_keeps t = ternary_keeps operator.part (ty.List t) ty.Nat ty.Nat (ty.List t) (λ a b c v p q r m. at a (elements a) (natural b) (natural c) refl p v m.1 m.0)
     where
       cut : (xs : List Value) (from n : ℕ) (b : Bool) (v : Value) → EachTyped defs t xs → height v ≤ HIGHEST_VALUE → option_map value.List (if b then Some (take n (drop from xs)) else None) ≡ Some v → IsTypedValue defs (ty.List t) v
@@ -327,14 +326,14 @@ module _ (defs : List SyntaxDef) where
   no_alias_tuple : (ts : List Ty) → alias_of defs (ty.Tuple ts) ≡ None
   no_alias_tuple ts = simp (ty.outs-Tuple ts) refl
 
-  tuple_keeps : (ts : List Ty) → KeepsTypes defs (λ vs. limited (value.Tuple vs)) ts (ty.Tuple ts)
+  pub tuple_keeps : (ts : List Ty) → KeepsTypes defs (λ vs. limited (value.Tuple vs)) ts (ty.Tuple ts)
   tuple_keeps ts vs v h e = subst (IsTypedValue defs (ty.Tuple ts)) (limited_is (value.Tuple vs) v e) (record {
     form = type.tuple vs ts refl (itself (no_alias_tuple ts) refl) (have_types ts vs h);
     value = record { height = limited_height (value.Tuple vs) v e; texts = subst (All IsText) (sym (texts-level defs (value.Tuple vs) (Value-F.Tuple vs) (value.outs-Tuple vs))) (have_texts ts vs h) };
     numbers = subst (All IsNumber) (sym (numbers-level defs (value.Tuple vs) (Value-F.Tuple vs) (value.outs-Tuple vs))) (have_numbers ts vs h);
   })
 
-  case_keeps : (t : Ty) (tag : Name) (ts : List Ty) (cases : List CaseDef) → IsText tag → HasCases defs t cases → operands_of cases tag ≡ Some ts → KeepsTypes defs (λ vs. limited (value.Case tag vs)) ts t
+  pub case_keeps : (t : Ty) (tag : Name) (ts : List Ty) (cases : List CaseDef) → IsText tag → HasCases defs t cases → operands_of cases tag ≡ Some ts → KeepsTypes defs (λ vs. limited (value.Case tag vs)) ts t
   case_keeps t tag ts cases told has found vs v h e = subst (IsTypedValue defs t) (limited_is (value.Case tag vs) v e) (record {
     form = type.case tag vs cases ts refl has found (have_types ts vs h);
     value = record {
@@ -346,7 +345,7 @@ module _ (defs : List SyntaxDef) where
 
   -- ---- records
 
-  abbrev types_in : List (Name × Ty) → List Ty
+  abbrev pub types_in : List (Name × Ty) → List Ty
   types_in ds = map (λ (d : Name × Ty). d.1) ds
 
   abbrev fields_with : List (Name × Ty) → List Value → List Entry
@@ -358,10 +357,10 @@ module _ (defs : List SyntaxDef) where
   fields_types (d ∷ ds) [] h = absurd h
   fields_types (d ∷ ds) (v ∷ vs) h = type.one_field refl h.0.form (fields_types ds vs h.1)
 
-  abbrev TextsIn : List Entry → Type 0
+  abbrev pub TextsIn : List Entry → Type 0
   TextsIn fs = All IsText (texts_at (map-Value Value (List (List ℕ)) texts_of (Value-F.Fields fs)))
 
-  abbrev NumbersIn : List Entry → Type 0
+  abbrev pub NumbersIn : List Entry → Type 0
   NumbersIn fs = All IsNumber (numbers_at (map-Value Value (List ℤ) numbers_of (Value-F.Fields fs)))
 
   fields_texts : (ds : List (Name × Ty)) (vs : List Value) → All (λ (d : Name × Ty). IsText d.0) ds → AreTypedValues defs (types_in ds) vs → TextsIn (fields_with ds vs)
@@ -379,7 +378,7 @@ module _ (defs : List SyntaxDef) where
   fields_numbers (d ∷ ds) [] h = absurd h
   fields_numbers (d ∷ ds) (v ∷ vs) h = All-append IsNumber (numbers_of v) _ h.0.numbers (fields_numbers ds vs h.1)
 
-  fields_keep : (t : Ty) (ds : List (Name × Ty)) → HasFields defs t ds → All (λ (d : Name × Ty). IsText d.0) ds → KeepsTypes defs (building ds) (types_in ds) t
+  pub fields_keep : (t : Ty) (ds : List (Name × Ty)) → HasFields defs t ds → All (λ (d : Name × Ty). IsText d.0) ds → KeepsTypes defs (building ds) (types_in ds) t
   fields_keep t ds has named vs v h e = subst (IsTypedValue defs t) (limited_is (value.Fields (fields_with ds vs)) v e) (record {
     form = type.fields (fields_with ds vs) ds refl has (fields_types ds vs h);
     value = record {
@@ -420,7 +419,7 @@ module _ (defs : List SyntaxDef) where
       at true e ih = let same : f.1 ≡ v = cc in subst (λ z. All IsNumber (numbers_of z)) same (All-front IsNumber (numbers_of f.1) _ h)
       at false e ih = ih e
 
-  dot_keeps : (name : Name) (t u : Ty) (ds : List (Name × Ty)) → HasFields defs t ds → field_type name ds ≡ Some u → KeepsTypes defs (unary (operator.field name)) (t ∷ []) u
+  pub dot_keeps : (name : Name) (t u : Ty) (ds : List (Name × Ty)) → HasFields defs t ds → field_type name ds ≡ Some u → KeepsTypes defs (unary (operator.field name)) (t ∷ []) u
   dot_keeps name t u ds has found = unary_keeps (operator.field name) t u (λ a v p m. at a (out-Value a) refl v p m.1 m.0)
     where
       at : (a : Value) (y : Value-F Value) → out-Value a ≡ y → (v : Value) → IsTypedValue defs t a → height v ≤ HIGHEST_VALUE → option_and_then (lookup name) (fields_at y) ≡ Some v → IsTypedValue defs u v
@@ -449,12 +448,12 @@ module _ (defs : List SyntaxDef) where
       at (ListItem-F.One g) c p k = subst (EachTyped defs t) (sym k) (p, tt)
       at (ListItem-F.All g) c p k = parts_of_list t v c p k
 
-  listing_keeps : (t : Ty) (items : List ListItem) → KeepsTypes defs (listing items) (map (part_type t) items) (ty.List t)
+  pub listing_keeps : (t : Ty) (items : List ListItem) → KeepsTypes defs (listing items) (map (part_type t) items) (ty.List t)
   listing_keeps t items vs v h e =
       let s = listing_is items vs v e in
       made_list t s.0 v (spliced_typed t items vs s.0 h s.1) s.2 (made_parts (option_map value.List (spliced items vs)) v e).1
 
-  present_keeps : (t : Ty) → KeepsTypes defs (unary (λ v. Some (value.Opt (Some v)))) (t ∷ []) (ty.Opt t)
+  pub present_keeps : (t : Ty) → KeepsTypes defs (unary (λ v. Some (value.Opt (Some v)))) (t ∷ []) (ty.Opt t)
   present_keeps t = unary_keeps (λ v. Some (value.Opt (Some v))) t (ty.Opt t) (λ a v p m.
       let same : value.Opt (Some a) ≡ v = some_one m.0 in
       subst (IsTypedValue defs (ty.Opt t)) same (present_typed defs t a p (subst (λ z. height z ≤ HIGHEST_VALUE) (sym same) m.1)))
@@ -462,11 +461,11 @@ module _ (defs : List SyntaxDef) where
   absent_low : height (value.Opt None) ≤ HIGHEST_VALUE
   absent_low = let h = height-level (value.Opt None) (Value-F.Opt None) (value.outs-Opt None) in omega (arith, h)
 
-  empty_keeps : (t : Ty) → KeepsTypes defs (constant (value.Opt None)) [] (ty.Opt t)
+  pub empty_keeps : (t : Ty) → KeepsTypes defs (constant (value.Opt None)) [] (ty.Opt t)
   empty_keeps t = constant_keeps (value.Opt None) (ty.Opt t) (absent_typed defs t absent_low)
 
   -- what has no parts, of another type by the same meaning
-  no_list_keeps : (t u : Ty) → Means defs t (ty.List u) → KeepsTypes defs (constant (value.List [])) [] t
+  pub no_list_keeps : (t u : Ty) → Means defs t (ty.List u) → KeepsTypes defs (constant (value.List [])) [] t
   no_list_keeps t u means = constant_keeps (value.List []) t (record {
     form = type.list [] u refl means type.no_more;
     value = record { height = low; texts = subst (All IsText) (sym (texts-level defs (value.List []) (Value-F.List []) (value.outs-List []))) (All-nil IsText) };
@@ -476,10 +475,10 @@ module _ (defs : List SyntaxDef) where
       low : height (value.List []) ≤ HIGHEST_VALUE
       low = let h = height-level (value.List []) (Value-F.List []) (value.outs-List []) in omega (arith, h)
 
-  no_option_keeps : (t u : Ty) → Means defs t (ty.Opt u) → KeepsTypes defs (constant (value.Opt None)) [] t
+  pub no_option_keeps : (t u : Ty) → Means defs t (ty.Opt u) → KeepsTypes defs (constant (value.Opt None)) [] t
   no_option_keeps t u means = constant_keeps (value.Opt None) t (record { form = type.absent u refl means; value = (absent_typed defs u absent_low).value; numbers = (absent_typed defs u absent_low).numbers })
 
-  text_keeps : (bytes : Name) → IsText bytes → KeepsTypes defs (constant (value.Text bytes)) [] ty.Text
+  pub text_keeps : (bytes : Name) → IsText bytes → KeepsTypes defs (constant (value.Text bytes)) [] ty.Text
   text_keeps bytes told = constant_keeps (value.Text bytes) ty.Text (record {
     form = type.text bytes refl (itself no_alias_text refl);
     value = record { height = low; texts = subst (All IsText) (sym (texts-level defs (value.Text bytes) (Value-F.Text bytes) (value.outs-Text bytes))) (All-cons IsText bytes [] told (All-nil IsText)) };
@@ -489,101 +488,9 @@ module _ (defs : List SyntaxDef) where
       low : height (value.Text bytes) ≤ HIGHEST_VALUE
       low = let h = height-level (value.Text bytes) (Value-F.Text bytes) (value.outs-Text bytes) in omega (arith, h)
 
-  up_keeps : (u t : Ty) → Sub defs u t → KeepsTypes defs unchanged (u ∷ []) t
+  pub up_keeps : (u t : Ty) → Sub defs u t → KeepsTypes defs unchanged (u ∷ []) t
   up_keeps u t sub [] v h e = absurd h
   up_keeps u t sub (a ∷ []) v h e =
       let same : a ≡ v = cc in
       subst (IsTypedValue defs t) same (record { form = Sub-up defs u t sub a h.0.form; value = h.0.value; numbers = h.0.numbers })
   up_keeps u t sub (a ∷ b ∷ more) v h e = absurd h.1
-
-  -- ---- each row
-
-  module _ (e : IlExp) (es : List IlExp) (f : Operation) (ts : List Ty) (t : Ty) (h : HasForm defs e (Strict es f)) where
-    moved : (es0 : List IlExp) (f0 : Operation) (y : Level) → out-IlExp e ≡ y → form_at y ≡ Some (Strict es0 f0) → KeepsTypes defs f0 ts t → KeepsTypes defs f ts t
-    moved es0 f0 y is k keeps =
-        let same = HasForm-single defs e _ _ (by_itself (ap form_at is ∙ k)) h in
-        let ff : f0 ≡ f = cc in
-        subst (λ z. KeepsTypes defs z ts t) ff keeps
-
-    -- the types of a plain row
-    plain_is : (f0 : Operation) (ts0 : List Ty) (t0 : Ty) → KeepsTypes defs f0 ts0 t0 → Some (types_to ts0 t0) ≡ Some (types_to ts t) → KeepsTypes defs f0 ts t
-    plain_is f0 ts0 t0 k same = subst (λ (p : List Ty × Ty). KeepsTypes defs f0 p.0 p.1) (some_one same) k
-
-    by_plain : (y : Level) → out-IlExp e ≡ y → plain_types y ≡ Some (ts, t) → KeepsTypes defs f ts t
-    by_plain (IlExp-F.Bool b) is p = moved [] (constant (value.Bool b)) (IlExp-F.Bool b) is refl (plain_is (constant (value.Bool b)) [] ty.Bool (constant_keeps (value.Bool b) ty.Bool (truth_typed b)) p)
-    by_plain (IlExp-F.Not a) is p = moved (a ∷ []) (unary operator.negation) (IlExp-F.Not a) is refl (plain_is (unary operator.negation) (ty.Bool ∷ []) ty.Bool negation_keeps p)
-    by_plain (IlExp-F.And a b) is p = moved (a ∷ b ∷ []) (binary (operator.logic ◌&&◌)) (IlExp-F.And a b) is refl (plain_is (binary (operator.logic ◌&&◌)) (ty.Bool ∷ ty.Bool ∷ []) ty.Bool (logic_keeps ◌&&◌) p)
-    by_plain (IlExp-F.Or a b) is p = moved (a ∷ b ∷ []) (binary (operator.logic ◌||◌)) (IlExp-F.Or a b) is refl (plain_is (binary (operator.logic ◌||◌)) (ty.Bool ∷ ty.Bool ∷ []) ty.Bool (logic_keeps ◌||◌) p)
-    by_plain (IlExp-F.Imp a b) is p = moved (a ∷ b ∷ []) (binary (operator.logic operator.implies)) (IlExp-F.Imp a b) is refl (plain_is (binary (operator.logic operator.implies)) (ty.Bool ∷ ty.Bool ∷ []) ty.Bool (logic_keeps operator.implies) p)
-    by_plain (IlExp-F.Iff a b) is p = moved (a ∷ b ∷ []) (binary (operator.logic operator.agrees)) (IlExp-F.Iff a b) is refl (plain_is (binary (operator.logic operator.agrees)) (ty.Bool ∷ ty.Bool ∷ []) ty.Bool (logic_keeps operator.agrees) p)
-    by_plain (IlExp-F.Neg a) is p = moved (a ∷ []) (unary operator.opposite) (IlExp-F.Neg a) is refl (plain_is (unary operator.opposite) (ty.Int ∷ []) ty.Int opposite_keeps p)
-    by_plain (IlExp-F.Add n a b) is p = moved (a ∷ b ∷ []) (binary (operator.arithmetic sum n)) (IlExp-F.Add n a b) is refl (plain_is (binary (operator.arithmetic sum n)) (number_type n ∷ number_type n ∷ []) (number_type n) (arithmetic_keeps sum (λ x y z. in_range_number (x +ℤ y) z) n (number_type n)) p)
-    by_plain (IlExp-F.Sub n a b) is p = moved (a ∷ b ∷ []) (binary (operator.arithmetic difference n)) (IlExp-F.Sub n a b) is refl (plain_is (binary (operator.arithmetic difference n)) (number_type n ∷ number_type n ∷ []) (number_type n) (arithmetic_keeps difference (λ x y z. in_range_number (x -ℤ y) z) n (number_type n)) p)
-    by_plain (IlExp-F.Mul n a b) is p = moved (a ∷ b ∷ []) (binary (operator.arithmetic product n)) (IlExp-F.Mul n a b) is refl (plain_is (binary (operator.arithmetic product n)) (number_type n ∷ number_type n ∷ []) (number_type n) (arithmetic_keeps product (λ x y z. in_range_number (x *ℤ y) z) n (number_type n)) p)
-    by_plain (IlExp-F.Div n a b) is p = moved (a ∷ b ∷ []) (binary (operator.arithmetic quotient n)) (IlExp-F.Div n a b) is refl (plain_is (binary (operator.arithmetic quotient n)) (number_type n ∷ number_type n ∷ []) (number_type n) (arithmetic_keeps quotient quotient_ranged n (number_type n)) p)
-    by_plain (IlExp-F.Rem n a b) is p = moved (a ∷ b ∷ []) (binary (operator.arithmetic remainder n)) (IlExp-F.Rem n a b) is refl (plain_is (binary (operator.arithmetic remainder n)) (number_type n ∷ number_type n ∷ []) (number_type n) (arithmetic_keeps remainder remainder_ranged n (number_type n)) p)
-    by_plain (IlExp-F.Pow n a b) is p = moved (a ∷ b ∷ []) (binary (operator.arithmetic power n)) (IlExp-F.Pow n a b) is refl (plain_is (binary (operator.arithmetic power n)) (number_type n ∷ ty.Nat ∷ []) (number_type n) (arithmetic_keeps power power_ranged n ty.Nat) p)
-    by_plain _ is p = cc
-
-  module _ (e : IlExp) (es : List IlExp) (f : Operation) (h : HasForm defs e (Strict es f)) where
-    by_compared : (t : Ty) (y : Level) → out-IlExp e ≡ y → IsCompared y t → KeepsTypes defs f (t ∷ t ∷ []) ty.Bool
-    by_compared t (IlExp-F.Eq a b) is c = moved e es f (t ∷ t ∷ []) ty.Bool h (a ∷ b ∷ []) (binary operator.equality) (IlExp-F.Eq a b) is refl (equality_keeps t)
-    by_compared t (IlExp-F.Ne a b) is c = moved e es f (t ∷ t ∷ []) ty.Bool h (a ∷ b ∷ []) (binary operator.inequality) (IlExp-F.Ne a b) is refl (inequality_keeps t)
-    by_compared t (IlExp-F.Lt a b) is c = moved e es f (t ∷ t ∷ []) ty.Bool h (a ∷ b ∷ []) (binary (operator.comparison int_lt)) (IlExp-F.Lt a b) is refl (comparison_keeps int_lt t)
-    by_compared t (IlExp-F.Gt a b) is c = moved e es f (t ∷ t ∷ []) ty.Bool h (a ∷ b ∷ []) (binary (operator.comparison operator.is_above)) (IlExp-F.Gt a b) is refl (comparison_keeps operator.is_above t)
-    by_compared t (IlExp-F.Le a b) is c = moved e es f (t ∷ t ∷ []) ty.Bool h (a ∷ b ∷ []) (binary (operator.comparison int_le)) (IlExp-F.Le a b) is refl (comparison_keeps int_le t)
-    by_compared t (IlExp-F.Ge a b) is c = moved e es f (t ∷ t ∷ []) ty.Bool h (a ∷ b ∷ []) (binary (operator.comparison operator.is_at_least)) (IlExp-F.Ge a b) is refl (comparison_keeps operator.is_at_least t)
-    by_compared t _ is c = absurd c
-
-    by_access : (y : Level) (ts : List Ty) (t : Ty) → out-IlExp e ≡ y → AccessType y ts t → KeepsTypes defs f ts t
-    by_access y ts t is (row.len {e = a} u) = moved e es f ts t h (a ∷ []) (unary operator.count) y is refl (count_keeps u)
-    by_access y ts t is (row.element {e = a} {g = b} u) = moved e es f ts t h (a ∷ b ∷ []) (binary operator.element) y is refl (element_keeps u)
-    by_access y ts t is (row.part {e = a} {g = b} {h = c} u) = moved e es f ts t h (a ∷ b ∷ c ∷ []) (ternary operator.part) y is refl (part_keeps u)
-    by_access y ts t is (row.cat {e = a} {g = b} u) = moved e es f ts t h (a ∷ b ∷ []) (binary operator.concatenation) y is refl (cat_keeps u)
-    by_access y ts t is (row.member {e = a} {g = b} u) = moved e es f ts t h (a ∷ b ∷ []) (binary operator.membership) y is refl (membership_keeps u)
-
-    -- the fields of a record are those of its type
-    by_fields : (type : Name) (gs : List IlExp) (ds : List (Name × Ty)) → out-IlExp e ≡ IlExp-F.Fields type gs → HasFields defs (ty.Name type) ds → All (λ (d : Name × Ty). IsText d.0) ds
-        → HasForm defs e (Strict es f) → KeepsTypes defs f (types_in ds) (ty.Name type)
-    by_fields type gs ds is has named (by_itself k) = let bad : None ≡ Some (Strict es f) = sym (ap form_at is) ∙ k in cc
-    by_fields type gs ds is has named (structure type' gs' ds' is' has' long k) =
-        let level : IlExp-F.Fields type gs ≡ IlExp-F.Fields type' gs' = sym is ∙ is' in
-        let name : type' ≡ type = cc in
-        let same : ds' ≡ ds = HasFields-single defs (ty.Name type) ds' ds (subst (λ z. HasFields defs (ty.Name z) ds') name has') has in
-        let made_by : building ds' ≡ f = cc in
-        subst (λ z. KeepsTypes defs z (types_in ds) (ty.Name type)) (ap building (sym same) ∙ made_by) (fields_keep (ty.Name type) ds has named)
-    by_fields type gs ds is has named (absent_list t u is' m k) = let bad : IlExp-F.Fields type gs ≡ IlExp-F.Absent t = sym is ∙ is' in cc
-    by_fields type gs ds is has named (absent_option t u is' m k) = let bad : IlExp-F.Fields type gs ≡ IlExp-F.Absent t = sym is ∙ is' in cc
-
-    by_absent : (t : Ty) → out-IlExp e ≡ IlExp-F.Absent t → HasForm defs e (Strict es f) → KeepsTypes defs f [] t
-    by_absent t is (by_itself k) = let bad : None ≡ Some (Strict es f) = sym (ap form_at is) ∙ k in cc
-    by_absent t is (structure type' gs' ds' is' has' long k) = let bad : IlExp-F.Absent t ≡ IlExp-F.Fields type' gs' = sym is ∙ is' in cc
-    by_absent t is (absent_list t' u is' m k) =
-        let level : IlExp-F.Absent t ≡ IlExp-F.Absent t' = sym is ∙ is' in
-        let same : t' ≡ t = cc in
-        let made_by : constant (value.List []) ≡ f = cc in
-        subst (λ z. KeepsTypes defs z [] t) made_by (no_list_keeps t u (subst (λ z. Means defs z (ty.List u)) same m))
-    by_absent t is (absent_option t' u is' m k) =
-        let level : IlExp-F.Absent t ≡ IlExp-F.Absent t' = sym is ∙ is' in
-        let same : t' ≡ t = cc in
-        let made_by : constant (value.Opt None) ≡ f = cc in
-        subst (λ z. KeepsTypes defs z [] t) made_by (no_option_keeps t u (subst (λ z. Means defs z (ty.Opt u)) same m))
-
-    keeps : (y : Level) (ts : List Ty) (t : Ty) → out-IlExp e ≡ y → OperationType defs y ts t → KeepsTypes defs f ts t
-    keeps y ts t is (row.plain p) = by_plain e es f ts t h y is p
-    keeps y ts t is (row.compared u c) = by_compared u y is c
-    keeps y ts t is (row.access a) = by_access y ts t is a
-    keeps y ts t is (row.number {n = n} r) = moved e es f ts t h [] (constant (value.Num (pos n))) y is refl (constant_keeps (value.Num (pos n)) ty.Nat (natural_typed defs n r))
-    keeps y ts t is (row.text {bytes = bytes} told) = moved e es f ts t h [] (constant (value.Text bytes)) y is refl (text_keeps bytes told)
-    keeps y ts t is (row.case {type = type} {tag = tag} {es = gs} cases told has found) = moved e es f ts t h gs (λ vs. limited (value.Case tag vs)) y is refl (case_keeps (ty.Name type) tag ts cases told has found)
-    keeps y ts t is (row.fields {type = type} {es = gs} ds has named) = by_fields type gs ds is has named h
-    keeps y ts t is (row.dot {e = a} {name = name} {t = s} {u = u} ds has found) = moved e es f ts t h (a ∷ []) (unary (operator.field name)) y is refl (dot_keeps name s u ds has found)
-    keeps y ts t is (row.tuple {es = gs} us) = moved e es f ts t h gs (λ vs. limited (value.Tuple vs)) y is refl (tuple_keeps ts)
-    keeps y ts t is (row.list {t = u} {items = items}) = moved e es f ts t h (map item_exp items) (listing items) y is refl (listing_keeps u items)
-    keeps y ts t is (row.empty {t = u}) = moved e es f ts t h [] (constant (value.Opt None)) y is refl (empty_keeps u)
-    keeps y ts t is (row.present {e = a} u) = moved e es f ts t h (a ∷ []) (unary (λ v. Some (value.Opt (Some v)))) y is refl (present_keeps u)
-    keeps y ts t is (row.absent {t = u}) = by_absent u is h
-    keeps y ts t is (row.up {e = a} {t = s} u sub) = moved e es f ts t h (a ∷ []) unchanged y is refl (up_keeps u s sub)
-
-pub law_of_operations : LawOfOperations
-law_of_operations defs e es f ts t h r = keeps defs e es f h (out-IlExp e) ts t refl r

@@ -1,13 +1,13 @@
 -- Which types operations keep: from which types of the operands to which type.
-use Rattle.std.specs.Prelude.{◌≡◌, ℕ, pos, List, [], ◌∷◌, map, All, Option, Some, None, bytes_eq, if◌then◌else◌}
+use Rattle.std.specs.Prelude.{◌≡◌, ℕ, pos, List, [], ◌∷◌, ◌++◌, map, All, Option, Some, None, bytes_eq, if◌then◌else◌}
 use Rattle.st_num.specs.Number.{IsNumber}
 use Rattle.st_num.specs.Texts.{IsText}
 use Rattle.st_il.specs.declared.definition.SyntaxDef.{SyntaxDef}
 use Rattle.st_il.specs.declared.expression.IlExp.{IlExp}
-use Rattle.st_il.specs.declared.expression.IlExp.TheOpen.{IlExp-F, ListItem-F}
+use Rattle.st_il.specs.declared.expression.IlExp.TheOpen.{IlExp-F, ListItem-F, PathSeg-F}
 use Rattle.st_il.specs.declared.expression.Iteration.{Iteration}
 use Rattle.st_il.specs.declared.expression.ListItem.{ListItem, out-ListItem}
-use Rattle.st_il.specs.declared.expression.PathSeg.{PathSeg}
+use Rattle.st_il.specs.declared.expression.PathSeg.{PathSeg, out-PathSeg}
 use Rattle.st_il.specs.declared.ty.NumTy.{NumTy}
 use Rattle.st_il.specs.declared.ty.NumTy.TheVariants as numbers
 use Rattle.st_il.specs.declared.ty.Ty.{Ty}
@@ -78,6 +78,20 @@ pub data AccessType {E K L S : Type 0} : IlExp-F E K L S → List Ty → Ty → 
   member : {e g : E} (t : Ty)
       → AccessType (IlExp-F.Member e g) (t ∷ ty.List t ∷ []) ty.Bool
 
+-- A path leads from values of a type, with positions of these types, to values of another one.
+pub data PathType (defs : List SyntaxDef) : List PathSeg → Ty → List Ty → Ty → Type 0 where
+  here : {t : Ty} → PathType defs [] t [] t
+  field : {s : PathSeg} {ss : List PathSeg} {t w : Ty} {ts : List Ty} (name : Name) (u : Ty)
+      (declared : List (Name × Ty)) → out-PathSeg s ≡ PathSeg-F.Field name
+      → HasFields defs t declared → field_type name declared ≡ Some u
+      → PathType defs ss u ts w → PathType defs (s ∷ ss) t ts w
+  element : {s : PathSeg} {ss : List PathSeg} {w : Ty} {ts : List Ty} (u : Ty) (e : IlExp)
+      → out-PathSeg s ≡ PathSeg-F.PathSeg::At e → PathType defs ss u ts w
+      → PathType defs (s ∷ ss) (ty.List u) (ty.Nat ∷ ts) w
+  part : {s : PathSeg} {ss : List PathSeg} {w : Ty} {ts : List Ty} (u : Ty) (e g : IlExp)
+      → out-PathSeg s ≡ PathSeg-F.PathSeg::Slice e g → PathType defs ss (ty.List u) ts w
+      → PathType defs (s ∷ ss) (ty.List u) (ty.Nat ∷ ty.Nat ∷ ts) w
+
 -- the level of an expression
 abbrev pub Level : Type 0
 Level = IlExp-F IlExp Iteration ListItem PathSeg
@@ -101,6 +115,12 @@ pub data OperationType (defs : List SyntaxDef) : Level → List Ty → Ty → Ty
   dot : {e : IlExp} {name : Name} {t u : Ty} (declared : List (Name × Ty))
       → HasFields defs t declared → field_type name declared ≡ Some u
       → OperationType defs (IlExp-F.Dot e name) (t ∷ []) u
+  set : {e g : IlExp} {path : List PathSeg} {t : Ty} (ts : List Ty) (w : Ty)
+      → PathType defs path t ts w
+      → OperationType defs (IlExp-F.Set e path g) (t ∷ (ts ++ w ∷ [])) t
+  extend : {e g : IlExp} {path : List PathSeg} {t : Ty} (ts : List Ty) (u : Ty)
+      → PathType defs path t ts (ty.List u)
+      → OperationType defs (IlExp-F.Extend e path g) (t ∷ (ts ++ ty.List u ∷ [])) t
   tuple : {es : List IlExp} (ts : List Ty)
       → OperationType defs (IlExp-F.Tuple es) ts (ty.Tuple ts)
   list : {t : Ty} {items : List ListItem}
