@@ -113,7 +113,7 @@ module _ (defs : List SyntaxDef) where
   pub no_alias_option : (t : Ty) → alias_of defs (ty.Opt t) ≡ None
   no_alias_option t = simp (ty.outs-Opt t) refl
 
-  list_column : (t : Ty) (v : Value) (c : Column) → IsTypedValue defs (ty.List t) v → column_of kind.List (Some v) ≡ Some c → EachTyped t c
+  pub list_column : (t : Ty) (v : Value) (c : Column) → IsTypedValue defs (ty.List t) v → column_of kind.List (Some v) ≡ Some c → EachTyped t c
   list_column t v c typed e =
       list_parts v (out-Value v) t c (fold_out-Value ℕ height_at v) (fold_out-Value (List (List ℕ)) texts_at v) (fold_out-Value (List ℤ) numbers_at v) typed
       (subst (λ z. TypedAt defs (out-Value v) z (ty.List t)) (ty.outs-List t) (typed-opened defs v (ty.List t) (ty.List t) (itself (no_alias_list t) refl) typed.form)) e

@@ -101,7 +101,7 @@ SameOperands es f = (vs ws : List Value) (v : Value) → LengthsAgree es vs ws �
 abbrev pub SameLengths : List IlExp → Operation → Type 0
 SameLengths es f = (vs ws : List Value) (v w : Value) → LengthsAgree es vs ws → f vs ≡ Val v → f ws ≡ Val w → SameLength v w
 
-some_one : {A : Type 0} {x y : A} → Some x ≡ Some y → x ≡ y
+pub some_one : {A : Type 0} {x y : A} → Some x ≡ Some y → x ≡ y
 some_one e = cc
 
 pub length_itself : (v w : Value) → v ≡ w → SameLength v w
@@ -167,14 +167,14 @@ append_split (x ∷ c) (y ∷ d) r s e l =
     (ap₂ (λ p q. p ∷ q) first more.0, more.1)
 
 -- a part of a list, by its value
-abbrev Chunk : ListItem-F IlExp Iteration ListItem PathSeg → Value → List Value → Type 0
+abbrev pub Chunk : ListItem-F IlExp Iteration ListItem PathSeg → Value → List Value → Type 0
 Chunk (ListItem-F.One e) v c = c ≡ v ∷ []
 Chunk (ListItem-F.All e) v c = elements v ≡ Some c
 
-abbrev Spliced : ListItem → List ListItem → Value → List Value → List Value → Type 0
+abbrev pub Spliced : ListItem → List ListItem → Value → List Value → List Value → Type 0
 Spliced i is v vs zs = (c : List Value) × (r : List Value) × Chunk (out-ListItem i) v c × (spliced is vs ≡ Some r) × (c ++ r ≡ zs)
 
-splice_parts : (i : ListItem) (is : List ListItem) (v : Value) (vs zs : List Value) → spliced (i ∷ is) (v ∷ vs) ≡ Some zs → Spliced i is v vs zs
+pub splice_parts : (i : ListItem) (is : List ListItem) (v : Value) (vs zs : List Value) → spliced (i ∷ is) (v ∷ vs) ≡ Some zs → Spliced i is v vs zs
 splice_parts i is v vs zs e = at (spliced is vs) refl e
   where
     all : (r : List Value) → spliced is vs ≡ Some r → (o : Option (List Value)) → elements v ≡ o → option_map (λ (c : List Value). c ++ r) o ≡ Some zs
@@ -275,7 +275,7 @@ same_spliced (i ∷ is) (v ∷ vs) (w ∷ ws) zs l o p q = at (item_lengths i).f
         finish s t (omega (arith, rest, whole)) (omega (arith, few)) ih
 
 -- the list that was made
-listing_is : (is : List ListItem) (vs : List Value) (v : Value) → listing is vs ≡ Val v → (zs : List Value) × (spliced is vs ≡ Some zs) × (value.List zs ≡ v)
+pub listing_is : (is : List ListItem) (vs : List Value) (v : Value) → listing is vs ≡ Val v → (zs : List Value) × (spliced is vs ≡ Some zs) × (value.List zs ≡ v)
 listing_is is vs v e = at (spliced is vs) refl (made_is (option_map value.List (spliced is vs)) v e)
   where
     at : (o : Option (List Value)) → spliced is vs ≡ o → option_map value.List o ≡ Some v → (zs : List Value) × (spliced is vs ≡ Some zs) × (value.List zs ≡ v)

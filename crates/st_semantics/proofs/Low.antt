@@ -29,7 +29,7 @@ abbrev AllLow : List Value → Type 0
 AllLow [] = Unit {0}
 AllLow (v ∷ vs) = IsLow v × AllLow vs
 
-height-level : (v : Value) (y : Value-F Value) → out-Value v ≡ y → height v ≡ height_at (map-Value Value ℕ height y)
+pub height-level : (v : Value) (y : Value-F Value) → out-Value v ≡ y → height v ≡ height_at (map-Value Value ℕ height y)
 height-level v y e = fold_out-Value ℕ height_at v ∙ ap (λ z. height_at (map-Value Value ℕ height z)) e
 
 highest_low : (vs : List Value) → highest (map height vs) ≤ HIGHEST_VALUE → AllLow vs

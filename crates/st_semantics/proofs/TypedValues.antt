@@ -57,7 +57,7 @@ use Rattle.st_semantics.proofs.Low.{number_low}
 
 -- ---- what is gathered
 
-limited_height : (x v : Value) → limited x ≡ Val v → height x ≤ HIGHEST_VALUE
+pub limited_height : (x v : Value) → limited x ≡ Val v → height x ≤ HIGHEST_VALUE
 limited_height x v e = at (nat_le (height x) HIGHEST_VALUE) refl e
   where
     at : (b : Bool) → nat_le (height x) HIGHEST_VALUE ≡ b → (if b then Val x else Deep) ≡ Val v → height x ≤ HIGHEST_VALUE
@@ -77,27 +77,27 @@ module _ (defs : List SyntaxDef) where
   all_numbers t [] h = All-nil IsNumber
   all_numbers t (v ∷ vs) h = All-append IsNumber (numbers_of v) (flattened (map numbers_of vs)) h.0.numbers (all_numbers t vs h.1)
 
-  texts-level : (v : Value) (y : Value-F Value) → out-Value v ≡ y → texts_of v ≡ texts_at (map-Value Value (List (List ℕ)) texts_of y)
+  pub texts-level : (v : Value) (y : Value-F Value) → out-Value v ≡ y → texts_of v ≡ texts_at (map-Value Value (List (List ℕ)) texts_of y)
   texts-level v y e = fold_out-Value (List (List ℕ)) texts_at v ∙ ap (λ z. texts_at (map-Value Value (List (List ℕ)) texts_of z)) e
 
-  numbers-level : (v : Value) (y : Value-F Value) → out-Value v ≡ y → numbers_of v ≡ numbers_at (map-Value Value (List ℤ) numbers_of y)
+  pub numbers-level : (v : Value) (y : Value-F Value) → out-Value v ≡ y → numbers_of v ≡ numbers_at (map-Value Value (List ℤ) numbers_of y)
   numbers-level v y e = fold_out-Value (List ℤ) numbers_at v ∙ ap (λ z. numbers_at (map-Value Value (List ℤ) numbers_of z)) e
 
-  list_typed : (t : Ty) (vs : List Value) → EachTyped defs t vs → height (value.List vs) ≤ HIGHEST_VALUE → IsTypedValue defs (ty.List t) (value.List vs)
+  pub list_typed : (t : Ty) (vs : List Value) → EachTyped defs t vs → height (value.List vs) ≤ HIGHEST_VALUE → IsTypedValue defs (ty.List t) (value.List vs)
   list_typed t vs h low = record {
     form = type.list vs t refl (itself (no_alias_list defs t) refl) (all_types t vs h);
     value = record { height = low; texts = subst (All IsText) (sym (texts-level (value.List vs) (Value-F.List vs) (value.outs-List vs))) (all_texts t vs h) };
     numbers = subst (All IsNumber) (sym (numbers-level (value.List vs) (Value-F.List vs) (value.outs-List vs))) (all_numbers t vs h);
   }
 
-  absent_typed : (t : Ty) → height (value.Opt None) ≤ HIGHEST_VALUE → IsTypedValue defs (ty.Opt t) (value.Opt None)
+  pub absent_typed : (t : Ty) → height (value.Opt None) ≤ HIGHEST_VALUE → IsTypedValue defs (ty.Opt t) (value.Opt None)
   absent_typed t low = record {
     form = type.absent t refl (itself (no_alias_option defs t) refl);
     value = record { height = low; texts = subst (All IsText) (sym (texts-level (value.Opt None) (Value-F.Opt None) (value.outs-Opt None))) (All-nil IsText) };
     numbers = subst (All IsNumber) (sym (numbers-level (value.Opt None) (Value-F.Opt None) (value.outs-Opt None))) (All-nil IsNumber);
   }
 
-  present_typed : (t : Ty) (v : Value) → IsTypedValue defs t v → height (value.Opt (Some v)) ≤ HIGHEST_VALUE → IsTypedValue defs (ty.Opt t) (value.Opt (Some v))
+  pub present_typed : (t : Ty) (v : Value) → IsTypedValue defs t v → height (value.Opt (Some v)) ≤ HIGHEST_VALUE → IsTypedValue defs (ty.Opt t) (value.Opt (Some v))
   present_typed t v h low = record {
     form = type.present v t refl (itself (no_alias_option defs t) refl) h.form;
     value = record { height = low; texts = subst (All IsText) (sym (texts-level (value.Opt (Some v)) (Value-F.Opt (Some v)) (value.outs-Opt (Some v)))) h.value.texts };
@@ -118,7 +118,7 @@ number_below : (j n : ℕ) → j ≤ n → IsNumber (pos n) → IsNumber (pos j)
 number_below j n le h = omega (arith, le, h)
 
 -- a number that is not negative, where it is in range
-natural_typed : (defs : List SyntaxDef) (n : ℕ) → IsNumber (pos n) → IsTypedValue defs ty.Nat (value.Num (pos n))
+pub natural_typed : (defs : List SyntaxDef) (n : ℕ) → IsNumber (pos n) → IsTypedValue defs ty.Nat (value.Num (pos n))
 natural_typed defs n h = record {
   form = type.natural n refl (itself (no_alias_nat defs) refl);
   value = record { height = number_low n; texts = subst (All IsText) (sym (texts-level defs (value.Num (pos n)) (Value-F.Num (pos n)) (value.outs-Num (pos n)))) (All-nil IsText) };

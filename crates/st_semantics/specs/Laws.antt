@@ -6,7 +6,8 @@ use Rattle.st_il.specs.declared.definition.ClauseDef.{ClauseDef}
 use Rattle.st_il.specs.declared.definition.Il.{Il}
 use Rattle.st_il.specs.declared.definition.RuleDef.{RuleDef}
 use Rattle.st_il.specs.declared.definition.Listed.{Listed}
-use Rattle.st_il.specs.declared.expression.IlExp.{IlExp}
+use Rattle.st_il.specs.declared.definition.SyntaxDef.{SyntaxDef}
+use Rattle.st_il.specs.declared.expression.IlExp.{IlExp, out-IlExp}
 use Rattle.st_il.specs.declared.tree.Tree.{Tree}
 use Rattle.st_il.specs.declared.ty.Ty.{Ty}
 use Rattle.st_il.specs.declared.value.Env.{Env}
@@ -21,7 +22,10 @@ use Rattle.st_semantics.specs.Environments.{AgreeOn, EnvOk, IsTypedValue}
 use Rattle.st_semantics.specs.Orders.{is_order}
 use Rattle.st_semantics.specs.OrderOf.{order_of}
 use Rattle.st_semantics.specs.Formed.{IsFormed, ResultsAreFormed}
-use Rattle.st_semantics.specs.Typing.{ExpHasType, ResultsAreTyped}
+use Rattle.st_semantics.specs.Parts.{Operation}
+use Rattle.st_semantics.specs.Forms.{HasForm, Strict}
+use Rattle.st_semantics.specs.Typing.{KeepsTypes, ExpHasType, ResultsAreTyped}
+use Rattle.st_semantics.specs.OperationTypes.{OperationType}
 use Rattle.st_semantics.specs.Variables.{vars}
 use Rattle.st_semantics.specs.ModeRules.{IsOtherwise, bound_in_clause}
 use Rattle.st_semantics.specs.Breaches.{KeepModes, ClausesKeep}
@@ -105,6 +109,12 @@ LawOfTypes =
     (il : Il) → ResultsAreTyped il → (n : ℕ) (ls : List Listed) (env : Env) (e : IlExp) (t : Ty)
     (v : Value) → ExpHasType il ls e t → EnvOk (syntaxes il) ls env → ValueAt il n env e (Val v)
     → IsTypedValue (syntaxes il) t v
+
+-- an operation keeps the types that are told of an expression of its level
+abbrev pub LawOfOperations : Type 0
+LawOfOperations =
+    (defs : List SyntaxDef) (e : IlExp) (es : List IlExp) (f : Operation) (ts : List Ty) (t : Ty)
+    → HasForm defs e (Strict es f) → OperationType defs (out-IlExp e) ts t → KeepsTypes defs f ts t
 
 -- ---- derivation
 
