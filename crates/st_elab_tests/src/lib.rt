@@ -1,7 +1,7 @@
 //! Expressions in text, elaborated at types in text, and each call of elaboration made once.
 //!
-//! Nothing is called from here: the crate holds the tests of `check_exp` and `infer_exp` that need
-//! the parser. Declarations and types are read from the text of the internal language, and what
+//! Nothing is called from here: the crate holds the tests of the middle, most of which need the
+//! parser. Declarations and types are read from the text of the internal language, and what
 //! an expression is elaborated to is printed in it.
 //!
 //! Read `rows` first; each is worked out by hand from `docs/elaboration.md`. That a call has an
@@ -22,3 +22,5 @@ mod sources;
 mod tags;
 #[cfg(test)]
 mod tests;
+#[cfg(test)]
+mod types;

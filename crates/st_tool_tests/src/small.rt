@@ -80,18 +80,17 @@ fn texts_that_are_small_and_that_are_not(rt: HostRuntime) -> Result<(), Fail> {
     Ok(())
 }
 
+/// The letter that is the last digit of the number.
+fn letter(number: u32) -> u8 {
+    b'A'.saturating_add((number % 26) as u8)
+}
+
 /// A text of this many atoms, whose letters are the digits of their numbers.
 fn text_of_atoms(alloc: Global, atoms: u32) -> Result<Vec<u8>, AllocError> {
     let mut text = Vec::from_slice(alloc, b"syntax s = | A")?;
     for atom in 1..atoms {
-        text.extend_from_slice(&[
-            b' ',
-            b'|',
-            b' ',
-            b'B' + (atom / 256) as u8,
-            b'A' + (atom / 16 % 16) as u8,
-            b'A' + (atom % 16) as u8,
-        ])?;
+        text.extend_from_slice(b" | ")?;
+        text.extend_from_slice(&[letter(atom / 676), letter(atom / 26), letter(atom)])?;
     }
     text.extend_from_slice(b"\nrelation R: s ~> s\n")?;
     Ok(text)
