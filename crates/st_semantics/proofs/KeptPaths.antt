@@ -183,10 +183,10 @@ module _ (defs : List SyntaxDef) where
   KeepsSound t r = (x y : Value) → Sound t x → r x ≡ Some y → Sound t y
 
   -- the fields of a record
-  record SoundFields (fs : List Entry) (ds : List (Name × Ty)) : Type 0 where
-    have : FieldsHaveTypes defs fs ds
-    told : TextsIn defs fs
-    numbered : NumbersIn defs fs
+  pub record SoundFields (fs : List Entry) (ds : List (Name × Ty)) : Type 0 where
+    pub have : FieldsHaveTypes defs fs ds
+    pub told : TextsIn defs fs
+    pub numbered : NumbersIn defs fs
 
   field_sound : (name : Name) (u : Ty) (r : Replaces) → KeepsSound u r → (fs gs : List Entry) (ds : List (Name × Ty)) → SoundFields fs ds → field_type name ds ≡ Some u → in_field name r fs ≡ Some gs → SoundFields gs ds
   field_sound name u r keeps [] gs ds h found e = cc

@@ -74,7 +74,7 @@ module _ (defs : List SyntaxDef) where
   unary_keeps f t u k (a ∷ []) v h e = k a v h.0 (made_parts (f a) v e)
   unary_keeps f t u k (a ∷ b ∷ more) v h e = absurd h.1
 
-  binary_keeps : (f : Value → Value → Option Value) (s t u : Ty) → ((a b v : Value) → IsTypedValue defs s a → IsTypedValue defs t b → Made (f a b) v → IsTypedValue defs u v) → KeepsTypes defs (binary f) (s ∷ t ∷ []) u
+  pub binary_keeps : (f : Value → Value → Option Value) (s t u : Ty) → ((a b v : Value) → IsTypedValue defs s a → IsTypedValue defs t b → Made (f a b) v → IsTypedValue defs u v) → KeepsTypes defs (binary f) (s ∷ t ∷ []) u
   binary_keeps f s t u k [] v h e = absurd h
   binary_keeps f s t u k (a ∷ []) v h e = absurd h.1
   binary_keeps f s t u k (a ∷ b ∷ []) v h e = k a b v h.0 h.1.0 (made_parts (f a b) v e)

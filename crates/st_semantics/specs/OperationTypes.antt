@@ -14,6 +14,7 @@ use Rattle.st_il.specs.declared.ty.Ty.{Ty}
 use Rattle.st_il.specs.declared.ty.Ty.TheVariants as ty
 use Rattle.st_type_table.specs.declared.entry.CaseDef.{CaseDef}
 use Rattle.st_type_table.specs.Cases.{HasCases, HasFields, operands_of}
+use Rattle.st_type_table.specs.Joins.{Joins}
 use Rattle.st_type_table.specs.Meaning.{Means}
 use Rattle.st_types.specs.Sub.{Sub}
 use Rattle.st_semantics.specs.Names.{Name}
@@ -121,6 +122,8 @@ pub data OperationType (defs : List SyntaxDef) : Level → List Ty → Ty → Ty
   extend : {e g : IlExp} {path : List PathSeg} {t : Ty} (ts : List Ty) (u : Ty)
       → PathType defs path t ts (ty.List u)
       → OperationType defs (IlExp-F.Extend e path g) (t ∷ (ts ++ ty.List u ∷ [])) t
+  join : {e g : IlExp} (t : Ty) → Joins defs t
+      → OperationType defs (IlExp-F.Join e g) (t ∷ t ∷ []) t
   tuple : {es : List IlExp} (ts : List Ty)
       → OperationType defs (IlExp-F.Tuple es) ts (ty.Tuple ts)
   list : {t : Ty} {items : List ListItem}
