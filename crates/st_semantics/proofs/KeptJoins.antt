@@ -24,11 +24,11 @@ use Rattle.st_semantics.specs.Names.{Name, flattened}
 use Rattle.st_semantics.specs.Environments.{Entry, numbers_of}
 use Rattle.st_semantics.specs.Parts.{option_list, binary, with_both}
 use Rattle.st_semantics.specs.Operators.{Joining, joined_options, joined_fields, values_of, joined_by, joining_at, join}
-use Rattle.st_semantics.specs.Typing.{KeepsTypes}
+use Rattle.st_semantics.specs.OperationTypes.{KeepsTypes}
 use Rattle.st_semantics.proofs.Elements.{All-front, All-back}
 use Rattle.st_semantics.proofs.Columns.{same_out}
 use Rattle.st_semantics.proofs.Lengths.{some_one}
-use Rattle.st_semantics.proofs.TypedValues.{texts-level, numbers-level}
+use Rattle.st_semantics.proofs.TypedParts.{texts-level, numbers-level}
 use Rattle.st_semantics.proofs.KeptTypes.{binary_keeps, TextsIn, NumbersIn}
 use Rattle.st_semantics.proofs.KeptPaths.{Sound, sound_of, typed_by, SoundFields}
 

@@ -45,7 +45,7 @@ use Rattle.st_semantics.specs.Parts.{fields_at, Operation, constant, unchanged, 
 use Rattle.st_semantics.specs.Operators as operator
 use Rattle.st_semantics.specs.Forms.{HasForm, Strict, form_at, operation_at, by_itself, structure, absent_list, absent_option, listing, building, spliced}
 use Rattle.st_semantics.specs.Operands.{item_exp}
-use Rattle.st_semantics.specs.Typing.{KeepsTypes}
+use Rattle.st_semantics.specs.OperationTypes.{KeepsTypes}
 use Rattle.st_semantics.specs.OperationTypes as row
 use Rattle.st_semantics.specs.OperationTypes.{number_type, both, plain_types, IsCompared, part_type, part_type_at, field_type, AccessType, Level, OperationType}
 use Rattle.st_semantics.specs.Laws.{LawOfOperations}
@@ -53,7 +53,7 @@ use Rattle.st_semantics.proofs.Singles.{HasForm-single}
 use Rattle.st_semantics.proofs.Elements.{All-front, All-back, EachTyped, list_column}
 use Rattle.st_semantics.proofs.Lengths.{some_one, limited_is, listing_is, Chunk, splice_parts}
 use Rattle.st_semantics.proofs.Low.{height-level}
-use Rattle.st_semantics.proofs.TypedValues.{limited_height, texts-level, numbers-level, list_typed, absent_typed, present_typed, natural_typed}
+use Rattle.st_semantics.proofs.TypedParts.{limited_height, texts-level, numbers-level, list_typed, absent_typed, present_typed, natural_typed}
 use Rattle.st_semantics.proofs.KeptTypes.{constant_keeps, truth_typed, logic_keeps, negation_keeps, comparison_keeps, equality_keeps, inequality_keeps, membership_keeps, in_range_number, remainder_ranged, quotient_ranged, power_ranged, arithmetic_keeps, opposite_keeps, cat_keeps, count_keeps, element_keeps, part_keeps, tuple_keeps, case_keeps, fields_keep, dot_keeps, listing_keeps, present_keeps, empty_keeps, no_list_keeps, no_option_keeps, text_keeps, up_keeps, types_in, types_to}
 use Rattle.st_semantics.proofs.KeptPaths.{setting_keeps, extension_keeps}
 use Rattle.st_semantics.proofs.KeptJoins.{join_keeps}

@@ -24,8 +24,8 @@ use Rattle.st_semantics.specs.OrderOf.{order_of}
 use Rattle.st_semantics.specs.Formed.{IsFormed, ResultsAreFormed}
 use Rattle.st_semantics.specs.Parts.{Operation}
 use Rattle.st_semantics.specs.Forms.{HasForm, Strict}
-use Rattle.st_semantics.specs.Typing.{KeepsTypes, ExpHasType, ResultsAreTyped}
-use Rattle.st_semantics.specs.OperationTypes.{OperationType}
+use Rattle.st_semantics.specs.Typing.{ExpHasType, ResultsAreTyped}
+use Rattle.st_semantics.specs.OperationTypes.{OperationType, KeepsTypes}
 use Rattle.st_semantics.specs.Variables.{vars}
 use Rattle.st_semantics.specs.ModeRules.{IsOtherwise, bound_in_clause}
 use Rattle.st_semantics.specs.Breaches.{KeepModes, ClausesKeep}
@@ -102,6 +102,12 @@ abbrev pub LawOfOutcomes : Type 0
 LawOfOutcomes =
     (il : Il) → ResultsAreFormed il → (n : ℕ) (env : Env) (e : IlExp) → IsFormed (syntaxes il) e
     → ((o : Outcome) → ValueAt il n env e o → ⊥) → ⊥
+
+-- they fit their types in an expression that has a type
+abbrev pub LawOfForms : Type 0
+LawOfForms =
+    (il : Il) (ls : List Listed) (e : IlExp) (t : Ty) → ExpHasType il ls e t
+    → IsFormed (syntaxes il) e
 
 -- Where the results of clauses have the declared types, the value of an expression has its type.
 abbrev pub LawOfTypes : Type 0

@@ -17,7 +17,11 @@ use Rattle.st_type_table.specs.Cases.{HasCases, HasFields, operands_of}
 use Rattle.st_type_table.specs.Joins.{Joins}
 use Rattle.st_type_table.specs.Meaning.{Means}
 use Rattle.st_types.specs.Sub.{Sub}
+use Rattle.st_il.specs.declared.value.Value.{Value}
+use Rattle.st_semantics.specs.declared.outcome.Outcome.TheVariants.{Val}
 use Rattle.st_semantics.specs.Names.{Name}
+use Rattle.st_semantics.specs.Environments.{IsTypedValue, AreTypedValues}
+use Rattle.st_semantics.specs.Parts.{Operation}
 
 abbrev pub number_type : NumTy → Ty
 number_type numbers.Nat = ty.Nat
@@ -133,3 +137,8 @@ pub data OperationType (defs : List SyntaxDef) : Level → List Ty → Ty → Ty
   absent : {t : Ty} → OperationType defs (IlExp-F.Absent t) [] t
   up : {e : IlExp} {t : Ty} (u : Ty) → Sub defs u t
       → OperationType defs (IlExp-F.Up t e) (u ∷ []) t
+
+-- Of values of these types an operation makes only values of that type.
+abbrev pub KeepsTypes : List SyntaxDef → Operation → List Ty → Ty → Type 0
+KeepsTypes defs f ts t =
+    (vs : List Value) (v : Value) → AreTypedValues defs ts vs → f vs ≡ Val v → IsTypedValue defs t v
