@@ -4,13 +4,15 @@ use Rattle.st_il.specs.declared.definition.ClauseDef.{ClauseDef}
 use Rattle.st_il.specs.declared.definition.FunDef.{FunDef}
 use Rattle.st_il.specs.declared.definition.Il.{Il}
 use Rattle.st_il.specs.declared.definition.Listed.{Listed}
+use Rattle.st_il.specs.declared.definition.RelationDef.{RelationDef}
+use Rattle.st_il.specs.declared.definition.RuleDef.{RuleDef}
 use Rattle.st_il.specs.declared.expression.IlExp.{IlExp, out-IlExp}
 use Rattle.st_il.specs.declared.expression.Iteration.{Iteration}
 use Rattle.st_il.specs.declared.ty.Ty.{Ty}
 use Rattle.st_il.specs.declared.ty.Ty.TheVariants as ty
 use Rattle.st_type_table.specs.Same.{Same}
 use Rattle.st_semantics.specs.Names.{Name}
-use Rattle.st_semantics.specs.Definitions.{syntaxes, funs_in, clauses_in}
+use Rattle.st_semantics.specs.Definitions.{syntaxes, relation_named, funs_in, clauses_in, rules_in}
 use Rattle.st_semantics.specs.Environments.{wrapped, type_of, listed_as}
 use Rattle.st_semantics.specs.Parts.{Operation}
 use Rattle.st_semantics.specs.Forms.{HasForm, Strict, Variable, Calls, Iterates}
@@ -57,3 +59,9 @@ abbrev pub ResultsAreTyped : Il → Type 0
 ResultsAreTyped il =
     All (λ (c : ClauseDef). (declared : FunDef) → function_named il c.fun ≡ Some declared
     → ExpHasType il c.variables c.result declared.result) (clauses_in il.defs)
+
+-- the holes of the conclusion of each rule have the types of its relation
+abbrev pub ConclusionsAreTyped : Il → Type 0
+ConclusionsAreTyped il =
+    All (λ (r : RuleDef). (declared : RelationDef) → relation_named il r.relation ≡ Some declared
+    → ExpsHaveTypes il r.variables r.conclusion declared.holes) (rules_in il.defs)
