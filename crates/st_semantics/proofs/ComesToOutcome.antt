@@ -3,6 +3,8 @@ use Rattle.std.proofs.Common.{◌≡◌, ℕ, zero, suc, refl, sym, ap, List, []
 use Rattle.std.proofs.lemmas.List.Elements.{All-cons, All-head, All-tail}
 use Rattle.st_il.specs.declared.definition.ClauseDef.{ClauseDef}
 use Rattle.st_il.specs.declared.definition.Il.{Il}
+use Rattle.st_il.specs.declared.definition.Listed.{Listed}
+use Rattle.st_il.specs.declared.ty.Ty.{Ty}
 use Rattle.st_il.specs.declared.definition.SyntaxDef.{SyntaxDef}
 use Rattle.st_il.specs.declared.expression.IlExp.{IlExp}
 use Rattle.st_il.specs.declared.expression.Iteration.{Iteration}
@@ -23,7 +25,9 @@ use Rattle.st_semantics.specs.Evaluation.{Answers, Task, tasks, each_task, then_
 use Rattle.st_semantics.specs.Formed as formed
 use Rattle.st_semantics.specs.Formed.{IsFormed, AreFormed, ResultsAreFormed}
 use Rattle.st_semantics.specs.Calls.{Chosen, TooDeep, Decides, CallAt}
-use Rattle.st_semantics.specs.Laws.{LawOfOutcomes, LawOfVariables}
+use Rattle.st_semantics.specs.Typing as typing
+use Rattle.st_semantics.specs.Typing.{ExpHasType, ExpsHaveTypes}
+use Rattle.st_semantics.specs.Laws.{LawOfOutcomes, LawOfVariables, LawOfForms}
 use Rattle.st_semantics.proofs.Agree.{Gives-agree}
 use Rattle.st_semantics.proofs.Depths.{Likely, likely, likely_then, likely_map, decided}
 
@@ -98,3 +102,20 @@ call_comes il h (suc n) fun vs = decides il (CallAt il n) (call_comes il h n) (c
 
 pub law_of_outcomes : LawOfOutcomes
 law_of_outcomes il h n env e is none = comes (syntaxes il) (CallAt il n) (call_comes il h n) is env (λ o. none o.0 o.1)
+
+-- ---- what has a type is formed
+
+mutual
+  typed_formed : (il : Il) {ls : List Listed} {e : IlExp} {t : Ty} → ExpHasType il ls e t → IsFormed (syntaxes il) e
+  typed_formed il (typing.strict es f ts h parts told) = formed.strict es f h (parts_formed il parts)
+  typed_formed il (typing.same u x equal) = typed_formed il x
+  typed_formed il (typing.variable x l h at is) = formed.variable x h
+  typed_formed il (typing.call fun args declared h found parts is) = formed.call fun args h (parts_formed il parts)
+  typed_formed il (typing.iteration how xs body u h counts kinded inside is) = formed.iteration how xs body h (parts_formed il counts) (typed_formed il inside)
+
+  parts_formed : (il : Il) {ls : List Listed} {es : List IlExp} {ts : List Ty} → ExpsHaveTypes il ls es ts → AreFormed (syntaxes il) es
+  parts_formed il typing.none = formed.none
+  parts_formed il (typing.more x xs) = formed.more (typed_formed il x) (parts_formed il xs)
+
+pub law_of_forms : LawOfForms
+law_of_forms il ls e t x = typed_formed il x

@@ -33,12 +33,12 @@ use Rattle.st_semantics.specs.Environments.{Entry, IsTypedValue, AreTypedValues,
 use Rattle.st_semantics.specs.Parts.{elements_at, fields_at, elements, fields, natural, made, with_both}
 use Rattle.st_semantics.specs.Operators.{concatenation, part_of}
 use Rattle.st_semantics.specs.Paths.{Step, Into, Nth, Part, step_at, Path, longer, path_of, Replaces, in_field, in_element, put_back, in_part, replaced, finished, along, setting, extension}
-use Rattle.st_semantics.specs.Typing.{KeepsTypes}
+use Rattle.st_semantics.specs.OperationTypes.{KeepsTypes}
 use Rattle.st_semantics.specs.OperationTypes as row
 use Rattle.st_semantics.specs.OperationTypes.{field_type, PathType}
 use Rattle.st_semantics.proofs.Elements.{All-front, All-back, no_alias_list}
 use Rattle.st_semantics.proofs.Lengths.{some_one}
-use Rattle.st_semantics.proofs.TypedValues.{texts-level, numbers-level}
+use Rattle.st_semantics.proofs.TypedParts.{texts-level, numbers-level}
 use Rattle.st_semantics.proofs.KeptTypes.{Made, made_parts, TextsIn, NumbersIn}
 
 -- the steps and values behind them
@@ -183,10 +183,10 @@ module _ (defs : List SyntaxDef) where
   KeepsSound t r = (x y : Value) → Sound t x → r x ≡ Some y → Sound t y
 
   -- the fields of a record
-  record SoundFields (fs : List Entry) (ds : List (Name × Ty)) : Type 0 where
-    have : FieldsHaveTypes defs fs ds
-    told : TextsIn defs fs
-    numbered : NumbersIn defs fs
+  pub record SoundFields (fs : List Entry) (ds : List (Name × Ty)) : Type 0 where
+    pub have : FieldsHaveTypes defs fs ds
+    pub told : TextsIn defs fs
+    pub numbered : NumbersIn defs fs
 
   field_sound : (name : Name) (u : Ty) (r : Replaces) → KeepsSound u r → (fs gs : List Entry) (ds : List (Name × Ty)) → SoundFields fs ds → field_type name ds ≡ Some u → in_field name r fs ≡ Some gs → SoundFields gs ds
   field_sound name u r keeps [] gs ds h found e = cc

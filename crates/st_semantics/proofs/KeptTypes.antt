@@ -45,14 +45,14 @@ use Rattle.st_semantics.specs.Parts.{fields_at, Operation, constant, unchanged, 
 use Rattle.st_semantics.specs.Operators as operator
 use Rattle.st_semantics.specs.Forms.{HasForm, Strict, form_at, operation_at, by_itself, structure, absent_list, absent_option, listing, building, spliced}
 use Rattle.st_semantics.specs.Operands.{item_exp}
-use Rattle.st_semantics.specs.Typing.{KeepsTypes}
+use Rattle.st_semantics.specs.OperationTypes.{KeepsTypes}
 use Rattle.st_semantics.specs.OperationTypes as row
 use Rattle.st_semantics.specs.OperationTypes.{number_type, both, plain_types, IsCompared, part_type, part_type_at, field_type, AccessType, Level, OperationType}
 use Rattle.st_semantics.proofs.Singles.{HasForm-single}
 use Rattle.st_semantics.proofs.Elements.{All-front, All-back, EachTyped, list_column}
 use Rattle.st_semantics.proofs.Lengths.{some_one, limited_is, listing_is, Chunk, splice_parts}
 use Rattle.st_semantics.proofs.Low.{height-level}
-use Rattle.st_semantics.proofs.TypedValues.{limited_height, texts-level, numbers-level, list_typed, absent_typed, present_typed, natural_typed}
+use Rattle.st_semantics.proofs.TypedParts.{limited_height, texts-level, numbers-level, list_typed, absent_typed, present_typed, natural_typed}
 
 -- the types of operands, and that of the value
 abbrev pub types_to : List Ty → Ty → List Ty × Ty
@@ -74,7 +74,7 @@ module _ (defs : List SyntaxDef) where
   unary_keeps f t u k (a ∷ []) v h e = k a v h.0 (made_parts (f a) v e)
   unary_keeps f t u k (a ∷ b ∷ more) v h e = absurd h.1
 
-  binary_keeps : (f : Value → Value → Option Value) (s t u : Ty) → ((a b v : Value) → IsTypedValue defs s a → IsTypedValue defs t b → Made (f a b) v → IsTypedValue defs u v) → KeepsTypes defs (binary f) (s ∷ t ∷ []) u
+  pub binary_keeps : (f : Value → Value → Option Value) (s t u : Ty) → ((a b v : Value) → IsTypedValue defs s a → IsTypedValue defs t b → Made (f a b) v → IsTypedValue defs u v) → KeepsTypes defs (binary f) (s ∷ t ∷ []) u
   binary_keeps f s t u k [] v h e = absurd h
   binary_keeps f s t u k (a ∷ []) v h e = absurd h.1
   binary_keeps f s t u k (a ∷ b ∷ []) v h e = k a b v h.0 h.1.0 (made_parts (f a b) v e)

@@ -45,7 +45,7 @@ use Rattle.st_semantics.specs.Parts.{fields_at, Operation, constant, unchanged, 
 use Rattle.st_semantics.specs.Operators as operator
 use Rattle.st_semantics.specs.Forms.{HasForm, Strict, form_at, operation_at, by_itself, structure, absent_list, absent_option, listing, building, spliced}
 use Rattle.st_semantics.specs.Operands.{item_exp}
-use Rattle.st_semantics.specs.Typing.{KeepsTypes}
+use Rattle.st_semantics.specs.OperationTypes.{KeepsTypes}
 use Rattle.st_semantics.specs.OperationTypes as row
 use Rattle.st_semantics.specs.OperationTypes.{number_type, both, plain_types, IsCompared, part_type, part_type_at, field_type, AccessType, Level, OperationType}
 use Rattle.st_semantics.specs.Laws.{LawOfOperations}
@@ -53,9 +53,10 @@ use Rattle.st_semantics.proofs.Singles.{HasForm-single}
 use Rattle.st_semantics.proofs.Elements.{All-front, All-back, EachTyped, list_column}
 use Rattle.st_semantics.proofs.Lengths.{some_one, limited_is, listing_is, Chunk, splice_parts}
 use Rattle.st_semantics.proofs.Low.{height-level}
-use Rattle.st_semantics.proofs.TypedValues.{limited_height, texts-level, numbers-level, list_typed, absent_typed, present_typed, natural_typed}
+use Rattle.st_semantics.proofs.TypedParts.{limited_height, texts-level, numbers-level, list_typed, absent_typed, present_typed, natural_typed}
 use Rattle.st_semantics.proofs.KeptTypes.{constant_keeps, truth_typed, logic_keeps, negation_keeps, comparison_keeps, equality_keeps, inequality_keeps, membership_keeps, in_range_number, remainder_ranged, quotient_ranged, power_ranged, arithmetic_keeps, opposite_keeps, cat_keeps, count_keeps, element_keeps, part_keeps, tuple_keeps, case_keeps, fields_keep, dot_keeps, listing_keeps, present_keeps, empty_keeps, no_list_keeps, no_option_keeps, text_keeps, up_keeps, types_in, types_to}
 use Rattle.st_semantics.proofs.KeptPaths.{setting_keeps, extension_keeps}
+use Rattle.st_semantics.proofs.KeptJoins.{join_keeps}
 use Rattle.st_semantics.specs.Operands.{segment_exps}
 use Rattle.st_semantics.specs.Paths.{setting, extension}
 
@@ -144,6 +145,7 @@ module _ (defs : List SyntaxDef) where
     keeps y ts t is (row.dot {e = a} {name = name} {t = s} {u = u} ds has found) = moved e es f ts t h (a ∷ []) (unary (operator.field name)) y is refl (dot_keeps defs name s u ds has found)
     keeps y ts t is (row.set {e = a} {g = g} {path = path} {t = s} us w leads) = moved e es f ts t h (a ∷ flattened (map segment_exps path) ++ g ∷ []) (setting path) y is refl (setting_keeps defs path s w us leads)
     keeps y ts t is (row.extend {e = a} {g = g} {path = path} {t = s} us u leads) = moved e es f ts t h (a ∷ flattened (map segment_exps path) ++ g ∷ []) (extension path) y is refl (extension_keeps defs path s u us leads)
+    keeps y ts t is (row.join {e = a} {g = g} u joins) = moved e es f ts t h (a ∷ g ∷ []) (binary operator.join) y is refl (join_keeps defs u)
     keeps y ts t is (row.tuple {es = gs} us) = moved e es f ts t h gs (λ vs. limited (value.Tuple vs)) y is refl (tuple_keeps defs ts)
     keeps y ts t is (row.list {t = u} {items = items}) = moved e es f ts t h (map item_exp items) (listing items) y is refl (listing_keeps defs u items)
     keeps y ts t is (row.empty {t = u}) = moved e es f ts t h [] (constant (value.Opt None)) y is refl (empty_keeps defs u)

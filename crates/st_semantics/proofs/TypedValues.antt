@@ -9,6 +9,7 @@ use Rattle.st_num.specs.declared.limit.TheConstants.{HIGHEST_VALUE}
 use Rattle.st_num.specs.declared.dim.Kind.{Kind}
 use Rattle.st_num.specs.declared.dim.Kind.TheVariants as kind
 use Rattle.st_il.specs.declared.definition.ClauseDef.{ClauseDef}
+use Rattle.st_il.specs.declared.definition.FunDef.{FunDef}
 use Rattle.st_il.specs.declared.definition.Il.{Il}
 use Rattle.st_il.specs.declared.definition.Listed.{Listed}
 use Rattle.st_il.specs.declared.definition.SyntaxDef.{SyntaxDef}
@@ -44,7 +45,7 @@ use Rattle.st_semantics.specs.Depth.{AllTypedIn}
 use Rattle.st_semantics.specs.Kinds.{AreOfItsKind}
 use Rattle.st_semantics.specs.Calls.{Decides, CallAt}
 use Rattle.st_semantics.specs.Typing as typing
-use Rattle.st_semantics.specs.Typing.{KeepsTypes, result_of, ExpHasType, ExpsHaveTypes, ResultsAreTyped}
+use Rattle.st_semantics.specs.Typing.{function_named, ExpHasType, ExpsHaveTypes, ResultsAreTyped}
 use Rattle.st_semantics.specs.Laws.{LawOfTypes}
 use Rattle.st_semantics.proofs.Names.{bytes-path, bytes-same, or-cases, or-left, true_false}
 use Rattle.st_semantics.proofs.Agree.{IsShort, index_short}
@@ -53,81 +54,9 @@ use Rattle.st_semantics.proofs.Elements.{EachTyped, elements_typed, no_alias_lis
 use Rattle.st_semantics.proofs.Columns.{SpreadParts, spread_parts, natural_value, natural_is}
 use Rattle.st_semantics.proofs.Inverse.{operands, variable_value, called_value, Elements, elements_in}
 use Rattle.st_semantics.proofs.Lengths.{limited_is}
-use Rattle.st_semantics.proofs.Low.{number_low}
-
--- ---- what is gathered
-
-pub limited_height : (x v : Value) → limited x ≡ Val v → height x ≤ HIGHEST_VALUE
-limited_height x v e = at (nat_le (height x) HIGHEST_VALUE) refl e
-  where
-    at : (b : Bool) → nat_le (height x) HIGHEST_VALUE ≡ b → (if b then Val x else Deep) ≡ Val v → height x ≤ HIGHEST_VALUE
-    at true k e = leb-true (height x) HIGHEST_VALUE k
-    at false k e = cc
-
-module _ (defs : List SyntaxDef) where
-  all_types : (t : Ty) (vs : List Value) → EachTyped defs t vs → AllHaveType defs vs t
-  all_types t [] h = type.no_more
-  all_types t (v ∷ vs) h = type.one_more h.0.form (all_types t vs h.1)
-
-  all_texts : (t : Ty) (vs : List Value) → EachTyped defs t vs → All IsText (texts.joined (map texts_of vs))
-  all_texts t [] h = All-nil IsText
-  all_texts t (v ∷ vs) h = All-append IsText (texts_of v) (texts.joined (map texts_of vs)) h.0.value.texts (all_texts t vs h.1)
-
-  all_numbers : (t : Ty) (vs : List Value) → EachTyped defs t vs → All IsNumber (flattened (map numbers_of vs))
-  all_numbers t [] h = All-nil IsNumber
-  all_numbers t (v ∷ vs) h = All-append IsNumber (numbers_of v) (flattened (map numbers_of vs)) h.0.numbers (all_numbers t vs h.1)
-
-  pub texts-level : (v : Value) (y : Value-F Value) → out-Value v ≡ y → texts_of v ≡ texts_at (map-Value Value (List (List ℕ)) texts_of y)
-  texts-level v y e = fold_out-Value (List (List ℕ)) texts_at v ∙ ap (λ z. texts_at (map-Value Value (List (List ℕ)) texts_of z)) e
-
-  pub numbers-level : (v : Value) (y : Value-F Value) → out-Value v ≡ y → numbers_of v ≡ numbers_at (map-Value Value (List ℤ) numbers_of y)
-  numbers-level v y e = fold_out-Value (List ℤ) numbers_at v ∙ ap (λ z. numbers_at (map-Value Value (List ℤ) numbers_of z)) e
-
-  pub list_typed : (t : Ty) (vs : List Value) → EachTyped defs t vs → height (value.List vs) ≤ HIGHEST_VALUE → IsTypedValue defs (ty.List t) (value.List vs)
-  list_typed t vs h low = record {
-    form = type.list vs t refl (itself (no_alias_list defs t) refl) (all_types t vs h);
-    value = record { height = low; texts = subst (All IsText) (sym (texts-level (value.List vs) (Value-F.List vs) (value.outs-List vs))) (all_texts t vs h) };
-    numbers = subst (All IsNumber) (sym (numbers-level (value.List vs) (Value-F.List vs) (value.outs-List vs))) (all_numbers t vs h);
-  }
-
-  pub absent_typed : (t : Ty) → height (value.Opt None) ≤ HIGHEST_VALUE → IsTypedValue defs (ty.Opt t) (value.Opt None)
-  absent_typed t low = record {
-    form = type.absent t refl (itself (no_alias_option defs t) refl);
-    value = record { height = low; texts = subst (All IsText) (sym (texts-level (value.Opt None) (Value-F.Opt None) (value.outs-Opt None))) (All-nil IsText) };
-    numbers = subst (All IsNumber) (sym (numbers-level (value.Opt None) (Value-F.Opt None) (value.outs-Opt None))) (All-nil IsNumber);
-  }
-
-  pub present_typed : (t : Ty) (v : Value) → IsTypedValue defs t v → height (value.Opt (Some v)) ≤ HIGHEST_VALUE → IsTypedValue defs (ty.Opt t) (value.Opt (Some v))
-  present_typed t v h low = record {
-    form = type.present v t refl (itself (no_alias_option defs t) refl) h.form;
-    value = record { height = low; texts = subst (All IsText) (sym (texts-level (value.Opt (Some v)) (Value-F.Opt (Some v)) (value.outs-Opt (Some v)))) h.value.texts };
-    numbers = subst (All IsNumber) (sym (numbers-level (value.Opt (Some v)) (Value-F.Opt (Some v)) (value.outs-Opt (Some v)))) h.numbers;
-  }
-
-  gathered_typed : (k : Kind) (t : Ty) (vs : List Value) (v : Value) → EachTyped defs t vs → gathered_as k vs ≡ Val v → IsTypedValue defs (wrapped (k ∷ []) t) v
-  gathered_typed kind.List t vs v h e = subst (IsTypedValue defs (ty.List t)) (limited_is (value.List vs) v e) (list_typed t vs h (limited_height (value.List vs) v e))
-  gathered_typed kind.Opt t [] v h e = subst (IsTypedValue defs (ty.Opt t)) (limited_is (value.Opt None) v e) (absent_typed t (limited_height (value.Opt None) v e))
-  gathered_typed kind.Opt t (w ∷ ws) v h e = subst (IsTypedValue defs (ty.Opt t)) (limited_is (value.Opt (Some w)) v e) (present_typed t w h.0 (limited_height (value.Opt (Some w)) v e))
-
--- ---- typed environments
-
-no_alias_nat : (defs : List SyntaxDef) → alias_of defs ty.Nat ≡ None
-no_alias_nat defs = simp ty.outs-Nat refl
-
-number_below : (j n : ℕ) → j ≤ n → IsNumber (pos n) → IsNumber (pos j)
-number_below j n le h = omega (arith, le, h)
-
--- a number that is not negative, where it is in range
-pub natural_typed : (defs : List SyntaxDef) (n : ℕ) → IsNumber (pos n) → IsTypedValue defs ty.Nat (value.Num (pos n))
-natural_typed defs n h = record {
-  form = type.natural n refl (itself (no_alias_nat defs) refl);
-  value = record { height = number_low n; texts = subst (All IsText) (sym (texts-level defs (value.Num (pos n)) (Value-F.Num (pos n)) (value.outs-Num (pos n)))) (All-nil IsText) };
-  numbers = subst (All IsNumber) (sym (numbers-level defs (value.Num (pos n)) (Value-F.Num (pos n)) (value.outs-Num (pos n)))) (All-cons IsNumber (pos n) [] h (All-nil IsNumber));
-}
-
--- the number of a typed value
-number_in_range : (defs : List SyntaxDef) (t : Ty) (n : ℕ) → IsTypedValue defs t (value.Num (pos n)) → IsNumber (pos n)
-number_in_range defs t n h = All-head IsNumber (pos n) [] (subst (All IsNumber) (numbers-level defs (value.Num (pos n)) (Value-F.Num (pos n)) (value.outs-Num (pos n))) h.numbers)
+use Rattle.st_semantics.proofs.TypedParts.{gathered_typed, number_below, natural_typed, number_in_range}
+use Rattle.st_semantics.proofs.OperationRows.{law_of_operations}
+use Rattle.st_types.proofs.UpLaws.{Same-up}
 
 module _ (il : Il) where
   -- each listed variable has a value of its type
@@ -218,7 +147,7 @@ module _ (il : Il) where
 
   -- ---- expressions
 
-  module _ (C : Answers) (calls : (fun : Name) (t : Ty) (vs : List Value) (v : Value) → result_of il fun ≡ Some t → C fun vs (Val v) → IsTypedValue (syntaxes il) t v) where
+  module _ (C : Answers) (calls : (fun : Name) (declared : FunDef) (vs : List Value) (v : Value) → function_named il fun ≡ Some declared → C fun vs (Val v) → IsTypedValue (syntaxes il) declared.result v) where
     each_typed_value : (body : IlExp) (u : Ty) (ls : List Listed) → ((env : Env) → TypedEnv ls env → (v : Value) → Gives (syntaxes il) C env body (Val v) → IsTypedValue (syntaxes il) u v)
         → (envs : List Env) → AllTypedEnv ls envs → (vs : List Value) → HaveValues (value_by (syntaxes il) C) (each_task envs body) vs → EachTyped (syntaxes il) u vs
     each_typed_value body u ls f [] t [] h = tt
@@ -228,15 +157,18 @@ module _ (il : Il) where
 
     mutual
       pub value_typed : {ls : List Listed} {e : IlExp} {t : Ty} → ExpHasType il ls e t → (env : Env) → TypedEnv ls env → (v : Value) → Gives (syntaxes il) C env e (Val v) → IsTypedValue (syntaxes il) t v
-      value_typed {e = e} (typing.strict es f ts h parts keeps) env typed v g =
+      value_typed {e = e} {t = t} (typing.strict es f ts h parts told) env typed v g =
           let w = operands (syntaxes il) C env e es f v h g in
-          keeps w.0 v (values_typed parts env typed w.0 w.1) w.2
+          law_of_operations (syntaxes il) e es f ts t h told w.0 v (values_typed parts env typed w.0 w.1) w.2
+      value_typed {t = t} (typing.same u x equal) env typed v g =
+          let w = value_typed x env typed v g in
+          record { form = Same-up (syntaxes il) u t equal v w.form; value = w.value; numbers = w.numbers }
       value_typed {e = e} {t = t} (typing.variable x l h at is) env typed v g =
           let found = variable_value (syntaxes il) C env e x v h g in
           subst (λ z. IsTypedValue (syntaxes il) z v) (sym is) (subst (IsSomeTyped (syntaxes il) (type_of l)) found (typed x l at))
-      value_typed {e = e} {t = t} (typing.call fun args h result) env typed v g =
+      value_typed {e = e} {t = t} (typing.call fun args declared h found parts is) env typed v g =
           let w = called_value (syntaxes il) C env e fun args v h g in
-          calls fun t w.0 v result w.1
+          subst (λ z. IsTypedValue (syntaxes il) z v) (sym is) (calls fun declared w.0 v found w.1)
       value_typed {ls = ls} {e = e} (typing.iteration how xs body u h counts kinded inside is) env typed v g =
           let w = elements_in (syntaxes il) C env e how xs body v h g in
           let rows_are = spread_typed how xs ls env w.count w.envs kinded typed (values_typed counts env typed w.count w.counted) w.over in
@@ -261,22 +193,22 @@ module _ (il : Il) where
     decides_typed t (c ∷ cs) h vs v (inr (inr d)) = decides_typed t cs (All-tail (ResultTyped t) c cs h) vs v d.2
 
 abbrev Declared : Il → ClauseDef → Type 0
-Declared il c = (t : Ty) → result_of il c.fun ≡ Some t → ExpHasType il c.variables c.result t
+Declared il c = (declared : FunDef) → function_named il c.fun ≡ Some declared → ExpHasType il c.variables c.result declared.result
 
 abbrev Resulting : Il → Ty → ClauseDef → Type 0
 Resulting il t c = ExpHasType il c.variables c.result t
 
-of_function : (il : Il) (fun : Name) (t : Ty) → result_of il fun ≡ Some t → (cs : List ClauseDef) → All (Declared il) cs → All (Resulting il t) (clauses_from fun cs)
-of_function il fun t e [] h = All-nil (Resulting il t)
+of_function : (il : Il) (fun : Name) (t : FunDef) → function_named il fun ≡ Some t → (cs : List ClauseDef) → All (Declared il) cs → All (Resulting il t.result) (clauses_from fun cs)
+of_function il fun t e [] h = All-nil (Resulting il t.result)
 of_function il fun t e (c ∷ cs) h = at (bytes_eq fun c.fun) refl (of_function il fun t e cs (All-tail (Declared il) c cs h))
   where
-    at : (b : Bool) → bytes_eq fun c.fun ≡ b → All (Resulting il t) (clauses_from fun cs) → All (Resulting il t) (if b then c ∷ clauses_from fun cs else clauses_from fun cs)
-    at true k ih = All-cons (Resulting il t) c (clauses_from fun cs) (All-head (Declared il) c cs h t (ap (result_of il) (sym (bytes-path fun c.fun k)) ∙ e)) ih
+    at : (b : Bool) → bytes_eq fun c.fun ≡ b → All (Resulting il t.result) (clauses_from fun cs) → All (Resulting il t.result) (if b then c ∷ clauses_from fun cs else clauses_from fun cs)
+    at true k ih = All-cons (Resulting il t.result) c (clauses_from fun cs) (All-head (Declared il) c cs h t (ap (function_named il) (sym (bytes-path fun c.fun k)) ∙ e)) ih
     at false k ih = ih
 
-calls_typed : (il : Il) → ResultsAreTyped il → (n : ℕ) (fun : Name) (t : Ty) (vs : List Value) (v : Value) → result_of il fun ≡ Some t → CallAt il n fun vs (Val v) → IsTypedValue (syntaxes il) t v
+calls_typed : (il : Il) → ResultsAreTyped il → (n : ℕ) (fun : Name) (t : FunDef) (vs : List Value) (v : Value) → function_named il fun ≡ Some t → CallAt il n fun vs (Val v) → IsTypedValue (syntaxes il) t.result v
 calls_typed il h zero fun t vs v e d = let bad : Val v ≡ Deep = d in cc
-calls_typed il h (suc n) fun t vs v e d = decides_typed il (CallAt il n) (calls_typed il h n) t (clauses_of il fun) (of_function il fun t e (clauses_in il.defs) h) vs v d
+calls_typed il h (suc n) fun t vs v e d = decides_typed il (CallAt il n) (calls_typed il h n) t.result (clauses_of il fun) (of_function il fun t e (clauses_in il.defs) h) vs v d
 
 pub law_of_types : LawOfTypes
 law_of_types il h n ls env e t v typed ok g = value_typed il (CallAt il n) (calls_typed il h n) typed env (λ x l at. typed_of (syntaxes il) ls env ok x l at) v g

@@ -1,9 +1,10 @@
 -- The laws of these definitions, as statements: each is a clause of `meaning_of_rules`. `Typed` is
 -- the typing of an internal language.
-use Rattle.std.specs.Prelude.{◌≡◌, ◌↔◌, ℕ, ◌≤◌, true, List, Option, Ok, Contains}
+use Rattle.std.specs.Prelude.{◌≡◌, ◌↔◌, ℕ, ◌≤◌, true, List, Option, Some, Ok, Contains}
 use Rattle.st_deriv.specs.declared.line.Line.{Line}
 use Rattle.st_il.specs.declared.definition.ClauseDef.{ClauseDef}
 use Rattle.st_il.specs.declared.definition.Il.{Il}
+use Rattle.st_il.specs.declared.definition.RelationDef.{RelationDef}
 use Rattle.st_il.specs.declared.definition.RuleDef.{RuleDef}
 use Rattle.st_il.specs.declared.definition.Listed.{Listed}
 use Rattle.st_il.specs.declared.definition.SyntaxDef.{SyntaxDef}
@@ -17,21 +18,21 @@ use Rattle.st_semantics.specs.declared.notes.Notes.{Notes}
 use Rattle.st_semantics.specs.declared.outcome.Outcome.{Outcome}
 use Rattle.st_semantics.specs.declared.outcome.Outcome.TheVariants.{Val, Deep}
 use Rattle.st_semantics.specs.Names.{Name}
-use Rattle.st_semantics.specs.Definitions.{syntaxes, clauses_in}
-use Rattle.st_semantics.specs.Environments.{AgreeOn, EnvOk, IsTypedValue}
+use Rattle.st_semantics.specs.Definitions.{syntaxes, relation_named, clauses_in}
+use Rattle.st_semantics.specs.Environments.{AgreeOn, EnvOk, IsTypedValue, AreTypedValues}
 use Rattle.st_semantics.specs.Orders.{is_order}
 use Rattle.st_semantics.specs.OrderOf.{order_of}
 use Rattle.st_semantics.specs.Formed.{IsFormed, ResultsAreFormed}
 use Rattle.st_semantics.specs.Parts.{Operation}
 use Rattle.st_semantics.specs.Forms.{HasForm, Strict}
-use Rattle.st_semantics.specs.Typing.{KeepsTypes, ExpHasType, ResultsAreTyped}
-use Rattle.st_semantics.specs.OperationTypes.{OperationType}
+use Rattle.st_semantics.specs.Typing.{ExpHasType, ResultsAreTyped, ConclusionsAreTyped}
+use Rattle.st_semantics.specs.OperationTypes.{OperationType, KeepsTypes}
 use Rattle.st_semantics.specs.Variables.{vars}
 use Rattle.st_semantics.specs.ModeRules.{IsOtherwise, bound_in_clause}
 use Rattle.st_semantics.specs.Breaches.{KeepModes, ClausesKeep}
 use Rattle.st_semantics.specs.Kinds.{AreKinded, ClausesAreKinded, ClausesNameOccurring, ListsOccurring}
 use Rattle.st_semantics.specs.Calls.{Chosen, TooDeep, CallAt, ValueAt}
-use Rattle.st_semantics.specs.Derivation.{Root, excluded, NoneBefore, IsValid}
+use Rattle.st_semantics.specs.Derivation.{Root, excluded, NoneBefore, IsValid, HasTree}
 use Rattle.st_semantics.specs.Chains.{IsValidAt}
 use Rattle.st_semantics.specs.Transcript.{Term, Ending, Transcript}
 use Rattle.st_semantics.specs.Verdict.{Verdict}
@@ -103,6 +104,12 @@ LawOfOutcomes =
     (il : Il) → ResultsAreFormed il → (n : ℕ) (env : Env) (e : IlExp) → IsFormed (syntaxes il) e
     → ((o : Outcome) → ValueAt il n env e o → ⊥) → ⊥
 
+-- they fit their types in an expression that has a type
+abbrev pub LawOfForms : Type 0
+LawOfForms =
+    (il : Il) (ls : List Listed) (e : IlExp) (t : Ty) → ExpHasType il ls e t
+    → IsFormed (syntaxes il) e
+
 -- Where the results of clauses have the declared types, the value of an expression has its type.
 abbrev pub LawOfTypes : Type 0
 LawOfTypes =
@@ -129,6 +136,15 @@ LawOfOtherwise =
 -- a tree that is valid at a depth is valid
 abbrev pub LawOfDepthOfTrees : Type 0
 LawOfDepthOfTrees = (il : Il) (n : ℕ) (tree : Tree) → IsValidAt il n tree → IsValid il tree
+
+-- Where the conclusions of rules have the types of their relations, and results of clauses those of
+-- their functions, the values of a judgement that some valid tree has are of the relation's types.
+abbrev pub LawOfJudgements : Type 0
+LawOfJudgements =
+    (il : Il) → ResultsAreTyped il → ConclusionsAreTyped il → (relation : Name)
+    (values : List Value) → HasTree il relation values → (declared : RelationDef)
+    → relation_named il relation ≡ Some declared
+    → AreTypedValues (syntaxes il) declared.holes values
 
 -- ---- runs and verdicts
 

@@ -14,9 +14,14 @@ use Rattle.st_il.specs.declared.ty.Ty.{Ty}
 use Rattle.st_il.specs.declared.ty.Ty.TheVariants as ty
 use Rattle.st_type_table.specs.declared.entry.CaseDef.{CaseDef}
 use Rattle.st_type_table.specs.Cases.{HasCases, HasFields, operands_of}
+use Rattle.st_type_table.specs.Joins.{Joins}
 use Rattle.st_type_table.specs.Meaning.{Means}
 use Rattle.st_types.specs.Sub.{Sub}
+use Rattle.st_il.specs.declared.value.Value.{Value}
+use Rattle.st_semantics.specs.declared.outcome.Outcome.TheVariants.{Val}
 use Rattle.st_semantics.specs.Names.{Name}
+use Rattle.st_semantics.specs.Environments.{IsTypedValue, AreTypedValues}
+use Rattle.st_semantics.specs.Parts.{Operation}
 
 abbrev pub number_type : NumTy → Ty
 number_type numbers.Nat = ty.Nat
@@ -121,6 +126,8 @@ pub data OperationType (defs : List SyntaxDef) : Level → List Ty → Ty → Ty
   extend : {e g : IlExp} {path : List PathSeg} {t : Ty} (ts : List Ty) (u : Ty)
       → PathType defs path t ts (ty.List u)
       → OperationType defs (IlExp-F.Extend e path g) (t ∷ (ts ++ ty.List u ∷ [])) t
+  join : {e g : IlExp} (t : Ty) → Joins defs t
+      → OperationType defs (IlExp-F.Join e g) (t ∷ t ∷ []) t
   tuple : {es : List IlExp} (ts : List Ty)
       → OperationType defs (IlExp-F.Tuple es) ts (ty.Tuple ts)
   list : {t : Ty} {items : List ListItem}
@@ -130,3 +137,8 @@ pub data OperationType (defs : List SyntaxDef) : Level → List Ty → Ty → Ty
   absent : {t : Ty} → OperationType defs (IlExp-F.Absent t) [] t
   up : {e : IlExp} {t : Ty} (u : Ty) → Sub defs u t
       → OperationType defs (IlExp-F.Up t e) (u ∷ []) t
+
+-- Of values of these types an operation makes only values of that type.
+abbrev pub KeepsTypes : List SyntaxDef → Operation → List Ty → Ty → Type 0
+KeepsTypes defs f ts t =
+    (vs : List Value) (v : Value) → AreTypedValues defs ts vs → f vs ≡ Val v → IsTypedValue defs t v
