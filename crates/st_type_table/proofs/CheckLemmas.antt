@@ -27,7 +27,7 @@ Finds-hold defs p ps (Some x) h f = inr (h, f)
 pub Finds-false : (defs : List SyntaxDef) (p : Placed) (ps : List Placed) → (Holds defs p.condition → ⊥) → Finds defs (p ∷ ps) (Some (broken p))
 Finds-false defs p ps h = inl (h, refl)
 
-AllHold-append : (defs : List SyntaxDef) (ps qs : List Placed) → AllHold defs ps → AllHold defs qs → AllHold defs (ps ++ qs)
+pub AllHold-append : (defs : List SyntaxDef) (ps qs : List Placed) → AllHold defs ps → AllHold defs qs → AllHold defs (ps ++ qs)
 AllHold-append defs [] qs h g = g
 AllHold-append defs (p ∷ ps) qs h g = (h.0, AllHold-append defs ps qs h.1 g)
 

@@ -1,13 +1,7 @@
--- Ranks of places: what a pass keeps, and that no more can be ranked at the end.
+-- Ranks of places: one rank more, and that where no more can be ranked all that end are.
 use Rattle.std.proofs.Common.{◌≡◌, ◌≢◌, refl, sym, ap, ◌∙◌, subst, ℕ, zero, suc, ◌+◌, ◌<◌, ◌≤◌, List, [], ◌∷◌, length, get_or, set, Option, Some, None, arith, inl, inr, ◌⊎◌, get_or-set_other, get_or-set_same, add-one, replicate}
 use Rattle.std.specs.Prelude.{slice_get, slice_index, IsTrue, false}
 use Rattle.st_type_table.specs.inner.Graph.{Graph, EndsAt, IsOne, AllRanked, IsClosed, SoFar, AreRanks, ranked}
-
--- a pass up to this place
-pub record Passed (graph : Graph) (ranks : List ℕ) (before count i : ℕ) : Type 0 where
-  pub so_far : SoFar graph ranks count
-  pub grows : before ≤ count
-  pub closed : count ≡ before → (j : ℕ) → j < i → (node : Option (List ℕ)) → slice_get graph j ≡ Some node → slice_index ranks j ≡ 0 → AllRanked node ranks → ⊥
 
 pub same_place : (i j : ℕ) → (i ≡ j) ⊎ (i ≢ j)
 same_place zero zero = inl refl
@@ -93,27 +87,6 @@ SoFar-set graph ranks count i (Some next) s h e z all = record {
         let y = f.1 in
         (omega (arith, b, x), omega (arith, a, b, y))
 
--- a pass at a place that is ranked now
-pub passed-then : (graph : Graph) (ranks marked : List ℕ) (before count more i : ℕ) (node : Option (List ℕ)) → Passed graph ranks before count i → i < length graph
-    → slice_get graph i ≡ Some node → get_or ranks i 0 ≡ 0 → AllRanked node ranks → marked ≡ set ranks i (count + 1) → more ≡ count + 1 → Passed graph marked before more (i + 1)
-passed-then graph ranks marked before count more i node p h e z all q r =
-    let fits : i < length ranks = let s = p.so_far.size in omega (arith, h, s) in
-    let next = SoFar-set graph ranks count i node p.so_far fits e z all in
-    let same : SoFar graph marked more = subst (λ n. SoFar graph marked n) (sym (r ∙ add-one count)) (subst (λ z. SoFar graph z (suc count)) (sym (q ∙ ap (set ranks i) (add-one count))) next) in
-    let g = p.grows in
-    record { so_far = same; grows = omega (arith, g, r); closed = λ f. absurd (omega (arith, f, g, r)) }
-
--- a pass at a place that stays as it is
-pub passed-else : (graph : Graph) (ranks marked : List ℕ) (before count more i : ℕ) → Passed graph ranks before count i
-    → ((node : Option (List ℕ)) → slice_get graph i ≡ Some node → get_or ranks i 0 ≡ 0 → AllRanked node ranks → ⊥) → marked ≡ ranks → more ≡ count → Passed graph marked before more (i + 1)
-passed-else graph ranks marked before count more i p stays q r =
-    subst (λ n. Passed graph marked before n (i + 1)) (sym r) (subst (λ z. Passed graph z before count (i + 1)) (sym q)
-    (record { so_far = p.so_far; grows = p.grows; closed = λ f j h node g z all. by f j node g z all (same_place j i) h }))
-  where
-    by : count ≡ before → (j : ℕ) (node : Option (List ℕ)) → slice_get graph j ≡ Some node → get_or ranks j 0 ≡ 0 → AllRanked node ranks → (j ≡ i) ⊎ (j ≢ i) → j < i + 1 → ⊥
-    by f j node g z all (inl e) h = stays node (ap (slice_get graph) (sym e) ∙ g) (ap (λ k. get_or ranks k 0) (sym e) ∙ z) all
-    by f j node g z all (inr d) h = p.closed f j (omega (arith, h, d)) node g z all
-
 pub zero-at : (n i : ℕ) → ◌≡◌ {A = ℕ} (get_or (replicate n 0) i 0) 0
 zero-at zero i = refl
 zero-at (suc n) zero = refl
@@ -153,12 +126,3 @@ SoFar-start graph ranks size zeros = record {
     none [] zs = refl
     none (zero ∷ rs) zs = none rs (λ i. zs (suc i))
     none (suc r ∷ rs) zs = let z : suc r ≡ 0 = zs 0 in cc
-
--- what is not true of a place that is read
-pub not_ranked : (graph : Graph) (ranks : List ℕ) (i : ℕ) (read other : Option (List ℕ)) → slice_get graph i ≡ Some read → slice_get graph i ≡ Some other
-    → (AllRanked read ranks → IsTrue false) → AllRanked other ranks → ⊥
-not_ranked graph ranks i read other p q h all =
-    let e : Some other ≡ Some read = sym q ∙ p in
-    let same : other ≡ read = cc in
-    let f = h (subst (λ n. AllRanked n ranks) same all) in
-    cc

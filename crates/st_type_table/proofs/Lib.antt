@@ -4,6 +4,7 @@ pub mod MeansLemmas
 pub mod CasesLemmas
 pub mod GraphLemmas
 pub mod BackLemmas
+pub mod RankingLemmas
 pub mod PlaceLemmas
 pub mod JoinLemmas
 pub mod KeyLemmas
@@ -11,7 +12,9 @@ pub mod FlatLemmas
 pub mod RankLemmas
 pub mod CheckLemmas
 pub mod ReachLemmas
+pub mod SearchLemmas
 pub mod PartLemmas
+pub mod PartsLemmas
 pub mod Ranks
 pub mod BuildLemmas
 pub mod Measure

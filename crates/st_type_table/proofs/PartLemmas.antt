@@ -219,14 +219,6 @@ on_parts-whole name (body.Alias t) = append_nil (on_alias name 0 (names_in t))
 on_parts-whole name (body.Variant parts) = ap (on_alternatives name 0 []) (take-length parts)
 on_parts-whole name (body.Fields fields) = ap (on_fields 0 []) (take-length fields)
 
-pub FindsAt-none : (defs : List SyntaxDef) (at : ℕ) → FindsAt defs at 0 0 None
-FindsAt-none defs at d e = by d.body
-  where
-    by : (b : SyntaxBody) → AllHold defs (on_parts d.name b 0 0)
-    by (body.Alias t) = tt
-    by (body.Variant parts) = tt
-    by (body.Fields fields) = tt
-
 -- marks at places are marks of names, where another definition has the name
 pub Returns-other : (defs : List SyntaxDef) (marks : List Bool) (at first : ℕ) (d : SyntaxDef) → slice_get defs at ≡ Some d → place_of defs d.name ≡ Some first
     → ((i : ℕ) → (mark marks i ≡ true) ↔ LeadsAt (graph_of defs) i first) → Returns defs d.name marks (leads_to d.body)

@@ -1,5 +1,7 @@
 -- What the making of the table keeps, for its proofs alone.
 pub mod Graph
+pub mod Ranking
+pub mod Search
 pub mod Flat
 pub mod Kept
 pub mod JoinGraph

@@ -18,8 +18,10 @@ mod joining;
 mod meaning;
 mod parts;
 mod place;
+mod ranking;
 mod resolve;
 mod same;
+mod search;
 mod survey;
 mod table;
 #[cfg(test)]

@@ -4,13 +4,15 @@ ghost use Rattle.std.specs.Prelude.{◌≡◌, ◌<◌, None, length, IfOk};
 ghost use Rattle.st_type_table.specs.Leads.{leads_to};
 ghost use Rattle.st_type_table.specs.Breach.{Finds, FindsAt, AllHold, on_parts};
 ghost use Rattle.st_type_table.specs.inner.Graph.{AreRanks, graph_of};
+ghost use Rattle.st_type_table.specs.inner.Search.{IsReversed};
 ghost use Rattle.st_type_table.specs.inner.Flat.{IsReached, alternatives_in};
 ghost use Rattle.st_type_table.specs.inner.Survey.{IsSurvey};
 ghost use Rattle.st_type_table.specs.inner.Checking.{Returns, AreReturning, CheckedAt, part_count};
 
 use crate::check::{Found, check_alternatives, check_fields, check_whole_alias, whole};
-use crate::graph::{Node, leading_back, leading_to};
+use crate::graph::Node;
 use crate::place::place_of;
+use crate::search::{leading_back, leading_to};
 use crate::survey::Survey;
 use st_il::{SyntaxBody, SyntaxDef};
 use st_num::{NoMemory, Row, RuleId};
@@ -59,10 +61,12 @@ fn returning(
     alloc: Global,
     defs: &[SyntaxDef],
     graph: &[Node],
+    back: &[Row<usize>],
     ranks: &[usize],
     at: usize,
 ) -> Result<Row<bool>, NoMemory>
     requires graph { graph.now ≡ graph_of defs.now }
+    requires back { IsReversed (graph_of defs.now) back.now }
     requires ranks { AreRanks (graph_of defs.now) ranks.now }
     requires within { at < length defs.now }
     ensures { IfOk result (λ marks. AreReturning defs.now at marks) }
@@ -71,10 +75,10 @@ fn returning(
     match place_of(defs, &def.name) {
         Some(first) => {
             if first == at {
-                let marks = leading_back(alloc, graph, ranks, at)?;
+                let marks = leading_back(alloc, graph, back, ranks, at)?;
                 return Ok(marks);
             }
-            let marks = leading_to(alloc, graph, first)?;
+            let marks = leading_to(alloc, graph, back, first)?;
             Ok(marks)
         }
         None => Ok(Row::new(alloc)),
@@ -96,7 +100,8 @@ pub(crate) fn check_parts(
     ensures { IfOk result (λ found. FindsAt defs.now at from to found) }
 {
     let ranks = survey.ranks.as_slice();
-    let marks = returning(alloc, defs, survey.graph.as_slice(), ranks, at)?;
+    let graph = survey.graph.as_slice();
+    let marks = returning(alloc, defs, graph, survey.back.as_slice(), ranks, at)?;
     let reach = survey.flats.as_slice()[at].reach;
     let def = &defs[at];
     let found = check_body(alloc, defs, ranks, marks.as_slice(), reach, def, from, to)?;

@@ -4,8 +4,10 @@ ghost use Rattle.std.specs.Prelude.{IfOk};
 ghost use Rattle.st_type_table.specs.inner.Survey.{IsSurvey};
 
 use crate::flat::{Flat, flats_of};
-use crate::graph::{Node, settle};
+use crate::graph::Node;
 use crate::place::leads_graph;
+use crate::ranking::settle;
+use crate::search::reversed;
 use st_il::SyntaxDef;
 use st_num::{NoMemory, Row};
 use std::alloc::Global;
@@ -15,6 +17,8 @@ use std::alloc::Global;
 pub(crate) struct Survey {
     /// Which definition leads to which.
     pub(crate) graph: Row<Node>,
+    /// The same by what is led to.
+    pub(crate) back: Row<Row<usize>>,
     /// 0 where a definition does not end, and else more than those of all that it leads to.
     pub(crate) ranks: Row<usize>,
     pub(crate) flats: Row<Flat>,
@@ -25,10 +29,12 @@ pub(crate) fn survey_of(alloc: Global, defs: &[SyntaxDef]) -> Result<Survey, NoM
     ensures { IfOk result (λ survey. IsSurvey defs.now survey) }
 {
     let graph = leads_graph(alloc, defs)?;
+    let back = reversed(alloc, graph.as_slice())?;
     let ranks = settle(alloc, graph.as_slice())?;
     let flats = flats_of(alloc, defs, ranks.as_slice())?;
     Ok(Survey {
         graph,
+        back,
         ranks,
         flats,
     })

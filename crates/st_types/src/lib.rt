@@ -11,6 +11,6 @@ mod sub;
 mod tests;
 mod typing;
 
-pub use st_type_table::{CaseDef, TypeFault, TypeTable};
+pub use st_type_table::{Bodies, Broken, CaseDef, TypeFault, TypeTable};
 pub use sub::is_sub;
 pub use typing::has_type;

@@ -94,28 +94,11 @@ pub record SoFar (graph : Graph) (ranks : List ℕ) (count : ℕ) : Type 0 where
 abbrev pub mark : List Bool → ℕ → Bool
 mark marks i = slice_index_or marks i false
 
--- one of those that a definition leads to is marked
-abbrev pub AnyMarked : Option (List ℕ) → List Bool → Type 0
-AnyMarked None marks = ⊥
-AnyMarked (Some next) marks = (j : ℕ) × IsOne next j × (mark marks j ≡ true)
-
 -- how many definitions are not marked
 abbrev pub unmarked : List Bool → ℕ
 unmarked [] = 0
 unmarked (true ∷ ms) = unmarked ms
 unmarked (false ∷ ms) = suc (unmarked ms)
-
--- no definition is left that leads to a marked one
-abbrev pub IsClosedBack : Graph → List Bool → Type 0
-IsClosedBack graph marks =
-    (i : ℕ) (there : Option (List ℕ)) → slice_get graph i ≡ Some there → mark marks i ≡ false
-    → AnyMarked there marks → ⊥
-
--- the marked definitions lead to the target, which is one of them
-pub record LeadBack (graph : Graph) (marks : List Bool) (target : ℕ) : Type 0 where
-  pub size : length marks ≡ length graph
-  pub started : mark marks target ≡ true
-  pub sound : (i : ℕ) → mark marks i ≡ true → LeadsAt graph i target
 
 -- of the definitions that the target leads to, those that lead back are marked
 abbrev pub LeadsBack : Graph → List Bool → ℕ → Type 0

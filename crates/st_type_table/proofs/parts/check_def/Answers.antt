@@ -1,6 +1,7 @@
 use Rattle.std.proofs.Common.{sym, subst, Some}
 use Rattle.st_type_table.specs.Breach.{Finds, on_parts}
-use Rattle.st_type_table.proofs.PartLemmas.{read-at, checked-at, check-twice, check-whole, on_parts-whole, FindsAt-none}
+use Rattle.st_type_table.proofs.PartLemmas.{read-at, checked-at, check-twice, check-whole, on_parts-whole}
+use Rattle.st_type_table.proofs.PartsLemmas.{FindsAt-none}
 use Rattle.st_type_table.proofs.parts.check_def.Goals as goal
 
 pub returns-in-Some : goal.returns-in-Some

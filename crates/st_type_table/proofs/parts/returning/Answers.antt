@@ -12,8 +12,8 @@ returns-then-first-at c = λ d e.
     Returns-back c.args.defs.now c.in_ok-marks-in-Some.marks c.args.at d e (ap (λ z. place_of c.args.defs.now z.name) (sym same) ∙ sym c.in-Some.ensures ∙ ap Some c.if-first-at.true)
     (subst (λ g. LeadsBack g c.in_ok-marks-in-Some.marks c.args.at) c.requires.graph c.in_ok-marks-in-Some.ensures)
 
-pub leading_to-requires : goal.leading_to-requires
-leading_to-requires c =
+pub leading_to-requires-clause-within : goal.leading_to-requires-clause-within
+leading_to-requires-clause-within c =
     let r = placed c.args.defs.now c.index-defs-at.result.name c.in-Some.first (sym c.in-Some.ensures) in
     let h = slice_get_within c.args.defs.now c.in-Some.first r.definition r.there in
     let l = ap length c.requires.graph ∙ length-map c.args.defs.now (node_of c.args.defs.now) in

@@ -1,0 +1,324 @@
+-- The search for what leads to a definition: what each step keeps.
+use Rattle.std.proofs.Common.{◌≡◌, ◌≢◌, ◌↔◌, refl, sym, ap, ◌∙◌, subst, ℕ, zero, suc, ◌+◌, ◌*◌, ◌<◌, ◌≤◌, List, [], ◌∷◌, ◌++◌, length, set, take, replicate, length-append, add-one, Bool, true, false, Option, Some, None, arith, inl, inr, ◌⊎◌}
+use Rattle.std.proofs.lemmas.List.{length-set, length-replicate}
+use Rattle.std.proofs.lemmas.Option.{slice_get_within, slice_get-get_or}
+use Rattle.std.specs.Prelude.{slice_get, slice_index}
+use Rattle.st_type_table.specs.inner.Graph.{Graph, IsOne, LeadsAt, mark, unmarked}
+use Rattle.st_type_table.specs.inner.Ranking.{WaitsFor, OnPath, MarksMore}
+use Rattle.st_type_table.specs.inner.Search.{Arrows, AddsArrow, AddsArrows, IsReversedTo, IsReversed, IsSearch, MarksAll, MarksOne}
+use Rattle.st_type_table.proofs.GraphLemmas.{same_place}
+use Rattle.st_type_table.proofs.BackLemmas.{unmarked-set}
+use Rattle.st_type_table.proofs.RankLemmas.{set-other, set-same}
+use Rattle.st_type_table.proofs.FlatLemmas.{take-step}
+use Rattle.st_type_table.proofs.ReachLemmas.{read-get}
+use Rattle.st_type_table.proofs.RankingLemmas.{mark-here, mark-there, mark-more, get-push, get-front, get-last, get-pop, pop-get}
+
+-- ---- rows
+
+more_to : (xs : List ℕ) (y j : ℕ) → IsOne (xs ++ y ∷ []) j → IsOne xs j ⊎ (j ≡ y)
+more_to [] y j (inl e) = inr e
+more_to [] y j (inr h) = absurd h
+more_to (x ∷ xs) y j (inl e) = inl (inl e)
+more_to (x ∷ xs) y j (inr h) = by (more_to xs y j h)
+  where
+    by : IsOne xs j ⊎ (j ≡ y) → IsOne (x ∷ xs) j ⊎ (j ≡ y)
+    by (inl h) = inl (inr h)
+    by (inr e) = inr e
+
+more_from : (xs : List ℕ) (y j : ℕ) → IsOne xs j ⊎ (j ≡ y) → IsOne (xs ++ y ∷ []) j
+more_from [] y j (inl h) = absurd h
+more_from [] y j (inr e) = inl e
+more_from (x ∷ xs) y j (inl (inl e)) = inl e
+more_from (x ∷ xs) y j (inl (inr h)) = inr (more_from xs y j (inl h))
+more_from (x ∷ xs) y j (inr e) = inr (more_from xs y j (inr e))
+
+one_more : (xs : List ℕ) (y j : ℕ) → IsOne (xs ++ y ∷ []) j ↔ (IsOne xs j ⊎ (j ≡ y))
+one_more xs y j = (more_to xs y j, more_from xs y j)
+
+pub arrows-none : (from : ℕ) (back : Arrows) → AddsArrows [] from back back
+arrows-none from back = record { size = refl; rows = λ j row e. (row, (e, λ i. ((λ h. inl h), back_to row i))) }
+  where
+    back_to : (row : List ℕ) (i : ℕ) → IsOne row i ⊎ ((i ≡ from) × IsOne [] i) → IsOne row i
+    back_to row i (inl h) = h
+    back_to row i (inr h) = absurd h.1
+
+module _ (places : List ℕ) (place from : ℕ) (before after : Arrows) (a : AddsArrows places from before after) where
+  -- the place is none of the graph's
+  pub arrows-over : length after ≤ place → AddsArrows (places ++ place ∷ []) from before after
+  arrows-over far = record { size = a.size; rows = λ j row e. let o = a.rows j row e in (o.0, (o.1.0, λ i. ((λ h. to j i o.0 ((o.1.1 i).0 h)), λ h. (o.1.1 i).1 (back_to j row i o.0 e h)))) }
+    where
+      to : (j i : ℕ) (old : List ℕ) → IsOne old i ⊎ ((i ≡ from) × IsOne places j) → IsOne old i ⊎ ((i ≡ from) × IsOne (places ++ place ∷ []) j)
+      to j i old (inl h) = inl h
+      to j i old (inr (q, m)) = inr (q, (one_more places place j).1 (inl m))
+
+      back_to : (j : ℕ) (row : List ℕ) (i : ℕ) (old : List ℕ) → slice_get after j ≡ Some row → IsOne old i ⊎ ((i ≡ from) × IsOne (places ++ place ∷ []) j) → IsOne old i ⊎ ((i ≡ from) × IsOne places j)
+      back_to j row i old e (inl h) = inl h
+      back_to j row i old e (inr (q, m)) = by ((one_more places place j).0 m)
+        where
+          by : IsOne places j ⊎ (j ≡ place) → IsOne old i ⊎ ((i ≡ from) × IsOne places j)
+          by (inl n) = inr (q, n)
+          by (inr s) = let l = slice_get_within after j row e in absurd (omega (arith, l, s, far))
+
+  -- an arrow is kept at the place
+  pub arrows-here : (row : List ℕ) → slice_get after place ≡ Some row → AddsArrows (places ++ place ∷ []) from before (set after place (row ++ from ∷ []))
+  arrows-here row there = record { size = length-set after place (row ++ from ∷ []) ∙ a.size; rows = λ j new e. by j new e (same_place j place) }
+    where
+      Row : ℕ → List ℕ → Type 0
+      Row j new = (old : List ℕ) × ((slice_get before j ≡ Some old) × ((i : ℕ) → IsOne new i ↔ (IsOne old i ⊎ ((i ≡ from) × IsOne (places ++ place ∷ []) j))))
+
+      by : (j : ℕ) (new : List ℕ) → slice_get (set after place (row ++ from ∷ [])) j ≡ Some new → (j ≡ place) ⊎ (j ≢ place) → Row j new
+      by j new e (inl q) =
+          let s : row ++ from ∷ [] ≡ new = set-same after place (row ++ from ∷ []) new (ap (slice_get (set after place (row ++ from ∷ []))) (sym q) ∙ e) in
+          let o = a.rows j row (ap (slice_get after) q ∙ there) in (
+            o.0,
+            (
+              o.1.0,
+              λ i. (
+                (λ h. to i o.0 (o.1.1 i) ((one_more row from i).0 (subst (λ z. IsOne z i) (sym s) h))),
+                λ h. subst (λ z. IsOne z i) s ((one_more row from i).1 (back_to i o.0 (o.1.1 i) h)),
+              ),
+            ),
+          )
+        where
+          to : (i : ℕ) (old : List ℕ) → IsOne row i ↔ (IsOne old i ⊎ ((i ≡ from) × IsOne places j)) → IsOne row i ⊎ (i ≡ from) → IsOne old i ⊎ ((i ≡ from) × IsOne (places ++ place ∷ []) j)
+          to i old f (inl h) = more (f.0 h)
+            where
+              more : IsOne old i ⊎ ((i ≡ from) × IsOne places j) → IsOne old i ⊎ ((i ≡ from) × IsOne (places ++ place ∷ []) j)
+              more (inl g) = inl g
+              more (inr (p, m)) = inr (p, (one_more places place j).1 (inl m))
+          to i old f (inr p) = inr (p, (one_more places place j).1 (inr q))
+
+          back_to : (i : ℕ) (old : List ℕ) → IsOne row i ↔ (IsOne old i ⊎ ((i ≡ from) × IsOne places j)) → IsOne old i ⊎ ((i ≡ from) × IsOne (places ++ place ∷ []) j) → IsOne row i ⊎ (i ≡ from)
+          back_to i old f (inl h) = inl (f.1 (inl h))
+          back_to i old f (inr (p, m)) = inr p
+      by j new e (inr d) =
+          let o = a.rows j new (sym (set-other after place j (row ++ from ∷ []) d) ∙ e) in
+          (o.0, (o.1.0, λ i. ((λ h. to i o.0 ((o.1.1 i).0 h)), λ h. (o.1.1 i).1 (back_to i o.0 h))))
+        where
+          to : (i : ℕ) (old : List ℕ) → IsOne old i ⊎ ((i ≡ from) × IsOne places j) → IsOne old i ⊎ ((i ≡ from) × IsOne (places ++ place ∷ []) j)
+          to i old (inl h) = inl h
+          to i old (inr (p, m)) = inr (p, (one_more places place j).1 (inl m))
+
+          back_to : (i : ℕ) (old : List ℕ) → IsOne old i ⊎ ((i ≡ from) × IsOne (places ++ place ∷ []) j) → IsOne old i ⊎ ((i ≡ from) × IsOne places j)
+          back_to i old (inl h) = inl h
+          back_to i old (inr (p, m)) = over ((one_more places place j).0 m)
+            where
+              over : IsOne places j ⊎ (j ≡ place) → IsOne old i ⊎ ((i ≡ from) × IsOne places j)
+              over (inl n) = inr (p, n)
+              over (inr q) = absurd (d q)
+
+pub arrows-next : (places : List ℕ) (place from : ℕ) (before after next : Arrows) → AddsArrows places from before after → AddsArrow place from after next → AddsArrows (places ++ place ∷ []) from before next
+arrows-next places place from before after next a (inl (far, e)) = subst (AddsArrows (places ++ place ∷ []) from before) (sym e) (arrows-over places place from before after a far)
+arrows-next places place from before after next a (inr (row, (there, e))) = subst (AddsArrows (places ++ place ∷ []) from before) (sym e) (arrows-here places place from before after a row there)
+
+-- an item of a list of numbers, and the list up to it
+pub take-number : (xs : List ℕ) (i : ℕ) → i < length xs → take (i + 1) xs ≡ take i xs ++ slice_index xs i ∷ []
+take-number xs i h = take-step xs i (slice_index xs i) h (read-get xs i (slice_index xs i) (slice_get-get_or xs i 0 h))
+
+pub take-whole : {A : Type 0} (xs : List A) (i : ℕ) → length xs ≤ i → take i xs ≡ xs
+take-whole [] zero h = refl
+take-whole [] (suc i) h = refl
+take-whole (x ∷ xs) zero h = absurd (omega arith)
+take-whole (x ∷ xs) (suc i) h = ap (λ ys. x ∷ ys) (take-whole xs i (omega arith))
+
+pub replicate-more : (n : ℕ) (x : List ℕ) → replicate n x ++ x ∷ [] ≡ replicate (n + 1) x
+replicate-more n x = by n ∙ ap (λ k. replicate k x) (sym (add-one n))
+  where
+    by : (n : ℕ) → replicate n x ++ x ∷ [] ≡ replicate (suc n) x
+    by zero = refl
+    by (suc n) = ap (λ ys. x ∷ ys) (by n)
+
+-- ---- the arrows of the first definitions
+
+module _ (graph : Graph) where
+  pub reversed-start : (back : Arrows) → back ≡ replicate (length graph) [] → IsReversedTo graph 0 back
+  reversed-start back e = record {
+    size = ap length e ∙ length-replicate (length graph) [];
+    rows = λ j row g i. let q = none (length graph) j row (ap (λ b. slice_get b j) (sym e) ∙ g) in ((λ h. absurd (subst (λ z. IsOne z i) q h)), λ h. absurd (let l = h.0 in omega (arith, l)));
+  }
+    where
+      none : (n j : ℕ) (row : List ℕ) → slice_get (replicate n []) j ≡ Some row → row ≡ []
+      none zero j row g = cc
+      none (suc n) zero row g = cc
+      none (suc n) (suc j) row g = none n j row g
+
+  pub reversed-more : (n : ℕ) (places : List ℕ) (before after : Arrows) → IsReversedTo graph n before → slice_get graph n ≡ Some (Some places) → AddsArrows places n before after → IsReversedTo graph (n + 1) after
+  reversed-more n places before after r there a = record { size = a.size ∙ r.size; rows = λ j row g i. let o = a.rows j row g in let f = r.rows j o.0 o.1.0 i in ((λ h. to j i o.0 f ((o.1.1 i).0 h)), λ h. (o.1.1 i).1 (back_to j i o.0 f (same_place i n) h)) }
+    where
+      to : (j i : ℕ) (old : List ℕ) → IsOne old i ↔ ((i < n) × WaitsFor graph i j) → IsOne old i ⊎ ((i ≡ n) × IsOne places j) → (i < n + 1) × WaitsFor graph i j
+      to j i old f (inl h) = let w = f.0 h in let l = w.0 in (omega (arith, l), w.1)
+      to j i old f (inr (q, m)) = (omega (arith, q), (places, (ap (slice_get graph) q ∙ there, m)))
+
+      back_to : (j i : ℕ) (old : List ℕ) → IsOne old i ↔ ((i < n) × WaitsFor graph i j) → (i ≡ n) ⊎ (i ≢ n) → (i < n + 1) × WaitsFor graph i j → IsOne old i ⊎ ((i ≡ n) × IsOne places j)
+      back_to j i old f (inl q) (l, (next, (g, m))) =
+          let s : Some (Some next) ≡ Some (Some places) = sym g ∙ ap (slice_get graph) q ∙ there in
+          let t : next ≡ places = cc in
+          inr (q, subst (λ z. IsOne z j) t m)
+      back_to j i old f (inr d) (l, w) = inl (f.1 (omega (arith, l, d), w))
+
+  pub reversed-skip : (n : ℕ) (back : Arrows) → IsReversedTo graph n back → slice_get graph n ≡ Some None → IsReversedTo graph (n + 1) back
+  reversed-skip n back r there = record { size = r.size; rows = λ j row g i. let f = r.rows j row g i in ((λ h. let w = f.0 h in let l = w.0 in (omega (arith, l), w.1)), λ h. f.1 (by j i (same_place i n) h)) }
+    where
+      by : (j i : ℕ) → (i ≡ n) ⊎ (i ≢ n) → (i < n + 1) × WaitsFor graph i j → (i < n) × WaitsFor graph i j
+      by j i (inl q) (l, (next, (g, m))) = let s : Some (Some next) ≡ Some None = sym g ∙ ap (slice_get graph) q ∙ there in cc
+      by j i (inr d) (l, w) = (omega (arith, l, d), w)
+
+  pub reversed-whole : (n : ℕ) (back : Arrows) → IsReversedTo graph n back → length graph ≤ n → IsReversed graph back
+  reversed-whole n back r h = record { size = r.size; rows = λ j row g i. let f = r.rows j row g i in ((λ m. (f.0 m).1), λ w. f.1 (let l = slice_get_within graph i (Some w.0) w.1.0 in omega (arith, l, h), w)) }
+
+-- ---- a row is marked
+
+push_path : (todo : List ℕ) (place i : ℕ) → OnPath todo i → OnPath (todo ++ place ∷ []) i
+push_path todo place i (k, e) = (k, get-front todo (place ∷ []) k i e)
+
+pub marks-none : (marks : List Bool) (todo : List ℕ) → MarksAll [] marks todo marks todo
+marks-none marks todo = record {
+  size = refl;
+  more = λ i m. m;
+  all = λ j h l. absurd h;
+  fresh = λ j m. inl m;
+  kept = λ i o. o;
+  within = λ i o. inl o;
+  falls = omega arith;
+}
+
+module _ (row : List ℕ) (place : ℕ) (marks : List Bool) (todo : List ℕ) where
+  module _ (marks' : List Bool) (todo' : List ℕ) (a : MarksAll row marks todo marks' todo') where
+    wider : (j : ℕ) → IsOne row j → IsOne (row ++ place ∷ []) j
+    wider j m = (one_more row place j).1 (inl m)
+
+    pub marks-over : (place < length marks' → mark marks' place ≡ true) → MarksAll (row ++ place ∷ []) marks todo marks' todo'
+    marks-over h = record {
+      size = a.size;
+      more = a.more;
+      all = λ j m l. by j l ((one_more row place j).0 m);
+      fresh = λ j m. widen j (a.fresh j m);
+      kept = a.kept;
+      within = a.within;
+      falls = a.falls;
+    }
+      where
+        by : (j : ℕ) → j < length marks → IsOne row j ⊎ (j ≡ place) → mark marks' j ≡ true
+        by j l (inl m) = a.all j m l
+        by j l (inr q) = ap (mark marks') q ∙ h (let s = a.size in omega (arith, l, q, s))
+
+        widen : (j : ℕ) → (mark marks j ≡ true) ⊎ (IsOne row j × OnPath todo' j) → (mark marks j ≡ true) ⊎ (IsOne (row ++ place ∷ []) j × OnPath todo' j)
+        widen j (inl m) = inl m
+        widen j (inr (m, o)) = inr (wider j m, o)
+
+    pub marks-here : place < length marks' → mark marks' place ≡ false → MarksAll (row ++ place ∷ []) marks todo (set marks' place true) (todo' ++ place ∷ [])
+    marks-here l z = record {
+      size = length-set marks' place true ∙ a.size;
+      more = λ i m. mark-more marks' place i l (a.more i m);
+      all = λ j m b. by j b ((one_more row place j).0 m);
+      fresh = λ j m. fresh j (same_place j place) m;
+      kept = λ i o. push_path todo' place i (a.kept i o);
+      within = λ i (k, e). within i k (get-push todo' place k i e);
+      falls = let u = unmarked-set marks' place l z in let s = length-append todo' (place ∷ []) in let f = a.falls in omega (arith, u, s, f);
+    }
+      where
+        by : (j : ℕ) → j < length marks → IsOne row j ⊎ (j ≡ place) → mark (set marks' place true) j ≡ true
+        by j b (inl m) = mark-more marks' place j l (a.all j m b)
+        by j b (inr q) = ap (mark (set marks' place true)) q ∙ mark-here marks' place l
+
+        fresh : (j : ℕ) → (j ≡ place) ⊎ (j ≢ place) → mark (set marks' place true) j ≡ true → (mark marks j ≡ true) ⊎ (IsOne (row ++ place ∷ []) j × OnPath (todo' ++ place ∷ []) j)
+        fresh j (inl q) m = inr ((one_more row place j).1 (inr q), (length todo', get-last todo' place ∙ ap Some (sym q)))
+        fresh j (inr d) m = widen (a.fresh j (sym (mark-there marks' place j d) ∙ m))
+          where
+            widen : (mark marks j ≡ true) ⊎ (IsOne row j × OnPath todo' j) → (mark marks j ≡ true) ⊎ (IsOne (row ++ place ∷ []) j × OnPath (todo' ++ place ∷ []) j)
+            widen (inl h) = inl h
+            widen (inr (h, o)) = inr (wider j h, push_path todo' place j o)
+
+        within : (i k : ℕ) → (slice_get todo' k ≡ Some i) ⊎ ((k ≡ length todo') × (place ≡ i)) → OnPath todo i ⊎ ((i < length marks) × (mark (set marks' place true) i ≡ true))
+        within i k (inl e) = more (a.within i (k, e))
+          where
+            more : OnPath todo i ⊎ ((i < length marks) × (mark marks' i ≡ true)) → OnPath todo i ⊎ ((i < length marks) × (mark (set marks' place true) i ≡ true))
+            more (inl o) = inl o
+            more (inr (b, m)) = inr (b, mark-more marks' place i l m)
+        within i k (inr (h, e)) = inr (let s = a.size in omega (arith, l, s, e), ap (mark (set marks' place true)) (sym e) ∙ mark-here marks' place l)
+
+pub marks-next : (row : List ℕ) (place : ℕ) (marks : List Bool) (todo : List ℕ) (marks' : List Bool) (todo' : List ℕ) (marks'' : List Bool) (todo'' : List ℕ) → MarksAll row marks todo marks' todo'
+    → MarksOne place marks' todo' marks'' todo'' → MarksAll (row ++ place ∷ []) marks todo marks'' todo''
+marks-next row place marks todo marks' todo' marks'' todo'' a (inl (l, (z, (p, q)))) =
+    subst (λ ms. MarksAll (row ++ place ∷ []) marks todo ms todo'') (sym p) (subst (MarksAll (row ++ place ∷ []) marks todo (set marks' place true)) (sym q) (marks-here row place marks todo marks' todo' a l z))
+marks-next row place marks todo marks' todo' marks'' todo'' a (inr (h, (p, q))) =
+    subst (λ ms. MarksAll (row ++ place ∷ []) marks todo ms todo'') (sym p) (subst (MarksAll (row ++ place ∷ []) marks todo marks') (sym q) (marks-over row place marks todo marks' todo' a h))
+
+-- ---- a step of the search
+
+module _ (graph : Graph) (back : Arrows) (reversed : IsReversed graph back) (target : ℕ) where
+  pub search-step : (marks marks' : List Bool) (todo todo' row : List ℕ) (n place : ℕ) → IsSearch graph target marks todo → length todo ≡ suc n → slice_get todo n ≡ Some place → slice_get back place ≡ Some row
+      → MarksAll row marks (take n todo) marks' todo' → IsSearch graph target marks' todo'
+  search-step marks marks' todo todo' row n place s size last there a = record {
+    size = a.size ∙ s.size;
+    started = a.more target s.started;
+    sound = λ i m. sound i (a.fresh i m);
+    waiting = λ i o. waiting i (a.within i o);
+    closed = λ i j w m. closed i j w (a.fresh i m);
+  }
+    where
+      here : mark marks place ≡ true
+      here = (s.waiting place (n, last)).1
+
+      sound : (i : ℕ) → (mark marks i ≡ true) ⊎ (IsOne row i × OnPath todo' i) → LeadsAt graph i target
+      sound i (inl m) = s.sound i m
+      sound i (inr (m, o)) = let w = (reversed.rows place row there i).0 m in LeadsAt.step w.0 place w.1.0 w.1.1 (s.sound place here)
+
+      waiting : (i : ℕ) → OnPath (take n todo) i ⊎ ((i < length marks) × (mark marks' i ≡ true)) → (i < length graph) × (mark marks' i ≡ true)
+      waiting i (inl (k, e)) = let w = s.waiting i (k, (get-pop todo n k i e).1) in (w.0, a.more i w.1)
+      waiting i (inr (l, m)) = (let e = s.size in omega (arith, l, e), m)
+
+      closed : (i j : ℕ) → WaitsFor graph j i → (mark marks i ≡ true) ⊎ (IsOne row i × OnPath todo' i) → (mark marks' j ≡ true) ⊎ OnPath todo' i
+      closed i j w (inr (m, o)) = inr o
+      closed i j w (inl m) = by (s.closed i j w m)
+        where
+          marked : i ≡ place → mark marks' j ≡ true
+          marked q = a.all j ((reversed.rows place row there j).1 (w.0, (w.1.0, subst (IsOne w.0) q w.1.1))) (let l = slice_get_within graph j (Some w.0) w.1.0 in let e = s.size in omega (arith, l, e))
+
+          by : (mark marks j ≡ true) ⊎ OnPath todo i → (mark marks' j ≡ true) ⊎ OnPath todo' i
+          by (inl h) = inl (a.more j h)
+          by (inr (k, e)) = at (same_place k n)
+            where
+              at : (k ≡ n) ⊎ (k ≢ n) → (mark marks' j ≡ true) ⊎ OnPath todo' i
+              at (inl q) = let r : Some i ≡ Some place = sym e ∙ ap (slice_get todo) q ∙ last in let t : i ≡ place = cc in inl (marked t)
+              at (inr d) = inr (a.kept i (k, pop-get todo n k i (let l = slice_get_within todo k i e in omega (arith, l, size, d)) e))
+
+-- where nothing waits, all that lead to the target are marked
+pub search-whole : (graph : Graph) (target : ℕ) (marks : List Bool) → IsSearch graph target marks [] → (i : ℕ) → (mark marks i ≡ true) ↔ LeadsAt graph i target
+search-whole graph target marks s i = (s.sound i, complete i)
+  where
+    complete : (i : ℕ) → LeadsAt graph i target → mark marks i ≡ true
+    complete i (LeadsAt.here e) = ap (mark marks) e ∙ s.started
+    complete i (LeadsAt.step next j g m l) = by (s.closed j i (next, (g, m)) (complete j l))
+      where
+        by : (mark marks i ≡ true) ⊎ OnPath [] j → mark marks i ≡ true
+        by (inl h) = h
+        by (inr (k, e)) = cc
+
+pub search-start : (graph : Graph) (target : ℕ) (marks : List Bool) (todo : List ℕ) → marks ≡ set (replicate (length graph) false) target true → todo ≡ target ∷ [] → target < length graph → IsSearch graph target marks todo
+search-start graph target marks todo p q h = subst (IsSearch graph target marks) (sym q) (subst (λ ms. IsSearch graph target ms (target ∷ [])) (sym p) (record {
+  size = length-set (replicate (length graph) false) target true ∙ length-replicate (length graph) false;
+  started = first;
+  sound = λ i m. LeadsAt.here (only i (same_place i target) m);
+  waiting = λ i (k, e). waits i k e;
+  closed = λ i j w m. inr (0, ap Some (sym (only i (same_place i target) m)));
+}))
+  where
+    fits : target < length (replicate (length graph) false)
+    fits = let e = length-replicate (length graph) false in omega (arith, e, h)
+
+    first : mark (set (replicate (length graph) false) target true) target ≡ true
+    first = mark-here (replicate (length graph) false) target fits
+
+    none : (n i : ℕ) → mark (replicate n false) i ≡ false
+    none zero i = refl
+    none (suc n) zero = refl
+    none (suc n) (suc i) = none n i
+
+    only : (i : ℕ) → (i ≡ target) ⊎ (i ≢ target) → mark (set (replicate (length graph) false) target true) i ≡ true → i ≡ target
+    only i (inl e) m = e
+    only i (inr d) m = let z : false ≡ true = sym (none (length graph) i) ∙ sym (mark-there (replicate (length graph) false) target i d) ∙ m in cc
+
+    waits : (i k : ℕ) → slice_get (target ∷ []) k ≡ Some i → (i < length graph) × (mark (set (replicate (length graph) false) target true) i ≡ true)
+    waits i zero e = let s : target ≡ i = cc in (subst (λ z. z < length graph) s h, ap (mark (set (replicate (length graph) false) target true)) (sym s) ∙ first)
+    waits i (suc k) e = cc
