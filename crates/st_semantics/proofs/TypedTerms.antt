@@ -1,7 +1,6 @@
 -- What is derivable by a relation that is run step by step is a term again.
-use Rattle.std.proofs.Common.{◌≡◌, refl, sym, ◌∙◌, ap, subst, List, [], ◌∷◌, map, length, replicate, Bool, true, false, not, if◌then◌else◌, Option, Some, None}
+use Rattle.std.proofs.Common.{◌≡◌, sym, ◌∙◌, ap, subst, List, [], ◌∷◌, map, length, replicate, Bool, true, false, not, Option}
 use Rattle.std.specs.Prelude.{IsSomeAnd, unwrap_or}
-use Rattle.st_il.specs.declared.definition.Il.{Il}
 use Rattle.st_il.specs.declared.definition.RelationDef.{RelationDef}
 use Rattle.st_il.specs.declared.definition.SyntaxDef.{SyntaxDef}
 use Rattle.st_il.specs.declared.ty.Ty.{Ty}
@@ -9,13 +8,9 @@ use Rattle.st_il.specs.declared.value.Value.{Value}
 use Rattle.st_type_table.specs.Same as same
 use Rattle.st_type_table.specs.Same.{Same, SameAll}
 use Rattle.st_types.proofs.UpLaws.{Same-up}
-use Rattle.st_semantics.specs.Names.{Name}
-use Rattle.st_semantics.specs.Definitions.{syntaxes, relation_named}
-use Rattle.st_semantics.specs.Directions.{direction, inputs_or_all, mask, inputs_by, outputs_by, inputs_of, IsStepping}
+use Rattle.st_semantics.specs.Definitions.{syntaxes}
+use Rattle.st_semantics.specs.Directions.{inputs_or_all, mask, inputs_by, outputs_by, inputs_of}
 use Rattle.st_semantics.specs.Environments.{AreTypedValues}
-use Rattle.st_semantics.specs.Goals.{AreInputs}
-use Rattle.st_semantics.specs.Derivation.{Derivable}
-use Rattle.st_semantics.specs.Typing.{ResultsAreTyped, ConclusionsAreTyped}
 use Rattle.st_semantics.specs.Laws.{LawOfTerms}
 use Rattle.st_semantics.proofs.TypedTrees.{law_of_judgements}
 
