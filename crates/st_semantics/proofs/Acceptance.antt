@@ -27,7 +27,7 @@ use Rattle.st_semantics.specs.Calls.{CallAt, ValueAt, has_value, no_goal}
 use Rattle.st_semantics.specs.Derivation as d
 use Rattle.st_semantics.specs.Derivation.{Root, Exclusion, Proved, HasTree, IsValid, excluded}
 use Rattle.st_semantics.specs.Checks.{Answer, checking_depth}
-use Rattle.st_semantics.specs.Walks.{TakenChild, ComeTo, Judges, judged, TakenBy, Tests, Walks, otherwise, condition, goal, on_line, of_many, each_refused, of_one, ends, at_once, each, done, left_over, missing, goes, stops}
+use Rattle.st_semantics.specs.Walks.{TakenChild, ComeTo, Judges, judged, Tests, Walks, otherwise, condition, goal, on_line, of_many, each_refused, of_one, ends, at_once, each, done, left_over, missing, goes, stops}
 
 pub no_refusal : {a : Answer} (rule : VerifyRule) → a ≡ Some rule → a ≡ None → ⊥
 no_refusal rule p q = let bad : Some rule ≡ None = sym p ∙ q in cc

@@ -1,5 +1,5 @@
 -- An outcome depends only on the values of the variables that occur.
-use Rattle.std.proofs.Common.{◌≡◌, ℕ, zero, suc, ◌+◌, pos, refl, sym, ◌∙◌, ap, ap₂, subst, List, [], ◌∷◌, ◌++◌, Bool, true, false, ◌&&◌, ◌||◌, if◌then◌else◌, Option, Some, None, bytes_eq}
+use Rattle.std.proofs.Common.{◌≡◌, ℕ, zero, suc, ◌+◌, pos, refl, ◌∙◌, ap, ap₂, subst, List, [], ◌∷◌, ◌++◌, Bool, true, false, ◌&&◌, ◌||◌, if◌then◌else◌, Option, Some, None, bytes_eq}
 use Rattle.st_num.specs.declared.dim.Kind.{Kind}
 use Rattle.st_il.specs.declared.definition.SyntaxDef.{SyntaxDef}
 use Rattle.st_il.specs.declared.expression.IlExp.{IlExp}
@@ -16,16 +16,16 @@ use Rattle.st_semantics.specs.declared.outcome.Outcome.{Outcome}
 use Rattle.st_semantics.specs.declared.outcome.Outcome.TheVariants.{Val}
 use Rattle.st_semantics.specs.declared.outcome.Outcomes.{Outcomes}
 use Rattle.st_semantics.specs.declared.outcome.Outcomes.TheVariants.{Values, Stopped}
-use Rattle.st_semantics.specs.Names.{Name, has_name, without}
-use Rattle.st_semantics.specs.Environments.{Entry, AgreeOn, lookup, value_in}
+use Rattle.st_semantics.specs.Names.{Name, without}
+use Rattle.st_semantics.specs.Environments.{Entry, AgreeOn, lookup}
 use Rattle.st_semantics.specs.Parts.{given}
 use Rattle.st_semantics.specs.Forms.{Form, Strict, Variable, Calls, Iterates, HasForm}
-use Rattle.st_semantics.specs.Iterations.{count_of, index_of, index_at, kind_of, may_be, Column, column_of, before, columns, all_long, size_of, heads, tails, bound_to, counted_to, rows, Spread, Misfit, Over, spread_rows, spread_long, spread, gathered}
+use Rattle.st_semantics.specs.Iterations.{count_of, index_of, index_at, kind_of, may_be, Column, column_of, before, columns, all_long, size_of, heads, tails, bound_to, counted_to, rows, Spread, Misfit, Over, spread_rows, spread_long, spread}
 use Rattle.st_semantics.specs.Evaluation.{Answers, Task, tasks, each_task, Ends, Goes, way, way_over, Gives, GivesAll, strict, variable, call, iteration_ends, iteration, none, stop, next}
 use Rattle.st_semantics.specs.Variables.{vars, vars_of, prem_vars, prem_vars_at, prems_vars}
 use Rattle.st_semantics.specs.Holding as h
 use Rattle.st_semantics.specs.Holding.{Meaning, value_by, HaveValues, Place, places, each_place, Derives, AreElements, Holds, HoldAll}
-use Rattle.st_semantics.proofs.Names.{Within, agree-left, agree-right, agree-head, agree-tail, or-cases, without-other, form_vars, vars-form, prem-level}
+use Rattle.st_semantics.proofs.Names.{agree-left, agree-right, agree-head, agree-tail, without-other, form_vars, vars-form, prem-level}
 
 columns-agree : (k : Kind) (xs : List Name) (a b : Env) → AgreeOn xs a b → columns k xs a.entries ≡ columns k xs b.entries
 columns-agree k [] a b g = refl

@@ -1,5 +1,5 @@
 -- What a premise of a clause binds, where the rules M3 and M4 are kept.
-use Rattle.std.proofs.Common.{◌≡◌, refl, sym, ◌∙◌, ap, ap₂, subst, List, [], ◌∷◌, ◌++◌, ◌⊎◌, inl, inr, Bool, true, false, not, ◌&&◌, ◌||◌, if◌then◌else◌, Option, Some, None, bytes_eq}
+use Rattle.std.proofs.Common.{◌≡◌, refl, sym, ◌∙◌, ap, subst, List, [], ◌∷◌, ◌++◌, ◌⊎◌, inl, inr, Bool, true, false, not, ◌&&◌, if◌then◌else◌, Option, Some, None, bytes_eq}
 use Rattle.std.specs.List.{list_all, list_any}
 use Rattle.st_il.specs.declared.definition.Il.{Il}
 use Rattle.st_il.specs.declared.expression.IlExp.{IlExp, out-IlExp}
@@ -11,7 +11,7 @@ use Rattle.st_il.specs.declared.expression.ListItem.{ListItem}
 use Rattle.st_il.specs.declared.expression.PathSeg.{PathSeg}
 use Rattle.st_semantics.specs.Names.{Name, has_name, all_known, without}
 use Rattle.st_semantics.specs.Iterations.{count_of, index_of}
-use Rattle.st_semantics.specs.Variables.{vars, vars_of, prem_vars, prem_vars_at, cites}
+use Rattle.st_semantics.specs.Variables.{vars, prem_vars, prem_vars_at, cites}
 use Rattle.st_semantics.specs.Patterns.{is_pattern, binds}
 use Rattle.st_semantics.specs.OpenParts.{is_doubly_open}
 use Rattle.st_semantics.specs.Executable as run
@@ -19,7 +19,7 @@ use Rattle.st_semantics.specs.Executable.{Class, Test, Equation, class_of, class
 use Rattle.st_semantics.specs.ModeRules.{has_one_open}
 use Rattle.st_semantics.specs.Kinds.{AreOfItsBody, NamesOccurring}
 use Rattle.st_semantics.specs.Kinds as named
-use Rattle.st_semantics.proofs.Names.{Within, within-left, within-right, within-both, known-within, and-both, or-cases, or-left, or-right, bytes-same, bytes-path, prem-level, true_false}
+use Rattle.st_semantics.proofs.Names.{Within, and-both, or-cases, or-left, or-right, bytes-same, prem-level}
 use Rattle.st_semantics.proofs.CanRun.{known-wider, runs_of, runs-level, class-level, is-cited, IsShort, count_short, within-index, inside-within}
 use Rattle.st_semantics.proofs.Wider.{prem-ind, Parts, all-wider, countable-wider, append-wider}
 

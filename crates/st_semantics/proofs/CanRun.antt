@@ -1,13 +1,12 @@
 -- The rules M3, M4 and M7 give that each premise of a clause can be met at its place; so does an
 -- executable order of a rule without relation premises.
-use Rattle.std.proofs.Common.{◌≡◌, ℕ, zero, suc, ◌+◌, refl, sym, ◌∙◌, ap, ap₂, subst, List, [], ◌∷◌, ◌++◌, map, ◌⊎◌, inl, inr, Bool, true, false, not, ◌&&◌, ◌||◌, if◌then◌else◌, Option, Some, None, is_some, bytes_eq, append_assoc, append-nil, slice_get, filter, All}
-use Rattle.std.specs.List.{list_all, list_any}
-use Rattle.std.proofs.lemmas.List.Elements.{All-head, All-tail, All-nil, All-cons, All-append}
+use Rattle.std.proofs.Common.{◌≡◌, refl, sym, ◌∙◌, ap, ap₂, subst, List, [], ◌∷◌, ◌++◌, ◌⊎◌, inl, inr, Bool, true, false, not, ◌&&◌, if◌then◌else◌, Option, Some, None, is_some, bytes_eq, append_assoc, append-nil, All}
+use Rattle.std.specs.List.{list_all}
+use Rattle.std.proofs.lemmas.List.Elements.{All-head, All-tail}
 use Rattle.std.proofs.lemmas.List.Folds.{list_all-append}
 use Rattle.st_il.specs.declared.definition.ClauseDef.{ClauseDef}
 use Rattle.st_il.specs.declared.definition.Il.{Il}
 use Rattle.st_il.specs.declared.definition.Listed.{Listed}
-use Rattle.st_il.specs.declared.definition.RuleDef.{RuleDef}
 use Rattle.st_il.specs.declared.expression.IlExp.{IlExp, out-IlExp}
 use Rattle.st_il.specs.declared.expression.IlExp.TheOpen.{IlExp-F, Iteration-F}
 use Rattle.st_il.specs.declared.expression.IlPrem.{IlPrem, out-IlPrem, fold-IlPrem, fold_out-IlPrem, map-IlPrem}
@@ -18,7 +17,6 @@ use Rattle.st_il.specs.declared.expression.PathSeg.{PathSeg}
 use Rattle.st_semantics.specs.Names.{Name, has_name, all_known, among, without}
 use Rattle.st_semantics.specs.Definitions.{clauses_in}
 use Rattle.st_semantics.specs.Iterations.{count_of, index_of, count_at}
-use Rattle.st_semantics.specs.Scopes.{listed_inside}
 use Rattle.st_semantics.specs.Variables.{vars, vars_of, prem_vars, prems_vars, cites, cites_at}
 use Rattle.st_semantics.specs.Patterns.{Told, is_pattern, bound_by}
 use Rattle.st_semantics.specs.OpenParts.{is_doubly_open}
@@ -26,13 +24,13 @@ use Rattle.st_semantics.specs.Reaching.{bound_behind}
 use Rattle.st_semantics.specs.Executable as run
 use Rattle.st_semantics.specs.Executable.{Class, Test, Equation, class_of, class_of_condition, class_of_equation, class_of_sides, is_matched, class_of_each, is_anchored, is_countable, is_variable_at, bound_inside, runs_at}
 use Rattle.st_semantics.specs.Orders.{run_on}
-use Rattle.st_semantics.specs.ModeRules.{keeps_m3, keeps_m4, keeps_m7, patterns_have_one_open}
+use Rattle.st_semantics.specs.ModeRules.{patterns_have_one_open}
 use Rattle.st_semantics.specs.Breaches.{ClausesKeep}
 use Rattle.st_semantics.specs.Kinds.{IsKinded, ClausesAreKinded}
 use Rattle.st_semantics.specs.Kinds as kinded
 use Rattle.st_semantics.specs.inner.Modes.{ClauseRuns}
 use Rattle.st_semantics.proofs.Modes.{clauses_run}
-use Rattle.st_semantics.proofs.Names.{Within, within-left, within-right, within-both, known-within, and-both, or-cases, or-left, or-right, bytes-path}
+use Rattle.st_semantics.proofs.Names.{Within, within-left, within-right, within-both, known-within, and-both, or-cases, bytes-path}
 use Rattle.st_semantics.proofs.PatternParts.{told-level as pattern-level}
 use Rattle.st_semantics.proofs.Elements.{All-back}
 use Rattle.st_semantics.proofs.Runs.{CountRuns, Runs, test, left, right, otherwise, each}

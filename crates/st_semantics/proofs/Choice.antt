@@ -1,9 +1,8 @@
 -- At most one environment chooses a clause, a clause that is chosen does not meet Deep, and so a call
 -- comes to one outcome at most.
-use Rattle.std.proofs.Common.{◌≡◌, ℕ, zero, suc, refl, sym, ◌∙◌, ap, ap₂, subst, List, [], ◌∷◌, ◌++◌, filter, ◌⊎◌, inl, inr, Bool, true, false, not, ◌&&◌, if◌then◌else◌, Option, Some, None, append_assoc, append-nil, All}
-use Rattle.std.specs.List.{list_all, list_any}
+use Rattle.std.proofs.Common.{◌≡◌, refl, sym, ◌∙◌, ap, subst, List, [], ◌∷◌, ◌++◌, filter, ◌⊎◌, inl, inr, Bool, true, false, if◌then◌else◌, Some, append-nil}
+use Rattle.std.specs.List.{list_all}
 use Rattle.std.specs.Cmp.{Equal-is}
-use Rattle.st_il.specs.declared.definition.ClauseDef.{ClauseDef}
 use Rattle.st_il.specs.declared.definition.Il.{Il}
 use Rattle.st_il.specs.declared.definition.Listed.{Listed}
 use Rattle.st_il.specs.declared.definition.SyntaxDef.{SyntaxDef}
@@ -20,9 +19,7 @@ use Rattle.st_il.specs.declared.value.Value.TheOpen.{Value-F}
 use Rattle.st_il.specs.declared.value.Value.TheVariants as value
 use Rattle.st_il.specs.Order.{value_cmp}
 use Rattle.st_il.proofs.OrderLaws.{value_cmp-exact}
-use Rattle.st_semantics.specs.declared.outcome.Outcome.{Outcome}
 use Rattle.st_semantics.specs.declared.outcome.Outcome.TheVariants.{Val, Deep}
-use Rattle.st_semantics.specs.declared.outcome.Outcomes.{Outcomes}
 use Rattle.st_semantics.specs.declared.outcome.Outcomes.TheVariants.{Values, Stopped}
 use Rattle.st_semantics.specs.Names.{Name, has_name, all_known, without}
 use Rattle.st_semantics.specs.Definitions.{syntaxes}
@@ -30,17 +27,17 @@ use Rattle.st_semantics.specs.Environments.{AgreeOn, value_in}
 use Rattle.st_semantics.specs.Parts.{binary}
 use Rattle.st_semantics.specs.Operators.{equality, is_same}
 use Rattle.st_semantics.specs.Forms.{form_at, HasForm, Strict, Variable, by_itself}
-use Rattle.st_semantics.specs.Iterations.{count_of, index_of, kind_of, spread, Over, gathered}
-use Rattle.st_semantics.specs.Evaluation.{Answers, Task, tasks, Gives, GivesAll}
+use Rattle.st_semantics.specs.Iterations.{count_of, index_of, kind_of, spread, Over}
+use Rattle.st_semantics.specs.Evaluation.{Answers, tasks, Gives, GivesAll}
 use Rattle.st_semantics.specs.Variables.{vars, vars_of, prem_vars}
-use Rattle.st_semantics.specs.Patterns.{is_pattern, binds}
-use Rattle.st_semantics.specs.Holding.{Meaning, value_by, HaveValues, Place, each_place, Holds, HoldAll}
+use Rattle.st_semantics.specs.Patterns.{binds}
+use Rattle.st_semantics.specs.Holding.{value_by, HaveValues, Place, each_place, Holds, HoldAll}
 use Rattle.st_semantics.specs.Depth as d
 use Rattle.st_semantics.specs.Depth.{evaluated, side_at, bound_side, bound_count, ValuesAt, Meets, MeetsHere}
 use Rattle.st_semantics.specs.Executable.{is_countable, is_variable_at}
 use Rattle.st_semantics.specs.Calls.{no_goal, in_clause}
 use Rattle.st_semantics.specs.Kinds.{AreOfItsBody}
-use Rattle.st_semantics.proofs.Names.{Within, within-cases, within-left, within-right, agree-left, agree-right, and-both, or-cases, known-within, prem-level, form_vars, vars-form, true_false, without-other}
+use Rattle.st_semantics.proofs.Names.{within-cases, and-both, or-cases, known-within, prem-level, vars-form, without-other}
 use Rattle.st_semantics.proofs.Agree.{EnvsAgree, Gives-agree}
 use Rattle.st_semantics.proofs.Singles.{IsSingle, Gives-single, GivesAll-single}
 use Rattle.st_semantics.proofs.Values.{two_values, gives_values, equation_form}

@@ -1,6 +1,6 @@
 -- The clauses of an internal language that keeps the rules are chosen under one environment at most,
 -- and so each call comes to one outcome at most.
-use Rattle.std.proofs.Common.{◌≡◌, ℕ, zero, suc, ◌<◌, length, arith, refl, sym, ◌∙◌, ap, subst, List, [], ◌∷◌, ◌++◌, map, filter, ◌⊎◌, inl, inr, Bool, true, false, not, ◌&&◌, if◌then◌else◌, Some, bytes_eq, append_assoc, append-nil, All}
+use Rattle.std.proofs.Common.{◌≡◌, ℕ, zero, suc, ◌<◌, length, arith, refl, sym, ◌∙◌, ap, subst, List, [], ◌∷◌, ◌++◌, map, filter, inl, inr, Bool, true, false, not, ◌&&◌, if◌then◌else◌, bytes_eq, append_assoc, append-nil, All}
 use Rattle.std.specs.Prelude.{Contains}
 use Rattle.std.specs.List.{list_all, slice_index_or}
 use Rattle.std.proofs.lemmas.List.Elements.{All-head, All-tail}
@@ -14,14 +14,14 @@ use Rattle.st_semantics.specs.declared.outcome.Outcome.{Outcome}
 use Rattle.st_semantics.specs.Names.{Name, has_name, all_known, flattened}
 use Rattle.st_semantics.specs.Definitions.{syntaxes, clauses_in, clauses_of, clauses_from}
 use Rattle.st_semantics.specs.Environments.{AgreeOn, listed_names}
-use Rattle.st_semantics.specs.Evaluation.{Answers, tasks, Gives}
+use Rattle.st_semantics.specs.Evaluation.{Answers, tasks}
 use Rattle.st_semantics.specs.Variables.{vars, vars_of, prem_vars, prems_vars, cites}
 use Rattle.st_semantics.specs.Patterns.{is_pattern, binds, bound_by}
 use Rattle.st_semantics.specs.OpenParts.{is_doubly_open}
 use Rattle.st_semantics.specs.Holding as h
 use Rattle.st_semantics.specs.Holding.{value_by, HaveValues, places, Holds, HoldAll}
 use Rattle.st_semantics.specs.Reaching.{bound_behind}
-use Rattle.st_semantics.specs.Calls.{no_goal, in_clause, Chosen, TooDeep, Decides, CallAt}
+use Rattle.st_semantics.specs.Calls.{no_goal, Chosen, TooDeep, Decides, CallAt}
 use Rattle.st_semantics.specs.Executable.{class_of}
 use Rattle.st_semantics.specs.ModeRules.{has_one_open, patterns_have_one_open}
 use Rattle.st_semantics.specs.Breaches.{ClausesKeep}

@@ -1,5 +1,5 @@
 -- An outcome that is not Deep is the outcome at every larger depth.
-use Rattle.std.proofs.Common.{◌≡◌, ℕ, zero, suc, ◌≤◌, refl, sym, ◌∙◌, ap, subst, List, [], ◌∷◌, ◌++◌, ◌⊎◌, inl, inr, Bool, true, false, ◌&&◌, if◌then◌else◌, Some, bytes_eq, append_assoc, append-nil, arith, eq-or-lt_of_le, le_of_suc-le-suc}
+use Rattle.std.proofs.Common.{◌≡◌, ℕ, zero, suc, ◌≤◌, refl, sym, ◌∙◌, ap, subst, List, [], ◌∷◌, ◌++◌, ◌⊎◌, inl, inr, Bool, true, false, if◌then◌else◌, bytes_eq, append_assoc, append-nil, arith, eq-or-lt_of_le, le_of_suc-le-suc}
 use Rattle.std.specs.List.{list_all}
 use Rattle.st_il.specs.declared.definition.ClauseDef.{ClauseDef}
 use Rattle.st_il.specs.declared.definition.Il.{Il}
@@ -10,7 +10,7 @@ use Rattle.st_il.specs.declared.value.Env.{Env}
 use Rattle.st_il.specs.declared.value.Value.{Value}
 use Rattle.st_semantics.specs.declared.outcome.Outcome.{Outcome}
 use Rattle.st_semantics.specs.declared.outcome.Outcome.TheVariants.{Val, Deep}
-use Rattle.st_semantics.specs.Names.{Name, has_name, without}
+use Rattle.st_semantics.specs.Names.{Name}
 use Rattle.st_semantics.specs.Definitions.{syntaxes, clauses_in, clauses_of, clauses_from}
 use Rattle.st_semantics.specs.Environments.{EnvOk, AgreeOn, TypedIn, listed_in}
 use Rattle.st_semantics.specs.Evaluation.{Answers, tasks, Gives}
@@ -18,8 +18,8 @@ use Rattle.st_semantics.specs.Variables.{vars_of, prem_vars, prems_vars}
 use Rattle.st_semantics.specs.Patterns.{is_pattern}
 use Rattle.st_semantics.specs.Holding as h
 use Rattle.st_semantics.specs.Holding.{Meaning, value_by, HaveValues, Place, places, Derives, HoldAll}
-use Rattle.st_semantics.specs.Depth.{Setting, Meets, HoldIn}
-use Rattle.st_semantics.specs.Reaching.{Reached, MeetsAmong, bound_behind, listed_behind}
+use Rattle.st_semantics.specs.Depth.{Setting}
+use Rattle.st_semantics.specs.Reaching.{MeetsAmong, bound_behind}
 use Rattle.st_semantics.specs.Calls.{no_goal, in_clause, Chosen, TooDeep, Decides, CallAt, ValueAt}
 use Rattle.st_semantics.proofs.Names.{Within, within-left, within-right, within-both, no_names}
 use Rattle.st_semantics.proofs.Agree.{Local, value_by-local, HaveValues-agree, HoldAll-agree, places-agree}

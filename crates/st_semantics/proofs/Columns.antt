@@ -1,6 +1,6 @@
 -- The elements of an iteration, by the columns of its variables: where the columns are the same the
 -- elements are, and the other way round.
-use Rattle.std.proofs.Common.{◌≡◌, ℕ, ℤ, zero, suc, ◌+◌, pos, negsuc, refl, sym, ◌∙◌, ap, ap₂, subst, List, [], ◌∷◌, ◌++◌, length, ◌⊎◌, inl, inr, Bool, true, false, ◌&&◌, ◌||◌, if◌then◌else◌, Option, Some, None, option_map, bytes_eq, nat_eq, arith}
+use Rattle.std.proofs.Common.{◌≡◌, ℕ, zero, suc, ◌+◌, pos, negsuc, refl, sym, ◌∙◌, ap, ap₂, subst, List, [], ◌∷◌, ◌++◌, length, ◌⊎◌, inl, inr, Bool, true, false, ◌&&◌, ◌||◌, if◌then◌else◌, Option, Some, None, option_map, bytes_eq, nat_eq, arith}
 use Rattle.std.specs.Option.{option_and_then}
 use Rattle.std.proofs.lemmas.Bool.{eqb-true, eq-eqb}
 use Rattle.st_num.specs.declared.dim.Kind.{Kind}
@@ -12,10 +12,10 @@ use Rattle.st_il.specs.declared.value.Value.TheOpen.{Value-F}
 use Rattle.st_il.specs.declared.value.Value.TheVariants as value
 use Rattle.st_semantics.specs.Names.{Name, has_name}
 use Rattle.st_semantics.specs.Environments.{Entry, lookup, value_in, AgreeOn}
-use Rattle.st_semantics.specs.Parts.{elements_at, elements, option_at, option_list, number_at, natural_of, natural}
-use Rattle.st_semantics.specs.Iterations.{index_of, kind_of, may_be, Column, column_at, column_of, columns, all_long, size_of, heads, tails, bound_to, counted_to, rows, Spread, Over, spread}
+use Rattle.st_semantics.specs.Parts.{elements_at, elements, option_at, number_at, natural_of, natural}
+use Rattle.st_semantics.specs.Iterations.{index_of, kind_of, may_be, Column, column_at, column_of, columns, all_long, size_of, heads, tails, bound_to, counted_to, rows, Over, spread}
 use Rattle.st_semantics.specs.Depth.{ValuesAt}
-use Rattle.st_semantics.proofs.Names.{bytes-same, bytes-path, or-left, or-right, or-cases, and-both, true_false, within-cases}
+use Rattle.st_semantics.proofs.Names.{bytes-path, and-both}
 use Rattle.st_semantics.proofs.Agree.{EnvsAgree, IsShort, index_short}
 use Rattle.st_semantics.proofs.Elements.{before_parts, long_parts, skip}
 

@@ -1,5 +1,5 @@
 -- An expression cannot but come to an outcome.
-use Rattle.std.proofs.Common.{◌≡◌, ℕ, zero, suc, refl, sym, ap, List, [], ◌∷◌, ◌⊎◌, inl, inr, Bool, true, false, if◌then◌else◌, bytes_eq, All}
+use Rattle.std.proofs.Common.{◌≡◌, ℕ, zero, suc, refl, List, [], ◌∷◌, inl, inr, Bool, true, false, if◌then◌else◌, bytes_eq, All}
 use Rattle.std.proofs.lemmas.List.Elements.{All-cons, All-head, All-tail}
 use Rattle.st_il.specs.declared.definition.ClauseDef.{ClauseDef}
 use Rattle.st_il.specs.declared.definition.Il.{Il}
@@ -18,7 +18,7 @@ use Rattle.st_semantics.specs.Names.{Name}
 use Rattle.st_semantics.specs.Definitions.{syntaxes, clauses_in, clauses_of, clauses_from}
 use Rattle.st_semantics.specs.Environments.{value_in}
 use Rattle.st_semantics.specs.Parts.{given}
-use Rattle.st_semantics.specs.Forms.{HasForm, Calls, Iterates}
+use Rattle.st_semantics.specs.Forms.{HasForm, Iterates}
 use Rattle.st_semantics.specs.Iterations.{count_of, gathered}
 use Rattle.st_semantics.specs.Evaluation as g
 use Rattle.st_semantics.specs.Evaluation.{Answers, Task, tasks, each_task, then_all, applied, Called, Way, Ends, Goes, way, Gives, GivesAll}

@@ -1,5 +1,5 @@
 -- The elements of an iteration have their types.
-use Rattle.std.proofs.Common.{◌≡◌, ℕ, ℤ, zero, suc, ◌+◌, ◌≤◌, pos, refl, sym, ◌∙◌, ap, subst, List, [], ◌∷◌, ◌++◌, map, length, max, ◌⊎◌, inl, inr, Bool, true, false, not, ◌&&◌, ◌||◌, if◌then◌else◌, Option, Some, None, bytes_eq, nat_eq, arith, All}
+use Rattle.std.proofs.Common.{◌≡◌, ℕ, ℤ, zero, suc, ◌+◌, ◌≤◌, pos, refl, sym, ◌∙◌, ap, subst, List, [], ◌∷◌, ◌++◌, map, length, ◌⊎◌, inl, inr, Bool, true, false, ◌&&◌, ◌||◌, if◌then◌else◌, Option, Some, None, bytes_eq, nat_eq, arith, All}
 use Rattle.std.proofs.lemmas.Bool.{eqb-true}
 use Rattle.std.proofs.lemmas.List.Elements.{All-nil, All-cons, All-head, All-tail}
 use Rattle.st_num.specs.Number.{IsNumber}
@@ -11,7 +11,7 @@ use Rattle.st_il.specs.declared.definition.Il.{Il}
 use Rattle.st_il.specs.declared.definition.Listed.{Listed}
 use Rattle.st_il.specs.declared.definition.SyntaxDef.{SyntaxDef}
 use Rattle.st_il.specs.declared.expression.Iteration.{Iteration}
-use Rattle.st_il.specs.declared.ty.Ty.{Ty, out-Ty}
+use Rattle.st_il.specs.declared.ty.Ty.{Ty}
 use Rattle.st_il.specs.declared.ty.Ty.TheOpen.{Ty-F}
 use Rattle.st_il.specs.declared.ty.Ty.TheVariants as ty
 use Rattle.st_il.specs.declared.value.Env.{Env}
@@ -22,18 +22,18 @@ use Rattle.st_il.specs.Height.{height, height_at, highest}
 use Rattle.st_il.specs.Value.{texts_of, texts_at}
 use Rattle.st_il.specs.Value as texts
 use Rattle.st_type_table.specs.Meaning.{alias_of, itself}
-use Rattle.st_types.specs.HasType.{HasType, AllHaveType, no_more, one_more}
+use Rattle.st_types.specs.HasType.{AllHaveType, no_more, one_more}
 use Rattle.st_types.specs.inner.Levels.{TypedAt}
 use Rattle.st_types.proofs.HasTypeLemmas.{typed-opened}
-use Rattle.st_semantics.specs.Names.{Name, flattened, has_name, without}
+use Rattle.st_semantics.specs.Names.{Name, flattened, has_name}
 use Rattle.st_semantics.specs.Definitions.{syntaxes}
-use Rattle.st_semantics.specs.Environments.{Entry, lookup, value_in, IsTypedValue, IsSomeTyped, numbers_of, numbers_at, wrapped, type_of, listed_as, TypedIn}
+use Rattle.st_semantics.specs.Environments.{Entry, lookup, IsTypedValue, IsSomeTyped, numbers_of, numbers_at, wrapped, type_of, listed_as, TypedIn}
 use Rattle.st_semantics.specs.Parts.{elements_at, option_at}
-use Rattle.st_semantics.specs.Iterations.{index_of, kind_of, may_be, Column, column_at, column_of, before, columns, all_long, size_of, heads, tails, bound_to, counted_to, rows, Over, spread_rows, spread_long, spread}
+use Rattle.st_semantics.specs.Iterations.{index_of, kind_of, may_be, Column, column_of, before, columns, all_long, size_of, heads, tails, bound_to, counted_to, rows, Over, spread_rows, spread_long, spread}
 use Rattle.st_semantics.specs.Scopes.{inner, stepped, stepped_all, indices, listed_inside}
 use Rattle.st_semantics.specs.Depth.{AllTypedIn}
 use Rattle.st_semantics.specs.Kinds.{BeginsWith, AreOfItsKind}
-use Rattle.st_semantics.proofs.Names.{bytes-same, bytes-path, or-left, or-right, and-both, true_false}
+use Rattle.st_semantics.proofs.Names.{bytes-same, bytes-path, or-left, or-right, and-both}
 
 -- ---- the parts of a typed value
 

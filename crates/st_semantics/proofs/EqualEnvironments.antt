@@ -1,5 +1,5 @@
 -- Two environments of the same listed variables that give them the same values are one.
-use Rattle.std.proofs.Common.{◌≡◌, ℕ, zero, suc, ◌<◌, refl, sym, ◌∙◌, ap, ap₂, subst, List, [], ◌∷◌, map, length, ◌⊎◌, inl, inr, Bool, true, false, ◌||◌, if◌then◌else◌, Option, Some, None, bytes_eq, arith}
+use Rattle.std.proofs.Common.{◌≡◌, ℕ, zero, suc, ◌<◌, refl, sym, ◌∙◌, ap, ap₂, subst, List, [], ◌∷◌, map, length, ◌⊎◌, inl, inr, Bool, true, false, if◌then◌else◌, Option, Some, None, bytes_eq, arith}
 use Rattle.std.specs.Prelude.{AllPairs}
 use Rattle.std.specs.List.{slice_index_or}
 use Rattle.std.specs.Ordering.{is_lt, ordering_reverse}
@@ -11,9 +11,9 @@ use Rattle.st_il.specs.declared.definition.SyntaxDef.{SyntaxDef}
 use Rattle.st_il.specs.declared.value.Env.{Env}
 use Rattle.st_il.specs.declared.value.Value.{Value}
 use Rattle.st_il.specs.Order.{text_cmp}
-use Rattle.st_semantics.specs.Names.{Name, has_name, all_known}
+use Rattle.st_semantics.specs.Names.{Name, has_name}
 use Rattle.st_semantics.specs.Environments.{Entry, lookup, value_in, names_of, listed_names, EnvOk, AgreeOn}
-use Rattle.st_semantics.proofs.Names.{bytes-same, bytes-path, or-left, or-cases, known-within, true_false}
+use Rattle.st_semantics.proofs.Names.{bytes-same, bytes-path, or-cases, known-within, true_false}
 use Rattle.st_semantics.proofs.Low.{name_there}
 
 -- the names of some entries

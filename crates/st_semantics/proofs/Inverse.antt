@@ -1,5 +1,5 @@
 -- What the parts of an expression come to, where it has a value.
-use Rattle.std.proofs.Common.{◌≡◌, refl, sym, ◌∙◌, ap, subst, List, [], ◌∷◌, Option, Some, None, true}
+use Rattle.std.proofs.Common.{◌≡◌, refl, sym, ap, subst, List, Option, Some, None, true}
 use Rattle.st_il.specs.declared.definition.SyntaxDef.{SyntaxDef}
 use Rattle.st_il.specs.declared.expression.IlExp.{IlExp}
 use Rattle.st_il.specs.declared.expression.IlPrem.{IlPrem, out-IlPrem}
@@ -8,16 +8,15 @@ use Rattle.st_il.specs.declared.expression.Iteration.{Iteration}
 use Rattle.st_il.specs.declared.value.Env.{Env}
 use Rattle.st_il.specs.declared.value.Value.{Value}
 use Rattle.st_il.specs.declared.value.Value.TheVariants as value
-use Rattle.st_semantics.specs.declared.outcome.Outcome.{Outcome}
-use Rattle.st_semantics.specs.declared.outcome.Outcome.TheVariants.{Val, NoValue, Deep}
+use Rattle.st_semantics.specs.declared.outcome.Outcome.TheVariants.{Val}
 use Rattle.st_semantics.specs.declared.outcome.Outcomes.{Outcomes}
 use Rattle.st_semantics.specs.declared.outcome.Outcomes.TheVariants.{Values, Stopped}
 use Rattle.st_semantics.specs.Names.{Name}
 use Rattle.st_semantics.specs.Environments.{value_in}
 use Rattle.st_semantics.specs.Parts.{Operation, given}
-use Rattle.st_semantics.specs.Forms.{Form, HasForm, Strict, Variable, Calls, Iterates}
+use Rattle.st_semantics.specs.Forms.{HasForm, Strict, Variable, Calls, Iterates}
 use Rattle.st_semantics.specs.Iterations.{count_of, spread, Spread, Misfit, Over, gathered}
-use Rattle.st_semantics.specs.Evaluation.{Answers, Task, tasks, each_task, applied, Called, Way, Ends, Goes, way, way_over, Gives, GivesAll, strict, variable, call, iteration_ends, iteration}
+use Rattle.st_semantics.specs.Evaluation.{Answers, Task, tasks, each_task, applied, Called, Ends, Goes, way, way_over, Gives, GivesAll, strict, variable, call, iteration_ends, iteration}
 use Rattle.st_semantics.specs.Holding as h
 use Rattle.st_semantics.specs.Holding.{Meaning, value_by, HaveValues, Derives, AreElements, each_place, Holds, HoldAll}
 use Rattle.st_semantics.proofs.Singles.{HasForm-single}

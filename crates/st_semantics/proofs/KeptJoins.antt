@@ -1,6 +1,6 @@
 -- Two values of a type that are joined make a value of it.
-use Rattle.std.proofs.Common.{◌≡◌, ℕ, ℤ, pos, refl, sym, ◌∙◌, ap, ap₂, subst, List, [], ◌∷◌, ◌++◌, map, Option, Some, None, option_map, All}
-use Rattle.std.proofs.lemmas.List.Elements.{All-nil, All-cons, All-head, All-tail, All-append}
+use Rattle.std.proofs.Common.{◌≡◌, pos, refl, sym, ◌∙◌, ap, ap₂, subst, List, [], ◌∷◌, ◌++◌, map, Option, Some, None, option_map, All}
+use Rattle.std.proofs.lemmas.List.Elements.{All-cons, All-head, All-tail, All-append}
 use Rattle.st_num.specs.Number.{IsNumber}
 use Rattle.st_num.specs.Texts.{IsText}
 use Rattle.st_il.specs.declared.definition.SyntaxDef.{SyntaxDef}
@@ -10,7 +10,6 @@ use Rattle.st_il.specs.declared.ty.Ty.TheVariants as ty
 use Rattle.st_il.specs.declared.value.Value.{Value, out-Value, roll-Value, out-roll-Value, fold-Value, fold_out-Value, map-Value}
 use Rattle.st_il.specs.declared.value.Value.TheOpen.{Value-F}
 use Rattle.st_il.specs.declared.value.Value.TheVariants as value
-use Rattle.st_il.specs.Height.{height}
 use Rattle.st_il.specs.Value.{texts_of}
 use Rattle.st_il.specs.Value as texts
 use Rattle.st_il.proofs.Induction.{Every, OfField, Parts, value-ind}
@@ -29,7 +28,7 @@ use Rattle.st_semantics.proofs.Elements.{All-front, All-back}
 use Rattle.st_semantics.proofs.Columns.{same_out}
 use Rattle.st_semantics.proofs.Lengths.{some_one}
 use Rattle.st_semantics.proofs.TypedParts.{texts-level, numbers-level}
-use Rattle.st_semantics.proofs.KeptTypes.{binary_keeps, TextsIn, NumbersIn}
+use Rattle.st_semantics.proofs.KeptTypes.{binary_keeps}
 use Rattle.st_semantics.proofs.KeptPaths.{Sound, sound_of, typed_by, SoundFields}
 
 -- a value, and how it is joined

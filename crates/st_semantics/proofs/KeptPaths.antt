@@ -1,20 +1,16 @@
 -- What is replaced at the end of a path leaves the type of the whole as it was.
-use Rattle.std.proofs.Common.{◌≡◌, ℕ, ℤ, zero, suc, ◌+◌, ◌≤◌, refl, sym, ◌∙◌, ap, subst, List, [], ◌∷◌, ◌++◌, map, length, take, drop, Bool, true, false, not, ◌||◌, if◌then◌else◌, Option, Some, None, option_map, bytes_eq, nat_le, nat_eq, slice_get, All}
+use Rattle.std.proofs.Common.{◌≡◌, ℕ, zero, suc, ◌+◌, ◌≤◌, refl, sym, ◌∙◌, ap, subst, List, [], ◌∷◌, ◌++◌, map, length, take, drop, Bool, true, false, not, ◌||◌, if◌then◌else◌, Option, Some, None, option_map, bytes_eq, nat_le, nat_eq, slice_get, All}
 use Rattle.std.specs.Option.{option_and_then}
 use Rattle.std.proofs.lemmas.List.Elements.{All-nil, All-cons, All-head, All-tail, All-append}
 use Rattle.st_num.specs.Number.{IsNumber}
 use Rattle.st_num.specs.Texts.{IsText}
 use Rattle.st_num.specs.declared.limit.TheConstants.{HIGHEST_VALUE}
 use Rattle.st_il.specs.declared.definition.SyntaxDef.{SyntaxDef}
-use Rattle.st_il.specs.declared.expression.IlExp.{IlExp}
-use Rattle.st_il.specs.declared.expression.IlExp.TheOpen.{PathSeg-F}
-use Rattle.st_il.specs.declared.expression.Iteration.{Iteration}
-use Rattle.st_il.specs.declared.expression.ListItem.{ListItem}
-use Rattle.st_il.specs.declared.expression.PathSeg.{PathSeg, out-PathSeg}
+use Rattle.st_il.specs.declared.expression.PathSeg.{PathSeg}
 use Rattle.st_il.specs.declared.ty.Ty.{Ty, out-Ty}
 use Rattle.st_il.specs.declared.ty.Ty.TheOpen.{Ty-F}
 use Rattle.st_il.specs.declared.ty.Ty.TheVariants as ty
-use Rattle.st_il.specs.declared.value.Value.{Value, out-Value, map-Value}
+use Rattle.st_il.specs.declared.value.Value.{Value, out-Value}
 use Rattle.st_il.specs.declared.value.Value.TheOpen.{Value-F}
 use Rattle.st_il.specs.declared.value.Value.TheVariants as value
 use Rattle.st_il.specs.Height.{height}
@@ -27,11 +23,10 @@ use Rattle.st_types.specs.HasType as type
 use Rattle.st_types.specs.HasType.{HasType, AllHaveType, FieldsHaveTypes}
 use Rattle.st_types.specs.inner.Levels.{TypedAt, RecordHasType}
 use Rattle.st_types.proofs.HasTypeLemmas.{typed-opened}
-use Rattle.st_semantics.specs.declared.outcome.Outcome.TheVariants.{Val}
 use Rattle.st_semantics.specs.Names.{Name, flattened}
 use Rattle.st_semantics.specs.Environments.{Entry, IsTypedValue, AreTypedValues, numbers_of}
-use Rattle.st_semantics.specs.Parts.{elements_at, fields_at, elements, fields, natural, made, with_both}
-use Rattle.st_semantics.specs.Operators.{concatenation, part_of}
+use Rattle.st_semantics.specs.Parts.{elements_at, fields_at, elements, natural, with_both}
+use Rattle.st_semantics.specs.Operators.{concatenation}
 use Rattle.st_semantics.specs.Paths.{Step, Into, Nth, Part, step_at, Path, longer, path_of, Replaces, in_field, in_element, put_back, in_part, replaced, finished, along, setting, extension}
 use Rattle.st_semantics.specs.OperationTypes.{KeepsTypes}
 use Rattle.st_semantics.specs.OperationTypes as row
@@ -39,7 +34,7 @@ use Rattle.st_semantics.specs.OperationTypes.{field_type, PathType}
 use Rattle.st_semantics.proofs.Elements.{All-front, All-back, no_alias_list}
 use Rattle.st_semantics.proofs.Lengths.{some_one}
 use Rattle.st_semantics.proofs.TypedParts.{texts-level, numbers-level}
-use Rattle.st_semantics.proofs.KeptTypes.{Made, made_parts, TextsIn, NumbersIn}
+use Rattle.st_semantics.proofs.KeptTypes.{made_parts, TextsIn, NumbersIn}
 
 -- the steps and values behind them
 abbrev path_with : List Step → List Value → Path

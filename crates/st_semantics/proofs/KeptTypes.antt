@@ -1,18 +1,17 @@
 -- The operations keep the types that are told of them.
-use Rattle.std.proofs.Common.{◌≡◌, ℕ, ℤ, zero, suc, ◌+◌, ◌≤◌, ◌<◌, pos, negsuc, refl, sym, ◌∙◌, ap, subst, List, [], ◌∷◌, ◌++◌, map, length, zip, take, drop, Bool, true, false, not, ◌&&◌, ◌||◌, if◌then◌else◌, Option, Some, None, option_map, bytes_eq, nat_le, nat_lt, nat_eq, int_lt, int_le, slice_get, arith, All}
-use Rattle.std.specs.Prelude.{unsigned_abs, int_rem, int_div, ◌+ℤ◌, ◌-ℤ◌, ◌*ℤ◌, ◌^◌}
+use Rattle.std.proofs.Common.{◌≡◌, ℕ, ℤ, zero, suc, ◌+◌, ◌≤◌, pos, negsuc, refl, sym, ◌∙◌, ap, subst, List, [], ◌∷◌, ◌++◌, map, length, zip, take, drop, Bool, true, false, not, if◌then◌else◌, Option, Some, None, option_map, bytes_eq, nat_le, nat_lt, nat_eq, slice_get, arith, All}
+use Rattle.std.specs.Prelude.{unsigned_abs, int_rem, int_div, ◌-ℤ◌, ◌^◌}
 use Rattle.std.specs.Int.{int_pow}
 use Rattle.std.specs.Option.{option_and_then}
 use Rattle.std.specs.List.{list_any}
-use Rattle.std.proofs.lemmas.Bool.{leb-true, ltb-true}
+use Rattle.std.proofs.lemmas.Bool.{ltb-true}
 use Rattle.std.proofs.lemmas.List.Elements.{All-nil, All-cons, All-head, All-tail, All-append}
-use Rattle.st_num.specs.Number.{IsNumber, below_zero, in_range, sum, difference, product, quotient, remainder, power}
+use Rattle.st_num.specs.Number.{IsNumber, in_range, difference, quotient, remainder, power}
 use Rattle.st_num.specs.Texts.{IsText}
 use Rattle.st_num.specs.declared.limit.TheConstants.{HIGHEST_VALUE}
-use Rattle.st_num.specs.declared.dim.Kind.TheVariants as kind
 use Rattle.st_il.specs.declared.definition.SyntaxDef.{SyntaxDef}
-use Rattle.st_il.specs.declared.expression.IlExp.{IlExp, out-IlExp}
-use Rattle.st_il.specs.declared.expression.IlExp.TheOpen.{IlExp-F, ListItem-F}
+use Rattle.st_il.specs.declared.expression.IlExp.{IlExp}
+use Rattle.st_il.specs.declared.expression.IlExp.TheOpen.{ListItem-F}
 use Rattle.st_il.specs.declared.expression.Iteration.{Iteration}
 use Rattle.st_il.specs.declared.expression.ListItem.{ListItem, out-ListItem}
 use Rattle.st_il.specs.declared.expression.PathSeg.{PathSeg}
@@ -29,7 +28,6 @@ use Rattle.st_il.specs.Value as texts
 use Rattle.st_type_table.specs.declared.entry.CaseDef.{CaseDef}
 use Rattle.st_type_table.specs.Cases.{HasCases, HasFields, operands_of}
 use Rattle.st_type_table.specs.Meaning.{Means, alias_of, itself}
-use Rattle.st_type_table.proofs.MeansLemmas.{Means-single}
 use Rattle.st_type_table.proofs.CasesLemmas.{HasFields-single}
 use Rattle.st_types.specs.HasType as type
 use Rattle.st_types.specs.HasType.{HasType, HaveTypes, FieldsHaveTypes}
@@ -37,18 +35,14 @@ use Rattle.st_types.specs.Sub.{Sub}
 use Rattle.st_types.specs.inner.Levels.{TypedAt, RecordHasType}
 use Rattle.st_types.proofs.HasTypeLemmas.{typed-opened}
 use Rattle.st_types.proofs.UpLaws.{Sub-up}
-use Rattle.st_semantics.specs.declared.outcome.Outcome.{Outcome}
 use Rattle.st_semantics.specs.declared.outcome.Outcome.TheVariants.{Val}
 use Rattle.st_semantics.specs.Names.{Name, flattened}
 use Rattle.st_semantics.specs.Environments.{Entry, lookup, IsTypedValue, AreTypedValues, numbers_of, numbers_at}
-use Rattle.st_semantics.specs.Parts.{fields_at, Operation, constant, unchanged, unary, binary, ternary, made, limited, truth, number, natural, elements, with_both}
+use Rattle.st_semantics.specs.Parts.{fields_at, constant, unchanged, unary, binary, ternary, made, limited, truth, number, natural, elements, with_both}
 use Rattle.st_semantics.specs.Operators as operator
-use Rattle.st_semantics.specs.Forms.{HasForm, Strict, form_at, operation_at, by_itself, structure, absent_list, absent_option, listing, building, spliced}
-use Rattle.st_semantics.specs.Operands.{item_exp}
+use Rattle.st_semantics.specs.Forms.{listing, building, spliced}
 use Rattle.st_semantics.specs.OperationTypes.{KeepsTypes}
-use Rattle.st_semantics.specs.OperationTypes as row
-use Rattle.st_semantics.specs.OperationTypes.{number_type, both, plain_types, IsCompared, part_type, part_type_at, field_type, AccessType, Level, OperationType}
-use Rattle.st_semantics.proofs.Singles.{HasForm-single}
+use Rattle.st_semantics.specs.OperationTypes.{number_type, part_type, part_type_at, field_type}
 use Rattle.st_semantics.proofs.Elements.{All-front, All-back, EachTyped, list_column}
 use Rattle.st_semantics.proofs.Lengths.{some_one, limited_is, listing_is, Chunk, splice_parts}
 use Rattle.st_semantics.proofs.Low.{height-level}

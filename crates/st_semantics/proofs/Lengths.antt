@@ -1,9 +1,7 @@
 -- Where the operands of a pattern have values, they are told by its value: each part of fixed length
 -- has one length, and at most one part of a list is of open length.
-use Rattle.std.proofs.Common.{◌≡◌, ℕ, zero, suc, ◌+◌, ◌≤◌, pos, refl, sym, ◌∙◌, ap, ap₂, subst, List, [], ◌∷◌, ◌++◌, map, length, zip, Bool, true, false, not, ◌&&◌, ◌||◌, if◌then◌else◌, Option, Some, None, option_map, filter, nat_eq, nat_le, nat_lt, arith, length-append}
+use Rattle.std.proofs.Common.{◌≡◌, ℕ, suc, ◌+◌, ◌≤◌, refl, sym, ◌∙◌, ap, ap₂, List, [], ◌∷◌, ◌++◌, map, length, Bool, true, false, not, ◌||◌, if◌then◌else◌, Option, Some, None, option_map, filter, nat_le, arith, length-append}
 use Rattle.std.specs.Option.{option_and_then}
-use Rattle.std.specs.List.{list_all, list_any}
-use Rattle.std.proofs.lemmas.Bool.{eqb-true}
 use Rattle.st_num.specs.declared.limit.TheConstants.{HIGHEST_VALUE}
 use Rattle.st_il.specs.declared.expression.IlExp.{IlExp, out-IlExp, fold-IlExp, fold_out-IlExp, map-IlExp}
 use Rattle.st_il.specs.declared.expression.IlExp.TheOpen.{IlExp-F, Iteration-F, ListItem-F}
@@ -14,16 +12,14 @@ use Rattle.st_il.specs.declared.value.Value.{Value, out-Value}
 use Rattle.st_il.specs.declared.value.Value.TheOpen.{Value-F}
 use Rattle.st_il.specs.declared.value.Value.TheVariants as value
 use Rattle.st_il.specs.Height.{height}
-use Rattle.st_semantics.specs.declared.outcome.Outcome.{Outcome}
-use Rattle.st_semantics.specs.declared.outcome.Outcome.TheVariants.{Val, NoValue, Deep}
-use Rattle.st_semantics.specs.Parts.{Operation, elements_at, elements, limited, made, unary, binary, unchanged, with_both}
+use Rattle.st_semantics.specs.declared.outcome.Outcome.TheVariants.{Val, Deep}
+use Rattle.st_semantics.specs.Parts.{Operation, elements, limited, made, unary, binary, unchanged, with_both}
 use Rattle.st_semantics.specs.Operators.{concatenation}
 use Rattle.st_semantics.specs.Operands.{item_at, segment_at, item_exp}
 use Rattle.st_semantics.specs.Forms.{spliced_at, spliced, listing}
 use Rattle.st_semantics.specs.Iterations.{count_of, count_at}
-use Rattle.st_semantics.specs.OpenParts.{Lengths, part_at, literal_count_at, open_parts, any_doubly_open, of_parts, lengths_at, is_doubly_open}
-use Rattle.st_semantics.proofs.Names.{and-both}
-use Rattle.st_semantics.proofs.Columns.{same_out, list_of_elements, elements-list}
+use Rattle.st_semantics.specs.OpenParts.{Lengths, part_at, literal_count_at, open_parts, lengths_at, is_doubly_open}
+use Rattle.st_semantics.proofs.Columns.{list_of_elements, elements-list}
 
 -- ---- what is told of an expression, by its level
 

@@ -1,7 +1,7 @@
 -- Where no value of an environment is higher than the limit, those of the elements of an iteration
 -- are not, and what is gathered of them is not Deep.
-use Rattle.std.proofs.Common.{◌≡◌, ℕ, zero, suc, ◌+◌, ◌≤◌, pos, refl, sym, ◌∙◌, ap, subst, List, [], ◌∷◌, map, ◌⊎◌, inl, inr, Bool, true, false, ◌||◌, if◌then◌else◌, Option, Some, None, option_map, bytes_eq, nat_le, arith}
-use Rattle.std.proofs.lemmas.Bool.{leb-true, le-leb}
+use Rattle.std.proofs.Common.{◌≡◌, ℕ, zero, suc, ◌+◌, ◌≤◌, pos, refl, sym, ◌∙◌, ap, subst, List, [], ◌∷◌, map, Bool, true, false, ◌||◌, if◌then◌else◌, Option, Some, None, option_map, bytes_eq, nat_le, arith}
+use Rattle.std.proofs.lemmas.Bool.{le-leb}
 use Rattle.st_num.specs.declared.limit.TheConstants.{HIGHEST_VALUE}
 use Rattle.st_num.specs.declared.dim.Kind.{Kind}
 use Rattle.st_num.specs.declared.dim.Kind.TheVariants as kind
@@ -14,13 +14,13 @@ use Rattle.st_il.specs.declared.value.Value.TheOpen.{Value-F}
 use Rattle.st_il.specs.declared.value.Value.TheVariants as value
 use Rattle.st_il.specs.Height.{height, height_at, highest}
 use Rattle.st_semantics.specs.declared.outcome.Outcome.TheVariants.{Val, Deep}
-use Rattle.st_semantics.specs.Names.{Name, has_name, all_known}
+use Rattle.st_semantics.specs.Names.{Name, has_name}
 use Rattle.st_semantics.specs.Environments.{Entry, lookup, value_in, names_of, listed_names, listed_as, type_of, IsSomeTyped, EnvOk}
 use Rattle.st_semantics.specs.Parts.{elements_at, option_at, limited}
-use Rattle.st_semantics.specs.Iterations.{index_of, kind_of, Column, column_at, column_of, columns, all_long, heads, tails, bound_to, counted_to, rows, Over, spread, gathered_as}
-use Rattle.st_semantics.proofs.Names.{known-within, or-cases, or-left, or-right, bytes-same}
+use Rattle.st_semantics.specs.Iterations.{index_of, kind_of, Column, column_of, columns, all_long, heads, tails, bound_to, counted_to, rows, Over, spread, gathered_as}
+use Rattle.st_semantics.proofs.Names.{known-within}
 use Rattle.st_semantics.proofs.Restrict.{typed_of}
-use Rattle.st_semantics.proofs.Columns.{column, column-tails, behind, column-value, row-lookup, in_row, long-tails, same_out, list_of_elements, SpreadParts, spread_parts}
+use Rattle.st_semantics.proofs.Columns.{column, column-tails, behind, column-value, row-lookup, in_row, long-tails, same_out, list_of_elements, spread_parts}
 
 abbrev pub IsLow : Value → Type 0
 IsLow v = height v ≤ HIGHEST_VALUE

@@ -18,7 +18,7 @@ use Rattle.st_semantics.specs.Variables.{have_otherwise}
 use Rattle.st_semantics.specs.ModeRules.{IsDirected, IsOtherwise, cites_nothing, Leads, keeps_m3, keeps_m4, keeps_m6, keeps_m7}
 use Rattle.st_semantics.specs.Breaches.{KeepModes, ClausesKeep, ClauseBreaks, Standing, standings, Breaks, is_decided_behind}
 use Rattle.st_semantics.specs.ModeRules as mode
-use Rattle.st_semantics.specs.inner.Modes.{ClauseRuns, OtherwiseDecides, ModesByName}
+use Rattle.st_semantics.specs.inner.Modes.{ClauseRuns, ModesByName}
 
 not_false : (b : Bool) → (b ≡ false → ⊥) → b ≡ true
 not_false true n = refl

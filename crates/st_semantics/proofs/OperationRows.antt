@@ -1,59 +1,29 @@
 -- Each operation keeps the types of its row.
-use Rattle.std.proofs.Common.{◌≡◌, ℕ, ℤ, zero, suc, ◌+◌, ◌≤◌, ◌<◌, pos, negsuc, refl, sym, ◌∙◌, ap, subst, List, [], ◌∷◌, ◌++◌, map, length, zip, take, drop, Bool, true, false, not, ◌&&◌, ◌||◌, if◌then◌else◌, Option, Some, None, option_map, bytes_eq, nat_le, nat_lt, nat_eq, int_lt, int_le, slice_get, arith, All}
-use Rattle.std.specs.Prelude.{unsigned_abs, int_rem, int_div, ◌+ℤ◌, ◌-ℤ◌, ◌*ℤ◌, ◌^◌}
-use Rattle.std.specs.Int.{int_pow}
-use Rattle.std.specs.Option.{option_and_then}
-use Rattle.std.specs.List.{list_any}
-use Rattle.std.proofs.lemmas.Bool.{leb-true, ltb-true}
-use Rattle.std.proofs.lemmas.List.Elements.{All-nil, All-cons, All-head, All-tail, All-append}
-use Rattle.st_num.specs.Number.{IsNumber, below_zero, in_range, sum, difference, product, quotient, remainder, power}
+use Rattle.std.proofs.Common.{◌≡◌, pos, refl, sym, ◌∙◌, ap, subst, List, [], ◌∷◌, ◌++◌, map, ◌&&◌, ◌||◌, Some, None, int_lt, int_le, All}
+use Rattle.std.specs.Prelude.{◌+ℤ◌, ◌-ℤ◌, ◌*ℤ◌}
+use Rattle.st_num.specs.Number.{sum, difference, product, quotient, remainder, power}
 use Rattle.st_num.specs.Texts.{IsText}
-use Rattle.st_num.specs.declared.limit.TheConstants.{HIGHEST_VALUE}
-use Rattle.st_num.specs.declared.dim.Kind.TheVariants as kind
 use Rattle.st_il.specs.declared.definition.SyntaxDef.{SyntaxDef}
 use Rattle.st_il.specs.declared.expression.IlExp.{IlExp, out-IlExp}
-use Rattle.st_il.specs.declared.expression.IlExp.TheOpen.{IlExp-F, ListItem-F}
-use Rattle.st_il.specs.declared.expression.Iteration.{Iteration}
-use Rattle.st_il.specs.declared.expression.ListItem.{ListItem, out-ListItem}
-use Rattle.st_il.specs.declared.expression.PathSeg.{PathSeg}
-use Rattle.st_il.specs.declared.ty.NumTy.{NumTy}
-use Rattle.st_il.specs.declared.ty.NumTy.TheVariants as numbers
-use Rattle.st_il.specs.declared.ty.Ty.{Ty, out-Ty}
+use Rattle.st_il.specs.declared.expression.IlExp.TheOpen.{IlExp-F}
+use Rattle.st_il.specs.declared.ty.Ty.{Ty}
 use Rattle.st_il.specs.declared.ty.Ty.TheVariants as ty
-use Rattle.st_il.specs.declared.value.Value.{Value, out-Value, map-Value}
-use Rattle.st_il.specs.declared.value.Value.TheOpen.{Value-F}
 use Rattle.st_il.specs.declared.value.Value.TheVariants as value
-use Rattle.st_il.specs.Height.{height}
-use Rattle.st_il.specs.Value.{texts_of, texts_at}
-use Rattle.st_il.specs.Value as texts
-use Rattle.st_type_table.specs.declared.entry.CaseDef.{CaseDef}
-use Rattle.st_type_table.specs.Cases.{HasCases, HasFields, operands_of}
-use Rattle.st_type_table.specs.Meaning.{Means, alias_of, itself}
-use Rattle.st_type_table.proofs.MeansLemmas.{Means-single}
+use Rattle.st_type_table.specs.Cases.{HasFields}
+use Rattle.st_type_table.specs.Meaning.{Means}
 use Rattle.st_type_table.proofs.CasesLemmas.{HasFields-single}
-use Rattle.st_types.specs.HasType as type
-use Rattle.st_types.specs.HasType.{HasType, HaveTypes, FieldsHaveTypes}
-use Rattle.st_types.specs.Sub.{Sub}
-use Rattle.st_types.specs.inner.Levels.{TypedAt, RecordHasType}
-use Rattle.st_types.proofs.HasTypeLemmas.{typed-opened}
-use Rattle.st_types.proofs.UpLaws.{Sub-up}
-use Rattle.st_semantics.specs.declared.outcome.Outcome.{Outcome}
-use Rattle.st_semantics.specs.declared.outcome.Outcome.TheVariants.{Val}
 use Rattle.st_semantics.specs.Names.{Name, flattened}
-use Rattle.st_semantics.specs.Environments.{Entry, lookup, IsTypedValue, AreTypedValues, numbers_of, numbers_at}
-use Rattle.st_semantics.specs.Parts.{fields_at, Operation, constant, unchanged, unary, binary, ternary, made, limited, truth, number, natural, elements, with_both}
+use Rattle.st_semantics.specs.Parts.{Operation, constant, unchanged, unary, binary, ternary, limited}
 use Rattle.st_semantics.specs.Operators as operator
-use Rattle.st_semantics.specs.Forms.{HasForm, Strict, form_at, operation_at, by_itself, structure, absent_list, absent_option, listing, building, spliced}
+use Rattle.st_semantics.specs.Forms.{HasForm, Strict, form_at, by_itself, structure, absent_list, absent_option, listing, building}
 use Rattle.st_semantics.specs.Operands.{item_exp}
 use Rattle.st_semantics.specs.OperationTypes.{KeepsTypes}
 use Rattle.st_semantics.specs.OperationTypes as row
 use Rattle.st_semantics.specs.OperationTypes.{number_type, both, plain_types, IsCompared, part_type, part_type_at, field_type, AccessType, Level, OperationType}
 use Rattle.st_semantics.specs.Laws.{LawOfOperations}
 use Rattle.st_semantics.proofs.Singles.{HasForm-single}
-use Rattle.st_semantics.proofs.Elements.{All-front, All-back, EachTyped, list_column}
-use Rattle.st_semantics.proofs.Lengths.{some_one, limited_is, listing_is, Chunk, splice_parts}
-use Rattle.st_semantics.proofs.Low.{height-level}
-use Rattle.st_semantics.proofs.TypedParts.{limited_height, texts-level, numbers-level, list_typed, absent_typed, present_typed, natural_typed}
+use Rattle.st_semantics.proofs.Lengths.{some_one}
+use Rattle.st_semantics.proofs.TypedParts.{natural_typed}
 use Rattle.st_semantics.proofs.KeptTypes.{constant_keeps, truth_typed, logic_keeps, negation_keeps, comparison_keeps, equality_keeps, inequality_keeps, membership_keeps, in_range_number, remainder_ranged, quotient_ranged, power_ranged, arithmetic_keeps, opposite_keeps, cat_keeps, count_keeps, element_keeps, part_keeps, tuple_keeps, case_keeps, fields_keep, dot_keeps, listing_keeps, present_keeps, empty_keeps, no_list_keeps, no_option_keeps, text_keeps, up_keeps, types_in, types_to}
 use Rattle.st_semantics.proofs.KeptPaths.{setting_keeps, extension_keeps}
 use Rattle.st_semantics.proofs.KeptJoins.{join_keeps}

@@ -1,6 +1,5 @@
 -- What is known of the operands of a pattern: what they bind, and that its value tells their values.
-use Rattle.std.proofs.Common.{◌≡◌, ℕ, zero, suc, ◌+◌, ◌≤◌, pos, refl, sym, ◌∙◌, ap, ap₂, subst, List, [], ◌∷◌, ◌++◌, map, length, zip, ◌⊎◌, inl, inr, Bool, true, false, not, ◌&&◌, ◌||◌, if◌then◌else◌, Option, Some, None, nat_eq, nat_lt, arith}
-use Rattle.std.specs.List.{list_all, list_any}
+use Rattle.std.proofs.Common.{◌≡◌, ℕ, suc, ◌≤◌, pos, refl, sym, ◌∙◌, ap, ap₂, subst, List, [], ◌∷◌, ◌++◌, map, length, zip, Bool, true, false, ◌||◌, Option, Some, None, nat_lt, arith}
 use Rattle.std.proofs.lemmas.Bool.{eqb-true, ltb-false}
 use Rattle.st_il.specs.declared.definition.SyntaxDef.{SyntaxDef}
 use Rattle.st_il.specs.declared.expression.IlExp.{IlExp, out-IlExp, fold-IlExp, fold_out-IlExp, map-IlExp}
@@ -12,18 +11,15 @@ use Rattle.st_il.specs.declared.ty.Ty.{Ty}
 use Rattle.st_il.specs.declared.value.Value.{Value, out-Value}
 use Rattle.st_il.specs.declared.value.Value.TheOpen.{Value-F}
 use Rattle.st_il.specs.declared.value.Value.TheVariants as value
-use Rattle.st_semantics.specs.declared.outcome.Outcome.TheVariants.{Val}
 use Rattle.st_semantics.specs.Names.{Name, has_name, flattened, among, without}
-use Rattle.st_semantics.specs.Environments.{Entry}
-use Rattle.st_semantics.specs.Parts.{Operation, constant, limited}
+use Rattle.st_semantics.specs.Parts.{Operation, constant}
 use Rattle.st_semantics.specs.Operands.{item_at, segment_at, item_exp}
 use Rattle.st_semantics.specs.Forms.{Form, Strict, Variable, Calls, Iterates, form_at, building, HasForm, by_itself, structure, absent_list, absent_option}
 use Rattle.st_semantics.specs.Iterations.{count_of, index_of, count_at, index_at}
-use Rattle.st_semantics.specs.Patterns.{Told, told, told_at, told_item, simple_count_at, is_pattern, has_simple_count, Bound, BoundCount, bound_count_at, only, bound_at, binds}
-use Rattle.st_semantics.specs.OpenParts.{Lengths, open_parts, any_doubly_open, lengths_at, literal_count_at, part_at, is_doubly_open}
-use Rattle.st_semantics.proofs.Names.{map-same}
+use Rattle.st_semantics.specs.Patterns.{Told, told, told_at, told_item, is_pattern, has_simple_count, Bound, BoundCount, bound_count_at, bound_at, binds}
+use Rattle.st_semantics.specs.OpenParts.{Lengths, open_parts, any_doubly_open, is_doubly_open}
 use Rattle.st_semantics.proofs.PatternParts.{told_segment, told-level}
-use Rattle.st_semantics.proofs.Lengths.{lengths, item_lengths, literal_count, lengths_of, lengths-level, IsLiteral, literal_is, LengthsAgree, SameOperands, SameLengths, limited_is, same_none, same_case, same_tuple, same_present, same_up, same_list, lengths_list, same_cat, lengths_cat, lengths_up, lengths_constant, open_of, item-open}
+use Rattle.st_semantics.proofs.Lengths.{lengths, item_lengths, lengths_of, lengths-level, IsLiteral, literal_is, LengthsAgree, SameOperands, SameLengths, limited_is, same_none, same_case, same_tuple, same_present, same_up, same_list, lengths_list, same_cat, lengths_cat, lengths_up, lengths_constant, open_of, item-open}
 
 -- ---- what is bound, by levels
 

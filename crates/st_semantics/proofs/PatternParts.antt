@@ -8,17 +8,13 @@ use Rattle.st_il.specs.declared.expression.Iteration.{Iteration, out-Iteration, 
 use Rattle.st_il.specs.declared.expression.ListItem.{ListItem, out-ListItem, fold_out-ListItem, map-ListItem}
 use Rattle.st_il.specs.declared.expression.PathSeg.{PathSeg, fold-PathSeg}
 use Rattle.st_il.specs.declared.value.Env.{Env}
-use Rattle.st_il.specs.declared.value.Value.{Value}
 use Rattle.st_semantics.specs.declared.outcome.Outcome.{Outcome}
-use Rattle.st_semantics.specs.declared.outcome.Outcome.TheVariants.{Val}
 use Rattle.st_semantics.specs.declared.outcome.Outcomes.{Outcomes}
-use Rattle.st_semantics.specs.Names.{Name}
 use Rattle.st_semantics.specs.Operands.{item_at, segment_at, item_exp}
 use Rattle.st_semantics.specs.Forms.{Form, Strict, Variable, Calls, Iterates, form_at, HasForm, by_itself, structure, absent_list, absent_option}
 use Rattle.st_semantics.specs.Iterations.{count_of, count_at}
 use Rattle.st_semantics.specs.Evaluation.{Answers, Task, tasks, each_task, Gives, GivesAll, strict, variable, call, iteration_ends, iteration, none, stop, next}
 use Rattle.st_semantics.specs.Patterns.{Told, told, told_at, told_item, simple_count_at, all_patterns, is_pattern, is_simple, has_simple_count}
-use Rattle.st_semantics.specs.Holding.{value_by, HaveValues}
 use Rattle.st_semantics.proofs.Names.{and-both}
 
 abbrev pub told_segment : PathSeg → List Told

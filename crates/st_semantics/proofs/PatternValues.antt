@@ -1,5 +1,5 @@
 -- One value of a pattern tells the values of the variables that it binds.
-use Rattle.std.proofs.Common.{◌≡◌, ℕ, zero, suc, ◌+◌, ◌≤◌, pos, refl, sym, ◌∙◌, ap, ap₂, subst, List, [], ◌∷◌, ◌++◌, map, length, ◌⊎◌, inl, inr, Bool, true, false, ◌&&◌, Option, Some, None, arith, append-nil, bytes_eq}
+use Rattle.std.proofs.Common.{◌≡◌, ℕ, suc, ◌≤◌, pos, refl, sym, ◌∙◌, ap, ap₂, subst, List, [], ◌∷◌, ◌++◌, map, length, inl, inr, true, false, Option, Some, None, arith, append-nil, bytes_eq}
 use Rattle.std.specs.List.{list_all}
 use Rattle.st_num.specs.declared.dim.Kind.{Kind}
 use Rattle.st_num.specs.declared.dim.Kind.TheVariants as kind
@@ -19,21 +19,21 @@ use Rattle.st_semantics.specs.declared.outcome.Outcomes.{Outcomes}
 use Rattle.st_semantics.specs.declared.outcome.Outcomes.TheVariants.{Values, Stopped}
 use Rattle.st_semantics.specs.Names.{Name, has_name, flattened, among, without}
 use Rattle.st_semantics.specs.Environments.{Entry, lookup, value_in, AgreeOn}
-use Rattle.st_semantics.specs.Parts.{Operation, constant, elements_at, elements, option_at, option_list, natural, limited}
-use Rattle.st_semantics.specs.Forms.{Form, Strict, Variable, Calls, Iterates, form_at, HasForm, by_itself}
+use Rattle.st_semantics.specs.Parts.{constant, elements_at, elements, option_at, natural}
+use Rattle.st_semantics.specs.Forms.{Strict, Variable, Calls, Iterates, form_at, HasForm, by_itself}
 use Rattle.st_semantics.specs.Iterations.{count_of, count_at, index_of, kind_of, kind_at, Column, column_of, columns, first_length, size_of, Over, spread, gathered, gathered_as}
 use Rattle.st_semantics.specs.Evaluation.{Answers, Task, tasks, each_task, then_all, Ends, Gives, GivesAll, strict, variable, call, iteration_ends, iteration, none, stop, next}
 use Rattle.st_semantics.specs.Patterns.{is_pattern, binds}
-use Rattle.st_semantics.specs.OpenParts.{Lengths, is_doubly_open}
+use Rattle.st_semantics.specs.OpenParts.{is_doubly_open}
 use Rattle.st_semantics.specs.Holding.{value_by, HaveValues}
 use Rattle.st_semantics.proofs.Names.{and-both, or-cases, bytes-path, within-cases}
 use Rattle.st_semantics.proofs.Agree.{EnvsAgree}
 use Rattle.st_semantics.proofs.Elements.{before_parts}
-use Rattle.st_semantics.proofs.PatternParts.{pattern-form, TasksArePatterns, tasks_patterns, each_patterns}
+use Rattle.st_semantics.proofs.PatternParts.{pattern-form, TasksArePatterns, tasks_patterns}
 use Rattle.st_semantics.proofs.Premises.{without-parts}
 use Rattle.st_semantics.proofs.Wider.{among-parts}
 use Rattle.st_semantics.proofs.Inverse.{values_of_all, operands, variable_value, Elements, elements_of, elements_in, not_ended}
-use Rattle.st_semantics.proofs.Columns.{SpreadParts, spread_parts, parts_number, list_agrees, counts_same, elements-list}
+use Rattle.st_semantics.proofs.Columns.{spread_parts, parts_number, list_agrees, counts_same, elements-list}
 use Rattle.st_semantics.proofs.Lengths.{lengths, SameLength, LengthsAgree, limited_is, IsLiteral}
 use Rattle.st_semantics.proofs.CanRun.{IsShort, count_short}
 use Rattle.st_semantics.proofs.PatternForms.{bound, own_of, own_variable, AllSingly, Known, KnownEach, form_known, form_fixed}

@@ -1,6 +1,6 @@
 -- A premise that holds where calls come to more holds where they come to less, or else it meets Deep
 -- there.
-use Rattle.std.proofs.Common.{append_assoc, append-nil, bytes_eq, if◌then◌else◌, ◌≡◌, refl, sym, ◌∙◌, ap, ap₂, subst, List, [], ◌∷◌, ◌++◌, ◌⊎◌, inl, inr, Bool, true, false, Some, not, ◌&&◌, ◌||◌}
+use Rattle.std.proofs.Common.{append_assoc, append-nil, bytes_eq, if◌then◌else◌, ◌≡◌, refl, sym, ◌∙◌, ap, ap₂, subst, List, [], ◌∷◌, ◌++◌, ◌⊎◌, inl, inr, Bool, true, false, Some, not, ◌||◌}
 use Rattle.std.specs.List.{list_all}
 use Rattle.st_il.specs.declared.definition.Il.{Il}
 use Rattle.st_il.specs.declared.definition.Listed.{Listed}
@@ -32,11 +32,11 @@ use Rattle.st_semantics.specs.Depth as d
 use Rattle.st_semantics.specs.Depth.{Setting, HoldIn, IsDeep, AreDeep, evaluated, side_at, bound_side, bound_count, AllTypedIn, Passed, Unfolds, MeetsHere, Meets}
 use Rattle.st_semantics.specs.Kinds.{AreOfItsKind}
 use Rattle.st_semantics.specs.Calls.{no_goal, in_clause}
-use Rattle.st_semantics.proofs.Names.{or-cases, or-left, bytes-path, and-both, known-within, within-right, within-left, or-right, prem-level, Within, without-other}
+use Rattle.st_semantics.proofs.Names.{or-cases, or-left, bytes-path, and-both, known-within, within-right, within-left, or-right, prem-level, without-other}
 use Rattle.st_semantics.proofs.Agree.{Gives-agree, tasks_agree}
 use Rattle.st_semantics.proofs.Depths.{Likely, likely, likely_then, likely_map, Lowers, Gives-down, Gives-deep, GivesAll-deep}
 use Rattle.st_semantics.proofs.PatternParts.{Gives-pattern}
-use Rattle.st_semantics.proofs.Elements.{elements_typed, or-false}
+use Rattle.st_semantics.proofs.Elements.{elements_typed}
 use Rattle.st_semantics.proofs.Holding.{HaveValues-map, HoldAll-map}
 use Rattle.st_semantics.proofs.Values.{gives_two, two_values, equation_form}
 use Rattle.st_semantics.proofs.Runs.{CountRuns, Runs, ConditionRuns, condition_runs, no_goal_runs, EachRuns, each_runs, evaluated_whole, evaluated_side, known_both, known_count}

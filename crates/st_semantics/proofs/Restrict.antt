@@ -1,5 +1,5 @@
 -- An environment that is restricted to some names.
-use Rattle.std.proofs.Common.{◌≡◌, refl, sym, ◌∙◌, ap, subst, List, [], ◌∷◌, ◌++◌, map, ◌⊎◌, inl, inr, Bool, true, false, ◌&&◌, ◌||◌, if◌then◌else◌, Option, Some, None, bytes_eq, filter, All}
+use Rattle.std.proofs.Common.{◌≡◌, refl, sym, ◌∙◌, ap, subst, List, [], ◌∷◌, map, Bool, true, false, ◌&&◌, ◌||◌, if◌then◌else◌, Some, bytes_eq, filter, All}
 use Rattle.std.specs.Prelude.{AllPairs}
 use Rattle.std.specs.Ordering.{is_lt}
 use Rattle.std.proofs.lemmas.List.Elements.{All-nil, All-cons, All-head, All-tail}
@@ -7,11 +7,10 @@ use Rattle.std.proofs.lemmas.List.Kept.{AllPairs-filter}
 use Rattle.st_il.specs.declared.definition.Listed.{Listed}
 use Rattle.st_il.specs.declared.definition.SyntaxDef.{SyntaxDef}
 use Rattle.st_il.specs.declared.value.Env.{Env}
-use Rattle.st_il.specs.declared.value.Value.{Value}
 use Rattle.st_il.specs.Order.{text_cmp}
 use Rattle.st_semantics.specs.Names.{Name, has_name, all_known}
 use Rattle.st_semantics.specs.Environments.{Entry, lookup, value_in, IsSomeTyped, HasListed, names_of, listed_names, EnvOk, type_of, listed_in, listed_as, AgreeOn, TypedIn}
-use Rattle.st_semantics.proofs.Names.{bytes-path, bytes-same, or-left, and-both, true_false, Within}
+use Rattle.st_semantics.proofs.Names.{bytes-path, or-left, and-both, true_false, Within}
 
 -- the entries of some names
 abbrev pub picked : List Name → List Entry → List Entry

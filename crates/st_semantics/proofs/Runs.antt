@@ -15,11 +15,11 @@ use Rattle.st_semantics.specs.Iterations.{count_of, index_of}
 use Rattle.st_semantics.specs.Scopes.{listed_inside}
 use Rattle.st_semantics.specs.Variables.{vars, vars_of}
 use Rattle.st_semantics.specs.Patterns.{is_pattern}
-use Rattle.st_semantics.specs.Depth.{evaluated, side_at, bound_side, bound_count}
+use Rattle.st_semantics.specs.Depth.{evaluated, side_at}
 use Rattle.st_semantics.specs.Forms.{HasForm, Strict}
 use Rattle.st_semantics.specs.Parts.{Operation}
 use Rattle.st_semantics.specs.Kinds.{AreOfItsKind}
-use Rattle.st_semantics.proofs.Names.{and-both, form_vars, vars-form}
+use Rattle.st_semantics.proofs.Names.{and-both, vars-form}
 
 -- the count of an iteration is bound, or it is a pattern
 abbrev pub CountRuns : List Name → Iteration → Type 0

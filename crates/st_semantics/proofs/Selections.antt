@@ -1,22 +1,20 @@
 -- A rule has an executable order exactly where it is given one.
-use Rattle.std.proofs.Common.{◌≡◌, ℕ, zero, suc, ◌+◌, ◌≤◌, refl, sym, ◌∙◌, ap, ap₂, subst, List, [], ◌∷◌, ◌++◌, length, ◌⊎◌, inl, inr, Bool, true, false, not, ◌&&◌, ◌||◌, if◌then◌else◌, Option, Some, None, is_some, nat_eq, arith, append_assoc, append-nil, slice_get, find}
-use Rattle.std.specs.Prelude.{Result, Ok, Err}
+use Rattle.std.proofs.Common.{◌≡◌, ℕ, zero, suc, ◌+◌, ◌≤◌, refl, sym, ◌∙◌, ap, subst, List, [], ◌∷◌, ◌++◌, length, ◌⊎◌, inl, inr, Bool, true, false, not, ◌&&◌, ◌||◌, if◌then◌else◌, Option, Some, None, is_some, nat_eq, arith, append_assoc, slice_get, find}
+use Rattle.std.specs.Prelude.{Ok}
 use Rattle.std.specs.List.{list_all, list_any, enumerate_from}
 use Rattle.std.proofs.lemmas.Bool.{eqb-true, eq-eqb}
 use Rattle.st_il.specs.declared.definition.Il.{Il}
 use Rattle.st_il.specs.declared.definition.RuleDef.{RuleDef}
 use Rattle.st_il.specs.declared.expression.IlExp.{IlExp}
 use Rattle.st_il.specs.declared.expression.IlPrem.{IlPrem}
-use Rattle.st_semantics.specs.declared.unfit.Unordered.{Unordered}
 use Rattle.st_semantics.specs.Names.{Name, has_name, all_known, without, least}
 use Rattle.st_semantics.specs.Parts.{option_list}
 use Rattle.st_semantics.specs.Variables.{vars_of, prem_vars, prems_vars}
-use Rattle.st_semantics.specs.Patterns.{bound_by}
 use Rattle.st_semantics.specs.Executable.{Class, Test, Equation, Judgement, class_of}
-use Rattle.st_semantics.specs.Orders.{inputs_of_rule, outputs_of_rule, is_input, are_inputs, premise_at, in_order, run_on, numbers_from, are_all, is_order}
-use Rattle.st_semantics.specs.OrderOf.{Numbered, is_test, is_equation, is_judgement, first_in, else_try, next_in, Selection, but_for, after, select_by, select, selection_of, unordered, fault_of_inputs, ended, order_of}
+use Rattle.st_semantics.specs.Orders.{inputs_of_rule, outputs_of_rule, are_inputs, premise_at, in_order, run_on, numbers_from, are_all, is_order}
+use Rattle.st_semantics.specs.OrderOf.{Numbered, is_test, is_equation, is_judgement, first_in, else_try, next_in, Selection, but_for, select_by, select, selection_of, unordered, fault_of_inputs, ended, order_of}
 use Rattle.st_semantics.specs.Laws.{LawOfOrders}
-use Rattle.st_semantics.proofs.Names.{Within, within-left, within-right, within-both, within-cases, and-both, or-cases, or-left, or-right, true_false, no_names}
+use Rattle.st_semantics.proofs.Names.{Within, within-left, within-right, within-both, within-cases, and-both, or-cases, or-left, or-right, true_false}
 use Rattle.st_semantics.proofs.CanRun.{known-wider}
 use Rattle.st_semantics.proofs.Wider.{class-wider}
 use Rattle.st_semantics.proofs.Trials.{run_end, get_behind}

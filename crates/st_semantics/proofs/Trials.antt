@@ -1,20 +1,19 @@
 -- What a trial of an earlier rule gives at some depth, it gives at 500.
-use Rattle.std.proofs.Common.{◌≡◌, ℕ, zero, suc, ◌+◌, ◌≤◌, ◌<◌, refl, sym, ◌∙◌, ap, subst, List, [], ◌∷◌, ◌++◌, map, length, ◌⊎◌, inl, inr, Bool, true, false, not, ◌&&◌, ◌||◌, Option, Some, None, slice_get, nat_eq, arith, append_assoc, append-nil, bytes_eq, if◌then◌else◌, All, Contains}
+use Rattle.std.proofs.Common.{◌≡◌, ℕ, zero, suc, ◌+◌, ◌≤◌, ◌<◌, refl, sym, ◌∙◌, ap, subst, List, [], ◌∷◌, ◌++◌, length, ◌⊎◌, inl, inr, Bool, true, false, not, ◌&&◌, Option, Some, None, slice_get, nat_eq, arith, append_assoc, append-nil, bytes_eq, if◌then◌else◌, All, Contains}
 use Rattle.std.specs.List.{list_all, list_any}
 use Rattle.std.proofs.lemmas.Bool.{eqb-true}
 use Rattle.std.proofs.lemmas.List.Folds.{list_all-append}
-use Rattle.std.proofs.lemmas.List.Elements.{All-head, All-tail, All-nil, All-cons, All-append, All-contains_itself}
+use Rattle.std.proofs.lemmas.List.Elements.{All-head, All-tail, All-nil, All-cons, All-contains_itself}
 use Rattle.st_il.specs.declared.definition.Il.{Il}
 use Rattle.st_il.specs.declared.definition.RuleDef.{RuleDef}
-use Rattle.st_il.specs.declared.expression.IlExp.{IlExp, out-IlExp}
-use Rattle.st_il.specs.declared.expression.IlExp.TheOpen.{IlExp-F}
+use Rattle.st_il.specs.declared.expression.IlExp.{IlExp}
 use Rattle.st_il.specs.declared.expression.IlPrem.{IlPrem}
 use Rattle.st_il.specs.declared.value.Env.{Env}
 use Rattle.st_il.specs.declared.value.Value.{Value}
-use Rattle.st_semantics.specs.declared.outcome.Outcome.TheVariants.{Val, Deep}
+use Rattle.st_semantics.specs.declared.outcome.Outcome.TheVariants.{Val}
 use Rattle.st_semantics.specs.Names.{Name, has_name, all_known}
-use Rattle.st_semantics.specs.Definitions.{syntaxes, rules_in, rules_of, rules_from}
-use Rattle.st_semantics.specs.Environments.{AgreeOn, EnvOk}
+use Rattle.st_semantics.specs.Definitions.{syntaxes, rules_in, rules_from}
+use Rattle.st_semantics.specs.Environments.{AgreeOn}
 use Rattle.st_semantics.specs.Parts.{binary, option_list}
 use Rattle.st_semantics.specs.Operators.{equality}
 use Rattle.st_semantics.specs.Evaluation.{tasks, Gives}
@@ -22,26 +21,24 @@ use Rattle.st_semantics.specs.Variables.{vars, vars_of, prem_vars, prems_vars, c
 use Rattle.st_semantics.specs.Patterns.{is_pattern}
 use Rattle.st_semantics.specs.Holding as h
 use Rattle.st_semantics.specs.Holding.{Meaning, value_by, HaveValues, Place, places, Derives, Holds, HoldAll}
-use Rattle.st_semantics.specs.Depth.{Setting, HoldIn, IsDeep}
 use Rattle.st_semantics.specs.Reaching.{Reached, MeetsAmong, bound_behind, listed_behind}
 use Rattle.st_semantics.specs.Calls.{no_goal, CallAt, has_value, has_value_at}
 use Rattle.st_semantics.specs.Derivation.{derived}
-use Rattle.st_semantics.specs.Executable.{class_of}
 use Rattle.st_semantics.specs.Orders.{inputs_of_rule, outputs_of_rule, is_input, are_inputs, premise_at, in_order, run_on, numbers_from, are_all, is_order}
 use Rattle.st_semantics.specs.ModeRules.{cites_nothing}
 use Rattle.st_semantics.specs.Breaches.{KeepModes}
 use Rattle.st_semantics.specs.Kinds.{IsKinded, AreKinded}
-use Rattle.st_semantics.specs.RuleDepth.{MeetsDeep, at_premise, at_input, at_output, no_variables}
+use Rattle.st_semantics.specs.RuleDepth.{at_premise, at_input, at_output, no_variables}
 use Rattle.st_semantics.specs.Checks.{checking_depth}
 use Rattle.st_semantics.specs.Evidence.{IsDeepTrial, GivesOutputs, in_trial, in_trial_at}
 use Rattle.st_semantics.specs.inner.Trials.{TrialsAreStable}
-use Rattle.st_semantics.proofs.Names.{known-within, and-both, or-cases, within-left, within-right, agree-left}
+use Rattle.st_semantics.proofs.Names.{known-within, and-both, or-cases, within-left, within-right}
 use Rattle.st_semantics.proofs.Agree.{Local, Gives-agree, HaveValues-agree, HoldAll-agree, places-agree}
 use Rattle.st_semantics.proofs.Depths.{Likely, likely, likely_then, likely_map, Gives-up, Gives-down, value_not_deep}
 use Rattle.st_semantics.proofs.PatternParts.{Gives-pattern}
 use Rattle.st_semantics.proofs.Holding.{HoldAll-map}
 use Rattle.st_semantics.proofs.Values.{two_values, equation_form}
-use Rattle.st_semantics.proofs.Premises.{Falls, agree_known}
+use Rattle.st_semantics.proofs.Premises.{Falls}
 use Rattle.st_semantics.proofs.Restrict.{restricted, agree_picked, ok_restricted}
 use Rattle.st_semantics.proofs.Clauses.{CanRun, AllCanRun, up_to, down_to, body_down, fits_all}
 use Rattle.st_semantics.proofs.CanRun.{can_run, clauses_can_be_run}

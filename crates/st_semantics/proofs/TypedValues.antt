@@ -1,18 +1,11 @@
 -- The value of an expression has its type, where operations keep types.
-use Rattle.std.proofs.Common.{◌≡◌, ℕ, ℤ, zero, suc, ◌+◌, ◌≤◌, ◌<◌, pos, refl, sym, ◌∙◌, ap, subst, List, [], ◌∷◌, ◌++◌, map, ◌⊎◌, inl, inr, Bool, true, false, ◌||◌, if◌then◌else◌, Option, Some, None, bytes_eq, nat_le, arith, All}
-use Rattle.std.specs.Prelude.{unsigned_abs}
-use Rattle.std.proofs.lemmas.Bool.{leb-true}
-use Rattle.std.proofs.lemmas.List.Elements.{All-nil, All-cons, All-head, All-tail, All-append}
+use Rattle.std.proofs.Common.{◌≡◌, ℕ, zero, suc, ◌+◌, ◌≤◌, pos, refl, sym, ◌∙◌, ap, subst, List, [], ◌∷◌, ◌++◌, map, ◌⊎◌, inl, inr, Bool, true, false, if◌then◌else◌, Some, bytes_eq, arith, All}
+use Rattle.std.proofs.lemmas.List.Elements.{All-nil, All-cons, All-head, All-tail}
 use Rattle.st_num.specs.Number.{IsNumber}
-use Rattle.st_num.specs.Texts.{IsText}
-use Rattle.st_num.specs.declared.limit.TheConstants.{HIGHEST_VALUE}
-use Rattle.st_num.specs.declared.dim.Kind.{Kind}
-use Rattle.st_num.specs.declared.dim.Kind.TheVariants as kind
 use Rattle.st_il.specs.declared.definition.ClauseDef.{ClauseDef}
 use Rattle.st_il.specs.declared.definition.FunDef.{FunDef}
 use Rattle.st_il.specs.declared.definition.Il.{Il}
 use Rattle.st_il.specs.declared.definition.Listed.{Listed}
-use Rattle.st_il.specs.declared.definition.SyntaxDef.{SyntaxDef}
 use Rattle.st_il.specs.declared.expression.IlExp.{IlExp}
 use Rattle.st_il.specs.declared.expression.IlExp.TheOpen.{Iteration-F}
 use Rattle.st_il.specs.declared.expression.Iteration.{Iteration, out-Iteration}
@@ -21,23 +14,13 @@ use Rattle.st_il.specs.declared.expression.PathSeg.{PathSeg}
 use Rattle.st_il.specs.declared.ty.Ty.{Ty}
 use Rattle.st_il.specs.declared.ty.Ty.TheVariants as ty
 use Rattle.st_il.specs.declared.value.Env.{Env}
-use Rattle.st_il.specs.declared.value.Value.{Value, out-Value, fold_out-Value, map-Value}
-use Rattle.st_il.specs.declared.value.Value.TheOpen.{Value-F}
+use Rattle.st_il.specs.declared.value.Value.{Value}
 use Rattle.st_il.specs.declared.value.Value.TheVariants as value
-use Rattle.st_il.specs.Height.{height}
-use Rattle.st_il.specs.Value.{texts_of, texts_at}
-use Rattle.st_il.specs.Value as texts
-use Rattle.st_type_table.specs.Meaning.{Means, alias_of, itself}
-use Rattle.st_types.specs.HasType as type
-use Rattle.st_types.specs.HasType.{HasType, AllHaveType}
-use Rattle.st_semantics.specs.declared.outcome.Outcome.{Outcome}
 use Rattle.st_semantics.specs.declared.outcome.Outcome.TheVariants.{Val, Deep}
-use Rattle.st_semantics.specs.Names.{Name, flattened, has_name}
+use Rattle.st_semantics.specs.Names.{Name, has_name}
 use Rattle.st_semantics.specs.Definitions.{syntaxes, clauses_in, clauses_of, clauses_from}
-use Rattle.st_semantics.specs.Environments.{Entry, lookup, value_in, IsTypedValue, AreTypedValues, IsSomeTyped, numbers_of, numbers_at, wrapped, type_of, listed_as, TypedIn, EnvOk}
-use Rattle.st_semantics.specs.Parts.{limited, natural}
-use Rattle.st_semantics.specs.Forms.{HasForm, Iterates}
-use Rattle.st_semantics.specs.Iterations.{count_of, count_at, index_of, index_at, kind_of, Column, columns, size_of, heads, tails, bound_to, counted_to, rows, Over, spread, gathered, gathered_as}
+use Rattle.st_semantics.specs.Environments.{Entry, lookup, value_in, IsTypedValue, AreTypedValues, IsSomeTyped, type_of, listed_as}
+use Rattle.st_semantics.specs.Iterations.{count_of, count_at, index_of, index_at, kind_of, Column, columns, size_of, heads, tails, bound_to, counted_to, rows, Over, spread}
 use Rattle.st_semantics.specs.Scopes.{indices, stepped_all, listed_inside}
 use Rattle.st_semantics.specs.Evaluation.{Answers, tasks, each_task, Gives}
 use Rattle.st_semantics.specs.Holding.{value_by, HaveValues}
@@ -47,13 +30,12 @@ use Rattle.st_semantics.specs.Calls.{Decides, CallAt}
 use Rattle.st_semantics.specs.Typing as typing
 use Rattle.st_semantics.specs.Typing.{function_named, ExpHasType, ExpsHaveTypes, ResultsAreTyped}
 use Rattle.st_semantics.specs.Laws.{LawOfTypes}
-use Rattle.st_semantics.proofs.Names.{bytes-path, bytes-same, or-cases, or-left, true_false}
+use Rattle.st_semantics.proofs.Names.{bytes-path, bytes-same, or-cases, or-left}
 use Rattle.st_semantics.proofs.Agree.{IsShort, index_short}
 use Rattle.st_semantics.proofs.Restrict.{typed_of}
-use Rattle.st_semantics.proofs.Elements.{EachTyped, elements_typed, no_alias_list, no_alias_option}
-use Rattle.st_semantics.proofs.Columns.{SpreadParts, spread_parts, natural_value, natural_is}
-use Rattle.st_semantics.proofs.Inverse.{operands, variable_value, called_value, Elements, elements_in}
-use Rattle.st_semantics.proofs.Lengths.{limited_is}
+use Rattle.st_semantics.proofs.Elements.{EachTyped, elements_typed}
+use Rattle.st_semantics.proofs.Columns.{spread_parts, natural_is}
+use Rattle.st_semantics.proofs.Inverse.{operands, variable_value, called_value, elements_in}
 use Rattle.st_semantics.proofs.TypedParts.{gathered_typed, number_below, natural_typed, number_in_range}
 use Rattle.st_semantics.proofs.OperationRows.{law_of_operations}
 use Rattle.st_types.proofs.UpLaws.{Same-up}

@@ -1,5 +1,5 @@
 -- Values of several expressions, and of the two sides of an equation.
-use Rattle.std.proofs.Common.{◌≡◌, refl, sym, ◌∙◌, ap, subst, List, [], ◌∷◌, ◌⊎◌, inl, inr}
+use Rattle.std.proofs.Common.{◌≡◌, refl, sym, ◌∙◌, ap, subst, List, [], ◌∷◌}
 use Rattle.st_il.specs.declared.definition.SyntaxDef.{SyntaxDef}
 use Rattle.st_il.specs.declared.expression.IlExp.{IlExp, out-IlExp}
 use Rattle.st_il.specs.declared.expression.IlExp.TheOpen.{IlExp-F}
@@ -15,7 +15,6 @@ use Rattle.st_semantics.specs.Forms.{form_at, HasForm, Strict, by_itself}
 use Rattle.st_semantics.specs.Evaluation.{Answers, Task, tasks, then_all, applied, Stops, Gives, GivesAll, strict, variable, call, iteration_ends, iteration, none, stop, next}
 use Rattle.st_semantics.specs.Holding.{value_by, HaveValues}
 use Rattle.st_semantics.proofs.Singles.{HasForm-single}
-use Rattle.st_semantics.proofs.Depths.{Likely, likely, likely_then, likely_map, Lowers, Gives-down}
 
 module _ (defs : List SyntaxDef) (C : Answers) where
   -- the values of one more expression

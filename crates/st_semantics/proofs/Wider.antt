@@ -4,7 +4,7 @@ use Rattle.std.specs.List.{list_all, list_any}
 use Rattle.st_il.specs.declared.definition.Il.{Il}
 use Rattle.st_il.specs.declared.expression.IlExp.{IlExp, out-IlExp}
 use Rattle.st_il.specs.declared.expression.IlExp.TheOpen.{IlExp-F}
-use Rattle.st_il.specs.declared.expression.IlPrem.{IlPrem, map-IlPrem, ind-IlPrem, roll-IlPrem, out-IlPrem, out-roll-IlPrem}
+use Rattle.st_il.specs.declared.expression.IlPrem.{IlPrem, map-IlPrem, ind-IlPrem, roll-IlPrem, out-roll-IlPrem}
 use Rattle.st_il.specs.declared.expression.IlPrem.TheOpen.{IlPrem-F}
 use Rattle.st_il.specs.declared.expression.Iteration.{Iteration}
 use Rattle.st_il.specs.declared.expression.ListItem.{ListItem}
@@ -16,7 +16,7 @@ use Rattle.st_semantics.specs.Variables.{vars, vars_of}
 use Rattle.st_semantics.specs.Patterns.{is_pattern, binds, bound_by}
 use Rattle.st_semantics.specs.Executable as run
 use Rattle.st_semantics.specs.Executable.{Class, Test, Equation, Judgement, class_of, class_of_condition, class_of_equation, class_of_sides, is_matched, is_met, class_of_goal, class_of_each, is_anchored, is_countable, is_variable_at, bound_inside, runs_at}
-use Rattle.st_semantics.proofs.Names.{Within, within-left, within-right, within-both, and-both, or-cases, or-left, or-right, bytes-path, true_false}
+use Rattle.st_semantics.proofs.Names.{Within, within-left, within-right, within-both, or-cases, or-left, or-right, bytes-path, true_false}
 use Rattle.st_semantics.proofs.CanRun.{known-wider, runs_of, class-level}
 
 -- ---- induction over premises

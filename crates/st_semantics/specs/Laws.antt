@@ -19,6 +19,8 @@ use Rattle.st_semantics.specs.declared.outcome.Outcome.{Outcome}
 use Rattle.st_semantics.specs.declared.outcome.Outcome.TheVariants.{Val, Deep}
 use Rattle.st_semantics.specs.Names.{Name}
 use Rattle.st_semantics.specs.Definitions.{syntaxes, relation_named, clauses_in}
+use Rattle.st_semantics.specs.Directions.{IsStepping}
+use Rattle.st_semantics.specs.Goals.{AreInputs}
 use Rattle.st_semantics.specs.Environments.{AgreeOn, EnvOk, IsTypedValue, AreTypedValues}
 use Rattle.st_semantics.specs.Orders.{is_order}
 use Rattle.st_semantics.specs.OrderOf.{order_of}
@@ -32,7 +34,7 @@ use Rattle.st_semantics.specs.ModeRules.{IsOtherwise, bound_in_clause}
 use Rattle.st_semantics.specs.Breaches.{KeepModes, ClausesKeep}
 use Rattle.st_semantics.specs.Kinds.{AreKinded, ClausesAreKinded, ClausesNameOccurring, ListsOccurring}
 use Rattle.st_semantics.specs.Calls.{Chosen, TooDeep, CallAt, ValueAt}
-use Rattle.st_semantics.specs.Derivation.{Root, excluded, NoneBefore, IsValid, HasTree}
+use Rattle.st_semantics.specs.Derivation.{Root, excluded, NoneBefore, IsValid, HasTree, Derivable}
 use Rattle.st_semantics.specs.Chains.{IsValidAt}
 use Rattle.st_semantics.specs.Transcript.{Term, Ending, Transcript}
 use Rattle.st_semantics.specs.Verdict.{Verdict}
@@ -145,6 +147,14 @@ LawOfJudgements =
     (values : List Value) → HasTree il relation values → (declared : RelationDef)
     → relation_named il relation ≡ Some declared
     → AreTypedValues (syntaxes il) declared.holes values
+
+-- So what is derivable by a relation that is run step by step is one value for each of its inputs,
+-- of its type.
+abbrev pub LawOfTerms : Type 0
+LawOfTerms =
+    (il : Il) → ResultsAreTyped il → ConclusionsAreTyped il → (relation : Name)
+    (declared : RelationDef) → relation_named il relation ≡ Some declared → IsStepping il declared
+    → (term next : Term) → Derivable il relation term next → AreInputs il relation next
 
 -- ---- runs and verdicts
 

@@ -1,5 +1,5 @@
 -- Which types expressions have.
-use Rattle.std.specs.Prelude.{◌≡◌, List, [], ◌∷◌, All, Option, Some, None, find, map, bytes_eq}
+use Rattle.std.specs.Prelude.{◌≡◌, List, [], ◌∷◌, All, Option, Some, find, map, bytes_eq}
 use Rattle.st_il.specs.declared.definition.ClauseDef.{ClauseDef}
 use Rattle.st_il.specs.declared.definition.FunDef.{FunDef}
 use Rattle.st_il.specs.declared.definition.Il.{Il}
