@@ -139,14 +139,14 @@ inputs_same s name values has =
     let t = has_tree_rule s name values has in
     let first = value.Case t.rule.from [] in
     let second = value.Case t.rule.to [] in
-    ap (λ n. inputs_of (il_of s) n values) t.named ∙ ap (inputs_of (il_of s) s.relation) t.values_are ∙ inputs-small s first second ∙ sym (ap small_inputs t.values_are)
+    ap (λ n. inputs_of (il_of s) n values) t.relation_is ∙ ap (inputs_of (il_of s) s.relation) t.values_are ∙ inputs-small s first second ∙ sym (ap small_inputs t.values_are)
 
 pub outputs_same : (s : Small) (name : Name) (values : List Value) → HasTree (il_of s) name values → outputs_of (il_of s) name values ≡ small_outputs values
 outputs_same s name values has =
     let t = has_tree_rule s name values has in
     let first = value.Case t.rule.from [] in
     let second = value.Case t.rule.to [] in
-    ap (λ n. outputs_of (il_of s) n values) t.named ∙ ap (outputs_of (il_of s) s.relation) t.values_are ∙ outputs-small s first second ∙ sym (ap small_outputs t.values_are)
+    ap (λ n. outputs_of (il_of s) n values) t.relation_is ∙ ap (outputs_of (il_of s) s.relation) t.values_are ∙ outputs-small s first second ∙ sym (ap small_outputs t.values_are)
 
 abbrev OutputsOf : Il → Option Judgement → Option (List Value)
 OutputsOf il found = option_map (λ (j : Judgement). outputs_of il j.relation j.values) found

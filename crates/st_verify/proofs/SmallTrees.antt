@@ -18,7 +18,7 @@ use Rattle.st_semantics.specs.Evaluation.{tasks}
 use Rattle.st_semantics.specs.Holding.{HaveValues}
 use Rattle.st_semantics.specs.Calls.{CallAt, has_value}
 use Rattle.st_semantics.specs.Derivation.{Exclusion, Valid, IsValid, HasTree, Derivable, node, done, excluded}
-use Rattle.st_verify.specs.SmallMeaning.{IsSmallStep}
+use Rattle.st_verify.specs.SmallMeaning.{IsSmallJudgement, IsSmallStep}
 use Rattle.st_verify.proofs.SmallIl.{rule_of, is_relation, relation_zero, mask-small, rules-small}
 use Rattle.st_verify.proofs.SmallValues.{atom_given, atom_only, empty_env}
 
@@ -81,26 +81,23 @@ atoms_have s env one other (x ∷ y ∷ []) have =
     cc
 atoms_have s env one other (x ∷ y ∷ z ∷ values) have = absurd have.1.1
 
--- the rule of a tree
-pub record IsTreeOf (s : Small) (name : Name) (values : List Value) : Type 0 where
-  pub named : name ≡ s.relation
-  pub number : ℕ
-  pub rule : SmallRule
-  pub is_rule : slice_get s.rules number ≡ Some rule
-  pub values_are : values ≡ values_of rule
-
 tree_rule : (s : Small) (O : Exclusion) (name : Name) (tree : Tree) → Valid (il_of s) (has_value (il_of s)) O tree → IsRelation (il_of s) tree.relation name
-    → IsTreeOf s name tree.values
+    → IsSmallJudgement s name tree.values
 tree_rule s O name tree (node other rule is_relation at env have proved) relation =
     let named = (relation_zero s tree.relation name relation).1 in
     let other_named = (relation_zero s tree.relation other is_relation).1 in
     let r = small_rule_at s other tree.rule rule other_named at in
     let values = subst (λ (x : RuleDef). HaveValues (has_value (il_of s)) (tasks tree.env x.conclusion) tree.values) r.2 have in
-    record { named = named; number = tree.rule; rule = r.0; is_rule = r.1; values_are = atoms_have s tree.env r.0.from r.0.to tree.values values }
+    record { relation_is = named; number = tree.rule; rule = r.0; is_rule = r.1; values_are = atoms_have s tree.env r.0.from r.0.to tree.values values }
 
-pub has_tree_rule : (s : Small) (name : Name) (values : List Value) → HasTree (il_of s) name values → IsTreeOf s name values
+pub has_tree_rule : (s : Small) (name : Name) (values : List Value) → HasTree (il_of s) name values → IsSmallJudgement s name values
 has_tree_rule s name values has =
-    subst (IsTreeOf s name) has.values_are (tree_rule s (excluded (il_of s)) name has.tree has.valid has.relation_is)
+    subst (IsSmallJudgement s name) has.values_are (tree_rule s (excluded (il_of s)) name has.tree has.valid has.relation_is)
+
+pub rule_tree : (s : Small) (name : Name) (values : List Value) → IsSmallJudgement s name values → HasTree (il_of s) name values
+rule_tree s name values says =
+    subst (λ n. HasTree (il_of s) n values) (sym says.relation_is)
+    (subst (HasTree (il_of s) s.relation) (sym says.values_are) (rule_has_tree s says.number says.rule says.is_rule))
 
 -- ---- inputs and outputs
 

@@ -8,10 +8,25 @@ use Rattle.st_il.specs.declared.value.Value.TheVariants.{Case}
 use Rattle.st_il.specs.Small.{IsSmall, il_of}
 use Rattle.st_semantics.specs.declared.notes.Notes.{Notes}
 use Rattle.st_semantics.specs.declared.verify_rule.VerifyRule.{VerifyRule}
+use Rattle.st_semantics.specs.Names.{Name}
 use Rattle.st_semantics.specs.Accepts.{ReadsTo}
-use Rattle.st_semantics.specs.Derivation.{Derivable}
+use Rattle.st_semantics.specs.Derivation.{HasTree, Derivable}
 use Rattle.st_semantics.specs.Verdict.{Verdict}
 use Rattle.st_verify.specs.inner.SmallVerdict.{FirstBreach}
+
+-- a rule says this judgement: its values are the two atoms of the rule
+pub record IsSmallJudgement (s : Small) (relation : Name) (values : List Value) : Type 0 where
+  pub relation_is : relation ≡ s.relation
+  pub number : ℕ
+  pub rule : SmallRule
+  pub is_rule : slice_get s.rules number ≡ Some rule
+  pub values_are : values ≡ Case rule.from [] ∷ Case rule.to [] ∷ []
+
+-- On a small specification a judgement has a valid tree exactly where one of its rules says it.
+abbrev pub LawOfSmallTrees : Type 0
+LawOfSmallTrees =
+    (s : Small) (relation : Name) (values : List Value)
+    → HasTree (il_of s) relation values ↔ IsSmallJudgement s relation values
 
 -- a rule goes from this term to that: each is an atom
 pub record IsSmallStep (s : Small) (term next : List Value) : Type 0 where
@@ -21,7 +36,7 @@ pub record IsSmallStep (s : Small) (term next : List Value) : Type 0 where
   pub term_is : term ≡ Case rule.from [] ∷ []
   pub next_is : next ≡ Case rule.to [] ∷ []
 
--- On a small specification what is derivable is what one of its rules says.
+-- What is derivable from a term is what one of the rules goes to from it.
 abbrev pub LawOfSmallSteps : Type 0
 LawOfSmallSteps =
     (s : Small) (term next : List Value)

@@ -1,10 +1,11 @@
 //! What the meaning of rules comes to on a small specification.
 
-ghost use Rattle.st_verify.specs.SmallMeaning.{LawOfSmallSteps, LawOfSmallVerdicts};
+ghost use Rattle.st_verify.specs.SmallMeaning.{LawOfSmallTrees, LawOfSmallSteps, LawOfSmallVerdicts};
 
-/// On a small specification what is derivable is what one of its rules says, and the verdict on a
-/// line is the first rule of derivations that it breaks.
+/// On a small specification what has a valid tree, and what is derivable, is what one of its rules
+/// says, and the verdict on a line is the first rule of derivations that it breaks.
 pub fn small_specifications()
+    ensures trees { LawOfSmallTrees }
     ensures steps { LawOfSmallSteps }
     ensures verdicts { LawOfSmallVerdicts }
 {}

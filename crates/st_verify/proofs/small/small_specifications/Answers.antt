@@ -4,9 +4,12 @@ use Rattle.st_semantics.specs.Verdict.{Verdict}
 use Rattle.st_semantics.proofs.Verdicts.{law_of_verdicts}
 use Rattle.st_verify.proofs.SmallModes.{clauses_keep, clauses_name_occurring}
 use Rattle.st_verify.proofs.SmallNotings.{read_trees}
-use Rattle.st_verify.proofs.SmallTrees.{derivable_step, step_derivable}
+use Rattle.st_verify.proofs.SmallTrees.{has_tree_rule, rule_tree, derivable_step, step_derivable}
 use Rattle.st_verify.proofs.SmallVerdicts.{verdict_of_breach}
 use Rattle.st_verify.proofs.small.small_specifications.Goals as goal
+
+pub returns-clause-trees : goal.returns-clause-trees
+returns-clause-trees c = λ s relation values. (has_tree_rule s relation values, rule_tree s relation values)
 
 pub returns-clause-steps : goal.returns-clause-steps
 returns-clause-steps c = λ s term next. (derivable_step s term next, step_derivable s term next)
