@@ -9,6 +9,7 @@
 
 mod bodies;
 mod build;
+mod case_list;
 mod check;
 mod entry;
 mod fault;
