@@ -1,7 +1,7 @@
 -- It is not that a line has no verdict.
-use Rattle.std.proofs.Common.{◌≡◌, ℕ, zero, suc, ◌+◌, refl, sym, ◌∙◌, ap, subst, List, [], ◌∷◌, ◌++◌, map, length, take, ◌⊎◌, inl, inr, Bool, true, false, if◌then◌else◌, Option, Some, None, is_some, bytes_eq, All}
+use Rattle.std.proofs.Common.{◌≡◌, ℕ, ◌+◌, refl, sym, ◌∙◌, subst, List, [], ◌∷◌, take, inl, inr, Bool, true, false, if◌then◌else◌, Option, Some, None, is_some, bytes_eq, All}
 use Rattle.std.specs.List.{enumerate_from}
-use Rattle.std.proofs.lemmas.List.Elements.{All-nil, All-cons, All-head, All-tail}
+use Rattle.std.proofs.lemmas.List.Elements.{All-cons, All-head, All-tail}
 use Rattle.st_deriv.specs.declared.line.Line.{Line}
 use Rattle.st_deriv.specs.declared.line.Line.TheVariants.{Head, From, Node, Step, End}
 use Rattle.st_deriv.specs.declared.line.NodeLine.{NodeLine}
@@ -30,14 +30,14 @@ use Rattle.st_semantics.specs.Iterations.{count_of}
 use Rattle.st_semantics.specs.Evaluation.{Way, Ends, Goes, way}
 use Rattle.st_semantics.specs.Formed.{IsFormed, AreFormed, PremIsFormed, ResultsAreFormed, RuleIsFormed, RulesAreFormed}
 use Rattle.st_semantics.specs.Formed as formed
-use Rattle.st_semantics.specs.Variables.{cites, have_otherwise}
+use Rattle.st_semantics.specs.Variables.{cites}
 use Rattle.st_semantics.specs.Holding.{Place, places, each_place}
 use Rattle.st_semantics.specs.Calls.{CallAt, ValueAt}
 use Rattle.st_semantics.specs.Checks.{Answer, Test, accepts, refuses, asks, forbids, and_then, checking_depth, refusal, evaluates, evaluate_each}
 use Rattle.st_semantics.specs.Walks as w
 use Rattle.st_semantics.specs.Walks.{ComeTo, Judges, judged, rule_at, TakenChild, TestsAtOnce, Tests, Walks}
-use Rattle.st_semantics.specs.Evidence.{HasShape, tries, try_each, try_all, excludes}
-use Rattle.st_semantics.specs.Verdict.{Found, find_rule, rule_named, tests_node, tests, Verdict}
+use Rattle.st_semantics.specs.Evidence.{tries, try_each, try_all}
+use Rattle.st_semantics.specs.Verdict.{Found, find_rule, rule_named, tests_node, tests}
 use Rattle.st_semantics.specs.Laws.{LawOfSomeVerdict}
 use Rattle.st_semantics.proofs.Acceptance.{cites-level}
 use Rattle.st_semantics.proofs.Depths.{Likely, likely, likely_then, likely_map, decided}
