@@ -70,7 +70,7 @@ module _ (defs : List SyntaxDef) (C : Answers) where
       comes {e = e} (formed.iteration how xs body h count inside) env =
           likely_then (all_come count env) (λ r. way_comes env e how xs body r.0 (way how xs env r.0) h r.1 refl (comes inside))
 
-      all_come : {es : List IlExp} → AreFormed defs es → (env : Env) → Likely (AllCome (tasks env es))
+      pub all_come : {es : List IlExp} → AreFormed defs es → (env : Env) → Likely (AllCome (tasks env es))
       all_come formed.none env = likely (Values [], g.none refl)
       all_come (formed.more {e = e} {es = es} x xs) env = likely_then (comes x env) (λ o. one_more (env, e) (tasks env es) o (all_come xs env))
 
@@ -96,7 +96,7 @@ module _ (il : Il) (C : Answers) (total : (fun : Name) (vs : List Value) → Lik
       at true ih = All-cons Formed c (clauses_from fun cs) (All-head Formed c cs h) ih
       at false ih = ih
 
-call_comes : (il : Il) → ResultsAreFormed il → (n : ℕ) (fun : Name) (vs : List Value) → Likely ((o : Outcome) × CallAt il n fun vs o)
+pub call_comes : (il : Il) → ResultsAreFormed il → (n : ℕ) (fun : Name) (vs : List Value) → Likely ((o : Outcome) × CallAt il n fun vs o)
 call_comes il h zero fun vs = likely (Deep, refl)
 call_comes il h (suc n) fun vs = decides il (CallAt il n) (call_comes il h n) (clauses_of il fun) (some_formed il (CallAt il n) (call_comes il h n) fun (clauses_in il.defs) h) vs
 

@@ -24,7 +24,7 @@ use Rattle.st_semantics.specs.Goals.{AreInputs}
 use Rattle.st_semantics.specs.Environments.{AgreeOn, EnvOk, IsTypedValue, AreTypedValues}
 use Rattle.st_semantics.specs.Orders.{is_order}
 use Rattle.st_semantics.specs.OrderOf.{order_of}
-use Rattle.st_semantics.specs.Formed.{IsFormed, ResultsAreFormed}
+use Rattle.st_semantics.specs.Formed.{IsFormed, ResultsAreFormed, RulesAreFormed}
 use Rattle.st_semantics.specs.Parts.{Operation}
 use Rattle.st_semantics.specs.Forms.{HasForm, Strict}
 use Rattle.st_semantics.specs.Typing.{ExpHasType, ResultsAreTyped, ConclusionsAreTyped}
@@ -165,6 +165,13 @@ LawOfTranscripts =
     (ending other : Ending)
     → Transcript il relation fuel term terms ending → Transcript il relation fuel term others other
     → (terms ≡ others) × (ending ≡ other)
+
+-- It is not that a line has no verdict, where records and absent parts in rules and in the results of
+-- clauses fit their types.
+abbrev pub LawOfSomeVerdict : Type 0
+LawOfSomeVerdict =
+    (il : Il) → ResultsAreFormed il → RulesAreFormed il → (notes : Notes) (line : Line)
+    → ((answer : Option VerifyRule) → Verdict il notes line answer → ⊥) → ⊥
 
 -- a line has one verdict at most
 abbrev pub LawOfVerdicts : Type 0
