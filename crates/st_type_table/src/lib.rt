@@ -25,8 +25,6 @@ mod same;
 mod search;
 mod survey;
 mod table;
-#[cfg(test)]
-mod tests;
 
 pub use bodies::Bodies;
 pub use entry::CaseDef;
