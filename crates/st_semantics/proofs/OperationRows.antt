@@ -117,7 +117,7 @@ module _ (defs : List SyntaxDef) where
     by_record y ts t is (row.dot {e = a} {name = name} {t = s} {u = u} ds has found) = moved e es f ts t h (a ∷ []) (unary (operator.field name)) y is refl (dot_keeps defs name s u ds has found)
     by_record y ts t is (row.set {e = a} {g = g} {path = path} {t = s} us w leads) = moved e es f ts t h (a ∷ flattened (map segment_exps path) ++ g ∷ []) (setting path) y is refl (setting_keeps defs path s w us leads)
     by_record y ts t is (row.extend {e = a} {g = g} {path = path} {t = s} us w u leads means) = moved e es f ts t h (a ∷ flattened (map segment_exps path) ++ g ∷ []) (extension path) y is refl (extension_keeps defs path s w u us leads means)
-    by_record y ts t is (row.join {e = a} {g = g} u joins) = moved e es f ts t h (a ∷ g ∷ []) (binary operator.join) y is refl (join_keeps defs u)
+    by_record y ts t is (row.join {e = a} {g = g} u can) = moved e es f ts t h (a ∷ g ∷ []) (binary operator.join) y is refl (join_keeps defs u)
 
     keeps : (y : Level) (ts : List Ty) (t : Ty) → out-IlExp e ≡ y → OperationType defs y ts t → KeepsTypes defs f ts t
     keeps y ts t is (row.plain p) = by_plain e es f ts t h y is p
