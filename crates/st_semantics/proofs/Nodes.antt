@@ -221,11 +221,11 @@ evidence_of true number (Some orders) s h = (orders, refl)
 evidence_of true number None s h = absurd s
 evidence_of false number e s h = let bad : false ≡ true = h in cc
 
-or_left : (a b : Bool) → a ≡ true → (a || b) ≡ true
+pub or_left : (a b : Bool) → a ≡ true → (a || b) ≡ true
 or_left true b h = refl
 or_left false b h = let bad : false ≡ true = h in cc
 
-or_right : (a b : Bool) → b ≡ true → (a || b) ≡ true
+pub or_right : (a b : Bool) → b ≡ true → (a || b) ≡ true
 or_right true b h = refl
 or_right false b h = h
 

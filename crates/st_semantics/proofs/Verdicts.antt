@@ -31,7 +31,6 @@ use Rattle.st_semantics.specs.Verdict.{Found, rule_named, tests_node, tests, Ver
 use Rattle.st_semantics.specs.Evidence.{tries, try_each, try_all, excludes}
 use Rattle.st_semantics.specs.Laws.{LawOfVerdicts}
 use Rattle.st_semantics.proofs.Singles.{IsSingle, Gives-single, GivesAll-single, same_way}
-use Rattle.st_semantics.proofs.Choices.{clauses_single}
 
 -- a test gives one answer at most
 abbrev pub Single : Test → Type 0
@@ -260,4 +259,4 @@ module _ (il : Il) (notes : Notes) (one : IsSingle (CallAt il checking_depth)) w
   Verdict-single line = and_then-single _ _ (asks-single _ _) (tests-single line)
 
 pub law_of_verdicts : LawOfVerdicts
-law_of_verdicts il keep named notes line a b p q = Verdict-single il notes (clauses_single il keep named checking_depth) line a b p q
+law_of_verdicts il one notes line a b p q = Verdict-single il notes (one checking_depth) line a b p q

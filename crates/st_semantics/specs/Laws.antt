@@ -18,7 +18,7 @@ use Rattle.st_semantics.specs.declared.notes.Notes.{Notes}
 use Rattle.st_semantics.specs.declared.outcome.Outcome.{Outcome}
 use Rattle.st_semantics.specs.declared.outcome.Outcome.TheVariants.{Val, Deep}
 use Rattle.st_semantics.specs.Names.{Name}
-use Rattle.st_semantics.specs.Definitions.{syntaxes, relation_named, clauses_in}
+use Rattle.st_semantics.specs.Definitions.{syntaxes, relation_named, clauses_in, count_of_rules}
 use Rattle.st_semantics.specs.Directions.{IsStepping}
 use Rattle.st_semantics.specs.Goals.{AreInputs}
 use Rattle.st_semantics.specs.Environments.{AgreeOn, EnvOk, IsTypedValue, AreTypedValues}
@@ -32,9 +32,11 @@ use Rattle.st_semantics.specs.OperationTypes.{OperationType, KeepsTypes}
 use Rattle.st_semantics.specs.Variables.{vars}
 use Rattle.st_semantics.specs.ModeRules.{IsOtherwise, bound_in_clause}
 use Rattle.st_semantics.specs.Breaches.{KeepModes, ClausesKeep}
-use Rattle.st_semantics.specs.Kinds.{AreKinded, ClausesAreKinded, ClausesNameOccurring, ListsOccurring}
-use Rattle.st_semantics.specs.Calls.{Chosen, TooDeep, CallAt, ValueAt}
-use Rattle.st_semantics.specs.Derivation.{Root, excluded, NoneBefore, IsValid, HasTree, Derivable}
+use Rattle.st_semantics.specs.Kinds.{AreKinded, ClausesAreKinded, ClausesNameOccurring}
+use Rattle.st_semantics.specs.Kinds.{ListsOccurring}
+use Rattle.st_semantics.specs.Calls.{Chosen, TooDeep, CallAt, ValueAt, has_value}
+use Rattle.st_semantics.specs.Derivation.{Root, Valid, NoneBefore, exclusion_to, excluded}
+use Rattle.st_semantics.specs.Derivation.{IsValid, HasTree, Derivable}
 use Rattle.st_semantics.specs.Chains.{IsValidAt}
 use Rattle.st_semantics.specs.Transcript.{Term, Ending, Transcript}
 use Rattle.st_semantics.specs.Verdict.{Verdict}
@@ -86,8 +88,9 @@ abbrev pub LawOfDepths : Type 0
 LawOfDepths = (il : Il) → ClausesKeep il → ClausesAreKinded il → IsStable il × IsDeepBelow il
 
 -- Where clauses keep these rules and the iterated premises of clauses name only variables that
--- occur inside, each clause is chosen under one environment at most, a clause that is chosen does
--- not meet Deep, and calls and expressions come to one outcome at most.
+-- occur inside, two environments that choose a clause agree on all that it binds, and are one where
+-- all variables that it lists occur in it; a clause that is chosen does not meet Deep; and calls
+-- and expressions come to one outcome at most.
 abbrev pub LawOfChoice : Type 0
 LawOfChoice =
     (il : Il) → ClausesKeep il → ClausesNameOccurring il
@@ -106,7 +109,7 @@ LawOfOutcomes =
     (il : Il) → ResultsAreFormed il → (n : ℕ) (env : Env) (e : IlExp) → IsFormed (syntaxes il) e
     → ((o : Outcome) → ValueAt il n env e o → ⊥) → ⊥
 
--- they fit their types in an expression that has a type
+-- In an expression that has a type each record and each absent part fits its type.
 abbrev pub LawOfForms : Type 0
 LawOfForms =
     (il : Il) (ls : List Listed) (e : IlExp) (t : Ty) → ExpHasType il ls e t
@@ -127,13 +130,20 @@ LawOfOperations =
 
 -- ---- derivation
 
--- What an `otherwise` says is that no valid tree has an earlier rule and these inputs. No level is
--- spoken of.
+-- Where the rules M1 to M7 are kept, what the `otherwise` of a rule says is that no valid tree has
+-- an earlier rule and these inputs.
 abbrev pub LawOfOtherwise : Type 0
 LawOfOtherwise =
     (il : Il) → KeepModes il → (root : Root) (rule : RuleDef)
     → IsOtherwise il root.relation root.rule rule
     → excluded il root ↔ NoneBefore il (IsValid il) root
+
+-- Where they are kept, a tree that is valid where an `otherwise` is decided at a level is valid at
+-- every other level too, if no level is below the number of all rules.
+abbrev pub LawOfLevels : Type 0
+LawOfLevels =
+    (il : Il) → KeepModes il → (n : ℕ) → count_of_rules il ≤ n → (tree : Tree)
+    → Valid il (has_value il) (exclusion_to il (has_value il) n) tree ↔ IsValid il tree
 
 -- a tree that is valid at a depth is valid
 abbrev pub LawOfDepthOfTrees : Type 0
@@ -166,17 +176,17 @@ LawOfTranscripts =
     → Transcript il relation fuel term terms ending → Transcript il relation fuel term others other
     → (terms ≡ others) × (ending ≡ other)
 
--- It is not that a line has no verdict, where records and absent parts in rules and in the results of
--- clauses fit their types.
+-- Where records and absent parts in rules and in the results of clauses fit their types, it is not
+-- that a line has no verdict.
 abbrev pub LawOfSomeVerdict : Type 0
 LawOfSomeVerdict =
     (il : Il) → ResultsAreFormed il → RulesAreFormed il → (notes : Notes) (line : Line)
     → ((answer : Option VerifyRule) → Verdict il notes line answer → ⊥) → ⊥
 
--- a line has one verdict at most
+-- Where calls come to one outcome at most, a line has one verdict at most.
 abbrev pub LawOfVerdicts : Type 0
 LawOfVerdicts =
-    (il : Il) → ClausesKeep il → ClausesNameOccurring il → (notes : Notes) (line : Line) (a b : Option VerifyRule)
+    (il : Il) → CallsAreSingle il → (notes : Notes) (line : Line) (a b : Option VerifyRule)
     → Verdict il notes line a → Verdict il notes line b → a ≡ b
 
 -- Lines that are taken vouch for their nodes and steps, where the rules M1 to M7 are kept and

@@ -20,8 +20,8 @@ DerivedIsAccepted =
     → (lines steps : ℕ) × VerifyGives il derivation answer.Done (accepted_text lines steps)
 
 -- What `verify` accepts shows nothing that is not derivable: the files are the texts of an internal
--- language and of lines, each node line of which has a valid tree, and each step of which goes from a
--- term to one that is derivable from it.
+-- language and of lines, each node line of which has a valid tree, and each step of which goes from
+-- a term to one that is derivable from it.
 abbrev pub AcceptedIsSound : Type 0
 AcceptedIsSound =
     (il_bytes derivation bytes : List ℕ) → VerifyGives il_bytes derivation answer.Done bytes

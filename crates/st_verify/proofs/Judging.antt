@@ -12,6 +12,7 @@ use Rattle.st_semantics.specs.Accepts.{ReadsTo, AreSound}
 use Rattle.st_semantics.specs.Notes.{noted}
 use Rattle.st_semantics.specs.Verdict.{Verdict}
 use Rattle.st_semantics.proofs.Sound.{law_of_reading}
+use Rattle.st_semantics.proofs.Choices.{law_of_choice}
 use Rattle.st_semantics.proofs.Verdicts.{law_of_verdicts}
 use Rattle.st_verify.specs.inner.SmallNotes.{small_noted}
 use Rattle.st_verify.specs.inner.SmallVerdict.{FirstBreach}
@@ -78,7 +79,8 @@ pub kept_one : (checking : Checking) (il : Il) (notes : Notes) → il ≡ checki
     → Verdict checking.il checking.notes line broken → Verdict checking.il checking.notes line other → broken ≡ other
 kept_one checking il notes same kept line =
     let small = kept_small checking il notes same kept in
-    law_of_verdicts checking.il (small_clauses_keep checking.il small) (small_clauses_name checking.il small) checking.notes line
+    let choice = law_of_choice checking.il (small_clauses_keep checking.il small) (small_clauses_name checking.il small) in
+    law_of_verdicts checking.il choice.2 checking.notes line
 
 pub kept_sound : (checking : Checking) (il : Il) (notes : Notes) → il ≡ checking.il → IsKept il notes → (lines : List Line) (read : Notes) → ReadsTo checking.il lines read
     → AreSound checking.il lines

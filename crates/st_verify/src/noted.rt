@@ -50,8 +50,8 @@ fn copy_outputs(alloc: Global, values: &[Value]) -> Result<Row<Value>, NoMemory>
 
 /// A copy of the term behind a step by the node on that line.
 fn term_after(alloc: Global, notes: &Notes, line: u128) -> Result<Option<Row<Value>>, NoMemory>
-    ensures { IfOk result (λ term. term
-        ≡ option_map (λ (judgement : Noted). small_outputs judgement.values) (judgement_on notes.now line)) }
+    ensures { IfOk result (λ term. term ≡ option_map
+        (λ (judgement : Noted). small_outputs judgement.values) (judgement_on notes.now line)) }
 {
     match noted_on(notes, line) {
         Some(judgement) => {

@@ -22,7 +22,8 @@ use Rattle.st_verify.specs.Verifier.{Checking, refusal_by}
 -- it is noted, or refused by the first rule that it breaks
 abbrev pub TakesFirst : Checking → Line → Checking → Type 0
 TakesFirst old line new =
-    (Verdict old.il old.notes line None × (new ≡ record old { notes = noted old.il old.notes line }))
+    (Verdict old.il old.notes line None
+    × (new ≡ record old { notes = noted old.il old.notes line }))
     ⊎ ((rule : VerifyRule) × Verdict old.il old.notes line (Some rule)
     × (new ≡ record old { refusal = Some (refusal_by rule old.notes) }))
 

@@ -1,5 +1,5 @@
--- What the code notes of a line: it is so on a small specification, whose relation has one input and
--- one output.
+-- What the code notes of a line: it is so on a small specification, whose relation has one input
+-- and one output.
 use Rattle.std.specs.Prelude.{◌+◌, true, List, [], ◌∷◌, ◌++◌, drop, Some, None}
 use Rattle.std.specs.Option.{option_map}
 use Rattle.st_deriv.specs.declared.line.Line.{Line}
