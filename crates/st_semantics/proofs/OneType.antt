@@ -1,5 +1,5 @@
 -- An expression has one type, up to equality through aliases.
-use Rattle.std.proofs.Common.{◌≡◌, refl, sym, ◌∙◌, ap, subst, List, [], ◌∷◌, ◌++◌, map, Option, Some, None}
+use Rattle.std.proofs.Common.{◌≡◌, refl, sym, ◌∙◌, ap, subst, List, [], ◌∷◌, Some, None}
 use Rattle.st_num.specs.declared.dim.Kind.{Kind}
 use Rattle.st_num.specs.declared.dim.Kind.TheVariants as kind
 use Rattle.st_il.specs.declared.definition.FunDef.{FunDef}
@@ -12,7 +12,7 @@ use Rattle.st_il.specs.declared.ty.Ty.{Ty, out-Ty}
 use Rattle.st_il.specs.declared.ty.Ty.TheOpen.{Ty-F}
 use Rattle.st_il.specs.declared.ty.Ty.TheVariants as ty
 use Rattle.st_type_table.specs.Cases.{HasFields}
-use Rattle.st_type_table.specs.Meaning.{Means, alias_of, fields_of, itself}
+use Rattle.st_type_table.specs.Meaning.{Means, fields_of, itself}
 use Rattle.st_type_table.specs.Same as same
 use Rattle.st_type_table.specs.Same.{Same, SameAll}
 use Rattle.st_type_table.proofs.MeansLemmas.{Means-single}
@@ -20,7 +20,6 @@ use Rattle.st_types.proofs.SubLaws.{Same-trans}
 use Rattle.st_semantics.specs.Names.{Name}
 use Rattle.st_semantics.specs.Definitions.{syntaxes}
 use Rattle.st_semantics.specs.Environments.{wrapped, type_of, listed_as}
-use Rattle.st_semantics.specs.Forms.{HasForm}
 use Rattle.st_semantics.specs.Iterations.{kind_of}
 use Rattle.st_semantics.specs.Scopes.{listed_inside}
 use Rattle.st_semantics.specs.Typing as typing
