@@ -25,7 +25,7 @@ use Rattle.st_semantics.specs.Scopes.{listed_inside}
 use Rattle.st_semantics.specs.Typing as typing
 use Rattle.st_semantics.specs.Typing.{function_named, ExpHasType, ExpsHaveTypes}
 use Rattle.st_semantics.specs.OperationTypes as row
-use Rattle.st_semantics.specs.OperationTypes.{plain_types, IsCompared, AccessType, field_type, Level, OperationType}
+use Rattle.st_semantics.specs.OperationTypes.{plain_types, IsCompared, AccessType, field_type, Level, StructureType, OperationType}
 use Rattle.st_semantics.specs.Laws.{LawOfOneType}
 use Rattle.st_semantics.proofs.Singles.{HasForm-single}
 use Rattle.st_semantics.proofs.Elements.{no_alias_list, no_alias_option}
@@ -129,6 +129,38 @@ module _ (defs : List SyntaxDef) (total : (t : Ty) → (u : Ty) × Means defs t 
   access_one y ts us t u (row.cat v) (row.cat v') e = first_same e
   access_one y ts us t u (row.member v) (row.member v') e = refl_same ty.Bool
 
+  plain_structure : (y : Level) (us : List Ty) (u : Ty) (ts : List Ty) (t : Ty) → StructureType defs y us u → plain_types y ≡ Some (types_to ts t) → ⊥
+  plain_structure y us u ts t (row.case cases told has found) p = cc
+  plain_structure y us u ts t (row.fields ds has named) p = cc
+  plain_structure y us u ts t (row.dot ds has found) p = cc
+  plain_structure y us u ts t (row.set vs w leads) p = cc
+  plain_structure y us u ts t (row.extend vs w leads) p = cc
+  plain_structure y us u ts t (row.join s joins) p = cc
+
+  compared_structure : (y : Level) (us : List Ty) (u s : Ty) → StructureType defs y us u → IsCompared y s → ⊥
+  compared_structure y us u z (row.case cases told has found) c = absurd c
+  compared_structure y us u z (row.fields ds has named) c = absurd c
+  compared_structure y us u z (row.dot ds has found) c = absurd c
+  compared_structure y us u z (row.set vs w leads) c = absurd c
+  compared_structure y us u z (row.extend vs w leads) c = absurd c
+  compared_structure y us u z (row.join s joins) c = absurd c
+
+  access_structure : (y : Level) (us : List Ty) (u : Ty) (ts : List Ty) (t : Ty) → StructureType defs y us u → AccessType y ts t → ⊥
+  access_structure y us u ts t (row.case cases told has found) a = elim a [ ]
+  access_structure y us u ts t (row.fields ds has named) a = elim a [ ]
+  access_structure y us u ts t (row.dot ds has found) a = elim a [ ]
+  access_structure y us u ts t (row.set vs w leads) a = elim a [ ]
+  access_structure y us u ts t (row.extend vs w leads) a = elim a [ ]
+  access_structure y us u ts t (row.join s joins) a = elim a [ ]
+
+  structure_one : (y : Level) (ts us0 : List Ty) (t u : Ty) → StructureType defs y ts t → StructureType defs y us0 u → SameAll defs ts us0 → Same defs t u
+  structure_one y ts us0 t u (row.case cases told has found) (row.case cases' told' has' found') e = refl_same t
+  structure_one y ts us0 t u (row.fields ds has named) (row.fields ds' has' named') e = refl_same t
+  structure_one y ts us0 t u (row.dot {name = name_of} {t = s} ds has found) (row.dot {t = s'} ds' has' found') e = dot_one s s' name_of ds ds' t u has has' found found' (first_same e)
+  structure_one y ts us0 t u (row.set {t = s} us w leads) (row.set {t = s'} us' w' leads') e = first_same e
+  structure_one y ts us0 t u (row.extend {t = s} us w leads) (row.extend {t = s'} us' w' leads') e = first_same e
+  structure_one y ts us0 t u (row.join s joins) (row.join s' joins') e = first_same e
+
   row_one : (y : Level) (ts us0 : List Ty) (t u : Ty) → OperationType defs y ts t → OperationType defs y us0 u → SameAll defs ts us0 → Same defs t u
   row_one y ts us0 t u (row.plain p) (row.plain q) e = plain_one ts us0 t u (sym p ∙ q)
   row_one y ts us0 t u (row.plain p) (row.compared s c) e = absurd (plain_compared y s ts t p c)
@@ -139,6 +171,29 @@ module _ (defs : List SyntaxDef) (total : (t : Ty) → (u : Ty) × Means defs t 
   row_one y ts us0 t u (row.access a) (row.plain q) e = absurd (plain_access y ts t us0 u a q)
   row_one y ts us0 t u (row.access a) (row.compared s c) e = turned defs (compared_access y ts t s a c)
   row_one y ts us0 t u (row.access a) (row.access b) e = access_one y ts us0 t u a b e
+  row_one y ts us0 t u (row.plain p) (row.structured s) e = absurd (plain_structure y us0 u ts t s p)
+  row_one y ts us0 t u (row.structured s) (row.plain q) e = absurd (plain_structure y ts t us0 u s q)
+  row_one y ts us0 t u (row.compared z c) (row.structured s) e = absurd (compared_structure y us0 u z s c)
+  row_one y ts us0 t u (row.structured s) (row.compared z c) e = absurd (compared_structure y ts t z s c)
+  row_one y ts us0 t u (row.access a) (row.structured s) e = absurd (access_structure y us0 u ts t s a)
+  row_one y ts us0 t u (row.structured s) (row.access a) e = absurd (access_structure y ts t us0 u s a)
+  row_one y ts us0 t u (row.structured s) (row.structured s') e = structure_one y ts us0 t u s s' e
+  row_one y ts us0 t u (row.structured s) (row.number r) e = elim s [ ]
+  row_one y ts us0 t u (row.number r) (row.structured s) e = elim s [ ]
+  row_one y ts us0 t u (row.structured s) (row.text told) e = elim s [ ]
+  row_one y ts us0 t u (row.text told) (row.structured s) e = elim s [ ]
+  row_one y ts us0 t u (row.structured s) (row.tuple us) e = elim s [ ]
+  row_one y ts us0 t u (row.tuple us) (row.structured s) e = elim s [ ]
+  row_one y ts us0 t u (row.structured s) row.list e = elim s [ ]
+  row_one y ts us0 t u row.list (row.structured s) e = elim s [ ]
+  row_one y ts us0 t u (row.structured s) row.empty e = elim s [ ]
+  row_one y ts us0 t u row.empty (row.structured s) e = elim s [ ]
+  row_one y ts us0 t u (row.structured s) (row.present v) e = elim s [ ]
+  row_one y ts us0 t u (row.present v) (row.structured s) e = elim s [ ]
+  row_one y ts us0 t u (row.structured s) row.absent e = elim s [ ]
+  row_one y ts us0 t u row.absent (row.structured s) e = elim s [ ]
+  row_one y ts us0 t u (row.structured s) (row.up v sub) e = elim s [ ]
+  row_one y ts us0 t u (row.up v sub) (row.structured s) e = elim s [ ]
   row_one y ts us0 t u (row.plain p) (row.number r) e = cc
   row_one y ts us0 t u (row.number r) (row.plain p) e = cc
   row_one y ts us0 t u (row.compared z c) (row.number r) e = absurd c
@@ -153,48 +208,6 @@ module _ (defs : List SyntaxDef) (total : (t : Ty) → (u : Ty) × Means defs t 
   row_one y ts us0 t u (row.access a) (row.text told) e = elim a [ ]
   row_one y ts us0 t u (row.text told) (row.access a) e = elim a [ ]
   row_one y ts us0 t u (row.text told) (row.text told') e = refl_same ty.Text
-  row_one y ts us0 t u (row.plain p) (row.case cases told has found) e = cc
-  row_one y ts us0 t u (row.case cases told has found) (row.plain p) e = cc
-  row_one y ts us0 t u (row.compared z c) (row.case cases told has found) e = absurd c
-  row_one y ts us0 t u (row.case cases told has found) (row.compared z c) e = absurd c
-  row_one y ts us0 t u (row.access a) (row.case cases told has found) e = elim a [ ]
-  row_one y ts us0 t u (row.case cases told has found) (row.access a) e = elim a [ ]
-  row_one y ts us0 t u (row.case cases told has found) (row.case cases' told' has' found') e = refl_same t
-  row_one y ts us0 t u (row.plain p) (row.fields ds has named) e = cc
-  row_one y ts us0 t u (row.fields ds has named) (row.plain p) e = cc
-  row_one y ts us0 t u (row.compared z c) (row.fields ds has named) e = absurd c
-  row_one y ts us0 t u (row.fields ds has named) (row.compared z c) e = absurd c
-  row_one y ts us0 t u (row.access a) (row.fields ds has named) e = elim a [ ]
-  row_one y ts us0 t u (row.fields ds has named) (row.access a) e = elim a [ ]
-  row_one y ts us0 t u (row.fields ds has named) (row.fields ds' has' named') e = refl_same t
-  row_one y ts us0 t u (row.plain p) (row.dot {name = name_of} {t = s} ds has found) e = cc
-  row_one y ts us0 t u (row.dot {name = name_of} {t = s} ds has found) (row.plain p) e = cc
-  row_one y ts us0 t u (row.compared z c) (row.dot {name = name_of} {t = s} ds has found) e = absurd c
-  row_one y ts us0 t u (row.dot {name = name_of} {t = s} ds has found) (row.compared z c) e = absurd c
-  row_one y ts us0 t u (row.access a) (row.dot {name = name_of} {t = s} ds has found) e = elim a [ ]
-  row_one y ts us0 t u (row.dot {name = name_of} {t = s} ds has found) (row.access a) e = elim a [ ]
-  row_one y ts us0 t u (row.dot {name = name_of} {t = s} ds has found) (row.dot {t = s'} ds' has' found') e = dot_one s s' name_of ds ds' t u has has' found found' (first_same e)
-  row_one y ts us0 t u (row.plain p) (row.set {t = s} us w leads) e = cc
-  row_one y ts us0 t u (row.set {t = s} us w leads) (row.plain p) e = cc
-  row_one y ts us0 t u (row.compared z c) (row.set {t = s} us w leads) e = absurd c
-  row_one y ts us0 t u (row.set {t = s} us w leads) (row.compared z c) e = absurd c
-  row_one y ts us0 t u (row.access a) (row.set {t = s} us w leads) e = elim a [ ]
-  row_one y ts us0 t u (row.set {t = s} us w leads) (row.access a) e = elim a [ ]
-  row_one y ts us0 t u (row.set {t = s} us w leads) (row.set {t = s'} us' w' leads') e = first_same e
-  row_one y ts us0 t u (row.plain p) (row.extend {t = s} us w leads) e = cc
-  row_one y ts us0 t u (row.extend {t = s} us w leads) (row.plain p) e = cc
-  row_one y ts us0 t u (row.compared z c) (row.extend {t = s} us w leads) e = absurd c
-  row_one y ts us0 t u (row.extend {t = s} us w leads) (row.compared z c) e = absurd c
-  row_one y ts us0 t u (row.access a) (row.extend {t = s} us w leads) e = elim a [ ]
-  row_one y ts us0 t u (row.extend {t = s} us w leads) (row.access a) e = elim a [ ]
-  row_one y ts us0 t u (row.extend {t = s} us w leads) (row.extend {t = s'} us' w' leads') e = first_same e
-  row_one y ts us0 t u (row.plain p) (row.join s joins) e = cc
-  row_one y ts us0 t u (row.join s joins) (row.plain p) e = cc
-  row_one y ts us0 t u (row.compared z c) (row.join s joins) e = absurd c
-  row_one y ts us0 t u (row.join s joins) (row.compared z c) e = absurd c
-  row_one y ts us0 t u (row.access a) (row.join s joins) e = elim a [ ]
-  row_one y ts us0 t u (row.join s joins) (row.access a) e = elim a [ ]
-  row_one y ts us0 t u (row.join s joins) (row.join s' joins') e = first_same e
   row_one y ts us0 t u (row.plain p) (row.tuple us) e = cc
   row_one y ts us0 t u (row.tuple us) (row.plain p) e = cc
   row_one y ts us0 t u (row.compared z c) (row.tuple us) e = absurd c

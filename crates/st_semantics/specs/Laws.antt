@@ -174,8 +174,8 @@ LawOfTranscripts =
     → Transcript il relation fuel term terms ending → Transcript il relation fuel term others other
     → (terms ≡ others) × (ending ≡ other)
 
--- It is not that a line has no verdict, where records and absent parts in rules and in the results of
--- clauses fit their types.
+-- It is not that a line has no verdict, where records and absent parts in rules and in the results
+-- of clauses fit their types.
 abbrev pub LawOfSomeVerdict : Type 0
 LawOfSomeVerdict =
     (il : Il) → ResultsAreFormed il → RulesAreFormed il → (notes : Notes) (line : Line)
@@ -184,8 +184,8 @@ LawOfSomeVerdict =
 -- a line has one verdict at most
 abbrev pub LawOfVerdicts : Type 0
 LawOfVerdicts =
-    (il : Il) → ClausesKeep il → ClausesNameOccurring il → (notes : Notes) (line : Line) (a b : Option VerifyRule)
-    → Verdict il notes line a → Verdict il notes line b → a ≡ b
+    (il : Il) → ClausesKeep il → ClausesNameOccurring il → (notes : Notes) (line : Line)
+    (a b : Option VerifyRule) → Verdict il notes line a → Verdict il notes line b → a ≡ b
 
 -- Lines that are taken vouch for their nodes and steps, where the rules M1 to M7 are kept and
 -- iterated premises name only variables of their kind.

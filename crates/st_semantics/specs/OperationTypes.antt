@@ -100,33 +100,39 @@ pub data PathType (defs : List SyntaxDef) : List PathSeg → Ty → List Ty → 
 abbrev pub Level : Type 0
 Level = IlExp-F IlExp Iteration ListItem PathSeg
 
+-- What is made, read, changed and joined of cases and records. Tags and the names of fields are
+-- texts of the language.
+pub data StructureType (defs : List SyntaxDef) : Level → List Ty → Ty → Type 0 where
+  case : {type tag : Name} {es : List IlExp} {ts : List Ty} (cases : List CaseDef) → IsText tag
+      → HasCases defs (ty.Name type) cases → operands_of cases tag ≡ Some ts
+      → StructureType defs (IlExp-F.Case type tag es) ts (ty.Name type)
+  fields : {type : Name} {es : List IlExp} (declared : List (Name × Ty))
+      → HasFields defs (ty.Name type) declared → All (λ (d : Name × Ty). IsText d.0) declared
+      → StructureType defs (IlExp-F.Fields type es) (map (λ (d : Name × Ty). d.1) declared)
+      (ty.Name type)
+  dot : {e : IlExp} {name : Name} {t u : Ty} (declared : List (Name × Ty))
+      → HasFields defs t declared → field_type name declared ≡ Some u
+      → StructureType defs (IlExp-F.Dot e name) (t ∷ []) u
+  set : {e g : IlExp} {path : List PathSeg} {t : Ty} (ts : List Ty) (w : Ty)
+      → PathType defs path t ts w
+      → StructureType defs (IlExp-F.Set e path g) (t ∷ (ts ++ w ∷ [])) t
+  extend : {e g : IlExp} {path : List PathSeg} {t : Ty} (ts : List Ty) (u : Ty)
+      → PathType defs path t ts (ty.List u)
+      → StructureType defs (IlExp-F.Extend e path g) (t ∷ (ts ++ ty.List u ∷ [])) t
+  join : {e g : IlExp} (t : Ty) → Joins defs t
+      → StructureType defs (IlExp-F.Join e g) (t ∷ t ∷ []) t
+
 -- From operands of these types an expression of this level has values of that type. A literal is a
--- number or a text of the language; so are tags and the names of fields.
+-- number or a text of the language.
 pub data OperationType (defs : List SyntaxDef) : Level → List Ty → Ty → Type 0 where
   plain : {y : Level} {ts : List Ty} {t : Ty} → plain_types y ≡ Some (ts, t)
       → OperationType defs y ts t
   compared : {y : Level} (t : Ty) → IsCompared y t → OperationType defs y (t ∷ t ∷ []) ty.Bool
   access : {y : Level} {ts : List Ty} {t : Ty} → AccessType y ts t → OperationType defs y ts t
+  structured : {y : Level} {ts : List Ty} {t : Ty} → StructureType defs y ts t
+      → OperationType defs y ts t
   number : {n : ℕ} → IsNumber (pos n) → OperationType defs (IlExp-F.Number n) [] ty.Nat
   text : {bytes : Name} → IsText bytes → OperationType defs (IlExp-F.Text bytes) [] ty.Text
-  case : {type tag : Name} {es : List IlExp} {ts : List Ty} (cases : List CaseDef) → IsText tag
-      → HasCases defs (ty.Name type) cases → operands_of cases tag ≡ Some ts
-      → OperationType defs (IlExp-F.Case type tag es) ts (ty.Name type)
-  fields : {type : Name} {es : List IlExp} (declared : List (Name × Ty))
-      → HasFields defs (ty.Name type) declared → All (λ (d : Name × Ty). IsText d.0) declared
-      → OperationType defs (IlExp-F.Fields type es) (map (λ (d : Name × Ty). d.1) declared)
-      (ty.Name type)
-  dot : {e : IlExp} {name : Name} {t u : Ty} (declared : List (Name × Ty))
-      → HasFields defs t declared → field_type name declared ≡ Some u
-      → OperationType defs (IlExp-F.Dot e name) (t ∷ []) u
-  set : {e g : IlExp} {path : List PathSeg} {t : Ty} (ts : List Ty) (w : Ty)
-      → PathType defs path t ts w
-      → OperationType defs (IlExp-F.Set e path g) (t ∷ (ts ++ w ∷ [])) t
-  extend : {e g : IlExp} {path : List PathSeg} {t : Ty} (ts : List Ty) (u : Ty)
-      → PathType defs path t ts (ty.List u)
-      → OperationType defs (IlExp-F.Extend e path g) (t ∷ (ts ++ ty.List u ∷ [])) t
-  join : {e g : IlExp} (t : Ty) → Joins defs t
-      → OperationType defs (IlExp-F.Join e g) (t ∷ t ∷ []) t
   tuple : {es : List IlExp} (ts : List Ty)
       → OperationType defs (IlExp-F.Tuple es) ts (ty.Tuple ts)
   list : {t : Ty} {items : List ListItem}
