@@ -16,7 +16,7 @@ use Rattle.st_il.specs.declared.value.Value.TheVariants as value
 use Rattle.st_il.specs.Height.{height}
 use Rattle.st_il.specs.Value.{texts_of}
 use Rattle.st_il.specs.Value as texts
-use Rattle.st_type_table.specs.Meaning.{itself}
+use Rattle.st_type_table.specs.Meaning.{Means}
 use Rattle.st_type_table.specs.Cases.{HasFields}
 use Rattle.st_type_table.proofs.CasesLemmas.{HasFields-single}
 use Rattle.st_types.specs.HasType as type
@@ -31,7 +31,7 @@ use Rattle.st_semantics.specs.Paths.{Step, Into, Nth, Part, step_at, Path, longe
 use Rattle.st_semantics.specs.OperationTypes.{KeepsTypes}
 use Rattle.st_semantics.specs.OperationTypes as row
 use Rattle.st_semantics.specs.OperationTypes.{field_type, PathType}
-use Rattle.st_semantics.proofs.Elements.{All-front, All-back, no_alias_list}
+use Rattle.st_semantics.proofs.Elements.{All-front, All-back}
 use Rattle.st_semantics.proofs.Lengths.{some_one}
 use Rattle.st_semantics.proofs.TypedParts.{texts-level, numbers-level}
 use Rattle.st_semantics.proofs.KeptTypes.{made_parts, TextsIn, NumbersIn}
@@ -74,15 +74,15 @@ module _ (defs : List SyntaxDef) where
     all_sound t vs rest (All-back IsText (texts_of v) (texts.joined (map texts_of vs)) te) (All-back IsNumber (numbers_of v) (flattened (map numbers_of vs)) nu),
   )
 
-  pub parts_sound : (t : Ty) (a : Value) (xs : List Value) → Sound (ty.List t) a → elements a ≡ Some xs → EachSound t xs
-  parts_sound t a xs h e = at (out-Value a) refl e
+  pub parts_sound : (t u : Ty) → Means defs t (ty.List u) → (a : Value) (xs : List Value) → Sound t a → elements a ≡ Some xs → EachSound u xs
+  parts_sound t u means a xs h e = at (out-Value a) refl e
     where
-      at : (y : Value-F Value) → out-Value a ≡ y → elements_at y ≡ Some xs → EachSound t xs
+      at : (y : Value-F Value) → out-Value a ≡ y → elements_at y ≡ Some xs → EachSound u xs
       at (Value-F.List ys) is e =
           let same : ys ≡ xs = cc in
-          let opened : TypedAt defs (out-Value a) (out-Ty (ty.List t)) (ty.List t) = typed-opened defs a (ty.List t) (ty.List t) (itself (no_alias_list defs t) refl) h.form in
-          let have : AllHaveType defs ys t = subst (λ z. TypedAt defs z (Ty-F.List t) (ty.List t)) is (subst (λ z. TypedAt defs (out-Value a) z (ty.List t)) (ty.outs-List t) opened) in
-          subst (EachSound t) same (all_sound t ys have (subst (All IsText) (texts-level defs a (Value-F.List ys) is) h.texts) (subst (All IsNumber) (numbers-level defs a (Value-F.List ys) is) h.numbers))
+          let opened : TypedAt defs (out-Value a) (out-Ty (ty.List u)) t = typed-opened defs a t (ty.List u) means h.form in
+          let have : AllHaveType defs ys u = subst (λ z. TypedAt defs z (Ty-F.List u) t) is (subst (λ z. TypedAt defs (out-Value a) z t) (ty.outs-List u) opened) in
+          subst (EachSound u) same (all_sound u ys have (subst (All IsText) (texts-level defs a (Value-F.List ys) is) h.texts) (subst (All IsNumber) (numbers-level defs a (Value-F.List ys) is) h.numbers))
       at _ is e = cc
 
   each_types : (t : Ty) (vs : List Value) → EachSound t vs → AllHaveType defs vs t
@@ -97,11 +97,11 @@ module _ (defs : List SyntaxDef) where
   each_numbers t [] h = All-nil IsNumber
   each_numbers t (v ∷ vs) h = All-append IsNumber (numbers_of v) (flattened (map numbers_of vs)) h.0.numbers (each_numbers t vs h.1)
 
-  pub list_sound : (t : Ty) (vs : List Value) → EachSound t vs → Sound (ty.List t) (value.List vs)
-  list_sound t vs h = record {
-    form = type.list vs t refl (itself (no_alias_list defs t) refl) (each_types t vs h);
-    texts = subst (All IsText) (sym (texts-level defs (value.List vs) (Value-F.List vs) (value.outs-List vs))) (each_texts t vs h);
-    numbers = subst (All IsNumber) (sym (numbers-level defs (value.List vs) (Value-F.List vs) (value.outs-List vs))) (each_numbers t vs h);
+  pub list_sound : (t u : Ty) → Means defs t (ty.List u) → (vs : List Value) → EachSound u vs → Sound t (value.List vs)
+  list_sound t u means vs h = record {
+    form = type.list vs u refl means (each_types u vs h);
+    texts = subst (All IsText) (sym (texts-level defs (value.List vs) (Value-F.List vs) (value.outs-List vs))) (each_texts u vs h);
+    numbers = subst (All IsNumber) (sym (numbers-level defs (value.List vs) (Value-F.List vs) (value.outs-List vs))) (each_numbers u vs h);
   }
 
   pub sound_append : (t : Ty) (xs ys : List Value) → EachSound t xs → EachSound t ys → EachSound t (xs ++ ys)
@@ -123,8 +123,8 @@ module _ (defs : List SyntaxDef) where
   sound_get t (x ∷ xs) zero v h e = let same : x ≡ v = cc in subst (Sound t) same h.0
   sound_get t (x ∷ xs) (suc n) v h e = sound_get t xs n v h.1 e
 
-  made_list : (t : Ty) (xs : List Value) (v : Value) → EachSound t xs → value.List xs ≡ v → Sound (ty.List t) v
-  made_list t xs v h e = subst (Sound (ty.List t)) e (list_sound t xs h)
+  made_list : (t u : Ty) → Means defs t (ty.List u) → (xs : List Value) (v : Value) → EachSound u xs → value.List xs ≡ v → Sound t v
+  made_list t u means xs v h e = subst (Sound t) e (list_sound t u means xs h)
 
   -- ---- steps
 
@@ -132,8 +132,8 @@ module _ (defs : List SyntaxDef) where
   abbrev StepsType : List Step → Ty → Ty → Type 0
   StepsType [] t w = t ≡ w
   StepsType (Into name ∷ steps) t w = (ds : List (Name × Ty)) × (u : Ty) × HasFields defs t ds × (field_type name ds ≡ Some u) × StepsType steps u w
-  StepsType (Nth n ∷ steps) t w = (u : Ty) × (t ≡ ty.List u) × StepsType steps u w
-  StepsType (Part m n ∷ steps) t w = (u : Ty) × (t ≡ ty.List u) × StepsType steps (ty.List u) w
+  StepsType (Nth n ∷ steps) t w = (u : Ty) × Means defs t (ty.List u) × StepsType steps u w
+  StepsType (Part m n ∷ steps) t w = (u : Ty) × Means defs t (ty.List u) × StepsType steps t w
 
   path_steps : {path : List PathSeg} {t w : Ty} {ts : List Ty} → PathType defs path t ts w → (x : Ty) (vs : List Value) (steps : List Step) (rest : List Value) → AreTypedValues defs (ts ++ x ∷ []) vs
       → path_of path vs ≡ Some (path_with steps rest) → StepsType steps t w × AreTypedValues defs (x ∷ []) rest
@@ -144,32 +144,32 @@ module _ (defs : List SyntaxDef) where
       let one = longer_parts (Into name) (path_of ss vs) steps rest (ap (λ z. option_and_then (λ (p : Step × List Value). option_map (longer p.0) (path_of ss p.1)) (step_at z vs)) (sym is) ∙ e) in
       let deeper = path_steps more x vs one.0 rest h one.1 in
       (subst (λ z. StepsType z t w) one.2 (ds, u, has, found, deeper.0), deeper.1)
-  path_steps (row.element u g is more) x [] steps rest h e = absurd h
-  path_steps {t = t} {w = w} (row.element {ss = ss} {ts = us} u g is more) x (v ∷ vs) steps rest h e =
+  path_steps (row.element u g is means more) x [] steps rest h e = absurd h
+  path_steps {t = t} {w = w} (row.element {ss = ss} {ts = us} u g is means more) x (v ∷ vs) steps rest h e =
       at (natural v) (ap (λ z. option_and_then (λ (p : Step × List Value). option_map (longer p.0) (path_of ss p.1)) (step_at z (v ∷ vs))) (sym is) ∙ e) (path_steps more x vs)
     where
       at : (o : Option ℕ) → option_and_then (λ (p : Step × List Value). option_map (longer p.0) (path_of ss p.1)) (option_map (λ (n : ℕ). (Nth n, vs)) o) ≡ Some (path_with steps rest)
           → ((st : List Step) (rest : List Value) → AreTypedValues defs (us ++ x ∷ []) vs → path_of ss vs ≡ Some (path_with st rest) → StepsType st u w × AreTypedValues defs (x ∷ []) rest)
-          → StepsType steps (ty.List u) w × AreTypedValues defs (x ∷ []) rest
+          → StepsType steps t w × AreTypedValues defs (x ∷ []) rest
       at None e ih = cc
       at (Some n) e ih =
           let one = longer_parts (Nth n) (path_of ss vs) steps rest e in
           let deeper = ih one.0 rest h.1 one.1 in
-          (subst (λ z. StepsType z (ty.List u) w) one.2 (u, refl, deeper.0), deeper.1)
-  path_steps (row.part u g k is more) x [] steps rest h e = absurd h
-  path_steps (row.part u g k is more) x (v ∷ []) steps rest h e = absurd h.1
-  path_steps {t = t} {w = w} (row.part {ss = ss} {ts = us} u g k is more) x (v ∷ v' ∷ vs) steps rest h e =
+          (subst (λ z. StepsType z t w) one.2 (u, means, deeper.0), deeper.1)
+  path_steps (row.part u g k is means more) x [] steps rest h e = absurd h
+  path_steps (row.part u g k is means more) x (v ∷ []) steps rest h e = absurd h.1
+  path_steps {t = t} {w = w} (row.part {ss = ss} {ts = us} u g k is means more) x (v ∷ v' ∷ vs) steps rest h e =
       at (natural v) (natural v') (ap (λ z. option_and_then (λ (p : Step × List Value). option_map (longer p.0) (path_of ss p.1)) (step_at z (v ∷ v' ∷ vs))) (sym is) ∙ e) (path_steps more x vs)
     where
       at : (o o' : Option ℕ) → option_and_then (λ (p : Step × List Value). option_map (longer p.0) (path_of ss p.1)) (with_both (λ (m n : ℕ). Some (Part m n, vs)) o o') ≡ Some (path_with steps rest)
-          → ((st : List Step) (rest : List Value) → AreTypedValues defs (us ++ x ∷ []) vs → path_of ss vs ≡ Some (path_with st rest) → StepsType st (ty.List u) w × AreTypedValues defs (x ∷ []) rest)
-          → StepsType steps (ty.List u) w × AreTypedValues defs (x ∷ []) rest
+          → ((st : List Step) (rest : List Value) → AreTypedValues defs (us ++ x ∷ []) vs → path_of ss vs ≡ Some (path_with st rest) → StepsType st t w × AreTypedValues defs (x ∷ []) rest)
+          → StepsType steps t w × AreTypedValues defs (x ∷ []) rest
       at None o' e ih = cc
       at (Some m) None e ih = cc
       at (Some m) (Some n) e ih =
           let one = longer_parts (Part m n) (path_of ss vs) steps rest e in
           let deeper = ih one.0 rest h.1.1 one.1 in
-          (subst (λ z. StepsType z (ty.List u) w) one.2 (u, refl, deeper.0), deeper.1)
+          (subst (λ z. StepsType z t w) one.2 (u, means, deeper.0), deeper.1)
 
   -- ---- what stands at the end is replaced
 
@@ -265,13 +265,10 @@ module _ (defs : List SyntaxDef) where
       at : (z : Value-F Value) → out-Value x ≡ z → option_map value.Fields (option_and_then (in_field name (replaced keep r steps)) (fields_at z)) ≡ Some y → KeepsSound u (replaced keep r steps) → Sound t y
       at (Value-F.Fields fs) is e ih = by fs is (in_field name (replaced keep r steps) fs) refl e ih
       at _ is e ih = cc
-  replaced_sound keep r w keeps (Nth n ∷ steps) t (u, is, more) x y h e = at (elements x) refl e (replaced_sound keep r w keeps steps u more)
+  replaced_sound keep r w keeps (Nth n ∷ steps) t (u, means, more) x y h e = at (elements x) refl e (replaced_sound keep r w keeps steps u more)
     where
-      old : Sound (ty.List u) x
-      old = subst (λ z. Sound z x) is h
-
       back : (zs : List Value) → EachSound u zs → value.List zs ≡ y → Sound t y
-      back zs s made_is = subst (λ z. Sound z y) (sym is) (made_list u zs y s made_is)
+      back zs s made_is = made_list t u means zs y s made_is
 
       put : (xs : List Value) → EachSound u xs → (o : Option Value) (v : Value) → slice_get xs n ≡ Some v → replaced keep r steps v ≡ o → option_map value.List (option_map (λ (y : Value). take n xs ++ y ∷ drop (n + 1) xs) o) ≡ Some y
           → KeepsSound u (replaced keep r steps) → Sound t y
@@ -287,37 +284,33 @@ module _ (defs : List SyntaxDef) where
 
       at : (o : Option (List Value)) → elements x ≡ o → option_map value.List (option_and_then (in_element n (replaced keep r steps)) o) ≡ Some y → KeepsSound u (replaced keep r steps) → Sound t y
       at None k e ih = cc
-      at (Some xs) k e ih = by xs (parts_sound u x xs old k) (slice_get xs n) refl e ih
-  replaced_sound keep r w keeps (Part from size ∷ steps) t (u, is, more) x y h e = at (elements x) refl e (replaced_sound keep r w keeps steps (ty.List u) more)
+      at (Some xs) k e ih = by xs (parts_sound t u means x xs h k) (slice_get xs n) refl e ih
+  replaced_sound keep r w keeps (Part from size ∷ steps) t (u, means, more) x y h e = at (elements x) refl e (replaced_sound keep r w keeps steps t more)
     where
-      old : Sound (ty.List u) x
-      old = subst (λ z. Sound z x) is h
-
       back : (xs ys : List Value) → EachSound u xs → EachSound u ys → (b : Bool) → option_map value.List (if b then Some (take from xs ++ ys ++ drop (from + size) xs) else None) ≡ Some y → Sound t y
       back xs ys s p true e =
-          subst (λ z. Sound z y) (sym is)
-          (made_list u (take from xs ++ ys ++ drop (from + size) xs) y
-          (sound_append u (take from xs ++ ys) (drop (from + size) xs) (sound_append u (take from xs) ys (sound_take u from xs s) p) (sound_drop u (from + size) xs s)) (some_one e))
+          made_list t u means (take from xs ++ ys ++ drop (from + size) xs) y
+          (sound_append u (take from xs ++ ys) (drop (from + size) xs) (sound_append u (take from xs) ys (sound_take u from xs s) p) (sound_drop u (from + size) xs s)) (some_one e)
       back xs ys s p false e = cc
 
-      got : (xs : List Value) → EachSound u xs → (v : Value) → Sound (ty.List u) v → (o : Option (List Value)) → elements v ≡ o → option_map value.List (option_and_then (put_back keep from size xs) o) ≡ Some y → Sound t y
+      got : (xs : List Value) → EachSound u xs → (v : Value) → Sound t v → (o : Option (List Value)) → elements v ≡ o → option_map value.List (option_and_then (put_back keep from size xs) o) ≡ Some y → Sound t y
       got xs s v p None k e = cc
-      got xs s v p (Some ys) k e = back xs ys s (parts_sound u v ys p k) (not keep || nat_eq (length ys) size) e
+      got xs s v p (Some ys) k e = back xs ys s (parts_sound t u means v ys p k) (not keep || nat_eq (length ys) size) e
 
       changed : (xs ys : List Value) → EachSound u xs → EachSound u ys → (o : Option Value) → replaced keep r steps (value.List ys) ≡ o → option_map value.List (option_and_then (put_back keep from size xs) (option_and_then elements o)) ≡ Some y
-          → KeepsSound (ty.List u) (replaced keep r steps) → Sound t y
+          → KeepsSound t (replaced keep r steps) → Sound t y
       changed xs ys s p None k e ih = cc
-      changed xs ys s p (Some v) k e ih = got xs s v (ih (value.List ys) v (list_sound u ys p) k) (elements v) refl e
+      changed xs ys s p (Some v) k e ih = got xs s v (ih (value.List ys) v (list_sound t u means ys p) k) (elements v) refl e
 
       cut : (xs : List Value) → EachSound u xs → (b : Bool)
           → option_map value.List (option_and_then (put_back keep from size xs) (option_and_then elements (option_and_then (λ (ys : List Value). replaced keep r steps (value.List ys)) (if b then Some (take size (drop from xs)) else None)))) ≡ Some y
-          → KeepsSound (ty.List u) (replaced keep r steps) → Sound t y
+          → KeepsSound t (replaced keep r steps) → Sound t y
       cut xs s false e ih = cc
       cut xs s true e ih = changed xs (take size (drop from xs)) s (sound_take u size (drop from xs) (sound_drop u from xs s)) (replaced keep r steps (value.List (take size (drop from xs)))) refl e ih
 
-      at : (o : Option (List Value)) → elements x ≡ o → option_map value.List (option_and_then (in_part keep from size (replaced keep r steps)) o) ≡ Some y → KeepsSound (ty.List u) (replaced keep r steps) → Sound t y
+      at : (o : Option (List Value)) → elements x ≡ o → option_map value.List (option_and_then (in_part keep from size (replaced keep r steps)) o) ≡ Some y → KeepsSound t (replaced keep r steps) → Sound t y
       at None k e ih = cc
-      at (Some xs) k e ih = cut xs (parts_sound u x xs old k) (nat_le (from + size) (length xs)) e ih
+      at (Some xs) k e ih = cut xs (parts_sound t u means x xs h k) (nat_le (from + size) (length xs)) e ih
 
   along_keeps : (keep : Bool) (f : Value → Replaces) (path : List PathSeg) (t w x : Ty) (ts : List Ty) → PathType defs path t ts w → ((new : Value) → Sound x new → KeepsSound w (f new))
       → KeepsTypes defs (along keep f path) (t ∷ (ts ++ x ∷ [])) t
@@ -338,10 +331,10 @@ module _ (defs : List SyntaxDef) where
   pub setting_keeps : (path : List PathSeg) (t w : Ty) (ts : List Ty) → PathType defs path t ts w → KeepsTypes defs (setting path) (t ∷ (ts ++ w ∷ [])) t
   setting_keeps path t w ts leads = along_keeps true (λ new old. Some new) path t w w ts leads (λ new s x y h e. let same : new ≡ y = some_one e in subst (Sound w) same s)
 
-  pub extension_keeps : (path : List PathSeg) (t u : Ty) (ts : List Ty) → PathType defs path t ts (ty.List u) → KeepsTypes defs (extension path) (t ∷ (ts ++ ty.List u ∷ [])) t
-  extension_keeps path t u ts leads = along_keeps false (λ new old. concatenation old new) path t (ty.List u) (ty.List u) ts leads (λ new s x y h e. at x new (elements x) (elements new) refl refl h s y e)
+  pub extension_keeps : (path : List PathSeg) (t w u : Ty) (ts : List Ty) → PathType defs path t ts w → Means defs w (ty.List u) → KeepsTypes defs (extension path) (t ∷ (ts ++ w ∷ [])) t
+  extension_keeps path t w u ts leads means = along_keeps false (λ new old. concatenation old new) path t w w ts leads (λ new s x y h e. at x new (elements x) (elements new) refl refl h s y e)
     where
-      at : (a b : Value) (o r : Option (List Value)) → elements a ≡ o → elements b ≡ r → Sound (ty.List u) a → Sound (ty.List u) b → (y : Value) → with_both (λ (xs ys : List Value). Some (value.List (xs ++ ys))) o r ≡ Some y → Sound (ty.List u) y
+      at : (a b : Value) (o r : Option (List Value)) → elements a ≡ o → elements b ≡ r → Sound w a → Sound w b → (y : Value) → with_both (λ (xs ys : List Value). Some (value.List (xs ++ ys))) o r ≡ Some y → Sound w y
       at a b None r j k p q y e = cc
       at a b (Some xs) None j k p q y e = cc
-      at a b (Some xs) (Some ys) j k p q y e = made_list u (xs ++ ys) y (sound_append u xs ys (parts_sound u a xs p j) (parts_sound u b ys q k)) (some_one e)
+      at a b (Some xs) (Some ys) j k p q y e = made_list w u means (xs ++ ys) y (sound_append u xs ys (parts_sound w u means a xs p j) (parts_sound w u means b ys q k)) (some_one e)

@@ -25,7 +25,7 @@ use Rattle.st_semantics.specs.Scopes.{listed_inside}
 use Rattle.st_semantics.specs.Typing as typing
 use Rattle.st_semantics.specs.Typing.{function_named, ExpHasType, ExpsHaveTypes}
 use Rattle.st_semantics.specs.OperationTypes as row
-use Rattle.st_semantics.specs.OperationTypes.{plain_types, IsCompared, AccessType, field_type, Level, StructureType, OperationType}
+use Rattle.st_semantics.specs.OperationTypes.{plain_types, IsCompared, AccessType, field_type, Level, ConstructionType, RecordType, OperationType}
 use Rattle.st_semantics.specs.Laws.{LawOfOneType}
 use Rattle.st_semantics.proofs.Singles.{HasForm-single}
 use Rattle.st_semantics.proofs.Elements.{no_alias_list, no_alias_option}
@@ -129,37 +129,74 @@ module _ (defs : List SyntaxDef) (total : (t : Ty) → (u : Ty) × Means defs t 
   access_one y ts us t u (row.cat v) (row.cat v') e = first_same e
   access_one y ts us t u (row.member v) (row.member v') e = refl_same ty.Bool
 
-  plain_structure : (y : Level) (us : List Ty) (u : Ty) (ts : List Ty) (t : Ty) → StructureType defs y us u → plain_types y ≡ Some (types_to ts t) → ⊥
-  plain_structure y us u ts t (row.case cases told has found) p = cc
-  plain_structure y us u ts t (row.fields ds has named) p = cc
-  plain_structure y us u ts t (row.dot ds has found) p = cc
-  plain_structure y us u ts t (row.set vs w leads) p = cc
-  plain_structure y us u ts t (row.extend vs w leads) p = cc
-  plain_structure y us u ts t (row.join s joins) p = cc
+  plain_construction : (y : Level) (us : List Ty) (u : Ty) (ts : List Ty) (t : Ty) → ConstructionType defs y us u → plain_types y ≡ Some (types_to ts t) → ⊥
+  plain_construction y us u ts t (row.case cases told has found) p = cc
+  plain_construction y us u ts t (row.fields ds has named) p = cc
+  plain_construction y us u ts t (row.tuple vs) p = cc
+  plain_construction y us u ts t row.list p = cc
+  plain_construction y us u ts t row.empty p = cc
+  plain_construction y us u ts t (row.present v) p = cc
+  plain_construction y us u ts t row.absent p = cc
 
-  compared_structure : (y : Level) (us : List Ty) (u s : Ty) → StructureType defs y us u → IsCompared y s → ⊥
-  compared_structure y us u z (row.case cases told has found) c = absurd c
-  compared_structure y us u z (row.fields ds has named) c = absurd c
-  compared_structure y us u z (row.dot ds has found) c = absurd c
-  compared_structure y us u z (row.set vs w leads) c = absurd c
-  compared_structure y us u z (row.extend vs w leads) c = absurd c
-  compared_structure y us u z (row.join s joins) c = absurd c
+  compared_construction : (y : Level) (us : List Ty) (u s : Ty) → ConstructionType defs y us u → IsCompared y s → ⊥
+  compared_construction y us u z (row.case cases told has found) c = absurd c
+  compared_construction y us u z (row.fields ds has named) c = absurd c
+  compared_construction y us u z (row.tuple vs) c = absurd c
+  compared_construction y us u z row.list c = absurd c
+  compared_construction y us u z row.empty c = absurd c
+  compared_construction y us u z (row.present v) c = absurd c
+  compared_construction y us u z row.absent c = absurd c
 
-  access_structure : (y : Level) (us : List Ty) (u : Ty) (ts : List Ty) (t : Ty) → StructureType defs y us u → AccessType y ts t → ⊥
-  access_structure y us u ts t (row.case cases told has found) a = elim a [ ]
-  access_structure y us u ts t (row.fields ds has named) a = elim a [ ]
-  access_structure y us u ts t (row.dot ds has found) a = elim a [ ]
-  access_structure y us u ts t (row.set vs w leads) a = elim a [ ]
-  access_structure y us u ts t (row.extend vs w leads) a = elim a [ ]
-  access_structure y us u ts t (row.join s joins) a = elim a [ ]
+  access_construction : (y : Level) (us : List Ty) (u : Ty) (ts : List Ty) (t : Ty) → ConstructionType defs y us u → AccessType y ts t → ⊥
+  access_construction y us u ts t (row.case cases told has found) a = elim a [ ]
+  access_construction y us u ts t (row.fields ds has named) a = elim a [ ]
+  access_construction y us u ts t (row.tuple vs) a = elim a [ ]
+  access_construction y us u ts t row.list a = elim a [ ]
+  access_construction y us u ts t row.empty a = elim a [ ]
+  access_construction y us u ts t (row.present v) a = elim a [ ]
+  access_construction y us u ts t row.absent a = elim a [ ]
 
-  structure_one : (y : Level) (ts us0 : List Ty) (t u : Ty) → StructureType defs y ts t → StructureType defs y us0 u → SameAll defs ts us0 → Same defs t u
-  structure_one y ts us0 t u (row.case cases told has found) (row.case cases' told' has' found') e = refl_same t
-  structure_one y ts us0 t u (row.fields ds has named) (row.fields ds' has' named') e = refl_same t
-  structure_one y ts us0 t u (row.dot {name = name_of} {t = s} ds has found) (row.dot {t = s'} ds' has' found') e = dot_one s s' name_of ds ds' t u has has' found found' (first_same e)
-  structure_one y ts us0 t u (row.set {t = s} us w leads) (row.set {t = s'} us' w' leads') e = first_same e
-  structure_one y ts us0 t u (row.extend {t = s} us w leads) (row.extend {t = s'} us' w' leads') e = first_same e
-  structure_one y ts us0 t u (row.join s joins) (row.join s' joins') e = first_same e
+  construction_one : (y : Level) (ts us0 : List Ty) (t u : Ty) → ConstructionType defs y ts t → ConstructionType defs y us0 u → SameAll defs ts us0 → Same defs t u
+  construction_one y ts us0 t u (row.case cases told has found) (row.case cases' told' has' found') e = refl_same t
+  construction_one y ts us0 t u (row.fields ds has named) (row.fields ds' has' named') e = refl_same t
+  construction_one y ts us0 t u (row.tuple us) (row.tuple us') e = same.tuple ts us0 (means_tuple ts) (means_tuple us0) e
+  construction_one y ts us0 t u row.list row.list e = refl_same t
+  construction_one y ts us0 t u row.empty row.empty e = refl_same t
+  construction_one y ts us0 t u (row.present s) (row.present s') e = same.option s s' (means_option s) (means_option s') (first_same e)
+  construction_one y ts us0 t u row.absent row.absent e = refl_same t
+
+  plain_record : (y : Level) (us : List Ty) (u : Ty) (ts : List Ty) (t : Ty) → RecordType defs y us u → plain_types y ≡ Some (types_to ts t) → ⊥
+  plain_record y us u ts t (row.dot ds has found) p = cc
+  plain_record y us u ts t (row.set vs w leads) p = cc
+  plain_record y us u ts t (row.extend vs w v leads means) p = cc
+  plain_record y us u ts t (row.join s joins) p = cc
+
+  compared_record : (y : Level) (us : List Ty) (u s : Ty) → RecordType defs y us u → IsCompared y s → ⊥
+  compared_record y us u z (row.dot ds has found) c = absurd c
+  compared_record y us u z (row.set vs w leads) c = absurd c
+  compared_record y us u z (row.extend vs w v leads means) c = absurd c
+  compared_record y us u z (row.join s joins) c = absurd c
+
+  access_record : (y : Level) (us : List Ty) (u : Ty) (ts : List Ty) (t : Ty) → RecordType defs y us u → AccessType y ts t → ⊥
+  access_record y us u ts t (row.dot ds has found) a = elim a [ ]
+  access_record y us u ts t (row.set vs w leads) a = elim a [ ]
+  access_record y us u ts t (row.extend vs w v leads means) a = elim a [ ]
+  access_record y us u ts t (row.join s joins) a = elim a [ ]
+
+  record_one : (y : Level) (ts us0 : List Ty) (t u : Ty) → RecordType defs y ts t → RecordType defs y us0 u → SameAll defs ts us0 → Same defs t u
+  record_one y ts us0 t u (row.dot {name = name_of} {t = s} ds has found) (row.dot {t = s'} ds' has' found') e = dot_one s s' name_of ds ds' t u has has' found found' (first_same e)
+  record_one y ts us0 t u (row.set {t = s} us w leads) (row.set {t = s'} us' w' leads') e = first_same e
+  record_one y ts us0 t u (row.extend {t = s} us w v leads means) (row.extend {t = s'} us' w' v' leads' means') e = first_same e
+  record_one y ts us0 t u (row.join s joins) (row.join s' joins') e = first_same e
+
+  construction_record : (y : Level) (us : List Ty) (u : Ty) (ts : List Ty) (t : Ty) → ConstructionType defs y us u → RecordType defs y ts t → ⊥
+  construction_record y us u ts t (row.case cases told has found) r = elim r [ ]
+  construction_record y us u ts t (row.fields ds has named) r = elim r [ ]
+  construction_record y us u ts t (row.tuple vs) r = elim r [ ]
+  construction_record y us u ts t row.list r = elim r [ ]
+  construction_record y us u ts t row.empty r = elim r [ ]
+  construction_record y us u ts t (row.present v) r = elim r [ ]
+  construction_record y us u ts t row.absent r = elim r [ ]
 
   row_one : (y : Level) (ts us0 : List Ty) (t u : Ty) → OperationType defs y ts t → OperationType defs y us0 u → SameAll defs ts us0 → Same defs t u
   row_one y ts us0 t u (row.plain p) (row.plain q) e = plain_one ts us0 t u (sym p ∙ q)
@@ -171,29 +208,6 @@ module _ (defs : List SyntaxDef) (total : (t : Ty) → (u : Ty) × Means defs t 
   row_one y ts us0 t u (row.access a) (row.plain q) e = absurd (plain_access y ts t us0 u a q)
   row_one y ts us0 t u (row.access a) (row.compared s c) e = turned defs (compared_access y ts t s a c)
   row_one y ts us0 t u (row.access a) (row.access b) e = access_one y ts us0 t u a b e
-  row_one y ts us0 t u (row.plain p) (row.structured s) e = absurd (plain_structure y us0 u ts t s p)
-  row_one y ts us0 t u (row.structured s) (row.plain q) e = absurd (plain_structure y ts t us0 u s q)
-  row_one y ts us0 t u (row.compared z c) (row.structured s) e = absurd (compared_structure y us0 u z s c)
-  row_one y ts us0 t u (row.structured s) (row.compared z c) e = absurd (compared_structure y ts t z s c)
-  row_one y ts us0 t u (row.access a) (row.structured s) e = absurd (access_structure y us0 u ts t s a)
-  row_one y ts us0 t u (row.structured s) (row.access a) e = absurd (access_structure y ts t us0 u s a)
-  row_one y ts us0 t u (row.structured s) (row.structured s') e = structure_one y ts us0 t u s s' e
-  row_one y ts us0 t u (row.structured s) (row.number r) e = elim s [ ]
-  row_one y ts us0 t u (row.number r) (row.structured s) e = elim s [ ]
-  row_one y ts us0 t u (row.structured s) (row.text told) e = elim s [ ]
-  row_one y ts us0 t u (row.text told) (row.structured s) e = elim s [ ]
-  row_one y ts us0 t u (row.structured s) (row.tuple us) e = elim s [ ]
-  row_one y ts us0 t u (row.tuple us) (row.structured s) e = elim s [ ]
-  row_one y ts us0 t u (row.structured s) row.list e = elim s [ ]
-  row_one y ts us0 t u row.list (row.structured s) e = elim s [ ]
-  row_one y ts us0 t u (row.structured s) row.empty e = elim s [ ]
-  row_one y ts us0 t u row.empty (row.structured s) e = elim s [ ]
-  row_one y ts us0 t u (row.structured s) (row.present v) e = elim s [ ]
-  row_one y ts us0 t u (row.present v) (row.structured s) e = elim s [ ]
-  row_one y ts us0 t u (row.structured s) row.absent e = elim s [ ]
-  row_one y ts us0 t u row.absent (row.structured s) e = elim s [ ]
-  row_one y ts us0 t u (row.structured s) (row.up v sub) e = elim s [ ]
-  row_one y ts us0 t u (row.up v sub) (row.structured s) e = elim s [ ]
   row_one y ts us0 t u (row.plain p) (row.number r) e = cc
   row_one y ts us0 t u (row.number r) (row.plain p) e = cc
   row_one y ts us0 t u (row.compared z c) (row.number r) e = absurd c
@@ -208,41 +222,6 @@ module _ (defs : List SyntaxDef) (total : (t : Ty) → (u : Ty) × Means defs t 
   row_one y ts us0 t u (row.access a) (row.text told) e = elim a [ ]
   row_one y ts us0 t u (row.text told) (row.access a) e = elim a [ ]
   row_one y ts us0 t u (row.text told) (row.text told') e = refl_same ty.Text
-  row_one y ts us0 t u (row.plain p) (row.tuple us) e = cc
-  row_one y ts us0 t u (row.tuple us) (row.plain p) e = cc
-  row_one y ts us0 t u (row.compared z c) (row.tuple us) e = absurd c
-  row_one y ts us0 t u (row.tuple us) (row.compared z c) e = absurd c
-  row_one y ts us0 t u (row.access a) (row.tuple us) e = elim a [ ]
-  row_one y ts us0 t u (row.tuple us) (row.access a) e = elim a [ ]
-  row_one y ts us0 t u (row.tuple us) (row.tuple us') e = same.tuple ts us0 (means_tuple ts) (means_tuple us0) e
-  row_one y ts us0 t u (row.plain p) row.list e = cc
-  row_one y ts us0 t u row.list (row.plain p) e = cc
-  row_one y ts us0 t u (row.compared z c) row.list e = absurd c
-  row_one y ts us0 t u row.list (row.compared z c) e = absurd c
-  row_one y ts us0 t u (row.access a) row.list e = elim a [ ]
-  row_one y ts us0 t u row.list (row.access a) e = elim a [ ]
-  row_one y ts us0 t u row.list row.list e = refl_same t
-  row_one y ts us0 t u (row.plain p) row.empty e = cc
-  row_one y ts us0 t u row.empty (row.plain p) e = cc
-  row_one y ts us0 t u (row.compared z c) row.empty e = absurd c
-  row_one y ts us0 t u row.empty (row.compared z c) e = absurd c
-  row_one y ts us0 t u (row.access a) row.empty e = elim a [ ]
-  row_one y ts us0 t u row.empty (row.access a) e = elim a [ ]
-  row_one y ts us0 t u row.empty row.empty e = refl_same t
-  row_one y ts us0 t u (row.plain p) (row.present s) e = cc
-  row_one y ts us0 t u (row.present s) (row.plain p) e = cc
-  row_one y ts us0 t u (row.compared z c) (row.present s) e = absurd c
-  row_one y ts us0 t u (row.present s) (row.compared z c) e = absurd c
-  row_one y ts us0 t u (row.access a) (row.present s) e = elim a [ ]
-  row_one y ts us0 t u (row.present s) (row.access a) e = elim a [ ]
-  row_one y ts us0 t u (row.present s) (row.present s') e = same.option s s' (means_option s) (means_option s') (first_same e)
-  row_one y ts us0 t u (row.plain p) row.absent e = cc
-  row_one y ts us0 t u row.absent (row.plain p) e = cc
-  row_one y ts us0 t u (row.compared z c) row.absent e = absurd c
-  row_one y ts us0 t u row.absent (row.compared z c) e = absurd c
-  row_one y ts us0 t u (row.access a) row.absent e = elim a [ ]
-  row_one y ts us0 t u row.absent (row.access a) e = elim a [ ]
-  row_one y ts us0 t u row.absent row.absent e = refl_same t
   row_one y ts us0 t u (row.plain p) (row.up v sub) e = cc
   row_one y ts us0 t u (row.up v sub) (row.plain p) e = cc
   row_one y ts us0 t u (row.compared z c) (row.up v sub) e = absurd c
@@ -250,6 +229,34 @@ module _ (defs : List SyntaxDef) (total : (t : Ty) → (u : Ty) × Means defs t 
   row_one y ts us0 t u (row.access a) (row.up v sub) e = elim a [ ]
   row_one y ts us0 t u (row.up v sub) (row.access a) e = elim a [ ]
   row_one y ts us0 t u (row.up v sub) (row.up v' sub') e = refl_same t
+  row_one y ts us0 t u (row.plain p) (row.construction c0) e = absurd (plain_construction y us0 u ts t c0 p)
+  row_one y ts us0 t u (row.construction c0) (row.plain q) e = absurd (plain_construction y ts t us0 u c0 q)
+  row_one y ts us0 t u (row.compared z c) (row.construction c0) e = absurd (compared_construction y us0 u z c0 c)
+  row_one y ts us0 t u (row.construction c0) (row.compared z c) e = absurd (compared_construction y ts t z c0 c)
+  row_one y ts us0 t u (row.access a) (row.construction c0) e = absurd (access_construction y us0 u ts t c0 a)
+  row_one y ts us0 t u (row.construction c0) (row.access a) e = absurd (access_construction y ts t us0 u c0 a)
+  row_one y ts us0 t u (row.construction c0) (row.construction c0') e = construction_one y ts us0 t u c0 c0' e
+  row_one y ts us0 t u (row.construction c0) (row.number r) e = elim c0 [ ]
+  row_one y ts us0 t u (row.number r) (row.construction c0) e = elim c0 [ ]
+  row_one y ts us0 t u (row.construction c0) (row.text told) e = elim c0 [ ]
+  row_one y ts us0 t u (row.text told) (row.construction c0) e = elim c0 [ ]
+  row_one y ts us0 t u (row.construction c0) (row.up v sub) e = elim c0 [ ]
+  row_one y ts us0 t u (row.up v sub) (row.construction c0) e = elim c0 [ ]
+  row_one y ts us0 t u (row.plain p) (row.structure r0) e = absurd (plain_record y us0 u ts t r0 p)
+  row_one y ts us0 t u (row.structure r0) (row.plain q) e = absurd (plain_record y ts t us0 u r0 q)
+  row_one y ts us0 t u (row.compared z c) (row.structure r0) e = absurd (compared_record y us0 u z r0 c)
+  row_one y ts us0 t u (row.structure r0) (row.compared z c) e = absurd (compared_record y ts t z r0 c)
+  row_one y ts us0 t u (row.access a) (row.structure r0) e = absurd (access_record y us0 u ts t r0 a)
+  row_one y ts us0 t u (row.structure r0) (row.access a) e = absurd (access_record y ts t us0 u r0 a)
+  row_one y ts us0 t u (row.structure r0) (row.structure r0') e = record_one y ts us0 t u r0 r0' e
+  row_one y ts us0 t u (row.structure r0) (row.number r) e = elim r0 [ ]
+  row_one y ts us0 t u (row.number r) (row.structure r0) e = elim r0 [ ]
+  row_one y ts us0 t u (row.structure r0) (row.text told) e = elim r0 [ ]
+  row_one y ts us0 t u (row.text told) (row.structure r0) e = elim r0 [ ]
+  row_one y ts us0 t u (row.structure r0) (row.up v sub) e = elim r0 [ ]
+  row_one y ts us0 t u (row.up v sub) (row.structure r0) e = elim r0 [ ]
+  row_one y ts us0 t u (row.construction c0) (row.structure r0) e = absurd (construction_record y ts t us0 u c0 r0)
+  row_one y ts us0 t u (row.structure r0) (row.construction c0) e = absurd (construction_record y us0 u ts t c0 r0)
 
 module _ (il : Il) (total : (t : Ty) → (u : Ty) × Means (syntaxes il) t u) where
   abbrev Equal : Ty → Ty → Type 0

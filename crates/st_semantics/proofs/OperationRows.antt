@@ -19,7 +19,7 @@ use Rattle.st_semantics.specs.Forms.{HasForm, Strict, form_at, by_itself, struct
 use Rattle.st_semantics.specs.Operands.{item_exp}
 use Rattle.st_semantics.specs.OperationTypes.{KeepsTypes}
 use Rattle.st_semantics.specs.OperationTypes as row
-use Rattle.st_semantics.specs.OperationTypes.{number_type, both, plain_types, IsCompared, part_type, part_type_at, field_type, AccessType, Level, StructureType, OperationType}
+use Rattle.st_semantics.specs.OperationTypes.{number_type, both, plain_types, IsCompared, part_type, part_type_at, field_type, AccessType, Level, ConstructionType, RecordType, OperationType}
 use Rattle.st_semantics.specs.Laws.{LawOfOperations}
 use Rattle.st_semantics.proofs.Singles.{HasForm-single}
 use Rattle.st_semantics.proofs.Lengths.{some_one}
@@ -104,26 +104,29 @@ module _ (defs : List SyntaxDef) where
         let made_by : constant (value.Opt None) ≡ f = cc in
         subst (λ z. KeepsTypes defs z [] t) made_by (no_option_keeps defs t u (subst (λ z. Means defs z (ty.Opt u)) same m))
 
-    by_structure : (y : Level) (ts : List Ty) (t : Ty) → out-IlExp e ≡ y → StructureType defs y ts t → KeepsTypes defs f ts t
-    by_structure y ts t is (row.case {type = type} {tag = tag} {es = gs} cases told has found) = moved e es f ts t h gs (λ vs. limited (value.Case tag vs)) y is refl (case_keeps defs (ty.Name type) tag ts cases told has found)
-    by_structure y ts t is (row.fields {type = type} {es = gs} ds has named) = by_fields type gs ds is has named h
-    by_structure y ts t is (row.dot {e = a} {name = name} {t = s} {u = u} ds has found) = moved e es f ts t h (a ∷ []) (unary (operator.field name)) y is refl (dot_keeps defs name s u ds has found)
-    by_structure y ts t is (row.set {e = a} {g = g} {path = path} {t = s} us w leads) = moved e es f ts t h (a ∷ flattened (map segment_exps path) ++ g ∷ []) (setting path) y is refl (setting_keeps defs path s w us leads)
-    by_structure y ts t is (row.extend {e = a} {g = g} {path = path} {t = s} us u leads) = moved e es f ts t h (a ∷ flattened (map segment_exps path) ++ g ∷ []) (extension path) y is refl (extension_keeps defs path s u us leads)
-    by_structure y ts t is (row.join {e = a} {g = g} u joins) = moved e es f ts t h (a ∷ g ∷ []) (binary operator.join) y is refl (join_keeps defs u)
+    by_construction : (y : Level) (ts : List Ty) (t : Ty) → out-IlExp e ≡ y → ConstructionType defs y ts t → KeepsTypes defs f ts t
+    by_construction y ts t is (row.case {type = type} {tag = tag} {es = gs} cases told has found) = moved e es f ts t h gs (λ vs. limited (value.Case tag vs)) y is refl (case_keeps defs (ty.Name type) tag ts cases told has found)
+    by_construction y ts t is (row.fields {type = type} {es = gs} ds has named) = by_fields type gs ds is has named h
+    by_construction y ts t is (row.tuple {es = gs} us) = moved e es f ts t h gs (λ vs. limited (value.Tuple vs)) y is refl (tuple_keeps defs ts)
+    by_construction y ts t is (row.list {t = u} {items = items}) = moved e es f ts t h (map item_exp items) (listing items) y is refl (listing_keeps defs u items)
+    by_construction y ts t is (row.empty {t = u}) = moved e es f ts t h [] (constant (value.Opt None)) y is refl (empty_keeps defs u)
+    by_construction y ts t is (row.present {e = a} u) = moved e es f ts t h (a ∷ []) (unary (λ v. Some (value.Opt (Some v)))) y is refl (present_keeps defs u)
+    by_construction y ts t is (row.absent {t = u}) = by_absent u is h
+
+    by_record : (y : Level) (ts : List Ty) (t : Ty) → out-IlExp e ≡ y → RecordType defs y ts t → KeepsTypes defs f ts t
+    by_record y ts t is (row.dot {e = a} {name = name} {t = s} {u = u} ds has found) = moved e es f ts t h (a ∷ []) (unary (operator.field name)) y is refl (dot_keeps defs name s u ds has found)
+    by_record y ts t is (row.set {e = a} {g = g} {path = path} {t = s} us w leads) = moved e es f ts t h (a ∷ flattened (map segment_exps path) ++ g ∷ []) (setting path) y is refl (setting_keeps defs path s w us leads)
+    by_record y ts t is (row.extend {e = a} {g = g} {path = path} {t = s} us w u leads means) = moved e es f ts t h (a ∷ flattened (map segment_exps path) ++ g ∷ []) (extension path) y is refl (extension_keeps defs path s w u us leads means)
+    by_record y ts t is (row.join {e = a} {g = g} u joins) = moved e es f ts t h (a ∷ g ∷ []) (binary operator.join) y is refl (join_keeps defs u)
 
     keeps : (y : Level) (ts : List Ty) (t : Ty) → out-IlExp e ≡ y → OperationType defs y ts t → KeepsTypes defs f ts t
     keeps y ts t is (row.plain p) = by_plain e es f ts t h y is p
     keeps y ts t is (row.compared u c) = by_compared u y is c
     keeps y ts t is (row.access a) = by_access y ts t is a
-    keeps y ts t is (row.structured s) = by_structure y ts t is s
+    keeps y ts t is (row.construction c) = by_construction y ts t is c
+    keeps y ts t is (row.structure r) = by_record y ts t is r
     keeps y ts t is (row.number {n = n} r) = moved e es f ts t h [] (constant (value.Num (pos n))) y is refl (constant_keeps defs (value.Num (pos n)) ty.Nat (natural_typed defs n r))
     keeps y ts t is (row.text {bytes = bytes} told) = moved e es f ts t h [] (constant (value.Text bytes)) y is refl (text_keeps defs bytes told)
-    keeps y ts t is (row.tuple {es = gs} us) = moved e es f ts t h gs (λ vs. limited (value.Tuple vs)) y is refl (tuple_keeps defs ts)
-    keeps y ts t is (row.list {t = u} {items = items}) = moved e es f ts t h (map item_exp items) (listing items) y is refl (listing_keeps defs u items)
-    keeps y ts t is (row.empty {t = u}) = moved e es f ts t h [] (constant (value.Opt None)) y is refl (empty_keeps defs u)
-    keeps y ts t is (row.present {e = a} u) = moved e es f ts t h (a ∷ []) (unary (λ v. Some (value.Opt (Some v)))) y is refl (present_keeps defs u)
-    keeps y ts t is (row.absent {t = u}) = by_absent u is h
     keeps y ts t is (row.up {e = a} {t = s} u sub) = moved e es f ts t h (a ∷ []) unchanged y is refl (up_keeps defs u s sub)
 
 pub law_of_operations : LawOfOperations

@@ -13,6 +13,7 @@ use Rattle.st_il.specs.declared.ty.NumTy.TheVariants as numbers
 use Rattle.st_il.specs.declared.ty.Ty.{Ty}
 use Rattle.st_il.specs.declared.ty.Ty.TheVariants as ty
 use Rattle.st_type_table.specs.declared.entry.CaseDef.{CaseDef}
+use Rattle.st_type_table.specs.Meaning.{Means}
 use Rattle.st_type_table.specs.Cases.{HasCases, HasFields, operands_of}
 use Rattle.st_type_table.specs.Joins.{Joins}
 use Rattle.st_types.specs.Sub.{Sub}
@@ -22,6 +23,7 @@ use Rattle.st_semantics.specs.Names.{Name}
 use Rattle.st_semantics.specs.Environments.{IsTypedValue, AreTypedValues}
 use Rattle.st_semantics.specs.Parts.{Operation}
 
+-- the type of the numbers of arithmetic at this type
 abbrev pub number_type : NumTy → Ty
 number_type numbers.Nat = ty.Nat
 number_type numbers.Int = ty.Int
@@ -63,6 +65,7 @@ abbrev pub part_type_at : {E K L S : Type 0} → Ty → ListItem-F E K L S → T
 part_type_at t (ListItem-F.One e) = t
 part_type_at t (ListItem-F.All e) = ty.List t
 
+-- the type of a part of a list of elements of this type
 abbrev pub part_type : Ty → ListItem → Ty
 part_type t item = part_type_at t (out-ListItem item)
 
@@ -82,45 +85,56 @@ pub data AccessType {E K L S : Type 0} : IlExp-F E K L S → List Ty → Ty → 
   member : {e g : E} (t : Ty)
       → AccessType (IlExp-F.Member e g) (t ∷ ty.List t ∷ []) ty.Bool
 
--- A path leads from values of a type, with positions of these types, to values of another one.
+-- A path leads from values of a type, with positions of these types, to values of another one. An
+-- alias of a list type is one of lists, and a part of a list has the type of the list.
 pub data PathType (defs : List SyntaxDef) : List PathSeg → Ty → List Ty → Ty → Type 0 where
   here : {t : Ty} → PathType defs [] t [] t
   field : {s : PathSeg} {ss : List PathSeg} {t w : Ty} {ts : List Ty} (name : Name) (u : Ty)
       (declared : List (Name × Ty)) → out-PathSeg s ≡ PathSeg-F.Field name
       → HasFields defs t declared → field_type name declared ≡ Some u
       → PathType defs ss u ts w → PathType defs (s ∷ ss) t ts w
-  element : {s : PathSeg} {ss : List PathSeg} {w : Ty} {ts : List Ty} (u : Ty) (e : IlExp)
-      → out-PathSeg s ≡ PathSeg-F.PathSeg::At e → PathType defs ss u ts w
-      → PathType defs (s ∷ ss) (ty.List u) (ty.Nat ∷ ts) w
-  part : {s : PathSeg} {ss : List PathSeg} {w : Ty} {ts : List Ty} (u : Ty) (e g : IlExp)
-      → out-PathSeg s ≡ PathSeg-F.PathSeg::Slice e g → PathType defs ss (ty.List u) ts w
-      → PathType defs (s ∷ ss) (ty.List u) (ty.Nat ∷ ty.Nat ∷ ts) w
+  element : {s : PathSeg} {ss : List PathSeg} {t w : Ty} {ts : List Ty} (u : Ty) (e : IlExp)
+      → out-PathSeg s ≡ PathSeg-F.PathSeg::At e → Means defs t (ty.List u)
+      → PathType defs ss u ts w → PathType defs (s ∷ ss) t (ty.Nat ∷ ts) w
+  part : {s : PathSeg} {ss : List PathSeg} {t w : Ty} {ts : List Ty} (u : Ty) (e g : IlExp)
+      → out-PathSeg s ≡ PathSeg-F.PathSeg::Slice e g → Means defs t (ty.List u)
+      → PathType defs ss t ts w → PathType defs (s ∷ ss) t (ty.Nat ∷ ty.Nat ∷ ts) w
 
 -- the level of an expression
 abbrev pub Level : Type 0
 Level = IlExp-F IlExp Iteration ListItem PathSeg
 
--- What is made, read, changed and joined of cases and records. Tags and the names of fields are
--- texts of the language.
-pub data StructureType (defs : List SyntaxDef) : Level → List Ty → Ty → Type 0 where
+-- Values made of parts: cases, records, tuples, lists and options. The tags of cases and the names
+-- of fields are texts of the language.
+pub data ConstructionType (defs : List SyntaxDef) : Level → List Ty → Ty → Type 0 where
   case : {type tag : Name} {es : List IlExp} {ts : List Ty} (cases : List CaseDef) → IsText tag
       → HasCases defs (ty.Name type) cases → operands_of cases tag ≡ Some ts
-      → StructureType defs (IlExp-F.Case type tag es) ts (ty.Name type)
+      → ConstructionType defs (IlExp-F.Case type tag es) ts (ty.Name type)
   fields : {type : Name} {es : List IlExp} (declared : List (Name × Ty))
       → HasFields defs (ty.Name type) declared → All (λ (d : Name × Ty). IsText d.0) declared
-      → StructureType defs (IlExp-F.Fields type es) (map (λ (d : Name × Ty). d.1) declared)
+      → ConstructionType defs (IlExp-F.Fields type es) (map (λ (d : Name × Ty). d.1) declared)
       (ty.Name type)
+  tuple : {es : List IlExp} (ts : List Ty)
+      → ConstructionType defs (IlExp-F.Tuple es) ts (ty.Tuple ts)
+  list : {t : Ty} {items : List ListItem}
+      → ConstructionType defs (IlExp-F.List t items) (map (part_type t) items) (ty.List t)
+  empty : {t : Ty} → ConstructionType defs (IlExp-F.Empty t) [] (ty.Opt t)
+  present : {e : IlExp} (t : Ty) → ConstructionType defs (IlExp-F.Present e) (t ∷ []) (ty.Opt t)
+  absent : {t : Ty} → ConstructionType defs (IlExp-F.Absent t) [] t
+
+-- Records: a field is read, the part at a path is replaced, a list there is extended, and two
+-- records are joined.
+pub data RecordType (defs : List SyntaxDef) : Level → List Ty → Ty → Type 0 where
   dot : {e : IlExp} {name : Name} {t u : Ty} (declared : List (Name × Ty))
       → HasFields defs t declared → field_type name declared ≡ Some u
-      → StructureType defs (IlExp-F.Dot e name) (t ∷ []) u
+      → RecordType defs (IlExp-F.Dot e name) (t ∷ []) u
   set : {e g : IlExp} {path : List PathSeg} {t : Ty} (ts : List Ty) (w : Ty)
-      → PathType defs path t ts w
-      → StructureType defs (IlExp-F.Set e path g) (t ∷ (ts ++ w ∷ [])) t
-  extend : {e g : IlExp} {path : List PathSeg} {t : Ty} (ts : List Ty) (u : Ty)
-      → PathType defs path t ts (ty.List u)
-      → StructureType defs (IlExp-F.Extend e path g) (t ∷ (ts ++ ty.List u ∷ [])) t
+      → PathType defs path t ts w → RecordType defs (IlExp-F.Set e path g) (t ∷ (ts ++ w ∷ [])) t
+  extend : {e g : IlExp} {path : List PathSeg} {t : Ty} (ts : List Ty) (w u : Ty)
+      → PathType defs path t ts w → Means defs w (ty.List u)
+      → RecordType defs (IlExp-F.Extend e path g) (t ∷ (ts ++ w ∷ [])) t
   join : {e g : IlExp} (t : Ty) → Joins defs t
-      → StructureType defs (IlExp-F.Join e g) (t ∷ t ∷ []) t
+      → RecordType defs (IlExp-F.Join e g) (t ∷ t ∷ []) t
 
 -- From operands of these types an expression of this level has values of that type. A literal is a
 -- number or a text of the language.
@@ -128,18 +142,13 @@ pub data OperationType (defs : List SyntaxDef) : Level → List Ty → Ty → Ty
   plain : {y : Level} {ts : List Ty} {t : Ty} → plain_types y ≡ Some (ts, t)
       → OperationType defs y ts t
   compared : {y : Level} (t : Ty) → IsCompared y t → OperationType defs y (t ∷ t ∷ []) ty.Bool
-  access : {y : Level} {ts : List Ty} {t : Ty} → AccessType y ts t → OperationType defs y ts t
-  structured : {y : Level} {ts : List Ty} {t : Ty} → StructureType defs y ts t
-      → OperationType defs y ts t
   number : {n : ℕ} → IsNumber (pos n) → OperationType defs (IlExp-F.Number n) [] ty.Nat
   text : {bytes : Name} → IsText bytes → OperationType defs (IlExp-F.Text bytes) [] ty.Text
-  tuple : {es : List IlExp} (ts : List Ty)
-      → OperationType defs (IlExp-F.Tuple es) ts (ty.Tuple ts)
-  list : {t : Ty} {items : List ListItem}
-      → OperationType defs (IlExp-F.List t items) (map (part_type t) items) (ty.List t)
-  empty : {t : Ty} → OperationType defs (IlExp-F.Empty t) [] (ty.Opt t)
-  present : {e : IlExp} (t : Ty) → OperationType defs (IlExp-F.Present e) (t ∷ []) (ty.Opt t)
-  absent : {t : Ty} → OperationType defs (IlExp-F.Absent t) [] t
+  access : {y : Level} {ts : List Ty} {t : Ty} → AccessType y ts t → OperationType defs y ts t
+  construction : {y : Level} {ts : List Ty} {t : Ty} → ConstructionType defs y ts t
+      → OperationType defs y ts t
+  structure : {y : Level} {ts : List Ty} {t : Ty} → RecordType defs y ts t
+      → OperationType defs y ts t
   up : {e : IlExp} {t : Ty} (u : Ty) → Sub defs u t
       → OperationType defs (IlExp-F.Up t e) (u ∷ []) t
 

@@ -31,8 +31,8 @@ mutual
   -- every other expression that of its operation; and each has the types that are equal to one it
   -- has.
   pub data ExpHasType (il : Il) : List Listed → IlExp → Ty → Type 0 where
-    strict : {ls : List Listed} {e : IlExp} {t : Ty} (es : List IlExp) (f : Operation)
-        (ts : List Ty) → HasForm (syntaxes il) e (Strict es f) → ExpsHaveTypes il ls es ts
+    strict : {ls : List Listed} {e : IlExp} {t : Ty} (es : List IlExp) (f : Operation) (ts : List Ty)
+        → HasForm (syntaxes il) e (Strict es f) → ExpsHaveTypes il ls es ts
         → OperationType (syntaxes il) (out-IlExp e) ts t → ExpHasType il ls e t
     same : {ls : List Listed} {e : IlExp} {t : Ty} (u : Ty) → ExpHasType il ls e u
         → Same (syntaxes il) u t → ExpHasType il ls e t

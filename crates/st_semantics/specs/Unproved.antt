@@ -1,5 +1,5 @@
--- Statements about these definitions that are not proved yet, and that no contract cites. `Typed` is
--- the typing of an internal language.
+-- Statements about these definitions that are not proved yet, and that no contract cites. `Typed`
+-- is the typing of an internal language.
 use Rattle.std.specs.Prelude.{ℕ, ◌≤◌, false, None}
 use Rattle.st_il.specs.declared.definition.Il.{Il}
 use Rattle.st_semantics.specs.Names.{Name}
