@@ -124,11 +124,10 @@ fn tell_clause(
 }
 
 /// A clause, and the dimensions of the variables of its arguments and premises.
-const CLAUSES: [(&str, &str); 7] = [
+const CLAUSES: [(&str, &str); 6] = [
     ("def $f(z?, (x y*)+) = eps", "x* y** z? "),
     ("def $f((x i)^(i < n), 1^m) = eps", "m n x* "),
     ("def $f() = eps -- (if x)*", "x* "),
-    ("def $f(x, y) = eps -- (if x)*", "20 I2"),
     ("def $f(x*, x) = eps", "8 I2"),
     ("def $f(x*, x?) = eps", "12 I1"),
     ("def $f(x x?, i^(i < i)) = eps", "21 I1"),

@@ -44,6 +44,11 @@ take-suc [] i x h e = absurd (omega arith)
 take-suc (y ∷ ys) zero x h e = ap (λ z. z ∷ []) (sym e)
 take-suc (y ∷ ys) (suc i) x h e = ap (λ zs. y ∷ zs) (take-suc ys i x (omega arith) e)
 
+pub read-get : {A : Type 0} (xs : List A) (i : ℕ) (x : A) → slice_get xs i ≡ Some x → x ≡ get_or xs i x
+read-get [] i x e = cc
+read-get (y ∷ ys) zero x e = cc
+read-get (y ∷ ys) (suc i) x e = read-get ys i x e
+
 pub take-step : {A : Type 0} (xs : List A) (i : ℕ) (x : A) → i < length xs → x ≡ get_or xs i x → take (i + 1) xs ≡ take i xs ++ x ∷ []
 take-step xs i x h e = rw add-one (take-suc xs i x h e)
 
@@ -60,14 +65,6 @@ pub within : {A : Type 0} (xs : List A) (i : ℕ) (x : A) → slice_get xs i ≡
 within [] i x g = cc
 within (y ∷ xs) zero x g = omega arith
 within (y ∷ xs) (suc i) x g = let h = within xs i x g in omega (arith, h)
-
--- a case whose key is that of one before it
-pub clash-in : (before xs : List CaseDef) (i : ℕ) (c : CaseDef) → i < length xs → c ≡ get_or xs i c → (KeysDiffer ((before ++ take i xs) ++ c ∷ []) → ⊥) → KeysDiffer (before ++ xs) → ⊥
-clash-in before xs i c h e clash k =
-    let d = drop-step xs i c h e in
-    let whole : before ++ xs ≡ ((before ++ take i xs) ++ c ∷ []) ++ drop (i + 1) xs =
-    ap (λ z. before ++ z) (sym (take-split xs i)) ∙ ap (λ z. before ++ (take i xs ++ z)) d ∙ sym (append_assoc before (take i xs) (c ∷ drop (i + 1) xs)) ∙ sym (append_assoc (before ++ take i xs) (c ∷ []) (drop (i + 1) xs)) in
-    clash (KeysDiffer-front ((before ++ take i xs) ++ c ∷ []) (drop (i + 1) xs) (subst KeysDiffer whole k))
 
 -- ---- every list of alternatives whose ways end brings some cases
 
@@ -168,6 +165,10 @@ module _ (defs : List SyntaxDef) where
       by true w flat false (inr clash) = (f.cases, (Brings.included name t e m flat.0, clash))
       by false w flat true h = let c : true ≡ false = sym h.0 ∙ w in cc
       by false w flat false h = (flat.0, (Brings.included name t e m flat.1.0, λ k. flat.1.1 (KeysDiffer-back before flat.0 k)))
+
+  -- the keys of all cases that are kept differ
+  pub whole-differ : (alternatives : List Alternative) (f : Flat) → IsFlat defs alternatives f → f.whole ≡ true → KeysDiffer f.cases
+  whole-differ alternatives f flat e = (subst (λ w. MatchBool w (Flatten defs alternatives f.cases × KeysDiffer f.cases) (IsBroken defs alternatives)) e flat).1
 
   pub adds-nothing : (before : List CaseDef) (a : Alternative) (name : List ℕ) (t : Ty) → a ≡ alternative.Incl name → Means defs (ty.Name name) t
       → alternatives_of defs t ≡ None → KeysDiffer before → AddsAlternative defs before before a true

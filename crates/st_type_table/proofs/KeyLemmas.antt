@@ -7,7 +7,7 @@ use Rattle.st_il.specs.Template.{HasTag, HasOneTemplate}
 use Rattle.st_il.specs.Key.{PlainKey, key}
 use Rattle.st_type_table.specs.declared.entry.CaseDef.{CaseDef}
 use Rattle.st_type_table.specs.Keys.{HasKey, SameKey, KeysDiffer, plain_key}
-use Rattle.st_type_table.specs.inner.Flat.{Clashes}
+use Rattle.st_type_table.specs.inner.CaseKeys.{Clashes}
 
 pub HasKey-single : (tag : List ℕ) (k m : PlainKey) → HasOneTemplate tag → HasKey tag k → HasKey tag m → k ≡ m
 HasKey-single tag k m one (HasKey.template t h p) (HasKey.template u g q) = p ∙ ap key (one t u h g) ∙ sym q
@@ -19,13 +19,7 @@ pub found-key : (tag : List ℕ) (found : Option Template) → IfSome found (λ 
 found-key tag None some none = HasKey.none none refl
 found-key tag (Some t) some none = HasKey.template t some refl
 
-pub same-exact : (a b : List ℕ) (k m : PlainKey) (r : Bool) → HasOneTemplate a → HasOneTemplate b → HasKey a k → HasKey b m → (IsTrue r ↔ (k ≡ m)) → IsTrue r ↔ SameKey a b
-same-exact a b k m r p q h g e = (
-  λ y. record { key = k; one = h; other = subst (HasKey b) (sym (e.0 y)) g },
-  λ s. e.1 (HasKey-single a k s.key p h s.one ∙ HasKey-single b s.key m q s.other g),
-)
-
-KeysDiffer-all : (c : CaseDef) (cs ds : List CaseDef) → AllByRecursion (λ d. SameKey c.tag d.tag → ⊥) cs → AllByRecursion (λ d. SameKey c.tag d.tag → ⊥) ds
+pub KeysDiffer-all : (c : CaseDef) (cs ds : List CaseDef) → AllByRecursion (λ d. SameKey c.tag d.tag → ⊥) cs → AllByRecursion (λ d. SameKey c.tag d.tag → ⊥) ds
     → AllByRecursion (λ d. SameKey c.tag d.tag → ⊥) (cs ++ ds)
 KeysDiffer-all c [] ds h g = g
 KeysDiffer-all c (x ∷ cs) ds h g = (h.0, KeysDiffer-all c cs ds h.1 g)

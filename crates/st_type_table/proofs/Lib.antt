@@ -8,6 +8,7 @@ pub mod RankingLemmas
 pub mod PlaceLemmas
 pub mod JoinLemmas
 pub mod KeyLemmas
+pub mod CaseKeyLemmas
 pub mod FlatLemmas
 pub mod RankLemmas
 pub mod CheckLemmas

@@ -25,11 +25,6 @@ use Rattle.st_type_table.proofs.CheckLemmas.{front_hold, back_hold}
 
 -- ---- runs of a list
 
-pub read-get : {A : Type 0} (xs : List A) (i : ℕ) (x : A) → slice_get xs i ≡ Some x → x ≡ get_or xs i x
-read-get [] i x e = cc
-read-get (y ∷ ys) zero x e = cc
-read-get (y ∷ ys) (suc i) x e = read-get ys i x e
-
 pub take-take : {A : Type 0} (xs : List A) (i j : ℕ) → i ≤ j → take i (take j xs) ≡ take i xs
 take-take xs zero j h = refl
 take-take xs (suc i) zero h = absurd (omega arith)

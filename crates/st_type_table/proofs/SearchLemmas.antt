@@ -9,8 +9,7 @@ use Rattle.st_type_table.specs.inner.Search.{Arrows, AddsArrow, AddsArrows, IsRe
 use Rattle.st_type_table.proofs.GraphLemmas.{same_place}
 use Rattle.st_type_table.proofs.BackLemmas.{unmarked-set}
 use Rattle.st_type_table.proofs.RankLemmas.{set-other, set-same}
-use Rattle.st_type_table.proofs.FlatLemmas.{take-step}
-use Rattle.st_type_table.proofs.ReachLemmas.{read-get}
+use Rattle.st_type_table.proofs.FlatLemmas.{take-step, read-get}
 use Rattle.st_type_table.proofs.RankingLemmas.{mark-here, mark-there, mark-more, get-push, get-front, get-last, get-pop, pop-get}
 
 -- ---- rows

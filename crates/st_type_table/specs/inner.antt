@@ -2,6 +2,7 @@
 pub mod Graph
 pub mod Ranking
 pub mod Search
+pub mod CaseKeys
 pub mod Flat
 pub mod Kept
 pub mod JoinGraph

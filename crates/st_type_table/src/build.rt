@@ -8,7 +8,7 @@ ghost use Rattle.st_type_table.specs.inner.Kept.{IsKept, defs_of, kept_of};
 ghost use Rattle.std.specs.Cmp.Lexicographic.{pointwise};
 ghost use Rattle.indexmap.specs.IndexMap.{insert_entry};
 
-use crate::entry::{CaseDef, Entries, Entry};
+use crate::entry::{Entries, Entry};
 use crate::fault::TypeFault;
 use crate::flat::Flat;
 use crate::joining::join_graph;
@@ -152,26 +152,13 @@ fn entry_for(
     }) }
 {
     let body = copy_body(alloc, &def.body)?;
-    let cases = copy_cases(alloc, flat.cases.as_slice())?;
+    let cases = flat.cases.copy(alloc)?;
     Ok(Entry {
         body,
         rank,
         cases,
         join_rank,
     })
-}
-
-/// The same cases again.
-fn copy_cases(alloc: Global, cases: &[CaseDef]) -> Result<Row<CaseDef>, NoMemory>
-    ensures { IfOk result (λ copies. copies ≡ cases.now) }
-{
-    let mut copies = Row::new(alloc);
-    for case in cases {
-        let tag = case.tag.copy(alloc)?;
-        let operands = copy_tys(alloc, case.operands.as_slice())?;
-        copies.push(CaseDef { tag, operands })?;
-    }
-    Ok(copies)
 }
 
 /// The same alternatives again.

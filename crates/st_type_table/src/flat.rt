@@ -1,61 +1,25 @@
 //! The cases of a list of alternatives, as long as their keys differ.
 
-ghost use Rattle.std.specs.Prelude.{◌≡◌, ◌<◌, ◌↔◌, ◌++◌, ◌∷◌, [], length, slice_get, suc, IsTrue, IfOk, OnOk};
+ghost use Rattle.std.specs.Prelude.{◌≡◌, ◌<◌, ◌↔◌, ◌++◌, ◌∷◌, [], length, slice_get, suc, true, IsTrue, IfOk, OnOk};
 ghost use Rattle.std.specs.Bool.{MatchBool};
 ghost use Rattle.std.specs.Option.{option_copied};
-ghost use Rattle.st_il.specs.Key.{plain};
-ghost use Rattle.st_type_table.specs.Keys.{SameKey, KeysDiffer};
-ghost use Rattle.st_type_table.specs.Keys.{plain_key};
+ghost use Rattle.st_type_table.specs.Keys.{KeysDiffer};
 ghost use Rattle.st_type_table.specs.Leads.{Ends};
-ghost use Rattle.st_type_table.specs.inner.Flat.{Clashes, Adds, AddsAlternative, AddsIncluded, IsReady, AreFlats, AllReached, alternatives_in, IsFlatAt, IsFlatOf, IsEndingPart, IsEndless, IsKnownPart, AllKnownParts, TriesAlternative, IsFlattened};
+ghost use Rattle.st_type_table.specs.inner.Flat.{Adds, AddsAlternative, AddsIncluded, IsReady, AreFlats, AllReached, alternatives_in, IsFlatAt, IsFlatOf, IsEndingPart, IsEndless, IsKnownPart, AllKnownParts, TriesAlternative, IsFlattened};
 ghost use Rattle.st_type_table.specs.inner.Graph.{AreRanks, graph_of, EndsIn};
 
-use crate::entry::CaseDef;
+use crate::case_list::CaseList;
 use crate::graph::is_ranked;
 use crate::place::place_of;
 use crate::resolve::meaning_in;
-use st_il::{
-    Alternative, Key, SyntaxBody, SyntaxDef, Template, Ty, copy_tys, key_of, same_key, template_of,
-};
+use st_il::{Alternative, SyntaxBody, SyntaxDef, Ty};
 use st_num::{Name, NoMemory, Row};
 use std::alloc::Global;
-
-/// The key of a template, where there is one.
-fn key_or_free<'a>(template: &'a Option<Template>) -> Key<'a>
-    ensures { plain result ≡ plain_key template.now }
-{
-    match template {
-        Some(template) => key_of(template),
-        None => Key::Free,
-    }
-}
-
-/// Whether both tags have one key, or both have none.
-fn have_same_key(alloc: Global, a: &Name, b: &Name) -> Result<bool, NoMemory>
-    ensures { IfOk result (λ yes. IsTrue yes ↔ SameKey a.now b.now) }
-{
-    let one = template_of(alloc, a)?;
-    let other = template_of(alloc, b)?;
-    let same = same_key(&key_or_free(&one), &key_or_free(&other));
-    Ok(same)
-}
-
-/// Whether one of the cases has the key of this tag.
-fn clashes(alloc: Global, cases: &[CaseDef], tag: &Name) -> Result<bool, NoMemory>
-    ensures { IfOk result (λ yes. IsTrue yes ↔ Clashes cases.now tag.now) }
-{
-    for case in cases {
-        if have_same_key(alloc, &case.tag, tag)? {
-            return Ok(true);
-        }
-    }
-    Ok(false)
-}
 
 /// Adds a case where its key differs from those of the others, and says whether it does.
 fn add_case(
     alloc: Global,
-    cases: &mut Row<CaseDef>,
+    cases: &mut CaseList,
     tag: &Name,
     operands: &[Ty],
 ) -> Result<bool, NoMemory>
@@ -64,34 +28,31 @@ fn add_case(
         (λ added. Adds cases.old cases.new
         (record { tag = tag.now; operands = operands.now } ∷ []) added) }
 {
-    if clashes(alloc, cases.as_slice(), tag)? {
-        return Ok(false);
-    }
-    let tag = tag.copy(alloc)?;
-    let operands = copy_tys(alloc, operands)?;
-    cases.push(CaseDef { tag, operands })?;
-    Ok(true)
+    let added = cases.add(alloc, tag, operands)?;
+    Ok(added)
 }
 
 /// The cases of a syntax, in order, where no two have one key.
 #[derive(Drop)]
 pub(crate) struct Flat {
-    pub(crate) cases: Row<CaseDef>,
+    pub(crate) cases: CaseList,
     pub(crate) whole: bool,
     /// How many of the alternatives have cases with different keys, and end.
     pub(crate) reach: usize,
 }
 
 /// Adds the cases of another variant, and says whether all keys differ.
-fn add_included(alloc: Global, cases: &mut Row<CaseDef>, flat: &Flat) -> Result<bool, NoMemory>
-    requires { KeysDiffer cases.old }
+fn add_included(alloc: Global, cases: &mut CaseList, flat: &Flat) -> Result<bool, NoMemory>
+    requires differ { KeysDiffer cases.old }
+    requires others { flat.now.whole ≡ true → KeysDiffer flat.now.cases }
     ensures { IfOk result (λ added. AddsIncluded cases.old cases.new flat.now added) }
 {
     if !flat.whole {
         return Ok(false);
     }
-    for case in flat.cases.as_slice() {
-        if !add_case(alloc, cases, &case.tag, case.operands.as_slice())? {
+    let limit = cases.len();
+    for at in 0..flat.cases.len() {
+        if !cases.add_from(alloc, &flat.cases, at, limit)? {
             return Ok(false);
         }
     }
@@ -135,7 +96,7 @@ pub(crate) fn add_alternative(
     ranks: &[usize],
     flats: &[Flat],
     alternative: &Alternative,
-    cases: &mut Row<CaseDef>,
+    cases: &mut CaseList,
 ) -> Result<bool, NoMemory>
     requires ranks { AreRanks (graph_of defs.now) ranks.now }
     requires size { length flats.now ≡ length defs.now }
@@ -192,7 +153,7 @@ fn try_alternative(
     ranks: &[usize],
     flats: &[Flat],
     alternative: &Alternative,
-    cases: &mut Row<CaseDef>,
+    cases: &mut CaseList,
 ) -> Result<bool, NoMemory>
     requires ranks { AreRanks (graph_of defs.now) ranks.now }
     requires size { length flats.now ≡ length defs.now }
@@ -221,7 +182,7 @@ fn flatten(
     requires known { AllKnownParts defs.now flats.now alternatives.now }
     ensures { IfOk result (λ flat. IsFlattened defs.now alternatives.now flat) }
 {
-    let mut cases = Row::new(alloc);
+    let mut cases = CaseList::new(alloc);
     for reach in 0..alternatives.len() {
         if !try_alternative(alloc, defs, ranks, flats, &alternatives[reach], &mut cases)? {
             let whole = false;
@@ -247,7 +208,7 @@ fn empty_flats(alloc: Global, len: usize) -> Result<Vec<Flat>, NoMemory>
 {
     let mut flats = Vec::new(alloc);
     for i in 0..len {
-        let cases = Row::new(alloc);
+        let cases = CaseList::new(alloc);
         flats.push(Flat {
             cases,
             whole: i < len,

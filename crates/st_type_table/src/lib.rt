@@ -9,6 +9,7 @@
 
 mod bodies;
 mod build;
+mod case_list;
 mod check;
 mod entry;
 mod fault;
@@ -24,8 +25,6 @@ mod same;
 mod search;
 mod survey;
 mod table;
-#[cfg(test)]
-mod tests;
 
 pub use bodies::Bodies;
 pub use entry::CaseDef;

@@ -1,6 +1,6 @@
 //! Equality of types through aliases.
 
-ghost use Rattle.std.specs.Prelude.{◌↔◌, IsTrue};
+ghost use Rattle.std.specs.Prelude.{◌≡◌, ◌↔◌, IsTrue};
 ghost use Rattle.st_il.specs.declared.ty.Ty.{out-Ty};
 ghost use Rattle.st_type_table.specs.inner.SameLevels.{SameAt};
 ghost use Rattle.st_type_table.specs.inner.Kept.{defs_of, IsKept};
@@ -10,12 +10,25 @@ use crate::entry::Entries;
 use crate::meaning::meaning_of;
 use st_il::Ty;
 
+/// Whether both types are one name, which is equal to itself without a look at what it stands for.
+fn are_one_name(a: &Ty, b: &Ty) -> bool
+    ensures { IsTrue result → a.now ≡ b.now }
+{
+    match (a, b) {
+        (Ty::Name(one), Ty::Name(other)) => *one == *other,
+        _ => false,
+    }
+}
+
 /// Whether the types are equal through aliases.
 #[cycle(same)]
 pub(crate) fn same(entries: &Entries, a: &Ty, b: &Ty) -> bool
     requires { IsKept entries.now.entries }
     ensures { IsTrue result ↔ Same (defs_of entries.now.entries) a.now b.now }
 {
+    if are_one_name(a, b) {
+        return true;
+    }
     same_at(entries, meaning_of(entries, a), meaning_of(entries, b))
 }
 

@@ -7,8 +7,6 @@
 #![tactic(auto)]
 
 mod sub;
-#[cfg(test)]
-mod tests;
 mod typing;
 
 pub use st_type_table::{Bodies, Broken, CaseDef, TypeFault, TypeTable};

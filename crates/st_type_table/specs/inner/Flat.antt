@@ -13,12 +13,7 @@ use Rattle.st_type_table.specs.Meaning.{Means, listed, alternatives_of}
 use Rattle.st_type_table.specs.Cases.{Brings, Flatten, or_none}
 use Rattle.st_type_table.specs.Leads.{Ends}
 use Rattle.st_type_table.specs.inner.Graph.{place_of}
-use Rattle.st_type_table.specs.Keys.{SameKey, KeysDiffer}
-
--- one of the cases has the key of this tag
-abbrev pub Clashes : List CaseDef → List ℕ → Type 0
-Clashes [] tag = ⊥
-Clashes (c ∷ cs) tag = SameKey c.tag tag ⊎ Clashes cs tag
+use Rattle.st_type_table.specs.Keys.{KeysDiffer}
 
 -- the cases are added, or two of them all would have one key
 abbrev pub Adds : List CaseDef → List CaseDef → List CaseDef → Bool → Type 0

@@ -1,13 +1,25 @@
-use Rattle.std.proofs.Common.{◌++◌, ◌∷◌, [], sym, ap, ◌∙◌, subst, inr}
-use Rattle.st_type_table.specs.Keys.{KeysDiffer}
-use Rattle.st_type_table.specs.inner.Flat.{Adds}
-use Rattle.st_type_table.proofs.FlatLemmas.{clash-in}
+use Rattle.std.proofs.Common.{◌≡◌, ◌++◌, ◌∷◌, [], ℕ, sym, ap, ◌∙◌, subst, inr, length, take, arith, length-append}
+use Rattle.st_type_table.specs.inner.CaseKeys.{AddsFrom}
+use Rattle.st_type_table.proofs.FlatLemmas.{append_nil}
+use Rattle.st_type_table.proofs.CaseKeyLemmas.{from-added, from-clash, from-whole}
 use Rattle.st_type_table.proofs.flat.add_included.Goals as goal
 
+pub loop-at-init : goal.loop-at-init
+loop-at-init c = (sym (append_nil c.args.cases.now), λ i d h. absurd (omega arith))
+
+pub add_from-requires-clause-limit : goal.add_from-requires-clause-limit
+add_from-requires-clause-limit c =
+    let e = ap length c.loop-at.invariant.0 ∙ length-append c.args.cases.now (take c.loop-at.at c.args.flat.now.cases) in
+    let l = c.len-limit.ensures in
+    omega (arith, e, l)
+
 pub returns-then-not-branch : goal.returns-then-not-branch
-returns-then-not-branch c =
-    let a = subst (Adds c.loop-case.cases c.add_case.new.cases (record { tag = c.case-item.result.tag; operands = c.as_slice.result.now } ∷ [])) c.if-not-branch.true c.in_ok-add_case.ensures in
-    inr (λ k. clash-in c.args.cases.now c.as_slice-case-items.result.now c.loop-case.case-index c.case-item.result c.loop-case-test.true c.case-item.is
-    (λ d. a (subst KeysDiffer
-    (ap (λ z. z ++ c.case-item.result ∷ []) (sym c.loop-case.invariant.0) ∙ (λ i. c.loop-case.cases ++ record { tag = c.case-item.result.tag; operands = sym c.as_slice.ensures i } ∷ [])) d))
-    (subst (λ z. KeysDiffer (c.args.cases.now ++ z)) (sym c.as_slice-case-items.ensures) k))
+returns-then-not-branch c = inr (from-clash c.args.cases.now c.args.flat.now.cases c.loop-at.cases c.add_from.new.self c.loop-at.at c.len-limit.result c.len-limit.ensures c.loop-at.invariant.0
+    (subst (AddsFrom c.loop-at.cases c.add_from.new.self c.len-limit.result c.args.flat.now.cases c.loop-at.at) c.if-not-branch.true c.in_ok-add_from.ensures))
+
+pub loop-at-preserved : goal.loop-at-preserved
+loop-at-preserved c = from-added c.args.cases.now c.args.flat.now.cases c.loop-at.cases c.add_from.new.self c.loop-at.at c.len-limit.result c.len-limit.ensures c.loop-at.invariant.0 c.loop-at.invariant.1
+    (subst (AddsFrom c.loop-at.cases c.add_from.new.self c.len-limit.result c.args.flat.now.cases c.loop-at.at) c.if-not-branch.false c.in_ok-add_from.ensures)
+
+pub returns : goal.returns
+returns c = from-whole c.args.cases.now c.args.flat.now c.loop-at.cases c.loop-at.at c.if-not-flat.false (c.requires.others c.if-not-flat.false) c.requires.differ (let h = c.loop-at-test.false in let l = c.len-at-end.ensures in omega (arith, h, l)) c.loop-at.invariant.0 c.loop-at.invariant.1

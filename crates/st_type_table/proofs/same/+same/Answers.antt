@@ -1,13 +1,21 @@
-use Rattle.std.proofs.Common.{sym, refl, rules, arith}
+use Rattle.std.proofs.Common.{sym, refl, subst, rules, arith}
+use Rattle.st_type_table.specs.Same.{Same}
 use Rattle.st_type_table.specs.inner.Kept.{defs_of}
 use Rattle.st_type_table.proofs.Measure.{Means-measure, Means-total, item-within}
-use Rattle.st_type_table.proofs.SameLemmas.{same-arm, SameAll-length, SameAll-at, SameAll-end}
+use Rattle.st_type_table.proofs.SameLemmas.{Same-refl, same-arm, SameAll-length, SameAll-at, SameAll-end}
 use Rattle.st_type_table.proofs.same.+same.Goals as goal
 
 pub same-same_at-requires : goal.same-same_at-requires
 same-same_at-requires t c =
     let m = Means-measure (defs_of c.args.entries.now.entries) c.requires.sound c.args.a.now c.meaning_of.result.now c.meaning_of.ensures in
     (omega (arith, m, c.decreases), c.requires)
+
+pub same-returns-then-are_one_name : goal.same-returns-then-are_one_name
+same-returns-then-are_one_name t c = (
+  λ u. subst (Same (defs_of c.args.entries.now.entries) c.args.a.now) (c.if-are_one_name.ensures refl)
+      (Same-refl (defs_of c.args.entries.now.entries) (Means-total (defs_of c.args.entries.now.entries) c.requires.sound) c.args.a.now),
+  λ s. search rules,
+)
 
 pub same-returns : goal.same-returns
 same-returns t c = same-arm (defs_of c.args.entries.now.entries) (Means-total (defs_of c.args.entries.now.entries) c.requires.sound) c.args.a.now c.args.b.now
