@@ -317,7 +317,7 @@ module _ (defs : List SyntaxDef) where
   have_numbers (t ∷ ts) [] h = absurd h
   have_numbers (t ∷ ts) (v ∷ vs) h = All-append IsNumber (numbers_of v) (flattened (map numbers_of vs)) h.0.numbers (have_numbers ts vs h.1)
 
-  no_alias_tuple : (ts : List Ty) → alias_of defs (ty.Tuple ts) ≡ None
+  pub no_alias_tuple : (ts : List Ty) → alias_of defs (ty.Tuple ts) ≡ None
   no_alias_tuple ts = simp (ty.outs-Tuple ts) refl
 
   pub tuple_keeps : (ts : List Ty) → KeepsTypes defs (λ vs. limited (value.Tuple vs)) ts (ty.Tuple ts)

@@ -17,7 +17,7 @@ use Rattle.st_semantics.proofs.TypedTrees.{law_of_judgements}
 module _ (defs : List SyntaxDef) where
   -- equality of types goes both ways
   mutual
-    turned : {a b : Ty} → Same defs a b → Same defs b a
+    pub turned : {a b : Ty} → Same defs a b → Same defs b a
     turned (same.equal t p q) = same.equal t q p
     turned (same.list x y p q s) = same.list y x q p (turned s)
     turned (same.option x y p q s) = same.option y x q p (turned s)

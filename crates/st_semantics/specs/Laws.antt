@@ -11,6 +11,8 @@ use Rattle.st_il.specs.declared.definition.SyntaxDef.{SyntaxDef}
 use Rattle.st_il.specs.declared.expression.IlExp.{IlExp, out-IlExp}
 use Rattle.st_il.specs.declared.tree.Tree.{Tree}
 use Rattle.st_il.specs.declared.ty.Ty.{Ty}
+use Rattle.st_type_table.specs.Meaning.{Means}
+use Rattle.st_type_table.specs.Same.{Same}
 use Rattle.st_il.specs.declared.value.Env.{Env}
 use Rattle.st_il.specs.declared.value.Value.{Value}
 use Rattle.st_semantics.specs.declared.verify_rule.VerifyRule.{VerifyRule}
@@ -121,6 +123,12 @@ LawOfTypes =
     (il : Il) → ResultsAreTyped il → (n : ℕ) (ls : List Listed) (env : Env) (e : IlExp) (t : Ty)
     (v : Value) → ExpHasType il ls e t → EnvOk (syntaxes il) ls env → ValueAt il n env e (Val v)
     → IsTypedValue (syntaxes il) t v
+
+-- Where every type means something, an expression has one type, up to equality through aliases.
+abbrev pub LawOfOneType : Type 0
+LawOfOneType =
+    (il : Il) → ((t : Ty) → (u : Ty) × Means (syntaxes il) t u) → (ls : List Listed) (e : IlExp)
+    (t u : Ty) → ExpHasType il ls e t → ExpHasType il ls e u → Same (syntaxes il) t u
 
 -- an operation keeps the types that are told of an expression of its level
 abbrev pub LawOfOperations : Type 0
