@@ -18,7 +18,7 @@ use Rattle.st_tool.specs.declared.transcript.Ending.{Ending}
 use Rattle.st_tool.specs.Derivation.{last_line}
 use Rattle.st_tool.specs.inner.Nodes.{rule_node}
 use Rattle.st_tool.specs.Transcript.{atom_term}
-use Rattle.st_verify.specs.inner.SmallVerdict.{IsRelationNamed, IsRuleNamed, Concludes}
+use Rattle.st_verify.specs.SmallVerdict.{IsRelationNamed, IsRuleNamed, Concludes}
 use Rattle.st_verify.proofs.SmallDefinitions.{relation_there, rule_def_there}
 use Rattle.st_verify.proofs.SmallLines.{can_step, atom_inputs}
 use Rattle.st_verify.proofs.SmallTrees.{inputs-small, outputs-small}

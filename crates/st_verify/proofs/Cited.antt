@@ -9,7 +9,7 @@ use Rattle.std.proofs.lemmas.List.Folds.{flat_map-map}
 use Rattle.st_deriv.specs.declared.line.Ref.{Ref, map-Ref, fold_out-Ref}
 use Rattle.st_deriv.specs.declared.line.Ref.TheVariants as ref
 use Rattle.st_semantics.specs.Verdict.{lines_cited_at}
-use Rattle.st_verify.specs.inner.SmallVerdict.{child_lines}
+use Rattle.st_verify.specs.SmallVerdict.{child_lines}
 
 pub child_lines-many : (children : List Ref) → child_lines (ref.Many children) ≡ flat_map child_lines children
 child_lines-many children =

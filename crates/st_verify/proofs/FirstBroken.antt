@@ -2,7 +2,7 @@
 use Rattle.std.proofs.Common.{◌≡◌, ℕ, ◌+◌, ◌<◌, ◌≤◌, List, [], ◌∷◌, Option, Some, None, length, get_or, drop, refl, ◌∙◌, sym, ap, subst, inl, inr, drop-cons, add-one}
 use Rattle.std.proofs.lemmas.List.{drop_all}
 use Rattle.st_semantics.specs.declared.verify_rule.VerifyRule.{VerifyRule}
-use Rattle.st_verify.specs.inner.SmallVerdict.{FirstBroken}
+use Rattle.st_verify.specs.SmallVerdict.{FirstBroken}
 
 pub kept_here : (K : VerifyRule → Type 0) (rules : List VerifyRule) (i : ℕ) (rule : VerifyRule) (broken : Option VerifyRule) → i < length rules → K (get_or rules i rule)
     → FirstBroken K (drop (i + 1) rules) broken → FirstBroken K (drop i rules) broken

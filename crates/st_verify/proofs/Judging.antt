@@ -14,8 +14,8 @@ use Rattle.st_semantics.specs.Verdict.{Verdict}
 use Rattle.st_semantics.proofs.Sound.{law_of_reading}
 use Rattle.st_semantics.proofs.Choices.{law_of_choice}
 use Rattle.st_semantics.proofs.Verdicts.{law_of_verdicts}
-use Rattle.st_verify.specs.inner.SmallNotes.{small_noted}
-use Rattle.st_verify.specs.inner.SmallVerdict.{FirstBreach}
+use Rattle.st_verify.specs.SmallNotes.{small_noted}
+use Rattle.st_verify.specs.SmallVerdict.{FirstBreach}
 use Rattle.st_verify.specs.Verifier.{Checking, IsKept, JudgesNext, refusal_by}
 use Rattle.st_verify.proofs.SmallLines.{AreTrees, noted_same}
 use Rattle.st_verify.proofs.SmallModes.{small_keeps_modes, small_kinded, small_clauses_keep, small_clauses_name}

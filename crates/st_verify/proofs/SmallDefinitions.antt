@@ -6,7 +6,7 @@ use Rattle.st_il.specs.declared.definition.IlDef.{IlDef}
 use Rattle.st_il.specs.declared.small.Small.{Small}
 use Rattle.st_il.specs.declared.small.SmallRule.{SmallRule}
 use Rattle.st_il.specs.Small.{il_of, rule_def, syntax_def, relation_def}
-use Rattle.st_verify.specs.inner.SmallVerdict.{IsRelationNamed, IsRuleNamed, IsCase, HasCase}
+use Rattle.st_verify.specs.SmallVerdict.{IsRelationNamed, IsRuleNamed, IsCase, HasCase}
 
 -- one of the rules, of which something holds
 abbrev pub RuleWith : List SmallRule → (SmallRule → Type 0) → Type 0

@@ -26,8 +26,8 @@ use Rattle.st_semantics.specs.Goals.{AreInputs}
 use Rattle.st_semantics.specs.Derivation.{HasTree}
 use Rattle.st_semantics.specs.Notes.{judgement_on, noted}
 use Rattle.st_semantics.specs.Verdict.{CanStep, Continues}
-use Rattle.st_verify.specs.inner.SmallNotes.{small_noted, small_outputs}
-use Rattle.st_verify.specs.inner.SmallVerdict.{small_inputs, IsTyped, TakesInput, IsTerm}
+use Rattle.st_verify.specs.SmallNotes.{small_noted, small_outputs}
+use Rattle.st_verify.specs.SmallVerdict.{small_inputs, IsTyped, TakesInput, IsTerm}
 use Rattle.st_verify.proofs.SmallDefinitions.{RuleWith, any_def, case_known, known_case}
 use Rattle.st_verify.proofs.SmallIl.{arrow, relation_of, syntax_of, relation-named, relation-here, mask-small, syntaxes-small}
 use Rattle.st_verify.proofs.SmallTrees.{has_tree_rule, inputs-small, outputs-small}

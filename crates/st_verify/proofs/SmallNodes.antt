@@ -29,8 +29,8 @@ use Rattle.st_semantics.specs.Evidence.{HasShape, try_all, excludes}
 use Rattle.st_semantics.specs.Verdict.{Found, find_rule, rule_named}
 use Rattle.st_semantics.specs.Walks as walks
 use Rattle.st_semantics.specs.Walks.{Walks}
-use Rattle.st_verify.specs.inner.SmallValues.{AreCaseValues}
-use Rattle.st_verify.specs.inner.SmallVerdict.{IsRelationNamed, IsRuleNamed, Concludes}
+use Rattle.st_verify.specs.SmallValues.{AreCaseValues}
+use Rattle.st_verify.specs.SmallVerdict.{IsRelationNamed, IsRuleNamed, Concludes}
 use Rattle.st_verify.proofs.SmallDefinitions.{RuleWith, any_def, rule_def_there, named_relation, relation_there, named_rule}
 use Rattle.st_verify.proofs.SmallIl.{rule_of, itself, relation-named, relation-here, rules-small}
 use Rattle.st_verify.proofs.SmallTrees.{values_of}

@@ -23,7 +23,7 @@ use Rattle.st_semantics.specs.Evidence.{excludes}
 use Rattle.st_semantics.specs.Notes.{judgement_on}
 use Rattle.st_semantics.specs.Verdict.{IsInPlace, IsNode, CanStep, Continues, rule_named, tests, tests_node, Verdict, lines_cited as lines_of_children}
 use Rattle.st_semantics.specs.Walks.{Walks}
-use Rattle.st_verify.specs.inner.SmallVerdict.{Keeps, FirstBroken, FirstBreach}
+use Rattle.st_verify.specs.SmallVerdict.{Keeps, FirstBroken, FirstBreach}
 use Rattle.st_verify.proofs.FirstBroken.{all_kept, passed}
 use Rattle.st_verify.proofs.SmallDefinitions.{named_relation, relation_there}
 use Rattle.st_verify.proofs.SmallIl.{rule_of}

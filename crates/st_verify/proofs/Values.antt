@@ -7,7 +7,7 @@ use Rattle.st_il.specs.declared.expression.IlExp.TheVariants as exp
 use Rattle.st_il.specs.declared.value.Value.{Value}
 use Rattle.st_il.specs.declared.value.Value.TheVariants as value
 use Rattle.st_il.specs.Small.{atom_exp}
-use Rattle.st_verify.specs.inner.SmallValues.{IsCaseValue, AreCaseValues, case}
+use Rattle.st_verify.specs.SmallValues.{IsCaseValue, AreCaseValues, case}
 
 -- a case without operands has the value of that case alone
 value_of_case : (one : IlExp) (type tag : List ℕ) (val : Value) → one ≡ exp.Case type tag [] → IsCaseValue one val → val ≡ value.Case tag []

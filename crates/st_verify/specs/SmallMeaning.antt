@@ -10,9 +10,13 @@ use Rattle.st_semantics.specs.declared.notes.Notes.{Notes}
 use Rattle.st_semantics.specs.declared.verify_rule.VerifyRule.{VerifyRule}
 use Rattle.st_semantics.specs.Names.{Name}
 use Rattle.st_semantics.specs.Accepts.{ReadsTo}
+use Rattle.st_semantics.specs.Breaches.{KeepModes}
 use Rattle.st_semantics.specs.Derivation.{HasTree, Derivable}
+use Rattle.st_semantics.specs.Kinds.{AreKinded, ClausesNameOccurring}
+use Rattle.st_semantics.specs.Notes.{noted}
 use Rattle.st_semantics.specs.Verdict.{Verdict}
-use Rattle.st_verify.specs.inner.SmallVerdict.{FirstBreach}
+use Rattle.st_verify.specs.SmallNotes.{small_noted}
+use Rattle.st_verify.specs.SmallVerdict.{FirstBreach}
 
 -- a rule says this judgement: its values are the two atoms of the rule
 pub record IsSmallJudgement (s : Small) (relation : Name) (values : List Value) : Type 0 where
@@ -49,3 +53,15 @@ LawOfSmallVerdicts =
     (s : Small) → IsSmall s → (lines : List Line) (notes : Notes) → ReadsTo (il_of s) lines notes
     → (line : Line) (broken answer : Option VerifyRule) → FirstBreach (il_of s) notes line broken
     → Verdict (il_of s) notes line answer ↔ (answer ≡ broken)
+
+-- Behind lines that are read, what the code notes of one line more is what is noted of it.
+abbrev pub LawOfSmallNotes : Type 0
+LawOfSmallNotes =
+    (s : Small) → IsSmall s → (lines : List Line) (notes : Notes) → ReadsTo (il_of s) lines notes
+    → (line : Line) → small_noted notes line ≡ noted (il_of s) notes line
+
+-- A small specification keeps the rules M1 to M7, and its iterated premises name only variables of
+-- their kind, and only those that occur inside: it has no premises.
+abbrev pub LawOfSmallModes : Type 0
+LawOfSmallModes =
+    (s : Small) → KeepModes (il_of s) × AreKinded (il_of s) × ClausesNameOccurring (il_of s)

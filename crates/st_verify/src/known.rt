@@ -2,7 +2,7 @@
 
 ghost use Rattle.std.specs.Prelude.{◌≡◌, ◌↔◌, IsTrue, Any};
 ghost use Rattle.st_il.specs.declared.definition.Alternative.{Alternative};
-ghost use Rattle.st_verify.specs.inner.SmallVerdict.{IsRelationNamed, IsRuleNamed, IsCase, BodyHasCase, HasCase};
+ghost use Rattle.st_verify.specs.SmallVerdict.{IsRelationNamed, IsRuleNamed, IsCase, BodyHasCase, HasCase};
 
 use st_il::{Alternative, Il, IlDef, SyntaxBody};
 use st_num::Name;

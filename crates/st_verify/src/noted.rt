@@ -4,7 +4,7 @@ ghost use Rattle.std.specs.Prelude.{◌≡◌, ◌+◌, ◌^◌, ◌<◌, IfOk, 
 ghost use Rattle.std.specs.Option.{option_copied, option_map};
 ghost use Rattle.st_semantics.specs.declared.notes.Judgement.{Judgement as Noted};
 ghost use Rattle.st_semantics.specs.Notes.{nothing_noted, judgement_on};
-ghost use Rattle.st_verify.specs.inner.SmallNotes.{small_noted, small_outputs};
+ghost use Rattle.st_verify.specs.SmallNotes.{small_noted, small_outputs};
 
 use crate::{Judgement, Notes};
 use st_deriv::Line;

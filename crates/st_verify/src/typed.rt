@@ -1,8 +1,8 @@
 //! Values against types, and against the conclusion of a rule.
 
 ghost use Rattle.std.specs.Prelude.{◌≡◌, ◌↔◌, [], IsTrue, Any};
-ghost use Rattle.st_verify.specs.inner.SmallValues.{IsCaseValue, AreCaseValues};
-ghost use Rattle.st_verify.specs.inner.SmallVerdict.{IsTyped, TakesInput, IsTerm, Concludes};
+ghost use Rattle.st_verify.specs.SmallValues.{IsCaseValue, AreCaseValues};
+ghost use Rattle.st_verify.specs.SmallVerdict.{IsTyped, TakesInput, IsTerm, Concludes};
 
 use crate::known::has_case;
 use st_deriv::NodeLine;

@@ -2,7 +2,7 @@
 
 ghost use Rattle.std.specs.Prelude.{◌≡◌, ◌↔◌, IsTrue, All, flat_map};
 ghost use Rattle.st_semantics.specs.Verdict.{IsInPlace, IsNode};
-ghost use Rattle.st_verify.specs.inner.SmallVerdict.{small_inputs, IsKnown, HasTypedValues, child_lines, lines_cited, HasItsValues, HasItsChildren, HasItsEvidence, GoesOn, Keeps, FirstBreach};
+ghost use Rattle.st_verify.specs.SmallVerdict.{small_inputs, IsKnown, HasTypedValues, child_lines, lines_cited, HasItsValues, HasItsChildren, HasItsEvidence, GoesOn, Keeps, FirstBreach};
 
 use crate::known::{has_rule, is_declared};
 use crate::noted::noted_on;

@@ -3,7 +3,8 @@ use Rattle.st_il.specs.Small.{il_of}
 use Rattle.st_semantics.specs.Verdict.{Verdict}
 use Rattle.st_semantics.proofs.Choices.{law_of_choice}
 use Rattle.st_semantics.proofs.Verdicts.{law_of_verdicts}
-use Rattle.st_verify.proofs.SmallModes.{clauses_keep, clauses_name_occurring}
+use Rattle.st_verify.proofs.SmallLines.{noted_same}
+use Rattle.st_verify.proofs.SmallModes.{keep_modes, are_kinded, clauses_keep, clauses_name_occurring}
 use Rattle.st_verify.proofs.SmallNotings.{read_trees}
 use Rattle.st_verify.proofs.SmallTrees.{has_tree_rule, rule_tree, derivable_step, step_derivable}
 use Rattle.st_verify.proofs.SmallVerdicts.{verdict_of_breach}
@@ -23,3 +24,10 @@ returns-clause-verdicts c = λ s small lines notes read line broken answer first
       λ other. law_of_verdicts (il_of s) choice.2 notes line answer broken other verdict,
       λ same. subst (Verdict (il_of s) notes line) (sym same) verdict,
     )
+
+pub returns-clause-notes : goal.returns-clause-notes
+returns-clause-notes c = λ s small lines notes read line.
+    noted_same s notes line (read_trees (il_of s) lines notes (record { source = s; small = small; means = refl }) read)
+
+pub returns-clause-modes : goal.returns-clause-modes
+returns-clause-modes c = λ s. (keep_modes s, are_kinded s, clauses_name_occurring s)

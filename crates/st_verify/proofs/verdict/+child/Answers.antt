@@ -1,7 +1,7 @@
 use Rattle.std.proofs.Common.{◌≡◌, ◌↔◌, IsTrue, true, sym, ◌∙◌, ap, subst, refl, take_all}
 use Rattle.std.specs.Prelude.{All, flat_map}
 use Rattle.st_semantics.specs.Verdict.{IsNode}
-use Rattle.st_verify.specs.inner.SmallVerdict.{child_lines}
+use Rattle.st_verify.specs.SmallVerdict.{child_lines}
 use Rattle.st_verify.proofs.Cited.{child_lines-many, All-child, All-more_children}
 use Rattle.st_verify.proofs.verdict.+child.Goals as goal
 

@@ -1,5 +1,5 @@
 use Rattle.std.proofs.Common.{None, true, ◌≡◌}
-use Rattle.st_verify.specs.inner.SmallVerdict.{Keeps, rules_on_lines}
+use Rattle.st_verify.specs.SmallVerdict.{Keeps, rules_on_lines}
 use Rattle.st_verify.proofs.FirstBroken.{kept_here, broken_here, none_broken}
 use Rattle.st_verify.proofs.verdict.broken_rule.Goals as goal
 

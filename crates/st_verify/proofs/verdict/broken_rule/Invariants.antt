@@ -1,6 +1,6 @@
 use Rattle.std.proofs.Common.{Option, drop}
 use Rattle.st_semantics.specs.declared.verify_rule.VerifyRule.{VerifyRule}
-use Rattle.st_verify.specs.inner.SmallVerdict.{Keeps, FirstBroken, FirstBreach}
+use Rattle.st_verify.specs.SmallVerdict.{Keeps, FirstBroken, FirstBreach}
 use Rattle.st_verify.proofs.verdict.broken_rule.Given as goal
 
 -- what is first broken of the rules that are left is first broken of all

@@ -1,7 +1,7 @@
 use Rattle.std.proofs.Common.{◌<◌, ◌^◌, None, length, ◌∙◌, sym, ap, subst}
 use Rattle.st_semantics.specs.Notes.{noted}
 use Rattle.st_semantics.specs.Verdict.{Verdict}
-use Rattle.st_verify.specs.inner.SmallVerdict.{FirstBreach}
+use Rattle.st_verify.specs.SmallVerdict.{FirstBreach}
 use Rattle.st_verify.specs.Verifier.{Checking}
 use Rattle.st_verify.proofs.Judging.{refuses_next, wants_memory, kept_more, verdict_kept, noted_kept}
 use Rattle.st_verify.proofs.verifier.Verifier.judge_next.Goals as goal

@@ -22,7 +22,7 @@ use Rattle.st_semantics.specs.declared.notes.Judgement.{Judgement}
 use Rattle.st_semantics.specs.declared.notes.Notes.{Notes}
 use Rattle.st_semantics.specs.Notes.{judgement_on}
 use Rattle.st_semantics.specs.Verdict.{IsInPlace, IsNode, lines_cited_at, lines_cited as lines_of_children}
-use Rattle.st_verify.specs.inner.SmallValues.{AreCaseValues}
+use Rattle.st_verify.specs.SmallValues.{AreCaseValues}
 
 -- a definition is the relation of that name
 abbrev pub IsRelationNamed : List ℕ → IlDef → Type 0

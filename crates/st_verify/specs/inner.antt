@@ -1,3 +1,0 @@
-pub mod SmallNotes
-pub mod SmallValues
-pub mod SmallVerdict
