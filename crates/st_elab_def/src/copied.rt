@@ -2,9 +2,7 @@
 
 ghost use Rattle.std.specs.Prelude.{◌≡◌, IfOk};
 
-use st_il::{
-    Alternative, FunDef, RelationDef, SyntaxBody, SyntaxDef, Ty, copy_ty, copy_tys,
-};
+use st_il::{Alternative, FunDef, RelationDef, SyntaxBody, SyntaxDef, Ty, copy_ty, copy_tys};
 use st_num::{Name, NoMemory, Row};
 use std::alloc::Global;
 

@@ -29,7 +29,8 @@ fn push_bare(alloc: Global, typ: &Typ, out: &mut Row<Alternative>) -> Result<(),
 /// The case of this notation.
 fn case_of(alloc: Global, notation: &Notation) -> Result<Alternative, NoMemory>
     ensures { IfOk result (λ case. case
-        ≡ Alternative.Case (tag_of (template_of notation.now)) (map ty_of (holes_of notation.now))) }
+        ≡ Alternative.Case (tag_of (template_of notation.now))
+        (map ty_of (holes_of notation.now))) }
 {
     let Signature { tag, operands } = signature_of(alloc, notation)?;
     Ok(Alternative::Case(tag, operands))

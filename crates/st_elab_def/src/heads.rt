@@ -102,11 +102,7 @@ pub(crate) fn head<'k, 'a>(
 }
 
 /// The function of a clause.
-pub(crate) fn function<'k>(
-    known: &Known<'k>,
-    place: Span,
-    name: &Name,
-) -> Result<&'k FunDef, Fault>
+pub(crate) fn function<'k>(known: &Known<'k>, place: Span, name: &Name) -> Result<&'k FunDef, Fault>
     ensures { (D : Decls) (rest : List Placed) → Finds D known.now
         → Told (λ f. fun_named D.funs name.now ≡ Some f.now)
         (FirstBreachAt D (on_function place name.now rest)) result }

@@ -8,8 +8,8 @@ ghost use Rattle.st_elab_def.specs.Phases.{names_in, all_declared, on_relation, 
 ghost use Rattle.st_elab_def.specs.inner.Walk.{Checks, ChecksAll};
 
 use crate::breach::DefFault;
-use crate::numbered::numbered;
 use crate::names::{Named, hole_names_of, names_of, push_all_names, push_names};
+use crate::numbered::numbered;
 use st_el::{Def, DefNode, Notation, Typ};
 use st_elab_sig::{mode_of, signature_of};
 use st_num::{Fault, NoMemory, Row, RuleId};

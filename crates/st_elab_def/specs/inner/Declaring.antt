@@ -11,22 +11,27 @@ use Rattle.st_elab_def.specs.inner.Index.{has}
 
 -- ---- what a definition declares, by name
 
+-- the definition is a syntax of this name that is no fragment
 abbrev pub is_whole : List ℕ → DefNode → Bool
 is_whole name (Syntax other None body) = same_name name other
 is_whole name node = false
 
+-- the definition gives a type to this name of variables
 abbrev pub is_var : List ℕ → DefNode → Bool
 is_var name (Var other typ) = same_name name other
 is_var name node = false
 
+-- the definition is a relation of this name
 abbrev pub is_relation : List ℕ → DefNode → Bool
 is_relation name (Relation other notation) = same_name name other
 is_relation name node = false
 
+-- the definition is a function of this name
 abbrev pub is_fun : List ℕ → DefNode → Bool
 is_fun name (Fun other params result) = same_name name other
 is_fun name node = false
 
+-- one of the definitions passes
 abbrev pub any_def : (DefNode → Bool) → List Def → Bool
 any_def test defs = list_any (λ (def : Def). test def.node) defs
 

@@ -17,9 +17,14 @@ returns-then-not-branch c = λ D.
     let defs = c.args.defs.now in
     let def = c.index-defs-i.result in
     Leaves-stop D on_declaration defs c.loop-i.i def c.loop-i-test.true c.index-defs-i.is (c.loop-i.invariant.left D) _
-    (inl (number-here defs c.loop-i.i def c.loop-i-test.true,
-    (new-fails c.in_ok-declare.field-0 (list_any (λ (other : Def). declare_same def.node other.node) (take c.loop-i.i defs))
-    (c.in_ok-declare.ensures.new (take c.loop-i.i defs) c.loop-i.invariant.knows) c.if-not-branch.true, refl)))
+    (inl (
+      number-here defs c.loop-i.i def c.loop-i-test.true,
+      (
+        new-fails c.in_ok-declare.field-0 (list_any (λ (other : Def). declare_same def.node other.node) (take c.loop-i.i defs))
+            (c.in_ok-declare.ensures.new (take c.loop-i.i defs) c.loop-i.invariant.knows) c.if-not-branch.true,
+        refl,
+      ),
+    ))
 
 pub loop-i-preserved : goal.loop-i-preserved
 loop-i-preserved c =
@@ -27,10 +32,12 @@ loop-i-preserved c =
     let def = c.index-defs-i.result in
     record {
       knows = subst (λ ds. Knows ds c.declare.new.declared) (sym (next_taken defs c.loop-i.i def c.loop-i-test.true c.index-defs-i.is))
-      (c.in_ok-declare.ensures.more (take c.loop-i.i defs) def refl c.loop-i.invariant.knows);
-      left = λ D. Leaves-next D on_declaration defs c.loop-i.i def c.loop-i-test.true c.index-defs-i.is (c.loop-i.invariant.left D)
-      (new-passes c.in_ok-declare.field-0 (list_any (λ (other : Def). declare_same def.node other.node) (take c.loop-i.i defs))
-      (c.in_ok-declare.ensures.new (take c.loop-i.i defs) c.loop-i.invariant.knows) c.if-not-branch.false, tt);
+          (c.in_ok-declare.ensures.more (take c.loop-i.i defs) def refl c.loop-i.invariant.knows);
+      left = λ D. Leaves-next D on_declaration defs c.loop-i.i def c.loop-i-test.true c.index-defs-i.is (c.loop-i.invariant.left D) (
+        new-passes c.in_ok-declare.field-0 (list_any (λ (other : Def). declare_same def.node other.node) (take c.loop-i.i defs))
+            (c.in_ok-declare.ensures.new (take c.loop-i.i defs) c.loop-i.invariant.knows) c.if-not-branch.false,
+        tt,
+      );
     }
 
 pub returns : goal.returns
