@@ -18,7 +18,8 @@ use Rattle.st_type_table.specs.Leads.{names_in as type_names, Among, Leads, here
 use Rattle.st_elab_sig.specs.Types.{ty_of}
 use Rattle.st_elab_def.specs.declared.breach.Breach.{Breach}
 use Rattle.st_elab_def.specs.DeclsOf.{decls_of}
-use Rattle.st_elab_def.specs.Phases.{Named, names_in, on_alias_name, of_definition}
+use Rattle.st_elab_def.specs.declared.names.Named.{Named}
+use Rattle.st_elab_def.specs.Phases.{names_in, on_alias_name, of_definition}
 use Rattle.st_elab_def.specs.Breaches.{FirstBreach, IsBreach}
 use Rattle.st_elab_def.specs.inner.Walk.{standing}
 use Rattle.st_elab_def.proofs.Walking.{FirstBreach-front}

@@ -1,5 +1,14 @@
+pub mod Indexing
+pub mod Declaring
+pub mod Naming
 pub mod Single
 pub mod Walking
+pub mod Phasing
+pub mod Checking
+pub mod AllDeclared
+pub mod DeclaredLists
+pub mod Gathering
+pub mod Heading
 pub mod PlainTwice
 mod Examples
 mod ExamplesOfCases

@@ -20,6 +20,7 @@ use Rattle.st_il.specs.declared.definition.Alternative.{Alternative}
 use Rattle.st_type_table.specs.Breach as types
 use Rattle.st_elab_sig.specs.Signatures.{holes_of}
 use Rattle.st_elab_rule.specs.Clauses.{ClauseParts, parts_of}
+use Rattle.st_elab_def.specs.declared.names.Named.{Named}
 use Rattle.st_elab_def.specs.Definitions.{Definition, number_of, definitions}
 use Rattle.st_elab_def.specs.DeclsOf.{type_node, not_node, alternative_of, field_of}
 use Rattle.st_elab_def.specs.Conditions.{Condition, new_declaration, joining, on_syntaxes, named, mode, relation, function, new_rule}
@@ -47,11 +48,6 @@ abbrev pub placed_type : Span → types.Condition → Placed
 placed_type at c = placed at (on_syntaxes c)
 
 -- ---- names in types
-
--- a name and its place
-pub record Named : Type 0 where
-  pub at : Span
-  pub name : List ℕ
 
 -- the names in a level of types at this place, whose parts have these names in them
 abbrev pub named_at : TypNode-F (Span → List Named) (List Named) → Span → List Named

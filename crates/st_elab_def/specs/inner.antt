@@ -1,3 +1,8 @@
 -- How a source is walked, for proofs alone.
 pub mod Walk
+pub mod Index
+pub mod Declaring
+pub mod Gathering
+pub mod Heads
 pub mod Joining
+pub mod Contents

@@ -10,8 +10,17 @@
 #![tactic(auto)]
 
 mod breach;
+mod copied;
+mod declarations;
+mod declared;
+mod decls;
 mod elaborated;
+mod heads;
+mod index;
 mod laws;
+mod names;
+mod numbered;
+mod signatures;
 
 pub use breach::{Breach, DefFault};
 pub use elaborated::Elaborated;

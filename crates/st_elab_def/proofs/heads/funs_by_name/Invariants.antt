@@ -1,0 +1,8 @@
+use Rattle.std.proofs.Common.{◌≡◌, ◌-◌, List, ℕ, length, drop}
+use Rattle.std.specs.Option.{option_copied}
+use Rattle.st_elab_table.specs.Inferred.{fun_named}
+use Rattle.st_elab_def.specs.inner.Index.{at}
+use Rattle.st_elab_def.proofs.heads.funs_by_name.Given as goal
+
+abbrev pub invariant-loop-i : goal.invariant-loop-i
+invariant-loop-i l = (q : List ℕ) → option_copied (at l.map.entries q) ≡ fun_named (drop (length l.funs - l.i) l.funs) q
