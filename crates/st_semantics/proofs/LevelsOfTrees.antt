@@ -1,6 +1,6 @@
--- The level at which an `otherwise` is decided makes no difference to which trees are valid, once it
--- is at least the number of all rules.
-use Rattle.std.proofs.Common.{◌≡◌, ℕ, ◌<◌, ◌≤◌, sym, ◌∙◌, List, [], ◌∷◌, Some, arith, length}
+-- The level at which an `otherwise` is decided makes no difference to which trees are valid, once
+-- it is at least the number of all rules.
+use Rattle.std.proofs.Common.{◌≡◌, ℕ, ◌<◌, ◌≤◌, ◌∙◌, List, [], ◌∷◌, Some, arith, length}
 use Rattle.std.specs.Prelude.{true, slice_get}
 use Rattle.std.proofs.lemmas.Option.{slice_get_within}
 use Rattle.st_il.specs.declared.definition.Il.{Il}
@@ -16,7 +16,6 @@ use Rattle.st_semantics.specs.Names.{Name}
 use Rattle.st_semantics.specs.Definitions.{rules_in, rules_of, count_of_rules}
 use Rattle.st_semantics.specs.Directions.{inputs_of}
 use Rattle.st_semantics.specs.Variables.{has_otherwise, have_otherwise}
-use Rattle.st_semantics.specs.ModeRules.{IsOtherwise}
 use Rattle.st_semantics.specs.Breaches.{KeepModes}
 use Rattle.st_semantics.specs.Holding as h
 use Rattle.st_semantics.specs.Holding.{Place, places, each_place, Holds, HoldAll}
