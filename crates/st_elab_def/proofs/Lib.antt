@@ -9,6 +9,7 @@ pub mod AllDeclared
 pub mod DeclaredLists
 pub mod Gathering
 pub mod Heading
+pub mod ContentLemmas
 pub mod PlainTwice
 mod Examples
 mod ExamplesOfCases

@@ -10,6 +10,7 @@
 #![tactic(auto)]
 
 mod breach;
+mod contents;
 mod copied;
 mod declarations;
 mod declared;
