@@ -11,7 +11,7 @@ use Rattle.st_il.specs.declared.expression.ListItem.{ListItem}
 use Rattle.st_il.specs.declared.expression.PathSeg.{PathSeg}
 use Rattle.st_semantics.specs.Names.{Name, has_name, all_known, without}
 use Rattle.st_semantics.specs.Iterations.{count_of, index_of}
-use Rattle.st_semantics.specs.Variables.{vars, prem_vars, prem_vars_at, cites}
+use Rattle.st_semantics.specs.Variables.{vars, prem_vars, prem_vars_at}
 use Rattle.st_semantics.specs.Patterns.{is_pattern, binds}
 use Rattle.st_semantics.specs.OpenParts.{is_doubly_open}
 use Rattle.st_semantics.specs.Executable as run
@@ -20,7 +20,7 @@ use Rattle.st_semantics.specs.ModeRules.{has_one_open}
 use Rattle.st_semantics.specs.Kinds.{AreOfItsBody, NamesOccurring}
 use Rattle.st_semantics.specs.Kinds as named
 use Rattle.st_semantics.proofs.Names.{Within, and-both, or-cases, or-left, or-right, bytes-same, prem-level}
-use Rattle.st_semantics.proofs.CanRun.{known-wider, runs_of, runs-level, class-level, is-cited, IsShort, count_short, within-index, inside-within}
+use Rattle.st_semantics.proofs.CanRun.{known-wider, runs_of, runs-level, class-level, IsShort, count_short, within-index, inside-within}
 use Rattle.st_semantics.proofs.Wider.{prem-ind, Parts, all-wider, countable-wider, append-wider}
 
 -- a pattern that binds its variables, with at most one part of open length in each list
@@ -38,21 +38,15 @@ pub record EachBinds (bound : List Name) (how : Iteration) (xs : List Name) (bod
   pub own : AreOfItsBody how xs body
   pub others : all_known bound (without xs (without (index_of how) (prem_vars body))) ≡ true
 
--- a premise can be met, and binds its variables
+-- a premise can be met, and binds its variables; so does a goal, since none holds in a clause
 pub data Binds : List Name → IlPrem → Type 0 where
   test : {bound : List Name} {p : IlPrem} (e : IlExp) → out-IlPrem p ≡ IlPrem-F.If e → all_known bound (vars e) ≡ true → Binds bound p
   left : {bound : List Name} {p : IlPrem} (e a b : IlExp) → out-IlPrem p ≡ IlPrem-F.If e → out-IlExp e ≡ IlExp-F.Eq a b → all_known bound (vars a) ≡ true → IsBinding bound b → Binds bound p
   right : {bound : List Name} {p : IlPrem} (e a b : IlExp) → out-IlPrem p ≡ IlPrem-F.If e → out-IlExp e ≡ IlExp-F.Eq a b → all_known bound (vars b) ≡ true → IsBinding bound a → Binds bound p
   otherwise : {bound : List Name} {p : IlPrem} → out-IlPrem p ≡ IlPrem-F.Otherwise → Binds bound p
+  goal : {bound : List Name} {p : IlPrem} (relation : Name) (es : List IlExp) → out-IlPrem p ≡ IlPrem-F.Goal relation es → Binds bound p
   each : {bound : List Name} {p : IlPrem} (how : Iteration) (xs : List Name) (body : IlPrem) → out-IlPrem p ≡ IlPrem-F.Each how xs body → EachBinds bound how xs body
       → Binds (index_of how ++ bound) body → Binds bound p
-
-pub no_goal_binds : {bound : List Name} {p : IlPrem} → Binds bound p → (relation : Name) (es : List IlExp) → out-IlPrem p ≡ IlPrem-F.Goal relation es → ⊥
-no_goal_binds (test e is k) r es h = cc
-no_goal_binds (left e a b is eq k f) r es h = cc
-no_goal_binds (right e a b is eq k f) r es h = cc
-no_goal_binds (otherwise is) r es h = cc
-no_goal_binds (each how xs body is n b) r es h = cc
 
 abbrev pub BindsInside : List Name → Iteration → List Name → IlPrem → Type 0
 BindsInside bound how xs body = EachBinds bound how xs body × Binds (index_of how ++ bound) body
@@ -62,6 +56,7 @@ binds_inside (test e is k) how xs body h = cc
 binds_inside (left e a b is eq k f) how xs body h = cc
 binds_inside (right e a b is eq k f) how xs body h = cc
 binds_inside (otherwise is) how xs body h = cc
+binds_inside (goal relation es is) how xs body h = cc
 binds_inside {bound = bound} (each how' xs' body' is n b) how xs body h =
     let kk : how' ≡ how = cc in
     let xx : xs' ≡ xs = cc in
@@ -90,6 +85,7 @@ Binds-wider {few = few} (test e is k) many w = test e is (known-wider few many (
 Binds-wider {few = few} (left e a b is eq k f) many w = left e a b is eq (known-wider few many (vars a) w k) (binding-wider few many b w f)
 Binds-wider {few = few} (right e a b is eq k f) many w = right e a b is eq (known-wider few many (vars b) w k) (binding-wider few many a w f)
 Binds-wider (otherwise is) many w = otherwise is
+Binds-wider (goal relation es is) many w = goal relation es is
 Binds-wider {few = few} (each how xs body is n b) many w = each how xs body is (each-wider few many how xs body w n) (Binds-wider b (index_of how ++ many) (within-index (index_of how) few many w))
 
 -- ---- from the class of a premise
@@ -151,12 +147,12 @@ anchored_reached bound how xs h = elim (or-cases (list_any (has_name bound) xs) 
   | inr count ↦ inr (any_count bound (count_of how) (count_short how) count)
 ]
 
--- A premise without goals that is executable, its pattern with one open part at most, binds.
-pub class_binds : (il : Il) {p : IlPrem} → NamesOccurring p → (bound : List Name) (c : Class) → class_of il bound p ≡ Some c → has_one_open (Some c) ≡ true → cites p ≡ false → Binds bound p
-class_binds il {p = p} (named.condition e is) bound c h o n = condition_binds bound p e c is (sym (class-level il bound p (IlPrem-F.If e) is) ∙ h) o
-class_binds il {p = p} (named.goal relation es is) bound c h o n = let bad : true ≡ false = sym (is-cited p (IlPrem-F.Goal relation es) is) ∙ n in cc
-class_binds il (named.otherwise is) bound c h o n = otherwise is
-class_binds il {p = p} (named.each how xs body is own deeper) bound c h o n =
+-- A premise that is executable, its pattern with one open part at most, binds.
+pub class_binds : (il : Il) {p : IlPrem} → NamesOccurring p → (bound : List Name) (c : Class) → class_of il bound p ≡ Some c → has_one_open (Some c) ≡ true → Binds bound p
+class_binds il {p = p} (named.condition e is) bound c h o = condition_binds bound p e c is (sym (class-level il bound p (IlPrem-F.If e) is) ∙ h) o
+class_binds il (named.goal relation es is) bound c h o = goal relation es is
+class_binds il (named.otherwise is) bound c h o = otherwise is
+class_binds il {p = p} (named.each how xs body is own deeper) bound c h o =
     let others : List Name = without xs (without (index_of how) (runs_of il body).vars) in
     let t = tests (is_anchored bound how xs) (list_all (is_countable bound) (count_of how)) (all_known bound others) ((runs_of il body).class (bound_inside bound how xs others)) (sym (class-level il bound p (IlPrem-F.Each how xs body) is) ∙ h) in
     each how xs body is (record {
@@ -165,7 +161,7 @@ class_binds il {p = p} (named.each how xs body is own deeper) bound c h o n =
       own = own;
       others = subst (λ z. all_known bound (without xs (without (index_of how) z)) ≡ true) (runs-vars il body) t.2;
     })
-    (Binds-wider (class_binds il deeper (bound_inside bound how xs others) c t.3 o (sym (is-cited p (IlPrem-F.Each how xs body) is) ∙ n)) (index_of how ++ bound) (inside-within bound how xs others t.2))
+    (Binds-wider (class_binds il deeper (bound_inside bound how xs others) c t.3 o) (index_of how ++ bound) (inside-within bound how xs others t.2))
   where
     tests : (a b d : Bool) (class : Option Class) → (if a && b && d then class else None) ≡ Some c → (a ≡ true) × (b ≡ true) × (d ≡ true) × (class ≡ Some c)
     tests true true true class h = (refl, refl, refl, h)

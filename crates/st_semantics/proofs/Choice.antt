@@ -44,13 +44,13 @@ use Rattle.st_semantics.proofs.Values.{two_values, gives_values, equation_form}
 use Rattle.st_semantics.proofs.Premises.{without-parts}
 use Rattle.st_semantics.proofs.Runs.{evaluated_side}
 use Rattle.st_semantics.proofs.Clauses.{hold_first}
-use Rattle.st_semantics.proofs.Inverse.{variable_value, holds_condition, EachHolds, holds_each}
+use Rattle.st_semantics.proofs.Inverse.{variable_value, holds_condition, holds_goal, EachHolds, holds_each}
 use Rattle.st_semantics.proofs.Columns.{SameSize, elements_agree, list_agrees, counts_same, values_at}
 use Rattle.st_semantics.proofs.Lengths.{made_is}
 use Rattle.st_semantics.proofs.PatternValues.{pattern_agrees, one_count, one_name}
 use Rattle.st_semantics.proofs.Low.{AreLow, AllAreLow, elements_low, not_high}
 use Rattle.st_semantics.proofs.CanRun.{IsShort, count_short}
-use Rattle.st_semantics.proofs.Bindings.{IsBinding, IsReached, EachBinds, Binds, no_goal_binds, BindsInside, binds_inside}
+use Rattle.st_semantics.proofs.Bindings.{IsBinding, IsReached, EachBinds, Binds, BindsInside, binds_inside}
 use Rattle.st_semantics.proofs.Bindings as b
 
 pub agree_both : (xs ys : List Name) (a b : Env) → AgreeOn xs a b → AgreeOn ys a b → AgreeOn (xs ++ ys) a b
@@ -202,6 +202,7 @@ module _ (defs : List SyntaxDef) (C : Answers) (one : IsSingle C) where
   binds_agree {bound = bound} {p = p} (b.left e x y eq o k pat) a b g ha hb = equation_agrees bound p e x y a b eq o g (inl (k, pat)) ha hb
   binds_agree {bound = bound} {p = p} (b.right e x y eq o k pat) a b g ha hb = equation_agrees bound p e x y a b eq o g (inr (k, pat)) ha hb
   binds_agree {p = p} (b.otherwise eq) a b g ha hb = subst (λ z. AgreeOn z a b) (sym (prem-level p IlPrem-F.Otherwise eq)) (λ x i. cc)
+  binds_agree {p = p} (b.goal relation es eq) a b g ha hb = absurd (holds_goal (value_by defs C) (Unit {0}) no_goal a p relation es ha eq).1
   binds_agree {bound = bound} {p = p} (b.each how xs body eq n inside) a b g ha hb = each_agrees bound p how xs body a b eq n (binds_agree inside) g ha hb
 
   -- ---- a premise that holds does not meet Deep
@@ -278,8 +279,8 @@ module _ (defs : List SyntaxDef) (C : Answers) (one : IsSingle C) where
 module _ (il : Il) (C : Answers) (one : IsSingle C) where
   here_not_deep : {bound : List Name} {b : Env} {p : IlPrem} → MeetsHere (in_clause il C) bound b p → (a : Env) → Binds bound p → AgreeOn bound b a → HoldsAt (syntaxes il) C one a p → ⊥
   here_not_deep {bound = bound} {b = b} {p = p} (d.condition e part eq ev deep) a run g hold = condition_not_deep (syntaxes il) C one bound a b e part ev g (holds_condition (value_by (syntaxes il) C) (Unit {0}) no_goal a p e hold eq) deep
-  here_not_deep (d.input relation es eq deep) a run g hold = absurd (no_goal_binds run relation es eq)
-  here_not_deep (d.output relation es vs e eq have contains deep) a run g hold = absurd (no_goal_binds run relation es eq)
+  here_not_deep {p = p} (d.input relation es eq deep) a run g hold = absurd (holds_goal (value_by (syntaxes il) C) (Unit {0}) no_goal a p relation es hold eq).1
+  here_not_deep {p = p} (d.output relation es vs e eq have contains deep) a run g hold = absurd (holds_goal (value_by (syntaxes il) C) (Unit {0}) no_goal a p relation es hold eq).1
   here_not_deep {bound = bound} {b = b} {p = p} (d.count how xs body eq deep) a run g hold =
       let s : EachAt (syntaxes il) C one a how xs body = holds_each (value_by (syntaxes il) C) (Unit {0}) no_goal a p how xs body hold eq in
       count_not_deep (syntaxes il) C one bound a b how s.1.0 g s.1.1 deep

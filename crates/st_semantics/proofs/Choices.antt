@@ -10,12 +10,13 @@ use Rattle.st_il.specs.declared.expression.IlExp.{IlExp}
 use Rattle.st_il.specs.declared.expression.IlPrem.{IlPrem}
 use Rattle.st_il.specs.declared.value.Env.{Env}
 use Rattle.st_il.specs.declared.value.Value.{Value}
+use Rattle.st_num.specs.declared.rule.RuleId.TheVariants.{M3, M4, M6}
 use Rattle.st_semantics.specs.declared.outcome.Outcome.{Outcome}
 use Rattle.st_semantics.specs.Names.{Name, has_name, all_known, flattened}
 use Rattle.st_semantics.specs.Definitions.{syntaxes, clauses_in, clauses_of, clauses_from}
 use Rattle.st_semantics.specs.Environments.{AgreeOn, listed_names}
 use Rattle.st_semantics.specs.Evaluation.{Answers, tasks}
-use Rattle.st_semantics.specs.Variables.{vars, vars_of, prem_vars, prems_vars, cites}
+use Rattle.st_semantics.specs.Variables.{vars, vars_of, prem_vars, prems_vars}
 use Rattle.st_semantics.specs.Patterns.{is_pattern, binds, bound_by}
 use Rattle.st_semantics.specs.OpenParts.{is_doubly_open}
 use Rattle.st_semantics.specs.Holding as h
@@ -24,18 +25,17 @@ use Rattle.st_semantics.specs.Reaching.{bound_behind}
 use Rattle.st_semantics.specs.Calls.{no_goal, Chosen, TooDeep, Decides, CallAt}
 use Rattle.st_semantics.specs.Executable.{class_of}
 use Rattle.st_semantics.specs.ModeRules.{has_one_open, patterns_have_one_open}
-use Rattle.st_semantics.specs.Breaches.{ClausesKeep}
+use Rattle.st_semantics.specs.Breaches.{ClauseKeeps, ClausesKeep}
 use Rattle.st_semantics.specs.Kinds.{NamesOccurring, ClausesNameOccurring, ListsOccurring}
 use Rattle.st_semantics.specs.Laws.{LawOfChoice}
-use Rattle.st_semantics.proofs.Modes.{clauses_run}
-use Rattle.st_semantics.specs.inner.Modes.{ClauseRuns}
+use Rattle.st_semantics.proofs.Modes.{keeps_both, keeps_third}
 use Rattle.st_semantics.specs.Orders.{run_on}
 use Rattle.st_semantics.proofs.Names.{Within, within-cases, within-left, within-right, and-both, known-within}
 use Rattle.st_semantics.proofs.Agree.{Gives-agree}
 use Rattle.st_semantics.proofs.Singles.{IsSingle, Gives-single}
 use Rattle.st_semantics.proofs.Elements.{All-back}
 use Rattle.st_semantics.proofs.Clauses.{hold_first, bound_more}
-use Rattle.st_semantics.proofs.CanRun.{run_split, not_cited}
+use Rattle.st_semantics.proofs.CanRun.{run_split}
 use Rattle.st_semantics.proofs.PatternForms.{AllSingly}
 use Rattle.st_semantics.proofs.PatternValues.{pattern_agrees}
 use Rattle.st_semantics.proofs.Low.{typed_low}
@@ -81,26 +81,27 @@ four true true false d h = cc
 four true false c d h = cc
 four false b c d h = cc
 
-clause_binds : (il : Il) (c : ClauseDef) → ClauseRuns il c → All NamesOccurring c.premises → ClauseBinds c
-clause_binds il c runs named =
-    let m4 = four (list_all is_pattern c.args) (all_known (bound_by c.args) (vars_of c.args)) (list_all (λ (e : IlExp). not (is_doubly_open e)) c.args) (patterns_have_one_open il (vars_of c.args) c.premises) runs.m4 in
+clause_binds : (il : Il) (c : ClauseDef) → ClauseKeeps il (M3 ∷ M4 ∷ M6 ∷ []) c → All NamesOccurring c.premises → ClauseBinds c
+clause_binds il c keep named =
+    let both = keeps_both il c (M6 ∷ []) keep in
+    let m4 = four (list_all is_pattern c.args) (all_known (bound_by c.args) (vars_of c.args)) (list_all (λ (e : IlExp). not (is_doubly_open e)) c.args) (patterns_have_one_open il (vars_of c.args) c.premises) both.1 in
     record {
       patterns = m4.0;
       singly = singly_of c.args m4.2;
       args = m4.1;
       premises = λ before p after e.
-          let found = run_split il [] before (vars_of c.args) p after (subst (λ z. run_on il (vars_of c.args) z [] ≡ true) e runs.m3) in
+          let found = run_split il [] before (vars_of c.args) p after (subst (λ z. run_on il (vars_of c.args) z [] ≡ true) e both.0) in
           let open_ok = patterns_split il before (vars_of c.args) p after (subst (λ z. patterns_have_one_open il (vars_of c.args) z ≡ true) e m4.3) in
           class_binds il (All-head NamesOccurring p after (All-back NamesOccurring before (p ∷ after) (subst (All NamesOccurring) e named))) (bound_behind c.args before) found.0 found.1
-          (subst (λ z. has_one_open z ≡ true) found.1 open_ok) (not_cited before p after (subst (λ z. list_all (λ (q : IlPrem). not (cites q)) z ≡ true) e runs.m7));
-      result = runs.m6;
+          (subst (λ z. has_one_open z ≡ true) found.1 open_ok);
+      result = keeps_third il c keep;
     }
 
-pub all_bind : (il : Il) (cs : List ClauseDef) → All (ClauseRuns il) cs → All (λ (c : ClauseDef). All NamesOccurring c.premises) cs → AllBind cs
-all_bind il [] runs named = tt
-all_bind il (c ∷ cs) runs named = (
-  clause_binds il c (All-head (ClauseRuns il) c cs runs) (All-head (λ (c : ClauseDef). All NamesOccurring c.premises) c cs named),
-  all_bind il cs (All-tail (ClauseRuns il) c cs runs) (All-tail (λ (c : ClauseDef). All NamesOccurring c.premises) c cs named),
+pub all_bind : (il : Il) (cs : List ClauseDef) → All (ClauseKeeps il (M3 ∷ M4 ∷ M6 ∷ [])) cs → All (λ (c : ClauseDef). All NamesOccurring c.premises) cs → AllBind cs
+all_bind il [] keep named = tt
+all_bind il (c ∷ cs) keep named = (
+  clause_binds il c (All-head (ClauseKeeps il (M3 ∷ M4 ∷ M6 ∷ [])) c cs keep) (All-head (λ (c : ClauseDef). All NamesOccurring c.premises) c cs named),
+  all_bind il cs (All-tail (ClauseKeeps il (M3 ∷ M4 ∷ M6 ∷ [])) c cs keep) (All-tail (λ (c : ClauseDef). All NamesOccurring c.premises) c cs named),
 )
 
 -- ---- one clause
@@ -191,8 +192,8 @@ calls_single il r zero fun vs o p a b = a ∙ sym b
 calls_single il r (suc n) fun vs o p a b = decides_single il (CallAt il n) (calls_single il r n) (clauses_of il fun) (clauses_bind (clauses_in il.defs) fun r) vs o p a b
 
 -- The same, from the rules.
-pub clauses_single : (il : Il) → ClausesKeep il → ClausesNameOccurring il → (n : ℕ) → IsSingle (CallAt il n)
-clauses_single il keep named n = calls_single il (all_bind il (clauses_in il.defs) (clauses_run il keep) named) n
+pub clauses_single : (il : Il) → ClausesKeep il (M3 ∷ M4 ∷ M6 ∷ []) → ClausesNameOccurring il → (n : ℕ) → IsSingle (CallAt il n)
+clauses_single il keep named n = calls_single il (all_bind il (clauses_in il.defs) keep named) n
 
 clause_at : (cs : List ClauseDef) → AllBind cs → (c : ClauseDef) → Contains cs c → ClauseBinds c
 clause_at cs r c (k, less, is) = at cs r k less is
@@ -211,7 +212,7 @@ listed_bound c r occur x i = elim (within-cases (bound_behind c.args c.premises)
 
 pub law_of_choice : LawOfChoice
 law_of_choice il keep named =
-    let binding = all_bind il (clauses_in il.defs) (clauses_run il keep) named in (
+    let binding = all_bind il (clauses_in il.defs) keep named in (
       λ n c among vs a b p q.
           let r = clause_at (clauses_in il.defs) binding c among in
           let g = one_environment il (CallAt il n) (calls_single il binding n) c r vs a b p q in

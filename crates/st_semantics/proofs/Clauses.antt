@@ -30,8 +30,8 @@ use Rattle.st_semantics.proofs.Runs.{Runs}
 use Rattle.st_semantics.proofs.Premises.{without-parts, Falls, falls_by, Holds-down, Meets-down, HaveValues-pattern}
 
 -- The heads of a body are patterns, and each of its premises can be met at its place.
-pub record CanRun (ls : List Listed) (heads : List IlExp) (ps : List IlPrem) : Type 0 where
-  pub premises : (before : List IlPrem) (p : IlPrem) (after : List IlPrem) → ps ≡ before ++ p ∷ after → Runs (bound_behind heads before) ls p
+pub record CanRun (D : Derives) (ls : List Listed) (heads : List IlExp) (ps : List IlPrem) : Type 0 where
+  pub premises : (before : List IlPrem) (p : IlPrem) (after : List IlPrem) → ps ≡ before ++ p ∷ after → Runs D (bound_behind heads before) ls p
 
 pub prems_vars-append : (ps qs : List IlPrem) → prems_vars (ps ++ qs) ≡ prems_vars ps ++ prems_vars qs
 prems_vars-append [] qs = refl
@@ -54,7 +54,7 @@ hold_first at rest (h.more x xs) = (x, xs)
 -- In a body that can be met in this order, the premises hold where calls come to less, or one meets
 -- Deep there.
 module _ (s : Setting) (V : Meaning) (falls : Falls (syntaxes s.il) s.calls V) (lift : (env : Env) (e : IlExp) (v : Value) → Gives (syntaxes s.il) s.calls env e (Val v) → s.meaning env e v) (allowed : s.otherwise)
-    (local : Local s.meaning) (ls : List Listed) (heads : List IlExp) (all : List IlPrem) (runs : CanRun ls heads all) (vs : List Value) where
+    (local : Local s.meaning) (D : Derives) (ls : List Listed) (heads : List IlExp) (all : List IlPrem) (runs : CanRun D ls heads all) (vs : List Value) where
   -- an environment that is typed at what is listed of these names
   abbrev pub FitsTo : List Name → Env → Type 0
   FitsTo top env = (few : List Name) → Within few top → EnvOk (syntaxes s.il) (listed_in few ls) (restricted few env) × TypedIn (syntaxes s.il) ls few env
@@ -62,7 +62,7 @@ module _ (s : Setting) (V : Meaning) (falls : Falls (syntaxes s.il) s.calls V) (
   abbrev LowAll : List Place → Type 0
   LowAll ps = HoldAll (value_by (syntaxes s.il) s.calls) (Unit {0}) no_goal ps
 
-  pub premises_down : {O : Type 0} {D : Derives} (env : Env) → HaveValues s.meaning (tasks env heads) vs → (top : List Name) → FitsTo top env
+  pub premises_down : {O : Type 0} (env : Env) → HaveValues s.meaning (tasks env heads) vs → (top : List Name) → FitsTo top env
       → (ps earlier after : List IlPrem) → all ≡ earlier ++ (ps ++ after) → Within (bound_behind heads earlier) top → Within (prems_vars ps) top
       → LowAll (places env earlier) → HoldAll V O D (places env ps)
       → Likely (LowAll (places env ps) ⊎ MeetsAmong s ls heads vs all)
@@ -110,7 +110,7 @@ module _ (s : Setting) (V : Meaning) (falls : Falls (syntaxes s.il) s.calls V) (
   heads_within top = within-both (vars_of heads) [] (bound_behind heads top) (within-left (vars_of heads) (prems_vars top)) (no_names (bound_behind heads top))
 
   -- all premises from the first on, of which some are left
-  pub body_down : {O : Type 0} {D : Derives} (env : Env) → HaveValues s.meaning (tasks env heads) vs → (ps after : List IlPrem) → all ≡ ps ++ after → FitsTo (bound_behind heads ps) env
+  pub body_down : {O : Type 0} (env : Env) → HaveValues s.meaning (tasks env heads) vs → (ps after : List IlPrem) → all ≡ ps ++ after → FitsTo (bound_behind heads ps) env
       → HoldAll V O D (places env ps) → Likely (LowAll (places env ps) ⊎ MeetsAmong s ls heads vs all)
   body_down env pats ps after eq fit hd =
       premises_down env pats (bound_behind heads ps) fit ps [] after eq (heads_within ps) (within-right (vars_of heads) (prems_vars ps)) h.done hd
@@ -118,7 +118,7 @@ module _ (s : Setting) (V : Meaning) (falls : Falls (syntaxes s.il) s.calls V) (
 -- ---- clauses
 
 abbrev pub ClauseCanRun : ClauseDef → Type 0
-ClauseCanRun c = (list_all is_pattern c.args ≡ true) × CanRun c.variables c.args c.premises
+ClauseCanRun c = (list_all is_pattern c.args ≡ true) × CanRun no_goal c.variables c.args c.premises
 
 module _ (il : Il) (C D : Answers) (low : Lowers C D) (c : ClauseDef) (can : ClauseCanRun c) (args : List Value) where
   abbrev falls : Falls (syntaxes il) C (value_by (syntaxes il) D)
@@ -131,15 +131,15 @@ module _ (il : Il) (C D : Answers) (low : Lowers C D) (c : ClauseDef) (can : Cla
   chosen_down env ch =
       let pats = args_down env ch.heads_are in
       likely_map (elim [ inl a ↦ inl (record { typed = ch.typed; heads_are = pats; hold = a }) | inr t ↦ inr t ])
-      (body_down (in_clause il C) (value_by (syntaxes il) D) falls (λ env e v g. g) tt (value_by-local (syntaxes il) C) c.variables c.args c.premises can.1 args env pats c.premises [] (sym (append-nil c.premises))
-      (fits_all (in_clause il C) (value_by (syntaxes il) D) falls (λ env e v g. g) tt (value_by-local (syntaxes il) C) c.variables c.args c.premises can.1 args env ch.typed (bound_behind c.args c.premises)) ch.hold)
+      (body_down (in_clause il C) (value_by (syntaxes il) D) falls (λ env e v g. g) tt (value_by-local (syntaxes il) C) no_goal c.variables c.args c.premises can.1 args env pats c.premises [] (sym (append-nil c.premises))
+      (fits_all (in_clause il C) (value_by (syntaxes il) D) falls (λ env e v g. g) tt (value_by-local (syntaxes il) C) no_goal c.variables c.args c.premises can.1 args env ch.typed (bound_behind c.args c.premises)) ch.hold)
 
   pub too_deep_down : TooDeep il D c args → Likely (TooDeep il C c args)
   too_deep_down t =
       let pats = args_down t.env t.reached.heads_are in
       likely_then
-      (body_down (in_clause il C) (value_by (syntaxes il) D) falls (λ env e v g. g) tt (value_by-local (syntaxes il) C) c.variables c.args c.premises can.1 args t.env pats t.before (t.premise ∷ t.after) t.split
-      (fits_behind (in_clause il C) (value_by (syntaxes il) D) falls (λ env e v g. g) tt (value_by-local (syntaxes il) C) c.variables c.args c.premises can.1 args t.env (bound_behind c.args t.before) t.reached.typed) t.reached.hold) (elim [
+      (body_down (in_clause il C) (value_by (syntaxes il) D) falls (λ env e v g. g) tt (value_by-local (syntaxes il) C) no_goal c.variables c.args c.premises can.1 args t.env pats t.before (t.premise ∷ t.after) t.split
+      (fits_behind (in_clause il C) (value_by (syntaxes il) D) falls (λ env e v g. g) tt (value_by-local (syntaxes il) C) no_goal c.variables c.args c.premises can.1 args t.env (bound_behind c.args t.before) t.reached.typed) t.reached.hold) (elim [
         | inl a ↦ likely_map (λ m. record { before = t.before; premise = t.premise; after = t.after; split = t.split; env = t.env; reached = record { typed = t.reached.typed; heads_are = pats; hold = a }; deep = m })
             (Meets-down il C D low t.deep (can.1.premises t.before t.premise t.after t.split))
         | inr d ↦ likely d

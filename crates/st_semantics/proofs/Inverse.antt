@@ -145,6 +145,13 @@ module _ (V : Meaning) (O : Type 0) (D : Derives) where
   holds_condition env p e (h.goal r es xs eq hv d) k = cc
   holds_condition env p e (h.each i xs body envs eq el all) k = cc
 
+  -- a goal holds only where it is derived
+  pub holds_goal : (env : Env) (p : IlPrem) (relation : Name) (es : List IlExp) → Holds V O D env p → out-IlPrem p ≡ IlPrem-F.Goal relation es → (vs : List Value) × D relation vs
+  holds_goal env p relation es (h.condition e eq g) k = cc
+  holds_goal env p relation es (h.otherwise eq o) k = cc
+  holds_goal env p relation es (h.goal r gs xs eq hv d) k = let same : r ≡ relation = cc in (xs, subst (λ z. D z xs) same d)
+  holds_goal env p relation es (h.each i xs body envs eq el all) k = cc
+
   abbrev pub EachHolds : Env → Iteration → List Name → IlPrem → Type 0
   EachHolds env k xs body = (envs : List Env) × AreElements V k xs env envs × HoldAll V O D (each_place envs body)
 

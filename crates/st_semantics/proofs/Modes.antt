@@ -16,7 +16,7 @@ use Rattle.st_semantics.specs.Definitions.{relation_named, rules_in, rules_from,
 use Rattle.st_semantics.specs.Directions.{direction}
 use Rattle.st_semantics.specs.Variables.{have_otherwise}
 use Rattle.st_semantics.specs.ModeRules.{IsDirected, IsOtherwise, cites_nothing, Leads, keeps_m3, keeps_m4, keeps_m6, keeps_m7}
-use Rattle.st_semantics.specs.Breaches.{KeepModes, ClausesKeep, ClauseBreaks, Standing, standings, Breaks, is_decided_behind}
+use Rattle.st_semantics.specs.Breaches.{KeepModes, ClausesKeep, ClauseKeeps, ClauseBreaks, Standing, standings, Breaks, is_decided_behind}
 use Rattle.st_semantics.specs.ModeRules as mode
 use Rattle.st_semantics.specs.inner.Modes.{ClauseRuns, ModesByName}
 
@@ -128,17 +128,34 @@ module _ (il : Il) where
           }
       by false n k e more = more k e
 
--- where no definition breaks a rule, no clause does
-pub clauses_keep : (il : Il) → KeepModes il → ClausesKeep il
-clauses_keep il keep = kept_clauses il il.defs keep
+-- where no definition breaks a rule, no clause breaks one of these
+pub clauses_keep : (il : Il) (rules : List RuleId) → KeepModes il → ClausesKeep il rules
+clauses_keep il rules keep = all_keep (clauses_in il.defs) (kept_clauses il il.defs keep)
+  where
+    keeps : (c : ClauseDef) → ClauseKept il c → (ms : List RuleId) → ClauseKeeps il ms c
+    keeps c h [] = All-nil (λ (m : RuleId). ClauseBreaks il c m → ⊥)
+    keeps c h (m ∷ ms) = All-cons (λ (m : RuleId). ClauseBreaks il c m → ⊥) m ms (h m) (keeps c h ms)
 
--- what is known of the clauses then
-pub clauses_run : (il : Il) → ClausesKeep il → All (ClauseRuns il) (clauses_in il.defs)
-clauses_run il keep = kept_run il (clauses_in il.defs) keep
+    all_keep : (cs : List ClauseDef) → All (ClauseKept il) cs → All (ClauseKeeps il rules) cs
+    all_keep [] h = All-nil (ClauseKeeps il rules)
+    all_keep (c ∷ cs) h = All-cons (ClauseKeeps il rules) c cs (keeps c (All-head (ClauseKept il) c cs h) rules) (all_keep cs (All-tail (ClauseKept il) c cs h))
+
+-- what is known of a clause that keeps M3 and M4
+pub keeps_both : (il : Il) (c : ClauseDef) (more : List RuleId) → ClauseKeeps il (M3 ∷ M4 ∷ more) c → (keeps_m3 il c ≡ true) × (keeps_m4 il c ≡ true)
+keeps_both il c more h = (
+  not_false (keeps_m3 il c) (All-head (λ (m : RuleId). ClauseBreaks il c m → ⊥) M3 (M4 ∷ more) h),
+  not_false (keeps_m4 il c) (All-head (λ (m : RuleId). ClauseBreaks il c m → ⊥) M4 more (All-tail (λ (m : RuleId). ClauseBreaks il c m → ⊥) M3 (M4 ∷ more) h)),
+)
+
+-- and of one that keeps M6 as well
+pub keeps_third : (il : Il) (c : ClauseDef) → ClauseKeeps il (M3 ∷ M4 ∷ M6 ∷ []) c → keeps_m6 c ≡ true
+keeps_third il c h =
+    not_false (keeps_m6 c) (All-head (λ (m : RuleId). ClauseBreaks il c m → ⊥) M6 []
+    (All-tail (λ (m : RuleId). ClauseBreaks il c m → ⊥) M4 (M6 ∷ []) (All-tail (λ (m : RuleId). ClauseBreaks il c m → ⊥) M3 (M4 ∷ M6 ∷ []) h)))
 
 pub modes_by_name : (il : Il) → KeepModes il → ModesByName il
 modes_by_name il keep = record {
-  clauses = clauses_run il (clauses_keep il keep);
+  clauses = kept_run il (clauses_in il.defs) (kept_clauses il il.defs keep);
   rules = λ name number rule has.
       let kept : RuleKept il name number (rules_of il name) rule = rule_kept il il.defs keep name number rule has.is_rule has.has in
       record {

@@ -17,6 +17,7 @@ use Rattle.st_semantics.specs.declared.outcome.Outcome.TheVariants.{Val, Deep}
 use Rattle.st_semantics.specs.declared.outcome.Outcomes.TheVariants.{Stopped}
 use Rattle.st_semantics.specs.Names.{Name, has_name, all_known, without}
 use Rattle.st_semantics.specs.Definitions.{syntaxes}
+use Rattle.st_semantics.specs.Directions.{inputs_of}
 use Rattle.st_semantics.specs.Environments.{AgreeOn, TypedIn}
 use Rattle.st_semantics.specs.Parts.{binary}
 use Rattle.st_semantics.specs.Operators.{equality}
@@ -201,13 +202,13 @@ module _ (s : Setting) (V : Meaning) (falls : Falls (syntaxes s.il) s.calls V) w
   counts_down bound less env k cs (inr free) g hv = likely (inl (HaveValues-pattern env (count_of k) cs free hv))
 
   -- several places, of which each can be met
-  abbrev PlacesRun : List Name → List Listed → List Place → Type 0
-  PlacesRun bound ls [] = Unit {0}
-  PlacesRun bound ls (at ∷ rest) = Runs bound ls at.1 × TypedIn (syntaxes s.il) ls (without bound (prem_vars at.1)) at.0 × PlacesRun bound ls rest
+  abbrev PlacesRun : Derives → List Name → List Listed → List Place → Type 0
+  PlacesRun D bound ls [] = Unit {0}
+  PlacesRun D bound ls (at ∷ rest) = Runs D bound ls at.1 × TypedIn (syntaxes s.il) ls (without bound (prem_vars at.1)) at.0 × PlacesRun D bound ls rest
 
-  pub places_run : (bound : List Name) (ls : List Listed) (envs : List Env) (p : IlPrem) → Runs bound ls p → AllTypedIn s.il ls (without bound (prem_vars p)) envs → PlacesRun bound ls (each_place envs p)
-  places_run bound ls [] p r t = tt
-  places_run bound ls (env ∷ envs) p r t = (r, t.0, places_run bound ls envs p r t.1)
+  pub places_run : (D : Derives) (bound : List Name) (ls : List Listed) (envs : List Env) (p : IlPrem) → Runs D bound ls p → AllTypedIn s.il ls (without bound (prem_vars p)) envs → PlacesRun D bound ls (each_place envs p)
+  places_run D bound ls [] p r t = tt
+  places_run D bound ls (env ∷ envs) p r t = (r, t.0, places_run D bound ls envs p r t.1)
 
   -- the first of them meets Deep, and those before it hold
   abbrev FirstDeep : List Name → List Listed → List Place → Type 0
@@ -230,13 +231,13 @@ module _ (s : Setting) (V : Meaning) (falls : Falls (syntaxes s.il) s.calls V) w
     hold_in ps all = HoldAll-map (value_by (syntaxes s.il) s.calls) s.meaning lift no_goal s.derives (λ r vs bad. absurd bad) (λ o. allowed) all
 
     mutual
-      pub Holds-down : {O : Type 0} {D : Derives} {env : Env} {p : IlPrem} → Holds V O D env p → (bound : List Name) (ls : List Listed) → Runs bound ls p
+      pub Holds-down : {O : Type 0} {D : Derives} {env : Env} {p : IlPrem} → Holds V O D env p → (bound : List Name) (ls : List Listed) → Runs D bound ls p
           → TypedIn (syntaxes s.il) ls (without bound (prem_vars p)) env → (less : Env) → AgreeOn bound less env → Likely (HoldsLow env p ⊎ Meets s bound ls less p)
       Holds-down {env = env} {p = p} (h.condition e eq gv) bound ls r t less g = condition_down bound ls less env p e g eq (condition_runs r e eq) gv
       Holds-down (h.otherwise eq o) bound ls r t less g = likely (inl (h.otherwise eq tt))
-      Holds-down (h.goal relation es xs eq hv d) bound ls run t less g = absurd (no_goal_runs run relation es eq)
-      Holds-down {env = env} {p = p} (h.each k xs body envs eq (cs, hv, sp) all) bound ls r t less g =
-          let w : EachRuns bound ls k xs body = each_runs r k xs body eq in
+      Holds-down (h.goal relation es xs eq hv d) bound ls run t less g = absurd (no_goal_runs run relation es eq xs d)
+      Holds-down {D = D} {env = env} {p = p} (h.each k xs body envs eq (cs, hv, sp) all) bound ls r t less g =
+          let w : EachRuns D bound ls k xs body = each_runs r k xs body eq in
           let elements = inner_typed bound p k xs body eq s.il ls env cs envs w.1 t sp in
           likely_then (counts_down bound less env k cs w.0 g hv) (elim [
             | inl hvc ↦ likely_map (elim [
@@ -246,11 +247,11 @@ module _ (s : Setting) (V : Meaning) (falls : Falls (syntaxes s.il) s.calls V) w
                   inr (d.element k xs body y.0 y.1 y.2 eq
                   (record { more = env; agrees = g; elements = (cs, HaveValues-map (value_by (syntaxes s.il) s.calls) s.meaning lift (tasks env (count_of k)) cs hvc, sp ∙ ap Over y.3) })
                   (record { typed = y.4; hold = hold_in (each_place y.0 body) y.5 }) y.6)
-            ]) (HoldAll-down all (index_of k ++ bound) (listed_inside k xs ls) (places_run (index_of k ++ bound) (listed_inside k xs ls) envs body w.2 elements))
+            ]) (HoldAll-down all (index_of k ++ bound) (listed_inside k xs ls) (places_run D (index_of k ++ bound) (listed_inside k xs ls) envs body w.2 elements))
             | inr deep ↦ likely (inr (d.here (d.count k xs body eq deep)))
           ])
 
-      pub HoldAll-down : {O : Type 0} {D : Derives} {ps : List Place} → HoldAll V O D ps → (bound : List Name) (ls : List Listed) → PlacesRun bound ls ps → Likely (AllHoldLow ps ⊎ FirstDeep bound ls ps)
+      pub HoldAll-down : {O : Type 0} {D : Derives} {ps : List Place} → HoldAll V O D ps → (bound : List Name) (ls : List Listed) → PlacesRun D bound ls ps → Likely (AllHoldLow ps ⊎ FirstDeep bound ls ps)
       HoldAll-down h.done bound ls w = likely (inl h.done)
       HoldAll-down (h.more {at = at} x xs) bound ls w = likely_then (Holds-down x bound ls w.0 w.1 at.0 (λ y i. refl)) (elim [
         | inl a ↦ likely_map (elim [ inl b ↦ inl (h.more a b) | inr f ↦ inr (inr (a, f)) ]) (HoldAll-down xs bound ls w.2)
@@ -262,13 +263,17 @@ module _ (il : Il) (C D : Answers) (low : Lowers C D) where
   abbrev low_falls : Falls (syntaxes il) C (value_by (syntaxes il) D)
   low_falls = falls_by (syntaxes il) C D low
 
-  here_down : (ls : List Listed) {bound : List Name} {env : Env} {p : IlPrem} → MeetsHere (in_clause il D) bound env p → Runs bound ls p → Likely (MeetsHere (in_clause il C) bound env p)
-  here_down ls (d.condition e part eq ev g) r = likely_map (d.condition e part eq ev) (Gives-deep (syntaxes il) C D low g)
-  here_down ls (d.input relation es eq g) r = absurd (no_goal_runs r relation es eq)
-  here_down ls (d.output relation es vs e eq hv c g) r = absurd (no_goal_runs r relation es eq)
-  here_down ls (d.count k xs body eq g) r = likely_map (d.count k xs body eq) (GivesAll-deep (syntaxes il) C D low g)
+  here_down : {bound : List Name} {env : Env} {p : IlPrem} → MeetsHere (in_clause il D) bound env p → Likely (MeetsHere (in_clause il C) bound env p)
+  here_down (d.condition e part eq ev g) = likely_map (d.condition e part eq ev) (Gives-deep (syntaxes il) C D low g)
+  here_down (d.input relation es eq g) = likely_map (d.input relation es eq) (GivesAll-deep (syntaxes il) C D low g)
+  here_down {env = env} (d.output relation es vs e eq hv c g) =
+      likely_then (HaveValues-down (in_clause il C) (value_by (syntaxes il) D) low_falls (tasks env (inputs_of il relation es)) vs hv) (elim [
+        | inl a ↦ likely_map (d.output relation es vs e eq a c) (Gives-deep (syntaxes il) C D low g)
+        | inr deep ↦ likely (d.input relation es eq deep)
+      ])
+  here_down (d.count k xs body eq g) = likely_map (d.count k xs body eq) (GivesAll-deep (syntaxes il) C D low g)
 
-  module _ (k : Iteration) (xs : List Name) (body : IlPrem) (bound : List Name) (ls : List Listed) (env : Env) (p : IlPrem) (eq : out-IlPrem p ≡ IlPrem-F.Each k xs body) (w : EachRuns bound ls k xs body) where
+  module _ (k : Iteration) (xs : List Name) (body : IlPrem) (bound : List Name) (ls : List Listed) (env : Env) (p : IlPrem) (eq : out-IlPrem p ≡ IlPrem-F.Each k xs body) (w : EachRuns no_goal bound ls k xs body) where
     -- the elements that were passed are passed there too, or something before is Deep
     passed_down : (envs rest : List Env) → Unfolds (in_clause il D) bound k xs env (envs ++ rest) → Passed (in_clause il D) bound ls k xs body envs
         → Likely ((Unfolds (in_clause il C) bound k xs env (envs ++ rest) × Passed (in_clause il C) bound ls k xs body envs) ⊎ Meets (in_clause il C) bound ls env p)
@@ -282,20 +287,20 @@ module _ (il : Il) (C D : Answers) (low : Lowers C D) where
                 (record { more = u.more; agrees = u.agrees; elements = (u.elements.0, hvc, u.elements.2 ∙ ap Over (ap (λ z. z ++ rest) y.3 ∙ append_assoc y.0 (y.1 ∷ y.2) rest)) })
                 (record { typed = y.4; hold = y.5 }) y.6)
           ]) (HoldAll-down (in_clause il C) (value_by (syntaxes il) D) low_falls (λ env e v g. g) tt done.hold (index_of k ++ bound) (listed_inside k xs ls)
-              (places_run (in_clause il C) (value_by (syntaxes il) D) low_falls (index_of k ++ bound) (listed_inside k xs ls) envs body w.2 done.typed))
+              (places_run (in_clause il C) (value_by (syntaxes il) D) low_falls no_goal (index_of k ++ bound) (listed_inside k xs ls) envs body w.2 done.typed))
           | inr deep ↦ likely (inr (d.here (d.count k xs body eq deep)))
         ])
 
-  pub Meets-down : {bound : List Name} {ls : List Listed} {env : Env} {p : IlPrem} → Meets (in_clause il D) bound ls env p → Runs bound ls p → Likely (Meets (in_clause il C) bound ls env p)
-  Meets-down {ls = ls} (d.here m) r = likely_map d.here (here_down ls m r)
+  pub Meets-down : {bound : List Name} {ls : List Listed} {env : Env} {p : IlPrem} → Meets (in_clause il D) bound ls env p → Runs no_goal bound ls p → Likely (Meets (in_clause il C) bound ls env p)
+  Meets-down (d.here m) r = likely_map d.here (here_down m)
   Meets-down {bound = bound} {ls = ls} {env = env} {p = p} (d.element k xs body before at after eq u passed m) r =
-      let w : EachRuns bound ls k xs body = each_runs r k xs body eq in
+      let w : EachRuns no_goal bound ls k xs body = each_runs r k xs body eq in
       likely_then (passed_down k xs body bound ls env p eq w before (at ∷ after) u passed) (elim [
         | inl b ↦ likely_map (d.element k xs body before at after eq b.0 b.1) (Meets-down m w.2)
         | inr deep ↦ likely deep
       ])
   Meets-down {bound = bound} {ls = ls} {env = env} {p = p} (d.height k xs body eq t) r =
-      let w : EachRuns bound ls k xs body = each_runs r k xs body eq in
+      let w : EachRuns no_goal bound ls k xs body = each_runs r k xs body eq in
       likely_map (elim [
         | inl b ↦ d.height k xs body eq (record {
           envs = t.envs;

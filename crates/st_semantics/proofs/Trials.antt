@@ -10,6 +10,7 @@ use Rattle.st_il.specs.declared.expression.IlExp.{IlExp}
 use Rattle.st_il.specs.declared.expression.IlPrem.{IlPrem}
 use Rattle.st_il.specs.declared.value.Env.{Env}
 use Rattle.st_il.specs.declared.value.Value.{Value}
+use Rattle.st_num.specs.declared.rule.RuleId.TheVariants.{M3, M4}
 use Rattle.st_semantics.specs.declared.outcome.Outcome.TheVariants.{Val}
 use Rattle.st_semantics.specs.Names.{Name, has_name, all_known}
 use Rattle.st_semantics.specs.Definitions.{syntaxes, rules_in, rules_from}
@@ -209,11 +210,11 @@ module _ (il : Il) (runs : AllCanRun (clauses_in il.defs)) where
     parts : (are_all rule.premises order ≡ true) × (are_inputs (inputs_of_rule il rule) ≡ true) × (run_on il (vars_of (inputs_of_rule il rule)) (in_order rule.premises order) (vars_of (outputs_of_rule il rule)) ≡ true)
     parts = three (are_all rule.premises order) (are_inputs (inputs_of_rule il rule)) _ is
 
-    can : CanRun rule.variables (inputs_of_rule il rule) (in_order rule.premises order)
-    can = can_run il rule.variables (inputs_of_rule il rule) (in_order rule.premises order) (vars_of (outputs_of_rule il rule)) parts.2
+    can : CanRun (derived il) rule.variables (inputs_of_rule il rule) (in_order rule.premises order)
+    can = can_run il (derived il) rule.variables (inputs_of_rule il rule) (in_order rule.premises order) (vars_of (outputs_of_rule il rule)) parts.2
         (each_all (IsKinded rule.variables) (in_order rule.premises order) (each_in_order (IsKinded rule.variables) rule.premises order (all_each (IsKinded rule.variables) rule.premises kinds)))
-        (true_each (λ (q : IlPrem). not (cites q)) (in_order rule.premises order)
-        (each_in_order (λ (q : IlPrem). not (cites q) ≡ true) rule.premises order (each_true (λ (q : IlPrem). not (cites q)) rule.premises plain)))
+        (inl (ap not (true_each (λ (q : IlPrem). not (cites q)) (in_order rule.premises order)
+        (each_in_order (λ (q : IlPrem). not (cites q) ≡ true) rule.premises order (each_true (λ (q : IlPrem). not (cites q)) rule.premises plain)))))
 
     in_ordered : HoldAll (has_value il) (Unit {0}) (derived il) (places gives.env (in_order rule.premises order))
     in_ordered = each_hold gives.env (in_order rule.premises order)
@@ -232,9 +233,9 @@ module _ (il : Il) (runs : AllCanRun (clauses_in il.defs)) where
 
     premises_at : Likely (HoldAll (value_by (syntaxes il) (CallAt il checking_depth)) (Unit {0}) no_goal (places gives.env (in_order rule.premises order)))
     premises_at = likely_map (elim [ inl a ↦ a | inr m ↦ absurd (no_meeting m) ])
-        (body_down (in_trial il) (has_value il) some_falls lift tt some_local rule.variables (inputs_of_rule il rule) (in_order rule.premises order) can inputs
+        (body_down (in_trial il) (has_value il) some_falls lift tt some_local (derived il) rule.variables (inputs_of_rule il rule) (in_order rule.premises order) can inputs
         gives.env gives.reached.heads_are (in_order rule.premises order) [] (sym (append-nil (in_order rule.premises order)))
-        (fits_all (in_trial il) (has_value il) some_falls lift tt some_local rule.variables (inputs_of_rule il rule) (in_order rule.premises order) can inputs gives.env gives.reached.typed
+        (fits_all (in_trial il) (has_value il) some_falls lift tt some_local (derived il) rule.variables (inputs_of_rule il rule) (in_order rule.premises order) can inputs gives.env gives.reached.typed
         (bound_behind (inputs_of_rule il rule) (in_order rule.premises order))) in_ordered)
 
     -- ---- inputs
@@ -335,4 +336,4 @@ rule_kinds name (r ∷ rs) number rule e kinds =
 
 pub trials_are_stable : (il : Il) → KeepModes il → AreKinded il → TrialsAreStable il
 trials_are_stable il modes kinds name number rule at order inputs plain is not_deep gives =
-    trial_at il (clauses_can_be_run il (clauses_keep il modes) kinds.clauses) rule (rule_kinds name (rules_in il.defs) number rule at kinds.rules) order inputs plain is not_deep gives
+    trial_at il (clauses_can_be_run il (clauses_keep il (M3 ∷ M4 ∷ []) modes) kinds.clauses) rule (rule_kinds name (rules_in il.defs) number rule at kinds.rules) order inputs plain is not_deep gives

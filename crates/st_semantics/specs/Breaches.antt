@@ -55,12 +55,15 @@ Breaks il (Rule rule, after) m = RuleBreaks il rule after m
 Breaks il (Clause c, after) m = ClauseBreaks il c m
 Breaks il (_, after) m = ⊥
 
--- No clause breaks one of M3, M4, M6 and M7.
-abbrev pub ClausesKeep : Il → Type 0
-ClausesKeep il =
-    All (λ (c : ClauseDef). (m : RuleId) → ClauseBreaks il c m → ⊥) (clauses_in il.defs)
+-- the clause breaks none of these rules
+abbrev pub ClauseKeeps : Il → List RuleId → ClauseDef → Type 0
+ClauseKeeps il rules c = All (λ (m : RuleId). ClauseBreaks il c m → ⊥) rules
 
--- No definition breaks one of them.
+-- No clause breaks one of these rules.
+abbrev pub ClausesKeep : Il → List RuleId → Type 0
+ClausesKeep il rules = All (ClauseKeeps il rules) (clauses_in il.defs)
+
+-- No definition breaks one of the rules M1 to M7.
 abbrev pub KeepModes : Il → Type 0
 KeepModes il =
     All (λ (at : Standing). (m : RuleId) → Breaks il at m → ⊥) (standings il.defs)

@@ -1,6 +1,7 @@
 -- The laws of these definitions, as statements: each is a clause of `meaning_of_rules`. `Typed` is
 -- the typing of an internal language.
-use Rattle.std.specs.Prelude.{◌≡◌, ◌↔◌, ℕ, ◌≤◌, true, List, Option, Some, Ok, Contains}
+use Rattle.std.specs.Prelude.{◌≡◌, ◌↔◌, ℕ, ◌≤◌, true, List, [], ◌∷◌, Option, Some, Ok, Contains}
+use Rattle.st_num.specs.declared.rule.RuleId.TheVariants.{M3, M4, M6}
 use Rattle.st_deriv.specs.declared.line.Line.{Line}
 use Rattle.st_il.specs.declared.definition.ClauseDef.{ClauseDef}
 use Rattle.st_il.specs.declared.definition.Il.{Il}
@@ -84,18 +85,20 @@ ChosenIsNotDeep il =
     (n : ℕ) (c : ClauseDef) → Contains (clauses_in il.defs) c → (vs : List Value) (env : Env)
     → Chosen il (CallAt il n) c vs env → TooDeep il (CallAt il n) c vs → ⊥
 
--- Where clauses keep the rules M3, M4, M6 and M7 and their iterated premises name only variables of
--- their kind, an outcome that is not Deep is the outcome at every larger depth.
+-- Where clauses keep the rules M3 and M4 and their iterated premises name only variables of their
+-- kind, an outcome that is not Deep is the outcome at every larger depth.
 abbrev pub LawOfDepths : Type 0
-LawOfDepths = (il : Il) → ClausesKeep il → ClausesAreKinded il → IsStable il × IsDeepBelow il
+LawOfDepths =
+    (il : Il) → ClausesKeep il (M3 ∷ M4 ∷ []) → ClausesAreKinded il
+    → IsStable il × IsDeepBelow il
 
--- Where clauses keep these rules and the iterated premises of clauses name only variables that
+-- Where clauses keep the rules M3, M4 and M6 and their iterated premises name only variables that
 -- occur inside, two environments that choose a clause agree on all that it binds, and are one where
 -- all variables that it lists occur in it; a clause that is chosen does not meet Deep; and calls
 -- and expressions come to one outcome at most.
 abbrev pub LawOfChoice : Type 0
 LawOfChoice =
-    (il : Il) → ClausesKeep il → ClausesNameOccurring il
+    (il : Il) → ClausesKeep il (M3 ∷ M4 ∷ M6 ∷ []) → ClausesNameOccurring il
     → ChoosesOnce il × ChosenIsNotDeep il × CallsAreSingle il × ExpressionsAreSingle il
 
 -- an outcome depends only on the values of the variables that occur in the expression

@@ -1,11 +1,12 @@
 -- What a verifier answers to a line, from its parts.
-use Rattle.std.proofs.Common.{◌≡◌, ◌+◌, ◌<◌, ◌≤◌, ◌^◌, List, Option, Some, None, Result, Ok, Err, IsErrAnd, length, refl, sym, subst, arith}
+use Rattle.std.proofs.Common.{◌≡◌, ◌+◌, ◌<◌, ◌≤◌, ◌^◌, List, [], ◌∷◌, Option, Some, None, Result, Ok, Err, IsErrAnd, length, refl, sym, subst, arith}
 use Rattle.st_deriv.specs.declared.line.Line.{Line}
 use Rattle.st_deriv.specs.declared.line.Line.TheVariants.{Head, From, Node, Step, End}
 use Rattle.st_il.specs.declared.definition.Il.{Il}
 use Rattle.st_verify.specs.declared.fault.VerifyFault.{VerifyFault}
 use Rattle.st_verify.specs.declared.fault.VerifyFault.TheVariants.{Memory}
 use Rattle.st_il.specs.Small.{IsSmallIl}
+use Rattle.st_num.specs.declared.rule.RuleId.TheVariants.{M3, M4, M6}
 use Rattle.st_semantics.specs.declared.notes.Notes.{Notes}
 use Rattle.st_semantics.specs.declared.verify_rule.VerifyRule.{VerifyRule}
 use Rattle.st_semantics.specs.Accepts.{ReadsTo, AreSound}
@@ -79,7 +80,7 @@ pub kept_one : (checking : Checking) (il : Il) (notes : Notes) → il ≡ checki
     → Verdict checking.il checking.notes line broken → Verdict checking.il checking.notes line other → broken ≡ other
 kept_one checking il notes same kept line =
     let small = kept_small checking il notes same kept in
-    let choice = law_of_choice checking.il (small_clauses_keep checking.il small) (small_clauses_name checking.il small) in
+    let choice = law_of_choice checking.il (small_clauses_keep checking.il (M3 ∷ M4 ∷ M6 ∷ []) small) (small_clauses_name checking.il small) in
     law_of_verdicts checking.il choice.2 checking.notes line
 
 pub kept_sound : (checking : Checking) (il : Il) (notes : Notes) → il ≡ checking.il → IsKept il notes → (lines : List Line) (read : Notes) → ReadsTo checking.il lines read

@@ -12,7 +12,7 @@ use Rattle.st_il.specs.declared.definition.RuleDef.{RuleDef}
 use Rattle.st_il.specs.declared.small.Small.{Small}
 use Rattle.st_il.specs.declared.small.SmallRule.{SmallRule}
 use Rattle.st_il.specs.Small.{il_of, rule_def, syntax_def, relation_def, IsSmallIl}
-use Rattle.st_semantics.specs.Breaches.{Standing, standings, Breaks, RuleBreaks, ClauseBreaks, KeepModes, ClausesKeep}
+use Rattle.st_semantics.specs.Breaches.{Standing, standings, Breaks, RuleBreaks, ClauseKeeps, KeepModes, ClausesKeep}
 use Rattle.st_semantics.specs.Kinds.{IsKinded, AreKinded, NamesOccurring, ClausesNameOccurring}
 use Rattle.st_verify.proofs.SmallIl.{rule_of, clauses-small, all_rules-small}
 
@@ -38,9 +38,6 @@ keep_modes s =
     All-cons (Keeps (il_of s)) (syntax_def s.syntax s.atoms, relation ∷ rules) (standings (relation ∷ rules)) (λ m breaks. breaks)
     (All-cons (Keeps (il_of s)) (relation, rules) (standings rules) (λ m breaks. breaks) (rules_keep (il_of s) s.relation s.syntax s.rules))
 
-abbrev ClauseKeeps : Il → ClauseDef → Type 0
-ClauseKeeps il c = (m : RuleId) → ClauseBreaks il c m → ⊥
-
 abbrev PremisesName : ClauseDef → Type 0
 PremisesName c = All NamesOccurring c.premises
 
@@ -57,8 +54,8 @@ are_kinded s = record {
 }
 
 -- it has no clauses
-pub clauses_keep : (s : Small) → ClausesKeep (il_of s)
-clauses_keep s = subst (All (ClauseKeeps (il_of s))) (sym (clauses-small s)) (All-nil (ClauseKeeps (il_of s)))
+pub clauses_keep : (s : Small) (rules : List RuleId) → ClausesKeep (il_of s) rules
+clauses_keep s rules = subst (All (ClauseKeeps (il_of s) rules)) (sym (clauses-small s)) (All-nil (ClauseKeeps (il_of s) rules))
 
 pub clauses_name_occurring : (s : Small) → ClausesNameOccurring (il_of s)
 clauses_name_occurring s = subst (All PremisesName) (sym (clauses-small s)) (All-nil PremisesName)
@@ -70,8 +67,8 @@ small_keeps_modes il small = subst KeepModes (sym small.means) (keep_modes small
 pub small_kinded : (il : Il) → IsSmallIl il → AreKinded il
 small_kinded il small = subst AreKinded (sym small.means) (are_kinded small.source)
 
-pub small_clauses_keep : (il : Il) → IsSmallIl il → ClausesKeep il
-small_clauses_keep il small = subst ClausesKeep (sym small.means) (clauses_keep small.source)
+pub small_clauses_keep : (il : Il) (rules : List RuleId) → IsSmallIl il → ClausesKeep il rules
+small_clauses_keep il rules small = subst (λ z. ClausesKeep z rules) (sym small.means) (clauses_keep small.source rules)
 
 pub small_clauses_name : (il : Il) → IsSmallIl il → ClausesNameOccurring il
 small_clauses_name il small = subst ClausesNameOccurring (sym small.means) (clauses_name_occurring small.source)

@@ -1,5 +1,6 @@
-use Rattle.std.proofs.Common.{refl, sym, subst}
+use Rattle.std.proofs.Common.{refl, sym, subst, List, [], ◌∷◌}
 use Rattle.st_il.specs.Small.{il_of}
+use Rattle.st_num.specs.declared.rule.RuleId.TheVariants.{M3, M4, M6}
 use Rattle.st_semantics.specs.Verdict.{Verdict}
 use Rattle.st_semantics.proofs.Choices.{law_of_choice}
 use Rattle.st_semantics.proofs.Verdicts.{law_of_verdicts}
@@ -19,7 +20,7 @@ returns-clause-steps c = λ s term next. (derivable_step s term next, step_deriv
 pub returns-clause-verdicts : goal.returns-clause-verdicts
 returns-clause-verdicts c = λ s small lines notes read line broken answer first.
     let trees = read_trees (il_of s) lines notes (record { source = s; small = small; means = refl }) read in
-    let choice = law_of_choice (il_of s) (clauses_keep s) (clauses_name_occurring s) in
+    let choice = law_of_choice (il_of s) (clauses_keep s (M3 ∷ M4 ∷ M6 ∷ [])) (clauses_name_occurring s) in
     let verdict = verdict_of_breach s small notes broken line trees first in (
       λ other. law_of_verdicts (il_of s) choice.2 notes line answer broken other verdict,
       λ same. subst (Verdict (il_of s) notes line) (sym same) verdict,
