@@ -10,7 +10,7 @@ use Rattle.st_el.specs.declared.definition.Body.{Body}
 use Rattle.st_el.specs.declared.definition.Body.TheVariants.{Alias, Cases, Fields}
 use Rattle.st_el.specs.declared.definition.Def.{Def}
 use Rattle.st_el.specs.declared.definition.DefNode.{DefNode}
-use Rattle.st_el.specs.declared.definition.DefNode.TheVariants.{Syntax}
+use Rattle.st_el.specs.declared.definition.DefNode.TheVariants.{Syntax, Var, Relation, Rule, Fun, Clause}
 use Rattle.st_el.specs.declared.definition.Hint.{Hint}
 use Rattle.st_el.specs.declared.notation.Notation.{Notation}
 use Rattle.st_il.specs.declared.definition.Alternative.{Alternative}
@@ -171,3 +171,39 @@ fragment-declares before behind def name piece body entries is h =
         ∙ ap (λ node. Some (Some (flat_map alternative_of (alternatives_of node ++ alternatives name behind)))) is in
         ap (declared_fragment name body) all
         ∙ ap (λ b. il.Syntax (record { name = name; body = b }) ∷ []) (joined-with body (alternatives name behind))
+
+-- ---- gathering and joining, call by call
+
+put-by : (b : Bool) (x y z : Option (Option (List Alternative))) → (if b then x else (if b then y else z)) ≡ (if b then x else z)
+put-by true x y z = refl
+put-by false x y z = refl
+
+-- what was taken, and put back with more
+pub gathered-put : (old mid new : Entries) (name : List ℕ) (all own : List Alternative)
+    → ((q : List ℕ) → at mid q ≡ (if same_name q name then Some None else at old q))
+    → ((q : List ℕ) → at new q ≡ (if same_name q name then Some (Some all) else at mid q))
+    → all ≡ gathered_in (at old name) ++ own
+    → (q : List ℕ) → at new q ≡ (if same_name q name then Some (Some (gathered_in (at old name) ++ own)) else at old q)
+gathered-put old mid new name all own taken put is q =
+    put q ∙ ap (λ o. if same_name q name then Some (Some all) else o) (taken q)
+    ∙ put-by (same_name q name) (Some (Some all)) (Some None) (at old q)
+    ∙ ap (λ parts. if same_name q name then Some (Some parts) else at old q) is
+
+own-node : (before behind : List Def) (node : DefNode) → ((q : List ℕ) → is_fragment_node q node ≡ false) → joined_node before node behind ≡ node ∷ []
+own-node before behind (Syntax name None body) h = refl
+own-node before behind (Syntax name (Some piece) body) h = absurd (true≢false (sym (same-refl name) ∙ h name))
+own-node before behind (Var name typ) h = refl
+own-node before behind (Relation name n) h = refl
+own-node before behind (Rule r name e ps) h = refl
+own-node before behind (Fun name ps t) h = refl
+own-node before behind (Clause name as' e ps) h = refl
+
+-- a definition that is no fragment declares what it declares by itself
+pub own-declares : (before behind : List Def) (def : Def) → ((q : List ℕ) → is_fragment_node q def.node ≡ false)
+    → declared_by def ≡ flat_map declared_by (joined_at before def behind)
+own-declares before behind def h =
+    sym (ap (λ nodes. flat_map declared_by (map (λ node. record def { node = node }) nodes)) (own-node before behind def.node h) ∙ nil (declared_by def))
+  where
+    nil : (xs : List IlDef) → xs ++ [] ≡ xs
+    nil [] = refl
+    nil (x ∷ xs) = ap (λ ys. x ∷ ys) (nil xs)

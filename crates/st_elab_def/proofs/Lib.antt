@@ -10,6 +10,8 @@ pub mod DeclaredLists
 pub mod Gathering
 pub mod Heading
 pub mod ContentLemmas
+pub mod Putting
+pub mod Sounding
 pub mod PlainTwice
 mod Examples
 mod ExamplesOfCases

@@ -6,3 +6,4 @@ pub mod Gathering
 pub mod Heads
 pub mod Joining
 pub mod Contents
+pub mod Whole

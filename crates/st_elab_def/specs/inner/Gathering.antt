@@ -4,6 +4,8 @@ use Rattle.std.specs.Borrow.{Bor}
 use Rattle.st_el.specs.declared.definition.Body.{Body}
 use Rattle.st_el.specs.declared.definition.Body.TheVariants.{Cases}
 use Rattle.st_el.specs.declared.definition.Def.{Def}
+use Rattle.st_el.specs.declared.definition.DefNode.{DefNode}
+use Rattle.st_el.specs.declared.definition.DefNode.TheVariants.{Syntax}
 use Rattle.st_il.specs.declared.definition.Alternative.{Alternative}
 use Rattle.st_il.specs.declared.definition.IlDef.{IlDef}
 use Rattle.st_il.specs.declared.definition.IlDef.TheVariants as il
@@ -48,3 +50,7 @@ abbrev pub declared_fragment : List ℕ → Body → Option (Option (List Altern
 declared_fragment name b (Some (Some parts)) =
     il.Syntax (record { name = name; body = body_with b parts }) ∷ []
 declared_fragment name b found = []
+
+-- The definition is a fragment of this name and body.
+abbrev pub IsFragmentOf : DefNode → List ℕ → Body → Type 0
+IsFragmentOf node name b = (piece : List ℕ) × (node ≡ Syntax name (Some piece) b)
