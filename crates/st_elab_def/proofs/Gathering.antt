@@ -1,11 +1,11 @@
 -- The alternatives of fragments, gathered and taken.
-use Rattle.std.proofs.Common.{◌≡◌, refl, sym, ap, ◌∙◌, subst, ℕ, Bool, true, false, true≢false, ◌||◌, if◌then◌else◌, Some, None, List, [], ◌∷◌, ◌++◌, map, filter}
+use Rattle.std.proofs.Common.{◌≡◌, refl, sym, ap, ◌∙◌, subst, ℕ, ◌+◌, ◌<◌, ◌≤◌, Bool, true, false, true≢false, ◌||◌, if◌then◌else◌, Some, None, List, [], ◌∷◌, ◌++◌, map, filter, length, take, drop, get_or, append_assoc, append-nil, arith}
 use Rattle.std.specs.Prelude.{Option, flat_map}
 use Rattle.std.specs.List.{list_any}
-use Rattle.std.proofs.lemmas.Grind.{flat_map-append}
+use Rattle.std.proofs.lemmas.Grind.{common_steps, flat_map-append}
 use Rattle.std.proofs.lemmas.List.Elements.{filter-append}
 use Rattle.st_num.specs.Names.{same_name}
-use Rattle.st_el.specs.Erasure.{is_fragment, is_fragment_node, alternatives_of, alternatives_in, alternatives, joined, joined_at, joined_node}
+use Rattle.st_el.specs.Erasure.{is_fragment, is_fragment_node, alternatives_of, alternatives_in, alternatives, joined, joined_at, joined_behind, joined_node}
 use Rattle.st_el.specs.declared.definition.Body.{Body}
 use Rattle.st_el.specs.declared.definition.Body.TheVariants.{Alias, Cases, Fields}
 use Rattle.st_el.specs.declared.definition.Def.{Def}
@@ -16,6 +16,8 @@ use Rattle.st_el.specs.declared.notation.Notation.{Notation}
 use Rattle.st_il.specs.declared.definition.Alternative.{Alternative}
 use Rattle.st_il.specs.declared.definition.IlDef.{IlDef}
 use Rattle.st_il.specs.declared.definition.IlDef.TheVariants as il
+use Rattle.st_dims.proofs.Lists.{next_taken}
+use Rattle.st_elab_rows.proofs.Builds.{from_place}
 use Rattle.st_elab_def.specs.DeclsOf.{alternative_of, body_of, declared_by}
 use Rattle.st_elab_def.specs.Fragments.{has_fragment}
 use Rattle.st_elab_def.specs.Phases.{alternatives_before}
@@ -207,3 +209,31 @@ own-declares before behind def h =
     nil : (xs : List IlDef) → xs ++ [] ≡ xs
     nil [] = refl
     nil (x ∷ xs) = ap (λ ys. x ∷ ys) (nil xs)
+
+-- ---- the source is walked
+
+module _ (defs : List Def) (i : ℕ) (def : Def) (h : i < length defs) (is : def ≡ get_or defs i def) where
+  pub untaken-here : (entries : Entries) → Untaken (take i defs) (drop i defs) entries → Untaken (take i defs) (def ∷ drop (i + 1) defs) entries
+  untaken-here entries u = subst (λ ds. Untaken (take i defs) ds entries) (from_place defs i def h is) u
+
+  pub untaken-next : (entries : Entries) → Untaken (take i defs ++ def ∷ []) (drop (i + 1) defs) entries → Untaken (take (i + 1) defs) (drop (i + 1) defs) entries
+  untaken-next entries u = subst (λ ds. Untaken ds (drop (i + 1) defs) entries) (sym (next_taken defs i def h is)) u
+
+  pub declared-next : (old new whole : List IlDef) → new ≡ old ++ flat_map declared_by (joined_at (take i defs) def (drop (i + 1) defs))
+      → old ++ flat_map declared_by (joined_behind (take i defs) (drop i defs)) ≡ whole
+      → new ++ flat_map declared_by (joined_behind (take (i + 1) defs) (drop (i + 1) defs)) ≡ whole
+  declared-next old new whole pushed made =
+      (λ k. pushed k ++ flat_map declared_by (joined_behind (next_taken defs i def h is k) (drop (i + 1) defs)))
+      ∙ append_assoc old (flat_map declared_by (joined_at (take i defs) def (drop (i + 1) defs))) (flat_map declared_by later)
+      ∙ ap (λ xs. old ++ xs) (sym (flat_map-append declared_by (joined_at (take i defs) def (drop (i + 1) defs)) later))
+      ∙ ap (λ ds. old ++ flat_map declared_by (joined_behind (take i defs) ds)) (sym (from_place defs i def h is))
+      ∙ made
+    where
+      later : List Def
+      later = joined_behind (take i defs ++ def ∷ []) (drop (i + 1) defs)
+
+pub declared-end : (defs : List Def) (i : ℕ) (out whole : List IlDef) → length defs ≤ i
+    → out ++ flat_map declared_by (joined_behind (take i defs) (drop i defs)) ≡ whole → out ≡ whole
+declared-end defs i out whole h made =
+    let none : drop i defs ≡ [] = grind (arith, common_steps) in
+    sym (append-nil out) ∙ ap (λ ds. out ++ flat_map declared_by (joined_behind (take i defs) ds)) (sym none) ∙ made

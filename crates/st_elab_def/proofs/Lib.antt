@@ -11,6 +11,8 @@ pub mod Gathering
 pub mod Heading
 pub mod ContentLemmas
 pub mod Putting
+pub mod Bridging
+pub mod Parting
 pub mod Sounding
 pub mod PlainTwice
 mod Examples

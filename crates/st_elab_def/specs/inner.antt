@@ -7,3 +7,4 @@ pub mod Heads
 pub mod Joining
 pub mod Contents
 pub mod Whole
+pub mod Places
