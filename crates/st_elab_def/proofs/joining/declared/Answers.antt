@@ -1,9 +1,12 @@
-use Rattle.std.proofs.Common.{refl, take, drop, ◌+◌}
+use Rattle.std.proofs.Common.{ap, take, drop, ◌+◌, ◌++◌, []}
+use Rattle.std.specs.Prelude.{flat_map}
+use Rattle.st_elab_def.specs.DeclsOf.{declared_by}
+use Rattle.st_el.specs.Erasure.{joined_behind}
 use Rattle.st_elab_def.proofs.Gathering.{untaken-here, untaken-next, declared-next, declared-end}
 use Rattle.st_elab_def.proofs.joining.declared.Goals as goal
 
 pub loop-def-init : goal.loop-def-init
-loop-def-init c = record { untaken = c.in_ok-parts.ensures; made = refl }
+loop-def-init c = record { untaken = c.in_ok-parts.ensures; made = ap (λ xs. xs ++ flat_map declared_by (joined_behind [] c.args.defs.now)) c.new-out.ensures }
 
 pub loop-def-preserved : goal.loop-def-preserved
 loop-def-preserved c =
