@@ -161,7 +161,7 @@ Same-declared place part whole all front (n ∷ ns) is at =
     at (length front) ∙ ap (λ ms. name_place ms (length front) whole) is ∙ name_place-front front ns n whole in (
       ap (λ a. placed_type a (types.declared n.name)) (sym here),
       subst (λ k. Same place (all_declared ns) (types.all_declared part k (plain_names ns))) (sym (length-more front n))
-      (Same-declared place part whole all (front ++ n ∷ []) ns (is ∙ append-more front ns n) at),
+          (Same-declared place part whole all (front ++ n ∷ []) ns (is ∙ append-more front ns n) at),
     )
 
 -- the names of an alias
@@ -170,10 +170,11 @@ pub Same-alias : (target : List ℕ) (whole : Span) (all front ns : List Named) 
 Same-alias target whole all front [] is = tt
 Same-alias target whole all front (n ∷ ns) is =
     let here : name_place all (length front) whole ≡ n.at = ap (λ ms. name_place ms (length front) whole) is ∙ name_place-front front ns n whole in (
-      ap (λ a. placed_type a (types.declared n.name)) (sym here), (
+      ap (λ a. placed_type a (types.declared n.name)) (sym here),
+      (
         ap (λ a. placed_type a (types.no_return n.name target)) (sym here),
         subst (λ k. Same (λ b. name_place all b.name whole) (flat_map (on_alias_name target) ns) (types.on_alias target k (plain_names ns))) (sym (length-more front n))
-        (Same-alias target whole all (front ++ n ∷ []) ns (is ∙ append-more front ns n)),
+            (Same-alias target whole all (front ++ n ∷ []) ns (is ∙ append-more front ns n)),
       ),
     )
 
@@ -185,9 +186,12 @@ Same-bare : (place : Broken → Span) (target : List ℕ) (so_far : List Alterna
 Same-bare place target so_far part whole t (TypNode-F.Name name) a e at =
     let is : alternative.Incl name ≡ a = cc in
     subst (λ a. Same place (on_bare target so_far whole t (TypNode-F.Name name)) (types.on_alternative target part so_far a)) is (
-      ap (λ p. placed_type p (types.declared name)) (sym (at 0 B2)), (
-        ap (λ p. placed_type p (types.no_return name target)) (sym (at 0 B4)), (
-          ap (λ p. placed_type p (types.variant name)) (sym (at 0 B5)), (
+      ap (λ p. placed_type p (types.declared name)) (sym (at 0 B2)),
+      (
+        ap (λ p. placed_type p (types.no_return name target)) (sym (at 0 B4)),
+        (
+          ap (λ p. placed_type p (types.variant name)) (sym (at 0 B5)),
+          (
             ap (λ p. placed_type p (types.keys so_far)) (sym (at 0 Y7)),
             tt,
           ),
@@ -212,7 +216,7 @@ Same-case place target so_far part n a e at =
     subst (λ a. Same place (placed_type (out-Notation n).at (types.keys so_far) ∷ all_declared (flat_map names_in (holes_of n))) (types.on_alternative target part so_far a)) is (
       ap (λ p. placed_type p (types.keys so_far)) (sym (at 0 Y7)),
       subst (λ names. Same place (all_declared (flat_map names_in (holes_of n))) (types.all_declared part 0 names)) (sym (names-all (holes_of n)))
-      (Same-declared place part (out-Notation n).at (flat_map names_in (holes_of n)) [] (flat_map names_in (holes_of n)) refl (λ k. at k B2)),
+          (Same-declared place part (out-Notation n).at (flat_map names_in (holes_of n)) [] (flat_map names_in (holes_of n)) refl (λ k. at k B2)),
     )
 
 Same-at : (place : Broken → Span) (target : List ℕ) (so_far : List Alternative) (part : ℕ) (n : Notation) (x : NotNode-F NotNode Notation) (a : Alternative)
@@ -278,7 +282,7 @@ Same-field : (place : Broken → Span) (whole : Span) (part : ℕ) (before : Lis
 Same-field place whole part before f at = (
   ap (λ p. placed_type p (types.new_field before f.0)) (sym (at 0 B1)),
   subst (λ names. Same place (all_declared (names_in f.1)) (types.all_declared part 0 names)) (sym (names-back f.1))
-  (Same-declared place part whole (names_in f.1) [] (names_in f.1) refl (λ k. at k B2)),
+      (Same-declared place part whole (names_in f.1) [] (names_in f.1) refl (λ k. at k B2)),
 )
 
 pub Same-fields : (whole : Span) (all front fs : List (List ℕ × Typ)) (before : List (List ℕ × Ty)) → all ≡ front ++ fs

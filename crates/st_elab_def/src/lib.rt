@@ -18,6 +18,7 @@ mod decls;
 mod elaborated;
 mod heads;
 mod index;
+mod joining;
 mod laws;
 mod names;
 mod numbered;
