@@ -33,6 +33,7 @@ abbrev pub case_place : Notation → ℕ → RuleId → Span
 case_place n number Y7 = (out-Notation n).at
 case_place n number rule = name_place (flat_map names_in (holes_of n)) number (out-Notation n).at
 
+-- the place in an alternative: in a type that stands by itself, or in a case
 abbrev pub place_at : Notation → NotNode-F NotNode Notation → ℕ → RuleId → Span
 place_at n (NotNode-F.Hole t) number rule = bare_place (out-Notation n).at t rule
 place_at n node number rule = case_place n number rule
@@ -63,6 +64,7 @@ abbrev pub IsNameless : TypNode-F TypNode Typ → Type 0
 IsNameless (TypNode-F.Name name) = ⊥
 IsNameless node = Unit {0}
 
+-- an alternative is a type by itself that is no name
 abbrev pub IsBareAt : NotNode-F NotNode Notation → Type 0
 IsBareAt (NotNode-F.Hole t) = IsNameless (type_node t)
 IsBareAt node = ⊥
