@@ -4,8 +4,9 @@ ghost use Rattle.std.specs.Prelude.{◌≡◌, [], ◌∷◌, ◌++◌, flat_map
 ghost use Rattle.st_elab_law.specs.Agreement.{syntaxes};
 ghost use Rattle.st_elab_def.specs.DeclsOf.{var_in, fun_in, relation_in};
 
-use crate::copied::{copy_fun, copy_relation, copy_syntax};
-use st_il::{FunDef, IlDef, RelationDef, SyntaxDef, Ty, copy_ty};
+use st_il::{
+    FunDef, IlDef, RelationDef, SyntaxDef, Ty, copy_fun, copy_relation, copy_syntax, copy_ty,
+};
 use st_num::{Name, NoMemory, Row};
 use std::alloc::Global;
 

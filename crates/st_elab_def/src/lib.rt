@@ -11,7 +11,6 @@
 
 mod breach;
 mod contents;
-mod copied;
 mod declarations;
 mod declared;
 mod decls;

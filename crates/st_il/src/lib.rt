@@ -9,6 +9,7 @@
 
 mod copy;
 mod definition;
+mod definition_copy;
 mod expression;
 mod height;
 mod key;
@@ -30,6 +31,7 @@ pub use copy::{copy_env, copy_fields, copy_ty, copy_tys, copy_value, copy_values
 pub use definition::{
     Alternative, ClauseDef, FunDef, Il, IlDef, Listed, RelationDef, RuleDef, SyntaxBody, SyntaxDef,
 };
+pub use definition_copy::{copy_body, copy_fun, copy_relation, copy_syntax};
 pub use expression::{IlExp, IlPrem, Iteration, ListItem, PathSeg};
 pub use height::is_within_height;
 pub use key::{Key, key_of, same_key};

@@ -16,8 +16,8 @@ use crate::parts::check_def;
 use crate::ranking::settle;
 use crate::survey::{Survey, survey_of};
 use indexmap::IndexMap;
-use st_il::{Alternative, SyntaxBody, SyntaxDef, Ty, copy_ty, copy_tys};
-use st_num::{Name, NoMemory, Row};
+use st_il::{SyntaxBody, SyntaxDef, copy_body};
+use st_num::{Name, NoMemory};
 use std::alloc::Global;
 
 /// How many positions 32 bits can tell: a list that they count is shorter.
@@ -159,57 +159,4 @@ fn entry_for(
         cases,
         join_rank,
     })
-}
-
-/// The same alternatives again.
-fn copy_alternatives(alloc: Global, parts: &[Alternative]) -> Result<Row<Alternative>, NoMemory>
-    ensures { IfOk result (λ copies. copies ≡ parts.now) }
-{
-    let mut copies = Row::new(alloc);
-    for part in parts {
-        let copy = copy_alternative(alloc, part)?;
-        copies.push(copy)?;
-    }
-    Ok(copies)
-}
-
-/// A copy of the alternative.
-fn copy_alternative(alloc: Global, part: &Alternative) -> Result<Alternative, NoMemory>
-    ensures { IfOk result (λ copy. copy ≡ part.now) }
-{
-    match part {
-        Alternative::Case(tag, operands) => {
-            let tag = tag.copy(alloc)?;
-            Ok(Alternative::Case(tag, copy_tys(alloc, operands.as_slice())?))
-        }
-        Alternative::Incl(name) => Ok(Alternative::Incl(name.copy(alloc)?)),
-    }
-}
-
-/// The same fields again.
-fn copy_fields(alloc: Global, fields: &[(Name, Ty)]) -> Result<Row<(Name, Ty)>, NoMemory>
-    ensures { IfOk result (λ copies. copies ≡ fields.now) }
-{
-    let mut copies = Row::new(alloc);
-    for field in fields {
-        let name = field.0.copy(alloc)?;
-        copies.push((name, copy_ty(alloc, &field.1)?))?;
-    }
-    Ok(copies)
-}
-
-/// The same body again.
-fn copy_body(alloc: Global, body: &SyntaxBody) -> Result<SyntaxBody, NoMemory>
-    ensures { IfOk result (λ copy. copy ≡ body.now) }
-{
-    match body {
-        SyntaxBody::Alias(ty) => Ok(SyntaxBody::Alias(copy_ty(alloc, ty)?)),
-        SyntaxBody::Variant(parts) => {
-            let parts = copy_alternatives(alloc, parts.as_slice())?;
-            Ok(SyntaxBody::Variant(parts))
-        }
-        SyntaxBody::Fields(fields) => {
-            Ok(SyntaxBody::Fields(copy_fields(alloc, fields.as_slice())?))
-        }
-    }
 }

@@ -1,5 +1,5 @@
 use Rattle.std.proofs.Common.{◌≡◌, take}
-use Rattle.st_elab_def.proofs.copied.copy_typed.Given as goal
+use Rattle.st_il.proofs.definition_copy.copy_typed.Given as goal
 
 abbrev pub invariant-loop-one : goal.invariant-loop-one
 invariant-loop-one l = l.copies ≡ take l.one-index l.named

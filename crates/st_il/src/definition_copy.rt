@@ -1,12 +1,13 @@
-//! Copies of declarations.
+//! Copies of definitions: of a syntax with its body, of a relation and of a function.
 
 ghost use Rattle.std.specs.Prelude.{◌≡◌, IfOk};
 
-use st_il::{Alternative, FunDef, RelationDef, SyntaxBody, SyntaxDef, Ty, copy_ty, copy_tys};
+use crate::copy::{copy_ty, copy_tys};
+use crate::{Alternative, FunDef, RelationDef, SyntaxBody, SyntaxDef, Ty};
 use st_num::{Name, NoMemory, Row};
 use std::alloc::Global;
 
-/// A copy of the alternative.
+/// The same alternative again.
 fn copy_alternative(alloc: Global, part: &Alternative) -> Result<Alternative, NoMemory>
     ensures { IfOk result (λ copy. copy ≡ part.now) }
 {
@@ -42,8 +43,8 @@ fn copy_typed(alloc: Global, named: &[(Name, Ty)]) -> Result<Row<(Name, Ty)>, No
     Ok(copies)
 }
 
-/// A copy of the body.
-fn copy_body(alloc: Global, body: &SyntaxBody) -> Result<SyntaxBody, NoMemory>
+/// The same body again.
+pub fn copy_body(alloc: Global, body: &SyntaxBody) -> Result<SyntaxBody, NoMemory>
     ensures { IfOk result (λ copy. copy ≡ body.now) }
 {
     match body {
@@ -58,8 +59,8 @@ fn copy_body(alloc: Global, body: &SyntaxBody) -> Result<SyntaxBody, NoMemory>
     }
 }
 
-/// A copy of the syntax.
-pub(crate) fn copy_syntax(alloc: Global, syntax: &SyntaxDef) -> Result<SyntaxDef, NoMemory>
+/// The same syntax again.
+pub fn copy_syntax(alloc: Global, syntax: &SyntaxDef) -> Result<SyntaxDef, NoMemory>
     ensures { IfOk result (λ copy. copy ≡ syntax.now) }
 {
     let name = syntax.name.copy(alloc)?;
@@ -67,8 +68,8 @@ pub(crate) fn copy_syntax(alloc: Global, syntax: &SyntaxDef) -> Result<SyntaxDef
     Ok(SyntaxDef { name, body })
 }
 
-/// A copy of the relation.
-pub(crate) fn copy_relation(alloc: Global, relation: &RelationDef) -> Result<RelationDef, NoMemory>
+/// The same relation again.
+pub fn copy_relation(alloc: Global, relation: &RelationDef) -> Result<RelationDef, NoMemory>
     ensures { IfOk result (λ copy. copy ≡ relation.now) }
 {
     let name = relation.name.copy(alloc)?;
@@ -83,8 +84,8 @@ pub(crate) fn copy_relation(alloc: Global, relation: &RelationDef) -> Result<Rel
     })
 }
 
-/// A copy of the function.
-pub(crate) fn copy_fun(alloc: Global, fun: &FunDef) -> Result<FunDef, NoMemory>
+/// The same function again.
+pub fn copy_fun(alloc: Global, fun: &FunDef) -> Result<FunDef, NoMemory>
     ensures { IfOk result (λ copy. copy ≡ fun.now) }
 {
     let name = fun.name.copy(alloc)?;
