@@ -1,5 +1,5 @@
 -- What the actions of trees build.
-use Rattle.std.proofs.Common.{◌≡◌, List, [], ◌∷◌, ◌++◌, Bool, true, false, Option, Some, None, option_and_then, option_map, if◌then◌else◌, refl, ap, ◌∙◌}
+use Rattle.std.proofs.Common.{◌≡◌, List, [], ◌∷◌, ◌++◌, Bool, true, false, Option, Some, None, Result, Ok, Err, IfOk, option_and_then, option_map, if◌then◌else◌, refl, ap, ◌∙◌}
 use Rattle.st_grammar.specs.declared.sort.Sort.{Sort}
 use Rattle.st_grammar.specs.declared.sort.Sort.TheVariants.{Expression as expression, Notation as notation, Typ as typ}
 use Rattle.st_grammar.specs.declared.sort.Style.TheVariants.{Parts as parts}
@@ -7,14 +7,17 @@ use Rattle.st_grammar.specs.Trees.{Tree, Trees, none, more}
 use Rattle.st_grammar.specs.Grammar.{is_type, Fits, EachFits}
 use Rattle.st_el.specs.declared.expression.Exp.{Exp}
 use Rattle.st_el.specs.declared.ty.Typ.{Typ}
+use Rattle.st_el.specs.declared.notation.Notation.{Notation}
 use Rattle.st_parse_builder.specs.declared.action.Action.{Action}
-use Rattle.st_parse_builder.specs.declared.notation_piece.NotationPiece.TheVariants.{Hole as a_type, Whole as whole, Types as types, Elements as elements, From as from_place}
+use Rattle.st_parse_builder.specs.declared.fault.BuildFault.{BuildFault}
+use Rattle.st_parse_builder.specs.declared.notation_piece.NotationPiece.TheVariants.{Hole as a_type, Whole as whole}
 use Rattle.st_parse_builder.specs.Meaning.{meaning, meanings}
-use Rattle.st_parse_builder.specs.Notations.{hole, typ_meaning, typ_meanings, notation_meaning}
+use Rattle.st_parse_builder.specs.Notations.{typ_start, typ_meaning, typ_meanings, notation_meaning}
 use Rattle.st_parse_builder.specs.declared.piece.Piece.TheVariants.{Done}
 use Rattle.st_parse_builder.specs.inner.Actions.{acts}
 use Rattle.st_parse_builder.specs.inner.Building.{run}
-use Rattle.st_parse_builder.specs.inner.NotationBuilding.{Stack, run as run_notation, the_typ, the_notation, typ_built, notation_built}
+use Rattle.st_parse_builder.specs.inner.NotationBuilding.{the_typ, the_notation, typ_built, notation_built}
+use Rattle.st_parse_builder.specs.inner.NotationAnswers.{BuildsHole}
 use Rattle.st_parse_builder.proofs.Builds.{builds}
 use Rattle.st_parse_builder.proofs.NotationBuilds.{type_hole, typ_builds, notation_builds}
 use Rattle.st_draft.specs.inner.Parts.{the_exp, exp_built, all_built}
@@ -32,26 +35,14 @@ typ_is t f = ap (option_and_then the_typ) (typ_builds t f [])
 pub notation_is : (t : Tree) → Fits notation t → notation_built (acts t) ≡ Some (notation_meaning t)
 notation_is t f = ap (option_and_then the_notation) (notation_builds t f []) ∙ go (is_type t) refl
   where
-    go : (b : Bool) → is_type t ≡ b → the_notation ((if b then a_type (typ_meaning t) else whole (notation_meaning t)) ∷ []) ≡ Some (notation_meaning t)
+    go : (b : Bool) → is_type t ≡ b → the_notation ((if b then a_type (typ_start t) (typ_meaning t) else whole (notation_meaning t)) ∷ []) ≡ Some (notation_meaning t)
     go true e = ap (λ n. Some n) (type_hole t e)
     go false e = refl
 
-pub hole_from : (actions : List Action) (t : Typ) → typ_built actions ≡ Some t → notation_built actions ≡ Some (hole t)
-hole_from actions t h = of_run (run_notation actions []) h
-  where
-    of_run : (o : Option Stack) → option_and_then the_typ o ≡ Some t → option_and_then the_notation o ≡ Some (hole t)
-    of_run None e = absurd (cc)
-    of_run (Some []) e = absurd (cc)
-    of_run (Some (a_type u ∷ [])) e = let same : u ≡ t = cc in ap (λ v. Some (hole v)) same
-    of_run (Some (a_type u ∷ q ∷ s)) e = absurd (cc)
-    of_run (Some (whole n ∷ [])) e = absurd (cc)
-    of_run (Some (whole n ∷ q ∷ s)) e = absurd (cc)
-    of_run (Some (types at ts ∷ [])) e = absurd (cc)
-    of_run (Some (types at ts ∷ q ∷ s)) e = absurd (cc)
-    of_run (Some (elements at ns ∷ [])) e = absurd (cc)
-    of_run (Some (elements at ns ∷ q ∷ s)) e = absurd (cc)
-    of_run (Some (from_place at ∷ [])) e = absurd (cc)
-    of_run (Some (from_place at ∷ q ∷ s)) e = absurd (cc)
+-- A type alone is built as the notation of the actions.
+pub hole_from : (o : Option Typ) (made : Option Notation) (r : Result Notation BuildFault) → BuildsHole o made r → IfOk r (λ n. made ≡ Some n)
+hole_from o made (Ok n) h = h.0
+hole_from o made (Err fault) h = tt
 
 pub all_more : (A : Type 0) (f : List Action → Option A) (xs : List (List Action)) (x : List Action) (ys : List A) (a : A) → all_built f xs ≡ Some ys → f x ≡ Some a → all_built f (xs ++ x ∷ []) ≡ Some (ys ++ a ∷ [])
 all_more A f [] x [] a e g = ap (option_and_then (λ b. Some (b ∷ []))) g

@@ -68,9 +68,13 @@ typ_within actions n h l k = go (lone_typ n) refl
         let same : open_height n ≡ typ_height b.typ = ap (height_or (notation_height n)) b.lone in
         (b.typ, b.built, omega (arith, same, l))
 
-pub alias_low : (actions : List Action) (n : Notation) (f : BuildFault) (r : Result Typ BuildFault) → f ≡ TooHigh → notations.Fails notation_height (notation_built actions) f → notations.Builds typ_height (typ_built actions) r → notation_built actions ≡ Some n → open_height n ≤ 100
+hole_low : (o : Option Typ) (made : Option Notation) (t : Typ) (r : Result Notation BuildFault) → notations.BuildsHole o made r → o ≡ Some t → typ_height t ≤ 100 → IfErr r OnlyMemory
+hole_low o made t (Ok n) k h l = tt
+hole_low o made t (Err fault) k h l = made_low typ_height o t (Err fault) k h l
+
+pub alias_low : (actions : List Action) (n : Notation) (f : BuildFault) (r : Result Notation BuildFault) → f ≡ TooHigh → notations.Fails notation_height (notation_built actions) f → notations.BuildsHole (typ_built actions) (notation_built actions) r → notation_built actions ≡ Some n → open_height n ≤ 100
     → IfErr r OnlyMemory
-alias_low actions n f r e k b h l = let t = typ_within actions n h l ((subst (notations.Fails notation_height (notation_built actions)) e k).each n h) in made_low typ_height (typ_built actions) t.0 r b t.1 t.2
+alias_low actions n f r e k b h l = let t = typ_within actions n h l ((subst (notations.Fails notation_height (notation_built actions)) e k).each n h) in hole_low (typ_built actions) (notation_built actions) t.0 r b t.1 t.2
 
 -- ---- several arguments
 

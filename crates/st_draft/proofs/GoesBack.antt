@@ -17,7 +17,7 @@ use Rattle.st_el.specs.declared.definition.PremNode.TheVariants as prem
 use Rattle.st_el.specs.declared.definition.Body.TheVariants as body
 use Rattle.st_parse_builder.specs.Heights.{height, typ_height}
 use Rattle.st_parse_builder.specs.Meaning.{meaning, label}
-use Rattle.st_parse_builder.specs.Notations.{typ_meaning, notation_meaning}
+use Rattle.st_parse_builder.specs.Notations.{typ_start, typ_meaning, notation_meaning}
 use Rattle.st_parse_builder.specs.Definitions as meant
 use Rattle.st_parse_builder.specs.Definitions.{cases_meaning, fields_meaning, body_meaning, has_dots_before, condition, prem_at, opened_at, sign_count, premise_meaning, premises_meaning, params, patterns, def_meaning, defs_meaning}
 use Rattle.st_parse_builder.proofs.NotationBuilds.{type_hole}
@@ -42,7 +42,7 @@ dots_back n (syntax_head ds w x ls hs e) ms b l i = (front_of def_height n (defs
 -- One alternative that is a type is an alias.
 alias_in : (n : ℕ) (t : Tree) (b : Bool) → is_type t ≡ b → body_height (if b then body.Alias (typ_meaning t) else body.Cases false (notation_meaning t ∷ []) false) ≤ n → NotationIn n t
 alias_in n t true e i =
-    let same : open_height (notation_meaning t) ≡ typ_height (typ_meaning t) = ap open_height (sym (type_hole t e)) ∙ open_hole (typ_meaning t) in
+    let same : open_height (notation_meaning t) ≡ typ_height (typ_meaning t) = ap open_height (sym (type_hole t e)) ∙ open_hole (typ_start t) (typ_meaning t) in
     omega (arith, same, i)
 alias_in n t false e i = open_in n (notation_meaning t) (left_of n _ _ i)
 

@@ -74,8 +74,8 @@ all_open n (k ∷ ks) h =
     omega (arith, one, rest)
 
 -- A type alone is as high as that type.
-pub open_hole : (t : Typ) → open_height (hole t) ≡ typ_height t
-open_hole t = ap (λ k. height_or (notation_height (hole t)) (typ_in k)) (not_node.outs-Hole t)
+pub open_hole : (s : Span) (t : Typ) → open_height (hole s t) ≡ typ_height t
+open_hole s t = ap (λ k. height_or (notation_height (hole s t)) (typ_in k)) (not_node.outs-Hole t)
 
 -- ---- premises
 

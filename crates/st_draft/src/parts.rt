@@ -7,7 +7,6 @@ ghost use Rattle.st_el.specs.declared.notation.Notation.{Notation};
 ghost use Rattle.st_el.specs.declared.ty.Typ.{Typ};
 ghost use Rattle.st_parse_builder.specs.Heights.{highest, height, typ_height};
 ghost use Rattle.st_parse_builder.specs.inner.NotationBuilding.{typ_built, notation_built};
-ghost use Rattle.st_parse_builder.specs.Notations as notations;
 ghost use Rattle.st_measure.specs.inner.Answers.{OnlyMemory};
 ghost use Rattle.st_draft.specs.declared.draft.Draft.{Draft};
 ghost use Rattle.st_draft.specs.inner.Drafts as drafts;
@@ -18,10 +17,12 @@ use crate::draft::Draft;
 use crate::members::{put_field, put_notation};
 use crate::premise::{put_condition, put_each};
 use crate::sides::{put_exp, put_typ};
-use st_el::{Count, Exp, NotNode, Notation, Typ};
+use st_el::{Count, Exp, Notation, Typ};
 use st_num::{Boxed, Mark, Name, NoMemory, Row};
 use st_parse_automaton::{Slot, TokenClass, opens_round};
-use st_parse_builder::{Action, BuildFault, TokenRef, build, build_notation, build_typ, copy_name};
+use st_parse_builder::{
+    Action, BuildFault, TokenRef, build, build_hole, build_notation, build_typ, copy_name,
+};
 use std::alloc::Global;
 
 /// A token of a part, as the parser sees it and as it stands in the text.
@@ -148,29 +149,15 @@ fn fill_typ(
     Ok(())
 }
 
-/// A type alone, as a notation.
-fn hole(typ: Typ) -> Notation
-    ensures { result ≡ notations.hole typ }
-{
-    Notation {
-        at: typ.at,
-        node: NotNode::Hole(typ),
-    }
-}
-
 /// The notation of these actions. A type alone may be 100 high, as an alias is, and then it makes a
 /// notation of 101.
-#[tactic(auto, using(crate::proofs::Built::hole_from))]
 fn build_whole(alloc: Global, actions: &[Action<'_>]) -> Result<Notation, BuildFault>
     ensures kept { IfOk result (λ notation. notation_built actions.now ≡ Some notation) }
     ensures low { (notation : Notation) → notation_built actions.now ≡ Some notation
         → open_height notation ≤ 100 → IfErr result OnlyMemory }
 {
     match build_notation(alloc, actions) {
-        Err(BuildFault::TooHigh) => {
-            let typ = build_typ(alloc, actions)?;
-            Ok(hole(typ))
-        }
+        Err(BuildFault::TooHigh) => build_hole(alloc, actions),
         Err(fault) => Err(fault),
         Ok(notation) => Ok(notation),
     }

@@ -1,10 +1,9 @@
 -- Names are checked, one after another.
-use Rattle.std.proofs.Common.{◌≡◌, refl, sym, ap, ◌∙◌, subst, ℕ, ◌+◌, ◌<◌, ◌≤◌, Bool, true, false, true≢false, inl, inr, List, [], ◌∷◌, ◌++◌, length, take, drop, get_or}
+use Rattle.std.proofs.Common.{◌≡◌, refl, sym, subst, ℕ, ◌+◌, ◌<◌, ◌≤◌, true, false, true≢false, inl, List, [], ◌∷◌, length, take, drop, get_or}
 use Rattle.std.specs.Prelude.{Option, Some, None, is_some}
 use Rattle.st_num.specs.declared.rule.RuleId.TheVariants.{B2}
 use Rattle.st_il.specs.declared.definition.SyntaxBody.{SyntaxBody}
 use Rattle.st_dims.proofs.Lists.{next_taken, all_taken, cut}
-use Rattle.st_type_table.specs.Breach as types
 use Rattle.st_type_table.specs.Meaning.{body_of}
 use Rattle.st_elab_table.specs.declared.decls.Decls.{Decls}
 use Rattle.st_elab_rule.specs.Judgements.{broken}

@@ -1,6 +1,6 @@
 -- What is asked of the parts of a syntax is what its definition in the internal language is asked.
-use Rattle.std.proofs.Common.{rules, ◌≡◌, refl, sym, ap, ◌∙◌, subst, ℕ, zero, suc, ◌+◌, ◌-◌, inl, inr, List, [], ◌∷◌, ◌++◌, map, length, append_assoc, append-nil, arith}
-use Rattle.std.specs.Prelude.{flat_map, Some, None}
+use Rattle.std.proofs.Common.{rules, ◌≡◌, refl, sym, ap, ◌∙◌, subst, ℕ, suc, ◌+◌, ◌-◌, inl, inr, List, [], ◌∷◌, ◌++◌, map, length, arith}
+use Rattle.std.specs.Prelude.{flat_map}
 use Rattle.std.specs.List.{AllByRecursion}
 use Rattle.std.proofs.lemmas.Grind.{common_steps}
 use Rattle.std.proofs.lemmas.List.{map-append}
@@ -10,7 +10,7 @@ use Rattle.st_num.specs.declared.span.Span.{Span}
 use Rattle.st_el.specs.declared.notation.Notation.{Notation, out-Notation}
 use Rattle.st_el.specs.declared.notation.NotNode.{NotNode}
 use Rattle.st_el.specs.declared.notation.NotNode.TheOpen.{NotNode-F}
-use Rattle.st_el.specs.declared.ty.Typ.{Typ, Typ-F, out-Typ, roll-Typ, the_lemmas}
+use Rattle.st_el.specs.declared.ty.Typ.{Typ, Typ-F, roll-Typ, the_lemmas}
 use Rattle.st_el.specs.declared.ty.TypNode.{TypNode, roll-TypNode, fold-TypNode}
 use Rattle.st_el.specs.declared.ty.TypNode.TheOpen.{TypNode-F}
 use Rattle.st_el.specs.declared.ty.TypNode.TheVariants as node
@@ -28,8 +28,7 @@ use Rattle.st_elab_sig.specs.Signatures.{template_of, holes_of}
 use Rattle.st_elab_table.specs.declared.decls.Decls.{Decls}
 use Rattle.st_elab_def.specs.declared.names.Named.{Named}
 use Rattle.st_elab_def.specs.DeclsOf.{type_node, not_node, bare_alternative, alternative_at, alternative_of, field_of}
-use Rattle.st_elab_def.specs.Conditions.{on_syntaxes}
-use Rattle.st_elab_def.specs.Phases.{Placed, condition, placed_type, named_at, names_in, all_declared, on_alias_name, on_bare, on_alternative_at, on_alternatives, on_field, on_fields}
+use Rattle.st_elab_def.specs.Phases.{Placed, placed_type, named_at, names_in, all_declared, on_alias_name, on_bare, on_alternative_at, on_alternatives, on_field, on_fields}
 use Rattle.st_elab_def.specs.inner.Places.{name_place, bare_place, case_place, place_at, alternative_place, cases_place, field_place, fields_place}
 use Rattle.st_elab_def.specs.inner.Walk.{AllPassAt, FirstBreachAt}
 

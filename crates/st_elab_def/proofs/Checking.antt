@@ -1,5 +1,5 @@
 -- What is asked is checked, part by part.
-use Rattle.std.proofs.Common.{◌≡◌, refl, sym, ap, ◌∙◌, subst, ℕ, ◌+◌, ◌<◌, ◌≤◌, List, [], ◌∷◌, ◌++◌, length, take, drop, get_or, append-nil, arith}
+use Rattle.std.proofs.Common.{◌≡◌, sym, ap, ◌∙◌, subst, ℕ, ◌+◌, ◌<◌, ◌≤◌, List, [], ◌∷◌, ◌++◌, length, take, drop, get_or, append-nil}
 use Rattle.std.specs.Prelude.{Result, Ok, Err, flat_map}
 use Rattle.std.proofs.lemmas.Grind.{flat_map-append}
 use Rattle.st_num.specs.declared.fault.Fault.{Fault}
@@ -7,7 +7,7 @@ use Rattle.st_num.specs.declared.fault.Fault.TheVariants as fault
 use Rattle.st_dims.proofs.Lists.{next_taken, all_taken, cut}
 use Rattle.st_elab_table.specs.declared.decls.Decls.{Decls}
 use Rattle.st_elab_def.specs.Phases.{Placed}
-use Rattle.st_elab_def.specs.inner.Walk.{AllPassAt, FirstBreachAt, Checks}
+use Rattle.st_elab_def.specs.inner.Walk.{AllPassAt, Checks}
 use Rattle.st_elab_def.proofs.Walking.{AllPassAt-append, FirstBreachAt-front, FirstBreachAt-behind}
 
 module _ (D : Decls) where

@@ -1,10 +1,9 @@
 -- What rules and clauses are made to, as contents of their definitions.
-use Rattle.std.proofs.Common.{◌≡◌, refl, sym, ap, ◌∙◌, subst, ℕ, List, [], ◌∷◌, ◌++◌, Some, None, false}
+use Rattle.std.proofs.Common.{◌≡◌, sym, ap, ◌∙◌, subst, ℕ, List, [], Some, None, false}
 use Rattle.std.specs.Prelude.{Result, Ok, Err, Option, OnOk, IsSomeAnd}
 use Rattle.st_num.specs.declared.fault.Fault.{Fault}
 use Rattle.st_num.specs.declared.fault.Fault.TheVariants as fault
 use Rattle.st_elab_rows.specs.Told.{Told}
-use Rattle.st_el.specs.declared.definition.Def.{Def}
 use Rattle.st_el.specs.declared.definition.DefNode.{DefNode}
 use Rattle.st_el.specs.declared.definition.DefNode.TheVariants.{Rule, Clause}
 use Rattle.st_el.specs.declared.definition.Prem.{Prem}

@@ -1,5 +1,5 @@
 -- What definitions declare, one behind another.
-use Rattle.std.proofs.Common.{◌≡◌, refl, sym, ap, ◌∙◌, ℕ, ◌<◌, Bool, true, if◌then◌else◌, List, [], ◌∷◌, ◌++◌, map, filter, length, take, drop, get_or, ◌+◌}
+use Rattle.std.proofs.Common.{◌≡◌, refl, sym, ap, ◌∙◌, ℕ, ◌<◌, true, if◌then◌else◌, List, [], ◌∷◌, ◌++◌, map, filter, length, take, drop, get_or, ◌+◌}
 use Rattle.std.proofs.lemmas.List.Elements.{filter-append}
 use Rattle.st_scan.specs.declared.token.Token.{Token}
 use Rattle.st_el.specs.Erasure.{is_mode}

@@ -1,8 +1,6 @@
 -- What is declared before a definition, by the names that are kept of the definitions before it.
-use Rattle.std.proofs.Common.{◌≡◌, refl, sym, ap, ◌∙◌, subst, ℕ, Bool, true, false, true≢false, not, ◌||◌, ◌&&◌, ◌⊎◌, inl, inr, Some, None, List, [], ◌∷◌, ◌++◌}
-use Rattle.std.specs.Prelude.{Option}
+use Rattle.std.proofs.Common.{◌≡◌, refl, sym, ap, ◌∙◌, ℕ, Bool, true, false, true≢false, not, ◌||◌, ◌&&◌, ◌⊎◌, inl, inr, Some, None, List, [], ◌∷◌, ◌++◌}
 use Rattle.std.specs.List.{list_any}
-use Rattle.std.specs.Option.{is_some}
 use Rattle.st_num.specs.Names.{same_name}
 use Rattle.st_el.specs.Erasure.{is_fragment, is_fragment_node}
 use Rattle.st_el.specs.declared.definition.Body.{Body}
@@ -38,7 +36,7 @@ any-either f g [] = refl
 any-either f g (x ∷ xs) =
     ap (λ b. (f x || g x) || b) (any-either f g xs) ∙ or-four (f x) (g x) (list_any f xs) (list_any g xs)
 
-and-true : (a : Bool) → (a && true) ≡ a
+pub and-true : (a : Bool) → (a && true) ≡ a
 and-true true = refl
 and-true false = refl
 
@@ -61,7 +59,7 @@ whole-same name body (Rule relation other conclusion premises) = refl
 whole-same name body (Fun other params value) = refl
 whole-same name body (Clause other args value premises) = refl
 
-fragment-same : (name piece : List ℕ) (body : Body) (node : DefNode) → declare_same (Syntax name (Some piece) body) node ≡ is_whole name node
+pub fragment-same : (name piece : List ℕ) (body : Body) (node : DefNode) → declare_same (Syntax name (Some piece) body) node ≡ is_whole name node
 fragment-same name piece body (Syntax other None rest) = and-true (same_name name other)
 fragment-same name piece body (Syntax other (Some more) rest) = and-false (same_name name other)
 fragment-same name piece body (Var other typ) = refl

@@ -1,7 +1,6 @@
 -- The alternatives of fragments, gathered and taken.
-use Rattle.std.proofs.Common.{◌≡◌, refl, sym, ap, ◌∙◌, subst, ℕ, ◌+◌, ◌<◌, ◌≤◌, Bool, true, false, true≢false, ◌||◌, if◌then◌else◌, Some, None, List, [], ◌∷◌, ◌++◌, map, filter, length, take, drop, get_or, append_assoc, append-nil, arith}
+use Rattle.std.proofs.Common.{[], ◌≡◌, refl, sym, ap, ◌∙◌, subst, ℕ, ◌+◌, ◌<◌, ◌≤◌, Bool, true, false, true≢false, ◌||◌, if◌then◌else◌, Some, None, List, ◌∷◌, ◌++◌, map, filter, length, take, drop, get_or, append_assoc, append-nil, arith}
 use Rattle.std.specs.Prelude.{Option, flat_map}
-use Rattle.std.specs.List.{list_any}
 use Rattle.std.proofs.lemmas.Grind.{common_steps, flat_map-append}
 use Rattle.std.proofs.lemmas.List.Elements.{filter-append}
 use Rattle.st_num.specs.Names.{same_name}
@@ -11,7 +10,6 @@ use Rattle.st_el.specs.declared.definition.Body.TheVariants.{Alias, Cases, Field
 use Rattle.st_el.specs.declared.definition.Def.{Def}
 use Rattle.st_el.specs.declared.definition.DefNode.{DefNode}
 use Rattle.st_el.specs.declared.definition.DefNode.TheVariants.{Syntax, Var, Relation, Rule, Fun, Clause}
-use Rattle.st_el.specs.declared.definition.Hint.{Hint}
 use Rattle.st_el.specs.declared.notation.Notation.{Notation}
 use Rattle.st_il.specs.declared.definition.Alternative.{Alternative}
 use Rattle.st_il.specs.declared.definition.IlDef.{IlDef}
@@ -27,7 +25,7 @@ use Rattle.st_elab_def.proofs.Indexing.{any-more, same-equal, same-refl}
 
 -- ---- the alternatives of the fragments among definitions
 
-parts-append : (q : List ℕ) (before behind : List Def) → alternatives_before q (before ++ behind) ≡ alternatives_before q before ++ alternatives_before q behind
+pub parts-append : (q : List ℕ) (before behind : List Def) → alternatives_before q (before ++ behind) ≡ alternatives_before q before ++ alternatives_before q behind
 parts-append q before behind =
     ap (λ ds. flat_map alternative_of (flat_map (λ (def : Def). alternatives_of def.node) ds)) (filter-append (is_fragment q) before behind)
     ∙ ap (flat_map alternative_of) (flat_map-append (λ (def : Def). alternatives_of def.node) (filter (is_fragment q) before) (filter (is_fragment q) behind))
@@ -42,7 +40,7 @@ none-filtered : (q : List ℕ) (before : List Def) → has_fragment q before ≡
 none-filtered q [] h = refl
 none-filtered q (def ∷ before) h = none-by q def before (is_fragment q def) refl h (none-filtered q before)
 
-parts-none : (q : List ℕ) (before : List Def) → has_fragment q before ≡ false → alternatives_before q before ≡ []
+pub parts-none : (q : List ℕ) (before : List Def) → has_fragment q before ≡ false → alternatives_before q before ≡ []
 parts-none q before h = ap (λ ds. flat_map alternative_of (flat_map (λ (def : Def). alternatives_of def.node) ds)) (none-filtered q before h)
 
 -- what was gathered of a name
@@ -120,7 +118,7 @@ front-same q def behind none =
     λ i. if (none i || has_fragment q behind)
     then Some (Some (flat_map alternative_of (flat_map (λ (def : Def). alternatives_of def.node) (if none i then def ∷ filter (is_fragment q) behind else filter (is_fragment q) behind)))) else None
 
-has-same : (q : List ℕ) (before : List Def) (def : Def) → is_fragment q def ≡ false → has_fragment q (before ++ def ∷ []) ≡ has_fragment q before
+pub has-same : (q : List ℕ) (before : List Def) (def : Def) → is_fragment q def ≡ false → has_fragment q (before ++ def ∷ []) ≡ has_fragment q before
 has-same q before def none = any-more (is_fragment q) before def ∙ ap (λ b. has_fragment q before || b) none ∙ or-false (has_fragment q before)
 
 untaken-at : (q : List ℕ) (before behind : List Def) (def : Def) → is_fragment q def ≡ false
@@ -150,7 +148,7 @@ untaken-take before behind def name piece body old new is h more q = more q ∙ 
 
 -- ---- what fragments declare
 
-joined-with : (body : Body) (later : List Notation) → body_with body (flat_map alternative_of (alternatives_in body ++ later)) ≡ body_of (joined body later)
+pub joined-with : (body : Body) (later : List Notation) → body_with body (flat_map alternative_of (alternatives_in body ++ later)) ≡ body_of (joined body later)
 joined-with (Alias typ) later = refl
 joined-with (Cases before cases after) later = refl
 joined-with (Fields fields) later = refl

@@ -1,5 +1,5 @@
 -- Heads of rules and clauses, and what follows them.
-use Rattle.std.proofs.Common.{◌≡◌, refl, sym, ap, ◌∙◌, subst, ℕ, Bool, true, false, true≢false, not, ◌||◌, ◌&&◌, Some, None, inl, inr, List, [], ◌∷◌, ◌++◌}
+use Rattle.std.proofs.Common.{◌≡◌, refl, sym, ap, ◌∙◌, ℕ, Bool, true, false, true≢false, ◌||◌, ◌&&◌, Some, None, inl, inr, List, [], ◌∷◌, ◌++◌}
 use Rattle.std.specs.Prelude.{Option}
 use Rattle.std.specs.Borrow.{Bor}
 use Rattle.std.specs.Option.{option_copied}
@@ -13,7 +13,6 @@ use Rattle.st_el.specs.declared.definition.Prem.{Prem}
 use Rattle.st_el.specs.declared.expression.Exp.{Exp}
 use Rattle.st_il.specs.declared.definition.ClauseDef.{ClauseDef}
 use Rattle.st_il.specs.declared.definition.FunDef.{FunDef}
-use Rattle.st_il.specs.declared.definition.IlDef.{IlDef}
 use Rattle.st_il.specs.declared.definition.IlDef.TheVariants as il
 use Rattle.st_il.specs.declared.definition.RelationDef.{RelationDef}
 use Rattle.st_il.specs.declared.definition.RuleDef.{RuleDef}
@@ -23,12 +22,11 @@ use Rattle.st_elab_table.specs.Questions.{Breach as PartBreach}
 use Rattle.st_elab_rule.specs.Clauses.{ClauseParts, ElabClause, ClauseBreach}
 use Rattle.st_elab_rule.specs.Judgements.{relation_named, broken}
 use Rattle.st_elab_rule.specs.Rules.{ElabRule, RuleBreach}
-use Rattle.st_elab_def.specs.declared.heads.Known.{Known}
 use Rattle.st_elab_def.specs.Conditions.{has_rule, is_rule}
 use Rattle.st_elab_def.specs.Phases.{Placed, on_rule, on_clause}
 use Rattle.st_elab_def.specs.inner.Contents.{MakesRule, MakesClause}
-use Rattle.st_elab_def.specs.inner.Heads.{Finds, KnowsRules, HasHead, on_head, on_function}
-use Rattle.st_elab_def.specs.inner.Index.{at, has_pair}
+use Rattle.st_elab_def.specs.inner.Heads.{KnowsRules, HasHead, on_head, on_function}
+use Rattle.st_elab_def.specs.inner.Index.{has_pair}
 use Rattle.st_elab_def.specs.inner.Walk.{FirstBreachAt}
 use Rattle.st_elab_def.proofs.Indexing.{any-more}
 

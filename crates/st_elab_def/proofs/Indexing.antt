@@ -1,11 +1,8 @@
 -- Names in sets and under which things stand, after one is added.
-use Rattle.std.proofs.Common.{◌≡◌, refl, sym, ap, ◌∙◌, subst, ℕ, Bool, true, false, not, true≢false, eqb, ◌||◌, ◌&&◌, if◌then◌else◌, Some, None, List, [], ◌∷◌, ◌++◌}
-use Rattle.std.specs.Prelude.{Option}
-use Rattle.std.specs.Bool.{Decides}
+use Rattle.std.proofs.Common.{◌≡◌, refl, sym, ap, ◌∙◌, subst, ℕ, Bool, true, false, true≢false, eqb, ◌||◌, ◌&&◌, if◌then◌else◌, Some, List, [], ◌∷◌, ◌++◌}
 use Rattle.std.specs.Borrow.{Bor}
 use Rattle.std.specs.Cmp.Lexicographic.{pointwise}
 use Rattle.std.specs.List.{list_any}
-use Rattle.std.specs.Map.{lookup}
 use Rattle.std.proofs.lemmas.List.Folds.{list_any-append}
 use Rattle.std.proofs.lemmas.Slice.Eq.{bytes_eq-Decides}
 use Rattle.indexmap.specs.IndexMap.{insert_entry}
@@ -46,7 +43,7 @@ pub any-more : {A : Type 0} (test : A → Bool) (xs : List A) (x : A) → list_a
 any-more test xs x = list_any-append test xs (x ∷ []) ∙ or-last (list_any test xs) (test x)
 
 -- a test finds what another one finds, where each that passes the other passes it
-any-implied : {A : Type 0} (one other : A → Bool) (xs : List A) → ((x : A) → one x ≡ true → other x ≡ true) → list_any one xs ≡ true → list_any other xs ≡ true
+pub any-implied : {A : Type 0} (one other : A → Bool) (xs : List A) → ((x : A) → one x ≡ true → other x ≡ true) → list_any one xs ≡ true → list_any other xs ≡ true
 any-implied one other [] h k = k
 any-implied one other (x ∷ xs) h k = by (one x) (other x) refl refl (any-implied one other xs h)
   where

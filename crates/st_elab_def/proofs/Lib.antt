@@ -13,8 +13,19 @@ pub mod ContentLemmas
 pub mod Putting
 pub mod Bridging
 pub mod Parting
+pub mod LastFragments
+pub mod LookingUp
+pub mod Advancing
+pub mod Standing
+pub mod Coming
+pub mod Going
+pub mod Looping
 pub mod Sounding
+pub mod Passing
+pub mod Holding
+pub mod SoundSyntaxes
 pub mod PlainTwice
 mod Examples
 mod ExamplesOfCases
 mod Light
+pub mod Owning

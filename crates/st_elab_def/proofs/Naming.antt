@@ -1,5 +1,5 @@
 -- The names in types and in notations, level by level.
-use Rattle.std.proofs.Common.{rules, ◌≡◌, refl, sym, ap, ◌∙◌, ℕ, List, [], ◌∷◌, ◌++◌, map}
+use Rattle.std.proofs.Common.{rules, ◌≡◌, refl, ap, ◌∙◌, ℕ, List, [], ◌∷◌, ◌++◌, map}
 use Rattle.std.specs.Prelude.{flat_map}
 use Rattle.std.proofs.lemmas.Grind.{flat_map-append}
 use Rattle.st_num.specs.declared.mark.Mark.{Mark}
@@ -13,7 +13,7 @@ use Rattle.st_el.specs.declared.ty.TypNode.{TypNode, fold-TypNode}
 use Rattle.st_el.specs.declared.ty.TypNode.TheVariants as node
 use Rattle.st_elab_sig.specs.Signatures.{holes_at, holes_of}
 use Rattle.st_elab_def.specs.declared.names.Named.{Named}
-use Rattle.st_elab_def.specs.Phases.{Placed, named_at, names_in, all_declared}
+use Rattle.st_elab_def.specs.Phases.{named_at, names_in, all_declared}
 
 -- ---- types
 

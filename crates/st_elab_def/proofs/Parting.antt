@@ -1,8 +1,8 @@
 -- What is found at the parts of a syntax, as the source is asked.
-use Rattle.std.proofs.Common.{◌≡◌, refl, sym, ap, ◌∙◌, subst, ℕ, zero, suc, ◌+◌, ◌-◌, ◌<◌, ◌≤◌, inl, inr, List, [], ◌∷◌, ◌++◌, map, length, take, drop, get_or, append-nil, arith}
+use Rattle.std.proofs.Common.{[], ◌≡◌, refl, sym, ap, ◌∙◌, subst, ℕ, zero, suc, ◌+◌, ◌-◌, ◌≤◌, inl, List, ◌∷◌, ◌++◌, map, length, take, drop, append-nil, true, true≢false, arith}
 use Rattle.std.specs.Prelude.{flat_map, Option, Some, None, slice_get, MatchOption}
 use Rattle.std.specs.List.{AllByRecursion}
-use Rattle.std.proofs.lemmas.Grind.{common_steps, flat_map-append}
+use Rattle.std.proofs.lemmas.Grind.{common_steps}
 use Rattle.std.proofs.lemmas.Option.{slice_get_within, get_or_from_slice_get}
 use Rattle.st_num.specs.declared.rule.RuleId.TheVariants.{B5}
 use Rattle.st_num.specs.declared.span.Span.{Span}
@@ -14,7 +14,6 @@ use Rattle.st_el.specs.declared.ty.Typ.{Typ}
 use Rattle.st_el.specs.declared.ty.TypNode.{TypNode}
 use Rattle.st_el.specs.declared.ty.TypNode.TheOpen.{TypNode-F}
 use Rattle.st_il.specs.declared.definition.Alternative.{Alternative}
-use Rattle.st_il.specs.declared.definition.SyntaxBody.{SyntaxBody}
 use Rattle.st_il.specs.declared.definition.SyntaxBody.TheVariants as body
 use Rattle.st_type_table.specs.declared.fault.Broken.{Broken}
 use Rattle.st_type_table.specs.Breach as types
@@ -23,26 +22,12 @@ use Rattle.st_elab_sig.specs.Types.{ty_of}
 use Rattle.st_elab_table.specs.declared.decls.Decls.{Decls}
 use Rattle.st_elab_table.specs.Questions.{Breach as PartBreach}
 use Rattle.st_elab_rule.specs.Judgements.{broken}
-use Rattle.st_elab_def.specs.declared.names.Named.{Named}
-use Rattle.st_elab_def.specs.Conditions.{IsNamed}
 use Rattle.st_elab_def.specs.DeclsOf.{type_node, not_node, alternative_of, field_of}
 use Rattle.st_elab_def.specs.Phases.{Placed, names_in, on_alias_name, on_bare, on_alternative, on_alternative_at, on_alternatives, on_fields}
-use Rattle.st_elab_def.specs.inner.Places.{name_place, cases_place, fields_place, IsNameless, IsBareAt, IsBare, IsAlternative, StandBeforeBare}
+use Rattle.st_elab_def.specs.inner.Places.{name_place, cases_place, fields_place, is_nameless, is_bare_at, is_bare, IsAlternative}
 use Rattle.st_elab_def.specs.inner.Walk.{AllPassAt, FirstBreachAt}
 use Rattle.st_elab_def.proofs.Bridging.{Same, same-all, same-first, Same-alias, Same-cases, Same-fields, plain_names, names-back}
-use Rattle.st_elab_def.proofs.Walking.{AllPassAt-append, FirstBreachAt-front, FirstBreachAt-behind}
-
--- ---- places
-
-pub name_place-within : (ns : List Named) (k : ℕ) (part : Span) (n : Named) → k < length ns → get_or ns k n ≡ n → name_place ns k part ≡ n.at
-name_place-within [] k part n h e = absurd (omega arith)
-name_place-within (m ∷ ns) zero part n h e = ap (λ (x : Named). x.at) e
-name_place-within (m ∷ ns) (suc k) part n h e = name_place-within ns k part n (omega arith) e
-
-pub name_place-past : (ns : List Named) (k : ℕ) (part : Span) → length ns ≤ k → name_place ns k part ≡ part
-name_place-past [] k part h = refl
-name_place-past (m ∷ ns) zero part h = absurd (omega arith)
-name_place-past (m ∷ ns) (suc k) part h = name_place-past ns k part (omega arith)
+use Rattle.st_elab_def.proofs.Walking.{FirstBreachAt-front, FirstBreachAt-behind}
 
 -- ---- what is found
 
@@ -77,7 +62,7 @@ module _ (D : Decls) where
 
   -- ---- alternatives
 
-  flat-length : (ns : List Notation) → AllByRecursion IsAlternative ns → length (flat_map alternative_of ns) ≡ length ns
+  pub flat-length : (ns : List Notation) → AllByRecursion IsAlternative ns → length (flat_map alternative_of ns) ≡ length ns
   flat-length [] h = refl
   flat-length (n ∷ ns) h = ap (λ as'. length (as' ++ flat_map alternative_of ns)) h.0.1 ∙ ap suc (flat-length ns h.1)
 
@@ -116,9 +101,9 @@ module _ (D : Decls) where
 
   -- ---- a type by itself that is no name
 
-  bare-breach-at : (name : List ℕ) (so_far : List Alternative) (at : Span) (t : Typ) (y : TypNode-F TypNode Typ) → type_node t ≡ y → IsNameless y
+  bare-breach-at : (name : List ℕ) (so_far : List Alternative) (at : Span) (t : Typ) (y : TypNode-F TypNode Typ) → type_node t ≡ y → is_nameless y ≡ true
       → FirstBreachAt D (on_bare name so_far at t y) (broken at B5)
-  bare-breach-at name so_far at t (TypNode-F.Name nm) is h = absurd h
+  bare-breach-at name so_far at t (TypNode-F.Name nm) is h = absurd (true≢false (sym h))
   bare-breach-at name so_far at t TypNode-F.Bool is h = inl ((λ named. differ named.0 named.1), refl)
     where
       differ : (nm : List ℕ) → type_node t ≡ TypNode-F.Name nm → ⊥
@@ -148,15 +133,15 @@ module _ (D : Decls) where
       differ : (nm : List ℕ) → type_node t ≡ TypNode-F.Name nm → ⊥
       differ nm e = cc
 
-  bare-by : (name : List ℕ) (so_far : List Alternative) (n : Notation) (x : NotNode-F NotNode Notation) → IsBareAt x
+  bare-by : (name : List ℕ) (so_far : List Alternative) (n : Notation) (x : NotNode-F NotNode Notation) → is_bare_at x ≡ true
       → FirstBreachAt D (on_alternative_at name so_far n x) (broken (out-Notation n).at B5)
   bare-by name so_far n (NotNode-F.Hole t) h = bare-breach-at name so_far (out-Notation n).at t (type_node t) refl h
-  bare-by name so_far n (NotNode-F.Atom word) h = absurd h
-  bare-by name so_far n (NotNode-F.Seq ns) h = absurd h
-  bare-by name so_far n (NotNode-F.Infix left sign right) h = absurd h
-  bare-by name so_far n (NotNode-F.Bracket opening inside) h = absurd h
+  bare-by name so_far n (NotNode-F.Atom word) h = absurd (true≢false (sym h))
+  bare-by name so_far n (NotNode-F.Seq ns) h = absurd (true≢false (sym h))
+  bare-by name so_far n (NotNode-F.Infix left sign right) h = absurd (true≢false (sym h))
+  bare-by name so_far n (NotNode-F.Bracket opening inside) h = absurd (true≢false (sym h))
 
-  alternatives-append : (name : List ℕ) (before : List Alternative) (ns ms : List Notation)
+  pub alternatives-append : (name : List ℕ) (before : List Alternative) (ns ms : List Notation)
       → on_alternatives name before (ns ++ ms) ≡ on_alternatives name before ns ++ on_alternatives name (before ++ flat_map alternative_of ns) ms
   alternatives-append name before [] ms = ap (λ zs. on_alternatives name zs ms) (sym (append-nil before))
   alternatives-append name before (n ∷ ns) ms =
@@ -183,7 +168,7 @@ module _ (D : Decls) where
       halves ns count = grind (arith, common_steps)
 
   -- a type by itself behind alternatives that pass
-  pub bare-breach : (name : List ℕ) (before : List Alternative) (ns : List Notation) (count : ℕ) (n : Notation) → slice_get ns count ≡ Some n → IsBare n
+  pub bare-breach : (name : List ℕ) (before : List Alternative) (ns : List Notation) (count : ℕ) (n : Notation) → slice_get ns count ≡ Some n → is_bare n ≡ true
       → AllPassAt D (on_alternatives name before (take count ns)) → FirstBreachAt D (on_alternatives name before ns) (broken (out-Notation n).at B5)
   bare-breach name before ns count n there bare h =
       subst (λ ms. FirstBreachAt D (on_alternatives name before ms) b) (sym (cut-at ns count n there))

@@ -1,5 +1,5 @@
 -- A phase, one definition after another.
-use Rattle.std.proofs.Common.{◌≡◌, refl, sym, ap, ◌∙◌, subst, ℕ, ◌+◌, ◌<◌, List, length, take, drop, get_or}
+use Rattle.std.proofs.Common.{◌≡◌, sym, ◌∙◌, subst, ℕ, ◌+◌, ◌<◌, List, length, take, drop, get_or}
 use Rattle.std.specs.Prelude.{Result, Ok, Err}
 use Rattle.st_num.specs.declared.fault.Fault.{Fault}
 use Rattle.st_el.specs.declared.definition.Def.{Def}

@@ -1,5 +1,5 @@
 -- The whole internal language is put together, definition by definition.
-use Rattle.std.proofs.Common.{◌≡◌, refl, sym, ap, ◌∙◌, subst, ℕ, ◌+◌, ◌<◌, ◌≤◌, Bool, true, false, not, true≢false, if◌then◌else◌, Some, None, List, [], ◌∷◌, ◌++◌, length, map, filter, take, drop, get_or, append-nil}
+use Rattle.std.proofs.Common.{◌≡◌, refl, sym, ap, ◌∙◌, subst, ℕ, ◌+◌, ◌<◌, Bool, true, false, not, true≢false, if◌then◌else◌, Some, None, List, [], ◌∷◌, ◌++◌, length, map, filter, take, drop, get_or, append-nil}
 use Rattle.std.specs.Prelude.{Option, reverse, flat_map}
 use Rattle.std.proofs.lemmas.Grind.{common_steps, flat_map-append}
 use Rattle.std.proofs.Common.{arith}
@@ -15,11 +15,11 @@ use Rattle.st_elab_def.specs.Definitions.{Definition, number_of, definitions_fro
 use Rattle.st_elab_def.specs.DeclsOf.{declared_at, declared_by}
 use Rattle.st_elab_def.specs.Elaboration.{ElabDef, declaration, ElabDefs}
 use Rattle.st_elab_def.specs.Fragments.{is_later_at, is_later}
-use Rattle.st_elab_def.specs.inner.Contents.{is_content, Makes, MakesContent}
+use Rattle.st_elab_def.specs.inner.Contents.{is_content, Makes}
 use Rattle.st_elab_def.specs.inner.Joining.{joined_one, joined_of}
 use Rattle.st_elab_def.specs.inner.Walk.{standing}
 use Rattle.st_elab_def.specs.inner.Whole.{Takes, PlacesOne}
-use Rattle.st_elab_def.proofs.Walking.{left_of, left_of-next, left_of-end}
+use Rattle.st_elab_def.proofs.Walking.{left_of, left_of-next}
 
 -- ---- what a definition stands for
 

@@ -1,6 +1,5 @@
 -- The four phases, one behind another.
-use Rattle.std.proofs.Common.{◌≡◌, refl, sym, ap, ◌∙◌, subst, List, [], ◌∷◌, ◌++◌}
-use Rattle.std.specs.Prelude.{flat_map}
+use Rattle.std.proofs.Common.{sym, subst, List, []}
 use Rattle.st_el.specs.declared.definition.Def.{Def}
 use Rattle.st_elab_table.specs.declared.decls.Decls.{Decls}
 use Rattle.st_elab_def.specs.declared.breach.Breach.{Breach}
@@ -9,9 +8,8 @@ use Rattle.st_elab_def.specs.Breaches.{AllPass, FirstBreach, IsBreach}
 use Rattle.st_elab_def.specs.Definitions.{definitions}
 use Rattle.st_elab_def.specs.DeclsOf.{decls_of}
 use Rattle.st_elab_def.specs.Elaboration.{ElabDefs, IsElaborated}
-use Rattle.st_elab_def.specs.Fragments.{joined}
-use Rattle.st_elab_def.specs.Phases.{Question, phase, on_declaration, on_body, on_signature, on_content, questions}
-use Rattle.st_elab_def.specs.inner.Joining.{AreContents, joined_of}
+use Rattle.st_elab_def.specs.Phases.{Question, phase, on_declaration, on_body, on_signature, on_content}
+use Rattle.st_elab_def.specs.inner.Joining.{AreContents}
 use Rattle.st_elab_def.proofs.Putting.{joined-definitions}
 use Rattle.st_elab_def.proofs.Walking.{AllPass-append, FirstBreach-front, FirstBreach-behind}
 

@@ -1,16 +1,13 @@
--- What the two calls answer.
+-- What `elaborate` answers, and which sources have templates.
 use Rattle.std.specs.Prelude.{◌≡◌, List, Result, Ok, Err, ⊤}
 use Rattle.std.specs.List.{AllByRecursion}
-use Rattle.st_el.specs.Erasure.{plain_defs}
 use Rattle.st_el.specs.declared.definition.Body.{Body}
 use Rattle.st_el.specs.declared.definition.Body.TheVariants.{Cases}
 use Rattle.st_el.specs.declared.definition.Def.{Def}
 use Rattle.st_el.specs.declared.definition.DefNode.{DefNode}
 use Rattle.st_el.specs.declared.definition.DefNode.TheVariants.{Syntax, Relation}
 use Rattle.st_el.specs.declared.notation.Notation.{Notation}
-use Rattle.st_erase.specs.Definitions.{erased_defs}
 use Rattle.st_il.specs.Template.{IsTemplate}
-use Rattle.st_il.specs.declared.definition.Il.{Il}
 use Rattle.st_elab_sig.specs.Signatures.{template_of}
 use Rattle.st_elab_def.specs.declared.breach.Breach.{Breach}
 use Rattle.st_elab_def.specs.declared.breach.DefFault.{DefFault}
@@ -37,13 +34,13 @@ IsGiven x r = Told (λ y. y ≡ x) (λ b. ⊥) r
 abbrev pub IsRefused : {A : Type 0} → Breach → Result A DefFault → Type 0
 IsRefused b r = Told (λ y. ⊥) (λ c. c ≡ b) r
 
--- There is one internal language or one first breach, and not both.
+-- There is at most one internal language or one first breach, and not both.
 pub record HasOneOutcome (defs : List Def) : Type 0 where
   pub one : (x y : Elaborated) → IsElaborated defs x → IsElaborated defs y → x ≡ y
   pub one_breach : (b c : Breach) → IsBreach defs b → IsBreach defs c → b ≡ c
   pub not_both : (x : Elaborated) (b : Breach) → IsElaborated defs x → IsBreach defs b → ⊥
 
--- ---- erasure
+-- ---- templates
 
 -- the notation has a template
 abbrev pub HasTemplate : Notation → Type 0
@@ -60,10 +57,6 @@ NodeHasTemplates (Syntax name fragment body) = BodyHasTemplates body
 NodeHasTemplates (Relation name n) = HasTemplate n
 NodeHasTemplates node = ⊤
 
--- the notations of relations and alternatives are templates, as those of each text are
+-- the notations of relations and alternatives are templates
 abbrev pub HasTemplates : List Def → Type 0
 HasTemplates = AllByRecursion (λ (def : Def). NodeHasTemplates def.node)
-
--- what is elaborated is erased to the source, once both are plain
-abbrev pub ErasesTo : List Def → Il → Type 0
-ErasesTo defs spec = plain_defs (erased_defs spec) ≡ plain_defs defs

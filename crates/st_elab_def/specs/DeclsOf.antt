@@ -21,7 +21,6 @@ use Rattle.st_il.specs.Template.{tag_of}
 use Rattle.st_il.specs.declared.ty.Ty.{Ty}
 use Rattle.st_il.specs.declared.definition.Alternative.{Alternative}
 use Rattle.st_il.specs.declared.definition.Alternative.TheVariants as alternative
-use Rattle.st_il.specs.declared.definition.FunDef.{FunDef}
 use Rattle.st_il.specs.declared.definition.IlDef.{IlDef}
 use Rattle.st_il.specs.declared.definition.IlDef.TheVariants as il
 use Rattle.st_il.specs.declared.definition.RelationDef.{RelationDef}
@@ -30,7 +29,7 @@ use Rattle.st_il.specs.declared.definition.SyntaxBody.TheVariants as body
 use Rattle.st_elab_sig.specs.Types.{ty_of}
 use Rattle.st_elab_sig.specs.Signatures.{template_of, holes_of}
 use Rattle.st_elab_table.specs.declared.decls.Decls.{Decls}
-use Rattle.st_elab_law.specs.Agreement.{syntaxes}
+use Rattle.st_elab_law.specs.Agreement.{decls_in}
 use Rattle.st_elab_def.specs.Fragments.{joined}
 
 -- ---- syntaxes
@@ -110,31 +109,6 @@ declared_at hints node = []
 -- what a definition is where it is a declaration; a rule or a clause is none
 abbrev pub declared_by : Def → List IlDef
 declared_by def = declared_at def.hints def.node
-
--- the variable that a definition gives a type, if it gives one
-abbrev pub var_in : IlDef → List (List ℕ × Ty)
-var_in (il.Var name t) = (name, t) ∷ []
-var_in def = []
-
--- the function that a definition declares, if it declares one
-abbrev pub fun_in : IlDef → List FunDef
-fun_in (il.Fun fun) = fun ∷ []
-fun_in def = []
-
--- the relation that a definition declares, if it declares one
-abbrev pub relation_in : IlDef → List RelationDef
-relation_in (il.Relation relation) = relation ∷ []
-relation_in def = []
-
--- what these definitions declare
-abbrev pub decls_in : List IlDef → Decls
-decls_in defs =
-    record {
-      types = syntaxes defs;
-      vars = flat_map var_in defs;
-      funs = flat_map fun_in defs;
-      relations = flat_map relation_in defs;
-    }
 
 -- the declarations of a source, its fragments joined
 abbrev pub decls_of : List Def → Decls

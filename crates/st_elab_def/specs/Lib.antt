@@ -18,7 +18,7 @@ pub mod Phases
 pub mod Breaches
 -- the internal language of a source
 pub mod Elaboration
--- what the two calls answer
+-- what `elaborate` answers, and which sources have templates
 pub mod Answers
 -- ---- what only proofs need
 pub mod inner

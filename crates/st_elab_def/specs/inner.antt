@@ -8,3 +8,5 @@ pub mod Joining
 pub mod Contents
 pub mod Whole
 pub mod Places
+pub mod Last
+pub mod Bodies

@@ -9,20 +9,26 @@
 //! `docs/internal-language.md`, and those on rules and clauses in `docs/elaboration.md`.
 #![tactic(auto)]
 
+mod bodies;
 mod breach;
 mod contents;
 mod declarations;
 mod declared;
-mod decls;
+mod dots;
 mod elaborated;
 mod heads;
 mod index;
 mod joining;
 mod laws;
+mod listing;
 mod names;
 mod numbered;
+mod parts;
+mod places;
 mod signatures;
+mod tables;
 
 pub use breach::{Breach, DefFault};
 pub use elaborated::Elaborated;
-pub use laws::one_outcome;
+pub use laws::{declares_its_own, one_outcome};
+pub use tables::decls;

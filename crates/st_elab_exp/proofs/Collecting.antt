@@ -1,5 +1,5 @@
 -- Lists and options, items and what fills holes, as the code takes them.
-use Rattle.std.proofs.Common.{◌≡◌, refl, sym, ap, ◌∙◌, subst, arith, ℕ, ◌+◌, ◌<◌, ◌≤◌, List, [], ◌∷◌, ◌++◌, map, length, drop, get_or, Bool, inl}
+use Rattle.std.proofs.Common.{◌≡◌, refl, sym, ap, ◌∙◌, subst, arith, ℕ, ◌+◌, ◌<◌, ◌≤◌, List, [], ◌∷◌, ◌++◌, map, length, drop, get_or, inl}
 use Rattle.std.specs.Prelude.{Result, Ok, Err}
 use Rattle.std.proofs.lemmas.List.{drop_all}
 use Rattle.st_num.specs.declared.span.Span.{Span}
@@ -18,8 +18,8 @@ use Rattle.st_notation.specs.Fitted.{plain, fillings}
 use Rattle.st_elab_table.specs.declared.decls.Decls.{Decls}
 use Rattle.st_elab_table.specs.declared.decls.Scope.{Scope}
 use Rattle.st_dims.specs.declared.within.Within.{Within}
-use Rattle.st_elab_table.specs.Questions.{Question, item, hole, Made, Breach, Answer, Gives, Fails, Step, Opens}
-use Rattle.st_elab_table.specs.Steps.{breach, give, pass, asked, holes, each_asked, exp_of, list_of_one}
+use Rattle.st_elab_table.specs.Questions.{Manner, Question, item, hole, Made, Breach, Answer, Gives, Fails, Step, Opens}
+use Rattle.st_elab_table.specs.Steps.{breach, give, pass, asked, holes_behind, each_asked, exp_of, list_of_one}
 use Rattle.st_elab_table.specs.Collections.{element, other_row, eps_row, sequence, item_of, item_row, run_at, run_row}
 use Rattle.st_elab_table.specs.Elaboration.{Leads, Answered, by_row, ends, goes_on, stops, opens}
 use Rattle.st_num.specs.declared.fault.Fault.{Fault as ExpFault}
@@ -29,7 +29,7 @@ use Rattle.st_elab_rows.specs.Parts.{Breaks, AskedAs}
 use Rattle.st_elab_rows.specs.inner.Continuing.{Continues, LeadsToItem}
 use Rattle.st_elab_rows.proofs.Builds.{from_place, questions_from, continues_more, continues_ends}
 
-other_no : (w : Within) (at : Span) (p : Bool) (e : Exp) (t u : Ty) → ((x : Ty) → u ≡ ty.List x → ⊥) → ((x : Ty) → u ≡ ty.Opt x → ⊥)
+other_no : (w : Within) (at : Span) (p : Manner) (e : Exp) (t u : Ty) → ((x : Ty) → u ≡ ty.List x → ⊥) → ((x : Ty) → u ≡ ty.Opt x → ⊥)
     → other_row w at p e t (out-Ty u) ≡ breach at Y1
 other_no w at p e t u list option = go (out-Ty u) refl
   where
@@ -54,10 +54,10 @@ run_no w at es t u list = go (out-Ty u) refl
     go y o = refl
 
 -- two elements or more
-many : (w : Within) (at : Span) (es : List Exp) (t : Ty) → 2 ≤ length es → run_row w at es t ≡ Opens t (λ u. run_at w at es t (out-Ty u))
-many w at [] t h = absurd (omega arith)
-many w at (e ∷ []) t h = absurd (omega arith)
-many w at (e ∷ f ∷ es) t h = refl
+many : (w : Within) (at : Span) (passed : List (List ℕ)) (es : List Exp) (t : Ty) → 2 ≤ length es → run_row w at passed es t ≡ Opens t (λ u. run_at w at es t (out-Ty u))
+many w at passed [] t h = absurd (omega arith)
+many w at passed (e ∷ []) t h = absurd (omega arith)
+many w at passed (e ∷ f ∷ es) t h = refl
 
 -- one element
 pub only_one : (es : List Exp) (e : Exp) → 1 ≤ length es → length es < 2 → e ≡ get_or es 0 e → es ≡ e ∷ []
@@ -72,15 +72,15 @@ empty (x ∷ xs) h = absurd (omega arith)
 module _ (D : Decls) (S : Scope) where
   -- ---- one element
 
-  pub other_list : (w : Within) (at : Span) (p : Bool) (e : Exp) (t u x : Ty) (a : Answer) → u ≡ ty.List x
+  pub other_list : (w : Within) (at : Span) (p : Manner) (e : Exp) (t u x : Ty) (a : Answer) → u ≡ ty.List x
       → Leads D S (element w at p e t x (list_of_one x)) a → Leads D S (other_row w at p e t (out-Ty u)) a
   other_list w at p e t u x a is h = subst (λ z. Leads D S (other_row w at p e t z) a) (sym (ap out-Ty is ∙ ty.outs-List x)) h
 
-  pub other_option : (w : Within) (at : Span) (p : Bool) (e : Exp) (t u x : Ty) (a : Answer) → u ≡ ty.Opt x
+  pub other_option : (w : Within) (at : Span) (p : Manner) (e : Exp) (t u x : Ty) (a : Answer) → u ≡ ty.Opt x
       → Leads D S (element w at p e t x il.Present) a → Leads D S (other_row w at p e t (out-Ty u)) a
   other_option w at p e t u x a is h = subst (λ z. Leads D S (other_row w at p e t z) a) (sym (ap out-Ty is ∙ ty.outs-Opt x)) h
 
-  pub other_fails : (w : Within) (at : Span) (p : Bool) (e : Exp) (t u : Ty) → ((x : Ty) → u ≡ ty.List x → ⊥) → ((x : Ty) → u ≡ ty.Opt x → ⊥)
+  pub other_fails : (w : Within) (at : Span) (p : Manner) (e : Exp) (t u : Ty) → ((x : Ty) → u ≡ ty.List x → ⊥) → ((x : Ty) → u ≡ ty.Opt x → ⊥)
       → Leads D S (other_row w at p e t (out-Ty u)) (Fails (record { at = at; rule = Y1 }))
   other_fails w at p e t u list option =
       subst (λ z. Leads D S z (Fails (record { at = at; rule = Y1 }))) (sym (other_no w at p e t u list option)) ends
@@ -119,16 +119,16 @@ module _ (D : Decls) (S : Scope) where
 
   -- ---- runs
 
-  pub run_list : (w : Within) (at : Span) (es : List Exp) (t u x : Ty) (a : Answer) → 2 ≤ length es
-      → Means D.types t u → u ≡ ty.List x → Leads D S (sequence w at es t x) a → Leads D S (run_row w at es t) a
-  run_list w at es t u x a more means is h =
-      subst (λ z. Leads D S z a) (sym (many w at es t more))
+  pub run_list : (w : Within) (at : Span) (passed : List (List ℕ)) (es : List Exp) (t u x : Ty) (a : Answer) → 2 ≤ length es
+      → Means D.types t u → u ≡ ty.List x → Leads D S (sequence w at es t x) a → Leads D S (run_row w at passed es t) a
+  run_list w at passed es t u x a more means is h =
+      subst (λ z. Leads D S z a) (sym (many w at passed es t more))
       (opens u means (subst (λ z. Leads D S (run_at w at es t z) a) (sym (ap out-Ty is ∙ ty.outs-List x)) h))
 
-  pub run_fails : (w : Within) (at : Span) (es : List Exp) (t u : Ty) → 2 ≤ length es
-      → Means D.types t u → ((x : Ty) → u ≡ ty.List x → ⊥) → Leads D S (run_row w at es t) (Fails (record { at = at; rule = Y1 }))
-  run_fails w at es t u more means list =
-      subst (λ z. Leads D S z (Fails (record { at = at; rule = Y1 }))) (sym (many w at es t more))
+  pub run_fails : (w : Within) (at : Span) (passed : List (List ℕ)) (es : List Exp) (t u : Ty) → 2 ≤ length es
+      → Means D.types t u → ((x : Ty) → u ≡ ty.List x → ⊥) → Leads D S (run_row w at passed es t) (Fails (record { at = at; rule = Y1 }))
+  run_fails w at passed es t u more means list =
+      subst (λ z. Leads D S z (Fails (record { at = at; rule = Y1 }))) (sym (many w at passed es t more))
       (opens u means (subst (λ z. Leads D S z (Fails (record { at = at; rule = Y1 }))) (sym (run_no w at es t u list)) ends))
 
   -- ---- holes and arguments
@@ -154,18 +154,22 @@ module _ (D : Decls) (S : Scope) where
   passed q a (goes_on m h ends) = h
   passed q a (stops b h) = h
 
-pub next_hole : (w : Within) (at : Span) (filled : List Filled) (ts others : List Ty) (i : ℕ) (f : Filled) (t : Ty) → i < length filled → f ≡ get_or filled i f → ts ≡ t ∷ others
-    → holes w at (fillings (drop i filled)) ts ≡ hole w at (plain f) t ∷ holes w at (fillings (drop (i + 1) filled)) others
-next_hole w at filled ts others i f t inside is taken = rw (from_place filled i f inside is, taken)
+pub next_hole : (w : Within) (at : Span) (passed : List (List ℕ)) (filled : List Filled) (ts others : List Ty) (i : ℕ) (f : Filled) (t : Ty) → i < length filled → f ≡ get_or filled i f → ts ≡ t ∷ others
+    → holes_behind w at passed (fillings (drop i filled)) ts ≡ hole w at passed (plain f) t ∷ holes_behind w at passed (fillings (drop (i + 1) filled)) others
+next_hole w at passed filled ts others i f t inside is taken = rw (from_place filled i f inside is, taken)
+
+pub same_holes : (w : Within) (at : Span) (ps qs : List (List ℕ)) (fs gs : List Filled) (ts us : List Ty) → ps ≡ qs → fs ≡ gs → ts ≡ us
+    → holes_behind w at ps (fillings fs) ts ≡ holes_behind w at qs (fillings gs) us
+same_holes w at ps qs fs gs ts us p f t = λ i. holes_behind w at (p i) (fillings (f i)) (t i)
 
 pub next_argument : (w : Within) (es : List Exp) (ts others : List Ty) (i : ℕ) (e : Exp) (t : Ty) → i < length es → e ≡ get_or es i e → ts ≡ t ∷ others
     → each_asked w (drop i es) ts ≡ asked w e t ∷ each_asked w (drop (i + 1) es) others
 next_argument w es ts others i e t inside is taken = rw (from_place es i e inside is, taken)
 
 -- there is no hole left
-pub no_hole : (w : Within) (at : Span) (fs : List Filling) (ts : List Ty) → ts ≡ [] → holes w at fs ts ≡ []
-no_hole w at [] ts is = refl
-no_hole w at (f ∷ fs) ts is = ap (holes w at (f ∷ fs)) is
+pub no_hole : (w : Within) (at : Span) (passed : List (List ℕ)) (fs : List Filling) (ts : List Ty) → ts ≡ [] → holes_behind w at passed fs ts ≡ []
+no_hole w at passed [] ts is = refl
+no_hole w at passed (f ∷ fs) ts is = ap (holes_behind w at passed (f ∷ fs)) is
 
 pub no_argument : (w : Within) (es : List Exp) (ts : List Ty) → ts ≡ [] → each_asked w es ts ≡ []
 no_argument w [] ts is = refl
@@ -179,8 +183,8 @@ item_leads x s u (Err (fault.Refused at rule)) on h = on (Fails (record { at = a
 item_leads x s u (Err fault.Memory) on h = tt
 
 -- all fillings are asked
-pub holes_end : (w : Within) (at : Span) (filled : List Filled) (ts : List Ty) (i : ℕ) → length filled ≤ i → holes w at (fillings (drop i filled)) ts ≡ []
-holes_end w at filled ts i over = ap (λ z. holes w at (fillings z) ts) (drop_all i filled over)
+pub holes_end : (w : Within) (at : Span) (passed : List (List ℕ)) (filled : List Filled) (ts : List Ty) (i : ℕ) → length filled ≤ i → holes_behind w at passed (fillings (drop i filled)) ts ≡ []
+holes_end w at passed filled ts i over = ap (λ z. holes_behind w at passed (fillings z) ts) (drop_all i filled over)
 
 pub arguments_end : (w : Within) (es : List Exp) (ts : List Ty) (i : ℕ) → length es ≤ i → each_asked w (drop i es) ts ≡ []
 arguments_end w es ts i over = ap (λ z. each_asked w z ts) (drop_all i es over)

@@ -1,5 +1,5 @@
 -- What a call gives is what the table gives.
-use Rattle.std.proofs.Common.{◌≡◌, sym, subst, false}
+use Rattle.std.proofs.Common.{◌≡◌, sym, subst}
 use Rattle.std.specs.Prelude.{Result, Ok, Err, IfOk}
 use Rattle.st_el.specs.declared.expression.Exp.{Exp}
 use Rattle.st_el.specs.Plain.{plain_exp}
@@ -14,7 +14,7 @@ use Rattle.st_num.specs.declared.fault.Fault.TheVariants as fault
 use Rattle.st_dims.specs.declared.within.Within.{Within}
 use Rattle.st_elab_table.specs.Forms.{place}
 use Rattle.st_elab_table.specs.Questions.{Question, check, infer, Made, Breach, Gives, Fails}
-use Rattle.st_elab_table.specs.Steps.{made, asked, found}
+use Rattle.st_elab_table.specs.Steps.{made, by_itself, asked, found}
 use Rattle.st_elab_table.specs.Elaboration.{Answered, around, Elab, ElabBreach, Infer, InferBreach}
 use Rattle.st_elab_table.proofs.Single.{Answered-single}
 use Rattle.st_elab_law.specs.Agreement.{Agrees}
@@ -42,10 +42,10 @@ module _ (D : Decls) (S : Scope) where
   told_refused q f (Err fault.Memory) b h g = tt
 
   -- what is given at a type, inside of this, is the elaboration there
-  pub is_elaborated_inside : (w : Within) (e : Exp) (t u : Ty) (x y : IlExp) → x ≡ y → Answered D S (check w (place e) false e t) (Gives (made y u)) → ElabInside D S w e t x
+  pub is_elaborated_inside : (w : Within) (e : Exp) (t u : Ty) (x y : IlExp) → x ≡ y → Answered D S (check w (place e) by_itself e t) (Gives (made y u)) → ElabInside D S w e t x
   is_elaborated_inside w e t u x y same h =
       subst (λ z. Answered D S (asked w e t) (Gives (made z t))) (sym same)
-      (subst (λ z. Answered D S (asked w e t) (Gives (made y z))) (of_its_type D S w (place e) false e t (made y u) h) h)
+      (subst (λ z. Answered D S (asked w e t) (Gives (made y z))) (of_its_type D S w (place e) by_itself e t (made y u) h) h)
 
   pub is_inferred : (e : Exp) (u : Ty) (w : Within) (x y : IlExp) → w ≡ around S → x ≡ y → Answered D S (infer w (place e) e) (Gives (made y u)) → Infer D S e x u
   is_inferred e u w x y is same h =

@@ -13,6 +13,8 @@ use Rattle.st_il.specs.declared.ty.Ty.TheOpen.{Ty-F}
 use Rattle.st_il.specs.declared.ty.Ty.TheVariants as ty
 use Rattle.st_il.specs.declared.definition.SyntaxDef.{SyntaxDef}
 use Rattle.st_il.specs.declared.expression.IlExp.TheVariants as il
+use Rattle.st_il.specs.declared.template.Template.{Template}
+use Rattle.st_il.specs.Template.{HasTag}
 use Rattle.st_type_table.specs.declared.entry.CaseDef.{CaseDef}
 use Rattle.st_type_table.specs.Meaning.{Means, fields_of}
 use Rattle.st_type_table.specs.Cases.{HasCases, HasFields}
@@ -27,11 +29,11 @@ use Rattle.st_elab_table.specs.declared.decls.Decls.{Decls}
 use Rattle.st_elab_table.specs.declared.decls.Scope.{Scope}
 use Rattle.st_dims.specs.declared.within.Within.{Within}
 use Rattle.st_elab_table.proofs.ChoiceLemmas.{ChosenBy-single}
-use Rattle.st_elab_table.specs.Choice.{shape_of, HaveShapes, IsChosenBy, FillsCase, IsCaseOf}
-use Rattle.st_elab_table.specs.Questions.{Chosen, Answer, Fails, Step, asks}
-use Rattle.st_elab_table.specs.Steps.{give, holes, exps}
+use Rattle.st_elab_table.specs.Choice.{shape_of, HaveShapes, IsChosenBy, FillsCase, takes_whole, IsCaseOf}
+use Rattle.st_elab_table.specs.Questions.{Manner, Chosen, Answer, Fails, Step, asks}
+use Rattle.st_elab_table.specs.Steps.{give, holes, holes_behind, exps}
 use Rattle.st_elab_table.specs.Collections.{other_row}
-use Rattle.st_elab_table.specs.Records.{is_omissible, omitted, aligned, shaped, field_names, field_types, filled_fields, fields_of_record, record_by, record_row, case_row}
+use Rattle.st_elab_table.specs.Records.{is_omissible, omitted, aligned, shaped, field_names, field_types, filled_fields, fields_of_record, record_by, record_row, passed_on, case_row}
 use Rattle.st_elab_table.specs.Elaboration.{Leads, ends, opens, fills}
 use Rattle.st_elab_rows.proofs.Builds.{from_place}
 
@@ -88,7 +90,7 @@ module _ (D : Decls) (S : Scope) where
 
   -- ---- records
 
-  pub record_has : (w : Within) (at : Span) (p : Bool) (e : Exp) (written : List (List ℕ × Exp)) (t u : Ty) (name : List ℕ) (fields : List (List ℕ × Ty)) (a : Answer)
+  pub record_has : (w : Within) (at : Span) (p : Manner) (e : Exp) (written : List (List ℕ × Exp)) (t u : Ty) (name : List ℕ) (fields : List (List ℕ × Ty)) (a : Answer)
       → t ≡ ty.Name name → Means D.types t u → HasFields D.types t fields
       → Leads D S (fields_of_record w at name written t fields) a → Leads D S (record_row D w at p e written t u) a
   record_has w at p e written t u name fields a is means has h =
@@ -104,23 +106,23 @@ module _ (D : Decls) (S : Scope) where
       go None e = refl
       go (Some fields) e = absurd (none fields (record { structure = u; means = m; declared = e }))
 
-  by_none : (w : Within) (at : Span) (p : Bool) (e : Exp) (written : List (List ℕ × Exp)) (t u : Ty) (y : Ty-F Ty) → record_by w at p e written t u y None ≡ other_row w at p e t (out-Ty u)
+  by_none : (w : Within) (at : Span) (p : Manner) (e : Exp) (written : List (List ℕ × Exp)) (t u : Ty) (y : Ty-F Ty) → record_by w at p e written t u y None ≡ other_row w at p e t (out-Ty u)
   by_none w at p e written t u (Ty-F.Name n) = refl
   by_none w at p e written t u y = refl
 
-  pub record_none : (w : Within) (at : Span) (p : Bool) (e : Exp) (written : List (List ℕ × Exp)) (t u : Ty) (a : Answer)
+  pub record_none : (w : Within) (at : Span) (p : Manner) (e : Exp) (written : List (List ℕ × Exp)) (t u : Ty) (a : Answer)
       → Means D.types t u → ((fields : List (List ℕ × Ty)) → HasFields D.types t fields → ⊥)
       → Leads D S (other_row w at p e t (out-Ty u)) a → Leads D S (record_row D w at p e written t u) a
   record_none w at p e written t u a means none h =
       subst (λ z. Leads D S (record_by w at p e written t u (out-Ty t) z) a) (sym (fields_absent t u means none))
       (subst (λ z. Leads D S z a) (sym (by_none w at p e written t u (out-Ty t))) h)
 
-  by_no_name : (w : Within) (at : Span) (p : Bool) (e : Exp) (written : List (List ℕ × Exp)) (t u : Ty) (o : Option (List (List ℕ × Ty))) (y : Ty-F Ty) → ((n : List ℕ) → y ≡ Ty-F.Name n → ⊥)
+  by_no_name : (w : Within) (at : Span) (p : Manner) (e : Exp) (written : List (List ℕ × Exp)) (t u : Ty) (o : Option (List (List ℕ × Ty))) (y : Ty-F Ty) → ((n : List ℕ) → y ≡ Ty-F.Name n → ⊥)
       → record_by w at p e written t u y o ≡ other_row w at p e t (out-Ty u)
   by_no_name w at p e written t u o (Ty-F.Name n) unnamed = absurd (unnamed n refl)
   by_no_name w at p e written t u o y unnamed = refl
 
-  pub record_unnamed : (w : Within) (at : Span) (p : Bool) (e : Exp) (written : List (List ℕ × Exp)) (t u : Ty) (a : Answer)
+  pub record_unnamed : (w : Within) (at : Span) (p : Manner) (e : Exp) (written : List (List ℕ × Exp)) (t u : Ty) (a : Answer)
       → ((n : List ℕ) → t ≡ ty.Name n → ⊥) → Leads D S (other_row w at p e t (out-Ty u)) a → Leads D S (record_row D w at p e written t u) a
   record_unnamed w at p e written t u a unnamed h =
       subst (λ z. Leads D S z a) (sym (by_no_name w at p e written t u (fields_of D.types u) (out-Ty t) (λ n o. unnamed n (sym (roll-out-Ty t) ∙ (ap roll-Ty o ∙ ty.rolls-Name n))))) h
@@ -128,11 +130,12 @@ module _ (D : Decls) (S : Scope) where
   -- ---- variants
 
   -- what fills the chosen case
-  pub case_fills : (w : Within) (at : Span) (e : Exp) (t : Ty) (name : List ℕ) (cases : List CaseDef) (c : CaseDef) (fs : List Filling) (a : Answer)
-      → t ≡ ty.Name name → HasCases D.types t cases → IsChosenBy (key_of e) cases c → FillsCase D.types c e fs
-      → Leads D S (asks (holes w at fs c.operands) (λ ms. give (il.Case name c.tag (exps ms)) t)) a → Leads D S (case_row w at e t) a
-  case_fills w at e t name cases c fs a is has chosen filled h =
-      fills (record { name = name; tag = c.tag; operands = c.operands; fillings = fs }) (record { cases = cases; asked = is; has = has; chosen = chosen; filled = filled }) h
+  pub case_fills : (w : Within) (at : Span) (passed : List (List ℕ)) (e : Exp) (t : Ty) (variant name : List ℕ) (cases : List CaseDef) (c : CaseDef) (fs : List Filling) (whole : Bool) (a : Answer)
+      → t ≡ ty.Name name → HasCases D.types t cases → IsChosenBy (key_of e) cases c → FillsCase D.types c e fs → ((t : Template) → HasTag t c.tag → whole ≡ takes_whole t e)
+      → Leads D S (asks (holes_behind w at (passed_on whole passed variant) fs c.operands) (λ ms. give (il.Case name c.tag (exps ms)) t)) a → Leads D S (case_row w at passed e t variant) a
+  case_fills w at passed e t variant name cases c fs whole a is has chosen filled takes h =
+      fills (record { name = name; tag = c.tag; operands = c.operands; fillings = fs; whole = whole })
+      (record { cases = cases; asked = is; has = has; chosen = chosen; filled = filled; whole = takes filled.template filled.tagged }) h
 
 abbrev Picks : Exp → List CaseDef → Option (Bor CaseDef) → Type 0
 Picks e cases o = MatchOption o ((d : CaseDef) → IsChosenBy (key_of e) cases d → ⊥) (λ d. IsChosenBy (key_of e) cases d.now)

@@ -1,5 +1,5 @@
 -- Iterations, as the code takes them.
-use Rattle.std.proofs.Common.{◌≡◌, refl, sym, ap, ◌∙◌, subst, ℕ, List, length, Bool, true, false}
+use Rattle.std.proofs.Common.{◌≡◌, refl, sym, ap, ◌∙◌, subst, ℕ, List, length, true, false}
 use Rattle.st_num.specs.declared.span.Span.{Span}
 use Rattle.st_el.specs.declared.expression.Exp.{Exp}
 use Rattle.st_el.specs.declared.expression.Count.{Count, out-Count}
@@ -14,7 +14,7 @@ use Rattle.st_dims.specs.declared.within.Within.{Within}
 use Rattle.st_elab_table.specs.Forms.{goes_over_list}
 use Rattle.st_dims.specs.Around.{inside}
 use Rattle.st_elab_table.specs.Iterations.{iterated_type, iterated_in, iterated}
-use Rattle.st_elab_table.specs.Questions.{Made, Answer, Step, Asks}
+use Rattle.st_elab_table.specs.Questions.{Manner, Made, Answer, Step, Asks}
 use Rattle.st_elab_table.specs.Steps.{asked, found}
 use Rattle.st_elab_table.specs.Collections.{other_row, iteration, body_row, iteration_row}
 use Rattle.st_elab_table.specs.Inferred.{inferred_iteration}
@@ -22,31 +22,31 @@ use Rattle.st_elab_table.specs.Elaboration.{Leads}
 use Rattle.st_elab_rows.proofs.Builds.{leads_then, leads_else}
 
 module _ (D : Decls) (S : Scope) where
-  pub turn_list : (w : Within) (at : Span) (p : Bool) (e b : Exp) (c : Count) (t u x : Ty) (a : Answer) → u ≡ ty.List x → goes_over_list (out-Count c) ≡ true
+  pub turn_list : (w : Within) (at : Span) (p : Manner) (e b : Exp) (c : Count) (t u x : Ty) (a : Answer) → u ≡ ty.List x → goes_over_list (out-Count c) ≡ true
       → Leads D S (body_row S w b c x t) a → Leads D S (iteration_row S w at p e b c t (out-Ty u)) a
   turn_list w at p e b c t u x a is goes h =
       subst (λ z. Leads D S (iteration_row S w at p e b c t z) a) (sym (ap out-Ty is ∙ ty.outs-List x)) (leads_then D S _ _ _ a goes h)
 
-  pub turn_option : (w : Within) (at : Span) (p : Bool) (e b : Exp) (c : Count) (t u x : Ty) (a : Answer) → u ≡ ty.Opt x → goes_over_list (out-Count c) ≡ false
+  pub turn_option : (w : Within) (at : Span) (p : Manner) (e b : Exp) (c : Count) (t u x : Ty) (a : Answer) → u ≡ ty.Opt x → goes_over_list (out-Count c) ≡ false
       → Leads D S (body_row S w b c x t) a → Leads D S (iteration_row S w at p e b c t (out-Ty u)) a
   turn_option w at p e b c t u x a is goes h =
       subst (λ z. Leads D S (iteration_row S w at p e b c t z) a) (sym (ap out-Ty is ∙ ty.outs-Opt x)) (leads_else D S _ _ _ a goes h)
 
   -- an iteration that goes over no list, at a list, is one element
-  pub element_of_list : (w : Within) (at : Span) (p : Bool) (e b : Exp) (c : Count) (t u x : Ty) (a : Answer) → u ≡ ty.List x → goes_over_list (out-Count c) ≡ false
+  pub element_of_list : (w : Within) (at : Span) (p : Manner) (e b : Exp) (c : Count) (t u x : Ty) (a : Answer) → u ≡ ty.List x → goes_over_list (out-Count c) ≡ false
       → Leads D S (other_row w at p e t (out-Ty u)) a → Leads D S (iteration_row S w at p e b c t (out-Ty u)) a
   element_of_list w at p e b c t u x a is goes h =
       let o : out-Ty u ≡ Ty-F.List x = ap out-Ty is ∙ ty.outs-List x in
       subst (λ z. Leads D S (iteration_row S w at p e b c t z) a) (sym o) (leads_else D S _ _ _ a goes (subst (λ z. Leads D S (other_row w at p e t z) a) o h))
 
   -- so is one that goes over a list, at an option
-  pub element_of_option : (w : Within) (at : Span) (p : Bool) (e b : Exp) (c : Count) (t u x : Ty) (a : Answer) → u ≡ ty.Opt x → goes_over_list (out-Count c) ≡ true
+  pub element_of_option : (w : Within) (at : Span) (p : Manner) (e b : Exp) (c : Count) (t u x : Ty) (a : Answer) → u ≡ ty.Opt x → goes_over_list (out-Count c) ≡ true
       → Leads D S (other_row w at p e t (out-Ty u)) a → Leads D S (iteration_row S w at p e b c t (out-Ty u)) a
   element_of_option w at p e b c t u x a is goes h =
       let o : out-Ty u ≡ Ty-F.Opt x = ap out-Ty is ∙ ty.outs-Opt x in
       subst (λ z. Leads D S (iteration_row S w at p e b c t z) a) (sym o) (leads_then D S _ _ _ a goes (subst (λ z. Leads D S (other_row w at p e t z) a) o h))
 
-  pub turn_other : (w : Within) (at : Span) (p : Bool) (e b : Exp) (c : Count) (t u : Ty) (a : Answer) → ((x : Ty) → u ≡ ty.List x → ⊥) → ((x : Ty) → u ≡ ty.Opt x → ⊥)
+  pub turn_other : (w : Within) (at : Span) (p : Manner) (e b : Exp) (c : Count) (t u : Ty) (a : Answer) → ((x : Ty) → u ≡ ty.List x → ⊥) → ((x : Ty) → u ≡ ty.Opt x → ⊥)
       → Leads D S (other_row w at p e t (out-Ty u)) a → Leads D S (iteration_row S w at p e b c t (out-Ty u)) a
   turn_other w at p e b c t u a list option = go (out-Ty u) refl
     where

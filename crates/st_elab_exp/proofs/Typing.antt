@@ -6,6 +6,7 @@ use Rattle.st_el.specs.declared.expression.Node.{Node}
 use Rattle.st_el.specs.declared.expression.Count.{Count, out-Count}
 use Rattle.st_el.specs.declared.expression.Count.TheOpen.{Count-F, Node-F}
 use Rattle.st_el.specs.declared.expression.Seg.{Seg}
+use Rattle.st_num.specs.Names.{is_among}
 use Rattle.st_il.specs.declared.ty.Ty.{Ty, out-Ty}
 use Rattle.st_il.specs.declared.ty.Ty.TheOpen.{Ty-F}
 use Rattle.st_il.specs.declared.expression.IlExp.{IlExp}
@@ -22,10 +23,10 @@ use Rattle.st_dims.specs.declared.within.Within.{Within}
 use Rattle.st_elab_table.specs.Operators.{operator_of}
 use Rattle.st_elab_table.specs.Forms.{inferable, is_concatenation, goes_over_list}
 use Rattle.st_elab_table.specs.Choice.{shape_of}
-use Rattle.st_elab_table.specs.Questions.{Question, check, infer, item, hole, Made, Gives, Fails, Step, Ends, Asks, Tests, Opens, Fills, asks}
-use Rattle.st_elab_table.specs.Steps.{give, asked, holes, each_asked, exps, is_collection, lifted_to, lifted_at, fitted, joined_at, list_of_one}
+use Rattle.st_elab_table.specs.Questions.{Manner, Question, check, infer, item, hole, Made, Gives, Fails, Step, Ends, Asks, Tests, Opens, Fills, asks}
+use Rattle.st_elab_table.specs.Steps.{give, asked, holes, holes_behind, each_asked, exps, is_collection, lifted_to, lifted_at, fitted, joined_at, list_of_one}
 use Rattle.st_elab_table.specs.Collections.{item_of, element, other_row, eps_row, concatenation_row, counted_at, body_row, iteration_row, sequence, is_run}
-use Rattle.st_elab_table.specs.Records.{shaped, filled_fields, field_types, record_by, notation_row}
+use Rattle.st_elab_table.specs.Records.{shaped, filled_fields, field_types, record_by, passed_on, case_row, variant_row, notation_row}
 use Rattle.st_elab_table.specs.Checked.{sequence_at, form_row, plain_row, tuple_at, checked_row}
 use Rattle.st_elab_table.specs.Elaboration.{row, Answered}
 use Rattle.st_elab_table.proofs.Keeps.{Keeps, Answered-keeps}
@@ -60,10 +61,10 @@ module _ (D : Decls) where
   at_gives : (t : Ty) (qs : List Question) (f : List Made → IlExp) → At t (asks qs (λ ms. give (f ms) t))
   at_gives t qs f = at_asks t qs (λ ms. give (f ms) t) (λ ms. refl)
 
-  at_element : (w : Within) (at : Span) (p : Bool) (e : Exp) (t x : Ty) (lift : IlExp → IlExp) → At t (element w at p e t x lift)
+  at_element : (w : Within) (at : Span) (p : Manner) (e : Exp) (t x : Ty) (lift : IlExp → IlExp) → At t (element w at p e t x lift)
   at_element w at p e t x lift = λ v m. at_either t (is_collection v) _ _ tt (λ m k. refl)
 
-  at_other : (w : Within) (at : Span) (p : Bool) (e : Exp) (t : Ty) (y : Ty-F Ty) → At t (other_row w at p e t y)
+  at_other : (w : Within) (at : Span) (p : Manner) (e : Exp) (t : Ty) (y : Ty-F Ty) → At t (other_row w at p e t y)
   at_other w at p e t (Ty-F.List x) = at_element w at p e t x (list_of_one x)
   at_other w at p e t (Ty-F.Opt x) = at_element w at p e t x il.Present
   at_other w at p e t y = tt
@@ -90,7 +91,7 @@ module _ (D : Decls) where
   at_body : (S : Scope) (w : Within) (b : Exp) (c : Count) (x t : Ty) → At t (body_row S w b c x t)
   at_body S w b c x t = λ m k. at_counted w t (out-Count c) _ (λ k. refl)
 
-  at_iteration : (S : Scope) (w : Within) (at : Span) (p : Bool) (e b : Exp) (c : Count) (t : Ty) (y : Ty-F Ty) → At t (iteration_row S w at p e b c t y)
+  at_iteration : (S : Scope) (w : Within) (at : Span) (p : Manner) (e b : Exp) (c : Count) (t : Ty) (y : Ty-F Ty) → At t (iteration_row S w at p e b c t y)
   at_iteration S w at p e b c t (Ty-F.List x) = at_either t (goes_over_list (out-Count c)) _ _ (at_body S w b c x t) (at_other w at p e t (Ty-F.List x))
   at_iteration S w at p e b c t (Ty-F.Opt x) = at_either t (goes_over_list (out-Count c)) _ _ (at_other w at p e t (Ty-F.Opt x)) (at_body S w b c x t)
   at_iteration S w at p e b c t y = at_other w at p e t y
@@ -98,11 +99,18 @@ module _ (D : Decls) where
   at_sequence : (w : Within) (at : Span) (es : List Exp) (t x : Ty) → At t (sequence w at es t x)
   at_sequence w at es t x = λ v m. at_either t (is_collection v) _ _ tt (at_gives t (map (item w t x) es) (λ ms. il.List x (map item_of ms)))
 
-  at_notation : (w : Within) (at : Span) (p : Bool) (e : Exp) (t u : Ty) → At t (notation_row w at p e t u)
-  at_notation w at p e t u = (λ variant. (λ c h. at_gives t (holes w at c.fillings c.operands) (λ ms. il.Case c.name c.tag (exps ms)), λ h. tt), λ other. at_other w at p e t (out-Ty u))
+  at_case : (w : Within) (at : Span) (passed : List (List ℕ)) (e : Exp) (t : Ty) (variant : List ℕ) → At t (case_row w at passed e t variant)
+  at_case w at passed e t variant = (λ c h. at_gives t (holes_behind w at (passed_on c.whole passed variant) c.fillings c.operands) (λ ms. il.Case c.name c.tag (exps ms)), λ h. tt)
 
-  at_sequence_at : (w : Within) (at : Span) (p : Bool) (e : Exp) (es : List Exp) (t u : Ty) (y : Ty-F Ty) → At t (sequence_at w at p e es t u y)
-  at_sequence_at w at p e es t u (Ty-F.List x) = at_either t (is_run es p) _ _ (at_sequence w at es t x) (at_other w at p e t (Ty-F.List x))
+  at_variant : (w : Within) (at : Span) (passed : List (List ℕ)) (e : Exp) (t : Ty) (y : Ty-F Ty) → At t (variant_row w at passed e t y)
+  at_variant w at passed e t (Ty-F.Name variant) = at_either t (is_among variant passed) _ _ tt (at_case w at passed e t variant)
+  at_variant w at passed e t y = tt
+
+  at_notation : (w : Within) (at : Span) (p : Manner) (e : Exp) (t u : Ty) → At t (notation_row w at p e t u)
+  at_notation w at p e t u = (λ variant. at_variant w at p.passed e t (out-Ty u), λ other. at_other w at p e t (out-Ty u))
+
+  at_sequence_at : (w : Within) (at : Span) (p : Manner) (e : Exp) (es : List Exp) (t u : Ty) (y : Ty-F Ty) → At t (sequence_at w at p e es t u y)
+  at_sequence_at w at p e es t u (Ty-F.List x) = at_either t (is_run es p.in_parentheses) _ _ (at_sequence w at es t x) (at_other w at p e t (Ty-F.List x))
   at_sequence_at w at p e es t u y = at_notation w at p e t u
 
   at_shaped : (t : Ty) (ts : List Ty) (next : List Shape → Step) → ((ss : List Shape) → At t (next ss)) → At t (shaped ts next)
@@ -113,7 +121,7 @@ module _ (D : Decls) where
   at_filled w at name ts t None = tt
   at_filled w at name ts t (Some fs) = at_gives t (holes w at fs ts) (λ ms. il.Fields name (exps ms))
 
-  at_record : (w : Within) (at : Span) (p : Bool) (e : Exp) (written : List (List ℕ × Exp)) (t u : Ty) (y : Ty-F Ty) (fields : Option (List (List ℕ × Ty)))
+  at_record : (w : Within) (at : Span) (p : Manner) (e : Exp) (written : List (List ℕ × Exp)) (t u : Ty) (y : Ty-F Ty) (fields : Option (List (List ℕ × Ty)))
       → At t (record_by w at p e written t u y fields)
   at_record w at p e written t u (Ty-F.Name name) (Some fields) = at_shaped t (field_types fields) _ (λ ss. at_filled w at name (field_types fields) t _)
   at_record w at p e written t u y fields = at_other w at p e t (out-Ty u)
@@ -129,7 +137,7 @@ module _ (D : Decls) where
   at_fitted : (at : Span) (t : Ty) (m : Made) → At t (fitted at t m)
   at_fitted at t m = (λ same. refl, λ differ. (λ below. refl, λ above u means. at_lifted_at at m t (out-Ty u)))
 
-  at_form : (S : Scope) (w : Within) (at : Span) (p : Bool) (e : Exp) (t u : Ty) (n : Node-F Count Node Seg Exp) → At t (form_row D S w at p e t u n)
+  at_form : (S : Scope) (w : Within) (at : Span) (p : Manner) (e : Exp) (t u : Ty) (n : Node-F Count Node Seg Exp) → At t (form_row D S w at p e t u n)
   at_form S w at p e t u Node-F.Eps = at_eps at t (out-Ty u)
   at_form S w at p e t u (Node-F.Binary l sign r) =
       at_either t (is_concatenation (operator_of sign)) _ _ (at_concatenation w at l r t) (at_other w at p e t (out-Ty u))
@@ -141,14 +149,14 @@ module _ (D : Decls) where
   at_form S w at p e t u (Node-F.Bracket opening b) = at_notation w at p e t u
   at_form S w at p e t u n = at_other w at p e t (out-Ty u)
 
-  at_plain : (S : Scope) (w : Within) (at : Span) (p : Bool) (e : Exp) (t : Ty) → At t (plain_row D S w at p e t)
+  at_plain : (S : Scope) (w : Within) (at : Span) (p : Manner) (e : Exp) (t : Ty) → At t (plain_row D S w at p e t)
   at_plain S w at p e t = at_either t (inferable e) _ _ (λ m k. at_fitted at t m) (λ u means. at_form S w at p e t u (opened e))
 
-  at_tuple : (S : Scope) (w : Within) (at : Span) (p : Bool) (e : Exp) (es : List Exp) (t : Ty) (y : Ty-F Ty) → At t (tuple_at D S w at p e es t y)
+  at_tuple : (S : Scope) (w : Within) (at : Span) (p : Manner) (e : Exp) (es : List Exp) (t : Ty) (y : Ty-F Ty) → At t (tuple_at D S w at p e es t y)
   at_tuple S w at p e es t (Ty-F.Tuple ts) = at_either t (nat_eq (length es) (length ts)) _ _ (at_gives t (each_asked w es ts) (λ ms. il.Tuple (exps ms))) (at_plain S w at p e t)
   at_tuple S w at p e es t y = at_plain S w at p e t
 
-  at_checked : (S : Scope) (w : Within) (at : Span) (p : Bool) (e : Exp) (t : Ty) (n : Node-F Count Node Seg Exp) → At t (checked_row D S w at p e t n)
+  at_checked : (S : Scope) (w : Within) (at : Span) (p : Manner) (e : Exp) (t : Ty) (n : Node-F Count Node Seg Exp) → At t (checked_row D S w at p e t n)
   at_checked S w at p e t (Node-F.Paren inner) = λ m k. k
   at_checked S w at p e t (Node-F.Tuple es) = λ u means. at_tuple S w at p e es t (out-Ty u)
   at_checked S w at p e t n = at_plain S w at p e t
@@ -157,7 +165,7 @@ module _ (D : Decls) where
   each_row S (check w at p e t) = at_checked S w at p e t (opened e)
   each_row S (infer w at e) = any _
   each_row S (item w t x e) = any _
-  each_row S (hole w at filling t) = any _
+  each_row S (hole w at passed filling t) = any _
 
-  pub of_its_type : (S : Scope) (w : Within) (at : Span) (p : Bool) (e : Exp) (t : Ty) (m : Made) → Answered D S (check w at p e t) (Gives m) → m.ty ≡ t
+  pub of_its_type : (S : Scope) (w : Within) (at : Span) (p : Manner) (e : Exp) (t : Ty) (m : Made) → Answered D S (check w at p e t) (Gives m) → m.ty ≡ t
   of_its_type S w at p e t m h = Answered-keeps D S OfType (each_row S) (check w at p e t) (Gives m) h

@@ -5,7 +5,7 @@ ghost use Rattle.st_il.specs.declared.ty.Ty.{out-Ty};
 ghost use Rattle.st_type_table.specs.Meaning.{Means};
 ghost use Rattle.st_notation.specs.Elements.{opened};
 ghost use Rattle.st_elab_table.specs.Checked.{sequence_at, form_row, plain_row, tuple_at, checked_row};
-ghost use Rattle.st_elab_rows.specs.Asking.{LeadsTo};
+ghost use Rattle.st_elab_rows.specs.Asking.{manner, LeadsTo};
 
 use crate::collection::{eps_row, other_row, sequence};
 use crate::inferred::arguments;
@@ -31,7 +31,7 @@ fn sequence_at<E: Elaborator>(
 ) -> Result<Found, ExpFault>
     requires answers { E.AnswersByTable elaborator.now }
     ensures { LeadsTo context.now (sequence_at context.now.within.now part.now.at
-        part.now.in_parentheses part.now.exp.now parts.now ty.now meaning.now (out-Ty meaning.now))
+        (manner part.now) part.now.exp.now parts.now ty.now meaning.now (out-Ty meaning.now))
         result }
 {
     match meaning {
@@ -57,7 +57,7 @@ fn form_row<E: Elaborator>(
     requires answers { E.AnswersByTable elaborator.now }
     requires means { Means context.now.decls.now.types ty.now meaning.now }
     ensures { LeadsTo context.now (form_row context.now.decls.now context.now.scope.now
-        context.now.within.now part.now.at part.now.in_parentheses part.now.exp.now ty.now
+        context.now.within.now part.now.at (manner part.now) part.now.exp.now ty.now
         meaning.now (out-Node node.now)) result }
 {
     match node {
@@ -91,7 +91,7 @@ fn plain_row<E: Elaborator>(
 ) -> Result<Found, ExpFault>
     requires answers { E.AnswersByTable elaborator.now }
     ensures { LeadsTo context.now (plain_row context.now.decls.now context.now.scope.now
-        context.now.within.now part.now.at part.now.in_parentheses part.now.exp.now ty.now)
+        context.now.within.now part.now.at (manner part.now) part.now.exp.now ty.now)
         result }
 {
     if inferable(part.exp) {
@@ -113,7 +113,7 @@ fn tuple_at<E: Elaborator>(
 ) -> Result<Found, ExpFault>
     requires answers { E.AnswersByTable elaborator.now }
     ensures { LeadsTo context.now (tuple_at context.now.decls.now context.now.scope.now
-        context.now.within.now part.now.at part.now.in_parentheses part.now.exp.now parts.now
+        context.now.within.now part.now.at (manner part.now) part.now.exp.now parts.now
         ty.now (out-Ty meaning.now)) result }
 {
     match meaning {
@@ -138,7 +138,7 @@ pub fn checked_row<E: Elaborator>(
 ) -> Result<Found, ExpFault>
     requires answers { E.AnswersByTable elaborator.now }
     ensures { LeadsTo context.now (checked_row context.now.decls.now context.now.scope.now
-        context.now.within.now part.now.at part.now.in_parentheses part.now.exp.now ty.now
+        context.now.within.now part.now.at (manner part.now) part.now.exp.now ty.now
         (opened part.now.exp.now)) result }
 {
     match &part.exp.node {
@@ -148,6 +148,7 @@ pub fn checked_row<E: Elaborator>(
             &Part {
                 at: part.at,
                 in_parentheses: true,
+                passed: part.passed,
                 exp: inner.get(),
             },
             ty,

@@ -5,9 +5,9 @@ ghost use Rattle.st_il.specs.declared.ty.Ty.{out-Ty};
 ghost use Rattle.st_notation.specs.Fitted.{plain, fillings};
 ghost use Rattle.st_elab_table.specs.Questions.{item};
 ghost use Rattle.st_il.specs.declared.expression.IlExp.TheVariants as il;
-ghost use Rattle.st_elab_table.specs.Steps.{exp_of, give, holes};
+ghost use Rattle.st_elab_table.specs.Steps.{exp_of, give, holes_behind};
 ghost use Rattle.st_elab_table.specs.Collections.{element, other_row, eps_row, sequence, item_of, item_row, found_item, run_row, hole_row};
-ghost use Rattle.st_elab_rows.specs.Asking.{LeadsTo, made_by};
+ghost use Rattle.st_elab_rows.specs.Asking.{manner, LeadsTo, made_by};
 ghost use Rattle.st_elab_rows.specs.Parts.{TellsAll};
 ghost use Rattle.st_elab_rows.specs.inner.Continuing.{IsItem, LeadsToItem};
 ghost use Rattle.st_elab_rows.specs.inner.Words.{lift_of};
@@ -22,7 +22,7 @@ use st_elab_rows::found::{is_collection, raise};
 use st_elab_table::ExpFault;
 use st_il::{IlExp, ListItem, Ty, copy_ty};
 use st_notation::Filled;
-use st_num::{Row, RuleId, Span};
+use st_num::{Name, Row, RuleId, Span};
 use st_types::is_sub;
 
 /// One element of this type, in a list or an option.
@@ -36,7 +36,7 @@ fn element<E: Elaborator>(
 ) -> Result<Found, ExpFault>
     requires answers { E.AnswersByTable elaborator.now }
     ensures { LeadsTo context.now (element context.now.within.now part.now.at
-        part.now.in_parentheses part.now.exp.now ty.now inner.now
+        (manner part.now) part.now.exp.now ty.now inner.now
         (lift_of lifting inner.now)) result }
 {
     if is_collection(context.decls.types.meaning(inner)) {
@@ -61,7 +61,7 @@ pub fn other_row<E: Elaborator>(
 ) -> Result<Found, ExpFault>
     requires answers { E.AnswersByTable elaborator.now }
     ensures { LeadsTo context.now (other_row context.now.within.now part.now.at
-        part.now.in_parentheses part.now.exp.now ty.now (out-Ty meaning.now)) result }
+        (manner part.now) part.now.exp.now ty.now (out-Ty meaning.now)) result }
 {
     match meaning {
         Ty::List(of) => element(context, elaborator, part, ty, of.get(), Lifting::List),
@@ -194,11 +194,13 @@ fn run_row<E: Elaborator>(
     context: &Context<'_>,
     elaborator: &E,
     at: Span,
+    passed: &[Name],
     parts: &[Exp],
     ty: &Ty,
 ) -> Result<Found, ExpFault>
     requires answers { E.AnswersByTable elaborator.now }
-    ensures { LeadsTo context.now (run_row context.now.within.now at parts.now ty.now) result }
+    ensures { LeadsTo context.now (run_row context.now.within.now at passed.now parts.now ty.now)
+        result }
 {
     match parts {
         [] => absent(context, ty),
@@ -208,6 +210,7 @@ fn run_row<E: Elaborator>(
             &Part {
                 at: one.at,
                 in_parentheses: true,
+                passed,
                 exp: one,
             },
             ty,
@@ -236,31 +239,45 @@ fn hole<E: Elaborator>(
     context: &Context<'_>,
     elaborator: &E,
     at: Span,
+    passed: &[Name],
     filling: &Filled<'_>,
     ty: &Ty,
 ) -> Result<Found, ExpFault>
     requires answers { E.AnswersByTable elaborator.now }
     ensures { LeadsTo context.now
-        (hole_row context.now.within.now at (plain filling.now) ty.now) result }
+        (hole_row context.now.within.now at passed.now (plain filling.now) ty.now) result }
 {
     match filling {
-        Filled::One(exp) => asked(context, elaborator, exp, ty),
-        Filled::Run(parts) => run_row(context, elaborator, at, parts, ty),
+        Filled::One(exp) => asked_at(
+            context,
+            elaborator,
+            &Part {
+                at: exp.at,
+                in_parentheses: false,
+                passed,
+                exp,
+            },
+            ty,
+        ),
+        Filled::Run(parts) => run_row(context, elaborator, at, passed, parts, ty),
         Filled::Missing => absent(context, ty),
     }
 }
 
-/// What fills each hole, at the type of the hole.
+/// What fills each hole, at the type of the hole; what is in it is being asked at these variants
+/// already.
 pub fn all_holes<E: Elaborator>(
     context: &Context<'_>,
     elaborator: &E,
     at: Span,
+    passed: &[Name],
     filled: &[Filled<'_>],
     tys: &[Ty],
 ) -> Result<Row<IlExp>, ExpFault>
     requires answers { E.AnswersByTable elaborator.now }
     ensures { TellsAll context.now.decls.now context.now.scope.now
-        (holes context.now.within.now at (fillings filled.now) tys.now) exp_of result }
+        (holes_behind context.now.within.now at passed.now (fillings filled.now) tys.now) exp_of
+        result }
 {
     let mut all = Row::new(context.alloc);
     let mut rest = tys;
@@ -268,7 +285,7 @@ pub fn all_holes<E: Elaborator>(
         let Some((ty, others)) = rest.split_first() else {
             return Ok(all);
         };
-        let one = hole(context, elaborator, at, filling, ty)?;
+        let one = hole(context, elaborator, at, passed, filling, ty)?;
         all.push(one.exp.into_inner())?;
         rest = others;
     }

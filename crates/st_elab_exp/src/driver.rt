@@ -5,7 +5,7 @@ ghost use Rattle.st_elab_rows.specs.Asking.{LeadsTo, IsAnswer, question};
 
 use crate::checked::checked_row;
 use crate::inferred::inferred_row;
-use st_elab_rows::asking::{Asking, Context, Found, Part};
+use st_elab_rows::asking::{Asking, Context, Found};
 use st_elab_rows::elaborator::Elaborator;
 use st_elab_table::ExpFault;
 
@@ -23,21 +23,7 @@ fn row<E: Elaborator>(
         (question context.now.within.now asking.now)) result }
 {
     match *asking {
-        Asking::Check {
-            at,
-            in_parentheses,
-            exp,
-            ty,
-        } => checked_row(
-            context,
-            elaborator,
-            &Part {
-                at,
-                in_parentheses,
-                exp,
-            },
-            ty,
-        ),
+        Asking::Check(part, ty) => checked_row(context, elaborator, &part, ty),
         Asking::Infer { at, exp } => inferred_row(context, elaborator, at, exp),
     }
 }

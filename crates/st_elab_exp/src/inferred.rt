@@ -239,24 +239,12 @@ fn inferred_at<E: Elaborator>(
             slice_row(context, elaborator, operand.get(), from.get(), length.get())
         }
         Node::Update(operand, path, value) => {
-            update_row(
-                context,
-                elaborator,
-                at,
-                operand.get(),
-                path.as_slice(),
-                value.get(),
-            )
+            let path = path.as_slice();
+            update_row(context, elaborator, at, operand.get(), path, value.get())
         }
         Node::Extend(operand, path, list) => {
-            extension_row(
-                context,
-                elaborator,
-                at,
-                operand.get(),
-                path.as_slice(),
-                list.get(),
-            )
+            let path = path.as_slice();
+            extension_row(context, elaborator, at, operand.get(), path, list.get())
         }
         Node::Len(operand) => length_row(context, elaborator, operand.get()),
         Node::Call(name, parts) => call_row(context, elaborator, at, name, parts.as_slice()),

@@ -1,5 +1,6 @@
 //! Expressions and fillings, elaborated inside of iterations.
 
+ghost use Rattle.std.specs.Prelude.{◌≡◌, length};
 ghost use Rattle.st_el.specs.declared.expression.Count.{out-Count};
 ghost use Rattle.st_notation.specs.Fitted.{fillings};
 ghost use Rattle.st_elab_table.specs.Collections.{counted_at};
@@ -14,7 +15,7 @@ use crate::inferred::arguments;
 use crate::turn::counted;
 use st_dims::Within;
 use st_el::{Count, Exp};
-use st_elab_rows::asking::{Asking, Context};
+use st_elab_rows::asking::{Asking, Context, by_itself};
 use st_elab_table::{Decls, ExpFault, Scope};
 use st_il::{IlExp, Iteration, Ty};
 use st_notation::Filled;
@@ -39,13 +40,7 @@ pub fn check_inside(
         scope,
         within,
     };
-    let asking = Asking::Check {
-        at: exp.at,
-        in_parentheses: false,
-        exp,
-        ty,
-    };
-    let found = answer(&context, &asking)?;
+    let found = answer(&context, &Asking::Check(by_itself(exp), ty))?;
     Ok(found.exp)
 }
 
@@ -58,6 +53,7 @@ pub fn check_parts(
     parts: &[Exp],
     tys: &[Ty],
 ) -> Result<Row<IlExp>, ExpFault>
+    requires { length parts.now ≡ length tys.now }
     ensures { TellsAll decls.now scope.now (each_asked within.now parts.now tys.now) exp_of
         result }
 {
@@ -80,6 +76,7 @@ pub fn check_fillings(
     filled: &[Filled<'_>],
     tys: &[Ty],
 ) -> Result<Row<IlExp>, ExpFault>
+    requires { length filled.now ≡ length tys.now }
     ensures { TellsAll decls.now scope.now (holes within.now at (fillings filled.now) tys.now)
         exp_of result }
 {
@@ -89,7 +86,7 @@ pub fn check_fillings(
         scope,
         within,
     };
-    all_holes(&context, &answer, at, filled, tys)
+    all_holes(&context, &answer, at, &[], filled, tys)
 }
 
 /// How often an iteration goes that stands inside of this, or the first breach.

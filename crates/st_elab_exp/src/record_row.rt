@@ -11,15 +11,17 @@ ghost use Rattle.st_type_table.specs.Meaning.{Means, fields_of};
 ghost use Rattle.st_notation.specs.declared.filled.Shape.{Shape};
 ghost use Rattle.st_notation.specs.Fits.{Filling};
 ghost use Rattle.st_notation.specs.Fitted.{plain, fillings};
-ghost use Rattle.st_elab_table.specs.Records.{is_omissible, omitted, aligned, field_names, fields_of_record, record_row, case_row, notation_row};
-ghost use Rattle.st_elab_rows.specs.Asking.{LeadsTo};
+ghost use Rattle.st_elab_table.specs.Records.{is_omissible, omitted, aligned, field_names, fields_of_record, record_row, case_row, variant_row, notation_row};
+ghost use Rattle.st_elab_rows.specs.Asking.{manner, LeadsTo};
 
 use crate::collection::{all_holes, other_row};
+use st_dims::is_among;
 use st_el::Exp;
 use st_elab_rows::asking::{Context, Found, Part};
-use st_elab_rows::choice::{chosen_case, fill, shapes_of};
+use st_elab_rows::choice::{chosen_case, fill, shapes_of, takes_whole};
 use st_elab_rows::elaborator::Elaborator;
 use st_elab_rows::fitting::give_at;
+use st_elab_rows::passed::passed_on;
 use st_elab_rows::record::field_types;
 use st_elab_table::ExpFault;
 use st_il::{IlExp, Ty};
@@ -136,7 +138,14 @@ fn fields_of_record<E: Elaborator>(
             rule: RuleId::Y4,
         });
     };
-    let all = all_holes(context, elaborator, at, filled.as_slice(), tys.as_slice())?;
+    let all = all_holes(
+        context,
+        elaborator,
+        at,
+        &[],
+        filled.as_slice(),
+        tys.as_slice(),
+    )?;
     let exp = IlExp::Fields(name.copy(context.alloc)?, all);
     let given = give_at(context.alloc, exp, ty)?;
     Ok(given)
@@ -154,7 +163,7 @@ pub fn record_row<E: Elaborator>(
     requires answers { E.AnswersByTable elaborator.now }
     requires means { Means context.now.decls.now.types ty.now meaning.now }
     ensures { LeadsTo context.now (record_row context.now.decls.now context.now.within.now
-        part.now.at part.now.in_parentheses part.now.exp.now written.now ty.now meaning.now)
+        part.now.at (manner part.now) part.now.exp.now written.now ty.now meaning.now)
         result }
 {
     match ty {
@@ -168,18 +177,19 @@ pub fn record_row<E: Elaborator>(
     }
 }
 
-/// The case of a variant of this name that the expression is.
+/// The case of the variant of this name, which the type means, that the expression is.
 fn case_row<E: Elaborator>(
     context: &Context<'_>,
     elaborator: &E,
     part: &Part<'_>,
     ty: &Ty,
+    variant: &Name,
     cases: &[CaseDef],
 ) -> Result<Found, ExpFault>
     requires answers { E.AnswersByTable elaborator.now }
     requires has { HasCases context.now.decls.now.types ty.now cases.now }
-    ensures { LeadsTo context.now
-        (case_row context.now.within.now part.now.at part.now.exp.now ty.now) result }
+    ensures { LeadsTo context.now (case_row context.now.within.now part.now.at part.now.passed.now
+        part.now.exp.now ty.now variant.now) result }
 {
     let Ty::Name(name) = ty else {
         return unfit(part.at);
@@ -190,8 +200,16 @@ fn case_row<E: Elaborator>(
     let Some(filled) = fill(context.alloc, &context.decls.types, case, part.exp)? else {
         return unfit(part.at);
     };
-    let operands = case.operands.as_slice();
-    let all = all_holes(context, elaborator, part.at, filled.as_slice(), operands)?;
+    let whole = takes_whole(context.alloc, case, part.exp)?;
+    let passed = passed_on(context.alloc, whole, part.passed, variant)?;
+    let all = all_holes(
+        context,
+        elaborator,
+        part.at,
+        passed.as_slice(),
+        filled.as_slice(),
+        case.operands.as_slice(),
+    )?;
     let name = name.copy(context.alloc)?;
     let tag = case.tag.copy(context.alloc)?;
     let given = give_at(context.alloc, IlExp::Case(name, tag, all), ty)?;
@@ -208,6 +226,30 @@ fn unfit(at: Span) -> Result<Found, ExpFault>
     })
 }
 
+/// The case of a variant of this meaning; none where the expression itself is being asked at this
+/// variant already.
+fn variant_row<E: Elaborator>(
+    context: &Context<'_>,
+    elaborator: &E,
+    part: &Part<'_>,
+    ty: &Ty,
+    meaning: &Ty,
+    cases: &[CaseDef],
+) -> Result<Found, ExpFault>
+    requires answers { E.AnswersByTable elaborator.now }
+    requires has { HasCases context.now.decls.now.types ty.now cases.now }
+    ensures { LeadsTo context.now (variant_row context.now.within.now part.now.at
+        part.now.passed.now part.now.exp.now ty.now (out-Ty meaning.now)) result }
+{
+    let Ty::Name(variant) = meaning else {
+        return unfit(part.at);
+    };
+    if is_among(variant, part.passed) {
+        return unfit(part.at);
+    }
+    case_row(context, elaborator, part, ty, variant, cases)
+}
+
 /// An atom, a sequence, a sign of notation or a bracket, at a type of this meaning.
 pub fn notation_row<E: Elaborator>(
     context: &Context<'_>,
@@ -218,10 +260,10 @@ pub fn notation_row<E: Elaborator>(
 ) -> Result<Found, ExpFault>
     requires answers { E.AnswersByTable elaborator.now }
     ensures { LeadsTo context.now (notation_row context.now.within.now part.now.at
-        part.now.in_parentheses part.now.exp.now ty.now meaning.now) result }
+        (manner part.now) part.now.exp.now ty.now meaning.now) result }
 {
     match context.decls.types.cases(ty) {
-        Some(cases) => case_row(context, elaborator, part, ty, cases.as_slice()),
+        Some(cases) => variant_row(context, elaborator, part, ty, meaning, cases.as_slice()),
         None => other_row(context, elaborator, part, ty, meaning),
     }
 }

@@ -8,7 +8,7 @@ ghost use Rattle.st_dims.specs.Around.{inside};
 ghost use Rattle.st_elab_table.specs.Iterations.{iterated_type};
 ghost use Rattle.st_elab_table.specs.Collections.{counted_at, iteration, body_row, iteration_row};
 ghost use Rattle.st_elab_table.specs.Inferred.{inferred_iteration};
-ghost use Rattle.st_elab_rows.specs.Asking.{LeadsTo};
+ghost use Rattle.st_elab_rows.specs.Asking.{manner, LeadsTo};
 ghost use Rattle.st_elab_rows.specs.Told.{Reaches};
 
 use crate::collection::other_row;
@@ -117,7 +117,7 @@ pub fn iteration_row<E: Elaborator>(
 ) -> Result<Found, ExpFault>
     requires answers { E.AnswersByTable elaborator.now }
     ensures { LeadsTo context.now (iteration_row context.now.scope.now context.now.within.now
-        part.now.at part.now.in_parentheses part.now.exp.now body.now count.now ty.now
+        part.now.at (manner part.now) part.now.exp.now body.now count.now ty.now
         (out-Ty meaning.now)) result }
 {
     match meaning {

@@ -1,5 +1,5 @@
 -- What the law claims of each question.
-use Rattle.std.specs.Prelude.{◌≡◌, ◌⊎◌, List, [], ◌∷◌, map, Bool, true}
+use Rattle.std.specs.Prelude.{◌≡◌, ◌⊎◌, List, [], ◌∷◌, map, true}
 use Rattle.st_el.specs.declared.expression.Exp.{Exp}
 use Rattle.st_el.specs.Plain.{plain_exp}
 use Rattle.st_il.specs.declared.definition.IlDef.{IlDef}
@@ -13,7 +13,7 @@ use Rattle.st_erase.specs.declared.erased.ErasedKind.TheVariants as kind
 use Rattle.st_erase.specs.Places.{run as run_of}
 use Rattle.st_erase.specs.Erasure.{erased}
 use Rattle.st_elab_table.specs.declared.decls.Decls.{Decls}
-use Rattle.st_elab_table.specs.Questions.{Question, check, infer, item, hole, Made}
+use Rattle.st_elab_table.specs.Questions.{Manner, Question, check, infer, item, hole, Made}
 
 -- ---- kinds
 
@@ -44,8 +44,8 @@ abbrev pub IsNoList : Decls → Ty → Type 0
 IsNoList D t = (x : Ty) → Means D.types t (ty.List x) → ⊥
 
 -- An expression is one element where it stands in parentheses or is asked at no list type.
-abbrev pub IsAlone : Decls → Bool → Ty → Type 0
-IsAlone D p t = (p ≡ true) ⊎ IsNoList D t
+abbrev pub IsAlone : Decls → Manner → Ty → Type 0
+IsAlone D p t = (p.in_parentheses ≡ true) ⊎ IsNoList D t
 
 -- what is erased fills the hole, in which it is one element where it stands alone
 abbrev pub IsFilledBy : Type 0 → Filling → Erased → Type 0
@@ -58,7 +58,7 @@ module _ (defs : List IlDef) (D : Decls) where
   Claim (check w at p e t) m = IsWritten (IsAlone D p t) (erased defs m.exp) e
   Claim (infer w at e) m = IsWritten (Unit {0}) (erased defs m.exp) e
   Claim (item w t element e) m = IsErasedTo (erased defs m.exp) e
-  Claim (hole w at filling t) m = IsFilledBy (IsNoList D t) filling (erased defs m.exp)
+  Claim (hole w at passed filling t) m = IsFilledBy (IsNoList D t) filling (erased defs m.exp)
 
 -- the claims of several questions
 abbrev pub Claims : (Question → Made → Type 0) → List Question → List Made → Type 0

@@ -15,6 +15,9 @@ use Rattle.st_il.specs.declared.expression.IlExp.TheVariants as il
 use Rattle.st_type_table.specs.Meaning.{fields_of}
 use Rattle.st_erase.specs.Erasure.{erased, binary}
 use Rattle.st_elab_table.specs.declared.decls.Decls.{Decls}
+use Rattle.st_notation.specs.declared.filled.Shape.{Shape}
+use Rattle.st_elab_table.specs.Choice.{shape_of}
+use Rattle.st_elab_table.specs.Records.{shaped}
 use Rattle.st_elab_table.specs.Questions.{Question, Made, Step, asks}
 use Rattle.st_elab_table.specs.Steps.{list_at, as_list, number_at, as_number, larger, raised, injected, joined_at, as_joined}
 use Rattle.st_elab_table.specs.Paths.{declared_field, field_by, as_field}
@@ -59,6 +62,10 @@ module _ (D : Decls) (P : Question → Made → Type 0) (Q : Made → Type 0) wh
       by : (o : Option (List (List ℕ × Ty))) → Keeps D P Q (field_by at whole name next o)
       by None = tt
       by (Some fields) = declared _
+
+  pub keeps_shaped : (ts : List Ty) (next : List Shape → Step) → ((ss : List Shape) → Keeps D P Q (next ss)) → Keeps D P Q (shaped ts next)
+  keeps_shaped [] next h = h []
+  keeps_shaped (t ∷ ts) next h = λ u _. keeps_shaped ts (λ ss. next (shape_of u ∷ ss)) (λ ss. h (shape_of u ∷ ss))
 
 -- ---- injections
 

@@ -11,3 +11,9 @@ pub mod Recording
 pub mod Fitting
 pub mod Casing
 pub mod Table
+pub mod Backing
+pub mod Seeing
+pub mod Mentioning
+pub mod Occurring
+pub mod Holding
+pub mod Occurrences

@@ -1,5 +1,5 @@
 -- Lists, options, sequences and iterations are erased to what they are made of.
-use Rattle.std.proofs.Common.{◌≡◌, refl, sym, ◌∙◌, ap, subst, List, [], ◌∷◌, map, length, Bool, true, false, not, ◌&&◌, inl, inr}
+use Rattle.std.proofs.Common.{◌≡◌, refl, sym, ◌∙◌, ap, subst, ℕ, List, [], ◌∷◌, map, length, Bool, true, false, not, ◌&&◌, inl, inr}
 use Rattle.std.specs.Prelude.{if◌then◌else◌, nat_le}
 use Rattle.st_num.specs.declared.span.Span.{Span}
 use Rattle.st_num.specs.declared.mark.Mark.{Mark}
@@ -33,7 +33,7 @@ use Rattle.st_dims.specs.declared.within.Within.{Within}
 use Rattle.st_elab_table.specs.declared.operator.Operator.TheVariants as operator
 use Rattle.st_elab_table.specs.Operators.{operator_of}
 use Rattle.st_elab_table.specs.Forms.{place, is_spliced, is_told_by_type, goes_over_list}
-use Rattle.st_elab_table.specs.Questions.{item, Made, Step, Asks}
+use Rattle.st_elab_table.specs.Questions.{Manner, item, Made, Step, Asks}
 use Rattle.st_elab_table.specs.Steps.{made, give, asked, is_collection, list_of_one, lifted_to, lifted_at, fitted}
 use Rattle.st_il.specs.Occurrences.{occurs}
 use Rattle.st_elab_table.specs.Iterations.{iterated}
@@ -87,12 +87,12 @@ module _ (defs : List IlDef) (D : Decls) where
       )),
     )
 
-    element_keeps : (w : Within) (at : Span) (p : Bool) (t x : Ty) (lift : IlExp → IlExp)
+    element_keeps : (w : Within) (at : Span) (p : Manner) (t x : Ty) (lift : IlExp → IlExp)
         → ((y : IlExp) → erased defs (lift y) ≡ record { exp = lifted (whole (erased defs y)); kind = kind.Plain }) → Kept defs D Alone e (table.element w at p e t x lift)
     element_keeps w at p t x lift is = λ v _. keeps_if D (Claim defs D) (Writes defs Alone e) (is_collection v) _ _ (λ _. tt)
         (λ _. λ m h. lifted_written defs Alone m.exp (lift m.exp) e (is m.exp) h.same)
 
-    pub other_keeps : (w : Within) (at : Span) (p : Bool) (t : Ty) (y : Ty-F Ty) → Kept defs D Alone e (table.other_row w at p e t y)
+    pub other_keeps : (w : Within) (at : Span) (p : Manner) (t : Ty) (y : Ty-F Ty) → Kept defs D Alone e (table.other_row w at p e t y)
     other_keeps w at p t (Ty-F.List x) = element_keeps w at p t x (list_of_one x) (erased-one defs x)
     other_keeps w at p t (Ty-F.Opt x) = element_keeps w at p t x il.Present (erased-Present defs)
     other_keeps w at p t y = tt
@@ -110,7 +110,7 @@ module _ (defs : List IlDef) (D : Decls) where
 
   -- ---- iterations
 
-  counted_keeps : (Q : Made → Type 0) (w : Within) (c : Count) (y : Count-F Count Node Seg Exp) (next : Iteration → Step) → out-Count c ≡ y
+  pub counted_keeps : (Q : Made → Type 0) (w : Within) (c : Count) (y : Count-F Count Node Seg Exp) (next : Iteration → Step) → out-Count c ≡ y
       → ((k : Iteration) → plain_count (erased_iteration defs k) ≡ plain_count c → Keeps D (Claim defs D) Q (next k)) → Keeps D (Claim defs D) Q (table.counted_at w y next)
   counted_keeps Q w c Count-F.Star next is h = h iteration.Star (ap plain_count (iteration-Star defs) ∙ count-is times.Star _ times.outs-Star ∙ sym (count-is c _ is))
   counted_keeps Q w c Count-F.Plus next is h = h iteration.Plus (ap plain_count (iteration-Plus defs) ∙ count-is times.Plus _ times.outs-Plus ∙ sym (count-is c _ is))
@@ -130,7 +130,7 @@ module _ (defs : List IlDef) (D : Decls) where
       form_written Alone (erased defs (il.Iter k (iterated S w c (λ name. occurs name x)) x)) e (node.Iter (whole (erased defs x)) (erased_iteration defs k)) _ _
       (erased-Iter defs k (iterated S w c (λ name. occurs name x)) x) (node.outs-Iter (whole (erased defs x)) (erased_iteration defs k)) is (λ i. exp (roll-Node (Node-F.Iter (part i) (g i)))))
 
-  pub iterated_keeps : (Alone : Type 0) (S : Scope) (w : Within) (at : Span) (p : Bool) (e b : Exp) (c : Count) (t : Ty) (y : Ty-F Ty) → opened e ≡ Node-F.Iter b c
+  pub iterated_keeps : (Alone : Type 0) (S : Scope) (w : Within) (at : Span) (p : Manner) (e b : Exp) (c : Count) (t : Ty) (y : Ty-F Ty) → opened e ≡ Node-F.Iter b c
       → Kept defs D Alone e (table.iteration_row S w at p e b c t y)
   iterated_keeps Alone S w at p e b c t (Ty-F.List x) is =
       keeps_if D (Claim defs D) (Writes defs Alone e) (goes_over_list (out-Count c)) _ _ (λ _. λ m h. iteration_keeps Alone S w e b c m.exp t is h.same) (λ _. other_keeps Alone e w at p t (Ty-F.List x))
@@ -174,7 +174,7 @@ module _ (defs : List IlDef) (D : Decls) where
       (λ _. keeps_asks D (Claim defs D) Q (map (item w t x) (e ∷ f ∷ es)) (λ ms. give (il.List x (map table.item_of ms)) t) (λ ms c. h (il.List x (map table.item_of ms)) (list_items w t x e f es ms c)))
 
   -- a sequence that is no part of an expression in parentheses, at a list type
-  pub run_keeps : (w : Within) (at : Span) (p : Bool) (e : Exp) (es : List Exp) (t u x : Ty) → opened e ≡ Node-F.Seq es → Means D.types t u → out-Ty u ≡ Ty-F.List x → table.is_run es p ≡ true
+  pub run_keeps : (w : Within) (at : Span) (p : Manner) (e : Exp) (es : List Exp) (t u x : Ty) → opened e ≡ Node-F.Seq es → Means D.types t u → out-Ty u ≡ Ty-F.List x → table.is_run es p.in_parentheses ≡ true
       → Kept defs D (IsAlone D p t) e (table.sequence w at es t x)
   run_keeps w at p e [] t u x is means list long = absurd (cc)
   run_keeps w at p e (f ∷ []) t u x is means list long = absurd (cc)
@@ -186,7 +186,7 @@ module _ (defs : List IlDef) (D : Decls) where
       })
     where
       none : IsAlone D p t → ⊥
-      none (inl within) = not_run (nat_le 2 (length (f ∷ g ∷ es))) p long within
+      none (inl within) = not_run (nat_le 2 (length (f ∷ g ∷ es))) p.in_parentheses long within
       none (inr other) = other x (subst (Means D.types t) (is_list u x list) means)
 
   -- ---- items
@@ -210,9 +210,11 @@ module _ (defs : List IlDef) (D : Decls) where
       ap (λ z. map plain_exp (run_of z)) h.2 ∙ ap (λ z. map plain_exp (parts_at (exp (node.Seq h.0)) z)) (opened-exp (node.Seq h.0) ∙ node.outs-Seq h.0) ∙ h.1)
   run_at_keeps w at e f es t y = tt
 
-  pub hole_keeps : (w : Within) (at : Span) (filling : Filling) (t : Ty) → Keeps D (Claim defs D) (λ m. IsFilledBy (IsNoList D t) filling (erased defs m.exp)) (table.hole_row w at filling t)
-  hole_keeps w at (one e) t = λ m h. written_as (IsNoList D t) (IsAlone D false t) (erased defs m.exp) (erased defs m.exp) e refl (λ no. inr no) h
-  hole_keeps w at (run []) t = ap (λ z. map plain_exp (run_of z)) (erased-Absent defs t)
-  hole_keeps w at (run (e ∷ [])) t = λ m h. single_run (erased defs m.exp) e (h.single (inl refl)) h.same
-  hole_keeps w at (run (e ∷ f ∷ es)) t = λ u _. run_at_keeps w at e f es t (out-Ty u)
-  hole_keeps w at missing t = ap (λ z. z.kind) (erased-Absent defs t)
+  pub hole_keeps : (w : Within) (at : Span) (passed : List (List ℕ)) (filling : Filling) (t : Ty)
+      → Keeps D (Claim defs D) (λ m. IsFilledBy (IsNoList D t) filling (erased defs m.exp)) (table.hole_row w at passed filling t)
+  hole_keeps w at passed (one e) t =
+      λ m h. written_as (IsNoList D t) (IsAlone D (record { in_parentheses = false; passed = passed }) t) (erased defs m.exp) (erased defs m.exp) e refl (λ no. inr no) h
+  hole_keeps w at passed (run []) t = ap (λ z. map plain_exp (run_of z)) (erased-Absent defs t)
+  hole_keeps w at passed (run (e ∷ [])) t = λ m h. single_run (erased defs m.exp) e (h.single (inl refl)) h.same
+  hole_keeps w at passed (run (e ∷ f ∷ es)) t = λ u _. run_at_keeps w at e f es t (out-Ty u)
+  hole_keeps w at passed missing t = ap (λ z. z.kind) (erased-Absent defs t)

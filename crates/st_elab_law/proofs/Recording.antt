@@ -28,18 +28,16 @@ use Rattle.st_erase.specs.Records.{fields_of as names_of}
 use Rattle.st_erase.specs.Erasure.{written, fields, erased}
 use Rattle.st_elab_table.specs.declared.decls.Decls.{Decls}
 use Rattle.st_dims.specs.declared.within.Within.{Within}
-use Rattle.st_elab_table.specs.Choice.{shape_of}
 use Rattle.st_elab_table.specs.Inferred.{fun_named, call_row, inferred_tuple}
-use Rattle.st_elab_table.specs.Questions.{Made, Step}
+use Rattle.st_elab_table.specs.Questions.{Manner, Made}
 use Rattle.st_elab_table.specs.Steps.{give, found, each_asked, holes, ty_of, exps}
-use Rattle.st_elab_table.specs.Records.{is_omissible, omitted, aligned, shaped, field_names, field_types, filled_fields, record_by, record_row}
-use Rattle.st_elab_table.proofs.Keeps.{Keeps}
+use Rattle.st_elab_table.specs.Records.{is_omissible, omitted, aligned, field_names, field_types, filled_fields, record_by, record_row}
 use Rattle.st_elab_law.proofs.Claims.{IsPresent, IsWritten, Claim, Claims}
 use Rattle.st_elab_law.specs.Agreement.{IsTableOf}
 use Rattle.st_elab_law.proofs.Agreeing.{knows_fields}
 use Rattle.st_elab_law.proofs.Erasings.{erased-Tuple, erased-Call, erased-Fields}
 use Rattle.st_elab_law.proofs.Writing.{whole_source, form_written}
-use Rattle.st_elab_law.proofs.Keeping.{keeps_if, keeps_asks, Writes, Kept}
+use Rattle.st_elab_law.proofs.Keeping.{keeps_if, keeps_asks, keeps_shaped, Writes, Kept}
 use Rattle.st_elab_law.proofs.Listing.{other_keeps}
 
 -- ---- fields
@@ -47,7 +45,7 @@ use Rattle.st_elab_law.proofs.Listing.{other_keeps}
 abbrev pub plain_field : List ℕ × Exp → List ℕ × Exp
 plain_field f = (f.0, plain_exp f.1)
 
-omitted_some : (s : Shape) (rest : Option (List Filling)) (fs : List Filling) → omitted s rest ≡ Some fs → (gs : List Filling) × (rest ≡ Some gs) × (fs ≡ missing ∷ gs)
+pub omitted_some : (s : Shape) (rest : Option (List Filling)) (fs : List Filling) → omitted s rest ≡ Some fs → (gs : List Filling) × (rest ≡ Some gs) × (fs ≡ missing ∷ gs)
 omitted_some s rest fs h = by (is_omissible s) rest h
   where
     by : (b : Bool) (o : Option (List Filling)) → (if b then option_map (λ (xs : List Filling). missing ∷ xs) o else None) ≡ Some fs → (gs : List Filling) × (o ≡ Some gs) × (fs ≡ missing ∷ gs)
@@ -55,7 +53,7 @@ omitted_some s rest fs h = by (is_omissible s) rest h
     by true (Some gs) e = (gs, refl, cc)
     by false o e = absurd (cc)
 
-one_some : (e : Exp) (rest : Option (List Filling)) (fs : List Filling) → option_map (λ (xs : List Filling). one e ∷ xs) rest ≡ Some fs → (gs : List Filling) × (rest ≡ Some gs) × (fs ≡ one e ∷ gs)
+pub one_some : (e : Exp) (rest : Option (List Filling)) (fs : List Filling) → option_map (λ (xs : List Filling). one e ∷ xs) rest ≡ Some fs → (gs : List Filling) × (rest ≡ Some gs) × (fs ≡ one e ∷ gs)
 one_some e None fs h = absurd (cc)
 one_some e (Some gs) fs h = (gs, refl, cc)
 
@@ -175,10 +173,6 @@ module _ (defs : List IlDef) (D : Decls) where
   aligned_written w at (d ∷ declared) (s ∷ ss) (g ∷ given) fs ms h c =
       aligned_next w at d declared s ss g given fs ms (aligned_written w at declared ss) (same_name d.0 g.0) refl h c
 
-  keeps_shaped : (Q : Made → Type 0) (ts : List Ty) (next : List Shape → Step) → ((ss : List Shape) → Keeps D (Claim defs D) Q (next ss)) → Keeps D (Claim defs D) Q (shaped ts next)
-  keeps_shaped Q [] next h = h []
-  keeps_shaped Q (t ∷ ts) next h = λ u _. keeps_shaped Q ts (λ ss. next (shape_of u ∷ ss)) (λ ss. h (shape_of u ∷ ss))
-
   module _ (table : IsTableOf defs D) where
     filled_keeps : (Alone : Type 0) (w : Within) (at : Span) (e : Exp) (name : List ℕ) (given : List (List ℕ × Exp)) (t u : Ty) (declared : List (List ℕ × Ty)) (ss : List Shape)
         → opened e ≡ Node-F.Fields given → Means D.types (ty.Name name) u → fields_of D.types u ≡ Some declared
@@ -191,13 +185,13 @@ module _ (defs : List IlDef) (D : Decls) where
             let same = ap (λ z. map plain_field (fields z (map (erased defs) (exps ms)))) (knows_fields defs D table name u declared means has) ∙ aligned_written w at declared ss given fs ms h c in
             form_written Alone (erased defs (il.Fields name (exps ms))) e (node.Fields (fields (names_of (length defs) defs name) (map (erased defs) (exps ms)))) _ _ (erased-Fields defs name (exps ms)) (node.outs-Fields (fields (names_of (length defs) defs name) (map (erased defs) (exps ms)))) is (λ i. exp (roll-Node (Node-F.Fields (same i)))))
 
-    pub record_keeps : (Alone : Type 0) (w : Within) (at : Span) (p : Bool) (e : Exp) (given : List (List ℕ × Exp)) (t u : Ty) → opened e ≡ Node-F.Fields given → Means D.types t u
+    pub record_keeps : (Alone : Type 0) (w : Within) (at : Span) (p : Manner) (e : Exp) (given : List (List ℕ × Exp)) (t u : Ty) → opened e ≡ Node-F.Fields given → Means D.types t u
         → Kept defs D Alone e (record_row D w at p e given t u)
     record_keeps Alone w at p e given t u is means = by (out-Ty t) refl (fields_of D.types u) refl
       where
         by : (y : Ty-F Ty) → out-Ty t ≡ y → (o : Option (List (List ℕ × Ty))) → fields_of D.types u ≡ o → Kept defs D Alone e (record_by w at p e given t u y o)
         by (Ty-F.Name name) opens (Some declared) has =
             let named : t ≡ ty.Name name = sym (roll-out-Ty t) ∙ ap roll-Ty opens ∙ ty.rolls-Name name in
-            keeps_shaped (Writes defs Alone e) (field_types declared) (λ ss. filled_fields w at name (field_types declared) t (aligned (field_names declared) ss given)) (λ ss. filled_keeps Alone w at e name given t u declared ss is (subst (λ z. Means D.types z u) named means) has)
+            keeps_shaped D (Claim defs D) (Writes defs Alone e) (field_types declared) (λ ss. filled_fields w at name (field_types declared) t (aligned (field_names declared) ss given)) (λ ss. filled_keeps Alone w at e name given t u declared ss is (subst (λ z. Means D.types z u) named means) has)
         by (Ty-F.Name name) opens None has = other_keeps defs D Alone e w at p t (out-Ty u)
         by y opens o has = other_keeps defs D Alone e w at p t (out-Ty u)

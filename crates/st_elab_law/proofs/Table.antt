@@ -1,5 +1,5 @@
 -- What each row of the table keeps, and so the law.
-use Rattle.std.proofs.Common.{◌≡◌, refl, sym, ◌∙◌, ℕ, List, length, Bool, true, inl}
+use Rattle.std.proofs.Common.{◌≡◌, refl, sym, ◌∙◌, ℕ, List, length, true, inl}
 use Rattle.std.specs.Prelude.{Option, Some, None, nat_eq}
 use Rattle.std.proofs.lemmas.Bool.{eqb-true}
 use Rattle.st_num.specs.declared.span.Span.{Span}
@@ -30,10 +30,10 @@ use Rattle.st_elab_table.specs.Iterations.{iterated_type}
 use Rattle.st_elab_table.specs.Inferred.{variable_type, variable_row, inferred_at}
 use Rattle.st_elab_table.specs.Checked.{sequence_at, form_row, plain_row, tuple_at, checked_row}
 use Rattle.st_elab_table.specs.Collections.{is_run}
-use Rattle.st_elab_table.specs.Questions.{Question, check, infer, item, hole, Gives}
-use Rattle.st_elab_table.specs.Steps.{made, give, asked, found, each_asked, exps}
-use Rattle.st_elab_table.specs.Elaboration.{row, around, Elab, Infer}
-use Rattle.st_elab_table.proofs.Keeps.{Keeps, Answered-keeps}
+use Rattle.st_elab_table.specs.Questions.{Manner, Question, check, infer, item, hole, Made, Step, Gives}
+use Rattle.st_elab_table.specs.Steps.{made, enclosed, give, asked, found, each_asked, exps}
+use Rattle.st_elab_table.specs.Elaboration.{row, Answered, Leads, around, Elab, Infer}
+use Rattle.st_elab_table.proofs.Keeps.{Keeps, Answered-keeps, Leads-keeps}
 use Rattle.st_elab_law.proofs.Claims.{IsWritten, IsAlone, Claim}
 use Rattle.st_elab_law.specs.Agreement.{IsTableOf, AreWhole}
 use Rattle.st_elab_law.proofs.Plainness.{plain-Paren, plain-Arith}
@@ -88,13 +88,13 @@ module _ (defs : List IlDef) (D : Decls) (S : Scope) where
   -- ---- expressions at a type
 
   module _ (fields : IsTableOf defs D) (holes : AreWhole D.types) where
-    sequence_keeps : (w : Within) (at : Span) (p : Bool) (e : Exp) (es : List Exp) (t u : Ty) (y : Ty-F Ty) → opened e ≡ Node-F.Seq es → Means D.types t u → out-Ty u ≡ y
+    sequence_keeps : (w : Within) (at : Span) (p : Manner) (e : Exp) (es : List Exp) (t u : Ty) (y : Ty-F Ty) → opened e ≡ Node-F.Seq es → Means D.types t u → out-Ty u ≡ y
         → Kept defs D (IsAlone D p t) e (sequence_at w at p e es t u y)
     sequence_keeps w at p e es t u (Ty-F.List x) is means list =
-        keeps_if D (Claim defs D) (Writes defs (IsAlone D p t) e) (is_run es p) _ _ (λ long. run_keeps defs D w at p e es t u x is means list long) (λ _. other_keeps defs D (IsAlone D p t) e w at p t (Ty-F.List x))
+        keeps_if D (Claim defs D) (Writes defs (IsAlone D p t) e) (is_run es p.in_parentheses) _ _ (λ long. run_keeps defs D w at p e es t u x is means list long) (λ _. other_keeps defs D (IsAlone D p t) e w at p t (Ty-F.List x))
     sequence_keeps w at p e es t u y is means list = notation_keeps defs D holes (IsAlone D p t) w at p e t u
 
-    form_keeps : (w : Within) (at : Span) (p : Bool) (e : Exp) (t u : Ty) (y : Node-F Count Node Seg Exp) → opened e ≡ y → Means D.types t u → Kept defs D (IsAlone D p t) e (form_row D S w at p e t u y)
+    form_keeps : (w : Within) (at : Span) (p : Manner) (e : Exp) (t u : Ty) (y : Node-F Count Node Seg Exp) → opened e ≡ y → Means D.types t u → Kept defs D (IsAlone D p t) e (form_row D S w at p e t u y)
     form_keeps w at p e t u Node-F.Eps is means = eps_keeps defs D (IsAlone D p t) e at t (out-Ty u) is
     form_keeps w at p e t u (Node-F.Binary l sign r) is means =
         keeps_if D (Claim defs D) (Writes defs (IsAlone D p t) e) (is_concatenation (operator_of sign)) _ _
@@ -107,11 +107,11 @@ module _ (defs : List IlDef) (D : Decls) (S : Scope) where
     form_keeps w at p e t u (Node-F.Bracket opening b) is means = notation_keeps defs D holes (IsAlone D p t) w at p e t u
     form_keeps w at p e t u y is means = other_keeps defs D (IsAlone D p t) e w at p t (out-Ty u)
 
-    plain_keeps : (w : Within) (at : Span) (p : Bool) (e : Exp) (t : Ty) → Kept defs D (IsAlone D p t) e (plain_row D S w at p e t)
+    plain_keeps : (w : Within) (at : Span) (p : Manner) (e : Exp) (t : Ty) → Kept defs D (IsAlone D p t) e (plain_row D S w at p e t)
     plain_keeps w at p e t =
         keeps_if D (Claim defs D) (Writes defs (IsAlone D p t) e) (inferable e) _ _ (λ _. λ m h. fitted_keeps defs D (IsAlone D p t) e at t m h) (λ _. λ u means. form_keeps w at p e t u (opened e) refl means)
 
-    tuple_keeps : (w : Within) (at : Span) (p : Bool) (e : Exp) (es : List Exp) (t : Ty) (y : Ty-F Ty) → opened e ≡ Node-F.Tuple es → Kept defs D (IsAlone D p t) e (tuple_at D S w at p e es t y)
+    tuple_keeps : (w : Within) (at : Span) (p : Manner) (e : Exp) (es : List Exp) (t : Ty) (y : Ty-F Ty) → opened e ≡ Node-F.Tuple es → Kept defs D (IsAlone D p t) e (tuple_at D S w at p e es t y)
     tuple_keeps w at p e es t (Ty-F.Tuple ts) is =
         keeps_if D (Claim defs D) (Writes defs (IsAlone D p t) e) (nat_eq (length es) (length ts)) _ _
         (λ same. keeps_asks D (Claim defs D) (Writes defs (IsAlone D p t) e) (each_asked w es ts) (λ ms. give (il.Tuple (exps ms)) t)
@@ -119,8 +119,8 @@ module _ (defs : List IlDef) (D : Decls) (S : Scope) where
         (λ _. plain_keeps w at p e t)
     tuple_keeps w at p e es t y is = plain_keeps w at p e t
 
-    checked_keeps : (w : Within) (at : Span) (p : Bool) (e : Exp) (t : Ty) (y : Node-F Count Node Seg Exp) → opened e ≡ y → Kept defs D (IsAlone D p t) e (checked_row D S w at p e t y)
-    checked_keeps w at p e t (Node-F.Paren inner) is = λ m h. within_written (IsAlone D p t) (IsAlone D true t) m.exp e inner (plain-Paren e inner is) (λ _. inl refl) h
+    checked_keeps : (w : Within) (at : Span) (p : Manner) (e : Exp) (t : Ty) (y : Node-F Count Node Seg Exp) → opened e ≡ y → Kept defs D (IsAlone D p t) e (checked_row D S w at p e t y)
+    checked_keeps w at p e t (Node-F.Paren inner) is = λ m h. within_written (IsAlone D p t) (IsAlone D (enclosed p) t) m.exp e inner (plain-Paren e inner is) (λ _. inl refl) h
     checked_keeps w at p e t (Node-F.Tuple es) is = λ u _. tuple_keeps w at p e es t (out-Ty u) is
     checked_keeps w at p e t y is = plain_keeps w at p e t
 
@@ -130,12 +130,20 @@ module _ (defs : List IlDef) (D : Decls) (S : Scope) where
     row_keeps (check w at p e t) = checked_keeps w at p e t (opened e) refl
     row_keeps (infer w at e) = keeps_if D (Claim defs D) (Writes defs (Unit {0}) e) (inferable e) _ _ (λ _. inferred_keeps w at e (opened e) refl) (λ _. tt)
     row_keeps (item w t x e) = item_keeps defs D w t x e
-    row_keeps (hole w at filling t) = hole_keeps defs D w at filling t
+    row_keeps (hole w at passed filling t) = hole_keeps defs D w at passed filling t
+
+    -- what steps keep holds of what they give
+    pub Leads-claims : (Q : Made → Type 0) (s : Step) (m : Made) → Leads D S s (Gives m) → Keeps D (Claim defs D) Q s → Q m
+    Leads-claims Q s m h kept = Leads-keeps D S (Claim defs D) row_keeps Q s (Gives m) h kept
+
+    -- what is claimed holds of each answer
+    pub Answered-claims : (q : Question) (m : Made) → Answered D S q (Gives m) → Claim defs D q m
+    Answered-claims q m h = Answered-keeps D S (Claim defs D) row_keeps q (Gives m) h
 
     -- what is elaborated at a type is erased to the expression
     pub Elab-erases : (e : Exp) (t : Ty) (x : IlExp) → Elab D S e t x → plain_exp (whole (erased defs x)) ≡ plain_exp e
-    Elab-erases e t x h = whole_source (erased defs x) e (Answered-keeps D S (Claim defs D) row_keeps (asked (around S) e t) (Gives (made x t)) h).same
+    Elab-erases e t x h = whole_source (erased defs x) e (Answered-claims (asked (around S) e t) (made x t) h).same
 
     -- so is what is inferred
     pub Infer-erases : (e : Exp) (x : IlExp) (t : Ty) → Infer D S e x t → plain_exp (whole (erased defs x)) ≡ plain_exp e
-    Infer-erases e x t h = whole_source (erased defs x) e (Answered-keeps D S (Claim defs D) row_keeps (found (around S) e) (Gives (made x t)) h).same
+    Infer-erases e x t h = whole_source (erased defs x) e (Answered-claims (found (around S) e) (made x t) h).same

@@ -1,9 +1,12 @@
 -- When elaboration and erasure look in the same definitions.
-use Rattle.std.specs.Prelude.{◌≡◌, List, [], ◌∷◌, length}
+use Rattle.std.specs.Prelude.{◌≡◌, ℕ, List, [], ◌∷◌, length, flat_map}
 use Rattle.std.specs.List.{AllByRecursion}
+use Rattle.st_il.specs.declared.ty.Ty.{Ty}
+use Rattle.st_il.specs.declared.definition.FunDef.{FunDef}
 use Rattle.st_il.specs.declared.definition.Il.{Il}
 use Rattle.st_il.specs.declared.definition.IlDef.{IlDef}
 use Rattle.st_il.specs.declared.definition.IlDef.TheVariants as def
+use Rattle.st_il.specs.declared.definition.RelationDef.{RelationDef}
 use Rattle.st_il.specs.declared.definition.SyntaxDef.{SyntaxDef}
 use Rattle.st_il.specs.declared.definition.SyntaxBody.{SyntaxBody}
 use Rattle.st_il.specs.declared.definition.SyntaxBody.TheVariants as body
@@ -51,6 +54,37 @@ HoldsAll _ = Unit {0}
 abbrev pub AreWhole : List SyntaxDef → Type 0
 AreWhole = AllByRecursion (λ (d : SyntaxDef). HoldsAll d.body)
 
+-- a relation has an operand for each hole of its notation
+abbrev pub HasItsHoles : RelationDef → Type 0
+HasItsHoles r = HasItsOperands (record { tag = r.tag; operands = r.holes })
+
+-- ---- declarations
+
+-- the variable that a definition gives a type, if it gives one
+abbrev pub var_in : IlDef → List (List ℕ × Ty)
+var_in (def.Var name t) = (name, t) ∷ []
+var_in _ = []
+
+-- the function that a definition declares, if it declares one
+abbrev pub fun_in : IlDef → List FunDef
+fun_in (def.Fun fun) = fun ∷ []
+fun_in _ = []
+
+-- the relation that a definition declares, if it declares one
+abbrev pub relation_in : IlDef → List RelationDef
+relation_in (def.Relation relation) = relation ∷ []
+relation_in _ = []
+
+-- what these definitions declare
+abbrev pub decls_in : List IlDef → Decls
+decls_in defs =
+    record {
+      types = syntaxes defs;
+      vars = flat_map var_in defs;
+      funs = flat_map fun_in defs;
+      relations = flat_map relation_in defs;
+    }
+
 -- ---- both
 
 -- The declared types are those of the definitions, and each case has an operand for each hole
@@ -58,3 +92,10 @@ AreWhole = AllByRecursion (λ (d : SyntaxDef). HoldsAll d.body)
 pub record Agrees (il : Il) (D : Decls) : Type 0 where
   pub table : IsTableOf il.defs D
   pub whole : AreWhole D.types
+
+-- These are the declarations of the definitions, and each case and each relation has an operand
+-- for each hole of its notation.
+pub record Declares (il : Il) (D : Decls) : Type 0 where
+  pub declared : D ≡ decls_in il.defs
+  pub whole : AreWhole D.types
+  pub relations : AllByRecursion HasItsHoles D.relations

@@ -1,23 +1,34 @@
--- The law of erasure: what is elaborated is erased to the expression that it came from.
-use Rattle.std.specs.Prelude.{◌≡◌}
-use Rattle.st_el.specs.declared.expression.Exp.{Exp}
+-- The law of erasure: what is elaborated is erased to what it came from.
+use Rattle.std.specs.Prelude.{◌≡◌, map}
 use Rattle.st_el.specs.Plain.{plain_exp}
 use Rattle.st_il.specs.declared.definition.Il.{Il}
-use Rattle.st_il.specs.declared.ty.Ty.{Ty}
-use Rattle.st_il.specs.declared.expression.IlExp.{IlExp}
-use Rattle.st_erase.specs.Erasure.{erased_exp}
+use Rattle.st_notation.specs.Fits.{Filling, one, run, missing}
+use Rattle.st_erase.specs.declared.erased.Erased.{Erased}
+use Rattle.st_erase.specs.declared.erased.ErasedKind.TheVariants.{Absent}
+use Rattle.st_erase.specs.Places.{whole, run as run_of}
+use Rattle.st_erase.specs.Erasure.{erased, erased_exp}
 use Rattle.st_elab_table.specs.declared.decls.Decls.{Decls}
 use Rattle.st_elab_table.specs.declared.decls.Scope.{Scope}
-use Rattle.st_elab_table.specs.Elaboration.{Elab, Infer}
+use Rattle.st_elab_table.specs.Questions.{Question, check, infer, item, hole, Made, Gives}
+use Rattle.st_elab_table.specs.Elaboration.{Answered}
 use Rattle.st_elab_law.specs.Agreement.{Agrees}
 
--- Where declarations agree with definitions, what is elaborated at a type is erased to the
--- expression, once both are plain.
-abbrev pub ElabErases : Type 0
-ElabErases = (il : Il) (D : Decls) (S : Scope) → Agrees il D
-    → (e : Exp) (t : Ty) (x : IlExp) → Elab D S e t x → plain_exp (erased_exp il x) ≡ plain_exp e
+-- What is erased fills a hole as this does, once both are plain: as one expression, as a run
+-- of elements, or by nothing.
+abbrev pub FillsAs : Filling → Erased → Type 0
+FillsAs (one e) x = plain_exp (whole x) ≡ plain_exp e
+FillsAs (run es) x = map plain_exp (run_of x) ≡ map plain_exp es
+FillsAs missing x = x.kind ≡ Absent
 
--- So is an expression whose type is inferred.
-abbrev pub InferErases : Type 0
-InferErases = (il : Il) (D : Decls) (S : Scope) → Agrees il D
-    → (e : Exp) (x : IlExp) (t : Ty) → Infer D S e x t → plain_exp (erased_exp il x) ≡ plain_exp e
+-- What is made is erased to what the question is about, once both are plain.
+abbrev pub IsErasedBack : Il → Question → Made → Type 0
+IsErasedBack il (check w at p e t) m = plain_exp (erased_exp il m.exp) ≡ plain_exp e
+IsErasedBack il (infer w at e) m = plain_exp (erased_exp il m.exp) ≡ plain_exp e
+IsErasedBack il (item w t element e) m = plain_exp (erased_exp il m.exp) ≡ plain_exp e
+IsErasedBack il (hole w at passed filling t) m = FillsAs filling (erased il.defs m.exp)
+
+-- Where declarations agree with definitions, what answers a question is erased to what the
+-- question is about, whatever is round it.
+abbrev pub AnswersErase : Type 0
+AnswersErase = (il : Il) (D : Decls) (S : Scope) → Agrees il D
+    → (q : Question) (m : Made) → Answered D S q (Gives m) → IsErasedBack il q m

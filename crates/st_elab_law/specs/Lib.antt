@@ -1,6 +1,8 @@
--- What must be believed of the law of erasure, in reading order.
+-- What must be believed of the laws of elaboration, in reading order.
 
 -- elaboration and erasure look in the same definitions
 pub mod Agreement
--- what is elaborated is erased to the expression that it came from
+-- what is elaborated is erased to what it came from
 pub mod Law
+-- what is elaborated has the variables of what it came from, each under the same iterations
+pub mod Occurrences

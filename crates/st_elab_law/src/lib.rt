@@ -1,12 +1,13 @@
-//! The law of erasure: what is elaborated is erased to the expression that it came from.
+//! Laws of elaboration: what is elaborated is erased to what it came from, and has its variables.
 //!
 //! No code stands here that runs. The one idea: the table of `st_elab_table` is read row by row,
 //! and each row keeps what is claimed of the question that it answers.
 //!
 //! Read `specs/Law.antt` first, with `specs/Agreement.antt` for what it asks of the definitions,
-//! and then `proofs/Claims.antt` for what is claimed. The rules are in `docs/elaboration.md`.
+//! and then `proofs/Claims.antt` for what is claimed; `specs/Occurrences.antt` is the law of
+//! variables. The rules are in `docs/elaboration.md`.
 #![tactic(auto)]
 
 mod laws;
 
-pub use laws::erases_back;
+pub use laws::{erases_back, keeps_variables};

@@ -12,15 +12,14 @@ use Rattle.st_il.specs.declared.ty.Ty.{Ty}
 use Rattle.st_il.specs.declared.expression.IlExp.{IlExp}
 use Rattle.st_type_table.specs.Meaning.{Means}
 use Rattle.st_notation.specs.Elements.{node_of, opened}
-use Rattle.st_notation.specs.Fits.{Filling}
 use Rattle.st_elab_table.specs.declared.decls.Decls.{Decls}
 use Rattle.st_elab_table.specs.declared.decls.Scope.{Scope}
 use Rattle.st_dims.specs.declared.within.Within.{Within}
 use Rattle.st_num.specs.declared.fault.Fault.{Fault as ExpFault}
 use Rattle.st_num.specs.declared.fault.Fault.TheVariants as fault
 use Rattle.st_elab_table.specs.Forms.{inferable}
-use Rattle.st_elab_table.specs.Questions.{Question, check, infer, hole, Made, Breach, Answer, Gives, Fails, Step, Ends, Asks, Opens, asks}
-use Rattle.st_elab_table.specs.Steps.{breach, made, give, pass, asked, each_asked, holes, fitted}
+use Rattle.st_elab_table.specs.Questions.{Manner, Question, check, infer, Made, Breach, Answer, Gives, Fails, Step, Ends, Asks, Opens, asks}
+use Rattle.st_elab_table.specs.Steps.{breach, made, give, pass, asked, each_asked, fitted}
 use Rattle.st_elab_table.specs.Checked.{form_row, plain_row, checked_row}
 use Rattle.st_elab_table.specs.Inferred.{inferred_at}
 use Rattle.st_elab_table.specs.Elaboration.{row, Answered, Leads, by_row, ends, goes_on, stops, opens}
@@ -146,18 +145,18 @@ module _ (D : Decls) (S : Scope) where
   infer_fails w at e i = by_row (leads_is (row D S (infer w at e)) (breach at Y3) (Fails (record { at = at; rule = Y3 }))
       (ap (λ b. if b then inferred_at D S w at (opened e) else breach at Y3) i) ends)
 
-  pub checks : {A : Type 0} (w : Within) (at : Span) (p : Bool) (e : Exp) (t : Ty) (x : Node-F Count Node Seg Exp) (f : A → Made) (r : Result A ExpFault)
+  pub checks : {A : Type 0} (w : Within) (at : Span) (p : Manner) (e : Exp) (t : Ty) (x : Node-F Count Node Seg Exp) (f : A → Made) (r : Result A ExpFault)
       → opened e ≡ x → Leading D S (checked_row D S w at p e t x) f r → Tells D S (check w at p e t) f r
   checks w at p e t x f r o h = tells_row (check w at p e t) f r
       (leading_is (row D S (check w at p e t)) (checked_row D S w at p e t x) f r (ap (checked_row D S w at p e t) o) h)
 
-  pub plain_inferable : {A : Type 0} (w : Within) (at : Span) (p : Bool) (e : Exp) (t : Ty) (f : A → Made) (r : Result A ExpFault)
+  pub plain_inferable : {A : Type 0} (w : Within) (at : Span) (p : Manner) (e : Exp) (t : Ty) (f : A → Made) (r : Result A ExpFault)
       → inferable e ≡ true → Leading D S (Asks (infer w at e) (fitted at t)) f r → Leading D S (plain_row D S w at p e t) f r
   plain_inferable w at p e t f r i h =
       leading_is (plain_row D S w at p e t) (Asks (infer w at e) (fitted at t)) f r
       (ap (λ b. if b then Asks (infer w at e) (fitted at t) else Opens t (λ u. form_row D S w at p e t u (opened e))) i) h
 
-  pub plain_form : {A : Type 0} (w : Within) (at : Span) (p : Bool) (e : Exp) (t u : Ty) (x : Node-F Count Node Seg Exp) (f : A → Made) (r : Result A ExpFault)
+  pub plain_form : {A : Type 0} (w : Within) (at : Span) (p : Manner) (e : Exp) (t u : Ty) (x : Node-F Count Node Seg Exp) (f : A → Made) (r : Result A ExpFault)
       → inferable e ≡ false → opened e ≡ x → Means D.types t u → Leading D S (form_row D S w at p e t u x) f r → Leading D S (plain_row D S w at p e t) f r
   plain_form w at p e t u x f r i o m h =
       leading_is (plain_row D S w at p e t) (Opens t (λ u. form_row D S w at p e t u (opened e))) f r
@@ -219,10 +218,6 @@ from_place xs i x h is = rw (add-one, drop-cons xs i x) (ap (λ z. z ∷ drop (s
 pub each_asked_from : (w : Within) (es : List Exp) (ts : List Ty) (i : ℕ) (e : Exp) (t : Ty) → i < length es → e ≡ get_or es i e → i < length ts → t ≡ get_or ts i t
     → each_asked w (drop i es) (drop i ts) ≡ asked w e t ∷ each_asked w (drop (i + 1) es) (drop (i + 1) ts)
 each_asked_from w es ts i e t h is k js = rw (from_place es i e h is, from_place ts i t k js)
-
-pub holes_from : (w : Within) (at : Span) (fs : List Filling) (ts : List Ty) (i : ℕ) (f : Filling) (t : Ty) → i < length fs → f ≡ get_or fs i f → i < length ts → t ≡ get_or ts i t
-    → holes w at (drop i fs) (drop i ts) ≡ hole w at f t ∷ holes w at (drop (i + 1) fs) (drop (i + 1) ts)
-holes_from w at fs ts i f t h is k js = rw (from_place fs i f h is, from_place ts i t k js)
 
 pub questions_from : {A : Type 0} (ask : A → Question) (xs : List A) (i : ℕ) (x : A) → i < length xs → x ≡ get_or xs i x
     → map ask (drop i xs) ≡ ask x ∷ map ask (drop (i + 1) xs)

@@ -3,9 +3,10 @@ use Rattle.std.specs.Prelude.{Result}
 use Rattle.std.specs.Borrow.{Bor}
 use Rattle.st_dims.specs.declared.within.Within.{Within}
 use Rattle.st_num.specs.declared.fault.Fault.{Fault as ExpFault}
-use Rattle.st_elab_table.specs.Questions.{Question, check, infer, Made, Step}
+use Rattle.st_elab_table.specs.Questions.{Manner, Question, check, infer, Made, Step}
 use Rattle.st_elab_table.specs.Steps.{made}
 use Rattle.st_elab_rows.specs.declared.asking.Found.{Found}
+use Rattle.st_elab_rows.specs.declared.asking.Part.{Part}
 use Rattle.st_elab_rows.specs.declared.asking.Asking.{Asking}
 use Rattle.st_elab_rows.specs.declared.asking.Asking.TheVariants as asking
 use Rattle.st_elab_rows.specs.declared.asking.Context.{Context}
@@ -15,9 +16,13 @@ use Rattle.st_elab_rows.specs.Told.{Tells, Leading, Reaches}
 abbrev pub made_by : Found → Made
 made_by found = made found.exp found.ty
 
+-- how the part is asked
+abbrev pub manner : Part → Manner
+manner part = record { in_parentheses = part.in_parentheses; passed = part.passed.now }
+
 -- the question, inside of this
 abbrev pub question : Within → Asking → Question
-question w (asking.Check at p e t) = check w at p e.now t.now
+question w (asking.Check part t) = check w part.at (manner part) part.exp.now t.now
 question w (asking.Infer at e) = infer w at e.now
 
 -- the result is the answer of the table to the question in this context

@@ -2,9 +2,9 @@
 
 ghost use Rattle.st_elab_table.specs.Questions.{check, infer, Asks};
 ghost use Rattle.st_elab_table.specs.Steps.{asked, found};
-ghost use Rattle.st_elab_rows.specs.Asking.{Meets};
+ghost use Rattle.st_elab_rows.specs.Asking.{Meets, manner};
 
-use crate::asking::{Asking, Context, Found, Part};
+use crate::asking::{Asking, Context, Found, Part, by_itself};
 use crate::elaborator::Elaborator;
 use st_dims::Within;
 use st_el::Exp;
@@ -66,15 +66,7 @@ pub fn asked<E: Elaborator>(
     requires answers { E.AnswersByTable elaborator.now }
     ensures { Meets context.now (Asks (asked context.now.within.now exp.now ty.now)) result }
 {
-    elaborator.answer(
-        context,
-        &Asking::Check {
-            at: exp.at,
-            in_parentheses: false,
-            exp,
-            ty,
-        },
-    )
+    elaborator.answer(context, &Asking::Check(by_itself(exp), ty))
 }
 
 /// Asks what the body of an iteration is at a type, inside of that iteration.
@@ -94,15 +86,7 @@ pub fn asked_inside<E: Elaborator>(
         scope: context.scope,
         within: inner,
     };
-    elaborator.answer(
-        &inside,
-        &Asking::Check {
-            at: exp.at,
-            in_parentheses: false,
-            exp,
-            ty,
-        },
-    )
+    elaborator.answer(&inside, &Asking::Check(by_itself(exp), ty))
 }
 
 /// Asks what a part is at a type.
@@ -113,16 +97,8 @@ pub fn asked_at<E: Elaborator>(
     ty: &Ty,
 ) -> Result<Found, ExpFault>
     requires answers { E.AnswersByTable elaborator.now }
-    ensures { Meets context.now (Asks (check context.now.within.now part.now.at
-        part.now.in_parentheses part.now.exp.now ty.now)) result }
+    ensures { Meets context.now (Asks (check context.now.within.now part.now.at (manner part.now)
+        part.now.exp.now ty.now)) result }
 {
-    elaborator.answer(
-        context,
-        &Asking::Check {
-            at: part.at,
-            in_parentheses: part.in_parentheses,
-            exp: part.exp,
-            ty,
-        },
-    )
+    elaborator.answer(context, &Asking::Check(*part, ty))
 }

@@ -8,8 +8,11 @@ ghost use Rattle.st_notation.specs.Key.{key_of};
 ghost use Rattle.st_notation.specs.Fits.{Filling};
 ghost use Rattle.st_notation.specs.Fitted.{fillings};
 ghost use Rattle.st_type_table.specs.Keys.{plain_key};
-ghost use Rattle.st_elab_table.specs.Choice.{HasShape, HaveShapes, NoneHasKey, IsFirstWith, IsChosenBy, FillsCase, shape_of};
+ghost use Rattle.st_il.specs.declared.template.Template.{Template, out-Template};
+ghost use Rattle.st_il.specs.Template.{HasTag};
+ghost use Rattle.st_elab_table.specs.Choice.{HasShape, HaveShapes, NoneHasKey, IsFirstWith, IsChosenBy, FillsCase, shape_of, is_hole, takes_whole_at, takes_whole};
 
+use crate::form::is_single;
 use st_el::Exp;
 use st_il::{Key, Template, Ty, key_of, same_key, template_of};
 use st_notation::{Filled, FitFault, Shape, fit, key_of_exp};
@@ -116,8 +119,49 @@ pub fn fill<'e>(
     };
     let shapes = shapes_of(alloc, types, case.operands.as_slice())?;
     match fit(alloc, &template, &shapes, exp) {
-        Ok(filled) => Ok(Some(filled)),
+        Ok(filled) => {
+            if filled.len() == case.operands.len() {
+                return Ok(Some(filled));
+            }
+            Ok(None)
+        }
         Err(FitFault::NoFit(_)) => Ok(None),
         Err(FitFault::Memory) => Err(NoMemory),
+    }
+}
+
+/// Whether a part of a notation is a hole.
+fn is_hole(template: &Template) -> bool
+    ensures { result ≡ is_hole (out-Template template.now) }
+{
+    match template {
+        Template::Hole => true,
+        Template::Atom(_) | Template::Seq(_) | Template::Infix(_, _, _) => false,
+        Template::Bracket(_, _) => false,
+    }
+}
+
+/// Whether a hole of the notation takes the whole of an expression, if this is one element.
+fn takes_whole_at(template: &Template, single: bool) -> bool
+    ensures { result ≡ takes_whole_at (out-Template template.now) single }
+{
+    match template {
+        Template::Hole => true,
+        Template::Seq(parts) => match parts.as_slice() {
+            [first, ..] => is_hole(first) && single,
+            [] => false,
+        },
+        Template::Atom(_) | Template::Infix(_, _, _) | Template::Bracket(_, _) => false,
+    }
+}
+
+/// Whether a hole of the case takes the whole of the expression, where its tag is a notation.
+pub fn takes_whole(alloc: Global, case: &CaseDef, exp: &Exp) -> Result<bool, NoMemory>
+    ensures { IfOk result (λ whole. (t : Template) → HasTag t case.now.tag
+        → whole ≡ takes_whole t exp.now) }
+{
+    match template_of(alloc, &case.tag)? {
+        Some(template) => Ok(takes_whole_at(&template, is_single(exp))),
+        None => Ok(false),
     }
 }

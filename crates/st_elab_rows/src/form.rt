@@ -3,7 +3,7 @@
 ghost use Rattle.std.specs.Prelude.{◌≡◌, map};
 ghost use Rattle.st_el.specs.declared.expression.Count.{out-Count};
 ghost use Rattle.st_elab_table.specs.Collections.{is_run};
-ghost use Rattle.st_elab_table.specs.Forms.{all_true, inferable, is_spliced, is_tuple, is_told_by_type, goes_over_list};
+ghost use Rattle.st_elab_table.specs.Forms.{all_true, inferable, is_spliced, is_tuple, is_told_by_type, is_single, goes_over_list};
 
 use st_el::{Count, Exp, Node};
 use st_elab_table::{Operator, operator_of};
@@ -86,6 +86,17 @@ pub fn is_told_by_type(exp: &Exp) -> bool
     ensures { result ≡ is_told_by_type exp.now }
 {
     inferable(exp) && !is_tuple(exp)
+}
+
+/// Whether the expression is one element.
+pub fn is_single(exp: &Exp) -> bool
+    ensures { result ≡ is_single exp.now }
+{
+    match &exp.node {
+        Node::Seq(parts) => parts.len() == 1,
+        Node::Paren(inner) => is_single(inner.get()),
+        _ => true,
+    }
 }
 
 /// Two elements or more, not in parentheses.

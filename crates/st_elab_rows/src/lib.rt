@@ -21,6 +21,7 @@ pub mod number;
 pub mod operand;
 mod operator;
 pub mod part;
+pub mod passed;
 pub mod path;
 pub mod record;
 pub mod variable;

@@ -1,6 +1,7 @@
 -- Judgements, as the code takes them.
-use Rattle.std.proofs.Common.{◌≡◌, sym, ap, ◌∙◌, subst, ℕ, List, Option, Some, None, MatchOption}
+use Rattle.std.proofs.Common.{◌≡◌, sym, ap, ◌∙◌, subst, ℕ, List, length, Option, Some, None, MatchOption}
 use Rattle.std.specs.Prelude.{Result}
+use Rattle.std.proofs.lemmas.List.{length-map}
 use Rattle.st_num.specs.declared.rule.RuleId.TheVariants.{Y2}
 use Rattle.st_el.specs.declared.expression.Exp.{Exp}
 use Rattle.st_il.specs.declared.ty.Ty.{Ty}
@@ -9,7 +10,9 @@ use Rattle.st_il.specs.declared.definition.RelationDef.{RelationDef}
 use Rattle.st_type_table.specs.declared.entry.CaseDef.{CaseDef}
 use Rattle.st_notation.specs.declared.filled.Filled.{Filled}
 use Rattle.st_notation.specs.Fits.{Filling}
-use Rattle.st_notation.specs.Fitted.{fillings}
+use Rattle.st_notation.specs.Elements.{bare}
+use Rattle.st_notation.specs.Fitted.{plain, fillings}
+use Rattle.st_notation.proofs.FitsLemmas.{Fits-length}
 use Rattle.st_elab_table.specs.declared.decls.Decls.{Decls}
 use Rattle.st_elab_table.specs.declared.decls.Scope.{Scope}
 use Rattle.st_num.specs.declared.fault.Fault.{Fault as ExpFault}
@@ -35,6 +38,12 @@ fills_none D S w R e case found is none h =
 pub fills_some : (D : Decls) (R : RelationDef) (e : Exp) (case : CaseDef) (found : Option (List Filled)) (filled : List Filled) → case ≡ case_of R
     → found ≡ Some filled → Fills D case e found → FillsCase D.types (case_of R) e (fillings filled)
 fills_some D R e case found filled is some h = subst (λ z. FillsCase D.types z e (fillings filled)) is (subst (Fills D case e) some h)
+
+-- a judgement fills each hole of its relation
+pub fills_length : (D : Decls) (R : RelationDef) (e : Exp) (filled taken : List Filled) (tys : List Ty) → taken ≡ filled → tys ≡ R.holes
+    → FillsCase D.types (case_of R) e (fillings filled) → length taken ≡ length tys
+fills_length D R e filled taken tys is are h =
+    ap length is ∙ sym (length-map filled plain) ∙ Fits-length h.template h.shapes (bare e) (fillings filled) h.fits ∙ sym h.counted ∙ ap length (sym are)
 
 pub judged_told : (D : Decls) (S : Scope) (w : Within) (R : RelationDef) (e : Exp) (filled taken : List Filled) (tys : List Ty) (r : Result (List IlExp) ExpFault)
     → taken ≡ filled → tys ≡ R.holes → FillsCase D.types (case_of R) e (fillings filled)

@@ -6,3 +6,5 @@ mod Building
 mod Naming
 mod Judging
 mod Clausing
+pub mod Erasing
+pub mod Occurring

@@ -10,6 +10,10 @@ pub mod Variables
 pub mod Rules
 -- what a clause is, and the first breach in it
 pub mod Clauses
+-- a rule or a clause is erased to what it came from
+pub mod Erasing
+-- a rule or a clause has the variables of what it came from
+pub mod Occurrences
 -- there is one outcome and no other
 pub mod Single
 -- ---- what only proofs need

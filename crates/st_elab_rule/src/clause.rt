@@ -2,9 +2,12 @@
 
 ghost use Rattle.std.specs.Prelude.{◌≡◌, map, IfOk};
 ghost use Rattle.st_il.specs.declared.definition.ClauseDef.{ClauseDef};
+ghost use Rattle.st_il.specs.declared.definition.Il.{Il};
 ghost use Rattle.st_elab_table.specs.Questions.{Breach};
+ghost use Rattle.st_elab_law.specs.Agreement.{Declares};
 ghost use Rattle.st_elab_rows.specs.Told.{Told};
 ghost use Rattle.st_elab_exp.specs.Exactly.{IsGiven, IsRefused};
+ghost use Rattle.st_elab_rule.specs.Erasing.{ClauseErases};
 ghost use Rattle.st_elab_rule.specs.Variables.{IsScope, listed};
 ghost use Rattle.st_elab_rule.specs.Clauses.{parts_of, mentions_of, HasArguments, ElabClause, ClauseBreach};
 
@@ -71,8 +74,8 @@ fn clause_in(
 }
 
 /// What a clause of this function is, whose definition stands at this place: exactly its
-/// elaboration, or else exactly the first breach. Memory is wanting also where more than 10,000
-/// questions lie inside one another.
+/// elaboration, or else exactly the first breach. It is erased to the clause. Memory is wanting
+/// also where more than 10,000 questions lie inside one another.
 pub fn elaborate_clause(
     alloc: Global,
     decls: &Decls,
@@ -91,6 +94,8 @@ pub fn elaborate_clause(
     ensures refuses { (b : Breach)
         → ClauseBreach decls.now fun.now at (parts_of args.now value.now premises.now) b
         → IsRefused b result }
+    ensures erased { (il : Il) → Declares il decls.now
+        → IfOk result (ClauseErases il fun.now (parts_of args.now value.now premises.now)) }
 {
     if args.len() != fun.params.len() {
         return Err(ExpFault::Refused {

@@ -15,5 +15,5 @@ mod rule;
 mod scope;
 
 pub use clause::elaborate_clause;
-pub use laws::{one_clause, one_rule};
+pub use laws::{keeps_variables, one_clause, one_rule};
 pub use rule::elaborate_rule;

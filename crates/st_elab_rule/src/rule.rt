@@ -1,10 +1,13 @@
 //! Rules, elaborated.
 
-ghost use Rattle.std.specs.Prelude.{◌≡◌};
+ghost use Rattle.std.specs.Prelude.{◌≡◌, IfOk};
+ghost use Rattle.st_il.specs.declared.definition.Il.{Il};
 ghost use Rattle.st_il.specs.declared.definition.RuleDef.{RuleDef};
 ghost use Rattle.st_elab_table.specs.Questions.{Breach};
+ghost use Rattle.st_elab_law.specs.Agreement.{Declares};
 ghost use Rattle.st_elab_rows.specs.Told.{Told};
 ghost use Rattle.st_elab_exp.specs.Exactly.{IsGiven, IsRefused};
+ghost use Rattle.st_elab_rule.specs.Erasing.{IsRelationOf, RuleErases};
 ghost use Rattle.st_elab_rule.specs.Rules.{IsRuleScope, ElabRule, RuleBreach};
 
 use crate::judgement::judged;
@@ -47,7 +50,8 @@ fn rule_in(
 }
 
 /// What a rule of this relation and name is: exactly its elaboration, or else exactly the first
-/// breach. Memory is wanting also where more than 10,000 questions lie inside one another.
+/// breach. It is erased to the rule. Memory is wanting also where more than 10,000 questions lie
+/// inside one another.
 pub fn elaborate_rule(
     alloc: Global,
     decls: &Decls,
@@ -63,6 +67,8 @@ pub fn elaborate_rule(
         → IsGiven rule result }
     ensures refuses { (b : Breach)
         → RuleBreach decls.now relation.now conclusion.now premises.now b → IsRefused b result }
+    ensures erased { (il : Il) → Declares il decls.now → IsRelationOf decls.now relation.now
+        → IfOk result (RuleErases il relation.now name.now conclusion.now premises.now) }
 {
     let prems = premises.as_slice();
     let mentions = mentions_of(alloc, &[], conclusion, prems)?;

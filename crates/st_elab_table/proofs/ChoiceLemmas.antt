@@ -5,6 +5,7 @@ use Rattle.st_il.specs.declared.ty.Ty.{Ty, out-Ty}
 use Rattle.st_il.specs.declared.ty.Ty.TheOpen.{Ty-F}
 use Rattle.st_il.specs.declared.ty.Ty.TheVariants as ty
 use Rattle.st_il.specs.declared.definition.SyntaxDef.{SyntaxDef}
+use Rattle.st_il.specs.Template.{HasTag}
 use Rattle.st_il.specs.Key.{PlainKey, free}
 use Rattle.st_il.proofs.Tags.{one_template}
 use Rattle.st_type_table.specs.declared.entry.CaseDef.{CaseDef}
@@ -16,7 +17,7 @@ use Rattle.st_notation.specs.Fits.{Filling, FitsWhole}
 use Rattle.st_notation.specs.Key.{key_of}
 use Rattle.st_notation.proofs.FitsLemmas.{Fits-single}
 use Rattle.st_elab_table.specs.Questions.{Chosen}
-use Rattle.st_elab_table.specs.Choice.{shape_of, HaveShapes, NoneHasKey, IsFirstWith, here, later, IsChosenBy, keyed, keyless, FillsCase, IsCaseOf}
+use Rattle.st_elab_table.specs.Choice.{shape_of, HaveShapes, NoneHasKey, IsFirstWith, here, later, IsChosenBy, keyed, keyless, FillsCase, takes_whole, IsCaseOf}
 
 FirstWith-single : (k : PlainKey) (cs : List CaseDef) (c d : CaseDef) → IsFirstWith k cs c → IsFirstWith k cs d → c ≡ d
 FirstWith-single k [] c d h g = elim h [ ]
@@ -68,4 +69,8 @@ CaseOf-single defs t e c d h g =
     ChosenBy-single (key_of e) h.cases one other h.chosen (subst (λ z. IsChosenBy (key_of e) z other) (sym cases) g.chosen) in
     let fillings = FillsCase-single defs other e c.fillings d.fillings (subst (λ z. FillsCase defs z e c.fillings) case' h.filled) g.filled in
     let name = name-single t c.name d.name h.asked g.asked in
-    λ i. record { name = name i; tag = (case' i).tag; operands = (case' i).operands; fillings = fillings i }
+    let tag : c.tag ≡ d.tag = ap (λ z. z.tag) case' in
+    let template : h.filled.template ≡ g.filled.template =
+    one_template d.tag h.filled.template g.filled.template (subst (HasTag h.filled.template) tag h.filled.tagged) g.filled.tagged in
+    let whole : c.whole ≡ d.whole = h.whole ∙ ap (λ z. takes_whole z e) template ∙ sym g.whole in
+    λ i. record { name = name i; tag = (case' i).tag; operands = (case' i).operands; fillings = fillings i; whole = whole i }

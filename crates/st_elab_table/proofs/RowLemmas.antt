@@ -1,10 +1,10 @@
 -- Where the steps of each row lead, by what is known of its parts.
-use Rattle.std.proofs.Common.{◌≡◌, refl, sym, ap, ◌∙◌, subst, ℕ, List, length, map, Bool, true, false, Option, Some, None, if◌then◌else◌, nat_eq}
+use Rattle.std.proofs.Common.{◌≡◌, refl, sym, ap, ◌∙◌, subst, ℕ, List, length, map, true, false, Option, Some, None, if◌then◌else◌, nat_eq}
 use Rattle.std.specs.Map.{lookup}
 use Rattle.st_num.specs.declared.span.Span.{Span}
 use Rattle.st_num.specs.declared.mark.Mark.{Mark}
 use Rattle.st_num.specs.declared.rule.RuleId.TheVariants.{Y1, Y2, Y3, Y4, Y5, Y6}
-use Rattle.st_num.specs.Names.{same_name}
+use Rattle.st_num.specs.Names.{same_name, is_among}
 use Rattle.st_el.specs.declared.expression.Exp.{Exp}
 use Rattle.st_il.specs.declared.ty.Ty.{Ty, out-Ty, roll-Ty, roll-out-Ty}
 use Rattle.st_il.specs.declared.ty.Ty.TheOpen.{Ty-F}
@@ -21,10 +21,10 @@ use Rattle.st_elab_table.specs.declared.decls.Scope.{Scope}
 use Rattle.st_dims.specs.declared.within.Within.{Within}
 use Rattle.st_elab_table.specs.Forms.{place, inferable, is_spliced, is_told_by_type}
 use Rattle.st_elab_table.specs.Choice.{IsCaseOf}
-use Rattle.st_elab_table.specs.Questions.{check, item, Answer, Fails, Chosen, can_join, Step, Asks, Tests, asks}
+use Rattle.st_elab_table.specs.Questions.{Manner, check, item, Answer, Fails, Chosen, can_join, Step, Asks, Tests, asks}
 use Rattle.st_elab_table.specs.Steps.{breach, give, pass, asked, found, each_asked, exps, is_collection, joined_at, as_joined}
 use Rattle.st_elab_table.specs.Collections.{element, other_row, item_of, sequence, splice, found_item, item_row}
-use Rattle.st_elab_table.specs.Records.{case_row, notation_row}
+use Rattle.st_elab_table.specs.Records.{case_row, variant_row, notation_row}
 use Rattle.st_elab_table.specs.Operands.{beside, equation_row}
 use Rattle.st_elab_table.specs.Operators.{equated}
 use Rattle.st_elab_table.specs.Paths.{declared_field, field_by, as_field}
@@ -89,12 +89,12 @@ module _ (D : Decls) (S : Scope) where
 
   -- ---- one element
 
-  pub element_collection : (w : Within) (at : Span) (p : Bool) (e : Exp) (t x v : Ty) (lift : IlExp → IlExp) → Means D.types x v → is_collection v ≡ true
+  pub element_collection : (w : Within) (at : Span) (p : Manner) (e : Exp) (t x v : Ty) (lift : IlExp → IlExp) → Means D.types x v → is_collection v ≡ true
       → Leads D S (element w at p e t x lift) (Fails (record { at = at; rule = Y1 }))
   element_collection w at p e t x v lift m is =
       opens v m (subst (λ b. Leads D S (if b then breach at Y1 else Asks (check w at p e x) (λ m. give (lift m.exp) t)) (Fails (record { at = at; rule = Y1 }))) (sym is) ends)
 
-  pub element_plain : (w : Within) (at : Span) (p : Bool) (e : Exp) (t x v : Ty) (lift : IlExp → IlExp) (a : Answer) → Means D.types x v → is_collection v ≡ false
+  pub element_plain : (w : Within) (at : Span) (p : Manner) (e : Exp) (t x v : Ty) (lift : IlExp → IlExp) (a : Answer) → Means D.types x v → is_collection v ≡ false
       → Leads D S (Asks (check w at p e x) (λ m. give (lift m.exp) t)) a → Leads D S (element w at p e t x lift) a
   element_plain w at p e t x v lift a m is h =
       opens v m (subst (λ b. Leads D S (if b then breach at Y1 else Asks (check w at p e x) (λ m. give (lift m.exp) t)) a) (sym is) h)
@@ -129,16 +129,39 @@ module _ (D : Decls) (S : Scope) where
 
   -- ---- variants
 
-  pub notation_variant : (w : Within) (at : Span) (p : Bool) (e : Exp) (t u : Ty) (cases : List CaseDef) (a : Answer) → HasCases D.types t cases
-      → Leads D S (case_row w at e t) a → Leads D S (notation_row w at p e t u) a
+  pub notation_variant : (w : Within) (at : Span) (p : Manner) (e : Exp) (t u : Ty) (cases : List CaseDef) (a : Answer) → HasCases D.types t cases
+      → Leads D S (variant_row w at p.passed e t (out-Ty u)) a → Leads D S (notation_row w at p e t u) a
   notation_variant w at p e t u cases a has h = passes (cases, has) h
 
-  pub notation_other : (w : Within) (at : Span) (p : Bool) (e : Exp) (t u : Ty) (a : Answer) → ((cases : List CaseDef) → HasCases D.types t cases → ⊥)
+  pub notation_other : (w : Within) (at : Span) (p : Manner) (e : Exp) (t u : Ty) (a : Answer) → ((cases : List CaseDef) → HasCases D.types t cases → ⊥)
       → Leads D S (other_row w at p e t (out-Ty u)) a → Leads D S (notation_row w at p e t u) a
   notation_other w at p e t u a none h = misses (λ has. none has.0 has.1) h
 
-  pub case_unfit : (w : Within) (at : Span) (e : Exp) (t : Ty) → ((c : Chosen) → IsCaseOf D.types t e c → ⊥) → Leads D S (case_row w at e t) (Fails (record { at = at; rule = Y2 }))
-  case_unfit w at e t none = fits_none none ends
+  -- a variant at which the expression is being asked already
+  pub variant_again : (w : Within) (at : Span) (passed : List (List ℕ)) (e : Exp) (t u : Ty) (variant : List ℕ) → u ≡ ty.Name variant → is_among variant passed ≡ true
+      → Leads D S (variant_row w at passed e t (out-Ty u)) (Fails (record { at = at; rule = Y2 }))
+  variant_again w at passed e t u variant is again =
+      subst (λ z. Leads D S (variant_row w at passed e t z) (Fails (record { at = at; rule = Y2 }))) (sym (ap out-Ty is ∙ ty.outs-Name variant))
+      (subst (λ b. Leads D S (if b then breach at Y2 else case_row w at passed e t variant) (Fails (record { at = at; rule = Y2 }))) (sym again) ends)
+
+  pub variant_first : (w : Within) (at : Span) (passed : List (List ℕ)) (e : Exp) (t u : Ty) (variant : List ℕ) (a : Answer) → u ≡ ty.Name variant → is_among variant passed ≡ false
+      → Leads D S (case_row w at passed e t variant) a → Leads D S (variant_row w at passed e t (out-Ty u)) a
+  variant_first w at passed e t u variant a is fresh h =
+      subst (λ z. Leads D S (variant_row w at passed e t z) a) (sym (ap out-Ty is ∙ ty.outs-Name variant))
+      (subst (λ b. Leads D S (if b then breach at Y2 else case_row w at passed e t variant) a) (sym fresh) h)
+
+  -- what has no name is no variant
+  pub variant_unnamed : (w : Within) (at : Span) (passed : List (List ℕ)) (e : Exp) (t u : Ty) → ((n : List ℕ) → u ≡ ty.Name n → ⊥)
+      → Leads D S (variant_row w at passed e t (out-Ty u)) (Fails (record { at = at; rule = Y2 }))
+  variant_unnamed w at passed e t u unnamed = go (out-Ty u) refl
+    where
+      go : (y : Ty-F Ty) → out-Ty u ≡ y → Leads D S (variant_row w at passed e t y) (Fails (record { at = at; rule = Y2 }))
+      go (Ty-F.Name n) o = absurd (unnamed n (sym (roll-out-Ty u) ∙ (ap roll-Ty o ∙ ty.rolls-Name n)))
+      go y o = ends
+
+  pub case_unfit : (w : Within) (at : Span) (passed : List (List ℕ)) (e : Exp) (t : Ty) (variant : List ℕ) → ((c : Chosen) → IsCaseOf D.types t e c → ⊥)
+      → Leads D S (case_row w at passed e t variant) (Fails (record { at = at; rule = Y2 }))
+  case_unfit w at passed e t variant none = fits_none none ends
 
   -- ---- operators
 

@@ -1,5 +1,5 @@
 -- The table: expressions at list and option types, and what fills holes.
-use Rattle.std.specs.Prelude.{List, [], ◌∷◌, length, map, Bool, true, not, ◌&&◌, if◌then◌else◌, nat_le}
+use Rattle.std.specs.Prelude.{ℕ, List, [], ◌∷◌, length, map, Bool, true, false, not, ◌&&◌, if◌then◌else◌, nat_le}
 use Rattle.st_num.specs.declared.span.Span.{Span}
 use Rattle.st_num.specs.declared.rule.RuleId.TheVariants.{Y1, Y2}
 use Rattle.st_el.specs.declared.expression.Exp.{Exp}
@@ -23,19 +23,19 @@ use Rattle.st_dims.specs.declared.within.Within.{Within}
 use Rattle.st_elab_table.specs.Forms.{place, is_spliced, is_told_by_type, goes_over_list}
 use Rattle.st_dims.specs.Around.{inside}
 use Rattle.st_elab_table.specs.Iterations.{iterated}
-use Rattle.st_elab_table.specs.Questions.{check, item, Made, Gives, is_below, Step, Ends, Asks, Tests, Opens, asks}
+use Rattle.st_elab_table.specs.Questions.{Manner, check, item, Made, Gives, is_below, Step, Ends, Asks, Tests, Opens, asks}
 use Rattle.st_elab_table.specs.Steps.{breach, made, give, pass, asked, found, is_collection, raised, list_of_one, as_joined}
 
 -- ---- lists and options
 
 -- the expression as one element of the type x, in a list or an option of the type t
-abbrev pub element : Within → Span → Bool → Exp → Ty → Ty → (IlExp → IlExp) → Step
+abbrev pub element : Within → Span → Manner → Exp → Ty → Ty → (IlExp → IlExp) → Step
 element w at p e t x lift =
     Opens x (λ v. if is_collection v then breach at Y1
     else Asks (check w at p e x) (λ m. give (lift m.exp) t))
 
 -- any other expression: one element of a list or an option, or Y1
-abbrev pub other_row : Within → Span → Bool → Exp → Ty → Ty-F Ty → Step
+abbrev pub other_row : Within → Span → Manner → Exp → Ty → Ty-F Ty → Step
 other_row w at p e t (Ty-F.List x) = element w at p e t x (list_of_one x)
 other_row w at p e t (Ty-F.Opt x) = element w at p e t x il.Present
 other_row w at p e t _ = breach at Y1
@@ -71,7 +71,7 @@ abbrev pub body_row : Scope → Within → Exp → Count → Ty → Ty → Step
 body_row S w b c x t = Asks (asked (inside w c) b x) (λ m. iteration S w c m.exp t)
 
 -- an iteration: by `* + ^` at a list, by `?` at an option
-abbrev pub iteration_row : Scope → Within → Span → Bool → Exp → Exp → Count → Ty → Ty-F Ty → Step
+abbrev pub iteration_row : Scope → Within → Span → Manner → Exp → Exp → Count → Ty → Ty-F Ty → Step
 iteration_row S w at p e b c t (Ty-F.List x) =
     if goes_over_list (out-Count c) then body_row S w b c x t
     else other_row w at p e t (Ty-F.List x)
@@ -121,13 +121,15 @@ run_at w at es t (Ty-F.List x) = sequence w at es t x
 run_at w at es t _ = breach at Y1
 
 -- A run in a hole: of none it is left out, of one it is that element; two and more are a sequence.
-abbrev pub run_row : Within → Span → List Exp → Ty → Step
-run_row w at [] t = give (il.Absent t) t
-run_row w at (e ∷ []) t = pass (check w (place e) true e t)
-run_row w at (e ∷ f ∷ es) t = Opens t (λ u. run_at w at (e ∷ f ∷ es) t (out-Ty u))
+abbrev pub run_row : Within → Span → List (List ℕ) → List Exp → Ty → Step
+run_row w at passed [] t = give (il.Absent t) t
+run_row w at passed (e ∷ []) t =
+    pass (check w (place e) (record { in_parentheses = true; passed = passed }) e t)
+run_row w at passed (e ∷ f ∷ es) t = Opens t (λ u. run_at w at (e ∷ f ∷ es) t (out-Ty u))
 
 -- what fills a hole of the type t: one expression, a run of elements, or nothing
-abbrev pub hole_row : Within → Span → Filling → Ty → Step
-hole_row w at (one e) t = pass (asked w e t)
-hole_row w at (run es) t = run_row w at es t
-hole_row w at missing t = give (il.Absent t) t
+abbrev pub hole_row : Within → Span → List (List ℕ) → Filling → Ty → Step
+hole_row w at passed (one e) t =
+    pass (check w (place e) (record { in_parentheses = false; passed = passed }) e t)
+hole_row w at passed (run es) t = run_row w at passed es t
+hole_row w at passed missing t = give (il.Absent t) t

@@ -25,7 +25,7 @@ abbrev pub row : Decls → Scope → Question → Step
 row D S (check w at p e t) = checked_row D S w at p e t (opened e)
 row D S (infer w at e) = inferred_row D S w at e (opened e)
 row D S (item w t x e) = item_row w t x e
-row D S (hole w at filling t) = hole_row w at filling t
+row D S (hole w at passed filling t) = hole_row w at passed filling t
 
 -- the condition holds of its types, as they are declared
 abbrev pub Holds : Decls → Condition → Type 0

@@ -1,6 +1,6 @@
 -- Expressions by their forms:
 -- where they stand, which have a type of their own, and which bring all their elements.
-use Rattle.std.specs.Prelude.{List, Bool, true, false, not, ◌&&◌}
+use Rattle.std.specs.Prelude.{List, length, Bool, true, false, not, ◌&&◌, nat_eq}
 use Rattle.std.specs.List.{list_all}
 use Rattle.st_num.specs.declared.span.Span.{Span}
 use Rattle.st_el.specs.declared.expression.Exp.{Exp, Exp-F, out-Exp, fold-Exp}
@@ -106,3 +106,15 @@ is_tuple = fold-Exp Bool Bool Bool Bool (λ count. false) tuple_at (λ step. fal
 -- The type of an item says whether all its elements are meant; that of a tuple is no list.
 abbrev pub is_told_by_type : Exp → Bool
 is_told_by_type e = inferable e && not (is_tuple e)
+
+-- ---- elements
+
+-- the node is one element: no sequence of none, or of two and more
+abbrev pub single_at : Node-F Bool Bool Bool Bool → Bool
+single_at (Node-F.Seq parts) = nat_eq (length parts) 1
+single_at (Node-F.Paren e) = e
+single_at _ = true
+
+-- The expression is one element. Parentheses change nothing.
+abbrev pub is_single : Exp → Bool
+is_single = fold-Exp Bool Bool Bool Bool (λ count. true) single_at (λ step. true) form_exp_at

@@ -8,17 +8,23 @@ use Rattle.st_il.specs.declared.expression.IlExp.{IlExp}
 use Rattle.st_notation.specs.Fits.{Filling}
 use Rattle.st_dims.specs.declared.within.Within.{Within}
 
+-- How an expression is asked: whether it stands in parentheses, and at which variants it is being
+-- asked already, itself and no part of it. Parentheses round it do not count.
+pub record Manner : Type 0 where
+  pub in_parentheses : Bool
+  pub passed : List (List ℕ)
+
 -- What is asked of a part, inside of this.
 -- The place is that of a breach at the part itself: of its parentheses, where it has any.
 pub data Question : Type 0 where
-  -- what the expression is at a type; whether it stands in parentheses
-  check : (w : Within) (at : Span) (in_parentheses : Bool) (e : Exp) (t : Ty) → Question
+  -- what the expression is at a type
+  check : (w : Within) (at : Span) (p : Manner) (e : Exp) (t : Ty) → Question
   -- what the expression is, and its type
   infer : (w : Within) (at : Span) (e : Exp) → Question
   -- what an item of a sequence at the list type t with this element type is
   item : (w : Within) (t element : Ty) (e : Exp) → Question
-  -- what fills a hole of this type
-  hole : (w : Within) (at : Span) (filling : Filling) (t : Ty) → Question
+  -- what fills a hole of this type; at which variants an expression in it is being asked already
+  hole : (w : Within) (at : Span) (passed : List (List ℕ)) (filling : Filling) (t : Ty) → Question
 
 -- What a part is elaborated to: an expression of this type;
 -- for an item, whether all its elements are items.
@@ -49,12 +55,13 @@ pub data Condition : Type 0 where
   can_join : (t : Ty) → Condition
 
 -- a case of a variant that an expression is, by the name of the type as it was asked,
--- and what fills its holes
+-- what fills its holes, and whether a hole takes the whole of the expression
 pub record Chosen : Type 0 where
   pub name : List ℕ
   pub tag : List ℕ
   pub operands : List Ty
   pub fillings : List Filling
+  pub whole : Bool
 
 -- How a question is answered.
 pub data Step : Type 0 where

@@ -1,9 +1,9 @@
 -- The table: expressions at record and variant types.
-use Rattle.std.specs.Prelude.{ℕ, List, [], ◌∷◌, map, Bool, true, false, if◌then◌else◌, Option, Some, None}
+use Rattle.std.specs.Prelude.{ℕ, List, [], ◌∷◌, ◌++◌, map, Bool, true, false, if◌then◌else◌, Option, Some, None}
 use Rattle.std.specs.Option.{option_map}
 use Rattle.st_num.specs.declared.span.Span.{Span}
 use Rattle.st_num.specs.declared.rule.RuleId.TheVariants.{Y2, Y4}
-use Rattle.st_num.specs.Names.{same_name}
+use Rattle.st_num.specs.Names.{same_name, is_among}
 use Rattle.st_el.specs.declared.expression.Exp.{Exp}
 use Rattle.st_il.specs.declared.ty.Ty.{Ty, out-Ty}
 use Rattle.st_il.specs.declared.ty.Ty.TheOpen.{Ty-F}
@@ -15,8 +15,8 @@ use Rattle.st_notation.specs.Fits.{Filling, one, missing}
 use Rattle.st_elab_table.specs.declared.decls.Decls.{Decls}
 use Rattle.st_dims.specs.declared.within.Within.{Within}
 use Rattle.st_elab_table.specs.Choice.{shape_of}
-use Rattle.st_elab_table.specs.Questions.{is_variant, Step, Tests, Opens, Fills, asks}
-use Rattle.st_elab_table.specs.Steps.{breach, give, holes, exps}
+use Rattle.st_elab_table.specs.Questions.{Manner, is_variant, Step, Tests, Opens, Fills, asks}
+use Rattle.st_elab_table.specs.Steps.{breach, give, holes, holes_behind, exps}
 use Rattle.st_elab_table.specs.Collections.{other_row}
 
 -- ---- records
@@ -72,26 +72,41 @@ fields_of_record w at name written t fields =
 
 -- written fields: a record where the type t is a name and means declared fields,
 -- and else one element of a list or an option
-abbrev pub record_by : Within → Span → Bool → Exp → List (List ℕ × Exp) → Ty → Ty → Ty-F Ty
+abbrev pub record_by : Within → Span → Manner → Exp → List (List ℕ × Exp) → Ty → Ty → Ty-F Ty
     → Option (List (List ℕ × Ty)) → Step
 record_by w at p e written t u (Ty-F.Name name) (Some fields) =
     fields_of_record w at name written t fields
 record_by w at p e written t u _ _ = other_row w at p e t (out-Ty u)
 
 -- a record, at the type t that means u
-abbrev pub record_row : Decls → Within → Span → Bool → Exp → List (List ℕ × Exp) → Ty → Ty → Step
+abbrev pub record_row : Decls → Within → Span → Manner → Exp → List (List ℕ × Exp) → Ty → Ty → Step
 record_row D w at p e written t u = record_by w at p e written t u (out-Ty t) (fields_of D.types u)
 
 -- ---- variants
 
--- a case of the variant t, by its notation; Y2 where the expression fits none
-abbrev pub case_row : Within → Span → Exp → Ty → Step
-case_row w at e t =
+-- at which variants what fills the holes of a case of this variant is being asked already:
+-- where a hole takes the whole of the expression, it is this very expression
+abbrev pub passed_on : Bool → List (List ℕ) → List ℕ → List (List ℕ)
+passed_on whole passed variant = if whole then passed ++ variant ∷ [] else []
+
+-- a case of the variant of this name, which t means, by its notation;
+-- Y2 where the expression fits none
+abbrev pub case_row : Within → Span → List (List ℕ) → Exp → Ty → List ℕ → Step
+case_row w at passed e t variant =
     Fills t e
-    (λ c. asks (holes w at c.fillings c.operands) (λ ms. give (il.Case c.name c.tag (exps ms)) t))
+    (λ c. asks (holes_behind w at (passed_on c.whole passed variant) c.fillings c.operands)
+    (λ ms. give (il.Case c.name c.tag (exps ms)) t))
     (breach at Y2)
 
+-- a case of the variant t, of which this is what it means;
+-- Y2 where the expression itself is being asked at this variant already
+abbrev pub variant_row : Within → Span → List (List ℕ) → Exp → Ty → Ty-F Ty → Step
+variant_row w at passed e t (Ty-F.Name variant) =
+    if is_among variant passed then breach at Y2 else case_row w at passed e t variant
+variant_row w at passed e t _ = breach at Y2
+
 -- an atom, a sequence, a sign of notation or a bracket, at the type t that means u
-abbrev pub notation_row : Within → Span → Bool → Exp → Ty → Ty → Step
+abbrev pub notation_row : Within → Span → Manner → Exp → Ty → Ty → Step
 notation_row w at p e t u =
-    Tests (is_variant t) (case_row w at e t) (other_row w at p e t (out-Ty u))
+    Tests (is_variant t) (variant_row w at p.passed e t (out-Ty u))
+    (other_row w at p e t (out-Ty u))

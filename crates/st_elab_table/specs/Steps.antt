@@ -1,5 +1,5 @@
 -- Steps that the rows of the table are made of.
-use Rattle.std.specs.Prelude.{List, [], ◌∷◌, map, Bool, true, false, if◌then◌else◌}
+use Rattle.std.specs.Prelude.{ℕ, List, [], ◌∷◌, map, Bool, true, false, if◌then◌else◌}
 use Rattle.st_num.specs.declared.span.Span.{Span}
 use Rattle.st_num.specs.declared.rule.RuleId.{RuleId}
 use Rattle.st_num.specs.declared.rule.RuleId.TheVariants.{Y1, Y5}
@@ -15,7 +15,7 @@ use Rattle.st_il.specs.declared.expression.ListItem.TheVariants as part
 use Rattle.st_notation.specs.Fits.{Filling}
 use Rattle.st_dims.specs.declared.within.Within.{Within}
 use Rattle.st_elab_table.specs.Forms.{place}
-use Rattle.st_elab_table.specs.Questions.{Question, check, infer, hole, Made, Gives, Fails, are_same, is_below, can_join, Step, Ends, Asks, Tests, Opens}
+use Rattle.st_elab_table.specs.Questions.{Manner, Question, check, infer, hole, Made, Gives, Fails, are_same, is_below, can_join, Step, Ends, Asks, Tests, Opens}
 
 -- the answer is that this rule is broken at this place
 abbrev pub breach : Span → RuleId → Step
@@ -33,9 +33,17 @@ give x t = Ends (Gives (made x t))
 abbrev pub pass : Question → Step
 pass q = Asks q (λ m. Ends (Gives m))
 
+-- an expression by itself: in no parentheses, and asked at no variant so far
+abbrev pub by_itself : Manner
+by_itself = record { in_parentheses = false; passed = [] }
+
+-- the same expression, in parentheses
+abbrev pub enclosed : Manner → Manner
+enclosed p = record { in_parentheses = true; passed = p.passed }
+
 -- the question what the expression by itself is at a type
 abbrev pub asked : Within → Exp → Ty → Question
-asked w e t = check w (place e) false e t
+asked w e t = check w (place e) by_itself e t
 
 -- the question what the expression by itself is, and its type
 abbrev pub found : Within → Exp → Question
@@ -47,11 +55,16 @@ each_asked w [] ts = []
 each_asked w (e ∷ es) [] = []
 each_asked w (e ∷ es) (t ∷ ts) = asked w e t ∷ each_asked w es ts
 
--- the questions what fills each hole, at the type of the hole
+-- The questions what fills each hole, at the type of the hole;
+-- what is in it is being asked at these variants already.
+abbrev pub holes_behind : Within → Span → List (List ℕ) → List Filling → List Ty → List Question
+holes_behind w at passed [] ts = []
+holes_behind w at passed (f ∷ fs) [] = []
+holes_behind w at passed (f ∷ fs) (t ∷ ts) = hole w at passed f t ∷ holes_behind w at passed fs ts
+
+-- the same where what is in the holes is asked at no variant so far
 abbrev pub holes : Within → Span → List Filling → List Ty → List Question
-holes w at [] ts = []
-holes w at (f ∷ fs) [] = []
-holes w at (f ∷ fs) (t ∷ ts) = hole w at f t ∷ holes w at fs ts
+holes w at fs ts = holes_behind w at [] fs ts
 
 -- the expression that a part was made to
 abbrev pub exp_of : Made → IlExp

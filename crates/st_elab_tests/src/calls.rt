@@ -11,6 +11,7 @@ use st_num::{Name, NoMemory, Row, Span};
 use st_types::TypeTable;
 use std::alloc::Global;
 use std::process::Abort;
+use std::slice::from_ref;
 use std::test::Fail;
 
 /// An expression without a place in a file.
@@ -82,36 +83,21 @@ fn none_declared(alloc: Global) -> Result<Decls, Fail> {
     Ok(decls)
 }
 
-/// The type `nat`, once.
-fn naturals(alloc: Global) -> Result<Row<Ty>, NoMemory> {
-    let mut tys = Row::new(alloc);
-    tys.push(Ty::Nat)?;
-    Ok(tys)
-}
-
-/// The number 1 of the source, once.
-fn ones(alloc: Global) -> Result<Row<Exp>, NoMemory> {
-    let mut exps = Row::new(alloc);
-    exps.push(unplaced(Node::Number(1)))?;
-    Ok(exps)
-}
-
-/// What the expressions are as parts, the first of type `nat`.
-fn parts(alloc: Global, decls: &Decls, scope: &Scope, exps: &[Exp]) -> Result<Row<IlExp>, Fail> {
-    let tys = naturals(alloc)?;
+/// What the expression is, as the only part, of type `nat`.
+fn parts(alloc: Global, decls: &Decls, scope: &Scope, exp: &Exp) -> Result<Row<IlExp>, Fail> {
     let within = around(alloc, scope)?;
-    let parts = check_parts(alloc, decls, scope, &within, exps, tys.as_slice())?;
+    let exps = from_ref(exp);
+    let parts = check_parts(alloc, decls, scope, &within, exps, from_ref(&Ty::Nat))?;
     Ok(parts)
 }
 
 /// What the expression is, where it fills a hole of type `nat`.
 fn fillings(alloc: Global, decls: &Decls, scope: &Scope, exp: &Exp) -> Result<Row<IlExp>, Fail> {
-    let tys = naturals(alloc)?;
     let within = around(alloc, scope)?;
-    let filled = [Filled::One(exp)];
-    let holes = filled.as_slice();
+    let filled = Filled::One(exp);
+    let holes = from_ref(&filled);
     let at = Span::NOWHERE;
-    let fillings = check_fillings(alloc, decls, scope, &within, at, holes, tys.as_slice())?;
+    let fillings = check_fillings(alloc, decls, scope, &within, at, holes, from_ref(&Ty::Nat))?;
     Ok(fillings)
 }
 
@@ -125,9 +111,8 @@ fn times(alloc: Global, decls: &Decls, scope: &Scope) -> Result<Iteration, Fail>
 /// The number 1 is elaborated to itself, as a part and where it fills a hole.
 fn expect_ones(rt: &impl Abort, alloc: Global, decls: &Decls) -> Result<(), Fail> {
     let scope = scope_of(alloc, &[])?;
-    let exps = ones(alloc)?;
-    assert!(rt; is_one(parts(alloc, decls, &scope, exps.as_slice())?.as_slice()));
     let first = unplaced(Node::Number(1));
+    assert!(rt; is_one(parts(alloc, decls, &scope, &first)?.as_slice()));
     assert!(rt; is_one(fillings(alloc, decls, &scope, &first)?.as_slice()));
     Ok(())
 }

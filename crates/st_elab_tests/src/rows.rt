@@ -144,6 +144,28 @@ pub const RECORDS_AND_CASES: [(&str, &str, &str); 22] = [
     ("CONST nt zz", r#"(n "instr")"#, "B3 10"),
 ];
 
+/// Expressions at variants whose case without a key takes the whole of them, at the same variant.
+pub const VARIANTS_THAT_LEAD_BACK: [(&str, &str, &str); 9] = [
+    ("A", r#"(n "again")"#, r#"(case "again" "A")"#),
+    ("B", r#"(n "again")"#, "Y2 1"),
+    ("(B)", r#"(n "again")"#, "Y2 2"),
+    ("A 1", r#"(n "again")"#, "Y2 1"),
+    ("B 1", r#"(n "again")"#, "Y2 1"),
+    (
+        "(A) 1",
+        r#"(n "again")"#,
+        r#"(case "again" "% %" (case "again" "A") (list nat (one 1)))"#,
+    ),
+    (
+        "((A) 1) 2",
+        r#"(n "again")"#,
+        "(case \"again\" \"% %\" (case \"again\" \"% %\" (case \"again\" \"A\") (list nat (one \
+            1))) (list nat (one 2)))",
+    ),
+    ("B", r#"(n "turn")"#, "Y2 1"),
+    ("(B) 1", r#"(n "turn")"#, "Y2 2"),
+];
+
 /// Items that are one element, and items that bring all their elements.
 pub const ITEMS_OF_SEQUENCES: [(&str, &str, &str); 10] = [
     ("1 eps", "(l nat)", "(list nat (one 1) (all (list nat)))"),

@@ -6,7 +6,7 @@ use crate::declared::{decls_of, scope_of, syntaxes_of, type_of};
 use crate::printed::{print_exp, print_ty};
 use crate::rows::{
     FORMS_AT_A_TYPE, ITEMS_OF_SEQUENCES, NAMES_AND_CALLS, OPERATORS, PARTS_AND_JOINS,
-    PLACES_OF_BREACHES, RECORDS_AND_CASES, WORKED_ROWS,
+    PLACES_OF_BREACHES, RECORDS_AND_CASES, VARIANTS_THAT_LEAD_BACK, WORKED_ROWS,
 };
 use st_el::Exp;
 use st_elab_exp::{Decls, ExpFault, Scope, check_exp, infer_exp};
@@ -20,7 +20,7 @@ use std::alloc::Global;
 use std::process::Abort;
 use std::test::Fail;
 
-const SYNTAXES: [&str; 8] = [
+const SYNTAXES: [&str; 10] = [
     r#"(syntax "numtype" (variant (case "I32") (case "I64")))"#,
     r#"(syntax "val" (variant (case "CONST % %" (n "numtype") nat)))"#,
     "(syntax \"instr\" (variant (case \"NOP\") (case \"DROP\") (case \"ADD %\" (n \
@@ -31,6 +31,8 @@ const SYNTAXES: [&str; 8] = [
     r#"(syntax "frame" (fields ("ARITY" nat) ("LOCALS" (l nat))))"#,
     r#"(syntax "ints" (alias (l int)))"#,
     r#"(syntax "n_a" (alias text))"#,
+    r#"(syntax "again" (variant (case "A") (case "% %" (n "again") (l nat))))"#,
+    r#"(syntax "turn" (variant (case "A") (case "% %" (l (n "turn")) (l nat))))"#,
 ];
 
 const VARS: [&str; 13] = [
@@ -243,6 +245,11 @@ fn forms_at_a_type(rt: HostRuntime) -> Result<(), Fail> {
 #[test]
 fn records_and_cases(rt: HostRuntime) -> Result<(), Fail> {
     expect_all(&rt, rt.alloc(), &RECORDS_AND_CASES)
+}
+
+#[test]
+fn variants_that_lead_back(rt: HostRuntime) -> Result<(), Fail> {
+    expect_all(&rt, rt.alloc(), &VARIANTS_THAT_LEAD_BACK)
 }
 
 #[test]

@@ -15,6 +15,8 @@ mod faults;
 #[cfg(test)]
 mod grammar;
 #[cfg(test)]
+mod places;
+#[cfg(test)]
 mod tokens;
 #[cfg(test)]
 mod told;

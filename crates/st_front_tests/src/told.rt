@@ -1,5 +1,6 @@
 //! What a call of the front tells of a text.
 
+use crate::places::tell_places;
 use st_el::{Body, Def, DefNode, Exp, Hint, plain, print_el};
 use st_num::{Name, NoMemory, Num, Row, RuleId, Span, print_number};
 use st_parse::parse;
@@ -28,6 +29,8 @@ pub(crate) enum Call {
     Parse,
     /// `parse` and `plain`: each definition on a line, behind the line of its place.
     Plain,
+    /// `parse`: where parts begin, as `tell_places` says.
+    Places,
 }
 
 fn print_count(count: u128, out: &mut Vec<u8>) -> Result<(), NoMemory> {
@@ -51,11 +54,16 @@ fn word_of_rule(rule: RuleId) -> &'static str {
     }
 }
 
-/// Appends a place and a rule, as `1:7 S1`.
-fn tell_refusal(at: Span, rule: RuleId, out: &mut Vec<u8>) -> Result<(), NoMemory> {
+/// Appends a place, as `1:7`.
+pub(crate) fn tell_place(at: Span, out: &mut Vec<u8>) -> Result<(), NoMemory> {
     print_count(u128::from(at.line), out)?;
     out.push(b':')?;
-    print_count(u128::from(at.column), out)?;
+    print_count(u128::from(at.column), out)
+}
+
+/// Appends a place and a rule, as `1:7 S1`.
+fn tell_refusal(at: Span, rule: RuleId, out: &mut Vec<u8>) -> Result<(), NoMemory> {
+    tell_place(at, out)?;
     out.extend_from_slice(word_of_rule(rule).as_bytes())?;
     Ok(())
 }
@@ -94,9 +102,7 @@ fn tell_kind(kind: &TokenKind, out: &mut Vec<u8>) -> Result<(), NoMemory> {
 
 fn tell_tokens(tokens: &[Token], out: &mut Vec<u8>) -> Result<(), NoMemory> {
     for token in tokens {
-        print_count(u128::from(token.at.line), out)?;
-        out.push(b':')?;
-        print_count(u128::from(token.at.column), out)?;
+        tell_place(token.at, out)?;
         if token.touching {
             out.push(b'+')?;
         }
@@ -209,6 +215,14 @@ fn tell_plain(alloc: Global, tokens: &[Token], out: &mut Vec<u8>) -> Result<(), 
     }
 }
 
+fn tell_parsed_places(alloc: Global, tokens: &[Token], out: &mut Vec<u8>) -> Result<(), NoMemory> {
+    match parse(alloc, tokens) {
+        Ok(defs) => tell_places(&defs, out),
+        Err(SyntaxFault::Refused { at, rule }) => tell_refusal(at, rule, out),
+        Err(SyntaxFault::Memory) => Err(NoMemory),
+    }
+}
+
 // ---- rows
 
 fn tell(alloc: Global, call: Call, tokens: &[Token], out: &mut Vec<u8>) -> Result<(), NoMemory> {
@@ -220,6 +234,7 @@ fn tell(alloc: Global, call: Call, tokens: &[Token], out: &mut Vec<u8>) -> Resul
         Call::CountExps => tell_count(alloc, tokens, out),
         Call::Parse => tell_parse(alloc, tokens, out),
         Call::Plain => tell_plain(alloc, tokens, out),
+        Call::Places => tell_parsed_places(alloc, tokens, out),
     }
 }
 

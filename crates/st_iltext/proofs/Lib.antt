@@ -9,3 +9,21 @@ mod BadLines
 mod SmallRules
 mod SmallFaults
 pub mod IlUnique
+mod Rows
+mod Depths
+mod ValueLevels
+mod ValueForms
+mod ValuesSame
+mod ValueReading
+mod ValueTexts
+mod TySame
+mod TyForms
+mod TyReading
+mod ExpLevels
+mod ExpForms
+mod ExpReads
+mod KindPlaces
+mod ExpSame
+mod PremSame
+mod DefinitionSame
+mod WholeSame

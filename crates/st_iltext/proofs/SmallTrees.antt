@@ -1,7 +1,7 @@
 -- The trees of small internal languages: their shapes, and that they have texts.
 use Rattle.std.proofs.Common.{◌≡◌, ℕ, suc, ◌+◌, ◌≤◌, ◌<◌, List, [], ◌∷◌, ◌++◌, length, map, true, codes, refl, sym, subst, ap, ap₂, ◌∙◌, arith, rules, inl, nat_le, nat_lt, ◌&&◌, get_or, drop}
 use Rattle.std.specs.List.{All, list_all}
-use Rattle.std.proofs.lemmas.List.Elements.{All-nil, All-cons, All-map, All-contains}
+use Rattle.std.proofs.lemmas.List.Elements.{All-cons, All-map, All-contains}
 use Rattle.std.proofs.lemmas.List.Sums.{AllPass-from_list_all}
 use Rattle.std.proofs.lemmas.Str.{IsUtf8-from_ascii}
 use Rattle.std.proofs.lemmas.Str.Ascii.{IsAscii-from_all}
@@ -21,7 +21,6 @@ use Rattle.st_text.specs.Trees.{row_of}
 use Rattle.st_iltext.specs.Expressions.{form, group, ty_tree, exp_tree}
 use Rattle.st_iltext.specs.Definitions.{definition_tree, alternative_tree}
 use Rattle.st_iltext.specs.IlText.{IlText, il_lines, lines_text}
-use Rattle.st_iltext.specs.inner.SmallForms.{IsAtom, IsOfAtoms}
 use Rattle.st_iltext.specs.inner.SmallShapes.{tag_shape, syntax_shape, hole_shape, relation_shape, atom_shape, rule_shape}
 use Rattle.st_text.proofs.CutOff.{drop-next}
 
@@ -122,21 +121,6 @@ il_text il is = record {
   have = subst (λ (i : Il). All DefHasText i.defs) (sym is.means) (il_has_text is.source is.small);
   is = refl;
 }
-
--- ---- what the printer asks for
-
-rule_of_atoms : (r x : List ℕ) (rule : SmallRule) → IsOfAtoms (rule_def r x rule)
-rule_of_atoms r x rule =
-    (All-cons IsAtom (Case x rule.from []) (Case x rule.to [] ∷ []) (x, rule.from, refl) (All-cons IsAtom (Case x rule.to []) [] (x, rule.to, refl) (All-nil IsAtom)), refl)
-
-small_of_atoms : (s : Small) → All IsOfAtoms (il_of s).defs
-small_of_atoms s =
-    All-cons IsOfAtoms (syntax_def s.syntax s.atoms) (relation_def s.relation s.syntax ∷ map (rule_def s.relation s.syntax) s.rules) tt
-    (All-cons IsOfAtoms (relation_def s.relation s.syntax) (map (rule_def s.relation s.syntax) s.rules) tt
-    (All-map IsOfAtoms (rule_def s.relation s.syntax) s.rules (λ k d h. rule_of_atoms s.relation s.syntax (get_or s.rules k d))))
-
-pub il_of_atoms : (il : Il) → IsSmallIl il → All IsOfAtoms il.defs
-il_of_atoms il is = subst (λ (i : Il). All IsOfAtoms i.defs) (sym is.means) (small_of_atoms is.source)
 
 -- ---- the lines, one by one
 

@@ -4,9 +4,19 @@
 pub mod Expressions
 -- the tree of a definition
 pub mod Definitions
--- the bytes are the text of an internal language, or this is their first bad line
-pub mod IlText
+-- a definition is written in the one spelling: how many parts, in which order, how large numbers
+pub mod Written
+-- the bytes are the text of an internal language
+pub mod WholeText
 -- an internal language has one text, and a text one internal language
+pub mod WholeLaws
+-- the bytes are the text of a small internal language, or this is their first bad line
+pub mod IlText
+-- a small internal language has one text, and a text one small internal language
 pub mod IlLaws
+-- the tree of a value, and its text
+pub mod Values
+-- a value has one text, a text one value, and no text of a value begins another
+pub mod ValueLaws
 -- ---- what only proofs need
 pub mod inner

@@ -1,5 +1,10 @@
--- What the readers of small internal languages keep, for their proofs alone.
-pub mod SmallForms
+-- What the readers keep, for their proofs alone.
+pub mod Heads
+pub mod Reading
+pub mod Fields
+pub mod Forms
+pub mod KindWords
+pub mod ExpReading
 pub mod SmallShapes
 pub mod SmallReading
 pub mod Names

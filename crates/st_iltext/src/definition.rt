@@ -1,16 +1,16 @@
 //! The trees of definitions, a line for each form.
 
-ghost use Rattle.std.specs.Prelude.{◌≡◌, [], ◌∷◌, ◌++◌, map, codes, All, IfOk, OnOk};
+ghost use Rattle.std.specs.Prelude.{◌≡◌, ◌++◌, map, codes, IfOk, OnOk};
 ghost use Rattle.st_iltext.specs.Definitions.{alternative_tree, field_tree, body_tree, kind_word, listed_tree, mode_word, definition_tree};
-ghost use Rattle.st_iltext.specs.Expressions.{group, form, ty_tree, exp_tree};
-ghost use Rattle.st_iltext.specs.inner.SmallForms.{IsAtom, IsOfAtoms};
-ghost use Rattle.st_text.specs.Text.{quote};
+ghost use Rattle.st_iltext.specs.Expressions.{group, form};
 ghost use Rattle.st_text.specs.Trees.{tree_of};
 
-use crate::expression::{exp_tree, push_types, ty_tree};
+use crate::expression::{exp_tree, exps_tree};
 use crate::form::{binary, headed, quote_tree, unary, word_tree};
+use crate::premise::push_prems;
+use crate::ty::{push_types, ty_tree, types_tree};
 use st_il::{
-    Alternative, FunDef, IlDef, IlExp, Listed, RelationDef, RuleDef, SyntaxBody, SyntaxDef, Ty,
+    Alternative, ClauseDef, FunDef, IlDef, Listed, RelationDef, RuleDef, SyntaxBody, SyntaxDef, Ty,
 };
 use st_num::{Dim, Kind, Name, NoMemory, Row};
 use st_text::TextTree;
@@ -77,15 +77,6 @@ fn syntax_tree(alloc: Global, def: &SyntaxDef) -> Result<TextTree, NoMemory>
     binary(alloc, b"syntax", name, body?)
 }
 
-/// The list of these types.
-fn types_tree(alloc: Global, types: &[Ty]) -> Result<TextTree, NoMemory>
-    ensures { IfOk result (λ tree. tree_of tree ≡ group (map ty_tree types.now)) }
-{
-    let mut trees = Row::new(alloc);
-    push_types(alloc, types, &mut trees)?;
-    Ok(TextTree::List(trees))
-}
-
 /// The tree of a mode: which holes of a relation are inputs.
 fn mode_tree(alloc: Global, mode: &[bool]) -> Result<TextTree, NoMemory>
     ensures { IfOk result (λ tree. tree_of tree ≡ form (codes "mode") (map mode_word mode.now)) }
@@ -146,21 +137,8 @@ fn variables_tree(alloc: Global, variables: &[Listed]) -> Result<TextTree, NoMem
     Ok(TextTree::List(trees))
 }
 
-/// The list of these expressions.
-fn exps_tree(alloc: Global, exps: &[IlExp]) -> Result<TextTree, NoMemory>
-    requires { All IsAtom exps.now }
-    ensures { IfOk result (λ tree. tree_of tree ≡ group (map exp_tree exps.now)) }
-{
-    let mut trees = Row::new(alloc);
-    for exp in exps {
-        trees.push(exp_tree(alloc, exp)?)?;
-    }
-    Ok(TextTree::List(trees))
-}
-
-/// The tree of a rule that has no premises, and whose conclusion is of atoms.
+/// The tree of a rule.
 fn rule_tree(alloc: Global, def: &RuleDef) -> Result<TextTree, NoMemory>
-    requires { All IsAtom def.now.conclusion × (def.now.premises ≡ []) }
     ensures { IfOk result (λ tree. tree_of tree ≡ definition_tree (IlDef.Rule def.now)) }
 {
     let mut trees = headed(alloc, b"rule")?;
@@ -168,6 +146,7 @@ fn rule_tree(alloc: Global, def: &RuleDef) -> Result<TextTree, NoMemory>
     trees.push(quote_tree(alloc, &def.name)?)?;
     trees.push(variables_tree(alloc, def.variables.as_slice())?)?;
     trees.push(exps_tree(alloc, def.conclusion.as_slice())?)?;
+    push_prems(alloc, def.premises.as_slice(), &mut trees)?;
     Ok(TextTree::List(trees))
 }
 
@@ -182,9 +161,21 @@ fn function_tree(alloc: Global, def: &FunDef) -> Result<TextTree, NoMemory>
     Ok(TextTree::List(trees))
 }
 
+/// The tree of a clause of a function.
+fn clause_tree(alloc: Global, def: &ClauseDef) -> Result<TextTree, NoMemory>
+    ensures { IfOk result (λ tree. tree_of tree ≡ definition_tree (IlDef.Clause def.now)) }
+{
+    let mut trees = headed(alloc, b"clause")?;
+    trees.push(quote_tree(alloc, &def.fun)?)?;
+    trees.push(variables_tree(alloc, def.variables.as_slice())?)?;
+    trees.push(exps_tree(alloc, def.args.as_slice())?)?;
+    trees.push(exp_tree(alloc, &def.result)?)?;
+    push_prems(alloc, def.premises.as_slice(), &mut trees)?;
+    Ok(TextTree::List(trees))
+}
+
 /// The tree of a definition.
 pub fn definition_tree(alloc: Global, def: &IlDef) -> Result<TextTree, NoMemory>
-    requires { IsOfAtoms def.now }
     ensures { IfOk result (λ tree. tree_of tree ≡ definition_tree def.now) }
 {
     match def {
@@ -196,6 +187,6 @@ pub fn definition_tree(alloc: Global, def: &IlDef) -> Result<TextTree, NoMemory>
         IlDef::Relation(def) => relation_tree(alloc, def),
         IlDef::Rule(def) => rule_tree(alloc, def),
         IlDef::Fun(def) => function_tree(alloc, def),
-        IlDef::Clause(_) => unreachable!(),
+        IlDef::Clause(def) => clause_tree(alloc, def),
     }
 }

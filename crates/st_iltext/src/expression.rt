@@ -1,59 +1,217 @@
-//! The trees of types and expressions.
+//! The trees of expressions.
 
 ghost use Rattle.std.specs.Prelude.{◌≡◌, ◌++◌, map, IfOk, OnOk};
-ghost use Rattle.st_iltext.specs.Expressions.{ty_tree, exp_tree};
-ghost use Rattle.st_iltext.specs.inner.SmallForms.{IsAtom};
+ghost use Rattle.st_iltext.specs.Expressions.{group, exp_tree, item_tree, segment_tree, iteration_tree};
 ghost use Rattle.st_text.specs.Trees.{tree_of};
 
-use crate::form::{binary, headed, quote_tree, unary, word_tree};
-use st_il::{IlExp, Ty};
+use crate::form::{
+    binary, headed, names_tree, number_tree, number_type_tree, quote_tree, ternary, truth_tree,
+    unary, word_tree,
+};
+use crate::head::head_of;
+use crate::ty::ty_tree;
+use st_il::{IlExp, Iteration, ListItem, PathSeg};
 use st_num::{NoMemory, Row};
 use st_text::TextTree;
 use std::alloc::Global;
 
-/// The tree of a type.
-#[cycle(ty)]
-pub fn ty_tree(alloc: Global, ty: &Ty) -> Result<TextTree, NoMemory>
-    ensures { IfOk result (λ tree. tree_of tree ≡ ty_tree ty.now) }
+/// The tree of an expression.
+#[cycle(exp)]
+pub fn exp_tree(alloc: Global, exp: &IlExp) -> Result<TextTree, NoMemory>
+    ensures { IfOk result (λ tree. tree_of tree ≡ exp_tree exp.now) }
 {
-    match ty {
-        Ty::Bool => word_tree(alloc, b"bool"),
-        Ty::Nat => word_tree(alloc, b"nat"),
-        Ty::Int => word_tree(alloc, b"int"),
-        Ty::Text => word_tree(alloc, b"text"),
-        Ty::Name(name) => unary(alloc, b"n", quote_tree(alloc, name)?),
-        Ty::List(element) => unary(alloc, b"l", ty_tree(alloc, element.get())?),
-        Ty::Opt(element) => unary(alloc, b"o", ty_tree(alloc, element.get())?),
-        Ty::Tuple(parts) => {
-            let mut trees = headed(alloc, b"t")?;
-            push_types(alloc, parts.as_slice(), &mut trees)?;
+    let head = head_of(exp);
+    match exp {
+        IlExp::Bool(is_true) => truth_tree(alloc, *is_true),
+        IlExp::Number(number) => number_tree(alloc, *number),
+        IlExp::Text(text) => quote_tree(alloc, text),
+        IlExp::Var(name) => unary(alloc, head, quote_tree(alloc, name)?),
+        IlExp::Not(x) | IlExp::Neg(x) | IlExp::Present(x) | IlExp::Len(x) => {
+            unary(alloc, head, exp_tree(alloc, x.get())?)
+        }
+        IlExp::And(x, y) | IlExp::Or(x, y) | IlExp::Imp(x, y) | IlExp::Iff(x, y) => {
+            binary(
+                alloc,
+                head,
+                exp_tree(alloc, x.get())?,
+                exp_tree(alloc, y.get())?,
+            )
+        }
+        IlExp::Eq(x, y) | IlExp::Ne(x, y) | IlExp::Lt(x, y) | IlExp::Gt(x, y) => {
+            binary(
+                alloc,
+                head,
+                exp_tree(alloc, x.get())?,
+                exp_tree(alloc, y.get())?,
+            )
+        }
+        IlExp::Le(x, y) | IlExp::Ge(x, y) | IlExp::Member(x, y) | IlExp::At(x, y) => {
+            binary(
+                alloc,
+                head,
+                exp_tree(alloc, x.get())?,
+                exp_tree(alloc, y.get())?,
+            )
+        }
+        IlExp::Cat(x, y) | IlExp::Join(x, y) => {
+            binary(
+                alloc,
+                head,
+                exp_tree(alloc, x.get())?,
+                exp_tree(alloc, y.get())?,
+            )
+        }
+        IlExp::Add(ty, x, y) | IlExp::Sub(ty, x, y) | IlExp::Mul(ty, x, y) => {
+            let ty = number_type_tree(alloc, *ty)?;
+            ternary(
+                alloc,
+                head,
+                ty,
+                exp_tree(alloc, x.get())?,
+                exp_tree(alloc, y.get())?,
+            )
+        }
+        IlExp::Div(ty, x, y) | IlExp::Rem(ty, x, y) | IlExp::Pow(ty, x, y) => {
+            let ty = number_type_tree(alloc, *ty)?;
+            ternary(
+                alloc,
+                head,
+                ty,
+                exp_tree(alloc, x.get())?,
+                exp_tree(alloc, y.get())?,
+            )
+        }
+        IlExp::Case(ty, tag, exps) => {
+            let mut trees = headed(alloc, head)?;
+            trees.push(quote_tree(alloc, ty)?)?;
+            trees.push(quote_tree(alloc, tag)?)?;
+            push_exps(alloc, exps.as_slice(), &mut trees)?;
             Ok(TextTree::List(trees))
+        }
+        IlExp::Fields(name, exps) | IlExp::Call(name, exps) => {
+            let mut trees = headed(alloc, head)?;
+            trees.push(quote_tree(alloc, name)?)?;
+            push_exps(alloc, exps.as_slice(), &mut trees)?;
+            Ok(TextTree::List(trees))
+        }
+        IlExp::Dot(x, field) => {
+            let x = exp_tree(alloc, x.get())?;
+            binary(alloc, head, x, quote_tree(alloc, field)?)
+        }
+        IlExp::Set(x, path, y) | IlExp::Extend(x, path, y) => {
+            let x = exp_tree(alloc, x.get())?;
+            let path = path_tree(alloc, path.as_slice())?;
+            ternary(alloc, head, x, path, exp_tree(alloc, y.get())?)
+        }
+        IlExp::Tuple(exps) => {
+            let mut trees = headed(alloc, head)?;
+            push_exps(alloc, exps.as_slice(), &mut trees)?;
+            Ok(TextTree::List(trees))
+        }
+        IlExp::List(ty, items) => {
+            let mut trees = headed(alloc, head)?;
+            trees.push(ty_tree(alloc, ty)?)?;
+            push_items(alloc, items.as_slice(), &mut trees)?;
+            Ok(TextTree::List(trees))
+        }
+        IlExp::Empty(ty) | IlExp::Absent(ty) => unary(alloc, head, ty_tree(alloc, ty)?),
+        IlExp::Slice(x, y, z) => {
+            let x = exp_tree(alloc, x.get())?;
+            let y = exp_tree(alloc, y.get())?;
+            ternary(alloc, head, x, y, exp_tree(alloc, z.get())?)
+        }
+        IlExp::Up(ty, x) => {
+            let ty = ty_tree(alloc, ty)?;
+            binary(alloc, head, ty, exp_tree(alloc, x.get())?)
+        }
+        IlExp::Iter(count, names, x) => {
+            let count = iteration_tree(alloc, count)?;
+            let names = names_tree(alloc, names.as_slice())?;
+            ternary(alloc, head, count, names, exp_tree(alloc, x.get())?)
         }
     }
 }
 
-/// Adds the trees of these types.
-#[cycle(ty)]
-pub fn push_types(alloc: Global, types: &[Ty], trees: &mut Row<TextTree>) -> Result<(), NoMemory>
-    ensures { OnOk result (map tree_of trees.new ≡ map tree_of trees.old ++ map ty_tree types.now) }
+/// Adds the trees of these expressions.
+#[cycle(exp)]
+pub fn push_exps(alloc: Global, exps: &[IlExp], trees: &mut Row<TextTree>) -> Result<(), NoMemory>
+    ensures { OnOk result (map tree_of trees.new ≡ map tree_of trees.old ++ map exp_tree exps.now) }
 {
-    for ty in types {
-        trees.push(ty_tree(alloc, ty)?)?;
+    for exp in exps {
+        trees.push(exp_tree(alloc, exp)?)?;
     }
     Ok(())
 }
 
-/// The tree of an expression. So far these are the cases without operands.
-pub fn exp_tree(alloc: Global, exp: &IlExp) -> Result<TextTree, NoMemory>
-    requires { IsAtom exp.now }
-    ensures { IfOk result (λ tree. tree_of tree ≡ exp_tree exp.now) }
+/// Adds the trees of these items of a list.
+#[cycle(exp)]
+fn push_items(alloc: Global, items: &[ListItem], trees: &mut Row<TextTree>) -> Result<(), NoMemory>
+    ensures { OnOk result
+        (map tree_of trees.new ≡ map tree_of trees.old ++ map item_tree items.now) }
 {
-    match exp {
-        IlExp::Case(ty, tag, _) => {
-            let ty = quote_tree(alloc, ty)?;
-            let tag = quote_tree(alloc, tag)?;
-            binary(alloc, b"case", ty, tag)
-        }
-        _ => unreachable!(),
+    for item in items {
+        trees.push(item_tree(alloc, item)?)?;
     }
+    Ok(())
+}
+
+/// The tree of an item of a list.
+#[cycle(exp)]
+fn item_tree(alloc: Global, item: &ListItem) -> Result<TextTree, NoMemory>
+    ensures { IfOk result (λ tree. tree_of tree ≡ item_tree item.now) }
+{
+    match item {
+        ListItem::One(x) => unary(alloc, b"one", exp_tree(alloc, x)?),
+        ListItem::All(x) => unary(alloc, b"all", exp_tree(alloc, x)?),
+    }
+}
+
+/// The tree of a path.
+#[cycle(exp)]
+fn path_tree(alloc: Global, path: &[PathSeg]) -> Result<TextTree, NoMemory>
+    ensures { IfOk result (λ tree. tree_of tree ≡ group (map segment_tree path.now)) }
+{
+    let mut trees = Row::new(alloc);
+    for segment in path {
+        trees.push(segment_tree(alloc, segment)?)?;
+    }
+    Ok(TextTree::List(trees))
+}
+
+/// The tree of a step of a path.
+#[cycle(exp)]
+fn segment_tree(alloc: Global, segment: &PathSeg) -> Result<TextTree, NoMemory>
+    ensures { IfOk result (λ tree. tree_of tree ≡ segment_tree segment.now) }
+{
+    match segment {
+        PathSeg::Field(field) => unary(alloc, b"f", quote_tree(alloc, field)?),
+        PathSeg::At(x) => unary(alloc, b"i", exp_tree(alloc, x)?),
+        PathSeg::Slice(x, y) => { binary(alloc, b"s", exp_tree(alloc, x)?, exp_tree(alloc, y)?) }
+    }
+}
+
+/// The tree of how often an iteration goes.
+#[cycle(exp)]
+pub fn iteration_tree(alloc: Global, count: &Iteration) -> Result<TextTree, NoMemory>
+    ensures { IfOk result (λ tree. tree_of tree ≡ iteration_tree count.now) }
+{
+    match count {
+        Iteration::Star => word_tree(alloc, b"*"),
+        Iteration::Plus => word_tree(alloc, b"+"),
+        Iteration::Quest => word_tree(alloc, b"?"),
+        Iteration::Times(x) => unary(alloc, b"^", exp_tree(alloc, x.get())?),
+        Iteration::Below(index, x) => {
+            let index = quote_tree(alloc, index)?;
+            binary(alloc, b"^", index, exp_tree(alloc, x.get())?)
+        }
+    }
+}
+
+/// The list of these expressions.
+pub fn exps_tree(alloc: Global, exps: &[IlExp]) -> Result<TextTree, NoMemory>
+    ensures { IfOk result (λ tree. tree_of tree ≡ group (map exp_tree exps.now)) }
+{
+    let mut trees = Row::new(alloc);
+    push_exps(alloc, exps, &mut trees)?;
+    Ok(TextTree::List(trees))
 }

@@ -6,7 +6,6 @@ ghost use Rattle.st_il.specs.Small.{IsSmallIl};
 ghost use Rattle.st_iltext.specs.Definitions.{definition_tree};
 ghost use Rattle.st_iltext.specs.IlText.{IlText, il_lines, lines_text, ReadsIl};
 ghost use Rattle.st_text.specs.Printing.{IsCutOff};
-ghost use Rattle.st_iltext.specs.inner.SmallForms.{IsOfAtoms};
 ghost use Rattle.st_text.specs.Text.{text};
 
 use crate::definition::definition_tree;
@@ -17,8 +16,7 @@ use st_text::{TextFault, print_tree};
 use std::alloc::Global;
 
 /// Appends the line of a definition.
-fn print_line(alloc: Global, def: &IlDef, out: &mut Vec<u8>) -> Result<(), NoMemory>
-    requires { IsOfAtoms def.now }
+pub fn print_line(alloc: Global, def: &IlDef, out: &mut Vec<u8>) -> Result<(), NoMemory>
     ensures ok { OnOk result
         (out.new.items ≡ out.old.items ++ (text (definition_tree def.now) ++ 10 ∷ [])) }
     ensures err { OnErr result

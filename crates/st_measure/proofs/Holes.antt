@@ -25,8 +25,8 @@ use Rattle.st_measure.specs.inner.Aliases.{makes_type}
 abbrev pub is_hole : Notation → Bool
 is_hole n = is_some (lone_typ n)
 
-rolled_hole : (t : Typ) → is_hole (hole t) ≡ true
-rolled_hole t = ap (λ n. is_some (typ_in n)) (not_node.outs-Hole t)
+rolled_hole : (at : Span) (t : Typ) → is_hole (hole at t) ≡ true
+rolled_hole at t = ap (λ n. is_some (typ_in n)) (not_node.outs-Hole t)
 
 seq_is : (at : Span) (ns : List Notation) → is_hole (notation_at at (not_node.Seq ns)) ≡ false
 seq_is at ns = ap (λ n. is_some (typ_in n)) (not_node.outs-Seq ns)
@@ -50,7 +50,7 @@ spelled_is (NotNode-F.Bracket m n) at behind h = ap (λ k. is_some (typ_in k)) (
 -- ---- pieces
 
 abbrev is_a_type : NotationPiece → Bool
-is_a_type (a_type t) = true
+is_a_type (a_type b t) = true
 is_a_type p = false
 
 -- A whole notation is no type.
@@ -67,10 +67,10 @@ abbrev Ends : Action → Stack → Type 0
 Ends a [] = ⊥
 Ends a (p ∷ s) = (is_a_type p ≡ makes_type a) × IsTold p × AreTold s
 
-on_type : (s u : Stack) (g : Typ × Stack → Option Stack) {P : Type 0} → AreTold s → option_and_then g (top_type s) ≡ Some u
-    → ((t : Typ) (r : Stack) → AreTold r → g (t, r) ≡ Some u → P) → P
+on_type : (s u : Stack) (g : Span × Typ × Stack → Option Stack) {P : Type 0} → AreTold s → option_and_then g (top_type s) ≡ Some u
+    → ((b : Span) (t : Typ) (r : Stack) → AreTold r → g (b, t, r) ≡ Some u → P) → P
 on_type [] u g a h k = absurd (cc)
-on_type (a_type t ∷ s) u g a h k = k t s a.1 h
+on_type (a_type b t ∷ s) u g a h k = k b t s a.1 h
 on_type (whole n ∷ s) u g a h k = absurd (cc)
 on_type (types at ts ∷ s) u g a h k = absurd (cc)
 on_type (elements at ns ∷ s) u g a h k = absurd (cc)
@@ -79,7 +79,7 @@ on_type (from_place at ∷ s) u g a h k = absurd (cc)
 on_notation : (s u : Stack) (g : Notation × Stack → Option Stack) {P : Type 0} → AreTold s → option_and_then g (top_notation s) ≡ Some u
     → ((n : Notation) (r : Stack) → AreTold r → g (n, r) ≡ Some u → P) → P
 on_notation [] u g a h k = absurd (cc)
-on_notation (a_type t ∷ s) u g a h k = k (hole t) s a.1 h
+on_notation (a_type b t ∷ s) u g a h k = k (hole b t) s a.1 h
 on_notation (whole n ∷ s) u g a h k = k n s a.1 h
 on_notation (types at ts ∷ s) u g a h k = absurd (cc)
 on_notation (elements at ns ∷ s) u g a h k = absurd (cc)
@@ -88,7 +88,7 @@ on_notation (from_place at ∷ s) u g a h k = absurd (cc)
 on_whole : (s u : Stack) (g : Notation × Stack → Option Stack) {P : Type 0} → AreTold s → option_and_then g (top_whole s) ≡ Some u
     → ((n : Notation) (r : Stack) → is_hole n ≡ false → AreTold r → g (n, r) ≡ Some u → P) → P
 on_whole [] u g a h k = absurd (cc)
-on_whole (a_type t ∷ s) u g a h k = absurd (cc)
+on_whole (a_type b t ∷ s) u g a h k = absurd (cc)
 on_whole (whole n ∷ s) u g a h k = k n s a.0 a.1 h
 on_whole (types at ts ∷ s) u g a h k = absurd (cc)
 on_whole (elements at ns ∷ s) u g a h k = absurd (cc)
@@ -97,7 +97,7 @@ on_whole (from_place at ∷ s) u g a h k = absurd (cc)
 on_place : (s u : Stack) (g : Span × Stack → Option Stack) {P : Type 0} → AreTold s → option_and_then g (top_place s) ≡ Some u
     → ((at : Span) (r : Stack) → AreTold r → g (at, r) ≡ Some u → P) → P
 on_place [] u g a h k = absurd (cc)
-on_place (a_type t ∷ s) u g a h k = absurd (cc)
+on_place (a_type b t ∷ s) u g a h k = absurd (cc)
 on_place (whole n ∷ s) u g a h k = absurd (cc)
 on_place (types at ts ∷ s) u g a h k = absurd (cc)
 on_place (elements at ns ∷ s) u g a h k = absurd (cc)
@@ -119,32 +119,32 @@ part_ends : (p : NotationPiece) (s u : Stack) → AreTold s → put_part p s ≡
 part_ends p [] u all h = part_none p u h
   where
     part_none : (p : NotationPiece) (u : Stack) → put_part p [] ≡ Some u → Ends action.Part u
-    part_none (a_type t) u h = absurd (cc)
+    part_none (a_type b t) u h = absurd (cc)
     part_none (whole n) u h = absurd (cc)
     part_none (types at ts) u h = absurd (cc)
     part_none (elements at ns) u h = absurd (cc)
     part_none (from_place at) u h = absurd (cc)
-part_ends (a_type t) (a_type t2 ∷ s) u all h = absurd (cc)
-part_ends (whole n) (a_type t2 ∷ s) u all h = absurd (cc)
-part_ends (types at ts) (a_type t2 ∷ s) u all h = absurd (cc)
-part_ends (elements at ns) (a_type t2 ∷ s) u all h = absurd (cc)
-part_ends (from_place at) (a_type t2 ∷ s) u all h = absurd (cc)
-part_ends (a_type t) (whole n2 ∷ s) u all h = absurd (cc)
+part_ends (a_type b t) (a_type b2 t2 ∷ s) u all h = absurd (cc)
+part_ends (whole n) (a_type b2 t2 ∷ s) u all h = absurd (cc)
+part_ends (types at ts) (a_type b2 t2 ∷ s) u all h = absurd (cc)
+part_ends (elements at ns) (a_type b2 t2 ∷ s) u all h = absurd (cc)
+part_ends (from_place at) (a_type b2 t2 ∷ s) u all h = absurd (cc)
+part_ends (a_type b t) (whole n2 ∷ s) u all h = absurd (cc)
 part_ends (whole n) (whole n2 ∷ s) u all h = absurd (cc)
 part_ends (types at ts) (whole n2 ∷ s) u all h = absurd (cc)
 part_ends (elements at ns) (whole n2 ∷ s) u all h = absurd (cc)
 part_ends (from_place at) (whole n2 ∷ s) u all h = absurd (cc)
-part_ends (a_type t) (types at2 ts2 ∷ s) u all h = ended action.Part (types at2 (ts2 ++ t ∷ [])) s u refl tt all.1 h
+part_ends (a_type b t) (types at2 ts2 ∷ s) u all h = ended action.Part (types at2 (ts2 ++ t ∷ [])) s u refl tt all.1 h
 part_ends (whole n) (types at2 ts2 ∷ s) u all h = absurd (cc)
 part_ends (types at ts) (types at2 ts2 ∷ s) u all h = absurd (cc)
 part_ends (elements at ns) (types at2 ts2 ∷ s) u all h = absurd (cc)
 part_ends (from_place at) (types at2 ts2 ∷ s) u all h = absurd (cc)
-part_ends (a_type t) (elements at2 ns2 ∷ s) u all h = ended action.Part (elements at2 (ns2 ++ hole t ∷ [])) s u refl tt all.1 h
+part_ends (a_type b t) (elements at2 ns2 ∷ s) u all h = ended action.Part (elements at2 (ns2 ++ hole b t ∷ [])) s u refl tt all.1 h
 part_ends (whole n) (elements at2 ns2 ∷ s) u all h = ended action.Part (elements at2 (ns2 ++ n ∷ [])) s u refl tt all.1 h
 part_ends (types at ts) (elements at2 ns2 ∷ s) u all h = absurd (cc)
 part_ends (elements at ns) (elements at2 ns2 ∷ s) u all h = absurd (cc)
 part_ends (from_place at) (elements at2 ns2 ∷ s) u all h = absurd (cc)
-part_ends (a_type t) (from_place at2 ∷ s) u all h = absurd (cc)
+part_ends (a_type b t) (from_place at2 ∷ s) u all h = absurd (cc)
 part_ends (whole n) (from_place at2 ∷ s) u all h = absurd (cc)
 part_ends (types at ts) (from_place at2 ∷ s) u all h = absurd (cc)
 part_ends (elements at ns) (from_place at2 ∷ s) u all h = absurd (cc)
@@ -152,15 +152,15 @@ part_ends (from_place at) (from_place at2 ∷ s) u all h = absurd (cc)
 
 parens_end : (s u : Stack) → AreTold s → applied action.EndParens s ≡ Some u → Ends action.EndParens u
 parens_end [] u all h = absurd (cc)
-parens_end (a_type t ∷ s) u all h = absurd (cc)
+parens_end (a_type b t ∷ s) u all h = absurd (cc)
 parens_end (whole n ∷ s) u all h = absurd (cc)
-parens_end (types at ts ∷ s) u all h = ended action.EndParens (a_type (typ_in_parens at ts)) s u refl tt all.1 h
+parens_end (types at ts ∷ s) u all h = ended action.EndParens (a_type at (typ_in_parens at ts)) s u refl tt all.1 h
 parens_end (elements at ns ∷ s) u all h = absurd (cc)
 parens_end (from_place at ∷ s) u all h = absurd (cc)
 
 sequence_ends : (s u : Stack) → AreTold s → applied action.EndSequence s ≡ Some u → Ends action.EndSequence u
 sequence_ends [] u all h = absurd (cc)
-sequence_ends (a_type t ∷ s) u all h = absurd (cc)
+sequence_ends (a_type b t ∷ s) u all h = absurd (cc)
 sequence_ends (whole n ∷ s) u all h = absurd (cc)
 sequence_ends (types at ts ∷ s) u all h = absurd (cc)
 sequence_ends (elements at ns ∷ s) u all h = ended action.EndSequence (whole (notation_at at (not_node.Seq ns))) s u refl (seq_is at ns) all.1 h
@@ -171,7 +171,7 @@ sequence_ends (from_place at ∷ s) u all h = absurd (cc)
 ends : (a : Action) (s u : Stack) → AreTold s → applied a s ≡ Some u → Ends a u
 ends (action.Operand k x) s u all h = operand_ends k x s u all h
 ends (action.Dot x) s u all h = on_whole s u _ all h (λ n r no all h. ended (action.Dot x) (whole (atom_on n x)) r u refl (spelled_is (out-NotNode (out-Notation n).node) (notation_place n) (name_of x.kind) no) all h)
-ends (action.Mark m) s u all h = on_type s u _ all h (λ t r all h. ended (action.Mark m) (a_type (marked m t)) r u refl tt all h)
+ends (action.Mark m) s u all h = on_type s u _ all h (λ b t r all h. ended (action.Mark m) (a_type b (marked b m t)) r u refl tt all h)
 ends (action.Here at) s u all h = ended (action.Here at) (from_place at) s u refl tt all h
 ends (action.Prefix m) s u all h = on_notation s u _ all h (λ n r all h. on_place r u _ all h (λ at q all h. ended (action.Prefix m) (whole (notation_joined (notation_at at (not_node.Seq [])) m n)) q u refl (infix_is at (notation_at at (not_node.Seq [])) m n) all h))
 ends (action.Enclose b) s u all h = on_notation s u _ all h (λ n r all h. on_place r u _ all h (λ at q all h. ended (action.Enclose b) (whole (notation_at at (not_node.Bracket (tick b) n))) q u refl (bracket_is at (tick b) n) all h))
@@ -214,12 +214,12 @@ all_end (b ∷ front) a s u all h = on_some (applied b s) u (run (front ++ a ∷
 
 top_is : (a : Action) (u : Stack) (n : Notation) → Ends a u → the_notation u ≡ Some n → makes_type a ≡ is_hole n
 top_is a [] n e h = absurd e
-top_is a (a_type t ∷ []) n e h = sym e.0 ∙ sym (rolled_hole t) ∙ ap is_hole (let is : hole t ≡ n = cc in is)
+top_is a (a_type b t ∷ []) n e h = sym e.0 ∙ sym (rolled_hole b t) ∙ ap is_hole (let is : hole b t ≡ n = cc in is)
 top_is a (whole m ∷ []) n e h = sym e.0 ∙ sym e.1 ∙ ap is_hole (let is : m ≡ n = cc in is)
 top_is a (types at ts ∷ []) n e h = absurd (cc)
 top_is a (elements at ns ∷ []) n e h = absurd (cc)
 top_is a (from_place at ∷ []) n e h = absurd (cc)
-top_is a (a_type t ∷ q ∷ s) n e h = absurd (cc)
+top_is a (a_type b t ∷ q ∷ s) n e h = absurd (cc)
 top_is a (whole m ∷ q ∷ s) n e h = absurd (cc)
 top_is a (types at ts ∷ q ∷ s) n e h = absurd (cc)
 top_is a (elements at ns ∷ q ∷ s) n e h = absurd (cc)
@@ -248,8 +248,8 @@ pub record BuildsTyp (actions : List Action) (n : Notation) : Type 0 where
 
 typ_on : (u : Stack) (n : Notation) → AreTold u → the_notation u ≡ Some n → is_hole n ≡ true → (t : Typ) × (the_typ u ≡ Some t) × (lone_typ n ≡ Some t)
 typ_on [] n all h is = absurd (cc)
-typ_on (a_type t ∷ []) n all h is =
-    let e : hole t ≡ n = cc in
+typ_on (a_type b t ∷ []) n all h is =
+    let e : hole b t ≡ n = cc in
     (t, refl, ap lone_typ (sym e) ∙ ap typ_in (not_node.outs-Hole t))
 typ_on (whole m ∷ []) n all h is =
     let e : m ≡ n = cc in
@@ -257,7 +257,7 @@ typ_on (whole m ∷ []) n all h is =
 typ_on (types at ts ∷ []) n all h is = absurd (cc)
 typ_on (elements at ns ∷ []) n all h is = absurd (cc)
 typ_on (from_place at ∷ []) n all h is = absurd (cc)
-typ_on (a_type t ∷ q ∷ s) n all h is = absurd (cc)
+typ_on (a_type b t ∷ q ∷ s) n all h is = absurd (cc)
 typ_on (whole m ∷ q ∷ s) n all h is = absurd (cc)
 typ_on (types at ts ∷ q ∷ s) n all h is = absurd (cc)
 typ_on (elements at ns ∷ q ∷ s) n all h is = absurd (cc)

@@ -10,7 +10,7 @@ ghost use Rattle.st_parse_automaton.specs.declared.part_automaton.Expected.TheVa
 ghost use Rattle.st_parse_builder.specs.declared.piece.Piece.TheVariants.{Done};
 ghost use Rattle.st_parse_builder.specs.declared.notation_piece.NotationPiece.TheVariants.{Hole};
 ghost use Rattle.st_parse_builder.specs.Meaning.{meaning};
-ghost use Rattle.st_parse_builder.specs.Notations.{typ_meaning};
+ghost use Rattle.st_parse_builder.specs.Notations.{typ_start, typ_meaning};
 ghost use Rattle.st_parse_builder.specs.inner.NotationBuilding as notations;
 ghost use Rattle.st_parse_builder.specs.inner.Actions.{acts};
 ghost use Rattle.st_parse_builder.specs.inner.Building.{Stack, run};
@@ -35,7 +35,7 @@ pub fn tokens_build()
     ensures types { (us : List Terminal) (t : Tree) (s : notations.Stack)
         → reads (start typ) us ≡ Some t
         → notations.run (emissions typ [] (Operand, []) us) s
-        ≡ Some (Hole (typ_meaning t) ∷ s) }
+        ≡ Some (Hole (typ_start t) (typ_meaning t) ∷ s) }
     ensures notations { (us : List Terminal) (t : Tree) (s : notations.Stack)
         → reads (start notation) us ≡ Some t
         → notations.run (emissions notation [] (Operand, []) us) s

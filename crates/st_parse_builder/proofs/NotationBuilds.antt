@@ -17,7 +17,7 @@ use Rattle.st_parse_builder.specs.declared.action.Action.{Action}
 use Rattle.st_parse_builder.specs.declared.action.Action.TheVariants as action
 use Rattle.st_el.specs.declared.notation.NotNode.TheVariants as not_node
 use Rattle.st_parse_builder.specs.declared.notation_piece.NotationPiece.TheVariants.{Hole as a_type, Whole as whole, Types as types, Elements as elements, From as from_place}
-use Rattle.st_parse_builder.specs.Notations.{hole, tick, notation_at, notation_joined, marked, notation_place, notation_first, typ_meaning, typ_meanings, notation_meaning, notation_meanings, only_notation}
+use Rattle.st_parse_builder.specs.Notations.{hole, tick, notation_at, notation_joined, marked, notation_place, notation_first, typ_start, typ_meaning, typ_meanings, notation_meaning, notation_meanings, only_notation}
 use Rattle.st_parse_builder.specs.inner.Actions.{acts, each_acts, part_acts, item_acts}
 use Rattle.st_parse_builder.specs.inner.NotationBuilding.{Stack, put, with_place, with_notation, with_type, put_part, the_notation, applied, run, piece_of}
 use Rattle.st_parse_builder.proofs.Builds.{some_parts, filled, some_items}
@@ -41,7 +41,7 @@ no_path σ (part p o ts c) f = no_path σ p f.0
 -- ---- types
 
 mutual
-  pub typ_builds : (t : Tree) → Fits typ t → (s : Stack) → run (acts t) s ≡ Some (a_type (typ_meaning t) ∷ s)
+  pub typ_builds : (t : Tree) → Fits typ t → (s : Stack) → run (acts t) s ≡ Some (a_type (typ_start t) (typ_meaning t) ∷ s)
   typ_builds (operand low x) f s = refl
   typ_builds (operand basic x) f s = refl
   typ_builds (operand variable x) f s = no f
@@ -83,7 +83,7 @@ mutual
 -- ---- what a notation is built as
 
 -- a type is a hole of that type
-pub type_hole : (t : Tree) → is_type t ≡ true → hole (typ_meaning t) ≡ notation_meaning t
+pub type_hole : (t : Tree) → is_type t ≡ true → hole (typ_start t) (typ_meaning t) ≡ notation_meaning t
 type_hole (operand low x) h = refl
 type_hole (operand basic x) h = refl
 type_hole (operand variable x) h = no h
@@ -113,24 +113,24 @@ type_hole (bracket (update p m x) ts c) h = no h
 type_hole (bracket (below o i m x) ts c) h = no h
 type_hole (led g t) h = no h
 
-shows : (b : Bool) (t : Tree) (s : Stack) (f : Notation → Stack → Option Stack) → (b ≡ true → hole (typ_meaning t) ≡ notation_meaning t)
-    → with_notation ((if b then a_type (typ_meaning t) else whole (notation_meaning t)) ∷ s) f ≡ f (notation_meaning t) s
+shows : (b : Bool) (t : Tree) (s : Stack) (f : Notation → Stack → Option Stack) → (b ≡ true → hole (typ_start t) (typ_meaning t) ≡ notation_meaning t)
+    → with_notation ((if b then a_type (typ_start t) (typ_meaning t) else whole (notation_meaning t)) ∷ s) f ≡ f (notation_meaning t) s
 shows true t s f k = ap (λ n. f n s) (k refl)
 shows false t s f k = refl
 
 as_notation : (t : Tree) (s : Stack) (f : Notation → Stack → Option Stack) → with_notation (piece_of t ∷ s) f ≡ f (notation_meaning t) s
 as_notation t s f = shows (is_type t) t s f (type_hole t)
 
-one_of : (b : Bool) (t : Tree) → (b ≡ true → hole (typ_meaning t) ≡ notation_meaning t)
-    → the_notation ((if b then a_type (typ_meaning t) else whole (notation_meaning t)) ∷ []) ≡ Some (notation_meaning t)
+one_of : (b : Bool) (t : Tree) → (b ≡ true → hole (typ_start t) (typ_meaning t) ≡ notation_meaning t)
+    → the_notation ((if b then a_type (typ_start t) (typ_meaning t) else whole (notation_meaning t)) ∷ []) ≡ Some (notation_meaning t)
 one_of true t k = ap (λ n. Some n) (k refl)
 one_of false t k = refl
 
 pub one_notation : (t : Tree) → the_notation (piece_of t ∷ []) ≡ Some (notation_meaning t)
 one_notation t = one_of (is_type t) t (type_hole t)
 
-puts : (b : Bool) (t : Tree) (at : Span) (ns : List Notation) (s : Stack) → (b ≡ true → hole (typ_meaning t) ≡ notation_meaning t)
-    → put_part (if b then a_type (typ_meaning t) else whole (notation_meaning t)) (elements at ns ∷ s) ≡ Some (elements at (ns ++ notation_meaning t ∷ []) ∷ s)
+puts : (b : Bool) (t : Tree) (at : Span) (ns : List Notation) (s : Stack) → (b ≡ true → hole (typ_start t) (typ_meaning t) ≡ notation_meaning t)
+    → put_part (if b then a_type (typ_start t) (typ_meaning t) else whole (notation_meaning t)) (elements at ns ∷ s) ≡ Some (elements at (ns ++ notation_meaning t ∷ []) ∷ s)
 puts true t at ns s k = ap (λ n. Some (elements at (ns ++ n ∷ []) ∷ s)) (k refl)
 puts false t at ns s k = refl
 
@@ -165,7 +165,7 @@ second_of true b h = h
 second_of false b h = no h
 
 marks : (b : Bool) (t : Tree) (m : _) (n : Notation) (s : Stack) → b ≡ true
-    → with_type ((if b then a_type (typ_meaning t) else whole (notation_meaning t)) ∷ s) (λ u. put (a_type (marked m u))) ≡ Some ((if b then a_type (marked m (typ_meaning t)) else whole n) ∷ s)
+    → with_type ((if b then a_type (typ_start t) (typ_meaning t) else whole (notation_meaning t)) ∷ s) (λ at u. put (a_type at (marked at m u))) ≡ Some ((if b then a_type (typ_start t) (marked (typ_start t) m (typ_meaning t)) else whole n) ∷ s)
 marks true t m n s h = refl
 marks false t m n s h = no h
 
@@ -222,7 +222,7 @@ mutual
   notation_builds (operand literal x) f s = no f
   notation_builds (operand function x) f s = no f
   notation_builds (post t (sign m x)) f s =
-      chain (acts t) _ _ _ _ (notation_builds t f.1 s) (done (applied (action.Mark m) (piece_of t ∷ s)) ∙ marks (is_type t) t m (hole (marked m (typ_meaning t))) s (second_of (is_type_iteration_sign m) (is_type t) f.0))
+      chain (acts t) _ _ _ _ (notation_builds t f.1 s) (done (applied (action.Mark m) (piece_of t ∷ s)) ∙ marks (is_type t) t m (hole (typ_start t) (marked (typ_start t) m (typ_meaning t))) s (second_of (is_type_iteration_sign m) (is_type t) f.0))
   notation_builds (post t (dot x)) f s =
       chain (acts t) _ _ _ _ (notation_builds t f.1 s) (ap (λ p. run (action.Dot x ∷ []) (p ∷ s)) (atom_whole t (first_of (is_atom t) x.touching f.0)))
   notation_builds (post t (leaf k x)) f s = no f.0

@@ -21,16 +21,16 @@ use Rattle.st_parse_builder.proofs.NotationTallness.{tall_hole, tall_tuple, tall
 on_notation : (s u : Stack) (g : Notation × Stack → Option Stack) {P : Type 0} → option_and_then g (top_notation s) ≡ Some u
     → ((n : Notation) (r : Stack) → notation_stack_height s ≤ max (notation_height n) (notation_stack_height r) → g (n, r) ≡ Some u → P) → P
 on_notation [] u g h k = absurd (cc)
-on_notation (a_type t ∷ s) u g h k = k (hole t) s (omega (arith, tall_hole t)) h
+on_notation (a_type b t ∷ s) u g h k = k (hole b t) s (omega (arith, tall_hole b t)) h
 on_notation (whole n ∷ s) u g h k = k n s (omega arith) h
 on_notation (types at ts ∷ s) u g h k = absurd (cc)
 on_notation (elements at ns ∷ s) u g h k = absurd (cc)
 on_notation (from_place at ∷ s) u g h k = absurd (cc)
 
-on_type : (s u : Stack) (g : Typ × Stack → Option Stack) {P : Type 0} → option_and_then g (top_type s) ≡ Some u
-    → ((t : Typ) (r : Stack) → notation_stack_height s ≡ max (typ_height t) (notation_stack_height r) → g (t, r) ≡ Some u → P) → P
+on_type : (s u : Stack) (g : Span × Typ × Stack → Option Stack) {P : Type 0} → option_and_then g (top_type s) ≡ Some u
+    → ((b : Span) (t : Typ) (r : Stack) → notation_stack_height s ≡ max (typ_height t) (notation_stack_height r) → g (b, t, r) ≡ Some u → P) → P
 on_type [] u g h k = absurd (cc)
-on_type (a_type t ∷ s) u g h k = k t s refl h
+on_type (a_type b t ∷ s) u g h k = k b t s refl h
 on_type (whole n ∷ s) u g h k = absurd (cc)
 on_type (types at ts ∷ s) u g h k = absurd (cc)
 on_type (elements at ns ∷ s) u g h k = absurd (cc)
@@ -39,7 +39,7 @@ on_type (from_place at ∷ s) u g h k = absurd (cc)
 on_whole : (s u : Stack) (g : Notation × Stack → Option Stack) {P : Type 0} → option_and_then g (top_whole s) ≡ Some u
     → ((n : Notation) (r : Stack) → notation_stack_height s ≡ max (notation_height n) (notation_stack_height r) → g (n, r) ≡ Some u → P) → P
 on_whole [] u g h k = absurd (cc)
-on_whole (a_type t ∷ s) u g h k = absurd (cc)
+on_whole (a_type b t ∷ s) u g h k = absurd (cc)
 on_whole (whole n ∷ s) u g h k = k n s refl h
 on_whole (types at ts ∷ s) u g h k = absurd (cc)
 on_whole (elements at ns ∷ s) u g h k = absurd (cc)
@@ -48,7 +48,7 @@ on_whole (from_place at ∷ s) u g h k = absurd (cc)
 on_place : (s u : Stack) (g : Span × Stack → Option Stack) {P : Type 0} → option_and_then g (top_place s) ≡ Some u
     → ((at : Span) (r : Stack) → notation_stack_height s ≡ max 0 (notation_stack_height r) → g (at, r) ≡ Some u → P) → P
 on_place [] u g h k = absurd (cc)
-on_place (a_type t ∷ s) u g h k = absurd (cc)
+on_place (a_type b t ∷ s) u g h k = absurd (cc)
 on_place (whole n ∷ s) u g h k = absurd (cc)
 on_place (types at ts ∷ s) u g h k = absurd (cc)
 on_place (elements at ns ∷ s) u g h k = absurd (cc)
@@ -72,8 +72,8 @@ low_parens at (t ∷ []) = omega arith
 low_parens at (t ∷ u ∷ ts) = omega (arith, tall_tuple at (t ∷ u ∷ ts))
 
 grows_part : (p : NotationPiece) (s u : Stack) → put_part p s ≡ Some u → notation_stack_height (p ∷ s) ≤ notation_stack_height u
-grows_part (a_type t) (types at ts ∷ s) u h = grown (a_type t ∷ types at ts ∷ s) s u (max (typ_height t) (highest (map typ_height ts))) (types at (ts ++ t ∷ [])) (omega arith) (omega (arith, highest_behind typ_height ts t)) h
-grows_part (a_type t) (elements at ns ∷ s) u h = grown (a_type t ∷ elements at ns ∷ s) s u (max (notation_height (hole t)) (highest (map notation_height ns))) (elements at (ns ++ hole t ∷ [])) (omega (arith, tall_hole t)) (omega (arith, highest_behind notation_height ns (hole t))) h
+grows_part (a_type b t) (types at ts ∷ s) u h = grown (a_type b t ∷ types at ts ∷ s) s u (max (typ_height t) (highest (map typ_height ts))) (types at (ts ++ t ∷ [])) (omega arith) (omega (arith, highest_behind typ_height ts t)) h
+grows_part (a_type b t) (elements at ns ∷ s) u h = grown (a_type b t ∷ elements at ns ∷ s) s u (max (notation_height (hole b t)) (highest (map notation_height ns))) (elements at (ns ++ hole b t ∷ [])) (omega (arith, tall_hole b t)) (omega (arith, highest_behind notation_height ns (hole b t))) h
 grows_part (whole n) (elements at ns ∷ s) u h = grown (whole n ∷ elements at ns ∷ s) s u (max (notation_height n) (highest (map notation_height ns))) (elements at (ns ++ n ∷ [])) (omega arith) (omega (arith, highest_behind notation_height ns n)) h
 grows_part p s u h = absurd (cc)
 
@@ -82,7 +82,7 @@ grows_part p s u h = absurd (cc)
 pub grows : (a : Action) (s u : Stack) → applied a s ≡ Some u → notation_stack_height s ≤ notation_stack_height u
 grows (action.Operand k x) s u h = laid s u (operand_piece k x) h
 grows (action.Dot x) s u h = on_whole s u _ h (λ n r i h. grown s r u (notation_height n) (whole (atom_on n x)) (omega (arith, i)) (omega (arith, tall_atom_on n x)) h)
-grows (action.Mark m) s u h = on_type s u _ h (λ t r i h. grown s r u (typ_height t) (a_type (marked m t)) (omega (arith, i)) (omega (arith, tall_typ_marked m t)) h)
+grows (action.Mark m) s u h = on_type s u _ h (λ b t r i h. grown s r u (typ_height t) (a_type b (marked b m t)) (omega (arith, i)) (omega (arith, tall_typ_marked b m t)) h)
 grows (action.Here at) s u h = laid s u (from_place at) h
 grows (action.Prefix m) s u h = on_notation s u _ h (λ n r i h. on_place r u _ h (λ at q j h. grown s q u (notation_height n) (whole (notation_joined (notation_at at (not_node.Seq [])) m n)) (omega (arith, i, j)) (omega (arith, tall_absent at m n)) h))
 grows (action.Enclose k) s u h = on_notation s u _ h (λ n r i h. on_place r u _ h (λ at q j h. grown s q u (notation_height n) (whole (notation_at at (not_node.Bracket (tick k) n))) (omega (arith, i, j)) (omega (arith, tall_bracket at (tick k) n)) h))
@@ -90,7 +90,7 @@ grows (action.Join m) s u h = on_notation s u _ h (λ n r i h. on_notation r u _
 grows (action.Open at) s u h = laid s u (types at []) h
 grows action.First s u h = on_notation s u _ h (λ n r i h. grown s r u (notation_height n) (elements (notation_place n) (n ∷ [])) (omega (arith, i)) (omega arith) h)
 grows action.Part (p ∷ s) u h = grows_part p s u h
-grows action.EndParens (types at ts ∷ s) u h = grown (types at ts ∷ s) s u (highest (map typ_height ts)) (a_type (typ_in_parens at ts)) (omega arith) (low_parens at ts) h
+grows action.EndParens (types at ts ∷ s) u h = grown (types at ts ∷ s) s u (highest (map typ_height ts)) (a_type at (typ_in_parens at ts)) (omega arith) (low_parens at ts) h
 grows action.EndSequence (elements at ns ∷ s) u h = grown (elements at ns ∷ s) s u (highest (map notation_height ns)) (whole (notation_at at (not_node.Seq ns))) (omega arith) (omega (arith, tall_sequence at ns)) h
 grows a s u h = absurd (cc)
 
@@ -105,10 +105,10 @@ grows_all (a ∷ later) s u h = on_some (applied a s) u _ h (λ v i h. omega (ar
 -- ---- what is alone on the stack
 
 pub typ_low : (s : Stack) (t : Typ) → the_typ s ≡ Some t → notation_stack_height s ≤ typ_height t
-typ_low (a_type t ∷ []) u h = let is : t ≡ u = cc in omega (arith, ap typ_height is)
+typ_low (a_type b t ∷ []) u h = let is : t ≡ u = cc in omega (arith, ap typ_height is)
 typ_low s u h = absurd (cc)
 
 pub notation_low : (s : Stack) (n : Notation) → the_notation s ≡ Some n → notation_stack_height s ≤ notation_height n
-notation_low (a_type t ∷ []) n h = let is : hole t ≡ n = cc in omega (arith, ap notation_height is, tall_hole t)
+notation_low (a_type b t ∷ []) n h = let is : hole b t ≡ n = cc in omega (arith, ap notation_height is, tall_hole b t)
 notation_low (whole m ∷ []) n h = let is : m ≡ n = cc in omega (arith, ap notation_height is)
 notation_low s n h = absurd (cc)

@@ -1,6 +1,7 @@
 -- Building types and notations one action after another.
 use Rattle.std.proofs.Common.{arith, ◌≡◌, ℕ, ◌+◌, ◌≤◌, ◌<◌, List, [], ◌∷◌, ◌++◌, length, take, drop, get_or, reverse, Option, Some, None, Result, option_and_then, refl, sym, ap, subst, ◌∙◌}
 use Rattle.std.proofs.lemmas.List.{take_more, take_all, take-append-drop, drop_more, length-map, length-reverse}
+use Rattle.st_num.specs.declared.span.Span.{Span}
 use Rattle.st_grammar.specs.declared.sort.Sort.TheVariants.{Typ as typ, Notation as notation}
 use Rattle.st_grammar.specs.Trees.{Tree}
 use Rattle.st_grammar.specs.Grammar.{Fits}
@@ -68,10 +69,10 @@ none_left (x ∷ xs) h =
     let never : ⊥ = omega (arith, n, length-map (reverse (x ∷ xs)) (λ (e : NotationEntry). e.piece), length-reverse (x ∷ xs)) in
     absurd never
 
-pub more_than_typ : (s : Stack) (t : Typ) (entries : List NotationEntry) → s ≡ a_type t ∷ pieces entries → (entries ≡ [] → ⊥) → the_typ s ≡ None
-more_than_typ s t entries e k = ap the_typ e ∙ go (pieces entries) (λ h. k (none_left entries h))
+pub more_than_typ : (s : Stack) (b : Span) (t : Typ) (entries : List NotationEntry) → s ≡ a_type b t ∷ pieces entries → (entries ≡ [] → ⊥) → the_typ s ≡ None
+more_than_typ s b t entries e k = ap the_typ e ∙ go (pieces entries) (λ h. k (none_left entries h))
   where
-    go : (q : Stack) → (q ≡ [] → ⊥) → the_typ (a_type t ∷ q) ≡ None
+    go : (q : Stack) → (q ≡ [] → ⊥) → the_typ (a_type b t ∷ q) ≡ None
     go [] h = absurd (h refl)
     go (p ∷ q) h = refl
 
@@ -80,6 +81,6 @@ rest_of None = []
 rest_of (Some p) = p.1
 
 pub more_than_notation : (s : Stack) (n : Notation) (entries : List NotationEntry) → top_notation s ≡ Some (n, pieces entries) → (entries ≡ [] → ⊥) → the_notation s ≡ None
-more_than_notation (a_type t ∷ []) n entries e k = absurd (k (none_left entries (sym (ap rest_of e))))
+more_than_notation (a_type b t ∷ []) n entries e k = absurd (k (none_left entries (sym (ap rest_of e))))
 more_than_notation (whole m ∷ []) n entries e k = absurd (k (none_left entries (sym (ap rest_of e))))
 more_than_notation s n entries e k = refl

@@ -74,8 +74,8 @@ tall_mark : (m : Mark) (at : Span) (t : Typ) → typ_height (typ_at at (marked_n
 tall_mark mark.Question at t = tall_quest at t
 tall_mark m at t = tall_star at t
 
-pub tall_typ_marked : (m : Mark) (t : Typ) → typ_height (marked m t) ≡ typ_height t + 1
-tall_typ_marked m t = tall_mark m _ t
+pub tall_typ_marked : (at : Span) (m : Mark) (t : Typ) → typ_height (marked at m t) ≡ typ_height t + 1
+tall_typ_marked at m t = tall_mark m at t
 
 pub tall_tuple : (at : Span) (ts : List Typ) → typ_height (typ_at at (typ_node.Tuple ts)) ≡ highest (map typ_height ts) + 1
 tall_tuple at ts = search (rules, typ_lemmas)
@@ -85,8 +85,8 @@ tall_tuple at ts = search (rules, typ_lemmas)
 pub tall_atom : (at : Span) (name : List ℕ) → notation_height (notation_at at (not_node.Atom name)) ≡ 1
 tall_atom at name = search (rules, notation_lemmas)
 
-pub tall_hole : (t : Typ) → notation_height (hole t) ≡ typ_height t + 1
-tall_hole t = search (rules, notation_lemmas)
+pub tall_hole : (at : Span) (t : Typ) → notation_height (hole at t) ≡ typ_height t + 1
+tall_hole at t = search (rules, notation_lemmas)
 
 pub tall_bracket : (at : Span) (m : Mark) (n : Notation) → notation_height (notation_at at (not_node.Bracket m n)) ≡ notation_height n + 1
 tall_bracket at m n = search (rules, notation_lemmas)

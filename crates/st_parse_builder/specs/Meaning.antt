@@ -1,5 +1,5 @@
 -- The source tree that a tree of the grammar means, where it stands for an expression.
-use Rattle.std.specs.Prelude.{ℕ, List, [], ◌∷◌, ◌++◌, Bool, true, false, ◌&&◌, if◌then◌else◌, nat_le}
+use Rattle.std.specs.Prelude.{ℕ, List, [], ◌∷◌, ◌++◌, Bool, true, false, ◌&&◌, if◌then◌else◌}
 use Rattle.st_num.specs.declared.mark.Mark.{Mark}
 use Rattle.st_num.specs.declared.mark.Mark.TheVariants as mark
 use Rattle.st_num.specs.declared.span.Span.{Span}

@@ -13,7 +13,7 @@ use Rattle.st_grammar.specs.declared.sort.Bracket.{Bracket}
 use Rattle.st_grammar.specs.declared.sort.Bracket.TheVariants.{Round as round, TickRound as tick_round, TickSquare as tick_square}
 use Rattle.st_grammar.specs.Terminals.{Terminal, dot, sign}
 use Rattle.st_grammar.specs.Trees.{Tree, operand, post, times, bracket, led, Lead, left, ahead, items, Trees, none, more, Heading, plain}
-use Rattle.st_el.specs.declared.ty.Typ.{Typ, out-Typ, roll-Typ}
+use Rattle.st_el.specs.declared.ty.Typ.{Typ, roll-Typ}
 use Rattle.st_el.specs.declared.ty.TypNode.{TypNode}
 use Rattle.st_el.specs.declared.ty.TypNode.TheVariants as typ_node
 use Rattle.st_el.specs.declared.notation.Notation.{Notation, out-Notation, roll-Notation}
@@ -28,10 +28,6 @@ use Rattle.st_parse_builder.specs.Names.{name_of}
 -- the type with this node that begins there
 abbrev pub typ_at : Span → TypNode → Typ
 typ_at at n = roll-Typ (record { at = at; node = n })
-
--- where a type begins
-abbrev pub typ_place : Typ → Span
-typ_place t = (out-Typ t).at
 
 -- what stands for a type that the grammar does not allow
 abbrev pub no_typ : Typ
@@ -50,16 +46,23 @@ abbrev pub marked_node : Mark → Typ → TypNode
 marked_node mark.Question t = typ_node.Quest t
 marked_node m t = typ_node.Star t
 
--- a type with an iteration sign behind it, placed where the type begins
-abbrev pub marked : Mark → Typ → Typ
-marked m t = typ_at (typ_place t) (marked_node m t)
+-- a type with an iteration sign behind it, which begins there
+abbrev pub marked : Span → Mark → Typ → Typ
+marked at m t = typ_at at (marked_node m t)
 
 -- the same for a token of the grammar, which is such a sign or is not allowed there
-abbrev pub marked_by : Terminal → Typ → Typ
-marked_by (sign m x) t = marked m t
-marked_by l t = no_typ
+abbrev pub marked_by : Span → Terminal → Typ → Typ
+marked_by at (sign m x) t = marked at m t
+marked_by at l t = no_typ
 
--- Parentheses round one type mean that type, at its own place.
+-- where the text of a type begins, which is with the parentheses round it
+abbrev pub typ_start : Tree → Span
+typ_start (operand k x) = x.at
+typ_start (post t l) = typ_start t
+typ_start (bracket (plain k o) ts c) = o.at
+typ_start t = nowhere
+
+-- Parentheses round one type alone mean that type, at its own place.
 abbrev pub typ_in_parens : Span → List Typ → Typ
 typ_in_parens at (t ∷ []) = t
 typ_in_parens at ts = typ_at at (typ_node.Tuple ts)
@@ -68,7 +71,7 @@ abbrev mutual
   -- the type that a tree means
   pub typ_meaning : Tree → Typ
   typ_meaning (operand k x) = typ_at x.at (typ_leaf x.kind)
-  typ_meaning (post t l) = marked_by l (typ_meaning t)
+  typ_meaning (post t l) = marked_by (typ_start t) l (typ_meaning t)
   typ_meaning (bracket (plain round o) ts c) = typ_in_parens o.at (typ_meanings ts)
   typ_meaning t = no_typ
 
@@ -91,14 +94,14 @@ notation_place n = (out-Notation n).at
 abbrev pub no_notation : Notation
 no_notation = notation_at nowhere (not_node.Seq [])
 
--- a type as a part of a notation, where an operand of that type goes
-abbrev pub hole : Typ → Notation
-hole t = notation_at (typ_place t) (not_node.Hole t)
+-- a type as a part of a notation that begins there, where an operand of that type goes
+abbrev pub hole : Span → Typ → Notation
+hole at t = notation_at at (not_node.Hole t)
 
 -- In a notation a name without a lower-case letter is an atom, declared by `var` or not.
 abbrev pub notation_leaf : Leaf → Token → Notation
-notation_leaf low x = hole (typ_at x.at (typ_leaf x.kind))
-notation_leaf basic x = hole (typ_at x.at (typ_leaf x.kind))
+notation_leaf low x = hole x.at (typ_at x.at (typ_leaf x.kind))
+notation_leaf basic x = hole x.at (typ_at x.at (typ_leaf x.kind))
 notation_leaf k x = notation_at x.at (not_node.Atom (name_of x.kind))
 
 -- An atom goes on with the name behind a dot, and nothing else does.
@@ -111,11 +114,11 @@ abbrev pub atom_on : Notation → Token → Notation
 atom_on n x =
     notation_at (notation_place n) (spelled_on (out-NotNode (out-Notation n).node) (name_of x.kind))
 
--- The iteration signs behind a type, whose meaning is the first, are part of it.
-abbrev pub notation_posted : Typ → Notation → Terminal → Notation
-notation_posted t n (sign m x) = hole (marked m t)
-notation_posted t n (dot x) = atom_on n x
-notation_posted t n l = no_notation
+-- The iteration signs behind a type, whose start and meaning come first, are part of it.
+abbrev pub notation_posted : Span → Typ → Notation → Terminal → Notation
+notation_posted at t n (sign m x) = hole at (marked at m t)
+notation_posted at t n (dot x) = atom_on n x
+notation_posted at t n l = no_notation
 
 -- the sign that names backquoted brackets, which is the opening one
 abbrev pub tick : Bracket → Mark
@@ -130,7 +133,7 @@ only_notation ns = no_notation
 
 -- a bracket in a notation: parentheses are a type, and backquoted ones hold one notation
 abbrev pub notation_bracketed : Heading → List Typ → List Notation → Notation
-notation_bracketed (plain round o) ts ns = hole (typ_in_parens o.at ts)
+notation_bracketed (plain round o) ts ns = hole o.at (typ_in_parens o.at ts)
 notation_bracketed (plain k o) ts ns =
     notation_at o.at (not_node.Bracket (tick k) (only_notation ns))
 notation_bracketed h ts ns = no_notation
@@ -152,7 +155,8 @@ abbrev mutual
   -- the notation that a tree means
   pub notation_meaning : Tree → Notation
   notation_meaning (operand k x) = notation_leaf k x
-  notation_meaning (post t l) = notation_posted (typ_meaning t) (notation_meaning t) l
+  notation_meaning (post t l) =
+      notation_posted (typ_start t) (typ_meaning t) (notation_meaning t) l
   notation_meaning (bracket h ts c) = notation_bracketed h (typ_meanings ts) (notation_meanings ts)
   notation_meaning (led g t) = notation_led g (notation_meaning t)
   notation_meaning (times t m x c) = no_notation

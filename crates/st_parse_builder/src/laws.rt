@@ -12,7 +12,7 @@ ghost use Rattle.st_grammar.specs.Reading.{State, step, reads, start};
 ghost use Rattle.st_parse_builder.specs.declared.piece.Piece.TheVariants.{Done};
 ghost use Rattle.st_parse_builder.specs.declared.notation_piece.NotationPiece.TheVariants.{Hole};
 ghost use Rattle.st_parse_builder.specs.Meaning.{meaning};
-ghost use Rattle.st_parse_builder.specs.Notations.{typ_meaning};
+ghost use Rattle.st_parse_builder.specs.Notations.{typ_start, typ_meaning};
 ghost use Rattle.st_parse_builder.specs.inner.NotationBuilding as notations;
 ghost use Rattle.st_parse_builder.specs.Definitions.{Parse};
 ghost use Rattle.st_parse_builder.specs.inner.Actions.{acts};
@@ -40,7 +40,8 @@ pub fn parts_are_built()
 #[tactic(auto, using(crate::proofs::NotationBuilds::typ_builds))]
 pub fn types_are_built()
     ensures { (t : Tree) (s : notations.Stack)
-        → Fits typ t → notations.run (acts t) s ≡ Some (Hole (typ_meaning t) ∷ s) }
+        → Fits typ t
+        → notations.run (acts t) s ≡ Some (Hole (typ_start t) (typ_meaning t) ∷ s) }
 {}
 
 /// The actions of a notation that the grammar allows put its meaning on the stack, as a type where

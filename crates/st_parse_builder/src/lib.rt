@@ -35,6 +35,6 @@ pub use laws::{
     types_are_built,
 };
 pub use leaf::{copy_name, name_of};
-pub use notation_builder::{build_notation, build_typ};
+pub use notation_builder::{build_hole, build_notation, build_typ};
 pub use notation_piece::NotationPiece;
 pub use piece::Piece;

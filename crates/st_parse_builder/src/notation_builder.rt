@@ -9,9 +9,10 @@ ghost use Rattle.st_parse_builder.specs.inner.PieceHeights as piece_heights;
 ghost use Rattle.st_parse_builder.specs.inner.Actions.{acts};
 ghost use Rattle.st_parse_builder.specs.Notations.{typ_meaning, notation_meaning};
 ghost use Rattle.st_parse_builder.specs.inner.NotationBuilding.{applied, run, the_typ, the_notation, typ_built, notation_built};
-ghost use Rattle.st_parse_builder.specs.inner.NotationAnswers.{pieces, Makes, Fails, Builds};
+ghost use Rattle.st_parse_builder.specs.inner.NotationAnswers.{pieces, Makes, Fails, Builds, BuildsHole};
 
 use crate::notation_entry::{NotationEntry, NotationMade};
+use crate::notation_form::hole;
 use crate::notation_make::{
     end_elements, end_types, first_element, leaf_part, next_part, notation_dot, notation_enclose,
     notation_join, notation_prefix, typ_mark,
@@ -127,6 +128,19 @@ fn only_typ(stack: &mut Row<NotationEntry>) -> Result<Typ, BuildFault>
     Ok(top.typ)
 }
 
+/// The one type on the stack, as a notation.
+fn only_hole(stack: &mut Row<NotationEntry>) -> Result<Notation, BuildFault>
+    ensures { BuildsHole (the_typ (pieces stack.old)) (the_notation (pieces stack.old)) result }
+{
+    let Some(top) = take_type(stack) else {
+        return Err(BuildFault::Unfit);
+    };
+    if !stack.is_empty() {
+        return Err(BuildFault::Unfit);
+    }
+    Ok(hole(top.at, top.typ))
+}
+
 /// The one notation on the stack.
 fn only_notation(stack: &mut Row<NotationEntry>) -> Result<Notation, BuildFault>
     ensures { Builds tall.notation_height (the_notation (pieces stack.old)) result }
@@ -151,6 +165,15 @@ pub fn build_typ(alloc: Global, actions: &[Action<'_>]) -> Result<Typ, BuildFaul
 {
     let mut stack = apply_all(alloc, actions)?;
     only_typ(&mut stack)
+}
+
+/// Builds the notation of these actions, which are those of a type alone. A type higher than 100 is
+/// not built.
+pub fn build_hole(alloc: Global, actions: &[Action<'_>]) -> Result<Notation, BuildFault>
+    ensures { BuildsHole (typ_built actions.now) (notation_built actions.now) result }
+{
+    let mut stack = apply_all(alloc, actions)?;
+    only_hole(&mut stack)
 }
 
 /// Builds the notation of these actions. One higher than 100 is not built.

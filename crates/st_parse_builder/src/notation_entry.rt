@@ -26,9 +26,10 @@ pub struct NotationMade {
     ghost low: { height ≤ 102 },
 }
 
-/// A finished type and its height.
+/// A finished type, where its text begins, and its height.
 #[derive(Drop)]
 pub struct TallTyp {
+    pub at: Span,
     pub typ: Typ,
     pub height: u8,
     ghost measured: { height ≡ tall.typ_height typ },

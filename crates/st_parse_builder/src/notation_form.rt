@@ -48,11 +48,10 @@ pub(crate) fn atom_of(alloc: Global, token: &Token) -> Result<Notation, NoMemory
     })
 }
 
-/// A type as a part of a notation.
-pub(crate) fn hole(typ: Typ) -> Notation
-    ensures { result ≡ notations.hole typ }
+/// A type as a part of a notation that begins there.
+pub(crate) fn hole(at: Span, typ: Typ) -> Notation
+    ensures { result ≡ notations.hole at typ }
 {
-    let at = typ.at;
     Notation {
         at,
         node: NotNode::Hole(typ),
@@ -60,10 +59,9 @@ pub(crate) fn hole(typ: Typ) -> Notation
 }
 
 /// An iterated type.
-pub(crate) fn marked(alloc: Global, mark: Mark, typ: Typ) -> Result<Typ, NoMemory>
-    ensures { IfOk result (λ whole. whole ≡ notations.marked mark typ) }
+pub(crate) fn marked(alloc: Global, at: Span, mark: Mark, typ: Typ) -> Result<Typ, NoMemory>
+    ensures { IfOk result (λ whole. whole ≡ notations.marked at mark typ) }
 {
-    let at = typ.at;
     let typ = Boxed::new(alloc, typ)?;
     let node = match mark {
         Mark::Question => TypNode::Quest(typ),

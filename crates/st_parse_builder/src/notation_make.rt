@@ -19,7 +19,7 @@ use crate::notation_form::{
 use crate::notation_pieces::{take, take_notation, take_place, take_type, take_whole};
 use st_el::{NotNode, Notation, Typ, TypNode};
 use st_grammar::{Bracket, Leaf};
-use st_num::{Mark, NoMemory, Row};
+use st_num::{Mark, NoMemory, Row, Span};
 use st_scan::Token;
 use std::alloc::Global;
 
@@ -31,14 +31,14 @@ fn above(parts: u8) -> u8
     parts + 1
 }
 
-/// A finished type.
-fn made_typ(typ: Typ, height: u8) -> NotationMade
+/// A finished type that begins there.
+fn made_typ(at: Span, typ: Typ, height: u8) -> NotationMade
     requires measured { height ≡ tall.typ_height typ }
     requires low { height ≤ 101 }
-    ensures { result.piece ≡ piece.Hole typ }
+    ensures { result.piece ≡ piece.Hole at typ }
 {
     NotationMade {
-        piece: NotationPiece::Hole(typ),
+        piece: NotationPiece::Hole(at, typ),
         height,
     }
 }
@@ -61,7 +61,7 @@ pub(crate) fn leaf_part(alloc: Global, leaf: Leaf, token: &Token) -> Result<Nota
     ensures { IfOk result (λ made. made.piece ≡ operand_piece leaf token.now) }
 {
     match leaf {
-        Leaf::Low | Leaf::Basic => Ok(made_typ(typ_of(alloc, token)?, 1)),
+        Leaf::Low | Leaf::Basic => Ok(made_typ(token.at, typ_of(alloc, token)?, 1)),
         Leaf::Variable | Leaf::Atom | Leaf::Number | Leaf::Literal | Leaf::Function => Ok(
             made_whole(atom_of(alloc, token)?, 1),
         ),
@@ -98,8 +98,8 @@ pub(crate) fn typ_mark(
     let Some(top) = take_type(stack) else {
         return Ok(None);
     };
-    let typ = marked(alloc, mark, top.typ)?;
-    Ok(Some(made_typ(typ, above(top.height))))
+    let typ = marked(alloc, top.at, mark, top.typ)?;
+    Ok(Some(made_typ(top.at, typ, above(top.height))))
 }
 
 /// Puts a sign before the part on top.
@@ -216,17 +216,17 @@ fn more_elements(before: TallElements, top: TallNotation) -> Result<NotationMade
 /// A type as a notation.
 #[tactic(auto, using(crate::proofs::NotationTallness::tall_hole))]
 fn tall_hole(top: TallTyp) -> TallNotation
-    ensures { result.notation ≡ notations.hole top.typ }
+    ensures { result.notation ≡ notations.hole top.at top.typ }
 {
     let height = above(top.height);
-    let notation = hole(top.typ);
+    let notation = hole(top.at, top.typ);
     TallNotation { notation, height }
 }
 
 /// Puts a type behind the types or elements on top.
 fn part_type(stack: &mut Row<NotationEntry>, top: TallTyp) -> Result<Option<NotationMade>, NoMemory>
     ensures { IfOk result (λ made.
-        Makes (put_part (piece.Hole top.typ) (pieces stack.old)) (pieces stack.new) made) }
+        Makes (put_part (piece.Hole top.at top.typ) (pieces stack.old)) (pieces stack.new) made) }
 {
     let Some(NotationEntry { piece, height }) = take(stack) else {
         return Ok(None);
@@ -244,7 +244,7 @@ fn part_type(stack: &mut Row<NotationEntry>, top: TallTyp) -> Result<Option<Nota
             };
             Ok(Some(more_elements(before, tall_hole(top))?))
         }
-        NotationPiece::Hole(_) | NotationPiece::Whole(_) | NotationPiece::From(_) => Ok(None),
+        NotationPiece::Hole(_, _) | NotationPiece::Whole(_) | NotationPiece::From(_) => Ok(None),
     }
 }
 
@@ -269,7 +269,7 @@ fn part_whole(
             top,
         )?)),
         NotationPiece::Types(_, _)
-        | NotationPiece::Hole(_)
+        | NotationPiece::Hole(_, _)
         | NotationPiece::Whole(_)
         | NotationPiece::From(_) => Ok(None),
     }
@@ -284,7 +284,7 @@ pub(crate) fn next_part(stack: &mut Row<NotationEntry>) -> Result<Option<Notatio
         return Ok(None);
     };
     match piece {
-        NotationPiece::Hole(typ) => part_type(stack, TallTyp { typ, height }),
+        NotationPiece::Hole(at, typ) => part_type(stack, TallTyp { at, typ, height }),
         NotationPiece::Whole(notation) => part_whole(stack, TallNotation { notation, height }),
         NotationPiece::Types(_, _) | NotationPiece::Elements(_, _) | NotationPiece::From(_) => Ok(
             None,
@@ -295,7 +295,7 @@ pub(crate) fn next_part(stack: &mut Row<NotationEntry>) -> Result<Option<Notatio
 /// One type in parentheses, or a tuple.
 #[tactic(auto, using(crate::proofs::NotationTallness::tall_tuple))]
 fn typ_in_parens(top: TallTypes) -> NotationMade
-    ensures { result.piece ≡ piece.Hole (notations.typ_in_parens top.at top.types) }
+    ensures { result.piece ≡ piece.Hole top.at (notations.typ_in_parens top.at top.types) }
 {
     let TallTypes {
         at,
@@ -304,14 +304,14 @@ fn typ_in_parens(top: TallTypes) -> NotationMade
     } = top;
     if types.len() == 1 {
         if let Some(typ) = types.pop() {
-            return made_typ(typ, height);
+            return made_typ(at, typ, height);
         }
     }
     let typ = Typ {
         at,
         node: TypNode::Tuple(types),
     };
-    made_typ(typ, above(height))
+    made_typ(at, typ, above(height))
 }
 
 /// Ends types in parentheses.
@@ -324,7 +324,7 @@ pub(crate) fn end_types(stack: &mut Row<NotationEntry>) -> Option<NotationMade>
     match piece {
         NotationPiece::Types(at, types) => Some(typ_in_parens(TallTypes { at, types, height })),
         NotationPiece::Elements(_, _)
-        | NotationPiece::Hole(_)
+        | NotationPiece::Hole(_, _)
         | NotationPiece::Whole(_)
         | NotationPiece::From(_) => None,
     }
@@ -344,7 +344,7 @@ pub(crate) fn end_elements(stack: &mut Row<NotationEntry>) -> Option<NotationMad
             Some(made_whole(Notation { at, node }, above(height)))
         }
         NotationPiece::Types(_, _)
-        | NotationPiece::Hole(_)
+        | NotationPiece::Hole(_, _)
         | NotationPiece::Whole(_)
         | NotationPiece::From(_) => None,
     }

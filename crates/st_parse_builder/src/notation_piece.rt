@@ -6,8 +6,8 @@ use st_num::{Row, Span};
 /// A piece of a type or a notation that is built.
 #[derive(Drop)]
 pub enum NotationPiece {
-    /// A finished type, which may be iterated further.
-    Hole(Typ),
+    /// A finished type, which may be iterated further, and where its text begins.
+    Hole(Span, Typ),
     /// A finished notation that is no type alone.
     Whole(Notation),
     /// Types in parentheses so far, and where they begin.

@@ -30,13 +30,13 @@ pub(crate) fn take(stack: &mut Row<NotationEntry>) -> Option<NotationEntry>
 pub(crate) fn take_type(stack: &mut Row<NotationEntry>) -> Option<TallTyp>
     ensures { MatchOption result
         (top_type (pieces stack.old) ≡ None)
-        (λ top. pieces stack.old ≡ piece.Hole top.typ ∷ pieces stack.new) }
+        (λ top. pieces stack.old ≡ piece.Hole top.at top.typ ∷ pieces stack.new) }
 {
     let Some(NotationEntry { piece, height }) = take(stack) else {
         return None;
     };
     match piece {
-        NotationPiece::Hole(typ) => Some(TallTyp { typ, height }),
+        NotationPiece::Hole(at, typ) => Some(TallTyp { at, typ, height }),
         NotationPiece::Whole(_)
         | NotationPiece::Types(_, _)
         | NotationPiece::Elements(_, _)
@@ -55,7 +55,7 @@ pub(crate) fn take_whole(stack: &mut Row<NotationEntry>) -> Option<TallNotation>
     };
     match piece {
         NotationPiece::Whole(notation) => Some(TallNotation { notation, height }),
-        NotationPiece::Hole(_)
+        NotationPiece::Hole(_, _)
         | NotationPiece::Types(_, _)
         | NotationPiece::Elements(_, _)
         | NotationPiece::From(_) => None,
@@ -73,9 +73,9 @@ pub(crate) fn take_notation(stack: &mut Row<NotationEntry>) -> Option<TallNotati
         return None;
     };
     match piece {
-        NotationPiece::Hole(typ) => {
+        NotationPiece::Hole(at, typ) => {
             let height = height + 1;
-            let notation = hole(typ);
+            let notation = hole(at, typ);
             Some(TallNotation { notation, height })
         }
         NotationPiece::Whole(notation) => Some(TallNotation { notation, height }),
@@ -94,7 +94,7 @@ pub(crate) fn take_place(stack: &mut Row<NotationEntry>) -> Option<Span>
     };
     match piece {
         NotationPiece::From(at) => Some(at),
-        NotationPiece::Hole(_)
+        NotationPiece::Hole(_, _)
         | NotationPiece::Whole(_)
         | NotationPiece::Types(_, _)
         | NotationPiece::Elements(_, _) => None,

@@ -1,5 +1,5 @@
 -- Marks, and vectors that were written whole.
-use Rattle.std.proofs.Common.{◌≡◌, refl, sym, ap, ◌∙◌, ℕ, zero, suc, ◌+◌, ◌<◌, List, [], ◌∷◌, ◌++◌, length, set, take, drop, Bool, true, false, arith}
+use Rattle.std.proofs.Common.{◌≡◌, refl, sym, ap, ◌∙◌, ℕ, zero, suc, ◌<◌, List, [], ◌∷◌, ◌++◌, length, set, take, drop, Bool, true, false, arith}
 use Rattle.std.proofs.lemmas.List.{drop_all}
 use Rattle.st_type_table.specs.inner.Graph.{mark, unmarked}
 

@@ -23,7 +23,7 @@ use Rattle.st_type_table.specs.inner.Graph.{place_of}
 use Rattle.st_type_table.specs.Keys.{KeysDiffer}
 use Rattle.st_type_table.specs.inner.Flat.{IsFlat, IsFlatAt, IsFlatOf, AllReady, IsBroken, AddsIncluded, AddsAlternative, Adds}
 use Rattle.st_type_table.proofs.PlaceLemmas.{placed, unplaced, names-Name}
-use Rattle.st_type_table.proofs.KeyLemmas.{KeysDiffer-front, KeysDiffer-back}
+use Rattle.st_type_table.proofs.KeyLemmas.{KeysDiffer-back}
 
 -- ---- flattening, from the front
 

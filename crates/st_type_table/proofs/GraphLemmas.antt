@@ -1,6 +1,6 @@
 -- Ranks of places: one rank more, and that where no more can be ranked all that end are.
-use Rattle.std.proofs.Common.{◌≡◌, ◌≢◌, refl, sym, ap, ◌∙◌, subst, ℕ, zero, suc, ◌+◌, ◌<◌, ◌≤◌, List, [], ◌∷◌, length, get_or, set, Option, Some, None, arith, inl, inr, ◌⊎◌, get_or-set_other, get_or-set_same, add-one, replicate}
-use Rattle.std.specs.Prelude.{slice_get, slice_index, IsTrue, false}
+use Rattle.std.proofs.Common.{◌≡◌, ◌≢◌, refl, sym, ap, ◌∙◌, subst, ℕ, zero, suc, ◌<◌, ◌≤◌, List, [], ◌∷◌, length, get_or, set, Option, Some, None, arith, inl, inr, ◌⊎◌, get_or-set_other, get_or-set_same, replicate}
+use Rattle.std.specs.Prelude.{slice_get, slice_index}
 use Rattle.st_type_table.specs.inner.Graph.{Graph, EndsAt, IsOne, AllRanked, IsClosed, SoFar, AreRanks, ranked}
 
 pub same_place : (i j : ℕ) → (i ≡ j) ⊎ (i ≢ j)

@@ -1,6 +1,6 @@
 -- Keys of tags, and lists of cases whose keys differ.
-use Rattle.std.proofs.Common.{◌≡◌, ◌↔◌, refl, sym, ap, ◌∙◌, subst, ℕ, List, [], ◌∷◌, ◌++◌, Bool, Option, Some, None, inl, inr}
-use Rattle.std.specs.Prelude.{IsTrue, IfSome, IfNone}
+use Rattle.std.proofs.Common.{◌≡◌, refl, sym, ap, ◌∙◌, ℕ, List, [], ◌∷◌, ◌++◌, Option, Some, None, inl, inr}
+use Rattle.std.specs.Prelude.{IfSome, IfNone}
 use Rattle.std.specs.List.{AllByRecursion}
 use Rattle.st_il.specs.declared.template.Template.{Template}
 use Rattle.st_il.specs.Template.{HasTag, HasOneTemplate}

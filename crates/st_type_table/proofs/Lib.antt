@@ -6,14 +6,17 @@ pub mod GraphLemmas
 pub mod BackLemmas
 pub mod RankingLemmas
 pub mod PlaceLemmas
+pub mod IndexLemmas
 pub mod JoinLemmas
 pub mod KeyLemmas
 pub mod CaseKeyLemmas
+pub mod KeySetLemmas
 pub mod FlatLemmas
 pub mod RankLemmas
 pub mod CheckLemmas
 pub mod ReachLemmas
 pub mod SearchLemmas
+pub mod CircleLemmas
 pub mod PartLemmas
 pub mod PartsLemmas
 pub mod Ranks
@@ -22,3 +25,6 @@ pub mod Measure
 pub mod FillLemmas
 pub mod FewLemmas
 pub mod SameLemmas
+pub mod FormLemmas
+pub mod SameNumberLemmas
+pub mod NumberingLemmas

@@ -17,7 +17,7 @@ use Rattle.st_type_table.specs.declared.fault.Broken.{Broken}
 use Rattle.st_type_table.specs.Leads.{Among, Ends, included, joined, names_in, leads_to}
 use Rattle.st_type_table.specs.inner.Flat.{IsReached, IsEndless}
 use Rattle.st_type_table.specs.inner.Graph.{graph_of, place_of, places_of, LeadsAt, LeadsBack, mark}
-use Rattle.st_type_table.specs.Breach.{Holds, keys, placed, broken, Finds, FindsAt, AllHold, all_declared, on_alias, on_included, on_alternative, on_alternatives, on_field, on_fields, on_body, on_parts, run, conditions_on, new_name}
+use Rattle.st_type_table.specs.Breach.{Holds, keys, placed, broken, Finds, FindsAt, all_declared, on_alias, on_included, on_alternative, on_alternatives, on_field, on_fields, on_body, on_parts, run, conditions_on, new_name}
 use Rattle.st_type_table.specs.inner.Checking.{Returns, ChecksAt, CheckedAt, part_count}
 use Rattle.st_type_table.proofs.PlaceLemmas.{unplaced, node_at, place-among, LeadsAt-Leads, Leads-LeadsAt}
 use Rattle.st_type_table.proofs.FlatLemmas.{append_nil, take-suc}

@@ -1,9 +1,9 @@
 -- The walk that ranks definitions: what each step keeps, and that no more can be ranked at the end.
-use Rattle.std.proofs.Common.{◌≡◌, ◌≢◌, refl, sym, ap, ◌∙◌, subst, ℕ, zero, suc, ◌+◌, ◌<◌, ◌≤◌, List, [], ◌∷◌, ◌++◌, length, get_or, set, take, replicate, length-append, ◌*◌, ◌-◌, Bool, true, false, Option, Some, None, arith, inl, inr, ◌⊎◌, get_or-set_other, get_or-set_same}
+use Rattle.std.proofs.Common.{◌≡◌, ◌≢◌, refl, sym, ap, ◌∙◌, subst, ℕ, zero, suc, ◌+◌, ◌<◌, ◌≤◌, List, [], ◌∷◌, ◌++◌, length, set, take, replicate, length-append, ◌*◌, ◌-◌, Bool, true, false, Option, Some, None, arith, inl, inr, ◌⊎◌, get_or-set_other, get_or-set_same}
 use Rattle.std.proofs.lemmas.List.{length-set, length-replicate}
 use Rattle.std.proofs.lemmas.Option.{slice_get_within, slice_get-get_or}
 use Rattle.std.specs.Prelude.{slice_get, slice_index, MatchOption}
-use Rattle.st_type_table.specs.inner.Graph.{Graph, IsOne, AllRanked, IsClosed, SoFar, mark, unmarked}
+use Rattle.st_type_table.specs.inner.Graph.{Graph, IsOne, AllRanked, IsClosed, mark, unmarked}
 use Rattle.st_type_table.specs.inner.Ranking.{WaitsFor, OnPath, IsStuck, IsRanking, RankedTo, MarksMore, ComesTo, Advances}
 use Rattle.st_type_table.proofs.GraphLemmas.{same_place, ranked-lt, SoFar-set, SoFar-start, zero-at}
 use Rattle.st_type_table.proofs.BackLemmas.{unmarked-set}

@@ -19,7 +19,7 @@ module _ (defs : List SyntaxDef) where
   pub to : (a u : Ty) (l : Ty-F Ty) → Means defs a u → out-Ty u ≡ l → Means defs a (roll-Ty l)
   to a u l m p = subst (Means defs a) (sym (roll-out-Ty u) ∙ ap roll-Ty p) m
 
-  same-closed_by : (a b : Ty) (l k : Ty-F Ty) → Means defs a (roll-Ty l) → Means defs b (roll-Ty k) → SameAt defs l k → Same defs a b
+  pub same-closed_by : (a b : Ty) (l k : Ty-F Ty) → Means defs a (roll-Ty l) → Means defs b (roll-Ty k) → SameAt defs l k → Same defs a b
   same-closed_by a b Ty-F.Bool Ty-F.Bool m n s = Same.equal _ m n
   same-closed_by a b Ty-F.Nat Ty-F.Nat m n s = Same.equal _ m n
   same-closed_by a b Ty-F.Int Ty-F.Int m n s = Same.equal _ m n

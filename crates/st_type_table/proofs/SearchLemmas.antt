@@ -1,10 +1,10 @@
 -- The search for what leads to a definition: what each step keeps.
-use Rattle.std.proofs.Common.{◌≡◌, ◌≢◌, ◌↔◌, refl, sym, ap, ◌∙◌, subst, ℕ, zero, suc, ◌+◌, ◌*◌, ◌<◌, ◌≤◌, List, [], ◌∷◌, ◌++◌, length, set, take, replicate, length-append, add-one, Bool, true, false, Option, Some, None, arith, inl, inr, ◌⊎◌}
+use Rattle.std.proofs.Common.{◌≡◌, ◌≢◌, ◌↔◌, refl, sym, ap, ◌∙◌, subst, ℕ, zero, suc, ◌+◌, ◌<◌, ◌≤◌, List, [], ◌∷◌, ◌++◌, length, set, take, replicate, length-append, add-one, Bool, true, false, Some, None, arith, inl, inr, ◌⊎◌}
 use Rattle.std.proofs.lemmas.List.{length-set, length-replicate}
 use Rattle.std.proofs.lemmas.Option.{slice_get_within, slice_get-get_or}
 use Rattle.std.specs.Prelude.{slice_get, slice_index}
-use Rattle.st_type_table.specs.inner.Graph.{Graph, IsOne, LeadsAt, mark, unmarked}
-use Rattle.st_type_table.specs.inner.Ranking.{WaitsFor, OnPath, MarksMore}
+use Rattle.st_type_table.specs.inner.Graph.{Graph, IsOne, LeadsAt, mark}
+use Rattle.st_type_table.specs.inner.Ranking.{WaitsFor, OnPath}
 use Rattle.st_type_table.specs.inner.Search.{Arrows, AddsArrow, AddsArrows, IsReversedTo, IsReversed, IsSearch, MarksAll, MarksOne}
 use Rattle.st_type_table.proofs.GraphLemmas.{same_place}
 use Rattle.st_type_table.proofs.BackLemmas.{unmarked-set}

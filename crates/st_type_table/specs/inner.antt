@@ -1,11 +1,15 @@
 -- What the making of the table keeps, for its proofs alone.
 pub mod Graph
+pub mod Index
 pub mod Ranking
 pub mod Search
 pub mod CaseKeys
+pub mod KeySets
 pub mod Flat
 pub mod Kept
 pub mod JoinGraph
 pub mod Survey
 pub mod Checking
 pub mod SameLevels
+pub mod Forms
+pub mod Numbering

@@ -1,5 +1,6 @@
 //! The conditions on the parts of definitions, a run of parts at a time.
 
+use crate::definitions::Definitions;
 use crate::fault::Broken;
 use crate::parts::check_parts;
 use crate::survey::{Survey, survey_of};
@@ -11,7 +12,7 @@ use std::marker::Model;
 /// Definitions of syntaxes, some of which may break a rule. Contracts see them as they were given.
 #[derive(Drop)]
 pub struct Bodies<'a> {
-    defs: &'a [SyntaxDef],
+    defs: Definitions<'a>,
     survey: Survey,
 }
 
@@ -26,9 +27,9 @@ impl<'a> Model for Bodies<'a> {
 
     ghost coded = { Prim.hlevel (codes, ty.the_row.coded) };
 
-    ghost view = { λ b. b.defs.now };
+    ghost view = { λ b. b.defs };
 
-    ghost invariant = { λ b. IsSurvey b.defs.now b.survey };
+    ghost invariant = { λ b. IsSurvey b.defs b.survey };
 }
 
 impl<'a> Bodies<'a> {
@@ -39,8 +40,8 @@ impl<'a> Bodies<'a> {
     pub fn of(alloc: Global, defs: &'a Row<SyntaxDef>) -> Result<Bodies<'a>, NoMemory>
         ensures { IfOk result (λ bodies. bodies ≡ defs.now) }
     {
-        let defs = defs.as_slice();
-        let survey = survey_of(alloc, defs)?;
+        let defs = Definitions::of(alloc, defs.as_slice())?;
+        let survey = survey_of(alloc, &defs)?;
         Ok(Bodies { defs, survey })
     }
 
@@ -57,7 +58,7 @@ impl<'a> Bodies<'a> {
         requires before { FindsAt self.now syntax 0 from None }
         ensures { IfOk result (λ found. FindsAt self.now syntax from to found) }
     {
-        let found = check_parts(alloc, self.defs, &self.survey, syntax, from, to)?;
+        let found = check_parts(alloc, &self.defs, &self.survey, syntax, from, to)?;
         Ok(found)
     }
 }

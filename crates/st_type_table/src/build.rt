@@ -8,6 +8,7 @@ ghost use Rattle.st_type_table.specs.inner.Kept.{IsKept, defs_of, kept_of};
 ghost use Rattle.std.specs.Cmp.Lexicographic.{pointwise};
 ghost use Rattle.indexmap.specs.IndexMap.{insert_entry};
 
+use crate::definitions::Definitions;
 use crate::entry::{Entries, Entry};
 use crate::fault::TypeFault;
 use crate::flat::Flat;
@@ -50,7 +51,7 @@ fn has_few_parts(body: &SyntaxBody) -> bool
 }
 
 /// Whether all conditions hold, or the first that is false.
-fn check_all(alloc: Global, defs: &[SyntaxDef], survey: &Survey) -> Result<(), TypeFault>
+fn check_all(alloc: Global, defs: &Definitions, survey: &Survey) -> Result<(), TypeFault>
     requires survey { IsSurvey defs.now survey.now }
     requires few { length defs.now < 2 ^ 32 }
     ensures ok { OnOk result (IsSound defs.now) }
@@ -78,17 +79,18 @@ pub(crate) fn entries_of(alloc: Global, defs: &[SyntaxDef]) -> Result<Entries, T
     ensures refused { (s : ℕ) (b : Broken) → result ≡ Err (TypeFault.Refused s b)
         → FirstBreach defs.now s b }
 {
-    let survey = survey_of(alloc, defs)?;
-    match check_all(alloc, defs, &survey) {
+    let defs = Definitions::of(alloc, defs)?;
+    let survey = survey_of(alloc, &defs)?;
+    match check_all(alloc, &defs, &survey) {
         Ok(()) => {}
         Err(fault) => return Err(fault),
     }
-    let entries = settled_entries(alloc, defs, &survey)?;
+    let entries = settled_entries(alloc, &defs, &survey)?;
     Ok(entries)
 }
 
 /// What is kept of definitions that break no rule.
-fn settled_entries(alloc: Global, defs: &[SyntaxDef], survey: &Survey) -> Result<Entries, NoMemory>
+fn settled_entries(alloc: Global, defs: &Definitions, survey: &Survey) -> Result<Entries, NoMemory>
     requires survey { IsSurvey defs.now survey.now }
     requires sound { IsSound defs.now }
     ensures kept { IfOk result (λ map. IsKept map.entries) }
@@ -105,7 +107,7 @@ fn settled_entries(alloc: Global, defs: &[SyntaxDef], survey: &Survey) -> Result
 /// An entry for each definition.
 fn fill(
     alloc: Global,
-    defs: &[SyntaxDef],
+    defs: &Definitions,
     ranks: &[usize],
     flats: &[Flat],
     joins: &[usize],
@@ -118,8 +120,9 @@ fn fill(
 {
     let mut map = IndexMap::new(alloc);
     for at in 0..defs.len() {
-        let name = defs[at].name.copy(alloc)?;
-        let entry = entry_for(alloc, &defs[at], ranks[at], &flats[at], joins[at])?;
+        let def = defs.nth(at);
+        let name = def.name.copy(alloc)?;
+        let entry = entry_for(alloc, def, ranks[at], &flats[at], joins[at])?;
         insert(&mut map, name, entry)?;
     }
     Ok(map)

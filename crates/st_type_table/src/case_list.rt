@@ -1,12 +1,13 @@
 //! Cases with their keys, which are found once.
 
-ghost use Rattle.std.specs.Prelude.{◌≡◌, ◌↔◌, IsTrue, IfOk};
+ghost use Rattle.std.specs.Prelude.{◌≡◌, IfOk};
 ghost use Rattle.st_il.specs.Key.{plain};
 ghost use Rattle.st_type_table.specs.Keys.{plain_key};
-ghost use Rattle.st_type_table.specs.inner.CaseKeys.{HasSame, IsKeyOf, plain_kept};
+ghost use Rattle.st_type_table.specs.inner.CaseKeys.{IsKeyOf, plain_kept};
 
 use crate::entry::CaseDef;
-use st_il::{Key, Template, Ty, copy_tys, key_of, same_key, template_of};
+use crate::key_set::KeySet;
+use st_il::{Key, Template, Ty, copy_tys, key_of, template_of};
 use st_num::{Mark, Name, NoMemory, Row};
 use std::alloc::Global;
 use std::marker::Model;
@@ -70,18 +71,6 @@ pub(crate) struct KeyedCase {
     key: KeptKey,
 }
 
-/// Whether one of the cases has this key.
-fn has_same(items: &[KeyedCase], key: &KeptKey) -> bool
-    ensures { IsTrue result ↔ HasSame items.now (plain_kept key.now) }
-{
-    for item in items {
-        if same_key(&view(&item.key), &view(key)) {
-            return true;
-        }
-    }
-    false
-}
-
 /// The same case again.
 fn copy_case(alloc: Global, case: &CaseDef) -> Result<CaseDef, NoMemory>
     ensures { IfOk result (λ copy. copy ≡ case.now) }
@@ -124,8 +113,9 @@ impl Model for CaseList {
 }
 
 impl CaseList {
-    ghost use Rattle.std.specs.Prelude.{◌≡◌, ◌<◌, ◌≤◌, [], length, IfOk};
+    ghost use Rattle.std.specs.Prelude.{◌≡◌, ◌<◌, [], length, IfOk, OnOk};
     ghost use Rattle.st_type_table.specs.inner.CaseKeys.{AddsOwn, AddsFrom};
+    ghost use Rattle.st_type_table.specs.inner.KeySets.{AreKeys};
 
     pub(crate) fn new(alloc: Global) -> CaseList
         ensures { result ≡ [] }
@@ -145,16 +135,20 @@ impl CaseList {
     pub(crate) fn add(
         &mut self,
         alloc: Global,
+        keys: &mut KeySet,
         tag: &Name,
         operands: &[Ty],
     ) -> Result<bool, NoMemory>
-        ensures { IfOk result (λ added. AddsOwn self.old self.new
+        requires { AreKeys self.old keys.old }
+        ensures added { IfOk result (λ added. AddsOwn self.old self.new
             (record { tag = tag.now; operands = operands.now }) added) }
+        ensures keys { OnOk result (AreKeys self.new keys.new) }
     {
         let key = key_of_tag(alloc, tag)?;
-        if has_same(self.items.as_slice(), &key) {
+        if keys.contains(&key) {
             return Ok(false);
         }
+        keys.insert(alloc, &key)?;
         let tag = tag.copy(alloc)?;
         let operands = copy_tys(alloc, operands)?;
         let case = CaseDef { tag, operands };
@@ -162,23 +156,25 @@ impl CaseList {
         Ok(true)
     }
 
-    /// Adds a case of another list where its key differs from those of the first so many cases, and
-    /// says whether it does.
+    /// Adds a case of another list where its key differs from those of the others, and says whether
+    /// it does.
     pub(crate) fn add_from(
         &mut self,
         alloc: Global,
+        keys: &mut KeySet,
         other: &CaseList,
         at: usize,
-        limit: usize,
     ) -> Result<bool, NoMemory>
         requires within { at < length other.now }
-        requires limit { limit ≤ length self.old }
-        ensures { IfOk result (λ added. AddsFrom self.old self.new limit other.now at added) }
+        requires keys { AreKeys self.old keys.old }
+        ensures added { IfOk result (λ added. AddsFrom self.old self.new other.now at added) }
+        ensures keys { OnOk result (AreKeys self.new keys.new) }
     {
         let item = &other.items.as_slice()[at];
-        if has_same(&self.items.as_slice()[..limit], &item.key) {
+        if keys.contains(&item.key) {
             return Ok(false);
         }
+        keys.insert(alloc, &item.key)?;
         let copy = copy_keyed(alloc, item)?;
         self.items.push(copy)?;
         Ok(true)

@@ -9,11 +9,12 @@ ghost use Rattle.st_type_table.specs.inner.Graph.{AreRanks, graph_of};
 ghost use Rattle.st_type_table.specs.inner.Flat.{IsReached};
 ghost use Rattle.st_type_table.specs.inner.Checking.{Returns, NameBreaks, IsEnding, IsListed, ChecksAt};
 
+use crate::definitions::Definitions;
 use crate::fault::Broken;
 use crate::graph::{is_ranked, mark};
-use crate::place::{place_of, push_all_names, push_names};
+use crate::place::{push_all_names, push_names};
 use crate::resolve::{body_of, meaning_in};
-use st_il::{Alternative, SyntaxBody, SyntaxDef, Ty};
+use st_il::{Alternative, SyntaxBody, Ty};
 use st_num::{Name, NoMemory, Row, RuleId};
 use std::alloc::Global;
 
@@ -42,11 +43,11 @@ pub(crate) fn whole(part: u32, rule: RuleId) -> Broken
 }
 
 /// Whether all the names are declared.
-fn check_declared(defs: &[SyntaxDef], part: u32, names: &[Name]) -> Result<Found, NoMemory>
+fn check_declared(defs: &Definitions, part: u32, names: &[Name]) -> Result<Found, NoMemory>
     ensures { IfOk result (λ found. Finds defs.now (all_declared part 0 names.now) found) }
 {
     for (k, name) in names.iter().enumerate() {
-        match place_of(defs, name) {
+        match defs.place_of(name) {
             Some(_) => {}
             None => {
                 let name = numbered(k)?;
@@ -59,11 +60,11 @@ fn check_declared(defs: &[SyntaxDef], part: u32, names: &[Name]) -> Result<Found
 }
 
 /// The rule that a name in an alias breaks, where it breaks one.
-fn rule_of_name(defs: &[SyntaxDef], target: &Name, marks: &[bool], name: &Name) -> Option<RuleId>
+fn rule_of_name(defs: &Definitions, target: &Name, marks: &[bool], name: &Name) -> Option<RuleId>
     requires { Returns defs.now target.now marks.now (name.now ∷ []) }
     ensures { NameBreaks defs.now target.now name.now result }
 {
-    match place_of(defs, name) {
+    match defs.place_of(name) {
         Some(place) => {
             if mark(marks, place) {
                 return Some(RuleId::B4);
@@ -76,7 +77,7 @@ fn rule_of_name(defs: &[SyntaxDef], target: &Name, marks: &[bool], name: &Name) 
 
 /// The conditions on the names in an alias.
 fn check_alias(
-    defs: &[SyntaxDef],
+    defs: &Definitions,
     target: &Name,
     marks: &[bool],
     names: &[Name],
@@ -98,11 +99,11 @@ fn check_alias(
 }
 
 /// Whether the name is declared, and no way from it runs for ever.
-fn is_ending(defs: &[SyntaxDef], ranks: &[usize], name: &Name) -> bool
+fn is_ending(defs: &Definitions, ranks: &[usize], name: &Name) -> bool
     requires { AreRanks (graph_of defs.now) ranks.now }
     ensures { IsTrue result ↔ IsEnding defs.now name.now }
 {
-    match place_of(defs, name) {
+    match defs.place_of(name) {
         Some(place) => is_ranked(ranks, place),
         None => false,
     }
@@ -111,7 +112,7 @@ fn is_ending(defs: &[SyntaxDef], ranks: &[usize], name: &Name) -> bool
 /// Whether what the name means is a variant, and no way from it runs for ever.
 fn is_variant(
     alloc: Global,
-    defs: &[SyntaxDef],
+    defs: &Definitions,
     ranks: &[usize],
     name: &Name,
 ) -> Result<bool, NoMemory>
@@ -127,7 +128,7 @@ fn is_variant(
 }
 
 /// Whether the type is the name of a variant.
-fn is_variant_name(defs: &[SyntaxDef], ty: &Ty) -> bool
+fn is_variant_name(defs: &Definitions, ty: &Ty) -> bool
     ensures { IsTrue result ↔ IsListed defs.now ty.now }
 {
     match ty {
@@ -157,7 +158,7 @@ fn has_field(fields: &[(Name, Ty)], name: &Name) -> bool
 /// The conditions on an included variant, up to that on keys.
 fn check_included(
     alloc: Global,
-    defs: &[SyntaxDef],
+    defs: &Definitions,
     ranks: &[usize],
     target: &Name,
     marks: &[bool],
@@ -168,7 +169,7 @@ fn check_included(
     requires marks { Returns defs.now target.now marks.now (name.now ∷ []) }
     ensures { IfOk result (λ found. Finds defs.now (on_included target.now part name.now) found) }
 {
-    let Some(place) = place_of(defs, name) else {
+    let Some(place) = defs.place_of(name) else {
         return Ok(Some(whole(part, RuleId::B2)));
     };
     if mark(marks, place) {
@@ -181,7 +182,7 @@ fn check_included(
 }
 
 /// The conditions on the types of operands.
-fn check_types(alloc: Global, defs: &[SyntaxDef], part: u32, tys: &[Ty]) -> Result<Found, NoMemory>
+fn check_types(alloc: Global, defs: &Definitions, part: u32, tys: &[Ty]) -> Result<Found, NoMemory>
     ensures { IfOk result
         (λ found. Finds defs.now (all_declared part 0 (joined (map names_in tys.now))) found) }
 {
@@ -194,7 +195,7 @@ fn check_types(alloc: Global, defs: &[SyntaxDef], part: u32, tys: &[Ty]) -> Resu
 /// The conditions on a field of a record, behind the fields before it.
 fn check_field(
     alloc: Global,
-    defs: &[SyntaxDef],
+    defs: &Definitions,
     part: u32,
     before: &[(Name, Ty)],
     field: &(Name, Ty),
@@ -214,7 +215,7 @@ fn check_field(
 /// and so have as many as are reached.
 fn check_alternative(
     alloc: Global,
-    defs: &[SyntaxDef],
+    defs: &Definitions,
     ranks: &[usize],
     target: &Name,
     marks: &[bool],
@@ -254,7 +255,7 @@ fn check_alternative(
 /// The conditions on the alternatives of a variant from one number up to another.
 pub(crate) fn check_alternatives(
     alloc: Global,
-    defs: &[SyntaxDef],
+    defs: &Definitions,
     ranks: &[usize],
     target: &Name,
     marks: &[bool],
@@ -282,7 +283,7 @@ pub(crate) fn check_alternatives(
 /// The conditions on the fields of a record from one number up to another.
 pub(crate) fn check_fields(
     alloc: Global,
-    defs: &[SyntaxDef],
+    defs: &Definitions,
     fields: &[(Name, Ty)],
     from: usize,
     to: usize,
@@ -304,7 +305,7 @@ pub(crate) fn check_fields(
 /// The conditions on the names of an alias, where its one part is among those asked.
 pub(crate) fn check_whole_alias(
     alloc: Global,
-    defs: &[SyntaxDef],
+    defs: &Definitions,
     name: &Name,
     marks: &[bool],
     ty: &Ty,

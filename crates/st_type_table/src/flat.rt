@@ -6,11 +6,13 @@ ghost use Rattle.std.specs.Option.{option_copied};
 ghost use Rattle.st_type_table.specs.Keys.{KeysDiffer};
 ghost use Rattle.st_type_table.specs.Leads.{Ends};
 ghost use Rattle.st_type_table.specs.inner.Flat.{Adds, AddsAlternative, AddsIncluded, IsReady, AreFlats, AllReached, alternatives_in, IsFlatAt, IsFlatOf, IsEndingPart, IsEndless, IsKnownPart, AllKnownParts, TriesAlternative, IsFlattened};
+ghost use Rattle.st_type_table.specs.inner.KeySets.{AreKeys};
 ghost use Rattle.st_type_table.specs.inner.Graph.{AreRanks, graph_of, EndsIn};
 
 use crate::case_list::CaseList;
+use crate::definitions::Definitions;
 use crate::graph::is_ranked;
-use crate::place::place_of;
+use crate::key_set::KeySet;
 use crate::resolve::meaning_in;
 use st_il::{Alternative, SyntaxBody, SyntaxDef, Ty};
 use st_num::{Name, NoMemory, Row};
@@ -20,15 +22,18 @@ use std::alloc::Global;
 fn add_case(
     alloc: Global,
     cases: &mut CaseList,
+    keys: &mut KeySet,
     tag: &Name,
     operands: &[Ty],
 ) -> Result<bool, NoMemory>
-    requires { KeysDiffer cases.old }
-    ensures { IfOk result
+    requires differ { KeysDiffer cases.old }
+    requires keys { AreKeys cases.old keys.old }
+    ensures added { IfOk result
         (λ added. Adds cases.old cases.new
         (record { tag = tag.now; operands = operands.now } ∷ []) added) }
+    ensures keys { OnOk result (AreKeys cases.new keys.new) }
 {
-    let added = cases.add(alloc, tag, operands)?;
+    let added = cases.add(alloc, keys, tag, operands)?;
     Ok(added)
 }
 
@@ -42,17 +47,22 @@ pub(crate) struct Flat {
 }
 
 /// Adds the cases of another variant, and says whether all keys differ.
-fn add_included(alloc: Global, cases: &mut CaseList, flat: &Flat) -> Result<bool, NoMemory>
+fn add_included(
+    alloc: Global,
+    cases: &mut CaseList,
+    keys: &mut KeySet,
+    flat: &Flat,
+) -> Result<bool, NoMemory>
     requires differ { KeysDiffer cases.old }
-    requires others { flat.now.whole ≡ true → KeysDiffer flat.now.cases }
-    ensures { IfOk result (λ added. AddsIncluded cases.old cases.new flat.now added) }
+    requires keys { AreKeys cases.old keys.old }
+    ensures added { IfOk result (λ added. AddsIncluded cases.old cases.new flat.now added) }
+    ensures keys { OnOk result (AreKeys cases.new keys.new) }
 {
     if !flat.whole {
         return Ok(false);
     }
-    let limit = cases.len();
     for at in 0..flat.cases.len() {
-        if !cases.add_from(alloc, &flat.cases, at, limit)? {
+        if !cases.add_from(alloc, keys, &flat.cases, at)? {
             return Ok(false);
         }
     }
@@ -67,7 +77,7 @@ fn flat_at<'a>(flats: &'a [Flat], place: usize) -> Option<&'a Flat>
 }
 
 /// What is kept of the variant that the type means.
-fn flat_of<'a>(defs: &[SyntaxDef], ranks: &[usize], flats: &'a [Flat], ty: &Ty) -> Option<&'a Flat>
+fn flat_of<'a>(defs: &Definitions, ranks: &[usize], flats: &'a [Flat], ty: &Ty) -> Option<&'a Flat>
     requires ranks { AreRanks (graph_of defs.now) ranks.now }
     requires size { length flats.now ≡ length defs.now }
     requires ends { EndsIn defs.now ty.now }
@@ -75,7 +85,7 @@ fn flat_of<'a>(defs: &[SyntaxDef], ranks: &[usize], flats: &'a [Flat], ty: &Ty) 
     ensures { IsFlatOf defs.now ty.now result }
 {
     match meaning_in(defs, ranks, ty) {
-        Ty::Name(name) => match place_of(defs, name) {
+        Ty::Name(name) => match defs.place_of(name) {
             Some(place) => flat_at(flats, place),
             None => None,
         },
@@ -92,29 +102,32 @@ fn flat_of<'a>(defs: &[SyntaxDef], ranks: &[usize], flats: &'a [Flat], ty: &Ty) 
 /// Adds the cases that an alternative brings, and says whether all keys differ.
 pub(crate) fn add_alternative(
     alloc: Global,
-    defs: &[SyntaxDef],
+    defs: &Definitions,
     ranks: &[usize],
     flats: &[Flat],
     alternative: &Alternative,
     cases: &mut CaseList,
+    keys: &mut KeySet,
 ) -> Result<bool, NoMemory>
     requires ranks { AreRanks (graph_of defs.now) ranks.now }
     requires size { length flats.now ≡ length defs.now }
     requires ready { IsReady defs.now flats.now alternative.now }
     requires differ { KeysDiffer cases.old }
-    ensures { IfOk result
+    requires keys { AreKeys cases.old keys.old }
+    ensures added { IfOk result
         (λ added. AddsAlternative defs.now cases.old cases.new alternative.now added) }
+    ensures keys { OnOk result (AreKeys cases.new keys.new) }
 {
     match alternative {
         Alternative::Case(tag, operands) => {
-            let added = add_case(alloc, cases, tag, operands.as_slice())?;
+            let added = add_case(alloc, cases, keys, tag, operands.as_slice())?;
             Ok(added)
         }
         Alternative::Incl(name) => {
             let ty = Ty::Name(name.copy(alloc)?);
             match flat_of(defs, ranks, flats, &ty) {
                 Some(flat) => {
-                    let added = add_included(alloc, cases, flat)?;
+                    let added = add_included(alloc, cases, keys, flat)?;
                     Ok(added)
                 }
                 None => Ok(true),
@@ -124,18 +137,18 @@ pub(crate) fn add_alternative(
 }
 
 /// Whether each way from the name comes to an end.
-fn ends(defs: &[SyntaxDef], ranks: &[usize], name: &Name) -> bool
+fn ends(defs: &Definitions, ranks: &[usize], name: &Name) -> bool
     requires { AreRanks (graph_of defs.now) ranks.now }
     ensures { IsTrue result ↔ Ends defs.now name.now }
 {
-    match place_of(defs, name) {
+    match defs.place_of(name) {
         Some(place) => is_ranked(ranks, place),
         None => true,
     }
 }
 
 /// Whether what the alternative includes ends.
-fn is_ending(defs: &[SyntaxDef], ranks: &[usize], alternative: &Alternative) -> bool
+fn is_ending(defs: &Definitions, ranks: &[usize], alternative: &Alternative) -> bool
     requires { AreRanks (graph_of defs.now) ranks.now }
     ensures { MatchBool result (IsEndingPart defs.now alternative.now)
         (IsEndless defs.now alternative.now) }
@@ -149,30 +162,33 @@ fn is_ending(defs: &[SyntaxDef], ranks: &[usize], alternative: &Alternative) -> 
 /// Adds the cases that an alternative brings, and says whether it ends and all keys differ.
 fn try_alternative(
     alloc: Global,
-    defs: &[SyntaxDef],
+    defs: &Definitions,
     ranks: &[usize],
     flats: &[Flat],
     alternative: &Alternative,
     cases: &mut CaseList,
+    keys: &mut KeySet,
 ) -> Result<bool, NoMemory>
     requires ranks { AreRanks (graph_of defs.now) ranks.now }
     requires size { length flats.now ≡ length defs.now }
     requires known { IsKnownPart defs.now flats.now alternative.now }
     requires differ { KeysDiffer cases.old }
-    ensures { IfOk result
+    requires keys { AreKeys cases.old keys.old }
+    ensures added { IfOk result
         (λ added. TriesAlternative defs.now cases.old cases.new alternative.now added) }
+    ensures keys { OnOk result (AreKeys cases.new keys.new) }
 {
     if !is_ending(defs, ranks, alternative) {
         return Ok(false);
     }
-    let added = add_alternative(alloc, defs, ranks, flats, alternative, cases)?;
+    let added = add_alternative(alloc, defs, ranks, flats, alternative, cases, keys)?;
     Ok(added)
 }
 
 /// The cases of these alternatives, as far as they end and have different keys.
 fn flatten(
     alloc: Global,
-    defs: &[SyntaxDef],
+    defs: &Definitions,
     ranks: &[usize],
     flats: &[Flat],
     alternatives: &[Alternative],
@@ -183,8 +199,18 @@ fn flatten(
     ensures { IfOk result (λ flat. IsFlattened defs.now alternatives.now flat) }
 {
     let mut cases = CaseList::new(alloc);
+    let mut keys = KeySet::new(alloc);
     for reach in 0..alternatives.len() {
-        if !try_alternative(alloc, defs, ranks, flats, &alternatives[reach], &mut cases)? {
+        let alternative = &alternatives[reach];
+        if !try_alternative(
+            alloc,
+            defs,
+            ranks,
+            flats,
+            alternative,
+            &mut cases,
+            &mut keys,
+        )? {
             let whole = false;
             return Ok(Flat {
                 cases,
@@ -221,7 +247,7 @@ fn empty_flats(alloc: Global, len: usize) -> Result<Vec<Flat>, NoMemory>
 /// The cases of a definition whose inclusions are known.
 fn flat_of_body(
     alloc: Global,
-    defs: &[SyntaxDef],
+    defs: &Definitions,
     ranks: &[usize],
     flats: &[Flat],
     def: &SyntaxDef,
@@ -241,7 +267,7 @@ fn flat_of_body(
 /// Adds the cases of the definitions of this rank to those of lower ranks.
 fn fill_rank(
     alloc: Global,
-    defs: &[SyntaxDef],
+    defs: &Definitions,
     ranks: &[usize],
     rank: usize,
     flats: &mut Vec<Flat>,
@@ -253,7 +279,7 @@ fn fill_rank(
 {
     for i in 0..defs.len() {
         if ranks[i] == rank + 1 {
-            let flat = flat_of_body(alloc, defs, ranks, flats, &defs[i])?;
+            let flat = flat_of_body(alloc, defs, ranks, flats, defs.nth(i))?;
             flats[i] = flat;
         }
     }
@@ -263,7 +289,7 @@ fn fill_rank(
 /// Adds the cases of the definitions that do not end, as far as they go.
 fn fill_rest(
     alloc: Global,
-    defs: &[SyntaxDef],
+    defs: &Definitions,
     ranks: &[usize],
     flats: &mut Vec<Flat>,
 ) -> Result<(), NoMemory>
@@ -274,7 +300,7 @@ fn fill_rest(
 {
     for i in 0..defs.len() {
         if ranks[i] == 0 {
-            let flat = flat_of_body(alloc, defs, ranks, flats, &defs[i])?;
+            let flat = flat_of_body(alloc, defs, ranks, flats, defs.nth(i))?;
             flats[i] = flat;
         }
     }
@@ -284,7 +310,7 @@ fn fill_rest(
 /// The cases of all definitions, as far as they end and have different keys.
 pub(crate) fn flats_of(
     alloc: Global,
-    defs: &[SyntaxDef],
+    defs: &Definitions,
     ranks: &[usize],
 ) -> Result<Row<Flat>, NoMemory>
     requires ranks { AreRanks (graph_of defs.now) ranks.now }

@@ -6,27 +6,27 @@ ghost use Rattle.st_type_table.specs.inner.JoinGraph.{place_or_never, waits_in, 
 ghost use Rattle.st_type_table.specs.inner.Graph.{place_of};
 ghost use Rattle.st_type_table.specs.inner.Kept.{defs_of, IsKept};
 
+use crate::definitions::Definitions;
 use crate::entry::Entries;
 use crate::graph::Node;
 use crate::meaning::{entry_named, meaning_of};
-use crate::place::place_of;
-use st_il::{SyntaxBody, SyntaxDef, Ty};
+use st_il::{SyntaxBody, Ty};
 use st_num::{Name, NoMemory, Row};
 use std::alloc::Global;
 
 /// The number of the first definition of this name, or the number behind all definitions: nothing
 /// is there, and so what waits for it waits for ever.
-fn place_or_never(defs: &[SyntaxDef], name: &Name) -> usize
+fn place_or_never(defs: &Definitions, name: &Name) -> usize
     ensures { result ≡ place_or_never defs.now (place_of defs.now name.now) }
 {
-    match place_of(defs, name) {
+    match defs.place_of(name) {
         Some(place) => place,
         None => defs.len(),
     }
 }
 
 /// Appends what a field of this type waits for before it can be joined.
-fn push_waits(defs: &[SyntaxDef], ty: &Ty, out: &mut Row<usize>) -> Result<(), NoMemory>
+fn push_waits(defs: &Definitions, ty: &Ty, out: &mut Row<usize>) -> Result<(), NoMemory>
     ensures { OnOk result (out.new ≡ out.old ++ waits_in defs.now ty.now) }
 {
     match ty {
@@ -39,7 +39,7 @@ fn push_waits(defs: &[SyntaxDef], ty: &Ty, out: &mut Row<usize>) -> Result<(), N
 /// The definitions that a record of these fields waits for.
 fn field_waits(
     alloc: Global,
-    defs: &[SyntaxDef],
+    defs: &Definitions,
     fields: &[(Name, Ty)],
 ) -> Result<Row<usize>, NoMemory>
     ensures { IfOk result (λ places. places ≡ field_waits defs.now fields.now) }
@@ -52,7 +52,7 @@ fn field_waits(
 }
 
 /// What a syntax of this body waits for before it can be joined as a field.
-fn waits_of(alloc: Global, defs: &[SyntaxDef], body: &SyntaxBody) -> Result<Row<usize>, NoMemory>
+fn waits_of(alloc: Global, defs: &Definitions, body: &SyntaxBody) -> Result<Row<usize>, NoMemory>
     ensures { IfOk result (λ places. places ≡ waits_of defs.now body.now) }
 {
     match body {
@@ -71,12 +71,12 @@ fn waits_of(alloc: Global, defs: &[SyntaxDef], body: &SyntaxBody) -> Result<Row<
 }
 
 /// For each definition the numbers of those that it waits for before it can be joined as a field.
-pub(crate) fn join_graph(alloc: Global, defs: &[SyntaxDef]) -> Result<Row<Node>, NoMemory>
+pub(crate) fn join_graph(alloc: Global, defs: &Definitions) -> Result<Row<Node>, NoMemory>
     ensures { IfOk result (λ graph. graph ≡ join_graph defs.now) }
 {
     let mut graph = Row::new(alloc);
-    for def in defs {
-        let places = waits_of(alloc, defs, &def.body)?;
+    for number in 0..defs.len() {
+        let places = waits_of(alloc, defs, &defs.nth(number).body)?;
         graph.push(Some(places))?;
     }
     Ok(graph)

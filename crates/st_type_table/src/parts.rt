@@ -4,14 +4,14 @@ ghost use Rattle.std.specs.Prelude.{◌≡◌, ◌<◌, None, length, IfOk};
 ghost use Rattle.st_type_table.specs.Leads.{leads_to};
 ghost use Rattle.st_type_table.specs.Breach.{Finds, FindsAt, AllHold, on_parts};
 ghost use Rattle.st_type_table.specs.inner.Graph.{AreRanks, graph_of};
-ghost use Rattle.st_type_table.specs.inner.Search.{IsReversed};
+ghost use Rattle.st_type_table.specs.inner.Search.{IsReversed, backward};
 ghost use Rattle.st_type_table.specs.inner.Flat.{IsReached, alternatives_in};
 ghost use Rattle.st_type_table.specs.inner.Survey.{IsSurvey};
 ghost use Rattle.st_type_table.specs.inner.Checking.{Returns, AreReturning, CheckedAt, part_count};
 
 use crate::check::{Found, check_alternatives, check_fields, check_whole_alias, whole};
+use crate::definitions::Definitions;
 use crate::graph::Node;
-use crate::place::place_of;
 use crate::search::{leading_back, leading_to};
 use crate::survey::Survey;
 use st_il::{SyntaxBody, SyntaxDef};
@@ -21,7 +21,7 @@ use std::alloc::Global;
 /// The conditions on the parts of a body from one number up to another.
 fn check_body(
     alloc: Global,
-    defs: &[SyntaxDef],
+    defs: &Definitions,
     ranks: &[usize],
     marks: &[bool],
     reach: usize,
@@ -59,23 +59,25 @@ fn check_body(
 /// Which of the definitions that this one leads to lead back to its name.
 fn returning(
     alloc: Global,
-    defs: &[SyntaxDef],
+    defs: &Definitions,
     graph: &[Node],
     back: &[Row<usize>],
     ranks: &[usize],
+    back_ranks: &[usize],
     at: usize,
 ) -> Result<Row<bool>, NoMemory>
     requires graph { graph.now ≡ graph_of defs.now }
     requires back { IsReversed (graph_of defs.now) back.now }
     requires ranks { AreRanks (graph_of defs.now) ranks.now }
+    requires back_ranks { AreRanks (backward back.now) back_ranks.now }
     requires within { at < length defs.now }
     ensures { IfOk result (λ marks. AreReturning defs.now at marks) }
 {
-    let def = &defs[at];
-    match place_of(defs, &def.name) {
+    let def = defs.nth(at);
+    match defs.place_of(&def.name) {
         Some(first) => {
             if first == at {
-                let marks = leading_back(alloc, graph, back, ranks, at)?;
+                let marks = leading_back(alloc, graph, back, ranks, back_ranks, at)?;
                 return Ok(marks);
             }
             let marks = leading_to(alloc, graph, back, first)?;
@@ -88,7 +90,7 @@ fn returning(
 /// The conditions on the parts of a definition from one number up to another.
 pub(crate) fn check_parts(
     alloc: Global,
-    defs: &[SyntaxDef],
+    defs: &Definitions,
     survey: &Survey,
     at: usize,
     from: usize,
@@ -101,9 +103,11 @@ pub(crate) fn check_parts(
 {
     let ranks = survey.ranks.as_slice();
     let graph = survey.graph.as_slice();
-    let marks = returning(alloc, defs, graph, survey.back.as_slice(), ranks, at)?;
+    let back = survey.back.as_slice();
+    let back_ranks = survey.back_ranks.as_slice();
+    let marks = returning(alloc, defs, graph, back, ranks, back_ranks, at)?;
     let reach = survey.flats.as_slice()[at].reach;
-    let def = &defs[at];
+    let def = defs.nth(at);
     let found = check_body(alloc, defs, ranks, marks.as_slice(), reach, def, from, to)?;
     Ok(found)
 }
@@ -122,7 +126,7 @@ fn part_count(body: &SyntaxBody) -> usize
 /// The conditions on a definition.
 pub(crate) fn check_def(
     alloc: Global,
-    defs: &[SyntaxDef],
+    defs: &Definitions,
     survey: &Survey,
     at: usize,
 ) -> Result<Found, NoMemory>
@@ -130,8 +134,8 @@ pub(crate) fn check_def(
     requires within { at < length defs.now }
     ensures { IfOk result (λ found. CheckedAt defs.now at found) }
 {
-    let def = &defs[at];
-    match place_of(&defs[..at], &def.name) {
+    let def = defs.nth(at);
+    match defs.place_before(at, &def.name) {
         Some(_) => return Ok(Some(whole(0, RuleId::B1))),
         None => {}
     }

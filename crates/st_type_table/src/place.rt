@@ -3,23 +3,12 @@
 ghost use Rattle.std.specs.Prelude.{◌≡◌, ◌++◌, map, OnOk, IfOk};
 ghost use Rattle.std.specs.List.{flat_map};
 ghost use Rattle.st_type_table.specs.Leads.{names_in, joined, included, leads_to};
-ghost use Rattle.st_type_table.specs.inner.Graph.{place_of, places_of, graph_of};
+ghost use Rattle.st_type_table.specs.inner.Graph.{places_of, graph_of};
 
-use st_il::{Alternative, SyntaxBody, SyntaxDef, Ty};
+use crate::definitions::Definitions;
+use st_il::{Alternative, SyntaxBody, Ty};
 use st_num::{Name, NoMemory, Row};
 use std::alloc::Global;
-
-/// The number of the first definition of this name.
-pub(crate) fn place_of(defs: &[SyntaxDef], name: &Name) -> Option<usize>
-    ensures { result ≡ place_of defs.now name.now }
-{
-    for (k, def) in defs.iter().enumerate() {
-        if *name == def.name {
-            return Some(k);
-        }
-    }
-    None
-}
 
 /// Appends the names in a type, in order.
 #[cycle(names)]
@@ -82,12 +71,12 @@ fn lead_names(alloc: Global, body: &SyntaxBody) -> Result<Row<Name>, NoMemory>
 }
 
 /// The numbers of the definitions of those names that are declared.
-fn places_of(alloc: Global, defs: &[SyntaxDef], names: &[Name]) -> Result<Row<usize>, NoMemory>
+fn places_of(alloc: Global, defs: &Definitions, names: &[Name]) -> Result<Row<usize>, NoMemory>
     ensures { IfOk result (λ places. places ≡ places_of defs.now names.now) }
 {
     let mut places = Row::new(alloc);
     for name in names {
-        if let Some(place) = place_of(defs, name) {
+        if let Some(place) = defs.place_of(name) {
             places.push(place)?;
         }
     }
@@ -97,13 +86,13 @@ fn places_of(alloc: Global, defs: &[SyntaxDef], names: &[Name]) -> Result<Row<us
 /// For each definition the numbers of those that it leads to.
 pub(crate) fn leads_graph(
     alloc: Global,
-    defs: &[SyntaxDef],
+    defs: &Definitions,
 ) -> Result<Row<Option<Row<usize>>>, NoMemory>
     ensures { IfOk result (λ graph. graph ≡ graph_of defs.now) }
 {
     let mut graph = Row::new(alloc);
-    for def in defs {
-        let names = lead_names(alloc, &def.body)?;
+    for number in 0..defs.len() {
+        let names = lead_names(alloc, &defs.nth(number).body)?;
         let places = places_of(alloc, defs, names.as_slice())?;
         graph.push(Some(places))?;
     }

@@ -5,24 +5,22 @@ ghost use Rattle.std.specs.Option.{option_copied};
 ghost use Rattle.st_type_table.specs.Meaning.{body_of, alias_of, alternatives_of, fields_of, Means};
 ghost use Rattle.st_type_table.specs.inner.Graph.{AreRanks, graph_of, EndsIn};
 
-use crate::place::place_of;
-use st_il::{Alternative, SyntaxBody, SyntaxDef, Ty};
+use crate::definitions::Definitions;
+use st_il::{Alternative, SyntaxBody, Ty};
 use st_num::{Name, Row};
 
 /// The body of the first definition of this name.
-pub(crate) fn body_of<'a>(defs: &'a [SyntaxDef], name: &Name) -> Option<&'a SyntaxBody>
+pub(crate) fn body_of<'a>(defs: &Definitions<'a>, name: &Name) -> Option<&'a SyntaxBody>
     ensures { option_copied result ≡ body_of defs.now name.now }
 {
-    for def in defs {
-        if *name == def.name {
-            return Some(&def.body);
-        }
+    match defs.place_of(name) {
+        Some(place) => Some(&defs.nth(place).body),
+        None => None,
     }
-    None
 }
 
 /// What the type stands for, where it is the name of an alias.
-fn alias_in<'a>(defs: &'a [SyntaxDef], ty: &Ty) -> Option<&'a Ty>
+fn alias_in<'a>(defs: &Definitions<'a>, ty: &Ty) -> Option<&'a Ty>
     ensures { option_copied result ≡ alias_of defs.now ty.now }
 {
     match ty {
@@ -38,7 +36,7 @@ fn alias_in<'a>(defs: &'a [SyntaxDef], ty: &Ty) -> Option<&'a Ty>
 }
 
 /// The type without the aliases at its top.
-pub(crate) fn meaning_in<'a>(defs: &'a [SyntaxDef], ranks: &[usize], ty: &'a Ty) -> &'a Ty
+pub(crate) fn meaning_in<'a>(defs: &Definitions<'a>, ranks: &[usize], ty: &'a Ty) -> &'a Ty
     requires ranks { AreRanks (graph_of defs.now) ranks.now }
     requires ends { EndsIn defs.now ty.now }
     ensures { Means defs.now ty.now result.now }

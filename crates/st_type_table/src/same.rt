@@ -2,17 +2,29 @@
 
 ghost use Rattle.std.specs.Prelude.{◌≡◌, ◌↔◌, IsTrue};
 ghost use Rattle.st_il.specs.declared.ty.Ty.{out-Ty};
+ghost use Rattle.st_type_table.specs.Breach.{IsSound};
+ghost use Rattle.st_type_table.specs.inner.Forms.{is_name, AreOneName, AreAlike};
 ghost use Rattle.st_type_table.specs.inner.SameLevels.{SameAt};
-ghost use Rattle.st_type_table.specs.inner.Kept.{defs_of, IsKept};
 ghost use Rattle.st_type_table.specs.Same.{Same, SameAll};
 
-use crate::entry::Entries;
-use crate::meaning::meaning_of;
+use crate::form::{Forms, type_number};
+use crate::table::TypeTable;
 use st_il::Ty;
 
-/// Whether both types are one name, which is equal to itself without a look at what it stands for.
+/// Whether the type is a name.
+fn is_name(ty: &Ty) -> bool
+    ensures { result ≡ is_name (out-Ty ty.now) }
+{
+    match ty {
+        Ty::Name(_) => true,
+        Ty::Bool | Ty::Nat | Ty::Int | Ty::Text => false,
+        Ty::List(_) | Ty::Opt(_) | Ty::Tuple(_) => false,
+    }
+}
+
+/// Whether both types are one name.
 fn are_one_name(a: &Ty, b: &Ty) -> bool
-    ensures { IsTrue result → a.now ≡ b.now }
+    ensures { IsTrue result ↔ AreOneName (out-Ty a.now) (out-Ty b.now) }
 {
     match (a, b) {
         (Ty::Name(one), Ty::Name(other)) => *one == *other,
@@ -20,23 +32,38 @@ fn are_one_name(a: &Ty, b: &Ty) -> bool
     }
 }
 
-/// Whether the types are equal through aliases.
-#[cycle(same)]
-pub(crate) fn same(entries: &Entries, a: &Ty, b: &Ty) -> bool
-    requires { IsKept entries.now.entries }
-    ensures { IsTrue result ↔ Same (defs_of entries.now.entries) a.now b.now }
+/// Whether the types are one name, or have one number.
+fn are_alike(forms: &Forms, a: &Ty, b: &Ty) -> bool
+    ensures { IsTrue result
+        ↔ AreAlike forms.now.numbers.entries forms.now.list.keys a.now b.now }
 {
     if are_one_name(a, b) {
         return true;
     }
-    same_at(entries, meaning_of(entries, a), meaning_of(entries, b))
+    match (type_number(forms, a), type_number(forms, b)) {
+        (Some(one), Some(other)) => one == other,
+        _ => false,
+    }
 }
 
-/// Whether two types without aliases at their tops are equal through aliases.
+/// Whether the types are equal through aliases. An alias is compared by its number, so that no
+/// chain of aliases is followed.
 #[cycle(same)]
-fn same_at(entries: &Entries, a: &Ty, b: &Ty) -> bool
-    requires { IsKept entries.now.entries }
-    ensures { IsTrue result ↔ SameAt (defs_of entries.now.entries) (out-Ty a.now) (out-Ty b.now) }
+pub(crate) fn same(table: &TypeTable, a: &Ty, b: &Ty) -> bool
+    ensures exact { IsTrue result ↔ Same table.now a.now b.now }
+    ensures sound { IsSound table.now }
+{
+    let forms = &table.forms;
+    if is_name(a) || is_name(b) {
+        return are_alike(forms, a, b);
+    }
+    same_at(table, a, b)
+}
+
+/// Whether two types that are no names are equal through aliases.
+#[cycle(same)]
+fn same_at(table: &TypeTable, a: &Ty, b: &Ty) -> bool
+    ensures { IsTrue result ↔ SameAt table.now (out-Ty a.now) (out-Ty b.now) }
 {
     match (a, b) {
         (Ty::Bool, Ty::Bool) => true,
@@ -44,10 +71,10 @@ fn same_at(entries: &Entries, a: &Ty, b: &Ty) -> bool
         (Ty::Int, Ty::Int) => true,
         (Ty::Text, Ty::Text) => true,
         (Ty::Name(one), Ty::Name(other)) => *one == *other,
-        (Ty::List(one), Ty::List(other)) => same(entries, one.get(), other.get()),
-        (Ty::Opt(one), Ty::Opt(other)) => same(entries, one.get(), other.get()),
+        (Ty::List(one), Ty::List(other)) => same(table, one.get(), other.get()),
+        (Ty::Opt(one), Ty::Opt(other)) => same(table, one.get(), other.get()),
         (Ty::Tuple(ones), Ty::Tuple(others)) => {
-            same_all(entries, ones.as_slice(), others.as_slice())
+            same_all(table, ones.as_slice(), others.as_slice())
         }
         _ => false,
     }
@@ -55,15 +82,14 @@ fn same_at(entries: &Entries, a: &Ty, b: &Ty) -> bool
 
 /// Whether the types of two lists are equal through aliases, one by one.
 #[cycle(same)]
-fn same_all(entries: &Entries, ones: &[Ty], others: &[Ty]) -> bool
-    requires { IsKept entries.now.entries }
-    ensures { IsTrue result ↔ SameAll (defs_of entries.now.entries) ones.now others.now }
+fn same_all(table: &TypeTable, ones: &[Ty], others: &[Ty]) -> bool
+    ensures { IsTrue result ↔ SameAll table.now ones.now others.now }
 {
     if ones.len() != others.len() {
         return false;
     }
     for i in 0..ones.len() {
-        if !same(entries, &ones[i], &others[i]) {
+        if !same(table, &ones[i], &others[i]) {
             return false;
         }
     }

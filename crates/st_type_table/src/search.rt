@@ -2,7 +2,7 @@
 
 ghost use Rattle.std.specs.Prelude.{◌≡◌, ◌<◌, ◌-◌, ◌↔◌, ℕ, IfOk, OnOk, Some, [], length, replicate, slice_get, true, false};
 ghost use Rattle.st_type_table.specs.inner.Graph.{LeadsAt, LeadsBack, AreRanks, mark};
-ghost use Rattle.st_type_table.specs.inner.Search.{AddsArrow, AddsArrows, IsReversed, IsSearch, MarksAll, MarksOne};
+ghost use Rattle.st_type_table.specs.inner.Search.{AddsArrow, AddsArrows, IsReversed, IsSearch, MarksAll, MarksOne, backward};
 
 use crate::graph::{Node, is_ranked};
 use st_num::{NoMemory, Row};
@@ -59,6 +59,18 @@ pub(crate) fn reversed(alloc: Global, graph: &[Node]) -> Result<Row<Row<usize>>,
     let mut back = no_arrows(alloc, graph.len())?;
     add_all_arrows(graph, &mut back)?;
     Ok(Row::from_vec(back))
+}
+
+/// The arrows as a graph, whose ways run against those of the definitions.
+pub(crate) fn backward(alloc: Global, back: &[Row<usize>]) -> Result<Row<Node>, NoMemory>
+    ensures { IfOk result (λ graph. graph ≡ backward back.now) }
+{
+    let mut graph = Row::new(alloc);
+    for row in back {
+        let row = row.copy(alloc)?;
+        graph.push(Some(row))?;
+    }
+    Ok(graph)
 }
 
 /// So many definitions, of which none is marked yet.
@@ -164,19 +176,25 @@ pub(crate) fn leading_to(
 }
 
 /// Which definitions lead back to the one of this number: it is right of those that it leads to.
+/// None does where each way from the definition ends, or each way to it has a start.
 pub(crate) fn leading_back(
     alloc: Global,
     graph: &[Node],
     back: &[Row<usize>],
     ranks: &[usize],
+    back_ranks: &[usize],
     target: usize,
 ) -> Result<Row<bool>, NoMemory>
     requires reversed { IsReversed graph.now back.now }
     requires ranks { AreRanks graph.now ranks.now }
+    requires back_ranks { AreRanks (backward back.now) back_ranks.now }
     requires within { target < length graph.now }
     ensures { IfOk result (λ marks. LeadsBack graph.now marks target) }
 {
     if is_ranked(ranks, target) {
+        return Ok(Row::new(alloc));
+    }
+    if is_ranked(back_ranks, target) {
         return Ok(Row::new(alloc));
     }
     let marks = leading_to(alloc, graph, back, target)?;

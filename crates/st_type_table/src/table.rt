@@ -3,8 +3,10 @@
 use crate::build::{are_few, entries_of};
 use crate::entry::{CaseDef, Entries};
 use crate::fault::TypeFault;
+use crate::form::Forms;
 use crate::joining::joins;
 use crate::meaning::{cases_of, fields_of, is_declared, meaning_of};
+use crate::numbering::forms_of;
 use crate::same::same;
 use st_il::{SyntaxDef, Ty};
 use st_num::{Name, Row};
@@ -17,6 +19,7 @@ use std::marker::Model;
 #[derive(Drop)]
 pub struct TypeTable {
     entries: Entries,
+    pub(crate) forms: Forms,
 }
 
 impl Model for TypeTable {
@@ -24,7 +27,8 @@ impl Model for TypeTable {
     ghost use Rattle.std.specs.Coded.{codes};
     ghost use Rattle.st_il.specs.declared.definition.SyntaxDef.{SyntaxDef};
     ghost use Rattle.st_il.specs.contracts.ty.Ty as ty;
-    ghost use Rattle.st_type_table.specs.inner.Kept.{defs_of, IsKept};
+    ghost use Rattle.st_type_table.specs.inner.Kept.{defs_of};
+    ghost use Rattle.st_type_table.specs.inner.Forms.{IsTable};
 
     ghost Value = { List SyntaxDef };
 
@@ -32,7 +36,7 @@ impl Model for TypeTable {
 
     ghost view = { λ t. defs_of t.entries.entries };
 
-    ghost invariant = { λ t. IsKept t.entries.entries };
+    ghost invariant = { λ t. IsTable t.entries.entries t.forms.numbers.entries t.forms.list.keys };
 }
 
 impl TypeTable {
@@ -64,7 +68,10 @@ impl TypeTable {
             → FirstBreach defs.now s b }
     {
         match entries_of(alloc, defs.as_slice()) {
-            Ok(entries) => Ok(TypeTable { entries }),
+            Ok(entries) => {
+                let forms = forms_of(alloc, &entries)?;
+                Ok(TypeTable { entries, forms })
+            }
             Err(fault) => Err(fault),
         }
     }
@@ -90,7 +97,7 @@ impl TypeTable {
         ensures exact { IsTrue result ↔ Same self.now a.now b.now }
         ensures sound { IsSound self.now }
     {
-        same(&self.entries, a, b)
+        same(self, a, b)
     }
 
     /// The cases of a variant type, with those of the variants that it names, in order.

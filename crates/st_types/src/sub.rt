@@ -1,10 +1,10 @@
 //! Which types are subtypes.
 
-ghost use Rattle.std.specs.Prelude.{◌↔◌, IsTrue};
+ghost use Rattle.std.specs.Prelude.{◌≡◌, ◌↔◌, IsTrue};
 ghost use Rattle.st_il.specs.declared.ty.Ty.{Ty, out-Ty};
 ghost use Rattle.st_type_table.specs.Breach.{IsSound};
 ghost use Rattle.st_type_table.specs.Same.{SameAll};
-ghost use Rattle.st_types.specs.inner.Levels.{UnderAt, IsUnder};
+ghost use Rattle.st_types.specs.inner.Levels.{told, level_at};
 ghost use Rattle.st_types.specs.Laws.{GoesUp};
 ghost use Rattle.st_types.specs.Sub.{Sub, StandsIn, AllStandIn, IsContained};
 
@@ -70,39 +70,48 @@ pub fn is_sub(table: &TypeTable, lower: &Ty, upper: &Ty) -> bool
     is_below(table, lower, upper)
 }
 
-/// Whether the first type is a subtype of the second.
-#[cycle(below)]
+/// What one level of two types says of the first as a subtype by numbers or by elements.
+enum Level<'a> {
+    Below,
+    Apart,
+    /// As these elements are.
+    Elements(&'a Ty, &'a Ty),
+}
+
+/// One level of two types that have no aliases at their tops.
+fn level_of<'a>(lower: &'a Ty, upper: &'a Ty) -> Level<'a>
+    ensures { told result ≡ level_at (out-Ty lower.now) (out-Ty upper.now) }
+{
+    match (lower, upper) {
+        (Ty::Nat, Ty::Int) => Level::Below,
+        (Ty::List(one), Ty::List(other)) => Level::Elements(one.get(), other.get()),
+        (Ty::Opt(one), Ty::Opt(other)) => Level::Elements(one.get(), other.get()),
+        _ => Level::Apart,
+    }
+}
+
+/// Whether the first type is a subtype of the second. Of two lists or options the elements are
+/// asked next, so that a chain of aliases may be long.
 fn is_below(table: &TypeTable, lower: &Ty, upper: &Ty) -> bool
     ensures exact { IsTrue result ↔ Sub table.now lower.now upper.now }
     ensures sound { IsSound table.now }
 {
-    if table.same(lower, upper) {
-        return true;
-    }
-    if is_contained(table, lower, upper) {
-        return true;
-    }
-    is_under(table, lower, upper)
-}
-
-/// Whether the first type is a subtype of the second by numbers or by elements.
-#[cycle(below)]
-fn is_under(table: &TypeTable, lower: &Ty, upper: &Ty) -> bool
-    ensures { IsTrue result ↔ IsUnder table.now lower.now upper.now }
-{
-    is_under_at(table, table.meaning(lower), table.meaning(upper))
-}
-
-/// Whether a type is a subtype by numbers or by elements, where neither has an alias at its top.
-#[cycle(below)]
-fn is_under_at(table: &TypeTable, lower: &Ty, upper: &Ty) -> bool
-    ensures { IsTrue result
-        ↔ UnderAt table.now (out-Ty lower.now) (out-Ty upper.now) }
-{
-    match (lower, upper) {
-        (Ty::Nat, Ty::Int) => true,
-        (Ty::List(one), Ty::List(other)) => is_below(table, one.get(), other.get()),
-        (Ty::Opt(one), Ty::Opt(other)) => is_below(table, one.get(), other.get()),
-        _ => false,
+    let mut low = lower;
+    let mut high = upper;
+    'levels: loop {
+        if table.same(low, high) {
+            return true;
+        }
+        if is_contained(table, low, high) {
+            return true;
+        }
+        match level_of(table.meaning(low), table.meaning(high)) {
+            Level::Below => return true,
+            Level::Apart => return false,
+            Level::Elements(one, other) => {
+                low = one;
+                high = other;
+            }
+        }
     }
 }

@@ -1,5 +1,5 @@
 -- What is kept of the definitions that were walked: the names that they declare.
-use Rattle.std.specs.Prelude.{◌≡◌, ℕ, List, Bool, false, Option, None}
+use Rattle.std.specs.Prelude.{◌≡◌, ℕ, List, Bool, false, None}
 use Rattle.std.specs.List.{list_any}
 use Rattle.st_num.specs.Names.{same_name}
 use Rattle.st_el.specs.Erasure.{is_fragment}

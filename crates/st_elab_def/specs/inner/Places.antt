@@ -1,5 +1,5 @@
 -- The places of what is false of the parts of a syntax.
-use Rattle.std.specs.Prelude.{◌≡◌, ℕ, zero, suc, ◌≤◌, List, [], ◌∷◌, length, take, flat_map, slice_get, Some}
+use Rattle.std.specs.Prelude.{[], ◌≡◌, ℕ, zero, suc, ◌≤◌, List, ◌∷◌, length, take, flat_map, slice_get, Bool, true, false, Some}
 use Rattle.std.specs.List.{AllByRecursion}
 use Rattle.st_num.specs.declared.rule.RuleId.{RuleId}
 use Rattle.st_num.specs.declared.rule.RuleId.TheVariants.{B2, Y7}
@@ -10,7 +10,6 @@ use Rattle.st_el.specs.declared.notation.NotNode.TheOpen.{NotNode-F}
 use Rattle.st_el.specs.declared.ty.Typ.{Typ, out-Typ}
 use Rattle.st_el.specs.declared.ty.TypNode.{TypNode}
 use Rattle.st_el.specs.declared.ty.TypNode.TheOpen.{TypNode-F}
-use Rattle.st_type_table.specs.declared.fault.Broken.{Broken}
 use Rattle.st_elab_sig.specs.Signatures.{holes_of}
 use Rattle.st_elab_def.specs.declared.names.Named.{Named}
 use Rattle.st_il.specs.declared.definition.Alternative.{Alternative}
@@ -59,19 +58,19 @@ fields_place [] part number rule whole = whole
 fields_place (f ∷ fs) zero number rule whole = field_place f number rule whole
 fields_place (f ∷ fs) (suc part) number rule whole = fields_place fs part number rule whole
 
--- a type that is an alternative by itself and no name
-abbrev pub IsNameless : TypNode-F TypNode Typ → Type 0
-IsNameless (TypNode-F.Name name) = ⊥
-IsNameless node = Unit {0}
+-- the type is no name
+abbrev pub is_nameless : TypNode-F TypNode Typ → Bool
+is_nameless (TypNode-F.Name name) = false
+is_nameless node = true
 
--- an alternative is a type by itself that is no name
-abbrev pub IsBareAt : NotNode-F NotNode Notation → Type 0
-IsBareAt (NotNode-F.Hole t) = IsNameless (type_node t)
-IsBareAt node = ⊥
+-- a notation of this top level is a type by itself that is no name
+abbrev pub is_bare_at : NotNode-F NotNode Notation → Bool
+is_bare_at (NotNode-F.Hole t) = is_nameless (type_node t)
+is_bare_at node = false
 
--- The notation is a type by itself that is no name.
-abbrev pub IsBare : Notation → Type 0
-IsBare n = IsBareAt (not_node n)
+-- the notation is a type by itself that is no name
+abbrev pub is_bare : Notation → Bool
+is_bare n = is_bare_at (not_node n)
 
 -- The notation is one alternative.
 abbrev pub IsAlternative : Notation → Type 0
@@ -82,4 +81,4 @@ IsAlternative n = (a : Alternative) × (alternative_of n ≡ a ∷ [])
 pub record StandBeforeBare (ns : List Notation) (count : ℕ) : Type 0 where
   pub within : count ≤ length ns
   pub alternatives : AllByRecursion IsAlternative (take count ns)
-  pub bare : (n : Notation) → slice_get ns count ≡ Some n → IsBare n
+  pub bare : (n : Notation) → slice_get ns count ≡ Some n → is_bare n ≡ true

@@ -34,7 +34,7 @@ prefixed_height m h = (if is_tilde m || is_minus m then h else max 1 h) + 1
 
 -- the height of the highest type or notation in a piece, and 0 where it holds none
 abbrev pub notation_piece_height : NotationPiece → ℕ
-notation_piece_height (a_type t) = typ_height t
+notation_piece_height (a_type at t) = typ_height t
 notation_piece_height (whole n) = notation_height n
 notation_piece_height (types at ts) = highest (map typ_height ts)
 notation_piece_height (elements at ns) = highest (map notation_height ns)

@@ -1,5 +1,5 @@
 -- Cases that are kept with their keys.
-use Rattle.std.specs.Prelude.{◌≡◌, ◌⊎◌, ℕ, Bool, List, [], ◌∷◌, ◌++◌, map, take, slice_get, Some}
+use Rattle.std.specs.Prelude.{◌≡◌, ◌⊎◌, ℕ, Bool, List, [], ◌∷◌, ◌++◌, map, slice_get, Some}
 use Rattle.std.specs.Bool.{MatchBool}
 use Rattle.std.specs.List.{AllByRecursion}
 use Rattle.st_il.specs.Key.{PlainKey, sign, bracket, atom, free}
@@ -34,21 +34,13 @@ abbrev pub AllKeyed : List KeyedCase → Type 0
 AllKeyed items =
     AllByRecursion (λ (item : KeyedCase). IsKeyOf item.case.tag (plain_kept item.key)) items
 
--- one of the cases is kept with this key
-abbrev pub HasSame : List KeyedCase → PlainKey → Type 0
-HasSame [] k = ⊥
-HasSame (item ∷ items) k = (plain_kept item.key ≡ k) ⊎ HasSame items k
-
 -- the case is added, or one of those before it has its key
 abbrev pub AddsOwn : List CaseDef → List CaseDef → CaseDef → Bool → Type 0
 AddsOwn before after c added = MatchBool added
     ((after ≡ before ++ c ∷ []) × (Clashes before c.tag → ⊥))
     (Clashes before c.tag)
 
--- the case of this number of the other list is added, or one of the first so many has its key
-abbrev pub AddsFrom : List CaseDef → List CaseDef → ℕ → List CaseDef → ℕ → Bool → Type 0
-AddsFrom before after limit others at added =
-    (c : CaseDef) × ((slice_get others at ≡ Some c)
-    × MatchBool added
-    ((after ≡ before ++ c ∷ []) × (Clashes (take limit before) c.tag → ⊥))
-    (Clashes (take limit before) c.tag))
+-- the case of this number of the other list is added, or one of those before it has its key
+abbrev pub AddsFrom : List CaseDef → List CaseDef → List CaseDef → ℕ → Bool → Type 0
+AddsFrom before after others at added =
+    (c : CaseDef) × ((slice_get others at ≡ Some c) × AddsOwn before after c added)

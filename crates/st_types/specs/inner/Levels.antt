@@ -11,6 +11,8 @@ use Rattle.st_type_table.specs.Meaning.{Means}
 use Rattle.st_type_table.specs.Cases.{HasCases, HasFields, operands_of}
 use Rattle.st_types.specs.HasType.{HasType, HaveTypes, AllHaveType, FieldsHaveTypes}
 use Rattle.st_types.specs.Sub.{Sub}
+use Rattle.st_types.specs.declared.sub.Level.{Level}
+use Rattle.st_types.specs.declared.sub.Level.TheVariants as level
 
 -- The first type is below the second by numbers or by elements.
 pub data IsUnder (defs : List SyntaxDef) : Ty → Ty → Type 0 where
@@ -26,6 +28,31 @@ UnderAt defs Ty-F.Nat Ty-F.Int = Unit {0}
 UnderAt defs (Ty-F.List x) (Ty-F.List y) = Sub defs x y
 UnderAt defs (Ty-F.Opt x) (Ty-F.Opt y) = Sub defs x y
 UnderAt defs _ _ = ⊥
+
+-- What one level of two types says: the first is below, or apart, or as these elements are.
+pub data Said : Type 0 where
+  under : Said
+  apart : Said
+  elements : Ty → Ty → Said
+
+-- what is told by a level
+abbrev pub told : Level → Said
+told level.Below = Said.under
+told level.Apart = Said.apart
+told (level.Elements one other) = Said.elements one.now other.now
+
+-- what two meanings say
+abbrev pub level_at : Ty-F Ty → Ty-F Ty → Said
+level_at Ty-F.Nat Ty-F.Int = Said.under
+level_at (Ty-F.List x) (Ty-F.List y) = Said.elements x y
+level_at (Ty-F.Opt x) (Ty-F.Opt y) = Said.elements x y
+level_at _ _ = Said.apart
+
+-- what is said makes the first type a subtype
+abbrev pub Holds : List SyntaxDef → Said → Type 0
+Holds defs Said.under = Unit {0}
+Holds defs Said.apart = ⊥
+Holds defs (Said.elements x y) = Sub defs x y
 
 -- ---- a value, by the meaning of a type
 

@@ -1,6 +1,5 @@
 use Rattle.std.proofs.Common.{rules, [], ◌∷◌}
 use Rattle.st_elab_table.specs.Questions.{Breach}
-use Rattle.st_elab_rows.specs.Told.{Told}
 use Rattle.st_elab_rows.proofs.Builds.{Told-stops}
 use Rattle.st_elab_rule.specs.Rules.{RuleBreach}
 use Rattle.st_elab_def.specs.Phases.{Placed, rule, on_rule}

@@ -1,4 +1,4 @@
-use Rattle.std.proofs.Common.{refl, sym, ap, ◌∙◌, subst, take, inl}
+use Rattle.std.proofs.Common.{refl, sym, subst, take, inl}
 use Rattle.std.specs.List.{list_any}
 use Rattle.st_el.specs.declared.definition.Def.{Def}
 use Rattle.st_dims.proofs.Lists.{next_taken}

@@ -1,4 +1,4 @@
-use Rattle.std.proofs.Common.{ap, ◌∙◌, None}
+use Rattle.std.proofs.Common.{ap, ◌∙◌}
 use Rattle.st_el.specs.declared.definition.DefNode.TheVariants.{Syntax}
 use Rattle.st_elab_def.proofs.Declaring.{whole-first, whole-again, content-new}
 use Rattle.st_elab_def.proofs.declarations.declare.Goals as goal

@@ -1,4 +1,4 @@
-use Rattle.std.proofs.Common.{◌≡◌, sym, ap, ◌∙◌, refl, Some, None}
+use Rattle.std.proofs.Common.{ap, ◌∙◌}
 use Rattle.st_el.specs.Erasure.{is_fragment_node}
 use Rattle.st_el.specs.declared.definition.DefNode.TheVariants.{Syntax}
 use Rattle.st_elab_def.proofs.joining.as_fragment.Goals as goal

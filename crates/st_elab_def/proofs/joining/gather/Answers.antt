@@ -1,4 +1,4 @@
-use Rattle.std.proofs.Common.{ap, ◌∙◌}
+use Rattle.std.proofs.Common.{◌∙◌}
 use Rattle.st_elab_def.proofs.ContentLemmas.{ok_both}
 use Rattle.st_elab_def.proofs.Gathering.{gathered-more, gathered-same}
 use Rattle.st_elab_def.proofs.joining.gather.Goals as goal

@@ -1,4 +1,4 @@
-use Rattle.std.proofs.Common.{◌≡◌, sym, ap, ◌∙◌, ◌++◌}
+use Rattle.std.proofs.Common.{ap, ◌∙◌, ◌++◌}
 use Rattle.std.specs.Prelude.{flat_map}
 use Rattle.st_el.specs.Erasure.{alternatives_in}
 use Rattle.st_elab_def.specs.DeclsOf.{alternative_of}

@@ -1,5 +1,4 @@
 use Rattle.std.proofs.Common.{ap, ◌∙◌, ◌++◌}
-use Rattle.std.specs.Prelude.{flat_map}
 use Rattle.st_elab_def.proofs.ContentLemmas.{ok_both}
 use Rattle.st_elab_def.proofs.Gathering.{fragment-declares, untaken-take, untaken-skip, own-declares}
 use Rattle.st_elab_def.proofs.joining.push_declared.Goals as goal

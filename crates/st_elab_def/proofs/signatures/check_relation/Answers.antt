@@ -1,4 +1,4 @@
-use Rattle.std.proofs.Common.{◌≡◌, refl, sym, subst, ◌∙◌, inl, Bool, List, [], ◌∷◌, length}
+use Rattle.std.proofs.Common.{refl, sym, subst, ◌∙◌, inl, Bool, List, [], ◌∷◌, length}
 use Rattle.std.specs.Prelude.{IfSome, IfNone, flat_map}
 use Rattle.st_elab_sig.specs.Modes.{IsMode}
 use Rattle.st_elab_sig.specs.Signatures.{holes_of}

@@ -1,4 +1,4 @@
-use Rattle.std.proofs.Common.{◌≡◌, subst, ap, ◌∙◌, [], ◌∷◌, ◌++◌}
+use Rattle.std.proofs.Common.{subst, ap, ◌∙◌, [], ◌∷◌, ◌++◌}
 use Rattle.std.specs.Prelude.{flat_map}
 use Rattle.st_el.specs.declared.definition.Def.{Def}
 use Rattle.st_elab_def.specs.Phases.{names_in, all_declared, on_relation, on_signature, on_signature_at}

@@ -1,6 +1,7 @@
 use Rattle.std.proofs.Common.{sym, ap, ◌∙◌}
 use Rattle.st_el.specs.declared.expression.Node.{out-Node}
 use Rattle.st_el.specs.declared.expression.Node.TheVariants as node
+use Rattle.st_elab_rows.specs.Asking.{manner}
 use Rattle.st_elab_rows.proofs.Builds.{leading_by}
 use Rattle.st_elab_exp.proofs.Checking.{form_arm, form_concatenation, form_binary, form_other}
 use Rattle.st_elab_exp.proofs.checked.form_row.Goals as goal
@@ -37,7 +38,7 @@ pub returns-in_default : goal.returns-in_default
 returns-in_default g c =
     let x = c.args.context.now in
     let part = c.args.part.now in
-    leading_by _ _ _ _ _ _ (λ a h. form_other x.decls.now x.scope.now x.within.now part.at part.in_parentheses part.exp.now c.args.ty.now c.args.meaning.now c.args.node.now a
+    leading_by _ _ _ _ _ _ (λ a h. form_other x.decls.now x.scope.now x.within.now part.at (manner part) part.exp.now c.args.ty.now c.args.meaning.now c.args.node.now a
     c.in_default.not-Eps c.in_default.not-Binary c.in_default.not-Iter c.in_default.not-Seq c.in_default.not-Fields c.in_default.not-Atom c.in_default.not-Infix c.in_default.not-Bracket h)
     c.other_row-in_default.ensures
 
@@ -45,7 +46,7 @@ pub returns-in-Concatenation : goal.returns-in-Concatenation
 returns-in-Concatenation g c =
     let x = c.args.context.now in
     let part = c.args.part.now in
-    leading_by _ _ _ _ _ _ (λ a h. form_concatenation x.decls.now x.scope.now x.within.now part.at part.in_parentheses part.exp.now _ _ c.in-Binary.sign c.args.ty.now c.args.meaning.now c.args.node.now a
+    leading_by _ _ _ _ _ _ (λ a h. form_concatenation x.decls.now x.scope.now x.within.now part.at (manner part) part.exp.now _ _ c.in-Binary.sign c.args.ty.now c.args.meaning.now c.args.node.now a
     (c.in-Binary.is ∙ (λ k. node.Binary (sym c.get.ensures k) c.in-Binary.sign (sym c.get-in-Concatenation.ensures k)))
     (sym c.operator_of.ensures ∙ c.in-Concatenation.is) h) c.concatenation_row.ensures
 
@@ -53,5 +54,5 @@ pub returns-in_default-operator_of : goal.returns-in_default-operator_of
 returns-in_default-operator_of g c =
     let x = c.args.context.now in
     let part = c.args.part.now in
-    leading_by _ _ _ _ _ _ (λ a h. form_binary x.decls.now x.scope.now x.within.now part.at part.in_parentheses part.exp.now _ _ c.in-Binary.sign c.args.ty.now c.args.meaning.now c.args.node.now a
+    leading_by _ _ _ _ _ _ (λ a h. form_binary x.decls.now x.scope.now x.within.now part.at (manner part) part.exp.now _ _ c.in-Binary.sign c.args.ty.now c.args.meaning.now c.args.node.now a
     c.in-Binary.is (λ e. c.in_default-operator_of.not-Concatenation (c.operator_of.ensures ∙ e)) h) c.other_row.ensures

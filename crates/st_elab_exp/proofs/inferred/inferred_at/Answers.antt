@@ -61,11 +61,11 @@ returns-in-Slice g c =
 
 pub returns-in-Update : goal.returns-in-Update
 returns-in-Update g c =
-    inferred_arm c.args.context.now c.args.at c.args.node.now _ _ (ap out-Node (c.in-Update.is ∙ (λ k. node.Update (sym c.get-in-Update.ensures k) (sym c.as_slice-in-Update.ensures k) (sym c.get-in-Update-2.ensures k))) ∙ node.outs-Update _ _ _) c.update_row.ensures
+    inferred_arm c.args.context.now c.args.at c.args.node.now _ _ (ap out-Node (c.in-Update.is ∙ (λ k. node.Update (sym c.get-in-Update.ensures k) (sym c.as_slice-path.ensures k) (sym c.get-in-Update-2.ensures k))) ∙ node.outs-Update _ _ _) c.update_row.ensures
 
 pub returns-in-Extend : goal.returns-in-Extend
 returns-in-Extend g c =
-    inferred_arm c.args.context.now c.args.at c.args.node.now _ _ (ap out-Node (c.in-Extend.is ∙ (λ k. node.Extend (sym c.get-in-Extend.ensures k) (sym c.as_slice-in-Extend.ensures k) (sym c.get-in-Extend-2.ensures k))) ∙ node.outs-Extend _ _ _) c.extension_row.ensures
+    inferred_arm c.args.context.now c.args.at c.args.node.now _ _ (ap out-Node (c.in-Extend.is ∙ (λ k. node.Extend (sym c.get-in-Extend.ensures k) (sym c.as_slice-path-in-Extend.ensures k) (sym c.get-in-Extend-2.ensures k))) ∙ node.outs-Extend _ _ _) c.extension_row.ensures
 
 pub returns-in-Len : goal.returns-in-Len
 returns-in-Len g c =

@@ -1,4 +1,4 @@
-use Rattle.std.proofs.Common.{rules, refl, sym, subst}
+use Rattle.std.proofs.Common.{rules, refl, sym, ap, ◌∙◌, subst, length}
 use Rattle.st_il.specs.declared.expression.IlExp.{IlExp}
 use Rattle.st_elab_table.specs.Questions.{Breach}
 use Rattle.st_elab_table.specs.Steps.{each_asked, exp_of}
@@ -9,6 +9,9 @@ use Rattle.st_elab_rule.specs.Premises.{ElabPrems, PremsBreach}
 use Rattle.st_elab_rule.specs.Clauses.{parts_of, ElabClause, ClauseBreach, in_arguments, in_result, in_premises}
 use Rattle.st_elab_rule.proofs.Clausing.{questions_are}
 use Rattle.st_elab_rule.proofs.clause.clause_in.Goals as goal
+
+pub check_parts-requires : goal.check_parts-requires
+check_parts-requires c = c.requires.number ∙ ap length (sym c.as_slice.ensures)
 
 pub returns-in_err-exps : goal.returns-in_err-exps
 returns-in_err-exps c = λ at.

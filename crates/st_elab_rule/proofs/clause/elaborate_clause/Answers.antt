@@ -5,7 +5,9 @@ use Rattle.st_elab_rows.specs.Told.{Told}
 use Rattle.st_elab_rows.proofs.Builds.{Told-stops}
 use Rattle.st_elab_rule.specs.Variables.{VariableBreach}
 use Rattle.st_elab_rule.specs.Clauses.{parts_of, mentions_of, HasArguments, ElabClause, ClauseBreach, in_number, at_variable}
+use Rattle.st_elab_rule.specs.Erasing.{ClauseErases}
 use Rattle.st_elab_rule.proofs.Outcomes.{told_given, told_refused}
+use Rattle.st_elab_rule.proofs.Erasing.{clause_erases, told_ok}
 use Rattle.st_elab_rule.proofs.Defining.{clause_one}
 use Rattle.st_elab_rule.proofs.clause.elaborate_clause.Goals as goal
 
@@ -29,6 +31,7 @@ returns-in_err-scope c =
       told = told;
       gives = λ clause h. told_given (ElabClause D f parts) (ClauseBreach D f at parts) _ clause (clause_one D f at parts) told h;
       refuses = λ b h. told_refused (ElabClause D f parts) (ClauseBreach D f at parts) _ b (clause_one D f at parts) told h;
+      erased = λ il declares. told_ok (ElabClause D f parts) (ClauseErases il f parts) (ClauseBreach D f at parts) _ (λ clause h. clause_erases il D declares f parts clause h) told;
     }
 
 pub returns : goal.returns
@@ -46,4 +49,5 @@ returns c =
       told = told;
       gives = λ clause h. told_given (ElabClause D f parts) (ClauseBreach D f at parts) _ clause (clause_one D f at parts) told h;
       refuses = λ b h. told_refused (ElabClause D f parts) (ClauseBreach D f at parts) _ b (clause_one D f at parts) told h;
+      erased = λ il declares. told_ok (ElabClause D f parts) (ClauseErases il f parts) (ClauseBreach D f at parts) _ (λ clause h. clause_erases il D declares f parts clause h) told;
     }

@@ -5,7 +5,9 @@ use Rattle.st_elab_rows.specs.Told.{Told}
 use Rattle.st_elab_rows.proofs.Builds.{Told-stops}
 use Rattle.st_elab_rule.specs.Variables.{VariableBreach}
 use Rattle.st_elab_rule.specs.Rules.{ElabRule, RuleBreach, at_variable}
+use Rattle.st_elab_rule.specs.Erasing.{RuleErases}
 use Rattle.st_elab_rule.proofs.Outcomes.{told_given, told_refused}
+use Rattle.st_elab_rule.proofs.Erasing.{rule_erases, told_ok}
 use Rattle.st_elab_rule.proofs.Defining.{rule_one}
 use Rattle.st_elab_rule.proofs.rule.elaborate_rule.Goals as goal
 
@@ -25,6 +27,7 @@ returns-in_err-scope c =
       told = told;
       gives = λ rule h. told_given (ElabRule D R name e ps) (RuleBreach D R e ps) _ rule (rule_one D R name e ps) told h;
       refuses = λ b h. told_refused (ElabRule D R name e ps) (RuleBreach D R e ps) _ b (rule_one D R name e ps) told h;
+      erased = λ il declares known. told_ok (ElabRule D R name e ps) (RuleErases il R name e ps) (RuleBreach D R e ps) _ (λ rule h. rule_erases il D declares R name e ps rule known h) told;
     }
 
 pub returns : goal.returns
@@ -40,4 +43,5 @@ returns c =
       told = told;
       gives = λ rule h. told_given (ElabRule D R name e ps) (RuleBreach D R e ps) _ rule (rule_one D R name e ps) told h;
       refuses = λ b h. told_refused (ElabRule D R name e ps) (RuleBreach D R e ps) _ b (rule_one D R name e ps) told h;
+      erased = λ il declares known. told_ok (ElabRule D R name e ps) (RuleErases il R name e ps) (RuleBreach D R e ps) _ (λ rule h. rule_erases il D declares R name e ps rule known h) told;
     }

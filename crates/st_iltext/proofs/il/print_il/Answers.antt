@@ -1,14 +1,9 @@
-use Rattle.std.proofs.Common.{List, sym, subst, arith}
-use Rattle.std.specs.List.{All}
+use Rattle.std.proofs.Common.{List, subst, arith}
 use Rattle.st_il.specs.declared.definition.IlDef.{IlDef}
 use Rattle.st_text.specs.Printing.{IsCutOff}
-use Rattle.st_iltext.specs.inner.SmallForms.{IsOfAtoms}
 use Rattle.st_text.proofs.CutOff.{OnErr-any, written_cut, written_step}
-use Rattle.st_iltext.proofs.SmallTrees.{lines_of, lines-drop, il_of_atoms, il_text}
+use Rattle.st_iltext.proofs.SmallTrees.{lines_of, lines-drop, il_text}
 use Rattle.st_iltext.proofs.il.print_il.Goals as goal
-
-pub print_line-requires : goal.print_line-requires
-print_line-requires c = subst IsOfAtoms (sym c.def-item.is) (subst (λ (ds : List IlDef). All IsOfAtoms ds) (sym c.as_slice-def-items.ensures) (il_of_atoms c.args.il.now c.requires) c.loop-def.def-index c.def-item.result (omega arith))
 
 pub returns-in_err-print_line-clause-err : goal.returns-in_err-print_line-clause-err
 returns-in_err-print_line-clause-err c =

@@ -4,31 +4,30 @@ use Rattle.std.specs.Map.{lookup}
 use Rattle.std.proofs.lemmas.Option.{slice_get-get_or}
 use Rattle.indexmap.proofs.CallerLemmas.{insert_entry-new}
 use Rattle.st_type_table.specs.inner.Kept.{kept_of}
-use Rattle.st_type_table.proofs.PartLemmas.{read-at, same-item}
+use Rattle.st_type_table.proofs.PartLemmas.{read-at}
 use Rattle.st_type_table.proofs.BuildLemmas.{sound-new}
 use Rattle.st_type_table.proofs.FillLemmas.{lookup-none, kept-next, take-all}
 use Rattle.st_type_table.proofs.build.fill.Goals as goal
 
 pub loop-at-preserved : goal.loop-at-preserved
 loop-at-preserved c =
-    let there = read-at c.args.defs.now c.loop-at.at c.index-defs-at.result c.loop-at-test.true c.index-defs-at.is in
-    let again = read-at c.args.defs.now c.loop-at.at c.index-defs-at-in-loop-at.result c.loop-at-test.true c.index-defs-at-in-loop-at.is in
-    let fits : c.loop-at.at < length c.args.ranks.now = let e = c.requires.ranks in let h = c.loop-at-test.true in omega (arith, e, h) in
-    let flat_fits : c.loop-at.at < length c.args.flats.now = let e = c.requires.flats in let h = c.loop-at-test.true in omega (arith, e, h) in
-    let join_fits : c.loop-at.at < length c.args.joins.now = let e = c.requires.joins in let h = c.loop-at-test.true in omega (arith, e, h) in
-    let named : c.in_ok-name.name ≡ c.index-defs-at.result.name = c.in_ok-name.ensures ∙ ap (λ d. d.name) (sym c.index-defs-at.is) in
+    let there = c.nth-def.ensures in
+    let within : c.loop-at.at < length c.args.defs.now = let h = c.loop-at-test.true in let l = c.len-at-end.ensures in omega (arith, h, l) in
+    let fits : c.loop-at.at < length c.args.ranks.now = let e = c.requires.ranks in omega (arith, e, within) in
+    let flat_fits : c.loop-at.at < length c.args.flats.now = let e = c.requires.flats in omega (arith, e, within) in
+    let join_fits : c.loop-at.at < length c.args.joins.now = let e = c.requires.joins in omega (arith, e, within) in
+    let named : c.in_ok-name.name ≡ c.nth-def.result.now.name = c.in_ok-name.ensures in
     let none : lookup (pointwise nat_eq c.in_ok-name.name) c.loop-at.map.entries ≡ None =
     ap (λ es. lookup (pointwise nat_eq c.in_ok-name.name) es) c.loop-at.invariant
     ∙ ap (λ n. lookup (pointwise nat_eq n) (take c.loop-at.at (kept_of c.args.defs.now c.args.ranks.now c.args.flats.now c.args.joins.now))) named
-    ∙ lookup-none c.args.defs.now c.args.ranks.now c.args.flats.now c.args.joins.now c.loop-at.at c.index-defs-at.result.name (sound-new c.args.defs.now c.requires.sound c.loop-at.at c.index-defs-at.result there) in
-    let name_is : c.in_ok-name.name ≡ c.index-defs-at-in-loop-at.result.name = named ∙ ap (λ d. d.name) (same-item c.args.defs.now c.loop-at.at c.index-defs-at.result c.index-defs-at-in-loop-at.result there again) in
+    ∙ lookup-none c.args.defs.now c.args.ranks.now c.args.flats.now c.args.joins.now c.loop-at.at c.nth-def.result.now.name (sound-new c.args.defs.now c.requires.sound c.loop-at.at c.nth-def.result.now there) in
     c.in_ok-insert.ensures ∙ insert_entry-new (pointwise nat_eq) c.loop-at.map c.in_ok-name.name c.in_ok-entry.entry none
     ∙ ap (λ es. es ++ (c.in_ok-name.name, c.in_ok-entry.entry) ∷ []) c.loop-at.invariant
-    ∙ (λ i. take c.loop-at.at (kept_of c.args.defs.now c.args.ranks.now c.args.flats.now c.args.joins.now) ++ (name_is i, c.in_ok-entry.ensures i) ∷ [])
-    ∙ sym (kept-next c.args.defs.now c.args.ranks.now c.args.flats.now c.args.joins.now c.loop-at.at c.index-defs-at-in-loop-at.result (get_or c.args.ranks.now c.loop-at.at 0) c.index-flats-at.result (get_or c.args.joins.now c.loop-at.at 0)
-    again (slice_get-get_or c.args.ranks.now c.loop-at.at 0 fits) (read-at c.args.flats.now c.loop-at.at c.index-flats-at.result flat_fits c.index-flats-at.is)
+    ∙ (λ i. take c.loop-at.at (kept_of c.args.defs.now c.args.ranks.now c.args.flats.now c.args.joins.now) ++ (named i, c.in_ok-entry.ensures i) ∷ [])
+    ∙ sym (kept-next c.args.defs.now c.args.ranks.now c.args.flats.now c.args.joins.now c.loop-at.at c.nth-def.result.now (get_or c.args.ranks.now c.loop-at.at 0) c.index-flats-at.result (get_or c.args.joins.now c.loop-at.at 0)
+    there (slice_get-get_or c.args.ranks.now c.loop-at.at 0 fits) (read-at c.args.flats.now c.loop-at.at c.index-flats-at.result flat_fits c.index-flats-at.is)
     (slice_get-get_or c.args.joins.now c.loop-at.at 0 join_fits))
     ∙ ap (λ n. take n (kept_of c.args.defs.now c.args.ranks.now c.args.flats.now c.args.joins.now)) (sym (add-one c.loop-at.at))
 
 pub returns : goal.returns
-returns c = c.loop-at.invariant ∙ take-all c.args.defs.now c.args.ranks.now c.args.flats.now c.args.joins.now c.loop-at.at c.loop-at-test.false
+returns c = c.loop-at.invariant ∙ take-all c.args.defs.now c.args.ranks.now c.args.flats.now c.args.joins.now c.loop-at.at (let h = c.loop-at-test.false in let l = c.len-at-end.ensures in omega (arith, h, l))

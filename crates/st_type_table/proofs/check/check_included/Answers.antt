@@ -20,3 +20,12 @@ returns-then-not-branch c = inr (
     inl ((λ v. let m = c.in_ok-is_variant.ensures.1 v in let e : false ≡ true = sym c.if-not-branch.true ∙ m in cc), c.whole-then-not-branch.ensures),
   ),
 )
+
+pub returns : goal.returns
+returns c = (
+  is-declared c.args.defs.now c.args.name.now c.in-Some.place (sym c.in-Some.ensures),
+  (
+    (λ l. let m = (c.requires.marks c.args.name.now c.in-Some.place (inl refl) (sym c.in-Some.ensures)).1 l in let e : false ≡ true = sym c.if-mark.false ∙ c.mark.ensures ∙ m in cc),
+    (c.in_ok-is_variant.ensures.0 c.if-not-branch.false, tt),
+  ),
+)

@@ -2,5 +2,5 @@ use Rattle.std.proofs.Common.{◌≡◌, map, take}
 use Rattle.st_type_table.specs.inner.Graph.{node_of}
 use Rattle.st_type_table.proofs.place.leads_graph.Given as goal
 
-abbrev pub invariant-loop-def : goal.invariant-loop-def
-invariant-loop-def l = l.graph ≡ map (node_of l.defs) (take l.def-index l.defs)
+abbrev pub invariant-loop-number : goal.invariant-loop-number
+invariant-loop-number l = l.graph ≡ map (node_of l.defs) (take l.number l.defs)

@@ -1,7 +1,0 @@
-use Rattle.std.proofs.Common.{◌≡◌, take}
-use Rattle.std.specs.Prelude.{flat_map}
-use Rattle.st_elab_def.specs.DeclsOf.{fun_in}
-use Rattle.st_elab_def.proofs.decls.funs_in.Given as goal
-
-abbrev pub invariant-loop-def : goal.invariant-loop-def
-invariant-loop-def l = l.out ≡ flat_map fun_in (take l.def-index l.defs)

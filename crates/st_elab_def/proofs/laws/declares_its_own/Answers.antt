@@ -1,0 +1,5 @@
+use Rattle.st_elab_def.proofs.Owning.{declares_own}
+use Rattle.st_elab_def.proofs.laws.declares_its_own.Goals as goal
+
+pub returns : goal.returns
+returns c = declares_own
