@@ -21,6 +21,8 @@ pub mod Coming
 pub mod Going
 pub mod Looping
 pub mod Sounding
+pub mod Placing
+pub mod Elaborating
 pub mod Passing
 pub mod Holding
 pub mod SoundSyntaxes

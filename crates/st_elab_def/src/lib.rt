@@ -27,6 +27,7 @@ mod parts;
 mod places;
 mod signatures;
 mod tables;
+mod whole;
 
 pub use breach::{Breach, DefFault};
 pub use elaborated::Elaborated;
