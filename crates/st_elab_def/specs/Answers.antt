@@ -1,4 +1,4 @@
--- What `elaborate` answers, and which sources have templates.
+-- What the elaboration of a source answers, and which sources have templates.
 use Rattle.std.specs.Prelude.{◌≡◌, List, Result, Ok, Err, ⊤}
 use Rattle.std.specs.List.{AllByRecursion}
 use Rattle.st_el.specs.declared.definition.Body.{Body}

@@ -18,7 +18,7 @@ pub mod Phases
 pub mod Breaches
 -- the internal language of a source
 pub mod Elaboration
--- what `elaborate` answers, and which sources have templates
+-- what the elaboration of a source answers, and which sources have templates
 pub mod Answers
 -- ---- what only proofs need
 pub mod inner
