@@ -10,8 +10,8 @@ use Rattle.st_elab_rule.specs.Judgements.{broken}
 use Rattle.st_elab_def.specs.declared.names.Named.{Named}
 use Rattle.st_elab_def.specs.Phases.{all_declared}
 use Rattle.st_elab_def.specs.inner.Walk.{AllPassAt, FirstBreachAt}
-use Rattle.st_elab_def.proofs.Naming.{all_declared-append}
-use Rattle.st_elab_def.proofs.Walking.{AllPassAt-append, FirstBreachAt-behind}
+use Rattle.st_elab_def.proofs.NamesIn.{all_declared-append}
+use Rattle.st_elab_def.proofs.Leaves.{AllPassAt-append, FirstBreachAt-behind}
 
 there : (o : Option SyntaxBody) → is_some o ≡ true → o ≡ None → ⊥
 there (Some b) h e = cc

@@ -22,7 +22,7 @@ use Rattle.st_elab_def.specs.declared.names.Named.{Named}
 use Rattle.st_elab_def.specs.Phases.{names_in, on_alias_name, of_definition}
 use Rattle.st_elab_def.specs.Breaches.{FirstBreach, IsBreach}
 use Rattle.st_elab_def.specs.inner.Walk.{standing}
-use Rattle.st_elab_def.proofs.Walking.{FirstBreach-front}
+use Rattle.st_elab_def.proofs.Leaves.{FirstBreach-front}
 
 abbrev pub place : ℕ → ℕ → Span
 place line column = record { file = 0; line = line; column = column }

@@ -33,7 +33,7 @@ use Rattle.st_elab_def.specs.DeclsOf.{alternative_of, alternative_at as alternat
 use Rattle.st_elab_def.specs.Phases.{placed_type, names_in, all_declared, on_alternative, on_alternatives, on_alternative_at, of_definition}
 use Rattle.st_elab_def.specs.Breaches.{FirstBreach, IsBreach}
 use Rattle.st_elab_def.specs.inner.Walk.{standing}
-use Rattle.st_elab_def.proofs.Walking.{FirstBreach-front}
+use Rattle.st_elab_def.proofs.Leaves.{FirstBreach-front}
 use Rattle.st_elab_def.proofs.Examples.{place, typ, notation, def}
 
 -- ---- syntax a = | A nat | A text

@@ -36,7 +36,7 @@ use Rattle.st_elab_def.specs.Phases.{placed_type, names_in, all_declared, on_alt
 use Rattle.st_elab_def.specs.Breaches.{AllPass}
 use Rattle.st_elab_def.specs.Elaboration.{declaration, IsElaborated}
 use Rattle.st_elab_def.specs.inner.Walk.{standing}
-use Rattle.st_elab_def.proofs.Walking.{AllPass-append}
+use Rattle.st_elab_def.proofs.Leaves.{AllPass-append}
 use Rattle.st_elab_def.proofs.Examples.{place, notation, def, name_at, names-Name}
 use Rattle.st_elab_def.proofs.ExamplesOfCases.{one_case}
 

@@ -25,11 +25,11 @@ use Rattle.st_elab_def.specs.Breaches.{AllPass}
 use Rattle.st_elab_def.specs.inner.Declaring.{is_whole, any_def}
 use Rattle.st_elab_def.specs.inner.Joining.{joined_of}
 use Rattle.st_elab_def.specs.inner.Walk.{standing, AllPassAt, asked_of}
-use Rattle.st_elab_def.proofs.Declaring.{any-same, any-either, and-true, fragment-same}
+use Rattle.st_elab_def.proofs.Knows.{any-same, any-either, and-true, fragment-same}
 use Rattle.st_elab_def.proofs.DeclaredLists.{syntaxes-append}
-use Rattle.st_elab_def.proofs.Holding.{body-holds, fragments-pass, whole-asked, joined-asked}
-use Rattle.st_elab_def.proofs.Indexing.{any-more, any-implied, same-refl}
-use Rattle.st_elab_def.proofs.Passing.{AllPass-front, AllPass-back, AllPass-at}
+use Rattle.st_elab_def.proofs.AllHold.{body-holds, fragments-pass, whole-asked, joined-asked}
+use Rattle.st_elab_def.proofs.Insertion.{any-more, any-implied, same-refl}
+use Rattle.st_elab_def.proofs.AllPass.{AllPass-front, AllPass-back, AllPass-at}
 
 -- ---- the names of syntaxes
 

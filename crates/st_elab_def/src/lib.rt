@@ -9,6 +9,7 @@
 //! `docs/internal-language.md`, and those on rules and clauses in `docs/elaboration.md`.
 #![tactic(auto)]
 
+mod assembly;
 mod bodies;
 mod breach;
 mod contents;
@@ -26,10 +27,12 @@ mod numbered;
 mod parts;
 mod places;
 mod signatures;
+mod source;
 mod tables;
 mod whole;
 
 pub use breach::{Breach, DefFault};
 pub use elaborated::Elaborated;
 pub use laws::{declares_its_own, one_outcome};
+pub use source::elaborate;
 pub use tables::decls;

@@ -1,6 +1,6 @@
 //! How the whole internal language is put together, definition by definition.
 
-ghost use Rattle.std.specs.Prelude.{◌≡◌, [], ◌∷◌, ◌++◌, List, reverse, flat_map, false, IfOk, OnOk};
+ghost use Rattle.std.specs.Prelude.{◌≡◌, [], ◌∷◌, ◌++◌, List, reverse, flat_map, None, IfOk, OnOk};
 ghost use Rattle.st_el.specs.declared.definition.Def.{Def};
 ghost use Rattle.st_il.specs.declared.definition.IlDef.{IlDef};
 ghost use Rattle.st_elab_table.specs.declared.decls.Decls.{Decls};
@@ -9,7 +9,7 @@ ghost use Rattle.st_elab_def.specs.DeclsOf.{declared_by};
 ghost use Rattle.st_elab_def.specs.Fragments.{is_later};
 ghost use Rattle.st_elab_def.specs.inner.Contents.{Makes};
 ghost use Rattle.st_elab_def.specs.inner.Joining.{joined_of};
-ghost use Rattle.st_elab_def.specs.inner.Whole.{KnowsFragments, Takes, PlacesOne};
+ghost use Rattle.st_elab_def.specs.inner.Whole.{KnowsFragments, with_one, PlacesOne};
 
 use crate::elaborated::Elaborated;
 use crate::index::add;
@@ -36,34 +36,53 @@ pub(crate) fn is_later<'a>(
     }
 }
 
-/// What was made, or else the last of what is pending.
-fn taken(made: Option<IlDef>, pending: &mut Row<IlDef>) -> Option<IlDef>
-    ensures { Takes made pending.old pending.new result }
+/// Adds a definition, which comes from that of this number.
+fn push(def: IlDef, number: u32, out: &mut Elaborated) -> Result<(), NoMemory>
+    ensures { OnOk result (out.new ≡ with_one out.old def number) }
 {
-    match made {
-        Some(content) => Some(content),
-        None => pending.pop(),
+    out.il.defs.push(def)?;
+    out.sources.push(number)
+}
+
+/// Adds what is declared next, where the definition of this number is no later fragment.
+fn place_declared(
+    later: bool,
+    number: u32,
+    declared: &mut Row<IlDef>,
+    out: &mut Elaborated,
+) -> Result<(), NoMemory>
+    ensures { OnOk result ((D : Decls) (d : Definition) (rest : List IlDef) → later ≡ is_later d
+        → number ≡ number_of d → Makes D d None
+        → reverse declared.old ≡ flat_map declared_by (joined_of d) ++ rest
+        → PlacesOne D d rest declared.new out.old out.new) }
+{
+    if later {
+        return Ok(());
+    }
+    match declared.pop() {
+        Some(def) => push(def, number, out),
+        None => Ok(()),
     }
 }
 
-/// Adds what the definition of this number stands for: what was made of it, or else what is pending
-/// next.
+/// Adds what the definition of this number stands for: what was made of it, or else what is declared
+/// next; a later fragment stands for nothing.
 pub(crate) fn place(
+    later: bool,
     made: Option<IlDef>,
     number: u32,
-    pending: &mut Row<IlDef>,
+    declared: &mut Row<IlDef>,
     out: &mut Elaborated,
 ) -> Result<(), NoMemory>
-    ensures { OnOk result ((D : Decls) (d : Definition) (rest : List IlDef) → is_later d ≡ false
+    ensures { OnOk result ((D : Decls) (d : Definition) (rest : List IlDef) → later ≡ is_later d
         → number ≡ number_of d → Makes D d made
-        → reverse pending.old ≡ flat_map declared_by (joined_of d) ++ rest
-        → PlacesOne D d rest pending.new out.old out.new) }
+        → reverse declared.old ≡ flat_map declared_by (joined_of d) ++ rest
+        → PlacesOne D d rest declared.new out.old out.new) }
 {
-    let Some(def) = taken(made, pending) else {
-        return Ok(());
-    };
-    out.il.defs.push(def)?;
-    out.sources.push(number)
+    match made {
+        Some(content) => push(content, number, out),
+        None => place_declared(later, number, declared, out),
+    }
 }
 
 /// The definitions, the last first.

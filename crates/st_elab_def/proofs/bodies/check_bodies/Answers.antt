@@ -4,9 +4,9 @@ use Rattle.st_elab_def.specs.DeclsOf.{decls_of}
 use Rattle.st_elab_def.specs.Phases.{on_body}
 use Rattle.st_elab_def.specs.declared.bodies.Source.{Source}
 use Rattle.st_elab_def.specs.inner.Bodies.{here_of}
-use Rattle.st_elab_def.proofs.Looping.{comes-to, come-next, goes-checks, numbered-found, goes-found}
-use Rattle.st_elab_def.proofs.Phasing.{phase-stop, phase-next}
-use Rattle.st_elab_def.proofs.Walking.{Leaves-end}
+use Rattle.st_elab_def.proofs.BodyLoop.{comes-to, come-next, goes-checks, numbered-found, goes-found}
+use Rattle.st_elab_def.proofs.ChecksAll.{phase-stop, phase-next}
+use Rattle.st_elab_def.proofs.Leaves.{Leaves-end}
 use Rattle.st_elab_def.proofs.bodies.check_bodies.Goals as goal
 
 pub check_body-requires : goal.check_body-requires

@@ -7,7 +7,7 @@ use Rattle.st_elab_def.specs.Fragments.{dots_suit}
 use Rattle.st_elab_def.specs.inner.Bodies.{parts_asked, body_asked, BodyPasses}
 use Rattle.st_elab_def.specs.inner.Walk.{FirstBreachAt}
 use Rattle.st_elab_def.proofs.ContentLemmas.{told_both}
-use Rattle.st_elab_def.proofs.Going.{dots-fail, dots-pass, dots-breach}
+use Rattle.st_elab_def.proofs.GoesBy.{dots-fail, dots-pass, dots-breach}
 use Rattle.st_elab_def.proofs.bodies.check_joined.Goals as goal
 
 pub returns-in_err-check_dots : goal.returns-in_err-check_dots

@@ -6,7 +6,7 @@ use Rattle.st_elab_rule.specs.Clauses.{parts_of, ClauseBreach}
 use Rattle.st_elab_def.specs.Phases.{Placed, clause, on_clause}
 use Rattle.st_elab_def.specs.inner.Heads.{on_function}
 use Rattle.st_elab_def.specs.inner.Walk.{FirstBreachAt}
-use Rattle.st_elab_def.proofs.Heading.{clause_breach, makes_clause}
+use Rattle.st_elab_def.proofs.HasHead.{clause_breach, makes_clause}
 use Rattle.st_elab_def.proofs.contents.clause_of.Goals as goal
 
 pub returns-in_err-found : goal.returns-in_err-found

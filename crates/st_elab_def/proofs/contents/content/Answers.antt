@@ -7,7 +7,7 @@ use Rattle.st_elab_def.specs.Phases.{on_rule, on_clause, on_content}
 use Rattle.st_elab_def.specs.inner.Contents.{MakesRule, MakesClause, MakesContent}
 use Rattle.st_elab_def.specs.inner.Walk.{standing, FirstBreachAt}
 use Rattle.st_elab_def.proofs.ContentLemmas.{some_rule, rule_content_breach, some_clause, clause_content_breach, no_content, told_both, ok_both, ok_any}
-use Rattle.st_elab_def.proofs.Heading.{more_rules, same_rules}
+use Rattle.st_elab_def.proofs.HasHead.{more_rules, same_rules}
 use Rattle.st_elab_def.proofs.contents.content.Goals as goal
 
 pub returns-in-Rule-clause-told : goal.returns-in-Rule-clause-told

@@ -5,7 +5,7 @@ use Rattle.st_elab_rule.specs.Rules.{RuleBreach}
 use Rattle.st_elab_def.specs.Phases.{Placed, rule, on_rule}
 use Rattle.st_elab_def.specs.inner.Heads.{HasHead, on_head}
 use Rattle.st_elab_def.specs.inner.Walk.{FirstBreachAt}
-use Rattle.st_elab_def.proofs.Heading.{rule_breach, makes_rule}
+use Rattle.st_elab_def.proofs.HasHead.{rule_breach, makes_rule}
 use Rattle.st_elab_def.proofs.contents.rule_of.Goals as goal
 
 pub returns-in_err-found-clause-told : goal.returns-in_err-found-clause-told

@@ -5,8 +5,8 @@ use Rattle.st_dims.proofs.Lists.{next_taken}
 use Rattle.st_elab_def.specs.Declarations.{declare_same}
 use Rattle.st_elab_def.specs.Phases.{on_declaration}
 use Rattle.st_elab_def.specs.inner.Declaring.{Knows}
-use Rattle.st_elab_def.proofs.Declaring.{new-passes, new-fails}
-use Rattle.st_elab_def.proofs.Walking.{number-here, Leaves-start, Leaves-next, Leaves-stop, Leaves-end}
+use Rattle.st_elab_def.proofs.Knows.{new-passes, new-fails}
+use Rattle.st_elab_def.proofs.Leaves.{number-here, Leaves-start, Leaves-next, Leaves-stop, Leaves-end}
 use Rattle.st_elab_def.proofs.declarations.declarations.Goals as goal
 
 pub loop-i-init : goal.loop-i-init

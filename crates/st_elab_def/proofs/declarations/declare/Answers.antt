@@ -1,6 +1,6 @@
 use Rattle.std.proofs.Common.{ap, ◌∙◌}
 use Rattle.st_el.specs.declared.definition.DefNode.TheVariants.{Syntax}
-use Rattle.st_elab_def.proofs.Declaring.{whole-first, whole-again, content-new}
+use Rattle.st_elab_def.proofs.Knows.{whole-first, whole-again, content-new}
 use Rattle.st_elab_def.proofs.declarations.declare.Goals as goal
 
 pub returns-then-new-clause-new : goal.returns-then-new-clause-new

@@ -1,4 +1,4 @@
-use Rattle.st_elab_def.proofs.Indexing.{has-insert}
+use Rattle.st_elab_def.proofs.Insertion.{has-insert}
 use Rattle.st_elab_def.proofs.index.add.Goals as goal
 
 pub returns-clause-more : goal.returns-clause-more

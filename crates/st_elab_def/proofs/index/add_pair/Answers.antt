@@ -1,4 +1,4 @@
-use Rattle.st_elab_def.proofs.Indexing.{has_pair-insert}
+use Rattle.st_elab_def.proofs.Insertion.{has_pair-insert}
 use Rattle.st_elab_def.proofs.index.add_pair.Goals as goal
 
 pub returns-clause-more : goal.returns-clause-more

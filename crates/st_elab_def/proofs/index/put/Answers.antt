@@ -1,4 +1,4 @@
-use Rattle.st_elab_def.proofs.Indexing.{at-insert}
+use Rattle.st_elab_def.proofs.Insertion.{at-insert}
 use Rattle.st_elab_def.proofs.index.put.Goals as goal
 
 pub returns-clause-more : goal.returns-clause-more

@@ -2,7 +2,7 @@ use Rattle.std.proofs.Common.{ap, take, drop, ◌+◌, ◌++◌, []}
 use Rattle.std.specs.Prelude.{flat_map}
 use Rattle.st_elab_def.specs.DeclsOf.{declared_by}
 use Rattle.st_el.specs.Erasure.{joined_behind}
-use Rattle.st_elab_def.proofs.Gathering.{untaken-here, untaken-next, declared-next, declared-end}
+use Rattle.st_elab_def.proofs.Gathered.{untaken-here, untaken-next, declared-next, declared-end}
 use Rattle.st_elab_def.proofs.joining.declared.Goals as goal
 
 pub loop-def-init : goal.loop-def-init

@@ -1,6 +1,6 @@
 use Rattle.std.proofs.Common.{◌∙◌}
 use Rattle.st_elab_def.proofs.ContentLemmas.{ok_both}
-use Rattle.st_elab_def.proofs.Gathering.{gathered-more, gathered-same}
+use Rattle.st_elab_def.proofs.Gathered.{gathered-more, gathered-same}
 use Rattle.st_elab_def.proofs.joining.gather.Goals as goal
 
 pub returns-in-Some : goal.returns-in-Some

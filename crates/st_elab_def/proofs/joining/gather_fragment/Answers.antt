@@ -3,7 +3,7 @@ use Rattle.std.specs.Prelude.{flat_map}
 use Rattle.st_el.specs.Erasure.{alternatives_in}
 use Rattle.st_elab_def.specs.DeclsOf.{alternative_of}
 use Rattle.st_elab_def.specs.inner.Gathering.{gathered_in}
-use Rattle.st_elab_def.proofs.Gathering.{gathered-put}
+use Rattle.st_elab_def.proofs.Gathered.{gathered-put}
 use Rattle.st_elab_def.proofs.joining.gather_fragment.Goals as goal
 
 pub returns : goal.returns

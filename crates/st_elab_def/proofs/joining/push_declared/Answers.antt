@@ -1,6 +1,6 @@
 use Rattle.std.proofs.Common.{ap, ◌∙◌, ◌++◌}
 use Rattle.st_elab_def.proofs.ContentLemmas.{ok_both}
-use Rattle.st_elab_def.proofs.Gathering.{fragment-declares, untaken-take, untaken-skip, own-declares}
+use Rattle.st_elab_def.proofs.Gathered.{fragment-declares, untaken-take, untaken-skip, own-declares}
 use Rattle.st_elab_def.proofs.joining.push_declared.Goals as goal
 
 pub returns-in-Some-clause-pushed : goal.returns-in-Some-clause-pushed

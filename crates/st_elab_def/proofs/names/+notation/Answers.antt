@@ -1,6 +1,6 @@
 use Rattle.std.proofs.Common.{rules, arith}
 use Rattle.std.proofs.lemmas.Grind.{common_steps}
-use Rattle.st_elab_def.proofs.Naming.{holes-Hole, holes-Seq, holes-Infix, holes-Bracket}
+use Rattle.st_elab_def.proofs.NamesIn.{holes-Hole, holes-Seq, holes-Infix, holes-Bracket}
 use Rattle.st_elab_def.proofs.names.+notation.Goals as goal
 
 pub push_hole_names-returns-in-Hole : goal.push_hole_names-returns-in-Hole

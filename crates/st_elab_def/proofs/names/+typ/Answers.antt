@@ -1,5 +1,5 @@
 use Rattle.std.proofs.Common.{rules}
-use Rattle.st_elab_def.proofs.Naming.{names-Name, names-Star, names-Quest, names-Tuple}
+use Rattle.st_elab_def.proofs.NamesIn.{names-Name, names-Star, names-Quest, names-Tuple}
 use Rattle.st_elab_def.proofs.names.+typ.Goals as goal
 
 pub push_names-returns-in-Name : goal.push_names-returns-in-Name

@@ -1,7 +1,7 @@
 use Rattle.std.proofs.Common.{subst}
 use Rattle.st_type_table.specs.Breach.{FindsAt}
 use Rattle.st_type_table.proofs.PartsLemmas.{FindsAt-none}
-use Rattle.st_elab_def.proofs.Advancing.{alias-passes, alias-breach}
+use Rattle.st_elab_def.proofs.BodyParts.{alias-passes, alias-breach}
 use Rattle.st_elab_def.proofs.parts.check_alias.Goals as goal
 
 pub check-requires-clause-before : goal.check-requires-clause-before

@@ -7,9 +7,9 @@ use Rattle.st_elab_def.specs.DeclsOf.{alternative_of}
 use Rattle.st_elab_def.specs.Phases.{on_alternatives}
 use Rattle.st_elab_def.specs.inner.Bodies.{IsSyntax}
 use Rattle.st_elab_def.specs.inner.Walk.{FirstBreachAt}
-use Rattle.st_elab_def.proofs.Advancing.{front-there, front-length, whole-passes}
-use Rattle.st_elab_def.proofs.Parting.{front-breach, bare-breach}
-use Rattle.st_elab_def.proofs.LookingUp.{get-there}
+use Rattle.st_elab_def.proofs.BodyParts.{front-there, front-length, whole-passes}
+use Rattle.st_elab_def.proofs.PartsAsked.{front-breach, bare-breach}
+use Rattle.st_elab_def.proofs.PlaceLookups.{get-there}
 use Rattle.st_elab_def.proofs.parts.check_cases.Goals as goal
 
 pub returns-in_err-check_run : goal.returns-in_err-check_run

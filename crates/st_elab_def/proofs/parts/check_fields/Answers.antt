@@ -1,7 +1,7 @@
 use Rattle.std.proofs.Common.{subst, refl, length}
 use Rattle.st_type_table.specs.Breach.{FindsAt}
 use Rattle.st_type_table.proofs.PartsLemmas.{FindsAt-none}
-use Rattle.st_elab_def.proofs.Advancing.{fields-pass, fields-breach}
+use Rattle.st_elab_def.proofs.BodyParts.{fields-pass, fields-breach}
 use Rattle.st_elab_def.proofs.parts.check_fields.Goals as goal
 
 pub check-requires-clause-before : goal.check-requires-clause-before

@@ -1,6 +1,6 @@
 use Rattle.std.proofs.Common.{subst}
 use Rattle.st_type_table.specs.Breach.{FindsAt}
-use Rattle.st_elab_def.proofs.Advancing.{run-passes, run-breach}
+use Rattle.st_elab_def.proofs.BodyParts.{run-passes, run-breach}
 use Rattle.st_elab_def.proofs.parts.check_run.Goals as goal
 
 pub returns-in_ok-at-in-Some : goal.returns-in_ok-at-in-Some

@@ -1,5 +1,5 @@
 use Rattle.std.proofs.Common.{sym, ◌∙◌}
-use Rattle.st_elab_def.proofs.Standing.{stand-next, stand-stop, stand-end}
+use Rattle.st_elab_def.proofs.BareTypes.{stand-next, stand-stop, stand-end}
 use Rattle.st_elab_def.proofs.parts.count_before_bare.Goals as goal
 
 pub returns-then-is_bare : goal.returns-then-is_bare

@@ -1,5 +1,5 @@
 use Rattle.std.proofs.Common.{sym}
-use Rattle.st_elab_def.proofs.LookingUp.{bare_place-other}
+use Rattle.st_elab_def.proofs.PlaceLookups.{bare_place-other}
 use Rattle.st_elab_def.proofs.places.bare_place.Goals as goal
 
 pub returns-in_default : goal.returns-in_default

@@ -1,7 +1,7 @@
 use Rattle.std.proofs.Common.{sym, ap, ◌∙◌}
 use Rattle.st_el.specs.declared.notation.Notation.{out-Notation}
 use Rattle.st_elab_def.specs.inner.Places.{name_place}
-use Rattle.st_elab_def.proofs.LookingUp.{case_place-other}
+use Rattle.st_elab_def.proofs.PlaceLookups.{case_place-other}
 use Rattle.st_elab_def.proofs.places.case_place.Goals as goal
 
 pub returns-in_ok-names-in_default : goal.returns-in_ok-names-in_default

@@ -2,7 +2,7 @@ use Rattle.std.proofs.Common.{◌≡◌, sym, ap, ◌∙◌, ◌-◌}
 use Rattle.std.proofs.lemmas.Option.{slice_get_past}
 use Rattle.st_num.specs.declared.span.Span.{Span}
 use Rattle.st_elab_def.specs.inner.Places.{alternative_place, cases_place}
-use Rattle.st_elab_def.proofs.LookingUp.{get-there, if_ok, cases_place-within, cases_place-past}
+use Rattle.st_elab_def.proofs.PlaceLookups.{get-there, if_ok, cases_place-within, cases_place-past}
 use Rattle.st_elab_def.proofs.places.cases_place.Goals as goal
 
 pub returns-in-Some : goal.returns-in-Some

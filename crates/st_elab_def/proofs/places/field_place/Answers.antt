@@ -1,5 +1,5 @@
 use Rattle.std.proofs.Common.{sym}
-use Rattle.st_elab_def.proofs.LookingUp.{field_place-other}
+use Rattle.st_elab_def.proofs.PlaceLookups.{field_place-other}
 use Rattle.st_elab_def.proofs.places.field_place.Goals as goal
 
 pub returns-in_default : goal.returns-in_default

@@ -1,6 +1,6 @@
 use Rattle.std.proofs.Common.{sym}
 use Rattle.std.proofs.lemmas.Option.{slice_get_past}
-use Rattle.st_elab_def.proofs.LookingUp.{get-there, name_place-within, name_place-past}
+use Rattle.st_elab_def.proofs.PlaceLookups.{get-there, name_place-within, name_place-past}
 use Rattle.st_elab_def.proofs.places.name_place.Goals as goal
 
 pub returns-in-Some : goal.returns-in-Some

@@ -5,7 +5,7 @@ use Rattle.st_elab_sig.specs.Signatures.{holes_of}
 use Rattle.st_elab_def.specs.Conditions.{mode}
 use Rattle.st_elab_def.specs.Phases.{placed, all_declared, names_in}
 use Rattle.st_elab_def.specs.inner.Walk.{Checks}
-use Rattle.st_elab_def.proofs.Checking.{checks-go}
+use Rattle.st_elab_def.proofs.Checks.{checks-go}
 use Rattle.st_elab_def.proofs.signatures.check_relation.Goals as goal
 
 pub returns-in_default : goal.returns-in_default

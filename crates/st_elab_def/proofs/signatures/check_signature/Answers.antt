@@ -3,7 +3,7 @@ use Rattle.std.specs.Prelude.{flat_map}
 use Rattle.st_el.specs.declared.definition.Def.{Def}
 use Rattle.st_elab_def.specs.Phases.{names_in, all_declared, on_relation, on_signature, on_signature_at}
 use Rattle.st_elab_def.specs.inner.Walk.{Checks}
-use Rattle.st_elab_def.proofs.Checking.{checks-is}
+use Rattle.st_elab_def.proofs.Checks.{checks-is}
 use Rattle.st_elab_def.proofs.signatures.check_signature.Goals as goal
 
 pub returns-in-Var : goal.returns-in-Var

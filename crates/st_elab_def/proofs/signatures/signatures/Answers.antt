@@ -1,8 +1,8 @@
 use Rattle.std.proofs.Common.{rules, refl, take, drop, ◌+◌}
 use Rattle.st_elab_def.specs.Phases.{on_signature}
 use Rattle.st_elab_def.specs.inner.Walk.{standing}
-use Rattle.st_elab_def.proofs.Phasing.{phase-stop, phase-next}
-use Rattle.st_elab_def.proofs.Walking.{Leaves-start, Leaves-end}
+use Rattle.st_elab_def.proofs.ChecksAll.{phase-stop, phase-next}
+use Rattle.st_elab_def.proofs.Leaves.{Leaves-start, Leaves-end}
 use Rattle.st_elab_def.proofs.signatures.signatures.Goals as goal
 
 pub loop-i-init : goal.loop-i-init

@@ -1,6 +1,6 @@
 use Rattle.st_elab_table.specs.declared.decls.Decls.{Decls}
 use Rattle.st_elab_def.specs.Phases.{on_signature}
-use Rattle.st_elab_def.proofs.Walking.{Leaves}
+use Rattle.st_elab_def.proofs.Leaves.{Leaves}
 use Rattle.std.proofs.Common.{◌≡◌}
 use Rattle.st_elab_def.proofs.signatures.signatures.Given as goal
 

@@ -1,4 +1,4 @@
-use Rattle.st_elab_def.proofs.Placing.{not-later, later-fragment, fragments-same, fragments-more}
+use Rattle.st_elab_def.proofs.HasCome.{not-later, later-fragment, fragments-same, fragments-more}
 use Rattle.st_elab_def.proofs.whole.is_later.Goals as goal
 
 pub returns-in_ok-add-in-Some-clause-later : goal.returns-in_ok-add-in-Some-clause-later

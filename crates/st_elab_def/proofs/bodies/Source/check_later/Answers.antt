@@ -5,7 +5,7 @@ use Rattle.st_elab_def.specs.DeclsOf.{decls_of}
 use Rattle.st_elab_def.specs.Phases.{on_body, alternatives_before}
 use Rattle.st_elab_def.specs.inner.Bodies.{body_asked, here_of}
 use Rattle.st_elab_def.specs.inner.Walk.{FirstBreachAt}
-use Rattle.st_elab_def.proofs.Going.{goes-breach, suits, later-has, later-count, later-there, later-goes, later-within, later-been}
+use Rattle.st_elab_def.proofs.GoesBy.{goes-breach, suits, later-has, later-count, later-there, later-goes, later-within, later-been}
 use Rattle.st_elab_def.proofs.bodies.Source.check_later.Goals as goal
 
 pub check_joined-requires-clause-within : goal.check_joined-requires-clause-within

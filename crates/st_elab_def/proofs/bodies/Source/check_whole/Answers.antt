@@ -5,7 +5,7 @@ use Rattle.st_elab_def.specs.DeclsOf.{decls_of}
 use Rattle.st_elab_def.specs.Phases.{on_body, alternatives_before}
 use Rattle.st_elab_def.specs.inner.Bodies.{body_asked, here_of}
 use Rattle.st_elab_def.specs.inner.Walk.{FirstBreachAt}
-use Rattle.st_elab_def.proofs.Going.{goes-breach, whole-count, whole-there, whole-goes}
+use Rattle.st_elab_def.proofs.GoesBy.{goes-breach, whole-count, whole-there, whole-goes}
 use Rattle.st_elab_def.proofs.bodies.Source.check_whole.Goals as goal
 
 pub returns-in_err-_whole : goal.returns-in_err-_whole

@@ -11,7 +11,7 @@ use Rattle.st_elab_def.specs.Breaches.{FirstBreach}
 use Rattle.st_elab_def.specs.Definitions.{Definition, definitions}
 use Rattle.st_elab_def.specs.Phases.{Placed, phase}
 use Rattle.st_elab_def.specs.inner.Walk.{standing, AllPassAt, Checks, ChecksAll, asked_of, numbered}
-use Rattle.st_elab_def.proofs.Walking.{AllPass-of, numbered-told, number-here, Leaves, Leaves-next, Leaves-stop}
+use Rattle.st_elab_def.proofs.Leaves.{AllPass-of, numbered-told, number-here, Leaves, Leaves-next, Leaves-stop}
 
 module _ (D : Decls) (on : Definition → List Placed) (defs : List Def) (i : ℕ) (def : Def) (h : i < length defs) (is : def ≡ get_or defs i def) (left : Leaves D on defs i) where
   abbrev here : Definition

@@ -10,8 +10,8 @@ use Rattle.st_elab_def.specs.DeclsOf.{decls_of}
 use Rattle.st_elab_def.specs.Elaboration.{ElabDefs, IsElaborated}
 use Rattle.st_elab_def.specs.Phases.{Question, phase, on_declaration, on_body, on_signature, on_content}
 use Rattle.st_elab_def.specs.inner.Joining.{AreContents}
-use Rattle.st_elab_def.proofs.Putting.{joined-definitions}
-use Rattle.st_elab_def.proofs.Walking.{AllPass-append, FirstBreach-front, FirstBreach-behind}
+use Rattle.st_elab_def.proofs.PlacesOne.{joined-definitions}
+use Rattle.st_elab_def.proofs.Leaves.{AllPass-append, FirstBreach-front, FirstBreach-behind}
 
 module _ (defs : List Def) where
   abbrev D : Decls

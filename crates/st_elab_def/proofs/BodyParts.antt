@@ -21,7 +21,7 @@ use Rattle.st_elab_def.specs.Phases.{names_in, on_alias_name, on_alternatives, o
 use Rattle.st_elab_def.specs.inner.Bodies.{IsSyntax, HaveBeen}
 use Rattle.st_elab_def.specs.inner.Places.{name_place, cases_place, fields_place, IsAlternative}
 use Rattle.st_elab_def.specs.inner.Walk.{AllPassAt, FirstBreachAt}
-use Rattle.st_elab_def.proofs.Parting.{alias-asked, fields-asked, cases-asked, flat-length}
+use Rattle.st_elab_def.proofs.PartsAsked.{alias-asked, fields-asked, cases-asked, flat-length}
 
 -- what is found in these definitions, which are the declared syntaxes
 module _ (D : Decls) (S : List SyntaxDef) (same : D.types ≡ S) (k : ℕ) where

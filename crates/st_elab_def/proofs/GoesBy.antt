@@ -31,8 +31,8 @@ use Rattle.st_elab_def.specs.inner.Gathering.{body_with}
 use Rattle.st_elab_def.specs.inner.Index.{at}
 use Rattle.st_elab_def.specs.inner.Last.{is_past}
 use Rattle.st_elab_def.specs.inner.Walk.{AllPassAt, FirstBreachAt}
-use Rattle.st_elab_def.proofs.Coming.{body-asked, nothing-asked, IsCases, later-cases, first-cases, cases-body, cases-advance, no-syntax, whole-syntax, later-syntax, first-syntax, begun-more, begun-there, begun-parts, begun-put, ahead-same, new-there, new-ahead, begun-skip, no-fragment, once}
-use Rattle.st_elab_def.proofs.Gathering.{parts-none}
+use Rattle.st_elab_def.proofs.ComesTo.{body-asked, nothing-asked, IsCases, later-cases, first-cases, cases-body, cases-advance, no-syntax, whole-syntax, later-syntax, first-syntax, begun-more, begun-there, begun-parts, begun-put, ahead-same, new-there, new-ahead, begun-skip, no-fragment, once}
+use Rattle.st_elab_def.proofs.Gathered.{parts-none}
 
 -- ---- the dots, and then the parts
 

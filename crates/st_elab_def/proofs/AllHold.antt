@@ -1,5 +1,5 @@
 -- What passes in a source holds of its syntaxes in the internal language.
-use Rattle.std.proofs.Common.{◌≡◌, refl, sym, ap, ◌∙◌, subst, ℕ, ◌+◌, ◌-◌, Bool, true, false, true≢false, ◌||◌, if◌then◌else◌, Some, None, List, [], ◌∷◌, ◌++◌, map, filter, append-nil}
+use Rattle.std.proofs.Common.{◌≡◌, refl, sym, ap, ◌∙◌, subst, ℕ, ◌-◌, Bool, true, false, true≢false, ◌||◌, if◌then◌else◌, Some, None, List, [], ◌∷◌, ◌++◌, map, filter, append-nil}
 use Rattle.std.specs.Prelude.{flat_map}
 use Rattle.st_num.specs.declared.span.Span.{Span}
 use Rattle.st_el.specs.Erasure.{is_fragment, is_fragment_node, alternatives, alternatives_of, alternatives_in, joined}
@@ -26,12 +26,12 @@ use Rattle.st_elab_def.specs.Phases.{Placed, names_in, on_alias_name, on_bare, o
 use Rattle.st_elab_def.specs.Breaches.{Passes, AllPass}
 use Rattle.st_elab_def.specs.inner.Places.{name_place, cases_place, fields_place}
 use Rattle.st_elab_def.specs.inner.Walk.{standing, AllPassAt, asked_of}
-use Rattle.st_elab_def.proofs.Bridging.{Same, Same-alias, Same-cases, Same-fields, AreAlternatives, plain_names, names-back}
-use Rattle.st_elab_def.proofs.Gathering.{parts-append, parts-none}
-use Rattle.st_elab_def.proofs.Indexing.{same-equal}
-use Rattle.st_elab_def.proofs.Parting.{alternatives-append}
-use Rattle.st_elab_def.proofs.Passing.{AllPass-front, AllPass-back, AllPass-at, AllPassAt-front, AllPassAt-back}
-use Rattle.st_elab_def.proofs.Walking.{AllPassAt-append}
+use Rattle.st_elab_def.proofs.Same.{Same, Same-alias, Same-cases, Same-fields, AreAlternatives, plain_names, names-back}
+use Rattle.st_elab_def.proofs.Gathered.{parts-append, parts-none}
+use Rattle.st_elab_def.proofs.Insertion.{same-equal}
+use Rattle.st_elab_def.proofs.PartsAsked.{alternatives-append}
+use Rattle.st_elab_def.proofs.AllPass.{AllPass-front, AllPass-back, AllPass-at, AllPassAt-front, AllPassAt-back}
+use Rattle.st_elab_def.proofs.Leaves.{AllPassAt-append}
 
 -- what is asked of a body whose alternatives stand behind none
 abbrev pub on_own : Span → List ℕ → Body → List Placed

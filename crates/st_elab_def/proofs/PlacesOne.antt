@@ -1,6 +1,6 @@
 -- The whole internal language is put together, definition by definition.
 use Rattle.std.proofs.Common.{◌≡◌, refl, sym, ap, ◌∙◌, subst, ℕ, ◌+◌, ◌<◌, Bool, true, false, not, true≢false, if◌then◌else◌, Some, None, List, [], ◌∷◌, ◌++◌, length, map, filter, take, drop, get_or, append-nil}
-use Rattle.std.specs.Prelude.{Option, reverse, flat_map}
+use Rattle.std.specs.Prelude.{Option, MatchOption, reverse, flat_map}
 use Rattle.std.proofs.lemmas.Grind.{common_steps, flat_map-append}
 use Rattle.std.proofs.Common.{arith}
 use Rattle.st_el.specs.Erasure.{joined_at, joined_node, joined_behind, joined, alternatives}
@@ -18,8 +18,8 @@ use Rattle.st_elab_def.specs.Fragments.{is_later_at, is_later}
 use Rattle.st_elab_def.specs.inner.Contents.{is_content, Makes}
 use Rattle.st_elab_def.specs.inner.Joining.{joined_one, joined_of}
 use Rattle.st_elab_def.specs.inner.Walk.{standing}
-use Rattle.st_elab_def.specs.inner.Whole.{Takes, PlacesOne}
-use Rattle.st_elab_def.proofs.Walking.{left_of, left_of-next}
+use Rattle.st_elab_def.specs.inner.Whole.{with_one, PlacesOne}
+use Rattle.st_elab_def.proofs.Leaves.{left_of, left_of-next}
 
 -- ---- what a definition stands for
 
@@ -85,6 +85,19 @@ content-own (Rule relation name conclusion premises) behind h = refl
 content-own (Fun name params value) behind h = refl
 content-own (Clause name args value premises) behind h = refl
 
+-- what was popped stood last
+pub popped : (declared left : List IlDef) (last : Option IlDef) (x : IlDef) → last ≡ Some x → MatchOption last ((declared ≡ []) × (left ≡ [])) (λ x. declared ≡ left ++ x ∷ [])
+    → declared ≡ left ++ x ∷ []
+popped declared left last x is h = subst (λ o. MatchOption o ((declared ≡ []) × (left ≡ [])) (λ x. declared ≡ left ++ x ∷ [])) is h
+
+content-first : (d : Definition) (node : DefNode) → is_content node ≡ true → is_later_at d node ≡ false
+content-first d (Syntax name fragment body) h = absurd (true≢false (sym h))
+content-first d (Var name typ) h = refl
+content-first d (Relation name notation) h = refl
+content-first d (Rule relation name conclusion premises) h = refl
+content-first d (Fun name params value) h = refl
+content-first d (Clause name args value premises) h = refl
+
 -- ---- one definition is placed
 
 reverse-last : (xs : List IlDef) (x : IlDef) → reverse (xs ++ x ∷ []) ≡ x ∷ reverse xs
@@ -116,30 +129,33 @@ module _ (D : Decls) (d : Definition) (rest : List IlDef) where
     sources = sources ∙ ap (λ n. old.sources ++ n ∷ []) numbered ∙ ap (λ b. old.sources ++ (if b then [] else number_of d ∷ [])) (sym first);
   }
 
-  pub places-one : (made : Option IlDef) (x : IlDef) (declared left : List IlDef) (number : ℕ) (old new : Elaborated) → is_later d ≡ false
-      → number ≡ number_of d → Takes made declared left (Some x) → Makes D d made
-      → new.il.defs ≡ old.il.defs ++ x ∷ [] → new.sources ≡ old.sources ++ number ∷ []
-      → reverse declared ≡ flat_map declared_by (joined_of d) ++ rest → PlacesOne D d rest left old new
-  places-one (Some y) x declared left number old new first numbered (kept, taken) (content, made) defs sources is =
-      let same : y ≡ x = cc in
-      placed-by x left number old new first numbered defs sources
-      (ap reverse kept ∙ is ∙ declared-first first ∙ ap (λ xs. (xs ++ []) ++ rest) (content-declares d.def.hints d.def.node d.behind content))
-      (subst (λ node. ElabDef D (record d.def { node = node }) x) (sym (content-own d.def.node d.behind content)) (subst (ElabDef D d.def) same made))
-  places-one None x declared left number old new first numbered taken content defs sources is =
+  -- a rule or a clause is added as what was made of it
+  pub places-made : (x : IlDef) (declared : List IlDef) (number : ℕ) (old : Elaborated) → number ≡ number_of d → Makes D d (Some x)
+      → reverse declared ≡ flat_map declared_by (joined_of d) ++ rest → PlacesOne D d rest declared old (with_one old x number)
+  places-made x declared number old numbered (content, made) is =
+      let first = content-first d d.def.node content in
+      placed-by x declared number old (with_one old x number) first numbered refl refl
+      (is ∙ declared-first first ∙ ap (λ xs. (xs ++ []) ++ rest) (content-declares d.def.hints d.def.node d.behind content))
+      (subst (λ node. ElabDef D (record d.def { node = node }) x) (sym (content-own d.def.node d.behind content)) made)
+
+  -- a declaration is added as what is declared next
+  pub places-declared : (x : IlDef) (declared left : List IlDef) (number : ℕ) (old : Elaborated) → is_later d ≡ false → number ≡ number_of d → Makes D d None
+      → declared ≡ left ++ x ∷ [] → reverse declared ≡ flat_map declared_by (joined_of d) ++ rest → PlacesOne D d rest left old (with_one old x number)
+  places-declared x declared left number old first numbered content last is =
       let one = declares_one d.def.hints d.def.node d.behind content in
       let all : x ∷ reverse left ≡ one.0 ∷ rest =
-      sym (reverse-last left x) ∙ sym (ap reverse taken) ∙ is ∙ declared-first first ∙ ap (λ xs. (xs ++ []) ++ rest) one.1 in
+      sym (reverse-last left x) ∙ sym (ap reverse last) ∙ is ∙ declared-first first ∙ ap (λ xs. (xs ++ []) ++ rest) one.1 in
       let head : one.0 ≡ x = cc in
       let tail : reverse left ≡ rest = cc in
-      placed-by x left number old new first numbered defs sources tail (declaration (one.1 ∙ ap (λ y. y ∷ []) head))
+      placed-by x left number old (with_one old x number) first numbered refl refl tail (declaration (one.1 ∙ ap (λ y. y ∷ []) head))
 
   -- there is a next declaration, where the definition is one
-  pub places-none : (made : Option IlDef) (declared left : List IlDef) → is_later d ≡ false → Takes made declared left None → Makes D d made
-      → reverse declared ≡ flat_map declared_by (joined_of d) ++ rest → ⊥
-  places-none (Some y) declared left first (kept, taken) made is = cc
-  places-none None declared left first taken content is =
+  pub places-none : (declared left : List IlDef) (last : Option IlDef) → last ≡ None → MatchOption last ((declared ≡ []) × (left ≡ [])) (λ x. declared ≡ left ++ x ∷ [])
+      → is_later d ≡ false → Makes D d None → reverse declared ≡ flat_map declared_by (joined_of d) ++ rest → ⊥
+  places-none declared left last none h first content is =
+      let empty : declared ≡ [] = (subst (λ o. MatchOption o ((declared ≡ []) × (left ≡ [])) (λ x. declared ≡ left ++ x ∷ [])) none h).0 in
       let one = declares_one d.def.hints d.def.node d.behind content in
-      let none : [] ≡ one.0 ∷ rest = sym (ap reverse taken) ∙ is ∙ declared-first first ∙ ap (λ xs. (xs ++ []) ++ rest) one.1 in
+      let is_none : [] ≡ one.0 ∷ rest = sym (ap reverse empty) ∙ is ∙ declared-first first ∙ ap (λ xs. (xs ++ []) ++ rest) one.1 in
       cc
 
 -- ---- all of them

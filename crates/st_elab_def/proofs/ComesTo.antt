@@ -31,8 +31,8 @@ use Rattle.st_elab_def.specs.inner.Bodies.{IsSyntax, own, parts_asked, body_aske
 use Rattle.st_elab_def.specs.inner.Gathering.{body_with}
 use Rattle.st_elab_def.specs.inner.Index.{at}
 use Rattle.st_elab_def.proofs.DeclaredLists.{syntaxes-append}
-use Rattle.st_elab_def.proofs.Gathering.{parts-append, has-same, joined-with}
-use Rattle.st_elab_def.proofs.Indexing.{any-more, same-equal, same-refl}
+use Rattle.st_elab_def.proofs.Gathered.{parts-append, has-same, joined-with}
+use Rattle.st_elab_def.proofs.Insertion.{any-more, same-equal, same-refl}
 
 -- ---- what is asked of a body
 

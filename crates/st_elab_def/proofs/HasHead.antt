@@ -28,7 +28,7 @@ use Rattle.st_elab_def.specs.inner.Contents.{MakesRule, MakesClause}
 use Rattle.st_elab_def.specs.inner.Heads.{KnowsRules, HasHead, on_head, on_function}
 use Rattle.st_elab_def.specs.inner.Index.{has_pair}
 use Rattle.st_elab_def.specs.inner.Walk.{FirstBreachAt}
-use Rattle.st_elab_def.proofs.Indexing.{any-more}
+use Rattle.st_elab_def.proofs.Insertion.{any-more}
 
 -- ---- the relation or the function of a name
 

@@ -26,8 +26,8 @@ use Rattle.st_elab_def.specs.DeclsOf.{type_node, not_node, alternative_of, field
 use Rattle.st_elab_def.specs.Phases.{Placed, names_in, on_alias_name, on_bare, on_alternative, on_alternative_at, on_alternatives, on_fields}
 use Rattle.st_elab_def.specs.inner.Places.{name_place, cases_place, fields_place, is_nameless, is_bare_at, is_bare, IsAlternative}
 use Rattle.st_elab_def.specs.inner.Walk.{AllPassAt, FirstBreachAt}
-use Rattle.st_elab_def.proofs.Bridging.{Same, same-all, same-first, Same-alias, Same-cases, Same-fields, plain_names, names-back}
-use Rattle.st_elab_def.proofs.Walking.{FirstBreachAt-front, FirstBreachAt-behind}
+use Rattle.st_elab_def.proofs.Same.{Same, same-all, same-first, Same-alias, Same-cases, Same-fields, plain_names, names-back}
+use Rattle.st_elab_def.proofs.Leaves.{FirstBreachAt-front, FirstBreachAt-behind}
 
 -- ---- what is found
 

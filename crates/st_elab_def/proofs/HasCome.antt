@@ -1,6 +1,6 @@
 -- The loop of contents: what was kept of the definitions so far, and what is left of them.
 use Rattle.std.proofs.Common.{◌≡◌, refl, sym, ap, ◌∙◌, subst, ℕ, ◌+◌, ◌<◌, ◌≤◌, Bool, true, false, true≢false, not, ◌||◌, Some, None, List, [], ◌∷◌, ◌++◌, length, take, drop, get_or, append-nil}
-use Rattle.std.specs.Prelude.{Result, Ok, Err, reverse, flat_map, Option, MatchOption, OnOk}
+use Rattle.std.specs.Prelude.{Result, Ok, Err, reverse, flat_map, Option, OnOk}
 use Rattle.std.specs.Borrow.{Bor}
 use Rattle.st_num.specs.Names.{same_name}
 use Rattle.st_num.specs.declared.fault.Fault.{Fault}
@@ -29,11 +29,11 @@ use Rattle.st_elab_def.specs.inner.Index.{has, has_pair}
 use Rattle.st_elab_def.specs.inner.Heads.{KnowsRules}
 use Rattle.st_elab_def.specs.inner.Joining.{joined_of, AreContents}
 use Rattle.st_elab_def.specs.inner.Walk.{standing, AllPassAt, FirstBreachAt, Checks, numbered}
-use Rattle.st_elab_def.specs.inner.Whole.{KnowsFragments, Takes, PlacesOne}
+use Rattle.st_elab_def.specs.inner.Whole.{KnowsFragments, PlacesOne}
 use Rattle.st_elab_def.proofs.ContentLemmas.{told_both}
-use Rattle.st_elab_def.proofs.Indexing.{any-more, same-refl}
-use Rattle.st_elab_def.proofs.Putting.{joined-definitions, sources_in, Continues, Continues-next, sources-next}
-use Rattle.st_elab_def.proofs.Walking.{left_of, left_of-end, Leaves, Leaves-start, Leaves-end}
+use Rattle.st_elab_def.proofs.Insertion.{any-more, same-refl}
+use Rattle.st_elab_def.proofs.PlacesOne.{joined-definitions, sources_in, Continues, Continues-next, sources-next}
+use Rattle.st_elab_def.proofs.Leaves.{left_of, left_of-end, Leaves, Leaves-start, Leaves-end}
 
 -- ---- fragments
 
@@ -75,12 +75,6 @@ fragments-more before def node name piece body old new is fragment more knows q 
     more q ∙ ap (λ b. b || same_name q name) (knows q) ∙ ap (λ b. has_fragment q before || b) (sym (ap (is_fragment_node q) (is ∙ fragment))) ∙ sym (any-more (is_fragment q) before def)
 
 -- ---- one definition
-
--- what is pending last is taken where nothing was made
-pub takes-last : (made : Option IlDef) (old new : List IlDef) (last : Option IlDef) → made ≡ None → MatchOption last ((old ≡ []) × (new ≡ [])) (λ x. old ≡ new ++ x ∷ []) → Takes made old new last
-takes-last None old new (Some x) is h = h
-takes-last None old new None is h = h.0
-takes-last (Some y) old new last is h = cc
 
 -- what is told of a definition's content, as a check of what it asks
 pub content-checks : (D : Decls) (d : Definition) (r : Result (Option IlDef) Fault) → Told (MakesContent D d) (FirstBreachAt D (on_content d)) r → Checks D (on_content d) r

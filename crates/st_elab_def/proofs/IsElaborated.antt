@@ -16,7 +16,7 @@ use Rattle.st_elab_def.specs.Phases.{Question, phase, on_declaration, on_body, o
 use Rattle.st_elab_def.specs.inner.Joining.{AreContents}
 use Rattle.st_elab_def.specs.inner.Walk.{ChecksAll}
 use Rattle.st_elab_def.proofs.Single.{IsElaborated-single, IsBreach-single, IsElaborated-IsBreach}
-use Rattle.st_elab_def.proofs.Sounding.{breach_in_contents, elaborated_whole}
+use Rattle.st_elab_def.proofs.Phases.{breach_in_contents, elaborated_whole}
 
 -- what passed
 pub all-passed : {A : Type 0} (D : Decls) (qs : List Question) (r : Result A DefFault) (x : A) → r ≡ Ok x → ChecksAll D qs r → AllPass D qs

@@ -8,7 +8,7 @@ use Rattle.st_dims.proofs.Lists.{next_taken, all_taken, cut}
 use Rattle.st_elab_table.specs.declared.decls.Decls.{Decls}
 use Rattle.st_elab_def.specs.Phases.{Placed}
 use Rattle.st_elab_def.specs.inner.Walk.{AllPassAt, Checks}
-use Rattle.st_elab_def.proofs.Walking.{AllPassAt-append, FirstBreachAt-front, FirstBreachAt-behind}
+use Rattle.st_elab_def.proofs.Leaves.{AllPassAt-append, FirstBreachAt-front, FirstBreachAt-behind}
 
 module _ (D : Decls) where
   -- a breach in what is asked first

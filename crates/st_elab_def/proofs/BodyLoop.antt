@@ -21,7 +21,7 @@ use Rattle.st_elab_def.specs.inner.Bodies.{HasCome, here_of, ComesTo, GoesBy}
 use Rattle.st_elab_def.specs.inner.Index.{at}
 use Rattle.st_elab_def.specs.inner.Last.{KnowsLast}
 use Rattle.st_elab_def.specs.inner.Walk.{AllPassAt, FirstBreachAt, Checks, numbered}
-use Rattle.st_elab_def.proofs.Coming.{new-at}
+use Rattle.st_elab_def.proofs.ComesTo.{new-at}
 use Rattle.st_elab_def.proofs.ContentLemmas.{told_both}
 
 module _ (source : Source) (i : ℕ) (def : Def) (h : i < length source.defs.now) (is : def ≡ get_or source.defs.now i def) where

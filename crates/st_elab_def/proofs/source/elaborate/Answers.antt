@@ -1,0 +1,8 @@
+use Rattle.st_elab_def.proofs.IsElaborated.{answers-gives, answers-refuses}
+use Rattle.st_elab_def.proofs.source.elaborate.Goals as goal
+
+pub returns-clause-gives : goal.returns-clause-gives
+returns-clause-gives c = λ e is. answers-gives c.args.defs.now e c.by_phases.result is c.by_phases.ensures
+
+pub returns-clause-refuses : goal.returns-clause-refuses
+returns-clause-refuses c = λ b is. answers-refuses c.args.defs.now b c.by_phases.result is c.by_phases.ensures
