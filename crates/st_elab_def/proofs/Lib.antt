@@ -23,6 +23,7 @@ pub mod BodyLoop
 pub mod Phases
 pub mod HasCome
 pub mod Adds
+pub mod IsBreach
 pub mod IsElaborated
 pub mod AllPass
 pub mod AllHold
