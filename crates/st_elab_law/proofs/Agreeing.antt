@@ -1,8 +1,7 @@
--- Erasure finds the fields of a record through its aliases, and a case has an operand for each hole.
-use Rattle.std.proofs.Common.{◌≡◌, refl, sym, ◌∙◌, ap, subst, ℕ, zero, suc, ◌≤◌, arith, List, [], ◌∷◌, ◌++◌, map, length, Bool, true, false, inl, inr}
+-- Erasure finds the fields of a record through its aliases.
+use Rattle.std.proofs.Common.{◌≡◌, refl, sym, ◌∙◌, ap, subst, ℕ, zero, suc, ◌≤◌, arith, List, [], ◌∷◌, map, length, Bool, true, false, inl, inr}
 use Rattle.std.proofs.lemmas.List.{length-map}
 use Rattle.std.specs.Prelude.{Option, Some, None, ◌⊎◌, if◌then◌else◌, nat_eq}
-use Rattle.std.specs.List.{AllByRecursion}
 use Rattle.std.specs.Cmp.Lexicographic.{pointwise}
 use Rattle.std.proofs.lemmas.Slice.Eq.{bytes_eq-Decides}
 use Rattle.st_il.specs.declared.ty.Ty.{Ty, out-Ty, roll-Ty, roll-out-Ty}
@@ -13,14 +12,11 @@ use Rattle.st_il.specs.declared.definition.IlDef.TheVariants as def
 use Rattle.st_il.specs.declared.definition.SyntaxDef.{SyntaxDef}
 use Rattle.st_il.specs.declared.definition.SyntaxBody.{SyntaxBody}
 use Rattle.st_il.specs.declared.definition.SyntaxBody.TheVariants as body
-use Rattle.st_il.specs.declared.definition.Alternative.{Alternative}
-use Rattle.st_type_table.specs.declared.entry.CaseDef.{CaseDef}
-use Rattle.st_type_table.specs.Meaning.{body_of, named_at, named, aliased, listed, recorded, alias_of, alternatives_of, fields_of, Means, itself, alias}
-use Rattle.st_type_table.specs.Cases.{or_none, Brings, own, included, Flatten, none, more, HasCases}
+use Rattle.st_type_table.specs.Meaning.{body_of, named_at, named, aliased, recorded, alias_of, fields_of, Means, itself, alias}
 use Rattle.st_erase.specs.Records.{next_name, on_by, fields_by, body_of as written_of, fields_of as names_of}
 use Rattle.st_elab_table.specs.declared.decls.Decls.{Decls}
 use Rattle.st_elab_table.specs.Records.{field_names}
-use Rattle.st_elab_law.specs.Agreement.{syntaxes, HasItsOperands, HoldsOperands, HoldsAll, AreWhole, IsTableOf}
+use Rattle.st_elab_law.specs.Agreement.{syntaxes, IsTableOf}
 
 -- ---- at most as many different names as there are names
 
@@ -223,46 +219,3 @@ knows_fields ds D of name u fs means has =
     let few : length (syntaxes ds) ≤ length ds = few_syntaxes ds in
     let enough : length (chain D.types (ty.Name name) u means) ≤ length ds = omega (arith, short, same, few) in
     ap (names_of (length ds) ds) (sym (ap name_in (ty.outs-Name name))) ∙ along D.types u fs has ds of (length ds) (ty.Name name) means enough
-
--- ---- operands
-
-all_append : (P : CaseDef → Type 0) (xs ys : List CaseDef) → AllByRecursion P xs → AllByRecursion P ys → AllByRecursion P (xs ++ ys)
-all_append P [] ys h k = k
-all_append P (x ∷ xs) ys h k = (h.0, all_append P xs ys h.1 k)
-
-module _ (defs : List SyntaxDef) (whole : AreWhole defs) where
-  listed_holds : (o : Option SyntaxBody) (alternatives : List Alternative) → ((b : SyntaxBody) → o ≡ Some b → HoldsAll b) → listed o ≡ Some alternatives → AllByRecursion HoldsOperands alternatives
-  listed_holds None xs k h = absurd (cc)
-  listed_holds (Some (body.Alias t)) xs k h = absurd (cc)
-  listed_holds (Some (body.Fields fs)) xs k h = absurd (cc)
-  listed_holds (Some (body.Variant ys)) xs k h = let same : ys ≡ xs = cc in subst (AllByRecursion HoldsOperands) same (k (body.Variant ys) refl)
-
-  body_holds : (ds : List SyntaxDef) → AreWhole ds → (name : List ℕ) (b : SyntaxBody) → body_of ds name ≡ Some b → HoldsAll b
-  body_holds [] all name b h = absurd (cc)
-  body_holds (d ∷ ds) all name b h = by (pointwise nat_eq name d.name) h (body_holds ds all.1 name b)
-    where
-      by : (c : Bool) → (if c then Some d.body else body_of ds name) ≡ Some b → (body_of ds name ≡ Some b → HoldsAll b) → HoldsAll b
-      by true k later = let same : d.body ≡ b = cc in subst HoldsAll same all.0
-      by false k later = later k
-
-  alternatives_hold : (t : Ty) (alternatives : List Alternative) → alternatives_of defs t ≡ Some alternatives → AllByRecursion HoldsOperands alternatives
-  alternatives_hold t xs h = listed_holds (named defs t) xs (λ b e. body_holds defs whole (name_of t) b (is_named defs t b e).1) h
-
-  or_none_hold : (t : Ty) (o : Option (List Alternative)) → alternatives_of defs t ≡ o → AllByRecursion HoldsOperands (or_none o)
-  or_none_hold t None h = tt
-  or_none_hold t (Some xs) h = alternatives_hold t xs h
-
-  mutual
-    brought : (a : Alternative) (cases : List CaseDef) → HoldsOperands a → Brings defs a cases → AllByRecursion HasItsOperands cases
-    brought a cases h (own tag operands is cs) =
-        subst (AllByRecursion HasItsOperands) (sym cs) (subst HoldsOperands is h, tt)
-    brought a cases h (included name t is means flat) = flattened (or_none (alternatives_of defs t)) cases (or_none_hold t (alternatives_of defs t) refl) flat
-
-    flattened : (alternatives : List Alternative) (cases : List CaseDef) → AllByRecursion HoldsOperands alternatives → Flatten defs alternatives cases → AllByRecursion HasItsOperands cases
-    flattened [] cases h (none cs) = subst (AllByRecursion HasItsOperands) (sym cs) tt
-    flattened (a ∷ as') cases h (more first rest b f cs) =
-        subst (AllByRecursion HasItsOperands) (sym cs) (all_append HasItsOperands first rest (brought a first h.0 b) (flattened as' rest h.1 f))
-
-  -- each case of a variant has an operand for each hole
-  pub knows_holes : (t : Ty) (cases : List CaseDef) → HasCases defs t cases → AllByRecursion HasItsOperands cases
-  knows_holes t cases has = flattened has.alternatives cases (alternatives_hold has.variant has.alternatives has.declared) has.flattened

@@ -7,7 +7,7 @@ use Rattle.st_elab_table.specs.declared.decls.Decls.{Decls}
 use Rattle.st_elab_table.specs.declared.decls.Scope.{Scope}
 use Rattle.st_elab_table.specs.Questions.{Question, check, infer, item, hole, Made, Gives}
 use Rattle.st_elab_table.specs.Elaboration.{Answered}
-use Rattle.st_elab_law.specs.Agreement.{Agrees}
+use Rattle.st_elab_law.specs.Agreement.{IsTableOf}
 use Rattle.st_elab_law.specs.Law.{FillsAs, IsErasedBack}
 use Rattle.st_elab_law.proofs.Claims.{IsFilledBy, Claim}
 use Rattle.st_elab_law.proofs.Writing.{whole_source}
@@ -25,5 +25,5 @@ module _ (il : Il) (D : Decls) where
   is_back (item w t element e) m h = whole_source (erased il.defs m.exp) e h
   is_back (hole w at passed filling t) m h = fills_as _ filling (erased il.defs m.exp) h
 
-  pub Answered-erases : (S : Scope) → Agrees il D → (q : Question) (m : Made) → Answered D S q (Gives m) → IsErasedBack il q m
-  Answered-erases S agrees q m h = is_back q m (Answered-claims il.defs D S agrees.table agrees.whole q m h)
+  pub Answered-erases : (S : Scope) → IsTableOf il.defs D → (q : Question) (m : Made) → Answered D S q (Gives m) → IsErasedBack il q m
+  Answered-erases S table q m h = is_back q m (Answered-claims il.defs D S table q m h)

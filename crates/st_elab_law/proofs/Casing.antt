@@ -1,7 +1,6 @@
 -- Cases of variants are erased to the notation that they were written in.
 use Rattle.std.proofs.Common.{◌≡◌, sym, ◌∙◌, ap, ℕ, List, [], ◌∷◌, map, length}
 use Rattle.std.specs.Prelude.{Option, Some, None}
-use Rattle.std.specs.List.{AllByRecursion}
 use Rattle.st_num.specs.declared.span.Span.{Span}
 use Rattle.st_num.specs.Names.{is_among}
 use Rattle.st_el.specs.declared.expression.Exp.{Exp}
@@ -12,7 +11,6 @@ use Rattle.st_il.specs.declared.ty.Ty.TheOpen.{Ty-F}
 use Rattle.st_il.specs.declared.ty.Ty.TheVariants as ty
 use Rattle.st_il.specs.declared.template.Template.{Template}
 use Rattle.st_il.specs.Template.{HasTag}
-use Rattle.st_il.specs.Key.{PlainKey, free}
 use Rattle.st_il.specs.declared.expression.IlExp.TheVariants as il
 use Rattle.st_il.proofs.Tags.{one_template}
 use Rattle.st_type_table.specs.declared.entry.CaseDef.{CaseDef}
@@ -20,7 +18,6 @@ use Rattle.st_type_table.proofs.MeansLemmas.{Means-single}
 use Rattle.st_notation.specs.declared.filled.Shape.{Shape}
 use Rattle.st_notation.specs.Elements.{bare}
 use Rattle.st_notation.specs.Fits.{Filling, one, run, missing}
-use Rattle.st_notation.specs.Key.{key_of}
 use Rattle.st_notation.proofs.FitsLemmas.{Fits-length}
 use Rattle.st_erase.specs.declared.erased.Erased.{Erased}
 use Rattle.st_erase.specs.declared.erased.ErasedKind.TheVariants as kind
@@ -30,30 +27,17 @@ use Rattle.st_erase.specs.Erasure.{case_by, erased}
 use Rattle.st_il.proofs.TagTemplates.{is_template}
 use Rattle.st_elab_table.specs.declared.decls.Decls.{Decls}
 use Rattle.st_dims.specs.declared.within.Within.{Within}
-use Rattle.st_elab_table.specs.Choice.{shape_at, HasShape, HaveShapes, IsFirstWith, here, later, IsChosenBy, keyed, keyless, FillsCase, IsCaseOf}
+use Rattle.st_elab_table.specs.Choice.{shape_at, HasShape, HaveShapes, FillsCase, IsCaseOf}
 use Rattle.st_elab_table.specs.Questions.{Manner, Made, Chosen}
 use Rattle.st_elab_table.specs.Steps.{give, holes_behind, exps}
 use Rattle.st_elab_table.specs.Records.{passed_on, variant_row, notation_row}
 use Rattle.st_elab_law.proofs.Claims.{IsWritten, IsNoList, IsFilledBy, Claim, Claims}
-use Rattle.st_elab_law.specs.Agreement.{HasItsOperands, AreWhole}
-use Rattle.st_elab_law.proofs.Agreeing.{knows_holes}
 use Rattle.st_elab_law.proofs.Plainness.{plain-bare}
 use Rattle.st_elab_law.proofs.Erasings.{erased-Case}
 use Rattle.st_elab_law.proofs.Writing.{alone_written}
 use Rattle.st_elab_law.proofs.Keeping.{keeps_if, keeps_asks, Writes, Kept}
 use Rattle.st_elab_law.proofs.Listing.{other_keeps}
 use Rattle.st_elab_law.proofs.Fitting.{IsOther, AreFilled, Fits-writes}
-
--- ---- the case that is chosen is one of the cases
-
-first-any : (P : CaseDef → Type 0) (k : PlainKey) (cs : List CaseDef) (c : CaseDef) → AllByRecursion P cs → IsFirstWith k cs c → P c
-first-any P k [] c all h = elim h [ ]
-first-any P k (d ∷ cs) c all (here p) = all.0
-first-any P k (d ∷ cs) c all (later n h) = first-any P k cs c all.1 h
-
-pub chosen-any : (P : CaseDef → Type 0) (k : PlainKey) (cs : List CaseDef) (c : CaseDef) → AllByRecursion P cs → IsChosenBy k cs c → P c
-chosen-any P k cs c all (keyed h) = first-any P k cs c all h
-chosen-any P k cs c all (keyless n h) = first-any P free cs c all h
 
 -- ---- holes
 
@@ -88,31 +72,29 @@ module _ (defs : List IlDef) (D : Decls) where
       by (Some u) k = ap (λ z. record { exp = filled z xs; kind = kind.Plain }) (one_template tag u t k h)
 
   -- what fits a notation is written in it
-  pub fills_written : (w : Within) (at : Span) (passed : List (List ℕ)) (e : Exp) (c : CaseDef) (fs : List Filling) (ms : List Made) → HasItsOperands c → (f : FillsCase D.types c e fs) → Claims (Claim defs D) (holes_behind w at passed fs c.operands) ms
+  pub fills_written : (w : Within) (at : Span) (passed : List (List ℕ)) (e : Exp) (c : CaseDef) (fs : List Filling) (ms : List Made) → (f : FillsCase D.types c e fs) → Claims (Claim defs D) (holes_behind w at passed fs c.operands) ms
       → plain_exp (filled f.template (map (erased defs) (exps ms))) ≡ plain_exp e
-  fills_written w at passed e c fs ms own f g =
-      let counted : length fs ≡ length c.operands = Fits-length f.template f.shapes (bare e) fs f.fits ∙ sym (own f.template f.tagged) in
+  fills_written w at passed e c fs ms f g =
+      let counted : length fs ≡ length c.operands = Fits-length f.template f.shapes (bare e) fs f.fits ∙ sym f.counted in
       let parts = are_filled w at passed c.operands f.shapes fs ms f.shaped counted g in
       let writes = Fits-writes f.template f.shapes (bare e) fs (map (erased defs) (exps ms)) f.fits parts in
       writes.out ∙ plain-bare e
 
-  module _ (are_whole : AreWhole D.types) where
-    case_written : (Alone : Type 0) (w : Within) (at : Span) (passed : List (List ℕ)) (e : Exp) (t : Ty) (c : Chosen) (ms : List Made) → IsCaseOf D.types t e c → Claims (Claim defs D) (holes_behind w at passed c.fillings c.operands) ms
-        → IsWritten Alone (erased defs (il.Case c.name c.tag (exps ms))) e
-    case_written Alone w at passed e t c ms h g =
-        let case : CaseDef = record { tag = c.tag; operands = c.operands } in
-        let own : HasItsOperands case = chosen-any HasItsOperands (key_of e) h.cases case (knows_holes D.types are_whole t h.cases h.has) h.chosen in
-        let template = h.filled.template in
-        alone_written Alone (erased defs (il.Case c.name c.tag (exps ms))) (record { exp = filled template (map (erased defs) (exps ms)); kind = kind.Plain }) e
-        (erased-Case defs c.name c.tag (exps ms) ∙ case-is c.tag template (map (erased defs) (exps ms)) h.filled.tagged) tt (fills_written w at passed e case c.fillings ms own h.filled g)
+  case_written : (Alone : Type 0) (w : Within) (at : Span) (passed : List (List ℕ)) (e : Exp) (t : Ty) (c : Chosen) (ms : List Made) → IsCaseOf D.types t e c → Claims (Claim defs D) (holes_behind w at passed c.fillings c.operands) ms
+      → IsWritten Alone (erased defs (il.Case c.name c.tag (exps ms))) e
+  case_written Alone w at passed e t c ms h g =
+      let case : CaseDef = record { tag = c.tag; operands = c.operands } in
+      let template = h.filled.template in
+      alone_written Alone (erased defs (il.Case c.name c.tag (exps ms))) (record { exp = filled template (map (erased defs) (exps ms)); kind = kind.Plain }) e
+      (erased-Case defs c.name c.tag (exps ms) ∙ case-is c.tag template (map (erased defs) (exps ms)) h.filled.tagged) tt (fills_written w at passed e case c.fillings ms h.filled g)
 
-    variant_keeps : (Alone : Type 0) (w : Within) (at : Span) (passed : List (List ℕ)) (e : Exp) (t : Ty) (y : Ty-F Ty) → Kept defs D Alone e (variant_row w at passed e t y)
-    variant_keeps Alone w at passed e t (Ty-F.Name variant) = keeps_if D (Claim defs D) (Writes defs Alone e) (is_among variant passed) _ _ (λ _. tt) (λ _. (
-      (λ c h. keeps_asks D (Claim defs D) (Writes defs Alone e) (holes_behind w at (passed_on c.whole passed variant) c.fillings c.operands) (λ ms. give (il.Case c.name c.tag (exps ms)) t)
-          (λ ms g. case_written Alone w at (passed_on c.whole passed variant) e t c ms h g)),
-      (λ _. tt),
-    ))
-    variant_keeps Alone w at passed e t y = tt
+  variant_keeps : (Alone : Type 0) (w : Within) (at : Span) (passed : List (List ℕ)) (e : Exp) (t : Ty) (y : Ty-F Ty) → Kept defs D Alone e (variant_row w at passed e t y)
+  variant_keeps Alone w at passed e t (Ty-F.Name variant) = keeps_if D (Claim defs D) (Writes defs Alone e) (is_among variant passed) _ _ (λ _. tt) (λ _. (
+    (λ c h. keeps_asks D (Claim defs D) (Writes defs Alone e) (holes_behind w at (passed_on c.whole passed variant) c.fillings c.operands) (λ ms. give (il.Case c.name c.tag (exps ms)) t)
+        (λ ms g. case_written Alone w at (passed_on c.whole passed variant) e t c ms h g)),
+    (λ _. tt),
+  ))
+  variant_keeps Alone w at passed e t y = tt
 
-    pub notation_keeps : (Alone : Type 0) (w : Within) (at : Span) (p : Manner) (e : Exp) (t u : Ty) → Kept defs D Alone e (notation_row w at p e t u)
-    notation_keeps Alone w at p e t u = ((λ _. variant_keeps Alone w at p.passed e t (out-Ty u)), (λ _. other_keeps defs D Alone e w at p t (out-Ty u)))
+  pub notation_keeps : (Alone : Type 0) (w : Within) (at : Span) (p : Manner) (e : Exp) (t u : Ty) → Kept defs D Alone e (notation_row w at p e t u)
+  notation_keeps Alone w at p e t u = ((λ _. variant_keeps Alone w at p.passed e t (out-Ty u)), (λ _. other_keeps defs D Alone e w at p t (out-Ty u)))

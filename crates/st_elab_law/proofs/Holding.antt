@@ -31,7 +31,6 @@ use Rattle.st_notation.specs.Elements.{opened, bare, elements_at, elements, is_a
 use Rattle.st_notation.specs.Fits.{Filling, one, run, missing, Take, one_element, shared_run, run_up_to, takes, Fits, hole, atom, bracket, sides, sequence as in_sequence, FitInOrder, end, next_atom, next_bracket, next_hole}
 use Rattle.st_il.specs.declared.template.Template.{out-Template}
 use Rattle.st_il.specs.declared.template.Template.TheOpen.{Template-F}
-use Rattle.st_notation.specs.Key.{key_of}
 use Rattle.st_notation.proofs.FitsLemmas.{Fits-length}
 use Rattle.st_elab_table.specs.declared.decls.Decls.{Decls}
 use Rattle.st_elab_table.specs.declared.decls.Scope.{Scope}
@@ -44,13 +43,10 @@ use Rattle.st_elab_table.specs.Steps.{made, give, asked, found, each_asked, hole
 use Rattle.st_elab_table.specs.Records.{aligned, omitted, field_names, field_types, filled_fields, record_by, record_row, passed_on, variant_row, notation_row}
 use Rattle.st_elab_table.specs.Collections as table
 use Rattle.st_elab_table.proofs.Keeps.{Keeps}
-use Rattle.st_elab_law.specs.Agreement.{HasItsOperands, AreWhole}
 use Rattle.st_elab_law.specs.Occurrences.{Sees, nothing, beside, all_of, over_list, iterated, written, seen, round_of, seen_item, filling_written}
 use Rattle.st_elab_law.proofs.Claims.{Claims}
 use Rattle.st_elab_law.proofs.Keeping.{keeps_if, keeps_asks, keeps_shaped}
-use Rattle.st_elab_law.proofs.Agreeing.{knows_holes}
 use Rattle.st_elab_law.proofs.Recording.{omitted_some, one_some}
-use Rattle.st_elab_law.proofs.Casing.{chosen-any}
 use Rattle.st_elab_law.proofs.Seeing.{seen-Case, seen-Fields, seen-Tuple, seen-List, seen-Empty, seen-Present, seen-Absent, seen-Call, seen-Up, seen-Iter, round-Star, round-Plus, round-Quest, round-Times, round-Below, item-One, item-All}
 use Rattle.st_elab_law.proofs.Mentioning.{field_written, round_written, written-Eps, written-Atom, written-Bracket, written-Infix, written-Seq, written-bare}
 use Rattle.st_elab_law.proofs.Mentioning.{round-Star as count-Star, round-Plus as count-Plus, round-Quest as count-Quest, round-Times as count-Times, round-Below as count-Below}
@@ -178,10 +174,10 @@ holes_occur w at passed (f ∷ fs) (t ∷ ts) (m ∷ ms) l c =
     λ i. c.0 i ∷ rest i
 
 -- what fits a notation has the variables of what fills its holes
-pub fills_occur : (D : Decls) (w : Within) (at : Span) (passed : List (List ℕ)) (e : Exp) (c : CaseDef) (fs : List Filling) (ms : List Made) → HasItsOperands c → FillsCase D.types c e fs → Claims Occurs (holes_behind w at passed fs c.operands) ms
+pub fills_occur : (D : Decls) (w : Within) (at : Span) (passed : List (List ℕ)) (e : Exp) (c : CaseDef) (fs : List Filling) (ms : List Made) → FillsCase D.types c e fs → Claims Occurs (holes_behind w at passed fs c.operands) ms
     → all_of (map seen (exps ms)) ≡ written e
-fills_occur D w at passed e c fs ms own f g =
-    let counted : length fs ≡ length c.operands = Fits-length f.template f.shapes (bare e) fs f.fits ∙ sym (own f.template f.tagged) in
+fills_occur D w at passed e c fs ms f g =
+    let counted : length fs ≡ length c.operands = Fits-length f.template f.shapes (bare e) fs f.fits ∙ sym f.counted in
     ap all_of (holes_occur w at passed fs c.operands ms counted g) ∙ Fits-occur f.template f.shapes (bare e) fs f.fits ∙ written-bare e
 
 -- ---- one element
@@ -310,18 +306,17 @@ module _ (D : Decls) where
 
   -- ---- cases
 
-  variant_occurs : AreWhole D.types → (w : Within) (at : Span) (passed : List (List ℕ)) (e : Exp) (t : Ty) (y : Ty-F Ty) → Kept D (written e) (variant_row w at passed e t y)
-  variant_occurs whole w at passed e t (Ty-F.Name variant) = keeps_if D Occurs (Sees_as (written e)) (is_among variant passed) _ _ (λ _. tt) (λ _. (
+  variant_occurs : (w : Within) (at : Span) (passed : List (List ℕ)) (e : Exp) (t : Ty) (y : Ty-F Ty) → Kept D (written e) (variant_row w at passed e t y)
+  variant_occurs w at passed e t (Ty-F.Name variant) = keeps_if D Occurs (Sees_as (written e)) (is_among variant passed) _ _ (λ _. tt) (λ _. (
     (λ c h. keeps_asks D Occurs (Sees_as (written e)) (holes_behind w at (passed_on c.whole passed variant) c.fillings c.operands) (λ ms. give (il.Case c.name c.tag (exps ms)) t) (λ ms g.
         let case : CaseDef = record { tag = c.tag; operands = c.operands } in
-        let own : HasItsOperands case = chosen-any HasItsOperands (key_of e) h.cases case (knows_holes D.types whole t h.cases h.has) h.chosen in
-        seen-Case c.name c.tag (exps ms) ∙ fills_occur D w at (passed_on c.whole passed variant) e case c.fillings ms own h.filled g)),
+        seen-Case c.name c.tag (exps ms) ∙ fills_occur D w at (passed_on c.whole passed variant) e case c.fillings ms h.filled g)),
     (λ _. tt),
   ))
-  variant_occurs whole w at passed e t y = tt
+  variant_occurs w at passed e t y = tt
 
-  pub notation_occurs : AreWhole D.types → (w : Within) (at : Span) (p : Manner) (e : Exp) (t u : Ty) → Kept D (written e) (notation_row w at p e t u)
-  notation_occurs whole w at p e t u = ((λ _. variant_occurs whole w at p.passed e t (out-Ty u)), (λ _. other_occurs D e w at p t (out-Ty u)))
+  pub notation_occurs : (w : Within) (at : Span) (p : Manner) (e : Exp) (t u : Ty) → Kept D (written e) (notation_row w at p e t u)
+  notation_occurs w at p e t u = ((λ _. variant_occurs w at p.passed e t (out-Ty u)), (λ _. other_occurs D e w at p t (out-Ty u)))
 
 -- ---- records
 

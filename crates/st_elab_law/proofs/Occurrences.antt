@@ -23,7 +23,6 @@ use Rattle.st_elab_table.specs.Collections.{is_run, sequence}
 use Rattle.st_elab_table.specs.Questions.{Manner, Question, check, infer, item, hole, Made, Step, Gives}
 use Rattle.st_elab_table.specs.Elaboration.{row, Answered, Leads}
 use Rattle.st_elab_table.proofs.Keeps.{Keeps, Answered-keeps, Leads-keeps}
-use Rattle.st_elab_law.specs.Agreement.{AreWhole}
 use Rattle.st_elab_law.specs.Occurrences.{written, seen, asked_written}
 use Rattle.st_elab_law.proofs.Keeping.{keeps_if}
 use Rattle.st_elab_law.proofs.Seeing.{seen-Bool, seen-Number, seen-Text, seen-Var}
@@ -61,53 +60,52 @@ module _ (D : Decls) (S : Scope) where
 
   -- ---- expressions at a type
 
-  module _ (whole : AreWhole D.types) where
-    sequence_at_occurs : (w : Within) (at : Span) (p : Manner) (e : Exp) (es : List Exp) (t u : Ty) (y : Ty-F Ty) → opened e ≡ Node-F.Seq es → Kept D (written e) (sequence_at w at p e es t u y)
-    sequence_at_occurs w at p e es t u (Ty-F.List x) is =
-        keeps_if D Occurs (Sees_as (written e)) (is_run es p.in_parentheses) _ _
-        (λ _. subst (λ z. Kept D z (sequence w at es t x)) (sym (written-Seq e es is)) (sequence_occurs D w at es t x)) (λ _. other_occurs D e w at p t (Ty-F.List x))
-    sequence_at_occurs w at p e es t u y is = notation_occurs D whole w at p e t u
+  sequence_at_occurs : (w : Within) (at : Span) (p : Manner) (e : Exp) (es : List Exp) (t u : Ty) (y : Ty-F Ty) → opened e ≡ Node-F.Seq es → Kept D (written e) (sequence_at w at p e es t u y)
+  sequence_at_occurs w at p e es t u (Ty-F.List x) is =
+      keeps_if D Occurs (Sees_as (written e)) (is_run es p.in_parentheses) _ _
+      (λ _. subst (λ z. Kept D z (sequence w at es t x)) (sym (written-Seq e es is)) (sequence_occurs D w at es t x)) (λ _. other_occurs D e w at p t (Ty-F.List x))
+  sequence_at_occurs w at p e es t u y is = notation_occurs D w at p e t u
 
-    form_occurs : (w : Within) (at : Span) (p : Manner) (e : Exp) (t u : Ty) (y : Node-F Count Node Seg Exp) → opened e ≡ y → Kept D (written e) (form_row D S w at p e t u y)
-    form_occurs w at p e t u Node-F.Eps is = eps_occurs D e at t (out-Ty u) is
-    form_occurs w at p e t u (Node-F.Binary l sign r) is =
-        keeps_if D Occurs (Sees_as (written e)) (is_concatenation (operator_of sign)) _ _
-        (λ _. concatenation_occurs D e w at l r t (written-Binary e l sign r is)) (λ _. other_occurs D e w at p t (out-Ty u))
-    form_occurs w at p e t u (Node-F.Iter b c) is = iterated_occurs D S e b c (written-Iter e b c is) w at p t (out-Ty u)
-    form_occurs w at p e t u (Node-F.Seq es) is = sequence_at_occurs w at p e es t u (out-Ty u) is
-    form_occurs w at p e t u (Node-F.Fields given) is = record_occurs D (written e) given (written-Fields e given is) w at p e t u refl
-    form_occurs w at p e t u (Node-F.Atom name) is = notation_occurs D whole w at p e t u
-    form_occurs w at p e t u (Node-F.Infix l sign r) is = notation_occurs D whole w at p e t u
-    form_occurs w at p e t u (Node-F.Bracket opening b) is = notation_occurs D whole w at p e t u
-    form_occurs w at p e t u y is = other_occurs D e w at p t (out-Ty u)
+  form_occurs : (w : Within) (at : Span) (p : Manner) (e : Exp) (t u : Ty) (y : Node-F Count Node Seg Exp) → opened e ≡ y → Kept D (written e) (form_row D S w at p e t u y)
+  form_occurs w at p e t u Node-F.Eps is = eps_occurs D e at t (out-Ty u) is
+  form_occurs w at p e t u (Node-F.Binary l sign r) is =
+      keeps_if D Occurs (Sees_as (written e)) (is_concatenation (operator_of sign)) _ _
+      (λ _. concatenation_occurs D e w at l r t (written-Binary e l sign r is)) (λ _. other_occurs D e w at p t (out-Ty u))
+  form_occurs w at p e t u (Node-F.Iter b c) is = iterated_occurs D S e b c (written-Iter e b c is) w at p t (out-Ty u)
+  form_occurs w at p e t u (Node-F.Seq es) is = sequence_at_occurs w at p e es t u (out-Ty u) is
+  form_occurs w at p e t u (Node-F.Fields given) is = record_occurs D (written e) given (written-Fields e given is) w at p e t u refl
+  form_occurs w at p e t u (Node-F.Atom name) is = notation_occurs D w at p e t u
+  form_occurs w at p e t u (Node-F.Infix l sign r) is = notation_occurs D w at p e t u
+  form_occurs w at p e t u (Node-F.Bracket opening b) is = notation_occurs D w at p e t u
+  form_occurs w at p e t u y is = other_occurs D e w at p t (out-Ty u)
 
-    plain_occurs : (w : Within) (at : Span) (p : Manner) (e : Exp) (t : Ty) → Kept D (written e) (plain_row D S w at p e t)
-    plain_occurs w at p e t =
-        keeps_if D Occurs (Sees_as (written e)) (inferable e) _ _ (λ _. λ m h. fitted_occurs D e at t m h) (λ _. λ u _. form_occurs w at p e t u (opened e) refl)
+  plain_occurs : (w : Within) (at : Span) (p : Manner) (e : Exp) (t : Ty) → Kept D (written e) (plain_row D S w at p e t)
+  plain_occurs w at p e t =
+      keeps_if D Occurs (Sees_as (written e)) (inferable e) _ _ (λ _. λ m h. fitted_occurs D e at t m h) (λ _. λ u _. form_occurs w at p e t u (opened e) refl)
 
-    tuple_at_occurs : (w : Within) (at : Span) (p : Manner) (e : Exp) (es : List Exp) (t : Ty) (y : Ty-F Ty) → opened e ≡ Node-F.Tuple es → Kept D (written e) (tuple_at D S w at p e es t y)
-    tuple_at_occurs w at p e es t (Ty-F.Tuple ts) is =
-        keeps_if D Occurs (Sees_as (written e)) (nat_eq (length es) (length ts)) _ _
-        (λ same. tuple_occurs D (written e) es (written-Tuple e es is) w ts t (eqb-true (length es) (length ts) same)) (λ _. plain_occurs w at p e t)
-    tuple_at_occurs w at p e es t y is = plain_occurs w at p e t
+  tuple_at_occurs : (w : Within) (at : Span) (p : Manner) (e : Exp) (es : List Exp) (t : Ty) (y : Ty-F Ty) → opened e ≡ Node-F.Tuple es → Kept D (written e) (tuple_at D S w at p e es t y)
+  tuple_at_occurs w at p e es t (Ty-F.Tuple ts) is =
+      keeps_if D Occurs (Sees_as (written e)) (nat_eq (length es) (length ts)) _ _
+      (λ same. tuple_occurs D (written e) es (written-Tuple e es is) w ts t (eqb-true (length es) (length ts) same)) (λ _. plain_occurs w at p e t)
+  tuple_at_occurs w at p e es t y is = plain_occurs w at p e t
 
-    checked_occurs : (w : Within) (at : Span) (p : Manner) (e : Exp) (t : Ty) (y : Node-F Count Node Seg Exp) → opened e ≡ y → Kept D (written e) (checked_row D S w at p e t y)
-    checked_occurs w at p e t (Node-F.Paren b) is = λ m f. f ∙ sym (written-Paren e b is)
-    checked_occurs w at p e t (Node-F.Tuple es) is = λ u _. tuple_at_occurs w at p e es t (out-Ty u) is
-    checked_occurs w at p e t y is = plain_occurs w at p e t
+  checked_occurs : (w : Within) (at : Span) (p : Manner) (e : Exp) (t : Ty) (y : Node-F Count Node Seg Exp) → opened e ≡ y → Kept D (written e) (checked_row D S w at p e t y)
+  checked_occurs w at p e t (Node-F.Paren b) is = λ m f. f ∙ sym (written-Paren e b is)
+  checked_occurs w at p e t (Node-F.Tuple es) is = λ u _. tuple_at_occurs w at p e es t (out-Ty u) is
+  checked_occurs w at p e t y is = plain_occurs w at p e t
 
-    -- ---- all rows
+  -- ---- all rows
 
-    row_occurs : (q : Question) → Keeps D Occurs (Occurs q) (row D S q)
-    row_occurs (check w at p e t) = checked_occurs w at p e t (opened e) refl
-    row_occurs (infer w at e) = keeps_if D Occurs (Sees_as (written e)) (inferable e) _ _ (λ _. inferred_occurs w at e (opened e) refl) (λ _. tt)
-    row_occurs (item w t x e) = item_occurs D w t x e
-    row_occurs (hole w at passed filling t) = hole_occurs D w at passed filling t
+  row_occurs : (q : Question) → Keeps D Occurs (Occurs q) (row D S q)
+  row_occurs (check w at p e t) = checked_occurs w at p e t (opened e) refl
+  row_occurs (infer w at e) = keeps_if D Occurs (Sees_as (written e)) (inferable e) _ _ (λ _. inferred_occurs w at e (opened e) refl) (λ _. tt)
+  row_occurs (item w t x e) = item_occurs D w t x e
+  row_occurs (hole w at passed filling t) = hole_occurs D w at passed filling t
 
-    -- what answers a question has the variables of its source
-    pub Answered-occurs : (q : Question) (m : Made) → Answered D S q (Gives m) → seen m.exp ≡ asked_written q
-    Answered-occurs q m h = Answered-keeps D S Occurs row_occurs q (Gives m) h
+  -- what answers a question has the variables of its source
+  pub Answered-occurs : (q : Question) (m : Made) → Answered D S q (Gives m) → seen m.exp ≡ asked_written q
+  Answered-occurs q m h = Answered-keeps D S Occurs row_occurs q (Gives m) h
 
-    -- what steps keep holds of what they give
-    pub Leads-occurs : (Q : Made → Type 0) (s : Step) (m : Made) → Leads D S s (Gives m) → Keeps D Occurs Q s → Q m
-    Leads-occurs Q s m h kept = Leads-keeps D S Occurs row_occurs Q s (Gives m) h kept
+  -- what steps keep holds of what they give
+  pub Leads-occurs : (Q : Made → Type 0) (s : Step) (m : Made) → Leads D S s (Gives m) → Keeps D Occurs Q s → Q m
+  Leads-occurs Q s m h kept = Leads-keeps D S Occurs row_occurs Q s (Gives m) h kept

@@ -35,7 +35,7 @@ use Rattle.st_elab_table.specs.Steps.{made, enclosed, give, asked, found, each_a
 use Rattle.st_elab_table.specs.Elaboration.{row, Answered, Leads, around, Elab, Infer}
 use Rattle.st_elab_table.proofs.Keeps.{Keeps, Answered-keeps, Leads-keeps}
 use Rattle.st_elab_law.proofs.Claims.{IsWritten, IsAlone, Claim}
-use Rattle.st_elab_law.specs.Agreement.{IsTableOf, AreWhole}
+use Rattle.st_elab_law.specs.Agreement.{IsTableOf}
 use Rattle.st_elab_law.proofs.Plainness.{plain-Paren, plain-Arith}
 use Rattle.st_elab_law.proofs.Erasings.{erased-Bool, erased-Number, erased-Text, erased-Var, erased-Not}
 use Rattle.st_elab_law.proofs.Writing.{whole_source, leaf_written, form_written}
@@ -87,12 +87,12 @@ module _ (defs : List IlDef) (D : Decls) (S : Scope) where
 
   -- ---- expressions at a type
 
-  module _ (fields : IsTableOf defs D) (holes : AreWhole D.types) where
+  module _ (fields : IsTableOf defs D) where
     sequence_keeps : (w : Within) (at : Span) (p : Manner) (e : Exp) (es : List Exp) (t u : Ty) (y : Ty-F Ty) → opened e ≡ Node-F.Seq es → Means D.types t u → out-Ty u ≡ y
         → Kept defs D (IsAlone D p t) e (sequence_at w at p e es t u y)
     sequence_keeps w at p e es t u (Ty-F.List x) is means list =
         keeps_if D (Claim defs D) (Writes defs (IsAlone D p t) e) (is_run es p.in_parentheses) _ _ (λ long. run_keeps defs D w at p e es t u x is means list long) (λ _. other_keeps defs D (IsAlone D p t) e w at p t (Ty-F.List x))
-    sequence_keeps w at p e es t u y is means list = notation_keeps defs D holes (IsAlone D p t) w at p e t u
+    sequence_keeps w at p e es t u y is means list = notation_keeps defs D (IsAlone D p t) w at p e t u
 
     form_keeps : (w : Within) (at : Span) (p : Manner) (e : Exp) (t u : Ty) (y : Node-F Count Node Seg Exp) → opened e ≡ y → Means D.types t u → Kept defs D (IsAlone D p t) e (form_row D S w at p e t u y)
     form_keeps w at p e t u Node-F.Eps is means = eps_keeps defs D (IsAlone D p t) e at t (out-Ty u) is
@@ -102,9 +102,9 @@ module _ (defs : List IlDef) (D : Decls) (S : Scope) where
     form_keeps w at p e t u (Node-F.Iter b c) is means = iterated_keeps defs D (IsAlone D p t) S w at p e b c t (out-Ty u) is
     form_keeps w at p e t u (Node-F.Seq es) is means = sequence_keeps w at p e es t u (out-Ty u) is means refl
     form_keeps w at p e t u (Node-F.Fields given) is means = record_keeps defs D fields (IsAlone D p t) w at p e given t u is means
-    form_keeps w at p e t u (Node-F.Atom name) is means = notation_keeps defs D holes (IsAlone D p t) w at p e t u
-    form_keeps w at p e t u (Node-F.Infix l sign r) is means = notation_keeps defs D holes (IsAlone D p t) w at p e t u
-    form_keeps w at p e t u (Node-F.Bracket opening b) is means = notation_keeps defs D holes (IsAlone D p t) w at p e t u
+    form_keeps w at p e t u (Node-F.Atom name) is means = notation_keeps defs D (IsAlone D p t) w at p e t u
+    form_keeps w at p e t u (Node-F.Infix l sign r) is means = notation_keeps defs D (IsAlone D p t) w at p e t u
+    form_keeps w at p e t u (Node-F.Bracket opening b) is means = notation_keeps defs D (IsAlone D p t) w at p e t u
     form_keeps w at p e t u y is means = other_keeps defs D (IsAlone D p t) e w at p t (out-Ty u)
 
     plain_keeps : (w : Within) (at : Span) (p : Manner) (e : Exp) (t : Ty) → Kept defs D (IsAlone D p t) e (plain_row D S w at p e t)

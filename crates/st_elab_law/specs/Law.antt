@@ -11,7 +11,7 @@ use Rattle.st_elab_table.specs.declared.decls.Decls.{Decls}
 use Rattle.st_elab_table.specs.declared.decls.Scope.{Scope}
 use Rattle.st_elab_table.specs.Questions.{Question, check, infer, item, hole, Made, Gives}
 use Rattle.st_elab_table.specs.Elaboration.{Answered}
-use Rattle.st_elab_law.specs.Agreement.{Agrees}
+use Rattle.st_elab_law.specs.Agreement.{IsTableOf}
 
 -- What is erased fills a hole as this does, once both are plain: as one expression, as a run
 -- of elements, or by nothing.
@@ -27,8 +27,8 @@ IsErasedBack il (infer w at e) m = plain_exp (erased_exp il m.exp) ≡ plain_exp
 IsErasedBack il (item w t element e) m = plain_exp (erased_exp il m.exp) ≡ plain_exp e
 IsErasedBack il (hole w at passed filling t) m = FillsAs filling (erased il.defs m.exp)
 
--- Where declarations agree with definitions, what answers a question is erased to what the
--- question is about, whatever is round it.
+-- Where the declared types are those of definitions, what answers a question is erased to what
+-- the question is about, whatever is round it.
 abbrev pub AnswersErase : Type 0
-AnswersErase = (il : Il) (D : Decls) (S : Scope) → Agrees il D
+AnswersErase = (il : Il) (D : Decls) (S : Scope) → IsTableOf il.defs D
     → (q : Question) (m : Made) → Answered D S q (Gives m) → IsErasedBack il q m

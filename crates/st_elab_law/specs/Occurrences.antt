@@ -19,7 +19,6 @@ use Rattle.st_elab_table.specs.declared.decls.Decls.{Decls}
 use Rattle.st_elab_table.specs.declared.decls.Scope.{Scope}
 use Rattle.st_elab_table.specs.Questions.{Question, check, infer, item, hole, Made, Gives}
 use Rattle.st_elab_table.specs.Elaboration.{Answered}
-use Rattle.st_elab_law.specs.Agreement.{AreWhole}
 
 -- a variable that occurs, and the kinds of the iterations round it, outermost first
 abbrev pub Chained : Type 0
@@ -174,6 +173,5 @@ asked_written (hole w at passed filling t) = filling_written filling
 -- What answers a question has the variables of what the question is about, in their order, each
 -- under the same iterations.
 abbrev pub AnswersOccur : Type 0
-AnswersOccur = (D : Decls) (S : Scope) → AreWhole D.types
-    → (q : Question) (m : Made) → Answered D S q (Gives m)
+AnswersOccur = (D : Decls) (S : Scope) (q : Question) (m : Made) → Answered D S q (Gives m)
     → (within : Within) → seen m.exp within ≡ asked_written q within
