@@ -17,7 +17,7 @@ use Rattle.st_elab_table.specs.Questions.{Question, check, infer, Made, Breach, 
 use Rattle.st_elab_table.specs.Steps.{made, by_itself, asked, found}
 use Rattle.st_elab_table.specs.Elaboration.{Answered, around, Elab, ElabBreach, Infer, InferBreach}
 use Rattle.st_elab_table.proofs.Single.{Answered-single}
-use Rattle.st_elab_law.specs.Agreement.{Agrees}
+use Rattle.st_elab_law.specs.Agreement.{IsTableOf}
 use Rattle.st_elab_law.proofs.Table.{Elab-erases, Infer-erases}
 use Rattle.st_elab_rows.specs.Told.{Told}
 use Rattle.st_elab_exp.specs.Exactly.{IsGiven, IsRefused}
@@ -53,11 +53,11 @@ module _ (D : Decls) (S : Scope) where
 
 -- ---- what is given is erased to the expression
 
-module _ (il : Il) (D : Decls) (S : Scope) (agrees : Agrees il D) where
+module _ (il : Il) (D : Decls) (S : Scope) (table : IsTableOf il.defs D) where
   pub told_erased : (e : Exp) (t : Ty) (r : Result IlExp ExpFault) → Told (Elab D S e t) (ElabBreach D S e t) r → IfOk r (λ x. plain_exp (erased_exp il x) ≡ plain_exp e)
-  told_erased e t (Ok x) h = Elab-erases il.defs D S agrees.table agrees.whole e t x h
+  told_erased e t (Ok x) h = Elab-erases il.defs D S table e t x h
   told_erased e t (Err fault) h = tt
 
   pub found_erased : (e : Exp) (r : Result (IlExp × Ty) ExpFault) → Told (λ (p : IlExp × Ty). Infer D S e p.0 p.1) (InferBreach D S e) r → IfOk r (λ p. plain_exp (erased_exp il p.0) ≡ plain_exp e)
-  found_erased e (Ok p) h = Infer-erases il.defs D S agrees.table agrees.whole e p.0 p.1 h
+  found_erased e (Ok p) h = Infer-erases il.defs D S table e p.0 p.1 h
   found_erased e (Err fault) h = tt

@@ -8,7 +8,7 @@ ghost use Rattle.st_il.specs.declared.expression.IlExp.{IlExp};
 ghost use Rattle.st_erase.specs.Erasure.{erased_exp};
 ghost use Rattle.st_elab_table.specs.Questions.{Breach};
 ghost use Rattle.st_elab_table.specs.Elaboration.{around, Elab, ElabBreach, Infer, InferBreach};
-ghost use Rattle.st_elab_law.specs.Agreement.{Agrees};
+ghost use Rattle.st_elab_law.specs.Agreement.{IsTableOf};
 ghost use Rattle.st_elab_rows.specs.Told.{Told};
 ghost use Rattle.st_elab_exp.specs.Exactly.{IsGiven, IsRefused};
 
@@ -46,7 +46,7 @@ pub fn check_exp(
     ensures gives { (x : IlExp) → Elab decls.now scope.now exp.now ty.now x → IsGiven x result }
     ensures refuses { (b : Breach) → ElabBreach decls.now scope.now exp.now ty.now b
         → IsRefused b result }
-    ensures erased { (il : Il) → Agrees il decls.now
+    ensures erased { (il : Il) → IsTableOf il.defs decls.now
         → IfOk result (λ x. plain_exp (erased_exp il x) ≡ plain_exp exp.now) }
 {
     let within = around(alloc, scope)?;
@@ -69,7 +69,7 @@ pub fn infer_exp(
         → IsGiven (x, t) result }
     ensures refuses { (b : Breach) → InferBreach decls.now scope.now exp.now b
         → IsRefused b result }
-    ensures erased { (il : Il) → Agrees il decls.now
+    ensures erased { (il : Il) → IsTableOf il.defs decls.now
         → IfOk result (λ found. plain_exp (erased_exp il found.0) ≡ plain_exp exp.now) }
 {
     let within = around(alloc, scope)?;
