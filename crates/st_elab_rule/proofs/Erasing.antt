@@ -1,7 +1,6 @@
 -- Rules and clauses are erased to what they came from.
 use Rattle.std.proofs.Common.{◌≡◌, refl, sym, ◌∙◌, ap, subst, ℕ, List, [], ◌∷◌, map, length, Bool, true, false, Some}
 use Rattle.std.specs.Prelude.{if◌then◌else◌, flat_map, Result, Ok, Err, IfOk}
-use Rattle.std.specs.List.{AllByRecursion}
 use Rattle.st_el.specs.declared.expression.Exp.{Exp}
 use Rattle.st_el.specs.declared.expression.Count.{Count, out-Count}
 use Rattle.st_el.specs.Plain.{nowhere, plain_exp, plain_count, plain_prem, plain_prem_node, plain_prem_at, plain_prem_node_at}
@@ -45,7 +44,7 @@ use Rattle.st_elab_table.specs.Questions.{Question, Made, Breach, Gives, Step}
 use Rattle.st_elab_table.specs.Steps.{made, give, asked, each_asked, exp_of, exps}
 use Rattle.st_elab_table.specs.Elaboration.{Leads, ends, Reached, around}
 use Rattle.st_elab_table.proofs.Keeps.{Keeps}
-use Rattle.st_elab_law.specs.Agreement.{IsTableOf, HasItsHoles, relation_in, Declares}
+use Rattle.st_elab_law.specs.Agreement.{IsTableOf, relation_in, Declares}
 use Rattle.st_elab_law.proofs.Claims.{Claim, Claims}
 use Rattle.st_elab_law.proofs.Writing.{whole_source}
 use Rattle.st_elab_law.proofs.Listing.{counted_keeps}
@@ -102,21 +101,12 @@ tag_named name (def.Rule d ∷ ds) R h = tag_named name ds R h
 tag_named name (def.Fun d ∷ ds) R h = tag_named name ds R h
 tag_named name (def.Clause d ∷ ds) R h = tag_named name ds R h
 
--- what holds of all relations holds of the one of this name
-pub named_any : (P : RelationDef → Type 0) (name : List ℕ) (Rs : List RelationDef) (R : RelationDef) → AllByRecursion P Rs → relation_named Rs name ≡ Some R → P R
-named_any P name [] R all h = absurd (cc)
-named_any P name (r ∷ Rs) R all h = by (same_name name r.name) h (named_any P name Rs R all.1)
-  where
-    by : (b : Bool) → (if b then Some r else relation_named Rs name) ≡ Some R → (relation_named Rs name ≡ Some R → P R) → P R
-    by true k later = let same : r ≡ R = cc in subst P same all.0
-    by false k later = later k
-
 module _ (il : Il) (D : Decls) (declares : Declares il D) where
   table : IsTableOf il.defs D
-  table = ap (λ (d : Decls). d.types) declares.declared
+  table = ap (λ (d : Decls). d.types) declares
 
   tagged : (name : List ℕ) (R : RelationDef) → relation_named D.relations name ≡ Some R → tag_of name il.defs ≡ Some R.tag
-  tagged name R h = tag_named name il.defs R (ap (λ (d : Decls). relation_named d.relations name) (sym declares.declared) ∙ h)
+  tagged name R h = tag_named name il.defs R (ap (λ (d : Decls). relation_named d.relations name) (sym declares) ∙ h)
 
   module _ (S : Scope) where
     -- ---- parts
@@ -125,25 +115,25 @@ module _ (il : Il) (D : Decls) (declares : Declares il D) where
     all_claims [] [] h = tt
     all_claims [] (m ∷ ms) h = absurd h
     all_claims (q ∷ qs) [] h = absurd h
-    all_claims (q ∷ qs) (m ∷ ms) h = (Answered-claims il.defs D S table declares.whole q m h.0, all_claims qs ms h.1)
+    all_claims (q ∷ qs) (m ∷ ms) h = (Answered-claims il.defs D S table q m h.0, all_claims qs ms h.1)
 
     inside_erases : (w : Within) (e : Exp) (t : Ty) (x : IlExp) → ElabInside D S w e t x → plain_exp (whole (erased il.defs x)) ≡ plain_exp e
-    inside_erases w e t x h = whole_source (erased il.defs x) e (Answered-claims il.defs D S table declares.whole (asked w e t) (made x t) h).same
+    inside_erases w e t x h = whole_source (erased il.defs x) e (Answered-claims il.defs D S table (asked w e t) (made x t) h).same
 
     -- ---- judgements
 
-    judged_erases : (w : Within) (R : RelationDef) (e : Exp) (xs : List IlExp) → HasItsHoles R → Judged D S w R e xs → plain_exp (judged (Some R.tag) (map (erased il.defs) xs)) ≡ plain_exp e
-    judged_erases w R e xs own h =
+    judged_erases : (w : Within) (R : RelationDef) (e : Exp) (xs : List IlExp) → Judged D S w R e xs → plain_exp (judged (Some R.tag) (map (erased il.defs) xs)) ≡ plain_exp e
+    judged_erases w R e xs h =
         let ms = h.filled.mades in
         let f = h.fits in
         ap (λ z. plain_exp (judged (Some R.tag) (map (erased il.defs) z))) (sym h.filled.parts)
         ∙ ap (λ z. plain_exp (whole z)) (case-is il.defs D R.tag f.template (map (erased il.defs) (exps ms)) f.tagged)
-        ∙ fills_written il.defs D w (place e) [] e (case_of R) h.fillings ms own f (all_claims (judgement_questions w e h.fillings R) ms h.filled.asked)
+        ∙ fills_written il.defs D w (place e) [] e (case_of R) h.fillings ms f (all_claims (judgement_questions w e h.fillings R) ms h.filled.asked)
 
     named_erases : (w : Within) (name : List ℕ) (R : RelationDef) (e : Exp) (xs : List IlExp) → relation_named D.relations name ≡ Some R → Judged D S w R e xs
         → plain_exp (written_judgement il.defs name xs) ≡ plain_exp e
     named_erases w name R e xs named h =
-        ap (λ z. plain_exp (judged z (map (erased il.defs) xs))) (tagged name R named) ∙ judged_erases w R e xs (named_any HasItsHoles name D.relations R declares.relations named) h
+        ap (λ z. plain_exp (judged z (map (erased il.defs) xs))) (tagged name R named) ∙ judged_erases w R e xs h
 
     -- ---- counts
 
@@ -166,7 +156,7 @@ module _ (il : Il) (D : Decls) (declares : Declares il D) where
         let kept : Keeps D (Claim il.defs D) (Counts c) (counted_at w (out-Count c) shown) =
         counted_keeps il.defs D (Counts c) w c (out-Count c) shown refl (λ l g. subst (CountsAt c) (sym (il_exp.outs-Iter l [] (il_exp.Bool true))) g) in
         let counted : Counts c (made (il_exp.Iter k [] (il_exp.Bool true)) ty.Bool) =
-        Leads-claims il.defs D S table declares.whole (Counts c) (counted_at w (out-Count c) shown) (made (il_exp.Iter k [] (il_exp.Bool true)) ty.Bool) (h shown _ (shown_leads k)) kept in
+        Leads-claims il.defs D S table (Counts c) (counted_at w (out-Count c) shown) (made (il_exp.Iter k [] (il_exp.Bool true)) ty.Bool) (h shown _ (shown_leads k)) kept in
         subst (CountsAt c) (il_exp.outs-Iter k [] (il_exp.Bool true)) counted
 
     -- ---- premises

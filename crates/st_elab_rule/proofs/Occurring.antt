@@ -35,7 +35,6 @@ use Rattle.st_elab_table.specs.Questions.{Question, Made, Gives, Step}
 use Rattle.st_elab_table.specs.Steps.{made, give, asked, each_asked, exps}
 use Rattle.st_elab_table.specs.Elaboration.{Leads, ends, Reached, around}
 use Rattle.st_elab_table.proofs.Keeps.{Keeps}
-use Rattle.st_elab_law.specs.Agreement.{HasItsHoles}
 use Rattle.st_elab_law.specs.Occurrences.{Sees, beside, all_of, mentioned, written, iterated, seen, round_of}
 use Rattle.st_elab_law.proofs.Claims.{Claims}
 use Rattle.st_elab_law.proofs.Mentioning.{mentioned-append, read, round_written, iterated-read}
@@ -48,8 +47,7 @@ use Rattle.st_elab_rule.specs.Judgements.{case_of, judgement_questions, Judged}
 use Rattle.st_elab_rule.specs.Premises.{place_of, node_of, ElabPrem, condition, judgement, otherwise, each, ElabPrems}
 use Rattle.st_elab_rule.specs.Rules.{ElabRule}
 use Rattle.st_elab_rule.specs.Clauses.{ClauseParts, ElabClause}
-use Rattle.st_elab_rule.specs.Occurrences.{prem_seen_at, prem_seen, RuleOccurs, ClauseOccurs, HasOperands}
-use Rattle.st_elab_rule.proofs.Erasing.{named_any}
+use Rattle.st_elab_rule.specs.Occurrences.{prem_seen_at, prem_seen, RuleOccurs, ClauseOccurs}
 
 -- ---- several parts
 
@@ -76,7 +74,7 @@ prem-level p y is =
 seen-level : (x : IlPrem) (y : IlPrem-F IlPrem) → out-IlPrem x ≡ y → prem_seen x ≡ prem_seen_at (map-IlPrem IlPrem Sees prem_seen y)
 seen-level x y is = fold_out-IlPrem Sees prem_seen_at x ∙ ap (λ z. prem_seen_at (map-IlPrem IlPrem Sees prem_seen z)) is
 
-module _ (D : Decls) (has : HasOperands D) where
+module _ (D : Decls) where
   module _ (S : Scope) where
     -- ---- parts
 
@@ -84,15 +82,15 @@ module _ (D : Decls) (has : HasOperands D) where
     all_occur [] [] h = tt
     all_occur [] (m ∷ ms) h = absurd h
     all_occur (q ∷ qs) [] h = absurd h
-    all_occur (q ∷ qs) (m ∷ ms) h = (Answered-occurs D S has.types q m h.0, all_occur qs ms h.1)
+    all_occur (q ∷ qs) (m ∷ ms) h = (Answered-occurs D S q m h.0, all_occur qs ms h.1)
 
     inside_occurs : (w : Within) (e : Exp) (t : Ty) (x : IlExp) → ElabInside D S w e t x → seen x ≡ written e
-    inside_occurs w e t x h = Answered-occurs D S has.types (asked w e t) (made x t) h
+    inside_occurs w e t x h = Answered-occurs D S (asked w e t) (made x t) h
 
-    judged_occurs : (w : Within) (R : RelationDef) (e : Exp) (xs : List IlExp) → HasItsHoles R → Judged D S w R e xs → all_of (map seen xs) ≡ written e
-    judged_occurs w R e xs own h =
+    judged_occurs : (w : Within) (R : RelationDef) (e : Exp) (xs : List IlExp) → Judged D S w R e xs → all_of (map seen xs) ≡ written e
+    judged_occurs w R e xs h =
         ap (λ z. all_of (map seen z)) (sym h.filled.parts)
-        ∙ fills_occur D w (place e) [] e (case_of R) h.fillings h.filled.mades own h.fits (all_occur (judgement_questions w e h.fillings R) h.filled.mades h.filled.asked)
+        ∙ fills_occur D w (place e) [] e (case_of R) h.fillings h.filled.mades h.fits (all_occur (judgement_questions w e h.fillings R) h.filled.mades h.filled.asked)
 
     args_occur : (w : Within) (es : List Exp) (ts : List Ty) (ms : List Made) → length es ≡ length ts → Claims Occurs (each_asked w es ts) ms → map seen (exps ms) ≡ map written es
     args_occur w [] ts [] l c = refl
@@ -124,7 +122,7 @@ module _ (D : Decls) (has : HasOperands D) where
         let kept : Keeps D Occurs (Counts c) (counted_at w (out-Count c) shown) =
         counted_occurs D (Counts c) w c (out-Count c) shown refl (λ l g. subst (CountsAt c) (sym (il_exp.outs-Iter l [] (il_exp.Bool true))) g) in
         let counted : Counts c (made (il_exp.Iter k [] (il_exp.Bool true)) ty.Bool) =
-        Leads-occurs D S has.types (Counts c) (counted_at w (out-Count c) shown) (made (il_exp.Iter k [] (il_exp.Bool true)) ty.Bool) (h shown _ (shown_leads k)) kept in
+        Leads-occurs D S (Counts c) (counted_at w (out-Count c) shown) (made (il_exp.Iter k [] (il_exp.Bool true)) ty.Bool) (h shown _ (shown_leads k)) kept in
         subst (CountsAt c) (il_exp.outs-Iter k [] (il_exp.Bool true)) counted
 
     -- ---- premises
@@ -132,7 +130,7 @@ module _ (D : Decls) (has : HasOperands D) where
     prem_occurs : (w : Within) (p : Prem) (x : IlPrem) → ElabPrem D S w p x → prem_seen x ≡ prem_written p
     prem_occurs w p x (condition e y is h) = seen-level (premise.If y) _ (premise.outs-If y) ∙ inside_occurs w e ty.Bool y h ∙ sym (prem-level p _ is)
     prem_occurs w p x (judgement name e R xs is named h) =
-        seen-level (premise.Goal name xs) _ (premise.outs-Goal name xs) ∙ judged_occurs w R e xs (named_any HasItsHoles name D.relations R has.relations named) h ∙ sym (prem-level p _ is)
+        seen-level (premise.Goal name xs) _ (premise.outs-Goal name xs) ∙ judged_occurs w R e xs h ∙ sym (prem-level p _ is)
     prem_occurs w p x (otherwise is) = seen-level premise.Otherwise _ premise.outs-Otherwise ∙ sym (prem-level p _ is)
     prem_occurs w p x (each q c y k is h n) =
         let names : List (List ℕ) = iterated_names S w c (λ name. occurs_in_prem name y) in
@@ -160,10 +158,10 @@ module _ (D : Decls) (has : HasOperands D) where
   single : (a : Sees) → all_of (a ∷ []) ≡ a
   single a = λ i w. append-nil (a w) i
 
-  pub rule_occurs : (R : RelationDef) (name : List ℕ) (e : Exp) (ps : List Prem) (rule : RuleDef) → HasItsHoles R → ElabRule D R name e ps rule → RuleOccurs e ps rule
-  rule_occurs R name e ps rule own h =
+  pub rule_occurs : (R : RelationDef) (name : List ℕ) (e : Exp) (ps : List Prem) (rule : RuleDef) → ElabRule D R name e ps rule → RuleOccurs e ps rule
+  rule_occurs R name e ps rule h =
       let w = around h.scope in
-      let conclusion : all_of (map seen rule.conclusion) ≡ all_of (map written (e ∷ [])) = judged_occurs h.scope w R e rule.conclusion own h.judged ∙ sym (single (written e)) in
+      let conclusion : all_of (map seen rule.conclusion) ≡ all_of (map written (e ∷ [])) = judged_occurs h.scope w R e rule.conclusion h.judged ∙ sym (single (written e)) in
       let premises = prems_occur h.scope w ps rule.premises h.holding in
       (λ i. beside (conclusion i) (all_of (premises i)) outside) ∙ mentions_read (e ∷ []) ps
 

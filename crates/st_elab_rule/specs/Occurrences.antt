@@ -1,6 +1,5 @@
 -- The variables of a rule or clause, each with the iterations round it, there and back.
 use Rattle.std.specs.Prelude.{◌≡◌, List, [], ◌∷◌, ◌++◌, map}
-use Rattle.std.specs.List.{AllByRecursion}
 use Rattle.st_el.specs.declared.expression.Exp.{Exp}
 use Rattle.st_el.specs.declared.definition.Prem.{Prem}
 use Rattle.st_il.specs.declared.definition.ClauseDef.{ClauseDef}
@@ -9,8 +8,6 @@ use Rattle.st_il.specs.declared.expression.IlPrem.{IlPrem, fold-IlPrem}
 use Rattle.st_il.specs.declared.expression.IlPrem.TheOpen.{IlPrem-F}
 use Rattle.st_dims.specs.Around.{outside}
 use Rattle.st_dims.specs.Mentions.{mentions_in}
-use Rattle.st_elab_table.specs.declared.decls.Decls.{Decls}
-use Rattle.st_elab_law.specs.Agreement.{AreWhole, HasItsHoles}
 use Rattle.st_elab_law.specs.Occurrences.{Sees, nothing, beside, all_of, mentioned, iterated, seen, round_of}
 use Rattle.st_elab_rule.specs.Clauses.{ClauseParts, mentions_of}
 
@@ -37,8 +34,3 @@ abbrev pub ClauseOccurs : ClauseParts → ClauseDef → Type 0
 ClauseOccurs c clause =
     beside (all_of (map seen (clause.args ++ clause.result ∷ [])))
     (all_of (map prem_seen clause.premises)) outside ≡ mentioned (mentions_of c)
-
--- each case and each relation has an operand for each hole of its notation
-pub record HasOperands (D : Decls) : Type 0 where
-  pub types : AreWhole D.types
-  pub relations : AllByRecursion HasItsHoles D.relations

@@ -9,8 +9,7 @@ ghost use Rattle.st_il.specs.declared.definition.FunDef.{FunDef};
 ghost use Rattle.st_il.specs.declared.definition.RelationDef.{RelationDef};
 ghost use Rattle.st_il.specs.declared.definition.RuleDef.{RuleDef};
 ghost use Rattle.st_elab_table.specs.declared.decls.Decls.{Decls};
-ghost use Rattle.st_elab_law.specs.Agreement.{HasItsHoles};
-ghost use Rattle.st_elab_rule.specs.Occurrences.{HasOperands, RuleOccurs, ClauseOccurs};
+ghost use Rattle.st_elab_rule.specs.Occurrences.{RuleOccurs, ClauseOccurs};
 ghost use Rattle.st_elab_rule.specs.Single.{HasOneOutcome};
 ghost use Rattle.st_elab_rule.specs.Rules.{ElabRule, RuleBreach};
 ghost use Rattle.st_elab_rule.specs.Clauses.{ClauseParts, ElabClause, ClauseBreach};
@@ -33,8 +32,8 @@ pub fn one_clause()
 /// under the same iterations.
 pub fn keeps_variables()
     ensures rules { (D : Decls) (R : RelationDef) (name : List ℕ) (conclusion : Exp)
-        (premises : List Prem) (rule : RuleDef) → HasOperands D → HasItsHoles R
-        → ElabRule D R name conclusion premises rule → RuleOccurs conclusion premises rule }
+        (premises : List Prem) (rule : RuleDef) → ElabRule D R name conclusion premises rule
+        → RuleOccurs conclusion premises rule }
     ensures clauses { (D : Decls) (f : FunDef) (c : ClauseParts) (clause : ClauseDef)
-        → HasOperands D → ElabClause D f c clause → ClauseOccurs c clause }
+        → ElabClause D f c clause → ClauseOccurs c clause }
 {}
