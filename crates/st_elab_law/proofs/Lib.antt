@@ -17,3 +17,9 @@ pub mod Mentioning
 pub mod Occurring
 pub mod Holding
 pub mod Occurrences
+pub mod AsksOnly
+pub mod Sizes
+pub mod FillingSizes
+pub mod Unpassed
+pub mod AliasesEnd
+pub mod HasAnswer

@@ -6,3 +6,5 @@ pub mod Agreement
 pub mod Law
 -- what is elaborated has the variables of what it came from, each under the same iterations
 pub mod Occurrences
+-- no question is without an answer
+pub mod Totality
