@@ -1,6 +1,6 @@
 mod SignaturesLemmas
 mod Spacing
 mod ModesLemmas
-mod TypesErase
-mod NotationsErase
-mod ModesErase
+pub mod TypesErase
+pub mod NotationsErase
+pub mod ModesErase
