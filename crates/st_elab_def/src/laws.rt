@@ -6,15 +6,15 @@ ghost use Rattle.st_elab_law.specs.Agreement.{Declares};
 ghost use Rattle.st_elab_def.specs.declared.elaborated.Elaborated.{Elaborated};
 ghost use Rattle.st_elab_def.specs.DeclsOf.{decls_of};
 ghost use Rattle.st_elab_def.specs.Elaboration.{IsElaborated};
-ghost use Rattle.st_elab_def.specs.Answers.{HasOneOutcome, HasTemplates};
+ghost use Rattle.st_elab_def.specs.Answers.{HasOneOutcome};
 
 /// A source has at most one internal language or one first breach, and not both.
 pub fn one_outcome()
     ensures { (defs : List Def) → HasOneOutcome defs }
 {}
 
-/// What is elaborated declares what its source does, and its notations have their operands.
+/// What is elaborated declares what its source does.
 pub fn declares_its_own()
-    ensures { (defs : List Def) (e : Elaborated) → HasTemplates defs → IsElaborated defs e
+    ensures { (defs : List Def) (e : Elaborated) → IsElaborated defs e
         → Declares e.il (decls_of defs) }
 {}
