@@ -68,7 +68,7 @@ module _ (D : Decls) where
   alone-at target so_far n (NotNode-F.Infix left sign right) h = (_, refl)
   alone-at target so_far n (NotNode-F.Bracket opening inside) h = (_, refl)
 
-  all-alone : (target : List ℕ) (before : List Alternative) (ns : List Notation) → AllPassAt D (on_alternatives target before ns) → AreAlternatives ns
+  pub all-alone : (target : List ℕ) (before : List Alternative) (ns : List Notation) → AllPassAt D (on_alternatives target before ns) → AreAlternatives ns
   all-alone target before [] h = tt
   all-alone target before (n ∷ ns) h = (
     alone-at target (before ++ alternative_of n) n (not_node n) (AllPassAt-front D (here n) (behind n ns) h),

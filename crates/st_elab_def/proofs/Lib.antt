@@ -33,3 +33,4 @@ mod Examples
 mod ExamplesOfCases
 mod Light
 pub mod Declares
+pub mod ErasesTo

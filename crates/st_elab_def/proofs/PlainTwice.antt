@@ -42,7 +42,7 @@ node_twice (TypNode-F.Quest t) h =
 node_twice (TypNode-F.Tuple ts) h =
     subst NodeTwice (sym (node.rolls-Tuple ts)) (ap plain_typ_node (plain-Tuple ts) ∙ plain-Tuple (map plain_typ ts) ∙ ap node.Tuple (all_twice ts h) ∙ sym (plain-Tuple ts))
 
-plain-roll : (x : Typ-F TypNode Typ) → plain_typ (roll-Typ x) ≡ roll-Typ (record { at = nowhere; node = plain_typ_node x.node })
+pub plain-roll : (x : Typ-F TypNode Typ) → plain_typ (roll-Typ x) ≡ roll-Typ (record { at = nowhere; node = plain_typ_node x.node })
 plain-roll x = search (rules, the_lemmas)
 
 level_twice : (x : Typ-F TypNode Typ) → NodeTwice x.node → Twice (roll-Typ x)
@@ -84,7 +84,7 @@ not_node_twice (NotNode-F.Bracket opening inside) h =
     subst NotNodeTwice (sym (not_node.rolls-Bracket opening inside))
     (ap plain_not_node (plain-Bracket opening inside) ∙ plain-Bracket opening (plain_notation inside) ∙ ap (not_node.Bracket opening) h ∙ sym (plain-Bracket opening inside))
 
-plain_not-roll : (x : Notation-F NotNode Notation) → plain_notation (roll-Notation x) ≡ roll-Notation (record { at = nowhere; node = plain_not_node x.node })
+pub plain_not-roll : (x : Notation-F NotNode Notation) → plain_notation (roll-Notation x) ≡ roll-Notation (record { at = nowhere; node = plain_not_node x.node })
 plain_not-roll x = search (rules, notation_lemmas)
 
 not_level_twice : (x : Notation-F NotNode Notation) → NotNodeTwice x.node → NotTwice (roll-Notation x)

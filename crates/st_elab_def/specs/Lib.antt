@@ -20,5 +20,7 @@ pub mod Breaches
 pub mod Elaboration
 -- what the elaboration of a source answers, and which sources have templates
 pub mod Answers
+-- the internal language of a source is erased to it
+pub mod Erasing
 -- ---- what only proofs need
 pub mod inner

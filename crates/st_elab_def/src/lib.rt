@@ -33,6 +33,6 @@ mod whole;
 
 pub use breach::{Breach, DefFault};
 pub use elaborated::Elaborated;
-pub use laws::{declares_its_own, one_outcome};
+pub use laws::{declares_its_own, erases_back, one_outcome};
 pub use source::elaborate;
 pub use tables::decls;
