@@ -204,7 +204,7 @@ module _ (D : Decls) (P : Question → Type 0) where
   only_concatenated at a b = only_larger a.ty b.ty
       (λ t. as_joined at t (λ join. raised a t (λ x. raised b t (λ y. give (join x y) t)))) (breach at Y5)
       (λ t. only_joined at t (λ join. raised a t (λ x. raised b t (λ y. give (join x y) t)))
-          (λ join. only_raised a t (λ x. raised b t (λ y. give (join x y) t)) (λ x. only_raised b t (λ y. give (join x y) t) (λ y. tt)))) tt
+      (λ join. only_raised a t (λ x. raised b t (λ y. give (join x y) t)) (λ x. only_raised b t (λ y. give (join x y) t) (λ y. tt)))) tt
 
   only_numeric : (w : Within) (e : Exp) (next : Made → NumTy → Step) → IsAskable P e → ((m : Made) (n : NumTy) → AsksOnly D P (next m n)) → AsksOnly D P (numeric w e next)
   only_numeric w e next g h = (with_own e g w, λ m. only_number (place e) m.ty (next m) (h m))
