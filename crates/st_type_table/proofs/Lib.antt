@@ -28,3 +28,4 @@ pub mod SameLemmas
 pub mod FormLemmas
 pub mod SameNumberLemmas
 pub mod NumberingLemmas
+pub mod NamesNumberedLemmas

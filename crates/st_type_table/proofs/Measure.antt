@@ -61,12 +61,12 @@ measure defs t = ty_rank defs t * suc (heights defs) + ty_height t
 abbrev pub measure_all : List SyntaxDef → List Ty → ℕ
 measure_all defs ts = highest (map (ty_rank defs) ts) * suc (heights defs) + suc (highest (map ty_height ts))
 
-among-left : (xs ys : List (List ℕ)) (x : List ℕ) → Among xs x → Among (xs ++ ys) x
+pub among-left : (xs ys : List (List ℕ)) (x : List ℕ) → Among xs x → Among (xs ++ ys) x
 among-left [] ys x h = absurd h
 among-left (z ∷ xs) ys x (inl e) = inl e
 among-left (z ∷ xs) ys x (inr h) = inr (among-left xs ys x h)
 
-among-right : (xs ys : List (List ℕ)) (x : List ℕ) → Among ys x → Among (xs ++ ys) x
+pub among-right : (xs ys : List (List ℕ)) (x : List ℕ) → Among ys x → Among (xs ++ ys) x
 among-right [] ys x h = h
 among-right (z ∷ xs) ys x h = inr (among-right xs ys x h)
 

@@ -16,10 +16,11 @@ use Rattle.indexmap.specs.IndexSet.{insert_key}
 use Rattle.st_il.specs.declared.ty.Ty.{Ty, out-Ty}
 use Rattle.st_il.specs.declared.ty.Ty.TheOpen.{Ty-F}
 use Rattle.st_il.specs.declared.definition.SyntaxDef.{SyntaxDef}
+use Rattle.st_il.specs.declared.definition.SyntaxBody.{SyntaxBody}
 use Rattle.st_type_table.specs.declared.entry.Entry.{Entry}
 use Rattle.st_type_table.specs.declared.form.Form.{Form}
 use Rattle.st_type_table.specs.declared.form.Form.TheVariants as form
-use Rattle.st_type_table.specs.Meaning.{aliased}
+use Rattle.st_type_table.specs.Meaning.{aliased, body_of}
 use Rattle.st_type_table.specs.inner.Kept.{Kept, defs_of, entry_of}
 use Rattle.st_type_table.proofs.KeptLemmas.{bodied, body_of-kept}
 use Rattle.st_type_table.specs.inner.Forms.{Numbers, number_of, form_eq, form_number, list_number, option_number, pair_number, type_number, parts_number, PartsBelow, IsOrdered, HasNumber, AreNumbers, AreForms, alias_named}
@@ -242,7 +243,7 @@ module _ (defs : List SyntaxDef) (one other : Numbers) (old new : List Form) (na
 pub has-kept : (defs : List SyntaxDef) (old new : Numbers) (name : List ℕ) → Keeps old new → HasNumber defs old name → HasNumber defs new name
 has-kept defs old new name keeps has none = by (number_of old name) refl
   where
-    by : (o : Option ℕ) → number_of old name ≡ o → alias_named defs name ≡ None
+    by : (o : Option ℕ) → number_of old name ≡ o → body_of defs name ≡ None
     by None e = has e
     by (Some i) e = none-some (sym none ∙ keeps name i e) _
 
@@ -281,7 +282,7 @@ pub all-names : (kept : Kept) (keys : List (List ℕ)) (at : ℕ) (names moved :
 all-names kept keys at names moved same whole listed p name is = by (entry_of kept name) refl
   where
     by : (o : Option Entry) → entry_of kept name ≡ o → (k : ℕ) × (b : Bor (List ℕ)) × (slice_get moved k ≡ Some b) × (b.now ≡ name)
-    by None e = absurd (is (alias-kept kept name None (sym e)))
+    by None e = absurd (is (body_of-kept kept name ∙ ap bodied e))
     by (Some entry) e =
         let c = Contains-keys_from_lookup {eq = pointwise nat_eq} (λ x y h. (bytes_eq-Decides x y).0 h) name kept (subst (λ o. IsSome o) (sym e) refl) in
         let d : slice_get keys c.0 ≡ Some name = subst (λ z. slice_get z c.0 ≡ Some name) (sym same) (slice_get-get_or (keys_of kept) c.0 name c.1 ∙ ap Some c.2) in
@@ -309,11 +310,11 @@ have-more defs old new names at b e keeps has have k c less f = by (nat_lt k at)
 
 pub all-numbered : (defs : List SyntaxDef) (numbers : Numbers) (forms : List Form) (names : List (Bor (List ℕ))) (at : ℕ) → length names ≤ at → AreAllNames defs names → AreNumbers defs numbers forms
     → HaveNumbers defs numbers names at → AreForms defs numbers forms
-all-numbered defs numbers forms names at whole all right have = record { right = right; whole = λ name none. by name none (alias_named defs name) refl }
+all-numbered defs numbers forms names at whole all right have = record { right = right; whole = λ name none. by name none (body_of defs name) refl }
   where
-    by : (name : List ℕ) → number_of numbers name ≡ None → (o : Option Ty) → alias_named defs name ≡ o → alias_named defs name ≡ None
+    by : (name : List ℕ) → number_of numbers name ≡ None → (o : Option SyntaxBody) → body_of defs name ≡ o → body_of defs name ≡ None
     by name none None e = e
-    by name none (Some t) e =
+    by name none (Some b) e =
         let f = all name (λ h. none-some (sym h ∙ e) ⊥) in
         let w = slice_get_within names f.0 f.1 f.2 in
         subst (λ z. HasNumber defs numbers z) f.3 (have f.0 f.1 (omega (arith, w, whole)) f.2) none

@@ -39,7 +39,7 @@ module _ (defs : List SyntaxDef) (numbers : Numbers) (forms : List Form) (are : 
     where
       by : (name : List ℕ) → type_number numbers forms t ≡ number_of numbers name → aliased (named_at {X = Ty} defs (Ty-F.Name name)) ≡ Some s
           → (o : Option ℕ) → number_of numbers name ≡ o → type_number numbers forms t ≡ type_number numbers forms s
-      by name p b None e = none-some (sym (are.whole name e) ∙ b) _
+      by name p b None e = none-some (sym (ap aliased (are.whole name e)) ∙ b) _
       by name p b (Some i) e = p ∙ e ∙ sym (are.right.alias name i s e b)
 
   pub means-number : (t u : Ty) → Means defs t u → type_number numbers forms t ≡ type_number numbers forms u
@@ -202,7 +202,7 @@ module _ (defs : List SyntaxDef) (numbers : Numbers) (forms : List Form) (are : 
             let n = at-name defs t s (out-Ty t) refl a in
             let none : number_of numbers n.0 ≡ None = sym (number-level numbers forms t (Ty-F.Name n.0) n.1) ∙ e in
             let named : aliased (named_at {X = Ty} defs (Ty-F.Name n.0)) ≡ Some s = ap (λ z. aliased (named_at defs z)) (sym n.1) ∙ n.2 in
-            none-some (sym (are.whole n.0 none) ∙ named) _
+            none-some (sym (ap aliased (are.whole n.0 none)) ∙ named) _
 
     same-named : (l k : Ty-F Ty) → (is_name l ≡ true) ⊎ (is_name k ≡ true) → SameAt defs l k → AreOneName l k
     same-named (Ty-F.Name x) (Ty-F.Name y) h s = s

@@ -1,10 +1,12 @@
 //! The numbers of the syntaxes of a table, by the forms of what they stand for.
 
-ghost use Rattle.std.specs.Prelude.{◌≡◌, IfOk, OnOk, Some, is_some};
+ghost use Rattle.std.specs.Prelude.{◌≡◌, IfOk, OnOk, Some, is_some, map};
+ghost use Rattle.std.specs.List.Sorted.{IsNonDecreasingBy};
+ghost use Rattle.st_type_table.specs.Leads.{joined, names_in};
 ghost use Rattle.st_type_table.specs.Meaning.{aliased};
-ghost use Rattle.st_type_table.specs.inner.Forms.{number_of, type_number, parts_number, IsOrdered, HasNumber, AreNumbers, AreForms};
-ghost use Rattle.st_type_table.specs.inner.Numbering.{body_number, Adds, Numbered, IsGiven, Keeps, AreAllNames};
-ghost use Rattle.st_type_table.specs.inner.Kept.{defs_of, rank_of};
+ghost use Rattle.st_type_table.specs.inner.Forms.{alias_named, number_of, type_number, parts_number, IsOrdered, HasNumber, AreNumbers, AreForms};
+ghost use Rattle.st_type_table.specs.inner.Numbering.{body_number, Adds, Numbered, IsGiven, IsNumbered, AllNumbered, AreNamesNumbered, Keeps, AreAllNames};
+ghost use Rattle.st_type_table.specs.inner.Kept.{defs_of, rank_of, IsKept};
 
 use crate::entry::Entries;
 use crate::form::{Form, FormList, Forms, Numbers};
@@ -23,10 +25,22 @@ fn add_form(list: &mut FormList, form: Form) -> Result<usize, NoMemory>
     }
 }
 
+/// The number of a name that has one.
+fn number_known(numbers: &Numbers, name: &Name) -> usize
+    requires { IsNumbered numbers.now.entries name.now }
+    ensures { number_of numbers.now.entries name.now ≡ Some result }
+{
+    match numbers.get(name) {
+        Some(number) => *number,
+        None => unreachable!(),
+    }
+}
+
 /// The number of a type whose names have numbers. Its form and those of its parts are added.
 #[cycle(add)]
 fn add_type(numbers: &Numbers, list: &mut FormList, ty: &Ty) -> Result<usize, NoMemory>
-    requires { IsOrdered numbers.now.entries list.old.keys }
+    requires ordered { IsOrdered numbers.now.entries list.old.keys }
+    requires ready { AllNumbered numbers.now.entries (names_in ty.now) }
     ensures { IfOk result (λ number. Numbered numbers.now.entries list.old.keys list.new.keys
         (λ forms. type_number numbers.now.entries forms ty.now) number) }
 {
@@ -35,8 +49,7 @@ fn add_type(numbers: &Numbers, list: &mut FormList, ty: &Ty) -> Result<usize, No
         Ty::Nat => add_form(list, Form::Nat),
         Ty::Int => add_form(list, Form::Int),
         Ty::Text => add_form(list, Form::Text),
-        // Names get their numbers by rank, so this one has its own.
-        Ty::Name(name) => numbers.get(name).copied().ok_or(NoMemory),
+        Ty::Name(name) => Ok(number_known(numbers, name)),
         Ty::List(one) => {
             let part = add_type(numbers, list, one.get())?;
             add_form(list, Form::List(part))
@@ -52,7 +65,8 @@ fn add_type(numbers: &Numbers, list: &mut FormList, ty: &Ty) -> Result<usize, No
 /// The number of the tuple of these parts, as of a type.
 #[cycle(add)]
 fn add_parts(numbers: &Numbers, list: &mut FormList, parts: &[Ty]) -> Result<usize, NoMemory>
-    requires { IsOrdered numbers.now.entries list.old.keys }
+    requires ordered { IsOrdered numbers.now.entries list.old.keys }
+    requires ready { AllNumbered numbers.now.entries (joined (map names_in parts.now)) }
     ensures { IfOk result (λ number. Numbered numbers.now.entries list.old.keys list.new.keys
         (λ forms. parts_number numbers.now.entries forms parts.now) number) }
 {
@@ -74,7 +88,8 @@ fn body_number(
     name: &Name,
     body: &SyntaxBody,
 ) -> Result<usize, NoMemory>
-    requires { IsOrdered numbers.now.entries list.old.keys }
+    requires ordered { IsOrdered numbers.now.entries list.old.keys }
+    requires ready { AreNamesNumbered numbers.now.entries (aliased (Some body.now)) }
     ensures { IfOk result (λ number. Numbered numbers.now.entries list.old.keys list.new.keys
         (body_number numbers.now.entries name.now (aliased (Some body.now))) number) }
 {
@@ -113,7 +128,9 @@ fn number_named(
     numbers: &mut Numbers,
     list: &mut FormList,
 ) -> Result<(), NoMemory>
-    requires { AreNumbers (defs_of entries.now.entries) numbers.old.entries list.old.keys }
+    requires right { AreNumbers (defs_of entries.now.entries) numbers.old.entries list.old.keys }
+    requires ready { AreNamesNumbered numbers.old.entries
+        (alias_named (defs_of entries.now.entries) name.now) }
     ensures right { OnOk result
         (AreNumbers (defs_of entries.now.entries) numbers.new.entries list.new.keys) }
     ensures keeps { OnOk result (Keeps numbers.old.entries numbers.new.entries) }
@@ -144,7 +161,9 @@ fn rank_of(entries: &Entries, name: &Name) -> usize
 
 /// The names of all syntaxes, where an alias comes behind those that it names.
 fn by_rank<'a>(alloc: Global, entries: &'a Entries) -> Result<Vec<&'a Name>, NoMemory>
-    ensures { IfOk result (λ names. AreAllNames (defs_of entries.now.entries) names.items) }
+    ensures all { IfOk result (λ names. AreAllNames (defs_of entries.now.entries) names.items) }
+    ensures ordered { IfOk result
+        (λ names. IsNonDecreasingBy (λ b. rank_of entries.now.entries b.now) names.items) }
 {
     let keys = entries.keys().as_slice();
     let mut names = Vec::new(alloc);
@@ -157,6 +176,7 @@ fn by_rank<'a>(alloc: Global, entries: &'a Entries) -> Result<Vec<&'a Name>, NoM
 
 /// The numbers of the syntaxes, with the forms that they number.
 pub(crate) fn forms_of(alloc: Global, entries: &Entries) -> Result<Forms, NoMemory>
+    requires { IsKept entries.now.entries }
     ensures { IfOk result (λ forms.
         AreForms (defs_of entries.now.entries) forms.numbers.entries forms.list.keys) }
 {

@@ -113,11 +113,11 @@ pub record AreNumbers (defs : List SyntaxDef) (numbers : Numbers) (forms : List 
   pub own : (name : List ℕ) (i : ℕ) → number_of numbers name ≡ Some i
       → alias_named defs name ≡ None → slice_get forms i ≡ Some (form.Own name)
 
--- where the name has no number, it is not that of an alias
+-- where the name has no number, it is not that of a syntax
 abbrev pub HasNumber : List SyntaxDef → Numbers → List ℕ → Type 0
-HasNumber defs numbers name = number_of numbers name ≡ None → alias_named defs name ≡ None
+HasNumber defs numbers name = number_of numbers name ≡ None → body_of defs name ≡ None
 
--- the numbers are right, and each alias has one
+-- the numbers are right, and each syntax has one
 pub record AreForms (defs : List SyntaxDef) (numbers : Numbers) (forms : List Form) : Type 0 where
   pub right : AreNumbers defs numbers forms
   pub whole : (name : List ℕ) → HasNumber defs numbers name

@@ -7,6 +7,8 @@ use Rattle.st_il.specs.declared.ty.Ty.{Ty}
 use Rattle.st_il.specs.declared.definition.SyntaxDef.{SyntaxDef}
 use Rattle.st_type_table.specs.declared.form.Form.{Form}
 use Rattle.st_type_table.specs.declared.form.Form.TheVariants as form
+use Rattle.st_type_table.specs.Leads.{Among, names_in}
+use Rattle.st_type_table.specs.Meaning.{body_of}
 use Rattle.st_type_table.specs.inner.Forms.{Numbers, number_of, form_eq, form_number, type_number, IsOrdered, alias_named}
 
 -- the forms of the first list begin the second
@@ -39,7 +41,20 @@ IsGiven old new name i = (other : List ℕ)
 abbrev pub Keeps : Numbers → Numbers → Type 0
 Keeps old new = (name : List ℕ) (i : ℕ) → number_of old name ≡ Some i → number_of new name ≡ Some i
 
--- all names of aliases are among these
+-- the name has a number
+abbrev pub IsNumbered : Numbers → List ℕ → Type 0
+IsNumbered numbers name = number_of numbers name ≡ None → ⊥
+
+-- each of these names has a number
+abbrev pub AllNumbered : Numbers → List (List ℕ) → Type 0
+AllNumbered numbers names = (name : List ℕ) → Among names name → IsNumbered numbers name
+
+-- each name in the type has a number, where there is a type
+abbrev pub AreNamesNumbered : Numbers → Option Ty → Type 0
+AreNamesNumbered numbers None = Unit {0}
+AreNamesNumbered numbers (Some t) = AllNumbered numbers (names_in t)
+
+-- the names of all syntaxes are among these
 abbrev pub AreAllNames : List SyntaxDef → List (Bor (List ℕ)) → Type 0
-AreAllNames defs names = (name : List ℕ) → (alias_named defs name ≡ None → ⊥)
+AreAllNames defs names = (name : List ℕ) → (body_of defs name ≡ None → ⊥)
     → (k : ℕ) × (b : Bor (List ℕ)) × (slice_get names k ≡ Some b) × (b.now ≡ name)
