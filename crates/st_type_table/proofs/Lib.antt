@@ -12,6 +12,8 @@ pub mod KeyLemmas
 pub mod CaseKeyLemmas
 pub mod KeySetLemmas
 pub mod FlatLemmas
+pub mod IsOneLemmas
+pub mod RowsLemmas
 pub mod RankLemmas
 pub mod CheckLemmas
 pub mod ReachLemmas

@@ -1,5 +1,5 @@
 -- Cases that are found rank by rank.
-use Rattle.std.proofs.Common.{◌≡◌, ◌≢◌, refl, sym, ap, ◌∙◌, subst, ℕ, zero, suc, ◌+◌, ◌<◌, ◌≤◌, List, [], ◌∷◌, length, set, Option, Some, None, arith, inl, inr, ◌⊎◌}
+use Rattle.std.proofs.Common.{◌≡◌, ◌≢◌, refl, sym, ap, ◌∙◌, subst, ℕ, zero, suc, ◌+◌, ◌<◌, ◌≤◌, List, [], ◌∷◌, ◌++◌, length, set, Option, Some, None, arith, inl, inr, ◌⊎◌}
 use Rattle.std.proofs.lemmas.List.{length-set, length-map}
 use Rattle.std.proofs.lemmas.Option.{slice_get_within}
 use Rattle.std.specs.Prelude.{slice_get, slice_index}
@@ -19,12 +19,13 @@ use Rattle.st_type_table.specs.Leads.{Among, Ends, leads_to, included}
 use Rattle.st_type_table.specs.inner.Graph.{graph_of, node_of, AreRanks, EndsIn, place_of, places_of, IsOne, EndsAt}
 use Rattle.st_type_table.specs.inner.Flat.{AreFlats, AllReached, IsFlat, IsReached, IsFlatAt, AllReady, alternatives_in}
 use Rattle.st_type_table.proofs.GraphLemmas.{same_place}
+use Rattle.st_type_table.proofs.IsOneLemmas.{one_more}
 use Rattle.st_type_table.proofs.PlaceLemmas.{place-among, EndsAt-Ends, Ends-EndsAt, node_at, alias-lower, alias-ends, name_rank, rank_at, place_rank, ends_by}
 
--- the flats of lower ranks, and those of the next up to this place
-pub record Filling (defs : List SyntaxDef) (ranks : List ℕ) (rank : ℕ) (flats : List Flat) (i : ℕ) : Type 0 where
+-- the flats of lower ranks, and those of these definitions
+pub record Filling (defs : List SyntaxDef) (ranks : List ℕ) (rank : ℕ) (flats : List Flat) (done : List ℕ) : Type 0 where
   pub lower : AreFlats defs ranks rank flats
-  pub next : (place : ℕ) (d : SyntaxDef) (f : Flat) → place < i → slice_get defs place ≡ Some d → slice_index ranks place ≡ suc rank
+  pub next : (place : ℕ) (d : SyntaxDef) (f : Flat) → IsOne done place → slice_get defs place ≡ Some d
       → slice_get flats place ≡ Some f → IsFlat defs (alternatives_in d) f × IsReached defs (alternatives_in d) f.reach
 
 -- the flats of all ranks, and those of no rank up to this place
@@ -121,42 +122,35 @@ module _ {A B : Type 0} (defs : List A) (flats : List B) (i : ℕ) (d : A) (flat
       (u, s)
 
 module _ (defs : List SyntaxDef) (ranks : List ℕ) (rank : ℕ) where
-  pub fill-then : (flats after : List Flat) (i : ℕ) (d : SyntaxDef) (flat : Flat) → Filling defs ranks rank flats i → slice_get defs i ≡ Some d → slice_index ranks i ≡ suc rank
-      → IsFlat defs (alternatives_in d) flat → IsReached defs (alternatives_in d) flat.reach → after ≡ set flats i flat → Filling defs ranks rank after (i + 1)
-  fill-then flats after i d flat f g r is reached q = subst (λ z. Filling defs ranks rank z (i + 1)) (sym q) (record {
+  pub fill-start : (flats : List Flat) → AreFlats defs ranks rank flats → Filling defs ranks rank flats []
+  fill-start flats lower = record { lower = lower; next = λ p v w m. absurd m }
+
+  pub fill-then : (flats after : List Flat) (done : List ℕ) (i : ℕ) (d : SyntaxDef) (flat : Flat) → Filling defs ranks rank flats done → slice_get defs i ≡ Some d → slice_index ranks i ≡ suc rank
+      → IsFlat defs (alternatives_in d) flat → IsReached defs (alternatives_in d) flat.reach → after ≡ set flats i flat → Filling defs ranks rank after (done ++ i ∷ [])
+  fill-then flats after done i d flat f g r is reached q = subst (λ z. Filling defs ranks rank z (done ++ i ∷ [])) (sym q) (record {
     lower = record {
       size = length-set flats i flat ∙ f.lower.size;
       right = λ p v w a b c e. f.lower.right p v w a b c (sym (set-other flats i p flat (other p c)) ∙ e);
       reached = λ p v w a b c e. f.lower.reached p v w a b c (sym (set-other flats i p flat (other p c)) ∙ e);
     };
-    next = λ p v w h a b e. by p v w h a b e (same_place p i);
+    next = λ p v w m a e. by p v w ((one_more done i p).0 m) a e (same_place p i);
   })
     where
       other : (p : ℕ) → slice_index ranks p ≤ rank → p ≢ i
       other p c e = let z : slice_index ranks p ≡ slice_index ranks i = ap (slice_index ranks) e in omega (arith, c, z, r)
 
-      by : (p : ℕ) (v : SyntaxDef) (w : Flat) → p < i + 1 → slice_get defs p ≡ Some v → slice_index ranks p ≡ suc rank → slice_get (set flats i flat) p ≡ Some w
+      by : (p : ℕ) (v : SyntaxDef) (w : Flat) → IsOne done p ⊎ (p ≡ i) → slice_get defs p ≡ Some v → slice_get (set flats i flat) p ≡ Some w
           → (p ≡ i) ⊎ (p ≢ i) → IsFlat defs (alternatives_in v) w × IsReached defs (alternatives_in v) w.reach
-      by p v w h a b e (inl q) =
+      by p v w m a e (inl q) =
           let s = set-here defs flats i d flat g p v w q a e in
           subst (λ z. IsFlat defs (alternatives_in v) z × IsReached defs (alternatives_in v) z.reach) s.1
           (subst (λ z. IsFlat defs (alternatives_in z) flat × IsReached defs (alternatives_in z) flat.reach) s.0 (is, reached))
-      by p v w h a b e (inr n) = f.next p v w (omega (arith, h, n)) a b (sym (set-other flats i p flat n) ∙ e)
+      by p v w (inl m) a e (inr n) = f.next p v w m a (sym (set-other flats i p flat n) ∙ e)
+      by p v w (inr m) a e (inr n) = absurd (n m)
 
-  pub fill-else : (flats after : List Flat) (i : ℕ) → Filling defs ranks rank flats i → (slice_index ranks i ≡ suc rank → ⊥) → after ≡ flats → Filling defs ranks rank after (i + 1)
-  fill-else flats after i f no_rank q = subst (λ z. Filling defs ranks rank z (i + 1)) (sym q) (record {
-    lower = f.lower;
-    next = λ p v w h a b e. by p v w h a b e (same_place p i);
-  })
-    where
-      by : (p : ℕ) (v : SyntaxDef) (w : Flat) → p < i + 1 → slice_get defs p ≡ Some v → slice_index ranks p ≡ suc rank → slice_get flats p ≡ Some w → (p ≡ i) ⊎ (p ≢ i)
-          → IsFlat defs (alternatives_in v) w × IsReached defs (alternatives_in v) w.reach
-      by p v w h a b e (inl q) = absurd (no_rank (ap (slice_index ranks) (sym q) ∙ b))
-      by p v w h a b e (inr n) = f.next p v w (omega (arith, h, n)) a b e
-
-  -- all places of the rank
-  pub filled : (flats : List Flat) (i : ℕ) → Filling defs ranks rank flats i → length defs ≤ i → AreFlats defs ranks (suc rank) flats
-  filled flats i f h = record {
+  -- all definitions of the rank
+  pub filled : (flats : List Flat) (row : List ℕ) → Filling defs ranks rank flats row → ((i : ℕ) → slice_index ranks i ≡ suc rank → IsOne row i) → AreFlats defs ranks (suc rank) flats
+  filled flats row f all = record {
     size = f.lower.size;
     right = λ p v w a b c e. by p v w a b c e (same_place (slice_index ranks p) (suc rank)) (λ l. f.lower.right p v w a b l e) (λ x. x.0);
     reached = λ p v w a b c e. by p v w a b c e (same_place (slice_index ranks p) (suc rank)) (λ l. f.lower.reached p v w a b l e) (λ x. x.1);
@@ -165,7 +159,7 @@ module _ (defs : List SyntaxDef) (ranks : List ℕ) (rank : ℕ) where
       by : {G : Type 0} (p : ℕ) (v : SyntaxDef) (w : Flat) → slice_get defs p ≡ Some v → 0 < slice_index ranks p → slice_index ranks p ≤ suc rank → slice_get flats p ≡ Some w
           → (slice_index ranks p ≡ suc rank) ⊎ (slice_index ranks p ≢ suc rank) → (slice_index ranks p ≤ rank → G)
           → (IsFlat defs (alternatives_in v) w × IsReached defs (alternatives_in v) w.reach → G) → G
-      by p v w a b c e (inl q) low here = here (f.next p v w (let l = slice_get_within defs p v a in omega (arith, l, h)) a q e)
+      by p v w a b c e (inl q) low here = here (f.next p v w (all p q) a e)
       by p v w a b c e (inr n) low here = low (omega (arith, c, n))
 
 -- ---- places of no rank

@@ -7,32 +7,13 @@ use Rattle.st_type_table.specs.inner.Graph.{Graph, IsOne, LeadsAt, mark}
 use Rattle.st_type_table.specs.inner.Ranking.{WaitsFor, OnPath}
 use Rattle.st_type_table.specs.inner.Search.{Arrows, AddsArrow, AddsArrows, IsReversedTo, IsReversed, IsSearch, MarksAll, MarksOne}
 use Rattle.st_type_table.proofs.GraphLemmas.{same_place}
+use Rattle.st_type_table.proofs.IsOneLemmas.{one_more}
 use Rattle.st_type_table.proofs.BackLemmas.{unmarked-set}
 use Rattle.st_type_table.proofs.RankLemmas.{set-other, set-same}
 use Rattle.st_type_table.proofs.FlatLemmas.{take-step, read-get}
 use Rattle.st_type_table.proofs.RankingLemmas.{mark-here, mark-there, mark-more, get-push, get-front, get-last, get-pop, pop-get}
 
 -- ---- rows
-
-more_to : (xs : List ℕ) (y j : ℕ) → IsOne (xs ++ y ∷ []) j → IsOne xs j ⊎ (j ≡ y)
-more_to [] y j (inl e) = inr e
-more_to [] y j (inr h) = absurd h
-more_to (x ∷ xs) y j (inl e) = inl (inl e)
-more_to (x ∷ xs) y j (inr h) = by (more_to xs y j h)
-  where
-    by : IsOne xs j ⊎ (j ≡ y) → IsOne (x ∷ xs) j ⊎ (j ≡ y)
-    by (inl h) = inl (inr h)
-    by (inr e) = inr e
-
-more_from : (xs : List ℕ) (y j : ℕ) → IsOne xs j ⊎ (j ≡ y) → IsOne (xs ++ y ∷ []) j
-more_from [] y j (inl h) = absurd h
-more_from [] y j (inr e) = inl e
-more_from (x ∷ xs) y j (inl (inl e)) = inl e
-more_from (x ∷ xs) y j (inl (inr h)) = inr (more_from xs y j (inl h))
-more_from (x ∷ xs) y j (inr e) = inr (more_from xs y j (inr e))
-
-one_more : (xs : List ℕ) (y j : ℕ) → IsOne (xs ++ y ∷ []) j ↔ (IsOne xs j ⊎ (j ≡ y))
-one_more xs y j = (more_to xs y j, more_from xs y j)
 
 pub arrows-none : (from : ℕ) (back : Arrows) → AddsArrows [] from back back
 arrows-none from back = record { size = refl; rows = λ j row e. (row, (e, λ i. ((λ h. inl h), back_to row i))) }

@@ -3,6 +3,7 @@ pub mod Graph
 pub mod Index
 pub mod Ranking
 pub mod Search
+pub mod Rows
 pub mod CaseKeys
 pub mod KeySets
 pub mod Flat

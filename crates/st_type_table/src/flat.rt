@@ -8,12 +8,14 @@ ghost use Rattle.st_type_table.specs.Leads.{Ends};
 ghost use Rattle.st_type_table.specs.inner.Flat.{Adds, AddsAlternative, AddsIncluded, IsReady, AreFlats, AllReached, alternatives_in, IsFlatAt, IsFlatOf, IsEndingPart, IsEndless, IsKnownPart, AllKnownParts, TriesAlternative, IsFlattened};
 ghost use Rattle.st_type_table.specs.inner.KeySets.{AreKeys};
 ghost use Rattle.st_type_table.specs.inner.Graph.{AreRanks, graph_of, EndsIn};
+ghost use Rattle.st_type_table.specs.inner.Rows.{AreRows};
 
 use crate::case_list::CaseList;
 use crate::definitions::Definitions;
 use crate::graph::is_ranked;
 use crate::key_set::KeySet;
 use crate::resolve::meaning_in;
+use crate::rows::rows_of;
 use st_il::{Alternative, SyntaxBody, SyntaxDef, Ty};
 use st_num::{Name, NoMemory, Row};
 use std::alloc::Global;
@@ -264,24 +266,25 @@ fn flat_of_body(
     }
 }
 
-/// Adds the cases of the definitions of this rank to those of lower ranks.
+/// Adds the cases of the definitions of the next rank to those of ranks up to this one.
 fn fill_rank(
     alloc: Global,
     defs: &Definitions,
     ranks: &[usize],
+    rows: &[Row<usize>],
     rank: usize,
     flats: &mut Vec<Flat>,
 ) -> Result<(), NoMemory>
     requires ranks { AreRanks (graph_of defs.now) ranks.now }
+    requires rows { AreRows ranks.now rows.now }
     requires flats { AreFlats defs.now ranks.now rank flats.old.items }
     requires within { rank < length defs.now }
     ensures { OnOk result (AreFlats defs.now ranks.now (suc rank) flats.new.items) }
 {
-    for i in 0..defs.len() {
-        if ranks[i] == rank + 1 {
-            let flat = flat_of_body(alloc, defs, ranks, flats, defs.nth(i))?;
-            flats[i] = flat;
-        }
+    let row = rows[rank].as_slice();
+    for place in row {
+        let flat = flat_of_body(alloc, defs, ranks, flats, defs.nth(*place))?;
+        flats[*place] = flat;
     }
     Ok(())
 }
@@ -317,9 +320,10 @@ pub(crate) fn flats_of(
     ensures right { IfOk result (λ flats. AreFlats defs.now ranks.now (length defs.now) flats) }
     ensures reached { IfOk result (λ flats. AllReached defs.now flats) }
 {
+    let rows = rows_of(alloc, ranks)?;
     let mut flats = empty_flats(alloc, defs.len())?;
     for rank in 0..defs.len() {
-        fill_rank(alloc, defs, ranks, rank, &mut flats)?;
+        fill_rank(alloc, defs, ranks, rows.as_slice(), rank, &mut flats)?;
     }
     fill_rest(alloc, defs, ranks, &mut flats)?;
     Ok(Row::from_vec(flats))

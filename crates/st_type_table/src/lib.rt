@@ -25,6 +25,7 @@ mod parts;
 mod place;
 mod ranking;
 mod resolve;
+mod rows;
 mod same;
 mod search;
 mod survey;

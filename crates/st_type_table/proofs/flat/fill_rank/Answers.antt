@@ -1,29 +1,62 @@
-use Rattle.std.proofs.Common.{sym, ap, ◌∙◌, subst, add-one, arith}
+use Rattle.std.proofs.Common.{◌≡◌, suc, refl, sym, ◌∙◌, subst, ◌<◌, length, set, take, arith}
+use Rattle.std.specs.Prelude.{slice_index}
+use Rattle.std.proofs.lemmas.List.{length-map}
+use Rattle.st_type_table.specs.inner.Graph.{node_of}
 use Rattle.st_type_table.specs.inner.Flat.{AllKnownParts, alternatives_in}
-use Rattle.st_type_table.proofs.RankLemmas.{ready, fill-then, fill-else, filled}
+use Rattle.st_type_table.proofs.RankLemmas.{Filling, ready, fill-start, fill-then, filled}
 use Rattle.st_type_table.proofs.ReachLemmas.{flat-from, ready-parts}
+use Rattle.st_type_table.proofs.RowsLemmas.{row-of, row-ranked, rank-within}
+use Rattle.st_type_table.proofs.SearchLemmas.{take-number, take-whole}
 use Rattle.st_type_table.proofs.flat.fill_rank.Goals as goal
-use Rattle.st_type_table.proofs.flat.fill_rank.Goals.{then-ranks-i+in_ok-flat, else-ranks-i}
+
+pub bounds-rows-rank : goal.bounds-rows-rank
+bounds-rows-rank c =
+    let a = c.requires.rows.size in
+    let b : length c.args.ranks.now ≡ length c.args.defs.now = c.requires.ranks.size ∙ length-map c.args.defs.now (node_of c.args.defs.now) in
+    omega (arith, a, b)
+
+pub loop-place-init : goal.loop-place-init
+loop-place-init c = fill-start c.args.defs.now c.args.ranks.now c.args.rank c.args.flats.now.items c.requires.flats
+
+pub nth-requires : goal.nth-requires
+nth-requires c =
+    let b : length c.args.ranks.now ≡ length c.args.defs.now = c.requires.ranks.size ∙ length-map c.args.defs.now (node_of c.args.defs.now) in
+    let h : c.args.rank < length c.args.rows.now = let a = c.requires.rows.size in omega (arith, a, b) in
+    let ranked : slice_index c.args.ranks.now (slice_index c.as_slice-row.result.now c.loop-place.place-index) ≡ suc c.args.rank =
+    row-ranked c.args.ranks.now c.args.rows.now c.args.rank c.as_slice-row.result.now c.index-rows-rank.result c.requires.rows h c.as_slice-row.ensures c.index-rows-rank.is c.loop-place.place-index c.loop-place-test.true in
+    let w = rank-within c.args.ranks.now (slice_index c.as_slice-row.result.now c.loop-place.place-index) c.args.rank ranked in
+    omega (arith, w, b)
 
 pub flat_of_body-requires-clause-known : goal.flat_of_body-requires-clause-known
-flat_of_body-requires-clause-known c = subst (λ z. AllKnownParts c.args.defs.now z (alternatives_in c.nth.result.now)) (sym c.deref.ensures.value)
-    (ready-parts c.args.defs.now c.loop-i.flats.items (alternatives_in c.nth.result.now)
-    (ready c.args.defs.now c.args.ranks.now c.requires.ranks c.loop-i.flats.items c.args.rank c.loop-i.i c.nth.result.now c.loop-i.invariant.lower
-    c.nth.ensures (c.if-ranks-i.true ∙ add-one c.args.rank)))
+flat_of_body-requires-clause-known c =
+    let b : length c.args.ranks.now ≡ length c.args.defs.now = c.requires.ranks.size ∙ length-map c.args.defs.now (node_of c.args.defs.now) in
+    let h : c.args.rank < length c.args.rows.now = let a = c.requires.rows.size in omega (arith, a, b) in
+    let ranked : slice_index c.args.ranks.now (slice_index c.as_slice-row.result.now c.loop-place.place-index) ≡ suc c.args.rank =
+    row-ranked c.args.ranks.now c.args.rows.now c.args.rank c.as_slice-row.result.now c.index-rows-rank.result c.requires.rows h c.as_slice-row.ensures c.index-rows-rank.is c.loop-place.place-index c.loop-place-test.true in
+    subst (λ z. AllKnownParts c.args.defs.now z (alternatives_in c.nth.result.now)) (sym c.deref.ensures.value)
+    (ready-parts c.args.defs.now c.loop-place.flats.items (alternatives_in c.nth.result.now)
+    (ready c.args.defs.now c.args.ranks.now c.requires.ranks c.loop-place.flats.items c.args.rank (slice_index c.as_slice-row.result.now c.loop-place.place-index) c.nth.result.now
+    c.loop-place.invariant.lower c.nth.ensures ranked))
 
-pub loop-i-preserved : goal.loop-i-preserved
-loop-i-preserved c = elim c.if-ranks-i.branch [
-  | then-ranks-i+in_ok-flat w ↦
-      let there = w.nth.ensures in
-      fill-then c.args.defs.now c.args.ranks.now c.args.rank c.loop-i.flats.items c.if-ranks-i.flats.items c.loop-i.i w.nth.result.now w.in_ok-flat.flat
-      c.loop-i.invariant there (w.if-ranks-i.true ∙ add-one c.args.rank)
-      (flat-from c.args.defs.now c.loop-i.flats.items (alternatives_in w.nth.result.now) w.in_ok-flat.flat
-      (ready c.args.defs.now c.args.ranks.now c.requires.ranks c.loop-i.flats.items c.args.rank c.loop-i.i w.nth.result.now c.loop-i.invariant.lower there (w.if-ranks-i.true ∙ add-one c.args.rank))
-      w.in_ok-flat.ensures)
-      w.in_ok-flat.ensures.reached (ap (λ v. v.items) w.flats-is)
-  | else-ranks-i w ↦ fill-else c.args.defs.now c.args.ranks.now c.args.rank c.loop-i.flats.items c.if-ranks-i.flats.items c.loop-i.i c.loop-i.invariant
-      (λ e. w.if-ranks-i.false (e ∙ sym (add-one c.args.rank))) (ap (λ v. v.items) w.flats-is)
-]
+pub loop-place-preserved : goal.loop-place-preserved
+loop-place-preserved c =
+    let b : length c.args.ranks.now ≡ length c.args.defs.now = c.requires.ranks.size ∙ length-map c.args.defs.now (node_of c.args.defs.now) in
+    let h : c.args.rank < length c.args.rows.now = let a = c.requires.rows.size in omega (arith, a, b) in
+    let ranked : slice_index c.args.ranks.now (slice_index c.as_slice-row.result.now c.loop-place.place-index) ≡ suc c.args.rank =
+    row-ranked c.args.ranks.now c.args.rows.now c.args.rank c.as_slice-row.result.now c.index-rows-rank.result c.requires.rows h c.as_slice-row.ensures c.index-rows-rank.is c.loop-place.place-index c.loop-place-test.true in
+    let place = slice_index c.as_slice-row.result.now c.loop-place.place-index in
+    let known = ready c.args.defs.now c.args.ranks.now c.requires.ranks c.loop-place.flats.items c.args.rank place c.nth.result.now c.loop-place.invariant.lower c.nth.ensures ranked in
+    subst (Filling c.args.defs.now c.args.ranks.now c.args.rank (set c.loop-place.flats.items place c.in_ok-flat.flat))
+    (sym (take-number c.as_slice-row.result.now c.loop-place.place-index c.loop-place-test.true))
+    (fill-then c.args.defs.now c.args.ranks.now c.args.rank c.loop-place.flats.items (set c.loop-place.flats.items place c.in_ok-flat.flat)
+    (take c.loop-place.place-index c.as_slice-row.result.now) place c.nth.result.now c.in_ok-flat.flat c.loop-place.invariant c.nth.ensures ranked
+    (flat-from c.args.defs.now c.loop-place.flats.items (alternatives_in c.nth.result.now) c.in_ok-flat.flat known c.in_ok-flat.ensures)
+    c.in_ok-flat.ensures.reached refl)
 
 pub returns : goal.returns
-returns c = filled c.args.defs.now c.args.ranks.now c.args.rank c.loop-i.flats.items c.loop-i.i c.loop-i.invariant (let h = c.loop-i-test.false in let l = c.len-i-end.ensures in omega (arith, h, l))
+returns c =
+    let b : length c.args.ranks.now ≡ length c.args.defs.now = c.requires.ranks.size ∙ length-map c.args.defs.now (node_of c.args.defs.now) in
+    let h : c.args.rank < length c.args.rows.now = let a = c.requires.rows.size in omega (arith, a, b) in
+    filled c.args.defs.now c.args.ranks.now c.args.rank c.loop-place.flats.items c.as_slice-row.result.now
+    (subst (Filling c.args.defs.now c.args.ranks.now c.args.rank c.loop-place.flats.items) (take-whole c.as_slice-row.result.now c.loop-place.place-index c.loop-place-test.false) c.loop-place.invariant)
+    (λ i q. (row-of c.args.ranks.now c.args.rows.now c.args.rank c.as_slice-row.result.now c.index-rows-rank.result c.requires.rows h c.as_slice-row.ensures c.index-rows-rank.is i).1 q)
