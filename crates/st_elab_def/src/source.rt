@@ -1,11 +1,12 @@
 //! The elaboration of a source: its four phases, one behind another.
 
-ghost use Rattle.std.specs.Prelude.{◌<◌, ◌^◌, length};
+ghost use Rattle.std.specs.Prelude.{◌<◌, ◌^◌, length, IfOk};
 ghost use Rattle.st_elab_def.specs.declared.breach.Breach.{Breach};
 ghost use Rattle.st_elab_def.specs.declared.elaborated.Elaborated.{Elaborated};
-ghost use Rattle.st_elab_def.specs.Answers.{Answers, IsGiven, IsRefused};
+ghost use Rattle.st_elab_def.specs.Answers.{Answers, IsGiven, IsRefused, HasTemplates};
 ghost use Rattle.st_elab_def.specs.Breaches.{IsBreach};
 ghost use Rattle.st_elab_def.specs.Elaboration.{IsElaborated};
+ghost use Rattle.st_elab_def.specs.Erasing.{ErasesTo};
 
 use crate::assembly::assemble;
 use crate::bodies::check_bodies;
@@ -41,6 +42,7 @@ pub fn elaborate(alloc: Global, defs: &[Def]) -> Result<Elaborated, DefFault>
     ensures answers { Answers defs.now result }
     ensures gives { (e : Elaborated) → IsElaborated defs.now e → IsGiven e result }
     ensures refuses { (b : Breach) → IsBreach defs.now b → IsRefused b result }
+    ensures erased { HasTemplates defs.now → IfOk result (ErasesTo defs.now) }
 {
     if defs.len() > u32::MAX as usize {
         return Err(DefFault::Memory);

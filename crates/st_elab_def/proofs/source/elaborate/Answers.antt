@@ -1,3 +1,4 @@
+use Rattle.st_elab_def.proofs.ErasesTo.{ErasesTo-answered}
 use Rattle.st_elab_def.proofs.IsElaborated.{answers-gives, answers-refuses}
 use Rattle.st_elab_def.proofs.source.elaborate.Goals as goal
 
@@ -6,3 +7,6 @@ returns-clause-gives c = λ e is. answers-gives c.args.defs.now e c.by_phases.re
 
 pub returns-clause-refuses : goal.returns-clause-refuses
 returns-clause-refuses c = λ b is. answers-refuses c.args.defs.now b c.by_phases.result is c.by_phases.ensures
+
+pub returns-clause-erased : goal.returns-clause-erased
+returns-clause-erased c = λ templates. ErasesTo-answered c.args.defs.now c.by_phases.result templates c.by_phases.ensures
