@@ -1,14 +1,18 @@
 -- The tokens of all files, and what a check says of them.
 use Rattle.std.proofs.Common.{◌≡◌, ◌≢◌, ℕ, suc, ◌+◌, ◌<◌, List, [], ◌∷◌, ◌++◌, length, take, get_or, ap, ◌∙◌, sym, refl, subst, inl, inr, arith, add-one, append_assoc, append-nil}
-use Rattle.std.specs.Prelude.{Result, Ok, Err, IfOk, Some, slice_get}
+use Rattle.std.specs.Prelude.{Bool, true, false, Result, Ok, Err, IfOk, Some, slice_get}
 use Rattle.std.proofs.Math.Seq.{take-suc}
 use Rattle.std.proofs.lemmas.List.{length-take-le}
 use Rattle.std.proofs.lemmas.Option.{slice_get-get_or, slice_get_within}
 use Rattle.st_el.specs.declared.definition.Def.{Def}
 use Rattle.st_num.specs.declared.fault.Fault.{Fault as SyntaxFault}
 use Rattle.st_num.specs.declared.fault.Fault.TheVariants as syntax
-use Rattle.st_il.specs.declared.small.Small.{Small}
-use Rattle.st_il.specs.Small.{il_of}
+use Rattle.st_elab_def.specs.declared.breach.Breach.{Breach}
+use Rattle.st_elab_def.specs.declared.breach.DefFault.{DefFault}
+use Rattle.st_elab_def.specs.declared.elaborated.Elaborated.{Elaborated}
+use Rattle.st_elab_def.specs.Answers.{Answers as Elaborates}
+use Rattle.st_elab_def.specs.Breaches.{IsBreach}
+use Rattle.st_elab_def.proofs.IsBreach.{IsBreach-within}
 use Rattle.st_num.specs.declared.memory.NoMemory.{NoMemory}
 use Rattle.st_num.specs.declared.rule.RuleId.{RuleId}
 use Rattle.st_num.specs.declared.span.Span.{Span}
@@ -22,10 +26,10 @@ use Rattle.st_scan.specs.Faults.{FirstFault, of_token, of_utf8}
 use Rattle.st_scan.specs.Tokens.{Tokens}
 use Rattle.st_tool.specs.declared.answer.Answer.{Answer}
 use Rattle.st_tool.specs.declared.status.Status.TheVariants.{Done, Specification}
-use Rattle.st_tool.specs.Checking.{AllTokens, IsSourceFault, TellsFault, SmallGives, CheckGives, refused, empty, parsed}
-use Rattle.st_tool.specs.SmallText.{IsTextOf}
+use Rattle.st_tool.specs.Checking.{AllTokens, IsSourceFault, TellsFault, some_about_modes, file_name, SourceGives, broken, accepted, unbuilt, CheckGives, refused, empty, parsed}
+use Rattle.st_tool.specs.Commands.{IsUnbuilt}
 use Rattle.st_tool.proofs.TokenPlaces.{all_before, place_before}
-use Rattle.st_tool.specs.Texts.{definitions_text, refused_source_text}
+use Rattle.st_tool.specs.Texts.{definitions_text, definition_words, no_definition, refused_source_text}
 
 -- a fault stands in the file that was scanned
 fault_file : (number : ℕ) (file : List ℕ) (at : Span) (rule : RuleId) → FirstFault number file at rule → at.file ≡ number
@@ -84,16 +88,34 @@ pub found_fault : (files : List (List ℕ)) (tokens : List Token) (found : Resul
 found_fault files tokens found at rule all some answers is =
     inr (record { tokens = tokens; all = all; some = some; fault = subst (Answers tokens) is answers })
 
--- ---- small specifications
+-- ---- definitions
 
-abbrev pub SaysSmall : List (List ℕ) → Result Answer NoMemory → Type 0
-SaysSmall files result = IfOk result (λ answer. SmallGives files answer.status answer.bytes.items)
+abbrev pub SaysSource : List (List ℕ) → List Def → Result Answer NoMemory → Type 0
+SaysSource names defs result = IfOk result (λ answer. SourceGives names defs answer.status answer.bytes.items)
 
-pub one_small : (files : List (List ℕ)) (file : List ℕ) (small : Small) (count : ℕ) (result : Result Answer NoMemory) → files ≡ file ∷ [] → IsTextOf small file
-    → count ≡ length (il_of small).defs → IfOk result (λ answer. answer.status ≡ Done) → IfOk result (λ answer. answer.bytes.items ≡ definitions_text count) → SaysSmall files result
-one_small files file small count (Err e) is text counted status bytes = tt
-one_small files file small count (Ok answer) is text counted status bytes =
-    inl (small, (file, is, text), status, bytes ∙ ap definitions_text counted)
+pub source_accepted : (names : List (List ℕ)) (defs : List Def) (found : Result Elaborated DefFault) (e : Elaborated) (count : ℕ) (about : Bool) (result : Result Answer NoMemory)
+    → Elaborates defs found → found ≡ Ok e → about ≡ some_about_modes defs → about ≡ false → count ≡ length defs → IfOk result (λ answer. answer.status ≡ Done)
+    → IfOk result (λ answer. answer.bytes.items ≡ definitions_text count) → SaysSource names defs result
+source_accepted names defs found e count about (Err fault) answers is says none counted status bytes = tt
+source_accepted names defs found e count about (Ok answer) answers is says none counted status bytes =
+    subst (λ s. SourceGives names defs s answer.bytes.items) (sym status)
+    (accepted e (subst (Elaborates defs) is answers) (sym says ∙ none) (bytes ∙ ap definitions_text counted))
+
+pub source_unbuilt : (names : List (List ℕ)) (defs : List Def) (found : Result Elaborated DefFault) (e : Elaborated) (about : Bool) (result : Result Answer NoMemory)
+    → Elaborates defs found → found ≡ Ok e → about ≡ some_about_modes defs → about ≡ true → IfOk result (λ answer. IsUnbuilt answer.status answer.bytes.items)
+    → SaysSource names defs result
+source_unbuilt names defs found e about (Err fault) answers is says some tells = tt
+source_unbuilt names defs found e about (Ok answer) answers is says some (status, bytes) =
+    subst (λ s. SourceGives names defs s answer.bytes.items) (sym status) (unbuilt e (subst (Elaborates defs) is answers) (sym says ∙ some) bytes)
+
+pub source_broken : (names : List (List ℕ)) (defs : List Def) (b : Breach) (def : Def) (words name : List ℕ) (result : Result Answer NoMemory) → IsBreach defs b
+    → def ≡ get_or defs b.definition def → words ≡ definition_words def.node → name ≡ file_name names b.at → IfOk result (λ answer. answer.status ≡ Specification)
+    → IfOk result (λ answer. answer.bytes.items ≡ refused_source_text name b.at words b.rule) → SaysSource names defs result
+source_broken names defs b def words name (Err fault) breach is worded named status bytes = tt
+source_broken names defs b def words name (Ok answer) breach is worded named status bytes =
+    subst (λ s. SourceGives names defs s answer.bytes.items) (sym status)
+    (broken b def breach (slice_get-get_or defs b.definition def (IsBreach-within defs b breach) ∙ ap Some (sym is))
+    (bytes ∙ ap (λ n. refused_source_text n b.at words b.rule) named ∙ ap (λ w. refused_source_text (file_name names b.at) b.at w b.rule) worded))
 
 -- ---- the answer
 
@@ -107,15 +129,16 @@ check_empty names files tokens (Ok answer) all none status bytes =
     subst (λ s. CheckGives names files s answer.bytes.items) (sym status) (empty (subst (AllTokens 0 files) none all) bytes)
 
 pub check_parsed : (names files : List (List ℕ)) (tokens : List Token) (defs : List Def) (result : Result Answer NoMemory) → AllTokens 0 files tokens → tokens ≢ [] → IsSource tokens defs
-    → SaysSmall files result → SaysChecked names files result
+    → SaysSource names defs result → SaysChecked names files result
 check_parsed names files tokens defs (Err e) all some source says = tt
 check_parsed names files tokens defs (Ok answer) all some source says = parsed tokens defs all some source says
 
 pub check_refused : (names files : List (List ℕ)) (name text : List ℕ) (at : Span) (rule : RuleId) (result : Result Answer NoMemory) → IsSourceFault files at rule
     → length files ≡ length names → name ≡ get_or names at.file name → text ≡ name
-    → IfOk result (λ answer. answer.status ≡ Specification) → IfOk result (λ answer. answer.bytes.items ≡ refused_source_text text at rule) → SaysChecked names files result
+    → IfOk result (λ answer. answer.status ≡ Specification) → IfOk result (λ answer. answer.bytes.items ≡ refused_source_text text at no_definition rule)
+    → SaysChecked names files result
 check_refused names files name text at rule (Err e) fault named is same status bytes = tt
 check_refused names files name text at rule (Ok answer) fault named is same status bytes =
     subst (λ s. CheckGives names files s answer.bytes.items) (sym status)
     (refused name at rule fault (slice_get-get_or names at.file name (fault_within files names at rule fault named) ∙ ap Some (sym is))
-    (bytes ∙ ap (λ n. refused_source_text n at rule) same))
+    (bytes ∙ ap (λ n. refused_source_text n at no_definition rule) same))

@@ -1,4 +1,3 @@
-mod Lists
 mod Lines
 mod Atoms
 mod StepLemmas

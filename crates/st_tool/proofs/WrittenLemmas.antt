@@ -10,7 +10,7 @@ use Rattle.st_tool.specs.declared.status.Status.TheVariants.{Done, Usage, Specif
 use Rattle.st_tool.specs.declared.transcript.Ending.{Ending}
 use Rattle.st_tool.specs.declared.transcript.Ending.TheVariants.{Stuck, Fuel as OutOfFuel}
 use Rattle.st_tool.specs.Causes.{IsLoadFault, FaultIsTold}
-use Rattle.st_tool.specs.Checking.{CheckGives, refused as refused_at, empty, parsed}
+use Rattle.st_tool.specs.Checking.{CheckGives, refused as refused_at, empty, parsed, broken, accepted as accepted_source, unbuilt as unbuilt_source}
 use Rattle.st_tool.specs.Commands.{Gives, IlGives, RunGives, VerifyGives, IsRunText, IsDerivationText, status_of, limit_of}
 use Rattle.st_tool.specs.Loads.{Held, Counts, LoadsTo}
 use Rattle.st_tool.specs.Outcome.{Outcome, HasOutcome, unread, too_many, unbuilt, loads, Written}
@@ -64,8 +64,9 @@ verify_is_own il derivation status bytes (inr (none, (is, text))) = own_unbuilt 
 check_is_own : (names files : List (List ℕ)) (status : Status) (bytes : List ℕ) → CheckGives names files status bytes → IsOwn status
 check_is_own names files status bytes (refused_at name at rule fault named text) = own_specification
 check_is_own names files status bytes (empty none text) = own_done
-check_is_own names files status bytes (parsed tokens defs all some source (inl (small, one, is, text))) = subst IsOwn (sym is) own_done
-check_is_own names files status bytes (parsed tokens defs all some source (inr (none, is, text))) = own_unbuilt status is
+check_is_own names files status bytes (parsed tokens defs all some source (broken b def breach within text)) = own_specification
+check_is_own names files status bytes (parsed tokens defs all some source (accepted_source e elaborated none text)) = own_done
+check_is_own names files status bytes (parsed tokens defs all some source (unbuilt_source e elaborated about text)) = own_unbuilt Unbuilt refl
 
 gives_own : (command : Command) (files : List (List ℕ)) (status : Status) (bytes : List ℕ) → Gives command files status bytes → IsOwn status
 gives_own (Il names) (file ∷ []) status bytes gives = il_is_own file status bytes gives

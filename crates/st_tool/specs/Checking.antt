@@ -1,8 +1,16 @@
 -- What a check says of the files of a specification.
-use Rattle.std.specs.Prelude.{◌≡◌, ◌≢◌, ℕ, suc, List, [], ◌∷◌, ◌++◌, length, take, Some, slice_get, ⊤, ◌⊎◌}
+use Rattle.std.specs.Prelude.{◌≡◌, ◌≢◌, ℕ, suc, Bool, true, false, List, [], ◌∷◌, ◌++◌, length, take, Some, unwrap_or, slice_get, ⊤, ◌⊎◌}
+use Rattle.std.specs.List.{list_any}
 use Rattle.st_el.specs.declared.definition.Def.{Def}
-use Rattle.st_il.specs.declared.small.Small.{Small}
-use Rattle.st_il.specs.Small.{il_of}
+use Rattle.st_el.specs.declared.definition.DefNode.{DefNode}
+use Rattle.st_el.specs.declared.definition.DefNode.TheVariants.{Rule, Clause}
+use Rattle.st_el.specs.declared.definition.Prem.{Prem, out-Prem}
+use Rattle.st_el.specs.declared.definition.PremNode.{PremNode, out-PremNode}
+use Rattle.st_el.specs.declared.definition.PremNode.TheOpen.{PremNode-F}
+use Rattle.st_elab_def.specs.Breaches.{IsBreach}
+use Rattle.st_elab_def.specs.Elaboration.{IsElaborated}
+use Rattle.st_elab_def.specs.declared.breach.Breach.{Breach}
+use Rattle.st_elab_def.specs.declared.elaborated.Elaborated.{Elaborated}
 use Rattle.st_num.specs.declared.rule.RuleId.{RuleId}
 use Rattle.st_num.specs.declared.span.Span.{Span}
 use Rattle.st_parse.specs.Source.{IsSource, FaultAt}
@@ -13,8 +21,7 @@ use Rattle.st_scan.specs.Faults.{FirstFault}
 use Rattle.st_scan.specs.Tokens.{Tokens}
 use Rattle.st_tool.specs.declared.status.Status.{Status}
 use Rattle.st_tool.specs.declared.status.Status.TheVariants as answer
-use Rattle.st_tool.specs.SmallText.{IsTextOf}
-use Rattle.st_tool.specs.Texts.{unbuilt_text, definitions_text, refused_source_text}
+use Rattle.st_tool.specs.Texts.{unbuilt_text, definitions_text, definition_words, no_definition, refused_source_text}
 
 -- the tokens of files one behind another; files are numbered, the first by this number
 abbrev pub AllTokens : ℕ → List (List ℕ) → List Token → Type 0
@@ -48,28 +55,63 @@ pub record IsSyntaxFault (files : List (List ℕ)) (at : Span) (rule : RuleId) :
 abbrev pub IsSourceFault : List (List ℕ) → Span → RuleId → Type 0
 IsSourceFault files at rule = IsTokenFault files at rule ⊎ IsSyntaxFault files at rule
 
--- the files are one file, which is the text of this small specification
-abbrev pub IsOneSmall : List (List ℕ) → Small → Type 0
-IsOneSmall files small = (file : List ℕ) × (files ≡ file ∷ []) × IsTextOf small file
+-- ---- definitions
 
--- one small specification has so many definitions; others are not built
-abbrev pub SmallGives : List (List ℕ) → Status → List ℕ → Type 0
-SmallGives files status bytes =
-    ((small : Small) × IsOneSmall files small × (status ≡ answer.Done)
-    × (bytes ≡ definitions_text (length (il_of small).defs)))
-    ⊎ (((small : Small) → IsOneSmall files small → ⊥) × (status ≡ answer.Unbuilt)
-    × (bytes ≡ unbuilt_text))
+-- a premise of this top level is `otherwise`
+abbrev pub is_otherwise_at : PremNode-F PremNode Prem → Bool
+is_otherwise_at PremNode-F.Otherwise = true
+is_otherwise_at node = false
 
--- What is said of the files of these names: the first fault, or how many definitions they have.
+-- the premise is `otherwise`
+abbrev pub is_otherwise : Prem → Bool
+is_otherwise premise = is_otherwise_at (out-PremNode (out-Prem premise).node)
+
+-- The rules on modes are about what is defined: it is a clause of a function, or a rule with
+-- `otherwise`.
+abbrev pub is_about_modes : DefNode → Bool
+is_about_modes (Rule relation name conclusion premises) = list_any is_otherwise premises
+is_about_modes (Clause name args result premises) = true
+is_about_modes node = false
+
+-- the rules on modes are about one of the definitions
+abbrev pub some_about_modes : List Def → Bool
+some_about_modes defs = list_any (λ (def : Def). is_about_modes def.node) defs
+
+-- the name of the file in which a place is; of a place in none of them it is empty
+abbrev pub file_name : List (List ℕ) → Span → List ℕ
+file_name names at = unwrap_or (slice_get names at.file) []
+
+-- What is said of the definitions of a source: the first breach, or how many there are. The rules
+-- on modes are not asked yet: a source that they are about is elaborated, and no more is said of it.
+pub data SourceGives (names : List (List ℕ)) (defs : List Def) : Status → List ℕ → Type 0 where
+  -- the first breach, with its place and the definition that it is in
+  broken : {bytes : List ℕ} (b : Breach) (def : Def) → IsBreach defs b
+      → slice_get defs b.definition ≡ Some def
+      → bytes ≡ refused_source_text (file_name names b.at) b.at (definition_words def.node) b.rule
+      → SourceGives names defs answer.Specification bytes
+  -- there is none, and the rules on modes are about nothing
+  accepted : {bytes : List ℕ} (e : Elaborated) → IsElaborated defs e
+      → some_about_modes defs ≡ false → bytes ≡ definitions_text (length defs)
+      → SourceGives names defs answer.Done bytes
+  -- there is none, but the rules on modes are about one of the definitions
+  unbuilt : {bytes : List ℕ} (e : Elaborated) → IsElaborated defs e
+      → some_about_modes defs ≡ true → bytes ≡ unbuilt_text
+      → SourceGives names defs answer.Unbuilt bytes
+
+-- ---- files
+
+-- What is said of the files of these names: the first fault or breach, or how many definitions they
+-- have.
 pub data CheckGives (names files : List (List ℕ)) : Status → List ℕ → Type 0 where
   -- the first fault, with its place, in the file of this name
   refused : {bytes : List ℕ} (name : List ℕ) (at : Span) (rule : RuleId)
       → IsSourceFault files at rule → slice_get names at.file ≡ Some name
-      → bytes ≡ refused_source_text name at rule → CheckGives names files answer.Specification bytes
+      → bytes ≡ refused_source_text name at no_definition rule
+      → CheckGives names files answer.Specification bytes
   -- the files have no token, so no definition
   empty : {bytes : List ℕ} → AllTokens 0 files [] → bytes ≡ definitions_text 0
       → CheckGives names files answer.Done bytes
-  -- the tokens of the files are those of a source
+  -- the tokens of the files are those of a source, of which this is said
   parsed : {status : Status} {bytes : List ℕ} (tokens : List Token) (defs : List Def)
       → AllTokens 0 files tokens → tokens ≢ [] → IsSource tokens defs
-      → SmallGives files status bytes → CheckGives names files status bytes
+      → SourceGives names defs status bytes → CheckGives names files status bytes

@@ -1,5 +1,7 @@
 -- The printed texts of commands.
-use Rattle.std.specs.Prelude.{ℕ, ◌+◌, ◌-◌, length, List, [], ◌∷◌, ◌++◌, codes, decimal}
+use Rattle.std.specs.Prelude.{ℕ, ◌+◌, ◌-◌, length, List, [], ◌∷◌, ◌++◌, Option, Some, None, codes, decimal}
+use Rattle.st_el.specs.declared.definition.DefNode.{DefNode}
+use Rattle.st_el.specs.declared.definition.DefNode.TheVariants.{Syntax, Var, Relation, Rule, Fun, Clause}
 use Rattle.st_il.specs.declared.value.Value.{Value, out-Value}
 use Rattle.st_il.specs.declared.value.Value.TheOpen.{Value-F}
 use Rattle.st_num.specs.declared.rule.RuleId.{RuleId}
@@ -136,8 +138,33 @@ rule_id_word id.M5 = codes "M5"
 rule_id_word id.M6 = codes "M6"
 rule_id_word id.M7 = codes "M7"
 
--- a place in the file of this name is refused by a rule, and no definition is named
-abbrev pub refused_source_text : List ℕ → Span → RuleId → List ℕ
-refused_source_text name at rule =
+-- the part of a rule's name behind that of its relation, as it is printed: a slash and the name, or
+-- nothing where it has none
+abbrev pub part_words : List ℕ → List ℕ
+part_words [] = []
+part_words (byte ∷ name) = codes "/" ++ byte ∷ name
+
+-- the part of a fragment's name behind that of its syntax, as it is printed
+abbrev pub fragment_words : Option (List ℕ) → List ℕ
+fragment_words None = []
+fragment_words (Some name) = codes "/" ++ name
+
+-- how a definition is named where it is refused: by its kind and its name
+abbrev pub definition_words : DefNode → List ℕ
+definition_words (Syntax name fragment body) = codes "syntax " ++ name ++ fragment_words fragment
+definition_words (Var name typ) = codes "var " ++ name
+definition_words (Relation name notation) = codes "relation " ++ name
+definition_words (Rule relation name conclusion premises) =
+    codes "rule " ++ relation ++ part_words name
+definition_words (Fun name params result) = codes "def $" ++ name
+definition_words (Clause name args result premises) = codes "def $" ++ name
+
+-- how it is said that no definition is named
+abbrev pub no_definition : List ℕ
+no_definition = codes "-"
+
+-- a place in the file of this name, in the definition of these words, is refused by a rule
+abbrev pub refused_source_text : List ℕ → Span → List ℕ → RuleId → List ℕ
+refused_source_text name at definition rule =
     codes "refused " ++ name ++ codes ":" ++ decimal at.line ++ codes ":" ++ decimal at.column
-    ++ codes " - " ++ rule_id_word rule ++ codes "\n"
+    ++ codes " " ++ definition ++ codes " " ++ rule_id_word rule ++ codes "\n"

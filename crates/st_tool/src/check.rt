@@ -1,16 +1,20 @@
-//! The check of a specification: its first fault, or how many definitions it has.
+//! The check of a specification: its first fault or breach, or how many definitions it has.
 
 ghost use Rattle.std.specs.Prelude.{◌≡◌, ◌≢◌, ◌≤◌, [], ◌++◌, length, All, IfOk, IfErr, OnOk};
-ghost use Rattle.st_tool.specs.Checking.{AllTokens, TellsFault, SmallGives};
-ghost use Rattle.st_tool.specs.Checking.{CheckGives};
+ghost use Rattle.st_elab_def.specs.Breaches.{IsBreach};
+ghost use Rattle.st_tool.specs.Checking.{AllTokens, TellsFault};
+ghost use Rattle.st_tool.specs.Checking.{SourceGives, CheckGives};
 ghost use Rattle.st_tool.specs.Commands.{source_limit};
-ghost use Rattle.st_tool.specs.Texts.{definitions_text, refused_source_text, rule_id_word};
+ghost use Rattle.st_tool.specs.Texts.{definitions_text};
 
 use crate::Status;
 use crate::answer::{Answer, unbuilt};
-use crate::reader::read_small;
+use crate::modes::some_about_modes;
+use crate::refusal::{NO_DEFINITION, definition_words, file_name, refused};
 use itoa::Buffer;
-use st_num::{NoMemory, Row, RuleId, Span};
+use st_el::Def;
+use st_elab_def::{Breach, DefFault, elaborate};
+use st_num::{NoMemory, Row};
 use st_parse::parse;
 use st_parse_faults::SyntaxFault;
 use st_scan::{LexFault, Token, scan};
@@ -40,67 +44,6 @@ fn scan_all(alloc: Global, files: &[Row<u8>]) -> Result<Vec<Token>, LexFault>
     Ok(tokens)
 }
 
-/// The name of a rule on specifications, as it is printed.
-fn rule_id_word(rule: RuleId) -> &'static str
-    ensures { result.now ≡ rule_id_word rule }
-{
-    match rule {
-        RuleId::L1 => "L1",
-        RuleId::L2 => "L2",
-        RuleId::L3 => "L3",
-        RuleId::L4 => "L4",
-        RuleId::S1 => "S1",
-        RuleId::S2 => "S2",
-        RuleId::S3 => "S3",
-        RuleId::S4 => "S4",
-        RuleId::B1 => "B1",
-        RuleId::B2 => "B2",
-        RuleId::B3 => "B3",
-        RuleId::B4 => "B4",
-        RuleId::B5 => "B5",
-        RuleId::B6 => "B6",
-        RuleId::Y1 => "Y1",
-        RuleId::Y2 => "Y2",
-        RuleId::Y3 => "Y3",
-        RuleId::Y4 => "Y4",
-        RuleId::Y5 => "Y5",
-        RuleId::Y6 => "Y6",
-        RuleId::Y7 => "Y7",
-        RuleId::Y8 => "Y8",
-        RuleId::I1 => "I1",
-        RuleId::I2 => "I2",
-        RuleId::M1 => "M1",
-        RuleId::M2 => "M2",
-        RuleId::M3 => "M3",
-        RuleId::M4 => "M4",
-        RuleId::M5 => "M5",
-        RuleId::M6 => "M6",
-        RuleId::M7 => "M7",
-    }
-}
-
-/// The answer where a place in the file of this name is refused.
-fn refused(alloc: Global, name: &str, at: Span, rule: RuleId) -> Result<Answer, NoMemory>
-    ensures status { IfOk result (λ answer. answer.status ≡ Status.Specification) }
-    ensures bytes { IfOk result (λ answer. answer.bytes.items
-        ≡ refused_source_text name.now at rule) }
-{
-    let mut buffer = Buffer::new();
-    let mut bytes = Vec::from_slice(alloc, b"refused ")?;
-    bytes.extend_from_slice(name.as_bytes())?;
-    bytes.extend_from_slice(b":")?;
-    bytes.extend_from_slice(buffer.format(at.line).as_bytes())?;
-    bytes.extend_from_slice(b":")?;
-    bytes.extend_from_slice(buffer.format(at.column).as_bytes())?;
-    bytes.extend_from_slice(b" - ")?;
-    bytes.extend_from_slice(rule_id_word(rule).as_bytes())?;
-    bytes.extend_from_slice(b"\n")?;
-    Ok(Answer {
-        status: Status::Specification,
-        bytes,
-    })
-}
-
 /// The answer where a specification with so many definitions is accepted.
 fn accepted(alloc: Global, definitions: u64) -> Result<Answer, NoMemory>
     ensures status { IfOk result (λ answer. answer.status ≡ Status.Done) }
@@ -116,20 +59,42 @@ fn accepted(alloc: Global, definitions: u64) -> Result<Answer, NoMemory>
     })
 }
 
-/// Checks files that have tokens, so far where they are one small specification.
-fn check_small(alloc: Global, files: &[Row<u8>]) -> Result<Answer, NoMemory>
-    ensures { IfOk result (λ answer. SmallGives files.now answer.status answer.bytes.items) }
+/// The answer where the definitions of a source have this breach.
+fn broken(
+    alloc: Global,
+    names: &[CommandWord],
+    defs: &[Def],
+    breach: Breach,
+) -> Result<Answer, NoMemory>
+    requires { IsBreach defs.now breach }
+    ensures { IfOk result (λ answer. SourceGives names.now defs.now answer.status
+        answer.bytes.items) }
 {
-    let [file] = files else {
-        return unbuilt(alloc);
-    };
-    match read_small(alloc, file.as_slice())? {
-        None => unbuilt(alloc),
-        Some(small) => accepted(alloc, small.rules.len() as u64 + 2),
+    let def = &defs[breach.definition as usize];
+    let words = definition_words(alloc, &def.node)?;
+    let name = file_name(names, breach.at);
+    refused(alloc, name, breach.at, words.as_slice(), breach.rule)
+}
+
+/// Checks the definitions of a source in the files of these names.
+fn check_source(alloc: Global, names: &[CommandWord], defs: &[Def]) -> Result<Answer, NoMemory>
+    ensures { IfOk result (λ answer. SourceGives names.now defs.now answer.status
+        answer.bytes.items) }
+{
+    match elaborate(alloc, defs) {
+        Ok(_) => {
+            if some_about_modes(defs) {
+                unbuilt(alloc)
+            } else {
+                accepted(alloc, defs.len() as u64)
+            }
+        }
+        Err(DefFault::Refused(breach)) => broken(alloc, names, defs, breach),
+        Err(DefFault::Memory) => Err(NoMemory),
     }
 }
 
-/// The answer where the tokens of all files have no trees, or what is said of the files else.
+/// The answer where the tokens of all files have a fault, or what is said of their definitions.
 fn check_tokens(
     alloc: Global,
     names: &[CommandWord],
@@ -143,10 +108,10 @@ fn check_tokens(
         answer.bytes.items) }
 {
     match parse(alloc, tokens) {
-        Ok(_) => check_small(alloc, files),
+        Ok(defs) => check_source(alloc, names, defs.as_slice()),
         Err(SyntaxFault::Refused { at, rule }) => {
             let file = names[at.file as usize].as_str();
-            refused(alloc, file, at, rule)
+            refused(alloc, file, at, NO_DEFINITION, rule)
         }
         Err(SyntaxFault::Memory) => Err(NoMemory),
     }
@@ -168,7 +133,7 @@ pub fn check_files(
         Ok(tokens) => tokens,
         Err(LexFault::Refused { at, rule }) => {
             let name = names[at.file as usize].as_str();
-            return refused(alloc, name, at, rule);
+            return refused(alloc, name, at, NO_DEFINITION, rule);
         }
         Err(LexFault::Memory) => return Err(NoMemory),
     };

@@ -1,0 +1,12 @@
+use Rattle.std.proofs.Common.{◌∙◌}
+use Rattle.st_elab_def.proofs.IsBreach.{IsBreach-within}
+use Rattle.st_tool.proofs.Checks.{source_broken}
+use Rattle.st_tool.proofs.check.broken.Goals as goal
+
+pub bounds-defs-breach : goal.bounds-defs-breach
+bounds-defs-breach c = IsBreach-within c.args.defs.now c.args.breach c.requires
+
+pub returns : goal.returns
+returns c =
+    source_broken c.args.names.now c.args.defs.now c.args.breach c.index-defs-breach.result c.as_slice.result.now c.file_name-name.result.now c.refused.result c.requires
+    c.index-defs-breach.is (c.as_slice.ensures.value ∙ c.in_ok-words.ensures) c.file_name-name.ensures c.refused.ensures.status c.refused.ensures.bytes
