@@ -123,7 +123,11 @@ const COMMANDS: [Case; 35] = [
     ),
     ("check -- closed", Status::Done, "accepted 0 definitions\n"),
     ("check red", Status::Specification, "refused red:1:1 - S1\n"),
-    ("check light coin", Status::Unbuilt, "unbuilt\n"),
+    (
+        "check light coin",
+        Status::Specification,
+        "refused coin:2:1 relation T B1\n",
+    ),
     (
         "check open",
         Status::Specification,

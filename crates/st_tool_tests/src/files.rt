@@ -75,3 +75,11 @@ pub(crate) fn file_of(alloc: Global, bytes: &[u8]) -> Result<MemFiles, NoMemory>
     push_entry(alloc, &mut entries, "x", bytes)?;
     Ok(MemFiles::new(entries, Row::new(alloc)))
 }
+
+/// Two files, `x` and `y`, of these bytes.
+pub(crate) fn two_files_of(alloc: Global, one: &[u8], other: &[u8]) -> Result<MemFiles, NoMemory> {
+    let mut entries = Row::new(alloc);
+    push_entry(alloc, &mut entries, "x", one)?;
+    push_entry(alloc, &mut entries, "y", other)?;
+    Ok(MemFiles::new(entries, Row::new(alloc)))
+}

@@ -9,4 +9,6 @@ mod commands;
 #[cfg(test)]
 mod files;
 #[cfg(test)]
+mod refusals;
+#[cfg(test)]
 mod small;
