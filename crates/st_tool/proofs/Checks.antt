@@ -26,10 +26,11 @@ use Rattle.st_scan.specs.Faults.{FirstFault, of_token, of_utf8}
 use Rattle.st_scan.specs.Tokens.{Tokens}
 use Rattle.st_tool.specs.declared.answer.Answer.{Answer}
 use Rattle.st_tool.specs.declared.status.Status.TheVariants.{Done, Specification}
-use Rattle.st_tool.specs.Checking.{AllTokens, IsSourceFault, TellsFault, some_about_modes, file_name, SourceGives, broken, accepted, unbuilt, CheckGives, refused, empty, parsed}
+use Rattle.st_tool.specs.Checking.{AllTokens, IsSourceFault, TellsFault, some_about_modes, file_name, Printed, nothing, SourceGives, broken, accepted, unbuilt, FilesGive, refused, empty, parsed}
 use Rattle.st_tool.specs.Commands.{IsUnbuilt}
+use Rattle.st_tool.specs.inner.Printing.{TellsSourceFault}
 use Rattle.st_tool.proofs.TokenPlaces.{all_before, place_before}
-use Rattle.st_tool.specs.Texts.{definitions_text, definition_words, no_definition, refused_source_text}
+use Rattle.st_tool.specs.Texts.{definition_words, no_definition, refused_source_text}
 
 -- a fault stands in the file that was scanned
 fault_file : (number : ℕ) (file : List ℕ) (at : Span) (rule : RuleId) → FirstFault number file at rule → at.file ≡ number
@@ -88,57 +89,68 @@ pub found_fault : (files : List (List ℕ)) (tokens : List Token) (found : Resul
 found_fault files tokens found at rule all some answers is =
     inr (record { tokens = tokens; all = all; some = some; fault = subst (Answers tokens) is answers })
 
+-- so is what is told of their tokens
+pub token_stands : (files : List (List ℕ)) (fault : LexFault) → TellsFault files fault → TellsSourceFault files fault
+token_stands files (Refused at rule) tells = inl tells
+token_stands files Memory tells = tt
+
+-- and of what they break of the grammar or the limits
+pub syntax_stands : (files : List (List ℕ)) (tokens : List Token) (found : Result (List Def) SyntaxFault) (fault : SyntaxFault) → AllTokens 0 files tokens → tokens ≢ []
+    → Answers tokens found → found ≡ Err fault → TellsSourceFault files fault
+syntax_stands files tokens found (syntax.Refused at rule) all some answers is = found_fault files tokens found at rule all some answers is
+syntax_stands files tokens found syntax.Memory all some answers is = tt
+
 -- ---- definitions
 
-abbrev pub SaysSource : List (List ℕ) → List Def → Result Answer NoMemory → Type 0
-SaysSource names defs result = IfOk result (λ answer. SourceGives names defs answer.status answer.bytes.items)
+abbrev pub SaysSource : Printed → List (List ℕ) → List Def → Result Answer NoMemory → Type 0
+SaysSource print names defs result = IfOk result (λ answer. SourceGives print names defs answer.status answer.bytes.items)
 
-pub source_accepted : (names : List (List ℕ)) (defs : List Def) (found : Result Elaborated DefFault) (e : Elaborated) (count : ℕ) (about : Bool) (result : Result Answer NoMemory)
+pub source_accepted : (print : Printed) (names : List (List ℕ)) (defs : List Def) (found : Result Elaborated DefFault) (e : Elaborated) (count : ℕ) (about : Bool) (result : Result Answer NoMemory)
     → Elaborates defs found → found ≡ Ok e → about ≡ some_about_modes defs → about ≡ false → count ≡ length defs → IfOk result (λ answer. answer.status ≡ Done)
-    → IfOk result (λ answer. answer.bytes.items ≡ definitions_text count) → SaysSource names defs result
-source_accepted names defs found e count about (Err fault) answers is says none counted status bytes = tt
-source_accepted names defs found e count about (Ok answer) answers is says none counted status bytes =
-    subst (λ s. SourceGives names defs s answer.bytes.items) (sym status)
-    (accepted e (subst (Elaborates defs) is answers) (sym says ∙ none) (bytes ∙ ap definitions_text counted))
+    → IfOk result (λ answer. (ds : List Def) (x : Elaborated) → count ≡ length ds → x.il ≡ e.il → answer.bytes.items ≡ print ds x) → SaysSource print names defs result
+source_accepted print names defs found e count about (Err fault) answers is says none counted status bytes = tt
+source_accepted print names defs found e count about (Ok answer) answers is says none counted status bytes =
+    subst (λ s. SourceGives print names defs s answer.bytes.items) (sym status)
+    (accepted e (subst (Elaborates defs) is answers) (sym says ∙ none) (bytes defs e counted refl))
 
-pub source_unbuilt : (names : List (List ℕ)) (defs : List Def) (found : Result Elaborated DefFault) (e : Elaborated) (about : Bool) (result : Result Answer NoMemory)
+pub source_unbuilt : (print : Printed) (names : List (List ℕ)) (defs : List Def) (found : Result Elaborated DefFault) (e : Elaborated) (about : Bool) (result : Result Answer NoMemory)
     → Elaborates defs found → found ≡ Ok e → about ≡ some_about_modes defs → about ≡ true → IfOk result (λ answer. IsUnbuilt answer.status answer.bytes.items)
-    → SaysSource names defs result
-source_unbuilt names defs found e about (Err fault) answers is says some tells = tt
-source_unbuilt names defs found e about (Ok answer) answers is says some (status, bytes) =
-    subst (λ s. SourceGives names defs s answer.bytes.items) (sym status) (unbuilt e (subst (Elaborates defs) is answers) (sym says ∙ some) bytes)
+    → SaysSource print names defs result
+source_unbuilt print names defs found e about (Err fault) answers is says some tells = tt
+source_unbuilt print names defs found e about (Ok answer) answers is says some (status, bytes) =
+    subst (λ s. SourceGives print names defs s answer.bytes.items) (sym status) (unbuilt e (subst (Elaborates defs) is answers) (sym says ∙ some) bytes)
 
-pub source_broken : (names : List (List ℕ)) (defs : List Def) (b : Breach) (def : Def) (words name : List ℕ) (result : Result Answer NoMemory) → IsBreach defs b
+pub source_broken : (print : Printed) (names : List (List ℕ)) (defs : List Def) (b : Breach) (def : Def) (words name : List ℕ) (result : Result Answer NoMemory) → IsBreach defs b
     → def ≡ get_or defs b.definition def → words ≡ definition_words def.node → name ≡ file_name names b.at → IfOk result (λ answer. answer.status ≡ Specification)
-    → IfOk result (λ answer. answer.bytes.items ≡ refused_source_text name b.at words b.rule) → SaysSource names defs result
-source_broken names defs b def words name (Err fault) breach is worded named status bytes = tt
-source_broken names defs b def words name (Ok answer) breach is worded named status bytes =
-    subst (λ s. SourceGives names defs s answer.bytes.items) (sym status)
+    → IfOk result (λ answer. answer.bytes.items ≡ refused_source_text name b.at words b.rule) → SaysSource print names defs result
+source_broken print names defs b def words name (Err fault) breach is worded named status bytes = tt
+source_broken print names defs b def words name (Ok answer) breach is worded named status bytes =
+    subst (λ s. SourceGives print names defs s answer.bytes.items) (sym status)
     (broken b def breach (slice_get-get_or defs b.definition def (IsBreach-within defs b breach) ∙ ap Some (sym is))
     (bytes ∙ ap (λ n. refused_source_text n b.at words b.rule) named ∙ ap (λ w. refused_source_text (file_name names b.at) b.at w b.rule) worded))
 
 -- ---- the answer
 
-abbrev pub SaysChecked : List (List ℕ) → List (List ℕ) → Result Answer NoMemory → Type 0
-SaysChecked names files result = IfOk result (λ answer. CheckGives names files answer.status answer.bytes.items)
+abbrev pub SaysFiles : Printed → List (List ℕ) → List (List ℕ) → Result Answer NoMemory → Type 0
+SaysFiles print names files result = IfOk result (λ answer. FilesGive print names files answer.status answer.bytes.items)
 
-pub check_empty : (names files : List (List ℕ)) (tokens : List Token) (result : Result Answer NoMemory) → AllTokens 0 files tokens → tokens ≡ []
-    → IfOk result (λ answer. answer.status ≡ Done) → IfOk result (λ answer. answer.bytes.items ≡ definitions_text 0) → SaysChecked names files result
-check_empty names files tokens (Err e) all none status bytes = tt
-check_empty names files tokens (Ok answer) all none status bytes =
-    subst (λ s. CheckGives names files s answer.bytes.items) (sym status) (empty (subst (AllTokens 0 files) none all) bytes)
+pub files_empty : (print : Printed) (names files : List (List ℕ)) (tokens : List Token) (result : Result Answer NoMemory) → AllTokens 0 files tokens → tokens ≡ []
+    → IfOk result (λ answer. answer.status ≡ Done) → IfOk result (λ answer. answer.bytes.items ≡ print [] nothing) → SaysFiles print names files result
+files_empty print names files tokens (Err e) all none status bytes = tt
+files_empty print names files tokens (Ok answer) all none status bytes =
+    subst (λ s. FilesGive print names files s answer.bytes.items) (sym status) (empty (subst (AllTokens 0 files) none all) bytes)
 
-pub check_parsed : (names files : List (List ℕ)) (tokens : List Token) (defs : List Def) (result : Result Answer NoMemory) → AllTokens 0 files tokens → tokens ≢ [] → IsSource tokens defs
-    → SaysSource names defs result → SaysChecked names files result
-check_parsed names files tokens defs (Err e) all some source says = tt
-check_parsed names files tokens defs (Ok answer) all some source says = parsed tokens defs all some source says
+pub files_parsed : (print : Printed) (names files : List (List ℕ)) (tokens : List Token) (defs : List Def) (result : Result Answer NoMemory) → AllTokens 0 files tokens → tokens ≢ [] → IsSource tokens defs
+    → SaysSource print names defs result → SaysFiles print names files result
+files_parsed print names files tokens defs (Err e) all some source says = tt
+files_parsed print names files tokens defs (Ok answer) all some source says = parsed tokens defs all some source says
 
-pub check_refused : (names files : List (List ℕ)) (name text : List ℕ) (at : Span) (rule : RuleId) (result : Result Answer NoMemory) → IsSourceFault files at rule
+pub files_refused : (print : Printed) (names files : List (List ℕ)) (name text : List ℕ) (at : Span) (rule : RuleId) (result : Result Answer NoMemory) → IsSourceFault files at rule
     → length files ≡ length names → name ≡ get_or names at.file name → text ≡ name
     → IfOk result (λ answer. answer.status ≡ Specification) → IfOk result (λ answer. answer.bytes.items ≡ refused_source_text text at no_definition rule)
-    → SaysChecked names files result
-check_refused names files name text at rule (Err e) fault named is same status bytes = tt
-check_refused names files name text at rule (Ok answer) fault named is same status bytes =
-    subst (λ s. CheckGives names files s answer.bytes.items) (sym status)
+    → SaysFiles print names files result
+files_refused print names files name text at rule (Err e) fault named is same status bytes = tt
+files_refused print names files name text at rule (Ok answer) fault named is same status bytes =
+    subst (λ s. FilesGive print names files s answer.bytes.items) (sym status)
     (refused name at rule fault (slice_get-get_or names at.file name (fault_within files names at rule fault named) ∙ ap Some (sym is))
     (bytes ∙ ap (λ n. refused_source_text n at no_definition rule) same))

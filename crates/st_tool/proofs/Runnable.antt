@@ -7,7 +7,7 @@ use Rattle.st_num.specs.declared.memory.NoMemory.{NoMemory}
 use Rattle.st_tool.specs.declared.answer.Answer.{Answer}
 use Rattle.st_tool.specs.declared.status.Status.{Status}
 use Rattle.st_il.specs.declared.small.Small.{Small}
-use Rattle.st_tool.specs.Commands.{IlGives, RunGives, IsRunnable, IsStart, IsTerm, IsUnbuilt}
+use Rattle.st_tool.specs.Commands.{RunGives, IsRunnable, IsStart, IsTerm, IsUnbuilt}
 use Rattle.st_tool.specs.SmallText.{IsTextOf}
 use Rattle.st_tool.specs.inner.Starts.{HasNoTerm, HasNoStart}
 
@@ -51,12 +51,6 @@ pub runs_here : (Text : RunText) (relation term file atom : List ℕ) (small : S
     → IfOk result (λ answer. RunGives Text relation term file answer.status answer.bytes.items)
 runs_here Text relation term file atom small (Ok a) is start run = inl (small, atom, record { source = is.is_text; start = start }, run)
 runs_here Text relation term file atom small (Err e) is start run = tt
-
--- the internal language of the file
-pub no_il : (file : List ℕ) (read : Option Small) (result : Result Answer NoMemory) → read ≡ None → ((s : Small) → IsTextOf s file → read ≡ Some s)
-    → SaysUnbuilt result → IfOk result (λ answer. IlGives file answer.status answer.bytes.items)
-no_il file read (Ok a) is only unbuilt = inr (λ small text. let some = only small text in cc (is, some), unbuilt)
-no_il file read (Err e) is only unbuilt = tt
 
 -- the term of a run
 pub start_found : (small : Small) (relation term : List ℕ) (found : Option (Bor (List ℕ))) → small.relation ≡ relation

@@ -10,8 +10,8 @@ use Rattle.st_tool.specs.declared.status.Status.TheVariants.{Done, Usage, Specif
 use Rattle.st_tool.specs.declared.transcript.Ending.{Ending}
 use Rattle.st_tool.specs.declared.transcript.Ending.TheVariants.{Stuck, Fuel as OutOfFuel}
 use Rattle.st_tool.specs.Causes.{IsLoadFault, FaultIsTold}
-use Rattle.st_tool.specs.Checking.{CheckGives, refused as refused_at, empty, parsed, broken, accepted as accepted_source, unbuilt as unbuilt_source}
-use Rattle.st_tool.specs.Commands.{Gives, IlGives, RunGives, VerifyGives, IsRunText, IsDerivationText, status_of, limit_of}
+use Rattle.st_tool.specs.Checking.{Printed, count_of, language_of, FilesGive, IlGives, refused as refused_at, empty, parsed, broken, accepted as accepted_source, unbuilt as unbuilt_source}
+use Rattle.st_tool.specs.Commands.{Gives, RunGives, VerifyGives, IsRunText, IsDerivationText, status_of, limit_of}
 use Rattle.st_tool.specs.Loads.{Held, Counts, LoadsTo}
 use Rattle.st_tool.specs.Outcome.{Outcome, HasOutcome, unread, too_many, unbuilt, loads, Written}
 use Rattle.st_tool.specs.Verification.{accepted, refused, unfinished, endless}
@@ -45,10 +45,6 @@ ending_is_own : (status : Status) (ending : Ending) → status ≡ status_of end
 ending_is_own status Stuck is = subst IsOwn (sym is) own_done
 ending_is_own status OutOfFuel is = subst IsOwn (sym is) own_fuel
 
-il_is_own : (file : List ℕ) (status : Status) (bytes : List ℕ) → IlGives file status bytes → IsOwn status
-il_is_own file status bytes (inl (small, source, is, text)) = subst IsOwn (sym is) own_done
-il_is_own file status bytes (inr (none, (is, text))) = own_unbuilt status is
-
 run_is_own : (Text : Small → List ℕ → Status → List ℕ → Type 0) → ((small : Small) (atom : List ℕ) (status : Status) (bytes : List ℕ) → Text small atom status bytes → IsOwn status)
     → (relation term file : List ℕ) (status : Status) (bytes : List ℕ) → RunGives Text relation term file status bytes → IsOwn status
 run_is_own Text own relation term file status bytes (inl (small, atom, runnable, text)) = own small atom status bytes text
@@ -61,22 +57,24 @@ verify_is_own il derivation status bytes (inl (language, lines, rest, texts, unf
 verify_is_own il derivation status bytes (inl (language, lines, rest, texts, endless notes read ended nothing text)) = own_verification
 verify_is_own il derivation status bytes (inr (none, (is, text))) = own_unbuilt status is
 
-check_is_own : (names files : List (List ℕ)) (status : Status) (bytes : List ℕ) → CheckGives names files status bytes → IsOwn status
-check_is_own names files status bytes (refused_at name at rule fault named text) = own_specification
-check_is_own names files status bytes (empty none text) = own_done
-check_is_own names files status bytes (parsed tokens defs all some source (broken b def breach within text)) = own_specification
-check_is_own names files status bytes (parsed tokens defs all some source (accepted_source e elaborated none text)) = own_done
-check_is_own names files status bytes (parsed tokens defs all some source (unbuilt_source e elaborated about text)) = own_unbuilt Unbuilt refl
+files_are_own : (print : Printed) (names files : List (List ℕ)) (status : Status) (bytes : List ℕ) → FilesGive print names files status bytes → IsOwn status
+files_are_own print names files status bytes (refused_at name at rule fault named text) = own_specification
+files_are_own print names files status bytes (empty none text) = own_done
+files_are_own print names files status bytes (parsed tokens defs all some source (broken b def breach within text)) = own_specification
+files_are_own print names files status bytes (parsed tokens defs all some source (accepted_source e elaborated none text)) = own_done
+files_are_own print names files status bytes (parsed tokens defs all some source (unbuilt_source e elaborated about text)) = own_unbuilt Unbuilt refl
+
+il_is_own : (names files : List (List ℕ)) (status : Status) (bytes : List ℕ) → IlGives names files status bytes → IsOwn status
+il_is_own names files status bytes (inl (small, one, is, text)) = subst IsOwn (sym is) own_done
+il_is_own names files status bytes (inr (none, gives)) = files_are_own language_of names files status bytes gives
 
 gives_own : (command : Command) (files : List (List ℕ)) (status : Status) (bytes : List ℕ) → Gives command files status bytes → IsOwn status
-gives_own (Il names) (file ∷ []) status bytes gives = il_is_own file status bytes gives
+gives_own (Il names) files status bytes gives = il_is_own names files status bytes gives
 gives_own (Run relation name names fuel depth) (term ∷ file ∷ []) status bytes gives =
     run_is_own IsRunText (λ small atom s b text. ending_is_own s text.ending text.status_is) relation term file status bytes gives
 gives_own (Derive relation name names fuel depth) (term ∷ file ∷ []) status bytes gives =
     run_is_own IsDerivationText (λ small atom s b text. ending_is_own s text.ending text.status_is) relation term file status bytes gives
 gives_own (Verify il_name name) (il ∷ derivation ∷ []) status bytes gives = verify_is_own il derivation status bytes gives
-gives_own (Il names) [] status bytes gives = absurd gives
-gives_own (Il names) (one ∷ two ∷ files) status bytes gives = absurd gives
 gives_own (Run relation name names fuel depth) [] status bytes gives = absurd gives
 gives_own (Run relation name names fuel depth) (one ∷ []) status bytes gives = absurd gives
 gives_own (Run relation name names fuel depth) (one ∷ two ∷ three ∷ files) status bytes gives = absurd gives
@@ -86,7 +84,7 @@ gives_own (Derive relation name names fuel depth) (one ∷ two ∷ three ∷ fil
 gives_own (Verify il_name name) [] status bytes gives = absurd gives
 gives_own (Verify il_name name) (one ∷ []) status bytes gives = absurd gives
 gives_own (Verify il_name name) (one ∷ two ∷ three ∷ files) status bytes gives = absurd gives
-gives_own (Check names) files status bytes gives = check_is_own names files status bytes gives
+gives_own (Check names) files status bytes gives = files_are_own count_of names files status bytes gives
 gives_own (Groups names) files status bytes gives = absurd gives
 gives_own (Order names) files status bytes gives = absurd gives
 gives_own (Eval name names) files status bytes gives = absurd gives

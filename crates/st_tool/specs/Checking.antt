@@ -21,6 +21,11 @@ use Rattle.st_scan.specs.Faults.{FirstFault}
 use Rattle.st_scan.specs.Tokens.{Tokens}
 use Rattle.st_tool.specs.declared.status.Status.{Status}
 use Rattle.st_tool.specs.declared.status.Status.TheVariants as answer
+use Rattle.st_il.specs.declared.small.Small.{Small}
+use Rattle.st_il.specs.Small.{il_of}
+use Rattle.st_iltext.specs.IlText.{IlText}
+use Rattle.st_iltext.specs.WholeText.{il_text}
+use Rattle.st_tool.specs.SmallText.{IsTextOf}
 use Rattle.st_tool.specs.Texts.{unbuilt_text, definitions_text, definition_words, no_definition, refused_source_text}
 
 -- the tokens of files one behind another; files are numbered, the first by this number
@@ -81,37 +86,71 @@ some_about_modes defs = list_any (λ (def : Def). is_about_modes def.node) defs
 abbrev pub file_name : List (List ℕ) → Span → List ℕ
 file_name names at = unwrap_or (slice_get names at.file) []
 
--- What is said of the definitions of a source: the first breach, or how many there are. The rules
--- on modes are not asked yet: a source that they are about is elaborated, and no more is said of it.
-pub data SourceGives (names : List (List ℕ)) (defs : List Def) : Status → List ℕ → Type 0 where
+-- what is printed of definitions without a breach, and of what they are elaborated to
+abbrev pub Printed : Type 0
+Printed = List Def → Elaborated → List ℕ
+
+-- What is said of the definitions of a source: the first breach, or what is printed of them. The
+-- rules on modes are not asked yet: a source that they are about is elaborated, and no more is said
+-- of it.
+pub data SourceGives (print : Printed) (names : List (List ℕ)) (defs : List Def)
+    : Status → List ℕ → Type 0 where
   -- the first breach, with its place and the definition that it is in
   broken : {bytes : List ℕ} (b : Breach) (def : Def) → IsBreach defs b
       → slice_get defs b.definition ≡ Some def
       → bytes ≡ refused_source_text (file_name names b.at) b.at (definition_words def.node) b.rule
-      → SourceGives names defs answer.Specification bytes
+      → SourceGives print names defs answer.Specification bytes
   -- there is none, and the rules on modes are about nothing
   accepted : {bytes : List ℕ} (e : Elaborated) → IsElaborated defs e
-      → some_about_modes defs ≡ false → bytes ≡ definitions_text (length defs)
-      → SourceGives names defs answer.Done bytes
+      → some_about_modes defs ≡ false → bytes ≡ print defs e
+      → SourceGives print names defs answer.Done bytes
   -- there is none, but the rules on modes are about one of the definitions
   unbuilt : {bytes : List ℕ} (e : Elaborated) → IsElaborated defs e
       → some_about_modes defs ≡ true → bytes ≡ unbuilt_text
-      → SourceGives names defs answer.Unbuilt bytes
+      → SourceGives print names defs answer.Unbuilt bytes
 
 -- ---- files
 
--- What is said of the files of these names: the first fault or breach, or how many definitions they
--- have.
-pub data CheckGives (names files : List (List ℕ)) : Status → List ℕ → Type 0 where
+-- what no definitions are elaborated to
+abbrev pub nothing : Elaborated
+nothing = record { il = record { defs = [] }; sources = [] }
+
+-- What is said of the files of these names: the first fault or breach, or what is printed of them.
+pub data FilesGive (print : Printed) (names files : List (List ℕ)) : Status → List ℕ → Type 0 where
   -- the first fault, with its place, in the file of this name
   refused : {bytes : List ℕ} (name : List ℕ) (at : Span) (rule : RuleId)
       → IsSourceFault files at rule → slice_get names at.file ≡ Some name
       → bytes ≡ refused_source_text name at no_definition rule
-      → CheckGives names files answer.Specification bytes
+      → FilesGive print names files answer.Specification bytes
   -- the files have no token, so no definition
-  empty : {bytes : List ℕ} → AllTokens 0 files [] → bytes ≡ definitions_text 0
-      → CheckGives names files answer.Done bytes
+  empty : {bytes : List ℕ} → AllTokens 0 files [] → bytes ≡ print [] nothing
+      → FilesGive print names files answer.Done bytes
   -- the tokens of the files are those of a source, of which this is said
   parsed : {status : Status} {bytes : List ℕ} (tokens : List Token) (defs : List Def)
       → AllTokens 0 files tokens → tokens ≢ [] → IsSource tokens defs
-      → SourceGives names defs status bytes → CheckGives names files status bytes
+      → SourceGives print names defs status bytes → FilesGive print names files status bytes
+
+-- how many definitions there are
+abbrev pub count_of : Printed
+count_of defs e = definitions_text (length defs)
+
+-- what a check says of files: their first fault or breach, or how many definitions they have
+abbrev pub CheckGives : List (List ℕ) → List (List ℕ) → Status → List ℕ → Type 0
+CheckGives = FilesGive count_of
+
+-- the text of the internal language
+abbrev pub language_of : Printed
+language_of defs e = il_text e.il
+
+-- the files are one file, which is the text of this small specification
+abbrev pub IsOneSmall : List (List ℕ) → Small → Type 0
+IsOneSmall files small = (file : List ℕ) × (files ≡ file ∷ []) × IsTextOf small file
+
+-- Of a small specification its internal language is printed, as runs and derivations have it. Of
+-- other files it is the one that they are elaborated to, or their first fault or breach.
+abbrev pub IlGives : List (List ℕ) → List (List ℕ) → Status → List ℕ → Type 0
+IlGives names files status bytes =
+    ((small : Small) × IsOneSmall files small × (status ≡ answer.Done)
+    × IlText (il_of small) bytes)
+    ⊎ (((small : Small) → IsOneSmall files small → ⊥)
+    × FilesGive language_of names files status bytes)

@@ -5,12 +5,11 @@ use Rattle.st_deriv.specs.LineText.{LinesText}
 use Rattle.st_il.specs.declared.definition.Il.{Il}
 use Rattle.st_il.specs.declared.small.Small.{Small}
 use Rattle.st_il.specs.Small.{il_of, IsSmallIl}
-use Rattle.st_iltext.specs.IlText.{IlText}
 use Rattle.st_tool.specs.declared.status.Status.{Status}
 use Rattle.st_tool.specs.declared.status.Status.TheVariants as answer
 use Rattle.st_tool.specs.declared.transcript.Ending.{Ending}
 use Rattle.st_tool.specs.declared.transcript.Ending.TheVariants.{Stuck, Fuel}
-use Rattle.st_tool.specs.Checking.{CheckGives}
+use Rattle.st_tool.specs.Checking.{CheckGives, IlGives}
 use Rattle.st_tool.specs.Derivation.{IsDerivation}
 use Rattle.st_tool.specs.SmallText.{IsTextOf}
 use Rattle.st_tool.specs.Texts.{transcript_text, unbuilt_text}
@@ -34,14 +33,6 @@ status_of Fuel = answer.Fuel
 -- nothing of this kind is built
 abbrev pub IsUnbuilt : Status → List ℕ → Type 0
 IsUnbuilt status bytes = (status ≡ answer.Unbuilt) × (bytes ≡ unbuilt_text)
-
--- ---- the internal language
-
--- of a small specification its internal language is printed; other files are not built
-abbrev pub IlGives : List ℕ → Status → List ℕ → Type 0
-IlGives file status bytes =
-    ((small : Small) × IsTextOf small file × (status ≡ answer.Done) × IlText (il_of small) bytes)
-    ⊎ (((small : Small) → IsTextOf small file → ⊥) × IsUnbuilt status bytes)
 
 -- ---- runs and derivations
 
@@ -112,7 +103,7 @@ VerifyGives il_bytes derivation status bytes =
 -- what a command gives of the bytes of its files
 abbrev pub Gives : Command → List (List ℕ) → Status → List ℕ → Type 0
 Gives (Check names) files status bytes = CheckGives names files status bytes
-Gives (IlOf names) (file ∷ []) status bytes = IlGives file status bytes
+Gives (IlOf names) files status bytes = IlGives names files status bytes
 Gives (Run relation name names fuel depth) (term ∷ file ∷ []) status bytes =
     RunGives IsRunText relation term file status bytes
 Gives (Derive relation name names fuel depth) (term ∷ file ∷ []) status bytes =
@@ -121,10 +112,10 @@ Gives (Verify il_name name) (il ∷ derivation ∷ []) status bytes =
     VerifyGives il derivation status bytes
 Gives command files status bytes = ⊥
 
--- the forms of commands that are built: over one file of a specification, and checks of any
+-- the forms of commands that are built: runs over one file of a specification, and the rest over any
 abbrev pub HasBuiltForm : Command → Type 0
 HasBuiltForm (Check files) = Unit {0}
-HasBuiltForm (IlOf (file ∷ [])) = Unit {0}
+HasBuiltForm (IlOf files) = Unit {0}
 HasBuiltForm (Run relation term (file ∷ []) fuel depth) = Unit {0}
 HasBuiltForm (Derive relation term (file ∷ []) fuel depth) = Unit {0}
 HasBuiltForm (Verify il derivation) = Unit {0}

@@ -5,3 +5,4 @@ pub mod Reaches
 pub mod Starts
 pub mod Nodes
 pub mod Checks
+pub mod Printing

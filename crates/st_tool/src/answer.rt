@@ -9,9 +9,9 @@ ghost use Rattle.st_words.specs.FileNames.{file_names};
 ghost use Rattle.st_words.specs.Reads.{Reads};
 
 use crate::Status;
-use crate::check::check_files;
+use crate::check::{Printed, answer_files};
 use crate::loads::{Loaded, load_all};
-use crate::source::{derive_file, il_file, run_file};
+use crate::source::{derive_file, il_files, run_file};
 use crate::verification::verify_files;
 use st_num::{NoMemory, Row};
 use st_outside::Files;
@@ -53,17 +53,6 @@ pub fn unbuilt(alloc: Global) -> Result<Answer, NoMemory>
     line_answer(alloc, Status::Unbuilt, "unbuilt", "")
 }
 
-/// The bytes of the one file that was given.
-fn one_file(given: &[Row<u8>]) -> &[u8]
-    requires { length given.now ≡ 1 }
-    ensures { given.now ≡ result.now ∷ [] }
-{
-    let [file] = given else {
-        unreachable!();
-    };
-    file.as_slice()
-}
-
 /// The bytes of the two files that were given.
 fn two_files(given: &[Row<u8>]) -> (&[u8], &[u8])
     requires { length given.now ≡ 2 }
@@ -85,8 +74,8 @@ fn answer_given(alloc: Global, command: &Command, given: &[Row<u8>]) -> Result<A
         answer.bytes.items) }
 {
     match command {
-        Command::Check(names) => check_files(alloc, names.as_slice(), given),
-        Command::Il(_) => il_file(alloc, one_file(given)),
+        Command::Check(names) => answer_files(alloc, Printed::Count, names.as_slice(), given),
+        Command::Il(names) => il_files(alloc, names.as_slice(), given),
         Command::Run(relation, _, _, _, _) => {
             let (term, file) = two_files(given);
             run_file(alloc, relation.as_str(), term, file)
@@ -150,9 +139,8 @@ fn has_built_form(command: &Command) -> bool
     ensures { IsTrue result ↔ HasBuiltForm command.now }
 {
     match command {
-        Command::Il(files) | Command::Run(_, _, files, _, _) | Command::Derive(_, _, files, _, _) =>
-            files.len() == 1,
-        Command::Check(_) | Command::Verify(_, _) => true,
+        Command::Run(_, _, files, _, _) | Command::Derive(_, _, files, _, _) => files.len() == 1,
+        Command::Check(_) | Command::Il(_) | Command::Verify(_, _) => true,
         Command::Groups(_)
         | Command::Order(_)
         | Command::Eval(_, _)

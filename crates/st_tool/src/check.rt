@@ -1,10 +1,13 @@
-//! The check of a specification: its first fault or breach, or how many definitions it has.
+//! The files of a specification: their first fault or breach, or what is printed of them.
 
-ghost use Rattle.std.specs.Prelude.{◌≡◌, ◌≢◌, ◌≤◌, [], ◌++◌, length, All, IfOk, IfErr, OnOk};
+ghost use Rattle.std.specs.Prelude.{◌≡◌, ◌≢◌, ◌≤◌, [], ◌++◌, List, length, All, IfOk, IfErr, OnOk};
 ghost use Rattle.st_elab_def.specs.Breaches.{IsBreach};
 ghost use Rattle.st_tool.specs.Checking.{AllTokens, TellsFault};
-ghost use Rattle.st_tool.specs.Checking.{SourceGives, CheckGives};
+ghost use Rattle.st_tool.specs.Checking.{Printed as Printing, nothing, SourceGives, FilesGive};
+ghost use Rattle.st_elab_def.specs.declared.elaborated.Elaborated.{Elaborated as Elaboration};
+ghost use Rattle.st_el.specs.declared.definition.Def.{Def as Definition};
 ghost use Rattle.st_tool.specs.Commands.{source_limit};
+ghost use Rattle.st_tool.specs.inner.Printing.{print_of, TellsSourceFault};
 ghost use Rattle.st_tool.specs.Texts.{definitions_text};
 
 use crate::Status;
@@ -14,9 +17,10 @@ use crate::refusal::{NO_DEFINITION, definition_words, file_name, refused};
 use itoa::Buffer;
 use st_el::Def;
 use st_elab_def::{Breach, DefFault, elaborate};
-use st_num::{NoMemory, Row};
+use st_il::Il;
+use st_iltext::print_whole;
+use st_num::{Fault, NoMemory, Row};
 use st_parse::parse;
-use st_parse_faults::SyntaxFault;
 use st_scan::{LexFault, Token, scan};
 use st_words::CommandWord;
 use std::alloc::Global;
@@ -44,19 +48,63 @@ fn scan_all(alloc: Global, files: &[Row<u8>]) -> Result<Vec<Token>, LexFault>
     Ok(tokens)
 }
 
-/// The answer where a specification with so many definitions is accepted.
-fn accepted(alloc: Global, definitions: u64) -> Result<Answer, NoMemory>
-    ensures status { IfOk result (λ answer. answer.status ≡ Status.Done) }
-    ensures bytes { IfOk result (λ answer. answer.bytes.items ≡ definitions_text definitions) }
+/// What is printed of a specification without a fault or a breach.
+#[derive(Clone, Copy)]
+pub enum Printed {
+    /// How many definitions it has.
+    Count,
+    /// Its internal language.
+    Language,
+}
+
+/// The line with so many definitions.
+fn counted(alloc: Global, definitions: u64) -> Result<Vec<u8>, NoMemory>
+    ensures { IfOk result (λ bytes. bytes.items ≡ definitions_text definitions) }
 {
     let mut buffer = Buffer::new();
     let mut bytes = Vec::from_slice(alloc, b"accepted ")?;
     bytes.extend_from_slice(buffer.format(definitions).as_bytes())?;
     bytes.extend_from_slice(b" definitions\n")?;
+    Ok(bytes)
+}
+
+/// The answer where a specification with so many definitions, and this internal language, is
+/// accepted.
+fn accepted(alloc: Global, printed: Printed, definitions: u64, il: &Il) -> Result<Answer, NoMemory>
+    ensures status { IfOk result (λ answer. answer.status ≡ Status.Done) }
+    ensures bytes { IfOk result (λ answer. (defs : List Definition) (e : Elaboration)
+        → definitions ≡ length defs → e.il ≡ il.now
+        → answer.bytes.items ≡ print_of printed defs e) }
+{
+    let bytes = match printed {
+        Printed::Count => counted(alloc, definitions)?,
+        Printed::Language => print_whole(alloc, il)?.into_vec(),
+    };
     Ok(Answer {
         status: Status::Done,
         bytes,
     })
+}
+
+/// The answer where the files of these names have this first fault.
+fn faulty(
+    alloc: Global,
+    names: &[CommandWord],
+    files: &[Row<u8>],
+    fault: Fault,
+) -> Result<Answer, NoMemory>
+    requires named { length files.now ≡ length names.now }
+    requires stands { TellsSourceFault files.now fault }
+    ensures { (print : Printing) → IfOk result (λ answer. FilesGive print names.now files.now
+        answer.status answer.bytes.items) }
+{
+    match fault {
+        Fault::Refused { at, rule } => {
+            let name = names[at.file as usize].as_str();
+            refused(alloc, name, at, NO_DEFINITION, rule)
+        }
+        Fault::Memory => Err(NoMemory),
+    }
 }
 
 /// The answer where the definitions of a source have this breach.
@@ -67,8 +115,8 @@ fn broken(
     breach: Breach,
 ) -> Result<Answer, NoMemory>
     requires { IsBreach defs.now breach }
-    ensures { IfOk result (λ answer. SourceGives names.now defs.now answer.status
-        answer.bytes.items) }
+    ensures { (print : Printing) → IfOk result (λ answer. SourceGives print names.now defs.now
+        answer.status answer.bytes.items) }
 {
     let def = &defs[breach.definition as usize];
     let words = definition_words(alloc, &def.node)?;
@@ -76,17 +124,22 @@ fn broken(
     refused(alloc, name, breach.at, words.as_slice(), breach.rule)
 }
 
-/// Checks the definitions of a source in the files of these names.
-fn check_source(alloc: Global, names: &[CommandWord], defs: &[Def]) -> Result<Answer, NoMemory>
-    ensures { IfOk result (λ answer. SourceGives names.now defs.now answer.status
-        answer.bytes.items) }
+/// Elaborates the definitions of a source in the files of these names.
+fn answer_source(
+    alloc: Global,
+    printed: Printed,
+    names: &[CommandWord],
+    defs: &[Def],
+) -> Result<Answer, NoMemory>
+    ensures { IfOk result (λ answer. SourceGives (print_of printed) names.now defs.now
+        answer.status answer.bytes.items) }
 {
     match elaborate(alloc, defs) {
-        Ok(_) => {
+        Ok(elaborated) => {
             if some_about_modes(defs) {
                 unbuilt(alloc)
             } else {
-                accepted(alloc, defs.len() as u64)
+                accepted(alloc, printed, defs.len() as u64, &elaborated.il)
             }
         }
         Err(DefFault::Refused(breach)) => broken(alloc, names, defs, breach),
@@ -95,8 +148,9 @@ fn check_source(alloc: Global, names: &[CommandWord], defs: &[Def]) -> Result<An
 }
 
 /// The answer where the tokens of all files have a fault, or what is said of their definitions.
-fn check_tokens(
+fn answer_tokens(
     alloc: Global,
+    printed: Printed,
     names: &[CommandWord],
     files: &[Row<u8>],
     tokens: &[Token],
@@ -104,42 +158,46 @@ fn check_tokens(
     requires named { length files.now ≡ length names.now }
     requires all { AllTokens 0 files.now tokens.now }
     requires some { tokens.now ≢ [] }
-    ensures { IfOk result (λ answer. CheckGives names.now files.now answer.status
-        answer.bytes.items) }
+    ensures { IfOk result (λ answer. FilesGive (print_of printed) names.now files.now
+        answer.status answer.bytes.items) }
 {
     match parse(alloc, tokens) {
-        Ok(defs) => check_source(alloc, names, defs.as_slice()),
-        Err(SyntaxFault::Refused { at, rule }) => {
-            let file = names[at.file as usize].as_str();
-            refused(alloc, file, at, NO_DEFINITION, rule)
-        }
-        Err(SyntaxFault::Memory) => Err(NoMemory),
+        Ok(defs) => answer_source(alloc, printed, names, defs.as_slice()),
+        Err(fault) => faulty(alloc, names, files, fault),
     }
 }
 
-/// Checks the files of these names.
-pub fn check_files(
+/// The answer where the files hold nothing.
+fn answer_nothing(alloc: Global, printed: Printed) -> Result<Answer, NoMemory>
+    ensures status { IfOk result (λ answer. answer.status ≡ Status.Done) }
+    ensures bytes { IfOk result (λ answer. answer.bytes.items ≡ print_of printed [] nothing) }
+{
+    let il = Il {
+        defs: Row::new(alloc),
+    };
+    accepted(alloc, printed, 0, &il)
+}
+
+/// What is said of the files of these names: their first fault or breach, or what is to be printed.
+pub fn answer_files(
     alloc: Global,
+    printed: Printed,
     names: &[CommandWord],
     files: &[Row<u8>],
 ) -> Result<Answer, NoMemory>
     requires named { length files.now ≡ length names.now }
     requires few { length files.now ≤ 64 }
     requires short { All (λ file. length file ≤ source_limit) files.now }
-    ensures { IfOk result (λ answer. CheckGives names.now files.now answer.status
-        answer.bytes.items) }
+    ensures { IfOk result (λ answer. FilesGive (print_of printed) names.now files.now
+        answer.status answer.bytes.items) }
 {
     let tokens = match scan_all(alloc, files) {
         Ok(tokens) => tokens,
-        Err(LexFault::Refused { at, rule }) => {
-            let name = names[at.file as usize].as_str();
-            return refused(alloc, name, at, NO_DEFINITION, rule);
-        }
-        Err(LexFault::Memory) => return Err(NoMemory),
+        Err(fault) => return faulty(alloc, names, files, fault),
     };
     if tokens.as_slice().is_empty() {
-        accepted(alloc, 0)
+        answer_nothing(alloc, printed)
     } else {
-        check_tokens(alloc, names, files, tokens.as_slice())
+        answer_tokens(alloc, printed, names, files, tokens.as_slice())
     }
 }

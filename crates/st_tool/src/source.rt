@@ -1,17 +1,23 @@
 //! What a specification in a file gives: its internal language, and runs of its relation.
 
-ghost use Rattle.std.specs.Prelude.{◌≡◌, ◌↔◌, ◌++◌, ◌∷◌, [], IfOk, IsTrue, MatchOption};
-ghost use Rattle.st_tool.specs.Commands.{IlGives, RunGives, IsRunText, IsDerivationText, IsAtomText, IsTerm, IsStart};
+ghost use Rattle.std.specs.Prelude.{◌≡◌, ◌≤◌, ◌↔◌, ◌++◌, ◌∷◌, [], length, All, IfOk, IsTrue, MatchOption};
+ghost use Rattle.st_il.specs.declared.small.Small.{Small as Specification};
+ghost use Rattle.st_il.specs.Small.{IsSmall, il_of};
+ghost use Rattle.st_iltext.specs.IlText.{IlText};
+ghost use Rattle.st_tool.specs.Checking.{IsOneSmall, IlGives};
+ghost use Rattle.st_tool.specs.Commands.{source_limit, RunGives, IsRunText, IsDerivationText, IsAtomText, IsTerm, IsStart};
 ghost use Rattle.st_tool.specs.inner.Starts.{HasNoTerm, HasNoStart};
 
 use crate::Status;
 use crate::answer::{Answer, unbuilt};
+use crate::check::{Printed, answer_files};
 use crate::derivation::derive;
 use crate::reader::read_small;
 use crate::transcript::run;
 use st_il::{Small, il_of_small};
 use st_iltext::print_il;
-use st_num::{Name, NoMemory};
+use st_num::{Name, NoMemory, Row};
+use st_words::CommandWord;
 use std::alloc::Global;
 
 /// Whether the bytes are the line with a line feed behind it.
@@ -55,20 +61,44 @@ fn start_of<'a>(small: &'a Small, relation: &str, term: &[u8]) -> Option<&'a Nam
     read_term(small, term)
 }
 
-/// Prints the internal language of the specification in a file.
-pub fn il_file(alloc: Global, file: &[u8]) -> Result<Answer, NoMemory>
-    ensures { IfOk result (λ answer. IlGives file.now answer.status answer.bytes.items) }
+/// The small specification that these files are, if they are one.
+fn read_one(alloc: Global, files: &[Row<u8>]) -> Result<Option<Small>, NoMemory>
+    ensures { IfOk result (λ found. MatchOption found
+        ((small : Specification) → IsOneSmall files.now small → ⊥) (IsOneSmall files.now)) }
 {
-    let Some(small) = read_small(alloc, file)? else {
-        return unbuilt(alloc);
-    };
-    let il = il_of_small(alloc, &small)?;
+    match files {
+        [file] => read_small(alloc, file.as_slice()),
+        _ => Ok(None),
+    }
+}
+
+/// Prints the internal language of a small specification.
+fn small_il(alloc: Global, small: &Small) -> Result<Answer, NoMemory>
+    requires { IsSmall small.now }
+    ensures status { IfOk result (λ answer. answer.status ≡ Status.Done) }
+    ensures bytes { IfOk result (λ answer. IlText (il_of small.now) answer.bytes.items) }
+{
+    let il = il_of_small(alloc, small)?;
     let mut bytes = Vec::new(alloc);
     print_il(alloc, &il, &mut bytes)?;
     Ok(Answer {
         status: Status::Done,
         bytes,
     })
+}
+
+/// Prints the internal language of the specification in the files of these names.
+pub fn il_files(alloc: Global, names: &[CommandWord], files: &[Row<u8>]) -> Result<Answer, NoMemory>
+    requires named { length files.now ≡ length names.now }
+    requires few { length files.now ≤ 64 }
+    requires short { All (λ file. length file ≤ source_limit) files.now }
+    ensures { IfOk result (λ answer. IlGives names.now files.now answer.status
+        answer.bytes.items) }
+{
+    match read_one(alloc, files)? {
+        Some(small) => small_il(alloc, &small),
+        None => answer_files(alloc, Printed::Language, names, files),
+    }
 }
 
 /// Runs a relation of the specification in a file, from the term in another.

@@ -7,6 +7,6 @@ pub bounds-defs-breach : goal.bounds-defs-breach
 bounds-defs-breach c = IsBreach-within c.args.defs.now c.args.breach c.requires
 
 pub returns : goal.returns
-returns c =
-    source_broken c.args.names.now c.args.defs.now c.args.breach c.index-defs-breach.result c.as_slice.result.now c.file_name-name.result.now c.refused.result c.requires
+returns c = λ print.
+    source_broken print c.args.names.now c.args.defs.now c.args.breach c.index-defs-breach.result c.as_slice.result.now c.file_name-name.result.now c.refused.result c.requires
     c.index-defs-breach.is (c.as_slice.ensures.value ∙ c.in_ok-words.ensures) c.file_name-name.ensures c.refused.ensures.status c.refused.ensures.bytes

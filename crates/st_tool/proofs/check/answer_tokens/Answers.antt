@@ -1,0 +1,20 @@
+use Rattle.std.proofs.Common.{subst}
+use Rattle.st_parse.specs.Source.{Answers}
+use Rattle.st_tool.specs.inner.Printing.{print_of}
+use Rattle.st_tool.proofs.Checks.{SaysSource, syntax_stands, files_parsed}
+use Rattle.st_tool.proofs.check.answer_tokens.Goals as goal
+
+pub faulty-requires : goal.faulty-requires
+faulty-requires c = record {
+  named = c.requires.named;
+  stands = syntax_stands c.args.files.now c.args.tokens.now c.parse.result c.in-Err.fault c.requires.all c.requires.some c.parse.ensures c.in-Err.is;
+}
+
+pub returns-in-Ok : goal.returns-in-Ok
+returns-in-Ok c =
+    files_parsed (print_of c.args.printed) c.args.names.now c.args.files.now c.args.tokens.now c.in-Ok.defs c.answer_source.result c.requires.all c.requires.some
+    (subst (Answers c.args.tokens.now) c.in-Ok.is c.parse.ensures)
+    (subst (λ defs. SaysSource (print_of c.args.printed) c.args.names.now defs c.answer_source.result) c.as_slice.ensures c.answer_source.ensures)
+
+pub returns-in-Err : goal.returns-in-Err
+returns-in-Err c = c.faulty.ensures (print_of c.args.printed)
