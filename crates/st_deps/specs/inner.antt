@@ -1,0 +1,6 @@
+-- What only proofs need.
+
+-- citations by numbers, and the numbers of groups
+pub mod Graph
+-- how the table of citations is read off the definitions
+pub mod Table
