@@ -4,3 +4,11 @@ pub mod Places
 pub mod TableLemmas
 -- there is at most one list of groups
 pub mod Unique
+-- the walk begins a definition, follows a citation, joins and closes groups; it costs less, and ends
+pub mod WalkBegins
+pub mod WalkSteps
+pub mod Cuts
+pub mod Costs
+pub mod WalkEnds
+-- numbers of groups are those of the names
+pub mod GroupNumbersLemmas

@@ -3,6 +3,10 @@ use Rattle.std.proofs.Common.{◌≡◌, ◌≢◌, ◌⊎◌, inl, inr, refl, s
 use Rattle.st_deps.specs.Groups.{Reaches, itself, through}
 use Rattle.st_deps.specs.inner.Graph.{Edge, Stands}
 
+-- two numbers
+abbrev pub pair : ℕ → ℕ → ℕ × ℕ
+pair a b = (a, b)
+
 pub same_place : (i j : ℕ) → (i ≡ j) ⊎ (i ≢ j)
 same_place zero zero = inl refl
 same_place zero (suc j) = inr (λ e. cc)

@@ -8,5 +8,7 @@ pub mod Definitions
 pub mod Table
 -- the groups of mutual citation, and the order in which they are listed
 pub mod Groups
+-- the numbers of the groups
+pub mod GroupNumbers
 -- ---- what only proofs need
 pub mod inner

@@ -4,3 +4,6 @@
 pub mod Graph
 -- how the table of citations is read off the definitions
 pub mod Table
+-- how far the walk along citations has come, by lists, and as the code keeps it
+pub mod Walk
+pub mod Walks

@@ -129,7 +129,7 @@ pub struct CitationTable {
     pub rows: Row<Row<usize>>,
 }
 
-/// What the definitions of an internal language cite, in time linear in its size.
+/// What the definitions of an internal language cite.
 pub fn citations(alloc: Global, il: &Il) -> Result<CitationTable, NoMemory>
     ensures names { IfOk result (λ table. table.names ≡ declared il.now) }
     ensures rows { IfOk result (λ table. IsTable il.now table.rows) }
