@@ -1,10 +1,10 @@
 -- A number that falls with each step of the walk.
-use Rattle.std.proofs.Common.{◌≡◌, ◌⊎◌, inl, inr, refl, sym, ap, ◌∙◌, subst, ℕ, zero, suc, ◌+◌, ◌*◌, ◌<◌, ◌≤◌, List, [], ◌∷◌, ◌++◌, length, set, take, map, Some, slice_get, arith}
+use Rattle.std.proofs.Common.{◌≡◌, ◌⊎◌, inl, inr, refl, sym, ap, ◌∙◌, ℕ, zero, suc, ◌+◌, ◌*◌, ◌<◌, ◌≤◌, List, [], ◌∷◌, ◌++◌, length, set, take, map, Some, slice_get, arith}
 use Rattle.std.proofs.lemmas.List.{length-append, length-map, length_push, length-take-le}
 use Rattle.st_deps.specs.declared.walk.Place.{Place}
 use Rattle.st_deps.specs.declared.walk.Place.TheVariants.{New, Open, Closed}
-use Rattle.st_deps.specs.inner.Walk.{IsPath, Closes, CutsTo, cost, costs, cost_of}
-use Rattle.st_deps.proofs.Places.{get-none, get-within, get-at, get-same}
+use Rattle.st_deps.specs.inner.Walk.{IsPath, Closes, cost, costs, cost_of}
+use Rattle.st_deps.proofs.Places.{get-none, get-same}
 
 costs-begun : (ps : List Place) (graph : List (List ℕ)) (node k : ℕ) (row : List ℕ) → slice_get ps node ≡ Some New → slice_get graph node ≡ Some row
     → costs (set ps node (Open k)) graph + (3 + 2 * length row) ≡ costs ps graph

@@ -3,11 +3,10 @@ use Rattle.std.proofs.Common.{◌≡◌, ◌≢◌, ◌⊎◌, inl, inr, refl, s
 use Rattle.std.proofs.lemmas.List.{append-nil, length-set, length_push, nil_from_length}
 use Rattle.std.proofs.lemmas.Bool.{cases_lt}
 use Rattle.st_deps.specs.declared.walk.Place.{Place}
-use Rattle.st_deps.specs.declared.walk.Place.TheVariants.{New, Open, Closed}
-use Rattle.st_deps.specs.inner.Graph.{Stands}
+use Rattle.st_deps.specs.declared.walk.Place.TheVariants.{Closed}
 use Rattle.st_deps.specs.inner.Walk.{IsRising, IsCut, CutsTo, ClosesTo, start_of}
-use Rattle.st_deps.proofs.Places.{same_place, get-none, get-same, get-front, get-last, get-append, get-within, set-other, set-here, set-same, get-at}
-use Rattle.st_deps.proofs.WalkSteps.{start-at, start-top, start-some}
+use Rattle.st_deps.proofs.Places.{same_place, get-none, get-same, get-front, get-last, get-append, set-other, set-here, set-same, get-at}
+use Rattle.st_deps.proofs.WalkSteps.{start-at, start-top}
 
 pub cut-none : (at : ℕ) (bs : List ℕ) → IsCut at bs bs
 cut-none at bs = record { behind = []; are = sym (append-nil bs); far = λ b (k, e). absurd (get-none k b e) }

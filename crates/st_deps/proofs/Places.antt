@@ -1,7 +1,7 @@
 -- What stands at a place of a list that is made of others, and ways along citations.
-use Rattle.std.proofs.Common.{◌≡◌, ◌≢◌, ◌⊎◌, inl, inr, refl, sym, ap, ◌∙◌, subst, ℕ, zero, suc, ◌+◌, ◌<◌, ◌≤◌, List, [], ◌∷◌, ◌++◌, length, set, take, map, Some, None, slice_get, arith}
+use Rattle.std.proofs.Common.{◌≡◌, ◌≢◌, ◌⊎◌, inl, inr, refl, ap, ◌∙◌, ℕ, zero, suc, ◌+◌, ◌<◌, List, [], ◌∷◌, ◌++◌, length, set, take, map, Some, slice_get, arith}
 use Rattle.st_deps.specs.Groups.{Reaches, itself, through}
-use Rattle.st_deps.specs.inner.Graph.{Edge, Stands}
+use Rattle.st_deps.specs.inner.Graph.{Edge}
 
 -- two numbers
 abbrev pub pair : ℕ → ℕ → ℕ × ℕ

@@ -1,12 +1,12 @@
 -- A definition is begun: the walk stays right.
-use Rattle.std.proofs.Common.{◌≡◌, ◌≢◌, ◌⊎◌, inl, inr, refl, sym, ap, ◌∙◌, subst, ℕ, zero, suc, ◌+◌, ◌<◌, ◌≤◌, List, [], ◌∷◌, ◌++◌, length, set, map, Some, slice_get, arith}
+use Rattle.std.proofs.Common.{◌≡◌, ◌≢◌, ◌⊎◌, inl, inr, sym, ap, ◌∙◌, subst, ℕ, suc, ◌+◌, ◌<◌, ◌≤◌, List, [], ◌∷◌, ◌++◌, length, set, map, Some, slice_get, arith}
 use Rattle.std.proofs.lemmas.List.{length-set, length_push}
 use Rattle.st_deps.specs.declared.walk.Place.{Place}
 use Rattle.st_deps.specs.declared.walk.Place.TheVariants.{New, Open, Closed}
 use Rattle.st_deps.specs.Groups.{Reaches, itself}
 use Rattle.st_deps.specs.inner.Graph.{Edge, Stands}
-use Rattle.st_deps.specs.inner.Walk.{IsPath, IsWaiting, AreClosed, IsWalk, IsFollowed, LeadsOn, Leads, cost}
-use Rattle.st_deps.proofs.Places.{pair, same_place, get-none, get-same, get-front, get-behind, get-last, get-append, get-push, get-within, set-other, set-here, set-same, map-at, map-get}
+use Rattle.st_deps.specs.inner.Walk.{IsPath, AreClosed, IsWalk, IsFollowed, LeadsOn, Leads, cost}
+use Rattle.st_deps.proofs.Places.{pair, same_place, get-same, get-front, get-behind, get-last, get-append, get-push, get-within, set-other, set-here, set-same, map-at, map-get}
 
 module _ (graph : List (List ℕ)) (places : List Place) (path bounds : List ℕ) (waiting : List (ℕ × ℕ)) (count node : ℕ) (row : List ℕ)
     (w : IsWalk graph places path bounds waiting count) (new : slice_get places node ≡ Some New) (there : slice_get graph node ≡ Some row) (leads : Leads graph path node) where

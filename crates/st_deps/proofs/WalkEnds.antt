@@ -1,11 +1,10 @@
 -- The walk begins and ends: the numbers of groups are read off it.
-use Rattle.std.proofs.Common.{◌≡◌, ◌⊎◌, inl, inr, refl, sym, ap, ◌∙◌, subst, ℕ, zero, suc, ◌<◌, ◌≤◌, List, [], ◌∷◌, length, map, replicate, Some, slice_get, arith}
+use Rattle.std.proofs.Common.{◌≡◌, refl, ap, ◌∙◌, ℕ, zero, suc, ◌≤◌, List, [], length, map, replicate, Some, slice_get, arith}
 use Rattle.std.proofs.lemmas.List.{length-map, length-replicate}
 use Rattle.st_deps.specs.declared.walk.Place.{Place}
 use Rattle.st_deps.specs.declared.walk.Place.TheVariants.{New, Open, Closed}
-use Rattle.st_deps.specs.Groups.{Reaches}
-use Rattle.st_deps.specs.inner.Graph.{Edge, Stands, IsNumbering}
-use Rattle.st_deps.specs.inner.Walk.{IsPath, IsWaiting, AreClosed, IsWalk, number_at}
+use Rattle.st_deps.specs.inner.Graph.{IsNumbering}
+use Rattle.st_deps.specs.inner.Walk.{IsWalk, number_at}
 use Rattle.st_deps.proofs.Places.{get-none, get-same, map-get}
 
 all-new : (n v : ℕ) (p : Place) → slice_get (replicate n New) v ≡ Some p → p ≡ New

@@ -1,5 +1,5 @@
 -- A citation is followed, groups are joined, and the last group is closed: the walk stays right.
-use Rattle.std.proofs.Common.{◌≡◌, ◌≢◌, ◌⊎◌, inl, inr, refl, sym, ap, ◌∙◌, subst, ℕ, zero, suc, ◌+◌, ◌<◌, ◌≤◌, List, [], ◌∷◌, ◌++◌, length, set, take, map, Option, Some, slice_get, ◌-◌, arith}
+use Rattle.std.proofs.Common.{◌≡◌, ◌≢◌, ◌⊎◌, inl, inr, sym, ap, ◌∙◌, subst, ℕ, zero, suc, ◌+◌, ◌<◌, ◌≤◌, List, [], ◌∷◌, ◌++◌, length, take, Option, Some, slice_get, ◌-◌, arith}
 use Rattle.std.proofs.lemmas.List.{append-nil, length-take-le}
 use Rattle.std.specs.Prelude.{unwrap_or}
 use Rattle.std.proofs.lemmas.Bool.{cases_lt}
@@ -7,8 +7,8 @@ use Rattle.st_deps.specs.declared.walk.Place.{Place}
 use Rattle.st_deps.specs.declared.walk.Place.TheVariants.{New, Open, Closed}
 use Rattle.st_deps.specs.Groups.{Reaches, itself}
 use Rattle.st_deps.specs.inner.Graph.{Edge, Stands}
-use Rattle.st_deps.specs.inner.Walk.{IsPath, IsWaiting, AreClosed, IsWalk, IsFollowed, LeadsOn, Leads, CutsTo, Closes, IsRising, start_of}
-use Rattle.st_deps.proofs.Places.{pair, same_place, get-none, get-same, get-front, get-last, get-append, get-push, get-taken, get-within, get-at, get-before, reaches-trans, edge-reaches}
+use Rattle.st_deps.specs.inner.Walk.{IsPath, IsWaiting, IsWalk, IsFollowed, LeadsOn, Leads, CutsTo, Closes, IsRising, start_of}
+use Rattle.st_deps.proofs.Places.{pair, get-none, get-same, get-front, get-last, get-append, get-push, get-taken, get-within, get-at, get-before, reaches-trans, edge-reaches}
 
 pub taken-get : {A : Type 0} (xs : List A) (n k : ℕ) (x : A) → k < n → slice_get xs k ≡ Some x → slice_get (take n xs) k ≡ Some x
 taken-get xs zero k x h e = absurd (omega arith)

@@ -1,5 +1,5 @@
 -- Groups of mutual citation, in the order in which they are listed.
-use Rattle.std.specs.Prelude.{◌≡◌, ◌↔◌, Bool, true, List, [], ◌∷◌, ◌++◌, filter, Contains}
+use Rattle.std.specs.Prelude.{◌≡◌, ◌↔◌, Bool, true, List, ◌∷◌, ◌++◌, filter, Contains}
 use Rattle.std.specs.List.{flat_map}
 
 -- The first leads to the second: it is the second, or cites it, directly or through others.

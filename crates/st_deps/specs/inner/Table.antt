@@ -1,5 +1,5 @@
 -- How the table of citations is read off the definitions.
-use Rattle.std.specs.Prelude.{◌≡◌, ◌↔◌, ℕ, List, [], ◌∷◌, ◌++◌, set, length, slice_get, slice_index_or, position, option_to_list, Option, Some, None}
+use Rattle.std.specs.Prelude.{◌≡◌, ℕ, List, [], ◌∷◌, ◌++◌, set, length, slice_get, slice_index_or, position, option_to_list, Option, Some, None}
 use Rattle.std.specs.List.{flat_map}
 use Rattle.st_num.specs.Names.{same_name}
 use Rattle.st_il.specs.declared.definition.IlDef.{IlDef}

@@ -1,5 +1,5 @@
 -- How far the walk along citations has come.
-use Rattle.std.specs.Prelude.{◌≡◌, ◌⊎◌, ◌≤◌, ◌<◌, ◌+◌, ◌-◌, ◌*◌, ℕ, zero, suc, List, [], ◌∷◌, ◌++◌, length, slice_get, Option, Some, None, unwrap_or}
+use Rattle.std.specs.Prelude.{◌≡◌, ◌⊎◌, ◌≤◌, ◌<◌, ◌+◌, ◌-◌, ◌*◌, ℕ, suc, List, [], ◌∷◌, ◌++◌, length, slice_get, Some, unwrap_or}
 use Rattle.st_deps.specs.declared.walk.Place.{Place}
 use Rattle.st_deps.specs.declared.walk.Place.TheVariants.{New, Open, Closed}
 use Rattle.st_deps.specs.Groups.{Reaches}

@@ -1,4 +1,4 @@
-use Rattle.std.proofs.Common.{◌≡◌, ap, sym, ◌∙◌, subst, List, ℕ}
+use Rattle.std.proofs.Common.{sym, subst}
 use Rattle.st_deps.specs.GroupNumbers.{AreGroupNumbers}
 use Rattle.st_deps.specs.Table.{IsTable}
 use Rattle.st_deps.specs.inner.Walk.{IsWithin}

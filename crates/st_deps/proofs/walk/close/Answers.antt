@@ -1,4 +1,4 @@
-use Rattle.std.proofs.Common.{◌≡◌, ℕ, ◌<◌, ◌≤◌, List, ap, refl, sym, ◌∙◌, subst, length, option_to_list, arith}
+use Rattle.std.proofs.Common.{◌≡◌, ℕ, List, ap, refl, sym, ◌∙◌, subst, length, option_to_list, arith}
 use Rattle.std.proofs.lemmas.List.{with_items_is, length-append, length_push}
 use Rattle.st_deps.specs.declared.walk.Place.{Place}
 use Rattle.st_deps.specs.inner.Walk.{Closes}

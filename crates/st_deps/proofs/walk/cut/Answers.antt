@@ -1,4 +1,4 @@
-use Rattle.std.proofs.Common.{◌≡◌, ◌<◌, ◌≤◌, ap, ◌∙◌, arith}
+use Rattle.std.proofs.Common.{◌≡◌, ap, ◌∙◌, arith}
 use Rattle.st_deps.specs.inner.Walk.{start_of}
 use Rattle.st_deps.proofs.Cuts.{cut-more, cut-end}
 use Rattle.st_deps.proofs.walk.cut.Goals as goal

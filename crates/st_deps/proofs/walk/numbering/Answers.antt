@@ -1,5 +1,4 @@
-use Rattle.std.proofs.Common.{◌≡◌, ℕ, List, [], ap, sym, ◌∙◌, subst, length, map, arith}
-use Rattle.st_deps.specs.declared.walk.Place.{Place}
+use Rattle.std.proofs.Common.{◌≡◌, ℕ, List, ap, sym, ◌∙◌, subst, length, map, arith}
 use Rattle.st_deps.specs.inner.Graph.{IsNumbering}
 use Rattle.st_deps.specs.inner.Walk.{IsWalk, number_at}
 use Rattle.st_deps.proofs.WalkEnds.{walk-numbers}

@@ -1,6 +1,5 @@
-use Rattle.std.proofs.Common.{◌≡◌, ℕ, ◌<◌, ◌≤◌, ◌-◌, List, [], ◌∷◌, ◌++◌, ap, refl, sym, ◌∙◌, subst, length, take, Option, Some, slice_get, arith}
+use Rattle.std.proofs.Common.{◌≡◌, ℕ, ◌-◌, List, ap, sym, ◌∙◌, subst, length, take, Some, slice_get, arith}
 use Rattle.st_deps.specs.declared.walk.Place.{Place}
-use Rattle.st_deps.specs.declared.walk.Place.TheVariants.{New, Open, Closed}
 use Rattle.st_deps.specs.inner.Walk.{start_of, IsWalk}
 use Rattle.st_deps.proofs.Places.{pair}
 use Rattle.st_deps.proofs.WalkSteps.{start-within, top-followed, top-within, top-leads, top-joins, top-passes}
