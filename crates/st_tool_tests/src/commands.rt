@@ -80,7 +80,18 @@ const COMMANDS: [Case; 35] = [
     ("frob", Status::Usage, "usage\n"),
     ("run T gone light", Status::Load, "load failed gone\n"),
     ("il light", Status::Done, LIGHT_IL),
-    ("il empty", Status::Unbuilt, "unbuilt\n"),
+    ("il empty", Status::Done, ""),
+    (
+        "il alias",
+        Status::Done,
+        "(syntax \"a\" (alias nat))\n(var \"x\" (n \"a\"))\n",
+    ),
+    (
+        "il light coin",
+        Status::Specification,
+        "refused coin:2:1 relation T B1\n",
+    ),
+    ("il red", Status::Specification, "refused red:1:1 - S1\n"),
     ("derive T red light", Status::Done, LIGHT_LINES),
     (
         "derive T amber light",

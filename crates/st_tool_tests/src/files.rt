@@ -26,7 +26,7 @@ pub(crate) const LIGHT_LINES: &str = "derivation 1 T\nfrom (c \"RED\")\n\
 const OTHER_VALUES: &str = "derivation 1 T\nfrom (c \"RED\")\n\
     node \"T\" \"a\" () () ((c \"RED\") (c \"AMBER\"))\nstep 3\nend stuck\n";
 
-const FILES: [(&str, &str); 19] = [
+const FILES: [(&str, &str); 20] = [
     ("red", "RED"),
     ("red_line", "RED\n"),
     ("amber", "AMBER"),
@@ -37,6 +37,7 @@ const FILES: [(&str, &str); 19] = [
     ("light", LIGHT),
     ("loop", LOOP),
     ("coin", COIN),
+    ("alias", "syntax a = nat\nvar x : a\n"),
     ("light.il", LIGHT_IL),
     ("lines", LIGHT_LINES),
     ("other_values", OTHER_VALUES),
