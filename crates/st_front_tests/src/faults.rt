@@ -51,7 +51,7 @@ fn brackets_are_counted(rt: HostRuntime) -> Result<(), Fail> {
     expect_repeated(&rt, rt.alloc(), Call::FirstFault, &BRACKETS)
 }
 
-const SIGNS: [(Repeated, &str); 13] = [
+const SIGNS: [(Repeated, &str); 16] = [
     (("rule T: x", " -> x", 33, "", ""), "68 S3"),
     (("rule T: |x -> x -> x|", " -> x", 31, "", ""), "70 S3"),
     (("rule T: (x -> x", ", x -> x", 32, ")", ""), "133 S3"),
@@ -60,6 +60,9 @@ const SIGNS: [(Repeated, &str); 13] = [
     (("rule T: x", "*", 33, "", ""), "36 S3"),
     (("rule T: x", "[y]", 33, "", ""), "100 S3"),
     (("rule T: x", ".A", 33, "", ""), "36 S3"),
+    (("rule T: A .B", ".B", 32, "", ""), "36 S3"),
+    (("var X : nat rule T: X", ".B", 33, "", ""), "40 S3"),
+    (("rule T: A.B", "*", 33, "", ""), "37 S3"),
     (("rule T: x", "^2", 33, "", ""), "68 S3"),
     (("rule T: ", "~ ", 33, "x", ""), "35 S3"),
     (("rule T: $(", "- ", 33, "1)", ""), "36 S3"),
@@ -87,11 +90,15 @@ fn parts_are_counted(rt: HostRuntime) -> Result<(), Fail> {
     expect_repeated(&rt, rt.alloc(), Call::FirstFault, &PARTS)
 }
 
-const LIMITS: [(Repeated, &str); 9] = [
+const LIMITS: [(Repeated, &str); 13] = [
     (("rule T: x", " -> x", 32, "", ""), ""),
     (("rule T: (x -> x -> x) -> x", " -> x", 31, "", ""), ""),
     (("rule T: x", "*", 32, " x* -- (if x)*", ""), ""),
     (("rule T: x", "[y]", 32, "", ""), ""),
+    (("rule T: A", ".B", 40, "", ""), ""),
+    (("rule T: A.B", "*", 32, "", ""), ""),
+    (("syntax a = A", ".B", 40, "", ""), ""),
+    (("var X : nat syntax a = X", ".B", 40, "", ""), ""),
     (("rule T: x", " -- if x", 255, "", ""), ""),
     (("rule T: ", "x ", 4_095, "", ""), ""),
     (("rule T: (x", ",x", 4_094, ")", ""), ""),

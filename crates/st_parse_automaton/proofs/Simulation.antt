@@ -328,7 +328,7 @@ round_is t x fs = ap (λ b. if b && (computes (parts.top (base fs) (frames_of fs
 pub behind_is : (t : Tree) (fs : part.Frames) (l : Terminal) → grammar.level t ≡ tight → parts.behind (base fs) (part_of t) (frames_of fs) (shape l) ≡ option_map state_of (part.behind t fs l)
 behind_is t fs (leaf k x) e = refl
 behind_is t fs (dot x) e =
-    same_if (parts.may_dot (parts.top (base fs) (frames_of fs)) (part_of t) x.touching) (grammar.may_post (part.sort fs) t (dot x)) (Next (parts.dotted (part_of t)), frames_of fs) (part.got (tree.post t (dot x)) fs) None None
+    same_if (parts.may_dot (parts.top (base fs) (frames_of fs)) (part_of t) x.touching) (grammar.may_post (part.sort fs) t (dot x)) (Next (parts.dotted (part_of t) x.touching), frames_of fs) (part.got (tree.post t (dot x)) fs) None None
     (ap (λ σ. parts.may_dot σ (part_of t) x.touching) (top_sort fs) ∙ may_dot_is (part.sort fs) t x) refl refl
 behind_is t fs (sign m x) e = sign_is t m x fs e
 behind_is t fs (opening bracket.Round x) e = round_is t x fs

@@ -13,7 +13,7 @@ use Rattle.st_grammar.specs.Grammar as grammar
 use Rattle.st_grammar.specs.Reading as part
 use Rattle.st_grammar.specs.Positions.{reads_type, reads_types}
 use Rattle.st_parse_automaton.specs.declared.part_automaton.Part.{Part}
-use Rattle.st_parse_automaton.specs.declared.part_automaton.Part.TheVariants.{Function, Atom, Typ, Whole}
+use Rattle.st_parse_automaton.specs.declared.part_automaton.Part.TheVariants.{Function, Atom, Names, Typ, Whole}
 use Rattle.st_parse_automaton.specs.declared.part_automaton.PartKind.{PartKind}
 use Rattle.st_parse_automaton.specs.declared.part_automaton.PartKind.TheVariants.{Plain, Length, Arguments, Index as InIndex, Segment, Update, Below}
 use Rattle.st_parse_automaton.specs.declared.part_automaton.Filling.{Filling}
@@ -28,7 +28,7 @@ use Rattle.st_grammar.proofs.Sound.{base}
 
 abbrev pub part_of : Tree → Part
 part_of (tree.operand k x) = parts.leaf_part k
-part_of (tree.post t (dot x)) = parts.dotted (part_of t)
+part_of (tree.post t (dot x)) = parts.dotted (part_of t) x.touching
 part_of (tree.post t (sign m x)) = parts.marked m (part_of t)
 part_of (tree.post t l) = Whole
 part_of (tree.times t m x c) = Whole
@@ -71,15 +71,18 @@ state_of (part.comparing o i fs) = (Less, frames_of fs)
 
 -- ---- parts
 
-pub dotted_function : (p : Part) → parts.is_function (parts.dotted p) ≡ false
-dotted_function Function = refl
-dotted_function Atom = refl
-dotted_function (Typ b) = refl
-dotted_function Whole = refl
+pub dotted_function : (p : Part) (b : Bool) → parts.is_function (parts.dotted p b) ≡ false
+dotted_function Function b = refl
+dotted_function Atom true = refl
+dotted_function Atom false = refl
+dotted_function Names b = refl
+dotted_function (Typ c) b = refl
+dotted_function Whole b = refl
 
 pub marked_function : (m : Mark) (p : Part) → parts.is_function (parts.marked m p) ≡ false
 marked_function m Function = refl
 marked_function m Atom = refl
+marked_function m Names = refl
 marked_function m (Typ b) = refl
 marked_function m Whole = refl
 
@@ -92,7 +95,7 @@ part_function (tree.operand leaves.Number x) = refl
 part_function (tree.operand leaves.Literal x) = refl
 part_function (tree.operand leaves.Function x) = refl
 part_function (tree.post t (leaf k x)) = refl
-part_function (tree.post t (dot x)) = dotted_function (part_of t)
+part_function (tree.post t (dot x)) = dotted_function (part_of t) x.touching
 part_function (tree.post t (sign m x)) = marked_function m (part_of t)
 part_function (tree.post t (opening k x)) = refl
 part_function (tree.post t (closing c x)) = refl
@@ -113,35 +116,43 @@ part_function (tree.bracket (tree.update p m x) ts c) = refl
 part_function (tree.bracket (tree.below o i m x) ts c) = refl
 part_function (tree.led g t) = refl
 
-pub dotted_atom : (p : Part) → parts.is_atom (parts.dotted p) ≡ parts.is_atom p
-dotted_atom Function = refl
-dotted_atom Atom = refl
-dotted_atom (Typ b) = refl
-dotted_atom Whole = refl
+pub dotted_atom : (p : Part) (b : Bool) → parts.is_atom (parts.dotted p b) ≡ parts.is_atom p
+dotted_atom Function b = refl
+dotted_atom Atom true = refl
+dotted_atom Atom false = refl
+dotted_atom Names b = refl
+dotted_atom (Typ c) b = refl
+dotted_atom Whole b = refl
 
 pub marked_atom : (m : Mark) (p : Part) → parts.is_atom (parts.marked m p) ≡ false
 marked_atom m Function = refl
 marked_atom m Atom = refl
+marked_atom m Names = refl
 marked_atom m (Typ b) = refl
 marked_atom m Whole = refl
 
-pub dotted_type : (p : Part) → parts.is_type (parts.dotted p) ≡ false
-dotted_type Function = refl
-dotted_type Atom = refl
-dotted_type (Typ b) = refl
-dotted_type Whole = refl
+pub dotted_type : (p : Part) (b : Bool) → parts.is_type (parts.dotted p b) ≡ false
+dotted_type Function b = refl
+dotted_type Atom true = refl
+dotted_type Atom false = refl
+dotted_type Names b = refl
+dotted_type (Typ c) b = refl
+dotted_type Whole b = refl
 
 pub marked_type : (m : Mark) (p : Part) → parts.is_type (parts.marked m p) ≡ parts.is_type p
 marked_type m Function = refl
 marked_type m Atom = refl
+marked_type m Names = refl
 marked_type m (Typ b) = refl
 marked_type m Whole = refl
 
-pub dotted_reads : (p : Part) → parts.reads_type (parts.dotted p) ≡ false
-dotted_reads Function = refl
-dotted_reads Atom = refl
-dotted_reads (Typ b) = refl
-dotted_reads Whole = refl
+pub dotted_reads : (p : Part) (b : Bool) → parts.reads_type (parts.dotted p b) ≡ false
+dotted_reads Function b = refl
+dotted_reads Atom true = refl
+dotted_reads Atom false = refl
+dotted_reads Names b = refl
+dotted_reads (Typ c) b = refl
+dotted_reads Whole b = refl
 
 pub and_no : (b : Bool) → b && false ≡ false
 and_no true = refl
@@ -150,6 +161,7 @@ and_no false = refl
 pub marked_reads : (m : Mark) (p : Part) → parts.reads_type (parts.marked m p) ≡ (is_type_iteration_sign m && parts.reads_type p)
 marked_reads m Function = sym (and_no (is_type_iteration_sign m))
 marked_reads m Atom = sym (and_no (is_type_iteration_sign m))
+marked_reads m Names = sym (and_no (is_type_iteration_sign m))
 marked_reads m (Typ b) = refl
 marked_reads m Whole = sym (and_no (is_type_iteration_sign m))
 
@@ -162,7 +174,7 @@ part_atom (tree.operand leaves.Number x) = refl
 part_atom (tree.operand leaves.Literal x) = refl
 part_atom (tree.operand leaves.Function x) = refl
 part_atom (tree.post t (leaf k x)) = refl
-part_atom (tree.post t (dot x)) = dotted_atom (part_of t) ∙ part_atom t
+part_atom (tree.post t (dot x)) = dotted_atom (part_of t) x.touching ∙ part_atom t
 part_atom (tree.post t (sign m x)) = marked_atom m (part_of t)
 part_atom (tree.post t (opening k x)) = refl
 part_atom (tree.post t (closing c x)) = refl
@@ -192,7 +204,7 @@ part_type (tree.operand leaves.Number x) = refl
 part_type (tree.operand leaves.Literal x) = refl
 part_type (tree.operand leaves.Function x) = refl
 part_type (tree.post t (leaf k x)) = refl
-part_type (tree.post t (dot x)) = dotted_type (part_of t)
+part_type (tree.post t (dot x)) = dotted_type (part_of t) x.touching
 part_type (tree.post t (sign m x)) = marked_type m (part_of t) ∙ part_type t
 part_type (tree.post t (opening k x)) = refl
 part_type (tree.post t (closing c x)) = refl
@@ -222,7 +234,7 @@ part_reads (tree.operand leaves.Number x) = refl
 part_reads (tree.operand leaves.Literal x) = refl
 part_reads (tree.operand leaves.Function x) = refl
 part_reads (tree.post t (leaf k x)) = refl
-part_reads (tree.post t (dot x)) = dotted_reads (part_of t)
+part_reads (tree.post t (dot x)) = dotted_reads (part_of t) x.touching
 part_reads (tree.post t (sign m x)) = marked_reads m (part_of t) ∙ ap (λ b. is_type_iteration_sign m && b) (part_reads t)
 part_reads (tree.post t (opening k x)) = refl
 part_reads (tree.post t (closing c x)) = refl

@@ -193,7 +193,8 @@ pub(crate) fn leaf_part(leaf: Leaf) -> Part
 {
     match leaf {
         Leaf::Low | Leaf::Basic => Part::Typ(true),
-        Leaf::Variable | Leaf::Atom => Part::Atom,
+        Leaf::Variable => Part::Names,
+        Leaf::Atom => Part::Atom,
         Leaf::Number | Leaf::Literal => Part::Whole,
         Leaf::Function => Part::Function,
     }
@@ -216,11 +217,11 @@ pub(crate) fn is_function(part: Part) -> bool
     matches!(part, Part::Function)
 }
 
-/// Whether it is an atom, which goes on behind dots.
+/// Whether it is an atom in a notation, which goes on behind dots.
 fn is_atom(part: Part) -> bool
     ensures { result ≡ parts.is_atom part }
 {
-    matches!(part, Part::Atom)
+    matches!(part, Part::Atom | Part::Names)
 }
 
 /// Whether it is a name or parentheses, perhaps iterated.
@@ -236,16 +237,17 @@ pub(crate) fn reads_type(part: Part) -> bool
 {
     match part {
         Part::Typ(types) => types,
-        Part::Function | Part::Atom | Part::Whole => false,
+        Part::Function | Part::Atom | Part::Names | Part::Whole => false,
     }
 }
 
-/// The part with a dot behind it.
-pub(crate) fn dotted(part: Part) -> Part
-    ensures { result ≡ parts.dotted part }
+/// The part with a dot behind it, which touches it or not.
+pub(crate) fn dotted(part: Part, touching: bool) -> Part
+    ensures { result ≡ parts.dotted part touching }
 {
     match part {
-        Part::Atom => Part::Atom,
+        Part::Atom if touching => Part::Atom,
+        Part::Atom | Part::Names => Part::Names,
         Part::Function | Part::Typ(_) | Part::Whole => Part::Whole,
     }
 }
@@ -256,7 +258,7 @@ pub(crate) fn marked(mark: Mark, part: Part) -> Part
 {
     match part {
         Part::Typ(types) => Part::Typ(is_type_iteration_sign(mark) && types),
-        Part::Function | Part::Atom | Part::Whole => Part::Whole,
+        Part::Function | Part::Atom | Part::Names | Part::Whole => Part::Whole,
     }
 }
 

@@ -14,12 +14,15 @@ pub enum Shape {
     Other,
 }
 
-/// What later tokens ask of a part: a function takes arguments, an atom goes on behind dots, and a
-/// type is iterated and may be a parameter.
+/// What later tokens ask of a part: a function takes arguments, an atom goes on behind dots that
+/// touch it, and a type is iterated and may be a parameter.
 #[derive(Clone, Copy, Debug, PartialEq, Eq)]
 pub enum Part {
     Function,
     Atom,
+    /// Names that are an atom in a notation alone: the first is declared by `var`, or a dot between
+    /// them does not touch.
+    Names,
     /// A name or parentheses, and whether all of it reads as a type.
     Typ(bool),
     Whole,

@@ -126,7 +126,7 @@ fn behind(
                 return Ok(None);
             }
             Ok(Some(Reading {
-                expected: Expected::Next(dotted(part)),
+                expected: Expected::Next(dotted(part, touching)),
                 frames,
             }))
         }

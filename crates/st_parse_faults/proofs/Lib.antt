@@ -1,5 +1,6 @@
 pub mod KeptTallies
 pub mod Tallies
+pub mod InName
 pub mod TallyMoves
 pub mod PositionTallies
 pub mod SeenView

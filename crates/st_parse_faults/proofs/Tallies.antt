@@ -49,7 +49,7 @@ held n s r (timing t m x fs) c = absurd c
 
 -- ---- a part that is read
 
-pub settled : (n : ℕ) (t : Tree) (fs : Frames) → Stand fs → part_tallies n (settle t fs) ≡ held_tally n (signs t) (posts t) fs ∷ tallies_round n fs
+pub settled : (n : ℕ) (t : Tree) (fs : Frames) → Stand fs → part_tallies n (settle t fs) ≡ held_tally n (signs t) (posts (sort fs) t) fs ∷ tallies_round n fs
 settled n t (bottom σ) s = refl
 settled n t (within h ts pre fs) s = refl
 settled n t (over g fs) s = refl
@@ -84,14 +84,14 @@ abbrev pub RowReady : Terminal → Tally → Frames → Type 0
 RowReady (sign m x) y fs = y.row ≡ aheads fs
 RowReady l y fs = Unit {0}
 
-pub leaf_begins : (n : ℕ) (y : Tally) (fs : Frames) (t : Tree) (l : Terminal) → NoCount fs → Ready n y fs → signs t ≡ 0 → posts t ≡ 0
+pub leaf_begins : (n : ℕ) (y : Tally) (fs : Frames) (t : Tree) (l : Terminal) → NoCount fs → Ready n y fs → signs t ≡ 0 → posts (sort fs) t ≡ 0
     → part_tallies n (settle t fs) ≡ counted y role.Operand ∷ tallies_round n fs
-leaf_begins n y (bottom σ) t l c r e f = ap (λ v. v ∷ []) (ap (λ v. tally 1 1 (v + n) (posts t) false) e ∙ ap (λ v. tally 1 1 (0 + n) v false) f ∙ sym (operand_is n y (bottom σ) c r))
+leaf_begins n y (bottom σ) t l c r e f = ap (λ v. v ∷ []) (ap (λ v. tally 1 1 (v + n) (posts σ t) false) e ∙ ap (λ v. tally 1 1 (0 + n) v false) f ∙ sym (operand_is n y (bottom σ) c r))
 leaf_begins n y (within h ts pre fs) t l c r e f =
-    ap (λ v. held_tally n v (posts t) (within h ts pre fs) ∷ tallies_round n (within h ts pre fs)) e ∙ ap (λ v. held_tally n 0 v (within h ts pre fs) ∷ tallies_round n (within h ts pre fs)) f
+    ap (λ v. held_tally n v (posts (sort (within h ts pre fs)) t) (within h ts pre fs) ∷ tallies_round n (within h ts pre fs)) e ∙ ap (λ v. held_tally n 0 v (within h ts pre fs) ∷ tallies_round n (within h ts pre fs)) f
     ∙ ap (λ v. v ∷ tallies_round n (within h ts pre fs)) (sym (operand_is n y (within h ts pre fs) c r))
 leaf_begins n y (over g fs) t l c r e f =
-    ap (λ v. held_tally n v (posts t) (over g fs) ∷ tallies_round n (over g fs)) e ∙ ap (λ v. held_tally n 0 v (over g fs) ∷ tallies_round n (over g fs)) f
+    ap (λ v. held_tally n v (posts (sort (over g fs)) t) (over g fs) ∷ tallies_round n (over g fs)) e ∙ ap (λ v. held_tally n 0 v (over g fs) ∷ tallies_round n (over g fs)) f
     ∙ ap (λ v. v ∷ tallies_round n (over g fs)) (sym (operand_is n y (over g fs) c r))
 leaf_begins n y (timing u m x fs) t l c r e f = absurd c
 

@@ -25,8 +25,10 @@ use Rattle.st_parse_faults.specs.declared.role.Attachment.{Attachment}
 use Rattle.st_parse_faults.specs.declared.role.Attachment.TheVariants as attachment
 use Rattle.st_parse_faults.specs.declared.role.TokenRole.TheVariants as role
 use Rattle.st_parse_faults.specs.declared.tally.Tally.{Tally}
-use Rattle.st_parse_faults.specs.Limits.{posts, signs, all_signs, signs_in, parts_in, elements_in, elements_with, aheads, ends_with_label, with_one, tally, fresh, due_tally, held_tally, tallies_round, part_tallies}
-use Rattle.st_parse_faults.specs.inner.Roles.{part_attachment, counted}
+use Rattle.st_parse_faults.specs.Limits.{goes_on, is_in_name, unless, posts, signs, all_signs, signs_in, parts_in, elements_in, elements_with, aheads, ends_with_label, with_one, tally, fresh, due_tally, held_tally, tallies_round, part_tallies}
+use Rattle.st_parse_faults.specs.inner.Roles as roles
+use Rattle.st_parse_faults.specs.inner.Roles.{behind_attachment, part_attachment, counted, moved}
+use Rattle.st_parse_faults.proofs.InName.{in_name_is}
 use Rattle.st_parse_faults.proofs.Tallies.{To, on_if, on_both, same_tally, NoCount, held, settled, settled_open, RowReady, begins}
 
 -- ---- counts
@@ -82,7 +84,7 @@ lowered_stands m t (over g fs) s = go (nat_le (reach g) m) (lowered_stands m (le
 
 -- the tally of a part that is read there
 abbrev pub got_tally : ℕ → Tree → Frames → Tally
-got_tally n t fs = tally (parts_in fs + 1) (elements_with fs) (signs t + signs_in n fs) (posts t) false
+got_tally n t fs = tally (parts_in fs + 1) (elements_with fs) (signs t + signs_in n fs) (posts (sort fs) t) false
 
 pub bars_close : (n : ℕ) (y : Tally) (o : Token) (ts : Trees) (pre : List Terminal) (t : Tree) (x : Token) (fs : Frames) → Stand (within (length o) ts pre fs)
     → y.signs ≡ signs t + (all_signs ts + signs_in n fs)
@@ -217,7 +219,7 @@ joins n y m x p d e f =
 pub signs_behind : (n : ℕ) (t : Tree) (m : Mark) (x : Token) (fs : Frames) → NoCount fs → To n attachment.Behind (sign m x) (got_tally n t fs ∷ tallies_round n fs) (behind_sign m x t fs)
 signs_behind n t m x fs c =
     on_if n attachment.Behind (sign m x) ys (may_post (sort fs) t (sign m x)) (got (post t (sign m x)) fs) _
-    (λ a. (ap (λ v. v ∷ tallies_round n fs) (held n (signs t) (posts t + 1) fs c), refl))
+    (λ a. (ap (λ v. v ∷ tallies_round n fs) (held n (signs t) (posts (sort fs) t + 1) fs c), refl))
     (λ a. on_if n attachment.Behind (sign m x) ys (is_expression (sort fs) && is_caret m) (want (timing t m x fs)) (join m x (lower (pull (sort fs) m) t fs)) (λ b. (refl, refl)) (λ b. low))
   where
     ys : List Tally
@@ -245,8 +247,8 @@ square_behind n t x fs c =
     ys : List Tally
     ys = got_tally n t fs ∷ tallies_round n fs
 
-    opens : fresh 0 ∷ held_tally n (signs t) (posts t + 1) fs ∷ tallies_round n fs ≡ fresh 0 ∷ tally (parts_in fs + 1) (elements_with fs) (signs t + signs_in n fs) (posts t + 1) false ∷ tallies_round n fs
-    opens = ap (λ v. fresh 0 ∷ v ∷ tallies_round n fs) (held n (signs t) (posts t + 1) fs c)
+    opens : fresh 0 ∷ held_tally n (signs t) (posts (sort fs) t + 1) fs ∷ tallies_round n fs ≡ fresh 0 ∷ tally (parts_in fs + 1) (elements_with fs) (signs t + signs_in n fs) (posts (sort fs) t + 1) false ∷ tallies_round n fs
+    opens = ap (λ v. fresh 0 ∷ v ∷ tallies_round n fs) (held n (signs t) (posts (sort fs) t + 1) fs c)
 
 pub round_behind : (n : ℕ) (t : Tree) (x : Token) (fs : Frames) → NoCount fs → To n attachment.Behind (opening bracket_of.Round x) (got_tally n t fs ∷ tallies_round n fs) (behind_round x t fs)
 round_behind n (operand leaves.Function f) x fs c =
@@ -263,11 +265,18 @@ round_behind n (times t m z u) x fs c = tt
 round_behind n (bracket h ts z) x fs c = tt
 round_behind n (led g t) x fs c = tt
 
-pub is_behind : (n : ℕ) (t : Tree) (fs : Frames) (l : Terminal) → NoCount fs → Stand fs → To n attachment.Behind l (got_tally n t fs ∷ tallies_round n fs) (behind t fs l)
+-- a dot behind a part, which goes on with the name of an atom or not
+pub dot_moves : (n : ℕ) (t : Tree) (x : Token) (fs : Frames) (b : Bool) → NoCount fs
+    → held_tally n (signs t) (unless b (posts (sort fs) t)) fs ∷ tallies_round n fs
+    ≡ moved (behind_attachment b) (shape (dot x)) (state_of (got (post t (dot x)) fs)) (got_tally n t fs ∷ tallies_round n fs)
+dot_moves n t x fs true c = ap (λ v. v ∷ tallies_round n fs) (held n (signs t) (posts (sort fs) t) fs c)
+dot_moves n t x fs false c = ap (λ v. v ∷ tallies_round n fs) (held n (signs t) (posts (sort fs) t + 1) fs c)
+
+pub is_behind : (n : ℕ) (t : Tree) (fs : Frames) (l : Terminal) → NoCount fs → Stand fs → To n (behind_attachment (is_in_name (sort fs) t l)) l (got_tally n t fs ∷ tallies_round n fs) (behind t fs l)
 is_behind n t fs (leaf k x) c s = tt
 is_behind n t fs (dot x) c s =
-    on_if n attachment.Behind (dot x) (got_tally n t fs ∷ tallies_round n fs) (may_post (sort fs) t (dot x)) (got (post t (dot x)) fs) None
-    (λ a. (ap (λ v. v ∷ tallies_round n fs) (held n (signs t) (posts t + 1) fs c), refl)) (λ a. tt)
+    on_if n (behind_attachment (goes_on (sort fs) t x)) (dot x) (got_tally n t fs ∷ tallies_round n fs) (may_post (sort fs) t (dot x)) (got (post t (dot x)) fs) None
+    (λ a. (dot_moves n t x fs (goes_on (sort fs) t x) c, refl)) (λ a. tt)
 is_behind n t fs (sign m x) c s = signs_behind n t m x fs c
 is_behind n t fs (opening bracket_of.Round x) c s = round_behind n t x fs c
 is_behind n t fs (opening bracket_of.Square x) c s = square_behind n t x fs c
@@ -302,18 +311,21 @@ next_begins n t (over (items ts) fs) l c e =
     begins n (got_tally n t (over (items ts) fs)) (over (items (more ts [] t)) fs) l tt tt (record { part = refl; element = omega arith; sign = omega arith }) (no_sign t _ (over (items ts) fs) _ l e)
 next_begins n t (timing u m x fs) l c e = absurd c
 
-abbrev pub begins_or : Bool → Attachment
-begins_or b = if b then attachment.Begins else attachment.Behind
+abbrev pub begins_or : Bool → Bool → Attachment
+begins_or b c = if b then attachment.Begins else behind_attachment c
 
-pub got_attachment : (t : Tree) (fs : Frames) (l : Terminal) → part_attachment (base fs) (state_of (got t fs)) (shape l) ≡ begins_or (follows (sort fs) t l)
-got_attachment t fs l = ap (λ σ. begins_or (parts.follows σ (part_of t) (shape l))) (top_sort fs) ∙ ap begins_or (follows_is (sort fs) t l)
+pub got_attachment : (t : Tree) (fs : Frames) (l : Terminal) → part_attachment (base fs) (state_of (got t fs)) (shape l) ≡ begins_or (follows (sort fs) t l) (is_in_name (sort fs) t l)
+got_attachment t fs l =
+    ap (λ σ. begins_or (parts.follows σ (part_of t) (shape l)) (roles.is_in_name σ (part_of t) (shape l))) (top_sort fs)
+    ∙ ap (λ b. begins_or b (roles.is_in_name (sort fs) (part_of t) (shape l))) (follows_is (sort fs) t l)
+    ∙ ap (begins_or (follows (sort fs) t l)) (in_name_is (sort fs) t l)
 
 pub got_moves : (n : ℕ) (t : Tree) (fs : Frames) (l : Terminal) → NoCount fs → Stand fs → To n (part_attachment (base fs) (state_of (got t fs)) (shape l)) l (part_tallies n (got t fs)) (after t fs l)
 got_moves n t fs l c s =
     subst (λ k. To n k l (part_tallies n (got t fs)) (after t fs l)) (sym (got_attachment t fs l))
-    (subst (λ v. To n (begins_or (follows (sort fs) t l)) l (v ∷ tallies_round n fs) (after t fs l)) (sym (held n (signs t) (posts t) fs c)) (go (follows (sort fs) t l) refl))
+    (subst (λ v. To n (begins_or (follows (sort fs) t l) (is_in_name (sort fs) t l)) l (v ∷ tallies_round n fs) (after t fs l)) (sym (held n (signs t) (posts (sort fs) t) fs c)) (go (follows (sort fs) t l) refl))
   where
-    go : (b : Bool) → follows (sort fs) t l ≡ b → To n (begins_or b) l (got_tally n t fs ∷ tallies_round n fs) (if b then begin (extend t fs) l else behind t fs l)
+    go : (b : Bool) → follows (sort fs) t l ≡ b → To n (begins_or b (is_in_name (sort fs) t l)) l (got_tally n t fs ∷ tallies_round n fs) (if b then begin (extend t fs) l else behind t fs l)
     go true e = next_begins n t fs l c e
     go false e = is_behind n t fs l c s
 

@@ -1,44 +1,69 @@
 -- What is counted in a part: between the same brackets, in a sequence, and on one operand.
-use Rattle.std.specs.Prelude.{ℕ, ◌+◌, List, [], ◌∷◌, Bool, true, false, not, ◌||◌, nat_lt, if◌then◌else◌}
+use Rattle.std.specs.Prelude.{ℕ, ◌+◌, List, [], ◌∷◌, Bool, true, false, not, ◌&&◌, ◌||◌, nat_lt, if◌then◌else◌}
 use Rattle.std.specs.List.{list_any}
 use Rattle.st_num.specs.declared.mark.Mark.{Mark}
 use Rattle.st_num.specs.declared.mark.Mark.TheVariants as mark
 use Rattle.st_num.specs.declared.limit.TheConstants.{MOST_PARTS, MOST_SIGNS}
-use Rattle.st_grammar.specs.Terminals.{Terminal}
+use Rattle.st_scan.specs.declared.token.Token.{Token}
+use Rattle.st_grammar.specs.declared.sort.Leaf.TheVariants.{Atom as atom}
+use Rattle.st_grammar.specs.declared.sort.Sort.{Sort}
+use Rattle.st_grammar.specs.declared.sort.Sort.TheVariants.{Notation as notation}
+use Rattle.st_grammar.specs.Terminals.{Terminal, dot}
 use Rattle.st_grammar.specs.Trees.{Tree, operand, post, times, bracket, led, Lead, left, ahead, items, Trees, none, more, Heading, plain, length, arguments, index, segment, update, below, Path, head, field, part}
 use Rattle.st_grammar.specs.Grammar.{is_label, size}
-use Rattle.st_grammar.specs.Reading.{Frames, bottom, within, over, timing, want, got, naming, pathed, indexing, comparing}
+use Rattle.st_grammar.specs.Reading.{Frames, bottom, within, over, timing, want, got, naming, pathed, indexing, comparing, sort}
 use Rattle.st_grammar.specs.Reading as reading
 use Rattle.st_grammar.specs.Positions.{State, Slot, Position, at, inside, arg_slot, argued, entering}
 use Rattle.st_parse_faults.specs.declared.tally.Tally.{Tally}
 
 -- ---- signs of trees
 
--- the postfix signs in a row behind an operand
+-- outside notations the tree is an atom, of one name or of several with dots that touch
+abbrev pub is_atom : Tree → Bool
+is_atom (operand atom x) = true
+is_atom (post t (dot x)) = is_atom t && x.touching
+is_atom t = false
+
+-- A dot goes on with the name of an atom, and is no postfix sign: in a notation it always does.
+abbrev pub goes_on : Sort → Tree → Token → Bool
+goes_on notation t x = true
+goes_on σ t x = is_atom t && x.touching
+
+-- what stands directly behind a tree is no postfix sign
+abbrev pub is_in_name : Sort → Tree → Terminal → Bool
+is_in_name σ t (dot x) = goes_on σ t x
+is_in_name σ t l = false
+
+-- one more, where this does not hold
+abbrev pub unless : Bool → ℕ → ℕ
+unless true n = n
+unless false n = n + 1
+
+-- the postfix signs in a row behind an operand, in a sort of part
 abbrev mutual
   -- the postfix signs that a tree ends with, in a row; a path counts as one
-  pub posts : Tree → ℕ
-  posts (operand k x) = 0
-  posts (post t l) = posts t + 1
-  posts (times t m x c) = posts t + 1
-  posts (bracket h ts c) = heading_posts h
-  posts (led g t) = 0
+  pub posts : Sort → Tree → ℕ
+  posts σ (operand k x) = 0
+  posts σ (post t l) = unless (is_in_name σ t l) (posts σ t)
+  posts σ (times t m x c) = posts σ t + 1
+  posts σ (bracket h ts c) = heading_posts σ h
+  posts σ (led g t) = 0
 
   -- the postfix signs in a row that a bracket ends; none where it begins an operand itself
-  pub heading_posts : Heading → ℕ
-  heading_posts (plain k o) = 0
-  heading_posts (length o) = 0
-  heading_posts (arguments f o) = 0
-  heading_posts (index t o) = posts t + 1
-  heading_posts (segment p o) = path_posts p
-  heading_posts (update p m x) = path_posts p
-  heading_posts (below o i m x) = 0
+  pub heading_posts : Sort → Heading → ℕ
+  heading_posts σ (plain k o) = 0
+  heading_posts σ (length o) = 0
+  heading_posts σ (arguments f o) = 0
+  heading_posts σ (index t o) = posts σ t + 1
+  heading_posts σ (segment p o) = path_posts σ p
+  heading_posts σ (update p m x) = path_posts σ p
+  heading_posts σ (below o i m x) = 0
 
   -- the postfix signs in a row that a path ends, which counts as one
-  pub path_posts : Path → ℕ
-  path_posts (head t o) = posts t + 1
-  path_posts (field p x) = path_posts p
-  path_posts (part p o ts c) = path_posts p
+  pub path_posts : Sort → Path → ℕ
+  path_posts σ (head t o) = posts σ t + 1
+  path_posts σ (field p x) = path_posts σ p
+  path_posts σ (part p o ts c) = path_posts σ p
 
 -- the sign is `|-`, which stands between two sides also where the left one is absent
 abbrev pub is_turnstile : Mark → Bool
@@ -156,7 +181,8 @@ due_tally n (over g fs) =
     tally (parts_in fs + 1) (elements_in (over g fs)) (signs_in n (over g fs))
     (aheads (over g fs)) false
 due_tally n (timing t m x fs) =
-    tally (parts_in fs + 1) (elements_with fs) (signs_in n (timing t m x fs)) (posts t + 1) false
+    tally (parts_in fs + 1) (elements_with fs) (signs_in n (timing t m x fs))
+    (posts (sort fs) t + 1) false
 
 -- the tally where an operand stands with so many signs and postfix signs; a count behind `^` is
 -- none
@@ -168,21 +194,21 @@ held_tally n s r fs = tally (parts_in fs + 1) (elements_with fs) (s + signs_in n
 abbrev pub tallies_round : ℕ → Frames → List Tally
 tallies_round n (bottom σ) = []
 tallies_round n (within (segment p o) ts pre fs) =
-    fresh 0 ∷ held_tally n (path_signs p) (path_posts p) fs ∷ tallies_round n fs
+    fresh 0 ∷ held_tally n (path_signs p) (path_posts (sort fs) p) fs ∷ tallies_round n fs
 tallies_round n (within h ts pre fs) =
-    held_tally n (heading_signs h) (heading_posts h) fs ∷ tallies_round n fs
+    held_tally n (heading_signs h) (heading_posts (sort fs) h) fs ∷ tallies_round n fs
 tallies_round n (over g fs) = tallies_round n fs
 tallies_round n (timing t m x fs) = tallies_round n fs
 
 -- the tallies between the brackets that are open in a part, the innermost first
 abbrev pub part_tallies : ℕ → reading.State → List Tally
 part_tallies n (want fs) = due_tally n fs ∷ tallies_round n fs
-part_tallies n (got t fs) = held_tally n (signs t) (posts t) fs ∷ tallies_round n fs
+part_tallies n (got t fs) = held_tally n (signs t) (posts (sort fs) t) fs ∷ tallies_round n fs
 part_tallies n (naming h ts pre fs) =
     tally (size ts) 0 (signs_in n (within h ts pre fs)) 0 true
     ∷ tallies_round n (within h ts pre fs)
 part_tallies n (pathed p fs) =
-    fresh 0 ∷ held_tally n (path_signs p) (path_posts p) fs ∷ tallies_round n fs
+    fresh 0 ∷ held_tally n (path_signs p) (path_posts (sort fs) p) fs ∷ tallies_round n fs
 part_tallies n (indexing o fs) = fresh 0 ∷ held_tally n 0 0 fs ∷ tallies_round n fs
 part_tallies n (comparing o i fs) = fresh 0 ∷ held_tally n 0 0 fs ∷ tallies_round n fs
 

@@ -7,7 +7,7 @@ ghost use Rattle.st_parse_automaton.specs.inner.Readings.{progress_of, reading_o
 use st_grammar::{Bracket, Closing, Sort};
 use st_num::{Mark, Row};
 use st_parse_automaton::{
-    Expected, Frame, Lead, Progress, Reading, Shape, follows, slot_sort, top,
+    Expected, Frame, Lead, Part, Progress, Reading, Shape, follows, slot_sort, top,
 };
 
 /// How a token stands in a part.
@@ -19,7 +19,7 @@ pub enum Attachment {
     Behind,
     /// It is the name of a field.
     Names,
-    /// It belongs to a path, or to a count behind `^`.
+    /// It belongs to the name of an atom, to a path, or to a count behind `^`.
     Other,
 }
 
@@ -85,6 +85,50 @@ fn head_attachment(shape: Shape) -> Attachment
     }
 }
 
+/// Whether the part is an atom outside notations.
+fn is_atom(part: Part) -> bool
+    ensures { result ≡ roles.is_atom part }
+{
+    matches!(part, Part::Atom)
+}
+
+/// Whether a dot behind a part, which it touches or not, goes on with the name of an atom.
+fn dot_goes_on(sort: Sort, part: Part, touching: bool) -> bool
+    ensures { result ≡ roles.dot_goes_on sort part touching }
+{
+    match sort {
+        Sort::Notation => true,
+        Sort::Expression(_) | Sort::Arithmetic | Sort::Typ | Sort::Count | Sort::Bound => {
+            is_atom(part) && touching
+        }
+    }
+}
+
+/// Whether a token behind a part goes on with the name of an atom.
+fn is_in_name(sort: Sort, part: Part, shape: Shape) -> bool
+    ensures { result ≡ roles.is_in_name sort part shape }
+{
+    match shape {
+        Shape::Dot(touching) => dot_goes_on(sort, part, touching),
+        Shape::Open(_, _) | Shape::Single(_) | Shape::Sign(_) | Shape::Close(_) | Shape::Other => {
+            false
+        }
+    }
+}
+
+/// How a token stands behind a part.
+fn next_attachment(sort: Sort, part: Part, shape: Shape) -> Attachment
+    ensures { result ≡ roles.next_attachment sort part shape }
+{
+    if follows(sort, part, shape) {
+        Attachment::Begins
+    } else if is_in_name(sort, part, shape) {
+        Attachment::Other
+    } else {
+        Attachment::Behind
+    }
+}
+
 /// How a token stands in a part, where this much of it is read.
 fn part_attachment(base: Sort, reading: &Reading, shape: Shape) -> Attachment
     ensures { result ≡ roles.part_attachment base (reading_of reading.now) shape }
@@ -97,13 +141,7 @@ fn part_attachment(base: Sort, reading: &Reading, shape: Shape) -> Attachment
                 Attachment::Begins
             }
         }
-        Expected::Next(part) => {
-            if follows(top(base, &reading.frames), part, shape) {
-                Attachment::Begins
-            } else {
-                Attachment::Behind
-            }
-        }
+        Expected::Next(part) => next_attachment(top(base, &reading.frames), part, shape),
         Expected::Label => Attachment::Names,
         Expected::Step(false) => head_attachment(shape),
         Expected::Step(true) | Expected::Index | Expected::Less => Attachment::Other,

@@ -19,7 +19,7 @@ use Rattle.st_grammar.specs.Grammar.{bracket_style, index_style, opens_length}
 use Rattle.st_parse_automaton.specs.declared.part_automaton.Shape.{Shape}
 use Rattle.st_parse_automaton.specs.declared.part_automaton.Shape.TheVariants.{Single, Dot, Sign, Open, Close, Other}
 use Rattle.st_parse_automaton.specs.declared.part_automaton.Part.{Part}
-use Rattle.st_parse_automaton.specs.declared.part_automaton.Part.TheVariants.{Function, Atom, Typ, Whole}
+use Rattle.st_parse_automaton.specs.declared.part_automaton.Part.TheVariants.{Function, Atom, Names, Typ, Whole}
 use Rattle.st_parse_automaton.specs.declared.part_automaton.PartKind.{PartKind}
 use Rattle.st_parse_automaton.specs.declared.part_automaton.PartKind.TheVariants.{Plain, Length, Arguments, Index as InIndex, Segment, Update, Below}
 use Rattle.st_parse_automaton.specs.declared.part_automaton.Filling.{Filling}
@@ -120,9 +120,10 @@ abbrev pub is_function : Part → Bool
 is_function Function = true
 is_function p = false
 
--- the part is an atom, which goes on behind dots
+-- in a notation the part is an atom, which goes on behind dots
 abbrev pub is_atom : Part → Bool
 is_atom Atom = true
+is_atom Names = true
 is_atom p = false
 
 -- the part is a name or parentheses, perhaps iterated
@@ -139,7 +140,7 @@ reads_type p = false
 abbrev pub leaf_part : Leaf → Part
 leaf_part leaf.Low = Typ true
 leaf_part leaf.Basic = Typ true
-leaf_part leaf.Variable = Atom
+leaf_part leaf.Variable = Names
 leaf_part leaf.Atom = Atom
 leaf_part leaf.Number = Whole
 leaf_part leaf.Literal = Whole
@@ -150,10 +151,12 @@ abbrev pub kind_part : PartKind → Bool → Part
 kind_part (Plain bracket.Round) t = Typ t
 kind_part k t = Whole
 
--- the part with a dot behind it
-abbrev pub dotted : Part → Part
-dotted Atom = Atom
-dotted p = Whole
+-- the part with a dot behind it, which touches it or not
+abbrev pub dotted : Part → Bool → Part
+dotted Atom true = Atom
+dotted Atom false = Names
+dotted Names t = Names
+dotted p t = Whole
 
 -- the part with an iteration sign behind it
 abbrev pub marked : Mark → Part → Part
@@ -347,7 +350,7 @@ behind_opening base b t p fs = None
 -- what a token makes behind a part, where it begins no next element of a sequence
 abbrev pub behind : Sort → Part → List Frame → Shape → Option State
 behind base p fs (Single k) = None
-behind base p fs (Dot t) = if may_dot (top base fs) p t then Some (Next (dotted p), fs) else None
+behind base p fs (Dot t) = if may_dot (top base fs) p t then Some (Next (dotted p t), fs) else None
 behind base p fs (Sign m) = behind_sign base m p fs
 behind base p fs (Open b t) = behind_opening base b t p fs
 behind base p fs (Close c) = close c (lower 0 tight p fs)

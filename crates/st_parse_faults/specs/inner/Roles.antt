@@ -1,11 +1,14 @@
 -- What a token adds to the tallies, by what the parser keeps before it and behind it.
-use Rattle.std.specs.Prelude.{ℕ, ◌+◌, ◌≤◌, List, [], ◌∷◌, Bool, true, false, if◌then◌else◌}
+use Rattle.std.specs.Prelude.{ℕ, ◌+◌, ◌≤◌, List, [], ◌∷◌, Bool, true, false, ◌&&◌, if◌then◌else◌}
 use Rattle.st_num.specs.declared.limit.TheConstants.{MOST_PARTS, MOST_SIGNS}
 use Rattle.st_grammar.specs.declared.sort.Bracket.TheVariants as bracket
 use Rattle.st_grammar.specs.declared.sort.Closing.TheVariants as closing
 use Rattle.st_grammar.specs.declared.sort.Sort.{Sort}
+use Rattle.st_grammar.specs.declared.sort.Sort.TheVariants as sorts
 use Rattle.st_parse_automaton.specs.declared.part_automaton.Shape.{Shape}
 use Rattle.st_parse_automaton.specs.declared.part_automaton.Shape.TheVariants.{Single, Dot, Sign, Open, Close}
+use Rattle.st_parse_automaton.specs.declared.part_automaton.Part.{Part}
+use Rattle.st_parse_automaton.specs.declared.part_automaton.Part.TheVariants.{Atom}
 use Rattle.st_parse_automaton.specs.declared.part_automaton.Lead.TheVariants.{Left}
 use Rattle.st_parse_automaton.specs.declared.part_automaton.Frame.{Frame}
 use Rattle.st_parse_automaton.specs.declared.part_automaton.Frame.TheVariants.{Over, Timing}
@@ -41,11 +44,34 @@ head_attachment (Dot t) = attachment.Other
 head_attachment (Open bracket.Square t) = attachment.Other
 head_attachment s = attachment.Begins
 
+-- outside notations the part is an atom
+abbrev pub is_atom : Part → Bool
+is_atom Atom = true
+is_atom p = false
+
+-- a dot goes on with the name of an atom: in a notation it always does
+abbrev pub dot_goes_on : Sort → Part → Bool → Bool
+dot_goes_on sorts.Notation p t = true
+dot_goes_on σ p t = is_atom p && t
+
+-- the token goes on with the name of an atom
+abbrev pub is_in_name : Sort → Part → Shape → Bool
+is_in_name σ p (Dot t) = dot_goes_on σ p t
+is_in_name σ p s = false
+
+-- how a token stands behind a part, where it begins no next element
+abbrev pub behind_attachment : Bool → Attachment
+behind_attachment b = if b then attachment.Other else attachment.Behind
+
+-- how a token stands behind a part, which begins a next element or does not
+abbrev pub next_attachment : Sort → Part → Shape → Attachment
+next_attachment σ p s =
+    if parts.follows σ p s then attachment.Begins else behind_attachment (is_in_name σ p s)
+
 -- how a token stands in a part, where this much of it is read
 abbrev pub part_attachment : Sort → parts.State → Shape → Attachment
 part_attachment base (Operand, fs) s = if is_timing fs then attachment.Other else attachment.Begins
-part_attachment base (Next p, fs) s =
-    if parts.follows (parts.top base fs) p s then attachment.Begins else attachment.Behind
+part_attachment base (Next p, fs) s = next_attachment (parts.top base fs) p s
 part_attachment base (Label, fs) s = attachment.Names
 part_attachment base (Step false, fs) s = head_attachment s
 part_attachment base st s = attachment.Other
