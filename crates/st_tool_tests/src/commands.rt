@@ -55,7 +55,7 @@ fn expect(
     Ok(())
 }
 
-const COMMANDS: [Case; 35] = [
+const COMMANDS: [Case; 38] = [
     ("run T red light", Status::Done, LIGHT_RUN),
     ("run T red_line light", Status::Done, LIGHT_RUN),
     (
