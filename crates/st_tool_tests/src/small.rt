@@ -1,7 +1,7 @@
 //! Texts that are small specifications, and texts that are none.
 
 use crate::commands::words_of;
-use crate::files::file_of;
+use crate::files::two_files_of;
 use st_num::NoMemory;
 use st_outside::MemSink;
 use st_tool::{Status, serve};
@@ -62,20 +62,25 @@ const TEXTS: [(&str, bool); 27] = [
     ),
 ];
 
-/// Whether the internal language of the text is printed.
-fn is_printed(alloc: Global, text: &[u8]) -> Result<bool, NoMemory> {
-    let words = words_of(alloc, "il x")?;
-    let mut files = file_of(alloc, text)?;
+/// Whether these words run a relation of the text from its atom `A`.
+fn runs(alloc: Global, words: &str, text: &[u8]) -> Result<bool, NoMemory> {
+    let words = words_of(alloc, words)?;
+    let mut files = two_files_of(alloc, b"A", text)?;
     let mut out = MemSink::new(alloc, 1_000_000)?;
     let status = serve(alloc, &words, &mut files, &mut out);
-    Ok(status == Status::Done)
+    Ok(status == Status::Done || status == Status::Fuel)
+}
+
+/// Whether the text is run, as those of small specifications are.
+fn is_run(alloc: Global, text: &[u8]) -> Result<bool, NoMemory> {
+    Ok(runs(alloc, "run R x y", text)? || runs(alloc, "run A x y", text)?)
 }
 
 #[test]
 fn texts_that_are_small_and_that_are_not(rt: HostRuntime) -> Result<(), Fail> {
     for (text, wanted) in &TEXTS {
-        let is_printed = is_printed(rt.alloc(), text.as_bytes())?;
-        assert!(rt; is_printed == *wanted, "{text}");
+        let is_run = is_run(rt.alloc(), text.as_bytes())?;
+        assert!(rt; is_run == *wanted, "{text}");
     }
     Ok(())
 }
@@ -100,7 +105,7 @@ fn text_of_atoms(alloc: Global, atoms: u32) -> Result<Vec<u8>, AllocError> {
 fn as_many_atoms_as_there_may_be(rt: HostRuntime) -> Result<(), Fail> {
     for (atoms, wanted) in &[(4_095, true), (4_096, false)] {
         let text = text_of_atoms(rt.alloc(), *atoms)?;
-        assert!(rt; is_printed(rt.alloc(), text.as_slice())? == *wanted);
+        assert!(rt; is_run(rt.alloc(), text.as_slice())? == *wanted);
     }
     Ok(())
 }
