@@ -1,69 +1,60 @@
 -- Cases that are kept with their keys, and lists of cases one behind another.
-use Rattle.std.proofs.Common.{◌≡◌, refl, sym, ap, ◌∙◌, subst, ℕ, zero, suc, ◌<◌, ◌≤◌, List, [], ◌∷◌, ◌++◌, length, take, drop, get_or, append_assoc, ◌+◌, Bool, true, false, Option, Some, arith}
-use Rattle.std.specs.Prelude.{slice_get, IfSome, IfNone}
-use Rattle.std.proofs.lemmas.List.{length-map}
+use Rattle.std.proofs.Common.{◌≡◌, refl, sym, ap, ◌∙◌, subst, ℕ, zero, suc, ◌<◌, ◌≤◌, List, [], ◌∷◌, ◌++◌, length, take, drop, get_or, append_assoc, ◌+◌, Bool, true, false, arith}
 use Rattle.std.proofs.lemmas.Option.{slice_get_within}
-use Rattle.st_il.specs.declared.template.Template.{Template}
-use Rattle.st_il.specs.Template.{HasTag, HasOneTemplate}
-use Rattle.st_type_table.specs.declared.case_list.KeyedCase.{KeyedCase}
+use Rattle.st_il.specs.Key.{PlainKey}
+use Rattle.st_type_table.specs.declared.case_list.CaseList.{CaseList}
+use Rattle.st_type_table.specs.declared.case_list.KeptKey.{KeptKey}
 use Rattle.st_type_table.specs.declared.entry.CaseDef.{CaseDef}
 use Rattle.st_type_table.specs.declared.flat.Flat.{Flat}
-use Rattle.st_type_table.specs.Keys.{KeysDiffer, plain_key}
+use Rattle.st_type_table.specs.declared.key_index.KeyIndex.{KeyIndex}
+use Rattle.st_type_table.specs.Keys.{HasKey, KeysDiffer}
 use Rattle.st_type_table.specs.inner.Flat.{Adds, AddsIncluded}
-use Rattle.st_type_table.specs.inner.CaseKeys.{Clashes, plain_kept, IsKeyOf, cases_of, AllKeyed, AddsOwn, AddsFrom}
+use Rattle.st_type_table.specs.inner.CaseKeys.{Clashes, plain_kept, AreKeys, IsKeyed, AddsCase, AddsFrom}
+use Rattle.st_type_table.specs.inner.KeyIndexes.{HasNumber, Gains, IsKeyIndex}
 use Rattle.st_type_table.proofs.FlatLemmas.{take-step, take-split, read-get}
-use Rattle.st_type_table.proofs.KeyLemmas.{HasKey-single, found-key, KeysDiffer-push, KeysDiffer-pull, KeysDiffer-front}
+use Rattle.st_type_table.proofs.KeyLemmas.{KeysDiffer-push, KeysDiffer-pull, KeysDiffer-front}
+use Rattle.st_type_table.proofs.KeyIndexLemmas.{clash-none, IsKeyIndex-push, IsKeyIndex-none}
 
--- the key of a tag, by its template
-pub tag-key : (tag : List ℕ) (found : Option Template) → HasOneTemplate tag → IfSome found (λ t. HasTag t tag) → IfNone found ((t : Template) → HasTag t tag → ⊥) → IsKeyOf tag (plain_key found)
-tag-key tag found one some none =
-    let h = found-key tag found some none in
-    (h, λ other g. HasKey-single tag other (plain_key found) one g h)
+-- ---- the keys of cases
 
-pub keyed-push : (items : List KeyedCase) (x : KeyedCase) → AllKeyed items → IsKeyOf x.case.tag (plain_kept x.key) → AllKeyed (items ++ x ∷ [])
-keyed-push [] x h k = (k, tt)
-keyed-push (y ∷ items) x h k = (h.0, keyed-push items x h.1 k)
+pub AreKeys-push : (cases : List CaseDef) (keys : List KeptKey) (c : CaseDef) (k : KeptKey) → AreKeys cases keys → HasKey c.tag (plain_kept k) → AreKeys (cases ++ c ∷ []) (keys ++ k ∷ [])
+AreKeys-push [] [] c k h g = (g, tt)
+AreKeys-push [] (x ∷ keys) c k h g = absurd h
+AreKeys-push (x ∷ cases) [] c k h g = absurd h
+AreKeys-push (x ∷ cases) (y ∷ keys) c k h g = (h.0, AreKeys-push cases keys c k h.1 g)
 
-pub keyed-at : (items : List KeyedCase) (i : ℕ) (x : KeyedCase) → AllKeyed items → slice_get items i ≡ Some x → IsKeyOf x.case.tag (plain_kept x.key)
-keyed-at [] i x h e = cc
-keyed-at (y ∷ items) zero x h e = let q : y ≡ x = cc in subst (λ (z : KeyedCase). IsKeyOf z.case.tag (plain_kept z.key)) q h.0
-keyed-at (y ∷ items) (suc i) x h e = keyed-at items i x h.1 e
+pub AreKeys-length : (cases : List CaseDef) (keys : List KeptKey) → AreKeys cases keys → length keys ≡ length cases
+AreKeys-length [] [] h = refl
+AreKeys-length [] (x ∷ keys) h = absurd h
+AreKeys-length (x ∷ cases) [] h = absurd h
+AreKeys-length (x ∷ cases) (y ∷ keys) h = ap suc (AreKeys-length cases keys h.1)
 
-pub cases-push : (items : List KeyedCase) (x : KeyedCase) → cases_of (items ++ x ∷ []) ≡ cases_of items ++ x.case ∷ []
-cases-push [] x = refl
-cases-push (y ∷ items) x = ap (λ cs. y.case ∷ cs) (cases-push items x)
+pub AreKeys-at : (cases : List CaseDef) (keys : List KeptKey) (i : ℕ) (c : CaseDef) (k : KeptKey) → AreKeys cases keys → i < length cases → c ≡ get_or cases i c → k ≡ get_or keys i k → HasKey c.tag (plain_kept k)
+AreKeys-at [] keys i c k h within e q = absurd (omega arith)
+AreKeys-at (x ∷ cases) [] i c k h within e q = absurd h
+AreKeys-at (x ∷ cases) (y ∷ keys) zero c k h within e q = subst (λ (z : CaseDef). HasKey z.tag (plain_kept k)) (sym e) (subst (λ z. HasKey x.tag (plain_kept z)) (sym q) h.0)
+AreKeys-at (x ∷ cases) (y ∷ keys) (suc i) c k h within e q = AreKeys-at cases keys i c k h.1 (omega arith) e q
 
-pub cases-at : (items : List KeyedCase) (i : ℕ) (x : KeyedCase) → slice_get items i ≡ Some x → slice_get (cases_of items) i ≡ Some x.case
-cases-at [] i x e = cc
-cases-at (y ∷ items) zero x e = let q : y ≡ x = cc in ap (λ (z : KeyedCase). Some z.case) q
-cases-at (y ∷ items) (suc i) x e = cases-at items i x e
+pub IsKeyed-none : (l : CaseList) → l.items ≡ [] → l.keys ≡ [] → ((k : PlainKey) (n : ℕ) → HasNumber l.index k n → ⊥) → IsKeyed l
+IsKeyed-none l p q none = record {
+  differ = subst KeysDiffer (sym p) tt;
+  keys = subst (λ cs. AreKeys cs l.keys) (sym p) (subst (AreKeys []) (sym q) tt);
+  indexed = subst (λ cs. IsKeyIndex cs l.index) (sym p) (IsKeyIndex-none l.index none);
+}
 
-pub cases-length : (items : List KeyedCase) → length (cases_of items) ≡ length items
-cases-length items = length-map items (λ (item : KeyedCase). item.case)
-
--- ---- a case that is kept
-
-pub cases-added : (mine : List KeyedCase) (before : List CaseDef) → cases_of mine ≡ before → (after : List KeyedCase) (c : CaseDef) (x : KeyedCase) → x.case ≡ c → after ≡ mine ++ x ∷ [] → cases_of after ≡ before ++ c ∷ []
-cases-added mine before seen after c x e q = ap cases_of q ∙ cases-push mine x ∙ (λ i. seen i ++ e i ∷ [])
-
-pub case-there : (others : List KeyedCase) (cases : List CaseDef) → cases_of others ≡ cases → (at : ℕ) (item : KeyedCase) → slice_get others at ≡ Some item → slice_get cases at ≡ Some item.case
-case-there others cases seen at item there = subst (λ cs. slice_get cs at ≡ Some item.case) seen (cases-at others at item there)
-
--- a case that is read from the list
-pub read-keyed : (others read : List KeyedCase) (cases : List CaseDef) (at : ℕ) (item : KeyedCase) → cases_of others ≡ cases → read ≡ others → at < length cases → item ≡ get_or read at item → slice_get others at ≡ Some item
-read-keyed others read cases at item seen same h e =
-    let l = cases-length others in
-    let m = ap length seen in
-    get-of others at item (omega (arith, l, m, h)) (e ∙ ap (λ xs. get_or xs at item) same)
-  where
-    get-of : (xs : List KeyedCase) (i : ℕ) (x : KeyedCase) → i < length xs → x ≡ get_or xs i x → slice_get xs i ≡ Some x
-    get-of [] i x h e = absurd (omega arith)
-    get-of (y ∷ ys) zero x h e = ap Some (sym e)
-    get-of (y ∷ ys) (suc i) x h e = get-of ys i x (omega arith) e
+-- a case with a key that the others do not have is kept
+pub IsKeyed-push : (l : CaseList) (c : CaseDef) (k : KeptKey) (key : PlainKey) (number : ℕ) (items : List CaseDef) (keys : List KeptKey) (index : KeyIndex) → IsKeyed l → HasKey c.tag key → plain_kept k ≡ key
+    → ((n : ℕ) → HasNumber l.index key n → ⊥) → number ≡ length l.items → Gains l.index index key number → items ≡ l.items ++ c ∷ [] → keys ≡ l.keys ++ k ∷ []
+    → IsKeyed (record { items = items; keys = keys; index = index })
+IsKeyed-push l c k key number items keys index right has is none counted gains p q = record {
+  differ = subst KeysDiffer (sym p) (KeysDiffer-push l.items c right.differ (clash-none l.items l.index c.tag key right.indexed has none));
+  keys = subst (λ cs. AreKeys cs keys) (sym p) (subst (AreKeys (l.items ++ c ∷ [])) (sym q) (AreKeys-push l.items l.keys c k right.keys (subst (HasKey c.tag) (sym is) has)));
+  indexed = subst (λ cs. IsKeyIndex cs index) (sym p) (IsKeyIndex-push l.items c l.index index key has right.indexed (subst (Gains l.index index key) counted gains));
+}
 
 -- ---- cases one behind another
 
-pub own-adds : (before after : List CaseDef) (c : CaseDef) (added : Bool) → KeysDiffer before → AddsOwn before after c added → Adds before after (c ∷ []) added
+pub own-adds : (before after : List CaseDef) (c : CaseDef) (added : Bool) → KeysDiffer before → AddsCase before after c added → Adds before after (c ∷ []) added
 own-adds before after c true h (e, new) = (e, subst KeysDiffer (sym e) (KeysDiffer-push before c h new))
 own-adds before after c false h clash = λ k. KeysDiffer-pull before c k clash
 
@@ -84,8 +75,9 @@ module _ (before others cases after : List CaseDef) (at : ℕ) (so_far : cases �
     subst KeysDiffer (sym q) (KeysDiffer-push cases c h new),
   )
 
-pub from-whole : (before : List CaseDef) (f : Flat) (cases : List CaseDef) (at : ℕ) → f.whole ≡ true → length f.cases ≤ at → cases ≡ before ++ take at f.cases → KeysDiffer cases → AddsIncluded before cases f true
-from-whole before f cases at w l so_far h = (w, (so_far ∙ ap (λ cs. before ++ cs) (take-over f.cases at l), h))
+pub from-whole : (before : List CaseDef) (f : Flat) (cases : List CaseDef) (at : ℕ) → f.whole ≡ true → length f.cases.items ≤ at → cases ≡ before ++ take at f.cases.items → KeysDiffer cases
+    → AddsIncluded before cases f true
+from-whole before f cases at w l so_far h = (w, (so_far ∙ ap (λ cs. before ++ cs) (take-over f.cases.items at l), h))
   where
     take-over : {A : Type 0} (xs : List A) (i : ℕ) → length xs ≤ i → take i xs ≡ xs
     take-over [] zero h = refl

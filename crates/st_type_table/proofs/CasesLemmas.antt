@@ -1,6 +1,8 @@
 -- A variant has one list of cases and a record one list of fields, and what is neither has none.
 use Rattle.std.proofs.Common.{◌≡◌, sym, ap, ◌∙◌, subst, ℕ, List, [], ◌∷◌, ◌++◌, Option, Some, None}
 use Rattle.std.specs.Prelude.{MatchOption, IfNone, IfSome}
+use Rattle.std.specs.Borrow.{Bor}
+use Rattle.st_il.specs.Key.{PlainKey}
 use Rattle.st_il.specs.declared.ty.Ty.{Ty, out-Ty}
 use Rattle.st_il.specs.declared.ty.Ty.TheOpen.{Ty-F}
 use Rattle.st_il.specs.declared.ty.Ty.TheVariants as ty
@@ -11,6 +13,7 @@ use Rattle.st_il.specs.declared.definition.Alternative.TheVariants as alternativ
 use Rattle.st_type_table.specs.declared.entry.CaseDef.{CaseDef}
 use Rattle.st_type_table.specs.declared.entry.Entry.{Entry}
 use Rattle.st_type_table.specs.Meaning.{Means, alias_of, alternatives_of, fields_of, listed, recorded, aliased}
+use Rattle.st_type_table.specs.Keys.{NoneHasKey, IsFirstWith, IsCaseWith}
 use Rattle.st_type_table.specs.Cases.{Brings, Flatten, HasCases, HasFields, or_none}
 use Rattle.st_type_table.specs.inner.Kept.{Kept, defs_of, entry_named, entry_at, IsKept, AllSettled, IsSettled}
 use Rattle.st_type_table.proofs.KeptLemmas.{named-kept, bodied}
@@ -61,6 +64,12 @@ module _ (defs : List SyntaxDef) where
       let d : Some p.alternatives ≡ Some q.alternatives = sym p.declared ∙ ap (alternatives_of defs) e ∙ q.declared in
       let f : p.alternatives ≡ q.alternatives = cc in
       Flatten-single p.alternatives xs ys p.flattened (subst (λ as'. Flatten defs as' ys) (sym f) q.flattened)
+
+  -- the first case with a key, by the cases of the type
+  pub CaseWith-found : (t : Ty) (k : PlainKey) (cs : List CaseDef) (o : Option (Bor CaseDef)) → HasCases defs t cs → MatchOption o (NoneHasKey k cs) (λ c. IsFirstWith k cs c.now)
+      → MatchOption o ((xs : List CaseDef) → HasCases defs t xs → NoneHasKey k xs) (λ c. IsCaseWith defs t k c.now)
+  CaseWith-found t k cs None has none = λ xs h. subst (NoneHasKey k) (HasCases-single t cs xs has h) none
+  CaseWith-found t k cs (Some c) has first = record { cases = cs; has = has; first = first }
 
   pub HasFields-single : (t : Ty) (xs ys : List (List ℕ × Ty)) → HasFields defs t xs → HasFields defs t ys → xs ≡ ys
   HasFields-single t xs ys p q =

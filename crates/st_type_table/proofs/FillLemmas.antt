@@ -1,5 +1,5 @@
 -- What is kept of sound definitions is right.
-use Rattle.std.proofs.Common.{◌≡◌, ◌↔◌, refl, sym, ap, ◌∙◌, subst, ℕ, zero, suc, ◌<◌, ◌≤◌, List, [], ◌∷◌, ◌++◌, append_assoc, take, length, Option, Some, None, arith, Bool, true, false, nat_eq, if◌then◌else◌}
+use Rattle.std.proofs.Common.{◌≡◌, ◌↔◌, refl, sym, ap, ◌∙◌, subst, ℕ, zero, suc, ◌<◌, ◌≤◌, List, [], ◌∷◌, ◌++◌, append_assoc, take, drop, length, Option, Some, None, arith, Bool, true, false, nat_eq, if◌then◌else◌}
 use Rattle.std.specs.Prelude.{slice_get, slice_index}
 use Rattle.std.specs.Bool.{MatchBool}
 use Rattle.std.specs.Map.{lookup}
@@ -15,13 +15,16 @@ use Rattle.st_il.specs.declared.definition.Alternative.TheVariants as alternativ
 use Rattle.st_type_table.specs.declared.entry.CaseDef.{CaseDef}
 use Rattle.st_type_table.specs.declared.entry.Entry.{Entry}
 use Rattle.st_type_table.specs.declared.flat.Flat.{Flat}
+use Rattle.st_type_table.specs.declared.key_index.KeyIndex.{KeyIndex}
 use Rattle.st_type_table.specs.Meaning.{body_of, listed}
 use Rattle.st_type_table.specs.Cases.{Flatten, or_none}
 use Rattle.st_type_table.specs.Leads.{Among, leads_to}
 use Rattle.st_type_table.specs.Keys.{KeysDiffer}
 use Rattle.st_type_table.specs.inner.Graph.{graph_of, node_of, place_of, places_of, AreRanks}
+use Rattle.st_type_table.specs.inner.CaseKeys.{IsKeyed}
+use Rattle.st_type_table.specs.inner.KeyIndexes.{IsKeyIndex}
 use Rattle.st_type_table.specs.inner.Flat.{AreFlats, IsFlat, IsBroken}
-use Rattle.st_type_table.specs.inner.Kept.{kept_of, defs_of, entry_of, ranked, AllSettled, IsSettled}
+use Rattle.st_type_table.specs.inner.Kept.{kept_as, kept_of, defs_of, entry_of, ranked, AllSettled, IsSettled}
 use Rattle.st_type_table.specs.Breach.{IsSound, AllHold, Holds, keys, placed, on_alternative, on_alternatives, on_included, on_body}
 use Rattle.st_type_table.specs.Joins.{AllJoin}
 use Rattle.st_type_table.specs.inner.JoinGraph.{join_graph}
@@ -32,7 +35,7 @@ use Rattle.st_type_table.proofs.CheckLemmas.{front_hold, back_hold}
 
 pub kept-next : (defs : List SyntaxDef) (ranks : List ℕ) (flats : List Flat) (joins : List ℕ) (at : ℕ) (d : SyntaxDef) (r : ℕ) (f : Flat) (j : ℕ) → slice_get defs at ≡ Some d → slice_get ranks at ≡ Some r
     → slice_get flats at ≡ Some f → slice_get joins at ≡ Some j
-    → take (suc at) (kept_of defs ranks flats joins) ≡ take at (kept_of defs ranks flats joins) ++ (d.name, record { body = d.body; rank = r; cases = f.cases; join_rank = j }) ∷ []
+    → take (suc at) (kept_of defs ranks flats joins) ≡ take at (kept_of defs ranks flats joins) ++ (d.name, kept_as d r f j) ∷ []
 kept-next [] ranks flats joins at d r f j p q s t = cc
 kept-next (x ∷ defs) [] flats joins at d r f j p q s t = cc
 kept-next (x ∷ defs) (y ∷ ranks) [] joins at d r f j p q s t = cc
@@ -42,9 +45,9 @@ kept-next (x ∷ defs) (y ∷ ranks) (z ∷ flats) (w ∷ joins) zero d r f j p 
     let b : y ≡ r = cc in
     let c : z ≡ f = cc in
     let g : w ≡ j = cc in
-    (λ i. ((a i).name, record { body = (a i).body; rank = b i; cases = (c i).cases; join_rank = g i }) ∷ [])
+    (λ i. ((a i).name, kept_as (a i) (b i) (c i) (g i)) ∷ [])
 kept-next (x ∷ defs) (y ∷ ranks) (z ∷ flats) (w ∷ joins) (suc at) d r f j p q s t =
-    ap (λ es. (x.name, record { body = x.body; rank = y; cases = z.cases; join_rank = w }) ∷ es) (kept-next defs ranks flats joins at d r f j p q s t)
+    ap (λ es. (x.name, kept_as x y z w) ∷ es) (kept-next defs ranks flats joins at d r f j p q s t)
 
 pub lookup-none : (defs : List SyntaxDef) (ranks : List ℕ) (flats : List Flat) (joins : List ℕ) (at : ℕ) (name : List ℕ) → body_of (take at defs) name ≡ None
     → lookup (pointwise nat_eq name) (take at (kept_of defs ranks flats joins)) ≡ None
@@ -61,7 +64,7 @@ lookup-none (d ∷ defs) (r ∷ ranks) (f ∷ flats) (j ∷ joins) (suc at) name
   where
     by : (b : Bool) → (if b then Some d.body else body_of (take at defs) name) ≡ None
         → (body_of (take at defs) name ≡ None → lookup (pointwise nat_eq name) (take at (kept_of defs ranks flats joins)) ≡ None)
-        → (if b then Some (record { body = d.body; rank = r; cases = f.cases; join_rank = j }) else lookup (pointwise nat_eq name) (take at (kept_of defs ranks flats joins))) ≡ None
+        → (if b then Some (kept_as d r f j) else lookup (pointwise nat_eq name) (take at (kept_of defs ranks flats joins))) ≡ None
     by true h next = cc
     by false h next = next h
 
@@ -84,7 +87,7 @@ take-all (d ∷ defs) (r ∷ ranks) (f ∷ flats) [] zero h = refl
 take-all (d ∷ defs) (r ∷ ranks) (f ∷ flats) [] (suc n) h = refl
 take-all (d ∷ defs) (r ∷ ranks) (f ∷ flats) (j ∷ joins) zero h = absurd (omega (arith, h))
 take-all (d ∷ defs) (r ∷ ranks) (f ∷ flats) (j ∷ joins) (suc n) h =
-    ap (λ es. (d.name, record { body = d.body; rank = r; cases = f.cases; join_rank = j }) ∷ es) (take-all defs ranks flats joins n (omega (arith, h)))
+    ap (λ es. (d.name, kept_as d r f j) ∷ es) (take-all defs ranks flats joins n (omega (arith, h)))
 
 -- the entry of a name, at its place
 record EntryAt (defs : List SyntaxDef) (ranks : List ℕ) (flats : List Flat) (joins : List ℕ) (name : List ℕ) (e : Entry) : Type 0 where
@@ -96,7 +99,8 @@ record EntryAt (defs : List SyntaxDef) (ranks : List ℕ) (flats : List Flat) (j
   body_is : e.body ≡ definition.body
   rank_is : e.rank ≡ slice_index ranks place
   flat_there : slice_get flats place ≡ Some flat
-  cases_is : e.cases ≡ flat.cases
+  cases_is : e.cases ≡ flat.cases.items
+  index_is : e.index ≡ flat.cases.index
   join_rank_is : e.join_rank ≡ slice_index joins place
 
 entry-at : (defs : List SyntaxDef) (ranks : List ℕ) (flats : List Flat) (joins : List ℕ) (name : List ℕ) (e : Entry) → entry_of (kept_of defs ranks flats joins) name ≡ Some e → EntryAt defs ranks flats joins name e
@@ -115,17 +119,21 @@ entry-at (d ∷ defs) (r ∷ ranks) (f ∷ flats) (j ∷ joins) name e h = by (p
     rank_in (Some e) = e.rank
 
     cases_in : Option Entry → List CaseDef
-    cases_in None = f.cases
+    cases_in None = f.cases.items
     cases_in (Some e) = e.cases
+
+    index_in : Option Entry → KeyIndex
+    index_in None = f.cases.index
+    index_in (Some e) = e.index
 
     join_rank_in : Option Entry → ℕ
     join_rank_in None = j
     join_rank_in (Some e) = e.join_rank
 
-    by : (b : Bool) → pointwise nat_eq name d.name ≡ b → (if b then Some (record { body = d.body; rank = r; cases = f.cases; join_rank = j }) else entry_of (kept_of defs ranks flats joins) name) ≡ Some e
+    by : (b : Bool) → pointwise nat_eq name d.name ≡ b → (if b then Some (kept_as d r f j) else entry_of (kept_of defs ranks flats joins) name) ≡ Some e
         → (entry_of (kept_of defs ranks flats joins) name ≡ Some e → EntryAt defs ranks flats joins name e) → EntryAt (d ∷ defs) (r ∷ ranks) (f ∷ flats) (j ∷ joins) name e
     by true t g next =
-        let s : Some e ≡ Some (record { body = d.body; rank = r; cases = f.cases; join_rank = j }) = sym g in
+        let s : Some e ≡ Some (kept_as d r f j) = sym g in
         record {
           place = 0;
           definition = d;
@@ -136,6 +144,7 @@ entry-at (d ∷ defs) (r ∷ ranks) (f ∷ flats) (j ∷ joins) name e h = by (p
           rank_is = ap rank_in s;
           flat_there = refl;
           cases_is = ap cases_in s;
+          index_is = ap index_in s;
           join_rank_is = ap join_rank_in s;
         }
     by false t g next =
@@ -150,6 +159,7 @@ entry-at (d ∷ defs) (r ∷ ranks) (f ∷ flats) (j ∷ joins) name e h = by (p
           rank_is = n.rank_is;
           flat_there = n.flat_there;
           cases_is = n.cases_is;
+          index_is = n.index_is;
           join_rank_is = n.join_rank_is;
         }
 
@@ -175,7 +185,7 @@ no_keys defs cases (Flatten.none e) = subst KeysDiffer (sym e) tt
 
 module _ (defs : List SyntaxDef) (ranks : List ℕ) (flats : List Flat) (joins : List ℕ) (sound : IsSound defs) (right : AreRanks (graph_of defs) ranks) (known : AreFlats defs ranks (length defs) flats)
     (join_right : AreRanks (join_graph defs) joins) (size : length ranks ≡ length defs) where
-  flat_whole : (p : ℕ) (d : SyntaxDef) (f : Flat) (parts : List Alternative) → slice_get defs p ≡ Some d → slice_get flats p ≡ Some f → d.body ≡ body.Variant parts → Flatten defs parts f.cases
+  flat_whole : (p : ℕ) (d : SyntaxDef) (f : Flat) (parts : List Alternative) → slice_get defs p ≡ Some d → slice_get flats p ≡ Some f → d.body ≡ body.Variant parts → Flatten defs parts f.cases.items × IsKeyed f.cases
   flat_whole p d f parts e g b = by f.whole flat
     where
       within : p < length defs
@@ -187,8 +197,8 @@ module _ (defs : List SyntaxDef) (ranks : List ℕ) (flats : List Flat) (joins :
       held : Holds defs (keys parts)
       held = keys_all defs d.name 0 [] parts (no_keys defs) (subst (λ z. AllHold defs (on_body d.name z)) b (sound p within d e).1)
 
-      by : (w : Bool) → MatchBool w (Flatten defs parts f.cases × KeysDiffer f.cases) (IsBroken defs parts) → Flatten defs parts f.cases
-      by true h = h.0
+      by : (w : Bool) → MatchBool w (Flatten defs parts f.cases.items × IsKeyed f.cases) (IsBroken defs parts) → Flatten defs parts f.cases.items × IsKeyed f.cases
+      by true h = h
       by false h = absurd (h.1.1 (held h.0 h.1.0))
 
   rank-below : (name y : List ℕ) (p : ℕ) (d : SyntaxDef) → slice_get defs p ≡ Some d → Among (leads_to d.body) y → (o : Option Entry) → entry_of (kept_of defs ranks flats joins) y ≡ o → ranked o < slice_index ranks p
@@ -207,10 +217,27 @@ module _ (defs : List SyntaxDef) (ranks : List ℕ) (flats : List Flat) (joins :
       omega (arith, f, k)
   settled_by e name n (body.Variant parts) q ds s w =
       let f = flat_whole n.place n.definition n.flat parts n.there n.flat_there (sym n.body_is ∙ q) in
-      subst (λ z. Flatten z parts e.cases) (sym (w ∙ s)) (subst (Flatten defs parts) (sym n.cases_is) f)
+      record {
+        flattened = subst (λ z. Flatten z parts e.cases) (sym (w ∙ s)) (subst (Flatten defs parts) (sym n.cases_is) f.0);
+        differ = subst KeysDiffer (sym n.cases_is) f.1.differ;
+        indexed = subst (λ cs. IsKeyIndex cs e.index) (sym n.cases_is) (subst (IsKeyIndex n.flat.cases.items) (sym n.index_is) f.1.indexed);
+      }
   settled_by e name n (body.Fields fs) q ds s w =
       let h = ranked-joins defs joins join_right n.place n.definition fs n.there (sym n.body_is ∙ q) in
       subst (λ z. (0 < e.join_rank) ↔ AllJoin z fs) (sym (w ∙ s)) (subst (λ r. (0 < r) ↔ AllJoin defs fs) (sym n.join_rank_is) h)
 
   pub kept-right : length flats ≡ length defs → length joins ≡ length defs → AllSettled (kept_of defs ranks flats joins)
   kept-right flat_size join_size name e h = settled_by e name (entry-at defs ranks flats joins name e h) e.body refl defs refl (kept-whole defs ranks flats joins size flat_size join_size)
+
+-- ---- a list that is taken from the front
+
+pub drop-front : {A : Type 0} (xs : List A) (i : ℕ) (x : A) (ys : List A) → drop i xs ≡ x ∷ ys → (slice_get xs i ≡ Some x) × (drop (suc i) xs ≡ ys)
+drop-front [] zero x ys e = cc
+drop-front [] (suc i) x ys e = cc
+drop-front (y ∷ xs) zero x ys e = (cc, cc)
+drop-front (y ∷ xs) (suc i) x ys e = drop-front xs i x ys e
+
+pub drop-none : {A : Type 0} (xs : List A) (i : ℕ) → drop i xs ≡ [] → length xs ≤ i
+drop-none [] i e = omega arith
+drop-none (x ∷ xs) zero e = cc
+drop-none (x ∷ xs) (suc i) e = let h = drop-none xs i e in omega (arith, h)

@@ -1,11 +1,10 @@
 -- What alternatives bring, one after another.
-use Rattle.std.proofs.Common.{◌≡◌, refl, sym, ap, ◌∙◌, subst, ℕ, zero, suc, ◌+◌, ◌<◌, List, [], ◌∷◌, ◌++◌, append_assoc, length, take, drop, get_or, drop-cons, add-one, Bool, true, false, Option, Some, None, arith, inl, inr}
+use Rattle.std.proofs.Common.{◌≡◌, refl, sym, ap, ◌∙◌, subst, ℕ, zero, suc, ◌+◌, ◌<◌, ◌≤◌, List, [], ◌∷◌, ◌++◌, append_assoc, length, take, drop, get_or, drop-cons, add-one, Bool, true, false, Option, Some, None, arith, inl, inr}
 use Rattle.std.specs.Prelude.{slice_get, MatchOption}
 use Rattle.std.specs.Bool.{MatchBool}
 use Rattle.std.specs.List.{flat_map}
 use Rattle.std.specs.Borrow.{Bor}
 use Rattle.std.specs.Option.{option_copied}
-use Rattle.std.proofs.lemmas.Option.{slice_get-get_or}
 use Rattle.st_il.specs.declared.ty.Ty.{Ty, out-Ty, roll-Ty, roll-out-Ty}
 use Rattle.st_il.specs.declared.ty.Ty.TheOpen.{Ty-F}
 use Rattle.st_il.specs.declared.ty.Ty.TheVariants as ty
@@ -21,6 +20,7 @@ use Rattle.st_type_table.specs.Cases.{Brings, Flatten, or_none}
 use Rattle.st_type_table.specs.Leads.{Among, Ends, leads_from, included, names_in}
 use Rattle.st_type_table.specs.inner.Graph.{place_of}
 use Rattle.st_type_table.specs.Keys.{KeysDiffer}
+use Rattle.st_type_table.specs.inner.CaseKeys.{IsKeyed}
 use Rattle.st_type_table.specs.inner.Flat.{IsFlat, IsFlatAt, IsFlatOf, AllReady, IsBroken, AddsIncluded, AddsAlternative, Adds}
 use Rattle.st_type_table.proofs.PlaceLemmas.{placed, unplaced, names-Name}
 use Rattle.st_type_table.proofs.KeyLemmas.{KeysDiffer-back}
@@ -65,6 +65,11 @@ pub within : {A : Type 0} (xs : List A) (i : ℕ) (x : A) → slice_get xs i ≡
 within [] i x g = cc
 within (y ∷ xs) zero x g = omega arith
 within (y ∷ xs) (suc i) x g = let h = within xs i x g in omega (arith, h)
+
+pub without : {A : Type 0} (xs : List A) (i : ℕ) → slice_get xs i ≡ None → length xs ≤ i
+without [] i e = omega arith
+without (x ∷ xs) zero e = cc
+without (x ∷ xs) (suc i) e = let l = without xs i e in omega (arith, l)
 
 -- ---- every list of alternatives whose ways end brings some cases
 
@@ -158,17 +163,17 @@ module _ (defs : List SyntaxDef) where
       → IsFlat defs (or_none (alternatives_of defs t)) f → AddsIncluded before after f added → AddsAlternative defs before after a added
   adds-included before after a name t f added e m flat h = by f.whole refl flat added h
     where
-      by : (w : Bool) → f.whole ≡ w → MatchBool w (Flatten defs (or_none (alternatives_of defs t)) f.cases × KeysDiffer f.cases) (IsBroken defs (or_none (alternatives_of defs t)))
+      by : (w : Bool) → f.whole ≡ w → MatchBool w (Flatten defs (or_none (alternatives_of defs t)) f.cases.items × IsKeyed f.cases) (IsBroken defs (or_none (alternatives_of defs t)))
           → (added : Bool) → AddsIncluded before after f added → AddsAlternative defs before after a added
-      by true w flat true h = (f.cases, (Brings.included name t e m flat.0, h.1))
+      by true w flat true h = (f.cases.items, (Brings.included name t e m flat.0, h.1))
       by true w flat false (inl z) = let c : true ≡ false = sym w ∙ z in cc
-      by true w flat false (inr clash) = (f.cases, (Brings.included name t e m flat.0, clash))
+      by true w flat false (inr clash) = (f.cases.items, (Brings.included name t e m flat.0, clash))
       by false w flat true h = let c : true ≡ false = sym h.0 ∙ w in cc
       by false w flat false h = (flat.0, (Brings.included name t e m flat.1.0, λ k. flat.1.1 (KeysDiffer-back before flat.0 k)))
 
-  -- the keys of all cases that are kept differ
-  pub whole-differ : (alternatives : List Alternative) (f : Flat) → IsFlat defs alternatives f → f.whole ≡ true → KeysDiffer f.cases
-  whole-differ alternatives f flat e = (subst (λ w. MatchBool w (Flatten defs alternatives f.cases × KeysDiffer f.cases) (IsBroken defs alternatives)) e flat).1
+  -- all cases that are kept have different keys, with an index of them
+  pub whole-keyed : (alternatives : List Alternative) (f : Flat) → IsFlat defs alternatives f → f.whole ≡ true → IsKeyed f.cases
+  whole-keyed alternatives f flat e = (subst (λ w. MatchBool w (Flatten defs alternatives f.cases.items × IsKeyed f.cases) (IsBroken defs alternatives)) e flat).1
 
   pub adds-nothing : (before : List CaseDef) (a : Alternative) (name : List ℕ) (t : Ty) → a ≡ alternative.Incl name → Means defs (ty.Name name) t
       → alternatives_of defs t ≡ None → KeysDiffer before → AddsAlternative defs before before a true
@@ -190,8 +195,8 @@ module _ (defs : List SyntaxDef) where
           lost : (d : SyntaxDef) → slice_get defs place ≡ Some d → ⊥
           lost d g =
               let h = within defs place d g in
-              let s : slice_get flats place ≡ Some (get_or flats place (record { cases = []; whole = true; reach = 0 })) = slice_get-get_or flats place (record { cases = []; whole = true; reach = 0 }) (omega (arith, h, size)) in
-              let c : None ≡ Some (get_or flats place (record { cases = []; whole = true; reach = 0 })) = e ∙ s in cc
+              let l = without flats place (sym e) in
+              absurd (omega (arith, h, l, size))
 
   -- a name without a place, or a type that is no name, has no alternatives
   pub flat-unplaced : (t u : Ty) (name : List ℕ) → Means defs t u → u ≡ ty.Name name → place_of defs name ≡ None → IsFlatOf defs t None

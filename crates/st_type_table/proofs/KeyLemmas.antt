@@ -1,12 +1,12 @@
 -- Keys of tags, and lists of cases whose keys differ.
-use Rattle.std.proofs.Common.{◌≡◌, refl, sym, ap, ◌∙◌, ℕ, List, [], ◌∷◌, ◌++◌, Option, Some, None, inl, inr}
-use Rattle.std.specs.Prelude.{IfSome, IfNone}
+use Rattle.std.proofs.Common.{◌≡◌, refl, sym, ap, ◌∙◌, subst, ℕ, zero, suc, List, [], ◌∷◌, ◌++◌, Option, Some, None, inl, inr}
+use Rattle.std.specs.Prelude.{IfSome, IfNone, slice_get}
 use Rattle.std.specs.List.{AllByRecursion}
 use Rattle.st_il.specs.declared.template.Template.{Template}
 use Rattle.st_il.specs.Template.{HasTag, HasOneTemplate}
 use Rattle.st_il.specs.Key.{PlainKey, key}
 use Rattle.st_type_table.specs.declared.entry.CaseDef.{CaseDef}
-use Rattle.st_type_table.specs.Keys.{HasKey, SameKey, KeysDiffer, plain_key}
+use Rattle.st_type_table.specs.Keys.{HasKey, NoneHasKey, IsFirstWith, here, later, SameKey, KeysDiffer, plain_key}
 use Rattle.st_type_table.specs.inner.CaseKeys.{Clashes}
 
 pub HasKey-single : (tag : List ℕ) (k m : PlainKey) → HasOneTemplate tag → HasKey tag k → HasKey tag m → k ≡ m
@@ -52,3 +52,25 @@ KeysDiffer-front (x ∷ xs) ys h = (front_all x xs ys h.0, KeysDiffer-front xs y
 pub KeysDiffer-back : (xs ys : List CaseDef) → KeysDiffer (xs ++ ys) → KeysDiffer ys
 KeysDiffer-back [] ys h = h
 KeysDiffer-back (x ∷ xs) ys h = KeysDiffer-back xs ys h.1
+
+-- ---- the first case with a key
+
+pub FirstWith-none : (k : PlainKey) (cs : List CaseDef) (c : CaseDef) → NoneHasKey k cs → IsFirstWith k cs c → ⊥
+FirstWith-none k [] c none h = elim h [ ]
+FirstWith-none k (x ∷ cs) c none (here p) = none.0 p
+FirstWith-none k (x ∷ cs) c none (later n h) = FirstWith-none k cs c none.1 h
+
+-- where keys differ, a case with a key is the first
+pub FirstWith-differ : (k : PlainKey) (cs : List CaseDef) (n : ℕ) (c : CaseDef) → KeysDiffer cs → slice_get cs n ≡ Some c → HasKey c.tag k → IsFirstWith k cs c
+FirstWith-differ k [] n c differ e h = cc
+FirstWith-differ k (x ∷ cs) zero c differ e h = let q : x ≡ c = cc in subst (λ z. IsFirstWith k (z ∷ cs) c) (sym q) (here h)
+FirstWith-differ k (x ∷ cs) (suc n) c differ e h = later (λ g. apart cs n differ.0 e (record { key = k; one = g; other = h })) (FirstWith-differ k cs n c differ.1 e h)
+  where
+    apart : (ds : List CaseDef) (m : ℕ) → AllByRecursion (λ d. SameKey x.tag d.tag → ⊥) ds → slice_get ds m ≡ Some c → SameKey x.tag c.tag → ⊥
+    apart [] m all e s = cc
+    apart (d ∷ ds) zero all e s = let q : c ≡ d = cc in all.0 (subst (λ (z : CaseDef). SameKey x.tag z.tag) q s)
+    apart (d ∷ ds) (suc m) all e s = apart ds m all.1 e s
+
+pub NoneHasKey-all : (k : PlainKey) (cs : List CaseDef) → ((n : ℕ) (c : CaseDef) → slice_get cs n ≡ Some c → HasKey c.tag k → ⊥) → NoneHasKey k cs
+NoneHasKey-all k [] none = tt
+NoneHasKey-all k (x ∷ cs) none = (none 0 x refl, NoneHasKey-all k cs (λ n. none (suc n)))

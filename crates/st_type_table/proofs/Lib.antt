@@ -10,7 +10,7 @@ pub mod IndexLemmas
 pub mod JoinLemmas
 pub mod KeyLemmas
 pub mod CaseKeyLemmas
-pub mod KeySetLemmas
+pub mod KeyIndexLemmas
 pub mod FlatLemmas
 pub mod IsOneLemmas
 pub mod RowsLemmas

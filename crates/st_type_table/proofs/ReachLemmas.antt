@@ -15,12 +15,13 @@ use Rattle.st_type_table.specs.Keys.{KeysDiffer}
 use Rattle.st_type_table.specs.Leads.{Ends, Among, leads_from}
 use Rattle.st_type_table.specs.Breach.{Holds, keys, placed, AllHold, on_included, on_alternative, on_alternatives}
 use Rattle.st_type_table.specs.inner.Graph.{AreRanks, graph_of, node_of, place_of, EndsIn}
+use Rattle.st_type_table.specs.inner.CaseKeys.{IsKeyed}
 use Rattle.st_type_table.specs.inner.Flat.{IsFlat, IsReady, AllReady, IsBroken, IsEndless, AllKnownParts, TriesAlternative, IsReached, IsFlattened, AreFlats}
 use Rattle.st_type_table.proofs.KeyLemmas.{KeysDiffer-front}
 use Rattle.st_type_table.proofs.CasesLemmas.{Flatten-single}
 use Rattle.st_type_table.proofs.PlaceLemmas.{Ends-EndsAt, unplaced}
 use Rattle.st_type_table.proofs.RankLemmas.{means-lower, name-same}
-use Rattle.st_type_table.proofs.FlatLemmas.{Flatten-append, Flatten-one, Flatten-known, ready_known, take-split, take-suc, within}
+use Rattle.st_type_table.proofs.FlatLemmas.{Flatten-append, Flatten-one, Flatten-known, ready_known, take-split, take-suc, within, without}
 use Rattle.st_type_table.proofs.CheckLemmas.{front_hold, back_hold}
 
 -- ---- runs of a list
@@ -155,12 +156,7 @@ module _ (defs : List SyntaxDef) (parts : List Alternative) where
   -- so many alternatives are reached, where their conditions hold
   reach-far : (target : List ℕ) (from reach : ℕ) → IsReached defs parts reach → AllHold defs (on_alternatives target 0 [] (take from parts)) → (o : Option Alternative) → slice_get parts reach ≡ o
       → from < length parts → reach < from → ⊥
-  reach-far target from reach r all None e h g = let l = read-none parts reach e in omega (arith, l, h, g)
-    where
-      read-none : {A : Type 0} (xs : List A) (i : ℕ) → slice_get xs i ≡ None → length xs ≤ i
-      read-none [] i e = omega arith
-      read-none (x ∷ xs) zero e = cc
-      read-none (x ∷ xs) (suc i) e = let l = read-none xs i e in omega (arith, l)
+  reach-far target from reach r all None e h g = let l = without parts reach e in omega (arith, l, h, g)
   reach-far target from reach r all (Some a) e h g =
       let c = hold-at defs target parts from reach a g e all in
       reach-clash reach a r e (included-ends defs target reach (take (suc reach) parts) a c) (hold-keys defs target reach (take (suc reach) parts) a c)
@@ -234,5 +230,5 @@ flat-from defs flats parts f ready r = by f.whole refl
     stopped a g (inr b) = wider (suc f.reach) b
 
     by : (w : Bool) → f.whole ≡ w → IsFlat defs parts f
-    by true w = subst (λ z. MatchBool z (Flatten defs parts f.cases × KeysDiffer f.cases) (IsBroken defs parts)) (sym w) (r.whole w)
-    by false w = let s = r.stopped w in subst (λ z. MatchBool z (Flatten defs parts f.cases × KeysDiffer f.cases) (IsBroken defs parts)) (sym w) (stopped s.0 s.1 (r.reached.stops s.0 s.1))
+    by true w = subst (λ z. MatchBool z (Flatten defs parts f.cases.items × IsKeyed f.cases) (IsBroken defs parts)) (sym w) (r.whole w)
+    by false w = let s = r.stopped w in subst (λ z. MatchBool z (Flatten defs parts f.cases.items × IsKeyed f.cases) (IsBroken defs parts)) (sym w) (stopped s.0 s.1 (r.reached.stops s.0 s.1))

@@ -8,7 +8,7 @@ pub mod Cases
 pub mod Same
 -- a record type can be joined where each field is a list, an option or such a record
 pub mod Joins
--- the tags of two cases have the same key
+-- the first case with a key, and cases whose tags have the same key
 pub mod Keys
 -- one syntax leads to another by aliases and inclusions
 pub mod Leads

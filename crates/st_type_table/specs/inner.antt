@@ -4,8 +4,8 @@ pub mod Index
 pub mod Ranking
 pub mod Search
 pub mod Rows
+pub mod KeyIndexes
 pub mod CaseKeys
-pub mod KeySets
 pub mod Flat
 pub mod Kept
 pub mod JoinGraph

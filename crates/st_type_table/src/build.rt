@@ -1,6 +1,6 @@
 //! The table of a list of definitions.
 
-ghost use Rattle.std.specs.Prelude.{◌≡◌, ◌↔◌, ◌<◌, ◌^◌, ℕ, IsTrue, length, IfOk, OnOk, Err, nat_eq};
+ghost use Rattle.std.specs.Prelude.{◌≡◌, ◌↔◌, ◌<◌, ◌^◌, ◌∷◌, [], ℕ, IsTrue, length, IfOk, OnOk, Err, MatchOption, nat_eq};
 ghost use Rattle.st_type_table.specs.declared.fault.Broken.{Broken};
 ghost use Rattle.st_type_table.specs.Breach.{IsSound, FirstBreach, AllHaveFewParts, HasFewParts};
 ghost use Rattle.st_type_table.specs.inner.Survey.{IsSurvey};
@@ -8,6 +8,7 @@ ghost use Rattle.st_type_table.specs.inner.Kept.{IsKept, defs_of, kept_of};
 ghost use Rattle.std.specs.Cmp.Lexicographic.{pointwise};
 ghost use Rattle.indexmap.specs.IndexMap.{insert_entry};
 
+use crate::case_list::CaseList;
 use crate::definitions::Definitions;
 use crate::entry::{Entries, Entry};
 use crate::fault::TypeFault;
@@ -18,8 +19,9 @@ use crate::ranking::settle;
 use crate::survey::{Survey, survey_of};
 use indexmap::IndexMap;
 use st_il::{SyntaxBody, SyntaxDef, copy_body};
-use st_num::{Name, NoMemory};
+use st_num::{Name, NoMemory, Row};
 use std::alloc::Global;
+use std::collections::VecDeque;
 
 /// How many positions 32 bits can tell: a list that they count is shorter.
 const LIMIT: usize = 4_294_967_296;
@@ -85,13 +87,13 @@ pub(crate) fn entries_of(alloc: Global, defs: &[SyntaxDef]) -> Result<Entries, T
         Ok(()) => {}
         Err(fault) => return Err(fault),
     }
-    let entries = settled_entries(alloc, &defs, &survey)?;
+    let entries = settled_entries(alloc, &defs, survey)?;
     Ok(entries)
 }
 
 /// What is kept of definitions that break no rule.
-fn settled_entries(alloc: Global, defs: &Definitions, survey: &Survey) -> Result<Entries, NoMemory>
-    requires survey { IsSurvey defs.now survey.now }
+fn settled_entries(alloc: Global, defs: &Definitions, survey: Survey) -> Result<Entries, NoMemory>
+    requires survey { IsSurvey defs.now survey }
     requires sound { IsSound defs.now }
     ensures kept { IfOk result (λ map. IsKept map.entries) }
     ensures whole { IfOk result (λ map. defs_of map.entries ≡ defs.now) }
@@ -99,8 +101,9 @@ fn settled_entries(alloc: Global, defs: &Definitions, survey: &Survey) -> Result
     let graph = join_graph(alloc, defs)?;
     let joins = settle(alloc, graph.as_slice())?;
     let joins = joins.as_slice();
-    let ranks = survey.ranks.as_slice();
-    let entries = fill(alloc, defs, ranks, survey.flats.as_slice(), joins)?;
+    let Survey { ranks, flats, .. } = survey;
+    let ranks = ranks.as_slice();
+    let entries = fill(alloc, defs, ranks, flats, joins)?;
     Ok(entries)
 }
 
@@ -109,23 +112,35 @@ fn fill(
     alloc: Global,
     defs: &Definitions,
     ranks: &[usize],
-    flats: &[Flat],
+    flats: Row<Flat>,
     joins: &[usize],
 ) -> Result<Entries, NoMemory>
     requires sound { IsSound defs.now }
     requires ranks { length ranks.now ≡ length defs.now }
-    requires flats { length flats.now ≡ length defs.now }
+    requires flats { length flats ≡ length defs.now }
     requires joins { length joins.now ≡ length defs.now }
-    ensures { IfOk result (λ map. map.entries ≡ kept_of defs.now ranks.now flats.now joins.now) }
+    ensures { IfOk result (λ map. map.entries ≡ kept_of defs.now ranks.now flats joins.now) }
 {
     let mut map = IndexMap::new(alloc);
+    let mut left = VecDeque::from_vec(flats.into_vec());
     for at in 0..defs.len() {
+        let Some(flat) = next(&mut left) else {
+            return Ok(map);
+        };
         let def = defs.nth(at);
         let name = def.name.copy(alloc)?;
-        let entry = entry_for(alloc, def, ranks[at], &flats[at], joins[at])?;
+        let entry = entry_for(alloc, def, ranks[at], flat, joins[at])?;
         insert(&mut map, name, entry)?;
     }
     Ok(map)
+}
+
+/// Takes the first of those that are left.
+fn next(left: &mut VecDeque<Flat>) -> Option<Flat>
+    ensures { MatchOption result (left.old.items ≡ [])
+        (λ flat. left.old.items ≡ flat ∷ left.new.items) }
+{
+    left.pop_front()
 }
 
 /// Keeps the entry under this name.
@@ -144,22 +159,25 @@ fn entry_for(
     alloc: Global,
     def: &SyntaxDef,
     rank: usize,
-    flat: &Flat,
+    flat: Flat,
     join_rank: usize,
 ) -> Result<Entry, NoMemory>
     ensures { IfOk result (λ entry. entry ≡ record {
       body = def.now.body;
       rank = rank;
-      cases = flat.now.cases;
+      cases = flat.cases.items;
+      index = flat.cases.index;
       join_rank = join_rank;
     }) }
 {
     let body = copy_body(alloc, &def.body)?;
-    let cases = flat.cases.copy(alloc)?;
+    let Flat { cases, .. } = flat;
+    let CaseList { items, index, .. } = cases;
     Ok(Entry {
         body,
         rank,
-        cases,
+        cases: items,
+        index,
         join_rank,
     })
 }

@@ -3,14 +3,13 @@
 ghost use Rattle.std.specs.Prelude.{◌≡◌, IfOk};
 ghost use Rattle.st_il.specs.Key.{plain};
 ghost use Rattle.st_type_table.specs.Keys.{plain_key};
-ghost use Rattle.st_type_table.specs.inner.CaseKeys.{IsKeyOf, plain_kept};
+ghost use Rattle.st_type_table.specs.inner.CaseKeys.{plain_kept};
 
 use crate::entry::CaseDef;
-use crate::key_set::KeySet;
+use crate::key_index::KeyIndex;
 use st_il::{Key, Template, Ty, copy_tys, key_of, template_of};
 use st_num::{Mark, Name, NoMemory, Row};
 use std::alloc::Global;
-use std::marker::Model;
 
 /// A key that is kept.
 #[derive(Drop)]
@@ -55,105 +54,80 @@ fn key_or_free<'a>(template: &'a Option<Template>) -> Key<'a>
     }
 }
 
-/// The key of a tag.
-fn key_of_tag(alloc: Global, tag: &Name) -> Result<KeptKey, NoMemory>
-    ensures { IfOk result (λ kept. IsKeyOf tag.now (plain_kept kept)) }
+/// A case with this tag and these types of operands.
+fn case_of(alloc: Global, tag: &Name, operands: &[Ty]) -> Result<CaseDef, NoMemory>
+    ensures { IfOk result
+        (λ case. case ≡ record { tag = tag.now; operands = operands.now }) }
 {
-    let template = template_of(alloc, tag)?;
-    let kept = keep(alloc, &key_or_free(&template))?;
-    Ok(kept)
-}
-
-/// A case with its key.
-#[derive(Drop)]
-pub(crate) struct KeyedCase {
-    case: CaseDef,
-    key: KeptKey,
-}
-
-/// The same case again.
-fn copy_case(alloc: Global, case: &CaseDef) -> Result<CaseDef, NoMemory>
-    ensures { IfOk result (λ copy. copy ≡ case.now) }
-{
-    let tag = case.tag.copy(alloc)?;
-    let operands = copy_tys(alloc, case.operands.as_slice())?;
+    let tag = tag.copy(alloc)?;
+    let operands = copy_tys(alloc, operands)?;
     Ok(CaseDef { tag, operands })
 }
 
-/// A case with its key again.
-fn copy_keyed(alloc: Global, item: &KeyedCase) -> Result<KeyedCase, NoMemory>
-    ensures case { IfOk result (λ copy. copy.case ≡ item.now.case) }
-    ensures key { IfOk result (λ copy. plain_kept copy.key ≡ plain_kept item.now.key) }
-{
-    let key = keep(alloc, &view(&item.key))?;
-    let case = copy_case(alloc, &item.case)?;
-    Ok(KeyedCase { case, key })
-}
-
-/// Cases, each with its key. Contracts see the cases alone.
+/// Cases whose keys differ, with the key of each, and an index of the keys.
 #[derive(Drop)]
 pub(crate) struct CaseList {
-    items: Row<KeyedCase>,
-}
-
-impl Model for CaseList {
-    ghost use Rattle.std.specs.Prelude.{List};
-    ghost use Rattle.std.specs.Coded.{codes};
-    ghost use Rattle.st_il.specs.contracts.ty.Ty as ty;
-    ghost use Rattle.st_type_table.specs.declared.entry.CaseDef.{CaseDef};
-    ghost use Rattle.st_type_table.specs.inner.CaseKeys.{AllKeyed, cases_of};
-
-    ghost Value = { List CaseDef };
-
-    ghost coded = { Prim.hlevel (codes, ty.the_row.coded) };
-
-    ghost view = { λ l. cases_of l.items };
-
-    ghost invariant = { λ l. AllKeyed l.items };
+    pub(crate) items: Row<CaseDef>,
+    keys: Row<KeptKey>,
+    pub(crate) index: KeyIndex,
 }
 
 impl CaseList {
     ghost use Rattle.std.specs.Prelude.{◌≡◌, ◌<◌, [], length, IfOk, OnOk};
-    ghost use Rattle.st_type_table.specs.inner.CaseKeys.{AddsOwn, AddsFrom};
-    ghost use Rattle.st_type_table.specs.inner.KeySets.{AreKeys};
+    ghost use Rattle.st_type_table.specs.Keys.{HasKey};
+    ghost use Rattle.st_type_table.specs.inner.CaseKeys.{AddsCase, AddsFrom, IsKeyed};
 
     pub(crate) fn new(alloc: Global) -> CaseList
-        ensures { result ≡ [] }
+        ensures none { result.items ≡ [] }
+        ensures keyed { IsKeyed result }
     {
-        CaseList {
-            items: Row::new(alloc),
-        }
+        let items = Row::new(alloc);
+        let keys = Row::new(alloc);
+        let index = KeyIndex::new(alloc);
+        CaseList { items, keys, index }
     }
 
-    pub(crate) fn len(&self) -> usize
-        ensures { result ≡ length self.now }
+    /// Adds a case with this key where no other has it, and says whether it does.
+    fn add_with(
+        &mut self,
+        alloc: Global,
+        key: &Key,
+        tag: &Name,
+        operands: &[Ty],
+    ) -> Result<bool, NoMemory>
+        requires keyed { IsKeyed self.old }
+        requires key { HasKey tag.now (plain key.now) }
+        ensures added { IfOk result (λ added. AddsCase self.old.items self.new.items
+            (record { tag = tag.now; operands = operands.now }) added) }
+        ensures keyed { OnOk result (IsKeyed self.new) }
     {
-        self.items.len()
+        if let Some(_) = self.index.number_of(key) {
+            return Ok(false);
+        }
+        let number = self.items.len();
+        self.index.insert(alloc, key, number)?;
+        let kept = keep(alloc, key)?;
+        self.keys.push(kept)?;
+        let case = case_of(alloc, tag, operands)?;
+        self.items.push(case)?;
+        Ok(true)
     }
 
     /// Adds a case where its key differs from those of the others, and says whether it does.
     pub(crate) fn add(
         &mut self,
         alloc: Global,
-        keys: &mut KeySet,
         tag: &Name,
         operands: &[Ty],
     ) -> Result<bool, NoMemory>
-        requires { AreKeys self.old keys.old }
-        ensures added { IfOk result (λ added. AddsOwn self.old self.new
+        requires { IsKeyed self.old }
+        ensures added { IfOk result (λ added. AddsCase self.old.items self.new.items
             (record { tag = tag.now; operands = operands.now }) added) }
-        ensures keys { OnOk result (AreKeys self.new keys.new) }
+        ensures keyed { OnOk result (IsKeyed self.new) }
     {
-        let key = key_of_tag(alloc, tag)?;
-        if keys.contains(&key) {
-            return Ok(false);
-        }
-        keys.insert(alloc, &key)?;
-        let tag = tag.copy(alloc)?;
-        let operands = copy_tys(alloc, operands)?;
-        let case = CaseDef { tag, operands };
-        self.items.push(KeyedCase { case, key })?;
-        Ok(true)
+        let template = template_of(alloc, tag)?;
+        let added = self.add_with(alloc, &key_or_free(&template), tag, operands)?;
+        Ok(added)
     }
 
     /// Adds a case of another list where its key differs from those of the others, and says whether
@@ -161,34 +135,22 @@ impl CaseList {
     pub(crate) fn add_from(
         &mut self,
         alloc: Global,
-        keys: &mut KeySet,
         other: &CaseList,
         at: usize,
     ) -> Result<bool, NoMemory>
-        requires within { at < length other.now }
-        requires keys { AreKeys self.old keys.old }
-        ensures added { IfOk result (λ added. AddsFrom self.old self.new other.now at added) }
-        ensures keys { OnOk result (AreKeys self.new keys.new) }
+        requires within { at < length other.now.items }
+        requires other { IsKeyed other.now }
+        requires keyed { IsKeyed self.old }
+        ensures added { IfOk result
+            (λ added. AddsFrom self.old.items self.new.items other.now.items at added) }
+        ensures keyed { OnOk result (IsKeyed self.new) }
     {
-        let item = &other.items.as_slice()[at];
-        if keys.contains(&item.key) {
-            return Ok(false);
-        }
-        keys.insert(alloc, &item.key)?;
-        let copy = copy_keyed(alloc, item)?;
-        self.items.push(copy)?;
-        Ok(true)
-    }
-
-    /// The cases alone.
-    pub(crate) fn copy(&self, alloc: Global) -> Result<Row<CaseDef>, NoMemory>
-        ensures { IfOk result (λ copies. copies ≡ self.now) }
-    {
-        let mut copies = Row::new(alloc);
-        for item in self.items.as_slice() {
-            let copy = copy_case(alloc, &item.case)?;
-            copies.push(copy)?;
-        }
-        Ok(copies)
+        let cases = other.items.as_slice();
+        let keys = other.keys.as_slice();
+        let case = &cases[at];
+        let key = view(&keys[at]);
+        let operands = case.operands.as_slice();
+        let added = self.add_with(alloc, &key, &case.tag, operands)?;
+        Ok(added)
     }
 }

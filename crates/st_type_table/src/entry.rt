@@ -1,5 +1,6 @@
 //! What a table keeps of a syntax.
 
+use crate::key_index::KeyIndex;
 use indexmap::IndexMap;
 use st_il::{SyntaxBody, Ty};
 use st_num::{Name, Row};
@@ -19,6 +20,8 @@ pub(crate) struct Entry {
     pub(crate) rank: usize,
     /// The cases of a variant, with those that it includes.
     pub(crate) cases: Row<CaseDef>,
+    /// The numbers of these cases by their keys.
+    pub(crate) index: KeyIndex,
     /// More than 0 where this is a record that can be joined.
     pub(crate) join_rank: usize,
 }

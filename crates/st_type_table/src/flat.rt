@@ -1,45 +1,24 @@
 //! The cases of a list of alternatives, as long as their keys differ.
 
-ghost use Rattle.std.specs.Prelude.{◌≡◌, ◌<◌, ◌↔◌, ◌++◌, ◌∷◌, [], length, slice_get, suc, true, IsTrue, IfOk, OnOk};
+ghost use Rattle.std.specs.Prelude.{◌≡◌, ◌<◌, ◌↔◌, length, slice_get, suc, true, IsTrue, IfOk, OnOk};
 ghost use Rattle.std.specs.Bool.{MatchBool};
 ghost use Rattle.std.specs.Option.{option_copied};
-ghost use Rattle.st_type_table.specs.Keys.{KeysDiffer};
 ghost use Rattle.st_type_table.specs.Leads.{Ends};
-ghost use Rattle.st_type_table.specs.inner.Flat.{Adds, AddsAlternative, AddsIncluded, IsReady, AreFlats, AllReached, alternatives_in, IsFlatAt, IsFlatOf, IsEndingPart, IsEndless, IsKnownPart, AllKnownParts, TriesAlternative, IsFlattened};
-ghost use Rattle.st_type_table.specs.inner.KeySets.{AreKeys};
+ghost use Rattle.st_type_table.specs.inner.Flat.{AddsAlternative, AddsIncluded, IsReady, AreFlats, AllReached, alternatives_in, IsFlatAt, IsFlatOf, IsEndingPart, IsEndless, IsKnownPart, AllKnownParts, TriesAlternative, IsFlattened};
+ghost use Rattle.st_type_table.specs.inner.CaseKeys.{IsKeyed};
 ghost use Rattle.st_type_table.specs.inner.Graph.{AreRanks, graph_of, EndsIn};
 ghost use Rattle.st_type_table.specs.inner.Rows.{AreRows};
 
 use crate::case_list::CaseList;
 use crate::definitions::Definitions;
 use crate::graph::is_ranked;
-use crate::key_set::KeySet;
 use crate::resolve::meaning_in;
 use crate::rows::rows_of;
 use st_il::{Alternative, SyntaxBody, SyntaxDef, Ty};
 use st_num::{Name, NoMemory, Row};
 use std::alloc::Global;
 
-/// Adds a case where its key differs from those of the others, and says whether it does.
-fn add_case(
-    alloc: Global,
-    cases: &mut CaseList,
-    keys: &mut KeySet,
-    tag: &Name,
-    operands: &[Ty],
-) -> Result<bool, NoMemory>
-    requires differ { KeysDiffer cases.old }
-    requires keys { AreKeys cases.old keys.old }
-    ensures added { IfOk result
-        (λ added. Adds cases.old cases.new
-        (record { tag = tag.now; operands = operands.now } ∷ []) added) }
-    ensures keys { OnOk result (AreKeys cases.new keys.new) }
-{
-    let added = cases.add(alloc, keys, tag, operands)?;
-    Ok(added)
-}
-
-/// The cases of a syntax, in order, where no two have one key.
+/// The cases of a syntax, in order, as far as no two have one key.
 #[derive(Drop)]
 pub(crate) struct Flat {
     pub(crate) cases: CaseList,
@@ -49,22 +28,18 @@ pub(crate) struct Flat {
 }
 
 /// Adds the cases of another variant, and says whether all keys differ.
-fn add_included(
-    alloc: Global,
-    cases: &mut CaseList,
-    keys: &mut KeySet,
-    flat: &Flat,
-) -> Result<bool, NoMemory>
-    requires differ { KeysDiffer cases.old }
-    requires keys { AreKeys cases.old keys.old }
-    ensures added { IfOk result (λ added. AddsIncluded cases.old cases.new flat.now added) }
-    ensures keys { OnOk result (AreKeys cases.new keys.new) }
+fn add_included(alloc: Global, cases: &mut CaseList, flat: &Flat) -> Result<bool, NoMemory>
+    requires flat { flat.now.whole ≡ true → IsKeyed flat.now.cases }
+    requires keyed { IsKeyed cases.old }
+    ensures added { IfOk result
+        (λ added. AddsIncluded cases.old.items cases.new.items flat.now added) }
+    ensures keyed { OnOk result (IsKeyed cases.new) }
 {
     if !flat.whole {
         return Ok(false);
     }
-    for at in 0..flat.cases.len() {
-        if !cases.add_from(alloc, keys, &flat.cases, at)? {
+    for at in 0..flat.cases.items.len() {
+        if !cases.add_from(alloc, &flat.cases, at)? {
             return Ok(false);
         }
     }
@@ -109,27 +84,25 @@ pub(crate) fn add_alternative(
     flats: &[Flat],
     alternative: &Alternative,
     cases: &mut CaseList,
-    keys: &mut KeySet,
 ) -> Result<bool, NoMemory>
     requires ranks { AreRanks (graph_of defs.now) ranks.now }
     requires size { length flats.now ≡ length defs.now }
     requires ready { IsReady defs.now flats.now alternative.now }
-    requires differ { KeysDiffer cases.old }
-    requires keys { AreKeys cases.old keys.old }
+    requires keyed { IsKeyed cases.old }
     ensures added { IfOk result
-        (λ added. AddsAlternative defs.now cases.old cases.new alternative.now added) }
-    ensures keys { OnOk result (AreKeys cases.new keys.new) }
+        (λ added. AddsAlternative defs.now cases.old.items cases.new.items alternative.now added) }
+    ensures keyed { OnOk result (IsKeyed cases.new) }
 {
     match alternative {
         Alternative::Case(tag, operands) => {
-            let added = add_case(alloc, cases, keys, tag, operands.as_slice())?;
+            let added = cases.add(alloc, tag, operands.as_slice())?;
             Ok(added)
         }
         Alternative::Incl(name) => {
             let ty = Ty::Name(name.copy(alloc)?);
             match flat_of(defs, ranks, flats, &ty) {
                 Some(flat) => {
-                    let added = add_included(alloc, cases, keys, flat)?;
+                    let added = add_included(alloc, cases, flat)?;
                     Ok(added)
                 }
                 None => Ok(true),
@@ -169,21 +142,19 @@ fn try_alternative(
     flats: &[Flat],
     alternative: &Alternative,
     cases: &mut CaseList,
-    keys: &mut KeySet,
 ) -> Result<bool, NoMemory>
     requires ranks { AreRanks (graph_of defs.now) ranks.now }
     requires size { length flats.now ≡ length defs.now }
     requires known { IsKnownPart defs.now flats.now alternative.now }
-    requires differ { KeysDiffer cases.old }
-    requires keys { AreKeys cases.old keys.old }
+    requires keyed { IsKeyed cases.old }
     ensures added { IfOk result
-        (λ added. TriesAlternative defs.now cases.old cases.new alternative.now added) }
-    ensures keys { OnOk result (AreKeys cases.new keys.new) }
+        (λ added. TriesAlternative defs.now cases.old.items cases.new.items alternative.now added) }
+    ensures keyed { OnOk result (IsKeyed cases.new) }
 {
     if !is_ending(defs, ranks, alternative) {
         return Ok(false);
     }
-    let added = add_alternative(alloc, defs, ranks, flats, alternative, cases, keys)?;
+    let added = add_alternative(alloc, defs, ranks, flats, alternative, cases)?;
     Ok(added)
 }
 
@@ -201,18 +172,9 @@ fn flatten(
     ensures { IfOk result (λ flat. IsFlattened defs.now alternatives.now flat) }
 {
     let mut cases = CaseList::new(alloc);
-    let mut keys = KeySet::new(alloc);
     for reach in 0..alternatives.len() {
         let alternative = &alternatives[reach];
-        if !try_alternative(
-            alloc,
-            defs,
-            ranks,
-            flats,
-            alternative,
-            &mut cases,
-            &mut keys,
-        )? {
+        if !try_alternative(alloc, defs, ranks, flats, alternative, &mut cases)? {
             let whole = false;
             return Ok(Flat {
                 cases,

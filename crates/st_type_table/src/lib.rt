@@ -18,7 +18,7 @@ mod flat;
 mod form;
 mod graph;
 mod joining;
-mod key_set;
+mod key_index;
 mod meaning;
 mod numbering;
 mod parts;

@@ -6,10 +6,14 @@ ghost use Rattle.st_il.specs.declared.ty.Ty.{Ty};
 ghost use Rattle.st_type_table.specs.declared.entry.CaseDef.{CaseDef};
 ghost use Rattle.st_type_table.specs.Meaning.{body_of, named, alias_of, Means};
 ghost use Rattle.st_type_table.specs.Cases.{HasCases, HasFields};
-ghost use Rattle.st_type_table.specs.inner.Kept.{defs_of, entry_of, entry_named, IsKept};
+ghost use Rattle.st_il.specs.Key.{plain};
+ghost use Rattle.st_type_table.specs.Keys.{KeysDiffer, NoneHasKey, IsFirstWith, IsCaseWith};
+ghost use Rattle.st_type_table.specs.inner.KeyIndexes.{IsKeyIndex};
+ghost use Rattle.st_type_table.specs.inner.Kept.{defs_of, entry_of, entry_named, IsKept, IsVariant};
 
 use crate::entry::{CaseDef, Entries, Entry};
-use st_il::{SyntaxBody, Ty};
+use crate::key_index::KeyIndex;
+use st_il::{Key, SyntaxBody, Ty};
 use st_num::{Name, Row};
 
 /// The entry of a type that is a name.
@@ -49,6 +53,23 @@ pub(crate) fn meaning_of<'a>(entries: &'a Entries, ty: &'a Ty) -> &'a Ty
     meaning
 }
 
+/// The entry of a variant type.
+fn variant_of<'a>(entries: &'a Entries, ty: &Ty) -> Option<&'a Entry>
+    requires { IsKept entries.now.entries }
+    ensures { MatchOption result ((cases : List CaseDef)
+        → HasCases (defs_of entries.now.entries) ty.now cases → ⊥)
+        (λ entry. IsVariant (defs_of entries.now.entries) ty.now entry.now) }
+{
+    match entry_named(entries, meaning_of(entries, ty)) {
+        Some(entry) => match &entry.body {
+            SyntaxBody::Variant(_) => Some(entry),
+            SyntaxBody::Alias(_) => None,
+            SyntaxBody::Fields(_) => None,
+        },
+        None => None,
+    }
+}
+
 /// The cases of a variant type.
 pub(crate) fn cases_of<'a>(entries: &'a Entries, ty: &Ty) -> Option<&'a Row<CaseDef>>
     requires { IsKept entries.now.entries }
@@ -56,12 +77,34 @@ pub(crate) fn cases_of<'a>(entries: &'a Entries, ty: &Ty) -> Option<&'a Row<Case
         → HasCases (defs_of entries.now.entries) ty.now cases → ⊥)
         (λ cases. HasCases (defs_of entries.now.entries) ty.now cases.now) }
 {
-    match entry_named(entries, meaning_of(entries, ty)) {
-        Some(entry) => match &entry.body {
-            SyntaxBody::Variant(_) => Some(&entry.cases),
-            SyntaxBody::Alias(_) => None,
-            SyntaxBody::Fields(_) => None,
-        },
+    match variant_of(entries, ty) {
+        Some(entry) => Some(&entry.cases),
+        None => None,
+    }
+}
+
+/// The first of the cases with this key.
+fn first_with<'a>(cases: &'a [CaseDef], index: &KeyIndex, key: &Key) -> Option<&'a CaseDef>
+    requires differ { KeysDiffer cases.now }
+    requires index { IsKeyIndex cases.now index.now }
+    ensures { MatchOption result (NoneHasKey (plain key.now) cases.now)
+        (λ case. IsFirstWith (plain key.now) cases.now case.now) }
+{
+    match index.number_of(key) {
+        Some(number) => Some(&cases[number]),
+        None => None,
+    }
+}
+
+/// The first case of a variant type with this key.
+pub(crate) fn case_with<'a>(entries: &'a Entries, ty: &Ty, key: &Key) -> Option<&'a CaseDef>
+    requires { IsKept entries.now.entries }
+    ensures { MatchOption result ((cases : List CaseDef)
+        → HasCases (defs_of entries.now.entries) ty.now cases → NoneHasKey (plain key.now) cases)
+        (λ case. IsCaseWith (defs_of entries.now.entries) ty.now (plain key.now) case.now) }
+{
+    match variant_of(entries, ty) {
+        Some(entry) => first_with(entry.cases.as_slice(), &entry.index, key),
         None => None,
     }
 }

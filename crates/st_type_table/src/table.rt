@@ -5,10 +5,10 @@ use crate::entry::{CaseDef, Entries};
 use crate::fault::TypeFault;
 use crate::form::Forms;
 use crate::joining::joins;
-use crate::meaning::{cases_of, fields_of, is_declared, meaning_of};
+use crate::meaning::{case_with, cases_of, fields_of, is_declared, meaning_of};
 use crate::numbering::forms_of;
 use crate::same::same;
-use st_il::{SyntaxDef, Ty};
+use st_il::{Key, SyntaxDef, Ty};
 use st_num::{Name, Row};
 use std::alloc::Global;
 use std::marker::Model;
@@ -47,6 +47,8 @@ impl TypeTable {
     ghost use Rattle.st_type_table.specs.declared.entry.CaseDef.{CaseDef};
     ghost use Rattle.st_type_table.specs.Meaning.{Means, body_of};
     ghost use Rattle.st_type_table.specs.Cases.{HasCases, HasFields};
+    ghost use Rattle.st_il.specs.Key.{plain};
+    ghost use Rattle.st_type_table.specs.Keys.{NoneHasKey, IsCaseWith};
     ghost use Rattle.st_type_table.specs.Joins.{Joins};
     ghost use Rattle.st_type_table.specs.Same.{Same};
 
@@ -109,6 +111,16 @@ impl TypeTable {
             → others ≡ cases.now) }
     {
         cases_of(&self.entries, ty)
+    }
+
+    /// The first case of a variant type with this key.
+    pub fn case_with(&self, ty: &Ty, key: &Key) -> Option<&CaseDef>
+        ensures some { IfSome result
+            (λ case. IsCaseWith self.now ty.now (plain key.now) case.now) }
+        ensures none { IfNone result ((cases : List CaseDef) → HasCases self.now ty.now cases
+            → NoneHasKey (plain key.now) cases) }
+    {
+        case_with(&self.entries, ty, key)
     }
 
     /// The fields of a record type, in declared order.

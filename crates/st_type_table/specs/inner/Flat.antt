@@ -14,6 +14,7 @@ use Rattle.st_type_table.specs.Cases.{Brings, Flatten, or_none}
 use Rattle.st_type_table.specs.Leads.{Ends}
 use Rattle.st_type_table.specs.inner.Graph.{place_of}
 use Rattle.st_type_table.specs.Keys.{KeysDiffer}
+use Rattle.st_type_table.specs.inner.CaseKeys.{IsKeyed}
 
 -- the cases are added, or two of them all would have one key
 abbrev pub Adds : List CaseDef → List CaseDef → List CaseDef → Bool → Type 0
@@ -30,7 +31,7 @@ IsBroken defs alternatives =
 -- all cases of these alternatives, or the word that some have one key
 abbrev pub IsFlat : List SyntaxDef → List Alternative → Flat → Type 0
 IsFlat defs alternatives f =
-    MatchBool f.whole (Flatten defs alternatives f.cases × KeysDiffer f.cases)
+    MatchBool f.whole (Flatten defs alternatives f.cases.items × IsKeyed f.cases)
     (IsBroken defs alternatives)
 
 -- the alternatives of a definition, which are none where it is no variant
@@ -65,8 +66,8 @@ AllReady defs flats (a ∷ as') = IsReady defs flats a × AllReady defs flats as
 -- the cases of the other variant are added, or two of them all would have one key
 abbrev pub AddsIncluded : List CaseDef → List CaseDef → Flat → Bool → Type 0
 AddsIncluded before after f added = MatchBool added
-    ((f.whole ≡ true) × ((after ≡ before ++ f.cases) × KeysDiffer after))
-    ((f.whole ≡ false) ⊎ (KeysDiffer (before ++ f.cases) → ⊥))
+    ((f.whole ≡ true) × ((after ≡ before ++ f.cases.items) × KeysDiffer after))
+    ((f.whole ≡ false) ⊎ (KeysDiffer (before ++ f.cases.items) → ⊥))
 
 -- the cases of the alternative are added, or two of them all would have one key
 abbrev pub AddsAlternative : List SyntaxDef → List CaseDef → List CaseDef → Alternative
@@ -116,7 +117,7 @@ pub record IsReached (defs : List SyntaxDef) (alternatives : List Alternative)
 pub record IsFlattened (defs : List SyntaxDef) (alternatives : List Alternative)
     (f : Flat) : Type 0 where
   pub reached : IsReached defs alternatives f.reach
-  pub whole : f.whole ≡ true → Flatten defs alternatives f.cases × KeysDiffer f.cases
+  pub whole : f.whole ≡ true → Flatten defs alternatives f.cases.items × IsKeyed f.cases
   pub stopped : f.whole ≡ false → (a : Alternative) × (slice_get alternatives f.reach ≡ Some a)
 
 -- what is kept of the definitions with ranks up to this is right

@@ -7,12 +7,15 @@ use Rattle.st_il.specs.declared.ty.Ty.TheOpen.{Ty-F}
 use Rattle.st_il.specs.declared.definition.SyntaxDef.{SyntaxDef}
 use Rattle.st_il.specs.declared.definition.SyntaxBody.{SyntaxBody}
 use Rattle.st_il.specs.declared.definition.SyntaxBody.TheVariants as body
+use Rattle.st_il.specs.declared.definition.Alternative.{Alternative}
 use Rattle.st_type_table.specs.declared.entry.Entry.{Entry}
 use Rattle.st_type_table.specs.declared.flat.Flat.{Flat}
-use Rattle.st_type_table.specs.Cases.{Flatten}
+use Rattle.st_type_table.specs.Cases.{Flatten, HasCases}
 use Rattle.st_type_table.specs.Joins.{AllJoin}
 use Rattle.st_type_table.specs.Breach.{IsSound}
+use Rattle.st_type_table.specs.Keys.{KeysDiffer}
 use Rattle.st_type_table.specs.Leads.{Among, names_in}
+use Rattle.st_type_table.specs.inner.KeyIndexes.{IsKeyIndex}
 
 -- what a table keeps: the names of syntaxes, each with its entry
 abbrev pub Kept : Type 0
@@ -54,22 +57,46 @@ ranked (Some e) = e.rank
 abbrev pub rank_of : Kept → List ℕ → ℕ
 rank_of kept name = ranked (entry_of kept name)
 
+-- the cases of these alternatives are kept, with an index of their keys, which differ
+pub record KeepsCases (defs : List SyntaxDef) (alternatives : List Alternative)
+    (e : Entry) : Type 0 where
+  pub flattened : Flatten defs alternatives e.cases
+  pub differ : KeysDiffer e.cases
+  pub indexed : IsKeyIndex e.cases e.index
+
 -- what an entry keeps of an alias, a variant or a record with this body is right
 abbrev pub IsSettled : Kept → Entry → SyntaxBody → Type 0
 IsSettled kept e (body.Alias t) =
     (name : List ℕ) → Among (names_in t) name → rank_of kept name < e.rank
-IsSettled kept e (body.Variant alternatives) = Flatten (defs_of kept) alternatives e.cases
+IsSettled kept e (body.Variant alternatives) = KeepsCases (defs_of kept) alternatives e
 IsSettled kept e (body.Fields fields) = (0 < e.join_rank) ↔ AllJoin (defs_of kept) fields
 
--- Aliases lead to smaller ranks, a variant has its cases, and a record has a rank where it joins.
+-- Aliases lead to smaller ranks, a variant has its cases, with an index of their keys, and a record
+-- has a rank where it joins.
 abbrev pub AllSettled : Kept → Type 0
 AllSettled kept =
     (name : List ℕ) (e : Entry) → entry_of kept name ≡ Some e → IsSettled kept e e.body
+
+-- the type is a variant, itself or through aliases, and the entry keeps its cases
+pub record IsVariant (defs : List SyntaxDef) (t : Ty) (e : Entry) : Type 0 where
+  pub has : HasCases defs t e.cases
+  pub differ : KeysDiffer e.cases
+  pub indexed : IsKeyIndex e.cases e.index
 
 -- the definitions break no rule, and what is kept of them is right
 pub record IsKept (kept : Kept) : Type 0 where
   pub sound : IsSound (defs_of kept)
   pub settled : AllSettled kept
+
+-- what is kept of a definition with this rank, these cases and this rank of joining
+abbrev pub kept_as : SyntaxDef → ℕ → Flat → ℕ → Entry
+kept_as d rank f joins = record {
+  body = d.body;
+  rank = rank;
+  cases = f.cases.items;
+  index = f.cases.index;
+  join_rank = joins;
+}
 
 -- what is kept of definitions with these ranks, cases and ranks of joining
 abbrev pub kept_of : List SyntaxDef → List ℕ → List Flat → List ℕ → Kept
@@ -78,5 +105,4 @@ kept_of (d ∷ ds) [] flats joins = []
 kept_of (d ∷ ds) (r ∷ rs) [] joins = []
 kept_of (d ∷ ds) (r ∷ rs) (f ∷ fs) [] = []
 kept_of (d ∷ ds) (r ∷ rs) (f ∷ fs) (j ∷ js) =
-    (d.name, record { body = d.body; rank = r; cases = f.cases; join_rank = j })
-    ∷ kept_of ds rs fs js
+    (d.name, kept_as d r f j) ∷ kept_of ds rs fs js

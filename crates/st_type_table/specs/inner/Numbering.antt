@@ -9,7 +9,7 @@ use Rattle.st_type_table.specs.declared.form.Form.{Form}
 use Rattle.st_type_table.specs.declared.form.Form.TheVariants as form
 use Rattle.st_type_table.specs.Leads.{Among, names_in}
 use Rattle.st_type_table.specs.Meaning.{body_of}
-use Rattle.st_type_table.specs.inner.Forms.{Numbers, number_of, form_eq, form_number, type_number, IsOrdered, alias_named}
+use Rattle.st_type_table.specs.inner.Forms.{Numbers, number_of, form_eq, form_number, type_number, IsOrdered}
 
 -- the forms of the first list begin the second
 abbrev pub Grows : List Form → List Form → Type 0

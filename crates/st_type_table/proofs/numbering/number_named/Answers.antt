@@ -1,4 +1,4 @@
-use Rattle.std.proofs.Common.{sym, ap, ◌∙◌, subst, Some, None}
+use Rattle.std.proofs.Common.{sym, ap, ◌∙◌, subst, Some}
 use Rattle.st_type_table.proofs.KeptLemmas.{bodied, body_of-kept}
 use Rattle.st_type_table.specs.inner.Kept.{defs_of}
 use Rattle.st_type_table.specs.inner.Forms.{number_of}

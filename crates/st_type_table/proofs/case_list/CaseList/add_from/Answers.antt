@@ -1,36 +1,28 @@
-use Rattle.std.proofs.Common.{refl, sym, subst}
-use Rattle.st_type_table.specs.inner.CaseKeys.{plain_kept}
-use Rattle.st_type_table.specs.inner.KeySets.{AreKeys}
-use Rattle.st_type_table.proofs.CaseKeyLemmas.{read-keyed, keyed-at, cases-added, case-there}
-use Rattle.st_type_table.proofs.KeySetLemmas.{keys-push}
+use Rattle.std.proofs.Common.{sym, ap, ◌∙◌, subst, length, get_or, arith}
+use Rattle.st_type_table.specs.Keys.{HasKey}
+use Rattle.st_type_table.specs.inner.CaseKeys.{AddsCase}
+use Rattle.st_type_table.proofs.CaseKeyLemmas.{AreKeys-length, AreKeys-at}
+use Rattle.st_type_table.proofs.PartLemmas.{read-at}
 use Rattle.st_type_table.proofs.case_list.CaseList.add_from.Goals as goal
 
-pub returns-then-contains-clause-added : goal.returns-then-contains-clause-added
-returns-then-contains-clause-added c =
-    let there = read-keyed c.other.inside.items c.as_slice.result.now c.args.other.now c.args.at c.index-as_slice-at.result c.other.view_is c.as_slice.ensures c.requires.within c.index-as_slice-at.is in (
-      c.index-as_slice-at.result.case,
-      (
-        case-there c.other.inside.items c.args.other.now c.other.view_is c.args.at c.index-as_slice-at.result there,
-        (c.requires.keys c.index-as_slice-at.result.case.tag (plain_kept c.index-as_slice-at.result.key) (keyed-at c.other.inside.items c.args.at c.index-as_slice-at.result c.other.invariant there)).0 (c.if-contains.ensures.0 refl),
-      ),
-    )
+pub bounds-keys-at : goal.bounds-keys-at
+bounds-keys-at c =
+    let a = AreKeys-length c.args.other.now.items c.args.other.now.keys c.requires.other.keys in
+    let b = ap length c.as_slice-keys.ensures in
+    let h = c.requires.within in
+    omega (arith, a, b, h)
+
+pub add_with-requires-clause-key : goal.add_with-requires-clause-key
+add_with-requires-clause-key c = subst (HasKey c.index-cases-at.result.tag) (sym c.view-key.ensures)
+    (AreKeys-at c.args.other.now.items c.args.other.now.keys c.args.at c.index-cases-at.result c.index-keys-at.result c.requires.other.keys c.requires.within
+    (c.index-cases-at.is ∙ ap (λ xs. get_or xs c.args.at c.index-cases-at.result) c.as_slice-cases.ensures)
+    (c.index-keys-at.is ∙ ap (λ xs. get_or xs c.args.at c.index-keys-at.result) c.as_slice-keys.ensures))
 
 pub returns-clause-added : goal.returns-clause-added
-returns-clause-added c =
-    let there = read-keyed c.other.inside.items c.as_slice.result.now c.args.other.now c.args.at c.index-as_slice-at.result c.other.view_is c.as_slice.ensures c.requires.within c.index-as_slice-at.is in (
-      c.index-as_slice-at.result.case,
-      (
-        case-there c.other.inside.items c.args.other.now c.other.view_is c.args.at c.index-as_slice-at.result there,
-        (
-          cases-added c.self.inside.items c.args.self.now c.self.view_is c.push.new.self c.index-as_slice-at.result.case c.in_ok-copy.copy c.in_ok-copy.ensures.case c.in_ok-push.ensures.ok,
-          λ clash. let f = c.if-contains.ensures.1 ((c.requires.keys c.index-as_slice-at.result.case.tag (plain_kept c.index-as_slice-at.result.key) (keyed-at c.other.inside.items c.args.at c.index-as_slice-at.result c.other.invariant there)).1 clash) in cc,
-        ),
-      ),
-    )
-
-pub returns-clause-keys : goal.returns-clause-keys
-returns-clause-keys c =
-    let there = read-keyed c.other.inside.items c.as_slice.result.now c.args.other.now c.args.at c.index-as_slice-at.result c.other.view_is c.as_slice.ensures c.requires.within c.index-as_slice-at.is in
-    subst (λ cs. AreKeys cs c.insert.new.self) (sym (cases-added c.self.inside.items c.args.self.now c.self.view_is c.push.new.self c.index-as_slice-at.result.case c.in_ok-copy.copy c.in_ok-copy.ensures.case c.in_ok-push.ensures.ok))
-    (keys-push c.args.self.now c.index-as_slice-at.result.case c.args.keys.now c.insert.new.self (plain_kept c.index-as_slice-at.result.key)
-    (keyed-at c.other.inside.items c.args.at c.index-as_slice-at.result c.other.invariant there) c.requires.keys c.in_ok-insert.ensures)
+returns-clause-added c = (
+  c.index-cases-at.result,
+  (
+    read-at c.args.other.now.items c.args.at c.index-cases-at.result c.requires.within (c.index-cases-at.is ∙ ap (λ xs. get_or xs c.args.at c.index-cases-at.result) c.as_slice-cases.ensures),
+    subst (λ ts. AddsCase c.args.self.now.items c.add_with.new.self.items (record { tag = c.index-cases-at.result.tag; operands = ts }) c.in_ok-added.added) c.as_slice-operands.ensures c.in_ok-added.ensures.added,
+  ),
+)
