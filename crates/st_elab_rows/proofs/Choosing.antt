@@ -1,8 +1,7 @@
 -- Which case is chosen, and what fills it.
-use Rattle.std.proofs.Common.{◌≡◌, ◌↔◌, sym, ap, ◌∙◌, subst, ℕ, ◌+◌, ◌<◌, List, [], ◌∷◌, ◌++◌, length, take, drop, get_or, arith, Bool, Option, Some, None}
-use Rattle.std.specs.Prelude.{IsTrue, MatchOption}
+use Rattle.std.proofs.Common.{◌≡◌, sym, ap, ◌∙◌, subst, ℕ, ◌+◌, ◌<◌, List, [], ◌∷◌, ◌++◌, length, take, get_or, Option, Some, None}
+use Rattle.std.specs.Prelude.{IfSome, IfNone}
 use Rattle.std.specs.Borrow.{Bor}
-use Rattle.std.proofs.lemmas.Grind.{common_steps}
 use Rattle.std.proofs.lemmas.List.{take_more}
 use Rattle.st_el.specs.declared.expression.Exp.{Exp}
 use Rattle.st_il.specs.declared.ty.Ty.{Ty}
@@ -12,12 +11,13 @@ use Rattle.st_il.specs.Template.{HasTag}
 use Rattle.st_il.specs.Key.{PlainKey, free}
 use Rattle.st_il.proofs.Tags.{one_template}
 use Rattle.st_type_table.specs.declared.entry.CaseDef.{CaseDef}
-use Rattle.st_type_table.specs.Keys.{HasKey}
-use Rattle.st_type_table.proofs.KeyLemmas.{HasKey-single}
+use Rattle.st_type_table.specs.Cases.{HasCases}
+use Rattle.st_type_table.specs.Keys.{NoneHasKey, IsCaseWith}
+use Rattle.st_type_table.proofs.KeyLemmas.{FirstWith-none}
 use Rattle.st_notation.specs.declared.filled.Shape.{Shape}
 use Rattle.st_notation.specs.Fits.{Filling, FitsWhole}
-use Rattle.st_elab_table.specs.Choice.{HasShape, HaveShapes, NoneHasKey, IsFirstWith, here, later, IsChosenBy, keyed, keyless, FillsCase}
-use Rattle.st_elab_table.proofs.ChoiceLemmas.{HaveShapes-single, FirstWith-none}
+use Rattle.st_elab_table.specs.Choice.{HasShape, HaveShapes, keyed, keyless, IsChosenAt, FillsCase}
+use Rattle.st_elab_table.proofs.ChoiceLemmas.{HaveShapes-single}
 
 shapes_append : (defs : List SyntaxDef) (ts : List Ty) (ss : List Shape) (t : Ty) (s : Shape) → HaveShapes defs ts ss → HasShape defs t s
     → HaveShapes defs (ts ++ t ∷ []) (ss ++ s ∷ [])
@@ -32,27 +32,21 @@ shapes_next defs ts i t ss s h is have has =
     subst (λ z. HaveShapes defs z (ss ++ s ∷ [])) (sym (take_more ts i t h ∙ ap (λ y. take i ts ++ y ∷ []) (sym is)))
     (shapes_append defs (take i ts) ss t s have has)
 
--- a tag has one key
-pub key_exact : (tag : List ℕ) (k m : PlainKey) (r : Bool) → HasKey tag k → IsTrue r ↔ (k ≡ m) → IsTrue r ↔ HasKey tag m
-key_exact tag k m r h e = (λ y. subst (HasKey tag) (e.0 y) h, λ g. e.1 (HasKey-single tag k m (one_template tag) h g))
+-- ---- the case that is chosen
 
-first_in : (k : PlainKey) (front behind : List CaseDef) (c : CaseDef) → NoneHasKey k front → HasKey c.tag k → IsFirstWith k (front ++ c ∷ behind) c
-first_in k [] behind c none h = here h
-first_in k (x ∷ front) behind c none h = later none.0 (first_in k front behind c none.1 h)
-
-cut : {A : Type 0} (xs : List A) (i : ℕ) (x : A) → i < length xs → x ≡ get_or xs i x → xs ≡ take i xs ++ x ∷ drop (i + 1) xs
-cut xs i x h is = grind (arith, common_steps, is)
-
-pub first_at : (k : PlainKey) (cs : List CaseDef) (i : ℕ) (c : CaseDef) → i < length cs → c ≡ get_or cs i c → NoneHasKey k (take i cs) → HasKey c.tag k → IsFirstWith k cs c
-first_at k cs i c h is none has =
-    subst (λ z. IsFirstWith k z c) (sym (cut cs i c h is)) (first_in k (take i cs) (drop (i + 1) cs) c none has)
+pub chosen_keyed : (defs : List SyntaxDef) (t : Ty) (k : PlainKey) (c : CaseDef) → IsCaseWith defs t k c → IsChosenAt defs t k c
+chosen_keyed defs t k c h = record { cases = h.cases; has = h.has; chosen = keyed h.first }
 
 -- where no case has the key, the one without a key is chosen
-pub chosen_free : (k : PlainKey) (cs : List CaseDef) (found : Option (Bor CaseDef)) → NoneHasKey k cs
-    → MatchOption found (NoneHasKey free cs) (λ c. IsFirstWith free cs c.now)
-    → MatchOption found ((c : CaseDef) → IsChosenBy k cs c → ⊥) (λ c. IsChosenBy k cs c.now)
-chosen_free k cs None none h = λ c g. elim g [ keyed f ↦ FirstWith-none k cs c none f | keyless n f ↦ FirstWith-none free cs c h f ]
-chosen_free k cs (Some c) none h = keyless none h
+pub chosen_free : (defs : List SyntaxDef) (t : Ty) (k : PlainKey) (found : Option (Bor CaseDef)) → ((cs : List CaseDef) → HasCases defs t cs → NoneHasKey k cs)
+    → IfSome found (λ c. IsCaseWith defs t free c.now) → IfSome found (λ c. IsChosenAt defs t k c.now)
+chosen_free defs t k None none h = tt
+chosen_free defs t k (Some c) none h = record { cases = h.cases; has = h.has; chosen = keyless (none h.cases h.has) h.first }
+
+pub chosen_none : (defs : List SyntaxDef) (t : Ty) (k : PlainKey) (found : Option (Bor CaseDef)) → ((cs : List CaseDef) → HasCases defs t cs → NoneHasKey k cs)
+    → IfNone found ((cs : List CaseDef) → HasCases defs t cs → NoneHasKey free cs) → IfNone found ((c : CaseDef) → IsChosenAt defs t k c → ⊥)
+chosen_none defs t k None none h = λ c g. elim g.chosen [ keyed f ↦ FirstWith-none k g.cases c (none g.cases g.has) f | keyless n f ↦ FirstWith-none free g.cases c (h g.cases g.has) f ]
+chosen_none defs t k (Some d) none h = tt
 
 -- ---- what fills a case
 

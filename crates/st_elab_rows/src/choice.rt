@@ -1,22 +1,19 @@
 //! Which case of a variant an expression is, and what fills its holes.
 
-ghost use Rattle.std.specs.Prelude.{◌≡◌, ◌↔◌, IsTrue, MatchOption, List, IfOk};
-ghost use Rattle.st_il.specs.Key.{plain};
+ghost use Rattle.std.specs.Prelude.{◌≡◌, MatchOption, List, IfOk, IfSome, IfNone};
 ghost use Rattle.st_type_table.specs.declared.entry.CaseDef.{CaseDef};
-ghost use Rattle.st_type_table.specs.Keys.{HasKey};
 ghost use Rattle.st_notation.specs.Key.{key_of};
 ghost use Rattle.st_notation.specs.Fits.{Filling};
 ghost use Rattle.st_notation.specs.Fitted.{fillings};
-ghost use Rattle.st_type_table.specs.Keys.{plain_key};
 ghost use Rattle.st_il.specs.declared.template.Template.{Template, out-Template};
 ghost use Rattle.st_il.specs.Template.{HasTag};
-ghost use Rattle.st_elab_table.specs.Choice.{HasShape, HaveShapes, NoneHasKey, IsFirstWith, IsChosenBy, FillsCase, shape_of, is_hole, takes_whole_at, takes_whole};
+ghost use Rattle.st_elab_table.specs.Choice.{HasShape, HaveShapes, IsChosenAt, FillsCase, shape_of, is_hole, takes_whole_at, takes_whole};
 
 use crate::form::is_single;
 use st_el::Exp;
-use st_il::{Key, Template, Ty, key_of, same_key, template_of};
+use st_il::{Key, Template, Ty, template_of};
 use st_notation::{Filled, FitFault, Shape, fit, key_of_exp};
-use st_num::{Name, NoMemory, Row};
+use st_num::{NoMemory, Row};
 use st_types::{CaseDef, TypeTable};
 use std::alloc::Global;
 
@@ -50,57 +47,17 @@ pub fn shapes_of(alloc: Global, types: &TypeTable, tys: &[Ty]) -> Result<Row<Sha
     Ok(shapes)
 }
 
-/// The key of a template, where there is one.
-fn key_or_free<'a>(template: &'a Option<Template>) -> Key<'a>
-    ensures { plain result ≡ plain_key template.now }
+/// The case of the type that is chosen by the key of the expression, or else the one without a key.
+pub fn chosen_case<'a>(types: &'a TypeTable, ty: &Ty, exp: &Exp) -> Option<&'a CaseDef>
+    ensures some { IfSome result (λ case. IsChosenAt types.now ty.now (key_of exp.now) case.now) }
+    ensures none { IfNone result
+        ((case : CaseDef) → IsChosenAt types.now ty.now (key_of exp.now) case → ⊥) }
 {
-    match template {
-        Some(template) => key_of(template),
-        None => Key::Free,
+    let key = key_of_exp(exp);
+    if let Some(case) = types.case_with(ty, &key) {
+        return Some(case);
     }
-}
-
-/// Whether the tag has this key.
-fn has_key(alloc: Global, tag: &Name, key: &Key) -> Result<bool, NoMemory>
-    ensures { IfOk result (λ has. IsTrue has ↔ HasKey tag.now (plain key.now)) }
-{
-    let template = template_of(alloc, tag)?;
-    let same = same_key(&key_or_free(&template), key);
-    Ok(same)
-}
-
-/// The first case with this key.
-fn first_with<'a>(
-    alloc: Global,
-    cases: &'a [CaseDef],
-    key: &Key,
-) -> Result<Option<&'a CaseDef>, NoMemory>
-    ensures { IfOk result (λ found. MatchOption found (NoneHasKey (plain key.now) cases.now)
-        (λ case. IsFirstWith (plain key.now) cases.now case.now)) }
-{
-    for case in cases {
-        if has_key(alloc, &case.tag, key)? {
-            return Ok(Some(case));
-        }
-    }
-    Ok(None)
-}
-
-/// The case that is chosen by the key of the expression, or else the one without a key.
-pub fn chosen_case<'a>(
-    alloc: Global,
-    cases: &'a [CaseDef],
-    exp: &Exp,
-) -> Result<Option<&'a CaseDef>, NoMemory>
-    ensures { IfOk result (λ found. MatchOption found
-        ((case : CaseDef) → IsChosenBy (key_of exp.now) cases.now case → ⊥)
-        (λ case. IsChosenBy (key_of exp.now) cases.now case.now)) }
-{
-    if let Some(case) = first_with(alloc, cases, &key_of_exp(exp))? {
-        return Ok(Some(case));
-    }
-    let keyless = first_with(alloc, cases, &Key::Free)?;
-    Ok(keyless)
+    types.case_with(ty, &Key::Free)
 }
 
 /// What fills the holes of the case, where the expression fits it.

@@ -9,6 +9,8 @@ use Rattle.st_il.specs.Template.{HasTag}
 use Rattle.st_il.specs.Key.{PlainKey, free}
 use Rattle.st_il.proofs.Tags.{one_template}
 use Rattle.st_type_table.specs.declared.entry.CaseDef.{CaseDef}
+use Rattle.st_type_table.specs.Keys.{IsFirstWith, here, later}
+use Rattle.st_type_table.proofs.KeyLemmas.{FirstWith-none}
 use Rattle.st_type_table.proofs.MeansLemmas.{Means-single}
 use Rattle.st_type_table.proofs.CasesLemmas.{HasCases-single}
 use Rattle.st_notation.specs.declared.filled.Shape.{Shape}
@@ -17,7 +19,7 @@ use Rattle.st_notation.specs.Fits.{Filling, FitsWhole}
 use Rattle.st_notation.specs.Key.{key_of}
 use Rattle.st_notation.proofs.FitsLemmas.{Fits-single}
 use Rattle.st_elab_table.specs.Questions.{Chosen}
-use Rattle.st_elab_table.specs.Choice.{shape_of, HaveShapes, NoneHasKey, IsFirstWith, here, later, IsChosenBy, keyed, keyless, FillsCase, takes_whole, IsCaseOf}
+use Rattle.st_elab_table.specs.Choice.{shape_of, HaveShapes, IsChosenBy, keyed, keyless, FillsCase, takes_whole, IsCaseOf}
 
 FirstWith-single : (k : PlainKey) (cs : List CaseDef) (c d : CaseDef) → IsFirstWith k cs c → IsFirstWith k cs d → c ≡ d
 FirstWith-single k [] c d h g = elim h [ ]
@@ -25,11 +27,6 @@ FirstWith-single k (x ∷ cs) c d (here p) (here q) = refl
 FirstWith-single k (x ∷ cs) c d (here p) (later n h) = absurd (n p)
 FirstWith-single k (x ∷ cs) c d (later n h) (here q) = absurd (n q)
 FirstWith-single k (x ∷ cs) c d (later n h) (later m g) = FirstWith-single k cs c d h g
-
-pub FirstWith-none : (k : PlainKey) (cs : List CaseDef) (c : CaseDef) → NoneHasKey k cs → IsFirstWith k cs c → ⊥
-FirstWith-none k [] c none h = elim h [ ]
-FirstWith-none k (x ∷ cs) c none (here p) = none.0 p
-FirstWith-none k (x ∷ cs) c none (later n h) = FirstWith-none k cs c none.1 h
 
 pub ChosenBy-single : (k : PlainKey) (cs : List CaseDef) (c d : CaseDef) → IsChosenBy k cs c → IsChosenBy k cs d → c ≡ d
 ChosenBy-single k cs c d (keyed h) (keyed g) = FirstWith-single k cs c d h g

@@ -1,6 +1,5 @@
 -- Which case of a variant an expression is, and what fills the holes of its notation.
 use Rattle.std.specs.Prelude.{◌≡◌, List, [], ◌∷◌, length, Bool, true, false, ◌&&◌}
-use Rattle.std.specs.List.{AllByRecursion}
 use Rattle.st_el.specs.declared.expression.Exp.{Exp}
 use Rattle.st_il.specs.declared.ty.Ty.{Ty, out-Ty}
 use Rattle.st_il.specs.declared.ty.Ty.TheVariants as ty
@@ -13,7 +12,7 @@ use Rattle.st_il.specs.Key.{PlainKey, free}
 use Rattle.st_type_table.specs.declared.entry.CaseDef.{CaseDef}
 use Rattle.st_type_table.specs.Meaning.{Means}
 use Rattle.st_type_table.specs.Cases.{HasCases}
-use Rattle.st_type_table.specs.Keys.{HasKey}
+use Rattle.st_type_table.specs.Keys.{NoneHasKey, IsFirstWith}
 use Rattle.st_notation.specs.declared.filled.Shape.{Shape}
 use Rattle.st_notation.specs.declared.filled.Shape.TheVariants as shape
 use Rattle.st_notation.specs.Fits.{Filling, FitsWhole}
@@ -46,20 +45,16 @@ HaveShapes defs (t ∷ ts) (s ∷ ss) = HasShape defs t s × HaveShapes defs ts 
 
 -- ---- the case
 
--- no case of these has this key
-abbrev pub NoneHasKey : PlainKey → List CaseDef → Type 0
-NoneHasKey k = AllByRecursion (λ (c : CaseDef). HasKey c.tag k → ⊥)
-
--- The case is the first of these with this key.
-pub data IsFirstWith (k : PlainKey) : List CaseDef → CaseDef → Type 0 where
-  here : {c : CaseDef} {cs : List CaseDef} → HasKey c.tag k → IsFirstWith k (c ∷ cs) c
-  later : {d c : CaseDef} {cs : List CaseDef} → (HasKey d.tag k → ⊥) → IsFirstWith k cs c
-      → IsFirstWith k (d ∷ cs) c
-
 -- A case is chosen by a key; where no case has it, the case without a key is chosen.
 pub data IsChosenBy (k : PlainKey) (cases : List CaseDef) (c : CaseDef) : Type 0 where
   keyed : IsFirstWith k cases c → IsChosenBy k cases c
   keyless : NoneHasKey k cases → IsFirstWith free cases c → IsChosenBy k cases c
+
+-- the type is a variant, itself or through aliases, and the case is chosen by the key of its cases
+pub record IsChosenAt (defs : List SyntaxDef) (t : Ty) (k : PlainKey) (c : CaseDef) : Type 0 where
+  pub cases : List CaseDef
+  pub has : HasCases defs t cases
+  pub chosen : IsChosenBy k cases c
 
 -- The expression fits the template of the case, which has an operand for each hole, with this in
 -- its holes.
