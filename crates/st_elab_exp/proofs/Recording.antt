@@ -1,7 +1,6 @@
 -- Records and variants, as the code takes them.
 use Rattle.std.proofs.Common.{◌≡◌, refl, sym, ap, ◌∙◌, subst, arith, ℕ, ◌+◌, ◌<◌, List, [], ◌∷◌, ◌++◌, length, drop, get_or, append_assoc, append-nil, Bool, true, false, Option, Some, None, if◌then◌else◌}
 use Rattle.std.specs.Prelude.{MatchOption}
-use Rattle.std.specs.Borrow.{Bor}
 use Rattle.std.specs.Option.{option_map}
 use Rattle.std.proofs.lemmas.List.{map-append}
 use Rattle.st_num.specs.declared.span.Span.{Span}
@@ -29,7 +28,7 @@ use Rattle.st_elab_table.specs.declared.decls.Decls.{Decls}
 use Rattle.st_elab_table.specs.declared.decls.Scope.{Scope}
 use Rattle.st_dims.specs.declared.within.Within.{Within}
 use Rattle.st_elab_table.proofs.ChoiceLemmas.{ChosenBy-single}
-use Rattle.st_elab_table.specs.Choice.{shape_of, HaveShapes, IsChosenBy, FillsCase, takes_whole, IsCaseOf}
+use Rattle.st_elab_table.specs.Choice.{shape_of, HaveShapes, IsChosenBy, IsChosenAt, FillsCase, takes_whole, IsCaseOf}
 use Rattle.st_elab_table.specs.Questions.{Manner, Chosen, Answer, Fails, Step, asks}
 use Rattle.st_elab_table.specs.Steps.{give, holes, holes_behind, exps}
 use Rattle.st_elab_table.specs.Collections.{other_row}
@@ -130,22 +129,12 @@ module _ (D : Decls) (S : Scope) where
   -- ---- variants
 
   -- what fills the chosen case
-  pub case_fills : (w : Within) (at : Span) (passed : List (List ℕ)) (e : Exp) (t : Ty) (variant name : List ℕ) (cases : List CaseDef) (c : CaseDef) (fs : List Filling) (whole : Bool) (a : Answer)
-      → t ≡ ty.Name name → HasCases D.types t cases → IsChosenBy (key_of e) cases c → FillsCase D.types c e fs → ((t : Template) → HasTag t c.tag → whole ≡ takes_whole t e)
+  pub case_fills : (w : Within) (at : Span) (passed : List (List ℕ)) (e : Exp) (t : Ty) (variant name : List ℕ) (c : CaseDef) (fs : List Filling) (whole : Bool) (a : Answer)
+      → t ≡ ty.Name name → IsChosenAt D.types t (key_of e) c → FillsCase D.types c e fs → ((t : Template) → HasTag t c.tag → whole ≡ takes_whole t e)
       → Leads D S (asks (holes_behind w at (passed_on whole passed variant) fs c.operands) (λ ms. give (il.Case name c.tag (exps ms)) t)) a → Leads D S (case_row w at passed e t variant) a
-  case_fills w at passed e t variant name cases c fs whole a is has chosen filled takes h =
+  case_fills w at passed e t variant name c fs whole a is at_type filled takes h =
       fills (record { name = name; tag = c.tag; operands = c.operands; fillings = fs; whole = whole })
-      (record { cases = cases; asked = is; has = has; chosen = chosen; filled = filled; whole = takes filled.template filled.tagged }) h
-
-abbrev Picks : Exp → List CaseDef → Option (Bor CaseDef) → Type 0
-Picks e cases o = MatchOption o ((d : CaseDef) → IsChosenBy (key_of e) cases d → ⊥) (λ d. IsChosenBy (key_of e) cases d.now)
-
--- the case that is picked is chosen
-pub picked : (e : Exp) (cases : List CaseDef) (o : Option (Bor CaseDef)) (d : Bor CaseDef) → o ≡ Some d → Picks e cases o → IsChosenBy (key_of e) cases d.now
-picked e cases o d is h = subst (Picks e cases) is h
-
-pub none_picked : (e : Exp) (cases : List CaseDef) (o : Option (Bor CaseDef)) → o ≡ None → Picks e cases o → (d : CaseDef) → IsChosenBy (key_of e) cases d → ⊥
-none_picked e cases o is h = subst (Picks e cases) is h
+      (record { cases = at_type.cases; asked = is; has = at_type.has; chosen = at_type.chosen; filled = filled; whole = takes filled.template filled.tagged }) h
 
 abbrev IsFilled : List SyntaxDef → CaseDef → Exp → Option (List Filled) → Type 0
 IsFilled defs d e o = MatchOption o ((fs : List Filling) → FillsCase defs d e fs → ⊥) (λ filled. FillsCase defs d e (fillings filled))
@@ -161,17 +150,15 @@ none_filled defs d e o is h = subst (IsFilled defs d e) is h
 pub unnamed_unfit : (defs : List SyntaxDef) (t : Ty) (e : Exp) → ((n : List ℕ) → t ≡ ty.Name n → ⊥) → (c : Chosen) → IsCaseOf defs t e c → ⊥
 unnamed_unfit defs t e unnamed c h = unnamed c.name h.asked
 
-pub none_chosen : (defs : List SyntaxDef) (t : Ty) (e : Exp) (cases : List CaseDef) → HasCases defs t cases → ((c : CaseDef) → IsChosenBy (key_of e) cases c → ⊥) → (c : Chosen) → IsCaseOf defs t e c → ⊥
-none_chosen defs t e cases has none c h =
-    none (record { tag = c.tag; operands = c.operands })
-    (subst (λ z. IsChosenBy (key_of e) z (record { tag = c.tag; operands = c.operands })) (HasCases-single defs t h.cases cases h.has has) h.chosen)
+pub none_chosen : (defs : List SyntaxDef) (t : Ty) (e : Exp) → ((c : CaseDef) → IsChosenAt defs t (key_of e) c → ⊥) → (c : Chosen) → IsCaseOf defs t e c → ⊥
+none_chosen defs t e none c h = none (record { tag = c.tag; operands = c.operands }) (record { cases = h.cases; has = h.has; chosen = h.chosen })
 
-pub none_fills : (defs : List SyntaxDef) (t : Ty) (e : Exp) (cases : List CaseDef) (d : CaseDef) → HasCases defs t cases → IsChosenBy (key_of e) cases d
+pub none_fills : (defs : List SyntaxDef) (t : Ty) (e : Exp) (d : CaseDef) → IsChosenAt defs t (key_of e) d
     → ((fs : List Filling) → FillsCase defs d e fs → ⊥) → (c : Chosen) → IsCaseOf defs t e c → ⊥
-none_fills defs t e cases d has chosen none c h =
+none_fills defs t e d at none c h =
     let one : CaseDef = record { tag = c.tag; operands = c.operands } in
-    let there : IsChosenBy (key_of e) cases one = subst (λ z. IsChosenBy (key_of e) z one) (HasCases-single defs t h.cases cases h.has has) h.chosen in
-    let same : one ≡ d = ChosenBy-single (key_of e) cases one d there chosen in
+    let there : IsChosenBy (key_of e) at.cases one = subst (λ z. IsChosenBy (key_of e) z one) (HasCases-single defs t h.cases at.cases h.has at.has) h.chosen in
+    let same : one ≡ d = ChosenBy-single (key_of e) at.cases one d there at.chosen in
     none c.fillings (subst (λ z. FillsCase defs z e c.fillings) same h.filled)
 
 -- ---- one declared field

@@ -6,7 +6,7 @@ ghost use Rattle.st_num.specs.declared.fault.Fault.TheVariants as fault;
 ghost use Rattle.std.specs.Option.{option_map};
 ghost use Rattle.st_il.specs.declared.ty.Ty.{Ty, out-Ty};
 ghost use Rattle.st_il.specs.declared.ty.Ty.TheVariants as typ;
-ghost use Rattle.st_type_table.specs.Cases.{HasCases, HasFields};
+ghost use Rattle.st_type_table.specs.Cases.{HasFields};
 ghost use Rattle.st_type_table.specs.Meaning.{Means, fields_of};
 ghost use Rattle.st_notation.specs.declared.filled.Shape.{Shape};
 ghost use Rattle.st_notation.specs.Fits.{Filling};
@@ -27,7 +27,6 @@ use st_elab_table::ExpFault;
 use st_il::{IlExp, Ty};
 use st_notation::{Filled, Shape};
 use st_num::{Name, NoMemory, Row, RuleId, Span};
-use st_types::CaseDef;
 use std::alloc::Global;
 
 /// Whether a field of this shape may be left out.
@@ -184,17 +183,15 @@ fn case_row<E: Elaborator>(
     part: &Part<'_>,
     ty: &Ty,
     variant: &Name,
-    cases: &[CaseDef],
 ) -> Result<Found, ExpFault>
-    requires answers { E.AnswersByTable elaborator.now }
-    requires has { HasCases context.now.decls.now.types ty.now cases.now }
+    requires { E.AnswersByTable elaborator.now }
     ensures { LeadsTo context.now (case_row context.now.within.now part.now.at part.now.passed.now
         part.now.exp.now ty.now variant.now) result }
 {
     let Ty::Name(name) = ty else {
         return unfit(part.at);
     };
-    let Some(case) = chosen_case(context.alloc, cases, part.exp)? else {
+    let Some(case) = chosen_case(&context.decls.types, ty, part.exp) else {
         return unfit(part.at);
     };
     let Some(filled) = fill(context.alloc, &context.decls.types, case, part.exp)? else {
@@ -234,10 +231,8 @@ fn variant_row<E: Elaborator>(
     part: &Part<'_>,
     ty: &Ty,
     meaning: &Ty,
-    cases: &[CaseDef],
 ) -> Result<Found, ExpFault>
-    requires answers { E.AnswersByTable elaborator.now }
-    requires has { HasCases context.now.decls.now.types ty.now cases.now }
+    requires { E.AnswersByTable elaborator.now }
     ensures { LeadsTo context.now (variant_row context.now.within.now part.now.at
         part.now.passed.now part.now.exp.now ty.now (out-Ty meaning.now)) result }
 {
@@ -247,7 +242,7 @@ fn variant_row<E: Elaborator>(
     if is_among(variant, part.passed) {
         return unfit(part.at);
     }
-    case_row(context, elaborator, part, ty, variant, cases)
+    case_row(context, elaborator, part, ty, variant)
 }
 
 /// An atom, a sequence, a sign of notation or a bracket, at a type of this meaning.
@@ -263,7 +258,7 @@ pub fn notation_row<E: Elaborator>(
         (manner part.now) part.now.exp.now ty.now meaning.now) result }
 {
     match context.decls.types.cases(ty) {
-        Some(cases) => variant_row(context, elaborator, part, ty, meaning, cases.as_slice()),
+        Some(_) => variant_row(context, elaborator, part, ty, meaning),
         None => other_row(context, elaborator, part, ty, meaning),
     }
 }

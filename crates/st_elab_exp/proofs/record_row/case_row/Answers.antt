@@ -9,7 +9,7 @@ use Rattle.st_elab_rows.specs.Asking.{LeadsTo}
 use Rattle.st_elab_rows.specs.Parts.{TellsAll, AskedAs}
 use Rattle.st_elab_rows.proofs.Builds.{leading_by, leading_breaks, leads_asks, gives_made}
 use Rattle.st_elab_exp.proofs.Collecting.{same_holes}
-use Rattle.st_elab_exp.proofs.Recording.{case_fills, picked, none_picked, filled_in, none_filled, unnamed_unfit, none_chosen, none_fills}
+use Rattle.st_elab_exp.proofs.Recording.{case_fills, filled_in, none_filled, unnamed_unfit, none_chosen, none_fills}
 use Rattle.st_elab_exp.proofs.record_row.case_row.Goals as goal
 
 pub returns-in_default : goal.returns-in_default
@@ -19,32 +19,29 @@ returns-in_default g c =
     subst (LeadsTo x (case_row x.within.now part.at part.passed.now part.exp.now c.args.ty.now c.args.variant.now)) (sym c.unfit.ensures)
     (case_unfit x.decls.now x.scope.now x.within.now part.at part.passed.now part.exp.now c.args.ty.now c.args.variant.now (unnamed_unfit x.decls.now.types c.args.ty.now part.exp.now c.in_default.not-Name))
 
+pub returns-in_default-chosen_case : goal.returns-in_default-chosen_case
+returns-in_default-chosen_case g c =
+    let x = c.args.context.now in
+    let part = c.args.part.now in
+    subst (LeadsTo x (case_row x.within.now part.at part.passed.now part.exp.now c.args.ty.now c.args.variant.now)) (sym c.unfit-in_default-chosen_case.ensures)
+    (case_unfit x.decls.now x.scope.now x.within.now part.at part.passed.now part.exp.now c.args.ty.now c.args.variant.now
+    (none_chosen x.decls.now.types c.args.ty.now part.exp.now c.in_default-chosen_case.ensures.none))
+
 pub returns-in_default-2 : goal.returns-in_default-2
 returns-in_default-2 g c =
     let x = c.args.context.now in
     let part = c.args.part.now in
     subst (LeadsTo x (case_row x.within.now part.at part.passed.now part.exp.now c.args.ty.now c.args.variant.now)) (sym c.unfit-in_default-2.ensures)
     (case_unfit x.decls.now x.scope.now x.within.now part.at part.passed.now part.exp.now c.args.ty.now c.args.variant.now
-    (none_chosen x.decls.now.types c.args.ty.now part.exp.now c.args.cases.now c.requires.has
-    (none_picked part.exp.now c.args.cases.now _ c.in_default-2.is c.in_ok-case.ensures)))
-
-pub returns-in_default-3 : goal.returns-in_default-3
-returns-in_default-3 g c =
-    let x = c.args.context.now in
-    let part = c.args.part.now in
-    subst (LeadsTo x (case_row x.within.now part.at part.passed.now part.exp.now c.args.ty.now c.args.variant.now)) (sym c.unfit-in_default-3.ensures)
-    (case_unfit x.decls.now x.scope.now x.within.now part.at part.passed.now part.exp.now c.args.ty.now c.args.variant.now
-    (none_fills x.decls.now.types c.args.ty.now part.exp.now c.args.cases.now c.in-Some.case.now c.requires.has
-    (picked part.exp.now c.args.cases.now _ _ c.in-Some.is c.in_ok-case.ensures)
-    (none_filled x.decls.now.types c.in-Some.case.now part.exp.now _ c.in_default-3.is c.in_ok-filled.ensures)))
+    (none_fills x.decls.now.types c.args.ty.now part.exp.now c.in-Some.case.now c.in-Some.ensures.some
+    (none_filled x.decls.now.types c.in-Some.case.now part.exp.now _ c.in_default-2.is c.in_ok-filled.ensures)))
 
 pub returns-in_err-all : goal.returns-in_err-all
 returns-in_err-all g c =
     let x = c.args.context.now in
     let part = c.args.part.now in
-    leading_by _ _ _ _ _ _ (λ a h. case_fills x.decls.now x.scope.now x.within.now part.at part.passed.now part.exp.now c.args.ty.now c.args.variant.now c.in-Name.name c.args.cases.now c.in-Some.case.now (fillings c.in-Some-2.filled) c.in_ok-whole.whole a
-    c.in-Name.is c.requires.has
-    (picked part.exp.now c.args.cases.now _ _ c.in-Some.is c.in_ok-case.ensures)
+    leading_by _ _ _ _ _ _ (λ a h. case_fills x.decls.now x.scope.now x.within.now part.at part.passed.now part.exp.now c.args.ty.now c.args.variant.now c.in-Name.name c.in-Some.case.now (fillings c.in-Some-2.filled) c.in_ok-whole.whole a
+    c.in-Name.is c.in-Some.ensures.some
     (filled_in x.decls.now.types c.in-Some.case.now part.exp.now _ _ c.in-Some-2.is c.in_ok-filled.ensures) c.in_ok-whole.ensures h)
     (leading_breaks _ _ (holes_behind x.within.now part.at (passed_on c.in_ok-whole.whole part.passed.now c.args.variant.now) (fillings c.in-Some-2.filled) c.in-Some.case.now.operands) _ exp_of _
     c.all_holes.result c.from_residual-in_err-all.result c.in_err-all.field-0.0 c.in_err-all.was (search rules)
@@ -55,9 +52,8 @@ pub returns : goal.returns
 returns g c =
     let x = c.args.context.now in
     let part = c.args.part.now in
-    case_fills x.decls.now x.scope.now x.within.now part.at part.passed.now part.exp.now c.args.ty.now c.args.variant.now c.in-Name.name c.args.cases.now c.in-Some.case.now (fillings c.in-Some-2.filled) c.in_ok-whole.whole _
-    c.in-Name.is c.requires.has
-    (picked part.exp.now c.args.cases.now _ _ c.in-Some.is c.in_ok-case.ensures)
+    case_fills x.decls.now x.scope.now x.within.now part.at part.passed.now part.exp.now c.args.ty.now c.args.variant.now c.in-Name.name c.in-Some.case.now (fillings c.in-Some-2.filled) c.in_ok-whole.whole _
+    c.in-Name.is c.in-Some.ensures.some
     (filled_in x.decls.now.types c.in-Some.case.now part.exp.now _ _ c.in-Some-2.is c.in_ok-filled.ensures) c.in_ok-whole.ensures
     (leads_asks _ _ _ exp_of c.in_ok-all.all (λ xs. give (il.Case c.in-Name.name c.in-Some.case.now.tag xs) c.args.ty.now) _
     (subst (λ z. AskedAs x.decls.now x.scope.now z IlExp exp_of c.in_ok-all.all)
