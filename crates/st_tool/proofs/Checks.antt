@@ -12,6 +12,7 @@ use Rattle.st_elab_def.specs.declared.breach.DefFault.{DefFault}
 use Rattle.st_elab_def.specs.declared.elaborated.Elaborated.{Elaborated}
 use Rattle.st_elab_def.specs.Answers.{Answers as Elaborates}
 use Rattle.st_elab_def.specs.Breaches.{IsBreach}
+use Rattle.st_elab_def.specs.Erasing.{ErasesTo}
 use Rattle.st_elab_def.proofs.IsBreach.{IsBreach-within}
 use Rattle.st_num.specs.declared.memory.NoMemory.{NoMemory}
 use Rattle.st_num.specs.declared.rule.RuleId.{RuleId}
@@ -106,19 +107,20 @@ abbrev pub SaysSource : Printed → List (List ℕ) → List Def → Result Answ
 SaysSource print names defs result = IfOk result (λ answer. SourceGives print names defs answer.status answer.bytes.items)
 
 pub source_accepted : (print : Printed) (names : List (List ℕ)) (defs : List Def) (found : Result Elaborated DefFault) (e : Elaborated) (count : ℕ) (about : Bool) (result : Result Answer NoMemory)
-    → Elaborates defs found → found ≡ Ok e → about ≡ some_about_modes defs → about ≡ false → count ≡ length defs → IfOk result (λ answer. answer.status ≡ Done)
+    → Elaborates defs found → IfOk found (ErasesTo defs) → found ≡ Ok e → about ≡ some_about_modes defs → about ≡ false → count ≡ length defs → IfOk result (λ answer. answer.status ≡ Done)
     → IfOk result (λ answer. (ds : List Def) (x : Elaborated) → count ≡ length ds → x.il ≡ e.il → answer.bytes.items ≡ print ds x) → SaysSource print names defs result
-source_accepted print names defs found e count about (Err fault) answers is says none counted status bytes = tt
-source_accepted print names defs found e count about (Ok answer) answers is says none counted status bytes =
+source_accepted print names defs found e count about (Err fault) answers erased is says none counted status bytes = tt
+source_accepted print names defs found e count about (Ok answer) answers erased is says none counted status bytes =
     subst (λ s. SourceGives print names defs s answer.bytes.items) (sym status)
-    (accepted e (subst (Elaborates defs) is answers) (sym says ∙ none) (bytes defs e counted refl))
+    (accepted e (subst (Elaborates defs) is answers) (subst (λ r. IfOk r (ErasesTo defs)) is erased) (sym says ∙ none) (bytes defs e counted refl))
 
 pub source_unbuilt : (print : Printed) (names : List (List ℕ)) (defs : List Def) (found : Result Elaborated DefFault) (e : Elaborated) (about : Bool) (result : Result Answer NoMemory)
-    → Elaborates defs found → found ≡ Ok e → about ≡ some_about_modes defs → about ≡ true → IfOk result (λ answer. IsUnbuilt answer.status answer.bytes.items)
+    → Elaborates defs found → IfOk found (ErasesTo defs) → found ≡ Ok e → about ≡ some_about_modes defs → about ≡ true → IfOk result (λ answer. IsUnbuilt answer.status answer.bytes.items)
     → SaysSource print names defs result
-source_unbuilt print names defs found e about (Err fault) answers is says some tells = tt
-source_unbuilt print names defs found e about (Ok answer) answers is says some (status, bytes) =
-    subst (λ s. SourceGives print names defs s answer.bytes.items) (sym status) (unbuilt e (subst (Elaborates defs) is answers) (sym says ∙ some) bytes)
+source_unbuilt print names defs found e about (Err fault) answers erased is says some tells = tt
+source_unbuilt print names defs found e about (Ok answer) answers erased is says some (status, bytes) =
+    subst (λ s. SourceGives print names defs s answer.bytes.items) (sym status)
+    (unbuilt e (subst (Elaborates defs) is answers) (subst (λ r. IfOk r (ErasesTo defs)) is erased) (sym says ∙ some) bytes)
 
 pub source_broken : (print : Printed) (names : List (List ℕ)) (defs : List Def) (b : Breach) (def : Def) (words name : List ℕ) (result : Result Answer NoMemory) → IsBreach defs b
     → def ≡ get_or defs b.definition def → words ≡ definition_words def.node → name ≡ file_name names b.at → IfOk result (λ answer. answer.status ≡ Specification)

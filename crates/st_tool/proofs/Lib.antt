@@ -8,6 +8,8 @@ mod LineVerdicts
 mod Derivations
 mod Verifications
 mod TokenPlaces
+mod IsNotation
+mod HasTemplates
 mod Checks
 mod DerivedAccepted
 mod TranscriptLemmas

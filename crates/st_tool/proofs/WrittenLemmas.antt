@@ -61,8 +61,8 @@ files_are_own : (print : Printed) (names files : List (List ℕ)) (status : Stat
 files_are_own print names files status bytes (refused_at name at rule fault named text) = own_specification
 files_are_own print names files status bytes (empty none text) = own_done
 files_are_own print names files status bytes (parsed tokens defs all some source (broken b def breach within text)) = own_specification
-files_are_own print names files status bytes (parsed tokens defs all some source (accepted_source e elaborated none text)) = own_done
-files_are_own print names files status bytes (parsed tokens defs all some source (unbuilt_source e elaborated about text)) = own_unbuilt Unbuilt refl
+files_are_own print names files status bytes (parsed tokens defs all some source (accepted_source e elaborated erased none text)) = own_done
+files_are_own print names files status bytes (parsed tokens defs all some source (unbuilt_source e elaborated erased about text)) = own_unbuilt Unbuilt refl
 
 il_is_own : (names files : List (List ℕ)) (status : Status) (bytes : List ℕ) → IlGives names files status bytes → IsOwn status
 il_is_own names files status bytes (inl (small, one, is, text)) = subst IsOwn (sym is) own_done

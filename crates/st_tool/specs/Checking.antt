@@ -9,6 +9,7 @@ use Rattle.st_el.specs.declared.definition.PremNode.{PremNode, out-PremNode}
 use Rattle.st_el.specs.declared.definition.PremNode.TheOpen.{PremNode-F}
 use Rattle.st_elab_def.specs.Breaches.{IsBreach}
 use Rattle.st_elab_def.specs.Elaboration.{IsElaborated}
+use Rattle.st_elab_def.specs.Erasing.{ErasesTo}
 use Rattle.st_elab_def.specs.declared.breach.Breach.{Breach}
 use Rattle.st_elab_def.specs.declared.elaborated.Elaborated.{Elaborated}
 use Rattle.st_num.specs.declared.rule.RuleId.{RuleId}
@@ -90,9 +91,9 @@ file_name names at = unwrap_or (slice_get names at.file) []
 abbrev pub Printed : Type 0
 Printed = List Def → Elaborated → List ℕ
 
--- What is said of the definitions of a source: the first breach, or what is printed of them. The
--- rules on modes are not asked yet: a source that they are about is elaborated, and no more is said
--- of it.
+-- What is said of the definitions of a source: the first breach, or what is printed of them. What
+-- they are elaborated to is erased to them. The rules on modes are not asked yet: a source that
+-- they are about is elaborated, and no more is said of it.
 pub data SourceGives (print : Printed) (names : List (List ℕ)) (defs : List Def)
     : Status → List ℕ → Type 0 where
   -- the first breach, with its place and the definition that it is in
@@ -101,11 +102,11 @@ pub data SourceGives (print : Printed) (names : List (List ℕ)) (defs : List De
       → bytes ≡ refused_source_text (file_name names b.at) b.at (definition_words def.node) b.rule
       → SourceGives print names defs answer.Specification bytes
   -- there is none, and the rules on modes are about nothing
-  accepted : {bytes : List ℕ} (e : Elaborated) → IsElaborated defs e
+  accepted : {bytes : List ℕ} (e : Elaborated) → IsElaborated defs e → ErasesTo defs e
       → some_about_modes defs ≡ false → bytes ≡ print defs e
       → SourceGives print names defs answer.Done bytes
   -- there is none, but the rules on modes are about one of the definitions
-  unbuilt : {bytes : List ℕ} (e : Elaborated) → IsElaborated defs e
+  unbuilt : {bytes : List ℕ} (e : Elaborated) → IsElaborated defs e → ErasesTo defs e
       → some_about_modes defs ≡ true → bytes ≡ unbuilt_text
       → SourceGives print names defs answer.Unbuilt bytes
 

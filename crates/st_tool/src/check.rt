@@ -1,6 +1,7 @@
 //! The files of a specification: their first fault or breach, or what is printed of them.
 
 ghost use Rattle.std.specs.Prelude.{◌≡◌, ◌≢◌, ◌≤◌, [], ◌++◌, List, length, All, IfOk, IfErr, OnOk};
+ghost use Rattle.st_elab_def.specs.Answers.{HasTemplates};
 ghost use Rattle.st_elab_def.specs.Breaches.{IsBreach};
 ghost use Rattle.st_tool.specs.Checking.{AllTokens, TellsFault};
 ghost use Rattle.st_tool.specs.Checking.{Printed as Printing, nothing, SourceGives, FilesGive};
@@ -131,6 +132,7 @@ fn answer_source(
     names: &[CommandWord],
     defs: &[Def],
 ) -> Result<Answer, NoMemory>
+    requires { HasTemplates defs.now }
     ensures { IfOk result (λ answer. SourceGives (print_of printed) names.now defs.now
         answer.status answer.bytes.items) }
 {

@@ -1,7 +1,9 @@
-use Rattle.std.proofs.Common.{subst}
+use Rattle.std.proofs.Common.{subst, sym}
+use Rattle.st_elab_def.specs.Answers.{HasTemplates}
 use Rattle.st_parse.specs.Source.{Answers}
 use Rattle.st_tool.specs.inner.Printing.{print_of}
 use Rattle.st_tool.proofs.Checks.{SaysSource, syntax_stands, files_parsed}
+use Rattle.st_tool.proofs.HasTemplates.{HasTemplates-source}
 use Rattle.st_tool.proofs.check.answer_tokens.Goals as goal
 
 pub faulty-requires : goal.faulty-requires
@@ -9,6 +11,11 @@ faulty-requires c = record {
   named = c.requires.named;
   stands = syntax_stands c.args.files.now c.args.tokens.now c.parse.result c.in-Err.fault c.requires.all c.requires.some c.parse.ensures c.in-Err.is;
 }
+
+pub answer_source-requires : goal.answer_source-requires
+answer_source-requires c =
+    subst HasTemplates (sym c.as_slice.ensures)
+    (HasTemplates-source c.args.files.now c.args.tokens.now c.in-Ok.defs c.requires.all (subst (Answers c.args.tokens.now) c.in-Ok.is c.parse.ensures))
 
 pub returns-in-Ok : goal.returns-in-Ok
 returns-in-Ok c =
