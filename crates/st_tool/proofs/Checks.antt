@@ -14,6 +14,7 @@ use Rattle.st_elab_def.specs.Answers.{Answers as Elaborates}
 use Rattle.st_elab_def.specs.Breaches.{IsBreach}
 use Rattle.st_elab_def.specs.Erasing.{ErasesTo}
 use Rattle.st_elab_def.proofs.IsBreach.{IsBreach-within}
+use Rattle.st_breach_law.proofs.Law.{breaches-stand}
 use Rattle.st_num.specs.declared.memory.NoMemory.{NoMemory}
 use Rattle.st_num.specs.declared.rule.RuleId.{RuleId}
 use Rattle.st_num.specs.declared.span.Span.{Span}
@@ -27,9 +28,9 @@ use Rattle.st_scan.specs.Faults.{FirstFault, of_token, of_utf8}
 use Rattle.st_scan.specs.Tokens.{Tokens}
 use Rattle.st_tool.specs.declared.answer.Answer.{Answer}
 use Rattle.st_tool.specs.declared.status.Status.TheVariants.{Done, Specification}
-use Rattle.st_tool.specs.Checking.{AllTokens, IsSourceFault, TellsFault, some_about_modes, file_name, Printed, nothing, SourceGives, broken, accepted, unbuilt, FilesGive, refused, empty, parsed}
+use Rattle.st_tool.specs.Checking.{AllTokens, IsSourceFault, TellsFault, some_about_modes, Printed, nothing, SourceGives, broken, accepted, unbuilt, FilesGive, refused, empty, parsed}
 use Rattle.st_tool.specs.Commands.{IsUnbuilt}
-use Rattle.st_tool.specs.inner.Printing.{TellsSourceFault}
+use Rattle.st_tool.specs.inner.Printing.{TellsSourceFault, BreachesWithin}
 use Rattle.st_tool.proofs.TokenPlaces.{all_before, place_before}
 use Rattle.st_tool.specs.Texts.{definition_words, no_definition, refused_source_text}
 
@@ -122,14 +123,27 @@ source_unbuilt print names defs found e about (Ok answer) answers erased is says
     subst (λ s. SourceGives print names defs s answer.bytes.items) (sym status)
     (unbuilt e (subst (Elaborates defs) is answers) (subst (λ r. IfOk r (ErasesTo defs)) is erased) (sym says ∙ some) bytes)
 
-pub source_broken : (print : Printed) (names : List (List ℕ)) (defs : List Def) (b : Breach) (def : Def) (words name : List ℕ) (result : Result Answer NoMemory) → IsBreach defs b
-    → def ≡ get_or defs b.definition def → words ≡ definition_words def.node → name ≡ file_name names b.at → IfOk result (λ answer. answer.status ≡ Specification)
-    → IfOk result (λ answer. answer.bytes.items ≡ refused_source_text name b.at words b.rule) → SaysSource print names defs result
-source_broken print names defs b def words name (Err fault) breach is worded named status bytes = tt
-source_broken print names defs b def words name (Ok answer) breach is worded named status bytes =
+pub source_broken : (print : Printed) (names : List (List ℕ)) (defs : List Def) (b : Breach) (def : Def) (words name text : List ℕ) (result : Result Answer NoMemory) → IsBreach defs b
+    → b.at.file < length names → def ≡ get_or defs b.definition def → words ≡ definition_words def.node → name ≡ get_or names b.at.file name → text ≡ name
+    → IfOk result (λ answer. answer.status ≡ Specification) → IfOk result (λ answer. answer.bytes.items ≡ refused_source_text text b.at words b.rule) → SaysSource print names defs result
+source_broken print names defs b def words name text (Err fault) breach within is worded named same status bytes = tt
+source_broken print names defs b def words name text (Ok answer) breach within is worded named same status bytes =
     subst (λ s. SourceGives print names defs s answer.bytes.items) (sym status)
-    (broken b def breach (slice_get-get_or defs b.definition def (IsBreach-within defs b breach) ∙ ap Some (sym is))
-    (bytes ∙ ap (λ n. refused_source_text n b.at words b.rule) named ∙ ap (λ w. refused_source_text (file_name names b.at) b.at w b.rule) worded))
+    (broken b def name breach (slice_get-get_or defs b.definition def (IsBreach-within defs b breach) ∙ ap Some (sym is)) (slice_get-get_or names b.at.file name within ∙ ap Some (sym named))
+    (bytes ∙ ap (λ n. refused_source_text n b.at words b.rule) same ∙ ap (λ w. refused_source_text name b.at w b.rule) worded))
+
+some_file : (files : List (List ℕ)) (tokens : List Token) → AllTokens 0 files tokens → tokens ≢ [] → 0 < length files
+some_file [] tokens all some = absurd (some all)
+some_file (file ∷ files) tokens all some = omega arith
+
+-- each breach of the definitions of a source is in one of its files
+pub breaches_within : (files names : List (List ℕ)) (tokens : List Token) (defs : List Def) → AllTokens 0 files tokens → tokens ≢ [] → IsSource tokens defs → length files ≡ length names
+    → BreachesWithin (length names) defs
+breaches_within files names tokens defs all some source named b breach =
+    let count : length files ≡ 0 + length files = omega arith in
+    let before = all_before (length files) 0 files tokens count all in
+    let within : b.at.file < length files = breaches-stand (length files) tokens defs b (some_file files tokens all some) before source.0.1 breach in
+    omega (arith, within, named)
 
 -- ---- the answer
 

@@ -1,17 +1,13 @@
 -- The files in which the tokens of all files stand.
 use Rattle.std.proofs.Common.{◌≡◌, ◌≢◌, ℕ, zero, suc, ◌+◌, ◌-◌, ◌<◌, List, [], ◌∷◌, length, Bool, true, false, nat_lt, refl, sym, ap, subst, arith}
 use Rattle.std.specs.Prelude.{slice_get}
-use Rattle.std.specs.List.{AllByRecursion}
 use Rattle.st_parse_faults.specs.Place.{place_of, place_at}
 use Rattle.st_num.specs.declared.span.Span.{Span}
 use Rattle.st_parse.proofs.Standing.{both}
 use Rattle.st_scan.specs.declared.token.Token.{Token}
 use Rattle.st_scan.specs.Tokens.{Run}
+use Rattle.st_breach_law.specs.Law.{StandBefore}
 use Rattle.st_tool.specs.Checking.{AllTokens}
-
--- each token stands in a file before number n
-abbrev pub StandBefore : ℕ → List Token → Type 0
-StandBefore n tokens = AllByRecursion (λ (t : Token). t.at.file < n) tokens
 
 run_before : (n number : ℕ) (file rest left : List ℕ) (tokens : List Token) → number < n → Run number file rest tokens left → StandBefore n tokens
 run_before n number file rest left [] small run = tt

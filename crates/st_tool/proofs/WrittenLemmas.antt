@@ -60,7 +60,7 @@ verify_is_own il derivation status bytes (inr (none, (is, text))) = own_unbuilt 
 files_are_own : (print : Printed) (names files : List (List ℕ)) (status : Status) (bytes : List ℕ) → FilesGive print names files status bytes → IsOwn status
 files_are_own print names files status bytes (refused_at name at rule fault named text) = own_specification
 files_are_own print names files status bytes (empty none text) = own_done
-files_are_own print names files status bytes (parsed tokens defs all some source (broken b def breach within text)) = own_specification
+files_are_own print names files status bytes (parsed tokens defs all some source (broken b def name breach within file text)) = own_specification
 files_are_own print names files status bytes (parsed tokens defs all some source (accepted_source e elaborated erased none text)) = own_done
 files_are_own print names files status bytes (parsed tokens defs all some source (unbuilt_source e elaborated erased about text)) = own_unbuilt Unbuilt refl
 

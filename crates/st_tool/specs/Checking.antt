@@ -1,5 +1,5 @@
 -- What a check says of the files of a specification.
-use Rattle.std.specs.Prelude.{◌≡◌, ◌≢◌, ℕ, suc, Bool, true, false, List, [], ◌∷◌, ◌++◌, length, take, Some, unwrap_or, slice_get, ⊤, ◌⊎◌}
+use Rattle.std.specs.Prelude.{◌≡◌, ◌≢◌, ℕ, suc, Bool, true, false, List, [], ◌∷◌, ◌++◌, length, take, Some, slice_get, ⊤, ◌⊎◌}
 use Rattle.std.specs.List.{list_any}
 use Rattle.st_el.specs.declared.definition.Def.{Def}
 use Rattle.st_el.specs.declared.definition.DefNode.{DefNode}
@@ -83,10 +83,6 @@ is_about_modes node = false
 abbrev pub some_about_modes : List Def → Bool
 some_about_modes defs = list_any (λ (def : Def). is_about_modes def.node) defs
 
--- the name of the file in which a place is; of a place in none of them it is empty
-abbrev pub file_name : List (List ℕ) → Span → List ℕ
-file_name names at = unwrap_or (slice_get names at.file) []
-
 -- what is printed of definitions without a breach, and of what they are elaborated to
 abbrev pub Printed : Type 0
 Printed = List Def → Elaborated → List ℕ
@@ -96,10 +92,10 @@ Printed = List Def → Elaborated → List ℕ
 -- they are about is elaborated, and no more is said of it.
 pub data SourceGives (print : Printed) (names : List (List ℕ)) (defs : List Def)
     : Status → List ℕ → Type 0 where
-  -- the first breach, with its place and the definition that it is in
-  broken : {bytes : List ℕ} (b : Breach) (def : Def) → IsBreach defs b
-      → slice_get defs b.definition ≡ Some def
-      → bytes ≡ refused_source_text (file_name names b.at) b.at (definition_words def.node) b.rule
+  -- the first breach, with its place, in the file of this name, and the definition that it is in
+  broken : {bytes : List ℕ} (b : Breach) (def : Def) (name : List ℕ) → IsBreach defs b
+      → slice_get defs b.definition ≡ Some def → slice_get names b.at.file ≡ Some name
+      → bytes ≡ refused_source_text name b.at (definition_words def.node) b.rule
       → SourceGives print names defs answer.Specification bytes
   -- there is none, and the rules on modes are about nothing
   accepted : {bytes : List ℕ} (e : Elaborated) → IsElaborated defs e → ErasesTo defs e

@@ -1,6 +1,6 @@
 //! The files of a specification: their first fault or breach, or what is printed of them.
 
-ghost use Rattle.std.specs.Prelude.{◌≡◌, ◌≢◌, ◌≤◌, [], ◌++◌, List, length, All, IfOk, IfErr, OnOk};
+ghost use Rattle.std.specs.Prelude.{◌≡◌, ◌≢◌, ◌<◌, ◌≤◌, [], ◌++◌, List, length, All, IfOk, IfErr, OnOk};
 ghost use Rattle.st_elab_def.specs.Answers.{HasTemplates};
 ghost use Rattle.st_elab_def.specs.Breaches.{IsBreach};
 ghost use Rattle.st_tool.specs.Checking.{AllTokens, TellsFault};
@@ -8,13 +8,13 @@ ghost use Rattle.st_tool.specs.Checking.{Printed as Printing, nothing, SourceGiv
 ghost use Rattle.st_elab_def.specs.declared.elaborated.Elaborated.{Elaborated as Elaboration};
 ghost use Rattle.st_el.specs.declared.definition.Def.{Def as Definition};
 ghost use Rattle.st_tool.specs.Commands.{source_limit};
-ghost use Rattle.st_tool.specs.inner.Printing.{print_of, TellsSourceFault};
+ghost use Rattle.st_tool.specs.inner.Printing.{print_of, TellsSourceFault, BreachesWithin};
 ghost use Rattle.st_tool.specs.Texts.{definitions_text};
 
 use crate::Status;
 use crate::answer::{Answer, unbuilt};
 use crate::modes::some_about_modes;
-use crate::refusal::{NO_DEFINITION, definition_words, file_name, refused};
+use crate::refusal::{NO_DEFINITION, definition_words, refused};
 use itoa::Buffer;
 use st_el::Def;
 use st_elab_def::{Breach, DefFault, elaborate};
@@ -115,14 +115,16 @@ fn broken(
     defs: &[Def],
     breach: Breach,
 ) -> Result<Answer, NoMemory>
-    requires { IsBreach defs.now breach }
+    requires first { IsBreach defs.now breach }
+    requires within { breach.at.file < length names.now }
     ensures { (print : Printing) → IfOk result (λ answer. SourceGives print names.now defs.now
         answer.status answer.bytes.items) }
 {
     let def = &defs[breach.definition as usize];
     let words = definition_words(alloc, &def.node)?;
-    let name = file_name(names, breach.at);
-    refused(alloc, name, breach.at, words.as_slice(), breach.rule)
+    let at = breach.at;
+    let name = names[at.file as usize].as_str();
+    refused(alloc, name, at, words.as_slice(), breach.rule)
 }
 
 /// Elaborates the definitions of a source in the files of these names.
@@ -132,7 +134,8 @@ fn answer_source(
     names: &[CommandWord],
     defs: &[Def],
 ) -> Result<Answer, NoMemory>
-    requires { HasTemplates defs.now }
+    requires templates { HasTemplates defs.now }
+    requires within { BreachesWithin (length names.now) defs.now }
     ensures { IfOk result (λ answer. SourceGives (print_of printed) names.now defs.now
         answer.status answer.bytes.items) }
 {

@@ -1,7 +1,6 @@
 //! The refusal of a specification: its place, the definition and the rule.
 
 ghost use Rattle.std.specs.Prelude.{◌≡◌, ◌++◌, codes, IfOk, OnOk};
-ghost use Rattle.st_tool.specs.Checking.{file_name};
 ghost use Rattle.st_tool.specs.Texts.{rule_id_word, fragment_words, part_words, definition_words, refused_source_text};
 
 use crate::Status;
@@ -9,7 +8,6 @@ use crate::answer::Answer;
 use itoa::Buffer;
 use st_el::DefNode;
 use st_num::{Name, NoMemory, RuleId, Span};
-use st_words::CommandWord;
 use std::alloc::Global;
 
 /// What stands in place of a definition where none is named.
@@ -110,16 +108,6 @@ pub fn definition_words(alloc: Global, node: &DefNode) -> Result<Vec<u8>, NoMemo
             Ok(words)
         }
         DefNode::Fun { name, .. } | DefNode::Clause { name, .. } => named(alloc, b"def $", name),
-    }
-}
-
-/// The name of the file in which a place is.
-pub fn file_name(names: &[CommandWord], at: Span) -> &str
-    ensures { result.now ≡ file_name names.now at }
-{
-    match names.get(at.file as usize) {
-        Some(name) => name.as_str(),
-        None => "",
     }
 }
 

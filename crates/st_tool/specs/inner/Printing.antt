@@ -1,5 +1,8 @@
 -- What is printed of a specification, by what is asked for, and its first fault.
-use Rattle.std.specs.Prelude.{ℕ, List, ⊤}
+use Rattle.std.specs.Prelude.{ℕ, ◌<◌, List, ⊤}
+use Rattle.st_el.specs.declared.definition.Def.{Def}
+use Rattle.st_elab_def.specs.declared.breach.Breach.{Breach}
+use Rattle.st_elab_def.specs.Breaches.{IsBreach}
 use Rattle.st_num.specs.declared.fault.Fault.{Fault}
 use Rattle.st_num.specs.declared.fault.Fault.TheVariants.{Refused, Memory}
 use Rattle.st_tool.specs.declared.check.Printed.{Printed as Asked}
@@ -15,3 +18,7 @@ print_of Language = language_of
 abbrev pub TellsSourceFault : List (List ℕ) → Fault → Type 0
 TellsSourceFault files (Refused at rule) = IsSourceFault files at rule
 TellsSourceFault files Memory = ⊤
+
+-- each breach of the definitions is in a file before number n
+abbrev pub BreachesWithin : ℕ → List Def → Type 0
+BreachesWithin n defs = (b : Breach) → IsBreach defs b → b.at.file < n

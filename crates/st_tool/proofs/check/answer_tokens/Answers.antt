@@ -1,8 +1,8 @@
-use Rattle.std.proofs.Common.{subst, sym}
+use Rattle.std.proofs.Common.{length, subst, sym}
 use Rattle.st_elab_def.specs.Answers.{HasTemplates}
 use Rattle.st_parse.specs.Source.{Answers}
-use Rattle.st_tool.specs.inner.Printing.{print_of}
-use Rattle.st_tool.proofs.Checks.{SaysSource, syntax_stands, files_parsed}
+use Rattle.st_tool.specs.inner.Printing.{print_of, BreachesWithin}
+use Rattle.st_tool.proofs.Checks.{SaysSource, syntax_stands, breaches_within, files_parsed}
 use Rattle.st_tool.proofs.HasTemplates.{HasTemplates-source}
 use Rattle.st_tool.proofs.check.answer_tokens.Goals as goal
 
@@ -14,8 +14,11 @@ faulty-requires c = record {
 
 pub answer_source-requires : goal.answer_source-requires
 answer_source-requires c =
-    subst HasTemplates (sym c.as_slice.ensures)
-    (HasTemplates-source c.args.files.now c.args.tokens.now c.in-Ok.defs c.requires.all (subst (Answers c.args.tokens.now) c.in-Ok.is c.parse.ensures))
+    let source = subst (Answers c.args.tokens.now) c.in-Ok.is c.parse.ensures in record {
+      templates = subst HasTemplates (sym c.as_slice.ensures) (HasTemplates-source c.args.files.now c.args.tokens.now c.in-Ok.defs c.requires.all source);
+      within = subst (BreachesWithin (length c.args.names.now)) (sym c.as_slice.ensures)
+          (breaches_within c.args.files.now c.args.names.now c.args.tokens.now c.in-Ok.defs c.requires.all c.requires.some source c.requires.named);
+    }
 
 pub returns-in-Ok : goal.returns-in-Ok
 returns-in-Ok c =
