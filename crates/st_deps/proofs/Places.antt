@@ -1,5 +1,5 @@
 -- What stands at a place of a list that is made of others, and ways along citations.
-use Rattle.std.proofs.Common.{◌≡◌, ◌≢◌, ◌⊎◌, inl, inr, refl, ap, ◌∙◌, ℕ, zero, suc, ◌+◌, ◌<◌, List, [], ◌∷◌, ◌++◌, length, set, take, map, Some, slice_get, arith}
+use Rattle.std.proofs.Common.{◌≡◌, ◌≢◌, ◌⊎◌, inl, inr, refl, ap, ◌∙◌, ℕ, zero, suc, ◌+◌, ◌<◌, List, [], ◌∷◌, ◌++◌, length, set, take, map, replicate, Some, slice_get, get_or, take-suc, add-one, arith}
 use Rattle.st_deps.specs.Groups.{Reaches, itself, through}
 use Rattle.st_deps.specs.inner.Graph.{Edge}
 
@@ -16,6 +16,17 @@ same_place (suc i) (suc j) = by (same_place i j)
     by : (i ≡ j) ⊎ (i ≢ j) → (suc i ≡ suc j) ⊎ (suc i ≢ suc j)
     by (inl e) = inl (ap suc e)
     by (inr d) = inr (λ e. d (omega (arith, e)))
+
+-- below the next number is what is below this one, and this one
+pub below-next : (n m : ℕ) → n < suc m → (n < m) ⊎ (n ≡ m)
+below-next zero zero l = inr refl
+below-next zero (suc m) l = inl (omega arith)
+below-next (suc n) zero l = absurd (omega (arith, l))
+below-next (suc n) (suc m) l = deeper (below-next n m (omega (arith, l)))
+  where
+    deeper : (n < m) ⊎ (n ≡ m) → (suc n < suc m) ⊎ (suc n ≡ suc m)
+    deeper (inl h) = inl (omega (arith, h))
+    deeper (inr h) = inr (ap suc h)
 
 module _ {A : Type 0} where
   pub get-none : (k : ℕ) (x : A) → slice_get [] k ≡ Some x → ⊥
@@ -97,6 +108,15 @@ module _ {A : Type 0} where
   set-same [] i x y e = absurd (get-none i y e)
   set-same (z ∷ xs) zero x y e = cc
   set-same (z ∷ xs) (suc i) x y e = set-same xs i x y e
+
+  pub replicate-get : (n : ℕ) (x : A) (k : ℕ) (y : A) → slice_get (replicate n x) k ≡ Some y → x ≡ y
+  replicate-get zero x k y e = absurd (get-none k y e)
+  replicate-get (suc n) x zero y e = cc
+  replicate-get (suc n) x (suc k) y e = replicate-get n x k y e
+
+  -- one more of the front
+  pub take-more : (xs : List A) (k : ℕ) (d : A) → k < length xs → take (k + 1) xs ≡ take k xs ++ get_or xs k d ∷ []
+  take-more xs k d less = ap (λ (n : ℕ). take n xs) (add-one k) ∙ take-suc xs k d less
 
   pub reaches-trans : {Cites : A → A → Type 0} {x y z : A} → Reaches Cites x y → Reaches Cites y z → Reaches Cites x z
   reaches-trans itself h = h

@@ -32,7 +32,7 @@ same-itself x = (bytes_eq-Decides x x).1 refl
 same-equal : (x y : Name) → same_name x y ≡ true → x ≡ y
 same-equal x y h = (bytes_eq-Decides x y).0 h
 
-or-true : (a b : Bool) → b ≡ true → (a || b) ≡ true
+pub or-true : (a b : Bool) → b ≡ true → (a || b) ≡ true
 or-true true b h = refl
 or-true false b h = h
 
@@ -133,7 +133,7 @@ numbers-complete known (x ∷ names) j y (suc k) e h = deeper (number_in known x
 -- ---- rows
 
 module _ (graph : List (List ℕ)) (i : ℕ) (old more : List ℕ) (there : slice_get graph i ≡ Some old) where
-  row-sound : (a b : ℕ) → Edge (set graph i (old ++ more)) a b → Edge graph a b ⊎ ((a ≡ i) × Stands more b)
+  pub row-sound : (a b : ℕ) → Edge (set graph i (old ++ more)) a b → Edge graph a b ⊎ ((a ≡ i) × Stands more b)
   row-sound a b (row, (e, (k, s))) = by (same_place a i)
     where
       split : a ≡ i → (slice_get old k ≡ Some b) ⊎ ((m : ℕ) × ((k ≡ length old + m) × (slice_get more m ≡ Some b))) → Edge graph a b ⊎ ((a ≡ i) × Stands more b)
@@ -146,7 +146,7 @@ module _ (graph : List (List ℕ)) (i : ℕ) (old more : List ℕ) (there : slic
           split q (get-append old more k b (ap (λ (z : List ℕ). slice_get z k) same ∙ s))
       by (inr d) = inl (row, (sym (set-other graph i a (old ++ more) d) ∙ e, (k, s)))
 
-  row-old : (a b : ℕ) → Edge graph a b → Edge (set graph i (old ++ more)) a b
+  pub row-old : (a b : ℕ) → Edge graph a b → Edge (set graph i (old ++ more)) a b
   row-old a b (row, (e, (k, s))) = by (same_place a i)
     where
       by : (a ≡ i) ⊎ (a ≢ i) → Edge (set graph i (old ++ more)) a b
@@ -155,7 +155,7 @@ module _ (graph : List (List ℕ)) (i : ℕ) (old more : List ℕ) (there : slic
           (old ++ more, (ap (slice_get (set graph i (old ++ more))) q ∙ set-here graph i (old ++ more) old there, (k, get-front old more k b (ap (λ (z : List ℕ). slice_get z k) (sym same) ∙ s))))
       by (inr d) = (row, (set-other graph i a (old ++ more) d ∙ e, (k, s)))
 
-  row-new : (b : ℕ) → Stands more b → Edge (set graph i (old ++ more)) i b
+  pub row-new : (b : ℕ) → Stands more b → Edge (set graph i (old ++ more)) i b
   row-new b (m, s) = (old ++ more, (set-here graph i (old ++ more) old there, (length old + m, get-behind old more m ∙ s)))
 
 -- ---- definitions

@@ -85,7 +85,7 @@ fn add_citations(
 }
 
 /// So many rows, of which each is empty.
-fn empty_rows(alloc: Global, len: usize) -> Result<Vec<Row<usize>>, NoMemory>
+pub(crate) fn empty_rows<T: Drop>(alloc: Global, len: usize) -> Result<Vec<Row<T>>, NoMemory>
     ensures { IfOk result (λ rows. rows.items ≡ replicate len []) }
 {
     let mut rows = Vec::new(alloc);
@@ -112,7 +112,7 @@ fn all_citations(
 }
 
 /// The same names again.
-fn copy_names(alloc: Global, names: &[Name]) -> Result<Row<Name>, NoMemory>
+pub(crate) fn copy_names(alloc: Global, names: &[Name]) -> Result<Row<Name>, NoMemory>
     ensures { IfOk result (λ copies. copies ≡ names.now) }
 {
     let mut copies = Row::new(alloc);

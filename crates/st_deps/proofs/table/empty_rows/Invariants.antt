@@ -2,7 +2,7 @@ use Rattle.std.proofs.Common.{◌≡◌, ◌≤◌, ◌-◌, [], length, replica
 use Rattle.st_deps.proofs.table.empty_rows.Given as goal
 
 abbrev pub invariant-rows : goal.invariant-rows
-invariant-rows l = (l.rows.items ≡ replicate (length l.rows.items) []) × (length l.rows.items ≤ l.len)
+invariant-rows g l = (l.rows.items ≡ replicate (length l.rows.items) []) × (length l.rows.items ≤ l.len)
 
 abbrev pub decreases-rows : goal.decreases-rows
-decreases-rows l = l.len - length l.rows.items
+decreases-rows g l = l.len - length l.rows.items
