@@ -28,7 +28,8 @@ use Rattle.st_scan.specs.Faults.{FirstFault, of_token, of_utf8}
 use Rattle.st_scan.specs.Tokens.{Tokens}
 use Rattle.st_tool.specs.declared.answer.Answer.{Answer}
 use Rattle.st_tool.specs.declared.status.Status.TheVariants.{Done, Specification}
-use Rattle.st_tool.specs.Checking.{AllTokens, IsSourceFault, TellsFault, some_about_modes, Printed, nothing, SourceGives, broken, accepted, unbuilt, FilesGive, refused, empty, parsed}
+use Rattle.st_tool.specs.Checking.{AllTokens, IsSourceFault, TellsFault, some_about_modes, nothing, Prints, SourceGives, broken, accepted, unbuilt, FilesGive, refused, empty, parsed}
+use Rattle.st_tool.specs.declared.check.Printed.{Printed}
 use Rattle.st_tool.specs.Commands.{IsUnbuilt}
 use Rattle.st_tool.specs.inner.Printing.{TellsSourceFault, BreachesWithin}
 use Rattle.st_tool.proofs.TokenPlaces.{all_before, place_before}
@@ -105,30 +106,30 @@ syntax_stands files tokens found syntax.Memory all some answers is = tt
 -- ---- definitions
 
 abbrev pub SaysSource : Printed → List (List ℕ) → List Def → Result Answer NoMemory → Type 0
-SaysSource print names defs result = IfOk result (λ answer. SourceGives print names defs answer.status answer.bytes.items)
+SaysSource printed names defs result = IfOk result (λ answer. SourceGives printed names defs answer.status answer.bytes.items)
 
-pub source_accepted : (print : Printed) (names : List (List ℕ)) (defs : List Def) (found : Result Elaborated DefFault) (e : Elaborated) (count : ℕ) (about : Bool) (result : Result Answer NoMemory)
+pub source_accepted : (printed : Printed) (names : List (List ℕ)) (defs : List Def) (found : Result Elaborated DefFault) (e : Elaborated) (count : ℕ) (about : Bool) (result : Result Answer NoMemory)
     → Elaborates defs found → IfOk found (ErasesTo defs) → found ≡ Ok e → about ≡ some_about_modes defs → about ≡ false → count ≡ length defs → IfOk result (λ answer. answer.status ≡ Done)
-    → IfOk result (λ answer. (ds : List Def) (x : Elaborated) → count ≡ length ds → x.il ≡ e.il → answer.bytes.items ≡ print ds x) → SaysSource print names defs result
-source_accepted print names defs found e count about (Err fault) answers erased is says none counted status bytes = tt
-source_accepted print names defs found e count about (Ok answer) answers erased is says none counted status bytes =
-    subst (λ s. SourceGives print names defs s answer.bytes.items) (sym status)
+    → IfOk result (λ answer. (ds : List Def) (x : Elaborated) → count ≡ length ds → x.il ≡ e.il → Prints printed ds x answer.bytes.items) → SaysSource printed names defs result
+source_accepted printed names defs found e count about (Err fault) answers erased is says none counted status bytes = tt
+source_accepted printed names defs found e count about (Ok answer) answers erased is says none counted status bytes =
+    subst (λ s. SourceGives printed names defs s answer.bytes.items) (sym status)
     (accepted e (subst (Elaborates defs) is answers) (subst (λ r. IfOk r (ErasesTo defs)) is erased) (sym says ∙ none) (bytes defs e counted refl))
 
-pub source_unbuilt : (print : Printed) (names : List (List ℕ)) (defs : List Def) (found : Result Elaborated DefFault) (e : Elaborated) (about : Bool) (result : Result Answer NoMemory)
+pub source_unbuilt : (printed : Printed) (names : List (List ℕ)) (defs : List Def) (found : Result Elaborated DefFault) (e : Elaborated) (about : Bool) (result : Result Answer NoMemory)
     → Elaborates defs found → IfOk found (ErasesTo defs) → found ≡ Ok e → about ≡ some_about_modes defs → about ≡ true → IfOk result (λ answer. IsUnbuilt answer.status answer.bytes.items)
-    → SaysSource print names defs result
-source_unbuilt print names defs found e about (Err fault) answers erased is says some tells = tt
-source_unbuilt print names defs found e about (Ok answer) answers erased is says some (status, bytes) =
-    subst (λ s. SourceGives print names defs s answer.bytes.items) (sym status)
+    → SaysSource printed names defs result
+source_unbuilt printed names defs found e about (Err fault) answers erased is says some tells = tt
+source_unbuilt printed names defs found e about (Ok answer) answers erased is says some (status, bytes) =
+    subst (λ s. SourceGives printed names defs s answer.bytes.items) (sym status)
     (unbuilt e (subst (Elaborates defs) is answers) (subst (λ r. IfOk r (ErasesTo defs)) is erased) (sym says ∙ some) bytes)
 
-pub source_broken : (print : Printed) (names : List (List ℕ)) (defs : List Def) (b : Breach) (def : Def) (words name text : List ℕ) (result : Result Answer NoMemory) → IsBreach defs b
+pub source_broken : (printed : Printed) (names : List (List ℕ)) (defs : List Def) (b : Breach) (def : Def) (words name text : List ℕ) (result : Result Answer NoMemory) → IsBreach defs b
     → b.at.file < length names → def ≡ get_or defs b.definition def → words ≡ definition_words def.node → name ≡ get_or names b.at.file name → text ≡ name
-    → IfOk result (λ answer. answer.status ≡ Specification) → IfOk result (λ answer. answer.bytes.items ≡ refused_source_text text b.at words b.rule) → SaysSource print names defs result
-source_broken print names defs b def words name text (Err fault) breach within is worded named same status bytes = tt
-source_broken print names defs b def words name text (Ok answer) breach within is worded named same status bytes =
-    subst (λ s. SourceGives print names defs s answer.bytes.items) (sym status)
+    → IfOk result (λ answer. answer.status ≡ Specification) → IfOk result (λ answer. answer.bytes.items ≡ refused_source_text text b.at words b.rule) → SaysSource printed names defs result
+source_broken printed names defs b def words name text (Err fault) breach within is worded named same status bytes = tt
+source_broken printed names defs b def words name text (Ok answer) breach within is worded named same status bytes =
+    subst (λ s. SourceGives printed names defs s answer.bytes.items) (sym status)
     (broken b def name breach (slice_get-get_or defs b.definition def (IsBreach-within defs b breach) ∙ ap Some (sym is)) (slice_get-get_or names b.at.file name within ∙ ap Some (sym named))
     (bytes ∙ ap (λ n. refused_source_text n b.at words b.rule) same ∙ ap (λ w. refused_source_text name b.at w b.rule) worded))
 
@@ -148,25 +149,25 @@ breaches_within files names tokens defs all some source named b breach =
 -- ---- the answer
 
 abbrev pub SaysFiles : Printed → List (List ℕ) → List (List ℕ) → Result Answer NoMemory → Type 0
-SaysFiles print names files result = IfOk result (λ answer. FilesGive print names files answer.status answer.bytes.items)
+SaysFiles printed names files result = IfOk result (λ answer. FilesGive printed names files answer.status answer.bytes.items)
 
-pub files_empty : (print : Printed) (names files : List (List ℕ)) (tokens : List Token) (result : Result Answer NoMemory) → AllTokens 0 files tokens → tokens ≡ []
-    → IfOk result (λ answer. answer.status ≡ Done) → IfOk result (λ answer. answer.bytes.items ≡ print [] nothing) → SaysFiles print names files result
-files_empty print names files tokens (Err e) all none status bytes = tt
-files_empty print names files tokens (Ok answer) all none status bytes =
-    subst (λ s. FilesGive print names files s answer.bytes.items) (sym status) (empty (subst (AllTokens 0 files) none all) bytes)
+pub files_empty : (printed : Printed) (names files : List (List ℕ)) (tokens : List Token) (result : Result Answer NoMemory) → AllTokens 0 files tokens → tokens ≡ []
+    → IfOk result (λ answer. answer.status ≡ Done) → IfOk result (λ answer. Prints printed [] nothing answer.bytes.items) → SaysFiles printed names files result
+files_empty printed names files tokens (Err e) all none status bytes = tt
+files_empty printed names files tokens (Ok answer) all none status bytes =
+    subst (λ s. FilesGive printed names files s answer.bytes.items) (sym status) (empty (subst (AllTokens 0 files) none all) bytes)
 
-pub files_parsed : (print : Printed) (names files : List (List ℕ)) (tokens : List Token) (defs : List Def) (result : Result Answer NoMemory) → AllTokens 0 files tokens → tokens ≢ [] → IsSource tokens defs
-    → SaysSource print names defs result → SaysFiles print names files result
-files_parsed print names files tokens defs (Err e) all some source says = tt
-files_parsed print names files tokens defs (Ok answer) all some source says = parsed tokens defs all some source says
+pub files_parsed : (printed : Printed) (names files : List (List ℕ)) (tokens : List Token) (defs : List Def) (result : Result Answer NoMemory) → AllTokens 0 files tokens → tokens ≢ [] → IsSource tokens defs
+    → SaysSource printed names defs result → SaysFiles printed names files result
+files_parsed printed names files tokens defs (Err e) all some source says = tt
+files_parsed printed names files tokens defs (Ok answer) all some source says = parsed tokens defs all some source says
 
-pub files_refused : (print : Printed) (names files : List (List ℕ)) (name text : List ℕ) (at : Span) (rule : RuleId) (result : Result Answer NoMemory) → IsSourceFault files at rule
+pub files_refused : (printed : Printed) (names files : List (List ℕ)) (name text : List ℕ) (at : Span) (rule : RuleId) (result : Result Answer NoMemory) → IsSourceFault files at rule
     → length files ≡ length names → name ≡ get_or names at.file name → text ≡ name
     → IfOk result (λ answer. answer.status ≡ Specification) → IfOk result (λ answer. answer.bytes.items ≡ refused_source_text text at no_definition rule)
-    → SaysFiles print names files result
-files_refused print names files name text at rule (Err e) fault named is same status bytes = tt
-files_refused print names files name text at rule (Ok answer) fault named is same status bytes =
-    subst (λ s. FilesGive print names files s answer.bytes.items) (sym status)
+    → SaysFiles printed names files result
+files_refused printed names files name text at rule (Err e) fault named is same status bytes = tt
+files_refused printed names files name text at rule (Ok answer) fault named is same status bytes =
+    subst (λ s. FilesGive printed names files s answer.bytes.items) (sym status)
     (refused name at rule fault (slice_get-get_or names at.file name (fault_within files names at rule fault named) ∙ ap Some (sym is))
     (bytes ∙ ap (λ n. refused_source_text n at no_definition rule) same))

@@ -10,7 +10,9 @@ use Rattle.st_tool.specs.declared.status.Status.TheVariants.{Done, Usage, Specif
 use Rattle.st_tool.specs.declared.transcript.Ending.{Ending}
 use Rattle.st_tool.specs.declared.transcript.Ending.TheVariants.{Stuck, Fuel as OutOfFuel}
 use Rattle.st_tool.specs.Causes.{IsLoadFault, FaultIsTold}
-use Rattle.st_tool.specs.Checking.{Printed, count_of, language_of, FilesGive, IlGives, refused as refused_at, empty, parsed, broken, accepted as accepted_source, unbuilt as unbuilt_source}
+use Rattle.st_tool.specs.Checking.{FilesGive, IlGives, refused as refused_at, empty, parsed, broken, accepted as accepted_source, unbuilt as unbuilt_source}
+use Rattle.st_tool.specs.declared.check.Printed.{Printed}
+use Rattle.st_tool.specs.declared.check.Printed.TheVariants as asked
 use Rattle.st_tool.specs.Commands.{Gives, RunGives, VerifyGives, IsRunText, IsDerivationText, status_of, limit_of}
 use Rattle.st_tool.specs.Loads.{Held, Counts, LoadsTo}
 use Rattle.st_tool.specs.Outcome.{Outcome, HasOutcome, unread, too_many, unbuilt, loads, Written}
@@ -57,16 +59,16 @@ verify_is_own il derivation status bytes (inl (language, lines, rest, texts, unf
 verify_is_own il derivation status bytes (inl (language, lines, rest, texts, endless notes read ended nothing text)) = own_verification
 verify_is_own il derivation status bytes (inr (none, (is, text))) = own_unbuilt status is
 
-files_are_own : (print : Printed) (names files : List (List ℕ)) (status : Status) (bytes : List ℕ) → FilesGive print names files status bytes → IsOwn status
-files_are_own print names files status bytes (refused_at name at rule fault named text) = own_specification
-files_are_own print names files status bytes (empty none text) = own_done
-files_are_own print names files status bytes (parsed tokens defs all some source (broken b def name breach within file text)) = own_specification
-files_are_own print names files status bytes (parsed tokens defs all some source (accepted_source e elaborated erased none text)) = own_done
-files_are_own print names files status bytes (parsed tokens defs all some source (unbuilt_source e elaborated erased about text)) = own_unbuilt Unbuilt refl
+files_are_own : (printed : Printed) (names files : List (List ℕ)) (status : Status) (bytes : List ℕ) → FilesGive printed names files status bytes → IsOwn status
+files_are_own printed names files status bytes (refused_at name at rule fault named text) = own_specification
+files_are_own printed names files status bytes (empty none text) = own_done
+files_are_own printed names files status bytes (parsed tokens defs all some source (broken b def name breach within file text)) = own_specification
+files_are_own printed names files status bytes (parsed tokens defs all some source (accepted_source e elaborated erased none text)) = own_done
+files_are_own printed names files status bytes (parsed tokens defs all some source (unbuilt_source e elaborated erased about text)) = own_unbuilt Unbuilt refl
 
 il_is_own : (names files : List (List ℕ)) (status : Status) (bytes : List ℕ) → IlGives names files status bytes → IsOwn status
 il_is_own names files status bytes (inl (small, one, is, text)) = subst IsOwn (sym is) own_done
-il_is_own names files status bytes (inr (none, gives)) = files_are_own language_of names files status bytes gives
+il_is_own names files status bytes (inr (none, gives)) = files_are_own asked.Language names files status bytes gives
 
 gives_own : (command : Command) (files : List (List ℕ)) (status : Status) (bytes : List ℕ) → Gives command files status bytes → IsOwn status
 gives_own (Il names) files status bytes gives = il_is_own names files status bytes gives
@@ -84,8 +86,8 @@ gives_own (Derive relation name names fuel depth) (one ∷ two ∷ three ∷ fil
 gives_own (Verify il_name name) [] status bytes gives = absurd gives
 gives_own (Verify il_name name) (one ∷ []) status bytes gives = absurd gives
 gives_own (Verify il_name name) (one ∷ two ∷ three ∷ files) status bytes gives = absurd gives
-gives_own (Check names) files status bytes gives = files_are_own count_of names files status bytes gives
-gives_own (Groups names) files status bytes gives = absurd gives
+gives_own (Check names) files status bytes gives = files_are_own asked.Count names files status bytes gives
+gives_own (Groups names) files status bytes gives = files_are_own asked.Groups names files status bytes gives
 gives_own (Order names) files status bytes gives = absurd gives
 gives_own (Eval name names) files status bytes gives = absurd gives
 gives_own (Next relation name names) files status bytes gives = absurd gives

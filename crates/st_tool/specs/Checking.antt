@@ -12,6 +12,9 @@ use Rattle.st_elab_def.specs.Elaboration.{IsElaborated}
 use Rattle.st_elab_def.specs.Erasing.{ErasesTo}
 use Rattle.st_elab_def.specs.declared.breach.Breach.{Breach}
 use Rattle.st_elab_def.specs.declared.elaborated.Elaborated.{Elaborated}
+use Rattle.st_deps.specs.Cited.{Name}
+use Rattle.st_deps.specs.Definitions.{Cites, declared}
+use Rattle.st_deps.specs.Groups.{AreGroups}
 use Rattle.st_num.specs.declared.rule.RuleId.{RuleId}
 use Rattle.st_num.specs.declared.span.Span.{Span}
 use Rattle.st_parse.specs.Source.{IsSource, FaultAt}
@@ -20,6 +23,8 @@ use Rattle.st_num.specs.declared.fault.Fault.TheVariants.{Refused, Memory}
 use Rattle.st_scan.specs.declared.token.Token.{Token}
 use Rattle.st_scan.specs.Faults.{FirstFault}
 use Rattle.st_scan.specs.Tokens.{Tokens}
+use Rattle.st_tool.specs.declared.check.Printed.{Printed}
+use Rattle.st_tool.specs.declared.check.Printed.TheVariants.{Count, Language, Groups}
 use Rattle.st_tool.specs.declared.status.Status.{Status}
 use Rattle.st_tool.specs.declared.status.Status.TheVariants as answer
 use Rattle.st_il.specs.declared.small.Small.{Small}
@@ -27,7 +32,7 @@ use Rattle.st_il.specs.Small.{il_of}
 use Rattle.st_iltext.specs.IlText.{IlText}
 use Rattle.st_iltext.specs.WholeText.{il_text}
 use Rattle.st_tool.specs.SmallText.{IsTextOf}
-use Rattle.st_tool.specs.Texts.{unbuilt_text, definitions_text, definition_words, no_definition, refused_source_text}
+use Rattle.st_tool.specs.Texts.{unbuilt_text, definitions_text, groups_text, definition_words, no_definition, refused_source_text}
 
 -- the tokens of files one behind another; files are numbered, the first by this number
 abbrev pub AllTokens : ℕ → List (List ℕ) → List Token → Type 0
@@ -83,28 +88,33 @@ is_about_modes node = false
 abbrev pub some_about_modes : List Def → Bool
 some_about_modes defs = list_any (λ (def : Def). is_about_modes def.node) defs
 
--- what is printed of definitions without a breach, and of what they are elaborated to
-abbrev pub Printed : Type 0
-Printed = List Def → Elaborated → List ℕ
+-- The text that is asked for, of definitions without a breach and of what they are elaborated to:
+-- how many they are, their internal language, or its groups.
+abbrev pub Prints : Printed → List Def → Elaborated → List ℕ → Type 0
+Prints Count defs e bytes = bytes ≡ definitions_text (length defs)
+Prints Language defs e bytes = bytes ≡ il_text e.il
+Prints Groups defs e bytes =
+    (groups : List (List Name)) × AreGroups (Cites e.il) (declared e.il) groups
+    × (bytes ≡ groups_text groups)
 
 -- What is said of the definitions of a source: the first breach, or what is printed of them. What
 -- they are elaborated to is erased to them. The rules on modes are not asked yet: a source that
 -- they are about is elaborated, and no more is said of it.
-pub data SourceGives (print : Printed) (names : List (List ℕ)) (defs : List Def)
+pub data SourceGives (printed : Printed) (names : List (List ℕ)) (defs : List Def)
     : Status → List ℕ → Type 0 where
   -- the first breach, with its place, in the file of this name, and the definition that it is in
   broken : {bytes : List ℕ} (b : Breach) (def : Def) (name : List ℕ) → IsBreach defs b
       → slice_get defs b.definition ≡ Some def → slice_get names b.at.file ≡ Some name
       → bytes ≡ refused_source_text name b.at (definition_words def.node) b.rule
-      → SourceGives print names defs answer.Specification bytes
+      → SourceGives printed names defs answer.Specification bytes
   -- there is none, and the rules on modes are about nothing
   accepted : {bytes : List ℕ} (e : Elaborated) → IsElaborated defs e → ErasesTo defs e
-      → some_about_modes defs ≡ false → bytes ≡ print defs e
-      → SourceGives print names defs answer.Done bytes
+      → some_about_modes defs ≡ false → Prints printed defs e bytes
+      → SourceGives printed names defs answer.Done bytes
   -- there is none, but the rules on modes are about one of the definitions
   unbuilt : {bytes : List ℕ} (e : Elaborated) → IsElaborated defs e → ErasesTo defs e
       → some_about_modes defs ≡ true → bytes ≡ unbuilt_text
-      → SourceGives print names defs answer.Unbuilt bytes
+      → SourceGives printed names defs answer.Unbuilt bytes
 
 -- ---- files
 
@@ -113,31 +123,23 @@ abbrev pub nothing : Elaborated
 nothing = record { il = record { defs = [] }; sources = [] }
 
 -- What is said of the files of these names: the first fault or breach, or what is printed of them.
-pub data FilesGive (print : Printed) (names files : List (List ℕ)) : Status → List ℕ → Type 0 where
+pub data FilesGive (printed : Printed) (names files : List (List ℕ)) : Status → List ℕ → Type 0 where
   -- the first fault, with its place, in the file of this name
   refused : {bytes : List ℕ} (name : List ℕ) (at : Span) (rule : RuleId)
       → IsSourceFault files at rule → slice_get names at.file ≡ Some name
       → bytes ≡ refused_source_text name at no_definition rule
-      → FilesGive print names files answer.Specification bytes
+      → FilesGive printed names files answer.Specification bytes
   -- the files have no token, so no definition
-  empty : {bytes : List ℕ} → AllTokens 0 files [] → bytes ≡ print [] nothing
-      → FilesGive print names files answer.Done bytes
+  empty : {bytes : List ℕ} → AllTokens 0 files [] → Prints printed [] nothing bytes
+      → FilesGive printed names files answer.Done bytes
   -- the tokens of the files are those of a source, of which this is said
   parsed : {status : Status} {bytes : List ℕ} (tokens : List Token) (defs : List Def)
       → AllTokens 0 files tokens → tokens ≢ [] → IsSource tokens defs
-      → SourceGives print names defs status bytes → FilesGive print names files status bytes
-
--- how many definitions there are
-abbrev pub count_of : Printed
-count_of defs e = definitions_text (length defs)
+      → SourceGives printed names defs status bytes → FilesGive printed names files status bytes
 
 -- what a check says of files: their first fault or breach, or how many definitions they have
 abbrev pub CheckGives : List (List ℕ) → List (List ℕ) → Status → List ℕ → Type 0
-CheckGives = FilesGive count_of
-
--- the text of the internal language
-abbrev pub language_of : Printed
-language_of defs e = il_text e.il
+CheckGives = FilesGive Count
 
 -- the files are one file, which is the text of this small specification
 abbrev pub IsOneSmall : List (List ℕ) → Small → Type 0
@@ -150,4 +152,8 @@ IlGives names files status bytes =
     ((small : Small) × IsOneSmall files small × (status ≡ answer.Done)
     × IlText (il_of small) bytes)
     ⊎ (((small : Small) → IsOneSmall files small → ⊥)
-    × FilesGive language_of names files status bytes)
+    × FilesGive Language names files status bytes)
+
+-- what is said of files whose groups are asked for: their first fault or breach, or the groups
+abbrev pub GroupsGive : List (List ℕ) → List (List ℕ) → Status → List ℕ → Type 0
+GroupsGive = FilesGive Groups

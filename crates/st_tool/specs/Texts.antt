@@ -1,5 +1,6 @@
 -- The printed texts of commands.
 use Rattle.std.specs.Prelude.{ℕ, ◌+◌, ◌-◌, length, List, [], ◌∷◌, ◌++◌, Option, Some, None, codes, decimal}
+use Rattle.std.specs.List.{flat_map}
 use Rattle.st_el.specs.declared.definition.DefNode.{DefNode}
 use Rattle.st_el.specs.declared.definition.DefNode.TheVariants.{Syntax, Var, Relation, Rule, Fun, Clause}
 use Rattle.st_il.specs.declared.value.Value.{Value, out-Value}
@@ -73,6 +74,19 @@ load_failed_text name = codes "load failed " ++ name ++ codes "\n"
 -- a file is longer than its limit
 abbrev pub too_large_text : List ℕ → List ℕ
 too_large_text name = codes "too large " ++ name ++ codes "\n"
+
+-- names with a space in front of each
+abbrev pub names_text : List (List ℕ) → List ℕ
+names_text names = flat_map (λ (name : List ℕ). codes " " ++ name) names
+
+-- the line of a group: its names, with a space between
+abbrev pub group_line : List (List ℕ) → List ℕ
+group_line [] = codes "\n"
+group_line (first ∷ others) = first ++ names_text others ++ codes "\n"
+
+-- the lines of groups
+abbrev pub groups_text : List (List (List ℕ)) → List ℕ
+groups_text groups = flat_map group_line groups
 
 -- a derivation is accepted: its lines, and the steps among them
 abbrev pub accepted_text : ℕ → ℕ → List ℕ

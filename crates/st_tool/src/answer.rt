@@ -76,6 +76,7 @@ fn answer_given(alloc: Global, command: &Command, given: &[Row<u8>]) -> Result<A
     match command {
         Command::Check(names) => answer_files(alloc, Printed::Count, names.as_slice(), given),
         Command::Il(names) => il_files(alloc, names.as_slice(), given),
+        Command::Groups(names) => answer_files(alloc, Printed::Groups, names.as_slice(), given),
         Command::Run(relation, _, _, _, _) => {
             let (term, file) = two_files(given);
             run_file(alloc, relation.as_str(), term, file)
@@ -88,8 +89,7 @@ fn answer_given(alloc: Global, command: &Command, given: &[Row<u8>]) -> Result<A
             let (il, derivation) = two_files(given);
             verify_files(alloc, il, derivation)
         }
-        Command::Groups(_)
-        | Command::Order(_)
+        Command::Order(_)
         | Command::Eval(_, _)
         | Command::Next(_, _, _)
         | Command::Prose(_)
@@ -140,9 +140,8 @@ fn has_built_form(command: &Command) -> bool
 {
     match command {
         Command::Run(_, _, files, _, _) | Command::Derive(_, _, files, _, _) => files.len() == 1,
-        Command::Check(_) | Command::Il(_) | Command::Verify(_, _) => true,
-        Command::Groups(_)
-        | Command::Order(_)
+        Command::Check(_) | Command::Il(_) | Command::Groups(_) | Command::Verify(_, _) => true,
+        Command::Order(_)
         | Command::Eval(_, _)
         | Command::Next(_, _, _)
         | Command::Prose(_)

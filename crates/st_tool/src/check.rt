@@ -4,15 +4,17 @@ ghost use Rattle.std.specs.Prelude.{◌≡◌, ◌≢◌, ◌<◌, ◌≤◌, []
 ghost use Rattle.st_elab_def.specs.Answers.{HasTemplates};
 ghost use Rattle.st_elab_def.specs.Breaches.{IsBreach};
 ghost use Rattle.st_tool.specs.Checking.{AllTokens, TellsFault};
-ghost use Rattle.st_tool.specs.Checking.{Printed as Printing, nothing, SourceGives, FilesGive};
+ghost use Rattle.st_tool.specs.Checking.{nothing, Prints, SourceGives, FilesGive};
 ghost use Rattle.st_elab_def.specs.declared.elaborated.Elaborated.{Elaborated as Elaboration};
 ghost use Rattle.st_el.specs.declared.definition.Def.{Def as Definition};
 ghost use Rattle.st_tool.specs.Commands.{source_limit};
-ghost use Rattle.st_tool.specs.inner.Printing.{print_of, TellsSourceFault, BreachesWithin};
+ghost use Rattle.st_tool.specs.declared.check.Printed.{Printed as Asked};
+ghost use Rattle.st_tool.specs.inner.Printing.{TellsSourceFault, BreachesWithin};
 ghost use Rattle.st_tool.specs.Texts.{definitions_text};
 
 use crate::Status;
 use crate::answer::{Answer, unbuilt};
+use crate::grouping::groups_printed;
 use crate::modes::some_about_modes;
 use crate::refusal::{NO_DEFINITION, definition_words, refused};
 use itoa::Buffer;
@@ -56,6 +58,8 @@ pub enum Printed {
     Count,
     /// Its internal language.
     Language,
+    /// The groups of its definitions.
+    Groups,
 }
 
 /// The line with so many definitions.
@@ -75,11 +79,12 @@ fn accepted(alloc: Global, printed: Printed, definitions: u64, il: &Il) -> Resul
     ensures status { IfOk result (λ answer. answer.status ≡ Status.Done) }
     ensures bytes { IfOk result (λ answer. (defs : List Definition) (e : Elaboration)
         → definitions ≡ length defs → e.il ≡ il.now
-        → answer.bytes.items ≡ print_of printed defs e) }
+        → Prints printed defs e answer.bytes.items) }
 {
     let bytes = match printed {
         Printed::Count => counted(alloc, definitions)?,
         Printed::Language => print_whole(alloc, il)?.into_vec(),
+        Printed::Groups => groups_printed(alloc, il)?,
     };
     Ok(Answer {
         status: Status::Done,
@@ -96,7 +101,7 @@ fn faulty(
 ) -> Result<Answer, NoMemory>
     requires named { length files.now ≡ length names.now }
     requires stands { TellsSourceFault files.now fault }
-    ensures { (print : Printing) → IfOk result (λ answer. FilesGive print names.now files.now
+    ensures { (asked : Asked) → IfOk result (λ answer. FilesGive asked names.now files.now
         answer.status answer.bytes.items) }
 {
     match fault {
@@ -117,7 +122,7 @@ fn broken(
 ) -> Result<Answer, NoMemory>
     requires first { IsBreach defs.now breach }
     requires within { breach.at.file < length names.now }
-    ensures { (print : Printing) → IfOk result (λ answer. SourceGives print names.now defs.now
+    ensures { (asked : Asked) → IfOk result (λ answer. SourceGives asked names.now defs.now
         answer.status answer.bytes.items) }
 {
     let def = &defs[breach.definition as usize];
@@ -136,7 +141,7 @@ fn answer_source(
 ) -> Result<Answer, NoMemory>
     requires templates { HasTemplates defs.now }
     requires within { BreachesWithin (length names.now) defs.now }
-    ensures { IfOk result (λ answer. SourceGives (print_of printed) names.now defs.now
+    ensures { IfOk result (λ answer. SourceGives printed names.now defs.now
         answer.status answer.bytes.items) }
 {
     match elaborate(alloc, defs) {
@@ -163,7 +168,7 @@ fn answer_tokens(
     requires named { length files.now ≡ length names.now }
     requires all { AllTokens 0 files.now tokens.now }
     requires some { tokens.now ≢ [] }
-    ensures { IfOk result (λ answer. FilesGive (print_of printed) names.now files.now
+    ensures { IfOk result (λ answer. FilesGive printed names.now files.now
         answer.status answer.bytes.items) }
 {
     match parse(alloc, tokens) {
@@ -175,7 +180,7 @@ fn answer_tokens(
 /// The answer where the files hold nothing.
 fn answer_nothing(alloc: Global, printed: Printed) -> Result<Answer, NoMemory>
     ensures status { IfOk result (λ answer. answer.status ≡ Status.Done) }
-    ensures bytes { IfOk result (λ answer. answer.bytes.items ≡ print_of printed [] nothing) }
+    ensures bytes { IfOk result (λ answer. Prints printed [] nothing answer.bytes.items) }
 {
     let il = Il {
         defs: Row::new(alloc),
@@ -193,7 +198,7 @@ pub fn answer_files(
     requires named { length files.now ≡ length names.now }
     requires few { length files.now ≤ 64 }
     requires short { All (λ file. length file ≤ source_limit) files.now }
-    ensures { IfOk result (λ answer. FilesGive (print_of printed) names.now files.now
+    ensures { IfOk result (λ answer. FilesGive printed names.now files.now
         answer.status answer.bytes.items) }
 {
     let tokens = match scan_all(alloc, files) {

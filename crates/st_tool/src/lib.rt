@@ -17,6 +17,7 @@ ghost use Rattle.st_tool.specs.Outcome.{Written};
 mod answer;
 mod check;
 mod derivation;
+mod grouping;
 mod loads;
 mod modes;
 mod reader;

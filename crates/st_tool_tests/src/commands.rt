@@ -74,7 +74,7 @@ const COMMANDS: [Case; 38] = [
     ("run T red empty", Status::Unbuilt, "unbuilt\n"),
     ("run T red light coin", Status::Unbuilt, "unbuilt\n"),
     ("run T red light --fuel 1000", Status::Unbuilt, "unbuilt\n"),
-    ("groups light", Status::Unbuilt, "unbuilt\n"),
+    ("groups light", Status::Done, "color\nT\n"),
     ("run T red", Status::Usage, "usage\n"),
     ("run T -red light", Status::Usage, "usage\n"),
     ("frob", Status::Usage, "usage\n"),

@@ -1,18 +1,11 @@
--- What is printed of a specification, by what is asked for, and its first fault.
+-- The first fault of a specification, and where its breaches stand.
 use Rattle.std.specs.Prelude.{ℕ, ◌<◌, List, ⊤}
 use Rattle.st_el.specs.declared.definition.Def.{Def}
 use Rattle.st_elab_def.specs.declared.breach.Breach.{Breach}
 use Rattle.st_elab_def.specs.Breaches.{IsBreach}
 use Rattle.st_num.specs.declared.fault.Fault.{Fault}
 use Rattle.st_num.specs.declared.fault.Fault.TheVariants.{Refused, Memory}
-use Rattle.st_tool.specs.declared.check.Printed.{Printed as Asked}
-use Rattle.st_tool.specs.declared.check.Printed.TheVariants.{Count, Language}
-use Rattle.st_tool.specs.Checking.{Printed, count_of, language_of, IsSourceFault}
-
--- what is printed where this is asked for
-abbrev pub print_of : Asked → Printed
-print_of Count = count_of
-print_of Language = language_of
+use Rattle.st_tool.specs.Checking.{IsSourceFault}
 
 -- the fault is the first one of the files, unless memory gave out
 abbrev pub TellsSourceFault : List (List ℕ) → Fault → Type 0

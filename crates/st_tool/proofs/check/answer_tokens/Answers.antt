@@ -1,7 +1,7 @@
 use Rattle.std.proofs.Common.{length, subst, sym}
 use Rattle.st_elab_def.specs.Answers.{HasTemplates}
 use Rattle.st_parse.specs.Source.{Answers}
-use Rattle.st_tool.specs.inner.Printing.{print_of, BreachesWithin}
+use Rattle.st_tool.specs.inner.Printing.{BreachesWithin}
 use Rattle.st_tool.proofs.Checks.{SaysSource, syntax_stands, breaches_within, files_parsed}
 use Rattle.st_tool.proofs.HasTemplates.{HasTemplates-source}
 use Rattle.st_tool.proofs.check.answer_tokens.Goals as goal
@@ -22,9 +22,9 @@ answer_source-requires c =
 
 pub returns-in-Ok : goal.returns-in-Ok
 returns-in-Ok c =
-    files_parsed (print_of c.args.printed) c.args.names.now c.args.files.now c.args.tokens.now c.in-Ok.defs c.answer_source.result c.requires.all c.requires.some
+    files_parsed c.args.printed c.args.names.now c.args.files.now c.args.tokens.now c.in-Ok.defs c.answer_source.result c.requires.all c.requires.some
     (subst (Answers c.args.tokens.now) c.in-Ok.is c.parse.ensures)
-    (subst (λ defs. SaysSource (print_of c.args.printed) c.args.names.now defs c.answer_source.result) c.as_slice.ensures c.answer_source.ensures)
+    (subst (λ defs. SaysSource c.args.printed c.args.names.now defs c.answer_source.result) c.as_slice.ensures c.answer_source.ensures)
 
 pub returns-in-Err : goal.returns-in-Err
-returns-in-Err c = c.faulty.ensures (print_of c.args.printed)
+returns-in-Err c = c.faulty.ensures c.args.printed

@@ -8,6 +8,6 @@ bounds-names-at c =
     fault_within c.args.files.now c.args.names.now c.in-Refused.at c.in-Refused.rule (subst (TellsSourceFault c.args.files.now) c.in-Refused.is c.requires.stands) c.requires.named
 
 pub returns-in-Refused : goal.returns-in-Refused
-returns-in-Refused c = λ print.
-    files_refused print c.args.names.now c.args.files.now c.index-names-at.result c.as_str-name.result.now c.in-Refused.at c.in-Refused.rule c.refused.result
+returns-in-Refused c = λ asked.
+    files_refused asked c.args.names.now c.args.files.now c.index-names-at.result c.as_str-name.result.now c.in-Refused.at c.in-Refused.rule c.refused.result
     (subst (TellsSourceFault c.args.files.now) c.in-Refused.is c.requires.stands) c.requires.named c.index-names-at.is c.as_str-name.ensures c.refused.ensures.status c.refused.ensures.bytes
