@@ -1,0 +1,17 @@
+-- Names in sets and lists of references, and what stands under a name.
+use Rattle.std.specs.Prelude.{◌≡◌, ℕ, List, map, Option, bytes_eq}
+use Rattle.std.specs.Borrow.{Bor}
+use Rattle.std.specs.Map.{lookup}
+use Rattle.st_semantics.specs.Names.{Name, has_name}
+
+-- what stands under the name
+abbrev pub at : {A : Type 0} → List (Bor (List ℕ) × A) → Name → Option A
+at entries q = lookup (λ (key : Bor (List ℕ)). bytes_eq q key.now) entries
+
+-- the names that are referred to
+abbrev pub names_in : List (Bor (List ℕ)) → List Name
+names_in keys = map (λ (key : Bor (List ℕ)). key.now) keys
+
+-- the same names are in both
+abbrev pub SameNames : List Name → List Name → Type 0
+SameNames xs ys = (q : Name) → has_name xs q ≡ has_name ys q

@@ -1,0 +1,117 @@
+//! Which holes of a relation are inputs.
+
+ghost use Rattle.std.specs.Prelude.{◌≡◌, ◌++◌, true, Some, map, sum, replicate, slice_get, option_and_then, IfOk, OnOk};
+ghost use Rattle.st_il.specs.declared.template.Template.{out-Template};
+ghost use Rattle.st_il.specs.Template.{holes};
+ghost use Rattle.st_semantics.specs.Directions.{is_arrow, direction_at, direction, inputs_or_all};
+
+use st_il::{RelationDef, Template, template_of};
+use st_num::{Mark, NoMemory, Row};
+use std::alloc::Global;
+
+/// Whether inputs lead to outputs by this sign.
+fn is_arrow(sign: Mark) -> bool
+    ensures { result ≡ is_arrow sign }
+{
+    match sign {
+        Mark::SquigglyArrow | Mark::SquigglyArrowStar => true,
+        _ => false,
+    }
+}
+
+/// Adds, for each hole of a template, whether it is an input.
+#[cycle(push_holes)]
+fn push_holes(template: &Template, input: bool, mask: &mut Row<bool>) -> Result<(), NoMemory>
+    ensures { OnOk result (mask.new ≡ mask.old ++ replicate (holes template.now) input) }
+{
+    match template {
+        Template::Atom(_) => Ok(()),
+        Template::Hole => mask.push(input),
+        Template::Seq(parts) => push_all_holes(parts.as_slice(), input, mask),
+        Template::Infix(left, _, right) => {
+            push_holes(left.get(), input, mask)?;
+            push_holes(right.get(), input, mask)?;
+            Ok(())
+        }
+        Template::Bracket(_, inside) => push_holes(inside.get(), input, mask),
+    }
+}
+
+/// Adds, for each hole of several templates, whether it is an input.
+#[cycle(push_holes)]
+fn push_all_holes(parts: &[Template], input: bool, mask: &mut Row<bool>) -> Result<(), NoMemory>
+    ensures { OnOk result (mask.new ≡ mask.old ++ replicate (sum (map holes parts.now)) input) }
+{
+    for part in parts {
+        push_holes(part, input, mask)?;
+    }
+    Ok(())
+}
+
+/// For each hole of a notation with an arrow at its top, whether it is an input.
+fn mask_at(alloc: Global, template: &Template) -> Result<Option<Row<bool>>, NoMemory>
+    ensures { IfOk result (λ mask. mask ≡ direction_at (out-Template template.now)) }
+{
+    match template {
+        Template::Infix(left, sign, right) => {
+            if !is_arrow(*sign) {
+                return Ok(None);
+            }
+            let mut mask = Row::new(alloc);
+            push_holes(left.get(), true, &mut mask)?;
+            push_holes(right.get(), false, &mut mask)?;
+            Ok(Some(mask))
+        }
+        _ => Ok(None),
+    }
+}
+
+/// For each hole of a relation, whether it is an input; none where it is undirected.
+fn mask_of(alloc: Global, relation: &RelationDef) -> Result<Option<Row<bool>>, NoMemory>
+    ensures { IfOk result (λ mask. mask ≡ direction relation.now) }
+{
+    if !relation.mode.is_empty() {
+        let mask = relation.mode.copy(alloc)?;
+        return Ok(Some(mask));
+    }
+    match template_of(alloc, &relation.tag)? {
+        None => Ok(None),
+        Some(template) => mask_at(alloc, &template),
+    }
+}
+
+/// So many holes, which are inputs.
+fn all_inputs(alloc: Global, len: usize) -> Result<Row<bool>, NoMemory>
+    ensures { IfOk result (λ mask. mask ≡ replicate len true) }
+{
+    let mut mask = Row::new(alloc);
+    'holes: while mask.len() < len {
+        mask.push(true)?;
+    }
+    Ok(mask)
+}
+
+/// For each hole of a relation, whether it is an input; all are where it is undirected.
+pub(crate) fn mask_or_all(alloc: Global, relation: &RelationDef) -> Result<Row<bool>, NoMemory>
+    ensures { IfOk result (λ mask. mask ≡ inputs_or_all (Some relation.now)) }
+{
+    match mask_of(alloc, relation)? {
+        Some(mask) => Ok(mask),
+        None => all_inputs(alloc, relation.holes.len()),
+    }
+}
+
+/// Whether a hole of a relation is an input; none where the relation is undirected.
+pub fn direction(
+    alloc: Global,
+    relation: &RelationDef,
+    hole: usize,
+) -> Result<Option<bool>, NoMemory>
+    ensures { IfOk result (λ input. input
+        ≡ option_and_then (λ mask. slice_get mask hole) (direction relation.now)) }
+{
+    match mask_of(alloc, relation)? {
+        None => Ok(None),
+        Some(mask) => Ok(mask.get(hole).copied()),
+    }
+}

@@ -1,0 +1,58 @@
+//! The directions of all relations of an internal language, by their names.
+
+ghost use Rattle.std.specs.Prelude.{◌≡◌, ℕ, List, IfOk, OnOk};
+ghost use Rattle.st_order.specs.inner.Index.{at};
+ghost use Rattle.st_order.specs.inner.Masks.{AreMasks, behind, mask_in};
+
+use crate::directions::mask_or_all;
+use crate::index::{at, put};
+use indexmap::IndexMap;
+use st_il::{Il, IlDef};
+use st_num::{Name, NoMemory, Row};
+use std::alloc::Global;
+
+/// For each relation, by its name, which of its holes are inputs; of an undirected one all are.
+pub(crate) type Masks<'a> = IndexMap<&'a Name, Row<bool>>;
+
+/// Puts the direction of a relation under its name.
+fn put_relation<'a>(
+    alloc: Global,
+    definition: &'a IlDef,
+    masks: &mut Masks<'a>,
+) -> Result<(), NoMemory>
+    ensures { OnOk result ((q : List ℕ) → at masks.new.entries q
+        ≡ behind definition.now q (at masks.old.entries q)) }
+{
+    match definition {
+        IlDef::Relation(relation) => {
+            let mask = mask_or_all(alloc, relation)?;
+            put(masks, &relation.name, mask)
+        }
+        IlDef::Syntax(_) | IlDef::Var(_, _) | IlDef::Rule(_) | IlDef::Fun(_) | IlDef::Clause(_) => {
+            Ok(())
+        }
+    }
+}
+
+/// The directions of the relations that are declared: of two with one name that of the first.
+#[tactic(auto, using(crate::proofs::MaskAmong::mask_among_behind, crate::proofs::MaskAmong::mask_among_all))]
+pub(crate) fn masks(alloc: Global, il: &Il) -> Result<Masks, NoMemory>
+    ensures { IfOk result (λ masks. AreMasks il.now masks.entries) }
+{
+    let defs = il.defs.as_slice();
+    let mut masks = IndexMap::new(alloc);
+    for i in 0..defs.len() {
+        put_relation(alloc, &defs[defs.len() - 1 - i], &mut masks)?;
+    }
+    Ok(masks)
+}
+
+/// Which holes of the relation of a name are inputs; none of one that is not declared.
+pub(crate) fn mask_under<'m>(masks: &'m Masks, name: &'m Name) -> &'m [bool]
+    ensures { result.now ≡ mask_in masks.now.entries name.now }
+{
+    match at(masks, name) {
+        Some(mask) => mask.as_slice(),
+        None => &[],
+    }
+}
