@@ -57,7 +57,7 @@ mode_same true false e = absurd (omega (arith, heads (word_of e)))
 mode_same false true e = absurd (omega (arith, heads (word_of e)))
 mode_same false false e = refl
 
-listed_same : (a b : Listed) → listed_tree a ≡ listed_tree b → a ≡ b
+pub listed_same : (a b : Listed) → listed_tree a ≡ listed_tree b → a ≡ b
 listed_same a b e =
     let j = parts_of e in
     ap₂ (λ (n : List ℕ) (t : Ty). record { name = n; ty = t; dim = a.dim }) (quote_of (first_of j)) (ty_same a.ty b.ty (first_of (rest_of j)))

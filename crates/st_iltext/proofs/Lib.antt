@@ -1,5 +1,5 @@
 pub mod SmallTrees
-mod Shapes
+pub mod Shapes
 pub mod NameSets
 pub mod SmallUnique
 mod LineTrees
@@ -9,21 +9,21 @@ mod BadLines
 mod SmallRules
 mod SmallFaults
 pub mod IlUnique
-mod Rows
-mod Depths
+pub mod Rows
+pub mod Depths
 mod ValueLevels
 mod ValueForms
 mod ValuesSame
 mod ValueReading
 mod ValueTexts
-mod TySame
-mod TyForms
-mod TyReading
-mod ExpLevels
-mod ExpForms
-mod ExpReads
-mod KindPlaces
-mod ExpSame
-mod PremSame
-mod DefinitionSame
-mod WholeSame
+pub mod TySame
+pub mod TyForms
+pub mod TyReading
+pub mod ExpLevels
+pub mod ExpForms
+pub mod ExpReads
+pub mod KindPlaces
+pub mod ExpSame
+pub mod PremSame
+pub mod DefinitionSame
+pub mod WholeSame

@@ -12,19 +12,19 @@
 
 mod definition;
 mod expression;
-mod fault;
+pub mod fault;
 mod form;
 mod head;
 mod il;
-mod kind;
+pub mod kind;
 mod law;
 mod name;
 mod premise;
-mod shape;
+pub mod shape;
 mod small;
 mod small_line;
 mod ty;
-mod type_reader;
+pub mod type_reader;
 mod value;
 mod value_form;
 mod value_reader;

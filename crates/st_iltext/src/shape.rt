@@ -97,6 +97,18 @@ pub fn two(trees: &[TextTree]) -> Option<(&TextTree, &TextTree)>
     Some((first, second))
 }
 
+/// The three trees, where there are three.
+pub fn three(trees: &[TextTree]) -> Option<(&TextTree, &TextTree, &TextTree)>
+    ensures { MatchOption result
+        ((t u v : spec.TextTree) → trees_of trees.now ≢ more t (more u (more v none)))
+        (λ three. trees_of trees.now ≡ more (tree_of three.0.now) (more (tree_of three.1.now)
+        (more (tree_of three.2.now) none))) }
+{
+    let (first, others) = trees.split_first()?;
+    let (second, third) = two(others)?;
+    Some((first, second, third))
+}
+
 /// The four trees, where there are four.
 pub fn four(trees: &[TextTree]) -> Option<(&TextTree, &TextTree, &TextTree, &TextTree)>
     ensures { MatchOption result

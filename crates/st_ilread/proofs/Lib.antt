@@ -1,0 +1,11 @@
+pub mod Passed
+pub mod NameOrder
+pub mod ExpTrees
+pub mod ItemTrees
+pub mod SegmentTrees
+pub mod IterationTrees
+pub mod PremTrees
+pub mod BodyTrees
+pub mod ListedTrees
+pub mod DefinitionTrees
+pub mod WholeTexts
