@@ -2,9 +2,9 @@
 use Rattle.std.proofs.Common.{◌≡◌, ◌≢◌, ◌⊎◌, inl, inr, refl, sym, ap, ◌∙◌, subst, ℕ, zero, suc, ◌<◌, ◌==◌, List, [], ◌∷◌, ◌++◌, set, Bool, true, false, true≢false, Option, Some, None, slice_get, option_to_list, if◌then◌else◌}
 use Rattle.std.proofs.lemmas.List.{length-set}
 use Rattle.std.proofs.lemmas.Bool.Decides.{Decides-eqb}
-use Rattle.st_deps.specs.inner.Graph.{Edge, Stands}
+use Rattle.st_graph.specs.Graph.{Edge, Stands}
+use Rattle.st_graph.proofs.Places.{below-next, get-none, get-same}
 use Rattle.st_deps.specs.inner.Condensation.{other_than, other_rank, other_ranks, GroupEdge, CondensesTo}
-use Rattle.st_deps.proofs.Places.{below-next, get-none, get-same}
 use Rattle.st_deps.proofs.TableLemmas.{row-sound, row-old, row-new}
 
 module _ (ranks : List ℕ) (group : ℕ) where

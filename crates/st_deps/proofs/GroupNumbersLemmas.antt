@@ -1,14 +1,13 @@
 -- Numbers of groups are those of the names.
 use Rattle.std.proofs.Common.{◌≡◌, ◌∙◌, subst, ℕ, List, Some, slice_get, Contains, arith}
+use Rattle.st_graph.specs.Reaches.{Reaches, itself, through}
+use Rattle.st_graph.specs.Graph.{Edge, IsWithin, IsNumbering}
+use Rattle.st_graph.proofs.Places.{get-same, get-within}
 use Rattle.st_il.specs.declared.definition.Il.{Il}
 use Rattle.st_deps.specs.Cited.{Name}
 use Rattle.st_deps.specs.Definitions.{declared, Cites}
-use Rattle.st_deps.specs.Groups.{Reaches, itself, through}
 use Rattle.st_deps.specs.GroupNumbers.{AreGroupNumbers}
 use Rattle.st_deps.specs.Table.{IsTable}
-use Rattle.st_deps.specs.inner.Graph.{Edge, IsNumbering}
-use Rattle.st_deps.specs.inner.Walk.{IsWithin}
-use Rattle.st_deps.proofs.Places.{get-same, get-within}
 use Rattle.st_deps.proofs.TableLemmas.{contains-stands, stands-contains}
 
 module _ (il : Il) (rows : List (List ℕ)) (t : IsTable il rows) where

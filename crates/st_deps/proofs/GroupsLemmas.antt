@@ -3,19 +3,20 @@ use Rattle.std.proofs.Common.{◌≡◌, ◌≢◌, ◌⊎◌, inl, inr, refl, s
 use Rattle.std.proofs.lemmas.List.Elements.{Contains-append_left, Contains-append_right, Contains-append_cases}
 use Rattle.std.proofs.lemmas.Bool.Decides.{Decides-eqb, leb_tells}
 use Rattle.std.proofs.lemmas.Option.{get_or_from_slice_get}
+use Rattle.st_graph.specs.Reaches.{Reaches, itself, through}
+use Rattle.st_graph.specs.Graph.{Edge, Stands}
+use Rattle.st_graph.proofs.Places.{same_place, get-none, get-same, get-within, get-at, get-taken}
 use Rattle.st_il.specs.declared.definition.Il.{Il}
 use Rattle.st_deps.specs.Cited.{Name}
 use Rattle.st_deps.specs.Definitions.{declared, Cites}
-use Rattle.st_deps.specs.Groups.{Reaches, itself, through, IsGroup, IsNext, AreGroups, in_groups}
+use Rattle.st_deps.specs.Groups.{IsGroup, IsNext, AreGroups, in_groups}
 use Rattle.st_deps.specs.GroupNumbers.{AreGroupNumbers}
 use Rattle.st_deps.specs.Table.{IsTable}
-use Rattle.st_deps.specs.inner.Graph.{Edge, Stands}
 use Rattle.st_deps.specs.inner.Table.{number_in}
 use Rattle.st_deps.specs.inner.Ranks.{AreRanks}
 use Rattle.st_deps.specs.inner.Condensation.{GroupEdge, IsCondensation}
 use Rattle.st_deps.specs.inner.Members.{of_rank, AreMembers}
 use Rattle.st_deps.specs.inner.Listing.{IsFalling, IsNextRank, IsOrder}
-use Rattle.st_deps.proofs.Places.{same_place, get-none, get-same, get-within, get-at, get-taken}
 use Rattle.st_deps.proofs.TableLemmas.{contains-stands, stands-contains, declared-distinct, number-sound, number-complete}
 use Rattle.st_deps.proofs.MembersLemmas.{of_rank-sound, of_rank-complete, of_rank-filter, filter-passes, filter-keeps}
 

@@ -1,15 +1,7 @@
--- what stands at a place of a list that is made of others, and ways along citations
-pub mod Places
 -- the table of citations has what the names cite
 pub mod TableLemmas
 -- there is at most one list of groups
 pub mod Unique
--- the walk begins a definition, follows a citation, joins and closes groups; it costs less, and ends
-pub mod WalkBegins
-pub mod WalkSteps
-pub mod Cuts
-pub mod Costs
-pub mod WalkEnds
 -- numbers of groups are those of the names
 pub mod GroupNumbersLemmas
 -- ranks of groups, what groups cite by their ranks, and their names

@@ -3,9 +3,9 @@ use Rattle.std.proofs.Common.{◌≡◌, ◌≢◌, ◌⊎◌, ◌↔◌, inl, i
 use Rattle.std.proofs.lemmas.List.{length-set, length-replicate}
 use Rattle.std.proofs.lemmas.Option.{slice_get-get_or, get_or_from_slice_get}
 use Rattle.std.proofs.lemmas.Bool.Decides.{leb_tells}
-use Rattle.st_deps.specs.inner.Graph.{Edge, Stands}
+use Rattle.st_graph.specs.Graph.{Edge, Stands}
+use Rattle.st_graph.proofs.Places.{same_place, below-next, get-none, get-same, get-front, get-push, get-last, get-within, get-at, set-other, set-here, set-same, replicate-get}
 use Rattle.st_deps.specs.inner.Listing.{IsFalling, IsNextRank, IsOrder, Waits, IsListing, opens}
-use Rattle.st_deps.proofs.Places.{same_place, below-next, get-none, get-same, get-front, get-push, get-last, get-within, get-at, set-other, set-here, set-same, replicate-get}
 use Rattle.st_deps.proofs.TableLemmas.{row-sound, row-old, row-new}
 
 -- none is both listed and not

@@ -3,10 +3,10 @@ use Rattle.std.proofs.Common.{◌≡◌, ◌≢◌, ◌⊎◌, inl, inr, refl, s
 use Rattle.std.proofs.lemmas.List.{append-nil, length-set, length-take-le}
 use Rattle.std.proofs.lemmas.Bool.Decides.{Decides-eqb}
 use Rattle.std.proofs.lemmas.Option.{slice_get_read, get_or_from_slice_get}
+use Rattle.st_graph.specs.Graph.{Stands}
+use Rattle.st_graph.proofs.Places.{same_place, get-none, get-same, set-other, set-here, take-more}
 use Rattle.st_deps.specs.Cited.{Name}
-use Rattle.st_deps.specs.inner.Graph.{Stands}
 use Rattle.st_deps.specs.inner.Members.{of_rank, AreMembers}
-use Rattle.st_deps.proofs.Places.{same_place, get-none, get-same, set-other, set-here, take-more}
 
 -- ---- one definition after another
 

@@ -5,9 +5,9 @@ use Rattle.std.proofs.lemmas.List.{length_push}
 use Rattle.std.proofs.lemmas.Bool.Decides.{Decides-eqb}
 use Rattle.std.proofs.lemmas.Option.{get_or_from_slice_get}
 use Rattle.indexmap.specs.IndexSet.{insert_key}
-use Rattle.st_deps.specs.inner.Graph.{Stands}
+use Rattle.st_graph.specs.Graph.{Stands}
+use Rattle.st_graph.proofs.Places.{below-next, get-none, get-front, get-push, get-last, get-within, get-at}
 use Rattle.st_deps.specs.inner.Ranks.{AreMet, AreRanks}
-use Rattle.st_deps.proofs.Places.{below-next, get-none, get-front, get-push, get-last, get-within, get-at}
 use Rattle.st_deps.proofs.TableLemmas.{or-true}
 
 -- a number is one of these, or none of them is equal to it

@@ -7,14 +7,14 @@ use Rattle.std.proofs.lemmas.List.Quantifiers.{position-Some}
 use Rattle.std.proofs.lemmas.Option.{slice_get-get_or, get_or_from_slice_get}
 use Rattle.std.proofs.lemmas.Slice.Eq.{bytes_eq-Decides}
 use Rattle.st_num.specs.Names.{same_name, is_among}
+use Rattle.st_graph.specs.Graph.{Edge, Stands}
+use Rattle.st_graph.proofs.Places.{same_place, get-none, get-same, get-front, get-push, get-append, get-behind, get-within, get-at, set-other, set-here, set-same}
 use Rattle.st_il.specs.declared.definition.Il.{Il}
 use Rattle.st_il.specs.declared.definition.IlDef.{IlDef}
 use Rattle.st_deps.specs.Cited.{Name}
 use Rattle.st_deps.specs.Definitions.{names_in, owner, declared, declared_by, names_declared, with_name, Cites}
 use Rattle.st_deps.specs.Table.{IsTable}
-use Rattle.st_deps.specs.inner.Graph.{Edge, Stands}
 use Rattle.st_deps.specs.inner.Table.{number_in, numbers_of, number_of_owner, with_row, with_citations, all_citations, IsGraph}
-use Rattle.st_deps.proofs.Places.{same_place, get-none, get-same, get-front, get-push, get-append, get-behind, get-within, get-at, set-other, set-here, set-same}
 
 -- ---- what stands in a list
 

@@ -2,7 +2,8 @@
 use Rattle.std.proofs.Common.{◌≡◌, ◌↔◌, ◌⊎◌, inl, inr, refl, sym, ap, ◌∙◌, subst, List, [], ◌∷◌, ◌++◌, Bool, true, false, Contains, append_assoc}
 use Rattle.std.proofs.lemmas.List.{append-nil}
 use Rattle.std.proofs.lemmas.List.Elements.{Contains-append_left, Contains-append_right, Contains-push, filter_agree}
-use Rattle.st_deps.specs.Groups.{Reaches, IsGroup, IsNext, AreGroups, in_groups}
+use Rattle.st_graph.specs.Reaches.{Reaches}
+use Rattle.st_deps.specs.Groups.{IsGroup, IsNext, AreGroups, in_groups}
 
 -- two tests that hold of the same are the same
 tests-agree : (a b : Bool) (P : Type 0) → (a ≡ true) ↔ P → (b ≡ true) ↔ P → a ≡ b

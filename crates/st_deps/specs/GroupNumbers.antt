@@ -1,9 +1,9 @@
 -- The numbers of groups.
 use Rattle.std.specs.Prelude.{◌≡◌, ◌≤◌, ℕ, List, length, slice_get, Some}
+use Rattle.st_graph.specs.Reaches.{Reaches}
 use Rattle.st_il.specs.declared.definition.Il.{Il}
 use Rattle.st_deps.specs.Cited.{Name}
 use Rattle.st_deps.specs.Definitions.{declared, Cites}
-use Rattle.st_deps.specs.Groups.{Reaches}
 
 -- Of each declared name the number of its group. Names with one number reach each other, and none
 -- cites a name with a higher one; so those that reach each other have one number.

@@ -1,11 +1,7 @@
 -- Groups of mutual citation, in the order in which they are listed.
 use Rattle.std.specs.Prelude.{◌≡◌, ◌↔◌, Bool, true, List, ◌∷◌, ◌++◌, filter, Contains}
+use Rattle.st_graph.specs.Reaches.{Reaches}
 use Rattle.std.specs.List.{flat_map}
-
--- The first leads to the second: it is the second, or cites it, directly or through others.
-pub data Reaches {A : Type 0} (Cites : A → A → Type 0) : A → A → Type 0 where
-  itself : {x : A} → Reaches Cites x x
-  through : {x z : A} (y : A) → Cites x y → Reaches Cites y z → Reaches Cites x z
 
 -- what is given: what cites what, and all that is declared, in the order of declaration
 module _ {A : Type 0} (Cites : A → A → Type 0) (all : List A) where

@@ -5,7 +5,7 @@
 //! number of its group. That there is at most one list of groups is a law.
 //!
 //! The one idea: names are read once and then known by their numbers, so that what follows
-//! citations never compares texts.
+//! citations never compares texts. Groups are the components of a graph, which `st_graph` finds.
 //!
 //! Read `specs/Definitions.antt` and `specs/Groups.antt` first. Groups are told in
 //! `docs/semantics.md`.
@@ -20,7 +20,6 @@ mod members;
 mod numbers;
 mod ranks;
 mod table;
-mod walk;
 
 pub use laws::one_list_of_groups;
 pub use members::groups;

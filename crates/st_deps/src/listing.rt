@@ -5,8 +5,7 @@
 //! citation is met once.
 
 ghost use Rattle.std.specs.Prelude.{◌≡◌, ◌≤◌, ◌<◌, ◌⊎◌, ◌↔◌, ℕ, [], ◌∷◌, ◌++◌, length, slice_get, true, false, Some, None, IfOk, OnOk, MatchOption};
-ghost use Rattle.st_deps.specs.inner.Graph.{Stands};
-ghost use Rattle.st_deps.specs.inner.Walk.{IsWithin};
+ghost use Rattle.st_graph.specs.Graph.{IsWithin, Stands};
 ghost use Rattle.st_deps.specs.inner.Listing.{IsFalling, IsOrder, opens};
 ghost use Rattle.st_deps.specs.inner.Listings.{IsListing, CanSettle, Settles, IsTaken};
 

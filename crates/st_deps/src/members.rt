@@ -9,7 +9,7 @@ use crate::condensation::condensation;
 use crate::listing::order_of;
 use crate::ranks::ranks_of;
 use crate::table::{citations, copy_names, empty_rows};
-use crate::walk::numbering;
+use st_graph::numbering;
 use st_il::Il;
 use st_num::{Name, NoMemory, Row};
 use std::alloc::Global;
@@ -55,8 +55,8 @@ pub fn groups(alloc: Global, il: &Il) -> Result<Row<Row<Name>>, NoMemory>
     ensures { IfOk result (AreGroups (Cites il.now) (declared il.now)) }
 {
     let table = citations(alloc, il)?;
-    let (numbers, _) = numbering(alloc, table.rows.as_slice())?;
-    let (ranks, count) = ranks_of(alloc, &numbers)?;
+    let components = numbering(alloc, table.rows.as_slice())?;
+    let (ranks, count) = ranks_of(alloc, &components.numbers)?;
     let rows = condensation(alloc, table.rows.as_slice(), &ranks, count)?;
     let order = order_of(alloc, &rows)?;
     let members = members_of(alloc, table.names.as_slice(), &ranks, count)?;

@@ -4,7 +4,7 @@ ghost use Rattle.std.specs.Prelude.{IfOk};
 ghost use Rattle.st_deps.specs.GroupNumbers.{AreGroupNumbers};
 
 use crate::table::citations;
-use crate::walk::numbering;
+use st_graph::{Components, numbering};
 use st_il::Il;
 use st_num::{NoMemory, Row};
 use std::alloc::Global;
@@ -14,6 +14,7 @@ pub fn group_numbers(alloc: Global, il: &Il) -> Result<Row<usize>, NoMemory>
     ensures { IfOk result (AreGroupNumbers il.now) }
 {
     let table = citations(alloc, il)?;
-    let (numbers, _) = numbering(alloc, table.rows.as_slice())?;
+    let components = numbering(alloc, table.rows.as_slice())?;
+    let Components { numbers, .. } = components;
     Ok(Row::from_vec(numbers))
 }

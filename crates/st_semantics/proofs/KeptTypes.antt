@@ -31,7 +31,7 @@ use Rattle.st_type_table.specs.Meaning.{Means, alias_of, itself}
 use Rattle.st_type_table.proofs.CasesLemmas.{HasFields-single}
 use Rattle.st_types.specs.HasType as type
 use Rattle.st_types.specs.HasType.{HasType, HaveTypes, FieldsHaveTypes}
-use Rattle.st_types.specs.Sub.{Sub}
+use Rattle.st_type_table.specs.Sub.{Sub}
 use Rattle.st_types.specs.inner.Levels.{TypedAt, RecordHasType}
 use Rattle.st_types.proofs.HasTypeLemmas.{typed-opened}
 use Rattle.st_types.proofs.UpLaws.{Sub-up}

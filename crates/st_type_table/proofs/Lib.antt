@@ -18,7 +18,7 @@ pub mod RankLemmas
 pub mod CheckLemmas
 pub mod ReachLemmas
 pub mod SearchLemmas
-pub mod CircleLemmas
+pub mod ComponentsLemmas
 pub mod PartLemmas
 pub mod PartsLemmas
 pub mod Ranks

@@ -16,10 +16,12 @@ use Rattle.st_il.specs.declared.definition.Alternative.TheVariants as alternativ
 use Rattle.st_type_table.specs.declared.fault.Broken.{Broken}
 use Rattle.st_type_table.specs.Leads.{Among, Ends, included, joined, names_in, leads_to}
 use Rattle.st_type_table.specs.inner.Flat.{IsReached, IsEndless}
-use Rattle.st_type_table.specs.inner.Graph.{graph_of, place_of, places_of, LeadsAt, LeadsBack, mark}
+use Rattle.st_type_table.specs.inner.Graph.{graph_of, place_of, places_of, LeadsAt}
+use Rattle.st_type_table.specs.inner.Components.{AreComponents}
 use Rattle.st_type_table.specs.Breach.{Holds, keys, placed, broken, Finds, FindsAt, all_declared, on_alias, on_included, on_alternative, on_alternatives, on_field, on_fields, on_body, on_parts, run, conditions_on, new_name}
 use Rattle.st_type_table.specs.inner.Checking.{Returns, ChecksAt, CheckedAt, part_count}
 use Rattle.st_type_table.proofs.PlaceLemmas.{unplaced, node_at, place-among, LeadsAt-Leads, Leads-LeadsAt}
+use Rattle.st_type_table.proofs.ComponentsLemmas.{components-back}
 use Rattle.st_type_table.proofs.FlatLemmas.{append_nil, take-suc}
 use Rattle.st_type_table.proofs.CheckLemmas.{Finds-hold, Finds-false, Finds-front, Finds-back, is-declared}
 use Rattle.st_type_table.proofs.ReachLemmas.{run-step, reach-keys, reach-clash}
@@ -52,10 +54,10 @@ included-among (a ∷ parts) zero name e =
     among-front (included a) (flat_map included parts) name (subst (λ z. Among (included z) name) s (inl refl))
 included-among (a ∷ parts) (suc at) name e = among-behind (included a) (flat_map included parts) name (included-among parts at name e)
 
-pub Returns-one : (defs : List SyntaxDef) (target : List ℕ) (marks : List Bool) (parts : List Alternative) (at : ℕ) (name : List ℕ) → slice_get parts at ≡ Some (alternative.Incl name)
-    → Returns defs target marks (flat_map included parts) → Returns defs target marks (name ∷ [])
-Returns-one defs target marks parts at name e r x p (inl q) f = r x p (subst (Among (flat_map included parts)) (sym q) (included-among parts at name e)) f
-Returns-one defs target marks parts at name e r x p (inr q) f = absurd q
+pub Returns-one : (defs : List SyntaxDef) (target : List ℕ) (numbers : List ℕ) (own : ℕ) (parts : List Alternative) (at : ℕ) (name : List ℕ) → slice_get parts at ≡ Some (alternative.Incl name)
+    → Returns defs target numbers own (flat_map included parts) → Returns defs target numbers own (name ∷ [])
+Returns-one defs target numbers own parts at name e r x p (inl q) f = r x p (subst (Among (flat_map included parts)) (sym q) (included-among parts at name e)) f
+Returns-one defs target numbers own parts at name e r x p (inr q) f = absurd q
 
 module _ (defs : List SyntaxDef) (target : List ℕ) (parts : List Alternative) (reach at : ℕ) (a : Alternative) (there : slice_get parts at ≡ Some a) (reached : IsReached defs parts reach) where
   one : (b : Alternative) → slice_get parts at ≡ Some b → a ≡ b
@@ -172,12 +174,24 @@ place-here (x ∷ xs) (suc at) d e h = by (pointwise nat_eq d.name x.name) (plac
     by false None g h next = ap (option_map suc) (next g)
     by false (Some q) g h next = cc
 
--- marks at places are marks of names
-pub Returns-back : (defs : List SyntaxDef) (marks : List Bool) (at : ℕ) (d : SyntaxDef) → slice_get defs at ≡ Some d → place_of defs d.name ≡ Some at
-    → LeadsBack (graph_of defs) marks at → Returns defs d.name marks (leads_to d.body)
-Returns-back defs marks at d e here back name place a p =
-    let b = back place (places_of defs (leads_to d.body)) (node_at defs defs at d e) (place-among defs (leads_to d.body) name place a p) in
-    (λ m. LeadsAt-Leads defs place at (b.0 m) name d.name p here, λ l. b.1 (Leads-LeadsAt defs name d.name l place at p here))
+-- where an earlier definition has the name, its place is that of the name
+pub place-front : (defs : List SyntaxDef) (at : ℕ) (name : List ℕ) (p : ℕ) → place_of (take at defs) name ≡ Some p → place_of defs name ≡ Some p
+place-front defs zero name p e = cc
+place-front [] (suc at) name p e = cc
+place-front (x ∷ xs) (suc at) name p e = by (pointwise nat_eq name x.name) (place_of (take at xs) name) refl e (place-front xs at name)
+  where
+    by : (b : Bool) (o : Option ℕ) → place_of (take at xs) name ≡ o → (if b then Some 0 else option_map suc o) ≡ Some p
+        → ((q : ℕ) → place_of (take at xs) name ≡ Some q → place_of xs name ≡ Some q) → (if b then Some 0 else option_map suc (place_of xs name)) ≡ Some p
+    by true o g h next = h
+    by false None g h next = cc
+    by false (Some q) g h next = ap (option_map suc) (next q g) ∙ h
+
+-- what leads back is in the component of the first definition with the name
+pub Returns-first : (defs : List SyntaxDef) (numbers : List ℕ) (own at : ℕ) (d : SyntaxDef) → slice_get defs at ≡ Some d → place_of defs d.name ≡ Some at
+    → AreComponents (graph_of defs) numbers → slice_get numbers at ≡ Some own → Returns defs d.name numbers own (leads_to d.body)
+Returns-first defs numbers own at d e here n p name place a q =
+    let b = components-back (graph_of defs) numbers n at place own (places_of defs (leads_to d.body), (node_at defs defs at d e, place-among defs (leads_to d.body) name place a q)) p in
+    (λ m. LeadsAt-Leads defs place at (b.0 m) name d.name q here, λ l. b.1 (Leads-LeadsAt defs name d.name l place at q here))
 
 pub check-whole : (defs : List SyntaxDef) (at : ℕ) (d : SyntaxDef) (found : Option Broken) → place_of (take at defs) d.name ≡ None → Finds defs (on_body d.name d.body) found
     → Finds defs (conditions_on (take at defs) d) found
@@ -219,24 +233,11 @@ on_parts-whole name (body.Alias t) = append_nil (on_alias name 0 (names_in t))
 on_parts-whole name (body.Variant parts) = ap (on_alternatives name 0 []) (take-length parts)
 on_parts-whole name (body.Fields fields) = ap (on_fields 0 []) (take-length fields)
 
--- marks at places are marks of names, where another definition has the name
-pub Returns-other : (defs : List SyntaxDef) (marks : List Bool) (at first : ℕ) (d : SyntaxDef) → slice_get defs at ≡ Some d → place_of defs d.name ≡ Some first
-    → ((i : ℕ) → (mark marks i ≡ true) ↔ LeadsAt (graph_of defs) i first) → Returns defs d.name marks (leads_to d.body)
-Returns-other defs marks at first d e there back name place a p =
+-- where another definition has the name, what leads to that one leads back
+pub Returns-other : (defs : List SyntaxDef) (numbers : List ℕ) (own first : ℕ) (d : SyntaxDef) → place_of defs d.name ≡ Some first
+    → ((i : ℕ) → (slice_get numbers i ≡ Some own) ↔ LeadsAt (graph_of defs) i first) → Returns defs d.name numbers own (leads_to d.body)
+Returns-other defs numbers own first d there back name place a p =
     (λ m. LeadsAt-Leads defs place first ((back place).0 m) name d.name p there, λ l. (back place).1 (Leads-LeadsAt defs name d.name l place first p there))
-
-pub place-some : (defs : List SyntaxDef) (at : ℕ) (d : SyntaxDef) → slice_get defs at ≡ Some d → place_of defs d.name ≡ None → ⊥
-place-some [] at d e n = cc
-place-some (x ∷ xs) zero d e n =
-    let s : x ≡ d = cc in
-    let h : place_of (x ∷ xs) d.name ≡ Some 0 = ap (λ b. if b then Some 0 else option_map suc (place_of xs d.name)) ((bytes_eq-Decides d.name x.name).1 (ap (λ z. z.name) (sym s))) in
-    let c : None ≡ Some 0 = sym n ∙ h in cc
-place-some (x ∷ xs) (suc at) d e n = by (pointwise nat_eq d.name x.name) (place_of xs d.name) n (place-some xs at d e)
-  where
-    by : (b : Bool) (o : Option ℕ) → (if b then Some 0 else option_map suc o) ≡ None → (o ≡ None → ⊥) → ⊥
-    by true o n next = cc
-    by false None n next = next refl
-    by false (Some q) n next = cc
 
 pub check-twice : (defs : List SyntaxDef) (at : ℕ) (d : SyntaxDef) (p : ℕ) (b : Broken) → place_of (take at defs) d.name ≡ Some p → b ≡ record { part = 0; name = 0; rule = B1 }
     → Finds defs (conditions_on (take at defs) d) (Some b)

@@ -1,5 +1,5 @@
 -- Names and their places: what leads where, and what ends.
-use Rattle.std.proofs.Common.{◌≡◌, refl, sym, ap, ◌∙◌, subst, ℕ, zero, suc, ◌<◌, ◌≤◌, List, [], ◌∷◌, ◌++◌, map, Bool, true, false, Option, Some, None, nat_eq, if◌then◌else◌, arith, inl, inr, ◌⊎◌}
+use Rattle.std.proofs.Common.{◌≡◌, refl, sym, ap, ◌∙◌, subst, ℕ, zero, suc, ◌<◌, List, [], ◌∷◌, ◌++◌, map, Bool, true, false, Option, Some, None, nat_eq, if◌then◌else◌, arith, inl, inr, ◌⊎◌}
 use Rattle.std.proofs.lemmas.Slice.Eq.{bytes_eq-Decides}
 use Rattle.std.specs.Prelude.{slice_get, slice_index}
 use Rattle.std.specs.Option.{option_map}
@@ -12,7 +12,7 @@ use Rattle.st_il.specs.declared.definition.SyntaxBody.{SyntaxBody}
 use Rattle.st_il.specs.declared.definition.SyntaxBody.TheVariants as body
 use Rattle.st_type_table.specs.Meaning.{body_of, named_at, alias_of, aliased, Means}
 use Rattle.st_type_table.specs.Leads.{Among, names_in, names_at, leads_from, next_of, Leads, Ends}
-use Rattle.st_type_table.specs.inner.Graph.{Graph, place_of, one_place, places_of, node_of, graph_of, IsOne, EndsAt, LeadsAt, AreRanks, EndsIn, LeadsBack}
+use Rattle.st_type_table.specs.inner.Graph.{place_of, one_place, places_of, node_of, graph_of, IsOne, EndsAt, LeadsAt, AreRanks, EndsIn}
 
 -- the definition at the place of a name
 pub record Placed (defs : List SyntaxDef) (name : List ℕ) (place : ℕ) : Type 0 where
@@ -249,18 +249,3 @@ module _ (defs : List SyntaxDef) where
 pub record Meaning (defs : List SyntaxDef) (t meaning : Ty) : Type 0 where
   pub ends : EndsIn defs meaning
   pub back : (u : Ty) → Means defs meaning u → Means defs t u
-
--- ---- marks at places that do not lead back
-
-pub climbs : (graph : Graph) (ranks : List ℕ) → AreRanks graph ranks → (j k : ℕ) → LeadsAt graph j k → 0 < slice_index ranks j → slice_index ranks k ≤ slice_index ranks j
-climbs graph ranks right j k (LeadsAt.here e) h = let q : slice_index ranks j ≡ slice_index ranks k = ap (slice_index ranks) e in omega (arith, q)
-climbs graph ranks right j k (LeadsAt.step next i g m l) h =
-    let f = right.falls j i next h g m in
-    let a = climbs graph ranks right i k l f.0 in
-    let b = f.1 in
-    omega (arith, a, b)
-
-pub ranked-LeadsBack : (graph : Graph) (ranks : List ℕ) → AreRanks graph ranks → (target : ℕ) → 0 < slice_index ranks target → LeadsBack graph [] target
-ranked-LeadsBack graph ranks right target h = λ j next g m.
-    let f = right.falls target j next h g m in
-    (λ e. cc, λ l. absurd (let a = climbs graph ranks right j target l f.0 in let b = f.1 in omega (arith, a, b)))

@@ -1,11 +1,11 @@
 -- The search for what leads to a definition: what each step keeps.
-use Rattle.std.proofs.Common.{◌≡◌, ◌≢◌, ◌↔◌, refl, sym, ap, ◌∙◌, subst, ℕ, zero, suc, ◌+◌, ◌<◌, ◌≤◌, List, [], ◌∷◌, ◌++◌, length, set, take, replicate, length-append, add-one, Bool, true, false, Some, None, arith, inl, inr, ◌⊎◌}
+use Rattle.std.proofs.Common.{◌≡◌, ◌≢◌, ◌↔◌, refl, sym, ap, ◌∙◌, subst, ℕ, zero, suc, ◌+◌, ◌<◌, ◌≤◌, List, [], ◌∷◌, ◌++◌, length, map, set, take, replicate, length-append, add-one, Bool, true, false, Some, None, arith, inl, inr, ◌⊎◌}
 use Rattle.std.proofs.lemmas.List.{length-set, length-replicate}
 use Rattle.std.proofs.lemmas.Option.{slice_get_within, slice_get-get_or}
 use Rattle.std.specs.Prelude.{slice_get, slice_index}
 use Rattle.st_type_table.specs.inner.Graph.{Graph, IsOne, LeadsAt, mark}
 use Rattle.st_type_table.specs.inner.Ranking.{WaitsFor, OnPath}
-use Rattle.st_type_table.specs.inner.Search.{Arrows, AddsArrow, AddsArrows, IsReversedTo, IsReversed, IsSearch, MarksAll, MarksOne}
+use Rattle.st_type_table.specs.inner.Search.{Arrows, AddsArrow, AddsArrows, IsReversedTo, IsReversed, IsSearch, MarksAll, MarksOne, as_number}
 use Rattle.st_type_table.proofs.GraphLemmas.{same_place}
 use Rattle.st_type_table.proofs.IsOneLemmas.{one_more}
 use Rattle.st_type_table.proofs.BackLemmas.{unmarked-set}
@@ -302,3 +302,24 @@ search-start graph target marks todo p q h = subst (IsSearch graph target marks)
     waits : (i k : ℕ) → slice_get (target ∷ []) k ≡ Some i → (i < length graph) × (mark (set (replicate (length graph) false) target true) i ≡ true)
     waits i zero e = let s : target ≡ i = cc in (subst (λ z. z < length graph) s h, ap (mark (set (replicate (length graph) false) target true)) (sym s) ∙ first)
     waits i (suc k) e = cc
+
+-- ---- marks as numbers
+
+number-marked : (marks : List Bool) (i : ℕ) → slice_get (map as_number marks) i ≡ Some 1 → mark marks i ≡ true
+number-marked [] i e = let no : ⊥ = cc in absurd no
+number-marked (true ∷ marks) zero e = refl
+number-marked (false ∷ marks) zero e = let q : ◌≡◌ {A = ℕ} 0 1 = cc in absurd (omega (arith, q))
+number-marked (m ∷ marks) (suc i) e = number-marked marks i e
+
+marked-number : (marks : List Bool) (i : ℕ) → mark marks i ≡ true → slice_get (map as_number marks) i ≡ Some 1
+marked-number [] i e = let no : ⊥ = cc in absurd no
+marked-number (true ∷ marks) zero e = refl
+marked-number (false ∷ marks) zero e = let no : ⊥ = cc in absurd no
+marked-number (m ∷ marks) (suc i) e = marked-number marks i e
+
+pub numbers-lead : (graph : Graph) (target : ℕ) (marks : List Bool) (numbers : List ℕ) → numbers ≡ map as_number marks → ((i : ℕ) → (mark marks i ≡ true) ↔ LeadsAt graph i target)
+    → (i : ℕ) → (slice_get numbers i ≡ Some 1) ↔ LeadsAt graph i target
+numbers-lead graph target marks numbers e h i = (
+  λ g. (h i).0 (number-marked marks i (ap (λ ns. slice_get ns i) (sym e) ∙ g)),
+  λ l. ap (λ ns. slice_get ns i) e ∙ marked-number marks i ((h i).1 l),
+)

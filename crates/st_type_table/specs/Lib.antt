@@ -6,6 +6,8 @@ pub mod Meaning
 pub mod Cases
 -- two types are equal through aliases
 pub mod Same
+-- one type is a subtype of another
+pub mod Sub
 -- a record type can be joined where each field is a list, an option or such a record
 pub mod Joins
 -- the first case with a key, and cases whose tags have the same key

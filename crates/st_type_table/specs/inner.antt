@@ -2,6 +2,7 @@
 pub mod Graph
 pub mod Index
 pub mod Ranking
+pub mod Components
 pub mod Search
 pub mod Rows
 pub mod KeyIndexes

@@ -11,7 +11,7 @@ ghost use Rattle.st_type_table.specs.inner.Checking.{Returns, NameBreaks, IsEndi
 
 use crate::definitions::Definitions;
 use crate::fault::Broken;
-use crate::graph::{is_ranked, mark};
+use crate::graph::{is_numbered, is_ranked};
 use crate::place::{push_all_names, push_names};
 use crate::resolve::{body_of, meaning_in};
 use st_il::{Alternative, SyntaxBody, Ty};
@@ -60,13 +60,19 @@ fn check_declared(defs: &Definitions, part: u32, names: &[Name]) -> Result<Found
 }
 
 /// The rule that a name in an alias breaks, where it breaks one.
-fn rule_of_name(defs: &Definitions, target: &Name, marks: &[bool], name: &Name) -> Option<RuleId>
-    requires { Returns defs.now target.now marks.now (name.now ∷ []) }
+fn rule_of_name(
+    defs: &Definitions,
+    target: &Name,
+    numbers: &[usize],
+    own: usize,
+    name: &Name,
+) -> Option<RuleId>
+    requires { Returns defs.now target.now numbers.now own (name.now ∷ []) }
     ensures { NameBreaks defs.now target.now name.now result }
 {
     match defs.place_of(name) {
         Some(place) => {
-            if mark(marks, place) {
+            if is_numbered(numbers, own, place) {
                 return Some(RuleId::B4);
             }
             None
@@ -79,14 +85,15 @@ fn rule_of_name(defs: &Definitions, target: &Name, marks: &[bool], name: &Name) 
 fn check_alias(
     defs: &Definitions,
     target: &Name,
-    marks: &[bool],
+    numbers: &[usize],
+    own: usize,
     names: &[Name],
 ) -> Result<Found, NoMemory>
-    requires { Returns defs.now target.now marks.now names.now }
+    requires { Returns defs.now target.now numbers.now own names.now }
     ensures { IfOk result (λ found. Finds defs.now (on_alias target.now 0 names.now) found) }
 {
     for (k, name) in names.iter().enumerate() {
-        match rule_of_name(defs, target, marks, name) {
+        match rule_of_name(defs, target, numbers, own, name) {
             Some(rule) => {
                 let name = numbered(k)?;
                 let part = 0;
@@ -161,18 +168,19 @@ fn check_included(
     defs: &Definitions,
     ranks: &[usize],
     target: &Name,
-    marks: &[bool],
+    numbers: &[usize],
+    own: usize,
     part: u32,
     name: &Name,
 ) -> Result<Found, NoMemory>
     requires ranks { AreRanks (graph_of defs.now) ranks.now }
-    requires marks { Returns defs.now target.now marks.now (name.now ∷ []) }
+    requires numbers { Returns defs.now target.now numbers.now own (name.now ∷ []) }
     ensures { IfOk result (λ found. Finds defs.now (on_included target.now part name.now) found) }
 {
     let Some(place) = defs.place_of(name) else {
         return Ok(Some(whole(part, RuleId::B2)));
     };
-    if mark(marks, place) {
+    if is_numbered(numbers, own, place) {
         return Ok(Some(whole(part, RuleId::B4)));
     }
     if !is_variant(alloc, defs, ranks, name)? {
@@ -218,13 +226,14 @@ fn check_alternative(
     defs: &Definitions,
     ranks: &[usize],
     target: &Name,
-    marks: &[bool],
+    numbers: &[usize],
+    own: usize,
     reach: usize,
     parts: &[Alternative],
     at: usize,
 ) -> Result<Found, NoMemory>
     requires ranks { AreRanks (graph_of defs.now) ranks.now }
-    requires marks { Returns defs.now target.now marks.now (flat_map included parts.now) }
+    requires numbers { Returns defs.now target.now numbers.now own (flat_map included parts.now) }
     requires reach { IsReached defs.now parts.now reach }
     requires within { at < length parts.now }
     requires so_far { at ≤ reach }
@@ -240,7 +249,7 @@ fn check_alternative(
             Ok(found)
         }
         Alternative::Incl(name) => {
-            match check_included(alloc, defs, ranks, target, marks, part, name)? {
+            match check_included(alloc, defs, ranks, target, numbers, own, part, name)? {
                 Some(found) => return Ok(Some(found)),
                 None => {}
             }
@@ -258,21 +267,22 @@ pub(crate) fn check_alternatives(
     defs: &Definitions,
     ranks: &[usize],
     target: &Name,
-    marks: &[bool],
+    numbers: &[usize],
+    own: usize,
     reach: usize,
     parts: &[Alternative],
     from: usize,
     to: usize,
 ) -> Result<Found, NoMemory>
     requires ranks { AreRanks (graph_of defs.now) ranks.now }
-    requires marks { Returns defs.now target.now marks.now (flat_map included parts.now) }
+    requires numbers { Returns defs.now target.now numbers.now own (flat_map included parts.now) }
     requires reach { IsReached defs.now parts.now reach }
     requires before { AllHold defs.now (on_parts target.now (body.Variant parts.now) 0 from) }
     ensures { IfOk result
         (λ found. Finds defs.now (on_parts target.now (body.Variant parts.now) from to) found) }
 {
     for at in from..to.min(parts.len()) {
-        match check_alternative(alloc, defs, ranks, target, marks, reach, parts, at)? {
+        match check_alternative(alloc, defs, ranks, target, numbers, own, reach, parts, at)? {
             Some(found) => return Ok(Some(found)),
             None => {}
         }
@@ -307,12 +317,13 @@ pub(crate) fn check_whole_alias(
     alloc: Global,
     defs: &Definitions,
     name: &Name,
-    marks: &[bool],
+    numbers: &[usize],
+    own: usize,
     ty: &Ty,
     from: usize,
     to: usize,
 ) -> Result<Found, NoMemory>
-    requires { Returns defs.now name.now marks.now (names_in ty.now) }
+    requires { Returns defs.now name.now numbers.now own (names_in ty.now) }
     ensures { IfOk result
         (λ found. Finds defs.now (on_parts name.now (body.Alias ty.now) from to) found) }
 {
@@ -321,6 +332,6 @@ pub(crate) fn check_whole_alias(
     }
     let mut names = Row::new(alloc);
     push_names(alloc, ty, &mut names)?;
-    let found = check_alias(defs, name, marks, names.as_slice())?;
+    let found = check_alias(defs, name, numbers, own, names.as_slice())?;
     Ok(found)
 }

@@ -1,7 +1,6 @@
-//! Graphs of definitions: which have ranks, and which lead back.
+//! Graphs of definitions: which have ranks, and which have a number.
 
-ghost use Rattle.std.specs.Prelude.{◌≡◌, ◌↔◌, ◌<◌, IsTrue, slice_index};
-ghost use Rattle.st_type_table.specs.inner.Graph.{mark};
+ghost use Rattle.std.specs.Prelude.{◌≡◌, ◌↔◌, ◌<◌, IsTrue, Some, slice_get, slice_index};
 
 use st_num::Row;
 
@@ -18,12 +17,12 @@ pub(crate) fn is_ranked(ranks: &[usize], place: usize) -> bool
     }
 }
 
-/// Whether the definition of this number is marked, as one that leads back.
-pub(crate) fn mark(marks: &[bool], place: usize) -> bool
-    ensures { result ≡ mark marks.now place }
+/// Whether the definition at this place has this number.
+pub(crate) fn is_numbered(numbers: &[usize], own: usize, place: usize) -> bool
+    ensures { IsTrue result ↔ (slice_get numbers.now place ≡ Some own) }
 {
-    match marks.get(place) {
-        Some(mark) => *mark,
+    match numbers.get(place) {
+        Some(number) => *number == own,
         None => false,
     }
 }

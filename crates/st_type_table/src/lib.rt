@@ -11,6 +11,7 @@ mod bodies;
 mod build;
 mod case_list;
 mod check;
+mod component;
 mod definitions;
 mod entry;
 mod fault;

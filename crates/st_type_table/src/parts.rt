@@ -4,18 +4,16 @@ ghost use Rattle.std.specs.Prelude.{◌≡◌, ◌<◌, None, length, IfOk};
 ghost use Rattle.st_type_table.specs.Leads.{leads_to};
 ghost use Rattle.st_type_table.specs.Breach.{Finds, FindsAt, AllHold, on_parts};
 ghost use Rattle.st_type_table.specs.inner.Graph.{AreRanks, graph_of};
-ghost use Rattle.st_type_table.specs.inner.Search.{IsReversed, backward};
 ghost use Rattle.st_type_table.specs.inner.Flat.{IsReached, alternatives_in};
 ghost use Rattle.st_type_table.specs.inner.Survey.{IsSurvey};
-ghost use Rattle.st_type_table.specs.inner.Checking.{Returns, AreReturning, CheckedAt, part_count};
+ghost use Rattle.st_type_table.specs.inner.Checking.{Returns, AreReturning, IsFirst, CheckedAt, part_count};
 
 use crate::check::{Found, check_alternatives, check_fields, check_whole_alias, whole};
 use crate::definitions::Definitions;
-use crate::graph::Node;
-use crate::search::{leading_back, leading_to};
+use crate::search::leading_to;
 use crate::survey::Survey;
 use st_il::{SyntaxBody, SyntaxDef};
-use st_num::{NoMemory, Row, RuleId};
+use st_num::{NoMemory, RuleId};
 use std::alloc::Global;
 
 /// The conditions on the parts of a body from one number up to another.
@@ -23,14 +21,15 @@ fn check_body(
     alloc: Global,
     defs: &Definitions,
     ranks: &[usize],
-    marks: &[bool],
+    numbers: &[usize],
+    own: usize,
     reach: usize,
     def: &SyntaxDef,
     from: usize,
     to: usize,
 ) -> Result<Found, NoMemory>
     requires ranks { AreRanks (graph_of defs.now) ranks.now }
-    requires marks { Returns defs.now def.now.name marks.now (leads_to def.now.body) }
+    requires numbers { Returns defs.now def.now.name numbers.now own (leads_to def.now.body) }
     requires reach { IsReached defs.now (alternatives_in def.now) reach }
     requires before { AllHold defs.now (on_parts def.now.name def.now.body 0 from) }
     ensures { IfOk result
@@ -38,14 +37,14 @@ fn check_body(
 {
     match &def.body {
         SyntaxBody::Alias(ty) => {
-            let found = check_whole_alias(alloc, defs, &def.name, marks, ty, from, to)?;
+            let found = check_whole_alias(alloc, defs, &def.name, numbers, own, ty, from, to)?;
             Ok(found)
         }
         SyntaxBody::Variant(parts) => {
             let parts = parts.as_slice();
             let name = &def.name;
             let found = check_alternatives(
-                alloc, defs, ranks, name, marks, reach, parts, from, to,
+                alloc, defs, ranks, name, numbers, own, reach, parts, from, to,
             )?;
             Ok(found)
         }
@@ -56,35 +55,70 @@ fn check_body(
     }
 }
 
-/// Which of the definitions that this one leads to lead back to its name.
-fn returning(
+/// The same of the definition at this place, where those of this number lead back to its name.
+fn check_numbered(
     alloc: Global,
     defs: &Definitions,
-    graph: &[Node],
-    back: &[Row<usize>],
-    ranks: &[usize],
-    back_ranks: &[usize],
+    survey: &Survey,
+    numbers: &[usize],
+    own: usize,
     at: usize,
-) -> Result<Row<bool>, NoMemory>
-    requires graph { graph.now ≡ graph_of defs.now }
-    requires back { IsReversed (graph_of defs.now) back.now }
-    requires ranks { AreRanks (graph_of defs.now) ranks.now }
-    requires back_ranks { AreRanks (backward back.now) back_ranks.now }
+    from: usize,
+    to: usize,
+) -> Result<Found, NoMemory>
+    requires survey { IsSurvey defs.now survey.now }
+    requires numbers { AreReturning defs.now at numbers.now own }
     requires within { at < length defs.now }
-    ensures { IfOk result (λ marks. AreReturning defs.now at marks) }
+    requires before { FindsAt defs.now at 0 from None }
+    ensures { IfOk result (λ found. FindsAt defs.now at from to found) }
 {
+    let ranks = survey.ranks.as_slice();
+    let reach = survey.flats.as_slice()[at].reach;
     let def = defs.nth(at);
-    match defs.place_of(&def.name) {
-        Some(first) => {
-            if first == at {
-                let marks = leading_back(alloc, graph, back, ranks, back_ranks, at)?;
-                return Ok(marks);
-            }
-            let marks = leading_to(alloc, graph, back, first)?;
-            Ok(marks)
-        }
-        None => Ok(Row::new(alloc)),
-    }
+    let found = check_body(alloc, defs, ranks, numbers, own, reach, def, from, to)?;
+    Ok(found)
+}
+
+/// The same where no definition before this one has its name: what leads back is in its component.
+fn check_first(
+    alloc: Global,
+    defs: &Definitions,
+    survey: &Survey,
+    at: usize,
+    from: usize,
+    to: usize,
+) -> Result<Found, NoMemory>
+    requires survey { IsSurvey defs.now survey.now }
+    requires first { IsFirst defs.now at at }
+    requires within { at < length defs.now }
+    requires before { FindsAt defs.now at 0 from None }
+    ensures { IfOk result (λ found. FindsAt defs.now at from to found) }
+{
+    let numbers = survey.numbers.as_slice();
+    let own = numbers[at];
+    let found = check_numbered(alloc, defs, survey, numbers, own, at, from, to)?;
+    Ok(found)
+}
+
+/// The same where an earlier definition has the name: what leads to that one leads back.
+fn check_again(
+    alloc: Global,
+    defs: &Definitions,
+    survey: &Survey,
+    first: usize,
+    at: usize,
+    from: usize,
+    to: usize,
+) -> Result<Found, NoMemory>
+    requires survey { IsSurvey defs.now survey.now }
+    requires first { IsFirst defs.now at first }
+    requires within { at < length defs.now }
+    requires before { FindsAt defs.now at 0 from None }
+    ensures { IfOk result (λ found. FindsAt defs.now at from to found) }
+{
+    let numbers = leading_to(alloc, survey.graph.as_slice(), first)?;
+    let found = check_numbered(alloc, defs, survey, numbers.as_slice(), 1, at, from, to)?;
+    Ok(found)
 }
 
 /// The conditions on the parts of a definition from one number up to another.
@@ -101,15 +135,17 @@ pub(crate) fn check_parts(
     requires before { FindsAt defs.now at 0 from None }
     ensures { IfOk result (λ found. FindsAt defs.now at from to found) }
 {
-    let ranks = survey.ranks.as_slice();
-    let graph = survey.graph.as_slice();
-    let back = survey.back.as_slice();
-    let back_ranks = survey.back_ranks.as_slice();
-    let marks = returning(alloc, defs, graph, back, ranks, back_ranks, at)?;
-    let reach = survey.flats.as_slice()[at].reach;
     let def = defs.nth(at);
-    let found = check_body(alloc, defs, ranks, marks.as_slice(), reach, def, from, to)?;
-    Ok(found)
+    match defs.place_before(at, &def.name) {
+        Some(first) => {
+            let found = check_again(alloc, defs, survey, first, at, from, to)?;
+            Ok(found)
+        }
+        None => {
+            let found = check_first(alloc, defs, survey, at, from, to)?;
+            Ok(found)
+        }
+    }
 }
 
 /// How many parts a body has.

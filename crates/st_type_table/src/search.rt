@@ -1,10 +1,10 @@
 //! What leads to a definition, found by a search against the arrows of the graph.
 
-ghost use Rattle.std.specs.Prelude.{◌≡◌, ◌<◌, ◌-◌, ◌↔◌, ℕ, IfOk, OnOk, Some, [], length, replicate, slice_get, true, false};
-ghost use Rattle.st_type_table.specs.inner.Graph.{LeadsAt, LeadsBack, AreRanks, mark};
-ghost use Rattle.st_type_table.specs.inner.Search.{AddsArrow, AddsArrows, IsReversed, IsSearch, MarksAll, MarksOne, backward};
+ghost use Rattle.std.specs.Prelude.{◌≡◌, ◌<◌, ◌-◌, ◌↔◌, ℕ, IfOk, OnOk, Some, [], length, map, replicate, slice_get, true, false};
+ghost use Rattle.st_type_table.specs.inner.Graph.{LeadsAt, mark};
+ghost use Rattle.st_type_table.specs.inner.Search.{AddsArrow, AddsArrows, IsReversed, IsSearch, MarksAll, MarksOne, as_number};
 
-use crate::graph::{Node, is_ranked};
+use crate::graph::Node;
 use st_num::{NoMemory, Row};
 use std::alloc::Global;
 
@@ -59,18 +59,6 @@ pub(crate) fn reversed(alloc: Global, graph: &[Node]) -> Result<Row<Row<usize>>,
     let mut back = no_arrows(alloc, graph.len())?;
     add_all_arrows(graph, &mut back)?;
     Ok(Row::from_vec(back))
-}
-
-/// The arrows as a graph, whose ways run against those of the definitions.
-pub(crate) fn backward(alloc: Global, back: &[Row<usize>]) -> Result<Row<Node>, NoMemory>
-    ensures { IfOk result (λ graph. graph ≡ backward back.now) }
-{
-    let mut graph = Row::new(alloc);
-    for row in back {
-        let row = row.copy(alloc)?;
-        graph.push(Some(row))?;
-    }
-    Ok(graph)
 }
 
 /// So many definitions, of which none is marked yet.
@@ -159,44 +147,37 @@ fn search(
     Ok(())
 }
 
-/// Which definitions lead to the one of this number.
+/// 1 where a definition is marked, and else 0.
+fn as_number(is_marked: bool) -> usize
+    ensures { result ≡ as_number is_marked }
+{
+    if is_marked { 1 } else { 0 }
+}
+
+/// The marks as numbers.
+fn as_numbers(alloc: Global, marks: &[bool]) -> Result<Row<usize>, NoMemory>
+    ensures { IfOk result (λ numbers. numbers ≡ map as_number marks.now) }
+{
+    let mut numbers = Row::new(alloc);
+    for is_marked in marks {
+        numbers.push(as_number(*is_marked))?;
+    }
+    Ok(numbers)
+}
+
+/// The number 1 for each definition that leads to the one of this number, and 0 for the others.
 pub(crate) fn leading_to(
     alloc: Global,
     graph: &[Node],
-    back: &[Row<usize>],
     target: usize,
-) -> Result<Row<bool>, NoMemory>
-    requires reversed { IsReversed graph.now back.now }
-    requires within { target < length graph.now }
-    ensures { IfOk result (λ marks. (i : ℕ) → (mark marks i ≡ true) ↔ LeadsAt graph.now i target) }
+) -> Result<Row<usize>, NoMemory>
+    requires { target < length graph.now }
+    ensures { IfOk result
+        (λ numbers. (i : ℕ) → (slice_get numbers i ≡ Some 1) ↔ LeadsAt graph.now i target) }
 {
+    let back = reversed(alloc, graph)?;
     let mut marks = unmarked(alloc, graph.len())?;
-    search(alloc, graph, back, target, &mut marks)?;
-    Ok(Row::from_vec(marks))
-}
-
-/// Which definitions lead back to the one of this number: it is right of those that it leads to.
-/// None does where each way from the definition ends, or each way to it has a start.
-pub(crate) fn leading_back(
-    alloc: Global,
-    graph: &[Node],
-    back: &[Row<usize>],
-    ranks: &[usize],
-    back_ranks: &[usize],
-    target: usize,
-) -> Result<Row<bool>, NoMemory>
-    requires reversed { IsReversed graph.now back.now }
-    requires ranks { AreRanks graph.now ranks.now }
-    requires back_ranks { AreRanks (backward back.now) back_ranks.now }
-    requires within { target < length graph.now }
-    ensures { IfOk result (λ marks. LeadsBack graph.now marks target) }
-{
-    if is_ranked(ranks, target) {
-        return Ok(Row::new(alloc));
-    }
-    if is_ranked(back_ranks, target) {
-        return Ok(Row::new(alloc));
-    }
-    let marks = leading_to(alloc, graph, back, target)?;
-    Ok(marks)
+    search(alloc, graph, back.as_slice(), target, &mut marks)?;
+    let numbers = as_numbers(alloc, &marks)?;
+    Ok(numbers)
 }

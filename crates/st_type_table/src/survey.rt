@@ -3,12 +3,12 @@
 ghost use Rattle.std.specs.Prelude.{IfOk};
 ghost use Rattle.st_type_table.specs.inner.Survey.{IsSurvey};
 
+use crate::component::component_numbers;
 use crate::definitions::Definitions;
 use crate::flat::{Flat, flats_of};
 use crate::graph::Node;
 use crate::place::leads_graph;
 use crate::ranking::settle;
-use crate::search::{backward, reversed};
 use st_num::{NoMemory, Row};
 use std::alloc::Global;
 
@@ -17,12 +17,10 @@ use std::alloc::Global;
 pub(crate) struct Survey {
     /// Which definition leads to which.
     pub(crate) graph: Row<Node>,
-    /// The same by what is led to.
-    pub(crate) back: Row<Row<usize>>,
+    /// The number of the component of each: two that lead to each other have one number.
+    pub(crate) numbers: Row<usize>,
     /// 0 where a definition does not end, and else more than those of all that it leads to.
     pub(crate) ranks: Row<usize>,
-    /// The same against the arrows: 0 where a definition is led to by a way without a start.
-    pub(crate) back_ranks: Row<usize>,
     pub(crate) flats: Row<Flat>,
 }
 
@@ -31,16 +29,13 @@ pub(crate) fn survey_of(alloc: Global, defs: &Definitions) -> Result<Survey, NoM
     ensures { IfOk result (λ survey. IsSurvey defs.now survey) }
 {
     let graph = leads_graph(alloc, defs)?;
-    let back = reversed(alloc, graph.as_slice())?;
+    let numbers = component_numbers(alloc, graph.as_slice())?;
     let ranks = settle(alloc, graph.as_slice())?;
-    let against = backward(alloc, back.as_slice())?;
-    let back_ranks = settle(alloc, against.as_slice())?;
     let flats = flats_of(alloc, defs, ranks.as_slice())?;
     Ok(Survey {
         graph,
-        back,
+        numbers,
         ranks,
-        back_ranks,
         flats,
     })
 }

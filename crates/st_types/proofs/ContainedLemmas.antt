@@ -5,7 +5,7 @@ use Rattle.st_il.specs.declared.ty.Ty.{Ty}
 use Rattle.st_il.specs.declared.definition.SyntaxDef.{SyntaxDef}
 use Rattle.st_type_table.specs.declared.entry.CaseDef.{CaseDef}
 use Rattle.st_type_table.specs.Cases.{HasCases}
-use Rattle.st_types.specs.Sub.{AllStandIn, IsContained}
+use Rattle.st_type_table.specs.Sub.{AllStandIn, IsContained}
 use Rattle.st_type_table.proofs.CasesLemmas.{HasCases-single}
 
 pub contained-exact : (defs : List SyntaxDef) (a b : Ty) (xs ys : List CaseDef) (r : Bool) (cs ds : List CaseDef) → xs ≡ cs → ys ≡ ds

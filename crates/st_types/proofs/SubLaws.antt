@@ -8,7 +8,7 @@ use Rattle.st_type_table.specs.declared.entry.CaseDef.{CaseDef}
 use Rattle.st_type_table.specs.Meaning.{Means, named_at, listed}
 use Rattle.st_type_table.specs.Cases.{HasCases}
 use Rattle.st_type_table.specs.Same.{Same, SameAll}
-use Rattle.st_types.specs.Sub.{Sub, IsContained, AllStandIn}
+use Rattle.st_type_table.specs.Sub.{Sub, IsContained, AllStandIn}
 use Rattle.st_type_table.specs.inner.SameLevels.{SameAt}
 use Rattle.st_type_table.proofs.MeansLemmas.{Means-single}
 use Rattle.st_type_table.proofs.CasesLemmas.{HasCases-single, no_cases, moved_cases}

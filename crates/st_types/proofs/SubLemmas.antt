@@ -7,7 +7,7 @@ use Rattle.st_il.specs.declared.ty.Ty.TheVariants as ty
 use Rattle.st_il.specs.declared.definition.SyntaxDef.{SyntaxDef}
 use Rattle.st_type_table.specs.Meaning.{Means}
 use Rattle.st_type_table.specs.Same.{Same}
-use Rattle.st_types.specs.Sub.{Sub, IsContained}
+use Rattle.st_type_table.specs.Sub.{Sub, IsContained}
 use Rattle.st_types.specs.inner.Levels.{UnderAt, IsUnder, Said, level_at, Holds}
 use Rattle.st_type_table.specs.Breach.{IsSound}
 use Rattle.st_type_table.proofs.Measure.{measure, ty_rank, ty_height, rank_at, height_at, heights, Means-measure}

@@ -16,7 +16,7 @@ use Rattle.st_type_table.specs.Meaning.{Means, named, named_at, listed, recorded
 use Rattle.st_type_table.specs.Cases.{HasCases, HasFields, operands_of}
 use Rattle.st_types.specs.HasType.{HasType, HaveTypes, AllHaveType}
 use Rattle.st_type_table.specs.Same.{Same, SameAll}
-use Rattle.st_types.specs.Sub.{Sub, IsContained, AllStandIn}
+use Rattle.st_type_table.specs.Sub.{Sub, IsContained, AllStandIn}
 use Rattle.st_types.specs.Laws.{GoesUp}
 use Rattle.st_types.specs.inner.Levels.{TypedAt}
 use Rattle.st_type_table.proofs.MeansLemmas.{Means-single}

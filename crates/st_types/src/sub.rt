@@ -6,7 +6,7 @@ ghost use Rattle.st_type_table.specs.Breach.{IsSound};
 ghost use Rattle.st_type_table.specs.Same.{SameAll};
 ghost use Rattle.st_types.specs.inner.Levels.{told, level_at};
 ghost use Rattle.st_types.specs.Laws.{GoesUp};
-ghost use Rattle.st_types.specs.Sub.{Sub, StandsIn, AllStandIn, IsContained};
+ghost use Rattle.st_type_table.specs.Sub.{Sub, StandsIn, AllStandIn, IsContained};
 
 use crate::typing::operands_of;
 use st_il::Ty;

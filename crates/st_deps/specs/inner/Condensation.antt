@@ -1,7 +1,7 @@
 -- What groups cite, by their ranks.
 use Rattle.std.specs.Prelude.{◌≡◌, ◌≢◌, ◌<◌, ◌==◌, ℕ, List, length, slice_get, option_to_list, if◌then◌else◌, Option, Some, None}
+use Rattle.st_graph.specs.Graph.{Edge}
 use Rattle.std.specs.List.{flat_map}
-use Rattle.st_deps.specs.inner.Graph.{Edge}
 
 -- the rank that there is, unless it is this one
 abbrev pub other_than : ℕ → Option ℕ → Option ℕ

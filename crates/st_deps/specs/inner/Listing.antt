@@ -1,6 +1,6 @@
 -- How far the listing of groups has come. A group is told by its rank.
 use Rattle.std.specs.Prelude.{◌≡◌, ◌<◌, ◌⊎◌, ℕ, suc, Bool, true, false, List, [], ◌∷◌, ◌++◌, length, slice_get, Some}
-use Rattle.st_deps.specs.inner.Graph.{Edge, Stands}
+use Rattle.st_graph.specs.Graph.{Edge, Stands}
 
 -- no group leads back to itself: each citation falls
 abbrev pub IsFalling : List (List ℕ) → Type 0

@@ -1,7 +1,7 @@
 -- The listing as the code keeps it.
 use Rattle.std.specs.Prelude.{◌<◌, ℕ, List, [], ◌∷◌}
+use Rattle.st_graph.specs.Graph.{Stands}
 use Rattle.st_deps.specs.declared.listing.Listing.{Listing}
-use Rattle.st_deps.specs.inner.Graph.{Stands}
 use Rattle.st_deps.specs.inner.Listing as lists
 
 -- the listing is right, so far as it has come, but for these, which are to be settled still

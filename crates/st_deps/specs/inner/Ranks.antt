@@ -1,6 +1,6 @@
 -- The ranks of groups: the rank of a group is how many groups begin before it.
 use Rattle.std.specs.Prelude.{◌≡◌, ◌<◌, ℕ, List, length, slice_get, Some}
-use Rattle.st_deps.specs.inner.Graph.{Stands}
+use Rattle.st_graph.specs.Graph.{Stands}
 
 -- The numbers of groups are met in this order, and the rank of each is its place among them.
 pub record AreMet (numbers met ranks : List ℕ) : Type 0 where

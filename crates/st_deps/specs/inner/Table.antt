@@ -2,11 +2,11 @@
 use Rattle.std.specs.Prelude.{◌≡◌, ℕ, List, [], ◌∷◌, ◌++◌, set, length, slice_get, slice_index_or, position, option_to_list, Option, Some, None}
 use Rattle.std.specs.List.{flat_map}
 use Rattle.st_num.specs.Names.{same_name}
+use Rattle.st_graph.specs.Graph.{Edge}
 use Rattle.st_il.specs.declared.definition.IlDef.{IlDef}
 use Rattle.st_il.specs.declared.definition.Il.{Il}
 use Rattle.st_deps.specs.Cited.{Name}
 use Rattle.st_deps.specs.Definitions.{names_in, owner, declared, Cites}
-use Rattle.st_deps.specs.inner.Graph.{Edge}
 
 -- the number of a name among those known
 abbrev pub number_in : List Name → Name → Option ℕ

@@ -1,5 +1,5 @@
 -- What is known while the conditions on a definition are checked.
-use Rattle.std.specs.Prelude.{◌≡◌, ◌⊎◌, ◌↔◌, ◌<◌, ℕ, suc, Bool, true, List, length, take, slice_get, Option, Some, None, IfNone}
+use Rattle.std.specs.Prelude.{◌≡◌, ◌⊎◌, ◌↔◌, ◌<◌, ℕ, suc, List, length, take, slice_get, Option, Some, None, IfNone}
 use Rattle.st_num.specs.declared.rule.RuleId.{RuleId}
 use Rattle.st_num.specs.declared.rule.RuleId.TheVariants.{B2, B4}
 use Rattle.st_type_table.specs.declared.fault.Broken.{Broken}
@@ -11,18 +11,23 @@ use Rattle.st_il.specs.declared.definition.SyntaxBody.TheVariants as body
 use Rattle.st_il.specs.declared.definition.Alternative.{Alternative}
 use Rattle.st_type_table.specs.Meaning.{alternatives_of}
 use Rattle.st_type_table.specs.Leads.{Among, Leads, Ends, leads_to}
-use Rattle.st_type_table.specs.inner.Graph.{place_of, mark}
+use Rattle.st_type_table.specs.inner.Graph.{place_of}
 
--- of these names, those that lead back to the target are marked
-abbrev pub Returns : List SyntaxDef → List ℕ → List Bool → List (List ℕ) → Type 0
-Returns defs target marks names =
+-- of these names, those that lead back to the target have this number, and the others do not
+abbrev pub Returns : List SyntaxDef → List ℕ → List ℕ → ℕ → List (List ℕ) → Type 0
+Returns defs target numbers own names =
     (name : List ℕ) (place : ℕ) → Among names name → place_of defs name ≡ Some place
-    → (mark marks place ≡ true) ↔ Leads defs name target
+    → (slice_get numbers place ≡ Some own) ↔ Leads defs name target
 
--- of the names that the definition of this number leads to, those that lead back are marked
-abbrev pub AreReturning : List SyntaxDef → ℕ → List Bool → Type 0
-AreReturning defs at marks =
-    (d : SyntaxDef) → slice_get defs at ≡ Some d → Returns defs d.name marks (leads_to d.body)
+-- the same of the names that the definition at this place leads to
+abbrev pub AreReturning : List SyntaxDef → ℕ → List ℕ → ℕ → Type 0
+AreReturning defs at numbers own =
+    (d : SyntaxDef) → slice_get defs at ≡ Some d → Returns defs d.name numbers own (leads_to d.body)
+
+-- the first definition with the name of the one at this place is that of this number
+abbrev pub IsFirst : List SyntaxDef → ℕ → ℕ → Type 0
+IsFirst defs at first =
+    (d : SyntaxDef) → slice_get defs at ≡ Some d → place_of defs d.name ≡ Some first
 
 -- how many parts a body has
 abbrev pub part_count : SyntaxBody → ℕ

@@ -100,12 +100,6 @@ unmarked [] = 0
 unmarked (true ∷ ms) = unmarked ms
 unmarked (false ∷ ms) = suc (unmarked ms)
 
--- of the definitions that the target leads to, those that lead back are marked
-abbrev pub LeadsBack : Graph → List Bool → ℕ → Type 0
-LeadsBack graph marks target =
-    (j : ℕ) (next : List ℕ) → slice_get graph target ≡ Some (Some next) → IsOne next j
-    → (mark marks j ≡ true) ↔ LeadsAt graph j target
-
 -- where the type is a name, each way from it ends
 abbrev pub EndsIn : List SyntaxDef → Ty → Type 0
 EndsIn defs t = (name : List ℕ) → t ≡ ty.Name name → Ends defs name

@@ -1,15 +1,11 @@
 -- The search for what leads to a definition, against the arrows of the graph.
-use Rattle.std.specs.Prelude.{◌≡◌, ◌⊎◌, ◌<◌, ◌≤◌, ◌↔◌, ◌+◌, ◌*◌, ℕ, Bool, true, false, List, [], ◌∷◌, ◌++◌, length, map, set, slice_get, Some}
+use Rattle.std.specs.Prelude.{◌≡◌, ◌⊎◌, ◌<◌, ◌≤◌, ◌↔◌, ◌+◌, ◌*◌, ℕ, Bool, true, false, List, [], ◌∷◌, ◌++◌, length, set, slice_get, Some}
 use Rattle.st_type_table.specs.inner.Graph.{Graph, IsOne, LeadsAt, mark, unmarked}
 use Rattle.st_type_table.specs.inner.Ranking.{WaitsFor, OnPath, MarksMore}
 
 -- for each definition the numbers of those that lead to it in one step
 abbrev pub Arrows : Type 0
 Arrows = List (List ℕ)
-
--- the arrows as a graph, whose ways run against those of the definitions
-abbrev pub backward : Arrows → Graph
-backward back = map Some back
 
 -- at the place one arrow more is kept, from this definition, where there is such a place
 abbrev pub AddsArrow : ℕ → ℕ → Arrows → Arrows → Type 0
@@ -67,3 +63,8 @@ pub record MarksAll (row : List ℕ) (marks : List Bool) (todo : List ℕ) (mark
   pub within : (i : ℕ) → OnPath todo' i
       → OnPath todo i ⊎ ((i < length marks) × (mark marks' i ≡ true))
   pub falls : 2 * unmarked marks' + length todo' ≤ 2 * unmarked marks + length todo
+
+-- 1 where a definition is marked, and else 0
+abbrev pub as_number : Bool → ℕ
+as_number true = 1
+as_number false = 0

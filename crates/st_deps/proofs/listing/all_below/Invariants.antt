@@ -1,5 +1,5 @@
 use Rattle.std.proofs.Common.{◌↔◌, ◌<◌, ℕ}
-use Rattle.st_deps.specs.inner.Graph.{Stands}
+use Rattle.st_graph.specs.Graph.{Stands}
 use Rattle.st_deps.proofs.listing.all_below.Given as goal
 
 abbrev pub invariant-loop-number : goal.invariant-loop-number

@@ -1,5 +1,5 @@
 use Rattle.std.proofs.Common.{◌↔◌, ◌<◌, sym, subst, ℕ, List, length}
-use Rattle.st_deps.specs.inner.Graph.{Stands}
+use Rattle.st_graph.specs.Graph.{Stands}
 use Rattle.st_deps.proofs.ListingLemmas.{listing-begins}
 use Rattle.st_deps.proofs.listing.begin.Goals as goal
 

@@ -1,6 +1,6 @@
 use Rattle.std.proofs.Common.{◌≡◌, refl, sym, ap, ◌∙◌, subst, ℕ, Bool, List, length, set, Some, slice_get, arith}
 use Rattle.std.proofs.lemmas.Option.{slice_get_read}
-use Rattle.st_deps.specs.inner.Graph.{Stands}
+use Rattle.st_graph.specs.Graph.{Stands}
 use Rattle.st_deps.specs.inner.Listing as lists
 use Rattle.st_deps.proofs.ListingLemmas.{settle-waits, settle-ready}
 use Rattle.st_deps.proofs.listing.settle.Goals as goal

@@ -1,11 +1,11 @@
 use Rattle.std.proofs.Common.{sym, ap, ◌∙◌, subst, ℕ, List, [], length, map, slice_get, slice_index_or, arith}
 use Rattle.std.proofs.lemmas.Option.{slice_get-get_or}
+use Rattle.st_graph.specs.Graph.{IsWithin}
 use Rattle.st_deps.specs.Cited.{Name}
 use Rattle.st_deps.specs.Definitions.{declared, Cites}
 use Rattle.st_deps.specs.Groups.{AreGroups}
 use Rattle.st_deps.specs.GroupNumbers.{AreGroupNumbers}
 use Rattle.st_deps.specs.Table.{IsTable}
-use Rattle.st_deps.specs.inner.Walk.{IsWithin}
 use Rattle.st_deps.specs.inner.Ranks.{AreRanks}
 use Rattle.st_deps.specs.inner.Listing.{IsFalling, IsOrder}
 use Rattle.st_deps.specs.inner.Members.{AreMembers}
@@ -22,7 +22,7 @@ condensation-requires c =
     let a = ap length c.deref-2.ensures.value in
     let b = c.in_ok-ranks.ensures.size in
     let d = ap length c.deref.ensures.value in
-    let e = c.in_ok-numbers.ensures.size in
+    let e = c.in_ok-components.ensures.size in
     let f = ap length (c.as_slice.ensures ∙ sym c.as_slice-2.ensures) in
     record {
       size = omega (arith, a, b, d, e, f);
@@ -34,13 +34,13 @@ order_of-requires c =
     let il = c.args.il.now in
     let one : IsTable c.args.il.now c.as_slice.result.now = subst (IsTable c.args.il.now) (sym c.as_slice.ensures) c.in_ok-table.ensures.rows in
     let table : IsTable c.args.il.now c.as_slice-2.result.now = subst (IsTable c.args.il.now) (sym c.as_slice-2.ensures) c.in_ok-table.ensures.rows in
-    let numbered : AreGroupNumbers c.args.il.now c.in_ok-numbers.numbers.items = numbers_are c.args.il.now c.as_slice.result.now one c.in_ok-numbers.numbers.items _ c.in_ok-numbers.ensures in
-    let ranked : AreRanks c.in_ok-numbers.numbers.items c.deref-2.result.now c.in_ok-ranks.count =
+    let numbered : AreGroupNumbers c.args.il.now c.in_ok-components.components.numbers.items = numbers_are c.args.il.now c.as_slice.result.now one c.in_ok-components.components.numbers.items _ c.in_ok-components.ensures in
+    let ranked : AreRanks c.in_ok-components.components.numbers.items c.deref-2.result.now c.in_ok-ranks.count =
     subst (λ (z : List ℕ). AreRanks z c.deref-2.result.now c.in_ok-ranks.count) c.deref.ensures.value
     (subst (λ (z : List ℕ). AreRanks c.deref.result.now z c.in_ok-ranks.count) (sym c.deref-2.ensures.value) c.in_ok-ranks.ensures) in
     record {
-      within = subst IsWithin (sym c.deref-3.ensures.value) (ranks-within il c.in_ok-numbers.numbers.items c.deref-2.result.now c.in_ok-ranks.count numbered ranked c.as_slice-2.result.now c.in_ok-rows.rows.items table c.in_ok-rows.ensures);
-      falling = subst IsFalling (sym c.deref-3.ensures.value) (ranks-fall il c.in_ok-numbers.numbers.items c.deref-2.result.now c.in_ok-ranks.count numbered ranked c.as_slice-2.result.now c.in_ok-rows.rows.items table c.in_ok-rows.ensures);
+      within = subst IsWithin (sym c.deref-3.ensures.value) (ranks-within il c.in_ok-components.components.numbers.items c.deref-2.result.now c.in_ok-ranks.count numbered ranked c.as_slice-2.result.now c.in_ok-rows.rows.items table c.in_ok-rows.ensures);
+      falling = subst IsFalling (sym c.deref-3.ensures.value) (ranks-fall il c.in_ok-components.components.numbers.items c.deref-2.result.now c.in_ok-ranks.count numbered ranked c.as_slice-2.result.now c.in_ok-rows.rows.items table c.in_ok-rows.ensures);
     }
 
 pub members_of-requires : goal.members_of-requires
@@ -48,8 +48,8 @@ members_of-requires c =
     let il = c.args.il.now in
     let one : IsTable c.args.il.now c.as_slice.result.now = subst (IsTable c.args.il.now) (sym c.as_slice.ensures) c.in_ok-table.ensures.rows in
     let table : IsTable c.args.il.now c.as_slice-2.result.now = subst (IsTable c.args.il.now) (sym c.as_slice-2.ensures) c.in_ok-table.ensures.rows in
-    let numbered : AreGroupNumbers c.args.il.now c.in_ok-numbers.numbers.items = numbers_are c.args.il.now c.as_slice.result.now one c.in_ok-numbers.numbers.items _ c.in_ok-numbers.ensures in
-    let ranked : AreRanks c.in_ok-numbers.numbers.items c.deref-2.result.now c.in_ok-ranks.count =
+    let numbered : AreGroupNumbers c.args.il.now c.in_ok-components.components.numbers.items = numbers_are c.args.il.now c.as_slice.result.now one c.in_ok-components.components.numbers.items _ c.in_ok-components.ensures in
+    let ranked : AreRanks c.in_ok-components.components.numbers.items c.deref-2.result.now c.in_ok-ranks.count =
     subst (λ (z : List ℕ). AreRanks z c.deref-2.result.now c.in_ok-ranks.count) c.deref.ensures.value
     (subst (λ (z : List ℕ). AreRanks c.deref.result.now z c.in_ok-ranks.count) (sym c.deref-2.ensures.value) c.in_ok-ranks.ensures) in
     let a = ap length c.deref-4.ensures.value in
@@ -67,13 +67,13 @@ in_order-requires c =
     let il = c.args.il.now in
     let one : IsTable c.args.il.now c.as_slice.result.now = subst (IsTable c.args.il.now) (sym c.as_slice.ensures) c.in_ok-table.ensures.rows in
     let table : IsTable c.args.il.now c.as_slice-2.result.now = subst (IsTable c.args.il.now) (sym c.as_slice-2.ensures) c.in_ok-table.ensures.rows in
-    let numbered : AreGroupNumbers c.args.il.now c.in_ok-numbers.numbers.items = numbers_are c.args.il.now c.as_slice.result.now one c.in_ok-numbers.numbers.items _ c.in_ok-numbers.ensures in
-    let ranked : AreRanks c.in_ok-numbers.numbers.items c.deref-2.result.now c.in_ok-ranks.count =
+    let numbered : AreGroupNumbers c.args.il.now c.in_ok-components.components.numbers.items = numbers_are c.args.il.now c.as_slice.result.now one c.in_ok-components.components.numbers.items _ c.in_ok-components.ensures in
+    let ranked : AreRanks c.in_ok-components.components.numbers.items c.deref-2.result.now c.in_ok-ranks.count =
     subst (λ (z : List ℕ). AreRanks z c.deref-2.result.now c.in_ok-ranks.count) c.deref.ensures.value
     (subst (λ (z : List ℕ). AreRanks c.deref.result.now z c.in_ok-ranks.count) (sym c.deref-2.ensures.value) c.in_ok-ranks.ensures) in
     let ordered : IsOrder c.in_ok-rows.rows.items c.in_ok-order.order.items = subst (λ (z : List (List ℕ)). IsOrder z c.in_ok-order.order.items) c.deref-3.ensures.value c.in_ok-order.ensures in
     λ k d less.
-    let l = order-within il c.in_ok-numbers.numbers.items c.deref-2.result.now c.in_ok-ranks.count numbered ranked c.as_slice-2.result.now c.in_ok-rows.rows.items table c.in_ok-rows.ensures c.in_ok-order.order.items ordered (slice_index_or c.deref-6.result.now k d)
+    let l = order-within il c.in_ok-components.components.numbers.items c.deref-2.result.now c.in_ok-ranks.count numbered ranked c.as_slice-2.result.now c.in_ok-rows.rows.items table c.in_ok-rows.ensures c.in_ok-order.order.items ordered (slice_index_or c.deref-6.result.now k d)
     (k, ap (λ (z : List ℕ). slice_get z k) (sym c.deref-6.ensures.value) ∙ slice_get-get_or c.deref-6.result.now k d less) in
     let m = c.in_ok-members.ensures.size in
     let z = ap length c.deref-5.ensures.value in omega (arith, l, m, z)
@@ -83,8 +83,8 @@ returns c =
     let il = c.args.il.now in
     let one : IsTable c.args.il.now c.as_slice.result.now = subst (IsTable c.args.il.now) (sym c.as_slice.ensures) c.in_ok-table.ensures.rows in
     let table : IsTable c.args.il.now c.as_slice-2.result.now = subst (IsTable c.args.il.now) (sym c.as_slice-2.ensures) c.in_ok-table.ensures.rows in
-    let numbered : AreGroupNumbers c.args.il.now c.in_ok-numbers.numbers.items = numbers_are c.args.il.now c.as_slice.result.now one c.in_ok-numbers.numbers.items _ c.in_ok-numbers.ensures in
-    let ranked : AreRanks c.in_ok-numbers.numbers.items c.deref-2.result.now c.in_ok-ranks.count =
+    let numbered : AreGroupNumbers c.args.il.now c.in_ok-components.components.numbers.items = numbers_are c.args.il.now c.as_slice.result.now one c.in_ok-components.components.numbers.items _ c.in_ok-components.ensures in
+    let ranked : AreRanks c.in_ok-components.components.numbers.items c.deref-2.result.now c.in_ok-ranks.count =
     subst (λ (z : List ℕ). AreRanks z c.deref-2.result.now c.in_ok-ranks.count) c.deref.ensures.value
     (subst (λ (z : List ℕ). AreRanks c.deref.result.now z c.in_ok-ranks.count) (sym c.deref-2.ensures.value) c.in_ok-ranks.ensures) in
     let ordered : IsOrder c.in_ok-rows.rows.items c.in_ok-order.order.items = subst (λ (z : List (List ℕ)). IsOrder z c.in_ok-order.order.items) c.deref-3.ensures.value c.in_ok-order.ensures in
@@ -94,4 +94,4 @@ returns c =
     subst (AreGroups (Cites il) (declared il))
     (sym (c.in_ok-groups.ensures ∙ ap (λ (z : List (List Name)). map (λ (k : ℕ). slice_index_or z k []) c.deref-6.result.now) c.deref-5.ensures.value
     ∙ ap (map (λ (k : ℕ). slice_index_or c.in_ok-members.members.items k [])) c.deref-6.ensures.value))
-    (groups_are il c.in_ok-numbers.numbers.items c.deref-2.result.now c.in_ok-ranks.count numbered ranked c.as_slice-2.result.now c.in_ok-rows.rows.items table c.in_ok-rows.ensures c.in_ok-order.order.items ordered c.in_ok-members.members.items named)
+    (groups_are il c.in_ok-components.components.numbers.items c.deref-2.result.now c.in_ok-ranks.count numbered ranked c.as_slice-2.result.now c.in_ok-rows.rows.items table c.in_ok-rows.ensures c.in_ok-order.order.items ordered c.in_ok-members.members.items named)

@@ -4,9 +4,9 @@ use Rattle.st_type_table.specs.Breach.{Finds, on_included, all_declared}
 use Rattle.st_type_table.proofs.PartLemmas.{keys-broken, read-at, Returns-one, case-keys, case-types, incl-found, incl-keys, incl-whole}
 use Rattle.st_type_table.proofs.check.check_alternative.Goals as goal
 
-pub check_included-requires-clause-marks : goal.check_included-requires-clause-marks
-check_included-requires-clause-marks c = Returns-one c.args.defs.now c.args.target.now c.args.marks.now c.args.parts.now c.args.at c.in-Incl.name
-    (read-at c.args.parts.now c.args.at c.index-parts-at.result c.requires.within c.index-parts-at.is ∙ ap Some c.in-Incl.is) c.requires.marks
+pub check_included-requires-clause-numbers : goal.check_included-requires-clause-numbers
+check_included-requires-clause-numbers c = Returns-one c.args.defs.now c.args.target.now c.args.numbers.now c.args.own c.args.parts.now c.args.at c.in-Incl.name
+    (read-at c.args.parts.now c.args.at c.index-parts-at.result c.requires.within c.index-parts-at.is ∙ ap Some c.in-Incl.is) c.requires.numbers
 
 pub returns-then-at-reach : goal.returns-then-at-reach
 returns-then-at-reach c = case-keys c.args.defs.now c.args.target.now c.args.parts.now c.args.reach c.args.at c.index-parts-at.result

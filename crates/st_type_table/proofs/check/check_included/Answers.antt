@@ -6,17 +6,17 @@ use Rattle.st_type_table.proofs.check.check_included.Goals as goal
 pub returns-in_default : goal.returns-in_default
 returns-in_default c = inl ((λ h. h (unplaced c.args.defs.now c.args.name.now (sym c.in_default.ensures))), c.whole.ensures)
 
-pub returns-then-mark : goal.returns-then-mark
-returns-then-mark c = inr (
+pub returns-then-is_numbered : goal.returns-then-is_numbered
+returns-then-is_numbered c = inr (
   is-declared c.args.defs.now c.args.name.now c.in-Some.place (sym c.in-Some.ensures),
-  inl ((λ h. h ((c.requires.marks c.args.name.now c.in-Some.place (inl refl) (sym c.in-Some.ensures)).0 (sym c.mark.ensures ∙ c.if-mark.true))), c.whole-then-mark.ensures),
+  inl ((λ h. h ((c.requires.numbers c.args.name.now c.in-Some.place (inl refl) (sym c.in-Some.ensures)).0 (c.if-is_numbered.ensures.0 refl))), c.whole-then-is_numbered.ensures),
 )
 
 pub returns-then-not-branch : goal.returns-then-not-branch
 returns-then-not-branch c = inr (
   is-declared c.args.defs.now c.args.name.now c.in-Some.place (sym c.in-Some.ensures),
   inr (
-    (λ l. let m = (c.requires.marks c.args.name.now c.in-Some.place (inl refl) (sym c.in-Some.ensures)).1 l in let e : false ≡ true = sym c.if-mark.false ∙ c.mark.ensures ∙ m in cc),
+    (λ l. let e : false ≡ true = c.if-is_numbered.ensures.1 ((c.requires.numbers c.args.name.now c.in-Some.place (inl refl) (sym c.in-Some.ensures)).1 l) in cc),
     inl ((λ v. let m = c.in_ok-is_variant.ensures.1 v in let e : false ≡ true = sym c.if-not-branch.true ∙ m in cc), c.whole-then-not-branch.ensures),
   ),
 )
@@ -25,7 +25,7 @@ pub returns : goal.returns
 returns c = (
   is-declared c.args.defs.now c.args.name.now c.in-Some.place (sym c.in-Some.ensures),
   (
-    (λ l. let m = (c.requires.marks c.args.name.now c.in-Some.place (inl refl) (sym c.in-Some.ensures)).1 l in let e : false ≡ true = sym c.if-mark.false ∙ c.mark.ensures ∙ m in cc),
+    (λ l. let e : false ≡ true = c.if-is_numbered.ensures.1 ((c.requires.numbers c.args.name.now c.in-Some.place (inl refl) (sym c.in-Some.ensures)).1 l) in cc),
     (c.in_ok-is_variant.ensures.0 c.if-not-branch.false, tt),
   ),
 )

@@ -1,5 +1,5 @@
 use Rattle.std.proofs.Common.{◌↔◌, drop}
-use Rattle.st_types.specs.Sub.{AllStandIn}
+use Rattle.st_type_table.specs.Sub.{AllStandIn}
 use Rattle.st_types.proofs.sub.all_stand_in.Given as goal
 
 abbrev pub invariant-loop-case : goal.invariant-loop-case

@@ -1,6 +1,6 @@
 use Rattle.std.proofs.Common.{sym, true≢false, rules}
 use Rattle.st_types.specs.inner.Levels.{Said}
-use Rattle.st_types.specs.Sub.{Sub}
+use Rattle.st_type_table.specs.Sub.{Sub}
 use Rattle.st_types.proofs.SubLemmas.{sub-said, said-falls}
 use Rattle.st_types.proofs.sub.is_below.Goals as goal
 

@@ -1,5 +1,5 @@
 use Rattle.std.proofs.Common.{◌↔◌}
-use Rattle.st_types.specs.Sub.{Sub}
+use Rattle.st_type_table.specs.Sub.{Sub}
 use Rattle.st_type_table.proofs.Measure.{measure}
 use Rattle.st_types.proofs.sub.is_below.Given as goal
 
