@@ -4,7 +4,7 @@ ghost use Rattle.std.specs.Prelude.{◌≡◌, ◌&&◌, ◌||◌, [], ◌∷◌
 ghost use Rattle.st_num.specs.Names.{same_name};
 ghost use Rattle.st_el.specs.declared.definition.Def.{Def};
 ghost use Rattle.st_elab_rows.specs.Told.{Told};
-ghost use Rattle.st_elab_rule.specs.Clauses.{parts_of};
+ghost use Rattle.st_elab_exp.specs.Clauses.{parts_of};
 ghost use Rattle.st_elab_def.specs.Phases.{on_rule, on_clause, on_content};
 ghost use Rattle.st_elab_def.specs.inner.Contents.{MakesRule, MakesClause, MakesContent};
 ghost use Rattle.st_elab_def.specs.inner.Heads.{Finds, KnowsRules};
@@ -14,7 +14,7 @@ ghost use Rattle.st_elab_def.specs.inner.Walk.{standing, FirstBreachAt};
 use crate::heads::{Known, function, head};
 use indexmap::IndexSet;
 use st_el::{Def, DefNode, Exp, Prem};
-use st_elab_rule::{elaborate_clause, elaborate_rule};
+use st_elab_exp::{elaborate_clause, elaborate_rule};
 use st_elab_table::Decls;
 use st_il::IlDef;
 use st_num::{Fault, Name, Row, Span};

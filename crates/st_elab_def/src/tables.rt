@@ -5,7 +5,7 @@ ghost use Rattle.st_type_table.specs.Breach.{IsSound};
 ghost use Rattle.st_elab_law.specs.Agreement.{decls_in, syntaxes};
 
 use crate::listing::{funs_in, relations_in, syntaxes_in, vars_in};
-use st_elab_table::Decls;
+use st_elab_table::{Decls, NamedRow};
 use st_il::{Il, IlDef, SyntaxDef};
 use st_num::{NoMemory, Row};
 use st_type_table::{TypeFault, TypeTable};
@@ -36,9 +36,9 @@ pub(crate) fn decls_over(alloc: Global, types: TypeTable, defs: &[IlDef]) -> Res
     requires { types ≡ syntaxes defs.now }
     ensures { IfOk result (λ decls. decls ≡ decls_in defs.now) }
 {
-    let vars = vars_in(alloc, defs)?;
-    let funs = funs_in(alloc, defs)?;
-    let relations = relations_in(alloc, defs)?;
+    let vars = NamedRow::of(alloc, vars_in(alloc, defs)?)?;
+    let funs = NamedRow::of(alloc, funs_in(alloc, defs)?)?;
+    let relations = NamedRow::of(alloc, relations_in(alloc, defs)?)?;
     Ok(Decls {
         types,
         vars,

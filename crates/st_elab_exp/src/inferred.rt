@@ -123,7 +123,7 @@ fn call_row<E: Elaborator>(
     ensures { LeadsTo context.now (call_row context.now.within.now at exps.now
         (fun_named context.now.decls.now.funs name.now)) result }
 {
-    let Some(fun) = fun_named(context.decls.funs.as_slice(), name) else {
+    let Some(fun) = fun_named(&context.decls.funs, name) else {
         return Err(ExpFault::Refused {
             at,
             rule: RuleId::B2,

@@ -12,7 +12,7 @@ use Rattle.st_il.specs.declared.expression.IlExp.{IlExp}
 use Rattle.st_il.specs.declared.expression.IlExp.TheVariants as il
 use Rattle.st_type_table.specs.Meaning.{Means}
 use Rattle.st_type_table.specs.Same.{Same}
-use Rattle.st_types.specs.Sub.{Sub}
+use Rattle.st_type_table.specs.Sub.{Sub}
 use Rattle.st_elab_table.specs.declared.decls.Decls.{Decls}
 use Rattle.st_elab_table.specs.declared.decls.Scope.{Scope}
 use Rattle.st_elab_table.specs.Questions.{Made, Answer, Gives, Fails, is_below, Step, Tests}

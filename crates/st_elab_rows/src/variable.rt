@@ -10,7 +10,7 @@ ghost use Rattle.st_elab_rows.specs.inner.Searching.{remaining_at};
 ghost use Rattle.st_elab_table.specs.Inferred.{entry_of, fun_named};
 ghost use Rattle.st_elab_table.specs.Variables.{unprimed, first_type, written_type, named_type, type_of_name};
 
-use st_elab_table::Decls;
+use st_elab_table::{Decls, NamedRow};
 use st_il::{FunDef, Ty, copy_ty};
 use st_num::{Boxed, Dim, Name, NoMemory};
 use st_types::TypeTable;
@@ -28,15 +28,13 @@ fn unprimed(name: &[u8]) -> &[u8]
 }
 
 /// The type that `var` declares for the name.
-fn declared_type<'a>(vars: &'a [(Name, Ty)], name: &Name) -> Option<&'a Ty>
+fn declared_type<'a>(vars: &'a NamedRow<(Name, Ty)>, name: &Name) -> Option<&'a Ty>
     ensures { option_copied result ≡ lookup (same_name name.now) vars.now }
 {
-    for var in vars {
-        if *name == var.0 {
-            return Some(&var.1);
-        }
+    match vars.first(name) {
+        Some(var) => Some(&var.1),
+        None => None,
     }
-    None
 }
 
 /// The type that is written by this word.
@@ -65,15 +63,10 @@ pub fn scoped_type<'a>(variables: &'a [(Name, Ty, Dim)], name: &Name) -> Option<
 }
 
 /// The function of this name.
-pub fn fun_named<'a>(funs: &'a [FunDef], name: &Name) -> Option<&'a FunDef>
+pub fn fun_named<'a>(funs: &'a NamedRow<FunDef>, name: &Name) -> Option<&'a FunDef>
     ensures { option_copied result ≡ fun_named funs.now name.now }
 {
-    for fun in funs {
-        if *name == fun.name {
-            return Some(fun);
-        }
-    }
-    None
+    funs.first(name)
 }
 
 /// The type of lists of this element type.
@@ -87,7 +80,7 @@ pub fn list_of(alloc: Global, element: &Ty) -> Result<Ty, NoMemory>
 fn named_type(alloc: Global, decls: &Decls, name: &Name) -> Result<Option<Ty>, NoMemory>
     ensures { IfOk result (λ ty. ty ≡ named_type decls.now name.now) }
 {
-    if let Some(ty) = declared_type(decls.vars.as_slice(), name) {
+    if let Some(ty) = declared_type(&decls.vars, name) {
         return Ok(Some(copy_ty(alloc, ty)?));
     }
     if decls.types.declares(name) {

@@ -7,7 +7,7 @@ use Rattle.st_type_table.specs.declared.entry.CaseDef.{CaseDef}
 use Rattle.st_type_table.specs.Meaning.{Means}
 use Rattle.st_type_table.specs.Cases.{HasCases}
 use Rattle.st_type_table.specs.Same.{Same}
-use Rattle.st_types.specs.Sub.{Sub}
+use Rattle.st_type_table.specs.Sub.{Sub}
 use Rattle.st_type_table.specs.Joins.{Joins}
 use Rattle.st_notation.specs.Elements.{opened}
 use Rattle.st_elab_table.specs.declared.decls.Decls.{Decls}

@@ -28,3 +28,5 @@ pub mod Inferred
 pub mod Checked
 -- an answer is what the row of its question leads to; it is an elaboration or the first breach
 pub mod Elaboration
+-- ---- what only proofs need
+pub mod inner

@@ -1,17 +1,18 @@
 //! What an expression may name.
 
+use crate::named_row::NamedRow;
 use st_il::{FunDef, RelationDef, Ty};
 use st_num::{Dim, Name, Row};
-use st_types::TypeTable;
+use st_type_table::TypeTable;
 
 /// The declarations of a specification.
 #[derive(Drop)]
 pub struct Decls {
     pub types: TypeTable,
     /// The types of names declared by `var`.
-    pub vars: Row<(Name, Ty)>,
-    pub funs: Row<FunDef>,
-    pub relations: Row<RelationDef>,
+    pub vars: NamedRow<(Name, Ty)>,
+    pub funs: NamedRow<FunDef>,
+    pub relations: NamedRow<RelationDef>,
 }
 
 /// The variables of a rule or clause, and the iterations round an expression.

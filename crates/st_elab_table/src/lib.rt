@@ -10,9 +10,13 @@
 
 mod decls;
 mod laws;
+mod named;
+mod named_row;
 mod operator;
 
 pub use decls::{Decls, Scope};
 pub use laws::one_answer;
+pub use named::Named;
+pub use named_row::NamedRow;
 pub use operator::{Operator, operator_of};
 pub use st_num::Fault as ExpFault;

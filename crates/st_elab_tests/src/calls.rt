@@ -2,8 +2,10 @@
 
 use crate::declared::{decls_of, scope_of};
 use st_el::{Count, Def, DefNode, Exp, Node, Prem, PremNode, TypNode};
-use st_elab_exp::{Decls, Scope, around, check_count, check_fillings, check_parts};
-use st_elab_rule::{elaborate_clause, elaborate_rule};
+use st_elab_exp::{
+    Decls, Scope, around, check_count, check_fillings, check_parts, elaborate_clause,
+    elaborate_rule,
+};
 use st_erase::{erase, erase_exp};
 use st_il::{FunDef, Il, IlDef, IlExp, IlPrem, Iteration, RelationDef, Ty};
 use st_notation::Filled;

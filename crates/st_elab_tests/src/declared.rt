@@ -1,6 +1,6 @@
 //! Declarations, read from the text of the internal language.
 
-use st_elab_exp::{Decls, Scope};
+use st_elab_exp::{Decls, NamedRow, Scope};
 use st_il::{Alternative, FunDef, SyntaxBody, SyntaxDef, Ty};
 use st_num::{Boxed, Dim, Kind, Name, NoMemory, Row};
 use st_text::{TextTree, read_tree};
@@ -262,8 +262,8 @@ pub(crate) fn decls_of(
 ) -> Result<Decls, NoMemory> {
     Ok(Decls {
         types,
-        vars: vars_of(alloc, vars)?,
-        funs: funs_of(alloc, funs)?,
-        relations: Row::new(alloc),
+        vars: NamedRow::of(alloc, vars_of(alloc, vars)?)?,
+        funs: NamedRow::of(alloc, funs_of(alloc, funs)?)?,
+        relations: NamedRow::of(alloc, Row::new(alloc))?,
     })
 }

@@ -1,6 +1,0 @@
-use Rattle.std.proofs.Common.{◌≡◌, take, map}
-use Rattle.st_elab_rule.specs.Variables.{listed}
-use Rattle.st_elab_rule.proofs.scope.listed.Given as goal
-
-abbrev pub invariant-loop-variable : goal.invariant-loop-variable
-invariant-loop-variable l = l.all ≡ map listed (take l.variable-index l.scope.variables)

@@ -1,7 +1,0 @@
-use Rattle.std.proofs.Common.{◌≡◌, take}
-use Rattle.std.specs.List.{AllByRecursion}
-use Rattle.st_elab_rule.specs.Variables.{table_of, HasItsType}
-use Rattle.st_elab_rule.proofs.scope.typed.Given as goal
-
-abbrev pub invariant-loop-entry : goal.invariant-loop-entry
-invariant-loop-entry l = record { table : table_of l.variables ≡ take l.entry-index l.table; types : AllByRecursion (HasItsType l.decls) l.variables }

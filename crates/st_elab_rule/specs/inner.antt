@@ -1,2 +1,0 @@
--- What only the proofs of rules and clauses need.
-pub mod Typing
