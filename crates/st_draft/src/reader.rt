@@ -20,8 +20,10 @@ use crate::change::ending_of;
 use crate::listener::Listener;
 use crate::parts::{Parts, no_parts};
 use crate::step::{end_part, read_token};
-use st_num::{Name, Row};
-use st_parse_automaton::{At, Position, Progress, filled, may_end, part_end, token_class};
+use st_num::Row;
+use st_parse_automaton::{
+    At, NameIndex, Position, Progress, filled, may_end, part_end, token_class,
+};
 use st_parse_builder::BuildFault;
 use st_scan::Token;
 use std::alloc::Global;
@@ -55,7 +57,7 @@ fn end_tokens<'a, S: Listener<'a>>(
 /// Reads one token.
 fn read_next<'a, S: Listener<'a>>(
     alloc: Global,
-    names: &[Name],
+    names: &NameIndex<'_>,
     token: &'a Token,
     progress: Progress,
     listener: &mut S,
@@ -82,7 +84,7 @@ fn read_next<'a, S: Listener<'a>>(
 /// Reads these tokens, where these names are declared by `var`.
 fn read_all<'a, S: Listener<'a>>(
     alloc: Global,
-    names: &[Name],
+    names: &NameIndex<'_>,
     tokens: &'a [Token],
     listener: &mut S,
     parts: &mut Parts<'a>,
@@ -113,7 +115,7 @@ fn read_all<'a, S: Listener<'a>>(
 /// definitions that stand whole.
 pub fn read_source<'a, S: Listener<'a>>(
     alloc: Global,
-    names: &[Name],
+    names: &NameIndex<'_>,
     tokens: &'a [Token],
     listener: &mut S,
 ) -> Result<(), BuildFault>

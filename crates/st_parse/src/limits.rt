@@ -10,7 +10,8 @@ ghost use Rattle.st_parse.specs.inner.Found.{Judged, Found, Surveyed, end_of};
 
 use crate::survey::begun_survey;
 use st_draft::read_source;
-use st_num::{Name, NoMemory, Span};
+use st_num::{NoMemory, Span};
+use st_parse_automaton::NameIndex;
 use st_parse_builder::BuildFault;
 use st_parse_faults::TokenFault;
 use st_scan::Token;
@@ -35,7 +36,7 @@ fn front_end(tokens: &[Token], fault: Option<TokenFault>) -> usize
 
 /// What the limits ask of the definitions that stand whole behind these tokens, where these names
 /// are declared by `var`.
-fn survey(alloc: Global, names: &[Name], tokens: &[Token]) -> Result<LimitFaults, NoMemory>
+fn survey(alloc: Global, names: &NameIndex<'_>, tokens: &[Token]) -> Result<LimitFaults, NoMemory>
     requires reads { (st : positions.State)
         × (positions.reading positions.start (map (terminal names.now) tokens.now) ≡ Some st) }
     ensures { (st : positions.State)
@@ -58,7 +59,7 @@ fn survey(alloc: Global, names: &[Name], tokens: &[Token]) -> Result<LimitFaults
 #[tactic(auto, using(crate::proofs::Fronts::within))]
 pub(crate) fn limit_faults(
     alloc: Global,
-    names: &[Name],
+    names: &NameIndex<'_>,
     tokens: &[Token],
     fault: Option<TokenFault>,
 ) -> Result<LimitFaults, NoMemory>

@@ -17,8 +17,8 @@ ghost use Rattle.st_parse.specs.Source.{Answers, IsParsed};
 use crate::limits::limit_faults;
 use st_draft::{Draft, begun, read_source};
 use st_el::Def;
-use st_num::{Name, NoMemory, Row, RuleId, Span};
-use st_parse_automaton::declared_names;
+use st_num::{NoMemory, Row, RuleId, Span};
+use st_parse_automaton::{NameIndex, declared_names};
 use st_parse_builder::BuildFault;
 use st_parse_faults::{SyntaxFault, first_fault, place_at};
 use st_scan::Token;
@@ -27,7 +27,7 @@ use std::alloc::Global;
 /// Builds the definitions of source.
 fn build_all(
     alloc: Global,
-    names: &[Name],
+    names: &NameIndex<'_>,
     tokens: &[Token],
     draft: &mut Draft,
 ) -> Result<(), BuildFault>
@@ -46,7 +46,11 @@ fn build_all(
 
 /// The definitions of tokens without a fault, where these names are declared by `var`. Where no
 /// tree is too high, building fails for memory alone.
-fn read_definitions(alloc: Global, names: &[Name], tokens: &[Token]) -> Result<Row<Def>, NoMemory>
+fn read_definitions(
+    alloc: Global,
+    names: &NameIndex<'_>,
+    tokens: &[Token],
+) -> Result<Row<Def>, NoMemory>
     requires names { names.now ≡ terminals.declared_names tokens.now }
     requires faultless { Faultless tokens.now }
     requires low { (defs : List Def) → IsParsed tokens.now defs
@@ -69,8 +73,9 @@ pub fn parse(alloc: Global, tokens: &[Token]) -> Result<Row<Def>, SyntaxFault>
     ensures { Answers tokens.now result }
 {
     let fault = first_fault(alloc, tokens)?;
-    let names = declared_names(alloc, tokens)?;
-    let limits = limit_faults(alloc, names.as_slice(), tokens, fault)?;
+    let declared = declared_names(alloc, tokens)?;
+    let names = NameIndex::new(alloc, declared.as_slice())?;
+    let limits = limit_faults(alloc, &names, tokens, fault)?;
     if let Some(at) = limits.past {
         return Err(SyntaxFault::Refused {
             at,
@@ -89,6 +94,6 @@ pub fn parse(alloc: Global, tokens: &[Token]) -> Result<Row<Def>, SyntaxFault>
             rule: RuleId::S2,
         });
     }
-    let defs = read_definitions(alloc, names.as_slice(), tokens)?;
+    let defs = read_definitions(alloc, &names, tokens)?;
     Ok(defs)
 }

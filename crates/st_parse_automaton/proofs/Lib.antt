@@ -3,6 +3,7 @@ pub mod Simulation
 pub mod DefinitionView
 pub mod DefinitionSimulation
 pub mod Names
+pub mod NameIndexLemmas
 pub mod TokenKinds
 pub mod Loop
 pub mod Exact

@@ -1,9 +1,8 @@
--- Names: primes at the end, and equality of names.
-use Rattle.std.proofs.Common.{◌≡◌, ℕ, ◌+◌, ◌<◌, List, [], ◌∷◌, ◌++◌, length, take, drop, get_or, Bool, true, false, not, ◌&&◌, ◌||◌, ◌==◌, if◌then◌else◌, refl, sym, ap, ◌∙◌, arith}
+-- Names: primes at the end, and parts before a `_`.
+use Rattle.std.proofs.Common.{◌≡◌, ℕ, ◌+◌, ◌<◌, List, [], ◌∷◌, ◌++◌, length, take, drop, get_or, Bool, true, false, not, ◌&&◌, ◌||◌, ◌==◌, if◌then◌else◌, refl, sym, ap, ◌∙◌}
 use Rattle.std.specs.List.{list_any}
 use Rattle.std.proofs.lemmas.List.Folds.{list_any-append}
 use Rattle.std.proofs.lemmas.List.{take_more, drop_more}
-use Rattle.st_num.specs.Names.{same_name}
 use Rattle.st_grammar.specs.Terminals.{drop_primes, is_named, is_declared}
 
 abbrev pub no_prime : ℕ → Bool
@@ -31,34 +30,6 @@ other_end (x ∷ xs) b e =
 
 pub no_primes : drop_primes [] ≡ []
 no_primes = refl
-
-pub same_self : (xs : List ℕ) → same_name xs xs ≡ true
-same_self [] = refl
-same_self (x ∷ xs) = ap (λ c. c && same_name xs xs) (equal x) ∙ same_self xs
-  where
-    equal : (n : ℕ) → n == n ≡ true
-    equal n = grind arith
-
-pub same_is : (xs ys : List ℕ) → same_name xs ys ≡ true → xs ≡ ys
-same_is [] [] e = refl
-same_is [] (y ∷ ys) e = absurd (cc)
-same_is (x ∷ xs) [] e = absurd (cc)
-same_is (x ∷ xs) (y ∷ ys) e = go (x == y) refl e (λ k. same_is xs ys k)
-  where
-    equal : (a b : ℕ) → a == b ≡ true → a ≡ b
-    equal a b h = grind arith
-
-    go : (c : Bool) → x == y ≡ c → c && same_name xs ys ≡ true → (same_name xs ys ≡ true → xs ≡ ys) → x ∷ xs ≡ y ∷ ys
-    go true h k f = ap (λ z. z ∷ xs) (equal x y h) ∙ ap (λ zs. y ∷ zs) (f k)
-    go false h k f = absurd (cc)
-
-pub same_name_is : (b : Bool) (xs ys : List ℕ) → (b ≡ true → xs ≡ ys) → (xs ≡ ys → b ≡ true) → b ≡ same_name xs ys
-same_name_is true xs ys f g = sym (ap (same_name xs) (sym (f refl)) ∙ same_self xs)
-same_name_is false xs ys f g = go (same_name xs ys) refl
-  where
-    go : (c : Bool) → same_name xs ys ≡ c → false ≡ c
-    go true e = let never = g (same_is xs ys e) in absurd (cc)
-    go false e = refl
 
 -- one more byte of a name
 pub declared_more : (names : List (List ℕ)) (name : List ℕ) (i d : ℕ) → i < length name

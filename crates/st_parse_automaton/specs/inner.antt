@@ -3,3 +3,4 @@ pub mod PartAutomaton
 pub mod Shapes
 pub mod DefinitionAutomaton
 pub mod Readings
+pub mod NameIndexes

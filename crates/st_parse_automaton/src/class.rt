@@ -1,7 +1,6 @@
 //! What the parser takes a token for.
 
 ghost use Rattle.std.specs.Prelude.{◌≡◌, ◌++◌, IfOk};
-ghost use Rattle.st_num.specs.Names.{same_name};
 ghost use Rattle.st_grammar.specs.Terminals as terminals;
 ghost use Rattle.st_grammar.specs.Terminals.{drop_primes, is_variable, is_var, name_in, declared_names};
 ghost use Rattle.st_scan.specs.Bytes as bytes;
@@ -13,6 +12,7 @@ ghost use Rattle.st_grammar.specs.Definitions as definitions;
 ghost use Rattle.st_parse_automaton.specs.inner.Shapes as shapes;
 ghost use Rattle.st_parse_automaton.specs.inner.Shapes.{class_of};
 
+use crate::name_index::NameIndex;
 use crate::part_automaton::Shape;
 use crate::position::TokenClass;
 use st_grammar::{Bracket, Closing, Keyword, Leaf};
@@ -35,24 +35,15 @@ fn drop_primes(name: &[u8]) -> &[u8]
     rest
 }
 
-/// Whether the names are the same.
-#[tactic(auto, using(crate::proofs::Names::same_name_is))]
-fn same_name(left: &[u8], right: &[u8]) -> bool
-    ensures { result ≡ same_name left.now right.now }
-{
-    left == right
-}
-
 /// Whether the name without its trailing primes is one of these.
-fn is_named(names: &[Name], name: &[u8]) -> bool
+fn is_named(names: &NameIndex<'_>, name: &[u8]) -> bool
     ensures { result ≡ terminals.is_named names.now name.now }
 {
-    let name = drop_primes(name);
-    names.iter().any(|other| same_name(name, other.as_slice()))
+    names.contains(drop_primes(name))
 }
 
 /// Whether the name stands for a variable, where these are declared by `var`.
-fn is_variable(names: &[Name], name: &[u8]) -> bool
+fn is_variable(names: &NameIndex<'_>, name: &[u8]) -> bool
     ensures { result ≡ is_variable names.now name.now }
 {
     'parts: for (at, byte) in name.iter().enumerate() {
@@ -169,7 +160,7 @@ fn plain(shape: Shape, touching: bool, piece: bool) -> TokenClass
 }
 
 /// What the parser takes such a kind of token for, where these names are declared by `var`.
-fn kind_class(names: &[Name], kind: &TokenKind, touching: bool) -> TokenClass
+fn kind_class(names: &NameIndex<'_>, kind: &TokenKind, touching: bool) -> TokenClass
     ensures { result ≡ shapes.kind_shape names.now kind.now touching }
 {
     match kind {
@@ -212,7 +203,7 @@ fn kind_class(names: &[Name], kind: &TokenKind, touching: bool) -> TokenClass
 
 /// What the parser takes the token for, where these names are declared by `var`.
 #[tactic(auto, using(crate::proofs::TokenKinds::token_is))]
-pub fn token_class(names: &[Name], token: &Token) -> TokenClass
+pub fn token_class(names: &NameIndex<'_>, token: &Token) -> TokenClass
     ensures { result ≡ class_of (terminals.terminal names.now token.now) }
 {
     kind_class(names, &token.kind, token.touching)

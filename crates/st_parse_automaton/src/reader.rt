@@ -6,8 +6,9 @@ ghost use Rattle.st_parse_automaton.specs.Refusal.{AreDefinitions, RefusedAt};
 
 use crate::class::{declared_names, token_class};
 use crate::definition_automaton::{advance, may_end};
+use crate::name_index::NameIndex;
 use crate::position::{At, Position, Progress};
-use st_num::{Name, NoMemory, Row};
+use st_num::{NoMemory, Row};
 use st_scan::Token;
 use std::alloc::Global;
 
@@ -17,14 +18,19 @@ pub fn first_refused(alloc: Global, tokens: &[Token]) -> Result<Option<usize>, N
     ensures none { IfOk result (λ found. IfNone found (AreDefinitions tokens.now)) }
     ensures some { IfOk result (λ found. IfSome found (λ k. RefusedAt tokens.now k)) }
 {
-    let names = declared_names(alloc, tokens)?;
-    let found = read_tokens(alloc, names.as_slice(), tokens)?;
+    let declared = declared_names(alloc, tokens)?;
+    let names = NameIndex::new(alloc, declared.as_slice())?;
+    let found = read_tokens(alloc, &names, tokens)?;
     Ok(found)
 }
 
 /// The number of the first token that no definitions have behind those before it, or of all tokens
 /// where they end too early, where these are the names that directly follow the word `var`.
-fn read_tokens(alloc: Global, names: &[Name], tokens: &[Token]) -> Result<Option<usize>, NoMemory>
+fn read_tokens(
+    alloc: Global,
+    names: &NameIndex<'_>,
+    tokens: &[Token],
+) -> Result<Option<usize>, NoMemory>
     requires { names.now ≡ terminals.declared_names tokens.now }
     ensures none { IfOk result (λ found. IfNone found (AreDefinitions tokens.now)) }
     ensures some { IfOk result (λ found. IfSome found (λ k. RefusedAt tokens.now k)) }

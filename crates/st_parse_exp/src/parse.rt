@@ -22,7 +22,7 @@ use crate::draft::{end, take};
 use crate::judge::{begin, judge_next};
 use st_el::Exp;
 use st_num::{Name, Row, RuleId};
-use st_parse_automaton::{Progress, may_end, token_class};
+use st_parse_automaton::{NameIndex, Progress, may_end, token_class};
 use st_parse_builder::Action;
 use st_parse_faults::{SyntaxFault, TokenVerdict, place_at};
 use st_scan::Token;
@@ -68,12 +68,12 @@ fn last(
     whole(tokens, exps)
 }
 
-/// The expressions that the tokens mean, one or several with commas between them, or the first
-/// fault and its place. The variables are the names that are declared by `var`.
-pub fn parse_exp(
+/// The expressions that the tokens mean, or the first fault and its place. The variables are the
+/// names that are declared by `var`.
+fn read_tokens(
     alloc: Global,
     tokens: &[Token],
-    variables: &[Name],
+    variables: &NameIndex<'_>,
 ) -> Result<Row<Exp>, SyntaxFault>
     ensures { Answers variables.now tokens.now result }
 {
@@ -101,4 +101,17 @@ pub fn parse_exp(
         return Err(refused(tokens, tokens.len(), RuleId::S1));
     }
     last(alloc, tokens, &seen.progress, actions, exps)
+}
+
+/// The expressions that the tokens mean, one or several with commas between them, or the first
+/// fault and its place. The variables are the names that are declared by `var`.
+pub fn parse_exp(
+    alloc: Global,
+    tokens: &[Token],
+    variables: &[Name],
+) -> Result<Row<Exp>, SyntaxFault>
+    ensures { Answers variables.now tokens.now result }
+{
+    let variables = NameIndex::new(alloc, variables)?;
+    read_tokens(alloc, tokens, &variables)
 }

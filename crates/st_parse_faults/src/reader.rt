@@ -6,8 +6,8 @@ ghost use Rattle.st_parse_faults.specs.Faults.{Faultless, FirstFault};
 
 use crate::fault::TokenFault;
 use crate::judge::{TokenVerdict, judge_token, nothing_seen};
-use st_num::{Name, NoMemory, RuleId};
-use st_parse_automaton::{declared_names, may_end, token_class};
+use st_num::{NoMemory, RuleId};
+use st_parse_automaton::{NameIndex, declared_names, may_end, token_class};
 use st_scan::Token;
 use std::alloc::Global;
 
@@ -18,8 +18,9 @@ pub fn first_fault(alloc: Global, tokens: &[Token]) -> Result<Option<TokenFault>
     ensures some { IfOk result (λ found.
         IfSome found (λ fault. FirstFault tokens.now (fault.token) (fault.rule))) }
 {
-    let names = declared_names(alloc, tokens)?;
-    let found = read_tokens(alloc, names.as_slice(), tokens)?;
+    let declared = declared_names(alloc, tokens)?;
+    let names = NameIndex::new(alloc, declared.as_slice())?;
+    let found = read_tokens(alloc, &names, tokens)?;
     Ok(found)
 }
 
@@ -27,7 +28,7 @@ pub fn first_fault(alloc: Global, tokens: &[Token]) -> Result<Option<TokenFault>
 /// the names that directly follow the word `var`.
 fn read_tokens(
     alloc: Global,
-    names: &[Name],
+    names: &NameIndex<'_>,
     tokens: &[Token],
 ) -> Result<Option<TokenFault>, NoMemory>
     requires { names.now ≡ terminals.declared_names tokens.now }

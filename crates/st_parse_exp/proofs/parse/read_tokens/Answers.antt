@@ -5,7 +5,7 @@ use Rattle.st_parse_exp.specs.inner.Drafts.{draft}
 use Rattle.st_parse_exp.proofs.Loop.{token_breaks, ends_early, bounded}
 use Rattle.st_parse_exp.proofs.Drafted.{starts}
 use Rattle.st_parse_exp.proofs.Parsing.{passing, token_drafts, breaks, answers}
-use Rattle.st_parse_exp.proofs.parse.parse_exp.Goals as goal
+use Rattle.st_parse_exp.proofs.parse.read_tokens.Goals as goal
 
 pub tokens-init : goal.tokens-init
 tokens-init c = (
