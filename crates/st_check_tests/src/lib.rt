@@ -5,6 +5,8 @@
 #![tactic(auto)]
 
 #[cfg(test)]
+mod il_texts;
+#[cfg(test)]
 mod texts;
 #[cfg(test)]
 mod values;

@@ -1,7 +1,6 @@
 //! Texts that are read and printed back, and the first bad line of others.
 
 use st_deriv::read_line;
-use st_iltext::{print_il, read_il};
 use st_num::NoMemory;
 use st_text::{TextFault, print_natural, print_row, read_integer, read_natural, read_row};
 use std::alloc::{AllocError, Global};
@@ -13,13 +12,12 @@ use std::test::Fail;
 enum Call {
     /// `read_row` and `print_row`
     Row,
-    /// `read_il` and `print_il`
-    Il,
     /// `read_line`
     Line,
 }
 
-fn tell_fault(fault: TextFault, out: &mut Vec<u8>) -> Result<(), NoMemory> {
+/// Appends the first bad line.
+pub fn tell_fault(fault: TextFault, out: &mut Vec<u8>) -> Result<(), NoMemory> {
     match fault {
         TextFault::Malformed { line } => {
             out.extend_from_slice(b"line ")?;
@@ -36,13 +34,6 @@ fn tell_row(alloc: Global, text: &[u8], out: &mut Vec<u8>) -> Result<(), NoMemor
     }
 }
 
-fn tell_il(alloc: Global, text: &[u8], out: &mut Vec<u8>) -> Result<(), NoMemory> {
-    match read_il(alloc, text) {
-        Ok(il) => print_il(alloc, &il, out),
-        Err(fault) => tell_fault(fault, out),
-    }
-}
-
 fn tell_line(alloc: Global, text: &[u8], out: &mut Vec<u8>) -> Result<(), NoMemory> {
     match read_line(alloc, text) {
         Ok(_) => Ok(out.extend_from_slice(b"read")?),
@@ -54,7 +45,6 @@ fn tell_line(alloc: Global, text: &[u8], out: &mut Vec<u8>) -> Result<(), NoMemo
 fn tell(alloc: Global, call: Call, text: &[u8], out: &mut Vec<u8>) -> Result<(), NoMemory> {
     match call {
         Call::Row => tell_row(alloc, text, out),
-        Call::Il => tell_il(alloc, text, out),
         Call::Line => tell_line(alloc, text, out),
     }
 }
@@ -172,107 +162,6 @@ fn numbers_have_one_spelling(rt: HostRuntime) {
     for (word, is_read) in &INTEGERS {
         assert!(rt; read_integer(*word).is_some() == *is_read);
     }
-}
-
-// ---- an internal language
-
-const LIGHT: &[u8] = b"(syntax \"color\" (variant (case \"RED\") (case \"GREEN\") (case \"AMBER\")))
-(relation \"T\" \"% ~> %\" ((n \"color\") (n \"color\")) (mode))
-(rule \"T\" \"a\" () ((case \"color\" \"RED\") (case \"color\" \"GREEN\")))
-(rule \"T\" \"b\" () ((case \"color\" \"GREEN\") (case \"color\" \"AMBER\")))
-";
-
-#[test]
-fn a_specification_is_read_and_printed_back(rt: HostRuntime) -> Result<(), Fail> {
-    expect_same(&rt, rt.alloc(), Call::Il, &[LIGHT])
-}
-
-const SYNTAX: &str =
-    "(syntax \"color\" (variant (case \"RED\") (case \"GREEN\") (case \"AMBER\")))";
-
-const RELATION: &str = "(relation \"T\" \"% ~> %\" ((n \"color\") (n \"color\")) (mode))";
-
-const RULE: &str = "(rule \"T\" \"a\" () ((case \"color\" \"RED\") (case \"color\" \"GREEN\")))";
-
-/// The lines of a text, and what is told of it.
-const BAD_LINES: [(&[&str], &str); 11] = [
-    (&[], "line 1"),
-    (&[SYNTAX], "line 2"),
-    (
-        &["(syntax \"if\" (variant (case \"A\")))", RELATION],
-        "line 1",
-    ),
-    (
-        &["(syntax \"x\" (variant (case \"A\") (case \"A\")))"],
-        "line 1",
-    ),
-    (&[SYNTAX, RELATION, RELATION], "line 3"),
-    (&[SYNTAX, RELATION, RULE, RULE], "line 4"),
-    (&[SYNTAX, RELATION, RULE, ""], "line 4"),
-    (
-        &[
-            SYNTAX,
-            RELATION,
-            "(rule  \"T\" \"a\" () ((case \"color\" \"RED\") (case \"color\" \"GREEN\")))",
-        ],
-        "line 3",
-    ),
-    (
-        &[
-            SYNTAX,
-            RELATION,
-            "(rule \"\\T\" \"a\" () ((case \"color\" \"RED\") (case \"color\" \"GREEN\")))",
-        ],
-        "line 3",
-    ),
-    (
-        &[
-            SYNTAX,
-            RELATION,
-            "(rule \"T\" \"a\" () ((case \"color\" \"BLUE\") (case \"color\" \"GREEN\")))",
-        ],
-        "line 3",
-    ),
-    (
-        &[
-            SYNTAX,
-            RELATION,
-            RULE,
-            "(rule \"U\" \"b\" () ((case \"color\" \"RED\") (case \"color\" \"RED\")))",
-        ],
-        "line 4",
-    ),
-];
-
-/// These lines, each ended by a line feed.
-fn joined(alloc: Global, lines: &[&str]) -> Result<Vec<u8>, NoMemory> {
-    let mut text = Vec::new(alloc);
-    for line in lines {
-        text.extend_from_slice(line.as_bytes())?;
-        text.push(b'\n')?;
-    }
-    Ok(text)
-}
-
-#[test]
-fn the_first_bad_line_is_named(rt: HostRuntime) -> Result<(), Fail> {
-    for (lines, wanted) in &BAD_LINES {
-        let text = joined(rt.alloc(), *lines)?;
-        expect(
-            &rt,
-            rt.alloc(),
-            Call::Il,
-            text.as_slice(),
-            wanted.as_bytes(),
-        )?;
-    }
-    Ok(())
-}
-
-#[test]
-fn a_last_line_without_line_feed_is_bad(rt: HostRuntime) -> Result<(), Fail> {
-    let (_, front) = LIGHT.split_last().ok_or("no text")?;
-    expect(&rt, rt.alloc(), Call::Il, front, b"line 4")
 }
 
 // ---- a line of a derivation

@@ -4,8 +4,9 @@ ghost use Rattle.st_il.specs.Small.{IsSmallIl};
 
 use st_deriv::{Line, NodeLine, Ref, read_line};
 use st_il::{Il, Value};
-use st_iltext::read_il;
+use st_ilread::read_il;
 use st_num::{Name, NoMemory, Row};
+use st_small::is_small_il;
 use st_text::TextFault;
 use st_verify::{Accepted, Verifier, VerifyFault, VerifyRule};
 use std::alloc::Global;
@@ -132,10 +133,13 @@ fn verify(rt: &impl Abort, alloc: Global, il: Il, lines: &[Line]) -> Result<Acce
 
 /// The answer to the lines, in the language of the light.
 fn answer(rt: &impl Abort, alloc: Global, lines: &Row<Line>) -> Result<Accepted, VerifyFault> {
-    match read_il(alloc, LIGHT) {
-        Ok(il) => verify(rt, alloc, il, lines.as_slice()),
-        Err(_) => Err(VerifyFault::Memory),
+    let Ok(il) = read_il(alloc, LIGHT) else {
+        return Err(VerifyFault::Memory);
+    };
+    if !is_small_il(alloc, &il)? {
+        return Err(VerifyFault::Memory);
     }
+    verify(rt, alloc, il, lines.as_slice())
 }
 
 #[test]

@@ -8,4 +8,4 @@ pub mod PremTrees
 pub mod BodyTrees
 pub mod ListedTrees
 pub mod DefinitionTrees
-pub mod WholeTexts
+pub mod IlTexts

@@ -12,7 +12,7 @@ ghost use Rattle.st_text.specs.Reading.{Answers};
 ghost use Rattle.st_text.specs.Text.{word, list, more};
 ghost use Rattle.st_text.specs.Trees.{tree_of, trees_of};
 
-use crate::literal::read_literal;
+use crate::leaf::{read_absent, read_empty, read_field_step, read_literal, read_var};
 use crate::name::{read_name, read_names};
 use crate::part::{behind_one, behind_two};
 use st_il::{IlExp, Iteration, ListItem, PathSeg};
@@ -92,17 +92,6 @@ fn read_kind(alloc: Global, kind: Kind, parts: &[TextTree]) -> Result<IlExp, Tex
         Kind::Up => read_up(alloc, parts),
         Kind::Iter => read_iter(alloc, parts),
     }
-}
-
-/// The variable that the parts are.
-fn read_var(alloc: Global, parts: &[TextTree]) -> Result<IlExp, TextFault>
-    ensures { Reads exp_tree exp_written (list (more (word (codes "v")) (trees_of parts.now)))
-        result }
-{
-    let Some(name) = one(parts) else {
-        return Err(MALFORMED);
-    };
-    Ok(IlExp::Var(read_name(alloc, name)?))
 }
 
 /// The operator on the operand that the parts are.
@@ -290,28 +279,6 @@ fn read_list(alloc: Global, parts: &[TextTree]) -> Result<IlExp, TextFault>
     Ok(IlExp::List(ty, items))
 }
 
-/// The empty option that the parts are.
-fn read_empty(alloc: Global, parts: &[TextTree]) -> Result<IlExp, TextFault>
-    ensures { Reads exp_tree exp_written (list (more (word (codes "none")) (trees_of parts.now)))
-        result }
-{
-    let Some(ty) = one(parts) else {
-        return Err(MALFORMED);
-    };
-    Ok(IlExp::Empty(read_ty(alloc, ty)?))
-}
-
-/// The absent part that the parts are.
-fn read_absent(alloc: Global, parts: &[TextTree]) -> Result<IlExp, TextFault>
-    ensures { Reads exp_tree exp_written (list (more (word (codes "absent")) (trees_of parts.now)))
-        result }
-{
-    let Some(ty) = one(parts) else {
-        return Err(MALFORMED);
-    };
-    Ok(IlExp::Absent(read_ty(alloc, ty)?))
-}
-
 /// The slice that the parts are.
 #[cycle(read)]
 fn read_slice(alloc: Global, parts: &[TextTree]) -> Result<IlExp, TextFault>
@@ -465,17 +432,6 @@ fn read_index_step(alloc: Global, parts: &[TextTree]) -> Result<PathSeg, TextFau
 {
     let index = read_only(alloc, parts)?;
     Ok(PathSeg::At(index))
-}
-
-/// The step to a field that the parts are.
-fn read_field_step(alloc: Global, parts: &[TextTree]) -> Result<PathSeg, TextFault>
-    ensures { Reads segment_tree segment_written (list (more (word (codes "f")) (trees_of parts.now)))
-        result }
-{
-    let Some(field) = one(parts) else {
-        return Err(MALFORMED);
-    };
-    Ok(PathSeg::Field(read_name(alloc, field)?))
 }
 
 /// The step to a slice that the parts are.

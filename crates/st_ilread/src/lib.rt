@@ -6,18 +6,18 @@
 //! The one idea: a line is first read as a tree of words, quoted texts and lists, and each form has
 //! a reader of its own for the trees behind its word. Calls nest as deep as the tree does.
 //!
-//! Read `whole` first, with `specs/WholeReading.antt`, then `definition`. What stands in a line is
-//! told by `st_iltext`, and in `docs/internal-language.md`.
+//! Read `il` first, with `specs/IlReading.antt`, then `definition`. What stands in a line is told by
+//! `st_iltext`, and in `docs/internal-language.md`.
 #![tactic(auto)]
 
 mod definition;
 mod expression;
-mod literal;
+mod il;
+mod leaf;
 mod name;
 mod part;
 mod premise;
 mod syntax;
 mod variable;
-mod whole;
 
-pub use whole::read_whole;
+pub use il::read_il;

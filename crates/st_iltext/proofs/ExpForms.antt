@@ -12,11 +12,8 @@ use Rattle.st_il.specs.declared.expression.ListItem.{ListItem}
 use Rattle.st_il.specs.declared.expression.PathSeg.{PathSeg}
 use Rattle.st_text.specs.Text.{TextTrees, word, quote, list, none, more}
 use Rattle.st_text.specs.Trees.{row_of}
-use Rattle.st_iltext.specs.declared.kind.Unary.{Unary}
 use Rattle.st_iltext.specs.declared.kind.Unary.TheVariants as unary
-use Rattle.st_iltext.specs.declared.kind.Binary.{Binary}
 use Rattle.st_iltext.specs.declared.kind.Binary.TheVariants as binary
-use Rattle.st_iltext.specs.declared.kind.Arithmetic.{Arithmetic}
 use Rattle.st_iltext.specs.declared.kind.Arithmetic.TheVariants as arithmetic
 use Rattle.st_iltext.specs.declared.kind.Kind.{Kind}
 use Rattle.st_iltext.specs.declared.kind.Kind.TheVariants as kind

@@ -1,7 +1,6 @@
 -- What the readers of expressions need.
-use Rattle.std.proofs.Common.{◌≡◌, ◌≢◌, ℕ, ◌^◌, ◌<◌, ◌≤◌, List, [], ◌∷◌, map, length, codes, Bool, true, false, ◌&&◌, nat_lt, nat_le, Result, Err, refl, sym, ap, ap₂, subst, ◌∙◌, inl, inr, arith}
+use Rattle.std.proofs.Common.{◌≡◌, ◌≢◌, ℕ, ◌^◌, ◌<◌, List, codes, Bool, true, false, ◌&&◌, nat_lt, sym, ap, ap₂, subst, ◌∙◌, inl, inr, arith}
 use Rattle.std.specs.Fmt.{decimal}
-use Rattle.std.specs.List.{list_all}
 use Rattle.st_il.specs.declared.ty.Ty.{Ty}
 use Rattle.st_il.specs.declared.ty.NumTy.{NumTy}
 use Rattle.st_il.specs.declared.expression.IlExp.{IlExp}
@@ -9,19 +8,18 @@ use Rattle.st_il.specs.declared.expression.IlExp.TheVariants as exp
 use Rattle.st_il.specs.declared.expression.ListItem.{ListItem}
 use Rattle.st_text.specs.Numbers.{IsNoNatural}
 use Rattle.st_text.specs.Text.{TextTree, TextTrees, word, quote, list, none, more}
-use Rattle.st_text.specs.Trees.{row_of}
 use Rattle.st_iltext.specs.declared.kind.Kind.{Kind}
 use Rattle.st_iltext.specs.declared.kind.Kind.TheVariants as kind
 use Rattle.st_iltext.specs.declared.kind.Unary.{Unary}
 use Rattle.st_iltext.specs.declared.kind.Binary.{Binary}
 use Rattle.st_iltext.specs.declared.kind.Arithmetic.{Arithmetic}
-use Rattle.st_iltext.specs.Expressions.{truth, number_type, ty_tree, exp_tree, item_tree}
-use Rattle.st_iltext.specs.Written.{ty_written, exp_written, item_written}
+use Rattle.st_iltext.specs.Expressions.{number_type, exp_tree, item_tree}
+use Rattle.st_iltext.specs.Written.{exp_written, item_written}
 use Rattle.st_iltext.specs.inner.KindWords.{kind_word, unary_word, unary_exp, binary_word, binary_exp, arithmetic_word, arithmetic_exp}
 use Rattle.st_iltext.specs.inner.Reading.{IsOf, IsOfNone, AreOf, AreOfNone}
 use Rattle.st_iltext.specs.inner.ExpReading.{AreTwo, AreNoTwo}
 use Rattle.st_iltext.proofs.Rows.{first_of, rest_of, both}
-use Rattle.st_iltext.proofs.ExpLevels.{tree-Bool, written-Bool, tree-Number, written-Number, tree-Text, written-Text, tree-Var, written-Var, unary-tree, unary-written, binary-tree, binary-written, arithmetic-tree, arithmetic-written, tree-Case, written-Case, tree-Fields, written-Fields, tree-Call, written-Call, tree-Tuple, written-Tuple, tree-List, written-List}
+use Rattle.st_iltext.proofs.ExpLevels.{tree-Bool, written-Bool, tree-Number, written-Number, tree-Text, written-Text, unary-tree, unary-written, binary-tree, binary-written, arithmetic-tree, arithmetic-written, written-Tuple, tree-List, written-List}
 use Rattle.st_iltext.proofs.ExpForms.{ExpParts, formed, inverted, worded}
 use Rattle.st_iltext.proofs.TyForms.{IsTy, IsNoTy}
 

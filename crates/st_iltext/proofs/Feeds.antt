@@ -1,12 +1,7 @@
 -- No text has a line feed.
 use Rattle.std.proofs.Common.{◌≡◌, ◌≢◌, ℕ, zero, suc, ◌<◌, List, [], ◌∷◌, ◌++◌, length, flat_map, true, sym, subst, arith, inl, inr, get_or}
-use Rattle.std.specs.List.{All, list_all}
-use Rattle.std.proofs.lemmas.List.Elements.{All-map}
-use Rattle.st_il.specs.declared.definition.Il.{Il}
-use Rattle.st_il.specs.declared.definition.IlDef.{IlDef}
+use Rattle.std.specs.List.{list_all}
 use Rattle.st_text.specs.Text.{TextTree, word, quote, list, TextTrees, none, more, escape_letter, escaped, is_word_byte, text, row_text, behind, IsSpelled, AreSpelled, HasText}
-use Rattle.st_iltext.specs.Definitions.{definition_tree}
-use Rattle.st_iltext.specs.IlText.{IlText, il_lines}
 use Rattle.st_text.proofs.Bytes.{and_true, escaped_forms}
 use Rattle.st_iltext.proofs.Lines.{IsLine}
 
@@ -82,8 +77,3 @@ mutual
 
 pub text-line : (t : TextTree) → HasText t → IsLine (text t)
 text-line t h = NoFeed-line (text t) (NoFeed-text t h.spelled)
-
--- the lines of an internal language
-pub il_lines-single : (il : Il) (bytes : List ℕ) → IlText il bytes → All IsLine (il_lines il)
-il_lines-single il bytes is =
-    All-map IsLine (λ (d : IlDef). text (definition_tree d)) il.defs (λ k d h. text-line _ (is.have k d h))

@@ -1,14 +1,5 @@
-pub mod SmallTrees
-pub mod Shapes
-pub mod NameSets
-pub mod SmallUnique
-mod LineTrees
 pub mod Lines
 pub mod Feeds
-mod BadLines
-mod SmallRules
-mod SmallFaults
-pub mod IlUnique
 pub mod Rows
 pub mod Depths
 mod ValueLevels
@@ -26,4 +17,4 @@ pub mod KindPlaces
 pub mod ExpSame
 pub mod PremSame
 pub mod DefinitionSame
-pub mod WholeSame
+pub mod IlSame

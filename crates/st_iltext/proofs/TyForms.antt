@@ -1,15 +1,15 @@
 -- What a type is whose tree is known.
-use Rattle.std.proofs.Common.{◌≡◌, ◌≢◌, ℕ, ◌≤◌, List, [], ◌∷◌, map, length, codes, Bool, true, ◌&&◌, nat_le, refl, sym, ap, ap₂, subst, ◌∙◌, ◌⊎◌, inl, inr, arith}
+use Rattle.std.proofs.Common.{◌≡◌, ◌≢◌, ℕ, List, map, length, codes, Bool, ◌&&◌, nat_le, sym, ap, ap₂, subst, ◌∙◌, ◌⊎◌, inl, inr}
 use Rattle.std.specs.List.{list_all}
 use Rattle.st_il.specs.declared.ty.Ty.{Ty, roll-Ty, out-Ty, map-Ty, roll-out-Ty, fold-roll-Ty}
 use Rattle.st_il.specs.declared.ty.Ty.TheOpen.{Ty-F}
 use Rattle.st_il.specs.declared.ty.Ty.TheVariants as ty
 use Rattle.st_text.specs.Text.{TextTree, TextTrees, word, quote, list, none, more}
 use Rattle.st_text.specs.Trees.{row_of}
-use Rattle.st_iltext.specs.Expressions.{form, ty_tree}
+use Rattle.st_iltext.specs.Expressions.{ty_tree}
 use Rattle.st_iltext.specs.Written.{ty_written_at, ty_written}
-use Rattle.st_iltext.specs.inner.Reading.{IsOf, IsOfNone, AreOf, AreOfNone}
-use Rattle.st_iltext.proofs.Rows.{first_of, rest_of, parts_of, word_of, both, all_map, count_map}
+use Rattle.st_iltext.specs.inner.Reading.{IsOf, IsOfNone}
+use Rattle.st_iltext.proofs.Rows.{first_of, rest_of, parts_of, all_map, count_map}
 use Rattle.st_iltext.proofs.TySame.{ty-tree}
 
 pub ty-written : (l : Ty-F Ty) → ty_written (roll-Ty l) ≡ ty_written_at (map-Ty Ty Bool ty_written l)

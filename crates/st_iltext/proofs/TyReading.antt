@@ -10,10 +10,10 @@ use Rattle.st_text.specs.Reading.{Answers}
 use Rattle.st_text.specs.Text.{TextTree, TextTrees, word, quote, list, none, more}
 use Rattle.st_text.specs.Trees.{row_of, tree_of, trees_of}
 use Rattle.st_text.proofs.Bytes.{heads}
-use Rattle.st_iltext.specs.Expressions.{form, ty_tree}
+use Rattle.st_iltext.specs.Expressions.{ty_tree}
 use Rattle.st_iltext.specs.Written.{ty_written}
-use Rattle.st_iltext.specs.inner.Reading.{IsOf, IsOfNone, AreOf, AreOfNone, Reads, ReadsAll}
-use Rattle.st_iltext.proofs.Rows.{first_of, rest_of, word_of, both}
+use Rattle.st_iltext.specs.inner.Reading.{AreOf, AreOfNone, Reads, ReadsAll}
+use Rattle.st_iltext.proofs.Rows.{rest_of, word_of, both}
 use Rattle.st_iltext.proofs.TySame.{ty-tree, tys_same}
 use Rattle.st_iltext.proofs.TyForms.{IsTy, IsNoTy, ty_parts, ty-written, written-List, written-Opt, written-Tuple}
 use Rattle.st_il.specs.declared.ty.Ty.TheOpen.{Ty-F}

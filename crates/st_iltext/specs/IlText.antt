@@ -1,55 +1,30 @@
--- The text of an internal language, and the first line at which bytes are none.
-use Rattle.std.specs.Prelude.{◌≡◌, ℕ, ◌+◌, ◌≤◌, List, [], ◌∷◌, ◌++◌, length, map, flat_map, All, Contains, Result, Ok, Err}
+-- The text of an internal language.
+use Rattle.std.specs.Prelude.{◌≡◌, ℕ, List, [], ◌∷◌, ◌++◌, flat_map, true}
+use Rattle.std.specs.List.{All}
 use Rattle.st_il.specs.declared.definition.Il.{Il}
-use Rattle.st_il.specs.Small.{IsSmallIl}
-use Rattle.st_text.specs.declared.fault.TextFault.{TextFault}
-use Rattle.st_text.specs.declared.fault.TextFault.TheVariants.{Malformed, Memory}
+use Rattle.st_il.specs.declared.definition.IlDef.{IlDef}
 use Rattle.st_text.specs.Text.{text, HasText}
 use Rattle.st_iltext.specs.Definitions.{definition_tree}
+use Rattle.st_iltext.specs.Written.{written}
 
--- these lines, each ended by a line feed
-abbrev pub lines_text : List (List ℕ) → List ℕ
-lines_text lines = flat_map (λ line. line ++ 10 ∷ []) lines
+-- a definition has a text: it is written in the one spelling, and its tree has a text
+pub record HasDefinitionText (d : IlDef) : Type 0 where
+  pub fits : written d ≡ true
+  pub tree : HasText (definition_tree d)
 
--- a line for each definition
-abbrev pub il_lines : Il → List (List ℕ)
-il_lines il = map (λ definition. text (definition_tree definition)) il.defs
+-- the line of a definition, with its line feed
+abbrev pub definition_line : IlDef → List ℕ
+definition_line d = text (definition_tree d) ++ 10 ∷ []
 
--- The bytes are the text of this internal language. So far the small ones have a text.
+-- the text of an internal language: a line for each definition
+abbrev pub il_text : Il → List ℕ
+il_text il = flat_map definition_line il.defs
+
+-- an internal language has a text: each of its definitions has one
+abbrev pub HasIlText : Il → Type 0
+HasIlText il = All HasDefinitionText il.defs
+
+-- the bytes are the text of this internal language
 pub record IlText (il : Il) (bytes : List ℕ) : Type 0 where
-  pub small : IsSmallIl il
-  pub have : All (λ definition. HasText (definition_tree definition)) il.defs
-  pub is : bytes ≡ lines_text (il_lines il)
-
--- the bytes are the text of no internal language
-pub record IsNoIl (bytes : List ℕ) : Type 0 where
-  pub never : (il : Il) → IlText il bytes → ⊥
-
--- these are the first lines of the bytes, each ended by a line feed
-pub record FirstLines (lines : List (List ℕ)) (bytes : List ℕ) : Type 0 where
-  pub rest : List ℕ
-  pub single : All (λ line. Contains line 10 → ⊥) lines
-  pub is : bytes ≡ lines_text lines ++ rest
-
--- some internal language has a text with these first lines
-pub record BeginText (lines : List (List ℕ)) : Type 0 where
-  pub il : Il
-  pub bytes : List ℕ
-  pub text : IlText il bytes
-  pub first : FirstLines lines bytes
-
--- It is the line behind the most first lines of the bytes that begin the text of some internal
--- language. Lines count from 1.
-pub record IsFirstBadLine (bytes : List ℕ) (line : ℕ) : Type 0 where
-  pub good : List (List ℕ)
-  pub first : FirstLines good bytes
-  pub begin : BeginText good
-  pub most : (lines : List (List ℕ)) → FirstLines lines bytes → BeginText lines
-      → length lines ≤ length good
-  pub behind : line ≡ length good + 1
-
--- what the reader of an internal language says of the bytes
-abbrev pub ReadsIl : List ℕ → Result Il TextFault → Type 0
-ReadsIl bytes (Ok il) = IlText il bytes
-ReadsIl bytes (Err (Malformed line)) = IsNoIl bytes × IsFirstBadLine bytes line
-ReadsIl bytes (Err Memory) = Unit {0}
+  pub has : HasIlText il
+  pub is : bytes ≡ il_text il

@@ -7,12 +7,8 @@ pub mod Definitions
 -- a definition is written in the one spelling: how many parts, in which order, how large numbers
 pub mod Written
 -- the bytes are the text of an internal language
-pub mod WholeText
--- an internal language has one text, and a text one internal language
-pub mod WholeLaws
--- the bytes are the text of a small internal language, or this is their first bad line
 pub mod IlText
--- a small internal language has one text, and a text one small internal language
+-- an internal language has one text, and a text one internal language
 pub mod IlLaws
 -- the tree of a value, and its text
 pub mod Values

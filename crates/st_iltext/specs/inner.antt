@@ -5,6 +5,3 @@ pub mod Fields
 pub mod Forms
 pub mod KindWords
 pub mod ExpReading
-pub mod SmallShapes
-pub mod SmallReading
-pub mod Names

@@ -1,19 +1,12 @@
 //! What holds of the texts of all internal languages and of all values.
 
 ghost use Rattle.st_iltext.specs.IlLaws.{OneIlText, OneIl};
-ghost use Rattle.st_iltext.specs.WholeLaws.{OneWholeText, OneWhole};
 ghost use Rattle.st_iltext.specs.ValueLaws.{OneValueText, OneValue, NoValueBeginsAnother};
 
-/// A small internal language has one text, and a text one small internal language.
+/// An internal language has one text, and a text one internal language.
 pub fn one_text_one_il()
     ensures text { OneIlText }
     ensures il { OneIl }
-{}
-
-/// An internal language has one text, and a text one internal language.
-pub fn one_text_one_whole()
-    ensures text { OneWholeText }
-    ensures il { OneWhole }
 {}
 
 /// A value has one text, and a text one value. With a space, a closing parenthesis or a line feed

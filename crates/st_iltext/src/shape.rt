@@ -40,16 +40,6 @@ pub fn is_word(tree: &TextTree, bytes: &[u8]) -> bool
     }
 }
 
-/// Whether the tree is this quoted text.
-pub fn is_quote(tree: &TextTree, bytes: &[u8]) -> bool
-    ensures { IsTrue result ↔ (tree_of tree.now ≡ quote bytes.now) }
-{
-    match tree {
-        TextTree::Quote(text) => text.as_slice() == bytes,
-        TextTree::Word(_) | TextTree::List(_) => false,
-    }
-}
-
 /// The trees behind the word, where the tree is a list that this word begins.
 pub fn form_parts<'a>(tree: &'a TextTree, head: &[u8]) -> Option<&'a [TextTree]>
     ensures { MatchOption result

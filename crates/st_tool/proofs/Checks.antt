@@ -14,7 +14,7 @@ use Rattle.st_elab_def.specs.Answers.{Answers as Elaborates}
 use Rattle.st_elab_def.specs.Breaches.{IsBreach}
 use Rattle.st_elab_def.specs.Erasing.{ErasesTo}
 use Rattle.st_elab_def.proofs.IsBreach.{IsBreach-within}
-use Rattle.st_breach_law.proofs.Law.{breaches-stand}
+use Rattle.st_tool.proofs.breach_places.Law.{breaches-stand}
 use Rattle.st_num.specs.declared.memory.NoMemory.{NoMemory}
 use Rattle.st_num.specs.declared.rule.RuleId.{RuleId}
 use Rattle.st_num.specs.declared.span.Span.{Span}

@@ -1,5 +1,5 @@
 -- Derivations that are printed are accepted, and what is accepted is derivable.
-use Rattle.std.proofs.Common.{◌≡◌, ℕ, List, [], refl, sym, subst, inl, inr, append-nil, arith, length}
+use Rattle.std.proofs.Common.{◌≡◌, ℕ, List, [], refl, sym, subst, append-nil, arith, length}
 use Rattle.st_deriv.specs.declared.line.Line.{Line}
 use Rattle.st_il.specs.declared.definition.Il.{Il}
 use Rattle.st_il.specs.Small.{il_of, IsSmallIl}
@@ -7,6 +7,7 @@ use Rattle.st_semantics.specs.Accepts.{Accepts, AreSound}
 use Rattle.st_semantics.proofs.Sound.{law_of_reading}
 use Rattle.st_tool.specs.declared.status.Status.{Status}
 use Rattle.st_tool.specs.declared.status.Status.TheVariants as answer
+use Rattle.st_tool.specs.Commands.{VerifyGives, malformed, judged, unjudged}
 use Rattle.st_tool.specs.Laws.{DerivedIsAccepted, AcceptedIsSound}
 use Rattle.st_tool.specs.Verification.{AreTexts, Verified, steps_in, accepted, refused, unfinished, endless}
 use Rattle.st_verify.proofs.SmallModes.{small_kinded}
@@ -15,21 +16,17 @@ pub derived_is_accepted : DerivedIsAccepted
 derived_is_accepted small atom il derivation status language derived = (
   length derived.lines,
   steps_in derived.lines,
-  inl (
-    il_of small,
-    derived.lines,
-    [],
-    record {
-      language = language;
-      lines_are = record {
-        front = derivation;
-        texts = derived.text;
-        rest_has_no_end = λ found. omega (arith, found.1);
-        parts = sym (append-nil derivation);
-      };
-    },
-    accepted derived.accepted refl refl,
-  ),
+  judged (il_of small) derived.lines [] derived.accepted.typed
+      (record {
+        language = language;
+        lines_are = record {
+          front = derivation;
+          texts = derived.text;
+          rest_has_no_end = λ found. omega (arith, found.1);
+          parts = sym (append-nil derivation);
+        };
+      })
+      (accepted derived.accepted refl refl),
 )
 
 -- ---- what is accepted is derivable
@@ -48,7 +45,11 @@ verified_sound il_bytes derivation bytes rest il lines status texts (refused goo
 verified_sound il_bytes derivation bytes rest il lines status texts (unfinished notes read some is) done = cc
 verified_sound il_bytes derivation bytes rest il lines status texts (endless notes read ended empty is) done = cc
 
+given_sound : (il_bytes derivation bytes : List ℕ) (status : Status) → VerifyGives il_bytes derivation status bytes → status ≡ answer.Done → ShowsSound il_bytes derivation
+given_sound il_bytes derivation bytes status (malformed line no_il first is) done = cc
+given_sound il_bytes derivation bytes status (judged il lines rest small texts verified) done =
+    verified_sound il_bytes derivation bytes rest il lines status texts verified done
+given_sound il_bytes derivation bytes status (unjudged il text not_yet is) done = cc
+
 pub accepted_is_sound : AcceptedIsSound
-accepted_is_sound il_bytes derivation bytes (inl (il, lines, rest, texts, verified)) =
-    verified_sound il_bytes derivation bytes rest il lines answer.Done texts verified refl
-accepted_is_sound il_bytes derivation bytes (inr (none, unbuilt)) = let no = unbuilt.0 in cc
+accepted_is_sound il_bytes derivation bytes gives = given_sound il_bytes derivation bytes answer.Done gives refl

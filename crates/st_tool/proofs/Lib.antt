@@ -3,6 +3,7 @@ mod Atoms
 mod StepLemmas
 mod Reaching
 mod Derives
+mod SmallTexts
 mod LineTexts
 mod LineVerdicts
 mod Derivations
@@ -22,5 +23,4 @@ mod ReaderWords
 mod ReaderRows
 mod ReaderLines
 mod ReaderForm
-mod ReaderNames
-mod ReaderCheck
+mod breach_places

@@ -12,7 +12,7 @@ use Rattle.st_il.specs.Small.{IsUpper, IsWordOf, IsSmall, IsSmallRule}
 use Rattle.st_num.specs.Texts.{IsText}
 use Rattle.st_text.specs.Text.{is_word_byte, IsWord}
 use Rattle.st_text.proofs.NumberWords.{decimal-IsWord}
-use Rattle.st_iltext.proofs.SmallTrees.{upper_text, lower_text}
+use Rattle.st_tool.proofs.SmallTexts.{upper_text, lower_text}
 use Rattle.st_tool.specs.declared.transcript.Ending.{Ending}
 use Rattle.st_tool.specs.declared.transcript.Ending.TheVariants.{Stuck, Fuel}
 use Rattle.st_tool.specs.Derivation.{last_line}

@@ -6,7 +6,7 @@ use Rattle.st_num.specs.declared.span.Span.{Span}
 use Rattle.st_parse.proofs.Standing.{both}
 use Rattle.st_scan.specs.declared.token.Token.{Token}
 use Rattle.st_scan.specs.Tokens.{Run}
-use Rattle.st_breach_law.specs.Law.{StandBefore}
+use Rattle.st_tool.specs.BreachesStand.{StandBefore}
 use Rattle.st_tool.specs.Checking.{AllTokens}
 
 run_before : (n number : ℕ) (file rest left : List ℕ) (tokens : List Token) → number < n → Run number file rest tokens left → StandBefore n tokens

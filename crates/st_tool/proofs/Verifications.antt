@@ -11,20 +11,22 @@ use Rattle.st_deriv.specs.LineText.{IsNoLine}
 use Rattle.st_deriv.proofs.LineFeeds.{no_line_feed}
 use Rattle.st_il.specs.declared.definition.Il.{Il}
 use Rattle.st_il.specs.declared.type_rule.TypeRule.{TypeRule}
+use Rattle.st_ilread.specs.IlReading.{IsNoIl, IsFirstNoLine}
 use Rattle.st_iltext.specs.IlText.{IlText}
 use Rattle.st_iltext.proofs.Lines.{line_unique, no_line}
 use Rattle.st_num.specs.declared.memory.NoMemory.{NoMemory}
 use Rattle.st_tool.specs.declared.answer.Answer.{Answer}
 use Rattle.st_tool.specs.declared.status.Status.{Status}
+use Rattle.st_tool.specs.declared.status.Status.TheVariants.{Verification}
 use Rattle.st_tool.specs.inner.Checks.{TakesFirst, Takes, HasTaken, going, refused, TakenTo, HasNoLines, EndsNow, Ends, Tells}
-use Rattle.st_tool.specs.Commands.{VerifyGives, IsUnbuilt}
-use Rattle.st_tool.specs.Texts.{accepted_text, refused_text}
+use Rattle.st_tool.specs.Commands.{VerifyGives, malformed, judged, unjudged, IsUnjudged, IsUnbuilt}
+use Rattle.st_tool.specs.Texts.{accepted_text, refused_text, refused_il_text}
 use Rattle.st_tool.specs.Verification.{steps_in, Verified, accepted, refused as refuses, unfinished, endless}
 use Rattle.st_verify.specs.declared.accepted.Accepted.{Accepted}
 use Rattle.st_verify.specs.declared.fault.VerifyFault.{VerifyFault}
 use Rattle.st_verify.specs.declared.fault.VerifyFault.TheVariants.{Refused}
 use Rattle.st_semantics.specs.declared.verify_rule.VerifyRule.{VerifyRule}
-use Rattle.st_semantics.specs.declared.verify_rule.VerifyRule.TheVariants.{V3, V12}
+use Rattle.st_semantics.specs.declared.verify_rule.VerifyRule.TheVariants.{V1, V3, V12}
 use Rattle.st_semantics.specs.declared.notes.Notes.{Notes}
 use Rattle.st_il.specs.Small.{IsSmallIl}
 use Rattle.st_semantics.specs.Accepts.{ReadsTo, none, more, Accepts}
@@ -232,22 +234,37 @@ verified il lines rest checking result status bytes small (refused good after li
     (refuses good after line notes rule parts read verdict (text ∙ ap (λ n. refused_text (n + 1) rule) (read_length il good notes read)))
 
 pub verify_answer : (il_bytes derivation rest : List ℕ) (il : Il) (checking : Checking) (verdict : Result Accepted VerifyFault) (result : Result Answer NoMemory)
-    → IlText il il_bytes → TakenTo il derivation checking rest → (Contains rest 10 → ⊥) → Ends checking rest verdict
+    → IlText il il_bytes → IsSmallIl il → TakenTo il derivation checking rest → (Contains rest 10 → ⊥) → Ends checking rest verdict
     → IfOk result (λ answer. Tells verdict answer.status answer.bytes.items)
     → IfOk result (λ answer. VerifyGives il_bytes derivation answer.status answer.bytes.items)
-verify_answer il_bytes derivation rest il checking verdict (Err e) text taken ends says tells = tt
-verify_answer il_bytes derivation rest il checking verdict (Ok answer) text taken ends says tells =
-    inl (
-      il,
-      taken.lines,
-      rest,
-      record { language = text; lines_are = record { front = taken.front; texts = taken.texts; rest_has_no_end = ends; parts = taken.parts } },
-      verified il taken.lines rest checking verdict answer.status answer.bytes.items text.small taken.taken says tells,
-    )
+verify_answer il_bytes derivation rest il checking verdict (Err e) text small taken ends says tells = tt
+verify_answer il_bytes derivation rest il checking verdict (Ok answer) text small taken ends says tells =
+    judged il taken.lines rest small
+    (record { language = text; lines_are = record { front = taken.front; texts = taken.texts; rest_has_no_end = ends; parts = taken.parts } })
+    (verified il taken.lines rest checking verdict answer.status answer.bytes.items small taken.taken says tells)
 
--- other files are not built
-pub no_derivation : (il_bytes derivation : List ℕ) (result : Result Answer NoMemory) → HasNoLines derivation → IfOk result (λ answer. IsUnbuilt answer.status answer.bytes.items)
-    → IfOk result (λ answer. VerifyGives il_bytes derivation answer.status answer.bytes.items)
-no_derivation il_bytes derivation (Err e) no_text unbuilt = tt
-no_derivation il_bytes derivation (Ok answer) no_text unbuilt =
-    inr (λ il lines rest are. no_text lines rest are.lines_are, unbuilt)
+abbrev GivesVerdict : List ℕ → List ℕ → Result Answer NoMemory → Type 0
+GivesVerdict il_bytes derivation result = IfOk result (λ answer. VerifyGives il_bytes derivation answer.status answer.bytes.items)
+
+-- the text of no internal language is refused at its first line that is none
+pub no_language : (il_bytes derivation : List ℕ) (line : ℕ) (result : Result Answer NoMemory) → IsNoIl il_bytes × IsFirstNoLine il_bytes line
+    → IfOk result (λ answer. answer.status ≡ Verification) → IfOk result (λ answer. answer.bytes.items ≡ refused_il_text line V1)
+    → GivesVerdict il_bytes derivation result
+no_language il_bytes derivation line (Err e) (no_il, first) status bytes = tt
+no_language il_bytes derivation line (Ok answer) (no_il, first) status bytes =
+    subst (λ s. VerifyGives il_bytes derivation s answer.bytes.items) (sym status) (malformed line no_il first bytes)
+
+-- over other internal languages, and of other lines, nothing is judged
+not_judged : (il_bytes derivation : List ℕ) (il : Il) (result : Result Answer NoMemory) → IlText il il_bytes → IsUnjudged il derivation
+    → IfOk result (λ answer. IsUnbuilt answer.status answer.bytes.items) → GivesVerdict il_bytes derivation result
+not_judged il_bytes derivation il (Err e) text not_yet unbuilt = tt
+not_judged il_bytes derivation il (Ok answer) text not_yet unbuilt =
+    subst (λ s. VerifyGives il_bytes derivation s answer.bytes.items) (sym unbuilt.0) (unjudged il text not_yet unbuilt.1)
+
+pub no_small : (il_bytes derivation : List ℕ) (il : Il) (result : Result Answer NoMemory) → IlText il il_bytes → (IsSmallIl il → ⊥)
+    → IfOk result (λ answer. IsUnbuilt answer.status answer.bytes.items) → GivesVerdict il_bytes derivation result
+no_small il_bytes derivation il result text not_small unbuilt = not_judged il_bytes derivation il result text (inl not_small) unbuilt
+
+pub no_derivation : (il_bytes derivation : List ℕ) (il : Il) (result : Result Answer NoMemory) → IlText il il_bytes → HasNoLines derivation
+    → IfOk result (λ answer. IsUnbuilt answer.status answer.bytes.items) → GivesVerdict il_bytes derivation result
+no_derivation il_bytes derivation il result text no_lines_are unbuilt = not_judged il_bytes derivation il result text (inr no_lines_are) unbuilt

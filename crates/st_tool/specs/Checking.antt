@@ -29,8 +29,7 @@ use Rattle.st_tool.specs.declared.status.Status.{Status}
 use Rattle.st_tool.specs.declared.status.Status.TheVariants as answer
 use Rattle.st_il.specs.declared.small.Small.{Small}
 use Rattle.st_il.specs.Small.{il_of}
-use Rattle.st_iltext.specs.IlText.{IlText}
-use Rattle.st_iltext.specs.WholeText.{il_text}
+use Rattle.st_iltext.specs.IlText.{IlText, il_text}
 use Rattle.st_tool.specs.SmallText.{IsTextOf}
 use Rattle.st_tool.specs.Texts.{unbuilt_text, definitions_text, groups_text, definition_words, no_definition, refused_source_text}
 

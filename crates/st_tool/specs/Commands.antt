@@ -5,6 +5,8 @@ use Rattle.st_deriv.specs.LineText.{LinesText}
 use Rattle.st_il.specs.declared.definition.Il.{Il}
 use Rattle.st_il.specs.declared.small.Small.{Small}
 use Rattle.st_il.specs.Small.{il_of, IsSmallIl}
+use Rattle.st_ilread.specs.IlReading.{IsNoIl, IsFirstNoLine}
+use Rattle.st_iltext.specs.IlText.{IlText}
 use Rattle.st_tool.specs.declared.status.Status.{Status}
 use Rattle.st_tool.specs.declared.status.Status.TheVariants as answer
 use Rattle.st_tool.specs.declared.transcript.Ending.{Ending}
@@ -12,11 +14,12 @@ use Rattle.st_tool.specs.declared.transcript.Ending.TheVariants.{Stuck, Fuel}
 use Rattle.st_tool.specs.Checking.{CheckGives, IlGives, GroupsGive}
 use Rattle.st_tool.specs.Derivation.{IsDerivation}
 use Rattle.st_tool.specs.SmallText.{IsTextOf}
-use Rattle.st_tool.specs.Texts.{transcript_text, unbuilt_text}
+use Rattle.st_tool.specs.Texts.{transcript_text, unbuilt_text, refused_il_text}
+use Rattle.st_semantics.specs.declared.verify_rule.VerifyRule.TheVariants.{V1}
 use Rattle.st_semantics.specs.Accepts.{Accepts}
 use Rattle.st_semantics.specs.Transcript.{Term}
 use Rattle.st_tool.specs.Transcript.{atom_term, IsTranscript}
-use Rattle.st_tool.specs.Verification.{AreTexts, Verified}
+use Rattle.st_tool.specs.Verification.{AreLines, AreTexts, Verified}
 use Rattle.st_words.specs.declared.command.Command.{Command}
 use Rattle.st_words.specs.declared.command.Command.TheVariants.{Check, Il as IlOf, Groups, Run, Derive, Verify}
 use Rattle.st_words.specs.Arranged.{has_options}
@@ -89,14 +92,27 @@ RunGives IsText relation term file status bytes =
 
 -- ---- verification
 
--- What `verify` answers: of an internal language and lines whether they are accepted, and of other
--- files that they are not built.
-abbrev pub VerifyGives : List ℕ → List ℕ → Status → List ℕ → Type 0
-VerifyGives il_bytes derivation status bytes =
-    ((il : Il) × (lines : List Line) × (rest : List ℕ) × AreTexts il_bytes derivation il lines rest
-    × Verified il lines rest status bytes)
-    ⊎ (((il : Il) (lines : List Line) (rest : List ℕ) → AreTexts il_bytes derivation il lines rest
-    → ⊥) × IsUnbuilt status bytes)
+-- So far no derivation is judged over an internal language that no small specification means, and
+-- none whose lines are not all texts of lines.
+abbrev pub IsUnjudged : Il → List ℕ → Type 0
+IsUnjudged il derivation =
+    (IsSmallIl il → ⊥) ⊎ ((lines : List Line) (rest : List ℕ) → AreLines derivation lines rest → ⊥)
+
+-- What `verify` answers of the bytes of its two files.
+pub data VerifyGives (il_bytes derivation : List ℕ) : Status → List ℕ → Type 0 where
+  -- the first is the text of no internal language, and this is its first line that is none
+  malformed : {bytes : List ℕ} (line : ℕ) → IsNoIl il_bytes → IsFirstNoLine il_bytes line
+      → bytes ≡ refused_il_text line V1
+      → VerifyGives il_bytes derivation answer.Verification bytes
+  -- they are the texts of an internal language and of lines: these are accepted, or one is refused
+  judged : {status : Status} {bytes : List ℕ} (il : Il) (lines : List Line) (rest : List ℕ)
+      → IsSmallIl il → AreTexts il_bytes derivation il lines rest
+      → Verified il lines rest status bytes
+      → VerifyGives il_bytes derivation status bytes
+  -- the first is the text of an internal language, and the second is not judged over it
+  unjudged : {bytes : List ℕ} (il : Il) → IlText il il_bytes → IsUnjudged il derivation
+      → bytes ≡ unbuilt_text
+      → VerifyGives il_bytes derivation answer.Unbuilt bytes
 
 -- ---- the commands
 

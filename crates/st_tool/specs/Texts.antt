@@ -114,6 +114,11 @@ abbrev pub refused_text : ℕ → VerifyRule → List ℕ
 refused_text line rule =
     codes "refused derivation " ++ decimal line ++ codes " " ++ rule_word rule ++ codes "\n"
 
+-- a line of the text of an internal language is refused by a rule
+abbrev pub refused_il_text : ℕ → VerifyRule → List ℕ
+refused_il_text line rule =
+    codes "refused il " ++ decimal line ++ codes " " ++ rule_word rule ++ codes "\n"
+
 -- a specification with so many definitions is accepted
 abbrev pub definitions_text : ℕ → List ℕ
 definitions_text count = codes "accepted " ++ decimal count ++ codes " definitions\n"

@@ -38,7 +38,7 @@ steps_in (_ ∷ lines) = steps_in lines
 -- What is said of lines and of what stands behind them:
 -- that they are accepted, or the first line that is refused, and the rule that it breaks.
 pub data Verified (il : Il) (lines : List Line) (rest : List ℕ) : Status → List ℕ → Type 0 where
-  -- the lines are accepted, and nothing stands behind them; so far the internal language is small
+  -- the lines are accepted, and nothing stands behind them
   accepted : {bytes : List ℕ} → Accepts IsSmallIl il lines → rest ≡ []
       → bytes ≡ accepted_text (length lines) (steps_in lines)
       → Verified il lines rest answer.Done bytes

@@ -3,6 +3,7 @@
 ghost use Rattle.std.specs.Prelude.{◌≡◌, ◌≢◌, ◌<◌, ◌≤◌, [], ◌++◌, List, length, All, IfOk, IfErr, OnOk};
 ghost use Rattle.st_elab_def.specs.Answers.{HasTemplates};
 ghost use Rattle.st_elab_def.specs.Breaches.{IsBreach};
+ghost use Rattle.st_iltext.specs.IlText.{il_text};
 ghost use Rattle.st_tool.specs.Checking.{AllTokens, TellsFault};
 ghost use Rattle.st_tool.specs.Checking.{nothing, Prints, SourceGives, FilesGive};
 ghost use Rattle.st_elab_def.specs.declared.elaborated.Elaborated.{Elaborated as Elaboration};
@@ -21,7 +22,7 @@ use itoa::Buffer;
 use st_el::Def;
 use st_elab_def::{Breach, DefFault, elaborate};
 use st_il::Il;
-use st_iltext::print_whole;
+use st_iltext::print_il;
 use st_num::{Fault, NoMemory, Row};
 use st_parse::parse;
 use st_scan::{LexFault, Token, scan};
@@ -73,6 +74,15 @@ fn counted(alloc: Global, definitions: u64) -> Result<Vec<u8>, NoMemory>
     Ok(bytes)
 }
 
+/// The text of this internal language.
+fn language(alloc: Global, il: &Il) -> Result<Vec<u8>, NoMemory>
+    ensures { IfOk result (λ bytes. bytes.items ≡ il_text il.now) }
+{
+    let mut bytes = Vec::new(alloc);
+    print_il(alloc, il, &mut bytes)?;
+    Ok(bytes)
+}
+
 /// The answer where a specification with so many definitions, and this internal language, is
 /// accepted.
 fn accepted(alloc: Global, printed: Printed, definitions: u64, il: &Il) -> Result<Answer, NoMemory>
@@ -83,7 +93,7 @@ fn accepted(alloc: Global, printed: Printed, definitions: u64, il: &Il) -> Resul
 {
     let bytes = match printed {
         Printed::Count => counted(alloc, definitions)?,
-        Printed::Language => print_whole(alloc, il)?.into_vec(),
+        Printed::Language => language(alloc, il)?,
         Printed::Groups => groups_printed(alloc, il)?,
     };
     Ok(Answer {

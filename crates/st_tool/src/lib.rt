@@ -18,6 +18,7 @@ mod answer;
 mod check;
 mod derivation;
 mod grouping;
+mod laws;
 mod loads;
 mod modes;
 mod reader;
@@ -31,6 +32,7 @@ mod verification;
 
 pub use answer::Answer;
 use answer::answer_words;
+pub use laws::breaches_stand;
 pub use loads::Loaded;
 use st_num::NoMemory;
 use st_outside::{Files, Sink, write_all_of};

@@ -5,14 +5,13 @@ ghost use Rattle.st_il.specs.declared.small.Small.{Small as Specification};
 ghost use Rattle.st_tool.specs.SmallText.{text_of, IsTextOf};
 ghost use Rattle.st_tool.specs.inner.SmallForm.{IsOfWords};
 
-mod check;
 mod line;
 mod word;
 
-use check::is_small;
 use line::{read_atoms, read_relation_line, read_rules, read_syntax_front};
 use st_il::Small;
 use st_num::{Name, NoMemory};
+use st_small::is_small;
 use std::alloc::Global;
 
 /// The specification whose text the bytes are, whatever its words are.

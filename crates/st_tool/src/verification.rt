@@ -1,20 +1,21 @@
 //! The verification of derivations.
 
-ghost use Rattle.std.specs.Prelude.{◌≡◌, ◌≤◌, ◌<◌, ◌^◌, None, length, IfOk, IfSome, IfNone, MatchBool, Contains};
+ghost use Rattle.std.specs.Prelude.{◌≡◌, ◌≤◌, ◌<◌, ◌^◌, ◌++◌, codes, decimal, None, length, IfOk, IfSome, IfNone, MatchBool, Contains};
 ghost use Rattle.st_deriv.specs.declared.line.Line.{Line};
 ghost use Rattle.st_deriv.specs.LineText.{LineText};
 ghost use Rattle.st_deriv.specs.LineText.{IsNoLine};
 ghost use Rattle.st_tool.specs.inner.Checks.{Takes, TakenTo, HasNoLines, Ends, Tells};
 ghost use Rattle.st_tool.specs.Commands.{VerifyGives, text_limit};
-ghost use Rattle.st_tool.specs.Texts.{accepted_text, refused_text, rule_word};
+ghost use Rattle.st_tool.specs.Texts.{accepted_text, refused_il_text, rule_word};
 ghost use Rattle.st_semantics.specs.Notes.{nothing_noted};
 
 use crate::Status;
 use crate::answer::{Answer, unbuilt};
 use itoa::Buffer;
 use st_deriv::read_line;
-use st_iltext::read_il;
+use st_ilread::read_il;
 use st_num::NoMemory;
+use st_small::is_small_il;
 use st_text::{TextFault, next_line};
 use st_verify::{Accepted, Verifier, VerifyFault, VerifyRule};
 use std::alloc::Global;
@@ -112,12 +113,18 @@ fn rule_word(rule: VerifyRule) -> &'static str
     }
 }
 
-/// The line that says that a line is refused.
-fn refused_line(alloc: Global, line: u64, rule: VerifyRule) -> Result<Vec<u8>, NoMemory>
-    ensures { IfOk result (λ bytes. bytes.items ≡ refused_text line rule) }
+/// The line that says, behind these words, that a line is refused.
+fn refused_line(
+    alloc: Global,
+    words: &str,
+    line: u64,
+    rule: VerifyRule,
+) -> Result<Vec<u8>, NoMemory>
+    ensures { IfOk result (λ bytes. bytes.items
+        ≡ words.now ++ decimal line ++ codes " " ++ rule_word rule ++ codes "\n") }
 {
     let mut buffer = Buffer::new();
-    let mut bytes = Vec::from_slice(alloc, b"refused derivation ")?;
+    let mut bytes = Vec::from_slice(alloc, words.as_bytes())?;
     bytes.extend_from_slice(buffer.format(line).as_bytes())?;
     bytes.extend_from_slice(b" ")?;
     bytes.extend_from_slice(rule_word(rule).as_bytes())?;
@@ -142,7 +149,7 @@ fn verdict_answer(alloc: Global, verdict: Result<Accepted, VerifyFault>) -> Resu
             },
         ) => Ok(Answer {
             status: Status::Verification,
-            bytes: refused_line(alloc, line, rule)?,
+            bytes: refused_line(alloc, "refused derivation ", line, rule)?,
         }),
         Err(VerifyFault::Memory) => Err(NoMemory),
     }
@@ -158,6 +165,18 @@ fn finished(verifier: &mut Verifier, rest: &[u8]) -> Result<Accepted, VerifyFaul
     verifier.finish()
 }
 
+/// The answer where the text of an internal language has this first line that is none.
+fn malformed_answer(alloc: Global, line: u64) -> Result<Answer, NoMemory>
+    ensures status { IfOk result (λ answer. answer.status ≡ Status.Verification) }
+    ensures bytes { IfOk result (λ answer. answer.bytes.items
+        ≡ refused_il_text line VerifyRule.V1) }
+{
+    Ok(Answer {
+        status: Status::Verification,
+        bytes: refused_line(alloc, "refused il ", line, VerifyRule::V1)?,
+    })
+}
+
 /// Says whether the checker accepts a derivation, whose internal language is in another text.
 pub fn verify_files(alloc: Global, il: &[u8], derivation: &[u8]) -> Result<Answer, NoMemory>
     requires { length derivation.now ≤ text_limit }
@@ -166,9 +185,12 @@ pub fn verify_files(alloc: Global, il: &[u8], derivation: &[u8]) -> Result<Answe
 {
     let il = match read_il(alloc, il) {
         Ok(il) => il,
-        Err(TextFault::Malformed { line: _ }) => return unbuilt(alloc),
+        Err(TextFault::Malformed { line }) => return malformed_answer(alloc, line),
         Err(TextFault::Memory) => return Err(NoMemory),
     };
+    if !is_small_il(alloc, &il)? {
+        return unbuilt(alloc);
+    }
     let Ok(mut verifier) = Verifier::new(alloc, il) else {
         return Err(NoMemory);
     };

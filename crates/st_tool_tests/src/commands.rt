@@ -55,7 +55,7 @@ fn expect(
     Ok(())
 }
 
-const COMMANDS: [Case; 38] = [
+const COMMANDS: [Case; 39] = [
     ("run T red light", Status::Done, LIGHT_RUN),
     ("run T red_line light", Status::Done, LIGHT_RUN),
     (
@@ -125,7 +125,12 @@ const COMMANDS: [Case; 38] = [
         "refused derivation 1 V12\n",
     ),
     ("verify light.il malformed", Status::Unbuilt, "unbuilt\n"),
-    ("verify light lines", Status::Unbuilt, "unbuilt\n"),
+    (
+        "verify light lines",
+        Status::Verification,
+        "refused il 1 V1\n",
+    ),
+    ("verify empty lines", Status::Unbuilt, "unbuilt\n"),
     ("check light", Status::Done, "accepted 4 definitions\n"),
     (
         "check empty closed",

@@ -1,7 +1,6 @@
 -- The form of the text of a small specification:
 -- what its words are, apart from which words go together.
-use Rattle.std.specs.Prelude.{◌≡◌, Option, IsSomeAnd, ℕ, Bool, List, [], ◌∷◌, ◌++◌, All, Contains, map}
-use Rattle.std.specs.Bool.{MatchBool}
+use Rattle.std.specs.Prelude.{◌≡◌, Option, IsSomeAnd, ℕ, List, [], ◌∷◌, All}
 use Rattle.std.specs.Borrow.{Bor}
 use Rattle.st_il.specs.Small.{IsLower, IsUpper, IsWordOf}
 use Rattle.st_tool.specs.declared.reader.line.RuleWords.{RuleWords}
@@ -44,16 +43,3 @@ pub record IsOfWords (s : Small) : Type 0 where
   pub atoms : All (IsWordOf IsUpper) s.atoms
   pub relation : IsWordOf IsUpper s.relation
   pub rules : All IsRuleOfWords s.rules
-
--- the names that references point to
-abbrev pub names_of : List (Bor (List ℕ)) → List (List ℕ)
-names_of names = map (λ name. name.now) names
-
--- a name is added to a set: where it is new, it goes behind the others, and else it is among them
-abbrev pub Adds : List (List ℕ) → List ℕ → List (List ℕ) → Bool → Type 0
-Adds old name new added =
-    MatchBool added ((Contains old name → ⊥) × (new ≡ old ++ name ∷ [])) (Contains old name)
-
--- the rule goes from one of the atoms to one of them
-abbrev pub GoesBetween : List (List ℕ) → SmallRule → Type 0
-GoesBetween atoms rule = Contains atoms rule.from × Contains atoms rule.to

@@ -1,11 +1,9 @@
-use Rattle.std.proofs.Common.{map, drop}
-use Rattle.st_iltext.specs.Definitions.{definition_tree}
-use Rattle.st_iltext.specs.IlText.{lines_text}
-use Rattle.st_text.specs.Text.{text}
+use Rattle.std.proofs.Common.{drop, flat_map}
+use Rattle.st_iltext.specs.IlText.{definition_line}
 use Rattle.st_text.proofs.CutOff.{Written}
 use Rattle.st_iltext.proofs.il.print_il.Given as goal
 
 abbrev pub invariant-loop-def : goal.invariant-loop-def
 invariant-loop-def l =
-    Written l.initial.out.items (lines_text (map (λ d. text (definition_tree d)) l.def-items)) l.out.items
-    (lines_text (map (λ d. text (definition_tree d)) (drop l.def-index l.def-items)))
+    Written l.initial.out.items (flat_map definition_line l.def-items) l.out.items
+    (flat_map definition_line (drop l.def-index l.def-items))

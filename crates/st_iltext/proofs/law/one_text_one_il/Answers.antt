@@ -1,4 +1,4 @@
-use Rattle.st_iltext.proofs.IlUnique.{one_il_text, one_il}
+use Rattle.st_iltext.proofs.IlSame.{one_il_text, one_il}
 use Rattle.st_iltext.proofs.law.one_text_one_il.Goals as goal
 
 pub returns-clause-text : goal.returns-clause-text

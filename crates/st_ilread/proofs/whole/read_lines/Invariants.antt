@@ -1,9 +1,0 @@
-use Rattle.std.proofs.Common.{length}
-use Rattle.st_ilread.proofs.WholeTexts.{LinesSoFar}
-use Rattle.st_ilread.proofs.whole.read_lines.Given as goal
-
-abbrev pub invariant-lines : goal.invariant-lines
-invariant-lines l = LinesSoFar l.defs l.bytes l.rest
-
-abbrev pub decreases-lines : goal.decreases-lines
-decreases-lines l = length l.rest

@@ -1,7 +1,0 @@
-use Rattle.std.proofs.Common.{take}
-use Rattle.std.specs.List.{All}
-use Rattle.st_il.specs.Small.{IsUpper, IsWordOf}
-use Rattle.st_iltext.proofs.name.are_upper_words.Given as goal
-
-abbrev pub invariant-loop-word : goal.invariant-loop-word
-invariant-loop-word l = All (IsWordOf IsUpper) (take l.word-index l.words)

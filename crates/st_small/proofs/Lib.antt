@@ -1,0 +1,4 @@
+mod Elements
+mod NameSets
+mod SmallWords
+mod SmallParts

@@ -1,7 +1,0 @@
-use Rattle.std.proofs.Common.{take}
-use Rattle.std.specs.List.{All}
-use Rattle.st_tool.specs.inner.SmallForm.{names_of, GoesBetween}
-use Rattle.st_tool.proofs.reader.check.have_known_atoms.Given as goal
-
-abbrev pub invariant-loop-rule : goal.invariant-loop-rule
-invariant-loop-rule l = All (GoesBetween (names_of l.atoms.keys)) (take l.rule-index l.rules)
