@@ -1,0 +1,7 @@
+pub mod PathSteps
+pub mod Splices
+pub mod Joins
+pub mod FormLevels
+pub mod Weights
+pub mod Builds
+pub mod HeadElements

@@ -1,0 +1,2 @@
+-- What is believed of values is told by st_semantics. Here is what only contracts inside the crate need.
+pub mod inner

@@ -1,0 +1,7 @@
+pub mod Operands
+pub mod Calculations
+pub mod Joined
+pub mod Changes
+pub mod Scope
+pub mod Weight
+pub mod Prefix
