@@ -6,6 +6,7 @@ use Rattle.st_num.specs.declared.dim.Kind.TheVariants as kind
 use Rattle.st_il.specs.declared.definition.SyntaxDef.{SyntaxDef}
 use Rattle.st_il.specs.declared.expression.IlExp.{IlExp, out-IlExp}
 use Rattle.st_il.specs.declared.expression.IlExp.TheOpen.{IlExp-F, Iteration-F}
+use Rattle.st_il.specs.declared.expression.IlExp.TheVariants as exp
 use Rattle.st_il.specs.declared.expression.Iteration.{Iteration, out-Iteration}
 use Rattle.st_il.specs.declared.expression.ListItem.{ListItem}
 use Rattle.st_il.specs.declared.expression.PathSeg.{PathSeg}
@@ -177,7 +178,7 @@ module _ (defs : List SyntaxDef) (s : Env) (how : Iteration) (xs : List Name) (b
 -- ---- the iteration
 
 pub candidates-Iter : (p : IlExp) (how : Iteration) (xs : List Name) (body : IlExp) (v : Value) (n : ℕ) (rows : List (List Env)) (es cs fs : List Env) → out-IlExp p ≡ IlExp-F.Iter how xs body
-    → IsElementCount v n → AreCandidatesOfCount how n es cs → AreRowsOf how body v rows → AllColumnsCover how xs rows cs fs → AreCandidates p v es fs
+    → IsElementCount v n → AreCandidatesOfCount how n es cs → AreRowsOf (kind_of how) body v rows → AllColumnsCover how xs rows cs fs → AreCandidates p v es fs
 candidates-Iter p how xs body v n rows es cs fs o long counted r all = record {
   cover = λ defs pat. record {
     covers = λ s b f a.
@@ -198,3 +199,10 @@ candidates-Iter p how xs body v n rows es cs fs o long counted r all = record {
         (all.covers s (joined b count) new start (OneOf-map _ _ (row_columns defs s how xs body v el) rows row));
   };
 }
+
+-- the same of parts that are equal to those of the pattern
+pub iteration_candidates : (p : IlExp) (how : Iteration) (xs ys : List Name) (body g : IlExp) (v : Value) (n : ℕ) (k : Kind) (rows qs : List (List Env)) (es cs ds fs : List Env) → p ≡ exp.Iter how xs body → ys ≡ xs → g ≡ body
+    → IsElementCount v n → k ≡ kind_of how → qs ≡ rows → ds ≡ cs → AreCandidatesOfCount how n es cs → AreRowsOf k g v rows → AllColumnsCover how ys qs ds fs → AreCandidates p v es fs
+iteration_candidates p how xs ys body g v n k rows qs es cs ds fs is names same long kind those counted c r all =
+    candidates-Iter p how xs body v n rows es cs fs (ap out-IlExp is ∙ exp.outs-Iter how xs body) long c (subst (λ z. AreRowsOf z body v rows) kind (subst (λ z. AreRowsOf k z v rows) same r))
+    (subst (λ z. AllColumnsCover how z rows cs fs) names (subst (λ z. AllColumnsCover how ys z cs fs) those (subst (λ z. AllColumnsCover how ys qs z fs) counted all)))

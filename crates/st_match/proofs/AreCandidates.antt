@@ -1,10 +1,13 @@
 -- What the parts of a pattern are given covers what the pattern is given.
-use Rattle.std.proofs.Common.{◌≡◌, ℕ, ◌≤◌, pos, refl, sym, ◌∙◌, ap, subst, List, [], ◌∷◌, ◌++◌, map, length, take, drop, zip, true, false, ◌&&◌, Some, None, arith, length-append}
+use Rattle.std.proofs.Common.{◌≡◌, ℕ, suc, ◌+◌, ◌<◌, ◌≤◌, pos, refl, sym, ◌∙◌, ap, subst, List, [], ◌∷◌, ◌++◌, map, length, take, drop, zip, get_or, Bool, true, false, not, ◌&&◌, nat_eq, Some, None, arith, length-append}
 use Rattle.std.specs.List.{list_all}
-use Rattle.std.proofs.lemmas.List.{take_at, drop_at}
+use Rattle.std.specs.Cmp.Lexicographic.{pointwise}
+use Rattle.std.proofs.lemmas.Slice.Eq.{bytes_eq-Decides}
+use Rattle.std.proofs.lemmas.List.{take_at, drop_at, drop_more, drop_all}
 use Rattle.st_il.specs.declared.definition.SyntaxDef.{SyntaxDef}
 use Rattle.st_il.specs.declared.expression.IlExp.{IlExp, out-IlExp}
 use Rattle.st_il.specs.declared.expression.IlExp.TheOpen.{IlExp-F, ListItem-F}
+use Rattle.st_il.specs.declared.expression.IlExp.TheVariants as exp
 use Rattle.st_il.specs.declared.expression.Iteration.{Iteration}
 use Rattle.st_il.specs.declared.expression.ListItem.{ListItem, out-ListItem}
 use Rattle.st_il.specs.declared.ty.Ty.{Ty}
@@ -20,8 +23,8 @@ use Rattle.st_semantics.specs.Patterns.{is_pattern}
 use Rattle.st_semantics.proofs.Names.{and-both}
 use Rattle.st_semantics.proofs.PatternParts.{pattern-form}
 use Rattle.st_match.specs.inner.Fitting.{Fits, FitAll, FitItems, FitSplit, FitCut, FitCount, HasValue, field_values}
-use Rattle.st_match.specs.inner.Covering.{Names, joined, bound, all_bound, Stands, OneOf, Covers, AreCandidates, AreCandidatesOfAll, AreCandidatesOfItems, AreCandidatesOfSplit, AreCandidatesOfCut, AreCandidatesOfCount}
-use Rattle.st_match.proofs.Covers.{OneOf-fewer, Covers-none, Covers-nothing, Covers-same, Covers-then, Covers-weaken, Covers-left, Covers-right, joined_more}
+use Rattle.st_match.specs.inner.Covering.{Names, joined, bound, all_bound, Stands, OneOf, Covers, AreCandidates, AreCandidatesOfAll, AreCandidatesOfItems, AreCandidatesOfSplit, AreCandidatesOfCut, AreCandidatesOfCount, AreCandidatesOfEach, AreCandidatesOfCuts}
+use Rattle.st_match.proofs.Covers.{OneOf-fewer, Covers-none, Covers-never, Covers-nothing, Covers-same, Covers-then, Covers-weaken, Covers-left, Covers-right, each_number, joined_more}
 use Rattle.st_match.proofs.Binds.{binds-Var, binds-Case, binds-Fields, binds-Tuple, binds-List, binds-Up, binds-Present, binds-Cat, first_part, only_part}
 use Rattle.st_match.proofs.Fits.{Fits-Var, Fits-Case, Fits-Tuple, Fits-List, Fits-Present, Fits-Up, Fits-Cat, Fits-Fields, FitItems-none, FitItems-One, FitItems-All}
 
@@ -45,6 +48,15 @@ AreCandidates-none p v es fs is h = subst (AreCandidates p v es) (sym is) (recor
 pub AreCandidates-same : (p : IlExp) (v : Value) (es fs : List Env) → fs ≡ es → (is_pattern p ≡ true → (x : Name) → bound p x ≡ true → ⊥) → AreCandidates p v es fs
 AreCandidates-same p v es fs is h = subst (AreCandidates p v es) (sym is) (record { cover = λ defs pat. Covers-same (Fits defs p v) (bound p) es (h pat) })
 
+-- ---- names
+
+names_apart : (b : Bool) → true ≡ not b → b ≡ true → ⊥
+names_apart true e h = cc
+names_apart false e h = cc
+
+pub names-differ : (x y : Name) → true ≡ not (pointwise nat_eq x y) → x ≡ y → ⊥
+names-differ x y e p = names_apart (pointwise nat_eq x y) e ((bytes_eq-Decides x y).1 p)
+
 -- ---- parts of equal values
 
 pub Case-parts : (a b : Name) (xs ys : List Value) → value.Case a xs ≡ value.Case b ys → (a ≡ b) × (xs ≡ ys)
@@ -65,6 +77,15 @@ Present-part x y e = let o : Value-F.Opt (Some x) ≡ Value-F.Opt (Some y) = sym
 
 absent_part : (x : Value) → value.Opt None ≡ value.Opt (Some x) → ⊥
 absent_part x e = let o : Value-F.Opt None ≡ Value-F.Opt (Some x) = sym (value.outs-Opt None) ∙ (ap out-Value e ∙ value.outs-Opt (Some x)) in cc
+
+-- a pattern that differs from others in a type alone
+pub AreCandidates-form : {T X : Type 0} (form : T → X → IlExp) (p : IlExp) (type : T) (x y : X) (v : Value) (es fs : List Env) → p ≡ form type x → y ≡ x
+    → AreCandidatesOfEach (λ t. form t y) v es fs → AreCandidates p v es fs
+AreCandidates-form form p type x y v es fs is same c = subst (λ z. AreCandidates z v es fs) (ap (form type) same ∙ sym is) (c.are type)
+
+-- a pattern that is another one
+pub AreCandidates-equal : (p q : IlExp) (v : Value) (es fs : List Env) → q ≡ p → AreCandidates q v es fs → AreCandidates p v es fs
+AreCandidates-equal p q v es fs same c = subst (λ z. AreCandidates z v es fs) same c
 
 -- ---- the forms
 
@@ -187,6 +208,15 @@ cut_here e g vs k v w es hs gs fs iv iw ih c d = record {
       ((subst (λ z. AreCandidates g z hs fs) iw (subst (λ z. AreCandidates g w z fs) ih d)).cover defs pg);
 }
 
+-- the same of the sides of a pattern
+pub cut_of : (p e g a b left right : IlExp) (vs : List Value) (k : ℕ) (ws : List Value) (es hs gs fs : List Env) → p ≡ exp.Cat e g → p ≡ exp.Cat left right → a ≡ e → b ≡ g → ws ≡ drop k vs → gs ≡ hs
+    → AreCandidates a (value.List (take k vs)) es hs → AreCandidates b (value.List ws) gs fs → AreCandidatesOfCut left right vs k es fs
+cut_of p e g a b left right vs k ws es hs gs fs is same ea eb ew eg c d =
+    let both : IlExp-F.Cat e g ≡ IlExp-F.Cat left right = sym (exp.outs-Cat e g) ∙ (ap out-IlExp (sym is ∙ same) ∙ exp.outs-Cat left right) in
+    let first : a ≡ left = ea ∙ cc in
+    let second : b ≡ right = eb ∙ cc in
+    cut_here left right vs k (value.List (take k vs)) (value.List ws) es hs gs fs refl (ap value.List ew) eg (subst (λ z. AreCandidates z (value.List (take k vs)) es hs) first c) (subst (λ z. AreCandidates z (value.List ws) gs fs) second d)
+
 pub cut_left : (e g : IlExp) (vs : List Value) (es : List Env) (k : ℕ) (fs gs : List Env) → AreCandidatesOfCut e g vs k es fs → AreCandidatesOfCut e g vs k es (fs ++ gs)
 cut_left e g vs es k fs gs c = record { cover = λ defs pe pg. Covers-left (FitCut defs e g vs k) (joined (bound e) (bound g)) es fs gs (c.cover defs pe pg) }
 
@@ -211,6 +241,20 @@ split_left e rest vs es k fs gs c = record { cover = λ defs p. Covers-left (Fit
 pub split_right : (e : IlExp) (rest : List ListItem) (vs : List Value) (es : List Env) (k : ℕ) (fs gs : List Env) → AreCandidatesOfSplit e rest vs k es gs → AreCandidatesOfSplit e rest vs k es (fs ++ gs)
 split_right e rest vs es k fs gs c = record { cover = λ defs p. Covers-right (FitSplit defs e rest vs k) (all_bound (e ∷ map item_exp rest)) es fs gs (c.cover defs p) }
 
+-- what follows fits where the split does
+pub split_within : (e : IlExp) (rest : List ListItem) (vs : List Value) (k : ℕ) (es fs : List Env)
+    → ((defs : List SyntaxDef) (s : Env) → FitItems defs rest (drop k vs) s → AreCandidatesOfSplit e rest vs k es fs) → AreCandidatesOfSplit e rest vs k es fs
+split_within e rest vs k es fs c = record { cover = λ defs pats. record { covers = λ s b f a. ((c defs s f.1).cover defs pats).covers s b f a } }
+
+-- one more of the cuts
+pub cuts_step : (e g : IlExp) (vs : List Value) (es found more after : List Env) (n : ℕ) → after ≡ found ++ more → ((k : ℕ) → k < n → AreCandidatesOfCut e g vs k es found)
+    → AreCandidatesOfCut e g vs n es more → (k : ℕ) → k < n + 1 → AreCandidatesOfCut e g vs k es after
+cuts_step e g vs es found more after n made c d =
+    each_number (λ (k : ℕ) (fs : List Env). AreCandidatesOfCut e g vs k es fs) (cut_left e g vs es) (cut_right e g vs es) found more after n made c d
+
+pub cuts_end : (e g : IlExp) (vs : List Value) (es found : List Env) (n : ℕ) → length vs < n → ((k : ℕ) → k < n → AreCandidatesOfCut e g vs k es found) → AreCandidatesOfCuts e g vs es found
+cuts_end e g vs es found n h c = record { are = λ k le. c k (omega (arith, h, le)) }
+
 -- ---- several patterns
 
 pub all_end : (ps : List IlExp) (vs : List Value) (es fs : List Env) → ps ≡ [] → fs ≡ es → AreCandidatesOfAll ps vs es fs
@@ -230,7 +274,40 @@ all_more ps qs p vs ws v es hs gs fs is at same c d = subst (λ z. AreCandidates
       (Covers-then (Fits defs p v) (FitAll defs qs ws) (bound p) (all_bound qs) es hs fs (c.cover defs b.0) ((subst (λ z. AreCandidatesOfAll qs ws z fs) same d).cover defs b.1));
 }))
 
+FitAll-length : (defs : List SyntaxDef) (s : Env) (ps : List IlExp) (vs : List Value) → FitAll defs ps vs s → length ps ≡ length vs
+FitAll-length defs s [] [] f = refl
+FitAll-length defs s [] (v ∷ vs) f = absurd f
+FitAll-length defs s (p ∷ ps) [] f = absurd f
+FitAll-length defs s (p ∷ ps) (v ∷ vs) f = ap suc (FitAll-length defs s ps vs f.1)
+
+pub all_unequal : (ps : List IlExp) (vs : List Value) (es fs : List Env) (n : ℕ) → n ≡ length vs → (length ps ≡ n → ⊥) → AreCandidatesOfAll ps vs es fs
+all_unequal ps vs es fs n is differ = record { cover = λ defs p. Covers-never (FitAll defs ps vs) (all_bound ps) es fs (λ s f. differ (FitAll-length defs s ps vs f ∙ sym is)) }
+
+pub all_begin : (ps : List IlExp) (vs : List Value) (es found : List Env) → found ≡ es → (after : List Env) → AreCandidatesOfAll ps vs found after → AreCandidatesOfAll ps vs es after
+all_begin ps vs es found same after c = subst (λ z. AreCandidatesOfAll ps vs z after) same c
+
+-- one more of the patterns
+pub all_step : (ps qs : List IlExp) (vs us ws : List Value) (es found before next : List Env) (i : ℕ) (p : IlExp) (v : Value) → i < length ps → p ≡ get_or ps i p → us ≡ v ∷ ws → before ≡ found
+    → AreCandidates p v before next → ((after : List Env) → AreCandidatesOfAll (drop i ps) us found after → AreCandidatesOfAll qs vs es after)
+    → (after : List Env) → AreCandidatesOfAll (drop (i + 1) ps) ws next after → AreCandidatesOfAll qs vs es after
+all_step ps qs vs us ws es found before next i p v h is values same c inv after d =
+    inv after (all_more (drop i ps) (drop (i + 1) ps) p us ws v found next next after (drop_more ps i p h ∙ ap (λ z. z ∷ drop (i + 1) ps) (sym is)) values refl
+    (subst (λ z. AreCandidates p v z next) same c) d)
+
+pub all_done : (ps qs : List IlExp) (vs us : List Value) (es found : List Env) (i : ℕ) → length ps ≤ i → ((after : List Env) → AreCandidatesOfAll (drop i ps) us found after → AreCandidatesOfAll qs vs es after)
+    → AreCandidatesOfAll qs vs es found
+all_done ps qs vs us es found i h inv = inv found (all_end (drop i ps) us found found (drop_all i ps h) refl)
+
 -- ---- the parts of a list
+
+pub items_never : (items : List ListItem) (vs : List Value) (es fs : List Env) → ((defs : List SyntaxDef) (s : Env) → FitItems defs items vs s → ⊥) → AreCandidatesOfItems items vs es fs
+items_never items vs es fs h = record { cover = λ defs p. Covers-never (FitItems defs items vs) (all_bound (map item_exp items)) es fs (h defs) }
+
+pub items_wider : (items : List ListItem) (vs : List Value) (es fs gs : List Env) → AreCandidatesOfItems items vs es fs → AreCandidatesOfItems items vs es (fs ++ gs)
+items_wider items vs es fs gs c = record { cover = λ defs p. Covers-left (FitItems defs items vs) (all_bound (map item_exp items)) es fs gs (c.cover defs p) }
+
+pub items_later : (items : List ListItem) (vs : List Value) (es fs gs : List Env) → AreCandidatesOfItems items vs es gs → AreCandidatesOfItems items vs es (fs ++ gs)
+items_later items vs es fs gs c = record { cover = λ defs p. Covers-right (FitItems defs items vs) (all_bound (map item_exp items)) es fs gs (c.cover defs p) }
 
 pub items_nothing : (items : List ListItem) (vs : List Value) (es fs : List Env) → es ≡ [] → AreCandidatesOfItems items vs es fs
 items_nothing items vs es fs is = subst (λ z. AreCandidatesOfItems items vs z fs) (sym is) (record { cover = λ defs p. Covers-nothing (FitItems defs items vs) (all_bound (map item_exp items)) fs })
@@ -293,3 +370,7 @@ count_one how n e es fs is c = record {
       (λ x k. only_part e x (subst (λ z. all_bound z x ≡ true) is k))
       (c.cover defs p.0);
 }
+
+-- the same of parts that are equal to those of the iteration
+pub count_by : (how : Iteration) (n : ℕ) (e g : IlExp) (v : Value) (es fs : List Env) → count_of how ≡ e ∷ [] → g ≡ e → v ≡ value.Num (pos n) → AreCandidates g v es fs → AreCandidatesOfCount how n es fs
+count_by how n e g v es fs is same number c = count_one how n e es fs is (subst (λ z. AreCandidates e z es fs) number (subst (λ z. AreCandidates z v es fs) same c))

@@ -1,5 +1,5 @@
 -- Rows of environments, one for each element, and what their columns give.
-use Rattle.std.proofs.Common.{◌≡◌, ℕ, zero, suc, ◌+◌, ◌<◌, ◌≤◌, refl, sym, ◌∙◌, ap, subst, List, [], ◌∷◌, ◌++◌, length, take, get_or, ◌⊎◌, inl, inr, Bool, true, false, ◌&&◌, Option, Some, None, bytes_eq, arith}
+use Rattle.std.proofs.Common.{◌≡◌, ℕ, zero, suc, ◌+◌, ◌<◌, ◌≤◌, refl, sym, ◌∙◌, ap, subst, List, [], ◌∷◌, ◌++◌, map, length, take, get_or, ◌⊎◌, inl, inr, Bool, true, false, ◌&&◌, Option, Some, None, bytes_eq, arith}
 use Rattle.std.proofs.lemmas.List.{take_more, take_all}
 use Rattle.std.proofs.lemmas.List.Folds.{list_any-append}
 use Rattle.st_num.specs.declared.dim.Kind.{Kind}
@@ -22,8 +22,8 @@ use Rattle.st_semantics.proofs.Names.{and-both, bytes-path, bytes-same, or-cases
 use Rattle.st_semantics.proofs.Lengths.{limited_is}
 use Rattle.st_semantics.proofs.Columns.{same_out, list_of_elements}
 use Rattle.st_match.specs.inner.Fitting.{Fits, FitEach, HasValue, column_value}
-use Rattle.st_match.specs.inner.Covering.{Names, joined, bound, Stands, OneOf, Covers, AreCandidates}
-use Rattle.st_match.specs.inner.Rows.{RowStands, with_each, product, AreRows, IsSized, AreRowsOf, first_of, row_values, row_column, are_there, in_columns, HasColumns, ColumnsCover, ColumnCovers}
+use Rattle.st_match.specs.inner.Covering.{Names, joined, bound, blank, Stands, OneOf, Covers, AreCandidates}
+use Rattle.st_match.specs.inner.Rows.{RowStands, with_each, product, AreRows, IsSized, AreRowsOf, RowsLead, first_of, row_values, row_column, are_there, in_columns, HasColumns, ColumnsCover, ColumnCovers}
 use Rattle.st_match.proofs.Covers.{OneOf-left, OneOf-right, OneOf-cases, Covers-same, Covers-then, Covers-weaken}
 use Rattle.st_match.proofs.AreCandidates.{List-parts}
 
@@ -74,22 +74,33 @@ no_elements defs body b (u ∷ us) f = absurd f
 pub AreRows-none : (body : IlExp) (vs : List Value) (rows : List (List Env)) → vs ≡ [] → rows ≡ [] ∷ [] → AreRows body vs rows
 AreRows-none body vs rows none is = subst (λ z. AreRows body z rows) (sym none) (subst (AreRows body []) (sym is) (record { cover = λ defs us pat f. inl (no_elements defs body (bound body) us f) }))
 
-pub AreRows-more : (body : IlExp) (vs : List Value) (v : Value) (blank : Env) (starts found : List Env) (before after : List (List Env)) → blank.entries ≡ [] → starts ≡ blank ∷ []
-    → AreCandidates body v starts found → after ≡ product before found → AreRows body vs before → AreRows body (vs ++ v ∷ []) after
-AreRows-more body vs v blank starts found before after empty is c made r = record {
-  cover = λ defs us pat f.
-      let l = FitEach-last defs body vs v us f in
-      let start : OneOf (Stands l.1 no_names) starts = subst (OneOf (Stands l.1 no_names)) (sym is) (inl (blank_stands l.1 blank empty)) in
-      let one : OneOf (Stands l.1 (joined no_names (bound body))) found = (c.cover defs pat).covers l.1 no_names l.4 start in
-      subst (λ z. OneOf (RowStands (bound body) z) after) l.2
-      (subst (OneOf (RowStands (bound body) (l.0 ++ l.1 ∷ []))) (sym made) (product-one (bound body) l.0 found l.1 before (r.cover defs l.0 pat l.3) one));
+-- one element more, where there are rows
+pub RowsLead-found : (body : IlExp) (v : Value) (starts found : List Env) (before after : List (List Env)) → starts ≡ blank ∷ [] → AreCandidates body v starts found → after ≡ product before found → RowsLead body v before after
+RowsLead-found body v starts found before after is c made = record {
+  lead = λ vs r. record {
+    cover = λ defs us pat f.
+        let l = FitEach-last defs body vs v us f in
+        let start : OneOf (Stands l.1 no_names) starts = subst (OneOf (Stands l.1 no_names)) (sym is) (inl (blank_stands l.1 blank refl)) in
+        let one : OneOf (Stands l.1 (joined no_names (bound body))) found = (c.cover defs pat).covers l.1 no_names l.4 start in
+        subst (λ z. OneOf (RowStands (bound body) z) after) l.2
+        (subst (OneOf (RowStands (bound body) (l.0 ++ l.1 ∷ []))) (sym made) (product-one (bound body) l.0 found l.1 before (r.cover defs l.0 pat l.3) one));
+  };
 }
 
-pub AreRows-step : (body : IlExp) (vs : List Value) (i : ℕ) (v : Value) (blank : Env) (starts found : List Env) (before after : List (List Env)) → i < length vs → v ≡ get_or vs i v → blank.entries ≡ []
-    → starts ≡ blank ∷ [] → AreCandidates body v starts found → after ≡ product before found → AreRows body (take i vs) before → AreRows body (take (i + 1) vs) after
-AreRows-step body vs i v blank starts found before after h is empty start c made r =
-    subst (λ z. AreRows body z after) (sym (take_more vs i v h ∙ ap (λ z. take i vs ++ z ∷ []) (sym is)))
-    (AreRows-more body (take i vs) v blank starts found before after empty start c made r)
+-- there are none where there are no rows of the elements before
+pub RowsLead-none : (body : IlExp) (v : Value) (before after : List (List Env)) → before ≡ [] → RowsLead body v before after
+RowsLead-none body v before after none = record {
+  lead = λ vs r. record {
+    cover = λ defs us pat f.
+        let l = FitEach-last defs body vs v us f in
+        absurd (subst (OneOf (RowStands (bound body) l.0)) none (r.cover defs l.0 pat l.3));
+  };
+}
+
+pub AreRows-step : (body : IlExp) (vs : List Value) (i : ℕ) (v : Value) (before after : List (List Env)) → i < length vs → v ≡ get_or vs i v → RowsLead body v before after → AreRows body (take i vs) before
+    → AreRows body (take (i + 1) vs) after
+AreRows-step body vs i v before after h is l r =
+    subst (λ z. AreRows body z after) (sym (take_more vs i v h ∙ ap (λ z. take i vs ++ z ∷ []) (sym is))) (l.lead (take i vs) r)
 
 pub AreRows-end : (body : IlExp) (vs : List Value) (i : ℕ) (rows : List (List Env)) → length vs ≤ i → AreRows body (take i vs) rows → AreRows body vs rows
 AreRows-end body vs i rows h r = subst (λ z. AreRows body z rows) (take_all i vs h) r
@@ -97,16 +108,16 @@ AreRows-end body vs i rows h r = subst (λ z. AreRows body z rows) (take_all i v
 -- ---- rows by what is gathered
 
 -- the elements of a list are those that it is gathered of
-pub AreRowsOf-list : (how : Iteration) (body : IlExp) (v : Value) (vs ws : List Value) (rows : List (List Env)) → kind_of how ≡ kind.List → v ≡ value.List vs → ws ≡ vs → AreRows body ws rows → AreRowsOf how body v rows
-AreRowsOf-list how body v vs ws rows is at same r = record {
+pub AreRowsOf-list : (k : Kind) (body : IlExp) (v : Value) (vs ws : List Value) (rows : List (List Env)) → k ≡ kind.List → v ≡ value.List vs → ws ≡ vs → AreRows body ws rows → AreRowsOf k body v rows
+AreRowsOf-list k body v vs ws rows is at same r = record {
   cover = λ defs us xs pat sized f made.
       let whole : value.List xs ≡ v = limited_is (value.List xs) v (subst (λ z. gathered_as z xs ≡ Val v) is made) in
       let values : xs ≡ ws = List-parts xs vs (whole ∙ at) ∙ sym same in
       r.cover defs us pat (subst (λ z. FitEach defs body z us) values f);
 }
 
-pub AreRowsOf-no_list : (how : Iteration) (body : IlExp) (v : Value) (rows : List (List Env)) → kind_of how ≡ kind.List → ((vs : List Value) → v ≡ value.List vs → ⊥) → AreRowsOf how body v rows
-AreRowsOf-no_list how body v rows is not = record {
+pub AreRowsOf-no_list : (k : Kind) (body : IlExp) (v : Value) (rows : List (List Env)) → k ≡ kind.List → ((vs : List Value) → v ≡ value.List vs → ⊥) → AreRowsOf k body v rows
+AreRowsOf-no_list k body v rows is not = record {
   cover = λ defs us xs pat sized f made. absurd (not xs (sym (limited_is (value.List xs) v (subst (λ z. gathered_as z xs ≡ Val v) is made))));
 }
 
@@ -123,9 +134,9 @@ abbrev part_at : Value-F Value → List Value
 part_at (Value-F.Opt part) = option_list part
 part_at _ = []
 
-pub AreRowsOf-option : (how : Iteration) (body : IlExp) (v : Value) (part : Option Value) (rows : List (List Env)) → kind_of how ≡ kind.Opt → v ≡ value.Opt part → AreRows body (option_list part) rows
-    → AreRowsOf how body v rows
-AreRowsOf-option how body v part rows is at r = record {
+pub AreRowsOf-option : (k : Kind) (body : IlExp) (v : Value) (part : Option Value) (rows : List (List Env)) → k ≡ kind.Opt → v ≡ value.Opt part → AreRows body (option_list part) rows
+    → AreRowsOf k body v rows
+AreRowsOf-option k body v part rows is at r = record {
   cover = λ defs us xs pat sized f made.
       go defs us xs pat (subst (λ z. IsSized z us) is sized) f (gathers xs v (subst (λ z. gathered_as z xs ≡ Val v) is made));
 }
@@ -143,14 +154,32 @@ AreRowsOf-option how body v part rows is at r = record {
     go defs us [] pat few f e = r.cover defs us pat (subst (λ z. FitEach defs body z us) (parts None e) f)
     go defs us (x ∷ xs) pat few f e = r.cover defs us pat (subst (λ z. FitEach defs body z us) (parts (Some x) e) (one defs us x xs few f))
 
-pub AreRowsOf-no_option : (how : Iteration) (body : IlExp) (v : Value) (rows : List (List Env)) → kind_of how ≡ kind.Opt → ((part : Option Value) → v ≡ value.Opt part → ⊥) → AreRowsOf how body v rows
-AreRowsOf-no_option how body v rows is not = record {
+pub AreRowsOf-no_option : (k : Kind) (body : IlExp) (v : Value) (rows : List (List Env)) → k ≡ kind.Opt → ((part : Option Value) → v ≡ value.Opt part → ⊥) → AreRowsOf k body v rows
+AreRowsOf-no_option k body v rows is not = record {
   cover = λ defs us xs pat sized f made. absurd (no_part xs (gathers xs v (subst (λ z. gathered_as z xs ≡ Val v) is made)));
 }
   where
     no_part : (xs : List Value) → Gathers xs v → ⊥
     no_part [] e = not None (sym e)
     no_part (x ∷ xs) e = not (Some x) (sym e)
+
+-- the rows of an option that has a part or none
+pub option_rows-some : (body : IlExp) (o : Option Value) (v : Value) (vs : List Value) (rows : List (List Env)) → o ≡ Some v → vs ≡ v ∷ [] → AreRows body vs rows → AreRows body (option_list o) rows
+option_rows-some body o v vs rows is one r = subst (λ z. AreRows body z rows) (one ∙ sym (ap option_list is)) r
+
+pub option_rows-none : (body : IlExp) (o : Option Value) (rows : List (List Env)) → o ≡ None → rows ≡ [] ∷ [] → AreRows body (option_list o) rows
+option_rows-none body o rows is made = AreRows-none body (option_list o) rows (ap option_list is) made
+
+-- an environment behind each row is the product with it alone
+pub product-pushed : (rows : List (List Env)) (e : Env) → map (λ (row : List Env). row ++ e ∷ []) rows ≡ product rows (e ∷ [])
+product-pushed [] e = refl
+product-pushed (row ∷ rows) e = ap (λ z. (row ++ e ∷ []) ∷ z) (product-pushed rows e)
+
+-- so it is with the only one of several
+pub product-only : (rows longer : List (List Env)) (envs : List Env) (e : Env) → length envs ≡ 1 → e ≡ get_or envs 0 e → longer ≡ map (λ (row : List Env). row ++ e ∷ []) rows → longer ≡ product rows envs
+product-only rows longer [] e one is made = absurd (omega (arith, one))
+product-only rows longer (f ∷ []) e one is made = made ∙ (product-pushed rows e ∙ ap (λ z. product rows (z ∷ [])) is)
+product-only rows longer (f ∷ g ∷ envs) e one is made = absurd (omega (arith, one))
 
 -- ---- columns
 

@@ -41,6 +41,9 @@ OneOf-fewer s a b es h = OneOf-map (Stands s a) (Stands s b) (λ e. Stands-fewer
 pub Covers-none : (F : Env → Type 0) (n : Names) (es : List Env) → ((s : Env) → F s → ⊥) → Covers F n es []
 Covers-none F n es h = record { covers = λ s b f a. absurd (h s f) }
 
+pub Covers-never : (F : Env → Type 0) (n : Names) (es fs : List Env) → ((s : Env) → F s → ⊥) → Covers F n es fs
+Covers-never F n es fs h = record { covers = λ s b f a. absurd (h s f) }
+
 pub Covers-nothing : (F : Env → Type 0) (n : Names) (fs : List Env) → Covers F n [] fs
 Covers-nothing F n fs = record { covers = λ s b f a. absurd a }
 

@@ -1,4 +1,6 @@
--- When a pattern has a value, what covers all that give it that value, and rows of environments.
+-- When a pattern has a value, what covers all that give it that value, rows of environments, and
+-- places in the elements of a list.
 pub mod Fitting
 pub mod Covering
 pub mod Rows
+pub mod Places

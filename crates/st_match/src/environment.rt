@@ -5,7 +5,7 @@ ghost use Rattle.std.specs.Option.{option_copied};
 ghost use Rattle.st_semantics.specs.Names.{has_name};
 ghost use Rattle.st_semantics.specs.Environments.{value_in};
 ghost use Rattle.st_match.specs.inner.Fitting.{HasValue};
-ghost use Rattle.st_match.specs.inner.Covering.{Covers};
+ghost use Rattle.st_match.specs.inner.Covering.{Covers, blank};
 
 use st_il::{Env, Value, copy_env, copy_fields, copy_value, same_value};
 use st_num::{Name, NoMemory, Row};
@@ -28,6 +28,14 @@ pub(crate) fn single<T: Drop>(alloc: Global, element: T) -> Result<Row<T>, NoMem
     let mut row = Row::new(alloc);
     row.push(element)?;
     Ok(row)
+}
+
+/// One environment, which has no variables.
+pub(crate) fn no_variables(alloc: Global) -> Result<Row<Env>, NoMemory>
+    ensures { IfOk result (λ envs. envs ≡ blank ∷ []) }
+{
+    let entries = Row::new(alloc);
+    single(alloc, Env { entries })
 }
 
 /// The same environments again.
@@ -88,7 +96,7 @@ fn bind(alloc: Global, name: &Name, value: &Value, env: &Env) -> Result<Row<Env>
 }
 
 /// These environments with this value of the variable, those that have no other value of it.
-pub fn bind_each(
+pub(crate) fn bind_each(
     alloc: Global,
     name: &Name,
     value: &Value,

@@ -1,16 +1,15 @@
 //! Matching: the environments under which a pattern has a value.
 //!
-//! So far two steps of it stand. A variable is bound to a value in each of several environments;
-//! and so are the variables of an iteration to their columns, by rows that hold an environment for
-//! each element. What comes out covers every environment that extends one of the given ones and
-//! gives the variables those values.
+//! So far the candidates of a pattern are found: environments that cover all that extend some given
+//! ones and give the pattern a value. They need not give it that value.
 //!
-//! Read `specs/inner/Covering.antt` first, then `specs/inner/Rows.antt`. What is to be found is
-//! told by `Matching.antt` of `st_semantics`.
+//! Read `covering` first, with `specs/inner/Covering.antt`, `Rows.antt` and `Places.antt`. What is
+//! to be found is told by `Matching.antt` of `st_semantics`.
 #![tactic(auto)]
 
+mod covering;
 mod environment;
+mod place;
 mod rows;
 
-pub use environment::bind_each;
-pub use rows::{product, with_rows_each};
+pub use covering::candidates;

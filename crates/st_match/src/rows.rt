@@ -1,6 +1,6 @@
 //! Rows of environments, one for each element of an iteration, and the columns of their variables.
 
-ghost use Rattle.std.specs.Prelude.{◌≡◌, ◌++◌, IfOk, [], ◌∷◌};
+ghost use Rattle.std.specs.Prelude.{◌≡◌, ◌++◌, IfOk, OnOk, [], ◌∷◌, map};
 ghost use Rattle.st_semantics.specs.Names.{has_name};
 ghost use Rattle.st_semantics.specs.Iterations.{kind_of, index_of};
 ghost use Rattle.st_match.specs.inner.Fitting.{column_value};
@@ -13,7 +13,7 @@ use st_num::{Boxed, Kind, Name, NoMemory, Row};
 use std::alloc::Global;
 
 /// What the iteration goes over.
-fn kind_of(how: &Iteration) -> Kind
+pub(crate) fn kind_of(how: &Iteration) -> Kind
     ensures { result ≡ kind_of how.now }
 {
     match how {
@@ -54,8 +54,8 @@ fn with_each(alloc: Global, row: &[Env], envs: &[Env]) -> Result<Row<Row<Env>>, 
     Ok(rows)
 }
 
-/// Each row with each of these environments behind it.
-pub fn product(alloc: Global, rows: &[Row<Env>], envs: &[Env]) -> Result<Row<Row<Env>>, NoMemory>
+/// Each row with each of these environments behind it, in new memory.
+fn copied_product(alloc: Global, rows: &[Row<Env>], envs: &[Env]) -> Result<Row<Row<Env>>, NoMemory>
     ensures { IfOk result (λ longer. longer ≡ product rows.now envs.now) }
 {
     let mut longer = Row::new(alloc);
@@ -64,6 +64,50 @@ pub fn product(alloc: Global, rows: &[Row<Env>], envs: &[Env]) -> Result<Row<Row
         longer = append(longer, more)?;
     }
     Ok(longer)
+}
+
+/// Puts the environment behind each row.
+fn push_on_each(alloc: Global, env: &Env, rows: &mut [Row<Env>]) -> Result<(), NoMemory>
+    ensures { OnOk result (rows.new ≡ map (λ row. row ++ env.now ∷ []) rows.old) }
+{
+    for i in 0..rows.len() {
+        let last = copy_env(alloc, env)?;
+        rows[i].push(last)?;
+    }
+    Ok(())
+}
+
+/// Each row with the environment behind it, where the rows stand.
+fn pushed(alloc: Global, rows: Row<Row<Env>>, env: &Env) -> Result<Row<Row<Env>>, NoMemory>
+    ensures { IfOk result (λ longer. longer ≡ map (λ row. row ++ env.now ∷ []) rows) }
+{
+    let mut longer = rows.into_vec();
+    push_on_each(alloc, env, &mut longer)?;
+    Ok(Row::from_vec(longer))
+}
+
+/// Each row with each of these environments behind it. Where there is one environment, no row is
+/// copied.
+pub(crate) fn product(
+    alloc: Global,
+    rows: Row<Row<Env>>,
+    envs: &[Env],
+) -> Result<Row<Row<Env>>, NoMemory>
+    ensures { IfOk result (λ longer. longer ≡ product rows envs.now) }
+{
+    if envs.len() != 1 {
+        return copied_product(alloc, rows.as_slice(), envs);
+    }
+    let longer = pushed(alloc, rows, &envs[0])?;
+    Ok(longer)
+}
+
+/// One row, of no environments.
+pub(crate) fn no_elements(alloc: Global) -> Result<Row<Row<Env>>, NoMemory>
+    ensures { IfOk result (λ rows. rows ≡ [] ∷ []) }
+{
+    let row = Row::new(alloc);
+    single(alloc, row)
 }
 
 /// The values of a variable in the environments of a row, where it has one in each.
@@ -175,7 +219,7 @@ fn with_rows(
 }
 
 /// The environments that the columns of these rows give to each of several.
-pub fn with_rows_each(
+pub(crate) fn with_rows_each(
     alloc: Global,
     how: &Iteration,
     names: &[Name],

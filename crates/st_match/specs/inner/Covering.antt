@@ -1,8 +1,9 @@
 -- Lists of environments that cover all that give a pattern a value.
-use Rattle.std.specs.Prelude.{◌≡◌, ◌⊎◌, ℕ, Bool, true, ◌||◌, List, [], ◌∷◌, map, Some}
+use Rattle.std.specs.Prelude.{◌≡◌, ◌≤◌, ◌⊎◌, ℕ, Bool, true, ◌||◌, List, [], ◌∷◌, map, length, Some}
 use Rattle.std.specs.List.{list_all}
 use Rattle.st_il.specs.declared.definition.SyntaxDef.{SyntaxDef}
 use Rattle.st_il.specs.declared.expression.IlExp.{IlExp}
+use Rattle.st_il.specs.declared.expression.IlExp.TheVariants as exp
 use Rattle.st_il.specs.declared.expression.Iteration.{Iteration}
 use Rattle.st_il.specs.declared.expression.ListItem.{ListItem}
 use Rattle.st_il.specs.declared.value.Env.{Env}
@@ -33,6 +34,10 @@ abbrev pub all_bound : List IlExp → Names
 all_bound ps = has_name (flattened (map binds ps))
 
 -- ---- what covers
+
+-- the environment without variables
+abbrev pub blank : Env
+blank = record { entries = [] }
 
 -- a variable has a value
 abbrev pub IsKnown : Env → Name → Type 0
@@ -91,3 +96,17 @@ pub record AreCandidatesOfCount (how : Iteration) (n : ℕ) (before after : List
     : Type 0 where
   pub cover : (defs : List SyntaxDef) → list_all is_pattern (count_of how) ≡ true
       → Covers (FitCount defs how n) (all_bound (count_of how)) before after
+
+-- they are candidates of each of these patterns, which differ in a type alone
+pub record AreCandidatesOfEach {T : Type 0} (patterns : T → IlExp) (v : Value)
+    (before after : List Env) : Type 0 where
+  pub are : (type : T) → AreCandidates (patterns type) v before after
+
+-- they cover all that cut the elements anywhere
+pub record AreCandidatesOfCuts (p q : IlExp) (vs : List Value) (before after : List Env)
+    : Type 0 where
+  pub are : (n : ℕ) → n ≤ length vs → AreCandidatesOfCut p q vs n before after
+
+-- a fact of the two sides, where the pattern is `++` of them
+abbrev pub IfCat : IlExp → (IlExp → IlExp → Type 0) → Type 0
+IfCat p P = (left right : IlExp) → p ≡ exp.Cat left right → P left right

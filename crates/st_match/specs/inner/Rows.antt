@@ -10,7 +10,7 @@ use Rattle.st_il.specs.declared.value.Value.{Value}
 use Rattle.st_semantics.specs.declared.outcome.Outcome.TheVariants.{Val}
 use Rattle.st_semantics.specs.Names.{Name, has_name}
 use Rattle.st_semantics.specs.Environments.{value_in}
-use Rattle.st_semantics.specs.Iterations.{kind_of, index_of, gathered}
+use Rattle.st_semantics.specs.Iterations.{kind_of, index_of, gathered_as}
 use Rattle.st_semantics.specs.Patterns.{is_pattern}
 use Rattle.st_match.specs.inner.Fitting.{FitEach, HasValue, column_value}
 use Rattle.st_match.specs.inner.Covering.{Names, bound, joined, Stands, OneOf, Covers}
@@ -44,12 +44,16 @@ abbrev pub IsSized : Kind → List Env → Type 0
 IsSized kind.List us = Unit {0}
 IsSized kind.Opt us = length us ≤ 1
 
--- rows that cover all environments of which the iteration gathers this value
-pub record AreRowsOf (how : Iteration) (body : IlExp) (v : Value) (rows : List (List Env))
+-- rows that cover all environments of which this value is gathered
+pub record AreRowsOf (k : Kind) (body : IlExp) (v : Value) (rows : List (List Env))
     : Type 0 where
   pub cover : (defs : List SyntaxDef) (us : List Env) (vs : List Value) → is_pattern body ≡ true
-      → IsSized (kind_of how) us → FitEach defs body vs us → gathered how vs ≡ Val v
+      → IsSized k us → FitEach defs body vs us → gathered_as k vs ≡ Val v
       → OneOf (RowStands (bound body) us) rows
+
+-- rows that cover all environments of some elements lead to rows that do so of one element more
+pub record RowsLead (body : IlExp) (v : Value) (before after : List (List Env)) : Type 0 where
+  pub lead : (vs : List Value) → AreRows body vs before → AreRows body (vs ++ v ∷ []) after
 
 -- ---- columns
 
