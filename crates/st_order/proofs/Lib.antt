@@ -1,3 +1,15 @@
 pub mod Holes
+pub mod Following
+pub mod VariableParts
+pub mod BoundParts
+pub mod HoleParts
 pub mod NamesIn
+pub mod SameNames
+pub mod SameClass
+pub mod ClassParts
+pub mod SameSelection
+pub mod NumberedParts
+pub mod LeastName
+pub mod RuleParts
+pub mod EndingParts
 pub mod MaskAmong

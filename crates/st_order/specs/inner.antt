@@ -1,3 +1,8 @@
--- What is kept of names and directions.
+-- What is kept of names, directions and premises.
 pub mod Index
 pub mod Masks
+pub mod Parts
+pub mod HolesOf
+pub mod Classes
+pub mod Selections
+pub mod Endings

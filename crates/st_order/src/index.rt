@@ -2,11 +2,12 @@
 
 ghost use Rattle.std.specs.Prelude.{◌≡◌, ◌∷◌, ◌++◌, [], List, ℕ, Some, bytes_eq, if◌then◌else◌, IfOk, OnOk};
 ghost use Rattle.std.specs.Option.{option_copied};
-ghost use Rattle.st_semantics.specs.Names.{has_name, all_known};
+ghost use Rattle.std.specs.List.{list_any};
+ghost use Rattle.st_semantics.specs.Names.{has_name, all_known, among, without};
 ghost use Rattle.st_order.specs.inner.Index.{at, names_in, SameNames};
 
 use indexmap::{IndexMap, IndexSet};
-use st_num::{Name, NoMemory};
+use st_num::{Name, NoMemory, Row};
 use std::alloc::Global;
 
 /// Puts something under a name.
@@ -75,4 +76,94 @@ pub(crate) fn are_known(known: &IndexSet<&Name>, names: &[&Name]) -> bool
         }
     }
     true
+}
+
+/// Whether all of them are known by one or the other.
+#[tactic(auto, using(crate::proofs::NamesIn::has_name_append))]
+pub(crate) fn are_known_by_both(
+    known: &IndexSet<&Name>,
+    more: &IndexSet<&Name>,
+    names: &[&Name],
+) -> bool
+    ensures { result
+        ≡ all_known (names_in known.now.keys ++ names_in more.now.keys) (names_in names.now) }
+{
+    for name in names {
+        if !has(known, *name) && !has(more, *name) {
+            return false;
+        }
+    }
+    true
+}
+
+/// Whether one of them is known.
+pub(crate) fn is_any_known(known: &IndexSet<&Name>, names: &[&Name]) -> bool
+    ensures { result ≡ list_any (has_name (names_in known.now.keys)) (names_in names.now) }
+{
+    for name in names {
+        if has(known, *name) {
+            return true;
+        }
+    }
+    false
+}
+
+/// Adds a name if it is known.
+fn push_if_known<'a>(
+    known: &IndexSet<&Name>,
+    name: &'a Name,
+    names: &mut Row<&'a Name>,
+) -> Result<(), NoMemory>
+    ensures { OnOk result (names_in names.new
+        ≡ names_in names.old ++ among (names_in known.now.keys) (name.now ∷ [])) }
+{
+    if has(known, name) {
+        names.push(name)?;
+    }
+    Ok(())
+}
+
+/// Adds those of some names that are known.
+pub(crate) fn push_known<'a>(
+    known: &IndexSet<&Name>,
+    list: &[&'a Name],
+    names: &mut Row<&'a Name>,
+) -> Result<(), NoMemory>
+    ensures { OnOk result (names_in names.new
+        ≡ names_in names.old ++ among (names_in known.now.keys) (names_in list.now)) }
+{
+    for name in list {
+        push_if_known(known, *name, names)?;
+    }
+    Ok(())
+}
+
+/// Adds a name if it is unknown.
+fn push_if_unknown<'a>(
+    known: &IndexSet<&Name>,
+    name: &'a Name,
+    names: &mut Row<&'a Name>,
+) -> Result<(), NoMemory>
+    ensures { OnOk result (names_in names.new
+        ≡ names_in names.old ++ without (names_in known.now.keys) (name.now ∷ [])) }
+{
+    if !has(known, name) {
+        names.push(name)?;
+    }
+    Ok(())
+}
+
+/// Adds those of some names that are unknown.
+pub(crate) fn push_unknown<'a>(
+    known: &IndexSet<&Name>,
+    list: &[&'a Name],
+    names: &mut Row<&'a Name>,
+) -> Result<(), NoMemory>
+    ensures { OnOk result (names_in names.new
+        ≡ names_in names.old ++ without (names_in known.now.keys) (names_in list.now)) }
+{
+    for name in list {
+        push_if_unknown(known, *name, names)?;
+    }
+    Ok(())
 }

@@ -1,14 +1,27 @@
-//! In which direction relations are run: which of their holes are inputs.
+//! How relations are run: which of their holes are inputs, and in which order the premises of a
+//! rule are run.
 //!
 //! What comes in is an internal language. What goes out is, for each hole of a relation, whether
-//! it is an input.
+//! it is an input; and for each rule the order of its premises, or what is in the way.
 //!
-//! Read `direction` first, with `Directions.antt` of `st_semantics`, which says what a direction
-//! is. Directions are told in `docs/semantics.md`.
+//! Read `direction` and `order_rule` first, with `Directions.antt`, `Executable.antt` and
+//! `OrderOf.antt` of `st_semantics`, which say what a direction, a premise that can be run and an
+//! order are, and `specs/Answers.antt`.
 #![tactic(auto)]
 
+mod bindings;
+mod class;
+mod directed;
 mod directions;
+mod fault;
 mod index;
+mod least;
 mod masks;
+mod order;
+mod rules;
+mod selection;
+mod variables;
 
 pub use directions::direction;
+pub use fault::OrderFault;
+pub use order::{has_rule, order_rule};

@@ -2,7 +2,8 @@
 
 ghost use Rattle.std.specs.Prelude.{◌≡◌, ℕ, List, IfOk, OnOk};
 ghost use Rattle.st_order.specs.inner.Index.{at};
-ghost use Rattle.st_order.specs.inner.Masks.{AreMasks, behind, mask_in};
+ghost use Rattle.st_semantics.specs.Directions.{mask};
+ghost use Rattle.st_order.specs.inner.Masks.{AreMasks, AreDirections, behind};
 
 use crate::directions::mask_or_all;
 use crate::index::{at, put};
@@ -47,11 +48,28 @@ pub(crate) fn masks(alloc: Global, il: &Il) -> Result<Masks, NoMemory>
     Ok(masks)
 }
 
-/// Which holes of the relation of a name are inputs; none of one that is not declared.
-pub(crate) fn mask_under<'m>(masks: &'m Masks, name: &'m Name) -> &'m [bool]
-    ensures { result.now ≡ mask_in masks.now.entries name.now }
+/// An internal language, and for each of its relations which of its holes are inputs.
+#[derive(Drop)]
+pub(crate) struct Directions<'a> {
+    pub(crate) il: &'a Il,
+    masks: Masks<'a>,
+}
+
+/// The directions of the relations of an internal language.
+pub(crate) fn directions_of(alloc: Global, il: &Il) -> Result<Directions, NoMemory>
+    ensures { IfOk result (λ directions.
+        AreDirections directions × (directions.il.now ≡ il.now)) }
 {
-    match at(masks, name) {
+    let masks = masks(alloc, il)?;
+    Ok(Directions { il, masks })
+}
+
+/// Which holes of the relation of a name are inputs; none of one that is not declared.
+pub(crate) fn mask_under<'m>(directions: &'m Directions, name: &'m Name) -> &'m [bool]
+    requires { AreDirections directions.now }
+    ensures { result.now ≡ mask directions.now.il.now name.now }
+{
+    match at(&directions.masks, name) {
         Some(mask) => mask.as_slice(),
         None => &[],
     }
