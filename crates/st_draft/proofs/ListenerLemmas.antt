@@ -1,6 +1,6 @@
 -- What is kept behind each token, where the draft behind it is known.
 use Rattle.std.proofs.Common.{◌≡◌, ℕ, List, [], length, true, false, Option, Some, None, Result, Ok, Err, IfOk, IfSome, option_map, option_and_then, refl, sym, ap, subst, ◌∙◌}
-use Rattle.st_scan.specs.declared.token.Token.{Token}
+use Rattle.st_num.specs.declared.token.Token.{Token}
 use Rattle.st_parse_automaton.specs.declared.position.TokenClass.{TokenClass}
 use Rattle.st_parse_automaton.specs.declared.position.Slot.{Slot}
 use Rattle.st_parse_automaton.specs.declared.position.Position.{Position}

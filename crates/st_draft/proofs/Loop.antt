@@ -1,7 +1,7 @@
 -- The loop over the tokens.
 use Rattle.std.proofs.Common.{◌≡◌, ℕ, ◌+◌, ◌≤◌, ◌<◌, Bool, List, [], ◌∷◌, ◌++◌, length, map, reverse, take, get_or, Option, Some, None, option_map, option_and_then, refl, sym, ap, subst, ◌∙◌, arith}
 use Rattle.std.proofs.lemmas.List.{take_all, take_more, get_or-map, length-map}
-use Rattle.st_scan.specs.declared.token.Token.{Token}
+use Rattle.st_num.specs.declared.token.Token.{Token}
 use Rattle.st_grammar.specs.Terminals as terminals
 use Rattle.st_grammar.specs.Terminals.{terminal}
 use Rattle.st_grammar.specs.Trees.{Tree}

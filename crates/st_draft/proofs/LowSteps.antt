@@ -1,6 +1,6 @@
 -- Only memory fails behind each token, where the draft behind it is low.
 use Rattle.std.proofs.Common.{◌≡◌, ℕ, List, length, true, Some, None, Result, IfErr, option_and_then, sym, ap, subst, ◌∙◌}
-use Rattle.st_scan.specs.declared.token.Token.{Token}
+use Rattle.st_num.specs.declared.token.Token.{Token}
 use Rattle.st_parse_automaton.specs.declared.position.TokenClass.{TokenClass}
 use Rattle.st_parse_automaton.specs.declared.position.Slot.{Slot}
 use Rattle.st_parse_automaton.specs.declared.position.Position.{Position}

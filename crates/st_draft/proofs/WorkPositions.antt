@@ -1,7 +1,7 @@
 -- What a token between parts makes of the work, and each token.
 use Rattle.std.proofs.Common.{◌≡◌, List, [], ◌∷◌, length, Bool, true, false, Option, Some, None, option_and_then, option_map, if◌then◌else◌, refl, sym, ap, subst, ◌∙◌}
 use Rattle.st_num.specs.declared.mark.Mark.{Mark}
-use Rattle.st_scan.specs.declared.token.Token.{Token}
+use Rattle.st_num.specs.declared.token.Token.{Token}
 use Rattle.st_grammar.specs.Terminals.{Terminal}
 use Rattle.st_grammar.specs.Trees.{Tree, none, more}
 use Rattle.st_grammar.specs.Reading as part

@@ -8,9 +8,8 @@ ghost use Rattle.st_draft.specs.inner.Drafts as spec;
 use crate::draft::{Draft, Head};
 use itoa::Buffer;
 use st_el::Hint;
-use st_num::{Mark, NoMemory, Row};
+use st_num::{Mark, NoMemory, Row, Token, TokenKind};
 use st_parse_builder::copy_name;
-use st_scan::{Token, TokenKind};
 use std::alloc::Global;
 
 /// Adds a piece of a name, a dash, or a dot with a piece.

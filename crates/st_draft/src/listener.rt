@@ -9,10 +9,9 @@ ghost use Rattle.st_draft.specs.inner.Parts.{word_of, redrafted, refilled};
 
 use crate::change::{Change, DefinitionEnd};
 use crate::parts::PartToken;
-use st_num::Row;
+use st_num::{Row, Token};
 use st_parse_automaton::{Shape, Slot};
 use st_parse_builder::{Action, BuildFault};
-use st_scan::Token;
 use std::alloc::Global;
 
 /// What is kept of the definitions that are read: their trees, or what the limits ask of them.

@@ -5,9 +5,8 @@ ghost use Rattle.st_draft.specs.inner.Drafts as spec;
 
 use crate::draft::{Draft, Members};
 use st_el::{Notation, Typ};
-use st_num::{NoMemory, Row};
+use st_num::{NoMemory, Row, Token};
 use st_parse_builder::copy_name;
-use st_scan::Token;
 use std::alloc::Global;
 
 /// No fields and no alternatives.

@@ -8,10 +8,9 @@ ghost use Rattle.st_draft.specs.inner.Drafts as spec;
 
 use crate::draft::{Draft, Premises};
 use st_el::{Count, Exp, Prem, PremNode};
-use st_num::{Boxed, Mark, Name, NoMemory, Row, Span};
+use st_num::{Boxed, Mark, Name, NoMemory, Row, Span, Token};
 use st_parse_automaton::Shape;
 use st_parse_builder::{copy_name, mark_count};
-use st_scan::Token;
 use std::alloc::Global;
 
 /// Whole premises alone.

@@ -20,12 +20,11 @@ use crate::change::ending_of;
 use crate::listener::Listener;
 use crate::parts::{Parts, no_parts};
 use crate::step::{end_part, read_token};
-use st_num::Row;
+use st_num::{Row, Token};
 use st_parse_automaton::{
     At, NameIndex, Position, Progress, filled, may_end, part_end, token_class,
 };
 use st_parse_builder::BuildFault;
-use st_scan::Token;
 use std::alloc::Global;
 
 /// The tokens end, and the open definition with them.

@@ -15,14 +15,13 @@ use crate::change::{Change, change_of};
 use crate::listener::Listener;
 use crate::parts::{PartToken, Parts};
 use st_grammar::Bracket;
-use st_num::{NoMemory, Row};
+use st_num::{NoMemory, Row, Token};
 use st_parse_actions::emit;
 use st_parse_automaton::{
     Expected, Position, Progress, Reading, Slot, TokenClass, filled, part_end, part_step,
     position_step, slot_sort,
 };
 use st_parse_builder::{Action, BuildFault, TokenRef};
-use st_scan::Token;
 use std::alloc::Global;
 
 /// The arguments are given up where they are built.

@@ -4,7 +4,7 @@ use Rattle.std.specs.Fmt.{decimal}
 use Rattle.st_num.specs.Signs.{spelling, level, prefix_level, left_of, right_of, closing}
 use Rattle.st_num.specs.declared.mark.Mark.{Mark}
 use Rattle.st_num.specs.declared.mark.Mark.TheVariants.{Caret, Tilde, Minus}
-use Rattle.st_scan.specs.Spelling.{quoted}
+use Rattle.st_num.specs.Texts.{quoted}
 use Rattle.st_el.specs.declared.expression.Exp.{Exp, Exp-F, fold-Exp}
 use Rattle.st_el.specs.declared.expression.Node.{Node, out-Node, map-Node, fold-Node}
 use Rattle.st_el.specs.declared.expression.Count.{Count, fold-Count}

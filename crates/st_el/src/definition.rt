@@ -1,8 +1,7 @@
 //! Definitions and premises as they are written.
 
 use crate::{Count, Exp, Notation, Typ};
-use st_num::{Boxed, Name, Row, Span};
-use st_scan::Token;
+use st_num::{Boxed, Name, Row, Span, Token};
 
 /// A definition with the place of its first word and its hints.
 #[derive(Drop)]

@@ -9,8 +9,7 @@ ghost use Rattle.st_el.specs.declared.definition.DefNode.TheVariants.{Rule, Clau
 use crate::plain_expression::{plain_exp, plain_exps};
 use crate::plain_parts::{plain_notation, plain_notations, plain_prems, plain_typ, plain_typs};
 use crate::{Body, Def, DefNode, Exp, Hint, Notation, Prem, Typ};
-use st_num::{Name, NoMemory, Row, Span};
-use st_scan::Token;
+use st_num::{Name, NoMemory, Row, Span, Token};
 use std::alloc::Global;
 
 /// The tokens of a hint, wherever they stood.

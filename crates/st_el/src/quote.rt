@@ -1,7 +1,7 @@
 //! Texts in their quotes.
 
 ghost use Rattle.std.specs.Prelude.{◌≡◌, ◌++◌, OnOk, flat_map};
-ghost use Rattle.st_scan.specs.Spelling.{escaped, quoted};
+ghost use Rattle.st_num.specs.Texts.{escaped, quoted};
 
 use st_num::NoMemory;
 

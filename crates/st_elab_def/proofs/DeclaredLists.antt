@@ -1,7 +1,7 @@
 -- What definitions declare, one behind another.
 use Rattle.std.proofs.Common.{◌≡◌, refl, sym, ap, ◌∙◌, ℕ, ◌<◌, true, if◌then◌else◌, List, [], ◌∷◌, ◌++◌, map, filter, length, take, drop, get_or, ◌+◌}
 use Rattle.std.proofs.lemmas.List.Elements.{filter-append}
-use Rattle.st_scan.specs.declared.token.Token.{Token}
+use Rattle.st_num.specs.declared.token.Token.{Token}
 use Rattle.st_el.specs.Erasure.{is_mode}
 use Rattle.st_el.specs.declared.definition.Hint.{Hint}
 use Rattle.st_il.specs.declared.definition.IlDef.{IlDef}

@@ -4,7 +4,7 @@ use Rattle.std.specs.Prelude.{Some, None, if◌then◌else◌, not, ◌&&◌, Re
 use Rattle.std.specs.List.{AllByRecursion, list_any}
 use Rattle.st_num.specs.declared.span.Span.{Span}
 use Rattle.st_num.specs.Names.{same_name}
-use Rattle.st_scan.specs.declared.token.Token.{Token}
+use Rattle.st_num.specs.declared.token.Token.{Token}
 use Rattle.st_el.specs.declared.ty.Typ.{Typ, out-Typ, roll-Typ, roll-out-Typ, the_lemmas}
 use Rattle.st_el.specs.declared.ty.TypNode.{TypNode, roll-TypNode, roll-out-TypNode}
 use Rattle.st_el.specs.declared.ty.TypNode.TheOpen.{TypNode-F}

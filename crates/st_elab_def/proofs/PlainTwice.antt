@@ -1,7 +1,7 @@
 -- What is plain stays as it is when it is made plain again: types, notations and hints.
 use Rattle.std.proofs.Common.{rules, ◌≡◌, refl, sym, ◌∙◌, ap, subst, List, [], ◌∷◌, map}
 use Rattle.std.specs.List.{AllByRecursion}
-use Rattle.st_scan.specs.declared.token.Token.{Token}
+use Rattle.st_num.specs.declared.token.Token.{Token}
 use Rattle.st_el.specs.declared.definition.Hint.{Hint}
 use Rattle.st_el.specs.declared.ty.Typ.{Typ, Typ-F, roll-Typ, the_lemmas}
 use Rattle.st_el.specs.declared.ty.TypNode.{TypNode, roll-TypNode}

@@ -1,8 +1,8 @@
 -- The declarations of a source, in the internal language.
 use Rattle.std.specs.Prelude.{ℕ, List, [], ◌∷◌, map, filter, flat_map, codes, Bool, false}
-use Rattle.st_scan.specs.declared.token.Token.{Token}
-use Rattle.st_scan.specs.declared.token.TokenKind.{TokenKind}
-use Rattle.st_scan.specs.declared.token.TokenKind.TheVariants.{Low}
+use Rattle.st_num.specs.declared.token.Token.{Token}
+use Rattle.st_num.specs.declared.token.TokenKind.{TokenKind}
+use Rattle.st_num.specs.declared.token.TokenKind.TheVariants.{Low}
 use Rattle.st_num.specs.Names.{same_name}
 use Rattle.st_el.specs.Erasure.{is_mode}
 use Rattle.st_el.specs.declared.ty.Typ.{Typ, out-Typ}

@@ -11,8 +11,7 @@ ghost use Rattle.st_elab_def.specs.inner.Gathering.{body_with};
 use st_el::{Body, Hint, NotNode, Notation, Typ, TypNode, is_mode};
 use st_elab_sig::{Signature, elaborate_typ, elaborate_typs, signature_of};
 use st_il::{Alternative, FunDef, IlDef, RelationDef, SyntaxBody, Ty};
-use st_num::{Name, NoMemory, Row};
-use st_scan::{Token, TokenKind};
+use st_num::{Name, NoMemory, Row, Token, TokenKind};
 use std::alloc::Global;
 
 /// Adds what a type is as an alternative by itself.

@@ -1,7 +1,7 @@
 -- The words of a mode, and hints that say one.
 use Rattle.std.proofs.Common.{◌≡◌, refl, sym, ◌∙◌, ap, subst, codes, true, false, ℕ, zero, suc, ◌<◌, List, [], ◌∷◌, length, map, filter, get_or, Bool, Option, Ok, Err, arith}
 use Rattle.std.specs.Prelude.{◌≢◌, None, Some, Result, IfOk, IfSome}
-use Rattle.st_scan.specs.declared.token.Token.{Token}
+use Rattle.st_num.specs.declared.token.Token.{Token}
 use Rattle.st_el.specs.declared.definition.Hint.{Hint}
 use Rattle.st_el.specs.Erasure.{is_mode}
 use Rattle.st_elab_sig.specs.Modes.{mode_kind, AreModeWords, IsMode, none, one}

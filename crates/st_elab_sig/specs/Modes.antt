@@ -1,8 +1,8 @@
 -- Modes: which holes of a relation are inputs, by its hints.
 use Rattle.std.specs.Prelude.{◌≡◌, ℕ, ◌≤◌, Bool, List, [], ◌∷◌, length, map, filter, codes, if◌then◌else◌}
-use Rattle.st_scan.specs.declared.token.Token.{Token}
-use Rattle.st_scan.specs.declared.token.TokenKind.{TokenKind}
-use Rattle.st_scan.specs.declared.token.TokenKind.TheVariants.{Low}
+use Rattle.st_num.specs.declared.token.Token.{Token}
+use Rattle.st_num.specs.declared.token.TokenKind.{TokenKind}
+use Rattle.st_num.specs.declared.token.TokenKind.TheVariants.{Low}
 use Rattle.st_el.specs.declared.definition.Hint.{Hint}
 use Rattle.st_el.specs.Erasure.{is_mode}
 

@@ -5,8 +5,7 @@ ghost use Rattle.st_el.specs.Erasure.{is_mode};
 ghost use Rattle.st_elab_sig.specs.Modes.{mode_kind, AreModeWords, IsMode};
 
 use st_el::{Hint, is_mode};
-use st_num::{NoMemory, Row};
-use st_scan::{Token, TokenKind};
+use st_num::{NoMemory, Row, Token, TokenKind};
 use std::alloc::Global;
 
 /// The first hint named `mode`, and the hints behind it.

@@ -11,9 +11,9 @@ use crate::rows::{
 use st_el::Exp;
 use st_elab_exp::{Decls, ExpFault, Scope, check_exp, infer_exp};
 use st_il::{IlExp, Ty};
-use st_num::{Name, NoMemory, Row, RuleId};
+use st_num::{Name, NoMemory, Row, RuleId, Token};
 use st_parse_exp::parse_exp;
-use st_scan::{Token, scan};
+use st_scan::scan;
 use st_text::print_natural;
 use st_types::TypeTable;
 use std::alloc::Global;

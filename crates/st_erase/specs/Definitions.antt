@@ -1,7 +1,7 @@
 -- Erasure of definitions: the source that a specification of the internal language was written as.
 use Rattle.std.specs.Prelude.{ℕ, List, [], ◌∷◌, map, codes, Bool, false, if◌then◌else◌, Option, Some, None}
-use Rattle.st_scan.specs.declared.token.Token.{Token}
-use Rattle.st_scan.specs.declared.token.TokenKind.TheVariants.{Low}
+use Rattle.st_num.specs.declared.token.Token.{Token}
+use Rattle.st_num.specs.declared.token.TokenKind.TheVariants.{Low}
 use Rattle.st_el.specs.Plain.{nowhere}
 use Rattle.st_num.specs.Names.{same_name}
 use Rattle.st_el.specs.declared.expression.Exp.{Exp}

@@ -10,8 +10,7 @@ use crate::form::unplaced;
 use crate::notation::{erased_ty, erased_tys, notation, notation_of, typ};
 use st_el::{Body, Def, DefNode, Exp, Hint, Node, NotNode, Notation, Prem, PremNode, Typ, TypNode};
 use st_il::{Alternative, ClauseDef, IlDef, IlExp, IlPrem, RuleDef, SyntaxBody, Ty};
-use st_num::{Boxed, Name, NoMemory, Row, Span};
-use st_scan::{Token, TokenKind};
+use st_num::{Boxed, Name, NoMemory, Row, Span, Token, TokenKind};
 use std::alloc::Global;
 
 /// The fields of a record, with their types as they are written.

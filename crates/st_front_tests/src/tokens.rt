@@ -1,8 +1,8 @@
 //! Tokens and faults of small files, with places counted by hand.
 
 use crate::told::{Call, expect_all, told};
-use st_num::{Mark, NoMemory};
-use st_scan::{TokenKind, scan};
+use st_num::{Mark, NoMemory, TokenKind};
+use st_scan::scan;
 use std::alloc::Global;
 use std::test::Fail;
 

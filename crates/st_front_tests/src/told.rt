@@ -2,12 +2,12 @@
 
 use crate::places::tell_places;
 use st_el::{Body, Def, DefNode, Exp, Hint, plain, print_el};
-use st_num::{Name, NoMemory, Num, Row, RuleId, Span, print_number};
+use st_num::{Name, NoMemory, Num, Row, RuleId, Span, Token, TokenKind, print_number};
 use st_parse::parse;
 use st_parse_automaton::first_refused;
 use st_parse_exp::parse_exp;
 use st_parse_faults::{SyntaxFault, first_fault};
-use st_scan::{LexFault, Token, TokenKind, scan};
+use st_scan::{LexFault, scan};
 use std::alloc::{AllocError, Global};
 use std::process::Abort;
 use std::test::Fail;

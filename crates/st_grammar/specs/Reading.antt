@@ -2,7 +2,7 @@
 -- of it.
 use Rattle.std.specs.Prelude.{ℕ, List, [], ◌∷◌, ◌++◌, ◌&&◌, Option, Some, None, option_and_then, nat_le, if◌then◌else◌}
 use Rattle.st_num.specs.declared.mark.Mark.{Mark}
-use Rattle.st_scan.specs.declared.token.Token.{Token}
+use Rattle.st_num.specs.declared.token.Token.{Token}
 use Rattle.st_grammar.specs.declared.sort.Style.{Style}
 use Rattle.st_grammar.specs.declared.sort.Style.TheVariants.{Parts as parts, Fields as fields, Ends as ends}
 use Rattle.st_grammar.specs.declared.sort.Leaf.TheVariants.{Low as low, Function as function}

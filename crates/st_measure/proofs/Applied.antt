@@ -1,7 +1,7 @@
 -- What each action does to the pieces and their variables.
 use Rattle.std.proofs.Common.{◌≡◌, ℕ, List, [], ◌∷◌, ◌++◌, length, flat_map, Bool, true, false, Option, Some, None, option_and_then, ◌&&◌, refl, sym, ap, ◌∙◌, append-nil, append_assoc, if◌then◌else◌}
 use Rattle.st_num.specs.declared.span.Span.{Span}
-use Rattle.st_scan.specs.declared.token.Token.{Token}
+use Rattle.st_num.specs.declared.token.Token.{Token}
 use Rattle.st_grammar.specs.declared.sort.Leaf.{Leaf}
 use Rattle.st_grammar.specs.declared.sort.Leaf.TheVariants as leaf
 use Rattle.st_el.specs.declared.expression.Exp.{Exp, out-Exp, roll-out-Exp}

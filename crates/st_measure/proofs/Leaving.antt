@@ -1,7 +1,7 @@
 -- What is taken off, and put back without a name.
 use Rattle.std.proofs.Common.{◌≡◌, ℕ, ◌+◌, List, [], ◌∷◌, ◌++◌, take, drop, reverse, refl, sym, ap, ◌∙◌, zero, suc, add-one, Option, Some, None, MatchOption}
 use Rattle.std.proofs.lemmas.List.{reverse-append, map-append, take-map, drop-map}
-use Rattle.st_scan.specs.declared.token.Token.{Token}
+use Rattle.st_num.specs.declared.token.Token.{Token}
 use Rattle.st_measure.specs.Variables.{Occurrence, occurrence, occurrences, without}
 
 -- ---- taken off

@@ -1,7 +1,7 @@
 //! The variables of a rule or clause, counted.
 
 ghost use Rattle.std.specs.Prelude.{◌≡◌, [], ◌∷◌, ◌++◌, List, IfOk};
-ghost use Rattle.st_scan.specs.declared.token.Token.{Token};
+ghost use Rattle.st_num.specs.declared.token.Token.{Token};
 ghost use Rattle.st_measure.specs.Variables.{Occurrence, occurrence, occurrences};
 ghost use Rattle.st_measure.specs.Limits.{place_past};
 ghost use Rattle.st_measure.specs.inner.Counting.{Knows, Counted};

@@ -1,7 +1,7 @@
 //! The variables that occur in a part, told from the actions that build it.
 
 ghost use Rattle.std.specs.Prelude.{◌≡◌, [], ◌∷◌, ◌++◌, take, drop, reverse, length, List, Some, None, OnOk, IfOk, IfErr};
-ghost use Rattle.st_scan.specs.declared.token.Token.{Token};
+ghost use Rattle.st_num.specs.declared.token.Token.{Token};
 ghost use Rattle.st_el.specs.declared.expression.Exp.{Exp};
 ghost use Rattle.st_parse_builder.specs.declared.piece.Piece.TheVariants.{Done};
 ghost use Rattle.st_parse_builder.specs.Names.{name_of};

@@ -6,7 +6,7 @@ pub mod Names
 pub mod Signs
 -- how each reserved word is written
 pub mod Words
--- a text is UTF-8 with no control characters but line feeds and tabs
+-- a text is UTF-8 with no control characters but line feeds and tabs, and is written in quotes so
 pub mod Texts
 -- a number is a whole number below 2 ^ 128 in size, and an operation is exact or has no value
 pub mod Number

@@ -1,4 +1,5 @@
-//! The base values of the language: numbers, names, places in a text, signs, rule ids and lists.
+//! The base values of the language: numbers, names, places in a text, signs, tokens, rule ids and
+//! lists.
 //!
 //! The one idea: what contracts speak of is plain data.
 //! A `Row` is seen as the list of its elements, a `Boxed` as its value and a `Num` as a whole
@@ -21,6 +22,7 @@ mod numeral;
 mod row;
 mod rule;
 mod span;
+mod token;
 mod word;
 
 pub use arithmetic::{add, compare, div_exact, mul, pow, rem, sub};
@@ -38,4 +40,5 @@ pub use numeral::{NumFault, print_number, read_number};
 pub use row::{Name, Row};
 pub use rule::RuleId;
 pub use span::Span;
+pub use token::{Token, TokenKind};
 pub use word::Word;

@@ -3,10 +3,10 @@
 use st_el::Def;
 use st_elab_def::elaborate;
 use st_il::Il;
-use st_num::{Name, NoMemory};
+use st_num::{Name, NoMemory, Token};
 use st_order::{OrderFault, has_rule, order_rule};
 use st_parse::parse;
-use st_scan::{Token, scan};
+use st_scan::scan;
 use std::alloc::Global;
 use std::process::Abort;
 use std::test::Fail;

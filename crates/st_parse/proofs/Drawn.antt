@@ -1,6 +1,6 @@
 -- What is measured of a draft behind changes and parts.
 use Rattle.std.proofs.Common.{◌≡◌, ℕ, List, [], Bool, Option, Some, option_map, refl, sym, subst, ◌⊎◌, inl, inr}
-use Rattle.st_scan.specs.declared.token.Token.{Token}
+use Rattle.st_num.specs.declared.token.Token.{Token}
 use Rattle.st_parse_automaton.specs.declared.part_automaton.Shape.{Shape}
 use Rattle.st_parse_automaton.specs.declared.position.TokenClass.{TokenClass}
 use Rattle.st_parse_automaton.specs.declared.position.CaseAt.{CaseAt}

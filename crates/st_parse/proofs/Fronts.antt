@@ -5,7 +5,7 @@ use Rattle.st_num.specs.declared.limit.TheConstants.{HIGHEST_TREE}
 use Rattle.st_num.specs.declared.memory.NoMemory.{NoMemory}
 use Rattle.st_num.specs.declared.span.Span.{Span}
 use Rattle.st_num.specs.declared.rule.RuleId.TheVariants.{S2, S3}
-use Rattle.st_scan.specs.declared.token.Token.{Token}
+use Rattle.st_num.specs.declared.token.Token.{Token}
 use Rattle.st_grammar.specs.Terminals.{terminal, declared_names}
 use Rattle.st_grammar.specs.Definitions.{Defs}
 use Rattle.st_grammar.specs.Positions.{State, reading, start, finish}

@@ -2,7 +2,7 @@
 use Rattle.std.proofs.Common.{◌≡◌, ℕ, ◌+◌, ◌<◌, ◌≤◌, ◌⊎◌, inl, inr, List, length, Bool, true, false, nat_lt, Option, Some, None, refl, sym, ap, ◌∙◌, arith}
 use Rattle.st_num.specs.declared.span.Span.{Span}
 use Rattle.st_num.specs.declared.rule.RuleId.{RuleId}
-use Rattle.st_scan.specs.declared.token.Token.{Token}
+use Rattle.st_num.specs.declared.token.Token.{Token}
 use Rattle.st_parse_faults.specs.Judging.{passed, broken}
 use Rattle.st_parse_faults.specs.Faults.{Seen, verdict}
 use Rattle.st_parse_faults.specs.Place.{place_at}

@@ -3,7 +3,7 @@
 ghost use Rattle.std.specs.Prelude.{◌≡◌, List};
 ghost use Rattle.st_num.specs.declared.rule.RuleId.{RuleId};
 ghost use Rattle.st_num.specs.declared.span.Span.{Span};
-ghost use Rattle.st_scan.specs.declared.token.Token.{Token};
+ghost use Rattle.st_num.specs.declared.token.Token.{Token};
 ghost use Rattle.st_el.specs.declared.definition.Def.{Def};
 ghost use Rattle.st_parse.specs.Source.{IsSource, FaultAt};
 

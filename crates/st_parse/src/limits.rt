@@ -10,11 +10,10 @@ ghost use Rattle.st_parse.specs.inner.Found.{Judged, Found, Surveyed, end_of};
 
 use crate::survey::begun_survey;
 use st_draft::read_source;
-use st_num::{NoMemory, Span};
+use st_num::{NoMemory, Span, Token};
 use st_parse_automaton::NameIndex;
 use st_parse_builder::BuildFault;
 use st_parse_faults::TokenFault;
-use st_scan::Token;
 use std::alloc::Global;
 
 /// The first variable that is past the limit, and the first definition that is too high.

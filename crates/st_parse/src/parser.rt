@@ -17,11 +17,10 @@ ghost use Rattle.st_parse.specs.Source.{Answers, IsParsed};
 use crate::limits::limit_faults;
 use st_draft::{Draft, begun, read_source};
 use st_el::Def;
-use st_num::{NoMemory, Row, RuleId, Span};
+use st_num::{NoMemory, Row, RuleId, Span, Token};
 use st_parse_automaton::{NameIndex, declared_names};
 use st_parse_builder::BuildFault;
 use st_parse_faults::{SyntaxFault, first_fault, place_at};
-use st_scan::Token;
 use std::alloc::Global;
 
 /// Builds the definitions of source.

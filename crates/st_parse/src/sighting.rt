@@ -24,10 +24,9 @@ use crate::measure::{Measure, add_exp, measured, measured_all, raised, without_v
 use crate::survey::{MemberHeights, PremiseMeasures, SideMeasures, Survey, no_premises, surveyed};
 use st_draft::{Change, DefinitionEnd, Listener, PartToken, index_in};
 use st_measure::{leave_out, measure_notation, measure_typ};
-use st_num::{NoMemory, Row, Span};
+use st_num::{NoMemory, Row, Span, Token};
 use st_parse_automaton::{Shape, Slot};
 use st_parse_builder::{Action, BuildFault};
-use st_scan::Token;
 use std::alloc::Global;
 
 /// The open definition ends so, and a next one begins there.

@@ -1,6 +1,6 @@
 -- What begins hangs on the innermost frame alone, where that is no arguments.
 use Rattle.std.proofs.Common.{◌≡◌, List, [], ◌∷◌, ◌++◌, true, false, refl, sym, ap, append_assoc, ◌∙◌}
-use Rattle.st_scan.specs.declared.token.Token.{Token}
+use Rattle.st_num.specs.declared.token.Token.{Token}
 use Rattle.st_grammar.specs.declared.sort.Bracket.TheVariants as bracket
 use Rattle.st_grammar.specs.declared.sort.Closing.TheVariants as closings
 use Rattle.st_grammar.specs.declared.sort.Sort.{Sort}

@@ -1,7 +1,7 @@
 -- What is emitted where parts and brackets end, by the part automaton and of the trees.
 use Rattle.std.proofs.Common.{◌≡◌, ℕ, List, [], ◌∷◌, ◌++◌, Bool, true, false, Some, None, nat_le, if◌then◌else◌, refl, ap, ◌∙◌}
 use Rattle.st_num.specs.declared.mark.Mark.{Mark}
-use Rattle.st_scan.specs.declared.token.Token.{Token}
+use Rattle.st_num.specs.declared.token.Token.{Token}
 use Rattle.st_grammar.specs.declared.sort.Leaf.{Leaf}
 use Rattle.st_grammar.specs.declared.sort.Bracket.TheVariants as bracket
 use Rattle.st_grammar.specs.Terminals.{Terminal}

@@ -6,10 +6,9 @@ ghost use Rattle.st_parse_actions.specs.inner.Emits as emits;
 use crate::ends::settle;
 use crate::frame::innermost;
 use st_grammar::{Bracket, Closing, Sort};
-use st_num::{NoMemory, Row};
+use st_num::{NoMemory, Row, Token};
 use st_parse_automaton::{Frame, PartKind, Shape};
 use st_parse_builder::{Action, TokenRef};
-use st_scan::Token;
 
 /// Arguments that are none end.
 fn end_no_arguments<'a>(frames: &[Frame], actions: &mut Row<Action<'a>>) -> Result<(), NoMemory>

@@ -8,10 +8,9 @@ use crate::begins::begin;
 use crate::ends::{close, end_part, lower};
 use crate::frame::{innermost, joins, may_iterate, pull};
 use st_grammar::{Bracket, Leaf, Sort, is_caret, is_change};
-use st_num::{Mark, NoMemory, Row};
+use st_num::{Mark, NoMemory, Row, Token};
 use st_parse_automaton::{Expected, Filling, Frame, Lead, Part, PartKind, Reading, Shape, follows};
 use st_parse_builder::{Action, TokenRef};
-use st_scan::Token;
 
 /// One more element of a sequence ends.
 fn extend<'a>(frames: &[Frame], actions: &mut Row<Action<'a>>) -> Result<(), NoMemory>

@@ -1,7 +1,7 @@
 -- There is at most one refused token, and none in source.
 use Rattle.std.proofs.Common.{◌≡◌, ℕ, ◌+◌, ◌≤◌, ◌<◌, inl, inr, List, [], ◌++◌, length, take, drop, map, Bool, true, false, nat_lt, refl, sym, ap, subst, ◌∙◌, append-nil, arith}
 use Rattle.std.proofs.lemmas.List.{take-append-drop, take-append-le, take-map, drop-map, take_all, length-map, length-take}
-use Rattle.st_scan.specs.declared.token.Token.{Token}
+use Rattle.st_num.specs.declared.token.Token.{Token}
 use Rattle.st_grammar.specs.Terminals.{terminal, declared_names}
 use Rattle.st_grammar.specs.Definitions.{ViableDefs}
 use Rattle.st_grammar.proofs.PositionEnds.{before_tokens}

@@ -1,7 +1,7 @@
 -- The loop over the tokens.
 use Rattle.std.proofs.Common.{◌≡◌, ℕ, ◌+◌, ◌≤◌, ◌<◌, inl, inr, List, [], ◌∷◌, ◌++◌, length, take, drop, map, get_or, Bool, true, false, Option, Some, None, option_map, option_and_then, refl, sym, ap, subst, ◌∙◌, arith, append_assoc, if◌then◌else◌}
 use Rattle.std.proofs.lemmas.List.{take_more, take_all, drop_more, get_or-map, length-map}
-use Rattle.st_scan.specs.declared.token.Token.{Token}
+use Rattle.st_num.specs.declared.token.Token.{Token}
 use Rattle.st_grammar.specs.Terminals as terminals
 use Rattle.st_grammar.specs.Terminals.{terminal, declared_names, names_behind, name_in, is_var}
 use Rattle.st_grammar.specs.Definitions.{Defs, ParseDefs, ViableDefs}

@@ -1,7 +1,7 @@
 -- Which tokens are definitions, and the first token that no definitions have behind those before
 -- it.
 use Rattle.std.specs.Prelude.{◌≡◌, ℕ, ◌+◌, ◌<◌, ◌⊎◌, List, length, take, map}
-use Rattle.st_scan.specs.declared.token.Token.{Token}
+use Rattle.st_num.specs.declared.token.Token.{Token}
 use Rattle.st_grammar.specs.Terminals.{Terminal, terminal, declared_names}
 use Rattle.st_grammar.specs.Definitions.{Defs, ParseDefs, ViableDefs}
 

@@ -6,7 +6,7 @@ ghost use Rattle.st_grammar.specs.Terminals.{drop_primes, is_variable, is_var, n
 ghost use Rattle.st_scan.specs.Bytes as bytes;
 ghost use Rattle.st_scan.specs.Spelling as spelling;
 ghost use Rattle.std.specs.Prelude as Prelude;
-ghost use Rattle.st_scan.specs.declared.token.TokenKind.TheVariants as kind;
+ghost use Rattle.st_num.specs.declared.token.TokenKind.TheVariants as kind;
 ghost use Rattle.st_grammar.specs.declared.keyword.Keyword.TheVariants as key;
 ghost use Rattle.st_grammar.specs.Definitions as definitions;
 ghost use Rattle.st_parse_automaton.specs.inner.Shapes as shapes;
@@ -16,8 +16,7 @@ use crate::name_index::NameIndex;
 use crate::part_automaton::Shape;
 use crate::position::TokenClass;
 use st_grammar::{Bracket, Closing, Keyword, Leaf};
-use st_num::{Mark, Name, NoMemory, Row};
-use st_scan::{Token, TokenKind, Word};
+use st_num::{Mark, Name, NoMemory, Row, Token, TokenKind, Word};
 use std::alloc::Global;
 
 /// The name without its trailing primes.

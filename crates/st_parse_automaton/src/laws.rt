@@ -1,7 +1,7 @@
 //! The law of refused tokens: at most one is refused, and none of definitions.
 
 ghost use Rattle.std.specs.Prelude.{◌≡◌, List, ℕ};
-ghost use Rattle.st_scan.specs.declared.token.Token.{Token};
+ghost use Rattle.st_num.specs.declared.token.Token.{Token};
 ghost use Rattle.st_parse_automaton.specs.Refusal.{AreDefinitions, RefusedAt};
 
 /// Tokens have at most one refused position, and source has none.

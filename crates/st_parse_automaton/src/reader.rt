@@ -8,8 +8,7 @@ use crate::class::{declared_names, token_class};
 use crate::definition_automaton::{advance, may_end};
 use crate::name_index::NameIndex;
 use crate::position::{At, Position, Progress};
-use st_num::{NoMemory, Row};
-use st_scan::Token;
+use st_num::{NoMemory, Row, Token};
 use std::alloc::Global;
 
 /// The number of the first token that no definitions have behind those before it, or of all tokens

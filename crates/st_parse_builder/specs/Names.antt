@@ -2,8 +2,8 @@
 use Rattle.std.specs.Prelude.{ℕ, List, [], true, false}
 use Rattle.st_num.specs.Words.{word_spelling}
 use Rattle.st_num.specs.declared.word.Word.TheVariants as word
-use Rattle.st_scan.specs.declared.token.TokenKind.{TokenKind}
-use Rattle.st_scan.specs.declared.token.TokenKind.TheVariants as kind
+use Rattle.st_num.specs.declared.token.TokenKind.{TokenKind}
+use Rattle.st_num.specs.declared.token.TokenKind.TheVariants as kind
 use Rattle.st_grammar.specs.declared.sort.Leaf.{Leaf}
 use Rattle.st_grammar.specs.declared.sort.Leaf.TheVariants.{Low as low, Basic as basic, Variable as variable, Atom as atom, Number as number, Literal as literal, Function as function}
 use Rattle.st_el.specs.declared.expression.Node.{Node}

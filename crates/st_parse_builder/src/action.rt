@@ -3,8 +3,7 @@
 ghost use Rattle.std.specs.Prelude.{◌≡◌};
 
 use st_grammar::{Bracket, Leaf};
-use st_num::{Mark, Span};
-use st_scan::Token;
+use st_num::{Mark, Span, Token};
 use std::marker::Model;
 
 /// A token that is kept elsewhere.
@@ -14,7 +13,7 @@ pub struct TokenRef<'a> {
 }
 
 impl<'a> Model for TokenRef<'a> {
-    ghost use Rattle.st_scan.specs.declared.token.Token.{Token};
+    ghost use Rattle.st_num.specs.declared.token.Token.{Token};
 
     ghost Value = { Token };
 

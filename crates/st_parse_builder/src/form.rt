@@ -10,8 +10,7 @@ ghost use Rattle.st_parse_builder.specs.Meaning as meaning;
 use crate::leaf::{copy_name, name_of};
 use st_el::{Count, Exp, Node, Seg};
 use st_grammar::Bracket;
-use st_num::{Boxed, Mark, Name, NoMemory, Row, Span};
-use st_scan::Token;
+use st_num::{Boxed, Mark, Name, NoMemory, Row, Span, Token};
 use std::alloc::Global;
 
 /// Two sides with a sign between them.

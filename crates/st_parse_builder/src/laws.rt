@@ -1,7 +1,7 @@
 //! Laws of the meaning of a source.
 
 ghost use Rattle.std.specs.Prelude.{◌≡◌, ◌∷◌, ◌++◌, ℕ, List, Some};
-ghost use Rattle.st_scan.specs.declared.token.Token.{Token};
+ghost use Rattle.st_num.specs.declared.token.Token.{Token};
 ghost use Rattle.st_el.specs.declared.definition.Def.{Def};
 ghost use Rattle.st_grammar.specs.declared.sort.Sort.{Sort};
 ghost use Rattle.st_grammar.specs.declared.sort.Sort.TheVariants.{Typ as typ, Notation as notation};

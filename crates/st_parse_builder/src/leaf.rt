@@ -5,8 +5,7 @@ ghost use Rattle.st_parse_builder.specs.Names.{name_of, number_of, literal_node,
 
 use st_el::Node;
 use st_grammar::Leaf;
-use st_num::{Name, NoMemory, Row};
-use st_scan::{TokenKind, Word};
+use st_num::{Name, NoMemory, Row, TokenKind, Word};
 use std::alloc::Global;
 
 /// The name that a token spells, without a dot or a dollar sign before it.

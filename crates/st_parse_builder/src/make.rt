@@ -17,8 +17,7 @@ use crate::leaf::leaf_node;
 use crate::pieces::{pop_done, pop_label, pop_pair, pop_place};
 use st_el::{Count, Exp, Node};
 use st_grammar::{Bracket, Leaf};
-use st_num::{Boxed, Mark, NoMemory, Row};
-use st_scan::Token;
+use st_num::{Boxed, Mark, NoMemory, Row, Token};
 use std::alloc::Global;
 
 /// The larger of two heights.

@@ -10,8 +10,7 @@ use crate::form::with_dot;
 use crate::leaf::{copy_name, name_of};
 use st_el::{NotNode, Notation, Typ, TypNode};
 use st_grammar::Bracket;
-use st_num::{Boxed, Mark, NoMemory, Row, Span};
-use st_scan::{Token, TokenKind, Word};
+use st_num::{Boxed, Mark, NoMemory, Row, Span, Token, TokenKind, Word};
 use std::alloc::Global;
 
 /// What a type of one token is.

@@ -19,8 +19,7 @@ use crate::notation_form::{
 use crate::notation_pieces::{take, take_notation, take_place, take_type, take_whole};
 use st_el::{NotNode, Notation, Typ, TypNode};
 use st_grammar::{Bracket, Leaf};
-use st_num::{Mark, NoMemory, Row, Span};
-use st_scan::Token;
+use st_num::{Mark, NoMemory, Row, Span, Token};
 use std::alloc::Global;
 
 /// The height of what has parts of this height.

@@ -14,8 +14,7 @@ use crate::leaf::copy_name;
 use crate::make::{above, done, higher};
 use crate::pieces::{pop_done, pop_pair, pop_path, pop_whole};
 use st_el::{Exp, Node, Seg};
-use st_num::{Boxed, Mark, NoMemory, Row};
-use st_scan::Token;
+use st_num::{Boxed, Mark, NoMemory, Row, Token};
 use std::alloc::Global;
 
 /// Makes the part on top a step of the path below.

@@ -1,7 +1,7 @@
 -- The loop that builds expressions.
 use Rattle.std.proofs.Common.{◌≡◌, ℕ, ◌+◌, ◌≤◌, ◌<◌, inl, inr, List, [], ◌∷◌, ◌++◌, length, take, get_or, map, Bool, true, false, ◌&&◌, Option, Some, None, Result, Ok, Err, refl, sym, ap, subst, ◌∙◌, arith}
 use Rattle.st_num.specs.declared.rule.RuleId.{RuleId}
-use Rattle.st_scan.specs.declared.token.Token.{Token}
+use Rattle.st_num.specs.declared.token.Token.{Token}
 use Rattle.st_grammar.specs.declared.sort.Bracket.{Bracket}
 use Rattle.st_grammar.specs.declared.sort.Sort.TheVariants.{Expression as expression}
 use Rattle.st_grammar.specs.Terminals.{terminal}

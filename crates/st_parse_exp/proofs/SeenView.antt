@@ -6,9 +6,9 @@ use Rattle.st_num.specs.declared.rule.RuleId.TheVariants.{S1, S4}
 use Rattle.st_num.specs.declared.span.Span.{Span}
 use Rattle.st_scan.specs.Spelling.{has_lower}
 use Rattle.st_num.specs.declared.word.Word.TheVariants as word
-use Rattle.st_scan.specs.declared.token.Token.{Token}
-use Rattle.st_scan.specs.declared.token.TokenKind.{TokenKind}
-use Rattle.st_scan.specs.declared.token.TokenKind.TheVariants as kind
+use Rattle.st_num.specs.declared.token.Token.{Token}
+use Rattle.st_num.specs.declared.token.TokenKind.{TokenKind}
+use Rattle.st_num.specs.declared.token.TokenKind.TheVariants as kind
 use Rattle.st_grammar.specs.declared.sort.Leaf.TheVariants.{Variable as variable, Atom as atom}
 use Rattle.st_grammar.specs.declared.sort.Bracket.{Bracket}
 use Rattle.st_grammar.specs.declared.sort.Bracket.TheVariants.{Dollar as dollar}

@@ -3,7 +3,7 @@ use Rattle.std.specs.Prelude.{ℕ, ◌+◌, List, Bool, ◌&&◌, Option, Some, 
 use Rattle.std.specs.List.{list_any}
 use Rattle.st_num.specs.declared.rule.RuleId.{RuleId}
 use Rattle.st_num.specs.declared.rule.RuleId.TheVariants.{S1, S4}
-use Rattle.st_scan.specs.declared.token.Token.{Token}
+use Rattle.st_num.specs.declared.token.Token.{Token}
 use Rattle.st_grammar.specs.Terminals.{Terminal, terminal}
 use Rattle.st_grammar.specs.Trees.{Trees}
 use Rattle.st_parse_faults.specs.declared.before.Before.TheVariants as before

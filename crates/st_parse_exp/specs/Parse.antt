@@ -4,7 +4,7 @@ use Rattle.st_num.specs.declared.limit.TheConstants.{HIGHEST_TREE}
 use Rattle.st_num.specs.declared.span.Span.{Span}
 use Rattle.st_num.specs.declared.rule.RuleId.{RuleId}
 use Rattle.st_num.specs.declared.rule.RuleId.TheVariants.{S2}
-use Rattle.st_scan.specs.declared.token.Token.{Token}
+use Rattle.st_num.specs.declared.token.Token.{Token}
 use Rattle.st_grammar.specs.Trees.{Trees}
 use Rattle.st_el.specs.declared.expression.Exp.{Exp}
 use Rattle.st_parse_builder.specs.Meaning.{meanings}

@@ -19,11 +19,10 @@ ghost use Rattle.st_parse_exp.specs.inner.Drafts.{IsBuilt, AreBuilt, with_exp, d
 use crate::judge::separates;
 use st_el::Exp;
 use st_grammar::Sort;
-use st_num::{Mark, NoMemory, Row};
+use st_num::{Mark, NoMemory, Row, Token};
 use st_parse_actions::{emit, finish};
 use st_parse_automaton::{Progress, Reading, TokenClass};
 use st_parse_builder::{Action, BuildFault, build};
-use st_scan::Token;
 use std::alloc::Global;
 use std::mem::replace;
 

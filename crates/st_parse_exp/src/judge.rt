@@ -8,10 +8,9 @@ ghost use Rattle.st_parse_automaton.specs.declared.position.Slot.TheVariants as 
 ghost use Rattle.st_parse_automaton.specs.inner.Readings.{progress_of};
 ghost use Rattle.st_parse_exp.specs.inner.Seen as spec;
 
-use st_num::{Mark, NoMemory, Row, RuleId};
+use st_num::{Mark, NoMemory, Row, RuleId, TokenKind};
 use st_parse_automaton::{Expected, Progress, Reading, Shape, Slot, TokenClass, may_end};
 use st_parse_faults::{Seen, TokenVerdict, judge_token, nothing_counted};
-use st_scan::TokenKind;
 use std::alloc::Global;
 
 /// Where an expression begins: it is read as the conclusion of a rule.

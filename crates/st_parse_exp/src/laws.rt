@@ -3,7 +3,7 @@
 ghost use Rattle.std.specs.Prelude.{◌≡◌, ◌≤◌, List, ℕ, Some, None};
 ghost use Rattle.st_num.specs.declared.rule.RuleId.{RuleId};
 ghost use Rattle.st_num.specs.declared.rule.RuleId.TheVariants.{S1, S4};
-ghost use Rattle.st_scan.specs.declared.token.Token.{Token};
+ghost use Rattle.st_num.specs.declared.token.Token.{Token};
 ghost use Rattle.st_el.specs.declared.expression.Exp.{Exp};
 ghost use Rattle.st_grammar.specs.Terminals.{Terminal};
 ghost use Rattle.st_grammar.specs.Trees.{Trees};

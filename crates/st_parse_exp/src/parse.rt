@@ -21,11 +21,10 @@ ghost use Rattle.st_parse_exp.specs.Parse.{AreWhole, Answers};
 use crate::draft::{end, take};
 use crate::judge::{begin, judge_next};
 use st_el::Exp;
-use st_num::{Name, Row, RuleId};
+use st_num::{Name, Row, RuleId, Token};
 use st_parse_automaton::{NameIndex, Progress, may_end, token_class};
 use st_parse_builder::Action;
 use st_parse_faults::{SyntaxFault, TokenVerdict, place_at};
-use st_scan::Token;
 use std::alloc::Global;
 
 /// The fault at the token of this number.

@@ -1,7 +1,7 @@
 -- Whether a dot goes on with the name of an atom is told from what the parser keeps of a part.
 use Rattle.std.proofs.Common.{◌≡◌, Bool, true, false, ◌&&◌, refl, ap, ◌∙◌}
 use Rattle.st_num.specs.declared.mark.Mark.{Mark}
-use Rattle.st_scan.specs.declared.token.Token.{Token}
+use Rattle.st_num.specs.declared.token.Token.{Token}
 use Rattle.st_grammar.specs.declared.sort.Leaf.TheVariants as leaves
 use Rattle.st_grammar.specs.declared.sort.Bracket.TheVariants as bracket_of
 use Rattle.st_grammar.specs.declared.sort.Sort.{Sort}

@@ -1,7 +1,7 @@
 -- What the parser keeps gives the verdict of the reading.
 use Rattle.std.proofs.Common.{◌≡◌, ℕ, ◌+◌, List, [], ◌∷◌, Bool, true, false, ◌&&◌, Option, Some, None, option_map, nat_lt, refl, sym, ap, ◌∙◌, arith}
 use Rattle.st_num.specs.declared.limit.TheConstants.{HIGHEST_TREE}
-use Rattle.st_scan.specs.declared.token.Token.{Token}
+use Rattle.st_num.specs.declared.token.Token.{Token}
 use Rattle.st_grammar.specs.declared.sort.Sort.{Sort}
 use Rattle.st_grammar.specs.declared.sort.Sort.TheVariants as sort
 use Rattle.st_grammar.specs.declared.sort.Closing.TheVariants as closings

@@ -1,7 +1,7 @@
 -- Each token of a part changes the tallies as the parser counts them.
 use Rattle.std.proofs.Common.{◌≡◌, ℕ, ◌+◌, List, [], ◌∷◌, Bool, true, false, ◌&&◌, Option, Some, None, nat_le, if◌then◌else◌, refl, sym, ap, ◌∙◌, arith}
 use Rattle.st_num.specs.declared.mark.Mark.{Mark}
-use Rattle.st_scan.specs.declared.token.Token.{Token}
+use Rattle.st_num.specs.declared.token.Token.{Token}
 use Rattle.st_grammar.specs.declared.sort.Bracket.{Bracket}
 use Rattle.st_grammar.specs.declared.sort.Bracket.TheVariants as bracket_of
 use Rattle.st_grammar.specs.declared.sort.Closing.TheVariants as closings

@@ -3,7 +3,7 @@ use Rattle.std.specs.Prelude.{ℕ, ◌+◌, List, Bool, ◌&&◌, ◌||◌, Opti
 use Rattle.st_num.specs.declared.rule.RuleId.{RuleId}
 use Rattle.st_num.specs.declared.rule.RuleId.TheVariants.{S1, S4}
 use Rattle.st_num.specs.declared.limit.TheConstants.{HIGHEST_TREE}
-use Rattle.st_scan.specs.declared.token.Token.{Token}
+use Rattle.st_num.specs.declared.token.Token.{Token}
 use Rattle.st_grammar.specs.Terminals.{Terminal, terminal, declared_names}
 use Rattle.st_grammar.specs.Definitions.{Defs}
 use Rattle.st_grammar.specs.Positions.{State, start, step, finish}

@@ -2,7 +2,7 @@
 use Rattle.std.specs.Prelude.{◌≡◌, ℕ, ◌+◌, ◌<◌, ◌⊎◌, List, [], ◌∷◌, length, take, Bool, true, false, Option, Some, None}
 use Rattle.st_num.specs.declared.rule.RuleId.{RuleId}
 use Rattle.st_num.specs.declared.rule.RuleId.TheVariants.{S1, S2, S3}
-use Rattle.st_scan.specs.declared.token.Token.{Token}
+use Rattle.st_num.specs.declared.token.Token.{Token}
 
 -- what is known behind some tokens, or the rule that one of them breaks
 pub data TokenVerdict (S : Type 0) : Type 0 where

@@ -1,7 +1,7 @@
 -- Where a fault stands in the text.
 use Rattle.std.specs.Prelude.{ℕ, ◌-◌, List, length, Option, Some, None, slice_get, nat_lt, if◌then◌else◌}
 use Rattle.st_num.specs.declared.span.Span.{Span}
-use Rattle.st_scan.specs.declared.token.Token.{Token}
+use Rattle.st_num.specs.declared.token.Token.{Token}
 
 -- the place of a token; the start of the first file where there is none
 abbrev pub place_of : Option Token → Span

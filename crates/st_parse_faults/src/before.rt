@@ -6,11 +6,10 @@ ghost use Rattle.st_parse_faults.specs.inner.Seen as seen;
 ghost use Rattle.st_parse_automaton.specs.inner.Readings.{progress_of, reading_of};
 
 use st_grammar::{Bracket, Sort};
-use st_num::{Mark, Row};
+use st_num::{Mark, Row, TokenKind, Word};
 use st_parse_automaton::{
     At, Expected, Host, Part, Position, Progress, Reading, Slot, slot_sort, top,
 };
-use st_scan::{TokenKind, Word};
 
 /// What the tokens before a refused one end with, where a form that is left out could go on.
 #[derive(Clone, Copy, Debug, PartialEq, Eq)]

@@ -3,7 +3,7 @@
 ghost use Rattle.std.specs.Prelude.{◌≡◌, ◌≤◌, List, ℕ};
 ghost use Rattle.st_num.specs.declared.rule.RuleId.{RuleId};
 ghost use Rattle.st_num.specs.declared.rule.RuleId.TheVariants.{S1, S4};
-ghost use Rattle.st_scan.specs.declared.token.Token.{Token};
+ghost use Rattle.st_num.specs.declared.token.Token.{Token};
 ghost use Rattle.st_parse_automaton.specs.Refusal.{AreDefinitions, RefusedAt};
 ghost use Rattle.st_parse_faults.specs.Faults.{Faultless, FirstFault};
 

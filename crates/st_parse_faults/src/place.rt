@@ -4,8 +4,7 @@ ghost use Rattle.std.specs.Prelude.{◌≡◌};
 ghost use Rattle.std.specs.Option.{option_copied};
 ghost use Rattle.st_parse_faults.specs.Place.{place_of, place_at};
 
-use st_num::Span;
-use st_scan::Token;
+use st_num::{Span, Token};
 
 /// The first line and column of the first file.
 const START: Span = Span {

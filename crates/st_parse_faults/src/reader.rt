@@ -6,9 +6,8 @@ ghost use Rattle.st_parse_faults.specs.Faults.{Faultless, FirstFault};
 
 use crate::fault::TokenFault;
 use crate::judge::{TokenVerdict, judge_token, nothing_seen};
-use st_num::{NoMemory, RuleId};
+use st_num::{NoMemory, RuleId, Token};
 use st_parse_automaton::{NameIndex, declared_names, may_end, token_class};
-use st_scan::Token;
 use std::alloc::Global;
 
 /// The first token that breaks a rule, or the end where the tokens end too early; none where the

@@ -1,8 +1,8 @@
 -- A count behind an index.
 use Rattle.std.proofs.Common.{◌≡◌, ℕ, List, [], ◌∷◌, ◌++◌, map, codes, Bool, true, false, refl, sym, ap, ◌∙◌, subst, append_assoc}
 use Rattle.st_num.specs.declared.mark.Mark.TheVariants.{OpenParen, CloseParen, Less}
-use Rattle.st_scan.specs.declared.token.Token.{Token}
-use Rattle.st_scan.specs.declared.token.TokenKind.TheVariants as kind
+use Rattle.st_num.specs.declared.token.Token.{Token}
+use Rattle.st_num.specs.declared.token.TokenKind.TheVariants as kind
 use Rattle.st_grammar.specs.declared.sort.Leaf.TheVariants.{Low as low}
 use Rattle.st_grammar.specs.declared.sort.Bracket.TheVariants.{Round as round}
 use Rattle.st_grammar.specs.declared.sort.Closing.TheVariants.{ByRound as by_round}

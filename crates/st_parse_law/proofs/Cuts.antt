@@ -1,8 +1,8 @@
 -- Pieces one behind the other, their bytes and their tokens.
 use Rattle.std.proofs.Common.{◌≡◌, ℕ, List, [], ◌∷◌, ◌++◌, map, Bool, true, false, refl, sym, ap, ◌∙◌, append_assoc}
 use Rattle.std.proofs.lemmas.List.{map-append}
-use Rattle.st_scan.specs.declared.token.Token.{Token}
-use Rattle.st_scan.specs.declared.token.TokenKind.{TokenKind}
+use Rattle.st_num.specs.declared.token.Token.{Token}
+use Rattle.st_num.specs.declared.token.TokenKind.{TokenKind}
 use Rattle.st_grammar.specs.Terminals.{Terminal, terminal, kind_terminal}
 use Rattle.st_parse_law.specs.Written.{Piece, space, token, bytes_of, shape, shapes_behind}
 

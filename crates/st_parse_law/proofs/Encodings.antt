@@ -11,9 +11,10 @@ use Rattle.st_num.specs.Signs.{spelling}
 use Rattle.st_num.specs.declared.mark.Mark.{Mark}
 use Rattle.st_num.specs.declared.mark.Mark.TheVariants.{Turnstile}
 use Rattle.st_scan.specs.Bytes.{is_name_part}
-use Rattle.st_scan.specs.Spelling.{Spells, escaped, quoted}
-use Rattle.st_scan.specs.declared.token.TokenKind.{TokenKind}
-use Rattle.st_scan.specs.declared.token.TokenKind.TheVariants.{Low, Up, Mix, Reserved, Number, Text, Dot, Fun, Sign}
+use Rattle.st_scan.specs.Spelling.{Spells}
+use Rattle.st_num.specs.Texts.{escaped, quoted}
+use Rattle.st_num.specs.declared.token.TokenKind.{TokenKind}
+use Rattle.st_num.specs.declared.token.TokenKind.TheVariants.{Low, Up, Mix, Reserved, Number, Text, Dot, Fun, Sign}
 use Rattle.st_scan.proofs.Spelled.{name_parts, as_word}
 use Rattle.st_scan.proofs.TextBytes.{around_ascii}
 use Rattle.st_scan.proofs.Texts.{Escaping, escaping, quote, backslash, feed, tab, plain}

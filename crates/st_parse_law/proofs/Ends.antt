@@ -5,8 +5,8 @@ use Rattle.st_num.specs.Signs.{spelling}
 use Rattle.st_num.specs.declared.mark.Mark.{Mark}
 use Rattle.st_num.specs.declared.mark.Mark.TheVariants.{CloseParen, CloseBracket, CloseBrace, Bar, Star, Plus, Question, OpenParen, OpenBracket, OpenBrace, OpenArith, TickParen, TickBracket, TickBrace, Caret}
 use Rattle.st_scan.specs.Bytes.{is_letter, is_digit, is_name_part}
-use Rattle.st_scan.specs.declared.token.TokenKind.{TokenKind}
-use Rattle.st_scan.specs.declared.token.TokenKind.TheVariants.{Low, Up, Mix, Reserved, Number, Text, Dot, Fun, Sign}
+use Rattle.st_num.specs.declared.token.TokenKind.{TokenKind}
+use Rattle.st_num.specs.declared.token.TokenKind.TheVariants.{Low, Up, Mix, Reserved, Number, Text, Dot, Fun, Sign}
 use Rattle.st_parse_law.specs.Written.{ends_before}
 
 -- a byte that stands directly behind a part

@@ -13,11 +13,12 @@ use Rattle.st_num.specs.Numeral.{Spells as SpellsNumber}
 use Rattle.st_num.specs.declared.mark.Mark.{Mark}
 use Rattle.st_num.specs.declared.mark.Mark.TheVariants.{Turnstile, Semicolon, OpenParen}
 use Rattle.st_num.specs.declared.mark.TheConstants.Mark.{ALL as SIGNS}
-use Rattle.st_scan.specs.declared.token.TokenKind.{TokenKind}
-use Rattle.st_scan.specs.declared.token.TokenKind.TheVariants.{Low, Up, Mix, Reserved, Number, Text, Dot, Fun, Sign}
+use Rattle.st_num.specs.declared.token.TokenKind.{TokenKind}
+use Rattle.st_num.specs.declared.token.TokenKind.TheVariants.{Low, Up, Mix, Reserved, Number, Text, Dot, Fun, Sign}
 use Rattle.st_scan.specs.Bytes.{is_name_part, is_blank}
 use Rattle.st_scan.specs.Gaps.{gap, between, opens_comment, opens, starts_line}
-use Rattle.st_scan.specs.Spelling.{Spells, quoted}
+use Rattle.st_scan.specs.Spelling.{Spells}
+use Rattle.st_num.specs.Texts.{quoted}
 use Rattle.st_scan.specs.Tokens.{Longest}
 use Rattle.st_scan.proofs.Tables.{sign_place, sign_there, sign_place_below}
 use Rattle.st_scan.proofs.Texts.{heads, tail_of, texts_unique, quoted_behind}

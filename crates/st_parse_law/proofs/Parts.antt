@@ -1,6 +1,6 @@
 -- Printed parts: their pieces, and how the tokens of these pieces are read.
 use Rattle.std.proofs.Common.{◌≡◌, ℕ, ◌≤◌, List, [], ◌∷◌, ◌++◌, map, Bool, true, false, ◌∙◌, subst, arith}
-use Rattle.st_scan.specs.declared.token.Token.{Token}
+use Rattle.st_num.specs.declared.token.Token.{Token}
 use Rattle.st_grammar.specs.declared.sort.Sort.{Sort}
 use Rattle.st_grammar.specs.declared.sort.Sort.TheVariants.{Arithmetic as arithmetic}
 use Rattle.st_grammar.specs.declared.sort.Closing.TheVariants.{ByBar as by_bar}

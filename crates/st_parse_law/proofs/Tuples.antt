@@ -6,8 +6,8 @@ use Rattle.std.proofs.lemmas.Grind.{common_steps}
 use Rattle.st_num.specs.declared.span.Span.{Span}
 use Rattle.st_num.specs.declared.mark.Mark.TheVariants.{OpenParen, CloseParen}
 use Rattle.st_scan.specs.Spelling.{is_name, begins_lower}
-use Rattle.st_scan.specs.declared.token.Token.{Token}
-use Rattle.st_scan.specs.declared.token.TokenKind.TheVariants as kind
+use Rattle.st_num.specs.declared.token.Token.{Token}
+use Rattle.st_num.specs.declared.token.TokenKind.TheVariants as kind
 use Rattle.st_grammar.specs.declared.sort.Sort.{Sort}
 use Rattle.st_grammar.specs.declared.sort.Sort.TheVariants.{Expression as expression}
 use Rattle.st_grammar.specs.declared.sort.Leaf.TheVariants.{Function as function}

@@ -1,6 +1,6 @@
 -- The text of an expression is read back as this expression.
 use Rattle.std.specs.Prelude.{◌≡◌, ℕ, List, [], ◌∷◌, All, Contains}
-use Rattle.st_scan.specs.declared.token.Token.{Token}
+use Rattle.st_num.specs.declared.token.Token.{Token}
 use Rattle.st_scan.specs.Tokens.{Tokens}
 use Rattle.st_el.specs.declared.expression.Exp.{Exp}
 use Rattle.st_el.specs.SourceText.{source_text}

@@ -10,9 +10,9 @@ use Rattle.st_scan.specs.Bytes.{is_name_part}
 use Rattle.st_scan.specs.Gaps.{opens, starts_line}
 use Rattle.st_scan.specs.Spelling.{Spells}
 use Rattle.st_scan.specs.Tokens.{IsInRange}
-use Rattle.st_scan.specs.declared.token.Token.{Token}
-use Rattle.st_scan.specs.declared.token.TokenKind.{TokenKind}
-use Rattle.st_scan.specs.declared.token.TokenKind.TheVariants.{Text, Sign}
+use Rattle.st_num.specs.declared.token.Token.{Token}
+use Rattle.st_num.specs.declared.token.TokenKind.{TokenKind}
+use Rattle.st_num.specs.declared.token.TokenKind.TheVariants.{Text, Sign}
 
 -- a blank, or the text of a token
 pub data Piece : Type 0 where

@@ -6,7 +6,7 @@ use Rattle.std.specs.Str.{IsValidUpTo}
 use Rattle.st_num.specs.declared.span.Span.{Span}
 use Rattle.st_num.specs.declared.rule.RuleId.{RuleId}
 use Rattle.st_num.specs.declared.rule.RuleId.TheVariants.{L4}
-use Rattle.st_scan.specs.declared.token.Token.{Token}
+use Rattle.st_num.specs.declared.token.Token.{Token}
 use Rattle.st_num.specs.declared.fault.Fault.{Fault as LexFault}
 use Rattle.st_num.specs.declared.fault.Fault.TheVariants.{Refused, Memory}
 use Rattle.st_scan.specs.Places.{place, offset}

@@ -9,7 +9,7 @@ use Rattle.std.specs.List.{prefix_len, take_while, list_all}
 use Rattle.std.specs.Str.Parse.{AllDigits, IsNumeral, digits_value}
 use Rattle.st_num.specs.Numeral.{Spells as SpellsNumber}
 use Rattle.st_num.specs.declared.rule.RuleId.TheVariants.{L3}
-use Rattle.st_scan.specs.declared.token.TokenKind.TheVariants.{Number}
+use Rattle.st_num.specs.declared.token.TokenKind.TheVariants.{Number}
 use Rattle.st_scan.specs.Bytes.{is_digit}
 use Rattle.st_scan.specs.Gaps.{opens_comment}
 use Rattle.st_scan.specs.Tokens.{Longest}

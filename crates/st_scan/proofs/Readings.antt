@@ -7,8 +7,8 @@ use Rattle.std.proofs.lemmas.List.Folds.{length-prefix_len}
 use Rattle.std.specs.List.{prefix_len, take_while, list_all}
 use Rattle.st_num.specs.Signs.{spelling}
 use Rattle.st_num.specs.declared.mark.Mark.{Mark}
-use Rattle.st_scan.specs.declared.token.TokenKind.{TokenKind}
-use Rattle.st_scan.specs.declared.token.TokenKind.TheVariants.{Low, Number, Dot, Fun, Sign}
+use Rattle.st_num.specs.declared.token.TokenKind.{TokenKind}
+use Rattle.st_num.specs.declared.token.TokenKind.TheVariants.{Low, Number, Dot, Fun, Sign}
 use Rattle.st_scan.specs.Bytes.{is_letter, is_upper, is_digit, is_name_part}
 use Rattle.st_scan.specs.Gaps.{opens_comment}
 use Rattle.st_scan.specs.Spelling.{Spells, is_name, begins_lower}

@@ -6,13 +6,14 @@ use Rattle.std.specs.List.{flat_map, list_all}
 use Rattle.std.specs.Str.{IsUtf8, IsValidUpTo}
 use Rattle.st_num.specs.declared.span.Span.{Span}
 use Rattle.st_num.specs.declared.rule.RuleId.{RuleId}
-use Rattle.st_scan.specs.declared.token.Token.{Token}
-use Rattle.st_scan.specs.declared.token.TokenKind.{TokenKind}
-use Rattle.st_scan.specs.declared.token.TokenKind.TheVariants.{Number}
+use Rattle.st_num.specs.declared.token.Token.{Token}
+use Rattle.st_num.specs.declared.token.TokenKind.{TokenKind}
+use Rattle.st_num.specs.declared.token.TokenKind.TheVariants.{Number}
 use Rattle.st_scan.specs.Bytes.{is_text_byte}
 use Rattle.st_scan.specs.Gaps.{gap, between, opens_comment}
 use Rattle.st_scan.specs.Places.{place}
-use Rattle.st_scan.specs.Spelling.{Spells, escaped}
+use Rattle.st_scan.specs.Spelling.{Spells}
+use Rattle.st_num.specs.Texts.{escaped}
 use Rattle.st_scan.specs.Tokens.{Longest, Next, Run, Tokens, IsInRange}
 use Rattle.st_scan.specs.Faults.{Cause, comment_open, text_open, text_wrong, large, no_token, TokenFault, FirstFault, of_token, of_utf8, IsQuote, NoToken, closes_text, is_wrong}
 use Rattle.st_scan.proofs.Texts.{tail_of, text_not_wrong, text_closes, wrong_unique, quoted_behind}

@@ -13,12 +13,13 @@ use Rattle.st_num.specs.declared.mark.TheConstants.Mark.{ALL as SIGNS}
 use Rattle.st_num.specs.declared.word.TheConstants.Word.{ALL as WORDS}
 use Rattle.st_num.specs.declared.word.Word.{Word}
 use Rattle.st_num.specs.declared.word.Word.TheVariants.{Syntax}
-use Rattle.st_scan.specs.declared.token.TokenKind.{TokenKind}
-use Rattle.st_scan.specs.declared.token.TokenKind.TheVariants.{Low, Up, Mix, Reserved, Number, Text, Dot, Fun, Sign}
+use Rattle.st_num.specs.declared.token.TokenKind.{TokenKind}
+use Rattle.st_num.specs.declared.token.TokenKind.TheVariants.{Low, Up, Mix, Reserved, Number, Text, Dot, Fun, Sign}
 use Rattle.st_scan.specs.Bytes.{is_letter, is_lower, is_digit, is_name_part, is_text_byte}
 use Rattle.st_num.specs.Words.{word_spelling}
 use Rattle.st_num.specs.Numeral.{Spells as SpellsNumber}
-use Rattle.st_scan.specs.Spelling.{Spells, is_name, begins_lower, has_lower, quoted}
+use Rattle.st_scan.specs.Spelling.{Spells, is_name, begins_lower, has_lower}
+use Rattle.st_num.specs.Texts.{quoted}
 use Rattle.st_scan.specs.inner.Readings.{begins_letter}
 use Rattle.st_scan.proofs.Texts.{tail_of, texts_unique}
 

@@ -10,8 +10,8 @@ use Rattle.st_scan.specs.declared.line_column.LineColumn.{LineColumn}
 use Rattle.st_scan.specs.declared.read.Reading.{Reading}
 use Rattle.st_scan.specs.declared.read.Stop.{Stop}
 use Rattle.st_scan.specs.declared.read.Stop.TheVariants.{Refused, Memory}
-use Rattle.st_scan.specs.declared.token.Token.{Token}
-use Rattle.st_scan.specs.declared.token.TokenKind.TheVariants.{Number}
+use Rattle.st_num.specs.declared.token.Token.{Token}
+use Rattle.st_num.specs.declared.token.TokenKind.TheVariants.{Number}
 use Rattle.st_scan.specs.Gaps.{gap, between, opens_comment}
 use Rattle.st_scan.specs.Places.{offset, place, IsBehind, line_behind}
 use Rattle.st_scan.specs.Spelling.{Spells}

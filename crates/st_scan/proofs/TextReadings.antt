@@ -6,12 +6,12 @@ use Rattle.std.proofs.lemmas.List.{length-append}
 use Rattle.std.proofs.lemmas.List.Prefix.{end_rest}
 use Rattle.std.specs.List.{flat_map, list_all}
 use Rattle.st_num.specs.declared.rule.RuleId.TheVariants.{L1, L2}
-use Rattle.st_scan.specs.declared.token.TokenKind.TheVariants.{Text}
+use Rattle.st_num.specs.declared.token.TokenKind.TheVariants.{Text}
 use Rattle.st_scan.specs.declared.text.Piece.TheVariants.{Byte, Quote, Wrong}
 use Rattle.st_scan.specs.declared.read.Stop.TheVariants.{Refused}
 use Rattle.st_scan.specs.Bytes.{is_text_byte}
 use Rattle.st_scan.specs.Gaps.{opens_comment}
-use Rattle.st_scan.specs.Spelling.{escaped, quoted}
+use Rattle.st_num.specs.Texts.{escaped, quoted}
 use Rattle.st_scan.specs.Faults.{Cause, text_open, text_wrong, closes_text}
 use Rattle.st_scan.specs.inner.Readings.{IsReading, Stops}
 use Rattle.st_scan.specs.inner.TextPieces.{IsPiece, IsEscape, text_stop}

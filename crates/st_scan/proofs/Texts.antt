@@ -4,7 +4,7 @@ use Rattle.std.proofs.lemmas.Bool.{eqb-true, eqb-false, ne_eqb, and_parts, false
 use Rattle.std.proofs.lemmas.Bool.Decides.{nat_tests}
 use Rattle.std.specs.List.{flat_map, list_all}
 use Rattle.st_scan.specs.Bytes.{is_text_byte, is_line_feed}
-use Rattle.st_scan.specs.Spelling.{escaped, quoted}
+use Rattle.st_num.specs.Texts.{escaped, quoted}
 use Rattle.st_scan.specs.Faults.{closes_text, is_wrong}
 
 -- ---- equations of lists with a head

@@ -7,9 +7,9 @@ use Rattle.st_num.specs.declared.span.Span.{Span}
 use Rattle.st_num.specs.declared.rule.RuleId.{RuleId}
 use Rattle.st_scan.specs.Tokens.{Tokens}
 use Rattle.st_scan.specs.Faults.{FirstFault}
-use Rattle.st_scan.specs.declared.token.Token.{Token}
-use Rattle.st_scan.specs.declared.token.TokenKind.{TokenKind}
-use Rattle.st_scan.specs.declared.token.TokenKind.TheVariants.{Low, Up, Mix, Text, Dot, Fun}
+use Rattle.st_num.specs.declared.token.Token.{Token}
+use Rattle.st_num.specs.declared.token.TokenKind.{TokenKind}
+use Rattle.st_num.specs.declared.token.TokenKind.TheVariants.{Low, Up, Mix, Text, Dot, Fun}
 use Rattle.st_num.specs.declared.fault.Fault.{Fault as LexFault}
 use Rattle.st_num.specs.declared.fault.Fault.TheVariants.{Refused, Memory}
 

@@ -8,11 +8,12 @@ use Rattle.st_num.specs.declared.rule.RuleId.TheVariants.{L1, L2, L3, L4}
 use Rattle.st_scan.specs.Bytes.{is_line_feed, is_text_byte}
 use Rattle.st_scan.specs.Gaps.{gap, between, opens_comment}
 use Rattle.st_scan.specs.Places.{place, offset}
-use Rattle.st_scan.specs.Spelling.{Spells, escaped}
+use Rattle.st_scan.specs.Spelling.{Spells}
+use Rattle.st_num.specs.Texts.{escaped}
 use Rattle.st_scan.specs.Tokens.{Longest, Run}
-use Rattle.st_scan.specs.declared.token.Token.{Token}
-use Rattle.st_scan.specs.declared.token.TokenKind.{TokenKind}
-use Rattle.st_scan.specs.declared.token.TokenKind.TheVariants.{Number}
+use Rattle.st_num.specs.declared.token.Token.{Token}
+use Rattle.st_num.specs.declared.token.TokenKind.{TokenKind}
+use Rattle.st_num.specs.declared.token.TokenKind.TheVariants.{Number}
 
 -- what stands behind the quote of a text has another quote on its line, which no `\` escapes
 abbrev pub closes_text : List ℕ → Bool

@@ -1,13 +1,14 @@
 -- How each token is written.
-use Rattle.std.specs.Prelude.{◌≡◌, ℕ, List, [], ◌∷◌, ◌++◌, Bool, false, ◌&&◌, ◌==◌, if◌then◌else◌, IsTrue}
-use Rattle.std.specs.List.{list_all, list_any, flat_map}
+use Rattle.std.specs.Prelude.{◌≡◌, ℕ, List, [], ◌∷◌, Bool, false, ◌&&◌, IsTrue}
+use Rattle.std.specs.List.{list_all, list_any}
 use Rattle.st_num.specs.Signs.{spelling}
+use Rattle.st_num.specs.Texts.{quoted}
 use Rattle.st_scan.specs.Bytes.{is_lower, is_letter, is_name_part, is_text_byte}
 use Rattle.st_num.specs.Words.{word_spelling}
 use Rattle.st_num.specs.Numeral.{Spells as SpellsNumber}
 use Rattle.st_num.specs.declared.word.Word.{Word}
-use Rattle.st_scan.specs.declared.token.TokenKind.{TokenKind}
-use Rattle.st_scan.specs.declared.token.TokenKind.TheVariants.{Low, Up, Mix, Reserved, Number, Text, Dot, Fun, Sign}
+use Rattle.st_num.specs.declared.token.TokenKind.{TokenKind}
+use Rattle.st_num.specs.declared.token.TokenKind.TheVariants.{Low, Up, Mix, Reserved, Number, Text, Dot, Fun, Sign}
 
 -- a letter, then letters, digits, `_` and `'`
 abbrev pub is_name : List ℕ → Bool
@@ -26,19 +27,6 @@ has_lower bs = list_any is_lower bs
 -- the name is one that the language keeps for itself
 abbrev pub IsReserved : List ℕ → Type 0
 IsReserved name = (word : Word) × (name ≡ word_spelling word)
-
--- how a byte of a text is written between the quotes: as `\"`, `\\`, `\n`, `\t` or itself
-abbrev pub escaped : ℕ → List ℕ
-escaped b =
-    if b == 34 then 92 ∷ 34 ∷ []
-    else if b == 92 then 92 ∷ 92 ∷ []
-    else if b == 10 then 92 ∷ 110 ∷ []
-    else if b == 9 then 92 ∷ 116 ∷ []
-    else b ∷ []
-
--- a text in its quotes
-abbrev pub quoted : List ℕ → List ℕ
-quoted text = 34 ∷ flat_map escaped text ++ 34 ∷ []
 
 -- the bytes spell this token
 abbrev pub Spells : List ℕ → TokenKind → Type 0

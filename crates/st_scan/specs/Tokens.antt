@@ -4,9 +4,9 @@ use Rattle.std.specs.Str.{IsUtf8}
 use Rattle.st_scan.specs.Gaps.{gap, between, opens_comment}
 use Rattle.st_scan.specs.Places.{place}
 use Rattle.st_scan.specs.Spelling.{Spells}
-use Rattle.st_scan.specs.declared.token.Token.{Token}
-use Rattle.st_scan.specs.declared.token.TokenKind.{TokenKind}
-use Rattle.st_scan.specs.declared.token.TokenKind.TheVariants.{Number}
+use Rattle.st_num.specs.declared.token.Token.{Token}
+use Rattle.st_num.specs.declared.token.TokenKind.{TokenKind}
+use Rattle.st_num.specs.declared.token.TokenKind.TheVariants.{Number}
 
 -- the text at the front is this token, no longer front is one, and no comment opens here
 pub record Longest (bytes text rest : List ℕ) (kind : TokenKind) : Type 0 where

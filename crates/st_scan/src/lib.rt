@@ -3,7 +3,7 @@
 //! The one idea: blanks and comments stand between tokens, and each token is the longest that
 //! stands at its place. What a token is written as is a relation that knows no reading.
 //!
-//! Read `token` and `scanner` first, with `specs/Spelling.antt`, `specs/Tokens.antt` and
+//! Read `token` of `st_num` and `scanner` first, with `specs/Spelling.antt`, `specs/Tokens.antt` and
 //! `specs/Faults.antt`. The rules are in `docs/language.md`, "Tokens".
 #![tactic(auto)]
 
@@ -15,9 +15,7 @@ mod read;
 mod scanner;
 mod sign;
 mod text;
-mod token;
 mod word;
 
 pub use scanner::scan;
-pub use st_num::{Fault as LexFault, Word};
-pub use token::{Token, TokenKind};
+pub use st_num::{Fault as LexFault, Token, TokenKind, Word};

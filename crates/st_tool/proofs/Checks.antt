@@ -22,7 +22,7 @@ use Rattle.st_parse.specs.Source.{IsSource, Answers}
 use Rattle.st_parse.proofs.StandingFaults.{fault_stands}
 use Rattle.st_num.specs.declared.fault.Fault.{Fault as LexFault}
 use Rattle.st_num.specs.declared.fault.Fault.TheVariants.{Refused, Memory}
-use Rattle.st_scan.specs.declared.token.Token.{Token}
+use Rattle.st_num.specs.declared.token.Token.{Token}
 use Rattle.st_scan.specs.Answers.{TellsFirst}
 use Rattle.st_scan.specs.Faults.{FirstFault, of_token, of_utf8}
 use Rattle.st_scan.specs.Tokens.{Tokens}

@@ -13,9 +13,9 @@ use Rattle.st_num.specs.declared.span.Span.{Span}
 use Rattle.st_num.specs.declared.limit.TheConstants.{HIGHEST_TREE}
 use Rattle.st_scan.specs.Spelling.{Spells, has_lower}
 use Rattle.st_scan.specs.Tokens.{Run}
-use Rattle.st_scan.specs.declared.token.Token.{Token}
-use Rattle.st_scan.specs.declared.token.TokenKind.{TokenKind}
-use Rattle.st_scan.specs.declared.token.TokenKind.TheVariants as kind
+use Rattle.st_num.specs.declared.token.Token.{Token}
+use Rattle.st_num.specs.declared.token.TokenKind.{TokenKind}
+use Rattle.st_num.specs.declared.token.TokenKind.TheVariants as kind
 use Rattle.st_grammar.specs.Terminals.{Terminal, leaf, dot, other, is_variable, word_terminal, sign_terminal, kind_terminal, terminal, declared_names}
 use Rattle.st_grammar.specs.declared.sort.Leaf.TheVariants.{Variable as variable, Atom as atom_leaf}
 use Rattle.st_grammar.specs.Trees.{text}

@@ -12,7 +12,7 @@ use Rattle.st_num.specs.Signs.{level as level_of}
 use Rattle.st_num.specs.declared.span.Span.{Span}
 use Rattle.st_scan.specs.Bytes.{is_lower, is_letter, is_name_part}
 use Rattle.st_scan.specs.Spelling.{is_name, has_lower}
-use Rattle.st_scan.specs.declared.token.Token.{Token}
+use Rattle.st_num.specs.declared.token.Token.{Token}
 use Rattle.st_grammar.specs.declared.sort.Leaf.TheVariants.{Low as low, Basic as basic, Variable as variable, Atom as atom_leaf, Number as number, Literal as literal, Function as function}
 use Rattle.st_grammar.specs.declared.sort.Bracket.{Bracket}
 use Rattle.st_grammar.specs.declared.sort.Bracket.TheVariants.{Round as round, Square as square, Brace as brace, TickRound as tick_round, TickSquare as tick_square, TickBrace as tick_brace, Dollar as dollar}

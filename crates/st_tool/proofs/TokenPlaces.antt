@@ -4,7 +4,7 @@ use Rattle.std.specs.Prelude.{slice_get}
 use Rattle.st_parse_faults.specs.Place.{place_of, place_at}
 use Rattle.st_num.specs.declared.span.Span.{Span}
 use Rattle.st_parse.proofs.Standing.{both}
-use Rattle.st_scan.specs.declared.token.Token.{Token}
+use Rattle.st_num.specs.declared.token.Token.{Token}
 use Rattle.st_scan.specs.Tokens.{Run}
 use Rattle.st_tool.specs.BreachesStand.{StandBefore}
 use Rattle.st_tool.specs.Checking.{AllTokens}

@@ -20,7 +20,7 @@ use Rattle.st_num.specs.declared.span.Span.{Span}
 use Rattle.st_parse.specs.Source.{IsSource, FaultAt}
 use Rattle.st_num.specs.declared.fault.Fault.{Fault as LexFault}
 use Rattle.st_num.specs.declared.fault.Fault.TheVariants.{Refused, Memory}
-use Rattle.st_scan.specs.declared.token.Token.{Token}
+use Rattle.st_num.specs.declared.token.Token.{Token}
 use Rattle.st_scan.specs.Faults.{FirstFault}
 use Rattle.st_scan.specs.Tokens.{Tokens}
 use Rattle.st_tool.specs.declared.check.Printed.{Printed}

@@ -23,9 +23,9 @@ use st_el::Def;
 use st_elab_def::{Breach, DefFault, elaborate};
 use st_il::Il;
 use st_iltext::print_il;
-use st_num::{Fault, NoMemory, Row};
+use st_num::{Fault, NoMemory, Row, Token};
 use st_parse::parse;
-use st_scan::{LexFault, Token, scan};
+use st_scan::{LexFault, scan};
 use st_words::CommandWord;
 use std::alloc::Global;
 

@@ -1,8 +1,8 @@
 -- What each change makes of a draft.
 use Rattle.std.specs.Prelude.{ℕ, List, [], ◌∷◌, ◌++◌, Bool, true, false, Option, Some, None, slice_get, if◌then◌else◌}
 use Rattle.st_num.specs.declared.span.Span.{Span}
-use Rattle.st_scan.specs.declared.token.Token.{Token}
-use Rattle.st_scan.specs.declared.token.TokenKind.{TokenKind}
+use Rattle.st_num.specs.declared.token.Token.{Token}
+use Rattle.st_num.specs.declared.token.TokenKind.{TokenKind}
 use Rattle.st_num.specs.declared.mark.Mark.TheVariants as mark
 use Rattle.st_parse_automaton.specs.declared.part_automaton.Shape.{Shape}
 use Rattle.st_parse_automaton.specs.declared.part_automaton.Shape.TheVariants.{Sign}

@@ -6,8 +6,8 @@ use Rattle.st_num.specs.declared.mark.Mark.TheVariants as mark
 use Rattle.st_scan.specs.Spelling.{has_lower}
 use Rattle.st_num.specs.declared.word.Word.{Word}
 use Rattle.st_num.specs.declared.word.Word.TheVariants as word
-use Rattle.st_scan.specs.declared.token.TokenKind.{TokenKind}
-use Rattle.st_scan.specs.declared.token.TokenKind.TheVariants as kind
+use Rattle.st_num.specs.declared.token.TokenKind.{TokenKind}
+use Rattle.st_num.specs.declared.token.TokenKind.TheVariants as kind
 use Rattle.st_grammar.specs.declared.sort.Leaf.TheVariants as leaves
 use Rattle.st_grammar.specs.declared.sort.Bracket.TheVariants as bracket
 use Rattle.st_grammar.specs.declared.sort.Closing.TheVariants as closings

@@ -2,7 +2,7 @@
 use Rattle.std.specs.Prelude.{◌≡◌, ◌≤◌, ◌<◌, List, [], ◌∷◌, ◌++◌, map, Bool, true, false, Option, Some, None}
 use Rattle.st_num.specs.declared.limit.TheConstants.{HIGHEST_TREE}
 use Rattle.st_num.specs.declared.mark.Mark.{Mark}
-use Rattle.st_scan.specs.declared.token.Token.{Token}
+use Rattle.st_num.specs.declared.token.Token.{Token}
 use Rattle.st_grammar.specs.declared.sort.Sort.TheVariants.{Expression as expression}
 use Rattle.st_grammar.specs.Trees.{Tree}
 use Rattle.st_grammar.specs.Grammar.{Fits}

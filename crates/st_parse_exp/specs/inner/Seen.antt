@@ -2,7 +2,7 @@
 -- the conclusion of a rule, behind which nothing but a comma stands.
 use Rattle.std.specs.Prelude.{[], Bool, true, false, ◌&&◌, if◌then◌else◌}
 use Rattle.st_num.specs.declared.rule.RuleId.TheVariants.{S1}
-use Rattle.st_scan.specs.declared.token.TokenKind.{TokenKind}
+use Rattle.st_num.specs.declared.token.TokenKind.{TokenKind}
 use Rattle.st_grammar.specs.Levels.{is_comma}
 use Rattle.st_parse_automaton.specs.declared.position.TokenClass.{TokenClass}
 use Rattle.st_parse_automaton.specs.declared.position.Slot.TheVariants as slot

@@ -6,7 +6,7 @@ use Rattle.st_scan.specs.Places.{offset, IsBehind}
 use Rattle.st_scan.specs.Tokens.{Next, Run}
 use Rattle.st_scan.specs.Faults.{Cause, TokenFault}
 use Rattle.st_scan.specs.declared.line_column.LineColumn.{LineColumn}
-use Rattle.st_scan.specs.declared.token.Token.{Token}
+use Rattle.st_num.specs.declared.token.Token.{Token}
 use Rattle.st_scan.specs.declared.read.Stop.{Stop}
 use Rattle.st_scan.specs.declared.read.Stop.TheVariants.{Refused, Memory}
 use Rattle.st_scan.specs.declared.scanner.Step.{Step}

@@ -2,7 +2,7 @@
 use Rattle.std.specs.Prelude.{◌≡◌, ◌≢◌, ℕ, ◌-◌, List, [], ◌∷◌, ◌++◌, length, IsTrue, if◌then◌else◌}
 use Rattle.st_num.specs.declared.rule.RuleId.TheVariants.{L1, L2}
 use Rattle.st_scan.specs.Bytes.{is_text_byte}
-use Rattle.st_scan.specs.Spelling.{escaped}
+use Rattle.st_num.specs.Texts.{escaped}
 use Rattle.st_scan.specs.Faults.{closes_text, is_wrong}
 use Rattle.st_scan.specs.declared.read.Stop.{Stop}
 use Rattle.st_scan.specs.declared.read.Stop.TheVariants.{Refused}

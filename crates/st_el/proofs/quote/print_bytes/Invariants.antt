@@ -1,5 +1,5 @@
 use Rattle.std.proofs.Common.{◌≡◌, ◌++◌, flat_map, take}
-use Rattle.st_scan.specs.Spelling.{escaped}
+use Rattle.st_num.specs.Texts.{escaped}
 use Rattle.st_el.proofs.quote.print_bytes.Given as goal
 
 abbrev pub invariant-loop-byte : goal.invariant-loop-byte

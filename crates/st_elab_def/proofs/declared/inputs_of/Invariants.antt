@@ -1,5 +1,5 @@
 use Rattle.std.proofs.Common.{◌≡◌, map, take}
-use Rattle.st_scan.specs.declared.token.Token.{Token}
+use Rattle.st_num.specs.declared.token.Token.{Token}
 use Rattle.st_elab_def.specs.DeclsOf.{is_input_kind}
 use Rattle.st_elab_def.proofs.declared.inputs_of.Given as goal
 

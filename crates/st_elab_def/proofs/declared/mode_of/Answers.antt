@@ -1,6 +1,6 @@
 use Rattle.std.proofs.Common.{◌≡◌, sym, ap, ◌∙◌, subst, map}
 use Rattle.std.specs.Prelude.{IfOk}
-use Rattle.st_scan.specs.declared.token.Token.{Token}
+use Rattle.st_num.specs.declared.token.Token.{Token}
 use Rattle.st_elab_def.specs.DeclsOf.{is_input_kind}
 use Rattle.st_elab_def.proofs.DeclaredLists.{mode-first}
 use Rattle.st_elab_def.proofs.declared.mode_of.Goals as goal

@@ -1,7 +1,7 @@
 use Rattle.std.proofs.Common.{sym, subst, length, arith}
 use Rattle.st_scan.specs.Faults.{no_token}
 use Rattle.st_scan.specs.inner.Readings.{IsReading}
-use Rattle.st_scan.specs.declared.token.TokenKind.TheVariants.{Sign}
+use Rattle.st_num.specs.declared.token.TokenKind.TheVariants.{Sign}
 use Rattle.st_scan.proofs.Readings.{begins_sign, sign_reading, unquoted, unsigned_token}
 use Rattle.st_scan.proofs.read.read_sign.Goals as goal
 

@@ -3,7 +3,7 @@ use Rattle.std.proofs.lemmas.Bool.{eqb-false}
 use Rattle.std.proofs.lemmas.List.{take_rest, length-drop, length-take-le, take-append-drop}
 use Rattle.st_scan.specs.inner.Steps.{StopsNext, IsAt}
 use Rattle.st_scan.specs.Tokens.{Next}
-use Rattle.st_scan.specs.declared.token.Token.{Token}
+use Rattle.st_num.specs.declared.token.Token.{Token}
 use Rattle.st_scan.proofs.Steps.{gap_short, token_next, at_here, at_moves, left_shorter, stops_next}
 use Rattle.st_scan.proofs.scanner.read_next.Goals as goal
 

@@ -1,7 +1,7 @@
 use Rattle.std.proofs.Common.{◌≡◌, ◌∷◌, ◌++◌, length, true}
 use Rattle.std.specs.List.{flat_map, list_all}
 use Rattle.st_scan.specs.Bytes.{is_text_byte}
-use Rattle.st_scan.specs.Spelling.{escaped}
+use Rattle.st_num.specs.Texts.{escaped}
 use Rattle.st_scan.proofs.text.read_text.Given as goal
 
 -- a quote, the bytes so far and the rest are the whole

@@ -1,8 +1,12 @@
-//! What a scan gives: tokens with their places.
+//! Tokens with their places: what a scan gives, and what a hint of a source tree keeps.
 
 ghost use Rattle.std.specs.Prelude.{◌≡◌, IfOk};
 
-use st_num::{Mark, Name, NoMemory, Span, Word};
+use crate::mark::Mark;
+use crate::memory::NoMemory;
+use crate::row::Name;
+use crate::span::Span;
+use crate::word::Word;
 use std::alloc::Global;
 
 /// A token with the place of its first character.
