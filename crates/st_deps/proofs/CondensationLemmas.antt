@@ -3,7 +3,7 @@ use Rattle.std.proofs.Common.{◌≡◌, ◌≢◌, ◌⊎◌, inl, inr, refl, s
 use Rattle.std.proofs.lemmas.List.{length-set}
 use Rattle.std.proofs.lemmas.Bool.Decides.{Decides-eqb}
 use Rattle.st_graph.specs.Graph.{Edge, Stands}
-use Rattle.st_graph.proofs.Places.{below-next, get-none, get-same}
+use Rattle.st_graph.proofs.Positions.{below-next, get-none, get-same}
 use Rattle.st_deps.specs.inner.Condensation.{other_than, other_rank, other_ranks, GroupEdge, CondensesTo}
 use Rattle.st_deps.proofs.TableLemmas.{row-sound, row-old, row-new}
 

@@ -2,7 +2,7 @@
 use Rattle.std.proofs.Common.{◌≡◌, ◌∙◌, subst, ℕ, List, Some, slice_get, Contains, arith}
 use Rattle.st_graph.specs.Reaches.{Reaches, itself, through}
 use Rattle.st_graph.specs.Graph.{Edge, IsWithin, IsNumbering}
-use Rattle.st_graph.proofs.Places.{get-same, get-within}
+use Rattle.st_graph.proofs.Positions.{get-same, get-within}
 use Rattle.st_il.specs.declared.definition.Il.{Il}
 use Rattle.st_deps.specs.Cited.{Name}
 use Rattle.st_deps.specs.Definitions.{declared, Cites}

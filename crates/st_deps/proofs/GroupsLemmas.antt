@@ -5,7 +5,7 @@ use Rattle.std.proofs.lemmas.Bool.Decides.{Decides-eqb, leb_tells}
 use Rattle.std.proofs.lemmas.Option.{get_or_from_slice_get}
 use Rattle.st_graph.specs.Reaches.{Reaches, itself, through}
 use Rattle.st_graph.specs.Graph.{Edge, Stands}
-use Rattle.st_graph.proofs.Places.{same_place, get-none, get-same, get-within, get-at, get-taken}
+use Rattle.st_graph.proofs.Positions.{same_position, get-none, get-same, get-within, get-at, get-taken}
 use Rattle.st_il.specs.declared.definition.Il.{Il}
 use Rattle.st_deps.specs.Cited.{Name}
 use Rattle.st_deps.specs.Definitions.{declared, Cites}
@@ -27,7 +27,7 @@ First xs c = (f : ℕ) × ((slice_get xs f ≡ Some c) × ((j : ℕ) → j < f �
 first-place : (xs : List ℕ) (c k : ℕ) → slice_get xs k ≡ Some c → First xs c
 first-place [] c k e = absurd (get-none k c e)
 first-place (x ∷ xs) c zero e = (0, (e, λ j less f. omega (arith, less)))
-first-place (x ∷ xs) c (suc k) e = by (same_place x c) (first-place xs c k e)
+first-place (x ∷ xs) c (suc k) e = by (same_position x c) (first-place xs c k e)
   where
     later : x ≢ c → First xs c → First (x ∷ xs) c
     later d (f, (g, least)) = (suc f, (g, before))
@@ -216,7 +216,7 @@ module _ (il : Il) (numbers ranks : List ℕ) (count : ℕ) (g : AreGroupNumbers
             → r.number_of b < r.number_of a
         lower a b e (x, (y, (p, (q, cites)))) =
             let h = g.falls e.from e.to (r.number_of a) (r.number_of b) x y p q cites (r.has_number e.from a e.of_first) (r.has_number e.to b e.of_second) in
-            apart h (same_place (r.number_of b) (r.number_of a))
+            apart h (same_position (r.number_of b) (r.number_of a))
           where
             apart : r.number_of b ≤ r.number_of a → (r.number_of b ≡ r.number_of a) ⊎ (r.number_of b ≢ r.number_of a) → r.number_of b < r.number_of a
             apart h (inl same) = absurd (e.apart (r.only b a (r.within e.to b e.of_second) (r.within e.from a e.of_first) same))
@@ -243,7 +243,7 @@ module _ (il : Il) (numbers ranks : List ℕ) (count : ℕ) (g : AreGroupNumbers
             Contains-append_left (listed before) (of_rank c ranks (declared il)) y (in-stands before d j y (n.is_ready d (cited-rank i j c d x y e f cites h k apart)) f k)
 
         ready-by : (x y : Name) → (i : ℕ) × ((slice_get (declared il) i ≡ Some x) × (slice_get ranks i ≡ Some c)) → Cites il x y → Stands (declared il) y → Contains ((listed before) ++ of_rank c ranks (declared il)) y
-        ready-by x y (i, (e, h)) cites (j, f) = let k = rank-of j y f in ready-at x y i j k.0 e h cites f k.1 (same_place k.0 c)
+        ready-by x y (i, (e, h)) cites (j, f) = let k = rank-of j y f in ready-at x y i j k.0 e h cites f k.1 (same_position k.0 c)
 
         ready : (x y : Name) → Stands (of_rank c ranks (declared il)) x → Cites il x y → Contains ((listed before) ++ of_rank c ranks (declared il)) y
         ready x y (m, e) cites = ready-by x y (of_rank-sound c ranks (declared il) m x e) cites (contains-stands (declared il) y cites.to)
@@ -286,7 +286,7 @@ module _ (il : Il) (numbers ranks : List ℕ) (count : ℕ) (g : AreGroupNumbers
             same (inr d) s = absurd (before-it (r.rising i c b h (omega (arith, s, d))))
 
             at : ((leb c b ≡ true) × (c ≤ b)) ⊎ ((leb c b ≡ false) × (b < c)) → b < c
-            at (inl (q, s)) = same (same_place c b) s
+            at (inl (q, s)) = same (same_position c b) s
             at (inr (q, s)) = s
 
         earlier : (f : ℕ) → ((j : ℕ) → j < f → slice_get ranks j ≡ Some c → ⊥) → (x : Name) (other : List Name) → Stands (take f (declared il)) x → (Contains (listed before) x → ⊥)

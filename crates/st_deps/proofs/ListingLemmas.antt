@@ -4,7 +4,7 @@ use Rattle.std.proofs.lemmas.List.{length-set, length-replicate}
 use Rattle.std.proofs.lemmas.Option.{slice_get-get_or, get_or_from_slice_get}
 use Rattle.std.proofs.lemmas.Bool.Decides.{leb_tells}
 use Rattle.st_graph.specs.Graph.{Edge, Stands}
-use Rattle.st_graph.proofs.Places.{same_place, below-next, get-none, get-same, get-front, get-push, get-last, get-within, get-at, set-other, set-here, set-same, replicate-get}
+use Rattle.st_graph.proofs.Positions.{same_position, below-next, get-none, get-same, get-front, get-push, get-last, get-within, get-at, set-other, set-here, set-same, replicate-get}
 use Rattle.st_deps.specs.inner.Listing.{IsFalling, IsNextRank, IsOrder, Waits, IsListing, opens}
 use Rattle.st_deps.proofs.TableLemmas.{row-sound, row-old, row-new}
 
@@ -55,7 +55,7 @@ module _ (rows : List (List ℕ)) (order : List ℕ) (listed : List Bool) (met :
       by (inr (t, h)) = l.is_met group from k b row was here h e
 
   still-met : (a m k b : ℕ) (row' : List ℕ) → slice_get (set met group at) a ≡ Some m → slice_get rows a ≡ Some row' → k < m → slice_get row' k ≡ Some b → slice_get listed b ≡ Some true
-  still-met a m k b row' e f less g = by (same_place a group)
+  still-met a m k b row' e f less g = by (same_position a group)
     where
       by : (a ≡ group) ⊎ (a ≢ group) → slice_get listed b ≡ Some true
       by (inl q) =
@@ -221,7 +221,7 @@ module _ (rows : List (List ℕ)) (order : List ℕ) (listed : List Bool) (met :
       earlier b less new (false, e) = by b less (l.others b e)
 
   stays-listed : (b : ℕ) → slice_get listed b ≡ Some true → slice_get (set listed group true) b ≡ Some true
-  stays-listed b e = by (same_place b group)
+  stays-listed b e = by (same_position b group)
     where
       by : (b ≡ group) ⊎ (b ≢ group) → slice_get (set listed group true) b ≡ Some true
       by (inl q) = ap (slice_get (set listed group true)) q ∙ set-here listed group true false open-here
@@ -237,7 +237,7 @@ module _ (rows : List (List ℕ)) (order : List ℕ) (listed : List Bool) (met :
   was-open a e = sym (set-other listed group a true (was-other a e)) ∙ e
 
   was-listed : (a : ℕ) → slice_get (set listed group true) a ≡ Some true → (slice_get listed a ≡ Some true) ⊎ (a ≡ group)
-  was-listed a e = by (same_place a group)
+  was-listed a e = by (same_position a group)
     where
       by : (a ≡ group) ⊎ (a ≢ group) → (slice_get listed a ≡ Some true) ⊎ (a ≡ group)
       by (inl q) = inr q
@@ -289,7 +289,7 @@ module _ (rows : List (List ℕ)) (order : List ℕ) (listed : List Bool) (met :
       closed-by a b f (inr q) = l.is_ready group b (0, refl) (subst (λ z. Edge rows z b) q f)
 
       pends-by : (a : ℕ) → Edge rows a group → slice_get (set listed group true) a ≡ Some false
-      pends-by a e = by (same_place a group)
+      pends-by a e = by (same_position a group)
         where
           at : (t : Bool) × (slice_get listed a ≡ Some t) → a ≢ group → slice_get (set listed group true) a ≡ Some false
           at (true, f) d = absurd (not-both listed group (l.closed a group f e) open-here)
@@ -318,7 +318,7 @@ module _ (rows : List (List ℕ)) (order : List ℕ) (listed : List Bool) (met :
           → Stands row a ⊎ (Stands ready a ⊎ Waits rows (set listed group true) waiting a)
       others-by a d (inl (k, e)) = absurd (get-none k a e)
       others-by a d (inr (inl s)) = inr (inl (ready-by a d s))
-      others-by a d (inr (inr w)) = waits-by a w (same_place w.for_which group)
+      others-by a d (inr (inr w)) = waits-by a w (same_position w.for_which group)
 
 -- fewer are not listed then
 pub opens-set : (listed : List Bool) (a : ℕ) → slice_get listed a ≡ Some false → opens (set listed a true) < opens listed

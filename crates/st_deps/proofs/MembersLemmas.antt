@@ -4,7 +4,7 @@ use Rattle.std.proofs.lemmas.List.{append-nil, length-set, length-take-le}
 use Rattle.std.proofs.lemmas.Bool.Decides.{Decides-eqb}
 use Rattle.std.proofs.lemmas.Option.{slice_get_read, get_or_from_slice_get}
 use Rattle.st_graph.specs.Graph.{Stands}
-use Rattle.st_graph.proofs.Places.{same_place, get-none, get-same, set-other, set-here, take-more}
+use Rattle.st_graph.proofs.Positions.{same_position, get-none, get-same, set-other, set-here, take-more}
 use Rattle.st_deps.specs.Cited.{Name}
 use Rattle.st_deps.specs.inner.Members.{of_rank, AreMembers}
 
@@ -35,7 +35,7 @@ pub members-more : (names : List Name) (ranks : List ℕ) (count : ℕ) (rows : 
     → AreMembers (names ++ name ∷ []) (ranks ++ rank ∷ []) count (set rows rank (old ++ name ∷ []))
 members-more names ranks count rows rank name old n m there = record {
   size = length-set rows rank (old ++ name ∷ []) ∙ m.size;
-  row = λ c less. at c less (same_place rank c);
+  row = λ c less. at c less (same_position rank c);
 }
   where
     same-test : (c : ℕ) → rank ≡ c → (rank == c) ≡ true

@@ -6,7 +6,7 @@ use Rattle.std.proofs.lemmas.Bool.Decides.{Decides-eqb}
 use Rattle.std.proofs.lemmas.Option.{get_or_from_slice_get}
 use Rattle.indexmap.specs.IndexSet.{insert_key}
 use Rattle.st_graph.specs.Graph.{Stands}
-use Rattle.st_graph.proofs.Places.{below-next, get-none, get-front, get-push, get-last, get-within, get-at}
+use Rattle.st_graph.proofs.Positions.{below-next, get-none, get-front, get-push, get-last, get-within, get-at}
 use Rattle.st_deps.specs.inner.Ranks.{AreMet, AreRanks}
 use Rattle.st_deps.proofs.TableLemmas.{or-true}
 

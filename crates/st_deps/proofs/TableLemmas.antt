@@ -8,7 +8,7 @@ use Rattle.std.proofs.lemmas.Option.{slice_get-get_or, get_or_from_slice_get}
 use Rattle.std.proofs.lemmas.Slice.Eq.{bytes_eq-Decides}
 use Rattle.st_num.specs.Names.{same_name, is_among}
 use Rattle.st_graph.specs.Graph.{Edge, Stands}
-use Rattle.st_graph.proofs.Places.{same_place, get-none, get-same, get-front, get-push, get-append, get-behind, get-within, get-at, set-other, set-here, set-same}
+use Rattle.st_graph.proofs.Positions.{same_position, get-none, get-same, get-front, get-push, get-append, get-behind, get-within, get-at, set-other, set-here, set-same}
 use Rattle.st_il.specs.declared.definition.Il.{Il}
 use Rattle.st_il.specs.declared.definition.IlDef.{IlDef}
 use Rattle.st_deps.specs.Cited.{Name}
@@ -134,7 +134,7 @@ numbers-complete known (x ∷ names) j y (suc k) e h = deeper (number_in known x
 
 module _ (graph : List (List ℕ)) (i : ℕ) (old more : List ℕ) (there : slice_get graph i ≡ Some old) where
   pub row-sound : (a b : ℕ) → Edge (set graph i (old ++ more)) a b → Edge graph a b ⊎ ((a ≡ i) × Stands more b)
-  row-sound a b (row, (e, (k, s))) = by (same_place a i)
+  row-sound a b (row, (e, (k, s))) = by (same_position a i)
     where
       split : a ≡ i → (slice_get old k ≡ Some b) ⊎ ((m : ℕ) × ((k ≡ length old + m) × (slice_get more m ≡ Some b))) → Edge graph a b ⊎ ((a ≡ i) × Stands more b)
       split q (inl g) = inl (old, (ap (slice_get graph) q ∙ there, (k, g)))
@@ -147,7 +147,7 @@ module _ (graph : List (List ℕ)) (i : ℕ) (old more : List ℕ) (there : slic
       by (inr d) = inl (row, (sym (set-other graph i a (old ++ more) d) ∙ e, (k, s)))
 
   pub row-old : (a b : ℕ) → Edge graph a b → Edge (set graph i (old ++ more)) a b
-  row-old a b (row, (e, (k, s))) = by (same_place a i)
+  row-old a b (row, (e, (k, s))) = by (same_position a i)
     where
       by : (a ≡ i) ⊎ (a ≢ i) → Edge (set graph i (old ++ more)) a b
       by (inl q) =

@@ -1,11 +1,11 @@
--- Bounds are taken off, and places closed, one after another.
+-- Bounds are taken off, and nodes closed, one after another.
 use Rattle.std.proofs.Common.{◌≡◌, ◌≢◌, ◌⊎◌, inl, inr, refl, sym, ap, ◌∙◌, subst, ℕ, zero, suc, ◌+◌, ◌-◌, ◌<◌, ◌≤◌, List, [], ◌∷◌, ◌++◌, append_assoc, length, set, Option, Some, None, slice_get, option_to_list, MatchOption, arith}
 use Rattle.std.proofs.lemmas.List.{append-nil, length-set, length_push, nil_from_length}
 use Rattle.std.proofs.lemmas.Bool.{cases_lt}
-use Rattle.st_graph.specs.declared.walk.Place.{Place}
-use Rattle.st_graph.specs.declared.walk.Place.TheVariants.{Closed}
+use Rattle.st_graph.specs.declared.walk.NodeState.{NodeState}
+use Rattle.st_graph.specs.declared.walk.NodeState.TheVariants.{Closed}
 use Rattle.st_graph.specs.inner.Walk.{IsRising, IsCut, CutsTo, ClosesTo, start_of}
-use Rattle.st_graph.proofs.Places.{same_place, get-none, get-same, get-front, get-last, get-append, set-other, set-here, set-same, get-at}
+use Rattle.st_graph.proofs.Positions.{same_position, get-none, get-same, get-front, get-last, get-append, set-other, set-here, set-same, get-at}
 use Rattle.st_graph.proofs.WalkSteps.{start-at, start-top}
 
 pub cut-none : (at : ℕ) (bs : List ℕ) → IsCut at bs bs
@@ -48,25 +48,25 @@ pub cut-falls : (o : Option ℕ) (n n' : ℕ) → MatchOption o ((n ≡ 0) × (n
 cut-falls None n n' h some = let z = h.0 in absurd (omega (arith, z, some))
 cut-falls (Some x) n n' h some = omega (arith, h)
 
--- ---- places
+-- ---- states
 
-module _ (path : List ℕ) (start component : ℕ) (before : List Place) where
+module _ (path : List ℕ) (start component : ℕ) (before : List NodeState) where
   pub closes-none : ClosesTo path start start component before before
   closes-none = record { size = refl; here = λ i v h l e w. absurd (omega (arith, h, l)); there = λ v p e. inl e }
 
-  module _ (end node : ℕ) (after : List Place) (c : ClosesTo path start end component before after) (low : start ≤ end) (at : slice_get path end ≡ Some node) where
+  module _ (end node : ℕ) (after : List NodeState) (c : ClosesTo path start end component before after) (low : start ≤ end) (at : slice_get path end ≡ Some node) where
     pub closes-more : node < length after → ClosesTo path start (end + 1) component before (set after node (Closed component))
     closes-more within = record {
       size = length-set after node (Closed component) ∙ c.size;
       here = here';
-      there = λ v p e. there' v p e (same_place v node);
+      there = λ v p e. there' v p e (same_position v node);
     }
       where
-        old : (p : Place) × (slice_get after node ≡ Some p)
+        old : (p : NodeState) × (slice_get after node ≡ Some p)
         old = get-at after node within
 
         here' : (i v : ℕ) → start ≤ i → i < end + 1 → slice_get path i ≡ Some v → v < length before → slice_get (set after node (Closed component)) v ≡ Some (Closed component)
-        here' i v h l e w = by (same_place v node)
+        here' i v h l e w = by (same_position v node)
           where
             less : v ≢ node → (i < end) ⊎ (end ≤ i) → slice_get (set after node (Closed component)) v ≡ Some (Closed component)
             less d (inl g) = set-other after node v (Closed component) d ∙ c.here i v h g e w
@@ -78,7 +78,7 @@ module _ (path : List ℕ) (start component : ℕ) (before : List Place) where
             by (inl q) = ap (slice_get (set after node (Closed component))) q ∙ set-here after node (Closed component) old.0 old.1
             by (inr d) = less d (cases_lt i end)
 
-        there' : (v : ℕ) (p : Place) → slice_get (set after node (Closed component)) v ≡ Some p → (v ≡ node) ⊎ (v ≢ node)
+        there' : (v : ℕ) (p : NodeState) → slice_get (set after node (Closed component)) v ≡ Some p → (v ≡ node) ⊎ (v ≢ node)
             → (slice_get before v ≡ Some p) ⊎ ((i : ℕ) × ((start ≤ i) × ((slice_get path i ≡ Some v) × (p ≡ Closed component))))
         there' v p e (inl q) = inr (end, (low, (at ∙ ap Some (sym q), sym (set-same after node (Closed component) p (ap (slice_get (set after node (Closed component))) (sym q) ∙ e)))))
         there' v p e (inr d) = c.there v p (sym (set-other after node v (Closed component) d) ∙ e)
@@ -96,7 +96,7 @@ module _ (path : List ℕ) (start component : ℕ) (before : List Place) where
                 let same : v ≡ node = get-same path end v node (ap (slice_get path) (sym q) ∙ e) at in
                 let s = c.size in absurd (omega (arith, same, w, s, past))
 
-  pub closes-end : (end : ℕ) (after : List Place) → ClosesTo path start end component before after → length path ≤ end → ClosesTo path start (length path) component before after
+  pub closes-end : (end : ℕ) (after : List NodeState) → ClosesTo path start end component before after → length path ≤ end → ClosesTo path start (length path) component before after
   closes-end end after c h = record { size = c.size; here = λ i v l g e w. c.here i v l (omega (arith, g, h)) e w; there = c.there }
 
 -- where the last bound is taken off, or there was none

@@ -1,5 +1,5 @@
--- what stands at a place of a list that is made of others, and ways along edges
-pub mod Places
+-- what stands at a position of a list that is made of others, and ways along edges
+pub mod Positions
 -- the walk begins a node, follows an edge, joins and closes components; it costs less, and ends
 pub mod WalkBegins
 pub mod WalkSteps

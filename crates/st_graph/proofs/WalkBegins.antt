@@ -1,49 +1,49 @@
 -- A node is begun: the walk stays right.
 use Rattle.std.proofs.Common.{◌≡◌, ◌≢◌, ◌⊎◌, inl, inr, sym, ap, ◌∙◌, subst, ℕ, suc, ◌+◌, ◌<◌, ◌≤◌, List, [], ◌∷◌, ◌++◌, length, set, map, Some, slice_get, arith}
 use Rattle.std.proofs.lemmas.List.{length-set, length_push}
-use Rattle.st_graph.specs.declared.walk.Place.{Place}
-use Rattle.st_graph.specs.declared.walk.Place.TheVariants.{New, Open, Closed}
+use Rattle.st_graph.specs.declared.walk.NodeState.{NodeState}
+use Rattle.st_graph.specs.declared.walk.NodeState.TheVariants.{New, Open, Closed}
 use Rattle.st_graph.specs.Reaches.{Reaches, itself}
 use Rattle.st_graph.specs.Graph.{Edge, Stands}
 use Rattle.st_graph.specs.inner.Walk.{IsPath, AreClosed, IsWalk, IsFollowed, LeadsOn, Leads, cost}
-use Rattle.st_graph.proofs.Places.{pair, same_place, get-same, get-front, get-behind, get-last, get-append, get-push, get-within, set-other, set-here, set-same, map-at, map-get}
+use Rattle.st_graph.proofs.Positions.{pair, same_position, get-same, get-front, get-behind, get-last, get-append, get-push, get-within, set-other, set-here, set-same, map-at, map-get}
 
-module _ (graph : List (List ℕ)) (places : List Place) (path bounds : List ℕ) (waiting : List (ℕ × ℕ)) (count node : ℕ) (row : List ℕ)
-    (w : IsWalk graph places path bounds waiting count) (new : slice_get places node ≡ Some New) (there : slice_get graph node ≡ Some row) (leads : Leads graph path node) where
+module _ (graph : List (List ℕ)) (states : List NodeState) (path bounds : List ℕ) (waiting : List (ℕ × ℕ)) (count node : ℕ) (row : List ℕ)
+    (w : IsWalk graph states path bounds waiting count) (new : slice_get states node ≡ Some New) (there : slice_get graph node ≡ Some row) (leads : Leads graph path node) where
   abbrev n : ℕ
   n = length path
 
-  abbrev places' : List Place
-  places' = set places node (Open n)
+  abbrev states' : List NodeState
+  states' = set states node (Open n)
 
   abbrev waiting' : List (ℕ × ℕ)
   waiting' = waiting ++ map (λ (to : ℕ). (n, to)) row
 
   -- what was begun before is another, and stays where it stands
-  other : (v : ℕ) (p : Place) → slice_get places v ≡ Some p → p ≢ New → v ≢ node
-  other v p e d q = d (let same : Some p ≡ Some New = sym e ∙ ap (slice_get places) q ∙ new in cc)
+  other : (v : ℕ) (p : NodeState) → slice_get states v ≡ Some p → p ≢ New → v ≢ node
+  other v p e d q = d (let same : Some p ≡ Some New = sym e ∙ ap (slice_get states) q ∙ new in cc)
 
-  kept : (v : ℕ) (p : Place) → slice_get places v ≡ Some p → p ≢ New → slice_get places' v ≡ Some p
-  kept v p e d = set-other places node v (Open n) (other v p e d) ∙ e
+  kept : (v : ℕ) (p : NodeState) → slice_get states v ≡ Some p → p ≢ New → slice_get states' v ≡ Some p
+  kept v p e d = set-other states node v (Open n) (other v p e d) ∙ e
 
-  was : (v : ℕ) (p : Place) → slice_get places' v ≡ Some p → (slice_get places v ≡ Some p) ⊎ ((v ≡ node) × (Open n ≡ p))
-  was v p e = by (same_place v node)
+  was : (v : ℕ) (p : NodeState) → slice_get states' v ≡ Some p → (slice_get states v ≡ Some p) ⊎ ((v ≡ node) × (Open n ≡ p))
+  was v p e = by (same_position v node)
     where
-      by : (v ≡ node) ⊎ (v ≢ node) → (slice_get places v ≡ Some p) ⊎ ((v ≡ node) × (Open n ≡ p))
-      by (inl q) = inr (q, set-same places node (Open n) p (ap (slice_get places') (sym q) ∙ e))
-      by (inr d) = inl (sym (set-other places node v (Open n) d) ∙ e)
+      by : (v ≡ node) ⊎ (v ≢ node) → (slice_get states v ≡ Some p) ⊎ ((v ≡ node) × (Open n ≡ p))
+      by (inl q) = inr (q, set-same states node (Open n) p (ap (slice_get states') (sym q) ∙ e))
+      by (inr d) = inl (sym (set-other states node v (Open n) d) ∙ e)
 
-  on_path' : (i v : ℕ) → slice_get (path ++ node ∷ []) i ≡ Some v → slice_get places' v ≡ Some (Open i)
+  on_path' : (i v : ℕ) → slice_get (path ++ node ∷ []) i ≡ Some v → slice_get states' v ≡ Some (Open i)
   on_path' i v e = by (get-push path node i v e)
     where
-      by : (slice_get path i ≡ Some v) ⊎ ((i ≡ n) × (node ≡ v)) → slice_get places' v ≡ Some (Open i)
+      by : (slice_get path i ≡ Some v) ⊎ ((i ≡ n) × (node ≡ v)) → slice_get states' v ≡ Some (Open i)
       by (inl h) = kept v (Open i) (w.path_is.on_path i v h) (λ q. cc)
-      by (inr (h, q)) = ap (slice_get places') (sym q) ∙ set-here places node (Open n) New new ∙ ap (λ k. Some (Open k)) (sym h)
+      by (inr (h, q)) = ap (slice_get states') (sym q) ∙ set-here states node (Open n) New new ∙ ap (λ k. Some (Open k)) (sym h)
 
-  is_open' : (i v : ℕ) → slice_get places' v ≡ Some (Open i) → slice_get (path ++ node ∷ []) i ≡ Some v
+  is_open' : (i v : ℕ) → slice_get states' v ≡ Some (Open i) → slice_get (path ++ node ∷ []) i ≡ Some v
   is_open' i v e = by (was v (Open i) e)
     where
-      by : (slice_get places v ≡ Some (Open i)) ⊎ ((v ≡ node) × (Open n ≡ Open i)) → slice_get (path ++ node ∷ []) i ≡ Some v
+      by : (slice_get states v ≡ Some (Open i)) ⊎ ((v ≡ node) × (Open n ≡ Open i)) → slice_get (path ++ node ∷ []) i ≡ Some v
       by (inl h) = get-front path (node ∷ []) i v (w.path_is.is_open i v h)
       by (inr (q, o)) = let k : n ≡ i = cc in ap (slice_get (path ++ node ∷ [])) (sym k) ∙ get-last path node ∙ ap Some (sym q)
 
@@ -85,7 +85,7 @@ module _ (graph : List (List ℕ)) (places : List Place) (path bounds : List ℕ
       by (inl a) = let s = w.path_is.bounds_within b (k, a) in let o = length_push path node in omega (arith, s, o)
       by (inr (m, q)) = let o = length_push path node in omega (arith, q, o)
 
-  path-begins : IsPath graph places' (path ++ node ∷ []) (bounds ++ n ∷ [])
+  path-begins : IsPath graph states' (path ++ node ∷ []) (bounds ++ n ∷ [])
   path-begins = record { on_path = on_path'; is_open = is_open'; forward = forward'; back = back'; bounds_rise = bounds_rise'; bounds_within = bounds_within' }
 
   -- an edge that waits waited before, or is one of the row
@@ -124,7 +124,7 @@ module _ (graph : List (List ℕ)) (places : List Place) (path bounds : List ℕ
       by (inr (m, (o, (q, g)))) (inl b) = let s = get-within waiting l (j, z) b in absurd (omega (arith, o, s, h))
       by (inr (m, (o, (q, g)))) (inr (m', (o', (q', g')))) = omega (arith, q, q')
 
-  leads-on : (i : ℕ) → i < n → (p : Place) → LeadsOn bounds i p → LeadsOn (bounds ++ n ∷ []) i p
+  leads-on : (i : ℕ) → i < n → (p : NodeState) → LeadsOn bounds i p → LeadsOn (bounds ++ n ∷ []) i p
   leads-on i l New on = on
   leads-on i l (Open k) on = λ b (m, e) h. by b h (get-push bounds n m b e)
     where
@@ -133,18 +133,18 @@ module _ (graph : List (List ℕ)) (places : List Place) (path bounds : List ℕ
       by b h (inr (o, q)) = absurd (omega (arith, h, q, l))
   leads-on i l (Closed c) on = on
 
-  followed' : (i v y : ℕ) → slice_get (path ++ node ∷ []) i ≡ Some v → Edge graph v y → Stands waiting' (i, y) ⊎ IsFollowed places' (bounds ++ n ∷ []) i y
+  followed' : (i v y : ℕ) → slice_get (path ++ node ∷ []) i ≡ Some v → Edge graph v y → Stands waiting' (i, y) ⊎ IsFollowed states' (bounds ++ n ∷ []) i y
   followed' i v y e c = by (get-push path node i v e)
     where
       Goal : Type 0
-      Goal = Stands waiting' (i, y) ⊎ IsFollowed places' (bounds ++ n ∷ []) i y
+      Goal = Stands waiting' (i, y) ⊎ IsFollowed states' (bounds ++ n ∷ []) i y
 
-      begun : (p : Place) → LeadsOn bounds i p → p ≢ New
+      begun : (p : NodeState) → LeadsOn bounds i p → p ≢ New
       begun New on q = on
       begun (Open k) on q = cc
       begun (Closed d) on q = cc
 
-      old : i < n → Stands waiting (i, y) ⊎ IsFollowed places bounds i y → Goal
+      old : i < n → Stands waiting (i, y) ⊎ IsFollowed states bounds i y → Goal
       old l (inl (k, s)) = inl (k, get-front waiting (map (λ (to : ℕ). (n, to)) row) k (i, y) s)
       old l (inr (p, (s, on))) = inr (p, (kept y p s (begun p on), leads-on i l p on))
 
@@ -158,59 +158,59 @@ module _ (graph : List (List ℕ)) (places : List Place) (path bounds : List ℕ
       by (inl h) = old (get-within path i v h) (w.waiting_is.followed i v y h c)
       by (inr (h, q)) = fresh h c.0 (ap (slice_get graph) q ∙ c.1.0) c.1.1
 
-  was-closed : (v c : ℕ) → slice_get places' v ≡ Some (Closed c) → slice_get places v ≡ Some (Closed c)
+  was-closed : (v c : ℕ) → slice_get states' v ≡ Some (Closed c) → slice_get states v ≡ Some (Closed c)
   was-closed v c e = by (was v (Closed c) e)
     where
-      by : (slice_get places v ≡ Some (Closed c)) ⊎ ((v ≡ node) × (Open n ≡ Closed c)) → slice_get places v ≡ Some (Closed c)
+      by : (slice_get states v ≡ Some (Closed c)) ⊎ ((v ≡ node) × (Open n ≡ Closed c)) → slice_get states v ≡ Some (Closed c)
       by (inl h) = h
       by (inr (q, o)) = let no : ⊥ = cc in absurd no
 
-  closed-begins : AreClosed graph places' count
+  closed-begins : AreClosed graph states' count
   closed-begins = record {
     within = λ i c e. w.closed_is.within i c (was-closed i c e);
     together = λ i j c e f. w.closed_is.together i j c (was-closed i c e) (was-closed j c f);
     falls = λ i j c e h. still j c (w.closed_is.falls i j c (was-closed i c e) h);
   }
     where
-      still : (j c : ℕ) → (d : ℕ) × ((slice_get places j ≡ Some (Closed d)) × (d ≤ c)) → (d : ℕ) × ((slice_get places' j ≡ Some (Closed d)) × (d ≤ c))
+      still : (j c : ℕ) → (d : ℕ) × ((slice_get states j ≡ Some (Closed d)) × (d ≤ c)) → (d : ℕ) × ((slice_get states' j ≡ Some (Closed d)) × (d ≤ c))
       still j c (d, (f, l)) = (d, (kept j (Closed d) f (λ q. cc), l))
 
-  pub walk-begins : IsWalk graph places' (path ++ node ∷ []) (bounds ++ n ∷ []) waiting' count
+  pub walk-begins : IsWalk graph states' (path ++ node ∷ []) (bounds ++ n ∷ []) waiting' count
   walk-begins = record {
-    size = length-set places node (Open n) ∙ w.size;
+    size = length-set states node (Open n) ∙ w.size;
     path_is = path-begins;
     waiting_is = record { waits = waits'; rise = rise'; followed = followed' };
     closed_is = closed-begins;
   }
 
 -- what is begun stays so
-pub begun-other : (places : List Place) (node k v : ℕ) → slice_get (set places node (Open k)) v ≡ Some New → slice_get places v ≡ Some New
-begun-other places node k v e = by (same_place v node)
+pub begun-other : (states : List NodeState) (node k v : ℕ) → slice_get (set states node (Open k)) v ≡ Some New → slice_get states v ≡ Some New
+begun-other states node k v e = by (same_position v node)
   where
-    by : (v ≡ node) ⊎ (v ≢ node) → slice_get places v ≡ Some New
+    by : (v ≡ node) ⊎ (v ≢ node) → slice_get states v ≡ Some New
     by (inl q) =
-        let o : Open k ≡ New = set-same places node (Open k) New (ap (slice_get (set places node (Open k))) (sym q) ∙ e) in
+        let o : Open k ≡ New = set-same states node (Open k) New (ap (slice_get (set states node (Open k))) (sym q) ∙ e) in
         let no : ⊥ = cc in absurd no
-    by (inr d) = sym (set-other places node v (Open k) d) ∙ e
+    by (inr d) = sym (set-other states node v (Open k) d) ∙ e
 
-pub begun-here : (places : List Place) (node k : ℕ) → slice_get (set places node (Open k)) node ≡ Some New → ⊥
-begun-here places node k e = let o : Open k ≡ New = set-same places node (Open k) New e in let no : ⊥ = cc in no
+pub begun-here : (states : List NodeState) (node k : ℕ) → slice_get (set states node (Open k)) node ≡ Some New → ⊥
+begun-here states node k e = let o : Open k ≡ New = set-same states node (Open k) New e in let no : ⊥ = cc in no
 
 -- the same walk
-pub walk_same : (graph : List (List ℕ)) (a a' : List Place) (b b' c c' : List ℕ) (d d' : List (ℕ × ℕ)) (e e' : ℕ) → a ≡ a' → b ≡ b' → c ≡ c' → d ≡ d' → e ≡ e'
+pub walk_same : (graph : List (List ℕ)) (a a' : List NodeState) (b b' c c' : List ℕ) (d d' : List (ℕ × ℕ)) (e e' : ℕ) → a ≡ a' → b ≡ b' → c ≡ c' → d ≡ d' → e ≡ e'
     → IsWalk graph a b c d e → IsWalk graph a' b' c' d' e'
 walk_same graph a a' b b' c c' d d' e e' p q r s t w =
-    subst (λ (z : List Place). IsWalk graph z b' c' d' e') p
+    subst (λ (z : List NodeState). IsWalk graph z b' c' d' e') p
     (subst (λ (z : List ℕ). IsWalk graph a z c' d' e') q
     (subst (λ (z : List ℕ). IsWalk graph a b z d' e') r
     (subst (λ (z : List (ℕ × ℕ)). IsWalk graph a b c z e') s
     (subst (λ (z : ℕ). IsWalk graph a b c d z) t w))))
 
 -- and what it costs
-pub cost_less : (graph : List (List ℕ)) (a a' : List Place) (b b' c c' : List ℕ) (d d' : List (ℕ × ℕ)) (n : ℕ) → a ≡ a' → b ≡ b' → c ≡ c' → d ≡ d'
+pub cost_less : (graph : List (List ℕ)) (a a' : List NodeState) (b b' c c' : List ℕ) (d d' : List (ℕ × ℕ)) (n : ℕ) → a ≡ a' → b ≡ b' → c ≡ c' → d ≡ d'
     → cost graph a b c d < n → cost graph a' b' c' d' < n
 cost_less graph a a' b b' c c' d d' n p q r s h =
-    subst (λ (z : List Place). cost graph z b' c' d' < n) p
+    subst (λ (z : List NodeState). cost graph z b' c' d' < n) p
     (subst (λ (z : List ℕ). cost graph a z c' d' < n) q
     (subst (λ (z : List ℕ). cost graph a b z d' < n) r
     (subst (λ (z : List (ℕ × ℕ)). cost graph a b c z < n) s h)))

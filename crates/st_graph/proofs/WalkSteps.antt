@@ -3,12 +3,12 @@ use Rattle.std.proofs.Common.{◌≡◌, ◌≢◌, ◌⊎◌, inl, inr, sym, ap
 use Rattle.std.proofs.lemmas.List.{append-nil, length-take-le}
 use Rattle.std.specs.Prelude.{unwrap_or}
 use Rattle.std.proofs.lemmas.Bool.{cases_lt}
-use Rattle.st_graph.specs.declared.walk.Place.{Place}
-use Rattle.st_graph.specs.declared.walk.Place.TheVariants.{New, Open, Closed}
+use Rattle.st_graph.specs.declared.walk.NodeState.{NodeState}
+use Rattle.st_graph.specs.declared.walk.NodeState.TheVariants.{New, Open, Closed}
 use Rattle.st_graph.specs.Reaches.{Reaches, itself}
 use Rattle.st_graph.specs.Graph.{Edge, Stands}
 use Rattle.st_graph.specs.inner.Walk.{IsPath, IsWaiting, IsWalk, IsFollowed, LeadsOn, Leads, CutsTo, Closes, IsRising, start_of}
-use Rattle.st_graph.proofs.Places.{pair, get-none, get-same, get-front, get-last, get-append, get-push, get-taken, get-within, get-at, get-before, reaches-trans, edge-reaches}
+use Rattle.st_graph.proofs.Positions.{pair, get-none, get-same, get-front, get-last, get-append, get-push, get-taken, get-within, get-at, get-before, reaches-trans, edge-reaches}
 
 pub taken-get : {A : Type 0} (xs : List A) (n k : ℕ) (x : A) → k < n → slice_get xs k ≡ Some x → slice_get (take n xs) k ≡ Some x
 taken-get xs zero k x h e = absurd (omega arith)
@@ -45,14 +45,14 @@ pub start-within : (bs : List ℕ) (n : ℕ) → 0 < n → ((b : ℕ) → Stands
 start-within [] n some h = some
 start-within (b ∷ bs) n some h = h (start_of (b ∷ bs)) (length (b ∷ bs) - 1, start-at (b ∷ bs) (omega arith))
 
--- where the start is behind a place, there is a bound
+-- where the start is behind a position, there is a bound
 pub start-some : (bs : List ℕ) (at : ℕ) → at < start_of bs → 0 < length bs
 start-some [] at h = absurd (omega (arith, h))
 start-some (b ∷ bs) at h = omega arith
 
 -- ---- what leads back
 
-module _ (graph : List (List ℕ)) (places : List Place) (path bounds : List ℕ) (p : IsPath graph places path bounds) (start : ℕ) (top : (c : ℕ) → Stands bounds c → c ≤ start) where
+module _ (graph : List (List ℕ)) (states : List NodeState) (path bounds : List ℕ) (p : IsPath graph states path bounds) (start : ℕ) (top : (c : ℕ) → Stands bounds c → c ≤ start) where
   back-step : (i j v u : ℕ) → start ≤ j → j ≤ suc i → slice_get path (suc i) ≡ Some v → slice_get path j ≡ Some u
       → ((y : ℕ) → slice_get path i ≡ Some y → j ≤ i → Reaches (Edge graph) y u) → Reaches (Edge graph) v u
   back-step i j v u h g e f more = by (cases_lt i j)
@@ -91,31 +91,31 @@ module _ (graph : List (List ℕ)) (places : List Place) (path bounds : List ℕ
 
 -- ---- an edge is followed
 
-module _ (graph : List (List ℕ)) (places : List Place) (path bounds : List ℕ) (rest : List (ℕ × ℕ)) (i y count : ℕ)
-    (w : IsWalk graph places path bounds (rest ++ (i, y) ∷ []) count) where
+module _ (graph : List (List ℕ)) (states : List NodeState) (path bounds : List ℕ) (rest : List (ℕ × ℕ)) (i y count : ℕ)
+    (w : IsWalk graph states path bounds (rest ++ (i, y) ∷ []) count) where
   -- what waits is left, but for the last; bounds are left that lie no further than where the edge leads
-  passed : (bounds' behind : List ℕ) → bounds ≡ bounds' ++ behind → (p : Place) → slice_get places y ≡ Some p → ((j : ℕ) → LeadsOn bounds' j p) → IsWaiting graph places path bounds' rest
+  passed : (bounds' behind : List ℕ) → bounds ≡ bounds' ++ behind → (p : NodeState) → slice_get states y ≡ Some p → ((j : ℕ) → LeadsOn bounds' j p) → IsWaiting graph states path bounds' rest
   passed bounds' behind are p there on = record {
     waits = λ j z (k, e). w.waiting_is.waits j z (k, get-front rest ((i, y) ∷ []) k (j, z) e);
     rise = λ k l a b z x h e f. w.waiting_is.rise k l a b z x h (get-front rest ((i, y) ∷ []) k (a, z) e) (get-front rest ((i, y) ∷ []) l (b, x) f);
     followed = λ j v z e c. by j z (w.waiting_is.followed j v z e c);
   }
     where
-      less : (j : ℕ) (q : Place) → LeadsOn bounds j q → LeadsOn bounds' j q
+      less : (j : ℕ) (q : NodeState) → LeadsOn bounds j q → LeadsOn bounds' j q
       less j New h = h
       less j (Open k) h = λ b (m, e) l. h b (m, subst (λ bs. slice_get bs m ≡ Some b) (sym are) (get-front bounds' behind m b e)) l
       less j (Closed c) h = h
 
-      last : (j z k : ℕ) → (slice_get rest k ≡ Some (j, z)) ⊎ ((k ≡ length rest) × (pair i y ≡ pair j z)) → Stands rest (j, z) ⊎ IsFollowed places bounds' j z
+      last : (j z k : ℕ) → (slice_get rest k ≡ Some (j, z)) ⊎ ((k ≡ length rest) × (pair i y ≡ pair j z)) → Stands rest (j, z) ⊎ IsFollowed states bounds' j z
       last j z k (inl e) = inl (k, e)
-      last j z k (inr (h, q)) = inr (p, (ap (slice_get places) (ap (λ (t : ℕ × ℕ). t.1) (sym q)) ∙ there, on j))
+      last j z k (inr (h, q)) = inr (p, (ap (slice_get states) (ap (λ (t : ℕ × ℕ). t.1) (sym q)) ∙ there, on j))
 
-      by : (j z : ℕ) → Stands (rest ++ (i, y) ∷ []) (j, z) ⊎ IsFollowed places bounds j z → Stands rest (j, z) ⊎ IsFollowed places bounds' j z
+      by : (j z : ℕ) → Stands (rest ++ (i, y) ∷ []) (j, z) ⊎ IsFollowed states bounds j z → Stands rest (j, z) ⊎ IsFollowed states bounds' j z
       by j z (inl (k, e)) = last j z k (get-push rest (i, y) k (j, z) e)
       by j z (inr (q, (s, h))) = inr (q, (s, less j q h))
 
   -- it leads to a component that is closed
-  pub walk-passes : (c : ℕ) → slice_get places y ≡ Some (Closed c) → IsWalk graph places path bounds rest count
+  pub walk-passes : (c : ℕ) → slice_get states y ≡ Some (Closed c) → IsWalk graph states path bounds rest count
   walk-passes c there = record {
     size = w.size;
     path_is = w.path_is;
@@ -124,7 +124,7 @@ module _ (graph : List (List ℕ)) (places : List Place) (path bounds : List ℕ
   }
 
   -- it leads back along the path: the components from there on are one
-  pub walk-joins : (k : ℕ) (bounds' : List ℕ) → start_of bounds ≤ i → slice_get places y ≡ Some (Open k) → CutsTo k bounds bounds' → IsWalk graph places path bounds' rest count
+  pub walk-joins : (k : ℕ) (bounds' : List ℕ) → start_of bounds ≤ i → slice_get states y ≡ Some (Open k) → CutsTo k bounds bounds' → IsWalk graph states path bounds' rest count
   walk-joins k bounds' h there cut = record {
     size = w.size;
     path_is = record {
@@ -146,7 +146,7 @@ module _ (graph : List (List ℕ)) (places : List Place) (path bounds : List ℕ
       source = w.waiting_is.waits i y (length rest, get-last rest (i, y))
 
       lead : Leads graph path y
-      lead = all-lead-on graph places path bounds w.path_is (start_of bounds) (start-top bounds w.path_is.bounds_rise) i source.0 y h source.1.0 source.1.1
+      lead = all-lead-on graph states path bounds w.path_is (start_of bounds) (start-top bounds w.path_is.bounds_rise) i source.0 y h source.1.0 source.1.1
 
       joined : (j v u : ℕ) → slice_get path j ≡ Some v → slice_get path (suc j) ≡ Some u → Stands bounds (suc j) ⊎ Reaches (Edge graph) u v → Stands bounds' (suc j) ⊎ Reaches (Edge graph) u v
       joined j v u e f (inr r) = inr r
@@ -160,11 +160,11 @@ module _ (graph : List (List ℕ)) (places : List Place) (path bounds : List ℕ
 
 -- ---- the last component is closed
 
-module _ (graph : List (List ℕ)) (places : List Place) (path bounds : List ℕ) (waiting : List (ℕ × ℕ)) (count : ℕ)
-    (w : IsWalk graph places path bounds waiting count) (start : ℕ) (places' : List Place) (bounds' : List ℕ)
+module _ (graph : List (List ℕ)) (states : List NodeState) (path bounds : List ℕ) (waiting : List (ℕ × ℕ)) (count : ℕ)
+    (w : IsWalk graph states path bounds waiting count) (start : ℕ) (states' : List NodeState) (bounds' : List ℕ)
     (top : (c : ℕ) → Stands bounds c → c ≤ start) (within : start < length path)
     (cut : ((start ≡ 0) × ((bounds ≡ []) × (bounds' ≡ []))) ⊎ (bounds ≡ bounds' ++ start ∷ []))
-    (followed : (i y : ℕ) → Stands waiting (i, y) → i < start) (closes : Closes path start count places places') where
+    (followed : (i y : ℕ) → Stands waiting (i, y) → i < start) (closes : Closes path start count states states') where
   front : (m b : ℕ) → slice_get bounds' m ≡ Some b → slice_get bounds m ≡ Some b
   front m b e = by cut
     where
@@ -192,30 +192,30 @@ module _ (graph : List (List ℕ)) (places : List Place) (path bounds : List ℕ
       by (inl (z, (f, g))) = absurd (get-none m b (subst (λ bs. slice_get bs m ≡ Some b) g e))
       by (inr q) = w.path_is.bounds_rise m (length bounds') b start (get-within bounds' m b e) (front m b e) (subst (λ bs. slice_get bs (length bounds') ≡ Some start) (sym q) (get-last bounds' start))
 
-  on : (i v : ℕ) → slice_get path i ≡ Some v → slice_get places v ≡ Some (Open i)
+  on : (i v : ℕ) → slice_get path i ≡ Some v → slice_get states v ≡ Some (Open i)
   on = w.path_is.on_path
 
-  here : (i v : ℕ) → start ≤ i → slice_get path i ≡ Some v → slice_get places' v ≡ Some (Closed count)
-  here i v h e = closes.here i v h (get-within path i v e) e (get-within places v (Open i) (on i v e))
+  here : (i v : ℕ) → start ≤ i → slice_get path i ≡ Some v → slice_get states' v ≡ Some (Closed count)
+  here i v h e = closes.here i v h (get-within path i v e) e (get-within states v (Open i) (on i v e))
 
   -- what is not in the last component is as before
-  kept : (v : ℕ) (p : Place) → slice_get places v ≡ Some p → ((i : ℕ) → start ≤ i → p ≢ Open i) → slice_get places' v ≡ Some p
-  kept v p e d = by (get-at places' v (let h = get-within places v p e in let s = closes.size in omega (arith, h, s)))
+  kept : (v : ℕ) (p : NodeState) → slice_get states v ≡ Some p → ((i : ℕ) → start ≤ i → p ≢ Open i) → slice_get states' v ≡ Some p
+  kept v p e d = by (get-at states' v (let h = get-within states v p e in let s = closes.size in omega (arith, h, s)))
     where
-      one : (q : Place) → slice_get places' v ≡ Some q → (slice_get places v ≡ Some q) ⊎ ((i : ℕ) × ((start ≤ i) × ((slice_get path i ≡ Some v) × (q ≡ Closed count)))) → slice_get places' v ≡ Some p
+      one : (q : NodeState) → slice_get states' v ≡ Some q → (slice_get states v ≡ Some q) ⊎ ((i : ℕ) × ((start ≤ i) × ((slice_get path i ≡ Some v) × (q ≡ Closed count)))) → slice_get states' v ≡ Some p
       one q f (inl g) = f ∙ sym g ∙ e
-      one q f (inr (i, (l, (g, s)))) = absurd (d i l (get-same places v p (Open i) e (on i v g)))
+      one q f (inr (i, (l, (g, s)))) = absurd (d i l (get-same states v p (Open i) e (on i v g)))
 
-      by : (q : Place) × (slice_get places' v ≡ Some q) → slice_get places' v ≡ Some p
+      by : (q : NodeState) × (slice_get states' v ≡ Some q) → slice_get states' v ≡ Some p
       by (q, f) = one q f (closes.there v q f)
 
-  kept-closed : (v c : ℕ) → slice_get places v ≡ Some (Closed c) → slice_get places' v ≡ Some (Closed c)
+  kept-closed : (v c : ℕ) → slice_get states v ≡ Some (Closed c) → slice_get states' v ≡ Some (Closed c)
   kept-closed v c e = kept v (Closed c) e (λ i l q. cc)
 
-  kept-open : (v i : ℕ) → i < start → slice_get places v ≡ Some (Open i) → slice_get places' v ≡ Some (Open i)
+  kept-open : (v i : ℕ) → i < start → slice_get states v ≡ Some (Open i) → slice_get states' v ≡ Some (Open i)
   kept-open v i l e = kept v (Open i) e (λ j h q. let same : i ≡ j = cc in omega (arith, same, h, l))
 
-  path-cut : IsPath graph places' (take start path) bounds'
+  path-cut : IsPath graph states' (take start path) bounds'
   path-cut = record {
     on_path = λ i v e. let t = get-taken path start i v e in kept-open v i t.0 (on i v t.1);
     is_open = λ i v e. open-left i v e (closes.there v (Open i) e);
@@ -229,7 +229,7 @@ module _ (graph : List (List ℕ)) (places : List Place) (path bounds : List ℕ
       still b u v l (inl s) = inl (left b s l)
       still b u v l (inr r) = inr r
 
-      open-left : (i v : ℕ) → slice_get places' v ≡ Some (Open i) → (slice_get places v ≡ Some (Open i)) ⊎ ((j : ℕ) × ((start ≤ j) × ((slice_get path j ≡ Some v) × (Open i ≡ Closed count)))) → slice_get (take start path) i ≡ Some v
+      open-left : (i v : ℕ) → slice_get states' v ≡ Some (Open i) → (slice_get states v ≡ Some (Open i)) ⊎ ((j : ℕ) × ((start ≤ j) × ((slice_get path j ≡ Some v) × (Open i ≡ Closed count)))) → slice_get (take start path) i ≡ Some v
       open-left i v f (inr (j, (l, (e, q)))) = let no : ⊥ = cc in absurd no
       open-left i v f (inl e) = by (cases_lt i start)
         where
@@ -238,16 +238,16 @@ module _ (graph : List (List ℕ)) (places : List Place) (path bounds : List ℕ
           by (inr l) =
               let g : Some (Open i) ≡ Some (Closed count) = sym f ∙ here i v l (w.path_is.is_open i v e) in let no : ⊥ = cc in absurd no
 
-  open-cases : (y : ℕ) (p : Place) → slice_get places y ≡ Some p → (i : ℕ) → i < start → LeadsOn bounds i p → IsFollowed places' bounds' i y
+  open-cases : (y : ℕ) (p : NodeState) → slice_get states y ≡ Some p → (i : ℕ) → i < start → LeadsOn bounds i p → IsFollowed states' bounds' i y
   open-cases y New e i l h = absurd h
   open-cases y (Closed c) e i l h = (Closed c, (kept-closed y c e, tt))
   open-cases y (Open k) e i l h = by (cases_lt k start)
     where
-      by : (k < start) ⊎ (start ≤ k) → IsFollowed places' bounds' i y
+      by : (k < start) ⊎ (start ≤ k) → IsFollowed states' bounds' i y
       by (inl g) = (Open k, (kept-open y k g e, λ b (m, s) o. h b (m, front m b s) o))
       by (inr g) = (Closed count, (here k y g (w.path_is.is_open k y e), tt))
 
-  waiting-cut : IsWaiting graph places' (take start path) bounds' waiting
+  waiting-cut : IsWaiting graph states' (take start path) bounds' waiting
   waiting-cut = record {
     waits = λ i y s. from i y (followed i y s) (w.waiting_is.waits i y s);
     rise = w.waiting_is.rise;
@@ -257,12 +257,12 @@ module _ (graph : List (List ℕ)) (places : List Place) (path bounds : List ℕ
       from : (i y : ℕ) → i < start → (v : ℕ) × ((slice_get path i ≡ Some v) × Edge graph v y) → (v : ℕ) × ((slice_get (take start path) i ≡ Some v) × Edge graph v y)
       from i y l (v, (e, c)) = (v, (taken-get path start i v l e, c))
 
-      by : (i y : ℕ) → i < start → Stands waiting (i, y) ⊎ IsFollowed places bounds i y → Stands waiting (i, y) ⊎ IsFollowed places' bounds' i y
+      by : (i y : ℕ) → i < start → Stands waiting (i, y) ⊎ IsFollowed states bounds i y → Stands waiting (i, y) ⊎ IsFollowed states' bounds' i y
       by i y l (inl s) = inl s
       by i y l (inr (p, (e, h))) = inr (open-cases y p e i l h)
 
   -- what the last component has an edge to is closed now
-  edge-closed : (j : ℕ) (p : Place) → slice_get places j ≡ Some p → (a : ℕ) → start ≤ a → LeadsOn bounds a p → (d : ℕ) × ((slice_get places' j ≡ Some (Closed d)) × (d ≤ count))
+  edge-closed : (j : ℕ) (p : NodeState) → slice_get states j ≡ Some p → (a : ℕ) → start ≤ a → LeadsOn bounds a p → (d : ℕ) × ((slice_get states' j ≡ Some (Closed d)) × (d ≤ count))
   edge-closed j New e a l h = absurd h
   edge-closed j (Closed d) e a l h = let s = w.closed_is.within j d e in (d, (kept-closed j d e, omega (arith, s)))
   edge-closed j (Open k) e a l h = (count, (here k j (by cut) (w.path_is.is_open k j e), omega arith))
@@ -273,12 +273,12 @@ module _ (graph : List (List ℕ)) (places : List Place) (path bounds : List ℕ
 
   -- a node of a closed component was closed before, or is in the last component
   abbrev Was : ℕ → ℕ → Type 0
-  Was v c = (slice_get places v ≡ Some (Closed c)) ⊎ ((i : ℕ) × ((start ≤ i) × ((slice_get path i ≡ Some v) × (c ≡ count))))
+  Was v c = (slice_get states v ≡ Some (Closed c)) ⊎ ((i : ℕ) × ((start ≤ i) × ((slice_get path i ≡ Some v) × (c ≡ count))))
 
-  was : (v c : ℕ) → slice_get places' v ≡ Some (Closed c) → Was v c
+  was : (v c : ℕ) → slice_get states' v ≡ Some (Closed c) → Was v c
   was v c e = by (closes.there v (Closed c) e)
     where
-      by : (slice_get places v ≡ Some (Closed c)) ⊎ ((i : ℕ) × ((start ≤ i) × ((slice_get path i ≡ Some v) × (Closed c ≡ Closed count)))) → Was v c
+      by : (slice_get states v ≡ Some (Closed c)) ⊎ ((i : ℕ) × ((start ≤ i) × ((slice_get path i ≡ Some v) × (Closed c ≡ Closed count)))) → Was v c
       by (inl h) = inl h
       by (inr (i, (l, (h, q)))) = let same : c ≡ count = cc in inr (i, (l, (h, same)))
 
@@ -290,23 +290,23 @@ module _ (graph : List (List ℕ)) (places : List Place) (path bounds : List ℕ
   together' i j c (inl e) (inl f) = w.closed_is.together i j c e f
   together' i j c (inl e) (inr (a, (l, (f, q)))) = let s = w.closed_is.within i c e in absurd (omega (arith, s, q))
   together' i j c (inr (a, (l, (e, q)))) (inl f) = let s = w.closed_is.within j c f in absurd (omega (arith, s, q))
-  together' i j c (inr (a, (l, (e, q)))) (inr (b, (m, (f, r)))) = all-lead graph places path bounds w.path_is start top b j m f a i e
+  together' i j c (inr (a, (l, (e, q)))) (inr (b, (m, (f, r)))) = all-lead graph states path bounds w.path_is start top b j m f a i e
 
-  falls' : (i j c : ℕ) → Was i c → Edge graph i j → (d : ℕ) × ((slice_get places' j ≡ Some (Closed d)) × (d ≤ c))
+  falls' : (i j c : ℕ) → Was i c → Edge graph i j → (d : ℕ) × ((slice_get states' j ≡ Some (Closed d)) × (d ≤ c))
   falls' i j c (inl e) h = still (w.closed_is.falls i j c e h)
     where
-      still : (d : ℕ) × ((slice_get places j ≡ Some (Closed d)) × (d ≤ c)) → (d : ℕ) × ((slice_get places' j ≡ Some (Closed d)) × (d ≤ c))
+      still : (d : ℕ) × ((slice_get states j ≡ Some (Closed d)) × (d ≤ c)) → (d : ℕ) × ((slice_get states' j ≡ Some (Closed d)) × (d ≤ c))
       still (d, (f, l)) = (d, (kept-closed j d f, l))
   falls' i j c (inr (a, (l, (e, q)))) h = by (w.waiting_is.followed a i j e h)
     where
-      low : (d : ℕ) × ((slice_get places' j ≡ Some (Closed d)) × (d ≤ count)) → (d : ℕ) × ((slice_get places' j ≡ Some (Closed d)) × (d ≤ c))
+      low : (d : ℕ) × ((slice_get states' j ≡ Some (Closed d)) × (d ≤ count)) → (d : ℕ) × ((slice_get states' j ≡ Some (Closed d)) × (d ≤ c))
       low (d, (f, m)) = (d, (f, omega (arith, m, q)))
 
-      by : Stands waiting (a, j) ⊎ IsFollowed places bounds a j → (d : ℕ) × ((slice_get places' j ≡ Some (Closed d)) × (d ≤ c))
+      by : Stands waiting (a, j) ⊎ IsFollowed states bounds a j → (d : ℕ) × ((slice_get states' j ≡ Some (Closed d)) × (d ≤ c))
       by (inl s) = let m = followed a j s in absurd (omega (arith, m, l))
       by (inr (p, (f, g))) = low (edge-closed j p f a l g)
 
-  pub walk-closes : IsWalk graph places' (take start path) bounds' waiting (suc count)
+  pub walk-closes : IsWalk graph states' (take start path) bounds' waiting (suc count)
   walk-closes = record {
     size = closes.size ∙ w.size;
     path_is = path-cut;
@@ -329,10 +329,10 @@ last-split (y ∷ z ∷ xs) x e =
 
 -- ---- the last edge that waits
 
-module _ (graph : List (List ℕ)) (places : List Place) (path bounds : List ℕ) (waiting : List (ℕ × ℕ)) (count from to : ℕ)
-    (w : IsWalk graph places path bounds waiting count) (last : slice_get waiting (length waiting - 1) ≡ Some (pair from to)) where
-  pub top-walk : IsWalk graph places path bounds (take (length waiting - 1) waiting ++ (from, to) ∷ []) count
-  top-walk = subst (λ (z : List (ℕ × ℕ)). IsWalk graph places path bounds z count) (last-split waiting (pair from to) last) w
+module _ (graph : List (List ℕ)) (states : List NodeState) (path bounds : List ℕ) (waiting : List (ℕ × ℕ)) (count from to : ℕ)
+    (w : IsWalk graph states path bounds waiting count) (last : slice_get waiting (length waiting - 1) ≡ Some (pair from to)) where
+  pub top-walk : IsWalk graph states path bounds (take (length waiting - 1) waiting ++ (from, to) ∷ []) count
+  top-walk = subst (λ (z : List (ℕ × ℕ)). IsWalk graph states path bounds z count) (last-split waiting (pair from to) last) w
 
   pub top-source : (v : ℕ) × ((slice_get path from ≡ Some v) × Edge graph v to)
   top-source = w.waiting_is.waits from to (length waiting - 1, last)
@@ -342,14 +342,14 @@ module _ (graph : List (List ℕ)) (places : List Place) (path bounds : List ℕ
       let h = get-within waiting k (pair i y) e in
       let r = w.waiting_is.rise k (length waiting - 1) i from y to (omega (arith, h)) e last in omega (arith, l, r)
 
-  pub top-within : ((i j : ℕ) → Edge graph i j → j < length graph) → to < length places
+  pub top-within : ((i j : ℕ) → Edge graph i j → j < length graph) → to < length states
   top-within edges = let l = edges top-source.0 to top-source.1.1 in let s = w.size in omega (arith, l, s)
 
   pub top-leads : start_of bounds ≤ from → Leads graph path to
-  top-leads h = all-lead-on graph places path bounds w.path_is (start_of bounds) (start-top bounds w.path_is.bounds_rise) from top-source.0 to h top-source.1.0 top-source.1.1
+  top-leads h = all-lead-on graph states path bounds w.path_is (start_of bounds) (start-top bounds w.path_is.bounds_rise) from top-source.0 to h top-source.1.0 top-source.1.1
 
-  pub top-joins : (k : ℕ) (bounds' : List ℕ) → start_of bounds ≤ from → slice_get places to ≡ Some (Open k) → CutsTo k bounds bounds' → IsWalk graph places path bounds' (take (length waiting - 1) waiting) count
-  top-joins k bounds' h there cut = walk-joins graph places path bounds (take (length waiting - 1) waiting) from to count top-walk k bounds' h there cut
+  pub top-joins : (k : ℕ) (bounds' : List ℕ) → start_of bounds ≤ from → slice_get states to ≡ Some (Open k) → CutsTo k bounds bounds' → IsWalk graph states path bounds' (take (length waiting - 1) waiting) count
+  top-joins k bounds' h there cut = walk-joins graph states path bounds (take (length waiting - 1) waiting) from to count top-walk k bounds' h there cut
 
-  pub top-passes : (c : ℕ) → slice_get places to ≡ Some (Closed c) → IsWalk graph places path bounds (take (length waiting - 1) waiting) count
-  top-passes c there = walk-passes graph places path bounds (take (length waiting - 1) waiting) from to count top-walk c there
+  pub top-passes : (c : ℕ) → slice_get states to ≡ Some (Closed c) → IsWalk graph states path bounds (take (length waiting - 1) waiting) count
+  top-passes c there = walk-passes graph states path bounds (take (length waiting - 1) waiting) from to count top-walk c there

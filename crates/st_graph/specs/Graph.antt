@@ -3,7 +3,7 @@
 use Rattle.std.specs.Prelude.{◌≡◌, ◌≤◌, ◌<◌, ℕ, List, length, slice_get, Some}
 use Rattle.st_graph.specs.Reaches.{Reaches}
 
--- this stands in the list, at some place
+-- this stands in the list, at some position
 abbrev pub Stands : {A : Type 0} → List A → A → Type 0
 Stands xs x = (k : ℕ) × (slice_get xs k ≡ Some x)
 

@@ -8,16 +8,16 @@ ghost use Rattle.std.specs.Prelude.{◌≡◌, ◌≢◌, ◌<◌, ◌-◌, ◌+
 ghost use Rattle.st_graph.specs.Graph.{IsNumbering, IsWithin};
 ghost use Rattle.st_graph.specs.inner.Walk.{start_of, CutsTo, Leads, Closes, IsRising, number_at};
 ghost use Rattle.st_graph.specs.inner.Walks.{IsWalk, cost, KeepsBegun};
-ghost use Rattle.st_graph.specs.declared.walk.Place.TheVariants.{New, Open, Closed};
+ghost use Rattle.st_graph.specs.declared.walk.NodeState.TheVariants.{New, Open, Closed};
 
 use st_num::{NoMemory, Row};
 use std::alloc::Global;
 
 /// Where a node stands in the walk.
 #[derive(Clone, Copy)]
-pub(crate) enum Place {
+pub(crate) enum NodeState {
     New,
-    /// At this place of the path.
+    /// At this position of the path.
     Open(usize),
     /// In the component of this number.
     Closed(usize),
@@ -26,11 +26,11 @@ pub(crate) enum Place {
 /// A walk along edges.
 #[derive(Drop)]
 pub(crate) struct Walk {
-    places: Vec<Place>,
+    states: Vec<NodeState>,
     path: Vec<usize>,
-    /// The places of the path at which components begin.
+    /// The positions of the path at which components begin.
     bounds: Vec<usize>,
-    /// The edges that are not followed yet: from which place of the path, and to what.
+    /// The edges that are not followed yet: from which position of the path, and to what.
     waiting: Vec<(usize, usize)>,
     /// A node of each component that is closed.
     closed: Vec<usize>,
@@ -43,7 +43,7 @@ fn last_start(bounds: &[usize]) -> usize
     bounds.last().copied().unwrap_or(0)
 }
 
-/// Adds edges from a place of the path to those that wait.
+/// Adds edges from a position of the path to those that wait.
 fn wait(at: usize, row: &[usize], waiting: &mut Vec<(usize, usize)>) -> Result<(), NoMemory>
     ensures { OnOk result (waiting.new.items ≡ waiting.old.items ++ map (λ to. (at, to)) row.now) }
 {
@@ -57,22 +57,22 @@ fn wait(at: usize, row: &[usize], waiting: &mut Vec<(usize, usize)>) -> Result<(
 fn begin(graph: &[Row<usize>], walk: &mut Walk, node: usize) -> Result<(), NoMemory>
     requires walk { IsWalk graph.now walk.old }
     requires graph { IsWithin graph.now }
-    requires new { slice_get walk.old.places.items node ≡ Some New }
+    requires new { slice_get walk.old.states.items node ≡ Some New }
     requires leads { Leads graph.now walk.old.path.items node }
     ensures walk { OnOk result (IsWalk graph.now walk.new) }
     ensures cost { OnOk result (cost graph.now walk.new < cost graph.now walk.old) }
     ensures begun { OnOk result (KeepsBegun walk.old walk.new) }
-    ensures here { OnOk result (slice_get walk.new.places.items node ≢ Some New) }
+    ensures here { OnOk result (slice_get walk.new.states.items node ≢ Some New) }
 {
     let at = walk.path.len();
     walk.path.push(node)?;
     walk.bounds.push(at)?;
-    walk.places[node] = Place::Open(at);
+    walk.states[node] = NodeState::Open(at);
     wait(at, graph[node].as_slice(), &mut walk.waiting)?;
     Ok(())
 }
 
-/// Takes off the bounds that lie behind a place of the path.
+/// Takes off the bounds that lie behind a position of the path.
 fn cut(bounds: &mut Vec<usize>, at: usize)
     requires { IsRising bounds.old.items }
     ensures { CutsTo at bounds.old.items bounds.new.items }
@@ -82,19 +82,19 @@ fn cut(bounds: &mut Vec<usize>, at: usize)
     }
 }
 
-/// Gives the nodes of the path from a place on the number of a component.
-fn number(path: &[usize], start: usize, component: usize, places: &mut [Place])
-    ensures { Closes path.now start component places.old places.new }
+/// Gives the nodes of the path from a position on the number of a component.
+fn number(path: &[usize], start: usize, component: usize, states: &mut [NodeState])
+    ensures { Closes path.now start component states.old states.new }
 {
     for at in start..path.len() {
         let node = path[at];
-        if node < places.len() {
-            places[node] = Place::Closed(component);
+        if node < states.len() {
+            states[node] = NodeState::Closed(component);
         }
     }
 }
 
-/// Closes the last component on the path, where it begins at this place.
+/// Closes the last component on the path, where it begins at this position.
 fn close(graph: &[Row<usize>], walk: &mut Walk, start: usize) -> Result<(), NoMemory>
     requires walk { IsWalk graph.now walk.old }
     requires start { start ≡ start_of walk.old.bounds.items }
@@ -106,7 +106,7 @@ fn close(graph: &[Row<usize>], walk: &mut Walk, start: usize) -> Result<(), NoMe
 {
     let component = walk.closed.len();
     walk.closed.push(walk.path[start])?;
-    number(&walk.path, start, component, &mut walk.places);
+    number(&walk.path, start, component, &mut walk.states);
     walk.path.truncate(start);
     walk.bounds.pop();
     Ok(())
@@ -120,11 +120,11 @@ fn last_waiting(waiting: &[(usize, usize)]) -> Option<(usize, usize)>
 }
 
 /// Where a node stands.
-fn place_of(places: &[Place], node: usize) -> Place
-    requires { node < length places.now }
-    ensures { slice_get places.now node ≡ Some result }
+fn state_of(states: &[NodeState], node: usize) -> NodeState
+    requires { node < length states.now }
+    ensures { slice_get states.now node ≡ Some result }
 {
-    places[node]
+    states[node]
 }
 
 /// Follows the last edge that waits, or closes the last component where none of it does.
@@ -143,15 +143,15 @@ fn step(graph: &[Row<usize>], walk: &mut Walk) -> Result<(), NoMemory>
     if from < start {
         return close(graph, walk, start);
     }
-    match place_of(&walk.places, to) {
+    match state_of(&walk.states, to) {
         // The edge waits on: it is taken off when it is met again.
-        Place::New => begin(graph, walk, to),
-        Place::Open(at) => {
+        NodeState::New => begin(graph, walk, to),
+        NodeState::Open(at) => {
             cut(&mut walk.bounds, at);
             walk.waiting.truncate(walk.waiting.len() - 1);
             Ok(())
         }
-        Place::Closed(_) => {
+        NodeState::Closed(_) => {
             walk.waiting.truncate(walk.waiting.len() - 1);
             Ok(())
         }
@@ -181,9 +181,9 @@ fn walk_from(graph: &[Row<usize>], walk: &mut Walk, node: usize) -> Result<(), N
     ensures walk { OnOk result (IsWalk graph.now walk.new) }
     ensures all { OnOk result (walk.new.path.items ≡ []) }
     ensures begun { OnOk result (KeepsBegun walk.old walk.new) }
-    ensures here { OnOk result (slice_get walk.new.places.items node ≢ Some New) }
+    ensures here { OnOk result (slice_get walk.new.states.items node ≢ Some New) }
 {
-    if matches!(place_of(&walk.places, node), Place::New) {
+    if matches!(state_of(&walk.states, node), NodeState::New) {
         begin(graph, walk, node)?;
         finish(graph, walk)?;
     }
@@ -195,10 +195,10 @@ fn walk_all(alloc: Global, graph: &[Row<usize>]) -> Result<Walk, NoMemory>
     requires graph { IsWithin graph.now }
     ensures walk { IfOk result (IsWalk graph.now) }
     ensures all { IfOk result (λ walk. walk.path.items ≡ []) }
-    ensures begun { IfOk result (λ walk. (v : ℕ) → slice_get walk.places.items v ≢ Some New) }
+    ensures begun { IfOk result (λ walk. (v : ℕ) → slice_get walk.states.items v ≢ Some New) }
 {
     let mut walk = Walk {
-        places: vec![in alloc; Place::New; graph.len()]?,
+        states: vec![in alloc; NodeState::New; graph.len()]?,
         path: Vec::new(alloc),
         bounds: Vec::new(alloc),
         waiting: Vec::new(alloc),
@@ -210,23 +210,23 @@ fn walk_all(alloc: Global, graph: &[Row<usize>]) -> Result<Walk, NoMemory>
     Ok(walk)
 }
 
-/// The number of the component of a node at this place.
-fn number_at(place: Place) -> usize
-    ensures { result ≡ number_at place }
+/// The number of the component of a node in this state.
+fn number_at(state: NodeState) -> usize
+    ensures { result ≡ number_at state }
 {
-    match place {
-        Place::New | Place::Open(_) => 0,
-        Place::Closed(component) => component,
+    match state {
+        NodeState::New | NodeState::Open(_) => 0,
+        NodeState::Closed(component) => component,
     }
 }
 
-/// The numbers of the components of nodes at these places.
-fn numbers_at(alloc: Global, places: &[Place]) -> Result<Vec<usize>, NoMemory>
-    ensures { IfOk result (λ numbers. numbers.items ≡ map number_at places.now) }
+/// The numbers of the components of nodes in these states.
+fn numbers_at(alloc: Global, states: &[NodeState]) -> Result<Vec<usize>, NoMemory>
+    ensures { IfOk result (λ numbers. numbers.items ≡ map number_at states.now) }
 {
     let mut numbers = Vec::new(alloc);
-    for place in places {
-        numbers.push(number_at(*place))?;
+    for state in states {
+        numbers.push(number_at(*state))?;
     }
     Ok(numbers)
 }
@@ -246,7 +246,7 @@ pub fn numbering(alloc: Global, graph: &[Row<usize>]) -> Result<Components, NoMe
     ensures { IfOk result (λ found. IsNumbering graph.now found.numbers.items found.count) }
 {
     let walk = walk_all(alloc, graph)?;
-    let numbers = numbers_at(alloc, &walk.places)?;
+    let numbers = numbers_at(alloc, &walk.states)?;
     let count = walk.closed.len();
     Ok(Components { numbers, count })
 }

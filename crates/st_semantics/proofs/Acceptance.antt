@@ -22,7 +22,7 @@ use Rattle.st_semantics.specs.Iterations.{count_of, spread, Spread, Misfit, Over
 use Rattle.st_semantics.specs.Evaluation.{Task, tasks, GivesAll, way, way_over, Ends, Goes, none, stop, next}
 use Rattle.st_semantics.specs.Variables.{cites, cites_at, has_otherwise, has_otherwise_at}
 use Rattle.st_semantics.specs.Holding as h
-use Rattle.st_semantics.specs.Holding.{Meaning, HaveValues, Place, each_place, AreElements, Holds, HoldAll}
+use Rattle.st_semantics.specs.Holding.{Meaning, HaveValues, Instance, each_instance, AreElements, Holds, HoldAll}
 use Rattle.st_semantics.specs.Calls.{CallAt, ValueAt, has_value, no_goal}
 use Rattle.st_semantics.specs.Derivation as d
 use Rattle.st_semantics.specs.Derivation.{Root, Exclusion, Proved, HasTree, IsValid, excluded}
@@ -77,19 +77,19 @@ module _ (il : Il) where
     abbrev pub Allowed : IlPrem → Type 0
     Allowed p = has_otherwise p ≡ true → excluded il root
 
-    abbrev pub AllAllowed : List Place → Type 0
+    abbrev pub AllAllowed : List Instance → Type 0
     AllAllowed [] = Unit {0}
     AllAllowed (at ∷ rest) = Allowed at.1 × AllAllowed rest
 
-    abbrev AllPlain : List Place → Type 0
+    abbrev AllPlain : List Instance → Type 0
     AllPlain [] = Unit {0}
     AllPlain (at ∷ rest) = (cites at.1 ≡ false) × AllPlain rest
 
-    each_allowed : (envs : List Env) (body : IlPrem) → Allowed body → AllAllowed (each_place envs body)
+    each_allowed : (envs : List Env) (body : IlPrem) → Allowed body → AllAllowed (each_instance envs body)
     each_allowed [] body a = tt
     each_allowed (env ∷ envs) body a = (a, each_allowed envs body a)
 
-    each_plain : (envs : List Env) (body : IlPrem) → cites body ≡ false → AllPlain (each_place envs body)
+    each_plain : (envs : List Env) (body : IlPrem) → cites body ≡ false → AllPlain (each_instance envs body)
     each_plain [] body c = tt
     each_plain (env ∷ envs) body c = (c, each_plain envs body c)
 
@@ -100,7 +100,7 @@ module _ (il : Il) where
     inner_cites p how xs body is = cites-level p (IlPrem-F.Each how xs body) is
 
     mutual
-      holds_of : {at : Place} {taken : TakenChild} {a : Answer} → Tests il notes at taken a → a ≡ None → cites at.1 ≡ false → Allowed at.1 → Holds (has_value il) (excluded il root) no_goal at.0 at.1
+      holds_of : {at : Instance} {taken : TakenChild} {a : Answer} → Tests il notes at taken a → a ≡ None → cites at.1 ≡ false → Allowed at.1 → Holds (has_value il) (excluded il root) no_goal at.0 at.1
       holds_of {at = at} (at_once (otherwise is p)) n c w = h.otherwise is (w (otherwise-level at.1 IlPrem-F.Otherwise is))
       holds_of (at_once (condition e is (inl p))) n c w = h.condition e is (checking_depth, p.0)
       holds_of (at_once (condition e is (inr p))) n c w = absurd (no_refusal _ p.3 n)
@@ -112,7 +112,7 @@ module _ (il : Il) where
           h.each how xs body envs is (elements_of how xs at.0 r envs come g)
           (hold_all_of walk n (each_plain envs body (sym (inner_cites at.1 how xs body is) ∙ c)) (each_allowed envs body (inner_allowed at.1 how xs body is w)))
 
-      hold_all_of : {ps : List Place} {cs : List Ref} {a : Answer} → Walks il notes ps cs a → a ≡ None → AllPlain ps → AllAllowed ps → HoldAll (has_value il) (excluded il root) no_goal ps
+      hold_all_of : {ps : List Instance} {cs : List Ref} {a : Answer} → Walks il notes ps cs a → a ≡ None → AllPlain ps → AllAllowed ps → HoldAll (has_value il) (excluded il root) no_goal ps
       hold_all_of (done p) n c w = h.done
       hold_all_of (left_over p) n c w = absurd (no_refusal _ p n)
       hold_all_of (missing k p) n c w = absurd (no_refusal _ p n)
@@ -121,10 +121,10 @@ module _ (il : Il) where
       hold_all_of (stops taken others rule t x p) n c w = absurd (no_refusal _ p n)
 
     -- a child, and what it adds to the premises that hold
-    abbrev Grown : Place → Type 0
-    Grown at = (one : Child) × ((rest : List Place) (children : List Child) → Proved il (has_value il) (excluded il) root rest children → Proved il (has_value il) (excluded il) root (at ∷ rest) (one ∷ children))
+    abbrev Grown : Instance → Type 0
+    Grown at = (one : Child) × ((rest : List Instance) (children : List Child) → Proved il (has_value il) (excluded il) root rest children → Proved il (has_value il) (excluded il) root (at ∷ rest) (one ∷ children))
 
-    abbrev pub HasChildren : List Place → Type 0
+    abbrev pub HasChildren : List Instance → Type 0
     HasChildren ps = (children : List Child) × Proved il (has_value il) (excluded il) root ps children
 
     judged_tree : (line : ℕ) (rel : Name) (r : Outcomes) (a : Answer) → judged notes line rel r a → a ≡ None → (vs : List Value) × (r ≡ Values vs) × HasTree il rel vs
@@ -132,7 +132,7 @@ module _ (il : Il) where
     judged_tree line rel (Values vs) a (inr p) n = absurd (no_refusal _ p.1 n)
     judged_tree line rel (Stopped o) a p n = absurd (no_refusal _ p n)
 
-    grown_goal : (at : Place) (rel : Name) (es : List IlExp) (r : Outcomes) → out-IlPrem at.1 ≡ IlPrem-F.Goal rel es → ComeTo il at.0 es r → (vs : List Value) → r ≡ Values vs → HasTree il rel vs → Grown at
+    grown_goal : (at : Instance) (rel : Name) (es : List IlExp) (r : Outcomes) → out-IlPrem at.1 ≡ IlPrem-F.Goal rel es → ComeTo il at.0 es r → (vs : List Value) → r ≡ Values vs → HasTree il rel vs → Grown at
     grown_goal at rel es r is come vs rv tree = (
       child.One tree.tree,
       λ rest children proved.
@@ -141,7 +141,7 @@ module _ (il : Il) where
     )
 
     mutual
-      child_of : {at : Place} {taken : TakenChild} {a : Answer} → Tests il notes at taken a → a ≡ None → cites at.1 ≡ true → Allowed at.1 → Grown at
+      child_of : {at : Instance} {taken : TakenChild} {a : Answer} → Tests il notes at taken a → a ≡ None → cites at.1 ≡ true → Allowed at.1 → Grown at
       child_of {at = at} (at_once (otherwise is p)) n c w = let bad : false ≡ true = sym (cites-level at.1 IlPrem-F.Otherwise is) ∙ c in cc
       child_of {at = at} (at_once (condition e is p)) n c w = let bad : false ≡ true = sym (cites-level at.1 (IlPrem-F.If e) is) ∙ c in cc
       child_of {at = at} {a = a} (at_once (goal rel es ch is t (on_line line r l come p))) n c w =
@@ -157,7 +157,7 @@ module _ (il : Il) where
                 d.each how xs body envs below.0 c is (child.outs-Many below.0) (elements_of how xs at.0 r envs come g) below.1 proved,
           )
 
-      pub proved_of : {ps : List Place} {cs : List Ref} {a : Answer} → Walks il notes ps cs a → a ≡ None → AllAllowed ps → HasChildren ps
+      pub proved_of : {ps : List Instance} {cs : List Ref} {a : Answer} → Walks il notes ps cs a → a ≡ None → AllAllowed ps → HasChildren ps
       proved_of (done p) n w = ([], d.done)
       proved_of (left_over p) n w = absurd (no_refusal _ p n)
       proved_of (missing k p) n w = absurd (no_refusal _ p n)

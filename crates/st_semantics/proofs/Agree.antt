@@ -24,7 +24,7 @@ use Rattle.st_semantics.specs.Iterations.{count_of, index_of, index_at, kind_of,
 use Rattle.st_semantics.specs.Evaluation.{Answers, Task, tasks, each_task, Ends, Goes, way, way_over, Gives, GivesAll, strict, variable, call, iteration_ends, iteration, none, stop, next}
 use Rattle.st_semantics.specs.Variables.{vars, vars_of, prem_vars, prem_vars_at, prems_vars}
 use Rattle.st_semantics.specs.Holding as h
-use Rattle.st_semantics.specs.Holding.{Meaning, value_by, HaveValues, Place, places, each_place, Derives, AreElements, Holds, HoldAll}
+use Rattle.st_semantics.specs.Holding.{Meaning, value_by, HaveValues, Instance, instances, each_instance, Derives, AreElements, Holds, HoldAll}
 use Rattle.st_semantics.proofs.Names.{agree-left, agree-right, agree-head, agree-tail, without-other, form_vars, vars-form, prem-level}
 
 columns-agree : (k : Kind) (xs : List Name) (a b : Env) → AgreeOn xs a b → columns k xs a.entries ≡ columns k xs b.entries
@@ -204,21 +204,21 @@ module _ (V : Meaning) (local : Local V) where
   HaveValues-agree (e ∷ es) (x ∷ xs) a b g h =
       (local a b e x (agree-left (vars e) (vars_of es) a b g) h.0, HaveValues-agree es xs a b (agree-right (vars e) (vars_of es) a b g) h.1)
 
-abbrev pub PlacesAgree : List Place → List Place → Type 0
-PlacesAgree [] [] = Unit {0}
-PlacesAgree (t ∷ ts) (u ∷ us) = (t.1 ≡ u.1) × AgreeOn (prem_vars t.1) t.0 u.0 × PlacesAgree ts us
-PlacesAgree [] (u ∷ us) = ⊥
-PlacesAgree (t ∷ ts) [] = ⊥
+abbrev pub InstancesAgree : List Instance → List Instance → Type 0
+InstancesAgree [] [] = Unit {0}
+InstancesAgree (t ∷ ts) (u ∷ us) = (t.1 ≡ u.1) × AgreeOn (prem_vars t.1) t.0 u.0 × InstancesAgree ts us
+InstancesAgree [] (u ∷ us) = ⊥
+InstancesAgree (t ∷ ts) [] = ⊥
 
-pub places-agree : (ps : List IlPrem) (a b : Env) → AgreeOn (prems_vars ps) a b → PlacesAgree (places a ps) (places b ps)
-places-agree [] a b g = tt
-places-agree (p ∷ ps) a b g = (refl, agree-left (prem_vars p) (prems_vars ps) a b g, places-agree ps a b (agree-right (prem_vars p) (prems_vars ps) a b g))
+pub instances-agree : (ps : List IlPrem) (a b : Env) → AgreeOn (prems_vars ps) a b → InstancesAgree (instances a ps) (instances b ps)
+instances-agree [] a b g = tt
+instances-agree (p ∷ ps) a b g = (refl, agree-left (prem_vars p) (prems_vars ps) a b g, instances-agree ps a b (agree-right (prem_vars p) (prems_vars ps) a b g))
 
-pub each_place-agree : (p : IlPrem) (as' bs : List Env) → EnvsAgree (prem_vars p) as' bs → PlacesAgree (each_place as' p) (each_place bs p)
-each_place-agree p [] [] g = tt
-each_place-agree p [] (b ∷ bs) g = absurd g
-each_place-agree p (a ∷ as') [] g = absurd g
-each_place-agree p (a ∷ as') (b ∷ bs) g = (refl, g.0, each_place-agree p as' bs g.1)
+pub each_instance-agree : (p : IlPrem) (as' bs : List Env) → EnvsAgree (prem_vars p) as' bs → InstancesAgree (each_instance as' p) (each_instance bs p)
+each_instance-agree p [] [] g = tt
+each_instance-agree p [] (b ∷ bs) g = absurd g
+each_instance-agree p (a ∷ as') [] g = absurd g
+each_instance-agree p (a ∷ as') (b ∷ bs) g = (refl, g.0, each_instance-agree p as' bs g.1)
 
 pub prem_agree : (p : IlPrem) (y : IlPrem-F IlPrem) → out-IlPrem p ≡ y → (a b : Env) → AgreeOn (prem_vars p) a b → AgreeOn (prem_vars_at (map-IlPrem IlPrem (List Name) prem_vars y)) a b
 prem_agree p y h a b g = subst (λ z. AgreeOn z a b) (prem-level p y h) g
@@ -238,9 +238,9 @@ module _ (V : Meaning) (local : Local V) (O : Type 0) (D : Derives) where
         over_agree (prem_vars body) (spread k xs a cs) (spread k xs b cs) envs
         (spread-agree k (prem_vars body) xs a b cs (agree-right (vars_of (count_of k)) xs a b first) rest) sp in
         h.each k xs body other.0 eq (cs, HaveValues-agree V local (count_of k) cs a b (agree-left (vars_of (count_of k)) xs a b first) hv, other.1)
-        (HoldAll-agree all (each_place other.0 body) (each_place-agree body envs other.0 other.2))
+        (HoldAll-agree all (each_instance other.0 body) (each_instance-agree body envs other.0 other.2))
 
-    pub HoldAll-agree : {ps : List Place} → HoldAll V O D ps → (qs : List Place) → PlacesAgree ps qs → HoldAll V O D qs
+    pub HoldAll-agree : {ps : List Instance} → HoldAll V O D ps → (qs : List Instance) → InstancesAgree ps qs → HoldAll V O D qs
     HoldAll-agree h.done [] g = h.done
     HoldAll-agree h.done (q ∷ qs) g = absurd g
     HoldAll-agree (h.more x xs) [] g = absurd g

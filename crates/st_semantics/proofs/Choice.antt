@@ -31,7 +31,7 @@ use Rattle.st_semantics.specs.Iterations.{count_of, index_of, kind_of, spread, O
 use Rattle.st_semantics.specs.Evaluation.{Answers, tasks, Gives, GivesAll}
 use Rattle.st_semantics.specs.Variables.{vars, vars_of, prem_vars}
 use Rattle.st_semantics.specs.Patterns.{binds}
-use Rattle.st_semantics.specs.Holding.{value_by, HaveValues, Place, each_place, Holds, HoldAll}
+use Rattle.st_semantics.specs.Holding.{value_by, HaveValues, Instance, each_instance, Holds, HoldAll}
 use Rattle.st_semantics.specs.Depth as d
 use Rattle.st_semantics.specs.Depth.{evaluated, side_at, bound_side, bound_count, ValuesAt, Meets, MeetsHere}
 use Rattle.st_semantics.specs.Executable.{is_countable, is_variable_at}
@@ -82,7 +82,7 @@ module _ (defs : List SyntaxDef) (C : Answers) (one : IsSingle C) where
   abbrev EachAt : Env → Iteration → List Name → IlPrem → Type 0
   EachAt env how xs body = EachHolds (value_by defs C) (Unit {0}) no_goal env how xs body
 
-  abbrev AllHoldAt : List Place → Type 0
+  abbrev AllHoldAt : List Instance → Type 0
   AllHoldAt ps = HoldAll (value_by defs C) (Unit {0}) no_goal ps
 
   -- an expression whose variables agree has one value
@@ -159,13 +159,13 @@ module _ (defs : List SyntaxDef) (C : Answers) (one : IsSingle C) where
       ])
 
   bodies_agree : (bound : List Name) (body : IlPrem) → ((a b : Env) → AgreeOn bound a b → HoldsAt a body → HoldsAt b body → AgreeOn (prem_vars body) a b)
-      → (as' bs : List Env) → EnvsAgree bound as' bs → AllHoldAt (each_place as' body) → AllHoldAt (each_place bs body) → EnvsAgree (prem_vars body) as' bs
+      → (as' bs : List Env) → EnvsAgree bound as' bs → AllHoldAt (each_instance as' body) → AllHoldAt (each_instance bs body) → EnvsAgree (prem_vars body) as' bs
   bodies_agree bound body f [] [] g p q = tt
   bodies_agree bound body f [] (b ∷ bs) g p q = absurd g
   bodies_agree bound body f (a ∷ as') [] g p q = absurd g
   bodies_agree bound body f (a ∷ as') (b ∷ bs) g p q =
-      let x = hold_first (a, body) (each_place as' body) p in
-      let y = hold_first (b, body) (each_place bs body) q in
+      let x = hold_first (a, body) (each_instance as' body) p in
+      let y = hold_first (b, body) (each_instance bs body) q in
       (f a b g.0 x.0 y.0, bodies_agree bound body f as' bs g.1 x.1 y.1)
 
   -- a name of an iteration stands in its body, and is not its index
@@ -262,11 +262,11 @@ module _ (defs : List SyntaxDef) (C : Answers) (one : IsSingle C) where
   abbrev Partner : List Name → IlPrem → Env → Type 0
   Partner names body at = (a : Env) × AgreeOn names at a × HoldsAt a body × AreLow a
 
-  partner : (names : List Name) (body : IlPrem) (as' before : List Env) (at : Env) (after : List Env) → EnvsAgree names as' (before ++ at ∷ after) → AllHoldAt (each_place as' body) → AllAreLow as' → Partner names body at
+  partner : (names : List Name) (body : IlPrem) (as' before : List Env) (at : Env) (after : List Env) → EnvsAgree names as' (before ++ at ∷ after) → AllHoldAt (each_instance as' body) → AllAreLow as' → Partner names body at
   partner names body [] [] at after g hold low = absurd g
   partner names body [] (b ∷ before) at after g hold low = absurd g
-  partner names body (a ∷ as') [] at after g hold low = (a, agree_sym names a at g.0, (hold_first (a, body) (each_place as' body) hold).0, low.0)
-  partner names body (a ∷ as') (b ∷ before) at after g hold low = partner names body as' before at after g.1 (hold_first (a, body) (each_place as' body) hold).1 low.1
+  partner names body (a ∷ as') [] at after g hold low = (a, agree_sym names a at g.0, (hold_first (a, body) (each_instance as' body) hold).0, low.0)
+  partner names body (a ∷ as') (b ∷ before) at after g hold low = partner names body as' before at after g.1 (hold_first (a, body) (each_instance as' body) hold).1 low.1
 
   -- the values of a variable at elements that agree on it
   values_moved : (names : List Name) (x : Name) → has_name names x ≡ true → (as' bs : List Env) (vs : List Value) → EnvsAgree names as' bs → ValuesAt x bs vs → ValuesAt x as' vs

@@ -20,7 +20,7 @@ use Rattle.st_semantics.specs.Variables.{vars, vars_of, prem_vars, prems_vars}
 use Rattle.st_semantics.specs.Patterns.{is_pattern, binds, bound_by}
 use Rattle.st_semantics.specs.OpenParts.{is_doubly_open}
 use Rattle.st_semantics.specs.Holding as h
-use Rattle.st_semantics.specs.Holding.{value_by, HaveValues, places, Holds, HoldAll}
+use Rattle.st_semantics.specs.Holding.{value_by, HaveValues, instances, Holds, HoldAll}
 use Rattle.st_semantics.specs.Reaching.{bound_behind}
 use Rattle.st_semantics.specs.Calls.{no_goal, Chosen, TooDeep, Decides, CallAt}
 use Rattle.st_semantics.specs.Executable.{class_of}
@@ -128,11 +128,11 @@ module _ (il : Il) (C : Answers) (one : IsSingle C) where
 
     -- what all premises up to some place bind
     premises_agree : (ps earlier after : List IlPrem) → c.premises ≡ earlier ++ (ps ++ after) → AgreeOn (bound_behind c.args earlier) a b
-        → HoldAll (value_by (syntaxes il) C) (Unit {0}) no_goal (places a ps) → HoldAll (value_by (syntaxes il) C) (Unit {0}) no_goal (places b ps) → AgreeOn (bound_behind c.args (earlier ++ ps)) a b
+        → HoldAll (value_by (syntaxes il) C) (Unit {0}) no_goal (instances a ps) → HoldAll (value_by (syntaxes il) C) (Unit {0}) no_goal (instances b ps) → AgreeOn (bound_behind c.args (earlier ++ ps)) a b
     premises_agree [] earlier after eq g ha hb = subst (λ z. AgreeOn (bound_behind c.args z) a b) (sym (append-nil earlier)) g
     premises_agree (p ∷ ps) earlier after eq g ha hb =
-        let x = hold_first (a, p) (places a ps) ha in
-        let y = hold_first (b, p) (places b ps) hb in
+        let x = hold_first (a, p) (instances a ps) ha in
+        let y = hold_first (b, p) (instances b ps) hb in
         let here : AgreeOn (prem_vars p) a b = binds_agree (syntaxes il) C one (runs.premises earlier p (ps ++ after) eq) a b g x.0 y.0 in
         let next : AgreeOn (bound_behind c.args (earlier ++ (p ∷ []))) a b =
         λ n i. agree_both (bound_behind c.args earlier) (prem_vars p) a b g here n
@@ -141,11 +141,11 @@ module _ (il : Il) (C : Answers) (one : IsSingle C) where
         (premises_agree ps (earlier ++ (p ∷ [])) after (eq ∙ sym (append_assoc earlier (p ∷ []) (ps ++ after))) next x.1 y.1)
 
     -- the premises before one, and that one
-    front_hold : (before : List IlPrem) (p : IlPrem) (after : List IlPrem) → HoldAll (value_by (syntaxes il) C) (Unit {0}) no_goal (places a (before ++ p ∷ after))
-        → HoldAll (value_by (syntaxes il) C) (Unit {0}) no_goal (places a before) × Holds (value_by (syntaxes il) C) (Unit {0}) no_goal a p
-    front_hold [] p after all = (h.done, (hold_first (a, p) (places a after) all).0)
+    front_hold : (before : List IlPrem) (p : IlPrem) (after : List IlPrem) → HoldAll (value_by (syntaxes il) C) (Unit {0}) no_goal (instances a (before ++ p ∷ after))
+        → HoldAll (value_by (syntaxes il) C) (Unit {0}) no_goal (instances a before) × Holds (value_by (syntaxes il) C) (Unit {0}) no_goal a p
+    front_hold [] p after all = (h.done, (hold_first (a, p) (instances a after) all).0)
     front_hold (q ∷ before) p after all =
-        let x = hold_first (a, q) (places a (before ++ p ∷ after)) all in
+        let x = hold_first (a, q) (instances a (before ++ p ∷ after)) all in
         let rest = front_hold before p after x.1 in
         (h.more x.0 rest.0, rest.1)
 
@@ -156,7 +156,7 @@ module _ (il : Il) (C : Answers) (one : IsSingle C) where
   -- a clause that is chosen does not meet Deep
   pub not_both : (c : ClauseDef) → ClauseBinds c → (vs : List Value) (env : Env) → Chosen il C c vs env → TooDeep il C c vs → ⊥
   not_both c runs vs env ch t =
-      let all = subst (λ z. HoldAll (value_by (syntaxes il) C) (Unit {0}) no_goal (places env z)) t.split ch.hold in
+      let all = subst (λ z. HoldAll (value_by (syntaxes il) C) (Unit {0}) no_goal (instances env z)) t.split ch.hold in
       let front = front_hold c runs vs env t.env t.before t.premise t.after all in
       let g = premises_agree c runs vs t.env env t.before [] (t.premise ∷ t.after) t.split (first_agree c runs vs t.env env t.reached.heads_are ch.heads_are) t.reached.hold front.0 in
       holds_not_deep il C one t.deep env (runs.premises t.before t.premise t.after t.split) (typed_low (syntaxes il) c.variables env ch.typed) g front.1

@@ -17,12 +17,12 @@ use Rattle.st_semantics.specs.Evaluation.{Answers, tasks, Gives}
 use Rattle.st_semantics.specs.Variables.{vars_of, prem_vars, prems_vars}
 use Rattle.st_semantics.specs.Patterns.{is_pattern}
 use Rattle.st_semantics.specs.Holding as h
-use Rattle.st_semantics.specs.Holding.{Meaning, value_by, HaveValues, Place, places, Derives, HoldAll}
+use Rattle.st_semantics.specs.Holding.{Meaning, value_by, HaveValues, Instance, instances, Derives, HoldAll}
 use Rattle.st_semantics.specs.Depth.{Setting}
 use Rattle.st_semantics.specs.Reaching.{MeetsAmong, bound_behind}
 use Rattle.st_semantics.specs.Calls.{no_goal, in_clause, Chosen, TooDeep, Decides, CallAt, ValueAt}
 use Rattle.st_semantics.proofs.Names.{Within, within-left, within-right, within-both, no_names}
-use Rattle.st_semantics.proofs.Agree.{Local, value_by-local, HaveValues-agree, HoldAll-agree, places-agree}
+use Rattle.st_semantics.proofs.Agree.{Local, value_by-local, HaveValues-agree, HoldAll-agree, instances-agree}
 use Rattle.st_semantics.proofs.Depths.{Refines, value_not_deep, Gives-up, Likely, likely, likely_then, likely_map, decided, Lowers, Gives-down, Gives-deep}
 use Rattle.st_semantics.proofs.Holding.{HaveValues-map, HoldAll-map}
 use Rattle.st_semantics.proofs.Restrict.{restricted, agree_picked, ok_restricted, typed_in, typed_of, listed_twice, listed_same}
@@ -44,11 +44,11 @@ bound_more heads earlier p top we wp =
     (append_assoc (vars_of heads) (prems_vars earlier) (prem_vars p ++ []) ∙ ap (λ z. vars_of heads ++ z) (sym (prems_vars-append earlier (p ∷ []))))
     (within-both (bound_behind heads earlier) (prem_vars p ++ []) top we (within-both (prem_vars p) [] top wp (no_names top)))
 
-pub append_hold : {V : Meaning} {O : Type 0} {D : Derives} (env : Env) (ps qs : List IlPrem) → HoldAll V O D (places env ps) → HoldAll V O D (places env qs) → HoldAll V O D (places env (ps ++ qs))
+pub append_hold : {V : Meaning} {O : Type 0} {D : Derives} (env : Env) (ps qs : List IlPrem) → HoldAll V O D (instances env ps) → HoldAll V O D (instances env qs) → HoldAll V O D (instances env (ps ++ qs))
 append_hold env [] qs a b = b
 append_hold env (p ∷ ps) qs (h.more x xs) b = h.more x (append_hold env ps qs xs b)
 
-pub hold_first : {V : Meaning} {O : Type 0} {D : Derives} (at : Place) (rest : List Place) → HoldAll V O D (at ∷ rest) → h.Holds V O D at.0 at.1 × HoldAll V O D rest
+pub hold_first : {V : Meaning} {O : Type 0} {D : Derives} (at : Instance) (rest : List Instance) → HoldAll V O D (at ∷ rest) → h.Holds V O D at.0 at.1 × HoldAll V O D rest
 hold_first at rest (h.more x xs) = (x, xs)
 
 -- In a body that can be met in this order, the premises hold where calls come to less, or one meets
@@ -59,16 +59,16 @@ module _ (s : Setting) (V : Meaning) (falls : Falls (syntaxes s.il) s.calls V) (
   abbrev pub FitsTo : List Name → Env → Type 0
   FitsTo top env = (few : List Name) → Within few top → EnvOk (syntaxes s.il) (listed_in few ls) (restricted few env) × TypedIn (syntaxes s.il) ls few env
 
-  abbrev LowAll : List Place → Type 0
+  abbrev LowAll : List Instance → Type 0
   LowAll ps = HoldAll (value_by (syntaxes s.il) s.calls) (Unit {0}) no_goal ps
 
   pub premises_down : {O : Type 0} (env : Env) → HaveValues s.meaning (tasks env heads) vs → (top : List Name) → FitsTo top env
       → (ps earlier after : List IlPrem) → all ≡ earlier ++ (ps ++ after) → Within (bound_behind heads earlier) top → Within (prems_vars ps) top
-      → LowAll (places env earlier) → HoldAll V O D (places env ps)
-      → Likely (LowAll (places env ps) ⊎ MeetsAmong s ls heads vs all)
+      → LowAll (instances env earlier) → HoldAll V O D (instances env ps)
+      → Likely (LowAll (instances env ps) ⊎ MeetsAmong s ls heads vs all)
   premises_down env pats top fit [] earlier after eq we wp hc hd = likely (inl h.done)
   premises_down env pats top fit (p ∷ ps) earlier after eq we wp hc hd =
-      let two = hold_first (env, p) (places env ps) hd in
+      let two = hold_first (env, p) (instances env ps) hd in
       let bound : List Name = bound_behind heads earlier in
       let less : Env = restricted bound env in
       let agree : AgreeOn bound less env = agree_picked bound env in
@@ -88,8 +88,8 @@ module _ (s : Setting) (V : Meaning) (falls : Falls (syntaxes s.il) s.calls V) (
             typed = (fit bound we).0;
             heads_are = HaveValues-agree s.meaning local heads vs env less (λ x i. sym (agree x (within-left (vars_of heads) (prems_vars earlier) x i))) pats;
             hold = HoldAll-map (value_by (syntaxes s.il) s.calls) s.meaning lift no_goal s.derives (λ r us bad. absurd bad) (λ o. allowed)
-                (HoldAll-agree (value_by (syntaxes s.il) s.calls) (value_by-local (syntaxes s.il) s.calls) (Unit {0}) no_goal hc (places less earlier)
-                (places-agree earlier env less (λ x i. sym (agree x (within-right (vars_of heads) (prems_vars earlier) x i)))));
+                (HoldAll-agree (value_by (syntaxes s.il) s.calls) (value_by-local (syntaxes s.il) s.calls) (Unit {0}) no_goal hc (instances less earlier)
+                (instances-agree earlier env less (λ x i. sym (agree x (within-right (vars_of heads) (prems_vars earlier) x i)))));
           };
           deep = m;
         }))
@@ -111,7 +111,7 @@ module _ (s : Setting) (V : Meaning) (falls : Falls (syntaxes s.il) s.calls V) (
 
   -- all premises from the first on, of which some are left
   pub body_down : {O : Type 0} (env : Env) → HaveValues s.meaning (tasks env heads) vs → (ps after : List IlPrem) → all ≡ ps ++ after → FitsTo (bound_behind heads ps) env
-      → HoldAll V O D (places env ps) → Likely (LowAll (places env ps) ⊎ MeetsAmong s ls heads vs all)
+      → HoldAll V O D (instances env ps) → Likely (LowAll (instances env ps) ⊎ MeetsAmong s ls heads vs all)
   body_down env pats ps after eq fit hd =
       premises_down env pats (bound_behind heads ps) fit ps [] after eq (heads_within ps) (within-right (vars_of heads) (prems_vars ps)) h.done hd
 

@@ -31,7 +31,7 @@ use Rattle.st_semantics.specs.declared.notes.Notes.{Notes}
 use Rattle.st_semantics.specs.Checks.{evaluates}
 use Rattle.st_semantics.specs.Verdict.{Verdict, IsNode}
 use Rattle.st_semantics.specs.Variables.{cites}
-use Rattle.st_semantics.specs.Holding.{Place}
+use Rattle.st_semantics.specs.Holding.{Instance}
 use Rattle.st_semantics.specs.Walks as w
 use Rattle.st_semantics.specs.Walks.{Walks, Tests}
 use Rattle.st_semantics.specs.Names.{Name}
@@ -238,9 +238,9 @@ refused =
 
 -- ---- a goal without its child and a condition that is false: the first in written order refuses
 
-pub goal_first : (il : Il) (notes : Notes) (goal condition : Place) → cites goal.1 ≡ true → Walks il notes (goal ∷ condition ∷ []) [] (Some V9)
+pub goal_first : (il : Il) (notes : Notes) (goal condition : Instance) → cites goal.1 ≡ true → Walks il notes (goal ∷ condition ∷ []) [] (Some V9)
 goal_first _ notes goal condition c = w.missing c refl
 
-pub condition_first : (il : Il) (notes : Notes) (goal condition : Place) → cites condition.1 ≡ false → Tests il notes condition None (Some V8)
+pub condition_first : (il : Il) (notes : Notes) (goal condition : Instance) → cites condition.1 ≡ false → Tests il notes condition None (Some V8)
     → Walks il notes (condition ∷ goal ∷ []) [] (Some V8)
 condition_first _ notes goal condition c t = w.stops None [] V8 (c, refl) t refl

@@ -10,7 +10,7 @@ use Rattle.st_semantics.specs.Names.{Name}
 use Rattle.st_semantics.specs.Iterations.{count_of}
 use Rattle.st_semantics.specs.Evaluation.{Task, tasks}
 use Rattle.st_semantics.specs.Holding as h
-use Rattle.st_semantics.specs.Holding.{Meaning, HaveValues, Derives, Place, AreElements, Holds, HoldAll}
+use Rattle.st_semantics.specs.Holding.{Meaning, HaveValues, Derives, Instance, AreElements, Holds, HoldAll}
 
 module _ (V W : Meaning) (more : (env : Env) (e : IlExp) (v : Value) → V env e v → W env e v) where
   pub HaveValues-map : (ts : List Task) (vs : List Value) → HaveValues V ts vs → HaveValues W ts vs
@@ -29,6 +29,6 @@ module _ (V W : Meaning) (more : (env : Env) (e : IlExp) (v : Value) → V env e
     Holds-map D E g f {env = env} (h.goal r es vs is have d) = h.goal r es vs is (HaveValues-map (tasks env es) vs have) (g r vs d)
     Holds-map D E g f {env = env} (h.each how xs body envs is are all) = h.each how xs body envs is (AreElements-map how xs env envs are) (HoldAll-map D E g f all)
 
-    pub HoldAll-map : {P Q : Type 0} (D E : Derives) → ((r : Name) (vs : List Value) → D r vs → E r vs) → (P → Q) → {ps : List Place} → HoldAll V P D ps → HoldAll W Q E ps
+    pub HoldAll-map : {P Q : Type 0} (D E : Derives) → ((r : Name) (vs : List Value) → D r vs → E r vs) → (P → Q) → {ps : List Instance} → HoldAll V P D ps → HoldAll W Q E ps
     HoldAll-map D E g f h.done = h.done
     HoldAll-map D E g f (h.more x xs) = h.more (Holds-map D E g f x) (HoldAll-map D E g f xs)

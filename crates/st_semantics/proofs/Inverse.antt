@@ -18,7 +18,7 @@ use Rattle.st_semantics.specs.Forms.{HasForm, Strict, Variable, Calls, Iterates}
 use Rattle.st_semantics.specs.Iterations.{count_of, spread, Spread, Misfit, Over, gathered}
 use Rattle.st_semantics.specs.Evaluation.{Answers, Task, tasks, each_task, applied, Called, Ends, Goes, way, way_over, Gives, GivesAll, strict, variable, call, iteration_ends, iteration}
 use Rattle.st_semantics.specs.Holding as h
-use Rattle.st_semantics.specs.Holding.{Meaning, value_by, HaveValues, Derives, AreElements, each_place, Holds, HoldAll}
+use Rattle.st_semantics.specs.Holding.{Meaning, value_by, HaveValues, Derives, AreElements, each_instance, Holds, HoldAll}
 use Rattle.st_semantics.proofs.Singles.{HasForm-single}
 use Rattle.st_semantics.proofs.Values.{have_values, not_value}
 
@@ -153,7 +153,7 @@ module _ (V : Meaning) (O : Type 0) (D : Derives) where
   holds_goal env p relation es (h.each i xs body envs eq el all) k = cc
 
   abbrev pub EachHolds : Env → Iteration → List Name → IlPrem → Type 0
-  EachHolds env k xs body = (envs : List Env) × AreElements V k xs env envs × HoldAll V O D (each_place envs body)
+  EachHolds env k xs body = (envs : List Env) × AreElements V k xs env envs × HoldAll V O D (each_instance envs body)
 
   pub holds_each : (env : Env) (p : IlPrem) (k : Iteration) (xs : List Name) (body : IlPrem) → Holds V O D env p → out-IlPrem p ≡ IlPrem-F.Each k xs body → EachHolds env k xs body
   holds_each env p k xs body (h.condition e eq g) i = cc

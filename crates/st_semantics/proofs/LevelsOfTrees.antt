@@ -18,7 +18,7 @@ use Rattle.st_semantics.specs.Directions.{inputs_of}
 use Rattle.st_semantics.specs.Variables.{has_otherwise, have_otherwise}
 use Rattle.st_semantics.specs.Breaches.{KeepModes}
 use Rattle.st_semantics.specs.Holding as h
-use Rattle.st_semantics.specs.Holding.{Place, places, each_place, Holds, HoldAll}
+use Rattle.st_semantics.specs.Holding.{Instance, instances, each_instance, Holds, HoldAll}
 use Rattle.st_semantics.specs.Calls.{has_value, no_goal}
 use Rattle.st_semantics.specs.Derivation as d
 use Rattle.st_semantics.specs.Derivation.{Root, Exclusion, Valid, Proved, exclusion_to, root_of}
@@ -34,15 +34,15 @@ use Rattle.st_semantics.proofs.Levels.{level, few_rules}
 abbrev Moves : Type 0 → Type 0 → IlPrem → Type 0
 Moves P Q p = has_otherwise p ≡ true → P → Q
 
-abbrev AllMove : Type 0 → Type 0 → List Place → Type 0
+abbrev AllMove : Type 0 → Type 0 → List Instance → Type 0
 AllMove P Q [] = Unit {0}
 AllMove P Q (at ∷ rest) = Moves P Q at.1 × AllMove P Q rest
 
-each_moves : (P Q : Type 0) (envs : List Env) (body : IlPrem) → Moves P Q body → AllMove P Q (each_place envs body)
+each_moves : (P Q : Type 0) (envs : List Env) (body : IlPrem) → Moves P Q body → AllMove P Q (each_instance envs body)
 each_moves P Q [] body m = tt
 each_moves P Q (env ∷ envs) body m = (m, each_moves P Q envs body m)
 
-all_move : (P Q : Type 0) (env : Env) (ps : List IlPrem) → (have_otherwise ps ≡ true → P → Q) → AllMove P Q (places env ps)
+all_move : (P Q : Type 0) (env : Env) (ps : List IlPrem) → (have_otherwise ps ≡ true → P → Q) → AllMove P Q (instances env ps)
 all_move P Q env [] m = tt
 all_move P Q env (p ∷ ps) m =
     (λ has. m (or_left (has_otherwise p) (have_otherwise ps) has), all_move P Q env ps (λ has. m (or_right (has_otherwise p) (have_otherwise ps) has)))
@@ -59,7 +59,7 @@ module _ (il : Il) (P Q : Type 0) where
     holds_moved {p = p} (h.each how xs body envs is are all) m =
         h.each how xs body envs is are (all_moved all (each_moves P Q envs body (inner_moves P Q p how xs body is m)))
 
-    all_moved : {ps : List Place} → HoldAll (has_value il) P no_goal ps → AllMove P Q ps → HoldAll (has_value il) Q no_goal ps
+    all_moved : {ps : List Instance} → HoldAll (has_value il) P no_goal ps → AllMove P Q ps → HoldAll (has_value il) Q no_goal ps
     all_moved h.done m = h.done
     all_moved (h.more x xs) m = h.more (holds_moved x m.0) (all_moved xs m.1)
 
@@ -91,7 +91,7 @@ module _ (il : Il) (modes : KeepModes il) (n m : ℕ) (high : count_of_rules il 
         d.node name rule is at ok gives
         (proved_moved root proved (all_move (At n root) (At m root) tree.env rule.premises (moves name tree.rule rule (inputs_of il name tree.values) at)))
 
-    proved_moved : (root : Root) {ps : List Place} {cs : List Child} → Proved il (has_value il) (At n) root ps cs → AllMove (At n root) (At m root) ps
+    proved_moved : (root : Root) {ps : List Instance} {cs : List Child} → Proved il (has_value il) (At n) root ps cs → AllMove (At n root) (At m root) ps
         → Proved il (has_value il) (At m) root ps cs
     proved_moved root d.done move = d.done
     proved_moved root (d.plain c x rest) move = d.plain c (holds_moved il (At n root) (At m root) x move.0) (proved_moved root rest move.1)

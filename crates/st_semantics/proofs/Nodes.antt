@@ -28,7 +28,7 @@ use Rattle.st_semantics.specs.Orders.{is_order}
 use Rattle.st_semantics.specs.ModeRules.{IsOtherwise, cites_nothing}
 use Rattle.st_semantics.specs.Breaches.{KeepModes}
 use Rattle.st_semantics.specs.Holding as h
-use Rattle.st_semantics.specs.Holding.{Meaning, HaveValues, Place, places, HoldAll}
+use Rattle.st_semantics.specs.Holding.{Meaning, HaveValues, Instance, instances, HoldAll}
 use Rattle.st_semantics.specs.Calls.{has_value, no_goal}
 use Rattle.st_semantics.specs.Derivation as d
 use Rattle.st_semantics.specs.Derivation.{Root, Exclusion, Valid, Proved, HasTree, IsValid, excluded, exclusion_to, NoneBefore, derived}
@@ -108,7 +108,7 @@ some_values V env (false ∷ m) (e ∷ es) (v ∷ vs) have = some_values V env m
 
 -- ---- a tree of a rule without relation premises
 
-abbrev pub AllPlain : List Place → Type 0
+abbrev pub AllPlain : List Instance → Type 0
 AllPlain [] = Unit {0}
 AllPlain (at ∷ rest) = (cites at.1 ≡ false) × AllPlain rest
 
@@ -120,11 +120,11 @@ not_true : (a : Bool) → not a ≡ true → a ≡ false
 not_true true e = cc
 not_true false e = refl
 
-pub all_plain : (env : Env) (ps : List IlPrem) → list_all (λ (p : IlPrem). not (cites p)) ps ≡ true → AllPlain (places env ps)
+pub all_plain : (env : Env) (ps : List IlPrem) → list_all (λ (p : IlPrem). not (cites p)) ps ≡ true → AllPlain (instances env ps)
 all_plain env [] e = tt
 all_plain env (p ∷ ps) e = let parts = and_true (not (cites p)) _ e in (not_true (cites p) parts.0, all_plain env ps parts.1)
 
-plain_holds : (il : Il) (O : Exclusion) {root : Root} {ps : List Place} {cs : List Child} → Proved il (has_value il) O root ps cs
+plain_holds : (il : Il) (O : Exclusion) {root : Root} {ps : List Instance} {cs : List Child} → Proved il (has_value il) O root ps cs
     → AllPlain ps → HoldAll (has_value il) (Unit {0}) (derived il) ps
 plain_holds il O d.done plain = h.done
 plain_holds il O (d.plain c x rest) plain =
@@ -236,7 +236,7 @@ named_so il None found f e = cc
 
 module _ (il : Il) (modes : KeepModes il) (stable : TrialsAreStable il) (notes : Notes)
     (trees : (line : ℕ) (relation : Name) (vs : List Value) → Judges notes line relation vs → HasTree il relation vs) (node : NodeLine) where
-  allowed_all : (root : Root) (env : Env) (ps : List IlPrem) → (have_otherwise ps ≡ true → excluded il root) → AllAllowed il notes trees root (places env ps)
+  allowed_all : (root : Root) (env : Env) (ps : List IlPrem) → (have_otherwise ps ≡ true → excluded il root) → AllAllowed il notes trees root (instances env ps)
   allowed_all root env [] f = tt
   allowed_all root env (p ∷ ps) f =
       (λ h. f (or_left (has_otherwise p) (have_otherwise ps) h), allowed_all root env ps (λ h. f (or_right (has_otherwise p) (have_otherwise ps) h)))
@@ -264,7 +264,7 @@ module _ (il : Il) (modes : KeepModes il) (stable : TrialsAreStable il) (notes :
       let T2 = asks (All (IsNode notes) (lines_cited node.children)) V4 in
       let T3 = asks (length node.values ≡ length rule.conclusion) V7 in
       let T4 = evaluate_each il node.env rule.conclusion node.values in
-      let T5 = Walks il notes (places node.env rule.premises) node.children in
+      let T5 = Walks il notes (instances node.env rule.premises) node.children in
       let T6 = excludes il node number rule in
       let one = both T1 (and_then T2 (and_then T3 (and_then T4 (and_then T5 T6)))) None t refl in
       let two = both T2 (and_then T3 (and_then T4 (and_then T5 T6))) None one.1 refl in

@@ -28,7 +28,7 @@ use Rattle.st_semantics.specs.Evaluation.{Answers, Task, tasks, Gives, GivesAll,
 use Rattle.st_semantics.specs.Variables.{vars, vars_of, prem_vars}
 use Rattle.st_semantics.specs.Patterns.{is_pattern}
 use Rattle.st_semantics.specs.Holding as h
-use Rattle.st_semantics.specs.Holding.{Meaning, value_by, HaveValues, Place, each_place, Derives, Holds, HoldAll}
+use Rattle.st_semantics.specs.Holding.{Meaning, value_by, HaveValues, Instance, each_instance, Derives, Holds, HoldAll}
 use Rattle.st_semantics.specs.Depth as d
 use Rattle.st_semantics.specs.Depth.{Setting, HoldIn, IsDeep, AreDeep, evaluated, side_at, bound_side, bound_count, AllTypedIn, Passed, Unfolds, MeetsHere, Meets}
 use Rattle.st_semantics.specs.Kinds.{AreOfItsKind}
@@ -120,7 +120,7 @@ module _ (s : Setting) (V : Meaning) (falls : Falls (syntaxes s.il) s.calls V) w
   abbrev HoldsLow : Env → IlPrem → Type 0
   HoldsLow env p = Holds (value_by (syntaxes s.il) s.calls) (Unit {0}) no_goal env p
 
-  abbrev AllHoldLow : List Place → Type 0
+  abbrev AllHoldLow : List Instance → Type 0
   AllHoldLow ps = HoldAll (value_by (syntaxes s.il) s.calls) (Unit {0}) no_goal ps
 
   -- values stay values, or one of the evaluations is Deep
@@ -201,25 +201,25 @@ module _ (s : Setting) (V : Meaning) (falls : Falls (syntaxes s.il) s.calls V) w
   ]) (HaveValues-down (tasks env (count_of k)) cs hv)
   counts_down bound less env k cs (inr free) g hv = likely (inl (HaveValues-pattern env (count_of k) cs free hv))
 
-  -- several places, of which each can be met
-  abbrev PlacesRun : Derives → List Name → List Listed → List Place → Type 0
-  PlacesRun D bound ls [] = Unit {0}
-  PlacesRun D bound ls (at ∷ rest) = Runs D bound ls at.1 × TypedIn (syntaxes s.il) ls (without bound (prem_vars at.1)) at.0 × PlacesRun D bound ls rest
+  -- several instances, of which each can be met
+  abbrev InstancesRun : Derives → List Name → List Listed → List Instance → Type 0
+  InstancesRun D bound ls [] = Unit {0}
+  InstancesRun D bound ls (at ∷ rest) = Runs D bound ls at.1 × TypedIn (syntaxes s.il) ls (without bound (prem_vars at.1)) at.0 × InstancesRun D bound ls rest
 
-  pub places_run : (D : Derives) (bound : List Name) (ls : List Listed) (envs : List Env) (p : IlPrem) → Runs D bound ls p → AllTypedIn s.il ls (without bound (prem_vars p)) envs → PlacesRun D bound ls (each_place envs p)
-  places_run D bound ls [] p r t = tt
-  places_run D bound ls (env ∷ envs) p r t = (r, t.0, places_run D bound ls envs p r t.1)
+  pub instances_run : (D : Derives) (bound : List Name) (ls : List Listed) (envs : List Env) (p : IlPrem) → Runs D bound ls p → AllTypedIn s.il ls (without bound (prem_vars p)) envs → InstancesRun D bound ls (each_instance envs p)
+  instances_run D bound ls [] p r t = tt
+  instances_run D bound ls (env ∷ envs) p r t = (r, t.0, instances_run D bound ls envs p r t.1)
 
   -- the first of them meets Deep, and those before it hold
-  abbrev FirstDeep : List Name → List Listed → List Place → Type 0
+  abbrev FirstDeep : List Name → List Listed → List Instance → Type 0
   FirstDeep bound ls [] = ⊥
   FirstDeep bound ls (at ∷ rest) = Meets s bound ls at.0 at.1 ⊎ (HoldsLow at.0 at.1 × FirstDeep bound ls rest)
 
   abbrev DeepElement : List Name → List Listed → List Env → IlPrem → Type 0
   DeepElement bound ls envs p =
-      (before : List Env) × (at : Env) × (after : List Env) × (envs ≡ before ++ at ∷ after) × AllTypedIn s.il ls (without bound (prem_vars p)) before × AllHoldLow (each_place before p) × Meets s bound ls at p
+      (before : List Env) × (at : Env) × (after : List Env) × (envs ≡ before ++ at ∷ after) × AllTypedIn s.il ls (without bound (prem_vars p)) before × AllHoldLow (each_instance before p) × Meets s bound ls at p
 
-  pub deep_element : (bound : List Name) (ls : List Listed) (envs : List Env) (p : IlPrem) → AllTypedIn s.il ls (without bound (prem_vars p)) envs → FirstDeep bound ls (each_place envs p) → DeepElement bound ls envs p
+  pub deep_element : (bound : List Name) (ls : List Listed) (envs : List Env) (p : IlPrem) → AllTypedIn s.il ls (without bound (prem_vars p)) envs → FirstDeep bound ls (each_instance envs p) → DeepElement bound ls envs p
   deep_element bound ls [] p t f = absurd f
   deep_element bound ls (env ∷ envs) p t (inl m) = ([], env, envs, refl, tt, h.done, m)
   deep_element bound ls (env ∷ envs) p t (inr f) =
@@ -227,7 +227,7 @@ module _ (s : Setting) (V : Meaning) (falls : Falls (syntaxes s.il) s.calls V) w
       (env ∷ w.0, w.1, w.2, ap (λ z. env ∷ z) w.3, (t.0, w.4), h.more f.0 w.5, w.6)
 
   module _ (lift : (env : Env) (e : IlExp) (v : Value) → Gives (syntaxes s.il) s.calls env e (Val v) → s.meaning env e v) (allowed : s.otherwise) where
-    pub hold_in : (ps : List Place) → AllHoldLow ps → HoldIn s ps
+    pub hold_in : (ps : List Instance) → AllHoldLow ps → HoldIn s ps
     hold_in ps all = HoldAll-map (value_by (syntaxes s.il) s.calls) s.meaning lift no_goal s.derives (λ r vs bad. absurd bad) (λ o. allowed) all
 
     mutual
@@ -246,12 +246,12 @@ module _ (s : Setting) (V : Meaning) (falls : Falls (syntaxes s.il) s.calls V) w
                   let y : DeepElement (index_of k ++ bound) (listed_inside k xs ls) envs body = deep_element (index_of k ++ bound) (listed_inside k xs ls) envs body elements f in
                   inr (d.element k xs body y.0 y.1 y.2 eq
                   (record { more = env; agrees = g; elements = (cs, HaveValues-map (value_by (syntaxes s.il) s.calls) s.meaning lift (tasks env (count_of k)) cs hvc, sp ∙ ap Over y.3) })
-                  (record { typed = y.4; hold = hold_in (each_place y.0 body) y.5 }) y.6)
-            ]) (HoldAll-down all (index_of k ++ bound) (listed_inside k xs ls) (places_run D (index_of k ++ bound) (listed_inside k xs ls) envs body w.2 elements))
+                  (record { typed = y.4; hold = hold_in (each_instance y.0 body) y.5 }) y.6)
+            ]) (HoldAll-down all (index_of k ++ bound) (listed_inside k xs ls) (instances_run D (index_of k ++ bound) (listed_inside k xs ls) envs body w.2 elements))
             | inr deep ↦ likely (inr (d.here (d.count k xs body eq deep)))
           ])
 
-      pub HoldAll-down : {O : Type 0} {D : Derives} {ps : List Place} → HoldAll V O D ps → (bound : List Name) (ls : List Listed) → PlacesRun D bound ls ps → Likely (AllHoldLow ps ⊎ FirstDeep bound ls ps)
+      pub HoldAll-down : {O : Type 0} {D : Derives} {ps : List Instance} → HoldAll V O D ps → (bound : List Name) (ls : List Listed) → InstancesRun D bound ls ps → Likely (AllHoldLow ps ⊎ FirstDeep bound ls ps)
       HoldAll-down h.done bound ls w = likely (inl h.done)
       HoldAll-down (h.more {at = at} x xs) bound ls w = likely_then (Holds-down x bound ls w.0 w.1 at.0 (λ y i. refl)) (elim [
         | inl a ↦ likely_map (elim [ inl b ↦ inl (h.more a b) | inr f ↦ inr (inr (a, f)) ]) (HoldAll-down xs bound ls w.2)
@@ -287,7 +287,7 @@ module _ (il : Il) (C D : Answers) (low : Lowers C D) where
                 (record { more = u.more; agrees = u.agrees; elements = (u.elements.0, hvc, u.elements.2 ∙ ap Over (ap (λ z. z ++ rest) y.3 ∙ append_assoc y.0 (y.1 ∷ y.2) rest)) })
                 (record { typed = y.4; hold = y.5 }) y.6)
           ]) (HoldAll-down (in_clause il C) (value_by (syntaxes il) D) low_falls (λ env e v g. g) tt done.hold (index_of k ++ bound) (listed_inside k xs ls)
-              (places_run (in_clause il C) (value_by (syntaxes il) D) low_falls no_goal (index_of k ++ bound) (listed_inside k xs ls) envs body w.2 done.typed))
+              (instances_run (in_clause il C) (value_by (syntaxes il) D) low_falls no_goal (index_of k ++ bound) (listed_inside k xs ls) envs body w.2 done.typed))
           | inr deep ↦ likely (inr (d.here (d.count k xs body eq deep)))
         ])
 

@@ -21,7 +21,7 @@ use Rattle.st_semantics.specs.Evaluation.{tasks, Gives}
 use Rattle.st_semantics.specs.Variables.{vars, vars_of, prem_vars, prems_vars, cites}
 use Rattle.st_semantics.specs.Patterns.{is_pattern}
 use Rattle.st_semantics.specs.Holding as h
-use Rattle.st_semantics.specs.Holding.{Meaning, value_by, HaveValues, Place, places, Derives, Holds, HoldAll}
+use Rattle.st_semantics.specs.Holding.{Meaning, value_by, HaveValues, Instance, instances, Derives, Holds, HoldAll}
 use Rattle.st_semantics.specs.Reaching.{Reached, MeetsAmong, bound_behind, listed_behind}
 use Rattle.st_semantics.specs.Calls.{no_goal, CallAt, has_value, has_value_at}
 use Rattle.st_semantics.specs.Derivation.{derived}
@@ -34,7 +34,7 @@ use Rattle.st_semantics.specs.Checks.{checking_depth}
 use Rattle.st_semantics.specs.Evidence.{IsDeepTrial, GivesOutputs, in_trial, in_trial_at}
 use Rattle.st_semantics.specs.inner.Trials.{TrialsAreStable}
 use Rattle.st_semantics.proofs.Names.{known-within, and-both, or-cases, within-left, within-right}
-use Rattle.st_semantics.proofs.Agree.{Local, Gives-agree, HaveValues-agree, HoldAll-agree, places-agree}
+use Rattle.st_semantics.proofs.Agree.{Local, Gives-agree, HaveValues-agree, HoldAll-agree, instances-agree}
 use Rattle.st_semantics.proofs.Depths.{Likely, likely, likely_then, likely_map, Gives-up, Gives-down, value_not_deep}
 use Rattle.st_semantics.proofs.PatternParts.{Gives-pattern}
 use Rattle.st_semantics.proofs.Holding.{HoldAll-map}
@@ -131,11 +131,11 @@ length_split [] x after = omega arith
 length_split (y ∷ ys) x after = let more = length_split ys x after in omega (arith, more)
 
 module _ {V : Meaning} {O : Type 0} {D : Derives} (env : Env) where
-  hold_each : (ps : List IlPrem) → HoldAll V O D (places env ps) → Each (λ (p : IlPrem). Holds V O D env p) ps
+  hold_each : (ps : List IlPrem) → HoldAll V O D (instances env ps) → Each (λ (p : IlPrem). Holds V O D env p) ps
   hold_each [] all = tt
   hold_each (p ∷ ps) (h.more x xs) = (x, hold_each ps xs)
 
-  each_hold : (ps : List IlPrem) → Each (λ (p : IlPrem). Holds V O D env p) ps → HoldAll V O D (places env ps)
+  each_hold : (ps : List IlPrem) → Each (λ (p : IlPrem). Holds V O D env p) ps → HoldAll V O D (instances env ps)
   each_hold [] all = h.done
   each_hold (p ∷ ps) (x, xs) = h.more x (each_hold ps xs)
 
@@ -216,7 +216,7 @@ module _ (il : Il) (runs : AllCanRun (clauses_in il.defs)) where
         (inl (ap not (true_each (λ (q : IlPrem). not (cites q)) (in_order rule.premises order)
         (each_in_order (λ (q : IlPrem). not (cites q) ≡ true) rule.premises order (each_true (λ (q : IlPrem). not (cites q)) rule.premises plain)))))
 
-    in_ordered : HoldAll (has_value il) (Unit {0}) (derived il) (places gives.env (in_order rule.premises order))
+    in_ordered : HoldAll (has_value il) (Unit {0}) (derived il) (instances gives.env (in_order rule.premises order))
     in_ordered = each_hold gives.env (in_order rule.premises order)
         (each_in_order (λ (p : IlPrem). Holds (has_value il) (Unit {0}) (derived il) gives.env p) rule.premises order (hold_each gives.env rule.premises gives.reached.hold))
 
@@ -231,7 +231,7 @@ module _ (il : Il) (runs : AllCanRun (clauses_in il.defs)) where
     lift : (env : Env) (e : IlExp) (v : Value) → Gives (syntaxes il) (CallAt il checking_depth) env e (Val v) → has_value il env e v
     lift env e v g = (checking_depth, g)
 
-    premises_at : Likely (HoldAll (value_by (syntaxes il) (CallAt il checking_depth)) (Unit {0}) no_goal (places gives.env (in_order rule.premises order)))
+    premises_at : Likely (HoldAll (value_by (syntaxes il) (CallAt il checking_depth)) (Unit {0}) no_goal (instances gives.env (in_order rule.premises order)))
     premises_at = likely_map (elim [ inl a ↦ a | inr m ↦ absurd (no_meeting m) ])
         (body_down (in_trial il) (has_value il) some_falls lift tt some_local (derived il) rule.variables (inputs_of_rule il rule) (in_order rule.premises order) can inputs
         gives.env gives.reached.heads_are (in_order rule.premises order) [] (sym (append-nil (in_order rule.premises order)))
@@ -280,8 +280,8 @@ module _ (il : Il) (runs : AllCanRun (clauses_in il.defs)) where
       typed = ok_restricted (syntaxes il) (bound_behind (inputs_of_rule il rule) (in_order rule.premises order)) rule.variables gives.env gives.reached.typed;
       heads_are = HaveValues-agree (has_value il) some_local (inputs_of_rule il rule) inputs gives.env less
           (λ x i. to_less x (within-left (vars_of (inputs_of_rule il rule)) (prems_vars (in_order rule.premises order)) x i)) gives.reached.heads_are;
-      hold = HoldAll-agree (has_value il) some_local (Unit {0}) (derived il) in_ordered (places less (in_order rule.premises order))
-          (places-agree (in_order rule.premises order) gives.env less (λ x i. to_less x (within-right (vars_of (inputs_of_rule il rule)) (prems_vars (in_order rule.premises order)) x i)));
+      hold = HoldAll-agree (has_value il) some_local (Unit {0}) (derived il) in_ordered (instances less (in_order rule.premises order))
+          (instances-agree (in_order rule.premises order) gives.env less (λ x i. to_less x (within-right (vars_of (inputs_of_rule il rule)) (prems_vars (in_order rule.premises order)) x i)));
     }
 
     outputs_at : (es : List IlExp) (vs : List Value) → All (Contains (outputs_of_rule il rule)) es

@@ -31,7 +31,7 @@ use Rattle.st_semantics.specs.Evaluation.{Way, Ends, Goes, way}
 use Rattle.st_semantics.specs.Formed.{IsFormed, AreFormed, PremIsFormed, ResultsAreFormed, RuleIsFormed, RulesAreFormed}
 use Rattle.st_semantics.specs.Formed as formed
 use Rattle.st_semantics.specs.Variables.{cites}
-use Rattle.st_semantics.specs.Holding.{Place, places, each_place}
+use Rattle.st_semantics.specs.Holding.{Instance, instances, each_instance}
 use Rattle.st_semantics.specs.Calls.{CallAt, ValueAt}
 use Rattle.st_semantics.specs.Checks.{Answer, Test, accepts, refuses, asks, forbids, and_then, checking_depth, refusal, evaluates, evaluate_each}
 use Rattle.st_semantics.specs.Walks as w
@@ -94,15 +94,15 @@ module _ (il : Il) (results : ResultsAreFormed il) where
     Fits p None = cites p ≡ false
     Fits p (Some child) = cites p ≡ true
 
-    -- a place, with what it takes, is tested
-    abbrev Tested : Place → Type 0
+    -- an instance, with what it takes, is tested
+    abbrev Tested : Instance → Type 0
     Tested at = (taken : TakenChild) → Fits at.1 taken → Answers (Tests il notes at taken)
 
-    abbrev AllTested : List Place → Type 0
+    abbrev AllTested : List Instance → Type 0
     AllTested [] = Unit {0}
     AllTested (at ∷ rest) = Tested at × AllTested rest
 
-    walk_on : (at : Place) (rest : List Place) (children others : List Ref) (taken : TakenChild) → w.TakenBy at.1 children taken others → Answers (Tests il notes at taken) → Answers (Walks il notes rest others)
+    walk_on : (at : Instance) (rest : List Instance) (children others : List Ref) (taken : TakenChild) → w.TakenBy at.1 children taken others → Answers (Tests il notes at taken) → Answers (Walks il notes rest others)
         → Answers (Walks il notes (at ∷ rest) children)
     walk_on at rest children others taken takes one more = likely_then one (λ x. by x.0 x.1)
       where
@@ -110,7 +110,7 @@ module _ (il : Il) (results : ResultsAreFormed il) where
         by None t = likely_map (λ y. (y.0, w.goes taken others takes t y.1)) more
         by (Some rule) t = likely (Some rule, w.stops taken others rule takes t refl)
 
-    walks_answers : (ps : List Place) → AllTested ps → (children : List Ref) → Answers (Walks il notes ps children)
+    walks_answers : (ps : List Instance) → AllTested ps → (children : List Ref) → Answers (Walks il notes ps children)
     walks_answers [] h [] = likely (None, w.done refl)
     walks_answers [] h (child ∷ children) = likely (Some V9, w.left_over refl)
     walks_answers (at ∷ rest) h children = by (cites at.1) refl children (walks_answers rest h.1)
@@ -121,14 +121,14 @@ module _ (il : Il) (results : ResultsAreFormed il) where
         by true c (child ∷ children) more = walk_on at rest (child ∷ children) children (Some child) (c, refl) (h.0 (Some child) c) (more children)
 
     -- an iteration, with what stands for its elements
-    elements_answer : (at : Place) (how : Iteration) (xs : List Name) (body : IlPrem) (taken : TakenChild) (inner : List Ref) (r : Outcomes) (way_is : Way) → out-IlPrem at.1 ≡ IlPrem-F.Each how xs body → w.IsTakenFor inner taken
-        → ComeTo il at.0 (count_of how) r → way how xs at.0 r ≡ way_is → ((envs : List Env) → AllTested (each_place envs body)) → Answers (Tests il notes at taken)
+    elements_answer : (at : Instance) (how : Iteration) (xs : List Name) (body : IlPrem) (taken : TakenChild) (inner : List Ref) (r : Outcomes) (way_is : Way) → out-IlPrem at.1 ≡ IlPrem-F.Each how xs body → w.IsTakenFor inner taken
+        → ComeTo il at.0 (count_of how) r → way how xs at.0 r ≡ way_is → ((envs : List Env) → AllTested (each_instance envs body)) → Answers (Tests il notes at taken)
     elements_answer at how xs body taken inner r (Ends o) is takes come goes all =
         likely (Some (refusal (rule_at at.1) o), w.at_once (w.each_refused how xs body is (w.ends inner r o takes come goes refl)))
     elements_answer at how xs body taken inner r (Goes envs) is takes come goes all =
-        likely_map (λ y. (y.0, w.each how xs body inner r envs is takes come goes y.1)) (walks_answers (each_place envs body) (all envs) inner)
+        likely_map (λ y. (y.0, w.each how xs body inner r envs is takes come goes y.1)) (walks_answers (each_instance envs body) (all envs) inner)
 
-    each_tested : (body : IlPrem) → ((env : Env) → Tested (env, body)) → (envs : List Env) → AllTested (each_place envs body)
+    each_tested : (body : IlPrem) → ((env : Env) → Tested (env, body)) → (envs : List Env) → AllTested (each_instance envs body)
     each_tested body f [] = tt
     each_tested body f (env ∷ envs) = (f env, each_tested body f envs)
 
@@ -150,7 +150,7 @@ module _ (il : Il) (results : ResultsAreFormed il) where
         at (Ref-F.Line line) k ih = likely (Some V9, w.at_once (w.each_refused how xs body is (w.of_one child refl (line, k) refl)))
         at (Ref-F.Many inner) k ih = likely_then (some_values env (count_of how) count) (λ r. elements_answer (env, p) how xs body (Some child) inner r.0 (way how xs env r.0) is k r.1 refl (each_tested body ih))
 
-    premises_tested : (env : Env) (ps : List IlPrem) → All (PremIsFormed (syntaxes il)) ps → AllTested (places env ps)
+    premises_tested : (env : Env) (ps : List IlPrem) → All (PremIsFormed (syntaxes il)) ps → AllTested (instances env ps)
     premises_tested env [] h = tt
     premises_tested env (p ∷ ps) h = (premise_tested (All-head (PremIsFormed (syntaxes il)) p ps h) env, premises_tested env ps (All-tail (PremIsFormed (syntaxes il)) p ps h))
 
@@ -175,7 +175,7 @@ module _ (il : Il) (results : ResultsAreFormed il) where
         let is : RuleIsFormed il rule = h (number, rule) refl in
         and_then_answers _ _ (asks_answers _ V6) (and_then_answers _ _ (asks_answers _ V4) (and_then_answers _ _ (asks_answers _ V7)
         (and_then_answers _ _ (each_answers node.env rule.conclusion node.values is.0)
-        (and_then_answers _ _ (walks_answers (places node.env rule.premises) (premises_tested node.env rule.premises is.1) node.children)
+        (and_then_answers _ _ (walks_answers (instances node.env rule.premises) (premises_tested node.env rule.premises is.1) node.children)
         (and_then_answers _ _ (asks_answers _ V10) (try_all_answers (inputs_of il node.relation node.values) (take number (rules_of il node.relation)) node.evidence))))))
 
 -- ---- the rule that a node names

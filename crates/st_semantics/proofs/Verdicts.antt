@@ -22,7 +22,7 @@ use Rattle.st_semantics.specs.Names.{Name}
 use Rattle.st_semantics.specs.Definitions.{syntaxes}
 use Rattle.st_semantics.specs.Iterations.{count_of}
 use Rattle.st_semantics.specs.Evaluation.{tasks, way, Ends, Goes}
-use Rattle.st_semantics.specs.Holding.{Place, each_place}
+use Rattle.st_semantics.specs.Holding.{Instance, each_instance}
 use Rattle.st_semantics.specs.Calls.{CallAt}
 use Rattle.st_semantics.specs.Checks.{Answer, Test, accepts, refuses, asks, forbids, and_then, evaluates, evaluate_each, refusal, checking_depth}
 use Rattle.st_semantics.specs.Variables.{cites}
@@ -114,7 +114,7 @@ module _ (il : Il) (notes : Notes) (one : IsSingle (CallAt il checking_depth)) w
   none_missing p (Some child) others c t = let bad : [] ≡ child ∷ others = t.1 in cc
 
   mutual
-    Tests-single : (at : Place) (taken : TakenChild) (a b : Answer) → Tests il notes at taken a → Tests il notes at taken b → a ≡ b
+    Tests-single : (at : Instance) (taken : TakenChild) (a b : Answer) → Tests il notes at taken a → Tests il notes at taken b → a ≡ b
     Tests-single at taken a b (at_once (otherwise is p)) (at_once (otherwise is' p')) = p ∙ sym p'
     Tests-single at taken a b (at_once (otherwise is p)) (at_once (condition e' is' p')) = cc
     Tests-single at taken a b (at_once (otherwise is p)) (at_once (goal rel' es' child' is' t' (on_line line' r' l' come' p'))) = cc
@@ -200,11 +200,11 @@ module _ (il : Il) (notes : Notes) (one : IsSingle (CallAt il checking_depth)) w
         let goes : Goes envs ≡ Goes envs' = same_way w w' ww in
         let ee : envs' ≡ envs = cc in
         let ii : inner' ≡ inner = sym (taken-single inner inner' taken t t') in
-        let same : each_place envs' body' ≡ each_place envs body = cc in
-        Walks-single (each_place envs body) inner a b p
-        (subst (λ z. Walks il notes (each_place envs body) z b) ii (subst (λ z. Walks il notes z inner' b) same p'))
+        let same : each_instance envs' body' ≡ each_instance envs body = cc in
+        Walks-single (each_instance envs body) inner a b p
+        (subst (λ z. Walks il notes (each_instance envs body) z b) ii (subst (λ z. Walks il notes z inner' b) same p'))
 
-    Walks-single : (ps : List Place) (cs : List Ref) (a b : Answer) → Walks il notes ps cs a → Walks il notes ps cs b → a ≡ b
+    Walks-single : (ps : List Instance) (cs : List Ref) (a b : Answer) → Walks il notes ps cs a → Walks il notes ps cs b → a ≡ b
     Walks-single ps cs a b (done p) (done q) = p ∙ sym q
     Walks-single ps cs a b (left_over p) (left_over q) = p ∙ sym q
     Walks-single ps cs a b (missing c p) (missing d q) = p ∙ sym q

@@ -17,7 +17,7 @@ use Rattle.st_semantics.specs.Definitions.{relation_named, rules_of, syntaxes}
 use Rattle.st_semantics.specs.Directions.{inputs_of, IsStepping}
 use Rattle.st_semantics.specs.Environments.{EnvOk}
 use Rattle.st_semantics.specs.Goals.{AreInputs}
-use Rattle.st_semantics.specs.Holding.{places}
+use Rattle.st_semantics.specs.Holding.{instances}
 use Rattle.st_semantics.specs.Notes.{judgement_on}
 use Rattle.st_semantics.specs.Checks.{Test, accepts, refuses, asks, and_then, evaluate_each}
 use Rattle.st_semantics.specs.Walks.{Walks}
@@ -81,7 +81,7 @@ tests_node il notes node (Some (number, rule)) =
     (and_then (asks (All (IsNode notes) (lines_cited node.children)) V4)
     (and_then (asks (length node.values ≡ length rule.conclusion) V7)
     (and_then (evaluate_each il node.env rule.conclusion node.values)
-    (and_then (Walks il notes (places node.env rule.premises) node.children)
+    (and_then (Walks il notes (instances node.env rule.premises) node.children)
     (excludes il node number rule)))))
 
 -- ---- steps

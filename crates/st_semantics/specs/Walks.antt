@@ -21,7 +21,7 @@ use Rattle.st_semantics.specs.Definitions.{syntaxes}
 use Rattle.st_semantics.specs.Iterations.{count_of}
 use Rattle.st_semantics.specs.Evaluation.{tasks, GivesAll, way, Ends, Goes}
 use Rattle.st_semantics.specs.Variables.{cites}
-use Rattle.st_semantics.specs.Holding.{Place, each_place}
+use Rattle.st_semantics.specs.Holding.{Instance, each_instance}
 use Rattle.st_semantics.specs.Calls.{CallAt}
 use Rattle.st_semantics.specs.Notes.{judgement_on}
 use Rattle.st_semantics.specs.Checks.{Answer, Test, accepts, refuses, asks, evaluates, refusal, checking_depth}
@@ -70,7 +70,7 @@ pub data JudgesChild (il : Il) (notes : Notes) (env : Env) (relation : Name) (es
 
 -- an iterated premise is refused before an element is tested: its child is one line, or it comes to
 -- no elements
-pub data RefusesEach (il : Il) (at : Place) (how : Iteration) (xs : List Name) (taken : TakenChild)
+pub data RefusesEach (il : Il) (at : Instance) (how : Iteration) (xs : List Name) (taken : TakenChild)
     (answer : Answer) : Type 0 where
   of_one : (child : Ref) → taken ≡ Some child → IsOneLine child → refuses V9 answer
       → RefusesEach il at how xs taken answer
@@ -79,7 +79,7 @@ pub data RefusesEach (il : Il) (at : Place) (how : Iteration) (xs : List Name) (
       → refuses (refusal (rule_at at.1) o) answer → RefusesEach il at how xs taken answer
 
 -- a premise is tested with this answer, and no premise inside of it is
-pub data TestsAtOnce (il : Il) (notes : Notes) (at : Place) (taken : TakenChild) (answer : Answer)
+pub data TestsAtOnce (il : Il) (notes : Notes) (at : Instance) (taken : TakenChild) (answer : Answer)
     : Type 0 where
   otherwise : out-IlPrem at.1 ≡ IlPrem-F.Otherwise → accepts answer
       → TestsAtOnce il notes at taken answer
@@ -100,29 +100,29 @@ TakenBy p children (Some child) others = (cites p ≡ true) × (children ≡ chi
 
 mutual
   -- A premise, with the child that it takes, is tested with this answer.
-  pub data Tests (il : Il) (notes : Notes) : Place → TakenChild → Answer → Type 0 where
-    at_once : {at : Place} {taken : TakenChild} {answer : Answer}
+  pub data Tests (il : Il) (notes : Notes) : Instance → TakenChild → Answer → Type 0 where
+    at_once : {at : Instance} {taken : TakenChild} {answer : Answer}
         → TestsAtOnce il notes at taken answer → Tests il notes at taken answer
-    each : {at : Place} {taken : TakenChild} {answer : Answer} (how : Iteration) (xs : List Name)
+    each : {at : Instance} {taken : TakenChild} {answer : Answer} (how : Iteration) (xs : List Name)
         (body : IlPrem) (inner : List Ref) (r : Outcomes) (envs : List Env)
         → out-IlPrem at.1 ≡ IlPrem-F.Each how xs body → IsTakenFor inner taken
         → ComeTo il at.0 (count_of how) r → way how xs at.0 r ≡ Goes envs
-        → Walks il notes (each_place envs body) inner answer → Tests il notes at taken answer
+        → Walks il notes (each_instance envs body) inner answer → Tests il notes at taken answer
 
   -- The premises are tested one after another, each with what it takes. The first refusal is the
   -- answer. A child that is missing is V9 there, and one that is left over is V9 after the last
   -- premise.
-  pub data Walks (il : Il) (notes : Notes) : List Place → List Ref → Answer → Type 0 where
+  pub data Walks (il : Il) (notes : Notes) : List Instance → List Ref → Answer → Type 0 where
     done : {answer : Answer} → accepts answer → Walks il notes [] [] answer
     left_over : {child : Ref} {children : List Ref} {answer : Answer} → refuses V9 answer
         → Walks il notes [] (child ∷ children) answer
-    missing : {at : Place} {rest : List Place} {answer : Answer} → cites at.1 ≡ true
+    missing : {at : Instance} {rest : List Instance} {answer : Answer} → cites at.1 ≡ true
         → refuses V9 answer → Walks il notes (at ∷ rest) [] answer
-    goes : {at : Place} {rest : List Place} {children : List Ref} {answer : Answer}
+    goes : {at : Instance} {rest : List Instance} {children : List Ref} {answer : Answer}
         (taken : TakenChild) (others : List Ref) → TakenBy at.1 children taken others
         → Tests il notes at taken None → Walks il notes rest others answer
         → Walks il notes (at ∷ rest) children answer
-    stops : {at : Place} {rest : List Place} {children : List Ref} {answer : Answer}
+    stops : {at : Instance} {rest : List Instance} {children : List Ref} {answer : Answer}
         (taken : TakenChild) (others : List Ref) (rule : VerifyRule)
         → TakenBy at.1 children taken others → Tests il notes at taken (Some rule)
         → refuses rule answer → Walks il notes (at ∷ rest) children answer

@@ -12,17 +12,17 @@ use Rattle.st_type_table.specs.declared.fault.Broken.{Broken}
 use Rattle.st_type_table.specs.declared.fault.TypeFault.TheVariants as fault
 use Rattle.st_type_table.specs.Meaning.{body_of}
 use Rattle.st_type_table.specs.Leads.{Among, leads_to, included, names_in, Leads}
-use Rattle.st_type_table.specs.inner.Graph.{Graph, graph_of, place_of, places_of, IsOne, LeadsAt, EndsAt, AreRanks}
+use Rattle.st_type_table.specs.inner.Graph.{Graph, graph_of, position_of, positions_of, IsOne, LeadsAt, EndsAt, AreRanks}
 use Rattle.st_type_table.specs.Breach.{SoundTo, IsSound, FirstBreach, AllHold, conditions_on, on_alias, on_alternative, on_alternatives, on_body}
 use Rattle.st_type_table.specs.inner.Checking.{CheckedAt}
-use Rattle.st_type_table.proofs.GraphLemmas.{same_place}
-use Rattle.st_type_table.proofs.PlaceLemmas.{placed, node_at, name-of, LeadsAt-Leads}
-use Rattle.st_type_table.proofs.PartLemmas.{place-here, item-at}
+use Rattle.st_type_table.proofs.GraphLemmas.{same_position}
+use Rattle.st_type_table.proofs.PositionLemmas.{placed, node_at, name-of, LeadsAt-Leads}
+use Rattle.st_type_table.proofs.PartLemmas.{position-here, item-at}
 use Rattle.st_type_table.proofs.CheckLemmas.{is-declared, front_hold, back_hold}
 use Rattle.st_type_table.proofs.Ranks.{Between, leads_via, reach, reach-falls}
 
 pub sound-next : (defs : List SyntaxDef) (at : ℕ) → SoundTo defs at → CheckedAt defs at None → SoundTo defs (at + 1)
-sound-next defs at s f i h d g = by (same_place i at)
+sound-next defs at s f i h d g = by (same_position i at)
   where
     by : (i ≡ at) ⊎ (i ≢ at) → AllHold defs (conditions_on (take i defs) d)
     by (inl e) = subst (λ n. AllHold defs (conditions_on (take n defs) d)) (sym e) (f d (ap (slice_get defs) (sym e) ∙ g))
@@ -62,19 +62,19 @@ body_returns defs target (body.Fields fs) h name a l = absurd a
 pub sound-new : (defs : List SyntaxDef) → IsSound defs → (at : ℕ) (d : SyntaxDef) → slice_get defs at ≡ Some d → body_of (take at defs) d.name ≡ None
 sound-new defs s at d e = (s at (slice_get_within defs at d e) d e).0
 
-place_none : (ds : List SyntaxDef) (name : List ℕ) (o : Option ℕ) → place_of ds name ≡ o → body_of ds name ≡ None → o ≡ None
-place_none ds name None e b = refl
-place_none ds name (Some p) e b = absurd (is-declared ds name p e b)
+position_none : (ds : List SyntaxDef) (name : List ℕ) (o : Option ℕ) → position_of ds name ≡ o → body_of ds name ≡ None → o ≡ None
+position_none ds name None e b = refl
+position_none ds name (Some p) e b = absurd (is-declared ds name p e b)
 
-pub sound-place : (defs : List SyntaxDef) → IsSound defs → (at : ℕ) (d : SyntaxDef) → slice_get defs at ≡ Some d → place_of defs d.name ≡ Some at
-sound-place defs s at d e = place-here defs at d e (place_none (take at defs) d.name (place_of (take at defs) d.name) refl (sound-new defs s at d e))
+pub sound-position : (defs : List SyntaxDef) → IsSound defs → (at : ℕ) (d : SyntaxDef) → slice_get defs at ≡ Some d → position_of defs d.name ≡ Some at
+sound-position defs s at d e = position-here defs at d e (position_none (take at defs) d.name (position_of (take at defs) d.name) refl (sound-new defs s at d e))
 
--- no place leads back to itself
-no_cycle : (defs : List SyntaxDef) → IsSound defs → (at j : ℕ) (d : SyntaxDef) → slice_get defs at ≡ Some d → IsOne (places_of defs (leads_to d.body)) j → LeadsAt (graph_of defs) j at → ⊥
+-- no position leads back to itself
+no_cycle : (defs : List SyntaxDef) → IsSound defs → (at j : ℕ) (d : SyntaxDef) → slice_get defs at ≡ Some d → IsOne (positions_of defs (leads_to d.body)) j → LeadsAt (graph_of defs) j at → ⊥
 no_cycle defs s at j d e m l =
     let n = name-of defs (leads_to d.body) j m in
     body_returns defs d.name d.body (s at (slice_get_within defs at d e) d e).1 n.name n.among
-    (LeadsAt-Leads defs j at l n.name d.name n.placed (sound-place defs s at d e))
+    (LeadsAt-Leads defs j at l n.name d.name n.placed (sound-position defs s at d e))
 
 -- ---- and so everything ends
 
@@ -145,50 +145,50 @@ module _ (graph : Graph) where
       by false p true q false r e u v w = cc
       by false p false q c r e u v w = cc
 
-  -- all places, the last first
-  abbrev pub places : ℕ → List ℕ
-  places zero = []
-  places (suc n) = n ∷ places n
+  -- all positions, the last first
+  abbrev pub positions : ℕ → List ℕ
+  positions zero = []
+  positions (suc n) = n ∷ positions n
 
-  place-between : (n i : ℕ) → i < n → Between (places n) i
-  place-between zero i h = absurd (omega arith)
-  place-between (suc n) i h = by (same_place i n) (place-between n i)
+  position-between : (n i : ℕ) → i < n → Between (positions n) i
+  position-between zero i h = absurd (omega arith)
+  position-between (suc n) i h = by (same_position i n) (position-between n i)
     where
-      by : (i ≡ n) ⊎ (i ≢ n) → (i < n → Between (places n) i) → Between (n ∷ places n) i
+      by : (i ≡ n) ⊎ (i ≢ n) → (i < n → Between (positions n) i) → Between (n ∷ positions n) i
       by (inl e) next = inl e
       by (inr d) next = inr (next (omega (arith, h, d)))
 
-placed-within : (defs : List SyntaxDef) (names : List (List ℕ)) (j : ℕ) → IsOne (places_of defs names) j → j < length defs
+placed-within : (defs : List SyntaxDef) (names : List (List ℕ)) (j : ℕ) → IsOne (positions_of defs names) j → j < length defs
 placed-within defs names j m = let k = name-of defs names j m in let q = placed defs k.name j k.placed in slice_get_within defs j q.definition q.there
 
-edge_is : (defs : List SyntaxDef) (i j : ℕ) (d : SyntaxDef) → slice_get defs i ≡ Some d → IsOne (places_of defs (leads_to d.body)) j → edge (graph_of defs) i j ≡ true
-edge_is defs i j d e m = ap (λ o. has (next_list o) j) (node_at defs defs i d e) ∙ one-has (places_of defs (leads_to d.body)) j m
+edge_is : (defs : List SyntaxDef) (i j : ℕ) (d : SyntaxDef) → slice_get defs i ≡ Some d → IsOne (positions_of defs (leads_to d.body)) j → edge (graph_of defs) i j ≡ true
+edge_is defs i j d e m = ap (λ o. has (next_list o) j) (node_at defs defs i d e) ∙ one-has (positions_of defs (leads_to d.body)) j m
 
--- how many places this one leads to
+-- how many positions this one leads to
 abbrev pub reached : List SyntaxDef → ℕ → ℕ
-reached defs i = reach (edge (graph_of defs)) (places (graph_of defs) (length defs)) (places (graph_of defs) (length defs)) i
+reached defs i = reach (edge (graph_of defs)) (positions (graph_of defs) (length defs)) (positions (graph_of defs) (length defs)) i
 
--- a place ends, since what it leads to reaches less
+-- a position ends, since what it leads to reaches less
 module _ (defs : List SyntaxDef) (sound : IsSound defs) where
-  not_back : (j : ℕ) → j < length defs → (b : Bool) → leads_via (edge (graph_of defs)) (places (graph_of defs) (length defs)) j j ≡ b → b ≡ false
+  not_back : (j : ℕ) → j < length defs → (b : Bool) → leads_via (edge (graph_of defs)) (positions (graph_of defs) (length defs)) j j ≡ b → b ≡ false
   not_back j h false e = refl
   not_back j h true e =
-      let p = via_plus (graph_of defs) (places (graph_of defs) (length defs)) j j e in
+      let p = via_plus (graph_of defs) (positions (graph_of defs) (length defs)) j j e in
       let a = item-at defs j h in
-      let g : Some (Some p.next) ≡ Some (Some (places_of defs (leads_to a.0.body))) = sym p.there ∙ node_at defs defs j a.0 a.2 in
-      let s : p.next ≡ places_of defs (leads_to a.0.body) = cc in
+      let g : Some (Some p.next) ≡ Some (Some (positions_of defs (leads_to a.0.body))) = sym p.there ∙ node_at defs defs j a.0 a.2 in
+      let s : p.next ≡ positions_of defs (leads_to a.0.body) = cc in
       absurd (no_cycle defs sound j p.step a.0 a.2 (subst (λ ns. IsOne ns p.step) s p.one) p.leads)
 
-  pub reached-falls : (i j : ℕ) (d : SyntaxDef) → slice_get defs i ≡ Some d → IsOne (places_of defs (leads_to d.body)) j → reached defs j < reached defs i
+  pub reached-falls : (i j : ℕ) (d : SyntaxDef) → slice_get defs i ≡ Some d → IsOne (positions_of defs (leads_to d.body)) j → reached defs j < reached defs i
   reached-falls i j d e m =
       let w = placed-within defs (leads_to d.body) j m in
-      reach-falls (edge (graph_of defs)) (places (graph_of defs) (length defs)) i j (place-between (graph_of defs) (length defs) j w) (edge_is defs i j d e m) (not_back j w _ refl)
+      reach-falls (edge (graph_of defs)) (positions (graph_of defs) (length defs)) i j (position-between (graph_of defs) (length defs) j w) (edge_is defs i j d e m) (not_back j w _ refl)
 
   ends_within : (n i : ℕ) → i < length defs → reached defs i < n → EndsAt (graph_of defs) i
   ends_within zero i h r = absurd (omega arith)
   ends_within (suc n) i h r =
       let a = item-at defs i h in
-      EndsAt.ends (places_of defs (leads_to a.0.body)) (node_at defs defs i a.0 a.2) (λ j m.
+      EndsAt.ends (positions_of defs (leads_to a.0.body)) (node_at defs defs i a.0 a.2) (λ j m.
       let f = reached-falls i j a.0 a.2 m in
       ends_within n j (placed-within defs (leads_to a.0.body) j m) (omega (arith, f, r)))
 

@@ -5,13 +5,13 @@ use Rattle.std.proofs.lemmas.List.{length-map}
 use Rattle.std.proofs.lemmas.Option.{slice_get_within}
 use Rattle.st_graph.specs.Reaches.{Reaches, itself, through}
 use Rattle.st_graph.specs.Graph.{Stands, Edge, IsWithin, IsNumbering}
-use Rattle.st_graph.proofs.Places.{get-none, get-same, get-within, get-at, map-at, map-get}
+use Rattle.st_graph.proofs.Positions.{get-none, get-same, get-within, get-at, map-at, map-get}
 use Rattle.st_il.specs.declared.definition.SyntaxDef.{SyntaxDef}
 use Rattle.st_type_table.specs.Leads.{leads_to}
-use Rattle.st_type_table.specs.inner.Graph.{Graph, IsOne, LeadsAt, places_of, node_of, graph_of}
+use Rattle.st_type_table.specs.inner.Graph.{Graph, IsOne, LeadsAt, positions_of, node_of, graph_of}
 use Rattle.st_type_table.specs.inner.Ranking.{WaitsFor}
 use Rattle.st_type_table.specs.inner.Components.{row_in, StaysWithin, AreComponents}
-use Rattle.st_type_table.proofs.PlaceLemmas.{placed, name-of}
+use Rattle.st_type_table.proofs.PositionLemmas.{placed, name-of}
 
 one-stands : (xs : List ℕ) (j : ℕ) → IsOne xs j → Stands xs j
 one-stands [] j h = absurd h
@@ -58,8 +58,8 @@ module _ (graph : Graph) where
 pub graph-within : (defs : List SyntaxDef) → StaysWithin (graph_of defs)
 graph-within defs i j w =
     let d = map-get (node_of defs) defs i (Some w.0) w.1.0 in
-    let s : Some (places_of defs (leads_to d.0.body)) ≡ Some w.0 = d.1.1 in
-    let t : places_of defs (leads_to d.0.body) ≡ w.0 = cc in
+    let s : Some (positions_of defs (leads_to d.0.body)) ≡ Some w.0 = d.1.1 in
+    let t : positions_of defs (leads_to d.0.body) ≡ w.0 = cc in
     let n = name-of defs (leads_to d.0.body) j (subst (λ ns. IsOne ns j) (sym t) w.1.1) in
     let p = placed defs n.name j n.placed in
     let l = slice_get_within defs j p.definition p.there in

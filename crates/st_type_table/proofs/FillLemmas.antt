@@ -20,16 +20,16 @@ use Rattle.st_type_table.specs.Meaning.{body_of, listed}
 use Rattle.st_type_table.specs.Cases.{Flatten, or_none}
 use Rattle.st_type_table.specs.Leads.{Among, leads_to}
 use Rattle.st_type_table.specs.Keys.{KeysDiffer}
-use Rattle.st_type_table.specs.inner.Graph.{graph_of, node_of, place_of, places_of, AreRanks}
+use Rattle.st_type_table.specs.inner.Graph.{graph_of, node_of, position_of, positions_of, AreRanks}
 use Rattle.st_type_table.specs.inner.CaseKeys.{IsKeyed}
 use Rattle.st_type_table.specs.inner.KeyIndexes.{IsKeyIndex}
 use Rattle.st_type_table.specs.inner.Flat.{AreFlats, IsFlat, IsBroken}
 use Rattle.st_type_table.specs.inner.Kept.{kept_as, kept_of, defs_of, entry_of, ranked, AllSettled, IsSettled}
-use Rattle.st_type_table.specs.Breach.{IsSound, AllHold, Holds, keys, placed, on_alternative, on_alternatives, on_included, on_body}
+use Rattle.st_type_table.specs.Breach.{IsSound, AllHold, Holds, keys, asked, on_alternative, on_alternatives, on_included, on_body}
 use Rattle.st_type_table.specs.Joins.{AllJoin}
 use Rattle.st_type_table.specs.inner.JoinGraph.{join_graph}
 use Rattle.st_type_table.proofs.JoinLemmas.{ranked-joins}
-use Rattle.st_type_table.proofs.PlaceLemmas.{node_at, place-among}
+use Rattle.st_type_table.proofs.PositionLemmas.{node_at, position-among}
 use Rattle.st_type_table.proofs.BuildLemmas.{all-ranked}
 use Rattle.st_type_table.proofs.CheckLemmas.{front_hold, back_hold}
 
@@ -89,19 +89,19 @@ take-all (d ∷ defs) (r ∷ ranks) (f ∷ flats) (j ∷ joins) zero h = absurd 
 take-all (d ∷ defs) (r ∷ ranks) (f ∷ flats) (j ∷ joins) (suc n) h =
     ap (λ es. (d.name, kept_as d r f j) ∷ es) (take-all defs ranks flats joins n (omega (arith, h)))
 
--- the entry of a name, at its place
+-- the entry of a name, at its position
 record EntryAt (defs : List SyntaxDef) (ranks : List ℕ) (flats : List Flat) (joins : List ℕ) (name : List ℕ) (e : Entry) : Type 0 where
-  place : ℕ
+  position : ℕ
   definition : SyntaxDef
   flat : Flat
-  placed : place_of defs name ≡ Some place
-  there : slice_get defs place ≡ Some definition
+  asked : position_of defs name ≡ Some position
+  there : slice_get defs position ≡ Some definition
   body_is : e.body ≡ definition.body
-  rank_is : e.rank ≡ slice_index ranks place
-  flat_there : slice_get flats place ≡ Some flat
+  rank_is : e.rank ≡ slice_index ranks position
+  flat_there : slice_get flats position ≡ Some flat
   cases_is : e.cases ≡ flat.cases.items
   index_is : e.index ≡ flat.cases.index
-  join_rank_is : e.join_rank ≡ slice_index joins place
+  join_rank_is : e.join_rank ≡ slice_index joins position
 
 entry-at : (defs : List SyntaxDef) (ranks : List ℕ) (flats : List Flat) (joins : List ℕ) (name : List ℕ) (e : Entry) → entry_of (kept_of defs ranks flats joins) name ≡ Some e → EntryAt defs ranks flats joins name e
 entry-at [] ranks flats joins name e h = cc
@@ -135,10 +135,10 @@ entry-at (d ∷ defs) (r ∷ ranks) (f ∷ flats) (j ∷ joins) name e h = by (p
     by true t g next =
         let s : Some e ≡ Some (kept_as d r f j) = sym g in
         record {
-          place = 0;
+          position = 0;
           definition = d;
           flat = f;
-          placed = ap (λ b. if b then Some 0 else option_map suc (place_of defs name)) t;
+          asked = ap (λ b. if b then Some 0 else option_map suc (position_of defs name)) t;
           there = refl;
           body_is = ap body_in s;
           rank_is = ap rank_in s;
@@ -150,10 +150,10 @@ entry-at (d ∷ defs) (r ∷ ranks) (f ∷ flats) (j ∷ joins) name e h = by (p
     by false t g next =
         let n = next g in
         record {
-          place = suc n.place;
+          position = suc n.position;
           definition = n.definition;
           flat = n.flat;
-          placed = ap (λ b. if b then Some 0 else option_map suc (place_of defs name)) t ∙ ap (option_map suc) n.placed;
+          asked = ap (λ b. if b then Some 0 else option_map suc (position_of defs name)) t ∙ ap (option_map suc) n.asked;
           there = n.there;
           body_is = n.body_is;
           rank_is = n.rank_is;
@@ -178,7 +178,7 @@ keys_all defs target part before (a ∷ parts) k h =
   where
     one : (b : Alternative) → AllHold defs (on_alternative target part (before ++ a ∷ []) b) → Holds defs (keys (before ++ a ∷ []))
     one (alternative.Case tag operands) h = h.0
-    one (alternative.Incl name) h = (back_hold defs (on_included target part name) (placed part (keys (before ++ a ∷ [])) ∷ []) h).0
+    one (alternative.Incl name) h = (back_hold defs (on_included target part name) (asked part (keys (before ++ a ∷ [])) ∷ []) h).0
 
 no_keys : (defs : List SyntaxDef) → Holds defs (keys [])
 no_keys defs cases (Flatten.none e) = subst KeysDiffer (sym e) tt
@@ -205,25 +205,25 @@ module _ (defs : List SyntaxDef) (ranks : List ℕ) (flats : List Flat) (joins :
   rank-below name y p d e a None h = all-ranked defs sound ranks right p (slice_get_within defs p d e)
   rank-below name y p d e a (Some x) h =
       let n = entry-at defs ranks flats joins y x h in
-      let f = (right.falls p n.place (places_of defs (leads_to d.body)) (all-ranked defs sound ranks right p (slice_get_within defs p d e)) (node_at defs defs p d e) (place-among defs (leads_to d.body) y n.place a n.placed)).1 in
+      let f = (right.falls p n.position (positions_of defs (leads_to d.body)) (all-ranked defs sound ranks right p (slice_get_within defs p d e)) (node_at defs defs p d e) (position-among defs (leads_to d.body) y n.position a n.asked)).1 in
       let k = n.rank_is in
       omega (arith, f, k)
 
   settled_by : (e : Entry) (name : List ℕ) → EntryAt defs ranks flats joins name e → (b : SyntaxBody) → e.body ≡ b → (ds : List SyntaxDef) → ds ≡ defs → defs_of (kept_of defs ranks flats joins) ≡ ds → IsSettled (kept_of defs ranks flats joins) e b
   settled_by e name n (body.Alias t) q ds s w = λ y a.
       let m : Among (leads_to n.definition.body) y = subst (λ z. Among (leads_to z) y) (sym q ∙ n.body_is) a in
-      let f = rank-below name y n.place n.definition n.there m (entry_of (kept_of defs ranks flats joins) y) refl in
+      let f = rank-below name y n.position n.definition n.there m (entry_of (kept_of defs ranks flats joins) y) refl in
       let k = n.rank_is in
       omega (arith, f, k)
   settled_by e name n (body.Variant parts) q ds s w =
-      let f = flat_whole n.place n.definition n.flat parts n.there n.flat_there (sym n.body_is ∙ q) in
+      let f = flat_whole n.position n.definition n.flat parts n.there n.flat_there (sym n.body_is ∙ q) in
       record {
         flattened = subst (λ z. Flatten z parts e.cases) (sym (w ∙ s)) (subst (Flatten defs parts) (sym n.cases_is) f.0);
         differ = subst KeysDiffer (sym n.cases_is) f.1.differ;
         indexed = subst (λ cs. IsKeyIndex cs e.index) (sym n.cases_is) (subst (IsKeyIndex n.flat.cases.items) (sym n.index_is) f.1.indexed);
       }
   settled_by e name n (body.Fields fs) q ds s w =
-      let h = ranked-joins defs joins join_right n.place n.definition fs n.there (sym n.body_is ∙ q) in
+      let h = ranked-joins defs joins join_right n.position n.definition fs n.there (sym n.body_is ∙ q) in
       subst (λ z. (0 < e.join_rank) ↔ AllJoin z fs) (sym (w ∙ s)) (subst (λ r. (0 < r) ↔ AllJoin defs fs) (sym n.join_rank_is) h)
 
   pub kept-right : length flats ≡ length defs → length joins ≡ length defs → AllSettled (kept_of defs ranks flats joins)

@@ -18,11 +18,11 @@ use Rattle.st_type_table.specs.declared.flat.Flat.{Flat}
 use Rattle.st_type_table.specs.Meaning.{Means, body_of, named, named_at, listed, aliased, alternatives_of}
 use Rattle.st_type_table.specs.Cases.{Brings, Flatten, or_none}
 use Rattle.st_type_table.specs.Leads.{Among, Ends, leads_from, included, names_in}
-use Rattle.st_type_table.specs.inner.Graph.{place_of}
+use Rattle.st_type_table.specs.inner.Graph.{position_of}
 use Rattle.st_type_table.specs.Keys.{KeysDiffer}
 use Rattle.st_type_table.specs.inner.CaseKeys.{IsKeyed}
 use Rattle.st_type_table.specs.inner.Flat.{IsFlat, IsFlatAt, IsFlatOf, AllReady, IsBroken, AddsIncluded, AddsAlternative, Adds}
-use Rattle.st_type_table.proofs.PlaceLemmas.{placed, unplaced, names-Name}
+use Rattle.st_type_table.proofs.PositionLemmas.{placed, unplaced, names-Name}
 use Rattle.st_type_table.proofs.KeyLemmas.{KeysDiffer-back}
 
 -- ---- flattening, from the front
@@ -180,26 +180,26 @@ module _ (defs : List SyntaxDef) where
   adds-nothing before a name t e m z k =
       ([], (Brings.included name t e m (subst (λ o. Flatten defs (or_none o) []) (sym z) (Flatten.none refl)), (sym (append_nil before), k)))
 
-  -- the flat at the place of a name
-  pub flat-found : (flats : List Flat) (t u : Ty) (name : List ℕ) (place : ℕ) (found : Option (Bor Flat)) → length flats ≡ length defs → IsFlatAt defs flats t → Means defs t u
-      → u ≡ ty.Name name → place_of defs name ≡ Some place → option_copied found ≡ slice_get flats place → IsFlatOf defs t found
-  flat-found flats t u name place found size known m q p e = (u, (m, by found e))
+  -- the flat at the position of a name
+  pub flat-found : (flats : List Flat) (t u : Ty) (name : List ℕ) (position : ℕ) (found : Option (Bor Flat)) → length flats ≡ length defs → IsFlatAt defs flats t → Means defs t u
+      → u ≡ ty.Name name → position_of defs name ≡ Some position → option_copied found ≡ slice_get flats position → IsFlatOf defs t found
+  flat-found flats t u name position found size known m q p e = (u, (m, by found e))
     where
-      by : (found : Option (Bor Flat)) → option_copied found ≡ slice_get flats place → MatchOption found (alternatives_of defs u ≡ None) (λ f. IsFlat defs (or_none (alternatives_of defs u)) f.now)
+      by : (found : Option (Bor Flat)) → option_copied found ≡ slice_get flats position → MatchOption found (alternatives_of defs u ≡ None) (λ f. IsFlat defs (or_none (alternatives_of defs u)) f.now)
       by (Some f) e =
-          let r = placed defs name place p in
+          let r = placed defs name position p in
           let at : alternatives_of defs u ≡ listed (Some r.definition.body) = ap (alternatives_of defs) q ∙ ap listed (name-level name ∙ r.body_is) in
-          subst (λ o. IsFlat defs (or_none o) f.now) (sym at) (known name place r.definition f.now (subst (Means defs t) q m) p r.there (sym e))
-      by None e = let r = placed defs name place p in absurd (lost r.definition r.there)
+          subst (λ o. IsFlat defs (or_none o) f.now) (sym at) (known name position r.definition f.now (subst (Means defs t) q m) p r.there (sym e))
+      by None e = let r = placed defs name position p in absurd (lost r.definition r.there)
         where
-          lost : (d : SyntaxDef) → slice_get defs place ≡ Some d → ⊥
+          lost : (d : SyntaxDef) → slice_get defs position ≡ Some d → ⊥
           lost d g =
-              let h = within defs place d g in
-              let l = without flats place (sym e) in
+              let h = within defs position d g in
+              let l = without flats position (sym e) in
               absurd (omega (arith, h, l, size))
 
-  -- a name without a place, or a type that is no name, has no alternatives
-  pub flat-unplaced : (t u : Ty) (name : List ℕ) → Means defs t u → u ≡ ty.Name name → place_of defs name ≡ None → IsFlatOf defs t None
+  -- a name without a position, or a type that is no name, has no alternatives
+  pub flat-unplaced : (t u : Ty) (name : List ℕ) → Means defs t u → u ≡ ty.Name name → position_of defs name ≡ None → IsFlatOf defs t None
   flat-unplaced t u name m q p = (u, (m, ap (alternatives_of defs) q ∙ ap listed (name-level name ∙ unplaced defs name p)))
 
   pub flat-none : (t u : Ty) (l : Ty-F Ty) → Means defs t u → out-Ty u ≡ l → listed (named_at defs l) ≡ None → IsFlatOf defs t None

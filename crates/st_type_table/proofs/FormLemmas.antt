@@ -54,7 +54,7 @@ eq-refl (form.Pair a b) = both_true (eq-eqb a a refl) (eq-eqb b b refl)
 
 -- ---- numbers of forms
 
--- the form of a number stands at its place
+-- the form of a number stands at its position
 pub form-found : (forms : List Form) (f : Form) (i : ℕ) → form_number forms f ≡ Some i → slice_get forms i ≡ Some f
 form-found forms f i e =
     let s = position-Some (form_eq f) forms i f e in

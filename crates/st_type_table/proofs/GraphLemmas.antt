@@ -1,13 +1,13 @@
--- Ranks of places: one rank more, and that where no more can be ranked all that end are.
+-- Ranks of positions: one rank more, and that where no more can be ranked all that end are.
 use Rattle.std.proofs.Common.{◌≡◌, ◌≢◌, refl, sym, ap, ◌∙◌, subst, ℕ, zero, suc, ◌<◌, ◌≤◌, List, [], ◌∷◌, length, get_or, set, Option, Some, None, arith, inl, inr, ◌⊎◌, get_or-set_other, get_or-set_same, replicate}
 use Rattle.std.specs.Prelude.{slice_get, slice_index}
 use Rattle.st_type_table.specs.inner.Graph.{Graph, EndsAt, IsOne, AllRanked, IsClosed, SoFar, AreRanks, ranked}
 
-pub same_place : (i j : ℕ) → (i ≡ j) ⊎ (i ≢ j)
-same_place zero zero = inl refl
-same_place zero (suc j) = inr (λ e. cc)
-same_place (suc i) zero = inr (λ e. cc)
-same_place (suc i) (suc j) = by (same_place i j)
+pub same_position : (i j : ℕ) → (i ≡ j) ⊎ (i ≢ j)
+same_position zero zero = inl refl
+same_position zero (suc j) = inr (λ e. cc)
+same_position (suc i) zero = inr (λ e. cc)
+same_position (suc i) (suc j) = by (same_position i j)
   where
     by : (i ≡ j) ⊎ (i ≢ j) → (suc i ≡ suc j) ⊎ (suc i ≢ suc j)
     by (inl e) = inl (ap suc e)
@@ -33,16 +33,16 @@ ranked-set (suc q ∷ rs) zero r h e = cc
 ranked-set (zero ∷ rs) (suc i) r h e = ranked-set rs i r (omega arith) e
 ranked-set (suc q ∷ rs) (suc i) r h e = ap suc (ranked-set rs i r (omega arith) e)
 
--- a place that waits for ranked ones alone is ranked
+-- a position that waits for ranked ones alone is ranked
 pub SoFar-set : (graph : Graph) (ranks : List ℕ) (count i : ℕ) (node : Option (List ℕ)) → SoFar graph ranks count → i < length ranks → slice_get graph i ≡ Some node
     → get_or ranks i 0 ≡ 0 → AllRanked node ranks → SoFar graph (set ranks i (suc count)) (suc count)
 SoFar-set graph ranks count i None s h e z all = absurd all
 SoFar-set graph ranks count i (Some next) s h e z all = record {
   size = length-kept ranks i (suc count) ∙ s.size;
   counted = ap suc s.counted ∙ sym (ranked-set ranks i count h z);
-  below = λ j. below j (same_place j i);
-  sound = λ j p. sound j (same_place j i) p;
-  falls = λ j k others p g m. falls j k others (same_place j i) p g m;
+  below = λ j. below j (same_position j i);
+  sound = λ j p. sound j (same_position j i) p;
+  falls = λ j k others p g m. falls j k others (same_position j i) p g m;
 }
   where
     here : get_or (set ranks i (suc count)) i 0 ≡ suc count

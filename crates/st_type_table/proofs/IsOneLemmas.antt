@@ -23,7 +23,7 @@ more_from (x ∷ xs) y j (inr e) = inr (more_from xs y j (inr e))
 pub one_more : (xs : List ℕ) (y j : ℕ) → IsOne (xs ++ y ∷ []) j ↔ (IsOne xs j ⊎ (j ≡ y))
 one_more xs y j = (more_to xs y j, more_from xs y j)
 
--- what stands at a place is one of the list
+-- what stands at a position is one of the list
 pub one-at : (xs : List ℕ) (k : ℕ) → k < length xs → IsOne xs (slice_index xs k)
 one-at [] k h = absurd (omega arith)
 one-at (x ∷ xs) zero h = inl refl

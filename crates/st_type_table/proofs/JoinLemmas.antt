@@ -12,11 +12,11 @@ use Rattle.st_il.specs.declared.definition.SyntaxBody.{SyntaxBody}
 use Rattle.st_il.specs.declared.definition.SyntaxBody.TheVariants as body
 use Rattle.st_type_table.specs.Meaning.{Means, body_of, named_at, alias_of, aliased, fields_of, recorded}
 use Rattle.st_type_table.specs.Cases.{HasFields}
-use Rattle.st_type_table.specs.inner.Graph.{place_of, IsOne, EndsAt, AreRanks}
+use Rattle.st_type_table.specs.inner.Graph.{position_of, IsOne, EndsAt, AreRanks}
 use Rattle.st_type_table.specs.Joins.{Joins, FieldJoins, AllJoin}
-use Rattle.st_type_table.specs.inner.JoinGraph.{never, place_or_never, waits_at, waits_in, field_waits, waits_of, join_node, join_graph}
+use Rattle.st_type_table.specs.inner.JoinGraph.{never, position_or_never, waits_at, waits_in, field_waits, waits_of, join_node, join_graph}
 use Rattle.st_type_table.proofs.GraphLemmas.{beyond}
-use Rattle.st_type_table.proofs.PlaceLemmas.{placed, unplaced, split_one, one-left, one-right}
+use Rattle.st_type_table.proofs.PositionLemmas.{placed, unplaced, split_one, one-left, one-right}
 use Rattle.st_type_table.proofs.CasesLemmas.{HasFields-single, no_fields}
 
 -- ---- what is kept
@@ -68,7 +68,7 @@ pub map-at : {A : Type 0} {B : Type 0} (f : A → B) (xs : List A) (p : ℕ) (x 
 map-at f xs p x e = slice_get-map f xs p ∙ ap (option_map f) e
 
 module _ (defs : List SyntaxDef) where
-  node-of-body : (x : List ℕ) (p : ℕ) (b : SyntaxBody) → place_of defs x ≡ Some p → body_of defs x ≡ Some b → slice_get (join_graph defs) p ≡ Some (Some (waits_of defs b))
+  node-of-body : (x : List ℕ) (p : ℕ) (b : SyntaxBody) → position_of defs x ≡ Some p → body_of defs x ≡ Some b → slice_get (join_graph defs) p ≡ Some (Some (waits_of defs b))
   node-of-body x p b e q =
       let r = placed defs x p e in
       let d : Some r.definition.body ≡ Some b = sym r.body_is ∙ q in
@@ -81,10 +81,10 @@ module _ (defs : List SyntaxDef) where
       let n = length-map defs (join_node defs) in
       omega (arith, h, n, q)
 
-  -- a place that ends, and so its names can be joined as fields
+  -- a position that ends, and so its names can be joined as fields
   record Joined (j : ℕ) : Type 0 where
     comes : j ≡ never defs → ⊥
-    fields_join : (y : List ℕ) → place_of defs y ≡ Some j → FieldJoins defs (ty.Name y)
+    fields_join : (y : List ℕ) → position_of defs y ≡ Some j → FieldJoins defs (ty.Name y)
 
   -- what an alias stands for joins, and so it joins
   alias-joins : (t s : Ty) → alias_of defs t ≡ Some s → FieldJoins defs s → FieldJoins defs t
@@ -99,14 +99,14 @@ module _ (defs : List SyntaxDef) where
   type-joins : (t : Ty) → ((j : ℕ) → IsOne (waits_in defs t) j → Joined j) → FieldJoins defs t
   type-joins t h = by (out-Ty t) refl h
     where
-      name_joins : (y : List ℕ) (o : Option ℕ) → place_of defs y ≡ o → Joined (place_or_never defs o) → FieldJoins defs (ty.Name y)
+      name_joins : (y : List ℕ) (o : Option ℕ) → position_of defs y ≡ o → Joined (position_or_never defs o) → FieldJoins defs (ty.Name y)
       name_joins y None e j = absurd (j.comes refl)
       name_joins y (Some p) e j = j.fields_join y e
 
       by : (l : Ty-F Ty) → out-Ty t ≡ l → ((j : ℕ) → IsOne (waits_at defs l) j → Joined j) → FieldJoins defs t
       by (Ty-F.List x) q k = FieldJoins.list x (Means.itself (no_alias t (Ty-F.List x) q refl) (sym (roll-out-Ty t) ∙ ap roll-Ty q ∙ ty.rolls-List x))
       by (Ty-F.Opt x) q k = FieldJoins.option x (Means.itself (no_alias t (Ty-F.Opt x) q refl) (sym (roll-out-Ty t) ∙ ap roll-Ty q ∙ ty.rolls-Opt x))
-      by (Ty-F.Name y) q k = subst (FieldJoins defs) (sym (sym (roll-out-Ty t) ∙ ap roll-Ty q ∙ ty.rolls-Name y)) (name_joins y (place_of defs y) refl (k (place_or_never defs (place_of defs y)) (inl refl)))
+      by (Ty-F.Name y) q k = subst (FieldJoins defs) (sym (sym (roll-out-Ty t) ∙ ap roll-Ty q ∙ ty.rolls-Name y)) (name_joins y (position_of defs y) refl (k (position_or_never defs (position_of defs y)) (inl refl)))
       by Ty-F.Bool q k = absurd ((k (never defs) (inl refl)).comes refl)
       by Ty-F.Nat q k = absurd ((k (never defs) (inl refl)).comes refl)
       by Ty-F.Int q k = absurd ((k (never defs) (inl refl)).comes refl)
@@ -129,7 +129,7 @@ module _ (defs : List SyntaxDef) where
     declared = ap (λ l. recorded (named_at defs l)) (ty.outs-Name x) ∙ ap recorded e;
   }) (all-joins fields h))
 
-  ends-joins : (p : ℕ) → EndsAt (join_graph defs) p → (x : List ℕ) → place_of defs x ≡ Some p → FieldJoins defs (ty.Name x)
+  ends-joins : (p : ℕ) → EndsAt (join_graph defs) p → (x : List ℕ) → position_of defs x ≡ Some p → FieldJoins defs (ty.Name x)
   ends-joins p (EndsAt.ends next g all) x e =
       let r = placed defs x p e in
       let d : Some (Some (waits_of defs r.definition.body)) ≡ Some (Some next) = sym (map-at (join_node defs) defs p r.definition r.there) ∙ g in
@@ -141,12 +141,12 @@ module _ (defs : List SyntaxDef) where
   -- ---- and what joins ends
 
   abbrev AllEnd : List ℕ → Type 0
-  AllEnd places = (j : ℕ) → IsOne places j → EndsAt (join_graph defs) j
+  AllEnd positions = (j : ℕ) → IsOne positions j → EndsAt (join_graph defs) j
 
-  name-ends : (x : List ℕ) (b : SyntaxBody) → body_of defs x ≡ Some b → AllEnd (waits_of defs b) → AllEnd (place_or_never defs (place_of defs x) ∷ [])
-  name-ends x b e h = by (place_of defs x) refl
+  name-ends : (x : List ℕ) (b : SyntaxBody) → body_of defs x ≡ Some b → AllEnd (waits_of defs b) → AllEnd (position_or_never defs (position_of defs x) ∷ [])
+  name-ends x b e h = by (position_of defs x) refl
     where
-      by : (o : Option ℕ) → place_of defs x ≡ o → AllEnd (place_or_never defs o ∷ [])
+      by : (o : Option ℕ) → position_of defs x ≡ o → AllEnd (position_or_never defs o ∷ [])
       by None f j m = let z : Some b ≡ None = sym e ∙ unplaced defs x f in cc
       by (Some p) f j (inl q) = EndsAt.ends (waits_of defs b) (ap (slice_get (join_graph defs)) q ∙ node-of-body x p b f e) h
       by (Some p) f j (inr q) = absurd q

@@ -5,7 +5,7 @@ pub mod CasesLemmas
 pub mod GraphLemmas
 pub mod BackLemmas
 pub mod RankingLemmas
-pub mod PlaceLemmas
+pub mod PositionLemmas
 pub mod IndexLemmas
 pub mod JoinLemmas
 pub mod KeyLemmas

@@ -12,18 +12,18 @@ use Rattle.st_il.specs.declared.definition.SyntaxBody.TheVariants as body
 use Rattle.st_type_table.specs.Meaning.{body_of, Means, itself, alias, alias_of}
 use Rattle.st_type_table.specs.Leads.{names_in, names_at, joined, Among, leads_from, next_of, leads_to}
 use Rattle.st_type_table.specs.Breach.{IsSound}
-use Rattle.st_type_table.specs.inner.Graph.{place_of, places_of, IsOne}
+use Rattle.st_type_table.specs.inner.Graph.{position_of, positions_of, IsOne}
 use Rattle.st_type_table.proofs.TyInduction.{Parts, ty-ind}
-use Rattle.st_type_table.proofs.PlaceLemmas.{placed, unplaced, place-among, is_alias}
+use Rattle.st_type_table.proofs.PositionLemmas.{placed, unplaced, position-among, is_alias}
 use Rattle.st_type_table.proofs.BuildLemmas.{reached, reached-falls}
 
-abbrev pub place_rank : List SyntaxDef → Option ℕ → ℕ
-place_rank defs None = 0
-place_rank defs (Some p) = suc (reached defs p)
+abbrev pub position_rank : List SyntaxDef → Option ℕ → ℕ
+position_rank defs None = 0
+position_rank defs (Some p) = suc (reached defs p)
 
 -- more than the ranks of all that the name leads to
 abbrev pub rank_of : List SyntaxDef → List ℕ → ℕ
-rank_of defs name = place_rank defs (place_of defs name)
+rank_of defs name = position_rank defs (position_of defs name)
 
 abbrev pub rank_at : List SyntaxDef → Ty-F ℕ → ℕ
 rank_at defs (Ty-F.Name name) = 1 + rank_of defs name
@@ -121,21 +121,21 @@ products r s k h g p q = let m : suc r * suc k ≤ s * suc k = mul-le-mul_right 
 
 module _ (defs : List SyntaxDef) (sound : IsSound defs) where
   -- a name that stands in an alias has the smaller rank
-  lower : (x y : List ℕ) (p : ℕ) → place_of defs x ≡ Some p → Among (next_of defs x) y → rank_of defs y < suc (reached defs p)
-  lower x y p e m = by (place_of defs y) refl
+  lower : (x y : List ℕ) (p : ℕ) → position_of defs x ≡ Some p → Among (next_of defs x) y → rank_of defs y < suc (reached defs p)
+  lower x y p e m = by (position_of defs y) refl
     where
-      by : (o : Option ℕ) → place_of defs y ≡ o → place_rank defs o < suc (reached defs p)
+      by : (o : Option ℕ) → position_of defs y ≡ o → position_rank defs o < suc (reached defs p)
       by None f = omega arith
       by (Some q) f =
           let r = placed defs x p e in
-          let one : IsOne (places_of defs (leads_to r.definition.body)) q = subst (λ o. IsOne (places_of defs (leads_from o)) q) r.body_is (place-among defs (next_of defs x) y q m f) in
+          let one : IsOne (positions_of defs (leads_to r.definition.body)) q = subst (λ o. IsOne (positions_of defs (leads_from o)) q) r.body_is (position-among defs (next_of defs x) y q m f) in
           let h = reached-falls defs sound p q r.definition r.there one in
           omega (arith, h)
 
   rank-falls : (x : List ℕ) (s : Ty) → body_of defs x ≡ Some (body.Alias s) → (y : List ℕ) → Among (names_in s) y → rank_of defs y < rank_of defs x
-  rank-falls x s b y m = by (place_of defs x) refl
+  rank-falls x s b y m = by (position_of defs x) refl
     where
-      by : (o : Option ℕ) → place_of defs x ≡ o → rank_of defs y < place_rank defs o
+      by : (o : Option ℕ) → position_of defs x ≡ o → rank_of defs y < position_rank defs o
       by None f = let z : Some (body.Alias s) ≡ None = sym b ∙ unplaced defs x f in cc
       by (Some p) f = lower x y p f (subst (λ ns. Among ns y) (sym (ap leads_from b)) m)
 

@@ -12,12 +12,12 @@ use Rattle.st_type_table.specs.declared.entry.Entry.{Entry}
 use Rattle.st_type_table.specs.Meaning.{aliased, body_of}
 use Rattle.st_type_table.specs.Leads.{Among, names_in, joined}
 use Rattle.st_type_table.specs.Breach.{IsSound, AllHold, on_alias, on_body}
-use Rattle.st_type_table.specs.inner.Graph.{place_of}
+use Rattle.st_type_table.specs.inner.Graph.{position_of}
 use Rattle.st_type_table.specs.inner.Kept.{Kept, defs_of, entry_of, rank_of, ranked, IsKept, IsSettled}
 use Rattle.st_type_table.specs.inner.Forms.{Numbers, alias_named, HasNumber}
 use Rattle.st_type_table.specs.inner.Numbering.{AreAllNames, AreNamesNumbered}
 use Rattle.st_type_table.proofs.FormLemmas.{none-some}
-use Rattle.st_type_table.proofs.PlaceLemmas.{placed, unplaced}
+use Rattle.st_type_table.proofs.PositionLemmas.{placed, unplaced}
 use Rattle.st_type_table.proofs.Measure.{among-left, among-right}
 use Rattle.st_type_table.proofs.NumberingLemmas.{HaveNumbers, alias-kept}
 
@@ -42,12 +42,12 @@ alias-declared defs target number (x ∷ names) h name (inl q) e = h.0 (subst (�
 alias-declared defs target number (x ∷ names) h name (inr a) e = alias-declared defs target (suc number) names h.1.1 name a e
 
 names-declared : (defs : List SyntaxDef) → IsSound defs → (name : List ℕ) (t : Ty) → alias_named defs name ≡ Some t → (other : List ℕ) → Among (names_in t) other → body_of defs other ≡ None → ⊥
-names-declared defs sound name t e other a = by (place_of defs name) refl
+names-declared defs sound name t e other a = by (position_of defs name) refl
   where
     is : body_of defs name ≡ Some (body.Alias t)
     is = body-aliased (body_of defs name) t e
 
-    by : (o : Option ℕ) → place_of defs name ≡ o → body_of defs other ≡ None → ⊥
+    by : (o : Option ℕ) → position_of defs name ≡ o → body_of defs other ≡ None → ⊥
     by None f = none-some (sym (unplaced defs name f) ∙ is) _
     by (Some p) f =
         let r = placed defs name p f in

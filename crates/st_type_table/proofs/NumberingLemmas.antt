@@ -59,7 +59,7 @@ slice_get-front [] more i f e = none-some e _
 slice_get-front (x ∷ old) more zero f e = e
 slice_get-front (x ∷ old) more (suc i) f e = slice_get-front old more i f e
 
--- a form at a place is one of those before, or the last
+-- a form at a position is one of those before, or the last
 at-last : (old : List Form) (f g : Form) (i : ℕ) → slice_get (old ++ f ∷ []) i ≡ Some g → (slice_get old i ≡ Some g) ⊎ ((i ≡ length old) × (f ≡ g))
 at-last [] f g zero e = inr (refl, cc)
 at-last [] f g (suc i) e = none-some e _
@@ -147,7 +147,7 @@ module _ (numbers : Numbers) where
       let m = form-added old new form.Empty i o tt a in
       record { grows = m.grows; ordered = m.ordered; number = sym (parts-end numbers new xs n h) ∙ m.number }
 
-  -- the parts from a place on, by the one there and those behind
+  -- the parts from a position on, by the one there and those behind
   pub typed-pair : (a b c d : List Form) (xs : List Ty) (at : ℕ) (x : Ty) (rest first i : ℕ) → at < length xs → x ≡ get_or xs at x
       → TypedFrom a b (drop (suc at) xs) rest → Typed b c x first → Adds c d (form.Pair first rest) i → TypedFrom a d (drop at xs) i
   typed-pair a b c d xs at x rest first i h e behind here adds =
@@ -249,7 +249,7 @@ has-kept defs old new name keeps has none = by (number_of old name) refl
 
 -- ---- all names
 
--- each of the names before a place stands in a list
+-- each of the names before a position stands in a list
 abbrev pub AreListed : List (List ℕ) → ℕ → List (Bor (List ℕ)) → Type 0
 AreListed keys at names = (k : ℕ) (x : List ℕ) → k < at → slice_get keys k ≡ Some x → (j : ℕ) × (b : Bor (List ℕ)) × (slice_get names j ≡ Some b) × (b.now ≡ x)
 
@@ -292,7 +292,7 @@ all-names kept keys at names moved same whole listed p name is = by (entry_of ke
 
 -- ---- the table's numbers
 
--- the names before a place have numbers
+-- the names before a position have numbers
 abbrev pub HaveNumbers : List SyntaxDef → Numbers → List (Bor (List ℕ)) → ℕ → Type 0
 HaveNumbers defs numbers names at = (k : ℕ) (b : Bor (List ℕ)) → k < at → slice_get names k ≡ Some b → HasNumber defs numbers b.now
 

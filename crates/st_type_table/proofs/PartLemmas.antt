@@ -16,11 +16,11 @@ use Rattle.st_il.specs.declared.definition.Alternative.TheVariants as alternativ
 use Rattle.st_type_table.specs.declared.fault.Broken.{Broken}
 use Rattle.st_type_table.specs.Leads.{Among, Ends, included, joined, names_in, leads_to}
 use Rattle.st_type_table.specs.inner.Flat.{IsReached, IsEndless}
-use Rattle.st_type_table.specs.inner.Graph.{graph_of, place_of, places_of, LeadsAt}
+use Rattle.st_type_table.specs.inner.Graph.{graph_of, position_of, positions_of, LeadsAt}
 use Rattle.st_type_table.specs.inner.Components.{AreComponents}
-use Rattle.st_type_table.specs.Breach.{Holds, keys, placed, broken, Finds, FindsAt, all_declared, on_alias, on_included, on_alternative, on_alternatives, on_field, on_fields, on_body, on_parts, run, conditions_on, new_name}
+use Rattle.st_type_table.specs.Breach.{Holds, keys, asked, broken, Finds, FindsAt, all_declared, on_alias, on_included, on_alternative, on_alternatives, on_field, on_fields, on_body, on_parts, run, conditions_on, new_name}
 use Rattle.st_type_table.specs.inner.Checking.{Returns, ChecksAt, CheckedAt, part_count}
-use Rattle.st_type_table.proofs.PlaceLemmas.{unplaced, node_at, place-among, LeadsAt-Leads, Leads-LeadsAt}
+use Rattle.st_type_table.proofs.PositionLemmas.{unplaced, node_at, position-among, LeadsAt-Leads, Leads-LeadsAt}
 use Rattle.st_type_table.proofs.ComponentsLemmas.{components-back}
 use Rattle.st_type_table.proofs.FlatLemmas.{append_nil, take-suc}
 use Rattle.st_type_table.proofs.CheckLemmas.{Finds-hold, Finds-false, Finds-front, Finds-back, is-declared}
@@ -70,17 +70,17 @@ module _ (defs : List SyntaxDef) (target : List ℕ) (parts : List Alternative) 
   differ : at < reach → Holds defs (keys (take (suc at) parts))
   differ h = reach-keys defs parts reach (suc at) reached (omega (arith, h))
 
-  pub case-keys : (tag : List ℕ) (operands : List Ty) (b : Broken) → a ≡ alternative.Case tag operands → broken (placed at (keys (take (suc at) parts))) ≡ b → at ≡ reach
+  pub case-keys : (tag : List ℕ) (operands : List Ty) (b : Broken) → a ≡ alternative.Case tag operands → broken (asked at (keys (take (suc at) parts))) ≡ b → at ≡ reach
       → ChecksAt defs target parts reach at (Some b)
   case-keys tag operands b e is h = subst (λ x. ChecksAt defs target parts reach at (Some x)) is (
-    λ other g. subst (λ z. Finds defs (on_alternative target at (take (suc at) parts) z) (Some (broken (placed at (keys (take (suc at) parts)))))) (sym e ∙ one other g)
-        (Finds-false defs (placed at (keys (take (suc at) parts))) (all_declared at 0 (joined (map names_in operands))) (clash h (λ (name, q, never). let z : alternative.Case tag operands ≡ alternative.Incl name = sym e ∙ q in cc))),
+    λ other g. subst (λ z. Finds defs (on_alternative target at (take (suc at) parts) z) (Some (broken (asked at (keys (take (suc at) parts)))))) (sym e ∙ one other g)
+        (Finds-false defs (asked at (keys (take (suc at) parts))) (all_declared at 0 (joined (map names_in operands))) (clash h (λ (name, q, never). let z : alternative.Case tag operands ≡ alternative.Incl name = sym e ∙ q in cc))),
     tt,
   )
 
   finds-of : (tag : List ℕ) (operands : List Ty) (found : Option Broken) → Holds defs (keys (take (suc at) parts)) → Finds defs (all_declared at 0 (joined (map names_in operands))) found
       → Finds defs (on_alternative target at (take (suc at) parts) (alternative.Case tag operands)) found
-  finds-of tag operands found k f = Finds-hold defs (placed at (keys (take (suc at) parts))) (all_declared at 0 (joined (map names_in operands))) found k f
+  finds-of tag operands found k f = Finds-hold defs (asked at (keys (take (suc at) parts))) (all_declared at 0 (joined (map names_in operands))) found k f
 
   pub case-types : (tag : List ℕ) (operands : List Ty) (found : Option Broken) → a ≡ alternative.Case tag operands → at < reach
       → Finds defs (all_declared at 0 (joined (map names_in operands))) found → ChecksAt defs target parts reach at found
@@ -96,7 +96,7 @@ module _ (defs : List SyntaxDef) (target : List ℕ) (parts : List Alternative) 
   pub incl-found : (name : List ℕ) (x : Broken) → a ≡ alternative.Incl name → Finds defs (on_included target at name) (Some x) → ChecksAt defs target parts reach at (Some x)
   incl-found name x e f = (
     λ b g. subst (λ z. Finds defs (on_alternative target at (take (suc at) parts) z) (Some x)) (sym e ∙ one b g)
-        (Finds-front defs (on_included target at name) ((placed at (keys (take (suc at) parts))) ∷ []) x f),
+        (Finds-front defs (on_included target at name) ((asked at (keys (take (suc at) parts))) ∷ []) x f),
     tt,
   )
 
@@ -106,19 +106,19 @@ module _ (defs : List SyntaxDef) (target : List ℕ) (parts : List Alternative) 
       let y : name ≡ other = cc in
       never (subst (Ends defs) y (f.1.1.0).ends)
 
-  pub incl-keys : (name : List ℕ) (b : Broken) → a ≡ alternative.Incl name → broken (placed at (keys (take (suc at) parts))) ≡ b → Finds defs (on_included target at name) None → at ≡ reach
+  pub incl-keys : (name : List ℕ) (b : Broken) → a ≡ alternative.Incl name → broken (asked at (keys (take (suc at) parts))) ≡ b → Finds defs (on_included target at name) None → at ≡ reach
       → ChecksAt defs target parts reach at (Some b)
   incl-keys name b e is f h = subst (λ x. ChecksAt defs target parts reach at (Some x)) is (
-    λ other g. subst (λ z. Finds defs (on_alternative target at (take (suc at) parts) z) (Some (broken (placed at (keys (take (suc at) parts)))))) (sym e ∙ one other g)
-        (Finds-back defs (on_included target at name) (placed at (keys (take (suc at) parts)) ∷ []) (Some (broken (placed at (keys (take (suc at) parts))))) f
-        (Finds-false defs (placed at (keys (take (suc at) parts))) [] (clash h (ends-there name e f)))),
+    λ other g. subst (λ z. Finds defs (on_alternative target at (take (suc at) parts) z) (Some (broken (asked at (keys (take (suc at) parts)))))) (sym e ∙ one other g)
+        (Finds-back defs (on_included target at name) (asked at (keys (take (suc at) parts)) ∷ []) (Some (broken (asked at (keys (take (suc at) parts))))) f
+        (Finds-false defs (asked at (keys (take (suc at) parts))) [] (clash h (ends-there name e f)))),
     tt,
   )
 
   pub incl-whole : (name : List ℕ) → a ≡ alternative.Incl name → Finds defs (on_included target at name) None → at < reach → ChecksAt defs target parts reach at None
   incl-whole name e f h = (
     λ b g. subst (λ z. Finds defs (on_alternative target at (take (suc at) parts) z) None) (sym e ∙ one b g)
-        (Finds-back defs (on_included target at name) ((placed at (keys (take (suc at) parts))) ∷ []) None f (differ h, tt)),
+        (Finds-back defs (on_included target at name) ((asked at (keys (take (suc at) parts))) ∷ []) None f (differ h, tt)),
     h,
   )
 
@@ -155,49 +155,49 @@ module _ (defs : List SyntaxDef) (fields : List (List ℕ × Ty)) (at to : ℕ) 
       (subst (λ n. Finds defs (on_fields n (take n fields) (run n to fields)) found) (add-one at) k)))
 
 -- a breach of keys, by its numbers
-pub keys-broken : (part at : ℕ) (so_far : List Alternative) (b : Broken) → b ≡ record { part = part; name = 0; rule = Y7 } → part ≡ at → broken (placed at (keys so_far)) ≡ b
+pub keys-broken : (part at : ℕ) (so_far : List Alternative) (b : Broken) → b ≡ record { part = part; name = 0; rule = Y7 } → part ≡ at → broken (asked at (keys so_far)) ≡ b
 keys-broken part at so_far b e same = ap (λ n. record { part = n; name = 0; rule = Y7 }) (sym same) ∙ sym e
 
 -- ---- a definition behind those before it
 
--- where no definition before this one has its name, its place is that of its name
-pub place-here : (defs : List SyntaxDef) (at : ℕ) (d : SyntaxDef) → slice_get defs at ≡ Some d → place_of (take at defs) d.name ≡ None → place_of defs d.name ≡ Some at
-place-here [] at d e h = cc
-place-here (x ∷ xs) zero d e h =
+-- where no definition before this one has its name, its position is that of its name
+pub position-here : (defs : List SyntaxDef) (at : ℕ) (d : SyntaxDef) → slice_get defs at ≡ Some d → position_of (take at defs) d.name ≡ None → position_of defs d.name ≡ Some at
+position-here [] at d e h = cc
+position-here (x ∷ xs) zero d e h =
     let s : x ≡ d = cc in
-    ap (λ b. if b then Some 0 else option_map suc (place_of xs d.name)) ((bytes_eq-Decides d.name x.name).1 (ap (λ z. z.name) (sym s)))
-place-here (x ∷ xs) (suc at) d e h = by (pointwise nat_eq d.name x.name) (place_of (take at xs) d.name) refl h (place-here xs at d e)
+    ap (λ b. if b then Some 0 else option_map suc (position_of xs d.name)) ((bytes_eq-Decides d.name x.name).1 (ap (λ z. z.name) (sym s)))
+position-here (x ∷ xs) (suc at) d e h = by (pointwise nat_eq d.name x.name) (position_of (take at xs) d.name) refl h (position-here xs at d e)
   where
-    by : (b : Bool) (o : Option ℕ) → place_of (take at xs) d.name ≡ o → (if b then Some 0 else option_map suc o) ≡ None
-        → (place_of (take at xs) d.name ≡ None → place_of xs d.name ≡ Some at) → (if b then Some 0 else option_map suc (place_of xs d.name)) ≡ Some (suc at)
+    by : (b : Bool) (o : Option ℕ) → position_of (take at xs) d.name ≡ o → (if b then Some 0 else option_map suc o) ≡ None
+        → (position_of (take at xs) d.name ≡ None → position_of xs d.name ≡ Some at) → (if b then Some 0 else option_map suc (position_of xs d.name)) ≡ Some (suc at)
     by true o g h next = cc
     by false None g h next = ap (option_map suc) (next g)
     by false (Some q) g h next = cc
 
--- where an earlier definition has the name, its place is that of the name
-pub place-front : (defs : List SyntaxDef) (at : ℕ) (name : List ℕ) (p : ℕ) → place_of (take at defs) name ≡ Some p → place_of defs name ≡ Some p
-place-front defs zero name p e = cc
-place-front [] (suc at) name p e = cc
-place-front (x ∷ xs) (suc at) name p e = by (pointwise nat_eq name x.name) (place_of (take at xs) name) refl e (place-front xs at name)
+-- where an earlier definition has the name, its position is that of the name
+pub position-front : (defs : List SyntaxDef) (at : ℕ) (name : List ℕ) (p : ℕ) → position_of (take at defs) name ≡ Some p → position_of defs name ≡ Some p
+position-front defs zero name p e = cc
+position-front [] (suc at) name p e = cc
+position-front (x ∷ xs) (suc at) name p e = by (pointwise nat_eq name x.name) (position_of (take at xs) name) refl e (position-front xs at name)
   where
-    by : (b : Bool) (o : Option ℕ) → place_of (take at xs) name ≡ o → (if b then Some 0 else option_map suc o) ≡ Some p
-        → ((q : ℕ) → place_of (take at xs) name ≡ Some q → place_of xs name ≡ Some q) → (if b then Some 0 else option_map suc (place_of xs name)) ≡ Some p
+    by : (b : Bool) (o : Option ℕ) → position_of (take at xs) name ≡ o → (if b then Some 0 else option_map suc o) ≡ Some p
+        → ((q : ℕ) → position_of (take at xs) name ≡ Some q → position_of xs name ≡ Some q) → (if b then Some 0 else option_map suc (position_of xs name)) ≡ Some p
     by true o g h next = h
     by false None g h next = cc
     by false (Some q) g h next = ap (option_map suc) (next q g) ∙ h
 
 -- what leads back is in the component of the first definition with the name
-pub Returns-first : (defs : List SyntaxDef) (numbers : List ℕ) (own at : ℕ) (d : SyntaxDef) → slice_get defs at ≡ Some d → place_of defs d.name ≡ Some at
+pub Returns-first : (defs : List SyntaxDef) (numbers : List ℕ) (own at : ℕ) (d : SyntaxDef) → slice_get defs at ≡ Some d → position_of defs d.name ≡ Some at
     → AreComponents (graph_of defs) numbers → slice_get numbers at ≡ Some own → Returns defs d.name numbers own (leads_to d.body)
-Returns-first defs numbers own at d e here n p name place a q =
-    let b = components-back (graph_of defs) numbers n at place own (places_of defs (leads_to d.body), (node_at defs defs at d e, place-among defs (leads_to d.body) name place a q)) p in
-    (λ m. LeadsAt-Leads defs place at (b.0 m) name d.name q here, λ l. b.1 (Leads-LeadsAt defs name d.name l place at q here))
+Returns-first defs numbers own at d e here n p name position a q =
+    let b = components-back (graph_of defs) numbers n at position own (positions_of defs (leads_to d.body), (node_at defs defs at d e, position-among defs (leads_to d.body) name position a q)) p in
+    (λ m. LeadsAt-Leads defs position at (b.0 m) name d.name q here, λ l. b.1 (Leads-LeadsAt defs name d.name l position at q here))
 
-pub check-whole : (defs : List SyntaxDef) (at : ℕ) (d : SyntaxDef) (found : Option Broken) → place_of (take at defs) d.name ≡ None → Finds defs (on_body d.name d.body) found
+pub check-whole : (defs : List SyntaxDef) (at : ℕ) (d : SyntaxDef) (found : Option Broken) → position_of (take at defs) d.name ≡ None → Finds defs (on_body d.name d.body) found
     → Finds defs (conditions_on (take at defs) d) found
-check-whole defs at d found h f = Finds-hold defs (placed 0 (new_name (take at defs) d.name)) (on_body d.name d.body) found (unplaced (take at defs) d.name h) f
+check-whole defs at d found h f = Finds-hold defs (asked 0 (new_name (take at defs) d.name)) (on_body d.name d.body) found (unplaced (take at defs) d.name h) f
 
--- the parts of a definition that is found at its place
+-- the parts of a definition that is found at its position
 pub parts-at : (defs : List SyntaxDef) (at from to : ℕ) (d : SyntaxDef) (found : Option Broken) → slice_get defs at ≡ Some d → Finds defs (on_parts d.name d.body from to) found → FindsAt defs at from to found
 parts-at defs at from to d found e f other g =
     let s : Some d ≡ Some other = sym e ∙ g in
@@ -234,15 +234,15 @@ on_parts-whole name (body.Variant parts) = ap (on_alternatives name 0 []) (take-
 on_parts-whole name (body.Fields fields) = ap (on_fields 0 []) (take-length fields)
 
 -- where another definition has the name, what leads to that one leads back
-pub Returns-other : (defs : List SyntaxDef) (numbers : List ℕ) (own first : ℕ) (d : SyntaxDef) → place_of defs d.name ≡ Some first
+pub Returns-other : (defs : List SyntaxDef) (numbers : List ℕ) (own first : ℕ) (d : SyntaxDef) → position_of defs d.name ≡ Some first
     → ((i : ℕ) → (slice_get numbers i ≡ Some own) ↔ LeadsAt (graph_of defs) i first) → Returns defs d.name numbers own (leads_to d.body)
-Returns-other defs numbers own first d there back name place a p =
-    (λ m. LeadsAt-Leads defs place first ((back place).0 m) name d.name p there, λ l. (back place).1 (Leads-LeadsAt defs name d.name l place first p there))
+Returns-other defs numbers own first d there back name position a p =
+    (λ m. LeadsAt-Leads defs position first ((back position).0 m) name d.name p there, λ l. (back position).1 (Leads-LeadsAt defs name d.name l position first p there))
 
-pub check-twice : (defs : List SyntaxDef) (at : ℕ) (d : SyntaxDef) (p : ℕ) (b : Broken) → place_of (take at defs) d.name ≡ Some p → b ≡ record { part = 0; name = 0; rule = B1 }
+pub check-twice : (defs : List SyntaxDef) (at : ℕ) (d : SyntaxDef) (p : ℕ) (b : Broken) → position_of (take at defs) d.name ≡ Some p → b ≡ record { part = 0; name = 0; rule = B1 }
     → Finds defs (conditions_on (take at defs) d) (Some b)
 check-twice defs at d p b e is = subst (λ x. Finds defs (conditions_on (take at defs) d) (Some x)) (sym is)
-    (Finds-false defs (placed 0 (new_name (take at defs) d.name)) (on_body d.name d.body) (λ h. is-declared (take at defs) d.name p e h))
+    (Finds-false defs (asked 0 (new_name (take at defs) d.name)) (on_body d.name d.body) (λ h. is-declared (take at defs) d.name p e h))
 
 pub checked-at : (defs : List SyntaxDef) (at : ℕ) (d : SyntaxDef) → slice_get defs at ≡ Some d → (found : Option Broken) → Finds defs (conditions_on (take at defs) d) found → CheckedAt defs at found
 checked-at defs at d e found f other g =

@@ -16,23 +16,23 @@ use Rattle.st_type_table.specs.declared.flat.Flat.{Flat}
 use Rattle.st_type_table.specs.Meaning.{Means, listed}
 use Rattle.st_type_table.specs.Cases.{or_none}
 use Rattle.st_type_table.specs.Leads.{Among, Ends, leads_to, included}
-use Rattle.st_type_table.specs.inner.Graph.{graph_of, node_of, AreRanks, EndsIn, place_of, places_of, IsOne, EndsAt}
+use Rattle.st_type_table.specs.inner.Graph.{graph_of, node_of, AreRanks, EndsIn, position_of, positions_of, IsOne, EndsAt}
 use Rattle.st_type_table.specs.inner.Flat.{AreFlats, AllReached, IsFlat, IsReached, IsFlatAt, AllReady, alternatives_in}
-use Rattle.st_type_table.proofs.GraphLemmas.{same_place}
+use Rattle.st_type_table.proofs.GraphLemmas.{same_position}
 use Rattle.st_type_table.proofs.IsOneLemmas.{one_more}
-use Rattle.st_type_table.proofs.PlaceLemmas.{place-among, EndsAt-Ends, Ends-EndsAt, node_at, alias-lower, alias-ends, name_rank, rank_at, place_rank, ends_by}
+use Rattle.st_type_table.proofs.PositionLemmas.{position-among, EndsAt-Ends, Ends-EndsAt, node_at, alias-lower, alias-ends, name_rank, rank_at, position_rank, ends_by}
 
 -- the flats of lower ranks, and those of these definitions
 pub record Filling (defs : List SyntaxDef) (ranks : List ℕ) (rank : ℕ) (flats : List Flat) (done : List ℕ) : Type 0 where
   pub lower : AreFlats defs ranks rank flats
-  pub next : (place : ℕ) (d : SyntaxDef) (f : Flat) → IsOne done place → slice_get defs place ≡ Some d
-      → slice_get flats place ≡ Some f → IsFlat defs (alternatives_in d) f × IsReached defs (alternatives_in d) f.reach
+  pub next : (position : ℕ) (d : SyntaxDef) (f : Flat) → IsOne done position → slice_get defs position ≡ Some d
+      → slice_get flats position ≡ Some f → IsFlat defs (alternatives_in d) f × IsReached defs (alternatives_in d) f.reach
 
--- the flats of all ranks, and those of no rank up to this place
+-- the flats of all ranks, and those of no rank up to this position
 pub record Resting (defs : List SyntaxDef) (ranks : List ℕ) (flats : List Flat) (i : ℕ) : Type 0 where
   pub known : AreFlats defs ranks (length defs) flats
-  pub rest : (place : ℕ) (d : SyntaxDef) (f : Flat) → place < i → slice_get defs place ≡ Some d → slice_index ranks place ≡ 0
-      → slice_get flats place ≡ Some f → IsReached defs (alternatives_in d) f.reach
+  pub rest : (position : ℕ) (d : SyntaxDef) (f : Flat) → position < i → slice_get defs position ≡ Some d → slice_index ranks position ≡ 0
+      → slice_get flats position ≡ Some f → IsReached defs (alternatives_in d) f.reach
 
 pub set-other : {A : Type 0} (xs : List A) (i j : ℕ) (x : A) → j ≢ i → slice_get (set xs i x) j ≡ slice_get xs j
 set-other [] i j x d = refl
@@ -59,10 +59,10 @@ module _ (defs : List SyntaxDef) (ranks : List ℕ) (right : AreRanks (graph_of 
       let c = b.0 in
       (omega (arith, a, c), b.1)
 
-  rank-of-name : (name : List ℕ) (p : ℕ) → place_of defs name ≡ Some p → name_rank defs ranks (ty.Name name) ≡ suc (slice_index ranks p)
-  rank-of-name name p e = ap (rank_at defs ranks) (ty.outs-Name name) ∙ ap (place_rank defs ranks) e
+  rank-of-name : (name : List ℕ) (p : ℕ) → position_of defs name ≡ Some p → name_rank defs ranks (ty.Name name) ≡ suc (slice_index ranks p)
+  rank-of-name name p e = ap (rank_at defs ranks) (ty.outs-Name name) ∙ ap (position_rank defs ranks) e
 
-  -- what a place leads to ends, and its cases are known
+  -- what a position leads to ends, and its cases are known
   module _ (flats : List Flat) (limit i : ℕ) (d : SyntaxDef) (known : AreFlats defs ranks limit flats) (there : slice_get defs i ≡ Some d) (ranked : slice_index ranks i ≡ suc limit) where
     ends_at : EndsAt (graph_of defs) i
     ends_at = (right.exact i).0 (omega (arith, ranked))
@@ -72,27 +72,27 @@ module _ (defs : List SyntaxDef) (ranks : List ℕ) (right : AreRanks (graph_of 
       where
         by : EndsAt (graph_of defs) i → Ends defs name
         by (EndsAt.ends next g all) =
-            let e : Some (Some next) ≡ Some (Some (places_of defs (leads_to d.body))) = sym g ∙ node_at defs defs i d there in
-            let s : next ≡ places_of defs (leads_to d.body) = cc in
-            ends_by defs name (place_of defs name) refl (λ j f. EndsAt-Ends defs j (all j (subst (λ ns. IsOne ns j) (sym s) (place-among defs (leads_to d.body) name j a f))) name f)
+            let e : Some (Some next) ≡ Some (Some (positions_of defs (leads_to d.body))) = sym g ∙ node_at defs defs i d there in
+            let s : next ≡ positions_of defs (leads_to d.body) = cc in
+            ends_by defs name (position_of defs name) refl (λ j f. EndsAt-Ends defs j (all j (subst (λ ns. IsOne ns j) (sym s) (position-among defs (leads_to d.body) name j a f))) name f)
 
-    below_limit : (name : List ℕ) (o : Option ℕ) → place_of defs name ≡ o → Among (leads_to d.body) name → (n : ℕ) → suc n ≤ name_rank defs ranks (ty.Name name) → n ≤ limit
+    below_limit : (name : List ℕ) (o : Option ℕ) → position_of defs name ≡ o → Among (leads_to d.body) name → (n : ℕ) → suc n ≤ name_rank defs ranks (ty.Name name) → n ≤ limit
     below_limit name None e a n h =
-        let z : name_rank defs ranks (ty.Name name) ≡ 0 = ap (rank_at defs ranks) (ty.outs-Name name) ∙ ap (place_rank defs ranks) e in
+        let z : name_rank defs ranks (ty.Name name) ≡ 0 = ap (rank_at defs ranks) (ty.outs-Name name) ∙ ap (position_rank defs ranks) e in
         absurd (omega (arith, h, z))
     below_limit name (Some j) e a n h =
         let r = rank-of-name name j e in
-        let f = (right.falls i j (places_of defs (leads_to d.body)) (omega (arith, ranked)) (node_at defs defs i d there) (place-among defs (leads_to d.body) name j a e)).1 in
+        let f = (right.falls i j (positions_of defs (leads_to d.body)) (omega (arith, ranked)) (node_at defs defs i d there) (position-among defs (leads_to d.body) name j a e)).1 in
         omega (arith, h, r, f, ranked)
 
     leads-known : (name : List ℕ) → Among (leads_to d.body) name → IsFlatAt defs flats (ty.Name name)
-    leads-known name a variant place v f m p g h =
+    leads-known name a variant position v f m p g h =
         let ends : EndsIn defs (ty.Name name) = λ x q. subst (Ends defs) (name-same name x q) (leads-ends name a) in
         let l = means-lower (ty.Name name) (ty.Name variant) ends m in
-        let r = rank-of-name variant place p in
+        let r = rank-of-name variant position p in
         let b = l.0 in
-        let low = below_limit name (place_of defs name) refl a (slice_index ranks place) (omega (arith, b, r)) in
-        known.right place v f g ((right.exact place).1 (Ends-EndsAt defs variant (l.1 variant refl) place p)) low h
+        let low = below_limit name (position_of defs name) refl a (slice_index ranks position) (omega (arith, b, r)) in
+        known.right position v f g ((right.exact position).1 (Ends-EndsAt defs variant (l.1 variant refl) position p)) low h
 
     ready_list : (as' : List Alternative) → ((name : List ℕ) → Among (flat_map included as') name → Ends defs name × IsFlatAt defs flats (ty.Name name)) → AllReady defs flats as'
     ready_list [] h = tt
@@ -110,9 +110,9 @@ module _ (defs : List SyntaxDef) (ranks : List ℕ) (right : AreRanks (graph_of 
     pub ready : AllReady defs flats (alternatives_in d)
     ready = ready_body d.body refl
 
--- ---- a place of the rank in turn
+-- ---- a position of the rank in turn
 
--- the definition and what is kept at a place that was set
+-- the definition and what is kept at a position that was set
 module _ {A B : Type 0} (defs : List A) (flats : List B) (i : ℕ) (d : A) (flat : B) (there : slice_get defs i ≡ Some d) where
   pub set-here : (p : ℕ) (v : A) (w : B) → p ≡ i → slice_get defs p ≡ Some v → slice_get (set flats i flat) p ≡ Some w → (d ≡ v) × (flat ≡ w)
   set-here p v w q a e =
@@ -133,7 +133,7 @@ module _ (defs : List SyntaxDef) (ranks : List ℕ) (rank : ℕ) where
       right = λ p v w a b c e. f.lower.right p v w a b c (sym (set-other flats i p flat (other p c)) ∙ e);
       reached = λ p v w a b c e. f.lower.reached p v w a b c (sym (set-other flats i p flat (other p c)) ∙ e);
     };
-    next = λ p v w m a e. by p v w ((one_more done i p).0 m) a e (same_place p i);
+    next = λ p v w m a e. by p v w ((one_more done i p).0 m) a e (same_position p i);
   })
     where
       other : (p : ℕ) → slice_index ranks p ≤ rank → p ≢ i
@@ -152,8 +152,8 @@ module _ (defs : List SyntaxDef) (ranks : List ℕ) (rank : ℕ) where
   pub filled : (flats : List Flat) (row : List ℕ) → Filling defs ranks rank flats row → ((i : ℕ) → slice_index ranks i ≡ suc rank → IsOne row i) → AreFlats defs ranks (suc rank) flats
   filled flats row f all = record {
     size = f.lower.size;
-    right = λ p v w a b c e. by p v w a b c e (same_place (slice_index ranks p) (suc rank)) (λ l. f.lower.right p v w a b l e) (λ x. x.0);
-    reached = λ p v w a b c e. by p v w a b c e (same_place (slice_index ranks p) (suc rank)) (λ l. f.lower.reached p v w a b l e) (λ x. x.1);
+    right = λ p v w a b c e. by p v w a b c e (same_position (slice_index ranks p) (suc rank)) (λ l. f.lower.right p v w a b l e) (λ x. x.0);
+    reached = λ p v w a b c e. by p v w a b c e (same_position (slice_index ranks p) (suc rank)) (λ l. f.lower.reached p v w a b l e) (λ x. x.1);
   }
     where
       by : {G : Type 0} (p : ℕ) (v : SyntaxDef) (w : Flat) → slice_get defs p ≡ Some v → 0 < slice_index ranks p → slice_index ranks p ≤ suc rank → slice_get flats p ≡ Some w
@@ -162,7 +162,7 @@ module _ (defs : List SyntaxDef) (ranks : List ℕ) (rank : ℕ) where
       by p v w a b c e (inl q) low here = here (f.next p v w (all p q) a e)
       by p v w a b c e (inr n) low here = low (omega (arith, c, n))
 
--- ---- places of no rank
+-- ---- positions of no rank
 
 module _ (defs : List SyntaxDef) (ranks : List ℕ) where
   pub rest-then : (flats after : List Flat) (i : ℕ) (d : SyntaxDef) (flat : Flat) → Resting defs ranks flats i → slice_get defs i ≡ Some d → slice_index ranks i ≡ 0
@@ -173,7 +173,7 @@ module _ (defs : List SyntaxDef) (ranks : List ℕ) where
       right = λ p v w a b c e. f.known.right p v w a b c (sym (set-other flats i p flat (other p b)) ∙ e);
       reached = λ p v w a b c e. f.known.reached p v w a b c (sym (set-other flats i p flat (other p b)) ∙ e);
     };
-    rest = λ p v w h a b e. by p v w h a b e (same_place p i);
+    rest = λ p v w h a b e. by p v w h a b e (same_position p i);
   })
     where
       other : (p : ℕ) → 0 < slice_index ranks p → p ≢ i
@@ -189,7 +189,7 @@ module _ (defs : List SyntaxDef) (ranks : List ℕ) where
   pub rest-else : (flats after : List Flat) (i : ℕ) → Resting defs ranks flats i → (slice_index ranks i ≡ 0 → ⊥) → after ≡ flats → Resting defs ranks after (i + 1)
   rest-else flats after i f ranked q = subst (λ z. Resting defs ranks z (i + 1)) (sym q) (record {
     known = f.known;
-    rest = λ p v w h a b e. by p v w h a b e (same_place p i);
+    rest = λ p v w h a b e. by p v w h a b e (same_position p i);
   })
     where
       by : (p : ℕ) (v : SyntaxDef) (w : Flat) → p < i + 1 → slice_get defs p ≡ Some v → slice_index ranks p ≡ 0 → slice_get flats p ≡ Some w → (p ≡ i) ⊎ (p ≢ i) → IsReached defs (alternatives_in v) w.reach
@@ -197,7 +197,7 @@ module _ (defs : List SyntaxDef) (ranks : List ℕ) where
       by p v w h a b e (inr n) = f.rest p v w (omega (arith, h, n)) a b e
 
   pub rested : (flats : List Flat) (i : ℕ) → AreRanks (graph_of defs) ranks → Resting defs ranks flats i → length defs ≤ i → AllReached defs flats
-  rested flats i right f h p v w a e = by (same_place (slice_index ranks p) 0)
+  rested flats i right f h p v w a e = by (same_position (slice_index ranks p) 0)
     where
       by : (slice_index ranks p ≡ 0) ⊎ (slice_index ranks p ≢ 0) → IsReached defs (alternatives_in v) w.reach
       by (inl q) = f.rest p v w (let l = slice_get_within defs p v a in omega (arith, l, h)) a q e

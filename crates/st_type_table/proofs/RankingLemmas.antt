@@ -5,7 +5,7 @@ use Rattle.std.proofs.lemmas.Option.{slice_get_within, slice_get-get_or}
 use Rattle.std.specs.Prelude.{slice_get, slice_index, MatchOption}
 use Rattle.st_type_table.specs.inner.Graph.{Graph, IsOne, AllRanked, IsClosed, mark, unmarked}
 use Rattle.st_type_table.specs.inner.Ranking.{WaitsFor, OnPath, IsStuck, IsRanking, RankedTo, MarksMore, ComesTo, Advances}
-use Rattle.st_type_table.proofs.GraphLemmas.{same_place, ranked-lt, SoFar-set, SoFar-start, zero-at}
+use Rattle.st_type_table.proofs.GraphLemmas.{same_position, ranked-lt, SoFar-set, SoFar-start, zero-at}
 use Rattle.st_type_table.proofs.BackLemmas.{unmarked-set}
 
 pub get-front : {A : Type 0} (xs ys : List A) (k : ℕ) (x : A) → slice_get xs k ≡ Some x → slice_get (xs ++ ys) k ≡ Some x
@@ -47,7 +47,7 @@ pub mark-there : (ms : List Bool) (i j : ℕ) → j ≢ i → mark (set ms i tru
 mark-there ms i j d = get_or-set_other ms i j true false d
 
 pub mark-more : (ms : List Bool) (i j : ℕ) → i < length ms → mark ms j ≡ true → mark (set ms i true) j ≡ true
-mark-more ms i j h m = by (same_place j i)
+mark-more ms i j h m = by (same_position j i)
   where
     by : (j ≡ i) ⊎ (j ≢ i) → mark (set ms i true) j ≡ true
     by (inl e) = ap (mark (set ms i true)) e ∙ mark-here ms i h
@@ -112,7 +112,7 @@ module _ (graph : Graph) (ranks : List ℕ) (count : ℕ) (seen : List Bool) (pa
       on_path = λ k i e. pushed k i (get-push path next k i e);
       apart = λ k l i e f. apart k l i (get-push path next k i e) (get-push path next l i f);
       chain = λ k i j e f. chained k i j (get-push path next k i e) (get-push path next (suc k) j f);
-      stuck = λ i m z. pushed_stuck i (same_place i next) m z;
+      stuck = λ i m z. pushed_stuck i (same_position i next) m z;
     }
 
   -- the last of the path
@@ -124,7 +124,7 @@ module _ (graph : Graph) (ranks : List ℕ) (count : ℕ) (seen : List Bool) (pa
       seen_size = r.seen_size;
       passed_size = length-set passed top at ∙ r.passed_size;
       known = r.known;
-      over = λ i next g. over i next g (same_place i top);
+      over = λ i next g. over i next g (same_position i top);
       on_path = r.on_path;
       apart = r.apart;
       chain = r.chain;
@@ -159,7 +159,7 @@ module _ (graph : Graph) (ranks : List ℕ) (count : ℕ) (seen : List Bool) (pa
       not_top j z e = let c : 0 ≡ suc count = sym z ∙ ap (slice_index more) e ∙ here in cc
 
       grows : (j : ℕ) → 0 < slice_index ranks j → 0 < slice_index more j
-      grows j h = by (same_place j top)
+      grows j h = by (same_position j top)
         where
           by : (j ≡ top) ⊎ (j ≢ top) → 0 < slice_index more j
           by (inl e) = let a : slice_index more j ≡ suc count = ap (slice_index more) e ∙ here in omega (arith, a)
@@ -193,7 +193,7 @@ module _ (graph : Graph) (ranks : List ℕ) (count : ℕ) (seen : List Bool) (pa
         so_far = SoFar-set graph ranks count top node r.so_far room there low all;
         seen_size = r.seen_size;
         passed_size = r.passed_size;
-        known = λ j h. known j (same_place j top) h;
+        known = λ j h. known j (same_position j top) h;
         over = λ i next g m j h e. grows j (r.over i next g m j h e);
         on_path = λ k i e. let o = r.on_path k i (get-pop path n k i e).1 in (o.0, o.1, same i (before k i e) ∙ o.2);
         apart = λ k l i e f. r.apart k l i (get-pop path n k i e).1 (get-pop path n l i f).1;
@@ -204,7 +204,7 @@ module _ (graph : Graph) (ranks : List ℕ) (count : ℕ) (seen : List Bool) (pa
     -- it waits for what has no rank, and so the whole path is stuck
     module _ (halts : IsStuck graph ranks seen [] top) where
       halted_stuck : (i : ℕ) → OnPath path i ⊎ IsStuck graph ranks seen path i → IsStuck graph ranks seen [] i
-      halted_stuck i (inl (k, e)) = by (same_place k n)
+      halted_stuck i (inl (k, e)) = by (same_position k n)
         where
           after : (m : ℕ) → m < length path → (j : ℕ) × (slice_get path m ≡ Some j)
           after m h = read path m h
@@ -354,7 +354,7 @@ get-value (x ∷ xs) zero j e = cc
 get-value (x ∷ xs) (suc k) j e = get-value xs k j e
 
 pub RankedTo-next : (next ranks : List ℕ) (at : ℕ) → RankedTo next ranks at → 0 < slice_index ranks (slice_index next at) → RankedTo next ranks (at + 1)
-RankedTo-next next ranks at h here m j l e = by (same_place m at)
+RankedTo-next next ranks at h here m j l e = by (same_position m at)
   where
     by : (m ≡ at) ⊎ (m ≢ at) → 0 < slice_index ranks j
     by (inl q) = subst (λ z. 0 < slice_index ranks z) (ap (slice_index next) (sym q) ∙ get-value next m j e) here

@@ -13,13 +13,13 @@ use Rattle.st_type_table.specs.declared.flat.Flat.{Flat}
 use Rattle.st_type_table.specs.Cases.{Flatten}
 use Rattle.st_type_table.specs.Keys.{KeysDiffer}
 use Rattle.st_type_table.specs.Leads.{Ends, Among, leads_from}
-use Rattle.st_type_table.specs.Breach.{Holds, keys, placed, AllHold, on_included, on_alternative, on_alternatives}
-use Rattle.st_type_table.specs.inner.Graph.{AreRanks, graph_of, node_of, place_of, EndsIn}
+use Rattle.st_type_table.specs.Breach.{Holds, keys, asked, AllHold, on_included, on_alternative, on_alternatives}
+use Rattle.st_type_table.specs.inner.Graph.{AreRanks, graph_of, node_of, position_of, EndsIn}
 use Rattle.st_type_table.specs.inner.CaseKeys.{IsKeyed}
 use Rattle.st_type_table.specs.inner.Flat.{IsFlat, IsReady, AllReady, IsBroken, IsEndless, AllKnownParts, TriesAlternative, IsReached, IsFlattened, AreFlats}
 use Rattle.st_type_table.proofs.KeyLemmas.{KeysDiffer-front}
 use Rattle.st_type_table.proofs.CasesLemmas.{Flatten-single}
-use Rattle.st_type_table.proofs.PlaceLemmas.{Ends-EndsAt, unplaced}
+use Rattle.st_type_table.proofs.PositionLemmas.{Ends-EndsAt, unplaced}
 use Rattle.st_type_table.proofs.RankLemmas.{means-lower, name-same}
 use Rattle.st_type_table.proofs.FlatLemmas.{Flatten-append, Flatten-one, Flatten-known, ready_known, take-split, take-suc, within, without}
 use Rattle.st_type_table.proofs.CheckLemmas.{front_hold, back_hold}
@@ -53,7 +53,7 @@ run-end (x ∷ xs) zero (suc to) h = absurd (omega arith)
 run-end (x ∷ xs) (suc i) (suc to) h = run-end xs i to (omega (arith, h))
 
 -- a name that is not declared leads nowhere
-pub ends-unplaced : (defs : List SyntaxDef) (name : List ℕ) → place_of defs name ≡ None → Ends defs name
+pub ends-unplaced : (defs : List SyntaxDef) (name : List ℕ) → position_of defs name ≡ None → Ends defs name
 ends-unplaced defs name e = Ends.ends (λ y a. absurd (subst (λ o. Among (leads_from o) y) (unplaced defs name e) a))
 
 -- ---- what all say of one
@@ -73,12 +73,12 @@ ready-parts defs flats xs h i a g name e ends = (ready-at defs flats xs i a h g 
 
 -- where all that ends is known, what an alternative includes is
 pub ended-parts : (defs : List SyntaxDef) (ranks : List ℕ) (flats : List Flat) → AreRanks (graph_of defs) ranks → AreFlats defs ranks (length defs) flats → (xs : List Alternative) → AllKnownParts defs flats xs
-ended-parts defs ranks flats right known xs at a there name e ends variant place d f m p k h =
+ended-parts defs ranks flats right known xs at a there name e ends variant position d f m p k h =
     let ends_in : EndsIn defs (ty.Name name) = λ x r. subst (Ends defs) (name-same name x r) ends in
     let l = means-lower defs ranks right (ty.Name name) (ty.Name variant) ends_in m in
-    let b = right.bounded place in
+    let b = right.bounded position in
     let c = length-map defs (node_of defs) in
-    known.right place d f k ((right.exact place).1 (Ends-EndsAt defs variant (l.1 variant refl) place p)) (omega (arith, b, c)) h
+    known.right position d f k ((right.exact position).1 (Ends-EndsAt defs variant (l.1 variant refl) position p)) (omega (arith, b, c)) h
 
 hold-from : (defs : List SyntaxDef) (target : List ℕ) (n : ℕ) (before xs : List Alternative) (i : ℕ) (a : Alternative) → slice_get xs i ≡ Some a
     → AllHold defs (on_alternatives target n before xs) → AllHold defs (on_alternative target (n + i) (before ++ take (suc i) xs) a)
@@ -105,7 +105,7 @@ hold-at defs target parts from at a h e all =
 -- the keys so far differ, where the conditions on an alternative hold
 pub hold-keys : (defs : List SyntaxDef) (target : List ℕ) (part : ℕ) (so_far : List Alternative) (a : Alternative) → AllHold defs (on_alternative target part so_far a) → Holds defs (keys so_far)
 hold-keys defs target part so_far (alternative.Case tag operands) h = h.0
-hold-keys defs target part so_far (alternative.Incl name) h = (back_hold defs (on_included target part name) (placed part (keys so_far) ∷ []) h).0
+hold-keys defs target part so_far (alternative.Incl name) h = (back_hold defs (on_included target part name) (asked part (keys so_far) ∷ []) h).0
 
 -- what is included ends, where the conditions on it hold
 pub included-ends : (defs : List SyntaxDef) (target : List ℕ) (part : ℕ) (so_far : List Alternative) (a : Alternative) → AllHold defs (on_alternative target part so_far a) → IsEndless defs a → ⊥

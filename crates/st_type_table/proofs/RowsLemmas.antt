@@ -39,7 +39,7 @@ AreRows-reversed ranks rows reversed = record {
       (λ m. waits-row ranks i r (k.0 m), λ q. k.1 (row-waits ranks i r q));
 }
 
--- a number that is no place has no rank
+-- a number that is no position has no rank
 pub rank-within : (xs : List ℕ) (k r : ℕ) → slice_index xs k ≡ suc r → k < length xs
 rank-within [] k r e = absurd (omega (arith, e))
 rank-within (x ∷ xs) zero r e = omega arith

@@ -39,7 +39,7 @@ module _ (defs : List SyntaxDef) where
   SameAll-first : (x y : Ty) (xs ys : List Ty) → SameAll defs (x ∷ xs) (y ∷ ys) → Same defs x y × SameAll defs xs ys
   SameAll-first x y xs ys (SameAll.more s r) = (s, r)
 
-  -- two lists from place i on, by their items there
+  -- two lists from position i on, by their items there
   pub SameAll-at : (xs ys : List Ty) (i : ℕ) (x y : Ty) → i < length xs → i < length ys → x ≡ get_or xs i x → y ≡ get_or ys i y
       → SameAll defs (drop i xs) (drop i ys) ↔ (Same defs x y × SameAll defs (drop (i + 1) xs) (drop (i + 1) ys))
   SameAll-at xs ys i x y hx hy ex ey =

@@ -6,7 +6,7 @@ use Rattle.std.specs.Prelude.{slice_get, slice_index}
 use Rattle.st_type_table.specs.inner.Graph.{Graph, IsOne, LeadsAt, mark}
 use Rattle.st_type_table.specs.inner.Ranking.{WaitsFor, OnPath}
 use Rattle.st_type_table.specs.inner.Search.{Arrows, AddsArrow, AddsArrows, IsReversedTo, IsReversed, IsSearch, MarksAll, MarksOne, as_number}
-use Rattle.st_type_table.proofs.GraphLemmas.{same_place}
+use Rattle.st_type_table.proofs.GraphLemmas.{same_position}
 use Rattle.st_type_table.proofs.IsOneLemmas.{one_more}
 use Rattle.st_type_table.proofs.BackLemmas.{unmarked-set}
 use Rattle.st_type_table.proofs.RankLemmas.{set-other, set-same}
@@ -22,33 +22,33 @@ arrows-none from back = record { size = refl; rows = λ j row e. (row, (e, λ i.
     back_to row i (inl h) = h
     back_to row i (inr h) = absurd h.1
 
-module _ (places : List ℕ) (place from : ℕ) (before after : Arrows) (a : AddsArrows places from before after) where
-  -- the place is none of the graph's
-  pub arrows-over : length after ≤ place → AddsArrows (places ++ place ∷ []) from before after
+module _ (positions : List ℕ) (position from : ℕ) (before after : Arrows) (a : AddsArrows positions from before after) where
+  -- the position is none of the graph's
+  pub arrows-over : length after ≤ position → AddsArrows (positions ++ position ∷ []) from before after
   arrows-over far = record { size = a.size; rows = λ j row e. let o = a.rows j row e in (o.0, (o.1.0, λ i. ((λ h. to j i o.0 ((o.1.1 i).0 h)), λ h. (o.1.1 i).1 (back_to j row i o.0 e h)))) }
     where
-      to : (j i : ℕ) (old : List ℕ) → IsOne old i ⊎ ((i ≡ from) × IsOne places j) → IsOne old i ⊎ ((i ≡ from) × IsOne (places ++ place ∷ []) j)
+      to : (j i : ℕ) (old : List ℕ) → IsOne old i ⊎ ((i ≡ from) × IsOne positions j) → IsOne old i ⊎ ((i ≡ from) × IsOne (positions ++ position ∷ []) j)
       to j i old (inl h) = inl h
-      to j i old (inr (q, m)) = inr (q, (one_more places place j).1 (inl m))
+      to j i old (inr (q, m)) = inr (q, (one_more positions position j).1 (inl m))
 
-      back_to : (j : ℕ) (row : List ℕ) (i : ℕ) (old : List ℕ) → slice_get after j ≡ Some row → IsOne old i ⊎ ((i ≡ from) × IsOne (places ++ place ∷ []) j) → IsOne old i ⊎ ((i ≡ from) × IsOne places j)
+      back_to : (j : ℕ) (row : List ℕ) (i : ℕ) (old : List ℕ) → slice_get after j ≡ Some row → IsOne old i ⊎ ((i ≡ from) × IsOne (positions ++ position ∷ []) j) → IsOne old i ⊎ ((i ≡ from) × IsOne positions j)
       back_to j row i old e (inl h) = inl h
-      back_to j row i old e (inr (q, m)) = by ((one_more places place j).0 m)
+      back_to j row i old e (inr (q, m)) = by ((one_more positions position j).0 m)
         where
-          by : IsOne places j ⊎ (j ≡ place) → IsOne old i ⊎ ((i ≡ from) × IsOne places j)
+          by : IsOne positions j ⊎ (j ≡ position) → IsOne old i ⊎ ((i ≡ from) × IsOne positions j)
           by (inl n) = inr (q, n)
           by (inr s) = let l = slice_get_within after j row e in absurd (omega (arith, l, s, far))
 
-  -- an arrow is kept at the place
-  pub arrows-here : (row : List ℕ) → slice_get after place ≡ Some row → AddsArrows (places ++ place ∷ []) from before (set after place (row ++ from ∷ []))
-  arrows-here row there = record { size = length-set after place (row ++ from ∷ []) ∙ a.size; rows = λ j new e. by j new e (same_place j place) }
+  -- an arrow is kept at the position
+  pub arrows-here : (row : List ℕ) → slice_get after position ≡ Some row → AddsArrows (positions ++ position ∷ []) from before (set after position (row ++ from ∷ []))
+  arrows-here row there = record { size = length-set after position (row ++ from ∷ []) ∙ a.size; rows = λ j new e. by j new e (same_position j position) }
     where
       Row : ℕ → List ℕ → Type 0
-      Row j new = (old : List ℕ) × ((slice_get before j ≡ Some old) × ((i : ℕ) → IsOne new i ↔ (IsOne old i ⊎ ((i ≡ from) × IsOne (places ++ place ∷ []) j))))
+      Row j new = (old : List ℕ) × ((slice_get before j ≡ Some old) × ((i : ℕ) → IsOne new i ↔ (IsOne old i ⊎ ((i ≡ from) × IsOne (positions ++ position ∷ []) j))))
 
-      by : (j : ℕ) (new : List ℕ) → slice_get (set after place (row ++ from ∷ [])) j ≡ Some new → (j ≡ place) ⊎ (j ≢ place) → Row j new
+      by : (j : ℕ) (new : List ℕ) → slice_get (set after position (row ++ from ∷ [])) j ≡ Some new → (j ≡ position) ⊎ (j ≢ position) → Row j new
       by j new e (inl q) =
-          let s : row ++ from ∷ [] ≡ new = set-same after place (row ++ from ∷ []) new (ap (slice_get (set after place (row ++ from ∷ []))) (sym q) ∙ e) in
+          let s : row ++ from ∷ [] ≡ new = set-same after position (row ++ from ∷ []) new (ap (slice_get (set after position (row ++ from ∷ []))) (sym q) ∙ e) in
           let o = a.rows j row (ap (slice_get after) q ∙ there) in (
             o.0,
             (
@@ -60,36 +60,36 @@ module _ (places : List ℕ) (place from : ℕ) (before after : Arrows) (a : Add
             ),
           )
         where
-          to : (i : ℕ) (old : List ℕ) → IsOne row i ↔ (IsOne old i ⊎ ((i ≡ from) × IsOne places j)) → IsOne row i ⊎ (i ≡ from) → IsOne old i ⊎ ((i ≡ from) × IsOne (places ++ place ∷ []) j)
+          to : (i : ℕ) (old : List ℕ) → IsOne row i ↔ (IsOne old i ⊎ ((i ≡ from) × IsOne positions j)) → IsOne row i ⊎ (i ≡ from) → IsOne old i ⊎ ((i ≡ from) × IsOne (positions ++ position ∷ []) j)
           to i old f (inl h) = more (f.0 h)
             where
-              more : IsOne old i ⊎ ((i ≡ from) × IsOne places j) → IsOne old i ⊎ ((i ≡ from) × IsOne (places ++ place ∷ []) j)
+              more : IsOne old i ⊎ ((i ≡ from) × IsOne positions j) → IsOne old i ⊎ ((i ≡ from) × IsOne (positions ++ position ∷ []) j)
               more (inl g) = inl g
-              more (inr (p, m)) = inr (p, (one_more places place j).1 (inl m))
-          to i old f (inr p) = inr (p, (one_more places place j).1 (inr q))
+              more (inr (p, m)) = inr (p, (one_more positions position j).1 (inl m))
+          to i old f (inr p) = inr (p, (one_more positions position j).1 (inr q))
 
-          back_to : (i : ℕ) (old : List ℕ) → IsOne row i ↔ (IsOne old i ⊎ ((i ≡ from) × IsOne places j)) → IsOne old i ⊎ ((i ≡ from) × IsOne (places ++ place ∷ []) j) → IsOne row i ⊎ (i ≡ from)
+          back_to : (i : ℕ) (old : List ℕ) → IsOne row i ↔ (IsOne old i ⊎ ((i ≡ from) × IsOne positions j)) → IsOne old i ⊎ ((i ≡ from) × IsOne (positions ++ position ∷ []) j) → IsOne row i ⊎ (i ≡ from)
           back_to i old f (inl h) = inl (f.1 (inl h))
           back_to i old f (inr (p, m)) = inr p
       by j new e (inr d) =
-          let o = a.rows j new (sym (set-other after place j (row ++ from ∷ []) d) ∙ e) in
+          let o = a.rows j new (sym (set-other after position j (row ++ from ∷ []) d) ∙ e) in
           (o.0, (o.1.0, λ i. ((λ h. to i o.0 ((o.1.1 i).0 h)), λ h. (o.1.1 i).1 (back_to i o.0 h))))
         where
-          to : (i : ℕ) (old : List ℕ) → IsOne old i ⊎ ((i ≡ from) × IsOne places j) → IsOne old i ⊎ ((i ≡ from) × IsOne (places ++ place ∷ []) j)
+          to : (i : ℕ) (old : List ℕ) → IsOne old i ⊎ ((i ≡ from) × IsOne positions j) → IsOne old i ⊎ ((i ≡ from) × IsOne (positions ++ position ∷ []) j)
           to i old (inl h) = inl h
-          to i old (inr (p, m)) = inr (p, (one_more places place j).1 (inl m))
+          to i old (inr (p, m)) = inr (p, (one_more positions position j).1 (inl m))
 
-          back_to : (i : ℕ) (old : List ℕ) → IsOne old i ⊎ ((i ≡ from) × IsOne (places ++ place ∷ []) j) → IsOne old i ⊎ ((i ≡ from) × IsOne places j)
+          back_to : (i : ℕ) (old : List ℕ) → IsOne old i ⊎ ((i ≡ from) × IsOne (positions ++ position ∷ []) j) → IsOne old i ⊎ ((i ≡ from) × IsOne positions j)
           back_to i old (inl h) = inl h
-          back_to i old (inr (p, m)) = over ((one_more places place j).0 m)
+          back_to i old (inr (p, m)) = over ((one_more positions position j).0 m)
             where
-              over : IsOne places j ⊎ (j ≡ place) → IsOne old i ⊎ ((i ≡ from) × IsOne places j)
+              over : IsOne positions j ⊎ (j ≡ position) → IsOne old i ⊎ ((i ≡ from) × IsOne positions j)
               over (inl n) = inr (p, n)
               over (inr q) = absurd (d q)
 
-pub arrows-next : (places : List ℕ) (place from : ℕ) (before after next : Arrows) → AddsArrows places from before after → AddsArrow place from after next → AddsArrows (places ++ place ∷ []) from before next
-arrows-next places place from before after next a (inl (far, e)) = subst (AddsArrows (places ++ place ∷ []) from before) (sym e) (arrows-over places place from before after a far)
-arrows-next places place from before after next a (inr (row, (there, e))) = subst (AddsArrows (places ++ place ∷ []) from before) (sym e) (arrows-here places place from before after a row there)
+pub arrows-next : (positions : List ℕ) (position from : ℕ) (before after next : Arrows) → AddsArrows positions from before after → AddsArrow position from after next → AddsArrows (positions ++ position ∷ []) from before next
+arrows-next positions position from before after next a (inl (far, e)) = subst (AddsArrows (positions ++ position ∷ []) from before) (sym e) (arrows-over positions position from before after a far)
+arrows-next positions position from before after next a (inr (row, (there, e))) = subst (AddsArrows (positions ++ position ∷ []) from before) (sym e) (arrows-here positions position from before after a row there)
 
 -- an item of a list of numbers, and the list up to it
 pub take-number : (xs : List ℕ) (i : ℕ) → i < length xs → take (i + 1) xs ≡ take i xs ++ slice_index xs i ∷ []
@@ -122,22 +122,22 @@ module _ (graph : Graph) where
       none (suc n) zero row g = cc
       none (suc n) (suc j) row g = none n j row g
 
-  pub reversed-more : (n : ℕ) (places : List ℕ) (before after : Arrows) → IsReversedTo graph n before → slice_get graph n ≡ Some (Some places) → AddsArrows places n before after → IsReversedTo graph (n + 1) after
-  reversed-more n places before after r there a = record { size = a.size ∙ r.size; rows = λ j row g i. let o = a.rows j row g in let f = r.rows j o.0 o.1.0 i in ((λ h. to j i o.0 f ((o.1.1 i).0 h)), λ h. (o.1.1 i).1 (back_to j i o.0 f (same_place i n) h)) }
+  pub reversed-more : (n : ℕ) (positions : List ℕ) (before after : Arrows) → IsReversedTo graph n before → slice_get graph n ≡ Some (Some positions) → AddsArrows positions n before after → IsReversedTo graph (n + 1) after
+  reversed-more n positions before after r there a = record { size = a.size ∙ r.size; rows = λ j row g i. let o = a.rows j row g in let f = r.rows j o.0 o.1.0 i in ((λ h. to j i o.0 f ((o.1.1 i).0 h)), λ h. (o.1.1 i).1 (back_to j i o.0 f (same_position i n) h)) }
     where
-      to : (j i : ℕ) (old : List ℕ) → IsOne old i ↔ ((i < n) × WaitsFor graph i j) → IsOne old i ⊎ ((i ≡ n) × IsOne places j) → (i < n + 1) × WaitsFor graph i j
+      to : (j i : ℕ) (old : List ℕ) → IsOne old i ↔ ((i < n) × WaitsFor graph i j) → IsOne old i ⊎ ((i ≡ n) × IsOne positions j) → (i < n + 1) × WaitsFor graph i j
       to j i old f (inl h) = let w = f.0 h in let l = w.0 in (omega (arith, l), w.1)
-      to j i old f (inr (q, m)) = (omega (arith, q), (places, (ap (slice_get graph) q ∙ there, m)))
+      to j i old f (inr (q, m)) = (omega (arith, q), (positions, (ap (slice_get graph) q ∙ there, m)))
 
-      back_to : (j i : ℕ) (old : List ℕ) → IsOne old i ↔ ((i < n) × WaitsFor graph i j) → (i ≡ n) ⊎ (i ≢ n) → (i < n + 1) × WaitsFor graph i j → IsOne old i ⊎ ((i ≡ n) × IsOne places j)
+      back_to : (j i : ℕ) (old : List ℕ) → IsOne old i ↔ ((i < n) × WaitsFor graph i j) → (i ≡ n) ⊎ (i ≢ n) → (i < n + 1) × WaitsFor graph i j → IsOne old i ⊎ ((i ≡ n) × IsOne positions j)
       back_to j i old f (inl q) (l, (next, (g, m))) =
-          let s : Some (Some next) ≡ Some (Some places) = sym g ∙ ap (slice_get graph) q ∙ there in
-          let t : next ≡ places = cc in
+          let s : Some (Some next) ≡ Some (Some positions) = sym g ∙ ap (slice_get graph) q ∙ there in
+          let t : next ≡ positions = cc in
           inr (q, subst (λ z. IsOne z j) t m)
       back_to j i old f (inr d) (l, w) = inl (f.1 (omega (arith, l, d), w))
 
   pub reversed-skip : (n : ℕ) (back : Arrows) → IsReversedTo graph n back → slice_get graph n ≡ Some None → IsReversedTo graph (n + 1) back
-  reversed-skip n back r there = record { size = r.size; rows = λ j row g i. let f = r.rows j row g i in ((λ h. let w = f.0 h in let l = w.0 in (omega (arith, l), w.1)), λ h. f.1 (by j i (same_place i n) h)) }
+  reversed-skip n back r there = record { size = r.size; rows = λ j row g i. let f = r.rows j row g i in ((λ h. let w = f.0 h in let l = w.0 in (omega (arith, l), w.1)), λ h. f.1 (by j i (same_position i n) h)) }
     where
       by : (j i : ℕ) → (i ≡ n) ⊎ (i ≢ n) → (i < n + 1) × WaitsFor graph i j → (i < n) × WaitsFor graph i j
       by j i (inl q) (l, (next, (g, m))) = let s : Some (Some next) ≡ Some None = sym g ∙ ap (slice_get graph) q ∙ there in cc
@@ -148,8 +148,8 @@ module _ (graph : Graph) where
 
 -- ---- a row is marked
 
-push_path : (todo : List ℕ) (place i : ℕ) → OnPath todo i → OnPath (todo ++ place ∷ []) i
-push_path todo place i (k, e) = (k, get-front todo (place ∷ []) k i e)
+push_path : (todo : List ℕ) (position i : ℕ) → OnPath todo i → OnPath (todo ++ position ∷ []) i
+push_path todo position i (k, e) = (k, get-front todo (position ∷ []) k i e)
 
 pub marks-none : (marks : List Bool) (todo : List ℕ) → MarksAll [] marks todo marks todo
 marks-none marks todo = record {
@@ -162,74 +162,74 @@ marks-none marks todo = record {
   falls = omega arith;
 }
 
-module _ (row : List ℕ) (place : ℕ) (marks : List Bool) (todo : List ℕ) where
+module _ (row : List ℕ) (position : ℕ) (marks : List Bool) (todo : List ℕ) where
   module _ (marks' : List Bool) (todo' : List ℕ) (a : MarksAll row marks todo marks' todo') where
-    wider : (j : ℕ) → IsOne row j → IsOne (row ++ place ∷ []) j
-    wider j m = (one_more row place j).1 (inl m)
+    wider : (j : ℕ) → IsOne row j → IsOne (row ++ position ∷ []) j
+    wider j m = (one_more row position j).1 (inl m)
 
-    pub marks-over : (place < length marks' → mark marks' place ≡ true) → MarksAll (row ++ place ∷ []) marks todo marks' todo'
+    pub marks-over : (position < length marks' → mark marks' position ≡ true) → MarksAll (row ++ position ∷ []) marks todo marks' todo'
     marks-over h = record {
       size = a.size;
       more = a.more;
-      all = λ j m l. by j l ((one_more row place j).0 m);
+      all = λ j m l. by j l ((one_more row position j).0 m);
       fresh = λ j m. widen j (a.fresh j m);
       kept = a.kept;
       within = a.within;
       falls = a.falls;
     }
       where
-        by : (j : ℕ) → j < length marks → IsOne row j ⊎ (j ≡ place) → mark marks' j ≡ true
+        by : (j : ℕ) → j < length marks → IsOne row j ⊎ (j ≡ position) → mark marks' j ≡ true
         by j l (inl m) = a.all j m l
         by j l (inr q) = ap (mark marks') q ∙ h (let s = a.size in omega (arith, l, q, s))
 
-        widen : (j : ℕ) → (mark marks j ≡ true) ⊎ (IsOne row j × OnPath todo' j) → (mark marks j ≡ true) ⊎ (IsOne (row ++ place ∷ []) j × OnPath todo' j)
+        widen : (j : ℕ) → (mark marks j ≡ true) ⊎ (IsOne row j × OnPath todo' j) → (mark marks j ≡ true) ⊎ (IsOne (row ++ position ∷ []) j × OnPath todo' j)
         widen j (inl m) = inl m
         widen j (inr (m, o)) = inr (wider j m, o)
 
-    pub marks-here : place < length marks' → mark marks' place ≡ false → MarksAll (row ++ place ∷ []) marks todo (set marks' place true) (todo' ++ place ∷ [])
+    pub marks-here : position < length marks' → mark marks' position ≡ false → MarksAll (row ++ position ∷ []) marks todo (set marks' position true) (todo' ++ position ∷ [])
     marks-here l z = record {
-      size = length-set marks' place true ∙ a.size;
-      more = λ i m. mark-more marks' place i l (a.more i m);
-      all = λ j m b. by j b ((one_more row place j).0 m);
-      fresh = λ j m. fresh j (same_place j place) m;
-      kept = λ i o. push_path todo' place i (a.kept i o);
-      within = λ i (k, e). within i k (get-push todo' place k i e);
-      falls = let u = unmarked-set marks' place l z in let s = length-append todo' (place ∷ []) in let f = a.falls in omega (arith, u, s, f);
+      size = length-set marks' position true ∙ a.size;
+      more = λ i m. mark-more marks' position i l (a.more i m);
+      all = λ j m b. by j b ((one_more row position j).0 m);
+      fresh = λ j m. fresh j (same_position j position) m;
+      kept = λ i o. push_path todo' position i (a.kept i o);
+      within = λ i (k, e). within i k (get-push todo' position k i e);
+      falls = let u = unmarked-set marks' position l z in let s = length-append todo' (position ∷ []) in let f = a.falls in omega (arith, u, s, f);
     }
       where
-        by : (j : ℕ) → j < length marks → IsOne row j ⊎ (j ≡ place) → mark (set marks' place true) j ≡ true
-        by j b (inl m) = mark-more marks' place j l (a.all j m b)
-        by j b (inr q) = ap (mark (set marks' place true)) q ∙ mark-here marks' place l
+        by : (j : ℕ) → j < length marks → IsOne row j ⊎ (j ≡ position) → mark (set marks' position true) j ≡ true
+        by j b (inl m) = mark-more marks' position j l (a.all j m b)
+        by j b (inr q) = ap (mark (set marks' position true)) q ∙ mark-here marks' position l
 
-        fresh : (j : ℕ) → (j ≡ place) ⊎ (j ≢ place) → mark (set marks' place true) j ≡ true → (mark marks j ≡ true) ⊎ (IsOne (row ++ place ∷ []) j × OnPath (todo' ++ place ∷ []) j)
-        fresh j (inl q) m = inr ((one_more row place j).1 (inr q), (length todo', get-last todo' place ∙ ap Some (sym q)))
-        fresh j (inr d) m = widen (a.fresh j (sym (mark-there marks' place j d) ∙ m))
+        fresh : (j : ℕ) → (j ≡ position) ⊎ (j ≢ position) → mark (set marks' position true) j ≡ true → (mark marks j ≡ true) ⊎ (IsOne (row ++ position ∷ []) j × OnPath (todo' ++ position ∷ []) j)
+        fresh j (inl q) m = inr ((one_more row position j).1 (inr q), (length todo', get-last todo' position ∙ ap Some (sym q)))
+        fresh j (inr d) m = widen (a.fresh j (sym (mark-there marks' position j d) ∙ m))
           where
-            widen : (mark marks j ≡ true) ⊎ (IsOne row j × OnPath todo' j) → (mark marks j ≡ true) ⊎ (IsOne (row ++ place ∷ []) j × OnPath (todo' ++ place ∷ []) j)
+            widen : (mark marks j ≡ true) ⊎ (IsOne row j × OnPath todo' j) → (mark marks j ≡ true) ⊎ (IsOne (row ++ position ∷ []) j × OnPath (todo' ++ position ∷ []) j)
             widen (inl h) = inl h
-            widen (inr (h, o)) = inr (wider j h, push_path todo' place j o)
+            widen (inr (h, o)) = inr (wider j h, push_path todo' position j o)
 
-        within : (i k : ℕ) → (slice_get todo' k ≡ Some i) ⊎ ((k ≡ length todo') × (place ≡ i)) → OnPath todo i ⊎ ((i < length marks) × (mark (set marks' place true) i ≡ true))
+        within : (i k : ℕ) → (slice_get todo' k ≡ Some i) ⊎ ((k ≡ length todo') × (position ≡ i)) → OnPath todo i ⊎ ((i < length marks) × (mark (set marks' position true) i ≡ true))
         within i k (inl e) = more (a.within i (k, e))
           where
-            more : OnPath todo i ⊎ ((i < length marks) × (mark marks' i ≡ true)) → OnPath todo i ⊎ ((i < length marks) × (mark (set marks' place true) i ≡ true))
+            more : OnPath todo i ⊎ ((i < length marks) × (mark marks' i ≡ true)) → OnPath todo i ⊎ ((i < length marks) × (mark (set marks' position true) i ≡ true))
             more (inl o) = inl o
-            more (inr (b, m)) = inr (b, mark-more marks' place i l m)
-        within i k (inr (h, e)) = inr (let s = a.size in omega (arith, l, s, e), ap (mark (set marks' place true)) (sym e) ∙ mark-here marks' place l)
+            more (inr (b, m)) = inr (b, mark-more marks' position i l m)
+        within i k (inr (h, e)) = inr (let s = a.size in omega (arith, l, s, e), ap (mark (set marks' position true)) (sym e) ∙ mark-here marks' position l)
 
-pub marks-next : (row : List ℕ) (place : ℕ) (marks : List Bool) (todo : List ℕ) (marks' : List Bool) (todo' : List ℕ) (marks'' : List Bool) (todo'' : List ℕ) → MarksAll row marks todo marks' todo'
-    → MarksOne place marks' todo' marks'' todo'' → MarksAll (row ++ place ∷ []) marks todo marks'' todo''
-marks-next row place marks todo marks' todo' marks'' todo'' a (inl (l, (z, (p, q)))) =
-    subst (λ ms. MarksAll (row ++ place ∷ []) marks todo ms todo'') (sym p) (subst (MarksAll (row ++ place ∷ []) marks todo (set marks' place true)) (sym q) (marks-here row place marks todo marks' todo' a l z))
-marks-next row place marks todo marks' todo' marks'' todo'' a (inr (h, (p, q))) =
-    subst (λ ms. MarksAll (row ++ place ∷ []) marks todo ms todo'') (sym p) (subst (MarksAll (row ++ place ∷ []) marks todo marks') (sym q) (marks-over row place marks todo marks' todo' a h))
+pub marks-next : (row : List ℕ) (position : ℕ) (marks : List Bool) (todo : List ℕ) (marks' : List Bool) (todo' : List ℕ) (marks'' : List Bool) (todo'' : List ℕ) → MarksAll row marks todo marks' todo'
+    → MarksOne position marks' todo' marks'' todo'' → MarksAll (row ++ position ∷ []) marks todo marks'' todo''
+marks-next row position marks todo marks' todo' marks'' todo'' a (inl (l, (z, (p, q)))) =
+    subst (λ ms. MarksAll (row ++ position ∷ []) marks todo ms todo'') (sym p) (subst (MarksAll (row ++ position ∷ []) marks todo (set marks' position true)) (sym q) (marks-here row position marks todo marks' todo' a l z))
+marks-next row position marks todo marks' todo' marks'' todo'' a (inr (h, (p, q))) =
+    subst (λ ms. MarksAll (row ++ position ∷ []) marks todo ms todo'') (sym p) (subst (MarksAll (row ++ position ∷ []) marks todo marks') (sym q) (marks-over row position marks todo marks' todo' a h))
 
 -- ---- a step of the search
 
 module _ (graph : Graph) (back : Arrows) (reversed : IsReversed graph back) (target : ℕ) where
-  pub search-step : (marks marks' : List Bool) (todo todo' row : List ℕ) (n place : ℕ) → IsSearch graph target marks todo → length todo ≡ suc n → slice_get todo n ≡ Some place → slice_get back place ≡ Some row
+  pub search-step : (marks marks' : List Bool) (todo todo' row : List ℕ) (n position : ℕ) → IsSearch graph target marks todo → length todo ≡ suc n → slice_get todo n ≡ Some position → slice_get back position ≡ Some row
       → MarksAll row marks (take n todo) marks' todo' → IsSearch graph target marks' todo'
-  search-step marks marks' todo todo' row n place s size last there a = record {
+  search-step marks marks' todo todo' row n position s size last there a = record {
     size = a.size ∙ s.size;
     started = a.more target s.started;
     sound = λ i m. sound i (a.fresh i m);
@@ -237,12 +237,12 @@ module _ (graph : Graph) (back : Arrows) (reversed : IsReversed graph back) (tar
     closed = λ i j w m. closed i j w (a.fresh i m);
   }
     where
-      here : mark marks place ≡ true
-      here = (s.waiting place (n, last)).1
+      here : mark marks position ≡ true
+      here = (s.waiting position (n, last)).1
 
       sound : (i : ℕ) → (mark marks i ≡ true) ⊎ (IsOne row i × OnPath todo' i) → LeadsAt graph i target
       sound i (inl m) = s.sound i m
-      sound i (inr (m, o)) = let w = (reversed.rows place row there i).0 m in LeadsAt.step w.0 place w.1.0 w.1.1 (s.sound place here)
+      sound i (inr (m, o)) = let w = (reversed.rows position row there i).0 m in LeadsAt.step w.0 position w.1.0 w.1.1 (s.sound position here)
 
       waiting : (i : ℕ) → OnPath (take n todo) i ⊎ ((i < length marks) × (mark marks' i ≡ true)) → (i < length graph) × (mark marks' i ≡ true)
       waiting i (inl (k, e)) = let w = s.waiting i (k, (get-pop todo n k i e).1) in (w.0, a.more i w.1)
@@ -252,15 +252,15 @@ module _ (graph : Graph) (back : Arrows) (reversed : IsReversed graph back) (tar
       closed i j w (inr (m, o)) = inr o
       closed i j w (inl m) = by (s.closed i j w m)
         where
-          marked : i ≡ place → mark marks' j ≡ true
-          marked q = a.all j ((reversed.rows place row there j).1 (w.0, (w.1.0, subst (IsOne w.0) q w.1.1))) (let l = slice_get_within graph j (Some w.0) w.1.0 in let e = s.size in omega (arith, l, e))
+          marked : i ≡ position → mark marks' j ≡ true
+          marked q = a.all j ((reversed.rows position row there j).1 (w.0, (w.1.0, subst (IsOne w.0) q w.1.1))) (let l = slice_get_within graph j (Some w.0) w.1.0 in let e = s.size in omega (arith, l, e))
 
           by : (mark marks j ≡ true) ⊎ OnPath todo i → (mark marks' j ≡ true) ⊎ OnPath todo' i
           by (inl h) = inl (a.more j h)
-          by (inr (k, e)) = at (same_place k n)
+          by (inr (k, e)) = at (same_position k n)
             where
               at : (k ≡ n) ⊎ (k ≢ n) → (mark marks' j ≡ true) ⊎ OnPath todo' i
-              at (inl q) = let r : Some i ≡ Some place = sym e ∙ ap (slice_get todo) q ∙ last in let t : i ≡ place = cc in inl (marked t)
+              at (inl q) = let r : Some i ≡ Some position = sym e ∙ ap (slice_get todo) q ∙ last in let t : i ≡ position = cc in inl (marked t)
               at (inr d) = inr (a.kept i (k, pop-get todo n k i (let l = slice_get_within todo k i e in omega (arith, l, size, d)) e))
 
 -- where nothing waits, all that lead to the target are marked
@@ -279,9 +279,9 @@ pub search-start : (graph : Graph) (target : ℕ) (marks : List Bool) (todo : Li
 search-start graph target marks todo p q h = subst (IsSearch graph target marks) (sym q) (subst (λ ms. IsSearch graph target ms (target ∷ [])) (sym p) (record {
   size = length-set (replicate (length graph) false) target true ∙ length-replicate (length graph) false;
   started = first;
-  sound = λ i m. LeadsAt.here (only i (same_place i target) m);
+  sound = λ i m. LeadsAt.here (only i (same_position i target) m);
   waiting = λ i (k, e). waits i k e;
-  closed = λ i j w m. inr (0, ap Some (sym (only i (same_place i target) m)));
+  closed = λ i j w m. inr (0, ap Some (sym (only i (same_position i target) m)));
 }))
   where
     fits : target < length (replicate (length graph) false)

@@ -68,66 +68,66 @@ Holds defs (keys alternatives) =
 
 -- A condition is asked of the part of this number in a definition; where it is about one name in
 -- the types of the part, the name has this number, and else the number is 0.
-pub record Placed : Type 0 where
+pub record Asked : Type 0 where
   pub part : ℕ
   pub name : ℕ
   pub condition : Condition
 
 -- the condition on the part as a whole, or on its only name
-abbrev pub placed : ℕ → Condition → Placed
-placed part c = record { part = part; name = 0; condition = c }
+abbrev pub asked : ℕ → Condition → Asked
+asked part c = record { part = part; name = 0; condition = c }
 
 -- the condition on the name of this number
-abbrev pub placed_name : ℕ → ℕ → Condition → Placed
-placed_name part number c = record { part = part; name = number; condition = c }
+abbrev pub asked_name : ℕ → ℕ → Condition → Asked
+asked_name part number c = record { part = part; name = number; condition = c }
 
 -- the conditions that names of a part are declared, the first of which has this number
-abbrev pub all_declared : ℕ → ℕ → List (List ℕ) → List Placed
+abbrev pub all_declared : ℕ → ℕ → List (List ℕ) → List Asked
 all_declared part number [] = []
 all_declared part number (name ∷ names) =
-    placed_name part number (declared name) ∷ all_declared part (suc number) names
+    asked_name part number (declared name) ∷ all_declared part (suc number) names
 
 -- the conditions on names of an alias, the first of which has this number: each is declared and
 -- does not lead back
-abbrev pub on_alias : List ℕ → ℕ → List (List ℕ) → List Placed
+abbrev pub on_alias : List ℕ → ℕ → List (List ℕ) → List Asked
 on_alias target number [] = []
 on_alias target number (name ∷ names) =
-    placed_name 0 number (declared name) ∷ placed_name 0 number (no_return name target)
+    asked_name 0 number (declared name) ∷ asked_name 0 number (no_return name target)
     ∷ on_alias target (suc number) names
 
 -- the conditions on what is included: it is declared, does not lead back, and is a variant
-abbrev pub on_included : List ℕ → ℕ → List ℕ → List Placed
+abbrev pub on_included : List ℕ → ℕ → List ℕ → List Asked
 on_included target part name =
-    placed part (declared name) ∷ placed part (no_return name target)
-    ∷ placed part (variant name) ∷ []
+    asked part (declared name) ∷ asked part (no_return name target)
+    ∷ asked part (variant name) ∷ []
 
 -- the conditions on an alternative, which is the last of those so far
-abbrev pub on_alternative : List ℕ → ℕ → List Alternative → Alternative → List Placed
+abbrev pub on_alternative : List ℕ → ℕ → List Alternative → Alternative → List Asked
 on_alternative target part so_far (alternative.Case tag operands) =
-    placed part (keys so_far) ∷ all_declared part 0 (joined (map names_in operands))
+    asked part (keys so_far) ∷ all_declared part 0 (joined (map names_in operands))
 on_alternative target part so_far (alternative.Incl name) =
-    on_included target part name ++ placed part (keys so_far) ∷ []
+    on_included target part name ++ asked part (keys so_far) ∷ []
 
 -- the conditions on alternatives behind others, the first of which has this number
-abbrev pub on_alternatives : List ℕ → ℕ → List Alternative → List Alternative → List Placed
+abbrev pub on_alternatives : List ℕ → ℕ → List Alternative → List Alternative → List Asked
 on_alternatives target part before [] = []
 on_alternatives target part before (a ∷ as') =
     on_alternative target part (before ++ a ∷ []) a
     ++ on_alternatives target (suc part) (before ++ a ∷ []) as'
 
 -- the conditions on the field of this number behind others
-abbrev pub on_field : ℕ → List (List ℕ × Ty) → List ℕ × Ty → List Placed
+abbrev pub on_field : ℕ → List (List ℕ × Ty) → List ℕ × Ty → List Asked
 on_field part before f =
-    placed part (new_field before f.0) ∷ all_declared part 0 (names_in f.1)
+    asked part (new_field before f.0) ∷ all_declared part 0 (names_in f.1)
 
 -- the conditions on fields behind others, the first of which has this number
-abbrev pub on_fields : ℕ → List (List ℕ × Ty) → List (List ℕ × Ty) → List Placed
+abbrev pub on_fields : ℕ → List (List ℕ × Ty) → List (List ℕ × Ty) → List Asked
 on_fields part before [] = []
 on_fields part before (f ∷ fs) =
     on_field part before f ++ on_fields (suc part) (before ++ f ∷ []) fs
 
 -- the conditions on the body of the syntax of this name
-abbrev pub on_body : List ℕ → SyntaxBody → List Placed
+abbrev pub on_body : List ℕ → SyntaxBody → List Asked
 on_body name (body.Alias t) = on_alias name 0 (names_in t)
 on_body name (body.Variant alternatives) = on_alternatives name 0 [] alternatives
 on_body name (body.Fields fields) = on_fields 0 [] fields
@@ -138,7 +138,7 @@ run from to xs = drop from (take to xs)
 
 -- The conditions on the parts from this number up to that of the body of the syntax of this name.
 -- An alias is one part.
-abbrev pub on_parts : List ℕ → SyntaxBody → ℕ → ℕ → List Placed
+abbrev pub on_parts : List ℕ → SyntaxBody → ℕ → ℕ → List Asked
 on_parts name (body.Alias t) from to =
     flat_map (λ u. on_alias name 0 (names_in u)) (run from to (t ∷ []))
 on_parts name (body.Variant alternatives) from to =
@@ -147,29 +147,29 @@ on_parts name (body.Fields fields) from to =
     on_fields from (take from fields) (run from to fields)
 
 -- the conditions on a definition behind these
-abbrev pub conditions_on : List SyntaxDef → SyntaxDef → List Placed
-conditions_on before d = placed 0 (new_name before d.name) ∷ on_body d.name d.body
+abbrev pub conditions_on : List SyntaxDef → SyntaxDef → List Asked
+conditions_on before d = asked 0 (new_name before d.name) ∷ on_body d.name d.body
 
 -- ---- the first that is false
 
 -- all these conditions are true
-abbrev pub AllHold : List SyntaxDef → List Placed → Type 0
+abbrev pub AllHold : List SyntaxDef → List Asked → Type 0
 AllHold defs [] = Unit {0}
 AllHold defs (p ∷ ps) = Holds defs p.condition × AllHold defs ps
 
 -- what a false condition is answered with
-abbrev pub broken : Placed → Broken
+abbrev pub broken : Asked → Broken
 broken p = record { part = p.part; name = p.name; rule = rule_of p.condition }
 
 -- the first of these conditions that is false is answered with this
-abbrev pub FirstFalse : List SyntaxDef → List Placed → Broken → Type 0
+abbrev pub FirstFalse : List SyntaxDef → List Asked → Broken → Type 0
 FirstFalse defs [] b = ⊥
 FirstFalse defs (p ∷ ps) b =
     ((Holds defs p.condition → ⊥) × (b ≡ broken p))
     ⊎ (Holds defs p.condition × FirstFalse defs ps b)
 
 -- what was found among these conditions: nothing, or the first that is false
-abbrev pub Finds : List SyntaxDef → List Placed → Option Broken → Type 0
+abbrev pub Finds : List SyntaxDef → List Asked → Option Broken → Type 0
 Finds defs ps found = MatchOption found (AllHold defs ps) (FirstFalse defs ps)
 
 -- what was found at the parts from this number up to that of the definition of this number

@@ -12,7 +12,7 @@ ghost use Rattle.st_type_table.specs.inner.Checking.{Returns, NameBreaks, IsEndi
 use crate::definitions::Definitions;
 use crate::fault::Broken;
 use crate::graph::{is_numbered, is_ranked};
-use crate::place::{push_all_names, push_names};
+use crate::position::{push_all_names, push_names};
 use crate::resolve::{body_of, meaning_in};
 use st_il::{Alternative, SyntaxBody, Ty};
 use st_num::{Name, NoMemory, Row, RuleId};
@@ -47,7 +47,7 @@ fn check_declared(defs: &Definitions, part: u32, names: &[Name]) -> Result<Found
     ensures { IfOk result (λ found. Finds defs.now (all_declared part 0 names.now) found) }
 {
     for (k, name) in names.iter().enumerate() {
-        match defs.place_of(name) {
+        match defs.position_of(name) {
             Some(_) => {}
             None => {
                 let name = numbered(k)?;
@@ -70,9 +70,9 @@ fn rule_of_name(
     requires { Returns defs.now target.now numbers.now own (name.now ∷ []) }
     ensures { NameBreaks defs.now target.now name.now result }
 {
-    match defs.place_of(name) {
-        Some(place) => {
-            if is_numbered(numbers, own, place) {
+    match defs.position_of(name) {
+        Some(position) => {
+            if is_numbered(numbers, own, position) {
                 return Some(RuleId::B4);
             }
             None
@@ -110,8 +110,8 @@ fn is_ending(defs: &Definitions, ranks: &[usize], name: &Name) -> bool
     requires { AreRanks (graph_of defs.now) ranks.now }
     ensures { IsTrue result ↔ IsEnding defs.now name.now }
 {
-    match defs.place_of(name) {
-        Some(place) => is_ranked(ranks, place),
+    match defs.position_of(name) {
+        Some(position) => is_ranked(ranks, position),
         None => false,
     }
 }
@@ -177,10 +177,10 @@ fn check_included(
     requires numbers { Returns defs.now target.now numbers.now own (name.now ∷ []) }
     ensures { IfOk result (λ found. Finds defs.now (on_included target.now part name.now) found) }
 {
-    let Some(place) = defs.place_of(name) else {
+    let Some(position) = defs.position_of(name) else {
         return Ok(Some(whole(part, RuleId::B2)));
     };
-    if is_numbered(numbers, own, place) {
+    if is_numbered(numbers, own, position) {
         return Ok(Some(whole(part, RuleId::B4)));
     }
     if !is_variant(alloc, defs, ranks, name)? {

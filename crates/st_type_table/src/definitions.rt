@@ -84,7 +84,7 @@ impl<'a> Model for Definitions<'a> {
 
 impl<'a> Definitions<'a> {
     ghost use Rattle.std.specs.Prelude.{◌≡◌, ◌<◌, IfOk, Some, length, slice_get, take};
-    ghost use Rattle.st_type_table.specs.inner.Graph.{place_of};
+    ghost use Rattle.st_type_table.specs.inner.Graph.{position_of};
 
     /// The definitions, with the index that is made of them.
     pub(crate) fn of(alloc: Global, all: &'a [SyntaxDef]) -> Result<Definitions<'a>, NoMemory>
@@ -110,20 +110,20 @@ impl<'a> Definitions<'a> {
     }
 
     /// The number of the first definition of this name.
-    pub(crate) fn place_of(&self, name: &Name) -> Option<usize>
-        ensures { result ≡ place_of self.now name.now }
+    pub(crate) fn position_of(&self, name: &Name) -> Option<usize>
+        ensures { result ≡ position_of self.now name.now }
     {
         number_of(&self.index, name)
     }
 
     /// The number of the first definition of this name, of those before the one of a number.
-    pub(crate) fn place_before(&self, number: usize, name: &Name) -> Option<usize>
-        ensures { result ≡ place_of (take number self.now) name.now }
+    pub(crate) fn position_before(&self, number: usize, name: &Name) -> Option<usize>
+        ensures { result ≡ position_of (take number self.now) name.now }
     {
-        match self.place_of(name) {
-            Some(place) => {
-                if place < number {
-                    return Some(place);
+        match self.position_of(name) {
+            Some(position) => {
+                if position < number {
+                    return Some(position);
                 }
                 None
             }

@@ -47,10 +47,10 @@ fn add_included(alloc: Global, cases: &mut CaseList, flat: &Flat) -> Result<bool
 }
 
 /// What is kept of the definition of this number, where there is one.
-fn flat_at<'a>(flats: &'a [Flat], place: usize) -> Option<&'a Flat>
-    ensures { option_copied result ≡ slice_get flats.now place }
+fn flat_at<'a>(flats: &'a [Flat], position: usize) -> Option<&'a Flat>
+    ensures { option_copied result ≡ slice_get flats.now position }
 {
-    flats.get(place)
+    flats.get(position)
 }
 
 /// What is kept of the variant that the type means.
@@ -62,8 +62,8 @@ fn flat_of<'a>(defs: &Definitions, ranks: &[usize], flats: &'a [Flat], ty: &Ty) 
     ensures { IsFlatOf defs.now ty.now result }
 {
     match meaning_in(defs, ranks, ty) {
-        Ty::Name(name) => match defs.place_of(name) {
-            Some(place) => flat_at(flats, place),
+        Ty::Name(name) => match defs.position_of(name) {
+            Some(position) => flat_at(flats, position),
             None => None,
         },
         Ty::Bool => None,
@@ -116,8 +116,8 @@ fn ends(defs: &Definitions, ranks: &[usize], name: &Name) -> bool
     requires { AreRanks (graph_of defs.now) ranks.now }
     ensures { IsTrue result ↔ Ends defs.now name.now }
 {
-    match defs.place_of(name) {
-        Some(place) => is_ranked(ranks, place),
+    match defs.position_of(name) {
+        Some(position) => is_ranked(ranks, position),
         None => true,
     }
 }
@@ -244,9 +244,9 @@ fn fill_rank(
     ensures { OnOk result (AreFlats defs.now ranks.now (suc rank) flats.new.items) }
 {
     let row = rows[rank].as_slice();
-    for place in row {
-        let flat = flat_of_body(alloc, defs, ranks, flats, defs.nth(*place))?;
-        flats[*place] = flat;
+    for position in row {
+        let flat = flat_of_body(alloc, defs, ranks, flats, defs.nth(*position))?;
+        flats[*position] = flat;
     }
     Ok(())
 }

@@ -24,7 +24,7 @@ pub(crate) enum Form {
     Pair(usize, usize),
 }
 
-/// The forms of the syntaxes and of their parts, each once: its place is its number.
+/// The forms of the syntaxes and of their parts, each once: its position is its number.
 pub(crate) type FormList = IndexSet<Form>;
 
 /// The numbers of the syntaxes, by their names.

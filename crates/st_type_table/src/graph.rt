@@ -8,20 +8,20 @@ use st_num::Row;
 pub(crate) type Node = Option<Row<usize>>;
 
 /// Whether the definition of this number has a rank, and so comes to an end.
-pub(crate) fn is_ranked(ranks: &[usize], place: usize) -> bool
-    ensures { IsTrue result ↔ (0 < slice_index ranks.now place) }
+pub(crate) fn is_ranked(ranks: &[usize], position: usize) -> bool
+    ensures { IsTrue result ↔ (0 < slice_index ranks.now position) }
 {
-    match ranks.get(place) {
+    match ranks.get(position) {
         Some(rank) => *rank > 0,
         None => false,
     }
 }
 
-/// Whether the definition at this place has this number.
-pub(crate) fn is_numbered(numbers: &[usize], own: usize, place: usize) -> bool
-    ensures { IsTrue result ↔ (slice_get numbers.now place ≡ Some own) }
+/// Whether the definition at this position has this number.
+pub(crate) fn is_numbered(numbers: &[usize], own: usize, position: usize) -> bool
+    ensures { IsTrue result ↔ (slice_get numbers.now position ≡ Some own) }
 {
-    match numbers.get(place) {
+    match numbers.get(position) {
         Some(number) => *number == own,
         None => false,
     }

@@ -2,8 +2,8 @@
 
 ghost use Rattle.std.specs.Prelude.{◌≡◌, ◌↔◌, ◌++◌, IsTrue, IfOk, OnOk};
 ghost use Rattle.st_type_table.specs.Joins.{Joins};
-ghost use Rattle.st_type_table.specs.inner.JoinGraph.{place_or_never, waits_in, field_waits, waits_of, join_graph};
-ghost use Rattle.st_type_table.specs.inner.Graph.{place_of};
+ghost use Rattle.st_type_table.specs.inner.JoinGraph.{position_or_never, waits_in, field_waits, waits_of, join_graph};
+ghost use Rattle.st_type_table.specs.inner.Graph.{position_of};
 ghost use Rattle.st_type_table.specs.inner.Kept.{defs_of, IsKept};
 
 use crate::definitions::Definitions;
@@ -16,11 +16,11 @@ use std::alloc::Global;
 
 /// The number of the first definition of this name, or the number behind all definitions: nothing
 /// is there, and so what waits for it waits for ever.
-fn place_or_never(defs: &Definitions, name: &Name) -> usize
-    ensures { result ≡ place_or_never defs.now (place_of defs.now name.now) }
+fn position_or_never(defs: &Definitions, name: &Name) -> usize
+    ensures { result ≡ position_or_never defs.now (position_of defs.now name.now) }
 {
-    match defs.place_of(name) {
-        Some(place) => place,
+    match defs.position_of(name) {
+        Some(position) => position,
         None => defs.len(),
     }
 }
@@ -31,7 +31,7 @@ fn push_waits(defs: &Definitions, ty: &Ty, out: &mut Row<usize>) -> Result<(), N
 {
     match ty {
         Ty::List(_) | Ty::Opt(_) => Ok(()),
-        Ty::Name(name) => out.push(place_or_never(defs, name)),
+        Ty::Name(name) => out.push(position_or_never(defs, name)),
         Ty::Bool | Ty::Nat | Ty::Int | Ty::Text | Ty::Tuple(_) => out.push(defs.len()),
     }
 }
@@ -42,29 +42,29 @@ fn field_waits(
     defs: &Definitions,
     fields: &[(Name, Ty)],
 ) -> Result<Row<usize>, NoMemory>
-    ensures { IfOk result (λ places. places ≡ field_waits defs.now fields.now) }
+    ensures { IfOk result (λ positions. positions ≡ field_waits defs.now fields.now) }
 {
-    let mut places = Row::new(alloc);
+    let mut positions = Row::new(alloc);
     for field in fields {
-        push_waits(defs, &field.1, &mut places)?;
+        push_waits(defs, &field.1, &mut positions)?;
     }
-    Ok(places)
+    Ok(positions)
 }
 
 /// What a syntax of this body waits for before it can be joined as a field.
 fn waits_of(alloc: Global, defs: &Definitions, body: &SyntaxBody) -> Result<Row<usize>, NoMemory>
-    ensures { IfOk result (λ places. places ≡ waits_of defs.now body.now) }
+    ensures { IfOk result (λ positions. positions ≡ waits_of defs.now body.now) }
 {
     match body {
         SyntaxBody::Alias(ty) => {
-            let mut places = Row::new(alloc);
-            push_waits(defs, ty, &mut places)?;
-            Ok(places)
+            let mut positions = Row::new(alloc);
+            push_waits(defs, ty, &mut positions)?;
+            Ok(positions)
         }
         SyntaxBody::Variant(_) => {
-            let mut places = Row::new(alloc);
-            places.push(defs.len())?;
-            Ok(places)
+            let mut positions = Row::new(alloc);
+            positions.push(defs.len())?;
+            Ok(positions)
         }
         SyntaxBody::Fields(fields) => field_waits(alloc, defs, fields.as_slice()),
     }
@@ -76,8 +76,8 @@ pub(crate) fn join_graph(alloc: Global, defs: &Definitions) -> Result<Row<Node>,
 {
     let mut graph = Row::new(alloc);
     for number in 0..defs.len() {
-        let places = waits_of(alloc, defs, &defs.nth(number).body)?;
-        graph.push(Some(places))?;
+        let positions = waits_of(alloc, defs, &defs.nth(number).body)?;
+        graph.push(Some(positions))?;
     }
     Ok(graph)
 }

@@ -23,7 +23,7 @@ mod key_index;
 mod meaning;
 mod numbering;
 mod parts;
-mod place;
+mod position;
 mod ranking;
 mod resolve;
 mod rows;

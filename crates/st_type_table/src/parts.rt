@@ -55,7 +55,7 @@ fn check_body(
     }
 }
 
-/// The same of the definition at this place, where those of this number lead back to its name.
+/// The same of the definition at this position, where those of this number lead back to its name.
 fn check_numbered(
     alloc: Global,
     defs: &Definitions,
@@ -136,7 +136,7 @@ pub(crate) fn check_parts(
     ensures { IfOk result (λ found. FindsAt defs.now at from to found) }
 {
     let def = defs.nth(at);
-    match defs.place_before(at, &def.name) {
+    match defs.position_before(at, &def.name) {
         Some(first) => {
             let found = check_again(alloc, defs, survey, first, at, from, to)?;
             Ok(found)
@@ -171,7 +171,7 @@ pub(crate) fn check_def(
     ensures { IfOk result (λ found. CheckedAt defs.now at found) }
 {
     let def = defs.nth(at);
-    match defs.place_before(at, &def.name) {
+    match defs.position_before(at, &def.name) {
         Some(_) => return Ok(Some(whole(0, RuleId::B1))),
         None => {}
     }

@@ -10,17 +10,17 @@ use st_num::{NoMemory, Row};
 use std::alloc::Global;
 
 /// The number of the first of these definitions that has no rank, where those before this one have.
-fn first_unranked(places: &[usize], ranks: &[usize], from: usize) -> usize
-    requires { RankedTo places.now ranks.now from }
-    ensures ranked { RankedTo places.now ranks.now result }
-    ensures stops { (j : ℕ) → slice_get places.now result ≡ Some j → slice_index ranks.now j ≡ 0 }
+fn first_unranked(positions: &[usize], ranks: &[usize], from: usize) -> usize
+    requires { RankedTo positions.now ranks.now from }
+    ensures ranked { RankedTo positions.now ranks.now result }
+    ensures stops { (j : ℕ) → slice_get positions.now result ≡ Some j → slice_index ranks.now j ≡ 0 }
 {
-    for at in from..places.len() {
-        if !is_ranked(ranks, places[at]) {
+    for at in from..positions.len() {
+        if !is_ranked(ranks, positions[at]) {
             return at;
         }
     }
-    places.len()
+    positions.len()
 }
 
 /// The walk comes to a definition. Where it is new, it waits at the end of the path; where it was
@@ -40,15 +40,15 @@ fn come_to(seen: &mut [bool], path: &mut Vec<usize>, next: usize) -> Result<(), 
 }
 
 /// The next of those that a definition waits for that has no rank, where there is one.
-fn advance(places: &[usize], ranks: &[usize], top: usize, passed: &mut [usize]) -> Option<usize>
+fn advance(positions: &[usize], ranks: &[usize], top: usize, passed: &mut [usize]) -> Option<usize>
     requires within { top < length passed.old }
-    requires ranked { RankedTo places.now ranks.now (slice_index passed.old top) }
-    ensures { Advances places.now ranks.now top passed.old passed.new result }
+    requires ranked { RankedTo positions.now ranks.now (slice_index passed.old top) }
+    ensures { Advances positions.now ranks.now top passed.old passed.new result }
 {
-    let at = first_unranked(places, ranks, passed[top]);
+    let at = first_unranked(positions, ranks, passed[top]);
     passed[top] = at;
-    if at < places.len() {
-        return Some(places[at]);
+    if at < positions.len() {
+        return Some(positions[at]);
     }
     None
 }
@@ -92,7 +92,7 @@ fn step(
             path.clear();
             Ok(count)
         }
-        Some(places) => match advance(places.as_slice(), ranks, top, passed) {
+        Some(positions) => match advance(positions.as_slice(), ranks, top, passed) {
             Some(next) => {
                 come_to(seen, path, next)?;
                 Ok(count)

@@ -13,8 +13,8 @@ use st_num::{Name, Row};
 pub(crate) fn body_of<'a>(defs: &Definitions<'a>, name: &Name) -> Option<&'a SyntaxBody>
     ensures { option_copied result ≡ body_of defs.now name.now }
 {
-    match defs.place_of(name) {
-        Some(place) => Some(&defs.nth(place).body),
+    match defs.position_of(name) {
+        Some(position) => Some(&defs.nth(position).body),
         None => None,
     }
 }

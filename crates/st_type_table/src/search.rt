@@ -19,22 +19,22 @@ fn no_arrows(alloc: Global, len: usize) -> Result<Vec<Row<usize>>, NoMemory>
     Ok(back)
 }
 
-/// Keeps an arrow from a definition at a place, where there is one.
-fn add_arrow(place: usize, from: usize, back: &mut [Row<usize>]) -> Result<(), NoMemory>
-    ensures { OnOk result (AddsArrow place from back.old back.new) }
+/// Keeps an arrow from a definition at a position, where there is one.
+fn add_arrow(position: usize, from: usize, back: &mut [Row<usize>]) -> Result<(), NoMemory>
+    ensures { OnOk result (AddsArrow position from back.old back.new) }
 {
-    if place < back.len() {
-        back[place].push(from)?;
+    if position < back.len() {
+        back[position].push(from)?;
     }
     Ok(())
 }
 
-/// Keeps an arrow from a definition at each of these places.
-fn add_arrows(places: &[usize], from: usize, back: &mut [Row<usize>]) -> Result<(), NoMemory>
-    ensures { OnOk result (AddsArrows places.now from back.old back.new) }
+/// Keeps an arrow from a definition at each of these positions.
+fn add_arrows(positions: &[usize], from: usize, back: &mut [Row<usize>]) -> Result<(), NoMemory>
+    ensures { OnOk result (AddsArrows positions.now from back.old back.new) }
 {
-    for place in places {
-        add_arrow(*place, from, back)?;
+    for position in positions {
+        add_arrow(*position, from, back)?;
     }
     Ok(())
 }
@@ -45,8 +45,8 @@ fn add_all_arrows(graph: &[Node], back: &mut [Row<usize>]) -> Result<(), NoMemor
     ensures { OnOk result (IsReversed graph.now back.new) }
 {
     for from in 0..graph.len() {
-        if let Some(places) = &graph[from] {
-            add_arrows(places.as_slice(), from, back)?;
+        if let Some(positions) = &graph[from] {
+            add_arrows(positions.as_slice(), from, back)?;
         }
     }
     Ok(())
@@ -70,12 +70,12 @@ pub(crate) fn unmarked(alloc: Global, len: usize) -> Result<Vec<bool>, NoMemory>
 }
 
 /// Marks a definition that is not marked yet, and lists it.
-fn mark_one(place: usize, marks: &mut [bool], todo: &mut Vec<usize>) -> Result<(), NoMemory>
-    ensures { OnOk result (MarksOne place marks.old todo.old.items marks.new todo.new.items) }
+fn mark_one(position: usize, marks: &mut [bool], todo: &mut Vec<usize>) -> Result<(), NoMemory>
+    ensures { OnOk result (MarksOne position marks.old todo.old.items marks.new todo.new.items) }
 {
-    if place < marks.len() && !marks[place] {
-        marks[place] = true;
-        todo.push(place)?;
+    if position < marks.len() && !marks[position] {
+        marks[position] = true;
+        todo.push(position)?;
     }
     Ok(())
 }
@@ -84,8 +84,8 @@ fn mark_one(place: usize, marks: &mut [bool], todo: &mut Vec<usize>) -> Result<(
 fn mark_all(row: &[usize], marks: &mut [bool], todo: &mut Vec<usize>) -> Result<(), NoMemory>
     ensures { OnOk result (MarksAll row.now marks.old todo.old.items marks.new todo.new.items) }
 {
-    for place in row {
-        mark_one(*place, marks, todo)?;
+    for position in row {
+        mark_one(*position, marks, todo)?;
     }
     Ok(())
 }
@@ -120,9 +120,9 @@ fn follow(
     ensures { OnOk result (IsSearch graph.now target marks.new []) }
 {
     'search: while todo.len() > 0 {
-        let place = last_waiting(graph, back, target, marks, todo);
+        let position = last_waiting(graph, back, target, marks, todo);
         todo.truncate(todo.len() - 1);
-        mark_all(back[place].as_slice(), marks, todo)?;
+        mark_all(back[position].as_slice(), marks, todo)?;
     }
     Ok(())
 }

@@ -7,7 +7,7 @@ use crate::component::component_numbers;
 use crate::definitions::Definitions;
 use crate::flat::{Flat, flats_of};
 use crate::graph::Node;
-use crate::place::leads_graph;
+use crate::position::leads_graph;
 use crate::ranking::settle;
 use st_num::{NoMemory, Row};
 use std::alloc::Global;

@@ -11,23 +11,23 @@ use Rattle.st_il.specs.declared.definition.SyntaxBody.TheVariants as body
 use Rattle.st_il.specs.declared.definition.Alternative.{Alternative}
 use Rattle.st_type_table.specs.Meaning.{alternatives_of}
 use Rattle.st_type_table.specs.Leads.{Among, Leads, Ends, leads_to}
-use Rattle.st_type_table.specs.inner.Graph.{place_of}
+use Rattle.st_type_table.specs.inner.Graph.{position_of}
 
 -- of these names, those that lead back to the target have this number, and the others do not
 abbrev pub Returns : List SyntaxDef → List ℕ → List ℕ → ℕ → List (List ℕ) → Type 0
 Returns defs target numbers own names =
-    (name : List ℕ) (place : ℕ) → Among names name → place_of defs name ≡ Some place
-    → (slice_get numbers place ≡ Some own) ↔ Leads defs name target
+    (name : List ℕ) (position : ℕ) → Among names name → position_of defs name ≡ Some position
+    → (slice_get numbers position ≡ Some own) ↔ Leads defs name target
 
--- the same of the names that the definition at this place leads to
+-- the same of the names that the definition at this position leads to
 abbrev pub AreReturning : List SyntaxDef → ℕ → List ℕ → ℕ → Type 0
 AreReturning defs at numbers own =
     (d : SyntaxDef) → slice_get defs at ≡ Some d → Returns defs d.name numbers own (leads_to d.body)
 
--- the first definition with the name of the one at this place is that of this number
+-- the first definition with the name of the one at this position is that of this number
 abbrev pub IsFirst : List SyntaxDef → ℕ → ℕ → Type 0
 IsFirst defs at first =
-    (d : SyntaxDef) → slice_get defs at ≡ Some d → place_of defs d.name ≡ Some first
+    (d : SyntaxDef) → slice_get defs at ≡ Some d → position_of defs d.name ≡ Some first
 
 -- how many parts a body has
 abbrev pub part_count : SyntaxBody → ℕ
@@ -50,8 +50,8 @@ IsListed defs t = (alternatives : List Alternative) × (alternatives_of defs t �
 
 -- the name is declared, and each way from it ends
 pub record IsEnding (defs : List SyntaxDef) (name : List ℕ) : Type 0 where
-  pub place : ℕ
-  pub there : place_of defs name ≡ Some place
+  pub position : ℕ
+  pub there : position_of defs name ≡ Some position
   pub ends : Ends defs name
 
 -- what is found at the alternative of this number; where nothing is, more alternatives than that

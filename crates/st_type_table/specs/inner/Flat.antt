@@ -12,7 +12,7 @@ use Rattle.st_type_table.specs.declared.flat.Flat.{Flat}
 use Rattle.st_type_table.specs.Meaning.{Means, listed, alternatives_of}
 use Rattle.st_type_table.specs.Cases.{Brings, Flatten, or_none}
 use Rattle.st_type_table.specs.Leads.{Ends}
-use Rattle.st_type_table.specs.inner.Graph.{place_of}
+use Rattle.st_type_table.specs.inner.Graph.{position_of}
 use Rattle.st_type_table.specs.Keys.{KeysDiffer}
 use Rattle.st_type_table.specs.inner.CaseKeys.{IsKeyed}
 
@@ -41,9 +41,9 @@ alternatives_in d = or_none (listed (Some d.body))
 -- what is kept of the variant that the type means is right
 abbrev pub IsFlatAt : List SyntaxDef → List Flat → Ty → Type 0
 IsFlatAt defs flats t =
-    (variant : List ℕ) (place : ℕ) (d : SyntaxDef) (f : Flat) → Means defs t (ty.Name variant)
-    → place_of defs variant ≡ Some place → slice_get defs place ≡ Some d
-    → slice_get flats place ≡ Some f → IsFlat defs (alternatives_in d) f
+    (variant : List ℕ) (position : ℕ) (d : SyntaxDef) (f : Flat) → Means defs t (ty.Name variant)
+    → position_of defs variant ≡ Some position → slice_get defs position ≡ Some d
+    → slice_get flats position ≡ Some f → IsFlat defs (alternatives_in d) f
 
 -- what is kept of the variant that the type means, or nothing where it means none
 abbrev pub IsFlatOf : List SyntaxDef → Ty → Option (Bor Flat) → Type 0
@@ -124,15 +124,15 @@ pub record IsFlattened (defs : List SyntaxDef) (alternatives : List Alternative)
 pub record AreFlats (defs : List SyntaxDef) (ranks : List ℕ) (limit : ℕ)
     (flats : List Flat) : Type 0 where
   pub size : length flats ≡ length defs
-  pub right : (place : ℕ) (d : SyntaxDef) (f : Flat) → slice_get defs place ≡ Some d
-      → 0 < slice_index ranks place → slice_index ranks place ≤ limit
-      → slice_get flats place ≡ Some f → IsFlat defs (alternatives_in d) f
-  pub reached : (place : ℕ) (d : SyntaxDef) (f : Flat) → slice_get defs place ≡ Some d
-      → 0 < slice_index ranks place → slice_index ranks place ≤ limit
-      → slice_get flats place ≡ Some f → IsReached defs (alternatives_in d) f.reach
+  pub right : (position : ℕ) (d : SyntaxDef) (f : Flat) → slice_get defs position ≡ Some d
+      → 0 < slice_index ranks position → slice_index ranks position ≤ limit
+      → slice_get flats position ≡ Some f → IsFlat defs (alternatives_in d) f
+  pub reached : (position : ℕ) (d : SyntaxDef) (f : Flat) → slice_get defs position ≡ Some d
+      → 0 < slice_index ranks position → slice_index ranks position ≤ limit
+      → slice_get flats position ≡ Some f → IsReached defs (alternatives_in d) f.reach
 
 -- it is kept of each definition how many alternatives have cases with different keys
 abbrev pub AllReached : List SyntaxDef → List Flat → Type 0
 AllReached defs flats =
-    (place : ℕ) (d : SyntaxDef) (f : Flat) → slice_get defs place ≡ Some d
-    → slice_get flats place ≡ Some f → IsReached defs (alternatives_in d) f.reach
+    (position : ℕ) (d : SyntaxDef) (f : Flat) → slice_get defs position ≡ Some d
+    → slice_get flats position ≡ Some f → IsReached defs (alternatives_in d) f.reach

@@ -24,7 +24,7 @@ number_of numbers name = lookup (pointwise nat_eq name) numbers
 abbrev pub form_eq : Form → Form → Bool
 form_eq = comparison.ghosts.eq
 
--- the number of a form is its place
+-- the number of a form is its position
 abbrev pub form_number : List Form → Form → Option ℕ
 form_number forms f = position (form_eq f) forms
 

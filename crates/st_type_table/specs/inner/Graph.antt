@@ -9,23 +9,23 @@ use Rattle.st_il.specs.declared.ty.Ty.TheVariants as ty
 use Rattle.st_type_table.specs.Leads.{leads_to, Ends}
 
 -- the number of the first definition of this name
-abbrev pub place_of : List SyntaxDef → List ℕ → Option ℕ
-place_of [] name = None
-place_of (d ∷ ds) name =
-    if pointwise nat_eq name d.name then Some 0 else option_map suc (place_of ds name)
+abbrev pub position_of : List SyntaxDef → List ℕ → Option ℕ
+position_of [] name = None
+position_of (d ∷ ds) name =
+    if pointwise nat_eq name d.name then Some 0 else option_map suc (position_of ds name)
 
 -- the number that there is, or none, as a list
-abbrev pub one_place : Option ℕ → List ℕ
-one_place None = []
-one_place (Some place) = place ∷ []
+abbrev pub one_position : Option ℕ → List ℕ
+one_position None = []
+one_position (Some position) = position ∷ []
 
 -- the numbers of the definitions of those names that are declared
-abbrev pub places_of : List SyntaxDef → List (List ℕ) → List ℕ
-places_of defs = flat_map (λ name. one_place (place_of defs name))
+abbrev pub positions_of : List SyntaxDef → List (List ℕ) → List ℕ
+positions_of defs = flat_map (λ name. one_position (position_of defs name))
 
 -- the numbers of the definitions that a definition leads to
 abbrev pub node_of : List SyntaxDef → SyntaxDef → Option (List ℕ)
-node_of defs d = Some (places_of defs (leads_to d.body))
+node_of defs d = Some (positions_of defs (leads_to d.body))
 
 -- the graph of definitions, by what each leads to
 abbrev pub graph_of : List SyntaxDef → List (Option (List ℕ))
@@ -88,7 +88,7 @@ pub record SoFar (graph : Graph) (ranks : List ℕ) (count : ℕ) : Type 0 where
       → slice_get graph i ≡ Some (Some next) → IsOne next j
       → (0 < slice_index ranks j) × (slice_index ranks j < slice_index ranks i)
 
--- ---- what leads to a place
+-- ---- what leads to a position
 
 -- the definition of this number is marked; one behind the last is not
 abbrev pub mark : List Bool → ℕ → Bool

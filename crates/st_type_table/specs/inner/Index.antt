@@ -4,7 +4,7 @@ use Rattle.std.specs.Borrow.{Bor}
 use Rattle.std.specs.Map.{lookup}
 use Rattle.st_num.specs.Names.{same_name}
 use Rattle.st_il.specs.declared.definition.SyntaxDef.{SyntaxDef}
-use Rattle.st_type_table.specs.inner.Graph.{place_of}
+use Rattle.st_type_table.specs.inner.Graph.{position_of}
 
 -- names, each with a number
 abbrev pub Index : Type 0
@@ -22,4 +22,4 @@ adding None same number = if same then Some number else None
 
 -- under each name stands the number of its first definition
 abbrev pub IsIndex : List SyntaxDef → Index → Type 0
-IsIndex defs index = (name : List ℕ) → number_of index name ≡ place_of defs name
+IsIndex defs index = (name : List ℕ) → number_of index name ≡ position_of defs name

@@ -6,22 +6,22 @@ use Rattle.st_il.specs.declared.ty.Ty.TheOpen.{Ty-F}
 use Rattle.st_il.specs.declared.definition.SyntaxDef.{SyntaxDef}
 use Rattle.st_il.specs.declared.definition.SyntaxBody.{SyntaxBody}
 use Rattle.st_il.specs.declared.definition.SyntaxBody.TheVariants as body
-use Rattle.st_type_table.specs.inner.Graph.{Graph, place_of}
+use Rattle.st_type_table.specs.inner.Graph.{Graph, position_of}
 
 -- the number behind all definitions: nothing is there, and so what waits for it waits for ever
 abbrev pub never : List SyntaxDef → ℕ
 never defs = length defs
 
 -- the number of a definition, or one that is waited for in vain where there is none
-abbrev pub place_or_never : List SyntaxDef → Option ℕ → ℕ
-place_or_never defs None = never defs
-place_or_never defs (Some place) = place
+abbrev pub position_or_never : List SyntaxDef → Option ℕ → ℕ
+position_or_never defs None = never defs
+position_or_never defs (Some position) = position
 
 -- the numbers of the definitions that must join before a field does, by the top of its type
 abbrev pub waits_at : {X : Type 0} → List SyntaxDef → Ty-F X → List ℕ
 waits_at defs (Ty-F.List t) = []
 waits_at defs (Ty-F.Opt t) = []
-waits_at defs (Ty-F.Name name) = place_or_never defs (place_of defs name) ∷ []
+waits_at defs (Ty-F.Name name) = position_or_never defs (position_of defs name) ∷ []
 waits_at defs Ty-F.Bool = never defs ∷ []
 waits_at defs Ty-F.Nat = never defs ∷ []
 waits_at defs Ty-F.Int = never defs ∷ []

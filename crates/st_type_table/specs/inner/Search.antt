@@ -7,19 +7,19 @@ use Rattle.st_type_table.specs.inner.Ranking.{WaitsFor, OnPath, MarksMore}
 abbrev pub Arrows : Type 0
 Arrows = List (List ℕ)
 
--- at the place one arrow more is kept, from this definition, where there is such a place
+-- at the position one arrow more is kept, from this definition, where there is such a position
 abbrev pub AddsArrow : ℕ → ℕ → Arrows → Arrows → Type 0
-AddsArrow place from before after =
-    ((length before ≤ place) × (after ≡ before))
-    ⊎ ((row : List ℕ) × ((slice_get before place ≡ Some row)
-    × (after ≡ set before place (row ++ from ∷ []))))
+AddsArrow position from before after =
+    ((length before ≤ position) × (after ≡ before))
+    ⊎ ((row : List ℕ) × ((slice_get before position ≡ Some row)
+    × (after ≡ set before position (row ++ from ∷ []))))
 
--- to each of these places one arrow more is kept, from this definition
-pub record AddsArrows (places : List ℕ) (from : ℕ) (before after : Arrows) : Type 0 where
+-- to each of these positions one arrow more is kept, from this definition
+pub record AddsArrows (positions : List ℕ) (from : ℕ) (before after : Arrows) : Type 0 where
   pub size : length after ≡ length before
   pub rows : (j : ℕ) (row : List ℕ) → slice_get after j ≡ Some row
       → (old : List ℕ) × ((slice_get before j ≡ Some old)
-      × ((i : ℕ) → IsOne row i ↔ (IsOne old i ⊎ ((i ≡ from) × IsOne places j))))
+      × ((i : ℕ) → IsOne row i ↔ (IsOne old i ⊎ ((i ≡ from) × IsOne positions j))))
 
 -- the arrows from the first so many definitions are kept at where they lead
 pub record IsReversedTo (graph : Graph) (n : ℕ) (back : Arrows) : Type 0 where
@@ -46,10 +46,10 @@ pub record IsSearch (graph : Graph) (target : ℕ) (marks : List Bool)
 
 -- a definition that was not marked is marked, and waits in the list
 abbrev pub MarksOne : ℕ → List Bool → List ℕ → List Bool → List ℕ → Type 0
-MarksOne place marks todo marks' todo' =
-    ((place < length marks) × ((mark marks place ≡ false)
-    × ((marks' ≡ set marks place true) × (todo' ≡ todo ++ place ∷ []))))
-    ⊎ ((place < length marks → mark marks place ≡ true) × ((marks' ≡ marks) × (todo' ≡ todo)))
+MarksOne position marks todo marks' todo' =
+    ((position < length marks) × ((mark marks position ≡ false)
+    × ((marks' ≡ set marks position true) × (todo' ≡ todo ++ position ∷ []))))
+    ⊎ ((position < length marks → mark marks position ≡ true) × ((marks' ≡ marks) × (todo' ≡ todo)))
 
 -- those of a row that were not marked are marked, and wait in the list
 pub record MarksAll (row : List ℕ) (marks : List Bool) (todo : List ℕ) (marks' : List Bool)

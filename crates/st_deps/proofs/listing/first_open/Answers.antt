@@ -1,6 +1,6 @@
 use Rattle.std.proofs.Common.{◌≡◌, ◌⊎◌, ap, sym, ◌∙◌, inl, inr, ℕ, ◌<◌, ◌≤◌, Some, true, length, slice_get, slice_index_or, arith}
 use Rattle.std.proofs.lemmas.Option.{slice_get-get_or}
-use Rattle.st_graph.proofs.Places.{below-next, get-within}
+use Rattle.st_graph.proofs.Positions.{below-next, get-within}
 use Rattle.st_deps.proofs.ListingLemmas.{cited-listed}
 use Rattle.st_deps.proofs.listing.first_open.Goals as goal
 

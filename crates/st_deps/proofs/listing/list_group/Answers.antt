@@ -1,6 +1,6 @@
 use Rattle.std.proofs.Common.{◌≡◌, refl, sym, ap, ◌∙◌, subst, ℕ, true, false, List, [], ◌∷◌, ◌++◌, length, set, Some, slice_get, arith}
 use Rattle.std.proofs.lemmas.Option.{slice_get_read}
-use Rattle.st_graph.proofs.Places.{get-within}
+use Rattle.st_graph.proofs.Positions.{get-within}
 use Rattle.st_deps.specs.inner.Listing as lists
 use Rattle.st_deps.proofs.ListingLemmas.{list-keeps, opens-set}
 use Rattle.st_deps.proofs.listing.list_group.Goals as goal

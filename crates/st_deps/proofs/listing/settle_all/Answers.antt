@@ -1,5 +1,5 @@
 use Rattle.std.proofs.Common.{sym, ap, ◌∙◌, subst, ℕ, suc, List, false, slice_get, slice_index_or, drop, drop-cons, add-one, arith}
-use Rattle.st_graph.proofs.Places.{get-within}
+use Rattle.st_graph.proofs.Positions.{get-within}
 use Rattle.st_deps.specs.inner.Listings.{IsListing}
 use Rattle.st_deps.proofs.listing.settle_all.Goals as goal
 

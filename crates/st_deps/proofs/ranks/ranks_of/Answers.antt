@@ -1,5 +1,5 @@
 use Rattle.std.proofs.Common.{sym, subst, ℕ, List, ◌++◌, ◌∷◌, [], take, take_all, slice_index_or}
-use Rattle.st_graph.proofs.Places.{take-more}
+use Rattle.st_graph.proofs.Positions.{take-more}
 use Rattle.st_deps.specs.inner.Ranks.{AreMet, AreRanks}
 use Rattle.st_deps.proofs.RanksLemmas.{met-more, ranks_are}
 use Rattle.st_deps.proofs.ranks.ranks_of.Goals as goal

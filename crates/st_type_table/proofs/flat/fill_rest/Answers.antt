@@ -6,7 +6,7 @@ use Rattle.st_type_table.proofs.flat.fill_rest.Goals as goal
 use Rattle.st_type_table.proofs.flat.fill_rest.Goals.{then-ranks-i-eq0+in_ok-flat, else-ranks-i-eq0}
 
 pub loop-i-init : goal.loop-i-init
-loop-i-init c = record { known = c.requires.flats; rest = λ place d f h. absurd (omega arith) }
+loop-i-init c = record { known = c.requires.flats; rest = λ position d f h. absurd (omega arith) }
 
 pub flat_of_body-requires-clause-known : goal.flat_of_body-requires-clause-known
 flat_of_body-requires-clause-known c = subst (λ z. AllKnownParts c.args.defs.now z (alternatives_in c.nth.result.now)) (sym c.deref.ensures.value)

@@ -6,7 +6,7 @@ use Rattle.st_type_table.proofs.FlatLemmas.{flat-found, flat-unplaced, flat-none
 use Rattle.st_type_table.proofs.flat.flat_of.Goals as goal
 
 pub returns-in-Some : goal.returns-in-Some
-returns-in-Some c = flat-found c.args.defs.now c.args.flats.now c.args.ty.now c.meaning_in.result.now c.in-Name.name c.in-Some.place c.flat_at.result c.requires.size c.requires.known
+returns-in-Some c = flat-found c.args.defs.now c.args.flats.now c.args.ty.now c.meaning_in.result.now c.in-Name.name c.in-Some.position c.flat_at.result c.requires.size c.requires.known
     c.meaning_in.ensures c.in-Name.is (sym c.in-Some.ensures) c.flat_at.ensures
 
 pub returns-in-None : goal.returns-in-None

@@ -3,4 +3,4 @@ use Rattle.st_type_table.specs.inner.JoinGraph.{field_waits}
 use Rattle.st_type_table.proofs.joining.field_waits.Given as goal
 
 abbrev pub invariant-loop-field : goal.invariant-loop-field
-invariant-loop-field l = l.places ≡ field_waits l.defs (take l.field-index l.fields)
+invariant-loop-field l = l.positions ≡ field_waits l.defs (take l.field-index l.fields)

@@ -6,7 +6,7 @@ use Rattle.st_type_table.proofs.joining.join_graph.Goals as goal
 
 pub loop-number-preserved : goal.loop-number-preserved
 loop-number-preserved c =
-    c.in_ok-push.ensures.ok ∙ (λ i. c.loop-number.invariant i ++ Some (c.in_ok-places.ensures i) ∷ []) ∙ sym (map-next (join_node c.args.defs.now) c.args.defs.now c.loop-number.number c.nth.result.now c.nth.ensures)
+    c.in_ok-push.ensures.ok ∙ (λ i. c.loop-number.invariant i ++ Some (c.in_ok-positions.ensures i) ∷ []) ∙ sym (map-next (join_node c.args.defs.now) c.args.defs.now c.loop-number.number c.nth.result.now c.nth.ensures)
 
 pub returns : goal.returns
 returns c = c.loop-number.invariant ∙ ap (map (join_node c.args.defs.now)) (take-whole c.args.defs.now c.loop-number.number (let h = c.loop-number-test.false in let l = c.len-number-end.ensures in omega (arith, h, l)))

@@ -3,7 +3,7 @@ use Rattle.std.specs.Prelude.{slice_get}
 use Rattle.std.proofs.lemmas.List.{length-map}
 use Rattle.std.proofs.lemmas.Option.{slice_get_within}
 use Rattle.st_type_table.specs.inner.Graph.{Graph, LeadsAt, node_of}
-use Rattle.st_type_table.proofs.PlaceLemmas.{placed}
+use Rattle.st_type_table.proofs.PositionLemmas.{placed}
 use Rattle.st_type_table.proofs.PartLemmas.{item-at, Returns-other}
 use Rattle.st_type_table.proofs.parts.check_again.Goals as goal
 

@@ -16,12 +16,12 @@ returns-in-None-clause-ranking c =
 pub advance-requires-clause-ranked : goal.advance-requires-clause-ranked
 advance-requires-clause-ranked c =
     let there = read-at c.args.graph.now c.top_of-top.result c.index-graph-top.result c.top_of-top.ensures.in_graph c.index-graph-top.is ∙ ap Some c.in-Some.is in
-    subst (λ ns. RankedTo ns c.args.ranks.now (slice_index c.args.passed.now c.top_of-top.result)) (sym c.as_slice.ensures) (c.requires.ranking.over c.top_of-top.result c.in-Some.places there)
+    subst (λ ns. RankedTo ns c.args.ranks.now (slice_index c.args.passed.now c.top_of-top.result)) (sym c.as_slice.ensures) (c.requires.ranking.over c.top_of-top.result c.in-Some.positions there)
 
 pub returns-in_ok-come_to-in-Some-advance-clause-ranking : goal.returns-in_ok-come_to-in-Some-advance-clause-ranking
 returns-in_ok-come_to-in-Some-advance-clause-ranking c =
     let there = read-at c.args.graph.now c.top_of-top.result c.index-graph-top.result c.top_of-top.ensures.in_graph c.index-graph-top.is ∙ ap Some c.in-Some.is in
-    (step-next c.args.graph.now c.args.ranks.now c.args.count c.args.seen.now c.args.passed.now c.args.path.now.items c.in-Some.places c.advance.new.passed c.top_of-top.result c.advance.result
+    (step-next c.args.graph.now c.args.ranks.now c.args.count c.args.seen.now c.args.passed.now c.args.path.now.items c.in-Some.positions c.advance.new.passed c.top_of-top.result c.advance.result
     c.requires.ranking c.requires.some c.top_of-top.ensures.last there
     (subst (λ ns. Advances ns c.args.ranks.now c.top_of-top.result c.args.passed.now c.advance.new.passed c.advance.result) c.as_slice.ensures c.advance.ensures)
     c.in-Some-advance.next c.come_to.new.seen c.come_to.new.path.items c.in-Some-advance.is c.in_ok-come_to-in-Some-advance.ensures).0
@@ -29,7 +29,7 @@ returns-in_ok-come_to-in-Some-advance-clause-ranking c =
 pub returns-in_ok-come_to-in-Some-advance-clause-falls : goal.returns-in_ok-come_to-in-Some-advance-clause-falls
 returns-in_ok-come_to-in-Some-advance-clause-falls c =
     let there = read-at c.args.graph.now c.top_of-top.result c.index-graph-top.result c.top_of-top.ensures.in_graph c.index-graph-top.is ∙ ap Some c.in-Some.is in
-    (step-next c.args.graph.now c.args.ranks.now c.args.count c.args.seen.now c.args.passed.now c.args.path.now.items c.in-Some.places c.advance.new.passed c.top_of-top.result c.advance.result
+    (step-next c.args.graph.now c.args.ranks.now c.args.count c.args.seen.now c.args.passed.now c.args.path.now.items c.in-Some.positions c.advance.new.passed c.top_of-top.result c.advance.result
     c.requires.ranking c.requires.some c.top_of-top.ensures.last there
     (subst (λ ns. Advances ns c.args.ranks.now c.top_of-top.result c.args.passed.now c.advance.new.passed c.advance.result) c.as_slice.ensures c.advance.ensures)
     c.in-Some-advance.next c.come_to.new.seen c.come_to.new.path.items c.in-Some-advance.is c.in_ok-come_to-in-Some-advance.ensures).1.0
@@ -37,7 +37,7 @@ returns-in_ok-come_to-in-Some-advance-clause-falls c =
 pub returns-in_ok-come_to-in-Some-advance-clause-more : goal.returns-in_ok-come_to-in-Some-advance-clause-more
 returns-in_ok-come_to-in-Some-advance-clause-more c =
     let there = read-at c.args.graph.now c.top_of-top.result c.index-graph-top.result c.top_of-top.ensures.in_graph c.index-graph-top.is ∙ ap Some c.in-Some.is in
-    (step-next c.args.graph.now c.args.ranks.now c.args.count c.args.seen.now c.args.passed.now c.args.path.now.items c.in-Some.places c.advance.new.passed c.top_of-top.result c.advance.result
+    (step-next c.args.graph.now c.args.ranks.now c.args.count c.args.seen.now c.args.passed.now c.args.path.now.items c.in-Some.positions c.advance.new.passed c.top_of-top.result c.advance.result
     c.requires.ranking c.requires.some c.top_of-top.ensures.last there
     (subst (λ ns. Advances ns c.args.ranks.now c.top_of-top.result c.args.passed.now c.advance.new.passed c.advance.result) c.as_slice.ensures c.advance.ensures)
     c.in-Some-advance.next c.come_to.new.seen c.come_to.new.path.items c.in-Some-advance.is c.in_ok-come_to-in-Some-advance.ensures).1.1
@@ -51,7 +51,7 @@ returns-in-None-advance-clause-ranking c =
     subst (IsRanking c.args.graph.now (slice_set c.args.ranks.now c.top_of-top.result (c.args.count + 1)) (c.args.count + 1) c.args.seen.now c.advance.new.passed) (sym c.truncate.ensures.items)
     (subst (λ k. IsRanking c.args.graph.now (slice_set c.args.ranks.now c.top_of-top.result (c.args.count + 1)) (c.args.count + 1) c.args.seen.now c.advance.new.passed (take k c.args.path.now.items)) n
     (subst (λ k. IsRanking c.args.graph.now (slice_set c.args.ranks.now c.top_of-top.result k) k c.args.seen.now c.advance.new.passed (take (length c.args.path.now.items - 1) c.args.path.now.items)) (sym (add-one c.args.count))
-    (step-rank c.args.graph.now c.args.ranks.now c.args.count c.args.seen.now c.args.passed.now c.args.path.now.items c.in-Some.places c.advance.new.passed c.top_of-top.result c.advance.result
+    (step-rank c.args.graph.now c.args.ranks.now c.args.count c.args.seen.now c.args.passed.now c.args.path.now.items c.in-Some.positions c.advance.new.passed c.top_of-top.result c.advance.result
     c.requires.ranking c.requires.some c.top_of-top.ensures.last there
     (subst (λ ns. Advances ns c.args.ranks.now c.top_of-top.result c.args.passed.now c.advance.new.passed c.advance.result) c.as_slice.ensures c.advance.ensures)
     c.in-None-advance.is)))

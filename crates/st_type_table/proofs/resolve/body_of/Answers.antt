@@ -1,13 +1,13 @@
 use Rattle.std.proofs.Common.{sym}
-use Rattle.st_type_table.proofs.PlaceLemmas.{unplaced}
-use Rattle.st_type_table.proofs.IndexLemmas.{body-at, place-within}
+use Rattle.st_type_table.proofs.PositionLemmas.{unplaced}
+use Rattle.st_type_table.proofs.IndexLemmas.{body-at, position-within}
 use Rattle.st_type_table.proofs.resolve.body_of.Goals as goal
 
 pub nth-requires : goal.nth-requires
-nth-requires c = place-within c.args.defs.now c.args.name.now c.in-Some.place c.in-Some.ensures
+nth-requires c = position-within c.args.defs.now c.args.name.now c.in-Some.position c.in-Some.ensures
 
 pub returns-in-Some : goal.returns-in-Some
-returns-in-Some c = body-at c.args.defs.now c.args.name.now c.in-Some.place c.nth.result.now c.in-Some.ensures c.nth.ensures
+returns-in-Some c = body-at c.args.defs.now c.args.name.now c.in-Some.position c.nth.result.now c.in-Some.ensures c.nth.ensures
 
 pub returns-in-None : goal.returns-in-None
 returns-in-None c = sym (unplaced c.args.defs.now c.args.name.now (sym c.in-None.ensures))

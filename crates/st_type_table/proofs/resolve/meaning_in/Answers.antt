@@ -1,6 +1,6 @@
 use Rattle.std.proofs.Common.{refl, sym}
 use Rattle.st_type_table.specs.Meaning.{Means}
-use Rattle.st_type_table.proofs.PlaceLemmas.{alias-lower, alias-ends}
+use Rattle.st_type_table.proofs.PositionLemmas.{alias-lower, alias-ends}
 use Rattle.st_type_table.proofs.resolve.meaning_in.Goals as goal
 
 pub loop-written-smaller : goal.loop-written-smaller

@@ -1,4 +1,4 @@
-use Rattle.st_type_table.proofs.PlaceLemmas.{Meaning, name_rank}
+use Rattle.st_type_table.proofs.PositionLemmas.{Meaning, name_rank}
 use Rattle.st_type_table.proofs.resolve.meaning_in.Given as goal
 
 abbrev pub invariant-loop-written : goal.invariant-loop-written

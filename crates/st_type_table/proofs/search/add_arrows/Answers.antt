@@ -3,12 +3,12 @@ use Rattle.st_type_table.specs.inner.Search.{AddsArrows}
 use Rattle.st_type_table.proofs.SearchLemmas.{arrows-none, arrows-next, take-number, take-whole}
 use Rattle.st_type_table.proofs.search.add_arrows.Goals as goal
 
-pub loop-place-init : goal.loop-place-init
-loop-place-init c = arrows-none c.args.from c.args.back.now
+pub loop-position-init : goal.loop-position-init
+loop-position-init c = arrows-none c.args.from c.args.back.now
 
-pub loop-place-preserved : goal.loop-place-preserved
-loop-place-preserved c = subst (λ ps. AddsArrows ps c.args.from c.args.back.now c.add_arrow.new.back) (sym (take-number c.args.places.now c.loop-place.place-index c.loop-place-test.true))
-    (arrows-next _ _ c.args.from c.args.back.now c.loop-place.back c.add_arrow.new.back c.loop-place.invariant c.in_ok-add_arrow.ensures)
+pub loop-position-preserved : goal.loop-position-preserved
+loop-position-preserved c = subst (λ ps. AddsArrows ps c.args.from c.args.back.now c.add_arrow.new.back) (sym (take-number c.args.positions.now c.loop-position.position-index c.loop-position-test.true))
+    (arrows-next _ _ c.args.from c.args.back.now c.loop-position.back c.add_arrow.new.back c.loop-position.invariant c.in_ok-add_arrow.ensures)
 
 pub returns : goal.returns
-returns c = subst (λ ps. AddsArrows ps c.args.from c.args.back.now c.loop-place.back) (take-whole c.args.places.now c.loop-place.place-index c.loop-place-test.false) c.loop-place.invariant
+returns c = subst (λ ps. AddsArrows ps c.args.from c.args.back.now c.loop-position.back) (take-whole c.args.positions.now c.loop-position.position-index c.loop-position-test.false) c.loop-position.invariant

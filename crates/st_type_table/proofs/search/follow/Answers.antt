@@ -13,8 +13,8 @@ search-preserved c =
     let size : length c.search.todo.items ≡ suc (length c.search.todo.items - 1) = omega (arith, some, e, o) in
     let n : length c.search.todo.items - 1 ≡ c.len-in-search.result - 1 = omega (arith, f, o) in
     let cut : c.truncate.new.self.items ≡ take (length c.search.todo.items - 1) c.search.todo.items = c.truncate.ensures.items ∙ ap (λ k. take k c.search.todo.items) (sym n) in
-    search-step c.args.graph.now c.args.back.now c.requires.reversed c.args.target c.search.marks c.mark_all.new.marks c.search.todo.items c.mark_all.new.todo.items c.index-back-place.result
-    (length c.search.todo.items - 1) c.last_waiting-place.result c.search.invariant size c.last_waiting-place.ensures.last
-    (read-at c.args.back.now c.last_waiting-place.result c.index-back-place.result c.last_waiting-place.ensures.within c.index-back-place.is)
+    search-step c.args.graph.now c.args.back.now c.requires.reversed c.args.target c.search.marks c.mark_all.new.marks c.search.todo.items c.mark_all.new.todo.items c.index-back-position.result
+    (length c.search.todo.items - 1) c.last_waiting-position.result c.search.invariant size c.last_waiting-position.ensures.last
+    (read-at c.args.back.now c.last_waiting-position.result c.index-back-position.result c.last_waiting-position.ensures.within c.index-back-position.is)
     (subst (λ r. MarksAll r c.search.marks (take (length c.search.todo.items - 1) c.search.todo.items) c.mark_all.new.marks c.mark_all.new.todo.items) c.as_slice.ensures
     (subst (λ t. MarksAll c.as_slice.result.now c.search.marks t c.mark_all.new.marks c.mark_all.new.todo.items) cut c.in_ok-mark_all.ensures))

@@ -1,4 +1,4 @@
--- What stands at a place of a list that is made of others, and ways along edges.
+-- What stands at a position of a list that is made of others, and ways along edges.
 use Rattle.std.proofs.Common.{◌≡◌, ◌≢◌, ◌⊎◌, inl, inr, refl, ap, ◌∙◌, ℕ, zero, suc, ◌+◌, ◌<◌, List, [], ◌∷◌, ◌++◌, length, set, take, map, replicate, Some, slice_get, get_or, take-suc, add-one, arith}
 use Rattle.st_graph.specs.Reaches.{Reaches, itself, through}
 use Rattle.st_graph.specs.Graph.{Edge}
@@ -7,11 +7,11 @@ use Rattle.st_graph.specs.Graph.{Edge}
 abbrev pub pair : ℕ → ℕ → ℕ × ℕ
 pair a b = (a, b)
 
-pub same_place : (i j : ℕ) → (i ≡ j) ⊎ (i ≢ j)
-same_place zero zero = inl refl
-same_place zero (suc j) = inr (λ e. cc)
-same_place (suc i) zero = inr (λ e. cc)
-same_place (suc i) (suc j) = by (same_place i j)
+pub same_position : (i j : ℕ) → (i ≡ j) ⊎ (i ≢ j)
+same_position zero zero = inl refl
+same_position zero (suc j) = inr (λ e. cc)
+same_position (suc i) zero = inr (λ e. cc)
+same_position (suc i) (suc j) = by (same_position i j)
   where
     by : (i ≡ j) ⊎ (i ≢ j) → (suc i ≡ suc j) ⊎ (suc i ≢ suc j)
     by (inl e) = inl (ap suc e)

@@ -3,7 +3,7 @@
 ghost use Rattle.std.specs.Prelude.{◌≡◌, ◌++◌, map, OnOk, IfOk};
 ghost use Rattle.std.specs.List.{flat_map};
 ghost use Rattle.st_type_table.specs.Leads.{names_in, joined, included, leads_to};
-ghost use Rattle.st_type_table.specs.inner.Graph.{places_of, graph_of};
+ghost use Rattle.st_type_table.specs.inner.Graph.{positions_of, graph_of};
 
 use crate::definitions::Definitions;
 use st_il::{Alternative, SyntaxBody, Ty};
@@ -71,16 +71,16 @@ fn lead_names(alloc: Global, body: &SyntaxBody) -> Result<Row<Name>, NoMemory>
 }
 
 /// The numbers of the definitions of those names that are declared.
-fn places_of(alloc: Global, defs: &Definitions, names: &[Name]) -> Result<Row<usize>, NoMemory>
-    ensures { IfOk result (λ places. places ≡ places_of defs.now names.now) }
+fn positions_of(alloc: Global, defs: &Definitions, names: &[Name]) -> Result<Row<usize>, NoMemory>
+    ensures { IfOk result (λ positions. positions ≡ positions_of defs.now names.now) }
 {
-    let mut places = Row::new(alloc);
+    let mut positions = Row::new(alloc);
     for name in names {
-        if let Some(place) = defs.place_of(name) {
-            places.push(place)?;
+        if let Some(position) = defs.position_of(name) {
+            positions.push(position)?;
         }
     }
-    Ok(places)
+    Ok(positions)
 }
 
 /// For each definition the numbers of those that it leads to.
@@ -93,8 +93,8 @@ pub(crate) fn leads_graph(
     let mut graph = Row::new(alloc);
     for number in 0..defs.len() {
         let names = lead_names(alloc, &defs.nth(number).body)?;
-        let places = places_of(alloc, defs, names.as_slice())?;
-        graph.push(Some(places))?;
+        let positions = positions_of(alloc, defs, names.as_slice())?;
+        graph.push(Some(positions))?;
     }
     Ok(graph)
 }
