@@ -40,7 +40,7 @@ on_own at name (Cases before cases after) = on_alternatives name [] cases
 on_own at name (Fields fields) = on_fields at [] fields
 
 module _ (D : Decls) where
-  same-back : (place : Broken → Span) (ps : List Placed) (qs : List types.Placed) → Same place ps qs → AllPassAt D ps → types.AllHold D.types qs
+  same-back : (place : Broken → Span) (ps : List Placed) (qs : List types.Asked) → Same place ps qs → AllPassAt D ps → types.AllHold D.types qs
   same-back place [] [] h k = tt
   same-back place [] (q ∷ qs) h k = absurd h
   same-back place (p ∷ ps) [] h k = absurd h

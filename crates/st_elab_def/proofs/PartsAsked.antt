@@ -36,7 +36,7 @@ module _ (D : Decls) where
   abbrev pub Asked : List Placed → (Broken → Span) → Option Broken → Type 0
   Asked ps place found = MatchOption found (AllPassAt D ps) (λ (b : Broken). FirstBreachAt D ps (broken (place b) b.rule))
 
-  asked-by : (place : Broken → Span) (ps : List Placed) (qs : List types.Placed) (found : Option Broken) → Same place ps qs → types.Finds D.types qs found → Asked ps place found
+  asked-by : (place : Broken → Span) (ps : List Placed) (qs : List types.Asked) (found : Option Broken) → Same place ps qs → types.Finds D.types qs found → Asked ps place found
   asked-by place ps qs None same h = same-all D place ps qs same h
   asked-by place ps qs (Some b) same h = same-first D place ps qs b same h
 

@@ -35,28 +35,28 @@ use Rattle.st_elab_def.specs.inner.Walk.{AllPassAt, FirstBreachAt}
 -- ---- the same conditions
 
 -- The same conditions are asked, at the places of what is answered where they are false.
-abbrev pub Same : (Broken → Span) → List Placed → List types.Placed → Type 0
+abbrev pub Same : (Broken → Span) → List Placed → List types.Asked → Type 0
 Same place [] [] = Unit {0}
 Same place [] (q ∷ qs) = ⊥
 Same place (p ∷ ps) [] = ⊥
 Same place (p ∷ ps) (q ∷ qs) =
     (p ≡ placed_type (place (types.broken q)) q.condition) × Same place ps qs
 
-pub Same-append : (place : Broken → Span) (ps rs : List Placed) (qs ss : List types.Placed) → Same place ps qs → Same place rs ss → Same place (ps ++ rs) (qs ++ ss)
+pub Same-append : (place : Broken → Span) (ps rs : List Placed) (qs ss : List types.Asked) → Same place ps qs → Same place rs ss → Same place (ps ++ rs) (qs ++ ss)
 Same-append place [] rs [] ss h k = k
 Same-append place [] rs (q ∷ qs) ss h k = absurd h
 Same-append place (p ∷ ps) rs [] ss h k = absurd h
 Same-append place (p ∷ ps) rs (q ∷ qs) ss (e, h) k = (e, Same-append place ps rs qs ss h k)
 
 module _ (D : Decls) (place : Broken → Span) where
-  pub same-all : (ps : List Placed) (qs : List types.Placed) → Same place ps qs → types.AllHold D.types qs → AllPassAt D ps
+  pub same-all : (ps : List Placed) (qs : List types.Asked) → Same place ps qs → types.AllHold D.types qs → AllPassAt D ps
   same-all [] [] h k = tt
   same-all [] (q ∷ qs) h k = absurd h
   same-all (p ∷ ps) [] h k = absurd h
   same-all (p ∷ ps) (q ∷ qs) (e, h) (holds, k) =
       subst (λ p. AllPassAt D (p ∷ ps)) (sym e) (holds, same-all ps qs h k)
 
-  pub same-first : (ps : List Placed) (qs : List types.Placed) (b : Broken) → Same place ps qs → types.FirstFalse D.types qs b
+  pub same-first : (ps : List Placed) (qs : List types.Asked) (b : Broken) → Same place ps qs → types.FirstFalse D.types qs b
       → FirstBreachAt D ps (record { at = place b; rule = b.rule })
   same-first [] [] b h k = k
   same-first [] (q ∷ qs) b h k = absurd h

@@ -253,7 +253,7 @@ syntaxes-sound defs declared bodied i h x there =
 
 -- ---- what is sound has no breach
 
-holds-false : (defs : List SyntaxDef) (ps : List types.Placed) (b : Broken) → types.AllHold defs ps → types.FirstFalse defs ps b → ⊥
+holds-false : (defs : List SyntaxDef) (ps : List types.Asked) (b : Broken) → types.AllHold defs ps → types.FirstFalse defs ps b → ⊥
 holds-false defs [] b h false_one = false_one
 holds-false defs (p ∷ ps) b h (inl f) = f.0 h.0
 holds-false defs (p ∷ ps) b h (inr f) = holds-false defs ps b h.1 f.1
