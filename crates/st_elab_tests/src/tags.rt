@@ -15,31 +15,31 @@ fn push(text: &[u8], out: &mut Vec<u8>) -> Result<(), NoMemory> {
 }
 
 /// Appends the structure of a template: sequences stand in braces, sides of a sign in parentheses.
-#[cycle(outline)]
-fn outline(template: &Template, out: &mut Vec<u8>) -> Result<(), NoMemory> {
+#[cycle(print_shape)]
+fn print_shape(template: &Template, out: &mut Vec<u8>) -> Result<(), NoMemory> {
     match template {
         Template::Atom(name) => push(name.as_slice(), out),
         Template::Hole => push(b"%", out),
         Template::Seq(parts) => outline_all(parts.as_slice(), out),
         Template::Infix(left, sign, right) => {
             push(b"(", out)?;
-            outline(left.get(), out)?;
+            print_shape(left.get(), out)?;
             push(sign.spelling().as_bytes(), out)?;
-            outline(right.get(), out)?;
+            print_shape(right.get(), out)?;
             push(b")", out)
         }
         Template::Bracket(opening, inside) => {
             push(opening.spelling().as_bytes(), out)?;
-            outline(inside.get(), out)
+            print_shape(inside.get(), out)
         }
     }
 }
 
-#[cycle(outline)]
+#[cycle(print_shape)]
 fn outline_all(parts: &[Template], out: &mut Vec<u8>) -> Result<(), NoMemory> {
     push(b"{", out)?;
     for part in parts {
-        outline(part, out)?;
+        print_shape(part, out)?;
         push(b" ", out)?;
     }
     push(b"}", out)
@@ -66,7 +66,7 @@ fn found(alloc: Global, tag: &[u8]) -> Result<Option<Template>, NoMemory> {
 fn tell_tag(alloc: Global, tag: &[u8], out: &mut Vec<u8>) -> Result<(), NoMemory> {
     match found(alloc, tag)? {
         Some(template) => {
-            outline(&template, out)?;
+            print_shape(&template, out)?;
             push(b" ", out)?;
             push(text_of(key_of(&template)), out)
         }

@@ -23,7 +23,7 @@ use Rattle.st_num.specs.declared.mark.Grouping.{Grouping}
 use Rattle.st_num.specs.declared.mark.Grouping.TheVariants as grouping
 use Rattle.st_il.specs.Notation.{role_of, closing, closing_of, closing_by, IsNotation, atom, hole, bracket, sequence, divided, without_left, AreElements, none, more}
 use Rattle.st_il.specs.Template.{tag_parts_of, template_height, IsTemplate}
-use Rattle.st_il.specs.inner.Reading.{State, due, read, sign_level, divided_at, level_at, level_of, is_outermost, begin_sign, extend, binds, closed, limited, reduce, divide, is_same, shut, after_sign, run, whole, finish, reads}
+use Rattle.st_il.specs.inner.Reading.{State, expecting, read, sign_level, divided_at, level_at, level_of, is_outermost, begin_sign, extend, binds, closed, limited, reduce, divide, is_same, shut, after_sign, run, whole, finish, reads}
 use Rattle.st_il.proofs.TemplateForms.{tag_parts_all, tag_parts-Atom, tag_parts-Hole, tag_parts-Seq, tag_parts-Infix, tag_parts-Bracket, height-Seq, height-Infix, height-Bracket, level-Atom, level-Hole, level-Seq, level-Infix, level-Bracket}
 
 -- ---- levels
@@ -222,14 +222,14 @@ reduce-stops n t (Left left sign ∷ fs) h k = ap (λ b. if b then option_and_th
     lt-not m n h = grind (arith, nat_tests)
 reduce-stops n t (Elements parts ∷ fs) h k = absurd (omega arith)
 
-divide-takes : (n : ℕ) (t : Template) (sign : Mark) (fs : List Frame) → left_of n ≤ level_of t → divide sign n (t, fs) ≡ Some (due (Left t sign ∷ fs))
-divide-takes n t sign fs h = ap (λ b. if b then Some (due (Left t sign ∷ fs)) else None) (le-is (left_of n) (level_of t) h)
+divide-takes : (n : ℕ) (t : Template) (sign : Mark) (fs : List Frame) → left_of n ≤ level_of t → divide sign n (t, fs) ≡ Some (expecting (Left t sign ∷ fs))
+divide-takes n t sign fs h = ap (λ b. if b then Some (expecting (Left t sign ∷ fs)) else None) (le-is (left_of n) (level_of t) h)
   where
     le-is : (m n : ℕ) → m ≤ n → nat_le m n ≡ true
     le-is m n h = grind (arith, nat_tests)
 
 read_sign : (n : ℕ) (t : Template) (sign : Mark) (fs : List Frame) (ws : List TagPart) → role_of sign ≡ Divides n → least fs ≤ n → left_of n ≤ level_of t
-    → reads (read t fs) (tag_part.Sign sign ∷ ws) ≡ reads (due (Left t sign ∷ fs)) ws
+    → reads (read t fs) (tag_part.Sign sign ∷ ws) ≡ reads (expecting (Left t sign ∷ fs)) ws
 read_sign n t sign fs ws r h k =
     ap (λ role. goes_on (after_sign t fs sign role) ws) r
     ∙ ap (λ o. goes_on (option_and_then (divide sign n) o) ws) (reduce-stops n t fs (divides-range sign n r).1 h)
@@ -258,25 +258,25 @@ read_closing t opening enclosure fs ws r h =
 -- ---- a template that is read at each place that it fits
 
 abbrev pub Readable : Template → Type 0
-Readable t = (fs : List Frame) (ws : List TagPart) → template_height t ≤ 100 → least fs ≤ level_of t → Ends (edge t) ws → reads (due fs) (tag_parts_of t ++ ws) ≡ reads (read t fs) ws
+Readable t = (fs : List Frame) (ws : List TagPart) → template_height t ≤ 100 → least fs ≤ level_of t → Ends (edge t) ws → reads (expecting fs) (tag_parts_of t ++ ws) ≡ reads (read t fs) ws
 
 -- behind an element it begins a further one
 abbrev Follows : Template → Type 0
-Follows t = (u : Template) (fs : List Frame) (ws : List TagPart) → reads (read u fs) (tag_parts_of t ++ ws) ≡ reads (due (extend u fs)) (tag_parts_of t ++ ws)
+Follows t = (u : Template) (fs : List Frame) (ws : List TagPart) → reads (read u fs) (tag_parts_of t ++ ws) ≡ reads (expecting (extend u fs)) (tag_parts_of t ++ ws)
 
 read_atom : (name : List ℕ) → Readable (template.Atom name)
-read_atom name fs ws h k e = ap (λ vs. reads (due fs) (vs ++ ws)) (tag_parts-Atom name)
+read_atom name fs ws h k e = ap (λ vs. reads (expecting fs) (vs ++ ws)) (tag_parts-Atom name)
 
 read_hole : Readable template.Hole
-read_hole fs ws h k e = ap (λ vs. reads (due fs) (vs ++ ws)) tag_parts-Hole
+read_hole fs ws h k e = ap (λ vs. reads (expecting fs) (vs ++ ws)) tag_parts-Hole
 
 read_bracket : (opening : Mark) (enclosure : Enclosure) (inside : Template) → role_of opening ≡ Opens enclosure → 7 ≤ level_of inside → Readable inside → Readable (template.Bracket opening inside)
 read_bracket opening enclosure inside r l d fs ws h k e =
     let low : template_height inside ≤ 100 = omega (arith, height-Bracket opening inside) in
     let ends : Ends (edge inside) (tag_part.Sign (closing opening) ∷ ws) = omega (arith, ap grip_of (closing-role opening enclosure r), level_edge_at (out-Template inside)) in
-    ap (λ vs. reads (due fs) (vs ++ ws)) (tag_parts-Bracket opening inside)
+    ap (λ vs. reads (expecting fs) (vs ++ ws)) (tag_parts-Bracket opening inside)
     ∙ ap (λ role. goes_on (begin_sign fs opening role) ((tag_parts_of inside ++ tag_part.Sign (closing opening) ∷ []) ++ ws)) r
-    ∙ ap (reads (due (Open opening enclosure ∷ fs))) (append_assoc (tag_parts_of inside) (tag_part.Sign (closing opening) ∷ []) ws)
+    ∙ ap (reads (expecting (Open opening enclosure ∷ fs))) (append_assoc (tag_parts_of inside) (tag_part.Sign (closing opening) ∷ []) ws)
     ∙ d (Open opening enclosure ∷ fs) (tag_part.Sign (closing opening) ∷ ws) low l ends
     ∙ read_closing inside opening enclosure fs ws r h
 
@@ -290,8 +290,8 @@ read_divided n left sign right r hl hr dl dr fs ws h k e =
     let gap = right-gap n in
     let ends : Ends (edge right) ws = Ends-more (right_of n) (edge right) ws (omega (arith, level_edge_at (out-Template right))) (subst (λ m. Ends m ws) (ap edge_at (template.outs-Infix left sign right) ∙ ap right_of level) e) in
     let tight : tightness (Left left sign) ≡ right_of n = ap right_of level in
-    ap (λ vs. reads (due fs) (vs ++ ws)) (tag_parts-Infix left sign right)
-    ∙ ap (reads (due fs)) (append_assoc (tag_parts_of left) (tag_part.Sign sign ∷ tag_parts_of right) ws)
+    ap (λ vs. reads (expecting fs) (vs ++ ws)) (tag_parts-Infix left sign right)
+    ∙ ap (reads (expecting fs)) (append_assoc (tag_parts_of left) (tag_part.Sign sign ∷ tag_parts_of right) ws)
     ∙ dl fs (tag_part.Sign sign ∷ (tag_parts_of right ++ ws)) low_left (omega (arith, left-gap n)) (omega (arith, ap grip_of r, left_ends_at (out-Template left) n range.1 hl))
     ∙ read_sign n left sign fs (tag_parts_of right ++ ws) r place hl
     ∙ dr (Left left sign ∷ fs) ws low_right (omega (arith, tight, right-eight n range.0)) ends
@@ -309,8 +309,8 @@ read_without_left right hr dr fs ws h k e =
     let low_right : template_height right ≤ 100 = omega (arith, height-Infix nothing Turnstile right) in
     let place : least fs ≤ 7 = omega (arith, level-Infix nothing Turnstile right) in
     let at : Ends 8 ws = subst (λ m. Ends m ws) (ap edge_at (template.outs-Infix nothing Turnstile right)) e in
-    ap (λ vs. reads (due fs) (vs ++ ws)) (tag_parts-Infix nothing Turnstile right ∙ ap (λ vs. vs ++ tag_part.Sign Turnstile ∷ tag_parts_of right) (tag_parts-Seq []))
-    ∙ ap (λ b. goes_on (if b then Some (due (Left nothing Turnstile ∷ fs)) else None) (tag_parts_of right ++ ws)) (outermost fs place)
+    ap (λ vs. reads (expecting fs) (vs ++ ws)) (tag_parts-Infix nothing Turnstile right ∙ ap (λ vs. vs ++ tag_part.Sign Turnstile ∷ tag_parts_of right) (tag_parts-Seq []))
+    ∙ ap (λ b. goes_on (if b then Some (expecting (Left nothing Turnstile ∷ fs)) else None) (tag_parts_of right ++ ws)) (outermost fs place)
     ∙ dr (Left nothing Turnstile ∷ fs) ws low_right hr (Ends-more 8 (edge right) ws (omega (arith, level_edge_at (out-Template right))) at)
     ∙ grow right (Left nothing Turnstile) fs ws at (omega arith) (omega arith) h
 
@@ -332,19 +332,19 @@ extend-under [] t (Left left sign ∷ fs) h = refl
 extend-under [] t (Elements parts ∷ fs) h = absurd (omega arith)
 extend-under (u ∷ us) t fs h = refl
 
-follows_sign : (opening : Mark) (enclosure : Enclosure) (u : Template) (fs : List Frame) (ws : List TagPart) → role_of opening ≡ Opens enclosure → reads (read u fs) (tag_part.Sign opening ∷ ws) ≡ reads (due (extend u fs)) (tag_part.Sign opening ∷ ws)
+follows_sign : (opening : Mark) (enclosure : Enclosure) (u : Template) (fs : List Frame) (ws : List TagPart) → role_of opening ≡ Opens enclosure → reads (read u fs) (tag_part.Sign opening ∷ ws) ≡ reads (expecting (extend u fs)) (tag_part.Sign opening ∷ ws)
 follows_sign opening enclosure u fs ws r = ap (λ role. goes_on (after_sign u fs opening role) ws) r
 
 follows : {n : ℕ} {t : Template} → IsNotation n t → 15 ≤ n → Follows t
 follows (atom name e a) h u fs ws =
     let is = ap tag_parts_of e ∙ tag_parts-Atom name in
-    subst (λ vs. reads (read u fs) (vs ++ ws) ≡ reads (due (extend u fs)) (vs ++ ws)) (sym is) refl
+    subst (λ vs. reads (read u fs) (vs ++ ws) ≡ reads (expecting (extend u fs)) (vs ++ ws)) (sym is) refl
 follows (hole e) h u fs ws =
     let is = ap tag_parts_of e ∙ tag_parts-Hole in
-    subst (λ vs. reads (read u fs) (vs ++ ws) ≡ reads (due (extend u fs)) (vs ++ ws)) (sym is) refl
+    subst (λ vs. reads (read u fs) (vs ++ ws) ≡ reads (expecting (extend u fs)) (vs ++ ws)) (sym is) refl
 follows (bracket opening enclosure inside e r d) h u fs ws =
     let is = ap tag_parts_of e ∙ tag_parts-Bracket opening inside in
-    subst (λ vs. reads (read u fs) (vs ++ ws) ≡ reads (due (extend u fs)) (vs ++ ws)) (sym is)
+    subst (λ vs. reads (read u fs) (vs ++ ws) ≡ reads (expecting (extend u fs)) (vs ++ ws)) (sym is)
     (follows_sign opening enclosure u fs ((tag_parts_of inside ++ tag_part.Sign (closing opening) ∷ []) ++ ws) r)
 follows (sequence parts k e d l) h u fs ws = absurd (omega arith)
 follows (divided level left sign right k e r d f) h u fs ws = absurd (omega (arith, divides-range sign level r))
@@ -372,7 +372,7 @@ read_more ts t (u ∷ us) fs ws d p l h k e =
     let same = append_assoc ts (t ∷ []) (u ∷ us) in
     ap (reads (read t (under ts fs))) (append_assoc (tag_parts_of u) (tag_parts_all us) ws)
     ∙ d.0.follows t (under ts fs) behind
-    ∙ ap (λ gs. reads (due gs) (tag_parts_of u ++ behind)) (extend-under ts t fs p)
+    ∙ ap (λ gs. reads (expecting gs) (tag_parts_of u ++ behind)) (extend-under ts t fs p)
     ∙ d.0.readable (Elements (ts ++ t ∷ []) ∷ fs) behind low d.0.tight (Ends-tight u behind d.0.tight)
     ∙ ap (λ gs. reads (read u gs) behind) (sym (under-more ts t fs))
     ∙ read_more (ts ++ t ∷ []) u us fs ws d.1 p (omega (arith, length-more ts t)) (subst (λ parts. template_height (template.Seq parts) ≤ 100) (sym same) h) rest e
@@ -390,8 +390,8 @@ read_sequence (t ∷ ts) l d fs ws h k e =
     let rest : highest (map template_height ts) ≤ 99 = omega arith in
     let place : least fs ≤ 14 = omega (arith, level-Seq (t ∷ ts)) in
     let behind = tag_parts_all ts ++ ws in
-    ap (λ vs. reads (due fs) (vs ++ ws)) (tag_parts-Seq (t ∷ ts))
-    ∙ ap (reads (due fs)) (append_assoc (tag_parts_of t) (tag_parts_all ts) ws)
+    ap (λ vs. reads (expecting fs) (vs ++ ws)) (tag_parts-Seq (t ∷ ts))
+    ∙ ap (reads (expecting fs)) (append_assoc (tag_parts_of t) (tag_parts_all ts) ws)
     ∙ d.0.readable fs behind low (omega (arith, d.0.tight)) (Ends-tight t behind d.0.tight)
     ∙ read_more [] t ts fs ws d.1 place (omega arith) h rest (subst (λ m. Ends m ws) (ap edge_at (template.outs-Seq (t ∷ ts))) e)
 
@@ -415,8 +415,8 @@ mutual
   elements (more d ds) = (record { readable = readable d; follows = follows d (omega arith); tight = level-least d (omega arith) }, elements ds)
 
 -- a template is read as itself
-pub complete : (t : Template) → IsTemplate t → reads (due []) (tag_parts_of t) ≡ Some t
+pub complete : (t : Template) → IsTemplate t → reads (expecting []) (tag_parts_of t) ≡ Some t
 complete t is =
-    ap (reads (due [])) (sym (append-nil (tag_parts_of t)))
+    ap (reads (expecting [])) (sym (append-nil (tag_parts_of t)))
     ∙ readable is.notation [] [] is.height (level-least is.notation (omega arith)) tt
     ∙ refl

@@ -19,7 +19,7 @@ use Rattle.st_num.specs.Signs.{left_of, right_of}
 use Rattle.st_il.specs.Notation.{role_of, closing, closing_of, closing_by, IsNotation, atom, hole, bracket, sequence, divided, without_left, AreElements, none, more}
 use Rattle.st_il.specs.Template.{tag_parts_of, template_height, IsTemplate, IsTagPart}
 use Rattle.std.specs.List.{AllByRecursion}
-use Rattle.st_il.specs.inner.Reading.{State, due, read, sign_level, divided_at, level_of, may_lack_left, is_outermost, begin, begin_sign, extend, binds, closed, limited, reduce, divide, is_same, shut, after_sign, step, run, whole, finish, reads}
+use Rattle.st_il.specs.inner.Reading.{State, expecting, read, sign_level, divided_at, level_of, may_lack_left, is_outermost, begin, begin_sign, extend, binds, closed, limited, reduce, divide, is_same, shut, after_sign, step, run, whole, finish, reads}
 use Rattle.st_il.proofs.TemplateForms.{tag_parts_all, tag_parts_all-append, tag_parts-Atom, tag_parts-Hole, tag_parts-Seq, tag_parts-Infix, tag_parts-Bracket, height-Atom, height-Hole, level-Seq, level-Infix}
 use Rattle.st_il.proofs.ReadingComplete.{divides-range, sign_level-range, right-gap}
 
@@ -34,7 +34,7 @@ before [] = []
 before (f ∷ fs) = before fs ++ seen_by f
 
 abbrev pub seen : State → List TagPart
-seen (due fs) = before fs
+seen (expecting fs) = before fs
 seen (read t fs) = before fs ++ tag_parts_of t
 
 -- the level that is due
@@ -67,7 +67,7 @@ pub record Rests (t : Template) (fs : List Frame) : Type 0 where
   pub low : template_height t ≤ 100
 
 abbrev pub Holds : State → Type 0
-Holds (due fs) = Stand fs
+Holds (expecting fs) = Stand fs
 Holds (read t fs) = Rests t fs
 
 -- a state that stands well, reached by these parts
@@ -199,7 +199,7 @@ divides ws sign n r (Some p) q = go (nat_le (left_of n) (level_of p.0)) refl
     level : n ≡ sign_level sign
     level = sym (ap divided_at r)
 
-    go : (b : Bool) → nat_le (left_of n) (level_of p.0) ≡ b → ReachedBy (ws ++ tag_part.Sign sign ∷ []) (if b then Some (due (Left p.0 sign ∷ p.1)) else None)
+    go : (b : Bool) → nat_le (left_of n) (level_of p.0) ≡ b → ReachedBy (ws ++ tag_part.Sign sign ∷ []) (if b then Some (expecting (Left p.0 sign ∷ p.1)) else None)
     go false e = tt
     go true e =
         let left = tighten (left_of n) (le-from (left_of n) (level_of p.0) e) q.placed.notation in
@@ -269,7 +269,7 @@ both-true false b e = absurd (cc)
 leads : (fs : List Frame) (sign : Mark) (n : ℕ) → role_of sign ≡ Divides n → Stand fs → ReachedBy (before fs ++ tag_part.Sign sign ∷ []) (begin_sign fs sign (Divides n))
 leads fs sign n r s = go (may_lack_left sign && is_outermost fs) refl
   where
-    go : (b : Bool) → (may_lack_left sign && is_outermost fs) ≡ b → ReachedBy (before fs ++ tag_part.Sign sign ∷ []) (if b then Some (due (Left (template.Seq []) sign ∷ fs)) else None)
+    go : (b : Bool) → (may_lack_left sign && is_outermost fs) ≡ b → ReachedBy (before fs ++ tag_part.Sign sign ∷ []) (if b then Some (expecting (Left (template.Seq []) sign ∷ fs)) else None)
     go false e = tt
     go true e =
         let b = both-true (may_lack_left sign) (is_outermost fs) e in
@@ -307,7 +307,7 @@ next_begins : (t : Template) (fs : List Frame) (w : TagPart) → Rests t fs → 
 next_begins t fs w r a = subst (λ ws. ReachedBy (ws ++ w ∷ []) (begin (extend t fs) w)) (extend-tag_parts t fs) (begins (extend t fs) w (extends t fs r) a)
 
 steps : (st : State) (w : TagPart) → Holds st → IsTagPart w → ReachedBy (seen st ++ w ∷ []) (step st w)
-steps (due fs) w h a = begins fs w h a
+steps (expecting fs) w h a = begins fs w h a
 steps (read t fs) tag_part.Hole h a = next_begins t fs tag_part.Hole h a
 steps (read t fs) (tag_part.Atom name) h a = next_begins t fs (tag_part.Atom name) h a
 steps (read t fs) (tag_part.Sign sign) h a = go (role_of sign) refl
@@ -343,9 +343,9 @@ finishes t ws (Some p) q e = go p.0 p.1 q e
 
 ends : (t : Template) (ws : List TagPart) (o : Option State) → ReachedBy ws o → option_and_then finish o ≡ Some t → HasWords t ws
 ends t ws None r e = absurd (cc)
-ends t ws (Some (due fs)) r e = absurd (cc)
+ends t ws (Some (expecting fs)) r e = absurd (cc)
 ends t ws (Some (read u fs)) r e = finishes t ws (reduce 0 u fs) (subst (λ vs. ReducedBy vs 0 (reduce 0 u fs)) r.spelled (reduces 0 u fs (settled u fs r.holds))) e
 
 -- what all parts are read as is a template of these parts
-pub sound : (ws : List TagPart) (t : Template) → AllByRecursion IsTagPart ws → reads (due []) ws ≡ Some t → HasWords t ws
-sound ws t a e = ends t ws (run (due []) ws) (runs ws (due []) [] a (record { holds = tt; spelled = refl })) e
+pub sound : (ws : List TagPart) (t : Template) → AllByRecursion IsTagPart ws → reads (expecting []) ws ≡ Some t → HasWords t ws
+sound ws t a e = ends t ws (run (expecting []) ws) (runs ws (expecting []) [] a (record { holds = tt; spelled = refl })) e

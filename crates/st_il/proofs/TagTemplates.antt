@@ -17,7 +17,7 @@ use Rattle.st_il.specs.declared.template.TagPart.{TagPart}
 use Rattle.st_il.specs.declared.template.TagPart.TheVariants as tag_part
 use Rattle.st_num.specs.declared.mark.TheConstants.Mark.{ALL}
 use Rattle.st_il.specs.Notation.{role_of, is_role, has_role, is_name_byte}
-use Rattle.st_il.specs.inner.Reading.{due, reads}
+use Rattle.st_il.specs.inner.Reading.{expecting, reads}
 use Rattle.st_il.specs.Template.{written, spaced, IsTagPart, AreTagParts, HasTag, HasOneTemplate}
 use Rattle.st_il.proofs.Atoms.{is_rest, atom_from, atom-read}
 use Rattle.st_il.proofs.TagParts.{Differs, NoSpace, written-no_space, no_sign}
@@ -143,7 +143,7 @@ are_tag_parts (text ∷ texts) = by_tag_part (tag_part_of text) (told text) (tag
 pub is_template : (tag : List ℕ) → IsTemplateOf tag (template_of tag)
 is_template tag = by_tag_parts (tag_parts_of (slice_split is_space tag)) (are_tag_parts (slice_split is_space tag))
   where
-    by_reading : (ws : List TagPart) → AreTagParts ws tag → (p : Option Template) → reads (due []) ws ≡ p → IsTemplateOf tag p
+    by_reading : (ws : List TagPart) → AreTagParts ws tag → (p : Option Template) → reads (expecting []) ws ≡ p → IsTemplateOf tag p
     by_reading ws a None e = not_found ws tag a e
     by_reading ws a (Some t) e = found ws tag t a e
 
@@ -153,9 +153,9 @@ is_template tag = by_tag_parts (tag_parts_of (slice_split is_space tag)) (are_ta
         let none : length (slice_split is_space tag) ≡ 0 = sym (ap length e) ∙ ap (λ vs. length (map written vs)) f in
         absurd (omega (arith, parts, none))
 
-    by_tag_parts : (o : Option (List TagPart)) → TagParts (slice_split is_space tag) o → IsTemplateOf tag (option_and_then (reads (due [])) o)
+    by_tag_parts : (o : Option (List TagPart)) → TagParts (slice_split is_space tag) o → IsTemplateOf tag (option_and_then (reads (expecting [])) o)
     by_tag_parts None h = no_tag tag (λ ws a. h ws a.tag_parts (split-tag ws tag a))
-    by_tag_parts (Some ws) h = by_reading ws (record { some = some ws h.1; tag_parts = h.0; spelled = joined ws ∙ ap (join_with_byte 32) h.1 ∙ join_with_byte-slice_split 32 tag }) (reads (due []) ws) refl
+    by_tag_parts (Some ws) h = by_reading ws (record { some = some ws h.1; tag_parts = h.0; spelled = joined ws ∙ ap (join_with_byte 32) h.1 ∙ join_with_byte-slice_split 32 tag }) (reads (expecting []) ws) refl
 
 -- ---- what the code answers
 

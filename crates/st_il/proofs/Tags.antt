@@ -11,7 +11,7 @@ use Rattle.st_il.specs.declared.template.TagPart.{TagPart}
 use Rattle.st_il.specs.declared.template.TagPart.TheVariants as tag_part
 use Rattle.st_il.specs.Notation.{role_of, closing, IsNotation, atom, hole, bracket, sequence, divided, without_left, AreElements, none, more}
 use Rattle.st_il.specs.Template.{tag_parts_of, IsTagPart, AreTagParts, HasTag, HasOneTemplate}
-use Rattle.st_il.specs.inner.Reading.{due, reads}
+use Rattle.st_il.specs.inner.Reading.{expecting, reads}
 use Rattle.st_il.proofs.TemplateForms.{tag_parts_all, tag_parts-Atom, tag_parts-Hole, tag_parts-Seq, tag_parts-Infix, tag_parts-Bracket}
 use Rattle.st_il.proofs.ReadingComplete.{complete, closing-role}
 use Rattle.st_il.proofs.ReadingSound.{sound}
@@ -57,26 +57,26 @@ pub tag-tag_parts : (t : Template) (tag : List ℕ) → HasTag t tag → AreTagP
 tag-tag_parts t tag h = record { some = some; tag_parts = notation-tag_parts h.template.notation; spelled = h.spelled }
   where
     some : tag_parts_of t ≢ []
-    some e = let whole = complete t h.template in let nothing : reads (due []) (tag_parts_of t) ≡ None = ap (reads (due [])) e in absurd (cc)
+    some e = let whole = complete t h.template in let nothing : reads (expecting []) (tag_parts_of t) ≡ None = ap (reads (expecting [])) e in absurd (cc)
 
 pub one_template : (tag : List ℕ) → HasOneTemplate tag
 one_template tag a b h k =
     let same : tag_parts_of a ≡ tag_parts_of b = one_list (tag_parts_of a) (tag_parts_of b) tag (tag-tag_parts a tag h) (tag-tag_parts b tag k) in
     let first = complete a h.template in
     let second = complete b k.template in
-    let both : Some a ≡ Some b = sym first ∙ ap (reads (due [])) same ∙ second in
+    let both : Some a ≡ Some b = sym first ∙ ap (reads (expecting [])) same ∙ second in
     cc
 
-pub found : (ws : List TagPart) (tag : List ℕ) (t : Template) → AreTagParts ws tag → reads (due []) ws ≡ Some t → HasTag t tag
+pub found : (ws : List TagPart) (tag : List ℕ) (t : Template) → AreTagParts ws tag → reads (expecting []) ws ≡ Some t → HasTag t tag
 found ws tag t h e =
     let is = sound ws t h.tag_parts e in
     record { template = is.template; spelled = (subst (λ vs. AreTagParts vs tag) (sym is.spelled) h).spelled }
 
-pub not_found : (ws : List TagPart) (tag : List ℕ) → AreTagParts ws tag → reads (due []) ws ≡ None → (t : Template) → HasTag t tag → ⊥
+pub not_found : (ws : List TagPart) (tag : List ℕ) → AreTagParts ws tag → reads (expecting []) ws ≡ None → (t : Template) → HasTag t tag → ⊥
 not_found ws tag h e t k =
     let same : tag_parts_of t ≡ ws = one_list (tag_parts_of t) ws tag (tag-tag_parts t tag k) h in
     let whole = complete t k.template in
-    let nothing : reads (due []) (tag_parts_of t) ≡ None = ap (reads (due [])) same ∙ e in
+    let nothing : reads (expecting []) (tag_parts_of t) ≡ None = ap (reads (expecting [])) same ∙ e in
     absurd (cc)
 
 pub no_tag : (tag : List ℕ) → ((ws : List TagPart) → AreTagParts ws tag → ⊥) → (t : Template) → HasTag t tag → ⊥
@@ -93,10 +93,10 @@ some_list o ws tag e h = subst (Found tag) e h
 pub answer_no_tag_parts : (o : Option (List TagPart)) (tag : List ℕ) → o ≡ None → IfNone o ((ws : List TagPart) → AreTagParts ws tag → ⊥) → (t : Template) → HasTag t tag → ⊥
 answer_no_tag_parts o tag e h = no_tag tag (subst (λ p. IfNone p ((ws : List TagPart) → AreTagParts ws tag → ⊥)) e h)
 
-pub answer_some : (o : Option (List TagPart)) (ws vs : List TagPart) (tag : List ℕ) (p : Option Template) → o ≡ Some ws → IfSome o (λ ws. AreTagParts ws tag) → vs ≡ ws → p ≡ reads (due []) vs → IfSome p (λ t. HasTag t tag)
+pub answer_some : (o : Option (List TagPart)) (ws vs : List TagPart) (tag : List ℕ) (p : Option Template) → o ≡ Some ws → IfSome o (λ ws. AreTagParts ws tag) → vs ≡ ws → p ≡ reads (expecting []) vs → IfSome p (λ t. HasTag t tag)
 answer_some o ws vs tag None e h s f = tt
-answer_some o ws vs tag (Some t) e h s f = found ws tag t (some_list o ws tag e h) (ap (reads (due [])) (sym s) ∙ sym f)
+answer_some o ws vs tag (Some t) e h s f = found ws tag t (some_list o ws tag e h) (ap (reads (expecting [])) (sym s) ∙ sym f)
 
-pub answer_none : (o : Option (List TagPart)) (ws vs : List TagPart) (tag : List ℕ) (p : Option Template) → o ≡ Some ws → IfSome o (λ ws. AreTagParts ws tag) → vs ≡ ws → p ≡ reads (due []) vs → IfNone p ((t : Template) → HasTag t tag → ⊥)
-answer_none o ws vs tag None e h s f = not_found ws tag (some_list o ws tag e h) (ap (reads (due [])) (sym s) ∙ sym f)
+pub answer_none : (o : Option (List TagPart)) (ws vs : List TagPart) (tag : List ℕ) (p : Option Template) → o ≡ Some ws → IfSome o (λ ws. AreTagParts ws tag) → vs ≡ ws → p ≡ reads (expecting []) vs → IfNone p ((t : Template) → HasTag t tag → ⊥)
+answer_none o ws vs tag None e h s f = not_found ws tag (some_list o ws tag e h) (ap (reads (expecting [])) (sym s) ∙ sym f)
 answer_none o ws vs tag (Some t) e h s f = tt

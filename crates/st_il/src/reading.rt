@@ -32,7 +32,7 @@ pub enum Frame {
 #[derive(Drop)]
 pub enum State {
     /// An operand is due.
-    Due(Row<Frame>),
+    Expecting(Row<Frame>),
     /// An element has been read.
     Read(Template, Row<Frame>),
 }
@@ -64,9 +64,9 @@ fn read_tag(alloc: Global, tag: &[u8]) -> Result<Option<Template>, NoMemory>
 
 /// The template of these parts.
 fn read_tag_parts(alloc: Global, parts: &[TagPart]) -> Result<Option<Template>, NoMemory>
-    ensures { IfOk result (λ found. found ≡ spec.reads (spec.due []) parts.now) }
+    ensures { IfOk result (λ found. found ≡ spec.reads (spec.expecting []) parts.now) }
 {
-    let mut state = State::Due(Row::new(alloc));
+    let mut state = State::Expecting(Row::new(alloc));
     for part in parts {
         let Some(next) = step(alloc, state, part)? else {
             return Ok(None);
@@ -82,7 +82,7 @@ fn step(alloc: Global, state: State, part: &TagPart) -> Result<Option<State>, No
     ensures { IfOk result (λ next. option_map state_of next ≡ spec.step (state_of state) part.now) }
 {
     match state {
-        State::Due(frames) => begin(alloc, frames, part),
+        State::Expecting(frames) => begin(alloc, frames, part),
         State::Read(template, frames) => after(alloc, template, frames, part),
     }
 }
@@ -118,11 +118,11 @@ fn begin(alloc: Global, mut frames: Row<Frame>, part: &TagPart) -> Result<Option
         TagPart::Sign(sign) => match role_of(*sign) {
             Role::Opens(enclosure) => {
                 frames.push(Frame::Open(*sign, enclosure))?;
-                Ok(Some(State::Due(frames)))
+                Ok(Some(State::Expecting(frames)))
             }
             Role::Divides(_) if may_lack_left(*sign) && is_outermost(&frames) => {
                 frames.push(Frame::Left(Template::Seq(Row::new(alloc)), *sign))?;
-                Ok(Some(State::Due(frames)))
+                Ok(Some(State::Expecting(frames)))
             }
             _ => Ok(None),
         },
@@ -186,7 +186,7 @@ fn divide(
         return Ok(None);
     }
     frames.push(Frame::Left(left, sign))?;
-    Ok(Some(State::Due(frames)))
+    Ok(Some(State::Expecting(frames)))
 }
 
 /// Ends the innermost bracket, if it is one of these.

@@ -16,7 +16,7 @@ use Rattle.st_il.specs.declared.template.TagPart.TheVariants as tag_part
 use Rattle.st_il.specs.declared.reading.Frame.{Frame}
 use Rattle.st_il.specs.declared.reading.Frame.TheVariants.{Open, Left, Elements}
 use Rattle.st_il.specs.declared.reading.State as code
-use Rattle.st_il.specs.declared.reading.State.TheVariants.{Due, Read}
+use Rattle.st_il.specs.declared.reading.State.TheVariants.{Expecting, Read}
 use Rattle.st_num.specs.Signs.{left_of, right_of}
 use Rattle.st_num.specs.declared.limit.TheConstants.{HIGHEST_TREE}
 use Rattle.st_il.specs.Notation.{role_of}
@@ -25,7 +25,7 @@ use Rattle.st_il.specs.Template.{template_height}
 -- how far the parts of a tag are read, with the frames that are open
 pub data State : Type 0 where
   -- an operand is due
-  due : List Frame → State
+  expecting : List Frame → State
   -- this element is read
   read : Template → List Frame → State
 
@@ -65,9 +65,9 @@ is_outermost (Elements parts ∷ fs) = false
 -- what a sign of this role makes where an operand is due
 abbrev pub begin_sign : List Frame → Mark → Role → Option State
 begin_sign fs sign (Divides level) =
-    if may_lack_left sign && is_outermost fs then Some (due (Left (template.Seq []) sign ∷ fs))
+    if may_lack_left sign && is_outermost fs then Some (expecting (Left (template.Seq []) sign ∷ fs))
     else None
-begin_sign fs sign (Opens enclosure) = Some (due (Open sign enclosure ∷ fs))
+begin_sign fs sign (Opens enclosure) = Some (expecting (Open sign enclosure ∷ fs))
 begin_sign fs sign (Closes enclosure) = None
 begin_sign fs sign Other = None
 
@@ -110,7 +110,7 @@ reduce level t (f ∷ fs) =
 -- the template is the left side of a sign
 abbrev pub divide : Mark → ℕ → Template × List Frame → Option State
 divide sign level p =
-    if nat_le (left_of level) (level_of p.0) then Some (due (Left p.0 sign ∷ p.1)) else None
+    if nat_le (left_of level) (level_of p.0) then Some (expecting (Left p.0 sign ∷ p.1)) else None
 
 -- two enclosures are the same
 abbrev pub is_same : Enclosure → Enclosure → Bool
@@ -145,7 +145,7 @@ after t fs (tag_part.Sign sign) = after_sign t fs sign (role_of sign)
 
 -- what a part makes of a state
 abbrev pub step : State → TagPart → Option State
-step (due fs) w = begin fs w
+step (expecting fs) w = begin fs w
 step (read t fs) w = after t fs w
 
 -- the state behind these parts
@@ -160,7 +160,7 @@ whole t (f ∷ fs) = None
 
 -- the template of all the parts
 abbrev pub finish : State → Option Template
-finish (due fs) = None
+finish (expecting fs) = None
 finish (read t fs) = option_and_then (λ p. whole p.0 p.1) (reduce 0 t fs)
 
 -- the template that is read when these parts end, from this state on
@@ -171,7 +171,7 @@ reads st ws = option_and_then finish (run st ws)
 
 -- what a state of the code is
 abbrev pub state_of : code.State → State
-state_of (Due fs) = due (reverse fs)
+state_of (Expecting fs) = expecting (reverse fs)
 state_of (Read t fs) = read t (reverse fs)
 
 -- a template with its frames in the other order
