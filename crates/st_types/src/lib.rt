@@ -10,5 +10,5 @@ mod sub;
 mod typing;
 
 pub use st_type_table::{Bodies, Broken, CaseDef, TypeFault, TypeTable};
-pub use sub::is_sub;
+pub use sub::{are_same, is_sub};
 pub use typing::has_type;

@@ -13,7 +13,7 @@ use st_il::Ty;
 use st_type_table::{CaseDef, TypeTable};
 
 /// Whether the types are equal through aliases, one by one.
-fn are_same(table: &TypeTable, ones: &[Ty], others: &[Ty]) -> bool
+pub fn are_same(table: &TypeTable, ones: &[Ty], others: &[Ty]) -> bool
     ensures { IsTrue result ↔ SameAll table.now ones.now others.now }
 {
     if ones.len() != others.len() {
