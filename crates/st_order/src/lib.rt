@@ -17,11 +17,15 @@ mod fault;
 mod index;
 mod least;
 mod masks;
+mod moding;
 mod order;
+mod relation_modes;
 mod rules;
 mod selection;
 mod variables;
 
 pub use directions::direction;
-pub use fault::OrderFault;
+pub use fault::{ModeFault, OrderFault};
+pub use moding::{has_few, modes};
 pub use order::{has_rule, order_rule};
+pub use relation_modes::Modes;
