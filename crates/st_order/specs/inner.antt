@@ -7,3 +7,7 @@ pub mod Classes
 pub mod Selections
 pub mod Endings
 pub mod Citing
+pub mod Lengths
+pub mod Citations
+pub mod Relations
+pub mod Breaches

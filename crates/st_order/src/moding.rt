@@ -1,8 +1,9 @@
 //! The modes of an internal language.
 
-ghost use Rattle.std.specs.Prelude.{◌↔◌, IsTrue};
+ghost use Rattle.std.specs.Prelude.{◌≡◌, ◌↔◌, IsTrue};
 ghost use Rattle.st_order.specs.Modes.{HasFew, IsModesAnswer};
 
+use crate::breaches::{ModeBreach, mode_breach};
 use crate::fault::ModeFault;
 use crate::relation_modes::Modes;
 use st_il::{Il, IlDef};
@@ -33,11 +34,23 @@ pub fn has_few(il: &Il) -> bool
     defs.len() <= u32::MAX as usize
 }
 
+/// The refusal by the definition that breaks a rule.
+fn refused(breach: ModeBreach) -> ModeFault
+    ensures { result ≡ ModeFault.Refused breach.definition breach.rule }
+{
+    let ModeBreach { definition, rule } = breach;
+    ModeFault::Refused { definition, rule }
+}
+
 /// Tells for each relation whether it can be searched, and for each rule the order of its
 /// premises; or which definition breaks which of the rules M1 to M7.
 pub fn modes(alloc: Global, il: &Il) -> Result<Modes, ModeFault>
     requires { HasFew il.now }
     ensures { IsModesAnswer il.now result }
 {
+    let breach = mode_breach(alloc, il)?;
+    if let Some(breach) = breach {
+        return Err(refused(breach));
+    }
     Err(ModeFault::Memory)
 }

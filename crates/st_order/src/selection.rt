@@ -133,6 +133,21 @@ fn push_if_other<'a>(
     Ok(())
 }
 
+/// Adds the variables of a premise to those that are bound.
+pub(crate) fn add_variables<'a>(
+    alloc: Global,
+    premise: &'a IlPrem,
+    bound: &mut IndexSet<&'a Name>,
+) -> Result<(), NoMemory>
+    ensures { OnOk result
+        (SameNames (names_in bound.new.keys) (names_in bound.old.keys ++ prem_vars premise.now)) }
+{
+    let mut names = Row::new(alloc);
+    push_prem_vars(alloc, premise, &mut names)?;
+    add_all(bound, names.as_slice())?;
+    Ok(())
+}
+
 /// Takes a premise.
 fn take<'a>(
     alloc: Global,

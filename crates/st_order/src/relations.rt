@@ -1,0 +1,89 @@
+//! What is known of the relations of an internal language: their directions, and which of them
+//! cite themselves.
+
+ghost use Rattle.std.specs.Prelude.{◌≡◌, ℕ, List, is_some, IfOk, OnOk};
+ghost use Rattle.st_semantics.specs.Directions.{direction};
+ghost use Rattle.st_order.specs.inner.Index.{at};
+ghost use Rattle.st_order.specs.inner.Relations.{directed_behind, AreDirected, AreRelations, is_directed};
+
+use crate::citations::{Citations, citations_of};
+use crate::directions::mask_of;
+use crate::index::{at, put};
+use crate::masks::{Directions, directions_of};
+use indexmap::IndexMap;
+use st_il::{Il, IlDef, RelationDef};
+use st_num::{Name, NoMemory};
+use std::alloc::Global;
+
+/// Whether a relation has a direction.
+fn has_direction(alloc: Global, relation: &RelationDef) -> Result<bool, NoMemory>
+    ensures { IfOk result (λ has. has ≡ is_some (direction relation.now)) }
+{
+    let mask = mask_of(alloc, relation)?;
+    Ok(mask.is_some())
+}
+
+/// Puts under the name of a relation whether it has a direction.
+fn put_relation<'a>(
+    alloc: Global,
+    definition: &'a IlDef,
+    directed: &mut IndexMap<&'a Name, bool>,
+) -> Result<(), NoMemory>
+    ensures { OnOk result ((q : List ℕ) → at directed.new.entries q
+        ≡ directed_behind definition.now q (at directed.old.entries q)) }
+{
+    match definition {
+        IlDef::Relation(relation) => {
+            let has = has_direction(alloc, relation)?;
+            put(directed, &relation.name, has)
+        }
+        IlDef::Syntax(_) | IlDef::Var(_, _) | IlDef::Rule(_) | IlDef::Fun(_) | IlDef::Clause(_) => {
+            Ok(())
+        }
+    }
+}
+
+/// Whether the relations that are declared have a direction: of two with one name the first.
+fn directed(alloc: Global, il: &Il) -> Result<IndexMap<&Name, bool>, NoMemory>
+    ensures { IfOk result (λ directed. AreDirected il.now directed.entries) }
+{
+    let defs = il.defs.as_slice();
+    let mut directed = IndexMap::new(alloc);
+    for i in 0..defs.len() {
+        put_relation(alloc, &defs[defs.len() - 1 - i], &mut directed)?;
+    }
+    Ok(directed)
+}
+
+/// The directions of the relations of an internal language, and which of them cite themselves.
+#[derive(Drop)]
+pub(crate) struct Relations<'a> {
+    pub(crate) directions: Directions<'a>,
+    directed: IndexMap<&'a Name, bool>,
+    pub(crate) citations: Citations<'a>,
+}
+
+/// The same of this internal language.
+pub(crate) fn known_relations(alloc: Global, il: &Il) -> Result<Relations, NoMemory>
+    ensures { IfOk result (λ relations.
+        AreRelations relations × (relations.directions.il.now ≡ il.now)) }
+{
+    let directions = directions_of(alloc, il)?;
+    let directed = directed(alloc, il)?;
+    let citations = citations_of(alloc, il)?;
+    Ok(Relations {
+        directions,
+        directed,
+        citations,
+    })
+}
+
+/// Whether the relation of a name is declared and has a direction.
+pub(crate) fn is_directed(relations: &Relations, name: &Name) -> bool
+    ensures { result ≡ is_directed relations.now name.now }
+{
+    match at(&relations.directed, name) {
+        Some(directed) => *directed,
+        None => false,
+    }
+}
