@@ -2,6 +2,8 @@ pub mod Holes
 pub mod Following
 pub mod VariableParts
 pub mod CalledParts
+pub mod LengthParts
+pub mod Running
 pub mod BoundParts
 pub mod HoleParts
 pub mod NamesIn

@@ -118,9 +118,13 @@ pub(crate) fn is_doubly_open(exp: &IlExp) -> bool
             has_two_open(items.as_slice()) || is_any_item_doubly_open(items.as_slice())
         }
         IlExp::Set(x, path, y) | IlExp::Extend(x, path, y) => {
-            is_doubly_open(x.get())
-                || is_any_step_doubly_open(path.as_slice())
-                || is_doubly_open(y.get())
+            if is_doubly_open(x.get()) {
+                return true;
+            }
+            if is_any_step_doubly_open(path.as_slice()) {
+                return true;
+            }
+            is_doubly_open(y.get())
         }
         IlExp::Slice(x, y, z) => {
             is_doubly_open(x.get()) || is_doubly_open(y.get()) || is_doubly_open(z.get())
