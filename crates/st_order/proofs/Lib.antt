@@ -4,6 +4,11 @@ pub mod VariableParts
 pub mod CalledParts
 pub mod LengthParts
 pub mod Running
+pub mod OneOpen
+pub mod ClauseParts
+pub mod CircleParts
+pub mod DirectedParts
+pub mod BreachParts
 pub mod BoundParts
 pub mod HoleParts
 pub mod NamesIn

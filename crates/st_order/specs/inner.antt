@@ -8,6 +8,6 @@ pub mod Selections
 pub mod Endings
 pub mod Citing
 pub mod Lengths
-pub mod Citations
+pub mod Circles
 pub mod Relations
 pub mod Breaches

@@ -3,7 +3,7 @@
 ghost use Rattle.std.specs.Prelude.{◌≡◌, ◌<◌, true, OnOk, IfOk, IfSome};
 ghost use Rattle.st_il.specs.declared.definition.IlDef.{IlDef};
 ghost use Rattle.st_semantics.specs.ModeRules.{Relation, Function};
-ghost use Rattle.st_order.specs.inner.Citations.{citer_of, number_of, number_of_owner, count_of, knows, KnowsAll};
+ghost use Rattle.st_order.specs.inner.Circles.{citer_of, number_of, number_of_owner, count_of, knows, KnowsAll};
 
 use crate::index::{add, number_in};
 use indexmap::IndexSet;

@@ -1,6 +1,6 @@
 //! Which of the rules M3, M4, M6 and M7 a clause breaks.
 
-ghost use Rattle.std.specs.Prelude.{◌≡◌, [], not, IfOk, IsTrue};
+ghost use Rattle.std.specs.Prelude.{◌≡◌, [], true, not, IfOk};
 ghost use Rattle.std.specs.List.{list_all};
 ghost use Rattle.st_il.specs.declared.definition.Il.{Il};
 ghost use Rattle.st_semantics.specs.Names.{all_known};
@@ -75,7 +75,7 @@ fn have_one_open(args: &[IlExp]) -> bool
 
 /// Whether patterns bind these names.
 fn bind(alloc: Global, args: &[IlExp], names: &[&Name]) -> Result<bool, NoMemory>
-    requires { IsTrue (list_all is_pattern args.now) }
+    requires { list_all is_pattern args.now ≡ true }
     ensures { IfOk result (λ binding. binding ≡ all_known (bound_by args.now) (names_in names.now)) }
 {
     let mut binding = Row::new(alloc);

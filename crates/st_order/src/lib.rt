@@ -11,7 +11,7 @@
 
 mod bindings;
 mod breaches;
-mod citations;
+mod circles;
 mod citers;
 mod citing;
 mod class;

@@ -67,7 +67,8 @@ fn has_one_open<'a>(
             let condition = condition_has_one_open(alloc, bound, exp)?;
             Ok(condition)
         }
-        IlPrem::Goal(_, _) | IlPrem::Otherwise => Ok(true),
+        IlPrem::Goal(_, _) => Ok(true),
+        IlPrem::Otherwise => Ok(true),
         IlPrem::Each(how, list, body) => {
             let list = list.as_slice();
             let body = body.get();

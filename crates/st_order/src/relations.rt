@@ -1,27 +1,18 @@
 //! What is known of the relations of an internal language: their directions, and which of them
 //! cite themselves.
 
-ghost use Rattle.std.specs.Prelude.{◌≡◌, ℕ, List, is_some, IfOk, OnOk};
-ghost use Rattle.st_semantics.specs.Directions.{direction};
+ghost use Rattle.std.specs.Prelude.{◌≡◌, ℕ, List, IfOk, OnOk};
 ghost use Rattle.st_order.specs.inner.Index.{at};
 ghost use Rattle.st_order.specs.inner.Relations.{directed_behind, AreDirected, AreRelations, is_directed};
 
-use crate::citations::{Citations, citations_of};
-use crate::directions::mask_of;
+use crate::circles::{Circles, circles_of};
+use crate::directions::is_directed;
 use crate::index::{at, put};
 use crate::masks::{Directions, directions_of};
 use indexmap::IndexMap;
-use st_il::{Il, IlDef, RelationDef};
+use st_il::{Il, IlDef};
 use st_num::{Name, NoMemory};
 use std::alloc::Global;
-
-/// Whether a relation has a direction.
-fn has_direction(alloc: Global, relation: &RelationDef) -> Result<bool, NoMemory>
-    ensures { IfOk result (λ has. has ≡ is_some (direction relation.now)) }
-{
-    let mask = mask_of(alloc, relation)?;
-    Ok(mask.is_some())
-}
 
 /// Puts under the name of a relation whether it has a direction.
 fn put_relation<'a>(
@@ -34,8 +25,8 @@ fn put_relation<'a>(
 {
     match definition {
         IlDef::Relation(relation) => {
-            let has = has_direction(alloc, relation)?;
-            put(directed, &relation.name, has)
+            let is = is_directed(alloc, relation)?;
+            put(directed, &relation.name, is)
         }
         IlDef::Syntax(_) | IlDef::Var(_, _) | IlDef::Rule(_) | IlDef::Fun(_) | IlDef::Clause(_) => {
             Ok(())
@@ -60,7 +51,7 @@ fn directed(alloc: Global, il: &Il) -> Result<IndexMap<&Name, bool>, NoMemory>
 pub(crate) struct Relations<'a> {
     pub(crate) directions: Directions<'a>,
     directed: IndexMap<&'a Name, bool>,
-    pub(crate) citations: Citations<'a>,
+    pub(crate) circles: Circles<'a>,
 }
 
 /// The same of this internal language.
@@ -70,16 +61,16 @@ pub(crate) fn known_relations(alloc: Global, il: &Il) -> Result<Relations, NoMem
 {
     let directions = directions_of(alloc, il)?;
     let directed = directed(alloc, il)?;
-    let citations = citations_of(alloc, il)?;
+    let circles = circles_of(alloc, il)?;
     Ok(Relations {
         directions,
         directed,
-        citations,
+        circles,
     })
 }
 
 /// Whether the relation of a name is declared and has a direction.
-pub(crate) fn is_directed(relations: &Relations, name: &Name) -> bool
+pub(crate) fn has_direction(relations: &Relations, name: &Name) -> bool
     ensures { result ≡ is_directed relations.now name.now }
 {
     match at(&relations.directed, name) {

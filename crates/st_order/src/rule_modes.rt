@@ -7,9 +7,9 @@ ghost use Rattle.st_semantics.specs.Variables.{cites, has_otherwise, have_otherw
 ghost use Rattle.st_order.specs.inner.Index.{names_in};
 ghost use Rattle.st_order.specs.inner.Breaches.{breaks_m1, breaks_m2, breaks_m5, rule_breach};
 
-use crate::citations::is_circular;
+use crate::circles::is_circular;
 use crate::index::has;
-use crate::relations::{Relations, is_directed};
+use crate::relations::{Relations, has_direction};
 use indexmap::IndexSet;
 use st_il::{IlPrem, RuleDef};
 use st_num::{Name, RuleId};
@@ -64,14 +64,14 @@ pub(crate) fn have_otherwise(prems: &[IlPrem]) -> bool
 fn breaks_m1(relations: &Relations, rule: &RuleDef) -> bool
     ensures { result ≡ breaks_m1 relations.now rule.now }
 {
-    have_otherwise(rule.premises.as_slice()) && !is_directed(relations, &rule.relation)
+    have_otherwise(rule.premises.as_slice()) && !has_direction(relations, &rule.relation)
 }
 
 /// Whether a rule with an `otherwise` is one of a relation that cites itself.
 fn breaks_m2(relations: &Relations, rule: &RuleDef) -> bool
     ensures { result ≡ breaks_m2 relations.now rule.now }
 {
-    have_otherwise(rule.premises.as_slice()) && is_circular(&relations.citations, &rule.relation)
+    have_otherwise(rule.premises.as_slice()) && is_circular(&relations.circles, &rule.relation)
 }
 
 /// Whether a rule cites a relation, and is one of those that have a rule with an `otherwise`

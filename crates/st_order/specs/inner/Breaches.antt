@@ -15,7 +15,7 @@ use Rattle.st_semantics.specs.Breaches.{Standing, standings, Breaks, KeepModes, 
 use Rattle.st_order.specs.declared.breaches.ModeBreach.{ModeBreach}
 use Rattle.st_order.specs.declared.relations.Relations.{Relations}
 use Rattle.st_order.specs.inner.Relations.{is_directed}
-use Rattle.st_order.specs.inner.Citations.{is_circular}
+use Rattle.st_order.specs.inner.Circles.{is_circular}
 
 -- ---- one definition
 
@@ -37,7 +37,7 @@ breaks_m1 relations rule =
 -- the rule breaks M2
 abbrev pub breaks_m2 : Relations → RuleDef → Bool
 breaks_m2 relations rule =
-    have_otherwise rule.premises && is_circular relations.citations rule.relation
+    have_otherwise rule.premises && is_circular relations.circles rule.relation
 
 -- the rule breaks M5, where these relations have a rule with an `otherwise` behind it
 abbrev pub breaks_m5 : List Name → RuleDef → Bool

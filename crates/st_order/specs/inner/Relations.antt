@@ -12,7 +12,7 @@ use Rattle.st_semantics.specs.Directions.{direction}
 use Rattle.st_order.specs.declared.relations.Relations.{Relations}
 use Rattle.st_order.specs.inner.Index.{at}
 use Rattle.st_order.specs.inner.Masks.{AreDirections}
-use Rattle.st_order.specs.inner.Citations.{AreCitations}
+use Rattle.st_order.specs.inner.Circles.{AreCircles}
 
 -- whether the first relation of a name among these definitions has a direction
 abbrev pub directed_among : List IlDef → Name → Option Bool
@@ -38,4 +38,4 @@ is_directed r name = unwrap_or (at r.directed.entries name) false
 pub record AreRelations (r : Relations) : Type 0 where
   pub directions : AreDirections r.directions
   pub directed : AreDirected r.directions.il.now r.directed.entries
-  pub citations : AreCitations r.directions.il.now r.citations
+  pub circles : AreCircles r.directions.il.now r.circles

@@ -6,7 +6,7 @@
 ghost use Rattle.std.specs.Prelude.{◌≡◌, ◌++◌, [], length, map, replicate, slice_get, option_to_list, OnOk, IfOk};
 ghost use Rattle.st_semantics.specs.ModeRules.{Relation, Function, cited_by_rule, cited_by_clause};
 ghost use Rattle.st_order.specs.inner.Index.{names_in};
-ghost use Rattle.st_order.specs.inner.Citations.{cited_in, number_of, numbers_of, count_of, with_citations, all_citations, are_same, leads_back, is_circular, AreCitations};
+ghost use Rattle.st_order.specs.inner.Circles.{cited_in, number_of, numbers_of, count_of, with_citations, all_citations, are_same, leads_back, is_circular, AreCircles};
 
 use crate::citers::{Citers, citers_of, count_of, function_number, owner_number, relation_number};
 use crate::citing::{push_clause_functions, push_relations, push_rule_functions};
@@ -153,22 +153,22 @@ fn rows_of(alloc: Global, citers: &Citers, defs: &[IlDef]) -> Result<Vec<Row<usi
 
 /// What cites what, and the numbers of the components of these citations.
 #[derive(Drop)]
-pub(crate) struct Citations<'a> {
+pub(crate) struct Circles<'a> {
     citers: Citers<'a>,
     rows: Vec<Row<usize>>,
     numbers: Vec<usize>,
 }
 
 /// What the rules and clauses of an internal language cite. Each citation is followed once.
-pub(crate) fn citations_of(alloc: Global, il: &Il) -> Result<Citations, NoMemory>
-    ensures { IfOk result (AreCitations il.now) }
+pub(crate) fn circles_of(alloc: Global, il: &Il) -> Result<Circles, NoMemory>
+    ensures { IfOk result (AreCircles il.now) }
 {
     let defs = il.defs.as_slice();
     let citers = citers_of(alloc, defs)?;
     let rows = rows_of(alloc, &citers, defs)?;
     let components = numbering(alloc, &rows)?;
     let Components { numbers, .. } = components;
-    Ok(Citations {
+    Ok(Circles {
         citers,
         rows,
         numbers,
@@ -198,14 +198,14 @@ fn leads_back(numbers: &[usize], node: usize, row: &[usize]) -> bool
 }
 
 /// Whether a relation cites itself, directly or through others.
-pub(crate) fn is_circular(citations: &Citations, name: &Name) -> bool
-    ensures { result ≡ is_circular citations.now name.now }
+pub(crate) fn is_circular(circles: &Circles, name: &Name) -> bool
+    ensures { result ≡ is_circular circles.now name.now }
 {
-    let Some(node) = relation_number(&citations.citers, name) else {
+    let Some(node) = relation_number(&circles.citers, name) else {
         return false;
     };
-    match citations.rows.get(node) {
-        Some(row) => leads_back(&citations.numbers, node, row.as_slice()),
+    match circles.rows.get(node) {
+        Some(row) => leads_back(&circles.numbers, node, row.as_slice()),
         None => false,
     }
 }

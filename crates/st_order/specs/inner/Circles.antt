@@ -7,7 +7,7 @@ use Rattle.st_il.specs.declared.definition.IlDef.TheVariants as def
 use Rattle.st_semantics.specs.Names.{Name, has_name}
 use Rattle.st_semantics.specs.ModeRules.{Citer, Relation, Function, cited_by_rule, cited_by_clause, Leads}
 use Rattle.st_order.specs.declared.citers.Citers.{Citers}
-use Rattle.st_order.specs.declared.citations.Citations.{Citations}
+use Rattle.st_order.specs.declared.circles.Circles.{Circles}
 use Rattle.st_order.specs.inner.Index.{names_in, number_in}
 
 -- ---- numbers
@@ -89,11 +89,11 @@ is_circular_at rows numbers (Some node) =
     leads_back numbers node (unwrap_or (slice_get rows node) [])
 
 -- an edge leads from a relation to its own component
-abbrev pub is_circular : Citations → Name → Bool
+abbrev pub is_circular : Circles → Name → Bool
 is_circular c name =
     is_circular_at c.rows.items c.numbers.items (number_of c.citers (Relation name))
 
 -- it does where the relation cites itself, directly or through others
-abbrev pub AreCitations : Il → Citations → Type 0
-AreCitations il c =
+abbrev pub AreCircles : Il → Circles → Type 0
+AreCircles il c =
     (name : Name) → (is_circular c name ≡ true) ↔ Leads il (Relation name) (Relation name)
