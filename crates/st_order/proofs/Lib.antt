@@ -6,6 +6,7 @@ pub mod LengthParts
 pub mod Running
 pub mod OneOpen
 pub mod ClauseParts
+pub mod CiterParts
 pub mod CircleParts
 pub mod DirectedParts
 pub mod BreachParts

@@ -25,8 +25,14 @@ fn add_citer<'a>(definition: &'a IlDef, citers: &mut Citers<'a>) -> Result<(), N
         → knows citers.new d ≡ true) }
 {
     match definition {
-        IlDef::Rule(rule) => add(&mut citers.relations, &rule.relation),
-        IlDef::Clause(clause) => add(&mut citers.functions, &clause.fun),
+        IlDef::Rule(rule) => {
+            add(&mut citers.relations, &rule.relation)?;
+            Ok(())
+        }
+        IlDef::Clause(clause) => {
+            add(&mut citers.functions, &clause.fun)?;
+            Ok(())
+        }
         IlDef::Syntax(_) | IlDef::Var(_, _) | IlDef::Relation(_) | IlDef::Fun(_) => Ok(()),
     }
 }
