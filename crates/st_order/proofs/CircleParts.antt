@@ -18,8 +18,7 @@ use Rattle.st_il.specs.declared.definition.IlDef.{IlDef}
 use Rattle.st_il.specs.declared.definition.IlDef.TheVariants as def
 use Rattle.st_semantics.specs.Names.{Name, has_name, flattened}
 use Rattle.st_semantics.specs.Definitions.{rules_in, rules_from, clauses_in, clauses_from}
-use Rattle.st_semantics.specs.ModeRules.{Citer, Relation, Function, cited_by_rule, cited_by_clause, cited_by, Leads}
-use Rattle.st_semantics.specs.ModeRules.Leads as leads
+use Rattle.st_semantics.specs.ModeRules.{Citer, Relation, Function, cited_by_rule, cited_by_clause, cited_by, Leads, direct, through as by_way}
 use Rattle.st_order.specs.declared.citers.Citers.{Citers}
 use Rattle.st_order.specs.inner.Index.{names_in, number_in}
 use Rattle.st_order.specs.inner.Circles.{citer_of, cited_in, knows, KnowsAll, count_of, number_of, numbers_of, number_of_owner, with_row, with_citations, all_citations, are_same, leads_back, is_circular_at}
@@ -424,9 +423,12 @@ among-complete (x ∷ ds) a b (suc k) d e f s = stands-right (if is_citer a x th
 
 -- ---- the graph of all definitions
 
+abbrev no_numbers : List ℕ
+no_numbers = []
+
 module _ (il : Il) (c : Citers) (knows_all : KnowsAll c il.defs) (rows : List (List ℕ)) (rows_is : rows ≡ all_citations c (replicate (count_of c) []) il.defs) where
-  start : length (replicate (count_of c) []) ≡ count_of c
-  start = length-replicate {A = List ℕ} (count_of c) []
+  start : length (replicate (count_of c) no_numbers) ≡ count_of c
+  start = length-replicate (count_of c) no_numbers
 
   size : length rows ≡ count_of c
   size = ap length rows_is ∙ all-size c il.defs (replicate (count_of c) []) start
@@ -463,23 +465,23 @@ module _ (il : Il) (c : Citers) (knows_all : KnowsAll c il.defs) (rows : List (L
       by : CitedIn il.defs a b → (i : ℕ) × (number_of c a ≡ Some i)
       by (d, (t, (of_a, u))) = known-citer c d a (knows_all d (stands-contains il.defs d t)) of_a
 
-  pub edges-within : IsWithin rows
-  edges-within i j edge =
+  pub edges_within : IsWithin rows
+  edges_within i j edge =
       let s = edge-sound i j edge in
       let l = citer_below c s.1.0 j s.1.1.1.0 in
       let e = size in omega (arith, l, e)
 
   lead-first : {a b : Citer} → Leads il a b → (x : Citer) × Stands (cited_by il a) x
-  lead-first {a} {b} (leads.direct h) = (b, contains-stands (cited_by il a) b h)
-  lead-first {a} {b} (leads.through m h more) = (m, contains-stands (cited_by il a) m h)
+  lead-first {a} {b} (direct h) = (b, contains-stands (cited_by il a) b h)
+  lead-first {a} {b} (by_way m h more) = (m, contains-stands (cited_by il a) m h)
 
   -- from one node an edge, and then a way to another
   abbrev Way : ℕ → ℕ → Type 0
   Way i j = (k : ℕ) × (Edge rows i k × Reaches (Edge rows) k j)
 
   lead-way : {a b : Citer} → Leads il a b → (i j : ℕ) → number_of c a ≡ Some i → number_of c b ≡ Some j → Way i j
-  lead-way {a} {b} (leads.direct h) i j e f = (j, (edge-complete a b i j e f (contains-stands (cited_by il a) b h), itself))
-  lead-way {a} {b} (leads.through m h more) i j e f = by (lead-way more) (number-first (lead-first more))
+  lead-way {a} {b} (direct h) i j e f = (j, (edge-complete a b i j e f (contains-stands (cited_by il a) b h), itself))
+  lead-way {a} {b} (by_way m h more) i j e f = by (lead-way more) (number-first (lead-first more))
     where
       number-first : (x : Citer) × Stands (cited_by il m) x → (k : ℕ) × (number_of c m ≡ Some k)
       number-first (x, s) = citer-number m x s
@@ -495,8 +497,8 @@ module _ (il : Il) (c : Citers) (knows_all : KnowsAll c il.defs) (rows : List (L
   way-lead k j (through y edge more) x b e f = by (way-lead y j more) (edge-sound k y edge)
     where
       on : (m : Citer) → Stands (cited_by il x) m → (m ≡ b) ⊎ Leads il m b → (x ≡ b) ⊎ Leads il x b
-      on m s (inl same) = inr (leads.direct (subst (λ z. Contains (cited_by il x) z) same (stands-contains (cited_by il x) m s)))
-      on m s (inr lead) = inr (leads.through m (stands-contains (cited_by il x) m s) lead)
+      on m s (inl same) = inr (direct (subst (λ z. Contains (cited_by il x) z) same (stands-contains (cited_by il x) m s)))
+      on m s (inr lead) = inr (by_way m (stands-contains (cited_by il x) m s) lead)
 
       by : ((x b : Citer) → number_of c x ≡ Some y → number_of c b ≡ Some j → (x ≡ b) ⊎ Leads il x b) → Cites k y → (x ≡ b) ⊎ Leads il x b
       by later (a, (m, (g, (h, s)))) = on m (subst (λ z. Stands (cited_by il z) m) (one_citer c a x k g e) s) (later m b h f)
@@ -507,7 +509,7 @@ module _ (il : Il) (c : Citers) (knows_all : KnowsAll c il.defs) (rows : List (L
 
     falls-along : (k j : ℕ) → Reaches (Edge rows) k j → (p q : ℕ) → slice_get numbers k ≡ Some p → slice_get numbers j ≡ Some q → q ≤ p
     falls-along k j itself p q e f = let same : p ≡ q = get-same numbers k p q e f in omega (arith, same)
-    falls-along k j (through y edge more) p q e f = by (falls-along y j more) (number-at y (edges-within k y edge))
+    falls-along k j (through y edge more) p q e f = by (falls-along y j more) (number-at y (edges_within k y edge))
       where
         by : ((p q : ℕ) → slice_get numbers y ≡ Some p → slice_get numbers j ≡ Some q → q ≤ p) → (d : ℕ) × (slice_get numbers y ≡ Some d) → q ≤ p
         by later (d, g) =
@@ -530,8 +532,8 @@ module _ (il : Il) (c : Citers) (knows_all : KnowsAll c il.defs) (rows : List (L
       sound-at i e row r h = by (any-stands (λ (to : ℕ). are_same (slice_get numbers to) (slice_get numbers i)) row h)
         where
           on : (b : Citer) → Stands (cited_by il (Relation name)) b → (b ≡ Relation name) ⊎ Leads il b (Relation name) → Leads il (Relation name) (Relation name)
-          on b s (inl same) = leads.direct (subst (λ z. Contains (cited_by il (Relation name)) z) same (stands-contains (cited_by il (Relation name)) b s))
-          on b s (inr lead) = leads.through b (stands-contains (cited_by il (Relation name)) b s) lead
+          on b s (inl same) = direct (subst (λ z. Contains (cited_by il (Relation name)) z) same (stands-contains (cited_by il (Relation name)) b s))
+          on b s (inr lead) = by_way b (stands-contains (cited_by il (Relation name)) b s) lead
 
           cited : (k : ℕ) → Reaches (Edge rows) k i → Cites i k → Leads il (Relation name) (Relation name)
           cited k back (a, (b, (g, (f, s)))) =
@@ -552,7 +554,7 @@ module _ (il : Il) (c : Citers) (knows_all : KnowsAll c il.defs) (rows : List (L
 
       complete-at : (i : ℕ) → number_of c (Relation name) ≡ Some i → Way i i → is_circular_at rows numbers (Some i) ≡ true
       complete-at i e (k, ((row, (r, (m, s))), back)) =
-          at (number-at i (get-within rows i row r)) (number-at k (edges-within i k (row, (r, (m, s)))))
+          at (number-at i (get-within rows i row r)) (number-at k (edges_within i k (row, (r, (m, s)))))
         where
           at : (p : ℕ) × (slice_get numbers i ≡ Some p) → (q : ℕ) × (slice_get numbers k ≡ Some q) → is_circular_at rows numbers (Some i) ≡ true
           at (p, f) (q, g) =

@@ -10,6 +10,7 @@ pub mod CiterParts
 pub mod CircleParts
 pub mod DirectedParts
 pub mod BreachParts
+pub mod FewParts
 pub mod BoundParts
 pub mod HoleParts
 pub mod NamesIn

@@ -11,3 +11,4 @@ pub mod Lengths
 pub mod Circles
 pub mod Relations
 pub mod Breaches
+pub mod Few

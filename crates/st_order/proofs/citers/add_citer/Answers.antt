@@ -8,8 +8,8 @@ returns-in_ok-add-in-Rule c =
     let now : Citers = record { relations = c.add.new.names; functions = c.args.citers.now.functions } in
     let old = names_in c.args.citers.now.relations.keys in
     let new = names_in c.add.new.names.keys in record {
-      new = knows_rule now c.args.definition.now c.in-Rule.rule c.in-Rule.is (has_new old new c.in-Rule.rule.relation c.in_ok-add.ensures);
-      old = knows_kept c.args.citers.now now (has_more old new c.in-Rule.rule.relation c.in_ok-add.ensures) (λ q h. h);
+      new = knows_rule now c.args.definition.now c.in-Rule.rule c.in-Rule.is (has_new old new c.in-Rule.rule.relation c.in_ok-add-in-Rule.ensures);
+      old = knows_kept c.args.citers.now now (has_more old new c.in-Rule.rule.relation c.in_ok-add-in-Rule.ensures) (λ q h. h);
     }
 
 pub returns-in_ok-add-in-Clause : goal.returns-in_ok-add-in-Clause
