@@ -51,9 +51,9 @@ module _ (defs : List IlDef) (i : ℕ) (d : IlDef) (h : i < length defs) (is : d
 
   -- this one has few
   pub few_next : has ≡ true → AllHaveFew defs ↔ AllHaveFew (drop (i + 1) defs)
-  few_next yes = (
+  few_next this = (
     λ all. all_tail d (drop (i + 1) defs) (subst AllHaveFew front (inv.0 all)),
-    λ all. inv.1 (subst AllHaveFew (sym front) (all_cons d (drop (i + 1) defs) (few.0 yes) all)),
+    λ all. inv.1 (subst AllHaveFew (sym front) (all_cons d (drop (i + 1) defs) (few.0 this) all)),
   )
 
   -- it has not

@@ -14,4 +14,4 @@ returns-then-not-has c after are =
 pub returns-in_ok-add-in-Rule : goal.returns-in_ok-add-in-Rule
 returns-in_ok-add-in-Rule c after are =
     subst (λ (d : IlDef). AreDecided (names_in c.add.new.names.keys) (d ∷ after)) (sym c.in-Rule.is)
-    (decided_more c.in-Rule.rule after (names_in c.args.decided.now.keys) (names_in c.add.new.names.keys) (ap have_otherwise (sym c.as_slice.ensures) ∙ sym c.have_otherwise-has.ensures ∙ c.if-not-has.false) c.in_ok-add.ensures are)
+    (decided_more c.in-Rule.rule after (names_in c.args.decided.now.keys) (names_in c.add.new.names.keys) (ap have_otherwise (sym c.as_slice.ensures) ∙ sym c.have_otherwise-has.ensures ∙ c.if-not-has.false) c.in_ok-add-in-Rule.ensures are)

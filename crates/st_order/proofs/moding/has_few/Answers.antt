@@ -1,4 +1,4 @@
-use Rattle.std.proofs.Common.{subst, ◌<◌, ◌^◌, length}
+use Rattle.std.proofs.Common.{refl, subst, ◌<◌, ◌^◌, length}
 use Rattle.std.specs.Prelude.{◌↔◌, IsTrue, false}
 use Rattle.st_order.specs.inner.Few.{AllHaveFew}
 use Rattle.st_order.proofs.FewParts.{few_next, few_not, few_end}
@@ -20,4 +20,4 @@ returns-then-not-has c =
 
 pub returns : goal.returns
 returns c =
-    few_end c.args.il.now.defs c.as_slice-defs.result.now c.loop-definition.definition-index c.are_few.result c.len.result c.as_slice-defs.ensures c.len.ensures c.loop-definition-test.false c.are_few.ensures c.loop-definition.invariant
+    few_end c.args.il.now.defs c.as_slice-defs.result.now c.loop-definition.definition-index c.are_few.result (length c.as_slice-defs.result.now) c.as_slice-defs.ensures refl c.loop-definition-test.false c.are_few.ensures c.loop-definition.invariant
