@@ -13,3 +13,4 @@ pub mod LeastName
 pub mod RuleParts
 pub mod EndingParts
 pub mod MaskAmong
+pub mod CalledParts

@@ -2,6 +2,7 @@
 pub mod Index
 pub mod Masks
 pub mod Parts
+pub mod Citing
 pub mod HolesOf
 pub mod Classes
 pub mod Selections
