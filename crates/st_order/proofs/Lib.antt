@@ -13,4 +13,3 @@ pub mod LeastName
 pub mod RuleParts
 pub mod EndingParts
 pub mod MaskAmong
-pub mod CalledParts

@@ -2,7 +2,6 @@
 pub mod Index
 pub mod Masks
 pub mod Parts
-pub mod Citing
 pub mod HolesOf
 pub mod Classes
 pub mod Selections

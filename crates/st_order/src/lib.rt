@@ -10,7 +10,6 @@
 #![tactic(auto)]
 
 mod bindings;
-mod citing;
 mod class;
 mod directed;
 mod directions;
