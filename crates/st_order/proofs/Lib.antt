@@ -1,6 +1,7 @@
 pub mod Holes
 pub mod Following
 pub mod VariableParts
+pub mod CalledParts
 pub mod BoundParts
 pub mod HoleParts
 pub mod NamesIn

@@ -6,3 +6,4 @@ pub mod HolesOf
 pub mod Classes
 pub mod Selections
 pub mod Endings
+pub mod Citing

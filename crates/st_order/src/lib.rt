@@ -10,6 +10,7 @@
 #![tactic(auto)]
 
 mod bindings;
+mod citing;
 mod class;
 mod directed;
 mod directions;
