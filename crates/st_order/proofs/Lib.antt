@@ -14,3 +14,4 @@ pub mod LeastName
 pub mod RuleParts
 pub mod EndingParts
 pub mod MaskAmong
+pub mod HasWalked

@@ -7,3 +7,4 @@ pub mod Classes
 pub mod Selections
 pub mod Endings
 pub mod Citing
+pub mod Reaching

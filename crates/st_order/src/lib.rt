@@ -20,6 +20,7 @@ mod least;
 mod masks;
 mod moding;
 mod order;
+mod reaching;
 mod relation_modes;
 mod rules;
 mod selection;

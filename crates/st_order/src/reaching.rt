@@ -12,16 +12,6 @@ use std::alloc::Global;
 /// The names that stand under names.
 pub(crate) type Cited<'a> = IndexMap<&'a Name, Row<&'a Name>>;
 
-/// The names that stand under a name.
-pub(crate) fn cited_under<'m, 'a>(cited: &'m Cited<'a>, name: &'m Name) -> &'m [&'a Name]
-    ensures { names_in result.now ≡ cited_under cited.now.entries name.now }
-{
-    match at(cited, name) {
-        Some(names) => names.as_slice(),
-        None => &[],
-    }
-}
-
 /// Adds a name behind the others, unless it is there.
 fn grow_by<'a>(found: &mut IndexSet<&'a Name>, name: &'a Name) -> Result<(), NoMemory>
     ensures { OnOk result
@@ -42,6 +32,21 @@ fn grow<'a>(found: &mut IndexSet<&'a Name>, more: &[&'a Name]) -> Result<(), NoM
     Ok(())
 }
 
+/// Adds those names behind the others that stand under a name, and are not there.
+fn grow_under<'a>(
+    cited: &Cited<'a>,
+    name: &Name,
+    found: &mut IndexSet<&'a Name>,
+) -> Result<(), NoMemory>
+    ensures { OnOk result (Grows (names_in found.old.keys) (cited_under cited.now.entries name.now)
+        (names_in found.new.keys)) }
+{
+    match at(cited, name) {
+        Some(names) => grow(found, names.as_slice()),
+        None => Ok(()),
+    }
+}
+
 /// The name at a position.
 fn name_at<'a>(found: &IndexSet<&'a Name>, position: usize) -> &'a Name
     requires { position < length found.now.keys }
@@ -50,21 +55,23 @@ fn name_at<'a>(found: &IndexSet<&'a Name>, position: usize) -> &'a Name
     found.as_slice()[position]
 }
 
-/// The names that are reached from some over what stands under each.
+/// The names that are reached from those that stand first under a name, over what is cited under
+/// each.
 pub(crate) fn reached<'a>(
     alloc: Global,
+    first: &Cited<'a>,
     cited: &Cited<'a>,
-    start: &[&'a Name],
+    name: &Name,
 ) -> Result<IndexSet<&'a Name>, NoMemory>
-    ensures { IfOk result (λ found. AreReached (names_in start.now) (cited_under cited.now.entries)
-        (names_in found.keys)) }
+    ensures { IfOk result (λ found. AreReached (cited_under first.now.entries name.now)
+        (cited_under cited.now.entries) (names_in found.keys)) }
 {
     let mut found = IndexSet::new(alloc);
-    grow(&mut found, start)?;
+    grow_under(first, name, &mut found)?;
     let mut front = 0;
     'walk: while front < found.len() {
-        let name = name_at(&found, front);
-        grow(&mut found, cited_under(cited, name))?;
+        let met = name_at(&found, front);
+        grow_under(cited, met, &mut found)?;
         front += 1;
     }
     Ok(found)

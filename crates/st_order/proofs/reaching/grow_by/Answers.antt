@@ -1,4 +1,4 @@
-use Rattle.st_order.proofs.Reaching.{grows_by}
+use Rattle.st_order.proofs.HasWalked.{grows_by}
 use Rattle.st_order.proofs.reaching.grow_by.Goals as goal
 
 pub returns : goal.returns

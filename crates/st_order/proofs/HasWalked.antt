@@ -80,16 +80,16 @@ module _ (old : List Name) (name : Name) where
 
   fewer : has_name old name ≡ false → (all : List Name) → has_name all name ≡ true → unseen more all < unseen old all
   fewer none [] h = absurd (true≢false (sym h))
-  fewer none (a ∷ all) h = by (or_cases (bytes_eq name a) (has_name all name) h)
+  fewer none (a ∷ all) h = by (or_cases (bytes_eq name a) (has_name all name) h) (fewer none all)
     where
-      by : (bytes_eq name a ≡ true) ⊎ (has_name all name ≡ true) → unseen more (a ∷ all) < unseen old (a ∷ all)
-      by (inl e) =
+      by : (bytes_eq name a ≡ true) ⊎ (has_name all name ≡ true) → (has_name all name ≡ true → unseen more all < unseen old all) → unseen more (a ∷ all) < unseen old (a ∷ all)
+      by (inl e) deeper =
           let same : name ≡ a = (bytes_eq-Decides name a).0 e in
           step_here (has_name more a) (has_name old a) a (without more all) (without old all)
           (has_right old (name ∷ []) a (ap (has_name (name ∷ [])) (sym same) ∙ has_itself [] name))
           (ap (has_name old) (sym same) ∙ none) (not_more all)
-      by (inr g) =
-          step_lt (has_name more a) (has_name old a) a (without more all) (without old all) (has_left old (name ∷ []) a) (fewer none all g)
+      by (inr g) deeper =
+          step_lt (has_name more a) (has_name old a) a (without more all) (without old all) (has_left old (name ∷ []) a) (deeper g)
 
 -- ---- names are added
 
@@ -170,13 +170,17 @@ within_at (y ∷ ys) zero x h = omega arith
 within_at (y ∷ ys) (suc n) x h = let more = within_at ys n x h in omega arith
 
 module _ (start : List Name) (cited : Name → List Name) where
-  pub begins : (names : List Name) → Grows [] start names → HasWalked start cited 0 names
+  begins : (names : List Name) → Grows [] start names → HasWalked start cited 0 names
   begins names g = record {
     sound = λ q h. first (sym (g.same q) ∙ h);
     begun = λ q h. g.same q ∙ h;
     closed = λ p q h e. absurd (true≢false (sym h));
     within = omega arith;
   }
+
+  -- the first names are added to none
+  pub begins_with : (keys : List (Bor (List ℕ))) (names : List Name) → keys ≡ [] → Grows (names_in keys) start names → HasWalked start cited 0 names
+  begins_with keys names none g = begins names (subst (λ z. Grows (names_in z) start names) none g)
 
   pub goes_on : (front : ℕ) (names new : List Name) (x : Name) → HasWalked start cited front names → slice_get names front ≡ Some x → Grows names (cited x) new
       → HasWalked start cited (front + 1) new
@@ -221,11 +225,12 @@ has_flattened xs more q h = has_right xs (flattened more) q h
 
 pub among_all : (entries : Entries) (p q : Name) → has_name (cited_under entries p) q ≡ true → has_name (all_cited entries) q ≡ true
 among_all [] p q h = h
-among_all (e ∷ es) p q h = by (bytes_eq p e.0.now) h
+among_all (e ∷ es) p q h = by (bytes_eq p e.0.now) h (among_all es p q)
   where
-    by : (b : Bool) → has_name (names_in (unwrap_or (if b then Some e.1 else at es p) [])) q ≡ true → has_name (all_cited (e ∷ es)) q ≡ true
-    by true g = has_left (names_in e.1) (all_cited es) q g
-    by false g = has_right (names_in e.1) (all_cited es) q (among_all es p q g)
+    by : (b : Bool) → has_name (names_in (unwrap_or (if b then Some e.1 else at es p) [])) q ≡ true
+        → (has_name (cited_under es p) q ≡ true → has_name (all_cited es) q ≡ true) → has_name (all_cited (e ∷ es)) q ≡ true
+    by true g deeper = has_left (names_in e.1) (all_cited es) q g
+    by false g deeper = has_right (names_in e.1) (all_cited es) q (deeper g)
 
 -- less is left to be walked
 pub walk_falls : (entries : Entries) (front : ℕ) (names new : List Name) (x : Name) → front < length names → Grows names (cited_under entries x) new
