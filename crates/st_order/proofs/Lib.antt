@@ -15,3 +15,5 @@ pub mod RuleParts
 pub mod EndingParts
 pub mod MaskAmong
 pub mod HasWalked
+pub mod HasRead
+pub mod Sifted

@@ -8,3 +8,5 @@ pub mod Selections
 pub mod Endings
 pub mod Citing
 pub mod Reaching
+pub mod Citations
+pub mod Sifted

@@ -10,6 +10,7 @@
 #![tactic(auto)]
 
 mod bindings;
+mod citations;
 mod citing;
 mod class;
 mod directed;
