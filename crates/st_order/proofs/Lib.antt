@@ -17,3 +17,6 @@ pub mod MaskAmong
 pub mod HasWalked
 pub mod HasRead
 pub mod Sifted
+pub mod NeedsFun
+pub mod IsIndexed
+pub mod AreOrders

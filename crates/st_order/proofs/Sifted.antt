@@ -1,5 +1,5 @@
 -- The first of several members, found among those of which a fact holds.
-use Rattle.std.proofs.Common.{◌≡◌, refl, sym, ◌∙◌, ap, subst, ℕ, ◌+◌, ◌<◌, ◌≤◌, Bool, true, false, true≢false, if◌then◌else◌, List, [], ◌∷◌, ◌++◌, length, get_or, drop, Option, Some, None, All, find}
+use Rattle.std.proofs.Common.{◌≡◌, refl, sym, ◌∙◌, ap, subst, ℕ, ◌+◌, ◌<◌, ◌≤◌, Bool, true, false, true≢false, if◌then◌else◌, List, [], ◌∷◌, ◌++◌, length, get_or, drop, Option, Some, None, All, find, filter}
 use Rattle.std.specs.Borrow.{Bor}
 use Rattle.std.proofs.lemmas.List.Elements.{All-nil, All-cons}
 use Rattle.st_semantics.specs.Definitions.{IsFirst}
@@ -25,6 +25,15 @@ module _ {A : Type 0} (P : A → Type 0) where
   sifted_as Q to from none = none
   sifted_as Q to from (kept x xs ys g s) = kept x xs ys (to x g) (sifted_as Q to from s)
   sifted_as Q to from (left_out x xs ys g s) = left_out x xs ys (λ q. g (from x q)) (sifted_as Q to from s)
+
+  -- those that pass a test
+  pub sifted_by_test : (test : A → Bool) → ((x : A) → test x ≡ true → P x) → ((x : A) → P x → test x ≡ true) → (xs : List A) → Sifted P xs (filter test xs)
+  sifted_by_test test to from [] = none
+  sifted_by_test test to from (x ∷ xs) = by (test x) refl (sifted_by_test test to from xs)
+    where
+      by : (b : Bool) → test x ≡ b → Sifted P xs (filter test xs) → Sifted P (x ∷ xs) (if b then x ∷ filter test xs else filter test xs)
+      by true e s = kept x xs (filter test xs) (to x e) s
+      by false e s = left_out x xs (filter test xs) (λ h. true≢false (sym (from x h) ∙ e)) s
 
   -- ---- the first one that passes a test
 

@@ -10,3 +10,5 @@ pub mod Citing
 pub mod Reaching
 pub mod Citations
 pub mod Sifted
+pub mod Needs
+pub mod Orders

@@ -9,6 +9,7 @@
 //! order are, and `specs/Answers.antt`.
 #![tactic(auto)]
 
+mod all_orders;
 mod bindings;
 mod citations;
 mod citing;
@@ -17,9 +18,11 @@ mod directed;
 mod directions;
 mod fault;
 mod index;
+mod indexed;
 mod least;
 mod masks;
 mod moding;
+mod needs;
 mod order;
 mod reaching;
 mod relation_modes;
