@@ -37,7 +37,7 @@ named_behind relation (b ∷ bs) n = refl
 -- what is not empty, by its test
 pub not_empty : (b : Bool) (xs : Name) → IsTrue b ↔ (xs ≡ []) → b ≡ false → xs ≡ [] → ⊥
 not_empty true xs h e none = true≢false e
-not_empty false xs h e none = h.1 none
+not_empty false xs h e none = true≢false (sym (h.1 none))
 
 -- ---- one more rule
 

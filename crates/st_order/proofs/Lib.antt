@@ -20,3 +20,4 @@ pub mod Sifted
 pub mod NeedsFun
 pub mod IsIndexed
 pub mod AreOrders
+pub mod HasTold

@@ -12,3 +12,4 @@ pub mod Citations
 pub mod Sifted
 pub mod Needs
 pub mod Orders
+pub mod Marking

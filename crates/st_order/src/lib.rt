@@ -20,6 +20,7 @@ mod fault;
 mod index;
 mod indexed;
 mod least;
+mod marking;
 mod masks;
 mod moding;
 mod needs;

@@ -3,5 +3,5 @@ use Rattle.st_order.specs.inner.Parts.{all_now}
 use Rattle.st_order.specs.inner.Orders.{no_order}
 use Rattle.st_order.proofs.all_orders.no_orders.Given as goal
 
-abbrev pub invariant-loop-_rule : goal.invariant-loop-_rule
-invariant-loop-_rule l = l.orders ≡ map no_order (all_now (take l._rule-index l.rules))
+abbrev pub invariant-loop-rule : goal.invariant-loop-rule
+invariant-loop-rule l = l.orders ≡ map no_order (all_now (take l._rule-index l.rules))
