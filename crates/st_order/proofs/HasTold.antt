@@ -96,6 +96,6 @@ pub marks_next : (il : Il) (owns : List Own) (i : ℕ) (own : Own) (marks new : 
     → AllZip (HasUnfit il) (relations_told (take i owns)) marks → HasUnfit il own.relation.now mark → new ≡ marks ++ mark ∷ [] → AllZip (HasUnfit il) (relations_told (take (i + 1) owns)) new
 marks_next il owns i own marks new mark within is z h n =
     let next : relations_told (take (i + 1) owns) ≡ relations_told (take i owns) ++ own.relation.now ∷ [] =
-      ap relations_told (take_more owns i own within ∙ ap (λ z. take i owns ++ z ∷ []) (sym is)) ∙ map-append (λ (own : Own). own.relation.now) (take i owns) (own ∷ []) in
+    ap relations_told (take_more owns i own within ∙ ap (λ z. take i owns ++ z ∷ []) (sym is)) ∙ map-append (λ (own : Own). own.relation.now) (take i owns) (own ∷ []) in
     subst (λ ms. AllZip (HasUnfit il) (relations_told (take (i + 1) owns)) ms) (sym n)
     (subst (λ rs. AllZip (HasUnfit il) rs (marks ++ mark ∷ [])) (sym next) (zip_push (HasUnfit il) (relations_told (take i owns)) marks own.relation.now mark z h))

@@ -29,6 +29,7 @@ lacking_is : (il : Il) (c : Citations) (lacking : List FunDef) → HasRead il.de
 lacking_is il c lacking h is =
     subst (λ z. Sifted (HasNoClause il) (funs_in il.defs) z) (sym (is ∙ ap (filter (test c)) h.funs))
     (sifted_by_test (HasNoClause il) (test c) (λ f e. any_none (clauses_of il f.name) (sym (ap not (h.defined f.name)) ∙ e)) (λ f none. ap not (h.defined f.name ∙ ap is_any none)) (funs_in il.defs))
+
 pub is_indexed : (il : Il) (x : Indexed) → AreDirections x.directions → x.directions.il.now ≡ il → HasRead il.defs x.citations
     → all_now x.lacking ≡ filter (λ (f : FunDef). not (is_some (at x.citations.calls.entries f.name))) (all_now x.citations.funs) → HasFew il → IsIndexed x
 is_indexed il x d is read lacking few = record {

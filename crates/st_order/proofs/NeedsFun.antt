@@ -1,6 +1,8 @@
 -- What a relation needs is what is reached from its rules.
-use Rattle.std.proofs.Common.{◌≡◌, ◌≢◌, refl, sym, ◌∙◌, ap, ap₂, ℕ, zero, suc, ◌<◌, Bool, true, false, true≢false, ◌||◌, ◌&&◌, not, List, [], ◌∷◌, ◌++◌, map, length, Contains, slice_index_or, ◌↔◌, ◌⊎◌, inl, inr, bytes_eq, arith, Option, Some, None, find}
+use Rattle.std.proofs.Common.{◌≡◌, ◌≢◌, refl, sym, ◌∙◌, ap, ap₂, ℕ, zero, suc, ◌<◌, Bool, true, false, true≢false, ◌||◌, ◌&&◌, not, List, [], ◌∷◌, ◌++◌, map, length, Contains, slice_index_or, ◌↔◌, ◌⊎◌, inl, inr, bytes_eq, arith, Option, Some, None, find, IsTrue, nat_eq}
+use Rattle.std.specs.Borrow.{Bor}
 use Rattle.std.specs.List.{list_any}
+use Rattle.std.proofs.lemmas.Bool.{eqb-true}
 use Rattle.std.proofs.lemmas.List.Folds.{list_any-append}
 use Rattle.std.proofs.lemmas.Slice.Eq.{bytes_eq-Decides}
 use Rattle.st_il.specs.declared.definition.ClauseDef.{ClauseDef}
@@ -23,7 +25,7 @@ use Rattle.st_order.specs.inner.Sifted.{Sifted}
 use Rattle.st_order.specs.inner.Needs.{HasNoClause, IsIndexed, LacksFunction, NeedsMarked, is_other_in}
 use Rattle.st_order.proofs.NamesIn.{has_name_append}
 use Rattle.st_order.proofs.HasWalked.{or_cases, or_left, or_right, same_itself}
-use Rattle.st_order.proofs.Sifted.{none_first, first_found}
+use Rattle.st_order.proofs.Sifted.{none_sifted, none_first, first_found}
 
 -- ---- members that pass a test which one alone passes
 
@@ -152,11 +154,24 @@ module _ (il : Il) (name : Name) (start : List Name) (cited : Name → List Name
     from_relation q (NeedsRelation.of_rule c) = first (has_as (cited_by_relation name il.defs) start q (sym first_is) ((relation_cites q il name).1 c))
     from_relation q (NeedsRelation.of_needed p n c) = next p (from_relation p n) (has_as (cited_by_relation p il.defs) (cited p) q (sym (next_is p)) ((relation_cites q il p).1 c))
 
+no_length : {A : Type 0} (xs : List A) → nat_eq (length xs) 0 ≡ true → xs ≡ []
+no_length [] h = refl
+no_length (x ∷ xs) h = let none : length (x ∷ xs) ≡ 0 = eqb-true (length (x ∷ xs)) 0 h in absurd (omega arith)
+
 -- ---- what is found of them
 
 module _ (x : Indexed) (h : IsIndexed x) where
   abbrev il : Il
   il = x.directions.il.now
+
+  -- where each function has clauses
+  pub lacks_nothing : (name : Name) (b : Bool) → IsTrue b ↔ (x.lacking ≡ []) → b ≡ true → LacksFunction il name None
+  lacks_nothing name b empty e = none_sifted (HasNoClause il) (LacksClauses il name) (λ f r. r.1) h.lacking (ap all_now (empty.0 e))
+
+  -- where no relation has a mark of its own
+  pub needs_nothing : (relation : RelationDef) (b : Bool) (marked : List (Bor RelationDef)) → Sifted (IsUnfit il) (relations il) (all_now marked) → b ≡ nat_eq (length marked) 0 → b ≡ true
+      → NeedsMarked il relation None
+  needs_nothing relation b marked sifted is e = none_sifted (IsUnfit il) (NeedsUnfit il relation) (λ r n. n.2) sifted (ap all_now (no_length marked (sym is ∙ e)))
 
   module _ (name : Name) (names : List Name) (reached : AreReached (cited_under x.citations.called.entries name) (cited_under x.citations.calls.entries) names) where
     fun_to : (q : Name) → has_name names q ≡ true → NeedsFun il name q
@@ -180,7 +195,7 @@ module _ (x : Indexed) (h : IsIndexed x) where
     )
 
   module _ (relation : RelationDef) (names : List Name) (reached : AreReached (cited_under x.citations.cited.entries relation.name) (cited_under x.citations.cited.entries) names)
-    (marked : List RelationDef) (sifted : Sifted (IsUnfit il) (relations il) marked) where
+      (marked : List RelationDef) (sifted : Sifted (IsUnfit il) (relations il) marked) where
     relation_to : (q : Name) → has_name names q ≡ true → NeedsRelation il relation.name q
     relation_to q e =
         to_relation il relation.name (cited_under x.citations.cited.entries relation.name) (cited_under x.citations.cited.entries) (h.read.cited relation.name) h.read.cited q ((reached q).0 e)

@@ -35,6 +35,12 @@ module _ {A : Type 0} (P : A → Type 0) where
       by true e s = kept x xs (filter test xs) (to x e) s
       by false e s = left_out x xs (filter test xs) (λ h. true≢false (sym (from x h) ∙ e)) s
 
+  -- where none is left, it holds of none
+  pub none_sifted : (R : A → Type 0) → ((x : A) → R x → P x) → {xs ys : List A} → Sifted P xs ys → ys ≡ [] → All (λ x. R x → ⊥) xs
+  none_sifted R whole none e = All-nil (λ x. R x → ⊥)
+  none_sifted R whole (kept x xs ys g s) e = cc
+  none_sifted R whole (left_out x xs ys g s) e = All-cons (λ x. R x → ⊥) x xs (λ r. g (whole x r)) (none_sifted R whole s e)
+
   -- ---- the first one that passes a test
 
   module _ (R : A → Type 0) (test : A → Bool) (whole : (x : A) → R x → P x) (passes : (x : A) → R x → test x ≡ true) (holds : (x : A) → P x → test x ≡ true → R x) where

@@ -13,3 +13,8 @@ pub mod Sifted
 pub mod Needs
 pub mod Orders
 pub mod Marking
+pub mod Lengths
+pub mod Circles
+pub mod Relations
+pub mod Breaches
+pub mod Few

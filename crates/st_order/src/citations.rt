@@ -46,11 +46,7 @@ fn row_of<T>(alloc: Global, found: Option<Row<T>>) -> Row<T>
 }
 
 /// Adds a rule to those of its relation.
-fn add_rule<'a>(
-    alloc: Global,
-    rule: &'a RuleDef,
-    rules: &mut Rules<'a>,
-) -> Result<(), NoMemory>
+fn add_rule<'a>(alloc: Global, rule: &'a RuleDef, rules: &mut Rules<'a>) -> Result<(), NoMemory>
     ensures { OnOk result ((q : List ℕ) → rules_under rules.new.entries q
         ≡ rules_under rules.old.entries q
         ++ (if bytes_eq q rule.now.relation then rule.now ∷ [] else [])) }
@@ -63,11 +59,7 @@ fn add_rule<'a>(
 }
 
 /// Adds the functions that stand in a rule to those of its relation.
-fn add_called<'a>(
-    alloc: Global,
-    rule: &'a RuleDef,
-    called: &mut Cited<'a>,
-) -> Result<(), NoMemory>
+fn add_called<'a>(alloc: Global, rule: &'a RuleDef, called: &mut Cited<'a>) -> Result<(), NoMemory>
     ensures { OnOk result ((q : List ℕ) → cited_under called.new.entries q
         ≡ cited_under called.old.entries q
         ++ (if bytes_eq q rule.now.relation then functions_in_rule rule.now else [])) }
@@ -80,11 +72,7 @@ fn add_called<'a>(
 }
 
 /// Adds the relations that stand in a rule to those of its relation.
-fn add_cited<'a>(
-    alloc: Global,
-    rule: &'a RuleDef,
-    cited: &mut Cited<'a>,
-) -> Result<(), NoMemory>
+fn add_cited<'a>(alloc: Global, rule: &'a RuleDef, cited: &mut Cited<'a>) -> Result<(), NoMemory>
     ensures { OnOk result ((q : List ℕ) → cited_under cited.new.entries q
         ≡ cited_under cited.old.entries q
         ++ (if bytes_eq q rule.now.relation then relations_in_rule rule.now else [])) }

@@ -11,9 +11,13 @@
 
 mod all_orders;
 mod bindings;
+mod breaches;
+mod circles;
 mod citations;
+mod citers;
 mod citing;
 mod class;
+mod clause_modes;
 mod directed;
 mod directions;
 mod fault;
@@ -24,9 +28,13 @@ mod marking;
 mod masks;
 mod moding;
 mod needs;
+mod one_open;
+mod open_parts;
 mod order;
 mod reaching;
 mod relation_modes;
+mod relations;
+mod rule_modes;
 mod rules;
 mod selection;
 mod variables;

@@ -45,6 +45,9 @@ pub(crate) fn mark_by_functions(
     ensures { IfOk result (λ mark.
         LacksFunction indexed.now.directions.il.now relation.now.name mark) }
 {
+    if indexed.lacking.is_empty() {
+        return Ok(None);
+    }
     let citations = &indexed.citations;
     let name = &relation.name;
     let needed = reached(alloc, &citations.called, &citations.calls, name)?;
@@ -92,6 +95,9 @@ pub(crate) fn mark_by_relations(
     ensures { IfOk result (λ mark.
         NeedsMarked indexed.now.directions.il.now relation.now mark) }
 {
+    if unfit.is_empty() {
+        return Ok(None);
+    }
     let cited = &indexed.citations.cited;
     let needed = reached(alloc, cited, cited, &relation.name)?;
     match first_relation(&needed, &relation.name, unfit) {

@@ -8,6 +8,6 @@ use Rattle.st_order.proofs.indexed.index_il.Goals as goal
 pub returns : goal.returns
 returns c = (
   is_indexed c.args.il.now _ c.in_ok-directions.ensures.0 c.in_ok-directions.ensures.1 c.in_ok-citations.ensures
-  (c.in_ok-lacking.ensures ∙ ap (λ z. filter (λ (f : FunDef). not (is_some (at c.in_ok-citations.citations.calls.entries f.name))) (all_now z)) c.as_slice.ensures) c.requires,
+      (c.in_ok-lacking.ensures ∙ ap (λ z. filter (λ (f : FunDef). not (is_some (at c.in_ok-citations.citations.calls.entries f.name))) (all_now z)) c.as_slice.ensures) c.requires,
   c.in_ok-directions.ensures.1,
 )
