@@ -23,3 +23,10 @@ pub mod LeastName
 pub mod RuleParts
 pub mod EndingParts
 pub mod MaskAmong
+pub mod HasWalked
+pub mod HasRead
+pub mod Sifted
+pub mod NeedsFun
+pub mod IsIndexed
+pub mod AreOrders
+pub mod HasTold

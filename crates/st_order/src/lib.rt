@@ -9,9 +9,11 @@
 //! order are, and `specs/Answers.antt`.
 #![tactic(auto)]
 
+mod all_orders;
 mod bindings;
 mod breaches;
 mod circles;
+mod citations;
 mod citers;
 mod citing;
 mod class;
@@ -20,12 +22,16 @@ mod directed;
 mod directions;
 mod fault;
 mod index;
+mod indexed;
 mod least;
+mod marking;
 mod masks;
 mod moding;
+mod needs;
 mod one_open;
 mod open_parts;
 mod order;
+mod reaching;
 mod relation_modes;
 mod relations;
 mod rule_modes;
