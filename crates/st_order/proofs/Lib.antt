@@ -11,6 +11,7 @@ pub mod CircleParts
 pub mod DirectedParts
 pub mod BreachParts
 pub mod FewParts
+pub mod SteppingParts
 pub mod BoundParts
 pub mod HoleParts
 pub mod NamesIn
