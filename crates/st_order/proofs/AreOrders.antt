@@ -15,10 +15,10 @@ use Rattle.st_semantics.specs.Names.{Name}
 use Rattle.st_semantics.specs.Definitions.{rules_in, rules_from, rules_of, IsFirst}
 use Rattle.st_semantics.specs.Directions.{direction}
 use Rattle.st_semantics.specs.OrderOf.{order_of}
-use Rattle.st_semantics.specs.Marks.{rule_name_of, full_name, IsUnordered, AllOrdered, HasOwn}
+use Rattle.st_semantics.specs.Marks.{rule_name_of, full_name, IsUnordered, HasOwn}
 use Rattle.st_order.specs.declared.all_orders.Ordered.{Ordered}
 use Rattle.st_order.specs.declared.indexed.Indexed.{Indexed}
-use Rattle.st_order.specs.Modes.{order_in, orders_in}
+use Rattle.st_order.specs.Modes.{order_in}
 use Rattle.st_order.specs.inner.Index.{at}
 use Rattle.st_order.specs.inner.Parts.{all_now}
 use Rattle.st_order.specs.inner.Needs.{IsIndexed}

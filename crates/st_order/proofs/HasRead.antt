@@ -1,9 +1,6 @@
 -- What stands under names once one more definition is read.
-use Rattle.std.proofs.Common.{◌≡◌, refl, sym, ◌∙◌, ap, ap₂, subst, ℕ, Bool, true, false, if◌then◌else◌, List, [], ◌∷◌, ◌++◌, append_assoc, append-nil, map, bytes_eq, Option, Some, None, is_some, ◌⊎◌, inl, inr}
-use Rattle.std.specs.Prelude.{unwrap_or}
-use Rattle.std.specs.Borrow.{Bor}
+use Rattle.std.proofs.Common.{◌≡◌, refl, sym, ◌∙◌, ap, ap₂, subst, Bool, true, false, if◌then◌else◌, List, [], ◌∷◌, ◌++◌, append_assoc, append-nil, map, bytes_eq, is_some, ◌⊎◌, inl, inr}
 use Rattle.std.proofs.lemmas.List.{map-append}
-use Rattle.std.proofs.lemmas.Slice.Eq.{bytes_eq-Decides}
 use Rattle.st_il.specs.declared.definition.ClauseDef.{ClauseDef}
 use Rattle.st_il.specs.declared.definition.FunDef.{FunDef}
 use Rattle.st_il.specs.declared.definition.IlDef.{IlDef}
@@ -18,9 +15,9 @@ use Rattle.st_order.specs.declared.citations.Citations.{Citations}
 use Rattle.st_order.specs.inner.Index.{at}
 use Rattle.st_order.specs.inner.Parts.{all_now}
 use Rattle.st_order.specs.inner.Citing.{functions_in_rule, functions_in_clause}
-use Rattle.st_order.specs.inner.Reaching.{Entries, cited_under}
+use Rattle.st_order.specs.inner.Reaching.{cited_under}
 use Rattle.st_order.specs.inner.Citations.{rules_under, relations_in_rule, is_any, called_by_relation, cited_by_relation, called_by_function, HasRead}
-use Rattle.st_order.proofs.RuleParts.{rules_head, all_now_append}
+use Rattle.st_order.proofs.RuleParts.{rules_head}
 use Rattle.st_order.proofs.VariableParts.{flattened_append}
 
 -- ---- lists of definitions, with one more

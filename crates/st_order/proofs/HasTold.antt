@@ -1,13 +1,12 @@
 -- What is told of relations, one after another, and the mark of each.
-use Rattle.std.proofs.Common.{◌≡◌, refl, sym, ◌∙◌, ap, ap₂, subst, ℕ, ◌+◌, ◌<◌, Bool, true, false, if◌then◌else◌, List, [], ◌∷◌, ◌++◌, append-nil, length, get_or, take, map, Option, Some, None, All, is_some}
-use Rattle.std.specs.Borrow.{Bor}
+use Rattle.std.proofs.Common.{◌≡◌, refl, sym, ◌∙◌, ap, ap₂, subst, ℕ, ◌+◌, ◌<◌, if◌then◌else◌, List, [], ◌∷◌, ◌++◌, append-nil, length, get_or, take, Option, Some, None, All, is_some}
 use Rattle.std.specs.List.{AllZip}
 use Rattle.std.proofs.lemmas.List.{map-append, take_more}
 use Rattle.std.proofs.lemmas.List.Elements.{All-nil, All-head, All-tail, All-push}
 use Rattle.st_il.specs.declared.definition.Il.{Il}
 use Rattle.st_il.specs.declared.definition.RelationDef.{RelationDef}
 use Rattle.st_semantics.specs.declared.unfit.Unfit.{Unfit}
-use Rattle.st_semantics.specs.Definitions.{relations, IsFirst}
+use Rattle.st_semantics.specs.Definitions.{IsFirst}
 use Rattle.st_semantics.specs.Marks.{HasOwn, IsUnfit, HasUnfit, IsUnordered, LacksClauses}
 use Rattle.st_order.specs.declared.marking.Own.{Own}
 use Rattle.st_order.specs.declared.marking.Told.{Told}

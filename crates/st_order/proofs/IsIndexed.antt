@@ -1,6 +1,5 @@
 -- What is looked up in an internal language is of it.
-use Rattle.std.proofs.Common.{◌≡◌, refl, sym, ◌∙◌, ap, subst, Bool, true, false, true≢false, not, List, [], ◌∷◌, filter, if◌then◌else◌, is_some}
-use Rattle.st_il.specs.declared.definition.ClauseDef.{ClauseDef}
+use Rattle.std.proofs.Common.{◌≡◌, refl, sym, ◌∙◌, ap, subst, Bool, true, true≢false, not, List, [], ◌∷◌, filter, is_some}
 use Rattle.st_il.specs.declared.definition.FunDef.{FunDef}
 use Rattle.st_il.specs.declared.definition.Il.{Il}
 use Rattle.st_semantics.specs.Definitions.{funs_in, clauses_of}

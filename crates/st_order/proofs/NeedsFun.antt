@@ -1,5 +1,5 @@
 -- What a relation needs is what is reached from its rules.
-use Rattle.std.proofs.Common.{◌≡◌, ◌≢◌, refl, sym, ◌∙◌, ap, ap₂, ℕ, zero, suc, ◌<◌, Bool, true, false, true≢false, ◌||◌, ◌&&◌, not, List, [], ◌∷◌, ◌++◌, map, length, Contains, slice_index_or, ◌↔◌, ◌⊎◌, inl, inr, bytes_eq, arith, Option, Some, None, find, IsTrue, nat_eq}
+use Rattle.std.proofs.Common.{◌≡◌, refl, sym, ◌∙◌, ap, ap₂, ℕ, zero, suc, ◌<◌, Bool, true, false, true≢false, ◌||◌, ◌&&◌, not, List, [], ◌∷◌, ◌++◌, map, length, Contains, slice_index_or, ◌↔◌, ◌⊎◌, inl, inr, bytes_eq, arith, Some, None, find, IsTrue, nat_eq}
 use Rattle.std.specs.Borrow.{Bor}
 use Rattle.std.specs.List.{list_any}
 use Rattle.std.proofs.lemmas.Bool.{eqb-true}

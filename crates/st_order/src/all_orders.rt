@@ -1,9 +1,9 @@
 //! The orders of the rules of a relation.
 
-ghost use Rattle.std.specs.Prelude.{◌≡◌, ◌≢◌, ◌<◌, ◌^◌, ◌++◌, ◌∷◌, [], List, All, map, length, IfOk, OnOk, Some, None};
+ghost use Rattle.std.specs.Prelude.{◌≡◌, ◌<◌, ◌^◌, ◌++◌, ◌∷◌, [], List, All, map, length, IfOk, OnOk};
 ghost use Rattle.std.specs.Borrow.{Bor};
 ghost use Rattle.st_il.specs.declared.definition.RuleDef.{RuleDef};
-ghost use Rattle.st_semantics.specs.declared.unfit.Unfit.TheVariants.{U1, U2};
+ghost use Rattle.st_semantics.specs.declared.unfit.Unfit.TheVariants.{U2};
 ghost use Rattle.st_semantics.specs.Marks.{full_name};
 ghost use Rattle.st_order.specs.inner.Masks.{AreDirections};
 ghost use Rattle.st_order.specs.inner.Parts.{all_now};

@@ -1,5 +1,5 @@
 -- What is reached from names over citations, and how far a walk along them has come.
-use Rattle.std.specs.Prelude.{◌≡◌, ◌≤◌, ◌+◌, ◌↔◌, ℕ, true, List, [], ◌∷◌, ◌++◌, length, take, map, unwrap_or}
+use Rattle.std.specs.Prelude.{◌≡◌, ◌≤◌, ◌+◌, ◌↔◌, ℕ, true, List, [], ◌++◌, length, take, map, unwrap_or}
 use Rattle.std.specs.Borrow.{Bor}
 use Rattle.st_semantics.specs.Names.{Name, has_name, without, flattened}
 use Rattle.st_order.specs.inner.Index.{at, names_in, SameNames}

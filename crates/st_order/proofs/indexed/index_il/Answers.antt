@@ -1,4 +1,4 @@
-use Rattle.std.proofs.Common.{sym, ap, ◌∙◌, subst, filter, not, is_some}
+use Rattle.std.proofs.Common.{ap, ◌∙◌, filter, not, is_some}
 use Rattle.st_il.specs.declared.definition.FunDef.{FunDef}
 use Rattle.st_order.specs.inner.Index.{at}
 use Rattle.st_order.specs.inner.Parts.{all_now}
