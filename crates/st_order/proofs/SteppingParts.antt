@@ -1,5 +1,5 @@
 -- Whether the types at the inputs of a relation are those at its outputs, by its direction.
-use Rattle.std.proofs.Common.{◌≡◌, refl, sym, ◌∙◌, ap, ap₂, subst, Bool, true, false, List, Option, Some, None}
+use Rattle.std.proofs.Common.{◌≡◌, sym, ◌∙◌, ap₂, subst, Bool, true, false, List, Option, Some, None}
 use Rattle.std.specs.Prelude.{◌↔◌, IsTrue}
 use Rattle.std.proofs.lemmas.Bool.{false≢true}
 use Rattle.st_il.specs.declared.definition.Il.{Il}
