@@ -10,19 +10,19 @@
 #![tactic(auto)]
 
 mod bindings;
-mod class;
-mod directed;
+pub mod class;
+pub mod directed;
 mod directions;
 mod fault;
-mod index;
+pub mod index;
 mod least;
-mod masks;
+pub mod masks;
 mod moding;
 mod order;
 mod relation_modes;
-mod rules;
+pub mod rules;
 mod selection;
-mod variables;
+pub mod variables;
 
 pub use directions::direction;
 pub use fault::{ModeFault, OrderFault};
