@@ -1,5 +1,5 @@
 -- What stands under names, once one more is added.
-use Rattle.std.proofs.Common.{◌≡◌, refl, sym, ◌∙◌, ap, Bool, true, false, if◌then◌else◌, ℕ, List, [], ◌∷◌, ◌++◌, append-nil, Option, Some, None, bytes_eq}
+use Rattle.std.proofs.Common.{◌≡◌, refl, sym, ◌∙◌, ap, Bool, true, false, if◌then◌else◌, ℕ, List, [], ◌∷◌, ◌++◌, append-nil, ◌≤◌, length, drop, Option, Some, None, bytes_eq}
 use Rattle.std.specs.Prelude.{unwrap_or}
 use Rattle.std.specs.Borrow.{Bor}
 use Rattle.st_il.specs.declared.definition.ClauseDef.{ClauseDef}
@@ -11,24 +11,29 @@ use Rattle.st_semantics.specs.Definitions.{clauses_in, clauses_from, funs_in}
 use Rattle.st_semantics.proofs.Names.{bytes-path}
 use Rattle.st_order.specs.inner.Index.{at}
 use Rattle.st_order.specs.inner.Parts.{all_now}
+use Rattle.st_order.proofs.HoleParts.{drop_all}
 use Rattle.st_order.proofs.RuleParts.{all_now_append}
 use Rattle.st_algo.specs.inner.Groups.{members}
 
 -- what is put under a name, behind what was taken from there
-pub members_added : {A : Type 0} (old mid new : List (Bor (List ℕ) × List (Bor A))) (name : Bor (List ℕ)) (one : Bor A) (row more : List (Bor A)) (q : Bor (List ℕ))
-    → at new q.now ≡ (if bytes_eq q.now name.now then Some more else at mid q.now) → more ≡ row ++ one ∷ [] → all_now row ≡ members old name.now
-    → (bytes_eq q.now name.now ≡ false → at mid q.now ≡ at old q.now)
-    → members new q.now ≡ members old q.now ++ (if bytes_eq q.now name.now then one.now ∷ [] else [])
-members_added {A} old mid new name one row more q put m taken rest = by (bytes_eq q.now name.now) refl
+pub members_added : {A : Type 0} (old mid new : List (Bor (List ℕ) × List (Bor A))) (name : Name) (one : Bor A) (row more : List (Bor A)) (q : Name)
+    → at new q ≡ (if bytes_eq q name then Some more else at mid q) → more ≡ row ++ one ∷ [] → all_now row ≡ members old name
+    → at mid q ≡ (if bytes_eq q name then Some [] else at old q)
+    → members new q ≡ members old q ++ (if bytes_eq q name then one.now ∷ [] else [])
+members_added {A} old mid new name one row more q put m taken left = by (bytes_eq q name) refl
   where
-    by : (b : Bool) → bytes_eq q.now name.now ≡ b → members new q.now ≡ members old q.now ++ (if bytes_eq q.now name.now then one.now ∷ [] else [])
+    by : (b : Bool) → bytes_eq q name ≡ b → members new q ≡ members old q ++ (if bytes_eq q name then one.now ∷ [] else [])
     by true e =
-        ap (λ o. all_now (unwrap_or o [])) (put ∙ ap (λ c. if c then Some more else at mid q.now) e) ∙ ap all_now m ∙ all_now_append row (one ∷ [])
-        ∙ ap (λ z. z ++ one.now ∷ []) (taken ∙ ap (members old) (sym (bytes-path q.now name.now e)))
-        ∙ ap (λ c. members old q.now ++ (if c then one.now ∷ [] else [])) (sym e)
+        ap (λ o. all_now (unwrap_or o [])) (put ∙ ap (λ c. if c then Some more else at mid q) e) ∙ ap all_now m ∙ all_now_append row (one ∷ [])
+        ∙ ap (λ z. z ++ one.now ∷ []) (taken ∙ ap (members old) (sym (bytes-path q name e)))
+        ∙ ap (λ c. members old q ++ (if c then one.now ∷ [] else [])) (sym e)
     by false e =
-        ap (λ o. all_now (unwrap_or o [])) (put ∙ ap (λ c. if c then Some more else at mid q.now) e ∙ rest e) ∙ sym (append-nil (members old q.now))
-        ∙ ap (λ c. members old q.now ++ (if c then one.now ∷ [] else [])) (sym e)
+        ap (λ o. all_now (unwrap_or o [])) (put ∙ ap (λ c. if c then Some more else at mid q) e ∙ left ∙ ap (λ c. if c then Some [] else at old q) e)
+        ∙ sym (append-nil (members old q)) ∙ ap (λ c. members old q ++ (if c then one.now ∷ [] else [])) (sym e)
+
+-- all were added
+pub ended : {A B : Type 0} (f : List A → List B) → f [] ≡ [] → (xs : List A) (i : ℕ) (now whole : List B) → length xs ≤ i → now ++ f (drop i xs) ≡ whole → now ≡ whole
+ended f none xs i now whole h inv = sym (append-nil now) ∙ ap (λ z. now ++ z) (sym (ap f (drop_all xs i h) ∙ none)) ∙ inv
 
 -- ---- clauses and functions, definition by definition
 

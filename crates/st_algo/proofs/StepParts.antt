@@ -8,7 +8,7 @@ use Rattle.st_il.specs.declared.expression.IlPrem.{IlPrem, map-IlPrem, fold-IlPr
 use Rattle.st_il.specs.declared.expression.IlPrem.TheOpen.{IlPrem-F}
 use Rattle.st_il.specs.declared.expression.IlPrem.TheVariants as prem
 use Rattle.st_il.specs.declared.expression.Iteration.{Iteration}
-use Rattle.st_semantics.specs.Names.{Name, all_known, without}
+use Rattle.st_semantics.specs.Names.{Name, has_name, all_known, without}
 use Rattle.st_semantics.specs.Directions.{inputs_of, outputs_of}
 use Rattle.st_semantics.specs.Iterations.{index_of}
 use Rattle.st_semantics.specs.Variables.{vars, prem_vars}
@@ -81,3 +81,10 @@ module _ (bound : List Name) where
   condition_sides e left right x y s h is x_is y_is k =
       k ∙ ap₂ (step_of_sides bound e) x_is y_is
       ∙ sym (condition_unbound e h ∙ ap (step_of_equation bound e) (ap out-IlExp is ∙ exp.outs-Eq left right))
+
+-- ---- what is bound inside, by what was read of an iteration
+
+pub inside_read : (bound : List Name) (how : Iteration) (xs listed names : List Name) (body : IlPrem) (inside : List Name) → listed ≡ xs → names ≡ others how listed body
+    → SameNames inside (bound_inside bound how listed names) → SameNames inside (bound_inside bound how xs (others how xs body))
+inside_read bound how xs listed names body inside l n same q =
+    same q ∙ ap₂ (λ x y. has_name (bound_inside bound how x y) q) l (n ∙ ap (λ z. others how z body) l)

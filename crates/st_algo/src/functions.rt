@@ -63,7 +63,7 @@ fn clause_algorithms(
 }
 
 /// The algorithms of the clauses of all functions.
-fn all_functions(
+pub(crate) fn all_functions(
     alloc: Global,
     directions: &Directions,
 ) -> Result<Row<Row<Algorithm>>, NoMemory>

@@ -1,7 +1,6 @@
 //! Rules by the names of their relations, and clauses by those of their functions.
 
-ghost use Rattle.std.specs.Prelude.{◌≡◌, ◌++◌, ◌∷◌, [], ℕ, List, false, bytes_eq, if◌then◌else◌, IfOk, OnOk};
-ghost use Rattle.std.specs.Borrow.{Bor};
+ghost use Rattle.std.specs.Prelude.{◌≡◌, ◌++◌, ◌∷◌, [], ℕ, List, Some, bytes_eq, if◌then◌else◌, IfOk, OnOk};
 ghost use Rattle.st_semantics.specs.Definitions.{rules_of, rules_in, rules_from, clauses_of, clauses_in, clauses_from};
 ghost use Rattle.st_order.specs.inner.Index.{at};
 ghost use Rattle.st_order.specs.inner.Parts.{all_now};
@@ -16,15 +15,20 @@ use std::alloc::Global;
 /// What stands under each name, in order.
 pub(crate) type Groups<'a, T> = IndexMap<&'a Name, Row<&'a T>>;
 
-/// Takes out what stands under a name.
-fn taken<'a, T>(alloc: Global, name: &'a Name, groups: &mut Groups<'a, T>) -> Row<&'a T>
-    ensures row { all_now result ≡ members groups.old.entries name.now }
-    ensures rest { (q : Bor (List ℕ)) → bytes_eq q.now name.now ≡ false
-        → at groups.new.entries q.now ≡ at groups.old.entries q.now }
+/// Takes out what stands under a name, so that nothing is left there.
+fn take<'a, T>(
+    alloc: Global,
+    name: &'a Name,
+    groups: &mut Groups<'a, T>,
+) -> Result<Row<&'a T>, NoMemory>
+    ensures row { IfOk result (λ row. all_now row ≡ members groups.old.entries name.now) }
+    ensures rest { OnOk result ((q : List ℕ) → at groups.new.entries q
+        ≡ (if bytes_eq q name.now then Some [] else at groups.old.entries q)) }
 {
-    match groups.swap_remove(&name) {
-        Some(row) => row,
-        None => Row::new(alloc),
+    let old = groups.insert(name, Row::new(alloc))?;
+    match old {
+        Some(row) => Ok(row),
+        None => Ok(Row::new(alloc)),
     }
 }
 
@@ -35,13 +39,14 @@ fn add_under<'a, T>(
     one: &'a T,
     groups: &mut Groups<'a, T>,
 ) -> Result<(), NoMemory>
-    ensures { OnOk result ((q : Bor (List ℕ)) → members groups.new.entries q.now
-        ≡ members groups.old.entries q.now
-        ++ (if bytes_eq q.now name.now then one.now ∷ [] else [])) }
+    ensures { OnOk result ((q : List ℕ) → members groups.new.entries q
+        ≡ members groups.old.entries q
+        ++ (if bytes_eq q name.now then one.now ∷ [] else [])) }
 {
-    let mut row = taken(alloc, name, groups);
+    let mut row = take(alloc, name, groups)?;
     row.push(one)?;
-    put(groups, name, row)
+    put(groups, name, row)?;
+    Ok(())
 }
 
 /// What stands under a name, in order.
@@ -60,8 +65,8 @@ fn add_rule<'a>(
     definition: &'a IlDef,
     groups: &mut Groups<'a, RuleDef>,
 ) -> Result<(), NoMemory>
-    ensures { OnOk result ((q : Bor (List ℕ)) → members groups.new.entries q.now
-        ≡ members groups.old.entries q.now ++ rules_from q.now (rules_in (definition.now ∷ []))) }
+    ensures { OnOk result ((q : List ℕ) → members groups.new.entries q
+        ≡ members groups.old.entries q ++ rules_from q (rules_in (definition.now ∷ []))) }
 {
     match definition {
         IlDef::Rule(rule) => add_under(alloc, &rule.relation, rule, groups),
@@ -75,8 +80,8 @@ fn add_rule<'a>(
 
 /// The rules of an internal language by the names of their relations.
 pub(crate) fn rules_by_relation(alloc: Global, il: &Il) -> Result<Groups<RuleDef>, NoMemory>
-    ensures { IfOk result (λ groups. (q : Bor (List ℕ))
-        → members groups.entries q.now ≡ rules_of il.now q.now) }
+    ensures { IfOk result (λ groups. (q : List ℕ)
+        → members groups.entries q ≡ rules_of il.now q) }
 {
     let defs = il.defs.as_slice();
     let mut groups = IndexMap::new(alloc);
@@ -92,9 +97,9 @@ fn add_clause<'a>(
     definition: &'a IlDef,
     groups: &mut Groups<'a, ClauseDef>,
 ) -> Result<(), NoMemory>
-    ensures { OnOk result ((q : Bor (List ℕ)) → members groups.new.entries q.now
-        ≡ members groups.old.entries q.now
-        ++ clauses_from q.now (clauses_in (definition.now ∷ []))) }
+    ensures { OnOk result ((q : List ℕ) → members groups.new.entries q
+        ≡ members groups.old.entries q
+        ++ clauses_from q (clauses_in (definition.now ∷ []))) }
 {
     match definition {
         IlDef::Clause(clause) => add_under(alloc, &clause.fun, clause, groups),
@@ -108,8 +113,8 @@ fn add_clause<'a>(
 
 /// The clauses of an internal language by the names of their functions.
 pub(crate) fn clauses_by_function(alloc: Global, il: &Il) -> Result<Groups<ClauseDef>, NoMemory>
-    ensures { IfOk result (λ groups. (q : Bor (List ℕ))
-        → members groups.entries q.now ≡ clauses_of il.now q.now) }
+    ensures { IfOk result (λ groups. (q : List ℕ)
+        → members groups.entries q ≡ clauses_of il.now q) }
 {
     let defs = il.defs.as_slice();
     let mut groups = IndexMap::new(alloc);

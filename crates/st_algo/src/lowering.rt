@@ -31,7 +31,8 @@ fn bind<'a>(
 {
     let mut names = Row::new(alloc);
     push_prem_vars(alloc, prem, &mut names)?;
-    add_all(bound, names.as_slice())
+    add_all(bound, names.as_slice())?;
+    Ok(())
 }
 
 /// Adds the steps of premises that are run one after another, where these variables are bound at
@@ -48,7 +49,7 @@ fn push_steps<'a>(
         ++ steps_of directions.now.il.now (names_in bound.old.keys) (all_now prems.now)) }
 {
     for prem in prems {
-        let step = step_of(alloc, directions, bound, *prem)?;
+        let step = step_of(alloc, directions, &*bound, *prem)?;
         steps.push(step)?;
         bind(alloc, *prem, bound)?;
     }
@@ -96,16 +97,13 @@ pub(crate) fn rule_algorithm(
     let mask = mask_under(directions, &rule.relation);
     let conclusion = rule.conclusion.as_slice();
     let heads = at_holes(alloc, mask, true, conclusion)?;
+    let heads = heads.as_slice();
     let results = at_holes(alloc, mask, false, conclusion)?;
-    let prems = in_order(alloc, rule.premises.as_slice(), order)?;
-    let algorithm = algorithm_of(
-        alloc,
-        directions,
-        &rule.name,
-        heads.as_slice(),
-        prems.as_slice(),
-        results.as_slice(),
-    )?;
+    let results = results.as_slice();
+    let written = rule.premises.as_slice();
+    let prems = in_order(alloc, written, order)?;
+    let prems = prems.as_slice();
+    let algorithm = algorithm_of(alloc, directions, &rule.name, heads, prems, results)?;
     Ok(algorithm)
 }
 
@@ -119,17 +117,15 @@ pub(crate) fn clause_algorithm(
     ensures { IfOk result (λ algorithm. algorithm
         ≡ clause_algorithm directions.now.il.now clause.now) }
 {
-    let heads = expressions(alloc, clause.args.as_slice())?;
-    let prems = premises(alloc, clause.premises.as_slice())?;
+    let args = clause.args.as_slice();
+    let heads = expressions(alloc, args)?;
+    let heads = heads.as_slice();
+    let written = clause.premises.as_slice();
+    let prems = premises(alloc, written)?;
+    let prems = prems.as_slice();
     let mut results = Row::new(alloc);
     results.push(&clause.result)?;
-    let algorithm = algorithm_of(
-        alloc,
-        directions,
-        &clause.fun,
-        heads.as_slice(),
-        prems.as_slice(),
-        results.as_slice(),
-    )?;
+    let results = results.as_slice();
+    let algorithm = algorithm_of(alloc, directions, &clause.fun, heads, prems, results)?;
     Ok(algorithm)
 }

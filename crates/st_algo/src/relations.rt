@@ -1,7 +1,6 @@
 //! The algorithms of the rules of all relations.
 
 ghost use Rattle.std.specs.Prelude.{◌≡◌, ℕ, List, map, IfOk};
-ghost use Rattle.std.specs.Borrow.{Bor};
 ghost use Rattle.std.specs.List.{enumerate_from};
 ghost use Rattle.std.specs.Option.{option_copied, option_map};
 ghost use Rattle.st_semantics.specs.Definitions.{relations, rules_of};
@@ -90,8 +89,8 @@ fn relation_algorithms(
     relation: &RelationDef,
 ) -> Result<Row<Option<Algorithm>>, NoMemory>
     requires directions { AreDirections directions.now }
-    requires groups { (q : Bor (List ℕ))
-        → members groups.now.entries q.now ≡ rules_of directions.now.il.now q.now }
+    requires groups { (q : List ℕ)
+        → members groups.now.entries q ≡ rules_of directions.now.il.now q }
     ensures { IfOk result (λ row. row
         ≡ relation_algorithms directions.now.il.now modes.now number relation.now) }
 {
@@ -102,7 +101,7 @@ fn relation_algorithms(
 }
 
 /// The algorithms of the rules of all relations.
-fn all_relations(
+pub(crate) fn all_relations(
     alloc: Global,
     directions: &Directions,
     modes: &Modes,

@@ -108,7 +108,8 @@ fn inside_of<'a>(
     push_names(list, &mut listed)?;
     let listed = listed.as_slice();
     let rest = others(alloc, how, listed, body)?;
-    let inside = bound_inside(alloc, bound, how, listed, rest.as_slice())?;
+    let rest = rest.as_slice();
+    let inside = bound_inside(alloc, bound, how, listed, rest)?;
     Ok(inside)
 }
 
