@@ -2,6 +2,7 @@
 use Rattle.std.proofs.Common.{◌≡◌, refl, sym, ◌∙◌, ap, Bool, true, false, if◌then◌else◌, ℕ, List, [], ◌∷◌, ◌++◌, append-nil, ◌≤◌, length, drop, Option, Some, None, bytes_eq}
 use Rattle.std.specs.Prelude.{unwrap_or}
 use Rattle.std.specs.Borrow.{Bor}
+use Rattle.std.specs.Option.{option_copied}
 use Rattle.st_il.specs.declared.definition.ClauseDef.{ClauseDef}
 use Rattle.st_il.specs.declared.definition.IlDef.{IlDef}
 use Rattle.st_il.specs.declared.definition.IlDef.TheVariants.{Syntax, Var, Relation, Rule, Fun, Clause}
@@ -56,3 +57,14 @@ functions_head (Relation r) ds = refl
 functions_head (Rule r) ds = refl
 functions_head (Fun f) ds = refl
 functions_head (Clause c) ds = refl
+
+-- ---- what stands under a name, once it was looked up
+
+module _ {A : Type 0} (entries : List (Bor (List ℕ) × List (Bor A))) (name : Name) (whole : List A) where
+  pub members_found : (o : Option (Bor (List (Bor A)))) (row : Bor (List (Bor A))) (slice : List (Bor A)) → option_copied o ≡ at entries name → o ≡ Some row → slice ≡ row.now → members entries name ≡ whole
+      → all_now slice ≡ whole
+  members_found o row slice found is s m =
+      ap all_now s ∙ ap (λ o. all_now (unwrap_or (option_copied o) [])) (sym is) ∙ ap (λ o. all_now (unwrap_or o [])) found ∙ m
+
+  pub members_none : (o : Option (Bor (List (Bor A)))) → option_copied o ≡ at entries name → o ≡ None → members entries name ≡ whole → whole ≡ []
+  members_none o found is m = sym (sym (ap (λ o. all_now (unwrap_or (option_copied o) [])) is) ∙ ap (λ o. all_now (unwrap_or o [])) found ∙ m)

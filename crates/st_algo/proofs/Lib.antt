@@ -7,4 +7,4 @@ pub mod InOrder
 pub mod Wider
 pub mod StepVariables
 pub mod Taken
-pub mod Laws
+pub mod AllTaken

@@ -60,10 +60,9 @@ known_less bound (x ∷ xs) ys w k =
     ap₂ (λ a b. a && b) (known-within bound ys k x (w x (or-left (bytes_eq x x) (has_name xs x) (bytes-same x))))
     (known_less bound xs ys (λ z h. w z (or-right (bytes_eq z x) (has_name xs z) h)) k)
 
-last_within : (front xs as bs : List Name) → Within as bs → Within (front ++ xs ++ as) (front ++ xs ++ bs)
-last_within front xs as bs w =
-    within-both front (xs ++ as) (front ++ xs ++ bs) (within-left front (xs ++ bs))
-    (within-both xs as (front ++ xs ++ bs) (λ x h. within-right front (xs ++ bs) x (within-left xs bs x h)) (λ x h. within-right front (xs ++ bs) x (within-right xs bs x (w x h))))
+last_within : (front xs ys bs : List Name) → Within ys bs → Within (front ++ xs ++ ys) (front ++ xs ++ bs)
+last_within front xs ys bs w =
+    within-both (front ++ xs) ys (front ++ xs ++ bs) (within-left (front ++ xs) bs) (λ x h. within-right (front ++ xs) bs x (w x h))
 
 same_within : (xs ys : List Name) → xs ≡ ys → Within xs ys
 same_within xs ys e x h = subst (λ z. has_name z x ≡ true) e h
@@ -146,7 +145,7 @@ module _ (bound : List Name) (e : IlExp) where
     taken = λ r. can_told bound (step.Test e) (taking_at (AlgoStep-F.Test e)) (test_told e) ∙ h r;
   }
 
-  sides_vars : (left right : IlExp) → out-IlExp e ≡ IlExp-F.Eq left right → vars e ≡ vars left ++ vars right ++ []
+  sides_vars : (left right : IlExp) → out-IlExp e ≡ IlExp-F.Eq left right → vars e ≡ vars left ++ (vars right ++ [])
   sides_vars left right is =
       fold_out-IlExp (List Name) Counted (List Name) (List (List Name)) vars_at counted_at item_at segment_at e
       ∙ ap (λ z. vars_at (map-IlExp IlExp Iteration ListItem PathSeg (List Name) Counted (List Name) (List (List Name)) vars counted item_vars segment_vars z)) is

@@ -10,7 +10,7 @@ use Rattle.st_semantics.specs.Patterns.{is_pattern, binds, bound_by}
 use Rattle.st_semantics.specs.Executable.{is_matched, is_met, is_anchored, is_countable}
 use Rattle.st_semantics.proofs.Names.{Within, or-left, or-right}
 use Rattle.st_semantics.proofs.CanRun.{known-wider, within-index}
-use Rattle.st_semantics.proofs.Wider.{all-wider, any-wider, append-wider, countable-wider}
+use Rattle.st_semantics.proofs.Wider.{all-wider, append-wider, countable-wider}
 use Rattle.st_algo.specs.declared.algorithm.AlgoStep.{AlgoStep, map-AlgoStep, ind-AlgoStep, out-AlgoStep, fold_out-AlgoStep, roll-AlgoStep, out-roll-AlgoStep}
 use Rattle.st_algo.specs.declared.algorithm.AlgoStep.TheOpen.{AlgoStep-F}
 use Rattle.st_algo.specs.Taken.{Taking, taking_at, taking_of, can_take}
@@ -57,6 +57,10 @@ or_wider : (a b c d : Bool) → (a ≡ true → c ≡ true) → (b ≡ true → 
 or_wider true b c d f g h = or-left c d (f refl)
 or_wider false b c d f g h = or-right c d (g h)
 
+any_wider : {A : Type 0} (few many : A → Bool) → ((x : A) → few x ≡ true → many x ≡ true) → (xs : List A) → list_any few xs ≡ true → list_any many xs ≡ true
+any_wider few many f [] h = h
+any_wider few many f (x ∷ xs) h = or_wider (few x) (list_any few xs) (many x) (list_any many xs) (f x) (any_wider few many f xs) h
+
 module _ (few many : List Name) (w : Within few many) where
   matched_wider : (e g : IlExp) → is_matched few e g ≡ true → is_matched many e g ≡ true
   matched_wider e g h =
@@ -78,8 +82,8 @@ module _ (few many : List Name) (w : Within few many) where
   anchored_wider : (how : Iteration) (xs : List Name) → is_anchored few how xs ≡ true → is_anchored many how xs ≡ true
   anchored_wider how xs h =
       or_wider (list_any (has_name few) xs) (list_any (λ (e : IlExp). all_known few (vars e)) (count_of how)) (list_any (has_name many) xs) (list_any (λ (e : IlExp). all_known many (vars e)) (count_of how))
-      (any-wider (has_name few) (has_name many) w xs)
-      (any-wider (λ (e : IlExp). all_known few (vars e)) (λ (e : IlExp). all_known many (vars e)) (λ e k. known-wider few many (vars e) w k) (count_of how)) h
+      (any_wider (has_name few) (has_name many) w xs)
+      (any_wider (λ (e : IlExp). all_known few (vars e)) (λ (e : IlExp). all_known many (vars e)) (λ e k. known-wider few many (vars e) w k) (count_of how)) h
 
 -- it can be taken with more
 abbrev Widens : AlgoStep → Type 0

@@ -1,16 +1,18 @@
 //! The algorithms of the clauses of all functions.
 
-ghost use Rattle.std.specs.Prelude.{◌≡◌, ◌++◌, ◌∷◌, [], map, IfOk, OnOk};
-ghost use Rattle.st_semantics.specs.Definitions.{funs_in};
+ghost use Rattle.std.specs.Prelude.{◌≡◌, ◌++◌, ◌∷◌, [], ℕ, List, map, IfOk, OnOk};
+ghost use Rattle.st_semantics.specs.Definitions.{funs_in, clauses_of};
 ghost use Rattle.st_order.specs.inner.Masks.{AreDirections};
 ghost use Rattle.st_order.specs.inner.Parts.{all_now};
 ghost use Rattle.st_algo.specs.Lowered.{clause_algorithm, fun_algorithms};
+ghost use Rattle.st_algo.specs.inner.Groups.{members};
 
 use crate::algorithm::Algorithm;
-use crate::groups::{clauses_by_function, under};
+use crate::groups::{Groups, clauses_by_function};
 use crate::lowering::clause_algorithm;
 use st_il::{ClauseDef, FunDef, Il, IlDef};
 use st_num::{NoMemory, Row};
+use st_order::index::at;
 use st_order::masks::Directions;
 use std::alloc::Global;
 
@@ -62,6 +64,28 @@ fn clause_algorithms(
     Ok(row)
 }
 
+/// The algorithms of the clauses of a function.
+fn fun_algorithms(
+    alloc: Global,
+    directions: &Directions,
+    groups: &Groups<ClauseDef>,
+    function: &FunDef,
+) -> Result<Row<Algorithm>, NoMemory>
+    requires directions { AreDirections directions.now }
+    requires groups { (q : List ℕ)
+        → members groups.now.entries q ≡ clauses_of directions.now.il.now q }
+    ensures { IfOk result (λ row. row ≡ fun_algorithms directions.now.il.now function.now) }
+{
+    match at(groups, &function.name) {
+        Some(clauses) => {
+            let clauses = clauses.as_slice();
+            let row = clause_algorithms(alloc, directions, clauses)?;
+            Ok(row)
+        }
+        None => Ok(Row::new(alloc)),
+    }
+}
+
 /// The algorithms of the clauses of all functions.
 pub(crate) fn all_functions(
     alloc: Global,
@@ -76,8 +100,7 @@ pub(crate) fn all_functions(
     let functions = functions.as_slice();
     let mut rows = Row::new(alloc);
     for function in functions {
-        let clauses = under(&groups, &function.name);
-        let row = clause_algorithms(alloc, directions, clauses)?;
+        let row = fun_algorithms(alloc, directions, &groups, *function)?;
         rows.push(row)?;
     }
     Ok(rows)

@@ -9,7 +9,7 @@ ghost use Rattle.st_algo.specs.inner.Groups.{members};
 use indexmap::IndexMap;
 use st_il::{ClauseDef, Il, IlDef, RuleDef};
 use st_num::{Name, NoMemory, Row};
-use st_order::index::{at, put};
+use st_order::index::put;
 use std::alloc::Global;
 
 /// What stands under each name, in order.
@@ -47,16 +47,6 @@ fn add_under<'a, T>(
     row.push(one)?;
     put(groups, name, row)?;
     Ok(())
-}
-
-/// What stands under a name, in order.
-pub(crate) fn under<'m, 'a, T>(groups: &'m Groups<'a, T>, name: &'m Name) -> &'m [&'a T]
-    ensures { all_now result.now ≡ members groups.now.entries name.now }
-{
-    match at(groups, name) {
-        Some(row) => row.as_slice(),
-        None => &[],
-    }
 }
 
 /// Adds a definition that is a rule under the name of its relation.

@@ -10,11 +10,12 @@ ghost use Rattle.st_algo.specs.Lowered.{rule_algorithm, order_at, orders_at, rul
 ghost use Rattle.st_algo.specs.inner.Groups.{members};
 
 use crate::algorithm::Algorithm;
-use crate::groups::{Groups, rules_by_relation, under};
+use crate::groups::{Groups, rules_by_relation};
 use crate::lowering::rule_algorithm;
 use st_il::{RelationDef, RuleDef};
 use st_num::{NoMemory, Row};
 use st_order::Modes;
+use st_order::index::at;
 use st_order::masks::Directions;
 use st_order::rules::relations_of;
 use std::alloc::Global;
@@ -94,10 +95,15 @@ fn relation_algorithms(
     ensures { IfOk result (λ row. row
         ≡ relation_algorithms directions.now.il.now modes.now number relation.now) }
 {
-    let rules = under(groups, &relation.name);
     let orders = orders_at(modes, number);
-    let row = rule_algorithms(alloc, directions, rules, orders)?;
-    Ok(row)
+    match at(groups, &relation.name) {
+        Some(rules) => {
+            let rules = rules.as_slice();
+            let row = rule_algorithms(alloc, directions, rules, orders)?;
+            Ok(row)
+        }
+        None => Ok(Row::new(alloc)),
+    }
 }
 
 /// The algorithms of the rules of all relations.

@@ -1,5 +1,5 @@
 use Rattle.st_algo.proofs.Taken.{law_of_rules, law_of_clauses}
-use Rattle.st_algo.proofs.Laws.{law_of_lowering}
+use Rattle.st_algo.proofs.AllTaken.{law_of_lowering}
 use Rattle.st_algo.proofs.laws.steps_can_be_taken.Goals as goal
 
 pub returns-clause-rules : goal.returns-clause-rules
