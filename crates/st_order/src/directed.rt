@@ -36,7 +36,7 @@ fn push_at_hole<'a>(
 }
 
 /// The expressions that stand at inputs, or else those at outputs.
-pub(crate) fn at_holes<'a>(
+pub fn at_holes<'a>(
     alloc: Global,
     mask: &[bool],
     input: bool,

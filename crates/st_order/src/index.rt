@@ -11,7 +11,7 @@ use st_num::{Name, NoMemory, Row};
 use std::alloc::Global;
 
 /// Puts something under a name.
-pub(crate) fn put<'a, T: Drop>(
+pub fn put<'a, T: Drop>(
     map: &mut IndexMap<&'a Name, T>,
     name: &'a Name,
     value: T,
@@ -37,7 +37,7 @@ pub(crate) fn exchange<'a, T: Drop>(
 }
 
 /// What stands under a name.
-pub(crate) fn at<'m, T>(map: &'m IndexMap<&Name, T>, name: &'m Name) -> Option<&'m T>
+pub fn at<'m, T>(map: &'m IndexMap<&Name, T>, name: &'m Name) -> Option<&'m T>
     ensures { option_copied result ≡ at map.now.entries name.now }
 {
     map.get(&name)
@@ -68,7 +68,7 @@ pub(crate) fn add<'a>(names: &mut IndexSet<&'a Name>, name: &'a Name) -> Result<
 }
 
 /// Adds names.
-pub(crate) fn add_all<'a>(names: &mut IndexSet<&'a Name>, more: &[&'a Name]) -> Result<(), NoMemory>
+pub fn add_all<'a>(names: &mut IndexSet<&'a Name>, more: &[&'a Name]) -> Result<(), NoMemory>
     ensures { OnOk result
         (SameNames (names_in names.new.keys) (names_in names.old.keys ++ names_in more.now)) }
 {
@@ -79,7 +79,7 @@ pub(crate) fn add_all<'a>(names: &mut IndexSet<&'a Name>, more: &[&'a Name]) -> 
 }
 
 /// The set of these names.
-pub(crate) fn set_of<'a>(alloc: Global, names: &[&'a Name]) -> Result<IndexSet<&'a Name>, NoMemory>
+pub fn set_of<'a>(alloc: Global, names: &[&'a Name]) -> Result<IndexSet<&'a Name>, NoMemory>
     ensures { IfOk result (λ set. SameNames (names_in set.keys) (names_in names.now)) }
 {
     let mut set = IndexSet::new(alloc);

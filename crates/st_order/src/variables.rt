@@ -12,7 +12,7 @@ use st_num::{Name, NoMemory, Row};
 use std::alloc::Global;
 
 /// Adds names.
-pub(crate) fn push_names<'a>(list: &'a [Name], names: &mut Row<&'a Name>) -> Result<(), NoMemory>
+pub fn push_names<'a>(list: &'a [Name], names: &mut Row<&'a Name>) -> Result<(), NoMemory>
     ensures { OnOk result (names_in names.new ≡ names_in names.old ++ list.now) }
 {
     for name in list {
@@ -232,7 +232,7 @@ fn push_count_vars<'a>(
 }
 
 /// Adds the variables of several expressions.
-pub(crate) fn push_vars_of<'a>(
+pub fn push_vars_of<'a>(
     alloc: Global,
     exps: &[&'a IlExp],
     names: &mut Row<&'a Name>,
@@ -262,7 +262,7 @@ fn push_vars_of_count<'a>(
 }
 
 /// Adds the variables of a premise, and the listed names of its iterations.
-pub(crate) fn push_prem_vars<'a>(
+pub fn push_prem_vars<'a>(
     alloc: Global,
     prem: &'a IlPrem,
     names: &mut Row<&'a Name>,
