@@ -5,4 +5,4 @@ pub mod Fits
 pub mod AreCandidates
 pub mod AreRows
 pub mod AllColumnsCover
-pub mod Places
+pub mod Positions

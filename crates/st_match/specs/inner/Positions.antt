@@ -1,4 +1,4 @@
--- Places in the elements of a list, each with the environments that the parts before it come to.
+-- Positions in the elements of a list, each with the environments that the parts before it come to.
 use Rattle.std.specs.Prelude.{◌≡◌, ◌≤◌, ◌<◌, ◌-◌, ◌+◌, ℕ, zero, suc, List, [], ◌∷◌, length, drop}
 use Rattle.st_il.specs.declared.expression.IlExp.{IlExp}
 use Rattle.st_il.specs.declared.expression.ListItem.{ListItem, out-ListItem}
@@ -6,43 +6,43 @@ use Rattle.st_il.specs.declared.expression.ListItem.TheVariants as item
 use Rattle.st_il.specs.declared.expression.IlExp.TheOpen.{ListItem-F}
 use Rattle.st_il.specs.declared.value.Env.{Env}
 use Rattle.st_il.specs.declared.value.Value.{Value}
-use Rattle.st_match.specs.declared.place.Place.{Place}
+use Rattle.st_match.specs.declared.position.Position.{Position}
 use Rattle.st_match.specs.inner.Covering.{AreCandidatesOfItems, AreCandidatesOfSplit}
 
--- ---- what follows a place
+-- ---- what follows a position
 
--- these cover all that the environments of a place come to under the parts behind it
-abbrev pub Follow : List ListItem → List Value → List Env → Place → Type 0
-Follow items vs found place = AreCandidatesOfItems items (drop place.taken vs) place.envs found
+-- these cover all that the environments of a position come to under the parts behind it
+abbrev pub Follow : List ListItem → List Value → List Env → Position → Type 0
+Follow items vs found position = AreCandidatesOfItems items (drop position.taken vs) position.envs found
 
--- they do so for each of these places
-abbrev pub FollowAll : List ListItem → List Value → List Env → List Place → Type 0
+-- they do so for each of these positions
+abbrev pub FollowAll : List ListItem → List Value → List Env → List Position → Type 0
 FollowAll items vs found [] = Unit {0}
-FollowAll items vs found (place ∷ places) =
-    Follow items vs found place × FollowAll items vs found places
+FollowAll items vs found (position ∷ positions) =
+    Follow items vs found position × FollowAll items vs found positions
 
--- a part leads from the first places to the second: what follows those follows these
+-- a part leads from the first positions to the second: what follows those follows these
 pub record PartLeads (part : ListItem) (rest : List ListItem) (vs : List Value)
-    (before after : List Place) : Type 0 where
+    (before after : List Position) : Type 0 where
   pub lead : (found : List Env) → FollowAll rest vs found after
       → FollowAll (part ∷ rest) vs found before
 
--- an element leads from the first places to the second, whatever the parts behind it
-pub record ElementLeads (p : IlExp) (vs : List Value) (before after : List Place) : Type 0 where
+-- an element leads from the first positions to the second, whatever the parts behind it
+pub record ElementLeads (p : IlExp) (vs : List Value) (before after : List Position) : Type 0 where
   pub lead : (rest : List ListItem) → PartLeads (item.One p) rest vs before after
 
--- the next n elements lead from a place to these
-pub record CutLeads (p : IlExp) (vs : List Value) (n : ℕ) (place : Place) (after : List Place)
+-- the next n elements lead from a position to these
+pub record CutLeads (p : IlExp) (vs : List Value) (n : ℕ) (position : Position) (after : List Position)
     : Type 0 where
   pub lead : (rest : List ListItem) (found : List Env) → FollowAll rest vs found after
-      → AreCandidatesOfSplit p rest (drop place.taken vs) n place.envs found
+      → AreCandidatesOfSplit p rest (drop position.taken vs) n position.envs found
 
--- the next elements lead from a place to these, so many as from `first` to before `end`
-pub record CutsLead (p : IlExp) (vs : List Value) (first end : ℕ) (place : Place)
-    (after : List Place) : Type 0 where
+-- the next elements lead from a position to these, so many as from `first` to before `end`
+pub record CutsLead (p : IlExp) (vs : List Value) (first end : ℕ) (position : Position)
+    (after : List Position) : Type 0 where
   pub lead : (rest : List ListItem) (found : List Env) → FollowAll rest vs found after → (n : ℕ)
       → n < end → first ≤ n
-      → AreCandidatesOfSplit p rest (drop place.taken vs) n place.envs found
+      → AreCandidatesOfSplit p rest (drop position.taken vs) n position.envs found
 
 -- ---- how many elements there may be
 

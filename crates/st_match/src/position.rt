@@ -1,8 +1,8 @@
-//! Places in the elements of a list, up to which its first parts were matched.
+//! Positions in the elements of a list, up to which its first parts were matched.
 
 ghost use Rattle.std.specs.Prelude.{◌≡◌, nat_eq, if◌then◌else◌, IfOk, [], ◌∷◌, length, drop};
 ghost use Rattle.st_match.specs.inner.Covering.{AreCandidatesOfItems};
-ghost use Rattle.st_match.specs.inner.Places.{FollowAll, ones, AreEnds};
+ghost use Rattle.st_match.specs.inner.Positions.{FollowAll, ones, AreEnds};
 
 use crate::environment::{append, copy_envs};
 use st_il::{Env, ListItem, Value};
@@ -11,21 +11,21 @@ use std::alloc::Global;
 
 /// What the parts so far may come to.
 #[derive(Drop)]
-pub(crate) struct Place {
+pub(crate) struct Position {
     /// How many elements they take.
     pub(crate) taken: usize,
     /// The environments that cover all under which they make those elements.
     pub(crate) envs: Row<Env>,
 }
 
-/// The first place and the one behind which a part may end, among the elements that are left.
+/// The first position and the one behind which a part may end, among the elements that are left.
 #[derive(Clone, Copy, Debug)]
 pub(crate) struct Ends {
     pub(crate) first: usize,
     pub(crate) end: usize,
 }
 
-/// The elements from a place on.
+/// The elements from a position on.
 pub(crate) fn left_of(values: &[Value], taken: usize) -> &[Value]
     ensures { result.now ≡ drop taken values.now }
 {
@@ -71,36 +71,36 @@ pub(crate) fn ends_before(rest: &[ListItem], left: &[Value]) -> Ends
     }
 }
 
-/// The first place behind which a part may end: the last one where all others are single elements.
+/// The first position behind which a part may end: the last one where all others are single elements.
 fn first_end(rest: &[ListItem], ones: usize, last: usize) -> usize
     ensures { result ≡ (if nat_eq ones (length rest.now) then last else 0) }
 {
     if ones == rest.len() { last } else { 0 }
 }
 
-/// The environments of a place, if all elements are taken there.
-fn finished_at(alloc: Global, values: &[Value], place: &Place) -> Result<Row<Env>, NoMemory>
+/// The environments of a position, if all elements are taken there.
+fn finished_at(alloc: Global, values: &[Value], position: &Position) -> Result<Row<Env>, NoMemory>
     ensures { IfOk result
-        (λ found. AreCandidatesOfItems [] (drop place.now.taken values.now) place.now.envs found) }
+        (λ found. AreCandidatesOfItems [] (drop position.now.taken values.now) position.now.envs found) }
 {
-    if place.taken < values.len() {
+    if position.taken < values.len() {
         return Ok(Row::new(alloc));
     }
-    let found = copy_envs(alloc, place.envs.as_slice())?;
+    let found = copy_envs(alloc, position.envs.as_slice())?;
     Ok(found)
 }
 
-/// The environments of the places at which all elements are taken.
+/// The environments of the positions at which all elements are taken.
 pub(crate) fn finished(
     alloc: Global,
     values: &[Value],
-    places: &[Place],
+    positions: &[Position],
 ) -> Result<Row<Env>, NoMemory>
-    ensures { IfOk result (λ found. FollowAll [] values.now found places.now) }
+    ensures { IfOk result (λ found. FollowAll [] values.now found positions.now) }
 {
     let mut found = Row::new(alloc);
-    for place in places {
-        let more = finished_at(alloc, values, place)?;
+    for position in positions {
+        let more = finished_at(alloc, values, position)?;
         found = append(found, more)?;
     }
     Ok(found)

@@ -1,6 +1,6 @@
 use Rattle.std.proofs.Common.{◌≡◌, ◌+◌, ◌≤◌, drop}
-use Rattle.st_match.specs.inner.Places.{ones}
-use Rattle.st_match.proofs.place.count_ones.Given as goal
+use Rattle.st_match.specs.inner.Positions.{ones}
+use Rattle.st_match.proofs.position.count_ones.Given as goal
 
 abbrev pub invariant-loop-item : goal.invariant-loop-item
 invariant-loop-item l = record {
