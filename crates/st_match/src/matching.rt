@@ -41,9 +41,11 @@ fn fits(alloc: Global, sought: &Sought, env: &Env) -> Result<bool, NoMemory>
     ensures { IfOk result (λ yes. IsTrue yes
         ↔ Fits sought.now.types.now sought.now.pattern.now sought.now.value.now env.now) }
 {
-    match pattern_value(alloc, sought.types, env, sought.pattern)? {
+    let outcome = pattern_value(alloc, sought.types, env, sought.pattern)?;
+    match outcome {
         Outcome::Val(found) => Ok(same_value(&found, sought.value)),
-        Outcome::NoValue | Outcome::Deep => Ok(false),
+        Outcome::NoValue => Ok(false),
+        Outcome::Deep => Ok(false),
     }
 }
 
@@ -79,7 +81,8 @@ fn with_new(alloc: Global, sought: &Sought, env: Env, found: Row<Env>) -> Result
     if is_among(&env, found.as_slice()) {
         return Ok(found);
     }
-    if !suits(alloc, sought, &env)? {
+    let yes = suits(alloc, sought, &env)?;
+    if !yes {
         return Ok(found);
     }
     let mut more = found;
@@ -98,7 +101,8 @@ fn with_candidate(
     ensures { IfOk result (λ more.
         Adds (Suits sought.now) (λ env. IsMade sought.now env candidate.now) found more) }
 {
-    match assembled(alloc, sought.names, sought.env, candidate)? {
+    let made = assembled(alloc, sought.names, sought.env, candidate)?;
+    match made {
         None => Ok(found),
         Some(env) => {
             let more = with_new(alloc, sought, env, found)?;
@@ -138,10 +142,10 @@ pub fn matches(
     ensures { IfOk result (λ found.
         AreMatches types.now variables.now pattern.now value.now env.now found) }
 {
-    let vars = vars(alloc, pattern)?;
-    let asked = asked_of(alloc, variables, vars.as_slice())?;
-    let names = with_env_names(alloc, env, vars.as_slice())?;
-    let names = in_order(alloc, names.as_slice())?;
+    let own = vars(alloc, pattern)?;
+    let asked = asked_of(alloc, variables, own.as_slice())?;
+    let names = with_env_names(alloc, env, own.as_slice())?;
+    let ordered = in_order(alloc, names.as_slice())?;
     let same = copy_env(alloc, env)?;
     let start = single(alloc, same)?;
     let all = candidates(alloc, pattern, value, start.as_slice())?;
@@ -150,7 +154,7 @@ pub fn matches(
         pattern,
         value,
         env,
-        names: names.as_slice(),
+        names: ordered.as_slice(),
         asked: asked.as_slice(),
     };
     let found = found_among(alloc, &sought, all.as_slice())?;

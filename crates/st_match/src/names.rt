@@ -1,13 +1,13 @@
 //! The variables of patterns, and names in byte order.
 
-ghost use Rattle.std.specs.Prelude.{◌≡◌, ◌++◌, [], ◌∷◌, true, map, IfOk, OnOk};
+ghost use Rattle.std.specs.Prelude.{◌≡◌, ◌≤◌, ◌++◌, [], ◌∷◌, true, map, length, take, drop, IfOk, OnOk};
 ghost use Rattle.std.specs.List.{list_all};
 ghost use Rattle.st_semantics.specs.Names.{has_name, without};
 ghost use Rattle.st_semantics.specs.Environments.{names_of};
 ghost use Rattle.st_semantics.specs.Operands.{item_exp};
 ghost use Rattle.st_semantics.specs.Iterations.{count_of, index_of};
 ghost use Rattle.st_semantics.specs.Variables.{vars, vars_of};
-ghost use Rattle.st_semantics.specs.Patterns.{is_pattern};
+ghost use Rattle.st_semantics.specs.Patterns.{is_pattern, told, told_item, all_patterns};
 ghost use Rattle.st_match.specs.inner.Names.{StandsAt, IsInserted, AreOrdered};
 
 use crate::rows::is_index;
@@ -92,7 +92,7 @@ fn push_vars(alloc: Global, pattern: &IlExp, names: &mut Row<Name>) -> Result<()
 /// Adds the variables of several patterns.
 #[cycle(variables)]
 fn push_all_vars(alloc: Global, patterns: &[IlExp], names: &mut Row<Name>) -> Result<(), NoMemory>
-    requires { list_all is_pattern patterns.now ≡ true }
+    requires { all_patterns (map told patterns.now) ≡ true }
     ensures { OnOk result (names.new ≡ names.old ++ vars_of patterns.now) }
 {
     for pattern in patterns {
@@ -104,7 +104,7 @@ fn push_all_vars(alloc: Global, patterns: &[IlExp], names: &mut Row<Name>) -> Re
 /// Adds the variables of the parts of a list.
 #[cycle(variables)]
 fn push_item_vars(alloc: Global, items: &[ListItem], names: &mut Row<Name>) -> Result<(), NoMemory>
-    requires { list_all is_pattern (map item_exp items.now) ≡ true }
+    requires { all_patterns (map told_item items.now) ≡ true }
     ensures { OnOk result (names.new ≡ names.old ++ vars_of (map item_exp items.now)) }
 {
     for item in items {
@@ -145,14 +145,25 @@ pub(crate) fn vars(alloc: Global, pattern: &IlExp) -> Result<Row<Name>, NoMemory
 fn position(name: &Name, names: &[Name]) -> Option<usize>
     ensures { StandsAt name.now names.now result }
 {
-    for (i, other) in names.iter().enumerate() {
-        match name.cmp(other) {
+    for i in 0..names.len() {
+        match name.cmp(&names[i]) {
             Ordering::Less => return Some(i),
             Ordering::Equal => return None,
             Ordering::Greater => {}
         }
     }
     Some(names.len())
+}
+
+/// The names with one more at this position.
+fn insert_at(alloc: Global, at: usize, name: &Name, names: Row<Name>) -> Result<Row<Name>, NoMemory>
+    requires { at ≤ length names }
+    ensures { IfOk result (λ more. more ≡ take at names ++ name.now ∷ drop at names) }
+{
+    let copy = name.copy(alloc)?;
+    let mut more = names.into_vec();
+    more.insert(at, copy)?;
+    Ok(Row::from_vec(more))
 }
 
 /// The names in order with one more, unless it is there.
@@ -162,9 +173,8 @@ fn with_name(alloc: Global, name: &Name, names: Row<Name>) -> Result<Row<Name>, 
     match position(name, names.as_slice()) {
         None => Ok(names),
         Some(at) => {
-            let mut more = names.into_vec();
-            more.insert(at, name.copy(alloc)?)?;
-            Ok(Row::from_vec(more))
+            let more = insert_at(alloc, at, name, names)?;
+            Ok(more)
         }
     }
 }

@@ -4,7 +4,8 @@ ghost use Rattle.std.specs.Prelude.{◌↔◌, IsTrue, IsUtf8};
 ghost use Rattle.std.specs.List.{All};
 ghost use Rattle.st_num.specs.Number.{IsNumber};
 ghost use Rattle.st_num.specs.Texts.{IsTextByte, IsText};
-ghost use Rattle.st_match.specs.inner.Proper.{IsProper, AreProper, FieldsAreProper};
+ghost use Rattle.st_il.specs.declared.value.Value.{out-Value};
+ghost use Rattle.st_match.specs.inner.Proper.{IsProper, AreProper, FieldsAreProper, ProperAt};
 
 use st_il::Value;
 use st_num::{Name, Num};
@@ -13,7 +14,10 @@ use st_num::{Name, Num};
 fn is_text_byte(byte: u8) -> bool
     ensures { IsTrue result ↔ IsTextByte byte }
 {
-    byte >= 32 || byte == b'\n' || byte == b'\t'
+    match byte {
+        b'\t' | b'\n' | 32..=255 => true,
+        _ => false,
+    }
 }
 
 /// Whether texts may have each of these bytes.
@@ -23,7 +27,7 @@ fn are_text_bytes(bytes: &[u8]) -> bool
     bytes.iter().all(|byte| is_text_byte(*byte))
 }
 
-/// Whether the bytes are a text in UTF-8.
+/// Whether the bytes are UTF-8.
 fn is_utf8(bytes: &[u8]) -> bool
     ensures { IsTrue result ↔ IsUtf8 bytes.now }
 {
@@ -34,10 +38,20 @@ fn is_utf8(bytes: &[u8]) -> bool
 fn is_text(bytes: &[u8]) -> bool
     ensures { IsTrue result ↔ IsText bytes.now }
 {
-    is_utf8(bytes) && are_text_bytes(bytes)
+    if !is_utf8(bytes) {
+        return false;
+    }
+    are_text_bytes(bytes)
 }
 
-/// Whether the number is in range, as every number is whose size is a `u128`.
+/// Whether the name is a text.
+fn is_text_name(name: &Name) -> bool
+    ensures { IsTrue result ↔ IsText name.now }
+{
+    is_text(name.as_slice())
+}
+
+/// Whether the number is in range, as every number is: its size is a `u128`.
 fn is_number(number: &Num) -> bool
     ensures { IsTrue result ↔ IsNumber number.now }
 {
@@ -50,13 +64,28 @@ fn is_number(number: &Num) -> bool
 pub(crate) fn is_proper(value: &Value) -> bool
     ensures { IsTrue result ↔ IsProper value.now }
 {
+    proper_at(value)
+}
+
+/// Whether this holds of the value, by its level.
+#[cycle(proper)]
+fn proper_at(value: &Value) -> bool
+    ensures { IsTrue result ↔ ProperAt (out-Value value.now) }
+{
     match value {
-        Value::Bool(_) | Value::Opt(None) => true,
+        Value::Bool(_) => true,
         Value::Num(number) => is_number(number),
-        Value::Text(text) => is_text(text.as_slice()),
-        Value::Case(tag, parts) => is_text(tag.as_slice()) && are_proper(parts.as_slice()),
+        Value::Text(text) => is_text_name(text),
+        Value::Case(tag, parts) => {
+            if !is_text_name(tag) {
+                return false;
+            }
+            are_proper(parts.as_slice())
+        }
         Value::Fields(fields) => fields_are_proper(fields.as_slice()),
-        Value::Tuple(parts) | Value::List(parts) => are_proper(parts.as_slice()),
+        Value::Tuple(parts) => are_proper(parts.as_slice()),
+        Value::List(parts) => are_proper(parts.as_slice()),
+        Value::Opt(None) => true,
         Value::Opt(Some(part)) => is_proper(part.get()),
     }
 }
@@ -80,7 +109,10 @@ fn fields_are_proper(fields: &[(Name, Value)]) -> bool
     ensures { IsTrue result ↔ FieldsAreProper fields.now }
 {
     for field in fields {
-        if !is_text(field.0.as_slice()) || !is_proper(&field.1) {
+        if !is_text_name(&field.0) {
+            return false;
+        }
+        if !is_proper(&field.1) {
             return false;
         }
     }

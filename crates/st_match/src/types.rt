@@ -1,12 +1,12 @@
 //! The types that are asked of the values of variables.
 
-ghost use Rattle.std.specs.Prelude.{◌≡◌, ◌↔◌, ◌++◌, ◌∷◌, [], IsTrue, IfOk};
+ghost use Rattle.std.specs.Prelude.{◌≡◌, ◌↔◌, IsTrue, IfOk};
 ghost use Rattle.std.specs.List.{All};
 ghost use Rattle.std.specs.Option.{option_copied};
-ghost use Rattle.st_semantics.specs.Environments.{IsTypedValue, wrapped, listed_as};
+ghost use Rattle.st_semantics.specs.Environments.{IsTypedValue, wrapped, type_of, listed_as};
 ghost use Rattle.st_match.specs.inner.Types.{asked_as, asked_of, HasAsked};
 
-use crate::environment::find;
+use crate::environment::{append, find, single};
 use crate::proper::is_proper;
 use st_il::{Env, Listed, Ty, Value, copy_ty, is_within_height};
 use st_num::{Boxed, HIGHEST_VALUE, Kind, Name, NoMemory, Row};
@@ -65,22 +65,16 @@ fn wrapped(alloc: Global, kinds: &[Kind], ty: &Ty) -> Result<Ty, NoMemory>
             let same = copy_ty(alloc, ty)?;
             Ok(same)
         }
-        [kind, inner @ ..] => {
+        [Kind::List, inner @ ..] => {
             let part = wrapped(alloc, inner, ty)?;
-            let whole = in_kind(alloc, *kind, part)?;
-            Ok(whole)
+            let part = Boxed::new(alloc, part)?;
+            Ok(Ty::List(part))
         }
-    }
-}
-
-/// The type of lists or options of these.
-fn in_kind(alloc: Global, kind: Kind, part: Ty) -> Result<Ty, NoMemory>
-    ensures { IfOk result (λ whole. whole ≡ wrapped (kind ∷ []) part) }
-{
-    let part = Boxed::new(alloc, part)?;
-    match kind {
-        Kind::List => Ok(Ty::List(part)),
-        Kind::Opt => Ok(Ty::Opt(part)),
+        [Kind::Opt, inner @ ..] => {
+            let part = wrapped(alloc, inner, ty)?;
+            let part = Boxed::new(alloc, part)?;
+            Ok(Ty::Opt(part))
+        }
     }
 }
 
@@ -96,24 +90,27 @@ fn listed_as<'a>(name: &Name, variables: &'a [Listed]) -> Option<&'a Listed>
     None
 }
 
+/// What is asked of a listed variable.
+fn asked(alloc: Global, name: &Name, listed: &Listed) -> Result<Asked, NoMemory>
+    ensures { IfOk result (λ asked.
+        asked ≡ record { name = name.now; ty = type_of listed.now }) }
+{
+    let ty = wrapped(alloc, listed.dim.as_slice(), &listed.ty)?;
+    let name = name.copy(alloc)?;
+    Ok(Asked { name, ty })
+}
+
 /// What is asked of a variable, if it is listed.
-fn with_asked(
-    alloc: Global,
-    variables: &[Listed],
-    name: &Name,
-    asked: Row<Asked>,
-) -> Result<Row<Asked>, NoMemory>
-    ensures { IfOk result (λ more.
-        more ≡ asked ++ asked_as name.now (listed_as name.now variables.now)) }
+fn asked_as(alloc: Global, variables: &[Listed], name: &Name) -> Result<Row<Asked>, NoMemory>
+    ensures { IfOk result (λ asked.
+        asked ≡ asked_as name.now (listed_as name.now variables.now)) }
 {
     match listed_as(name, variables) {
-        None => Ok(asked),
+        None => Ok(Row::new(alloc)),
         Some(listed) => {
-            let ty = wrapped(alloc, listed.dim.as_slice(), &listed.ty)?;
-            let name = name.copy(alloc)?;
-            let mut more = asked;
-            more.push(Asked { name, ty })?;
-            Ok(more)
+            let one = asked(alloc, name, listed)?;
+            let row = single(alloc, one)?;
+            Ok(row)
         }
     }
 }
@@ -128,7 +125,8 @@ pub(crate) fn asked_of(
 {
     let mut asked = Row::new(alloc);
     for name in names {
-        asked = with_asked(alloc, variables, name, asked)?;
+        let more = asked_as(alloc, variables, name)?;
+        asked = append(asked, more)?;
     }
     Ok(asked)
 }
