@@ -135,7 +135,7 @@ binds-Iter p how xs body o x h = elim (within-cases (own_of how) (iterated how x
 no : false ≡ true → ⊥
 no e = cc
 
-pub whole : (p : IlExp) (y : IlExp-F IlExp Iteration ListItem PathSeg) → out-IlExp p ≡ y → p ≡ roll-IlExp y
+whole : (p : IlExp) (y : IlExp-F IlExp Iteration ListItem PathSeg) → out-IlExp p ≡ y → p ≡ roll-IlExp y
 whole p y o = sym (roll-out-IlExp p) ∙ ap roll-IlExp o
 
 module _ (p : IlExp) (x : Name) (nv : (y : Name) → p ≡ exp.Var y → ⊥) (nu : (t : Ty) (e : IlExp) → p ≡ exp.Up t e → ⊥) (nc : (t tag : Name) (ps : List IlExp) → p ≡ exp.Case t tag ps → ⊥)

@@ -2,6 +2,7 @@
 use Rattle.std.proofs.Common.{◌≡◌, ◌↔◌, ℕ, ◌+◌, ◌<◌, ◌≤◌, refl, sym, ◌∙◌, ap, subst, List, [], ◌∷◌, ◌++◌, length, take, get_or, inl, inr, ◌⊎◌, Bool, true, false, Option, Some, None, arith}
 use Rattle.std.specs.Prelude.{◌≢◌, IsTrue, AllPairs, Contains, option_map}
 use Rattle.std.specs.List.{All}
+use Rattle.std.specs.Ordering.{is_lt}
 use Rattle.std.proofs.lemmas.List.{take_more, take_all}
 use Rattle.std.proofs.lemmas.List.Elements.{Contains-get_or, Contains-append_left, Contains-push, Contains-push_cases}
 use Rattle.std.proofs.lemmas.List.Quantifiers.{all_pairs_push}
@@ -10,6 +11,7 @@ use Rattle.st_il.specs.declared.definition.SyntaxDef.{SyntaxDef}
 use Rattle.st_il.specs.declared.expression.IlExp.{IlExp}
 use Rattle.st_il.specs.declared.value.Env.{Env}
 use Rattle.st_il.specs.declared.value.Value.{Value}
+use Rattle.st_il.specs.Order.{text_cmp}
 use Rattle.st_semantics.specs.declared.outcome.Outcome.{Outcome}
 use Rattle.st_semantics.specs.declared.outcome.Outcome.TheVariants.{Val, NoValue, Deep}
 use Rattle.st_semantics.specs.Names.{Name, has_name, all_known}
@@ -159,7 +161,7 @@ module _ (sought : Sought) (ls : List Listed) (all found : List Env) (f : AreFou
       let m = some_of (IsMade sought s) all r.0 in
       let names = entries-names sought.env.now m.0 sought.names.now s.entries m.1 in
       record {
-        ordered = subst (AllPairs _) (sym names) (pairs_sorted sought.names.now ordered.sorted);
+        ordered = subst (AllPairs (λ (x y : Name). is_lt (text_cmp x y) ≡ true)) (sym names) (pairs_sorted sought.names.now ordered.sorted);
         names = λ x. ap (λ z. has_name z x) names ∙ ordered.among x;
         extends = λ x k.
             let v = value_there sought.env.now.entries x k in

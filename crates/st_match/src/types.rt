@@ -91,7 +91,7 @@ fn listed_as<'a>(name: &Name, variables: &'a [Listed]) -> Option<&'a Listed>
 }
 
 /// What is asked of a listed variable.
-fn asked(alloc: Global, name: &Name, listed: &Listed) -> Result<Asked, NoMemory>
+fn asked_of_one(alloc: Global, name: &Name, listed: &Listed) -> Result<Asked, NoMemory>
     ensures { IfOk result (λ asked.
         asked ≡ record { name = name.now; ty = type_of listed.now }) }
 {
@@ -108,7 +108,7 @@ fn asked_as(alloc: Global, variables: &[Listed], name: &Name) -> Result<Row<Aske
     match listed_as(name, variables) {
         None => Ok(Row::new(alloc)),
         Some(listed) => {
-            let one = asked(alloc, name, listed)?;
+            let one = asked_of_one(alloc, name, listed)?;
             let row = single(alloc, one)?;
             Ok(row)
         }
