@@ -50,13 +50,13 @@ pub(crate) fn masks(alloc: Global, il: &Il) -> Result<Masks, NoMemory>
 
 /// An internal language, and for each of its relations which of its holes are inputs.
 #[derive(Drop)]
-pub(crate) struct Directions<'a> {
-    pub(crate) il: &'a Il,
+pub struct Directions<'a> {
+    pub il: &'a Il,
     masks: Masks<'a>,
 }
 
 /// The directions of the relations of an internal language.
-pub(crate) fn directions_of(alloc: Global, il: &Il) -> Result<Directions, NoMemory>
+pub fn directions_of(alloc: Global, il: &Il) -> Result<Directions, NoMemory>
     ensures { IfOk result (λ directions.
         AreDirections directions × (directions.il.now ≡ il.now)) }
 {
