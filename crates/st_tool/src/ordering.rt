@@ -105,7 +105,8 @@ fn add_full_name(rule: &RuleDef, bytes: &mut Vec<u8>) -> Result<(), NoMemory>
     ensures { OnOk result (bytes.new.items ≡ bytes.old.items ++ full_name rule.now) }
 {
     bytes.extend_from_slice(rule.relation.as_slice())?;
-    push_rule_part(bytes, &rule.name)
+    push_rule_part(bytes, &rule.name)?;
+    Ok(())
 }
 
 /// Adds the line of a rule.

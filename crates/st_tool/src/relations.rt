@@ -45,7 +45,8 @@ fn gather_rule<'a>(alloc: Global, rule: &'a RuleDef, rules: &mut Rules<'a>) -> R
         ≡ rules_at rules.old.entries q ++ rules_from q (rule.now ∷ [])) }
 {
     let name = &rule.relation;
-    let mut row = found_or_none(alloc, put(rules, name, Row::new(alloc))?);
+    let found = put(rules, name, Row::new(alloc))?;
+    let mut row = found_or_none(alloc, found);
     row.push(rule)?;
     let _none = put(rules, name, row)?;
     Ok(())
