@@ -16,22 +16,22 @@ use std::alloc::Global;
 /// The rules of each relation that has one, in their order, under its name.
 pub type Rules<'a> = IndexMap<&'a Name, Row<&'a RuleDef>>;
 
-/// Puts rules under a name, and answers those that stood there.
-fn put<'a>(
-    rules: &mut Rules<'a>,
+/// Puts something under a name, and answers what stood there.
+fn put<'a, T: Drop>(
+    map: &mut IndexMap<&'a Name, T>,
     name: &'a Name,
-    row: Row<&'a RuleDef>,
-) -> Result<Option<Row<&'a RuleDef>>, NoMemory>
-    ensures was { IfOk result (λ was. was ≡ at rules.old.entries name.now) }
-    ensures more { OnOk result ((q : NameBytes) → at rules.new.entries q
-        ≡ (if bytes_eq q name.now then Some row else at rules.old.entries q)) }
+    value: T,
+) -> Result<Option<T>, NoMemory>
+    ensures was { IfOk result (λ was. was ≡ at map.old.entries name.now) }
+    ensures more { OnOk result ((q : NameBytes) → at map.new.entries q
+        ≡ (if bytes_eq q name.now then Some value else at map.old.entries q)) }
 {
-    Ok(rules.insert(name, row)?)
+    Ok(map.insert(name, value)?)
 }
 
 /// The rules that were found, or none.
 fn found_or_none<'a>(alloc: Global, found: Option<Row<&'a RuleDef>>) -> Row<&'a RuleDef>
-    ensures { all_now result ≡ rules_found found }
+    ensures { all_now result ≡ rules_found found.entry }
 {
     match found {
         Some(rules) => rules,
@@ -79,19 +79,9 @@ pub fn rules_by_name(alloc: Global, il: &Il) -> Result<Rules, NoMemory>
     Ok(rules)
 }
 
-/// What stands under a name.
-fn at<'m, 'a>(rules: &'m Rules<'a>, name: &'m Name) -> Option<&'m Row<&'a RuleDef>>
+/// The rules of the relation of a name, if it has one.
+pub fn rules_under<'m, 'a>(rules: &'m Rules<'a>, name: &'m Name) -> Option<&'m Row<&'a RuleDef>>
     ensures { option_copied result ≡ at rules.now.entries name.now }
 {
     rules.get(&name)
-}
-
-/// The rules of the relation of a name.
-pub fn rules_under<'m, 'a>(rules: &'m Rules<'a>, name: &'m Name) -> &'m [&'a RuleDef]
-    ensures { all_now result.now ≡ rules_at rules.now.entries name.now }
-{
-    match at(rules, name) {
-        Some(rules) => rules.as_slice(),
-        None => &[],
-    }
 }
