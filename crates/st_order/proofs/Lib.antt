@@ -1,6 +1,16 @@
 pub mod Holes
 pub mod Following
 pub mod VariableParts
+pub mod CalledParts
+pub mod LengthParts
+pub mod Running
+pub mod OneOpen
+pub mod ClauseParts
+pub mod CiterParts
+pub mod CircleParts
+pub mod DirectedParts
+pub mod BreachParts
+pub mod FewParts
 pub mod BoundParts
 pub mod HoleParts
 pub mod NamesIn

@@ -6,3 +6,9 @@ pub mod HolesOf
 pub mod Classes
 pub mod Selections
 pub mod Endings
+pub mod Citing
+pub mod Lengths
+pub mod Circles
+pub mod Relations
+pub mod Breaches
+pub mod Few

@@ -37,7 +37,11 @@ pub(crate) enum Class {
 }
 
 /// Whether all variables of an expression are bound.
-fn is_bound(alloc: Global, bound: &IndexSet<&Name>, exp: &IlExp) -> Result<bool, NoMemory>
+pub(crate) fn is_bound(
+    alloc: Global,
+    bound: &IndexSet<&Name>,
+    exp: &IlExp,
+) -> Result<bool, NoMemory>
     ensures { IfOk result (λ is. is ≡ all_known (names_in bound.now.keys) (vars exp.now)) }
 {
     let mut names = Row::new(alloc);
@@ -87,7 +91,7 @@ fn is_bound_by_itself(
 }
 
 /// Whether the one side can be evaluated and the other one matched.
-fn is_matched(
+pub(crate) fn is_matched(
     alloc: Global,
     bound: &IndexSet<&Name>,
     exp: &IlExp,
@@ -311,7 +315,7 @@ fn bound_inside<'a>(
 }
 
 /// What is bound inside an iterated premise; none where it cannot be run.
-fn inside_each<'a>(
+pub(crate) fn inside_each<'a>(
     alloc: Global,
     bound: &IndexSet<&Name>,
     how: &'a Iteration,

@@ -1,10 +1,10 @@
 //! Names in sets, and what stands under a name, found by hashes.
 
-ghost use Rattle.std.specs.Prelude.{◌≡◌, ◌∷◌, ◌++◌, [], List, ℕ, Some, bytes_eq, if◌then◌else◌, IfOk, OnOk};
+ghost use Rattle.std.specs.Prelude.{◌≡◌, ◌<◌, ◌∷◌, ◌++◌, [], List, ℕ, Some, length, bytes_eq, if◌then◌else◌, IfOk, IfSome, OnOk};
 ghost use Rattle.std.specs.Option.{option_copied};
 ghost use Rattle.std.specs.List.{list_any};
 ghost use Rattle.st_semantics.specs.Names.{has_name, all_known, among, without};
-ghost use Rattle.st_order.specs.inner.Index.{at, names_in, SameNames};
+ghost use Rattle.st_order.specs.inner.Index.{at, names_in, number_in, SameNames};
 
 use indexmap::{IndexMap, IndexSet};
 use st_num::{Name, NoMemory, Row};
@@ -35,6 +35,14 @@ pub(crate) fn has(names: &IndexSet<&Name>, name: &Name) -> bool
     ensures { result ≡ has_name (names_in names.now.keys) name.now }
 {
     names.contains(&name)
+}
+
+/// The place of a name among these.
+pub(crate) fn number_in(names: &IndexSet<&Name>, name: &Name) -> Option<usize>
+    ensures number { result ≡ number_in names.now.keys name.now }
+    ensures within { IfSome result (λ number. number < length names.now.keys) }
+{
+    names.get_index_of(&name)
 }
 
 /// Adds a name.

@@ -10,7 +10,12 @@
 #![tactic(auto)]
 
 mod bindings;
+mod breaches;
+mod circles;
+mod citers;
+mod citing;
 mod class;
+mod clause_modes;
 mod directed;
 mod directions;
 mod fault;
@@ -18,8 +23,12 @@ mod index;
 mod least;
 mod masks;
 mod moding;
+mod one_open;
+mod open_parts;
 mod order;
 mod relation_modes;
+mod relations;
+mod rule_modes;
 mod rules;
 mod selection;
 mod variables;
