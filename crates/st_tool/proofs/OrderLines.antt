@@ -10,16 +10,18 @@ use Rattle.std.proofs.lemmas.Grind.{flat_map-append}
 use Rattle.std.proofs.lemmas.List.{length-map, get_or-map, take_all}
 use Rattle.std.proofs.lemmas.List.Elements.{All-cons, All-head, All-tail}
 use Rattle.st_il.specs.declared.definition.Il.{Il}
+use Rattle.st_il.specs.declared.definition.IlDef.{IlDef}
+use Rattle.st_il.specs.declared.definition.IlDef.TheVariants.{Syntax, Var, Relation, Rule, Fun, Clause}
 use Rattle.st_il.specs.declared.definition.RelationDef.{RelationDef}
 use Rattle.st_il.specs.declared.definition.RuleDef.{RuleDef}
 use Rattle.st_order.specs.declared.relation_modes.Modes.{Modes}
-use Rattle.st_order.specs.Modes.{AreModes, orders_in}
+use Rattle.st_order.specs.Modes.{HasFew, AreModes, orders_in}
 use Rattle.st_order.specs.inner.Parts.{all_now}
 use Rattle.st_semantics.specs.declared.unfit.Unfit.{Unfit}
 use Rattle.st_semantics.specs.declared.unfit.Unfit.TheVariants as unfit
 use Rattle.st_semantics.specs.declared.unfit.Unordered.{Unordered}
 use Rattle.st_semantics.specs.Names.{Name}
-use Rattle.st_semantics.specs.Definitions.{relations, rules_in, rules_of, rules_from}
+use Rattle.st_semantics.specs.Definitions.{relations, relations_in, rules_in, rules_of, rules_from}
 use Rattle.st_semantics.specs.Directions.{direction}
 use Rattle.st_semantics.specs.Marks.{rule_name_of, HasOwn, HasUnfit}
 use Rattle.st_semantics.specs.OrderOf.{order_of}
@@ -199,6 +201,15 @@ zip_at R (a ∷ xs) [] k x d y e h within is also = absurd h
 zip_at R (a ∷ xs) (b ∷ ys) zero x d y e h within is also = subst (λ z. R z y) (sym is) (subst (λ z. R a z) (sym also) h.0)
 zip_at R (a ∷ xs) (b ∷ ys) (suc k) x d y e h within is also = zip_at R xs ys k x d y e h.1 (omega (arith, within)) is also
 
+relations_long : (ds : List IlDef) → length (relations_in ds) ≤ length ds
+relations_long [] = omega arith
+relations_long (Syntax s ∷ ds) = omega (arith, relations_long ds)
+relations_long (Var x t ∷ ds) = omega (arith, relations_long ds)
+relations_long (Relation r ∷ ds) = omega (arith, relations_long ds)
+relations_long (Rule r ∷ ds) = omega (arith, relations_long ds)
+relations_long (Fun f ∷ ds) = omega (arith, relations_long ds)
+relations_long (Clause c ∷ ds) = omega (arith, relations_long ds)
+
 -- what is known of a relation among the declared ones
 module _ (il : Il) (declared : List (Bor RelationDef)) (modes : Modes) (known : AreModes il modes) (are : all_now declared ≡ relations il) (k : ℕ) (within : k < length declared) where
   there : k < length (relations il)
@@ -206,6 +217,9 @@ module _ (il : Il) (declared : List (Bor RelationDef)) (modes : Modes) (known : 
 
   pub within_marks : (marks : List (Option Unfit)) → marks ≡ modes.marks → k < length marks
   within_marks marks same = omega (arith, there, ap length same, zip_long (HasUnfit il) (relations il) modes.marks known.marks)
+
+  pub within_few : HasFew il → k < 2 ^ 32
+  within_few few = omega (arith, there, relations_long il.defs, few.0)
 
   pub within_orders : (orders : List (List (Option (List ℕ)))) → orders ≡ modes.orders → k < length orders
   within_orders orders same = omega (arith, there, ap length same, ap length known.orders, length-map (relations il) (orders_in il))

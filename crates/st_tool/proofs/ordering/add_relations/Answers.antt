@@ -1,8 +1,8 @@
-use Rattle.std.proofs.Common.{◌∙◌, ap}
+use Rattle.std.proofs.Common.{◌∙◌, ap, arith}
 use Rattle.st_semantics.specs.Definitions.{relations}
 use Rattle.st_tool.specs.OrderTexts.{relation_lines}
 use Rattle.st_tool.specs.inner.Relations.{rules_found}
-use Rattle.st_tool.proofs.OrderLines.{one_more_now, all_lines, within_marks, within_orders, mark_at, orders_at}
+use Rattle.st_tool.proofs.OrderLines.{one_more_now, all_lines, within_few, within_marks, within_orders, mark_at, orders_at}
 use Rattle.st_tool.proofs.ordering.add_relations.Goals as goal
 
 pub bounds-marks-number : goal.bounds-marks-number
@@ -11,7 +11,9 @@ bounds-marks-number c =
     c.as_slice-marks.ensures
 
 pub offset_bounds-marks-number : goal.offset_bounds-marks-number
-offset_bounds-marks-number c = ?
+offset_bounds-marks-number c =
+    let small = within_few c.args.directions.now.il.now c.args.declared.now c.args.modes.now c.requires.modes c.requires.declared c.loop-number.number c.loop-number-test.true c.requires.few in
+    omega (arith, small)
 
 pub bounds-orders-number : goal.bounds-orders-number
 bounds-orders-number c =
