@@ -45,7 +45,9 @@ pub mod variables;
 
 pub use directions::direction;
 pub use fault::{ModeFault, OrderFault};
+pub use masks::{Directions, directions_of};
 pub use moding::{has_few, modes};
-pub use order::{has_rule, order_rule};
+pub use order::{has_rule, order_by, order_rule};
 pub use relation_modes::Modes;
+pub use rules::relations_of;
 pub use step_types::stepping;
