@@ -1,6 +1,6 @@
 -- Which rules definitions break, and which definition is the first, from the last one on.
-use Rattle.std.proofs.Common.{◌≡◌, ◌⊎◌, inl, inr, refl, sym, ap, ap₂, ◌∙◌, subst, ℕ, zero, suc, ◌+◌, ◌-◌, ◌<◌, ◌≤◌, Bool, true, false, true≢false, not, ◌&&◌, ◌||◌, if◌then◌else◌, List, [], ◌∷◌, ◌++◌, length, get_or, drop, Option, Some, None, bytes_eq, arith}
-use Rattle.std.specs.Prelude.{All, is_some, unwrap_or}
+use Rattle.std.proofs.Common.{◌≡◌, refl, sym, ap, ◌∙◌, subst, ℕ, ◌+◌, ◌<◌, Bool, true, false, true≢false, not, ◌&&◌, ◌||◌, if◌then◌else◌, List, [], ◌∷◌, ◌++◌, length, get_or, drop, Option, Some, None, bytes_eq, arith}
+use Rattle.std.specs.Prelude.{is_some, unwrap_or}
 use Rattle.std.specs.List.{list_any}
 use Rattle.std.specs.Option.{option_map}
 use Rattle.std.proofs.lemmas.Bool.{false≢true}
@@ -24,7 +24,7 @@ use Rattle.st_order.specs.declared.relations.Relations.{Relations}
 use Rattle.st_order.specs.inner.Index.{SameNames}
 use Rattle.st_order.specs.inner.Circles.{is_circular}
 use Rattle.st_order.specs.inner.Relations.{is_directed, AreRelations}
-use Rattle.st_order.specs.inner.Breaches.{least_not_kept, clause_breach, breaks_m1, breaks_m2, breaks_m5, least_broken, rule_breach, is_decided, AreDecided, IsLeast, earlier, AllKeep, IsFirstBreach, IsFound, IsBreachAnswer}
+use Rattle.st_order.specs.inner.Breaches.{least_not_kept, clause_breach, breaks_m1, breaks_m2, breaks_m5, least_broken, rule_breach, is_decided, AreDecided, IsLeast, earlier, AllKeep, IsFound, IsBreachAnswer}
 use Rattle.st_order.proofs.Holes.{drop_there}
 use Rattle.st_order.proofs.NamesIn.{has_name_append}
 

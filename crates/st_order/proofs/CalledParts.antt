@@ -1,5 +1,5 @@
 -- The functions in expressions, by those in their parts.
-use Rattle.std.proofs.Common.{◌≡◌, refl, sym, ◌∙◌, ap, ap₂, List, [], ◌∷◌, ◌++◌, append-nil, map, ◌⊎◌, inl, inr, rules}
+use Rattle.std.proofs.Common.{◌≡◌, refl, ◌∙◌, ap, ap₂, List, [], ◌∷◌, ◌++◌, append-nil, map, ◌⊎◌, inl, inr, rules}
 use Rattle.st_il.specs.declared.expression.IlExp.{IlExp, the_lemmas}
 use Rattle.st_il.specs.declared.expression.IlExp.TheVariants as exp
 use Rattle.st_il.specs.declared.expression.PathSeg.{PathSeg}

@@ -1,9 +1,9 @@
 -- The graph of citations has what relations and functions cite, and a relation cites itself exactly
 -- where an edge leads from it to its own component.
-use Rattle.std.proofs.Common.{◌≡◌, ◌≢◌, ◌⊎◌, inl, inr, refl, sym, ap, ap₂, ◌∙◌, subst, ℕ, zero, suc, ◌+◌, ◌<◌, ◌≤◌, List, [], ◌∷◌, ◌++◌, length, set, replicate, map, get_or, Bool, true, false, cond, not, ltb, ◌||◌, Option, Some, None, slice_get, slice_index_or, option_to_list, Contains, if◌then◌else◌, bytes_eq, append-nil, append_assoc, arith}
-use Rattle.std.specs.Prelude.{◌↔◌, nat_lt, nat_eq, position, unwrap_or, option_map}
+use Rattle.std.proofs.Common.{◌≡◌, ◌≢◌, ◌⊎◌, inl, inr, refl, sym, ap, ap₂, ◌∙◌, subst, ℕ, zero, suc, ◌+◌, ◌<◌, ◌≤◌, List, [], ◌∷◌, ◌++◌, length, set, replicate, map, get_or, Bool, true, false, cond, not, ◌||◌, Option, Some, None, slice_get, option_to_list, Contains, if◌then◌else◌, bytes_eq, append_assoc, arith}
+use Rattle.std.specs.Prelude.{◌↔◌, nat_lt, position, unwrap_or, option_map}
 use Rattle.std.specs.Borrow.{Bor}
-use Rattle.std.specs.List.{list_any, flat_map, position_or_len}
+use Rattle.std.specs.List.{list_any, position_or_len}
 use Rattle.std.proofs.lemmas.List.{length-set, length-replicate}
 use Rattle.std.proofs.lemmas.Bool.{false≢true}
 use Rattle.std.proofs.lemmas.Bool.Decides.{nat_tests, Decides-eqb}

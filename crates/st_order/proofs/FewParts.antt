@@ -1,6 +1,6 @@
 -- Whether the rules among some definitions have few premises, definition by definition.
-use Rattle.std.proofs.Common.{◌≡◌, refl, sym, ap, ◌∙◌, subst, ℕ, ◌+◌, ◌<◌, ◌≤◌, ◌^◌, Bool, true, false, true≢false, List, [], ◌∷◌, length, get_or, drop, leb-true, le-leb, arith}
-use Rattle.std.specs.Prelude.{◌↔◌, IsTrue, nat_le, All}
+use Rattle.std.proofs.Common.{◌≡◌, sym, ◌∙◌, subst, ℕ, ◌+◌, ◌<◌, ◌≤◌, ◌^◌, Bool, true, false, true≢false, List, ◌∷◌, length, get_or, drop, leb-true, le-leb, arith}
+use Rattle.std.specs.Prelude.{◌↔◌, IsTrue, nat_le}
 use Rattle.std.proofs.lemmas.Bool.{false≢true}
 use Rattle.std.proofs.lemmas.List.Elements.{All-nil, All-cons, All-head, All-tail}
 use Rattle.st_il.specs.declared.definition.IlDef.{IlDef}

@@ -11,6 +11,7 @@ pub mod CircleParts
 pub mod DirectedParts
 pub mod BreachParts
 pub mod FewParts
+pub mod SteppingParts
 pub mod BoundParts
 pub mod HoleParts
 pub mod NamesIn
@@ -23,3 +24,10 @@ pub mod LeastName
 pub mod RuleParts
 pub mod EndingParts
 pub mod MaskAmong
+pub mod HasWalked
+pub mod HasRead
+pub mod Sifted
+pub mod NeedsFun
+pub mod IsIndexed
+pub mod AreOrders
+pub mod HasTold

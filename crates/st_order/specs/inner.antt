@@ -7,6 +7,12 @@ pub mod Classes
 pub mod Selections
 pub mod Endings
 pub mod Citing
+pub mod Reaching
+pub mod Citations
+pub mod Sifted
+pub mod Needs
+pub mod Orders
+pub mod Marking
 pub mod Lengths
 pub mod Circles
 pub mod Relations

@@ -67,7 +67,7 @@ fn mask_at(alloc: Global, template: &Template) -> Result<Option<Row<bool>>, NoMe
 }
 
 /// For each hole of a relation, whether it is an input; none where it is undirected.
-fn mask_of(alloc: Global, relation: &RelationDef) -> Result<Option<Row<bool>>, NoMemory>
+pub(crate) fn mask_of(alloc: Global, relation: &RelationDef) -> Result<Option<Row<bool>>, NoMemory>
     ensures { IfOk result (λ mask. mask ≡ direction relation.now) }
 {
     if !relation.mode.is_empty() {

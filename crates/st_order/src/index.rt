@@ -23,6 +23,19 @@ pub(crate) fn put<'a, T: Drop>(
     Ok(())
 }
 
+/// Puts something under a name, and answers what stood there.
+pub(crate) fn exchange<'a, T: Drop>(
+    map: &mut IndexMap<&'a Name, T>,
+    name: &'a Name,
+    value: T,
+) -> Result<Option<T>, NoMemory>
+    ensures was { IfOk result (λ was. was ≡ at map.old.entries name.now) }
+    ensures put { OnOk result ((q : List ℕ) → at map.new.entries q
+        ≡ (if bytes_eq q name.now then Some value else at map.old.entries q)) }
+{
+    Ok(map.insert(name, value)?)
+}
+
 /// What stands under a name.
 pub(crate) fn at<'m, T>(map: &'m IndexMap<&Name, T>, name: &'m Name) -> Option<&'m T>
     ensures { option_copied result ≡ at map.now.entries name.now }

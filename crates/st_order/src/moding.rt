@@ -6,6 +6,7 @@ ghost use Rattle.st_order.specs.inner.Few.{HasFewPremises};
 
 use crate::breaches::{ModeBreach, mode_breach};
 use crate::fault::ModeFault;
+use crate::marking::relation_marks;
 use crate::relation_modes::Modes;
 use st_il::{Il, IlDef};
 use std::alloc::Global;
@@ -63,5 +64,6 @@ pub fn modes(alloc: Global, il: &Il) -> Result<Modes, ModeFault>
     if let Some(breach) = breach {
         return Err(refused(breach));
     }
-    Err(ModeFault::Memory)
+    let modes = relation_marks(alloc, il)?;
+    Ok(modes)
 }

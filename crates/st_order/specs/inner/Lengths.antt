@@ -1,5 +1,5 @@
 -- What is told of the lengths of expressions, of parts of lists and of steps of paths.
-use Rattle.std.specs.Prelude.{Bool, List, map}
+use Rattle.std.specs.Prelude.{Bool, List}
 use Rattle.std.specs.List.{list_any}
 use Rattle.st_il.specs.declared.expression.IlExp.{IlExp, fold-IlExp}
 use Rattle.st_il.specs.declared.expression.Iteration.{Iteration, fold-Iteration}

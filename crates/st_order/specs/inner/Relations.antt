@@ -1,5 +1,5 @@
 -- What is kept of relations: whether they are directed, and whether they cite themselves.
-use Rattle.std.specs.Prelude.{◌≡◌, ℕ, Bool, false, List, Option, Some, None, is_some, bytes_eq, find, unwrap_or, if◌then◌else◌}
+use Rattle.std.specs.Prelude.{◌≡◌, ℕ, Bool, false, List, Option, Some, is_some, bytes_eq, find, unwrap_or, if◌then◌else◌}
 use Rattle.std.specs.Borrow.{Bor}
 use Rattle.std.specs.Option.{option_map}
 use Rattle.st_il.specs.declared.definition.Il.{Il}

@@ -1,4 +1,4 @@
-use Rattle.std.proofs.Common.{◌≡◌, sym, ap, ap₂, ◌∙◌, not}
+use Rattle.std.proofs.Common.{sym, ap, ap₂, ◌∙◌, not}
 use Rattle.std.specs.List.{list_all}
 use Rattle.st_il.specs.declared.expression.IlExp.{IlExp}
 use Rattle.st_semantics.specs.Names.{all_known}
