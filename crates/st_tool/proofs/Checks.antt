@@ -1,8 +1,7 @@
 -- The tokens of all files, and what a check says of them.
 use Rattle.std.proofs.Common.{◌≡◌, ◌≢◌, ℕ, zero, suc, ◌+◌, ◌<◌, List, [], ◌∷◌, ◌++◌, length, take, get_or, ap, ◌∙◌, sym, refl, subst, inl, inr, arith, add-one, append_assoc, append-nil}
-use Rattle.std.specs.Prelude.{Result, Ok, Err, IfOk, Some, slice_get}
+use Rattle.std.specs.Prelude.{Result, Ok, Err, IfOk, Some, slice_get, unwrap_or}
 use Rattle.std.specs.List.{AllByRecursion}
-use Rattle.std.proofs.Math.Option.{some-injective}
 use Rattle.std.proofs.Math.Seq.{take-suc}
 use Rattle.std.proofs.lemmas.List.{length-take-le}
 use Rattle.std.proofs.lemmas.Option.{slice_get-get_or, slice_get_within}
@@ -169,7 +168,7 @@ breaches_within files names tokens defs all some source named b breach =
 
 def_begins : (n : ℕ) (defs : List Def) (k : ℕ) (def : Def) → AllByRecursion (DefStands (IsBefore n)) defs → slice_get defs k ≡ Some def → def.at.file < n
 def_begins n [] k def stand is = let none : ⊥ = omega (arith, slice_get_within [] k def is) in absurd none
-def_begins n (d ∷ ds) zero def stand is = subst (λ (x : Def). x.at.file < n) (some-injective d def is) stand.0.0
+def_begins n (d ∷ ds) zero def stand is = subst (λ (x : Def). x.at.file < n) (ap (λ o. unwrap_or o d) is) stand.0.0
 def_begins n (d ∷ ds) (suc k) def stand is = def_begins n ds k def stand.1 is
 
 -- each of the definitions begins in one of the files

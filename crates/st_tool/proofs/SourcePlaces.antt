@@ -24,14 +24,14 @@ is_kept d = not (is_later d)
 
 stands_for : (ds : List Definition) → length (flat_map joined_of ds) ≡ length (filter is_kept ds)
 stands_for [] = refl
-stands_for (d ∷ ds) = by (is_later d) refl
+stands_for (d ∷ ds) = by (is_later d) refl (stands_for ds)
   where
-    by : (b : Bool) → is_later d ≡ b → length (flat_map joined_of (d ∷ ds)) ≡ length (filter is_kept (d ∷ ds))
-    by true e =
-        ap (λ xs. length (xs ++ flat_map joined_of ds)) (joined-later d e) ∙ stands_for ds
+    by : (b : Bool) → is_later d ≡ b → length (flat_map joined_of ds) ≡ length (filter is_kept ds) → length (flat_map joined_of (d ∷ ds)) ≡ length (filter is_kept (d ∷ ds))
+    by true e rest =
+        ap (λ xs. length (xs ++ flat_map joined_of ds)) (joined-later d e) ∙ rest
         ∙ sym (ap (λ c. length (if not c then d ∷ filter is_kept ds else filter is_kept ds)) e)
-    by false e =
-        ap (λ xs. length (xs ++ flat_map joined_of ds)) (joined-first d e) ∙ ap suc (stands_for ds)
+    by false e rest =
+        ap (λ xs. length (xs ++ flat_map joined_of ds)) (joined-first d e) ∙ ap suc rest
         ∙ sym (ap (λ c. length (if not c then d ∷ filter is_kept ds else filter is_kept ds)) e)
 
 joined-long : (defs : List Def) → length (joined defs) ≡ length (sources_of defs)
