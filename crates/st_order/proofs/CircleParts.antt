@@ -220,15 +220,15 @@ module _ (c : Citers) where
   Adds d a b = (x : Citer) × ((citer_of d ≡ Some x) × ((number_of c x ≡ Some a) × Stands (numbers_of c (cited_in d)) b))
 
   module _ (graph : List (List ℕ)) (d : IlDef) (size : length graph ≡ count_of c) where
-    abbrev more : List ℕ
-    more = numbers_of c (cited_in d)
+    abbrev added : List ℕ
+    added = numbers_of c (cited_in d)
 
     -- either nothing is added, or a row
     abbrev Steps : Type 0
     Steps =
         ((with_citations c graph d ≡ graph) × ((a b : ℕ) → Adds d a b → ⊥))
         ⊎ ((i : ℕ) × ((old : List ℕ) × ((slice_get graph i ≡ Some old)
-        × ((with_citations c graph d ≡ set graph i (old ++ more))
+        × ((with_citations c graph d ≡ set graph i (old ++ added))
         × ((x : Citer) × ((citer_of d ≡ Some x) × (number_of c x ≡ Some i)))))))
 
     steps : Steps
@@ -243,8 +243,8 @@ module _ (c : Citers) where
                 (
                   g,
                   (
-                    ap (λ o. with_row graph (number_of_owner c o) more) e ∙ ap (λ o. with_row graph o more) f
-                        ∙ ap (λ (r : List ℕ). set graph i (r ++ more)) (get_or_from_slice_get graph i old [] g),
+                    ap (λ o. with_row graph (number_of_owner c o) added) e ∙ ap (λ o. with_row graph o added) f
+                        ∙ ap (λ (r : List ℕ). set graph i (r ++ added)) (get_or_from_slice_get graph i old [] g),
                     (x, (e, f)),
                   ),
                 ),
@@ -254,7 +254,7 @@ module _ (c : Citers) where
         named : (x : Citer) → citer_of d ≡ Some x → (o : Option ℕ) → number_of c x ≡ o → Steps
         named x e None f =
             inl (
-              ap (λ o. with_row graph (number_of_owner c o) more) e ∙ ap (λ o. with_row graph o more) f,
+              ap (λ o. with_row graph (number_of_owner c o) added) e ∙ ap (λ o. with_row graph o added) f,
               λ a b (y, (g, (h, s))). let same : x ≡ y = cc in let q : None ≡ Some a = sym f ∙ ap (number_of c) same ∙ h in let n : ⊥ = cc in n,
             )
         named x e (Some i) f =
@@ -263,7 +263,7 @@ module _ (c : Citers) where
         by : (o : Option Citer) → citer_of d ≡ o → Steps
         by None e =
             inl (
-              ap (λ o. with_row graph (number_of_owner c o) more) e,
+              ap (λ o. with_row graph (number_of_owner c o) added) e,
               λ a b (y, (g, h)). let q : None ≡ Some y = sym e ∙ g in let n : ⊥ = cc in n,
             )
         by (Some x) e = named x e (number_of c x) refl
@@ -273,25 +273,25 @@ module _ (c : Citers) where
       where
         by : Steps → length (with_citations c graph d) ≡ length graph
         by (inl (e, n)) = ap length e
-        by (inr (i, (old, (g, (e, h))))) = ap length e ∙ length-set graph i (old ++ more)
+        by (inr (i, (old, (g, (e, h))))) = ap length e ∙ length-set graph i (old ++ added)
 
     step-sound : (a b : ℕ) → Edge (with_citations c graph d) a b → Edge graph a b ⊎ Adds d a b
     step-sound a b edge = by steps
       where
-        new : (i : ℕ) → (x : Citer) × ((citer_of d ≡ Some x) × (number_of c x ≡ Some i)) → Edge graph a b ⊎ ((a ≡ i) × Stands more b) → Edge graph a b ⊎ Adds d a b
+        new : (i : ℕ) → (x : Citer) × ((citer_of d ≡ Some x) × (number_of c x ≡ Some i)) → Edge graph a b ⊎ ((a ≡ i) × Stands added b) → Edge graph a b ⊎ Adds d a b
         new i h (inl g) = inl g
         new i (x, (e, f)) (inr (q, s)) = inr (x, (e, (f ∙ ap Some (sym q), s)))
 
         by : Steps → Edge graph a b ⊎ Adds d a b
         by (inl (e, n)) = inl (subst (λ z. Edge z a b) e edge)
-        by (inr (i, (old, (g, (e, h))))) = new i h (row-sound graph i old more g a b (subst (λ z. Edge z a b) e edge))
+        by (inr (i, (old, (g, (e, h))))) = new i h (row-sound graph i old added g a b (subst (λ z. Edge z a b) e edge))
 
     step-old : (a b : ℕ) → Edge graph a b → Edge (with_citations c graph d) a b
     step-old a b edge = by steps
       where
         by : Steps → Edge (with_citations c graph d) a b
         by (inl (e, n)) = subst (λ z. Edge z a b) (sym e) edge
-        by (inr (i, (old, (g, (e, h))))) = subst (λ z. Edge z a b) (sym e) (row-old graph i old more g a b edge)
+        by (inr (i, (old, (g, (e, h))))) = subst (λ z. Edge z a b) (sym e) (row-old graph i old added g a b edge)
 
     step-new : (a b : ℕ) → Adds d a b → Edge (with_citations c graph d) a b
     step-new a b m = by steps
@@ -302,7 +302,7 @@ module _ (c : Citers) where
         by : Steps → Edge (with_citations c graph d) a b
         by (inl (e, n)) = absurd (n a b m)
         by (inr (i, (old, (g, (e, h))))) =
-            subst (λ z. Edge z a b) (sym e) (subst (λ k. Edge (set graph i (old ++ more)) k b) (here i h m) (row-new graph i old more g b m.1.1.1))
+            subst (λ z. Edge z a b) (sym e) (subst (λ k. Edge (set graph i (old ++ added)) k b) (here i h m) (row-new graph i old added g b m.1.1.1))
 
   all-size : (ds : List IlDef) (graph : List (List ℕ)) → length graph ≡ count_of c → length (all_citations c graph ds) ≡ count_of c
   all-size [] graph size = size
