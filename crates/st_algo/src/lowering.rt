@@ -76,8 +76,8 @@ fn algorithm_of<'a>(
     let mut steps = Row::new(alloc);
     let heads = copy_refs(alloc, heads)?;
     steps.push(AlgoStep::Match(heads))?;
-    push_steps(alloc, directions, prems, &mut bound, &mut steps)?;
     let results = copy_refs(alloc, results)?;
+    push_steps(alloc, directions, prems, &mut bound, &mut steps)?;
     steps.push(AlgoStep::Give(results))?;
     let name = name.copy(alloc)?;
     Ok(Algorithm { name, steps })
