@@ -21,11 +21,7 @@ use st_order::variables::{push_prem_vars, push_vars_of};
 use std::alloc::Global;
 
 /// Adds the variables of a premise to those that are bound.
-fn bind<'a>(
-    alloc: Global,
-    prem: &'a IlPrem,
-    bound: &mut IndexSet<&'a Name>,
-) -> Result<(), NoMemory>
+fn bind<'a>(alloc: Global, prem: &'a IlPrem, bound: &mut IndexSet<&'a Name>) -> Result<(), NoMemory>
     ensures { OnOk result (SameNames (names_in bound.new.keys)
         (names_in bound.old.keys ++ prem_vars prem.now)) }
 {
