@@ -1,10 +1,10 @@
 -- All algorithms to which an internal language is lowered by its modes can be taken.
-use Rattle.std.proofs.Common.{◌≡◌, refl, sym, ◌∙◌, ap, subst, ℕ, zero, suc, ◌+◌, List, [], ◌∷◌, map, Bool, true, false, if◌then◌else◌, Option, Some, None, Ok, Err, All, slice_get, bytes_eq, arith}
+use Rattle.std.proofs.Common.{◌≡◌, refl, sym, ◌∙◌, ap, subst, ℕ, suc, ◌+◌, List, [], ◌∷◌, map, Bool, true, false, if◌then◌else◌, Option, Some, None, Ok, Err, All, slice_get, bytes_eq, arith}
 use Rattle.std.specs.Prelude.{Result, IfSome, unwrap_or, option_and_then}
 use Rattle.std.specs.List.{list_all, enumerate_from}
 use Rattle.std.specs.Option.{option_map}
 use Rattle.std.specs.Result.{result_ok}
-use Rattle.std.proofs.lemmas.List.Elements.{All-nil, All-cons, All-head, All-tail, All-map}
+use Rattle.std.proofs.lemmas.List.Elements.{All-nil, All-cons, All-head, All-tail}
 use Rattle.std.proofs.lemmas.Option.{slice_get-map}
 use Rattle.st_il.specs.declared.definition.ClauseDef.{ClauseDef}
 use Rattle.st_il.specs.declared.definition.FunDef.{FunDef}
@@ -22,7 +22,7 @@ use Rattle.st_semantics.proofs.Selections.{law_of_orders}
 use Rattle.st_order.specs.Modes.{order_in, orders_in}
 use Rattle.st_order.specs.declared.relation_modes.Modes.{Modes}
 use Rattle.st_algo.specs.declared.algorithm.Algorithm.{Algorithm}
-use Rattle.st_algo.specs.Lowered.{rule_algorithm, clause_algorithm, order_at, orders_at, rule_algorithms, relation_algorithms, all_relations, fun_algorithms}
+use Rattle.st_algo.specs.Lowered.{rule_algorithm, clause_algorithm, order_at, orders_at, relation_algorithms, fun_algorithms}
 use Rattle.st_algo.specs.Laws.{goal_fits, CanBeTaken, LawOfLowering}
 use Rattle.st_algo.proofs.Taken.{law_of_rules, law_of_clauses}
 
@@ -82,9 +82,9 @@ module _ (il : Il) where
   relation_taken modes n relation fits e =
       let rules : List RuleDef = rules_of il relation.name in
       rules_taken relation (orders_at modes n) rules 0 (rules_fit relation.name (rules_in il.defs) fits) (λ k r there.
-        let start : 0 + k ≡ k = omega arith in
-        ap (slice_get (orders_at modes n)) start ∙ ap (λ (o : Option (List (Option (List ℕ)))). slice_get (unwrap_or o []) k) e
-        ∙ slice_get-map (order_in il relation) rules k ∙ ap (option_map (order_in il relation)) there)
+      let start : 0 + k ≡ k = omega arith in
+      ap (slice_get (orders_at modes n)) start ∙ ap (λ (o : Option (List (Option (List ℕ)))). slice_get (unwrap_or o []) k) e
+      ∙ slice_get-map (order_in il relation) rules k ∙ ap (option_map (order_in il relation)) there)
 
   -- the algorithms of a relation that stands with its number
   abbrev row_of : Modes → ℕ × RelationDef → List (Option Algorithm)
@@ -122,7 +122,7 @@ pub law_of_lowering : LawOfLowering
 law_of_lowering il modes algos keep fits are lowered = (
   subst (λ rows. All (All MayBeTaken) rows) (sym lowered.of_rules)
       (relations_taken il modes fits.rules (relations il) 0 (λ k r there.
-        let start : 0 + k ≡ k = omega arith in
-        ap (slice_get modes.orders) start ∙ ap (λ rows. slice_get rows k) are.orders ∙ slice_get-map (orders_in il) (relations il) k ∙ ap (option_map (orders_in il)) there)),
+      let start : 0 + k ≡ k = omega arith in
+      ap (slice_get modes.orders) start ∙ ap (λ rows. slice_get rows k) are.orders ∙ slice_get-map (orders_in il) (relations il) k ∙ ap (option_map (orders_in il)) there)),
   subst (λ rows. All (All CanBeTaken) rows) (sym lowered.of_clauses) (functions_taken il (funs_in il.defs) fits.clauses (modes_by_name il keep).clauses),
 )

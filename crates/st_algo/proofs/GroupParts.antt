@@ -3,10 +3,8 @@ use Rattle.std.proofs.Common.{◌≡◌, refl, sym, ◌∙◌, ap, Bool, true, f
 use Rattle.std.specs.Prelude.{unwrap_or}
 use Rattle.std.specs.Borrow.{Bor}
 use Rattle.std.specs.Option.{option_copied}
-use Rattle.st_il.specs.declared.definition.ClauseDef.{ClauseDef}
 use Rattle.st_il.specs.declared.definition.IlDef.{IlDef}
 use Rattle.st_il.specs.declared.definition.IlDef.TheVariants.{Syntax, Var, Relation, Rule, Fun, Clause}
-use Rattle.st_il.specs.declared.definition.FunDef.{FunDef}
 use Rattle.st_semantics.specs.Names.{Name}
 use Rattle.st_semantics.specs.Definitions.{clauses_in, clauses_from, funs_in}
 use Rattle.st_semantics.proofs.Names.{bytes-path}
@@ -31,6 +29,11 @@ members_added {A} old mid new name one row more q put m taken left = by (bytes_e
     by false e =
         ap (λ o. all_now (unwrap_or o [])) (put ∙ ap (λ c. if c then Some more else at mid q) e ∙ left ∙ ap (λ c. if c then Some [] else at old q) e)
         ∙ sym (append-nil (members old q)) ∙ ap (λ c. members old q ++ (if c then one.now ∷ [] else [])) (sym e)
+
+-- nothing is left under a name
+pub emptied : {A : Type 0} (old new : List (Bor (List ℕ) × List (Bor A))) (name : Name) (row : List (Bor A)) (q : Name) → at new q ≡ (if bytes_eq q name then Some row else at old q) → row ≡ []
+    → at new q ≡ (if bytes_eq q name then Some [] else at old q)
+emptied old new name row q put none = put ∙ ap (λ r. if bytes_eq q name then Some r else at old q) none
 
 -- all were added
 pub ended : {A B : Type 0} (f : List A → List B) → f [] ≡ [] → (xs : List A) (i : ℕ) (now whole : List B) → length xs ≤ i → now ++ f (drop i xs) ≡ whole → now ≡ whole

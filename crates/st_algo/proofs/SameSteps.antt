@@ -18,7 +18,6 @@ use Rattle.st_semantics.proofs.Wider.{Parts, prem-ind}
 use Rattle.st_order.specs.inner.Index.{SameNames}
 use Rattle.st_order.proofs.NamesIn.{SameNames-append}
 use Rattle.st_order.proofs.SameNames.{known_same, among_same}
-use Rattle.st_algo.specs.declared.algorithm.AlgoStep.{AlgoStep}
 use Rattle.st_algo.specs.declared.algorithm.AlgoStep.TheVariants as step
 use Rattle.st_algo.specs.Lowered.{Lowering, lowering_at, step_of, steps_of, step_of_sides, step_of_equation, step_of_condition}
 

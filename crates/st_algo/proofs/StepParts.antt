@@ -1,23 +1,21 @@
 -- The step of a premise, by what the premise is.
-use Rattle.std.proofs.Common.{◌≡◌, sym, ◌∙◌, ap, ap₂, subst, Bool, true, false, if◌then◌else◌, List, [], ◌∷◌, ◌++◌, rules}
-use Rattle.std.specs.Borrow.{Bor}
+use Rattle.std.proofs.Common.{◌≡◌, sym, ◌∙◌, ap, ap₂, true, false, if◌then◌else◌, List, rules}
 use Rattle.st_il.specs.declared.definition.Il.{Il}
 use Rattle.st_il.specs.declared.expression.IlExp.{IlExp, out-IlExp}
 use Rattle.st_il.specs.declared.expression.IlExp.TheVariants as exp
-use Rattle.st_il.specs.declared.expression.IlPrem.{IlPrem, map-IlPrem, fold-IlPrem, out-IlPrem, fold_out-IlPrem, the_lemmas}
-use Rattle.st_il.specs.declared.expression.IlPrem.TheOpen.{IlPrem-F}
+use Rattle.st_il.specs.declared.expression.IlPrem.{IlPrem, the_lemmas}
 use Rattle.st_il.specs.declared.expression.IlPrem.TheVariants as prem
 use Rattle.st_il.specs.declared.expression.Iteration.{Iteration}
 use Rattle.st_semantics.specs.Names.{Name, has_name, all_known, without}
 use Rattle.st_semantics.specs.Directions.{inputs_of, outputs_of}
 use Rattle.st_semantics.specs.Iterations.{index_of}
-use Rattle.st_semantics.specs.Variables.{vars, prem_vars}
+use Rattle.st_semantics.specs.Variables.{vars}
 use Rattle.st_semantics.specs.Executable.{is_matched, bound_inside}
 use Rattle.st_order.specs.inner.Classes.{others}
 use Rattle.st_order.specs.inner.Index.{SameNames}
 use Rattle.st_algo.specs.declared.algorithm.AlgoStep.{AlgoStep}
 use Rattle.st_algo.specs.declared.algorithm.AlgoStep.TheVariants as step
-use Rattle.st_algo.specs.Lowered.{Lowering, lowering_at, step_of, step_of_sides, step_of_equation, step_of_condition, step_of_each}
+use Rattle.st_algo.specs.Lowered.{step_of, step_of_sides, step_of_equation, step_of_condition, step_of_each}
 use Rattle.st_algo.proofs.SameSteps.{lowering_of, lowering_vars, step_same}
 
 module _ (il : Il) (bound : List Name) where

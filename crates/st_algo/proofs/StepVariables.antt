@@ -12,14 +12,14 @@ use Rattle.st_il.specs.declared.expression.Iteration.{Iteration}
 use Rattle.st_il.specs.declared.expression.ListItem.{ListItem}
 use Rattle.st_il.specs.declared.expression.PathSeg.{PathSeg}
 use Rattle.st_semantics.specs.Names.{Name, has_name, all_known, without}
-use Rattle.st_semantics.specs.Directions.{mask, inputs_by, outputs_by, inputs_of, outputs_of}
+use Rattle.st_semantics.specs.Directions.{mask, inputs_by, outputs_by}
 use Rattle.st_semantics.specs.Iterations.{count_of, index_of}
 use Rattle.st_semantics.specs.Operands.{item_at, segment_at}
 use Rattle.st_semantics.specs.Variables.{Counted, counted_at, vars_at, vars, vars_of, prem_vars, prem_vars_at}
 use Rattle.st_semantics.specs.Patterns.{bound_by}
 use Rattle.st_semantics.specs.Executable as run
 use Rattle.st_semantics.specs.Executable.{Class, Test, Equation, Judgement, class_of, class_of_condition, class_of_equation, class_of_goal, is_matched, is_met, is_anchored, is_countable, bound_inside, runs_at}
-use Rattle.st_semantics.proofs.Names.{Within, within-left, within-right, within-cases, within-both, no_names, bytes-same, bytes-path, or-left, or-right, or-cases, known-within, without-other, and-both, prem-level}
+use Rattle.st_semantics.proofs.Names.{Within, within-left, within-right, within-cases, within-both, no_names, bytes-same, bytes-path, or-left, or-right, or-cases, known-within, without-other, prem-level}
 use Rattle.st_semantics.proofs.CanRun.{runs_of, class-level, inside-within}
 use Rattle.st_semantics.proofs.Wider.{Parts, prem-ind}
 use Rattle.st_order.specs.inner.Parts.{counted, item_vars, segment_vars}

@@ -4,7 +4,6 @@ use Rattle.std.specs.List.{list_all}
 use Rattle.std.proofs.lemmas.List.Folds.{list_all-append}
 use Rattle.st_il.specs.declared.definition.ClauseDef.{ClauseDef}
 use Rattle.st_il.specs.declared.definition.Il.{Il}
-use Rattle.st_il.specs.declared.definition.RuleDef.{RuleDef}
 use Rattle.st_il.specs.declared.expression.IlExp.{IlExp}
 use Rattle.st_il.specs.declared.expression.IlPrem.{IlPrem}
 use Rattle.st_semantics.specs.Names.{Name, has_name, all_known}
@@ -13,8 +12,8 @@ use Rattle.st_semantics.specs.Variables.{vars, vars_of, prem_vars, prems_vars}
 use Rattle.st_semantics.specs.Patterns.{is_pattern, bound_by}
 use Rattle.st_semantics.specs.OpenParts.{is_doubly_open}
 use Rattle.st_semantics.specs.Executable.{class_of}
-use Rattle.st_semantics.specs.ModeRules.{keeps_m3, keeps_m4, keeps_m6, patterns_have_one_open}
-use Rattle.st_semantics.specs.Orders.{is_input, are_inputs, are_all, inputs_of_rule, outputs_of_rule, premise_at, in_order, run_on, is_order}
+use Rattle.st_semantics.specs.ModeRules.{keeps_m4, patterns_have_one_open}
+use Rattle.st_semantics.specs.Orders.{is_input, are_inputs, are_all, inputs_of_rule, outputs_of_rule, premise_at, in_order, run_on}
 use Rattle.st_semantics.proofs.Names.{Within, within-left, within-right, within-both, and-both, or-left}
 use Rattle.st_semantics.proofs.CanRun.{known-wider}
 use Rattle.st_semantics.proofs.Wider.{all-wider}
@@ -22,7 +21,7 @@ use Rattle.st_algo.specs.declared.algorithm.AlgoStep.{AlgoStep}
 use Rattle.st_algo.specs.declared.algorithm.AlgoStep.TheOpen.{AlgoStep-F}
 use Rattle.st_algo.specs.declared.algorithm.AlgoStep.TheVariants as step
 use Rattle.st_algo.specs.Lowered.{step_of, steps_of, algorithm_of}
-use Rattle.st_algo.specs.Taken.{Taking, taking_at, taking_of, step_vars, can_take, can_take_all}
+use Rattle.st_algo.specs.Taken.{Taking, taking_at, taking_of, step_vars, can_take_all}
 use Rattle.st_algo.specs.Laws.{goal_fits, CanBeTaken, LawOfRules, LawOfClauses}
 use Rattle.st_algo.proofs.Wider.{taking-level, can_wider}
 use Rattle.st_algo.proofs.StepVariables.{Takes, prem_takes}

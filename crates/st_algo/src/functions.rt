@@ -17,10 +17,7 @@ use st_order::masks::Directions;
 use std::alloc::Global;
 
 /// Adds a function.
-fn push_function<'a>(
-    definition: &'a IlDef,
-    functions: &mut Row<&'a FunDef>,
-) -> Result<(), NoMemory>
+fn push_function<'a>(definition: &'a IlDef, functions: &mut Row<&'a FunDef>) -> Result<(), NoMemory>
     ensures { OnOk result (all_now functions.new
         ≡ all_now functions.old ++ funs_in (definition.now ∷ [])) }
 {

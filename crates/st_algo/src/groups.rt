@@ -93,11 +93,8 @@ fn add_clause<'a>(
 {
     match definition {
         IlDef::Clause(clause) => add_under(alloc, &clause.fun, clause, groups),
-        IlDef::Syntax(_)
-        | IlDef::Var(_, _)
-        | IlDef::Relation(_)
-        | IlDef::Rule(_)
-        | IlDef::Fun(_) => Ok(()),
+        IlDef::Syntax(_) | IlDef::Var(_, _) | IlDef::Relation(_) | IlDef::Rule(_) | IlDef::Fun(_) =>
+            Ok(()),
     }
 }
 

@@ -21,11 +21,7 @@ use st_order::variables::{push_prem_vars, push_vars_of};
 use std::alloc::Global;
 
 /// Adds the variables of a premise to those that are bound.
-fn bind<'a>(
-    alloc: Global,
-    prem: &'a IlPrem,
-    bound: &mut IndexSet<&'a Name>,
-) -> Result<(), NoMemory>
+fn bind<'a>(alloc: Global, prem: &'a IlPrem, bound: &mut IndexSet<&'a Name>) -> Result<(), NoMemory>
     ensures { OnOk result (SameNames (names_in bound.new.keys)
         (names_in bound.old.keys ++ prem_vars prem.now)) }
 {
@@ -76,8 +72,8 @@ fn algorithm_of<'a>(
     let mut steps = Row::new(alloc);
     let heads = copy_refs(alloc, heads)?;
     steps.push(AlgoStep::Match(heads))?;
-    push_steps(alloc, directions, prems, &mut bound, &mut steps)?;
     let results = copy_refs(alloc, results)?;
+    push_steps(alloc, directions, prems, &mut bound, &mut steps)?;
     steps.push(AlgoStep::Give(results))?;
     let name = name.copy(alloc)?;
     Ok(Algorithm { name, steps })

@@ -128,7 +128,12 @@ fn order_of(
     }
     match order_rule(alloc, il, relation, rule) {
         Ok(order) => Ok(Some(order)),
-        Err(OrderFault::Unordered { premise: _, variable: _ }) => Ok(None),
+        Err(
+            OrderFault::Unordered {
+                premise: _,
+                variable: _,
+            },
+        ) => Ok(None),
         Err(OrderFault::Memory) => Err(NoMemory),
     }
 }

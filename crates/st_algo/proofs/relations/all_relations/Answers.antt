@@ -1,5 +1,4 @@
-use Rattle.std.proofs.Common.{ap, ◌∙◌, ℕ}
-use Rattle.std.specs.List.{enumerate_from}
+use Rattle.std.proofs.Common.{ℕ}
 use Rattle.st_il.specs.declared.definition.RelationDef.{RelationDef}
 use Rattle.st_algo.specs.Lowered.{relation_algorithms}
 use Rattle.st_algo.proofs.NumberedRows.{numbered_next}
