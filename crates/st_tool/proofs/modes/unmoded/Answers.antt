@@ -1,4 +1,4 @@
-use Rattle.std.proofs.Common.{◌≡◌, sym, ◌∙◌, ap, length, subst, get_or, ◌<◌}
+use Rattle.std.proofs.Common.{sym, ◌∙◌, ap, length, subst, get_or, ◌<◌}
 use Rattle.std.specs.Prelude.{Some}
 use Rattle.std.proofs.lemmas.Option.{slice_get-get_or}
 use Rattle.st_tool.proofs.SourcePlaces.{breach-placed, source-within}

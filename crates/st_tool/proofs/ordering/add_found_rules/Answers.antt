@@ -1,6 +1,5 @@
 use Rattle.std.proofs.Common.{◌≡◌, sym, ◌∙◌, ap, ◌++◌, map, flat_map, subst}
 use Rattle.std.specs.Prelude.{OnOk}
-use Rattle.std.specs.Option.{option_copied}
 use Rattle.st_tool.specs.OrderTexts.{rule_line}
 use Rattle.st_tool.specs.inner.Relations.{HaveFew, order_of_rule}
 use Rattle.st_tool.proofs.OrderLines.{found_rules, none_found}
