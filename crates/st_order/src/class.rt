@@ -311,7 +311,7 @@ pub fn bound_inside<'a>(
 }
 
 /// What is bound inside an iterated premise; none where it cannot be run.
-fn inside_each<'a>(
+pub(crate) fn inside_each<'a>(
     alloc: Global,
     bound: &IndexSet<&Name>,
     how: &'a Iteration,

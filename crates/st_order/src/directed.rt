@@ -9,7 +9,7 @@ use st_num::{NoMemory, Row};
 use std::alloc::Global;
 
 /// Whether a hole is an input, or else an output.
-fn is_hole(mask: &[bool], hole: usize, input: bool) -> bool
+pub(crate) fn is_hole(mask: &[bool], hole: usize, input: bool) -> bool
     ensures { result ≡ is_hole input (slice_get mask.now hole) }
 {
     match mask.get(hole) {

@@ -1,10 +1,10 @@
 //! Names in sets, and what stands under a name, found by hashes.
 
-ghost use Rattle.std.specs.Prelude.{◌≡◌, ◌∷◌, ◌++◌, [], List, ℕ, Some, bytes_eq, if◌then◌else◌, IfOk, OnOk};
+ghost use Rattle.std.specs.Prelude.{◌≡◌, ◌<◌, ◌∷◌, ◌++◌, [], List, ℕ, Some, length, bytes_eq, if◌then◌else◌, IfOk, IfSome, OnOk};
 ghost use Rattle.std.specs.Option.{option_copied};
 ghost use Rattle.std.specs.List.{list_any};
 ghost use Rattle.st_semantics.specs.Names.{has_name, all_known, among, without};
-ghost use Rattle.st_order.specs.inner.Index.{at, names_in, SameNames};
+ghost use Rattle.st_order.specs.inner.Index.{at, names_in, number_in, SameNames};
 
 use indexmap::{IndexMap, IndexSet};
 use st_num::{Name, NoMemory, Row};
@@ -23,6 +23,19 @@ pub fn put<'a, T: Drop>(
     Ok(())
 }
 
+/// Puts something under a name, and answers what stood there.
+pub(crate) fn exchange<'a, T: Drop>(
+    map: &mut IndexMap<&'a Name, T>,
+    name: &'a Name,
+    value: T,
+) -> Result<Option<T>, NoMemory>
+    ensures was { IfOk result (λ was. was ≡ at map.old.entries name.now) }
+    ensures put { OnOk result ((q : List ℕ) → at map.new.entries q
+        ≡ (if bytes_eq q name.now then Some value else at map.old.entries q)) }
+{
+    Ok(map.insert(name, value)?)
+}
+
 /// What stands under a name.
 pub fn at<'m, T>(map: &'m IndexMap<&Name, T>, name: &'m Name) -> Option<&'m T>
     ensures { option_copied result ≡ at map.now.entries name.now }
@@ -35,6 +48,14 @@ pub(crate) fn has(names: &IndexSet<&Name>, name: &Name) -> bool
     ensures { result ≡ has_name (names_in names.now.keys) name.now }
 {
     names.contains(&name)
+}
+
+/// The place of a name among these.
+pub(crate) fn number_in(names: &IndexSet<&Name>, name: &Name) -> Option<usize>
+    ensures number { result ≡ number_in names.now.keys name.now }
+    ensures within { IfSome result (λ number. number < length names.now.keys) }
+{
+    names.get_index_of(&name)
 }
 
 /// Adds a name.

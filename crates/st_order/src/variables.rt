@@ -3,7 +3,7 @@
 ghost use Rattle.std.specs.Prelude.{◌≡◌, ◌++◌, [], ◌∷◌, map, OnOk};
 ghost use Rattle.st_semantics.specs.Names.{flattened, has_name, without};
 ghost use Rattle.st_semantics.specs.Iterations.{count_of, index_of};
-ghost use Rattle.st_semantics.specs.Variables.{vars, vars_of, prem_vars};
+ghost use Rattle.st_semantics.specs.Variables.{vars, vars_of, prem_vars, prems_vars};
 ghost use Rattle.st_order.specs.inner.Index.{names_in};
 ghost use Rattle.st_order.specs.inner.Parts.{counted, item_vars, segment_vars, exps_in};
 
@@ -281,4 +281,18 @@ pub fn push_prem_vars<'a>(
             push_others(how, inner.as_slice(), names)
         }
     }
+}
+
+/// Adds the variables of several premises, and the listed names of their iterations.
+pub(crate) fn push_prems_vars<'a>(
+    alloc: Global,
+    prems: &'a [IlPrem],
+    names: &mut Row<&'a Name>,
+) -> Result<(), NoMemory>
+    ensures { OnOk result (names_in names.new ≡ names_in names.old ++ prems_vars prems.now) }
+{
+    for prem in prems {
+        push_prem_vars(alloc, prem, names)?;
+    }
+    Ok(())
 }
