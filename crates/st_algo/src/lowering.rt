@@ -1,6 +1,6 @@
 //! The algorithm of a rule in an order, and that of a clause.
 
-ghost use Rattle.std.specs.Prelude.{◌≡◌, ◌++◌, ◌∷◌, [], IfOk, OnOk};
+ghost use Rattle.std.specs.Prelude.{◌≡◌, ◌++◌, IfOk, OnOk};
 ghost use Rattle.st_semantics.specs.Variables.{prem_vars};
 ghost use Rattle.st_order.specs.inner.Index.{names_in, SameNames};
 ghost use Rattle.st_order.specs.inner.Masks.{AreDirections};

@@ -4,8 +4,8 @@ use st_algo::{AlgoStep, Algorithm, Algos, lower};
 use st_el::Def;
 use st_elab_def::elaborate;
 use st_il::{Il, IlExp};
-use st_num::{Name, NoMemory, Row, Token};
-use st_order::{Modes, OrderFault, has_rule, order_rule};
+use st_num::{Name, NoMemory, Token};
+use st_order::{Modes, has_few, modes};
 use st_parse::parse;
 use st_scan::scan;
 use std::alloc::Global;
@@ -116,47 +116,15 @@ fn tell_algos(algos: &Algos, out: &mut Vec<u8>) -> Result<(), NoMemory> {
     Ok(())
 }
 
-/// The order of a rule, if it has one.
-fn order_of(
-    alloc: Global,
-    il: &Il,
-    relation: u32,
-    rule: u32,
-) -> Result<Option<Row<u32>>, NoMemory> {
-    if !has_rule(alloc, il, relation, rule)? {
-        return Ok(None);
-    }
-    match order_rule(alloc, il, relation, rule) {
-        Ok(order) => Ok(Some(order)),
-        Err(
-            OrderFault::Unordered {
-                premise: _,
-                variable: _,
-            },
-        ) => Ok(None),
-        Err(OrderFault::Memory) => Err(NoMemory),
-    }
-}
-
-/// The orders of the first rules of a relation.
-fn orders_of(alloc: Global, il: &Il, relation: u32) -> Result<Row<Option<Row<u32>>>, NoMemory> {
-    let mut orders = Row::new(alloc);
-    for rule in 0..4u32 {
-        orders.push(order_of(alloc, il, relation, rule)?)?;
-    }
-    Ok(orders)
-}
-
-/// The orders of the first rules of the first relations, without marks.
+/// The modes of an internal language that breaks no rule of directions.
 fn modes_of(alloc: Global, il: &Il) -> Result<Modes, NoMemory> {
-    let mut orders = Row::new(alloc);
-    for relation in 0..4u32 {
-        orders.push(orders_of(alloc, il, relation)?)?;
+    if !has_few(il) {
+        return Err(NoMemory);
     }
-    Ok(Modes {
-        marks: Row::new(alloc),
-        orders,
-    })
+    match modes(alloc, il) {
+        Ok(modes) => Ok(modes),
+        Err(_) => Err(NoMemory),
+    }
 }
 
 fn tell_defs(alloc: Global, defs: &[Def], out: &mut Vec<u8>) -> Result<(), NoMemory> {
