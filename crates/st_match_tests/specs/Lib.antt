@@ -1,0 +1,2 @@
+-- the pattern of the tests
+pub mod Open
