@@ -86,8 +86,8 @@ outcome_of-outcomes_of-requires-in_default g t c =
     let weighs : heaviest (exps_now c.as_slice-in_default.result.now) ≡ heaviest (operands_at item_exp segment_exps (out-IlExp c.args.exp.now)) = ap heaviest same in
     let falls : 1 + heaviest (exps_now c.as_slice-in_default.result.now) < t = omega (arith, lighter, weighs, c.decreases) in
     let parts : AreFormed c.args.types.now (exps_now c.as_slice-in_default.result.now) =
-    subst (AreFormed c.args.types.now) (sym same) (plain_strict c.args.types.now c.args.exp.now c.requires plain).parts in
-    λ κs within. (falls, (within, parts))
+    subst (AreFormed c.args.types.now) (sym same) (plain_strict c.args.types.now c.args.exp.now c.requires.formed plain).parts in
+    λ κs within. (falls, (within, (c.requires.callable, parts)))
 
 pub outcome_of-returns-in_ok-outcome-in-Var : goal.outcome_of-returns-in_ok-outcome-in-Var
 outcome_of-returns-in_ok-outcome-in-Var g t c =
@@ -105,7 +105,7 @@ outcome_of-returns-in_ok-outcome-in-Call g t c =
 pub outcome_of-returns-in_ok-outcome-in_default : goal.outcome_of-returns-in_ok-outcome-in_default
 outcome_of-returns-in_ok-outcome-in_default g t c =
     let plain = plain_by c.args.types.now c.args.exp.now c.in_default.not-Var c.in_default.not-Call c.in_default.not-Iter in
-    gives_strict c.args.types.now (g.C.Caller.answers c.args.caller.now) (scope_env c.args.scope.now) c.args.exp.now c.in_ok-found-in_default.found c.in_ok-outcome-in_default.outcome c.requires plain
+    gives_strict c.args.types.now (g.C.Caller.answers c.args.caller.now) (scope_env c.args.scope.now) c.args.exp.now c.in_ok-found-in_default.found c.in_ok-outcome-in_default.outcome c.requires.formed plain
     (moved_all c.args.types.now (g.C.Caller.answers c.args.caller.now)
     (ap (tasks (scope_env c.args.scope.now)) (ap exps_now c.as_slice-in_default.ensures ∙ c.in_ok-exps-in_default.ensures)) refl c.in_ok-found-in_default.ensures)
     c.in_ok-outcome-in_default.ensures
@@ -114,8 +114,8 @@ pub outcomes_of-outcome_of-requires : goal.outcomes_of-outcome_of-requires
 outcomes_of-outcome_of-requires g t c =
     let lighter = heaviest-element c.args.exps.now c.loop-i.i c.index-exps-i.result c.loop-i-test.true c.index-exps-i.is in
     let falls : weight c.index-exps-i.result.now < t = omega (arith, lighter, c.decreases) in
-    let formed = formed_element c.args.types.now c.args.exps.now c.loop-i.i c.index-exps-i.result c.loop-i-test.true c.index-exps-i.is c.requires in
-    λ κs within. (falls, (within, formed))
+    let formed = formed_element c.args.types.now c.args.exps.now c.loop-i.i c.index-exps-i.result c.loop-i-test.true c.index-exps-i.is c.requires.formed in
+    λ κs within. (falls, (within, (c.requires.callable, formed)))
 
 pub outcomes_of-returns-in-NoValue : goal.outcomes_of-returns-in-NoValue
 outcomes_of-returns-in-NoValue g t c =
