@@ -1,0 +1,6 @@
+mod InByteOrder
+mod Trying
+mod Conditions
+mod Unfolding
+mod Iterations
+mod Lists

@@ -1,0 +1,7 @@
+-- What must be believed of how a call is run, in reading order. What calls and expressions come to is
+-- told by st_semantics.
+
+-- a clause is tried from its arguments on, premise by premise
+pub mod Steps
+-- an iterated premise is tried element by element
+pub mod Elements
