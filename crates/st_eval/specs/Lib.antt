@@ -5,3 +5,5 @@
 pub mod Steps
 -- an iterated premise is tried element by element
 pub mod Elements
+-- ---- what only contracts inside the crate need
+pub mod inner

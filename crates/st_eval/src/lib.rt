@@ -3,6 +3,7 @@
 //! Read `specs/Steps.antt` first. What a call comes to is told by `Calls.antt` of `st_semantics`.
 #![tactic(auto)]
 
+mod known;
 mod laws;
 
 pub use laws::steps_of_clauses;
