@@ -4,3 +4,6 @@ mod Conditions
 mod Unfolding
 mod Iterations
 mod Lists
+mod BoundParts
+mod Answered
+mod TestOutcomes
