@@ -7,3 +7,4 @@ mod Lists
 mod BoundParts
 mod Answered
 mod TestOutcomes
+mod Equations
