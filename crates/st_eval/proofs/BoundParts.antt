@@ -1,6 +1,5 @@
 -- The variables of an expression by its operands, and those of an iteration by its parts.
-use Rattle.std.proofs.Common.{◌≡◌, refl, sym, ◌∙◌, ap, ap₂, subst, List, [], ◌∷◌, ◌++◌, ◌⊎◌, inl, inr, Bool, true, false, not, ◌&&◌, ◌||◌, if◌then◌else◌, bytes_eq}
-use Rattle.std.specs.List.{list_all}
+use Rattle.std.proofs.Common.{◌≡◌, refl, sym, ◌∙◌, ap, ap₂, subst, List, [], ◌∷◌, ◌++◌, Bool, true, false, not, ◌&&◌, ◌||◌, if◌then◌else◌, bytes_eq}
 use Rattle.std.proofs.lemmas.List.Folds.{list_all-append, list_any-append}
 use Rattle.st_il.specs.declared.definition.SyntaxDef.{SyntaxDef}
 use Rattle.st_il.specs.declared.expression.IlExp.{IlExp, out-IlExp, roll-IlExp, roll-out-IlExp}
@@ -68,5 +67,5 @@ pub iteration_known : (index known counts xs body : List Name) (a b r : Bool) �
     → r ≡ all_known known (counts ++ xs ++ without index body)
 iteration_known index known counts xs body a b r ea ta eb tb er =
     er ∙ (known_inside_is index known body ∙ sym (
-      list_all-append (has_name known) (counts ++ xs) (without index body)
-      ∙ ap (λ z. z && all_known known (without index body)) (list_all-append (has_name known) counts xs ∙ ap₂ (λ y z. y && z) (sym ea ∙ ta) (sym eb ∙ tb))))
+    list_all-append (has_name known) (counts ++ xs) (without index body)
+    ∙ ap (λ z. z && all_known known (without index body)) (list_all-append (has_name known) counts xs ∙ ap₂ (λ y z. y && z) (sym ea ∙ ta) (sym eb ∙ tb))))

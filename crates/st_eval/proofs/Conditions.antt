@@ -1,6 +1,6 @@
 -- A condition that is met: a test by its value, and an equation by the value of its bound side and by
 -- what matches the other one.
-use Rattle.std.proofs.Common.{◌≡◌, ℕ, ◌≤◌, refl, sym, ◌∙◌, ap, ap₂, subst, List, [], ◌∷◌, ◌++◌, map, filter, ◌⊎◌, inl, inr, Bool, true, false, ◌||◌, if◌then◌else◌, Option, Some, None, bytes_eq, arith}
+use Rattle.std.proofs.Common.{◌≡◌, ℕ, ◌≤◌, refl, sym, ◌∙◌, ap, ap₂, subst, List, [], ◌∷◌, ◌++◌, ◌⊎◌, inl, inr, Bool, true, false, if◌then◌else◌, Option, Some, None, bytes_eq, arith}
 use Rattle.std.specs.Ordering.{is_eq}
 use Rattle.std.specs.Cmp.{Equal-is}
 use Rattle.std.proofs.lemmas.Bool.{le-leb}
@@ -23,8 +23,8 @@ use Rattle.st_semantics.specs.declared.outcome.Outcome.{Outcome}
 use Rattle.st_semantics.specs.declared.outcome.Outcome.TheVariants.{Val, NoValue, Deep}
 use Rattle.st_semantics.specs.Names.{Name, has_name, all_known, without}
 use Rattle.st_semantics.specs.Definitions.{syntaxes}
-use Rattle.st_semantics.specs.Environments.{Entry, names_of, lookup, value_in, type_of, listed_as, listed_names, AgreeOn, TypedIn, IsSomeTyped}
-use Rattle.st_semantics.specs.Parts.{limited, made, binary}
+use Rattle.st_semantics.specs.Environments.{Entry, names_of, value_in, type_of, listed_as, listed_names, AgreeOn, TypedIn, IsSomeTyped}
+use Rattle.st_semantics.specs.Parts.{limited, binary}
 use Rattle.st_semantics.specs.Operators.{equality, is_same}
 use Rattle.st_semantics.specs.Evaluation.{Answers, Gives}
 use Rattle.st_semantics.specs.Variables.{vars, prem_vars}
@@ -36,7 +36,7 @@ use Rattle.st_semantics.specs.Depth.{evaluated, side_at, bound_side, Meets, Meet
 use Rattle.st_semantics.specs.Forms.{Strict}
 use Rattle.st_semantics.specs.Calls.{no_goal, in_clause, CallAt, ValueAt}
 use Rattle.st_semantics.specs.Laws.{CallsAreSingle}
-use Rattle.st_semantics.proofs.Names.{Within, within-cases, within-left, within-right, known-within, or-left, or-right, or-cases, bytes-path, true_false, vars-form, prem-level, without-other}
+use Rattle.st_semantics.proofs.Names.{Within, within-cases, within-left, within-right, known-within, or-cases, bytes-path, true_false, vars-form, prem-level, without-other}
 use Rattle.st_semantics.proofs.Agree.{Gives-agree}
 use Rattle.st_semantics.proofs.Singles.{Gives-single}
 use Rattle.st_semantics.proofs.PatternParts.{Gives-pattern}

@@ -1,7 +1,6 @@
 -- An equation by the outcome of its bound side, and which side that is.
-use Rattle.std.proofs.Common.{◌≡◌, ℕ, zero, suc, ◌+◌, ◌<◌, refl, sym, ◌∙◌, ap, ap₂, subst, List, [], ◌∷◌, ◌++◌, length, ◌⊎◌, inl, inr, Bool, true, false, ◌&&◌, arith}
+use Rattle.std.proofs.Common.{◌≡◌, ℕ, zero, suc, refl, sym, ◌∙◌, ap, ap₂, subst, List, [], ◌∷◌, ◌++◌, ◌⊎◌, inl, inr, true, false, ◌&&◌, arith}
 use Rattle.std.specs.Prelude.{Contains}
-use Rattle.std.specs.List.{slice_index_or}
 use Rattle.st_il.specs.declared.definition.Il.{Il}
 use Rattle.st_il.specs.declared.definition.Listed.{Listed}
 use Rattle.st_il.specs.declared.definition.SyntaxDef.{SyntaxDef}
@@ -19,16 +18,16 @@ use Rattle.st_semantics.specs.Definitions.{syntaxes}
 use Rattle.st_semantics.specs.Environments.{names_of, listed_names}
 use Rattle.st_semantics.specs.Formed.{IsFormed}
 use Rattle.st_semantics.specs.Variables.{vars, prem_vars}
-use Rattle.st_semantics.specs.Patterns.{is_pattern, binds}
+use Rattle.st_semantics.specs.Patterns.{binds}
 use Rattle.st_semantics.specs.Matching.{IsMatch}
 use Rattle.st_semantics.specs.Calls.{ValueAt}
 use Rattle.st_semantics.specs.Laws.{CallsAreSingle}
 use Rattle.st_semantics.proofs.Names.{within-cases, within-left, within-right, prem-level, true_false}
 use Rattle.st_match.specs.Matches.{AreMatches}
-use Rattle.st_eval.specs.Steps.{HasOnly, AreSides}
+use Rattle.st_eval.specs.Steps.{HasOnly}
 use Rattle.st_eval.specs.declared.condition.Met.{Met}
 use Rattle.st_eval.specs.declared.condition.Met.TheVariants as met
-use Rattle.st_eval.specs.inner.Meeting.{IsMet, IsMatched, IsEquatedBy, IsEquated, IsEquation, IsCondition}
+use Rattle.st_eval.specs.inner.Meeting.{IsMet, IsEquatedBy, IsEquated, IsEquation, IsCondition}
 use Rattle.st_eval.proofs.Conditions.{same_truth, law_of_equations, law_of_sides}
 
 -- ---- what matches

@@ -1,5 +1,5 @@
 -- An iterated premise that is met: its count, its elements, and what they bind.
-use Rattle.std.proofs.Common.{◌≡◌, ℕ, zero, suc, ◌+◌, pos, refl, sym, ◌∙◌, ap, ap₂, subst, List, [], ◌∷◌, ◌++◌, length, map, filter, ◌⊎◌, inl, inr, Bool, true, false, not, ◌&&◌, ◌||◌, if◌then◌else◌, Option, Some, None, bytes_eq, arith}
+use Rattle.std.proofs.Common.{◌≡◌, ℕ, suc, pos, refl, sym, ◌∙◌, ap, ap₂, subst, List, [], ◌∷◌, ◌++◌, length, filter, ◌⊎◌, inl, inr, Bool, true, false, ◌&&◌, if◌then◌else◌, Some, None, bytes_eq}
 use Rattle.std.specs.List.{list_all}
 use Rattle.std.specs.Option.{option_and_then}
 use Rattle.st_num.specs.declared.dim.Kind.{Kind}
@@ -18,16 +18,15 @@ use Rattle.st_il.specs.declared.value.Value.{Value}
 use Rattle.st_il.specs.declared.value.Value.TheVariants as value
 use Rattle.st_semantics.specs.declared.outcome.Outcome.{Outcome}
 use Rattle.st_semantics.specs.declared.outcome.Outcome.TheVariants.{Val, NoValue, Deep}
-use Rattle.st_semantics.specs.declared.outcome.Outcomes.{Outcomes}
 use Rattle.st_semantics.specs.declared.outcome.Outcomes.TheVariants.{Values, Stopped}
 use Rattle.st_semantics.specs.Names.{Name, has_name, all_known, among, without}
 use Rattle.st_semantics.specs.Definitions.{syntaxes}
-use Rattle.st_semantics.specs.Environments.{names_of, value_in, type_of, listed_names, AgreeOn, TypedIn, IsSomeTyped}
+use Rattle.st_semantics.specs.Environments.{value_in, type_of, listed_names, AgreeOn, TypedIn, IsSomeTyped}
 use Rattle.st_semantics.specs.Parts.{given, natural, natural_of, number_at}
-use Rattle.st_semantics.specs.Forms.{form_at, HasForm, Variable, by_itself}
+use Rattle.st_semantics.specs.Forms.{form_at, Variable, by_itself}
 use Rattle.st_semantics.specs.Iterations.{count_of, count_at, index_of, kind_of, kind_at, columns, size_of, spread, Spread, Misfit, Over, gathered, gathered_as}
 use Rattle.st_semantics.specs.Scopes.{listed_inside, stepped_all, indices}
-use Rattle.st_semantics.specs.Evaluation.{tasks, Gives, GivesAll, variable}
+use Rattle.st_semantics.specs.Evaluation.{tasks, GivesAll, variable}
 use Rattle.st_semantics.specs.Variables.{vars, vars_of, prem_vars, cites}
 use Rattle.st_semantics.specs.Holding as h
 use Rattle.st_semantics.specs.Holding.{HaveValues, AreElements, each_instance, Holds, HoldAll}
@@ -36,7 +35,7 @@ use Rattle.st_semantics.specs.Depth.{bound_count, ValuesAt, AllTypedIn, Passed, 
 use Rattle.st_semantics.specs.Calls.{no_goal, in_clause, CallAt}
 use Rattle.st_semantics.specs.Executable.{is_countable, is_variable_at}
 use Rattle.st_semantics.specs.Laws.{CallsAreSingle}
-use Rattle.st_semantics.proofs.Names.{Within, within-cases, within-left, within-right, and-both, or-cases, or-left, or-right, known-within, true_false, vars-form, prem-level, without-other, bytes-path}
+use Rattle.st_semantics.proofs.Names.{Within, within-cases, within-left, within-right, and-both, or-cases, or-left, or-right, known-within, true_false, vars-form, prem-level, without-other}
 use Rattle.st_semantics.proofs.Agree.{Gives-agree, EnvsAgree, value_by-local, Holds-agree}
 use Rattle.st_semantics.proofs.Singles.{Gives-single, GivesAll-single}
 use Rattle.st_semantics.proofs.Acceptance.{cites-level}
@@ -46,9 +45,8 @@ use Rattle.st_semantics.proofs.Clauses.{hold_first}
 use Rattle.st_semantics.proofs.Lengths.{limited_is}
 use Rattle.st_semantics.proofs.CanRun.{IsShort, count_short}
 use Rattle.st_semantics.proofs.PatternValues.{one_count, one_name}
-use Rattle.st_semantics.proofs.Low.{name_there}
 use Rattle.st_semantics.proofs.Inverse.{holds_each}
-use Rattle.st_semantics.proofs.Bindings.{EachBinds, Binds, BindsInside, binds_inside, class_binds}
+use Rattle.st_semantics.proofs.Bindings.{BindsInside, binds_inside, class_binds}
 use Rattle.st_semantics.proofs.Choice.{holds_not_deep}
 use Rattle.st_eval.specs.Steps.{value_at, HoldsAt, MeetsAt, HasOnly, HoldsWith, Fails}
 use Rattle.st_eval.specs.Elements.{IsEach, GoesOver, AllHoldWith, Gathers, LawOfCounts, LawOfElements, LawOfGathering}

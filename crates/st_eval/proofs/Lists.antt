@@ -1,10 +1,9 @@
 -- The lists and options of what elements bind have the types that are listed outside.
-use Rattle.std.proofs.Common.{◌≡◌, ℕ, refl, sym, ◌∙◌, ap, subst, List, [], ◌∷◌, ◌++◌, Bool, true, false, ◌||◌, if◌then◌else◌, Option, Some, None, bytes_eq}
+use Rattle.std.proofs.Common.{◌≡◌, ℕ, refl, sym, ◌∙◌, ap, subst, List, [], ◌∷◌, ◌++◌, Bool, true, false, if◌then◌else◌, Some, bytes_eq}
 use Rattle.st_num.specs.declared.dim.Kind.{Kind}
 use Rattle.st_num.specs.declared.dim.Kind.TheVariants as kind
 use Rattle.st_il.specs.declared.definition.Il.{Il}
 use Rattle.st_il.specs.declared.definition.Listed.{Listed}
-use Rattle.st_il.specs.declared.definition.SyntaxDef.{SyntaxDef}
 use Rattle.st_il.specs.declared.expression.Iteration.{Iteration}
 use Rattle.st_il.specs.declared.expression.IlPrem.{IlPrem}
 use Rattle.st_il.specs.declared.ty.Ty.{Ty}
@@ -14,7 +13,7 @@ use Rattle.st_il.specs.declared.value.Value.{Value}
 use Rattle.st_semantics.specs.declared.outcome.Outcome.TheVariants.{Val}
 use Rattle.st_semantics.specs.Names.{Name, has_name}
 use Rattle.st_semantics.specs.Definitions.{syntaxes}
-use Rattle.st_semantics.specs.Environments.{value_in, wrapped, type_of, listed_as, IsTypedValue, IsSomeTyped}
+use Rattle.st_semantics.specs.Environments.{value_in, wrapped, type_of, listed_as, IsTypedValue}
 use Rattle.st_semantics.specs.Iterations.{index_of, kind_of, gathered_as}
 use Rattle.st_semantics.specs.Scopes.{inner, stepped, stepped_all, indices, listed_inside}
 use Rattle.st_semantics.specs.Variables.{prem_vars}

@@ -1,5 +1,5 @@
 -- A test by its outcome.
-use Rattle.std.proofs.Common.{◌≡◌, ℕ, sym, ◌∙◌, ap, subst, List, true}
+use Rattle.std.proofs.Common.{◌≡◌, ℕ, sym, subst, List, true}
 use Rattle.st_il.specs.declared.definition.Il.{Il}
 use Rattle.st_il.specs.declared.definition.Listed.{Listed}
 use Rattle.st_il.specs.declared.expression.IlExp.{IlExp}

@@ -17,25 +17,24 @@ use Rattle.st_il.specs.declared.expression.IlPrem.{IlPrem, out-IlPrem}
 use Rattle.st_il.specs.declared.expression.IlPrem.TheOpen.{IlPrem-F}
 use Rattle.st_il.specs.declared.value.Env.{Env}
 use Rattle.st_il.specs.declared.value.Value.{Value}
-use Rattle.st_semantics.specs.declared.outcome.Outcome.{Outcome}
 use Rattle.st_semantics.specs.Names.{Name, has_name, all_known, without, flattened}
 use Rattle.st_semantics.specs.Definitions.{syntaxes}
 use Rattle.st_semantics.specs.Environments.{names_of, value_in, type_of, listed_in, listed_as, listed_names, AgreeOn, TypedIn, EnvOk, HasListed, IsSomeTyped, IsTypedValue}
 use Rattle.st_semantics.specs.Iterations.{count_of}
-use Rattle.st_semantics.specs.Evaluation.{Answers, tasks, Gives}
+use Rattle.st_semantics.specs.Evaluation.{Answers, tasks}
 use Rattle.st_semantics.specs.Variables.{vars, vars_of, prem_vars, prems_vars, cites}
 use Rattle.st_semantics.specs.Patterns.{is_pattern, binds, bound_by}
 use Rattle.st_semantics.specs.Holding as h
 use Rattle.st_semantics.specs.Holding.{value_by, HaveValues, Instance, instances, Holds, HoldAll}
 use Rattle.st_semantics.specs.Depth as d
 use Rattle.st_semantics.specs.Depth.{evaluated, side_at, bound_side, bound_count, Meets, MeetsHere}
-use Rattle.st_semantics.specs.Reaching.{Reached, MeetsAmong, bound_behind, listed_behind}
-use Rattle.st_semantics.specs.Calls.{no_goal, in_clause, Chosen, TooDeep, CallAt, ValueAt}
-use Rattle.st_semantics.specs.ModeRules.{bound_in_clause, keeps_m7}
+use Rattle.st_semantics.specs.Reaching.{Reached, bound_behind, listed_behind}
+use Rattle.st_semantics.specs.Calls.{no_goal, in_clause, Chosen, TooDeep, CallAt}
+use Rattle.st_semantics.specs.ModeRules.{bound_in_clause}
 use Rattle.st_semantics.specs.Breaches.{ClauseKeeps}
 use Rattle.st_semantics.specs.Kinds.{NamesOccurring}
 use Rattle.st_semantics.specs.Laws.{CallsAreSingle}
-use Rattle.st_semantics.proofs.Names.{Within, within-cases, within-left, within-right, and-both, known-within, or-left, or-right, bytes-same, bytes-path, no_names}
+use Rattle.st_semantics.proofs.Names.{Within, within-cases, within-left, within-right, and-both, known-within, or-left, or-right, bytes-same}
 use Rattle.st_semantics.proofs.Agree.{Gives-agree, tasks_agree, HaveValues-agree, HoldAll-agree, instances-agree, value_by-local}
 use Rattle.st_semantics.proofs.Singles.{IsSingle}
 use Rattle.st_semantics.proofs.Acceptance.{cites-level}
@@ -45,12 +44,11 @@ use Rattle.st_semantics.proofs.Clauses.{hold_first, append_hold, prems_vars-appe
 use Rattle.st_semantics.proofs.Runs.{evaluated_side}
 use Rattle.st_semantics.proofs.PatternForms.{AllSingly}
 use Rattle.st_semantics.proofs.PatternValues.{pattern_agrees}
-use Rattle.st_semantics.proofs.Low.{AreLow, IsLow, name_there}
-use Rattle.st_semantics.proofs.Bindings.{Binds}
+use Rattle.st_semantics.proofs.Low.{AreLow, name_there}
 use Rattle.st_semantics.proofs.Choice.{agree_both, binds_agree, holds_not_deep}
 use Rattle.st_semantics.proofs.Choices.{ClauseBinds, all_bind}
-use Rattle.st_eval.specs.Steps.{IsRunnable, value_at, HoldsAt, AllHoldAt, MeetsAt, HasOnly, IsMetUpTo, HoldsWith, Fails, IsPassedOver, LawOfArguments, LawOfNext, LawOfFailure, LawOfDeepness, LawOfResults}
-use Rattle.st_eval.proofs.InByteOrder.{in_byte_order, is_in_order, in_order_value, in_order_names, all_names}
+use Rattle.st_eval.specs.Steps.{IsRunnable, value_at, MeetsAt, HasOnly, IsMetUpTo, Fails, LawOfArguments, LawOfNext, LawOfFailure, LawOfDeepness, LawOfResults}
+use Rattle.st_eval.proofs.InByteOrder.{in_byte_order, is_in_order, in_order_value, in_order_names}
 
 -- ---- lists of names
 

@@ -1,23 +1,19 @@
 -- The elements of an iteration of which some variables are bound: those that every environment with
 -- more variables has, and an environment that has given elements.
-use Rattle.std.proofs.Common.{◌≡◌, ℕ, zero, suc, ◌+◌, ◌≤◌, pos, refl, sym, ◌∙◌, ap, ap₂, subst, List, [], ◌∷◌, ◌++◌, length, map, filter, ◌⊎◌, inl, inr, Bool, true, false, ◌&&◌, ◌||◌, if◌then◌else◌, Option, Some, None, option_map, bytes_eq, nat_eq, arith}
-use Rattle.std.specs.List.{list_all}
+use Rattle.std.proofs.Common.{◌≡◌, ℕ, zero, suc, ◌+◌, ◌≤◌, pos, refl, sym, ◌∙◌, ap, ap₂, subst, List, [], ◌∷◌, ◌++◌, length, ◌⊎◌, inl, inr, Bool, true, false, ◌&&◌, ◌||◌, if◌then◌else◌, Option, Some, None, option_map, bytes_eq, nat_eq, arith}
 use Rattle.std.proofs.lemmas.Bool.{eqb-true, eq-eqb}
 use Rattle.st_num.specs.declared.dim.Kind.{Kind}
 use Rattle.st_num.specs.declared.dim.Kind.TheVariants as kind
-use Rattle.st_il.specs.declared.definition.SyntaxDef.{SyntaxDef}
-use Rattle.st_il.specs.declared.expression.IlExp.{IlExp, out-IlExp}
-use Rattle.st_il.specs.declared.expression.IlExp.TheOpen.{IlExp-F}
 use Rattle.st_il.specs.declared.expression.Iteration.{Iteration}
 use Rattle.st_il.specs.declared.value.Env.{Env}
 use Rattle.st_il.specs.declared.value.Value.{Value, out-Value}
 use Rattle.st_il.specs.declared.value.Value.TheOpen.{Value-F}
 use Rattle.st_il.specs.declared.value.Value.TheVariants as value
-use Rattle.st_semantics.specs.Names.{Name, has_name, all_known, among}
+use Rattle.st_semantics.specs.Names.{Name, has_name, among}
 use Rattle.st_semantics.specs.Environments.{Entry, lookup, value_in, AgreeOn}
-use Rattle.st_semantics.specs.Parts.{option_at, elements_at}
-use Rattle.st_semantics.specs.Iterations.{count_of, index_of, kind_of, may_be, Column, column_at, column_of, before, columns, all_long, size_of, first_length, heads, tails, bound_to, counted_to, rows, Spread, Over, spread, spread_rows, spread_long}
-use Rattle.st_semantics.proofs.Names.{Within, bytes-same, bytes-path, and-both, or-cases, or-left, or-right, true_false}
+use Rattle.st_semantics.specs.Parts.{option_at}
+use Rattle.st_semantics.specs.Iterations.{index_of, kind_of, may_be, Column, column_of, before, columns, all_long, size_of, first_length, heads, tails, bound_to, counted_to, rows, Over, spread, spread_rows, spread_long}
+use Rattle.st_semantics.proofs.Names.{Within, bytes-same, bytes-path, and-both, or-left, or-right, true_false}
 use Rattle.st_semantics.proofs.Agree.{EnvsAgree, IsShort, index_short}
 use Rattle.st_semantics.proofs.Elements.{before_parts, skip}
 use Rattle.st_semantics.proofs.Columns.{column, behind, column-tails, in_row, row-lookup, long-tails, column-value, column_there, elements-list}

@@ -27,7 +27,6 @@ use Rattle.st_semantics.specs.Calls.{no_goal, in_clause, Chosen, TooDeep, CallAt
 use Rattle.st_semantics.specs.ModeRules.{bound_in_clause, keeps_m7}
 use Rattle.st_semantics.specs.Breaches.{ClauseKeeps}
 use Rattle.st_semantics.specs.Kinds.{NamesOccurring, ListsOccurring}
-use Rattle.st_semantics.specs.Laws.{CallsAreSingle}
 
 -- What the rules M3, M4, M6 and M7 and typing say of a clause: its premises can be run at their
 -- places, and it lists exactly the variables that occur, each once.

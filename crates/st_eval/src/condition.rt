@@ -179,10 +179,26 @@ pub fn meet_condition<C: Caller>(
         IlExp::Eq(left, right) => {
             let first = is_bound(alloc, left.get(), known.as_slice())?;
             if first {
-                let met = equation(alloc, setting, caller, variables, env, left.get(), right.get())?;
+                let met = equation(
+                    alloc,
+                    setting,
+                    caller,
+                    variables,
+                    env,
+                    left.get(),
+                    right.get(),
+                )?;
                 Ok(met)
             } else {
-                let met = equation(alloc, setting, caller, variables, env, right.get(), left.get())?;
+                let met = equation(
+                    alloc,
+                    setting,
+                    caller,
+                    variables,
+                    env,
+                    right.get(),
+                    left.get(),
+                )?;
                 Ok(met)
             }
         }

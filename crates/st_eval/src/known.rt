@@ -118,11 +118,7 @@ pub(crate) fn is_bound<'a>(
 
 /// Whether all variables of several expressions are known.
 #[cycle(bound)]
-fn are_bound<'a>(
-    alloc: Global,
-    exps: &[&'a IlExp],
-    known: &[&'a Name],
-) -> Result<bool, NoMemory>
+fn are_bound<'a>(alloc: Global, exps: &[&'a IlExp], known: &[&'a Name]) -> Result<bool, NoMemory>
     requires { (defs : List SyntaxDef) × AreFormed defs (exps_now exps.now) }
     ensures { IfOk result (λ bound.
         bound ≡ all_known (names_now known.now) (vars_of (exps_now exps.now))) }

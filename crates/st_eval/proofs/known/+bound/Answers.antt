@@ -1,4 +1,4 @@
-use Rattle.std.proofs.Common.{◌≡◌, ◌+◌, ◌<◌, sym, ◌∙◌, ap, subst, List, arith}
+use Rattle.std.proofs.Common.{◌≡◌, ◌+◌, ◌<◌, sym, ◌∙◌, ap, subst, arith}
 use Rattle.st_il.specs.declared.expression.IlExp.{out-IlExp}
 use Rattle.st_semantics.specs.Names.{all_known}
 use Rattle.st_semantics.specs.Operands.{operands_at, item_exp, segment_exps}

@@ -1,5 +1,4 @@
-use Rattle.std.proofs.Common.{sym, subst, List}
-use Rattle.st_il.specs.declared.expression.IlExp.{IlExp}
+use Rattle.std.proofs.Common.{sym, subst}
 use Rattle.st_semantics.specs.Definitions.{syntaxes}
 use Rattle.st_semantics.specs.Formed.{IsFormed}
 use Rattle.st_semantics.specs.Evaluation.{Gives}
