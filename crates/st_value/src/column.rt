@@ -280,11 +280,7 @@ fn with_others<'a>(bound: Row<Bound<'a>>, scope: &[Bound<'a>]) -> Result<Row<Bou
 }
 
 /// What an iteration makes of the values of its body.
-pub fn gathered(
-    alloc: Global,
-    how: &Iteration,
-    values: Row<Value>,
-) -> Result<Outcome, NoMemory>
+pub fn gathered(alloc: Global, how: &Iteration, values: Row<Value>) -> Result<Outcome, NoMemory>
     ensures { IfOk result (λ outcome. outcome ≡ gathered how.now values) }
 {
     match kind_of(how) {

@@ -1,6 +1,5 @@
-use Rattle.std.proofs.Common.{rules, ◌≡◌, ◌+◌, ◌<◌, refl, sym, ◌∙◌, ap, subst, List, [], map, length, get_or, append-nil, arith}
-use Rattle.st_il.specs.declared.expression.IlExp.{IlExp, out-IlExp}
-use Rattle.st_il.specs.declared.expression.IlExp.TheOpen.{IlExp-F}
+use Rattle.std.proofs.Common.{rules, ◌≡◌, ◌+◌, ◌<◌, refl, sym, ◌∙◌, ap, subst, [], append-nil, arith}
+use Rattle.st_il.specs.declared.expression.IlExp.{out-IlExp}
 use Rattle.st_il.specs.declared.expression.IlExp.TheVariants as exp
 use Rattle.st_semantics.specs.declared.outcome.Outcome.TheVariants.{Val, NoValue, Deep}
 use Rattle.st_semantics.specs.declared.outcome.Outcomes.TheVariants.{Values, Stopped}
@@ -11,9 +10,9 @@ use Rattle.st_semantics.specs.Evaluation.{tasks, then_all, Gives}
 use Rattle.st_value.specs.inner.Prefix.{behind_values}
 use Rattle.st_value.specs.inner.Scope.{scope_env, entries_of, columns_now}
 use Rattle.st_value.specs.inner.Weight.{exps_now, weight, heaviest}
-use Rattle.st_value.proofs.FormLevels.{IsPlain, plain_strict, call_parts, iteration_parts, formed_element, plain_by}
-use Rattle.st_value.proofs.Weights.{weight-operands, weight-iteration, heaviest-element}
-use Rattle.st_value.proofs.Builds.{gives_variable, gives_call, gives_strict, behind_values-then, outcomes_start, outcomes_next, outcomes_stop, outcomes_end, moved_all, at_row, elements_start, elements_next, elements_stop, elements_end, iterated_stopped, iterated_misfit, iterated_over}
+use Rattle.st_value.proofs.FormLevels.{plain_strict, formed_element, plain_by}
+use Rattle.st_value.proofs.Weights.{weight-operands, heaviest-element}
+use Rattle.st_value.proofs.Builds.{gives_variable, gives_call, gives_strict, behind_values-then, outcomes_next, outcomes_stop, outcomes_end, moved_all, at_row, elements_start, elements_next, elements_stop, elements_end, iterated_stopped, iterated_misfit, iterated_over}
 use Rattle.st_value.proofs.evaluation.+value.Goals as goal
 
 pub at_elements-loop-at-init : goal.at_elements-loop-at-init
