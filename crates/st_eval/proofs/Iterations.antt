@@ -52,6 +52,7 @@ use Rattle.st_eval.specs.Steps.{value_at, HoldsAt, MeetsAt, HasOnly, HoldsWith, 
 use Rattle.st_eval.specs.Elements.{IsEach, GoesOver, AllHoldWith, Gathers, LawOfCounts, LawOfElements, LawOfGathering}
 use Rattle.st_eval.proofs.InByteOrder.{name_has_value}
 use Rattle.st_eval.proofs.Trying.{known_all, only_low, Meets-agree}
+use Rattle.st_eval.proofs.MoreBound.{Binds-wider}
 use Rattle.st_eval.proofs.Unfolding.{AreCounted, known_spread, over_same, or_some, values_of, collected, gathered_env, HasValues, IsFreeCount, number_is, w, more_agrees, more_new, more_count, cols, gathers, anchored_size}
 
 misfit_over : (s : Spread) (envs : List Env) → s ≡ Misfit → s ≡ Over envs → ⊥
@@ -123,7 +124,7 @@ module _ (il : Il) (single : CallsAreSingle il) (n : ℕ) (bound : List Name) (l
   New = without Inside (prem_vars body)
 
   binding : BindsInside bound how xs body
-  binding = binds_inside (class_binds il each.names_occurring bound each.class each.executable each.one_open) how xs body each.is
+  binding = binds_inside (Binds-wider (class_binds il each.names_occurring each.few each.class each.executable each.one_open) bound (known-within bound each.few each.within)) how xs body each.is
 
   body_free : (relation : Name) (es : List IlExp) → out-IlPrem body ≡ IlPrem-F.Goal relation es → ⊥
   body_free relation es is =

@@ -1,6 +1,7 @@
 mod InByteOrder
 mod Trying
 mod Conditions
+mod MoreBound
 mod Unfolding
 mod Iterations
 mod Lists

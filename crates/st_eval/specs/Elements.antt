@@ -29,13 +29,15 @@ use Rattle.st_semantics.specs.Kinds.{AreOfItsKind, NamesOccurring}
 use Rattle.st_eval.specs.Steps.{value_at, MeetsAt, HasOnly, HoldsWith, Fails}
 
 -- What the rules M3, M4 and M7 and typing say of an iterated premise that is met with some variables
--- bound: it can be run there, it iterates listed variables of its own kind that occur inside, and no
--- variable that is its count.
+-- bound: it can be run where some of them are, it iterates listed variables of its own kind that
+-- occur inside, and no variable that is its count.
 pub record IsEach (il : Il) (bound : List Name) (ls : List Listed) (p : IlPrem) (how : Iteration)
     (xs : List Name) (body : IlPrem) : Type 0 where
   pub is : out-IlPrem p ≡ IlPrem-F.Each how xs body
+  pub few : List Name
+  pub within : all_known bound few ≡ true
   pub class : Class
-  pub executable : class_of il bound p ≡ Some class
+  pub executable : class_of il few p ≡ Some class
   pub one_open : has_one_open (Some class) ≡ true
   pub names_occurring : NamesOccurring p
   pub without_goal : cites p ≡ false
