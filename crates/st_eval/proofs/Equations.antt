@@ -27,7 +27,7 @@ use Rattle.st_match.specs.Matches.{AreMatches}
 use Rattle.st_eval.specs.Steps.{HasOnly}
 use Rattle.st_eval.specs.declared.condition.Met.{Met}
 use Rattle.st_eval.specs.declared.condition.Met.TheVariants as met
-use Rattle.st_eval.specs.inner.Meeting.{IsMet, IsEquatedBy, IsEquated, IsEquation, IsCondition}
+use Rattle.st_eval.specs.Meeting.{IsMet, IsEquatedBy, IsEquated, IsEquation, IsCondition}
 use Rattle.st_eval.proofs.Conditions.{same_truth, law_of_equations, law_of_sides}
 
 -- ---- what matches

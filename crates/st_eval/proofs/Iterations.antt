@@ -156,7 +156,7 @@ module _ (il : Il) (single : CallsAreSingle il) (n : ℕ) (bound : List Name) (l
           absurd (true_false (sym (known-within bound (without xs (without (index_of how) (prem_vars body))) binding.0.others x
           (without-other xs (without (index_of how) (prem_vars body)) x ic (without-other (index_of how) (prem_vars body) x ia i))) ∙ ib))
 
-  inside_listed : all_known (listed_names Scope) (Inside ++ prem_vars body) ≡ true
+  pub inside_listed : all_known (listed_names Scope) (Inside ++ prem_vars body) ≡ true
   inside_listed = known_all (listed_names Scope) (Inside ++ prem_vars body) (λ x k. elim (within-cases Inside (prem_vars body) x k) [
     | inl i ↦ bound_inside x i
     | inr i ↦ elim (inner_name x i) [

@@ -9,3 +9,4 @@ mod BoundParts
 mod Answered
 mod TestOutcomes
 mod Equations
+mod CanMeet

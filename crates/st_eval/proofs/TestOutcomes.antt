@@ -17,7 +17,7 @@ use Rattle.st_semantics.specs.Laws.{CallsAreSingle}
 use Rattle.st_eval.specs.Steps.{HasOnly, HoldsWith}
 use Rattle.st_eval.specs.declared.condition.Met.{Met}
 use Rattle.st_eval.specs.declared.condition.Met.TheVariants as met
-use Rattle.st_eval.specs.inner.Meeting.{IsTested, IsMet}
+use Rattle.st_eval.specs.Meeting.{IsTested, IsMet}
 use Rattle.st_eval.proofs.Conditions.{law_of_tests}
 
 pub tested_is : (il : Il) → CallsAreSingle il → (n : ℕ) (bound : List Name) (ls : List Listed) (env : Env) (p : IlPrem) (e : IlExp) (o : Outcome) (m : Met) → out-IlPrem p ≡ IlPrem-F.If e → all_known bound (vars e) ≡ true

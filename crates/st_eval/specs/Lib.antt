@@ -5,5 +5,11 @@
 pub mod Steps
 -- an iterated premise is tried element by element
 pub mod Elements
+-- the language and what answers calls, where a premise is met
+pub mod Setting
+-- what a premise comes to that is met
+pub mod Meeting
+-- which premises can be met
+pub mod CanBeMet
 -- ---- what only contracts inside the crate need
 pub mod inner

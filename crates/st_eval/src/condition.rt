@@ -13,8 +13,8 @@ ghost use Rattle.st_semantics.specs.Formed.{IsFormed};
 ghost use Rattle.st_semantics.specs.Patterns.{is_pattern, binds};
 ghost use Rattle.st_semantics.specs.Variables.{vars};
 ghost use Rattle.st_eval.specs.Steps.{HasOnly};
-ghost use Rattle.st_eval.specs.inner.Setting.{IsSetting, AnswersCalls};
-ghost use Rattle.st_eval.specs.inner.Meeting.{IsTested, IsMet, IsMatched, IsEquated, IsCondition};
+ghost use Rattle.st_eval.specs.Setting.{IsSetting, AnswersCalls};
+ghost use Rattle.st_eval.specs.Meeting.{IsTested, IsMet, IsMatched, IsEquated, IsCondition};
 
 use crate::known::{is_bound, names_of};
 use crate::reading::{Setting, value_of};

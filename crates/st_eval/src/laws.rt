@@ -5,6 +5,7 @@ ghost use Rattle.st_semantics.specs.Laws.{CallsAreSingle};
 ghost use Rattle.st_eval.specs.Steps.{LawOfArguments, LawOfNext, LawOfFailure, LawOfDeepness};
 ghost use Rattle.st_eval.specs.Steps.{LawOfResults, LawOfTests, LawOfEquations, LawOfSides};
 ghost use Rattle.st_eval.specs.Elements.{LawOfCounts, LawOfElements, LawOfGathering, LawOfLists};
+ghost use Rattle.st_eval.specs.CanBeMet.{LawOfMeeting};
 
 /// A clause is tried from the values of its arguments on. Where they are values of the arguments
 /// under no environment, it is passed over. A premise that holds leads to the next one; one that
@@ -14,6 +15,7 @@ ghost use Rattle.st_eval.specs.Elements.{LawOfCounts, LawOfElements, LawOfGather
 /// iterated premise goes over the elements of what is bound, as many as its count says: it does what
 /// the inner premise does at the first element at which that does not hold, and where it holds at
 /// all of them it binds the lists or options of what they bind, or meets Deep where one is too high.
+/// And a premise that keeps the rules can be met at its place.
 pub fn steps_of_clauses()
     ensures arguments { (il : Il) → LawOfArguments il }
     ensures next { (il : Il) → LawOfNext il }
@@ -27,4 +29,5 @@ pub fn steps_of_clauses()
     ensures elements { (il : Il) → CallsAreSingle il → LawOfElements il }
     ensures gathering { (il : Il) → CallsAreSingle il → LawOfGathering il }
     ensures lists { (il : Il) → CallsAreSingle il → LawOfLists il }
+    ensures meeting { (il : Il) → CallsAreSingle il → LawOfMeeting il }
 {}

@@ -4,7 +4,7 @@ ghost use Rattle.std.specs.Prelude.{IfOk};
 ghost use Rattle.st_semantics.specs.Definitions.{syntaxes};
 ghost use Rattle.st_semantics.specs.Formed.{IsFormed};
 ghost use Rattle.st_semantics.specs.Calls.{ValueAt};
-ghost use Rattle.st_eval.specs.inner.Setting.{IsSetting, AnswersCalls};
+ghost use Rattle.st_eval.specs.Setting.{IsSetting, AnswersCalls};
 
 use st_il::{Env, Il, IlExp};
 use st_num::NoMemory;

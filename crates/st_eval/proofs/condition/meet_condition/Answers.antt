@@ -6,7 +6,7 @@ use Rattle.st_semantics.specs.Formed.{IsFormed}
 use Rattle.st_semantics.specs.Patterns.{is_pattern, binds}
 use Rattle.st_semantics.specs.Variables.{vars}
 use Rattle.st_eval.specs.inner.Known.{names_now}
-use Rattle.st_eval.specs.inner.Meeting.{IsEquated}
+use Rattle.st_eval.specs.Meeting.{IsEquated}
 use Rattle.st_eval.proofs.Equations.{bound_is, pattern_bound, some_equation, left_bound, right_bound, left_formed, equated_is}
 use Rattle.st_eval.proofs.condition.meet_condition.Goals as goal
 

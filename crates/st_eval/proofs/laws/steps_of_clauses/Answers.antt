@@ -2,6 +2,7 @@ use Rattle.st_eval.proofs.Trying.{law_of_arguments, law_of_next, law_of_failure,
 use Rattle.st_eval.proofs.Conditions.{law_of_tests, law_of_equations, law_of_sides}
 use Rattle.st_eval.proofs.Iterations.{law_of_counts, law_of_elements, law_of_gathering}
 use Rattle.st_eval.proofs.Lists.{law_of_lists}
+use Rattle.st_eval.proofs.CanMeet.{law_of_meeting}
 use Rattle.st_eval.proofs.laws.steps_of_clauses.Goals as goal
 
 pub returns-clause-arguments : goal.returns-clause-arguments
@@ -39,3 +40,6 @@ returns-clause-gathering c = law_of_gathering
 
 pub returns-clause-lists : goal.returns-clause-lists
 returns-clause-lists c = law_of_lists
+
+pub returns-clause-meeting : goal.returns-clause-meeting
+returns-clause-meeting c = law_of_meeting
