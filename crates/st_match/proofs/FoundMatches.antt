@@ -1,6 +1,6 @@
 -- What is found among the candidates of a pattern is what matches it.
-use Rattle.std.proofs.Common.{◌≡◌, ◌↔◌, ℕ, ◌+◌, ◌<◌, ◌≤◌, refl, sym, ◌∙◌, ap, subst, List, [], ◌∷◌, ◌++◌, length, take, get_or, inl, inr, ◌⊎◌, Bool, true, false, Option, Some, None, arith}
-use Rattle.std.specs.Prelude.{◌≢◌, IsTrue, AllPairs, Contains, option_map}
+use Rattle.std.proofs.Common.{◌≡◌, ◌↔◌, ℕ, ◌+◌, ◌<◌, ◌≤◌, refl, sym, ◌∙◌, ap, subst, List, [], ◌∷◌, ◌++◌, length, take, get_or, inl, inr, Bool, true, false, Option, Some, arith}
+use Rattle.std.specs.Prelude.{◌≢◌, IsTrue, AllPairs, Contains}
 use Rattle.std.specs.List.{All}
 use Rattle.std.specs.Ordering.{is_lt}
 use Rattle.std.proofs.lemmas.List.{take_more, take_all}
@@ -15,12 +15,12 @@ use Rattle.st_il.specs.Order.{text_cmp}
 use Rattle.st_semantics.specs.declared.outcome.Outcome.{Outcome}
 use Rattle.st_semantics.specs.declared.outcome.Outcome.TheVariants.{Val, NoValue, Deep}
 use Rattle.st_semantics.specs.Names.{Name, has_name, all_known}
-use Rattle.st_semantics.specs.Environments.{Entry, lookup, value_in, names_of, IsOrdered}
+use Rattle.st_semantics.specs.Environments.{Entry, value_in, names_of}
 use Rattle.st_semantics.specs.Evaluation.{Gives}
 use Rattle.st_semantics.specs.Matching.{no_answers, IsMatch}
 use Rattle.st_semantics.specs.Variables.{vars}
 use Rattle.st_semantics.specs.Patterns.{is_pattern, binds}
-use Rattle.st_semantics.proofs.Names.{within-left, within-cases, known-within, or-left, or-right, true_false}
+use Rattle.st_semantics.proofs.Names.{within-left, within-cases, known-within, or-right, true_false}
 use Rattle.st_semantics.proofs.Low.{name_there}
 use Rattle.st_semantics.proofs.Singles.{Gives-single}
 use Rattle.st_match.specs.declared.matching.Sought.{Sought}
@@ -29,7 +29,7 @@ use Rattle.st_match.specs.inner.Fitting.{Fits}
 use Rattle.st_match.specs.inner.Covering.{OneOf, Stands, joined, bound, AreCandidates}
 use Rattle.st_match.specs.inner.Names.{AreOrdered}
 use Rattle.st_match.specs.inner.Types.{HasAsked, asked_of}
-use Rattle.st_match.specs.inner.Assembly.{first_value, value_of_either, entries_of, entries}
+use Rattle.st_match.specs.inner.Assembly.{first_value, value_of_either}
 use Rattle.st_match.specs.inner.Found.{Suits, IsMade, Adds, AreFound}
 use Rattle.st_match.proofs.Covers.{OneOf-map, OneOf-left, OneOf-right, OneOf-cases}
 use Rattle.st_match.proofs.InOrder.{pairs_sorted, sorted_pairs, sorted_equal}

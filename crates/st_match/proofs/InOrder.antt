@@ -1,5 +1,5 @@
 -- Names in order: one more comes in, and two lists in order that have the same names are one.
-use Rattle.std.proofs.Common.{◌≡◌, ℕ, zero, suc, ◌+◌, ◌<◌, ◌≤◌, refl, sym, ◌∙◌, ap, ap₂, subst, List, [], ◌∷◌, ◌++◌, length, take, drop, get_or, append-nil, ◌⊎◌, inl, inr, Bool, true, false, ◌||◌, Some, None, bytes_eq, arith}
+use Rattle.std.proofs.Common.{◌≡◌, ℕ, zero, suc, ◌+◌, ◌<◌, ◌≤◌, refl, sym, ◌∙◌, ap, ap₂, subst, List, [], ◌∷◌, ◌++◌, length, take, drop, get_or, ◌⊎◌, inl, inr, Bool, true, false, ◌||◌, Some, None, bytes_eq, arith}
 use Rattle.std.specs.Prelude.{AllPairs}
 use Rattle.std.specs.Ordering.{is_lt, is_eq, ordering_reverse}
 use Rattle.std.specs.declared.cmp.Ordering.{Ordering}
@@ -13,7 +13,7 @@ use Rattle.std.proofs.lemmas.List.Kept.{AllPairs-cons}
 use Rattle.std.specs.List.{slice_index_or, All}
 use Rattle.st_il.specs.Order.{text_cmp}
 use Rattle.st_semantics.specs.Names.{Name, has_name}
-use Rattle.st_semantics.proofs.Names.{bytes-same, bytes-path, or-left, or-right, or-cases, within-cases, within-left, within-right, true_false}
+use Rattle.st_semantics.proofs.Names.{bytes-same, bytes-path, or-left, or-right, or-cases, within-cases, within-left, within-right}
 use Rattle.st_match.specs.inner.Names.{AreSorted, IsInserted, StandsAt, AreOrdered}
 
 -- ---- one name and another

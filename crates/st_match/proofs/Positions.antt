@@ -1,11 +1,10 @@
 -- What the parts of a list lead to, from positions to positions.
-use Rattle.std.proofs.Common.{◌≡◌, ℕ, zero, suc, ◌+◌, ◌-◌, ◌<◌, ◌≤◌, refl, sym, ◌∙◌, ap, subst, List, [], ◌∷◌, ◌++◌, length, take, drop, get_or, Bool, true, false, if◌then◌else◌, arith, length-drop}
-use Rattle.std.specs.Prelude.{nat_eq}
+use Rattle.std.proofs.Common.{◌≡◌, ℕ, suc, ◌+◌, ◌-◌, ◌<◌, ◌≤◌, refl, sym, ◌∙◌, ap, subst, List, [], ◌∷◌, ◌++◌, length, take, drop, get_or, arith, length-drop}
 use borrow.Author.Count.{below_more}
 use Rattle.std.proofs.lemmas.List.{take_more, take_all, drop_more, drop_all, drop-drop}
 use Rattle.st_il.specs.declared.definition.SyntaxDef.{SyntaxDef}
 use Rattle.st_il.specs.declared.expression.IlExp.{IlExp}
-use Rattle.st_il.specs.declared.expression.IlExp.TheOpen.{IlExp-F, ListItem-F}
+use Rattle.st_il.specs.declared.expression.IlExp.TheOpen.{ListItem-F}
 use Rattle.st_il.specs.declared.expression.Iteration.{Iteration}
 use Rattle.st_il.specs.declared.expression.PathSeg.{PathSeg}
 use Rattle.st_il.specs.declared.expression.ListItem.{ListItem, out-ListItem}
@@ -16,9 +15,9 @@ use Rattle.st_il.specs.declared.value.Value.TheVariants as value
 use Rattle.st_match.specs.declared.position.Position.{Position}
 use Rattle.st_match.specs.inner.Fitting.{FitItems}
 use Rattle.st_match.specs.inner.Covering.{AreCandidates, AreCandidatesOfItems, AreCandidatesOfSplit}
-use Rattle.st_match.specs.inner.Positions.{Follow, FollowAll, PartLeads, ElementLeads, CutLeads, CutsLead, one_at, ones, MayMake, AreEnds}
+use Rattle.st_match.specs.inner.Positions.{FollowAll, PartLeads, ElementLeads, CutLeads, CutsLead, one_at, ones, MayMake, AreEnds}
 use Rattle.st_match.proofs.Fits.{FitItems-none, FitItems-One, FitItems-All}
-use Rattle.st_match.proofs.AreCandidates.{items_nothing, items_never, items_wider, items_later, items_end, items_left, items_One, items_All, split_here, split_within}
+use Rattle.st_match.proofs.AreCandidates.{items_nothing, items_never, items_wider, items_later, items_One, items_All, split_here, split_within}
 
 -- ---- several positions
 

@@ -1,5 +1,5 @@
 -- What is found among candidates.
-use Rattle.std.specs.Prelude.{◌≡◌, ◌≢◌, ◌⊎◌, true, List, All, AllPairs, Contains, Option, Some, option_map}
+use Rattle.std.specs.Prelude.{◌≡◌, ◌≢◌, ◌⊎◌, true, List, All, AllPairs, Contains, Some}
 use Rattle.st_il.specs.declared.value.Env.{Env}
 use Rattle.st_semantics.specs.Formed.{IsFormed}
 use Rattle.st_semantics.specs.Patterns.{is_pattern}

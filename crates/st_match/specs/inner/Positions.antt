@@ -1,5 +1,5 @@
 -- Positions in the elements of a list, each with the environments that the parts before it come to.
-use Rattle.std.specs.Prelude.{◌≡◌, ◌≤◌, ◌<◌, ◌-◌, ◌+◌, ℕ, zero, suc, List, [], ◌∷◌, length, drop}
+use Rattle.std.specs.Prelude.{◌≡◌, ◌≤◌, ◌<◌, ◌-◌, ◌+◌, ℕ, List, [], ◌∷◌, length, drop}
 use Rattle.st_il.specs.declared.expression.IlExp.{IlExp}
 use Rattle.st_il.specs.declared.expression.ListItem.{ListItem, out-ListItem}
 use Rattle.st_il.specs.declared.expression.ListItem.TheVariants as item

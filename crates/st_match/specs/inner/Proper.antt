@@ -1,5 +1,5 @@
 -- Values of which all texts are texts and all numbers in range.
-use Rattle.std.specs.Prelude.{ℤ, List, [], ◌∷◌, Some, None}
+use Rattle.std.specs.Prelude.{List, [], ◌∷◌, Some, None}
 use Rattle.std.specs.List.{All}
 use Rattle.st_num.specs.Number.{IsNumber}
 use Rattle.st_num.specs.Texts.{IsText}

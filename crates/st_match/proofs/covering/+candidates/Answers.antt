@@ -1,6 +1,6 @@
-use Rattle.std.proofs.Common.{◌≡◌, ◌+◌, refl, sym, ◌∙◌, ap, subst, List, ◌∷◌, length, drop, take, get_or, Some, None, arith, rules}
+use Rattle.std.proofs.Common.{◌+◌, refl, sym, ◌∙◌, ap, subst, ◌∷◌, length, drop, take, get_or, Some, arith, rules}
 use Rattle.std.proofs.lemmas.List.{take_rest, drop_more, length-map}
-use Rattle.st_il.specs.declared.expression.IlExp.{IlExp, out-IlExp}
+use Rattle.st_il.specs.declared.expression.IlExp.{out-IlExp}
 use Rattle.st_il.specs.declared.expression.IlExp.TheVariants as exp
 use Rattle.st_il.specs.declared.expression.Iteration.TheVariants as iteration
 use Rattle.st_il.specs.declared.expression.ListItem.TheVariants as item

@@ -1,4 +1,4 @@
-use Rattle.std.proofs.Common.{ℕ, ◌<◌, ◌≤◌, List, take, drop}
+use Rattle.std.proofs.Common.{ℕ, ◌<◌, List, take, drop}
 use Rattle.st_il.specs.declared.expression.ListItem.TheVariants as item
 use Rattle.st_il.specs.declared.value.Env.{Env}
 use Rattle.st_match.specs.inner.Fitting.{field_values}

@@ -1,4 +1,4 @@
-use Rattle.std.proofs.Common.{◌≡◌, ◌++◌, List, map, drop}
+use Rattle.std.proofs.Common.{◌≡◌, ◌++◌, map, drop}
 use Rattle.st_semantics.specs.Environments.{Entry, names_of}
 use Rattle.st_match.proofs.names.with_env_names.Given as goal
 
