@@ -1,5 +1,5 @@
 -- A premise that keeps the rules can be met at its place.
-use Rattle.std.proofs.Common.{◌≡◌, ℕ, zero, refl, sym, ◌∙◌, ap, ap₂, subst, List, [], ◌∷◌, ◌++◌, ◌⊎◌, inl, inr, Bool, true, false, not, ◌&&◌, if◌then◌else◌, Option, Some, None}
+use Rattle.std.proofs.Common.{◌≡◌, zero, refl, sym, ◌∙◌, ap₂, subst, List, [], ◌∷◌, ◌++◌, ◌⊎◌, inl, inr, Bool, true, false, ◌&&◌, if◌then◌else◌, Option, Some, None}
 use Rattle.std.specs.List.{list_all}
 use Rattle.st_il.specs.declared.definition.Il.{Il}
 use Rattle.st_il.specs.declared.definition.Listed.{Listed}
@@ -17,7 +17,7 @@ use Rattle.st_semantics.specs.Definitions.{syntaxes}
 use Rattle.st_semantics.specs.Environments.{listed_names}
 use Rattle.st_semantics.specs.Parts.{binary}
 use Rattle.st_semantics.specs.Operators.{equality}
-use Rattle.st_semantics.specs.Forms.{HasForm, Strict}
+use Rattle.st_semantics.specs.Forms.{Strict}
 use Rattle.st_semantics.specs.Formed as formed
 use Rattle.st_semantics.specs.Formed.{IsFormed, AreFormed, PremIsFormed}
 use Rattle.st_semantics.specs.Iterations.{count_of, index_of}
@@ -29,13 +29,12 @@ use Rattle.st_semantics.specs.ModeRules.{has_one_open}
 use Rattle.st_semantics.specs.Kinds as kinds
 use Rattle.st_semantics.specs.Kinds.{AreOfItsKind, IsKinded, NamesOccurring}
 use Rattle.st_semantics.specs.Laws.{CallsAreSingle}
-use Rattle.st_semantics.proofs.Names.{Within, within-cases, within-left, within-right, and-both, known-within, true_false, vars-form, prem-level}
+use Rattle.st_semantics.proofs.Names.{Within, within-cases, within-right, and-both, known-within, true_false, vars-form, prem-level}
 use Rattle.st_semantics.proofs.Singles.{HasForm-single}
 use Rattle.st_semantics.proofs.Acceptance.{cites-level}
 use Rattle.st_semantics.proofs.CanRun.{known-wider, runs_of, class-level, within-index, inside-within}
 use Rattle.st_semantics.proofs.Wider.{append-wider}
 use Rattle.st_semantics.proofs.Values.{equation_form}
-use Rattle.st_eval.specs.Steps.{AreSides}
 use Rattle.st_eval.specs.Elements.{IsEach}
 use Rattle.st_eval.specs.Meeting.{IsEquation, IsCondition}
 use Rattle.st_eval.specs.CanBeMet as met

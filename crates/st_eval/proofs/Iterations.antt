@@ -21,7 +21,7 @@ use Rattle.st_semantics.specs.declared.outcome.Outcome.TheVariants.{Val, NoValue
 use Rattle.st_semantics.specs.declared.outcome.Outcomes.TheVariants.{Values, Stopped}
 use Rattle.st_semantics.specs.Names.{Name, has_name, all_known, among, without}
 use Rattle.st_semantics.specs.Definitions.{syntaxes}
-use Rattle.st_semantics.specs.Environments.{value_in, type_of, listed_names, AgreeOn, TypedIn, IsSomeTyped}
+use Rattle.st_semantics.specs.Environments.{value_in, type_of, listed_names, AgreeOn, TypedIn, IsSomeTyped, names_of, listed_as}
 use Rattle.st_semantics.specs.Parts.{given, natural, natural_of, number_at}
 use Rattle.st_semantics.specs.Forms.{form_at, Variable, by_itself}
 use Rattle.st_semantics.specs.Iterations.{count_of, count_at, index_of, kind_of, kind_at, columns, size_of, spread, Spread, Misfit, Over, gathered, gathered_as}
@@ -598,6 +598,45 @@ module _ (il : Il) (single : CallsAreSingle il) (n : ℕ) (bound : List Name) (l
         variables = only;
         holds = Holds-agree (value_at il n) (value_by-local (syntaxes il) (CallAt il n)) (Unit {0}) no_goal (h.each how xs body whole.0 each.is whole.1 each_front.1) other all_same;
       }
+
+  -- ---- an environment of what is gathered has the variables, each of its type
+
+  -- a variable of the premise that is not bound is iterated, or it is the count
+  unbound_name : (x : Name) → has_name bound x ≡ false → has_name (prem_vars p) x ≡ true
+      → (has_name xs x ≡ true) ⊎ ((e : IlExp) × (count_of how ≡ e ∷ []) × (out-IlExp e ≡ IlExp-F.Var x))
+  unbound_name x k i = elim (within-cases (vars_of (count_of how) ++ xs) (without (index_of how) (prem_vars body)) x (sym (outer_names x) ∙ i)) [
+    | inl j ↦ elim (within-cases (vars_of (count_of how)) xs x j) [ inl c ↦ inr (counted_name c free.2) | inr m ↦ inl m ]
+    | inr j ↦ inl (later j (has_name xs x) refl)
+  ]
+    where
+      later : has_name (without (index_of how) (prem_vars body)) x ≡ true → (b : Bool) → has_name xs x ≡ b → has_name xs x ≡ true
+      later j true m = m
+      later j false m =
+          absurd (true_false (sym (known-within bound (without xs (without (index_of how) (prem_vars body))) binding.0.others x (without-other xs (without (index_of how) (prem_vars body)) x m j)) ∙ k))
+
+      alone : (e : IlExp) → count_of how ≡ e ∷ [] → has_name (vars_of (count_of how)) x ≡ true → has_name (vars e) x ≡ true
+      alone e one c = elim (within-cases (vars e) [] x (subst (λ z. has_name (vars_of z) x ≡ true) one c)) [ inl j ↦ j | inr j ↦ cc ]
+
+      counted_name : has_name (vars_of (count_of how)) x ≡ true → CountNamed free.0 → (e : IlExp) × (count_of how ≡ e ∷ []) × (out-IlExp e ≡ IlExp-F.Var x)
+      counted_name c (inl v) = let bad : has_name [] x ≡ true = subst (λ z. has_name (vars_of z) x ≡ true) v.0 c in cc
+      counted_name c (inr (inl v)) = absurd (true_false (sym (known-within bound (vars v.0) v.2 x (alone v.0 v.1 c)) ∙ k))
+      counted_name c (inr (inr v)) =
+          let vars_are : vars v.0 ≡ v.1 ∷ [] = vars-form (syntaxes il) v.0 (Variable v.1) (by_itself (ap form_at v.3)) in
+          let named : x ≡ v.1 = one_name x v.1 (subst (λ z. has_name z x ≡ true) vars_are (alone v.0 v.2 c)) in
+          (v.0, v.2, v.3 ∙ ap IlExp-F.Var (sym named))
+
+  pub gathered_only : (other : Env) → HasOnly il ls bound env → AgreeOn bound env other → ((x : Name) → has_name (names_of other) x ≡ has_name (bound ++ prem_vars p) x)
+      → ((x : Name) → has_name bound x ≡ false → has_name xs x ≡ true → (l : Listed) → listed_as x ls ≡ Some l → IsSomeTyped (syntaxes il) (type_of l) (value_in other x))
+      → ((e : IlExp) (x : Name) → count_of how ≡ e ∷ [] → out-IlExp e ≡ IlExp-F.Var x → has_name bound x ≡ false → (l : Listed) → listed_as x ls ≡ Some l → IsSomeTyped (syntaxes il) (type_of l) (value_in other x))
+      → HasOnly il ls (bound ++ prem_vars p) other
+  gathered_only other only g names lists number = record { names_are = names; typed = λ x k l at. typed x k l at (has_name bound x) refl }
+    where
+      typed : (x : Name) → has_name (bound ++ prem_vars p) x ≡ true → (l : Listed) → listed_as x ls ≡ Some l → (b : Bool) → has_name bound x ≡ b → IsSomeTyped (syntaxes il) (type_of l) (value_in other x)
+      typed x k l at true j = subst (IsSomeTyped (syntaxes il) (type_of l)) (g x j) (only.typed x j l at)
+      typed x k l at false j = elim (within-cases bound (prem_vars p) x k) [
+        | inl i ↦ absurd (true_false (sym i ∙ j))
+        | inr i ↦ elim (unbound_name x j i) [ inl m ↦ lists x j m l at | inr c ↦ number c.0 x c.1 c.2 j l at ]
+      ]
 
 pub law_of_counts : (il : Il) → CallsAreSingle il → LawOfCounts il
 law_of_counts il single n bound ls env p how xs body each =

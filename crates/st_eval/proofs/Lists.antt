@@ -13,7 +13,7 @@ use Rattle.st_il.specs.declared.value.Value.{Value}
 use Rattle.st_semantics.specs.declared.outcome.Outcome.TheVariants.{Val}
 use Rattle.st_semantics.specs.Names.{Name, has_name}
 use Rattle.st_semantics.specs.Definitions.{syntaxes}
-use Rattle.st_semantics.specs.Environments.{value_in, wrapped, type_of, listed_as, IsTypedValue}
+use Rattle.st_semantics.specs.Environments.{value_in, wrapped, type_of, listed_as, IsTypedValue, IsSomeTyped}
 use Rattle.st_semantics.specs.Iterations.{index_of, kind_of, gathered_as}
 use Rattle.st_semantics.specs.Scopes.{inner, stepped, stepped_all, indices, listed_inside}
 use Rattle.st_semantics.specs.Variables.{prem_vars}
@@ -23,9 +23,9 @@ use Rattle.st_semantics.specs.Laws.{CallsAreSingle}
 use Rattle.st_semantics.proofs.Names.{bytes-path, within-right}
 use Rattle.st_semantics.proofs.Elements.{EachTyped, or-false}
 use Rattle.st_semantics.proofs.TypedParts.{gathered_typed}
-use Rattle.st_eval.specs.Elements.{IsEach, AllHoldWith, LawOfLists}
+use Rattle.st_eval.specs.Elements.{IsEach, AllHoldWith, LawOfLists, LawOfGathered}
 use Rattle.st_eval.proofs.Trying.{some_typed}
-use Rattle.st_eval.proofs.Iterations.{own_name}
+use Rattle.st_eval.proofs.Iterations.{own_name, gathered_only}
 
 -- a type in one kind more
 wrap_step : (k : Kind) (ds : List Kind) (t : Ty) → wrapped (k ∷ []) (wrapped ds t) ≡ wrapped (k ∷ ds) t
@@ -95,3 +95,9 @@ module _ (il : Il) (single : CallsAreSingle il) (n : ℕ) (bound : List Name) (l
 pub law_of_lists : (il : Il) → CallsAreSingle il → LawOfLists il
 law_of_lists il single n bound ls env p how xs body each elements found all x l iterated listed vs v at made =
     list_typed il single n bound ls env p how xs body each x l iterated listed elements found vs v all at made
+
+pub law_of_gathered : (il : Il) → CallsAreSingle il → LawOfGathered il
+law_of_gathered il single n bound ls env p how xs body each elements found all only more g names number =
+    gathered_only il single n bound ls env p how xs body each more only g.agrees names (λ x k i l at.
+    let v = g.lists x k i in
+    subst (IsSomeTyped (syntaxes il) (type_of l)) (sym v.4) (list_typed il single n bound ls env p how xs body each x l i at elements found v.1 v.0 all v.2 v.3)) number

@@ -1,9 +1,9 @@
 -- A premise that binds its variables where some are bound binds them where more are.
-use Rattle.std.proofs.Common.{◌≡◌, List, ◌++◌, ◌⊎◌, inl, inr, Bool, true, false}
+use Rattle.std.proofs.Common.{List, ◌++◌, inl, inr}
 use Rattle.st_il.specs.declared.expression.IlExp.{IlExp}
 use Rattle.st_il.specs.declared.expression.IlPrem.{IlPrem}
 use Rattle.st_il.specs.declared.expression.Iteration.{Iteration}
-use Rattle.st_semantics.specs.Names.{Name, has_name, all_known, without}
+use Rattle.st_semantics.specs.Names.{Name, without}
 use Rattle.st_semantics.specs.Iterations.{count_of, index_of}
 use Rattle.st_semantics.specs.Variables.{vars, prem_vars}
 use Rattle.st_semantics.specs.Patterns.{binds}

@@ -15,7 +15,7 @@ use Rattle.st_semantics.specs.declared.outcome.Outcome.TheVariants.{Val, NoValue
 use Rattle.st_semantics.specs.declared.outcome.Outcomes.TheVariants.{Stopped}
 use Rattle.st_semantics.specs.Names.{Name, has_name, all_known, among}
 use Rattle.st_semantics.specs.Definitions.{syntaxes}
-use Rattle.st_semantics.specs.Environments.{value_in, type_of, listed_as, listed_names, AgreeOn, IsTypedValue}
+use Rattle.st_semantics.specs.Environments.{names_of, value_in, type_of, listed_as, listed_names, AgreeOn, IsTypedValue, IsSomeTyped}
 use Rattle.st_semantics.specs.Iterations.{count_of, index_of, spread, Misfit, Over, gathered}
 use Rattle.st_semantics.specs.Scopes.{listed_inside}
 use Rattle.st_semantics.specs.Evaluation.{tasks, GivesAll}
@@ -120,3 +120,18 @@ LawOfLists il =
     → (x : Name) (l : Listed) → has_name xs x ≡ true → listed_as x ls ≡ Some l
     → (vs : List Value) (v : Value) → ValuesAt x found vs → gathered how vs ≡ Val v
     → IsTypedValue (syntaxes il) (type_of l) v
+
+-- An environment of what is gathered, with no other names, has each variable with a value of its
+-- type, where an unbound count has its.
+abbrev pub LawOfGathered : Il → Type 0
+LawOfGathered il =
+    (n : ℕ) (bound : List Name) (ls : List Listed) (env : Env) (p : IlPrem) (how : Iteration)
+    (xs : List Name) (body : IlPrem) → IsEach il bound ls p how xs body
+    → (elements found : List Env)
+    → AllHoldWith il n (index_of how ++ bound) (listed_inside how xs ls) body elements found
+    → HasOnly il ls bound env → (more : Env) → Gathers bound env how xs found more
+    → ((x : Name) → has_name (names_of more) x ≡ has_name (bound ++ prem_vars p) x)
+    → ((e : IlExp) (x : Name) → count_of how ≡ e ∷ [] → out-IlExp e ≡ IlExp-F.Var x
+    → has_name bound x ≡ false → (l : Listed) → listed_as x ls ≡ Some l
+    → IsSomeTyped (syntaxes il) (type_of l) (value_in more x))
+    → HasOnly il ls (bound ++ prem_vars p) more

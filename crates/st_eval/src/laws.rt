@@ -5,6 +5,7 @@ ghost use Rattle.st_semantics.specs.Laws.{CallsAreSingle};
 ghost use Rattle.st_eval.specs.Steps.{LawOfArguments, LawOfNext, LawOfFailure, LawOfDeepness};
 ghost use Rattle.st_eval.specs.Steps.{LawOfResults, LawOfTests, LawOfEquations, LawOfSides};
 ghost use Rattle.st_eval.specs.Elements.{LawOfCounts, LawOfElements, LawOfGathering, LawOfLists};
+ghost use Rattle.st_eval.specs.Elements.{LawOfGathered};
 ghost use Rattle.st_eval.specs.CanBeMet.{LawOfMeeting};
 
 /// A clause is tried from the values of its arguments on. Where they are values of the arguments
@@ -29,5 +30,6 @@ pub fn steps_of_clauses()
     ensures elements { (il : Il) → CallsAreSingle il → LawOfElements il }
     ensures gathering { (il : Il) → CallsAreSingle il → LawOfGathering il }
     ensures lists { (il : Il) → CallsAreSingle il → LawOfLists il }
+    ensures gathered { (il : Il) → CallsAreSingle il → LawOfGathered il }
     ensures meeting { (il : Il) → CallsAreSingle il → LawOfMeeting il }
 {}

@@ -1,7 +1,7 @@
 use Rattle.st_eval.proofs.Trying.{law_of_arguments, law_of_next, law_of_failure, law_of_deepness, law_of_results}
 use Rattle.st_eval.proofs.Conditions.{law_of_tests, law_of_equations, law_of_sides}
 use Rattle.st_eval.proofs.Iterations.{law_of_counts, law_of_elements, law_of_gathering}
-use Rattle.st_eval.proofs.Lists.{law_of_lists}
+use Rattle.st_eval.proofs.Lists.{law_of_lists, law_of_gathered}
 use Rattle.st_eval.proofs.CanMeet.{law_of_meeting}
 use Rattle.st_eval.proofs.laws.steps_of_clauses.Goals as goal
 
@@ -43,3 +43,6 @@ returns-clause-lists c = law_of_lists
 
 pub returns-clause-meeting : goal.returns-clause-meeting
 returns-clause-meeting c = law_of_meeting
+
+pub returns-clause-gathered : goal.returns-clause-gathered
+returns-clause-gathered c = law_of_gathered
