@@ -1,4 +1,4 @@
--- A premise that keeps the rules can be met at its place.
+-- A premise that keeps the rules can be met at its position.
 use Rattle.std.proofs.Common.{◌≡◌, zero, refl, sym, ◌∙◌, ap₂, subst, List, [], ◌∷◌, ◌++◌, ◌⊎◌, inl, inr, Bool, true, false, ◌&&◌, if◌then◌else◌, Option, Some, None}
 use Rattle.std.specs.List.{list_all}
 use Rattle.st_il.specs.declared.definition.Il.{Il}
@@ -123,7 +123,7 @@ module _ (il : Il) (bound : List Name) (ls : List Listed) (few : List Name) (wid
   abbrev Way : Type 0
   Way = (side : IlExp) × (pattern : IlExp) × IsEquation il bound ls e side pattern
 
-  -- what is matched, as it is told at its place
+  -- what is matched, as it is told at its position
   way_of : (a b side pattern : IlExp) → out-IlExp e ≡ IlExp-F.Eq a b → ((side ≡ a) × (pattern ≡ b)) ⊎ ((side ≡ b) × (pattern ≡ a)) → is_matched few side pattern ≡ true → Way
   way_of a b side pattern is which m =
       let w = and-both (all_known few (vars side) && is_pattern pattern) (all_known (few ++ binds pattern) (vars pattern)) m in

@@ -340,12 +340,12 @@ module _ (il : Il) (single : CallsAreSingle il) (n : ℕ) (bound : List Name) (l
     }
       where
         at_element : (bs : List Env) (other : Env) (cs : List Env) → Unfolds (in_clause il (CallAt il n)) bound how xs env (bs ++ other ∷ cs) → Passed (in_clause il (CallAt il n)) bound ls how xs body bs → MeetsAt il n Inside Scope other body → ⊥
-        at_element bs other cs u passed m = by_place (beside before found at after bs other cs (known (before ++ at ∷ after) goes u.more u.agrees (bs ++ other ∷ cs) u.elements) all passed.typed passed.hold)
+        at_element bs other cs u passed m = by_position (beside before found at after bs other cs (known (before ++ at ∷ after) goes u.more u.agrees (bs ++ other ∷ cs) u.elements) all passed.typed passed.hold)
           where
-            by_place : Beside at other → ⊥
-            by_place (inl g) = fails.not_deep (Meets-agree il (CallAt il n) m body_free at (agree_back Inside at other g))
-            by_place (inr (inl e)) = fails.never e.0 e.1 e.2 e.3
-            by_place (inr (inr e)) =
+            by_position : Beside at other → ⊥
+            by_position (inl g) = fails.not_deep (Meets-agree il (CallAt il n) m body_free at (agree_back Inside at other g))
+            by_position (inr (inl e)) = fails.never e.0 e.1 e.2 e.3
+            by_position (inr (inr e)) =
                 holds_not_deep il (CallAt il n) (single n) m e.1 binding.1 (only_low il Scope (Inside ++ prem_vars body) e.1 inside_listed e.2.variables)
                 (λ x i. sym (e.3 x i) ∙ e.2.agrees x i) e.2.holds
 

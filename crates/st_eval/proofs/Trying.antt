@@ -199,23 +199,23 @@ module _ (il : Il) (C : Answers) where
     high = t.high;
   })
 
--- ---- places among premises
+-- ---- positions among premises
 
--- two places are one, or the second is before the first, or the first before the second
-abbrev Places : List IlPrem → IlPrem → List IlPrem → IlPrem → Type 0
-Places bs p ds q =
+-- two positions are one, or the second is before the first, or the first before the second
+abbrev Positions : List IlPrem → IlPrem → List IlPrem → IlPrem → Type 0
+Positions bs p ds q =
     ((bs ≡ ds) × (p ≡ q)) ⊎ ((mid : List IlPrem) × (bs ≡ ds ++ q ∷ mid)) ⊎ ((mid : List IlPrem) × (ds ≡ bs ++ p ∷ mid))
 
-places : (bs : List IlPrem) (p : IlPrem) (cs ds : List IlPrem) (q : IlPrem) (es : List IlPrem) → bs ++ p ∷ cs ≡ ds ++ q ∷ es → Places bs p ds q
-places [] p cs [] q es e = let same : p ≡ q = cc in inl (refl, same)
-places [] p cs (f ∷ ds) q es e = let same : f ≡ p = cc in inr (inr (ds, ap (λ z. z ∷ ds) same))
-places (b ∷ bs) p cs [] q es e = let same : b ≡ q = cc in inr (inl (bs, ap (λ z. z ∷ bs) same))
-places (b ∷ bs) p cs (f ∷ ds) q es e =
+positions : (bs : List IlPrem) (p : IlPrem) (cs ds : List IlPrem) (q : IlPrem) (es : List IlPrem) → bs ++ p ∷ cs ≡ ds ++ q ∷ es → Positions bs p ds q
+positions [] p cs [] q es e = let same : p ≡ q = cc in inl (refl, same)
+positions [] p cs (f ∷ ds) q es e = let same : f ≡ p = cc in inr (inr (ds, ap (λ z. z ∷ ds) same))
+positions (b ∷ bs) p cs [] q es e = let same : b ≡ q = cc in inr (inl (bs, ap (λ z. z ∷ bs) same))
+positions (b ∷ bs) p cs (f ∷ ds) q es e =
     let first : b ≡ f = cc in
     let rest : bs ++ p ∷ cs ≡ ds ++ q ∷ es = cc in
-    further first (places bs p cs ds q es rest)
+    further first (positions bs p cs ds q es rest)
   where
-    further : b ≡ f → Places bs p ds q → Places (b ∷ bs) p (f ∷ ds) q
+    further : b ≡ f → Positions bs p ds q → Positions (b ∷ bs) p (f ∷ ds) q
     further first (inl s) = inl (ap₂ (λ y z. y ∷ z) first s.0, s.1)
     further first (inr (inl s)) = inr (inl (s.0, ap₂ (λ y z. y ∷ z) first s.1))
     further first (inr (inr s)) = inr (inr (s.0, ap₂ (λ y z. y ∷ z) (sym first) s.1))
@@ -259,7 +259,7 @@ module _ (il : Il) (C : Answers) (one : IsSingle C) where
         subst (λ z. AgreeOn z a b) (sym (append-nil (vars_of c.args)))
         (λ x i. args_agree a b c.args vs runs.patterns runs.singly p q x (known-within (bound_by c.args) (vars_of c.args) runs.args x i))
 
-    -- what all premises up to a place bind
+    -- what all premises up to a position bind
     premises_agree : (ps earlier after : List IlPrem) → c.premises ≡ earlier ++ (ps ++ after) → AgreeOn (bound_behind c.args earlier) a b
         → HoldAll (value_by (syntaxes il) C) (Unit {0}) no_goal (instances a ps) → HoldAll (value_by (syntaxes il) C) (Unit {0}) no_goal (instances b ps) → AgreeOn (bound_behind c.args (earlier ++ ps)) a b
     premises_agree [] earlier after eq g ha hb = subst (λ z. AgreeOn (bound_behind c.args z) a b) (sym (append-nil earlier)) g
@@ -300,7 +300,7 @@ law_of_next il n c vs before p env more met holds =
           (h.more holds.holds h.done);
     }
 
--- what is bound before a place is listed
+-- what is bound before a position is listed
 bound_listed : (il : Il) (c : ClauseDef) (run : IsRunnable il c) (before after : List IlPrem) → c.premises ≡ before ++ after → all_known (listed_names c.variables) (bound_in_clause c before) ≡ true
 bound_listed il c run before after split =
     known_all (listed_names c.variables) (bound_in_clause c before) (λ x k. known-within (listed_names c.variables) (bound_in_clause c c.premises) run.listed x
@@ -361,23 +361,23 @@ module _ (il : Il) (single : CallsAreSingle il) (n : ℕ) (c : ClauseDef) (run :
       fails.never other g (typed_in (syntaxes il) c.variables other ch.typed (without (bound_in_clause c before) (prem_vars p))) front.1
 
   not_too_deep : TooDeep il (CallAt il n) c vs → ⊥
-  not_too_deep t = by_place (places before p after t.before t.premise t.after (sym split ∙ t.split))
+  not_too_deep t = by_position (positions before p after t.before t.premise t.after (sym split ∙ t.split))
     where
-      by_place : Places before p t.before t.premise → ⊥
-      by_place (inl s) =
+      by_position : Positions before p t.before t.premise → ⊥
+      by_position (inl s) =
           let hold : HoldAll (value_at il n) (Unit {0}) no_goal (instances t.env before) = subst (λ z. HoldAll (value_at il n) (Unit {0}) no_goal (instances t.env z)) (sym s.0) t.reached.hold in
           let g : AgreeOn (bound_in_clause c before) t.env env =
           premises_agree il (CallAt il n) (single n) c runs vs t.env env before [] (p ∷ after) split (first_agree il (CallAt il n) (single n) c runs vs t.env env t.reached.heads_are met.arguments) hold met.hold in
           let deep : MeetsAt il n (bound_in_clause c before) c.variables t.env p =
           subst (λ z. MeetsAt il n (bound_in_clause c before) c.variables t.env z) (sym s.1) (subst (λ z. MeetsAt il n (bound_in_clause c z) c.variables t.env t.premise) (sym s.0) t.deep) in
           fails.not_deep (Meets-agree il (CallAt il n) deep (goal_free c.premises before p after split run.without_goals) env g)
-      by_place (inr (inl s)) =
+      by_position (inr (inl s)) =
           let front = front_hold il (CallAt il n) env t.before t.premise s.0 (subst (λ z. HoldAll (value_at il n) (Unit {0}) no_goal (instances env z)) s.1 met.hold) in
           let g : AgreeOn (bound_in_clause c t.before) t.env env =
           premises_agree il (CallAt il n) (single n) c runs vs t.env env t.before [] (t.premise ∷ t.after) t.split (first_agree il (CallAt il n) (single n) c runs vs t.env env t.reached.heads_are met.arguments) t.reached.hold front.0 in
           holds_not_deep il (CallAt il n) (single n) t.deep env (runs.premises t.before t.premise t.after t.split)
           (only_low il c.variables (bound_in_clause c before) env (bound_listed il c run before (p ∷ after) split) met.variables) g front.1
-      by_place (inr (inr s)) =
+      by_position (inr (inr s)) =
           let front = front_hold il (CallAt il n) t.env before p s.0 (subst (λ z. HoldAll (value_at il n) (Unit {0}) no_goal (instances t.env z)) s.1 t.reached.hold) in
           let g : AgreeOn (bound_in_clause c before) env t.env =
           premises_agree il (CallAt il n) (single n) c runs vs env t.env before [] (p ∷ after) split (first_agree il (CallAt il n) (single n) c runs vs env t.env met.arguments t.reached.heads_are) met.hold front.0 in

@@ -54,7 +54,7 @@ pub record GoesOver (il : Il) (n : ℕ) (bound : List Name) (env : Env) (how : I
   pub counted : HaveValues (value_at il n) (tasks env (bound_count bound how)) count
   pub over : spread how (among bound xs) env count ≡ Over elements
 
--- at each of these elements the premise holds under the environment in its place
+-- at each of these elements the premise holds under the environment in its position
 abbrev pub AllHoldWith : Il → ℕ → List Name → List Listed → IlPrem → List Env → List Env → Type 0
 AllHoldWith il n bound ls p [] [] = Unit {0}
 AllHoldWith il n bound ls p [] (more ∷ rest) = ⊥

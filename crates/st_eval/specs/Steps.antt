@@ -29,7 +29,7 @@ use Rattle.st_semantics.specs.Breaches.{ClauseKeeps}
 use Rattle.st_semantics.specs.Kinds.{NamesOccurring, ListsOccurring}
 
 -- What the rules M3, M4, M6 and M7 and typing say of a clause: its premises can be run at their
--- places, and it lists exactly the variables that occur, each once.
+-- positions, and it lists exactly the variables that occur, each once.
 pub record IsRunnable (il : Il) (c : ClauseDef) : Type 0 where
   pub modes : ClauseKeeps il (M3 ∷ M4 ∷ M6 ∷ []) c
   pub without_goals : keeps_m7 c ≡ true
@@ -60,7 +60,7 @@ pub record HasOnly (il : Il) (ls : List Listed) (names : List Name) (env : Env) 
   pub names_are : (x : Name) → has_name (names_of env) x ≡ has_name names x
   pub typed : TypedIn (syntaxes il) ls names env
 
--- Under an environment of what is bound there, a clause is met up to a place among its premises: its
+-- Under an environment of what is bound there, a clause is met up to a position among its premises: its
 -- arguments have the values, and the premises before hold.
 pub record IsMetUpTo (il : Il) (n : ℕ) (c : ClauseDef) (vs : List Value) (before : List IlPrem)
     (env : Env) : Type 0 where

@@ -16,7 +16,7 @@ ghost use Rattle.st_eval.specs.CanBeMet.{LawOfMeeting};
 /// iterated premise goes over the elements of what is bound, as many as its count says: it does what
 /// the inner premise does at the first element at which that does not hold, and where it holds at
 /// all of them it binds the lists or options of what they bind, or meets Deep where one is too high.
-/// And a premise that keeps the rules can be met at its place.
+/// And a premise that keeps the rules can be met at its position.
 pub fn steps_of_clauses()
     ensures arguments { (il : Il) → LawOfArguments il }
     ensures next { (il : Il) → LawOfNext il }
