@@ -1,5 +1,5 @@
 -- The forms of expressions, by their levels, and what of an expression that has a form in all parts its parts have.
-use Rattle.std.proofs.Common.{◌≡◌, ℕ, zero, suc, ◌<◌, refl, sym, ◌∙◌, ap, subst, List, [], ◌∷◌, map, drop, length, get_or, Some, None, arith}
+use Rattle.std.proofs.Common.{◌≡◌, ℕ, zero, suc, ◌<◌, sym, ◌∙◌, ap, subst, List, [], ◌∷◌, length, get_or, Some, arith}
 use Rattle.st_il.specs.declared.definition.SyntaxDef.{SyntaxDef}
 use Rattle.st_il.specs.declared.expression.IlExp.{IlExp, out-IlExp, roll-IlExp, roll-out-IlExp}
 use Rattle.st_il.specs.declared.expression.IlExp.TheVariants as exp
@@ -7,15 +7,10 @@ use Rattle.st_il.specs.declared.expression.IlExp.TheOpen.{IlExp-F}
 use Rattle.st_il.specs.declared.expression.Iteration.{Iteration}
 use Rattle.st_il.specs.declared.expression.ListItem.{ListItem}
 use Rattle.st_il.specs.declared.expression.PathSeg.{PathSeg}
-use Rattle.st_il.specs.declared.ty.Ty.{Ty}
-use Rattle.st_il.specs.declared.ty.Ty.TheVariants as ty
-use Rattle.st_il.specs.declared.value.Value.TheVariants as value
-use Rattle.st_type_table.specs.Cases.{HasFields}
-use Rattle.st_type_table.specs.Meaning.{Means}
 use Rattle.st_semantics.specs.Names.{Name}
 use Rattle.st_semantics.specs.Operands.{operands_at, item_exp, segment_exps}
-use Rattle.st_semantics.specs.Parts.{Operation, constant}
-use Rattle.st_semantics.specs.Forms.{Form, Strict, Variable, Calls, Iterates, form_at, operation_at, building, HasForm, by_itself, structure, absent_list, absent_option}
+use Rattle.st_semantics.specs.Parts.{Operation}
+use Rattle.st_semantics.specs.Forms.{Strict, Variable, Calls, Iterates, form_at, operation_at, HasForm, by_itself, structure, absent_list, absent_option}
 use Rattle.st_semantics.specs.Formed.{IsFormed, AreFormed}
 use Rattle.st_semantics.specs.Formed as formed
 use Rattle.st_semantics.specs.Iterations.{count_of}

@@ -18,7 +18,7 @@ use std::alloc::Global;
 
 /// The elements of an iterated variable.
 #[derive(Clone, Copy)]
-pub(crate) enum Elements<'a> {
+pub enum Elements<'a> {
     Many(&'a [Value]),
     Nothing,
     Single(&'a Value),
@@ -26,7 +26,7 @@ pub(crate) enum Elements<'a> {
 
 /// The elements of all iterated variables, and how many each has.
 #[derive(Drop)]
-pub(crate) struct Table<'a> {
+pub struct Table<'a> {
     pub columns: Row<Elements<'a>>,
     pub size: u128,
 }
@@ -151,7 +151,7 @@ fn size_of(count: &[Value], columns: &[Elements]) -> Option<u128>
 }
 
 /// The elements that an iteration goes over, where the lists of its variables fit.
-pub(crate) fn spread<'a>(
+pub fn spread<'a>(
     alloc: Global,
     how: &Iteration,
     names: &[Name],
@@ -210,7 +210,7 @@ fn with_head<'a>(
 
 /// The variables of an iteration at this element: its index, and its names, each bound to its
 /// element, before the others.
-pub(crate) fn element_scope<'a>(
+pub fn element_scope<'a>(
     alloc: Global,
     how: &'a Iteration,
     names: &'a [Name],
@@ -280,11 +280,7 @@ fn with_others<'a>(bound: Row<Bound<'a>>, scope: &[Bound<'a>]) -> Result<Row<Bou
 }
 
 /// What an iteration makes of the values of its body.
-pub(crate) fn gathered(
-    alloc: Global,
-    how: &Iteration,
-    values: Row<Value>,
-) -> Result<Outcome, NoMemory>
+pub fn gathered(alloc: Global, how: &Iteration, values: Row<Value>) -> Result<Outcome, NoMemory>
     ensures { IfOk result (λ outcome. outcome ≡ gathered how.now values) }
 {
     match kind_of(how) {

@@ -32,7 +32,8 @@ pub fn value<C: Caller>(
     env: &Env,
     exp: &IlExp,
 ) -> Result<Outcome, NoMemory>
-    requires { IsFormed types.now exp.now }
+    requires callable { C.IsCallable caller.now }
+    requires formed { IsFormed types.now exp.now }
     ensures { IfOk result (λ outcome.
         Gives types.now (C.answers caller.now) env.now exp.now outcome) }
 {
@@ -50,7 +51,8 @@ pub fn values<C: Caller>(
     env: &Env,
     exps: &[IlExp],
 ) -> Result<Outcomes, NoMemory>
-    requires { AreFormed types.now exps.now }
+    requires callable { C.IsCallable caller.now }
+    requires formed { AreFormed types.now exps.now }
     ensures { IfOk result (λ outcomes.
         GivesAll types.now (C.answers caller.now) (tasks env.now exps.now) outcomes) }
 {
@@ -76,18 +78,14 @@ pub fn pattern_value(
 }
 
 /// What the call comes to, where the arguments have values.
-fn called<C: Caller>(
-    alloc: Global,
-    caller: &C,
-    fun: &Name,
-    found: Outcomes,
-) -> Result<Outcome, NoMemory>
+fn called<C: Caller>(caller: &C, fun: &Name, found: Outcomes) -> Result<Outcome, NoMemory>
+    requires { C.IsCallable caller.now }
     ensures { IfOk result (λ outcome.
         Called (C.answers caller.now) fun.now found outcome) }
 {
     match found {
         Outcomes::Values(args) => {
-            let outcome = caller.call(alloc, fun, args)?;
+            let outcome = caller.call(fun, args)?;
             Ok(outcome)
         }
         Outcomes::Stopped(outcome) => Ok(outcome),
@@ -122,7 +120,8 @@ fn outcome_of<'a, C: Caller>(
     scope: &[Bound<'a>],
     exp: &'a IlExp,
 ) -> Result<Outcome, NoMemory>
-    requires { IsFormed types.now exp.now }
+    requires callable { C.IsCallable caller.now }
+    requires formed { IsFormed types.now exp.now }
     ensures { IfOk result (λ outcome.
         Gives types.now (C.answers caller.now) (scope_env scope.now) exp.now outcome) }
 {
@@ -134,7 +133,7 @@ fn outcome_of<'a, C: Caller>(
         IlExp::Call(fun, _) => {
             let exps = operands(alloc, exp)?;
             let found = outcomes_of(alloc, types, caller, scope, exps.as_slice())?;
-            let outcome = called(alloc, caller, fun, found)?;
+            let outcome = called(caller, fun, found)?;
             Ok(outcome)
         }
         IlExp::Iter(how, names, body) => {
@@ -160,7 +159,8 @@ fn outcomes_of<'a, C: Caller>(
     scope: &[Bound<'a>],
     exps: &[&'a IlExp],
 ) -> Result<Outcomes, NoMemory>
-    requires { AreFormed types.now (exps_now exps.now) }
+    requires callable { C.IsCallable caller.now }
+    requires formed { AreFormed types.now (exps_now exps.now) }
     ensures { IfOk result (λ outcomes. GivesAll types.now (C.answers caller.now)
         (tasks (scope_env scope.now) (exps_now exps.now)) outcomes) }
 {
@@ -187,6 +187,7 @@ fn iterated<'a, C: Caller>(
     how: &'a Iteration,
     names: &'a [Name],
 ) -> Result<Outcome, NoMemory>
+    requires callable { C.IsCallable caller.now }
     requires count { AreFormed types.now (count_of how.now) }
     requires body { IsFormed types.now body.now }
     ensures { IfOk result (λ outcome. (exp : IlExp)
@@ -238,7 +239,8 @@ fn at_elements<'a, C: Caller>(
     names: &'a [Name],
     elements: &Table<'a>,
 ) -> Result<Outcomes, NoMemory>
-    requires { IsFormed types.now body.now }
+    requires callable { C.IsCallable caller.now }
+    requires formed { IsFormed types.now body.now }
     ensures { IfOk result (λ outcomes. GivesAll types.now (C.answers caller.now)
         (each_task (rows (index_of how.now) names.now (entries_of scope.now) elements.now.size 0
         (columns_now elements.now.columns)) body.now) outcomes) }

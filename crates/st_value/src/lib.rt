@@ -15,7 +15,7 @@ mod evaluation;
 mod joining;
 mod list;
 mod made;
-mod operands;
+pub mod operands;
 mod operations;
 mod path;
 mod record;
@@ -23,5 +23,7 @@ mod scope;
 mod truth;
 
 pub use caller::{Caller, NoFunctions};
+pub use column::{Elements, Table, element_scope, gathered, spread};
 pub use evaluation::{pattern_value, value, values};
 pub use operations::operation;
+pub use scope::{Bound, Held, scope_of};

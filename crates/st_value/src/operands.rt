@@ -144,7 +144,7 @@ fn sides<'a>(alloc: Global, exp: &'a IlExp) -> Result<Row<&'a IlExp>, NoMemory>
 }
 
 /// The operands of an expression. Those of an iteration are none of them.
-pub(crate) fn operands<'a>(alloc: Global, exp: &'a IlExp) -> Result<Row<&'a IlExp>, NoMemory>
+pub fn operands<'a>(alloc: Global, exp: &'a IlExp) -> Result<Row<&'a IlExp>, NoMemory>
     ensures { IfOk result (λ exps.
         exps_now exps ≡ operands_at item_exp segment_exps (out-IlExp exp.now)) }
 {
@@ -163,7 +163,7 @@ pub(crate) fn operands<'a>(alloc: Global, exp: &'a IlExp) -> Result<Row<&'a IlEx
 }
 
 /// The count of an iteration, if it has one.
-pub(crate) fn count_of<'a>(alloc: Global, how: &'a Iteration) -> Result<Row<&'a IlExp>, NoMemory>
+pub fn count_of<'a>(alloc: Global, how: &'a Iteration) -> Result<Row<&'a IlExp>, NoMemory>
     ensures { IfOk result (λ exps. exps_now exps ≡ count_of how.now) }
 {
     match how {

@@ -13,7 +13,7 @@ use std::alloc::Global;
 
 /// What a variable is bound to.
 #[derive(Clone, Copy)]
-pub(crate) enum Held<'a> {
+pub enum Held<'a> {
     Given(&'a Value),
     /// The number of an element of an iteration.
     Index(u128),
@@ -21,13 +21,13 @@ pub(crate) enum Held<'a> {
 
 /// A variable that is bound.
 #[derive(Clone, Copy)]
-pub(crate) struct Bound<'a> {
+pub struct Bound<'a> {
     pub name: &'a Name,
     pub value: Held<'a>,
 }
 
 /// The variables of an environment, in its order.
-pub(crate) fn scope_of<'a>(alloc: Global, env: &'a Env) -> Result<Row<Bound<'a>>, NoMemory>
+pub fn scope_of<'a>(alloc: Global, env: &'a Env) -> Result<Row<Bound<'a>>, NoMemory>
     ensures { IfOk result (λ scope. entries_of scope ≡ env.now.entries) }
 {
     let mut scope = Row::new(alloc);

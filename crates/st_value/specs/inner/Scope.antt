@@ -1,6 +1,5 @@
 -- Variables as they are bound inside iterations, newest first, and the elements that they are bound to.
 use Rattle.std.specs.Prelude.{ℕ, pos, List, [], ◌∷◌, ◌++◌, map, drop, Option, Some, None}
-use Rattle.st_il.specs.declared.expression.IlExp.{IlExp}
 use Rattle.st_il.specs.declared.value.Env.{Env}
 use Rattle.st_il.specs.declared.value.Value.{Value}
 use Rattle.st_il.specs.declared.value.Value.TheVariants as value

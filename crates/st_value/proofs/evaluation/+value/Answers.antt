@@ -1,6 +1,5 @@
-use Rattle.std.proofs.Common.{rules, ◌≡◌, ◌+◌, ◌<◌, refl, sym, ◌∙◌, ap, subst, List, [], map, length, get_or, append-nil, arith}
-use Rattle.st_il.specs.declared.expression.IlExp.{IlExp, out-IlExp}
-use Rattle.st_il.specs.declared.expression.IlExp.TheOpen.{IlExp-F}
+use Rattle.std.proofs.Common.{rules, ◌≡◌, ◌+◌, ◌<◌, refl, sym, ◌∙◌, ap, subst, [], append-nil, arith}
+use Rattle.st_il.specs.declared.expression.IlExp.{out-IlExp}
 use Rattle.st_il.specs.declared.expression.IlExp.TheVariants as exp
 use Rattle.st_semantics.specs.declared.outcome.Outcome.TheVariants.{Val, NoValue, Deep}
 use Rattle.st_semantics.specs.declared.outcome.Outcomes.TheVariants.{Values, Stopped}
@@ -11,9 +10,9 @@ use Rattle.st_semantics.specs.Evaluation.{tasks, then_all, Gives}
 use Rattle.st_value.specs.inner.Prefix.{behind_values}
 use Rattle.st_value.specs.inner.Scope.{scope_env, entries_of, columns_now}
 use Rattle.st_value.specs.inner.Weight.{exps_now, weight, heaviest}
-use Rattle.st_value.proofs.FormLevels.{IsPlain, plain_strict, call_parts, iteration_parts, formed_element, plain_by}
-use Rattle.st_value.proofs.Weights.{weight-operands, weight-iteration, heaviest-element}
-use Rattle.st_value.proofs.Builds.{gives_variable, gives_call, gives_strict, behind_values-then, outcomes_start, outcomes_next, outcomes_stop, outcomes_end, moved_all, at_row, elements_start, elements_next, elements_stop, elements_end, iterated_stopped, iterated_misfit, iterated_over}
+use Rattle.st_value.proofs.FormLevels.{plain_strict, formed_element, plain_by}
+use Rattle.st_value.proofs.Weights.{weight-operands, heaviest-element}
+use Rattle.st_value.proofs.Builds.{gives_variable, gives_call, gives_strict, behind_values-then, outcomes_next, outcomes_stop, outcomes_end, moved_all, at_row, elements_start, elements_next, elements_stop, elements_end, iterated_stopped, iterated_misfit, iterated_over}
 use Rattle.st_value.proofs.evaluation.+value.Goals as goal
 
 pub at_elements-loop-at-init : goal.at_elements-loop-at-init
@@ -86,8 +85,8 @@ outcome_of-outcomes_of-requires-in_default g t c =
     let weighs : heaviest (exps_now c.as_slice-in_default.result.now) ≡ heaviest (operands_at item_exp segment_exps (out-IlExp c.args.exp.now)) = ap heaviest same in
     let falls : 1 + heaviest (exps_now c.as_slice-in_default.result.now) < t = omega (arith, lighter, weighs, c.decreases) in
     let parts : AreFormed c.args.types.now (exps_now c.as_slice-in_default.result.now) =
-    subst (AreFormed c.args.types.now) (sym same) (plain_strict c.args.types.now c.args.exp.now c.requires plain).parts in
-    λ κs within. (falls, (within, parts))
+    subst (AreFormed c.args.types.now) (sym same) (plain_strict c.args.types.now c.args.exp.now c.requires.formed plain).parts in
+    λ κs within. (falls, (within, (c.requires.callable, parts)))
 
 pub outcome_of-returns-in_ok-outcome-in-Var : goal.outcome_of-returns-in_ok-outcome-in-Var
 outcome_of-returns-in_ok-outcome-in-Var g t c =
@@ -105,7 +104,7 @@ outcome_of-returns-in_ok-outcome-in-Call g t c =
 pub outcome_of-returns-in_ok-outcome-in_default : goal.outcome_of-returns-in_ok-outcome-in_default
 outcome_of-returns-in_ok-outcome-in_default g t c =
     let plain = plain_by c.args.types.now c.args.exp.now c.in_default.not-Var c.in_default.not-Call c.in_default.not-Iter in
-    gives_strict c.args.types.now (g.C.Caller.answers c.args.caller.now) (scope_env c.args.scope.now) c.args.exp.now c.in_ok-found-in_default.found c.in_ok-outcome-in_default.outcome c.requires plain
+    gives_strict c.args.types.now (g.C.Caller.answers c.args.caller.now) (scope_env c.args.scope.now) c.args.exp.now c.in_ok-found-in_default.found c.in_ok-outcome-in_default.outcome c.requires.formed plain
     (moved_all c.args.types.now (g.C.Caller.answers c.args.caller.now)
     (ap (tasks (scope_env c.args.scope.now)) (ap exps_now c.as_slice-in_default.ensures ∙ c.in_ok-exps-in_default.ensures)) refl c.in_ok-found-in_default.ensures)
     c.in_ok-outcome-in_default.ensures
@@ -114,8 +113,8 @@ pub outcomes_of-outcome_of-requires : goal.outcomes_of-outcome_of-requires
 outcomes_of-outcome_of-requires g t c =
     let lighter = heaviest-element c.args.exps.now c.loop-i.i c.index-exps-i.result c.loop-i-test.true c.index-exps-i.is in
     let falls : weight c.index-exps-i.result.now < t = omega (arith, lighter, c.decreases) in
-    let formed = formed_element c.args.types.now c.args.exps.now c.loop-i.i c.index-exps-i.result c.loop-i-test.true c.index-exps-i.is c.requires in
-    λ κs within. (falls, (within, formed))
+    let formed = formed_element c.args.types.now c.args.exps.now c.loop-i.i c.index-exps-i.result c.loop-i-test.true c.index-exps-i.is c.requires.formed in
+    λ κs within. (falls, (within, (c.requires.callable, formed)))
 
 pub outcomes_of-returns-in-NoValue : goal.outcomes_of-returns-in-NoValue
 outcomes_of-returns-in-NoValue g t c =

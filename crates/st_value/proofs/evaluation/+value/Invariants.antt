@@ -1,4 +1,4 @@
-use Rattle.std.proofs.Common.{◌≡◌, ◌+◌, max, drop}
+use Rattle.std.proofs.Common.{◌+◌, max, drop}
 use Rattle.st_semantics.specs.declared.outcome.Outcomes.{Outcomes}
 use Rattle.st_semantics.specs.Iterations.{count_of, index_of, rows}
 use Rattle.st_semantics.specs.Evaluation.{GivesAll, tasks, each_task}

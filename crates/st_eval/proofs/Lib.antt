@@ -1,0 +1,12 @@
+mod InByteOrder
+mod Trying
+mod Conditions
+mod MoreBound
+mod Unfolding
+mod Iterations
+mod Lists
+mod BoundParts
+mod Answered
+mod TestOutcomes
+mod Equations
+mod CanMeet

@@ -1,0 +1,2 @@
+-- What only contracts inside the crate need.
+pub mod Known
