@@ -1,3 +1,12 @@
 pub mod Single
 pub mod Breaches
 pub mod Examples
+pub mod Drops
+pub mod Weights
+pub mod Each
+pub mod Paths
+pub mod Builds
+pub mod Lasts
+pub mod Fields
+pub mod Kept
+pub mod Made

@@ -10,9 +10,20 @@
 //! `specs/Typed.antt`. The language is told in `docs/internal-language.md`.
 #![tactic(auto)]
 
+mod definitions;
+mod found;
+mod keeping;
+mod language;
 mod laws;
 mod listed;
 mod naming;
+mod operands;
+mod premises;
+mod rows;
+mod scope;
+mod shape;
+mod typing;
 
+pub use definitions::{broken_in_clause, broken_in_rule};
 pub use laws::{one_breach, one_typing, small_typings};
 pub use naming::{each_kept, names_kept};

@@ -1,0 +1,5 @@
+pub mod Weight
+pub mod Steps
+pub mod Operators
+pub mod Counts
+pub mod Clauses
