@@ -10,3 +10,8 @@ pub mod Lasts
 pub mod Fields
 pub mod Kept
 pub mod Made
+pub mod Operators
+pub mod ContentsLemmas
+pub mod InsideLemmas
+pub mod KindLemmas
+pub mod Alls

@@ -63,7 +63,7 @@ module _ (il : Il) (ls : List Listed) where
       premise.PremBreaks.each how xs body c.os c.counted c.here one inside is c.count c.natural (told-by T14 kept (each_kept how xs ls body) (h ∙ same))
       (subst (λ z. PremBreaks il (listed_inside how xs ls) z inside) k (subst (λ z. PremBreaks il z d inside) scope t))
       (w ∙ (ap (λ z. z ++ inside) (n ∙ ap (λ z. z ++ one) c.whole)
-          ∙ (append_assoc (c.counted ++ c.here) one inside ∙ append_assoc c.counted c.here (one ++ inside))))
+      ∙ (append_assoc (c.counted ++ c.here) one inside ∙ append_assoc c.counted c.here (one ++ inside))))
 
   module _ (ps : List IlPrem) (i : ℕ) (broken : List TypeRule) (so_far : (bs : List TypeRule) → PremsBreak il ls (drop i ps) bs → PremsBreak il ls ps (broken ++ bs)) where
     pub prems-next : (p : IlPrem) (first longer : List TypeRule) → i < length ps → p ≡ get_or ps i p → PremBreaks il ls p first → longer ≡ broken ++ first

@@ -3,3 +3,5 @@ pub mod Steps
 pub mod Operators
 pub mod Counts
 pub mod Clauses
+pub mod Contents
+pub mod Beginnings

@@ -116,11 +116,7 @@ fn wrapped(alloc: Global, kinds: &[Kind], ty: &Ty) -> Result<Ty, NoMemory>
 }
 
 /// The type of a variable where it is listed.
-fn variable_type(
-    alloc: Global,
-    listed: &[Listed],
-    name: &Name,
-) -> Result<Option<Ty>, NoMemory>
+fn variable_type(alloc: Global, listed: &[Listed], name: &Name) -> Result<Option<Ty>, NoMemory>
     ensures { IfOk result
         (λ found. found ≡ option_map type_of (listed_as name.now listed.now)) }
 {
@@ -134,11 +130,7 @@ fn variable_type(
 }
 
 /// The type that a function declares of its result.
-fn result_type(
-    alloc: Global,
-    language: &Language,
-    fun: &Name,
-) -> Result<Option<Ty>, NoMemory>
+fn result_type(alloc: Global, language: &Language, fun: &Name) -> Result<Option<Ty>, NoMemory>
     ensures { IfOk result (λ found. found
         ≡ option_map (λ (f : FunDef). f.result) (function_named language.now fun.now)) }
 {

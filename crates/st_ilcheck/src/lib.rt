@@ -2,14 +2,17 @@
 //! without one being asked, which of the rules T1 to T14 a definition breaks, and the first
 //! definition that breaks one, with the least rule that it breaks.
 //!
-//! Of the code that decides them what an iteration names stands here so far. What is proved besides
-//! is that the definitions tell one thing: an expression has one type at most, and a language that
-//! is not typed one breach at most.
+//! The code gives which of the rules T3 to T14 a rule or a clause breaks by the types of its
+//! expressions, all of them in order, where the syntaxes have a table; and whether the variables of a
+//! definition are listed as they occur, and its indices stay inside. What is cited and declared is
+//! told by definitions so far. What is proved besides is that the definitions tell one thing: an
+//! expression has one type at most, and a language that is not typed one breach at most.
 //!
 //! Read `specs/FoundTypes.antt` and `specs/Rules.antt` first, then `specs/Typings.antt` and
-//! `specs/Typed.antt`. The language is told in `docs/internal-language.md`.
+//! `specs/Typed.antt`; of the code `typing` and `keeping`. The language is told in `docs/internal-language.md`.
 #![tactic(auto)]
 
+mod contents;
 mod definitions;
 mod found;
 mod keeping;
@@ -18,12 +21,15 @@ mod laws;
 mod listed;
 mod naming;
 mod operands;
+mod premise_contents;
 mod premises;
 mod rows;
 mod scope;
 mod shape;
 mod typing;
+mod variables;
 
 pub use definitions::{broken_in_clause, broken_in_rule};
 pub use laws::{one_breach, one_typing, small_typings};
 pub use naming::{each_kept, names_kept};
+pub use premise_contents::{indices_kept, variables_kept};

@@ -7,8 +7,8 @@ use Rattle.st_ilcheck.specs.Rules.{Are}
 use Rattle.st_ilcheck.proofs.Kept.{case-kept, case-none}
 use Rattle.st_ilcheck.proofs.keeping.is_case.Goals as goal
 
-pub returns-in-Some : goal.returns-in-Some
-returns-in-Some c =
+pub returns : goal.returns
+returns c =
     case-kept (syntaxes c.args.language.now) (ty.Name c.args.name.now) c.args.tag.now c.args.types.now c.in-Some.operands.now c.are.result
     (subst (λ z. HasOperands (syntaxes c.args.language.now) z c.args.tag.now c.in-Some.operands.now) c.in_ok-ty.ensures c.in-Some.ensures)
     (subst (λ z. IsTrue c.are.result ↔ Are (syntaxes c.args.language.now) z c.args.types.now) c.as_slice.ensures c.are.ensures)

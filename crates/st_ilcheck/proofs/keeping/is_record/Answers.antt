@@ -5,8 +5,8 @@ use Rattle.st_semantics.specs.Definitions.{syntaxes}
 use Rattle.st_ilcheck.proofs.Kept.{record-kept, record-none}
 use Rattle.st_ilcheck.proofs.keeping.is_record.Goals as goal
 
-pub returns-in-Some : goal.returns-in-Some
-returns-in-Some c =
+pub returns : goal.returns
+returns c =
     record-kept (syntaxes c.args.language.now) (ty.Name c.args.name.now) c.args.types.now c.in-Some.declared.now c.are_fields.result
     (subst (λ z. HasFields (syntaxes c.args.language.now) z c.in-Some.declared.now) c.in_ok-ty.ensures c.in-Some.ensures) c.are_fields.ensures
 
