@@ -15,3 +15,8 @@ pub mod ContentsLemmas
 pub mod InsideLemmas
 pub mod KindLemmas
 pub mod Alls
+pub mod Walks
+pub mod CitedLemmas
+pub mod DeclaredLemmas
+pub mod Holes
+pub mod TagLemmas

@@ -5,3 +5,5 @@ pub mod Counts
 pub mod Clauses
 pub mod Contents
 pub mod Beginnings
+pub mod Declared
+pub mod Cited

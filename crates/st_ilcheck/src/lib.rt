@@ -12,7 +12,9 @@
 //! `specs/Typed.antt`; of the code `typing` and `keeping`. The language is told in `docs/internal-language.md`.
 #![tactic(auto)]
 
+mod cited;
 mod contents;
+mod declaring;
 mod definitions;
 mod found;
 mod keeping;
@@ -20,12 +22,14 @@ mod language;
 mod laws;
 mod listed;
 mod naming;
+mod once;
 mod operands;
 mod premise_contents;
 mod premises;
 mod rows;
 mod scope;
 mod shape;
+mod tagged;
 mod typing;
 mod variables;
 
