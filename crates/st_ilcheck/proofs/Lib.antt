@@ -20,3 +20,6 @@ pub mod CitedLemmas
 pub mod DeclaredLemmas
 pub mod Holes
 pub mod TagLemmas
+pub mod SyntaxLemmas
+pub mod LeastLemmas
+pub mod TypedLemmas

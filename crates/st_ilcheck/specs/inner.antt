@@ -7,3 +7,4 @@ pub mod Contents
 pub mod Beginnings
 pub mod Declared
 pub mod Cited
+pub mod Leasts
