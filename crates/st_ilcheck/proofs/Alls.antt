@@ -1,8 +1,8 @@
 -- What holds of each member of a list, and what a list contains, one member at a time.
-use Rattle.std.proofs.Common.{◌≡◌, ◌↔◌, ℕ, suc, ◌+◌, ◌<◌, ◌≤◌, refl, sym, ap, ◌∙◌, subst, List, [], ◌∷◌, length, take, drop, get_or, arith}
+use Rattle.std.proofs.Common.{◌≡◌, ℕ, ◌+◌, ◌<◌, ◌≤◌, sym, ap, ◌∙◌, subst, List, length, take, get_or}
 use Rattle.std.specs.Prelude.{All, Contains}
 use Rattle.std.proofs.lemmas.List.{take_all}
-use Rattle.std.proofs.lemmas.List.Elements.{All-get_or, All-more, All-nil}
+use Rattle.std.proofs.lemmas.List.Elements.{All-get_or, All-more}
 
 module _ {X : Type 0} (P : X → Type 0) (xs : List X) where
   -- one member of which it does not hold

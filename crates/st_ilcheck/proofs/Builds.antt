@@ -24,7 +24,7 @@ use Rattle.st_ilcheck.specs.Naming.{names_kept}
 use Rattle.st_ilcheck.specs.Parts.{Part, parts_at, parts_of, standing}
 use Rattle.st_ilcheck.specs.Rules.{Asks, AsksOfPath, rule_of, Told}
 use Rattle.st_ilcheck.specs.Typings.{HasTyping, HaveTypings, BreaksHere, typing, none, more}
-use Rattle.st_ilcheck.specs.inner.Operators.{AsksParts, operator_rule}
+use Rattle.st_ilcheck.specs.inner.Operators.{AsksParts}
 use Rattle.st_ilcheck.specs.inner.Weight.{exps_now}
 use Rattle.st_ilcheck.proofs.Drops.{from}
 

@@ -11,7 +11,7 @@ use Rattle.st_semantics.specs.Names.{Name, flattened}
 use Rattle.st_semantics.specs.Variables.{relations_cited}
 use Rattle.st_ilcheck.specs.declared.cited.Citations.{Citations}
 use Rattle.st_ilcheck.specs.declared.contents.Contents.{Contents}
-use Rattle.st_ilcheck.specs.Declarations.{Tagged, types_cited, listed_types, cited}
+use Rattle.st_ilcheck.specs.Declarations.{types_cited, listed_types, cited}
 use Rattle.st_ilcheck.specs.inner.Cited.{AreCited}
 use Rattle.st_ilcheck.specs.inner.Contents.{AreAllContents}
 

@@ -1,9 +1,9 @@
 -- Parts that stand so to given things, one by one.
-use Rattle.std.proofs.Common.{◌≡◌, ◌↔◌, ℕ, suc, ◌+◌, ◌<◌, ◌≤◌, refl, sym, ap, subst, List, [], ◌∷◌, Option, Some, None, length, drop, get_or}
+use Rattle.std.proofs.Common.{◌≡◌, ◌↔◌, ℕ, suc, ◌+◌, ◌<◌, ◌≤◌, refl, sym, ap, subst, List, [], ◌∷◌, Option, length, drop, get_or}
 use Rattle.std.proofs.lemmas.List.{drop_all}
 use Rattle.st_il.specs.declared.definition.SyntaxDef.{SyntaxDef}
 use Rattle.st_il.specs.declared.ty.Ty.{Ty}
-use Rattle.st_ilcheck.specs.Rules.{AreEach, Is, AllAre, AllTyped}
+use Rattle.st_ilcheck.specs.Rules.{AreEach, Is, AllAre}
 use Rattle.st_ilcheck.proofs.Drops.{from}
 
 module _ {A : Type 0} (R : A → Option Ty → Type 0) where

@@ -1,5 +1,5 @@
 -- What is asked of a case, a record, a call and a judgement, by what is declared of it.
-use Rattle.std.proofs.Common.{◌≡◌, ◌↔◌, sym, ap, ◌∙◌, subst, ℕ, List, Bool, Option, Some, None}
+use Rattle.std.proofs.Common.{◌≡◌, ◌↔◌, sym, ap, ◌∙◌, subst, List, Bool, Option, Some, None}
 use Rattle.std.specs.Prelude.{IsTrue}
 use Rattle.st_il.specs.declared.definition.FunDef.{FunDef}
 use Rattle.st_il.specs.declared.definition.Il.{Il}

@@ -1,5 +1,5 @@
 -- Kinds that begin with those of a dimension.
-use Rattle.std.proofs.Common.{◌≡◌, ◌↔◌, ℕ, suc, refl, sym, ap, ap₂, ◌∙◌, subst, List, [], ◌∷◌, ◌++◌, Bool, false, length, arith, append-nil, Option, Some, None}
+use Rattle.std.proofs.Common.{◌≡◌, ◌↔◌, refl, sym, ap₂, ◌∙◌, subst, List, [], ◌∷◌, ◌++◌, Bool, false, length, arith, append-nil, Some, None}
 use Rattle.std.specs.Prelude.{IsTrue, All}
 use Rattle.st_num.specs.declared.dim.Kind.{Kind}
 use Rattle.st_il.specs.declared.definition.Listed.{Listed}

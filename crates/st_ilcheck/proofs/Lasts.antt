@@ -1,5 +1,5 @@
 -- The last of several parts, and those before it.
-use Rattle.std.proofs.Common.{◌≡◌, ℕ, zero, suc, ◌≤◌, refl, sym, ap, ◌∙◌, List, [], ◌∷◌, Option, length, get_or, take, arith}
+use Rattle.std.proofs.Common.{◌≡◌, ℕ, zero, suc, refl, sym, ap, List, [], ◌∷◌, Option, length, get_or, take, arith}
 use Rattle.st_il.specs.declared.ty.Ty.{Ty}
 use Rattle.st_ilcheck.specs.FoundTypes.{last_type}
 use Rattle.st_ilcheck.specs.Rules.{before_last}

@@ -1,5 +1,5 @@
 -- The least of some rules, found from the last one on.
-use Rattle.std.proofs.Common.{◌≡◌, refl, sym, ap, ◌∙◌, List, [], ◌∷◌, ◌++◌, Option, Some, None, true, false, cond, nat_le, Bool}
+use Rattle.std.proofs.Common.{◌≡◌, refl, sym, ap, List, [], ◌∷◌, ◌++◌, Option, Some, None, true, false, cond, nat_le, Bool}
 use Rattle.st_il.specs.declared.type_rule.TypeRule.{TypeRule}
 use Rattle.st_ilcheck.specs.Least.{number, lesser, least}
 use Rattle.st_ilcheck.specs.inner.Leasts.{least_before}

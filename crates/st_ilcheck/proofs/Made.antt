@@ -20,7 +20,7 @@ use Rattle.st_semantics.specs.Iterations.{count_of}
 use Rattle.st_semantics.specs.Scopes.{listed_inside}
 use Rattle.st_ilcheck.specs.Naming.{each_kept}
 use Rattle.st_ilcheck.specs.Parts.{standing}
-use Rattle.st_ilcheck.specs.Rules.{Is, AllAre, IsCallOf, Told}
+use Rattle.st_ilcheck.specs.Rules.{Is, AllAre, IsCallOf}
 use Rattle.st_ilcheck.specs.Typings.{HasTyping, HaveTypings}
 use Rattle.st_ilcheck.specs.Premises as premise
 use Rattle.st_ilcheck.specs.Premises.{IsJudgementOf, PremBreaks, PremsBreak}

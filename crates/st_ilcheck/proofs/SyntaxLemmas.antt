@@ -1,5 +1,5 @@
 -- The conditions on a syntax, and whether a definition declares what is new, by what is found.
-use Rattle.std.proofs.Common.{◌≡◌, ◌↔◌, ℕ, zero, suc, ◌+◌, ◌<◌, refl, sym, ap, ◌∙◌, subst, cond, List, [], ◌∷◌, ◌++◌, map, Bool, true, false, true≢false, ◌&&◌, Option, Some, None, inl, inr, length, take, drop, get_or, arith, append_assoc}
+use Rattle.std.proofs.Common.{◌≡◌, ◌↔◌, ℕ, zero, suc, ◌<◌, refl, sym, ap, ◌∙◌, subst, cond, List, [], ◌∷◌, ◌++◌, map, Bool, true, false, true≢false, ◌&&◌, Option, Some, None, inl, inr, length, take, drop, get_or, arith}
 use Rattle.std.specs.Prelude.{IsTrue, All, slice_get, bytes_eq, ◌||◌}
 use Rattle.std.proofs.lemmas.List.{length-map}
 use Rattle.st_il.specs.declared.definition.Il.{Il}
@@ -16,7 +16,7 @@ use Rattle.st_semantics.specs.Names.{Name, has_name}
 use Rattle.st_semantics.specs.Definitions.{syntaxes, syntaxes_in, rules_in, rules_from}
 use Rattle.st_ilcheck.specs.declared.cited.Citations.{Citations}
 use Rattle.st_ilcheck.specs.declared.declaring.Declared.{Declared}
-use Rattle.st_ilcheck.specs.Declarations.{IsDeclared, AreNamed, IsOnceIn, IsTag, syntax_names, rule_names, cited}
+use Rattle.st_ilcheck.specs.Declarations.{IsDeclared, AreNamed, IsOnceIn, IsTag, rule_names, cited}
 use Rattle.st_ilcheck.specs.inner.Cited.{AreCited, AreCitedOnce, CitesOnce}
 use Rattle.st_ilcheck.specs.inner.Declared.{AreDeclared, IsNew, has_pair, rule_pairs}
 

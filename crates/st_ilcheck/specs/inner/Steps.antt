@@ -4,7 +4,6 @@ use Rattle.st_il.specs.declared.definition.FunDef.{FunDef}
 use Rattle.st_il.specs.declared.definition.IlDef.{IlDef}
 use Rattle.st_il.specs.declared.definition.RelationDef.{RelationDef}
 use Rattle.st_il.specs.declared.definition.SyntaxDef.{SyntaxDef}
-use Rattle.st_il.specs.declared.expression.IlExp.{IlExp}
 use Rattle.st_il.specs.declared.expression.IlExp.TheOpen.{PathSeg-F}
 use Rattle.st_il.specs.declared.expression.PathSeg.{PathSeg, out-PathSeg}
 use Rattle.st_il.specs.declared.ty.Ty.{Ty}

@@ -1,4 +1,4 @@
-use Rattle.std.proofs.Common.{◌≡◌, ◌++◌, drop, map, ℕ, List}
+use Rattle.std.proofs.Common.{◌≡◌, ◌++◌, drop, map, List}
 use Rattle.st_il.specs.declared.expression.IlPrem.{IlPrem}
 use Rattle.st_semantics.specs.Names.{flattened}
 use Rattle.st_semantics.specs.Variables.{relations_cited}

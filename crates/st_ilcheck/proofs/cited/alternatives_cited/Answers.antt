@@ -1,4 +1,4 @@
-use Rattle.std.proofs.Common.{refl, ap, ◌∙◌, ◌++◌, map, ℕ, List}
+use Rattle.std.proofs.Common.{refl, ap, ◌∙◌, ◌++◌, List}
 use Rattle.std.specs.List.{flat_map}
 use Rattle.st_il.specs.declared.definition.Alternative.{Alternative}
 use Rattle.st_ilcheck.specs.Declarations.{alternative_cited}

@@ -1,6 +1,5 @@
 use Rattle.std.proofs.Common.{◌≡◌, ◌++◌, drop, map, ℕ, List}
 use Rattle.st_il.specs.declared.ty.Ty.{Ty}
-use Rattle.st_type_table.specs.Leads.{names_in}
 use Rattle.st_ilcheck.specs.Declarations.{types_cited}
 use Rattle.st_ilcheck.proofs.cited.fields_cited.Given as goal
 

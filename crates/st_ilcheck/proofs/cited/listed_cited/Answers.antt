@@ -1,4 +1,4 @@
-use Rattle.std.proofs.Common.{refl, ap, ◌∙◌, ◌++◌, map, ℕ, List}
+use Rattle.std.proofs.Common.{refl, ap, ◌∙◌, ◌++◌, List}
 use Rattle.st_il.specs.declared.definition.Listed.{Listed}
 use Rattle.st_type_table.specs.Leads.{names_in}
 use Rattle.st_ilcheck.specs.Declarations.{types_cited, listed_types}

@@ -1,4 +1,4 @@
-use Rattle.std.proofs.Common.{refl, ap, ◌∙◌, ◌++◌, map, ℕ, List}
+use Rattle.std.proofs.Common.{refl, ap, ◌∙◌, ◌++◌, List}
 use Rattle.st_il.specs.declared.ty.Ty.{Ty}
 use Rattle.st_type_table.specs.Leads.{names_in}
 use Rattle.st_ilcheck.specs.Declarations.{types_cited}

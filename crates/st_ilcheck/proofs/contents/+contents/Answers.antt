@@ -1,9 +1,8 @@
-use Rattle.std.proofs.Common.{◌≡◌, ◌+◌, ◌<◌, ◌∙◌, sym, ap, max, arith}
+use Rattle.std.proofs.Common.{◌≡◌, ◌+◌, ◌<◌, ◌∙◌, ap, max, arith}
 use Rattle.st_il.specs.declared.expression.IlExp.{out-IlExp}
 use Rattle.st_il.specs.declared.expression.IlExp.TheVariants as exp
 use Rattle.st_semantics.specs.Iterations.{count_of}
 use Rattle.st_semantics.specs.Operands.{operands_at, item_exp, segment_exps}
-use Rattle.st_ilcheck.specs.inner.Contents.{within}
 use Rattle.st_ilcheck.specs.inner.Weight.{exps_now, weight, heaviest}
 use Rattle.st_ilcheck.proofs.Weights.{weight-operands, weight-iteration, heaviest-element}
 use Rattle.st_ilcheck.proofs.ContentsLemmas.{contents-plain, contents-iterated, contents-start, contents-next, contents-end, within-made}

@@ -1,4 +1,4 @@
-use Rattle.std.proofs.Common.{sym, ap, ◌∙◌, ◌++◌, drop, append-nil}
+use Rattle.std.proofs.Common.{◌∙◌}
 use Rattle.st_semantics.specs.Iterations.{index_of, kind_of}
 use Rattle.st_ilcheck.proofs.InsideLemmas.{inside-next, inside-end}
 use Rattle.st_ilcheck.proofs.contents.inside.Goals as goal

@@ -1,4 +1,4 @@
-use Rattle.std.proofs.Common.{◌∙◌, ◌++◌, ◌∷◌, []}
+use Rattle.std.proofs.Common.{◌∙◌}
 use Rattle.st_ilcheck.specs.Variables.{all_occurrences, all_indices}
 use Rattle.st_ilcheck.proofs.ContentsLemmas.{all-occurrences, all-indices}
 use Rattle.st_ilcheck.proofs.KindLemmas.{inside-kept}

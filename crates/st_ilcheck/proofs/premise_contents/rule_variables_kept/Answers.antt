@@ -1,4 +1,4 @@
-use Rattle.std.proofs.Common.{◌∙◌, ◌++◌, ◌∷◌, []}
+use Rattle.std.proofs.Common.{◌∙◌}
 use Rattle.st_ilcheck.specs.Variables.{all_occurrences}
 use Rattle.st_ilcheck.proofs.ContentsLemmas.{all-occurrences}
 use Rattle.st_ilcheck.proofs.KindLemmas.{listed-kept}

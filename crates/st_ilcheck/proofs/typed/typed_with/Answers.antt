@@ -1,4 +1,4 @@
-use Rattle.std.proofs.Common.{◌≡◌, ◌<◌, ◌≤◌, subst, length, sym, ap, ◌∙◌, Err, arith}
+use Rattle.std.proofs.Common.{◌≡◌, ◌<◌, ◌≤◌, subst, length, arith}
 use Rattle.st_ilcheck.specs.declared.typed.IlFault.TheVariants as fault
 use Rattle.st_ilcheck.specs.Typed.{IsTypeBreach}
 use Rattle.st_ilcheck.proofs.TypedLemmas.{told-start, told-next, told-breach, told-end}

@@ -1,4 +1,4 @@
-use Rattle.std.proofs.Common.{◌≡◌, ◌++◌, ◌+◌, List, Option, drop, max}
+use Rattle.std.proofs.Common.{◌++◌, ◌+◌, List, Option, drop, max}
 use Rattle.st_il.specs.declared.ty.Ty.{Ty}
 use Rattle.st_il.specs.declared.type_rule.TypeRule.{TypeRule}
 use Rattle.st_semantics.specs.Iterations.{count_of}
