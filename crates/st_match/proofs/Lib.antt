@@ -5,4 +5,11 @@ pub mod Fits
 pub mod AreCandidates
 pub mod AreRows
 pub mod AllColumnsCover
-pub mod Places
+pub mod Positions
+pub mod InOrder
+pub mod PatternVariables
+pub mod Tests
+pub mod ProperValues
+pub mod Asked
+pub mod Assembled
+pub mod FoundMatches

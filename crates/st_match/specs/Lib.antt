@@ -1,2 +1,7 @@
--- What only proofs and contracts inside this part need, so far.
+-- What must be believed of matching. What it is that an environment matches is told by
+-- `Matching.antt` of st_semantics.
+
+-- these are exactly the environments that match, each once
+pub mod Matches
+-- ---- what only proofs and contracts inside this part need
 pub mod inner

@@ -1,6 +1,12 @@
--- When a pattern has a value, what covers all that give it that value, rows of environments, and
--- places in the elements of a list.
+-- When a pattern has a value, what covers all that give it that value, rows of environments,
+-- positions in the elements of a list, names in order, types that are asked of values, environments
+-- that are put together, and what is found of them.
 pub mod Fitting
 pub mod Covering
 pub mod Rows
-pub mod Places
+pub mod Positions
+pub mod Names
+pub mod Proper
+pub mod Types
+pub mod Assembly
+pub mod Found

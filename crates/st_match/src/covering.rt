@@ -8,10 +8,10 @@ ghost use Rattle.st_semantics.specs.Parts.{option_list};
 ghost use Rattle.st_match.specs.inner.Fitting.{field_values, IsElementCount};
 ghost use Rattle.st_match.specs.inner.Covering.{AreCandidates, AreCandidatesOfAll, AreCandidatesOfItems, AreCandidatesOfCut, AreCandidatesOfCount, AreCandidatesOfEach, AreCandidatesOfCuts, IfCat};
 ghost use Rattle.st_match.specs.inner.Rows.{AreRows, AreRowsOf, RowsLead};
-ghost use Rattle.st_match.specs.inner.Places.{PartLeads, ElementLeads, CutLeads, CutsLead};
+ghost use Rattle.st_match.specs.inner.Positions.{PartLeads, ElementLeads, CutLeads, CutsLead};
 
 use crate::environment::{append, bind_each, copy_envs, no_variables, single};
-use crate::place::{Ends, Place, ends_before, finished, left_of};
+use crate::position::{Ends, Position, ends_before, finished, left_of};
 use crate::rows::{kind_of, no_elements, product, with_rows_each};
 use st_il::{Env, IlExp, Iteration, ListItem, Value, copy_values};
 use st_num::{Boxed, Kind, Name, NoMemory, Num, Row};
@@ -20,7 +20,7 @@ use std::slice::from_ref;
 
 /// Environments that extend these, and cover all that extend them and give the pattern the value.
 #[cycle(candidates)]
-pub fn candidates(
+pub(crate) fn candidates(
     alloc: Global,
     pattern: &IlExp,
     value: &Value,
@@ -218,7 +218,7 @@ fn slice_candidates(
     Ok(found)
 }
 
-// ---- patterns in their places
+// ---- patterns in their positions
 
 /// The candidates of these patterns, one for each value.
 #[cycle(candidates)]
@@ -274,79 +274,85 @@ fn item_candidates(
     ensures { IfOk result (λ found. AreCandidatesOfItems items.now values.now envs.now found) }
 {
     let start = copy_envs(alloc, envs)?;
-    let first = Place {
+    let first = Position {
         taken: 0,
         envs: start,
     };
-    let mut places = single(alloc, first)?;
+    let mut positions = single(alloc, first)?;
     for i in 0..items.len() {
-        places = after_part(alloc, &items[i], &items[i + 1..], values, places.as_slice())?;
+        positions = after_part(
+            alloc,
+            &items[i],
+            &items[i + 1..],
+            values,
+            positions.as_slice(),
+        )?;
     }
-    let found = finished(alloc, values, places.as_slice())?;
+    let found = finished(alloc, values, positions.as_slice())?;
     Ok(found)
 }
 
-/// The places that a part leads to.
+/// The positions that a part leads to.
 #[cycle(candidates)]
 fn after_part(
     alloc: Global,
     part: &ListItem,
     rest: &[ListItem],
     values: &[Value],
-    places: &[Place],
-) -> Result<Row<Place>, NoMemory>
-    ensures { IfOk result (λ after. PartLeads part.now rest.now values.now places.now after) }
+    positions: &[Position],
+) -> Result<Row<Position>, NoMemory>
+    ensures { IfOk result (λ after. PartLeads part.now rest.now values.now positions.now after) }
 {
     match part {
         ListItem::One(pattern) => {
-            let after = after_element(alloc, pattern, values, places)?;
+            let after = after_element(alloc, pattern, values, positions)?;
             Ok(after)
         }
         ListItem::All(pattern) => {
-            let after = after_list(alloc, pattern, rest, values, places)?;
+            let after = after_list(alloc, pattern, rest, values, positions)?;
             Ok(after)
         }
     }
 }
 
-/// The places that an element leads to.
+/// The positions that an element leads to.
 #[cycle(candidates)]
 fn after_element(
     alloc: Global,
     pattern: &IlExp,
     values: &[Value],
-    places: &[Place],
-) -> Result<Row<Place>, NoMemory>
-    ensures { IfOk result (λ after. ElementLeads pattern.now values.now places.now after) }
+    positions: &[Position],
+) -> Result<Row<Position>, NoMemory>
+    ensures { IfOk result (λ after. ElementLeads pattern.now values.now positions.now after) }
 {
     let mut after = Row::new(alloc);
-    for place in places {
-        let more = next_place(alloc, pattern, values, place)?;
+    for position in positions {
+        let more = next_position(alloc, pattern, values, position)?;
         after = append(after, more)?;
     }
     Ok(after)
 }
 
-/// The place behind the next element, if there is one and it can be the pattern's value.
+/// The position behind the next element, if there is one and it can be the pattern's value.
 #[cycle(candidates)]
-fn next_place(
+fn next_position(
     alloc: Global,
     pattern: &IlExp,
     values: &[Value],
-    place: &Place,
-) -> Result<Row<Place>, NoMemory>
+    position: &Position,
+) -> Result<Row<Position>, NoMemory>
     ensures { IfOk result (λ after.
-        ElementLeads pattern.now values.now (place.now ∷ []) after) }
+        ElementLeads pattern.now values.now (position.now ∷ []) after) }
 {
-    let taken = place.taken;
+    let taken = position.taken;
     if taken >= values.len() {
         return Ok(Row::new(alloc));
     }
-    let envs = candidates(alloc, pattern, &values[taken], place.envs.as_slice())?;
+    let envs = candidates(alloc, pattern, &values[taken], position.envs.as_slice())?;
     if envs.is_empty() {
         return Ok(Row::new(alloc));
     }
-    let next = Place {
+    let next = Position {
         taken: taken + 1,
         envs,
     };
@@ -354,84 +360,84 @@ fn next_place(
     Ok(after)
 }
 
-/// The places that all elements of a list lead to.
+/// The positions that all elements of a list lead to.
 #[cycle(candidates)]
 fn after_list(
     alloc: Global,
     pattern: &IlExp,
     rest: &[ListItem],
     values: &[Value],
-    places: &[Place],
-) -> Result<Row<Place>, NoMemory>
+    positions: &[Position],
+) -> Result<Row<Position>, NoMemory>
     ensures { IfOk result (λ after.
-        PartLeads (ListItem.All pattern.now) rest.now values.now places.now after) }
+        PartLeads (ListItem.All pattern.now) rest.now values.now positions.now after) }
 {
     let mut after = Row::new(alloc);
-    for place in places {
-        let more = later_places(alloc, pattern, rest, values, place)?;
+    for position in positions {
+        let more = later_positions(alloc, pattern, rest, values, position)?;
         after = append(after, more)?;
     }
     Ok(after)
 }
 
-/// The places that all elements of a list lead to from one.
+/// The positions that all elements of a list lead to from one.
 #[cycle(candidates)]
-fn later_places(
+fn later_positions(
     alloc: Global,
     pattern: &IlExp,
     rest: &[ListItem],
     values: &[Value],
-    place: &Place,
-) -> Result<Row<Place>, NoMemory>
+    position: &Position,
+) -> Result<Row<Position>, NoMemory>
     ensures { IfOk result (λ after.
-        PartLeads (ListItem.All pattern.now) rest.now values.now (place.now ∷ []) after) }
+        PartLeads (ListItem.All pattern.now) rest.now values.now (position.now ∷ []) after) }
 {
-    let left = left_of(values, place.taken);
+    let left = left_of(values, position.taken);
     let ends = ends_before(rest, left);
-    let after = places_between(alloc, pattern, values, place, ends)?;
+    let after = positions_between(alloc, pattern, values, position, ends)?;
     Ok(after)
 }
 
-/// The places that all elements of a list lead to from one, where the list may end so.
+/// The positions that all elements of a list lead to from one, where the list may end so.
 #[cycle(candidates)]
-fn places_between(
+fn positions_between(
     alloc: Global,
     pattern: &IlExp,
     values: &[Value],
-    place: &Place,
+    position: &Position,
     ends: Ends,
-) -> Result<Row<Place>, NoMemory>
-    requires { ends.end ≤ length (drop place.now.taken values.now) + 1 }
+) -> Result<Row<Position>, NoMemory>
+    requires { ends.end ≤ length (drop position.now.taken values.now) + 1 }
     ensures { IfOk result (λ after.
-        CutsLead pattern.now values.now ends.first ends.end place.now after) }
+        CutsLead pattern.now values.now ends.first ends.end position.now after) }
 {
     let mut after = Row::new(alloc);
     for count in ends.first..ends.end {
-        let more = place_behind(alloc, pattern, values, place, count)?;
+        let more = position_behind(alloc, pattern, values, position, count)?;
         after = append(after, more)?;
     }
     Ok(after)
 }
 
-/// The place behind so many elements, if they can be those of the pattern's value.
+/// The position behind so many elements, if they can be those of the pattern's value.
 #[cycle(candidates)]
-fn place_behind(
+fn position_behind(
     alloc: Global,
     pattern: &IlExp,
     values: &[Value],
-    place: &Place,
+    position: &Position,
     count: usize,
-) -> Result<Row<Place>, NoMemory>
-    requires { count ≤ length (drop place.now.taken values.now) }
-    ensures { IfOk result (λ after. CutLeads pattern.now values.now count place.now after) }
+) -> Result<Row<Position>, NoMemory>
+    requires { count ≤ length (drop position.now.taken values.now) }
+    ensures { IfOk result (λ after. CutLeads pattern.now values.now count position.now after) }
 {
-    let left = left_of(values, place.taken);
-    let envs = slice_candidates(alloc, pattern, &left[..count], place.envs.as_slice())?;
+    let left = left_of(values, position.taken);
+    let envs = slice_candidates(alloc, pattern, &left[..count], position.envs.as_slice())?;
     if envs.is_empty() {
         return Ok(Row::new(alloc));
     }
-    let behind = Place {
-        taken: place.taken + count,
+    let behind = Position {
+        taken: position.taken + count,
         envs,
     };
     let after = single(alloc, behind)?;

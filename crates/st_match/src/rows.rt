@@ -24,7 +24,7 @@ pub(crate) fn kind_of(how: &Iteration) -> Kind
 }
 
 /// Whether the name is the index of the iteration.
-fn is_index(how: &Iteration, name: &Name) -> bool
+pub(crate) fn is_index(how: &Iteration, name: &Name) -> bool
     ensures { result ≡ has_name (index_of how.now) name.now }
 {
     match how {

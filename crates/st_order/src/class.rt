@@ -37,7 +37,7 @@ pub(crate) enum Class {
 }
 
 /// Whether all variables of an expression are bound.
-fn is_bound(alloc: Global, bound: &IndexSet<&Name>, exp: &IlExp) -> Result<bool, NoMemory>
+pub fn is_bound(alloc: Global, bound: &IndexSet<&Name>, exp: &IlExp) -> Result<bool, NoMemory>
     ensures { IfOk result (λ is. is ≡ all_known (names_in bound.now.keys) (vars exp.now)) }
 {
     let mut names = Row::new(alloc);
@@ -87,7 +87,7 @@ fn is_bound_by_itself(
 }
 
 /// Whether the one side can be evaluated and the other one matched.
-fn is_matched(
+pub fn is_matched(
     alloc: Global,
     bound: &IndexSet<&Name>,
     exp: &IlExp,
@@ -272,7 +272,7 @@ fn is_anchored(
 }
 
 /// The variables of what is iterated that are neither iterated nor the index.
-fn others<'a>(
+pub fn others<'a>(
     alloc: Global,
     how: &Iteration,
     listed: &[&Name],
@@ -292,7 +292,7 @@ fn others<'a>(
 }
 
 /// What is bound inside an iteration.
-fn bound_inside<'a>(
+pub fn bound_inside<'a>(
     alloc: Global,
     bound: &IndexSet<&Name>,
     how: &'a Iteration,
@@ -311,7 +311,7 @@ fn bound_inside<'a>(
 }
 
 /// What is bound inside an iterated premise; none where it cannot be run.
-fn inside_each<'a>(
+pub(crate) fn inside_each<'a>(
     alloc: Global,
     bound: &IndexSet<&Name>,
     how: &'a Iteration,

@@ -9,7 +9,7 @@ use st_num::{NoMemory, Row};
 use std::alloc::Global;
 
 /// Whether a hole is an input, or else an output.
-fn is_hole(mask: &[bool], hole: usize, input: bool) -> bool
+pub(crate) fn is_hole(mask: &[bool], hole: usize, input: bool) -> bool
     ensures { result ≡ is_hole input (slice_get mask.now hole) }
 {
     match mask.get(hole) {
@@ -36,7 +36,7 @@ fn push_at_hole<'a>(
 }
 
 /// The expressions that stand at inputs, or else those at outputs.
-pub(crate) fn at_holes<'a>(
+pub fn at_holes<'a>(
     alloc: Global,
     mask: &[bool],
     input: bool,

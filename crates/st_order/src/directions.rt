@@ -1,6 +1,6 @@
 //! Which holes of a relation are inputs.
 
-ghost use Rattle.std.specs.Prelude.{◌≡◌, ◌++◌, true, Some, map, sum, replicate, slice_get, option_and_then, IfOk, OnOk};
+ghost use Rattle.std.specs.Prelude.{◌≡◌, ◌++◌, true, Some, map, sum, replicate, slice_get, option_and_then, is_some, IfOk, OnOk};
 ghost use Rattle.st_il.specs.declared.template.Template.{out-Template};
 ghost use Rattle.st_il.specs.Template.{holes};
 ghost use Rattle.st_semantics.specs.Directions.{is_arrow, direction_at, direction, inputs_or_all};
@@ -67,7 +67,7 @@ fn mask_at(alloc: Global, template: &Template) -> Result<Option<Row<bool>>, NoMe
 }
 
 /// For each hole of a relation, whether it is an input; none where it is undirected.
-fn mask_of(alloc: Global, relation: &RelationDef) -> Result<Option<Row<bool>>, NoMemory>
+pub(crate) fn mask_of(alloc: Global, relation: &RelationDef) -> Result<Option<Row<bool>>, NoMemory>
     ensures { IfOk result (λ mask. mask ≡ direction relation.now) }
 {
     if !relation.mode.is_empty() {
@@ -78,6 +78,14 @@ fn mask_of(alloc: Global, relation: &RelationDef) -> Result<Option<Row<bool>>, N
         None => Ok(None),
         Some(template) => mask_at(alloc, &template),
     }
+}
+
+/// Whether a relation has a direction.
+pub(crate) fn is_directed(alloc: Global, relation: &RelationDef) -> Result<bool, NoMemory>
+    ensures { IfOk result (λ is. is ≡ is_some (direction relation.now)) }
+{
+    let mask = mask_of(alloc, relation)?;
+    Ok(mask.is_some())
 }
 
 /// So many holes, which are inputs.

@@ -1,17 +1,17 @@
 //! Names in sets, and what stands under a name, found by hashes.
 
-ghost use Rattle.std.specs.Prelude.{◌≡◌, ◌∷◌, ◌++◌, [], List, ℕ, Some, bytes_eq, if◌then◌else◌, IfOk, OnOk};
+ghost use Rattle.std.specs.Prelude.{◌≡◌, ◌<◌, ◌∷◌, ◌++◌, [], List, ℕ, Some, length, bytes_eq, if◌then◌else◌, IfOk, IfSome, OnOk};
 ghost use Rattle.std.specs.Option.{option_copied};
 ghost use Rattle.std.specs.List.{list_any};
 ghost use Rattle.st_semantics.specs.Names.{has_name, all_known, among, without};
-ghost use Rattle.st_order.specs.inner.Index.{at, names_in, SameNames};
+ghost use Rattle.st_order.specs.inner.Index.{at, names_in, number_in, SameNames};
 
 use indexmap::{IndexMap, IndexSet};
 use st_num::{Name, NoMemory, Row};
 use std::alloc::Global;
 
 /// Puts something under a name.
-pub(crate) fn put<'a, T: Drop>(
+pub fn put<'a, T: Drop>(
     map: &mut IndexMap<&'a Name, T>,
     name: &'a Name,
     value: T,
@@ -23,8 +23,21 @@ pub(crate) fn put<'a, T: Drop>(
     Ok(())
 }
 
+/// Puts something under a name, and answers what stood there.
+pub(crate) fn exchange<'a, T: Drop>(
+    map: &mut IndexMap<&'a Name, T>,
+    name: &'a Name,
+    value: T,
+) -> Result<Option<T>, NoMemory>
+    ensures was { IfOk result (λ was. was ≡ at map.old.entries name.now) }
+    ensures put { OnOk result ((q : List ℕ) → at map.new.entries q
+        ≡ (if bytes_eq q name.now then Some value else at map.old.entries q)) }
+{
+    Ok(map.insert(name, value)?)
+}
+
 /// What stands under a name.
-pub(crate) fn at<'m, T>(map: &'m IndexMap<&Name, T>, name: &'m Name) -> Option<&'m T>
+pub fn at<'m, T>(map: &'m IndexMap<&Name, T>, name: &'m Name) -> Option<&'m T>
     ensures { option_copied result ≡ at map.now.entries name.now }
 {
     map.get(&name)
@@ -37,6 +50,14 @@ pub(crate) fn has(names: &IndexSet<&Name>, name: &Name) -> bool
     names.contains(&name)
 }
 
+/// The place of a name among these.
+pub(crate) fn number_in(names: &IndexSet<&Name>, name: &Name) -> Option<usize>
+    ensures number { result ≡ number_in names.now.keys name.now }
+    ensures within { IfSome result (λ number. number < length names.now.keys) }
+{
+    names.get_index_of(&name)
+}
+
 /// Adds a name.
 pub(crate) fn add<'a>(names: &mut IndexSet<&'a Name>, name: &'a Name) -> Result<(), NoMemory>
     ensures { OnOk result
@@ -47,7 +68,7 @@ pub(crate) fn add<'a>(names: &mut IndexSet<&'a Name>, name: &'a Name) -> Result<
 }
 
 /// Adds names.
-pub(crate) fn add_all<'a>(names: &mut IndexSet<&'a Name>, more: &[&'a Name]) -> Result<(), NoMemory>
+pub fn add_all<'a>(names: &mut IndexSet<&'a Name>, more: &[&'a Name]) -> Result<(), NoMemory>
     ensures { OnOk result
         (SameNames (names_in names.new.keys) (names_in names.old.keys ++ names_in more.now)) }
 {
@@ -58,7 +79,7 @@ pub(crate) fn add_all<'a>(names: &mut IndexSet<&'a Name>, more: &[&'a Name]) -> 
 }
 
 /// The set of these names.
-pub(crate) fn set_of<'a>(alloc: Global, names: &[&'a Name]) -> Result<IndexSet<&'a Name>, NoMemory>
+pub fn set_of<'a>(alloc: Global, names: &[&'a Name]) -> Result<IndexSet<&'a Name>, NoMemory>
     ensures { IfOk result (λ set. SameNames (names_in set.keys) (names_in names.now)) }
 {
     let mut set = IndexSet::new(alloc);

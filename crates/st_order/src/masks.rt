@@ -50,13 +50,13 @@ pub(crate) fn masks(alloc: Global, il: &Il) -> Result<Masks, NoMemory>
 
 /// An internal language, and for each of its relations which of its holes are inputs.
 #[derive(Drop)]
-pub(crate) struct Directions<'a> {
-    pub(crate) il: &'a Il,
+pub struct Directions<'a> {
+    pub il: &'a Il,
     masks: Masks<'a>,
 }
 
 /// The directions of the relations of an internal language.
-pub(crate) fn directions_of(alloc: Global, il: &Il) -> Result<Directions, NoMemory>
+pub fn directions_of(alloc: Global, il: &Il) -> Result<Directions, NoMemory>
     ensures { IfOk result (λ directions.
         AreDirections directions × (directions.il.now ≡ il.now)) }
 {
@@ -65,7 +65,7 @@ pub(crate) fn directions_of(alloc: Global, il: &Il) -> Result<Directions, NoMemo
 }
 
 /// Which holes of the relation of a name are inputs; none of one that is not declared.
-pub(crate) fn mask_under<'m>(directions: &'m Directions, name: &'m Name) -> &'m [bool]
+pub fn mask_under<'m>(directions: &'m Directions, name: &'m Name) -> &'m [bool]
     requires { AreDirections directions.now }
     ensures { result.now ≡ mask directions.now.il.now name.now }
 {

@@ -137,7 +137,7 @@ fn fault_of_selection(
 }
 
 /// The order in which the premises of a rule are run, or what is in the way.
-fn order_by(
+pub fn order_by(
     alloc: Global,
     directions: &Directions,
     rule: &RuleDef,

@@ -27,7 +27,7 @@ fn push_relation<'a>(
 }
 
 /// The relations of an internal language, in order.
-pub(crate) fn relations_of(alloc: Global, il: &Il) -> Result<Row<&RelationDef>, NoMemory>
+pub fn relations_of(alloc: Global, il: &Il) -> Result<Row<&RelationDef>, NoMemory>
     ensures { IfOk result (λ row. all_now row ≡ relations il.now) }
 {
     let defs = il.defs.as_slice();

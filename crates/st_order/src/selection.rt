@@ -3,8 +3,9 @@
 ghost use Rattle.std.specs.Prelude.{◌≡◌, ◌++◌, ◌<◌, ◌^◌, [], ◌∷◌, length, IfOk, OnOk};
 ghost use Rattle.std.specs.List.{enumerate_from};
 ghost use Rattle.std.specs.Option.{option_map};
+ghost use Rattle.st_semantics.specs.Variables.{prem_vars};
 ghost use Rattle.st_semantics.specs.OrderOf.{but_for, next_in, select};
-ghost use Rattle.st_order.specs.inner.Index.{names_in};
+ghost use Rattle.st_order.specs.inner.Index.{names_in, SameNames};
 ghost use Rattle.st_order.specs.inner.Masks.{AreDirections};
 ghost use Rattle.st_order.specs.inner.Classes.{is_kind};
 ghost use Rattle.st_order.specs.inner.Selections.{numbered, all_numbered, first_of, Takes, LeadsTo, IsSelection};
@@ -130,6 +131,21 @@ fn push_if_other<'a>(
     if p.number != number {
         row.push(p)?;
     }
+    Ok(())
+}
+
+/// Adds the variables of a premise to those that are bound.
+pub(crate) fn add_variables<'a>(
+    alloc: Global,
+    premise: &'a IlPrem,
+    bound: &mut IndexSet<&'a Name>,
+) -> Result<(), NoMemory>
+    ensures { OnOk result
+        (SameNames (names_in bound.new.keys) (names_in bound.old.keys ++ prem_vars premise.now)) }
+{
+    let mut names = Row::new(alloc);
+    push_prem_vars(alloc, premise, &mut names)?;
+    add_all(bound, names.as_slice())?;
     Ok(())
 }
 

@@ -3,7 +3,7 @@
 ghost use Rattle.std.specs.Prelude.{◌≡◌, ◌++◌, [], ◌∷◌, map, OnOk};
 ghost use Rattle.st_semantics.specs.Names.{flattened, has_name, without};
 ghost use Rattle.st_semantics.specs.Iterations.{count_of, index_of};
-ghost use Rattle.st_semantics.specs.Variables.{vars, vars_of, prem_vars};
+ghost use Rattle.st_semantics.specs.Variables.{vars, vars_of, prem_vars, prems_vars};
 ghost use Rattle.st_order.specs.inner.Index.{names_in};
 ghost use Rattle.st_order.specs.inner.Parts.{counted, item_vars, segment_vars, exps_in};
 
@@ -12,7 +12,7 @@ use st_num::{Name, NoMemory, Row};
 use std::alloc::Global;
 
 /// Adds names.
-pub(crate) fn push_names<'a>(list: &'a [Name], names: &mut Row<&'a Name>) -> Result<(), NoMemory>
+pub fn push_names<'a>(list: &'a [Name], names: &mut Row<&'a Name>) -> Result<(), NoMemory>
     ensures { OnOk result (names_in names.new ≡ names_in names.old ++ list.now) }
 {
     for name in list {
@@ -232,7 +232,7 @@ fn push_count_vars<'a>(
 }
 
 /// Adds the variables of several expressions.
-pub(crate) fn push_vars_of<'a>(
+pub fn push_vars_of<'a>(
     alloc: Global,
     exps: &[&'a IlExp],
     names: &mut Row<&'a Name>,
@@ -262,7 +262,7 @@ fn push_vars_of_count<'a>(
 }
 
 /// Adds the variables of a premise, and the listed names of its iterations.
-pub(crate) fn push_prem_vars<'a>(
+pub fn push_prem_vars<'a>(
     alloc: Global,
     prem: &'a IlPrem,
     names: &mut Row<&'a Name>,
@@ -281,4 +281,18 @@ pub(crate) fn push_prem_vars<'a>(
             push_others(how, inner.as_slice(), names)
         }
     }
+}
+
+/// Adds the variables of several premises, and the listed names of their iterations.
+pub(crate) fn push_prems_vars<'a>(
+    alloc: Global,
+    prems: &'a [IlPrem],
+    names: &mut Row<&'a Name>,
+) -> Result<(), NoMemory>
+    ensures { OnOk result (names_in names.new ≡ names_in names.old ++ prems_vars prems.now) }
+{
+    for prem in prems {
+        push_prem_vars(alloc, prem, names)?;
+    }
+    Ok(())
 }

@@ -1,6 +1,7 @@
 -- The tokens of all files, and what a check says of them.
-use Rattle.std.proofs.Common.{◌≡◌, ◌≢◌, ℕ, suc, ◌+◌, ◌<◌, List, [], ◌∷◌, ◌++◌, length, take, get_or, ap, ◌∙◌, sym, refl, subst, inl, inr, arith, add-one, append_assoc, append-nil}
-use Rattle.std.specs.Prelude.{Bool, true, false, Result, Ok, Err, IfOk, Some, slice_get}
+use Rattle.std.proofs.Common.{◌≡◌, ◌≢◌, ℕ, zero, suc, ◌+◌, ◌<◌, List, [], ◌∷◌, ◌++◌, length, take, get_or, ap, ◌∙◌, sym, refl, subst, inl, inr, arith, add-one, append_assoc, append-nil}
+use Rattle.std.specs.Prelude.{Result, Ok, Err, IfOk, Some, slice_get, unwrap_or}
+use Rattle.std.specs.List.{AllByRecursion}
 use Rattle.std.proofs.Math.Seq.{take-suc}
 use Rattle.std.proofs.lemmas.List.{length-take-le}
 use Rattle.std.proofs.lemmas.Option.{slice_get-get_or, slice_get_within}
@@ -8,13 +9,17 @@ use Rattle.st_el.specs.declared.definition.Def.{Def}
 use Rattle.st_num.specs.declared.fault.Fault.{Fault as SyntaxFault}
 use Rattle.st_num.specs.declared.fault.Fault.TheVariants as syntax
 use Rattle.st_elab_def.specs.declared.breach.Breach.{Breach}
-use Rattle.st_elab_def.specs.declared.breach.DefFault.{DefFault}
 use Rattle.st_elab_def.specs.declared.elaborated.Elaborated.{Elaborated}
-use Rattle.st_elab_def.specs.Answers.{Answers as Elaborates}
 use Rattle.st_elab_def.specs.Breaches.{IsBreach}
+use Rattle.st_elab_def.specs.Elaboration.{IsElaborated}
 use Rattle.st_elab_def.specs.Erasing.{ErasesTo}
 use Rattle.st_elab_def.proofs.IsBreach.{IsBreach-within}
-use Rattle.st_tool.proofs.breach_places.Law.{breaches-stand}
+use Rattle.st_order.specs.declared.fault.ModeFault.{ModeFault}
+use Rattle.st_order.specs.declared.relation_modes.Modes.{Modes}
+use Rattle.st_order.specs.Modes.{IsModesAnswer}
+use Rattle.st_semantics.specs.Breaches.{IsModeBreach}
+use Rattle.st_tool.proofs.breach_places.Definitions.{DefStands}
+use Rattle.st_tool.proofs.breach_places.Law.{IsBefore, definitions-stand, breaches-stand}
 use Rattle.st_num.specs.declared.memory.NoMemory.{NoMemory}
 use Rattle.st_num.specs.declared.rule.RuleId.{RuleId}
 use Rattle.st_num.specs.declared.span.Span.{Span}
@@ -28,10 +33,10 @@ use Rattle.st_scan.specs.Faults.{FirstFault, of_token, of_utf8}
 use Rattle.st_scan.specs.Tokens.{Tokens}
 use Rattle.st_tool.specs.declared.answer.Answer.{Answer}
 use Rattle.st_tool.specs.declared.status.Status.TheVariants.{Done, Specification}
-use Rattle.st_tool.specs.Checking.{AllTokens, IsSourceFault, TellsFault, some_about_modes, nothing, Prints, SourceGives, broken, accepted, unbuilt, FilesGive, refused, empty, parsed}
+use Rattle.st_tool.specs.Checking.{AllTokens, IsSourceFault, TellsFault, nothing, Prints, SourceGives, broken, unmoded, accepted, FilesGive, refused, empty, parsed}
 use Rattle.st_tool.specs.declared.check.Printed.{Printed}
-use Rattle.st_tool.specs.Commands.{IsUnbuilt}
-use Rattle.st_tool.specs.inner.Printing.{TellsSourceFault, BreachesWithin}
+use Rattle.st_tool.specs.inner.Printing.{TellsSourceFault, BreachesWithin, BeginWithin}
+use Rattle.st_tool.proofs.SourcePlaces.{breach-placed, source-within}
 use Rattle.st_tool.proofs.TokenPlaces.{all_before, place_before}
 use Rattle.st_tool.specs.Texts.{definition_words, no_definition, refused_source_text}
 
@@ -108,30 +113,45 @@ syntax_stands files tokens found syntax.Memory all some answers is = tt
 abbrev pub SaysSource : Printed → List (List ℕ) → List Def → Result Answer NoMemory → Type 0
 SaysSource printed names defs result = IfOk result (λ answer. SourceGives printed names defs answer.status answer.bytes.items)
 
-pub source_accepted : (printed : Printed) (names : List (List ℕ)) (defs : List Def) (found : Result Elaborated DefFault) (e : Elaborated) (count : ℕ) (about : Bool) (result : Result Answer NoMemory)
-    → Elaborates defs found → IfOk found (ErasesTo defs) → found ≡ Ok e → about ≡ some_about_modes defs → about ≡ false → count ≡ length defs → IfOk result (λ answer. answer.status ≡ Done)
+pub source_accepted : (printed : Printed) (names : List (List ℕ)) (defs : List Def) (e : Elaborated) (found : Result Modes ModeFault) (modes : Modes) (count : ℕ) (result : Result Answer NoMemory)
+    → IsElaborated defs e → ErasesTo defs e → IsModesAnswer e.il found → found ≡ Ok modes → count ≡ length defs → IfOk result (λ answer. answer.status ≡ Done)
     → IfOk result (λ answer. (ds : List Def) (x : Elaborated) → count ≡ length ds → x.il ≡ e.il → Prints printed ds x answer.bytes.items) → SaysSource printed names defs result
-source_accepted printed names defs found e count about (Err fault) answers erased is says none counted status bytes = tt
-source_accepted printed names defs found e count about (Ok answer) answers erased is says none counted status bytes =
-    subst (λ s. SourceGives printed names defs s answer.bytes.items) (sym status)
-    (accepted e (subst (Elaborates defs) is answers) (subst (λ r. IfOk r (ErasesTo defs)) is erased) (sym says ∙ none) (bytes defs e counted refl))
+source_accepted printed names defs e found modes count (Err fault) elaborated erased answers is counted status bytes = tt
+source_accepted printed names defs e found modes count (Ok answer) elaborated erased answers is counted status bytes =
+    subst (λ s. SourceGives printed names defs s answer.bytes.items) (sym status) (accepted e elaborated erased (subst (IsModesAnswer e.il) is answers).0 (bytes defs e counted refl))
 
-pub source_unbuilt : (printed : Printed) (names : List (List ℕ)) (defs : List Def) (found : Result Elaborated DefFault) (e : Elaborated) (about : Bool) (result : Result Answer NoMemory)
-    → Elaborates defs found → IfOk found (ErasesTo defs) → found ≡ Ok e → about ≡ some_about_modes defs → about ≡ true → IfOk result (λ answer. IsUnbuilt answer.status answer.bytes.items)
-    → SaysSource printed names defs result
-source_unbuilt printed names defs found e about (Err fault) answers erased is says some tells = tt
-source_unbuilt printed names defs found e about (Ok answer) answers erased is says some (status, bytes) =
-    subst (λ s. SourceGives printed names defs s answer.bytes.items) (sym status)
-    (unbuilt e (subst (Elaborates defs) is answers) (subst (λ r. IfOk r (ErasesTo defs)) is erased) (sym says ∙ some) bytes)
+-- the answer names a file, in which a definition is refused
+abbrev pub RefusesIn : List (List ℕ) → Def → Span → RuleId → Answer → Type 0
+RefusesIn names def at rule answer =
+    (name : List ℕ) × (slice_get names at.file ≡ Some name) × (answer.bytes.items ≡ refused_source_text name at (definition_words def.node) rule)
 
-pub source_broken : (printed : Printed) (names : List (List ℕ)) (defs : List Def) (b : Breach) (def : Def) (words name text : List ℕ) (result : Result Answer NoMemory) → IsBreach defs b
-    → b.at.file < length names → def ≡ get_or defs b.definition def → words ≡ definition_words def.node → name ≡ get_or names b.at.file name → text ≡ name
-    → IfOk result (λ answer. answer.status ≡ Specification) → IfOk result (λ answer. answer.bytes.items ≡ refused_source_text text b.at words b.rule) → SaysSource printed names defs result
-source_broken printed names defs b def words name text (Err fault) breach within is worded named same status bytes = tt
-source_broken printed names defs b def words name text (Ok answer) breach within is worded named same status bytes =
+pub refused_in_file : (names : List (List ℕ)) (def : Def) (at : Span) (rule : RuleId) (words name text : List ℕ) (result : Result Answer NoMemory) → at.file < length names
+    → words ≡ definition_words def.node → name ≡ get_or names at.file name → text ≡ name → IfOk result (λ answer. answer.bytes.items ≡ refused_source_text text at words rule)
+    → IfOk result (RefusesIn names def at rule)
+refused_in_file names def at rule words name text (Err fault) within worded named same bytes = tt
+refused_in_file names def at rule words name text (Ok answer) within worded named same bytes = (
+  name,
+  slice_get-get_or names at.file name within ∙ ap Some (sym named),
+  bytes ∙ ap (λ n. refused_source_text n at words rule) same ∙ ap (λ w. refused_source_text name at w rule) worded,
+)
+
+pub source_broken : (printed : Printed) (names : List (List ℕ)) (defs : List Def) (b : Breach) (def : Def) (result : Result Answer NoMemory) → IsBreach defs b
+    → def ≡ get_or defs b.definition def → IfOk result (λ answer. answer.status ≡ Specification) → IfOk result (RefusesIn names def b.at b.rule) → SaysSource printed names defs result
+source_broken printed names defs b def (Err fault) breach is status bytes = tt
+source_broken printed names defs b def (Ok answer) breach is status (name, named, text) =
     subst (λ s. SourceGives printed names defs s answer.bytes.items) (sym status)
-    (broken b def name breach (slice_get-get_or defs b.definition def (IsBreach-within defs b breach) ∙ ap Some (sym is)) (slice_get-get_or names b.at.file name within ∙ ap Some (sym named))
-    (bytes ∙ ap (λ n. refused_source_text n b.at words b.rule) same ∙ ap (λ w. refused_source_text name b.at w b.rule) worded))
+    (broken b def name breach (slice_get-get_or defs b.definition def (IsBreach-within defs b breach) ∙ ap Some (sym is)) named text)
+
+pub source_unmoded : (printed : Printed) (names : List (List ℕ)) (defs : List Def) (e : Elaborated) (place number d : ℕ) (rule : RuleId) (def : Def) (result : Result Answer NoMemory)
+    → IsElaborated defs e → IsModeBreach e.il place rule → number ≡ get_or e.sources place d → def ≡ get_or defs number def → IfOk result (λ answer. answer.status ≡ Specification)
+    → IfOk result (RefusesIn names def def.at rule) → SaysSource printed names defs result
+source_unmoded printed names defs e place number d rule def (Err fault) elaborated breach source is status bytes = tt
+source_unmoded printed names defs e place number d rule def (Ok answer) elaborated breach source is status (name, named, text) =
+    let placed = breach-placed defs e place rule elaborated breach in
+    let within = source-within defs e place number d elaborated placed source in
+    subst (λ s. SourceGives printed names defs s answer.bytes.items) (sym status)
+    (unmoded e place number rule def name elaborated breach (slice_get-get_or e.sources place d placed ∙ ap Some (sym source)) (slice_get-get_or defs number def within ∙ ap Some (sym is)) named
+    text)
 
 some_file : (files : List (List ℕ)) (tokens : List Token) → AllTokens 0 files tokens → tokens ≢ [] → 0 < length files
 some_file [] tokens all some = absurd (some all)
@@ -144,6 +164,20 @@ breaches_within files names tokens defs all some source named b breach =
     let count : length files ≡ 0 + length files = omega arith in
     let before = all_before (length files) 0 files tokens count all in
     let within : b.at.file < length files = breaches-stand (length files) tokens defs b (some_file files tokens all some) before source.0.1 breach in
+    omega (arith, within, named)
+
+def_begins : (n : ℕ) (defs : List Def) (k : ℕ) (def : Def) → AllByRecursion (DefStands (IsBefore n)) defs → slice_get defs k ≡ Some def → def.at.file < n
+def_begins n [] k def stand is = let none : ⊥ = omega (arith, slice_get_within [] k def is) in absurd none
+def_begins n (d ∷ ds) zero def stand is = subst (λ (x : Def). x.at.file < n) (ap (λ o. unwrap_or o d) is) stand.0.0
+def_begins n (d ∷ ds) (suc k) def stand is = def_begins n ds k def stand.1 is
+
+-- each of the definitions begins in one of the files
+pub begin_within : (files names : List (List ℕ)) (tokens : List Token) (defs : List Def) → AllTokens 0 files tokens → tokens ≢ [] → IsSource tokens defs → length files ≡ length names
+    → BeginWithin (length names) defs
+begin_within files names tokens defs all some source named k def is =
+    let count : length files ≡ 0 + length files = omega arith in
+    let before = all_before (length files) 0 files tokens count all in
+    let within : def.at.file < length files = def_begins (length files) defs k def (definitions-stand (length files) tokens defs (some_file files tokens all some) before source.0.1) is in
     omega (arith, within, named)
 
 -- ---- the answer

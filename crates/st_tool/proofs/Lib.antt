@@ -9,6 +9,9 @@ mod LineVerdicts
 mod Derivations
 mod Verifications
 mod TokenPlaces
+mod SourcePlaces
+mod RulesByName
+mod OrderLines
 mod IsNotation
 mod HasTemplates
 mod Checks

@@ -10,7 +10,7 @@ use Rattle.st_tool.specs.declared.status.Status.TheVariants.{Done, Usage, Specif
 use Rattle.st_tool.specs.declared.transcript.Ending.{Ending}
 use Rattle.st_tool.specs.declared.transcript.Ending.TheVariants.{Stuck, Fuel as OutOfFuel}
 use Rattle.st_tool.specs.Causes.{IsLoadFault, FaultIsTold}
-use Rattle.st_tool.specs.Checking.{FilesGive, IlGives, refused as refused_at, empty, parsed, broken, accepted as accepted_source, unbuilt as unbuilt_source}
+use Rattle.st_tool.specs.Checking.{FilesGive, IlGives, refused as refused_at, empty, parsed, broken, unmoded, accepted as accepted_source}
 use Rattle.st_tool.specs.declared.check.Printed.{Printed}
 use Rattle.st_tool.specs.declared.check.Printed.TheVariants as asked
 use Rattle.st_tool.specs.Commands.{Gives, RunGives, VerifyGives, malformed, judged, unjudged, IsRunText, IsDerivationText, status_of, limit_of}
@@ -64,8 +64,8 @@ files_are_own : (printed : Printed) (names files : List (List ℕ)) (status : St
 files_are_own printed names files status bytes (refused_at name at rule fault named text) = own_specification
 files_are_own printed names files status bytes (empty none text) = own_done
 files_are_own printed names files status bytes (parsed tokens defs all some source (broken b def name breach within file text)) = own_specification
-files_are_own printed names files status bytes (parsed tokens defs all some source (accepted_source e elaborated erased none text)) = own_done
-files_are_own printed names files status bytes (parsed tokens defs all some source (unbuilt_source e elaborated erased about text)) = own_unbuilt Unbuilt refl
+files_are_own printed names files status bytes (parsed tokens defs all some source (unmoded e place number rule def name elaborated breach placed is within text)) = own_specification
+files_are_own printed names files status bytes (parsed tokens defs all some source (accepted_source e elaborated erased kept text)) = own_done
 
 il_is_own : (names files : List (List ℕ)) (status : Status) (bytes : List ℕ) → IlGives names files status bytes → IsOwn status
 il_is_own names files status bytes (inl (small, one, is, text)) = subst IsOwn (sym is) own_done
@@ -89,7 +89,7 @@ gives_own (Verify il_name name) (one ∷ []) status bytes gives = absurd gives
 gives_own (Verify il_name name) (one ∷ two ∷ three ∷ files) status bytes gives = absurd gives
 gives_own (Check names) files status bytes gives = files_are_own asked.Count names files status bytes gives
 gives_own (Groups names) files status bytes gives = files_are_own asked.Groups names files status bytes gives
-gives_own (Order names) files status bytes gives = absurd gives
+gives_own (Order names) files status bytes gives = files_are_own asked.Orders names files status bytes gives
 gives_own (Eval name names) files status bytes gives = absurd gives
 gives_own (Next relation name names) files status bytes gives = absurd gives
 gives_own (Prose names) files status bytes gives = absurd gives

@@ -1,12 +1,6 @@
 -- What a check says of the files of a specification.
-use Rattle.std.specs.Prelude.{◌≡◌, ◌≢◌, ℕ, suc, Bool, true, false, List, [], ◌∷◌, ◌++◌, length, take, Some, slice_get, ⊤, ◌⊎◌}
-use Rattle.std.specs.List.{list_any}
+use Rattle.std.specs.Prelude.{◌≡◌, ◌≢◌, ℕ, suc, List, [], ◌∷◌, ◌++◌, length, take, Some, slice_get, ⊤, ◌⊎◌}
 use Rattle.st_el.specs.declared.definition.Def.{Def}
-use Rattle.st_el.specs.declared.definition.DefNode.{DefNode}
-use Rattle.st_el.specs.declared.definition.DefNode.TheVariants.{Rule, Clause}
-use Rattle.st_el.specs.declared.definition.Prem.{Prem, out-Prem}
-use Rattle.st_el.specs.declared.definition.PremNode.{PremNode, out-PremNode}
-use Rattle.st_el.specs.declared.definition.PremNode.TheOpen.{PremNode-F}
 use Rattle.st_elab_def.specs.Breaches.{IsBreach}
 use Rattle.st_elab_def.specs.Elaboration.{IsElaborated}
 use Rattle.st_elab_def.specs.Erasing.{ErasesTo}
@@ -24,14 +18,16 @@ use Rattle.st_num.specs.declared.token.Token.{Token}
 use Rattle.st_scan.specs.Faults.{FirstFault}
 use Rattle.st_scan.specs.Tokens.{Tokens}
 use Rattle.st_tool.specs.declared.check.Printed.{Printed}
-use Rattle.st_tool.specs.declared.check.Printed.TheVariants.{Count, Language, Groups}
+use Rattle.st_tool.specs.declared.check.Printed.TheVariants.{Count, Language, Groups, Orders}
 use Rattle.st_tool.specs.declared.status.Status.{Status}
 use Rattle.st_tool.specs.declared.status.Status.TheVariants as answer
 use Rattle.st_il.specs.declared.small.Small.{Small}
 use Rattle.st_il.specs.Small.{il_of}
 use Rattle.st_iltext.specs.IlText.{IlText, il_text}
+use Rattle.st_semantics.specs.Breaches.{KeepModes, IsModeBreach}
+use Rattle.st_tool.specs.OrderTexts.{orders_text}
 use Rattle.st_tool.specs.SmallText.{IsTextOf}
-use Rattle.st_tool.specs.Texts.{unbuilt_text, definitions_text, groups_text, definition_words, no_definition, refused_source_text}
+use Rattle.st_tool.specs.Texts.{definitions_text, groups_text, definition_words, no_definition, refused_source_text}
 
 -- the tokens of files one behind another; files are numbered, the first by this number
 abbrev pub AllTokens : ℕ → List (List ℕ) → List Token → Type 0
@@ -67,38 +63,18 @@ IsSourceFault files at rule = IsTokenFault files at rule ⊎ IsSyntaxFault files
 
 -- ---- definitions
 
--- a premise of this top level is `otherwise`
-abbrev pub is_otherwise_at : PremNode-F PremNode Prem → Bool
-is_otherwise_at PremNode-F.Otherwise = true
-is_otherwise_at node = false
-
--- the premise is `otherwise`
-abbrev pub is_otherwise : Prem → Bool
-is_otherwise premise = is_otherwise_at (out-PremNode (out-Prem premise).node)
-
--- The rules on modes are about what is defined: it is a clause of a function, or a rule with
--- `otherwise`.
-abbrev pub is_about_modes : DefNode → Bool
-is_about_modes (Rule relation name conclusion premises) = list_any is_otherwise premises
-is_about_modes (Clause name args result premises) = true
-is_about_modes node = false
-
--- the rules on modes are about one of the definitions
-abbrev pub some_about_modes : List Def → Bool
-some_about_modes defs = list_any (λ (def : Def). is_about_modes def.node) defs
-
 -- The text that is asked for, of definitions without a breach and of what they are elaborated to:
--- how many they are, their internal language, or its groups.
+-- how many they are, their internal language, its groups, or the orders of its rules.
 abbrev pub Prints : Printed → List Def → Elaborated → List ℕ → Type 0
 Prints Count defs e bytes = bytes ≡ definitions_text (length defs)
 Prints Language defs e bytes = bytes ≡ il_text e.il
 Prints Groups defs e bytes =
     (groups : List (List Name)) × AreGroups (Cites e.il) (declared e.il) groups
     × (bytes ≡ groups_text groups)
+Prints Orders defs e bytes = bytes ≡ orders_text e.il
 
 -- What is said of the definitions of a source: the first breach, or what is printed of them. What
--- they are elaborated to is erased to them. The rules on modes are not asked yet: a source that
--- they are about is elaborated, and no more is said of it.
+-- they are elaborated to is erased to them.
 pub data SourceGives (printed : Printed) (names : List (List ℕ)) (defs : List Def)
     : Status → List ℕ → Type 0 where
   -- the first breach, with its place, in the file of this name, and the definition that it is in
@@ -106,14 +82,19 @@ pub data SourceGives (printed : Printed) (names : List (List ℕ)) (defs : List 
       → slice_get defs b.definition ≡ Some def → slice_get names b.at.file ≡ Some name
       → bytes ≡ refused_source_text name b.at (definition_words def.node) b.rule
       → SourceGives printed names defs answer.Specification bytes
-  -- there is none, and the rules on modes are about nothing
+  -- There is none, but a rule on modes is broken in what they are elaborated to: the first
+  -- definition that breaks one, with its place, in the file of this name, and the least that it
+  -- breaks.
+  unmoded : {bytes : List ℕ} (e : Elaborated) (place number : ℕ) (rule : RuleId) (def : Def)
+      (name : List ℕ) → IsElaborated defs e → IsModeBreach e.il place rule
+      → slice_get e.sources place ≡ Some number → slice_get defs number ≡ Some def
+      → slice_get names def.at.file ≡ Some name
+      → bytes ≡ refused_source_text name def.at (definition_words def.node) rule
+      → SourceGives printed names defs answer.Specification bytes
+  -- there is none, and the rules on modes are kept
   accepted : {bytes : List ℕ} (e : Elaborated) → IsElaborated defs e → ErasesTo defs e
-      → some_about_modes defs ≡ false → Prints printed defs e bytes
+      → KeepModes e.il → Prints printed defs e bytes
       → SourceGives printed names defs answer.Done bytes
-  -- there is none, but the rules on modes are about one of the definitions
-  unbuilt : {bytes : List ℕ} (e : Elaborated) → IsElaborated defs e → ErasesTo defs e
-      → some_about_modes defs ≡ true → bytes ≡ unbuilt_text
-      → SourceGives printed names defs answer.Unbuilt bytes
 
 -- ---- files
 
@@ -156,3 +137,7 @@ IlGives names files status bytes =
 -- what is said of files whose groups are asked for: their first fault or breach, or the groups
 abbrev pub GroupsGive : List (List ℕ) → List (List ℕ) → Status → List ℕ → Type 0
 GroupsGive = FilesGive Groups
+
+-- what is said of files whose orders are asked for: their first fault or breach, or the orders
+abbrev pub OrdersGive : List (List ℕ) → List (List ℕ) → Status → List ℕ → Type 0
+OrdersGive = FilesGive Orders

@@ -11,7 +11,7 @@ use Rattle.st_tool.specs.declared.status.Status.{Status}
 use Rattle.st_tool.specs.declared.status.Status.TheVariants as answer
 use Rattle.st_tool.specs.declared.transcript.Ending.{Ending}
 use Rattle.st_tool.specs.declared.transcript.Ending.TheVariants.{Stuck, Fuel}
-use Rattle.st_tool.specs.Checking.{CheckGives, IlGives, GroupsGive}
+use Rattle.st_tool.specs.Checking.{CheckGives, IlGives, GroupsGive, OrdersGive}
 use Rattle.st_tool.specs.Derivation.{IsDerivation}
 use Rattle.st_tool.specs.SmallText.{IsTextOf}
 use Rattle.st_tool.specs.Texts.{transcript_text, unbuilt_text, refused_il_text}
@@ -21,7 +21,7 @@ use Rattle.st_semantics.specs.Transcript.{Term}
 use Rattle.st_tool.specs.Transcript.{atom_term, IsTranscript}
 use Rattle.st_tool.specs.Verification.{AreLines, AreTexts, Verified}
 use Rattle.st_words.specs.declared.command.Command.{Command}
-use Rattle.st_words.specs.declared.command.Command.TheVariants.{Check, Il as IlOf, Groups, Run, Derive, Verify}
+use Rattle.st_words.specs.declared.command.Command.TheVariants.{Check, Il as IlOf, Groups, Order, Run, Derive, Verify}
 use Rattle.st_words.specs.Arranged.{has_options}
 
 -- the steps of a run, where the words do not say how many
@@ -121,6 +121,7 @@ abbrev pub Gives : Command → List (List ℕ) → Status → List ℕ → Type 
 Gives (Check names) files status bytes = CheckGives names files status bytes
 Gives (IlOf names) files status bytes = IlGives names files status bytes
 Gives (Groups names) files status bytes = GroupsGive names files status bytes
+Gives (Order names) files status bytes = OrdersGive names files status bytes
 Gives (Run relation name names fuel depth) (term ∷ file ∷ []) status bytes =
     RunGives IsRunText relation term file status bytes
 Gives (Derive relation name names fuel depth) (term ∷ file ∷ []) status bytes =
@@ -134,6 +135,7 @@ abbrev pub HasBuiltForm : Command → Type 0
 HasBuiltForm (Check files) = Unit {0}
 HasBuiltForm (IlOf files) = Unit {0}
 HasBuiltForm (Groups files) = Unit {0}
+HasBuiltForm (Order files) = Unit {0}
 HasBuiltForm (Run relation term (file ∷ []) fuel depth) = Unit {0}
 HasBuiltForm (Derive relation term (file ∷ []) fuel depth) = Unit {0}
 HasBuiltForm (Verify il derivation) = Unit {0}

@@ -6,3 +6,4 @@ pub mod Starts
 pub mod Nodes
 pub mod Checks
 pub mod Printing
+pub mod Relations

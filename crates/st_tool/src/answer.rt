@@ -77,6 +77,7 @@ fn answer_given(alloc: Global, command: &Command, given: &[Row<u8>]) -> Result<A
         Command::Check(names) => answer_files(alloc, Printed::Count, names.as_slice(), given),
         Command::Il(names) => il_files(alloc, names.as_slice(), given),
         Command::Groups(names) => answer_files(alloc, Printed::Groups, names.as_slice(), given),
+        Command::Order(names) => answer_files(alloc, Printed::Orders, names.as_slice(), given),
         Command::Run(relation, _, _, _, _) => {
             let (term, file) = two_files(given);
             run_file(alloc, relation.as_str(), term, file)
@@ -89,8 +90,7 @@ fn answer_given(alloc: Global, command: &Command, given: &[Row<u8>]) -> Result<A
             let (il, derivation) = two_files(given);
             verify_files(alloc, il, derivation)
         }
-        Command::Order(_)
-        | Command::Eval(_, _)
+        Command::Eval(_, _)
         | Command::Next(_, _, _)
         | Command::Prose(_)
         | Command::Latex(_)
@@ -140,9 +140,12 @@ fn has_built_form(command: &Command) -> bool
 {
     match command {
         Command::Run(_, _, files, _, _) | Command::Derive(_, _, files, _, _) => files.len() == 1,
-        Command::Check(_) | Command::Il(_) | Command::Groups(_) | Command::Verify(_, _) => true,
-        Command::Order(_)
-        | Command::Eval(_, _)
+        Command::Check(_)
+        | Command::Il(_)
+        | Command::Groups(_)
+        | Command::Order(_)
+        | Command::Verify(_, _) => true,
+        Command::Eval(_, _)
         | Command::Next(_, _, _)
         | Command::Prose(_)
         | Command::Latex(_)

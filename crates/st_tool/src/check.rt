@@ -3,27 +3,32 @@
 ghost use Rattle.std.specs.Prelude.{◌≡◌, ◌≢◌, ◌<◌, ◌≤◌, [], ◌++◌, List, length, All, IfOk, IfErr, OnOk};
 ghost use Rattle.st_elab_def.specs.Answers.{HasTemplates};
 ghost use Rattle.st_elab_def.specs.Breaches.{IsBreach};
+ghost use Rattle.st_elab_def.specs.Elaboration.{IsElaborated};
+ghost use Rattle.st_elab_def.specs.Erasing.{ErasesTo};
 ghost use Rattle.st_iltext.specs.IlText.{il_text};
+ghost use Rattle.st_order.specs.Modes.{HasFew, AreModes};
 ghost use Rattle.st_tool.specs.Checking.{AllTokens, TellsFault};
 ghost use Rattle.st_tool.specs.Checking.{nothing, Prints, SourceGives, FilesGive};
 ghost use Rattle.st_elab_def.specs.declared.elaborated.Elaborated.{Elaborated as Elaboration};
 ghost use Rattle.st_el.specs.declared.definition.Def.{Def as Definition};
 ghost use Rattle.st_tool.specs.Commands.{source_limit};
 ghost use Rattle.st_tool.specs.declared.check.Printed.{Printed as Asked};
-ghost use Rattle.st_tool.specs.inner.Printing.{TellsSourceFault, BreachesWithin};
+ghost use Rattle.st_tool.specs.inner.Printing.{TellsSourceFault, BreachesWithin, BeginWithin};
 ghost use Rattle.st_tool.specs.Texts.{definitions_text};
 
 use crate::Status;
-use crate::answer::{Answer, unbuilt};
+use crate::answer::Answer;
 use crate::grouping::groups_printed;
-use crate::modes::some_about_modes;
-use crate::refusal::{NO_DEFINITION, definition_words, refused};
+use crate::modes::without_modes;
+use crate::ordering::orders_printed;
+use crate::refusal::{NO_DEFINITION, refused, refused_in};
 use itoa::Buffer;
 use st_el::Def;
-use st_elab_def::{Breach, DefFault, elaborate};
+use st_elab_def::{Breach, DefFault, Elaborated, elaborate};
 use st_il::Il;
 use st_iltext::print_il;
 use st_num::{Fault, NoMemory, Row, Token};
+use st_order::{Modes, has_few, modes};
 use st_parse::parse;
 use st_scan::{LexFault, scan};
 use st_words::CommandWord;
@@ -61,6 +66,8 @@ pub enum Printed {
     Language,
     /// The groups of its definitions.
     Groups,
+    /// The order in which the premises of each of its rules are run.
+    Orders,
 }
 
 /// The line with so many definitions.
@@ -83,9 +90,17 @@ fn language(alloc: Global, il: &Il) -> Result<Vec<u8>, NoMemory>
     Ok(bytes)
 }
 
-/// The answer where a specification with so many definitions, and this internal language, is
-/// accepted.
-fn accepted(alloc: Global, printed: Printed, definitions: u64, il: &Il) -> Result<Answer, NoMemory>
+/// The answer where a specification with so many definitions, and this internal language with its
+/// modes, is accepted.
+fn accepted(
+    alloc: Global,
+    printed: Printed,
+    definitions: u64,
+    il: &Il,
+    modes: &Modes,
+) -> Result<Answer, NoMemory>
+    requires few { HasFew il.now }
+    requires modes { AreModes il.now modes.now }
     ensures status { IfOk result (λ answer. answer.status ≡ Status.Done) }
     ensures bytes { IfOk result (λ answer. (defs : List Definition) (e : Elaboration)
         → definitions ≡ length defs → e.il ≡ il.now
@@ -95,6 +110,7 @@ fn accepted(alloc: Global, printed: Printed, definitions: u64, il: &Il) -> Resul
         Printed::Count => counted(alloc, definitions)?,
         Printed::Language => language(alloc, il)?,
         Printed::Groups => groups_printed(alloc, il)?,
+        Printed::Orders => orders_printed(alloc, il, modes)?,
     };
     Ok(Answer {
         status: Status::Done,
@@ -136,10 +152,30 @@ fn broken(
         answer.status answer.bytes.items) }
 {
     let def = &defs[breach.definition as usize];
-    let words = definition_words(alloc, &def.node)?;
-    let at = breach.at;
-    let name = names[at.file as usize].as_str();
-    refused(alloc, name, at, words.as_slice(), breach.rule)
+    refused_in(alloc, names, def, breach.at, breach.rule)
+}
+
+/// Asks the rules on modes of what a source is elaborated to.
+fn answer_elaborated(
+    alloc: Global,
+    printed: Printed,
+    names: &[CommandWord],
+    defs: &[Def],
+    elaborated: &Elaborated,
+) -> Result<Answer, NoMemory>
+    requires elaborated { IsElaborated defs.now elaborated.now }
+    requires erased { ErasesTo defs.now elaborated.now }
+    requires begin { BeginWithin (length names.now) defs.now }
+    ensures { IfOk result (λ answer. SourceGives printed names.now defs.now
+        answer.status answer.bytes.items) }
+{
+    if !has_few(&elaborated.il) {
+        return Err(NoMemory);
+    }
+    match modes(alloc, &elaborated.il) {
+        Ok(modes) => accepted(alloc, printed, defs.len() as u64, &elaborated.il, &modes),
+        Err(fault) => without_modes(alloc, names, defs, elaborated, fault),
+    }
 }
 
 /// Elaborates the definitions of a source in the files of these names.
@@ -151,17 +187,12 @@ fn answer_source(
 ) -> Result<Answer, NoMemory>
     requires templates { HasTemplates defs.now }
     requires within { BreachesWithin (length names.now) defs.now }
+    requires begin { BeginWithin (length names.now) defs.now }
     ensures { IfOk result (λ answer. SourceGives printed names.now defs.now
         answer.status answer.bytes.items) }
 {
     match elaborate(alloc, defs) {
-        Ok(elaborated) => {
-            if some_about_modes(defs) {
-                unbuilt(alloc)
-            } else {
-                accepted(alloc, printed, defs.len() as u64, &elaborated.il)
-            }
-        }
+        Ok(elaborated) => answer_elaborated(alloc, printed, names, defs, &elaborated),
         Err(DefFault::Refused(breach)) => broken(alloc, names, defs, breach),
         Err(DefFault::Memory) => Err(NoMemory),
     }
@@ -195,7 +226,11 @@ fn answer_nothing(alloc: Global, printed: Printed) -> Result<Answer, NoMemory>
     let il = Il {
         defs: Row::new(alloc),
     };
-    accepted(alloc, printed, 0, &il)
+    let modes = Modes {
+        marks: Row::new(alloc),
+        orders: Row::new(alloc),
+    };
+    accepted(alloc, printed, 0, &il, &modes)
 }
 
 /// What is said of the files of these names: their first fault or breach, or what is to be printed.

@@ -1,55 +1,61 @@
-//! Which definitions the rules on modes are about.
+//! The answer where what a source is elaborated to breaks a rule on modes.
 
-ghost use Rattle.std.specs.Prelude.{◌≡◌};
-ghost use Rattle.std.specs.List.{list_any};
-ghost use Rattle.st_tool.specs.Checking.{is_otherwise, is_about_modes, some_about_modes};
+ghost use Rattle.std.specs.Prelude.{length, IfOk};
+ghost use Rattle.st_elab_def.specs.Elaboration.{IsElaborated};
+ghost use Rattle.st_semantics.specs.Breaches.{IsModeBreach};
+ghost use Rattle.st_tool.specs.Checking.{SourceGives};
+ghost use Rattle.st_tool.specs.declared.check.Printed.{Printed as Asked};
+ghost use Rattle.st_tool.specs.inner.Printing.{TellsModeFault, BeginWithin};
 
-use st_el::{Def, DefNode, Prem, PremNode};
+use crate::answer::Answer;
+use crate::refusal::refused_in;
+use st_el::Def;
+use st_elab_def::Elaborated;
+use st_num::{NoMemory, RuleId};
+use st_order::ModeFault;
+use st_words::CommandWord;
+use std::alloc::Global;
 
-/// Whether a premise is `otherwise`.
-fn is_otherwise(premise: &Prem) -> bool
-    ensures { result ≡ is_otherwise premise.now }
+/// The answer where the definition of this number in the internal language is the first that
+/// breaks a rule on modes.
+fn unmoded(
+    alloc: Global,
+    names: &[CommandWord],
+    defs: &[Def],
+    elaborated: &Elaborated,
+    place: u32,
+    rule: RuleId,
+) -> Result<Answer, NoMemory>
+    requires elaborated { IsElaborated defs.now elaborated.now }
+    requires begin { BeginWithin (length names.now) defs.now }
+    requires first { IsModeBreach elaborated.now.il place rule }
+    ensures { (asked : Asked) → IfOk result (λ answer. SourceGives asked names.now defs.now
+        answer.status answer.bytes.items) }
 {
-    match premise.node {
-        PremNode::Otherwise => true,
-        PremNode::If(_) | PremNode::Goal(_, _) | PremNode::Each(_, _) => false,
-    }
+    let sources = elaborated.sources.as_slice();
+    let number = sources[place as usize];
+    let def = &defs[number as usize];
+    refused_in(alloc, names, def, def.at, rule)
 }
 
-/// Whether one of the premises is `otherwise`.
-fn has_otherwise(premises: &[Prem]) -> bool
-    ensures { result ≡ list_any is_otherwise premises.now }
+/// The answer where what a source is elaborated to has no modes.
+pub fn without_modes(
+    alloc: Global,
+    names: &[CommandWord],
+    defs: &[Def],
+    elaborated: &Elaborated,
+    fault: ModeFault,
+) -> Result<Answer, NoMemory>
+    requires elaborated { IsElaborated defs.now elaborated.now }
+    requires begin { BeginWithin (length names.now) defs.now }
+    requires fault { TellsModeFault elaborated.now.il fault }
+    ensures { (asked : Asked) → IfOk result (λ answer. SourceGives asked names.now defs.now
+        answer.status answer.bytes.items) }
 {
-    for premise in premises {
-        if is_otherwise(premise) {
-            return true;
+    match fault {
+        ModeFault::Refused { definition, rule } => {
+            unmoded(alloc, names, defs, elaborated, definition, rule)
         }
+        ModeFault::Memory => Err(NoMemory),
     }
-    false
-}
-
-/// Whether the rules on modes are about what is defined.
-fn is_about_modes(node: &DefNode) -> bool
-    ensures { result ≡ is_about_modes node.now }
-{
-    match node {
-        DefNode::Rule { premises, .. } => has_otherwise(premises.as_slice()),
-        DefNode::Clause { .. } => true,
-        DefNode::Syntax { .. }
-        | DefNode::Var { .. }
-        | DefNode::Relation { .. }
-        | DefNode::Fun { .. } => false,
-    }
-}
-
-/// Whether the rules on modes are about one of the definitions.
-pub fn some_about_modes(defs: &[Def]) -> bool
-    ensures { result ≡ some_about_modes defs.now }
-{
-    for def in defs {
-        if is_about_modes(&def.node) {
-            return true;
-        }
-    }
-    false
 }

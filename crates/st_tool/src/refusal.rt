@@ -1,13 +1,14 @@
 //! The refusal of a specification: its place, the definition and the rule.
 
-ghost use Rattle.std.specs.Prelude.{◌≡◌, ◌++◌, codes, IfOk, OnOk};
+ghost use Rattle.std.specs.Prelude.{◌≡◌, ◌<◌, ◌++◌, ℕ, List, Some, length, slice_get, codes, IfOk, OnOk};
 ghost use Rattle.st_tool.specs.Texts.{rule_id_word, fragment_words, part_words, definition_words, refused_source_text};
 
 use crate::Status;
 use crate::answer::Answer;
 use itoa::Buffer;
-use st_el::DefNode;
+use st_el::{Def, DefNode};
 use st_num::{Name, NoMemory, RuleId, Span};
+use st_words::CommandWord;
 use std::alloc::Global;
 
 /// What stands in place of a definition where none is named.
@@ -62,7 +63,7 @@ fn push_part(out: &mut Vec<u8>, name: &Name) -> Result<(), NoMemory>
 }
 
 /// Appends the part of a rule's name behind that of its relation.
-fn push_rule_part(out: &mut Vec<u8>, name: &Name) -> Result<(), NoMemory>
+pub fn push_rule_part(out: &mut Vec<u8>, name: &Name) -> Result<(), NoMemory>
     ensures { OnOk result (out.new.items ≡ out.old.items ++ part_words name.now) }
 {
     if name.is_empty() {
@@ -139,4 +140,24 @@ pub fn refused(
         status: Status::Specification,
         bytes,
     })
+}
+
+/// The answer where this definition breaks a rule at this place, in a file of these names.
+pub fn refused_in(
+    alloc: Global,
+    names: &[CommandWord],
+    def: &Def,
+    at: Span,
+    rule: RuleId,
+) -> Result<Answer, NoMemory>
+    requires { at.file < length names.now }
+    ensures status { IfOk result (λ answer. answer.status ≡ Status.Specification) }
+    ensures bytes { IfOk result (λ answer. (name : List ℕ)
+        × (slice_get names.now at.file ≡ Some name)
+        × (answer.bytes.items
+        ≡ refused_source_text name at (definition_words def.now.node) rule)) }
+{
+    let words = definition_words(alloc, &def.node)?;
+    let name = names[at.file as usize].as_str();
+    refused(alloc, name, at, words.as_slice(), rule)
 }

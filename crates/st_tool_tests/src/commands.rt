@@ -55,7 +55,7 @@ fn expect(
     Ok(())
 }
 
-const COMMANDS: [Case; 39] = [
+const COMMANDS: [Case; 43] = [
     ("run T red light", Status::Done, LIGHT_RUN),
     ("run T red_line light", Status::Done, LIGHT_RUN),
     (
@@ -75,6 +75,10 @@ const COMMANDS: [Case; 39] = [
     ("run T red light coin", Status::Unbuilt, "unbuilt\n"),
     ("run T red light --fuel 1000", Status::Unbuilt, "unbuilt\n"),
     ("groups light", Status::Done, "color\nT\n"),
+    ("order light", Status::Done, "T directed\n  T/a:\n  T/b:\n"),
+    ("order empty", Status::Done, ""),
+    ("order red", Status::Specification, "refused red:1:1 - S1\n"),
+    ("next T red light", Status::Unbuilt, "unbuilt\n"),
     ("run T red", Status::Usage, "usage\n"),
     ("run T -red light", Status::Usage, "usage\n"),
     ("frob", Status::Usage, "usage\n"),

@@ -9,6 +9,8 @@ mod commands;
 #[cfg(test)]
 mod files;
 #[cfg(test)]
+mod orders;
+#[cfg(test)]
 mod refusals;
 #[cfg(test)]
 mod small;

@@ -15,7 +15,11 @@ use std::test::Fail;
 type Row = (&'static str, &'static str);
 
 /// What a command over these files prints.
-fn printed(alloc: Global, words: &str, mut files: MemFiles) -> Result<Vec<u8>, NoMemory> {
+pub(crate) fn printed(
+    alloc: Global,
+    words: &str,
+    mut files: MemFiles,
+) -> Result<Vec<u8>, NoMemory> {
     let words = words_of(alloc, words)?;
     let mut out = MemSink::new(alloc, 1000)?;
     let _status = serve(alloc, &words, &mut files, &mut out);
@@ -396,16 +400,145 @@ const EXPRESSIONS: [Row; 14] = [
     ),
 ];
 
-/// Without a breach: what the rules on modes are about, and what they are not.
+/// The rules on modes of rules: M1, M2 and M5.
+const MODES_OF_RULES: [Row; 11] = [
+    (
+        "relation P: nat\nrule P/a: 1\n  -- otherwise\n",
+        "refused x:2:1 rule P/a M1\n",
+    ),
+    (
+        "var n : nat\nrelation P: nat -> nat\nrule P/z: n -> 1\n  -- otherwise\n",
+        "refused x:3:1 rule P/z M1\n",
+    ),
+    (
+        "relation P: nat ~> nat\nrule P/a: 1 ~> 1\n  -- P: 1 ~> 1\n  -- otherwise\n",
+        "refused x:2:1 rule P/a M2\n",
+    ),
+    // by another rule of it, and through another relation
+    (
+        "relation P: nat ~> nat\nrule P/a: 1 ~> 1\n  -- otherwise\n\
+            rule P/b: 2 ~> 2\n  -- P: 1 ~> 1\n",
+        "refused x:2:1 rule P/a M2\n",
+    ),
+    (
+        "relation P: nat ~> nat\nrelation Q: nat ~> nat\nrule Q/a: 1 ~> 1\n  -- P: 1 ~> 1\n\
+            rule P/a: 1 ~> 1\n  -- Q: 1 ~> 1\n  -- otherwise\n",
+        "refused x:5:1 rule P/a M2\n",
+    ),
+    // the least rule that is broken
+    (
+        "relation P: nat\nrule P/a: 1\n  -- P: 1\n  -- otherwise\n",
+        "refused x:2:1 rule P/a M1\n",
+    ),
+    (
+        "relation Q: nat ~> nat\nrelation P: nat ~> nat\nrule P/a: 1 ~> 1\n  -- Q: 1 ~> 1\n\
+            rule P/b: 1 ~> 2\n  -- otherwise\n",
+        "refused x:3:1 rule P/a M5\n",
+    ),
+    (
+        "relation Q: nat ~> nat\nrelation P: nat ~> nat\nrule P/a: 1 ~> 1\n\
+            \x20 -- (Q: 1 ~> 1)^2\nrule P/c: 1 ~> 3\nrule P/b: 1 ~> 2\n  -- otherwise\n",
+        "refused x:3:1 rule P/a M5\n",
+    ),
+    // behind the `otherwise`, beside it, and before that of another relation
+    (
+        "relation Q: nat ~> nat\nrelation P: nat ~> nat\nrule P/a: 1 ~> 1\n  -- otherwise\n\
+            rule P/b: 1 ~> 2\n  -- Q: 1 ~> 1\n",
+        "accepted 4 definitions\n",
+    ),
+    (
+        "relation Q: nat ~> nat\nrelation P: nat ~> nat\nrule P/a: 1 ~> 1\n  -- Q: 1 ~> 1\n\
+            \x20 -- otherwise\n",
+        "accepted 3 definitions\n",
+    ),
+    (
+        "relation Q: nat ~> nat\nrelation P: nat ~> nat\nrule P/a: 1 ~> 1\n  -- Q: 1 ~> 1\n\
+            rule Q/a: 1 ~> 2\n  -- otherwise\n",
+        "accepted 4 definitions\n",
+    ),
+];
+
+/// The rules on modes of clauses: M3, M4, M6 and M7.
+const MODES_OF_CLAUSES: [Row; 15] = [
+    (
+        "var n : nat\ndef $f(nat) : nat\ndef $f(n) = n\n  -- if n_1 = n_2\n",
+        "refused x:3:1 def $f M3\n",
+    ),
+    // premises stand in the order in which they are run
+    (
+        "var n : nat\ndef $f(nat) : nat\ndef $f(n) = n_2\n  -- if n_2 = $(n_1 + 1)\n\
+            \x20 -- if n_1 = n\n",
+        "refused x:3:1 def $f M3\n",
+    ),
+    (
+        "var n : nat\ndef $f(nat) : nat\ndef $f(n) = n_2\n  -- if n_1 = n\n\
+            \x20 -- if n_2 = $(n_1 + 1)\n",
+        "accepted 3 definitions\n",
+    ),
+    (
+        "var n : nat\ndef $f(nat) : nat\ndef $f($(n + 1)) = n\n",
+        "refused x:3:1 def $f M4\n",
+    ),
+    (
+        "var a : nat\nvar b : nat\ndef $f(nat*) : nat\ndef $f(a* b*) = 0\n",
+        "refused x:4:1 def $f M4\n",
+    ),
+    (
+        "var a : nat\ndef $f(nat*) : nat\ndef $f(a a_1*) = a\n",
+        "accepted 3 definitions\n",
+    ),
+    // a variable that is not iterated, and a list in the pattern of an equation
+    (
+        "var a : nat\nvar b : nat\ndef $f((nat, nat)*) : nat\ndef $f((a, b)*) = b\n",
+        "refused x:4:1 def $f M4\n",
+    ),
+    (
+        "var a : nat\ndef $f(nat*) : nat\ndef $f(a*) = 0\n  -- if a_1* a_2* = a*\n",
+        "refused x:3:1 def $f M4\n",
+    ),
+    (
+        "var n : nat\ndef $f(nat) : nat\ndef $f(n) = n_1\n",
+        "refused x:3:1 def $f M6\n",
+    ),
+    (
+        "var n : nat\ndef $f(nat) : nat\ndef $f(n) = n_1\n  -- if n_1 = n\n",
+        "accepted 3 definitions\n",
+    ),
+    (
+        "relation P: nat ~> nat\ndef $f(nat) : nat\ndef $f(1) = 1\n  -- P: 1 ~> 1\n",
+        "refused x:3:1 def $f M7\n",
+    ),
+    // the least rule that is broken, and the first definition that breaks one
+    (
+        "var n : nat\ndef $f(nat) : nat\ndef $f($(n + 1)) = n_1\n",
+        "refused x:3:1 def $f M4\n",
+    ),
+    (
+        "var n : nat\ndef $f(nat) : nat\ndef $f(n) = n_1\ndef $f($(n + 1)) = n\n",
+        "refused x:3:1 def $f M6\n",
+    ),
+    // behind all rules on definitions, and counted without the later fragments of a syntax
+    (
+        "var n : nat\ndef $f(nat) : nat\ndef $f(n) = n_1\ndef $f(true) = n\n",
+        "refused x:4:8 def $f Y1\n",
+    ),
+    (
+        "syntax a/x = | A | ...\nsyntax a/y = ... | B\nvar n : nat\ndef $f(nat) : nat\n\
+            def $f(n) = n_1\n",
+        "refused x:5:1 def $f M6\n",
+    ),
+];
+
+/// Without a breach.
 const ACCEPTED: [Row; 6] = [
     (
         "var n : nat\nrelation P: nat ~> nat\nrule P/z: n ~> 1\n  -- if $(6 / n) = 3\n\
             rule P/o: n ~> 2\n  -- otherwise\n",
-        "unbuilt\n",
+        "accepted 4 definitions\n",
     ),
     (
         "var n : nat\ndef $f(nat) : nat\ndef $f(n) = n\n",
-        "unbuilt\n",
+        "accepted 3 definitions\n",
     ),
     (
         "var n : nat\ndef $f(nat) : nat\ndef $f(n) = true\n",
@@ -455,12 +588,22 @@ fn an_expression_that_breaks_a_rule(rt: HostRuntime) -> Result<(), Fail> {
 }
 
 #[test]
+fn a_rule_that_breaks_a_rule_on_modes(rt: HostRuntime) -> Result<(), Fail> {
+    expect(&rt, rt.alloc(), &MODES_OF_RULES)
+}
+
+#[test]
+fn a_clause_that_breaks_a_rule_on_modes(rt: HostRuntime) -> Result<(), Fail> {
+    expect(&rt, rt.alloc(), &MODES_OF_CLAUSES)
+}
+
+#[test]
 fn definitions_that_break_none(rt: HostRuntime) -> Result<(), Fail> {
     expect(&rt, rt.alloc(), &ACCEPTED)
 }
 
 /// The file `x`, the file `y`, and what is printed of both.
-const TWO_FILES: [(&str, &str, &str); 3] = [
+const TWO_FILES: [(&str, &str, &str); 4] = [
     (
         "relation T: nat ~> nat\n",
         "rule T/a: 1 ~> true\n",
@@ -475,6 +618,11 @@ const TWO_FILES: [(&str, &str, &str); 3] = [
         "rule T/a: true ~> 1\n",
         "relation T: nat ~> nat\n",
         "refused x:1:11 rule T/a Y1\n",
+    ),
+    (
+        "var n : nat\ndef $f(nat) : nat\n",
+        "def $f(n) = n_1\n",
+        "refused y:1:1 def $f M6\n",
     ),
 ];
 

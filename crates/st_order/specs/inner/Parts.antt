@@ -8,7 +8,7 @@ use Rattle.st_il.specs.declared.expression.ListItem.{ListItem, fold-ListItem}
 use Rattle.st_il.specs.declared.expression.PathSeg.{PathSeg, fold-PathSeg}
 use Rattle.st_semantics.specs.Names.{Name, flattened}
 use Rattle.st_semantics.specs.Operands.{item_at, segment_at}
-use Rattle.st_semantics.specs.Variables.{Counted, counted_at, vars_at}
+use Rattle.st_semantics.specs.Variables.{Counted, counted_at, vars_at, called_at}
 use Rattle.st_semantics.specs.Patterns.{Bound, BoundCount, bound_at, bound_count_at}
 
 -- the variables of the count of an iteration, and its index
@@ -27,6 +27,26 @@ item_vars =
 abbrev pub segment_vars : PathSeg → List (List Name)
 segment_vars =
     fold-PathSeg (List Name) Counted (List Name) (List (List Name)) vars_at counted_at item_at
+    segment_at
+
+-- ---- functions
+
+-- the functions in the count of an iteration, and its index
+abbrev pub called_count : Iteration → Counted
+called_count =
+    fold-Iteration (List Name) Counted (List Name) (List (List Name)) called_at counted_at item_at
+    segment_at
+
+-- the functions in a part of a list
+abbrev pub called_item : ListItem → List Name
+called_item =
+    fold-ListItem (List Name) Counted (List Name) (List (List Name)) called_at counted_at item_at
+    segment_at
+
+-- the functions in each expression in a step of a path
+abbrev pub called_segment : PathSeg → List (List Name)
+called_segment =
+    fold-PathSeg (List Name) Counted (List Name) (List (List Name)) called_at counted_at item_at
     segment_at
 
 -- ---- what patterns bind

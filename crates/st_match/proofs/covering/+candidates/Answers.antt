@@ -1,6 +1,6 @@
-use Rattle.std.proofs.Common.{◌≡◌, ◌+◌, refl, sym, ◌∙◌, ap, subst, List, ◌∷◌, length, drop, take, get_or, Some, None, arith, rules}
+use Rattle.std.proofs.Common.{◌+◌, refl, sym, ◌∙◌, ap, subst, ◌∷◌, length, drop, take, get_or, Some, arith, rules}
 use Rattle.std.proofs.lemmas.List.{take_rest, drop_more, length-map}
-use Rattle.st_il.specs.declared.expression.IlExp.{IlExp, out-IlExp}
+use Rattle.st_il.specs.declared.expression.IlExp.{out-IlExp}
 use Rattle.st_il.specs.declared.expression.IlExp.TheVariants as exp
 use Rattle.st_il.specs.declared.expression.Iteration.TheVariants as iteration
 use Rattle.st_il.specs.declared.expression.ListItem.TheVariants as item
@@ -14,18 +14,18 @@ use Rattle.st_match.specs.inner.Rows.{product}
 use Rattle.st_match.proofs.AreCandidates.{names-differ, candidates-Var, candidates-Up, candidates-Case, candidates-Case-other, candidates-Case-none, candidates-Fields, candidates-Fields-none, candidates-Tuple, candidates-Tuple-none, candidates-Present, candidates-Present-absent, candidates-Present-none, candidates-List, candidates-List-none, candidates-Cat, candidates-Cat-none, all_unequal, all_step, all_done, cuts_step, cuts_end, cut_of, count_by}
 use Rattle.st_match.proofs.AllColumnsCover.{iteration_candidates}
 use Rattle.st_match.proofs.AreRows.{AreRowsOf-option, option_rows-none, AreRows-none, RowsLead-found, RowsLead-none}
-use Rattle.st_match.proofs.Places.{PartLeads-step, ElementLeads-step, ElementLeads-next, follow-nothing, follow-place, CutLeads-next, CutsLead-begin, CutsLead-step, CutsLead-end, PartLeads-cuts, items_step}
+use Rattle.st_match.proofs.Positions.{PartLeads-step, ElementLeads-step, ElementLeads-next, follow-nothing, follow-position, CutLeads-next, CutsLead-begin, CutsLead-step, CutsLead-end, PartLeads-cuts, items_step}
 use Rattle.st_match.proofs.covering.+candidates.Goals as goal
 
-pub after_element-loop-place-preserved : goal.after_element-loop-place-preserved
-after_element-loop-place-preserved t c =
-    ElementLeads-step c.args.pattern.now c.args.values.now c.args.places.now c.loop-place.after c.in_ok-more.more c.in_ok-after.after c.loop-place.place-index c.place-item.result c.loop-place-test.true
-    c.place-item.is c.in_ok-after.ensures c.loop-place.invariant c.in_ok-more.ensures
+pub after_element-loop-position-preserved : goal.after_element-loop-position-preserved
+after_element-loop-position-preserved t c =
+    ElementLeads-step c.args.pattern.now c.args.values.now c.args.positions.now c.loop-position.after c.in_ok-more.more c.in_ok-after.after c.loop-position.position-index c.position-item.result c.loop-position-test.true
+    c.position-item.is c.in_ok-after.ensures c.loop-position.invariant c.in_ok-more.ensures
 
-pub after_list-loop-place-preserved : goal.after_list-loop-place-preserved
-after_list-loop-place-preserved t c =
-    PartLeads-step (item.All c.args.pattern.now) c.args.rest.now c.args.values.now c.args.places.now c.loop-place.after c.in_ok-more.more c.in_ok-after.after c.loop-place.place-index c.place-item.result c.loop-place-test.true
-    c.place-item.is c.in_ok-after.ensures c.loop-place.invariant c.in_ok-more.ensures
+pub after_list-loop-position-preserved : goal.after_list-loop-position-preserved
+after_list-loop-position-preserved t c =
+    PartLeads-step (item.All c.args.pattern.now) c.args.rest.now c.args.values.now c.args.positions.now c.loop-position.after c.in_ok-more.more c.in_ok-after.after c.loop-position.position-index c.position-item.result c.loop-position-test.true
+    c.position-item.is c.in_ok-after.ensures c.loop-position.invariant c.in_ok-more.ensures
 
 pub all_candidates-loop-i-preserved : goal.all_candidates-loop-i-preserved
 all_candidates-loop-i-preserved t c =
@@ -130,12 +130,12 @@ field_candidates-returns-then-parts-fields t c =
 
 pub item_candidates-loop-i-preserved : goal.item_candidates-loop-i-preserved
 item_candidates-loop-i-preserved t c =
-    items_step c.args.items.now c.args.values.now c.args.envs.now c.loop-i.i c.index-items-i.result _ c.loop-i.places c.as_slice.result.now c.in_ok-places-2.places c.loop-i-test.true
-    c.index-items-i.is (take_rest c.args.items.now (c.loop-i.i + 1)) c.as_slice.ensures c.in_ok-places-2.ensures c.loop-i.invariant
+    items_step c.args.items.now c.args.values.now c.args.envs.now c.loop-i.i c.index-items-i.result _ c.loop-i.positions c.as_slice.result.now c.in_ok-positions-2.positions c.loop-i-test.true
+    c.index-items-i.is (take_rest c.args.items.now (c.loop-i.i + 1)) c.as_slice.ensures c.in_ok-positions-2.ensures c.loop-i.invariant
 
-pub later_places-returns : goal.later_places-returns
-later_places-returns t c =
-    PartLeads-cuts c.args.pattern.now c.args.values.now c.args.rest.now c.args.place.now c.in_ok-after.after c.left_of-left.result.now c.ends_before-ends.result.first c.ends_before-ends.result.end
+pub later_positions-returns : goal.later_positions-returns
+later_positions-returns t c =
+    PartLeads-cuts c.args.pattern.now c.args.values.now c.args.rest.now c.args.position.now c.in_ok-after.after c.left_of-left.result.now c.ends_before-ends.result.first c.ends_before-ends.result.end
     c.left_of-left.ensures c.ends_before-ends.ensures c.in_ok-after.ensures
 
 pub list_candidates-returns-in_default : goal.list_candidates-returns-in_default
@@ -158,15 +158,15 @@ longer_rows-returns t c =
 pub longer_rows-returns-then-is_empty : goal.longer_rows-returns-then-is_empty
 longer_rows-returns-then-is_empty t c = RowsLead-none c.args.body.now c.args.value.now c.args.rows c.args.rows (c.if-is_empty.ensures.0 (search rules))
 
-pub next_place-returns : goal.next_place-returns
-next_place-returns t c =
-    ElementLeads-next c.args.pattern.now c.args.values.now c.args.place.now c.in_ok-after.after c.index-values-taken.result c.as_slice.result.now c.in_ok-envs.envs (omega arith) c.index-values-taken.is c.as_slice.ensures
-    c.in_ok-envs.ensures (follow-place c.args.values.now c.in_ok-after.after (c.args.place.now.taken + 1) c.in_ok-envs.envs c.in_ok-after.ensures)
+pub next_position-returns : goal.next_position-returns
+next_position-returns t c =
+    ElementLeads-next c.args.pattern.now c.args.values.now c.args.position.now c.in_ok-after.after c.index-values-taken.result c.as_slice.result.now c.in_ok-envs.envs (omega arith) c.index-values-taken.is c.as_slice.ensures
+    c.in_ok-envs.ensures (follow-position c.args.values.now c.in_ok-after.after (c.args.position.now.taken + 1) c.in_ok-envs.envs c.in_ok-after.ensures)
 
-pub next_place-returns-then-is_empty : goal.next_place-returns-then-is_empty
-next_place-returns-then-is_empty t c =
-    ElementLeads-next c.args.pattern.now c.args.values.now c.args.place.now c.new-then-is_empty.result c.index-values-taken.result c.as_slice.result.now c.in_ok-envs.envs (omega arith) c.index-values-taken.is c.as_slice.ensures
-    c.in_ok-envs.ensures (follow-nothing c.args.values.now c.new-then-is_empty.result (c.args.place.now.taken + 1) c.in_ok-envs.envs (c.if-is_empty.ensures.0 (search rules)))
+pub next_position-returns-then-is_empty : goal.next_position-returns-then-is_empty
+next_position-returns-then-is_empty t c =
+    ElementLeads-next c.args.pattern.now c.args.values.now c.args.position.now c.new-then-is_empty.result c.index-values-taken.result c.as_slice.result.now c.in_ok-envs.envs (omega arith) c.index-values-taken.is c.as_slice.ensures
+    c.in_ok-envs.ensures (follow-nothing c.args.values.now c.new-then-is_empty.result (c.args.position.now.taken + 1) c.in_ok-envs.envs (c.if-is_empty.ensures.0 (search rules)))
 
 pub option_candidates-returns-in-None : goal.option_candidates-returns-in-None
 option_candidates-returns-in-None t c =
@@ -186,29 +186,29 @@ option_candidates-returns-in_ok-found-in-Some t c =
 pub option_rows-returns-in_ok-rows-in-None : goal.option_rows-returns-in_ok-rows-in-None
 option_rows-returns-in_ok-rows-in-None t c = option_rows-none c.args.body.now c.args.option.now c.in_ok-rows-in-None.rows c.in-None.is c.in_ok-rows-in-None.ensures
 
-pub place_behind-returns : goal.place_behind-returns
-place_behind-returns t c =
-    CutLeads-next c.args.pattern.now c.args.values.now c.args.count c.args.place.now c.in_ok-after.after (take c.args.count c.left_of-left.result.now) c.as_slice.result.now c.in_ok-envs.envs
+pub position_behind-returns : goal.position_behind-returns
+position_behind-returns t c =
+    CutLeads-next c.args.pattern.now c.args.values.now c.args.count c.args.position.now c.in_ok-after.after (take c.args.count c.left_of-left.result.now) c.as_slice.result.now c.in_ok-envs.envs
     (ap (take c.args.count) c.left_of-left.ensures) c.as_slice.ensures c.in_ok-envs.ensures
-    (follow-place c.args.values.now c.in_ok-after.after (c.args.place.now.taken + c.args.count) c.in_ok-envs.envs c.in_ok-after.ensures)
+    (follow-position c.args.values.now c.in_ok-after.after (c.args.position.now.taken + c.args.count) c.in_ok-envs.envs c.in_ok-after.ensures)
 
-pub place_behind-returns-then-is_empty : goal.place_behind-returns-then-is_empty
-place_behind-returns-then-is_empty t c =
-    CutLeads-next c.args.pattern.now c.args.values.now c.args.count c.args.place.now c.new.result (take c.args.count c.left_of-left.result.now) c.as_slice.result.now c.in_ok-envs.envs
+pub position_behind-returns-then-is_empty : goal.position_behind-returns-then-is_empty
+position_behind-returns-then-is_empty t c =
+    CutLeads-next c.args.pattern.now c.args.values.now c.args.count c.args.position.now c.new.result (take c.args.count c.left_of-left.result.now) c.as_slice.result.now c.in_ok-envs.envs
     (ap (take c.args.count) c.left_of-left.ensures) c.as_slice.ensures c.in_ok-envs.ensures
-    (follow-nothing c.args.values.now c.new.result (c.args.place.now.taken + c.args.count) c.in_ok-envs.envs (c.if-is_empty.ensures.0 (search rules)))
+    (follow-nothing c.args.values.now c.new.result (c.args.position.now.taken + c.args.count) c.in_ok-envs.envs (c.if-is_empty.ensures.0 (search rules)))
 
-pub places_between-loop-count-init : goal.places_between-loop-count-init
-places_between-loop-count-init t c = CutsLead-begin c.args.pattern.now c.args.values.now c.args.ends.first c.args.place.now c.new-after.result
+pub positions_between-loop-count-init : goal.positions_between-loop-count-init
+positions_between-loop-count-init t c = CutsLead-begin c.args.pattern.now c.args.values.now c.args.ends.first c.args.position.now c.new-after.result
 
-pub places_between-loop-count-preserved : goal.places_between-loop-count-preserved
-places_between-loop-count-preserved t c =
-    CutsLead-step c.args.pattern.now c.args.values.now c.args.place.now c.loop-count.after c.in_ok-more.more c.in_ok-after.after c.args.ends.first c.loop-count.count c.in_ok-after.ensures
+pub positions_between-loop-count-preserved : goal.positions_between-loop-count-preserved
+positions_between-loop-count-preserved t c =
+    CutsLead-step c.args.pattern.now c.args.values.now c.args.position.now c.loop-count.after c.in_ok-more.more c.in_ok-after.after c.args.ends.first c.loop-count.count c.in_ok-after.ensures
     c.loop-count.invariant c.in_ok-more.ensures
 
-pub places_between-returns : goal.places_between-returns
-places_between-returns t c =
-    CutsLead-end c.args.pattern.now c.args.values.now c.args.place.now c.loop-count.after c.args.ends.first c.loop-count.count c.args.ends.end c.loop-count-test.false c.loop-count.invariant
+pub positions_between-returns : goal.positions_between-returns
+positions_between-returns t c =
+    CutsLead-end c.args.pattern.now c.args.values.now c.args.position.now c.loop-count.after c.args.ends.first c.loop-count.count c.args.ends.end c.loop-count-test.false c.loop-count.invariant
 
 pub record_candidates-returns-in_default : goal.record_candidates-returns-in_default
 record_candidates-returns-in_default t c = record {

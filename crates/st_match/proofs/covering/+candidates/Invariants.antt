@@ -1,10 +1,10 @@
-use Rattle.std.proofs.Common.{ℕ, ◌<◌, ◌≤◌, List, take, drop}
+use Rattle.std.proofs.Common.{ℕ, ◌<◌, List, take, drop}
 use Rattle.st_il.specs.declared.expression.ListItem.TheVariants as item
 use Rattle.st_il.specs.declared.value.Env.{Env}
 use Rattle.st_match.specs.inner.Fitting.{field_values}
 use Rattle.st_match.specs.inner.Covering.{AreCandidatesOfAll, AreCandidatesOfItems, AreCandidatesOfCut, IfCat}
 use Rattle.st_match.specs.inner.Rows.{AreRows}
-use Rattle.st_match.specs.inner.Places.{FollowAll, PartLeads, ElementLeads, CutsLead}
+use Rattle.st_match.specs.inner.Positions.{FollowAll, PartLeads, ElementLeads, CutsLead}
 use Rattle.st_match.proofs.covering.+candidates.Given as goal
 
 -- what covers the patterns that are left covers all
@@ -14,18 +14,18 @@ invariant-all_candidates-loop-i l = (after : List Env) → AreCandidatesOfAll (d
 abbrev pub invariant-field_candidates-loop-i : goal.invariant-field_candidates-loop-i
 invariant-field_candidates-loop-i l = (after : List Env) → AreCandidatesOfAll (drop l.i l.parts) (field_values (drop l.i l.fields)) l.found after → AreCandidatesOfAll l.parts (field_values l.fields) l.envs after
 
--- what follows the places under the parts that are left covers the whole list
+-- what follows the positions under the parts that are left covers the whole list
 abbrev pub invariant-item_candidates-loop-i : goal.invariant-item_candidates-loop-i
-invariant-item_candidates-loop-i l = (found : List Env) → FollowAll (drop l.i l.items) l.values found l.places → AreCandidatesOfItems l.items l.values l.envs found
+invariant-item_candidates-loop-i l = (found : List Env) → FollowAll (drop l.i l.items) l.values found l.positions → AreCandidatesOfItems l.items l.values l.envs found
 
-abbrev pub invariant-after_element-loop-place : goal.invariant-after_element-loop-place
-invariant-after_element-loop-place l = ElementLeads l.pattern l.values (take l.place-index l.places) l.after
+abbrev pub invariant-after_element-loop-position : goal.invariant-after_element-loop-position
+invariant-after_element-loop-position l = ElementLeads l.pattern l.values (take l.position-index l.positions) l.after
 
-abbrev pub invariant-after_list-loop-place : goal.invariant-after_list-loop-place
-invariant-after_list-loop-place l = PartLeads (item.All l.pattern) l.rest l.values (take l.place-index l.places) l.after
+abbrev pub invariant-after_list-loop-position : goal.invariant-after_list-loop-position
+invariant-after_list-loop-position l = PartLeads (item.All l.pattern) l.rest l.values (take l.position-index l.positions) l.after
 
-abbrev pub invariant-places_between-loop-count : goal.invariant-places_between-loop-count
-invariant-places_between-loop-count l = CutsLead l.pattern l.values l.fn.ends.first l.count l.place l.after
+abbrev pub invariant-positions_between-loop-count : goal.invariant-positions_between-loop-count
+invariant-positions_between-loop-count l = CutsLead l.pattern l.values l.fn.ends.first l.count l.position l.after
 
 abbrev pub invariant-cut_candidates-loop-count : goal.invariant-cut_candidates-loop-count
 invariant-cut_candidates-loop-count l = IfCat l.pattern (λ left right. (k : ℕ) → k < l.count → AreCandidatesOfCut left right l.values k l.envs l.found)

@@ -1,8 +1,8 @@
 use Rattle.std.proofs.Common.{length, subst, sym}
 use Rattle.st_elab_def.specs.Answers.{HasTemplates}
 use Rattle.st_parse.specs.Source.{Answers}
-use Rattle.st_tool.specs.inner.Printing.{BreachesWithin}
-use Rattle.st_tool.proofs.Checks.{SaysSource, syntax_stands, breaches_within, files_parsed}
+use Rattle.st_tool.specs.inner.Printing.{BreachesWithin, BeginWithin}
+use Rattle.st_tool.proofs.Checks.{SaysSource, syntax_stands, breaches_within, begin_within, files_parsed}
 use Rattle.st_tool.proofs.HasTemplates.{HasTemplates-source}
 use Rattle.st_tool.proofs.check.answer_tokens.Goals as goal
 
@@ -18,6 +18,8 @@ answer_source-requires c =
       templates = subst HasTemplates (sym c.as_slice.ensures) (HasTemplates-source c.args.files.now c.args.tokens.now c.in-Ok.defs c.requires.all source);
       within = subst (BreachesWithin (length c.args.names.now)) (sym c.as_slice.ensures)
           (breaches_within c.args.files.now c.args.names.now c.args.tokens.now c.in-Ok.defs c.requires.all c.requires.some source c.requires.named);
+      begin = subst (BeginWithin (length c.args.names.now)) (sym c.as_slice.ensures)
+          (begin_within c.args.files.now c.args.names.now c.args.tokens.now c.in-Ok.defs c.requires.all c.requires.some source c.requires.named);
     }
 
 pub returns-in-Ok : goal.returns-in-Ok

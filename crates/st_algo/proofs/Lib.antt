@@ -1,0 +1,10 @@
+pub mod SameSteps
+pub mod StepParts
+pub mod AlgorithmParts
+pub mod GroupParts
+pub mod NumberedRows
+pub mod InOrder
+pub mod Wider
+pub mod StepVariables
+pub mod Taken
+pub mod AllTaken

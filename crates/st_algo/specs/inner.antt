@@ -1,0 +1,2 @@
+-- What is kept of rules and clauses.
+pub mod Groups

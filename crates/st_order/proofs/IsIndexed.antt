@@ -1,0 +1,42 @@
+-- What is looked up in an internal language is of it.
+use Rattle.std.proofs.Common.{◌≡◌, refl, sym, ◌∙◌, ap, subst, Bool, true, true≢false, not, List, [], ◌∷◌, filter, is_some}
+use Rattle.st_il.specs.declared.definition.FunDef.{FunDef}
+use Rattle.st_il.specs.declared.definition.Il.{Il}
+use Rattle.st_semantics.specs.Definitions.{funs_in, clauses_of}
+use Rattle.st_order.specs.declared.citations.Citations.{Citations}
+use Rattle.st_order.specs.declared.indexed.Indexed.{Indexed}
+use Rattle.st_order.specs.Modes.{HasFew}
+use Rattle.st_order.specs.inner.Index.{at}
+use Rattle.st_order.specs.inner.Masks.{AreDirections}
+use Rattle.st_order.specs.inner.Parts.{all_now}
+use Rattle.st_order.specs.inner.Citations.{HasRead, is_any}
+use Rattle.st_order.specs.inner.Sifted.{Sifted}
+use Rattle.st_order.specs.inner.Needs.{HasNoClause, IsIndexed}
+use Rattle.st_order.proofs.Sifted.{sifted_by_test}
+
+any_none : {A : Type 0} (xs : List A) → not (is_any xs) ≡ true → xs ≡ []
+any_none [] h = refl
+any_none (x ∷ xs) h = absurd (true≢false (sym h))
+
+-- nothing stands under the name of a function
+abbrev test : Citations → FunDef → Bool
+test c f = not (is_some (at c.calls.entries f.name))
+
+-- the functions under whose names nothing stands have no clauses
+lacking_is : (il : Il) (c : Citations) (lacking : List FunDef) → HasRead il.defs c → lacking ≡ filter (λ (f : FunDef). not (is_some (at c.calls.entries f.name))) (all_now c.funs)
+    → Sifted (HasNoClause il) (funs_in il.defs) lacking
+lacking_is il c lacking h is =
+    subst (λ z. Sifted (HasNoClause il) (funs_in il.defs) z) (sym (is ∙ ap (filter (test c)) h.funs))
+    (sifted_by_test (HasNoClause il) (test c) (λ f e. any_none (clauses_of il f.name) (sym (ap not (h.defined f.name)) ∙ e)) (λ f none. ap not (h.defined f.name ∙ ap is_any none)) (funs_in il.defs))
+
+pub is_indexed : (il : Il) (x : Indexed) → AreDirections x.directions → x.directions.il.now ≡ il → HasRead il.defs x.citations
+    → all_now x.lacking ≡ filter (λ (f : FunDef). not (is_some (at x.citations.calls.entries f.name))) (all_now x.citations.funs) → HasFew il → IsIndexed x
+is_indexed il x d is read lacking few = record {
+  directions = d;
+  read = read_is;
+  lacking = lacking_is x.directions.il.now x.citations (all_now x.lacking) read_is lacking;
+  few = (subst HasFew (sym is) few).1;
+}
+  where
+    read_is : HasRead x.directions.il.now.defs x.citations
+    read_is = subst (λ (z : Il). HasRead z.defs x.citations) (sym is) read

@@ -1,0 +1,13 @@
+use Rattle.std.proofs.Common.{ap, ◌∙◌, filter, not, is_some}
+use Rattle.st_il.specs.declared.definition.FunDef.{FunDef}
+use Rattle.st_order.specs.inner.Index.{at}
+use Rattle.st_order.specs.inner.Parts.{all_now}
+use Rattle.st_order.proofs.IsIndexed.{is_indexed}
+use Rattle.st_order.proofs.indexed.index_il.Goals as goal
+
+pub returns : goal.returns
+returns c = (
+  is_indexed c.args.il.now _ c.in_ok-directions.ensures.0 c.in_ok-directions.ensures.1 c.in_ok-citations.ensures
+      (c.in_ok-lacking.ensures ∙ ap (λ z. filter (λ (f : FunDef). not (is_some (at c.in_ok-citations.citations.calls.entries f.name))) (all_now z)) c.as_slice.ensures) c.requires,
+  c.in_ok-directions.ensures.1,
+)
