@@ -61,12 +61,12 @@ ChosenFrom-single R one None o p h k = h ∙ sym k
 ChosenFrom-single R one (Some s) o p h k = Chosen-single (R s) (one s) o p h k
 
 module _ (defs : List SyntaxDef) where
-  IsFieldOf-single : (name : Name) (s t u : Ty) → IsFieldOf defs name s t → IsFieldOf defs name s u → t ≡ u
+  pub IsFieldOf-single : (name : Name) (s t u : Ty) → IsFieldOf defs name s t → IsFieldOf defs name s u → t ≡ u
   IsFieldOf-single name s t u h k =
       let e : h.declared ≡ k.declared = HasFields-single defs s h.declared k.declared h.has k.has in
       let f : Some t ≡ Some u = sym h.found ∙ ap (field_type name) e ∙ k.found in cc
 
-  IsElementOf-single : (s t u : Ty) → IsElementOf defs s t → IsElementOf defs s u → t ≡ u
+  pub IsElementOf-single : (s t u : Ty) → IsElementOf defs s t → IsElementOf defs s u → t ≡ u
   IsElementOf-single s t u h k = list-same t u (Means-single defs s (ty.List t) (ty.List u) h k)
 
   TypeFrom-single : (from : Origin) (os : List (Option Ty)) (o p : Option Ty) → TypeFrom defs from os o → TypeFrom defs from os p → o ≡ p

@@ -22,3 +22,5 @@ pub mod Declarations
 pub mod Variables
 -- a language is typed; or the first definition that breaks a rule, and the least that it breaks
 pub mod Typed
+-- what only contracts inside the crate and proofs need
+pub mod inner

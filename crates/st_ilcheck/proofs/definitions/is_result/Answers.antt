@@ -1,0 +1,9 @@
+use Rattle.std.proofs.Common.{rules}
+use Rattle.st_ilcheck.proofs.Kept.{result-kept, result-none}
+use Rattle.st_ilcheck.proofs.definitions.is_result.Goals as goal
+
+pub returns-in-Some : goal.returns-in-Some
+returns-in-Some c = result-kept c.args.language.now c.args.fun.now c.args.found.now c.in-Some.declared.now c.has.result c.in-Some.ensures c.has.ensures
+
+pub returns-in-None : goal.returns-in-None
+returns-in-None c = (λ f. search rules, λ k. absurd (result-none c.args.language.now c.args.fun.now c.args.found.now c.in-None.ensures k))

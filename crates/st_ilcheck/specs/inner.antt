@@ -1,0 +1,10 @@
+pub mod Weight
+pub mod Steps
+pub mod Operators
+pub mod Counts
+pub mod Clauses
+pub mod Contents
+pub mod Beginnings
+pub mod Declared
+pub mod Cited
+pub mod Leasts

@@ -1,0 +1,222 @@
+//! The language whose expressions are typed, with the table of its syntaxes.
+
+ghost use Rattle.std.specs.Prelude.{◌≡◌, [], ◌∷◌, find, bytes_eq};
+ghost use Rattle.std.specs.Option.{option_copied};
+ghost use Rattle.st_il.specs.declared.definition.FunDef.{FunDef};
+ghost use Rattle.st_il.specs.declared.definition.RelationDef.{RelationDef};
+ghost use Rattle.st_type_table.specs.Cases.{operands_of};
+ghost use Rattle.st_ilcheck.specs.inner.Steps.{function_in, relation_in};
+
+use st_il::{FunDef, Il, IlDef, RelationDef, Ty};
+use st_num::{Name, Row};
+use st_types::{CaseDef, TypeTable, is_sub};
+use std::marker::Model;
+
+/// The types of the operands of the case with this tag.
+fn operands_of<'a>(cases: &'a [CaseDef], tag: &Name) -> Option<&'a Row<Ty>>
+    ensures { option_copied result ≡ operands_of cases.now tag.now }
+{
+    for case in cases {
+        if case.tag == *tag {
+            return Some(&case.operands);
+        }
+    }
+    None
+}
+
+/// The function that is declared here, if it has this name.
+fn function_at<'a>(def: &'a IlDef, name: &Name) -> Option<&'a FunDef>
+    ensures { option_copied result ≡ function_in name.now (def.now ∷ []) }
+{
+    match def {
+        IlDef::Fun(fun) => {
+            if name.as_slice() == fun.name.as_slice() {
+                return Some(fun);
+            }
+            None
+        }
+        IlDef::Syntax(_) | IlDef::Var(_, _) | IlDef::Relation(_) => None,
+        IlDef::Rule(_) | IlDef::Clause(_) => None,
+    }
+}
+
+/// The relation that is declared here, if it has this name.
+fn relation_at<'a>(def: &'a IlDef, name: &Name) -> Option<&'a RelationDef>
+    ensures { option_copied result ≡ relation_in name.now (def.now ∷ []) }
+{
+    match def {
+        IlDef::Relation(relation) => {
+            if name.as_slice() == relation.name.as_slice() {
+                return Some(relation);
+            }
+            None
+        }
+        IlDef::Syntax(_) | IlDef::Var(_, _) | IlDef::Fun(_) => None,
+        IlDef::Rule(_) | IlDef::Clause(_) => None,
+    }
+}
+
+/// The first function of this name.
+fn function_in<'a>(defs: &'a [IlDef], name: &Name) -> Option<&'a FunDef>
+    ensures { option_copied result ≡ function_in name.now defs.now }
+{
+    for def in defs {
+        if let Some(fun) = function_at(def, name) {
+            return Some(fun);
+        }
+    }
+    None
+}
+
+/// The first relation of this name.
+fn relation_in<'a>(defs: &'a [IlDef], name: &Name) -> Option<&'a RelationDef>
+    ensures { option_copied result ≡ relation_in name.now defs.now }
+{
+    for def in defs {
+        if let Some(relation) = relation_at(def, name) {
+            return Some(relation);
+        }
+    }
+    None
+}
+
+/// A language with the table of its syntaxes. Contracts see the language alone.
+#[derive(Drop)]
+pub(crate) struct Language<'a> {
+    il: &'a Il,
+    types: &'a TypeTable,
+}
+
+impl<'a> Model for Language<'a> {
+    ghost use Rattle.std.specs.Prelude.{◌≡◌};
+    ghost use Rattle.std.specs.Coded.{codes};
+    ghost use Rattle.st_il.specs.declared.definition.Il.{Il};
+    ghost use Rattle.st_il.specs.contracts.definition.Il.{the_row as il_row};
+    ghost use Rattle.st_semantics.specs.Definitions.{syntaxes};
+
+    ghost Value = { Il };
+
+    ghost coded = { Prim.hlevel (codes, il_row.coded) };
+
+    ghost view = { λ l. l.il.now };
+
+    ghost invariant = { λ l. l.types.now ≡ syntaxes l.il.now };
+}
+
+impl<'a> Language<'a> {
+    ghost use Rattle.std.specs.Prelude.{◌≡◌, ◌↔◌, IsTrue, List, ℕ, MatchOption};
+    ghost use Rattle.std.specs.Option.{option_copied};
+    ghost use Rattle.st_il.specs.declared.ty.Ty.{Ty};
+    ghost use Rattle.st_type_table.specs.declared.entry.CaseDef.{CaseDef};
+    ghost use Rattle.st_type_table.specs.Cases.{HasCases, HasFields};
+    ghost use Rattle.st_type_table.specs.Joins.{Joins};
+    ghost use Rattle.st_type_table.specs.Same.{Same};
+    ghost use Rattle.st_type_table.specs.Sub.{Sub};
+    ghost use Rattle.st_semantics.specs.Definitions.{syntaxes, relation_named};
+    ghost use Rattle.st_semantics.specs.Typing.{function_named};
+    ghost use Rattle.st_ilcheck.specs.FoundTypes.{IsElementOf};
+    ghost use Rattle.st_ilcheck.specs.Rules.{IsListOrOption};
+    ghost use Rattle.st_types.specs.inner.Levels.{HasOperands};
+
+    /// The language, whose syntaxes are those of the table.
+    pub(crate) fn of(il: &'a Il, types: &'a TypeTable) -> Language<'a>
+        requires { types.now ≡ syntaxes il.now }
+        ensures { result ≡ il.now }
+    {
+        Language { il, types }
+    }
+
+    /// Whether the types are equal through aliases.
+    pub(crate) fn same(&self, a: &Ty, b: &Ty) -> bool
+        ensures { IsTrue result ↔ Same (syntaxes self.now) a.now b.now }
+    {
+        self.types.same(a, b)
+    }
+
+    /// Whether the first type is a subtype of the second.
+    pub(crate) fn is_sub(&self, lower: &Ty, upper: &Ty) -> bool
+        ensures { IsTrue result ↔ Sub (syntaxes self.now) lower.now upper.now }
+    {
+        is_sub(self.types, lower, upper)
+    }
+
+    /// Whether the type is a record type that can be joined.
+    pub(crate) fn joins(&self, ty: &Ty) -> bool
+        ensures { IsTrue result ↔ Joins (syntaxes self.now) ty.now }
+    {
+        self.types.joinable(ty)
+    }
+
+    /// The type of the elements, where the type is one of lists.
+    pub(crate) fn element<'b>(&'b self, ty: &'b Ty) -> Option<&'b Ty>
+        ensures { MatchOption result ((u : Ty) → IsElementOf (syntaxes self.now) ty.now u → ⊥)
+            (λ element. IsElementOf (syntaxes self.now) ty.now element.now) }
+    {
+        match self.types.meaning(ty) {
+            Ty::List(element) => Some(element.get()),
+            Ty::Bool | Ty::Nat | Ty::Int | Ty::Text => None,
+            Ty::Name(_) | Ty::Opt(_) | Ty::Tuple(_) => None,
+        }
+    }
+
+    /// Whether the type is one of lists or of options.
+    pub(crate) fn is_list_or_option(&self, ty: &Ty) -> bool
+        ensures { IsTrue result ↔ IsListOrOption (syntaxes self.now) ty.now }
+    {
+        match self.types.meaning(ty) {
+            Ty::List(_) | Ty::Opt(_) => true,
+            Ty::Bool | Ty::Nat | Ty::Int | Ty::Text => false,
+            Ty::Name(_) | Ty::Tuple(_) => false,
+        }
+    }
+
+    /// The fields of a record type, in declared order.
+    pub(crate) fn fields(&self, ty: &Ty) -> Option<&[(Name, Ty)]>
+        ensures { MatchOption result
+            ((fields : List (List ℕ × Ty)) → HasFields (syntaxes self.now) ty.now fields → ⊥)
+            (λ fields. HasFields (syntaxes self.now) ty.now fields.now) }
+    {
+        match self.types.fields(ty) {
+            Some(fields) => Some(fields),
+            None => None,
+        }
+    }
+
+    /// The cases of a variant type, with those of the variants that it names.
+    fn cases(&self, ty: &Ty) -> Option<&Row<CaseDef>>
+        ensures { MatchOption result
+            ((cases : List CaseDef) → HasCases (syntaxes self.now) ty.now cases → ⊥)
+            (λ cases. HasCases (syntaxes self.now) ty.now cases.now) }
+    {
+        match self.types.cases(ty) {
+            Some(cases) => Some(cases),
+            None => None,
+        }
+    }
+
+    /// The types of the operands of the case of a variant type with this tag.
+    pub(crate) fn operands(&self, ty: &Ty, tag: &Name) -> Option<&Row<Ty>>
+        ensures { MatchOption result ((operands : List Ty)
+            → HasOperands (syntaxes self.now) ty.now tag.now operands → ⊥)
+            (λ operands. HasOperands (syntaxes self.now) ty.now tag.now operands.now) }
+    {
+        match self.cases(ty) {
+            Some(cases) => operands_of(cases.as_slice(), tag),
+            None => None,
+        }
+    }
+
+    /// The function of this name.
+    pub(crate) fn function(&self, name: &Name) -> Option<&FunDef>
+        ensures { option_copied result ≡ function_named self.now name.now }
+    {
+        function_in(self.il.defs.as_slice(), name)
+    }
+
+    /// The relation of this name.
+    pub(crate) fn relation(&self, name: &Name) -> Option<&RelationDef>
+        ensures { option_copied result ≡ relation_named self.now name.now }
+    {
+        relation_in(self.il.defs.as_slice(), name)
+    }
+}
