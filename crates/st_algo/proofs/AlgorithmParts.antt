@@ -12,7 +12,8 @@ use Rattle.st_semantics.specs.Orders.{inputs_of_rule, in_order}
 use Rattle.st_semantics.specs.Variables.{vars_of, prem_vars}
 use Rattle.st_order.specs.inner.HolesOf.{at_holes}
 use Rattle.st_order.specs.inner.Index.{SameNames}
-use Rattle.st_order.specs.inner.Parts.{all_now, exps_in}
+use Rattle.st_order.specs.inner.Parts.{exps_in}
+use Rattle.st_order.specs.Known.{all_now}
 use Rattle.st_order.proofs.Holes.{drop_there}
 use Rattle.st_algo.specs.declared.algorithm.AlgoStep.{AlgoStep}
 use Rattle.st_algo.specs.declared.algorithm.AlgoStep.TheVariants as step

@@ -8,8 +8,7 @@ use Rattle.st_il.specs.declared.definition.IlDef.TheVariants.{Syntax, Var, Relat
 use Rattle.st_semantics.specs.Names.{Name}
 use Rattle.st_semantics.specs.Definitions.{clauses_in, clauses_from, funs_in}
 use Rattle.st_semantics.proofs.Names.{bytes-path}
-use Rattle.st_order.specs.inner.Index.{at}
-use Rattle.st_order.specs.inner.Parts.{all_now}
+use Rattle.st_order.specs.Known.{all_now, at}
 use Rattle.st_order.proofs.HoleParts.{drop_all}
 use Rattle.st_order.proofs.RuleParts.{all_now_append}
 use Rattle.st_algo.specs.inner.Groups.{members}

@@ -2,8 +2,7 @@
 
 ghost use Rattle.std.specs.Prelude.{◌≡◌, ◌++◌, ◌∷◌, [], ℕ, List, map, IfOk, OnOk};
 ghost use Rattle.st_semantics.specs.Definitions.{funs_in, clauses_of};
-ghost use Rattle.st_order.specs.inner.Masks.{AreDirections};
-ghost use Rattle.st_order.specs.inner.Parts.{all_now};
+ghost use Rattle.st_order.specs.Known.{AreDirections, all_now};
 ghost use Rattle.st_algo.specs.Lowered.{clause_algorithm, fun_algorithms};
 ghost use Rattle.st_algo.specs.inner.Groups.{members};
 

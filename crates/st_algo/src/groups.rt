@@ -2,8 +2,7 @@
 
 ghost use Rattle.std.specs.Prelude.{◌≡◌, ◌++◌, ◌∷◌, [], ℕ, List, Some, bytes_eq, if◌then◌else◌, IfOk, OnOk};
 ghost use Rattle.st_semantics.specs.Definitions.{rules_of, rules_in, rules_from, clauses_of, clauses_in, clauses_from};
-ghost use Rattle.st_order.specs.inner.Index.{at};
-ghost use Rattle.st_order.specs.inner.Parts.{all_now};
+ghost use Rattle.st_order.specs.Known.{all_now, at};
 ghost use Rattle.st_algo.specs.inner.Groups.{members};
 
 use indexmap::IndexMap;

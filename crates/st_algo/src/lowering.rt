@@ -3,8 +3,8 @@
 ghost use Rattle.std.specs.Prelude.{◌≡◌, ◌++◌, IfOk, OnOk};
 ghost use Rattle.st_semantics.specs.Variables.{prem_vars};
 ghost use Rattle.st_order.specs.inner.Index.{names_in, SameNames};
-ghost use Rattle.st_order.specs.inner.Masks.{AreDirections};
-ghost use Rattle.st_order.specs.inner.Parts.{exps_in, all_now};
+ghost use Rattle.st_order.specs.Known.{AreDirections, all_now};
+ghost use Rattle.st_order.specs.inner.Parts.{exps_in};
 ghost use Rattle.st_algo.specs.Lowered.{step_of, steps_of, algorithm_of, rule_algorithm, clause_algorithm};
 
 use crate::algorithm::{AlgoStep, Algorithm};

@@ -4,7 +4,8 @@ ghost use Rattle.std.specs.Prelude.{◌≡◌, ◌++◌, IfOk, OnOk};
 ghost use Rattle.std.specs.Option.{option_copied};
 ghost use Rattle.st_semantics.specs.Parts.{option_list};
 ghost use Rattle.st_semantics.specs.Orders.{premise_at, in_order};
-ghost use Rattle.st_order.specs.inner.Parts.{exps_in, all_now};
+ghost use Rattle.st_order.specs.inner.Parts.{exps_in};
+ghost use Rattle.st_order.specs.Known.{all_now};
 
 use st_il::{IlExp, IlPrem};
 use st_num::{NoMemory, Row};

@@ -5,7 +5,7 @@ ghost use Rattle.st_semantics.specs.Directions.{inputs_of, outputs_of};
 ghost use Rattle.st_semantics.specs.Executable.{bound_inside};
 ghost use Rattle.st_order.specs.inner.Classes.{others};
 ghost use Rattle.st_order.specs.inner.Index.{names_in, SameNames};
-ghost use Rattle.st_order.specs.inner.Masks.{AreDirections};
+ghost use Rattle.st_order.specs.Known.{AreDirections};
 ghost use Rattle.st_algo.specs.Lowered.{step_of_sides, step_of_condition, step_of};
 
 use crate::algorithm::AlgoStep;

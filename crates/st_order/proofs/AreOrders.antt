@@ -19,8 +19,7 @@ use Rattle.st_semantics.specs.Marks.{rule_name_of, full_name, IsUnordered, HasOw
 use Rattle.st_order.specs.declared.all_orders.Ordered.{Ordered}
 use Rattle.st_order.specs.declared.indexed.Indexed.{Indexed}
 use Rattle.st_order.specs.Modes.{order_in}
-use Rattle.st_order.specs.inner.Index.{at}
-use Rattle.st_order.specs.inner.Parts.{all_now}
+use Rattle.st_order.specs.Known.{all_now, at}
 use Rattle.st_order.specs.inner.Needs.{IsIndexed}
 use Rattle.st_order.specs.inner.Orders.{first_mark, no_order, IsUnorderedMark, AreOrders, IsOrdered, HasOrderMark, HasOrders}
 use Rattle.st_order.proofs.RuleParts.{all_now_append}

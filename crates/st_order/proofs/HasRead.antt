@@ -12,8 +12,7 @@ use Rattle.st_il.specs.declared.ty.Ty.{Ty}
 use Rattle.st_semantics.specs.Names.{Name, flattened}
 use Rattle.st_semantics.specs.Definitions.{rules_in, rules_from, clauses_in, clauses_from, funs_in}
 use Rattle.st_order.specs.declared.citations.Citations.{Citations}
-use Rattle.st_order.specs.inner.Index.{at}
-use Rattle.st_order.specs.inner.Parts.{all_now}
+use Rattle.st_order.specs.Known.{all_now, at}
 use Rattle.st_order.specs.inner.Citing.{functions_in_rule, functions_in_clause}
 use Rattle.st_order.specs.inner.Reaching.{cited_under}
 use Rattle.st_order.specs.inner.Citations.{rules_under, relations_in_rule, is_any, called_by_relation, cited_by_relation, called_by_function, HasRead}

@@ -11,7 +11,7 @@ use Rattle.st_semantics.specs.Marks.{HasOwn, IsUnfit, HasUnfit, IsUnordered, Lac
 use Rattle.st_order.specs.declared.marking.Own.{Own}
 use Rattle.st_order.specs.declared.marking.Told.{Told}
 use Rattle.st_order.specs.Modes.{orders_in}
-use Rattle.st_order.specs.inner.Parts.{all_now}
+use Rattle.st_order.specs.Known.{all_now}
 use Rattle.st_order.specs.inner.Sifted.{Sifted, none}
 use Rattle.st_order.specs.inner.Needs.{LacksFunction, NeedsMarked}
 use Rattle.st_order.specs.inner.Orders.{HasOrderMark}

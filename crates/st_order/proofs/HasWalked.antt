@@ -8,7 +8,8 @@ use Rattle.std.proofs.lemmas.List.{take-append-le, take_all, length-append}
 use Rattle.std.proofs.lemmas.Slice.Eq.{bytes_eq-Decides}
 use Rattle.indexmap.specs.IndexSet.{insert_key}
 use Rattle.st_semantics.specs.Names.{Name, has_name, without, flattened}
-use Rattle.st_order.specs.inner.Index.{at, names_in, SameNames}
+use Rattle.st_order.specs.inner.Index.{names_in, SameNames}
+use Rattle.st_order.specs.Known.{at}
 use Rattle.st_order.specs.inner.Reaching.{Entries, cited_under, all_cited, Reached, first, next, AreReached, unseen, Grows, HasWalked}
 use Rattle.st_order.proofs.NamesIn.{names_in_last, has_name_in, has_name_append, keys-insert, SameNames-append}
 

@@ -6,9 +6,7 @@ use Rattle.st_semantics.specs.Definitions.{funs_in, clauses_of}
 use Rattle.st_order.specs.declared.citations.Citations.{Citations}
 use Rattle.st_order.specs.declared.indexed.Indexed.{Indexed}
 use Rattle.st_order.specs.Modes.{HasFew}
-use Rattle.st_order.specs.inner.Index.{at}
-use Rattle.st_order.specs.inner.Masks.{AreDirections}
-use Rattle.st_order.specs.inner.Parts.{all_now}
+use Rattle.st_order.specs.Known.{AreDirections, all_now, at}
 use Rattle.st_order.specs.inner.Citations.{HasRead, is_any}
 use Rattle.st_order.specs.inner.Sifted.{Sifted}
 use Rattle.st_order.specs.inner.Needs.{HasNoClause, IsIndexed}

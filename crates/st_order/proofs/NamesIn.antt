@@ -8,7 +8,8 @@ use Rattle.std.proofs.lemmas.Slice.Eq.{bytes_eq-Decides}
 use Rattle.indexmap.specs.IndexMap.{insert_entry}
 use Rattle.indexmap.specs.IndexSet.{insert_key}
 use Rattle.st_semantics.specs.Names.{Name, has_name}
-use Rattle.st_order.specs.inner.Index.{at, names_in, SameNames}
+use Rattle.st_order.specs.inner.Index.{names_in, SameNames}
+use Rattle.st_order.specs.Known.{at}
 
 same-equal : (p q : Name) → bytes_eq p q ≡ true → p ≡ q
 same-equal p q h = (bytes_eq-Decides p q).0 h

@@ -17,7 +17,7 @@ use Rattle.st_semantics.specs.Variables.{relations_cited}
 use Rattle.st_semantics.specs.ModeRules.{Citer, Relation, Function, cited_by, cited_by_rule, cited_by_clause}
 use Rattle.st_semantics.specs.Marks.{NeedsFun, NeedsRelation, LacksClauses, IsUnfit, NeedsUnfit}
 use Rattle.st_order.specs.declared.indexed.Indexed.{Indexed}
-use Rattle.st_order.specs.inner.Parts.{all_now}
+use Rattle.st_order.specs.Known.{all_now}
 use Rattle.st_order.specs.inner.Citing.{functions_in_rule, functions_in_clause}
 use Rattle.st_order.specs.inner.Citations.{relations_in_rule, called_by_relation, cited_by_relation, called_by_function}
 use Rattle.st_order.specs.inner.Reaching.{cited_under, Reached, first, next, AreReached}

@@ -11,7 +11,7 @@ use Rattle.st_il.specs.declared.definition.RuleDef.{RuleDef}
 use Rattle.st_semantics.specs.Names.{Name}
 use Rattle.st_semantics.specs.Definitions.{relations, relations_in, rules_of, rules_in, rules_from}
 use Rattle.st_order.specs.Answers.{rule_at}
-use Rattle.st_order.specs.inner.Parts.{all_now}
+use Rattle.st_order.specs.Known.{all_now}
 
 pub relations_head : (d : IlDef) (ds : List IlDef) → relations_in (d ∷ ds) ≡ relations_in (d ∷ []) ++ relations_in ds
 relations_head (Syntax s) ds = refl

@@ -5,5 +5,7 @@
 pub mod Answers
 -- what the call that tells the modes answers
 pub mod Modes
+-- what is kept of directions, and what stands under names
+pub mod Known
 -- ---- what only proofs need
 pub mod inner

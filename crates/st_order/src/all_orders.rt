@@ -5,8 +5,7 @@ ghost use Rattle.std.specs.Borrow.{Bor};
 ghost use Rattle.st_il.specs.declared.definition.RuleDef.{RuleDef};
 ghost use Rattle.st_semantics.specs.declared.unfit.Unfit.TheVariants.{U2};
 ghost use Rattle.st_semantics.specs.Marks.{full_name};
-ghost use Rattle.st_order.specs.inner.Masks.{AreDirections};
-ghost use Rattle.st_order.specs.inner.Parts.{all_now};
+ghost use Rattle.st_order.specs.Known.{AreDirections, all_now};
 ghost use Rattle.st_order.specs.inner.Needs.{IsIndexed};
 ghost use Rattle.st_order.specs.inner.Orders.{AreOrders, IsOrdered, HasOrders, no_order, first_mark};
 

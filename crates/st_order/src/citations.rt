@@ -4,7 +4,7 @@
 ghost use Rattle.std.specs.Prelude.{◌≡◌, ◌∷◌, ◌++◌, [], List, ℕ, unwrap_or, is_some, if◌then◌else◌, bytes_eq, true, IfOk, OnOk};
 ghost use Rattle.st_il.specs.declared.definition.IlDef.{IlDef};
 ghost use Rattle.st_il.specs.declared.definition.IlDef.TheVariants.{Rule};
-ghost use Rattle.st_order.specs.inner.Index.{at};
+ghost use Rattle.st_order.specs.Known.{at};
 ghost use Rattle.st_order.specs.inner.Citing.{functions_in_rule, functions_in_clause};
 ghost use Rattle.st_order.specs.inner.Reaching.{cited_under};
 ghost use Rattle.st_order.specs.inner.Citations.{HasRead, rules_under, relations_in_rule};

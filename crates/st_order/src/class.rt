@@ -11,7 +11,7 @@ ghost use Rattle.st_semantics.specs.Patterns.{binds, bound_by};
 ghost use Rattle.st_semantics.specs.Directions.{inputs_by, outputs_by};
 ghost use Rattle.st_semantics.specs.Executable.{is_matched, is_met, class_of, class_of_condition, class_of_sides, class_of_goal, is_anchored, is_countable, is_variable_at, bound_inside};
 ghost use Rattle.st_order.specs.inner.Index.{names_in, SameNames};
-ghost use Rattle.st_order.specs.inner.Masks.{AreDirections};
+ghost use Rattle.st_order.specs.Known.{AreDirections};
 ghost use Rattle.st_order.specs.inner.Parts.{exps_in};
 ghost use Rattle.st_order.specs.inner.Classes.{kind, others, IsInside};
 

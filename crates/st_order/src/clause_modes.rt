@@ -10,7 +10,7 @@ ghost use Rattle.st_semantics.specs.OpenParts.{is_doubly_open};
 ghost use Rattle.st_semantics.specs.Orders.{run_on};
 ghost use Rattle.st_semantics.specs.ModeRules.{keeps_m4, keeps_m6};
 ghost use Rattle.st_order.specs.inner.Index.{names_in};
-ghost use Rattle.st_order.specs.inner.Masks.{AreDirections};
+ghost use Rattle.st_order.specs.Known.{AreDirections};
 ghost use Rattle.st_order.specs.inner.Breaches.{clause_breach};
 
 use crate::bindings::push_all_bound;

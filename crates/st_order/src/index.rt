@@ -4,7 +4,8 @@ ghost use Rattle.std.specs.Prelude.{◌≡◌, ◌<◌, ◌∷◌, ◌++◌, [],
 ghost use Rattle.std.specs.Option.{option_copied};
 ghost use Rattle.std.specs.List.{list_any};
 ghost use Rattle.st_semantics.specs.Names.{has_name, all_known, among, without};
-ghost use Rattle.st_order.specs.inner.Index.{at, names_in, number_in, SameNames};
+ghost use Rattle.st_order.specs.inner.Index.{names_in, number_in, SameNames};
+ghost use Rattle.st_order.specs.Known.{at};
 
 use indexmap::{IndexMap, IndexSet};
 use st_num::{Name, NoMemory, Row};

@@ -3,8 +3,7 @@
 ghost use Rattle.std.specs.Prelude.{◌≡◌, ◌++◌, ◌∷◌, [], not, is_some, filter, if◌then◌else◌, IfOk, OnOk};
 ghost use Rattle.st_il.specs.declared.definition.FunDef.{FunDef};
 ghost use Rattle.st_order.specs.Modes.{HasFew};
-ghost use Rattle.st_order.specs.inner.Index.{at};
-ghost use Rattle.st_order.specs.inner.Parts.{all_now};
+ghost use Rattle.st_order.specs.Known.{all_now, at};
 ghost use Rattle.st_order.specs.inner.Needs.{IsIndexed};
 
 use crate::citations::{Citations, citations_of};

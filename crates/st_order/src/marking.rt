@@ -6,7 +6,7 @@ ghost use Rattle.st_il.specs.declared.definition.RelationDef.{RelationDef};
 ghost use Rattle.st_semantics.specs.Definitions.{relations};
 ghost use Rattle.st_semantics.specs.Marks.{IsUnfit, HasUnfit};
 ghost use Rattle.st_order.specs.Modes.{HasFew, AreModes};
-ghost use Rattle.st_order.specs.inner.Parts.{all_now};
+ghost use Rattle.st_order.specs.Known.{all_now};
 ghost use Rattle.st_order.specs.inner.Sifted.{Sifted};
 ghost use Rattle.st_order.specs.inner.Needs.{IsIndexed};
 ghost use Rattle.st_order.specs.inner.Orders.{HasOrderMark};

@@ -1,9 +1,9 @@
 //! The directions of all relations of an internal language, by their names.
 
 ghost use Rattle.std.specs.Prelude.{◌≡◌, ℕ, List, IfOk, OnOk};
-ghost use Rattle.st_order.specs.inner.Index.{at};
+ghost use Rattle.st_order.specs.Known.{AreDirections, at};
 ghost use Rattle.st_semantics.specs.Directions.{mask};
-ghost use Rattle.st_order.specs.inner.Masks.{AreMasks, AreDirections, behind};
+ghost use Rattle.st_order.specs.inner.Masks.{AreMasks, behind};
 
 use crate::directions::mask_or_all;
 use crate::index::{at, put};

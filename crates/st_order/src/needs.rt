@@ -8,7 +8,7 @@ ghost use Rattle.st_semantics.specs.Names.{has_name};
 ghost use Rattle.st_semantics.specs.Definitions.{relations};
 ghost use Rattle.st_semantics.specs.Marks.{IsUnfit};
 ghost use Rattle.st_order.specs.inner.Index.{names_in};
-ghost use Rattle.st_order.specs.inner.Parts.{all_now};
+ghost use Rattle.st_order.specs.Known.{all_now};
 ghost use Rattle.st_order.specs.inner.Sifted.{Sifted};
 ghost use Rattle.st_order.specs.inner.Needs.{IsIndexed, LacksFunction, NeedsMarked, is_other_in};
 

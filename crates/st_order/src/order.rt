@@ -9,7 +9,7 @@ ghost use Rattle.st_semantics.specs.Orders.{is_input};
 ghost use Rattle.st_semantics.specs.OrderOf.{order_of};
 ghost use Rattle.st_order.specs.Answers.{rule_at, IsRule, IsAnswer, IsExact};
 ghost use Rattle.st_order.specs.inner.Index.{names_in};
-ghost use Rattle.st_order.specs.inner.Masks.{AreDirections};
+ghost use Rattle.st_order.specs.Known.{AreDirections};
 ghost use Rattle.st_order.specs.inner.Parts.{exps_in};
 ghost use Rattle.st_order.specs.inner.Endings.{AreInputs, Ends, told_of};
 

@@ -2,7 +2,7 @@
 //! cite themselves.
 
 ghost use Rattle.std.specs.Prelude.{◌≡◌, ℕ, List, IfOk, OnOk};
-ghost use Rattle.st_order.specs.inner.Index.{at};
+ghost use Rattle.st_order.specs.Known.{at};
 ghost use Rattle.st_order.specs.inner.Relations.{directed_behind, AreDirected, AreRelations, is_directed};
 
 use crate::circles::{Circles, circles_of};

@@ -4,7 +4,7 @@ ghost use Rattle.std.specs.Prelude.{◌≡◌, ◌++◌, [], ◌∷◌, IfOk, On
 ghost use Rattle.std.specs.Option.{option_copied};
 ghost use Rattle.st_semantics.specs.Definitions.{relations, relations_in, rules_of, rules_in, rules_from};
 ghost use Rattle.st_order.specs.Answers.{rule_at};
-ghost use Rattle.st_order.specs.inner.Parts.{all_now};
+ghost use Rattle.st_order.specs.Known.{all_now};
 
 use st_il::{Il, IlDef, RelationDef, RuleDef};
 use st_num::{Name, NoMemory, Row};

@@ -6,7 +6,7 @@ ghost use Rattle.std.specs.Option.{option_map};
 ghost use Rattle.st_semantics.specs.Variables.{prem_vars};
 ghost use Rattle.st_semantics.specs.OrderOf.{but_for, next_in, select};
 ghost use Rattle.st_order.specs.inner.Index.{names_in, SameNames};
-ghost use Rattle.st_order.specs.inner.Masks.{AreDirections};
+ghost use Rattle.st_order.specs.Known.{AreDirections};
 ghost use Rattle.st_order.specs.inner.Classes.{is_kind};
 ghost use Rattle.st_order.specs.inner.Selections.{numbered, all_numbered, first_of, Takes, LeadsTo, IsSelection};
 

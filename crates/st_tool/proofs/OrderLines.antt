@@ -16,7 +16,7 @@ use Rattle.st_il.specs.declared.definition.RelationDef.{RelationDef}
 use Rattle.st_il.specs.declared.definition.RuleDef.{RuleDef}
 use Rattle.st_order.specs.declared.relation_modes.Modes.{Modes}
 use Rattle.st_order.specs.Modes.{HasFew, AreModes, orders_in}
-use Rattle.st_order.specs.inner.Parts.{all_now}
+use Rattle.st_order.specs.Known.{all_now}
 use Rattle.st_semantics.specs.declared.unfit.Unfit.{Unfit}
 use Rattle.st_semantics.specs.declared.unfit.Unfit.TheVariants as unfit
 use Rattle.st_semantics.specs.declared.unfit.Unordered.{Unordered}

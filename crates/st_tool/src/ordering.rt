@@ -3,8 +3,7 @@
 ghost use Rattle.std.specs.Prelude.{◌≡◌, ◌≢◌, ◌<◌, ◌^◌, ◌++◌, codes, decimal, map, flat_map, length, Some, Err, IfOk, OnOk, MatchBool};
 ghost use Rattle.std.specs.Option.{option_copied};
 ghost use Rattle.st_order.specs.Modes.{HasFew, AreModes, orders_in};
-ghost use Rattle.st_order.specs.inner.Masks.{AreDirections};
-ghost use Rattle.st_order.specs.inner.Parts.{all_now};
+ghost use Rattle.st_order.specs.Known.{AreDirections, all_now};
 ghost use Rattle.st_semantics.specs.Definitions.{relations, rules_of};
 ghost use Rattle.st_semantics.specs.Marks.{HasUnfit, full_name};
 ghost use Rattle.st_semantics.specs.OrderOf.{order_of};

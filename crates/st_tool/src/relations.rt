@@ -2,8 +2,7 @@
 
 ghost use Rattle.std.specs.Prelude.{◌≡◌, ◌++◌, ◌∷◌, [], Some, bytes_eq, if◌then◌else◌, IfOk, OnOk};
 ghost use Rattle.std.specs.Option.{option_copied};
-ghost use Rattle.st_order.specs.inner.Index.{at};
-ghost use Rattle.st_order.specs.inner.Parts.{all_now};
+ghost use Rattle.st_order.specs.Known.{all_now, at};
 ghost use Rattle.st_semantics.specs.Names.{Name as NameBytes};
 ghost use Rattle.st_semantics.specs.Definitions.{rules_in, rules_from};
 ghost use Rattle.st_tool.specs.inner.Relations.{AreRules, rules_found, rules_at};

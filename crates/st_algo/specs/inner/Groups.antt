@@ -2,8 +2,7 @@
 use Rattle.std.specs.Prelude.{ℕ, List, [], unwrap_or}
 use Rattle.std.specs.Borrow.{Bor}
 use Rattle.st_semantics.specs.Names.{Name}
-use Rattle.st_order.specs.inner.Index.{at}
-use Rattle.st_order.specs.inner.Parts.{all_now}
+use Rattle.st_order.specs.Known.{all_now, at}
 
 -- what stands under a name, in order
 abbrev pub members : {A : Type 0} → List (Bor (List ℕ) × List (Bor A)) → Name → List A

@@ -7,8 +7,7 @@ use Rattle.st_semantics.specs.Names.{Name, flattened}
 use Rattle.st_semantics.specs.Definitions.{rules_in, rules_from, clauses_in, clauses_from, funs_in}
 use Rattle.st_semantics.specs.Variables.{relations_cited}
 use Rattle.st_order.specs.declared.citations.Citations.{Citations}
-use Rattle.st_order.specs.inner.Index.{at}
-use Rattle.st_order.specs.inner.Parts.{all_now}
+use Rattle.st_order.specs.Known.{all_now, at}
 use Rattle.st_order.specs.inner.Citing.{functions_in_rule, functions_in_clause}
 use Rattle.st_order.specs.inner.Reaching.{cited_under}
 

@@ -1,12 +1,7 @@
--- Names in sets and lists of references, and what stands under a name.
+-- Names in sets and lists of references.
 use Rattle.std.specs.Prelude.{◌≡◌, ℕ, List, map, Option, bytes_eq, position}
 use Rattle.std.specs.Borrow.{Bor}
-use Rattle.std.specs.Map.{lookup}
 use Rattle.st_semantics.specs.Names.{Name, has_name}
-
--- what stands under the name
-abbrev pub at : {A : Type 0} → List (Bor (List ℕ) × A) → Name → Option A
-at entries q = lookup (λ (key : Bor (List ℕ)). bytes_eq q key.now) entries
 
 -- the names that are referred to
 abbrev pub names_in : List (Bor (List ℕ)) → List Name

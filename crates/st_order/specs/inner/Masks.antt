@@ -10,7 +10,7 @@ use Rattle.st_semantics.specs.Names.{Name}
 use Rattle.st_semantics.specs.Definitions.{relations_in}
 use Rattle.st_semantics.specs.Directions.{inputs_or_all, mask}
 use Rattle.st_order.specs.declared.masks.Directions.{Directions}
-use Rattle.st_order.specs.inner.Index.{at}
+use Rattle.st_order.specs.Known.{at}
 
 -- for each hole of a relation, whether it is an input, under a name
 abbrev pub Entries : Type 0
@@ -35,7 +35,3 @@ behind definition name other = other
 -- under each name stands the direction of its relation
 abbrev pub AreMasks : Il → Entries → Type 0
 AreMasks il entries = (name : Name) → mask_in entries name ≡ mask il name
-
--- they stand beside their internal language
-abbrev pub AreDirections : Directions → Type 0
-AreDirections directions = AreMasks directions.il.now directions.masks.entries

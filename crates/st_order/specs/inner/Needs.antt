@@ -10,8 +10,7 @@ use Rattle.st_semantics.specs.Names.{Name, has_name}
 use Rattle.st_semantics.specs.Definitions.{relations, rules_in, funs_in, clauses_of, IsFirst}
 use Rattle.st_semantics.specs.Marks.{LacksClauses, NeedsUnfit}
 use Rattle.st_order.specs.declared.indexed.Indexed.{Indexed}
-use Rattle.st_order.specs.inner.Masks.{AreDirections}
-use Rattle.st_order.specs.inner.Parts.{all_now}
+use Rattle.st_order.specs.Known.{AreDirections, all_now}
 use Rattle.st_order.specs.inner.Citations.{HasRead}
 use Rattle.st_order.specs.inner.Sifted.{Sifted}
 

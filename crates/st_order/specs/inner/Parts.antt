@@ -74,10 +74,6 @@ bound_segment =
 abbrev pub names_bound : List Bound → List Name
 names_bound bs = flattened (map (λ (b : Bound). b.names) bs)
 
--- what is referred to
-abbrev pub all_now : {A : Type 0} → List (Bor A) → List A
-all_now refs = map (λ r. r.now) refs
-
 -- the expressions that are referred to
 abbrev pub exps_in : List (Bor IlExp) → List IlExp
 exps_in refs = map (λ (e : Bor IlExp). e.now) refs

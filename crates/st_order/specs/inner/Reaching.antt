@@ -2,7 +2,8 @@
 use Rattle.std.specs.Prelude.{◌≡◌, ◌≤◌, ◌+◌, ◌↔◌, ℕ, true, List, [], ◌++◌, length, take, map, unwrap_or}
 use Rattle.std.specs.Borrow.{Bor}
 use Rattle.st_semantics.specs.Names.{Name, has_name, without, flattened}
-use Rattle.st_order.specs.inner.Index.{at, names_in, SameNames}
+use Rattle.st_order.specs.inner.Index.{names_in, SameNames}
+use Rattle.st_order.specs.Known.{at}
 
 -- names that stand under names
 abbrev pub Entries : Type 0

@@ -10,8 +10,7 @@ use Rattle.st_semantics.specs.Names.{Name}
 use Rattle.st_semantics.specs.Definitions.{relations_in}
 use Rattle.st_semantics.specs.Directions.{direction}
 use Rattle.st_order.specs.declared.relations.Relations.{Relations}
-use Rattle.st_order.specs.inner.Index.{at}
-use Rattle.st_order.specs.inner.Masks.{AreDirections}
+use Rattle.st_order.specs.Known.{AreDirections, at}
 use Rattle.st_order.specs.inner.Circles.{AreCircles}
 
 -- whether the first relation of a name among these definitions has a direction

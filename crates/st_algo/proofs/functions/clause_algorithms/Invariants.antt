@@ -1,5 +1,5 @@
 use Rattle.std.proofs.Common.{◌≡◌, ◌++◌, drop, map}
-use Rattle.st_order.specs.inner.Parts.{all_now}
+use Rattle.st_order.specs.Known.{all_now}
 use Rattle.st_algo.specs.Lowered.{clause_algorithm}
 use Rattle.st_algo.proofs.functions.clause_algorithms.Given as goal
 

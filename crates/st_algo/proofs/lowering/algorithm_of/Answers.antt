@@ -1,6 +1,7 @@
 use Rattle.st_semantics.specs.Variables.{vars_of}
 use Rattle.st_order.specs.inner.Index.{names_in}
-use Rattle.st_order.specs.inner.Parts.{exps_in, all_now}
+use Rattle.st_order.specs.inner.Parts.{exps_in}
+use Rattle.st_order.specs.Known.{all_now}
 use Rattle.st_order.proofs.SameNames.{SameNames-made}
 use Rattle.st_algo.proofs.AlgorithmParts.{algorithm_made}
 use Rattle.st_algo.proofs.lowering.algorithm_of.Goals as goal

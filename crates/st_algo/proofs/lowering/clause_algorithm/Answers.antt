@@ -1,5 +1,6 @@
 use Rattle.std.proofs.Common.{ap, ◌∙◌}
-use Rattle.st_order.specs.inner.Parts.{exps_in, all_now}
+use Rattle.st_order.specs.inner.Parts.{exps_in}
+use Rattle.st_order.specs.Known.{all_now}
 use Rattle.st_algo.proofs.AlgorithmParts.{clause_read, one_pushed}
 use Rattle.st_algo.proofs.lowering.clause_algorithm.Goals as goal
 

@@ -1,5 +1,6 @@
 use Rattle.std.proofs.Common.{ap, ◌∙◌}
-use Rattle.st_order.specs.inner.Parts.{exps_in, all_now}
+use Rattle.st_order.specs.inner.Parts.{exps_in}
+use Rattle.st_order.specs.Known.{all_now}
 use Rattle.st_algo.proofs.AlgorithmParts.{rule_read}
 use Rattle.st_algo.proofs.lowering.rule_algorithm.Goals as goal
 

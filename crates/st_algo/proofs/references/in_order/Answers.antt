@@ -1,4 +1,4 @@
-use Rattle.st_order.specs.inner.Parts.{all_now}
+use Rattle.st_order.specs.Known.{all_now}
 use Rattle.st_algo.proofs.InOrder.{in_order_next}
 use Rattle.st_algo.proofs.references.in_order.Goals as goal
 

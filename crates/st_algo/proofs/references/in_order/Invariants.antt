@@ -1,6 +1,6 @@
 use Rattle.std.proofs.Common.{◌≡◌, ◌++◌, drop}
 use Rattle.st_semantics.specs.Orders.{in_order}
-use Rattle.st_order.specs.inner.Parts.{all_now}
+use Rattle.st_order.specs.Known.{all_now}
 use Rattle.st_algo.proofs.references.in_order.Given as goal
 
 abbrev pub invariant-loop-number : goal.invariant-loop-number

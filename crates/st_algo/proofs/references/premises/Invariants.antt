@@ -1,5 +1,5 @@
 use Rattle.std.proofs.Common.{◌≡◌, take}
-use Rattle.st_order.specs.inner.Parts.{all_now}
+use Rattle.st_order.specs.Known.{all_now}
 use Rattle.st_algo.proofs.references.premises.Given as goal
 
 abbrev pub invariant-loop-prem : goal.invariant-loop-prem

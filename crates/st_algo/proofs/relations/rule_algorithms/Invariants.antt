@@ -1,6 +1,6 @@
 use Rattle.std.proofs.Common.{◌≡◌, ◌++◌, drop}
 use Rattle.std.specs.List.{enumerate_from}
-use Rattle.st_order.specs.inner.Parts.{all_now}
+use Rattle.st_order.specs.Known.{all_now}
 use Rattle.st_algo.specs.Lowered.{rule_algorithms}
 use Rattle.st_algo.proofs.relations.rule_algorithms.Given as goal
 

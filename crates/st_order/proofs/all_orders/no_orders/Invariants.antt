@@ -1,5 +1,5 @@
 use Rattle.std.proofs.Common.{◌≡◌, map, take}
-use Rattle.st_order.specs.inner.Parts.{all_now}
+use Rattle.st_order.specs.Known.{all_now}
 use Rattle.st_order.specs.inner.Orders.{no_order}
 use Rattle.st_order.proofs.all_orders.no_orders.Given as goal
 

@@ -1,6 +1,6 @@
 use Rattle.std.proofs.Common.{sym, ap, ◌∙◌, [], Some, None}
 use Rattle.std.specs.Option.{option_copied}
-use Rattle.st_order.specs.inner.Parts.{all_now}
+use Rattle.st_order.specs.Known.{all_now}
 use Rattle.st_order.proofs.AreOrders.{has_orders, rules_are, few_under}
 use Rattle.st_order.proofs.all_orders.orders_of.Goals as goal
 

@@ -1,5 +1,5 @@
 use Rattle.std.proofs.Common.{take}
-use Rattle.st_order.specs.inner.Parts.{all_now}
+use Rattle.st_order.specs.Known.{all_now}
 use Rattle.st_order.specs.inner.Orders.{AreOrders}
 use Rattle.st_order.proofs.all_orders.orders_of_rules.Given as goal
 

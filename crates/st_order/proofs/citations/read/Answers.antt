@@ -1,5 +1,5 @@
 use Rattle.std.proofs.Common.{refl, ap, ◌∙◌}
-use Rattle.st_order.specs.inner.Parts.{all_now}
+use Rattle.st_order.specs.Known.{all_now}
 use Rattle.st_order.proofs.RuleParts.{all_now_append}
 use Rattle.st_order.proofs.HasRead.{reads_clause, reads_fun, reads_silent}
 use Rattle.st_order.proofs.citations.read.Goals as goal

@@ -1,7 +1,6 @@
 use Rattle.std.proofs.Common.{ap, ◌∙◌, filter, not, is_some}
 use Rattle.st_il.specs.declared.definition.FunDef.{FunDef}
-use Rattle.st_order.specs.inner.Index.{at}
-use Rattle.st_order.specs.inner.Parts.{all_now}
+use Rattle.st_order.specs.Known.{all_now, at}
 use Rattle.st_order.proofs.IsIndexed.{is_indexed}
 use Rattle.st_order.proofs.indexed.index_il.Goals as goal
 

@@ -1,7 +1,6 @@
 use Rattle.std.proofs.Common.{◌≡◌, take, filter, not, is_some}
 use Rattle.st_il.specs.declared.definition.FunDef.{FunDef}
-use Rattle.st_order.specs.inner.Index.{at}
-use Rattle.st_order.specs.inner.Parts.{all_now}
+use Rattle.st_order.specs.Known.{all_now, at}
 use Rattle.st_order.proofs.indexed.lacking_of.Given as goal
 
 abbrev pub invariant-loop-fun : goal.invariant-loop-fun

@@ -1,5 +1,5 @@
 use Rattle.std.proofs.Common.{◌≡◌, ◌-◌, List, ℕ, length, drop}
-use Rattle.st_order.specs.inner.Index.{at}
+use Rattle.st_order.specs.Known.{at}
 use Rattle.st_order.specs.inner.Masks.{mask_among}
 use Rattle.st_order.proofs.masks.masks.Given as goal
 

@@ -1,6 +1,6 @@
 use Rattle.std.proofs.Common.{◌≡◌, drop, find}
 use Rattle.st_order.specs.inner.Index.{names_in}
-use Rattle.st_order.specs.inner.Parts.{all_now}
+use Rattle.st_order.specs.Known.{all_now}
 use Rattle.st_order.specs.inner.Needs.{is_other_in}
 use Rattle.st_order.proofs.needs.first_relation.Given as goal
 

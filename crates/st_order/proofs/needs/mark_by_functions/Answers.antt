@@ -3,7 +3,7 @@ use Rattle.std.specs.Option.{option_copied}
 use Rattle.st_il.specs.declared.definition.FunDef.{FunDef}
 use Rattle.st_semantics.specs.Names.{has_name}
 use Rattle.st_order.specs.inner.Index.{names_in}
-use Rattle.st_order.specs.inner.Parts.{all_now}
+use Rattle.st_order.specs.Known.{all_now}
 use Rattle.st_order.proofs.NeedsFun.{lacks_nothing, lacks_none, lacks_some}
 use Rattle.st_order.proofs.needs.mark_by_functions.Goals as goal
 

@@ -1,7 +1,7 @@
 use Rattle.std.proofs.Common.{sym, ap, ◌∙◌}
 use Rattle.std.specs.Option.{option_copied}
 use Rattle.st_order.specs.inner.Index.{names_in}
-use Rattle.st_order.specs.inner.Parts.{all_now}
+use Rattle.st_order.specs.Known.{all_now}
 use Rattle.st_order.proofs.NeedsFun.{needs_nothing, needs_none, needs_some}
 use Rattle.st_order.proofs.needs.mark_by_relations.Goals as goal
 

@@ -1,5 +1,5 @@
 use Rattle.std.proofs.Common.{◌≡◌, ◌-◌, List, ℕ, length, drop}
-use Rattle.st_order.specs.inner.Index.{at}
+use Rattle.st_order.specs.Known.{at}
 use Rattle.st_order.specs.inner.Relations.{directed_among}
 use Rattle.st_order.proofs.relations.directed.Given as goal
 

@@ -1,5 +1,5 @@
 use Rattle.std.proofs.Common.{◌≡◌, ◌++◌, take, flat_map}
-use Rattle.st_order.specs.inner.Parts.{all_now}
+use Rattle.st_order.specs.Known.{all_now}
 use Rattle.st_tool.specs.OrderTexts.{relation_lines}
 use Rattle.st_tool.proofs.ordering.add_relations.Given as goal
 
