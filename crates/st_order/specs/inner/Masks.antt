@@ -9,7 +9,6 @@ use Rattle.st_il.specs.declared.definition.RelationDef.{RelationDef}
 use Rattle.st_semantics.specs.Names.{Name}
 use Rattle.st_semantics.specs.Definitions.{relations_in}
 use Rattle.st_semantics.specs.Directions.{inputs_or_all, mask}
-use Rattle.st_order.specs.declared.masks.Directions.{Directions}
 use Rattle.st_order.specs.Known.{at}
 
 -- for each hole of a relation, whether it is an input, under a name
