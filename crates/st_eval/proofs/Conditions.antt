@@ -2,7 +2,6 @@
 -- what matches the other one.
 use Rattle.std.proofs.Common.{◌≡◌, ℕ, ◌≤◌, refl, sym, ◌∙◌, ap, ap₂, subst, List, [], ◌∷◌, ◌++◌, ◌⊎◌, inl, inr, Bool, true, false, if◌then◌else◌, Option, Some, None, bytes_eq, arith}
 use Rattle.std.specs.Ordering.{is_eq}
-use Rattle.std.specs.Cmp.{Equal-is}
 use Rattle.std.proofs.lemmas.Bool.{le-leb}
 use Rattle.st_num.specs.declared.limit.TheConstants.{HIGHEST_VALUE}
 use Rattle.st_il.specs.declared.definition.Il.{Il}
@@ -13,12 +12,11 @@ use Rattle.st_il.specs.declared.expression.IlExp.TheOpen.{IlExp-F}
 use Rattle.st_il.specs.declared.expression.IlPrem.{IlPrem, out-IlPrem}
 use Rattle.st_il.specs.declared.expression.IlPrem.TheOpen.{IlPrem-F}
 use Rattle.st_il.specs.declared.value.Env.{Env}
-use Rattle.st_il.specs.declared.value.Value.{Value, out-Value}
+use Rattle.st_il.specs.declared.value.Value.{Value}
 use Rattle.st_il.specs.declared.value.Value.TheOpen.{Value-F}
 use Rattle.st_il.specs.declared.value.Value.TheVariants as value
 use Rattle.st_il.specs.Height.{height}
-use Rattle.st_il.specs.Order.{value_cmp}
-use Rattle.st_il.proofs.OrderLaws.{value_cmp-exact, value_cmp_order}
+use Rattle.st_il.proofs.OrderLaws.{value_cmp_order}
 use Rattle.st_semantics.specs.declared.outcome.Outcome.{Outcome}
 use Rattle.st_semantics.specs.declared.outcome.Outcome.TheVariants.{Val, NoValue, Deep}
 use Rattle.st_semantics.specs.Names.{Name, has_name, all_known, without}
@@ -43,12 +41,13 @@ use Rattle.st_semantics.proofs.PatternParts.{Gives-pattern}
 use Rattle.st_semantics.proofs.Restrict.{picked, restricted, agree_picked}
 use Rattle.st_semantics.proofs.Runs.{evaluated_whole, evaluated_side}
 use Rattle.st_semantics.proofs.Values.{Two, two_values, gives_two, equation_form}
-use Rattle.st_semantics.proofs.Lengths.{made_is}
-use Rattle.st_semantics.proofs.Low.{name_there, height-level}
+use Rattle.st_semantics.proofs.Low.{name_there, height-level, listed_there}
 use Rattle.st_semantics.proofs.Inverse.{holds_condition}
+use Rattle.st_semantics.proofs.Choice.{equal_sides}
+use Rattle.st_semantics.proofs.Depths.{value_not_deep}
 use Rattle.st_eval.specs.Steps.{value_at, HoldsAt, MeetsAt, HasOnly, HoldsWith, Fails, AreSides, LawOfTests, LawOfEquations, LawOfSides}
 use Rattle.st_eval.proofs.InByteOrder.{names_in, in_byte_order, is_in_order, in_order_value, in_order_names, name_has_value}
-use Rattle.st_eval.proofs.Trying.{known_all, listed_there}
+use Rattle.st_eval.proofs.Trying.{known_all}
 
 pub same_truth : (a b : Bool) → (a ≡ true → b ≡ true) → (b ≡ true → a ≡ true) → a ≡ b
 same_truth true true f g = refl
@@ -74,15 +73,6 @@ equal_itself v =
     let same : is_same v v ≡ true = ap is_eq ((value_cmp_order.equal v v).1 refl) in
     ap (λ z. limited (value.Bool z)) same ∙ low_limited (value.Bool true) (bool_low true)
 
--- two sides that are equal
-equal_sides : (y z : Value) → binary equality (y ∷ z ∷ []) ≡ Val (value.Bool true) → y ≡ z
-equal_sides y z e =
-    let made = made_is (equality y z) (value.Bool true) e in
-    let bools : value.Bool (is_same y z) ≡ value.Bool true = cc in
-    let opened : Value-F.Bool (is_same y z) ≡ Value-F.Bool true = sym (value.outs-Bool (is_same y z)) ∙ (ap out-Value bools ∙ value.outs-Bool true) in
-    let is : is_same y z ≡ true = cc in
-    value_cmp-exact y z ((Equal-is (value_cmp y z)).0 is)
-
 -- ---- a condition meets Deep only by what is evaluated
 
 abbrev IsEvaluatedDeep : Il → Answers → List Name → Env → IlExp → Type 0
@@ -101,9 +91,6 @@ meets_evaluated il C (d.height how xs body eq t) e is = cc
 
 some_same : (a b : IlExp) → Some a ≡ Some b → a ≡ b
 some_same a b e = cc
-
-val_deep : (v : Value) → Val v ≡ Deep → ⊥
-val_deep v e = cc
 
 none_val : (v : Value) → NoValue ≡ Val v → ⊥
 none_val v e = cc
@@ -144,7 +131,7 @@ law_of_tests il single n bound ls env p e o is known gives = (
 -- ---- equations
 
 -- the names of some entries that were picked
-picked_named : (names : List Name) (x : Name) (es : List Entry) → has_name (names_in (picked names es)) x ≡ true → has_name names x ≡ true
+pub picked_named : (names : List Name) (x : Name) (es : List Entry) → has_name (names_in (picked names es)) x ≡ true → has_name names x ≡ true
 picked_named names x [] k = cc
 picked_named names x (e ∷ es) k = at (has_name names e.0) refl k (picked_named names x es)
   where
@@ -152,7 +139,7 @@ picked_named names x (e ∷ es) k = at (has_name names e.0) refl k (picked_named
     at true j k ih = elim (or-cases (bytes_eq x e.0) (has_name (names_in (picked names es)) x) k) [ inl same ↦ ap (has_name names) (bytes-path x e.0 same) ∙ j | inr later ↦ ih later ]
     at false j k ih = ih k
 
-typed_there : (defs : List SyntaxDef) (l : Listed) (o : Option Value) → IsSomeTyped defs (type_of l) o → (v : Value) × (o ≡ Some v)
+pub typed_there : (defs : List SyntaxDef) (l : Listed) (o : Option Value) → IsSomeTyped defs (type_of l) o → (v : Value) × (o ≡ Some v)
 typed_there defs l None t = absurd t
 typed_there defs l (Some v) t = (v, refl)
 
@@ -326,7 +313,7 @@ module _ (il : Il) (single : CallsAreSingle il) (n : ℕ) (bound : List Name) (l
     pub unmatched_fails : ((more : Env) → IsMatch (syntaxes il) ls pattern v env more → ⊥) → Fails il n bound ls env p
     unmatched_fails none = record {
       never = λ more g typed hold. none (less more g typed hold) (less_matches more g typed hold);
-      not_deep = λ m. val_deep v (side_deep (Val v) gives m);
+      not_deep = λ m. value_not_deep v (side_deep (Val v) gives m);
     }
 
 pub law_of_equations : (il : Il) → CallsAreSingle il → LawOfEquations il

@@ -32,7 +32,7 @@ use Rattle.st_eval.proofs.Conditions.{same_truth, law_of_equations, law_of_sides
 
 -- ---- what matches
 
-last_there : (xs : List Env) (x : Env) → Contains (xs ++ x ∷ []) x
+pub last_there : (xs : List Env) (x : Env) → Contains (xs ++ x ∷ []) x
 last_there [] x = (zero, omega arith, refl)
 last_there (y ∷ xs) x = let w = last_there xs x in let less = w.1 in (suc w.0, omega (arith, less), w.2)
 

@@ -1,10 +1,9 @@
 -- An environment with the entries of another one in byte order of their names, each name once.
 use Rattle.std.proofs.Common.{◌≡◌, refl, sym, ◌∙◌, ap, subst, List, [], ◌∷◌, map, ◌⊎◌, inl, inr, Bool, true, false, ◌||◌, if◌then◌else◌, Option, Some, bytes_eq, All, arith}
 use Rattle.std.specs.Prelude.{AllPairs}
-use Rattle.std.specs.Ordering.{is_lt, is_eq, ordering_reverse}
+use Rattle.std.specs.Ordering.{is_lt, is_eq}
 use Rattle.std.specs.declared.cmp.Ordering.{Ordering}
 use Rattle.std.specs.declared.cmp.Ordering.TheVariants as order
-use Rattle.std.proofs.lemmas.Cmp.{nat_list_cmp_total}
 use Rattle.std.proofs.lemmas.Map.Text.{is_eq-slice_cmp}
 use Rattle.std.proofs.lemmas.List.Elements.{All-nil, All-cons}
 use Rattle.std.proofs.lemmas.List.Kept.{AllPairs-cons}
@@ -13,6 +12,7 @@ use Rattle.st_il.specs.declared.value.Value.{Value}
 use Rattle.st_il.specs.Order.{text_cmp}
 use Rattle.st_semantics.specs.Names.{Name, has_name}
 use Rattle.st_semantics.specs.Environments.{Entry, lookup, value_in, names_of, IsOrdered}
+use Rattle.st_semantics.proofs.InOrder.{before-trans, before-greater, names_equal}
 use Rattle.st_semantics.proofs.Names.{bytes-same, bytes-path, or-left, or-right, or-cases, true_false}
 
 -- the names of some entries
@@ -31,20 +31,6 @@ abbrev pub put : Entry → List Entry → List Entry
 put e [] = e ∷ []
 put e (f ∷ fs) = put_by (text_cmp e.0 f.0) e f fs (put e fs)
 
-less_is : (o : Ordering) → is_lt o ≡ true → o ≡ order.Less
-less_is order.Less h = refl
-less_is order.Equal h = cc
-less_is order.Greater h = cc
-
-equal_names : (x y : Name) → text_cmp x y ≡ order.Equal → x ≡ y
-equal_names x y h = bytes-path x y (sym (is_eq-slice_cmp x y) ∙ ap is_eq h)
-
-before_trans : (x y z : Name) → is_lt (text_cmp x y) ≡ true → is_lt (text_cmp y z) ≡ true → is_lt (text_cmp x z) ≡ true
-before_trans x y z h k = ap is_lt (nat_list_cmp_total.trans x y z (less_is (text_cmp x y) h) (less_is (text_cmp y z) k))
-
-after_is_before : (x y : Name) → text_cmp x y ≡ order.Greater → is_lt (text_cmp y x) ≡ true
-after_is_before x y h = ap is_lt (nat_list_cmp_total.antisymm y x ∙ ap ordering_reverse h)
-
 not_greater : (x y : Name) → x ≡ y → text_cmp x y ≡ order.Greater → ⊥
 not_greater x y same h =
     let equal : is_eq (text_cmp x y) ≡ true = is_eq-slice_cmp x y ∙ (ap (bytes_eq x) (sym same) ∙ bytes-same x) in
@@ -61,7 +47,7 @@ found x e f rest o h true true j k = (
 found x e f rest o h true false j k = (λ g. refl, λ g. refl)
 found x e f rest o h false true j k = (
   λ g. refl,
-  λ g. absurd (true_false (sym k ∙ (ap (bytes_eq x) (sym (equal_names e.0 f.0 (h ∙ g))) ∙ j))),
+  λ g. absurd (true_false (sym k ∙ (ap (bytes_eq x) (sym (names_equal e.0 f.0 (h ∙ g))) ∙ j))),
 )
 found x e f rest o h false false j k = (λ g. refl, λ g. refl)
 
@@ -112,14 +98,14 @@ sorted_put e (f ∷ fs) s = at (text_cmp e.0 f.0) refl (sorted_put e fs s.1)
     at order.Less h ih = (
       λ y k. elim (or-cases (bytes_eq y f.0) (has_name (names_in fs) y) k) [
         | inl j ↦ subst (λ z. is_lt (text_cmp e.0 z) ≡ true) (sym (bytes-path y f.0 j)) (ap is_lt h)
-        | inr j ↦ before_trans e.0 f.0 y (ap is_lt h) (s.0 y j)
+        | inr j ↦ before-trans e.0 f.0 y (ap is_lt h) (s.0 y j)
       ],
       s,
     )
-    at order.Equal h ih = (λ y k. subst (λ z. is_lt (text_cmp z y) ≡ true) (sym (equal_names e.0 f.0 h)) (s.0 y k), s.1)
+    at order.Equal h ih = (λ y k. subst (λ z. is_lt (text_cmp z y) ≡ true) (sym (names_equal e.0 f.0 h)) (s.0 y k), s.1)
     at order.Greater h ih = (
       λ y k. elim (names_put y e fs k) [
-        | inl j ↦ subst (λ z. is_lt (text_cmp f.0 z) ≡ true) (sym (bytes-path y e.0 j)) (after_is_before e.0 f.0 h)
+        | inl j ↦ subst (λ z. is_lt (text_cmp f.0 z) ≡ true) (sym (bytes-path y e.0 j)) (before-greater e.0 f.0 h)
         | inr j ↦ s.0 y j
       ],
       ih,

@@ -29,9 +29,9 @@ use Rattle.st_semantics.specs.Scopes.{listed_inside, stepped_all, indices}
 use Rattle.st_semantics.specs.Evaluation.{tasks, GivesAll, variable}
 use Rattle.st_semantics.specs.Variables.{vars, vars_of, prem_vars, cites}
 use Rattle.st_semantics.specs.Holding as h
-use Rattle.st_semantics.specs.Holding.{HaveValues, AreElements, each_instance, Holds, HoldAll}
+use Rattle.st_semantics.specs.Holding.{HaveValues, AreElements, each_instance, HoldAll}
 use Rattle.st_semantics.specs.Depth as d
-use Rattle.st_semantics.specs.Depth.{bound_count, ValuesAt, AllTypedIn, Passed, Unfolds, BindsTooHigh, Meets, MeetsHere}
+use Rattle.st_semantics.specs.Depth.{bound_count, ValuesAt, AllTypedIn, Passed, Unfolds, BindsTooHigh, MeetsHere}
 use Rattle.st_semantics.specs.Calls.{no_goal, in_clause, CallAt}
 use Rattle.st_semantics.specs.Executable.{is_countable, is_variable_at}
 use Rattle.st_semantics.specs.Laws.{CallsAreSingle}
@@ -46,13 +46,12 @@ use Rattle.st_semantics.proofs.Lengths.{limited_is}
 use Rattle.st_semantics.proofs.CanRun.{IsShort, count_short}
 use Rattle.st_semantics.proofs.PatternValues.{one_count, one_name}
 use Rattle.st_semantics.proofs.Inverse.{holds_each}
-use Rattle.st_semantics.proofs.Bindings.{BindsInside, binds_inside, class_binds}
+use Rattle.st_semantics.proofs.Bindings.{BindsInside, binds_inside, class_binds, Binds-wider}
 use Rattle.st_semantics.proofs.Choice.{holds_not_deep}
 use Rattle.st_eval.specs.Steps.{value_at, HoldsAt, MeetsAt, HasOnly, HoldsWith, Fails}
 use Rattle.st_eval.specs.Elements.{IsEach, GoesOver, AllHoldWith, Gathers, LawOfCounts, LawOfElements, LawOfGathering}
 use Rattle.st_eval.proofs.InByteOrder.{name_has_value}
 use Rattle.st_eval.proofs.Trying.{known_all, only_low, Meets-agree}
-use Rattle.st_eval.proofs.MoreBound.{Binds-wider}
 use Rattle.st_eval.proofs.Unfolding.{AreCounted, known_spread, over_same, or_some, values_of, collected, gathered_env, HasValues, IsFreeCount, number_is, w, more_agrees, more_new, more_count, cols, gathers, anchored_size}
 
 misfit_over : (s : Spread) (envs : List Env) → s ≡ Misfit → s ≡ Over envs → ⊥
@@ -100,7 +99,7 @@ not_true true f = absurd (f refl)
 not_true false f = refl
 
 -- values that are there are the values of the variable
-values_same : (x : Name) (found : List Env) (vs : List Value) → ValuesAt x found vs → vs ≡ values_of x found
+pub values_same : (x : Name) (found : List Env) (vs : List Value) → ValuesAt x found vs → vs ≡ values_of x found
 values_same x [] [] at = refl
 values_same x [] (v ∷ vs) at = absurd at
 values_same x (t ∷ ts) [] at = absurd at
@@ -123,7 +122,7 @@ module _ (il : Il) (single : CallsAreSingle il) (n : ℕ) (bound : List Name) (l
   abbrev New : List Name
   New = without Inside (prem_vars body)
 
-  binding : BindsInside bound how xs body
+  pub binding : BindsInside bound how xs body
   binding = binds_inside (Binds-wider (class_binds il each.names_occurring each.few each.class each.executable each.one_open) bound (known-within bound each.few each.within)) how xs body each.is
 
   body_free : (relation : Name) (es : List IlExp) → out-IlPrem body ≡ IlPrem-F.Goal relation es → ⊥
@@ -133,10 +132,10 @@ module _ (il : Il) (single : CallsAreSingle il) (n : ℕ) (bound : List Name) (l
       true_false (sym goal ∙ (sym inner ∙ each.without_goal))
 
   -- the variables of the premise
-  outer_names : (x : Name) → has_name (prem_vars p) x ≡ has_name ((vars_of (count_of how) ++ xs) ++ without (index_of how) (prem_vars body)) x
+  pub outer_names : (x : Name) → has_name (prem_vars p) x ≡ has_name ((vars_of (count_of how) ++ xs) ++ without (index_of how) (prem_vars body)) x
   outer_names x = ap (λ z. has_name z x) (prem-level p (IlPrem-F.Each how xs body) each.is)
 
-  xs_within : Within xs (prem_vars p)
+  pub xs_within : Within xs (prem_vars p)
   xs_within x i = outer_names x ∙ within-left (vars_of (count_of how) ++ xs) (without (index_of how) (prem_vars body)) x (within-right (vars_of (count_of how)) xs x i)
 
   -- a name of the iteration occurs inside and is not its index
@@ -226,7 +225,7 @@ module _ (il : Il) (single : CallsAreSingle il) (n : ℕ) (bound : List Name) (l
 
   -- ---- what it meets
 
-  abbrev Met : Iteration → List Name → IlPrem → Type 0
+  abbrev pub Met : Iteration → List Name → IlPrem → Type 0
   Met k ys b =
       GivesAll (syntaxes il) (CallAt il n) (tasks env (bound_count bound k)) (Stopped Deep)
       ⊎ ((before : List Env) × (at : Env) × (after : List Env) × Unfolds (in_clause il (CallAt il n)) bound k ys env (before ++ at ∷ after) × Passed (in_clause il (CallAt il n)) bound ls k ys b before
@@ -246,12 +245,12 @@ module _ (il : Il) (single : CallsAreSingle il) (n : ℕ) (bound : List Name) (l
   here_met (d.output relation es vs e eq have contains deep) = let bad : IlPrem-F.Goal relation es ≡ IlPrem-F.Each how xs body = sym eq ∙ each.is in cc
   here_met (d.count k ys b eq deep) = moved_met k ys b (sym eq ∙ each.is) (inl deep)
 
-  met : MeetsAt il n bound ls env p → Met how xs body
+  pub met : MeetsAt il n bound ls env p → Met how xs body
   met (d.here m) = here_met m
   met (d.element k ys b before at after eq u passed m) = moved_met k ys b (sym eq ∙ each.is) (inr (inl (before, at, after, u, passed, m)))
   met (d.height k ys b eq t) = moved_met k ys b (sym eq ∙ each.is) (inr (inr t))
 
-  abbrev ElementsIn : Env → List Env → Type 0
+  abbrev pub ElementsIn : Env → List Env → Type 0
   ElementsIn more envs = AreElements (value_at il n) how xs more envs
 
   -- where nothing makes it unfold, it fails
@@ -286,12 +285,12 @@ module _ (il : Il) (single : CallsAreSingle il) (n : ℕ) (bound : List Name) (l
 
   module _ (elements : List Env) (goes : GoesOver il n bound env how xs elements) where
     -- every environment with more variables has elements that agree on what is bound
-    known : (more : Env) → AgreeOn bound env more → (envs : List Env) → ElementsIn more envs → EnvsAgree Inside elements envs
+    pub known : (more : Env) → AgreeOn bound env more → (envs : List Env) → ElementsIn more envs → EnvsAgree Inside elements envs
     known more g envs el =
         let k = known_spread how bound xs env more goes.count el.0 envs g (counted_so more goes.count el.0 g goes.counted el.1) el.2 in
         subst (λ z. EnvsAgree Inside z envs) (over_same k.0 elements (sym k.1 ∙ goes.over)) k.2
 
-    not_deep_count : GivesAll (syntaxes il) (CallAt il n) (tasks env (bound_count bound how)) (Stopped Deep) → ⊥
+    pub not_deep_count : GivesAll (syntaxes il) (CallAt il n) (tasks env (bound_count bound how)) (Stopped Deep) → ⊥
     not_deep_count deep = count_not_deep goes.count goes.counted Deep deep
 
   -- an element that agrees with a given one, where the premise holds
@@ -602,7 +601,7 @@ module _ (il : Il) (single : CallsAreSingle il) (n : ℕ) (bound : List Name) (l
   -- ---- an environment of what is gathered has the variables, each of its type
 
   -- a variable of the premise that is not bound is iterated, or it is the count
-  unbound_name : (x : Name) → has_name bound x ≡ false → has_name (prem_vars p) x ≡ true
+  pub unbound_name : (x : Name) → has_name bound x ≡ false → has_name (prem_vars p) x ≡ true
       → (has_name xs x ≡ true) ⊎ ((e : IlExp) × (count_of how ≡ e ∷ []) × (out-IlExp e ≡ IlExp-F.Var x))
   unbound_name x k i = elim (within-cases (vars_of (count_of how) ++ xs) (without (index_of how) (prem_vars body)) x (sym (outer_names x) ∙ i)) [
     | inl j ↦ elim (within-cases (vars_of (count_of how)) xs x j) [ inl c ↦ inr (counted_name c free.2) | inr m ↦ inl m ]

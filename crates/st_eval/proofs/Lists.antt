@@ -7,7 +7,6 @@ use Rattle.st_il.specs.declared.definition.Listed.{Listed}
 use Rattle.st_il.specs.declared.expression.Iteration.{Iteration}
 use Rattle.st_il.specs.declared.expression.IlPrem.{IlPrem}
 use Rattle.st_il.specs.declared.ty.Ty.{Ty}
-use Rattle.st_il.specs.declared.ty.Ty.TheVariants as ty
 use Rattle.st_il.specs.declared.value.Env.{Env}
 use Rattle.st_il.specs.declared.value.Value.{Value}
 use Rattle.st_semantics.specs.declared.outcome.Outcome.TheVariants.{Val}
@@ -15,13 +14,13 @@ use Rattle.st_semantics.specs.Names.{Name, has_name}
 use Rattle.st_semantics.specs.Definitions.{syntaxes}
 use Rattle.st_semantics.specs.Environments.{value_in, wrapped, type_of, listed_as, IsTypedValue, IsSomeTyped}
 use Rattle.st_semantics.specs.Iterations.{index_of, kind_of, gathered_as}
-use Rattle.st_semantics.specs.Scopes.{inner, stepped, stepped_all, indices, listed_inside}
+use Rattle.st_semantics.specs.Scopes.{inner, stepped, stepped_all, listed_inside}
 use Rattle.st_semantics.specs.Variables.{prem_vars}
 use Rattle.st_semantics.specs.Depth.{ValuesAt}
 use Rattle.st_semantics.specs.Kinds.{BeginsWith}
 use Rattle.st_semantics.specs.Laws.{CallsAreSingle}
 use Rattle.st_semantics.proofs.Names.{bytes-path, within-right}
-use Rattle.st_semantics.proofs.Elements.{EachTyped, or-false}
+use Rattle.st_semantics.proofs.Elements.{EachTyped, no_index}
 use Rattle.st_semantics.proofs.TypedParts.{gathered_typed}
 use Rattle.st_eval.specs.Elements.{IsEach, AllHoldWith, LawOfLists, LawOfGathered}
 use Rattle.st_eval.proofs.Trying.{some_typed}
@@ -54,12 +53,6 @@ listed_stepped x xs (m ∷ ms) l e = at (bytes_eq x m.name) e (listed_stepped x 
     at true e ih = let same : m ≡ l = cc in ap (λ z. Some (stepped xs z)) same
     at false e ih = ih e
 
-not_index : (index : List Name) (x : Name) (rest : List Listed) → has_name index x ≡ false → listed_as x (indices index ++ rest) ≡ listed_as x rest
-not_index [] x rest h = refl
-not_index (i ∷ is) x rest h =
-    let b : (bytes_eq x i ≡ false) × (has_name is x ≡ false) = or-false (bytes_eq x i) (has_name is x) h in
-    ap (λ z. if z then Some (record { name = i; ty = ty.Nat; dim = [] }) else listed_as x (indices is ++ rest)) b.0 ∙ not_index is x rest b.1
-
 abbrev inner_dim : Bool → Listed → List Kind
 inner_dim b l = if b then inner l.dim else l.dim
 
@@ -69,7 +62,7 @@ module _ (il : Il) (single : CallsAreSingle il) (n : ℕ) (bound : List Name) (l
   own = own_name il single n bound ls env p how xs body each x iterated
 
   inside : listed_as x (listed_inside how xs ls) ≡ Some (stepped xs l)
-  inside = not_index (index_of how) x (stepped_all xs ls) own.0 ∙ listed_stepped x xs ls l listed
+  inside = no_index (index_of how) x (stepped_all xs ls) own.0 ∙ listed_stepped x xs ls l listed
 
   element_type : type_of (stepped xs l) ≡ wrapped (inner l.dim) l.ty
   element_type = ap (λ b. wrapped (inner_dim b l) l.ty) (ap (has_name xs) (sym (listed_name x ls l listed)) ∙ iterated)

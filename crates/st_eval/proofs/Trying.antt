@@ -1,6 +1,6 @@
 -- A clause that is tried premise by premise: it goes on, it is passed over, it meets Deep, or it is
 -- chosen.
-use Rattle.std.proofs.Common.{◌≡◌, ℕ, refl, sym, ◌∙◌, ap, ap₂, subst, List, [], ◌∷◌, ◌++◌, map, filter, ◌⊎◌, inl, inr, Bool, true, false, not, ◌&&◌, ◌||◌, if◌then◌else◌, Option, Some, None, bytes_eq, append_assoc, append-nil, All}
+use Rattle.std.proofs.Common.{◌≡◌, ℕ, refl, sym, ◌∙◌, ap, ap₂, subst, List, [], ◌∷◌, ◌++◌, filter, ◌⊎◌, inl, inr, Bool, true, false, not, ◌&&◌, if◌then◌else◌, Option, Some, None, bytes_eq, append_assoc, append-nil, All}
 use Rattle.std.specs.List.{list_all}
 use Rattle.std.proofs.lemmas.List.Elements.{All-nil, All-cons, All-head, All-tail}
 use Rattle.st_num.specs.declared.rule.RuleId.TheVariants.{M3, M4, M6}
@@ -17,15 +17,14 @@ use Rattle.st_il.specs.declared.expression.IlPrem.{IlPrem, out-IlPrem}
 use Rattle.st_il.specs.declared.expression.IlPrem.TheOpen.{IlPrem-F}
 use Rattle.st_il.specs.declared.value.Env.{Env}
 use Rattle.st_il.specs.declared.value.Value.{Value}
-use Rattle.st_semantics.specs.Names.{Name, has_name, all_known, without, flattened}
+use Rattle.st_semantics.specs.Names.{Name, has_name, all_known, without}
 use Rattle.st_semantics.specs.Definitions.{syntaxes}
 use Rattle.st_semantics.specs.Environments.{names_of, value_in, type_of, listed_in, listed_as, listed_names, AgreeOn, TypedIn, EnvOk, HasListed, IsSomeTyped, IsTypedValue}
 use Rattle.st_semantics.specs.Iterations.{count_of}
-use Rattle.st_semantics.specs.Evaluation.{Answers, tasks}
+use Rattle.st_semantics.specs.Evaluation.{Answers}
 use Rattle.st_semantics.specs.Variables.{vars, vars_of, prem_vars, prems_vars, cites}
-use Rattle.st_semantics.specs.Patterns.{is_pattern, binds, bound_by}
 use Rattle.st_semantics.specs.Holding as h
-use Rattle.st_semantics.specs.Holding.{value_by, HaveValues, Instance, instances, Holds, HoldAll}
+use Rattle.st_semantics.specs.Holding.{instances, HoldAll}
 use Rattle.st_semantics.specs.Depth as d
 use Rattle.st_semantics.specs.Depth.{evaluated, side_at, bound_side, bound_count, Meets, MeetsHere}
 use Rattle.st_semantics.specs.Reaching.{Reached, bound_behind, listed_behind}
@@ -36,17 +35,14 @@ use Rattle.st_semantics.specs.Kinds.{NamesOccurring}
 use Rattle.st_semantics.specs.Laws.{CallsAreSingle}
 use Rattle.st_semantics.proofs.Names.{Within, within-cases, within-left, within-right, and-both, known-within, or-left, or-right, bytes-same}
 use Rattle.st_semantics.proofs.Agree.{Gives-agree, tasks_agree, HaveValues-agree, HoldAll-agree, instances-agree, value_by-local}
-use Rattle.st_semantics.proofs.Singles.{IsSingle}
 use Rattle.st_semantics.proofs.Acceptance.{cites-level}
 use Rattle.st_semantics.proofs.Restrict.{typed_of, typed_in, listed_same, listed_has}
 use Rattle.st_semantics.proofs.Premises.{without-parts}
-use Rattle.st_semantics.proofs.Clauses.{hold_first, append_hold, prems_vars-append}
+use Rattle.st_semantics.proofs.Clauses.{append_hold, prems_vars-append}
 use Rattle.st_semantics.proofs.Runs.{evaluated_side}
-use Rattle.st_semantics.proofs.PatternForms.{AllSingly}
-use Rattle.st_semantics.proofs.PatternValues.{pattern_agrees}
-use Rattle.st_semantics.proofs.Low.{AreLow, name_there}
-use Rattle.st_semantics.proofs.Choice.{agree_both, binds_agree, holds_not_deep}
-use Rattle.st_semantics.proofs.Choices.{ClauseBinds, all_bind}
+use Rattle.st_semantics.proofs.Low.{AreLow, name_there, listed_there}
+use Rattle.st_semantics.proofs.Choice.{holds_not_deep}
+use Rattle.st_semantics.proofs.Choices.{ClauseBinds, all_bind, first_agree, premises_agree, front_hold}
 use Rattle.st_eval.specs.Steps.{IsRunnable, value_at, MeetsAt, HasOnly, IsMetUpTo, Fails, LawOfArguments, LawOfNext, LawOfFailure, LawOfDeepness, LawOfResults}
 use Rattle.st_eval.proofs.InByteOrder.{in_byte_order, is_in_order, in_order_value, in_order_names}
 
@@ -79,14 +75,6 @@ front_within before after x k = subst (λ z. has_name z x ≡ true) (sym (prems_
 -- an environment of the variables that are listed of some names is typed at these
 pub typed_some : (defs : List SyntaxDef) (top : List Name) (ls : List Listed) (env : Env) → EnvOk defs (listed_in top ls) env → (names : List Name) → Within names top → TypedIn defs ls names env
 typed_some defs top ls env ok names w x i l e = typed_of defs (listed_in top ls) env ok x l (sym (listed_same top ls x (w x i)) ∙ e)
-
-pub listed_there : (x : Name) (ls : List Listed) → has_name (listed_names ls) x ≡ true → (l : Listed) × (listed_as x ls ≡ Some l)
-listed_there x [] k = cc
-listed_there x (l ∷ ls) k = at (bytes_eq x l.name) k (listed_there x ls)
-  where
-    at : (b : Bool) → (b || has_name (listed_names ls) x) ≡ true → (has_name (listed_names ls) x ≡ true → (m : Listed) × (listed_as x ls ≡ Some m)) → (m : Listed) × ((if b then Some l else listed_as x ls) ≡ Some m)
-    at true k ih = (l, refl)
-    at false k ih = ih k
 
 pub some_typed : (defs : List SyntaxDef) (l : Listed) (o : Option Value) (v : Value) → IsSomeTyped defs (type_of l) o → o ≡ Some v → IsTypedValue defs (type_of l) v
 some_typed defs l None v t e = cc
@@ -222,7 +210,7 @@ positions (b ∷ bs) p cs (f ∷ ds) q es e =
 
 -- ---- one clause
 
-clause_binds : (il : Il) (c : ClauseDef) → IsRunnable il c → ClauseBinds c
+pub clause_binds : (il : Il) (c : ClauseDef) → IsRunnable il c → ClauseBinds c
 clause_binds il c run =
     (all_bind il (c ∷ []) (All-cons (ClauseKeeps il (M3 ∷ M4 ∷ M6 ∷ [])) c [] run.modes (All-nil (ClauseKeeps il (M3 ∷ M4 ∷ M6 ∷ []))))
     (All-cons (λ (c : ClauseDef). All NamesOccurring c.premises) c [] run.names_occurring (All-nil (λ (c : ClauseDef). All NamesOccurring c.premises)))).0
@@ -238,47 +226,6 @@ goal_free (q ∷ ps) [] p after e k relation es is =
 goal_free (q ∷ ps) (b ∷ before) p after e k relation es is =
     let rest : ps ≡ before ++ p ∷ after = cc in
     goal_free ps before p after rest (and-both (not (cites q)) (list_all (λ (p : IlPrem). not (cites p)) ps) k).1 relation es is
-
-module _ (il : Il) (C : Answers) (one : IsSingle C) where
-  args_agree : (a b : Env) (es : List IlExp) (vs : List Value) → list_all is_pattern es ≡ true → AllSingly es → HaveValues (value_by (syntaxes il) C) (tasks a es) vs → HaveValues (value_by (syntaxes il) C) (tasks b es) vs
-      → AgreeOn (bound_by es) a b
-  args_agree a b [] vs k s p q x i = cc
-  args_agree a b (e ∷ es) [] k s p q x i = absurd p
-  args_agree a b (e ∷ es) (v ∷ vs) k s p q x i =
-      let w = and-both (is_pattern e) (list_all is_pattern es) k in
-      let names : bound_by (e ∷ es) ≡ binds e ++ bound_by es = ap (λ z. flattened (map binds (if z then e ∷ filter is_pattern es else filter is_pattern es))) w.0 in
-      elim (within-cases (binds e) (bound_by es) x (subst (λ z. has_name z x ≡ true) names i)) [
-        | inl here ↦ pattern_agrees (syntaxes il) C p.0 v refl w.0 s.0 b q.0 x here
-        | inr later ↦ args_agree a b es vs w.1 s.1 p.1 q.1 x later
-      ]
-
-  module _ (c : ClauseDef) (runs : ClauseBinds c) (vs : List Value) (a b : Env) where
-    -- what the arguments bind
-    first_agree : HaveValues (value_by (syntaxes il) C) (tasks a c.args) vs → HaveValues (value_by (syntaxes il) C) (tasks b c.args) vs → AgreeOn (bound_behind c.args []) a b
-    first_agree p q =
-        subst (λ z. AgreeOn z a b) (sym (append-nil (vars_of c.args)))
-        (λ x i. args_agree a b c.args vs runs.patterns runs.singly p q x (known-within (bound_by c.args) (vars_of c.args) runs.args x i))
-
-    -- what all premises up to a position bind
-    premises_agree : (ps earlier after : List IlPrem) → c.premises ≡ earlier ++ (ps ++ after) → AgreeOn (bound_behind c.args earlier) a b
-        → HoldAll (value_by (syntaxes il) C) (Unit {0}) no_goal (instances a ps) → HoldAll (value_by (syntaxes il) C) (Unit {0}) no_goal (instances b ps) → AgreeOn (bound_behind c.args (earlier ++ ps)) a b
-    premises_agree [] earlier after eq g ha hb = subst (λ z. AgreeOn (bound_behind c.args z) a b) (sym (append-nil earlier)) g
-    premises_agree (p ∷ ps) earlier after eq g ha hb =
-        let x = hold_first (a, p) (instances a ps) ha in
-        let y = hold_first (b, p) (instances b ps) hb in
-        let here : AgreeOn (prem_vars p) a b = binds_agree (syntaxes il) C one (runs.premises earlier p (ps ++ after) eq) a b g x.0 y.0 in
-        let next : AgreeOn (bound_behind c.args (earlier ++ (p ∷ []))) a b = subst (λ z. AgreeOn z a b) (bound_next c earlier p) (agree_both (bound_behind c.args earlier) (prem_vars p) a b g here) in
-        subst (λ z. AgreeOn (bound_behind c.args z) a b) (append_assoc earlier (p ∷ []) ps)
-        (premises_agree ps (earlier ++ (p ∷ [])) after (eq ∙ sym (append_assoc earlier (p ∷ []) (ps ++ after))) next x.1 y.1)
-
--- the premises before one, and that one
-front_hold : (il : Il) (C : Answers) (a : Env) (before : List IlPrem) (p : IlPrem) (after : List IlPrem) → HoldAll (value_by (syntaxes il) C) (Unit {0}) no_goal (instances a (before ++ p ∷ after))
-    → HoldAll (value_by (syntaxes il) C) (Unit {0}) no_goal (instances a before) × Holds (value_by (syntaxes il) C) (Unit {0}) no_goal a p
-front_hold il C a [] p after all = (h.done, (hold_first (a, p) (instances a after) all).0)
-front_hold il C a (q ∷ before) p after all =
-    let x = hold_first (a, q) (instances a (before ++ p ∷ after)) all in
-    let rest = front_hold il C a before p after x.1 in
-    (h.more x.0 rest.0, rest.1)
 
 -- ---- the laws
 
@@ -301,7 +248,7 @@ law_of_next il n c vs before p env more met holds =
     }
 
 -- what is bound before a position is listed
-bound_listed : (il : Il) (c : ClauseDef) (run : IsRunnable il c) (before after : List IlPrem) → c.premises ≡ before ++ after → all_known (listed_names c.variables) (bound_in_clause c before) ≡ true
+pub bound_listed : (il : Il) (c : ClauseDef) (run : IsRunnable il c) (before after : List IlPrem) → c.premises ≡ before ++ after → all_known (listed_names c.variables) (bound_in_clause c before) ≡ true
 bound_listed il c run before after split =
     known_all (listed_names c.variables) (bound_in_clause c before) (λ x k. known-within (listed_names c.variables) (bound_in_clause c c.premises) run.listed x
     (elim (within-cases (vars_of c.args) (prems_vars before) x k) [

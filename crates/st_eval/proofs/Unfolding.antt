@@ -12,11 +12,11 @@ use Rattle.st_il.specs.declared.value.Value.TheVariants as value
 use Rattle.st_semantics.specs.Names.{Name, has_name, among}
 use Rattle.st_semantics.specs.Environments.{Entry, lookup, value_in, AgreeOn}
 use Rattle.st_semantics.specs.Parts.{option_at}
-use Rattle.st_semantics.specs.Iterations.{index_of, kind_of, may_be, Column, column_of, before, columns, all_long, size_of, first_length, heads, tails, bound_to, counted_to, rows, Over, spread, spread_rows, spread_long}
+use Rattle.st_semantics.specs.Iterations.{index_of, kind_of, may_be, Column, column_of, before, columns, all_long, size_of, first_length, heads, tails, bound_to, rows, Over, spread, spread_rows, spread_long}
 use Rattle.st_semantics.proofs.Names.{Within, bytes-same, bytes-path, and-both, or-left, or-right, true_false}
-use Rattle.st_semantics.proofs.Agree.{EnvsAgree, IsShort, index_short}
+use Rattle.st_semantics.proofs.Agree.{EnvsAgree, index_short}
 use Rattle.st_semantics.proofs.Elements.{before_parts, skip}
-use Rattle.st_semantics.proofs.Columns.{column, behind, column-tails, in_row, row-lookup, long-tails, column-value, column_there, elements-list}
+use Rattle.st_semantics.proofs.Columns.{column, behind, column-tails, in_row, row-lookup, long-tails, column_long, rows-length, rows_alike, column-value, column_there, elements-list}
 
 -- ---- the parts of a spread
 
@@ -49,20 +49,7 @@ over_rows how xs env count n cs are size fit =
 pub over_same : (as' bs : List Env) → Over as' ≡ Over bs → as' ≡ bs
 over_same as' bs e = cc
 
-rows_length : (index xs : List Name) (env : List Entry) (n k : ℕ) (cs : List Column) → length (rows index xs env n k cs) ≡ n
-rows_length index xs env zero k cs = refl
-rows_length index xs env (suc n) k cs = ap suc (rows_length index xs env n (k + 1) (tails cs))
-
 -- ---- columns of one length
-
-column_long : (n : ℕ) (x : Name) (xs : List Name) (cs : List Column) (c : Column) → all_long n cs ≡ true → column x xs cs ≡ Some c → length c ≡ n
-column_long n x [] cs c h e = cc
-column_long n x (m ∷ ms) [] c h e = cc
-column_long n x (m ∷ ms) (d ∷ ds) c h e = at (bytes_eq x m) e (column_long n x ms ds c (and-both (nat_eq (length d) n) (all_long n ds) h).1)
-  where
-    at : (b : Bool) → (if b then Some d else column x ms ds) ≡ Some c → (column x ms ds ≡ Some c → length c ≡ n) → length c ≡ n
-    at true e ih = let same : d ≡ c = cc in subst (λ z. length z ≡ n) same (eqb-true (length d) n (and-both (nat_eq (length d) n) (all_long n ds) h).0)
-    at false e ih = ih e
 
 -- the length of the first column is that of all
 first_long : (k : Kind) (n : ℕ) (xs : List Name) (x : Name) (env : List Entry) (cs : List Column) → columns k xs env ≡ Some cs → has_name xs x ≡ true → all_long n cs ≡ true → first_length (Some cs) ≡ Some n
@@ -70,35 +57,9 @@ first_long k n [] x env cs e i h = cc
 first_long k n (m ∷ ms) x env [] e i h = let w = before_parts (column_of k (lookup m env)) (columns k ms env) [] e in let bad : w.0 ∷ w.1 ≡ [] = w.4 in cc
 first_long k n (m ∷ ms) x env (c ∷ cs) e i h = ap Some (eqb-true (length c) n (and-both (nat_eq (length c) n) (all_long n cs) h).0)
 
--- ---- the same rows, over other names
-
-counted_alike : (index names : List Name) → IsShort index → (k : ℕ) (a b : List Entry) → ((x : Name) → has_name names x ≡ true → lookup x a ≡ lookup x b)
-    → (x : Name) → has_name (index ++ names) x ≡ true → lookup x (counted_to index k a) ≡ lookup x (counted_to index k b)
-counted_alike [] names s k a b g x h = g x h
-counted_alike (i ∷ []) names s k a b g x h = at (bytes_eq x i) h
-  where
-    at : (c : Bool) → (c || has_name names x) ≡ true → (if c then Some (value.Num (pos k)) else lookup x a) ≡ (if c then Some (value.Num (pos k)) else lookup x b)
-    at true h = refl
-    at false h = g x h
-counted_alike (i ∷ j ∷ more) names s k a b g x h = absurd s
-
-module _ (index names xs ys : List Name) (short : IsShort index) (a b : List Entry) (g : (x : Name) → has_name names x ≡ true → lookup x a ≡ lookup x b) where
-  -- the same columns of these names
-  abbrev AlikeColumns : List Column → List Column → Type 0
-  AlikeColumns cs ds = (x : Name) → has_name names x ≡ true → column x xs cs ≡ column x ys ds
-
-  rows_alike : (n k : ℕ) (cs ds : List Column) → all_long n cs ≡ true → all_long n ds ≡ true → AlikeColumns cs ds → EnvsAgree (index ++ names) (rows index xs a n k cs) (rows index ys b n k ds)
-  rows_alike zero k cs ds p q same = tt
-  rows_alike (suc n) k cs ds p q same = (
-    counted_alike index names short k (bound_to xs (heads cs) a) (bound_to ys (heads ds) b)
-        (λ x h. row-lookup n x xs cs a p ∙ (ap₂ in_row (same x h) (g x h) ∙ sym (row-lookup n x ys ds b q))),
-    rows_alike n (k + 1) (tails cs) (tails ds) (long-tails n cs p) (long-tails n ds q)
-        (λ x h. column-tails x xs cs ∙ (ap (option_map behind) (same x h) ∙ sym (column-tails x ys ds))),
-  )
-
 -- ---- the names that are bound
 
-among_has : (bound xs : List Name) (x : Name) → has_name bound x ≡ true → has_name (among bound xs) x ≡ has_name xs x
+pub among_has : (bound xs : List Name) (x : Name) → has_name bound x ≡ true → has_name (among bound xs) x ≡ has_name xs x
 among_has bound [] x i = refl
 among_has bound (m ∷ ms) x i = at (has_name bound m) refl (bytes_eq x m) refl (among_has bound ms x i)
   where
@@ -293,7 +254,7 @@ module _ (how : Iteration) (bound xs free : List Name) (env : Env) (few : List V
   fits = and-both (all_long w.0 w.1) (may_be how w.0) w.4
 
   pub number_is : length rs ≡ w.0
-  number_is = ap length (sym w.5) ∙ rows_length (index_of how) (among bound xs) env.entries w.0 0 w.1
+  number_is = ap length (sym w.5) ∙ rows-length (index_of how) (among bound xs) env.entries w.0 0 w.1
 
   as_many : length ts ≡ w.0
   as_many = long ∙ number_is

@@ -11,5 +11,7 @@ pub mod Setting
 pub mod Meeting
 -- which premises can be met
 pub mod CanBeMet
+-- of which languages calls can be run
+pub mod Evaluable
 -- ---- what only contracts inside the crate need
 pub mod inner

@@ -87,7 +87,7 @@ pub fn tested<C: Caller>(
 }
 
 /// The last of some environments, if there are some.
-fn one_of(found: Row<Env>) -> Option<Env>
+pub(crate) fn one_of(found: Row<Env>) -> Option<Env>
     ensures { MatchOption result (found ≡ [])
         (λ env. (others : List Env) × (found ≡ others ++ env ∷ [])) }
 {

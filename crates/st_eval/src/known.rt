@@ -7,12 +7,12 @@ ghost use Rattle.st_semantics.specs.Environments.{names_of};
 ghost use Rattle.st_semantics.specs.Formed.{IsFormed, AreFormed};
 ghost use Rattle.st_semantics.specs.Iterations.{count_of, index_of};
 ghost use Rattle.st_semantics.specs.Variables.{vars, vars_of};
-ghost use Rattle.st_value.specs.inner.Weight.{exps_now};
+ghost use Rattle.st_semantics.specs.References.{exps_now};
 ghost use Rattle.st_eval.specs.inner.Known.{names_now};
 
 use st_il::{Env, IlExp, Iteration};
 use st_num::{Name, NoMemory, Row};
-use st_value::operands::{count_of, operands};
+use st_semantics::operands::{count_of, operands};
 use std::alloc::Global;
 
 /// The names of an environment.
@@ -51,7 +51,7 @@ fn are_known(names: &[Name], known: &[&Name]) -> bool
 }
 
 /// The index of an iteration, if it has one.
-fn index_of<'a>(alloc: Global, how: &'a Iteration) -> Result<Row<&'a Name>, NoMemory>
+pub(crate) fn index_of<'a>(alloc: Global, how: &'a Iteration) -> Result<Row<&'a Name>, NoMemory>
     ensures { IfOk result (λ names. names_now names ≡ index_of how.now) }
 {
     let mut names = Row::new(alloc);
@@ -65,7 +65,10 @@ fn index_of<'a>(alloc: Global, how: &'a Iteration) -> Result<Row<&'a Name>, NoMe
 }
 
 /// Names with others behind them.
-fn with_others<'a>(names: Row<&'a Name>, others: &[&'a Name]) -> Result<Row<&'a Name>, NoMemory>
+pub(crate) fn with_others<'a>(
+    names: Row<&'a Name>,
+    others: &[&'a Name],
+) -> Result<Row<&'a Name>, NoMemory>
     ensures { IfOk result (λ more. more ≡ names.entry ++ others.now) }
 {
     let mut more = names;

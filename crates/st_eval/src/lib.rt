@@ -1,17 +1,28 @@
-//! How calls are run: the laws by which a clause is tried, premise by premise, and so far what a
-//! condition comes to that is met with some variables bound.
+//! What calls and expressions come to, where so many calls may be open at once.
 //!
-//! Read `specs/Steps.antt` and `specs/Elements.antt` first, then `condition`. What a call comes to is
-//! told by `Calls.antt` of `st_semantics`.
+//! The clauses of a function are tried in their order, each from the values of its arguments on,
+//! premise by premise, by laws that are proved here.
+//!
+//! Read `calls` and `clause` first, with `specs/Steps.antt`; then `meet` and `condition`. What a call
+//! comes to is told by `Calls.antt` of `st_semantics`.
 #![tactic(auto)]
 
+mod calls;
+mod clause;
 mod condition;
+mod each;
+mod element;
+mod evaluable;
 mod known;
 mod laws;
 mod listing;
+mod meet;
 mod reading;
+mod variables;
 
+pub use calls::{call, value};
 pub use condition::{Met, meet_condition, tested};
+pub use evaluable::typed_languages_are_evaluable;
 pub use laws::steps_of_clauses;
 pub use listing::listed_inside;
 pub use reading::{Setting, value_of};

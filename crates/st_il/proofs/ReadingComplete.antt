@@ -23,7 +23,7 @@ use Rattle.st_num.specs.declared.mark.Grouping.{Grouping}
 use Rattle.st_num.specs.declared.mark.Grouping.TheVariants as grouping
 use Rattle.st_il.specs.Notation.{role_of, closing, closing_of, closing_by, IsNotation, atom, hole, bracket, sequence, divided, without_left, AreElements, none, more}
 use Rattle.st_il.specs.Template.{tag_parts_of, template_height, IsTemplate}
-use Rattle.st_il.specs.inner.Reading.{State, expecting, read, sign_level, divided_at, level_at, level_of, is_outermost, begin_sign, extend, binds, closed, limited, reduce, divide, is_same, shut, after_sign, run, whole, finish, reads}
+use Rattle.st_il.specs.Reading.{State, expecting, read, sign_level, divided_at, level_at, level_of, is_outermost, begin_sign, extend, binds, closed, limited, reduce, divide, is_same, shut, after_sign, run, whole, finish, reads}
 use Rattle.st_il.proofs.TemplateForms.{tag_parts_all, tag_parts-Atom, tag_parts-Hole, tag_parts-Seq, tag_parts-Infix, tag_parts-Bracket, height-Seq, height-Infix, height-Bracket, level-Atom, level-Hole, level-Seq, level-Infix, level-Bracket}
 
 -- ---- levels

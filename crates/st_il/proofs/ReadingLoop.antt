@@ -6,7 +6,8 @@ use Rattle.std.proofs.lemmas.List.{take_more, take_all, drop_more, take-append-d
 use Rattle.st_il.specs.declared.reading.State as code
 use Rattle.st_il.specs.declared.template.Template.{Template}
 use Rattle.st_il.specs.declared.template.TagPart.{TagPart}
-use Rattle.st_il.specs.inner.Reading.{State, expecting, step, run, finish, reads, state_of}
+use Rattle.st_il.specs.Reading.{State, expecting, step, run, finish, reads}
+use Rattle.st_il.specs.inner.States.{state_of}
 
 run-append : (st : State) (xs ys : List TagPart) → run st (xs ++ ys) ≡ option_and_then (λ next. run next ys) (run st xs)
 run-append st [] ys = refl

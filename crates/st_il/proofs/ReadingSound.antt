@@ -19,7 +19,7 @@ use Rattle.st_num.specs.Signs.{left_of, right_of}
 use Rattle.st_il.specs.Notation.{role_of, closing, closing_of, closing_by, IsNotation, atom, hole, bracket, sequence, divided, without_left, AreElements, none, more}
 use Rattle.st_il.specs.Template.{tag_parts_of, template_height, IsTemplate, IsTagPart}
 use Rattle.std.specs.List.{AllByRecursion}
-use Rattle.st_il.specs.inner.Reading.{State, expecting, read, sign_level, divided_at, level_of, may_lack_left, is_outermost, begin, begin_sign, extend, binds, closed, limited, reduce, divide, is_same, shut, after_sign, step, run, whole, finish, reads}
+use Rattle.st_il.specs.Reading.{State, expecting, read, sign_level, divided_at, level_of, may_lack_left, is_outermost, begin, begin_sign, extend, binds, closed, limited, reduce, divide, is_same, shut, after_sign, step, run, whole, finish, reads}
 use Rattle.st_il.proofs.TemplateForms.{tag_parts_all, tag_parts_all-append, tag_parts-Atom, tag_parts-Hole, tag_parts-Seq, tag_parts-Infix, tag_parts-Bracket, height-Atom, height-Hole, level-Seq, level-Infix}
 use Rattle.st_il.proofs.ReadingComplete.{divides-range, sign_level-range, right-gap}
 

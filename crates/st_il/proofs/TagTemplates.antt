@@ -17,7 +17,7 @@ use Rattle.st_il.specs.declared.template.TagPart.{TagPart}
 use Rattle.st_il.specs.declared.template.TagPart.TheVariants as tag_part
 use Rattle.st_num.specs.declared.mark.TheConstants.Mark.{ALL}
 use Rattle.st_il.specs.Notation.{role_of, is_role, has_role, is_name_byte}
-use Rattle.st_il.specs.inner.Reading.{expecting, reads}
+use Rattle.st_il.specs.Reading.{expecting, reads}
 use Rattle.st_il.specs.Template.{written, spaced, IsTagPart, AreTagParts, HasTag, HasOneTemplate}
 use Rattle.st_il.proofs.Atoms.{is_rest, atom_from, atom-read}
 use Rattle.st_il.proofs.TagParts.{Differs, NoSpace, written-no_space, no_sign}

@@ -11,7 +11,7 @@ use Rattle.st_il.specs.declared.template.TagPart.{TagPart}
 use Rattle.st_il.specs.declared.template.TagPart.TheVariants as tag_part
 use Rattle.st_il.specs.Notation.{role_of, closing, IsNotation, atom, hole, bracket, sequence, divided, without_left, AreElements, none, more}
 use Rattle.st_il.specs.Template.{tag_parts_of, IsTagPart, AreTagParts, HasTag, HasOneTemplate}
-use Rattle.st_il.specs.inner.Reading.{expecting, reads}
+use Rattle.st_il.specs.Reading.{expecting, reads}
 use Rattle.st_il.proofs.TemplateForms.{tag_parts_all, tag_parts-Atom, tag_parts-Hole, tag_parts-Seq, tag_parts-Infix, tag_parts-Bracket}
 use Rattle.st_il.proofs.ReadingComplete.{complete, closing-role}
 use Rattle.st_il.proofs.ReadingSound.{sound}

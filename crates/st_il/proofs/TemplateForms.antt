@@ -9,7 +9,7 @@ use Rattle.st_il.specs.declared.template.TagPart.TheVariants as tag_part
 use Rattle.st_il.specs.Height.{highest}
 use Rattle.st_il.specs.Notation.{closing}
 use Rattle.st_il.specs.Template.{tag_parts_of, template_height}
-use Rattle.st_il.specs.inner.Reading.{level_at, level_of, sign_level}
+use Rattle.st_il.specs.Reading.{level_at, level_of, sign_level}
 
 -- the parts of some templates, one behind another
 abbrev pub tag_parts_all : List Template → List TagPart

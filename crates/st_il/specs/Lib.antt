@@ -10,7 +10,9 @@ pub mod Order
 pub mod Notation
 -- a template has this tag, and a tag at most one template
 pub mod Template
--- the template of a tag is read off its parts
+-- how the parts of a tag are read, the loosest sign outermost
+pub mod Reading
+-- the template of a tag: the one that has it, and none where none has
 pub mod Tags
 -- the key of a notation: what tells apart the cases of a syntax
 pub mod Key

@@ -1,2 +1,2 @@
--- How the parts of a tag are read, for proofs alone.
-pub mod Reading
+-- How the parts of a tag are read in code, for proofs alone.
+pub mod States

@@ -3,8 +3,8 @@
 
 ghost use Rattle.std.specs.Prelude.{◌≡◌, [], IfOk, IfSome, IfNone, reverse};
 ghost use Rattle.std.specs.Option.{option_map, option_and_then};
-ghost use Rattle.st_il.specs.inner.Reading as spec;
-ghost use Rattle.st_il.specs.inner.Reading.{state_of, reversed};
+ghost use Rattle.st_il.specs.Reading as spec;
+ghost use Rattle.st_il.specs.inner.States.{state_of, reversed};
 ghost use Rattle.st_il.specs.Tags.{template_of};
 ghost use Rattle.st_il.specs.Template.{HasTag, HasOneTemplate};
 ghost use Rattle.st_il.specs.declared.template.Template.{Template};

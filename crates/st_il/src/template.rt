@@ -4,7 +4,7 @@ ghost use Rattle.std.specs.Prelude.{◌≡◌, ◌≢◌, ◌↔◌, IsTrue, nat
 ghost use Rattle.st_num.specs.Signs.{left_of, right_of};
 ghost use Rattle.st_il.specs.Height.{highest};
 ghost use Rattle.st_il.specs.Notation.{role_of};
-ghost use Rattle.st_il.specs.inner.Reading.{sign_level, level_of};
+ghost use Rattle.st_il.specs.Reading.{sign_level, level_of};
 ghost use Rattle.st_il.specs.Template.{template_height};
 
 use st_num::{Boxed, Grouping, Mark, Name, Row};

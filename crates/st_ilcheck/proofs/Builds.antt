@@ -25,7 +25,7 @@ use Rattle.st_ilcheck.specs.Parts.{Part, parts_at, parts_of, standing}
 use Rattle.st_ilcheck.specs.Rules.{Asks, AsksOfPath, rule_of, Told}
 use Rattle.st_ilcheck.specs.Typings.{HasTyping, HaveTypings, BreaksHere, typing, none, more}
 use Rattle.st_ilcheck.specs.inner.Operators.{AsksParts}
-use Rattle.st_ilcheck.specs.inner.Weight.{exps_now}
+use Rattle.st_semantics.specs.References.{exps_now}
 use Rattle.st_ilcheck.proofs.Drops.{from}
 
 -- what was chosen, copied

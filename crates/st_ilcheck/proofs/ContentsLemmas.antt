@@ -21,7 +21,7 @@ use Rattle.st_ilcheck.specs.declared.contents.Contents.{Contents}
 use Rattle.st_ilcheck.specs.Declarations.{Tagged, tags, tags_at, tags_in, count_tags_at, prem_tags, prem_tags_at, syntaxes_at, syntaxes_cited, syntaxes_cited_in, prem_syntaxes, prem_syntaxes_at}
 use Rattle.st_ilcheck.specs.Variables.{Occurrence, Repeated, repeated_at, occurrences, occurrences_at, occurrences_in, prem_occurrences, prem_occurrences_at, inside, indices, indices_at, indices_in, count_indices_at, prem_indices, prem_indices_at, all_occurrences, all_indices}
 use Rattle.st_ilcheck.specs.inner.Contents.{nothing, joined, own_at, within, IsContents, AreContents, IsWithin, IsPremContents, ArePremContents, AreAllContents}
-use Rattle.st_ilcheck.specs.inner.Weight.{exps_now}
+use Rattle.st_semantics.specs.References.{exps_now}
 use Rattle.st_ilcheck.proofs.Drops.{from}
 
 map-append : {A B : Type 0} (f : A → B) (xs ys : List A) → map f (xs ++ ys) ≡ map f xs ++ map f ys

@@ -8,7 +8,7 @@ use Rattle.st_il.specs.declared.definition.SyntaxDef.{SyntaxDef}
 use Rattle.st_il.specs.declared.ty.Ty.{Ty}
 use Rattle.st_type_table.specs.Cases.{HasFields, operands_of}
 use Rattle.st_type_table.proofs.CasesLemmas.{HasCases-single, HasFields-single}
-use Rattle.st_types.specs.inner.Levels.{HasOperands}
+use Rattle.st_type_table.specs.inner.TypedLevels.{HasOperands}
 use Rattle.st_semantics.specs.Names.{Name}
 use Rattle.st_semantics.specs.Definitions.{syntaxes, relation_named}
 use Rattle.st_semantics.specs.Typing.{function_named}

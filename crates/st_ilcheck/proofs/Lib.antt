@@ -2,7 +2,6 @@ pub mod Single
 pub mod Breaches
 pub mod Examples
 pub mod Drops
-pub mod Weights
 pub mod Each
 pub mod Paths
 pub mod Builds
@@ -23,3 +22,4 @@ pub mod TagLemmas
 pub mod SyntaxLemmas
 pub mod LeastLemmas
 pub mod TypedLemmas
+pub mod ElementLemmas

@@ -1,4 +1,3 @@
-pub mod Weight
 pub mod Steps
 pub mod Operators
 pub mod Counts
@@ -8,3 +7,5 @@ pub mod Beginnings
 pub mod Declared
 pub mod Cited
 pub mod Leasts
+-- elements by the tops of types
+pub mod Elements

@@ -7,13 +7,13 @@ ghost use Rattle.st_semantics.specs.Names.{has_name};
 ghost use Rattle.st_type_table.specs.Leads.{names_in, joined as joined_names};
 ghost use Rattle.st_ilcheck.specs.Variables.{inside};
 ghost use Rattle.st_ilcheck.specs.inner.Contents.{nothing, joined, own_at, within, IsContents, AreContents, IsWithin};
-ghost use Rattle.st_ilcheck.specs.inner.Weight.{exps_now};
+ghost use Rattle.st_semantics.specs.References.{exps_now};
 
 use crate::found::kind_of;
-use crate::operands::{count_of, each, operands};
 use crate::rows::append;
 use st_il::{IlExp, Iteration, Ty};
 use st_num::{Kind, Name, NoMemory, Row};
+use st_semantics::operands::{count_of, each, operands};
 use std::alloc::Global;
 
 /// An occurrence of a variable: its name, and the kinds of the iterations round it, outermost

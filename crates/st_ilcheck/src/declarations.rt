@@ -11,13 +11,13 @@ ghost use Rattle.st_ilcheck.specs.inner.Declared.{AreDeclared};
 ghost use Rattle.st_ilcheck.specs.inner.Cited.{AreCitedOnce, CitesOnce};
 
 use crate::cited::{Citations, cited_by};
-use crate::declaring::{Declared, declared_by, is_new};
+use crate::declaring::{Declared, is_new};
 use crate::listed::has_name;
 use crate::once::all_once;
 use crate::tagged::are_tags;
 use st_il::{Il, IlDef, SyntaxBody, SyntaxDef, copy_syntax};
 use st_num::{Name, NoMemory, Row};
-use st_types::{Bodies, Broken};
+use st_type_table::{Bodies, Broken};
 use std::alloc::Global;
 
 /// The syntaxes with that of a definition behind them, if it is one.
@@ -41,7 +41,7 @@ fn with_syntax(
 }
 
 /// The syntaxes among definitions.
-fn syntaxes_in(alloc: Global, defs: &[IlDef]) -> Result<Row<SyntaxDef>, NoMemory>
+pub(crate) fn syntaxes_in(alloc: Global, defs: &[IlDef]) -> Result<Row<SyntaxDef>, NoMemory>
     ensures { IfOk result (λ found. found ≡ syntaxes_in defs.now) }
 {
     let mut found = Row::new(alloc);
@@ -152,61 +152,40 @@ fn are_cited_once(alloc: Global, whole: &Declared, cited: &Citations) -> Result<
     Ok(kept)
 }
 
-/// The same, by all syntaxes of the language.
-fn is_declared_among(
-    alloc: Global,
-    il: &Il,
-    found: &Row<SyntaxDef>,
-    before: &Declared,
-    at: usize,
-) -> Result<bool, NoMemory>
-    requires within { at < length il.now.defs }
-    requires found { found.now ≡ syntaxes il.now }
-    requires before { AreDeclared (take at il.now.defs) before.now }
-    ensures { IfOk result (λ kept. (d : IlDef) → slice_get il.now.defs at ≡ Some d
-        → IsTrue kept ↔ IsDeclared il.now (take at il.now.defs) d) }
-{
-    let bodies = Bodies::of(alloc, found)?;
-    let kept = is_declared(alloc, il, &bodies, before, at)?;
-    Ok(kept)
-}
-
-/// The same, by the language alone.
-fn is_declared_at(alloc: Global, il: &Il, at: usize) -> Result<bool, NoMemory>
-    requires { at < length il.now.defs }
-    ensures { IfOk result (λ kept. (d : IlDef) → slice_get il.now.defs at ≡ Some d
-        → IsTrue kept ↔ IsDeclared il.now (take at il.now.defs) d) }
-{
-    let defs = il.defs.as_slice();
-    let before = declared_by(alloc, &defs[..at])?;
-    let found = syntaxes_in(alloc, defs)?;
-    let kept = is_declared_among(alloc, il, &found, &before, at)?;
-    Ok(kept)
-}
-
 /// Whether the names that a definition cites are declared, once, and its tags are templates with as
-/// many holes as operands.
-fn cites_once(alloc: Global, il: &Il, def: &IlDef) -> Result<bool, NoMemory>
+/// many holes as operands. What the language declares is given.
+fn cites_once(alloc: Global, il: &Il, whole: &Declared, def: &IlDef) -> Result<bool, NoMemory>
+    requires { AreDeclared il.now.defs whole.now }
     ensures { IfOk result (λ kept. IsTrue kept ↔ CitesOnce il.now def.now) }
 {
-    let whole = declared_by(alloc, il.defs.as_slice())?;
     let cited = cited_by(alloc, def)?;
-    let kept = are_cited_once(alloc, &whole, &cited)?;
+    let kept = are_cited_once(alloc, whole, &cited)?;
     Ok(kept)
 }
 
 /// Whether the definition at this place declares what is new, cites names that are declared once,
-/// and has tags that are templates with as many holes as operands.
-pub fn declarations_kept(alloc: Global, il: &Il, at: usize) -> Result<bool, NoMemory>
-    requires { at < length il.now.defs }
+/// and has tags that are templates with as many holes as operands. What the language declares is
+/// given, and what the definitions before this one do.
+pub(crate) fn declarations_kept(
+    alloc: Global,
+    il: &Il,
+    bodies: &Bodies,
+    whole: &Declared,
+    before: &Declared,
+    at: usize,
+) -> Result<bool, NoMemory>
+    requires within { at < length il.now.defs }
+    requires bodies { bodies.now ≡ syntaxes il.now }
+    requires whole { AreDeclared il.now.defs whole.now }
+    requires before { AreDeclared (take at il.now.defs) before.now }
     ensures { IfOk result (λ kept. (d : IlDef) → slice_get il.now.defs at ≡ Some d
         → IsTrue kept ↔ AreNamed il.now (take at il.now.defs) d) }
 {
-    let declared = is_declared_at(alloc, il, at)?;
+    let declared = is_declared(alloc, il, bodies, before, at)?;
     if !declared {
         return Ok(false);
     }
     let defs = il.defs.as_slice();
-    let kept = cites_once(alloc, il, &defs[at])?;
+    let kept = cites_once(alloc, il, whole, &defs[at])?;
     Ok(kept)
 }

@@ -1,7 +1,6 @@
 //! The rules on types that are broken in a rule or a clause.
 
 ghost use Rattle.std.specs.Prelude.{◌≡◌, ◌↔◌, IsTrue, IfOk};
-ghost use Rattle.st_semantics.specs.Definitions.{syntaxes};
 ghost use Rattle.st_ilcheck.specs.Definitions.{RuleBreaks, ClauseBreaks, IsResultOf};
 ghost use Rattle.st_ilcheck.specs.inner.Clauses.{ArgumentsBreak, ResultBreaks};
 
@@ -11,41 +10,45 @@ use crate::premises::{broken_in_premises, is_judgement, typings_in};
 use crate::rows::append;
 use crate::shape::has;
 use crate::typing::{Typing, Typings, told, typing_of};
-use st_il::{ClauseDef, Il, RuleDef, Ty, TypeRule};
+use st_il::{ClauseDef, RuleDef, Ty, TypeRule};
 use st_num::{Name, NoMemory, Row};
-use st_types::TypeTable;
 use std::alloc::Global;
 
-/// The rules T3 to T14 that are broken in a rule by the types of its expressions. The table is of
-/// the syntaxes of the language.
-pub fn broken_in_rule(
+/// The rules T3 to T14 that are broken in a rule by the types of its expressions.
+pub(crate) fn broken_in_rule(
     alloc: Global,
-    il: &Il,
-    types: &TypeTable,
+    language: &Language,
     rule: &RuleDef,
 ) -> Result<Row<TypeRule>, NoMemory>
-    requires { types.now ≡ syntaxes il.now }
-    ensures { IfOk result (λ broken. RuleBreaks il.now rule.now broken) }
+    ensures { IfOk result (λ broken. RuleBreaks language.now rule.now broken) }
 {
-    let language = Language::of(il, types);
     let listed = rule.variables.as_slice();
-    let found = typings_in(alloc, &language, listed, rule.conclusion.as_slice())?;
+    let found = typings_in(alloc, language, listed, rule.conclusion.as_slice())?;
     let Typings { types, broken } = found;
-    let kept = is_judgement(&language, &rule.relation, types.as_slice());
+    let kept = is_judgement(alloc, language, &rule.relation, types.as_slice())?;
     let concluded = told(broken, TypeRule::T12, kept)?;
     let premises = rule.premises.as_slice();
-    let more = broken_in_premises(alloc, &language, listed, premises)?;
+    let more = broken_in_premises(alloc, language, listed, premises)?;
     let all = append(concluded, more)?;
     Ok(all)
 }
 
 /// Whether a type is the one that the function declares of its result.
-fn is_result(language: &Language, fun: &Name, found: &Option<Ty>) -> bool
-    ensures { IsTrue result ↔ IsResultOf language.now fun.now found.now }
+fn is_result(
+    alloc: Global,
+    language: &Language,
+    fun: &Name,
+    found: &Option<Ty>,
+) -> Result<bool, NoMemory>
+    ensures { IfOk result
+        (λ kept. IsTrue kept ↔ IsResultOf language.now fun.now found.now) }
 {
     match language.function(fun) {
-        None => false,
-        Some(declared) => has(language, found, &declared.result),
+        None => Ok(false),
+        Some(declared) => {
+            let kept = has(alloc, language, found, &declared.result)?;
+            Ok(kept)
+        }
     }
 }
 
@@ -60,7 +63,7 @@ fn broken_in_arguments(
     let listed = clause.variables.as_slice();
     let found = typings_in(alloc, language, listed, clause.args.as_slice())?;
     let Typings { types, broken } = found;
-    let kept = is_call(language, &clause.fun, types.as_slice());
+    let kept = is_call(alloc, language, &clause.fun, types.as_slice())?;
     let all = told(broken, TypeRule::T12, kept)?;
     Ok(all)
 }
@@ -76,28 +79,24 @@ fn broken_in_result(
     let listed = clause.variables.as_slice();
     let found = typing_of(alloc, language, listed, &clause.result)?;
     let Typing { ty, broken } = found;
-    let kept = is_result(language, &clause.fun, &ty);
+    let kept = is_result(alloc, language, &clause.fun, &ty)?;
     let all = told(broken, TypeRule::T12, kept)?;
     Ok(all)
 }
 
-/// The rules T3 to T14 that are broken in a clause by the types of its expressions. The table is of
-/// the syntaxes of the language.
-pub fn broken_in_clause(
+/// The rules T3 to T14 that are broken in a clause by the types of its expressions.
+pub(crate) fn broken_in_clause(
     alloc: Global,
-    il: &Il,
-    types: &TypeTable,
+    language: &Language,
     clause: &ClauseDef,
 ) -> Result<Row<TypeRule>, NoMemory>
-    requires { types.now ≡ syntaxes il.now }
-    ensures { IfOk result (λ broken. ClauseBreaks il.now clause.now broken) }
+    ensures { IfOk result (λ broken. ClauseBreaks language.now clause.now broken) }
 {
-    let language = Language::of(il, types);
-    let arguments = broken_in_arguments(alloc, &language, clause)?;
-    let result_rules = broken_in_result(alloc, &language, clause)?;
+    let arguments = broken_in_arguments(alloc, language, clause)?;
+    let result_rules = broken_in_result(alloc, language, clause)?;
     let listed = clause.variables.as_slice();
     let premises = clause.premises.as_slice();
-    let inside = broken_in_premises(alloc, &language, listed, premises)?;
+    let inside = broken_in_premises(alloc, language, listed, premises)?;
     let more = append(result_rules, inside)?;
     let all = append(arguments, more)?;
     Ok(all)

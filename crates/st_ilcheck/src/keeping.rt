@@ -1,11 +1,13 @@
 //! Which rule an expression is asked by, and whether its parts keep it.
 
 ghost use Rattle.std.specs.Prelude.{◌≡◌, ◌↔◌, [], ◌∷◌, IsTrue, IfOk};
+ghost use Rattle.std.specs.Option.{option_copied};
 ghost use Rattle.st_il.specs.declared.expression.IlExp.{out-IlExp};
 ghost use Rattle.st_il.specs.declared.ty.Ty.{Ty};
 ghost use Rattle.st_semantics.specs.Definitions.{syntaxes};
 ghost use Rattle.st_semantics.specs.OperationTypes.{number_type};
-ghost use Rattle.st_ilcheck.specs.Rules.{behind_first, before_last, Asks, AsksOfPath, rule_of, Are, IsCaseOf, IsRecordOf, IsCallOf};
+ghost use Rattle.st_ilcheck.specs.FoundTypes.{first_type};
+ghost use Rattle.st_ilcheck.specs.Rules.{behind_first, before_last, Asks, AsksOfPath, rule_of, Are, AllAre, AreEqual, IsList, IsCaseOf, IsRecordOf, IsCallOf};
 ghost use Rattle.st_ilcheck.specs.inner.Operators.{AsksParts, AsksOperator, operator_rule};
 
 use crate::found::{first_type, last_type, number_type, syntax_type};
@@ -41,68 +43,124 @@ pub(crate) fn before_last(types: &[Option<Ty>]) -> &[Option<Ty>]
 }
 
 /// Whether the base is a number of this type, and the exponent is natural.
-fn is_power(language: &Language, numbers: NumTy, types: &[Option<Ty>]) -> bool
-    ensures { IsTrue result ↔ Are (syntaxes language.now)
-        (number_type numbers ∷ Ty.Nat ∷ []) types.now }
+fn is_power(
+    alloc: Global,
+    language: &Language,
+    numbers: NumTy,
+    types: &[Option<Ty>],
+) -> Result<bool, NoMemory>
+    ensures { IfOk result (λ kept. IsTrue kept ↔ Are (syntaxes language.now)
+        (number_type numbers ∷ Ty.Nat ∷ []) types.now) }
 {
     match types {
         [base, exponent] => {
-            is(language, base.as_ref(), &number_type(numbers))
-                && is(language, exponent.as_ref(), &Ty::Nat)
+            let first = is(alloc, language, base.as_ref(), &number_type(numbers))?;
+            if !first {
+                return Ok(false);
+            }
+            let second = is(alloc, language, exponent.as_ref(), &Ty::Nat)?;
+            Ok(second)
         }
-        _ => false,
+        _ => Ok(false),
     }
 }
 
 /// Whether the parts of an operator keep its rule. Every other expression does.
-fn keeps_operator(language: &Language, exp: &IlExp, types: &[Option<Ty>]) -> bool
-    ensures { IsTrue result ↔ AsksOperator language.now (out-IlExp exp.now) types.now }
+fn keeps_operator(
+    alloc: Global,
+    language: &Language,
+    exp: &IlExp,
+    types: &[Option<Ty>],
+) -> Result<bool, NoMemory>
+    ensures { IfOk result (λ kept. IsTrue kept ↔ AsksOperator language.now (out-IlExp exp.now) types.now) }
 {
     match exp {
-        IlExp::Not(_) => all_are(language, &Ty::Bool, types),
-        IlExp::And(_, _) | IlExp::Or(_, _) => all_are(language, &Ty::Bool, types),
-        IlExp::Imp(_, _) | IlExp::Iff(_, _) => all_are(language, &Ty::Bool, types),
-        IlExp::Neg(_) => all_are(language, &Ty::Int, types),
+        IlExp::Not(_) => Ok(all_are(alloc, language, &Ty::Bool, types)?),
+        IlExp::And(_, _) | IlExp::Or(_, _) => Ok(all_are(alloc, language, &Ty::Bool, types)?),
+        IlExp::Imp(_, _) | IlExp::Iff(_, _) => Ok(all_are(alloc, language, &Ty::Bool, types)?),
+        IlExp::Neg(_) => Ok(all_are(alloc, language, &Ty::Int, types)?),
         IlExp::Add(numbers, _, _) | IlExp::Sub(numbers, _, _) => {
-            all_are(language, &number_type(*numbers), types)
+            Ok(all_are(alloc, language, &number_type(*numbers), types)?)
         }
         IlExp::Mul(numbers, _, _) | IlExp::Div(numbers, _, _) | IlExp::Rem(numbers, _, _) => {
-            all_are(language, &number_type(*numbers), types)
+            Ok(all_are(alloc, language, &number_type(*numbers), types)?)
         }
-        IlExp::Pow(numbers, _, _) => is_power(language, *numbers, types),
-        IlExp::Lt(_, _) | IlExp::Gt(_, _) => are_ordered(language, types),
-        IlExp::Le(_, _) | IlExp::Ge(_, _) => are_ordered(language, types),
+        IlExp::Pow(numbers, _, _) => Ok(is_power(alloc, language, *numbers, types)?),
+        IlExp::Lt(_, _) | IlExp::Gt(_, _) => Ok(are_ordered(alloc, language, types)?),
+        IlExp::Le(_, _) | IlExp::Ge(_, _) => Ok(are_ordered(alloc, language, types)?),
         IlExp::Eq(_, _) | IlExp::Ne(_, _) => {
-            are_equal(language, first_type(types), last_type(types))
+            Ok(are_equal(alloc, language, first_type(types), last_type(types))?)
         }
-        IlExp::Member(_, _) => is_member(language, first_type(types), last_type(types)),
-        _ => true,
+        IlExp::Member(_, _) => {
+            Ok(is_member(alloc, language, first_type(types), last_type(types))?)
+        }
+        _ => Ok(true),
     }
+}
+
+/// Whether both are lists of one type.
+fn are_equal_lists(
+    alloc: Global,
+    language: &Language,
+    left: Option<&Ty>,
+    right: Option<&Ty>,
+) -> Result<bool, NoMemory>
+    ensures { IfOk result (λ kept. IsTrue kept
+        ↔ (IsList (syntaxes language.now) (option_copied left.entry)
+        × AreEqual (syntaxes language.now)
+        (option_copied left.entry) (option_copied right.entry))) }
+{
+    if !is_list(language, left) {
+        return Ok(false);
+    }
+    let kept = are_equal(alloc, language, left, right)?;
+    Ok(kept)
+}
+
+/// Whether the first part is a list, and the others are natural numbers.
+fn is_list_at(alloc: Global, language: &Language, types: &[Option<Ty>]) -> Result<bool, NoMemory>
+    ensures { IfOk result (λ kept. IsTrue kept
+        ↔ (IsList (syntaxes language.now) (first_type types.now)
+        × AllAre (syntaxes language.now) Ty.Nat (behind_first types.now))) }
+{
+    if !is_list(language, first_type(types)) {
+        return Ok(false);
+    }
+    let kept = all_are(alloc, language, &Ty::Nat, behind_first(types))?;
+    Ok(kept)
 }
 
 /// Whether the parts of an expression that names no syntax or function keep its rule. Every other
 /// expression does.
-fn keeps_parts(language: &Language, exp: &IlExp, types: &[Option<Ty>]) -> bool
-    ensures { IsTrue result ↔ AsksParts language.now (out-IlExp exp.now) types.now }
+fn keeps_parts(
+    alloc: Global,
+    language: &Language,
+    exp: &IlExp,
+    types: &[Option<Ty>],
+) -> Result<bool, NoMemory>
+    ensures { IfOk result (λ kept. IsTrue kept ↔ AsksParts language.now (out-IlExp exp.now) types.now) }
 {
     let first = first_type(types);
     let last = last_type(types);
     match exp {
-        IlExp::Dot(_, name) => has_field(language, name, first),
-        IlExp::Set(_, path, _) => is_set(language, path.as_slice(), first, last),
-        IlExp::Extend(_, path, _) => is_extended(language, path.as_slice(), first, last),
-        IlExp::Join(_, _) => are_joined(language, first, last),
-        IlExp::Tuple(_) | IlExp::Present(_) => all_typed(language, types),
-        IlExp::List(ty, items) => are_items(language, ty, items.as_slice(), types),
-        IlExp::Cat(_, _) => is_list(language, first) && are_equal(language, first, last),
-        IlExp::Absent(ty) => language.is_list_or_option(ty),
-        IlExp::Len(_) => is_list(language, first),
-        IlExp::At(_, _) | IlExp::Slice(_, _, _) => {
-            is_list(language, first) && all_are(language, &Ty::Nat, behind_first(types))
+        IlExp::Dot(_, name) => Ok(has_field(language, name, first)),
+        IlExp::Set(_, path, _) => Ok(is_set(alloc, language, path.as_slice(), first, last)?),
+        IlExp::Extend(_, path, _) => {
+            Ok(is_extended(alloc, language, path.as_slice(), first, last)?)
         }
-        IlExp::Up(ty, _) => is_below(language, first, ty),
-        IlExp::Iter(_, _, _) => all_are(language, &Ty::Nat, before_last(types)),
-        _ => keeps_operator(language, exp, types),
+        IlExp::Join(_, _) => Ok(are_joined(alloc, language, first, last)?),
+        IlExp::Tuple(_) | IlExp::Present(_) => Ok(all_typed(language, types)),
+        IlExp::List(ty, items) => Ok(are_items(alloc, language, ty, items.as_slice(), types)?),
+        IlExp::Cat(_, _) => Ok(are_equal_lists(alloc, language, first, last)?),
+        IlExp::Absent(ty) => Ok(language.is_list_or_option(ty)),
+        IlExp::Len(_) => Ok(is_list(language, first)),
+        IlExp::At(_, _) | IlExp::Slice(_, _, _) => Ok(is_list_at(alloc, language, types)?),
+        IlExp::Up(ty, _) => Ok(is_below(alloc, language, first, ty)?),
+        IlExp::Iter(_, _, _) => { Ok(all_are(alloc, language, &Ty::Nat, before_last(types))?) }
+        _ => {
+            let kept = keeps_operator(alloc, language, exp, types)?;
+            Ok(kept)
+        }
     }
 }
 
@@ -120,7 +178,10 @@ fn is_case(
     let ty = syntax_type(alloc, name)?;
     match language.operands(&ty, tag) {
         None => Ok(false),
-        Some(operands) => Ok(are(language, operands.as_slice(), types)),
+        Some(operands) => {
+            let kept = are(alloc, language, operands.as_slice(), types)?;
+            Ok(kept)
+        }
     }
 }
 
@@ -137,17 +198,28 @@ fn is_record(
     let ty = syntax_type(alloc, name)?;
     match language.fields(&ty) {
         None => Ok(false),
-        Some(declared) => Ok(are_fields(language, declared, types)),
+        Some(declared) => {
+            let kept = are_fields(alloc, language, declared, types)?;
+            Ok(kept)
+        }
     }
 }
 
 /// Whether the parts have the types of the parameters of the function.
-pub(crate) fn is_call(language: &Language, fun: &Name, types: &[Option<Ty>]) -> bool
-    ensures { IsTrue result ↔ IsCallOf language.now fun.now types.now }
+pub(crate) fn is_call(
+    alloc: Global,
+    language: &Language,
+    fun: &Name,
+    types: &[Option<Ty>],
+) -> Result<bool, NoMemory>
+    ensures { IfOk result (λ kept. IsTrue kept ↔ IsCallOf language.now fun.now types.now) }
 {
     match language.function(fun) {
-        None => false,
-        Some(declared) => are(language, declared.params.as_slice(), types),
+        None => Ok(false),
+        Some(declared) => {
+            let kept = are(alloc, language, declared.params.as_slice(), types)?;
+            Ok(kept)
+        }
     }
 }
 
@@ -162,23 +234,29 @@ pub(crate) fn keeps_form(
         (λ kept. IsTrue kept ↔ Asks language.now (out-IlExp exp.now) types.now) }
 {
     match exp {
-        IlExp::Case(name, tag, _) => is_case(alloc, language, name, tag, types),
-        IlExp::Fields(name, _) => is_record(alloc, language, name, types),
-        IlExp::Call(fun, _) => Ok(is_call(language, fun, types)),
-        _ => Ok(keeps_parts(language, exp, types)),
+        IlExp::Case(name, tag, _) => Ok(is_case(alloc, language, name, tag, types)?),
+        IlExp::Fields(name, _) => Ok(is_record(alloc, language, name, types)?),
+        IlExp::Call(fun, _) => Ok(is_call(alloc, language, fun, types)?),
+        _ => Ok(keeps_parts(alloc, language, exp, types)?),
     }
 }
 
 /// Whether the positions and lengths in a path are natural numbers.
-pub(crate) fn keeps_path(language: &Language, exp: &IlExp, types: &[Option<Ty>]) -> bool
-    ensures { IsTrue result
-        ↔ AsksOfPath (syntaxes language.now) (out-IlExp exp.now) types.now }
+pub(crate) fn keeps_path(
+    alloc: Global,
+    language: &Language,
+    exp: &IlExp,
+    types: &[Option<Ty>],
+) -> Result<bool, NoMemory>
+    ensures { IfOk result (λ kept. IsTrue kept
+        ↔ AsksOfPath (syntaxes language.now) (out-IlExp exp.now) types.now) }
 {
     match exp {
         IlExp::Set(_, _, _) | IlExp::Extend(_, _, _) => {
-            all_are(language, &Ty::Nat, before_last(behind_first(types)))
+            let rest = before_last(behind_first(types));
+            Ok(all_are(alloc, language, &Ty::Nat, rest)?)
         }
-        _ => true,
+        _ => Ok(true),
     }
 }
 

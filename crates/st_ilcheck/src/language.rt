@@ -1,28 +1,18 @@
-//! The language whose expressions are typed, with the table of its syntaxes.
+//! The language whose expressions are typed, with a table of its syntaxes.
 
 ghost use Rattle.std.specs.Prelude.{◌≡◌, [], ◌∷◌, find, bytes_eq};
 ghost use Rattle.std.specs.Option.{option_copied};
 ghost use Rattle.st_il.specs.declared.definition.FunDef.{FunDef};
 ghost use Rattle.st_il.specs.declared.definition.RelationDef.{RelationDef};
-ghost use Rattle.st_type_table.specs.Cases.{operands_of};
+ghost use Rattle.st_il.specs.declared.ty.Ty.{out-Ty};
+ghost use Rattle.st_ilcheck.specs.inner.Elements.{element_at, is_sequence};
 ghost use Rattle.st_ilcheck.specs.inner.Steps.{function_in, relation_in};
 
+use st_any_table::AnyTable;
 use st_il::{FunDef, Il, IlDef, RelationDef, Ty};
-use st_num::{Name, Row};
-use st_types::{CaseDef, TypeTable, is_sub};
+use st_num::{Name, NoMemory, Row};
+use std::alloc::Global;
 use std::marker::Model;
-
-/// The types of the operands of the case with this tag.
-fn operands_of<'a>(cases: &'a [CaseDef], tag: &Name) -> Option<&'a Row<Ty>>
-    ensures { option_copied result ≡ operands_of cases.now tag.now }
-{
-    for case in cases {
-        if case.tag == *tag {
-            return Some(&case.operands);
-        }
-    }
-    None
-}
 
 /// The function that is declared here, if it has this name.
 fn function_at<'a>(def: &'a IlDef, name: &Name) -> Option<&'a FunDef>
@@ -80,11 +70,33 @@ fn relation_in<'a>(defs: &'a [IlDef], name: &Name) -> Option<&'a RelationDef>
     None
 }
 
-/// A language with the table of its syntaxes. Contracts see the language alone.
+/// The type of the elements, where the type is written as one of lists.
+fn element_of(ty: &Ty) -> Option<&Ty>
+    ensures { option_copied result ≡ element_at (out-Ty ty.now) }
+{
+    match ty {
+        Ty::List(element) => Some(element.get()),
+        Ty::Bool | Ty::Nat | Ty::Int | Ty::Text => None,
+        Ty::Name(_) | Ty::Opt(_) | Ty::Tuple(_) => None,
+    }
+}
+
+/// Whether the type is written as one of lists or of options.
+fn is_sequence(ty: &Ty) -> bool
+    ensures { result ≡ is_sequence (out-Ty ty.now) }
+{
+    match ty {
+        Ty::List(_) | Ty::Opt(_) => true,
+        Ty::Bool | Ty::Nat | Ty::Int | Ty::Text => false,
+        Ty::Name(_) | Ty::Tuple(_) => false,
+    }
+}
+
+/// A language with a table of its syntaxes. Contracts see the language alone.
 #[derive(Drop)]
 pub(crate) struct Language<'a> {
     il: &'a Il,
-    types: &'a TypeTable,
+    table: &'a AnyTable,
 }
 
 impl<'a> Model for Language<'a> {
@@ -100,15 +112,14 @@ impl<'a> Model for Language<'a> {
 
     ghost view = { λ l. l.il.now };
 
-    ghost invariant = { λ l. l.types.now ≡ syntaxes l.il.now };
+    ghost invariant = { λ l. l.table.now ≡ syntaxes l.il.now };
 }
 
 impl<'a> Language<'a> {
-    ghost use Rattle.std.specs.Prelude.{◌≡◌, ◌↔◌, IsTrue, List, ℕ, MatchOption};
+    ghost use Rattle.std.specs.Prelude.{◌≡◌, ◌↔◌, IsTrue, IfOk, List, ℕ, MatchOption};
     ghost use Rattle.std.specs.Option.{option_copied};
     ghost use Rattle.st_il.specs.declared.ty.Ty.{Ty};
-    ghost use Rattle.st_type_table.specs.declared.entry.CaseDef.{CaseDef};
-    ghost use Rattle.st_type_table.specs.Cases.{HasCases, HasFields};
+    ghost use Rattle.st_type_table.specs.Cases.{HasFields};
     ghost use Rattle.st_type_table.specs.Joins.{Joins};
     ghost use Rattle.st_type_table.specs.Same.{Same};
     ghost use Rattle.st_type_table.specs.Sub.{Sub};
@@ -116,35 +127,35 @@ impl<'a> Language<'a> {
     ghost use Rattle.st_semantics.specs.Typing.{function_named};
     ghost use Rattle.st_ilcheck.specs.FoundTypes.{IsElementOf};
     ghost use Rattle.st_ilcheck.specs.Rules.{IsListOrOption};
-    ghost use Rattle.st_types.specs.inner.Levels.{HasOperands};
+    ghost use Rattle.st_type_table.specs.inner.TypedLevels.{HasOperands};
 
     /// The language, whose syntaxes are those of the table.
-    pub(crate) fn of(il: &'a Il, types: &'a TypeTable) -> Language<'a>
-        requires { types.now ≡ syntaxes il.now }
+    pub(crate) fn of(il: &'a Il, table: &'a AnyTable) -> Language<'a>
+        requires { table.now ≡ syntaxes il.now }
         ensures { result ≡ il.now }
     {
-        Language { il, types }
+        Language { il, table }
     }
 
     /// Whether the types are equal through aliases.
-    pub(crate) fn same(&self, a: &Ty, b: &Ty) -> bool
-        ensures { IsTrue result ↔ Same (syntaxes self.now) a.now b.now }
+    pub(crate) fn same(&self, alloc: Global, a: &Ty, b: &Ty) -> Result<bool, NoMemory>
+        ensures { IfOk result (λ yes. IsTrue yes ↔ Same (syntaxes self.now) a.now b.now) }
     {
-        self.types.same(a, b)
+        self.table.same(alloc, a, b)
     }
 
     /// Whether the first type is a subtype of the second.
-    pub(crate) fn is_sub(&self, lower: &Ty, upper: &Ty) -> bool
-        ensures { IsTrue result ↔ Sub (syntaxes self.now) lower.now upper.now }
+    pub(crate) fn is_sub(&self, alloc: Global, lower: &Ty, upper: &Ty) -> Result<bool, NoMemory>
+        ensures { IfOk result (λ yes. IsTrue yes ↔ Sub (syntaxes self.now) lower.now upper.now) }
     {
-        is_sub(self.types, lower, upper)
+        self.table.is_sub(alloc, lower, upper)
     }
 
     /// Whether the type is a record type that can be joined.
     pub(crate) fn joins(&self, ty: &Ty) -> bool
         ensures { IsTrue result ↔ Joins (syntaxes self.now) ty.now }
     {
-        self.types.joinable(ty)
+        self.table.joinable(ty)
     }
 
     /// The type of the elements, where the type is one of lists.
@@ -152,10 +163,9 @@ impl<'a> Language<'a> {
         ensures { MatchOption result ((u : Ty) → IsElementOf (syntaxes self.now) ty.now u → ⊥)
             (λ element. IsElementOf (syntaxes self.now) ty.now element.now) }
     {
-        match self.types.meaning(ty) {
-            Ty::List(element) => Some(element.get()),
-            Ty::Bool | Ty::Nat | Ty::Int | Ty::Text => None,
-            Ty::Name(_) | Ty::Opt(_) | Ty::Tuple(_) => None,
+        match self.table.meaning(ty) {
+            Some(meaning) => element_of(meaning),
+            None => None,
         }
     }
 
@@ -163,10 +173,9 @@ impl<'a> Language<'a> {
     pub(crate) fn is_list_or_option(&self, ty: &Ty) -> bool
         ensures { IsTrue result ↔ IsListOrOption (syntaxes self.now) ty.now }
     {
-        match self.types.meaning(ty) {
-            Ty::List(_) | Ty::Opt(_) => true,
-            Ty::Bool | Ty::Nat | Ty::Int | Ty::Text => false,
-            Ty::Name(_) | Ty::Tuple(_) => false,
+        match self.table.meaning(ty) {
+            Some(meaning) => is_sequence(meaning),
+            None => false,
         }
     }
 
@@ -176,22 +185,7 @@ impl<'a> Language<'a> {
             ((fields : List (List ℕ × Ty)) → HasFields (syntaxes self.now) ty.now fields → ⊥)
             (λ fields. HasFields (syntaxes self.now) ty.now fields.now) }
     {
-        match self.types.fields(ty) {
-            Some(fields) => Some(fields),
-            None => None,
-        }
-    }
-
-    /// The cases of a variant type, with those of the variants that it names.
-    fn cases(&self, ty: &Ty) -> Option<&Row<CaseDef>>
-        ensures { MatchOption result
-            ((cases : List CaseDef) → HasCases (syntaxes self.now) ty.now cases → ⊥)
-            (λ cases. HasCases (syntaxes self.now) ty.now cases.now) }
-    {
-        match self.types.cases(ty) {
-            Some(cases) => Some(cases),
-            None => None,
-        }
+        self.table.fields(ty)
     }
 
     /// The types of the operands of the case of a variant type with this tag.
@@ -200,10 +194,7 @@ impl<'a> Language<'a> {
             → HasOperands (syntaxes self.now) ty.now tag.now operands → ⊥)
             (λ operands. HasOperands (syntaxes self.now) ty.now tag.now operands.now) }
     {
-        match self.cases(ty) {
-            Some(cases) => operands_of(cases.as_slice(), tag),
-            None => None,
-        }
+        self.table.operands(ty, tag)
     }
 
     /// The function of this name.

@@ -10,10 +10,10 @@ ghost use Rattle.st_ilcheck.specs.inner.Contents.{IsPremContents, ArePremContent
 use crate::contents::{
     Contents, contents_in, contents_of, contents_of_all, join, nothing, of_iteration, within,
 };
-use crate::operands::count_of;
 use crate::variables::{are_listed, stay_inside};
 use st_il::{ClauseDef, IlDef, IlPrem, RuleDef};
 use st_num::NoMemory;
+use st_semantics::operands::count_of;
 use std::alloc::Global;
 
 /// What stands in a premise.

@@ -10,22 +10,31 @@ ghost use Rattle.st_ilcheck.specs.inner.Counts.{CountBreaks};
 
 use crate::language::Language;
 use crate::naming::each_kept;
-use crate::operands::{count_of, each};
 use crate::rows::append;
 use crate::scope::listed_inside;
 use crate::shape::{all_are, are, has};
 use crate::typing::{Typing, Typings, told, typing_of, typings_of};
 use st_il::{IlExp, IlPrem, Iteration, Listed, Ty, TypeRule};
 use st_num::{Name, NoMemory, Row};
+use st_semantics::operands::{count_of, each};
 use std::alloc::Global;
 
 /// Whether the parts have the types of the holes of the relation.
-pub(crate) fn is_judgement(language: &Language, relation: &Name, types: &[Option<Ty>]) -> bool
-    ensures { IsTrue result ↔ IsJudgementOf language.now relation.now types.now }
+pub(crate) fn is_judgement(
+    alloc: Global,
+    language: &Language,
+    relation: &Name,
+    types: &[Option<Ty>],
+) -> Result<bool, NoMemory>
+    ensures { IfOk result
+        (λ kept. IsTrue kept ↔ IsJudgementOf language.now relation.now types.now) }
 {
     match language.relation(relation) {
-        None => false,
-        Some(declared) => are(language, declared.holes.as_slice(), types),
+        None => Ok(false),
+        Some(declared) => {
+            let kept = are(alloc, language, declared.holes.as_slice(), types)?;
+            Ok(kept)
+        }
     }
 }
 
@@ -56,7 +65,8 @@ fn broken_in_condition(
 {
     let found = typing_of(alloc, language, listed, exp)?;
     let Typing { ty, broken } = found;
-    let all = told(broken, TypeRule::T4, has(language, &ty, &Ty::Bool))?;
+    let kept = has(alloc, language, &ty, &Ty::Bool)?;
+    let all = told(broken, TypeRule::T4, kept)?;
     Ok(all)
 }
 
@@ -74,7 +84,7 @@ fn broken_in_goal(
 {
     let found = typings_in(alloc, language, listed, exps)?;
     let Typings { types, broken } = found;
-    let kept = is_judgement(language, relation, types.as_slice());
+    let kept = is_judgement(alloc, language, relation, types.as_slice())?;
     let all = told(broken, TypeRule::T12, kept)?;
     Ok(all)
 }
@@ -91,7 +101,7 @@ fn broken_by_count(
     let exps = count_of(alloc, how)?;
     let found = typings_of(alloc, language, listed, exps.as_slice())?;
     let Typings { types, broken } = found;
-    let kept = all_are(language, &Ty::Nat, types.as_slice());
+    let kept = all_are(alloc, language, &Ty::Nat, types.as_slice())?;
     let all = told(broken, TypeRule::T14, kept)?;
     Ok(all)
 }

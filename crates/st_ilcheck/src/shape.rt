@@ -1,7 +1,7 @@
 //! What is asked of the types of parts: that they are equal to given ones, lists of them, or that a
 //! path leads from one to another.
 
-ghost use Rattle.std.specs.Prelude.{◌≡◌, ◌↔◌, IsTrue, MatchOption, List, ℕ, Some, is_some};
+ghost use Rattle.std.specs.Prelude.{◌≡◌, ◌↔◌, IsTrue, IfOk, MatchOption, List, ℕ, Some, is_some};
 ghost use Rattle.std.specs.Option.{option_copied};
 ghost use Rattle.st_il.specs.declared.expression.ListItem.{out-ListItem};
 ghost use Rattle.st_il.specs.declared.ty.Ty.{Ty};
@@ -16,81 +16,124 @@ ghost use Rattle.st_ilcheck.specs.inner.Steps.{Steps, PlaceAt};
 use crate::found::field_type;
 use crate::language::Language;
 use st_il::{ListItem, PathSeg, Ty};
-use st_num::Name;
+use st_num::{Name, NoMemory};
+use std::alloc::Global;
 
 /// Whether a type was found, and is equal to this one.
-pub(crate) fn is(language: &Language, found: Option<&Ty>, ty: &Ty) -> bool
-    ensures { IsTrue result ↔ Is (syntaxes language.now) (option_copied found.entry) ty.now }
+pub(crate) fn is(
+    alloc: Global,
+    language: &Language,
+    found: Option<&Ty>,
+    ty: &Ty,
+) -> Result<bool, NoMemory>
+    ensures { IfOk result (λ kept. IsTrue kept ↔ Is (syntaxes language.now) (option_copied found.entry) ty.now) }
 {
     match found {
-        None => false,
-        Some(found) => language.same(found, ty),
+        None => Ok(false),
+        Some(found) => {
+            let kept = language.same(alloc, found, ty)?;
+            Ok(kept)
+        }
     }
 }
 
 /// Whether a part has this type.
-pub(crate) fn has(language: &Language, found: &Option<Ty>, ty: &Ty) -> bool
-    ensures { IsTrue result ↔ Is (syntaxes language.now) found.now ty.now }
+pub(crate) fn has(
+    alloc: Global,
+    language: &Language,
+    found: &Option<Ty>,
+    ty: &Ty,
+) -> Result<bool, NoMemory>
+    ensures { IfOk result (λ kept. IsTrue kept ↔ Is (syntaxes language.now) found.now ty.now) }
 {
     match found {
-        None => false,
-        Some(found) => language.same(found, ty),
+        None => Ok(false),
+        Some(found) => {
+            let kept = language.same(alloc, found, ty)?;
+            Ok(kept)
+        }
     }
 }
 
 /// Whether every part has this type.
-pub(crate) fn all_are(language: &Language, ty: &Ty, types: &[Option<Ty>]) -> bool
-    ensures { IsTrue result ↔ AllAre (syntaxes language.now) ty.now types.now }
+pub(crate) fn all_are(
+    alloc: Global,
+    language: &Language,
+    ty: &Ty,
+    types: &[Option<Ty>],
+) -> Result<bool, NoMemory>
+    ensures { IfOk result (λ kept. IsTrue kept ↔ AllAre (syntaxes language.now) ty.now types.now) }
 {
     for found in types {
-        if !has(language, found, ty) {
-            return false;
+        let kept = has(alloc, language, found, ty)?;
+        if !kept {
+            return Ok(false);
         }
     }
-    true
+    Ok(true)
 }
 
 /// Whether there is a part for each of these types, and has it.
-pub(crate) fn are(language: &Language, asked: &[Ty], types: &[Option<Ty>]) -> bool
-    ensures { IsTrue result ↔ Are (syntaxes language.now) asked.now types.now }
+pub(crate) fn are(
+    alloc: Global,
+    language: &Language,
+    asked: &[Ty],
+    types: &[Option<Ty>],
+) -> Result<bool, NoMemory>
+    ensures { IfOk result (λ kept. IsTrue kept ↔ Are (syntaxes language.now) asked.now types.now) }
 {
     if asked.len() != types.len() {
-        return false;
+        return Ok(false);
     }
     for i in 0..asked.len() {
-        if !has(language, &types[i], &asked[i]) {
-            return false;
+        let kept = has(alloc, language, &types[i], &asked[i])?;
+        if !kept {
+            return Ok(false);
         }
     }
-    true
+    Ok(true)
 }
 
 /// Whether there is a part for each of these fields, and has its type.
-pub(crate) fn are_fields(language: &Language, asked: &[(Name, Ty)], types: &[Option<Ty>]) -> bool
-    ensures { IsTrue result
-        ↔ AreEach (λ (d : List ℕ × Ty) o. Is (syntaxes language.now) o d.1) asked.now types.now }
+pub(crate) fn are_fields(
+    alloc: Global,
+    language: &Language,
+    asked: &[(Name, Ty)],
+    types: &[Option<Ty>],
+) -> Result<bool, NoMemory>
+    ensures { IfOk result (λ kept. IsTrue kept
+        ↔ AreEach (λ (d : List ℕ × Ty) o. Is (syntaxes language.now) o d.1) asked.now types.now) }
 {
     if asked.len() != types.len() {
-        return false;
+        return Ok(false);
     }
     for i in 0..asked.len() {
-        if !has(language, &types[i], &asked[i].1) {
-            return false;
+        let kept = has(alloc, language, &types[i], &asked[i].1)?;
+        if !kept {
+            return Ok(false);
         }
     }
-    true
+    Ok(true)
 }
 
 /// Whether both have types, which are equal.
-pub(crate) fn are_equal(language: &Language, left: Option<&Ty>, right: Option<&Ty>) -> bool
-    ensures { IsTrue result ↔ AreEqual (syntaxes language.now)
-        (option_copied left.entry) (option_copied right.entry) }
+pub(crate) fn are_equal(
+    alloc: Global,
+    language: &Language,
+    left: Option<&Ty>,
+    right: Option<&Ty>,
+) -> Result<bool, NoMemory>
+    ensures { IfOk result (λ kept. IsTrue kept ↔ AreEqual (syntaxes language.now)
+        (option_copied left.entry) (option_copied right.entry)) }
 {
     match left {
-        None => false,
+        None => Ok(false),
         Some(left) => match right {
-            None => false,
-            Some(right) => language.same(left, right),
+            None => Ok(false),
+            Some(right) => {
+                let kept = language.same(alloc, left, right)?;
+                Ok(kept)
+            }
         },
     }
 }
@@ -109,15 +152,23 @@ pub(crate) fn is_list(language: &Language, found: Option<&Ty>) -> bool
 }
 
 /// Whether it is a list of elements of this type.
-pub(crate) fn is_list_of(language: &Language, found: Option<&Ty>, ty: &Ty) -> bool
-    ensures { IsTrue result
-        ↔ IsListOf (syntaxes language.now) (option_copied found.entry) ty.now }
+pub(crate) fn is_list_of(
+    alloc: Global,
+    language: &Language,
+    found: Option<&Ty>,
+    ty: &Ty,
+) -> Result<bool, NoMemory>
+    ensures { IfOk result (λ kept. IsTrue kept
+        ↔ IsListOf (syntaxes language.now) (option_copied found.entry) ty.now) }
 {
     match found {
-        None => false,
+        None => Ok(false),
         Some(list) => match language.element(list) {
-            None => false,
-            Some(element) => language.same(element, ty),
+            None => Ok(false),
+            Some(element) => {
+                let kept = language.same(alloc, element, ty)?;
+                Ok(kept)
+            }
         },
     }
 }
@@ -145,23 +196,37 @@ pub(crate) fn all_typed(language: &Language, types: &[Option<Ty>]) -> bool
 }
 
 /// Whether all parts are natural numbers, or all are integers.
-pub(crate) fn are_ordered(language: &Language, types: &[Option<Ty>]) -> bool
-    ensures { IsTrue result ↔ AreOrdered (syntaxes language.now) types.now }
+pub(crate) fn are_ordered(
+    alloc: Global,
+    language: &Language,
+    types: &[Option<Ty>],
+) -> Result<bool, NoMemory>
+    ensures { IfOk result (λ kept. IsTrue kept ↔ AreOrdered (syntaxes language.now) types.now) }
 {
-    if all_are(language, &Ty::Nat, types) {
-        return true;
+    let natural = all_are(alloc, language, &Ty::Nat, types)?;
+    if natural {
+        return Ok(true);
     }
-    all_are(language, &Ty::Int, types)
+    let whole = all_are(alloc, language, &Ty::Int, types)?;
+    Ok(whole)
 }
 
 /// Whether the second is a list of elements of the type of the first.
-pub(crate) fn is_member(language: &Language, element: Option<&Ty>, list: Option<&Ty>) -> bool
-    ensures { IsTrue result ↔ IsMember (syntaxes language.now)
-        (option_copied element.entry) (option_copied list.entry) }
+pub(crate) fn is_member(
+    alloc: Global,
+    language: &Language,
+    element: Option<&Ty>,
+    list: Option<&Ty>,
+) -> Result<bool, NoMemory>
+    ensures { IfOk result (λ kept. IsTrue kept ↔ IsMember (syntaxes language.now)
+        (option_copied element.entry) (option_copied list.entry)) }
 {
     match element {
-        None => false,
-        Some(ty) => is_list_of(language, list, ty),
+        None => Ok(false),
+        Some(ty) => {
+            let kept = is_list_of(alloc, language, list, ty)?;
+            Ok(kept)
+        }
     }
 }
 
@@ -211,117 +276,175 @@ fn place<'a>(language: &'a Language, ty: &'a Ty, path: &[PathSeg]) -> Option<&'a
 
 /// Whether what is set has the type of the place that the path leads to.
 pub(crate) fn is_set(
+    alloc: Global,
     language: &Language,
     path: &[PathSeg],
     found: Option<&Ty>,
     new: Option<&Ty>,
-) -> bool
-    ensures { IsTrue result ↔ IsSet (syntaxes language.now) path.now
-        (option_copied found.entry) (option_copied new.entry) }
+) -> Result<bool, NoMemory>
+    ensures { IfOk result (λ kept. IsTrue kept ↔ IsSet (syntaxes language.now) path.now
+        (option_copied found.entry) (option_copied new.entry)) }
 {
     match found {
-        None => false,
+        None => Ok(false),
         Some(ty) => match place(language, ty, path) {
-            None => false,
-            Some(place) => is(language, new, place),
+            None => Ok(false),
+            Some(place) => {
+                let kept = is(alloc, language, new, place)?;
+                Ok(kept)
+            }
         },
     }
 }
 
 /// Whether a place is a list, and what is put behind it is a list of that type.
-fn is_longer(language: &Language, place: &Ty, more: Option<&Ty>) -> bool
-    ensures { IsTrue result ↔ (IsList (syntaxes language.now) (Some place.now)
-        × Is (syntaxes language.now) (option_copied more.entry) place.now) }
+fn is_longer(
+    alloc: Global,
+    language: &Language,
+    place: &Ty,
+    more: Option<&Ty>,
+) -> Result<bool, NoMemory>
+    ensures { IfOk result (λ kept. IsTrue kept ↔ (IsList (syntaxes language.now) (Some place.now)
+        × Is (syntaxes language.now) (option_copied more.entry) place.now)) }
 {
-    is_list(language, Some(place)) && is(language, more, place)
+    if !is_list(language, Some(place)) {
+        return Ok(false);
+    }
+    let kept = is(alloc, language, more, place)?;
+    Ok(kept)
 }
 
 /// Whether the path leads to a list, and what is put behind it is a list of that type.
 pub(crate) fn is_extended(
+    alloc: Global,
     language: &Language,
     path: &[PathSeg],
     found: Option<&Ty>,
     more: Option<&Ty>,
-) -> bool
-    ensures { IsTrue result ↔ IsExtended (syntaxes language.now) path.now
-        (option_copied found.entry) (option_copied more.entry) }
+) -> Result<bool, NoMemory>
+    ensures { IfOk result (λ kept. IsTrue kept ↔ IsExtended (syntaxes language.now) path.now
+        (option_copied found.entry) (option_copied more.entry)) }
 {
     match found {
-        None => false,
+        None => Ok(false),
         Some(ty) => match place(language, ty, path) {
-            None => false,
-            Some(place) => is_longer(language, place, more),
+            None => Ok(false),
+            Some(place) => {
+                let kept = is_longer(alloc, language, place, more)?;
+                Ok(kept)
+            }
         },
     }
 }
 
 /// Whether a record type can be joined, and the other is equal to it.
-fn is_joined(language: &Language, ty: &Ty, right: Option<&Ty>) -> bool
-    ensures { IsTrue result ↔ (Joins (syntaxes language.now) ty.now
-        × AreEqual (syntaxes language.now) (Some ty.now) (option_copied right.entry)) }
+fn is_joined(
+    alloc: Global,
+    language: &Language,
+    ty: &Ty,
+    right: Option<&Ty>,
+) -> Result<bool, NoMemory>
+    ensures { IfOk result (λ kept. IsTrue kept ↔ (Joins (syntaxes language.now) ty.now
+        × AreEqual (syntaxes language.now) (Some ty.now) (option_copied right.entry))) }
 {
-    language.joins(ty) && are_equal(language, Some(ty), right)
+    if !language.joins(ty) {
+        return Ok(false);
+    }
+    let kept = are_equal(alloc, language, Some(ty), right)?;
+    Ok(kept)
 }
 
 /// Whether both have equal record types that can be joined.
-pub(crate) fn are_joined(language: &Language, left: Option<&Ty>, right: Option<&Ty>) -> bool
-    ensures { IsTrue result ↔ AreJoined (syntaxes language.now)
-        (option_copied left.entry) (option_copied right.entry) }
+pub(crate) fn are_joined(
+    alloc: Global,
+    language: &Language,
+    left: Option<&Ty>,
+    right: Option<&Ty>,
+) -> Result<bool, NoMemory>
+    ensures { IfOk result (λ kept. IsTrue kept ↔ AreJoined (syntaxes language.now)
+        (option_copied left.entry) (option_copied right.entry)) }
 {
     match left {
-        None => false,
-        Some(ty) => is_joined(language, ty, right),
+        None => Ok(false),
+        Some(ty) => {
+            let kept = is_joined(alloc, language, ty, right)?;
+            Ok(kept)
+        }
     }
 }
 
 /// Whether a part of a list is one element, or a list of them.
-fn is_item(language: &Language, ty: &Ty, item: &ListItem, found: &Option<Ty>) -> bool
-    ensures { IsTrue result
-        ↔ IsItem (syntaxes language.now) ty.now (out-ListItem item.now) found.now }
+fn is_item(
+    alloc: Global,
+    language: &Language,
+    ty: &Ty,
+    item: &ListItem,
+    found: &Option<Ty>,
+) -> Result<bool, NoMemory>
+    ensures { IfOk result (λ kept. IsTrue kept
+        ↔ IsItem (syntaxes language.now) ty.now (out-ListItem item.now) found.now) }
 {
     match item {
-        ListItem::One(_) => has(language, found, ty),
-        ListItem::All(_) => is_list_of(language, found.as_ref(), ty),
+        ListItem::One(_) => {
+            let kept = has(alloc, language, found, ty)?;
+            Ok(kept)
+        }
+        ListItem::All(_) => {
+            let kept = is_list_of(alloc, language, found.as_ref(), ty)?;
+            Ok(kept)
+        }
     }
 }
 
 /// Whether each part of a list is one element, or a list of them.
 pub(crate) fn are_items(
+    alloc: Global,
     language: &Language,
     ty: &Ty,
     items: &[ListItem],
     types: &[Option<Ty>],
-) -> bool
-    ensures { IsTrue result ↔ AreItems (syntaxes language.now) ty.now items.now types.now }
+) -> Result<bool, NoMemory>
+    ensures { IfOk result (λ kept. IsTrue kept ↔ AreItems (syntaxes language.now) ty.now items.now types.now) }
 {
     if items.len() != types.len() {
-        return false;
+        return Ok(false);
     }
     for i in 0..items.len() {
-        if !is_item(language, ty, &items[i], &types[i]) {
-            return false;
+        let kept = is_item(alloc, language, ty, &items[i], &types[i])?;
+        if !kept {
+            return Ok(false);
         }
     }
-    true
+    Ok(true)
 }
 
 /// Whether the first type is below the second, and not equal to it.
-fn is_lower(language: &Language, lower: &Ty, upper: &Ty) -> bool
-    ensures { IsTrue result ↔ (Sub (syntaxes language.now) lower.now upper.now
-        × (Same (syntaxes language.now) lower.now upper.now → ⊥)) }
+fn is_lower(alloc: Global, language: &Language, lower: &Ty, upper: &Ty) -> Result<bool, NoMemory>
+    ensures { IfOk result (λ kept. IsTrue kept ↔ (Sub (syntaxes language.now) lower.now upper.now
+        × (Same (syntaxes language.now) lower.now upper.now → ⊥))) }
 {
-    if language.same(lower, upper) {
-        return false;
+    let equal = language.same(alloc, lower, upper)?;
+    if equal {
+        return Ok(false);
     }
-    language.is_sub(lower, upper)
+    let below = language.is_sub(alloc, lower, upper)?;
+    Ok(below)
 }
 
 /// Whether what is injected has a type below this one, and not equal to it.
-pub(crate) fn is_below(language: &Language, found: Option<&Ty>, ty: &Ty) -> bool
-    ensures { IsTrue result ↔ IsBelow (syntaxes language.now) (option_copied found.entry) ty.now }
+pub(crate) fn is_below(
+    alloc: Global,
+    language: &Language,
+    found: Option<&Ty>,
+    ty: &Ty,
+) -> Result<bool, NoMemory>
+    ensures { IfOk result (λ kept. IsTrue kept ↔ IsBelow (syntaxes language.now) (option_copied found.entry) ty.now) }
 {
     match found {
-        None => false,
-        Some(found) => is_lower(language, found, ty),
+        None => Ok(false),
+        Some(found) => {
+            let kept = is_lower(alloc, language, found, ty)?;
+            Ok(kept)
+        }
     }
 }

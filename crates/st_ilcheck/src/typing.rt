@@ -6,17 +6,17 @@ ghost use Rattle.st_semantics.specs.Iterations.{count_of};
 ghost use Rattle.st_semantics.specs.Scopes.{listed_inside};
 ghost use Rattle.st_ilcheck.specs.Parts.{parts_of, standing};
 ghost use Rattle.st_ilcheck.specs.Typings.{HasTyping, HaveTypings, BreaksHere};
-ghost use Rattle.st_ilcheck.specs.inner.Weight.{exps_now};
+ghost use Rattle.st_semantics.specs.References.{exps_now};
 
 use crate::found::found_type;
 use crate::keeping::{keeps_form, keeps_path, rule_of};
 use crate::language::Language;
 use crate::naming::names_kept;
-use crate::operands::{count_of, operands};
 use crate::rows::append;
 use crate::scope::listed_inside;
 use st_il::{IlExp, Iteration, Listed, Ty, TypeRule};
 use st_num::{Name, NoMemory, Row};
+use st_semantics::operands::{count_of, operands};
 use std::alloc::Global;
 
 /// The type that was found of an expression, if it has one, and the rules that are broken in it,
@@ -63,7 +63,8 @@ fn broken_here(
 {
     let form = keeps_form(alloc, language, exp, types)?;
     let first = told(Row::new(alloc), rule_of(exp), form)?;
-    let second = told(first, TypeRule::T11, keeps_path(language, exp, types))?;
+    let path = keeps_path(alloc, language, exp, types)?;
+    let second = told(first, TypeRule::T11, path)?;
     let third = told(second, TypeRule::T14, names_kept(listed, exp))?;
     Ok(third)
 }

@@ -1,7 +1,10 @@
 //! The trees of expressions.
 
-ghost use Rattle.std.specs.Prelude.{◌≡◌, ◌++◌, map, IfOk, OnOk};
-ghost use Rattle.st_iltext.specs.Expressions.{group, exp_tree, item_tree, segment_tree, iteration_tree};
+ghost use Rattle.std.specs.Prelude.{◌≡◌, ◌++◌, [], ◌∷◌, map, IfOk, OnOk};
+ghost use Rattle.st_il.specs.declared.expression.IlExp.{out-IlExp};
+ghost use Rattle.st_iltext.specs.Expressions.{form, group, ty_tree, exp_tree, item_tree, segment_tree, iteration_tree};
+ghost use Rattle.st_iltext.specs.inner.Heads.{head_at, operator_head_at};
+ghost use Rattle.st_text.specs.Text.{quote};
 ghost use Rattle.st_text.specs.Trees.{tree_of};
 
 use crate::form::{
@@ -10,8 +13,8 @@ use crate::form::{
 };
 use crate::head::head_of;
 use crate::ty::ty_tree;
-use st_il::{IlExp, Iteration, ListItem, PathSeg};
-use st_num::{NoMemory, Row};
+use st_il::{IlExp, Iteration, ListItem, NumTy, PathSeg, Ty};
+use st_num::{Boxed, Name, NoMemory, Row};
 use st_text::TextTree;
 use std::alloc::Global;
 
@@ -22,114 +25,131 @@ pub fn exp_tree(alloc: Global, exp: &IlExp) -> Result<TextTree, NoMemory>
 {
     let head = head_of(exp);
     match exp {
+        IlExp::Not(x) | IlExp::Neg(x) => unary(alloc, head, part(alloc, x)?),
+        IlExp::And(x, y) | IlExp::Or(x, y) | IlExp::Imp(x, y) | IlExp::Iff(x, y) => {
+            binary(alloc, head, part(alloc, x)?, part(alloc, y)?)
+        }
+        IlExp::Eq(x, y) | IlExp::Ne(x, y) | IlExp::Lt(x, y) | IlExp::Gt(x, y) => {
+            binary(alloc, head, part(alloc, x)?, part(alloc, y)?)
+        }
+        IlExp::Le(x, y) | IlExp::Ge(x, y) | IlExp::Member(x, y) => {
+            binary(alloc, head, part(alloc, x)?, part(alloc, y)?)
+        }
+        IlExp::Cat(x, y) | IlExp::Join(x, y) => {
+            binary(alloc, head, part(alloc, x)?, part(alloc, y)?)
+        }
+        IlExp::Add(ty, x, y) | IlExp::Sub(ty, x, y) | IlExp::Mul(ty, x, y) => {
+            let ty = number_type_tree(alloc, *ty)?;
+            ternary(alloc, head, ty, part(alloc, x)?, part(alloc, y)?)
+        }
+        IlExp::Div(ty, x, y) | IlExp::Rem(ty, x, y) | IlExp::Pow(ty, x, y) => {
+            let ty = number_type_tree(alloc, *ty)?;
+            ternary(alloc, head, ty, part(alloc, x)?, part(alloc, y)?)
+        }
+        _ => form_tree(alloc, exp, head),
+    }
+}
+
+/// The tree of an expression that is no operator.
+#[cycle(exp)]
+fn form_tree(alloc: Global, exp: &IlExp, head: &[u8]) -> Result<TextTree, NoMemory>
+    requires form { operator_head_at (out-IlExp exp.now) ≡ [] }
+    requires head { head.now ≡ head_at (out-IlExp exp.now) }
+    ensures { IfOk result (λ tree. tree_of tree ≡ exp_tree exp.now) }
+{
+    match exp {
         IlExp::Bool(is_true) => truth_tree(alloc, *is_true),
         IlExp::Number(number) => number_tree(alloc, *number),
         IlExp::Text(text) => quote_tree(alloc, text),
         IlExp::Var(name) => unary(alloc, head, quote_tree(alloc, name)?),
-        IlExp::Not(x) | IlExp::Neg(x) | IlExp::Present(x) | IlExp::Len(x) => {
-            unary(alloc, head, exp_tree(alloc, x.get())?)
-        }
-        IlExp::And(x, y) | IlExp::Or(x, y) | IlExp::Imp(x, y) | IlExp::Iff(x, y) => {
-            binary(
-                alloc,
-                head,
-                exp_tree(alloc, x.get())?,
-                exp_tree(alloc, y.get())?,
-            )
-        }
-        IlExp::Eq(x, y) | IlExp::Ne(x, y) | IlExp::Lt(x, y) | IlExp::Gt(x, y) => {
-            binary(
-                alloc,
-                head,
-                exp_tree(alloc, x.get())?,
-                exp_tree(alloc, y.get())?,
-            )
-        }
-        IlExp::Le(x, y) | IlExp::Ge(x, y) | IlExp::Member(x, y) | IlExp::At(x, y) => {
-            binary(
-                alloc,
-                head,
-                exp_tree(alloc, x.get())?,
-                exp_tree(alloc, y.get())?,
-            )
-        }
-        IlExp::Cat(x, y) | IlExp::Join(x, y) => {
-            binary(
-                alloc,
-                head,
-                exp_tree(alloc, x.get())?,
-                exp_tree(alloc, y.get())?,
-            )
-        }
-        IlExp::Add(ty, x, y) | IlExp::Sub(ty, x, y) | IlExp::Mul(ty, x, y) => {
-            let ty = number_type_tree(alloc, *ty)?;
-            ternary(
-                alloc,
-                head,
-                ty,
-                exp_tree(alloc, x.get())?,
-                exp_tree(alloc, y.get())?,
-            )
-        }
-        IlExp::Div(ty, x, y) | IlExp::Rem(ty, x, y) | IlExp::Pow(ty, x, y) => {
-            let ty = number_type_tree(alloc, *ty)?;
-            ternary(
-                alloc,
-                head,
-                ty,
-                exp_tree(alloc, x.get())?,
-                exp_tree(alloc, y.get())?,
-            )
-        }
-        IlExp::Case(ty, tag, exps) => {
-            let mut trees = headed(alloc, head)?;
-            trees.push(quote_tree(alloc, ty)?)?;
-            trees.push(quote_tree(alloc, tag)?)?;
-            push_exps(alloc, exps.as_slice(), &mut trees)?;
-            Ok(TextTree::List(trees))
-        }
-        IlExp::Fields(name, exps) | IlExp::Call(name, exps) => {
-            let mut trees = headed(alloc, head)?;
-            trees.push(quote_tree(alloc, name)?)?;
-            push_exps(alloc, exps.as_slice(), &mut trees)?;
-            Ok(TextTree::List(trees))
-        }
-        IlExp::Dot(x, field) => {
-            let x = exp_tree(alloc, x.get())?;
-            binary(alloc, head, x, quote_tree(alloc, field)?)
+        IlExp::Empty(ty) | IlExp::Absent(ty) => unary(alloc, head, ty_tree(alloc, ty)?),
+        IlExp::Present(x) | IlExp::Len(x) => unary(alloc, head, part(alloc, x)?),
+        IlExp::Dot(x, field) => binary(alloc, head, part(alloc, x)?, quote_tree(alloc, field)?),
+        IlExp::At(x, y) => binary(alloc, head, part(alloc, x)?, part(alloc, y)?),
+        IlExp::Up(ty, x) => binary(alloc, head, ty_tree(alloc, ty)?, part(alloc, x)?),
+        IlExp::Slice(x, y, z) => {
+            let x = part(alloc, x)?;
+            ternary(alloc, head, x, part(alloc, y)?, part(alloc, z)?)
         }
         IlExp::Set(x, path, y) | IlExp::Extend(x, path, y) => {
-            let x = exp_tree(alloc, x.get())?;
+            let x = part(alloc, x)?;
             let path = path_tree(alloc, path.as_slice())?;
-            ternary(alloc, head, x, path, exp_tree(alloc, y.get())?)
+            ternary(alloc, head, x, path, part(alloc, y)?)
         }
-        IlExp::Tuple(exps) => {
-            let mut trees = headed(alloc, head)?;
-            push_exps(alloc, exps.as_slice(), &mut trees)?;
-            Ok(TextTree::List(trees))
+        IlExp::Case(ty, tag, exps) => case_tree(alloc, head, ty, tag, exps.as_slice()),
+        IlExp::Fields(name, exps) | IlExp::Call(name, exps) => {
+            named_tree(alloc, head, name, exps.as_slice())
         }
-        IlExp::List(ty, items) => {
-            let mut trees = headed(alloc, head)?;
-            trees.push(ty_tree(alloc, ty)?)?;
-            push_items(alloc, items.as_slice(), &mut trees)?;
-            Ok(TextTree::List(trees))
-        }
-        IlExp::Empty(ty) | IlExp::Absent(ty) => unary(alloc, head, ty_tree(alloc, ty)?),
-        IlExp::Slice(x, y, z) => {
-            let x = exp_tree(alloc, x.get())?;
-            let y = exp_tree(alloc, y.get())?;
-            ternary(alloc, head, x, y, exp_tree(alloc, z.get())?)
-        }
-        IlExp::Up(ty, x) => {
-            let ty = ty_tree(alloc, ty)?;
-            binary(alloc, head, ty, exp_tree(alloc, x.get())?)
-        }
+        IlExp::Tuple(exps) => tuple_tree(alloc, head, exps.as_slice()),
+        IlExp::List(ty, items) => list_tree(alloc, head, items.as_slice(), ty),
         IlExp::Iter(count, names, x) => {
             let count = iteration_tree(alloc, count)?;
             let names = names_tree(alloc, names.as_slice())?;
-            ternary(alloc, head, count, names, exp_tree(alloc, x.get())?)
+            ternary(alloc, head, count, names, part(alloc, x)?)
         }
+        _ => unreachable!(),
     }
+}
+
+/// The tree of a part of an expression.
+#[cycle(exp)]
+fn part(alloc: Global, exp: &Boxed<IlExp>) -> Result<TextTree, NoMemory>
+    ensures { IfOk result (λ tree. tree_of tree ≡ exp_tree exp.now) }
+{
+    exp_tree(alloc, exp.get())
+}
+
+/// The tree of a case: its type, its tag and its operands.
+#[cycle(exp)]
+fn case_tree(
+    alloc: Global,
+    head: &[u8],
+    ty: &Name,
+    tag: &Name,
+    exps: &[IlExp],
+) -> Result<TextTree, NoMemory>
+    ensures { IfOk result (λ tree. tree_of tree
+        ≡ form head.now (quote ty.now ∷ quote tag.now ∷ map exp_tree exps.now)) }
+{
+    let mut trees = headed(alloc, head)?;
+    trees.push(quote_tree(alloc, ty)?)?;
+    trees.push(quote_tree(alloc, tag)?)?;
+    push_exps(alloc, exps, &mut trees)?;
+    Ok(TextTree::List(trees))
+}
+
+/// The tree of a record of a type, and of a call of a function.
+#[cycle(exp)]
+fn named_tree(alloc: Global, head: &[u8], name: &Name, exps: &[IlExp]) -> Result<TextTree, NoMemory>
+    ensures { IfOk result (λ tree.
+        tree_of tree ≡ form head.now (quote name.now ∷ map exp_tree exps.now)) }
+{
+    let mut trees = headed(alloc, head)?;
+    trees.push(quote_tree(alloc, name)?)?;
+    push_exps(alloc, exps, &mut trees)?;
+    Ok(TextTree::List(trees))
+}
+
+/// The tree of a tuple.
+#[cycle(exp)]
+fn tuple_tree(alloc: Global, head: &[u8], exps: &[IlExp]) -> Result<TextTree, NoMemory>
+    ensures { IfOk result (λ tree. tree_of tree ≡ form head.now (map exp_tree exps.now)) }
+{
+    let mut trees = headed(alloc, head)?;
+    push_exps(alloc, exps, &mut trees)?;
+    Ok(TextTree::List(trees))
+}
+
+/// The tree of a list of elements of a type.
+#[cycle(exp)]
+fn list_tree(alloc: Global, head: &[u8], items: &[ListItem], ty: &Ty) -> Result<TextTree, NoMemory>
+    ensures { IfOk result (λ tree.
+        tree_of tree ≡ form head.now (ty_tree ty.now ∷ map item_tree items.now)) }
+{
+    let mut trees = headed(alloc, head)?;
+    trees.push(ty_tree(alloc, ty)?)?;
+    push_items(alloc, items, &mut trees)?;
+    Ok(TextTree::List(trees))
 }
 
 /// Adds the trees of these expressions.

@@ -1,5 +1,5 @@
 -- What an iteration is given covers all that give it its value.
-use Rattle.std.proofs.Common.{◌≡◌, ℕ, suc, ◌+◌, ◌<◌, ◌≤◌, pos, refl, sym, ◌∙◌, ap, subst, List, [], ◌∷◌, ◌++◌, map, length, take, get_or, inl, inr, Bool, true, false, ◌&&◌, ◌||◌, if◌then◌else◌, Option, Some, None, arith}
+use Rattle.std.proofs.Common.{◌≡◌, ℕ, suc, ◌+◌, ◌<◌, ◌≤◌, pos, refl, sym, ◌∙◌, ap, subst, List, [], ◌∷◌, ◌++◌, map, length, take, get_or, inl, inr, Bool, true, false, ◌&&◌, ◌||◌, if◌then◌else◌, Option, Some, None}
 use Rattle.std.proofs.lemmas.List.{take_more, take_all}
 use Rattle.st_num.specs.declared.dim.Kind.{Kind}
 use Rattle.st_num.specs.declared.dim.Kind.TheVariants as kind
@@ -11,27 +11,25 @@ use Rattle.st_il.specs.declared.expression.Iteration.{Iteration, out-Iteration}
 use Rattle.st_il.specs.declared.expression.ListItem.{ListItem}
 use Rattle.st_il.specs.declared.expression.PathSeg.{PathSeg}
 use Rattle.st_il.specs.declared.value.Env.{Env}
-use Rattle.st_il.specs.declared.value.Value.{Value, out-Value}
-use Rattle.st_il.specs.declared.value.Value.TheOpen.{Value-F}
+use Rattle.st_il.specs.declared.value.Value.{Value}
 use Rattle.st_il.specs.declared.value.Value.TheVariants as value
 use Rattle.st_semantics.specs.declared.outcome.Outcome.TheVariants.{Val}
 use Rattle.st_semantics.specs.Names.{Name, has_name, without}
-use Rattle.st_semantics.specs.Environments.{Entry, lookup, value_in}
-use Rattle.st_semantics.specs.Parts.{option_at}
+use Rattle.st_semantics.specs.Environments.{value_in}
 use Rattle.st_semantics.specs.Forms.{Iterates, form_at, by_itself}
-use Rattle.st_semantics.specs.Iterations.{count_of, count_at, index_of, kind_of, kind_at, Column, column_of, columns, first_length, size_of, gathered_as}
+use Rattle.st_semantics.specs.Iterations.{count_of, count_at, index_of, kind_of, Column, columns, size_of, gathered_as}
 use Rattle.st_semantics.specs.Evaluation.{tasks}
 use Rattle.st_semantics.specs.Holding.{value_by, HaveValues}
 use Rattle.st_semantics.specs.Matching.{no_answers}
 use Rattle.st_semantics.specs.Patterns.{binds}
 use Rattle.st_semantics.proofs.Names.{or-cases, or-left, or-right}
-use Rattle.st_semantics.proofs.Elements.{before_parts}
 use Rattle.st_semantics.proofs.Premises.{without-parts}
 use Rattle.st_semantics.proofs.Wider.{among-parts}
 use Rattle.st_semantics.proofs.Inverse.{Elements}
 use Rattle.st_semantics.proofs.Columns.{spread_parts, parts_number, natural_is, values_at}
 use Rattle.st_semantics.proofs.PatternParts.{pattern-form}
 use Rattle.st_semantics.proofs.Lengths.{limited_is}
+use Rattle.st_semantics.proofs.PatternValues.{quest_count, few_elements}
 use Rattle.st_match.specs.inner.Fitting.{Fits, FitAll, FitEach, FitCount, HasValue, column_value, IsElementCount}
 use Rattle.st_match.specs.inner.Covering.{joined, bound, all_bound, Stands, AreCandidates, AreCandidatesOfCount}
 use Rattle.st_match.specs.inner.Rows.{RowStands, IsSized, AreRowsOf, row_values, are_there, in_columns, HasColumns, ColumnsCover, AllColumnsCover}
@@ -65,62 +63,13 @@ AllColumnsCover-end how xs rows es found i h c = subst (λ z. AllColumnsCover ho
 
 -- ---- how many elements there are
 
-quest_count : (how : Iteration) → kind_of how ≡ kind.Opt → count_of how ≡ []
-quest_count how e = at (out-Iteration how) e
-  where
-    at : (y : Iteration-F IlExp Iteration ListItem PathSeg) → kind_at y ≡ kind.Opt → count_at y ≡ []
-    at Iteration-F.Star e = cc
-    at Iteration-F.Plus e = cc
-    at Iteration-F.Quest e = refl
-    at (Iteration-F.Times c) e = cc
-    at (Iteration-F.Below i c) e = cc
-
-option_few : (y : Value-F Value) (c : Column) → option_at y ≡ Some c → length c ≤ 1
-option_few (Value-F.Opt None) [] e = omega arith
-option_few (Value-F.Opt None) (v ∷ vs) e = cc
-option_few (Value-F.Opt (Some x)) [] e = omega arith
-option_few (Value-F.Opt (Some x)) (v ∷ []) e = omega arith
-option_few (Value-F.Opt (Some x)) (v ∷ w ∷ vs) e = cc
-option_few _ c e = cc
-
-column_few : (o : Option Value) (c : Column) → column_of kind.Opt o ≡ Some c → length c ≤ 1
-column_few None c e = cc
-column_few (Some v) c e = option_few (out-Value v) c e
-
-first_few : (xs : List Name) (env : List Entry) (n : ℕ) (o : Option (List Column)) → columns kind.Opt xs env ≡ o → first_length o ≡ Some n → n ≤ 1
-first_few xs env n None k e = cc
-first_few xs env n (Some []) k e = cc
-first_few [] env n (Some (c ∷ cs)) k e = cc
-first_few (x ∷ xs) env n (Some (c ∷ cs)) k e =
-    let w = before_parts (column_of kind.Opt (lookup x env)) (columns kind.Opt xs env) (c ∷ cs) k in
-    let first : w.0 ≡ c = cc in
-    let long : length c ≡ n = cc in
-    let few = column_few (lookup x env) w.0 w.2 in
-    let same : length w.0 ≡ length c = ap length first in
-    omega (arith, long, few, same)
-
 module _ (defs : List SyntaxDef) (s : Env) (how : Iteration) (xs : List Name) (body : IlExp) (v : Value) (el : Elements defs no_answers s how xs body v) where
-  no_count : (es : List IlExp) (cs : List Value) → es ≡ [] → HaveValues (value_by defs no_answers) (tasks s es) cs → cs ≡ []
-  no_count [] [] e h = refl
-  no_count [] (c ∷ cs) e h = absurd h
-  no_count (g ∷ es) cs e h = cc
-
-  few_elements : kind_of how ≡ kind.Opt → length el.envs ≤ 1
-  few_elements is =
-      let p = spread_parts how xs s el.count el.envs el.over in
-      let empty = no_count (count_of how) el.count (quest_count how is) el.counted in
-      let size : first_length (columns kind.Opt xs s.entries) ≡ Some p.0 =
-      subst (λ z. size_of [] (columns z xs s.entries) ≡ Some p.0) is (subst (λ z. size_of z (columns (kind_of how) xs s.entries) ≡ Some p.0) empty p.2) in
-      let few = first_few xs s.entries p.0 (columns kind.Opt xs s.entries) refl size in
-      let n = parts_number how xs s el.count el.envs p in
-      omega (arith, few, n)
-
   sized : IsSized (kind_of how) el.envs
   sized = at (kind_of how) refl
     where
       at : (k : Kind) → kind_of how ≡ k → IsSized k el.envs
       at kind.List e = tt
-      at kind.Opt e = few_elements e
+      at kind.Opt e = few_elements (value_by defs no_answers) how xs s el.count el.envs e el.counted el.over
 
   values_length : (us : List Env) (vs : List Value) → FitEach defs body vs us → length vs ≡ length us
   values_length [] [] h = refl

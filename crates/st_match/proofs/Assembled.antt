@@ -7,8 +7,8 @@ use Rattle.st_semantics.specs.Environments.{Entry, lookup}
 use Rattle.st_semantics.proofs.Names.{bytes-same, bytes-path, or-left, or-right, true_false}
 use Rattle.st_semantics.proofs.Low.{name_there}
 use Rattle.st_match.specs.inner.Assembly.{value_of_either, entry_before, entries_of}
-use Rattle.st_match.specs.inner.Names.{AreSorted}
-use Rattle.st_match.proofs.InOrder.{nowhere}
+use Rattle.st_semantics.specs.inner.Sorted.{AreSorted}
+use Rattle.st_semantics.proofs.InOrder.{nowhere}
 
 -- the names of entries
 abbrev pub names_in : List Entry → List Name

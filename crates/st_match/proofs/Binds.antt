@@ -1,50 +1,20 @@
 -- What a pattern binds, by what its parts bind.
 use Rattle.std.proofs.Common.{◌≡◌, refl, sym, ◌∙◌, ap, ap₂, subst, List, [], ◌∷◌, ◌++◌, map, inl, inr, Bool, true, false}
-use Rattle.st_il.specs.declared.expression.IlExp.{IlExp, out-IlExp, roll-IlExp, roll-out-IlExp, fold_out-IlExp, map-IlExp}
+use Rattle.st_il.specs.declared.expression.IlExp.{IlExp, out-IlExp, roll-IlExp, roll-out-IlExp, map-IlExp}
 use Rattle.st_il.specs.declared.expression.IlExp.TheVariants as exp
-use Rattle.st_il.specs.declared.expression.IlExp.TheOpen.{IlExp-F, Iteration-F, ListItem-F}
-use Rattle.st_il.specs.declared.expression.Iteration.{Iteration, out-Iteration, fold-Iteration, fold_out-Iteration, map-Iteration}
-use Rattle.st_il.specs.declared.expression.ListItem.{ListItem, out-ListItem, fold-ListItem, fold_out-ListItem, map-ListItem}
-use Rattle.st_il.specs.declared.expression.PathSeg.{PathSeg, fold-PathSeg}
+use Rattle.st_il.specs.declared.expression.IlExp.TheOpen.{IlExp-F}
+use Rattle.st_il.specs.declared.expression.Iteration.{Iteration}
+use Rattle.st_il.specs.declared.expression.ListItem.{ListItem}
+use Rattle.st_il.specs.declared.expression.PathSeg.{PathSeg}
 use Rattle.st_il.specs.declared.ty.Ty.{Ty}
 use Rattle.st_semantics.specs.Names.{Name, has_name, flattened, among, without}
-use Rattle.st_semantics.specs.Operands.{item_at, segment_at, item_exp}
-use Rattle.st_semantics.specs.Iterations.{count_of, index_of, count_at, index_at}
-use Rattle.st_semantics.specs.Patterns.{Told, told, told_at, told_item, is_pattern, has_simple_count, Bound, BoundCount, bound_count_at, bound_at, binds}
+use Rattle.st_semantics.specs.Operands.{item_exp}
+use Rattle.st_semantics.specs.Iterations.{count_of, index_of}
+use Rattle.st_semantics.specs.Patterns.{Told, told, told_at, told_item, is_pattern, has_simple_count, binds}
 use Rattle.st_semantics.proofs.Names.{within-cases, within-left, within-right, or-left, or-right}
 use Rattle.st_semantics.proofs.PatternParts.{told_segment, told-level}
-use Rattle.st_semantics.proofs.PatternForms.{bound as what_is_bound, own_of, own_variable}
+use Rattle.st_semantics.proofs.PatternForms.{bound as what_is_bound, bound_of, binds-level, names-map, items-names, own_of, own_variable, iteration-own, iteration-index}
 use Rattle.st_match.specs.inner.Covering.{joined, bound, all_bound}
-
-abbrev item_bound : ListItem → Bound
-item_bound = fold-ListItem Bound BoundCount Bound (List Bound) bound_at bound_count_at item_at segment_at
-
-abbrev segment_bound : PathSeg → List Bound
-segment_bound = fold-PathSeg Bound BoundCount Bound (List Bound) bound_at bound_count_at item_at segment_at
-
-abbrev count_bound : Iteration → BoundCount
-count_bound = fold-Iteration Bound BoundCount Bound (List Bound) bound_at bound_count_at item_at segment_at
-
-abbrev level_names : IlExp-F IlExp Iteration ListItem PathSeg → List Name
-level_names y = (bound_at (map-IlExp IlExp Iteration ListItem PathSeg Bound BoundCount Bound (List Bound) what_is_bound count_bound item_bound segment_bound y)).names
-
-binds-level : (e : IlExp) (y : IlExp-F IlExp Iteration ListItem PathSeg) → out-IlExp e ≡ y → binds e ≡ level_names y
-binds-level e y h = ap (λ (b : Bound). b.names) (fold_out-IlExp Bound BoundCount Bound (List Bound) bound_at bound_count_at item_at segment_at e) ∙ ap level_names h
-
-item-bound : (i : ListItem) → item_bound i ≡ what_is_bound (item_exp i)
-item-bound i = fold_out-ListItem Bound BoundCount Bound (List Bound) bound_at bound_count_at item_at segment_at i ∙ at (out-ListItem i)
-  where
-    at : (y : ListItem-F IlExp Iteration ListItem PathSeg) → item_at (map-ListItem IlExp Iteration ListItem PathSeg Bound BoundCount Bound (List Bound) what_is_bound count_bound item_bound segment_bound y) ≡ what_is_bound (item_at y)
-    at (ListItem-F.One e) = refl
-    at (ListItem-F.All e) = refl
-
-names-map : (es : List IlExp) → map (λ (b : Bound). b.names) (map what_is_bound es) ≡ map binds es
-names-map [] = refl
-names-map (e ∷ es) = ap (λ z. binds e ∷ z) (names-map es)
-
-items-names : (is : List ListItem) → map (λ (b : Bound). b.names) (map (λ (b : Bound). b) (map item_bound is)) ≡ map binds (map item_exp is)
-items-names [] = refl
-items-names (i ∷ is) = ap₂ (λ a b. a ∷ b) (ap (λ (b : Bound). b.names) (item-bound i)) (items-names is)
 
 same_bound : (xs ys : List Name) (x : Name) → xs ≡ ys → has_name xs x ≡ true → has_name ys x ≡ true
 same_bound xs ys x e h = subst (λ z. has_name z x ≡ true) e h
@@ -86,28 +56,6 @@ binds-Cat p e g o x h = elim (within-cases (binds e) (flattened (map binds (g �
 
 -- ---- iterations
 
-iteration-own : (how : Iteration) → (count_bound how).own ≡ own_of how
-iteration-own how = ap (λ (b : BoundCount). b.own) (fold_out-Iteration Bound BoundCount Bound (List Bound) bound_at bound_count_at item_at segment_at how) ∙ at (out-Iteration how)
-  where
-    at : (y : Iteration-F IlExp Iteration ListItem PathSeg)
-        → (bound_count_at (map-Iteration IlExp Iteration ListItem PathSeg Bound BoundCount Bound (List Bound) what_is_bound count_bound item_bound segment_bound y)).own ≡ flattened (map (λ (e : IlExp). (what_is_bound e).own) (count_at y))
-    at Iteration-F.Star = refl
-    at Iteration-F.Plus = refl
-    at Iteration-F.Quest = refl
-    at (Iteration-F.Times e) = refl
-    at (Iteration-F.Below i e) = refl
-
-iteration-index : (how : Iteration) → (count_bound how).index ≡ index_of how
-iteration-index how = ap (λ (b : BoundCount). b.index) (fold_out-Iteration Bound BoundCount Bound (List Bound) bound_at bound_count_at item_at segment_at how) ∙ at (out-Iteration how)
-  where
-    at : (y : Iteration-F IlExp Iteration ListItem PathSeg)
-        → (bound_count_at (map-Iteration IlExp Iteration ListItem PathSeg Bound BoundCount Bound (List Bound) what_is_bound count_bound item_bound segment_bound y)).index ≡ index_at y
-    at Iteration-F.Star = refl
-    at Iteration-F.Plus = refl
-    at Iteration-F.Quest = refl
-    at (Iteration-F.Times e) = refl
-    at (Iteration-F.Below i e) = refl
-
 -- what is bound as a count is bound by the count
 own_bound : (es : List IlExp) (x : Name) → has_name (flattened (map (λ (e : IlExp). (what_is_bound e).own) es)) x ≡ true → all_bound es x ≡ true
 own_bound [] x h = cc
@@ -142,7 +90,7 @@ module _ (p : IlExp) (x : Name) (nv : (y : Name) → p ≡ exp.Var y → ⊥) (n
     (nf : (t : Name) (ps : List IlExp) → p ≡ exp.Fields t ps → ⊥) (nt : (ps : List IlExp) → p ≡ exp.Tuple ps → ⊥) (np : (e : IlExp) → p ≡ exp.Present e → ⊥)
     (nl : (t : Ty) (items : List ListItem) → p ≡ exp.List t items → ⊥) (nk : (e g : IlExp) → p ≡ exp.Cat e g → ⊥) (ni : (how : Iteration) (xs : List Name) (e : IlExp) → p ≡ exp.Iter how xs e → ⊥) where
   other_level : (y : IlExp-F IlExp Iteration ListItem PathSeg) → out-IlExp p ≡ y
-      → (told_at (map-IlExp IlExp Iteration ListItem PathSeg Told Bool Told (List Told) told has_simple_count told_item told_segment y)).pattern ≡ true → has_name (level_names y) x ≡ true → ⊥
+      → (told_at (map-IlExp IlExp Iteration ListItem PathSeg Told Bool Told (List Told) told has_simple_count told_item told_segment y)).pattern ≡ true → has_name ((bound_of y).names) x ≡ true → ⊥
   other_level (IlExp-F.Var y) o pat h = nv y (whole p (IlExp-F.Var y) o ∙ exp.rolls-Var y)
   other_level (IlExp-F.Up t e) o pat h = nu t e (whole p (IlExp-F.Up t e) o ∙ exp.rolls-Up t e)
   other_level (IlExp-F.Case t tag ps) o pat h = nc t tag ps (whole p (IlExp-F.Case t tag ps) o ∙ exp.rolls-Case t tag ps)
@@ -160,4 +108,4 @@ module _ (p : IlExp) (x : Name) (nv : (y : Name) → p ≡ exp.Var y → ⊥) (n
   other_level _ o pat h = no pat
 
   pub binds-other : is_pattern p ≡ true → bound p x ≡ true → ⊥
-  binds-other pat h = other_level (out-IlExp p) refl (ap (λ (t : Told). t.pattern) (sym (told-level p (out-IlExp p) refl)) ∙ pat) (same_bound (binds p) (level_names (out-IlExp p)) x (binds-level p (out-IlExp p) refl) h)
+  binds-other pat h = other_level (out-IlExp p) refl (ap (λ (t : Told). t.pattern) (sym (told-level p (out-IlExp p) refl)) ∙ pat) (same_bound (binds p) ((bound_of (out-IlExp p)).names) x (binds-level p (out-IlExp p) refl) h)

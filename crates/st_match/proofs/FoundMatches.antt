@@ -1,7 +1,7 @@
--- What is found among the candidates of a pattern is what matches it.
-use Rattle.std.proofs.Common.{◌≡◌, ◌↔◌, ℕ, ◌+◌, ◌<◌, ◌≤◌, refl, sym, ◌∙◌, ap, subst, List, [], ◌∷◌, ◌++◌, length, take, get_or, inl, inr, Bool, true, false, Option, Some, arith}
+-- What is found among the candidates of patterns is what matches them.
+use Rattle.std.proofs.Common.{◌≡◌, ◌↔◌, ℕ, ◌+◌, ◌<◌, ◌≤◌, refl, sym, ◌∙◌, ap, subst, List, [], ◌∷◌, ◌++◌, map, length, take, get_or, inl, inr, Bool, true, false, Option, Some, arith}
 use Rattle.std.specs.Prelude.{◌≢◌, IsTrue, AllPairs, Contains}
-use Rattle.std.specs.List.{All}
+use Rattle.std.specs.List.{All, list_all}
 use Rattle.std.specs.Ordering.{is_lt}
 use Rattle.std.proofs.lemmas.List.{take_more, take_all}
 use Rattle.std.proofs.lemmas.List.Elements.{Contains-get_or, Contains-append_left, Contains-push, Contains-push_cases}
@@ -14,25 +14,24 @@ use Rattle.st_il.specs.declared.value.Value.{Value}
 use Rattle.st_il.specs.Order.{text_cmp}
 use Rattle.st_semantics.specs.declared.outcome.Outcome.{Outcome}
 use Rattle.st_semantics.specs.declared.outcome.Outcome.TheVariants.{Val, NoValue, Deep}
-use Rattle.st_semantics.specs.Names.{Name, has_name, all_known}
+use Rattle.st_semantics.specs.Names.{Name, flattened, has_name, all_known}
 use Rattle.st_semantics.specs.Environments.{Entry, value_in, names_of}
 use Rattle.st_semantics.specs.Evaluation.{Gives}
-use Rattle.st_semantics.specs.Matching.{no_answers, IsMatch}
-use Rattle.st_semantics.specs.Variables.{vars}
+use Rattle.st_semantics.specs.Matching.{no_answers}
+use Rattle.st_semantics.specs.Variables.{vars_of}
 use Rattle.st_semantics.specs.Patterns.{is_pattern, binds}
 use Rattle.st_semantics.proofs.Names.{within-left, within-cases, known-within, or-right, true_false}
 use Rattle.st_semantics.proofs.Low.{name_there}
 use Rattle.st_semantics.proofs.Singles.{Gives-single}
 use Rattle.st_match.specs.declared.matching.Sought.{Sought}
-use Rattle.st_match.specs.Matches.{AreMatches}
 use Rattle.st_match.specs.inner.Fitting.{Fits}
-use Rattle.st_match.specs.inner.Covering.{OneOf, Stands, joined, bound, AreCandidates}
+use Rattle.st_match.specs.inner.Covering.{OneOf, Stands, joined, all_bound, AreCandidatesOfAll}
 use Rattle.st_match.specs.inner.Names.{AreOrdered}
 use Rattle.st_match.specs.inner.Types.{HasAsked, asked_of}
 use Rattle.st_match.specs.inner.Assembly.{first_value, value_of_either}
-use Rattle.st_match.specs.inner.Found.{Suits, IsMade, Adds, AreFound}
+use Rattle.st_match.specs.inner.Found.{IsExtension, AreExtensions, Suits, IsMade, Adds, AreFound}
 use Rattle.st_match.proofs.Covers.{OneOf-map, OneOf-left, OneOf-right, OneOf-cases}
-use Rattle.st_match.proofs.InOrder.{pairs_sorted, sorted_pairs, sorted_equal}
+use Rattle.st_semantics.proofs.InOrder.{pairs_sorted, sorted_pairs, sorted_equal}
 use Rattle.st_match.proofs.Assembled.{value_there, value_nowhere, entries-names, entries-lookup, entries-are}
 use Rattle.st_match.proofs.Asked.{asked-typed, typed-asked}
 
@@ -148,14 +147,14 @@ some_of P [] o = absurd o
 some_of P (x ∷ xs) (inl p) = (x, p)
 some_of P (x ∷ xs) (inr o) = some_of P xs o
 
-module _ (sought : Sought) (ls : List Listed) (all found : List Env) (f : AreFound sought all found) (asked : sought.asked.now ≡ asked_of ls (vars sought.pattern.now))
-    (ordered : AreOrdered (names_of sought.env.now ++ vars sought.pattern.now) sought.names.now) (pat : is_pattern sought.pattern.now ≡ true)
-    (known : all_known (names_of sought.env.now ++ binds sought.pattern.now) (vars sought.pattern.now) ≡ true)
-    (c : AreCandidates sought.pattern.now sought.value.now (sought.env.now ∷ []) all) where
+module _ (sought : Sought) (ls : List Listed) (all found : List Env) (f : AreFound sought all found) (asked : sought.asked.now ≡ asked_of ls (vars_of sought.patterns.now))
+    (ordered : AreOrdered (names_of sought.env.now ++ vars_of sought.patterns.now) sought.names.now) (pat : list_all is_pattern sought.patterns.now ≡ true)
+    (known : all_known (names_of sought.env.now ++ flattened (map binds sought.patterns.now)) (vars_of sought.patterns.now) ≡ true)
+    (c : AreCandidatesOfAll sought.patterns.now sought.values.now (sought.env.now ∷ []) all) where
   abbrev own : List Name
   own = names_of sought.env.now
 
-  sound : (s : Env) → Contains found s → IsMatch sought.types.now ls sought.pattern.now sought.value.now sought.env.now s
+  sound : (s : Env) → Contains found s → IsExtension sought.types.now ls sought.patterns.now sought.values.now sought.env.now s
   sound s h =
       let r = f.sound s h in
       let m = some_of (IsMade sought s) all r.0 in
@@ -165,13 +164,13 @@ module _ (sought : Sought) (ls : List Listed) (all found : List Env) (f : AreFou
         names = λ x. ap (λ z. has_name z x) names ∙ ordered.among x;
         extends = λ x k.
             let v = value_there sought.env.now.entries x k in
-            let there : has_name sought.names.now x ≡ true = ordered.among x ∙ within-left own (vars sought.pattern.now) x k in
+            let there : has_name sought.names.now x ≡ true = ordered.among x ∙ within-left own (vars_of sought.patterns.now) x k in
             v.1 ∙ sym (entries-lookup sought.env.now m.0 sought.names.now s.entries m.1 x there ∙ ap (λ z. first_value z (value_in m.0 x)) v.1);
-        typed = asked-typed sought.types.now ls s (vars sought.pattern.now) (subst (All (HasAsked sought.types.now s)) asked r.1.typed);
-        value = r.1.fits;
+        typed = asked-typed sought.types.now ls s (vars_of sought.patterns.now) (subst (All (HasAsked sought.types.now s)) asked r.1.typed);
+        fit = r.1.fit;
       }
 
-  module _ (s : Env) (m : IsMatch sought.types.now ls sought.pattern.now sought.value.now sought.env.now s) where
+  module _ (s : Env) (m : IsExtension sought.types.now ls sought.patterns.now sought.values.now sought.env.now s) where
     stands : Stands s (has_name own) sought.env.now
     stands = record {
       below = λ x v is. sym (m.extends x (name_there x v sought.env.now.entries is)) ∙ is;
@@ -179,13 +178,13 @@ module _ (sought : Sought) (ls : List Listed) (all found : List Env) (f : AreFou
     }
 
     -- the first value that there is, is that of the match
-    value_is : (candidate : Env) → Stands s (joined (has_name own) (bound sought.pattern.now)) candidate → (x : Name) → has_name sought.names.now x ≡ true → value_of_either sought.env.now candidate x ≡ value_in s x
+    value_is : (candidate : Env) → Stands s (joined (has_name own) (all_bound sought.patterns.now)) candidate → (x : Name) → has_name sought.names.now x ≡ true → value_of_either sought.env.now candidate x ≡ value_in s x
     value_is candidate t x k = at (has_name own x) refl
       where
-        bound_there : has_name own x ≡ false → bound sought.pattern.now x ≡ true
-        bound_there n = elim (within-cases own (vars sought.pattern.now) x (sym (ordered.among x) ∙ k)) [
+        bound_there : has_name own x ≡ false → all_bound sought.patterns.now x ≡ true
+        bound_there n = elim (within-cases own (vars_of sought.patterns.now) x (sym (ordered.among x) ∙ k)) [
           | inl l ↦ absurd (true_false (sym l ∙ n))
-          | inr l ↦ elim (within-cases own (binds sought.pattern.now) x (known-within (own ++ binds sought.pattern.now) (vars sought.pattern.now) known x l)) [
+          | inr l ↦ elim (within-cases own (flattened (map binds sought.patterns.now)) x (known-within (own ++ flattened (map binds sought.patterns.now)) (vars_of sought.patterns.now) known x l)) [
             | inl j ↦ absurd (true_false (sym j ∙ n))
             | inr j ↦ j
           ]
@@ -196,19 +195,19 @@ module _ (sought : Sought) (ls : List Listed) (all found : List Env) (f : AreFou
             let v = value_there sought.env.now.entries x n in
             ap (λ z. first_value z (value_in candidate x)) v.1 ∙ (sym v.1 ∙ m.extends x n)
         at false n =
-            let w = t.has x (or-right (has_name own x) (bound sought.pattern.now x) (bound_there n)) in
+            let w = t.has x (or-right (has_name own x) (all_bound sought.patterns.now x) (bound_there n)) in
             ap (λ z. first_value z (value_in candidate x)) (value_nowhere sought.env.now.entries x n) ∙ (w.1 ∙ sym (t.below x w.0 w.1))
 
-    made : (candidate : Env) → Stands s (joined (has_name own) (bound sought.pattern.now)) candidate → IsMade sought s candidate
+    made : (candidate : Env) → Stands s (joined (has_name own) (all_bound sought.patterns.now)) candidate → IsMade sought s candidate
     made candidate t = entries-are sought.env.now candidate sought.names.now s.entries
         (sorted_equal (names_of s) sought.names.now (sorted_pairs (names_of s) m.ordered) ordered.sorted (λ x. m.names x ∙ sym (ordered.among x)))
         ordered.sorted (value_is candidate t)
 
     complete : Contains found s
     complete = f.complete s
-        (OneOf-map (Stands s (joined (has_name own) (bound sought.pattern.now))) (IsMade sought s) made all
-        ((c.cover sought.types.now pat).covers s (has_name own) m.value (inl stands)))
-        (record { typed = subst (All (HasAsked sought.types.now s)) (sym asked) (typed-asked sought.types.now ls s (vars sought.pattern.now) m.typed); fits = m.value })
+        (OneOf-map (Stands s (joined (has_name own) (all_bound sought.patterns.now))) (IsMade sought s) made all
+        ((c.cover sought.types.now pat).covers s (has_name own) m.fit (inl stands)))
+        (record { typed = subst (All (HasAsked sought.types.now s)) (sym asked) (typed-asked sought.types.now ls s (vars_of sought.patterns.now) m.typed); fit = m.fit })
 
-  pub matches-found : AreMatches sought.types.now ls sought.pattern.now sought.value.now sought.env.now found
-  matches-found = record { exactly = λ s. (sound s, complete s); once = f.once }
+  pub extensions-found : AreExtensions sought.types.now ls sought.patterns.now sought.values.now sought.env.now found
+  extensions-found = record { exactly = λ s. (sound s, complete s); once = f.once }

@@ -13,3 +13,4 @@ pub mod ProperValues
 pub mod Asked
 pub mod Assembled
 pub mod FoundMatches
+pub mod FitAll

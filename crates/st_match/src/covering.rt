@@ -222,7 +222,7 @@ fn slice_candidates(
 
 /// The candidates of these patterns, one for each value.
 #[cycle(candidates)]
-fn all_candidates(
+pub(crate) fn all_candidates(
     alloc: Global,
     parts: &[IlExp],
     values: &[Value],

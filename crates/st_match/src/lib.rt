@@ -1,9 +1,9 @@
-//! Matching: the environments under which a pattern has a value.
+//! Matching: the environments under which patterns have values, one or several at once.
 //!
-//! First the candidates of a pattern are found: environments that cover all that extend the given
-//! one and give the pattern the value. They need not give it that value. Each candidate is then put
-//! in the order of its names, and kept if the variables have their types and the pattern has the
-//! value, unless it was found before.
+//! First the candidates of the patterns are found: environments that cover all that extend the given
+//! one and give the patterns the values. They need not give them those values. Each candidate is put
+//! in the order of its names, and kept if the variables have their types and the patterns have the
+//! values, unless it was found before.
 //!
 //! Read `matching` first, with `specs/Matches.antt` and `Matching.antt` of `st_semantics`, which say
 //! what is to be found; then `covering`, with `specs/inner/Covering.antt`, `Rows.antt` and
@@ -20,4 +20,4 @@ mod proper;
 mod rows;
 mod types;
 
-pub use matching::matches;
+pub use matching::{all_match, matches};

@@ -1,19 +1,20 @@
-//! The environments that match a pattern with a value.
+//! The environments that match a pattern with a value, or several patterns with several values.
 
-ghost use Rattle.std.specs.Prelude.{◌≡◌, ◌↔◌, ◌++◌, true, IsTrue, IfOk, Contains};
-ghost use Rattle.st_semantics.specs.Names.{all_known};
+ghost use Rattle.std.specs.Prelude.{◌≡◌, ◌↔◌, ◌++◌, true, map, IsTrue, IfOk, Contains};
+ghost use Rattle.std.specs.List.{list_all};
+ghost use Rattle.st_semantics.specs.Names.{flattened, all_known};
 ghost use Rattle.st_semantics.specs.Environments.{names_of};
-ghost use Rattle.st_semantics.specs.Formed.{IsFormed};
-ghost use Rattle.st_semantics.specs.Patterns.{is_pattern, binds};
-ghost use Rattle.st_semantics.specs.Variables.{vars};
-ghost use Rattle.st_match.specs.Matches.{AreMatches};
-ghost use Rattle.st_match.specs.inner.Fitting.{Fits};
-ghost use Rattle.st_match.specs.inner.Found.{Suits, IsSought, IsMade, Adds, AreFound};
+ghost use Rattle.st_semantics.specs.Formed.{IsFormed, AreFormed};
+ghost use Rattle.st_semantics.specs.Patterns.{is_pattern, binds, bound_by};
+ghost use Rattle.st_semantics.specs.Variables.{vars, vars_of};
+ghost use Rattle.st_match.specs.Matches.{AreMatches, AreAllMatches};
+ghost use Rattle.st_match.specs.inner.Fitting.{Fits, FitAll};
+ghost use Rattle.st_match.specs.inner.Found.{AreExtensions, Suits, IsSought, IsMade, Adds, AreFound};
 
 use crate::assembly::assembled;
-use crate::covering::candidates;
+use crate::covering::all_candidates;
 use crate::environment::single;
-use crate::names::{in_order, vars, with_env_names};
+use crate::names::{in_order, vars_of, with_env_names};
 use crate::types::{Asked, asked_of, have_asked};
 use st_il::{Env, IlExp, Listed, Value, copy_env, same_env, same_value};
 use st_num::{Name, NoMemory, Row};
@@ -21,13 +22,15 @@ use st_semantics::Outcome;
 use st_types::TypeTable;
 use st_value::pattern_value;
 use std::alloc::Global;
+use std::slice::from_ref;
 
 /// What is matched, and what is asked of an environment that matches.
 #[derive(Clone, Copy)]
 pub(crate) struct Sought<'a> {
     pub(crate) types: &'a TypeTable,
-    pub(crate) pattern: &'a IlExp,
-    pub(crate) value: &'a Value,
+    pub(crate) patterns: &'a [IlExp],
+    /// One for each pattern.
+    pub(crate) values: &'a [Value],
     /// The environment that is to be extended.
     pub(crate) env: &'a Env,
     /// The names that an environment is to have, in order.
@@ -35,21 +38,48 @@ pub(crate) struct Sought<'a> {
     pub(crate) asked: &'a [Asked],
 }
 
-/// Whether the pattern has the value in an environment.
-fn fits(alloc: Global, sought: &Sought, env: &Env) -> Result<bool, NoMemory>
-    requires { IsSought sought.now }
+/// Whether a pattern has the value in an environment.
+fn fits(
+    alloc: Global,
+    types: &TypeTable,
+    pattern: &IlExp,
+    value: &Value,
+    env: &Env,
+) -> Result<bool, NoMemory>
+    requires formed { IsFormed types.now pattern.now }
+    requires pattern { is_pattern pattern.now ≡ true }
     ensures { IfOk result (λ yes. IsTrue yes
-        ↔ Fits sought.now.types.now sought.now.pattern.now sought.now.value.now env.now) }
+        ↔ Fits types.now pattern.now value.now env.now) }
 {
-    let outcome = pattern_value(alloc, sought.types, env, sought.pattern)?;
+    let outcome = pattern_value(alloc, types, env, pattern)?;
     match outcome {
-        Outcome::Val(found) => Ok(same_value(&found, sought.value)),
+        Outcome::Val(found) => Ok(same_value(&found, value)),
         Outcome::NoValue => Ok(false),
         Outcome::Deep => Ok(false),
     }
 }
 
-/// Whether the variables have the types that are asked, and the pattern has the value.
+/// Whether the patterns have the values in an environment, one each.
+fn all_fit(alloc: Global, sought: &Sought, env: &Env) -> Result<bool, NoMemory>
+    requires { IsSought sought.now }
+    ensures { IfOk result (λ yes. IsTrue yes ↔ FitAll sought.now.types.now
+        sought.now.patterns.now sought.now.values.now env.now) }
+{
+    let patterns = sought.patterns;
+    let values = sought.values;
+    if patterns.len() != values.len() {
+        return Ok(false);
+    }
+    for i in 0..patterns.len() {
+        let yes = fits(alloc, sought.types, &patterns[i], &values[i], env)?;
+        if !yes {
+            return Ok(false);
+        }
+    }
+    Ok(true)
+}
+
+/// Whether the variables have the types that are asked, and the patterns have the values.
 fn suits(alloc: Global, sought: &Sought, env: &Env) -> Result<bool, NoMemory>
     requires { IsSought sought.now }
     ensures { IfOk result (λ yes. IsTrue yes ↔ Suits sought.now env.now) }
@@ -57,7 +87,7 @@ fn suits(alloc: Global, sought: &Sought, env: &Env) -> Result<bool, NoMemory>
     if !have_asked(sought.types, env, sought.asked) {
         return Ok(false);
     }
-    let yes = fits(alloc, sought, env)?;
+    let yes = all_fit(alloc, sought, env)?;
     Ok(yes)
 }
 
@@ -123,6 +153,42 @@ fn found_among(alloc: Global, sought: &Sought, candidates: &[Env]) -> Result<Row
     Ok(found)
 }
 
+/// The environments that extend this one by the other variables of the patterns, each with a value
+/// of its type in its dimension, so that the patterns have the values: exactly these, each once.
+fn extensions(
+    alloc: Global,
+    types: &TypeTable,
+    variables: &[Listed],
+    patterns: &[IlExp],
+    values: &[Value],
+    env: &Env,
+) -> Result<Row<Env>, NoMemory>
+    requires patterns { list_all is_pattern patterns.now ≡ true }
+    requires formed { AreFormed types.now patterns.now }
+    requires bound { all_known (names_of env.now ++ flattened (map binds patterns.now))
+        (vars_of patterns.now) ≡ true }
+    ensures { IfOk result (λ found.
+        AreExtensions types.now variables.now patterns.now values.now env.now found) }
+{
+    let own = vars_of(alloc, patterns)?;
+    let asked = asked_of(alloc, variables, own.as_slice())?;
+    let names = with_env_names(alloc, env, own.as_slice())?;
+    let ordered = in_order(alloc, names.as_slice())?;
+    let same = copy_env(alloc, env)?;
+    let start = single(alloc, same)?;
+    let all = all_candidates(alloc, patterns, values, start.as_slice())?;
+    let sought = Sought {
+        types,
+        patterns,
+        values,
+        env,
+        names: ordered.as_slice(),
+        asked: asked.as_slice(),
+    };
+    let found = found_among(alloc, &sought, all.as_slice())?;
+    Ok(found)
+}
+
 /// The environments that extend this one by the other variables of the pattern, each with a value
 /// of its type in its dimension, so that the pattern has the value: exactly these, each once.
 ///
@@ -142,21 +208,32 @@ pub fn matches(
     ensures { IfOk result (λ found.
         AreMatches types.now variables.now pattern.now value.now env.now found) }
 {
-    let own = vars(alloc, pattern)?;
-    let asked = asked_of(alloc, variables, own.as_slice())?;
-    let names = with_env_names(alloc, env, own.as_slice())?;
-    let ordered = in_order(alloc, names.as_slice())?;
-    let same = copy_env(alloc, env)?;
-    let start = single(alloc, same)?;
-    let all = candidates(alloc, pattern, value, start.as_slice())?;
-    let sought = Sought {
-        types,
-        pattern,
-        value,
-        env,
-        names: ordered.as_slice(),
-        asked: asked.as_slice(),
-    };
-    let found = found_among(alloc, &sought, all.as_slice())?;
+    let patterns = from_ref(pattern);
+    let values = from_ref(value);
+    let found = extensions(alloc, types, variables, patterns, values, env)?;
+    Ok(found)
+}
+
+/// The environments of the variables of several patterns, each with a value of its type in its
+/// dimension, so that the patterns have the values, one each: exactly these, each once. There is
+/// none where there are more values than patterns, or fewer.
+///
+/// A pattern may need what another one binds, before or behind it.
+pub fn all_match(
+    alloc: Global,
+    types: &TypeTable,
+    variables: &[Listed],
+    patterns: &[IlExp],
+    values: &[Value],
+) -> Result<Row<Env>, NoMemory>
+    requires patterns { list_all is_pattern patterns.now ≡ true }
+    requires formed { AreFormed types.now patterns.now }
+    requires bound { all_known (bound_by patterns.now) (vars_of patterns.now) ≡ true }
+    ensures { IfOk result (λ found.
+        AreAllMatches types.now variables.now patterns.now values.now found) }
+{
+    let entries = Row::new(alloc);
+    let env = Env { entries };
+    let found = extensions(alloc, types, variables, patterns, values, &env)?;
     Ok(found)
 }

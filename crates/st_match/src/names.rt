@@ -129,13 +129,13 @@ fn push_count_vars(alloc: Global, how: &Iteration, names: &mut Row<Name>) -> Res
     }
 }
 
-/// The variables of a pattern, and the listed names of its iterations.
-pub(crate) fn vars(alloc: Global, pattern: &IlExp) -> Result<Row<Name>, NoMemory>
-    requires { is_pattern pattern.now ≡ true }
-    ensures { IfOk result (λ names. names ≡ vars pattern.now) }
+/// The variables of several patterns, and the listed names of their iterations.
+pub(crate) fn vars_of(alloc: Global, patterns: &[IlExp]) -> Result<Row<Name>, NoMemory>
+    requires { all_patterns (map told patterns.now) ≡ true }
+    ensures { IfOk result (λ names. names ≡ vars_of patterns.now) }
 {
     let mut names = Row::new(alloc);
-    push_vars(alloc, pattern, &mut names)?;
+    push_all_vars(alloc, patterns, &mut names)?;
     Ok(names)
 }
 

@@ -1,5 +1,5 @@
--- The pattern of the tests is one, has a form, and binds all its variables.
-use Rattle.std.proofs.Common.{◌≡◌, refl, sym, ◌∙◌, ap, ap₂, subst, List, [], ◌∷◌, ◌++◌, map, Bool, true, false, ◌&&◌, ◌||◌, if◌then◌else◌, bytes_eq}
+-- The patterns of the tests are some, have a form, and bind all their variables.
+use Rattle.std.proofs.Common.{◌≡◌, refl, sym, ◌∙◌, ap, ap₂, subst, List, [], ◌∷◌, ◌++◌, map, filter, inl, inr, Bool, true, false, ◌&&◌, ◌||◌, if◌then◌else◌, bytes_eq, append-nil}
 use Rattle.st_il.specs.declared.definition.SyntaxDef.{SyntaxDef}
 use Rattle.st_il.specs.declared.expression.IlExp.{IlExp, out-IlExp, fold_out-IlExp, map-IlExp}
 use Rattle.st_il.specs.declared.expression.IlExp.TheOpen.{IlExp-F}
@@ -17,11 +17,11 @@ use Rattle.st_semantics.specs.Iterations.{count_of, count_at, index_of, index_at
 use Rattle.st_semantics.specs.Formed.{IsFormed, AreFormed}
 use Rattle.st_semantics.specs.Formed as formed
 use Rattle.st_semantics.specs.Variables.{vars, vars_of}
-use Rattle.st_semantics.specs.Patterns.{Told, told, told_at, told_item, simple_count_at, has_simple_count, all_patterns, is_pattern, Bound, BoundCount, bound_at, bound_count_at, binds}
-use Rattle.st_semantics.proofs.Names.{bytes-same, vars-form, or-left, or-right}
+use Rattle.st_semantics.specs.Patterns.{Told, told, told_at, told_item, simple_count_at, has_simple_count, all_patterns, is_pattern, Bound, BoundCount, bound_at, bound_count_at, binds, bound_by}
+use Rattle.st_semantics.proofs.Names.{Within, bytes-same, vars-form, or-left, or-right, within-cases, within-left, within-right, known-within}
 use Rattle.st_semantics.proofs.PatternParts.{told_segment, told-level}
 use Rattle.st_semantics.proofs.PatternForms.{bound as what_is_bound}
-use Rattle.st_match_tests.specs.Open.{part_of, list_of, IsOpen}
+use Rattle.st_match_tests.specs.Open.{part_of, list_of, IsOpen, AreOpen}
 
 -- all elements of a variable
 abbrev all_of : Name → IlExp
@@ -158,3 +158,31 @@ list_open xs = record {
   formed = λ defs. list_formed defs xs;
   known = ap₂ (λ a b. all_known a b) (list_bound xs) (list_vars xs) ∙ all_there xs xs (λ y k. k);
 }
+
+-- ---- two patterns
+
+known_all : (bound xs : List Name) → Within xs bound → all_known bound xs ≡ true
+known_all bound [] w = refl
+known_all bound (x ∷ xs) w = ap₂ (λ a b. a && b) (w x (or-left (bytes_eq x x) (has_name xs x) (bytes-same x))) (known_all bound xs (λ y k. w y (or-right (bytes_eq y x) (has_name xs y) k)))
+
+pub both_open : (p q : IlExp) → IsOpen p → IsOpen q → AreOpen (p ∷ q ∷ [])
+both_open p q a b = record {
+  patterns = ap₂ (λ y z. y && z) a.pattern (ap (λ z. z && true) b.pattern);
+  formed = λ defs. formed.more (a.formed defs) (formed.more (b.formed defs) formed.none);
+  known = subst (λ z. all_known z (vars_of (p ∷ q ∷ [])) ≡ true) (sym names) (known_all (binds p ++ binds q) (vars_of (p ∷ q ∷ [])) within);
+}
+  where
+    second : bound_by (q ∷ []) ≡ binds q
+    second = ap (λ z. flattened (map binds (if z then q ∷ [] else []))) b.pattern ∙ append-nil (binds q)
+
+    names : bound_by (p ∷ q ∷ []) ≡ binds p ++ binds q
+    names = ap (λ z. flattened (map binds (if z then p ∷ filter is_pattern (q ∷ []) else filter is_pattern (q ∷ [])))) a.pattern ∙ ap (λ z. binds p ++ z) second
+
+    later : (x : Name) → has_name (vars q ++ []) x ≡ true → has_name (vars q) x ≡ true
+    later x k = subst (λ z. has_name z x ≡ true) (append-nil (vars q)) k
+
+    within : Within (vars_of (p ∷ q ∷ [])) (binds p ++ binds q)
+    within x k = elim (within-cases (vars p) (vars q ++ []) x k) [
+      | inl i ↦ within-left (binds p) (binds q) x (known-within (binds p) (vars p) a.known x i)
+      | inr i ↦ within-right (binds p) (binds q) x (known-within (binds q) (vars q) b.known x (later x i))
+    ]

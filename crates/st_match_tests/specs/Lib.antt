@@ -1,2 +1,2 @@
--- the pattern of the tests
+-- the patterns of the tests
 pub mod Open

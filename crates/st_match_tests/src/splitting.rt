@@ -1,12 +1,13 @@
-//! In how many ways `val* instr* instr_1*` is a list of instructions.
+//! In how many ways `val* instr* instr_1*` is a list of instructions, and at once
+//! `instr_1* instr* val*` another one.
 
 ghost use Rattle.std.specs.Prelude.{◌≡◌, ◌∷◌, [], IfOk};
-ghost use Rattle.st_match_tests.specs.Open.{part_of, IsOpen};
+ghost use Rattle.st_match_tests.specs.Open.{part_of, IsOpen, AreOpen};
 
 use st_il::{
     Alternative, Env, IlExp, Iteration, ListItem, Listed, SyntaxBody, SyntaxDef, Ty, Value,
 };
-use st_match::matches;
+use st_match::{all_match, matches};
 use st_num::{Boxed, Dim, Kind, Name, NoMemory, Num, Row};
 use st_types::TypeTable;
 use std::alloc::Global;
@@ -195,6 +196,77 @@ fn a_list_is_split_in_each_way_that_the_types_allow(rt: HostRuntime) -> Result<(
     for (letters, wanted) in &WAYS {
         let found = ways(alloc, letters.as_bytes())?;
         assert!(&rt; found == *wanted, "{letters}");
+    }
+    Ok(())
+}
+
+fn pair_of<T: Drop>(alloc: Global, first: T, second: T) -> Result<Row<T>, NoMemory>
+    ensures { IfOk result (λ row. row ≡ first ∷ second ∷ []) }
+{
+    let mut row = Row::new(alloc);
+    row.push(first)?;
+    row.push(second)?;
+    Ok(row)
+}
+
+/// The list of all elements of the three variables, and that of the same in the reverse order.
+fn both_patterns(alloc: Global) -> Result<Row<IlExp>, NoMemory>
+    ensures { IfOk result AreOpen }
+{
+    let forward = pattern(alloc, b"val", b"instr", b"instr_1")?;
+    let back = pattern(alloc, b"instr_1", b"instr", b"val")?;
+    let both = pair_of(alloc, forward, back)?;
+    Ok(both)
+}
+
+/// How many environments match all the patterns.
+fn count_all(
+    alloc: Global,
+    types: &TypeTable,
+    patterns: &[IlExp],
+    values: &[Value],
+) -> Result<usize, NoMemory>
+    requires { AreOpen patterns.now }
+{
+    let variables = variables(alloc)?;
+    let found = all_match(alloc, types, variables.as_slice(), patterns, values)?;
+    Ok(found.len())
+}
+
+fn count_both(alloc: Global, types: &TypeTable, values: &[Value]) -> Result<usize, NoMemory> {
+    let patterns = both_patterns(alloc)?;
+    count_all(alloc, types, patterns.as_slice(), values)
+}
+
+fn both_lists(alloc: Global, first: &[u8], second: &[u8]) -> Result<Row<Value>, NoMemory> {
+    let first = list(alloc, first)?;
+    let second = list(alloc, second)?;
+    pair_of(alloc, first, second)
+}
+
+/// In how many ways the two lists are the same three, in that order and in the reverse one.
+fn ways_of_both(alloc: Global, first: &[u8], second: &[u8]) -> Result<usize, NoMemory> {
+    let types = types(alloc)?;
+    let values = both_lists(alloc, first, second)?;
+    count_both(alloc, &types, values.as_slice())
+}
+
+/// Each row is two lists of instructions, and in how many ways the first is three lists and the
+/// second the same three in the reverse order.
+const WAYS_OF_BOTH: [(&str, &str, usize); 5] = [
+    ("", "", 1),
+    ("ND", "DN", 1),
+    ("ND", "ND", 2),
+    ("CD", "DC", 3),
+    ("N", "", 0),
+];
+
+#[test]
+fn two_lists_are_split_at_once(rt: HostRuntime) -> Result<(), Fail> {
+    let alloc = rt.alloc();
+    for (first, second, wanted) in &WAYS_OF_BOTH {
+        let found = ways_of_both(alloc, first.as_bytes(), second.as_bytes())?;
+        assert!(&rt; found == *wanted, "{first} {second}");
     }
     Ok(())
 }

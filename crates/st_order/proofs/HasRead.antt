@@ -22,7 +22,7 @@ use Rattle.st_order.proofs.VariableParts.{flattened_append}
 -- ---- lists of definitions, with one more
 
 module _ {B : Type 0} (f : List IlDef → List B) (none : f [] ≡ []) (head : (d : IlDef) (ds : List IlDef) → f (d ∷ ds) ≡ f (d ∷ []) ++ f ds) where
-  last : (ds : List IlDef) (d : IlDef) → f (ds ++ d ∷ []) ≡ f ds ++ f (d ∷ [])
+  pub last : (ds : List IlDef) (d : IlDef) → f (ds ++ d ∷ []) ≡ f ds ++ f (d ∷ [])
   last [] d = sym (ap (λ z. z ++ f (d ∷ [])) none)
   last (e ∷ ds) d =
       head e (ds ++ d ∷ []) ∙ ap (λ z. f (e ∷ []) ++ z) (last ds d) ∙ sym (append_assoc (f (e ∷ [])) (f ds) (f (d ∷ []))) ∙ ap (λ z. z ++ f (d ∷ [])) (sym (head e ds))
@@ -32,7 +32,7 @@ module _ {B : Type 0} (f : List IlDef → List B) (none : f [] ≡ []) (head : (
   says ds d old new more o n m = n ∙ ap₂ (λ a b. a ++ b) o m ∙ sym (last ds d)
 
   -- one that says nothing of it
-  says_nothing : (ds : List IlDef) (d : IlDef) (old : List B) → old ≡ f ds → [] ≡ f (d ∷ []) → old ≡ f (ds ++ d ∷ [])
+  pub says_nothing : (ds : List IlDef) (d : IlDef) (old : List B) → old ≡ f ds → [] ≡ f (d ∷ []) → old ≡ f (ds ++ d ∷ [])
   says_nothing ds d old o m = says ds d old old [] o (sym (append-nil old)) m
 
 clauses_head : (name : Name) (d : IlDef) (ds : List IlDef) → clauses_from name (clauses_in (d ∷ ds)) ≡ clauses_from name (clauses_in (d ∷ [])) ++ clauses_from name (clauses_in ds)
@@ -69,14 +69,14 @@ module _ (q : Name) where
   called_head : (d : IlDef) (ds : List IlDef) → called_by_relation q (d ∷ ds) ≡ called_by_relation q (d ∷ []) ++ called_by_relation q ds
   called_head d ds = told_append functions_in_rule (rules_at (d ∷ ds)) (rules_at (d ∷ [])) (rules_at ds) (rules_head q d ds)
 
-  cited_head : (d : IlDef) (ds : List IlDef) → cited_by_relation q (d ∷ ds) ≡ cited_by_relation q (d ∷ []) ++ cited_by_relation q ds
+  pub cited_head : (d : IlDef) (ds : List IlDef) → cited_by_relation q (d ∷ ds) ≡ cited_by_relation q (d ∷ []) ++ cited_by_relation q ds
   cited_head d ds = told_append relations_in_rule (rules_at (d ∷ ds)) (rules_at (d ∷ [])) (rules_at ds) (rules_head q d ds)
 
-  calls_head : (d : IlDef) (ds : List IlDef) → called_by_function q (d ∷ ds) ≡ called_by_function q (d ∷ []) ++ called_by_function q ds
+  pub calls_head : (d : IlDef) (ds : List IlDef) → called_by_function q (d ∷ ds) ≡ called_by_function q (d ∷ []) ++ called_by_function q ds
   calls_head d ds = told_append functions_in_clause (clauses_at (d ∷ ds)) (clauses_at (d ∷ [])) (clauses_at ds) (clauses_head q d ds)
 
 -- what one rule or one clause says
-one_told : {A : Type 0} (f : A → List Name) (b : Bool) (x : A) → (if b then f x else []) ≡ flattened (map f (if b then x ∷ [] else []))
+pub one_told : {A : Type 0} (f : A → List Name) (b : Bool) (x : A) → (if b then f x else []) ≡ flattened (map f (if b then x ∷ [] else []))
 one_told f true x = sym (append-nil (f x))
 one_told f false x = refl
 

@@ -11,6 +11,8 @@ pub mod CircleParts
 pub mod DirectedParts
 pub mod BreachParts
 pub mod FewParts
+pub mod ArrowParts
+pub mod InputParts
 pub mod SteppingParts
 pub mod BoundParts
 pub mod HoleParts
@@ -26,6 +28,9 @@ pub mod EndingParts
 pub mod MaskAmong
 pub mod HasWalked
 pub mod HasRead
+pub mod CitedByParts
+pub mod LeastOf
+pub mod TargetParts
 pub mod Sifted
 pub mod NeedsFun
 pub mod IsIndexed

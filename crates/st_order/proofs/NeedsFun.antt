@@ -1,8 +1,8 @@
 -- What a relation needs is what is reached from its rules.
-use Rattle.std.proofs.Common.{◌≡◌, refl, sym, ◌∙◌, ap, ap₂, ℕ, zero, suc, ◌<◌, Bool, true, false, true≢false, ◌||◌, ◌&&◌, not, List, [], ◌∷◌, ◌++◌, map, length, Contains, slice_index_or, ◌↔◌, ◌⊎◌, inl, inr, bytes_eq, arith, Some, None, find, IsTrue, nat_eq}
+use Rattle.std.proofs.Common.{◌≡◌, refl, sym, ◌∙◌, ap, ap₂, subst, slice_get, Option, ℕ, zero, suc, ◌<◌, Bool, true, false, true≢false, ◌||◌, ◌&&◌, not, List, [], ◌∷◌, ◌++◌, map, length, Contains, slice_index_or, ◌↔◌, ◌⊎◌, inl, inr, bytes_eq, arith, Some, None, find}
 use Rattle.std.specs.Borrow.{Bor}
 use Rattle.std.specs.List.{list_any}
-use Rattle.std.proofs.lemmas.Bool.{eqb-true}
+use Rattle.std.proofs.lemmas.List.{length-map}
 use Rattle.std.proofs.lemmas.List.Folds.{list_any-append}
 use Rattle.std.proofs.lemmas.Slice.Eq.{bytes_eq-Decides}
 use Rattle.st_il.specs.declared.definition.ClauseDef.{ClauseDef}
@@ -17,15 +17,18 @@ use Rattle.st_semantics.specs.Variables.{relations_cited}
 use Rattle.st_semantics.specs.ModeRules.{Citer, Relation, Function, cited_by, cited_by_rule, cited_by_clause}
 use Rattle.st_semantics.specs.Marks.{NeedsFun, NeedsRelation, LacksClauses, IsUnfit, NeedsUnfit}
 use Rattle.st_order.specs.declared.indexed.Indexed.{Indexed}
+use Rattle.st_order.specs.declared.needs.Marked.{Marked}
 use Rattle.st_order.specs.Known.{all_now}
 use Rattle.st_order.specs.inner.Citing.{functions_in_rule, functions_in_clause}
 use Rattle.st_order.specs.inner.Citations.{relations_in_rule, called_by_relation, cited_by_relation, called_by_function}
 use Rattle.st_order.specs.inner.Reaching.{cited_under, Reached, first, next, AreReached}
 use Rattle.st_order.specs.inner.Sifted.{Sifted}
-use Rattle.st_order.specs.inner.Needs.{HasNoClause, IsIndexed, LacksFunction, NeedsMarked, is_other_in}
+use Rattle.st_order.specs.inner.Targets.{IsLeastOf, least_first}
+use Rattle.st_order.specs.inner.Needs.{HasNoClause, IsIndexed, LacksFunction, NeedsMarked, AreMarked, is_other_in}
 use Rattle.st_order.proofs.NamesIn.{has_name_append}
 use Rattle.st_order.proofs.HasWalked.{or_cases, or_left, or_right, same_itself}
-use Rattle.st_order.proofs.Sifted.{none_sifted, none_first, first_found}
+use Rattle.st_order.proofs.LeastOf.{IsLeastOf-as}
+use Rattle.st_order.proofs.Sifted.{none_first, first_found, none_least, first_least, least_holds, least_within, sifted_holds}
 
 -- ---- members that pass a test which one alone passes
 
@@ -154,45 +157,89 @@ module _ (il : Il) (name : Name) (start : List Name) (cited : Name → List Name
     from_relation q (NeedsRelation.of_rule c) = first (has_as (cited_by_relation name il.defs) start q (sym first_is) ((relation_cites q il name).1 c))
     from_relation q (NeedsRelation.of_needed p n c) = next p (from_relation p n) (has_as (cited_by_relation p il.defs) (cited p) q (sym (next_is p)) ((relation_cites q il p).1 c))
 
-no_length : {A : Type 0} (xs : List A) → nat_eq (length xs) 0 ≡ true → xs ≡ []
-no_length [] h = refl
-no_length (x ∷ xs) h = let none : length (x ∷ xs) ≡ 0 = eqb-true (length (x ∷ xs)) 0 h in absurd (omega arith)
-
 -- ---- what is found of them
 
 module _ (x : Indexed) (h : IsIndexed x) where
   abbrev il : Il
   il = x.directions.il.now
 
-  -- where each function has clauses
-  pub lacks_nothing : (name : Name) (b : Bool) → IsTrue b ↔ (x.lacking ≡ []) → b ≡ true → LacksFunction il name None
-  lacks_nothing name b empty e = none_sifted (HasNoClause il) (LacksClauses il name) (λ f r. r.1) h.lacking (ap all_now (empty.0 e))
+  -- the number of the first function without clauses, by the functions in the rules of a relation
+  module _ (name : Name) (o : Option ℕ) (is : o ≡ least_first x.lacks.entries (cited_under x.citations.called.entries name)) where
+    abbrev fun_names : List Name
+    fun_names = map (λ (f : FunDef). f.name) (all_now x.lacking)
 
-  -- where no relation has a mark of its own
-  pub needs_nothing : (relation : RelationDef) (b : Bool) (marked : List (Bor RelationDef)) → Sifted (IsUnfit il) (relations il) (all_now marked) → b ≡ nat_eq (length marked) 0 → b ≡ true
-      → NeedsMarked il relation None
-  needs_nothing relation b marked sifted is e = none_sifted (IsUnfit il) (NeedsUnfit il relation) (λ r n. n.2) sifted (ap all_now (no_length marked (sym is ∙ e)))
+    fun_least : IsLeastOf (NeedsFun il name) fun_names o
+    fun_least =
+        let start : List Name = called_by_relation name il.defs in
+        let same : least_first x.lacks.entries start ≡ o = sym (is ∙ ap (least_first x.lacks.entries) (h.read.called name)) in
+        IsLeastOf-as (Reached start (λ q. called_by_function q il.defs)) (NeedsFun il name) (to_fun il name start (λ q. called_by_function q il.defs) refl (λ q. refl))
+        (from_fun il name start (λ q. called_by_function q il.defs) refl (λ q. refl)) fun_names o (subst (IsLeastOf (Reached start (λ q. called_by_function q il.defs)) fun_names) same (h.lacks start))
 
-  module _ (name : Name) (names : List Name) (reached : AreReached (cited_under x.citations.called.entries name) (cited_under x.citations.calls.entries) names) where
-    fun_to : (q : Name) → has_name names q ≡ true → NeedsFun il name q
-    fun_to q e = to_fun il name (cited_under x.citations.called.entries name) (cited_under x.citations.calls.entries) (h.read.called name) h.read.calls q ((reached q).0 e)
+    fun_least_at : (i : ℕ) → o ≡ Some i → IsLeastOf (NeedsFun il name) fun_names (Some i)
+    fun_least_at i e = subst (IsLeastOf (NeedsFun il name) fun_names) e fun_least
 
-    fun_from : (q : Name) → NeedsFun il name q → has_name names q ≡ true
-    fun_from q n = (reached q).1 (from_fun il name (cited_under x.citations.called.entries name) (cited_under x.citations.calls.entries) (h.read.called name) h.read.calls q n)
+    pub lacks_none : o ≡ None → LacksFunction il name None
+    lacks_none e =
+        none_least (HasNoClause il) (LacksClauses il name) (λ f r. r.1) (λ (f : FunDef). f.name) (NeedsFun il name) (λ f r. r.0) h.lacking
+        (subst (IsLeastOf (NeedsFun il name) fun_names) e fun_least)
 
-    abbrev fun_found : FunDef → Bool
-    fun_found f = has_name names f.name
+    pub lacks_within : (i : ℕ) (funs : List (Bor FunDef)) → funs ≡ x.lacking → o ≡ Some i → i < length funs
+    lacks_within i funs same e =
+        let within : i < length (all_now x.lacking) = least_within (λ (f : FunDef). f.name) (NeedsFun il name) (all_now x.lacking) i (fun_least_at i e) in
+        let long : length (all_now x.lacking) ≡ length x.lacking = length-map x.lacking (λ (f : Bor FunDef). f.now) in
+        let long_too : length funs ≡ length x.lacking = ap length same in
+        omega arith
 
-    pub lacks_none : find fun_found (all_now x.lacking) ≡ None → LacksFunction il name None
-    lacks_none none =
-        none_first (HasNoClause il) (LacksClauses il name) fun_found (λ f r. r.1) (λ f r. fun_from f.name r.0) (λ f p t. (fun_to f.name t, p)) h.lacking none
+    pub lacks_some : (i : ℕ) (funs : List (Bor FunDef)) (f : FunDef) (copied : Name) → funs ≡ x.lacking → o ≡ Some i → slice_get (all_now funs) i ≡ Some f → copied ≡ f.name → LacksFunction il name (Some (unfit.U3 copied))
+    lacks_some i funs f copied same e there is =
+        let here : slice_get (all_now x.lacking) i ≡ Some f = ap (λ z. slice_get (all_now z) i) (sym same) ∙ there in
+        let needed : NeedsFun il name f.name = least_holds (λ (f : FunDef). f.name) (NeedsFun il name) (all_now x.lacking) i f (fun_least_at i e) here in (
+          f,
+          first_least (HasNoClause il) (LacksClauses il name) (λ f r. r.1) (λ (f : FunDef). f.name) (NeedsFun il name) (λ f r. r.0) h.lacking i f (fun_least_at i e) here
+              (needed, sifted_holds (HasNoClause il) h.lacking i f here),
+          ap unfit.U3 is,
+        )
 
-    pub lacks_some : (f : FunDef) (copied : Name) → find fun_found (all_now x.lacking) ≡ Some f → copied ≡ f.name → LacksFunction il name (Some (unfit.U3 copied))
-    lacks_some f copied found is = (
-      f,
-      first_found (HasNoClause il) (LacksClauses il name) fun_found (λ f r. r.1) (λ f r. fun_from f.name r.0) (λ f p t. (fun_to f.name t, p)) f h.lacking found,
-      ap unfit.U3 is,
-    )
+  -- the number of the first relation with a mark of its own
+  module _ (relation : RelationDef) (m : Marked) (g : AreMarked il m) (o : Option ℕ) (is : o ≡ least_first m.firsts.entries (cited_under x.citations.cited.entries relation.name)) where
+    abbrev relation_names : List Name
+    relation_names = map (λ (r : RelationDef). r.name) (all_now m.unfit)
+
+    abbrev Needed : Name → Type 0
+    Needed = NeedsRelation il relation.name
+
+    relation_least : IsLeastOf Needed relation_names o
+    relation_least =
+        let start : List Name = cited_by_relation relation.name il.defs in
+        let same : least_first m.firsts.entries start ≡ o = sym (is ∙ ap (least_first m.firsts.entries) (h.read.cited relation.name)) in
+        IsLeastOf-as (Reached start (λ q. cited_by_relation q il.defs)) Needed (to_relation il relation.name start (λ q. cited_by_relation q il.defs) refl (λ q. refl))
+        (from_relation il relation.name start (λ q. cited_by_relation q il.defs) refl (λ q. refl)) relation_names o
+        (subst (IsLeastOf (Reached start (λ q. cited_by_relation q il.defs)) relation_names) same (g.firsts start))
+
+    relation_least_at : (i : ℕ) → o ≡ Some i → IsLeastOf Needed relation_names (Some i)
+    relation_least_at i e = subst (IsLeastOf Needed relation_names) e relation_least
+
+    pub leads_to_none : o ≡ None → NeedsMarked il relation None
+    leads_to_none e =
+        none_least (IsUnfit il) (NeedsUnfit il relation) (λ r n. n.2) (λ (r : RelationDef). r.name) Needed (λ r n. n.0) g.unfit (subst (IsLeastOf Needed relation_names) e relation_least)
+
+    pub leads_within : (i : ℕ) (rs : List (Bor RelationDef)) → rs ≡ m.unfit → o ≡ Some i → i < length rs
+    leads_within i rs same e =
+        let within : i < length (all_now m.unfit) = least_within (λ (r : RelationDef). r.name) Needed (all_now m.unfit) i (relation_least_at i e) in
+        let long : length (all_now m.unfit) ≡ length m.unfit = length-map m.unfit (λ (r : Bor RelationDef). r.now) in
+        let long_too : length rs ≡ length m.unfit = ap length same in
+        omega arith
+
+    pub leads_to : (i : ℕ) (rs : List (Bor RelationDef)) (r : RelationDef) (copied : Name) (b : Bool) → rs ≡ m.unfit → o ≡ Some i → slice_get (all_now rs) i ≡ Some r → b ≡ bytes_eq r.name relation.name → b ≡ false → copied ≡ r.name
+        → NeedsMarked il relation (Some (unfit.U4 copied))
+    leads_to i rs r copied b same e there test other copy =
+        let here : slice_get (all_now m.unfit) i ≡ Some r = ap (λ z. slice_get (all_now z) i) (sym same) ∙ there in
+        let needed : Needed r.name = least_holds (λ (r : RelationDef). r.name) Needed (all_now m.unfit) i r (relation_least_at i e) here in (
+          r,
+          first_least (IsUnfit il) (NeedsUnfit il relation) (λ r n. n.2) (λ (r : RelationDef). r.name) Needed (λ r n. n.0) g.unfit i r (relation_least_at i e) here
+              (needed, (λ one. true≢false (sym (ap (bytes_eq r.name) (sym one) ∙ same_itself r.name) ∙ sym test ∙ other)), sifted_holds (IsUnfit il) g.unfit i r here),
+          ap unfit.U4 copy,
+        )
 
   module _ (relation : RelationDef) (names : List Name) (reached : AreReached (cited_under x.citations.cited.entries relation.name) (cited_under x.citations.cited.entries) names)
       (marked : List RelationDef) (sifted : Sifted (IsUnfit il) (relations il) marked) where

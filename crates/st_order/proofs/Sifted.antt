@@ -1,10 +1,15 @@
 -- The first of several members, found among those of which a fact holds.
-use Rattle.std.proofs.Common.{◌≡◌, refl, sym, ◌∙◌, ap, subst, ℕ, ◌+◌, ◌<◌, Bool, true, false, true≢false, if◌then◌else◌, List, [], ◌∷◌, ◌++◌, length, get_or, drop, Some, None, All, find, filter}
+use Rattle.std.proofs.Common.{◌≡◌, refl, sym, ◌∙◌, ap, subst, ℕ, zero, suc, ◌+◌, ◌<◌, Bool, true, false, true≢false, if◌then◌else◌, List, [], ◌∷◌, ◌++◌, length, map, get_or, drop, slice_get, Some, None, All, find, filter, arith}
 use Rattle.std.specs.Borrow.{Bor}
+use Rattle.std.specs.Option.{option_map}
+use Rattle.std.proofs.lemmas.List.{length-map}
 use Rattle.std.proofs.lemmas.List.Elements.{All-nil, All-cons}
+use Rattle.std.proofs.lemmas.Option.{slice_get_within, slice_get-map}
+use Rattle.st_semantics.specs.Names.{Name}
 use Rattle.st_semantics.specs.Definitions.{IsFirst}
 use Rattle.st_order.specs.Known.{all_now}
 use Rattle.st_order.specs.inner.Sifted.{Sifted, none, kept, left_out}
+use Rattle.st_order.specs.inner.Targets.{IsLeastOf}
 use Rattle.st_order.proofs.Holes.{drop_there}
 
 module _ {A : Type 0} (P : A → Type 0) where
@@ -34,12 +39,6 @@ module _ {A : Type 0} (P : A → Type 0) where
       by : (b : Bool) → test x ≡ b → Sifted P xs (filter test xs) → Sifted P (x ∷ xs) (if b then x ∷ filter test xs else filter test xs)
       by true e s = kept x xs (filter test xs) (to x e) s
       by false e s = left_out x xs (filter test xs) (λ h. true≢false (sym (from x h) ∙ e)) s
-
-  -- where none is left, it holds of none
-  pub none_sifted : (R : A → Type 0) → ((x : A) → R x → P x) → {xs ys : List A} → Sifted P xs ys → ys ≡ [] → All (λ x. R x → ⊥) xs
-  none_sifted R whole none e = All-nil (λ x. R x → ⊥)
-  none_sifted R whole (kept x xs ys g s) e = cc
-  none_sifted R whole (left_out x xs ys g s) e = All-cons (λ x. R x → ⊥) x xs (λ r. g (whole x r)) (none_sifted R whole s e)
 
   -- ---- the first one that passes a test
 
@@ -81,6 +80,70 @@ module _ {A : Type 0} (P : A → Type 0) where
             }
         by false e h more = later x y xs (λ r. true≢false (sym (passes x r) ∙ e)) (more h)
     first_found y (left_out x xs ys g s) h = later x y xs (λ r. g (whole x r)) (first_found y s h)
+
+-- ---- the first one, by the number of its name
+
+-- a member that is left
+pub sifted_holds : {A : Type 0} (P : A → Type 0) {xs ys : List A} → Sifted P xs ys → (i : ℕ) (y : A) → slice_get ys i ≡ Some y → P y
+sifted_holds P none i y e = cc
+sifted_holds P (kept x xs ys g s) zero y e = let same : x ≡ y = cc in subst P same g
+sifted_holds P (kept x xs ys g s) (suc i) y e = sifted_holds P s i y e
+sifted_holds P (left_out x xs ys g s) i y e = sifted_holds P s i y e
+
+module _ {A : Type 0} (P R : A → Type 0) (whole : (x : A) → R x → P x) where
+  abbrev Fails : A → Type 0
+  Fails x = R x → ⊥
+
+  all_fail : {xs ys : List A} → Sifted P xs ys → ((j : ℕ) (y : A) → slice_get ys j ≡ Some y → R y → ⊥) → All Fails xs
+  all_fail none h = All-nil Fails
+  all_fail (kept x xs ys g s) h = All-cons Fails x xs (h 0 x refl) (all_fail s (λ j y e. h (suc j) y e))
+  all_fail (left_out x xs ys g s) h = All-cons Fails x xs (λ r. g (whole x r)) (all_fail s h)
+
+  behind : (x y : A) (xs : List A) → Fails x → IsFirst R xs y → IsFirst R (x ∷ xs) y
+  behind x y xs n f = record {
+    before = x ∷ f.before;
+    after = f.after;
+    split = ap (λ z. x ∷ z) f.split;
+    not_before = All-cons Fails x f.before n f.not_before;
+    holds = f.holds;
+  }
+
+  first_there : {xs ys : List A} → Sifted P xs ys → (i : ℕ) (y : A) → slice_get ys i ≡ Some y → R y → ((j : ℕ) (z : A) → j < i → slice_get ys j ≡ Some z → R z → ⊥) → IsFirst R xs y
+  first_there none i y e r h = cc
+  first_there (kept x xs ys g s) zero y e r h =
+      let same : x ≡ y = cc in
+      record {
+        before = [];
+        after = xs;
+        split = ap (λ z. z ∷ xs) same;
+        not_before = All-nil Fails;
+        holds = r;
+      }
+  first_there (kept x xs ys g s) (suc i) y e r h = behind x y xs (h 0 x (omega arith) refl) (first_there s i y e r (λ j z lt f. h (suc j) z (omega arith) f))
+  first_there (left_out x xs ys g s) i y e r h = behind x y xs (λ q. g (whole x q)) (first_there s i y e r h)
+
+  module _ (name : A → Name) (Q : Name → Type 0) (needs : (x : A) → R x → Q (name x)) where
+    named_there : (ys : List A) (j : ℕ) (y : A) → slice_get ys j ≡ Some y → slice_get (map name ys) j ≡ Some (name y)
+    named_there ys j y e = slice_get-map name ys j ∙ ap (option_map name) e
+
+    pub none_least : {xs ys : List A} → Sifted P xs ys → IsLeastOf Q (map name ys) None → All Fails xs
+    none_least {xs} {ys} s h = all_fail s (λ j y e r. h j (name y) (named_there ys j y e) (needs y r))
+
+    pub first_least : {xs ys : List A} → Sifted P xs ys → (i : ℕ) (y : A) → IsLeastOf Q (map name ys) (Some i) → slice_get ys i ≡ Some y → R y → IsFirst R xs y
+    first_least {xs} {ys} s i y h e r = first_there s i y e r (λ j z lt f q. h.3 j (name z) lt (named_there ys j z f) (needs z q))
+
+-- what holds of the name at the least number
+pub least_holds : {A : Type 0} (name : A → Name) (Q : Name → Type 0) (ys : List A) (i : ℕ) (y : A) → IsLeastOf Q (map name ys) (Some i) → slice_get ys i ≡ Some y → Q (name y)
+least_holds name Q ys i y h e =
+    let one : Some (name y) ≡ Some h.0 = sym (slice_get-map name ys i ∙ ap (option_map name) e) ∙ h.1 in
+    let same : name y ≡ h.0 = cc in
+    subst Q (sym same) h.2
+
+pub least_within : {A : Type 0} (name : A → Name) (Q : Name → Type 0) (ys : List A) (i : ℕ) → IsLeastOf Q (map name ys) (Some i) → i < length ys
+least_within name Q ys i h =
+    let within : i < length (map name ys) = slice_get_within (map name ys) i h.0 h.1 in
+    let long : length (map name ys) ≡ length ys = length-map ys name in
+    omega arith
 
 -- ---- the first of what is referred to
 

@@ -7,5 +7,7 @@ pub mod Answers
 pub mod Modes
 -- what is kept of directions, and what stands under names
 pub mod Known
+-- of which relations a direction is told without memory
+pub mod Tagged
 -- ---- what only proofs need
 pub mod inner

@@ -1,6 +1,8 @@
 -- What is kept of names, directions and premises.
 pub mod Index
 pub mod Masks
+pub mod Arrow
+pub mod Inputs
 pub mod Parts
 pub mod HolesOf
 pub mod Classes
@@ -9,6 +11,8 @@ pub mod Endings
 pub mod Citing
 pub mod Reaching
 pub mod Citations
+pub mod CitedBy
+pub mod Targets
 pub mod Sifted
 pub mod Needs
 pub mod Orders

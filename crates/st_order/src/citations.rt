@@ -36,7 +36,7 @@ pub(crate) struct Citations<'a> {
 }
 
 /// What stood under a name, where nothing counts as an empty row.
-fn row_of<T>(alloc: Global, found: Option<Row<T>>) -> Row<T>
+pub(crate) fn row_of<T>(alloc: Global, found: Option<Row<T>>) -> Row<T>
     ensures { result ≡ unwrap_or found [] }
 {
     match found {

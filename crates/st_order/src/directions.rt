@@ -1,10 +1,14 @@
 //! Which holes of a relation are inputs.
 
-ghost use Rattle.std.specs.Prelude.{◌≡◌, ◌++◌, true, Some, map, sum, replicate, slice_get, option_and_then, is_some, IfOk, OnOk};
+ghost use Rattle.std.specs.Prelude.{◌≡◌, ◌++◌, true, Some, map, sum, replicate, slice_get, option_map, option_and_then, is_some, IfOk, OnOk};
 ghost use Rattle.st_il.specs.declared.template.Template.{out-Template};
 ghost use Rattle.st_il.specs.Template.{holes};
 ghost use Rattle.st_semantics.specs.Directions.{is_arrow, direction_at, direction, inputs_or_all};
+ghost use Rattle.st_order.specs.Tagged.{IsTagged};
+ghost use Rattle.st_order.specs.inner.Arrow.{told_by};
+ghost use Rattle.st_order.specs.inner.Inputs.{mask_told};
 
+use crate::arrow::{Sides, sides_of};
 use st_il::{RelationDef, Template, template_of};
 use st_num::{Mark, NoMemory, Row};
 use std::alloc::Global;
@@ -109,17 +113,62 @@ pub(crate) fn mask_or_all(alloc: Global, relation: &RelationDef) -> Result<Row<b
     }
 }
 
-/// Whether a hole of a relation is an input; none where the relation is undirected.
-pub fn direction(
-    alloc: Global,
-    relation: &RelationDef,
-    hole: usize,
-) -> Result<Option<bool>, NoMemory>
-    ensures { IfOk result (λ input. input
-        ≡ option_and_then (λ mask. slice_get mask hole) (direction relation.now)) }
+/// Which holes of a relation are inputs.
+#[derive(Clone, Copy)]
+pub(crate) enum Inputs<'a> {
+    /// Those of which a hint says so.
+    Hinted(&'a [bool]),
+    /// Those before the arrow of its notation.
+    Leading(Sides),
+}
+
+/// Which holes of a relation are inputs, if it has a direction.
+pub(crate) fn inputs_of(relation: &RelationDef) -> Option<Inputs>
+    requires { IsTagged relation.now }
+    ensures { option_map mask_told result ≡ direction relation.now }
 {
-    match mask_of(alloc, relation)? {
-        None => Ok(None),
-        Some(mask) => Ok(mask.get(hole).copied()),
+    if !relation.mode.is_empty() {
+        return Some(Inputs::Hinted(relation.mode.as_slice()));
+    }
+    match sides_of(relation.tag.as_slice()) {
+        Some(sides) => Some(Inputs::Leading(sides)),
+        None => None,
+    }
+}
+
+/// Whether a hole stands before the arrow, if there is such a hole.
+fn is_before(sides: Sides, hole: usize) -> Option<bool>
+    ensures { result ≡ slice_get (told_by sides) hole }
+{
+    if hole < sides.before {
+        return Some(true);
+    }
+    if hole < sides.holes {
+        Some(false)
+    } else {
+        None
+    }
+}
+
+/// Whether a hole is an input, if there is such a hole.
+pub(crate) fn is_input(inputs: &Inputs, hole: usize) -> Option<bool>
+    ensures { result ≡ slice_get (mask_told inputs.now) hole }
+{
+    match inputs {
+        Inputs::Hinted(mask) => mask.get(hole).copied(),
+        Inputs::Leading(sides) => is_before(*sides, hole),
+    }
+}
+
+/// Whether a hole of a relation is an input; none where the relation is undirected, or has no such
+/// hole.
+pub fn direction(relation: &RelationDef, hole: usize) -> Option<bool>
+    requires { IsTagged relation.now }
+    ensures { result
+        ≡ option_and_then (λ mask. slice_get mask hole) (direction relation.now) }
+{
+    match inputs_of(relation) {
+        Some(inputs) => is_input(&inputs, hole),
+        None => None,
     }
 }

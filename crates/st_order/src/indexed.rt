@@ -1,26 +1,34 @@
 //! An internal language with all that is looked up in it again and again.
 
-ghost use Rattle.std.specs.Prelude.{◌≡◌, ◌++◌, ◌∷◌, [], not, is_some, filter, if◌then◌else◌, IfOk, OnOk};
+ghost use Rattle.std.specs.Prelude.{◌≡◌, ◌++◌, ◌∷◌, [], List, not, is_some, map, filter, if◌then◌else◌, IfOk, OnOk};
 ghost use Rattle.st_il.specs.declared.definition.FunDef.{FunDef};
 ghost use Rattle.st_order.specs.Modes.{HasFew};
 ghost use Rattle.st_order.specs.Known.{all_now, at};
+ghost use Rattle.st_semantics.specs.Names.{Name};
+ghost use Rattle.st_order.specs.inner.Citations.{called_by_function};
+ghost use Rattle.st_order.specs.inner.Index.{names_in};
 ghost use Rattle.st_order.specs.inner.Needs.{IsIndexed};
+ghost use Rattle.st_order.specs.inner.Reaching.{Reached};
+ghost use Rattle.st_order.specs.inner.Targets.{IsLeastOf, least_first};
 
 use crate::citations::{Citations, citations_of};
+use crate::cited_by::calling_functions;
 use crate::index::at;
 use crate::masks::{Directions, directions_of};
 use crate::reaching::Cited;
-use st_il::{FunDef, Il};
-use st_num::{NoMemory, Row};
+use crate::targets::{Firsts, first_targets};
+use st_il::{FunDef, Il, IlDef};
+use st_num::{Name, NoMemory, Row};
 use std::alloc::Global;
 
-/// An internal language, with its directions, what its rules and clauses cite, and the functions
-/// that have no clauses, in order.
+/// An internal language, with its directions, what its rules and clauses cite, the functions that
+/// have no clauses, in order, and for the functions that lead to some of these the first one.
 #[derive(Drop)]
 pub(crate) struct Indexed<'a> {
     pub(crate) directions: Directions<'a>,
     pub(crate) citations: Citations<'a>,
     pub(crate) lacking: Row<&'a FunDef>,
+    pub(crate) lacks: Firsts<'a>,
 }
 
 /// Adds a function under whose name nothing stands.
@@ -54,6 +62,35 @@ fn lacking_of<'a>(
     Ok(lacking)
 }
 
+/// The names of functions.
+fn names_of<'a>(alloc: Global, funs: &[&'a FunDef]) -> Result<Row<&'a Name>, NoMemory>
+    ensures { IfOk result (λ names.
+        names_in names ≡ map (λ (f : FunDef). f.name) (all_now funs.now)) }
+{
+    let mut names = Row::new(alloc);
+    for i in 0..funs.len() {
+        let fun = funs[i];
+        names.push(&fun.name)?;
+    }
+    Ok(names)
+}
+
+/// For the functions that lead to some of these the number of the first one.
+fn lacks_of<'a>(
+    alloc: Global,
+    defs: &'a [IlDef],
+    lacking: &[&'a FunDef],
+) -> Result<Firsts<'a>, NoMemory>
+    ensures { IfOk result (λ lacks. (start : List Name)
+        → IsLeastOf (Reached start (λ (q : Name). called_by_function q defs.now))
+        (map (λ (f : FunDef). f.name) (all_now lacking.now)) (least_first lacks.entries start)) }
+{
+    let calling = calling_functions(alloc, defs)?;
+    let names = names_of(alloc, lacking)?;
+    let lacks = first_targets(alloc, &calling, names.as_slice())?;
+    Ok(lacks)
+}
+
 /// An internal language with all that is looked up in it.
 pub(crate) fn index_il(alloc: Global, il: &Il) -> Result<Indexed, NoMemory>
     requires { HasFew il.now }
@@ -63,9 +100,11 @@ pub(crate) fn index_il(alloc: Global, il: &Il) -> Result<Indexed, NoMemory>
     let directions = directions_of(alloc, il)?;
     let citations = citations_of(alloc, il)?;
     let lacking = lacking_of(alloc, &citations.calls, citations.funs.as_slice())?;
+    let lacks = lacks_of(alloc, il.defs.as_slice(), lacking.as_slice())?;
     Ok(Indexed {
         directions,
         citations,
         lacking,
+        lacks,
     })
 }

@@ -13,10 +13,12 @@
 #![tactic(auto)]
 
 mod all_orders;
+mod arrow;
 mod bindings;
 mod breaches;
 mod circles;
 mod citations;
+mod cited_by;
 mod citers;
 mod citing;
 pub mod class;
@@ -41,6 +43,7 @@ mod rule_modes;
 pub mod rules;
 mod selection;
 mod step_types;
+mod targets;
 pub mod variables;
 
 pub use directions::direction;

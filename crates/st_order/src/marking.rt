@@ -3,18 +3,16 @@
 ghost use Rattle.std.specs.Prelude.{◌≡◌, ◌++◌, ◌∷◌, [], List, All, if◌then◌else◌, IfOk, OnOk};
 ghost use Rattle.std.specs.List.{AllZip};
 ghost use Rattle.st_il.specs.declared.definition.RelationDef.{RelationDef};
-ghost use Rattle.st_semantics.specs.Definitions.{relations};
-ghost use Rattle.st_semantics.specs.Marks.{IsUnfit, HasUnfit};
+ghost use Rattle.st_semantics.specs.Marks.{HasUnfit};
 ghost use Rattle.st_order.specs.Modes.{HasFew, AreModes};
 ghost use Rattle.st_order.specs.Known.{all_now};
-ghost use Rattle.st_order.specs.inner.Sifted.{Sifted};
-ghost use Rattle.st_order.specs.inner.Needs.{IsIndexed};
+ghost use Rattle.st_order.specs.inner.Needs.{IsIndexed, AreMarked};
 ghost use Rattle.st_order.specs.inner.Orders.{HasOrderMark};
 ghost use Rattle.st_order.specs.inner.Marking.{IsOwn, HasItsOwn, relations_told, HasTold};
 
 use crate::all_orders::{Ordered, orders_of};
 use crate::indexed::{Indexed, index_il};
-use crate::needs::{mark_by_functions, mark_by_relations};
+use crate::needs::{Marked, mark_by_functions, mark_by_relations, marked_of};
 use crate::relation_modes::Modes;
 use crate::rules::relations_of;
 use st_il::{Il, RelationDef};
@@ -153,19 +151,18 @@ fn copy_mark(alloc: Global, mark: &Unfit) -> Result<Unfit, NoMemory>
 fn mark_of(
     alloc: Global,
     indexed: &Indexed,
-    unfit: &[&RelationDef],
+    marked: &Marked,
     own: &Own,
 ) -> Result<Option<Unfit>, NoMemory>
     requires indexed { IsIndexed indexed.now }
-    requires unfit { Sifted (IsUnfit indexed.now.directions.il.now)
-        (relations indexed.now.directions.il.now) (all_now unfit.now) }
+    requires marked { AreMarked indexed.now.directions.il.now marked.now }
     requires own { HasItsOwn indexed.now.directions.il.now own.now }
     ensures { IfOk result (HasUnfit indexed.now.directions.il.now own.now.relation.now) }
 {
     match &own.mark {
         Some(mark) => Ok(Some(copy_mark(alloc, mark)?)),
         None => {
-            let mark = mark_by_relations(alloc, indexed, unfit, own.relation)?;
+            let mark = mark_by_relations(alloc, indexed, marked, own.relation)?;
             Ok(mark)
         }
     }
@@ -175,19 +172,18 @@ fn mark_of(
 fn marks_of(
     alloc: Global,
     indexed: &Indexed,
-    unfit: &[&RelationDef],
+    marked: &Marked,
     owns: &[Own],
 ) -> Result<Row<Option<Unfit>>, NoMemory>
     requires indexed { IsIndexed indexed.now }
-    requires unfit { Sifted (IsUnfit indexed.now.directions.il.now)
-        (relations indexed.now.directions.il.now) (all_now unfit.now) }
+    requires marked { AreMarked indexed.now.directions.il.now marked.now }
     requires own { All (HasItsOwn indexed.now.directions.il.now) owns.now }
     ensures { IfOk result (AllZip (HasUnfit indexed.now.directions.il.now)
         (relations_told owns.now)) }
 {
     let mut marks = Row::new(alloc);
     for own in owns {
-        marks.push(mark_of(alloc, indexed, unfit, own)?)?;
+        marks.push(mark_of(alloc, indexed, marked, own)?)?;
     }
     Ok(marks)
 }
@@ -201,6 +197,7 @@ pub(crate) fn relation_marks(alloc: Global, il: &Il) -> Result<Modes, NoMemory>
     let relations = relations_of(alloc, il)?;
     let told = tell_all(alloc, &indexed, relations.as_slice())?;
     let Told { orders, own, unfit } = told;
-    let marks = marks_of(alloc, &indexed, unfit.as_slice(), own.as_slice())?;
+    let marked = marked_of(alloc, &indexed, unfit)?;
+    let marks = marks_of(alloc, &indexed, &marked, own.as_slice())?;
     Ok(Modes { marks, orders })
 }

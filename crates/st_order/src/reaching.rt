@@ -13,7 +13,7 @@ use std::alloc::Global;
 pub(crate) type Cited<'a> = IndexMap<&'a Name, Row<&'a Name>>;
 
 /// Adds a name behind the others, unless it is there.
-fn grow_by<'a>(found: &mut IndexSet<&'a Name>, name: &'a Name) -> Result<(), NoMemory>
+pub(crate) fn grow_by<'a>(found: &mut IndexSet<&'a Name>, name: &'a Name) -> Result<(), NoMemory>
     ensures { OnOk result
         (Grows (names_in found.old.keys) (name.now ∷ []) (names_in found.new.keys)) }
 {
@@ -33,7 +33,7 @@ fn grow<'a>(found: &mut IndexSet<&'a Name>, more: &[&'a Name]) -> Result<(), NoM
 }
 
 /// Adds those names behind the others that stand under a name, and are not there.
-fn grow_under<'a>(
+pub(crate) fn grow_under<'a>(
     cited: &Cited<'a>,
     name: &Name,
     found: &mut IndexSet<&'a Name>,
@@ -48,7 +48,7 @@ fn grow_under<'a>(
 }
 
 /// The name at a position.
-fn name_at<'a>(found: &IndexSet<&'a Name>, position: usize) -> &'a Name
+pub(crate) fn name_at<'a>(found: &IndexSet<&'a Name>, position: usize) -> &'a Name
     requires { position < length found.now.keys }
     ensures { slice_get (names_in found.now.keys) position ≡ Some result.now }
 {

@@ -1,60 +1,72 @@
 //! Whether a relation leads from what it takes to what it takes again.
 
-ghost use Rattle.std.specs.Prelude.{◌≡◌, ◌++◌, ◌↔◌, [], ◌∷◌, slice_get, if◌then◌else◌, IfOk, OnOk, IsTrue};
+ghost use Rattle.std.specs.Prelude.{◌≡◌, ◌↔◌, slice_get, IsTrue};
 ghost use Rattle.st_il.specs.declared.definition.Il.{Il};
+ghost use Rattle.st_type_table.specs.Same.{SameAll};
 ghost use Rattle.st_semantics.specs.Definitions.{syntaxes};
-ghost use Rattle.st_semantics.specs.Directions.{IsStepping};
-ghost use Rattle.st_order.specs.inner.HolesOf.{at_holes, is_hole};
+ghost use Rattle.st_semantics.specs.Directions.{inputs_by, outputs_by, IsStepping};
+ghost use Rattle.st_order.specs.Tagged.{IsTagged};
+ghost use Rattle.st_order.specs.inner.HolesOf.{is_hole, IsNextHole};
+ghost use Rattle.st_order.specs.inner.Inputs.{mask_told};
 
-use crate::directed::is_hole;
-use crate::directions::mask_of;
-use st_il::{RelationDef, Ty, copy_ty};
-use st_num::{NoMemory, Row};
-use st_types::{TypeTable, are_same};
-use std::alloc::Global;
+use crate::directions::{Inputs, inputs_of, is_input};
+use st_il::{RelationDef, Ty};
+use st_types::TypeTable;
 
-/// Adds a type if it stands at an input, or else at an output.
-fn push_type(
-    alloc: Global,
-    mask: &[bool],
-    hole: usize,
-    input: bool,
-    ty: &Ty,
-    found: &mut Row<Ty>,
-) -> Result<(), NoMemory>
-    ensures { OnOk result (found.new ≡ found.old
-        ++ (if is_hole input (slice_get mask.now hole) then ty.now ∷ [] else [])) }
+/// Whether a hole is an input, or else an output.
+fn is_side(inputs: &Inputs, input: bool, hole: usize) -> bool
+    ensures { result ≡ is_hole input (slice_get (mask_told inputs.now) hole) }
 {
-    if is_hole(mask, hole, input) {
-        let copy = copy_ty(alloc, ty)?;
-        found.push(copy)?;
+    match is_input(inputs, hole) {
+        Some(is) => if input { is } else { !is },
+        None => false,
     }
-    Ok(())
 }
 
-/// The types that stand at inputs, or else those at outputs.
-fn types_at(alloc: Global, mask: &[bool], input: bool, holes: &[Ty]) -> Result<Row<Ty>, NoMemory>
-    ensures { IfOk result (λ found. found ≡ at_holes input mask.now holes.now) }
+/// The first hole from this one on that is an input, or else an output.
+fn next_hole(inputs: &Inputs, input: bool, holes: &[Ty], from: usize) -> Option<usize>
+    ensures { IsNextHole input (mask_told inputs.now) holes.now from result }
 {
-    let mut found = Row::new(alloc);
-    for i in 0..holes.len() {
-        push_type(alloc, mask, i, input, &holes[i], &mut found)?;
+    for hole in from..holes.len() {
+        if is_side(inputs, input, hole) {
+            return Some(hole);
+        }
     }
-    Ok(found)
+    None
+}
+
+/// Whether the types at inputs are those at outputs, through aliases.
+fn have_same_types(types: &TypeTable, inputs: &Inputs, holes: &[Ty]) -> bool
+    ensures { IsTrue result ↔ SameAll types.now (inputs_by (mask_told inputs.now) holes.now)
+        (outputs_by (mask_told inputs.now) holes.now) }
+{
+    let mut from = 0;
+    let mut to = 0;
+    'holes: loop {
+        let input = next_hole(inputs, true, holes, from);
+        let output = next_hole(inputs, false, holes, to);
+        let Some(one) = input else {
+            return output.is_none();
+        };
+        let Some(other) = output else {
+            return false;
+        };
+        if !types.same(&holes[one], &holes[other]) {
+            return false;
+        }
+        from = one + 1;
+        to = other + 1;
+    }
 }
 
 /// Whether a relation is directed, and the types at its inputs are those at its outputs, through
 /// aliases: then what comes out can be taken again.
-pub fn stepping(alloc: Global, types: &TypeTable, relation: &RelationDef) -> Result<bool, NoMemory>
-    ensures { IfOk result (λ is. (il : Il) → types.now ≡ syntaxes il
-        → IsTrue is ↔ IsStepping il relation.now) }
+pub fn stepping(types: &TypeTable, relation: &RelationDef) -> bool
+    requires { IsTagged relation.now }
+    ensures { (il : Il) → types.now ≡ syntaxes il → IsTrue result ↔ IsStepping il relation.now }
 {
-    let mask = mask_of(alloc, relation)?;
-    let Some(mask) = mask else {
-        return Ok(false);
-    };
-    let inputs = types_at(alloc, mask.as_slice(), true, relation.holes.as_slice())?;
-    let outputs = types_at(alloc, mask.as_slice(), false, relation.holes.as_slice())?;
-    let are = are_same(types, inputs.as_slice(), outputs.as_slice());
-    Ok(are)
+    match inputs_of(relation) {
+        Some(inputs) => have_same_types(types, &inputs, relation.holes.as_slice()),
+        None => false,
+    }
 }

@@ -80,7 +80,7 @@ each-wider few many how xs body w n = record {
   others = known-wider few many (without xs (without (index_of how) (prem_vars body))) w n.others;
 }
 
-Binds-wider : {few : List Name} {p : IlPrem} → Binds few p → (many : List Name) → Within few many → Binds many p
+pub Binds-wider : {few : List Name} {p : IlPrem} → Binds few p → (many : List Name) → Within few many → Binds many p
 Binds-wider {few = few} (test e is k) many w = test e is (known-wider few many (vars e) w k)
 Binds-wider {few = few} (left e a b is eq k f) many w = left e a b is eq (known-wider few many (vars a) w k) (binding-wider few many b w f)
 Binds-wider {few = few} (right e a b is eq k f) many w = right e a b is eq (known-wider few many (vars b) w k) (binding-wider few many a w f)

@@ -64,7 +64,7 @@ agree_sym : (xs : List Name) (a b : Env) → AgreeOn xs a b → AgreeOn xs b a
 agree_sym xs a b g x i = sym (g x i)
 
 -- two sides that are equal
-equal_sides : (y z : Value) → binary equality (y ∷ z ∷ []) ≡ Val (value.Bool true) → y ≡ z
+pub equal_sides : (y z : Value) → binary equality (y ∷ z ∷ []) ≡ Val (value.Bool true) → y ≡ z
 equal_sides y z e =
     let made = made_is (equality y z) (value.Bool true) e in
     let bools : value.Bool (is_same y z) ≡ value.Bool true = cc in

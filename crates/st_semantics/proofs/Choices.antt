@@ -106,6 +106,15 @@ all_bind il (c ∷ cs) keep named = (
 
 -- ---- one clause
 
+-- the premises before one, and that one
+pub front_hold : (il : Il) (C : Answers) (a : Env) (before : List IlPrem) (p : IlPrem) (after : List IlPrem) → HoldAll (value_by (syntaxes il) C) (Unit {0}) no_goal (instances a (before ++ p ∷ after))
+    → HoldAll (value_by (syntaxes il) C) (Unit {0}) no_goal (instances a before) × Holds (value_by (syntaxes il) C) (Unit {0}) no_goal a p
+front_hold il C a [] p after all = (h.done, (hold_first (a, p) (instances a after) all).0)
+front_hold il C a (q ∷ before) p after all =
+    let x = hold_first (a, q) (instances a (before ++ p ∷ after)) all in
+    let rest = front_hold il C a before p after x.1 in
+    (h.more x.0 rest.0, rest.1)
+
 module _ (il : Il) (C : Answers) (one : IsSingle C) where
   args_agree : (a b : Env) (es : List IlExp) (vs : List Value) → list_all is_pattern es ≡ true → AllSingly es → HaveValues (value_by (syntaxes il) C) (tasks a es) vs → HaveValues (value_by (syntaxes il) C) (tasks b es) vs
       → AgreeOn (bound_by es) a b
@@ -121,13 +130,13 @@ module _ (il : Il) (C : Answers) (one : IsSingle C) where
 
   module _ (c : ClauseDef) (runs : ClauseBinds c) (vs : List Value) (a b : Env) where
     -- what the arguments bind
-    first_agree : HaveValues (value_by (syntaxes il) C) (tasks a c.args) vs → HaveValues (value_by (syntaxes il) C) (tasks b c.args) vs → AgreeOn (bound_behind c.args []) a b
+    pub first_agree : HaveValues (value_by (syntaxes il) C) (tasks a c.args) vs → HaveValues (value_by (syntaxes il) C) (tasks b c.args) vs → AgreeOn (bound_behind c.args []) a b
     first_agree p q =
         subst (λ z. AgreeOn z a b) (sym (append-nil (vars_of c.args)))
         (λ x i. args_agree a b c.args vs runs.patterns runs.singly p q x (known-within (bound_by c.args) (vars_of c.args) runs.args x i))
 
     -- what all premises up to some place bind
-    premises_agree : (ps earlier after : List IlPrem) → c.premises ≡ earlier ++ (ps ++ after) → AgreeOn (bound_behind c.args earlier) a b
+    pub premises_agree : (ps earlier after : List IlPrem) → c.premises ≡ earlier ++ (ps ++ after) → AgreeOn (bound_behind c.args earlier) a b
         → HoldAll (value_by (syntaxes il) C) (Unit {0}) no_goal (instances a ps) → HoldAll (value_by (syntaxes il) C) (Unit {0}) no_goal (instances b ps) → AgreeOn (bound_behind c.args (earlier ++ ps)) a b
     premises_agree [] earlier after eq g ha hb = subst (λ z. AgreeOn (bound_behind c.args z) a b) (sym (append-nil earlier)) g
     premises_agree (p ∷ ps) earlier after eq g ha hb =
@@ -140,15 +149,6 @@ module _ (il : Il) (C : Answers) (one : IsSingle C) where
         subst (λ z. AgreeOn (bound_behind c.args z) a b) (append_assoc earlier (p ∷ []) ps)
         (premises_agree ps (earlier ++ (p ∷ [])) after (eq ∙ sym (append_assoc earlier (p ∷ []) (ps ++ after))) next x.1 y.1)
 
-    -- the premises before one, and that one
-    front_hold : (before : List IlPrem) (p : IlPrem) (after : List IlPrem) → HoldAll (value_by (syntaxes il) C) (Unit {0}) no_goal (instances a (before ++ p ∷ after))
-        → HoldAll (value_by (syntaxes il) C) (Unit {0}) no_goal (instances a before) × Holds (value_by (syntaxes il) C) (Unit {0}) no_goal a p
-    front_hold [] p after all = (h.done, (hold_first (a, p) (instances a after) all).0)
-    front_hold (q ∷ before) p after all =
-        let x = hold_first (a, q) (instances a (before ++ p ∷ after)) all in
-        let rest = front_hold before p after x.1 in
-        (h.more x.0 rest.0, rest.1)
-
   -- the environments that choose a clause agree on what it binds
   pub one_environment : (c : ClauseDef) → ClauseBinds c → (vs : List Value) (a b : Env) → Chosen il C c vs a → Chosen il C c vs b → AgreeOn (bound_behind c.args c.premises) a b
   one_environment c runs vs a b ca cb = premises_agree c runs vs a b c.premises [] [] (sym (append-nil c.premises)) (first_agree c runs vs a b ca.heads_are cb.heads_are) ca.hold cb.hold
@@ -157,7 +157,7 @@ module _ (il : Il) (C : Answers) (one : IsSingle C) where
   pub not_both : (c : ClauseDef) → ClauseBinds c → (vs : List Value) (env : Env) → Chosen il C c vs env → TooDeep il C c vs → ⊥
   not_both c runs vs env ch t =
       let all = subst (λ z. HoldAll (value_by (syntaxes il) C) (Unit {0}) no_goal (instances env z)) t.split ch.hold in
-      let front = front_hold c runs vs env t.env t.before t.premise t.after all in
+      let front = front_hold il C env t.before t.premise t.after all in
       let g = premises_agree c runs vs t.env env t.before [] (t.premise ∷ t.after) t.split (first_agree c runs vs t.env env t.reached.heads_are ch.heads_are) t.reached.hold front.0 in
       holds_not_deep il C one t.deep env (runs.premises t.before t.premise t.after t.split) (typed_low (syntaxes il) c.variables env ch.typed) g front.1
 

@@ -74,7 +74,7 @@ long-tails n ((v ∷ vs) ∷ cs) h =
     let short : length vs ≡ n = omega (arith, long) in
     ap (λ z. z && all_long n (tails cs)) (eq-eqb (length vs) n short) ∙ long-tails n cs w.1
 
-column_long : (n : ℕ) (x : Name) (xs : List Name) (cs : List Column) (c : Column) → all_long n cs ≡ true → column x xs cs ≡ Some c → length c ≡ n
+pub column_long : (n : ℕ) (x : Name) (xs : List Name) (cs : List Column) (c : Column) → all_long n cs ≡ true → column x xs cs ≡ Some c → length c ≡ n
 column_long n x [] cs c h e = cc
 column_long n x (m ∷ ms) [] c h e = cc
 column_long n x (m ∷ ms) (d ∷ ds) c h e = at (bytes_eq x m) e (column_long n x ms ds c (and-both (nat_eq (length d) n) (all_long n ds) h).1)
@@ -164,7 +164,7 @@ SpreadParts how xs env count envs =
 pub spread_parts : (how : Iteration) (xs : List Name) (env : Env) (count : List Value) (envs : List Env) → spread how xs env count ≡ Over envs → SpreadParts how xs env count envs
 spread_parts how xs env count envs e = long_parts (may_be how) (index_of how) xs env.entries (size_of count (columns (kind_of how) xs env.entries)) (columns (kind_of how) xs env.entries) envs e
 
-rows-length : (index xs : List Name) (env : List Entry) (n k : ℕ) (cs : List Column) → length (rows index xs env n k cs) ≡ n
+pub rows-length : (index xs : List Name) (env : List Entry) (n k : ℕ) (cs : List Column) → length (rows index xs env n k cs) ≡ n
 rows-length index xs env zero k cs = refl
 rows-length index xs env (suc n) k cs = ap suc (rows-length index xs env n (k + 1) (tails cs))
 
@@ -175,12 +175,12 @@ parts_number how xs env count envs p = ap length (sym p.5) ∙ rows-length (inde
 -- ---- the same columns give the same elements
 
 -- the same values of these names
-abbrev Alike : List Name → List Entry → List Entry → Type 0
+abbrev pub Alike : List Name → List Entry → List Entry → Type 0
 Alike names a b = (x : Name) → has_name names x ≡ true → lookup x a ≡ lookup x b
 
 -- the same columns of them
-abbrev AlikeColumns : List Name → List Name → List Column → List Column → Type 0
-AlikeColumns names xs cs ds = (x : Name) → has_name names x ≡ true → column x xs cs ≡ column x xs ds
+abbrev pub AlikeColumns : List Name → List Name → List Name → List Column → List Column → Type 0
+AlikeColumns names xs ys cs ds = (x : Name) → has_name names x ≡ true → column x xs cs ≡ column x ys ds
 
 counted_alike : (index names : List Name) → IsShort index → (k : ℕ) (a b : List Entry) → Alike names a b → Alike (index ++ names) (counted_to index k a) (counted_to index k b)
 counted_alike [] names s k a b g x h = g x h
@@ -191,14 +191,15 @@ counted_alike (i ∷ []) names s k a b g x h = at (bytes_eq x i) h
     at false h = g x h
 counted_alike (i ∷ j ∷ more) names s k a b g x h = absurd s
 
-pub rows_alike : (index names xs : List Name) → IsShort index → (a b : List Entry) → Alike names a b → (n k : ℕ) (cs ds : List Column) → all_long n cs ≡ true → all_long n ds ≡ true → AlikeColumns names xs cs ds
-    → EnvsAgree (index ++ names) (rows index xs a n k cs) (rows index xs b n k ds)
-rows_alike index names xs s a b g zero k cs ds p q same = tt
-rows_alike index names xs s a b g (suc n) k cs ds p q same = (
-  counted_alike index names s k (bound_to xs (heads cs) a) (bound_to xs (heads ds) b)
-      (λ x h. row-lookup n x xs cs a p ∙ (ap₂ in_row (same x h) (g x h) ∙ sym (row-lookup n x xs ds b q))),
-  rows_alike index names xs s a b g n (k + 1) (tails cs) (tails ds) (long-tails n cs p) (long-tails n ds q)
-      (λ x h. column-tails x xs cs ∙ (ap (option_map behind) (same x h) ∙ sym (column-tails x xs ds))),
+-- also where the columns stand under two lists of names
+pub rows_alike : (index names xs ys : List Name) → IsShort index → (a b : List Entry) → Alike names a b → (n k : ℕ) (cs ds : List Column) → all_long n cs ≡ true → all_long n ds ≡ true → AlikeColumns names xs ys cs ds
+    → EnvsAgree (index ++ names) (rows index xs a n k cs) (rows index ys b n k ds)
+rows_alike index names xs ys s a b g zero k cs ds p q same = tt
+rows_alike index names xs ys s a b g (suc n) k cs ds p q same = (
+  counted_alike index names s k (bound_to xs (heads cs) a) (bound_to ys (heads ds) b)
+      (λ x h. row-lookup n x xs cs a p ∙ (ap₂ in_row (same x h) (g x h) ∙ sym (row-lookup n x ys ds b q))),
+  rows_alike index names xs ys s a b g n (k + 1) (tails cs) (tails ds) (long-tails n cs p) (long-tails n ds q)
+      (λ x h. column-tails x xs cs ∙ (ap (option_map behind) (same x h) ∙ sym (column-tails x ys ds))),
 )
 
 -- the number of elements is told by one of the lists, or by the count
@@ -232,7 +233,7 @@ module _ (how : Iteration) (bound xs : List Name) (a b : Env) (cs ds : List Valu
       subst (EnvsAgree (index_of how ++ bound) as') q.5
       (subst (λ z. EnvsAgree (index_of how ++ bound) as' (rows (index_of how) xs b.entries z 0 q.1)) n
       (subst (λ z. EnvsAgree (index_of how ++ bound) z (rows (index_of how) xs b.entries p.0 0 q.1)) p.5
-      (rows_alike (index_of how) bound xs (index_short how) a.entries b.entries g p.0 0 p.1 q.1 p.4 (subst (λ z. all_long z q.1 ≡ true) (sym n) q.4)
+      (rows_alike (index_of how) bound xs xs (index_short how) a.entries b.entries g p.0 0 p.1 q.1 p.4 (subst (λ z. all_long z q.1 ≡ true) (sym n) q.4)
       (λ x h. column-value (kind_of how) x xs a.entries p.1 p.3
       ∙ (ap (λ z. if has_name xs x then column_of (kind_of how) z else None) (g x h) ∙ sym (column-value (kind_of how) x xs b.entries q.1 q.3))))))
 

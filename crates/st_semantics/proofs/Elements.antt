@@ -22,9 +22,9 @@ use Rattle.st_il.specs.Height.{height, height_at, highest}
 use Rattle.st_il.specs.Value.{texts_of, texts_at}
 use Rattle.st_il.specs.Value as texts
 use Rattle.st_type_table.specs.Meaning.{alias_of, itself}
-use Rattle.st_types.specs.HasType.{AllHaveType, no_more, one_more}
-use Rattle.st_types.specs.inner.Levels.{TypedAt}
-use Rattle.st_types.proofs.HasTypeLemmas.{typed-opened}
+use Rattle.st_type_table.specs.HasType.{AllHaveType, no_more, one_more}
+use Rattle.st_type_table.specs.inner.TypedLevels.{TypedAt}
+use Rattle.st_type_table.proofs.HasTypeLemmas.{typed-opened}
 use Rattle.st_semantics.specs.Names.{Name, flattened, has_name}
 use Rattle.st_semantics.specs.Definitions.{syntaxes}
 use Rattle.st_semantics.specs.Environments.{Entry, lookup, IsTypedValue, IsSomeTyped, numbers_of, numbers_at, wrapped, type_of, listed_as, TypedIn}
@@ -230,7 +230,7 @@ seen x xs (l ∷ ls) m e = elim (found_at x xs l m (bytes_eq x l.name) (listed_a
   | inr b ↦ let deeper : Seen x xs ls m = seen x xs ls m b.0 in (deeper.0, ap (λ z. if z then Some l else listed_as x ls) b.1 ∙ deeper.1, deeper.2, deeper.3)
 ]
 
-no_index : (index : List Name) (x : Name) (rest : List Listed) → has_name index x ≡ false → listed_as x (indices index ++ rest) ≡ listed_as x rest
+pub no_index : (index : List Name) (x : Name) (rest : List Listed) → has_name index x ≡ false → listed_as x (indices index ++ rest) ≡ listed_as x rest
 no_index [] x rest h = refl
 no_index (i ∷ is) x rest h =
     let b : (bytes_eq x i ≡ false) × (has_name is x ≡ false) = or-false (bytes_eq x i) (has_name is x) h in

@@ -1,11 +1,6 @@
 -- Two environments of the same listed variables that give them the same values are one.
-use Rattle.std.proofs.Common.{◌≡◌, ℕ, zero, suc, ◌<◌, refl, sym, ◌∙◌, ap, ap₂, subst, List, [], ◌∷◌, map, length, ◌⊎◌, inl, inr, Bool, true, false, if◌then◌else◌, Option, Some, None, bytes_eq, arith}
-use Rattle.std.specs.Prelude.{AllPairs}
-use Rattle.std.specs.List.{slice_index_or}
-use Rattle.std.specs.Ordering.{is_lt, ordering_reverse}
-use Rattle.std.specs.declared.cmp.Ordering.{Ordering}
-use Rattle.std.specs.declared.cmp.Ordering.TheVariants as order
-use Rattle.std.proofs.lemmas.Cmp.{nat_list_cmp_total}
+use Rattle.std.proofs.Common.{◌≡◌, refl, sym, ◌∙◌, ap, ap₂, List, [], ◌∷◌, map, Bool, true, false, if◌then◌else◌, Option, Some, None, bytes_eq}
+use Rattle.std.specs.Ordering.{is_lt}
 use Rattle.st_il.specs.declared.definition.Listed.{Listed}
 use Rattle.st_il.specs.declared.definition.SyntaxDef.{SyntaxDef}
 use Rattle.st_il.specs.declared.value.Env.{Env}
@@ -13,7 +8,9 @@ use Rattle.st_il.specs.declared.value.Value.{Value}
 use Rattle.st_il.specs.Order.{text_cmp}
 use Rattle.st_semantics.specs.Names.{Name, has_name}
 use Rattle.st_semantics.specs.Environments.{Entry, lookup, value_in, names_of, listed_names, EnvOk, AgreeOn}
-use Rattle.st_semantics.proofs.Names.{bytes-same, bytes-path, or-cases, known-within, true_false}
+use Rattle.st_semantics.specs.inner.Sorted.{AreSorted}
+use Rattle.st_semantics.proofs.Names.{bytes-same, bytes-path, known-within, true_false}
+use Rattle.st_semantics.proofs.InOrder.{not_both, sorted_pairs}
 use Rattle.st_semantics.proofs.Low.{name_there}
 
 -- the names of some entries
@@ -22,36 +19,7 @@ names_in es = map (λ (e : Entry). e.0) es
 
 -- each name is before all later ones
 abbrev Sorted : List Entry → Type 0
-Sorted [] = Unit {0}
-Sorted (e ∷ es) = ((x : Name) → has_name (names_in es) x ≡ true → is_lt (text_cmp e.0 x) ≡ true) × Sorted es
-
-name_index : (xs : List Name) (x d : Name) → has_name xs x ≡ true → (j : ℕ) × (j < length xs) × (slice_index_or xs j d ≡ x)
-name_index [] x d h = cc
-name_index (y ∷ ys) x d h = at (or-cases (bytes_eq x y) (has_name ys x) h) (name_index ys x d)
-  where
-    at : (bytes_eq x y ≡ true) ⊎ (has_name ys x ≡ true) → (has_name ys x ≡ true → (j : ℕ) × (j < length ys) × (slice_index_or ys j d ≡ x))
-        → (j : ℕ) × (j < suc (length ys)) × (slice_index_or (y ∷ ys) j d ≡ x)
-    at (inl same) ih = (zero, omega arith, sym (bytes-path x y same))
-    at (inr later) ih = let more = ih later in let less = more.1 in (suc more.0, omega (arith, less), more.2)
-
-sorted_of : (es : List Entry) → AllPairs (λ (x y : Name). is_lt (text_cmp x y) ≡ true) (names_in es) → Sorted es
-sorted_of [] h = tt
-sorted_of (e ∷ es) h = (
-  λ x i.
-      let w = name_index (names_in es) x e.0 i in
-      let less = w.1 in
-      subst (λ z. is_lt (text_cmp e.0 z) ≡ true) w.2 (h zero (suc w.0) e.0 (omega arith) (omega (arith, less))),
-  sorted_of es (λ i j d less more. h (suc i) (suc j) d (omega (arith, less)) (omega (arith, more))),
-)
-
-not_reversed : (o p : Ordering) → p ≡ ordering_reverse o → is_lt o ≡ true → is_lt p ≡ true → ⊥
-not_reversed order.Less p e h k = let bad : is_lt (ordering_reverse order.Less) ≡ true = ap is_lt (sym e) ∙ k in cc
-not_reversed order.Equal p e h k = cc
-not_reversed order.Greater p e h k = cc
-
--- no name is before another one that is before it
-not_both_before : (x y : Name) → is_lt (text_cmp x y) ≡ true → is_lt (text_cmp y x) ≡ true → ⊥
-not_both_before x y h k = not_reversed (text_cmp x y) (text_cmp y x) (nat_list_cmp_total.antisymm y x) h k
+Sorted es = AreSorted (names_in es)
 
 -- what a name does not stand before in a list that it begins is not there
 found_later : (e : Entry) (es : List Entry) (x : Name) (v : Value) → Sorted (e ∷ es) → lookup x es ≡ Some v → is_lt (text_cmp e.0 x) ≡ true
@@ -62,7 +30,7 @@ first_nowhere e es s = at (lookup e.0 es) refl
   where
     at : (o : Option Value) → lookup e.0 es ≡ o → o ≡ None
     at None h = refl
-    at (Some v) h = absurd (let less = found_later e es e.0 v s h in not_both_before e.0 e.0 less less)
+    at (Some v) h = absurd (let less = found_later e es e.0 v s h in not_both e.0 e.0 less less)
 
 entry_first : (e : Entry) (es : List Entry) → lookup e.0 (e ∷ es) ≡ Some e.1
 entry_first e es = ap (λ z. if z then Some e.1 else lookup e.0 es) (bytes-same e.0)
@@ -102,12 +70,12 @@ entries_equal (x ∷ xs) (y ∷ ys) s t h = at (bytes_eq x.0 y.0) refl (entries_
     at false k ih =
         let first : Some x.1 ≡ lookup x.0 ys = sym (entry_first x xs) ∙ (h x.0 ∙ skipped y ys x.0 k) in
         let second : Some y.1 ≡ lookup y.0 xs = sym (entry_first y ys) ∙ (sym (h y.0) ∙ skipped x xs y.0 (apart x.0 y.0 k)) in
-        absurd (not_both_before x.0 y.0 (found_later x xs y.0 y.1 s (sym second)) (found_later y ys x.0 x.1 t (sym first)))
+        absurd (not_both x.0 y.0 (found_later x xs y.0 y.1 s (sym second)) (found_later y ys x.0 x.1 t (sym first)))
 
 -- Two environments of the same listed variables that agree on them are one.
 pub environments_equal : (defs : List SyntaxDef) (ls : List Listed) (a b : Env) → EnvOk defs ls a → EnvOk defs ls b → AgreeOn (listed_names ls) a b → a ≡ b
 environments_equal defs ls a b p q g =
-    ap (λ (z : List Entry). let env : Env = record { entries = z } in env) (entries_equal a.entries b.entries (sorted_of a.entries p.ordered) (sorted_of b.entries q.ordered) same)
+    ap (λ (z : List Entry). let env : Env = record { entries = z } in env) (entries_equal a.entries b.entries (sorted_pairs (names_in a.entries) p.ordered) (sorted_pairs (names_in b.entries) q.ordered) same)
   where
     nowhere : (env : Env) → EnvOk defs ls env → (x : Name) → has_name (listed_names ls) x ≡ false → value_in env x ≡ None
     nowhere env ok x n = at (value_in env x) refl

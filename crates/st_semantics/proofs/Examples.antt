@@ -21,7 +21,7 @@ use Rattle.st_il.specs.Height.{height}
 use Rattle.st_num.specs.Texts.{IsText}
 use Rattle.st_il.specs.Value.{texts_of}
 use Rattle.st_type_table.specs.Meaning.{itself, alias_of}
-use Rattle.st_types.specs.HasType.{natural}
+use Rattle.st_type_table.specs.HasType.{natural}
 use Rattle.st_semantics.specs.declared.outcome.Outcome.TheVariants.{Val, NoValue}
 use Rattle.st_semantics.specs.declared.outcome.Outcomes.TheVariants.{Values}
 use Rattle.st_deriv.specs.declared.line.Line.TheVariants.{Node}

@@ -17,8 +17,8 @@ use Rattle.st_type_table.specs.Meaning.{Means}
 use Rattle.st_type_table.specs.Cases.{HasFields}
 use Rattle.st_type_table.proofs.MeansLemmas.{Means-single}
 use Rattle.st_type_table.proofs.CasesLemmas.{HasFields-single}
-use Rattle.st_types.specs.HasType as type
-use Rattle.st_types.specs.HasType.{HasType, AllHaveType, FieldsHaveTypes}
+use Rattle.st_type_table.specs.HasType as type
+use Rattle.st_type_table.specs.HasType.{HasType, AllHaveType, FieldsHaveTypes}
 use Rattle.st_semantics.specs.Names.{Name, flattened}
 use Rattle.st_semantics.specs.Environments.{Entry, numbers_of}
 use Rattle.st_semantics.specs.Parts.{option_list, binary, with_both}

@@ -19,10 +19,10 @@ use Rattle.st_il.specs.Value as texts
 use Rattle.st_type_table.specs.Meaning.{Means}
 use Rattle.st_type_table.specs.Cases.{HasFields}
 use Rattle.st_type_table.proofs.CasesLemmas.{HasFields-single}
-use Rattle.st_types.specs.HasType as type
-use Rattle.st_types.specs.HasType.{HasType, AllHaveType, FieldsHaveTypes}
-use Rattle.st_types.specs.inner.Levels.{TypedAt, RecordHasType}
-use Rattle.st_types.proofs.HasTypeLemmas.{typed-opened}
+use Rattle.st_type_table.specs.HasType as type
+use Rattle.st_type_table.specs.HasType.{HasType, AllHaveType, FieldsHaveTypes}
+use Rattle.st_type_table.specs.inner.TypedLevels.{TypedAt, RecordHasType}
+use Rattle.st_type_table.proofs.HasTypeLemmas.{typed-opened}
 use Rattle.st_semantics.specs.Names.{Name, flattened}
 use Rattle.st_semantics.specs.Environments.{Entry, IsTypedValue, AreTypedValues, numbers_of}
 use Rattle.st_semantics.specs.Parts.{elements_at, fields_at, elements, natural, with_both}

@@ -29,12 +29,12 @@ use Rattle.st_type_table.specs.declared.entry.CaseDef.{CaseDef}
 use Rattle.st_type_table.specs.Cases.{HasCases, HasFields, operands_of}
 use Rattle.st_type_table.specs.Meaning.{Means, alias_of, itself}
 use Rattle.st_type_table.proofs.CasesLemmas.{HasFields-single}
-use Rattle.st_types.specs.HasType as type
-use Rattle.st_types.specs.HasType.{HasType, HaveTypes, FieldsHaveTypes}
+use Rattle.st_type_table.specs.HasType as type
+use Rattle.st_type_table.specs.HasType.{HasType, HaveTypes, FieldsHaveTypes}
 use Rattle.st_type_table.specs.Sub.{Sub}
-use Rattle.st_types.specs.inner.Levels.{TypedAt, RecordHasType}
-use Rattle.st_types.proofs.HasTypeLemmas.{typed-opened}
-use Rattle.st_types.proofs.UpLaws.{Sub-up}
+use Rattle.st_type_table.specs.inner.TypedLevels.{TypedAt, RecordHasType}
+use Rattle.st_type_table.proofs.HasTypeLemmas.{typed-opened}
+use Rattle.st_type_table.proofs.UpLaws.{Sub-up}
 use Rattle.st_semantics.specs.declared.outcome.Outcome.TheVariants.{Val}
 use Rattle.st_semantics.specs.Names.{Name, flattened}
 use Rattle.st_semantics.specs.Environments.{Entry, lookup, IsTypedValue, AreTypedValues, numbers_of, numbers_at}

@@ -157,7 +157,7 @@ name_there x v (f ∷ fs) e = at (bytes_eq x f.0) e (name_there x v fs)
     at true e ih = refl
     at false e ih = ih e
 
-listed_there : (x : Name) (ls : List Listed) → has_name (listed_names ls) x ≡ true → (l : Listed) × (listed_as x ls ≡ Some l)
+pub listed_there : (x : Name) (ls : List Listed) → has_name (listed_names ls) x ≡ true → (l : Listed) × (listed_as x ls ≡ Some l)
 listed_there x [] h = cc
 listed_there x (l ∷ ls) h = at (bytes_eq x l.name) h (listed_there x ls)
   where

@@ -16,7 +16,7 @@ use Rattle.st_type_table.specs.Meaning.{Means, fields_of, itself}
 use Rattle.st_type_table.specs.Same as same
 use Rattle.st_type_table.specs.Same.{Same, SameAll}
 use Rattle.st_type_table.proofs.MeansLemmas.{Means-single}
-use Rattle.st_types.proofs.SubLaws.{Same-trans}
+use Rattle.st_type_table.proofs.SubLaws.{Same-trans}
 use Rattle.st_semantics.specs.Names.{Name}
 use Rattle.st_semantics.specs.Definitions.{syntaxes}
 use Rattle.st_semantics.specs.Environments.{wrapped, type_of, listed_as}

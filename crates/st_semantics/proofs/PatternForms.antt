@@ -26,23 +26,23 @@ use Rattle.st_semantics.proofs.Lengths.{lengths, item_lengths, lengths_of, lengt
 abbrev pub bound : IlExp → Bound
 bound = fold-IlExp Bound BoundCount Bound (List Bound) bound_at bound_count_at item_at segment_at
 
-abbrev item_bound : ListItem → Bound
+abbrev pub item_bound : ListItem → Bound
 item_bound = fold-ListItem Bound BoundCount Bound (List Bound) bound_at bound_count_at item_at segment_at
 
-abbrev segment_bound : PathSeg → List Bound
+abbrev pub segment_bound : PathSeg → List Bound
 segment_bound = fold-PathSeg Bound BoundCount Bound (List Bound) bound_at bound_count_at item_at segment_at
 
-abbrev count_bound : Iteration → BoundCount
+abbrev pub count_bound : Iteration → BoundCount
 count_bound = fold-Iteration Bound BoundCount Bound (List Bound) bound_at bound_count_at item_at segment_at
 
 -- one level of what is bound
-abbrev bound_of : IlExp-F IlExp Iteration ListItem PathSeg → Bound
+abbrev pub bound_of : IlExp-F IlExp Iteration ListItem PathSeg → Bound
 bound_of y = bound_at (map-IlExp IlExp Iteration ListItem PathSeg Bound BoundCount Bound (List Bound) bound count_bound item_bound segment_bound y)
 
 bound-level : (e : IlExp) (y : IlExp-F IlExp Iteration ListItem PathSeg) → out-IlExp e ≡ y → bound e ≡ bound_of y
 bound-level e y h = fold_out-IlExp Bound BoundCount Bound (List Bound) bound_at bound_count_at item_at segment_at e ∙ ap bound_of h
 
-binds-level : (e : IlExp) (y : IlExp-F IlExp Iteration ListItem PathSeg) → out-IlExp e ≡ y → binds e ≡ (bound_of y).names
+pub binds-level : (e : IlExp) (y : IlExp-F IlExp Iteration ListItem PathSeg) → out-IlExp e ≡ y → binds e ≡ (bound_of y).names
 binds-level e y h = ap (λ (b : Bound). b.names) (bound-level e y h)
 
 item-bound : (i : ListItem) → item_bound i ≡ bound (item_exp i)
@@ -52,11 +52,11 @@ item-bound i = fold_out-ListItem Bound BoundCount Bound (List Bound) bound_at bo
     at (ListItem-F.One e) = refl
     at (ListItem-F.All e) = refl
 
-names-map : (es : List IlExp) → map (λ (b : Bound). b.names) (map bound es) ≡ map binds es
+pub names-map : (es : List IlExp) → map (λ (b : Bound). b.names) (map bound es) ≡ map binds es
 names-map [] = refl
 names-map (e ∷ es) = ap (λ z. binds e ∷ z) (names-map es)
 
-items-names : (is : List ListItem) → map (λ (b : Bound). b.names) (map (λ (b : Bound). b) (map item_bound is)) ≡ map binds (map item_exp is)
+pub items-names : (is : List ListItem) → map (λ (b : Bound). b.names) (map (λ (b : Bound). b) (map item_bound is)) ≡ map binds (map item_exp is)
 items-names [] = refl
 items-names (i ∷ is) = ap₂ (λ a b. a ∷ b) (ap (λ (b : Bound). b.names) (item-bound i)) (items-names is)
 
@@ -74,7 +74,7 @@ own_variable e x h =
     let found = own_at (out-IlExp e) x (ap (λ (b : Bound). has_name b.own x) (sym level) ∙ h) in
     (found.0, found.1, ap (λ (b : Bound). b.own) (level ∙ ap bound_of found.1))
 
-iteration-own : (how : Iteration) → (count_bound how).own ≡ own_of how
+pub iteration-own : (how : Iteration) → (count_bound how).own ≡ own_of how
 iteration-own how = ap (λ (b : BoundCount). b.own) (fold_out-Iteration Bound BoundCount Bound (List Bound) bound_at bound_count_at item_at segment_at how) ∙ at (out-Iteration how)
   where
     at : (y : Iteration-F IlExp Iteration ListItem PathSeg)
@@ -85,7 +85,7 @@ iteration-own how = ap (λ (b : BoundCount). b.own) (fold_out-Iteration Bound Bo
     at (Iteration-F.Times e) = refl
     at (Iteration-F.Below i e) = refl
 
-iteration-index : (how : Iteration) → (count_bound how).index ≡ index_of how
+pub iteration-index : (how : Iteration) → (count_bound how).index ≡ index_of how
 iteration-index how = ap (λ (b : BoundCount). b.index) (fold_out-Iteration Bound BoundCount Bound (List Bound) bound_at bound_count_at item_at segment_at how) ∙ at (out-Iteration how)
   where
     at : (y : Iteration-F IlExp Iteration ListItem PathSeg)

@@ -82,7 +82,7 @@ each_agreed (a ∷ as') (b ∷ bs) e g = (g.0, each_agreed as' bs e g.1)
 
 -- ---- the elements of an iteration
 
-quest_count : (how : Iteration) → kind_of how ≡ kind.Opt → count_of how ≡ []
+pub quest_count : (how : Iteration) → kind_of how ≡ kind.Opt → count_of how ≡ []
 quest_count how e = at (out-Iteration how) e
   where
     at : (y : Iteration-F IlExp Iteration ListItem PathSeg) → kind_at y ≡ kind.Opt → count_at y ≡ []
@@ -122,7 +122,7 @@ no_count V env [] (c ∷ cs) e h = absurd h
 no_count V env (g ∷ es) cs e h = cc
 
 -- an option has one element at most
-few_elements : (V : Env → IlExp → Value → Type 0) (how : Iteration) (xs : List Name) (env : Env) (count : List Value) (envs : List Env) → kind_of how ≡ kind.Opt → HaveValues V (tasks env (count_of how)) count
+pub few_elements : (V : Env → IlExp → Value → Type 0) (how : Iteration) (xs : List Name) (env : Env) (count : List Value) (envs : List Env) → kind_of how ≡ kind.Opt → HaveValues V (tasks env (count_of how)) count
     → spread how xs env count ≡ Over envs → length envs ≤ 1
 few_elements V how xs env count envs is have over =
     let p = spread_parts how xs env count envs over in

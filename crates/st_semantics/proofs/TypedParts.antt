@@ -17,8 +17,8 @@ use Rattle.st_il.specs.Height.{height}
 use Rattle.st_il.specs.Value.{texts_of, texts_at}
 use Rattle.st_il.specs.Value as texts
 use Rattle.st_type_table.specs.Meaning.{alias_of, itself}
-use Rattle.st_types.specs.HasType as type
-use Rattle.st_types.specs.HasType.{HasType, AllHaveType}
+use Rattle.st_type_table.specs.HasType as type
+use Rattle.st_type_table.specs.HasType.{HasType, AllHaveType}
 use Rattle.st_semantics.specs.declared.outcome.Outcome.TheVariants.{Val, Deep}
 use Rattle.st_semantics.specs.Names.{flattened}
 use Rattle.st_semantics.specs.Environments.{IsTypedValue, numbers_of, numbers_at, wrapped}

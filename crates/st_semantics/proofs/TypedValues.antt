@@ -38,7 +38,7 @@ use Rattle.st_semantics.proofs.Columns.{spread_parts, natural_is}
 use Rattle.st_semantics.proofs.Inverse.{operands, variable_value, called_value, elements_in}
 use Rattle.st_semantics.proofs.TypedParts.{gathered_typed, number_below, natural_typed, number_in_range}
 use Rattle.st_semantics.proofs.OperationRows.{law_of_operations}
-use Rattle.st_types.proofs.UpLaws.{Same-up}
+use Rattle.st_type_table.proofs.UpLaws.{Same-up}
 
 module _ (il : Il) where
   -- each listed variable has a value of its type

@@ -1,3 +1,5 @@
 -- What only proofs need.
 pub mod Modes
+pub mod Sorted
 pub mod Trials
+pub mod Weight

@@ -1,10 +1,13 @@
 //! What the rules of a specification mean: definitions, the types that they speak of, and laws.
+//! Beside them stands code that several crates above need: which expressions are patterns, and
+//! the operands of an expression (`operands`), over which evaluation and typing go.
 //!
 //! Read `specs/Lib.antt` for the order in which to read them.
 #![tactic(auto)]
 
 mod laws;
 mod notes;
+pub mod operands;
 mod outcome;
 mod pattern;
 mod unfit;

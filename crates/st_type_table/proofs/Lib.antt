@@ -31,3 +31,6 @@ pub mod FormLemmas
 pub mod SameNumberLemmas
 pub mod NumberingLemmas
 pub mod NamesNumberedLemmas
+pub mod HasTypeLemmas
+pub mod UpLaws
+pub mod SubLaws

@@ -8,6 +8,10 @@ pub mod Cases
 pub mod Same
 -- one type is a subtype of another
 pub mod Sub
+-- a value has a type
+pub mod HasType
+-- a value of a type has each type above it
+pub mod GoesUp
 -- a record type can be joined where each field is a list, an option or such a record
 pub mod Joins
 -- the first case with a key, and cases whose tags have the same key

@@ -13,5 +13,6 @@ pub mod JoinGraph
 pub mod Survey
 pub mod Checking
 pub mod SameLevels
+pub mod TypedLevels
 pub mod Forms
 pub mod Numbering

@@ -1,8 +1,5 @@
--- What must be believed of typing, in reading order; subtyping is told by `Sub` of `st_type_table`.
+-- What is believed of typing and subtyping is told by `HasType`, `Sub` and `GoesUp` of
+-- `st_type_table`.
 
--- a value has a type
-pub mod HasType
--- a value of a type has each type above it
-pub mod Laws
 -- ---- what only proofs need
 pub mod inner

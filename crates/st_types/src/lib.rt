@@ -3,7 +3,7 @@
 //! Both are asked of a `TypeTable`, which is seen as the definitions of the syntaxes that it was
 //! made from; it answers itself what a type means and which types are equal.
 //!
-//! Read `typing` and `sub`, with `specs/HasType.antt` and `specs/Sub.antt`.
+//! Read `typing` and `sub`, with `HasType.antt` and `Sub.antt` of `st_type_table`.
 #![tactic(auto)]
 
 mod sub;

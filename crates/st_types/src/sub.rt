@@ -5,7 +5,7 @@ ghost use Rattle.st_il.specs.declared.ty.Ty.{Ty, out-Ty};
 ghost use Rattle.st_type_table.specs.Breach.{IsSound};
 ghost use Rattle.st_type_table.specs.Same.{SameAll};
 ghost use Rattle.st_types.specs.inner.Levels.{told, level_at};
-ghost use Rattle.st_types.specs.Laws.{GoesUp};
+ghost use Rattle.st_type_table.specs.GoesUp.{GoesUp};
 ghost use Rattle.st_type_table.specs.Sub.{Sub, StandsIn, AllStandIn, IsContained};
 
 use crate::typing::operands_of;

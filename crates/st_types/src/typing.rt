@@ -3,10 +3,10 @@
 ghost use Rattle.std.specs.Prelude.{◌≡◌, ◌↔◌, IsTrue, List, MatchOption};
 ghost use Rattle.std.specs.Option.{option_copied};
 ghost use Rattle.st_type_table.specs.Cases.{operands_of};
-ghost use Rattle.st_types.specs.HasType.{HasType, HaveTypes, AllHaveType, FieldsHaveTypes};
+ghost use Rattle.st_type_table.specs.HasType.{HasType, HaveTypes, AllHaveType, FieldsHaveTypes};
 ghost use Rattle.st_il.specs.declared.ty.Ty.{Ty, out-Ty};
 ghost use Rattle.st_il.specs.declared.value.Value.{out-Value};
-ghost use Rattle.st_types.specs.inner.Levels.{TypedAt, HasOperands};
+ghost use Rattle.st_type_table.specs.inner.TypedLevels.{TypedAt, HasOperands};
 
 use st_il::{Ty, Value};
 use st_num::{Name, Row};

@@ -23,7 +23,7 @@ use Rattle.st_semantics.specs.Evaluation.{Answers, Task, tasks, each_task, then_
 use Rattle.st_value.specs.inner.Prefix.{behind_values}
 use Rattle.st_value.specs.declared.scope.Bound.{Bound}
 use Rattle.st_value.specs.inner.Scope.{scope_env, entries_of, columns_from}
-use Rattle.st_value.specs.inner.Weight.{exps_now}
+use Rattle.st_semantics.specs.References.{exps_now}
 use Rattle.st_value.proofs.FormLevels.{IsPlain, plain_strict}
 
 pub behind_values-then : (xs : List Value) (v : Value) (r : Outcomes) → behind_values xs (then_all v r) ≡ behind_values (xs ++ v ∷ []) r

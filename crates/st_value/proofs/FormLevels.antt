@@ -15,7 +15,7 @@ use Rattle.st_semantics.specs.Formed.{IsFormed, AreFormed}
 use Rattle.st_semantics.specs.Formed as formed
 use Rattle.st_semantics.specs.Iterations.{count_of}
 use Rattle.std.specs.Borrow.{Bor}
-use Rattle.st_value.specs.inner.Weight.{exps_now}
+use Rattle.st_semantics.specs.References.{exps_now}
 use Rattle.st_semantics.proofs.Singles.{HasForm-single}
 
 abbrev Level : Type 0

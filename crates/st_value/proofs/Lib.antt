@@ -2,6 +2,5 @@ pub mod PathSteps
 pub mod Splices
 pub mod Joins
 pub mod FormLevels
-pub mod Weights
 pub mod Builds
 pub mod HeadElements

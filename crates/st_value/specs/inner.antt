@@ -3,5 +3,4 @@ pub mod Calculations
 pub mod Joined
 pub mod Changes
 pub mod Scope
-pub mod Weight
 pub mod Prefix

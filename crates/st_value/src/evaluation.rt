@@ -10,15 +10,15 @@ ghost use Rattle.st_semantics.specs.Patterns.{is_pattern};
 ghost use Rattle.st_semantics.specs.Iterations.{count_of, index_of, rows, gathered};
 ghost use Rattle.st_semantics.specs.Evaluation.{Gives, GivesAll, Called, applied, tasks, each_task};
 ghost use Rattle.st_value.specs.inner.Scope.{scope_env, entries_of, columns_now};
-ghost use Rattle.st_value.specs.inner.Weight.{exps_now};
+ghost use Rattle.st_semantics.specs.References.{exps_now};
 
 use crate::caller::{Caller, NoFunctions};
 use crate::column::{Table, element_scope, gathered, spread};
-use crate::operands::{count_of, each, operands};
 use crate::operations::operation;
 use crate::scope::{Bound, scope_of, variable};
 use st_il::{Env, IlExp, Iteration};
 use st_num::{Name, NoMemory, Row};
+use st_semantics::operands::{count_of, each, operands};
 use st_semantics::{Outcome, Outcomes};
 use st_types::TypeTable;
 use std::alloc::Global;

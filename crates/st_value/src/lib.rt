@@ -15,7 +15,6 @@ mod evaluation;
 mod joining;
 mod list;
 mod made;
-pub mod operands;
 mod operations;
 mod path;
 mod record;

@@ -23,8 +23,8 @@ use Rattle.st_il.specs.Value.{texts_of}
 use Rattle.st_type_table.specs.declared.entry.CaseDef.{CaseDef}
 use Rattle.st_type_table.specs.Meaning.{Means, itself, alias, alias_of, aliased, alternatives_of, listed, recorded, fields_of, body_of, named, named_at}
 use Rattle.st_type_table.specs.Cases.{Brings, Flatten, own, included, none, more, HasCases, operands_of}
-use Rattle.st_types.specs.HasType as has
-use Rattle.st_types.specs.HasType.{HasType, HaveTypes}
+use Rattle.st_type_table.specs.HasType as has
+use Rattle.st_type_table.specs.HasType.{HasType, HaveTypes}
 use Rattle.st_semantics.specs.Environments.{IsTypedValue, numbers_of}
 use Rattle.st_verify.proofs.SmallIl.{itself as name_itself}
 

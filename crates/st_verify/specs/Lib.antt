@@ -13,5 +13,5 @@ pub mod SmallMeaning
 -- ---- the checker
 -- a verifier answers so, and is so then
 pub mod Verifier
--- the typing rule behind a refusal
+-- an internal language is refused by a typing rule, and the typing rule behind a refusal
 pub mod Typing

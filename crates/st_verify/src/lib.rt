@@ -10,6 +10,7 @@
 mod accepted;
 mod fault;
 mod known;
+mod language;
 mod noted;
 mod small;
 mod typed;
@@ -18,6 +19,7 @@ mod verifier;
 
 pub use accepted::Accepted;
 pub use fault::{VerifyFault, definition_rule};
+pub use language::judge_language;
 pub use small::small_specifications;
 pub use st_semantics::{Judgement, Notes, VerifyRule};
 pub use verifier::Verifier;

@@ -1,14 +1,7 @@
 -- Names in byte order, each once.
-use Rattle.std.specs.Prelude.{◌≡◌, ◌≤◌, ℕ, true, ◌||◌, List, [], ◌∷◌, ◌++◌, length, take, drop, Option, Some, None, bytes_eq}
-use Rattle.std.specs.Ordering.{is_lt}
-use Rattle.st_il.specs.Order.{text_cmp}
+use Rattle.std.specs.Prelude.{◌≡◌, ◌≤◌, ℕ, ◌||◌, List, ◌∷◌, ◌++◌, length, take, drop, Option, Some, None, bytes_eq}
 use Rattle.st_semantics.specs.Names.{Name, has_name}
-
--- each name is before all later ones
-abbrev pub AreSorted : List Name → Type 0
-AreSorted [] = Unit {0}
-AreSorted (x ∷ xs) =
-    ((y : Name) → has_name xs y ≡ true → is_lt (text_cmp x y) ≡ true) × AreSorted xs
+use Rattle.st_semantics.specs.inner.Sorted.{AreSorted}
 
 -- the names stand in order, and a name more is among them
 pub record IsInserted (x : Name) (names more : List Name) : Type 0 where

@@ -2,7 +2,8 @@ use Rattle.std.proofs.Common.{◌≡◌, ◌+◌, max, drop}
 use Rattle.st_semantics.specs.Names.{all_known}
 use Rattle.st_semantics.specs.Iterations.{count_of}
 use Rattle.st_semantics.specs.Variables.{vars_of}
-use Rattle.st_value.specs.inner.Weight.{weight, heaviest, exps_now}
+use Rattle.st_semantics.specs.References.{exps_now}
+use Rattle.st_semantics.specs.inner.Weight.{weight, heaviest}
 use Rattle.st_eval.specs.inner.Known.{names_now}
 use Rattle.st_eval.proofs.known.+bound.Given as goal
 

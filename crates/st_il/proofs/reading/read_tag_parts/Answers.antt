@@ -1,4 +1,4 @@
-use Rattle.st_il.specs.inner.Reading.{state_of}
+use Rattle.st_il.specs.inner.States.{state_of}
 use Rattle.st_il.proofs.ReadingLoop.{goes_on, stops}
 use Rattle.st_il.proofs.reading.read_tag_parts.Goals as goal
 

@@ -1,5 +1,6 @@
 use Rattle.std.proofs.Common.{◌≡◌, Some, [], take}
-use Rattle.st_il.specs.inner.Reading.{expecting, run, state_of}
+use Rattle.st_il.specs.Reading.{expecting, run}
+use Rattle.st_il.specs.inner.States.{state_of}
 use Rattle.st_il.proofs.reading.read_tag_parts.Given as goal
 
 abbrev pub invariant-loop-part : goal.invariant-loop-part

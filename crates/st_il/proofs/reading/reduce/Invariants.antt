@@ -1,5 +1,5 @@
 use Rattle.std.proofs.Common.{◌≡◌, length, reverse}
-use Rattle.st_il.specs.inner.Reading as spec
+use Rattle.st_il.specs.Reading as spec
 use Rattle.st_il.proofs.reading.reduce.Given as goal
 
 abbrev pub invariant-frames : goal.invariant-frames

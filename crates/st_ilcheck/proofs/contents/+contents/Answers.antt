@@ -3,8 +3,9 @@ use Rattle.st_il.specs.declared.expression.IlExp.{out-IlExp}
 use Rattle.st_il.specs.declared.expression.IlExp.TheVariants as exp
 use Rattle.st_semantics.specs.Iterations.{count_of}
 use Rattle.st_semantics.specs.Operands.{operands_at, item_exp, segment_exps}
-use Rattle.st_ilcheck.specs.inner.Weight.{exps_now, weight, heaviest}
-use Rattle.st_ilcheck.proofs.Weights.{weight-operands, weight-iteration, heaviest-element}
+use Rattle.st_semantics.specs.References.{exps_now}
+use Rattle.st_semantics.specs.inner.Weight.{weight, heaviest}
+use Rattle.st_semantics.proofs.Weights.{weight-operands, weight-iteration, heaviest-element}
 use Rattle.st_ilcheck.proofs.ContentsLemmas.{contents-plain, contents-iterated, contents-start, contents-next, contents-end, within-made}
 use Rattle.st_ilcheck.proofs.contents.+contents.Goals as goal
 

@@ -2,7 +2,8 @@ use Rattle.std.proofs.Common.{◌+◌, drop, max}
 use Rattle.st_semantics.specs.Iterations.{count_of}
 use Rattle.st_ilcheck.specs.declared.contents.Contents.{Contents}
 use Rattle.st_ilcheck.specs.inner.Contents.{joined, AreContents}
-use Rattle.st_ilcheck.specs.inner.Weight.{weight, heaviest, exps_now}
+use Rattle.st_semantics.specs.References.{exps_now}
+use Rattle.st_semantics.specs.inner.Weight.{weight, heaviest}
 use Rattle.st_ilcheck.proofs.contents.+contents.Given as goal
 
 abbrev pub decreases-contents_of : goal.decreases-contents_of

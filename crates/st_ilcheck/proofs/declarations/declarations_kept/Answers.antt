@@ -7,5 +7,5 @@ returns-then-not-declared c = λ d e. (λ f. search rules, λ n. sym c.if-not-de
 
 pub returns : goal.returns
 returns c = λ d e.
-    let there = read-there c.args.il.now.defs c.as_slice-defs.result.now c.args.at c.index-defs-at.result c.index-defs-at.result c.as_slice-defs.ensures c.requires c.index-defs-at.is refl in
+    let there = read-there c.args.il.now.defs c.as_slice-defs.result.now c.args.at c.index-defs-at.result c.index-defs-at.result c.as_slice-defs.ensures c.requires.within c.index-defs-at.is refl in
     named-asked c.args.il.now c.args.at c.index-defs-at.result there c.in_ok-kept.kept c.in_ok-kept.ensures d e ((c.in_ok-declared.ensures d e).0 c.if-not-declared.false)

@@ -7,8 +7,8 @@ use Rattle.st_ilcheck.proofs.keeping.is_record.Goals as goal
 
 pub returns : goal.returns
 returns c =
-    record-kept (syntaxes c.args.language.now) (ty.Name c.args.name.now) c.args.types.now c.in-Some.declared.now c.are_fields.result
-    (subst (λ z. HasFields (syntaxes c.args.language.now) z c.in-Some.declared.now) c.in_ok-ty.ensures c.in-Some.ensures) c.are_fields.ensures
+    record-kept (syntaxes c.args.language.now) (ty.Name c.args.name.now) c.args.types.now c.in-Some.declared.now c.in_ok-kept-in-Some.kept
+    (subst (λ z. HasFields (syntaxes c.args.language.now) z c.in-Some.declared.now) c.in_ok-ty.ensures c.in-Some.ensures) c.in_ok-kept-in-Some.ensures
 
 pub returns-in-None : goal.returns-in-None
 returns-in-None c = (

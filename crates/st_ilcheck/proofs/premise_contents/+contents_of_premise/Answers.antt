@@ -1,7 +1,7 @@
 use Rattle.std.proofs.Common.{ap, ◌∙◌}
 use Rattle.st_il.specs.declared.expression.IlPrem.{out-IlPrem}
 use Rattle.st_il.specs.declared.expression.IlPrem.TheVariants as prem
-use Rattle.st_ilcheck.specs.inner.Weight.{exps_now}
+use Rattle.st_semantics.specs.References.{exps_now}
 use Rattle.st_ilcheck.proofs.ContentsLemmas.{condition-contents, goal-contents, otherwise-contents, each-contents}
 use Rattle.st_ilcheck.proofs.premise_contents.+contents_of_premise.Goals as goal
 

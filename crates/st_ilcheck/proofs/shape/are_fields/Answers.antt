@@ -1,4 +1,4 @@
-use Rattle.std.proofs.Common.{rules, arith, ℕ, List, sym, subst}
+use Rattle.std.proofs.Common.{rules, arith, ℕ, List, sym, subst, ◌∙◌}
 use Rattle.st_il.specs.declared.ty.Ty.{Ty}
 use Rattle.st_semantics.specs.Definitions.{syntaxes}
 use Rattle.st_ilcheck.specs.Rules.{Is}
@@ -9,15 +9,15 @@ pub returns-then-asked-types : goal.returns-then-asked-types
 returns-then-asked-types c =
     (λ f. search rules, λ s. absurd (c.if-asked-types.true (AreEach-length (λ (d : List ℕ × Ty) o. Is (syntaxes c.args.language.now) o d.1) c.args.asked.now c.args.types.now s)))
 
-pub returns-then-not-has : goal.returns-then-not-has
-returns-then-not-has c =
+pub returns-then-not-kept : goal.returns-then-not-kept
+returns-then-not-kept c =
     let k = AreEach-at (λ (d : List ℕ × Ty) o. Is (syntaxes c.args.language.now) o d.1) c.args.asked.now c.args.types.now c.loop-i.i c.index-asked-i.result c.index-types-i.result c.loop-i-test.true (omega arith) c.index-asked-i.is c.index-types-i.is in
-    (λ f. search rules, λ s. c.if-not-has.ensures.1 (subst (λ (z : List ℕ × Ty). Is (syntaxes c.args.language.now) c.index-types-i.result z.1) c.index-asked-i.is (k.0 (c.loop-i.invariant.1 s)).0))
+    (λ f. search rules, λ s. sym c.if-not-kept.true ∙ c.in_ok-kept.ensures.1 (subst (λ (z : List ℕ × Ty). Is (syntaxes c.args.language.now) c.index-types-i.result z.1) c.index-asked-i.is (k.0 (c.loop-i.invariant.1 s)).0))
 
 pub loop-i-preserved : goal.loop-i-preserved
 loop-i-preserved c =
     let k = AreEach-at (λ (d : List ℕ × Ty) o. Is (syntaxes c.args.language.now) o d.1) c.args.asked.now c.args.types.now c.loop-i.i c.index-asked-i.result c.index-types-i.result c.loop-i-test.true (omega arith) c.index-asked-i.is c.index-types-i.is in
-    (λ s. c.loop-i.invariant.0 (k.1 (subst (λ (z : List ℕ × Ty). Is (syntaxes c.args.language.now) c.index-types-i.result z.1) (sym c.index-asked-i.is) (c.if-not-has.ensures.0 (search rules)), s)), λ s. (k.0 (c.loop-i.invariant.1 s)).1)
+    (λ s. c.loop-i.invariant.0 (k.1 (subst (λ (z : List ℕ × Ty). Is (syntaxes c.args.language.now) c.index-types-i.result z.1) (sym c.index-asked-i.is) (c.in_ok-kept.ensures.0 c.if-not-kept.false), s)), λ s. (k.0 (c.loop-i.invariant.1 s)).1)
 
 pub returns : goal.returns
 returns c =

@@ -5,8 +5,9 @@ use Rattle.st_semantics.specs.Iterations.{count_of}
 use Rattle.st_semantics.specs.Operands.{operands_at, item_exp, segment_exps}
 use Rattle.st_semantics.specs.Scopes.{listed_inside}
 use Rattle.st_ilcheck.specs.Parts.{standing}
-use Rattle.st_ilcheck.specs.inner.Weight.{exps_now, weight, heaviest}
-use Rattle.st_ilcheck.proofs.Weights.{weight-operands, weight-iteration, heaviest-element}
+use Rattle.st_semantics.specs.References.{exps_now}
+use Rattle.st_semantics.specs.inner.Weight.{weight, heaviest}
+use Rattle.st_semantics.proofs.Weights.{weight-operands, weight-iteration, heaviest-element}
 use Rattle.st_ilcheck.proofs.Builds.{parts-iterated, parts-plain, typings-moved, typings-next, typings-end, iterated-made}
 use Rattle.st_ilcheck.proofs.typing.+typing.Goals as goal
 

@@ -4,7 +4,8 @@ use Rattle.st_il.specs.declared.type_rule.TypeRule.{TypeRule}
 use Rattle.st_semantics.specs.Iterations.{count_of}
 use Rattle.st_ilcheck.specs.Parts.{standing}
 use Rattle.st_ilcheck.specs.Typings.{HaveTypings}
-use Rattle.st_ilcheck.specs.inner.Weight.{weight, heaviest, exps_now}
+use Rattle.st_semantics.specs.References.{exps_now}
+use Rattle.st_semantics.specs.inner.Weight.{weight, heaviest}
 use Rattle.st_ilcheck.proofs.typing.+typing.Given as goal
 
 abbrev pub decreases-typing_of : goal.decreases-typing_of

@@ -6,6 +6,6 @@ returns-then-not-have_asked c = refused _ c.have_asked.result c.if-not-have_aske
 
 pub returns : goal.returns
 returns c = (
-  λ y. record { typed = c.have_asked.ensures.0 c.if-not-have_asked.false; fits = c.in_ok-yes.ensures.0 y },
-  λ s. c.in_ok-yes.ensures.1 s.fits,
+  λ y. record { typed = c.have_asked.ensures.0 c.if-not-have_asked.false; fit = c.in_ok-yes.ensures.0 y },
+  λ s. c.in_ok-yes.ensures.1 s.fit,
 )

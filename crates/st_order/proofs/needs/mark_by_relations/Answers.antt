@@ -1,20 +1,27 @@
-use Rattle.std.proofs.Common.{sym, ap, ◌∙◌}
-use Rattle.std.specs.Option.{option_copied}
-use Rattle.st_order.specs.inner.Index.{names_in}
+use Rattle.std.proofs.Common.{sym, subst}
+use Rattle.st_semantics.specs.Definitions.{relations}
+use Rattle.st_semantics.specs.Marks.{IsUnfit}
 use Rattle.st_order.specs.Known.{all_now}
-use Rattle.st_order.proofs.NeedsFun.{needs_nothing, needs_none, needs_some}
+use Rattle.st_order.specs.inner.Sifted.{Sifted}
+use Rattle.st_order.proofs.NeedsFun.{leads_to_none, leads_within, leads_to}
 use Rattle.st_order.proofs.needs.mark_by_relations.Goals as goal
 
-pub returns-in-Some : goal.returns-in-Some
-returns-in-Some c =
-    needs_some c.args.indexed.now c.requires.indexed c.args.relation.now (names_in c.in_ok-needed.needed.keys) c.in_ok-needed.ensures (all_now c.args.unfit.now) c.requires.unfit c.in-Some.other.now
-    c.in_ok-copy-in-Some.field-0 (sym c.first_relation.ensures ∙ ap option_copied c.in-Some.is) c.in_ok-copy-in-Some.ensures
+pub returns-in_default : goal.returns-in_default
+returns-in_default c =
+    leads_to_none c.args.indexed.now c.requires.indexed c.args.relation.now c.args.marked.now c.requires.marked c.first_under-found.result c.first_under-found.ensures c.in_default.is
+
+pub relation_at-other-requires : goal.relation_at-other-requires
+relation_at-other-requires c =
+    leads_within c.args.indexed.now c.requires.indexed c.args.relation.now c.args.marked.now c.requires.marked c.first_under-found.result c.first_under-found.ensures c.in-Some.number c.as_slice-unfit.result.now c.as_slice-unfit.ensures
+    c.in-Some.is
+
+pub mark_by_walk-requires : goal.mark_by_walk-requires
+mark_by_walk-requires c = record {
+  indexed = c.requires.indexed;
+  unfit = subst (λ rs. Sifted (IsUnfit c.args.indexed.now.directions.il.now) (relations c.args.indexed.now.directions.il.now) (all_now rs)) (sym c.as_slice-unfit.ensures) c.requires.marked.unfit;
+}
 
 pub returns : goal.returns
 returns c =
-    needs_none c.args.indexed.now c.requires.indexed c.args.relation.now (names_in c.in_ok-needed.needed.keys) c.in_ok-needed.ensures (all_now c.args.unfit.now) c.requires.unfit
-    (sym c.first_relation.ensures ∙ ap option_copied c.in-None.is)
-
-pub returns-then-is_empty : goal.returns-then-is_empty
-returns-then-is_empty c =
-    needs_nothing c.args.indexed.now c.requires.indexed c.args.relation.now c.is_empty.result c.args.unfit.now c.requires.unfit c.is_empty.ensures c.if-is_empty.true
+    leads_to c.args.indexed.now c.requires.indexed c.args.relation.now c.args.marked.now c.requires.marked c.first_under-found.result c.first_under-found.ensures c.in-Some.number c.as_slice-unfit.result.now c.relation_at-other.result.now
+    c.in_ok-copy.field-0 c.is_namesake.result c.as_slice-unfit.ensures c.in-Some.is c.relation_at-other.ensures c.is_namesake.ensures c.if-is_namesake.false c.in_ok-copy.ensures

@@ -1,6 +1,6 @@
 use Rattle.st_type_table.proofs.Measure.{Means-total}
-use Rattle.st_types.proofs.UpLaws.{Sub-up}
-use Rattle.st_types.proofs.SubLaws.{Sub-refl, Sub-trans}
+use Rattle.st_type_table.proofs.UpLaws.{Sub-up}
+use Rattle.st_type_table.proofs.SubLaws.{Sub-refl, Sub-trans}
 use Rattle.st_types.proofs.sub.is_sub.Goals as goal
 
 pub returns-clause-up : goal.returns-clause-up

@@ -1,5 +1,5 @@
 use Rattle.std.proofs.Common.{rules, arith}
-use Rattle.st_types.proofs.HasTypeLemmas.{typed-arm, HaveTypes-length, HaveTypes-at, HaveTypes-end, AllHaveType-at, AllHaveType-end, Fields-length, Fields-at, Fields-end, case-exact, case-none, record-exact, record-none}
+use Rattle.st_type_table.proofs.HasTypeLemmas.{typed-arm, HaveTypes-length, HaveTypes-at, HaveTypes-end, AllHaveType-at, AllHaveType-end, Fields-length, Fields-at, Fields-end, case-exact, case-none, record-exact, record-none}
 use Rattle.st_types.proofs.NameLemmas.{names-same, names-differ}
 use Rattle.st_types.proofs.typing.+typing.Goals as goal
 

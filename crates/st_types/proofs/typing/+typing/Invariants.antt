@@ -1,5 +1,5 @@
 use Rattle.std.proofs.Common.{◌↔◌, drop}
-use Rattle.st_types.specs.HasType.{HaveTypes, AllHaveType, FieldsHaveTypes}
+use Rattle.st_type_table.specs.HasType.{HaveTypes, AllHaveType, FieldsHaveTypes}
 use Rattle.st_types.proofs.typing.+typing.Given as goal
 
 abbrev pub invariant-have_types-loop-i : goal.invariant-have_types-loop-i

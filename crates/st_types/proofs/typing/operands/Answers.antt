@@ -1,6 +1,6 @@
 use Rattle.std.proofs.Common.{ap, ◌∙◌}
 use Rattle.st_type_table.specs.Cases.{operands_of}
-use Rattle.st_types.proofs.HasTypeLemmas.{operands-found}
+use Rattle.st_type_table.proofs.HasTypeLemmas.{operands-found}
 use Rattle.st_types.proofs.typing.operands.Goals as goal
 
 pub returns-in-Some : goal.returns-in-Some

@@ -9,9 +9,10 @@ use Rattle.st_semantics.specs.Iterations.{index_of, rows}
 use Rattle.st_semantics.specs.Evaluation.{tasks, then_all, Gives}
 use Rattle.st_value.specs.inner.Prefix.{behind_values}
 use Rattle.st_value.specs.inner.Scope.{scope_env, entries_of, columns_now}
-use Rattle.st_value.specs.inner.Weight.{exps_now, weight, heaviest}
+use Rattle.st_semantics.specs.References.{exps_now}
+use Rattle.st_semantics.specs.inner.Weight.{weight, heaviest}
 use Rattle.st_value.proofs.FormLevels.{plain_strict, formed_element, plain_by}
-use Rattle.st_value.proofs.Weights.{weight-operands, heaviest-element}
+use Rattle.st_semantics.proofs.Weights.{weight-operands, heaviest-element}
 use Rattle.st_value.proofs.Builds.{gives_variable, gives_call, gives_strict, behind_values-then, outcomes_next, outcomes_stop, outcomes_end, moved_all, at_row, elements_start, elements_next, elements_stop, elements_end, iterated_stopped, iterated_misfit, iterated_over}
 use Rattle.st_value.proofs.evaluation.+value.Goals as goal
 

@@ -4,7 +4,8 @@ use Rattle.st_semantics.specs.Iterations.{count_of, index_of, rows}
 use Rattle.st_semantics.specs.Evaluation.{GivesAll, tasks, each_task}
 use Rattle.st_value.specs.inner.Prefix.{behind_values}
 use Rattle.st_value.specs.inner.Scope.{scope_env, entries_of, columns_now}
-use Rattle.st_value.specs.inner.Weight.{weight, heaviest, exps_now}
+use Rattle.st_semantics.specs.References.{exps_now}
+use Rattle.st_semantics.specs.inner.Weight.{weight, heaviest}
 use Rattle.st_value.proofs.Builds.{rows_left}
 use Rattle.st_value.proofs.evaluation.+value.Given as goal
 

@@ -1,9 +1,9 @@
-use Rattle.std.proofs.Common.{◌≡◌, subst}
+use Rattle.std.proofs.Common.{◌≡◌, subst, ℕ, List}
+use Rattle.std.specs.Prelude.{MatchOption}
+use Rattle.st_il.specs.declared.ty.Ty.{Ty}
 use Rattle.st_type_table.specs.Cases.{HasFields}
 use Rattle.st_semantics.specs.Definitions.{syntaxes}
 use Rattle.st_ilcheck.proofs.language.Language.fields.Goals as goal
 
-pub returns-in-None : goal.returns-in-None
-returns-in-None c = λ fields h.
-    let same : syntaxes c.args.self.now ≡ c.self.inside.types.now = cc in
-    c.in-None.ensures.none fields (subst (λ z. HasFields z c.args.ty.now fields) same h)
+pub returns : goal.returns
+returns c = let same : c.self.inside.table.now ≡ syntaxes c.args.self.now = cc in subst (λ z. MatchOption c.fields.result ((fields : List (List ℕ × Ty)) → HasFields z c.args.ty.now fields → ⊥) (λ fields. HasFields z c.args.ty.now fields.now)) same c.fields.ensures

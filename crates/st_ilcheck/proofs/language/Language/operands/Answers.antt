@@ -1,12 +1,9 @@
-use Rattle.std.proofs.Common.{ap, ◌∙◌}
-use Rattle.st_type_table.specs.Cases.{operands_of}
-use Rattle.st_types.proofs.HasTypeLemmas.{operands-found}
+use Rattle.std.proofs.Common.{◌≡◌, subst, List}
+use Rattle.std.specs.Prelude.{MatchOption}
+use Rattle.st_il.specs.declared.ty.Ty.{Ty}
+use Rattle.st_type_table.specs.inner.TypedLevels.{HasOperands}
 use Rattle.st_semantics.specs.Definitions.{syntaxes}
 use Rattle.st_ilcheck.proofs.language.Language.operands.Goals as goal
 
-pub returns-in-Some : goal.returns-in-Some
-returns-in-Some c = operands-found (syntaxes c.args.self.now) c.args.ty.now c.args.tag.now c.in-Some.cases.now c.operands_of.result c.in-Some.ensures
-    (c.operands_of.ensures ∙ ap (λ cs. operands_of cs c.args.tag.now) c.as_slice.ensures)
-
-pub returns-in-None : goal.returns-in-None
-returns-in-None c = λ operands h. c.in-None.ensures h.cases h.has
+pub returns : goal.returns
+returns c = let same : c.self.inside.table.now ≡ syntaxes c.args.self.now = cc in subst (λ z. MatchOption c.operands.result ((operands : List Ty) → HasOperands z c.args.ty.now c.args.tag.now operands → ⊥) (λ operands. HasOperands z c.args.ty.now c.args.tag.now operands.now)) same c.operands.ensures

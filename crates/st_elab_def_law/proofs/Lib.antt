@@ -1,0 +1,10 @@
+mod Joined
+mod Elaborated
+mod SyntaxesDeclared
+mod HolesCounted
+mod AreKnown
+mod CitedDefs
+mod NamesOnce
+mod AreNamed
+mod IsTyped
+mod ParsedPremises

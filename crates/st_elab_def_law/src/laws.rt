@@ -1,0 +1,52 @@
+//! The laws of elaborated sources: their internal language is typed.
+
+ghost use Rattle.std.specs.Prelude.{ℕ, List};
+ghost use Rattle.st_num.specs.declared.token.Token.{Token};
+ghost use Rattle.st_el.specs.declared.definition.Def.{Def};
+ghost use Rattle.st_parse_builder.specs.Definitions.{Parse};
+ghost use Rattle.st_ilcheck.specs.Typed.{Typed};
+ghost use Rattle.st_elab_def.specs.declared.elaborated.Elaborated.{Elaborated};
+ghost use Rattle.st_elab_def.specs.Answers.{HasTemplates};
+ghost use Rattle.st_elab_def.specs.Elaboration.{IsElaborated};
+ghost use Rattle.st_elab_def_law.specs.Sources.{RepeatNoOtherwise};
+ghost use Rattle.st_elab_def_law.specs.Keeping.{AllAreNamed, AllKeepVariables, AllKeepIndices, AllKeepNames};
+
+/// T1: what a definition declares is new and keeps the conditions on it, what it cites is
+/// declared, once, and its tags are templates with as many holes as operands, where the notations
+/// of the source are templates.
+pub fn names_are_declared()
+    ensures { (defs : List Def) (e : Elaborated) → HasTemplates defs → IsElaborated defs e
+        → AllAreNamed e.il }
+{}
+
+/// T2: a variable is listed once, with its dimension; the iterations round each of its occurrences
+/// begin with it, and are all of it round one of them.
+pub fn variables_are_listed()
+    ensures { (defs : List Def) (e : Elaborated) → IsElaborated defs e → AllKeepVariables e.il }
+{}
+
+/// T14: an index occurs only in bodies that have it as their index.
+pub fn indices_stay_inside()
+    ensures { (defs : List Def) (e : Elaborated) → IsElaborated defs e → AllKeepIndices e.il }
+{}
+
+/// T14: an iteration names exactly the variables of its body that it goes over, and at least one
+/// unless it has a count; and where no iterated premise of the source is an `otherwise`, none in
+/// the internal language is.
+pub fn iterations_name_what_they_iterate()
+    ensures { (defs : List Def) (e : Elaborated) → RepeatNoOtherwise defs → IsElaborated defs e
+        → AllKeepNames e.il }
+{}
+
+/// The internal language of a source that is elaborated is typed, where the notations of the
+/// source are templates and no iterated premise of it is an `otherwise`.
+pub fn elaborated_sources_are_typed()
+    ensures { (defs : List Def) (e : Elaborated) → HasTemplates defs → RepeatNoOtherwise defs
+        → IsElaborated defs e → Typed e.il }
+{}
+
+/// No premise of a source that is parsed repeats an `otherwise`.
+pub fn parsed_premises_repeat_no_otherwise()
+    ensures { (names : List (List ℕ)) (tokens : List Token) (defs : List Def)
+        → Parse names tokens defs → RepeatNoOtherwise defs }
+{}

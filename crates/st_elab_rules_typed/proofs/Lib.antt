@@ -1,0 +1,4 @@
+pub mod PremOccurring
+pub mod PremTyping
+pub mod RuleTyping
+pub mod Declared

@@ -1,0 +1,17 @@
+pub mod SameLemmas
+pub mod IsPlacedLemmas
+pub mod HasTypingLemmas
+pub mod Claims
+pub mod HasLemmas
+pub mod Forms
+pub mod Keeping
+pub mod Operating
+pub mod Walking
+pub mod EachHas
+pub mod Listing
+pub mod Fitting
+pub mod Recording
+pub mod Iterating
+pub mod Occurring
+pub mod Placing
+pub mod Table

@@ -1,0 +1,81 @@
+//! What calls and expressions come to, where so many calls may be open at once.
+//!
+//! `call` passes itself, one call less, to what tries the clauses of its function; nothing else
+//! recurses over calls.
+
+ghost use Rattle.std.specs.Prelude.{IfOk};
+ghost use Rattle.st_semantics.specs.Definitions.{syntaxes};
+ghost use Rattle.st_semantics.specs.Formed.{IsFormed};
+ghost use Rattle.st_semantics.specs.Calls.{CallAt, ValueAt};
+ghost use Rattle.st_eval.specs.Evaluable.{IsEvaluable};
+
+use crate::clause::decide;
+use crate::reading::{Setting, value_of};
+use st_il::{Env, Il, IlExp, Value};
+use st_num::{Name, NoMemory, Row};
+use st_semantics::Outcome;
+use st_types::TypeTable;
+use std::alloc::Global;
+
+/// What a call comes to with these arguments. Where no call may be open, it is Deep; else the first
+/// clause of its function that is chosen or meets Deep decides it, with one call less for those in
+/// it.
+pub fn call(
+    alloc: Global,
+    il: &Il,
+    types: &TypeTable,
+    depth: u32,
+    fun: &Name,
+    args: &[Value],
+) -> Result<Outcome, NoMemory>
+    requires { IsEvaluable il.now types.now }
+    ensures { IfOk result (CallAt il.now depth fun.now args.now) }
+{
+    let Some(less) = depth.checked_sub(1) else {
+        return Ok(Outcome::Deep);
+    };
+    let setting = Setting {
+        il,
+        types,
+        depth: less,
+    };
+    let outcome = decide(
+        alloc,
+        &setting,
+        &|inner: &Name, values: Row<Value>|
+            requires { IsEvaluable il.now types.now }
+            ensures { IfOk result (CallAt il.entry.now less inner.now values) }
+        { call(alloc, il, types, less, inner, values.as_slice()) },
+        fun,
+        args,
+    )?;
+    Ok(outcome)
+}
+
+/// What an expression comes to in an environment. Each record in it has the fields of its type, and
+/// each absent part is of a list or an option, as in every expression that has a type.
+pub fn value(
+    alloc: Global,
+    il: &Il,
+    types: &TypeTable,
+    depth: u32,
+    env: &Env,
+    exp: &IlExp,
+) -> Result<Outcome, NoMemory>
+    requires language { IsEvaluable il.now types.now }
+    requires formed { IsFormed (syntaxes il.now) exp.now }
+    ensures { IfOk result (ValueAt il.now depth env.now exp.now) }
+{
+    let setting = Setting { il, types, depth };
+    let outcome = value_of(
+        alloc,
+        &setting,
+        &|inner: &Name, values: Row<Value>|
+            requires { IsEvaluable il.now types.now }
+            ensures { IfOk result (CallAt il.entry.now depth inner.now values) }
+        { call(alloc, il, types, depth, inner, values.as_slice()) },
+        env,
+        exp,
+    )?;
+    Ok(outcome)
+}

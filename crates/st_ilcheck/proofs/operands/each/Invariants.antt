@@ -1,6 +1,0 @@
-use Rattle.std.proofs.Common.{◌≡◌, ◌++◌, drop}
-use Rattle.st_ilcheck.specs.inner.Weight.{exps_now}
-use Rattle.st_ilcheck.proofs.operands.each.Given as goal
-
-abbrev pub invariant-loop-exp : goal.invariant-loop-exp
-invariant-loop-exp l = exps_now l.found ++ drop l.exp-index l.exps ≡ l.exps

@@ -1,0 +1,2 @@
+-- What the printer keeps, for its proofs alone.
+pub mod Pieces

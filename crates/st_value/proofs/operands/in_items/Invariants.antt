@@ -1,7 +1,0 @@
-use Rattle.std.proofs.Common.{◌≡◌, ◌++◌, drop, map}
-use Rattle.st_semantics.specs.Operands.{item_exp}
-use Rattle.st_value.specs.inner.Weight.{exps_now}
-use Rattle.st_value.proofs.operands.in_items.Given as goal
-
-abbrev pub invariant-loop-item : goal.invariant-loop-item
-invariant-loop-item l = exps_now l.found ++ map item_exp (drop l.item-index l.items) ≡ map item_exp l.items
