@@ -4,19 +4,8 @@ ghost use Rattle.std.specs.Prelude.{◌≡◌, IfOk};
 ghost use Rattle.st_order.specs.inner.Parts.{exps_in};
 
 use st_il::{IlExp, Iteration, ListItem, PathSeg, copy_ty};
-use st_num::{Boxed, Name, NoMemory, Row};
+use st_num::{Boxed, Name, NoMemory, Row, copy_names};
 use std::alloc::Global;
-
-/// The same names again.
-pub(crate) fn copy_names(alloc: Global, names: &[Name]) -> Result<Row<Name>, NoMemory>
-    ensures { IfOk result (λ copies. copies ≡ names.now) }
-{
-    let mut copies = Row::new(alloc);
-    for name in names {
-        copies.push(name.copy(alloc)?)?;
-    }
-    Ok(copies)
-}
 
 /// The same expression again, in a box of its own.
 #[cycle(copy)]

@@ -8,10 +8,10 @@ ghost use Rattle.st_deps.specs.inner.Members.{AreMembers};
 use crate::condensation::condensation;
 use crate::listing::order_of;
 use crate::ranks::ranks_of;
-use crate::table::{citations, copy_names, empty_rows};
+use crate::table::{citations, empty_rows};
 use st_graph::numbering;
 use st_il::Il;
-use st_num::{Name, NoMemory, Row};
+use st_num::{Name, NoMemory, Row, copy_names};
 use std::alloc::Global;
 
 /// For each group its names, in the order of declaration.

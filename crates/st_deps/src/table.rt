@@ -8,7 +8,7 @@ ghost use Rattle.st_deps.specs.inner.Table.{number_in, numbers_of, with_citation
 use crate::definition::{declared_by, names_in, owner};
 use indexmap::IndexSet;
 use st_il::{Il, IlDef};
-use st_num::{Name, NoMemory, Row};
+use st_num::{Name, NoMemory, Row, copy_names};
 use std::alloc::Global;
 
 /// Adds the name that a definition declares, unless it is there.
@@ -109,17 +109,6 @@ fn all_citations(
         add_citations(alloc, names, definition, &mut graph)?;
     }
     Ok(graph)
-}
-
-/// The same names again.
-pub(crate) fn copy_names(alloc: Global, names: &[Name]) -> Result<Row<Name>, NoMemory>
-    ensures { IfOk result (λ copies. copies ≡ names.now) }
-{
-    let mut copies = Row::new(alloc);
-    for name in names {
-        copies.push(name.copy(alloc)?)?;
-    }
-    Ok(copies)
 }
 
 /// The names that are declared, and for each the numbers of those that it cites.

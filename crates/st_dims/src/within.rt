@@ -1,12 +1,12 @@
 //! What stands round a part of an expression or premise.
 
-ghost use Rattle.std.specs.Prelude.{◌≡◌, ◌++◌, IfOk, OnOk};
+ghost use Rattle.std.specs.Prelude.{◌≡◌, IfOk};
 ghost use Rattle.st_num.specs.Names.{is_among};
 ghost use Rattle.st_el.specs.declared.expression.Count.{out-Count};
 ghost use Rattle.st_dims.specs.Around.{kind_at, index_at, outside, inside};
 
 use st_el::Count;
-use st_num::{Dim, Kind, Name, NoMemory, Row};
+use st_num::{Dim, Kind, Name, NoMemory, Row, add_names};
 use std::alloc::Global;
 
 /// The kinds of the iterations round a part, outermost first, and their indices.
@@ -45,16 +45,6 @@ pub fn is_among(name: &Name, names: &[Name]) -> bool
     names.contains(name)
 }
 
-/// Adds copies of names behind those that are there.
-fn copy_names(alloc: Global, names: &[Name], copies: &mut Row<Name>) -> Result<(), NoMemory>
-    ensures { OnOk result (copies.new ≡ copies.old ++ names.now) }
-{
-    for name in names {
-        copies.push(name.copy(alloc)?)?;
-    }
-    Ok(())
-}
-
 impl Within {
     /// What stands round a part that is in no iteration.
     pub fn new(alloc: Global) -> Within
@@ -73,9 +63,9 @@ impl Within {
         let mut kinds = Dim::from_slice(alloc, self.kinds.as_slice())?;
         kinds.push(kind_of(count))?;
         let mut indices = Row::new(alloc);
-        copy_names(alloc, self.indices.as_slice(), &mut indices)?;
+        add_names(alloc, self.indices.as_slice(), &mut indices)?;
         let index = index_of(alloc, count)?;
-        copy_names(alloc, index.as_slice(), &mut indices)?;
+        add_names(alloc, index.as_slice(), &mut indices)?;
         Ok(Within { kinds, indices })
     }
 }

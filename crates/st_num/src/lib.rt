@@ -37,7 +37,7 @@ pub use mark::{Grouping, Mark};
 pub use memory::NoMemory;
 pub use num::Num;
 pub use numeral::{NumFault, print_number, read_number};
-pub use row::{Name, Row};
+pub use row::{Name, Row, add_names, copy_names};
 pub use rule::RuleId;
 pub use span::Span;
 pub use token::{Token, TokenKind};

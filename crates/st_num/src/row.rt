@@ -113,3 +113,22 @@ impl<T: Copy> Row<T> {
         Row::from_slice(alloc, self.as_slice())
     }
 }
+
+/// Adds copies of names behind those that are there.
+pub fn add_names(alloc: Global, names: &[Name], copies: &mut Row<Name>) -> Result<(), NoMemory>
+    ensures { OnOk result (copies.new ≡ copies.old ++ names.now) }
+{
+    for name in names {
+        copies.push(name.copy(alloc)?)?;
+    }
+    Ok(())
+}
+
+/// The same names again.
+pub fn copy_names(alloc: Global, names: &[Name]) -> Result<Row<Name>, NoMemory>
+    ensures { IfOk result (λ copies. copies ≡ names.now) }
+{
+    let mut copies = Row::new(alloc);
+    add_names(alloc, names, &mut copies)?;
+    Ok(copies)
+}
