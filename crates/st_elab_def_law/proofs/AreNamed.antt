@@ -32,7 +32,7 @@ use Rattle.st_elab_sig.specs.Signatures.{holes_of}
 use Rattle.st_elab_law.specs.Agreement.{relation_in, fun_in}
 use Rattle.st_elab_table.specs.declared.decls.Decls.{Decls}
 use Rattle.st_elab_table.specs.Inferred.{fun_named}
-use Rattle.st_elab_exp.specs.Judgements.{relation_named}
+use Rattle.st_elab_table.specs.Judgements.{relation_named}
 use Rattle.st_elab_def.specs.declared.elaborated.Elaborated.{Elaborated}
 use Rattle.st_elab_def.specs.Answers.{HasTemplates}
 use Rattle.st_elab_def.specs.Breaches.{AllPass}

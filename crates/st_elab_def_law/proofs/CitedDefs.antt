@@ -34,7 +34,7 @@ use Rattle.st_ilcheck.specs.Declarations.{Tagged, IsTag, types_cited, alternativ
 use Rattle.st_elab_sig.specs.Types.{ty_of}
 use Rattle.st_elab_sig.specs.Signatures.{template_of, holes_of}
 use Rattle.st_elab_table.specs.declared.decls.Decls.{Decls}
-use Rattle.st_elab_exp.specs.Judgements.{relation_named}
+use Rattle.st_elab_table.specs.Judgements.{relation_named}
 use Rattle.st_elab_def.specs.declared.elaborated.Elaborated.{Elaborated}
 use Rattle.st_elab_def.specs.Answers.{HasTemplate, BodyHasTemplates, NodeHasTemplates, HasTemplates}
 use Rattle.st_elab_def.specs.DeclsOf.{type_node, not_node, bare_alternative, alternative_at, alternative_of, body_of, declared_at, decls_of}

@@ -12,7 +12,7 @@ use Rattle.st_type_table.specs.Breach as types
 use Rattle.st_ilcheck.specs.Declarations.{AreNamed}
 use Rattle.st_ilcheck.specs.Typed.{BreaksByTypes, KeepsVariables, KeepsIndices, AllKeep, Typed}
 use Rattle.st_elab_table.specs.declared.decls.Decls.{Decls}
-use Rattle.st_elab_exp.specs.Judgements.{relation_named}
+use Rattle.st_elab_table.specs.Judgements.{relation_named}
 use Rattle.st_elab_rules_typed.specs.RuleNames.{RuleKeepsNames, ClauseKeepsNames}
 use Rattle.st_elab_rules_typed.specs.RuleLaw.{AreDeclaredIn}
 use Rattle.st_elab_rules_typed.proofs.Declared.{AreDeclaredIn-declares}

@@ -41,12 +41,12 @@ use Rattle.st_elab_law.proofs.Mentioning.{mentioned-append, read, round_written,
 use Rattle.st_elab_law.proofs.Occurring.{Occurs}
 use Rattle.st_elab_law.proofs.Holding.{counted_occurs, fills_occur}
 use Rattle.st_elab_law.proofs.Occurrences.{Answered-occurs, Leads-occurs}
-use Rattle.st_elab_rows.specs.Parts.{Asked}
-use Rattle.st_elab_exp.specs.Inside.{ElabInside}
-use Rattle.st_elab_exp.specs.Judgements.{case_of, judgement_questions, Judged}
-use Rattle.st_elab_exp.specs.Premises.{place_of, node_of, ElabPrem, condition, judgement, otherwise, each, ElabPrems}
-use Rattle.st_elab_exp.specs.Rules.{ElabRule}
-use Rattle.st_elab_exp.specs.Clauses.{ClauseParts, ElabClause}
+use Rattle.st_elab_table.specs.Parts.{Asked}
+use Rattle.st_elab_table.specs.Inside.{ElabInside}
+use Rattle.st_elab_table.specs.Judgements.{case_of, judgement_questions, Judged}
+use Rattle.st_elab_table.specs.Premises.{place_of, node_of, ElabPrem, condition, judgement, otherwise, each, ElabPrems}
+use Rattle.st_elab_table.specs.Rules.{ElabRule}
+use Rattle.st_elab_table.specs.Clauses.{ClauseParts, ElabClause}
 use Rattle.st_elab_exp.specs.Occurrences.{prem_seen_at, prem_seen, RuleOccurs, ClauseOccurs}
 
 -- ---- several parts

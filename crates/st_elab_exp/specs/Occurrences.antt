@@ -9,7 +9,7 @@ use Rattle.st_il.specs.declared.expression.IlPrem.TheOpen.{IlPrem-F}
 use Rattle.st_dims.specs.Around.{outside}
 use Rattle.st_dims.specs.Mentions.{mentions_in}
 use Rattle.st_elab_law.specs.Occurrences.{Sees, nothing, beside, all_of, mentioned, iterated, seen, round_of}
-use Rattle.st_elab_exp.specs.Clauses.{ClauseParts, mentions_of}
+use Rattle.st_elab_table.specs.Clauses.{ClauseParts, mentions_of}
 
 -- what occurs in a premise, by what occurs in the premise that it repeats
 abbrev pub prem_seen_at : IlPrem-F Sees → Sees

@@ -11,8 +11,8 @@ ghost use Rattle.st_il.specs.declared.definition.RuleDef.{RuleDef};
 ghost use Rattle.st_elab_table.specs.declared.decls.Decls.{Decls};
 ghost use Rattle.st_elab_exp.specs.Occurrences.{RuleOccurs, ClauseOccurs};
 ghost use Rattle.st_elab_exp.specs.Single.{HasOneOutcome};
-ghost use Rattle.st_elab_exp.specs.Rules.{ElabRule, RuleBreach};
-ghost use Rattle.st_elab_exp.specs.Clauses.{ClauseParts, ElabClause, ClauseBreach};
+ghost use Rattle.st_elab_table.specs.Rules.{ElabRule, RuleBreach};
+ghost use Rattle.st_elab_table.specs.Clauses.{ClauseParts, ElabClause, ClauseBreach};
 
 /// A rule has at most one elaboration or one first breach, and not both.
 pub fn one_rule()

@@ -25,7 +25,7 @@ use Rattle.st_elab_table.specs.declared.decls.Decls.{Decls}
 use Rattle.st_elab_table.specs.declared.decls.Scope.{Scope}
 use Rattle.st_elab_table.specs.Iterations.{Variable}
 use Rattle.st_elab_law.specs.Occurrences.{chained, mentioned}
-use Rattle.st_elab_exp.specs.Variables.{table_of, IsScope, listed}
+use Rattle.st_elab_table.specs.Scopes.{table_of, IsScope, listed}
 use Rattle.st_elab_names.proofs.Members.{Has, Has-right, Has-map, Has-from_map, Has-from_filter, All-from_Has, Contains-from_Has, map_none, filter_none, same_path, path_same, not_true}
 
 -- ---- each variable once

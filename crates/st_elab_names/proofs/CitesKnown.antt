@@ -46,14 +46,13 @@ use Rattle.st_elab_table.specs.Questions.{Question, Made, Gives, Step}
 use Rattle.st_elab_table.specs.Steps.{made, give, asked, each_asked}
 use Rattle.st_elab_table.proofs.Keeps.{Keeps}
 use Rattle.st_elab_law.proofs.Claims.{Claims}
-use Rattle.st_elab_rows.specs.Parts.{Asked}
-use Rattle.st_elab_exp.specs.Erasing.{IsRelationOf}
-use Rattle.st_elab_exp.specs.Inside.{ElabInside}
-use Rattle.st_elab_exp.specs.Judgements.{relation_named, judgement_questions, Judged}
-use Rattle.st_elab_exp.specs.Premises.{ElabPrem, condition, judgement, otherwise, each, ElabPrems}
-use Rattle.st_elab_exp.specs.Clauses.{ClauseParts, ElabClause}
-use Rattle.st_elab_exp.specs.Rules.{ElabRule}
-use Rattle.st_elab_exp.specs.Variables.{HasItsType, listed}
+use Rattle.st_elab_table.specs.Parts.{Asked}
+use Rattle.st_elab_table.specs.Judgements.{IsRelationOf, relation_named, judgement_questions, Judged}
+use Rattle.st_elab_table.specs.Inside.{ElabInside}
+use Rattle.st_elab_table.specs.Premises.{ElabPrem, condition, judgement, otherwise, each, ElabPrems}
+use Rattle.st_elab_table.specs.Clauses.{ClauseParts, ElabClause}
+use Rattle.st_elab_table.specs.Rules.{ElabRule}
+use Rattle.st_elab_table.specs.Scopes.{HasItsType, listed}
 use Rattle.st_elab_names.specs.Citations.{IsSyntax, IsFunction, IsRelation, IsKnown, AreKnown, CitesKnown}
 use Rattle.st_elab_names.specs.inner.Named.{IsNoIteration}
 use Rattle.st_elab_names.specs.inner.Cited.{ScopeKnown, OwnKnown, Cites, by_parts, by_body, AllCite, none, more}

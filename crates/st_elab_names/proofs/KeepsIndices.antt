@@ -20,9 +20,9 @@ use Rattle.st_elab_table.specs.declared.decls.Decls.{Decls}
 use Rattle.st_elab_table.specs.declared.decls.Scope.{Scope}
 use Rattle.st_elab_law.specs.Occurrences.{chained}
 use Rattle.st_elab_law.specs.Occurrences.{mentioned as variables_mentioned}
-use Rattle.st_elab_exp.specs.Clauses.{ClauseParts, mentions_of, ElabClause}
-use Rattle.st_elab_exp.specs.Rules.{ElabRule}
-use Rattle.st_elab_exp.specs.Variables.{IsScope, table_of}
+use Rattle.st_elab_table.specs.Clauses.{ClauseParts, mentions_of, ElabClause}
+use Rattle.st_elab_table.specs.Rules.{ElabRule}
+use Rattle.st_elab_table.specs.Scopes.{IsScope, table_of}
 use Rattle.st_elab_exp.proofs.Occurring.{rule_occurs, clause_occurs}
 use Rattle.st_elab_names.specs.inner.Notes.{indexes, mentioned, all_noted}
 use Rattle.st_elab_names.proofs.Members.{Has, Has-from_map, All-from_Has, none_from_Has, any_from_Has}

@@ -31,17 +31,16 @@ use Rattle.st_elab_table.specs.Elaboration.{around}
 use Rattle.st_elab_table.specs.Iterations.{Variable}
 use Rattle.st_elab_table.specs.Steps.{each_asked}
 use Rattle.st_elab_law.specs.Occurrences.{Chained, chained}
-use Rattle.st_elab_exp.specs.Premises.{ElabPrems}
-use Rattle.st_elab_exp.specs.Clauses.{ClauseParts, mentions_of, ElabClause}
-use Rattle.st_elab_exp.specs.Rules.{ElabRule}
-use Rattle.st_elab_exp.specs.Variables.{IsScope, table_of, listed}
+use Rattle.st_elab_table.specs.Premises.{ElabPrems}
+use Rattle.st_elab_table.specs.Clauses.{ClauseParts, mentions_of, ElabClause}
+use Rattle.st_elab_table.specs.Rules.{ElabRule}
+use Rattle.st_elab_table.specs.Scopes.{IsScope, table_of, listed}
 use Rattle.st_elab_typed.specs.KeepsNames.{AllKeepNames}
 use Rattle.st_elab_rules_typed.specs.RuleNames.{PremKeepsNames}
 use Rattle.st_elab_names.specs.KeepsNames.{DefKeepsNames}
 use Rattle.st_elab_names.specs.Sources.{RepeatsNoOtherwise}
 use Rattle.st_elab_names.specs.inner.Notes.{Note, occurs as occurring, indexes, iterates, mentioned, all_of, noted, prem_noted, all_noted}
-use Rattle.st_elab_names.specs.inner.Named.{AllName}
-use Rattle.st_elab_names.specs.inner.Named.{none as no_names, more as more_names}
+use Rattle.st_elab_names.specs.inner.Named.{AllName, none as no_names, more as more_names}
 use Rattle.st_elab_names.proofs.Members.{Has, Has-left, Has-right, Has-from_map, map_none, filter_none, any_from_Has, same_path}
 use Rattle.st_elab_names.proofs.AreListed.{Rises, dimension_of, listed_with, placed, shortest_of}
 use Rattle.st_elab_names.proofs.KeepsIndices.{indexes-mentioned}

@@ -18,10 +18,10 @@ use Rattle.st_ilcheck.specs.Typed.{KeepsVariables}
 use Rattle.st_elab_table.specs.declared.decls.Decls.{Decls}
 use Rattle.st_elab_table.specs.declared.decls.Scope.{Scope}
 use Rattle.st_elab_law.specs.Occurrences.{beside, all_of, seen, mentioned}
-use Rattle.st_elab_exp.specs.Clauses.{ClauseParts, mentions_of, ElabClause}
+use Rattle.st_elab_table.specs.Clauses.{ClauseParts, mentions_of, ElabClause}
 use Rattle.st_elab_exp.specs.Occurrences.{prem_seen}
-use Rattle.st_elab_exp.specs.Rules.{ElabRule}
-use Rattle.st_elab_exp.specs.Variables.{IsScope, listed}
+use Rattle.st_elab_table.specs.Rules.{ElabRule}
+use Rattle.st_elab_table.specs.Scopes.{IsScope, listed}
 use Rattle.st_elab_exp.proofs.Occurring.{rule_occurs, clause_occurs}
 use Rattle.st_elab_names.proofs.Members.{Has}
 use Rattle.st_elab_names.proofs.PremisesSeen.{all_occurrences-seen, outside-shows, outside-comes}

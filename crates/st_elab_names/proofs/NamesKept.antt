@@ -27,12 +27,10 @@ use Rattle.st_ilcheck.specs.Naming.{is_left, has_dimension, goes_over, is_once, 
 use Rattle.st_ilcheck.specs.Parts.{Part, standing, parts_at}
 use Rattle.st_elab_table.specs.declared.decls.Scope.{Scope}
 use Rattle.st_elab_table.specs.Iterations.{Variable, is_iterated, iterated_in}
-use Rattle.st_elab_exp.specs.Variables.{table_of}
+use Rattle.st_elab_table.specs.Scopes.{table_of}
 use Rattle.st_elab_typed.specs.KeepsNames.{KeepsNames, keeps, AllKeepNames, none, more}
-use Rattle.st_elab_names.specs.inner.Notes.{Note, indexes, iterates, Notes, all_of, names_of, iteration_note, iterated, must_at, noted}
-use Rattle.st_elab_names.specs.inner.Notes.{occurs as occurring}
-use Rattle.st_elab_names.specs.inner.Named.{IsNoIteration, Names, by_parts, by_body, AllName}
-use Rattle.st_elab_names.specs.inner.Named.{none as no_names, more as more_names}
+use Rattle.st_elab_names.specs.inner.Notes.{Note, indexes, iterates, Notes, all_of, names_of, iteration_note, iterated, must_at, noted, occurs as occurring}
+use Rattle.st_elab_names.specs.inner.Named.{IsNoIteration, Names, by_parts, by_body, AllName, none as no_names, more as more_names}
 use Rattle.st_elab_names.proofs.Members.{Has, Has-left, Has-right, Has-map, Has-from_map, Has-filter, Has-from_filter, not_true, same_path, path_same, any_from_Has, none_from_Has}
 use Rattle.st_elab_names.proofs.AreListed.{Rises, other_name, dimension_of}
 use Rattle.st_elab_names.proofs.OccurrencesSeen.{outside_both}

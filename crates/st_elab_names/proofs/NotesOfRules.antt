@@ -41,12 +41,12 @@ use Rattle.st_elab_names.proofs.NotesOfSources.{mentioned-append, read, round_wr
 use Rattle.st_elab_names.proofs.NotesOfOperators.{Noted}
 use Rattle.st_elab_names.proofs.NotesOfParts.{counted_occurs, fills_occur}
 use Rattle.st_elab_names.proofs.NotesOfRows.{Answered-notes, Leads-notes}
-use Rattle.st_elab_rows.specs.Parts.{Asked}
-use Rattle.st_elab_exp.specs.Inside.{ElabInside}
-use Rattle.st_elab_exp.specs.Judgements.{case_of, judgement_questions, Judged}
-use Rattle.st_elab_exp.specs.Premises.{place_of, node_of, ElabPrem, condition, judgement, otherwise, each, ElabPrems}
-use Rattle.st_elab_exp.specs.Rules.{ElabRule}
-use Rattle.st_elab_exp.specs.Clauses.{ClauseParts, mentions_of, ElabClause}
+use Rattle.st_elab_table.specs.Parts.{Asked}
+use Rattle.st_elab_table.specs.Inside.{ElabInside}
+use Rattle.st_elab_table.specs.Judgements.{case_of, judgement_questions, Judged}
+use Rattle.st_elab_table.specs.Premises.{place_of, node_of, ElabPrem, condition, judgement, otherwise, each, ElabPrems}
+use Rattle.st_elab_table.specs.Rules.{ElabRule}
+use Rattle.st_elab_table.specs.Clauses.{ClauseParts, mentions_of, ElabClause}
 
 -- ---- several parts
 

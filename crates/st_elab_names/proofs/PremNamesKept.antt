@@ -38,15 +38,13 @@ use Rattle.st_elab_table.specs.Steps.{made, give, asked}
 use Rattle.st_elab_table.specs.Elaboration.{Leads, ends, Reached}
 use Rattle.st_elab_table.proofs.Keeps.{Keeps}
 use Rattle.st_elab_law.proofs.Claims.{Claims}
-use Rattle.st_elab_rows.specs.Parts.{Asked}
-use Rattle.st_elab_exp.specs.Inside.{ElabInside}
-use Rattle.st_elab_exp.specs.Judgements.{judgement_questions, Judged}
-use Rattle.st_elab_exp.specs.Premises.{node_of, ElabPrem, condition, judgement, otherwise, each}
-use Rattle.st_elab_rules_typed.specs.RuleNames.{PremKeepsNames}
-use Rattle.st_elab_rules_typed.specs.RuleNames.{condition as kept_condition, goal as kept_goal, otherwise as kept_otherwise, each as kept_each}
+use Rattle.st_elab_table.specs.Parts.{Asked}
+use Rattle.st_elab_table.specs.Inside.{ElabInside}
+use Rattle.st_elab_table.specs.Judgements.{judgement_questions, Judged}
+use Rattle.st_elab_table.specs.Premises.{node_of, ElabPrem, condition, judgement, otherwise, each}
+use Rattle.st_elab_rules_typed.specs.RuleNames.{PremKeepsNames, condition as kept_condition, goal as kept_goal, otherwise as kept_otherwise, each as kept_each}
 use Rattle.st_elab_names.specs.Sources.{otherwise_node, otherwise_prem, is_otherwise, repeats_otherwise, RepeatsNoOtherwise}
-use Rattle.st_elab_names.specs.inner.Notes.{Notes, all_of, iterated as iterated_notes, noted, prem_noted, prem_noted_at}
-use Rattle.st_elab_names.specs.inner.Notes.{occurs as occurring}
+use Rattle.st_elab_names.specs.inner.Notes.{Notes, all_of, iterated as iterated_notes, noted, prem_noted, prem_noted_at, occurs as occurring}
 use Rattle.st_elab_names.specs.inner.Named.{Names, AllName}
 use Rattle.st_elab_names.proofs.Members.{Has}
 use Rattle.st_elab_names.proofs.AreListed.{Rises}

@@ -13,7 +13,7 @@ use Rattle.st_type_table.specs.Meaning.{body_of}
 use Rattle.st_ilcheck.specs.Declarations.{IsTag, Cited}
 use Rattle.st_elab_table.specs.declared.decls.Decls.{Decls}
 use Rattle.st_elab_table.specs.Inferred.{fun_named}
-use Rattle.st_elab_exp.specs.Judgements.{relation_named}
+use Rattle.st_elab_table.specs.Judgements.{relation_named}
 
 -- the name is that of a declared syntax
 abbrev pub IsSyntax : Decls → List ℕ → Type 0

@@ -37,16 +37,15 @@ use Rattle.st_elab_table.specs.Questions.{Question, Made, Gives, Step}
 use Rattle.st_elab_table.specs.Steps.{made, give, asked}
 use Rattle.st_elab_table.specs.Elaboration.{ends, Reached}
 use Rattle.st_elab_table.proofs.Keeps.{Leads-keeps}
-use Rattle.st_elab_rows.specs.Parts.{Asked}
-use Rattle.st_elab_exp.specs.Judgements.{relation_named, case_of, judgement_questions, Judged}
-use Rattle.st_elab_exp.specs.Premises.{ElabPrem, ElabPrems}
+use Rattle.st_elab_table.specs.Parts.{Asked}
+use Rattle.st_elab_table.specs.Judgements.{relation_named, case_of, judgement_questions, Judged}
+use Rattle.st_elab_table.specs.Premises.{ElabPrem, ElabPrems}
 use Rattle.st_ilcheck.specs.Naming.{each_kept}
 use Rattle.st_ilcheck.specs.Parts.{standing}
 use Rattle.st_ilcheck.specs.Premises.{IsJudgementOf, PremBreaks, PremsBreak}
 use Rattle.st_ilcheck.specs.Rules.{AllAre}
 use Rattle.st_ilcheck.specs.Typings.{HaveTypings, none}
-use Rattle.st_ilcheck.specs.Variables.{occurrences_in, prem_occurrences, IsListed}
-use Rattle.st_ilcheck.specs.Variables.{inside as inside_of}
+use Rattle.st_ilcheck.specs.Variables.{occurrences_in, prem_occurrences, IsListed, inside as inside_of}
 use Rattle.st_elab_typed.specs.KeepsNames.{KeepsNames, AllKeepNames}
 use Rattle.st_elab_typed.specs.inner.IsPlaced.{ArePlaced}
 use Rattle.st_elab_typed.specs.Law.{AreListedAs}

@@ -24,14 +24,13 @@ use Rattle.st_elab_table.specs.declared.decls.Decls.{Decls}
 use Rattle.st_elab_table.specs.Inferred.{fun_named}
 use Rattle.st_elab_table.specs.Steps.{made, asked}
 use Rattle.st_elab_table.specs.Elaboration.{around}
-use Rattle.st_elab_exp.specs.Judgements.{relation_named}
-use Rattle.st_elab_exp.specs.Rules.{ElabRule}
-use Rattle.st_elab_exp.specs.Clauses.{ClauseParts, argument_questions, ElabClause}
+use Rattle.st_elab_table.specs.Judgements.{relation_named}
+use Rattle.st_elab_table.specs.Rules.{ElabRule}
+use Rattle.st_elab_table.specs.Clauses.{ClauseParts, argument_questions, ElabClause}
 use Rattle.st_ilcheck.specs.Definitions.{RuleBreaks, ClauseBreaks}
 use Rattle.st_ilcheck.specs.Parts.{standing}
 use Rattle.st_ilcheck.specs.Variables.{occurrences_in, prem_occurrences, IsListed}
-use Rattle.st_elab_typed.specs.inner.IsPlaced.{IsPlaced, ArePlaced}
-use Rattle.st_elab_typed.specs.inner.IsPlaced.{none as unplaced, more as place_more}
+use Rattle.st_elab_typed.specs.inner.IsPlaced.{IsPlaced, ArePlaced, none as unplaced, more as place_more}
 use Rattle.st_elab_typed.proofs.Claims.{decls_of}
 use Rattle.st_elab_typed.proofs.EachHas.{EachHas, found_all, each_typed, Are-found}
 use Rattle.st_elab_typed.proofs.IsPlacedLemmas.{ArePlaced-first}

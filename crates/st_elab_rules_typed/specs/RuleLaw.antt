@@ -11,9 +11,9 @@ use Rattle.st_type_table.specs.Breach.{IsSound}
 use Rattle.st_semantics.specs.Definitions.{relations}
 use Rattle.st_elab_table.specs.declared.decls.Decls.{Decls}
 use Rattle.st_elab_table.specs.Inferred.{fun_named}
-use Rattle.st_elab_exp.specs.Judgements.{relation_named}
-use Rattle.st_elab_exp.specs.Rules.{ElabRule}
-use Rattle.st_elab_exp.specs.Clauses.{ClauseParts, ElabClause}
+use Rattle.st_elab_table.specs.Judgements.{relation_named}
+use Rattle.st_elab_table.specs.Rules.{ElabRule}
+use Rattle.st_elab_table.specs.Clauses.{ClauseParts, ElabClause}
 use Rattle.st_ilcheck.specs.Definitions.{RuleBreaks, ClauseBreaks}
 use Rattle.st_elab_typed.specs.Law.{IsDeclaredIn}
 use Rattle.st_elab_rules_typed.specs.RuleNames.{RuleKeepsNames, ClauseKeepsNames}

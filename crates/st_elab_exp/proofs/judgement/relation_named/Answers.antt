@@ -1,7 +1,7 @@
 use Rattle.std.proofs.Common.{◌≡◌, refl, ap, ◌∙◌, List, [], ◌∷◌, find, ℕ, if◌then◌else◌, Some}
 use Rattle.st_num.specs.Names.{same_name}
 use Rattle.st_il.specs.declared.definition.RelationDef.{RelationDef}
-use Rattle.st_elab_exp.specs.Judgements.{relation_named}
+use Rattle.st_elab_table.specs.Judgements.{relation_named}
 use Rattle.st_elab_exp.proofs.judgement.relation_named.Goals as goal
 
 relation_named-found : (q : List ℕ) (Rs : List RelationDef) → find (λ (R : RelationDef). same_name q R.name) Rs ≡ relation_named Rs q

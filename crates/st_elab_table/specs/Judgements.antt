@@ -1,5 +1,5 @@
 -- Judgements: an expression in the notation of a relation.
-use Rattle.std.specs.Prelude.{ℕ, List, [], ◌∷◌, if◌then◌else◌, Option, Some, None}
+use Rattle.std.specs.Prelude.{◌≡◌, ℕ, List, [], ◌∷◌, if◌then◌else◌, Option, Some, None}
 use Rattle.st_num.specs.declared.span.Span.{Span}
 use Rattle.st_num.specs.declared.rule.RuleId.{RuleId}
 use Rattle.st_num.specs.declared.rule.RuleId.TheVariants.{Y2}
@@ -16,7 +16,7 @@ use Rattle.st_elab_table.specs.Forms.{place}
 use Rattle.st_elab_table.specs.Questions.{Question, Breach}
 use Rattle.st_elab_table.specs.Steps.{exp_of, holes}
 use Rattle.st_elab_table.specs.Choice.{FillsCase}
-use Rattle.st_elab_rows.specs.Parts.{AskedAs, Breaks}
+use Rattle.st_elab_table.specs.Parts.{AskedAs, Breaks}
 
 -- this rule is broken at this place
 abbrev pub broken : Span → RuleId → Breach
@@ -26,6 +26,10 @@ broken at rule = record { at = at; rule = rule }
 abbrev pub relation_named : List RelationDef → List ℕ → Option RelationDef
 relation_named [] name = None
 relation_named (R ∷ Rs) name = if same_name name R.name then Some R else relation_named Rs name
+
+-- the relation is the declared one of its name
+abbrev pub IsRelationOf : Decls → RelationDef → Type 0
+IsRelationOf D R = relation_named D.relations R.name ≡ Some R
 
 -- A relation as a case: its notation is fitted as that of one.
 abbrev pub case_of : RelationDef → CaseDef

@@ -14,11 +14,11 @@ use Rattle.st_elab_table.specs.declared.decls.Scope.{Scope}
 use Rattle.st_elab_table.specs.Questions.{Question, Breach}
 use Rattle.st_elab_table.specs.Steps.{each_asked, exp_of}
 use Rattle.st_elab_table.specs.Elaboration.{around}
-use Rattle.st_elab_rows.specs.Parts.{AskedAs, Breaks}
-use Rattle.st_elab_exp.specs.Inside.{ElabInside, InsideBreach}
-use Rattle.st_elab_exp.specs.Judgements.{broken}
-use Rattle.st_elab_exp.specs.Premises.{ElabPrems, PremsBreach}
-use Rattle.st_elab_exp.specs.Variables.{IsScope, VariableBreach, listed}
+use Rattle.st_elab_table.specs.Parts.{AskedAs, Breaks}
+use Rattle.st_elab_table.specs.Inside.{ElabInside, InsideBreach}
+use Rattle.st_elab_table.specs.Judgements.{broken}
+use Rattle.st_elab_table.specs.Premises.{ElabPrems, PremsBreach}
+use Rattle.st_elab_table.specs.Scopes.{IsScope, VariableBreach, listed}
 
 -- the parts of a clause
 pub record ClauseParts : Type 0 where

@@ -22,8 +22,8 @@ use Rattle.st_dims.specs.Around.{inside}
 use Rattle.st_elab_table.specs.Iterations.{iterated}
 use Rattle.st_elab_table.specs.Collections.{counted_at}
 use Rattle.st_elab_table.specs.Elaboration.{Reached, Stopped}
-use Rattle.st_elab_exp.specs.Inside.{ElabInside, InsideBreach}
-use Rattle.st_elab_exp.specs.Judgements.{broken, relation_named, Judged, JudgedBreach}
+use Rattle.st_elab_table.specs.Inside.{ElabInside, InsideBreach}
+use Rattle.st_elab_table.specs.Judgements.{broken, relation_named, Judged, JudgedBreach}
 
 -- where a premise stands
 abbrev pub place_of : Prem → Span

@@ -1,11 +1,9 @@
--- Several questions, as the code asks them one after another.
-use Rattle.std.specs.Prelude.{◌≡◌, ◌⊎◌, List, [], ◌∷◌, map, Result}
+-- Several questions, as they are asked one after another.
+use Rattle.std.specs.Prelude.{◌≡◌, ◌⊎◌, List, [], ◌∷◌, map}
 use Rattle.st_elab_table.specs.declared.decls.Decls.{Decls}
 use Rattle.st_elab_table.specs.declared.decls.Scope.{Scope}
-use Rattle.st_num.specs.declared.fault.Fault.{Fault as ExpFault}
 use Rattle.st_elab_table.specs.Questions.{Question, Made, Breach, Gives, Fails}
 use Rattle.st_elab_table.specs.Elaboration.{Answered}
-use Rattle.st_elab_rows.specs.Told.{Told}
 
 -- these are the answers to the questions, in order
 abbrev pub Asked : Decls → Scope → List Question → List Made → Type 0
@@ -26,8 +24,3 @@ pub record AskedAs (D : Decls) (S : Scope) (qs : List Question) (A : Type 0) (pa
   pub mades : List Made
   pub asked : Asked D S qs mades
   pub parts : map part mades ≡ xs
-
--- the result is the parts of all answers, or the first breach
-abbrev pub TellsAll : Decls → Scope → List Question → {A : Type 0} → (Made → A)
-    → Result (List A) ExpFault → Type 0
-TellsAll D S qs {A} part r = Told (λ xs. AskedAs D S qs A part xs) (λ b. Breaks D S qs b) r

@@ -10,9 +10,9 @@ use Rattle.st_elab_table.specs.declared.decls.Decls.{Decls}
 use Rattle.st_elab_table.specs.declared.decls.Scope.{Scope}
 use Rattle.st_elab_table.specs.Questions.{Breach}
 use Rattle.st_elab_table.specs.Elaboration.{around}
-use Rattle.st_elab_exp.specs.Judgements.{Judged, JudgedBreach}
-use Rattle.st_elab_exp.specs.Premises.{ElabPrems, PremsBreach}
-use Rattle.st_elab_exp.specs.Variables.{IsScope, VariableBreach, listed}
+use Rattle.st_elab_table.specs.Judgements.{Judged, JudgedBreach}
+use Rattle.st_elab_table.specs.Premises.{ElabPrems, PremsBreach}
+use Rattle.st_elab_table.specs.Scopes.{IsScope, VariableBreach, listed}
 
 -- The scope of a rule with this conclusion and these premises.
 abbrev pub IsRuleScope : Decls → Exp → List Prem → Scope → Type 0

@@ -15,7 +15,7 @@ use Rattle.st_elab_table.specs.declared.decls.Scope.{Scope}
 use Rattle.st_elab_table.specs.Questions.{Breach}
 use Rattle.st_elab_table.specs.Iterations.{Variable}
 use Rattle.st_elab_table.specs.Variables.{type_of_name}
-use Rattle.st_elab_exp.specs.Judgements.{broken}
+use Rattle.st_elab_table.specs.Judgements.{broken}
 
 -- there is no type
 abbrev pub is_none : Option Ty → Bool
