@@ -4,8 +4,6 @@
 pub mod Exactly
 -- a rule or a clause is erased to what it came from
 pub mod Erasing
--- a rule or a clause has the variables of what it came from
-pub mod Occurrences
 -- there is one outcome and no other
 pub mod Single
 -- ---- what only proofs need

@@ -23,11 +23,8 @@ use Rattle.st_ilcheck.specs.Variables.{Occurrence, deeper, inside, occurrences, 
 use Rattle.st_elab_typed.specs.KeepsNames.{KeepsNames, AllKeepNames, keeps, more}
 use Rattle.st_elab_typed.specs.inner.IsPlaced.{IsReached, IsPlaced, ArePlaced, placed}
 use Rattle.st_elab_typed.specs.inner.IsPlaced.{none as unplaced, more as place_more}
-use Rattle.st_elab_typed.proofs.Occurring.{Each-append, Each-split, occurrences-Var, occurrences-plain, occurrences-Iter, in_some, or-left, or-right, occurs-plain, occurs-Var, occurs-count, occurs-body, IsPlain}
-
-pub Each-weaken : {X : Type 0} (P Q : X → Type 0) (xs : List X) → ((x : X) → P x → Q x) → AllByRecursion P xs → AllByRecursion Q xs
-Each-weaken P Q [] goes h = tt
-Each-weaken P Q (x ∷ xs) goes h = (goes x h.0, Each-weaken P Q xs goes h.1)
+use Rattle.st_elab_typed.proofs.Members.{Each-append, Each-split}
+use Rattle.st_elab_typed.proofs.Occurring.{occurrences-Var, occurrences-plain, occurrences-Iter, in_some, or-left, or-right, occurs-plain, occurs-Var, occurs-count, occurs-body, IsPlain}
 
 same_itself : (name : Name) → same_name name name ≡ true
 same_itself name = (bytes_eq-Decides name name).1 refl
