@@ -20,9 +20,9 @@ use Rattle.st_elab_table.specs.Iterations.{iterated_type}
 use Rattle.st_elab_table.specs.Inferred.{fun_named, variable_type, variable_row, inferred_at}
 use Rattle.st_elab_table.specs.Checked.{sequence_at, form_row, plain_row, tuple_at, checked_row}
 use Rattle.st_elab_table.specs.Collections.{is_run, sequence}
-use Rattle.st_elab_table.specs.Questions.{Manner, Question, check, infer, item, hole, Made, Step, Gives}
-use Rattle.st_elab_table.specs.Elaboration.{row, Answered, Leads}
-use Rattle.st_elab_table.proofs.Keeps.{Keeps, Answered-keeps, Leads-keeps}
+use Rattle.st_elab_table.specs.Questions.{Manner, Question, check, infer, item, hole, Made, Gives}
+use Rattle.st_elab_table.specs.Elaboration.{row, Answered}
+use Rattle.st_elab_table.proofs.Keeps.{Keeps, Answered-keeps}
 use Rattle.st_elab_law.specs.Notes.{written, asked_written}
 use Rattle.st_elab_law.specs.Noted.{noted}
 use Rattle.st_elab_law.proofs.Keeping.{keeps_if}
@@ -97,7 +97,7 @@ module _ (D : Decls) (S : Scope) where
 
   -- ---- all rows
 
-  row_occurs : (q : Question) → Keeps D Noted (Noted q) (row D S q)
+  pub row_occurs : (q : Question) → Keeps D Noted (Noted q) (row D S q)
   row_occurs (check w at p e t) = checked_occurs w at p e t (opened e) refl
   row_occurs (infer w at e) = keeps_if D Noted (Notes_as (written e)) (inferable e) _ _ (λ _. inferred_occurs w at e (opened e) refl) (λ _. tt)
   row_occurs (item w t x e) = item_occurs D w t x e
@@ -106,7 +106,3 @@ module _ (D : Decls) (S : Scope) where
   -- what answers a question has the notes of its source
   pub Answered-notes : (q : Question) (m : Made) → Answered D S q (Gives m) → noted m.exp ≡ asked_written q
   Answered-notes q m h = Answered-keeps D S Noted row_occurs q (Gives m) h
-
-  -- what steps keep holds of what they give
-  pub Leads-notes : (Q : Made → Type 0) (s : Step) (m : Made) → Leads D S s (Gives m) → Keeps D Noted Q s → Q m
-  Leads-notes Q s m h kept = Leads-keeps D S Noted row_occurs Q s (Gives m) h kept

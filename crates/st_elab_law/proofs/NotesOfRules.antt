@@ -1,5 +1,5 @@
 -- Rules and clauses have the notes of what they came from.
-use Rattle.std.proofs.Common.{◌≡◌, refl, sym, ◌∙◌, ap, subst, ℕ, List, [], ◌∷◌, ◌++◌, map, length, true}
+use Rattle.std.proofs.Common.{◌≡◌, refl, sym, ◌∙◌, ap, ℕ, List, [], ◌∷◌, ◌++◌, map, length}
 use Rattle.std.proofs.lemmas.List.{map-append, append-nil}
 use Rattle.st_num.specs.declared.span.Span.{Span}
 use Rattle.st_el.specs.declared.expression.Exp.{Exp}
@@ -13,15 +13,11 @@ use Rattle.st_il.specs.declared.definition.ClauseDef.{ClauseDef}
 use Rattle.st_il.specs.declared.definition.FunDef.{FunDef}
 use Rattle.st_il.specs.declared.definition.RelationDef.{RelationDef}
 use Rattle.st_il.specs.declared.definition.RuleDef.{RuleDef}
-use Rattle.st_il.specs.declared.expression.IlExp.{IlExp, out-IlExp}
-use Rattle.st_il.specs.declared.expression.IlExp.TheOpen.{IlExp-F}
-use Rattle.st_il.specs.declared.expression.IlExp.TheVariants as il_exp
+use Rattle.st_il.specs.declared.expression.IlExp.{IlExp}
 use Rattle.st_il.specs.declared.expression.IlPrem.{IlPrem, out-IlPrem, map-IlPrem, fold_out-IlPrem}
 use Rattle.st_il.specs.declared.expression.IlPrem.TheOpen.{IlPrem-F}
 use Rattle.st_il.specs.declared.expression.IlPrem.TheVariants as premise
 use Rattle.st_il.specs.declared.expression.Iteration.{Iteration}
-use Rattle.st_il.specs.declared.expression.ListItem.{ListItem}
-use Rattle.st_il.specs.declared.expression.PathSeg.{PathSeg}
 use Rattle.st_il.specs.Occurrences.{occurs_in_prem}
 use Rattle.st_dims.specs.declared.within.Within.{Within}
 use Rattle.st_dims.specs.Around.{inside, outside}
@@ -31,17 +27,17 @@ use Rattle.st_elab_table.specs.declared.decls.Scope.{Scope}
 use Rattle.st_elab_table.specs.Forms.{place}
 use Rattle.st_elab_table.specs.Collections.{counted_at}
 use Rattle.st_elab_table.specs.Iterations.{iterated as iterated_names}
-use Rattle.st_elab_table.specs.Questions.{Question, Made, Gives, Step}
-use Rattle.st_elab_table.specs.Steps.{made, give, asked, each_asked, exps}
-use Rattle.st_elab_table.specs.Elaboration.{Leads, ends, Reached, around}
-use Rattle.st_elab_table.proofs.Keeps.{Keeps}
+use Rattle.st_elab_table.specs.Questions.{Question, Made}
+use Rattle.st_elab_table.specs.Steps.{made, asked, each_asked, exps}
+use Rattle.st_elab_table.specs.Elaboration.{Reached, around}
+use Rattle.st_elab_table.proofs.Keeps.{Reached-keeps}
 use Rattle.st_elab_law.specs.Notes.{Notes, beside, all_of, mentioned, written}
 use Rattle.st_elab_law.specs.Noted.{iterated, noted, round_of, prem_noted_at, prem_noted, all_noted}
-use Rattle.st_elab_law.proofs.Claims.{Claims}
+use Rattle.st_elab_law.proofs.Claims.{Claims, claims_of}
 use Rattle.st_elab_law.proofs.NotesOfSources.{mentioned-append, read, round_written, iterated-read}
 use Rattle.st_elab_law.proofs.NotesOfOperators.{Noted}
 use Rattle.st_elab_law.proofs.NotesOfParts.{counted_occurs, fills_occur}
-use Rattle.st_elab_law.proofs.NotesOfRows.{Answered-notes, Leads-notes}
+use Rattle.st_elab_law.proofs.NotesOfRows.{row_occurs, Answered-notes}
 use Rattle.st_elab_table.specs.Parts.{Asked}
 use Rattle.st_elab_table.specs.Inside.{ElabInside}
 use Rattle.st_elab_table.specs.Judgements.{case_of, judgement_questions, Judged}
@@ -79,10 +75,7 @@ module _ (D : Decls) where
     -- ---- parts
 
     all_occur : (qs : List Question) (ms : List Made) → Asked D S qs ms → Claims Noted qs ms
-    all_occur [] [] h = tt
-    all_occur [] (m ∷ ms) h = absurd h
-    all_occur (q ∷ qs) [] h = absurd h
-    all_occur (q ∷ qs) (m ∷ ms) h = (Answered-notes D S q m h.0, all_occur qs ms h.1)
+    all_occur qs ms h = claims_of D S Noted (λ q m k. Answered-notes D S q m k) qs ms h
 
     inside_occurs : (w : Within) (e : Exp) (t : Ty) (x : IlExp) → ElabInside D S w e t x → noted x ≡ written e
     inside_occurs w e t x h = Answered-notes D S (asked w e t) (made x t) h
@@ -103,27 +96,9 @@ module _ (D : Decls) where
 
     -- ---- counts
 
-    -- an expression that shows how often an iteration goes
-    abbrev shown : Iteration → Step
-    shown k = give (il_exp.Iter k [] (il_exp.Bool true)) ty.Bool
-
-    abbrev CountsAt : Count → IlExp-F IlExp Iteration ListItem PathSeg → Type 0
-    CountsAt c (IlExp-F.Iter k names x) = round_of k ≡ round_written c
-    CountsAt c y = Unit {0}
-
-    abbrev Counts : Count → Made → Type 0
-    Counts c m = CountsAt c (out-IlExp m.exp)
-
-    shown_leads : (k : Iteration) → Leads D S (shown k) (Gives (made (il_exp.Iter k [] (il_exp.Bool true)) ty.Bool))
-    shown_leads k = ends
-
     counted_alike : (w : Within) (c : Count) (k : Iteration) → Reached D S (counted_at w (out-Count c)) k → round_of k ≡ round_written c
     counted_alike w c k h =
-        let kept : Keeps D Noted (Counts c) (counted_at w (out-Count c) shown) =
-        counted_occurs D (Counts c) w c (out-Count c) shown refl (λ l g. subst (CountsAt c) (sym (il_exp.outs-Iter l [] (il_exp.Bool true))) g) in
-        let counted : Counts c (made (il_exp.Iter k [] (il_exp.Bool true)) ty.Bool) =
-        Leads-notes D S (Counts c) (counted_at w (out-Count c) shown) (made (il_exp.Iter k [] (il_exp.Bool true)) ty.Bool) (h shown _ (shown_leads k)) kept in
-        subst (CountsAt c) (il_exp.outs-Iter k [] (il_exp.Bool true)) counted
+        Reached-keeps D S Noted (λ q. row_occurs D S q) (λ l. round_of l ≡ round_written c) (counted_at w (out-Count c)) (λ Q next g. counted_occurs D Q w c (out-Count c) next refl g) k h
 
     -- ---- premises
 

@@ -57,8 +57,8 @@ use Rattle.st_elab_table.specs.Steps.{made, breach, give, asked, found, each_ask
 use Rattle.st_elab_table.specs.Operands.{numeric, compared, equation_row, membership_row, both_numeric, power_row, negation_row, concatenated, binary_row}
 use Rattle.st_elab_table.specs.Paths.{length_row, position_row, slice_row, declared_field, field_by, as_field, field_row, step_row, along, update_row, extension_row}
 use Rattle.st_elab_table.specs.Records.{aligned, field_names, field_types, filled_fields, record_by, record_row, passed_on, variant_row, notation_row}
-use Rattle.st_elab_table.specs.Elaboration.{row, Answered, Leads}
-use Rattle.st_elab_table.proofs.Keeps.{Keeps, Answered-keeps, Leads-keeps}
+use Rattle.st_elab_table.specs.Elaboration.{row, Answered}
+use Rattle.st_elab_table.proofs.Keeps.{Keeps, Answered-keeps}
 use Rattle.st_elab_law.proofs.Claims.{Claims}
 use Rattle.st_elab_law.proofs.Keeping.{keeps_if, keeps_asks, keeps_number, keeps_shaped}
 use Rattle.st_elab_typed.specs.inner.Named.{IsNoIteration}
@@ -576,7 +576,7 @@ module _ (D : Decls) (S : Scope) (known : AreKnown D) (scope : ScopeKnown D S) w
       weaker (Opens t next) h = λ u m. weaker (next u) (λ p. h p u m)
       weaker (Fills t e next unfit) h = ((λ c k. weaker (next c) (λ p. (h p).0 c k)), (λ k. weaker unfit (λ p. (h p).1 k)))
 
-  row_cites : (q : Question) → Keeps D Claim (Claim q) (row D S q)
+  pub row_cites : (q : Question) → Keeps D Claim (Claim q) (row D S q)
   row_cites (check w at p e t) = keeps_asked (IsKnown D t) (checked_row D S w at p e t (opened e)) (λ o. checked_cites w at p e t (opened e) o)
   row_cites (infer w at e) = keeps_asked (Unit {0}) (row D S (infer w at e)) (λ _. keeps_if D Claim (IsCited D) (inferable e) _ _ (λ _. inferred_cites w at (opened e)) (λ _. tt))
   row_cites (item w t x e) = keeps_asked (IsKnown D t × IsKnown D x) (table.item_row w t x e) (λ o. item_row_cites w t x e o.0 o.1)
@@ -585,7 +585,3 @@ module _ (D : Decls) (S : Scope) (known : AreKnown D) (scope : ScopeKnown D S) w
   -- what answers a question cites what is declared
   pub Answered-cites : (q : Question) (m : Made) → Answered D S q (Gives m) → AskedKnown D q → IsCited D m
   Answered-cites q m h = Answered-keeps D S Claim row_cites q (Gives m) h
-
-  -- what steps keep holds of what they give
-  pub Leads-cites : (P : Made → Type 0) (s : Step) (m : Made) → Leads D S s (Gives m) → Keeps D Claim P s → P m
-  Leads-cites P s m h kept = Leads-keeps D S Claim row_cites P s (Gives m) h kept

@@ -18,13 +18,10 @@ use Rattle.st_il.specs.declared.ty.Ty.{Ty}
 use Rattle.st_il.specs.declared.ty.Ty.TheVariants as ty
 use Rattle.st_il.specs.declared.expression.IlExp.{IlExp, out-IlExp}
 use Rattle.st_il.specs.declared.expression.IlExp.TheOpen.{IlExp-F}
-use Rattle.st_il.specs.declared.expression.IlExp.TheVariants as il_exp
 use Rattle.st_il.specs.declared.expression.IlPrem.{IlPrem, out-IlPrem, map-IlPrem, fold_out-IlPrem}
 use Rattle.st_il.specs.declared.expression.IlPrem.TheOpen.{IlPrem-F}
 use Rattle.st_il.specs.declared.expression.IlPrem.TheVariants as premise
 use Rattle.st_il.specs.declared.expression.Iteration.{Iteration, out-Iteration}
-use Rattle.st_il.specs.declared.expression.ListItem.{ListItem}
-use Rattle.st_il.specs.declared.expression.PathSeg.{PathSeg}
 use Rattle.st_il.specs.Occurrences.{occurs_in_prem}
 use Rattle.st_type_table.specs.Leads.{names_in}
 use Rattle.st_dims.specs.declared.within.Within.{Within}
@@ -37,15 +34,15 @@ use Rattle.st_ilcheck.specs.Declarations.{Tagged, IsTag, tags, tags_at, tags_in,
 use Rattle.st_ilcheck.specs.inner.Contents.{own_at}
 use Rattle.st_elab_table.specs.declared.decls.Decls.{Decls}
 use Rattle.st_elab_table.specs.declared.decls.Scope.{Scope}
-use Rattle.st_elab_table.specs.Elaboration.{around, Leads, ends, Reached}
+use Rattle.st_elab_table.specs.Elaboration.{around, Reached}
 use Rattle.st_elab_table.specs.Collections.{counted_at as table_counted_at}
 use Rattle.st_elab_table.specs.Forms.{place}
 use Rattle.st_elab_table.specs.Inferred.{fun_named}
 use Rattle.st_elab_table.specs.Iterations.{Variable, iterated}
-use Rattle.st_elab_table.specs.Questions.{Question, Made, Gives, Step}
-use Rattle.st_elab_table.specs.Steps.{made, give, asked, each_asked}
-use Rattle.st_elab_table.proofs.Keeps.{Keeps}
-use Rattle.st_elab_law.proofs.Claims.{Claims}
+use Rattle.st_elab_table.specs.Questions.{Question, Made}
+use Rattle.st_elab_table.specs.Steps.{made, asked, each_asked}
+use Rattle.st_elab_table.proofs.Keeps.{Reached-keeps}
+use Rattle.st_elab_law.proofs.Claims.{Claims, claims_of}
 use Rattle.st_elab_table.specs.Parts.{Asked}
 use Rattle.st_elab_table.specs.Judgements.{IsRelationOf, relation_named, judgement_questions, Judged}
 use Rattle.st_elab_table.specs.Inside.{ElabInside}
@@ -60,7 +57,7 @@ use Rattle.st_elab_typed.proofs.ExpInduction.{Level}
 use Rattle.st_elab_typed.proofs.Collected.{mapped, of_count, items-are, operands-are, opened, opened-count, counted-are}
 use Rattle.st_elab_typed.proofs.Members.{Each-append}
 use Rattle.st_elab_typed.proofs.KnownTypes.{known-Bool, name_type_known, fun_known}
-use Rattle.st_elab_typed.proofs.CitedRows.{Claim, each_cites, holes_cite, counted_cites, Answered-cites, Leads-cites}
+use Rattle.st_elab_typed.proofs.CitedRows.{Claim, each_cites, holes_cite, counted_cites, row_cites, Answered-cites}
 
 -- ---- what a level cites by itself, and what its operands cite
 
@@ -171,10 +168,7 @@ module _ (D : Decls) where
 
     module _ (S : Scope) (scope : ScopeKnown D S) where
       claims : (qs : List Question) (ms : List Made) → Asked D S qs ms → Claims (Claim D S known scope) qs ms
-      claims [] [] h = tt
-      claims [] (m ∷ ms) h = absurd h
-      claims (q ∷ qs) [] h = absurd h
-      claims (q ∷ qs) (m ∷ ms) h = (Answered-cites D S known scope q m h.0, claims qs ms h.1)
+      claims qs ms h = claims_of D S (Claim D S known scope) (λ q m k. Answered-cites D S known scope q m k) qs ms h
 
       inside_cites : (w : Within) (e : Exp) (t : Ty) (x : IlExp) → IsKnown D t → ElabInside D S w e t x → Cites D x
       inside_cites w e t x o h = (Answered-cites D S known scope (asked w e t) (made x t) h o).0
@@ -184,26 +178,10 @@ module _ (D : Decls) where
           subst (AllCite D) h.filled.parts
           (holes_cite D S known scope w (place e) [] h.fillings R.holes h.filled.mades o (claims (judgement_questions w e h.fillings R) h.filled.mades h.filled.asked))
 
-      abbrev shown : Iteration → Step
-      shown k = give (il_exp.Iter k [] (il_exp.Bool true)) ty.Bool
-
-      abbrev CountAt : IlExp-F IlExp Iteration ListItem PathSeg → Type 0
-      CountAt (IlExp-F.Iter k names x) = AllCite D (count_of k)
-      CountAt y = Unit {0}
-
-      abbrev Counts : Made → Type 0
-      Counts m = CountAt (out-IlExp m.exp)
-
-      shown_leads : (k : Iteration) → Leads D S (shown k) (Gives (made (il_exp.Iter k [] (il_exp.Bool true)) ty.Bool))
-      shown_leads k = ends
-
       counts_cite : (w : Within) (c : Count) (k : Iteration) → Reached D S (table_counted_at w (out-Count c)) k → AllCite D (count_of k)
       counts_cite w c k h =
-          let kept : Keeps D (Claim D S known scope) Counts (table_counted_at w (out-Count c) shown) =
-          counted_cites D S known scope w Counts (out-Count c) shown (λ l counts. subst CountAt (sym (il_exp.outs-Iter l [] (il_exp.Bool true))) counts) in
-          let counted : Counts (made (il_exp.Iter k [] (il_exp.Bool true)) ty.Bool) =
-          Leads-cites D S known scope Counts (table_counted_at w (out-Count c) shown) (made (il_exp.Iter k [] (il_exp.Bool true)) ty.Bool) (h shown _ (shown_leads k)) kept in
-          subst CountAt (il_exp.outs-Iter k [] (il_exp.Bool true)) counted
+          Reached-keeps D S (Claim D S known scope) (λ q. row_cites D S known scope q) (λ l. AllCite D (count_of l)) (table_counted_at w (out-Count c))
+          (λ Q next g. counted_cites D S known scope w Q (out-Count c) next g) k h
 
       -- ---- premises
 

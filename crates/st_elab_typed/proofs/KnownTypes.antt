@@ -44,7 +44,7 @@ looked_up P name (e ∷ es) a h s = by (same_name name e.0) s (looked_up P name 
     by false s rest = rest s
 
 -- the function that is found has the name
-fun_name : (fs : List FunDef) (name : List ℕ) (f : FunDef) → fun_named fs name ≡ Some f → f.name ≡ name
+pub fun_name : (fs : List FunDef) (name : List ℕ) (f : FunDef) → fun_named fs name ≡ Some f → f.name ≡ name
 fun_name [] name f s = let bad : None ≡ Some f = s in cc
 fun_name (g ∷ gs) name f s = by (same_name name g.name) refl s (fun_name gs name f)
   where

@@ -51,8 +51,8 @@ use Rattle.st_elab_table.specs.Steps.{made, breach, give, asked, found, each_ask
 use Rattle.st_elab_table.specs.Operands.{numeric, compared, equation_row, membership_row, both_numeric, power_row, negation_row, concatenated, binary_row}
 use Rattle.st_elab_table.specs.Paths.{length_row, position_row, slice_row, field_row, step_row, along, update_row, extension_row}
 use Rattle.st_elab_table.specs.Records.{aligned, field_names, field_types, filled_fields, record_by, record_row, passed_on, variant_row, notation_row}
-use Rattle.st_elab_table.specs.Elaboration.{row, Answered, Leads}
-use Rattle.st_elab_table.proofs.Keeps.{Keeps, Answered-keeps, Leads-keeps}
+use Rattle.st_elab_table.specs.Elaboration.{row, Answered}
+use Rattle.st_elab_table.proofs.Keeps.{Keeps, Answered-keeps}
 use Rattle.st_elab_law.proofs.Claims.{Claims}
 use Rattle.st_elab_law.proofs.Keeping.{keeps_if, keeps_asks, keeps_list, keeps_number, keeps_larger, keeps_field, keeps_shaped}
 use Rattle.st_elab_typed.specs.inner.Named.{IsNoIteration, Names, by_parts, by_body, AllName, none, more}
@@ -497,7 +497,7 @@ module _ (D : Decls) (S : Scope) where
 
   -- ---- all rows
 
-  row_names : (q : Question) → Keeps D Claim (Claim q) (row D S q)
+  pub row_names : (q : Question) → Keeps D Claim (Claim q) (row D S q)
   row_names (check w at p e t) = checked_names w at p e t (opened e)
   row_names (infer w at e) = keeps_if D Claim (λ (m : Made). Names S w m.exp) (inferable e) _ _ (λ _. inferred_names w at e (opened e)) (λ _. tt)
   row_names (item w t x e) = item_row_names w t x e
@@ -506,7 +506,3 @@ module _ (D : Decls) (S : Scope) where
   -- what answers a question names in each iteration what it iterates
   pub Answered-names : (q : Question) (m : Made) → Answered D S q (Gives m) → Names S (around_of q) m.exp
   Answered-names q m h = Answered-keeps D S Claim row_names q (Gives m) h
-
-  -- what steps keep holds of what they give
-  pub Leads-names : (P : Made → Type 0) (s : Step) (m : Made) → Leads D S s (Gives m) → Keeps D Claim P s → P m
-  Leads-names P s m h kept = Leads-keeps D S Claim row_names P s (Gives m) h kept

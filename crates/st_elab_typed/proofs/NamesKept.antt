@@ -1,5 +1,5 @@
 -- The iterations of an elaborated expression name exactly what they go over.
-use Rattle.std.proofs.Common.{◌≡◌, inl, inr, refl, sym, ap, ◌∙◌, subst, ℕ, zero, suc, ◌<◌, ◌≤◌, List, [], ◌∷◌, ◌++◌, map, filter, length, drop, Bool, true, false, not, ◌&&◌, ◌||◌, cond, nat_lt, Some, None, arith}
+use Rattle.std.proofs.Common.{◌≡◌, inl, inr, refl, sym, ap, ◌∙◌, subst, ℕ, zero, suc, ◌<◌, ◌≤◌, List, [], ◌∷◌, ◌++◌, map, filter, length, drop, Bool, true, false, not, ◌&&◌, ◌||◌, cond, nat_lt, Some, arith}
 use Rattle.std.specs.Prelude.{if◌then◌else◌, IsTrue, bytes_eq}
 use Rattle.std.specs.List.{list_all}
 use Rattle.std.specs.List.Sorted.{IsStrictlySortedBy}
@@ -32,30 +32,19 @@ use Rattle.st_elab_typed.specs.KeepsNames.{KeepsNames, keeps, AllKeepNames, none
 use Rattle.st_elab_law.specs.Notes.{Note, indexes, iterates, Notes, all_of, names_of, occurs as occurring}
 use Rattle.st_elab_law.specs.Noted.{iteration_note, iterated, must_at, noted}
 use Rattle.st_elab_typed.specs.inner.Named.{IsNoIteration, Names, by_parts, by_body, AllName, none as no_names, more as more_names}
-use Rattle.st_elab_typed.proofs.Members.{Has, Has-left, Has-right, Has-map, Has-from_map, Has-filter, Has-from_filter, not_true, same_path, path_same, any_from_Has, none_from_Has}
+use Rattle.st_elab_typed.proofs.Members.{Has, Has-left, Has-right, Has-map, Has-from_map, Has-filter, Has-from_filter, not_true, path_same, any_from_Has, none_from_Has}
 use Rattle.st_elab_typed.proofs.AreListed.{Rises, other_name, dimension_of}
 use Rattle.st_elab_typed.proofs.OccurrencesSeen.{outside_both}
 use Rattle.st_elab_typed.proofs.NotedParts.{noted-level, noted-parts, noted-Iter}
 use Rattle.st_elab_typed.proofs.Occurring.{operand-occurs, occurs-body, occurs-count, in_member}
 use Rattle.st_elab_typed.proofs.OccursNoted.{occurs-noted}
+use Rattle.st_elab_typed.proofs.Placing.{stepped_listed, other_listed, listed_name, and-left, and-right}
 
 -- ---- tests
 
-and_left : (a b : Bool) → (a && b) ≡ true → a ≡ true
-and_left true b h = refl
-and_left false b h = h
-
-and_right : (a b : Bool) → (a && b) ≡ true → b ≡ true
-and_right true b h = h
-and_right false b h = absurd (true≢false (sym h))
-
-and_both : (a b : Bool) → a ≡ true → b ≡ true → (a && b) ≡ true
+pub and_both : (a b : Bool) → a ≡ true → b ≡ true → (a && b) ≡ true
 and_both true b h k = k
 and_both false b h k = absurd (true≢false (sym h))
-
-not_false : (b : Bool) → not b ≡ true → b ≡ false
-not_false true h = absurd (true≢false (sym h))
-not_false false h = refl
 
 either : (a b : Bool) → (a ≡ true → b ≡ true) → (not a || b) ≡ true
 either true b h = h refl
@@ -98,37 +87,6 @@ not_below : (a b : ℕ) → nat_lt a b ≡ false → b ≤ a
 not_below a b h = grind (arith, h)
 
 -- ---- variables as they are listed
-
-named_so : (n : List ℕ) (ls : List Listed) (l : Listed) → listed_as n ls ≡ Some l → l.name ≡ n
-named_so n [] l h = let bad : None ≡ Some l = h in cc
-named_so n (m ∷ ls) l h = by (bytes_eq n m.name) refl (named_so n ls l)
-  where
-    by : (b : Bool) → bytes_eq n m.name ≡ b → (listed_as n ls ≡ Some l → l.name ≡ n) → l.name ≡ n
-    by true s rest =
-        let e : Some m ≡ Some l = ap (λ b. if b then Some m else listed_as n ls) (sym s) ∙ h in
-        let same : m ≡ l = cc in
-        ap (λ (z : Listed). z.name) (sym same) ∙ sym (same_path n m.name s)
-    by false s rest = rest (ap (λ b. if b then Some m else listed_as n ls) (sym s) ∙ h)
-
-stepped_so : (xs : List (List ℕ)) (n : List ℕ) (ls : List Listed) (l : Listed) → listed_as n ls ≡ Some l → listed_as n (stepped_all xs ls) ≡ Some (stepped xs l)
-stepped_so xs n [] l h = let bad : None ≡ Some l = h in cc
-stepped_so xs n (m ∷ ls) l h = by (bytes_eq n m.name) refl (stepped_so xs n ls l)
-  where
-    by : (b : Bool) → bytes_eq n m.name ≡ b → (listed_as n ls ≡ Some l → listed_as n (stepped_all xs ls) ≡ Some (stepped xs l)) → listed_as n (stepped_all xs (m ∷ ls)) ≡ Some (stepped xs l)
-    by true s rest =
-        let e : Some m ≡ Some l = ap (λ b. if b then Some m else listed_as n ls) (sym s) ∙ h in
-        let same : m ≡ l = cc in
-        ap (λ b. if b then Some (stepped xs m) else listed_as n (stepped_all xs ls)) s ∙ ap (λ z. Some (stepped xs z)) same
-    by false s rest =
-        ap (λ b. if b then Some (stepped xs m) else listed_as n (stepped_all xs ls)) s ∙ rest (ap (λ b. if b then Some m else listed_as n ls) (sym s) ∙ h)
-
-behind_index : (is : List (List ℕ)) (n : List ℕ) (ls : List Listed) → has_name is n ≡ false → listed_as n (indices is ++ ls) ≡ listed_as n ls
-behind_index [] n ls h = refl
-behind_index (i ∷ is) n ls h = by (bytes_eq n i) refl h (behind_index is n ls)
-  where
-    by : (b : Bool) → bytes_eq n i ≡ b → (b || has_name is n) ≡ false → (has_name is n ≡ false → listed_as n (indices is ++ ls) ≡ listed_as n ls) → listed_as n (indices (i ∷ is) ++ ls) ≡ listed_as n ls
-    by true s k rest = absurd (true≢false k)
-    by false s k rest = ap (λ b. if b then Some (record { name = i; ty = ty.Nat; dim = [] }) else listed_as n (indices is ++ ls)) s ∙ rest k
 
 -- a dimension that is left behind an index is left without it
 index_dims : (is : List (List ℕ)) (n : List ℕ) (ls : List Listed) → has_dimension (listed_as n (indices is ++ ls)) ≡ true → has_dimension (listed_as n ls) ≡ true
@@ -249,13 +207,13 @@ module _ (S : Scope) (rises : Rises S.variables) where
     gone n h =
         let v = Has-from_map (λ (z : Variable). z.0) (filter test S.variables) n (subst (λ z. Has z n) are h) in
         let k = Has-from_filter test S.variables v.0 v.1 in
-        let a = and_left (nat_lt (length w.kinds) (length v.0.2) && not (is_among v.0.0 (w.indices ++ index_of how))) (body v.0.0) k.1 in
+        let a = and-left (nat_lt (length w.kinds) (length v.0.2) && not (is_among v.0.0 (w.indices ++ index_of how))) (body v.0.0) k.1 in
         record {
           variable = v.0;
           member = k.0;
           named = v.2;
-          longer = below (length w.kinds) (length v.0.2) (and_left (nat_lt (length w.kinds) (length v.0.2)) (not (is_among v.0.0 (w.indices ++ index_of how))) a);
-          occurs = and_right (nat_lt (length w.kinds) (length v.0.2) && not (is_among v.0.0 (w.indices ++ index_of how))) (body v.0.0) k.1;
+          longer = below (length w.kinds) (length v.0.2) (and-left (nat_lt (length w.kinds) (length v.0.2)) (not (is_among v.0.0 (w.indices ++ index_of how))) a);
+          occurs = and-right (nat_lt (length w.kinds) (length v.0.2) && not (is_among v.0.0 (w.indices ++ index_of how))) (body v.0.0) k.1;
         }
 
     is_gone : (v : Variable) → Has S.variables v → length w.kinds < length v.2 → body v.0 ≡ true → Has xs v.0
@@ -279,8 +237,8 @@ module _ (S : Scope) (rises : Rises S.variables) where
 
     all_named : (l : Listed) → is_named how xs ls body l ≡ true
     all_named l = either (goes_over how ls body l.name) (has_name xs l.name) (λ k.
-        let dims = and_left (has_dimension (listed_as l.name ls)) (not (has_name (index_of how) l.name) && body l.name) k in
-        let o = and_right (not (has_name (index_of how) l.name)) (body l.name) (and_right (has_dimension (listed_as l.name ls)) (not (has_name (index_of how) l.name) && body l.name) k) in
+        let dims = and-left (has_dimension (listed_as l.name ls)) (not (has_name (index_of how) l.name) && body l.name) k in
+        let o = and-right (not (has_name (index_of how) l.name)) (body l.name) (and-right (has_dimension (listed_as l.name ls)) (not (has_name (index_of how) l.name) && body l.name) k) in
         let v = fits.known l.name dims in
         let occurs_so : body v.0.0 ≡ true = ap body v.2 ∙ o in
         let m = left_of v.0 v.1 occurs_so in
@@ -300,8 +258,8 @@ module _ (S : Scope) (rises : Rises S.variables) where
     left_inside v h o =
         let l = left_of v h o in (
           stepped xs l.0,
-          behind_index (index_of how) v.0 (stepped_all xs ls) (no_index v h) ∙ stepped_so xs v.0 ls l.0 l.1,
-          ap (λ z. if has_name xs z then inner l.0.dim else l.0.dim) (named_so v.0 ls l.0 l.1) ∙ by l.0 l.2 (has_name xs v.0) refl,
+          other_listed (index_of how) (stepped_all xs ls) v.0 (stepped xs l.0) (no_index v h) (stepped_listed xs ls v.0 l.0 l.1),
+          ap (λ z. if has_name xs z then inner l.0.dim else l.0.dim) (sym (listed_name ls v.0 l.0 l.1)) ∙ by l.0 l.2 (has_name xs v.0) refl,
         )
       where
         by : (l : Listed) → l.dim ≡ drop (length w.kinds) v.2 → (b : Bool) → has_name xs v.0 ≡ b → (if b then inner l.dim else l.dim) ≡ drop (suc (length w.kinds)) v.2

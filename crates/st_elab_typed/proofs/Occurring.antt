@@ -15,7 +15,7 @@ use Rattle.st_semantics.specs.Operands.{operands_at, item_at, segment_at, item_e
 use Rattle.st_semantics.specs.OperationTypes.{Level}
 use Rattle.st_ilcheck.specs.Variables.{Occurrence, Repeated, repeated_at, inside, occurrences, occurrences_at}
 use Rattle.st_elab_typed.specs.inner.Named.{IsNoIteration}
-use Rattle.st_elab_typed.proofs.Members.{Has}
+use Rattle.st_elab_typed.proofs.Members.{Has, or_left, or_right}
 use Rattle.st_elab_typed.proofs.Collected.{mapped, mapped_count, of_count, operands-are, opened, opened-count, counted-are, index-is, kind-is}
 
 -- ---- occurrences
@@ -52,14 +52,6 @@ pub occurrences-Iter : (e : IlExp) (how : Iteration) (xs : List Name) (body : Il
 occurrences-Iter e how xs body is = occurrences-level e (IlExp-F.Iter how xs body) is ∙ occurrences-counted how (occurrences body)
 
 -- ---- names that occur
-
-pub or-left : (a b : Bool) → a ≡ true → (a || b) ≡ true
-or-left true b h = refl
-or-left false b h = absurd (true≢false (sym h))
-
-pub or-right : (a b : Bool) → b ≡ true → (a || b) ≡ true
-or-right true b h = refl
-or-right false b h = h
 
 or-none : (a : Bool) → (a || false) ≡ true → a ≡ true
 or-none true h = refl
@@ -114,17 +106,17 @@ module _ (x : Name) where
   in_path (s ∷ ss) h =
       either (in_some (segment_exps s)) (in_some (flattened (map segment_exps ss))) (in_any (map (occurs_in_step x) (s ∷ ss)) ≡ true)
       (sym (list_any-append (occurs x) (segment_exps s) (flattened (map segment_exps ss))) ∙ h)
-      (λ k. or-left (occurs_in_step x s) (in_any (map (occurs_in_step x) ss)) (in_step s k))
-      (λ k. or-right (occurs_in_step x s) (in_any (map (occurs_in_step x) ss)) (in_path ss k))
+      (λ k. or_left (occurs_in_step x s) (in_any (map (occurs_in_step x) ss)) (in_step s k))
+      (λ k. or_right (occurs_in_step x s) (in_any (map (occurs_in_step x) ss)) (in_path ss k))
 
   in_change : (a : IlExp) (path : List PathSeg) (b : IlExp) → in_some (a ∷ flattened (map segment_exps path) ++ b ∷ []) ≡ true → (occurs x a || in_any (map (occurs_in_step x) path) || occurs x b) ≡ true
   in_change a path b h =
       either (occurs x a) (in_some (flattened (map segment_exps path) ++ b ∷ [])) ((occurs x a || in_any (map (occurs_in_step x) path) || occurs x b) ≡ true) h
-      (λ k. or-left (occurs x a || in_any (map (occurs_in_step x) path)) (occurs x b) (or-left (occurs x a) (in_any (map (occurs_in_step x) path)) k))
+      (λ k. or_left (occurs x a || in_any (map (occurs_in_step x) path)) (occurs x b) (or_left (occurs x a) (in_any (map (occurs_in_step x) path)) k))
       (λ k. either (in_some (flattened (map segment_exps path))) (in_some (b ∷ [])) ((occurs x a || in_any (map (occurs_in_step x) path) || occurs x b) ≡ true)
       (sym (list_any-append (occurs x) (flattened (map segment_exps path)) (b ∷ [])) ∙ k)
-      (λ l. or-left (occurs x a || in_any (map (occurs_in_step x) path)) (occurs x b) (or-right (occurs x a) (in_any (map (occurs_in_step x) path)) (in_path path l)))
-      (λ l. or-right (occurs x a || in_any (map (occurs_in_step x) path)) (occurs x b) (or-none (occurs x b) l)))
+      (λ l. or_left (occurs x a || in_any (map (occurs_in_step x) path)) (occurs x b) (or_right (occurs x a) (in_any (map (occurs_in_step x) path)) (in_path path l)))
+      (λ l. or_right (occurs x a || in_any (map (occurs_in_step x) path)) (occurs x b) (or-none (occurs x b) l)))
 
   in_three : (a b c : Bool) → (a || (b || (c || false))) ≡ true → (a || b || c) ≡ true
   in_three true b c h = refl
@@ -214,20 +206,20 @@ module _ (x : Name) where
   -- what occurs in the count occurs
   pub occurs-count : (e : IlExp) (how : Iteration) (xs : List Name) (body : IlExp) → out-IlExp e ≡ IlExp-F.Iter how xs body → in_some (count_of how) ≡ true → occurs x e ≡ true
   occurs-count e how xs body is h = occurs-level e (IlExp-F.Iter how xs body) is
-      ∙ or-left (occurs_in_count x how).in_count (not (occurs_in_count x how).is_index && occurs x body) (counted-occurs how h)
+      ∙ or_left (occurs_in_count x how).in_count (not (occurs_in_count x how).is_index && occurs x body) (counted-occurs how h)
 
   -- so does what occurs in the body, but for the index
   pub occurs-body : (e : IlExp) (how : Iteration) (xs : List Name) (body : IlExp) → out-IlExp e ≡ IlExp-F.Iter how xs body → has_name (index_of how) x ≡ false → occurs x body ≡ true → occurs x e ≡ true
   occurs-body e how xs body is other h = occurs-level e (IlExp-F.Iter how xs body) is
-      ∙ or-right (occurs_in_count x how).in_count (not (occurs_in_count x how).is_index && occurs x body) (ap₂ (λ a b. not a && b) (index-other how other) h)
+      ∙ or_right (occurs_in_count x how).in_count (not (occurs_in_count x how).is_index && occurs x body) (ap₂ (λ a b. not a && b) (index-other how other) h)
 
   -- ---- by the members of a list
 
   -- it occurs in one of some expressions where it occurs in a member
   pub in_member : (es : List IlExp) (p : IlExp) → Has es p → occurs x p ≡ true → in_some es ≡ true
   in_member [] p k h = absurd k
-  in_member (e ∷ es) p (inl same) h = or-left (occurs x e) (in_some es) (subst (λ z. occurs x z ≡ true) (sym same) h)
-  in_member (e ∷ es) p (inr k) h = or-right (occurs x e) (in_some es) (in_member es p k h)
+  in_member (e ∷ es) p (inl same) h = or_left (occurs x e) (in_some es) (subst (λ z. occurs x z ≡ true) (sym same) h)
+  in_member (e ∷ es) p (inr k) h = or_right (occurs x e) (in_some es) (in_member es p k h)
 
   -- a name that occurs in an operand occurs in the whole
   pub operand-occurs : (e : IlExp) → IsNoIteration (out-IlExp e) → (p : IlExp) → Has (operands_at item_exp segment_exps (out-IlExp e)) p → occurs x p ≡ true → occurs x e ≡ true

@@ -1,6 +1,5 @@
 -- The iterations of an elaborated premise name exactly what they go over.
-use Rattle.std.proofs.Common.{◌≡◌, inl, inr, refl, sym, ap, ◌∙◌, subst, ℕ, List, [], ◌∷◌, ◌++◌, map, length, Bool, true, false, not, ◌&&◌}
-use Rattle.std.proofs.lemmas.Bool.{true≢false}
+use Rattle.std.proofs.Common.{◌≡◌, inl, inr, refl, sym, ap, ◌∙◌, subst, ℕ, List, [], ◌++◌, map, length, Bool, true, false, not}
 use Rattle.st_el.specs.declared.expression.Exp.{Exp}
 use Rattle.st_el.specs.declared.expression.Count.{Count, out-Count}
 use Rattle.st_el.specs.declared.definition.Prem.{Prem, out-Prem, fold_out-Prem}
@@ -10,15 +9,11 @@ use Rattle.st_il.specs.declared.definition.Listed.{Listed}
 use Rattle.st_il.specs.declared.definition.RelationDef.{RelationDef}
 use Rattle.st_il.specs.declared.ty.Ty.{Ty}
 use Rattle.st_il.specs.declared.ty.Ty.TheVariants as ty
-use Rattle.st_il.specs.declared.expression.IlExp.{IlExp, out-IlExp}
-use Rattle.st_il.specs.declared.expression.IlExp.TheOpen.{IlExp-F}
-use Rattle.st_il.specs.declared.expression.IlExp.TheVariants as il_exp
+use Rattle.st_il.specs.declared.expression.IlExp.{IlExp}
 use Rattle.st_il.specs.declared.expression.IlPrem.{IlPrem, out-IlPrem, roll-IlPrem, out-roll-IlPrem, map-IlPrem, fold_out-IlPrem}
 use Rattle.st_il.specs.declared.expression.IlPrem.TheOpen.{IlPrem-F}
 use Rattle.st_il.specs.declared.expression.IlPrem.TheVariants as premise
 use Rattle.st_il.specs.declared.expression.Iteration.{Iteration}
-use Rattle.st_il.specs.declared.expression.ListItem.{ListItem}
-use Rattle.st_il.specs.declared.expression.PathSeg.{PathSeg}
 use Rattle.st_il.specs.Occurrences.{in_any, occurs, occurs_prem_at, occurs_in_prem}
 use Rattle.st_dims.specs.declared.within.Within.{Within}
 use Rattle.st_dims.specs.Around.{kind_at, index_at, inside, entered}
@@ -33,11 +28,11 @@ use Rattle.st_elab_table.specs.declared.decls.Scope.{Scope}
 use Rattle.st_elab_table.specs.Forms.{place}
 use Rattle.st_elab_table.specs.Collections.{counted_at}
 use Rattle.st_elab_table.specs.Iterations.{iterated, iterated_in}
-use Rattle.st_elab_table.specs.Questions.{Question, Made, Gives, Step}
-use Rattle.st_elab_table.specs.Steps.{made, give, asked}
-use Rattle.st_elab_table.specs.Elaboration.{Leads, ends, Reached}
-use Rattle.st_elab_table.proofs.Keeps.{Keeps}
-use Rattle.st_elab_law.proofs.Claims.{Claims}
+use Rattle.st_elab_table.specs.Questions.{Question, Made}
+use Rattle.st_elab_table.specs.Steps.{made, asked}
+use Rattle.st_elab_table.specs.Elaboration.{Reached}
+use Rattle.st_elab_table.proofs.Keeps.{Reached-keeps}
+use Rattle.st_elab_law.proofs.Claims.{Claims, claims_of}
 use Rattle.st_elab_table.specs.Parts.{Asked}
 use Rattle.st_elab_table.specs.Inside.{ElabInside}
 use Rattle.st_elab_table.specs.Judgements.{judgement_questions, Judged}
@@ -54,8 +49,8 @@ use Rattle.st_elab_typed.proofs.NotedParts.{round-parts, prem_noted-level, in_it
 use Rattle.st_elab_typed.proofs.Occurring.{in_list, in_member}
 use Rattle.st_elab_typed.proofs.PremOccurring.{prem_occurs-level, prem_occurs-count, prem_occurs-body}
 use Rattle.st_elab_typed.proofs.OccursNoted.{occurs-noted, Shown, in_part}
-use Rattle.st_elab_typed.proofs.NamedRows.{Claim, Answered-names, Leads-names, counted_names, holes_names}
-use Rattle.st_elab_typed.proofs.NamesKept.{AreFine, Fits, fits_part, exactly, fits_inside, iteration_fine, names-kept, all-kept, noted_name}
+use Rattle.st_elab_typed.proofs.NamedRows.{Claim, row_names, Answered-names, counted_names, holes_names}
+use Rattle.st_elab_typed.proofs.NamesKept.{AreFine, Fits, fits_part, exactly, fits_inside, iteration_fine, names-kept, all-kept, noted_name, and_both}
 
 -- ---- what occurs in a premise
 
@@ -125,33 +120,16 @@ module _ (D : Decls) (S : Scope) where
 
   -- ---- the count of an iteration
 
-  abbrev shown : Iteration → Step
-  shown k = give (il_exp.Iter k [] (il_exp.Bool true)) ty.Bool
-
   -- an iteration as its source has it
   record IsMarked (w : Within) (c : Count) (k : Iteration) : Type 0 where
     kind : kind_of k ≡ kind_at (out-Count c)
     index : index_of k ≡ index_at (out-Count c)
     counts : AllName S w (count_of k)
 
-  abbrev MarkedAt : Within → Count → IlExp-F IlExp Iteration ListItem PathSeg → Type 0
-  MarkedAt w c (IlExp-F.Iter k names x) = IsMarked w c k
-  MarkedAt w c y = Unit {0}
-
-  abbrev Marks : Within → Count → Made → Type 0
-  Marks w c m = MarkedAt w c (out-IlExp m.exp)
-
-  shown_leads : (k : Iteration) → Leads D S (shown k) (Gives (made (il_exp.Iter k [] (il_exp.Bool true)) ty.Bool))
-  shown_leads k = ends
-
   marked : (w : Within) (c : Count) (k : Iteration) → Reached D S (counted_at w (out-Count c)) k → IsMarked w c k
   marked w c k h =
-      let kept : Keeps D (Claim D S) (Marks w c) (counted_at w (out-Count c) shown) =
-      counted_names D S w (Marks w c) c (out-Count c) shown refl
-      (λ l same_kind same_index counts. subst (MarkedAt w c) (sym (il_exp.outs-Iter l [] (il_exp.Bool true))) (record { kind = same_kind; index = same_index; counts = counts })) in
-      let counted : Marks w c (made (il_exp.Iter k [] (il_exp.Bool true)) ty.Bool) =
-      Leads-names D S (Marks w c) (counted_at w (out-Count c) shown) (made (il_exp.Iter k [] (il_exp.Bool true)) ty.Bool) (h shown _ (shown_leads k)) kept in
-      subst (MarkedAt w c) (il_exp.outs-Iter k [] (il_exp.Bool true)) counted
+      Reached-keeps D S (Claim D S) (λ q. row_names D S q) (λ l. IsMarked w c l) (counted_at w (out-Count c))
+      (λ Q next g. counted_names D S w Q c (out-Count c) next refl (λ l same_kind same_index counts. g l (record { kind = same_kind; index = same_index; counts = counts }))) k h
 
   -- ---- parts
 
@@ -159,10 +137,7 @@ module _ (D : Decls) (S : Scope) where
   inside_named w e t x h = Answered-names D S (asked w e t) (made x t) h
 
   pub claims : (qs : List Question) (ms : List Made) → Asked D S qs ms → Claims (Claim D S) qs ms
-  claims [] [] h = tt
-  claims [] (m ∷ ms) h = absurd h
-  claims (q ∷ qs) [] h = absurd h
-  claims (q ∷ qs) (m ∷ ms) h = (Answered-names D S q m h.0, claims qs ms h.1)
+  claims qs ms h = claims_of D S (Claim D S) (λ q m k. Answered-names D S q m k) qs ms h
 
   pub judged_named : (w : Within) (R : RelationDef) (e : Exp) (xs : List IlExp) → Judged D S w R e xs → AllName S w xs
   judged_named w R e xs h =
@@ -171,10 +146,6 @@ module _ (D : Decls) (S : Scope) where
   -- ---- premises
 
   module _ (rises : Rises S.variables) where
-    and_both : (a b : Bool) → a ≡ true → b ≡ true → (a && b) ≡ true
-    and_both true b h k = k
-    and_both false b h k = absurd (true≢false (sym h))
-
     fine_level : (w : Within) (x : IlPrem) (y : IlPrem-F IlPrem) → out-IlPrem x ≡ y → AreFine S rises (prem_noted x w) → AreFine S rises (prem_noted_at (map-IlPrem IlPrem Notes prem_noted y) w)
     fine_level w x y is fine n k =
         fine n (subst (λ (z : Notes). Has (z w) n) (sym (fold_out-IlPrem Notes prem_noted_at x ∙ ap (λ z. prem_noted_at (map-IlPrem IlPrem Notes prem_noted z)) is)) k)

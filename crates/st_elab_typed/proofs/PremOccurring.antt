@@ -12,8 +12,8 @@ use Rattle.st_semantics.specs.Iterations.{count_of, index_of, kind_of}
 use Rattle.st_semantics.specs.Scopes.{listed_inside}
 use Rattle.st_ilcheck.specs.Parts.{standing}
 use Rattle.st_ilcheck.specs.Variables.{Occurrence, inside, occurrences, occurrences_in, prem_occurrences, prem_occurrences_at}
-use Rattle.st_elab_typed.proofs.Members.{Each-append, Each-weaken}
-use Rattle.st_elab_typed.proofs.Occurring.{in_some, in_list, or-left, or-right, counted-occurs, index-other}
+use Rattle.st_elab_typed.proofs.Members.{Each-append, Each-weaken, or_left, or_right}
+use Rattle.st_elab_typed.proofs.Occurring.{in_some, in_list, counted-occurs, index-other}
 use Rattle.st_elab_typed.proofs.Placing.{Occurs, some_occur, each_inside, occurring, parts_occur}
 use Rattle.st_elab_typed.specs.RuleNames.{PremKeepsNames}
 
@@ -42,11 +42,11 @@ PremOccurs p o = occurs_in_prem o.0 p ≡ true
 
 pub prem_occurs-count : (p : IlPrem) (how : Iteration) (xs : List Name) (body : IlPrem) → out-IlPrem p ≡ IlPrem-F.Each how xs body → (x : Name) → in_some x (count_of how) ≡ true → occurs_in_prem x p ≡ true
 prem_occurs-count p how xs body is x h = prem_occurs-level x p (IlPrem-F.Each how xs body) is
-    ∙ or-left (occurs_in_count x how).in_count (not (occurs_in_count x how).is_index && occurs_in_prem x body) (counted-occurs x how h)
+    ∙ or_left (occurs_in_count x how).in_count (not (occurs_in_count x how).is_index && occurs_in_prem x body) (counted-occurs x how h)
 
 pub prem_occurs-body : (p : IlPrem) (how : Iteration) (xs : List Name) (body : IlPrem) → out-IlPrem p ≡ IlPrem-F.Each how xs body → (x : Name) → has_name (index_of how) x ≡ false → occurs_in_prem x body ≡ true → occurs_in_prem x p ≡ true
 prem_occurs-body p how xs body is x other h = prem_occurs-level x p (IlPrem-F.Each how xs body) is
-    ∙ or-right (occurs_in_count x how).in_count (not (occurs_in_count x how).is_index && occurs_in_prem x body) (ap₂ (λ a b. not a && b) (index-other x how other) h)
+    ∙ or_right (occurs_in_count x how).in_count (not (occurs_in_count x how).is_index && occurs_in_prem x body) (ap₂ (λ a b. not a && b) (index-other x how other) h)
 
 pub prem_occurring : (ls : List Listed) (p : IlPrem) → PremKeepsNames ls p → AllByRecursion (PremOccurs p) (prem_occurrences p)
 prem_occurring ls p (PremKeepsNames.condition e is k) =

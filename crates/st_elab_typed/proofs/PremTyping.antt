@@ -1,5 +1,5 @@
 -- Premises that are elaborated break no rule on types.
-use Rattle.std.proofs.Common.{◌≡◌, refl, sym, ap, ◌∙◌, subst, ℕ, List, [], ◌∷◌, true, Option, Some, find, inl}
+use Rattle.std.proofs.Common.{◌≡◌, refl, sym, ap, ◌∙◌, subst, ℕ, List, [], ◌∷◌, Option, Some, find, inl}
 use Rattle.std.specs.Prelude.{IsTrue, if◌then◌else◌}
 use Rattle.std.specs.List.{AllByRecursion}
 use Rattle.st_num.specs.Names.{same_name}
@@ -10,9 +10,7 @@ use Rattle.st_il.specs.Occurrences.{occurs_in_prem}
 use Rattle.st_il.specs.declared.definition.Il.{Il}
 use Rattle.st_il.specs.declared.definition.Listed.{Listed}
 use Rattle.st_il.specs.declared.definition.RelationDef.{RelationDef}
-use Rattle.st_il.specs.declared.expression.IlExp.{IlExp, out-IlExp}
-use Rattle.st_il.specs.declared.expression.IlExp.TheOpen.{IlExp-F}
-use Rattle.st_il.specs.declared.expression.IlExp.TheVariants as exp
+use Rattle.st_il.specs.declared.expression.IlExp.{IlExp}
 use Rattle.st_il.specs.declared.expression.IlPrem.{IlPrem, out-IlPrem}
 use Rattle.st_il.specs.declared.expression.IlPrem.TheOpen.{IlPrem-F}
 use Rattle.st_il.specs.declared.expression.IlPrem.TheVariants as premise
@@ -33,10 +31,10 @@ use Rattle.st_elab_table.specs.declared.decls.Scope.{Scope}
 use Rattle.st_elab_table.specs.Forms.{place}
 use Rattle.st_elab_table.specs.Iterations.{iterated}
 use Rattle.st_elab_table.specs.Collections.{counted_at}
-use Rattle.st_elab_table.specs.Questions.{Question, Made, Gives, Step}
-use Rattle.st_elab_table.specs.Steps.{made, give, asked}
-use Rattle.st_elab_table.specs.Elaboration.{ends, Reached}
-use Rattle.st_elab_table.proofs.Keeps.{Leads-keeps}
+use Rattle.st_elab_table.specs.Questions.{Question, Made}
+use Rattle.st_elab_table.specs.Steps.{made, asked}
+use Rattle.st_elab_table.specs.Elaboration.{Reached}
+use Rattle.st_elab_table.proofs.Keeps.{Reached-keeps}
 use Rattle.st_elab_table.specs.Parts.{Asked}
 use Rattle.st_elab_table.specs.Judgements.{relation_named, case_of, judgement_questions, Judged}
 use Rattle.st_elab_table.specs.Premises.{ElabPrem, ElabPrems}
@@ -140,23 +138,10 @@ module _ (il : Il) (vars : List (List ℕ × Ty)) (S : Scope) (total : (t : Ty) 
       let rest = natural_typed w ls es ok n.1 h.1 in
       (Some r.0 ∷ rest.0, (HaveTypings-more il (ls, e) (standing ls es) (Some r.0) rest.0 r.1.0 rest.1.0, (r.1.1, rest.1.1)))
 
-  same_count : (k how : Iteration) → exp.Iter k [] (exp.Bool true) ≡ exp.Iter how [] (exp.Bool true) → how ≡ k
-  same_count k how e =
-      let levels : IlExp-F.Iter k [] (exp.Bool true) ≡ IlExp-F.Iter how [] (exp.Bool true) = sym (exp.outs-Iter k [] (exp.Bool true)) ∙ ap out-IlExp e ∙ exp.outs-Iter how [] (exp.Bool true) in
-      cc
-
   reached_counted : (w : Within) (c : Count) (k : Iteration) → Reached D S (counted_at w (out-Count c)) k → IsCounted il vars (relations il) S w (out-Count c) k
   reached_counted w c k h =
-      let r = Leads-keeps D S (Claim il vars (relations il) S) (row_keeps il vars (relations il) S total) Goes (counted_at w (out-Count c) next) (Gives (made (exp.Iter k [] (exp.Bool true)) ty.Bool))
-      (h next (Gives (made (exp.Iter k [] (exp.Bool true)) ty.Bool)) ends)
-      (counted_keeps il vars (relations il) S w Goes (out-Count c) next (λ how is. (how, (refl, is)))) in
-      subst (IsCounted il vars (relations il) S w (out-Count c)) (same_count k r.0 r.1.0) r.1.1
-    where
-      next : Iteration → Step
-      next how = give (exp.Iter how [] (exp.Bool true)) ty.Bool
-
-      Goes : Made → Type 0
-      Goes m = (how : Iteration) × ((m.exp ≡ exp.Iter how [] (exp.Bool true)) × IsCounted il vars (relations il) S w (out-Count c) how)
+      Reached-keeps D S (Claim il vars (relations il) S) (λ q. row_keeps il vars (relations il) S total q) (λ l. IsCounted il vars (relations il) S w (out-Count c) l) (counted_at w (out-Count c))
+      (λ Q next g. counted_keeps il vars (relations il) S w Q (out-Count c) next g) k h
 
   -- ---- premises
 
