@@ -23,7 +23,7 @@ use Rattle.st_elab_typed.proofs.NotedParts.{noted-level, noted-parts, noted-Iter
 
 -- ---- whether a name is an index of an iteration round a part
 
-pub not_false : (b : Bool) → not b ≡ true → b ≡ false
+not_false : (b : Bool) → not b ≡ true → b ≡ false
 not_false true h = absurd (true≢false (sym h))
 not_false false h = refl
 
