@@ -1,8 +1,7 @@
 -- Premises that are elaborated break no rule on types.
-use Rattle.std.proofs.Common.{◌≡◌, refl, sym, ap, ◌∙◌, subst, ℕ, List, [], ◌∷◌, Option, Some, find, inl}
-use Rattle.std.specs.Prelude.{IsTrue, if◌then◌else◌}
+use Rattle.std.proofs.Common.{◌≡◌, refl, sym, ◌∙◌, subst, ℕ, List, [], ◌∷◌, Option, Some, inl}
+use Rattle.std.specs.Prelude.{IsTrue}
 use Rattle.std.specs.List.{AllByRecursion}
-use Rattle.st_num.specs.Names.{same_name}
 use Rattle.st_el.specs.declared.expression.Exp.{Exp}
 use Rattle.st_el.specs.declared.expression.Count.{Count, out-Count}
 use Rattle.st_el.specs.declared.definition.Prem.{Prem}
@@ -35,6 +34,7 @@ use Rattle.st_elab_table.specs.Questions.{Question, Made}
 use Rattle.st_elab_table.specs.Steps.{made, asked}
 use Rattle.st_elab_table.specs.Elaboration.{Reached}
 use Rattle.st_elab_table.proofs.Keeps.{Reached-keeps}
+use Rattle.st_elab_table.proofs.FoundByName.{relation_named-found}
 use Rattle.st_elab_table.specs.Parts.{Asked}
 use Rattle.st_elab_table.specs.Judgements.{relation_named, case_of, judgement_questions, Judged}
 use Rattle.st_elab_table.specs.Premises.{ElabPrem, ElabPrems}
@@ -94,12 +94,8 @@ module _ (ls : List Listed) (p : IlPrem) where
 
 -- ---- relations by their names
 
-relation_named-found : (rs : List RelationDef) (name : Name) → find (λ (r : RelationDef). same_name name r.name) rs ≡ relation_named rs name
-relation_named-found [] name = refl
-relation_named-found (r ∷ rs) name = ap (λ o. if same_name name r.name then Some r else o) (relation_named-found rs name)
-
 pub declared_relation-found : (il : Il) (name : Name) (R : RelationDef) → relation_named (relations il) name ≡ Some R → declared_relation il name ≡ Some R
-declared_relation-found il name R h = relation_named-found (relations il) name ∙ h
+declared_relation-found il name R h = relation_named-found name (relations il) ∙ h
 
 module _ (il : Il) (vars : List (List ℕ × Ty)) (S : Scope) (total : (t : Ty) → (u : Ty) × Means (syntaxes il) t u) where
   abbrev pub D : Decls
