@@ -19,8 +19,7 @@ use Rattle.st_il.specs.declared.definition.SyntaxBody.TheVariants as body
 use Rattle.st_il.specs.declared.definition.SyntaxDef.{SyntaxDef}
 use Rattle.st_il.specs.declared.ty.Ty.{Ty}
 use Rattle.st_type_table.specs.Breach as types
-use Rattle.st_type_table.specs.Leads.{joined as joined_names}
-use Rattle.st_type_table.specs.Leads.{names_in as type_names}
+use Rattle.st_type_table.specs.Leads.{joined as joined_names, names_in as type_names}
 use Rattle.st_type_table.specs.Meaning.{body_of as body_named}
 use Rattle.st_elab_sig.specs.Types.{ty_of}
 use Rattle.st_elab_sig.specs.Signatures.{holes_of}

@@ -25,8 +25,7 @@ use Rattle.st_semantics.specs.Definitions.{syntaxes, relations_in, rules_in, rul
 use Rattle.st_ilcheck.specs.Naming.{is_once}
 use Rattle.st_ilcheck.specs.Declarations.{IsMode, IsOnceIn, IsDeclared, cited, syntax_names, relation_names, function_names, variable_names, rule_names}
 use Rattle.st_ilcheck.proofs.SyntaxLemmas.{unnamed, named_before}
-use Rattle.st_elab_sig.specs.Modes.{none, one}
-use Rattle.st_elab_sig.specs.Modes.{IsMode as IsSignatureMode}
+use Rattle.st_elab_sig.specs.Modes.{none, one, IsMode as IsSignatureMode}
 use Rattle.st_elab_sig.specs.Types.{ty_of}
 use Rattle.st_elab_sig.specs.Signatures.{holes_of}
 use Rattle.st_elab_law.specs.Agreement.{relation_in, fun_in}

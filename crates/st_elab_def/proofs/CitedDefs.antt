@@ -43,9 +43,8 @@ use Rattle.st_elab_def.specs.Fragments.{joined}
 use Rattle.st_elab_def.proofs.Declares.{declares_own}
 use Rattle.st_elab_typed.specs.Citations.{IsSyntax, IsKnown, AlternativeKnown, BodyKnown, AreKnown, CitesKnown}
 use Rattle.st_elab_typed.proofs.CitesKnown.{rule_cites, clause_cites}
-use Rattle.st_elab_typed.proofs.Members.{Each-append}
+use Rattle.st_elab_typed.proofs.Members.{Each-append, same_path}
 use Rattle.st_elab_typed.proofs.KnownTypes.{fun_itself}
-use Rattle.st_elab_typed.proofs.Members.{same_path}
 use Rattle.st_elab_def.proofs.AreKnown.{SignatureKnown, all_signatures, map_split, body_known, are_known}
 use Rattle.st_elab_def.proofs.Elaborated.{first_is, none_is}
 use Rattle.st_elab_def.proofs.HolesCounted.{holes_counted}

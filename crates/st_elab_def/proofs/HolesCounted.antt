@@ -10,8 +10,7 @@ use Rattle.st_el.specs.declared.notation.NotNode.{NotNode, roll-NotNode, fold-No
 use Rattle.st_el.specs.declared.notation.NotNode.TheOpen.{NotNode-F}
 use Rattle.st_el.specs.declared.notation.NotNode.TheVariants as node
 use Rattle.st_el.proofs.NotationInduction.{NotationParts, notation_induction}
-use Rattle.st_il.specs.declared.template.Template.{Template}
-use Rattle.st_il.specs.declared.template.Template.{the_lemmas as template_lemmas}
+use Rattle.st_il.specs.declared.template.Template.{Template, the_lemmas as template_lemmas}
 use Rattle.st_il.specs.declared.template.Template.TheVariants as template
 use Rattle.st_il.specs.Template.{holes}
 use Rattle.st_elab_sig.specs.Signatures.{template_at, template_of, holes_at, holes_of}

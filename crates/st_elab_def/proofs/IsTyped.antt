@@ -13,7 +13,7 @@ use Rattle.st_ilcheck.specs.Declarations.{AreNamed}
 use Rattle.st_ilcheck.specs.Typed.{BreaksByTypes, KeepsVariables, KeepsIndices, AllKeep, Typed}
 use Rattle.st_elab_table.specs.declared.decls.Decls.{Decls}
 use Rattle.st_elab_table.specs.Judgements.{relation_named}
-use Rattle.st_elab_typed.specs.RuleNames.{RuleKeepsNames, ClauseKeepsNames}
+use Rattle.st_elab_typed.specs.RuleNames.{RuleKeepsNames, ClauseKeepsNames, DefKeepsNames}
 use Rattle.st_elab_typed.specs.RuleLaw.{AreDeclaredIn}
 use Rattle.st_elab_typed.proofs.Declared.{AreDeclaredIn-declares}
 use Rattle.st_elab_typed.proofs.RuleTyping.{RuleIsTyped-holds, ClauseIsTyped-holds}
@@ -24,7 +24,6 @@ use Rattle.st_elab_def.specs.DeclsOf.{decls_of}
 use Rattle.st_elab_def.specs.Elaboration.{declaration, rule, clause, ElabDefs, IsElaborated}
 use Rattle.st_elab_def.specs.Fragments.{joined}
 use Rattle.st_elab_def.proofs.Declares.{declares_own}
-use Rattle.st_elab_typed.specs.RuleNames.{DefKeepsNames}
 use Rattle.st_elab_typed.proofs.KnownTypes.{fun_itself}
 use Rattle.st_elab_def.specs.Sources.{RepeatNoOtherwise}
 use Rattle.st_elab_def.proofs.AreNamed.{relation_name, all_are_named}

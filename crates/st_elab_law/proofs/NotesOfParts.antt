@@ -15,7 +15,7 @@ use Rattle.st_il.specs.declared.definition.FunDef.{FunDef}
 use Rattle.st_il.specs.declared.ty.Ty.{Ty, out-Ty}
 use Rattle.st_il.specs.declared.ty.Ty.TheOpen.{Ty-F}
 use Rattle.st_il.specs.declared.ty.Ty.TheVariants as ty
-use Rattle.st_il.specs.declared.template.Template.{Template}
+use Rattle.st_il.specs.declared.template.Template.{Template, out-Template}
 use Rattle.st_il.specs.declared.expression.IlExp.{IlExp}
 use Rattle.st_il.specs.declared.expression.IlExp.TheVariants as il
 use Rattle.st_il.specs.declared.expression.ListItem.TheVariants as part
@@ -29,7 +29,6 @@ use Rattle.st_notation.specs.declared.filled.Shape.{Shape}
 use Rattle.st_notation.specs.declared.filled.Shape.TheVariants as shape
 use Rattle.st_notation.specs.Elements.{opened, bare, elements_at, elements, is_atom_at, is_atom, before}
 use Rattle.st_notation.specs.Fits.{Filling, one, run, missing, Take, one_element, shared_run, run_up_to, takes, Fits, hole, atom, bracket, sides, sequence as in_sequence, FitInOrder, end, next_atom, next_bracket, next_hole}
-use Rattle.st_il.specs.declared.template.Template.{out-Template}
 use Rattle.st_il.specs.declared.template.Template.TheOpen.{Template-F}
 use Rattle.st_notation.proofs.FitsLemmas.{Fits-length}
 use Rattle.st_elab_table.specs.declared.decls.Decls.{Decls}

@@ -36,8 +36,7 @@ use Rattle.st_elab_table.specs.Clauses.{ClauseParts, mentions_of, ElabClause}
 use Rattle.st_elab_table.specs.Rules.{ElabRule}
 use Rattle.st_elab_table.specs.Scopes.{IsScope, table_of, listed}
 use Rattle.st_elab_typed.specs.KeepsNames.{AllKeepNames}
-use Rattle.st_elab_typed.specs.RuleNames.{PremKeepsNames}
-use Rattle.st_elab_typed.specs.RuleNames.{DefKeepsNames}
+use Rattle.st_elab_typed.specs.RuleNames.{PremKeepsNames, DefKeepsNames}
 use Rattle.st_elab_typed.specs.Sources.{RepeatsNoOtherwise}
 use Rattle.st_elab_law.specs.Notes.{Note, occurs as occurring, indexes, iterates, mentioned, all_of}
 use Rattle.st_elab_law.specs.Noted.{noted, prem_noted, all_noted}

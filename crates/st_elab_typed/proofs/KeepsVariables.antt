@@ -27,16 +27,16 @@ use Rattle.st_elab_typed.proofs.PremisesSeen.{all_occurrences-seen, outside-show
 use Rattle.st_elab_typed.proofs.AreListed.{variables_in, noted-variable, variable-noted, scope_listed}
 
 module _ (mentions : List Mention) (es : List IlExp) (ps : List IlPrem) (same : all_noted es ps ≡ mentioned mentions) where
-  abbrev all : Notes
-  all = beside (all_of (map noted es)) (all_of (map prem_noted ps))
+  abbrev whole : Notes
+  whole = beside (all_of (map noted es)) (all_of (map prem_noted ps))
 
   -- what occurs is mentioned
   pub occurs-mentioned : (o : Occurrence) → Has (all_occurrences es ps) o → Has (variables_in mentions) o
-  occurs-mentioned o h = noted-variable mentions o.0 o.1 (subst (λ z. Has z (occurs o.0 o.1)) same (outside-shows (all_occurrences es ps) all (all_occurrences-seen es ps) o h))
+  occurs-mentioned o h = noted-variable mentions o.0 o.1 (subst (λ z. Has z (occurs o.0 o.1)) same (outside-shows (all_occurrences es ps) whole (all_occurrences-seen es ps) o h))
 
   -- what is mentioned occurs
   mentioned-occurs : (o : Occurrence) → Has (variables_in mentions) o → Has (all_occurrences es ps) o
-  mentioned-occurs o h = outside-comes (all_occurrences es ps) all (all_occurrences-seen es ps) o (subst (λ z. Has z (occurs o.0 o.1)) (sym same) (variable-noted mentions o h))
+  mentioned-occurs o h = outside-comes (all_occurrences es ps) whole (all_occurrences-seen es ps) o (subst (λ z. Has z (occurs o.0 o.1)) (sym same) (variable-noted mentions o h))
 
   listed_by : (D : Decls) (S : Scope) (ls : List Listed) → IsScope D mentions S → ls ≡ map listed S.variables → AreListed ls (all_occurrences es ps)
   listed_by D S ls is e = subst (λ z. AreListed z (all_occurrences es ps)) (sym e) (scope_listed D mentions S is (all_occurrences es ps) occurs-mentioned mentioned-occurs)

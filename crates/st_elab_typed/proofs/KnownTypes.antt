@@ -18,8 +18,7 @@ use Rattle.st_il.specs.declared.ty.NumTy.{NumTy}
 use Rattle.st_il.specs.declared.ty.NumTy.TheVariants as number
 use Rattle.st_type_table.specs.declared.entry.CaseDef.{CaseDef}
 use Rattle.st_type_table.specs.Leads.{names_in, names_at}
-use Rattle.st_type_table.specs.Meaning.{body_of, named_at, named, aliased, alternatives_of, Means, itself, alias}
-use Rattle.st_type_table.specs.Meaning.{listed as listed_alternatives, recorded}
+use Rattle.st_type_table.specs.Meaning.{body_of, named_at, named, aliased, alternatives_of, Means, itself, alias, listed as listed_alternatives, recorded}
 use Rattle.st_type_table.specs.Cases.{or_none, Brings, own, included, Flatten, none as flat_none, more as flat_more, HasCases}
 use Rattle.st_type_table.specs.Keys.{IsFirstWith, here, later}
 use Rattle.st_semantics.specs.Names.{flattened}

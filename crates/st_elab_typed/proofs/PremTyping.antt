@@ -21,8 +21,7 @@ use Rattle.st_type_table.specs.Same.{SameAll}
 use Rattle.st_dims.specs.declared.within.Within.{Within}
 use Rattle.st_dims.specs.Around.{inside}
 use Rattle.st_semantics.specs.Names.{Name}
-use Rattle.st_semantics.specs.Definitions.{syntaxes, relations}
-use Rattle.st_semantics.specs.Definitions.{relation_named as declared_relation}
+use Rattle.st_semantics.specs.Definitions.{syntaxes, relations, relation_named as declared_relation}
 use Rattle.st_semantics.specs.Iterations.{count_of, index_of, kind_of}
 use Rattle.st_semantics.specs.Scopes.{listed_inside}
 use Rattle.st_elab_table.specs.declared.decls.Decls.{Decls}

@@ -17,8 +17,7 @@ use Rattle.st_type_table.specs.Breach.{IsSound}
 use Rattle.st_type_table.specs.Meaning.{Means}
 use Rattle.st_type_table.proofs.Measure.{Means-total}
 use Rattle.st_semantics.specs.Names.{flattened}
-use Rattle.st_semantics.specs.Definitions.{syntaxes, relations, funs_in}
-use Rattle.st_semantics.specs.Definitions.{relation_named as declared_relation}
+use Rattle.st_semantics.specs.Definitions.{syntaxes, relations, funs_in, relation_named as declared_relation}
 use Rattle.st_semantics.specs.Typing.{function_named}
 use Rattle.st_elab_table.specs.declared.decls.Decls.{Decls}
 use Rattle.st_elab_table.specs.Inferred.{fun_named}
