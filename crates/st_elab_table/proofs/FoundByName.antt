@@ -1,5 +1,5 @@
 -- The first of a list that has a name is what a definition by its cases gives.
-use Rattle.std.proofs.Common.{◌≡◌, refl, sym, ap, ◌∙◌, List, [], ◌∷◌, find, ℕ, Bool, true, false, if◌then◌else◌, Option, Some, None}
+use Rattle.std.proofs.Common.{◌≡◌, refl, ap, List, [], ◌∷◌, find, ℕ, Bool, true, false, if◌then◌else◌, Some}
 use Rattle.std.specs.Option.{option_map}
 use Rattle.std.specs.Map.{lookup}
 use Rattle.st_num.specs.Names.{same_name}
