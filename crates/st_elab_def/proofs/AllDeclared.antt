@@ -6,7 +6,7 @@ use Rattle.st_il.specs.declared.definition.SyntaxBody.{SyntaxBody}
 use Rattle.st_dims.proofs.Lists.{next_taken, all_taken, cut}
 use Rattle.st_type_table.specs.Meaning.{body_of}
 use Rattle.st_elab_table.specs.declared.decls.Decls.{Decls}
-use Rattle.st_elab_exp.specs.Judgements.{broken}
+use Rattle.st_elab_table.specs.Judgements.{broken}
 use Rattle.st_elab_def.specs.declared.names.Named.{Named}
 use Rattle.st_elab_def.specs.Phases.{all_declared}
 use Rattle.st_elab_def.specs.inner.Walk.{AllPassAt, FirstBreachAt}

@@ -15,7 +15,7 @@ use Rattle.st_type_table.specs.Breach.{FindsAt}
 use Rattle.st_type_table.proofs.PartsLemmas.{AllHold-parts}
 use Rattle.st_elab_sig.specs.Types.{ty_of}
 use Rattle.st_elab_table.specs.declared.decls.Decls.{Decls}
-use Rattle.st_elab_exp.specs.Judgements.{broken}
+use Rattle.st_elab_table.specs.Judgements.{broken}
 use Rattle.st_elab_def.specs.DeclsOf.{alternative_of, field_of}
 use Rattle.st_elab_def.specs.Phases.{names_in, on_alias_name, on_alternatives, on_fields}
 use Rattle.st_elab_def.specs.inner.Bodies.{IsSyntax, HaveBeen}

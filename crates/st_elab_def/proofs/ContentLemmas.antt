@@ -11,7 +11,7 @@ use Rattle.st_el.specs.declared.expression.Exp.{Exp}
 use Rattle.st_il.specs.declared.definition.IlDef.{IlDef}
 use Rattle.st_elab_table.specs.declared.decls.Decls.{Decls}
 use Rattle.st_elab_table.specs.Questions.{Breach as PartBreach}
-use Rattle.st_elab_exp.specs.Clauses.{parts_of}
+use Rattle.st_elab_table.specs.Clauses.{parts_of}
 use Rattle.st_elab_def.specs.Definitions.{Definition}
 use Rattle.st_elab_def.specs.Elaboration.{rule as rule_def, clause as clause_def}
 use Rattle.st_elab_def.specs.Phases.{on_rule, on_clause, on_content, on_content_at}

@@ -45,8 +45,8 @@ use Rattle.st_elab_sig.proofs.ModesErase.{mode_back}
 use Rattle.st_elab_table.specs.declared.decls.Decls.{Decls}
 use Rattle.st_elab_table.specs.Inferred.{fun_named}
 use Rattle.st_elab_law.specs.Agreement.{Declares}
-use Rattle.st_elab_exp.specs.Judgements.{relation_named}
-use Rattle.st_elab_exp.specs.Clauses.{parts_of}
+use Rattle.st_elab_table.specs.Judgements.{relation_named}
+use Rattle.st_elab_table.specs.Clauses.{parts_of}
 use Rattle.st_elab_exp.proofs.Erasing.{rule_erases, clause_erases}
 use Rattle.st_elab_def.specs.declared.breach.DefFault.{DefFault}
 use Rattle.st_elab_def.specs.declared.elaborated.Elaborated.{Elaborated}

@@ -17,7 +17,7 @@ use Rattle.st_il.specs.declared.definition.SyntaxBody.TheVariants as body
 use Rattle.st_type_table.specs.Breach.{FindsAt}
 use Rattle.st_elab_table.specs.declared.decls.Decls.{Decls}
 use Rattle.st_elab_table.specs.Questions.{Breach as PartBreach}
-use Rattle.st_elab_exp.specs.Judgements.{broken}
+use Rattle.st_elab_table.specs.Judgements.{broken}
 use Rattle.st_elab_def.specs.declared.bodies.Source.{Source}
 use Rattle.st_elab_def.specs.declared.bodies.Walk.{Walk}
 use Rattle.st_elab_def.specs.declared.parts.Begun.{Begun}

@@ -19,9 +19,9 @@ use Rattle.st_il.specs.declared.definition.RuleDef.{RuleDef}
 use Rattle.st_elab_table.specs.declared.decls.Decls.{Decls}
 use Rattle.st_elab_table.specs.Inferred.{fun_named}
 use Rattle.st_elab_table.specs.Questions.{Breach as PartBreach}
-use Rattle.st_elab_exp.specs.Clauses.{ClauseParts, ElabClause, ClauseBreach}
-use Rattle.st_elab_exp.specs.Judgements.{relation_named, broken}
-use Rattle.st_elab_exp.specs.Rules.{ElabRule, RuleBreach}
+use Rattle.st_elab_table.specs.Clauses.{ClauseParts, ElabClause, ClauseBreach}
+use Rattle.st_elab_table.specs.Judgements.{relation_named, broken}
+use Rattle.st_elab_table.specs.Rules.{ElabRule, RuleBreach}
 use Rattle.st_elab_def.specs.Conditions.{has_rule, is_rule}
 use Rattle.st_elab_def.specs.Phases.{Placed, on_rule, on_clause}
 use Rattle.st_elab_def.specs.inner.Contents.{MakesRule, MakesClause}

@@ -34,3 +34,12 @@ mod ExamplesOfCases
 mod Light
 pub mod Declares
 pub mod ErasesTo
+mod Joined
+mod Elaborated
+mod SyntaxesDeclared
+mod HolesCounted
+mod AreKnown
+mod CitedDefs
+mod NamesOnce
+mod AreNamed
+pub mod IsTyped

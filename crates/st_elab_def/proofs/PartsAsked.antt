@@ -21,7 +21,7 @@ use Rattle.st_type_table.specs.Leads.{names_in as type_names}
 use Rattle.st_elab_sig.specs.Types.{ty_of}
 use Rattle.st_elab_table.specs.declared.decls.Decls.{Decls}
 use Rattle.st_elab_table.specs.Questions.{Breach as PartBreach}
-use Rattle.st_elab_exp.specs.Judgements.{broken}
+use Rattle.st_elab_table.specs.Judgements.{broken}
 use Rattle.st_elab_def.specs.DeclsOf.{type_node, not_node, alternative_of, field_of}
 use Rattle.st_elab_def.specs.Phases.{Placed, names_in, on_alias_name, on_bare, on_alternative, on_alternative_at, on_alternatives, on_fields}
 use Rattle.st_elab_def.specs.inner.Places.{name_place, cases_place, fields_place, is_nameless, is_bare_at, is_bare, IsAlternative}

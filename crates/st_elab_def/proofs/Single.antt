@@ -14,8 +14,8 @@ use Rattle.st_il.specs.declared.definition.RelationDef.{RelationDef}
 use Rattle.st_il.specs.declared.definition.RuleDef.{RuleDef}
 use Rattle.st_elab_table.specs.declared.decls.Decls.{Decls}
 use Rattle.st_elab_table.specs.Questions.{Breach as PartBreach}
-use Rattle.st_elab_exp.specs.Rules.{ElabRule, RuleBreach}
-use Rattle.st_elab_exp.specs.Clauses.{ClauseParts, parts_of, ElabClause, ClauseBreach}
+use Rattle.st_elab_table.specs.Rules.{ElabRule, RuleBreach}
+use Rattle.st_elab_table.specs.Clauses.{ClauseParts, parts_of, ElabClause, ClauseBreach}
 use Rattle.st_elab_exp.proofs.Defining.{rule_one, clause_one}
 use Rattle.st_elab_def.specs.declared.breach.Breach.{Breach}
 use Rattle.st_elab_def.specs.declared.elaborated.Elaborated.{Elaborated}

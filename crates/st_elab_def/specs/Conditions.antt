@@ -17,7 +17,7 @@ use Rattle.st_type_table.specs.Breach as types
 use Rattle.st_elab_sig.specs.Modes.{IsMode}
 use Rattle.st_elab_table.specs.declared.decls.Decls.{Decls}
 use Rattle.st_elab_table.specs.Inferred.{fun_named}
-use Rattle.st_elab_exp.specs.Judgements.{relation_named}
+use Rattle.st_elab_table.specs.Judgements.{relation_named}
 use Rattle.st_elab_def.specs.Definitions.{Definition}
 use Rattle.st_elab_def.specs.Declarations.{is_declared_before}
 use Rattle.st_elab_def.specs.Fragments.{joins}

@@ -10,9 +10,9 @@ use Rattle.st_il.specs.declared.definition.RuleDef.{RuleDef}
 use Rattle.st_elab_table.specs.declared.decls.Decls.{Decls}
 use Rattle.st_elab_table.specs.Inferred.{fun_named}
 use Rattle.st_elab_table.specs.Questions.{Breach as PartBreach}
-use Rattle.st_elab_exp.specs.Judgements.{relation_named}
-use Rattle.st_elab_exp.specs.Rules.{ElabRule, RuleBreach}
-use Rattle.st_elab_exp.specs.Clauses.{ClauseParts, ElabClause, ClauseBreach}
+use Rattle.st_elab_table.specs.Judgements.{relation_named}
+use Rattle.st_elab_table.specs.Rules.{ElabRule, RuleBreach}
+use Rattle.st_elab_table.specs.Clauses.{ClauseParts, ElabClause, ClauseBreach}
 
 -- A rule of the relation of this name is elaborated.
 pub record ElabRuleOf (D : Decls) (r name : List ℕ) (conclusion : Exp) (premises : List Prem)

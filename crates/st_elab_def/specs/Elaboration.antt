@@ -9,7 +9,7 @@ use Rattle.st_il.specs.declared.definition.IlDef.{IlDef}
 use Rattle.st_il.specs.declared.definition.IlDef.TheVariants as il
 use Rattle.st_il.specs.declared.definition.RuleDef.{RuleDef}
 use Rattle.st_elab_table.specs.declared.decls.Decls.{Decls}
-use Rattle.st_elab_exp.specs.Clauses.{parts_of}
+use Rattle.st_elab_table.specs.Clauses.{parts_of}
 use Rattle.st_elab_def.specs.declared.elaborated.Elaborated.{Elaborated}
 use Rattle.st_elab_def.specs.Fragments.{joined, sources_of}
 use Rattle.st_elab_def.specs.DeclsOf.{declared_by, decls_of}

@@ -22,5 +22,9 @@ pub mod Elaboration
 pub mod Answers
 -- the internal language of a source is erased to it
 pub mod Erasing
+-- which sources repeat no `otherwise`
+pub mod Sources
+-- what the internal language of a source keeps of typing
+pub mod Keeping
 -- ---- what only proofs need
 pub mod inner

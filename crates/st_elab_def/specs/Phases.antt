@@ -19,7 +19,7 @@ use Rattle.st_il.specs.declared.ty.Ty.{Ty}
 use Rattle.st_il.specs.declared.definition.Alternative.{Alternative}
 use Rattle.st_type_table.specs.Breach as types
 use Rattle.st_elab_sig.specs.Signatures.{holes_of}
-use Rattle.st_elab_exp.specs.Clauses.{ClauseParts, parts_of}
+use Rattle.st_elab_table.specs.Clauses.{ClauseParts, parts_of}
 use Rattle.st_elab_def.specs.declared.names.Named.{Named}
 use Rattle.st_elab_def.specs.Definitions.{Definition, number_of, definitions}
 use Rattle.st_elab_def.specs.DeclsOf.{type_node, not_node, alternative_of, field_of}

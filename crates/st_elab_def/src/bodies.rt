@@ -6,7 +6,7 @@ ghost use Rattle.st_el.specs.declared.definition.DefNode.TheVariants.{Syntax};
 ghost use Rattle.st_il.specs.declared.definition.Alternative.{Alternative};
 ghost use Rattle.st_type_table.specs.Breach.{FindsAt};
 ghost use Rattle.st_elab_rows.specs.Told.{Told};
-ghost use Rattle.st_elab_exp.specs.Judgements.{broken};
+ghost use Rattle.st_elab_table.specs.Judgements.{broken};
 ghost use Rattle.st_elab_table.specs.declared.decls.Decls.{Decls};
 ghost use Rattle.st_elab_def.specs.Definitions.{Definition, definitions};
 ghost use Rattle.st_elab_def.specs.DeclsOf.{decls_of};

@@ -4,7 +4,7 @@ ghost use Rattle.std.specs.Prelude.{◌≡◌, ◌&&◌, ◌||◌, [], ◌∷◌
 ghost use Rattle.st_num.specs.Names.{same_name};
 ghost use Rattle.st_el.specs.declared.definition.Def.{Def};
 ghost use Rattle.st_elab_rows.specs.Told.{Told};
-ghost use Rattle.st_elab_exp.specs.Clauses.{parts_of};
+ghost use Rattle.st_elab_table.specs.Clauses.{parts_of};
 ghost use Rattle.st_elab_def.specs.Phases.{on_rule, on_clause, on_content};
 ghost use Rattle.st_elab_def.specs.inner.Contents.{MakesRule, MakesClause, MakesContent};
 ghost use Rattle.st_elab_def.specs.inner.Heads.{Finds, KnowsRules};

@@ -7,7 +7,7 @@ ghost use Rattle.st_el.specs.declared.definition.Def.{Def};
 ghost use Rattle.st_elab_table.specs.declared.decls.Decls.{Decls};
 ghost use Rattle.st_elab_table.specs.Inferred.{fun_named};
 ghost use Rattle.st_elab_rows.specs.Told.{Told};
-ghost use Rattle.st_elab_exp.specs.Judgements.{relation_named};
+ghost use Rattle.st_elab_table.specs.Judgements.{relation_named};
 ghost use Rattle.st_elab_def.specs.Phases.{Placed};
 ghost use Rattle.st_elab_def.specs.inner.Heads.{Finds, KnowsRules, HasHead, on_head, on_function};
 ghost use Rattle.st_elab_def.specs.inner.Index.{at, has_pair};

@@ -33,6 +33,9 @@ mod whole;
 
 pub use breach::{Breach, DefFault};
 pub use elaborated::Elaborated;
-pub use laws::{declares_its_own, erases_back, one_outcome};
+pub use laws::{
+    declares_its_own, elaborated_sources_are_typed, erases_back, indices_stay_inside,
+    iterations_name_what_they_iterate, names_are_declared, one_outcome, variables_are_listed,
+};
 pub use source::elaborate;
 pub use tables::decls;

@@ -7,6 +7,8 @@ ghost use Rattle.st_elab_def.specs.Answers.{Answers, IsGiven, IsRefused, HasTemp
 ghost use Rattle.st_elab_def.specs.Breaches.{IsBreach};
 ghost use Rattle.st_elab_def.specs.Elaboration.{IsElaborated};
 ghost use Rattle.st_elab_def.specs.Erasing.{ErasesTo};
+ghost use Rattle.st_elab_def.specs.Sources.{RepeatNoOtherwise};
+ghost use Rattle.st_ilcheck.specs.Typed.{Typed};
 
 use crate::assembly::assemble;
 use crate::bodies::check_bodies;
@@ -43,6 +45,8 @@ pub fn elaborate(alloc: Global, defs: &[Def]) -> Result<Elaborated, DefFault>
     ensures gives { (e : Elaborated) → IsElaborated defs.now e → IsGiven e result }
     ensures refuses { (b : Breach) → IsBreach defs.now b → IsRefused b result }
     ensures erased { HasTemplates defs.now → IfOk result (ErasesTo defs.now) }
+    ensures typed { HasTemplates defs.now → RepeatNoOtherwise defs.now
+        → IfOk result (λ e. Typed e.il) }
 {
     if defs.len() > u32::MAX as usize {
         return Err(DefFault::Memory);

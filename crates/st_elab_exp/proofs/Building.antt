@@ -15,8 +15,8 @@ use Rattle.st_dims.specs.declared.within.Within.{Within}
 use Rattle.st_elab_table.specs.Questions.{Breach}
 use Rattle.st_elab_table.specs.Iterations.{Variable}
 use Rattle.st_dims.specs.Around.{inside}
-use Rattle.st_elab_exp.specs.Premises.{node_of, ElabPrem, PremBreach, in_premise, ElabPrems, PremsBreach}
-use Rattle.st_elab_exp.specs.Variables.{table_of, HasItsType}
+use Rattle.st_elab_table.specs.Premises.{node_of, ElabPrem, PremBreach, in_premise, ElabPrems, PremsBreach}
+use Rattle.st_elab_table.specs.Scopes.{table_of, HasItsType}
 
 -- ---- premises
 

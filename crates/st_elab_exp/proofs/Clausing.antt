@@ -6,7 +6,7 @@ use Rattle.st_elab_table.specs.declared.decls.Scope.{Scope}
 use Rattle.st_dims.specs.declared.within.Within.{Within}
 use Rattle.st_elab_table.specs.Steps.{each_asked}
 use Rattle.st_elab_table.specs.Elaboration.{around}
-use Rattle.st_elab_exp.specs.Clauses.{ClauseParts, argument_questions}
+use Rattle.st_elab_table.specs.Clauses.{ClauseParts, argument_questions}
 
 pub questions_are : (S : Scope) (f : FunDef) (c : ClauseParts) (w : Within) (tys : List Ty) → w ≡ around S → tys ≡ f.params
     → each_asked w c.args tys ≡ argument_questions S f c

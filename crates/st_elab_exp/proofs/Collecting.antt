@@ -25,7 +25,7 @@ use Rattle.st_elab_table.specs.Elaboration.{Leads, Answered, by_row, ends, goes_
 use Rattle.st_num.specs.declared.fault.Fault.{Fault as ExpFault}
 use Rattle.st_num.specs.declared.fault.Fault.TheVariants as fault
 use Rattle.st_elab_rows.specs.declared.asking.Context.{Context}
-use Rattle.st_elab_rows.specs.Parts.{Breaks, AskedAs}
+use Rattle.st_elab_table.specs.Parts.{Breaks, AskedAs}
 use Rattle.st_elab_rows.specs.inner.Continuing.{Continues, LeadsToItem}
 use Rattle.st_elab_rows.proofs.Builds.{from_place, questions_from, continues_more, continues_ends}
 

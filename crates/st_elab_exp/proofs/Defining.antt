@@ -16,14 +16,14 @@ use Rattle.st_elab_table.specs.declared.decls.Scope.{Scope}
 use Rattle.st_elab_table.specs.Questions.{Breach}
 use Rattle.st_elab_table.specs.Steps.{exp_of}
 use Rattle.st_elab_table.specs.Elaboration.{around}
-use Rattle.st_elab_rows.specs.Parts.{AskedAs, Breaks}
-use Rattle.st_elab_exp.specs.Inside.{ElabInside, InsideBreach}
+use Rattle.st_elab_table.specs.Parts.{AskedAs, Breaks}
+use Rattle.st_elab_table.specs.Inside.{ElabInside, InsideBreach}
 use Rattle.st_elab_exp.specs.Single.{HasOneOutcome}
-use Rattle.st_elab_exp.specs.Judgements.{broken, Judged, JudgedBreach}
-use Rattle.st_elab_exp.specs.Premises.{ElabPrems, PremsBreach}
-use Rattle.st_elab_exp.specs.Variables.{IsScope, VariableBreach, listed}
-use Rattle.st_elab_exp.specs.Rules.{IsRuleScope, ElabRule, RuleBreach, at_variable, in_conclusion, in_premises}
-use Rattle.st_elab_exp.specs.Clauses.{ClauseParts, mentions_of, HasArguments, argument_questions, ElabClause, ClauseBreach, in_number, at_variable as at_a_variable, in_arguments, in_result, in_premises as in_its_premises}
+use Rattle.st_elab_table.specs.Judgements.{broken, Judged, JudgedBreach}
+use Rattle.st_elab_table.specs.Premises.{ElabPrems, PremsBreach}
+use Rattle.st_elab_table.specs.Scopes.{IsScope, VariableBreach, listed}
+use Rattle.st_elab_table.specs.Rules.{IsRuleScope, ElabRule, RuleBreach, at_variable, in_conclusion, in_premises}
+use Rattle.st_elab_table.specs.Clauses.{ClauseParts, mentions_of, HasArguments, argument_questions, ElabClause, ClauseBreach, in_number, at_variable as at_a_variable, in_arguments, in_result, in_premises as in_its_premises}
 use Rattle.st_elab_exp.proofs.Outcomes.{Then, Or, then_one, one_by, this_one, inside_one, asked_one}
 use Rattle.st_elab_exp.proofs.Premising.{judged_one, prems_one}
 use Rattle.st_elab_exp.proofs.Scoping.{scope_one}

@@ -51,14 +51,14 @@ use Rattle.st_elab_law.proofs.Listing.{counted_keeps}
 use Rattle.st_elab_law.proofs.Recording.{each_written}
 use Rattle.st_elab_law.proofs.Casing.{case-is, fills_written}
 use Rattle.st_elab_law.proofs.Table.{Answered-claims, Leads-claims}
-use Rattle.st_elab_rows.specs.Parts.{Asked, AskedAs}
+use Rattle.st_elab_table.specs.Parts.{Asked, AskedAs}
 use Rattle.st_elab_rows.specs.Told.{Told}
-use Rattle.st_elab_exp.specs.Inside.{ElabInside}
-use Rattle.st_elab_exp.specs.Judgements.{relation_named, case_of, judgement_questions, Judged}
-use Rattle.st_elab_exp.specs.Premises.{node_of, ElabPrem, condition, judgement, otherwise, each, ElabPrems}
-use Rattle.st_elab_exp.specs.Rules.{ElabRule}
-use Rattle.st_elab_exp.specs.Clauses.{ClauseParts, ElabClause}
-use Rattle.st_elab_exp.specs.Erasing.{IsRelationOf, RuleErases, ClauseErases}
+use Rattle.st_elab_table.specs.Inside.{ElabInside}
+use Rattle.st_elab_table.specs.Judgements.{relation_named, case_of, judgement_questions, Judged, IsRelationOf}
+use Rattle.st_elab_table.specs.Premises.{node_of, ElabPrem, condition, judgement, otherwise, each, ElabPrems}
+use Rattle.st_elab_table.specs.Rules.{ElabRule}
+use Rattle.st_elab_table.specs.Clauses.{ClauseParts, ElabClause}
+use Rattle.st_elab_exp.specs.Erasing.{RuleErases, ClauseErases}
 
 -- ---- premises, by what they are
 

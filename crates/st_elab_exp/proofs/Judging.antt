@@ -20,9 +20,9 @@ use Rattle.st_dims.specs.declared.within.Within.{Within}
 use Rattle.st_elab_table.specs.Forms.{place}
 use Rattle.st_elab_table.specs.Steps.{exp_of, holes}
 use Rattle.st_elab_table.specs.Choice.{FillsCase}
-use Rattle.st_elab_rows.specs.Told.{Told}
-use Rattle.st_elab_rows.specs.Parts.{AskedAs, Breaks, TellsAll}
-use Rattle.st_elab_exp.specs.Judgements.{broken, case_of, judgement_questions, Judged, JudgedBreach, unfit, filling}
+use Rattle.st_elab_rows.specs.Told.{Told, TellsAll}
+use Rattle.st_elab_table.specs.Parts.{AskedAs, Breaks}
+use Rattle.st_elab_table.specs.Judgements.{broken, case_of, judgement_questions, Judged, JudgedBreach, unfit, filling}
 use Rattle.st_elab_exp.proofs.Outcomes.{told_by}
 
 -- what the call of `fill` says

@@ -15,4 +15,3 @@ mod Naming
 mod Judging
 mod Clausing
 pub mod Erasing
-pub mod Occurring

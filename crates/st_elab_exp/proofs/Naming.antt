@@ -11,7 +11,7 @@ use Rattle.st_dims.specs.Mentions.{occurrences_in}
 use Rattle.st_dims.specs.Dimensions.{Table, chains_of, dimension_in, IsFirstShortest, IsOnlyTable}
 use Rattle.st_elab_table.specs.declared.decls.Decls.{Decls}
 use Rattle.st_elab_table.specs.Variables.{type_of_name}
-use Rattle.st_elab_exp.specs.Variables.{is_none, is_untyped, untyped}
+use Rattle.st_elab_table.specs.Scopes.{is_none, is_untyped, untyped}
 use Rattle.st_elab_exp.specs.inner.Typing.{AreTyped}
 
 abbrev Untyped : Decls → List ℕ → Type 0

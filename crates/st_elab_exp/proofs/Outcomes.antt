@@ -13,9 +13,9 @@ use Rattle.st_elab_table.specs.Steps.{made, asked, exp_of}
 use Rattle.st_elab_table.specs.Elaboration.{Answered}
 use Rattle.st_elab_table.proofs.Single.{Answered-single}
 use Rattle.st_elab_rows.specs.Told.{Told}
-use Rattle.st_elab_rows.specs.Parts.{Asked, Breaks, AskedAs}
+use Rattle.st_elab_table.specs.Parts.{Asked, Breaks, AskedAs}
 use Rattle.st_elab_exp.specs.Exactly.{IsGiven, IsRefused}
-use Rattle.st_elab_exp.specs.Inside.{ElabInside, InsideBreach}
+use Rattle.st_elab_table.specs.Inside.{ElabInside, InsideBreach}
 use Rattle.st_elab_exp.specs.Single.{HasOneOutcome}
 
 -- ---- what is told of one outcome is told exactly

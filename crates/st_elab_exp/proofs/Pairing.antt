@@ -10,7 +10,7 @@ use Rattle.st_elab_table.specs.Steps.{exp_of, ty_of, exps}
 use Rattle.st_elab_table.specs.Elaboration.{Answered, Leads}
 use Rattle.st_elab_rows.specs.declared.asking.Context.{Context}
 use Rattle.st_elab_exp.specs.declared.inferred.FoundAll.{FoundAll}
-use Rattle.st_elab_rows.specs.Parts.{Asked, Breaks, AskedAs}
+use Rattle.st_elab_table.specs.Parts.{Asked, Breaks, AskedAs}
 use Rattle.st_elab_rows.specs.inner.Continuing.{Continues}
 use Rattle.st_elab_exp.specs.inner.Pairs.{AreFound}
 use Rattle.st_elab_rows.proofs.Builds.{all_asked, continues_begin, continues_more, continues_ends}

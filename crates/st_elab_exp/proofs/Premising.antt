@@ -32,11 +32,11 @@ use Rattle.st_elab_table.specs.Elaboration.{Leads, ends, Reached, Stopped}
 use Rattle.st_elab_table.proofs.Single.{Leads-single}
 use Rattle.st_elab_table.specs.Choice.{FillsCase}
 use Rattle.st_elab_table.proofs.ChoiceLemmas.{FillsCase-single}
-use Rattle.st_elab_rows.specs.Parts.{AskedAs, Breaks}
-use Rattle.st_elab_exp.specs.Inside.{ElabInside, InsideBreach}
+use Rattle.st_elab_table.specs.Parts.{AskedAs, Breaks}
+use Rattle.st_elab_table.specs.Inside.{ElabInside, InsideBreach}
 use Rattle.st_elab_exp.specs.Single.{HasOneOutcome}
-use Rattle.st_elab_exp.specs.Judgements.{broken, relation_named, case_of, judgement_questions, Judged, JudgedBreach, unfit, filling}
-use Rattle.st_elab_exp.specs.Premises.{place_of, node_of, ElabPrem, condition, judgement, otherwise, each, PremBreach, in_condition, undeclared, in_judgement, in_premise, in_count, ElabPrems, PremsBreach}
+use Rattle.st_elab_table.specs.Judgements.{broken, relation_named, case_of, judgement_questions, Judged, JudgedBreach, unfit, filling}
+use Rattle.st_elab_table.specs.Premises.{place_of, node_of, ElabPrem, condition, judgement, otherwise, each, PremBreach, in_condition, undeclared, in_judgement, in_premise, in_count, ElabPrems, PremsBreach}
 use Rattle.st_elab_exp.proofs.Outcomes.{Then, Or, then_one, one_by, this_one, this_breach, inside_one, asked_one}
 
 module _ (D : Decls) (S : Scope) where

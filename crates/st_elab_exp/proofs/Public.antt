@@ -21,7 +21,7 @@ use Rattle.st_elab_law.specs.Agreement.{IsTableOf}
 use Rattle.st_elab_law.proofs.Table.{Elab-erases, Infer-erases}
 use Rattle.st_elab_rows.specs.Told.{Told}
 use Rattle.st_elab_exp.specs.Exactly.{IsGiven, IsRefused}
-use Rattle.st_elab_exp.specs.Inside.{ElabInside}
+use Rattle.st_elab_table.specs.Inside.{ElabInside}
 use Rattle.st_elab_exp.proofs.Typing.{of_its_type}
 
 module _ (D : Decls) (S : Scope) where

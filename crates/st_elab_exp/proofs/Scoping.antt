@@ -14,8 +14,8 @@ use Rattle.st_elab_table.specs.Questions.{Breach}
 use Rattle.st_elab_table.specs.Iterations.{Variable}
 use Rattle.st_elab_table.specs.Variables.{type_of_name}
 use Rattle.st_elab_exp.specs.Single.{HasOneOutcome}
-use Rattle.st_elab_exp.specs.Judgements.{broken}
-use Rattle.st_elab_exp.specs.Variables.{untyped, table_of, HasItsType, IsScope, VariableBreach, no_type, misplaced, idle as idle_breach}
+use Rattle.st_elab_table.specs.Judgements.{broken}
+use Rattle.st_elab_table.specs.Scopes.{untyped, table_of, HasItsType, IsScope, VariableBreach, no_type, misplaced, idle as idle_breach}
 
 no_first : (at : Span) (rest places : List Span) → places ≡ at ∷ rest → places ≡ [] → ⊥
 no_first at rest places e f = cc

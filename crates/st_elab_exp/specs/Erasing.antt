@@ -1,5 +1,5 @@
 -- What is elaborated is erased to the rule or clause that it came from.
-use Rattle.std.specs.Prelude.{◌≡◌, ℕ, List, Some}
+use Rattle.std.specs.Prelude.{◌≡◌, ℕ, List}
 use Rattle.st_el.specs.declared.expression.Exp.{Exp}
 use Rattle.st_el.specs.declared.definition.Prem.{Prem}
 use Rattle.st_el.specs.declared.definition.DefNode.TheVariants.{Rule, Clause}
@@ -10,13 +10,7 @@ use Rattle.st_il.specs.declared.definition.Il.{Il}
 use Rattle.st_il.specs.declared.definition.RelationDef.{RelationDef}
 use Rattle.st_il.specs.declared.definition.RuleDef.{RuleDef}
 use Rattle.st_erase.specs.Definitions.{erased_rule, erased_clause}
-use Rattle.st_elab_table.specs.declared.decls.Decls.{Decls}
-use Rattle.st_elab_exp.specs.Judgements.{relation_named}
-use Rattle.st_elab_exp.specs.Clauses.{ClauseParts}
-
--- the relation is the declared one of its name
-abbrev pub IsRelationOf : Decls → RelationDef → Type 0
-IsRelationOf D R = relation_named D.relations R.name ≡ Some R
+use Rattle.st_elab_table.specs.Clauses.{ClauseParts}
 
 -- The rule is erased to this one of the relation, once both are plain.
 abbrev pub RuleErases : Il → RelationDef → List ℕ → Exp → List Prem → RuleDef → Type 0

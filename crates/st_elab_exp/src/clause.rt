@@ -8,8 +8,8 @@ ghost use Rattle.st_elab_law.specs.Agreement.{Declares};
 ghost use Rattle.st_elab_rows.specs.Told.{Told};
 ghost use Rattle.st_elab_exp.specs.Exactly.{IsGiven, IsRefused};
 ghost use Rattle.st_elab_exp.specs.Erasing.{ClauseErases};
-ghost use Rattle.st_elab_exp.specs.Variables.{IsScope, listed};
-ghost use Rattle.st_elab_exp.specs.Clauses.{parts_of, mentions_of, HasArguments, ElabClause, ClauseBreach};
+ghost use Rattle.st_elab_table.specs.Scopes.{IsScope, listed};
+ghost use Rattle.st_elab_table.specs.Clauses.{parts_of, mentions_of, HasArguments, ElabClause, ClauseBreach};
 
 use crate::elaborate::around;
 use crate::inside::{check_inside, check_parts};

@@ -8,7 +8,7 @@ ghost use Rattle.st_il.specs.declared.expression.IlExp.TheVariants as il;
 ghost use Rattle.st_elab_table.specs.Steps.{exp_of, give, holes_behind};
 ghost use Rattle.st_elab_table.specs.Collections.{element, other_row, eps_row, sequence, item_of, item_row, found_item, run_row, hole_row};
 ghost use Rattle.st_elab_rows.specs.Asking.{manner, LeadsTo, made_by};
-ghost use Rattle.st_elab_rows.specs.Parts.{TellsAll};
+ghost use Rattle.st_elab_rows.specs.Told.{TellsAll};
 ghost use Rattle.st_elab_rows.specs.inner.Continuing.{IsItem, LeadsToItem};
 ghost use Rattle.st_elab_rows.specs.inner.Words.{lift_of};
 

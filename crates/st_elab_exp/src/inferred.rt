@@ -12,7 +12,7 @@ ghost use Rattle.st_elab_table.specs.Operands.{binary_row};
 ghost use Rattle.st_elab_table.specs.Inferred.{variable_type, variable_row, fun_named, call_row, inferred_tuple, inferred_at, inferred_row};
 ghost use Rattle.st_elab_table.specs.Steps.{made, give, found, each_asked, exp_of};
 ghost use Rattle.st_elab_rows.specs.Asking.{LeadsTo, made_by};
-ghost use Rattle.st_elab_rows.specs.Parts.{TellsAll};
+ghost use Rattle.st_elab_rows.specs.Told.{TellsAll};
 ghost use Rattle.st_elab_exp.specs.inner.Pairs.{TellsPairs};
 
 use crate::turn::inferred_iteration;

@@ -5,9 +5,8 @@ ghost use Rattle.st_el.specs.declared.expression.Count.{out-Count};
 ghost use Rattle.st_notation.specs.Fitted.{fillings};
 ghost use Rattle.st_elab_table.specs.Collections.{counted_at};
 ghost use Rattle.st_elab_table.specs.Steps.{exp_of, holes, each_asked};
-ghost use Rattle.st_elab_rows.specs.Told.{Told, Reaches};
-ghost use Rattle.st_elab_rows.specs.Parts.{TellsAll};
-ghost use Rattle.st_elab_exp.specs.Inside.{ElabInside, InsideBreach};
+ghost use Rattle.st_elab_rows.specs.Told.{Told, Reaches, TellsAll};
+ghost use Rattle.st_elab_table.specs.Inside.{ElabInside, InsideBreach};
 
 use crate::collection::all_holes;
 use crate::driver::answer;

@@ -3,7 +3,7 @@
 ghost use Rattle.std.specs.Prelude.{◌≡◌, IfOk};
 ghost use Rattle.std.specs.Option.{option_copied};
 ghost use Rattle.st_elab_rows.specs.Told.{Told};
-ghost use Rattle.st_elab_exp.specs.Judgements.{relation_named, case_of, Judged, JudgedBreach};
+ghost use Rattle.st_elab_table.specs.Judgements.{relation_named, case_of, Judged, JudgedBreach};
 
 use crate::inside::check_fillings;
 use st_dims::Within;

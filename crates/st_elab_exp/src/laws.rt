@@ -4,15 +4,12 @@ ghost use Rattle.std.specs.Prelude.{ℕ, List};
 ghost use Rattle.st_num.specs.declared.span.Span.{Span};
 ghost use Rattle.st_el.specs.declared.expression.Exp.{Exp};
 ghost use Rattle.st_el.specs.declared.definition.Prem.{Prem};
-ghost use Rattle.st_il.specs.declared.definition.ClauseDef.{ClauseDef};
 ghost use Rattle.st_il.specs.declared.definition.FunDef.{FunDef};
 ghost use Rattle.st_il.specs.declared.definition.RelationDef.{RelationDef};
-ghost use Rattle.st_il.specs.declared.definition.RuleDef.{RuleDef};
 ghost use Rattle.st_elab_table.specs.declared.decls.Decls.{Decls};
-ghost use Rattle.st_elab_exp.specs.Occurrences.{RuleOccurs, ClauseOccurs};
 ghost use Rattle.st_elab_exp.specs.Single.{HasOneOutcome};
-ghost use Rattle.st_elab_exp.specs.Rules.{ElabRule, RuleBreach};
-ghost use Rattle.st_elab_exp.specs.Clauses.{ClauseParts, ElabClause, ClauseBreach};
+ghost use Rattle.st_elab_table.specs.Rules.{ElabRule, RuleBreach};
+ghost use Rattle.st_elab_table.specs.Clauses.{ClauseParts, ElabClause, ClauseBreach};
 
 /// A rule has at most one elaboration or one first breach, and not both.
 pub fn one_rule()
@@ -26,14 +23,4 @@ pub fn one_rule()
 pub fn one_clause()
     ensures { (D : Decls) (f : FunDef) (at : Span) (c : ClauseParts)
         → HasOneOutcome (ElabClause D f c) (ClauseBreach D f at c) }
-{}
-
-/// A rule or clause has the variables of what it came from, in the same order, and each stands
-/// under the same iterations.
-pub fn keeps_variables()
-    ensures rules { (D : Decls) (R : RelationDef) (name : List ℕ) (conclusion : Exp)
-        (premises : List Prem) (rule : RuleDef) → ElabRule D R name conclusion premises rule
-        → RuleOccurs conclusion premises rule }
-    ensures clauses { (D : Decls) (f : FunDef) (c : ClauseParts) (clause : ClauseDef)
-        → ElabClause D f c clause → ClauseOccurs c clause }
 {}

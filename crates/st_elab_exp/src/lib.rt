@@ -7,7 +7,7 @@
 //! scope, in the order of the text.
 //!
 //! Read `elaborate` first, with `specs/Elaboration.antt` of `st_elab_table`; then `rule` and
-//! `premise`, with `specs/Premises.antt` and `specs/Rules.antt`. The rules are in
+//! `premise`, with its `specs/Premises.antt` and `specs/Rules.antt`. The rules are in
 //! `docs/elaboration.md`.
 #![tactic(auto)]
 
@@ -29,6 +29,6 @@ mod turn;
 pub use clause::elaborate_clause;
 pub use elaborate::{around, check_exp, infer_exp};
 pub use inside::{check_count, check_fillings, check_inside, check_parts};
-pub use laws::{keeps_variables, one_clause, one_rule};
+pub use laws::{one_clause, one_rule};
 pub use rule::elaborate_rule;
 pub use st_elab_table::{Decls, ExpFault, NamedRow, Scope};

@@ -5,7 +5,7 @@ ghost use Rattle.st_el.specs.declared.definition.Prem.{Prem};
 ghost use Rattle.st_el.specs.declared.definition.PremNode.TheOpen.{PremNode-F};
 ghost use Rattle.st_dims.specs.Around.{inside};
 ghost use Rattle.st_elab_rows.specs.Told.{Told};
-ghost use Rattle.st_elab_exp.specs.Premises.{place_of, node_of, ElabPrem, PremBreach, ElabPrems, PremsBreach};
+ghost use Rattle.st_elab_table.specs.Premises.{place_of, node_of, ElabPrem, PremBreach, ElabPrems, PremsBreach};
 
 use crate::inside::{check_count, check_inside};
 use crate::judgement::{judged, relation_named};

@@ -7,8 +7,9 @@ ghost use Rattle.st_elab_table.specs.Questions.{Breach};
 ghost use Rattle.st_elab_law.specs.Agreement.{Declares};
 ghost use Rattle.st_elab_rows.specs.Told.{Told};
 ghost use Rattle.st_elab_exp.specs.Exactly.{IsGiven, IsRefused};
-ghost use Rattle.st_elab_exp.specs.Erasing.{IsRelationOf, RuleErases};
-ghost use Rattle.st_elab_exp.specs.Rules.{IsRuleScope, ElabRule, RuleBreach};
+ghost use Rattle.st_elab_table.specs.Judgements.{IsRelationOf};
+ghost use Rattle.st_elab_exp.specs.Erasing.{RuleErases};
+ghost use Rattle.st_elab_table.specs.Rules.{IsRuleScope, ElabRule, RuleBreach};
 
 use crate::elaborate::around;
 use crate::judgement::judged;

@@ -8,7 +8,7 @@ ghost use Rattle.st_dims.specs.Breaches.{IsFirst, IsSound};
 ghost use Rattle.st_elab_table.specs.declared.decls.Decls.{Decls};
 ghost use Rattle.st_elab_table.specs.Variables.{type_of_name};
 ghost use Rattle.st_elab_rows.specs.Told.{Told};
-ghost use Rattle.st_elab_exp.specs.Variables.{untyped, table_of, HasItsType, IsScope, VariableBreach, listed};
+ghost use Rattle.st_elab_table.specs.Scopes.{untyped, table_of, HasItsType, IsScope, VariableBreach, listed};
 ghost use Rattle.st_elab_exp.specs.inner.Typing.{AreTyped};
 
 use st_dims::{DimFault, Mention, dimensions_of};

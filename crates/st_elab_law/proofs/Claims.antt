@@ -13,7 +13,10 @@ use Rattle.st_erase.specs.declared.erased.ErasedKind.TheVariants as kind
 use Rattle.st_erase.specs.Places.{run as run_of}
 use Rattle.st_erase.specs.Erasure.{erased}
 use Rattle.st_elab_table.specs.declared.decls.Decls.{Decls}
-use Rattle.st_elab_table.specs.Questions.{Manner, Question, check, infer, item, hole, Made}
+use Rattle.st_elab_table.specs.declared.decls.Scope.{Scope}
+use Rattle.st_elab_table.specs.Questions.{Manner, Question, check, infer, item, hole, Made, Gives}
+use Rattle.st_elab_table.specs.Elaboration.{Answered}
+use Rattle.st_elab_table.specs.Parts.{Asked}
 
 -- ---- kinds
 
@@ -66,3 +69,10 @@ Claims P [] [] = Unit {0}
 Claims P (q ∷ qs) (m ∷ ms) = P q m × Claims P qs ms
 Claims P [] (m ∷ ms) = ⊥
 Claims P (q ∷ qs) [] = ⊥
+
+-- what holds of each answer holds of the answers to several questions
+pub claims_of : (D : Decls) (S : Scope) (P : Question → Made → Type 0) → ((q : Question) (m : Made) → Answered D S q (Gives m) → P q m) → (qs : List Question) (ms : List Made) → Asked D S qs ms → Claims P qs ms
+claims_of D S P all [] [] h = tt
+claims_of D S P all [] (m ∷ ms) h = absurd h
+claims_of D S P all (q ∷ qs) [] h = absurd h
+claims_of D S P all (q ∷ qs) (m ∷ ms) h = (all q m h.0, claims_of D S P all qs ms h.1)

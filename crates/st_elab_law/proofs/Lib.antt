@@ -12,11 +12,12 @@ pub mod Fitting
 pub mod Casing
 pub mod Table
 pub mod Backing
-pub mod Seeing
-pub mod Mentioning
-pub mod Occurring
-pub mod Holding
-pub mod Occurrences
+pub mod NotesOfForms
+pub mod NotesOfSources
+pub mod NotesOfOperators
+pub mod NotesOfParts
+pub mod NotesOfRows
+pub mod NotesOfRules
 pub mod AsksOnly
 pub mod Sizes
 pub mod FillingSizes

@@ -4,7 +4,11 @@
 pub mod Agreement
 -- what is elaborated is erased to what it came from
 pub mod Law
--- what is elaborated has the variables of what it came from, each under the same iterations
-pub mod Occurrences
+-- the variables, indices and iterations in a source, each under the iterations round it
+pub mod Notes
+-- those in the internal language
+pub mod Noted
+-- what is elaborated has those of what it came from, in their order
+pub mod KeepsNotes
 -- no question is without an answer
 pub mod Totality

@@ -23,8 +23,8 @@ use Rattle.st_elab_table.specs.Steps.{breach, made, give, pass, asked, each_aske
 use Rattle.st_elab_table.specs.Checked.{form_row, plain_row, checked_row}
 use Rattle.st_elab_table.specs.Inferred.{inferred_at}
 use Rattle.st_elab_table.specs.Elaboration.{row, Answered, Leads, by_row, ends, goes_on, stops, opens}
-use Rattle.st_elab_rows.specs.Told.{Told, Tells, Leading, Reaches}
-use Rattle.st_elab_rows.specs.Parts.{Asked, Breaks, AskedAs, TellsAll}
+use Rattle.st_elab_rows.specs.Told.{Told, Tells, Leading, Reaches, TellsAll}
+use Rattle.st_elab_table.specs.Parts.{Asked, Breaks, AskedAs}
 use Rattle.st_elab_rows.specs.inner.Continuing.{Continues}
 
 -- a fault is handed on

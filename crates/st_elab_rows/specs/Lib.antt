@@ -4,7 +4,5 @@
 pub mod Told
 -- what is asked, when a result is the answer of the table, and what a row answers
 pub mod Asking
--- several questions are answered one after another
-pub mod Parts
 -- ---- what only proofs need
 pub mod inner

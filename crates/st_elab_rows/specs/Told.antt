@@ -1,11 +1,12 @@
 -- What the answers of calls say.
-use Rattle.std.specs.Prelude.{Result, Ok, Err}
+use Rattle.std.specs.Prelude.{List, Result, Ok, Err}
 use Rattle.st_elab_table.specs.declared.decls.Decls.{Decls}
 use Rattle.st_elab_table.specs.declared.decls.Scope.{Scope}
 use Rattle.st_num.specs.declared.fault.Fault.{Fault as ExpFault}
 use Rattle.st_num.specs.declared.fault.Fault.TheVariants as fault
 use Rattle.st_elab_table.specs.Questions.{Question, Made, Breach, Gives, Fails, Step}
 use Rattle.st_elab_table.specs.Elaboration.{Answered, Leads, Reached, Stopped}
+use Rattle.st_elab_table.specs.Parts.{AskedAs, Breaks}
 
 -- P holds of what is given and F of a breach; want of memory says nothing
 abbrev pub Told : {A : Type 0} → (A → Type 0) → (Breach → Type 0) → Result A ExpFault → Type 0
@@ -27,3 +28,8 @@ abbrev pub Reaches : Decls → Scope → {X : Type 0} → ((X → Step) → Step
     → Result A ExpFault → Type 0
 Reaches D S {X} steps f r =
     Told (λ x. Reached D S steps (f x)) (Stopped D S steps) r
+
+-- the result is the parts of all answers, or the first breach
+abbrev pub TellsAll : Decls → Scope → List Question → {A : Type 0} → (Made → A)
+    → Result (List A) ExpFault → Type 0
+TellsAll D S qs {A} part r = Told (λ xs. AskedAs D S qs A part xs) (λ b. Breaks D S qs b) r

@@ -1,4 +1,4 @@
--- What must be believed of the elaboration of expressions, in reading order.
+-- What must be believed of the elaboration of expressions, rules and clauses, in reading order.
 
 -- questions about expressions, and the steps in which a row of the table answers one
 pub mod Questions
@@ -28,5 +28,20 @@ pub mod Inferred
 pub mod Checked
 -- an answer is what the row of its question leads to; it is an elaboration or the first breach
 pub mod Elaboration
+-- several questions are answered one after another
+pub mod Parts
+-- what an expression is inside of iterations, and the first breach in it
+pub mod Inside
+-- ---- rules and clauses
+-- an expression in the notation of a relation
+pub mod Judgements
+-- what a premise is, and the first breach in it
+pub mod Premises
+-- each variable of a rule or clause has a type and a dimension
+pub mod Scopes
+-- what a rule is, and the first breach in it
+pub mod Rules
+-- what a clause is, and the first breach in it
+pub mod Clauses
 -- ---- what only proofs need
 pub mod inner

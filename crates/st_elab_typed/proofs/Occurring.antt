@@ -1,87 +1,27 @@
 -- What occurs in an expression is what occurs in its parts, and occurs there as a name.
-use Rattle.std.proofs.Common.{◌≡◌, refl, sym, ap, ap₂, ◌∙◌, List, [], ◌∷◌, ◌++◌, map, Bool, true, false, true≢false, ◌||◌, ◌&&◌, not}
-use Rattle.std.specs.List.{AllByRecursion, list_any}
-use Rattle.std.proofs.lemmas.List.{map-append}
+use Rattle.std.proofs.Common.{◌≡◌, inl, inr, refl, sym, ap, ap₂, ◌∙◌, subst, List, [], ◌∷◌, ◌++◌, map, Bool, true, false, true≢false, ◌||◌, ◌&&◌, not}
+use Rattle.std.specs.List.{list_any}
 use Rattle.std.proofs.lemmas.List.Folds.{list_any-append}
 use Rattle.st_num.specs.Names.{same_name}
 use Rattle.st_il.specs.declared.expression.IlExp.{IlExp, out-IlExp, fold_out-IlExp, map-IlExp}
 use Rattle.st_il.specs.declared.expression.IlExp.TheOpen.{IlExp-F, Iteration-F, ListItem-F, PathSeg-F}
-use Rattle.st_il.specs.declared.expression.Iteration.{Iteration, out-Iteration, fold-Iteration, fold_out-Iteration, map-Iteration}
-use Rattle.st_il.specs.declared.expression.ListItem.{ListItem, out-ListItem, fold-ListItem, fold_out-ListItem, map-ListItem}
-use Rattle.st_il.specs.declared.expression.PathSeg.{PathSeg, out-PathSeg, fold-PathSeg, fold_out-PathSeg, map-PathSeg}
+use Rattle.st_il.specs.declared.expression.Iteration.{Iteration, out-Iteration, fold_out-Iteration, map-Iteration}
+use Rattle.st_il.specs.declared.expression.ListItem.{ListItem, out-ListItem, fold_out-ListItem, map-ListItem}
+use Rattle.st_il.specs.declared.expression.PathSeg.{PathSeg, out-PathSeg, fold_out-PathSeg, map-PathSeg}
 use Rattle.st_il.specs.Occurrences.{Counted, in_any, occurs_at, occurs_count_at, occurs_item_at, occurs_step_at, occurs, occurs_in_count, occurs_in_item, occurs_in_step}
 use Rattle.st_semantics.specs.Names.{Name, has_name, flattened}
 use Rattle.st_semantics.specs.Iterations.{count_of, index_of, kind_of, count_at, index_at, kind_at}
 use Rattle.st_semantics.specs.Operands.{operands_at, item_at, segment_at, item_exp, segment_exps}
 use Rattle.st_semantics.specs.OperationTypes.{Level}
 use Rattle.st_ilcheck.specs.Variables.{Occurrence, Repeated, repeated_at, inside, occurrences, occurrences_at}
-
--- ---- what holds of each
-
-module _ {X : Type 0} (P : X → Type 0) where
-  pub Each-append : (xs ys : List X) → AllByRecursion P xs → AllByRecursion P ys → AllByRecursion P (xs ++ ys)
-  Each-append [] ys h k = k
-  Each-append (x ∷ xs) ys h k = (h.0, Each-append xs ys h.1 k)
-
-  pub Each-split : (xs ys : List X) → AllByRecursion P (xs ++ ys) → AllByRecursion P xs × AllByRecursion P ys
-  Each-split [] ys h = (tt, h)
-  Each-split (x ∷ xs) ys h = let r = Each-split xs ys h.1 in ((h.0, r.0), r.1)
+use Rattle.st_elab_typed.specs.inner.Named.{IsNoIteration}
+use Rattle.st_elab_typed.proofs.Members.{Has, or_left, or_right}
+use Rattle.st_elab_typed.proofs.Collected.{mapped, mapped_count, of_count, operands-are, opened, opened-count, counted-are, index-is, kind-is}
 
 -- ---- occurrences
 
-abbrev of_item : ListItem → List Occurrence
-of_item = fold-ListItem (List Occurrence) Repeated (List Occurrence) (List (List Occurrence)) occurrences_at repeated_at item_at segment_at
-
-abbrev of_segment : PathSeg → List (List Occurrence)
-of_segment = fold-PathSeg (List Occurrence) Repeated (List Occurrence) (List (List Occurrence)) occurrences_at repeated_at item_at segment_at
-
-abbrev of_count : Iteration → Repeated
-of_count = fold-Iteration (List Occurrence) Repeated (List Occurrence) (List (List Occurrence)) occurrences_at repeated_at item_at segment_at
-
-abbrev mapped : Level → IlExp-F (List Occurrence) Repeated (List Occurrence) (List (List Occurrence))
-mapped y = map-IlExp IlExp Iteration ListItem PathSeg (List Occurrence) Repeated (List Occurrence) (List (List Occurrence)) occurrences of_count of_item of_segment y
-
-abbrev mapped_count : Iteration-F IlExp Iteration ListItem PathSeg → Iteration-F (List Occurrence) Repeated (List Occurrence) (List (List Occurrence))
-mapped_count y = map-Iteration IlExp Iteration ListItem PathSeg (List Occurrence) Repeated (List Occurrence) (List (List Occurrence)) occurrences of_count of_item of_segment y
-
-item-is : (i : ListItem) → of_item i ≡ occurrences (item_exp i)
-item-is i = fold_out-ListItem (List Occurrence) Repeated (List Occurrence) (List (List Occurrence)) occurrences_at repeated_at item_at segment_at i ∙ by (out-ListItem i)
-  where
-    by : (y : ListItem-F IlExp Iteration ListItem PathSeg)
-        → item_at (map-ListItem IlExp Iteration ListItem PathSeg (List Occurrence) Repeated (List Occurrence) (List (List Occurrence)) occurrences of_count of_item of_segment y) ≡ occurrences (item_at y)
-    by (ListItem-F.One e) = refl
-    by (ListItem-F.All e) = refl
-
-items-are : (is : List ListItem) → map (λ (os : List Occurrence). os) (map of_item is) ≡ map occurrences (map item_exp is)
-items-are [] = refl
-items-are (i ∷ is) = ap₂ (λ a b. a ∷ b) (item-is i) (items-are is)
-
-segment-is : (s : PathSeg) → of_segment s ≡ map occurrences (segment_exps s)
-segment-is s = fold_out-PathSeg (List Occurrence) Repeated (List Occurrence) (List (List Occurrence)) occurrences_at repeated_at item_at segment_at s ∙ by (out-PathSeg s)
-  where
-    by : (y : PathSeg-F IlExp Iteration ListItem PathSeg)
-        → segment_at (map-PathSeg IlExp Iteration ListItem PathSeg (List Occurrence) Repeated (List Occurrence) (List (List Occurrence)) occurrences of_count of_item of_segment y) ≡ map occurrences (segment_at y)
-    by (PathSeg-F.Field name) = refl
-    by (PathSeg-F.PathSeg::At e) = refl
-    by (PathSeg-F.PathSeg::Slice e g) = refl
-
-path-is : (path : List PathSeg) (last : IlExp)
-    → flattened (map (λ (oss : List (List Occurrence)). oss) (map of_segment path)) ++ occurrences last ∷ [] ≡ map occurrences (flattened (map segment_exps path) ++ last ∷ [])
-path-is path last = ap (λ z. z ++ occurrences last ∷ []) (by path) ∙ sym (map-append occurrences (flattened (map segment_exps path)) (last ∷ []))
-  where
-    by : (path : List PathSeg) → flattened (map (λ (oss : List (List Occurrence)). oss) (map of_segment path)) ≡ map occurrences (flattened (map segment_exps path))
-    by [] = refl
-    by (s ∷ ss) = ap₂ (λ a b. a ++ b) (segment-is s) (by ss) ∙ sym (map-append occurrences (segment_exps s) (flattened (map segment_exps ss)))
-
-operands-are : (y : Level) → operands_at (λ (os : List Occurrence). os) (λ (oss : List (List Occurrence)). oss) (mapped y) ≡ map occurrences (operands_at item_exp segment_exps y)
-operands-are (IlExp-F.Set e path g) = ap (λ z. occurrences e ∷ z) (path-is path g)
-operands-are (IlExp-F.Extend e path g) = ap (λ z. occurrences e ∷ z) (path-is path g)
-operands-are (IlExp-F.List t items) = items-are items
-operands-are _ = refl
-
-occurrences-level : (e : IlExp) (y : Level) → out-IlExp e ≡ y → occurrences e ≡ occurrences_at (mapped y)
-occurrences-level e y is =
-    fold_out-IlExp (List Occurrence) Repeated (List Occurrence) (List (List Occurrence)) occurrences_at repeated_at item_at segment_at e ∙ ap (λ z. occurrences_at (mapped z)) is
+occurrences-level : (e : IlExp) (y : Level) → out-IlExp e ≡ y → occurrences e ≡ occurrences_at (mapped occurrences_at repeated_at y)
+occurrences-level e y is = opened occurrences_at repeated_at e ∙ ap (λ z. occurrences_at (mapped occurrences_at repeated_at z)) is
 
 pub occurrences-Var : (e : IlExp) (x : Name) → out-IlExp e ≡ IlExp-F.Var x → occurrences e ≡ (x, []) ∷ []
 occurrences-Var e x is = occurrences-level e (IlExp-F.Var x) is
@@ -92,37 +32,26 @@ IsPlain (IlExp-F.Var x) = ⊥
 IsPlain (IlExp-F.Iter how xs body) = ⊥
 IsPlain _ = Unit {0}
 
-plain-at : (y : Level) → IsPlain y → occurrences_at (mapped y) ≡ flattened (operands_at (λ (os : List Occurrence). os) (λ (oss : List (List Occurrence)). oss) (mapped y))
+plain-at : (y : Level) → IsPlain y → occurrences_at (mapped occurrences_at repeated_at y) ≡ flattened (map occurrences (operands_at item_exp segment_exps y))
 plain-at (IlExp-F.Var x) p = absurd p
 plain-at (IlExp-F.Iter how xs body) p = absurd p
-plain-at _ p = refl
+plain-at y p = ap flattened (operands-are occurrences_at repeated_at y)
 
 pub occurrences-plain : (e : IlExp) (y : Level) → out-IlExp e ≡ y → IsPlain y → occurrences e ≡ flattened (map occurrences (operands_at item_exp segment_exps y))
-occurrences-plain e y is p = occurrences-level e y is ∙ plain-at y p ∙ ap flattened (operands-are y)
+occurrences-plain e y is p = occurrences-level e y is ∙ plain-at y p
 
-count-is : (how : Iteration) → of_count how ≡ record { count = flattened (map occurrences (count_of how)); index = index_of how; kind = kind_of how }
-count-is how = fold_out-Iteration (List Occurrence) Repeated (List Occurrence) (List (List Occurrence)) occurrences_at repeated_at item_at segment_at how ∙ by (out-Iteration how)
-  where
-    by : (y : Iteration-F IlExp Iteration ListItem PathSeg) → repeated_at (mapped_count y) ≡ record { count = flattened (map occurrences (count_at y)); index = index_at y; kind = kind_at y }
-    by Iteration-F.Star = refl
-    by Iteration-F.Plus = refl
-    by Iteration-F.Quest = refl
-    by (Iteration-F.Times e) = refl
-    by (Iteration-F.Below index e) = refl
+occurrences-counted : (how : Iteration) (os : List Occurrence)
+    → (let z : Repeated = of_count occurrences_at repeated_at how in z.count ++ inside z.index z.kind os) ≡ flattened (map occurrences (count_of how)) ++ inside (index_of how) (kind_of how) os
+occurrences-counted how os =
+    ap (λ (z : Repeated). z.count ++ inside z.index z.kind os) (opened-count occurrences_at repeated_at how)
+    ∙ (ap (λ z. z ++ inside (index_at (mapped_count occurrences_at repeated_at (out-Iteration how))) (kind_at (mapped_count occurrences_at repeated_at (out-Iteration how))) os) (counted-are occurrences_at repeated_at (out-Iteration how))
+    ∙ ap₂ (λ i k. flattened (map occurrences (count_of how)) ++ inside i k os) (index-is occurrences_at repeated_at (out-Iteration how)) (kind-is occurrences_at repeated_at (out-Iteration how)))
 
 pub occurrences-Iter : (e : IlExp) (how : Iteration) (xs : List Name) (body : IlExp) → out-IlExp e ≡ IlExp-F.Iter how xs body
     → occurrences e ≡ flattened (map occurrences (count_of how)) ++ inside (index_of how) (kind_of how) (occurrences body)
-occurrences-Iter e how xs body is = occurrences-level e (IlExp-F.Iter how xs body) is ∙ ap (λ (z : Repeated). z.count ++ inside z.index z.kind (occurrences body)) (count-is how)
+occurrences-Iter e how xs body is = occurrences-level e (IlExp-F.Iter how xs body) is ∙ occurrences-counted how (occurrences body)
 
 -- ---- names that occur
-
-pub or-left : (a b : Bool) → a ≡ true → (a || b) ≡ true
-or-left true b h = refl
-or-left false b h = absurd (true≢false (sym h))
-
-pub or-right : (a b : Bool) → b ≡ true → (a || b) ≡ true
-or-right true b h = refl
-or-right false b h = h
 
 or-none : (a : Bool) → (a || false) ≡ true → a ≡ true
 or-none true h = refl
@@ -136,7 +65,7 @@ module _ (x : Name) where
   abbrev mapped_names : Level → IlExp-F Bool Counted Bool Bool
   mapped_names y = map-IlExp IlExp Iteration ListItem PathSeg Bool Counted Bool Bool (occurs x) (occurs_in_count x) (occurs_in_item x) (occurs_in_step x) y
 
-  occurs-level : (e : IlExp) (y : Level) → out-IlExp e ≡ y → occurs x e ≡ occurs_at x (mapped_names y)
+  pub occurs-level : (e : IlExp) (y : Level) → out-IlExp e ≡ y → occurs x e ≡ occurs_at x (mapped_names y)
   occurs-level e y is = fold_out-IlExp Bool Counted Bool Bool (occurs_at x) (occurs_count_at x) occurs_item_at occurs_step_at e ∙ ap (λ z. occurs_at x (mapped_names z)) is
 
   -- it occurs in one of these
@@ -177,17 +106,17 @@ module _ (x : Name) where
   in_path (s ∷ ss) h =
       either (in_some (segment_exps s)) (in_some (flattened (map segment_exps ss))) (in_any (map (occurs_in_step x) (s ∷ ss)) ≡ true)
       (sym (list_any-append (occurs x) (segment_exps s) (flattened (map segment_exps ss))) ∙ h)
-      (λ k. or-left (occurs_in_step x s) (in_any (map (occurs_in_step x) ss)) (in_step s k))
-      (λ k. or-right (occurs_in_step x s) (in_any (map (occurs_in_step x) ss)) (in_path ss k))
+      (λ k. or_left (occurs_in_step x s) (in_any (map (occurs_in_step x) ss)) (in_step s k))
+      (λ k. or_right (occurs_in_step x s) (in_any (map (occurs_in_step x) ss)) (in_path ss k))
 
   in_change : (a : IlExp) (path : List PathSeg) (b : IlExp) → in_some (a ∷ flattened (map segment_exps path) ++ b ∷ []) ≡ true → (occurs x a || in_any (map (occurs_in_step x) path) || occurs x b) ≡ true
   in_change a path b h =
       either (occurs x a) (in_some (flattened (map segment_exps path) ++ b ∷ [])) ((occurs x a || in_any (map (occurs_in_step x) path) || occurs x b) ≡ true) h
-      (λ k. or-left (occurs x a || in_any (map (occurs_in_step x) path)) (occurs x b) (or-left (occurs x a) (in_any (map (occurs_in_step x) path)) k))
+      (λ k. or_left (occurs x a || in_any (map (occurs_in_step x) path)) (occurs x b) (or_left (occurs x a) (in_any (map (occurs_in_step x) path)) k))
       (λ k. either (in_some (flattened (map segment_exps path))) (in_some (b ∷ [])) ((occurs x a || in_any (map (occurs_in_step x) path) || occurs x b) ≡ true)
       (sym (list_any-append (occurs x) (flattened (map segment_exps path)) (b ∷ [])) ∙ k)
-      (λ l. or-left (occurs x a || in_any (map (occurs_in_step x) path)) (occurs x b) (or-right (occurs x a) (in_any (map (occurs_in_step x) path)) (in_path path l)))
-      (λ l. or-right (occurs x a || in_any (map (occurs_in_step x) path)) (occurs x b) (or-none (occurs x b) l)))
+      (λ l. or_left (occurs x a || in_any (map (occurs_in_step x) path)) (occurs x b) (or_right (occurs x a) (in_any (map (occurs_in_step x) path)) (in_path path l)))
+      (λ l. or_right (occurs x a || in_any (map (occurs_in_step x) path)) (occurs x b) (or-none (occurs x b) l)))
 
   in_three : (a b c : Bool) → (a || (b || (c || false))) ≡ true → (a || b || c) ≡ true
   in_three true b c h = refl
@@ -277,9 +206,26 @@ module _ (x : Name) where
   -- what occurs in the count occurs
   pub occurs-count : (e : IlExp) (how : Iteration) (xs : List Name) (body : IlExp) → out-IlExp e ≡ IlExp-F.Iter how xs body → in_some (count_of how) ≡ true → occurs x e ≡ true
   occurs-count e how xs body is h = occurs-level e (IlExp-F.Iter how xs body) is
-      ∙ or-left (occurs_in_count x how).in_count (not (occurs_in_count x how).is_index && occurs x body) (counted-occurs how h)
+      ∙ or_left (occurs_in_count x how).in_count (not (occurs_in_count x how).is_index && occurs x body) (counted-occurs how h)
 
   -- so does what occurs in the body, but for the index
   pub occurs-body : (e : IlExp) (how : Iteration) (xs : List Name) (body : IlExp) → out-IlExp e ≡ IlExp-F.Iter how xs body → has_name (index_of how) x ≡ false → occurs x body ≡ true → occurs x e ≡ true
   occurs-body e how xs body is other h = occurs-level e (IlExp-F.Iter how xs body) is
-      ∙ or-right (occurs_in_count x how).in_count (not (occurs_in_count x how).is_index && occurs x body) (ap₂ (λ a b. not a && b) (index-other how other) h)
+      ∙ or_right (occurs_in_count x how).in_count (not (occurs_in_count x how).is_index && occurs x body) (ap₂ (λ a b. not a && b) (index-other how other) h)
+
+  -- ---- by the members of a list
+
+  -- it occurs in one of some expressions where it occurs in a member
+  pub in_member : (es : List IlExp) (p : IlExp) → Has es p → occurs x p ≡ true → in_some es ≡ true
+  in_member [] p k h = absurd k
+  in_member (e ∷ es) p (inl same) h = or_left (occurs x e) (in_some es) (subst (λ z. occurs x z ≡ true) (sym same) h)
+  in_member (e ∷ es) p (inr k) h = or_right (occurs x e) (in_some es) (in_member es p k h)
+
+  -- a name that occurs in an operand occurs in the whole
+  pub operand-occurs : (e : IlExp) → IsNoIteration (out-IlExp e) → (p : IlExp) → Has (operands_at item_exp segment_exps (out-IlExp e)) p → occurs x p ≡ true → occurs x e ≡ true
+  operand-occurs e i p k h = by (out-IlExp e) refl i k
+    where
+      by : (y : Level) → out-IlExp e ≡ y → IsNoIteration y → Has (operands_at item_exp segment_exps y) p → occurs x e ≡ true
+      by (IlExp-F.Var name) is i k = absurd k
+      by (IlExp-F.Iter how xs body) is i k = absurd i
+      by y is i k = occurs-plain e y is tt (in_member (operands_at item_exp segment_exps y) p k h)

@@ -23,11 +23,8 @@ use Rattle.st_ilcheck.specs.Variables.{Occurrence, deeper, inside, occurrences, 
 use Rattle.st_elab_typed.specs.KeepsNames.{KeepsNames, AllKeepNames, keeps, more}
 use Rattle.st_elab_typed.specs.inner.IsPlaced.{IsReached, IsPlaced, ArePlaced, placed}
 use Rattle.st_elab_typed.specs.inner.IsPlaced.{none as unplaced, more as place_more}
-use Rattle.st_elab_typed.proofs.Occurring.{Each-append, Each-split, occurrences-Var, occurrences-plain, occurrences-Iter, in_some, or-left, or-right, occurs-plain, occurs-Var, occurs-count, occurs-body, IsPlain}
-
-pub Each-weaken : {X : Type 0} (P Q : X → Type 0) (xs : List X) → ((x : X) → P x → Q x) → AllByRecursion P xs → AllByRecursion Q xs
-Each-weaken P Q [] goes h = tt
-Each-weaken P Q (x ∷ xs) goes h = (goes x h.0, Each-weaken P Q xs goes h.1)
+use Rattle.st_elab_typed.proofs.Members.{Each-append, Each-split, or_left, or_right}
+use Rattle.st_elab_typed.proofs.Occurring.{occurrences-Var, occurrences-plain, occurrences-Iter, in_some, occurs-plain, occurs-Var, occurs-count, occurs-body, IsPlain}
 
 same_itself : (name : Name) → same_name name name ≡ true
 same_itself name = (bytes_eq-Decides name name).1 refl
@@ -48,8 +45,8 @@ PartListed p = AllByRecursion (IsListed p.0) (occurrences p.1)
 pub some_occur : (ls : List Listed) (es : List IlExp) → AllByRecursion PartOccurs (standing ls es) → AllByRecursion (λ (o : Occurrence). in_some o.0 es ≡ true) (flattened (map occurrences es))
 some_occur ls [] h = tt
 some_occur ls (e ∷ es) h = Each-append (λ (o : Occurrence). in_some o.0 (e ∷ es) ≡ true) (occurrences e) (flattened (map occurrences es))
-    (Each-weaken (Occurs e) (λ (o : Occurrence). in_some o.0 (e ∷ es) ≡ true) (occurrences e) (λ o k. or-left (occurs o.0 e) (in_some o.0 es) k) h.0)
-    (Each-weaken (λ (o : Occurrence). in_some o.0 es ≡ true) (λ (o : Occurrence). in_some o.0 (e ∷ es) ≡ true) (flattened (map occurrences es)) (λ o k. or-right (occurs o.0 e) (in_some o.0 es) k) (some_occur ls es h.1))
+    (Each-weaken (Occurs e) (λ (o : Occurrence). in_some o.0 (e ∷ es) ≡ true) (occurrences e) (λ o k. or_left (occurs o.0 e) (in_some o.0 es) k) h.0)
+    (Each-weaken (λ (o : Occurrence). in_some o.0 es ≡ true) (λ (o : Occurrence). in_some o.0 (e ∷ es) ≡ true) (flattened (map occurrences es)) (λ o k. or_right (occurs o.0 e) (in_some o.0 es) k) (some_occur ls es h.1))
 
 -- what holds of the occurrences in a body, but for those of an index, holds of them inside
 pub each_inside : (P Q : Occurrence → Type 0) (is : List Name) (kind : Kind) (os : List Occurrence) → ((o : Occurrence) → has_name is o.0 ≡ false → P o → Q (deeper kind o)) → AllByRecursion P os → AllByRecursion Q (inside is kind os)
@@ -99,7 +96,7 @@ index_listed (i ∷ is) ls x h = by (same_name x i) h (index_listed is ls x)
     by true k next = (record { name = i; ty = ty.Nat; dim = [] }, (refl, refl))
     by false k next = next k
 
-stepped_listed : (xs : List Name) (ls : List Listed) (x : Name) (l : Listed) → listed_as x ls ≡ Some l → listed_as x (stepped_all xs ls) ≡ Some (stepped xs l)
+pub stepped_listed : (xs : List Name) (ls : List Listed) (x : Name) (l : Listed) → listed_as x ls ≡ Some l → listed_as x (stepped_all xs ls) ≡ Some (stepped xs l)
 stepped_listed xs [] x l h = absurd (cc)
 stepped_listed xs (k ∷ ls) x l h = by (same_name x k.name) h (stepped_listed xs ls x l)
   where
@@ -107,7 +104,7 @@ stepped_listed xs (k ∷ ls) x l h = by (same_name x k.name) h (stepped_listed x
     by true e next = let same : k ≡ l = cc in ap (λ z. Some (stepped xs z)) same
     by false e next = next e
 
-other_listed : (is : List Name) (ls : List Listed) (x : Name) (l : Listed) → has_name is x ≡ false → listed_as x ls ≡ Some l → listed_as x (indices is ++ ls) ≡ Some l
+pub other_listed : (is : List Name) (ls : List Listed) (x : Name) (l : Listed) → has_name is x ≡ false → listed_as x ls ≡ Some l → listed_as x (indices is ++ ls) ≡ Some l
 other_listed [] ls x l h k = k
 other_listed (i ∷ is) ls x l h k = by (same_name x i) h (λ n. other_listed is ls x l n k)
   where
@@ -115,7 +112,7 @@ other_listed (i ∷ is) ls x l h k = by (same_name x i) h (λ n. other_listed is
     by true e next = absurd (true≢false e)
     by false e next = next e
 
-listed_name : (ls : List Listed) (x : Name) (l : Listed) → listed_as x ls ≡ Some l → x ≡ l.name
+pub listed_name : (ls : List Listed) (x : Name) (l : Listed) → listed_as x ls ≡ Some l → x ≡ l.name
 listed_name [] x l h = absurd (cc)
 listed_name (k ∷ ls) x l h = by (same_name x k.name) refl h (listed_name ls x l)
   where
@@ -127,7 +124,7 @@ pub and-left : (a b : Bool) → (a && b) ≡ true → a ≡ true
 and-left true b h = refl
 and-left false b h = h
 
-and-right : (a b : Bool) → (a && b) ≡ true → b ≡ true
+pub and-right : (a b : Bool) → (a && b) ≡ true → b ≡ true
 and-right true b h = h
 and-right false b h = absurd (true≢false (sym h))
 

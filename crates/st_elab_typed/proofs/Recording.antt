@@ -42,6 +42,7 @@ use Rattle.st_elab_typed.proofs.EachHas.{EachHas, EachIs, Has-Tuple, Has-Tuple_e
 use Rattle.st_elab_typed.proofs.Fitting.{Fits-fill, FillTypes, FillTypes-shaped, FillTypes-aligned}
 use Rattle.st_elab_typed.proofs.Keeping.{is_tuple, keeps_if, keeps_asks, keeps_shaped}
 use Rattle.st_elab_typed.proofs.Listing.{other_keeps}
+use Rattle.st_elab_typed.proofs.KnownTypes.{fun_name}
 
 same_itself : (name : List ℕ) → same_name name name ≡ true
 same_itself name = (bytes_eq-Decides name name).1 refl
@@ -64,17 +65,9 @@ operands_of-chosen k cases c (IsChosenBy.keyless none first) = (operands_of-firs
 
 -- ---- functions by their names
 
-named : (fs : List FunDef) (name : List ℕ) (f : FunDef) → fun_named fs name ≡ Some f → f.name ≡ name
-named [] name f h = absurd (cc)
-named (g ∷ gs) name f h = by (same_name name g.name) refl h (named gs name f)
-  where
-    by : (b : Bool) → same_name name g.name ≡ b → (if b then Some g else fun_named gs name) ≡ Some f → (fun_named gs name ≡ Some f → f.name ≡ name) → f.name ≡ name
-    by true e k next = let same : g ≡ f = cc in ap (λ z. z.name) (sym same) ∙ sym ((bytes_eq-Decides name g.name).0 e)
-    by false e k next = next k
-
 pub function_named-found : (il : Il) (name : List ℕ) (f : FunDef) → fun_named (funs_in il.defs) name ≡ Some f → function_named il f.name ≡ Some f
 function_named-found il name f h =
-    subst (λ z. function_named il z ≡ Some f) (sym (named (funs_in il.defs) name f h)) (fun_named-found name (funs_in il.defs) ∙ h)
+    subst (λ z. function_named il z ≡ Some f) (sym (fun_name (funs_in il.defs) name f h)) (fun_named-found name (funs_in il.defs) ∙ h)
 
 -- what fills a notation may fill its holes
 pub FillTypes-case : (defs : List SyntaxDef) (c : CaseDef) (e : Exp) (fillings : List Filling) → FillsCase defs c e fillings → FillTypes defs fillings c.operands

@@ -42,7 +42,7 @@ use Rattle.st_elab_table.specs.Elaboration.{row, Answered}
 use Rattle.st_elab_table.proofs.Keeps.{Answered-keeps}
 use Rattle.st_ilcheck.specs.Typings.{HasTyping}
 use Rattle.st_ilcheck.specs.Variables.{occurrences, IsListed}
-use Rattle.st_elab_typed.specs.Law.{IsDeclaredIn, AreListedAs, IsOfType, NamesAreKept, ListingKeepsTypes, listed}
+use Rattle.st_elab_typed.specs.Law.{IsDeclaredIn, AreListedAs, IsOfType, NamesAreKept, ListingKeepsTypes}
 use Rattle.st_elab_typed.proofs.Claims.{decls_of, IsChecked, IsInferred, Claim, Kept}
 use Rattle.st_elab_typed.specs.inner.IsPlaced.{IsPlaced}
 use Rattle.st_elab_typed.proofs.Placing.{IsPlaced-listed}

@@ -20,9 +20,9 @@ use Rattle.st_semantics.specs.Scopes.{listed_inside}
 use Rattle.st_elab_table.specs.declared.decls.Decls.{Decls}
 use Rattle.st_elab_table.specs.declared.decls.Scope.{Scope}
 use Rattle.st_elab_table.specs.Inferred.{variable_type}
-use Rattle.st_elab_table.specs.Iterations.{Variable}
 use Rattle.st_elab_table.specs.Questions.{Manner, check, infer, Made, Gives}
 use Rattle.st_elab_table.specs.Elaboration.{Answered}
+use Rattle.st_elab_table.specs.Scopes.{listed}
 use Rattle.st_ilcheck.specs.Typings.{HasTyping}
 use Rattle.st_ilcheck.specs.Variables.{occurrences, IsListed}
 use Rattle.st_elab_typed.specs.KeepsNames.{KeepsNames}
@@ -67,10 +67,6 @@ InferredIsTyped = (il : Il) (D : Decls) (S : Scope) → IsDeclaredIn il D → Is
     → HasTyping il ls m.exp (Some m.ty) []
 
 -- ---- the variables as they are listed
-
--- a variable of a scope, as it is listed
-abbrev pub listed : Variable → Listed
-listed v = record { name = v.0; ty = v.1; dim = v.2 }
 
 -- The variables of a scope are listed with their types, where there is no iteration; and inside of
 -- an iteration that goes as it was written those that are listed inside are.

@@ -14,6 +14,7 @@ use Rattle.st_elab_def.specs.Breaches.{IsBreach}
 use Rattle.st_elab_def.specs.Elaboration.{IsElaborated}
 use Rattle.st_elab_def.specs.Erasing.{ErasesTo}
 use Rattle.st_elab_def.proofs.IsBreach.{IsBreach-within}
+use Rattle.st_ilcheck.specs.Typed.{Typed}
 use Rattle.st_order.specs.declared.fault.ModeFault.{ModeFault}
 use Rattle.st_order.specs.declared.relation_modes.Modes.{Modes}
 use Rattle.st_order.specs.Modes.{IsModesAnswer}
@@ -114,11 +115,11 @@ abbrev pub SaysSource : Printed → List (List ℕ) → List Def → Result Answ
 SaysSource printed names defs result = IfOk result (λ answer. SourceGives printed names defs answer.status answer.bytes.items)
 
 pub source_accepted : (printed : Printed) (names : List (List ℕ)) (defs : List Def) (e : Elaborated) (found : Result Modes ModeFault) (modes : Modes) (count : ℕ) (result : Result Answer NoMemory)
-    → IsElaborated defs e → ErasesTo defs e → IsModesAnswer e.il found → found ≡ Ok modes → count ≡ length defs → IfOk result (λ answer. answer.status ≡ Done)
+    → IsElaborated defs e → ErasesTo defs e → Typed e.il → IsModesAnswer e.il found → found ≡ Ok modes → count ≡ length defs → IfOk result (λ answer. answer.status ≡ Done)
     → IfOk result (λ answer. (ds : List Def) (x : Elaborated) → count ≡ length ds → x.il ≡ e.il → Prints printed ds x answer.bytes.items) → SaysSource printed names defs result
-source_accepted printed names defs e found modes count (Err fault) elaborated erased answers is counted status bytes = tt
-source_accepted printed names defs e found modes count (Ok answer) elaborated erased answers is counted status bytes =
-    subst (λ s. SourceGives printed names defs s answer.bytes.items) (sym status) (accepted e elaborated erased (subst (IsModesAnswer e.il) is answers).0 (bytes defs e counted refl))
+source_accepted printed names defs e found modes count (Err fault) elaborated erased typed answers is counted status bytes = tt
+source_accepted printed names defs e found modes count (Ok answer) elaborated erased typed answers is counted status bytes =
+    subst (λ s. SourceGives printed names defs s answer.bytes.items) (sym status) (accepted e elaborated erased typed (subst (IsModesAnswer e.il) is answers).0 (bytes defs e counted refl))
 
 -- the answer names a file, in which a definition is refused
 abbrev pub RefusesIn : List (List ℕ) → Def → Span → RuleId → Answer → Type 0

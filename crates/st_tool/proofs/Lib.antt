@@ -14,6 +14,7 @@ mod RulesByName
 mod OrderLines
 mod IsNotation
 mod HasTemplates
+mod ParsedPremises
 mod Checks
 mod DerivedAccepted
 mod TranscriptLemmas

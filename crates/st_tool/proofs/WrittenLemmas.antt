@@ -65,7 +65,7 @@ files_are_own printed names files status bytes (refused_at name at rule fault na
 files_are_own printed names files status bytes (empty none text) = own_done
 files_are_own printed names files status bytes (parsed tokens defs all some source (broken b def name breach within file text)) = own_specification
 files_are_own printed names files status bytes (parsed tokens defs all some source (unmoded e place number rule def name elaborated breach placed is within text)) = own_specification
-files_are_own printed names files status bytes (parsed tokens defs all some source (accepted_source e elaborated erased kept text)) = own_done
+files_are_own printed names files status bytes (parsed tokens defs all some source (accepted_source e elaborated erased typed kept text)) = own_done
 
 il_is_own : (names files : List (List ℕ)) (status : Status) (bytes : List ℕ) → IlGives names files status bytes → IsOwn status
 il_is_own names files status bytes (inl (small, one, is, text)) = subst IsOwn (sym is) own_done

@@ -23,6 +23,7 @@ use Rattle.st_tool.specs.declared.status.Status.{Status}
 use Rattle.st_tool.specs.declared.status.Status.TheVariants as answer
 use Rattle.st_il.specs.declared.small.Small.{Small}
 use Rattle.st_il.specs.Small.{il_of}
+use Rattle.st_ilcheck.specs.Typed.{Typed}
 use Rattle.st_iltext.specs.IlText.{IlText, il_text}
 use Rattle.st_semantics.specs.Breaches.{KeepModes, IsModeBreach}
 use Rattle.st_tool.specs.OrderTexts.{orders_text}
@@ -91,9 +92,9 @@ pub data SourceGives (printed : Printed) (names : List (List ℕ)) (defs : List 
       → slice_get names def.at.file ≡ Some name
       → bytes ≡ refused_source_text name def.at (definition_words def.node) rule
       → SourceGives printed names defs answer.Specification bytes
-  -- there is none, and the rules on modes are kept
+  -- there is none, what they are elaborated to is typed, and the rules on modes are kept
   accepted : {bytes : List ℕ} (e : Elaborated) → IsElaborated defs e → ErasesTo defs e
-      → KeepModes e.il → Prints printed defs e bytes
+      → Typed e.il → KeepModes e.il → Prints printed defs e bytes
       → SourceGives printed names defs answer.Done bytes
 
 -- ---- files

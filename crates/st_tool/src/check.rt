@@ -5,6 +5,8 @@ ghost use Rattle.st_elab_def.specs.Answers.{HasTemplates};
 ghost use Rattle.st_elab_def.specs.Breaches.{IsBreach};
 ghost use Rattle.st_elab_def.specs.Elaboration.{IsElaborated};
 ghost use Rattle.st_elab_def.specs.Erasing.{ErasesTo};
+ghost use Rattle.st_elab_def.specs.Sources.{RepeatNoOtherwise};
+ghost use Rattle.st_ilcheck.specs.Typed.{Typed};
 ghost use Rattle.st_iltext.specs.IlText.{il_text};
 ghost use Rattle.st_order.specs.Modes.{HasFew, AreModes};
 ghost use Rattle.st_tool.specs.Checking.{AllTokens, TellsFault};
@@ -165,6 +167,7 @@ fn answer_elaborated(
 ) -> Result<Answer, NoMemory>
     requires elaborated { IsElaborated defs.now elaborated.now }
     requires erased { ErasesTo defs.now elaborated.now }
+    requires typed { Typed elaborated.now.il }
     requires begin { BeginWithin (length names.now) defs.now }
     ensures { IfOk result (λ answer. SourceGives printed names.now defs.now
         answer.status answer.bytes.items) }
@@ -186,6 +189,7 @@ fn answer_source(
     defs: &[Def],
 ) -> Result<Answer, NoMemory>
     requires templates { HasTemplates defs.now }
+    requires repeats { RepeatNoOtherwise defs.now }
     requires within { BreachesWithin (length names.now) defs.now }
     requires begin { BeginWithin (length names.now) defs.now }
     ensures { IfOk result (λ answer. SourceGives printed names.now defs.now

@@ -11,7 +11,7 @@ use Rattle.st_il.specs.declared.definition.IlDef.{IlDef}
 use Rattle.st_il.specs.declared.definition.IlDef.TheVariants as il
 use Rattle.st_il.specs.declared.definition.RuleDef.{RuleDef}
 use Rattle.st_elab_table.specs.declared.decls.Decls.{Decls}
-use Rattle.st_elab_exp.specs.Clauses.{ClauseParts}
+use Rattle.st_elab_table.specs.Clauses.{ClauseParts}
 use Rattle.st_elab_def.specs.Contents.{ElabRuleOf, ElabClauseOf}
 use Rattle.st_elab_def.specs.Definitions.{Definition}
 use Rattle.st_elab_def.specs.Elaboration.{ElabDef}

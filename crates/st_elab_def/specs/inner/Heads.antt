@@ -7,7 +7,7 @@ use Rattle.st_el.specs.declared.definition.Def.{Def}
 use Rattle.st_il.specs.declared.definition.RelationDef.{RelationDef}
 use Rattle.st_elab_table.specs.declared.decls.Decls.{Decls}
 use Rattle.st_elab_table.specs.Inferred.{fun_named}
-use Rattle.st_elab_exp.specs.Judgements.{relation_named}
+use Rattle.st_elab_table.specs.Judgements.{relation_named}
 use Rattle.st_elab_def.specs.declared.heads.Known.{Known}
 use Rattle.st_elab_def.specs.Conditions.{relation, function, new_rule, has_rule}
 use Rattle.st_elab_def.specs.Phases.{Placed, placed}

@@ -6,7 +6,7 @@ use Rattle.st_elab_table.specs.Steps.{ty_of, exps}
 use Rattle.st_elab_rows.specs.declared.asking.Context.{Context}
 use Rattle.st_elab_exp.specs.declared.inferred.FoundAll.{FoundAll}
 use Rattle.st_elab_rows.specs.Told.{Told}
-use Rattle.st_elab_rows.specs.Parts.{Asked, Breaks}
+use Rattle.st_elab_table.specs.Parts.{Asked, Breaks}
 
 -- these are the expressions and the types of the answers to the questions
 pub record AreFound (x : Context) (qs : List Question) (all : FoundAll) : Type 0 where

@@ -9,7 +9,7 @@ use Rattle.st_elab_table.specs.Collections.{item_of}
 use Rattle.st_elab_table.specs.Elaboration.{Leads}
 use Rattle.st_elab_rows.specs.declared.asking.Context.{Context}
 use Rattle.st_elab_rows.specs.Told.{Told}
-use Rattle.st_elab_rows.specs.Parts.{AskedAs, Breaks}
+use Rattle.st_elab_table.specs.Parts.{AskedAs, Breaks}
 
 -- what is found so far, with the answers to the questions that are left, answers all questions
 pub record Continues (D : Decls) (S : Scope) (all left : List Question) (A : Type 0)

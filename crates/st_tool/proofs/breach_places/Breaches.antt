@@ -25,14 +25,14 @@ use Rattle.st_elab_table.specs.Forms.{place}
 use Rattle.st_elab_table.specs.Questions.{Question, Breach, Answer, Gives, Step, Ends}
 use Rattle.st_elab_table.specs.Steps.{made, each_asked}
 use Rattle.st_elab_table.specs.Elaboration.{Answered, by_row, Leads, ends, goes_on, stops, passes, misses, opens, fills, fits_none, around}
-use Rattle.st_elab_rows.specs.Parts.{Breaks}
-use Rattle.st_elab_exp.specs.Judgements.{JudgedBreach, unfit, filling}
-use Rattle.st_elab_exp.specs.Premises.{PremBreach, in_condition, undeclared, in_judgement, in_premise, in_count, PremsBreach}
-use Rattle.st_elab_exp.specs.Variables.{is_untyped, VariableBreach, no_type, misplaced, idle}
-use Rattle.st_elab_exp.specs.Rules.{RuleBreach}
-use Rattle.st_elab_exp.specs.Rules as rules
-use Rattle.st_elab_exp.specs.Clauses.{ClauseParts, mentions_of, ClauseBreach}
-use Rattle.st_elab_exp.specs.Clauses as clauses
+use Rattle.st_elab_table.specs.Parts.{Breaks}
+use Rattle.st_elab_table.specs.Judgements.{JudgedBreach, unfit, filling}
+use Rattle.st_elab_table.specs.Premises.{PremBreach, in_condition, undeclared, in_judgement, in_premise, in_count, PremsBreach}
+use Rattle.st_elab_table.specs.Scopes.{is_untyped, VariableBreach, no_type, misplaced, idle}
+use Rattle.st_elab_table.specs.Rules.{RuleBreach}
+use Rattle.st_elab_table.specs.Rules as rules
+use Rattle.st_elab_table.specs.Clauses.{ClauseParts, mentions_of, ClauseBreach}
+use Rattle.st_elab_table.specs.Clauses as clauses
 use Rattle.st_tool.proofs.breach_places.ExpStands.{ExpStands, ExpsStand, no_exps, exps, CountStands, ExpStands-place, ExpsStand-append}
 use Rattle.st_tool.proofs.breach_places.Definitions.{PremStands, PremNodeStands, of_if, of_goal, of_each, PremsStand, prems, PremStands-place, PremStands-opened}
 use Rattle.st_tool.proofs.breach_places.Fits.{ExpStands-bare, Fits-stands}

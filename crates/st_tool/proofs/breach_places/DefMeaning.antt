@@ -40,7 +40,7 @@ use Rattle.st_parse_builder.specs.Notations.{typ_at, no_typ, typ_leaf, marked_no
 use Rattle.st_parse_builder.specs.Definitions.{name_in, place_in, fields_meaning, cases_meaning, variant, body_meaning, prem_at, condition, opened_at, sign_count, iterated, premise_meaning, premises_meaning, params, patterns, def_meaning, defs_meaning}
 use Rattle.st_parse_builder.proofs.NotationTallness.{rolled}
 use Rattle.st_elab_sig.specs.Signatures.{holes_of}
-use Rattle.st_elab_exp.specs.Premises.{node_of}
+use Rattle.st_elab_table.specs.Premises.{node_of}
 use Rattle.st_elab_def.specs.declared.names.Named.{Named}
 use Rattle.st_elab_def.specs.Phases.{names_in}
 use Rattle.st_tool.proofs.breach_places.ExpStands.{ExpStands, ExpsStand, no_exps, CountStands}

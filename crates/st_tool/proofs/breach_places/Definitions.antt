@@ -15,7 +15,7 @@ use Rattle.st_el.specs.declared.definition.Def.{Def}
 use Rattle.st_el.specs.declared.definition.DefNode.{DefNode}
 use Rattle.st_el.specs.declared.definition.DefNode.TheVariants.{Syntax, Var, Relation, Rule, Fun, Clause}
 use Rattle.st_elab_sig.specs.Signatures.{holes_of}
-use Rattle.st_elab_exp.specs.Premises.{place_of, node_of}
+use Rattle.st_elab_table.specs.Premises.{place_of, node_of}
 use Rattle.st_elab_def.specs.declared.names.Named.{Named}
 use Rattle.st_elab_def.specs.Phases.{names_in}
 use Rattle.st_tool.proofs.breach_places.ExpStands.{ExpStands, ExpsStand, CountStands}

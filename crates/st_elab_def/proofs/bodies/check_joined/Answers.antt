@@ -2,7 +2,7 @@ use Rattle.std.proofs.Common.{◌≡◌, rules, true}
 use Rattle.st_num.specs.declared.rule.RuleId.TheVariants.{B5}
 use Rattle.st_elab_table.specs.Questions.{Breach}
 use Rattle.st_elab_rows.proofs.Builds.{Told-stops}
-use Rattle.st_elab_exp.specs.Judgements.{broken}
+use Rattle.st_elab_table.specs.Judgements.{broken}
 use Rattle.st_elab_def.specs.Fragments.{dots_suit}
 use Rattle.st_elab_def.specs.inner.Bodies.{parts_asked, body_asked, BodyPasses}
 use Rattle.st_elab_def.specs.inner.Walk.{FirstBreachAt}

@@ -2,7 +2,7 @@ use Rattle.std.proofs.Common.{◌≡◌, rules, Some, [], ◌∷◌}
 use Rattle.st_elab_table.specs.Inferred.{fun_named}
 use Rattle.st_elab_table.specs.Questions.{Breach}
 use Rattle.st_elab_rows.proofs.Builds.{Told-stops}
-use Rattle.st_elab_exp.specs.Clauses.{parts_of, ClauseBreach}
+use Rattle.st_elab_table.specs.Clauses.{parts_of, ClauseBreach}
 use Rattle.st_elab_def.specs.Phases.{Placed, clause, on_clause}
 use Rattle.st_elab_def.specs.inner.Heads.{on_function}
 use Rattle.st_elab_def.specs.inner.Walk.{FirstBreachAt}

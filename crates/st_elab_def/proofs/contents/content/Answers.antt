@@ -2,7 +2,7 @@ use Rattle.std.proofs.Common.{refl}
 use Rattle.std.specs.Prelude.{Option, IsSomeAnd}
 use Rattle.st_el.specs.declared.definition.DefNode.TheVariants.{Syntax, Var, Relation, Fun, Clause}
 use Rattle.st_il.specs.declared.definition.IlDef.{IlDef}
-use Rattle.st_elab_exp.specs.Clauses.{parts_of}
+use Rattle.st_elab_table.specs.Clauses.{parts_of}
 use Rattle.st_elab_def.specs.Phases.{on_rule, on_clause, on_content}
 use Rattle.st_elab_def.specs.inner.Contents.{MakesRule, MakesClause, MakesContent}
 use Rattle.st_elab_def.specs.inner.Walk.{standing, FirstBreachAt}

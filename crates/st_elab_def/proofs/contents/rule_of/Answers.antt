@@ -1,7 +1,7 @@
 use Rattle.std.proofs.Common.{rules, [], ◌∷◌}
 use Rattle.st_elab_table.specs.Questions.{Breach}
 use Rattle.st_elab_rows.proofs.Builds.{Told-stops}
-use Rattle.st_elab_exp.specs.Rules.{RuleBreach}
+use Rattle.st_elab_table.specs.Rules.{RuleBreach}
 use Rattle.st_elab_def.specs.Phases.{Placed, rule, on_rule}
 use Rattle.st_elab_def.specs.inner.Heads.{HasHead, on_head}
 use Rattle.st_elab_def.specs.inner.Walk.{FirstBreachAt}

@@ -3,7 +3,8 @@ use Rattle.std.proofs.lemmas.Bool.{eq-eqb}
 use Rattle.st_il.specs.declared.expression.IlExp.{IlExp}
 use Rattle.st_il.specs.declared.expression.IlExp.TheVariants as il
 use Rattle.st_elab_table.specs.Steps.{give, each_asked, exp_of}
-use Rattle.st_elab_rows.specs.Parts.{TellsAll, AskedAs}
+use Rattle.st_elab_rows.specs.Told.{TellsAll}
+use Rattle.st_elab_table.specs.Parts.{AskedAs}
 use Rattle.st_elab_rows.specs.Asking.{manner}
 use Rattle.st_elab_rows.proofs.Builds.{leading_by, leading_breaks, leads_asks, gives_made}
 use Rattle.st_elab_exp.proofs.Checking.{tuple_counted}

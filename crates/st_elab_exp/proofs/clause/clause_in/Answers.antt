@@ -2,11 +2,11 @@ use Rattle.std.proofs.Common.{rules, refl, sym, ap, ◌∙◌, subst, length}
 use Rattle.st_il.specs.declared.expression.IlExp.{IlExp}
 use Rattle.st_elab_table.specs.Questions.{Breach}
 use Rattle.st_elab_table.specs.Steps.{each_asked, exp_of}
-use Rattle.st_elab_rows.specs.Parts.{AskedAs, Breaks}
+use Rattle.st_elab_table.specs.Parts.{AskedAs, Breaks}
 use Rattle.st_elab_rows.proofs.Builds.{Told-stops}
-use Rattle.st_elab_exp.specs.Inside.{ElabInside, InsideBreach}
-use Rattle.st_elab_exp.specs.Premises.{ElabPrems, PremsBreach}
-use Rattle.st_elab_exp.specs.Clauses.{parts_of, ElabClause, ClauseBreach, in_arguments, in_result, in_premises}
+use Rattle.st_elab_table.specs.Inside.{ElabInside, InsideBreach}
+use Rattle.st_elab_table.specs.Premises.{ElabPrems, PremsBreach}
+use Rattle.st_elab_table.specs.Clauses.{parts_of, ElabClause, ClauseBreach, in_arguments, in_result, in_premises}
 use Rattle.st_elab_exp.proofs.Clausing.{questions_are}
 use Rattle.st_elab_exp.proofs.clause.clause_in.Goals as goal
 

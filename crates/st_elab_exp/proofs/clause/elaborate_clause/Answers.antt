@@ -3,8 +3,8 @@ use Rattle.st_dims.specs.Mentions.{mentions_in}
 use Rattle.st_elab_table.specs.Questions.{Breach}
 use Rattle.st_elab_rows.specs.Told.{Told}
 use Rattle.st_elab_rows.proofs.Builds.{Told-stops}
-use Rattle.st_elab_exp.specs.Variables.{VariableBreach}
-use Rattle.st_elab_exp.specs.Clauses.{parts_of, mentions_of, HasArguments, ElabClause, ClauseBreach, in_number, at_variable}
+use Rattle.st_elab_table.specs.Scopes.{VariableBreach}
+use Rattle.st_elab_table.specs.Clauses.{parts_of, mentions_of, HasArguments, ElabClause, ClauseBreach, in_number, at_variable}
 use Rattle.st_elab_exp.specs.Erasing.{ClauseErases}
 use Rattle.st_elab_exp.proofs.Outcomes.{told_given, told_refused}
 use Rattle.st_elab_exp.proofs.Erasing.{clause_erases, told_ok}

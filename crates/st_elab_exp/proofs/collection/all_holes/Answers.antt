@@ -5,7 +5,7 @@ use Rattle.st_elab_table.specs.Steps.{holes_behind}
 use Rattle.st_elab_table.specs.Collections.{hole_row}
 use Rattle.st_elab_table.specs.Elaboration.{Leads, by_row}
 use Rattle.st_elab_rows.specs.Asking.{made_by}
-use Rattle.st_elab_rows.specs.Parts.{Breaks}
+use Rattle.st_elab_table.specs.Parts.{Breaks}
 use Rattle.st_elab_rows.proofs.Builds.{Told-stops}
 use Rattle.st_elab_exp.proofs.Collecting.{empty, next_answered, next_breaks, next_hole, none_left, no_hole, holes_end}
 use Rattle.st_elab_exp.proofs.collection.all_holes.Goals as goal

@@ -4,7 +4,7 @@ use Rattle.st_il.specs.declared.expression.ListItem.{ListItem}
 use Rattle.st_elab_table.specs.Questions.{item, Breach, Fails}
 use Rattle.st_elab_table.specs.Collections.{item_of, item_row}
 use Rattle.st_elab_table.specs.Elaboration.{Leads}
-use Rattle.st_elab_rows.specs.Parts.{Breaks}
+use Rattle.st_elab_table.specs.Parts.{Breaks}
 use Rattle.st_elab_rows.specs.inner.Continuing.{Continues}
 use Rattle.st_elab_rows.proofs.Builds.{Told-stops, continues_ends}
 use Rattle.st_elab_exp.proofs.Collecting.{item_more, item_stops}

@@ -5,7 +5,7 @@ use Rattle.st_elab_table.specs.Steps.{made, asked, exp_of}
 use Rattle.st_elab_table.specs.Elaboration.{around, Elab, ElabBreach}
 use Rattle.st_elab_rows.specs.Told.{Told}
 use Rattle.st_elab_rows.proofs.Builds.{Told-stops}
-use Rattle.st_elab_exp.specs.Inside.{ElabInside, InsideBreach}
+use Rattle.st_elab_table.specs.Inside.{ElabInside, InsideBreach}
 use Rattle.st_elab_exp.proofs.Public.{told_given, told_refused, told_erased}
 use Rattle.st_elab_exp.proofs.elaborate.check_exp.Goals as goal
 

@@ -3,7 +3,7 @@ use Rattle.st_elab_table.specs.Questions.{Made, Breach, Gives, Fails, Step, Ends
 use Rattle.st_elab_table.specs.Steps.{asked, each_asked}
 use Rattle.st_elab_table.specs.Elaboration.{Leads, ends}
 use Rattle.st_elab_rows.specs.Asking.{made_by}
-use Rattle.st_elab_rows.specs.Parts.{Breaks}
+use Rattle.st_elab_table.specs.Parts.{Breaks}
 use Rattle.st_elab_rows.proofs.Builds.{Told-stops}
 use Rattle.st_elab_exp.proofs.Collecting.{empty, next_answered, next_breaks, next_argument, none_left, no_argument, arguments_end, passed}
 use Rattle.st_elab_exp.proofs.inferred.arguments.Goals as goal

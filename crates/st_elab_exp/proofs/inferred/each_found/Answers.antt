@@ -4,7 +4,7 @@ use Rattle.st_elab_table.specs.Questions.{Made, Breach, Gives, Fails, Step, Ends
 use Rattle.st_elab_table.specs.Steps.{found}
 use Rattle.st_elab_table.specs.Elaboration.{Leads, ends}
 use Rattle.st_elab_rows.specs.Asking.{made_by}
-use Rattle.st_elab_rows.specs.Parts.{Breaks}
+use Rattle.st_elab_table.specs.Parts.{Breaks}
 use Rattle.st_elab_rows.proofs.Builds.{Told-stops, questions_from}
 use Rattle.st_elab_exp.proofs.Collecting.{passed}
 use Rattle.st_elab_exp.proofs.Pairing.{found_more, found_breaks, found_end}

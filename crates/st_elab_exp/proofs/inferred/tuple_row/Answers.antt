@@ -5,7 +5,7 @@ use Rattle.st_elab_table.specs.Questions.{Breach, Fails}
 use Rattle.st_elab_table.specs.Inferred.{inferred_tuple}
 use Rattle.st_elab_table.specs.Steps.{give, found}
 use Rattle.st_elab_table.specs.Elaboration.{Leads}
-use Rattle.st_elab_rows.specs.Parts.{Breaks}
+use Rattle.st_elab_table.specs.Parts.{Breaks}
 use Rattle.st_elab_rows.proofs.Builds.{Told-stops, leads_breaks, gives_made}
 use Rattle.st_elab_exp.proofs.Pairing.{pairs_lead}
 use Rattle.st_elab_exp.proofs.inferred.tuple_row.Goals as goal

@@ -5,7 +5,7 @@ use Rattle.st_elab_table.specs.Elaboration.{Answered}
 use Rattle.st_elab_rows.specs.Asking.{question}
 use Rattle.st_elab_rows.specs.declared.asking.Asking.TheVariants as asking
 use Rattle.st_elab_rows.proofs.Builds.{Told-stops}
-use Rattle.st_elab_exp.specs.Inside.{InsideBreach}
+use Rattle.st_elab_table.specs.Inside.{InsideBreach}
 use Rattle.st_elab_exp.proofs.Public.{is_elaborated_inside}
 use Rattle.st_elab_exp.proofs.inside.check_inside.Goals as goal
 

@@ -3,7 +3,7 @@ use Rattle.st_el.specs.declared.definition.PremNode.{out-PremNode}
 use Rattle.st_el.specs.declared.definition.PremNode.TheVariants as node
 use Rattle.st_elab_table.specs.Questions.{Breach}
 use Rattle.st_elab_rows.proofs.Builds.{Told-stops}
-use Rattle.st_elab_exp.specs.Premises.{PremBreach, otherwise}
+use Rattle.st_elab_table.specs.Premises.{PremBreach, otherwise}
 use Rattle.st_elab_exp.proofs.Building.{premise_breach}
 use Rattle.st_elab_exp.proofs.premise.+elaborate_prem.Goals as goal
 

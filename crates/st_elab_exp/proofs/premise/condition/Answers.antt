@@ -3,8 +3,8 @@ use Rattle.st_il.specs.declared.ty.Ty.TheVariants as ty
 use Rattle.st_il.specs.declared.expression.IlPrem.TheVariants as premise
 use Rattle.st_elab_table.specs.Questions.{Breach}
 use Rattle.st_elab_rows.proofs.Builds.{Told-stops}
-use Rattle.st_elab_exp.specs.Inside.{InsideBreach}
-use Rattle.st_elab_exp.specs.Premises.{ElabPrem, condition, PremBreach, in_condition}
+use Rattle.st_elab_table.specs.Inside.{InsideBreach}
+use Rattle.st_elab_table.specs.Premises.{ElabPrem, condition, PremBreach, in_condition}
 use Rattle.st_elab_exp.proofs.premise.condition.Goals as goal
 
 pub returns-in_err-exp : goal.returns-in_err-exp

@@ -8,7 +8,7 @@ use Rattle.st_elab_table.specs.Iterations.{iterated, iterated_in}
 use Rattle.st_elab_table.specs.Collections.{counted_at}
 use Rattle.st_elab_table.specs.Elaboration.{Stopped}
 use Rattle.st_elab_rows.proofs.Builds.{Told-stops}
-use Rattle.st_elab_exp.specs.Premises.{ElabPrem, each, PremBreach, in_count}
+use Rattle.st_elab_table.specs.Premises.{ElabPrem, each, PremBreach, in_count}
 use Rattle.st_elab_exp.proofs.premise.each.Goals as goal
 
 pub returns-in_err-times : goal.returns-in_err-times

@@ -1,7 +1,7 @@
 use Rattle.std.proofs.Common.{rules}
 use Rattle.st_elab_table.specs.Questions.{Breach}
 use Rattle.st_elab_rows.proofs.Builds.{Told-stops}
-use Rattle.st_elab_exp.specs.Premises.{PremBreach, PremsBreach}
+use Rattle.st_elab_table.specs.Premises.{PremBreach, PremsBreach}
 use Rattle.st_elab_exp.proofs.Building.{next_prem, breach_at, all_prems}
 use Rattle.st_elab_exp.proofs.premise.elaborate_prems.Goals as goal
 

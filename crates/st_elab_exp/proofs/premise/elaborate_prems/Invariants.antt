@@ -1,5 +1,5 @@
 use Rattle.std.proofs.Common.{take}
-use Rattle.st_elab_exp.specs.Premises.{ElabPrems}
+use Rattle.st_elab_table.specs.Premises.{ElabPrems}
 use Rattle.st_elab_exp.proofs.premise.elaborate_prems.Given as goal
 
 abbrev pub invariant-loop-prem : goal.invariant-loop-prem

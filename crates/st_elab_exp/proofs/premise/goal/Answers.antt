@@ -3,8 +3,8 @@ use Rattle.st_num.specs.declared.rule.RuleId.TheVariants.{B2}
 use Rattle.st_il.specs.declared.expression.IlPrem.TheVariants as premise
 use Rattle.st_elab_table.specs.Questions.{Breach}
 use Rattle.st_elab_rows.proofs.Builds.{Told-stops}
-use Rattle.st_elab_exp.specs.Judgements.{broken, JudgedBreach}
-use Rattle.st_elab_exp.specs.Premises.{ElabPrem, judgement, PremBreach, undeclared, in_judgement}
+use Rattle.st_elab_table.specs.Judgements.{broken, JudgedBreach}
+use Rattle.st_elab_table.specs.Premises.{ElabPrem, judgement, PremBreach, undeclared, in_judgement}
 use Rattle.st_elab_exp.proofs.premise.goal.Goals as goal
 
 pub returns-in_default : goal.returns-in_default

@@ -6,7 +6,8 @@ use Rattle.st_elab_table.specs.Records.{passed_on, case_row}
 use Rattle.st_elab_table.specs.Steps.{give, holes_behind, exp_of}
 use Rattle.st_elab_table.proofs.RowLemmas.{case_unfit}
 use Rattle.st_elab_rows.specs.Asking.{LeadsTo}
-use Rattle.st_elab_rows.specs.Parts.{TellsAll, AskedAs}
+use Rattle.st_elab_rows.specs.Told.{TellsAll}
+use Rattle.st_elab_table.specs.Parts.{AskedAs}
 use Rattle.st_elab_rows.proofs.Builds.{leading_by, leading_breaks, leads_asks, gives_made}
 use Rattle.st_elab_exp.proofs.Collecting.{same_holes}
 use Rattle.st_elab_exp.proofs.Recording.{case_fills, filled_in, none_filled, unnamed_unfit, none_chosen, none_fills}

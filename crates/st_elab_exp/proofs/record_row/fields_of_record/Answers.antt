@@ -4,7 +4,8 @@ use Rattle.st_elab_table.specs.Choice.{HaveShapes}
 use Rattle.st_elab_table.specs.Records.{field_types, field_names, aligned}
 use Rattle.st_elab_table.specs.Steps.{give, holes, exp_of}
 use Rattle.st_notation.specs.Fitted.{fillings}
-use Rattle.st_elab_rows.specs.Parts.{TellsAll, AskedAs}
+use Rattle.st_elab_rows.specs.Told.{TellsAll}
+use Rattle.st_elab_table.specs.Parts.{AskedAs}
 use Rattle.st_il.specs.declared.expression.IlExp.{IlExp}
 use Rattle.st_elab_rows.proofs.Builds.{leading_by, leading_breaks, leads_asks, gives_made}
 use Rattle.st_elab_exp.proofs.Recording.{record_fills, record_unfit}

@@ -1,9 +1,9 @@
 use Rattle.std.proofs.Common.{rules, subst}
 use Rattle.st_elab_table.specs.Questions.{Breach}
 use Rattle.st_elab_rows.proofs.Builds.{Told-stops}
-use Rattle.st_elab_exp.specs.Judgements.{Judged, JudgedBreach}
-use Rattle.st_elab_exp.specs.Premises.{PremsBreach}
-use Rattle.st_elab_exp.specs.Rules.{RuleBreach, in_conclusion, in_premises}
+use Rattle.st_elab_table.specs.Judgements.{Judged, JudgedBreach}
+use Rattle.st_elab_table.specs.Premises.{PremsBreach}
+use Rattle.st_elab_table.specs.Rules.{RuleBreach, in_conclusion, in_premises}
 use Rattle.st_elab_exp.proofs.rule.rule_in.Goals as goal
 
 pub returns-in_err-exps : goal.returns-in_err-exps

@@ -1,6 +1,6 @@
 use Rattle.std.proofs.Common.{subst}
 use Rattle.st_dims.specs.Breaches.{IsFault}
-use Rattle.st_elab_exp.specs.Variables.{misplaced, idle}
+use Rattle.st_elab_table.specs.Scopes.{misplaced, idle}
 use Rattle.st_elab_exp.proofs.scope.dimensions.Goals as goal
 
 pub returns-in-Err-I1 : goal.returns-in-Err-I1

@@ -1,6 +1,6 @@
 use Rattle.st_dims.specs.Mentions.{occurrence_of}
 use Rattle.st_dims.proofs.Lists.{first_passing}
-use Rattle.st_elab_exp.specs.Variables.{is_untyped}
+use Rattle.st_elab_table.specs.Scopes.{is_untyped}
 use Rattle.st_elab_exp.proofs.scope.first_untyped.Goals as goal
 
 pub returns-in-Some : goal.returns-in-Some

@@ -1,5 +1,5 @@
 use Rattle.std.proofs.Common.{◌≡◌, [], take}
-use Rattle.st_elab_exp.specs.Variables.{untyped}
+use Rattle.st_elab_table.specs.Scopes.{untyped}
 use Rattle.st_elab_exp.proofs.scope.first_untyped.Given as goal
 
 abbrev pub invariant-loop-mention : goal.invariant-loop-mention

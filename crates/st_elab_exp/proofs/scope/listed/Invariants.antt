@@ -1,5 +1,5 @@
 use Rattle.std.proofs.Common.{◌≡◌, take, map}
-use Rattle.st_elab_exp.specs.Variables.{listed}
+use Rattle.st_elab_table.specs.Scopes.{listed}
 use Rattle.st_elab_exp.proofs.scope.listed.Given as goal
 
 abbrev pub invariant-loop-variable : goal.invariant-loop-variable

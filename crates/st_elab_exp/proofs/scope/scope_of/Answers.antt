@@ -1,6 +1,6 @@
 use Rattle.std.proofs.Common.{subst, sym, ◌≡◌, []}
 use Rattle.st_dims.specs.Breaches.{IsFirst}
-use Rattle.st_elab_exp.specs.Variables.{untyped, no_type}
+use Rattle.st_elab_table.specs.Scopes.{untyped, no_type}
 use Rattle.st_elab_exp.specs.inner.Typing.{AreTyped}
 use Rattle.st_elab_exp.proofs.Naming.{all_named}
 use Rattle.st_elab_exp.proofs.scope.scope_of.Goals as goal

@@ -12,7 +12,7 @@ without_modes-requires-clause-fault c = subst (IsModesAnswer c.args.elaborated.n
 pub returns-in-Ok : goal.returns-in-Ok
 returns-in-Ok c =
     source_accepted c.args.printed c.args.names.now c.args.defs.now c.args.elaborated.now c.modes.result c.in-Ok.modes (length c.args.defs.now) c.accepted.result c.requires.elaborated
-    c.requires.erased c.modes.ensures c.in-Ok.is refl c.accepted.ensures.status c.accepted.ensures.bytes
+    c.requires.erased c.requires.typed c.modes.ensures c.in-Ok.is refl c.accepted.ensures.status c.accepted.ensures.bytes
 
 pub returns-in-Err : goal.returns-in-Err
 returns-in-Err c = c.without_modes.ensures c.args.printed

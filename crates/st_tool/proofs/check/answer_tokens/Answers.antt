@@ -1,9 +1,12 @@
 use Rattle.std.proofs.Common.{length, subst, sym}
+use Rattle.st_grammar.specs.Terminals.{declared_names}
 use Rattle.st_elab_def.specs.Answers.{HasTemplates}
+use Rattle.st_elab_def.specs.Sources.{RepeatNoOtherwise}
 use Rattle.st_parse.specs.Source.{Answers}
 use Rattle.st_tool.specs.inner.Printing.{BreachesWithin, BeginWithin}
 use Rattle.st_tool.proofs.Checks.{SaysSource, syntax_stands, breaches_within, begin_within, files_parsed}
 use Rattle.st_tool.proofs.HasTemplates.{HasTemplates-source}
+use Rattle.st_tool.proofs.ParsedPremises.{parsed_repeat_none}
 use Rattle.st_tool.proofs.check.answer_tokens.Goals as goal
 
 pub faulty-requires : goal.faulty-requires
@@ -16,6 +19,7 @@ pub answer_source-requires : goal.answer_source-requires
 answer_source-requires c =
     let source = subst (Answers c.args.tokens.now) c.in-Ok.is c.parse.ensures in record {
       templates = subst HasTemplates (sym c.as_slice.ensures) (HasTemplates-source c.args.files.now c.args.tokens.now c.in-Ok.defs c.requires.all source);
+      repeats = subst RepeatNoOtherwise (sym c.as_slice.ensures) (parsed_repeat_none (declared_names c.args.tokens.now) c.args.tokens.now c.in-Ok.defs source.0.1);
       within = subst (BreachesWithin (length c.args.names.now)) (sym c.as_slice.ensures)
           (breaches_within c.args.files.now c.args.names.now c.args.tokens.now c.in-Ok.defs c.requires.all c.requires.some source c.requires.named);
       begin = subst (BeginWithin (length c.args.names.now)) (sym c.as_slice.ensures)

@@ -1,5 +1,0 @@
-use Rattle.st_elab_def_law.proofs.Elaborated.{elaborated_indices}
-use Rattle.st_elab_def_law.proofs.laws.indices_stay_inside.Goals as goal
-
-pub returns : goal.returns
-returns c = λ defs e is. elaborated_indices defs e is

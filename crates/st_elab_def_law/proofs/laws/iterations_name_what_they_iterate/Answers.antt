@@ -1,5 +1,0 @@
-use Rattle.st_elab_def_law.proofs.Elaborated.{elaborated_names}
-use Rattle.st_elab_def_law.proofs.laws.iterations_name_what_they_iterate.Goals as goal
-
-pub returns : goal.returns
-returns c = λ defs e repeats is. elaborated_names defs e repeats is

@@ -1,4 +1,0 @@
-pub mod PremOccurring
-pub mod PremTyping
-pub mod RuleTyping
-pub mod Declared
