@@ -1,36 +1,16 @@
-//! Each call of elaboration and erasure that can want memory, made once where there is enough.
+//! Each call of elaboration and erasure that can want memory and that the program does not make,
+//! made once where there is enough; and the order in which the cases of a variant stand.
 
-use crate::declared::{decls_of, scope_of};
-use st_el::{Count, Def, DefNode, Exp, Node, Prem, PremNode, TypNode};
-use st_elab_exp::{
-    Decls, Scope, around, check_count, check_fillings, check_parts, elaborate_clause,
-    elaborate_rule,
-};
+use st_dims::dims;
+use st_el::{Def, DefNode, Exp, Node, TypNode};
+use st_elab_exp::{Decls, NamedRow, Scope, check_exp, infer_exp};
 use st_erase::{erase, erase_exp};
-use st_il::{FunDef, Il, IlDef, IlExp, IlPrem, Iteration, RelationDef, Ty};
-use st_notation::Filled;
-use st_num::{Name, NoMemory, Row, Span};
+use st_il::{Alternative, Il, IlDef, IlExp, SyntaxBody, SyntaxDef, Ty};
+use st_num::{Dim, Name, NoMemory, Row, Span};
 use st_types::TypeTable;
 use std::alloc::Global;
 use std::process::Abort;
-use std::slice::from_ref;
 use std::test::Fail;
-
-/// An expression without a place in a file.
-fn unplaced(node: Node) -> Exp {
-    Exp {
-        at: Span::NOWHERE,
-        node,
-    }
-}
-
-/// Whether this is the number 1 alone.
-fn is_one(exps: &[IlExp]) -> bool {
-    match exps {
-        [IlExp::Number(number)] => *number == 1,
-        _ => false,
-    }
-}
 
 // ---- erasure
 
@@ -76,147 +56,111 @@ fn a_specification_is_erased(rt: HostRuntime) -> Result<(), Fail> {
     Ok(())
 }
 
-// ---- parts and fillings
+// ---- expressions
 
-/// Declarations without a type, a variable or a function.
-fn none_declared(alloc: Global) -> Result<Decls, Fail> {
-    let types = TypeTable::build(alloc, &Row::new(alloc))?;
-    let decls = decls_of(alloc, types, &[], &[])?;
-    Ok(decls)
-}
-
-/// What the expression is, as the only part, of type `nat`.
-fn parts(alloc: Global, decls: &Decls, scope: &Scope, exp: &Exp) -> Result<Row<IlExp>, Fail> {
-    let within = around(alloc, scope)?;
-    let exps = from_ref(exp);
-    let parts = check_parts(alloc, decls, scope, &within, exps, from_ref(&Ty::Nat))?;
-    Ok(parts)
-}
-
-/// What the expression is, where it fills a hole of type `nat`.
-fn fillings(alloc: Global, decls: &Decls, scope: &Scope, exp: &Exp) -> Result<Row<IlExp>, Fail> {
-    let within = around(alloc, scope)?;
-    let filled = Filled::One(exp);
-    let holes = from_ref(&filled);
-    let at = Span::NOWHERE;
-    let fillings = check_fillings(alloc, decls, scope, &within, at, holes, from_ref(&Ty::Nat))?;
-    Ok(fillings)
-}
-
-/// What `+` is elaborated to.
-fn times(alloc: Global, decls: &Decls, scope: &Scope) -> Result<Iteration, Fail> {
-    let within = around(alloc, scope)?;
-    let times = check_count(alloc, decls, scope, &within, &Count::Plus)?;
-    Ok(times)
-}
-
-/// The number 1 is elaborated to itself, as a part and where it fills a hole.
-fn expect_ones(rt: &impl Abort, alloc: Global, decls: &Decls) -> Result<(), Fail> {
-    let scope = scope_of(alloc, &[])?;
-    let first = unplaced(Node::Number(1));
-    assert!(rt; is_one(parts(alloc, decls, &scope, &first)?.as_slice()));
-    assert!(rt; is_one(fillings(alloc, decls, &scope, &first)?.as_slice()));
-    Ok(())
-}
-
-#[test]
-fn parts_and_fillings_are_elaborated(rt: HostRuntime) -> Result<(), Fail> {
-    let alloc = rt.alloc();
-    let decls = none_declared(alloc)?;
-    expect_ones(&rt, alloc, &decls)
-}
-
-#[test]
-fn a_count_is_elaborated(rt: HostRuntime) -> Result<(), Fail> {
-    let alloc = rt.alloc();
-    let decls = none_declared(alloc)?;
-    let scope = scope_of(alloc, &[])?;
-    assert!(rt; matches!(times(alloc, &decls, &scope)?, Iteration::Plus));
-    Ok(())
-}
-
-// ---- rules and clauses
-
-/// A relation whose judgement is `P`.
-fn relation(alloc: Global) -> Result<RelationDef, NoMemory> {
-    Ok(RelationDef {
-        name: Name::from_slice(alloc, b"holds")?,
-        tag: Name::from_slice(alloc, b"P")?,
-        holes: Row::new(alloc),
-        mode: Row::new(alloc),
-    })
-}
-
-/// `if true`
-fn truth(alloc: Global) -> Result<Row<Prem>, NoMemory> {
-    let mut premises = Row::new(alloc);
-    premises.push(Prem {
+/// An expression without a place in a file.
+fn unplaced(node: Node) -> Exp {
+    Exp {
         at: Span::NOWHERE,
-        node: PremNode::If(unplaced(Node::Bool(true))),
-    })?;
-    Ok(premises)
-}
-
-/// Whether the one premise is the condition `true`.
-fn is_truth(premises: &[IlPrem]) -> bool {
-    match premises {
-        [IlPrem::If(IlExp::Bool(truth))] => *truth,
-        _ => false,
+        node,
     }
 }
 
-/// The rule is named as its relation's tag, and its premise is the condition `true`.
-fn expect_rule(
-    rt: &impl Abort,
-    alloc: Global,
-    decls: &Decls,
-    relation: &RelationDef,
-    conclusion: &Exp,
-) -> Result<(), Fail> {
-    let premises = truth(alloc)?;
-    let rule = elaborate_rule(alloc, decls, relation, &relation.tag, conclusion, &premises)?;
-    assert!(rt; rule.name == relation.tag && rule.relation == relation.name);
-    assert!(rt; is_truth(rule.premises.as_slice()));
-    Ok(())
-}
-
-/// A rule whose conclusion is `P` is elaborated.
-fn expect_judgement(rt: &impl Abort, alloc: Global, decls: &Decls) -> Result<(), Fail> {
-    let relation = relation(alloc)?;
-    let conclusion = unplaced(Node::Atom(Name::from_slice(alloc, b"P")?));
-    expect_rule(rt, alloc, decls, &relation, &conclusion)
+/// The variable `x`, as the only expression.
+fn only_variable(alloc: Global) -> Result<Row<Exp>, NoMemory> {
+    let mut exps = Row::new(alloc);
+    exps.push(unplaced(Node::Name(Name::from_slice(alloc, b"x")?)))?;
+    Ok(exps)
 }
 
 #[test]
-fn a_rule_is_elaborated(rt: HostRuntime) -> Result<(), Fail> {
-    let alloc = rt.alloc();
-    let decls = none_declared(alloc)?;
-    expect_judgement(&rt, alloc, &decls)
+fn a_variable_has_its_dimension(rt: HostRuntime) -> Result<(), Fail> {
+    let exps = only_variable(rt.alloc())?;
+    let table = dims(rt.alloc(), &exps, &Row::new(rt.alloc()))?;
+    let (name, dim) = table.as_slice().first().ok_or("no variable")?;
+    assert!(rt; name.as_slice() == b"x".as_slice() && dim.as_slice().is_empty());
+    Ok(())
 }
 
-/// A function of no argument.
-fn constant(alloc: Global) -> Result<FunDef, NoMemory> {
-    Ok(FunDef {
-        name: Name::from_slice(alloc, b"one")?,
-        params: Row::new(alloc),
-        result: Ty::Nat,
+/// Declarations without a type, a variable, a function or a relation.
+fn none_declared(alloc: Global) -> Result<Decls, Fail> {
+    Ok(Decls {
+        types: TypeTable::build(alloc, &Row::new(alloc))?,
+        vars: NamedRow::of(alloc, Row::new(alloc))?,
+        funs: NamedRow::of(alloc, Row::new(alloc))?,
+        relations: NamedRow::of(alloc, Row::new(alloc))?,
     })
 }
 
-/// A clause of the function, whose result is 1, is elaborated.
-fn expect_clause(rt: &impl Abort, alloc: Global, decls: &Decls, fun: &FunDef) -> Result<(), Fail> {
-    let value = unplaced(Node::Number(1));
-    let none = Row::new(alloc);
-    let premises = Row::new(alloc);
-    let clause = elaborate_clause(alloc, decls, fun, Span::NOWHERE, &none, &value, &premises)?;
-    assert!(rt; clause.fun == fun.name && matches!(&clause.result, IlExp::Number(1)));
+/// The number 1 is elaborated to itself, at the type of natural numbers and by itself.
+fn expect_one(rt: &impl Abort, alloc: Global, decls: &Decls) -> Result<(), Fail> {
+    let scope = Scope {
+        variables: Row::new(alloc),
+        around: Dim::new(alloc),
+    };
+    let one = unplaced(Node::Number(1));
+    let checked = check_exp(alloc, decls, &scope, &one, &Ty::Nat)?;
+    assert!(rt; matches!(&checked, IlExp::Number(1)));
+    let (inferred, ty) = infer_exp(alloc, decls, &scope, &one)?;
+    assert!(rt; matches!(&inferred, IlExp::Number(1)) && matches!(&ty, Ty::Nat));
     Ok(())
 }
 
 #[test]
-fn a_clause_is_elaborated(rt: HostRuntime) -> Result<(), Fail> {
-    let alloc = rt.alloc();
-    let decls = none_declared(alloc)?;
-    let fun = constant(alloc)?;
-    expect_clause(&rt, alloc, &decls, &fun)
+fn an_expression_is_elaborated(rt: HostRuntime) -> Result<(), Fail> {
+    let decls = none_declared(rt.alloc())?;
+    expect_one(&rt, rt.alloc(), &decls)
+}
+
+// ---- cases
+
+fn case(alloc: Global, tag: &[u8]) -> Result<Alternative, NoMemory> {
+    Ok(Alternative::Case(Name::from_slice(alloc, tag)?, Row::new(alloc)))
+}
+
+/// A syntax of this name and these alternatives.
+fn variant(
+    alloc: Global,
+    name: &[u8],
+    alternatives: Row<Alternative>,
+) -> Result<SyntaxDef, NoMemory> {
+    Ok(SyntaxDef {
+        name: Name::from_slice(alloc, name)?,
+        body: SyntaxBody::Variant(alternatives),
+    })
+}
+
+/// `syntax low = | C` and `syntax high = | A | low | B`.
+fn including(alloc: Global) -> Result<Row<SyntaxDef>, NoMemory> {
+    let mut low = Row::new(alloc);
+    low.push(case(alloc, b"C")?)?;
+    let mut high = Row::new(alloc);
+    high.push(case(alloc, b"A")?)?;
+    high.push(Alternative::Incl(Name::from_slice(alloc, b"low")?))?;
+    high.push(case(alloc, b"B")?)?;
+    let mut defs = Row::new(alloc);
+    defs.push(variant(alloc, b"low", low)?)?;
+    defs.push(variant(alloc, b"high", high)?)?;
+    Ok(defs)
+}
+
+/// The tags of the cases of `high`, one behind another.
+fn tags_of(alloc: Global, types: &TypeTable) -> Result<Vec<u8>, Fail> {
+    let high = Ty::Name(Name::from_slice(alloc, b"high")?);
+    let cases = types.cases(&high).ok_or("no variant")?;
+    let mut tags = Vec::new(alloc);
+    for case in cases.as_slice() {
+        tags.extend_from_slice(case.tag.as_slice())?;
+    }
+    Ok(tags)
+}
+
+#[test]
+fn the_cases_of_an_included_variant_stand_in_its_place(rt: HostRuntime) -> Result<(), Fail> {
+    let defs = including(rt.alloc())?;
+    assert!(rt; TypeTable::can_build(&defs));
+    let types = TypeTable::build(rt.alloc(), &defs)?;
+    let tags = tags_of(rt.alloc(), &types)?;
+    assert_eq!(rt; tags.as_slice(), b"ACB".as_slice());
+    Ok(())
 }

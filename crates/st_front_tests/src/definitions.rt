@@ -1,67 +1,17 @@
-//! Short sources, with what is parsed counted by hand, and what is left where it is made plain.
+//! The first token that is refused in a source, and what is left of one where it is made plain.
 
-use crate::told::{Call, Repeated, expect_all, expect_repeated, told};
-use st_num::NoMemory;
-use std::alloc::Global;
+use crate::told::{Call, expect_all};
 use std::test::Fail;
 
-const SOURCES: [(&str, &str); 7] = [
-    ("", "0"),
-    (
-        "syntax a/x = ... | A nat* | b hint(x) | ... var n : nat",
-        "2",
-    ),
-    (
-        "syntax r = {A nat, B (nat, int)} relation R: a |- b hint(mode in)",
-        "2",
-    ),
-    (
-        "def $f(nat, int*) : nat def $f(n, 1) = n -- (if n = 1)* -- otherwise",
-        "2",
-    ),
-    (
-        "rule R/a-1.b: x ~> y -- R: x -- ((if x)*)^(i < n) rule R: x",
-        "2",
-    ),
-    ("rule R: x ~> -- if x", "1:14 S1"),
-    ("rule R: rat", "1:9 S4"),
+const REFUSED: [(&str, &str); 3] = [
+    ("syntax color = | RED | GREEN", ""),
+    ("rule T/a: RED ~>", "7"),
+    ("var x : (nat,)", "6"),
 ];
 
 #[test]
-fn definitions_and_faults(rt: HostRuntime) -> Result<(), Fail> {
-    expect_all(&rt, rt.alloc(), Call::Parse, &SOURCES)
-}
-
-/// A type and an expression that are 100 high, and those that are higher.
-const HEIGHTS: [(Repeated, &str); 4] = [
-    (("syntax a = (", "(", 49, "nat*)", "**)"), "1"),
-    (("syntax a = (", "(", 49, "nat**)", "**)"), "1:1 S2"),
-    (("rule T: ", "(", 99, "y", ")"), "1"),
-    (("rule T: ", "(", 100, "y", ")"), "1:1 S2"),
-];
-
-#[test]
-fn trees_are_at_most_100_high(rt: HostRuntime) -> Result<(), Fail> {
-    expect_repeated(&rt, rt.alloc(), Call::Parse, &HEIGHTS)
-}
-
-/// A rule whose conclusion is a sequence of so many variables of three letters, behind one.
-fn rule_of_variables(alloc: Global, others: u8) -> Result<Vec<u8>, NoMemory> {
-    let mut text = Vec::from_slice(alloc, b"rule R: vzz")?;
-    for number in 0..others {
-        text.extend_from_slice(&[b' ', b'v', b'a' + number / 16, b'a' + number % 16])?;
-    }
-    Ok(text)
-}
-
-#[test]
-fn a_rule_has_at_most_255_variables(rt: HostRuntime) -> Result<(), Fail> {
-    for (others, wanted) in &[(254, "1"), (255, "1:1029 S3")] {
-        let text = rule_of_variables(rt.alloc(), *others)?;
-        let told = told(&rt, rt.alloc(), Call::Parse, text.as_slice())?;
-        assert!(rt; told.as_slice() == wanted.as_bytes(), "{others}");
-    }
-    Ok(())
+fn the_first_wrong_token_is_refused(rt: HostRuntime) -> Result<(), Fail> {
+    expect_all(&rt, rt.alloc(), Call::FirstRefused, &REFUSED)
 }
 
 /// Fragments are one syntax, `mode` is the one hint that stays, and no place and no parentheses

@@ -1,9 +1,8 @@
-//! Tokens and faults of small files, with places counted by hand.
+//! Tokens of small files, with places counted by hand.
 
-use crate::told::{Call, expect_all, told};
-use st_num::{Mark, NoMemory, TokenKind};
+use crate::told::{Call, expect_all};
+use st_num::{Mark, TokenKind};
 use st_scan::scan;
-use std::alloc::Global;
 use std::test::Fail;
 
 const LIGHT: &str = "syntax color = | RED | GREEN | AMBER
@@ -91,43 +90,6 @@ fn tokens_are_the_longest(rt: HostRuntime) -> Result<(), Fail> {
     expect_all(&rt, rt.alloc(), Call::Scan, &LONGEST)
 }
 
-const FAULTS: [(&[u8], &str); 25] = [
-    (b"a\n  #", "2:3 L1"),
-    (b".", "1:1 L1"),
-    (b"x $Foo", "1:3 L1"),
-    (b"`<", "1:1 L1"),
-    (b"'a", "1:1 L1"),
-    (b"\"\xc3\xa9\" \xc3\xa9", "1:5 L1"),
-    (b"\"a\\q\"", "1:3 L1"),
-    (b"\"a\tb\"", "1:3 L1"),
-    (b"\"\x1f\"", "1:2 L1"),
-    (b"\"\\q \xff\"", "1:2 L1"),
-    (b"(; x", "1:1 L2"),
-    (b"x (; (; ;)", "1:3 L2"),
-    (b"(;)", "1:1 L2"),
-    (b"(;;) \"b", "1:6 L2"),
-    (b"\"ab\ncd\"", "1:1 L2"),
-    (b"\"a\\q", "1:1 L2"),
-    (b"\"a\\\n\"", "1:1 L2"),
-    (b"(; \xff", "1:1 L2"),
-    (b"340282366920938463463374607431768211456", "1:1 L3"),
-    (b"x 0x100000000000000000000000000000000", "1:3 L3"),
-    (b"\xff", "1:1 L4"),
-    (b"a\n\xc3(", "2:1 L4"),
-    (b"(; \xc3\xa9 \xff ;) #", "1:6 L4"),
-    (b";; \xe2\x82", "1:4 L4"),
-    (b"\"\xff \\q\"", "1:2 L4"),
-];
-
-#[test]
-fn faults_have_their_places(rt: HostRuntime) -> Result<(), Fail> {
-    for (text, wanted) in &FAULTS {
-        let told = told(&rt, rt.alloc(), Call::Scan, *text)?;
-        assert!(rt; told.as_slice() == wanted.as_bytes(), "{text:?}");
-    }
-    Ok(())
-}
-
 const SIGNS: &[u8] = b"|- -| ~>* ~> : <: :> ~~ := ; -> .. ... ++ =++ = =/= < > <= >= <- ~ \
     /\\ \\/ => <=> + - * / \\ ^ ? | , -- ( ) [ ] { } $( `( `[ `{";
 
@@ -189,34 +151,6 @@ fn each_sign_is_a_token(rt: HostRuntime) -> Result<(), Fail> {
     for (token, wanted) in tokens.iter().zip(&MARKS) {
         let same = matches!(&token.kind, TokenKind::Sign(mark) if *mark == *wanted);
         assert!(rt; same, "{wanted:?}");
-    }
-    Ok(())
-}
-
-#[test]
-fn a_large_file_is_scanned_at_once(rt: HostRuntime) -> Result<(), Fail> {
-    let file = large(rt.alloc())?;
-    assert!(rt; file.len() <= 1 << 20);
-    let tokens = scan(rt.alloc(), 7, file.as_slice())?;
-    let last = tokens.last().ok_or("no token")?;
-    assert!(rt; tokens.len() == 348_001);
-    assert!(rt; last.at.column == 1_044_001 && last.at.file == 7);
-    Ok(())
-}
-
-/// Names and separators, then comments that open, then those that close, then a name.
-fn large(alloc: Global) -> Result<Vec<u8>, NoMemory> {
-    let mut file = Vec::new(alloc);
-    push_times(b"a;", &mut file)?;
-    push_times(b"(;", &mut file)?;
-    push_times(b";)", &mut file)?;
-    file.push(b'b')?;
-    Ok(file)
-}
-
-fn push_times(piece: &[u8], file: &mut Vec<u8>) -> Result<(), NoMemory> {
-    for _ in 0..174_000u32 {
-        file.extend_from_slice(piece)?;
     }
     Ok(())
 }

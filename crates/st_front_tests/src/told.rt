@@ -6,7 +6,7 @@ use st_num::{Name, NoMemory, Num, Row, RuleId, Span, Token, TokenKind, print_num
 use st_parse::parse;
 use st_parse_automaton::first_refused;
 use st_parse_exp::parse_exp;
-use st_parse_faults::{SyntaxFault, first_fault};
+use st_parse_faults::SyntaxFault;
 use st_scan::{LexFault, scan};
 use std::alloc::{AllocError, Global};
 use std::process::Abort;
@@ -19,17 +19,13 @@ pub(crate) enum Call {
     Scan,
     /// `first_refused`: the number of the token, from 0.
     FirstRefused,
-    /// `first_fault`: the number of the token and the rule.
-    FirstFault,
     /// `parse_exp`: each expression on a line, as it is printed.
     ParseExp,
     /// `parse_exp`: the number of expressions.
     CountExps,
-    /// `parse`: the number of definitions.
-    Parse,
     /// `parse` and `plain`: each definition on a line, behind the line of its place.
     Plain,
-    /// `parse`: where parts begin, as `tell_places` says.
+    /// `parse`: where the type of an alias begins, as `tell_places` says.
     Places,
 }
 
@@ -114,19 +110,12 @@ fn tell_tokens(tokens: &[Token], out: &mut Vec<u8>) -> Result<(), NoMemory> {
 
 // ---- the grammar
 
+/// Appends nothing where no token is refused.
 fn tell_first_refused(alloc: Global, tokens: &[Token], out: &mut Vec<u8>) -> Result<(), NoMemory> {
     match first_refused(alloc, tokens)? {
         Some(token) => print_count(token as u128, out),
         None => Ok(()),
     }
-}
-
-fn tell_first_fault(alloc: Global, tokens: &[Token], out: &mut Vec<u8>) -> Result<(), NoMemory> {
-    if let Some(fault) = first_fault(alloc, tokens)? {
-        print_count(fault.token as u128, out)?;
-        out.extend_from_slice(word_of_rule(fault.rule).as_bytes())?;
-    }
-    Ok(())
 }
 
 // ---- trees
@@ -150,14 +139,6 @@ fn tell_parse_exp(alloc: Global, tokens: &[Token], out: &mut Vec<u8>) -> Result<
 fn tell_count(alloc: Global, tokens: &[Token], out: &mut Vec<u8>) -> Result<(), NoMemory> {
     match parse_exp(alloc, tokens, &[]) {
         Ok(exps) => print_count(exps.len() as u128, out),
-        Err(SyntaxFault::Refused { at, rule }) => tell_refusal(at, rule, out),
-        Err(SyntaxFault::Memory) => Err(NoMemory),
-    }
-}
-
-fn tell_parse(alloc: Global, tokens: &[Token], out: &mut Vec<u8>) -> Result<(), NoMemory> {
-    match parse(alloc, tokens) {
-        Ok(defs) => print_count(defs.len() as u128, out),
         Err(SyntaxFault::Refused { at, rule }) => tell_refusal(at, rule, out),
         Err(SyntaxFault::Memory) => Err(NoMemory),
     }
@@ -229,10 +210,8 @@ fn tell(alloc: Global, call: Call, tokens: &[Token], out: &mut Vec<u8>) -> Resul
     match call {
         Call::Scan => tell_tokens(tokens, out),
         Call::FirstRefused => tell_first_refused(alloc, tokens, out),
-        Call::FirstFault => tell_first_fault(alloc, tokens, out),
         Call::ParseExp => tell_parse_exp(alloc, tokens, out),
         Call::CountExps => tell_count(alloc, tokens, out),
-        Call::Parse => tell_parse(alloc, tokens, out),
         Call::Plain => tell_plain(alloc, tokens, out),
         Call::Places => tell_parsed_places(alloc, tokens, out),
     }
@@ -251,7 +230,7 @@ fn tell_scanned(
     }
 }
 
-/// What the call tells of the text; nothing where `first_refused` or `first_fault` finds nothing.
+/// What the call tells of the text.
 pub(crate) fn told(
     rt: &impl Abort,
     alloc: Global,

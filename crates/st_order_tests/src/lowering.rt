@@ -1,30 +1,10 @@
 //! To which steps rules and clauses in text are lowered.
 
-use st_algo::{AlgoStep, Algorithm, Algos, lower};
-use st_el::Def;
-use st_elab_def::elaborate;
-use st_il::{Il, IlExp};
-use st_num::{Name, NoMemory, Token};
-use st_order::{Modes, has_few, modes};
-use st_parse::parse;
-use st_scan::scan;
-use std::alloc::Global;
-use std::process::Abort;
+use crate::told::{Call, expect_all, tell_number, tell_word};
+use st_algo::{AlgoStep, Algorithm, Algos};
+use st_il::IlExp;
+use st_num::{Name, NoMemory};
 use std::test::Fail;
-
-/// Appends a word with a blank in front of it.
-fn tell_word(word: &[u8], out: &mut Vec<u8>) -> Result<(), NoMemory> {
-    out.push(b' ')?;
-    out.extend_from_slice(word)?;
-    Ok(())
-}
-
-/// Appends a number below 10, with a blank in front of it.
-fn tell_number(number: usize, out: &mut Vec<u8>) -> Result<(), NoMemory> {
-    out.push(b' ')?;
-    out.push(b'0' + (number % 10) as u8)?;
-    Ok(())
-}
 
 /// Appends names.
 fn tell_names(names: &[Name], out: &mut Vec<u8>) -> Result<(), NoMemory> {
@@ -106,7 +86,7 @@ fn tell_clauses(row: &[Algorithm], out: &mut Vec<u8>) -> Result<(), NoMemory> {
     Ok(())
 }
 
-fn tell_algos(algos: &Algos, out: &mut Vec<u8>) -> Result<(), NoMemory> {
+pub(crate) fn tell_algos(algos: &Algos, out: &mut Vec<u8>) -> Result<(), NoMemory> {
     for row in algos.relations.as_slice() {
         tell_rules(row.as_slice(), out)?;
     }
@@ -114,42 +94,6 @@ fn tell_algos(algos: &Algos, out: &mut Vec<u8>) -> Result<(), NoMemory> {
         tell_clauses(row.as_slice(), out)?;
     }
     Ok(())
-}
-
-/// The modes of an internal language that breaks no rule of directions.
-fn modes_of(alloc: Global, il: &Il) -> Result<Modes, NoMemory> {
-    if !has_few(il) {
-        return Err(NoMemory);
-    }
-    match modes(alloc, il) {
-        Ok(modes) => Ok(modes),
-        Err(_) => Err(NoMemory),
-    }
-}
-
-fn tell_defs(alloc: Global, defs: &[Def], out: &mut Vec<u8>) -> Result<(), NoMemory> {
-    let Ok(elaborated) = elaborate(alloc, defs) else {
-        return Err(NoMemory);
-    };
-    let modes = modes_of(alloc, &elaborated.il)?;
-    let algos = lower(alloc, &elaborated.il, &modes)?;
-    tell_algos(&algos, out)
-}
-
-fn tell(alloc: Global, tokens: &[Token], out: &mut Vec<u8>) -> Result<(), NoMemory> {
-    let Ok(defs) = parse(alloc, tokens) else {
-        return Err(NoMemory);
-    };
-    tell_defs(alloc, defs.as_slice(), out)
-}
-
-fn told(rt: &impl Abort, alloc: Global, text: &str) -> Result<Vec<u8>, Fail> {
-    let bytes = text.as_bytes();
-    assert!(rt; bytes.len() <= 1 << 20);
-    let tokens = scan(alloc, 0, bytes)?;
-    let mut out = Vec::new(alloc);
-    tell(alloc, tokens.as_slice(), &mut out)?;
-    Ok(out)
 }
 
 /// Each row is a text and what it is lowered to: for each rule and then for each clause a line with
@@ -193,10 +137,5 @@ const ALGORITHMS: [(&str, &str); 6] = [
 
 #[test]
 fn rules_and_clauses_are_lowered_to_their_steps(rt: HostRuntime) -> Result<(), Fail> {
-    let alloc = rt.alloc();
-    for (text, wanted) in &ALGORITHMS {
-        let out = told(&rt, alloc, text)?;
-        assert!(&rt; out.as_slice() == wanted.as_bytes(), "{text}{wanted}");
-    }
-    Ok(())
+    expect_all(&rt, rt.alloc(), Call::Algorithms, &ALGORITHMS)
 }

@@ -1,16 +1,9 @@
-//! Whole commands over files and a sink in memory.
+//! Whole commands over files and a sink in memory: what no example shows, a load or a write that
+//! fails, and a long derivation.
 //!
 //! Nothing is called from here. The tests stand over `serve`, so that its crate is proved once,
-//! without tests.
+//! without tests. What commands print stands in `examples/`.
 #![tactic(auto)]
 
 #[cfg(test)]
 mod commands;
-#[cfg(test)]
-mod files;
-#[cfg(test)]
-mod orders;
-#[cfg(test)]
-mod refusals;
-#[cfg(test)]
-mod small;
