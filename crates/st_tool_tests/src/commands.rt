@@ -55,7 +55,7 @@ fn expect(
     Ok(())
 }
 
-const COMMANDS: [Case; 43] = [
+const COMMANDS: [Case; 44] = [
     ("run T red light", Status::Done, LIGHT_RUN),
     ("run T red_line light", Status::Done, LIGHT_RUN),
     (
@@ -133,6 +133,11 @@ const COMMANDS: [Case; 43] = [
         "verify light lines",
         Status::Verification,
         "refused il 1 V1\n",
+    ),
+    (
+        "verify unknown_case.il lines",
+        Status::Verification,
+        "refused il 3 V2 T7\n",
     ),
     ("verify empty lines", Status::Unbuilt, "unbuilt\n"),
     ("check light", Status::Done, "accepted 4 definitions\n"),

@@ -19,6 +19,12 @@ pub(crate) const LIGHT_IL: &str =
     (rule \"T\" \"a\" () ((case \"color\" \"RED\") (case \"color\" \"GREEN\")))\n\
     (rule \"T\" \"b\" () ((case \"color\" \"GREEN\") (case \"color\" \"AMBER\")))\n";
 
+const UNKNOWN_CASE_IL: &str =
+    "(syntax \"color\" (variant (case \"RED\") (case \"GREEN\") (case \"AMBER\")))\n\
+    (relation \"T\" \"% ~> %\" ((n \"color\") (n \"color\")) (mode))\n\
+    (rule \"T\" \"a\" () ((case \"color\" \"BLUE\") (case \"color\" \"GREEN\")))\n\
+    (rule \"T\" \"b\" () ((case \"color\" \"GREEN\") (case \"color\" \"AMBER\")))\n";
+
 pub(crate) const LIGHT_LINES: &str = "derivation 1 T\nfrom (c \"RED\")\n\
     node \"T\" \"a\" () () ((c \"RED\") (c \"GREEN\"))\nstep 3\n\
     node \"T\" \"b\" () () ((c \"GREEN\") (c \"AMBER\"))\nstep 5\nend stuck\n";
@@ -26,7 +32,7 @@ pub(crate) const LIGHT_LINES: &str = "derivation 1 T\nfrom (c \"RED\")\n\
 const OTHER_VALUES: &str = "derivation 1 T\nfrom (c \"RED\")\n\
     node \"T\" \"a\" () () ((c \"RED\") (c \"AMBER\"))\nstep 3\nend stuck\n";
 
-const FILES: [(&str, &str); 20] = [
+const FILES: [(&str, &str); 21] = [
     ("red", "RED"),
     ("red_line", "RED\n"),
     ("amber", "AMBER"),
@@ -39,6 +45,7 @@ const FILES: [(&str, &str); 20] = [
     ("coin", COIN),
     ("alias", "syntax a = nat\nvar x : a\n"),
     ("light.il", LIGHT_IL),
+    ("unknown_case.il", UNKNOWN_CASE_IL),
     ("lines", LIGHT_LINES),
     ("other_values", OTHER_VALUES),
     ("malformed", "derivation 1 T\nfrom  (c \"RED\")\n"),
