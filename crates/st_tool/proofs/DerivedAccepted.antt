@@ -7,16 +7,17 @@ use Rattle.st_semantics.specs.Accepts.{Accepts, AreSound}
 use Rattle.st_semantics.proofs.Sound.{law_of_reading}
 use Rattle.st_tool.specs.declared.status.Status.{Status}
 use Rattle.st_tool.specs.declared.status.Status.TheVariants as answer
-use Rattle.st_tool.specs.Commands.{VerifyGives, malformed, judged, unjudged}
+use Rattle.st_tool.specs.Commands.{VerifyGives, malformed, untyped, judged, unjudged}
 use Rattle.st_tool.specs.Laws.{DerivedIsAccepted, AcceptedIsSound}
 use Rattle.st_tool.specs.Verification.{AreTexts, Verified, steps_in, accepted, refused, unfinished, endless}
 use Rattle.st_verify.proofs.SmallModes.{small_kinded}
+use Rattle.st_verify.proofs.SmallTyped.{small_typed}
 
 pub derived_is_accepted : DerivedIsAccepted
 derived_is_accepted small atom il derivation status language derived = (
   length derived.lines,
   steps_in derived.lines,
-  judged (il_of small) derived.lines [] derived.accepted.typed
+  judged (il_of small) derived.lines [] (small_typed (il_of small) derived.accepted.typed) derived.accepted.typed
       (record {
         language = language;
         lines_are = record {
@@ -47,9 +48,10 @@ verified_sound il_bytes derivation bytes rest il lines status texts (endless not
 
 given_sound : (il_bytes derivation bytes : List ℕ) (status : Status) → VerifyGives il_bytes derivation status bytes → status ≡ answer.Done → ShowsSound il_bytes derivation
 given_sound il_bytes derivation bytes status (malformed line no_il first is) done = cc
-given_sound il_bytes derivation bytes status (judged il lines rest small texts verified) done =
+given_sound il_bytes derivation bytes status (untyped il place rule text breach is) done = cc
+given_sound il_bytes derivation bytes status (judged il lines rest typed small texts verified) done =
     verified_sound il_bytes derivation bytes rest il lines status texts verified done
-given_sound il_bytes derivation bytes status (unjudged il text not_yet is) done = cc
+given_sound il_bytes derivation bytes status (unjudged il text typed not_yet is) done = cc
 
 pub accepted_is_sound : AcceptedIsSound
 accepted_is_sound il_bytes derivation bytes gives = given_sound il_bytes derivation bytes answer.Done gives refl

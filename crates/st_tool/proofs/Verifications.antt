@@ -11,6 +11,7 @@ use Rattle.st_deriv.specs.LineText.{IsNoLine}
 use Rattle.st_deriv.proofs.LineFeeds.{no_line_feed}
 use Rattle.st_il.specs.declared.definition.Il.{Il}
 use Rattle.st_il.specs.declared.type_rule.TypeRule.{TypeRule}
+use Rattle.st_ilcheck.specs.Typed.{Typed}
 use Rattle.st_ilread.specs.IlReading.{IsNoIl, IsFirstNoLine}
 use Rattle.st_iltext.specs.IlText.{IlText}
 use Rattle.st_iltext.proofs.Lines.{line_unique, no_line}
@@ -19,8 +20,8 @@ use Rattle.st_tool.specs.declared.answer.Answer.{Answer}
 use Rattle.st_tool.specs.declared.status.Status.{Status}
 use Rattle.st_tool.specs.declared.status.Status.TheVariants.{Verification}
 use Rattle.st_tool.specs.inner.Checks.{TakesFirst, Takes, HasTaken, going, refused, TakenTo, HasNoLines, EndsNow, Ends, Tells}
-use Rattle.st_tool.specs.Commands.{VerifyGives, malformed, judged, unjudged, IsUnjudged, IsUnbuilt}
-use Rattle.st_tool.specs.Texts.{accepted_text, refused_text, refused_il_text}
+use Rattle.st_tool.specs.Commands.{VerifyGives, malformed, untyped, judged, unjudged, IsUnjudged, IsUnbuilt}
+use Rattle.st_tool.specs.Texts.{accepted_text, refused_text, refused_il_text, untyped_text}
 use Rattle.st_tool.specs.Verification.{steps_in, Verified, accepted, refused as refuses, unfinished, endless}
 use Rattle.st_verify.specs.declared.accepted.Accepted.{Accepted}
 use Rattle.st_verify.specs.declared.fault.VerifyFault.{VerifyFault}
@@ -32,6 +33,7 @@ use Rattle.st_il.specs.Small.{IsSmallIl}
 use Rattle.st_semantics.specs.Accepts.{ReadsTo, none, more, Accepts}
 use Rattle.st_semantics.specs.Notes.{nothing_noted, noted}
 use Rattle.st_semantics.specs.Verdict.{Verdict, IsInPlace}
+use Rattle.st_verify.specs.Typing.{IsUntyped}
 use Rattle.st_verify.specs.Verifier.{Checking, Feeds, FeedsNext}
 use Rattle.st_verify.proofs.SmallModes.{small_keeps_modes}
 use Rattle.st_verify.proofs.SmallNotings.{length-noted, accepted_place}
@@ -234,12 +236,12 @@ verified il lines rest checking result status bytes small (refused good after li
     (refuses good after line notes rule parts read verdict (text ∙ ap (λ n. refused_text (n + 1) rule) (read_length il good notes read)))
 
 pub verify_answer : (il_bytes derivation rest : List ℕ) (il : Il) (checking : Checking) (verdict : Result Accepted VerifyFault) (result : Result Answer NoMemory)
-    → IlText il il_bytes → IsSmallIl il → TakenTo il derivation checking rest → (Contains rest 10 → ⊥) → Ends checking rest verdict
+    → IlText il il_bytes → Typed il → IsSmallIl il → TakenTo il derivation checking rest → (Contains rest 10 → ⊥) → Ends checking rest verdict
     → IfOk result (λ answer. Tells verdict answer.status answer.bytes.items)
     → IfOk result (λ answer. VerifyGives il_bytes derivation answer.status answer.bytes.items)
-verify_answer il_bytes derivation rest il checking verdict (Err e) text small taken ends says tells = tt
-verify_answer il_bytes derivation rest il checking verdict (Ok answer) text small taken ends says tells =
-    judged il taken.lines rest small
+verify_answer il_bytes derivation rest il checking verdict (Err e) text typed small taken ends says tells = tt
+verify_answer il_bytes derivation rest il checking verdict (Ok answer) text typed small taken ends says tells =
+    judged il taken.lines rest typed small
     (record { language = text; lines_are = record { front = taken.front; texts = taken.texts; rest_has_no_end = ends; parts = taken.parts } })
     (verified il taken.lines rest checking verdict answer.status answer.bytes.items small taken.taken says tells)
 
@@ -254,17 +256,28 @@ no_language il_bytes derivation line (Err e) (no_il, first) status bytes = tt
 no_language il_bytes derivation line (Ok answer) (no_il, first) status bytes =
     subst (λ s. VerifyGives il_bytes derivation s answer.bytes.items) (sym status) (malformed line no_il first bytes)
 
+-- an internal language that breaks a rule on types is refused at its first definition that does
+pub no_typing : (il_bytes derivation : List ℕ) (il : Il) (rule : VerifyRule) (line : ℕ) (typing : Option TypeRule) (least : TypeRule) (result : Result Answer NoMemory) → IlText il il_bytes
+    → IsUntyped il rule line typing → typing ≡ Some least → IfOk result (λ answer. answer.status ≡ Verification) → IfOk result (λ answer. answer.bytes.items ≡ untyped_text line least)
+    → GivesVerdict il_bytes derivation result
+no_typing il_bytes derivation il rule line typing least (Err e) text breach is status bytes = tt
+no_typing il_bytes derivation il rule line typing least (Ok answer) text breach is status bytes =
+    let told : Some least ≡ Some breach.broken = sym is ∙ breach.typing_is in
+    let same : least ≡ breach.broken = cc in
+    subst (λ s. VerifyGives il_bytes derivation s answer.bytes.items) (sym status)
+    (untyped il breach.place breach.broken text breach.breach (bytes ∙ ap₂ untyped_text breach.line_is same))
+
 -- over other internal languages, and of other lines, nothing is judged
-not_judged : (il_bytes derivation : List ℕ) (il : Il) (result : Result Answer NoMemory) → IlText il il_bytes → IsUnjudged il derivation
+not_judged : (il_bytes derivation : List ℕ) (il : Il) (result : Result Answer NoMemory) → IlText il il_bytes → Typed il → IsUnjudged il derivation
     → IfOk result (λ answer. IsUnbuilt answer.status answer.bytes.items) → GivesVerdict il_bytes derivation result
-not_judged il_bytes derivation il (Err e) text not_yet unbuilt = tt
-not_judged il_bytes derivation il (Ok answer) text not_yet unbuilt =
-    subst (λ s. VerifyGives il_bytes derivation s answer.bytes.items) (sym unbuilt.0) (unjudged il text not_yet unbuilt.1)
+not_judged il_bytes derivation il (Err e) text typed not_yet unbuilt = tt
+not_judged il_bytes derivation il (Ok answer) text typed not_yet unbuilt =
+    subst (λ s. VerifyGives il_bytes derivation s answer.bytes.items) (sym unbuilt.0) (unjudged il text typed not_yet unbuilt.1)
 
-pub no_small : (il_bytes derivation : List ℕ) (il : Il) (result : Result Answer NoMemory) → IlText il il_bytes → (IsSmallIl il → ⊥)
+pub no_small : (il_bytes derivation : List ℕ) (il : Il) (result : Result Answer NoMemory) → IlText il il_bytes → Typed il → (IsSmallIl il → ⊥)
     → IfOk result (λ answer. IsUnbuilt answer.status answer.bytes.items) → GivesVerdict il_bytes derivation result
-no_small il_bytes derivation il result text not_small unbuilt = not_judged il_bytes derivation il result text (inl not_small) unbuilt
+no_small il_bytes derivation il result text typed not_small unbuilt = not_judged il_bytes derivation il result text typed (inl not_small) unbuilt
 
-pub no_derivation : (il_bytes derivation : List ℕ) (il : Il) (result : Result Answer NoMemory) → IlText il il_bytes → HasNoLines derivation
+pub no_derivation : (il_bytes derivation : List ℕ) (il : Il) (result : Result Answer NoMemory) → IlText il il_bytes → Typed il → HasNoLines derivation
     → IfOk result (λ answer. IsUnbuilt answer.status answer.bytes.items) → GivesVerdict il_bytes derivation result
-no_derivation il_bytes derivation il result text no_lines_are unbuilt = not_judged il_bytes derivation il result text (inr no_lines_are) unbuilt
+no_derivation il_bytes derivation il result text typed no_lines_are unbuilt = not_judged il_bytes derivation il result text typed (inr no_lines_are) unbuilt

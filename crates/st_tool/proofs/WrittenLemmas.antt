@@ -13,7 +13,7 @@ use Rattle.st_tool.specs.Causes.{IsLoadFault, FaultIsTold}
 use Rattle.st_tool.specs.Checking.{FilesGive, IlGives, refused as refused_at, empty, parsed, broken, unmoded, accepted as accepted_source}
 use Rattle.st_tool.specs.declared.check.Printed.{Printed}
 use Rattle.st_tool.specs.declared.check.Printed.TheVariants as asked
-use Rattle.st_tool.specs.Commands.{Gives, RunGives, VerifyGives, malformed, judged, unjudged, IsRunText, IsDerivationText, status_of, limit_of}
+use Rattle.st_tool.specs.Commands.{Gives, RunGives, VerifyGives, malformed, untyped, judged, unjudged, IsRunText, IsDerivationText, status_of, limit_of}
 use Rattle.st_tool.specs.Loads.{Held, Counts, LoadsTo}
 use Rattle.st_tool.specs.Outcome.{Outcome, HasOutcome, unread, too_many, unbuilt, loads, Written}
 use Rattle.st_tool.specs.Verification.{accepted, refused, unfinished, endless}
@@ -54,11 +54,12 @@ run_is_own Text own relation term file status bytes (inr (none, (is, text))) = o
 
 verify_is_own : (il derivation : List ℕ) (status : Status) (bytes : List ℕ) → VerifyGives il derivation status bytes → IsOwn status
 verify_is_own il derivation status bytes (malformed line no_il first text) = own_verification
-verify_is_own il derivation status bytes (judged language lines rest small texts (accepted all nothing text)) = own_done
-verify_is_own il derivation status bytes (judged language lines rest small texts (refused good after line notes rule parts read verdict text)) = own_verification
-verify_is_own il derivation status bytes (judged language lines rest small texts (unfinished notes read some text)) = own_verification
-verify_is_own il derivation status bytes (judged language lines rest small texts (endless notes read ended nothing text)) = own_verification
-verify_is_own il derivation status bytes (unjudged language is_text not_yet text) = own_unbuilt Unbuilt refl
+verify_is_own il derivation status bytes (untyped language place rule is_text breach text) = own_verification
+verify_is_own il derivation status bytes (judged language lines rest typed small texts (accepted all nothing text)) = own_done
+verify_is_own il derivation status bytes (judged language lines rest typed small texts (refused good after line notes rule parts read verdict text)) = own_verification
+verify_is_own il derivation status bytes (judged language lines rest typed small texts (unfinished notes read some text)) = own_verification
+verify_is_own il derivation status bytes (judged language lines rest typed small texts (endless notes read ended nothing text)) = own_verification
+verify_is_own il derivation status bytes (unjudged language is_text typed not_yet text) = own_unbuilt Unbuilt refl
 
 files_are_own : (printed : Printed) (names files : List (List ℕ)) (status : Status) (bytes : List ℕ) → FilesGive printed names files status bytes → IsOwn status
 files_are_own printed names files status bytes (refused_at name at rule fault named text) = own_specification

@@ -1,10 +1,12 @@
 -- What each command gives of the files that it loads.
-use Rattle.std.specs.Prelude.{◌≡◌, ℕ, false, List, [], ◌∷◌, ◌++◌, Contains, ◌⊎◌}
+use Rattle.std.specs.Prelude.{◌≡◌, ℕ, ◌+◌, false, List, [], ◌∷◌, ◌++◌, Contains, ◌⊎◌}
 use Rattle.st_deriv.specs.declared.line.Line.{Line}
 use Rattle.st_deriv.specs.LineText.{LinesText}
 use Rattle.st_il.specs.declared.definition.Il.{Il}
 use Rattle.st_il.specs.declared.small.Small.{Small}
+use Rattle.st_il.specs.declared.type_rule.TypeRule.{TypeRule}
 use Rattle.st_il.specs.Small.{il_of, IsSmallIl}
+use Rattle.st_ilcheck.specs.Typed.{Typed, IsTypeBreach}
 use Rattle.st_ilread.specs.IlReading.{IsNoIl, IsFirstNoLine}
 use Rattle.st_iltext.specs.IlText.{IlText}
 use Rattle.st_tool.specs.declared.status.Status.{Status}
@@ -14,7 +16,7 @@ use Rattle.st_tool.specs.declared.transcript.Ending.TheVariants.{Stuck, Fuel}
 use Rattle.st_tool.specs.Checking.{CheckGives, IlGives, GroupsGive, OrdersGive}
 use Rattle.st_tool.specs.Derivation.{IsDerivation}
 use Rattle.st_tool.specs.SmallText.{IsTextOf}
-use Rattle.st_tool.specs.Texts.{transcript_text, unbuilt_text, refused_il_text}
+use Rattle.st_tool.specs.Texts.{transcript_text, unbuilt_text, refused_il_text, untyped_text}
 use Rattle.st_semantics.specs.declared.verify_rule.VerifyRule.TheVariants.{V1}
 use Rattle.st_semantics.specs.Accepts.{Accepts}
 use Rattle.st_semantics.specs.Transcript.{Term}
@@ -104,14 +106,21 @@ pub data VerifyGives (il_bytes derivation : List ℕ) : Status → List ℕ → 
   malformed : {bytes : List ℕ} (line : ℕ) → IsNoIl il_bytes → IsFirstNoLine il_bytes line
       → bytes ≡ refused_il_text line V1
       → VerifyGives il_bytes derivation answer.Verification bytes
-  -- they are the texts of an internal language and of lines: these are accepted, or one is refused
+  -- it is the text of an internal language, of which this definition, by its number from 0, is the
+  -- first that breaks a rule on types, and this the least that it breaks: its line is named
+  untyped : {bytes : List ℕ} (il : Il) (place : ℕ) (rule : TypeRule) → IlText il il_bytes
+      → IsTypeBreach il place rule → bytes ≡ untyped_text (place + 1) rule
+      → VerifyGives il_bytes derivation answer.Verification bytes
+  -- they are the texts of an internal language that is typed, and of lines: these are accepted, or
+  -- one is refused
   judged : {status : Status} {bytes : List ℕ} (il : Il) (lines : List Line) (rest : List ℕ)
-      → IsSmallIl il → AreTexts il_bytes derivation il lines rest
+      → Typed il → IsSmallIl il → AreTexts il_bytes derivation il lines rest
       → Verified il lines rest status bytes
       → VerifyGives il_bytes derivation status bytes
-  -- the first is the text of an internal language, and the second is not judged over it
-  unjudged : {bytes : List ℕ} (il : Il) → IlText il il_bytes → IsUnjudged il derivation
-      → bytes ≡ unbuilt_text
+  -- the first is the text of an internal language that is typed, and the second is not judged
+  -- over it
+  unjudged : {bytes : List ℕ} (il : Il) → IlText il il_bytes → Typed il
+      → IsUnjudged il derivation → bytes ≡ unbuilt_text
       → VerifyGives il_bytes derivation answer.Unbuilt bytes
 
 -- ---- the commands

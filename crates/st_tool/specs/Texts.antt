@@ -3,6 +3,8 @@ use Rattle.std.specs.Prelude.{ℕ, ◌+◌, ◌-◌, length, List, [], ◌∷◌
 use Rattle.std.specs.List.{flat_map}
 use Rattle.st_el.specs.declared.definition.DefNode.{DefNode}
 use Rattle.st_el.specs.declared.definition.DefNode.TheVariants.{Syntax, Var, Relation, Rule, Fun, Clause}
+use Rattle.st_il.specs.declared.type_rule.TypeRule.{TypeRule}
+use Rattle.st_il.specs.declared.type_rule.TypeRule.TheVariants.{T1, T2, T3, T4, T5, T6, T7, T8, T9, T10, T11, T12, T13, T14}
 use Rattle.st_il.specs.declared.value.Value.{Value, out-Value}
 use Rattle.st_il.specs.declared.value.Value.TheOpen.{Value-F}
 use Rattle.st_num.specs.declared.rule.RuleId.{RuleId}
@@ -118,6 +120,28 @@ refused_text line rule =
 abbrev pub refused_il_text : ℕ → VerifyRule → List ℕ
 refused_il_text line rule =
     codes "refused il " ++ decimal line ++ codes " " ++ rule_word rule ++ codes "\n"
+
+-- the name of a rule on types, as it is printed
+abbrev pub type_rule_word : TypeRule → List ℕ
+type_rule_word T1 = codes "T1"
+type_rule_word T2 = codes "T2"
+type_rule_word T3 = codes "T3"
+type_rule_word T4 = codes "T4"
+type_rule_word T5 = codes "T5"
+type_rule_word T6 = codes "T6"
+type_rule_word T7 = codes "T7"
+type_rule_word T8 = codes "T8"
+type_rule_word T9 = codes "T9"
+type_rule_word T10 = codes "T10"
+type_rule_word T11 = codes "T11"
+type_rule_word T12 = codes "T12"
+type_rule_word T13 = codes "T13"
+type_rule_word T14 = codes "T14"
+
+-- the definition in a line of the text of an internal language breaks a rule on types
+abbrev pub untyped_text : ℕ → TypeRule → List ℕ
+untyped_text line rule =
+    codes "refused il " ++ decimal line ++ codes " V2 " ++ type_rule_word rule ++ codes "\n"
 
 -- a specification with so many definitions is accepted
 abbrev pub definitions_text : ℕ → List ℕ

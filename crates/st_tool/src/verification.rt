@@ -1,23 +1,26 @@
 //! The verification of derivations.
 
-ghost use Rattle.std.specs.Prelude.{◌≡◌, ◌≤◌, ◌<◌, ◌^◌, ◌++◌, codes, decimal, None, length, IfOk, IfSome, IfNone, MatchBool, Contains};
+ghost use Rattle.std.specs.Prelude.{◌≡◌, ◌≤◌, ◌<◌, ◌^◌, ◌++◌, ℕ, List, codes, decimal, None, length, IfOk, IfSome, IfNone, MatchBool, Contains};
 ghost use Rattle.st_deriv.specs.declared.line.Line.{Line};
 ghost use Rattle.st_deriv.specs.LineText.{LineText};
 ghost use Rattle.st_deriv.specs.LineText.{IsNoLine};
+ghost use Rattle.st_ilcheck.specs.Typed.{Typed};
+ghost use Rattle.st_iltext.specs.IlText.{IlText};
 ghost use Rattle.st_tool.specs.inner.Checks.{Takes, TakenTo, HasNoLines, Ends, Tells};
 ghost use Rattle.st_tool.specs.Commands.{VerifyGives, text_limit};
-ghost use Rattle.st_tool.specs.Texts.{accepted_text, refused_il_text, rule_word};
+ghost use Rattle.st_tool.specs.Texts.{accepted_text, refused_il_text, rule_word, type_rule_word, untyped_text};
 ghost use Rattle.st_semantics.specs.Notes.{nothing_noted};
 
 use crate::Status;
 use crate::answer::{Answer, unbuilt};
 use itoa::Buffer;
 use st_deriv::read_line;
+use st_il::{Il, TypeRule};
 use st_ilread::read_il;
 use st_num::NoMemory;
 use st_small::is_small_il;
 use st_text::{TextFault, next_line};
-use st_verify::{Accepted, Verifier, VerifyFault, VerifyRule};
+use st_verify::{Accepted, Verifier, VerifyFault, VerifyRule, judge_language};
 use std::alloc::Global;
 
 /// Whether the bytes are the text of a line.
@@ -177,6 +180,64 @@ fn malformed_answer(alloc: Global, line: u64) -> Result<Answer, NoMemory>
     })
 }
 
+/// The name of a rule on types, as it is printed.
+fn type_rule_word(rule: TypeRule) -> &'static str
+    ensures { result.now ≡ type_rule_word rule }
+{
+    match rule {
+        TypeRule::T1 => "T1",
+        TypeRule::T2 => "T2",
+        TypeRule::T3 => "T3",
+        TypeRule::T4 => "T4",
+        TypeRule::T5 => "T5",
+        TypeRule::T6 => "T6",
+        TypeRule::T7 => "T7",
+        TypeRule::T8 => "T8",
+        TypeRule::T9 => "T9",
+        TypeRule::T10 => "T10",
+        TypeRule::T11 => "T11",
+        TypeRule::T12 => "T12",
+        TypeRule::T13 => "T13",
+        TypeRule::T14 => "T14",
+    }
+}
+
+/// The answer where the definition in this line of an internal language breaks a rule on types.
+fn untyped_answer(alloc: Global, line: u64, rule: TypeRule) -> Result<Answer, NoMemory>
+    ensures status { IfOk result (λ answer. answer.status ≡ Status.Verification) }
+    ensures bytes { IfOk result (λ answer. answer.bytes.items ≡ untyped_text line rule) }
+{
+    let mut buffer = Buffer::new();
+    let mut bytes = Vec::from_slice(alloc, b"refused il ")?;
+    bytes.extend_from_slice(buffer.format(line).as_bytes())?;
+    bytes.extend_from_slice(b" V2 ")?;
+    bytes.extend_from_slice(type_rule_word(rule).as_bytes())?;
+    bytes.extend_from_slice(b"\n")?;
+    Ok(Answer {
+        status: Status::Verification,
+        bytes,
+    })
+}
+
+/// Says whether the checker accepts a derivation over an internal language that is typed.
+fn judge_files(alloc: Global, il: Il, derivation: &[u8]) -> Result<Answer, NoMemory>
+    requires typed { Typed il }
+    requires short { length derivation.now ≤ text_limit }
+    ensures { (bytes : List ℕ) → IlText il bytes → IfOk result (λ answer. VerifyGives bytes
+        derivation.now answer.status answer.bytes.items) }
+{
+    if !is_small_il(alloc, &il)? {
+        return unbuilt(alloc);
+    }
+    let Ok(mut verifier) = Verifier::new(alloc, il) else {
+        return Err(NoMemory);
+    };
+    let Some(rest) = take_lines(alloc, &mut verifier, derivation)? else {
+        return unbuilt(alloc);
+    };
+    verdict_answer(alloc, finished(&mut verifier, rest))
+}
+
 /// Says whether the checker accepts a derivation, whose internal language is in another text.
 pub fn verify_files(alloc: Global, il: &[u8], derivation: &[u8]) -> Result<Answer, NoMemory>
     requires { length derivation.now ≤ text_limit }
@@ -188,14 +249,19 @@ pub fn verify_files(alloc: Global, il: &[u8], derivation: &[u8]) -> Result<Answe
         Err(TextFault::Malformed { line }) => return malformed_answer(alloc, line),
         Err(TextFault::Memory) => return Err(NoMemory),
     };
-    if !is_small_il(alloc, &il)? {
-        return unbuilt(alloc);
+    match judge_language(alloc, &il) {
+        Ok(()) => judge_files(alloc, il, derivation),
+        Err(
+            VerifyFault::Refused {
+                rule: _,
+                line,
+                typing,
+            },
+        ) => match typing {
+            Some(rule) => untyped_answer(alloc, line, rule),
+            // (a language is refused by a rule on types alone)
+            None => unreachable!(),
+        },
+        Err(VerifyFault::Memory) => Err(NoMemory),
     }
-    let Ok(mut verifier) = Verifier::new(alloc, il) else {
-        return Err(NoMemory);
-    };
-    let Some(rest) = take_lines(alloc, &mut verifier, derivation)? else {
-        return unbuilt(alloc);
-    };
-    verdict_answer(alloc, finished(&mut verifier, rest))
 }

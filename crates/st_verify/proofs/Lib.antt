@@ -6,6 +6,8 @@ pub mod SmallValues
 pub mod SmallTypes
 pub mod SmallTrees
 pub mod SmallModes
+pub mod SmallTags
+pub mod SmallTyped
 pub mod SmallDefinitions
 pub mod SmallLines
 pub mod SmallNodes

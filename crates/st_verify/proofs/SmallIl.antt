@@ -52,7 +52,7 @@ clauses-rules : (relation syntax : List ℕ) (some : List SmallRule) → clauses
 clauses-rules relation syntax [] = refl
 clauses-rules relation syntax (rule ∷ some) = clauses-rules relation syntax some
 
-rules-rules : (relation syntax : List ℕ) (some : List SmallRule) → rules_in (map (rule_def relation syntax) some) ≡ map (rule_of relation syntax) some
+pub rules-rules : (relation syntax : List ℕ) (some : List SmallRule) → rules_in (map (rule_def relation syntax) some) ≡ map (rule_of relation syntax) some
 rules-rules relation syntax [] = refl
 rules-rules relation syntax (rule ∷ some) = ap (λ rest. rule_of relation syntax rule ∷ rest) (rules-rules relation syntax some)
 
@@ -110,7 +110,7 @@ mask-small s = ap inputs_or_all (relation-here s) ∙ ap (λ known. unwrap_or kn
 
 -- ---- the rules
 
-rules_from-rules : (relation syntax : List ℕ) (some : List SmallRule) → rules_from relation (map (rule_of relation syntax) some) ≡ map (rule_of relation syntax) some
+pub rules_from-rules : (relation syntax : List ℕ) (some : List SmallRule) → rules_from relation (map (rule_of relation syntax) some) ≡ map (rule_of relation syntax) some
 rules_from-rules relation syntax [] = refl
 rules_from-rules relation syntax (rule ∷ some) =
     let same : pointwise nat_eq relation relation ≡ true = itself relation in

@@ -53,7 +53,7 @@ means_itself name atoms t u is (alias written some rest) =
     let never : alias_of (one_syntax name atoms) t ≡ None = ap (alias_of (one_syntax name atoms)) is ∙ no_alias name atoms in cc
 
 -- it has a case for each atom
-abbrev case_of : List ℕ → CaseDef
+abbrev pub case_of : List ℕ → CaseDef
 case_of atom = record { tag = atom; operands = [] }
 
 own_case : (defs : List SyntaxDef) (atom : List ℕ) (a : Alternative) (cases : List CaseDef) → a ≡ alternative.Case atom [] → Brings defs a cases → cases ≡ case_of atom ∷ []
@@ -63,10 +63,10 @@ own_case defs atom a cases is (own tag operands a_is cases_are) =
     cases_are ∙ ap (λ t. record { tag = t; operands = operands } ∷ []) same_tag ∙ ap (λ os. record { tag = atom; operands = os } ∷ []) same_operands
 own_case defs atom a cases is (included name t a_is means flat) = cc
 
-abbrev alternatives : List (List ℕ) → List Alternative
+abbrev pub alternatives : List (List ℕ) → List Alternative
 alternatives atoms = map (λ atom. alternative.Case atom []) atoms
 
-flat_cases : (defs : List SyntaxDef) (atoms : List (List ℕ)) (cases : List CaseDef) → Flatten defs (alternatives atoms) cases → cases ≡ map case_of atoms
+pub flat_cases : (defs : List SyntaxDef) (atoms : List (List ℕ)) (cases : List CaseDef) → Flatten defs (alternatives atoms) cases → cases ≡ map case_of atoms
 flat_cases defs [] cases (none are) = are
 flat_cases defs (atom ∷ atoms) cases (more first rest brings flat are) =
     are ∙ ap (λ f. f ++ rest) (own_case defs atom (alternative.Case atom []) first refl brings) ∙ ap (λ r. case_of atom ∷ r) (flat_cases defs atoms rest flat)
@@ -99,7 +99,7 @@ has_none : (atom : List ℕ) (atoms : List (List ℕ)) (tag : List ℕ) (b : Boo
 has_none atom atoms tag true later = refl
 has_none atom atoms tag false later = later
 
-atom_found : (atoms : List (List ℕ)) (tag : List ℕ) → Contains atoms tag → HasNone atoms tag
+pub atom_found : (atoms : List (List ℕ)) (tag : List ℕ) → Contains atoms tag → HasNone atoms tag
 atom_found [] tag (k, below, is) = absurd (omega arith)
 atom_found (atom ∷ atoms) tag (zero, below, is) =
     let same : pointwise nat_eq atom tag ≡ true = ap (λ t. pointwise nat_eq atom t) (sym is) ∙ name_itself atom in
@@ -157,17 +157,17 @@ typed_atom name atoms v (has.absent element is means) =
 typed_atom name atoms v (has.present part element is means typed) =
     let never = named_level name (ty.Opt element) (Ty-F.Opt element) (ty.outs-Opt element) (means_itself name atoms _ _ refl means) in cc
 
+pub has_atoms : (name : List ℕ) (atoms : List (List ℕ)) → HasCases (one_syntax name atoms) (ty.Name name) (map case_of atoms)
+has_atoms name atoms = record {
+  variant = ty.Name name;
+  alternatives = alternatives atoms;
+  means = itself (no_alias name atoms) refl;
+  declared = ap listed (named_here name atoms);
+  flattened = cases_flat (one_syntax name atoms) atoms;
+}
+
 atom_typed : (name : List ℕ) (atoms : List (List ℕ)) (tag : List ℕ) → Contains atoms tag → HasType (one_syntax name atoms) (value.Case tag []) (ty.Name name)
-atom_typed name atoms tag known =
-    has.case tag [] (map case_of atoms) [] refl
-    (record {
-      variant = ty.Name name;
-      alternatives = alternatives atoms;
-      means = itself (no_alias name atoms) refl;
-      declared = ap listed (named_here name atoms);
-      flattened = cases_flat (one_syntax name atoms) atoms;
-    })
-    (atom_found atoms tag known) has.none
+atom_typed name atoms tag known = has.case tag [] (map case_of atoms) [] refl (has_atoms name atoms) (atom_found atoms tag known) has.none
 
 -- ---- atoms are values: they are low, and texts
 

@@ -15,6 +15,7 @@ use Rattle.st_semantics.specs.Derivation.{HasTree, Derivable}
 use Rattle.st_semantics.specs.Kinds.{AreKinded, ClausesNameOccurring}
 use Rattle.st_semantics.specs.Notes.{noted}
 use Rattle.st_semantics.specs.Verdict.{Verdict}
+use Rattle.st_ilcheck.specs.Typed.{Typed}
 use Rattle.st_verify.specs.SmallNotes.{small_noted}
 use Rattle.st_verify.specs.SmallVerdict.{FirstBreach}
 
@@ -65,3 +66,7 @@ LawOfSmallNotes =
 abbrev pub LawOfSmallModes : Type 0
 LawOfSmallModes =
     (s : Small) → KeepModes (il_of s) × AreKinded (il_of s) × ClausesNameOccurring (il_of s)
+
+-- The internal language of a small specification is typed.
+abbrev pub LawOfSmallTyping : Type 0
+LawOfSmallTyping = (s : Small) → IsSmall s → Typed (il_of s)

@@ -7,6 +7,7 @@ use Rattle.st_semantics.proofs.Verdicts.{law_of_verdicts}
 use Rattle.st_verify.proofs.SmallLines.{noted_same}
 use Rattle.st_verify.proofs.SmallModes.{keep_modes, are_kinded, clauses_keep, clauses_name_occurring}
 use Rattle.st_verify.proofs.SmallNotings.{read_trees}
+use Rattle.st_verify.proofs.SmallTyped.{keeps_types}
 use Rattle.st_verify.proofs.SmallTrees.{has_tree_rule, rule_tree, derivable_step, step_derivable}
 use Rattle.st_verify.proofs.SmallVerdicts.{verdict_of_breach}
 use Rattle.st_verify.proofs.small.small_specifications.Goals as goal
@@ -32,3 +33,6 @@ returns-clause-notes c = λ s small lines notes read line.
 
 pub returns-clause-modes : goal.returns-clause-modes
 returns-clause-modes c = λ s. (keep_modes s, are_kinded s, clauses_name_occurring s)
+
+pub returns-clause-typing : goal.returns-clause-typing
+returns-clause-typing c = λ s small. keeps_types s small
