@@ -48,7 +48,7 @@ use Rattle.st_elab_def.proofs.Declares.{declares_own}
 use Rattle.st_elab_typed.specs.Citations.{IsSyntax, IsRelation, IsFunction, CitesKnown}
 use Rattle.st_elab_def.specs.Keeping.{AllAreNamed}
 use Rattle.st_elab_def.proofs.CitedDefs.{all_cite_known}
-use Rattle.st_elab_def.proofs.Elaborated.{first_is, none_is}
+use Rattle.st_elab_def.proofs.EachDefinition.{first_is, none_is}
 use Rattle.st_elab_def.proofs.Joined.{joined_each}
 use Rattle.st_elab_def.proofs.NamesOnce.{times_once, front_new, AreFresh, fresh_one, kind_names, HasKind, nameless, named, kind_fresh, kind_joined, new_before}
 use Rattle.st_elab_def.proofs.SyntaxesDeclared.{declarations_pass, signatures_pass, contents_pass, types_sound, syntaxes_declared, same_syntaxes}

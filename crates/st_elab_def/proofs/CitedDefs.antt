@@ -46,7 +46,7 @@ use Rattle.st_elab_typed.proofs.CitesKnown.{rule_cites, clause_cites}
 use Rattle.st_elab_typed.proofs.Members.{Each-append, same_path}
 use Rattle.st_elab_typed.proofs.KnownTypes.{fun_itself}
 use Rattle.st_elab_def.proofs.AreKnown.{SignatureKnown, all_signatures, map_split, body_known, are_known}
-use Rattle.st_elab_def.proofs.Elaborated.{first_is, none_is}
+use Rattle.st_elab_def.proofs.EachDefinition.{first_is, none_is}
 use Rattle.st_elab_def.proofs.HolesCounted.{holes_counted}
 use Rattle.st_elab_def.proofs.Joined.{joined_each}
 use Rattle.st_elab_def.proofs.SyntaxesDeclared.{signatures_pass, syntaxes_declared, same_syntaxes}

@@ -27,7 +27,7 @@ use Rattle.st_elab_def.proofs.Declares.{declares_own}
 use Rattle.st_elab_typed.proofs.KnownTypes.{fun_itself}
 use Rattle.st_elab_def.specs.Sources.{RepeatNoOtherwise}
 use Rattle.st_elab_def.proofs.AreNamed.{relation_name, all_are_named}
-use Rattle.st_elab_def.proofs.Elaborated.{IsDeclaration, declaration_form, elaborated_variables, elaborated_indices, elaborated_names}
+use Rattle.st_elab_def.proofs.EachDefinition.{IsDeclaration, declaration_form, elaborated_variables, elaborated_indices, elaborated_names}
 use Rattle.st_elab_def.proofs.SyntaxesDeclared.{types_sound}
 
 -- ---- no definition breaks a rule

@@ -35,7 +35,7 @@ mod Light
 pub mod Declares
 pub mod ErasesTo
 mod Joined
-mod Elaborated
+mod EachDefinition
 mod SyntaxesDeclared
 mod HolesCounted
 mod AreKnown

@@ -21,14 +21,12 @@ use Rattle.st_type_table.specs.Leads.{names_in, names_at}
 use Rattle.st_type_table.specs.Meaning.{body_of, named_at, named, aliased, alternatives_of, Means, itself, alias, listed as listed_alternatives, recorded}
 use Rattle.st_type_table.specs.Cases.{or_none, Brings, own, included, Flatten, none as flat_none, more as flat_more, HasCases}
 use Rattle.st_type_table.specs.Keys.{IsFirstWith, here, later}
-use Rattle.st_semantics.specs.Names.{flattened}
-use Rattle.st_notation.specs.Fits.{one}
 use Rattle.st_elab_table.specs.declared.decls.Decls.{Decls}
 use Rattle.st_elab_table.specs.Iterations.{of_kind}
 use Rattle.st_elab_table.specs.Choice.{IsChosenBy, keyed, keyless}
 use Rattle.st_elab_table.specs.Inferred.{fun_named}
 use Rattle.st_elab_table.specs.Variables.{named_type, written_type, syntax_type, first_type, remaining, type_of_name}
-use Rattle.st_elab_table.specs.Steps.{found, number_type}
+use Rattle.st_elab_table.specs.Steps.{number_type}
 use Rattle.st_elab_typed.specs.Citations.{IsSyntax, IsKnown, AlternativeKnown, BodyKnown, AreKnown}
 use Rattle.st_elab_typed.proofs.Members.{same_path, Each-append, Each-left, Each-right}
 

@@ -23,7 +23,7 @@ use Rattle.st_ilcheck.specs.Variables.{Occurrence, deeper, inside, occurrences, 
 use Rattle.st_elab_typed.specs.KeepsNames.{KeepsNames, AllKeepNames, keeps, more}
 use Rattle.st_elab_typed.specs.inner.IsPlaced.{IsReached, IsPlaced, ArePlaced, placed}
 use Rattle.st_elab_typed.specs.inner.IsPlaced.{none as unplaced, more as place_more}
-use Rattle.st_elab_typed.proofs.Members.{Each-append, Each-split, or_left, or_right}
+use Rattle.st_elab_typed.proofs.Members.{Each-append, Each-split, or_left, or_right, Each-weaken}
 use Rattle.st_elab_typed.proofs.Occurring.{occurrences-Var, occurrences-plain, occurrences-Iter, in_some, occurs-plain, occurs-Var, occurs-count, occurs-body, IsPlain}
 
 same_itself : (name : Name) → same_name name name ≡ true

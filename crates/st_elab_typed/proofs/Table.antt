@@ -34,6 +34,7 @@ use Rattle.st_elab_table.specs.Forms.{inferable, is_concatenation}
 use Rattle.st_elab_table.specs.Inferred.{entry_of, variable_type, variable_row, inferred_at}
 use Rattle.st_elab_table.specs.Iterations.{Variable}
 use Rattle.st_elab_table.specs.Variables.{type_of_name}
+use Rattle.st_elab_table.specs.Scopes.{listed}
 use Rattle.st_elab_table.specs.Checked.{sequence_at, form_row, plain_row, tuple_at, checked_row}
 use Rattle.st_elab_table.specs.Collections.{is_run}
 use Rattle.st_elab_table.specs.Questions.{Manner, Question, check, infer, item, hole, Made, Gives, Step}

@@ -1,4 +1,4 @@
-use Rattle.st_elab_def.proofs.Elaborated.{elaborated_indices}
+use Rattle.st_elab_def.proofs.EachDefinition.{elaborated_indices}
 use Rattle.st_elab_def.proofs.laws.indices_stay_inside.Goals as goal
 
 pub returns : goal.returns

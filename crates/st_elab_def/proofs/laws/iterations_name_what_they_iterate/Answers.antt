@@ -1,4 +1,4 @@
-use Rattle.st_elab_def.proofs.Elaborated.{elaborated_names}
+use Rattle.st_elab_def.proofs.EachDefinition.{elaborated_names}
 use Rattle.st_elab_def.proofs.laws.iterations_name_what_they_iterate.Goals as goal
 
 pub returns : goal.returns

@@ -1,4 +1,4 @@
-use Rattle.st_elab_def.proofs.Elaborated.{elaborated_variables}
+use Rattle.st_elab_def.proofs.EachDefinition.{elaborated_variables}
 use Rattle.st_elab_def.proofs.laws.variables_are_listed.Goals as goal
 
 pub returns : goal.returns
