@@ -31,7 +31,7 @@ use Rattle.st_semantics.specs.Names.{Name, has_name, flattened}
 use Rattle.st_semantics.specs.OperationTypes.{Level}
 use Rattle.st_semantics.specs.Variables.{called}
 use Rattle.st_semantics.proofs.Elements.{All-back}
-use Rattle.st_ilcheck.specs.Declarations.{IsTag, tags, syntaxes_cited, alternative_cited, alternative_tags, IsOnceIn, times, syntax_names, relation_names, function_names, rule_names, AreNamed, cited}
+use Rattle.st_ilcheck.specs.Declarations.{IsTag, tags, syntaxes_cited, alternative_cited, alternative_tags, IsOnceIn, times, syntax_names, relation_names, function_names, rule_names, AreNamed}
 use Rattle.st_ilcheck.specs.Definitions.{RuleBreaks}
 use Rattle.st_ilcheck.specs.FoundTypes.{origin, TypeFrom}
 use Rattle.st_ilcheck.specs.Parts.{parts_at}

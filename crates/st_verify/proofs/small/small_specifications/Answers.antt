@@ -1,4 +1,4 @@
-use Rattle.std.proofs.Common.{refl, sym, subst, List, [], ◌∷◌}
+use Rattle.std.proofs.Common.{refl, sym, subst, [], ◌∷◌}
 use Rattle.st_il.specs.Small.{il_of}
 use Rattle.st_num.specs.declared.rule.RuleId.TheVariants.{M3, M4, M6}
 use Rattle.st_semantics.specs.Verdict.{Verdict}
