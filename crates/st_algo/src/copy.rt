@@ -17,7 +17,7 @@ fn copy_box(alloc: Global, exp: &Boxed<IlExp>) -> Result<Boxed<IlExp>, NoMemory>
 
 /// The same expression again.
 #[cycle(copy)]
-pub(crate) fn copy_exp(alloc: Global, exp: &IlExp) -> Result<IlExp, NoMemory>
+pub fn copy_exp(alloc: Global, exp: &IlExp) -> Result<IlExp, NoMemory>
     ensures { IfOk result (λ copy. copy ≡ exp.now) }
 {
     match exp {

@@ -1,5 +1,5 @@
 -- A premise that keeps the rules can be met at its position.
-use Rattle.std.proofs.Common.{◌≡◌, zero, refl, sym, ◌∙◌, ap₂, subst, List, [], ◌∷◌, ◌++◌, ◌⊎◌, inl, inr, Bool, true, false, ◌&&◌, if◌then◌else◌, Option, Some, None}
+use Rattle.std.proofs.Common.{◌≡◌, refl, sym, ◌∙◌, ap₂, subst, List, [], ◌∷◌, ◌++◌, ◌⊎◌, inl, inr, Bool, true, false, ◌&&◌, if◌then◌else◌, Option, Some, None}
 use Rattle.std.specs.List.{list_all}
 use Rattle.st_il.specs.declared.definition.Il.{Il}
 use Rattle.st_il.specs.declared.definition.Listed.{Listed}
@@ -11,7 +11,6 @@ use Rattle.st_il.specs.declared.expression.ListItem.{ListItem}
 use Rattle.st_il.specs.declared.expression.PathSeg.{PathSeg}
 use Rattle.st_il.specs.declared.expression.IlPrem.{IlPrem, out-IlPrem}
 use Rattle.st_il.specs.declared.expression.IlPrem.TheOpen.{IlPrem-F}
-use Rattle.st_il.specs.declared.value.Env.{Env}
 use Rattle.st_semantics.specs.Names.{Name, has_name, all_known, without}
 use Rattle.st_semantics.specs.Definitions.{syntaxes}
 use Rattle.st_semantics.specs.Environments.{listed_names}
@@ -40,7 +39,8 @@ use Rattle.st_eval.specs.Meeting.{IsEquation, IsCondition}
 use Rattle.st_eval.specs.CanBeMet as met
 use Rattle.st_eval.specs.CanBeMet.{CountsAreApart, CanBeMet, LawOfMeeting}
 use Rattle.st_eval.proofs.Trying.{known_all}
-use Rattle.st_eval.proofs.Iterations.{inside_listed}
+use Rattle.st_eval.proofs.Unfolded.{inside_listed}
+use Rattle.st_eval.proofs.Iterations.{iterates}
 
 -- ---- what the parts of a premise keep
 
@@ -191,9 +191,6 @@ tests true false d class c h = cc
 tests false b d class c h = cc
 
 module _ (il : Il) (single : CallsAreSingle il) where
-  abbrev no_entries : Env
-  no_entries = record { entries = [] }
-
   can_meet : {p : IlPrem} → NamesOccurring p → (bound : List Name) (ls : List Listed) (few : List Name) (class : Class) → all_known bound few ≡ true → class_of il few p ≡ Some class → has_one_open (Some class) ≡ true
       → PremIsFormed (syntaxes il) p → IsKinded ls p → CountsAreApart p → cites p ≡ false → all_known (listed_names ls) (bound ++ prem_vars p) ≡ true → CanBeMet il bound ls p
   can_meet {p = p} (kinds.condition e is) bound ls few class within h o form kinded apart free listed =
@@ -227,7 +224,7 @@ module _ (il : Il) (single : CallsAreSingle il) where
       (known_all (index_of how ++ bound) (bound_inside few how xs others)
       (λ x i. within-index (index_of how) few bound (known-within bound few within) x (inside-within few how xs others t.0 x i)))
       t.1 o forms.1 kind.1 counts.1 (sym (cites-level p (IlPrem-F.Each how xs body) is) ∙ free)
-      (inside_listed il single zero bound ls no_entries p how xs body each))
+      (inside_listed il bound ls p how xs body (iterates il bound ls p how xs body each)))
 
   pub law_of_meeting : LawOfMeeting il
   law_of_meeting bound ls p few class within h o form occurring kinded apart free listed = can_meet occurring bound ls few class within h o form kinded apart free listed

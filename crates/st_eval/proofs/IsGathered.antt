@@ -1,5 +1,5 @@
 -- What an iterated premise comes to by what it gathers.
-use Rattle.std.proofs.Common.{◌≡◌, ℕ, suc, pos, refl, sym, ◌∙◌, ap, ap₂, subst, List, [], ◌∷◌, ◌++◌, length, ◌⊎◌, inl, inr, Bool, true, false, ◌||◌, if◌then◌else◌, Option, Some, None, bytes_eq, append-nil}
+use Rattle.std.proofs.Common.{◌≡◌, ℕ, suc, pos, refl, sym, ◌∙◌, ap, ap₂, subst, List, [], ◌∷◌, ◌++◌, length, ◌⊎◌, inl, inr, Bool, true, false, ◌||◌, if◌then◌else◌, Option, Some, None, bytes_eq, append-nil, arith}
 use Rattle.std.specs.Prelude.{nat_le}
 use Rattle.st_num.specs.declared.dim.Kind.{Kind}
 use Rattle.st_num.specs.declared.dim.Kind.TheVariants as kind
@@ -25,7 +25,8 @@ use Rattle.st_semantics.specs.Iterations.{count_of, index_of, kind_of, spread, M
 use Rattle.st_semantics.specs.Scopes.{listed_inside}
 use Rattle.st_semantics.specs.Evaluation.{tasks, GivesAll}
 use Rattle.st_semantics.specs.Variables.{prem_vars}
-use Rattle.st_semantics.specs.Depth.{bound_count, ValuesAt}
+use Rattle.st_semantics.specs.Depth.{bound_count, ValuesAt, AllTypedIn}
+use Rattle.st_semantics.specs.Kinds.{AreOfItsKind}
 use Rattle.st_semantics.specs.Calls.{CallAt}
 use Rattle.st_semantics.specs.Laws.{CallsAreSingle}
 use Rattle.st_semantics.proofs.Names.{within-cases, within-left, within-right, or-cases, or-left, or-right, bytes-same, bytes-path, true_false, without-other}
@@ -33,7 +34,7 @@ use Rattle.st_semantics.proofs.Premises.{without-parts}
 use Rattle.st_semantics.proofs.Values.{have_values, not_value}
 use Rattle.st_semantics.proofs.Low.{name_there}
 use Rattle.st_semantics.proofs.PatternValues.{one_name}
-use Rattle.st_eval.specs.Steps.{HasOnly, HoldsWith, MeetsAt}
+use Rattle.st_eval.specs.Steps.{HasOnly}
 use Rattle.st_eval.specs.Elements.{IsEach, GoesOver, AllHoldWith, Gathers}
 use Rattle.st_eval.specs.Meeting.{IsMet}
 use Rattle.st_eval.specs.declared.condition.Met.{Met}
@@ -45,8 +46,9 @@ use Rattle.st_eval.specs.inner.Gathered.{met_stopped, IsUnknownCount, values_the
 use Rattle.st_eval.specs.inner.AtElements.{AllHaveOnly, AllHoldBeside, AreMet, IsBehind}
 use Rattle.st_eval.proofs.InByteOrder.{names_in, name_has_value}
 use Rattle.st_eval.proofs.Conditions.{same_truth}
-use Rattle.st_eval.proofs.Iterations.{own_name, xs_within, unbound_name, values_same, law_of_counts, law_of_elements, law_of_gathering}
-use Rattle.st_eval.proofs.Lists.{law_of_gathered}
+use Rattle.st_eval.proofs.Unfolded.{IsUnfolded, not_in_both, own_name, xs_within, unbound_name, values_same}
+use Rattle.st_eval.proofs.Iterations.{iterates, law_of_counts, law_of_elements, law_of_gathering}
+use Rattle.st_eval.proofs.Lists.{gathered_variables}
 use Rattle.st_eval.proofs.HasNumber.{counted_name, number_fails}
 use Rattle.st_eval.proofs.Lookups.{lookup-first, lookup-behind, names_in-append}
 use Rattle.st_eval.proofs.SameNames.{among-same, bound_count-same}
@@ -54,7 +56,7 @@ use Rattle.st_eval.proofs.SameNames.{among-same, bound_count-same}
 -- ---- what is found at the elements
 
 -- each element, with what was found there before what was bound
-abbrev all_beside : List Env → List Env → List Env
+abbrev pub all_beside : List Env → List Env → List Env
 all_beside [] found = []
 all_beside (env ∷ envs) [] = []
 all_beside (env ∷ envs) (more ∷ rest) = beside env more ∷ all_beside envs rest
@@ -72,23 +74,37 @@ module _ (il : Il) (n : ℕ) (bound : List Name) (ls : List Listed) (p : IlPrem)
   as_many_found (e ∷ es) [] all = absurd all
   as_many_found (e ∷ es) (m ∷ ms) all = ap suc (as_many_found es ms all.1)
 
-  as_many_beside : (elements found : List Env) → AllHoldBeside il n bound ls p elements found → length (all_beside elements found) ≡ length found
-  as_many_beside [] [] all = refl
-  as_many_beside [] (m ∷ ms) all = absurd all
-  as_many_beside (e ∷ es) [] all = absurd all
-  as_many_beside (e ∷ es) (m ∷ ms) all = ap suc (as_many_beside es ms all.1)
+  have_all : (elements found : List Env) → AllHoldBeside il n bound ls p elements found → AllHaveOnly il ls (bound ++ prem_vars p) (all_beside elements found)
+  have_all [] [] all = tt
+  have_all [] (m ∷ ms) all = absurd all
+  have_all (e ∷ es) [] all = absurd all
+  have_all (e ∷ es) (m ∷ ms) all = (all.0.variables, have_all es ms all.1)
+
+-- as many elements as are found
+as_many_beside : (elements found : List Env) → length found ≡ length elements → length (all_beside elements found) ≡ length found
+as_many_beside [] [] l = refl
+as_many_beside [] (m ∷ ms) l = absurd (omega (arith, l))
+as_many_beside (e ∷ es) [] l = absurd (omega (arith, l))
+as_many_beside (e ∷ es) (m ∷ ms) l = let less : length ms ≡ length es = omega (arith, l) in ap suc (as_many_beside es ms less)
+
+module _ (il : Il) (bound : List Name) (ls : List Listed) (p : IlPrem) where
+  -- what is bound at elements is typed there
+  typed_there : (envs : List Env) → AllHaveOnly il ls (bound ++ prem_vars p) envs → AllTypedIn il ls (prem_vars p) envs
+  typed_there [] have = tt
+  typed_there (e ∷ es) have = (λ x i l at. have.0.typed x (within-right bound (prem_vars p) x i) l at, typed_there es have.1)
 
   -- a variable that was not bound has its values there
-  values_there-are : (x : Name) → has_name (prem_vars p) x ≡ true → has_name bound x ≡ false → (elements found : List Env) → AllHaveOnly il ls bound elements → AllHoldBeside il n bound ls p elements found
-      → ValuesAt x (all_beside elements found) (values_there x found)
-  values_there-are x i free [] [] only all = tt
-  values_there-are x i free [] (m ∷ ms) only all = absurd all
-  values_there-are x i free (e ∷ es) [] only all = absurd all
-  values_there-are x i free (e ∷ es) (m ∷ ms) only all =
-      let there = name_has_value x m.entries (own (or-cases (has_name (names_of m) x) (has_name (names_of e) x) (sym (names_in-append x m.entries e.entries) ∙ (all.0.variables.names_are x ∙ within-right bound (prem_vars p) x i)))) in
-      let named : has_name (names_of m) x ≡ true = own (or-cases (has_name (names_of m) x) (has_name (names_of e) x) (sym (names_in-append x m.entries e.entries) ∙ (all.0.variables.names_are x ∙ within-right bound (prem_vars p) x i))) in
+  values_there-are : (x : Name) → has_name (prem_vars p) x ≡ true → has_name bound x ≡ false → (elements found : List Env) → AllHaveOnly il ls bound elements → AllHaveOnly il ls (bound ++ prem_vars p) (all_beside elements found)
+      → length found ≡ length elements → ValuesAt x (all_beside elements found) (values_there x found)
+  values_there-are x i free [] [] only have l = tt
+  values_there-are x i free [] (m ∷ ms) only have l = absurd (omega (arith, l))
+  values_there-are x i free (e ∷ es) [] only have l = absurd (omega (arith, l))
+  values_there-are x i free (e ∷ es) (m ∷ ms) only have l =
+      let less : length ms ≡ length es = omega (arith, l) in
+      let named : has_name (names_of m) x ≡ true = own (or-cases (has_name (names_of m) x) (has_name (names_of e) x) (sym (names_in-append x m.entries e.entries) ∙ (have.0.names_are x ∙ within-right bound (prem_vars p) x i))) in
+      let there = name_has_value x m.entries named in
       subst (λ z. ValuesAt x (beside e m ∷ all_beside es ms) (option_list z ++ values_there x ms)) (sym there.1)
-      (lookup-first x m.entries e.entries named ∙ there.1, values_there-are x i free es ms only.1 all.1)
+      (lookup-first x m.entries e.entries named ∙ there.1, values_there-are x i free es ms only.1 have.1 less)
     where
       own : (has_name (names_of m) x ≡ true) ⊎ (has_name (names_of e) x ≡ true) → has_name (names_of m) x ≡ true
       own (inl j) = j
@@ -161,14 +177,162 @@ module _ (how : Iteration) (found : List Env) where
       at NoValue k q l e ih = absurd (gathered_never (kind_of how) (values_there y found) k)
       at Deep k q l e ih = (y, or-left (bytes_eq y y) (has_name ys y) (bytes-same y), k)
 
--- ---- what the premise comes to
+-- ---- what is gathered, wherever the premise is met
 
-not_in_both : (as' bs : List Name) (x : Name) → has_name as' x ≡ false → has_name bs x ≡ false → has_name (as' ++ bs) x ≡ false
-not_in_both as' bs x f g = at (has_name (as' ++ bs) x) refl
-  where
-    at : (b : Bool) → has_name (as' ++ bs) x ≡ b → has_name (as' ++ bs) x ≡ false
-    at true k = elim (within-cases as' bs x k) [ inl i ↦ absurd (true_false (sym i ∙ f)) | inr i ↦ absurd (true_false (sym i ∙ g)) ]
-    at false k = k
+module _ (il : Il) (bound : List Name) (ls : List Listed) (env : Env) (p : IlPrem) (how : Iteration) (xs : List Name) (body : IlPrem) (u : IsUnfolded bound ls p how xs body) (kinded : AreOfItsKind how xs ls)
+    (known : List Name) (same : (x : Name) → has_name known x ≡ has_name bound x) (only : HasOnly il ls bound env) (elements found : List Env) (inside : AllHaveOnly il (listed_inside how xs ls) (index_of how ++ bound) elements)
+    (have : AllHaveOnly il (listed_inside how xs ls) ((index_of how ++ bound) ++ prem_vars body) (all_beside elements found)) (as_many : length found ≡ length elements) where
+  abbrev founds : List Env
+  founds = all_beside elements found
+
+  many : length founds ≡ length found
+  many = as_many_beside elements found as_many
+
+  values : (x : Name) → has_name bound x ≡ false → has_name xs x ≡ true → ValuesAt x founds (values_there x found)
+  values x f i =
+      let own = own_name il bound ls p how xs body u x i in
+      values_there-are il (index_of how ++ bound) (listed_inside how xs ls) body x own.1 (not_in_both (index_of how) bound x own.0 f) elements found inside have as_many
+
+  unknown : (x : Name) → has_name bound x ≡ false → has_name xs x ≡ true → has_name (without known xs) x ≡ true
+  unknown x f i = without-other known xs x (same x ∙ f) i
+
+  -- none of the variables that are gathered is too high
+  abbrev pub AreLow : Type 0
+  AreLow = (x : Name) → has_name bound x ≡ false → has_name xs x ≡ true → (vs : List Value) → ValuesAt x founds vs → gathered how vs ≡ Deep → ⊥
+
+  -- what the premise comes to: an environment of what is gathered, a number of elements that has not
+  -- the type of the count, or a variable that is too high
+  abbrev pub GatheredTo : Met → Type 0
+  GatheredTo (met.Holds more) = Gathers bound env how xs founds (beside env more) × HasOnly il ls (bound ++ prem_vars p) (beside env more)
+  GatheredTo met.Fails = (c : Name) × IsUnknownCount bound how c × (HasNumber (syntaxes il) ls c (length found) → ⊥) × AreLow
+  GatheredTo met.Deep = (x : Name) × (has_name bound x ≡ false) × (has_name xs x ≡ true) × ValuesAt x founds (values_there x found) × (gathered how (values_there x found) ≡ Deep)
+
+  gathered_high : gathered_entries how found (without known xs) ≡ None → GatheredTo met.Deep
+  gathered_high e =
+      let w = too_high how found (without known xs) e in
+      let q = without-parts known xs w.0 w.1 in
+      let f : has_name bound w.0 ≡ false = sym (same w.0) ∙ q.0 in
+      (w.0, f, q.1, values w.0 f q.1, w.2)
+
+  module _ (es : List Entry) (are : gathered_entries how found (without known xs) ≡ Some es) where
+    es_name : (x : Name) → has_name (names_in es) x ≡ has_name (without known xs) x
+    es_name x = entries_named how found (without known xs) es are x
+
+    no_name : (x : Name) → (has_name known x ≡ true) ⊎ (has_name xs x ≡ false) → has_name (names_in es) x ≡ false
+    no_name x why = es_name x ∙ at (has_name (without known xs) x) refl why
+      where
+        at : (b : Bool) → has_name (without known xs) x ≡ b → (has_name known x ≡ true) ⊎ (has_name xs x ≡ false) → b ≡ false
+        at true k (inl i) = absurd (true_false (sym i ∙ (without-parts known xs x k).0))
+        at true k (inr i) = absurd (true_false (sym (without-parts known xs x k).1 ∙ i))
+        at false k why = refl
+
+    low : AreLow
+    low x f i vs at deep =
+        let v = entries_valued how found (without known xs) es are x (unknown x f i) in
+        let one : values_there x found ≡ vs = values_same x founds (values_there x found) (values x f i) ∙ sym (values_same x founds vs at) in
+        let both : Val v.0 ≡ Deep = sym v.2 ∙ (ap (gathered how) one ∙ deep) in cc
+
+    -- with the number for a count that is not bound
+    module _ (extra : List Entry) (extra_names : (x : Name) → has_name (names_in extra) x ≡ true → IsUnknownCount bound how x) (extra_value : (x : Name) → IsUnknownCount bound how x → lookup x extra ≡ Some (value.Num (pos (length found))))
+        (extra_typed : (x : Name) → IsUnknownCount bound how x → HasNumber (syntaxes il) ls x (length found)) where
+      abbrev Other : Env
+      Other = beside env (record { entries = es ++ extra })
+
+      no_extra : (x : Name) → has_name bound x ≡ true → has_name (names_in extra) x ≡ false
+      no_extra x i = at (has_name (names_in extra) x) refl
+        where
+          at : (b : Bool) → has_name (names_in extra) x ≡ b → has_name (names_in extra) x ≡ false
+          at true k = absurd (true_false (sym i ∙ (extra_names x k).3))
+          at false k = k
+
+      extra_name : (x : Name) → IsUnknownCount bound how x → has_name (names_in extra) x ≡ true
+      extra_name x k = name_there x (value.Num (pos (length found))) extra (extra_value x k)
+
+      agrees : AgreeOn bound env Other
+      agrees x i = sym (lookup-behind x (es ++ extra) env.entries (names_in-append x es extra ∙ ap₂ (λ a b. a || b) (no_name x (inl (same x ∙ i))) (no_extra x i)))
+
+      number : (e : IlExp) (c : Name) → count_of how ≡ e ∷ [] → out-IlExp e ≡ IlExp-F.Var c → has_name bound c ≡ false → value_in Other c ≡ Some (value.Num (pos (length found)))
+      number e c one is f =
+          let k : IsUnknownCount bound how c = (e, one, is, f) in
+          lookup-first c (es ++ extra) env.entries (names_in-append c es extra ∙ or-right (has_name (names_in es) c) (has_name (names_in extra) c) (extra_name c k))
+          ∙ (lookup-behind c es extra (no_name c (inr (u.apart e c one is f))) ∙ extra_value c k)
+
+      gathers : Gathers bound env how xs founds Other
+      gathers = record {
+        agrees = agrees;
+        lists = λ x f i.
+            let v = entries_valued how found (without known xs) es are x (unknown x f i) in
+            let named : has_name (names_in es) x ≡ true = es_name x ∙ unknown x f i in (
+              v.0,
+              values_there x found,
+              values x f i,
+              v.2,
+              lookup-first x (es ++ extra) env.entries (names_in-append x es extra ∙ or-left (has_name (names_in es) x) (has_name (names_in extra) x) named)
+                  ∙ (lookup-first x es extra named ∙ v.1),
+            );
+        number = λ e c one is f. number e c one is f ∙ ap (λ z. Some (value.Num (pos z))) (sym many);
+      }
+
+      names : (x : Name) → has_name (names_of Other) x ≡ has_name (bound ++ prem_vars p) x
+      names x = same_truth (has_name (names_of Other) x) (has_name (bound ++ prem_vars p) x)
+          (λ k. elim (or-cases (has_name (names_in (es ++ extra)) x) (has_name (names_of env) x) (sym (names_in-append x (es ++ extra) env.entries) ∙ k)) [
+            | inl j ↦ elim (or-cases (has_name (names_in es) x) (has_name (names_in extra) x) (sym (names_in-append x es extra) ∙ j)) [
+              | inl i ↦ within-right bound (prem_vars p) x (xs_within il bound ls p how xs body u x (without-parts known xs x (sym (es_name x) ∙ i)).1)
+              | inr i ↦ (let v = extra_names x i in within-right bound (prem_vars p) x (counted_name il bound ls p how xs body u x v.0 v.1 v.2))
+            ]
+            | inr j ↦ within-left bound (prem_vars p) x (sym (only.names_are x) ∙ j)
+          ])
+          (λ k. names_in-append x (es ++ extra) env.entries ∙ elim (within-cases bound (prem_vars p) x k) [
+            | inl j ↦ or-right (has_name (names_in (es ++ extra)) x) (has_name (names_of env) x) (only.names_are x ∙ j)
+            | inr j ↦ new j (has_name bound x) refl
+          ])
+        where
+          first : has_name (names_in (es ++ extra)) x ≡ true → (has_name (names_in (es ++ extra)) x || has_name (names_of env) x) ≡ true
+          first i = or-left (has_name (names_in (es ++ extra)) x) (has_name (names_of env) x) i
+
+          new : has_name (prem_vars p) x ≡ true → (b : Bool) → has_name bound x ≡ b → (has_name (names_in (es ++ extra)) x || has_name (names_of env) x) ≡ true
+          new j true f = or-right (has_name (names_in (es ++ extra)) x) (has_name (names_of env) x) (only.names_are x ∙ f)
+          new j false f = elim (unbound_name il bound ls p how xs body u x f j) [
+            | inl i ↦ first (names_in-append x es extra ∙ or-left (has_name (names_in es) x) (has_name (names_in extra) x) (es_name x ∙ unknown x f i))
+            | inr c ↦ first (names_in-append x es extra ∙ or-right (has_name (names_in es) x) (has_name (names_in extra) x) (extra_name x (c.0, c.1, c.2, f)))
+          ]
+
+      variables : HasOnly il ls (bound ++ prem_vars p) Other
+      variables =
+          gathered_variables il bound ls p how xs body u kinded env founds (typed_there il (index_of how ++ bound) (listed_inside how xs ls) body founds have) only Other gathers names (λ e x one is f l listed.
+          subst (IsSomeTyped (syntaxes il) (type_of l)) (sym (number e x one is f)) (extra_typed x (e, one, is, f) l listed))
+
+    -- one name alone is the count
+    same_count : (x y : Name) → IsUnknownCount bound how x → IsUnknownCount bound how y → x ≡ y
+    same_count x y k v =
+        let both : k.0 ∷ [] ≡ v.0 ∷ [] = sym k.1 ∙ v.1 in
+        let exp : k.0 ≡ v.0 = cc in
+        let vars_same : IlExp-F.Var x ≡ IlExp-F.Var y = sym k.2 ∙ (ap out-IlExp exp ∙ v.2) in cc
+
+    counted_to : (counted : Option (List Entry)) → IsCounted (syntaxes il) ls known how (length found) es counted → GatheredTo (met_counted counted)
+    counted_to None w = (w.0, (w.1.0, w.1.1, w.1.2, sym (same w.0) ∙ w.1.3), w.2, low)
+    counted_to (Some more) (inl w) =
+        let none : (x : Name) → IsUnknownCount bound how x → ⊥ = λ x k. w.0 x (k.0, k.1, k.2, same x ∙ k.3) in
+        let nothing : List Entry = [] in
+        subst (λ (z : List Entry). GatheredTo (met.Holds (record { entries = z }))) (append-nil es ∙ sym w.1)
+        (gathers nothing (λ x k. cc) (λ x k. absurd (none x k)) (λ x k. absurd (none x k)), variables nothing (λ x k. cc) (λ x k. absurd (none x k)) (λ x k. absurd (none x k)))
+    counted_to (Some more) (inr w) =
+        let k : IsUnknownCount bound how w.0 = (w.1.0, w.1.1, w.1.2, sym (same w.0) ∙ w.1.3) in
+        let entry : Entry = (w.0, value.Num (pos (length found))) in
+        let is_named : (x : Name) → has_name (names_in (entry ∷ [])) x ≡ true → IsUnknownCount bound how x = λ x j. subst (IsUnknownCount bound how) (sym (one_name x w.0 j)) k in
+        let is_valued : (x : Name) → IsUnknownCount bound how x → lookup x (entry ∷ []) ≡ Some (value.Num (pos (length found))) =
+        λ x v. ap (λ z. if z then Some (value.Num (pos (length found))) else None) (ap (λ z. bytes_eq z w.0) (same_count x w.0 v k) ∙ bytes-same w.0) in
+        let is_typed : (x : Name) → IsUnknownCount bound how x → HasNumber (syntaxes il) ls x (length found) = λ x v. subst (λ z. HasNumber (syntaxes il) ls z (length found)) (same_count w.0 x k v) w.2 in
+        subst (λ (z : List Entry). GatheredTo (met.Holds (record { entries = z }))) (sym w.3) (gathers (entry ∷ []) is_named is_valued is_typed, variables (entry ∷ []) is_named is_valued is_typed)
+
+  pub gathered_to : (m : Met) → IsGathered (syntaxes il) ls known how xs found m → GatheredTo m
+  gathered_to m w = at (gathered_entries how found (without known xs)) refl w
+    where
+      at : (o : Option (List Entry)) → gathered_entries how found (without known xs) ≡ o → IsGatheredBy (syntaxes il) ls known how found o m → GatheredTo m
+      at None e w = subst GatheredTo (sym w) (gathered_high e)
+      at (Some es) e w = subst GatheredTo (sym w.2) (counted_to es e w.0 w.1)
+
+-- ---- what the premise comes to
 
 module _ (il : Il) (single : CallsAreSingle il) (n : ℕ) (bound : List Name) (ls : List Listed) (env : Env) (p : IlPrem) (how : Iteration) (xs : List Name) (body : IlPrem) (each : IsEach il bound ls p how xs body)
     (known : List Name) (same : (x : Name) → has_name known x ≡ has_name bound x) where
@@ -177,6 +341,9 @@ module _ (il : Il) (single : CallsAreSingle il) (n : ℕ) (bound : List Name) (l
 
   abbrev Scope : List Listed
   Scope = listed_inside how xs ls
+
+  around : IsUnfolded bound ls p how xs body
+  around = iterates il bound ls p how xs body each
 
   abbrev Comes : Met → Type 0
   Comes m = IsMet il n bound ls env p (met_beside env m)
@@ -209,148 +376,25 @@ module _ (il : Il) (single : CallsAreSingle il) (n : ℕ) (bound : List Name) (l
 
   module _ (only : HasOnly il ls bound env) (elements : List Env) (goes : GoesOver il n bound env how xs elements) (inside : AllHaveOnly il Scope Inside elements) where
     module _ (found : List Env) (all : AllHoldBeside il n Inside Scope body elements found) where
-      abbrev founds : List Env
-      founds = all_beside elements found
-
-      all_with : AllHoldWith il n Inside Scope body elements founds
+      all_with : AllHoldWith il n Inside Scope body elements (all_beside elements found)
       all_with = hold_with il n Inside Scope body elements found all
 
-      many : length founds ≡ length found
-      many = as_many_beside il n Inside Scope body elements found all
+      as_many : length found ≡ length elements
+      as_many = as_many_found il n Inside Scope body elements found all
 
-      values : (x : Name) → has_name bound x ≡ false → has_name xs x ≡ true → ValuesAt x founds (values_there x found)
-      values x f i =
-          let own = own_name il single n bound ls env p how xs body each x i in
-          values_there-are il n Inside Scope body x own.1 (not_in_both (index_of how) bound x own.0 f) elements found inside all
+      abbrev To : Met → Type 0
+      To m = GatheredTo il bound ls env p how xs body around each.kinded known same only elements found inside (have_all il n Inside Scope body elements found all) as_many m
 
-      unknown : (x : Name) → has_name bound x ≡ false → has_name xs x ≡ true → has_name (without known xs) x ≡ true
-      unknown x f i = without-other known xs x (same x ∙ f) i
-
-      gathered_deep : gathered_entries how found (without known xs) ≡ None → MeetsAt il n bound ls env p
-      gathered_deep e =
-          let w = too_high how found (without known xs) e in
-          let q = without-parts known xs w.0 w.1 in
-          let f : has_name bound w.0 ≡ false = sym (same w.0) ∙ q.0 in
-          (law_of_gathering il single n bound ls env p how xs body each elements founds goes all_with).1 w.0 (values_there w.0 found) f q.1 (values w.0 f q.1) w.2
-
-      module _ (es : List Entry) (are : gathered_entries how found (without known xs) ≡ Some es) where
-        es_name : (x : Name) → has_name (names_in es) x ≡ has_name (without known xs) x
-        es_name x = entries_named how found (without known xs) es are x
-
-        no_name : (x : Name) → (has_name known x ≡ true) ⊎ (has_name xs x ≡ false) → has_name (names_in es) x ≡ false
-        no_name x why = es_name x ∙ at (has_name (without known xs) x) refl why
-          where
-            at : (b : Bool) → has_name (without known xs) x ≡ b → (has_name known x ≡ true) ⊎ (has_name xs x ≡ false) → b ≡ false
-            at true k (inl i) = absurd (true_false (sym i ∙ (without-parts known xs x k).0))
-            at true k (inr i) = absurd (true_false (sym (without-parts known xs x k).1 ∙ i))
-            at false k why = refl
-
-        low : (x : Name) → has_name bound x ≡ false → has_name xs x ≡ true → (vs : List Value) → ValuesAt x founds vs → gathered how vs ≡ Deep → ⊥
-        low x f i vs at deep =
-            let v = entries_valued how found (without known xs) es are x (unknown x f i) in
-            let one : values_there x found ≡ vs = values_same x founds (values_there x found) (values x f i) ∙ sym (values_same x founds vs at) in
-            let both : Val v.0 ≡ Deep = sym v.2 ∙ (ap (gathered how) one ∙ deep) in cc
-
-        -- with the number for a count that is not bound
-        module _ (extra : List Entry) (extra_names : (x : Name) → has_name (names_in extra) x ≡ true → IsUnknownCount bound how x) (extra_value : (x : Name) → IsUnknownCount bound how x → lookup x extra ≡ Some (value.Num (pos (length found))))
-            (extra_typed : (x : Name) → IsUnknownCount bound how x → HasNumber (syntaxes il) ls x (length found)) where
-          abbrev Other : Env
-          Other = beside env (record { entries = es ++ extra })
-
-          no_extra : (x : Name) → has_name bound x ≡ true → has_name (names_in extra) x ≡ false
-          no_extra x i = at (has_name (names_in extra) x) refl
-            where
-              at : (b : Bool) → has_name (names_in extra) x ≡ b → has_name (names_in extra) x ≡ false
-              at true k = absurd (true_false (sym i ∙ (extra_names x k).3))
-              at false k = k
-
-          extra_name : (x : Name) → IsUnknownCount bound how x → has_name (names_in extra) x ≡ true
-          extra_name x u = name_there x (value.Num (pos (length found))) extra (extra_value x u)
-
-          agrees : AgreeOn bound env Other
-          agrees x i = sym (lookup-behind x (es ++ extra) env.entries (names_in-append x es extra ∙ ap₂ (λ a b. a || b) (no_name x (inl (same x ∙ i))) (no_extra x i)))
-
-          number : (e : IlExp) (c : Name) → count_of how ≡ e ∷ [] → out-IlExp e ≡ IlExp-F.Var c → has_name bound c ≡ false → value_in Other c ≡ Some (value.Num (pos (length found)))
-          number e c one is f =
-              let u : IsUnknownCount bound how c = (e, one, is, f) in
-              lookup-first c (es ++ extra) env.entries (names_in-append c es extra ∙ or-right (has_name (names_in es) c) (has_name (names_in extra) c) (extra_name c u))
-              ∙ (lookup-behind c es extra (no_name c (inr (each.apart e c one is f))) ∙ extra_value c u)
-
-          gathers : Gathers bound env how xs founds Other
-          gathers = record {
-            agrees = agrees;
-            lists = λ x f i.
-                let v = entries_valued how found (without known xs) es are x (unknown x f i) in
-                let named : has_name (names_in es) x ≡ true = es_name x ∙ unknown x f i in (
-                  v.0,
-                  values_there x found,
-                  values x f i,
-                  v.2,
-                  lookup-first x (es ++ extra) env.entries (names_in-append x es extra ∙ or-left (has_name (names_in es) x) (has_name (names_in extra) x) named)
-                      ∙ (lookup-first x es extra named ∙ v.1),
-                );
-            number = λ e c one is f. number e c one is f ∙ ap (λ z. Some (value.Num (pos z))) (sym many);
-          }
-
-          names : (x : Name) → has_name (names_of Other) x ≡ has_name (bound ++ prem_vars p) x
-          names x = same_truth (has_name (names_of Other) x) (has_name (bound ++ prem_vars p) x)
-              (λ k. elim (or-cases (has_name (names_in (es ++ extra)) x) (has_name (names_of env) x) (sym (names_in-append x (es ++ extra) env.entries) ∙ k)) [
-                | inl j ↦ elim (or-cases (has_name (names_in es) x) (has_name (names_in extra) x) (sym (names_in-append x es extra) ∙ j)) [
-                  | inl i ↦ within-right bound (prem_vars p) x (xs_within il single n bound ls env p how xs body each x (without-parts known xs x (sym (es_name x) ∙ i)).1)
-                  | inr i ↦ (let u = extra_names x i in within-right bound (prem_vars p) x (counted_name il single n bound ls env p how xs body each x u.0 u.1 u.2))
-                ]
-                | inr j ↦ within-left bound (prem_vars p) x (sym (only.names_are x) ∙ j)
-              ])
-              (λ k. names_in-append x (es ++ extra) env.entries ∙ elim (within-cases bound (prem_vars p) x k) [
-                | inl j ↦ or-right (has_name (names_in (es ++ extra)) x) (has_name (names_of env) x) (only.names_are x ∙ j)
-                | inr j ↦ new j (has_name bound x) refl
-              ])
-            where
-              first : has_name (names_in (es ++ extra)) x ≡ true → (has_name (names_in (es ++ extra)) x || has_name (names_of env) x) ≡ true
-              first i = or-left (has_name (names_in (es ++ extra)) x) (has_name (names_of env) x) i
-
-              new : has_name (prem_vars p) x ≡ true → (b : Bool) → has_name bound x ≡ b → (has_name (names_in (es ++ extra)) x || has_name (names_of env) x) ≡ true
-              new j true f = or-right (has_name (names_in (es ++ extra)) x) (has_name (names_of env) x) (only.names_are x ∙ f)
-              new j false f = elim (unbound_name il single n bound ls env p how xs body each x f j) [
-                | inl i ↦ first (names_in-append x es extra ∙ or-left (has_name (names_in es) x) (has_name (names_in extra) x) (es_name x ∙ unknown x f i))
-                | inr c ↦ first (names_in-append x es extra ∙ or-right (has_name (names_in es) x) (has_name (names_in extra) x) (extra_name x (c.0, c.1, c.2, f)))
-              ]
-
-          holds : HoldsWith il n bound ls env p Other
-          holds =
-              (law_of_gathering il single n bound ls env p how xs body each elements founds goes all_with).0 Other gathers
-              (law_of_gathered il single n bound ls env p how xs body each elements founds all_with only Other gathers names (λ e x one is f l listed.
-              subst (IsSomeTyped (syntaxes il) (type_of l)) (sym (number e x one is f)) (extra_typed x (e, one, is, f) l listed)))
-
-        -- one name alone is the count
-        same_count : (x y : Name) → IsUnknownCount bound how x → IsUnknownCount bound how y → x ≡ y
-        same_count x y u v =
-            let both : u.0 ∷ [] ≡ v.0 ∷ [] = sym u.1 ∙ v.1 in
-            let exp : u.0 ≡ v.0 = cc in
-            let vars_same : IlExp-F.Var x ≡ IlExp-F.Var y = sym u.2 ∙ (ap out-IlExp exp ∙ v.2) in cc
-
-        counted_met : (counted : Option (List Entry)) → IsCounted (syntaxes il) ls known how (length found) es counted → Comes (met_counted counted)
-        counted_met None w =
-            number_fails il single n bound ls env p how xs body each elements founds goes all_with low w.0 w.1.0 w.1.1 w.1.2 (sym (same w.0) ∙ w.1.3)
-            (λ typed. w.2 (subst (HasNumber (syntaxes il) ls w.0) (sym (as_many_found il n Inside Scope body elements found all)) typed))
-        counted_met (Some more) (inl w) =
-            subst (λ (z : List Entry). HoldsWith il n bound ls env p (beside env (record { entries = z }))) (append-nil es ∙ sym w.1)
-            (holds [] (λ x k. cc) (λ x u. absurd (w.0 x (u.0, u.1, u.2, same x ∙ u.3))) (λ x u. absurd (w.0 x (u.0, u.1, u.2, same x ∙ u.3))))
-        counted_met (Some more) (inr w) =
-            let u : IsUnknownCount bound how w.0 = (w.1.0, w.1.1, w.1.2, sym (same w.0) ∙ w.1.3) in
-            let entry : Entry = (w.0, value.Num (pos (length found))) in
-            subst (λ (z : List Entry). HoldsWith il n bound ls env p (beside env (record { entries = z }))) (sym w.3)
-            (holds (entry ∷ [])
-            (λ x k. subst (IsUnknownCount bound how) (sym (one_name x w.0 k)) u)
-            (λ x v. ap (λ z. if z then Some (value.Num (pos (length found))) else None) (ap (λ z. bytes_eq z w.0) (same_count x w.0 v u) ∙ bytes-same w.0))
-            (λ x v. subst (λ z. HasNumber (syntaxes il) ls z (length found)) (same_count w.0 x u v) w.2))
+      gathered_comes : (m : Met) → To m → Comes m
+      gathered_comes (met.Holds more) t = (law_of_gathering il single n bound ls env p how xs body each elements (all_beside elements found) goes all_with).0 (beside env more) t.0 t.1
+      gathered_comes met.Fails t =
+          number_fails il single n bound ls env p how xs body each elements (all_beside elements found) goes all_with t.3 t.0 t.1.0 t.1.1 t.1.2 t.1.3
+          (λ typed. t.2 (subst (HasNumber (syntaxes il) ls t.0) (sym as_many) typed))
+      gathered_comes met.Deep t = (law_of_gathering il single n bound ls env p how xs body each elements (all_beside elements found) goes all_with).1 t.0 (values_there t.0 found) t.1 t.2 t.3 t.4
 
       gathered_met : (m : Met) → IsGathered (syntaxes il) ls known how xs found m → Comes m
-      gathered_met m w = at (gathered_entries how found (without known xs)) refl w
-        where
-          at : (o : Option (List Entry)) → gathered_entries how found (without known xs) ≡ o → IsGatheredBy (syntaxes il) ls known how found o m → Comes m
-          at None e w = subst Comes (sym w) (gathered_deep e)
-          at (Some es) e w = subst Comes (sym w.2) (counted_met es e w.0 w.1)
+      gathered_met m w =
+          gathered_comes m (gathered_to il bound ls env p how xs body around each.kinded known same only elements found inside (have_all il n Inside Scope body elements found all) as_many m w)
 
     -- what it comes to by its elements
     pub each_reached : (r : AtElements) → AreMet il n Inside Scope body elements r → (m : Met) → IsBehind (syntaxes il) ls known how xs r m → Comes m

@@ -1,9 +1,10 @@
 mod InByteOrder
 mod Trying
 mod Conditions
-mod Unfolding
-mod Iterations
-mod Lists
+pub mod Unfolding
+pub mod Unfolded
+pub mod Iterations
+pub mod Lists
 mod BoundParts
 mod Answered
 mod TestOutcomes
@@ -23,7 +24,7 @@ mod SameNames
 mod AllHaveOnly
 mod Counts
 mod HasNumber
-mod IsGathered
+pub mod IsGathered
 mod CanBeMet
 mod MetEach
 mod Tried

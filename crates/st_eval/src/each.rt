@@ -85,7 +85,7 @@ fn value_known<'a, C: Caller>(
 }
 
 /// What the count of an iteration comes to, if it has one whose variables are all bound.
-pub(crate) fn count_values<'a, C: Caller>(
+pub fn count_values<'a, C: Caller>(
     alloc: Global,
     setting: &Setting<'_>,
     caller: &C,
@@ -122,7 +122,7 @@ pub(crate) fn stopped(outcome: Outcome) -> Met
 }
 
 /// Those of the names that are bound.
-pub(crate) fn names_known<'a>(
+pub fn names_known<'a>(
     alloc: Global,
     names: &'a [Name],
     known: &[&Name],
@@ -376,7 +376,7 @@ fn met_counted(entries: Option<Row<(Name, Value)>>) -> Met
 }
 
 /// What an iterated premise comes to where it holds at all elements: what they bind is gathered.
-pub(crate) fn gathered_met(
+pub fn gathered_met(
     alloc: Global,
     types: &TypeTable,
     variables: &[Listed],

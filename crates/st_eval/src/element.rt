@@ -21,7 +21,7 @@ use st_value::{Bound, Elements, Held};
 use std::alloc::Global;
 
 /// The names of what is bound.
-pub(crate) fn bound_names<'a>(alloc: Global, scope: &[Bound<'a>]) -> Result<Row<&'a Name>, NoMemory>
+pub fn bound_names<'a>(alloc: Global, scope: &[Bound<'a>]) -> Result<Row<&'a Name>, NoMemory>
     ensures { IfOk result (λ names. names_now names ≡ names_of (scope_env scope.now)) }
 {
     let mut names = Row::new(alloc);
@@ -86,7 +86,7 @@ fn with_entry(
 }
 
 /// The entries of these variables, of those that are bound.
-fn entries_among(
+pub fn entries_among(
     alloc: Global,
     names: &[&Name],
     scope: &[Bound],
@@ -102,7 +102,7 @@ fn entries_among(
 }
 
 /// An environment of the variables of an expression, of those that are bound.
-pub(crate) fn bound_in(alloc: Global, exp: &IlExp, scope: &[Bound]) -> Result<Env, NoMemory>
+pub fn bound_in(alloc: Global, exp: &IlExp, scope: &[Bound]) -> Result<Env, NoMemory>
     requires { (defs : List SyntaxDef) × IsFormed defs exp.now }
     ensures { IfOk result (λ env.
         env.entries ≡ entries_among (scope_env scope.now) (vars exp.now)) }
@@ -216,7 +216,7 @@ fn with_bound<'a>(bound: Row<Bound<'a>>, others: &[Bound<'a>]) -> Result<Row<Bou
 
 /// The variables inside an iteration at this element: its index, and its names, each bound to its
 /// element, before the others.
-pub(crate) fn bound_inside<'a>(
+pub fn bound_inside<'a>(
     alloc: Global,
     how: &'a Iteration,
     names: &[&'a Name],

@@ -65,10 +65,7 @@ pub(crate) fn index_of<'a>(alloc: Global, how: &'a Iteration) -> Result<Row<&'a 
 }
 
 /// Names with others behind them.
-pub(crate) fn with_others<'a>(
-    names: Row<&'a Name>,
-    others: &[&'a Name],
-) -> Result<Row<&'a Name>, NoMemory>
+pub fn with_others<'a>(names: Row<&'a Name>, others: &[&'a Name]) -> Result<Row<&'a Name>, NoMemory>
     ensures { IfOk result (λ more. more ≡ names.entry ++ others.now) }
 {
     let mut more = names;

@@ -10,15 +10,15 @@
 mod calls;
 mod clause;
 mod condition;
-mod each;
-mod element;
+pub mod each;
+pub mod element;
 mod evaluable;
-mod known;
+pub mod known;
 mod laws;
 mod listing;
-mod meet;
+pub mod meet;
 mod reading;
-mod variables;
+pub mod variables;
 
 pub use calls::{call, value};
 pub use condition::{Met, meet_condition, tested};

@@ -68,7 +68,7 @@ fn met_condition<C: Caller>(
 }
 
 /// The elements that an iteration goes over, where the lists of these variables fit.
-fn table_over<'a>(
+pub fn table_over<'a>(
     alloc: Global,
     how: &Iteration,
     names: &[&Name],

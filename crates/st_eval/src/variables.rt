@@ -46,7 +46,7 @@ fn with_names_but<'a>(
 
 /// The variables of an expression, as they occur from left to right.
 #[cycle(variables)]
-pub(crate) fn variables<'a>(alloc: Global, exp: &'a IlExp) -> Result<Row<&'a Name>, NoMemory>
+pub fn variables<'a>(alloc: Global, exp: &'a IlExp) -> Result<Row<&'a Name>, NoMemory>
     requires { (defs : List SyntaxDef) × IsFormed defs exp.now }
     ensures { IfOk result (λ names. names_now names ≡ vars exp.now) }
 {

@@ -20,4 +20,4 @@ mod proper;
 mod rows;
 mod types;
 
-pub use matching::{all_match, matches};
+pub use matching::{all_match, extensions, matches};

@@ -155,7 +155,7 @@ fn found_among(alloc: Global, sought: &Sought, candidates: &[Env]) -> Result<Row
 
 /// The environments that extend this one by the other variables of the patterns, each with a value
 /// of its type in its dimension, so that the patterns have the values: exactly these, each once.
-fn extensions(
+pub fn extensions(
     alloc: Global,
     types: &TypeTable,
     variables: &[Listed],
