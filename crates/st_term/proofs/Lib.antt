@@ -1,2 +1,8 @@
+mod ForeignFields
+mod TermValues
+mod FormedExps
+mod Outcomes
+mod TermOutcomes
+mod Readings
 pub mod PieceTexts
 pub mod ShownLevels
