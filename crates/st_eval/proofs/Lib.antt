@@ -1,6 +1,6 @@
-mod InByteOrder
-mod Trying
-mod Conditions
+pub mod InByteOrder
+pub mod Trying
+pub mod Conditions
 pub mod Unfolding
 pub mod Unfolded
 pub mod Iterations
@@ -16,14 +16,14 @@ mod NamesKept
 mod Standing
 mod TypedClauses
 mod VariablesOf
-mod Lookups
+pub mod Lookups
 mod FewBound
-mod ElementRows
+pub mod ElementRows
 mod AreMet
-mod SameNames
-mod AllHaveOnly
+pub mod SameNames
+pub mod AllHaveOnly
 mod Counts
-mod HasNumber
+pub mod HasNumber
 pub mod IsGathered
 mod CanBeMet
 mod MetEach

@@ -1,0 +1,8 @@
+use Rattle.st_semantics.specs.Definitions.{syntaxes}
+use Rattle.st_semantics.specs.Calls.{CallAt}
+use Rattle.st_value.specs.inner.Scope.{scope_env}
+use Rattle.st_search.proofs.EachValue.{GiveBehind}
+use Rattle.st_search.proofs.holes.values_of.Given as goal
+
+abbrev pub invariant-loop-exp : goal.invariant-loop-exp
+invariant-loop-exp l = GiveBehind (syntaxes l.search.setting.il.now) (CallAt l.search.setting.il.now l.search.setting.depth) (scope_env l.scope) l.exps l.exp-index l.values

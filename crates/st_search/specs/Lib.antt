@@ -1,0 +1,9 @@
+-- What must be believed of the search, in reading order. What is derivable, what a tree at a depth is
+-- and what a chain is are told by st_semantics.
+
+-- of which languages relations can be searched, and which of their relations
+pub mod Searchable
+-- what a search answers: all that is derivable, or a chain
+pub mod Answers
+-- ---- what only contracts inside the crate and proofs need
+pub mod inner

@@ -1,0 +1,19 @@
+-- What only contracts inside the crate and proofs need.
+pub mod Lists
+pub mod Chains
+pub mod Asking
+pub mod RunBy
+pub mod Sought
+pub mod Steps
+pub mod Walks
+pub mod Trees
+pub mod Rules
+pub mod Search
+pub mod Holes
+pub mod Finding
+pub mod Solutions
+pub mod Contracts
+pub mod Meeting
+pub mod Gathering
+pub mod Running
+pub mod Ordered
