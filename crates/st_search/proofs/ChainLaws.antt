@@ -6,7 +6,7 @@ use Rattle.st_il.specs.declared.definition.RuleDef.{RuleDef}
 use Rattle.st_semantics.specs.Definitions.{rules_of}
 use Rattle.st_semantics.specs.Marks.{full_name}
 use Rattle.st_semantics.specs.Goals.{Goal, IsGoal}
-use Rattle.st_semantics.specs.Chains.{Follows, Linked, last_of, RuleMeets, IsCut, IsChain, DeepAt}
+use Rattle.st_semantics.specs.Chains.{Follows, Linked, last_of, RuleMeets, IsCut, DeepAt}
 use Rattle.st_search.specs.declared.answer.Chain.{Chain}
 use Rattle.st_search.specs.Answers.{told, IsChainOf}
 use Rattle.st_search.specs.inner.Chains.{IsCalm, IsCutBy, IsChainBy, led}

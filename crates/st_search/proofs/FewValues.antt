@@ -1,5 +1,5 @@
 -- An environment of some variables of another one, of those that have values there.
-use Rattle.std.proofs.Common.{◌≡◌, refl, sym, ◌∙◌, ap, ap₂, subst, true, ◌&&◌, List, [], ◌∷◌, ◌++◌, bytes_eq, inl, inr}
+use Rattle.std.proofs.Common.{◌≡◌, refl, sym, ◌∙◌, ap₂, subst, true, ◌&&◌, List, [], ◌∷◌, ◌++◌, bytes_eq, inl, inr}
 use Rattle.st_il.specs.declared.value.Env.{Env}
 use Rattle.st_semantics.specs.Names.{Name, has_name, all_known}
 use Rattle.st_semantics.specs.Environments.{Entry, names_of}

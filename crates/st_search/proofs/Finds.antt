@@ -1,13 +1,12 @@
 -- What is found from one source after another.
-use Rattle.std.proofs.Common.{arith, ◌≡◌, refl, sym, ◌∙◌, ap, subst, ℕ, suc, ◌≤◌, List, [], ◌∷◌, ◌++◌, length, map, ◌⊎◌, inl, inr}
+use Rattle.std.proofs.Common.{arith, ℕ, ◌≤◌, List, [], ◌∷◌, ◌++◌, ◌⊎◌, inl, inr}
 use Rattle.std.specs.List.{AllByRecursion}
 use Rattle.st_il.specs.declared.definition.Il.{Il}
-use Rattle.st_semantics.specs.Goals.{Goal, IsGoal}
-use Rattle.st_semantics.specs.Chains.{Linked}
+use Rattle.st_semantics.specs.Goals.{Goal}
 use Rattle.st_search.specs.declared.stop.Stop.{Stop}
 use Rattle.st_search.specs.declared.stop.Stop.TheVariants as stop
 use Rattle.st_search.specs.inner.Lists.{Exists}
-use Rattle.st_search.specs.inner.Chains.{IsCalm, IsChainBy}
+use Rattle.st_search.specs.inner.Chains.{IsCalm}
 use Rattle.st_search.specs.inner.Sought.{Sought, Finds, sought_from, Stops, StopsIf}
 
 -- ---- one of some elements

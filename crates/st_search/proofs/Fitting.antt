@@ -1,5 +1,5 @@
 -- Values that fit at holes, one after another.
-use Rattle.std.proofs.Common.{arith, ◌≡◌, refl, sym, ◌∙◌, ap, subst, ℕ, zero, suc, ◌+◌, ◌<◌, ◌≤◌, List, [], ◌∷◌, ◌++◌, length, take, get_or}
+use Rattle.std.proofs.Common.{arith, ◌≡◌, refl, sym, ap, subst, ℕ, zero, suc, ◌+◌, ◌<◌, ◌≤◌, List, [], ◌∷◌, ◌++◌, length, take, get_or}
 use Rattle.st_il.specs.declared.value.Value.{Value}
 use Rattle.st_search.specs.declared.holes.Hole.{Hole}
 use Rattle.st_search.specs.declared.holes.Hole.TheVariants as hole

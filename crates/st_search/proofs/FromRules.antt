@@ -1,13 +1,12 @@
 -- What the rules of a relation derive at a goal, one rule after another.
 use Rattle.std.proofs.Common.{arith, ◌≡◌, refl, sym, ◌∙◌, ap, subst, ℕ, zero, suc, ◌+◌, ◌<◌, ◌≤◌, List, [], ◌∷◌, ◌++◌, length, take, get_or, Some, slice_get, inl, inr}
-use Rattle.std.specs.List.{AllByRecursion}
 use Rattle.st_il.specs.declared.definition.Il.{Il}
 use Rattle.st_il.specs.declared.definition.RuleDef.{RuleDef}
 use Rattle.st_il.specs.declared.value.Value.{Value}
 use Rattle.st_semantics.specs.Definitions.{rules_of}
 use Rattle.st_semantics.specs.Derivation.{Derivable}
 use Rattle.st_semantics.specs.Goals.{Goal}
-use Rattle.st_semantics.specs.Chains.{Follows, RuleMeets}
+use Rattle.st_semantics.specs.Chains.{Follows}
 use Rattle.st_search.specs.declared.answer.Output.{Output}
 use Rattle.st_search.specs.Answers.{IsOutput}
 use Rattle.st_search.specs.inner.Lists.{Exists}

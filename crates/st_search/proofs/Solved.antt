@@ -1,12 +1,9 @@
 -- Goals that are solved: by what all rules of a relation find, or by a chain.
-use Rattle.std.proofs.Common.{arith, ◌≡◌, refl, sym, ◌∙◌, ap, subst, ℕ, zero, suc, ◌+◌, ◌<◌, ◌≤◌, List, [], ◌∷◌, length, Option, None, Result, Ok, Err, ◌⊎◌, inl, inr, All}
+use Rattle.std.proofs.Common.{arith, ◌≡◌, refl, sym, subst, ℕ, suc, ◌+◌, ◌<◌, List, [], ◌∷◌, None, Ok, Err, ◌⊎◌, inl, inr, All}
 use Rattle.std.specs.List.{AllByRecursion}
 use Rattle.std.proofs.lemmas.List.Elements.{All-cons, All-nil}
 use Rattle.st_il.specs.declared.definition.Il.{Il}
-use Rattle.st_il.specs.declared.value.Value.{Value}
-use Rattle.st_semantics.specs.Derivation.{Derivable}
 use Rattle.st_semantics.specs.Goals.{Goal, IsGoal}
-use Rattle.st_semantics.specs.Chains.{DeepAt}
 use Rattle.st_search.specs.declared.answer.Chain.{Chain}
 use Rattle.st_search.specs.declared.answer.Output.{Output}
 use Rattle.st_search.specs.declared.answer.Outputs.{Outputs}
@@ -16,11 +13,11 @@ use Rattle.st_search.specs.declared.found.Found.{Found}
 use Rattle.st_search.specs.Answers.{told, AreSorted, AreOutputs, IsOutput, IsAnswer}
 use Rattle.st_search.specs.inner.Chains.{IsCalm, IsChainBy, EndsBehind, fault_before}
 use Rattle.st_search.specs.inner.Rules.{CanBeSearched, goal_seeks}
-use Rattle.st_search.specs.inner.Search.{Solves, IsSolved, Solvings, AnswersGoals}
+use Rattle.st_search.specs.inner.Search.{IsSolved, Solvings}
 use Rattle.st_search.specs.inner.Contracts.{IsShort}
 use Rattle.st_search.specs.inner.Sought.{Finds}
 use Rattle.st_search.proofs.ChainLaws.{IsCalm-next, calm_shallow, chain_is}
-use Rattle.st_search.proofs.AddedFinds.{each_holds, has_values}
+use Rattle.st_search.proofs.AddedFinds.{has_values}
 
 -- the greater of two lengths is short where both are
 pub short_greater : (il : Il) (n : ℕ) (A : Solvings) (a b c : ℕ) → (c ≡ a) ⊎ (c ≡ b) → IsShort il n A a → IsShort il n A b → IsShort il n A c

@@ -1,15 +1,14 @@
 -- The environment of a tree: that of the end of a run, in byte order.
-use Rattle.std.proofs.Common.{arith, ◌≡◌, refl, sym, ◌∙◌, ap, subst, ℕ, Bool, true, false, List, [], ◌∷◌, ◌++◌, append-nil, length, ◌<◌, Option, Some, None}
+use Rattle.std.proofs.Common.{arith, ◌≡◌, refl, sym, ◌∙◌, ap, subst, Bool, true, false, List, [], ◌∷◌, ◌++◌, append-nil, length, ◌<◌, Some, None}
 use Rattle.std.specs.Prelude.{Contains}
 use Rattle.std.proofs.lemmas.List.Elements.{Contains-push}
 use Rattle.st_il.specs.declared.definition.SyntaxDef.{SyntaxDef}
 use Rattle.st_il.specs.declared.value.Env.{Env}
-use Rattle.st_il.specs.declared.value.Value.{Value}
 use Rattle.st_semantics.specs.Names.{Name, has_name}
-use Rattle.st_semantics.specs.Environments.{IsOrdered, Entry, names_of, value_in}
+use Rattle.st_semantics.specs.Environments.{IsOrdered, names_of, value_in}
 use Rattle.st_match.specs.inner.Found.{IsExtension, AreExtensions}
 use Rattle.st_match.proofs.Assembled.{value_nowhere}
-use Rattle.st_eval.proofs.InByteOrder.{in_byte_order, is_in_order, in_order_value, in_order_names, name_has_value}
+use Rattle.st_eval.proofs.InByteOrder.{in_byte_order, is_in_order, in_order_value, name_has_value}
 
 truth : (b : Bool) → (b ≡ true → ⊥) → b ≡ false
 truth true h = absurd (h refl)

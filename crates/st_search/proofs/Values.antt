@@ -1,16 +1,14 @@
 -- What has a value at a depth, and what has one at some depth.
-use Rattle.std.proofs.Common.{arith, ◌≡◌, refl, sym, ◌∙◌, ap, subst, ℕ, ◌≤◌, ◌+◌, List, [], ◌∷◌, length}
+use Rattle.std.proofs.Common.{arith, ◌≡◌, ℕ, ◌+◌, List}
 use Rattle.st_il.specs.declared.definition.Il.{Il}
 use Rattle.st_il.specs.declared.expression.IlExp.{IlExp}
 use Rattle.st_il.specs.declared.value.Env.{Env}
 use Rattle.st_il.specs.declared.value.Value.{Value}
 use Rattle.st_semantics.specs.declared.outcome.Outcome.{Outcome}
 use Rattle.st_semantics.specs.declared.outcome.Outcome.TheVariants.{Val, NoValue, Deep}
-use Rattle.st_semantics.specs.declared.outcome.Outcomes.{Outcomes}
-use Rattle.st_semantics.specs.declared.outcome.Outcomes.TheVariants.{Values, Stopped}
 use Rattle.st_semantics.specs.Definitions.{syntaxes}
-use Rattle.st_semantics.specs.Evaluation.{Task, Gives, GivesAll}
-use Rattle.st_semantics.specs.Holding.{Meaning, HaveValues}
+use Rattle.st_semantics.specs.Evaluation.{Task}
+use Rattle.st_semantics.specs.Holding.{HaveValues}
 use Rattle.st_semantics.specs.Calls.{CallAt, ValueAt, has_value, has_value_at}
 use Rattle.st_semantics.specs.Laws.{IsStable, CallsAreSingle}
 use Rattle.st_semantics.proofs.Agree.{Local, Gives-agree}

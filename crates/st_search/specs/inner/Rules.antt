@@ -1,9 +1,8 @@
 -- What the run of a rule is to find, and what a search of a relation.
-use Rattle.std.specs.Prelude.{◌≡◌, ◌⊎◌, ℕ, ◌<◌, false, Bool, List, [], ◌∷◌, ◌++◌, All, Option, Some, None, Ok, slice_get, option_and_then}
+use Rattle.std.specs.Prelude.{◌≡◌, ◌⊎◌, ℕ, false, Bool, List, [], ◌∷◌, ◌++◌, All, Option, Some, Ok, slice_get, option_and_then}
 use Rattle.st_il.specs.declared.definition.Il.{Il}
 use Rattle.st_il.specs.declared.definition.RelationDef.{RelationDef}
 use Rattle.st_il.specs.declared.definition.RuleDef.{RuleDef}
-use Rattle.st_il.specs.declared.expression.IlExp.{IlExp}
 use Rattle.st_il.specs.declared.expression.IlPrem.{IlPrem}
 use Rattle.st_il.specs.declared.tree.Child.{Child}
 use Rattle.st_il.specs.declared.value.Env.{Env}

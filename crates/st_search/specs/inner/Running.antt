@@ -1,10 +1,9 @@
 -- What is sought at the parts of a run of a rule.
-use Rattle.std.specs.Prelude.{◌≡◌, ℕ, List, [], ◌∷◌, ◌++◌, map, Option, Some, Ok, slice_get}
+use Rattle.std.specs.Prelude.{◌≡◌, ℕ, List, [], ◌∷◌, ◌++◌, Some, Ok, slice_get}
 use Rattle.std.specs.List.{AllByRecursion}
 use Rattle.st_il.specs.declared.definition.Il.{Il}
 use Rattle.st_il.specs.declared.definition.Listed.{Listed}
 use Rattle.st_il.specs.declared.definition.RuleDef.{RuleDef}
-use Rattle.st_il.specs.declared.expression.IlExp.{IlExp}
 use Rattle.st_il.specs.declared.expression.IlPrem.{IlPrem}
 use Rattle.st_il.specs.declared.value.Env.{Env}
 use Rattle.st_il.specs.declared.value.Value.{Value}
@@ -22,17 +21,14 @@ use Rattle.st_semantics.specs.Derivation.{Root}
 use Rattle.st_semantics.specs.Orders.{outputs_of_rule}
 use Rattle.st_semantics.specs.OrderOf.{order_of}
 use Rattle.st_semantics.specs.Goals.{Goal}
-use Rattle.st_algo.specs.declared.algorithm.AlgoStep.{AlgoStep}
 use Rattle.st_eval.specs.Steps.{HasOnly}
 use Rattle.st_eval.specs.inner.Beside.{beside}
-use Rattle.st_search.specs.Searchable.{CanBeRun}
 use Rattle.st_search.specs.Answers.{IsOutput}
 use Rattle.st_search.specs.declared.answer.Output.{Output}
 use Rattle.st_search.specs.declared.found.Partial.{Partial}
 use Rattle.st_search.specs.declared.found.Solution.{Solution}
 use Rattle.st_search.specs.declared.tree.Place.{Place}
 use Rattle.st_search.specs.inner.Asking.{AsksGoal}
-use Rattle.st_search.specs.inner.RunBy.{IsRunBy}
 use Rattle.st_search.specs.inner.Sought.{Sought}
 use Rattle.st_search.specs.inner.Steps.{at_root, IsSolution, IsSought}
 use Rattle.st_search.specs.inner.Holes.{SomeGives}

@@ -8,7 +8,6 @@ use Rattle.st_semantics.specs.Definitions.{relations}
 use Rattle.st_semantics.specs.Derivation.{Derivable}
 use Rattle.st_semantics.specs.Goals.{Goal, IsGoal}
 use Rattle.st_order.specs.Known.{AreDirections, all_now}
-use Rattle.st_search.specs.declared.answer.Chain.{Chain}
 use Rattle.st_search.specs.declared.answer.Output.{Output}
 use Rattle.st_search.specs.declared.answer.SearchFault.{SearchFault}
 use Rattle.st_search.specs.declared.answer.SearchFault.TheVariants as fault

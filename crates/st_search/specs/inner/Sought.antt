@@ -1,5 +1,5 @@
 -- What is sought, and what it is that it is found.
-use Rattle.std.specs.Prelude.{◌≡◌, ℕ, ◌<◌, List}
+use Rattle.std.specs.Prelude.{ℕ, List}
 use Rattle.std.specs.List.{AllByRecursion}
 use Rattle.st_il.specs.declared.definition.Il.{Il}
 use Rattle.st_semantics.specs.Goals.{Goal, IsGoal}

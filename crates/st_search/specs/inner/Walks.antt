@@ -16,7 +16,6 @@ use Rattle.st_semantics.specs.Holding.{HoldAll, AreElements, each_instance}
 use Rattle.st_semantics.specs.Depth.{Meets, AllTypedIn}
 use Rattle.st_semantics.specs.Calls.{has_value, has_value_at}
 use Rattle.st_semantics.specs.Derivation.{Root, Proved, derived, excluded}
-use Rattle.st_semantics.specs.Goals.{Goal}
 use Rattle.st_semantics.specs.Chains.{excluded_at}
 use Rattle.st_algo.specs.declared.algorithm.AlgoStep.{AlgoStep, fold-AlgoStep}
 use Rattle.st_algo.specs.declared.algorithm.AlgoStep.TheOpen.{AlgoStep-F}

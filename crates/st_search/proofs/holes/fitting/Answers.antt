@@ -1,4 +1,4 @@
-use Rattle.std.proofs.Common.{rules, arith, ◌≡◌, ◌<◌, length, List, ◌∷◌, [], ◌++◌, subst, None, Some, MatchOption}
+use Rattle.std.proofs.Common.{arith, ◌≡◌, ◌<◌, length, List, ◌++◌, subst, MatchOption}
 use Rattle.st_il.specs.declared.value.Value.{Value}
 use Rattle.st_search.proofs.Fitting.{FitsAt, fits_step, fits_at, fits_long}
 use Rattle.st_search.proofs.holes.fitting.Goals as goal

@@ -1,4 +1,4 @@
-use Rattle.std.proofs.Common.{rules, ◌≡◌, true, sym, ◌∙◌, subst}
+use Rattle.std.proofs.Common.{rules, ◌≡◌, true, subst}
 use Rattle.st_semantics.specs.Calls.{ValueAt}
 use Rattle.st_value.specs.inner.Scope.{scope_env}
 use Rattle.st_search.specs.inner.Holes.{is_evaluated}

@@ -1,4 +1,4 @@
-use Rattle.std.proofs.Common.{rules, arith}
+use Rattle.std.proofs.Common.{arith}
 use Rattle.st_search.proofs.Patterns.{matched_step, matched_short}
 use Rattle.st_search.proofs.holes.patterns_of.Goals as goal
 

@@ -1,4 +1,4 @@
-use Rattle.std.proofs.Common.{rules, arith}
+use Rattle.std.proofs.Common.{rules}
 use Rattle.st_search.proofs.OrderedLaws.{less_there, equal_there, greater_there, at_last}
 use Rattle.st_search.proofs.ordered.position.Goals as goal
 

@@ -1,6 +1,5 @@
 use Rattle.std.proofs.Common.{take}
 use Rattle.std.specs.Prelude.{All}
-use Rattle.st_il.specs.declared.value.Value.{Value}
 use Rattle.st_search.specs.declared.answer.Output.{Output}
 use Rattle.st_search.proofs.OrderedLaws.{StandsBefore}
 use Rattle.st_search.proofs.ordered.position.Given as goal
