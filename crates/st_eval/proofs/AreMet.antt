@@ -7,9 +7,9 @@ use Rattle.st_il.specs.declared.value.Env.{Env}
 use Rattle.st_semantics.specs.Names.{Name}
 use Rattle.st_semantics.specs.Environments.{Entry}
 use Rattle.st_semantics.specs.Iterations.{Column, heads, bound_to, counted_to, rows}
-use Rattle.st_value.specs.declared.scope.Bound.{Bound}
-use Rattle.st_value.specs.inner.Scope.{scope_env, entries_of, columns_from}
-use Rattle.st_value.proofs.Builds.{row_at, rows_left, rows_left-all}
+use Rattle.st_match.specs.declared.scope.Bound.{Bound}
+use Rattle.st_match.specs.inner.Scope.{scope_env, entries_of, columns_from}
+use Rattle.st_match.proofs.Builds.{row_at, rows_left, rows_left-all}
 use Rattle.st_eval.specs.Steps.{HasOnly, HoldsWith}
 use Rattle.st_eval.specs.CanBeMet.{CanBeMet}
 use Rattle.st_eval.specs.Meeting.{IsMet}

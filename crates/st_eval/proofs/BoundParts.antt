@@ -13,7 +13,7 @@ use Rattle.st_semantics.specs.Formed.{IsFormed, AreFormed}
 use Rattle.st_semantics.specs.Formed as formed
 use Rattle.st_semantics.specs.Variables.{vars, vars_of}
 use Rattle.st_semantics.proofs.Names.{vars-form}
-use Rattle.st_value.proofs.FormLevels.{operands_form, variable_level, call_level, iteration_level}
+use Rattle.st_match.proofs.FormLevels.{operands_form, variable_level, call_level, iteration_level}
 
 module _ (defs : List SyntaxDef) where
   variable_out : (e : IlExp) (x : Name) → HasForm defs e (Variable x) → out-IlExp e ≡ IlExp-F.Var x

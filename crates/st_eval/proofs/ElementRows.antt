@@ -3,8 +3,8 @@ use Rattle.std.proofs.Common.{◌≡◌, ℕ, zero, suc, ◌+◌, ◌-◌, ◌<�
 use Rattle.st_semantics.specs.Names.{Name}
 use Rattle.st_semantics.specs.Environments.{Entry}
 use Rattle.st_semantics.specs.Iterations.{Column, tails, rows}
-use Rattle.st_value.specs.inner.Scope.{columns_from}
-use Rattle.st_value.proofs.Builds.{row_at, rows_left}
+use Rattle.st_match.specs.inner.Scope.{columns_from}
+use Rattle.st_match.proofs.Builds.{row_at, rows_left}
 
 drop-suc : (k : ℕ) (c : Column) → drop 1 (drop k c) ≡ drop (suc k) c
 drop-suc zero c = refl

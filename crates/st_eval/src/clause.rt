@@ -14,10 +14,9 @@ use crate::condition::{Met, one_of};
 use crate::meet::meet;
 use crate::reading::{Setting, value_of};
 use st_il::{ClauseDef, Env, IlDef, Value};
-use st_match::all_match;
+use st_match::{Caller, all_match};
 use st_num::{Name, NoMemory};
 use st_semantics::Outcome;
-use st_value::Caller;
 use std::alloc::Global;
 
 /// What the premises of a clause come to, met one after another as they are written. Bound first are

@@ -19,10 +19,9 @@ ghost use Rattle.st_eval.specs.Meeting.{IsTested, IsMet, IsMatched, IsEquated, I
 use crate::known::{is_bound, names_of};
 use crate::reading::{Setting, value_of};
 use st_il::{Env, IlExp, Listed, Value, copy_env};
-use st_match::matches;
+use st_match::{Caller, matches};
 use st_num::{NoMemory, Row};
 use st_semantics::Outcome;
-use st_value::Caller;
 use std::alloc::Global;
 
 /// What a premise comes to that is met with some variables bound.

@@ -15,7 +15,7 @@ ghost use Rattle.st_semantics.specs.Parts.{option_list};
 ghost use Rattle.st_semantics.specs.Evaluation.{GivesAll, tasks};
 ghost use Rattle.st_semantics.specs.Depth.{bound_count};
 ghost use Rattle.st_semantics.specs.Calls.{CallAt};
-ghost use Rattle.st_value.specs.inner.Scope.{scope_env};
+ghost use Rattle.st_match.specs.inner.Scope.{scope_env};
 ghost use Rattle.st_eval.specs.Setting.{IsSetting, AnswersCalls};
 ghost use Rattle.st_eval.specs.inner.Known.{names_now};
 ghost use Rattle.st_eval.specs.inner.Gathered.{bound_one, alone, met_stopped, IsUnknownCount, values_there, gathered_entry, gathered_entries, HasNumber, IsCounted, met_counted, IsGathered};
@@ -25,10 +25,10 @@ use crate::element::{bound_in, number_value};
 use crate::known::{is_bound, is_known};
 use crate::reading::{Setting, value_of};
 use st_il::{Env, IlExp, Iteration, Listed, Value, copy_value};
+use st_match::{Bound, Caller, gathered};
 use st_num::{Name, NoMemory, Row};
 use st_semantics::{Outcome, Outcomes};
 use st_types::{TypeTable, has_type};
-use st_value::{Bound, Caller, gathered};
 use std::alloc::Global;
 
 /// The count of an iteration, if it has one.

@@ -10,14 +10,14 @@ ghost use Rattle.st_semantics.specs.Formed.{IsFormed};
 ghost use Rattle.st_semantics.specs.Variables.{vars};
 ghost use Rattle.st_semantics.specs.Parts.{option_list};
 ghost use Rattle.st_semantics.specs.Iterations.{index_of, heads, bound_to, counted_to};
-ghost use Rattle.st_value.specs.inner.Scope.{value_held, entries_of, scope_env, column_now, columns_now, columns_from};
+ghost use Rattle.st_match.specs.inner.Scope.{value_held, entries_of, scope_env, column_now, columns_now, columns_from};
 ghost use Rattle.st_eval.specs.inner.Known.{names_now};
 ghost use Rattle.st_eval.specs.inner.Beside.{entry_in, entries_among};
 
 use crate::variables::variables;
 use st_il::{Env, IlExp, Iteration, Value, copy_value};
+use st_match::{Bound, Elements, Held};
 use st_num::{Name, NoMemory, Num, Row};
-use st_value::{Bound, Elements, Held};
 use std::alloc::Global;
 
 /// The names of what is bound.

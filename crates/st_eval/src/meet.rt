@@ -8,7 +8,7 @@ ghost use Rattle.st_il.specs.declared.expression.IlPrem.{IlPrem, out-IlPrem};
 ghost use Rattle.st_il.specs.declared.expression.IlPrem.TheOpen.{IlPrem-F};
 ghost use Rattle.st_semantics.specs.Names.{Name};
 ghost use Rattle.st_semantics.specs.Iterations.{index_of, spread, rows, Misfit, Over};
-ghost use Rattle.st_value.specs.inner.Scope.{scope_env, entries_of, columns_now};
+ghost use Rattle.st_match.specs.inner.Scope.{scope_env, entries_of, columns_now};
 ghost use Rattle.st_eval.specs.Steps.{HasOnly};
 ghost use Rattle.st_eval.specs.Setting.{IsSetting, AnswersCalls};
 ghost use Rattle.st_eval.specs.Meeting.{IsMet, IsCondition};
@@ -23,10 +23,10 @@ use crate::element::{bound_in, bound_inside, bound_names};
 use crate::listing::listed_inside;
 use crate::reading::Setting;
 use st_il::{Env, IlExp, IlPrem, Iteration, Listed, Value, copy_fields};
+use st_match::{Bound, Caller, Elements, Table, scope_of, spread};
 use st_num::{Name, NoMemory, Row};
 use st_semantics::Outcomes;
 use st_types::TypeTable;
-use st_value::{Bound, Caller, Elements, Table, scope_of, spread};
 use std::alloc::Global;
 
 /// What the inner premise comes to at the elements, one after another.

@@ -7,10 +7,10 @@ ghost use Rattle.st_semantics.specs.Calls.{ValueAt};
 ghost use Rattle.st_eval.specs.Setting.{IsSetting, AnswersCalls};
 
 use st_il::{Env, Il, IlExp};
+use st_match::{Caller, value};
 use st_num::NoMemory;
 use st_semantics::Outcome;
 use st_types::TypeTable;
-use st_value::{Caller, value};
 use std::alloc::Global;
 
 /// The language, its types, and how many calls may be open at once.

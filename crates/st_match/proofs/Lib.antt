@@ -14,3 +14,9 @@ pub mod Asked
 pub mod Assembled
 pub mod FoundMatches
 pub mod FitAll
+pub mod PathSteps
+pub mod Splices
+pub mod Joins
+pub mod FormLevels
+pub mod Builds
+pub mod HeadElements

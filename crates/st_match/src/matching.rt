@@ -14,13 +14,13 @@ ghost use Rattle.st_match.specs.inner.Found.{AreExtensions, Suits, IsSought, IsM
 use crate::assembly::assembled;
 use crate::covering::all_candidates;
 use crate::environment::single;
+use crate::evaluation::pattern_value;
 use crate::names::{in_order, vars_of, with_env_names};
 use crate::types::{Asked, asked_of, have_asked};
 use st_il::{Env, IlExp, Listed, Value, copy_env, same_env, same_value};
 use st_num::{Name, NoMemory, Row};
 use st_semantics::Outcome;
 use st_types::TypeTable;
-use st_value::pattern_value;
 use std::alloc::Global;
 use std::slice::from_ref;
 

@@ -9,8 +9,8 @@ use Rattle.st_semantics.specs.declared.outcome.Outcome.TheVariants.{Val}
 use Rattle.st_semantics.specs.declared.outcome.Outcomes.{Outcomes}
 use Rattle.st_semantics.specs.declared.outcome.Outcomes.TheVariants.{Values, Stopped}
 use Rattle.st_semantics.specs.Evaluation.{Answers, tasks, then_all, Stops, Gives, GivesAll, none, stop, next}
-use Rattle.st_value.specs.inner.Prefix.{behind_values}
-use Rattle.st_value.proofs.Builds.{behind_values-then, behind_values-none}
+use Rattle.st_match.specs.inner.Prefix.{behind_values}
+use Rattle.st_match.proofs.Builds.{behind_values-then, behind_values-none}
 use Rattle.st_search.proofs.Sequences.{drop_step, drop_whole}
 
 -- whatever the expressions from a number on come to, all come to that behind these values

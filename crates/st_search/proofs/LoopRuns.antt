@@ -20,9 +20,9 @@ use Rattle.st_semantics.specs.Depth.{bound_count}
 use Rattle.st_semantics.specs.Calls.{CallAt}
 use Rattle.st_semantics.specs.Derivation.{Root}
 use Rattle.st_semantics.specs.Laws.{IsStable, CallsAreSingle}
-use Rattle.st_value.specs.declared.scope.Bound.{Bound}
-use Rattle.st_value.specs.inner.Scope.{scope_env, entries_of, columns_from}
-use Rattle.st_value.proofs.Builds.{row_at, rows_left, rows_left-all}
+use Rattle.st_match.specs.declared.scope.Bound.{Bound}
+use Rattle.st_match.specs.inner.Scope.{scope_env, entries_of, columns_from}
+use Rattle.st_match.proofs.Builds.{row_at, rows_left, rows_left-all}
 use Rattle.st_algo.specs.declared.algorithm.AlgoStep.{AlgoStep}
 use Rattle.st_eval.specs.Steps.{HasOnly}
 use Rattle.st_eval.specs.inner.AtElements.{AllHaveOnly}

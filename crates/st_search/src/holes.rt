@@ -16,7 +16,7 @@ ghost use Rattle.st_semantics.specs.Variables.{vars_of};
 ghost use Rattle.st_semantics.specs.Names.{all_known, flattened};
 ghost use Rattle.st_semantics.specs.Environments.{names_of};
 ghost use Rattle.st_semantics.specs.Calls.{CallAt, ValueAt};
-ghost use Rattle.st_value.specs.inner.Scope.{scope_env};
+ghost use Rattle.st_match.specs.inner.Scope.{scope_env};
 ghost use Rattle.st_match.specs.inner.Found.{AreExtensions};
 ghost use Rattle.st_eval.specs.inner.Beside.{entries_among};
 ghost use Rattle.st_search.specs.declared.holes.Evaluated.{Evaluated};
@@ -31,10 +31,9 @@ use st_eval::element::{bound_in, entries_among};
 use st_eval::known::with_others;
 use st_eval::variables::variables;
 use st_il::{Env, IlExp, Listed, Value, copy_value, same_value};
-use st_match::extensions;
+use st_match::{Bound, extensions};
 use st_num::{NoMemory, Row};
 use st_semantics::{Outcome, Outcomes, is_pattern};
-use st_value::Bound;
 use std::alloc::Global;
 
 /// Which expressions are evaluated.

@@ -9,10 +9,10 @@ ghost use Rattle.st_search.specs.inner.Search.{IsSearch};
 use st_algo::Algos;
 use st_eval::{Setting, call, value};
 use st_il::{Env, IlExp, RelationDef, Value};
+use st_match::Caller;
 use st_num::{Name, NoMemory, Row};
 use st_order::Directions;
 use st_semantics::Outcome;
-use st_value::Caller;
 use std::alloc::Global;
 
 /// The language with its algorithms, how many calls may be open at once, and what is kept of the

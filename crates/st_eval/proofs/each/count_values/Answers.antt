@@ -8,7 +8,7 @@ use Rattle.st_semantics.specs.Evaluation.{GivesAll, tasks}
 use Rattle.st_semantics.specs.Variables.{vars}
 use Rattle.st_semantics.specs.Depth.{bound_count}
 use Rattle.st_semantics.specs.Calls.{CallAt}
-use Rattle.st_value.specs.inner.Scope.{scope_env}
+use Rattle.st_match.specs.inner.Scope.{scope_env}
 use Rattle.st_eval.specs.inner.Known.{names_now}
 use Rattle.st_eval.proofs.Counts.{bound_count-none, one_formed}
 use Rattle.st_eval.proofs.each.count_values.Goals as goal

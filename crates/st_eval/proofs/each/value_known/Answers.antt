@@ -4,7 +4,7 @@ use Rattle.st_semantics.specs.Definitions.{syntaxes}
 use Rattle.st_semantics.specs.Evaluation.{GivesAll, tasks}
 use Rattle.st_semantics.specs.Variables.{vars}
 use Rattle.st_semantics.specs.Calls.{CallAt}
-use Rattle.st_value.specs.inner.Scope.{scope_env}
+use Rattle.st_match.specs.inner.Scope.{scope_env}
 use Rattle.st_eval.specs.inner.Known.{names_now}
 use Rattle.st_eval.specs.inner.Gathered.{bound_one}
 use Rattle.st_eval.proofs.Counts.{bound_one-unknown, bound_one-known}

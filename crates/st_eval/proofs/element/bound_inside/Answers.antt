@@ -1,7 +1,7 @@
 use Rattle.std.proofs.Common.{◌∙◌, ap, map}
 use Rattle.st_semantics.specs.Iterations.{index_of, heads}
-use Rattle.st_value.specs.inner.Scope.{value_held, columns_now, columns_from}
-use Rattle.st_value.proofs.HeadElements.{entries_of-element}
+use Rattle.st_match.specs.inner.Scope.{value_held, columns_now, columns_from}
+use Rattle.st_match.proofs.HeadElements.{entries_of-element}
 use Rattle.st_eval.specs.inner.Known.{names_now}
 use Rattle.st_eval.proofs.element.bound_inside.Goals as goal
 

@@ -1,6 +1,6 @@
 use Rattle.std.proofs.Common.{◌≡◌, ◌++◌, drop}
 use Rattle.st_semantics.specs.Environments.{names_of}
-use Rattle.st_value.specs.inner.Scope.{scope_env}
+use Rattle.st_match.specs.inner.Scope.{scope_env}
 use Rattle.st_eval.specs.inner.Known.{names_now}
 use Rattle.st_eval.proofs.element.bound_names.Given as goal
 

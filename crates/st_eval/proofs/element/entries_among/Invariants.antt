@@ -1,5 +1,5 @@
 use Rattle.std.proofs.Common.{◌≡◌, ◌++◌, drop}
-use Rattle.st_value.specs.inner.Scope.{scope_env}
+use Rattle.st_match.specs.inner.Scope.{scope_env}
 use Rattle.st_eval.specs.inner.Known.{names_now}
 use Rattle.st_eval.specs.inner.Beside.{entries_among}
 use Rattle.st_eval.proofs.element.entries_among.Given as goal

@@ -1,6 +1,6 @@
 use Rattle.std.proofs.Common.{◌≡◌, drop}
 use Rattle.st_semantics.specs.Environments.{lookup}
-use Rattle.st_value.specs.inner.Scope.{entries_of}
+use Rattle.st_match.specs.inner.Scope.{entries_of}
 use Rattle.st_eval.proofs.element.find.Given as goal
 
 abbrev pub invariant-loop-bound : goal.invariant-loop-bound

@@ -1,6 +1,6 @@
 use Rattle.std.proofs.Common.{◌∙◌, map}
-use Rattle.st_value.specs.inner.Scope.{value_held}
-use Rattle.st_value.proofs.HeadElements.{heads-next}
+use Rattle.st_match.specs.inner.Scope.{value_held}
+use Rattle.st_match.proofs.HeadElements.{heads-next}
 use Rattle.st_eval.proofs.element.heads.Goals as goal
 
 pub loop-column-preserved : goal.loop-column-preserved

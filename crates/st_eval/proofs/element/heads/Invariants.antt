@@ -1,6 +1,6 @@
 use Rattle.std.proofs.Common.{◌≡◌, ◌++◌, drop, map}
 use Rattle.st_semantics.specs.Iterations.{heads}
-use Rattle.st_value.specs.inner.Scope.{columns_now, columns_from, value_held}
+use Rattle.st_match.specs.inner.Scope.{columns_now, columns_from, value_held}
 use Rattle.st_eval.proofs.element.heads.Given as goal
 
 abbrev pub invariant-loop-column : goal.invariant-loop-column

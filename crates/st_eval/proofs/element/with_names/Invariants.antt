@@ -1,6 +1,6 @@
 use Rattle.std.proofs.Common.{◌≡◌, ◌++◌, [], drop, map}
 use Rattle.st_semantics.specs.Iterations.{bound_to}
-use Rattle.st_value.specs.inner.Scope.{entries_of, value_held}
+use Rattle.st_match.specs.inner.Scope.{entries_of, value_held}
 use Rattle.st_eval.specs.inner.Known.{names_now}
 use Rattle.st_eval.proofs.element.with_names.Given as goal
 

@@ -10,7 +10,7 @@ use Rattle.st_semantics.specs.Scopes.{listed_inside}
 use Rattle.st_semantics.specs.Evaluation.{GivesAll, tasks}
 use Rattle.st_semantics.specs.Depth.{bound_count}
 use Rattle.st_semantics.specs.Calls.{CallAt}
-use Rattle.st_value.specs.inner.Scope.{scope_env, entries_of, columns_now}
+use Rattle.st_match.specs.inner.Scope.{scope_env, entries_of, columns_now}
 use Rattle.st_eval.specs.Steps.{HasOnly, HoldsWith}
 use Rattle.st_eval.specs.CanBeMet.{CanBeMet}
 use Rattle.st_eval.specs.inner.Known.{names_now}

@@ -1,6 +1,6 @@
 use Rattle.std.proofs.Common.{◌+◌}
 use Rattle.st_semantics.specs.Iterations.{index_of}
-use Rattle.st_value.specs.inner.Scope.{entries_of, columns_now}
+use Rattle.st_match.specs.inner.Scope.{entries_of, columns_now}
 use Rattle.st_eval.specs.inner.Known.{names_now}
 use Rattle.st_eval.specs.inner.AtElements.{prem_height}
 use Rattle.st_eval.proofs.AreMet.{ArePassed}

@@ -1,4 +1,4 @@
-use Rattle.st_value.specs.inner.Scope.{scope_env}
+use Rattle.st_match.specs.inner.Scope.{scope_env}
 use Rattle.st_eval.proofs.FewBound.{few_can, few_met}
 use Rattle.st_eval.proofs.meet.met_condition.Goals as goal
 

@@ -5,7 +5,7 @@ use Rattle.st_semantics.specs.Formed.{AreFormed}
 use Rattle.st_semantics.specs.Variables.{vars_of}
 use Rattle.st_semantics.specs.References.{exps_now}
 use Rattle.st_semantics.specs.inner.Weight.{weight, heaviest}
-use Rattle.st_value.proofs.FormLevels.{formed_element}
+use Rattle.st_match.proofs.FormLevels.{formed_element}
 use Rattle.st_semantics.proofs.Weights.{weight-operands, heaviest-element}
 use Rattle.st_eval.proofs.BoundParts.{operand_parts}
 use Rattle.st_eval.proofs.VariablesOf.{vars_of-next}

@@ -2,7 +2,7 @@ use Rattle.std.proofs.Common.{map}
 use Rattle.st_semantics.specs.Names.{flattened}
 use Rattle.st_semantics.specs.Patterns.{binds}
 use Rattle.st_semantics.specs.Variables.{vars_of}
-use Rattle.st_value.specs.inner.Scope.{scope_env}
+use Rattle.st_match.specs.inner.Scope.{scope_env}
 use Rattle.st_search.proofs.FewValues.{few_bound}
 use Rattle.st_search.proofs.holes.extended.Goals as goal
 

@@ -1,6 +1,6 @@
 use Rattle.std.proofs.Common.{rules, ◌≡◌, true, subst}
 use Rattle.st_semantics.specs.Calls.{ValueAt}
-use Rattle.st_value.specs.inner.Scope.{scope_env}
+use Rattle.st_match.specs.inner.Scope.{scope_env}
 use Rattle.st_search.specs.inner.Holes.{is_evaluated}
 use Rattle.st_search.proofs.holes.hole_of.Goals as goal
 

@@ -3,7 +3,7 @@ use Rattle.st_il.specs.declared.expression.IlExp.{IlExp}
 use Rattle.st_semantics.specs.declared.outcome.Outcome.TheVariants.{Deep}
 use Rattle.st_semantics.specs.Definitions.{syntaxes}
 use Rattle.st_semantics.specs.Calls.{ValueAt}
-use Rattle.st_value.specs.inner.Scope.{scope_env}
+use Rattle.st_match.specs.inner.Scope.{scope_env}
 use Rattle.st_match.proofs.FitAll.{formed_at}
 use Rattle.st_search.specs.inner.Holes.{is_evaluated, IsHole, AreHoles, HasDeepHole}
 use Rattle.st_search.proofs.Sequences.{AllZip-step, StopsIf-at, stops_again}

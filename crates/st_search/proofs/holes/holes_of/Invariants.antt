@@ -1,5 +1,5 @@
 use Rattle.std.proofs.Common.{take}
-use Rattle.st_value.specs.inner.Scope.{scope_env}
+use Rattle.st_match.specs.inner.Scope.{scope_env}
 use Rattle.st_search.specs.inner.Holes.{AreHoles}
 use Rattle.st_search.proofs.holes.holes_of.Given as goal
 

@@ -2,7 +2,7 @@ use Rattle.st_semantics.specs.Definitions.{syntaxes}
 use Rattle.st_semantics.specs.Calls.{CallAt}
 use Rattle.st_semantics.specs.Variables.{vars}
 use Rattle.st_semantics.proofs.Agree.{Gives-agree}
-use Rattle.st_value.specs.inner.Scope.{scope_env}
+use Rattle.st_match.specs.inner.Scope.{scope_env}
 use Rattle.st_eval.proofs.Lookups.{entries_among-agrees}
 use Rattle.st_search.proofs.holes.outcome_in.Goals as goal
 

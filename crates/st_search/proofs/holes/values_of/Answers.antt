@@ -2,7 +2,7 @@ use Rattle.std.proofs.Common.{subst}
 use Rattle.st_semantics.specs.declared.outcome.Outcome.TheVariants.{NoValue, Deep}
 use Rattle.st_semantics.specs.Definitions.{syntaxes}
 use Rattle.st_semantics.specs.Calls.{CallAt, ValueAt}
-use Rattle.st_value.specs.inner.Scope.{scope_env}
+use Rattle.st_match.specs.inner.Scope.{scope_env}
 use Rattle.st_match.proofs.FitAll.{formed_at}
 use Rattle.st_search.proofs.EachValue.{behind_next, behind_stop, behind_end}
 use Rattle.st_search.proofs.holes.values_of.Goals as goal

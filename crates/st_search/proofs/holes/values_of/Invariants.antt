@@ -1,6 +1,6 @@
 use Rattle.st_semantics.specs.Definitions.{syntaxes}
 use Rattle.st_semantics.specs.Calls.{CallAt}
-use Rattle.st_value.specs.inner.Scope.{scope_env}
+use Rattle.st_match.specs.inner.Scope.{scope_env}
 use Rattle.st_search.proofs.EachValue.{GiveBehind}
 use Rattle.st_search.proofs.holes.values_of.Given as goal
 
