@@ -41,3 +41,4 @@ pub mod LoopLaws
 pub mod WalkLaws
 pub mod StepWays
 pub mod LoopRuns
+pub mod NumberedFinds

@@ -1,15 +1,16 @@
 //! Relations that are searched: all their rules are run, and what they derive is put in order.
 
-ghost use Rattle.std.specs.Prelude.{◌≡◌, ◌<◌, ◌^◌, ◌++◌, ◌∷◌, [], false, ℕ, Some, All, slice_get, bytes_eq, IfOk, IfErr, OnOk, MatchOption};
+ghost use Rattle.std.specs.Prelude.{◌≡◌, ◌<◌, ◌^◌, ◌++◌, ◌∷◌, [], false, ℕ, Some, All, slice_get, bytes_eq, IfOk, IfErr, OnOk, MatchOption, find};
 ghost use Rattle.std.specs.Option.{option_copied};
 ghost use Rattle.st_il.specs.declared.definition.RelationDef.{RelationDef};
+ghost use Rattle.st_semantics.specs.Names.{Name};
 ghost use Rattle.st_semantics.specs.Definitions.{IsRelation, rules_of, rules_in, rules_from};
 ghost use Rattle.st_semantics.specs.Goals.{Goal};
 ghost use Rattle.st_order.specs.Known.{all_now};
 ghost use Rattle.st_search.specs.Answers.{goal_of, AreSorted};
 ghost use Rattle.st_search.specs.inner.Chains.{EndsBehind};
 ghost use Rattle.st_search.specs.inner.Contracts.{IsShort};
-ghost use Rattle.st_search.specs.inner.Rules.{CanBeSearched, algorithm_at, numbered_seeks, goal_seeks};
+ghost use Rattle.st_search.specs.inner.Rules.{CanBeSearched, IsFirstRelation, algorithm_at, numbered_seeks, goal_seeks};
 ghost use Rattle.st_search.specs.inner.Search.{IsSearch, AnswersGoals};
 ghost use Rattle.st_search.specs.inner.Sought.{Finds};
 
@@ -29,7 +30,8 @@ fn number_of(relations: &[&RelationDef], name: &Name) -> Option<usize>
     ensures { MatchOption result
         (All (λ (r : RelationDef). bytes_eq name.now r.name ≡ false) (all_now relations.now))
         (λ number. (r : RelationDef) × (slice_get (all_now relations.now) number ≡ Some r)
-        × (r.name ≡ name.now)) }
+        × (find (λ (x : RelationDef). bytes_eq name.now x.name) (all_now relations.now)
+        ≡ Some r)) }
 {
     for i in 0..relations.len() {
         if name.as_slice() == relations[i].name.as_slice() {
@@ -99,8 +101,8 @@ fn run_numbered<F: Finder>(
 ) -> Result<Found<Output>, SearchFault>
     requires search { IsSearch search.now }
     requires callable { F.IsCallable finder.now }
-    requires rule { (r : RelationDef) × IsRelation search.now.setting.il.now relation r.name
-        × (slice_get (rules_of search.now.setting.il.now r.name) number ≡ Some rule.now) }
+    requires rule { (name : Name) × IsFirstRelation search.now.setting.il.now relation name
+        × (slice_get (rules_of search.now.setting.il.now name) number ≡ Some rule.now) }
     ensures short { IfOk result (λ found. IsShort search.now.setting.il.now
         search.now.setting.depth (F.answers finder.now) found.longest) }
     ensures found { IfOk result (λ found. (left : ℕ) (g : Goal)
@@ -140,8 +142,8 @@ fn run_all<F: Finder>(
 ) -> Result<Found<Output>, SearchFault>
     requires search { IsSearch search.now }
     requires callable { F.IsCallable finder.now }
-    requires rules { (r : RelationDef) × IsRelation search.now.setting.il.now relation r.name
-        × (all_now rules.now ≡ rules_of search.now.setting.il.now r.name) }
+    requires rules { (name : Name) × IsFirstRelation search.now.setting.il.now relation name
+        × (all_now rules.now ≡ rules_of search.now.setting.il.now name) }
     ensures short { IfOk result (λ found. IsShort search.now.setting.il.now
         search.now.setting.depth (F.answers finder.now) found.longest) }
     ensures sorted { IfOk result (λ found. AreSorted found.items) }

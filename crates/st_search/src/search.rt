@@ -4,6 +4,8 @@
 //! recurses over goals.
 
 ghost use Rattle.std.specs.Prelude.{◌≡◌, ◌≤◌, ◌∷◌, [], false, None, IfOk};
+ghost use Rattle.st_order.specs.Known.{AreDirections, all_now};
+ghost use Rattle.st_semantics.specs.Definitions.{relations};
 ghost use Rattle.st_semantics.specs.Goals.{AreInputs};
 ghost use Rattle.st_semantics.specs.Marks.{HasMark};
 ghost use Rattle.st_search.specs.Searchable.{IsSearchable, HasNoOtherwise};
@@ -17,9 +19,9 @@ use crate::relation::run_relation;
 use crate::setting::Search;
 use st_algo::Algos;
 use st_eval::Setting;
-use st_il::{Il, Value, copy_values};
+use st_il::{Il, RelationDef, Value, copy_values};
 use st_num::{Name, NoMemory, Row};
-use st_order::{directions_of, relations_of};
+use st_order::{Directions, directions_of, relations_of};
 use st_types::TypeTable;
 use std::alloc::Global;
 
@@ -116,6 +118,35 @@ fn solve(
     }
 }
 
+/// All that a relation derives from these inputs, where as many goals may stand below each other as
+/// calls may be open at once, and this is kept of the language.
+fn solve_with(
+    alloc: Global,
+    setting: Setting<'_>,
+    algos: &Algos,
+    directions: &Directions<'_>,
+    declared: &[&RelationDef],
+    relation: &Name,
+    inputs: &[Value],
+) -> Result<Found<Output>, SearchFault>
+    requires language { IsSearchable setting.il.now setting.types.now algos.now }
+    requires directions { AreDirections directions.now }
+    requires same { directions.now.il.now ≡ setting.il.now }
+    requires declared { all_now declared.now ≡ relations setting.il.now }
+    requires depth { 1 ≤ setting.depth }
+    ensures solved { IsSolved setting.entry.il.now setting.entry.depth setting.entry.depth
+        (goal_of relation.now inputs.now) result }
+    ensures sorted { IfOk result (λ found. AreSorted found.items) }
+{
+    let search = Search {
+        setting,
+        algos,
+        directions,
+        relations: declared,
+    };
+    solve(alloc, &search, relation, inputs, setting.depth)
+}
+
 /// All that a relation derives from these inputs, each once, in the order of the values, with a
 /// derivation; at most so many calls may be open at once, and so many goals stand below each other.
 /// Or a chain of goals that leads to what is Deep.
@@ -138,12 +169,14 @@ pub fn outputs<'a>(
     let directions = directions_of(alloc, il)?;
     let relations = relations_of(alloc, il)?;
     let setting = Setting { il, types, depth };
-    let search = Search {
+    let found = solve_with(
+        alloc,
         setting,
         algos,
-        directions: &directions,
-        relations: relations.as_slice(),
-    };
-    let found = solve(alloc, &search, relation, input, depth)?;
+        &directions,
+        relations.as_slice(),
+        relation,
+        input,
+    )?;
     Ok(Outputs { found: found.items })
 }
