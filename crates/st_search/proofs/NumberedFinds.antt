@@ -1,5 +1,5 @@
 -- What the rule of a number finds: in its order, or nothing where it has none; and relations and rules by their numbers.
-use Rattle.std.proofs.Common.{arith, ◌≡◌, refl, sym, ◌∙◌, ap, subst, ℕ, zero, suc, ◌<◌, ◌≤◌, ◌^◌, Bool, true, false, if◌then◌else◌, List, [], ◌∷◌, length, take, get_or, Option, Some, None, Ok, slice_get, bytes_eq, All, inl}
+use Rattle.std.proofs.Common.{arith, ◌≡◌, refl, sym, ◌∙◌, ap, subst, ℕ, zero, suc, ◌<◌, ◌≤◌, ◌^◌, Bool, true, false, if◌then◌else◌, List, [], ◌∷◌, length, take, get_or, Some, None, Ok, slice_get, bytes_eq, All, inl}
 use Rattle.std.specs.Borrow.{Bor}
 use Rattle.std.specs.Prelude.{find}
 use Rattle.std.proofs.lemmas.List.Elements.{All-head, All-tail}
@@ -91,11 +91,11 @@ first_found name (y ∷ ys) (suc i) x h is none same =
 
 found_name : (name : Name) (rs : List RelationDef) (d : RelationDef) → find (λ (r : RelationDef). bytes_eq name r.name) rs ≡ Some d → d.name ≡ name
 found_name name [] d e = cc
-found_name name (r ∷ rs) d e = at (bytes_eq name r.name) refl e
+found_name name (r ∷ rs) d e = at (bytes_eq name r.name) refl e (found_name name rs d)
   where
-    at : (b : Bool) → bytes_eq name r.name ≡ b → (if b then Some r else find (λ (r : RelationDef). bytes_eq name r.name) rs) ≡ Some d → d.name ≡ name
-    at true k e = let same : r ≡ d = cc in ap (λ (z : RelationDef). z.name) (sym same) ∙ sym (bytes-path name r.name k)
-    at false k e = found_name name rs d e
+    at : (b : Bool) → bytes_eq name r.name ≡ b → (if b then Some r else find (λ (r : RelationDef). bytes_eq name r.name) rs) ≡ Some d → (find (λ (r : RelationDef). bytes_eq name r.name) rs ≡ Some d → d.name ≡ name) → d.name ≡ name
+    at true k e later = let same : r ≡ d = cc in ap (λ (z : RelationDef). z.name) (sym same) ∙ sym (bytes-path name r.name k)
+    at false k e later = later e
 
 -- the number that is found among all relations
 pub first_relation : (il : Il) (rs : List RelationDef) (k : ℕ) (name : Name) → rs ≡ relations il → ((r : RelationDef) × (slice_get rs k ≡ Some r) × (find (λ (r : RelationDef). bytes_eq name r.name) rs ≡ Some r)) → IsFirstRelation il k name

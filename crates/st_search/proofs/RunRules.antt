@@ -15,7 +15,9 @@ use Rattle.st_semantics.specs.Goals.{Goal}
 use Rattle.st_semantics.specs.Chains.{Follows}
 use Rattle.st_order.specs.Known.{all_now}
 use Rattle.st_search.specs.declared.answer.Output.{Output}
+use Rattle.st_search.specs.declared.answer.SearchFault.{SearchFault}
 use Rattle.st_search.specs.Answers.{AreSorted}
+use Rattle.st_search.specs.inner.Chains.{EndsBehind}
 use Rattle.st_search.specs.inner.Contracts.{IsShort}
 use Rattle.st_search.specs.inner.Ordered.{AreAdded}
 use Rattle.st_search.specs.inner.Rules.{CanBeSearched, IsFirstRelation, numbered_seeks, goal_seeks}
@@ -68,6 +70,10 @@ module _ (il : Il) (n : ℕ) (A : Solvings) (relation : ℕ) (inputs : List Valu
   abbrev pub FromRule : ℕ → RuleDef → ℕ → List Output → Type 0
   FromRule number rule longest found =
       (left : ℕ) (g : Goal) → AnswersGoals il n left A → CanBeSearched il g.relation → g.inputs ≡ inputs → IsRelation il relation g.relation → Finds il n longest (numbered_seeks il n g number rule) found
+
+  -- by what a rule ends, whatever goal is meant
+  abbrev pub Ended : SearchFault → Type 0
+  Ended fault = (left : ℕ) (g : Goal) → AnswersGoals il n left A → CanBeSearched il g.relation → g.inputs ≡ inputs → IsRelation il relation g.relation → EndsBehind il n left g fault
 
   -- what the first rules derive
   pub record AreRun (rules : List (Bor RuleDef)) (i longest : ℕ) (found : List Output) : Type 0 where
