@@ -41,3 +41,7 @@ pub mod LoopLaws
 pub mod WalkLaws
 pub mod StepWays
 pub mod LoopRuns
+pub mod ListedParts
+pub mod TypedExps
+pub mod DeclaredRelations
+pub mod TypedRules
