@@ -45,3 +45,4 @@ pub mod ListedParts
 pub mod TypedExps
 pub mod DeclaredRelations
 pub mod TypedRules
+pub mod ProperLists
