@@ -68,11 +68,11 @@ told_long r typed (word ∷ words) e = by typed.mode
 
 found_holds : (P : RelationDef → Type 0) (name : Name) (rs : List RelationDef) → AllByRecursion P rs → (r : RelationDef) → find (λ (r : RelationDef). bytes_eq name r.name) rs ≡ Some r → P r
 found_holds P name [] h r e = absurd (cc)
-found_holds P name (x ∷ xs) h r e = by (bytes_eq name x.name) e
+found_holds P name (x ∷ xs) h r e = by (bytes_eq name x.name) e (found_holds P name xs h.1 r)
   where
-    by : (b : Bool) → (if b then Some x else find (λ (r : RelationDef). bytes_eq name r.name) xs) ≡ Some r → P r
-    by true k = let same : x ≡ r = cc in subst P same h.0
-    by false k = found_holds P name xs h.1 r k
+    by : (b : Bool) → (if b then Some x else find (λ (r : RelationDef). bytes_eq name r.name) xs) ≡ Some r → (find (λ (r : RelationDef). bytes_eq name r.name) xs ≡ Some r → P r) → P r
+    by true k later = let same : x ≡ r = cc in subst P same h.0
+    by false k later = later k
 
 relation_typed : (il : Il) (before : List IlDef) (r : RelationDef) → Breaks il before (Relation r) [] → RelationTyped r
 relation_typed il before r h =
@@ -114,11 +114,11 @@ proper_parts (Clause c ∷ ds) h = let p = proper_parts ds h.1 in record { synta
 
 body_proper : (ds : List SyntaxDef) → AllByRecursion (λ (s : SyntaxDef). IsProperBody s.body) ds → (name : Name) (b : SyntaxBody) → body_of ds name ≡ Some b → IsProperBody b
 body_proper [] h name b e = absurd (cc)
-body_proper (d ∷ ds) h name b e = by (pointwise nat_eq name d.name) e
+body_proper (d ∷ ds) h name b e = by (pointwise nat_eq name d.name) e (body_proper ds h.1 name b)
   where
-    by : (test : Bool) → (if test then Some d.body else body_of ds name) ≡ Some b → IsProperBody b
-    by true k = let same : d.body ≡ b = cc in subst IsProperBody same h.0
-    by false k = body_proper ds h.1 name b k
+    by : (test : Bool) → (if test then Some d.body else body_of ds name) ≡ Some b → (body_of ds name ≡ Some b → IsProperBody b) → IsProperBody b
+    by true k later = let same : d.body ≡ b = cc in subst IsProperBody same h.0
+    by false k later = later k
 
 recorded_proper : (ds : List SyntaxDef) → AllByRecursion (λ (s : SyntaxDef). IsProperBody s.body) ds → (name : Name) (o : Option SyntaxBody) → body_of ds name ≡ o → (fields : List (Name × Ty)) → recorded o ≡ Some fields → AreProperFields fields
 recorded_proper ds h name None e fields k = absurd (cc)

@@ -256,7 +256,7 @@ rules_typed il before (Clause c ∷ ds) h = let rest = rules_typed il (before ++
 
 -- what follows of each member from two facts
 of_both : {X : Type 0} (P Q R : X → Type 0) (xs : List X) → ((x : X) → P x → Q x → R x) → AllByRecursion P xs → AllByRecursion Q xs → All R xs
-of_both P Q R xs h p q = All-from_recursion R xs (by xs p q)
+of_both {X} P Q R xs h p q = All-from_recursion R xs (by xs p q)
   where
     by : (ys : List X) → AllByRecursion P ys → AllByRecursion Q ys → AllByRecursion R ys
     by [] p q = tt
