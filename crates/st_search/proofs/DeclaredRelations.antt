@@ -1,5 +1,5 @@
 -- What typing says of declared relations, and what a proper language has of its records: a hole for each place of a mask, and names of fields that are texts.
-use Rattle.std.proofs.Common.{◌≡◌, refl, sym, ap, ap₂, ◌∙◌, subst, ℕ, ◌+◌, List, [], ◌∷◌, ◌++◌, length, replicate, Bool, true, false, ◌⊎◌, inl, inr, Option, Some, None, option_and_then, unwrap_or, bytes_eq, nat_eq, All}
+use Rattle.std.proofs.Common.{◌≡◌, refl, sym, ap, ap₂, ◌∙◌, subst, ℕ, ◌+◌, List, [], ◌∷◌, ◌++◌, length, replicate, Bool, true, false, inl, inr, Option, Some, None, option_and_then, unwrap_or, bytes_eq, nat_eq, All}
 use Rattle.std.specs.Prelude.{find, if◌then◌else◌}
 use Rattle.std.specs.Cmp.Lexicographic.{pointwise}
 use Rattle.std.specs.List.{AllByRecursion}
@@ -18,7 +18,7 @@ use Rattle.st_il.specs.declared.template.Template.TheOpen.{Template-F}
 use Rattle.st_il.specs.declared.ty.Ty.{Ty, out-Ty}
 use Rattle.st_il.specs.declared.ty.Ty.TheOpen.{Ty-F}
 use Rattle.st_il.specs.Tags.{template_of, IsTemplateOf}
-use Rattle.st_il.specs.Template.{holes, holes_at, HasTag}
+use Rattle.st_il.specs.Template.{holes, holes_at}
 use Rattle.st_il.proofs.TagTemplates.{is_template}
 use Rattle.st_il.proofs.Tags.{one_template}
 use Rattle.st_type_table.specs.Cases.{HasFields}
@@ -26,8 +26,7 @@ use Rattle.st_type_table.specs.Meaning.{body_of, recorded, named_at}
 use Rattle.st_semantics.specs.Names.{Name}
 use Rattle.st_semantics.specs.Definitions.{syntaxes, syntaxes_in, relations_in, relation_named, rules_in, clauses_in}
 use Rattle.st_semantics.specs.Directions.{is_arrow, direction_at, direction_by, inputs_or_all, mask}
-use Rattle.st_ilcheck.specs.Declarations.{IsTag, IsMode, AreNamed}
-use Rattle.st_ilcheck.specs.Rules.{Told}
+use Rattle.st_ilcheck.specs.Declarations.{IsTag, IsMode}
 use Rattle.st_ilcheck.specs.Typed.{Typed, AllKeep, Breaks}
 use Rattle.st_eval.proofs.IsFormedLemmas.{Told-holds, none-left}
 use Rattle.st_search.specs.Proper.{IsProperBody, IsProperRule, IsProperClause, IsProperDef, IsProper, AreProperFields}

@@ -1,5 +1,5 @@
 -- The parts of an expression whose occurrences are of listed variables: so are theirs, and an iteration goes over variables of its kind.
-use Rattle.std.proofs.Common.{◌≡◌, refl, sym, ap, ◌∙◌, subst, List, [], ◌∷◌, ◌++◌, map, true, Option, Some}
+use Rattle.std.proofs.Common.{◌≡◌, sym, ap, ◌∙◌, subst, List, [], ◌∷◌, ◌++◌, map, true, Option, Some}
 use Rattle.std.specs.Prelude.{IsTrue}
 use Rattle.std.specs.List.{AllByRecursion}
 use Rattle.st_il.specs.Occurrences.{occurs}
@@ -11,7 +11,6 @@ use Rattle.st_il.specs.declared.expression.Iteration.{Iteration}
 use Rattle.st_il.specs.declared.ty.Ty.{Ty}
 use Rattle.st_il.specs.declared.type_rule.TypeRule.{TypeRule}
 use Rattle.st_semantics.specs.Names.{Name, has_name, flattened}
-use Rattle.st_semantics.specs.Environments.{listed_as}
 use Rattle.st_semantics.specs.Iterations.{count_of, index_of, kind_of}
 use Rattle.st_semantics.specs.Kinds.{AreOfItsKind}
 use Rattle.st_semantics.specs.Operands.{operands_at, item_exp, segment_exps}

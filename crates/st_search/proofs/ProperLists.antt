@@ -1,5 +1,5 @@
 -- Expressions, premises and definitions that are proper, by their levels and one after another.
-use Rattle.std.proofs.Common.{◌≡◌, ℕ, suc, ◌+◌, ◌<◌, ◌≤◌, refl, sym, ◌∙◌, ap, subst, List, [], ◌∷◌, ◌++◌, drop, drop-cons, add-one, length, get_or}
+use Rattle.std.proofs.Common.{◌≡◌, ℕ, suc, ◌+◌, ◌<◌, ◌≤◌, refl, sym, ◌∙◌, ap, subst, List, [], ◌∷◌, ◌++◌, drop, drop-cons, add-one, length, get_or, Result, Ok, Err, OnOk}
 use Rattle.std.specs.List.{AllByRecursion}
 use Rattle.std.proofs.lemmas.List.{drop_all}
 use Rattle.std.specs.Borrow.{Bor}
@@ -7,7 +7,6 @@ use Rattle.st_il.specs.declared.expression.IlExp.{IlExp, out-IlExp, roll-IlExp, 
 use Rattle.st_il.specs.declared.expression.IlExp.TheOpen.{IlExp-F}
 use Rattle.st_il.specs.declared.expression.IlExp.TheVariants as exp
 use Rattle.st_il.specs.declared.expression.IlPrem.{IlPrem, out-IlPrem}
-use Rattle.st_il.specs.declared.expression.IlPrem.TheOpen.{IlPrem-F}
 use Rattle.st_il.specs.declared.expression.IlPrem.TheVariants as prem
 use Rattle.st_il.specs.declared.expression.Iteration.{Iteration}
 use Rattle.st_semantics.specs.Iterations.{count_of}
@@ -90,3 +89,9 @@ module _ {X : Type 0} (P : X → Type 0) where
 
   pub each_end : (xs : List X) (i : ℕ) → length xs ≤ i → EachFrom xs i → AllByRecursion P xs
   each_end xs i h k = k (subst (AllByRecursion P) (sym (drop_all i xs h)) tt)
+
+-- ---- answers
+
+pub then_ok : {A E P Q : Type 0} (r : Result A E) → (P → Q) → OnOk r P → OnOk r Q
+then_ok (Ok x) f h = f h
+then_ok (Err e) f h = tt

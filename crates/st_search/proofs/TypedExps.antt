@@ -1,5 +1,5 @@
 -- An expression in which no rule on types is broken has the type that is found for it, where its numbers, texts and tags are proper.
-use Rattle.std.proofs.Common.{◌≡◌, refl, sym, ap, ◌∙◌, subst, List, [], ◌∷◌, ◌++◌, map, length, suc, pos, All, Option, Some, None, option_map, inl, inr}
+use Rattle.std.proofs.Common.{◌≡◌, refl, sym, ap, ◌∙◌, subst, List, [], ◌∷◌, ◌++◌, map, length, suc, All, Option, Some, None, option_map, inl, inr}
 use Rattle.std.specs.List.{AllByRecursion}
 use Rattle.st_il.specs.declared.definition.FunDef.{FunDef}
 use Rattle.st_il.specs.declared.definition.Il.{Il}
@@ -33,15 +33,14 @@ use Rattle.st_semantics.specs.Scopes.{listed_inside}
 use Rattle.st_semantics.specs.Typing as has
 use Rattle.st_semantics.specs.Typing.{ExpHasType, ExpsHaveTypes, function_named}
 use Rattle.st_semantics.proofs.Elements.{no_alias_list}
-use Rattle.st_ilcheck.specs.FoundTypes.{first_type, last_type, all_types, before_types, origin, TypeFrom, IsFieldOf, IsElementOf, Chosen, ChosenFrom}
+use Rattle.st_ilcheck.specs.FoundTypes.{first_type, last_type, all_types, before_types, origin, TypeFrom, IsFieldOf, IsElementOf, ChosenFrom}
 use Rattle.st_ilcheck.specs.Parts.{Part, parts_at, standing}
-use Rattle.st_ilcheck.specs.Rules.{behind_first, before_last, AreEach, Is, AllAre, Are, AreEqual, IsList, IsListOf, AllTyped, AreOrdered, IsMember, IsListOrOption, IsBelow, HasField, IsSet, IsExtended, AreJoined, IsItem, AreItems, Asks, AsksOfPath, Told}
+use Rattle.st_ilcheck.specs.Rules.{behind_first, before_last, AreEach, Is, AllAre, Are, AreEqual, IsList, AllTyped, AreOrdered, IsMember, IsListOrOption, IsBelow, IsSet, IsExtended, AreJoined, IsItem, AreItems, Asks, AsksOfPath}
 use Rattle.st_ilcheck.specs.Typings as typings
 use Rattle.st_ilcheck.specs.Typings.{HasTyping, HaveTypings}
 use Rattle.st_ilcheck.specs.Variables.{occurrences, IsListed}
 use Rattle.st_ilcheck.proofs.Each.{AreEach-length}
 use Rattle.st_eval.proofs.IsFormedLemmas.{Told-holds, none-left, none-right}
-use Rattle.st_eval.proofs.NamesKept.{Each-split}
 use Rattle.st_search.specs.Proper as properly
 use Rattle.st_search.specs.Proper.{IsProperAt, IsProperExp, AreProperExps}
 use Rattle.st_search.proofs.ListedParts.{PartListed, parts_keep, parts_listed, IsKindedAt, kinded_at, standing_listed}
