@@ -42,3 +42,8 @@ pub mod WalkLaws
 pub mod StepWays
 pub mod LoopRuns
 pub mod NumberedFinds
+pub mod ListedParts
+pub mod TypedExps
+pub mod DeclaredRelations
+pub mod TypedRules
+pub mod ProperLists

@@ -21,6 +21,7 @@ mod found;
 mod gather;
 mod goal;
 mod holes;
+mod literals;
 mod ordered;
 mod relation;
 mod rule;
@@ -32,4 +33,6 @@ mod stop;
 mod tree;
 
 pub use answer::{Chain, Output, Outputs, SearchFault};
+pub use literals::proper;
 pub use search::outputs;
+pub use searchable::typed_languages_are_searchable;
