@@ -9,6 +9,7 @@ pub mod FewValues
 pub mod Fitting
 pub mod Patterns
 pub mod NextEnds
+pub mod EndRuns
 pub mod AddedFinds
 pub mod FromRules
 pub mod Solved
@@ -30,9 +31,16 @@ pub mod Wanted
 pub mod TreeOf
 pub mod Derived
 pub mod Starts
+pub mod AreFormed
+pub mod PatternBinds
+pub mod MatchedInputs
+pub mod StartRuns
 pub mod LoopParts
 pub mod ConditionFinds
+pub mod ConditionRuns
 pub mod GoalFinds
+pub mod GoalsOf
+pub mod GoalRuns
 pub mod RuleFinds
 pub mod RunBy
 pub mod Ruled

@@ -60,6 +60,15 @@ module _ (il : Il) (n : ℕ) (A : Solvings) (ls : List Listed) (step : AlgoStep)
   FromEnd end longest found =
       (left : ℕ) (root : Root) (bound : List Name) (p : IlPrem) → AnswersGoals il n left A → HasOnly il ls bound end.env → IsRunBy il bound ls p step → IsSearchedIn il p → Finds il n longest (next_seeks il n root bound ls p end) found
 
+  -- why it stops at one end, and at some ends
+  abbrev pub StopsFrom : Partial → Stop → Type 0
+  StopsFrom end s =
+      (left : ℕ) (root : Root) (bound : List Name) (p : IlPrem) → AnswersGoals il n left A → HasOnly il ls bound end.env → IsRunBy il bound ls p step → IsSearchedIn il p → Stops il n left (next_seeks il n root bound ls p end) s
+
+  abbrev pub StopsFromAll : List Partial → Stop → Type 0
+  StopsFromAll ends s =
+      (left : ℕ) (root : Root) (bound : List Name) (p : IlPrem) → AnswersGoals il n left A → AllEndWith il ls bound ends → IsRunBy il bound ls p step → IsSearchedIn il p → Stops il n left (sought_from (next_seeks il n root bound ls p) ends) s
+
   -- what it finds from the first ends
   pub record AreFrom (ends : List Partial) (i longest : ℕ) (found : List Partial) : Type 0 where
     pub short : IsShort il n A longest
@@ -89,8 +98,9 @@ module _ (il : Il) (n : ℕ) (A : Solvings) (ls : List Listed) (step : AlgoStep)
     }
 
     -- what stops at one end stops at all
-    pub from_stops : (left : ℕ) (root : Root) (bound : List Name) (p : IlPrem) (s : Stop) → Stops il n left (next_seeks il n root bound ls p end) s → Stops il n left (sought_from (next_seeks il n root bound ls p) ends) s
-    from_stops left root bound p s stops = Stops-at il n left (next_seeks il n root bound ls p) ends i end h is s stops
+    pub from_stopped : (s : Stop) → StopsFrom end s → StopsFromAll ends s
+    from_stopped s stops left root bound p answers only run searched =
+        Stops-at il n left (next_seeks il n root bound ls p) ends i end h is s (stops left root bound p answers (only_at bound ends i end h is only) run searched)
 
   pub from_all : (ends : List Partial) (i longest : ℕ) (found : List Partial) → length ends ≤ i → AreFrom ends i longest found
       → (left : ℕ) (root : Root) (bound : List Name) (p : IlPrem) → AnswersGoals il n left A → AllEndWith il ls bound ends → IsRunBy il bound ls p step → IsSearchedIn il p

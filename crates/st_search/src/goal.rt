@@ -6,6 +6,7 @@ ghost use Rattle.std.specs.List.{list_all};
 ghost use Rattle.st_il.specs.declared.expression.IlExp.{IlExp};
 ghost use Rattle.st_il.specs.declared.expression.IlPrem.{IlPrem};
 ghost use Rattle.st_il.specs.declared.tree.Child.TheVariants as child;
+ghost use Rattle.st_semantics.specs.declared.outcome.Outcome.TheVariants as variant;
 ghost use Rattle.st_semantics.specs.Names.{Name, all_known, flattened};
 ghost use Rattle.st_semantics.specs.Definitions.{syntaxes};
 ghost use Rattle.st_semantics.specs.Environments.{names_of};
@@ -14,6 +15,7 @@ ghost use Rattle.st_semantics.specs.Patterns.{is_pattern, binds};
 ghost use Rattle.st_semantics.specs.Variables.{vars_of};
 ghost use Rattle.st_match.specs.inner.Scope.{scope_env};
 ghost use Rattle.st_eval.specs.Steps.{HasOnly};
+ghost use Rattle.st_search.specs.declared.stop.Stop.TheVariants as end;
 ghost use Rattle.st_search.specs.inner.Contracts.{IsShort, FindsWhere, StopsWhere, IsGoalOf};
 ghost use Rattle.st_search.specs.inner.Meeting.{AreMeetings, AllMeetings, IsAskedWith};
 ghost use Rattle.st_search.specs.inner.Search.{IsSearch};
@@ -143,6 +145,18 @@ fn answered<F: Finder>(
     Ok(Found { items, longest })
 }
 
+/// What a goal leads to one of whose inputs has no value, but comes to this.
+fn stopped(alloc: Global, outcome: &Outcome) -> Result<Found<Solution>, Stop>
+    ensures found { IfOk result (λ found.
+        (outcome.now ≡ variant.Deep → ⊥) × (found.items ≡ []) × (found.longest ≡ 0)) }
+    ensures stops { IfErr result (λ stop. (outcome.now ≡ variant.Deep) × (stop ≡ end.Meets)) }
+{
+    match outcome {
+        Outcome::Deep => Err(Stop::Meets),
+        Outcome::NoValue | Outcome::Val(_) => Ok(nothing(alloc)),
+    }
+}
+
 /// What a goal leads to.
 pub(crate) fn ask<F: Finder>(
     alloc: Global,
@@ -178,7 +192,9 @@ pub(crate) fn ask<F: Finder>(
             )?;
             Ok(found)
         }
-        Outcomes::Stopped(Outcome::Deep) => Err(Stop::Meets),
-        Outcomes::Stopped(_) => Ok(nothing(alloc)),
+        Outcomes::Stopped(outcome) => {
+            let found = stopped(alloc, &outcome)?;
+            Ok(found)
+        }
     }
 }

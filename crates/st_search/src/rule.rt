@@ -71,14 +71,17 @@ fn parts_of(algorithm: &Algorithm) -> Option<Parts>
 {
     let (first, rest) = algorithm.steps.as_slice().split_first()?;
     let (last, steps) = rest.split_last()?;
-    match (first, last) {
-        (AlgoStep::Match(inputs), AlgoStep::Give(outputs)) => Some(Parts {
-            inputs: inputs.as_slice(),
-            steps,
-            outputs: outputs.as_slice(),
-        }),
-        _ => None,
-    }
+    let AlgoStep::Match(inputs) = first else {
+        return None;
+    };
+    let AlgoStep::Give(outputs) = last else {
+        return None;
+    };
+    Some(Parts {
+        inputs: inputs.as_slice(),
+        steps,
+        outputs: outputs.as_slice(),
+    })
 }
 
 /// Ends with these environments, before any premise is run.
