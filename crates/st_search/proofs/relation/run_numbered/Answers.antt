@@ -17,10 +17,10 @@ run_rule-requires-clause-ruled g c =
 pub returns-in_err-found-in-Some-clause-ends : goal.returns-in_err-found-in-Some-clause-ends
 returns-in_err-found-in-Some-clause-ends g c =
     let w =
-        numbered_ruled c.args.search.now.setting.il.now c.args.search.now.setting.types.now c.args.search.now.algos.now c.requires.search.searchable c.args.relation c.args.number c.args.rule.now c.requires.rule.0 c.requires.rule.1 c.requires.rule.2 c.in-Some.algorithm.now (sym c.in-Some.ensures) in
+    numbered_ruled c.args.search.now.setting.il.now c.args.search.now.setting.types.now c.args.search.now.algos.now c.requires.search.searchable c.args.relation c.args.number c.args.rule.now c.requires.rule.0 c.requires.rule.1 c.requires.rule.2 c.in-Some.algorithm.now (sym c.in-Some.ensures) in
     told_again (Ended c.args.search.now.setting.il.now c.args.search.now.setting.depth (g.F.Finder.answers c.args.finder.now) c.args.relation c.args.inputs.now) c.from_residual.result c.in_err-found-in-Some.field-0.0 c.from_residual.ensures.1 (λ left goal_is answers can same is.
-        c.in_err-found-in-Some.ensures.ends left goal_is w.1.order answers can same is
-        (numbered_of c.args.search.now.setting.il.now c.args.search.now.setting.types.now c.args.search.now.algos.now c.requires.search.searchable c.args.relation c.args.number c.args.rule.now c.requires.rule.0 c.requires.rule.1 c.requires.rule.2 goal_is is w.1.order w.1.is_order))
+    c.in_err-found-in-Some.ensures.ends left goal_is w.1.order answers can same is
+    (numbered_of c.args.search.now.setting.il.now c.args.search.now.setting.types.now c.args.search.now.algos.now c.requires.search.searchable c.args.relation c.args.number c.args.rule.now c.requires.rule.0 c.requires.rule.1 c.requires.rule.2 goal_is is w.1.order w.1.is_order))
 
 pub returns-in-None-clause-found : goal.returns-in-None-clause-found
 returns-in-None-clause-found g c left goal_is answers can same is =
@@ -31,7 +31,7 @@ returns-in-None-clause-found g c left goal_is answers can same is =
 pub returns-in_ok-found-in-Some-clause-found : goal.returns-in_ok-found-in-Some-clause-found
 returns-in_ok-found-in-Some-clause-found g c left goal_is answers can same is =
     let w =
-        numbered_ruled c.args.search.now.setting.il.now c.args.search.now.setting.types.now c.args.search.now.algos.now c.requires.search.searchable c.args.relation c.args.number c.args.rule.now c.requires.rule.0 c.requires.rule.1 c.requires.rule.2 c.in-Some.algorithm.now (sym c.in-Some.ensures) in
+    numbered_ruled c.args.search.now.setting.il.now c.args.search.now.setting.types.now c.args.search.now.algos.now c.requires.search.searchable c.args.relation c.args.number c.args.rule.now c.requires.rule.0 c.requires.rule.1 c.requires.rule.2 c.in-Some.algorithm.now (sym c.in-Some.ensures) in
     numbered_finds c.args.search.now.setting.il.now c.args.search.now.setting.depth goal_is c.args.number c.args.rule.now w.1.order w.1.is_order _ _
     (c.in_ok-found-in-Some.ensures.found left goal_is w.1.order answers can same is
     (numbered_of c.args.search.now.setting.il.now c.args.search.now.setting.types.now c.args.search.now.algos.now c.requires.search.searchable c.args.relation c.args.number c.args.rule.now c.requires.rule.0 c.requires.rule.1 c.requires.rule.2 goal_is is w.1.order w.1.is_order))
