@@ -5,7 +5,8 @@
 //! equation (`condition`), a goal (`goal`), or one of these for each element of its lists. The parts
 //! that stand alone: what a search answers (`answer`), why a premise is not run to its end (`stop`),
 //! outputs in the order of their values (`ordered`), what the holes of a goal come to (`holes`), what
-//! walks over elements bind (`gather`), and trees (`tree`).
+//! walks over elements bind (`gather`), and trees (`tree`). Which languages can be searched is a law
+//! (`searchable`): the typed ones whose numbers and texts are those of values (`literals`).
 //!
 //! The one idea: what a premise leads to is told apart from how it is found, as exactly the ways in which
 //! it holds, where all goals that it asks are answered so. Read `specs/Searchable.antt` and
