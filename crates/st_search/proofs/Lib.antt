@@ -39,5 +39,11 @@ pub mod Ruled
 pub mod Searched
 pub mod LoopLaws
 pub mod WalkLaws
+pub mod Binds
 pub mod StepWays
+pub mod StepFinds
 pub mod LoopRuns
+pub mod RunSteps
+pub mod SomeGives
+pub mod AlgorithmParts
+pub mod EndFinds

@@ -12,9 +12,12 @@ ghost use Rattle.st_match.specs.inner.Scope.{scope_env, entries_of, columns_now}
 ghost use Rattle.st_eval.specs.Steps.{HasOnly};
 ghost use Rattle.st_eval.specs.inner.Known.{names_now};
 ghost use Rattle.st_eval.specs.inner.AtElements.{AllHaveOnly};
+ghost use Rattle.st_search.specs.inner.Sought.{StopsIf};
+ghost use Rattle.st_search.specs.inner.Gathering.{AreGatheredTo, SomeTooHigh};
 ghost use Rattle.st_search.specs.inner.RunBy.{IsRunBy, IsLoopOf};
 ghost use Rattle.st_search.specs.inner.Walks.{step_asks, stretched, multiplied};
-ghost use Rattle.st_search.specs.inner.Contracts.{IsShort, FindsWhere, StopsWhere, FindsAtAll, StopsAtAll};
+ghost use Rattle.st_search.specs.inner.Contracts.{IsShort, FindsWhere, StopsWhere, BindsWhere};
+ghost use Rattle.st_search.specs.inner.Contracts.{FindsAtAll, StopsAtAll, BindsAtAll};
 ghost use Rattle.st_search.specs.inner.Search.{IsSearch};
 
 use crate::condition::{bind, test};
@@ -96,6 +99,31 @@ fn no_element(alloc: Global) -> Result<Row<Walk>, NoMemory>
     Ok(walks)
 }
 
+/// What the walks over all elements of an iterated step come to.
+fn gathered(
+    alloc: Global,
+    search: &Search<'_>,
+    variables: &[Listed],
+    known: &[&Name],
+    how: &Iteration,
+    names: &[Name],
+    body: &AlgoStep,
+    walks: Found<Walk>,
+) -> Result<Found<Solution>, Stop>
+    ensures longest { IfOk result (λ found. found.longest ≡ walks.longest) }
+    ensures found { IfOk result (λ found. AreGatheredTo search.now.setting.types.now variables.now
+        (names_now known.now) how.now names.now (step_asks body.now) walks.items found.items) }
+    ensures stops { IfErr result (λ stop. StopsIf (SomeTooHigh search.now.setting.types.now
+        variables.now (names_now known.now) how.now names.now walks.items) stop) }
+{
+    let types = search.setting.types;
+    let asks = asks(body);
+    let longest = walks.longest;
+    let walks = walks.items.as_slice();
+    let items = all_gathered(alloc, types, variables, known, how, names, asks, walks)?;
+    Ok(Found { items, longest })
+}
+
 /// What a step leads to where these variables are bound.
 #[cycle(step)]
 pub(crate) fn run_step<'a, F: Finder>(
@@ -116,6 +144,10 @@ pub(crate) fn run_step<'a, F: Finder>(
     ensures found { IfOk result (λ found. FindsWhere search.now.setting.il.now
         search.now.setting.depth (F.answers finder.now) variables.now (scope_env scope.now)
         (λ bound p. IsRunBy search.now.setting.il.now bound variables.now p step.now) found) }
+    ensures binds { IfOk result (λ found. BindsWhere search.now.setting.il.now variables.now
+        (scope_env scope.now)
+        (λ bound p. IsRunBy search.now.setting.il.now bound variables.now p step.now)
+        found.items) }
     ensures stops { IfErr result (λ stop. StopsWhere search.now.setting.il.now
         search.now.setting.depth (F.answers finder.now) variables.now (scope_env scope.now)
         (λ bound p. IsRunBy search.now.setting.il.now bound variables.now p step.now) stop) }
@@ -169,6 +201,9 @@ fn run_loop<'a, F: Finder>(
         search.now.setting.depth (F.answers finder.now) variables.now (scope_env scope.now)
         (λ bound p. (inner : IlPrem) × IsLoopOf search.now.setting.il.now bound variables.now p
         how.now names.now inner body.now) found) }
+    ensures binds { IfOk result (λ found. BindsWhere search.now.setting.il.now variables.now
+        (scope_env scope.now) (λ bound p. (inner : IlPrem) × IsLoopOf search.now.setting.il.now
+        bound variables.now p how.now names.now inner body.now) found.items) }
     ensures stops { IfErr result (λ stop. StopsWhere search.now.setting.il.now
         search.now.setting.depth (F.answers finder.now) variables.now (scope_env scope.now)
         (λ bound p. (inner : IlPrem) × IsLoopOf search.now.setting.il.now bound variables.now p
@@ -202,18 +237,8 @@ fn run_loop<'a, F: Finder>(
                         elements.size,
                         body,
                     )?;
-                    let items = all_gathered(
-                        alloc,
-                        setting.types,
-                        variables,
-                        known,
-                        how,
-                        names,
-                        asks(body),
-                        walks.items.as_slice(),
-                    )?;
-                    let longest = walks.longest;
-                    Ok(Found { items, longest })
+                    let found = gathered(alloc, search, variables, known, how, names, body, walks)?;
+                    Ok(found)
                 }
             }
         }
@@ -242,7 +267,7 @@ fn walk<'a, F: Finder>(
         (rows (index_of how.now) (names_now names.now) (entries_of scope.now) size 0
         (columns_now columns.now)))
         × IsRunBy search.now.setting.il.now bound variables.now p body.now }
-    ensures small { IfOk result (λ found. size < 2 ^ 128) }
+    ensures small { size < 2 ^ 128 }
     ensures short { IfOk result (λ found. IsShort search.now.setting.il.now
         search.now.setting.depth (F.answers finder.now) found.longest) }
     ensures found { IfOk result (λ found. FindsAtAll search.now.setting.il.now
@@ -250,6 +275,11 @@ fn walk<'a, F: Finder>(
         (rows (index_of how.now) (names_now names.now) (entries_of scope.now) size 0
         (columns_now columns.now))
         (λ bound p. IsRunBy search.now.setting.il.now bound variables.now p body.now) found) }
+    ensures binds { IfOk result (λ found. BindsAtAll search.now.setting.il.now variables.now
+        (rows (index_of how.now) (names_now names.now) (entries_of scope.now) size 0
+        (columns_now columns.now))
+        (λ bound p. IsRunBy search.now.setting.il.now bound variables.now p body.now)
+        found.items) }
     ensures stops { IfErr result (λ stop. StopsAtAll search.now.setting.il.now
         search.now.setting.depth (F.answers finder.now) variables.now
         (rows (index_of how.now) (names_now names.now) (entries_of scope.now) size 0
