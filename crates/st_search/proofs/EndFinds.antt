@@ -3,7 +3,6 @@ use Rattle.std.proofs.Common.{arith, ◌≡◌, refl, sym, ◌∙◌, ap, ap₂,
 use Rattle.std.specs.List.{AllByRecursion}
 use Rattle.st_il.specs.declared.definition.Il.{Il}
 use Rattle.st_il.specs.declared.definition.RuleDef.{RuleDef}
-use Rattle.st_il.specs.declared.expression.IlPrem.{IlPrem}
 use Rattle.st_il.specs.declared.tree.Tree.{Tree}
 use Rattle.st_il.specs.declared.value.Env.{Env}
 use Rattle.st_il.specs.declared.value.Value.{Value}
@@ -42,18 +41,15 @@ each_at P [] i x h is all = absurd (omega (arith, h))
 each_at P (y ∷ ys) zero x h is all = subst P (sym is) all.0
 each_at P (y ∷ ys) (suc i) x h is all = each_at P ys i x (omega (arith, h)) is all.1
 
-module _ (il : Il) (stable : IsStable il) (single : CallsAreSingle il) (all_rules : All (CanBeRun il) (rules_in il.defs)) (n : ℕ) (place : Place) (ins : List Value) where
-  abbrev ordered_premises : List IlPrem
-  ordered_premises = in_order place.rule.now.premises place.order.now
-
+module _ (il : Il) (n : ℕ) (place : Place) (ins : List Value) where
   -- what is found at an end, whatever goal has these inputs
   abbrev pub AreAt : Partial → List Output → Type 0
   AreAt end found =
       (g : Goal) → g.inputs ≡ ins → IsPlace il g.relation place → IsPartial il n g place.number place.rule.now (in_order place.rule.now.premises place.order.now) end → Finds il n 0 (end_seeks il n g place.rule.now end) found
 
   -- where one of the outputs has no value
-  pub at_none : (end : Partial) (found : List Output) → found ≡ [] → SomeGives il n end.env (outputs_of_rule il place.rule.now) NoValue → (SomeGives il n end.env (outputs_of_rule il place.rule.now) Deep → ⊥) → AreAt end found
-  at_none end found nothing none fine g same is partial = subst (Finds il n 0 (end_seeks il n g place.rule.now end)) (sym nothing) (end_none il stable single n g place.rule.now end none fine)
+  pub at_none : IsStable il → CallsAreSingle il → (end : Partial) (found : List Output) → found ≡ [] → SomeGives il n end.env (outputs_of_rule il place.rule.now) NoValue → (SomeGives il n end.env (outputs_of_rule il place.rule.now) Deep → ⊥) → AreAt end found
+  at_none stable single end found nothing none fine g same is partial = subst (Finds il n 0 (end_seeks il n g place.rule.now end)) (sym nothing) (end_none il stable single n g place.rule.now end none fine)
 
   -- the tree of the rule with these values
   abbrev pub IsTreeAt : Partial → List Value → Tree → Type 0
@@ -62,8 +58,8 @@ module _ (il : Il) (stable : IsStable il) (single : CallsAreSingle il) (all_rule
       × (tree ≡ record { relation = place.relation; rule = place.number; env = env; values = merged place.holes.now ins vs; children = arranged place.order.now end.children (length place.rule.now.premises) })
 
   -- where all outputs have values
-  pub at_found : (end : Partial) (found : List Output) (vs : List Value) (tree : Tree) → HaveValues (has_value_at il n) (tasks end.env (outputs_of_rule il place.rule.now)) vs → IsTreeAt end vs tree → found ≡ record { values = vs; tree = tree } ∷ [] → AreAt end found
-  at_found end found vs tree have (env, ordered, alike, made) one g same is partial =
+  pub at_found : IsStable il → CallsAreSingle il → (all_rules : All (CanBeRun il) (rules_in il.defs)) (end : Partial) (found : List Output) (vs : List Value) (tree : Tree) → HaveValues (has_value_at il n) (tasks end.env (outputs_of_rule il place.rule.now)) vs → IsTreeAt end vs tree → found ≡ record { values = vs; tree = tree } ∷ [] → AreAt end found
+  at_found stable single all_rules end found vs tree have (env, ordered, alike, made) one g same is partial =
       subst (Finds il n 0 (end_seeks il n g place.rule.now end)) (sym (one ∙ ap (λ (z : Tree). record { values = vs; tree = z } ∷ []) (made ∙ moved)))
       (end_found il stable single all_rules n g place is end partial vs have env ordered alike)
     where

@@ -9,7 +9,8 @@ use Rattle.st_il.specs.declared.expression.IlPrem.{IlPrem}
 use Rattle.st_il.specs.declared.expression.Iteration.{Iteration}
 use Rattle.st_il.specs.declared.value.Env.{Env}
 use Rattle.st_il.specs.declared.value.Value.{Value}
-use Rattle.st_semantics.specs.declared.outcome.Outcome.TheVariants.{NoValue, Deep}
+use Rattle.st_semantics.specs.declared.outcome.Outcome.{Outcome}
+use Rattle.st_semantics.specs.declared.outcome.Outcome.TheVariants.{Val, NoValue, Deep}
 use Rattle.st_semantics.specs.declared.outcome.Outcomes.TheVariants.{Values, Stopped}
 use Rattle.st_semantics.specs.Names.{Name, has_name, among}
 use Rattle.st_semantics.specs.Definitions.{syntaxes}
@@ -22,6 +23,7 @@ use Rattle.st_semantics.specs.Depth.{bound_count}
 use Rattle.st_semantics.specs.Calls.{CallAt}
 use Rattle.st_semantics.specs.Derivation.{Root}
 use Rattle.st_semantics.specs.Laws.{IsStable, CallsAreSingle}
+use Rattle.st_semantics.proofs.Values.{not_value}
 use Rattle.st_match.specs.declared.scope.Bound.{Bound}
 use Rattle.st_match.specs.inner.Scope.{scope_env, entries_of, columns_from}
 use Rattle.st_match.proofs.Builds.{row_at, rows_left, rows_left-all}
@@ -164,6 +166,11 @@ module _ (il : Il) (stable : IsStable il) (single : CallsAreSingle il) (n : ℕ)
 
   pub loop_none : GivesAll (syntaxes il) (CallAt il n) (tasks env (bound_count known how)) (Stopped NoValue) → FindsWhere il n A ls env IsMeant (record { items = []; longest = 0 })
   loop_none gives left root bound p answers only can searched = count_none il stable single n root bound ls env p how xs can.0 step can.1 only known (same bound only) gives
+
+  pub loop_stopped : (o : Outcome) → GivesAll (syntaxes il) (CallAt il n) (tasks env (bound_count known how)) (Stopped o) → (o ≡ Deep → ⊥) → FindsWhere il n A ls env IsMeant (record { items = []; longest = 0 })
+  loop_stopped (Val v) gives fine = absurd (not_value (syntaxes il) (CallAt il n) (tasks env (bound_count known how)) (Stopped (Val v)) v gives refl)
+  loop_stopped NoValue gives fine = loop_none gives
+  loop_stopped Deep gives fine = absurd (fine refl)
 
   module _ (names : List Name) (names_are : names ≡ among known xs) (count : List Value) (gives : GivesAll (syntaxes il) (CallAt il n) (tasks env (bound_count known how)) (Values count)) where
     pub loop_misfit : spread how names env count ≡ Misfit → FindsWhere il n A ls env IsMeant (record { items = []; longest = 0 })

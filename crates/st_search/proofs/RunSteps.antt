@@ -116,7 +116,8 @@ module _ (il : Il) (n : ℕ) (A : Solvings) (rule : RuleDef) (order : List ℕ) 
 
     module _ (i longest : ℕ) (ends : List Partial) (r : AreRun i longest ends) (s : AlgoStep) (h : i < length steps) (is : s ≡ get_or steps i s) where
       pub next : IsNext r.before r.after s
-      next = let same : length r.before ≡ i = r.long in
+      next =
+          let same : length r.before ≡ i = r.long in
           next_at r.before r.after r.split s (omega (arith, h, same)) (subst (λ k. s ≡ get_or steps k s) (sym same) is)
 
       -- it can be run from the ends

@@ -51,6 +51,13 @@ module _ (il : Il) (n : ℕ) (A : Solvings) (ls : List Listed) (env : Env) (K L 
   pub stops_less : (s : Stop) → StopsWhere il n A ls env L s → StopsWhere il n A ls env K s
   stops_less s stops left root bound p answers only k searched = stops left root bound p answers only (less bound p k) searched
 
+-- what is found by its parts
+pub finds_as : (il : Il) (n : ℕ) (A : Solvings) (ls : List Listed) (env : Env) (K : Meant) (items : List Solution) (longest : ℕ) (found : Found Solution) → found.items ≡ items → found.longest ≡ longest → FindsWhere il n A ls env K (record { items = items; longest = longest })
+    → FindsWhere il n A ls env K found
+finds_as il n A ls env K items longest found first second finds left root bound p answers only k searched =
+    subst (λ z. Finds il n z (step_seeks il n root bound ls env p) found.items) (sym second)
+    (subst (Finds il n longest (step_seeks il n root bound ls env p)) (sym first) (finds left root bound p answers only k searched))
+
 module _ (il : Il) (n : ℕ) (A : Solvings) (ls : List Listed) (env : Env) (step : AlgoStep) where
   -- what is meant is what the step runs
   abbrev pub IsMeant : Meant
