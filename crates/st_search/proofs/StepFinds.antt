@@ -1,5 +1,5 @@
 -- What the function finds that runs a step, by the form of the step.
-use Rattle.std.proofs.Common.{◌≡◌, sym, ◌∙◌, ap, ap₂, subst, ℕ, ◌++◌, true, List, [], Result, IfErr}
+use Rattle.std.proofs.Common.{◌≡◌, sym, ◌∙◌, ap, ap₂, subst, ℕ, ◌++◌, true, List, [], ◌⊎◌, inl, inr, Result, IfErr}
 use Rattle.std.specs.List.{AllByRecursion}
 use Rattle.std.specs.Result.{IsErrAnd}
 use Rattle.std.proofs.lemmas.Result.{err_from_is_err_and}
@@ -20,6 +20,7 @@ use Rattle.st_semantics.specs.Derivation.{Root}
 use Rattle.st_semantics.proofs.Names.{known-within, within-cases, within-left, within-right}
 use Rattle.st_algo.specs.declared.algorithm.AlgoStep.{AlgoStep, out-AlgoStep}
 use Rattle.st_algo.specs.declared.algorithm.AlgoStep.TheOpen.{AlgoStep-F}
+use Rattle.st_algo.specs.declared.algorithm.AlgoStep.TheVariants as variant
 use Rattle.st_eval.specs.Meeting.{IsEquation}
 use Rattle.st_eval.specs.Steps.{HasOnly}
 use Rattle.st_eval.specs.inner.Beside.{beside}
@@ -34,7 +35,7 @@ use Rattle.st_search.specs.inner.RunBy.{IsRunBy, IsLoopOf}
 use Rattle.st_search.specs.inner.Rules.{IsSearchedIn}
 use Rattle.st_search.specs.inner.Search.{Solvings}
 use Rattle.st_search.proofs.Binds.{any_root, right_bind}
-use Rattle.st_search.proofs.StepWays.{run_test, run_let, run_goal, run_loop}
+use Rattle.st_search.proofs.StepWays.{run_test, run_let, run_goal, run_loop, run_match, run_give, run_otherwise}
 
 -- what is so of the error of a call is so of that of the caller
 pub err_again : {T : Type 0} (P : Stop → Type 0) (r : Result T Stop) (s : Stop) → IsErrAnd r (λ (y : Stop). y ≡ s) → P s → IfErr r P
@@ -114,9 +115,14 @@ module _ (il : Il) (n : ℕ) (A : Solvings) (ls : List Listed) (env : Env) (step
 
   -- ---- steps that run no premise
 
-  module _ (found : Found Solution) (none : found.items ≡ []) where
-    pub nothing_finds : ((bound : List Name) (p : IlPrem) → IsMeant bound p → IsSearchedIn il p → ⊥) → FindsWhere il n A ls env IsMeant found
-    nothing_finds never left root bound p answers only run searched = absurd (never bound p run searched)
+  -- the first step of a rule, its last one, and an `otherwise`
+  abbrev pub RunsNothing : Type 0
+  RunsNothing = ((ins : List IlExp) × (step ≡ variant.Match ins)) ⊎ (step ≡ variant.Otherwise) ⊎ ((outs : List IlExp) × (step ≡ variant.Give outs))
 
-    pub nothing_binds : BindsWhere il ls env IsMeant found.items
-    nothing_binds bound p only run = subst (AllByRecursion (λ (x : Solution). HasOnly il ls (bound ++ prem_vars p) (beside env x.env))) (sym none) tt
+  never_meant : RunsNothing → (bound : List Name) (p : IlPrem) → IsMeant bound p → IsSearchedIn il p → ⊥
+  never_meant (inl w) bound p run searched = run_match il bound ls p step run w.0 (ap out-AlgoStep w.1 ∙ variant.outs-Match w.0)
+  never_meant (inr (inl is)) bound p run searched = run_otherwise il bound ls p step run searched (ap out-AlgoStep is ∙ variant.outs-Otherwise)
+  never_meant (inr (inr w)) bound p run searched = run_give il bound ls p step run w.0 (ap out-AlgoStep w.1 ∙ variant.outs-Give w.0)
+
+  pub nothing_finds : RunsNothing → (found : Found Solution) → FindsWhere il n A ls env IsMeant found
+  nothing_finds which found left root bound p answers only run searched = absurd (never_meant which bound p run searched)

@@ -4,8 +4,9 @@
 //! What is bound is told by references, as where clauses are tried: an iterated step goes over the
 //! elements of its lists and copies none of them but where it evaluates or matches.
 
-ghost use Rattle.std.specs.Prelude.{◌≡◌, ◌++◌, ◌∷◌, [], ◌<◌, ◌^◌, List, IfOk, IfErr};
+ghost use Rattle.std.specs.Prelude.{◌≡◌, ◌++◌, ◌∷◌, [], ◌<◌, ◌^◌, List, IfOk, IfErr, OnOk};
 ghost use Rattle.st_il.specs.declared.expression.IlPrem.{IlPrem};
+ghost use Rattle.st_semantics.specs.declared.outcome.Outcome.TheVariants as variant;
 ghost use Rattle.st_semantics.specs.Names.{Name};
 ghost use Rattle.st_semantics.specs.Iterations.{index_of, rows};
 ghost use Rattle.st_match.specs.inner.Scope.{scope_env, entries_of, columns_now};
@@ -97,6 +98,19 @@ fn no_element(alloc: Global) -> Result<Row<Walk>, NoMemory>
     let children = Row::new(alloc);
     walks.push(Walk { envs, children })?;
     Ok(walks)
+}
+
+/// What an iterated step leads to whose count has this outcome, which is no value.
+fn stopped(alloc: Global, outcome: Outcome) -> Result<Found<Solution>, Stop>
+    ensures shallow { OnOk result (outcome ≡ variant.Deep → ⊥) }
+    ensures items { IfOk result (λ found. found.items ≡ []) }
+    ensures longest { IfOk result (λ found. found.longest ≡ 0) }
+    ensures stops { IfErr result (λ stop. StopsIf (outcome ≡ variant.Deep) stop) }
+{
+    match outcome {
+        Outcome::Deep => Err(Stop::Meets),
+        Outcome::Val(_) | Outcome::NoValue => Ok(nothing(alloc)),
+    }
 }
 
 /// What the walks over all elements of an iterated step come to.
@@ -215,8 +229,10 @@ fn run_loop<'a, F: Finder>(
     let known = known.as_slice();
     let count = count_values(alloc, &setting, &functions, scope, known, how)?;
     match count {
-        Outcomes::Stopped(Outcome::Deep) => Err(Stop::Meets),
-        Outcomes::Stopped(_) => Ok(nothing(alloc)),
+        Outcomes::Stopped(outcome) => {
+            let found = stopped(alloc, outcome)?;
+            Ok(found)
+        }
         Outcomes::Values(count) => {
             let bound = names_known(alloc, names, known)?;
             let bound = bound.as_slice();
