@@ -47,7 +47,9 @@ pub mod Ruled
 pub mod Searched
 pub mod LoopLaws
 pub mod WalkLaws
+pub mod Binds
 pub mod StepWays
+pub mod StepFinds
 pub mod LoopRuns
 pub mod NumberedFinds
 pub mod ListedParts
@@ -55,3 +57,7 @@ pub mod TypedExps
 pub mod DeclaredRelations
 pub mod TypedRules
 pub mod ProperLists
+pub mod RunSteps
+pub mod SomeGives
+pub mod AlgorithmParts
+pub mod EndFinds

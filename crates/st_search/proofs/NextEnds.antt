@@ -24,7 +24,7 @@ use Rattle.st_search.specs.inner.RunBy.{IsRunBy}
 use Rattle.st_search.specs.inner.Steps.{IsSolution, step_seeks}
 use Rattle.st_search.specs.inner.Rules.{IsSearchedIn, lengthened}
 use Rattle.st_search.specs.inner.Running.{IsLonger, next_seeks, AllEndWith}
-use Rattle.st_search.proofs.Finds.{Finds-start, Finds-next}
+use Rattle.st_search.proofs.Finds.{Each-append, Finds-start, Finds-next}
 use Rattle.st_search.proofs.Sequences.{take_step, take_whole, Stops-at}
 use Rattle.st_search.proofs.Solved.{short_none, short_greater}
 
@@ -74,11 +74,13 @@ module _ (il : Il) (n : ℕ) (A : Solvings) (ls : List Listed) (step : AlgoStep)
     pub short : IsShort il n A longest
     pub finds : (left : ℕ) (root : Root) (bound : List Name) (p : IlPrem) → AnswersGoals il n left A → AllEndWith il ls bound ends → IsRunBy il bound ls p step → IsSearchedIn il p
         → Finds il n longest (sought_from (next_seeks il n root bound ls p) (take i ends)) found
+    pub binds : (bound : List Name) (p : IlPrem) → AllEndWith il ls bound ends → IsRunBy il bound ls p step → AllEndWith il ls (bound ++ prem_vars p) found
 
   pub from_start : (ends found : List Partial) → found ≡ [] → AreFrom ends 0 0 found
   from_start ends found none = record {
     short = short_none il n A;
     finds = λ left root bound p answers only run searched. subst (Finds il n 0 (sought_from (next_seeks il n root bound ls p) [])) (sym none) (Finds-start il n (next_seeks il n root bound ls p) 0);
+    binds = λ bound p only run. subst (AllEndWith il ls (bound ++ prem_vars p)) (sym none) tt;
   }
 
   pub only_at : (bound : List Name) (ends : List Partial) (i : ℕ) (end : Partial) → i < length ends → end ≡ get_or ends i end → AllEndWith il ls bound ends → HasOnly il ls bound end.env
@@ -87,14 +89,19 @@ module _ (il : Il) (n : ℕ) (A : Solvings) (ls : List Listed) (step : AlgoStep)
   only_at bound (x ∷ xs) (suc i) end h is all = only_at bound xs i end (omega (arith, h)) is all.1
 
   module _ (ends : List Partial) (i : ℕ) (end : Partial) (h : i < length ends) (is : end ≡ get_or ends i end) where
-    pub from_step : (l m k : ℕ) (found others more : List Partial) → AreFrom ends i l found → IsShort il n A m → FromEnd end m others → more ≡ found ++ others → l ≤ k → m ≤ k → (k ≡ l) ⊎ (k ≡ m) → AreFrom ends (i + 1) k more
-    from_step l m k found others more f short finds is_more less lesser one = record {
+    pub from_step : (l m k : ℕ) (found others more : List Partial) → AreFrom ends i l found → IsShort il n A m → FromEnd end m others
+        → ((bound : List Name) (p : IlPrem) → HasOnly il ls bound end.env → IsRunBy il bound ls p step → AllEndWith il ls (bound ++ prem_vars p) others)
+        → more ≡ found ++ others → l ≤ k → m ≤ k → (k ≡ l) ⊎ (k ≡ m) → AreFrom ends (i + 1) k more
+    from_step l m k found others more f short finds binds is_more less lesser one = record {
       short = short_greater il n A l m k one f.short short;
       finds = λ left root bound p answers only run searched.
           subst (λ z. Finds il n k (sought_from (next_seeks il n root bound ls p) z) more) (sym (take_step ends i end h is))
           (subst (Finds il n k (sought_from (next_seeks il n root bound ls p) (take i ends ++ end ∷ []))) (sym is_more)
           (Finds-next il n (next_seeks il n root bound ls p) l m k (take i ends) end found others (f.finds left root bound p answers only run searched)
           (finds left root bound p answers (only_at bound ends i end h is only) run searched) less lesser));
+      binds = λ bound p only run.
+          subst (AllEndWith il ls (bound ++ prem_vars p)) (sym is_more)
+          (Each-append (λ (z : Partial). HasOnly il ls (bound ++ prem_vars p) z.env) found others (f.binds bound p only run) (binds bound p (only_at bound ends i end h is only) run));
     }
 
     -- what stops at one end stops at all

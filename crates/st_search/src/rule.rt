@@ -12,7 +12,7 @@ ghost use Rattle.st_semantics.specs.Orders.{inputs_of_rule, outputs_of_rule, in_
 ghost use Rattle.st_semantics.specs.OrderOf.{order_of};
 ghost use Rattle.st_semantics.specs.Evaluation.{tasks};
 ghost use Rattle.st_semantics.specs.Holding.{HaveValues};
-ghost use Rattle.st_semantics.specs.Variables.{vars_of};
+ghost use Rattle.st_semantics.specs.Variables.{vars_of, prem_vars};
 ghost use Rattle.st_semantics.specs.Calls.{has_value_at};
 ghost use Rattle.st_semantics.specs.Derivation.{Root};
 ghost use Rattle.st_semantics.specs.Goals.{Goal};
@@ -188,6 +188,11 @@ fn run_from<F: Finder>(
         → Finds search.now.setting.il.now search.now.setting.depth found.longest
         (next_seeks search.now.setting.il.now search.now.setting.depth root bound variables.now p
         end.now) found.items) }
+    ensures binds { IfOk result (λ found. (bound : List Name) (p : IlPrem)
+        → HasOnly search.now.setting.il.now variables.now bound end.now.env
+        → IsRunBy search.now.setting.il.now bound variables.now p step.now
+        → AllEndWith search.now.setting.il.now variables.now (bound ++ prem_vars p)
+        found.items) }
     ensures stops { IfErr result (λ stop. (left : ℕ) (root : Root) (bound : List Name)
         (p : IlPrem) → AnswersGoals search.now.setting.il.now search.now.setting.depth left
         (F.answers finder.now)
@@ -230,6 +235,11 @@ fn run_from_all<F: Finder>(
         → Finds search.now.setting.il.now search.now.setting.depth found.longest
         (sought_from (next_seeks search.now.setting.il.now search.now.setting.depth root bound
         variables.now p) ends.now) found.items) }
+    ensures binds { IfOk result (λ found. (bound : List Name) (p : IlPrem)
+        → AllEndWith search.now.setting.il.now variables.now bound ends.now
+        → IsRunBy search.now.setting.il.now bound variables.now p step.now
+        → AllEndWith search.now.setting.il.now variables.now (bound ++ prem_vars p)
+        found.items) }
     ensures stops { IfErr result (λ stop. (left : ℕ) (root : Root) (bound : List Name)
         (p : IlPrem) → AnswersGoals search.now.setting.il.now search.now.setting.depth left
         (F.answers finder.now)

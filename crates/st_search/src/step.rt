@@ -4,17 +4,21 @@
 //! What is bound is told by references, as where clauses are tried: an iterated step goes over the
 //! elements of its lists and copies none of them but where it evaluates or matches.
 
-ghost use Rattle.std.specs.Prelude.{◌≡◌, ◌++◌, ◌∷◌, [], ◌<◌, ◌^◌, List, IfOk, IfErr};
+ghost use Rattle.std.specs.Prelude.{◌≡◌, ◌++◌, ◌∷◌, [], ◌<◌, ◌^◌, List, IfOk, IfErr, OnOk};
 ghost use Rattle.st_il.specs.declared.expression.IlPrem.{IlPrem};
+ghost use Rattle.st_semantics.specs.declared.outcome.Outcome.TheVariants as variant;
 ghost use Rattle.st_semantics.specs.Names.{Name};
 ghost use Rattle.st_semantics.specs.Iterations.{index_of, rows};
 ghost use Rattle.st_match.specs.inner.Scope.{scope_env, entries_of, columns_now};
 ghost use Rattle.st_eval.specs.Steps.{HasOnly};
 ghost use Rattle.st_eval.specs.inner.Known.{names_now};
 ghost use Rattle.st_eval.specs.inner.AtElements.{AllHaveOnly};
+ghost use Rattle.st_search.specs.inner.Sought.{StopsIf};
+ghost use Rattle.st_search.specs.inner.Gathering.{AreGatheredTo, SomeTooHigh};
 ghost use Rattle.st_search.specs.inner.RunBy.{IsRunBy, IsLoopOf};
 ghost use Rattle.st_search.specs.inner.Walks.{step_asks, stretched, multiplied};
-ghost use Rattle.st_search.specs.inner.Contracts.{IsShort, FindsWhere, StopsWhere, FindsAtAll, StopsAtAll};
+ghost use Rattle.st_search.specs.inner.Contracts.{IsShort, FindsWhere, StopsWhere, BindsWhere};
+ghost use Rattle.st_search.specs.inner.Contracts.{FindsAtAll, StopsAtAll, BindsAtAll};
 ghost use Rattle.st_search.specs.inner.Search.{IsSearch};
 
 use crate::condition::{bind, test};
@@ -96,6 +100,44 @@ fn no_element(alloc: Global) -> Result<Row<Walk>, NoMemory>
     Ok(walks)
 }
 
+/// What an iterated step leads to whose count has this outcome, which is no value.
+fn stopped(alloc: Global, outcome: Outcome) -> Result<Found<Solution>, Stop>
+    ensures shallow { OnOk result (outcome ≡ variant.Deep → ⊥) }
+    ensures items { IfOk result (λ found. found.items ≡ []) }
+    ensures longest { IfOk result (λ found. found.longest ≡ 0) }
+    ensures stops { IfErr result (λ stop. StopsIf (outcome ≡ variant.Deep) stop) }
+{
+    match outcome {
+        Outcome::Deep => Err(Stop::Meets),
+        Outcome::Val(_) | Outcome::NoValue => Ok(nothing(alloc)),
+    }
+}
+
+/// What the walks over all elements of an iterated step come to.
+fn gathered(
+    alloc: Global,
+    search: &Search<'_>,
+    variables: &[Listed],
+    known: &[&Name],
+    how: &Iteration,
+    names: &[Name],
+    body: &AlgoStep,
+    walks: Found<Walk>,
+) -> Result<Found<Solution>, Stop>
+    ensures longest { IfOk result (λ found. found.longest ≡ walks.longest) }
+    ensures found { IfOk result (λ found. AreGatheredTo search.now.setting.types.now variables.now
+        (names_now known.now) how.now names.now (step_asks body.now) walks.items found.items) }
+    ensures stops { IfErr result (λ stop. StopsIf (SomeTooHigh search.now.setting.types.now
+        variables.now (names_now known.now) how.now names.now walks.items) stop) }
+{
+    let types = search.setting.types;
+    let asks = asks(body);
+    let longest = walks.longest;
+    let walks = walks.items.as_slice();
+    let items = all_gathered(alloc, types, variables, known, how, names, asks, walks)?;
+    Ok(Found { items, longest })
+}
+
 /// What a step leads to where these variables are bound.
 #[cycle(step)]
 pub(crate) fn run_step<'a, F: Finder>(
@@ -116,6 +158,10 @@ pub(crate) fn run_step<'a, F: Finder>(
     ensures found { IfOk result (λ found. FindsWhere search.now.setting.il.now
         search.now.setting.depth (F.answers finder.now) variables.now (scope_env scope.now)
         (λ bound p. IsRunBy search.now.setting.il.now bound variables.now p step.now) found) }
+    ensures binds { IfOk result (λ found. BindsWhere search.now.setting.il.now variables.now
+        (scope_env scope.now)
+        (λ bound p. IsRunBy search.now.setting.il.now bound variables.now p step.now)
+        found.items) }
     ensures stops { IfErr result (λ stop. StopsWhere search.now.setting.il.now
         search.now.setting.depth (F.answers finder.now) variables.now (scope_env scope.now)
         (λ bound p. IsRunBy search.now.setting.il.now bound variables.now p step.now) stop) }
@@ -169,6 +215,9 @@ fn run_loop<'a, F: Finder>(
         search.now.setting.depth (F.answers finder.now) variables.now (scope_env scope.now)
         (λ bound p. (inner : IlPrem) × IsLoopOf search.now.setting.il.now bound variables.now p
         how.now names.now inner body.now) found) }
+    ensures binds { IfOk result (λ found. BindsWhere search.now.setting.il.now variables.now
+        (scope_env scope.now) (λ bound p. (inner : IlPrem) × IsLoopOf search.now.setting.il.now
+        bound variables.now p how.now names.now inner body.now) found.items) }
     ensures stops { IfErr result (λ stop. StopsWhere search.now.setting.il.now
         search.now.setting.depth (F.answers finder.now) variables.now (scope_env scope.now)
         (λ bound p. (inner : IlPrem) × IsLoopOf search.now.setting.il.now bound variables.now p
@@ -180,8 +229,10 @@ fn run_loop<'a, F: Finder>(
     let known = known.as_slice();
     let count = count_values(alloc, &setting, &functions, scope, known, how)?;
     match count {
-        Outcomes::Stopped(Outcome::Deep) => Err(Stop::Meets),
-        Outcomes::Stopped(_) => Ok(nothing(alloc)),
+        Outcomes::Stopped(outcome) => {
+            let found = stopped(alloc, outcome)?;
+            Ok(found)
+        }
         Outcomes::Values(count) => {
             let bound = names_known(alloc, names, known)?;
             let bound = bound.as_slice();
@@ -202,18 +253,8 @@ fn run_loop<'a, F: Finder>(
                         elements.size,
                         body,
                     )?;
-                    let items = all_gathered(
-                        alloc,
-                        setting.types,
-                        variables,
-                        known,
-                        how,
-                        names,
-                        asks(body),
-                        walks.items.as_slice(),
-                    )?;
-                    let longest = walks.longest;
-                    Ok(Found { items, longest })
+                    let found = gathered(alloc, search, variables, known, how, names, body, walks)?;
+                    Ok(found)
                 }
             }
         }
@@ -242,7 +283,7 @@ fn walk<'a, F: Finder>(
         (rows (index_of how.now) (names_now names.now) (entries_of scope.now) size 0
         (columns_now columns.now)))
         × IsRunBy search.now.setting.il.now bound variables.now p body.now }
-    ensures small { IfOk result (λ found. size < 2 ^ 128) }
+    ensures small { size < 2 ^ 128 }
     ensures short { IfOk result (λ found. IsShort search.now.setting.il.now
         search.now.setting.depth (F.answers finder.now) found.longest) }
     ensures found { IfOk result (λ found. FindsAtAll search.now.setting.il.now
@@ -250,6 +291,11 @@ fn walk<'a, F: Finder>(
         (rows (index_of how.now) (names_now names.now) (entries_of scope.now) size 0
         (columns_now columns.now))
         (λ bound p. IsRunBy search.now.setting.il.now bound variables.now p body.now) found) }
+    ensures binds { IfOk result (λ found. BindsAtAll search.now.setting.il.now variables.now
+        (rows (index_of how.now) (names_now names.now) (entries_of scope.now) size 0
+        (columns_now columns.now))
+        (λ bound p. IsRunBy search.now.setting.il.now bound variables.now p body.now)
+        found.items) }
     ensures stops { IfErr result (λ stop. StopsAtAll search.now.setting.il.now
         search.now.setting.depth (F.answers finder.now) variables.now
         (rows (index_of how.now) (names_now names.now) (entries_of scope.now) size 0
