@@ -16,7 +16,7 @@ ghost use Rattle.st_semantics.specs.Variables.{vars_of};
 ghost use Rattle.st_match.specs.inner.Scope.{scope_env};
 ghost use Rattle.st_eval.specs.Steps.{HasOnly};
 ghost use Rattle.st_search.specs.declared.stop.Stop.TheVariants as end;
-ghost use Rattle.st_search.specs.inner.Contracts.{IsShort, FindsWhere, StopsWhere, BindsWhere, IsGoalOf};
+ghost use Rattle.st_search.specs.inner.Contracts.{IsShort, FindsWhere, StopsWhere, IsGoalOf};
 ghost use Rattle.st_search.specs.inner.Meeting.{AreMeetings, AllMeetings, IsAskedWith};
 ghost use Rattle.st_search.specs.inner.Search.{IsSearch};
 
@@ -123,9 +123,6 @@ fn answered<F: Finder>(
         search.now.setting.depth (F.answers finder.now) variables.now (scope_env scope.now)
         (λ bound p. IsAskedWith search.now.setting.il.now search.now.setting.depth bound
         variables.now (scope_env scope.now) p relation.now inputs outs.now) found) }
-    ensures binds { IfOk result (λ found. BindsWhere search.now.setting.il.now variables.now
-        (scope_env scope.now) (λ bound p. (ins : List IlExp) × IsGoalOf search.now.setting.il.now
-        bound variables.now p relation.now ins outs.now) found.items) }
     ensures stops { IfErr result (λ stop. StopsWhere search.now.setting.il.now
         search.now.setting.depth (F.answers finder.now) variables.now (scope_env scope.now)
         (λ bound p. IsAskedWith search.now.setting.il.now search.now.setting.depth bound
@@ -182,9 +179,6 @@ pub(crate) fn ask<F: Finder>(
         search.now.setting.depth (F.answers finder.now) variables.now (scope_env scope.now)
         (λ bound p. IsGoalOf search.now.setting.il.now bound variables.now p relation.now ins.now
         outs.now) found) }
-    ensures binds { IfOk result (λ found. BindsWhere search.now.setting.il.now variables.now
-        (scope_env scope.now) (λ bound p. IsGoalOf search.now.setting.il.now bound variables.now p
-        relation.now ins.now outs.now) found.items) }
     ensures stops { IfErr result (λ stop. StopsWhere search.now.setting.il.now
         search.now.setting.depth (F.answers finder.now) variables.now (scope_env scope.now)
         (λ bound p. IsGoalOf search.now.setting.il.now bound variables.now p relation.now ins.now

@@ -1,12 +1,10 @@
 //! Searching: all that a relation derives from some inputs, each once, with a derivation.
 //!
-//! `search` answers a goal: it runs the rules of its relation (`relation`), each from the environments
-//! in which its inputs match to its outputs (`rule`), step by step (`step`); a step is a test or an
-//! equation (`condition`), a goal (`goal`), or one of these for each element of its lists. The parts
-//! that stand alone: what a search answers (`answer`), why a premise is not run to its end (`stop`),
-//! outputs in the order of their values (`ordered`), what the holes of a goal come to (`holes`), what
-//! walks over elements bind (`gather`), and trees (`tree`). Which languages can be searched is a law
-//! (`searchable`): the typed ones whose numbers and texts are those of values (`literals`).
+//! So far the definitions, the laws and the parts: conditions (`condition`), goals (`goal`), what a search
+//! answers (`answer`), why a premise is not run to its end (`stop`), outputs in the order of their
+//! values (`ordered`), what the holes of a goal come to (`holes`), what walks over elements bind
+//! (`gather`), trees (`tree`), and of which languages relations can be searched (`searchable`,
+//! `literals`).
 //!
 //! The one idea: what a premise leads to is told apart from how it is found, as exactly the ways in which
 //! it holds, where all goals that it asks are answered so. Read `specs/Searchable.antt` and
@@ -24,16 +22,11 @@ mod goal;
 mod holes;
 mod literals;
 mod ordered;
-mod relation;
-mod rule;
-mod search;
 mod searchable;
 mod setting;
-mod step;
 mod stop;
 mod tree;
 
 pub use answer::{Chain, Output, Outputs, SearchFault};
 pub use literals::proper;
-pub use search::outputs;
 pub use searchable::typed_languages_are_searchable;

@@ -1,5 +1,0 @@
-use Rattle.st_search.proofs.RunSteps.{AreRun}
-use Rattle.st_search.proofs.rule.run_steps.Given as goal
-
-abbrev pub invariant-loop-i : goal.invariant-loop-i
-invariant-loop-i g l = AreRun l.search.setting.il.now l.search.setting.depth (g.F.Finder.answers l.finder) l.rule l.order l.fn.starts l.i l.longest l.ends
