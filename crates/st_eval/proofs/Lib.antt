@@ -10,11 +10,11 @@ mod Answered
 mod TestOutcomes
 mod Equations
 mod CanMeet
-mod Occurring
-mod IsFormedLemmas
-mod NamesKept
-mod Standing
-mod TypedClauses
+pub mod Occurring
+pub mod IsFormedLemmas
+pub mod NamesKept
+pub mod Standing
+pub mod TypedClauses
 mod VariablesOf
 pub mod Lookups
 mod FewBound

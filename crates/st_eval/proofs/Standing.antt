@@ -174,7 +174,7 @@ names_listed ls (o ∷ os) h x i = elim (or-cases (bytes_eq x o.0) (has_name (na
 ]
 
 -- an occurrence in the body that is not the index, with the iteration round it
-found_inside : (ls : List Listed) (index : List Name) (kind : Kind) (x : Name) → has_name index x ≡ false → (os : List Occurrence) → AllByRecursion (IsListed ls) (inside index kind os) → has_name (names_of os) x ≡ true
+pub found_inside : (ls : List Listed) (index : List Name) (kind : Kind) (x : Name) → has_name index x ≡ false → (os : List Occurrence) → AllByRecursion (IsListed ls) (inside index kind os) → has_name (names_of os) x ≡ true
     → (ks : List Kind) × IsListed ls (x, kind ∷ ks)
 found_inside ls index kind x n [] h i = absurd (cc)
 found_inside ls index kind x n (o ∷ os) h i = by (has_name index o.0) refl (bytes_eq x o.0) refl h i (found_inside ls index kind x n os)
@@ -189,7 +189,7 @@ found_inside ls index kind x n (o ∷ os) h i = by (has_name index o.0) refl (by
     by false e true f l j next = (o.1, subst (λ z. IsListed ls (z, kind ∷ o.1)) (sym (bytes-path x o.0 f)) l.0)
     by false e false f l j next = next l.1 j
 
-begins_kind : (dim : List Kind) (k : Kind) (ks : List Kind) → is_left dim ≡ true → BeginsWith dim (k ∷ ks) → kinds.BeginsWith k dim
+pub begins_kind : (dim : List Kind) (k : Kind) (ks : List Kind) → is_left dim ≡ true → BeginsWith dim (k ∷ ks) → kinds.BeginsWith k dim
 begins_kind [] k ks left b = absurd (cc)
 begins_kind (d ∷ ds) k ks left b = let whole : k ∷ ks ≡ d ∷ (ds ++ b.rest) = b.whole in let same : d ≡ k = cc in same
 

@@ -50,13 +50,13 @@ use Rattle.st_eval.proofs.Trying.{known_all}
 -- ---- premises
 
 -- what typing says of a premise
-record PremTyped (il : Il) (ls : List Listed) (p : IlPrem) : Type 0 where
-  formed : PremIsFormed (syntaxes il) p
-  keeps : PremKeepsNames ls p
-  listed : AllByRecursion (IsListed ls) (prem_occurrences p)
-  stands : Stands ls p
+pub record PremTyped (il : Il) (ls : List Listed) (p : IlPrem) : Type 0 where
+  pub formed : PremIsFormed (syntaxes il) p
+  pub keeps : PremKeepsNames ls p
+  pub listed : AllByRecursion (IsListed ls) (prem_occurrences p)
+  pub stands : Stands ls p
 
-prems_typed : (il : Il) {ls : List Listed} {ps : List IlPrem} {bs : List TypeRule} → PremsBreak il ls ps bs → bs ≡ [] → AllByRecursion (IsListed ls) (flattened (map prem_occurrences ps)) → AllByRecursion (PremTyped il ls) ps
+pub prems_typed : (il : Il) {ls : List Listed} {ps : List IlPrem} {bs : List TypeRule} → PremsBreak il ls ps bs → bs ≡ [] → AllByRecursion (IsListed ls) (flattened (map prem_occurrences ps)) → AllByRecursion (PremTyped il ls) ps
 prems_typed il premise.PremsBreak.none clean h = tt
 prems_typed il {ls = ls} (premise.PremsBreak.more {p = p} {ps = ps} first rest b bs whole) clean h =
     let parts = Each-split (IsListed ls) (prem_occurrences p) (flattened (map prem_occurrences ps)) h in
@@ -65,7 +65,7 @@ prems_typed il {ls = ls} (premise.PremsBreak.more {p = p} {ps = ps} first rest b
       prems_typed il bs (none-right first rest _ whole clean) parts.1,
     )
 
-prems_listed : (il : Il) (ls : List Listed) (ps : List IlPrem) → AllByRecursion (PremTyped il ls) ps → Within (prems_vars ps) (listed_names ls)
+pub prems_listed : (il : Il) (ls : List Listed) (ps : List IlPrem) → AllByRecursion (PremTyped il ls) ps → Within (prems_vars ps) (listed_names ls)
 prems_listed il ls [] h x i = absurd (cc)
 prems_listed il ls (p ∷ ps) h x i = elim (within-cases (prem_vars p) (prems_vars ps) x i) [
   | inl k ↦ PremKeepsNames-listed (h.0).keeps (h.0).listed x k
@@ -73,7 +73,7 @@ prems_listed il ls (p ∷ ps) h x i = elim (within-cases (prem_vars p) (prems_va
 ]
 
 -- a name that occurs in premises is a variable of them
-prems_named : (il : Il) (ls : List Listed) (ps : List IlPrem) → AllByRecursion (PremTyped il ls) ps → Within (names_of (flattened (map prem_occurrences ps))) (prems_vars ps)
+pub prems_named : (il : Il) (ls : List Listed) (ps : List IlPrem) → AllByRecursion (PremTyped il ls) ps → Within (names_of (flattened (map prem_occurrences ps))) (prems_vars ps)
 prems_named il ls [] h x i = absurd (cc)
 prems_named il ls (p ∷ ps) h x i =
     elim (or-cases (has_name (names_of (prem_occurrences p)) x) (has_name (names_of (flattened (map prem_occurrences ps))) x) (sym (names_of-append (prem_occurrences p) (flattened (map prem_occurrences ps)) x) ∙ i)) [
@@ -83,7 +83,7 @@ prems_named il ls (p ∷ ps) h x i =
 
 -- ---- lists of variables
 
-once_found : (ls : List Listed) → is_once (listed_names ls) ≡ true → AllByRecursion (λ (l : Listed). listed_as l.name ls ≡ Some l) ls
+pub once_found : (ls : List Listed) → is_once (listed_names ls) ≡ true → AllByRecursion (λ (l : Listed). listed_as l.name ls ≡ Some l) ls
 once_found [] h = tt
 once_found (m ∷ ls) h =
     let both = and-both (not (has_name (listed_names ls) m.name)) (is_once (listed_names ls)) h in (
@@ -103,7 +103,7 @@ once_found (m ∷ ls) h =
         by false f = e
 
 -- a variable that is listed occurs
-occurs_somewhere : (os : List Occurrence) (ls : List Listed) → AllByRecursion (λ (l : Listed). Contains os (l.name, l.dim)) ls → (x : Name) → has_name (listed_names ls) x ≡ true → (ks : List Kind) × Contains os (x, ks)
+pub occurs_somewhere : (os : List Occurrence) (ls : List Listed) → AllByRecursion (λ (l : Listed). Contains os (l.name, l.dim)) ls → (x : Name) → has_name (listed_names ls) x ≡ true → (ks : List Kind) × Contains os (x, ks)
 occurs_somewhere os [] h x i = absurd (cc)
 occurs_somewhere os (l ∷ ls) h x i = elim (or-cases (bytes_eq x l.name) (has_name (listed_names ls) x) i) [
   | inl e ↦ (l.dim, subst (λ z. Contains os (z, l.dim)) (sym (bytes-path x l.name e)) h.0)

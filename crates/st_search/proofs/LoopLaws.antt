@@ -76,7 +76,7 @@ use Rattle.st_search.proofs.MeetsAgain.{run_bound}
 use Rattle.st_search.proofs.LoopParts.{unfolded_by, plain_some, agree_in, agree_out, agree_fewer, agree_across, values_none, asks_each, asks_cites, proved_hold, prem_same}
 
 -- what is found at elements is told in the same way where clauses are tried
-beside_same : (elements found : List Env) → all_beside elements found ≡ gather.all_beside elements found
+pub beside_same : (elements found : List Env) → all_beside elements found ≡ gather.all_beside elements found
 beside_same [] found = refl
 beside_same (e ∷ es) [] = refl
 beside_same (e ∷ es) (m ∷ ms) = ap (λ z. beside e m ∷ z) (beside_same es ms)

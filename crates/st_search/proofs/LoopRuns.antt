@@ -1,6 +1,7 @@
 -- What the functions find that run an iterated step: at its elements one after another, and by its
 -- count, its lists and what it gathers.
 use Rattle.std.proofs.Common.{arith, ◌≡◌, ℕ, ◌+◌, ◌<◌, ◌≤◌, ◌^◌, pos, refl, sym, ◌∙◌, ap, subst, List, [], ◌∷◌, ◌++◌, ◌⊎◌, inl, inr, append_assoc, append-nil}
+use Rattle.std.specs.List.{AllByRecursion}
 use Rattle.st_num.specs.Number.{IsNumber}
 use Rattle.st_il.specs.declared.definition.Il.{Il}
 use Rattle.st_il.specs.declared.definition.Listed.{Listed}
@@ -8,24 +9,28 @@ use Rattle.st_il.specs.declared.expression.IlPrem.{IlPrem}
 use Rattle.st_il.specs.declared.expression.Iteration.{Iteration}
 use Rattle.st_il.specs.declared.value.Env.{Env}
 use Rattle.st_il.specs.declared.value.Value.{Value}
-use Rattle.st_semantics.specs.declared.outcome.Outcome.TheVariants.{NoValue, Deep}
+use Rattle.st_semantics.specs.declared.outcome.Outcome.{Outcome}
+use Rattle.st_semantics.specs.declared.outcome.Outcome.TheVariants.{Val, NoValue, Deep}
 use Rattle.st_semantics.specs.declared.outcome.Outcomes.TheVariants.{Values, Stopped}
 use Rattle.st_semantics.specs.Names.{Name, has_name, among}
 use Rattle.st_semantics.specs.Definitions.{syntaxes}
 use Rattle.st_semantics.specs.Environments.{Entry, names_of}
 use Rattle.st_semantics.specs.Iterations.{index_of, Column, heads, bound_to, counted_to, rows, Misfit, Over, spread}
 use Rattle.st_semantics.specs.Scopes.{listed_inside}
+use Rattle.st_semantics.specs.Variables.{prem_vars}
 use Rattle.st_semantics.specs.Evaluation.{GivesAll, tasks}
 use Rattle.st_semantics.specs.Depth.{bound_count}
 use Rattle.st_semantics.specs.Calls.{CallAt}
 use Rattle.st_semantics.specs.Derivation.{Root}
 use Rattle.st_semantics.specs.Laws.{IsStable, CallsAreSingle}
+use Rattle.st_semantics.proofs.Values.{not_value}
 use Rattle.st_match.specs.declared.scope.Bound.{Bound}
 use Rattle.st_match.specs.inner.Scope.{scope_env, entries_of, columns_from}
 use Rattle.st_match.proofs.Builds.{row_at, rows_left, rows_left-all}
 use Rattle.st_algo.specs.declared.algorithm.AlgoStep.{AlgoStep}
 use Rattle.st_eval.specs.Steps.{HasOnly}
 use Rattle.st_eval.specs.inner.AtElements.{AllHaveOnly}
+use Rattle.st_eval.specs.inner.Beside.{beside}
 use Rattle.st_eval.proofs.AllHaveOnly.{AllHaveOnly-rows}
 use Rattle.st_eval.proofs.ElementRows.{rows_left-first, rows_left-end}
 use Rattle.st_eval.proofs.SameNames.{among-same}
@@ -41,7 +46,8 @@ use Rattle.st_search.specs.inner.Gathering.{AreGatheredTo, SomeTooHigh}
 use Rattle.st_search.specs.inner.RunBy.{IsRunBy, IsLoopOf}
 use Rattle.st_search.specs.inner.Rules.{IsSearchedIn}
 use Rattle.st_search.specs.inner.Search.{Solvings, AnswersGoals}
-use Rattle.st_search.specs.inner.Contracts.{Meant, IsShort, FindsWhere, StopsWhere, FindsAtAll, StopsAtAll}
+use Rattle.st_search.specs.inner.Contracts.{Meant, IsShort, FindsWhere, StopsWhere, FindsAtAll, StopsAtAll, BindsWhere, IsBoundBy, BindsAtAll}
+use Rattle.st_search.proofs.Binds.{start_binds, multiplied_binds, loop_binds}
 use Rattle.st_search.proofs.LoopLaws.{count_deep, count_none, lists_misfit, stops_out, loop_found, loop_high}
 use Rattle.st_search.proofs.StepWays.{searched_inside}
 use Rattle.st_search.proofs.WalkLaws.{walk_start, walk_next, walk_stops, walk_rest}
@@ -70,6 +76,7 @@ module _ (il : Il) (n : ℕ) (A : Solvings) (ls : List Listed) (K : Meant) (inde
       (before : List Env) × (rows index xs env size 0 cs ≡ before ++ rows_left index xs env cs size k) × IsShort il n A longest
       × ((left : ℕ) (root : Root) (bound : List Name) (p : IlPrem) → AnswersGoals il n left A → AllHaveOnly il ls bound (rows index xs env size 0 cs) → K bound p → IsSearchedIn il p
       → Finds il n longest (each_seeks il n root bound ls before p) walks)
+      × ((bound : List Name) (p : IlPrem) → AllHaveOnly il ls bound (rows index xs env size 0 cs) → K bound p → AllByRecursion (IsBoundBy il ls (bound ++ prem_vars p) before) walks)
 
   pub walked_start : (longest : ℕ) (walks : List Walk) → longest ≡ 0 → walks ≡ record { envs = []; children = [] } ∷ [] → AreWalked 0 longest walks
   walked_start longest walks none one = (
@@ -77,6 +84,7 @@ module _ (il : Il) (n : ℕ) (A : Solvings) (ls : List Listed) (K : Meant) (inde
     sym (rows_left-all index xs env cs size),
     short_none il n A longest none,
     λ left root bound p answers have can searched. subst (Finds il n longest (each_seeks il n root bound ls [] p)) (sym one) (walk_start il n root bound ls p longest),
+    λ bound p have can. start_binds il ls (bound ++ prem_vars p) walks one,
   )
 
   split : (k longest : ℕ) (walks : List Walk) → k < size → (w : AreWalked k longest walks) → AllElements ≡ w.0 ++ row_at index xs env cs k ∷ rows_left index xs env cs size (k + 1)
@@ -96,17 +104,26 @@ module _ (il : Il) (n : ℕ) (A : Solvings) (ls : List Listed) (K : Meant) (inde
       (subst (λ z. Finds il n longest (each_seeks il n root bound ls z p) []) (sym w.1)
       (walk_rest il n root bound ls p longest w.0 (rows_left index xs env cs size k) (subst (Finds il n longest (each_seeks il n root bound ls w.0 p)) none (w.3 left root bound p answers have can searched))))
 
+  pub bound_none : (walks : List Walk) → walks ≡ [] → BindsAtAll il ls AllElements K walks
+  bound_none walks none bound p have can = subst (AllByRecursion (IsBoundBy il ls (bound ++ prem_vars p) AllElements)) (sym none) tt
+
+  whole : (k longest : ℕ) (walks : List Walk) → size ≤ k → (w : AreWalked k longest walks) → AllElements ≡ w.0
+  whole k longest walks h w = w.1 ∙ (ap (λ z. w.0 ++ z) (rows_left-end index xs env cs size k h) ∙ append-nil w.0)
+
   -- all elements
   pub walked_all : (k longest : ℕ) (walks : List Walk) → size ≤ k → AreWalked k longest walks → FindsAtAll il n A ls AllElements K (record { items = walks; longest = longest })
   walked_all k longest walks h w left root bound p answers have can searched =
-      let whole : AllElements ≡ w.0 = w.1 ∙ (ap (λ z. w.0 ++ z) (rows_left-end index xs env cs size k h) ∙ append-nil w.0) in
-      subst (λ z. Finds il n longest (each_seeks il n root bound ls z p) walks) (sym whole) (w.3 left root bound p answers have can searched)
+      subst (λ z. Finds il n longest (each_seeks il n root bound ls z p) walks) (sym (whole k longest walks h w)) (w.3 left root bound p answers have can searched)
+
+  pub bound_all : (k longest : ℕ) (walks : List Walk) → size ≤ k → AreWalked k longest walks → BindsAtAll il ls AllElements K walks
+  bound_all k longest walks h w bound p have can =
+      subst (λ z. AllByRecursion (IsBoundBy il ls (bound ++ prem_vars p) z) walks) (sym (whole k longest walks h w)) (w.4 bound p have can)
 
   module _ (k longest : ℕ) (walks : List Walk) (bs : List Bound) (h : k < size) (is : entries_of bs ≡ counted_to index k (bound_to xs (heads (columns_from k cs)) env)) (w : AreWalked k longest walks) where
     -- one element more
-    pub walked_next : (found : Found Solution) (longer : List Walk) (most : ℕ) → IsShort il n A found.longest → FindsWhere il n A ls (scope_env bs) K found → longer ≡ multiplied walks found.items
+    pub walked_next : (found : Found Solution) (longer : List Walk) (most : ℕ) → IsShort il n A found.longest → FindsWhere il n A ls (scope_env bs) K found → BindsWhere il ls (scope_env bs) K found.items → longer ≡ multiplied walks found.items
         → longest ≤ most → found.longest ≤ most → (most ≡ longest) ⊎ (most ≡ found.longest) → AreWalked (k + 1) most longer
-    walked_next found longer most short finds longer_is less lesser either =
+    walked_next found longer most short finds binds longer_is less lesser either =
         let row = row_at index xs env cs k in (
           w.0 ++ row ∷ [],
           split k longest walks h w ∙ sym (append_assoc w.0 (row ∷ []) (rows_left index xs env cs size (k + 1))),
@@ -116,6 +133,11 @@ module _ (il : Il) (n : ℕ) (A : Solvings) (ls : List Listed) (K : Meant) (inde
               (walk_next il n root bound ls p w.0 row longest found.longest most walks found.items (w.3 left root bound p answers have can searched)
               (subst (λ (z : List Entry). Finds il n found.longest (step_seeks il n root bound ls (record { entries = z }) p) found.items) is
               (finds left root bound p answers (element_has k longest walks bs h is w bound have) can searched)) less lesser),
+          λ bound p have can.
+              subst (AllByRecursion (IsBoundBy il ls (bound ++ prem_vars p) (w.0 ++ row ∷ []))) (sym longer_is)
+              (multiplied_binds il ls (bound ++ prem_vars p) w.0 row walks found.items (w.4 bound p have can)
+              (subst (λ (z : List Entry). AllByRecursion (λ (x : Solution). HasOnly il ls (bound ++ prem_vars p) (beside (record { entries = z }) x.env)) found.items) is
+              (binds bound p (element_has k longest walks bs h is w bound have) can))),
         )
 
     -- an element that stops
@@ -144,6 +166,16 @@ module _ (il : Il) (stable : IsStable il) (single : CallsAreSingle il) (n : ℕ)
 
   pub loop_none : GivesAll (syntaxes il) (CallAt il n) (tasks env (bound_count known how)) (Stopped NoValue) → FindsWhere il n A ls env IsMeant (record { items = []; longest = 0 })
   loop_none gives left root bound p answers only can searched = count_none il stable single n root bound ls env p how xs can.0 step can.1 only known (same bound only) gives
+
+  pub loop_stopped : (o : Outcome) → GivesAll (syntaxes il) (CallAt il n) (tasks env (bound_count known how)) (Stopped o) → (o ≡ Deep → ⊥) → FindsWhere il n A ls env IsMeant (record { items = []; longest = 0 })
+  loop_stopped (Val v) gives fine = absurd (not_value (syntaxes il) (CallAt il n) (tasks env (bound_count known how)) (Stopped (Val v)) v gives refl)
+  loop_stopped NoValue gives fine = loop_none gives
+  loop_stopped Deep gives fine = absurd (fine refl)
+
+  pub loop_counted : (o : Outcome) → GivesAll (syntaxes il) (CallAt il n) (tasks env (bound_count known how)) (Stopped o) → (s : Stop) → StopsIf (o ≡ Deep) s → StopsWhere il n A ls env IsMeant s
+  loop_counted o gives stop.Meets deep = loop_deep (subst (λ z. GivesAll (syntaxes il) (CallAt il n) (tasks env (bound_count known how)) (Stopped z)) deep gives)
+  loop_counted o gives (stop.Asks chain) deep = absurd deep
+  loop_counted o gives stop.Memory deep = λ left root bound p answers only can searched. tt
 
   module _ (names : List Name) (names_are : names ≡ among known xs) (count : List Value) (gives : GivesAll (syntaxes il) (CallAt il n) (tasks env (bound_count known how)) (Values count)) where
     pub loop_misfit : spread how names env count ≡ Misfit → FindsWhere il n A ls env IsMeant (record { items = []; longest = 0 })
@@ -188,6 +220,13 @@ module _ (il : Il) (stable : IsStable il) (single : CallsAreSingle il) (n : ℕ)
             stops_out il stable single n root bound ls env p how xs can.0 step can.1 only known (same bound only) count gives Elements over_known left s
             (subst (λ z. Stops il n left (each_seeks il n root (index_of how ++ bound) z Elements can.0) s) inside_are
             (stops left root (index_of how ++ bound) can.0 answers (loop_have small bound p only can) (loop_inside bound p can) (searched_inside il p how xs can.0 can.1.each.is searched)))
+
+        -- what is gathered of all walks binds the variables
+        pub loop_bound : (walks : List Walk) → BindsAtAll il inside Elements IsMeantInside walks → (items : List Solution) → AreGatheredTo (syntaxes il) ls known how xs (step_asks step) walks items → BindsWhere il ls env IsMeant items
+        loop_bound walks binds items gathered bound p only can =
+            loop_binds il bound ls env only p how xs can.0 can.1.each known (same bound only) Elements (have_listed bound p only can) (step_asks step) walks items
+            (subst (λ z. AllByRecursion (IsBoundBy il z ((index_of how ++ bound) ++ prem_vars can.0) Elements) walks) inside_are
+            (binds (index_of how ++ bound) can.0 (loop_have small bound p only can) (loop_inside bound p can))) gathered
 
         module _ (walks : Found Walk) (finds : FindsAtAll il n A inside Elements IsMeantInside walks) where
           -- what is gathered of all walks

@@ -65,7 +65,7 @@ module _ (V : Meaning) (env : Env) where
 -- ---- rules
 
 -- what holds of all rules holds of the rule of a number
-rule_with : (P : RuleDef → Type 0) (name : Name) (rs : List RuleDef) (k : ℕ) (r : RuleDef) → All P rs → slice_get (rules_from name rs) k ≡ Some r → P r
+pub rule_with : (P : RuleDef → Type 0) (name : Name) (rs : List RuleDef) (k : ℕ) (r : RuleDef) → All P rs → slice_get (rules_from name rs) k ≡ Some r → P r
 rule_with P name [] k r all e = cc
 rule_with P name (x ∷ xs) k r all e = at (bytes_eq name x.relation) k e (λ j. rule_with P name xs j r (All-tail P x xs all))
   where

@@ -24,7 +24,7 @@ use Rattle.st_search.specs.inner.RunBy.{IsRunBy}
 use Rattle.st_search.specs.inner.Steps.{IsSolution, step_seeks}
 use Rattle.st_search.specs.inner.Rules.{IsSearchedIn, lengthened}
 use Rattle.st_search.specs.inner.Running.{IsLonger, next_seeks, AllEndWith}
-use Rattle.st_search.proofs.Finds.{Finds-start, Finds-next}
+use Rattle.st_search.proofs.Finds.{Each-append, Finds-start, Finds-next}
 use Rattle.st_search.proofs.Sequences.{take_step, take_whole, Stops-at}
 use Rattle.st_search.proofs.Solved.{short_none, short_greater}
 
@@ -60,16 +60,27 @@ module _ (il : Il) (n : ℕ) (A : Solvings) (ls : List Listed) (step : AlgoStep)
   FromEnd end longest found =
       (left : ℕ) (root : Root) (bound : List Name) (p : IlPrem) → AnswersGoals il n left A → HasOnly il ls bound end.env → IsRunBy il bound ls p step → IsSearchedIn il p → Finds il n longest (next_seeks il n root bound ls p end) found
 
+  -- why it stops at one end, and at some ends
+  abbrev pub StopsFrom : Partial → Stop → Type 0
+  StopsFrom end s =
+      (left : ℕ) (root : Root) (bound : List Name) (p : IlPrem) → AnswersGoals il n left A → HasOnly il ls bound end.env → IsRunBy il bound ls p step → IsSearchedIn il p → Stops il n left (next_seeks il n root bound ls p end) s
+
+  abbrev pub StopsFromAll : List Partial → Stop → Type 0
+  StopsFromAll ends s =
+      (left : ℕ) (root : Root) (bound : List Name) (p : IlPrem) → AnswersGoals il n left A → AllEndWith il ls bound ends → IsRunBy il bound ls p step → IsSearchedIn il p → Stops il n left (sought_from (next_seeks il n root bound ls p) ends) s
+
   -- what it finds from the first ends
   pub record AreFrom (ends : List Partial) (i longest : ℕ) (found : List Partial) : Type 0 where
     pub short : IsShort il n A longest
     pub finds : (left : ℕ) (root : Root) (bound : List Name) (p : IlPrem) → AnswersGoals il n left A → AllEndWith il ls bound ends → IsRunBy il bound ls p step → IsSearchedIn il p
         → Finds il n longest (sought_from (next_seeks il n root bound ls p) (take i ends)) found
+    pub binds : (bound : List Name) (p : IlPrem) → AllEndWith il ls bound ends → IsRunBy il bound ls p step → AllEndWith il ls (bound ++ prem_vars p) found
 
   pub from_start : (ends found : List Partial) → found ≡ [] → AreFrom ends 0 0 found
   from_start ends found none = record {
     short = short_none il n A;
     finds = λ left root bound p answers only run searched. subst (Finds il n 0 (sought_from (next_seeks il n root bound ls p) [])) (sym none) (Finds-start il n (next_seeks il n root bound ls p) 0);
+    binds = λ bound p only run. subst (AllEndWith il ls (bound ++ prem_vars p)) (sym none) tt;
   }
 
   pub only_at : (bound : List Name) (ends : List Partial) (i : ℕ) (end : Partial) → i < length ends → end ≡ get_or ends i end → AllEndWith il ls bound ends → HasOnly il ls bound end.env
@@ -78,19 +89,25 @@ module _ (il : Il) (n : ℕ) (A : Solvings) (ls : List Listed) (step : AlgoStep)
   only_at bound (x ∷ xs) (suc i) end h is all = only_at bound xs i end (omega (arith, h)) is all.1
 
   module _ (ends : List Partial) (i : ℕ) (end : Partial) (h : i < length ends) (is : end ≡ get_or ends i end) where
-    pub from_step : (l m k : ℕ) (found others more : List Partial) → AreFrom ends i l found → IsShort il n A m → FromEnd end m others → more ≡ found ++ others → l ≤ k → m ≤ k → (k ≡ l) ⊎ (k ≡ m) → AreFrom ends (i + 1) k more
-    from_step l m k found others more f short finds is_more less lesser one = record {
+    pub from_step : (l m k : ℕ) (found others more : List Partial) → AreFrom ends i l found → IsShort il n A m → FromEnd end m others
+        → ((bound : List Name) (p : IlPrem) → HasOnly il ls bound end.env → IsRunBy il bound ls p step → AllEndWith il ls (bound ++ prem_vars p) others)
+        → more ≡ found ++ others → l ≤ k → m ≤ k → (k ≡ l) ⊎ (k ≡ m) → AreFrom ends (i + 1) k more
+    from_step l m k found others more f short finds binds is_more less lesser one = record {
       short = short_greater il n A l m k one f.short short;
       finds = λ left root bound p answers only run searched.
           subst (λ z. Finds il n k (sought_from (next_seeks il n root bound ls p) z) more) (sym (take_step ends i end h is))
           (subst (Finds il n k (sought_from (next_seeks il n root bound ls p) (take i ends ++ end ∷ []))) (sym is_more)
           (Finds-next il n (next_seeks il n root bound ls p) l m k (take i ends) end found others (f.finds left root bound p answers only run searched)
           (finds left root bound p answers (only_at bound ends i end h is only) run searched) less lesser));
+      binds = λ bound p only run.
+          subst (AllEndWith il ls (bound ++ prem_vars p)) (sym is_more)
+          (Each-append (λ (z : Partial). HasOnly il ls (bound ++ prem_vars p) z.env) found others (f.binds bound p only run) (binds bound p (only_at bound ends i end h is only) run));
     }
 
     -- what stops at one end stops at all
-    pub from_stops : (left : ℕ) (root : Root) (bound : List Name) (p : IlPrem) (s : Stop) → Stops il n left (next_seeks il n root bound ls p end) s → Stops il n left (sought_from (next_seeks il n root bound ls p) ends) s
-    from_stops left root bound p s stops = Stops-at il n left (next_seeks il n root bound ls p) ends i end h is s stops
+    pub from_stopped : (s : Stop) → StopsFrom end s → StopsFromAll ends s
+    from_stopped s stops left root bound p answers only run searched =
+        Stops-at il n left (next_seeks il n root bound ls p) ends i end h is s (stops left root bound p answers (only_at bound ends i end h is only) run searched)
 
   pub from_all : (ends : List Partial) (i longest : ℕ) (found : List Partial) → length ends ≤ i → AreFrom ends i longest found
       → (left : ℕ) (root : Root) (bound : List Name) (p : IlPrem) → AnswersGoals il n left A → AllEndWith il ls bound ends → IsRunBy il bound ls p step → IsSearchedIn il p

@@ -15,10 +15,12 @@ use Rattle.st_semantics.specs.Goals.{Goal}
 use Rattle.st_semantics.specs.Chains.{Follows}
 use Rattle.st_order.specs.Known.{all_now}
 use Rattle.st_search.specs.declared.answer.Output.{Output}
+use Rattle.st_search.specs.declared.answer.SearchFault.{SearchFault}
 use Rattle.st_search.specs.Answers.{AreSorted}
+use Rattle.st_search.specs.inner.Chains.{EndsBehind}
 use Rattle.st_search.specs.inner.Contracts.{IsShort}
 use Rattle.st_search.specs.inner.Ordered.{AreAdded}
-use Rattle.st_search.specs.inner.Rules.{CanBeSearched, numbered_seeks, goal_seeks}
+use Rattle.st_search.specs.inner.Rules.{CanBeSearched, IsFirstRelation, numbered_seeks, goal_seeks}
 use Rattle.st_search.specs.inner.Search.{Solvings, AnswersGoals}
 use Rattle.st_search.specs.inner.Sought.{Finds}
 use Rattle.st_search.proofs.FromRules.{rules_seek, rules_start, rules_step, goal_finds}
@@ -69,6 +71,10 @@ module _ (il : Il) (n : ℕ) (A : Solvings) (relation : ℕ) (inputs : List Valu
   FromRule number rule longest found =
       (left : ℕ) (g : Goal) → AnswersGoals il n left A → CanBeSearched il g.relation → g.inputs ≡ inputs → IsRelation il relation g.relation → Finds il n longest (numbered_seeks il n g number rule) found
 
+  -- by what a rule ends, whatever goal is meant
+  abbrev pub Ended : SearchFault → Type 0
+  Ended fault = (left : ℕ) (g : Goal) → AnswersGoals il n left A → CanBeSearched il g.relation → g.inputs ≡ inputs → IsRelation il relation g.relation → EndsBehind il n left g fault
+
   -- what the first rules derive
   pub record AreRun (rules : List (Bor RuleDef)) (i longest : ℕ) (found : List Output) : Type 0 where
     pub sorted : AreSorted found
@@ -112,8 +118,8 @@ module _ (il : Il) (n : ℕ) (A : Solvings) (relation : ℕ) (inputs : List Valu
     ),
   )
 
-  pub run_all : (rules : List (Bor RuleDef)) (i longest : ℕ) (found : List Output) → length rules ≤ i → ((r : RelationDef) × IsRelation il relation r.name × (all_now rules ≡ rules_of il r.name)) → AreRun rules i longest found
+  pub run_all : (rules : List (Bor RuleDef)) (i longest : ℕ) (found : List Output) → length rules ≤ i → ((name : Name) × IsFirstRelation il relation name × (all_now rules ≡ rules_of il name)) → AreRun rules i longest found
       → ((g : Goal) → CanBeSearched il g.relation → (outputs : List Value) → Derivable il g.relation g.inputs outputs → (number : ℕ) × (rule : RuleDef) × (slice_get (rules_of il g.relation) number ≡ Some rule) × (numbered_seeks il n g number rule).Wanted outputs)
       → (left : ℕ) (g : Goal) → AnswersGoals il n left A → CanBeSearched il g.relation → g.inputs ≡ inputs → IsRelation il relation g.relation → Finds il n longest (goal_seeks il n g) found
-  run_all rules i longest found end (r, is, are) f derived left g answers can same at =
-      goal_finds il n g (all_now rules) i longest found (now_end rules i end) (are ∙ ap (rules_of il) (relation_same il relation r.name g.relation is at)) (derived g can) (asked_by g) (f.finds left g answers can same at)
+  run_all rules i longest found end (name, first, are) f derived left g answers can same at =
+      goal_finds il n g (all_now rules) i longest found (now_end rules i end) (are ∙ ap (rules_of il) (relation_same il relation name g.relation (first.declared, first.is, first.named) at)) (derived g can) (asked_by g) (f.finds left g answers can same at)

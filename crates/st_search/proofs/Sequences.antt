@@ -89,3 +89,10 @@ Stops-at il n left q sources i z h is stop.Memory stops = tt
 -- what stops a call stops the caller
 pub stops_again : {T : Type 0} (P : Type 0) (r : Result T Stop) (s : Stop) → IsErrAnd r (λ (y : Stop). y ≡ s) → StopsIf P s → IfErr r (StopsIf P)
 stops_again P r s h stops = let p = err_from_is_err_and r h in subst (λ z. IfErr z (StopsIf P)) (sym p.1) (subst (StopsIf P) (sym p.2) stops)
+
+-- what ends a call ends the caller, by what becomes of it
+pub ends_by : {T E : Type 0} (Q P : E → Type 0) (r : Result T E) → IsErrAnd r Q → ((y : E) → Q y → P y) → IfErr r P
+ends_by Q P r h f = let w = err_from_is_err_and r h in subst (λ z. IfErr z P) (sym w.1) (f w.0 w.2)
+
+pub ends_again : {T E : Type 0} (P : E → Type 0) (r : Result T E) (s : E) → IsErrAnd r (λ (y : E). y ≡ s) → P s → IfErr r P
+ends_again P r s h p = ends_by (λ y. y ≡ s) P r h (λ y is. subst P (sym is) p)

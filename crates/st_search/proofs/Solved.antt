@@ -1,6 +1,8 @@
 -- Goals that are solved: by what all rules of a relation find, or by a chain.
-use Rattle.std.proofs.Common.{arith, ◌≡◌, refl, sym, subst, ℕ, suc, ◌+◌, ◌<◌, List, [], ◌∷◌, None, Ok, Err, ◌⊎◌, inl, inr, All}
+use Rattle.std.proofs.Common.{arith, ◌≡◌, refl, sym, subst, ℕ, suc, ◌+◌, ◌<◌, List, [], ◌∷◌, None, Ok, Err, ◌⊎◌, inl, inr, All, Result, IfErr}
 use Rattle.std.specs.List.{AllByRecursion}
+use Rattle.std.specs.Result.{IsErrAnd}
+use Rattle.std.proofs.lemmas.Result.{err_from_is_err_and}
 use Rattle.std.proofs.lemmas.List.Elements.{All-cons, All-nil}
 use Rattle.st_il.specs.declared.definition.Il.{Il}
 use Rattle.st_semantics.specs.Goals.{Goal, IsGoal}
@@ -23,6 +25,10 @@ use Rattle.st_search.proofs.AddedFinds.{has_values}
 pub short_greater : (il : Il) (n : ℕ) (A : Solvings) (a b c : ℕ) → (c ≡ a) ⊎ (c ≡ b) → IsShort il n A a → IsShort il n A b → IsShort il n A c
 short_greater il n A a b c (inl e) f g left some answers = subst (λ z. z < left) (sym e) (f left some answers)
 short_greater il n A a b c (inr e) f g left some answers = subst (λ z. z < left) (sym e) (g left some answers)
+
+-- what a call ends by is what the caller ends by
+pub told_again : {T E : Type 0} (P : E → Type 0) (r : Result T E) (f : E) → IsErrAnd r (λ (y : E). y ≡ f) → P f → IfErr r P
+told_again P r f h p = let w = err_from_is_err_and r h in subst (λ z. IfErr z P) (sym w.1) (subst P (sym w.2) p)
 
 pub short_none : (il : Il) (n : ℕ) (A : Solvings) → IsShort il n A 0
 short_none il n A left some answers = some

@@ -51,7 +51,7 @@ use Rattle.st_search.proofs.TreeOf.{order_parts}
 -- ---- inputs
 
 -- what has no variables
-closed_none : (xs : List Name) → nat_eq (length xs) 0 ≡ true → (x : Name) → has_name xs x ≡ true → ⊥
+pub closed_none : (xs : List Name) → nat_eq (length xs) 0 ≡ true → (x : Name) → has_name xs x ≡ true → ⊥
 closed_none [] e x i = cc
 closed_none (y ∷ ys) e x i = let same : length (y ∷ ys) ≡ 0 = eqb-true (length (y ∷ ys)) 0 e in absurd (omega (arith, same))
 

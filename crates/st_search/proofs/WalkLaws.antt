@@ -57,7 +57,7 @@ instance-last : (p : IlPrem) (es : List Env) (e : Env) → each_instance (es ++ 
 instance-last p [] e = refl
 instance-last p (a ∷ es) e = ap (λ z. (a, p) ∷ z) (instance-last p es e)
 
-beside-last : (es fs : List Env) (e f : Env) → length fs ≡ length es → all_beside (es ++ e ∷ []) (fs ++ f ∷ []) ≡ all_beside es fs ++ beside e f ∷ []
+pub beside-last : (es fs : List Env) (e f : Env) → length fs ≡ length es → all_beside (es ++ e ∷ []) (fs ++ f ∷ []) ≡ all_beside es fs ++ beside e f ∷ []
 beside-last [] [] e f l = refl
 beside-last [] (m ∷ ms) e f l = absurd (omega (arith, l))
 beside-last (a ∷ es) [] e f l = absurd (omega (arith, l))
@@ -88,7 +88,7 @@ agree-front names (a ∷ es) rest (m ∷ ms) g =
     (m ∷ k.0, k.1, ap (λ z. m ∷ z) k.2, (g.0, k.3))
 
 module _ (il : Il) (ls : List Listed) (names : List Name) where
-  only-last : (es : List Env) (e : Env) → AllHaveOnly il ls names es → HasOnly il ls names e → AllHaveOnly il ls names (es ++ e ∷ [])
+  pub only-last : (es : List Env) (e : Env) → AllHaveOnly il ls names es → HasOnly il ls names e → AllHaveOnly il ls names (es ++ e ∷ [])
   only-last [] e all k = (k, tt)
   only-last (a ∷ es) e all k = (all.0, only-last es e all.1 k)
 

@@ -1,5 +1,6 @@
 -- What the functions that run a premise promise, for whatever premise it is and whatever is bound.
-use Rattle.std.specs.Prelude.{◌≡◌, ℕ, ◌<◌, ◌≤◌, List}
+use Rattle.std.specs.Prelude.{◌≡◌, ℕ, ◌<◌, ◌≤◌, List, ◌++◌, length}
+use Rattle.std.specs.List.{AllByRecursion}
 use Rattle.st_il.specs.declared.definition.Il.{Il}
 use Rattle.st_il.specs.declared.definition.Listed.{Listed}
 use Rattle.st_il.specs.declared.expression.IlExp.{IlExp}
@@ -8,9 +9,11 @@ use Rattle.st_il.specs.declared.expression.IlPrem.TheOpen.{IlPrem-F}
 use Rattle.st_il.specs.declared.value.Env.{Env}
 use Rattle.st_semantics.specs.Names.{Name}
 use Rattle.st_semantics.specs.Directions.{inputs_of, outputs_of}
+use Rattle.st_semantics.specs.Variables.{prem_vars}
 use Rattle.st_semantics.specs.Derivation.{Root}
 use Rattle.st_eval.specs.Steps.{HasOnly}
 use Rattle.st_eval.specs.inner.AtElements.{AllHaveOnly}
+use Rattle.st_eval.specs.inner.Beside.{beside}
 use Rattle.st_search.specs.declared.found.Found.{Found}
 use Rattle.st_search.specs.declared.found.Solution.{Solution}
 use Rattle.st_search.specs.declared.found.Walk.{Walk}
@@ -18,7 +21,7 @@ use Rattle.st_search.specs.declared.stop.Stop.{Stop}
 use Rattle.st_search.specs.inner.RunBy.{IsJudged}
 use Rattle.st_search.specs.inner.Sought.{Finds, Stops}
 use Rattle.st_search.specs.inner.Steps.{step_seeks}
-use Rattle.st_search.specs.inner.Walks.{each_seeks}
+use Rattle.st_search.specs.inner.Walks.{all_beside, each_seeks}
 use Rattle.st_search.specs.inner.Rules.{IsSearchedIn}
 use Rattle.st_search.specs.inner.Search.{Solvings, AnswersGoals}
 
@@ -58,6 +61,30 @@ StopsAtAll il n A ls elements K stop =
     (left : ℕ) (root : Root) (bound : List Name) (p : IlPrem) → AnswersGoals il n left A
     → AllHaveOnly il ls bound elements → K bound p → IsSearchedIn il p
     → Stops il n left (each_seeks il n root bound ls elements p) stop
+
+-- ---- what is bound, whatever is answered
+
+-- each solution binds the variables of each premise that is meant beside what was bound, and no
+-- others
+abbrev pub BindsWhere : Il → List Listed → Env → Meant → List Solution → Type 0
+BindsWhere il ls env K found =
+    (bound : List Name) (p : IlPrem) → HasOnly il ls bound env → K bound p
+    → AllByRecursion (λ (x : Solution). HasOnly il ls (bound ++ prem_vars p) (beside env x.env))
+    found
+
+-- A walk over elements binds these variables at each of them, and no others.
+pub record IsBoundBy (il : Il) (ls : List Listed) (names : List Name) (elements : List Env)
+    (w : Walk) : Type 0 where
+  pub as_many : length w.envs ≡ length elements
+  pub variables : AllHaveOnly il ls names (all_beside elements w.envs)
+
+-- each walk binds the variables of each premise that is meant at these elements, and no others
+abbrev pub BindsAtAll : Il → List Listed → List Env → Meant → List Walk → Type 0
+BindsAtAll il ls elements K found =
+    (bound : List Name) (p : IlPrem) → AllHaveOnly il ls bound elements → K bound p
+    → AllByRecursion (IsBoundBy il ls (bound ++ prem_vars p) elements) found
+
+-- ---- goals
 
 -- A premise is a goal of the relation with these inputs and outputs.
 pub record IsGoalOf (il : Il) (bound : List Name) (ls : List Listed) (p : IlPrem)
