@@ -1,3 +1,5 @@
+pub mod Insertion
+pub mod NamesLemmas
 pub mod Single
 pub mod Breaches
 pub mod Examples

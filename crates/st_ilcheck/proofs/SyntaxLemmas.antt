@@ -18,7 +18,8 @@ use Rattle.st_ilcheck.specs.declared.cited.Citations.{Citations}
 use Rattle.st_ilcheck.specs.declared.declaring.Declared.{Declared}
 use Rattle.st_ilcheck.specs.Declarations.{IsDeclared, AreNamed, IsOnceIn, IsTag, rule_names, cited}
 use Rattle.st_ilcheck.specs.inner.Cited.{AreCited, AreCitedOnce, CitesOnce}
-use Rattle.st_ilcheck.specs.inner.Declared.{AreDeclared, IsNew, has_pair, rule_pairs}
+use Rattle.st_ilcheck.specs.inner.Declared.{AreDeclared, IsNew, rule_pairs}
+use Rattle.st_ilcheck.specs.inner.Index.{has_pair}
 
 -- ---- names of syntaxes
 

@@ -126,7 +126,7 @@ fn first_breach(
             }
             None => {}
         }
-        let longer = declaring(alloc, before, &defs[at])?;
+        let longer = declaring(before, &defs[at])?;
         before = longer;
     }
     Ok(())
@@ -140,7 +140,7 @@ fn typed_by(alloc: Global, il: &Il, table: &AnyTable) -> Result<(), IlFault>
     ensures refused { (place : ℕ) (rule : TypeRule) → result ≡ Err (IlFault.Refused place rule)
         → IsTypeBreach il.now place rule }
 {
-    let language = Language::of(il, table);
+    let language = Language::of(alloc, il, table)?;
     let defs = il.defs.as_slice();
     let found = syntaxes_in(alloc, defs)?;
     let bodies = Bodies::of(alloc, &found)?;

@@ -12,11 +12,11 @@ ghost use Rattle.st_ilcheck.specs.inner.Cited.{AreCitedOnce, CitesOnce};
 
 use crate::cited::{Citations, cited_by};
 use crate::declaring::{Declared, is_new};
-use crate::listed::has_name;
+use crate::names::Names;
 use crate::once::all_once;
 use crate::tagged::are_tags;
 use st_il::{Il, IlDef, SyntaxBody, SyntaxDef, copy_syntax};
-use st_num::{Name, NoMemory, Row};
+use st_num::{NoMemory, Row};
 use st_type_table::{Bodies, Broken};
 use std::alloc::Global;
 
@@ -77,7 +77,7 @@ fn is_nothing(found: &Option<Broken>) -> bool
 fn keeps_syntax(
     alloc: Global,
     bodies: &Bodies,
-    names: &[Name],
+    names: &Names,
     number: usize,
     syntax: &SyntaxDef,
 ) -> Result<bool, NoMemory>
@@ -87,7 +87,7 @@ fn keeps_syntax(
     ensures { IfOk result (λ kept. IsTrue kept
         ↔ AllHold bodies.now (conditions_on (take number bodies.now) syntax.now)) }
 {
-    if has_name(names, &syntax.name) {
+    if names.has(&syntax.name) {
         return Ok(false);
     }
     let found = bodies.check(alloc, number, 0, part_count(&syntax.body))?;
@@ -113,9 +113,8 @@ fn is_declared(
     let def = &defs[at];
     match def {
         IlDef::Syntax(syntax) => {
-            let names = before.syntaxes.as_slice();
             let number = before.syntaxes.len();
-            let kept = keeps_syntax(alloc, bodies, names, number, syntax)?;
+            let kept = keeps_syntax(alloc, bodies, &before.syntaxes, number, syntax)?;
             Ok(kept)
         }
         _ => Ok(is_new(before, def)),
@@ -127,8 +126,8 @@ fn relations_once(whole: &Declared, cited: &Citations) -> bool
     ensures { IsTrue result ↔ (All (IsOnceIn whole.now.relations) cited.now.relations
         × All (IsOnceIn whole.now.functions) cited.now.functions) }
 {
-    all_once(whole.relations.as_slice(), cited.relations.as_slice())
-        && all_once(whole.functions.as_slice(), cited.functions.as_slice())
+    all_once(&whole.relations, cited.relations.as_slice())
+        && all_once(&whole.functions, cited.functions.as_slice())
 }
 
 /// Whether the names that are cited are declared, once.
@@ -137,7 +136,7 @@ fn names_once(whole: &Declared, cited: &Citations) -> bool
         × (All (IsOnceIn whole.now.relations) cited.now.relations
         × All (IsOnceIn whole.now.functions) cited.now.functions)) }
 {
-    all_once(whole.syntaxes.as_slice(), cited.syntaxes.as_slice()) && relations_once(whole, cited)
+    all_once(&whole.syntaxes, cited.syntaxes.as_slice()) && relations_once(whole, cited)
 }
 
 /// Whether the names that are cited are declared, once, and the tags are templates with as many

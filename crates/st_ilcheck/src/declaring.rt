@@ -1,111 +1,67 @@
 //! The names that definitions declare.
 
-ghost use Rattle.std.specs.Prelude.{◌≡◌, ◌↔◌, ◌&&◌, false, IsTrue, IfOk, bytes_eq};
+ghost use Rattle.std.specs.Prelude.{◌≡◌, ◌↔◌, false, IsTrue, IfOk};
 ghost use Rattle.st_semantics.specs.Names.{has_name};
 ghost use Rattle.st_ilcheck.specs.Declarations.{IsMode};
-ghost use Rattle.st_ilcheck.specs.inner.Declared.{nothing_declared, declaring, AreDeclared, has_pair, IsNew};
+ghost use Rattle.st_ilcheck.specs.inner.Declared.{nothing_declared, declaring, AreDeclared, IsNew};
 
-use crate::listed::has_name;
+use crate::names::{Names, Pairs};
 use st_il::{IlDef, RelationDef};
-use st_num::{Name, NoMemory, Row};
+use st_num::NoMemory;
 use std::alloc::Global;
 
 /// The names that definitions declare, in order. A rule stands with its relation.
 #[derive(Drop)]
-pub(crate) struct Declared {
-    pub(crate) syntaxes: Row<Name>,
-    pub(crate) variables: Row<Name>,
-    pub(crate) relations: Row<Name>,
-    pub(crate) rules: Row<(Name, Name)>,
-    pub(crate) functions: Row<Name>,
+pub(crate) struct Declared<'a> {
+    pub(crate) syntaxes: Names<'a>,
+    pub(crate) variables: Names<'a>,
+    pub(crate) relations: Names<'a>,
+    pub(crate) rules: Pairs<'a>,
+    pub(crate) functions: Names<'a>,
 }
 
 /// Nothing is declared.
-pub(crate) fn nothing_declared(alloc: Global) -> Declared
+pub(crate) fn nothing_declared<'a>(alloc: Global) -> Declared<'a>
     ensures { result ≡ nothing_declared }
 {
     Declared {
-        syntaxes: Row::new(alloc),
-        variables: Row::new(alloc),
-        relations: Row::new(alloc),
-        rules: Row::new(alloc),
-        functions: Row::new(alloc),
+        syntaxes: Names::new(alloc),
+        variables: Names::new(alloc),
+        relations: Names::new(alloc),
+        rules: Pairs::new(alloc),
+        functions: Names::new(alloc),
     }
 }
 
 /// What is declared with one more definition behind the others.
-pub(crate) fn declaring(
-    alloc: Global,
-    declared: Declared,
-    def: &IlDef,
-) -> Result<Declared, NoMemory>
-    ensures { IfOk result (λ longer. longer ≡ declaring def.now declared) }
+pub(crate) fn declaring<'a>(
+    declared: Declared<'a>,
+    def: &'a IlDef,
+) -> Result<Declared<'a>, NoMemory>
+    ensures { IfOk result (λ longer. longer ≡ declaring def.now declared.entry) }
 {
+    let mut longer = declared;
     match def {
-        IlDef::Syntax(syntax) => {
-            let name = syntax.name.copy(alloc)?;
-            let mut longer = declared;
-            longer.syntaxes.push(name)?;
-            Ok(longer)
-        }
-        IlDef::Var(name, _) => {
-            let name = name.copy(alloc)?;
-            let mut longer = declared;
-            longer.variables.push(name)?;
-            Ok(longer)
-        }
-        IlDef::Relation(relation) => {
-            let name = relation.name.copy(alloc)?;
-            let mut longer = declared;
-            longer.relations.push(name)?;
-            Ok(longer)
-        }
-        IlDef::Rule(rule) => {
-            let relation = rule.relation.copy(alloc)?;
-            let name = rule.name.copy(alloc)?;
-            let mut longer = declared;
-            longer.rules.push((relation, name))?;
-            Ok(longer)
-        }
-        IlDef::Fun(fun) => {
-            let name = fun.name.copy(alloc)?;
-            let mut longer = declared;
-            longer.functions.push(name)?;
-            Ok(longer)
-        }
-        IlDef::Clause(_) => Ok(declared),
+        IlDef::Syntax(syntax) => longer.syntaxes.push(&syntax.name)?,
+        IlDef::Var(name, _) => longer.variables.push(name)?,
+        IlDef::Relation(relation) => longer.relations.push(&relation.name)?,
+        IlDef::Rule(rule) => longer.rules.push(&rule.relation, &rule.name)?,
+        IlDef::Fun(fun) => longer.functions.push(&fun.name)?,
+        IlDef::Clause(_) => {}
     }
+    Ok(longer)
 }
 
 /// What these definitions declare.
-pub(crate) fn declared_by(alloc: Global, defs: &[IlDef]) -> Result<Declared, NoMemory>
+pub(crate) fn declared_by<'a>(alloc: Global, defs: &'a [IlDef]) -> Result<Declared<'a>, NoMemory>
     ensures { IfOk result (λ declared. AreDeclared defs.now declared) }
 {
     let mut declared = nothing_declared(alloc);
     for def in defs {
-        let longer = declaring(alloc, declared, def)?;
+        let longer = declaring(declared, def)?;
         declared = longer;
     }
     Ok(declared)
-}
-
-/// Whether a rule of this relation has the name.
-fn has_rule(rules: &[(Name, Name)], relation: &Name, name: &Name) -> bool
-    ensures { result ≡ has_pair relation.now name.now rules.now }
-{
-    for rule in rules {
-        if is_pair(rule, relation, name) {
-            return true;
-        }
-    }
-    false
-}
-
-/// Whether a rule is of this relation and has the name.
-fn is_pair(rule: &(Name, Name), relation: &Name, name: &Name) -> bool
-    ensures { result ≡ (bytes_eq relation.now rule.now.0 && bytes_eq name.now rule.now.1) }
-{
-    relation.as_slice() == rule.0.as_slice() && name.as_slice() == rule.1.as_slice()
 }
 
 /// Whether the numbers are one.
@@ -130,7 +86,7 @@ fn is_new_relation(before: &Declared, relation: &RelationDef) -> bool
     ensures { IsTrue result
         ↔ ((has_name before.now.relations relation.now.name ≡ false) × IsMode relation.now) }
 {
-    if has_name(before.relations.as_slice(), &relation.name) {
+    if before.relations.has(&relation.name) {
         return false;
     }
     is_mode(relation)
@@ -143,9 +99,9 @@ pub(crate) fn is_new(before: &Declared, def: &IlDef) -> bool
 {
     match def {
         IlDef::Syntax(_) | IlDef::Clause(_) => true,
-        IlDef::Var(name, _) => !has_name(before.variables.as_slice(), name),
+        IlDef::Var(name, _) => !before.variables.has(name),
         IlDef::Relation(relation) => is_new_relation(before, relation),
-        IlDef::Rule(rule) => !has_rule(before.rules.as_slice(), &rule.relation, &rule.name),
-        IlDef::Fun(fun) => !has_name(before.functions.as_slice(), &fun.name),
+        IlDef::Rule(rule) => !before.rules.has(&rule.relation, &rule.name),
+        IlDef::Fun(fun) => !before.functions.has(&fun.name),
     }
 }

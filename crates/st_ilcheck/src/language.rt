@@ -1,74 +1,18 @@
-//! The language whose expressions are typed, with a table of its syntaxes.
+//! The language whose expressions are typed, with tables of what it declares.
 
-ghost use Rattle.std.specs.Prelude.{◌≡◌, [], ◌∷◌, find, bytes_eq};
+ghost use Rattle.std.specs.Prelude.{◌≡◌};
 ghost use Rattle.std.specs.Option.{option_copied};
-ghost use Rattle.st_il.specs.declared.definition.FunDef.{FunDef};
-ghost use Rattle.st_il.specs.declared.definition.RelationDef.{RelationDef};
 ghost use Rattle.st_il.specs.declared.ty.Ty.{out-Ty};
 ghost use Rattle.st_ilcheck.specs.inner.Elements.{element_at, is_sequence};
-ghost use Rattle.st_ilcheck.specs.inner.Steps.{function_in, relation_in};
 
+use crate::heads::{functions_by_name, relations_by_name};
+use crate::index::at;
+use indexmap::IndexMap;
 use st_any_table::AnyTable;
-use st_il::{FunDef, Il, IlDef, RelationDef, Ty};
+use st_il::{FunDef, Il, RelationDef, Ty};
 use st_num::{Name, NoMemory, Row};
 use std::alloc::Global;
 use std::marker::Model;
-
-/// The function that is declared here, if it has this name.
-fn function_at<'a>(def: &'a IlDef, name: &Name) -> Option<&'a FunDef>
-    ensures { option_copied result ≡ function_in name.now (def.now ∷ []) }
-{
-    match def {
-        IlDef::Fun(fun) => {
-            if name.as_slice() == fun.name.as_slice() {
-                return Some(fun);
-            }
-            None
-        }
-        IlDef::Syntax(_) | IlDef::Var(_, _) | IlDef::Relation(_) => None,
-        IlDef::Rule(_) | IlDef::Clause(_) => None,
-    }
-}
-
-/// The relation that is declared here, if it has this name.
-fn relation_at<'a>(def: &'a IlDef, name: &Name) -> Option<&'a RelationDef>
-    ensures { option_copied result ≡ relation_in name.now (def.now ∷ []) }
-{
-    match def {
-        IlDef::Relation(relation) => {
-            if name.as_slice() == relation.name.as_slice() {
-                return Some(relation);
-            }
-            None
-        }
-        IlDef::Syntax(_) | IlDef::Var(_, _) | IlDef::Fun(_) => None,
-        IlDef::Rule(_) | IlDef::Clause(_) => None,
-    }
-}
-
-/// The first function of this name.
-fn function_in<'a>(defs: &'a [IlDef], name: &Name) -> Option<&'a FunDef>
-    ensures { option_copied result ≡ function_in name.now defs.now }
-{
-    for def in defs {
-        if let Some(fun) = function_at(def, name) {
-            return Some(fun);
-        }
-    }
-    None
-}
-
-/// The first relation of this name.
-fn relation_in<'a>(defs: &'a [IlDef], name: &Name) -> Option<&'a RelationDef>
-    ensures { option_copied result ≡ relation_in name.now defs.now }
-{
-    for def in defs {
-        if let Some(relation) = relation_at(def, name) {
-            return Some(relation);
-        }
-    }
-    None
-}
 
 /// The type of the elements, where the type is written as one of lists.
 fn element_of(ty: &Ty) -> Option<&Ty>
@@ -92,19 +36,21 @@ fn is_sequence(ty: &Ty) -> bool
     }
 }
 
-/// A language with a table of its syntaxes. Contracts see the language alone.
+/// A language with a table of its syntaxes, and its functions and relations by their names.
+/// Contracts see the language alone.
 #[derive(Drop)]
 pub(crate) struct Language<'a> {
     il: &'a Il,
     table: &'a AnyTable,
+    functions: IndexMap<&'a Name, &'a FunDef>,
+    relations: IndexMap<&'a Name, &'a RelationDef>,
 }
 
 impl<'a> Model for Language<'a> {
-    ghost use Rattle.std.specs.Prelude.{◌≡◌};
     ghost use Rattle.std.specs.Coded.{codes};
     ghost use Rattle.st_il.specs.declared.definition.Il.{Il};
     ghost use Rattle.st_il.specs.contracts.definition.Il.{the_row as il_row};
-    ghost use Rattle.st_semantics.specs.Definitions.{syntaxes};
+    ghost use Rattle.st_ilcheck.specs.inner.Heads.{IsIndexed};
 
     ghost Value = { Il };
 
@@ -112,7 +58,8 @@ impl<'a> Model for Language<'a> {
 
     ghost view = { λ l. l.il.now };
 
-    ghost invariant = { λ l. l.table.now ≡ syntaxes l.il.now };
+    ghost invariant = { λ l.
+        IsIndexed l.il.now l.table.now l.functions.entries l.relations.entries };
 }
 
 impl<'a> Language<'a> {
@@ -130,11 +77,22 @@ impl<'a> Language<'a> {
     ghost use Rattle.st_type_table.specs.inner.TypedLevels.{HasOperands};
 
     /// The language, whose syntaxes are those of the table.
-    pub(crate) fn of(il: &'a Il, table: &'a AnyTable) -> Language<'a>
+    pub(crate) fn of(
+        alloc: Global,
+        il: &'a Il,
+        table: &'a AnyTable,
+    ) -> Result<Language<'a>, NoMemory>
         requires { table.now ≡ syntaxes il.now }
-        ensures { result ≡ il.now }
+        ensures { IfOk result (λ language. language ≡ il.now) }
     {
-        Language { il, table }
+        let functions = functions_by_name(alloc, il.defs.as_slice())?;
+        let relations = relations_by_name(alloc, il.defs.as_slice())?;
+        Ok(Language {
+            il,
+            table,
+            functions,
+            relations,
+        })
     }
 
     /// Whether the types are equal through aliases.
@@ -201,13 +159,13 @@ impl<'a> Language<'a> {
     pub(crate) fn function(&self, name: &Name) -> Option<&FunDef>
         ensures { option_copied result ≡ function_named self.now name.now }
     {
-        function_in(self.il.defs.as_slice(), name)
+        at(&self.functions, name)
     }
 
     /// The relation of this name.
     pub(crate) fn relation(&self, name: &Name) -> Option<&RelationDef>
         ensures { option_copied result ≡ relation_named self.now name.now }
     {
-        relation_in(self.il.defs.as_slice(), name)
+        at(&self.relations, name)
     }
 }

@@ -1,6 +1,6 @@
 -- What is found binds the variables of premises beside what was bound, and no others, whatever is
 -- answered to the goals.
-use Rattle.std.proofs.Common.{◌≡◌, refl, sym, ◌∙◌, ap, subst, ℕ, ◌+◌, Bool, List, [], ◌∷◌, ◌++◌, length, length-append}
+use Rattle.std.proofs.Common.{◌≡◌, refl, sym, ◌∙◌, ap, subst, ℕ, ◌+◌, Bool, List, [], ◌∷◌, ◌++◌, length-append}
 use Rattle.std.specs.Prelude.{Contains}
 use Rattle.std.specs.List.{AllByRecursion}
 use Rattle.std.proofs.lemmas.List.Elements.{All-contains_itself}
@@ -13,7 +13,6 @@ use Rattle.st_il.specs.declared.tree.Child.TheVariants as child
 use Rattle.st_il.specs.declared.value.Env.{Env}
 use Rattle.st_semantics.specs.Names.{Name, has_name}
 use Rattle.st_semantics.specs.Definitions.{syntaxes}
-use Rattle.st_semantics.specs.Directions.{outputs_of}
 use Rattle.st_semantics.specs.Iterations.{index_of}
 use Rattle.st_semantics.specs.Scopes.{listed_inside}
 use Rattle.st_semantics.specs.Variables.{vars_of, prem_vars}
@@ -30,10 +29,10 @@ use Rattle.st_search.specs.declared.found.Solution.{Solution}
 use Rattle.st_search.specs.declared.found.Walk.{Walk}
 use Rattle.st_search.specs.declared.holes.Evaluated.TheVariants.{Computed}
 use Rattle.st_search.specs.declared.holes.Hole.{Hole}
-use Rattle.st_search.specs.inner.Contracts.{IsGoalOf, IsBoundBy}
+use Rattle.st_search.specs.inner.Contracts.{IsGoalOf, IsBoundBy, BindsWhere}
 use Rattle.st_search.specs.inner.Gathering.{IsGatheredTo, holds, fails, AreGatheredTo}
 use Rattle.st_search.specs.inner.Holes.{matched_of}
-use Rattle.st_search.specs.inner.Meeting.{AreMeetings, misfit, fits, MeetsAnswer, AllMeetings}
+use Rattle.st_search.specs.inner.Meeting.{AreMeetings, misfit, fits, AllMeetings}
 use Rattle.st_search.specs.inner.RunBy.{IsIterated}
 use Rattle.st_search.specs.inner.Rules.{lengthened}
 use Rattle.st_search.specs.inner.Running.{AllEndWith}
@@ -93,6 +92,12 @@ module _ (il : Il) (bound : List Name) (ls : List Listed) (env : Env) (only : Ha
   goal_binds [] found all = subst (Bind il ls env (bound ++ prem_vars p)) (sym all) tt
   goal_binds (o ∷ items) found all = subst (Bind il ls env (bound ++ prem_vars p)) (sym all.4)
       (Each-append (λ (x : Solution). HasOnly il ls (bound ++ prem_vars p) (beside env x.env)) all.0 all.1 (meeting_binds o all.0 all.2) (goal_binds items all.1 all.3))
+
+-- what meets the answers, by the patterns that are matched
+pub answered_binds : (il : Il) (ls : List Listed) (env : Env) (relation : Name) (outs patterns : List IlExp) (holes : List Hole) (items : List Output) (found : List Solution) → patterns ≡ matched_of Computed outs → AllMeetings (syntaxes il) ls env holes patterns items found
+    → BindsWhere il ls env (λ bound p. (ins : List IlExp) × IsGoalOf il bound ls p relation ins outs) found
+answered_binds il ls env relation outs patterns holes items found are all bound p only goal =
+    goal_binds il bound ls env only p relation goal.0 outs goal.1 holes items found (subst (λ z. AllMeetings (syntaxes il) ls env holes z items found) are all)
 
 -- ---- walks over elements
 

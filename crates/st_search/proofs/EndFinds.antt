@@ -1,6 +1,7 @@
 -- What is found at the ends of the runs of a rule.
-use Rattle.std.proofs.Common.{arith, ◌≡◌, refl, sym, ◌∙◌, ap, ap₂, subst, ℕ, zero, suc, ◌+◌, ◌<◌, ◌≤◌, ◌^◌, List, [], ◌∷◌, ◌++◌, length, take, get_or, All, Ok, append-nil}
+use Rattle.std.proofs.Common.{arith, Bool, true, nat_eq, ◌≡◌, refl, sym, ◌∙◌, ap, subst, ℕ, zero, suc, ◌+◌, ◌<◌, ◌≤◌, List, [], ◌∷◌, ◌++◌, length, take, get_or, All, Ok, append-nil}
 use Rattle.std.specs.List.{AllByRecursion}
+use Rattle.std.proofs.lemmas.Bool.{eqb-true}
 use Rattle.st_il.specs.declared.definition.Il.{Il}
 use Rattle.st_il.specs.declared.definition.RuleDef.{RuleDef}
 use Rattle.st_il.specs.declared.tree.Tree.{Tree}
@@ -24,12 +25,13 @@ use Rattle.st_semantics.proofs.Nodes.{rule_of}
 use Rattle.st_eval.specs.Steps.{HasOnly}
 use Rattle.st_search.specs.Searchable.{CanBeRun}
 use Rattle.st_search.specs.declared.answer.Output.{Output}
+use Rattle.st_search.specs.declared.found.Found.{Found}
 use Rattle.st_search.specs.declared.found.Partial.{Partial}
 use Rattle.st_search.specs.declared.tree.Place.{Place}
 use Rattle.st_search.specs.inner.Holes.{SomeGives}
 use Rattle.st_search.specs.inner.Rules.{IsPartial, run_seeks}
 use Rattle.st_search.specs.inner.Running.{AllEndWith, end_seeks, IsRuleOf, IsPlace}
-use Rattle.st_search.specs.inner.Sought.{Finds, sought_from}
+use Rattle.st_search.specs.inner.Sought.{Sought, Finds, sought_from}
 use Rattle.st_search.specs.inner.Trees.{merged, arranged}
 use Rattle.st_search.proofs.Finds.{Each-weaken, Finds-start, Finds-next}
 use Rattle.st_search.proofs.RuleFinds.{end_none, end_found}
@@ -83,14 +85,18 @@ module _ (il : Il) (n : ℕ) (place : Place) (ins : List Value) where
       (Finds-next il n (end_seeks il n g place.rule.now) 0 0 0 (take i ends) end found others (so_far g same is right)
       (here g same is (each_at (IsPartial il n g place.number place.rule.now (in_order place.rule.now.premises place.order.now)) ends i end h at right)) (omega arith) (omega arith)))
 
-  pub from_all : (ends : List Partial) (i : ℕ) (found : List Output) → length ends ≤ i → AreFrom ends i found
-      → (g : Goal) → g.inputs ≡ ins → IsPlace il g.relation place → AllByRecursion (IsPartial il n g place.number place.rule.now (in_order place.rule.now.premises place.order.now)) ends
+  abbrev pub AreAll : List Partial → List Output → Type 0
+  AreAll ends found =
+      (g : Goal) → g.inputs ≡ ins → IsPlace il g.relation place → AllByRecursion (IsPartial il n g place.number place.rule.now (in_order place.rule.now.premises place.order.now)) ends
       → Finds il n 0 (sought_from (end_seeks il n g place.rule.now) ends) found
+
+  pub from_all : (ends : List Partial) (i : ℕ) (found : List Output) → length ends ≤ i → AreFrom ends i found → AreAll ends found
   from_all ends i found h f g same is right = subst (λ z. Finds il n 0 (sought_from (end_seeks il n g place.rule.now) z) found) (take_whole ends i h) (f g same is right)
 
 -- ---- where a rule stands
 
-one_order : (il : Il) (rule : RuleDef) (a b : List ℕ) → order_of il rule ≡ Ok a → order_of il rule ≡ Ok b → a ≡ b
+-- the order of a rule is one
+pub one_order : (il : Il) (rule : RuleDef) (a b : List ℕ) → order_of il rule ≡ Ok a → order_of il rule ≡ Ok b → a ≡ b
 one_order il rule a b e f = let both : Ok a ≡ Ok b = sym e ∙ f in cc
 
 -- a place with what is known of its rule
@@ -102,15 +108,30 @@ place_is il g place order relation rule ordered holes = record {
   holes = holes ∙ ap (mask il) (sym (rule_of g.relation (rules_in il.defs) place.number place.rule.now rule.is_rule).0);
 }
 
--- the order of a rule is one
+-- so it is where a rule stands
 pub order_is : (il : Il) (relation : Name) (number : ℕ) (rule : RuleDef) (order other : List ℕ) → IsRuleOf il relation number rule order → order_of il rule ≡ Ok other → other ≡ order
 order_is il relation number rule order other is ordered = one_order il rule other order ordered is.is_order
 
--- the inputs bind the variables that they have, whatever the goal is
-pub starts_only : (il : Il) (n : ℕ) (rule : RuleDef) (ins : List Value) (starts : List Partial) → ((g : Goal) (number : ℕ) → g.inputs ≡ ins → Finds il n 0 (run_seeks il n g number rule []) starts) → AllEndWith il rule.variables (vars_of (inputs_of_rule il rule)) starts
+-- ---- where the run of a rule starts
+
+-- these are found where the inputs have the values of a goal, whatever goal it is
+abbrev pub AreStarts : Il → ℕ → RuleDef → List Value → List Partial → Type 0
+AreStarts il n rule ins starts = (g : Goal) (number : ℕ) → g.inputs ≡ ins → Finds il n 0 (run_seeks il n g number rule []) starts
+
+-- at each of them the variables of the inputs are bound
+pub starts_only : (il : Il) (n : ℕ) (rule : RuleDef) (ins : List Value) (starts : List Partial) → AreStarts il n rule ins starts → AllEndWith il rule.variables (vars_of (inputs_of_rule il rule)) starts
 starts_only il n rule ins starts finds =
     subst (λ z. AllEndWith il rule.variables z starts) (append-nil (vars_of (inputs_of_rule il rule)))
     (Each-weaken (IsPartial il n g 0 rule []) (λ (end : Partial). HasOnly il rule.variables (bound_behind (inputs_of_rule il rule) []) end.env) (λ end partial. partial.variables) starts (finds g 0 refl).sound)
   where
     g : Goal
     g = record { relation = []; inputs = ins }
+
+-- where there is none
+pub empty_ends : (ends : List Partial) (is : Bool) → is ≡ nat_eq (length ends) 0 → is ≡ true → ends ≡ []
+empty_ends [] is e holds = refl
+empty_ends (end ∷ ends) is e holds = let none : length (end ∷ ends) ≡ 0 = eqb-true (length (end ∷ ends)) 0 (sym e ∙ holds) in absurd (omega (arith, none))
+
+-- where nothing is found
+pub none_found : (il : Il) (n : ℕ) (q : Sought Output (List Value)) (found : Found Output) → found.items ≡ [] → found.longest ≡ 0 → Finds il n 0 q [] → Finds il n found.longest q found.items
+none_found il n q found first second f = subst (λ z. Finds il n z q found.items) (sym second) (subst (Finds il n 0 q) (sym first) f)

@@ -172,10 +172,8 @@ module _ (il : Il) (stable : IsStable il) (single : CallsAreSingle il) (n : ℕ)
   loop_stopped NoValue gives fine = loop_none gives
   loop_stopped Deep gives fine = absurd (fine refl)
 
-  pub loop_counted : (o : Outcome) → GivesAll (syntaxes il) (CallAt il n) (tasks env (bound_count known how)) (Stopped o) → (s : Stop) → StopsIf (o ≡ Deep) s → StopsWhere il n A ls env IsMeant s
-  loop_counted o gives stop.Meets deep = loop_deep (subst (λ z. GivesAll (syntaxes il) (CallAt il n) (tasks env (bound_count known how)) (Stopped z)) deep gives)
-  loop_counted o gives (stop.Asks chain) deep = absurd deep
-  loop_counted o gives stop.Memory deep = λ left root bound p answers only can searched. tt
+  pub loop_counted : (o : Outcome) → GivesAll (syntaxes il) (CallAt il n) (tasks env (bound_count known how)) (Stopped o) → (s : Stop) → (o ≡ Deep) × (s ≡ stop.Meets) → StopsWhere il n A ls env IsMeant s
+  loop_counted o gives s (deep, meets) = subst (StopsWhere il n A ls env IsMeant) (sym meets) (loop_deep (subst (λ z. GivesAll (syntaxes il) (CallAt il n) (tasks env (bound_count known how)) (Stopped z)) deep gives))
 
   module _ (names : List Name) (names_are : names ≡ among known xs) (count : List Value) (gives : GivesAll (syntaxes il) (CallAt il n) (tasks env (bound_count known how)) (Values count)) where
     pub loop_misfit : spread how names env count ≡ Misfit → FindsWhere il n A ls env IsMeant (record { items = []; longest = 0 })

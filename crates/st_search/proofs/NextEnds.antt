@@ -60,6 +60,18 @@ module _ (il : Il) (n : ℕ) (A : Solvings) (ls : List Listed) (step : AlgoStep)
   FromEnd end longest found =
       (left : ℕ) (root : Root) (bound : List Name) (p : IlPrem) → AnswersGoals il n left A → HasOnly il ls bound end.env → IsRunBy il bound ls p step → IsSearchedIn il p → Finds il n longest (next_seeks il n root bound ls p end) found
 
+  -- what it binds behind one end, and behind some ends
+  abbrev pub BindsFrom : Partial → List Partial → Type 0
+  BindsFrom end found = (bound : List Name) (p : IlPrem) → HasOnly il ls bound end.env → IsRunBy il bound ls p step → AllEndWith il ls (bound ++ prem_vars p) found
+
+  abbrev pub BindsFromAll : List Partial → List Partial → Type 0
+  BindsFromAll ends found = (bound : List Name) (p : IlPrem) → AllEndWith il ls bound ends → IsRunBy il bound ls p step → AllEndWith il ls (bound ++ prem_vars p) found
+
+  -- what it finds from some ends
+  abbrev pub FindsFromAll : List Partial → ℕ → List Partial → Type 0
+  FindsFromAll ends longest found =
+      (left : ℕ) (root : Root) (bound : List Name) (p : IlPrem) → AnswersGoals il n left A → AllEndWith il ls bound ends → IsRunBy il bound ls p step → IsSearchedIn il p → Finds il n longest (sought_from (next_seeks il n root bound ls p) ends) found
+
   -- why it stops at one end, and at some ends
   abbrev pub StopsFrom : Partial → Stop → Type 0
   StopsFrom end s =
@@ -74,7 +86,7 @@ module _ (il : Il) (n : ℕ) (A : Solvings) (ls : List Listed) (step : AlgoStep)
     pub short : IsShort il n A longest
     pub finds : (left : ℕ) (root : Root) (bound : List Name) (p : IlPrem) → AnswersGoals il n left A → AllEndWith il ls bound ends → IsRunBy il bound ls p step → IsSearchedIn il p
         → Finds il n longest (sought_from (next_seeks il n root bound ls p) (take i ends)) found
-    pub binds : (bound : List Name) (p : IlPrem) → AllEndWith il ls bound ends → IsRunBy il bound ls p step → AllEndWith il ls (bound ++ prem_vars p) found
+    pub binds : BindsFromAll ends found
 
   pub from_start : (ends found : List Partial) → found ≡ [] → AreFrom ends 0 0 found
   from_start ends found none = record {
@@ -89,8 +101,7 @@ module _ (il : Il) (n : ℕ) (A : Solvings) (ls : List Listed) (step : AlgoStep)
   only_at bound (x ∷ xs) (suc i) end h is all = only_at bound xs i end (omega (arith, h)) is all.1
 
   module _ (ends : List Partial) (i : ℕ) (end : Partial) (h : i < length ends) (is : end ≡ get_or ends i end) where
-    pub from_step : (l m k : ℕ) (found others more : List Partial) → AreFrom ends i l found → IsShort il n A m → FromEnd end m others
-        → ((bound : List Name) (p : IlPrem) → HasOnly il ls bound end.env → IsRunBy il bound ls p step → AllEndWith il ls (bound ++ prem_vars p) others)
+    pub from_step : (l m k : ℕ) (found others more : List Partial) → AreFrom ends i l found → IsShort il n A m → FromEnd end m others → BindsFrom end others
         → more ≡ found ++ others → l ≤ k → m ≤ k → (k ≡ l) ⊎ (k ≡ m) → AreFrom ends (i + 1) k more
     from_step l m k found others more f short finds binds is_more less lesser one = record {
       short = short_greater il n A l m k one f.short short;
@@ -109,8 +120,6 @@ module _ (il : Il) (n : ℕ) (A : Solvings) (ls : List Listed) (step : AlgoStep)
     from_stopped s stops left root bound p answers only run searched =
         Stops-at il n left (next_seeks il n root bound ls p) ends i end h is s (stops left root bound p answers (only_at bound ends i end h is only) run searched)
 
-  pub from_all : (ends : List Partial) (i longest : ℕ) (found : List Partial) → length ends ≤ i → AreFrom ends i longest found
-      → (left : ℕ) (root : Root) (bound : List Name) (p : IlPrem) → AnswersGoals il n left A → AllEndWith il ls bound ends → IsRunBy il bound ls p step → IsSearchedIn il p
-      → Finds il n longest (sought_from (next_seeks il n root bound ls p) ends) found
+  pub from_all : (ends : List Partial) (i longest : ℕ) (found : List Partial) → length ends ≤ i → AreFrom ends i longest found → FindsFromAll ends longest found
   from_all ends i longest found end f left root bound p answers only run searched =
       subst (λ z. Finds il n longest (sought_from (next_seeks il n root bound ls p) z) found) (take_whole ends i end) (f.finds left root bound p answers only run searched)

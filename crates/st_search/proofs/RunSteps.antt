@@ -1,13 +1,12 @@
 -- The run of a rule, premise by premise in its order.
 use Rattle.std.proofs.Common.{arith, ◌≡◌, refl, sym, ◌∙◌, ap, subst, ℕ, zero, suc, ◌+◌, ◌<◌, ◌≤◌, List, [], ◌∷◌, ◌++◌, length, get_or, ◌⊎◌, inl, inr, Some, Result, Ok, Err, IfErr, slice_get, append_assoc, append-nil, length-append}
-use Rattle.std.specs.List.{AllByRecursion}
 use Rattle.st_il.specs.declared.definition.Il.{Il}
+use Rattle.st_il.specs.declared.definition.Listed.{Listed}
 use Rattle.st_il.specs.declared.definition.RuleDef.{RuleDef}
 use Rattle.st_il.specs.declared.expression.IlExp.{IlExp}
 use Rattle.st_il.specs.declared.expression.IlPrem.{IlPrem}
 use Rattle.st_semantics.specs.Names.{Name}
-use Rattle.st_semantics.specs.Variables.{vars_of, prem_vars, prems_vars}
-use Rattle.st_semantics.specs.Derivation.{Root}
+use Rattle.st_semantics.specs.Variables.{vars_of, prem_vars}
 use Rattle.st_semantics.specs.Reaching.{bound_behind}
 use Rattle.st_semantics.specs.Orders.{inputs_of_rule, in_order}
 use Rattle.st_semantics.specs.OrderOf.{order_of}
@@ -25,10 +24,12 @@ use Rattle.st_search.specs.declared.stop.Stop.{Stop}
 use Rattle.st_search.specs.inner.Chains.{EndsBehind, fault_by}
 use Rattle.st_search.specs.inner.Contracts.{IsShort}
 use Rattle.st_search.specs.inner.RunBy.{IsRunBy}
-use Rattle.st_search.specs.inner.Rules.{CanBeSearched, IsSearchedIn, IsPartial, run_seeks}
-use Rattle.st_search.specs.inner.Running.{AllEndWith, IsRuleOf, next_seeks}
+use Rattle.st_search.specs.inner.Rules.{CanBeSearched, IsSearchedIn, run_seeks}
+use Rattle.st_search.specs.inner.Running.{AllEndWith, IsRuleOf, AreSteps, IsNumberAt}
 use Rattle.st_search.specs.inner.Search.{Solvings, AnswersGoals}
-use Rattle.st_search.specs.inner.Sought.{Finds, Stops, sought_from}
+use Rattle.st_search.specs.inner.Sought.{Finds}
+use Rattle.st_search.proofs.EndFinds.{one_order, order_is}
+use Rattle.st_search.proofs.NextEnds.{FindsFromAll, BindsFromAll, StopsFromAll}
 use Rattle.st_search.proofs.MeetsAgain.{run_bound, number_there}
 use Rattle.st_search.proofs.Partials.{behind_next}
 use Rattle.st_search.proofs.RuleFinds.{premise_ends}
@@ -79,6 +80,11 @@ module _ (il : Il) (n : ℕ) (A : Solvings) (rule : RuleDef) (order : List ℕ) 
     pub finds : (left : ℕ) (g : Goal) (number : ℕ) → AnswersGoals il n left A → CanBeSearched il g.relation → IsRuleOf il g.relation number rule order → Finds il n 0 (run_seeks il n g number rule []) starts
         → Finds il n longest (run_seeks il n g number rule before) ends
 
+  -- a run from the starts ends by what is told behind the goal
+  abbrev pub EndsBy : SearchFault → Type 0
+  EndsBy f =
+      (left : ℕ) (g : Goal) (number : ℕ) → AnswersGoals il n left A → CanBeSearched il g.relation → IsRuleOf il g.relation number rule order → Finds il n 0 (run_seeks il n g number rule []) starts → EndsBehind il n left g f
+
   pub run_start : AllEndWith il rule.variables (vars_of (inputs_of_rule il rule)) starts → AreRun 0 0 starts
   run_start only = record {
     before = [];
@@ -121,18 +127,19 @@ module _ (il : Il) (n : ℕ) (A : Solvings) (rule : RuleDef) (order : List ℕ) 
           next_at r.before r.after r.split s (omega (arith, h, same)) (subst (λ k. s ≡ get_or steps k s) (sym same) is)
 
       -- it can be run from the ends
-      pub next_can : (bound : List Name) × (p : IlPrem) × AllEndWith il rule.variables bound ends × IsRunBy il bound rule.variables p s
-      next_can = (bound_behind (inputs_of_rule il rule) r.before, next.premise, r.only, next.run)
+      pub next_can : (ls : List Listed) (from : List Partial) → ls ≡ rule.variables → from ≡ ends → (bound : List Name) × (p : IlPrem) × AllEndWith il ls bound from × IsRunBy il bound ls p s
+      next_can ls from ls_are from_are = (
+        bound_behind (inputs_of_rule il rule) r.before,
+        next.premise,
+        subst (λ z. AllEndWith il z (bound_behind (inputs_of_rule il rule) r.before) from) (sym ls_are) (subst (AllEndWith il rule.variables (bound_behind (inputs_of_rule il rule) r.before)) (sym from_are) r.only),
+        subst (λ z. IsRunBy il (bound_behind (inputs_of_rule il rule) r.before) z next.premise s) (sym ls_are) next.run,
+      )
 
       searched : (g : Goal) (number : ℕ) → CanBeSearched il g.relation → IsRuleOf il g.relation number rule order → IsSearchedIn il next.premise
       searched g number can_be is_rule = premise_searched il g.relation can_be number rule is_rule.is_rule order r.before next.premise next.rest next.split
 
       -- one premise more
-      pub run_more : (m k : ℕ) (more : List Partial) → IsShort il n A m
-          → ((left : ℕ) (root : Root) (bound : List Name) (p : IlPrem) → AnswersGoals il n left A → AllEndWith il rule.variables bound ends → IsRunBy il bound rule.variables p s → IsSearchedIn il p
-          → Finds il n m (sought_from (next_seeks il n root bound rule.variables p) ends) more)
-          → ((bound : List Name) (p : IlPrem) → AllEndWith il rule.variables bound ends → IsRunBy il bound rule.variables p s → AllEndWith il rule.variables (bound ++ prem_vars p) more)
-          → longest ≤ k → m ≤ k → (k ≡ longest) ⊎ (k ≡ m) → AreRun (i + 1) k more
+      pub run_more : (m k : ℕ) (more : List Partial) → IsShort il n A m → FindsFromAll il n A rule.variables s ends m more → BindsFromAll il n A rule.variables s ends more → longest ≤ k → m ≤ k → (k ≡ longest) ⊎ (k ≡ m) → AreRun (i + 1) k more
       run_more m k more short finds binds less lesser one = record {
         before = r.before ++ next.premise ∷ [];
         after = next.rest;
@@ -146,18 +153,12 @@ module _ (il : Il) (n : ℕ) (A : Solvings) (rule : RuleDef) (order : List ℕ) 
       }
 
       -- a premise that stops
-      pub run_ends : (premise : ℕ) → (i < length order → slice_get order i ≡ Some premise) → (res : Result (Found Partial) Stop)
-          → IfErr res (λ (s' : Stop). (left : ℕ) (root : Root) (bound : List Name) (p : IlPrem) → AnswersGoals il n left A → AllEndWith il rule.variables bound ends → IsRunBy il bound rule.variables p s → IsSearchedIn il p
-          → Stops il n left (sought_from (next_seeks il n root bound rule.variables p) ends) s')
-          → (f : SearchFault) → (f ≡ fault.Memory) ⊎ ((s' : Stop) × (res ≡ Err s') × (f ≡ fault_by (full_name rule) premise s'))
-          → (left : ℕ) (g : Goal) (number : ℕ) → AnswersGoals il n left A → CanBeSearched il g.relation → IsRuleOf il g.relation number rule order → Finds il n 0 (run_seeks il n g number rule []) starts → EndsBehind il n left g f
+      pub run_ends : (premise : ℕ) → (i < length order → slice_get order i ≡ Some premise) → (res : Result (Found Partial) Stop) → IfErr res (StopsFromAll il n A rule.variables s ends)
+          → (f : SearchFault) → (f ≡ fault.Memory) ⊎ ((stop : Stop) × (res ≡ Err stop) × (f ≡ fault_by (full_name rule) premise stop)) → EndsBy f
       run_ends premise numbered res stops f told left g number answers can_be is_rule start =
-          told_of (EndsBehind il n left g)
-          (λ (s' : Stop). (left : ℕ) (root : Root) (bound : List Name) (p : IlPrem) → AnswersGoals il n left A → AllEndWith il rule.variables bound ends → IsRunBy il bound rule.variables p s → IsSearchedIn il p
-          → Stops il n left (sought_from (next_seeks il n root bound rule.variables p) ends) s')
-          rule premise res f stops told tt
-          (λ s' stop. premise_ends il n g number rule can order is_rule r.before next.premise next.rest next.split (run_bound next.run) premise number_is left ends (r.finds left g number answers can_be is_rule start).sound s'
-          (stop left (root_at g number) (bound_behind (inputs_of_rule il rule) r.before) next.premise answers r.only next.run (searched g number can_be is_rule)))
+          told_of (EndsBehind il n left g) (StopsFromAll il n A rule.variables s ends) rule premise res f stops told tt
+          (λ stop by. premise_ends il n g number rule can order is_rule r.before next.premise next.rest next.split (run_bound next.run) premise number_is left ends (r.finds left g number answers can_be is_rule start).sound stop
+          (by left (root_at g number) (bound_behind (inputs_of_rule il rule) r.before) next.premise answers r.only next.run (searched g number can_be is_rule)))
         where
           number_is : slice_get order (length r.before) ≡ Some premise
           number_is =
@@ -180,3 +181,48 @@ module _ (il : Il) (n : ℕ) (A : Solvings) (rule : RuleDef) (order : List ℕ) 
             let both : length (r.before ++ p ∷ rest) ≡ length r.before + length (p ∷ rest) = length-append r.before (p ∷ rest) in
             let same : length r.before ≡ i = r.long in
             absurd (omega (arith, h, long, both, same))
+
+-- ---- in whichever order the rule has
+
+module _ (il : Il) (n : ℕ) (A : Solvings) (rule : RuleDef) (starts : List Partial) where
+  -- so many premises are run in its order
+  abbrev pub AreRunSo : ℕ → ℕ → List Partial → Type 0
+  AreRunSo i longest ends = (order : List ℕ) → order_of il rule ≡ Ok order → AreRun il n A rule order starts i longest ends
+
+  -- a run in its order ends by what is told behind the goal
+  abbrev pub EndsSo : SearchFault → Type 0
+  EndsSo f =
+      (left : ℕ) (g : Goal) (number : ℕ) (order : List ℕ) → AnswersGoals il n left A → CanBeSearched il g.relation → IsRuleOf il g.relation number rule order → Finds il n 0 (run_seeks il n g number rule []) starts → EndsBehind il n left g f
+
+  -- what is found behind all premises in its order
+  abbrev pub FindsSo : ℕ → List Partial → Type 0
+  FindsSo longest ends =
+      (left : ℕ) (g : Goal) (number : ℕ) (order : List ℕ) → AnswersGoals il n left A → CanBeSearched il g.relation → IsRuleOf il g.relation number rule order → Finds il n 0 (run_seeks il n g number rule []) starts
+      → Finds il n longest (run_seeks il n g number rule (in_order rule.premises order)) ends
+
+  module _ (can : CanBeRun il rule) (steps : List AlgoStep) (are : AreSteps il rule steps) where
+    steps_so : (order : List ℕ) → order_of il rule ≡ Ok order → steps ≡ steps_of il (vars_of (inputs_of_rule il rule)) (in_order rule.premises order)
+    steps_so order is_order = subst (λ z. steps ≡ steps_of il (vars_of (inputs_of_rule il rule)) (in_order rule.premises z)) (one_order il rule are.0 order are.1 is_order) are.2
+
+    -- it is the rule of this number in the one order that it has
+    in_its : {relation : Name} {number : ℕ} {order : List ℕ} → IsRuleOf il relation number rule order → IsRuleOf il relation number rule are.0
+    in_its is = record { is_rule = is.is_rule; is_order = are.1 }
+
+    module _ (i longest : ℕ) (ends : List Partial) (r : AreRunSo i longest ends) (s : AlgoStep) (h : i < length steps) (is : s ≡ get_or steps i s) where
+      pub next_can_so : (ls : List Listed) (from : List Partial) → ls ≡ rule.variables → from ≡ ends → (bound : List Name) × (p : IlPrem) × AllEndWith il ls bound from × IsRunBy il bound ls p s
+      next_can_so = next_can il n A rule are.0 starts can are.1 steps are.2 i longest ends (r are.0 are.1) s h is
+
+      pub run_more_so : (m k : ℕ) (more : List Partial) → IsShort il n A m → FindsFromAll il n A rule.variables s ends m more → BindsFromAll il n A rule.variables s ends more → longest ≤ k → m ≤ k → (k ≡ longest) ⊎ (k ≡ m) → AreRunSo (i + 1) k more
+      run_more_so m k more short finds binds less lesser one order is_order =
+          run_more il n A rule order starts can is_order steps (steps_so order is_order) i longest ends (r order is_order) s h is m k more short finds binds less lesser one
+
+      pub run_ends_so : (res : Result (Found Partial) Stop) → IfErr res (StopsFromAll il n A rule.variables s ends)
+          → (f : SearchFault) → (f ≡ fault.Memory) ⊎ ((premise : ℕ) × (stop : Stop) × IsNumberAt il rule i premise × (res ≡ Err stop) × (f ≡ fault_by (full_name rule) premise stop)) → EndsSo f
+      run_ends_so res stops f (inl e) left g number order answers can_be is_rule start = subst (EndsBehind il n left g) (sym e) tt
+      run_ends_so res stops f (inr (premise, stop, numbered, is_stop, e)) left g number order answers can_be is_rule start =
+          run_ends il n A rule are.0 starts can are.1 steps are.2 i longest ends (r are.0 are.1) s h is premise (numbered are.0 are.1) res stops f (inr (stop, is_stop, e)) left g number answers can_be (in_its is_rule) start
+
+    pub run_whole_so : (i longest : ℕ) (ends : List Partial) → length steps ≤ i → AreRunSo i longest ends → FindsSo longest ends
+    run_whole_so i longest ends h r left g number order answers can_be is_rule start =
+        subst (λ z. Finds il n longest (run_seeks il n g number rule (in_order rule.premises z)) ends) (order_is il g.relation number rule order are.0 is_rule are.1)
+        (run_whole il n A rule are.0 starts can are.1 steps are.2 i longest ends h (r are.0 are.1) left g number answers can_be (in_its is_rule) start)

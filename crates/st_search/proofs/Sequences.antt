@@ -1,5 +1,5 @@
 -- Elements one after another: what each of them comes to, and the one of them that stops.
-use Rattle.std.proofs.Common.{arith, ◌≡◌, refl, sym, ◌∙◌, ap, subst, ℕ, zero, suc, ◌+◌, ◌<◌, ◌≤◌, List, [], ◌∷◌, ◌++◌, length, take, drop, get_or, append_assoc, append-nil, add-one, drop-cons, inl, inr, Result, IfErr}
+use Rattle.std.proofs.Common.{arith, ◌≡◌, refl, sym, ◌∙◌, ap, subst, ℕ, zero, suc, ◌+◌, ◌<◌, ◌≤◌, List, [], ◌∷◌, ◌++◌, length, take, drop, get_or, append_assoc, append-nil, add-one, drop-cons, inl, inr, Result, Ok, IfOk, IfErr}
 use Rattle.std.specs.List.{AllZip}
 use Rattle.std.specs.Result.{IsErrAnd}
 use Rattle.std.proofs.lemmas.Result.{err_from_is_err_and}
@@ -96,3 +96,7 @@ ends_by Q P r h f = let w = err_from_is_err_and r h in subst (λ z. IfErr z P) (
 
 pub ends_again : {T E : Type 0} (P : E → Type 0) (r : Result T E) (s : E) → IsErrAnd r (λ (y : E). y ≡ s) → P s → IfErr r P
 ends_again P r s h p = ends_by (λ y. y ≡ s) P r h (λ y is. subst P (sym is) p)
+
+-- what is so of each value of a call is so of the one that it returned
+pub ok_again : {T E : Type 0} (P : T → Type 0) (r : Result T E) (x : T) → r ≡ Ok x → IfOk r P → P x
+ok_again P r x is h = subst (λ z. IfOk z P) is h

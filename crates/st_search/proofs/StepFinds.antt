@@ -1,8 +1,5 @@
 -- What the function finds that runs a step, by the form of the step.
-use Rattle.std.proofs.Common.{◌≡◌, sym, ◌∙◌, ap, ap₂, subst, ℕ, ◌++◌, true, List, [], ◌⊎◌, inl, inr, Result, IfErr}
-use Rattle.std.specs.List.{AllByRecursion}
-use Rattle.std.specs.Result.{IsErrAnd}
-use Rattle.std.proofs.lemmas.Result.{err_from_is_err_and}
+use Rattle.std.proofs.Common.{◌≡◌, sym, ◌∙◌, ap, ap₂, subst, ℕ, ◌++◌, true, List, ◌⊎◌, inl, inr}
 use Rattle.st_il.specs.declared.definition.Il.{Il}
 use Rattle.st_il.specs.declared.definition.Listed.{Listed}
 use Rattle.st_il.specs.declared.expression.IlExp.{IlExp}
@@ -10,12 +7,10 @@ use Rattle.st_il.specs.declared.expression.IlPrem.{IlPrem, out-IlPrem}
 use Rattle.st_il.specs.declared.expression.IlPrem.TheOpen.{IlPrem-F}
 use Rattle.st_il.specs.declared.expression.Iteration.{Iteration}
 use Rattle.st_il.specs.declared.value.Env.{Env}
-use Rattle.st_semantics.specs.Names.{Name, has_name, all_known}
-use Rattle.st_semantics.specs.Definitions.{syntaxes}
+use Rattle.st_semantics.specs.Names.{Name, all_known}
 use Rattle.st_semantics.specs.Environments.{names_of}
-use Rattle.st_semantics.specs.Formed.{IsFormed}
-use Rattle.st_semantics.specs.Patterns.{is_pattern, binds}
-use Rattle.st_semantics.specs.Variables.{vars, prem_vars}
+use Rattle.st_semantics.specs.Patterns.{binds}
+use Rattle.st_semantics.specs.Variables.{vars}
 use Rattle.st_semantics.specs.Derivation.{Root}
 use Rattle.st_semantics.proofs.Names.{known-within, within-cases, within-left, within-right}
 use Rattle.st_algo.specs.declared.algorithm.AlgoStep.{AlgoStep, out-AlgoStep}
@@ -23,7 +18,6 @@ use Rattle.st_algo.specs.declared.algorithm.AlgoStep.TheOpen.{AlgoStep-F}
 use Rattle.st_algo.specs.declared.algorithm.AlgoStep.TheVariants as variant
 use Rattle.st_eval.specs.Meeting.{IsEquation}
 use Rattle.st_eval.specs.Steps.{HasOnly}
-use Rattle.st_eval.specs.inner.Beside.{beside}
 use Rattle.st_eval.proofs.Trying.{known_all}
 use Rattle.st_search.specs.declared.found.Found.{Found}
 use Rattle.st_search.specs.declared.found.Solution.{Solution}
@@ -36,10 +30,6 @@ use Rattle.st_search.specs.inner.Rules.{IsSearchedIn}
 use Rattle.st_search.specs.inner.Search.{Solvings}
 use Rattle.st_search.proofs.Binds.{any_root, right_bind}
 use Rattle.st_search.proofs.StepWays.{run_test, run_let, run_goal, run_loop, run_match, run_give, run_otherwise}
-
--- what is so of the error of a call is so of that of the caller
-pub err_again : {T : Type 0} (P : Stop → Type 0) (r : Result T Stop) (s : Stop) → IsErrAnd r (λ (y : Stop). y ≡ s) → P s → IfErr r P
-err_again P r s h stops = let p = err_from_is_err_and r h in subst (λ z. IfErr z P) (sym p.1) (subst P (sym p.2) stops)
 
 module _ (il : Il) (n : ℕ) (A : Solvings) (ls : List Listed) (env : Env) (K L : Meant) (less : (bound : List Name) (p : IlPrem) → K bound p → L bound p) where
   -- where more premises are meant

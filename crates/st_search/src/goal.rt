@@ -16,7 +16,7 @@ ghost use Rattle.st_semantics.specs.Variables.{vars_of};
 ghost use Rattle.st_match.specs.inner.Scope.{scope_env};
 ghost use Rattle.st_eval.specs.Steps.{HasOnly};
 ghost use Rattle.st_search.specs.declared.stop.Stop.TheVariants as end;
-ghost use Rattle.st_search.specs.inner.Contracts.{IsShort, FindsWhere, StopsWhere, IsGoalOf};
+ghost use Rattle.st_search.specs.inner.Contracts.{IsShort, FindsWhere, StopsWhere, BindsWhere, IsGoalOf};
 ghost use Rattle.st_search.specs.inner.Meeting.{AreMeetings, AllMeetings, IsAskedWith};
 ghost use Rattle.st_search.specs.inner.Search.{IsSearch};
 
@@ -123,6 +123,9 @@ fn answered<F: Finder>(
         search.now.setting.depth (F.answers finder.now) variables.now (scope_env scope.now)
         (λ bound p. IsAskedWith search.now.setting.il.now search.now.setting.depth bound
         variables.now (scope_env scope.now) p relation.now inputs outs.now) found) }
+    ensures binds { IfOk result (λ found. BindsWhere search.now.setting.il.now variables.now
+        (scope_env scope.now) (λ bound p. (ins : List IlExp) × IsGoalOf search.now.setting.il.now
+        bound variables.now p relation.now ins outs.now) found.items) }
     ensures stops { IfErr result (λ stop. StopsWhere search.now.setting.il.now
         search.now.setting.depth (F.answers finder.now) variables.now (scope_env scope.now)
         (λ bound p. IsAskedWith search.now.setting.il.now search.now.setting.depth bound
@@ -145,8 +148,8 @@ fn answered<F: Finder>(
     Ok(Found { items, longest })
 }
 
-/// What a goal leads to one of whose inputs has no value, but comes to this.
-fn stopped(alloc: Global, outcome: &Outcome) -> Result<Found<Solution>, Stop>
+/// What a premise leads to that needs a value, and comes to this outcome, which is none.
+pub(crate) fn stopped(alloc: Global, outcome: &Outcome) -> Result<Found<Solution>, Stop>
     ensures found { IfOk result (λ found.
         (outcome.now ≡ variant.Deep → ⊥) × (found.items ≡ []) × (found.longest ≡ 0)) }
     ensures stops { IfErr result (λ stop. (outcome.now ≡ variant.Deep) × (stop ≡ end.Meets)) }
@@ -179,6 +182,9 @@ pub(crate) fn ask<F: Finder>(
         search.now.setting.depth (F.answers finder.now) variables.now (scope_env scope.now)
         (λ bound p. IsGoalOf search.now.setting.il.now bound variables.now p relation.now ins.now
         outs.now) found) }
+    ensures binds { IfOk result (λ found. BindsWhere search.now.setting.il.now variables.now
+        (scope_env scope.now) (λ bound p. IsGoalOf search.now.setting.il.now bound variables.now p
+        relation.now ins.now outs.now) found.items) }
     ensures stops { IfErr result (λ stop. StopsWhere search.now.setting.il.now
         search.now.setting.depth (F.answers finder.now) variables.now (scope_env scope.now)
         (λ bound p. IsGoalOf search.now.setting.il.now bound variables.now p relation.now ins.now

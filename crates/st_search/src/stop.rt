@@ -68,7 +68,7 @@ fn full_name(alloc: Global, rule: &RuleDef) -> Result<Name, NoMemory>
 }
 
 /// What is told of a rule that stops at the premise of this number.
-fn fault_of(
+pub(crate) fn fault_of(
     alloc: Global,
     rule: &RuleDef,
     premise: u32,

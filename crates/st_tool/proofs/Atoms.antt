@@ -1,6 +1,5 @@
--- Atoms as values: their names, their texts and their order.
+-- Atoms as values: their names and their order.
 use Rattle.std.proofs.Common.{◌≡◌, ℕ, List, [], ap, ◌∙◌, sym, refl}
-use Rattle.std.specs.Prelude.{◌++◌, codes, decimal}
 use Rattle.std.specs.Ordering.{nat_cmp, ordering_then}
 use Rattle.std.specs.Cmp.Lexicographic.{slice_cmp}
 use Rattle.std.specs.declared.cmp.Ordering.{Ordering}
@@ -10,17 +9,12 @@ use Rattle.st_il.specs.declared.value.Value.TheOpen.{Value-F}
 use Rattle.st_il.specs.declared.value.Value.TheVariants.{Case, outs-Case}
 use Rattle.st_il.specs.Order.{Compares, compare_at, level_cmp, value_cmp, values_cmp}
 use Rattle.st_tool.specs.Transcript.{atom_term}
-use Rattle.st_tool.specs.Texts.{value_text, layer_text, term_line, atom_line}
 
 -- an atom has one name
 pub atom_name : (one other : List ℕ) → Case one [] ≡ Case other [] → one ≡ other
 atom_name one other e =
     let layers : ◌≡◌ {A = Value-F Value} (Value-F.Case one []) (Value-F.Case other []) = sym (outs-Case one []) ∙ ap out-Value e ∙ outs-Case other [] in
     cc
-
--- its text is its name
-pub value_text-atom : (name : List ℕ) → value_text (Case name []) ≡ name
-value_text-atom name = ap layer_text (outs-Case name [])
 
 then_equal : (o : Ordering) → ordering_then o Equal ≡ o
 then_equal Less = refl
@@ -37,7 +31,3 @@ value_cmp-atoms one other =
 
 pub values_cmp-atoms : (one other : List ℕ) → values_cmp (atom_term one) (atom_term other) ≡ slice_cmp nat_cmp one other
 values_cmp-atoms one other = then_equal (value_cmp (Case one []) (Case other [])) ∙ value_cmp-atoms one other
-
--- the line of an atom
-pub term_line-atom : (number : ℕ) (name : List ℕ) → term_line number (atom_term name) ≡ atom_line number name
-term_line-atom number name = ap (λ text. decimal number ++ codes " " ++ text ++ codes "\n") (value_text-atom name)

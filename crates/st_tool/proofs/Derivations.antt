@@ -12,13 +12,14 @@ use Rattle.st_il.specs.Small.{il_of, IsSmall, IsSmallRule, IsUpper, IsWordOf}
 use Rattle.st_num.specs.declared.memory.NoMemory.{NoMemory}
 use Rattle.st_tool.specs.declared.answer.Answer.{Answer}
 use Rattle.st_tool.specs.declared.transcript.Ending.{Ending}
-use Rattle.st_tool.specs.Commands.{IsDerivationText, default_fuel, status_of}
+use Rattle.st_tool.specs.Commands.{IsDerivationText, default_fuel}
 use Rattle.st_tool.specs.Derivation.{IsStepTree, StepLines, begins, goes_on, last_line}
 use Rattle.st_tool.specs.inner.Nodes.{rule_node}
 use Rattle.st_tool.specs.inner.Step.{IsNextRule}
 use Rattle.st_semantics.specs.Transcript.{Term}
-use Rattle.st_tool.specs.inner.Reaches.{Reaches, begins as starts, goes_on as comes, EndsBehind}
-use Rattle.st_tool.specs.Transcript.{atom_term}
+use Rattle.st_tool.specs.Runs.{Reaches, begins as starts, goes_on as comes}
+use Rattle.st_tool.specs.inner.Reaches.{EndsBehind}
+use Rattle.st_tool.specs.Transcript.{atom_term, status_of}
 use Rattle.st_tool.proofs.Derives.{step_tree, node_of_rule}
 use Rattle.st_tool.proofs.LineTexts.{head_text, from_text, node_text, step_text, end_text}
 use Rattle.st_tool.proofs.LineVerdicts.{IsAt, head_verdict, behind_head, from_verdict, at_start, node_verdict, step_verdict, at_next, end_verdict}

@@ -201,7 +201,7 @@ zip_at R (a ∷ xs) [] k x d y e h within is also = absurd h
 zip_at R (a ∷ xs) (b ∷ ys) zero x d y e h within is also = subst (λ z. R z y) (sym is) (subst (λ z. R a z) (sym also) h.0)
 zip_at R (a ∷ xs) (b ∷ ys) (suc k) x d y e h within is also = zip_at R xs ys k x d y e h.1 (omega (arith, within)) is also
 
-relations_long : (ds : List IlDef) → length (relations_in ds) ≤ length ds
+pub relations_long : (ds : List IlDef) → length (relations_in ds) ≤ length ds
 relations_long [] = omega arith
 relations_long (Syntax s ∷ ds) = omega (arith, relations_long ds)
 relations_long (Var x t ∷ ds) = omega (arith, relations_long ds)

@@ -8,12 +8,14 @@ use Rattle.st_tool.specs.declared.loads.Loaded.TheVariants.{Given, Failed, TooLo
 use Rattle.st_num.specs.declared.memory.NoMemory.{NoMemory}
 use Rattle.st_tool.specs.declared.answer.Answer.{Answer}
 use Rattle.st_tool.specs.declared.status.Status.TheVariants.{Usage, TooLarge}
-use Rattle.st_tool.specs.Commands.{Gives, RunGives, IsRunText, IsDerivationText, IsBuilt, IsUnbuilt, limit_of}
+use Rattle.st_tool.specs.Commands.{Gives, DeriveGives, IsBuilt, IsUnbuilt, limit_of}
+use Rattle.st_tool.specs.Queries.{EvalGives}
+use Rattle.st_tool.specs.Searches.{RunGives, NextGives}
 use Rattle.st_tool.specs.Loads.{Held, Counts, AreGiven, LoadsTo, FitsNames}
 use Rattle.st_tool.specs.Outcome.{Outcome, HasOutcome, unread, too_many, unbuilt, loads}
 use Rattle.st_tool.specs.Texts.{usage_text, too_many_text}
 use Rattle.st_words.specs.declared.command.Command.{Command}
-use Rattle.st_words.specs.declared.command.Command.TheVariants.{Run, Derive}
+use Rattle.st_words.specs.declared.command.Command.TheVariants.{Eval, Next, Run, Derive}
 use Rattle.st_words.specs.FileNames.{file_names}
 use Rattle.st_words.specs.Reads.{Reads, HasNoReading}
 
@@ -46,23 +48,39 @@ loads_of held limit other names items before after loaded limit_is same come =
 abbrev pub GivesOf : Command → List (List ℕ) → Result Answer NoMemory → Type 0
 GivesOf command files result = IfOk result (λ answer. Gives command files answer.status answer.bytes.items)
 
-pub gives_run : (command : Command) (relation said term file name : List ℕ) (names files : List (List ℕ)) (fuel depth : ℕ) (result : Result Answer NoMemory)
-    → command ≡ Run relation name names fuel depth → files ≡ term ∷ file ∷ []
-    → IfOk result (λ answer. RunGives IsRunText said term file answer.status answer.bytes.items) → said ≡ relation → GivesOf command files result
-gives_run command relation said term file name names files fuel depth (Err e) is two gives same = tt
-gives_run command relation said term file name names files fuel depth (Ok answer) is two gives same =
+pub gives_eval : (command : Command) (query name : List ℕ) (names shown files behind : List (List ℕ)) (result : Result Answer NoMemory) → command ≡ Eval name names → files ≡ query ∷ behind → shown ≡ names
+    → IfOk result (λ answer. EvalGives shown query behind answer.status answer.bytes.items) → GivesOf command files result
+gives_eval command query name names shown files behind (Err e) is first same gives = tt
+gives_eval command query name names shown files behind (Ok answer) is first same gives =
     subst (λ c. Gives c files answer.status answer.bytes.items) (sym is)
-    (subst (λ fs. Gives (Run relation name names fuel depth) fs answer.status answer.bytes.items) (sym two)
-    (subst (λ r. RunGives IsRunText r term file answer.status answer.bytes.items) same gives))
+    (subst (λ fs. Gives (Eval name names) fs answer.status answer.bytes.items) (sym first) (subst (λ ns. EvalGives ns query behind answer.status answer.bytes.items) same gives))
+
+pub gives_next : (command : Command) (relation said term name : List ℕ) (names shown files behind : List (List ℕ)) (result : Result Answer NoMemory)
+    → command ≡ Next relation name names → files ≡ term ∷ behind → shown ≡ names → said ≡ relation
+    → IfOk result (λ answer. NextGives shown said term behind answer.status answer.bytes.items) → GivesOf command files result
+gives_next command relation said term name names shown files behind (Err e) is first same also gives = tt
+gives_next command relation said term name names shown files behind (Ok answer) is first same also gives =
+    subst (λ c. Gives c files answer.status answer.bytes.items) (sym is)
+    (subst (λ fs. Gives (Next relation name names) fs answer.status answer.bytes.items) (sym first)
+    (subst (λ ns. NextGives ns relation term behind answer.status answer.bytes.items) same (subst (λ r. NextGives shown r term behind answer.status answer.bytes.items) also gives)))
+
+pub gives_run : (command : Command) (relation said term name : List ℕ) (names shown files behind : List (List ℕ)) (fuel depth : ℕ) (result : Result Answer NoMemory)
+    → command ≡ Run relation name names fuel depth → files ≡ term ∷ behind → shown ≡ names → said ≡ relation
+    → IfOk result (λ answer. RunGives shown said term behind fuel depth answer.status answer.bytes.items) → GivesOf command files result
+gives_run command relation said term name names shown files behind fuel depth (Err e) is first same also gives = tt
+gives_run command relation said term name names shown files behind fuel depth (Ok answer) is first same also gives =
+    subst (λ c. Gives c files answer.status answer.bytes.items) (sym is)
+    (subst (λ fs. Gives (Run relation name names fuel depth) fs answer.status answer.bytes.items) (sym first)
+    (subst (λ ns. RunGives ns relation term behind fuel depth answer.status answer.bytes.items) same (subst (λ r. RunGives shown r term behind fuel depth answer.status answer.bytes.items) also gives)))
 
 pub gives_derivation : (command : Command) (relation said term file name : List ℕ) (names files : List (List ℕ)) (fuel depth : ℕ) (result : Result Answer NoMemory)
     → command ≡ Derive relation name names fuel depth → files ≡ term ∷ file ∷ []
-    → IfOk result (λ answer. RunGives IsDerivationText said term file answer.status answer.bytes.items) → said ≡ relation → GivesOf command files result
+    → IfOk result (λ answer. DeriveGives said term file answer.status answer.bytes.items) → said ≡ relation → GivesOf command files result
 gives_derivation command relation said term file name names files fuel depth (Err e) is two gives same = tt
 gives_derivation command relation said term file name names files fuel depth (Ok answer) is two gives same =
     subst (λ c. Gives c files answer.status answer.bytes.items) (sym is)
     (subst (λ fs. Gives (Derive relation name names fuel depth) fs answer.status answer.bytes.items) (sym two)
-    (subst (λ r. RunGives IsDerivationText r term file answer.status answer.bytes.items) same gives))
+    (subst (λ r. DeriveGives r term file answer.status answer.bytes.items) same gives))
 
 -- ---- what a call gives
 

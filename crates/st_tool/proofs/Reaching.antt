@@ -6,7 +6,8 @@ use Rattle.st_semantics.specs.Transcript as run
 use Rattle.st_semantics.specs.Transcript.{Term, Transcript}
 use Rattle.st_tool.specs.declared.transcript.Ending.{Ending}
 use Rattle.st_tool.specs.declared.transcript.Ending.TheVariants.{Stuck, Fuel}
-use Rattle.st_tool.specs.inner.Reaches.{Reaches, begins, goes_on, EndsBehind}
+use Rattle.st_tool.specs.inner.Reaches.{EndsBehind}
+use Rattle.st_tool.specs.Runs.{Reaches, begins, goes_on}
 use Rattle.st_tool.specs.Transcript.{IsTranscript, ending_of}
 
 -- the terms behind the start, where these stand before a term and these behind it

@@ -1,19 +1,14 @@
--- What a run gives of its files.
+-- What a derivation gives of its files.
 use Rattle.std.proofs.Common.{◌≡◌, ℕ, List, inl, inr, sym, subst, refl, Bool, true, false, nat_eq, not, ◌∙◌}
 use Rattle.std.specs.Prelude.{Result, Ok, Err, IfOk, Option, None, Some, IfSome, MatchOption}
 use Rattle.std.specs.Cmp.Lexicographic.{pointwise, same_text}
 use denote.Ref.{Bor}
 use Rattle.st_num.specs.declared.memory.NoMemory.{NoMemory}
 use Rattle.st_tool.specs.declared.answer.Answer.{Answer}
-use Rattle.st_tool.specs.declared.status.Status.{Status}
 use Rattle.st_il.specs.declared.small.Small.{Small}
-use Rattle.st_tool.specs.Commands.{RunGives, IsRunnable, IsStart, IsTerm, IsUnbuilt}
+use Rattle.st_tool.specs.Commands.{DeriveGives, IsDerivationText, IsRunnable, IsStart, IsTerm, IsUnbuilt}
 use Rattle.st_tool.specs.SmallText.{IsTextOf}
 use Rattle.st_tool.specs.inner.Starts.{HasNoTerm, HasNoStart}
-
--- the status and the text of a run from an atom, in one form or another
-abbrev pub RunText : Type 1
-RunText = Small → List ℕ → Status → List ℕ → Type 0
 
 abbrev NoRun : List ℕ → List ℕ → List ℕ → Type 0
 NoRun relation term file = (small : Small) (atom : List ℕ) → IsRunnable relation term file small atom → ⊥
@@ -34,23 +29,23 @@ source_read read small file is some only = record {
   only = λ other text. let other_is = only other text in cc (is, other_is);
 }
 
-unbuilt_runs : (Text : RunText) (relation term file : List ℕ) (result : Result Answer NoMemory) → NoRun relation term file → SaysUnbuilt result
-    → IfOk result (λ answer. RunGives Text relation term file answer.status answer.bytes.items)
-unbuilt_runs Text relation term file (Ok a) none is = inr (none, is)
-unbuilt_runs Text relation term file (Err e) none is = tt
+unbuilt_runs : (relation term file : List ℕ) (result : Result Answer NoMemory) → NoRun relation term file → SaysUnbuilt result
+    → IfOk result (λ answer. DeriveGives relation term file answer.status answer.bytes.items)
+unbuilt_runs relation term file (Ok a) none is = inr (none, is)
+unbuilt_runs relation term file (Err e) none is = tt
 
 -- there is no term to begin at
-pub no_start : (Text : RunText) (relation term file : List ℕ) (small : Small) (result : Result Answer NoMemory) → IsSmallSource small file → HasNoStart small relation term → SaysUnbuilt result
-    → IfOk result (λ answer. RunGives Text relation term file answer.status answer.bytes.items)
-no_start Text relation term file small result is none = unbuilt_runs Text relation term file result
+pub no_start : (relation term file : List ℕ) (small : Small) (result : Result Answer NoMemory) → IsSmallSource small file → HasNoStart small relation term → SaysUnbuilt result
+    → IfOk result (λ answer. DeriveGives relation term file answer.status answer.bytes.items)
+no_start relation term file small result is none = unbuilt_runs relation term file result
     (λ other atom runnable. none atom (subst (λ s. IsStart s relation term atom) (sym (is.only other runnable.source)) runnable.start))
 
 -- it runs
-pub runs_here : (Text : RunText) (relation term file atom : List ℕ) (small : Small) (result : Result Answer NoMemory) → IsSmallSource small file → IsStart small relation term atom
-    → IfOk result (λ answer. Text small atom answer.status answer.bytes.items)
-    → IfOk result (λ answer. RunGives Text relation term file answer.status answer.bytes.items)
-runs_here Text relation term file atom small (Ok a) is start run = inl (small, atom, record { source = is.is_text; start = start }, run)
-runs_here Text relation term file atom small (Err e) is start run = tt
+pub runs_here : (relation term file atom : List ℕ) (small : Small) (result : Result Answer NoMemory) → IsSmallSource small file → IsStart small relation term atom
+    → IfOk result (λ answer. IsDerivationText small atom answer.status answer.bytes.items)
+    → IfOk result (λ answer. DeriveGives relation term file answer.status answer.bytes.items)
+runs_here relation term file atom small (Ok a) is start run = inl (small, atom, record { source = is.is_text; start = start }, run)
+runs_here relation term file atom small (Err e) is start run = tt
 
 -- the term of a run
 pub start_found : (small : Small) (relation term : List ℕ) (found : Option (Bor (List ℕ))) → small.relation ≡ relation

@@ -1,8 +1,12 @@
 -- What a call wrote, and what its counts say.
-use Rattle.std.proofs.Common.{◌≡◌, ℕ, ◌<◌, ◌≤◌, List, [], ◌∷◌, Option, refl, ap, subst, sym, inl, inr, arith}
+use Rattle.std.proofs.Common.{◌≡◌, ℕ, ◌<◌, ◌≤◌, Bool, true, false, List, [], ◌∷◌, Option, refl, ap, subst, sym, inl, inr, arith}
 use Rattle.st_outside.specs.Counts.{one_more}
 use Rattle.st_outside.specs.Sink.{Takes}
-use Rattle.st_il.specs.declared.small.Small.{Small}
+use Rattle.st_il.specs.declared.definition.Il.{Il as Language}
+use Rattle.st_semantics.specs.declared.outcome.Outcome.{Outcome as Value}
+use Rattle.st_semantics.specs.declared.outcome.Outcome.TheVariants as outcome
+use Rattle.st_semantics.specs.Names.{Name}
+use Rattle.st_semantics.specs.Transcript.{Term as Start}
 use Rattle.st_tool.specs.declared.loads.Loaded.{Loaded}
 use Rattle.st_tool.specs.declared.loads.Loaded.TheVariants.{Given, Failed, TooLong}
 use Rattle.st_tool.specs.declared.status.Status.{Status}
@@ -13,7 +17,13 @@ use Rattle.st_tool.specs.Causes.{IsLoadFault, FaultIsTold}
 use Rattle.st_tool.specs.Checking.{FilesGive, IlGives, refused as refused_at, empty, parsed, broken, unmoded, accepted as accepted_source}
 use Rattle.st_tool.specs.declared.check.Printed.{Printed}
 use Rattle.st_tool.specs.declared.check.Printed.TheVariants as asked
-use Rattle.st_tool.specs.Commands.{Gives, RunGives, VerifyGives, malformed, untyped, judged, unjudged, IsRunText, IsDerivationText, status_of, limit_of}
+use Rattle.st_tool.specs.Commands.{Gives, DeriveGives, VerifyGives, malformed, untyped, judged, unjudged, limit_of}
+use Rattle.st_tool.specs.Queries.{evaluation_depth, OutcomeGives, QueryGives, EvalGives}
+use Rattle.st_tool.specs.Queries as queries
+use Rattle.st_tool.specs.Runs.{RunSays, NextSays}
+use Rattle.st_tool.specs.Searches.{Says, RelationSays, SearchGives, next_depth}
+use Rattle.st_tool.specs.Searches as searches
+use Rattle.st_tool.specs.Transcript.{status_of}
 use Rattle.st_tool.specs.Loads.{Held, Counts, LoadsTo}
 use Rattle.st_tool.specs.Outcome.{Outcome, HasOutcome, unread, too_many, unbuilt, loads, Written}
 use Rattle.st_tool.specs.Verification.{accepted, refused, unfinished, endless}
@@ -37,6 +47,15 @@ own_fuel = record { load = λ e. cc; write = λ e. cc; memory = λ e. cc }
 own_specification : IsOwn Specification
 own_specification = record { load = λ e. cc; write = λ e. cc; memory = λ e. cc }
 
+own_term : IsOwn Term
+own_term = record { load = λ e. cc; write = λ e. cc; memory = λ e. cc }
+
+own_depth : IsOwn Depth
+own_depth = record { load = λ e. cc; write = λ e. cc; memory = λ e. cc }
+
+own_not_runnable : IsOwn NotRunnable
+own_not_runnable = record { load = λ e. cc; write = λ e. cc; memory = λ e. cc }
+
 own_verification : IsOwn Verification
 own_verification = record { load = λ e. cc; write = λ e. cc; memory = λ e. cc }
 
@@ -47,10 +66,46 @@ ending_is_own : (status : Status) (ending : Ending) → status ≡ status_of end
 ending_is_own status Stuck is = subst IsOwn (sym is) own_done
 ending_is_own status OutOfFuel is = subst IsOwn (sym is) own_fuel
 
-run_is_own : (Text : Small → List ℕ → Status → List ℕ → Type 0) → ((small : Small) (atom : List ℕ) (status : Status) (bytes : List ℕ) → Text small atom status bytes → IsOwn status)
-    → (relation term file : List ℕ) (status : Status) (bytes : List ℕ) → RunGives Text relation term file status bytes → IsOwn status
-run_is_own Text own relation term file status bytes (inl (small, atom, runnable, text)) = own small atom status bytes text
-run_is_own Text own relation term file status bytes (inr (none, (is, text))) = own_unbuilt status is
+derive_is_own : (relation term file : List ℕ) (status : Status) (bytes : List ℕ) → DeriveGives relation term file status bytes → IsOwn status
+derive_is_own relation term file status bytes (inl (small, atom, runnable, text)) = ending_is_own status text.ending text.status_is
+derive_is_own relation term file status bytes (inr (none, (is, text))) = own_unbuilt status is
+
+value_is_own : (depth : ℕ) (o : Value) (status : Status) (bytes : List ℕ) → OutcomeGives depth o status bytes → IsOwn status
+value_is_own depth (outcome.Val v) status bytes gives = subst IsOwn (sym gives.0) own_done
+value_is_own depth outcome.NoValue status bytes gives = subst IsOwn (sym gives.0) own_done
+value_is_own depth outcome.Deep status bytes gives = subst IsOwn (sym gives.0) own_depth
+
+query_is_own : (il : Language) (depth : ℕ) (query : List ℕ) (status : Status) (bytes : List ℕ) → QueryGives il depth query status bytes → IsOwn status
+query_is_own il depth query status bytes (queries.refused b breach text) = own_term
+query_is_own il depth query status bytes (queries.evaluated o comes gives) = value_is_own depth o status bytes gives
+
+eval_is_own : (names : List (List ℕ)) (query : List ℕ) (files : List (List ℕ)) (status : Status) (bytes : List ℕ) → EvalGives names query files status bytes → IsOwn status
+eval_is_own names query files status bytes (queries.unspecified refusal) = own_specification
+eval_is_own names query files status bytes (queries.specified defs e is gives) = query_is_own e.il evaluation_depth query status bytes gives
+
+run_is_own : (il : Language) (relation : Name) (fuel depth : ℕ) (start : Start) (status : Status) (bytes : List ℕ) → RunSays il relation fuel depth start status bytes → IsOwn status
+run_is_own il relation fuel depth start status bytes (RunSays.ended after ending transcript shallow inputs is text) = ending_is_own status ending is
+run_is_own il relation fuel depth start status bytes (RunSays.deep before last chain reaches few shallow is inputs text) = own_depth
+
+next_is_own : (il : Language) (relation : Name) (depth : ℕ) (term : Start) (status : Status) (bytes : List ℕ) → NextSays il relation depth term status bytes → IsOwn status
+next_is_own il relation depth term status bytes (NextSays.found outputs shallow all typed text) = own_done
+next_is_own il relation depth term status bytes (NextSays.deep chain is text) = own_depth
+
+-- what is said of a term has such a status
+abbrev AreOwn : Says → Type 0
+AreOwn Is = (il : Language) (term : Start) (status : Status) (bytes : List ℕ) → Is il term status bytes → IsOwn status
+
+relation_is_own : (steps : Bool) (Is : Says) → AreOwn Is → (il : Language) (relation : Name) (text : List ℕ) (status : Status) (bytes : List ℕ)
+    → RelationSays steps Is il relation text status bytes → IsOwn status
+relation_is_own steps Is own il relation text status bytes (searches.marked mark has is) = own_not_runnable
+relation_is_own steps Is own il relation text status bytes (searches.unbuilt none needs is) = own_unbuilt Unbuilt refl
+relation_is_own steps Is own il relation text status bytes (searches.refused types b none plain typed breach is) = own_term
+relation_is_own steps Is own il relation text status bytes (searches.searched types term none plain typed read inputs says) = own il term status bytes says
+
+search_is_own : (steps : Bool) (Is : Says) → AreOwn Is → (names : List (List ℕ)) (relation : Name) (text : List ℕ) (files : List (List ℕ)) (status : Status) (bytes : List ℕ)
+    → SearchGives steps Is names relation text files status bytes → IsOwn status
+search_is_own steps Is own names relation text files status bytes (searches.unspecified refusal) = own_specification
+search_is_own steps Is own names relation text files status bytes (searches.specified defs e is says) = relation_is_own steps Is own e.il relation text status bytes says
 
 verify_is_own : (il derivation : List ℕ) (status : Status) (bytes : List ℕ) → VerifyGives il derivation status bytes → IsOwn status
 verify_is_own il derivation status bytes (malformed line no_il first text) = own_verification
@@ -74,14 +129,16 @@ il_is_own names files status bytes (inr (none, gives)) = files_are_own asked.Lan
 
 gives_own : (command : Command) (files : List (List ℕ)) (status : Status) (bytes : List ℕ) → Gives command files status bytes → IsOwn status
 gives_own (Il names) files status bytes gives = il_is_own names files status bytes gives
-gives_own (Run relation name names fuel depth) (term ∷ file ∷ []) status bytes gives =
-    run_is_own IsRunText (λ small atom s b text. ending_is_own s text.ending text.status_is) relation term file status bytes gives
-gives_own (Derive relation name names fuel depth) (term ∷ file ∷ []) status bytes gives =
-    run_is_own IsDerivationText (λ small atom s b text. ending_is_own s text.ending text.status_is) relation term file status bytes gives
-gives_own (Verify il_name name) (il ∷ derivation ∷ []) status bytes gives = verify_is_own il derivation status bytes gives
+gives_own (Eval query_name names) [] status bytes gives = absurd gives
+gives_own (Eval query_name names) (query ∷ files) status bytes gives = eval_is_own names query files status bytes gives
+gives_own (Next relation name names) [] status bytes gives = absurd gives
+gives_own (Next relation name names) (term ∷ files) status bytes gives =
+    search_is_own false (λ il. NextSays il relation next_depth) (λ il start s b says. next_is_own il relation next_depth start s b says) names relation term files status bytes gives
 gives_own (Run relation name names fuel depth) [] status bytes gives = absurd gives
-gives_own (Run relation name names fuel depth) (one ∷ []) status bytes gives = absurd gives
-gives_own (Run relation name names fuel depth) (one ∷ two ∷ three ∷ files) status bytes gives = absurd gives
+gives_own (Run relation name names fuel depth) (term ∷ files) status bytes gives =
+    search_is_own true (λ il. RunSays il relation fuel depth) (λ il start s b says. run_is_own il relation fuel depth start s b says) names relation term files status bytes gives
+gives_own (Derive relation name names fuel depth) (term ∷ file ∷ []) status bytes gives = derive_is_own relation term file status bytes gives
+gives_own (Verify il_name name) (il ∷ derivation ∷ []) status bytes gives = verify_is_own il derivation status bytes gives
 gives_own (Derive relation name names fuel depth) [] status bytes gives = absurd gives
 gives_own (Derive relation name names fuel depth) (one ∷ []) status bytes gives = absurd gives
 gives_own (Derive relation name names fuel depth) (one ∷ two ∷ three ∷ files) status bytes gives = absurd gives
@@ -91,8 +148,6 @@ gives_own (Verify il_name name) (one ∷ two ∷ three ∷ files) status bytes g
 gives_own (Check names) files status bytes gives = files_are_own asked.Count names files status bytes gives
 gives_own (Groups names) files status bytes gives = files_are_own asked.Groups names files status bytes gives
 gives_own (Order names) files status bytes gives = files_are_own asked.Orders names files status bytes gives
-gives_own (Eval name names) files status bytes gives = absurd gives
-gives_own (Next relation name names) files status bytes gives = absurd gives
 gives_own (Prose names) files status bytes gives = absurd gives
 gives_own (Latex names) files status bytes gives = absurd gives
 gives_own (Make n) files status bytes gives = absurd gives

@@ -12,34 +12,29 @@ use Rattle.st_iltext.specs.IlText.{IlText}
 use Rattle.st_tool.specs.declared.status.Status.{Status}
 use Rattle.st_tool.specs.declared.status.Status.TheVariants as answer
 use Rattle.st_tool.specs.declared.transcript.Ending.{Ending}
-use Rattle.st_tool.specs.declared.transcript.Ending.TheVariants.{Stuck, Fuel}
 use Rattle.st_tool.specs.Checking.{CheckGives, IlGives, GroupsGive, OrdersGive}
 use Rattle.st_tool.specs.Derivation.{IsDerivation}
+use Rattle.st_tool.specs.Queries.{EvalGives}
+use Rattle.st_tool.specs.Searches.{RunGives, NextGives}
 use Rattle.st_tool.specs.SmallText.{IsTextOf}
-use Rattle.st_tool.specs.Texts.{transcript_text, unbuilt_text, refused_il_text, untyped_text}
+use Rattle.st_tool.specs.Texts.{unbuilt_text, refused_il_text, untyped_text}
 use Rattle.st_semantics.specs.declared.verify_rule.VerifyRule.TheVariants.{V1}
 use Rattle.st_semantics.specs.Accepts.{Accepts}
-use Rattle.st_semantics.specs.Transcript.{Term}
-use Rattle.st_tool.specs.Transcript.{atom_term, IsTranscript}
+use Rattle.st_tool.specs.Transcript.{atom_term, status_of}
 use Rattle.st_tool.specs.Verification.{AreLines, AreTexts, Verified}
 use Rattle.st_words.specs.declared.command.Command.{Command}
-use Rattle.st_words.specs.declared.command.Command.TheVariants.{Check, Il as IlOf, Groups, Order, Run, Derive, Verify}
+use Rattle.st_words.specs.declared.command.Command.TheVariants.{Check, Il as IlOf, Groups, Order, Eval, Next, Run, Derive, Verify, Prose, Latex, Make}
 use Rattle.st_words.specs.Arranged.{has_options}
 
--- the steps of a run, where the words do not say how many
+-- the steps of a derivation
 abbrev pub default_fuel : ℕ
 default_fuel = 1000
-
--- the status of a run that ended so
-abbrev pub status_of : Ending → Status
-status_of Stuck = answer.Done
-status_of Fuel = answer.Fuel
 
 -- nothing of this kind is built
 abbrev pub IsUnbuilt : Status → List ℕ → Type 0
 IsUnbuilt status bytes = (status ≡ answer.Unbuilt) × (bytes ≡ unbuilt_text)
 
--- ---- runs and derivations
+-- ---- derivations
 
 -- the bytes are an atom, perhaps with a line feed behind it
 abbrev pub IsAtomText : List ℕ → List ℕ → Type 0
@@ -61,17 +56,7 @@ pub record IsRunnable (relation term_bytes file_bytes : List ℕ) (small : Small
   pub source : IsTextOf small file_bytes
   pub start : IsStart small relation term_bytes atom
 
--- the status and the text of a run from this atom
-pub record IsRunText (small : Small) (atom : List ℕ) (status : Status)
-    (bytes : List ℕ) : Type 0 where
-  pub terms : List Term
-  pub ending : Ending
-  pub transcript : IsTranscript (il_of small) small.relation default_fuel (atom_term atom) terms
-      ending
-  pub status_is : status ≡ status_of ending
-  pub bytes_are : bytes ≡ transcript_text terms ending
-
--- the status and the text of the derivation of such a run;
+-- the status and the text of the derivation of a run from this atom;
 -- its lines are accepted by the checker of derivations
 pub record IsDerivationText (small : Small) (atom : List ℕ) (status : Status)
     (bytes : List ℕ) : Type 0 where
@@ -83,12 +68,11 @@ pub record IsDerivationText (small : Small) (atom : List ℕ) (status : Status)
   pub status_is : status ≡ status_of ending
   pub text : LinesText lines bytes
 
--- Where the files are such a specification and term, they give this; others are not built.
-abbrev pub RunGives : (Small → List ℕ → Status → List ℕ → Type 0) → List ℕ → List ℕ → List ℕ
-    → Status → List ℕ → Type 0
-RunGives IsText relation term file status bytes =
+-- Where the files are such a specification and term, they give a derivation; others are not built.
+abbrev pub DeriveGives : List ℕ → List ℕ → List ℕ → Status → List ℕ → Type 0
+DeriveGives relation term file status bytes =
     ((small : Small) × (atom : List ℕ) × IsRunnable relation term file small atom
-    × IsText small atom status bytes)
+    × IsDerivationText small atom status bytes)
     ⊎ (((small : Small) (atom : List ℕ) → IsRunnable relation term file small atom → ⊥)
     × IsUnbuilt status bytes)
 
@@ -131,28 +115,27 @@ Gives (Check names) files status bytes = CheckGives names files status bytes
 Gives (IlOf names) files status bytes = IlGives names files status bytes
 Gives (Groups names) files status bytes = GroupsGive names files status bytes
 Gives (Order names) files status bytes = OrdersGive names files status bytes
-Gives (Run relation name names fuel depth) (term ∷ file ∷ []) status bytes =
-    RunGives IsRunText relation term file status bytes
+Gives (Eval query_name names) (query ∷ files) status bytes =
+    EvalGives names query files status bytes
+Gives (Next relation name names) (term ∷ files) status bytes =
+    NextGives names relation term files status bytes
+Gives (Run relation name names fuel depth) (term ∷ files) status bytes =
+    RunGives names relation term files fuel depth status bytes
 Gives (Derive relation name names fuel depth) (term ∷ file ∷ []) status bytes =
-    RunGives IsDerivationText relation term file status bytes
+    DeriveGives relation term file status bytes
 Gives (Verify il_name name) (il ∷ derivation ∷ []) status bytes =
     VerifyGives il derivation status bytes
 Gives command files status bytes = ⊥
 
--- the forms of commands that are built: runs over one file of a specification, and the rest over any
-abbrev pub HasBuiltForm : Command → Type 0
-HasBuiltForm (Check files) = Unit {0}
-HasBuiltForm (IlOf files) = Unit {0}
-HasBuiltForm (Groups files) = Unit {0}
-HasBuiltForm (Order files) = Unit {0}
-HasBuiltForm (Run relation term (file ∷ []) fuel depth) = Unit {0}
-HasBuiltForm (Derive relation term (file ∷ []) fuel depth) = Unit {0}
-HasBuiltForm (Verify il derivation) = Unit {0}
-HasBuiltForm command = ⊥
-
--- so far commands are built without options
+-- Which commands are built, of these words: all but those of three names, and derivations over one
+-- file and without options.
 abbrev pub IsBuilt : List (List ℕ) → Command → Type 0
-IsBuilt words command = HasBuiltForm command × (has_options words ≡ false)
+IsBuilt words (Derive relation term (file ∷ []) fuel depth) = has_options words ≡ false
+IsBuilt words (Derive relation term files fuel depth) = ⊥
+IsBuilt words (Prose files) = ⊥
+IsBuilt words (Latex files) = ⊥
+IsBuilt words (Make n) = ⊥
+IsBuilt words command = Unit {0}
 
 -- the most bytes of a source or a term
 abbrev pub source_limit : ℕ

@@ -1,61 +1,15 @@
 -- The printed texts of commands.
-use Rattle.std.specs.Prelude.{ℕ, ◌+◌, ◌-◌, length, List, [], ◌∷◌, ◌++◌, Option, Some, None, codes, decimal}
+use Rattle.std.specs.Prelude.{ℕ, List, [], ◌∷◌, ◌++◌, Option, Some, None, codes, decimal}
 use Rattle.std.specs.List.{flat_map}
 use Rattle.st_el.specs.declared.definition.DefNode.{DefNode}
 use Rattle.st_el.specs.declared.definition.DefNode.TheVariants.{Syntax, Var, Relation, Rule, Fun, Clause}
 use Rattle.st_il.specs.declared.type_rule.TypeRule.{TypeRule}
 use Rattle.st_il.specs.declared.type_rule.TypeRule.TheVariants.{T1, T2, T3, T4, T5, T6, T7, T8, T9, T10, T11, T12, T13, T14}
-use Rattle.st_il.specs.declared.value.Value.{Value, out-Value}
-use Rattle.st_il.specs.declared.value.Value.TheOpen.{Value-F}
 use Rattle.st_num.specs.declared.rule.RuleId.{RuleId}
 use Rattle.st_num.specs.declared.rule.RuleId.TheVariants as id
 use Rattle.st_num.specs.declared.span.Span.{Span}
-use Rattle.st_tool.specs.declared.transcript.Ending.{Ending}
-use Rattle.st_tool.specs.declared.transcript.Ending.TheVariants.{Stuck, Fuel}
-use Rattle.st_semantics.specs.Transcript.{Term}
 use Rattle.st_semantics.specs.declared.verify_rule.VerifyRule.{VerifyRule}
 use Rattle.st_semantics.specs.declared.verify_rule.VerifyRule.TheVariants.{V1, V2, V3, V4, V5, V6, V7, V8, V9, V10, V11, V12, V13}
-
--- A value by its outermost form, as it is printed: so far the tag of a case without operands.
-abbrev pub layer_text : {X : Type 0} → Value-F X → List ℕ
-layer_text (Value-F.Case tag []) = tag
-layer_text _ = []
-
--- a value as it is printed: so far the tag of a case without operands
-abbrev pub value_text : Value → List ℕ
-value_text value = layer_text (out-Value value)
-
--- a term as it is printed: so far of one value
-abbrev pub term_text : Term → List ℕ
-term_text (value ∷ []) = value_text value
-term_text _ = []
-
--- the line of a term and its number
-abbrev pub term_line : ℕ → Term → List ℕ
-term_line number term = decimal number ++ codes " " ++ term_text term ++ codes "\n"
-
--- that line, where the term is an atom
-abbrev pub atom_line : ℕ → List ℕ → List ℕ
-atom_line number atom = decimal number ++ codes " " ++ atom ++ codes "\n"
-
--- the lines of terms, numbered from a number on
-abbrev pub term_lines : ℕ → List Term → List ℕ
-term_lines number [] = []
-term_lines number (term ∷ terms) = term_line number term ++ term_lines (number + 1) terms
-
--- the word of how a run ended
-abbrev pub ending_word : Ending → List ℕ
-ending_word Stuck = codes "stuck"
-ending_word Fuel = codes "fuel"
-
--- the last line: how a run ended, after so many steps
-abbrev pub ending_line : Ending → ℕ → List ℕ
-ending_line ending steps =
-    ending_word ending ++ codes " after " ++ decimal steps ++ codes " steps\n"
-
--- the text of a run over these terms
-abbrev pub transcript_text : List Term → Ending → List ℕ
-transcript_text terms ending = term_lines 0 terms ++ ending_line ending (length terms - 1)
 
 -- the words ask for no command
 abbrev pub usage_text : List ℕ
@@ -211,3 +165,13 @@ abbrev pub refused_source_text : List ℕ → Span → List ℕ → RuleId → L
 refused_source_text name at definition rule =
     codes "refused " ++ name ++ codes ":" ++ decimal at.line ++ codes ":" ++ decimal at.column
     ++ codes " " ++ definition ++ codes " " ++ rule_id_word rule ++ codes "\n"
+
+-- a place in a term or a query is refused by a rule
+abbrev pub refused_term_text : Span → RuleId → List ℕ
+refused_term_text at rule =
+    codes "term refused " ++ decimal at.line ++ codes ":" ++ decimal at.column ++ codes " "
+    ++ rule_id_word rule ++ codes "\n"
+
+-- more calls or goals than so many would be open at once
+abbrev pub depth_text : ℕ → List ℕ
+depth_text depth = codes "depth " ++ decimal depth ++ codes "\n"

@@ -5,6 +5,8 @@ use Rattle.st_il.specs.declared.value.Value.TheVariants.{Case}
 use Rattle.st_semantics.specs.Names.{Name}
 use Rattle.st_semantics.specs.Transcript as run
 use Rattle.st_semantics.specs.Transcript.{Term, Transcript}
+use Rattle.st_tool.specs.declared.status.Status.{Status}
+use Rattle.st_tool.specs.declared.status.Status.TheVariants as answer
 use Rattle.st_tool.specs.declared.transcript.Ending.{Ending}
 use Rattle.st_tool.specs.declared.transcript.Ending.TheVariants.{Stuck, Fuel}
 
@@ -16,6 +18,11 @@ atom_term atom = Case atom [] ∷ []
 abbrev pub ending_of : Ending → run.Ending
 ending_of Stuck = run.Stuck
 ending_of Fuel = run.Fuel
+
+-- the status of a run that ended so
+abbrev pub status_of : Ending → Status
+status_of Stuck = answer.Done
+status_of Fuel = answer.Fuel
 
 -- the terms of a run from this term with this much fuel, itself in front, and its ending
 pub record IsTranscript (il : Il) (relation : Name) (fuel : ℕ) (start : Term) (terms : List Term)

@@ -7,3 +7,9 @@ pub mod Nodes
 pub mod Checks
 pub mod Printing
 pub mod Relations
+pub mod Specifying
+pub mod Searching
+pub mod Marking
+pub mod Needing
+pub mod Asking
+pub mod Answering

@@ -2,7 +2,8 @@
 
 ghost use Rattle.std.specs.Prelude.{◌≡◌, ◌<◌, ◌≤◌, ◌↔◌, ◌++◌, ◌∷◌, [], codes, IfOk, IsTrue, map, string_bytes, length};
 ghost use Rattle.st_tool.specs.declared.loads.Loaded.{Loaded as Loading};
-ghost use Rattle.st_tool.specs.Commands.{Gives, HasBuiltForm, IsBuilt, IsUnbuilt, limit_of};
+ghost use Rattle.st_tool.specs.Commands.{Gives, IsBuilt, IsUnbuilt, limit_of};
+ghost use Rattle.st_tool.specs.inner.Answering.{IsAnswerable};
 ghost use Rattle.st_tool.specs.Loads.{counts_of, FitsNames, LoadsTo};
 ghost use Rattle.st_tool.specs.Outcome.{Outcome, HasOutcome, StopsAt, most_files};
 ghost use Rattle.st_words.specs.FileNames.{file_names};
@@ -11,7 +12,9 @@ ghost use Rattle.st_words.specs.Reads.{Reads};
 use crate::Status;
 use crate::check::{Printed, answer_files};
 use crate::loads::{Loaded, load_all};
-use crate::source::{derive_file, il_files, run_file};
+use crate::queries::eval_files;
+use crate::searches::{next_files, run_files};
+use crate::source::{derive_file, il_files};
 use crate::verification::verify_files;
 use st_num::{NoMemory, Row};
 use st_outside::Files;
@@ -64,9 +67,20 @@ fn two_files(given: &[Row<u8>]) -> (&[u8], &[u8])
     (one.as_slice(), other.as_slice())
 }
 
+/// The bytes of the first file that was given, and the files behind it.
+fn first_file(given: &[Row<u8>]) -> (&[u8], &[Row<u8>])
+    requires { 0 < length given.now }
+    ensures { given.now ≡ result.0.now ∷ result.1.now }
+{
+    let [first, behind @ ..] = given else {
+        unreachable!();
+    };
+    (first.as_slice(), behind)
+}
+
 /// Answers a command whose files are given.
 fn answer_given(alloc: Global, command: &Command, given: &[Row<u8>]) -> Result<Answer, NoMemory>
-    requires built { HasBuiltForm command.now }
+    requires built { IsAnswerable command.now }
     requires few { length (file_names command.now) ≤ most_files }
     requires fits { FitsNames (limit_of command.now) (Loaded.Given given.now)
         (file_names command.now) }
@@ -78,9 +92,25 @@ fn answer_given(alloc: Global, command: &Command, given: &[Row<u8>]) -> Result<A
         Command::Il(names) => il_files(alloc, names.as_slice(), given),
         Command::Groups(names) => answer_files(alloc, Printed::Groups, names.as_slice(), given),
         Command::Order(names) => answer_files(alloc, Printed::Orders, names.as_slice(), given),
-        Command::Run(relation, _, _, _, _) => {
-            let (term, file) = two_files(given);
-            run_file(alloc, relation.as_str(), term, file)
+        Command::Eval(_, names) => {
+            let (query, files) = first_file(given);
+            eval_files(alloc, names.as_slice(), files, query)
+        }
+        Command::Next(relation, _, names) => {
+            let (term, files) = first_file(given);
+            next_files(alloc, relation.as_str(), term, names.as_slice(), files)
+        }
+        Command::Run(relation, _, names, fuel, depth) => {
+            let (term, files) = first_file(given);
+            run_files(
+                alloc,
+                relation.as_str(),
+                *fuel,
+                *depth,
+                term,
+                names.as_slice(),
+                files,
+            )
         }
         Command::Derive(relation, _, _, _, _) => {
             let (term, file) = two_files(given);
@@ -90,11 +120,7 @@ fn answer_given(alloc: Global, command: &Command, given: &[Row<u8>]) -> Result<A
             let (il, derivation) = two_files(given);
             verify_files(alloc, il, derivation)
         }
-        Command::Eval(_, _)
-        | Command::Next(_, _, _)
-        | Command::Prose(_)
-        | Command::Latex(_)
-        | Command::Make(_) => unreachable!(),
+        Command::Prose(_) | Command::Latex(_) | Command::Make(_) => unreachable!(),
     }
 }
 
@@ -117,7 +143,7 @@ fn answer_stopped(
 
 /// Answers a command whose loads came to this.
 fn answer_loaded(alloc: Global, command: &Command, loaded: &Loaded) -> Result<Answer, NoMemory>
-    requires built { HasBuiltForm command.now }
+    requires built { IsAnswerable command.now }
     requires few { length (file_names command.now) ≤ most_files }
     requires fits { FitsNames (limit_of command.now) loaded.now (file_names command.now) }
     ensures { IfOk result (λ answer. Outcome command.now loaded.now answer.status
@@ -134,22 +160,21 @@ fn answer_loaded(alloc: Global, command: &Command, loaded: &Loaded) -> Result<An
     }
 }
 
-/// Whether the command is of a form that is built.
-fn has_built_form(command: &Command) -> bool
-    ensures { IsTrue result ↔ HasBuiltForm command.now }
+/// Whether a command that was read of these words is built.
+fn is_built(words: &[String], command: &Command) -> bool
+    ensures { IsTrue result ↔ IsBuilt (map string_bytes words.now) command.now }
 {
     match command {
-        Command::Run(_, _, files, _, _) | Command::Derive(_, _, files, _, _) => files.len() == 1,
+        Command::Derive(_, _, files, _, _) => files.len() == 1 && !has_options(words),
         Command::Check(_)
         | Command::Il(_)
         | Command::Groups(_)
         | Command::Order(_)
-        | Command::Verify(_, _) => true,
-        Command::Eval(_, _)
+        | Command::Eval(_, _)
         | Command::Next(_, _, _)
-        | Command::Prose(_)
-        | Command::Latex(_)
-        | Command::Make(_) => false,
+        | Command::Run(_, _, _, _, _)
+        | Command::Verify(_, _) => true,
+        Command::Prose(_) | Command::Latex(_) | Command::Make(_) => false,
     }
 }
 
@@ -169,7 +194,7 @@ fn answer_command<F: Files>(
     command: &Command,
     files: &mut F,
 ) -> Result<Answer, NoMemory>
-    requires built { HasBuiltForm command.now }
+    requires built { IsAnswerable command.now }
     requires few { length (file_names command.now) ≤ most_files }
     ensures same { F.held files.new ≡ F.held files.old }
     ensures loads { IfOk result (λ answer. (loaded : Loading)
@@ -182,13 +207,6 @@ fn answer_command<F: Files>(
     let names = command.file_names(alloc)?;
     let loaded = load_all(alloc, files, names.as_slice(), limit_of(command))?;
     answer_loaded(alloc, command, &loaded)
-}
-
-/// Whether the command is built.
-fn is_built(words: &[String], command: &Command) -> bool
-    ensures { IsTrue result ↔ IsBuilt (map string_bytes words.now) command.now }
-{
-    has_built_form(command) && !has_options(words)
 }
 
 /// Answers a command that was read of the words.

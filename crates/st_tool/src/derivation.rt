@@ -5,8 +5,8 @@ ghost use Rattle.st_deriv.specs.LineText.{HasText, lines_text};
 ghost use Rattle.st_il.specs.Small.{IsSmall, il_of};
 ghost use Rattle.st_tool.specs.Derivation.{last_line};
 ghost use Rattle.st_tool.specs.inner.Nodes.{rule_node};
-ghost use Rattle.st_tool.specs.Commands.{IsDerivationText, status_of};
-ghost use Rattle.st_tool.specs.Transcript.{atom_term};
+ghost use Rattle.st_tool.specs.Commands.{IsDerivationText};
+ghost use Rattle.st_tool.specs.Transcript.{atom_term, status_of};
 
 use crate::Answer;
 use crate::step::next_rule;

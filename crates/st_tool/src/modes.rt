@@ -3,9 +3,8 @@
 ghost use Rattle.std.specs.Prelude.{length, IfOk};
 ghost use Rattle.st_elab_def.specs.Elaboration.{IsElaborated};
 ghost use Rattle.st_semantics.specs.Breaches.{IsModeBreach};
-ghost use Rattle.st_tool.specs.Checking.{SourceGives};
-ghost use Rattle.st_tool.specs.declared.check.Printed.{Printed as Asked};
 ghost use Rattle.st_tool.specs.inner.Printing.{TellsModeFault, BeginWithin};
+ghost use Rattle.st_tool.specs.inner.Specifying.{RefusesSource};
 
 use crate::answer::Answer;
 use crate::refusal::refused_in;
@@ -29,8 +28,7 @@ fn unmoded(
     requires elaborated { IsElaborated defs.now elaborated.now }
     requires begin { BeginWithin (length names.now) defs.now }
     requires first { IsModeBreach elaborated.now.il place rule }
-    ensures { (asked : Asked) → IfOk result (λ answer. SourceGives asked names.now defs.now
-        answer.status answer.bytes.items) }
+    ensures { IfOk result (RefusesSource names.now defs.now) }
 {
     let sources = elaborated.sources.as_slice();
     let number = sources[place as usize];
@@ -49,8 +47,7 @@ pub fn without_modes(
     requires elaborated { IsElaborated defs.now elaborated.now }
     requires begin { BeginWithin (length names.now) defs.now }
     requires fault { TellsModeFault elaborated.now.il fault }
-    ensures { (asked : Asked) → IfOk result (λ answer. SourceGives asked names.now defs.now
-        answer.status answer.bytes.items) }
+    ensures { IfOk result (RefusesSource names.now defs.now) }
 {
     match fault {
         ModeFault::Refused { definition, rule } => {

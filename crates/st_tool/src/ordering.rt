@@ -40,7 +40,7 @@ fn add_numbers(numbers: &[u32], bytes: &mut Vec<u8>) -> Result<(), NoMemory>
 }
 
 /// Adds the variable that is in the way, or a dash.
-fn add_variable(variable: &Option<Name>, bytes: &mut Vec<u8>) -> Result<(), NoMemory>
+pub fn add_variable(variable: &Option<Name>, bytes: &mut Vec<u8>) -> Result<(), NoMemory>
     ensures { OnOk result (bytes.new.items ≡ bytes.old.items ++ variable_text variable.now) }
 {
     match variable {

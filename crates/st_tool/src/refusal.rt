@@ -1,7 +1,7 @@
-//! The refusal of a specification: its place, the definition and the rule.
+//! The refusal of a specification, with its place, the definition and the rule, and of a term.
 
 ghost use Rattle.std.specs.Prelude.{◌≡◌, ◌<◌, ◌++◌, ℕ, List, Some, length, slice_get, codes, IfOk, OnOk};
-ghost use Rattle.st_tool.specs.Texts.{rule_id_word, fragment_words, part_words, definition_words, refused_source_text};
+ghost use Rattle.st_tool.specs.Texts.{rule_id_word, fragment_words, part_words, definition_words, refused_source_text, refused_term_text};
 
 use crate::Status;
 use crate::answer::Answer;
@@ -160,4 +160,23 @@ pub fn refused_in(
     let words = definition_words(alloc, &def.node)?;
     let name = names[at.file as usize].as_str();
     refused(alloc, name, at, words.as_slice(), rule)
+}
+
+/// The answer where a place in a term or a query is refused.
+pub fn refused_term(alloc: Global, at: Span, rule: RuleId) -> Result<Answer, NoMemory>
+    ensures status { IfOk result (λ answer. answer.status ≡ Status.Term) }
+    ensures bytes { IfOk result (λ answer. answer.bytes.items ≡ refused_term_text at rule) }
+{
+    let mut buffer = Buffer::new();
+    let mut bytes = Vec::from_slice(alloc, b"term refused ")?;
+    bytes.extend_from_slice(buffer.format(at.line).as_bytes())?;
+    bytes.extend_from_slice(b":")?;
+    bytes.extend_from_slice(buffer.format(at.column).as_bytes())?;
+    bytes.extend_from_slice(b" ")?;
+    bytes.extend_from_slice(rule_id_word(rule).as_bytes())?;
+    bytes.extend_from_slice(b"\n")?;
+    Ok(Answer {
+        status: Status::Term,
+        bytes,
+    })
 }

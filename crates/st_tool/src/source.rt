@@ -5,7 +5,7 @@ ghost use Rattle.st_il.specs.declared.small.Small.{Small as Specification};
 ghost use Rattle.st_il.specs.Small.{IsSmall, il_of};
 ghost use Rattle.st_iltext.specs.IlText.{IlText};
 ghost use Rattle.st_tool.specs.Checking.{IsOneSmall, IlGives};
-ghost use Rattle.st_tool.specs.Commands.{source_limit, RunGives, IsRunText, IsDerivationText, IsAtomText, IsTerm, IsStart};
+ghost use Rattle.st_tool.specs.Commands.{source_limit, DeriveGives, IsDerivationText, IsAtomText, IsTerm, IsStart};
 ghost use Rattle.st_tool.specs.inner.Starts.{HasNoTerm, HasNoStart};
 
 use crate::Status;
@@ -13,7 +13,6 @@ use crate::answer::{Answer, unbuilt};
 use crate::check::{Printed, answer_files};
 use crate::derivation::derive;
 use crate::reader::read_small;
-use crate::transcript::run;
 use st_il::{Small, il_of_small};
 use st_iltext::print_il;
 use st_num::{Name, NoMemory, Row};
@@ -101,20 +100,6 @@ pub fn il_files(alloc: Global, names: &[CommandWord], files: &[Row<u8>]) -> Resu
     }
 }
 
-/// Runs a relation of the specification in a file, from the term in another.
-pub fn run_file(alloc: Global, relation: &str, term: &[u8], file: &[u8]) -> Result<Answer, NoMemory>
-    ensures { IfOk result (λ answer. RunGives IsRunText relation.now term.now file.now
-        answer.status answer.bytes.items) }
-{
-    let Some(small) = read_small(alloc, file)? else {
-        return unbuilt(alloc);
-    };
-    match start_of(&small, relation, term) {
-        None => unbuilt(alloc),
-        Some(start) => run(alloc, &small, start),
-    }
-}
-
 /// Runs a relation of the specification in a file, from the term in another, and derives each step.
 pub fn derive_file(
     alloc: Global,
@@ -122,7 +107,7 @@ pub fn derive_file(
     term: &[u8],
     file: &[u8],
 ) -> Result<Answer, NoMemory>
-    ensures { IfOk result (λ answer. RunGives IsDerivationText relation.now term.now file.now
+    ensures { IfOk result (λ answer. DeriveGives relation.now term.now file.now
         answer.status answer.bytes.items) }
 {
     let Some(small) = read_small(alloc, file)? else {

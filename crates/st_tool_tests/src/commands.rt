@@ -19,7 +19,12 @@ const LIGHT_LINES: &str = "derivation 1 T\nfrom (c \"RED\")\n\
     node \"T\" \"a\" () () ((c \"RED\") (c \"GREEN\"))\nstep 3\n\
     node \"T\" \"b\" () () ((c \"GREEN\") (c \"AMBER\"))\nstep 5\nend stuck\n";
 
-const FILES: [(&str, &str); 3] = [("red", "RED"), ("light", LIGHT), ("loop", LOOP)];
+const FILES: [(&str, &str); 4] = [
+    ("red", "RED"),
+    ("query", "$(1 + 2)"),
+    ("light", LIGHT),
+    ("loop", LOOP),
+];
 
 /// The files, of which the load of this number fails.
 fn files_of(alloc: Global, fails: u64) -> Result<MemFiles, NoMemory> {
@@ -53,12 +58,17 @@ fn served(
     Ok((status, out))
 }
 
-const LOADS: [(u64, &str); 2] = [(0, "load failed red\n"), (1, "load failed light\n")];
+const LOADS: [(&str, u64, &str); 4] = [
+    ("run T red light", 0, "load failed red\n"),
+    ("run T red light", 1, "load failed light\n"),
+    ("eval query light", 0, "load failed query\n"),
+    ("eval query light", 1, "load failed light\n"),
+];
 
 #[test]
 fn a_failed_load_is_named(rt: HostRuntime) -> Result<(), Fail> {
-    for (number, printed) in &LOADS {
-        let (status, out) = served(rt.alloc(), "run T red light", *number, 1000)?;
+    for (words, number, printed) in &LOADS {
+        let (status, out) = served(rt.alloc(), words, *number, 1000)?;
         assert!(rt; status == Status::Load && out.taken.as_slice() == printed.as_bytes());
     }
     Ok(())
@@ -85,5 +95,6 @@ fn expect_fronts(rt: &impl Abort, alloc: Global, words: &str, printed: &[u8]) ->
 fn a_failed_write_leaves_the_front(rt: HostRuntime) -> Result<(), Fail> {
     let alloc = rt.alloc();
     expect_fronts(&rt, alloc, "run T red light", LIGHT_RUN.as_bytes())?;
+    expect_fronts(&rt, alloc, "eval query light", b"3\n")?;
     expect_fronts(&rt, alloc, "derive T red light", LIGHT_LINES.as_bytes())
 }

@@ -1,12 +1,12 @@
 -- What definitions declare, told together.
-use Rattle.std.specs.Prelude.{◌≡◌, Bool, false, ◌&&◌, List, [], ◌∷◌, ◌++◌, map, bytes_eq}
-use Rattle.std.specs.List.{list_any}
+use Rattle.std.specs.Prelude.{◌≡◌, false, List, [], ◌∷◌, ◌++◌, map}
 use Rattle.st_il.specs.declared.definition.IlDef.{IlDef}
 use Rattle.st_il.specs.declared.definition.IlDef.TheVariants.{Syntax, Var, Relation, Rule, Fun, Clause}
 use Rattle.st_il.specs.declared.definition.RuleDef.{RuleDef}
 use Rattle.st_semantics.specs.Names.{Name, has_name}
 use Rattle.st_semantics.specs.Definitions.{rules_in}
 use Rattle.st_ilcheck.specs.declared.declaring.Declared.{Declared}
+use Rattle.st_ilcheck.specs.inner.Index.{has_pair}
 use Rattle.st_ilcheck.specs.Declarations.{syntax_names, variable_names, relation_names, function_names, IsMode}
 
 -- nothing is declared
@@ -71,11 +71,6 @@ pub record AreLeft (defs rest : List IlDef) (d : Declared) : Type 0 where
   pub relations : d.relations ++ relation_names rest ≡ relation_names defs
   pub rules : d.rules ++ rule_pairs rest ≡ rule_pairs defs
   pub functions : d.functions ++ function_names rest ≡ function_names defs
-
--- whether a rule of this relation has the name
-abbrev pub has_pair : Name → Name → List (Name × Name) → Bool
-has_pair relation name pairs =
-    list_any (λ (p : Name × Name). bytes_eq relation p.0 && bytes_eq name p.1) pairs
 
 -- what a definition declares is not declared before
 abbrev pub IsNew : Declared → IlDef → Type 0

@@ -1,5 +1,5 @@
 -- What is sought at the parts of a run of a rule.
-use Rattle.std.specs.Prelude.{◌≡◌, ℕ, List, [], ◌∷◌, ◌++◌, Some, Ok, slice_get}
+use Rattle.std.specs.Prelude.{◌≡◌, ◌<◌, ℕ, List, [], ◌∷◌, ◌++◌, length, Some, Ok, slice_get}
 use Rattle.std.specs.List.{AllByRecursion}
 use Rattle.st_il.specs.declared.definition.Il.{Il}
 use Rattle.st_il.specs.declared.definition.Listed.{Listed}
@@ -13,14 +13,16 @@ use Rattle.st_semantics.specs.Definitions.{rules_of, IsRelation}
 use Rattle.st_semantics.specs.Directions.{mask}
 use Rattle.st_semantics.specs.Environments.{AgreeOn}
 use Rattle.st_semantics.specs.Evaluation.{tasks}
-use Rattle.st_semantics.specs.Variables.{prem_vars}
+use Rattle.st_semantics.specs.Variables.{vars_of, prem_vars}
 use Rattle.st_semantics.specs.Holding.{HaveValues}
 use Rattle.st_semantics.specs.Depth.{Meets}
 use Rattle.st_semantics.specs.Calls.{has_value}
 use Rattle.st_semantics.specs.Derivation.{Root}
-use Rattle.st_semantics.specs.Orders.{outputs_of_rule}
+use Rattle.st_semantics.specs.Orders.{inputs_of_rule, outputs_of_rule, in_order}
 use Rattle.st_semantics.specs.OrderOf.{order_of}
 use Rattle.st_semantics.specs.Goals.{Goal}
+use Rattle.st_algo.specs.declared.algorithm.AlgoStep.{AlgoStep}
+use Rattle.st_algo.specs.Lowered.{steps_of}
 use Rattle.st_eval.specs.Steps.{HasOnly}
 use Rattle.st_eval.specs.inner.Beside.{beside}
 use Rattle.st_search.specs.Answers.{IsOutput}
@@ -72,6 +74,18 @@ pub record IsRuleOf (il : Il) (relation : Name) (number : ℕ) (rule : RuleDef) 
     : Type 0 where
   pub is_rule : slice_get (rules_of il relation) number ≡ Some rule
   pub is_order : order_of il rule ≡ Ok order
+
+-- these are the steps of the premises of a rule in its order
+abbrev pub AreSteps : Il → RuleDef → List AlgoStep → Type 0
+AreSteps il rule steps =
+    (order : List ℕ) × (order_of il rule ≡ Ok order)
+    × (steps ≡ steps_of il (vars_of (inputs_of_rule il rule)) (in_order rule.premises order))
+
+-- this is the number of the premise that stands at a position of the order of a rule
+abbrev pub IsNumberAt : Il → RuleDef → ℕ → ℕ → Type 0
+IsNumberAt il rule position premise =
+    (order : List ℕ) → order_of il rule ≡ Ok order → position < length order
+    → slice_get order position ≡ Some premise
 
 -- a place of a rule is that of its relation and number
 pub record IsPlace (il : Il) (relation : Name) (place : Place) : Type 0 where

@@ -16,7 +16,7 @@ keeps_syntax-requires-clause-there c =
 pub keeps_syntax-requires-clause-names : goal.keeps_syntax-requires-clause-names
 keeps_syntax-requires-clause-names c =
     let there = read-there c.args.il.now.defs c.as_slice-defs.result.now c.args.at c.index-defs-at.result (Syntax c.in-Syntax.syntax) c.as_slice-defs.ensures c.requires.within c.index-defs-at.is c.in-Syntax.is in
-    place-names c.args.il.now c.args.at c.in-Syntax.syntax there c.args.before.now c.requires.before c.len-number.result c.len-number.ensures c.args.bodies.now c.requires.bodies c.as_slice-names.result.now c.as_slice-names.ensures
+    place-names c.args.il.now c.args.at c.in-Syntax.syntax there c.args.before.now c.requires.before c.len-number.result c.len-number.ensures c.args.bodies.now c.requires.bodies c.args.before.now.syntaxes refl
 
 pub returns-in_ok-kept-in-Syntax : goal.returns-in_ok-kept-in-Syntax
 returns-in_ok-kept-in-Syntax c =

@@ -5,6 +5,7 @@ use Rattle.st_search.specs.declared.holes.Evaluated.TheVariants.{Computed}
 use Rattle.st_search.specs.inner.Chains.{stop_by}
 use Rattle.st_search.specs.inner.Holes.{AreHoles}
 use Rattle.st_search.specs.inner.Meeting.{AllMeetings}
+use Rattle.st_search.proofs.Binds.{answered_binds}
 use Rattle.st_search.proofs.GoalsOf.{outs_formed, patterns_all, patterns_formed, patterns_bound}
 use Rattle.st_search.proofs.GoalRuns.{StopsAsked, asked_found, holes_stop, asked_stop}
 use Rattle.st_search.proofs.Sequences.{ends_by, ends_again}
@@ -50,3 +51,9 @@ returns-clause-found g c =
     asked_found c.args.search.now c.requires.search (g.F.Finder.answers c.args.finder.now) c.args.variables.now (scope_env c.args.scope.now) c.args.relation.now c.args.inputs c.args.outs.now c.as_slice-holes.result.now are c.as_slice.result.now
     (c.as_slice.ensures ∙ c.in_ok-patterns.ensures c.args.search.now.setting.il.now c.args.search.now.setting.depth (scope_env c.args.scope.now) Computed are) c.in_ok-answers.answers c.in_ok-answers.ensures c.in_ok-items.items
     (subst (λ z. AllMeetings (syntaxes c.args.search.now.setting.il.now) c.args.variables.now (scope_env c.args.scope.now) c.as_slice-holes.result.now c.as_slice.result.now z c.in_ok-items.items) c.as_slice-2.ensures c.in_ok-items.ensures)
+
+pub returns-clause-binds : goal.returns-clause-binds
+returns-clause-binds g c =
+    let are = subst (AreHoles c.args.search.now.setting.il.now c.args.search.now.setting.depth (scope_env c.args.scope.now) Computed c.args.outs.now) (sym c.as_slice-holes.ensures) c.in_ok-holes.ensures.found in
+    answered_binds c.args.search.now.setting.il.now c.args.variables.now (scope_env c.args.scope.now) c.args.relation.now c.args.outs.now c.as_slice.result.now c.as_slice-holes.result.now c.as_slice-2.result.now c.in_ok-items.items
+    (c.as_slice.ensures ∙ c.in_ok-patterns.ensures c.args.search.now.setting.il.now c.args.search.now.setting.depth (scope_env c.args.scope.now) Computed are) c.in_ok-items.ensures

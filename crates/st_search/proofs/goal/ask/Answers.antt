@@ -40,3 +40,6 @@ returns-in_ok-found-in-Stopped-clause-found g c =
     let w = c.in_ok-found-in-Stopped.ensures.found in
     let gives = subst (GivesAll (syntaxes c.args.search.now.setting.il.now) (CallAt c.args.search.now.setting.il.now c.args.search.now.setting.depth) (tasks (scope_env c.args.scope.now) c.args.ins.now)) c.in-Stopped.is c.in_ok-inputs.ensures in
     goal_none c.args.search.now c.requires.search (g.F.Finder.answers c.args.finder.now) c.args.variables.now (scope_env c.args.scope.now) c.args.relation.now c.args.ins.now c.args.outs.now c.in-Stopped.outcome gives w.0 c.in_ok-found-in-Stopped.found w.1 w.2
+
+pub returns-in_ok-found-in-Values-clause-binds : goal.returns-in_ok-found-in-Values-clause-binds
+returns-in_ok-found-in-Values-clause-binds g c = λ bound p only goal. c.in_ok-found-in-Values.ensures.binds bound p only (c.args.ins.now, goal)

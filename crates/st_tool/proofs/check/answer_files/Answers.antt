@@ -1,20 +1,12 @@
-use Rattle.std.proofs.Common.{subst, sym, ◌∙◌}
-use Rattle.std.specs.Prelude.{IfErr}
-use Rattle.st_tool.specs.Checking.{TellsFault}
-use Rattle.st_tool.proofs.Checks.{token_stands, files_empty}
-use Rattle.st_tool.proofs.ReaderLines.{is_nothing}
+use Rattle.std.proofs.Common.{subst}
+use Rattle.st_tool.specs.inner.Specifying.{Specifies}
+use Rattle.st_tool.proofs.Specifications.{files_print}
 use Rattle.st_tool.proofs.check.answer_files.Goals as goal
 
-pub faulty-requires : goal.faulty-requires
-faulty-requires c = record {
-  named = c.requires.named;
-  stands = token_stands c.args.files.now c.in-Err.fault (subst (λ r. IfErr r (TellsFault c.args.files.now)) c.in-Err.is c.scan_all.ensures.refused);
-}
+pub returns-in-Accepted : goal.returns-in-Accepted
+returns-in-Accepted c =
+    files_print c.args.printed c.args.names.now c.args.files.now c.in-Accepted.definitions c.in-Accepted.elaborated c.in-Accepted.modes c.accepted.result
+    (subst (Specifies c.args.names.now c.args.files.now) c.in-Accepted.is c.in_ok-specification.ensures) c.accepted.ensures.status c.accepted.ensures.bytes
 
-pub returns-in-Err : goal.returns-in-Err
-returns-in-Err c = c.faulty.ensures c.args.printed
-
-pub returns-then-is_empty : goal.returns-then-is_empty
-returns-then-is_empty c =
-    files_empty c.args.printed c.args.names.now c.args.files.now c.in-Ok.tokens.items c.answer_nothing.result c.in-Ok.ensures.tokens
-    (sym c.as_slice.ensures.value ∙ is_nothing c.as_slice.result.now c.is_empty.result c.is_empty.ensures c.if-is_empty.true) c.answer_nothing.ensures.status c.answer_nothing.ensures.bytes
+pub returns-in-Refused : goal.returns-in-Refused
+returns-in-Refused c = (subst (Specifies c.args.names.now c.args.files.now) c.in-Refused.is c.in_ok-specification.ensures).says c.args.printed

@@ -3,6 +3,7 @@ use Rattle.std.specs.Prelude.{Some}
 use Rattle.std.proofs.lemmas.Option.{slice_get-get_or}
 use Rattle.st_tool.proofs.SourcePlaces.{breach-placed, source-within}
 use Rattle.st_tool.proofs.Checks.{source_unmoded}
+use Rattle.st_tool.proofs.Specifications.{refuses_source}
 use Rattle.st_tool.proofs.modes.unmoded.Goals as goal
 
 pub bounds-sources-place : goal.bounds-sources-place
@@ -25,7 +26,8 @@ refused_in-requires c =
     (slice_get-get_or c.args.defs.now (get_or c.as_slice-sources.result.now c.args.place 0) c.index-defs-number.result within ∙ ap Some (sym c.index-defs-number.is))
 
 pub returns : goal.returns
-returns c = λ asked.
+returns c =
+    refuses_source c.args.names.now c.args.defs.now c.refused_in.result c.refused_in.ensures.status (λ asked.
     source_unmoded asked c.args.names.now c.args.defs.now c.args.elaborated.now c.args.place (get_or c.as_slice-sources.result.now c.args.place 0) 0 c.args.rule c.index-defs-number.result
     c.refused_in.result c.requires.elaborated c.requires.first (ap (λ xs. get_or xs c.args.place 0) c.as_slice-sources.ensures) c.index-defs-number.is c.refused_in.ensures.status
-    c.refused_in.ensures.bytes
+    c.refused_in.ensures.bytes)

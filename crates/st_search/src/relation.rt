@@ -1,0 +1,205 @@
+//! Relations that are searched: all their rules are run, and what they derive is put in order.
+
+ghost use Rattle.std.specs.Prelude.{◌≡◌, ◌<◌, ◌^◌, ◌++◌, ◌∷◌, [], false, ℕ, Some, All, slice_get, bytes_eq, IfOk, IfErr, OnOk, MatchOption, find};
+ghost use Rattle.std.specs.Option.{option_copied};
+ghost use Rattle.st_il.specs.declared.definition.RelationDef.{RelationDef};
+ghost use Rattle.st_semantics.specs.Names.{Name};
+ghost use Rattle.st_semantics.specs.Definitions.{IsRelation, rules_of, rules_in, rules_from};
+ghost use Rattle.st_semantics.specs.Goals.{Goal};
+ghost use Rattle.st_order.specs.Known.{all_now};
+ghost use Rattle.st_search.specs.Answers.{goal_of, AreSorted};
+ghost use Rattle.st_search.specs.inner.Chains.{EndsBehind};
+ghost use Rattle.st_search.specs.inner.Contracts.{IsShort};
+ghost use Rattle.st_search.specs.inner.Rules.{CanBeSearched, IsFirstRelation, algorithm_at, numbered_seeks, goal_seeks};
+ghost use Rattle.st_search.specs.inner.Search.{IsSearch, AnswersGoals};
+ghost use Rattle.st_search.specs.inner.Sought.{Finds};
+
+use crate::answer::{Output, SearchFault};
+use crate::finder::Finder;
+use crate::found::{Found, greater, nothing};
+use crate::ordered::with_outputs;
+use crate::rule::run_rule;
+use crate::setting::Search;
+use st_algo::{Algorithm, Algos};
+use st_il::{Il, IlDef, RelationDef, RuleDef, Value};
+use st_num::{Name, NoMemory, Row};
+use std::alloc::Global;
+
+/// The number of the first relation of a name.
+fn number_of(relations: &[&RelationDef], name: &Name) -> Option<usize>
+    ensures { MatchOption result
+        (All (λ (r : RelationDef). bytes_eq name.now r.name ≡ false) (all_now relations.now))
+        (λ number. (r : RelationDef) × (slice_get (all_now relations.now) number ≡ Some r)
+        × (find (λ (x : RelationDef). bytes_eq name.now x.name) (all_now relations.now)
+        ≡ Some r)) }
+{
+    for i in 0..relations.len() {
+        if name.as_slice() == relations[i].name.as_slice() {
+            return Some(i);
+        }
+    }
+    None
+}
+
+/// Adds a rule if it is one of the relation of this name.
+fn push_rule<'a>(
+    name: &Name,
+    definition: &'a IlDef,
+    rules: &mut Row<&'a RuleDef>,
+) -> Result<(), NoMemory>
+    ensures { OnOk result (all_now rules.new
+        ≡ all_now rules.old ++ rules_from name.now (rules_in (definition.now ∷ []))) }
+{
+    match definition {
+        IlDef::Rule(rule) => {
+            if name.as_slice() == rule.relation.as_slice() {
+                rules.push(rule)?;
+            }
+            Ok(())
+        }
+        IlDef::Syntax(_)
+        | IlDef::Var(_, _)
+        | IlDef::Relation(_)
+        | IlDef::Fun(_)
+        | IlDef::Clause(_) => Ok(()),
+    }
+}
+
+/// The rules of the relation of a name, in order.
+fn rules_of<'a>(alloc: Global, il: &'a Il, name: &Name) -> Result<Row<&'a RuleDef>, NoMemory>
+    ensures { IfOk result (λ row. all_now row ≡ rules_of il.now name.now) }
+{
+    let mut row = Row::new(alloc);
+    for definition in il.defs.as_slice() {
+        push_rule(name, definition, &mut row)?;
+    }
+    Ok(row)
+}
+
+/// The algorithm of a rule, both by their numbers.
+fn algorithm_at(algos: &Algos, relation: usize, rule: usize) -> Option<&Algorithm>
+    ensures { option_copied result ≡ algorithm_at algos.now relation rule }
+{
+    match algos.relations.get(relation) {
+        Some(algorithms) => match algorithms.get(rule) {
+            Some(Some(algorithm)) => Some(algorithm),
+            Some(None) | None => None,
+        },
+        None => None,
+    }
+}
+
+/// What the rule of a number derives, if it has an algorithm.
+fn run_numbered<F: Finder>(
+    alloc: Global,
+    search: &Search<'_>,
+    finder: &F,
+    relation: usize,
+    number: usize,
+    rule: &RuleDef,
+    inputs: &[Value],
+) -> Result<Found<Output>, SearchFault>
+    requires search { IsSearch search.now }
+    requires callable { F.IsCallable finder.now }
+    requires rule { (name : Name) × IsFirstRelation search.now.setting.il.now relation name
+        × (slice_get (rules_of search.now.setting.il.now name) number ≡ Some rule.now) }
+    ensures short { IfOk result (λ found. IsShort search.now.setting.il.now
+        search.now.setting.depth (F.answers finder.now) found.longest) }
+    ensures found { IfOk result (λ found. (left : ℕ) (g : Goal)
+        → AnswersGoals search.now.setting.il.now search.now.setting.depth left
+        (F.answers finder.now) → CanBeSearched search.now.setting.il.now g.relation
+        → g.inputs ≡ inputs.now → IsRelation search.now.setting.il.now relation g.relation
+        → Finds search.now.setting.il.now search.now.setting.depth found.longest
+        (numbered_seeks search.now.setting.il.now search.now.setting.depth g number rule.now)
+        found.items) }
+    ensures ends { IfErr result (λ fault. (left : ℕ) (g : Goal)
+        → AnswersGoals search.now.setting.il.now search.now.setting.depth left
+        (F.answers finder.now) → CanBeSearched search.now.setting.il.now g.relation
+        → g.inputs ≡ inputs.now → IsRelation search.now.setting.il.now relation g.relation
+        → EndsBehind search.now.setting.il.now search.now.setting.depth left g fault) }
+{
+    match algorithm_at(search.algos, relation, number) {
+        None => Ok(nothing(alloc)),
+        Some(algorithm) => {
+            let relation = relation as u32;
+            let number = number as u32;
+            let found = run_rule(
+                alloc, search, finder, relation, number, rule, algorithm, inputs,
+            )?;
+            Ok(found)
+        }
+    }
+}
+
+/// What the rules of a relation derive.
+fn run_all<F: Finder>(
+    alloc: Global,
+    search: &Search<'_>,
+    finder: &F,
+    relation: usize,
+    rules: &[&RuleDef],
+    inputs: &[Value],
+) -> Result<Found<Output>, SearchFault>
+    requires search { IsSearch search.now }
+    requires callable { F.IsCallable finder.now }
+    requires rules { (name : Name) × IsFirstRelation search.now.setting.il.now relation name
+        × (all_now rules.now ≡ rules_of search.now.setting.il.now name) }
+    ensures short { IfOk result (λ found. IsShort search.now.setting.il.now
+        search.now.setting.depth (F.answers finder.now) found.longest) }
+    ensures sorted { IfOk result (λ found. AreSorted found.items) }
+    ensures found { IfOk result (λ found. (left : ℕ) (g : Goal)
+        → AnswersGoals search.now.setting.il.now search.now.setting.depth left
+        (F.answers finder.now) → CanBeSearched search.now.setting.il.now g.relation
+        → g.inputs ≡ inputs.now → IsRelation search.now.setting.il.now relation g.relation
+        → Finds search.now.setting.il.now search.now.setting.depth found.longest
+        (goal_seeks search.now.setting.il.now search.now.setting.depth g) found.items) }
+    ensures ends { IfErr result (λ fault. (left : ℕ) (g : Goal)
+        → AnswersGoals search.now.setting.il.now search.now.setting.depth left
+        (F.answers finder.now) → CanBeSearched search.now.setting.il.now g.relation
+        → g.inputs ≡ inputs.now → IsRelation search.now.setting.il.now relation g.relation
+        → EndsBehind search.now.setting.il.now search.now.setting.depth left g fault) }
+{
+    let mut items = Row::new(alloc);
+    let mut longest = 0;
+    for i in 0..rules.len() {
+        let found = run_numbered(alloc, search, finder, relation, i, rules[i], inputs)?;
+        items = with_outputs(found.items, items)?;
+        longest = greater(longest, found.longest);
+    }
+    Ok(Found { items, longest })
+}
+
+/// All that a relation derives from these inputs, where a finder answers the goals of its premises.
+pub(crate) fn run_relation<F: Finder>(
+    alloc: Global,
+    search: &Search<'_>,
+    finder: &F,
+    relation: &Name,
+    inputs: &[Value],
+) -> Result<Found<Output>, SearchFault>
+    requires search { IsSearch search.now }
+    requires callable { F.IsCallable finder.now }
+    ensures short { IfOk result (λ found. IsShort search.now.setting.il.now
+        search.now.setting.depth (F.answers finder.now) found.longest) }
+    ensures sorted { IfOk result (λ found. AreSorted found.items) }
+    ensures found { IfOk result (λ found. (left : ℕ)
+        → AnswersGoals search.now.setting.il.now search.now.setting.depth left
+        (F.answers finder.now) → CanBeSearched search.now.setting.il.now relation.now
+        → Finds search.now.setting.il.now search.now.setting.depth found.longest
+        (goal_seeks search.now.setting.il.now search.now.setting.depth
+        (goal_of relation.now inputs.now)) found.items) }
+    ensures ends { IfErr result (λ fault. (left : ℕ)
+        → AnswersGoals search.now.setting.il.now search.now.setting.depth left
+        (F.answers finder.now) → CanBeSearched search.now.setting.il.now relation.now
+        → EndsBehind search.now.setting.il.now search.now.setting.depth left
+        (goal_of relation.now inputs.now) fault) }
+{
+    match number_of(search.relations, relation) {
+        None => Ok(nothing(alloc)),
+        Some(number) => {
+            let rules = rules_of(alloc, search.setting.il, relation)?;
+            let found = run_all(alloc, search, finder, number, rules.as_slice(), inputs)?;
+            Ok(found)
+        }
+    }
+}
