@@ -38,7 +38,7 @@ fn push_bytes(bytes: &[u8], text: &mut Name) -> Result<(), NoMemory>
 }
 
 /// The full name of a rule: that of its relation, and behind a `/` its own, where it is not empty.
-fn full_name(alloc: Global, rule: &RuleDef) -> Result<Name, NoMemory>
+pub fn full_name(alloc: Global, rule: &RuleDef) -> Result<Name, NoMemory>
     ensures { IfOk result (λ name. name ≡ full_name rule.now) }
 {
     let mut name = rule.relation.copy(alloc)?;

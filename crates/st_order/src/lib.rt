@@ -46,6 +46,7 @@ mod step_types;
 mod targets;
 pub mod variables;
 
+pub use all_orders::full_name;
 pub use directions::direction;
 pub use fault::{ModeFault, OrderFault};
 pub use masks::{Directions, directions_of};

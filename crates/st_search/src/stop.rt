@@ -1,6 +1,6 @@
 //! Why a premise is not run to its end.
 
-ghost use Rattle.std.specs.Prelude.{◌≡◌, ◌⊎◌, ◌++◌, [], Some, Ok, Err, IfOk, IfErr, OnOk};
+ghost use Rattle.std.specs.Prelude.{◌≡◌, ◌⊎◌, Ok, Err, IfOk, IfErr};
 ghost use Rattle.st_semantics.specs.Marks.{full_name};
 ghost use Rattle.st_search.specs.declared.answer.SearchFault.TheVariants as fault;
 ghost use Rattle.st_search.specs.declared.stop.Stop.{Stop};
@@ -8,7 +8,8 @@ ghost use Rattle.st_search.specs.inner.Chains.{fault_by, stop_by};
 
 use crate::answer::{Chain, SearchFault};
 use st_il::RuleDef;
-use st_num::{Name, NoMemory, Row};
+use st_num::{NoMemory, Row};
+use st_order::full_name;
 use std::alloc::Global;
 
 /// Why a premise is not run to its end.
@@ -42,29 +43,6 @@ impl From<SearchFault> for Stop {
             SearchFault::Memory => Stop::Memory,
         }
     }
-}
-
-/// Adds bytes.
-fn push_bytes(bytes: &[u8], text: &mut Name) -> Result<(), NoMemory>
-    ensures { OnOk result (text.new ≡ text.old ++ bytes.now) }
-{
-    for byte in bytes {
-        text.push(*byte)?;
-    }
-    Ok(())
-}
-
-/// The full name of a rule: that of its relation, and behind a `/` its own, where it is not empty.
-fn full_name(alloc: Global, rule: &RuleDef) -> Result<Name, NoMemory>
-    ensures { IfOk result (λ name. name ≡ full_name rule.now) }
-{
-    let mut name = rule.relation.copy(alloc)?;
-    if rule.name.is_empty() {
-        return Ok(name);
-    }
-    name.push(b'/')?;
-    push_bytes(rule.name.as_slice(), &mut name)?;
-    Ok(name)
 }
 
 /// What is told of a rule that stops at the premise of this number.

@@ -24,7 +24,6 @@ mod AnswerLemmas
 mod NextLemmas
 mod SearchLemmas
 mod SaysLemmas
-mod HasWalked
 mod NeededLemmas
 mod MarkLemmas
 mod TypedTables

@@ -22,7 +22,7 @@ use Rattle.st_order.specs.inner.Citations.{relations_in_rule}
 use Rattle.st_order.specs.inner.Index.{names_in}
 use Rattle.st_order.specs.inner.Reaching.{Reached, first, next, Grows, unseen}
 use Rattle.st_order.proofs.NamesIn.{has_name_append}
-use Rattle.st_tool.proofs.HasWalked.{or_cases, or_left, or_right, same_itself, has_itself, has_one, has_left, has_right, has_cases, grows_more, begins_with, goes_on, ends}
+use Rattle.st_order.proofs.HasWalked.{or_cases, or_left, or_right, same_itself, has_itself, has_one, has_left, has_right, has_cases, grows_more, begins_with, goes_on, ends}
 use Rattle.st_tool.specs.inner.Needing.{cited_in, some_has_otherwise, IsOnWalk}
 use Rattle.st_tool.specs.inner.Relations.{Entries, AreRules, rules_found, rules_at}
 

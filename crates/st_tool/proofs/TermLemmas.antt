@@ -25,7 +25,7 @@ use Rattle.st_semantics.proofs.Inverse.{variable_value}
 use Rattle.st_semantics.proofs.Names.{vars-form}
 use Rattle.st_semantics.proofs.PatternForms.{binds-level}
 use Rattle.st_semantics.proofs.PatternParts.{told-level}
-use Rattle.st_tool.proofs.HasWalked.{same_itself}
+use Rattle.st_order.proofs.HasWalked.{same_itself}
 
 -- ---- a variable as a pattern
 
