@@ -57,3 +57,7 @@ value-ind P step = ind-Value P (λ x y e. step x (subst (Parts P) e (parts_of P 
 pub every_value : (P : Value → Type 0) → ((x : Value) → P x) → (xs : List Value) → Every P xs
 every_value P all [] = tt
 every_value P all (x ∷ xs) = (all x, every_value P all xs)
+
+pub every_field : (P : Value → Type 0) → ((x : Value) → P x) → (xs : List (List ℕ × Value)) → Every (OfField P) xs
+every_field P all [] = tt
+every_field P all (x ∷ xs) = (all x.1, every_field P all xs)

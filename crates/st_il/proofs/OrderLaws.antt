@@ -8,11 +8,12 @@ use Rattle.std.specs.Cmp.Derive.Recursive.{limit_total}
 use Rattle.std.proofs.lemmas.Cmp.{then_total, on_total, nat_cmp_total, int_cmp_total, lists_total, nat_list_cmp_total, tied_itself, ranked, int_ranked}
 use Rattle.std.specs.declared.cmp.Ordering.{Ordering}
 use Rattle.std.specs.declared.cmp.Ordering.TheVariants.{Less as Below, Equal, Greater}
+use Rattle.st_il.specs.declared.value.Env.{Env}
 use Rattle.st_il.specs.declared.value.Value.{Value, out-Value, roll-Value, out-roll-Value, roll-out-Value, fold-roll-Value, map-Value}
 use Rattle.st_il.specs.declared.value.Value.TheOpen.{Value-F}
 use Rattle.st_il.specs.Height.{height, height_at, highest}
-use Rattle.st_il.specs.Order.{level_cmp, field_cmp, text_cmp, kind_of, value_cmp, values_cmp, IsOrder}
-use Rattle.st_il.proofs.Induction.{Every, OfField, Parts, value-ind, every_value}
+use Rattle.st_il.specs.Order.{level_cmp, field_cmp, text_cmp, kind_of, value_cmp, values_cmp, env_cmp, IsOrder}
+use Rattle.st_il.proofs.Induction.{Every, OfField, Parts, value-ind, every_value, every_field}
 use Rattle.st_il.proofs.OrderLemmas.{value_cmp-levels}
 
 -- ---- a level is ordered as its code is: the kind, a number, a text and parts with names
@@ -230,4 +231,19 @@ pub values_cmp_order : IsOrder values_cmp
 values_cmp_order = record {
   total = lists_total value_cmp_total;
   equal = λ xs ys. (parts-exact xs ys (every_value IsExact value_cmp-exact xs), λ e. subst (λ z. values_cmp xs z ≡ Equal) e (tied_itself (lists_total value_cmp_total) xs));
+}
+
+env_cmp_total : IsTotalOrder env_cmp
+env_cmp_total = on_total (λ (env : Env). env.entries) (lists_total (fields_total value_cmp value_cmp_total))
+
+env-exact : (a b : Env) → a.entries ≡ b.entries → a ≡ b
+env-exact a b e = ap (λ z. record { entries = z }) e
+
+pub env_cmp_order : IsOrder env_cmp
+env_cmp_order = record {
+  total = env_cmp_total;
+  equal = λ a b. (
+    λ e. env-exact a b (fields-exact a.entries b.entries (every_field IsExact value_cmp-exact a.entries) e),
+    λ e. subst (λ z. env_cmp a z ≡ Equal) e (tied_itself env_cmp_total a),
+  );
 }

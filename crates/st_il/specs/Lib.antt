@@ -4,7 +4,7 @@
 pub mod Height
 -- a value is not too high, and all its texts are texts
 pub mod Value
--- the order of values, in which two are equal only where they are the same
+-- the order of values and that of environments, in which two are equal only where they are the same
 pub mod Order
 -- a notation may stand where a sign of this level or a tighter one is due
 pub mod Notation

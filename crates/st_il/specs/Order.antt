@@ -1,10 +1,11 @@
--- The order of values: by kind, and values of one kind part by part.
+-- The order of values: by kind, and values of one kind part by part; and that of environments, by their entries.
 use Rattle.std.specs.Prelude.{◌≡◌, ◌↔◌, ℕ, List, Option, Some, None}
 use Rattle.std.specs.Ordering.{nat_cmp, int_cmp, bool_cmp, ordering_then}
 use Rattle.std.specs.Cmp.{IsTotalOrder}
 use Rattle.std.specs.Cmp.Lexicographic.{slice_cmp}
 use Rattle.std.specs.declared.cmp.Ordering.{Ordering}
 use Rattle.std.specs.declared.cmp.Ordering.TheVariants.{Less as Below, Equal, Greater}
+use Rattle.st_il.specs.declared.value.Env.{Env}
 use Rattle.st_il.specs.declared.value.Value.{Value, out-Value, fold-Value}
 use Rattle.st_il.specs.declared.value.Value.TheOpen.{Value-F}
 
@@ -68,6 +69,10 @@ values_cmp = slice_cmp value_cmp
 -- the order of lists of fields, likewise
 abbrev pub fields_cmp : List (List ℕ × Value) → List (List ℕ × Value) → Ordering
 fields_cmp = slice_cmp (field_cmp value_cmp)
+
+-- the order of environments, by their entries
+abbrev pub env_cmp : Env → Env → Ordering
+env_cmp a b = fields_cmp a.entries b.entries
 
 -- a value stands before another
 abbrev pub Less : Value → Value → Type 0

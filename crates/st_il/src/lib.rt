@@ -36,7 +36,7 @@ pub use expression::{IlExp, IlPrem, Iteration, ListItem, PathSeg};
 pub use height::is_within_height;
 pub use key::{Key, key_of, same_key};
 pub use occurs::HasVariables;
-pub use order::{compare, compare_values};
+pub use order::{compare, compare_env, compare_values};
 pub use reading::template_of;
 pub use reserved::is_reserved;
 pub use same::{same_env, same_fields, same_value, same_values};

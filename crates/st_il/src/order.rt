@@ -1,10 +1,10 @@
-//! The order of values.
+//! The order of values, and that of environments.
 
 ghost use Rattle.std.specs.Prelude.{◌≡◌, ◌↔◌, ℕ, List, []};
 ghost use Rattle.st_il.specs.declared.value.Value.{out-Value};
-ghost use Rattle.st_il.specs.Order.{value_cmp, values_cmp, fields_cmp, text_cmp, kind_of, IsOrder};
+ghost use Rattle.st_il.specs.Order.{value_cmp, values_cmp, fields_cmp, env_cmp, text_cmp, kind_of, IsOrder};
 
-use crate::Value;
+use crate::{Env, Value};
 use st_num::Name;
 use std::cmp::Ordering;
 
@@ -24,6 +24,14 @@ pub fn compare_values(a: &[Value], b: &[Value]) -> Ordering
     ensures law { IsOrder values_cmp }
 {
     compare_parts(a, b)
+}
+
+/// The order of environments, by their entries, which is total. It takes no memory.
+pub fn compare_env(a: &Env, b: &Env) -> Ordering
+    ensures order { result ≡ env_cmp a.now b.now }
+    ensures law { IsOrder env_cmp }
+{
+    compare_fields(a.entries.as_slice(), b.entries.as_slice())
 }
 
 /// How the first value is ordered to the second.
