@@ -1,5 +1,5 @@
 -- What an iteration is given covers all that give it its value.
-use Rattle.std.proofs.Common.{◌≡◌, ℕ, suc, ◌+◌, ◌<◌, ◌≤◌, pos, refl, sym, ◌∙◌, ap, subst, List, [], ◌∷◌, ◌++◌, map, length, take, get_or, inl, inr, Bool, true, false, ◌&&◌, ◌||◌, if◌then◌else◌, Option, Some, None}
+use Rattle.std.proofs.Common.{◌≡◌, ℕ, suc, ◌+◌, ◌<◌, ◌≤◌, pos, refl, sym, ◌∙◌, ap, subst, List, [], ◌∷◌, ◌++◌, map, length, take, get_or, inl, inr, Bool, true, false, ◌&&◌, ◌||◌, if◌then◌else◌, Option, Some, None, bytes_eq}
 use Rattle.std.proofs.lemmas.List.{take_more, take_all}
 use Rattle.st_num.specs.declared.dim.Kind.{Kind}
 use Rattle.st_num.specs.declared.dim.Kind.TheVariants as kind
@@ -18,11 +18,12 @@ use Rattle.st_semantics.specs.Names.{Name, has_name, without}
 use Rattle.st_semantics.specs.Environments.{value_in}
 use Rattle.st_semantics.specs.Forms.{Iterates, form_at, by_itself}
 use Rattle.st_semantics.specs.Iterations.{count_of, count_at, index_of, kind_of, Column, columns, size_of, gathered_as}
+use Rattle.st_semantics.specs.Depth.{ValuesAt}
 use Rattle.st_semantics.specs.Evaluation.{tasks}
 use Rattle.st_semantics.specs.Holding.{value_by, HaveValues}
 use Rattle.st_semantics.specs.Matching.{no_answers}
 use Rattle.st_semantics.specs.Patterns.{binds}
-use Rattle.st_semantics.proofs.Names.{or-cases, or-left, or-right}
+use Rattle.st_semantics.proofs.Names.{bytes-same, or-cases, or-left, or-right}
 use Rattle.st_semantics.proofs.Premises.{without-parts}
 use Rattle.st_semantics.proofs.Wider.{among-parts}
 use Rattle.st_semantics.proofs.Inverse.{Elements}
@@ -31,7 +32,7 @@ use Rattle.st_semantics.proofs.PatternParts.{pattern-form}
 use Rattle.st_semantics.proofs.Lengths.{limited_is}
 use Rattle.st_semantics.proofs.PatternValues.{quest_count, few_elements}
 use Rattle.st_match.specs.inner.Fitting.{Fits, FitAll, FitEach, FitCount, HasValue, column_value, IsElementCount}
-use Rattle.st_match.specs.inner.Covering.{joined, bound, all_bound, Stands, AreCandidates, AreCandidatesOfCount}
+use Rattle.st_match.specs.inner.Covering.{joined, bound, all_bound, Stands, Covers, AreCandidates, AreCandidatesOfCount, AreCandidatesOfElements, IsVariable, IsColumn}
 use Rattle.st_match.specs.inner.Rows.{RowStands, IsSized, AreRowsOf, row_values, are_there, in_columns, HasColumns, ColumnsCover, AllColumnsCover}
 use Rattle.st_match.proofs.Covers.{OneOf-map, OneOf-left, OneOf-right, OneOf-cases, OneOf-fewer}
 use Rattle.st_match.proofs.Binds.{iterated, binds-Iter}
@@ -149,9 +150,65 @@ candidates-Iter p how xs body v n rows es cs fs o long counted r all = record {
   };
 }
 
--- the same of parts that are equal to those of the pattern
-pub iteration_candidates : (p : IlExp) (how : Iteration) (xs ys : List Name) (body g : IlExp) (v : Value) (n : ℕ) (k : Kind) (rows qs : List (List Env)) (es cs ds fs : List Env) → p ≡ exp.Iter how xs body → ys ≡ xs → g ≡ body
-    → IsElementCount v n → k ≡ kind_of how → qs ≡ rows → ds ≡ cs → AreCandidatesOfCount how n es cs → AreRowsOf k g v rows → AllColumnsCover how ys qs ds fs → AreCandidates p v es fs
-iteration_candidates p how xs ys body g v n k rows qs es cs ds fs is names same long kind those counted c r all =
-    candidates-Iter p how xs body v n rows es cs fs (ap out-IlExp is ∙ exp.outs-Iter how xs body) long c (subst (λ z. AreRowsOf z body v rows) kind (subst (λ z. AreRowsOf k z v rows) same r))
-    (subst (λ z. AllColumnsCover how z rows cs fs) names (subst (λ z. AllColumnsCover how ys z cs fs) those (subst (λ z. AllColumnsCover how ys qs z fs) counted all)))
+-- ---- the iteration of one variable
+
+value-gathered : (k : Kind) (vs : List Value) (v : Value) → gathered_as k vs ≡ Val v → column_value k vs ≡ v
+value-gathered kind.List vs v e = limited_is (value.List vs) v e
+value-gathered kind.Opt [] v e = limited_is (value.Opt None) v e
+value-gathered kind.Opt (w ∷ vs) v e = limited_is (value.Opt (Some w)) v e
+
+values_of_variable : (defs : List SyntaxDef) (body : IlExp) (x : Name) → IsVariable body x → (us : List Env) (vs : List Value) → FitEach defs body vs us → ValuesAt x us vs
+values_of_variable defs body x i [] [] f = tt
+values_of_variable defs body x i [] (v ∷ vs) f = absurd f
+values_of_variable defs body x i (u ∷ us) [] f = absurd f
+values_of_variable defs body x i (u ∷ us) (v ∷ vs) f = (i.value defs u v f.0, values_of_variable defs body x i us vs f.1)
+
+column_has : (defs : List SyntaxDef) (s : Env) (how : Iteration) (xs : List Name) (body : IlExp) (v : Value) (x : Name) → IsColumn how xs body x → Elements defs no_answers s how xs body v → HasValue x v s
+column_has defs s how xs body v x i el =
+    let there : has_name xs x ≡ true = subst (λ z. has_name z x ≡ true) (sym i.names) (or-left (bytes_eq x x) false (bytes-same x)) in
+    let at = values_at how xs s el.count el.envs x el.values el.over there i.apart (values_of_variable defs body x i.variable el.envs el.values el.each) in
+    column_value-is (kind_of how) (value_in s x) el.values at ∙ ap Some (value-gathered (kind_of how) el.values v el.makes)
+
+pub candidates-column : (how : Iteration) (xs : List Name) (body : IlExp) (v : Value) (x : Name) (cs fs : List Env) → IsColumn how xs body x → Covers (HasValue x v) (has_name (x ∷ [])) cs fs
+    → AreCandidatesOfElements how xs body v cs fs
+candidates-column how xs body v x cs fs i c = record {
+  are = λ es n long counted. record {
+    cover = λ defs pat. record {
+      covers = λ s b f a.
+          let p = exp.Iter how xs body in
+          let o = exp.outs-Iter how xs body in
+          let el = Fits-Iter defs s p how xs body v o f in
+          let pats = pattern-form defs p (Iterates how xs body) (by_itself (ap form_at o)) pat in
+          let count = all_bound (count_of how) in
+          let one = has_name (x ∷ []) in
+          let start = (counted.cover defs pats.0).covers s b (fit_number defs s how xs body v el n long) a in
+          OneOf-fewer s (joined (joined b count) one) (joined b (bound p)) fs
+          (λ y k. elim (or-cases (b y) (bound p y) k) [
+            | inl d ↦ or-left (b y || count y) (one y) (or-left (b y) (count y) d)
+            | inr d ↦ elim (or-cases (count y) (has_name (iterated how xs body) y) (binds-Iter p how xs body o y d)) [
+              | inl e ↦ or-left (b y || count y) (one y) (or-right (b y) (count y) e)
+              | inr e ↦ or-right (b y || count y) (one y) (subst (λ z. has_name z y ≡ true) i.names (among-parts xs (without (index_of how) (binds body)) y e).0)
+            ]
+          ])
+          (c.covers s (joined b count) (column_has defs s how xs body v x i el) start);
+    };
+  };
+}
+
+-- ---- the parts of an iteration as they stand in the pattern
+
+pub candidates-elements : (how : Iteration) (xs : List Name) (body : IlExp) (v : Value) (k : Kind) (rows qs : List (List Env)) (cs fs : List Env) → k ≡ kind_of how → qs ≡ rows
+    → AreRowsOf k body v rows → AllColumnsCover how xs qs cs fs → AreCandidatesOfElements how xs body v cs fs
+candidates-elements how xs body v k rows qs cs fs kind those r all = record {
+  are = λ es n long counted.
+      candidates-Iter (exp.Iter how xs body) how xs body v n rows es cs fs (exp.outs-Iter how xs body) long counted (subst (λ z. AreRowsOf z body v rows) kind r)
+      (subst (λ z. AllColumnsCover how xs z cs fs) those all);
+}
+
+iter_same : (how : Iteration) (xs ys : List Name) (body g : IlExp) → ys ≡ xs → g ≡ body → exp.Iter how ys g ≡ exp.Iter how xs body
+iter_same how xs ys body g names same = (λ i. exp.Iter how (names i) (same i))
+
+pub iteration_candidates : (p : IlExp) (how : Iteration) (xs ys : List Name) (body g : IlExp) (v : Value) (n : ℕ) (es cs ds fs : List Env) → p ≡ exp.Iter how xs body → ys ≡ xs → g ≡ body
+    → IsElementCount v n → ds ≡ cs → AreCandidatesOfCount how n es cs → AreCandidatesOfElements how ys g v ds fs → AreCandidates p v es fs
+iteration_candidates p how xs ys body g v n es cs ds fs is names same long counted c e =
+    subst (λ z. AreCandidates z v es fs) (iter_same how xs ys body g names same ∙ sym is) (e.are es n long (subst (AreCandidatesOfCount how n es) (sym counted) c))

@@ -5,7 +5,6 @@ use Rattle.std.specs.List.{All, list_all}
 use Rattle.std.specs.Ordering.{is_lt}
 use Rattle.std.proofs.lemmas.List.{take_more, take_all}
 use Rattle.std.proofs.lemmas.List.Elements.{Contains-get_or, Contains-append_left, Contains-push, Contains-push_cases}
-use Rattle.std.proofs.lemmas.List.Quantifiers.{all_pairs_push}
 use Rattle.st_il.specs.declared.definition.Listed.{Listed}
 use Rattle.st_il.specs.declared.definition.SyntaxDef.{SyntaxDef}
 use Rattle.st_il.specs.declared.expression.IlExp.{IlExp}
@@ -29,7 +28,7 @@ use Rattle.st_match.specs.inner.Covering.{OneOf, Stands, joined, all_bound, AreC
 use Rattle.st_match.specs.inner.Names.{AreOrdered}
 use Rattle.st_match.specs.inner.Types.{HasAsked, asked_of}
 use Rattle.st_match.specs.inner.Assembly.{first_value, value_of_either}
-use Rattle.st_match.specs.inner.Found.{IsExtension, AreExtensions, Suits, IsMade, Adds, AreFound}
+use Rattle.st_match.specs.inner.Found.{IsExtension, AreExtensions, Suits, IsMade, Adds, AreSuited, AreEachOnce, AreFound}
 use Rattle.st_match.proofs.Covers.{OneOf-map, OneOf-left, OneOf-right, OneOf-cases}
 use Rattle.st_semantics.proofs.InOrder.{pairs_sorted, sorted_pairs, sorted_equal}
 use Rattle.st_match.proofs.Assembled.{value_there, value_nowhere, entries-names, entries-lookup, entries-are}
@@ -53,46 +52,16 @@ module _ (defs : List SyntaxDef) (p : IlExp) (env : Env) (v : Value) (o : Outcom
   pub fits-deep : o ≡ Deep → IsTrue false ↔ Fits defs p v env
   fits-deep is = (λ e. absurd (true_false (sym e)), λ f. let bad : Deep ≡ Val v = sym is ∙ one_outcome f in cc)
 
--- ---- one environment among others
-
-pub among-here : (found : List Env) (env other : Env) (i : ℕ) → i < length found → other ≡ get_or found i other → other ≡ env → Contains found env
-among-here found env other i h at is = subst (Contains found) (sym at ∙ is) (Contains-get_or found i other h)
-
-pub among-begin : (found : List Env) (env : Env) → Contains (take 0 found) env → ⊥
-among-begin found env c = let less = c.1 in absurd (omega (arith, less))
-
-pub among-more : (found : List Env) (env other : Env) (i : ℕ) → i < length found → other ≡ get_or found i other → (other ≡ env → ⊥) → (Contains (take i found) env → ⊥) → Contains (take (i + 1) found) env → ⊥
-among-more found env other i h at not before c =
-    elim (Contains-push_cases (take i found) other env (subst (λ z. Contains z env) (take_more found i other h ∙ ap (λ z. take i found ++ z ∷ []) (sym at)) c)) [
-      | inl k ↦ before k
-      | inr k ↦ not k
-    ]
-
-pub among-end : (found : List Env) (env : Env) (i : ℕ) → length found ≤ i → (Contains (take i found) env → ⊥) → Contains found env → ⊥
-among-end found env i h before c = before (subst (λ z. Contains z env) (sym (take_all i found h)) c)
-
 -- ---- one environment more
 
-AreApart : List Env → Type 0
-AreApart found = AllPairs (λ (a b : Env). a ≢ b) found
-
-pub Adds-there : (P : Env → Type 0) (env : Env) (found : List Env) → Contains found env → Adds P (λ made. made ≡ env) found found
-Adds-there P env found c = record {
-  kept = λ e h. h;
-  sound = λ e h. inl h;
-  complete = λ e is p. subst (Contains found) (sym is) c;
-  once = λ h. h;
-}
-
 pub Adds-never : (P Made : Env → Type 0) (found : List Env) → ((env : Env) → Made env → P env → ⊥) → Adds P Made found found
-Adds-never P Made found never = record { kept = λ e h. h; sound = λ e h. inl h; complete = λ e m p. absurd (never e m p); once = λ h. h }
+Adds-never P Made found never = record { kept = λ e h. h; sound = λ e h. inl h; complete = λ e m p. absurd (never e m p) }
 
-pub Adds-new : (P : Env → Type 0) (env : Env) (found more : List Env) → more ≡ found ++ env ∷ [] → (Contains found env → ⊥) → P env → Adds P (λ made. made ≡ env) found more
-Adds-new P env found more is new p = subst (Adds P (λ made. made ≡ env) found) (sym is) (record {
+pub Adds-new : (P : Env → Type 0) (env : Env) (found more : List Env) → more ≡ found ++ env ∷ [] → P env → Adds P (λ made. made ≡ env) found more
+Adds-new P env found more is p = subst (Adds P (λ made. made ≡ env) found) (sym is) (record {
   kept = λ e h. Contains-append_left found (env ∷ []) e h;
   sound = λ e h. elim (Contains-push_cases found env e h) [ inl k ↦ inl k | inr k ↦ inr (sym k, subst P k p) ];
   complete = λ e same q. subst (Contains (found ++ env ∷ [])) (sym same) (Contains-push found env);
-  once = λ h. all_pairs_push (λ (a b : Env). a ≢ b) found env h (λ k d less same. new (subst (Contains found) same (Contains-get_or found k d less)));
 })
 
 -- what is put together is one environment
@@ -101,7 +70,6 @@ Adds-made P made env found more is a = record {
   kept = a.kept;
   sound = λ e h. elim (a.sound e h) [ inl k ↦ inl k | inr k ↦ inr (is ∙ ap (λ (z : Env). Some z.entries) (sym k.0), k.1) ];
   complete = λ e m p. a.complete e (one e m) p;
-  once = a.once;
 }
   where
     one : (e : Env) → made ≡ Some e.entries → e ≡ env
@@ -112,17 +80,16 @@ Adds-made P made env found more is a = record {
 
 -- ---- several candidates
 
-pub AreFound-begin : (sought : Sought) (candidates found : List Env) → found ≡ [] → AreFound sought (take 0 candidates) found
-AreFound-begin sought candidates found is = subst (AreFound sought (take 0 candidates)) (sym is) (record {
+pub AreSuited-begin : (sought : Sought) (candidates found : List Env) → found ≡ [] → AreSuited sought (take 0 candidates) found
+AreSuited-begin sought candidates found is = subst (AreSuited sought (take 0 candidates)) (sym is) (record {
   sound = λ e h. let less = h.1 in absurd (omega (arith, less));
   complete = λ e m s. absurd m;
-  once = λ i j d less more. absurd (omega (arith, less, more));
 })
 
-pub AreFound-more : (sought : Sought) (candidates found more : List Env) (i : ℕ) (candidate : Env) → i < length candidates → candidate ≡ get_or candidates i candidate
-    → AreFound sought (take i candidates) found → Adds (Suits sought) (λ env. IsMade sought env candidate) found more → AreFound sought (take (i + 1) candidates) more
-AreFound-more sought candidates found more i candidate h is f a =
-    subst (λ z. AreFound sought z more) (sym (take_more candidates i candidate h ∙ ap (λ z. take i candidates ++ z ∷ []) (sym is))) (record {
+pub AreSuited-more : (sought : Sought) (candidates found more : List Env) (i : ℕ) (candidate : Env) → i < length candidates → candidate ≡ get_or candidates i candidate
+    → AreSuited sought (take i candidates) found → Adds (Suits sought) (λ env. IsMade sought env candidate) found more → AreSuited sought (take (i + 1) candidates) more
+AreSuited-more sought candidates found more i candidate h is f a =
+    subst (λ z. AreSuited sought z more) (sym (take_more candidates i candidate h ∙ ap (λ z. take i candidates ++ z ∷ []) (sym is))) (record {
       sound = λ e k. elim (a.sound e k) [
         | inl l ↦ (let r = f.sound e l in (OneOf-left (IsMade sought e) (take i candidates) (candidate ∷ []) r.0, r.1))
         | inr l ↦ (OneOf-right (IsMade sought e) (take i candidates) (candidate ∷ []) (inl l.0), l.1)
@@ -134,11 +101,16 @@ AreFound-more sought candidates found more i candidate h is f a =
           | inr k ↦ absurd k
         ]
       ];
-      once = a.once f.once;
     })
 
-pub AreFound-end : (sought : Sought) (candidates found : List Env) (i : ℕ) → length candidates ≤ i → AreFound sought (take i candidates) found → AreFound sought candidates found
-AreFound-end sought candidates found i h f = subst (λ z. AreFound sought z found) (take_all i candidates h) f
+pub AreSuited-end : (sought : Sought) (candidates found : List Env) (i : ℕ) → length candidates ≤ i → AreSuited sought (take i candidates) found → AreSuited sought candidates found
+AreSuited-end sought candidates found i h f = subst (λ z. AreSuited sought z found) (take_all i candidates h) f
+
+pub AreFound-once : (sought : Sought) (candidates found each : List Env) → AreEachOnce found each → AreSuited sought candidates found → AreFound sought candidates each
+AreFound-once sought candidates found each e s = record {
+  suited = record { sound = λ env h. s.sound env ((e.same env).0 h); complete = λ env made suits. (e.same env).1 (s.complete env made suits) };
+  once = e.once;
+}
 
 -- ---- all candidates of a pattern
 
@@ -146,6 +118,23 @@ some_of : {A : Type 0} (P : A → Type 0) (xs : List A) → OneOf P xs → (a : 
 some_of P [] o = absurd o
 some_of P (x ∷ xs) (inl p) = (x, p)
 some_of P (x ∷ xs) (inr o) = some_of P xs o
+
+extends-stands : (defs : List SyntaxDef) (ls : List Listed) (ps : List IlExp) (vs : List Value) (env s : Env) → IsExtension defs ls ps vs env s → Stands s (has_name (names_of env)) env
+extends-stands defs ls ps vs env s m = record {
+  below = λ x v is. sym (m.extends x (name_there x v env.entries is)) ∙ is;
+  has = λ x k. value_there env.entries x k;
+}
+
+-- where there are no candidates, no environment matches
+pub extensions-none : (defs : List SyntaxDef) (ls : List Listed) (ps : List IlExp) (vs : List Value) (env : Env) (all : List Env) → all ≡ [] → list_all is_pattern ps ≡ true
+    → AreCandidatesOfAll ps vs (env ∷ []) all → AreExtensions defs ls ps vs env all
+extensions-none defs ls ps vs env all none pat c = subst (AreExtensions defs ls ps vs env) (sym none) (record {
+  exactly = λ s. (
+    λ h. let less = h.1 in absurd (omega (arith, less)),
+    λ m. absurd (subst (OneOf (Stands s (joined (has_name (names_of env)) (all_bound ps)))) none ((c.cover defs pat).covers s (has_name (names_of env)) m.fit (inl (extends-stands defs ls ps vs env s m)))),
+  );
+  once = λ i j d less more. absurd (omega (arith, less, more));
+})
 
 module _ (sought : Sought) (ls : List Listed) (all found : List Env) (f : AreFound sought all found) (asked : sought.asked.now ≡ asked_of ls (vars_of sought.patterns.now))
     (ordered : AreOrdered (names_of sought.env.now ++ vars_of sought.patterns.now) sought.names.now) (pat : list_all is_pattern sought.patterns.now ≡ true)
@@ -156,7 +145,7 @@ module _ (sought : Sought) (ls : List Listed) (all found : List Env) (f : AreFou
 
   sound : (s : Env) → Contains found s → IsExtension sought.types.now ls sought.patterns.now sought.values.now sought.env.now s
   sound s h =
-      let r = f.sound s h in
+      let r = f.suited.sound s h in
       let m = some_of (IsMade sought s) all r.0 in
       let names = entries-names sought.env.now m.0 sought.names.now s.entries m.1 in
       record {
@@ -172,10 +161,7 @@ module _ (sought : Sought) (ls : List Listed) (all found : List Env) (f : AreFou
 
   module _ (s : Env) (m : IsExtension sought.types.now ls sought.patterns.now sought.values.now sought.env.now s) where
     stands : Stands s (has_name own) sought.env.now
-    stands = record {
-      below = λ x v is. sym (m.extends x (name_there x v sought.env.now.entries is)) ∙ is;
-      has = λ x k. value_there sought.env.now.entries x k;
-    }
+    stands = extends-stands sought.types.now ls sought.patterns.now sought.values.now sought.env.now s m
 
     -- the first value that there is, is that of the match
     value_is : (candidate : Env) → Stands s (joined (has_name own) (all_bound sought.patterns.now)) candidate → (x : Name) → has_name sought.names.now x ≡ true → value_of_either sought.env.now candidate x ≡ value_in s x
@@ -204,7 +190,7 @@ module _ (sought : Sought) (ls : List Listed) (all found : List Env) (f : AreFou
         ordered.sorted (value_is candidate t)
 
     complete : Contains found s
-    complete = f.complete s
+    complete = f.suited.complete s
         (OneOf-map (Stands s (joined (has_name own) (all_bound sought.patterns.now))) (IsMade sought s) made all
         ((c.cover sought.types.now pat).covers s (has_name own) m.fit (inl stands)))
         (record { typed = subst (All (HasAsked sought.types.now s)) (sym asked) (typed-asked sought.types.now ls s (vars_of sought.patterns.now) m.typed); fit = m.fit })

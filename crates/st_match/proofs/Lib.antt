@@ -12,6 +12,7 @@ pub mod Tests
 pub mod ProperValues
 pub mod Asked
 pub mod Assembled
+pub mod EachOnce
 pub mod FoundMatches
 pub mod FitAll
 pub mod PathSteps

@@ -6,13 +6,13 @@
 ghost use Rattle.std.specs.Prelude.{◌≡◌, ◌≤◌, ◌+◌, pos, IfOk, [], ◌∷◌, length, drop};
 ghost use Rattle.st_semantics.specs.Parts.{option_list};
 ghost use Rattle.st_match.specs.inner.Fitting.{field_values, IsElementCount};
-ghost use Rattle.st_match.specs.inner.Covering.{AreCandidates, AreCandidatesOfAll, AreCandidatesOfItems, AreCandidatesOfCut, AreCandidatesOfCount, AreCandidatesOfEach, AreCandidatesOfCuts, IfCat};
+ghost use Rattle.st_match.specs.inner.Covering.{AreCandidates, AreCandidatesOfAll, AreCandidatesOfItems, AreCandidatesOfCut, AreCandidatesOfCount, AreCandidatesOfElements, AreCandidatesOfEach, AreCandidatesOfCuts, IfCat};
 ghost use Rattle.st_match.specs.inner.Rows.{AreRows, AreRowsOf, RowsLead};
 ghost use Rattle.st_match.specs.inner.Positions.{PartLeads, ElementLeads, CutLeads, CutsLead};
 
 use crate::environment::{append, bind_each, copy_envs, no_variables, single};
 use crate::position::{Ends, Position, ends_before, finished, left_of};
-use crate::rows::{kind_of, no_elements, product, with_rows_each};
+use crate::rows::{column_of, kind_of, no_elements, product, with_rows_each};
 use st_il::{Env, IlExp, Iteration, ListItem, Value, copy_values};
 use st_num::{Boxed, Kind, Name, NoMemory, Num, Row};
 use std::alloc::Global;
@@ -63,9 +63,15 @@ pub(crate) fn candidates(
         }
         IlExp::Iter(how, names, body) => {
             let counted = count_candidates(alloc, how, element_count(value), envs)?;
-            let rows = rows_of(alloc, body.get(), kind_of(how), value)?;
             let counted = counted.as_slice();
-            let found = with_rows_each(alloc, how, names.as_slice(), rows.as_slice(), counted)?;
+            let found = iterated_candidates(
+                alloc,
+                body.get(),
+                how,
+                names.as_slice(),
+                value,
+                counted,
+            )?;
             Ok(found)
         }
         _ => {
@@ -530,6 +536,33 @@ fn count_candidates(
         }
         Iteration::Below(_, pattern) => {
             let found = candidates(alloc, pattern.get(), &number(count), envs)?;
+            Ok(found)
+        }
+    }
+}
+
+/// The candidates of an iteration, where its count is met.
+#[cycle(candidates)]
+fn iterated_candidates(
+    alloc: Global,
+    body: &IlExp,
+    how: &Iteration,
+    names: &[Name],
+    value: &Value,
+    counted: &[Env],
+) -> Result<Row<Env>, NoMemory>
+    ensures { IfOk result (λ found.
+        AreCandidatesOfElements how.now names.now body.now value.now counted.now found) }
+{
+    match column_of(how, names, body) {
+        // the whole value is the variable's, so that no element needs an environment
+        Some(name) => {
+            let found = bind_each(alloc, name, value, counted)?;
+            Ok(found)
+        }
+        None => {
+            let rows = rows_of(alloc, body, kind_of(how), value)?;
+            let found = with_rows_each(alloc, how, names, rows.as_slice(), counted)?;
             Ok(found)
         }
     }

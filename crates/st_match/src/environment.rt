@@ -6,8 +6,9 @@ ghost use Rattle.st_semantics.specs.Names.{has_name};
 ghost use Rattle.st_semantics.specs.Environments.{value_in};
 ghost use Rattle.st_match.specs.inner.Fitting.{HasValue};
 ghost use Rattle.st_match.specs.inner.Covering.{Covers, blank};
+ghost use Rattle.st_match.specs.inner.Found.{AreEachOnce};
 
-use st_il::{Env, Value, copy_env, copy_fields, copy_value, same_value};
+use st_il::{Env, Value, compare_env, copy_env, copy_fields, copy_value, same_value};
 use st_num::{Name, NoMemory, Row};
 use std::alloc::Global;
 
@@ -47,6 +48,16 @@ pub(crate) fn copy_envs(alloc: Global, envs: &[Env]) -> Result<Row<Env>, NoMemor
         copies.push(copy_env(alloc, env)?)?;
     }
     Ok(copies)
+}
+
+/// The environments in their order, each once.
+pub(crate) fn each_once(envs: Row<Env>) -> Row<Env>
+    ensures { AreEachOnce envs result }
+{
+    let mut envs = envs.into_vec();
+    envs.sort_unstable_by(|a, b| compare_env(a, b));
+    envs.dedup_by(|a, b| compare_env(a, b).is_eq());
+    Row::from_vec(envs)
 }
 
 /// The value of a variable.

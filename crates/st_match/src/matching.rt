@@ -1,6 +1,6 @@
 //! The environments that match a pattern with a value, or several patterns with several values.
 
-ghost use Rattle.std.specs.Prelude.{◌≡◌, ◌↔◌, ◌++◌, true, map, IsTrue, IfOk, Contains};
+ghost use Rattle.std.specs.Prelude.{◌≡◌, ◌↔◌, ◌++◌, true, map, IsTrue, IfOk};
 ghost use Rattle.std.specs.List.{list_all};
 ghost use Rattle.st_semantics.specs.Names.{flattened, all_known};
 ghost use Rattle.st_semantics.specs.Environments.{names_of};
@@ -13,11 +13,11 @@ ghost use Rattle.st_match.specs.inner.Found.{AreExtensions, Suits, IsSought, IsM
 
 use crate::assembly::assembled;
 use crate::covering::all_candidates;
-use crate::environment::single;
+use crate::environment::{each_once, single};
 use crate::evaluation::pattern_value;
 use crate::names::{in_order, vars_of, with_env_names};
 use crate::types::{Asked, asked_of, have_asked};
-use st_il::{Env, IlExp, Listed, Value, copy_env, same_env, same_value};
+use st_il::{Env, IlExp, Listed, Value, copy_env, same_value};
 use st_num::{Name, NoMemory, Row};
 use st_semantics::Outcome;
 use st_types::TypeTable;
@@ -91,26 +91,16 @@ fn suits(alloc: Global, sought: &Sought, env: &Env) -> Result<bool, NoMemory>
     Ok(yes)
 }
 
-/// Whether the environment is one of these.
-fn is_among(env: &Env, found: &[Env]) -> bool
-    ensures { IsTrue result ↔ Contains found.now env.now }
-{
-    for other in found {
-        if same_env(other, env) {
-            return true;
-        }
-    }
-    false
-}
-
-/// What was found, with this environment, if it suits and is not there.
-fn with_new(alloc: Global, sought: &Sought, env: Env, found: Row<Env>) -> Result<Row<Env>, NoMemory>
+/// What was found, with this environment behind it, if that suits.
+fn with_suited(
+    alloc: Global,
+    sought: &Sought,
+    env: Env,
+    found: Row<Env>,
+) -> Result<Row<Env>, NoMemory>
     requires { IsSought sought.now }
     ensures { IfOk result (λ more. Adds (Suits sought.now) (λ made. made ≡ env) found more) }
 {
-    if is_among(&env, found.as_slice()) {
-        return Ok(found);
-    }
     let yes = suits(alloc, sought, &env)?;
     if !yes {
         return Ok(found);
@@ -120,7 +110,7 @@ fn with_new(alloc: Global, sought: &Sought, env: Env, found: Row<Env>) -> Result
     Ok(more)
 }
 
-/// What was found, with what a candidate comes to, if that suits and is not there.
+/// What was found, with what a candidate comes to behind it, if that suits.
 fn with_candidate(
     alloc: Global,
     sought: &Sought,
@@ -135,13 +125,16 @@ fn with_candidate(
     match made {
         None => Ok(found),
         Some(env) => {
-            let more = with_new(alloc, sought, env, found)?;
+            let more = with_suited(alloc, sought, env, found)?;
             Ok(more)
         }
     }
 }
 
 /// What the candidates come to that suits, each once.
+///
+/// Two candidates may come to one environment, as those of two splits of a list where a variable
+/// stands in both parts. They are told apart by sorting, since there may be thousands.
 fn found_among(alloc: Global, sought: &Sought, candidates: &[Env]) -> Result<Row<Env>, NoMemory>
     requires { IsSought sought.now }
     ensures { IfOk result (λ found. AreFound sought.now candidates.now found) }
@@ -150,7 +143,7 @@ fn found_among(alloc: Global, sought: &Sought, candidates: &[Env]) -> Result<Row
     for candidate in candidates {
         found = with_candidate(alloc, sought, candidate, found)?;
     }
-    Ok(found)
+    Ok(each_once(found))
 }
 
 /// The environments that extend this one by the other variables of the patterns, each with a value
@@ -170,13 +163,15 @@ pub fn extensions(
     ensures { IfOk result (λ found.
         AreExtensions types.now variables.now patterns.now values.now env.now found) }
 {
+    let start = single(alloc, copy_env(alloc, env)?)?;
+    let all = all_candidates(alloc, patterns, values, start.as_slice())?;
+    if all.is_empty() {
+        return Ok(all);
+    }
     let own = vars_of(alloc, patterns)?;
     let asked = asked_of(alloc, variables, own.as_slice())?;
     let names = with_env_names(alloc, env, own.as_slice())?;
     let ordered = in_order(alloc, names.as_slice())?;
-    let same = copy_env(alloc, env)?;
-    let start = single(alloc, same)?;
-    let all = all_candidates(alloc, patterns, values, start.as_slice())?;
     let sought = Sought {
         types,
         patterns,

@@ -1,14 +1,14 @@
 //! Rows of environments, one for each element of an iteration, and the columns of their variables.
 
-ghost use Rattle.std.specs.Prelude.{◌≡◌, ◌++◌, IfOk, OnOk, [], ◌∷◌, map};
+ghost use Rattle.std.specs.Prelude.{◌≡◌, ◌++◌, IfOk, OnOk, OnSome, [], ◌∷◌, map};
 ghost use Rattle.st_semantics.specs.Names.{has_name};
 ghost use Rattle.st_semantics.specs.Iterations.{kind_of, index_of};
 ghost use Rattle.st_match.specs.inner.Fitting.{column_value};
-ghost use Rattle.st_match.specs.inner.Covering.{Covers};
+ghost use Rattle.st_match.specs.inner.Covering.{Covers, IsVariable, IsColumn};
 ghost use Rattle.st_match.specs.inner.Rows.{with_each, product, row_column, row_values, in_columns, HasColumns, ColumnsCover, ColumnCovers, AllColumnsCover};
 
 use crate::environment::{append, bind_each, copy_envs, find, single};
-use st_il::{Env, Iteration, Value, copy_env, copy_value};
+use st_il::{Env, IlExp, Iteration, Value, copy_env, copy_value};
 use st_num::{Boxed, Kind, Name, NoMemory, Row};
 use std::alloc::Global;
 
@@ -30,6 +30,37 @@ pub(crate) fn is_index(how: &Iteration, name: &Name) -> bool
     match how {
         Iteration::Below(index, _) => name.as_slice() == index.as_slice(),
         Iteration::Star | Iteration::Plus | Iteration::Quest | Iteration::Times(_) => false,
+    }
+}
+
+/// The variable that a pattern is, perhaps as one of a wider type.
+fn variable_of(pattern: &IlExp) -> Option<&Name>
+    ensures { OnSome result (λ x. IsVariable pattern.now x.now) }
+{
+    match pattern {
+        IlExp::Var(name) => Some(name),
+        IlExp::Up(_, part) => match part.get() {
+            IlExp::Var(name) => Some(name),
+            _ => None,
+        },
+        _ => None,
+    }
+}
+
+/// The variable that an iteration goes over, where there is one and its body is that variable by
+/// itself.
+pub(crate) fn column_of<'a>(how: &Iteration, names: &'a [Name], body: &IlExp) -> Option<&'a Name>
+    ensures { OnSome result (λ x. IsColumn how.now names.now body.now x.now) }
+{
+    let variable = variable_of(body)?;
+    match names {
+        [name] => {
+            if is_index(how, name) || name.as_slice() != variable.as_slice() {
+                return None;
+            }
+            Some(name)
+        }
+        _ => None,
     }
 }
 

@@ -1,5 +1,5 @@
 -- Lists of environments that cover all that give a pattern a value.
-use Rattle.std.specs.Prelude.{◌≡◌, ◌≤◌, ◌⊎◌, ℕ, Bool, true, ◌||◌, List, [], ◌∷◌, map, length, Some}
+use Rattle.std.specs.Prelude.{◌≡◌, ◌≤◌, ◌⊎◌, ℕ, Bool, true, false, ◌||◌, List, [], ◌∷◌, map, length, Some}
 use Rattle.std.specs.List.{list_all}
 use Rattle.st_il.specs.declared.definition.SyntaxDef.{SyntaxDef}
 use Rattle.st_il.specs.declared.expression.IlExp.{IlExp}
@@ -11,9 +11,9 @@ use Rattle.st_il.specs.declared.value.Value.{Value}
 use Rattle.st_semantics.specs.Names.{Name, flattened, has_name}
 use Rattle.st_semantics.specs.Environments.{value_in}
 use Rattle.st_semantics.specs.Operands.{item_exp}
-use Rattle.st_semantics.specs.Iterations.{count_of}
+use Rattle.st_semantics.specs.Iterations.{count_of, index_of}
 use Rattle.st_semantics.specs.Patterns.{is_pattern, binds}
-use Rattle.st_match.specs.inner.Fitting.{Fits, FitAll, FitItems, FitSplit, FitCut, FitCount}
+use Rattle.st_match.specs.inner.Fitting.{Fits, FitAll, FitItems, FitSplit, FitCut, FitCount, HasValue, IsElementCount}
 
 -- ---- sets of names
 
@@ -96,6 +96,22 @@ pub record AreCandidatesOfCount (how : Iteration) (n : ℕ) (before after : List
     : Type 0 where
   pub cover : (defs : List SyntaxDef) → list_all is_pattern (count_of how) ≡ true
       → Covers (FitCount defs how n) (all_bound (count_of how)) before after
+
+-- they are candidates of an iteration, where its count is met already
+pub record AreCandidatesOfElements (how : Iteration) (xs : List Name) (body : IlExp) (v : Value)
+    (before after : List Env) : Type 0 where
+  pub are : (es : List Env) (n : ℕ) → IsElementCount v n → AreCandidatesOfCount how n es before
+      → AreCandidates (exp.Iter how xs body) v es after
+
+-- a pattern has no other value than this variable
+pub record IsVariable (p : IlExp) (x : Name) : Type 0 where
+  pub value : (defs : List SyntaxDef) (s : Env) (v : Value) → Fits defs p v s → HasValue x v s
+
+-- an iteration goes over this variable alone, and its body is the variable by itself
+pub record IsColumn (how : Iteration) (xs : List Name) (body : IlExp) (x : Name) : Type 0 where
+  pub names : xs ≡ x ∷ []
+  pub variable : IsVariable body x
+  pub apart : has_name (index_of how) x ≡ false
 
 -- they are candidates of each of these patterns, which differ in a type alone
 pub record AreCandidatesOfEach {T : Type 0} (patterns : T → IlExp) (v : Value)

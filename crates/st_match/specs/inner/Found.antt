@@ -53,12 +53,20 @@ pub record Adds (P Made : Env → Type 0) (before after : List Env) : Type 0 whe
   pub kept : (env : Env) → Contains before env → Contains after env
   pub sound : (env : Env) → Contains after env → Contains before env ⊎ (Made env × P env)
   pub complete : (env : Env) → Made env → P env → Contains after env
-  pub once : AllPairs (λ (a b : Env). a ≢ b) before → AllPairs (λ (a b : Env). a ≢ b) after
 
--- what suits of what these candidates come to, each once
-pub record AreFound (sought : Sought) (candidates found : List Env) : Type 0 where
+-- what suits of what these candidates come to, some perhaps more than once
+pub record AreSuited (sought : Sought) (candidates found : List Env) : Type 0 where
   pub sound : (env : Env) → Contains found env
       → OneOf (IsMade sought env) candidates × Suits sought env
   pub complete : (env : Env) → OneOf (IsMade sought env) candidates → Suits sought env
       → Contains found env
+
+-- the environments of a list, each once
+pub record AreEachOnce (envs each : List Env) : Type 0 where
+  pub same : (env : Env) → Contains each env ↔ Contains envs env
+  pub once : AllPairs (λ (a b : Env). a ≢ b) each
+
+-- what suits of what these candidates come to, each once
+pub record AreFound (sought : Sought) (candidates found : List Env) : Type 0 where
+  pub suited : AreSuited sought candidates found
   pub once : AllPairs (λ (a b : Env). a ≢ b) found

@@ -12,7 +12,7 @@ use Rattle.st_match.specs.inner.Fitting.{field_values}
 use Rattle.st_match.specs.inner.Covering.{AreCandidates}
 use Rattle.st_match.specs.inner.Rows.{product}
 use Rattle.st_match.proofs.AreCandidates.{names-differ, candidates-Var, candidates-Up, candidates-Case, candidates-Case-other, candidates-Case-none, candidates-Fields, candidates-Fields-none, candidates-Tuple, candidates-Tuple-none, candidates-Present, candidates-Present-absent, candidates-Present-none, candidates-List, candidates-List-none, candidates-Cat, candidates-Cat-none, all_unequal, all_step, all_done, cuts_step, cuts_end, cut_of, count_by}
-use Rattle.st_match.proofs.AllColumnsCover.{iteration_candidates}
+use Rattle.st_match.proofs.AllColumnsCover.{candidates-column, candidates-elements, iteration_candidates}
 use Rattle.st_match.proofs.AreRows.{AreRowsOf-option, option_rows-none, AreRows-none, RowsLead-found, RowsLead-none}
 use Rattle.st_match.proofs.Positions.{PartLeads-step, ElementLeads-step, ElementLeads-next, follow-nothing, follow-position, CutLeads-next, CutsLead-begin, CutsLead-step, CutsLead-end, PartLeads-cuts, items_step}
 use Rattle.st_match.proofs.covering.+candidates.Goals as goal
@@ -43,9 +43,9 @@ all_candidates-returns-then-parts-values t c = all_unequal c.args.parts.now c.ar
 pub candidates-returns-in_ok-found-in-Iter : goal.candidates-returns-in_ok-found-in-Iter
 candidates-returns-in_ok-found-in-Iter t c =
     iteration_candidates c.args.pattern.now c.in-Iter.how c.in-Iter.names c.as_slice-in-Iter.result.now c.in-Iter.body c.get-in-Iter.result.now c.args.value.now c.element_count.result
-    c.kind_of.result c.in_ok-rows-in-Iter.rows c.as_slice-in-Iter-2.result.now c.args.envs.now c.in_ok-counted-in-Iter.counted c.as_slice-counted.result.now c.in_ok-found-in-Iter.found
-    c.in-Iter.is c.as_slice-in-Iter.ensures c.get-in-Iter.ensures c.element_count.ensures c.kind_of.ensures c.as_slice-in-Iter-2.ensures c.as_slice-counted.ensures
-    c.in_ok-counted-in-Iter.ensures c.in_ok-rows-in-Iter.ensures c.in_ok-found-in-Iter.ensures
+    c.args.envs.now c.in_ok-counted-in-Iter.counted c.as_slice-counted.result.now c.in_ok-found-in-Iter.found
+    c.in-Iter.is c.as_slice-in-Iter.ensures c.get-in-Iter.ensures c.element_count.ensures c.as_slice-counted.ensures
+    c.in_ok-counted-in-Iter.ensures c.in_ok-found-in-Iter.ensures
 
 pub candidates-returns-in_ok-found-in-Up : goal.candidates-returns-in_ok-found-in-Up
 candidates-returns-in_ok-found-in-Up t c =
@@ -234,3 +234,13 @@ pub tuple_candidates-returns-in_ok-found-in-Tuple : goal.tuple_candidates-return
 tuple_candidates-returns-in_ok-found-in-Tuple t c =
     candidates-Tuple (exp.Tuple c.args.parts.now) c.args.parts.now c.args.value.now c.in-Tuple.values c.as_slice.result.now c.args.envs.now c.in_ok-found-in-Tuple.found
     (exp.outs-Tuple c.args.parts.now) c.in-Tuple.is c.as_slice.ensures c.in_ok-found-in-Tuple.ensures
+
+pub iterated_candidates-returns-in_ok-found-in-Some : goal.iterated_candidates-returns-in_ok-found-in-Some
+iterated_candidates-returns-in_ok-found-in-Some t c =
+    candidates-column c.args.how.now c.args.names.now c.args.body.now c.args.value.now c.in-Some.name.now c.args.counted.now c.in_ok-found-in-Some.found
+    _ c.in_ok-found-in-Some.ensures
+
+pub iterated_candidates-returns-in_ok-found-in-None : goal.iterated_candidates-returns-in_ok-found-in-None
+iterated_candidates-returns-in_ok-found-in-None t c =
+    candidates-elements c.args.how.now c.args.names.now c.args.body.now c.args.value.now c.kind_of.result c.in_ok-rows.rows c.as_slice-rows.result.now c.args.counted.now c.in_ok-found.found
+    c.kind_of.ensures c.as_slice-rows.ensures c.in_ok-rows.ensures c.in_ok-found.ensures
