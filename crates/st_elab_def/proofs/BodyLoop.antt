@@ -18,7 +18,7 @@ use Rattle.st_elab_def.specs.DeclsOf.{decls_of}
 use Rattle.st_elab_def.specs.Phases.{on_declaration, on_body, phase}
 use Rattle.st_elab_def.specs.Breaches.{AllPass}
 use Rattle.st_elab_def.specs.inner.Bodies.{HasCome, here_of, ComesTo, GoesBy}
-use Rattle.st_elab_def.specs.inner.Index.{at}
+use Rattle.st_ilcheck.specs.Index.{at}
 use Rattle.st_elab_def.specs.inner.Last.{KnowsLast}
 use Rattle.st_elab_def.specs.inner.Walk.{AllPassAt, FirstBreachAt, Checks, numbered}
 use Rattle.st_elab_def.proofs.ComesTo.{new-at}

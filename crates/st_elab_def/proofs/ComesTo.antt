@@ -29,10 +29,10 @@ use Rattle.st_elab_def.specs.Phases.{placed, on_declaration, on_parts, on_body, 
 use Rattle.st_elab_def.specs.Breaches.{AllPass}
 use Rattle.st_elab_def.specs.inner.Bodies.{IsSyntax, own, parts_asked, body_asked, HaveBeen, Advances, HasBegun, IsBegun, HasCome, IsNoSyntax}
 use Rattle.st_elab_def.specs.inner.Gathering.{body_with}
-use Rattle.st_elab_def.specs.inner.Index.{at}
+use Rattle.st_ilcheck.specs.Index.{at}
 use Rattle.st_elab_def.proofs.DeclaredLists.{syntaxes-append}
 use Rattle.st_elab_def.proofs.Gathered.{parts-append, has-same, joined-with}
-use Rattle.st_elab_def.proofs.Insertion.{any-more, same-equal, same-refl}
+use Rattle.st_ilcheck.proofs.Insertion.{any-more, same-equal, same-refl}
 
 -- ---- what is asked of a body
 

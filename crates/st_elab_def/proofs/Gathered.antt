@@ -20,8 +20,8 @@ use Rattle.st_elab_def.specs.DeclsOf.{alternative_of, body_of, declared_by}
 use Rattle.st_elab_def.specs.Fragments.{has_fragment}
 use Rattle.st_elab_def.specs.Phases.{alternatives_before}
 use Rattle.st_elab_def.specs.inner.Gathering.{Entries, all_parts, Gathered, Untaken, gathered_in, body_with, declared_fragment}
-use Rattle.st_elab_def.specs.inner.Index.{at}
-use Rattle.st_elab_def.proofs.Insertion.{any-more, same-equal, same-refl}
+use Rattle.st_ilcheck.specs.Index.{at}
+use Rattle.st_ilcheck.proofs.Insertion.{any-more, same-equal, same-refl}
 
 -- ---- the alternatives of the fragments among definitions
 

@@ -28,7 +28,7 @@ use Rattle.st_elab_def.specs.Fragments.{dots_suit, has_fragment, joins}
 use Rattle.st_elab_def.specs.Phases.{on_body, alternatives_before}
 use Rattle.st_elab_def.specs.inner.Bodies.{IsSyntax, own, parts_asked, body_asked, BodyPasses, HasBegun, IsBegun, here_of, ComesTo, GoesBy, IsNoSyntax}
 use Rattle.st_elab_def.specs.inner.Gathering.{body_with}
-use Rattle.st_elab_def.specs.inner.Index.{at}
+use Rattle.st_ilcheck.specs.Index.{at}
 use Rattle.st_elab_def.specs.inner.Last.{is_past}
 use Rattle.st_elab_def.specs.inner.Walk.{AllPassAt, FirstBreachAt}
 use Rattle.st_elab_def.proofs.ComesTo.{body-asked, nothing-asked, IsCases, later-cases, first-cases, cases-body, cases-advance, no-syntax, whole-syntax, later-syntax, first-syntax, begun-more, begun-there, begun-parts, begun-put, ahead-same, new-there, new-ahead, begun-skip, no-fragment, once}

@@ -25,13 +25,13 @@ use Rattle.st_elab_def.specs.Elaboration.{ElabDefs}
 use Rattle.st_elab_def.specs.Fragments.{has_fragment, is_later_at, is_later}
 use Rattle.st_elab_def.specs.Phases.{on_content}
 use Rattle.st_elab_def.specs.inner.Contents.{MakesContent}
-use Rattle.st_elab_def.specs.inner.Index.{has, has_pair}
+use Rattle.st_ilcheck.specs.Index.{has, has_pair}
 use Rattle.st_elab_def.specs.inner.Heads.{KnowsRules}
 use Rattle.st_elab_def.specs.inner.Joining.{joined_of, AreContents}
 use Rattle.st_elab_def.specs.inner.Walk.{standing, AllPassAt, FirstBreachAt, Checks, numbered}
 use Rattle.st_elab_def.specs.inner.Whole.{KnowsFragments, PlacesOne}
 use Rattle.st_elab_def.proofs.ContentLemmas.{told_both}
-use Rattle.st_elab_def.proofs.Insertion.{any-more, same-refl}
+use Rattle.st_ilcheck.proofs.Insertion.{any-more, same-refl}
 use Rattle.st_elab_def.proofs.PlacesOne.{joined-definitions, sources_in, Continues, Continues-next, sources-next}
 use Rattle.st_elab_def.proofs.Leaves.{left_of, left_of-end, Leaves, Leaves-start, Leaves-end}
 

@@ -26,9 +26,9 @@ use Rattle.st_elab_def.specs.Conditions.{has_rule, is_rule}
 use Rattle.st_elab_def.specs.Phases.{Placed, on_rule, on_clause}
 use Rattle.st_elab_def.specs.inner.Contents.{MakesRule, MakesClause}
 use Rattle.st_elab_def.specs.inner.Heads.{KnowsRules, HasHead, on_head, on_function}
-use Rattle.st_elab_def.specs.inner.Index.{has_pair}
+use Rattle.st_ilcheck.specs.Index.{has_pair}
 use Rattle.st_elab_def.specs.inner.Walk.{FirstBreachAt}
-use Rattle.st_elab_def.proofs.Insertion.{any-more}
+use Rattle.st_ilcheck.proofs.Insertion.{any-more}
 
 -- ---- the relation or the function of a name
 

@@ -1,4 +1,3 @@
-pub mod Insertion
 pub mod Knows
 pub mod NamesIn
 pub mod Single

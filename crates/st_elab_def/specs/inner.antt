@@ -1,6 +1,5 @@
 -- How a source is walked, for proofs alone.
 pub mod Walk
-pub mod Index
 pub mod Declaring
 pub mod Gathering
 pub mod Heads

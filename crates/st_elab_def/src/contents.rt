@@ -8,7 +8,7 @@ ghost use Rattle.st_elab_table.specs.Clauses.{parts_of};
 ghost use Rattle.st_elab_def.specs.Phases.{on_rule, on_clause, on_content};
 ghost use Rattle.st_elab_def.specs.inner.Contents.{MakesRule, MakesClause, MakesContent};
 ghost use Rattle.st_elab_def.specs.inner.Heads.{Finds, KnowsRules};
-ghost use Rattle.st_elab_def.specs.inner.Index.{has_pair};
+ghost use Rattle.st_ilcheck.specs.Index.{has_pair};
 ghost use Rattle.st_elab_def.specs.inner.Walk.{standing, FirstBreachAt};
 
 use crate::heads::{Known, function, head};

@@ -11,9 +11,9 @@ ghost use Rattle.st_elab_def.specs.inner.Declaring.{Knows};
 ghost use Rattle.st_elab_def.specs.inner.Walk.{ChecksAll};
 
 use crate::breach::{Breach, DefFault};
-use crate::index::{add, has};
 use indexmap::IndexSet;
 use st_el::{Def, DefNode};
+use st_ilcheck::index::{add, has};
 use st_num::{Name, NoMemory, RuleId};
 use std::alloc::Global;
 

@@ -3,13 +3,13 @@
 ghost use Rattle.std.specs.Prelude.{[], ◌≡◌, ◌∷◌, ◌++◌, List, length, IfOk, OnOk};
 ghost use Rattle.st_el.specs.declared.definition.Def.{Def};
 ghost use Rattle.st_elab_def.specs.Fragments.{begins, ends, dots_suit};
-ghost use Rattle.st_elab_def.specs.inner.Index.{at};
+ghost use Rattle.st_ilcheck.specs.Index.{at};
 ghost use Rattle.st_elab_def.specs.inner.Last.{is_past, KnowsLast};
 
-use crate::index::{at, put};
 use crate::joining::as_fragment;
 use indexmap::IndexMap;
 use st_el::{Body, Def, DefNode};
+use st_ilcheck::index::{at, put};
 use st_num::{Name, NoMemory};
 use std::alloc::Global;
 

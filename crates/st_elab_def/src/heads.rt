@@ -10,13 +10,13 @@ ghost use Rattle.st_elab_rows.specs.Told.{Told};
 ghost use Rattle.st_elab_table.specs.Judgements.{relation_named};
 ghost use Rattle.st_elab_def.specs.Phases.{Placed};
 ghost use Rattle.st_elab_def.specs.inner.Heads.{Finds, KnowsRules, HasHead, on_head, on_function};
-ghost use Rattle.st_elab_def.specs.inner.Index.{at, has_pair};
+ghost use Rattle.st_ilcheck.specs.Index.{at, has_pair};
 ghost use Rattle.st_elab_def.specs.inner.Walk.{FirstBreachAt};
 
-use crate::index::{add_pair, at, put};
 use indexmap::{IndexMap, IndexSet};
 use st_elab_table::Decls;
 use st_il::{FunDef, RelationDef};
+use st_ilcheck::index::{add_pair, at, put};
 use st_num::{Fault, Name, NoMemory, RuleId, Span};
 use std::alloc::Global;
 

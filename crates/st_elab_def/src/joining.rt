@@ -7,14 +7,14 @@ ghost use Rattle.st_num.specs.Names.{same_name};
 ghost use Rattle.st_elab_def.specs.DeclsOf.{alternative_of, declared_by};
 ghost use Rattle.st_elab_def.specs.Fragments.{joined};
 ghost use Rattle.st_elab_def.specs.inner.Gathering.{Gathered, Untaken, gathered_in, declared_fragment, IsFragmentOf};
-ghost use Rattle.st_elab_def.specs.inner.Index.{at};
+ghost use Rattle.st_ilcheck.specs.Index.{at};
 
 use crate::declared::{body_of, body_with, function_of, push_body, relation_of};
-use crate::index::put;
 use indexmap::IndexMap;
 use st_el::{Body, Def, DefNode};
 use st_elab_sig::elaborate_typ;
 use st_il::{Alternative, IlDef, SyntaxDef};
+use st_ilcheck::index::put;
 use st_num::{Name, NoMemory, Row};
 use std::alloc::Global;
 

@@ -18,7 +18,6 @@ mod declared;
 mod dots;
 mod elaborated;
 mod heads;
-mod index;
 mod joining;
 mod laws;
 mod listing;

@@ -12,11 +12,11 @@ ghost use Rattle.st_elab_def.specs.inner.Joining.{joined_of};
 ghost use Rattle.st_elab_def.specs.inner.Whole.{KnowsFragments, with_one, PlacesOne};
 
 use crate::elaborated::Elaborated;
-use crate::index::add;
 use crate::joining::as_fragment;
 use indexmap::IndexSet;
 use st_el::DefNode;
 use st_il::IlDef;
+use st_ilcheck::index::add;
 use st_num::{Name, NoMemory, Row};
 
 /// Takes down the syntax of a fragment, and answers whether it was there.

@@ -1,19 +1,22 @@
--- Pairs of names in sets, and names under which things stand, after one is added.
+-- Names in sets and under which things stand, after one is added.
 use Rattle.std.proofs.Common.{◌≡◌, refl, sym, ap, ◌∙◌, subst, ℕ, Bool, true, false, true≢false, eqb, ◌||◌, ◌&&◌, if◌then◌else◌, Some, List, [], ◌∷◌, ◌++◌}
 use Rattle.std.specs.Borrow.{Bor}
-use Rattle.std.specs.Prelude.{bytes_eq}
 use Rattle.std.specs.Cmp.Lexicographic.{pointwise}
 use Rattle.std.specs.List.{list_any}
 use Rattle.std.proofs.lemmas.List.Folds.{list_any-append}
 use Rattle.std.proofs.lemmas.Slice.Eq.{bytes_eq-Decides}
 use Rattle.indexmap.specs.IndexMap.{insert_entry}
 use Rattle.indexmap.specs.IndexSet.{insert_key}
-use Rattle.st_ilcheck.specs.inner.Index.{at, has_key}
+use Rattle.st_num.specs.Names.{same_name}
+use Rattle.st_ilcheck.specs.Index.{has, has_pair, at}
 
 -- ---- the same name
 
-pub bytes-equal : (p q : List ℕ) → bytes_eq p q ≡ true → p ≡ q
-bytes-equal p q h = (bytes_eq-Decides p q).0 h
+pub same-equal : (p q : List ℕ) → same_name p q ≡ true → p ≡ q
+same-equal p q h = (bytes_eq-Decides p q).0 h
+
+pub same-refl : (p : List ℕ) → same_name p p ≡ true
+same-refl p = (bytes_eq-Decides p p).1 refl
 
 -- ---- tests of lists
 
@@ -63,21 +66,27 @@ any-insert eq test keys new x keeps n = by (list_any (eq x) keys) refl
     by false e =
         ap (list_any test) (n ∙ ap (λ c. if c then keys else keys ++ x ∷ []) e) ∙ any-more test keys x
 
--- ---- sets of pairs of names
+-- ---- sets of names
+
+pub has-insert : (keys new : List (Bor (List ℕ))) (name : Bor (List ℕ)) → new ≡ insert_key (λ x y. pointwise eqb x.now y.now) keys name
+    → (q : List ℕ) → has new q ≡ (has keys q || same_name q name.now)
+has-insert keys new name n q =
+    any-insert (λ x y. pointwise eqb x.now y.now) (λ (key : Bor (List ℕ)). same_name q key.now) keys new name
+    (λ y same passes. subst (λ p. same_name q p ≡ true) (same-equal name.now y.now same) passes) n
 
 pair-keeps : (x y : Bor (List ℕ) × Bor (List ℕ)) (p q : List ℕ)
     → (pointwise eqb x.0.now y.0.now && pointwise eqb x.1.now y.1.now) ≡ true
-    → (bytes_eq p x.0.now && bytes_eq q x.1.now) ≡ true → (bytes_eq p y.0.now && bytes_eq q y.1.now) ≡ true
+    → (same_name p x.0.now && same_name q x.1.now) ≡ true → (same_name p y.0.now && same_name q y.1.now) ≡ true
 pair-keeps x y p q same passes =
-    subst (λ z. (bytes_eq p z && bytes_eq q y.1.now) ≡ true) (bytes-equal x.0.now y.0.now (and-left (pointwise eqb x.0.now y.0.now) (pointwise eqb x.1.now y.1.now) same))
-    (subst (λ z. (bytes_eq p x.0.now && bytes_eq q z) ≡ true) (bytes-equal x.1.now y.1.now (and-right (pointwise eqb x.0.now y.0.now) (pointwise eqb x.1.now y.1.now) same)) passes)
+    subst (λ z. (same_name p z && same_name q y.1.now) ≡ true) (same-equal x.0.now y.0.now (and-left (pointwise eqb x.0.now y.0.now) (pointwise eqb x.1.now y.1.now) same))
+    (subst (λ z. (same_name p x.0.now && same_name q z) ≡ true) (same-equal x.1.now y.1.now (and-right (pointwise eqb x.0.now y.0.now) (pointwise eqb x.1.now y.1.now) same)) passes)
 
-pub has_key-insert : (keys new : List (Bor (List ℕ) × Bor (List ℕ))) (pair : Bor (List ℕ) × Bor (List ℕ))
+pub has_pair-insert : (keys new : List (Bor (List ℕ) × Bor (List ℕ))) (pair : Bor (List ℕ) × Bor (List ℕ))
     → new ≡ insert_key (λ x y. pointwise eqb x.0.now y.0.now && pointwise eqb x.1.now y.1.now) keys pair
-    → (p q : List ℕ) → has_key p q new ≡ (has_key p q keys || (bytes_eq p pair.0.now && bytes_eq q pair.1.now))
-has_key-insert keys new pair n p q =
+    → (p q : List ℕ) → has_pair new p q ≡ (has_pair keys p q || (same_name p pair.0.now && same_name q pair.1.now))
+has_pair-insert keys new pair n p q =
     any-insert (λ x y. pointwise eqb x.0.now y.0.now && pointwise eqb x.1.now y.1.now)
-    (λ (key : Bor (List ℕ) × Bor (List ℕ)). bytes_eq p key.0.now && bytes_eq q key.1.now) keys new pair
+    (λ (key : Bor (List ℕ) × Bor (List ℕ)). same_name p key.0.now && same_name q key.1.now) keys new pair
     (λ y same passes. pair-keeps pair y p q same passes) n
 
 -- ---- things under names
@@ -96,23 +105,23 @@ module _ {A : Type 0} (name : Bor (List ℕ)) (value : A) (q : List ℕ) where
   put_in es = insert_entry (λ x y. pointwise eqb x.now y.now) es name value
 
   inserted-by : (e : Bor (List ℕ) × A) (es : List (Bor (List ℕ) × A)) (b : Bool) → pointwise eqb name.now e.0.now ≡ b
-      → at (put_in es) q ≡ (if bytes_eq q name.now then Some value else at es q)
-      → at (put_in (e ∷ es)) q ≡ (if bytes_eq q name.now then Some value else at (e ∷ es) q)
+      → at (put_in es) q ≡ (if same_name q name.now then Some value else at es q)
+      → at (put_in (e ∷ es)) q ≡ (if same_name q name.now then Some value else at (e ∷ es) q)
   inserted-by e es true h more =
       ap (λ c. at (if c then (e.0, value) ∷ es else e ∷ put_in es) q) h
-      ∙ sym (if-same (bytes_eq q e.0.now) (Some value) (Some e.1) (at es q))
-      ∙ ap (λ p. if bytes_eq q p then Some value else at (e ∷ es) q) (sym (bytes-equal name.now e.0.now h))
+      ∙ sym (if-same (same_name q e.0.now) (Some value) (Some e.1) (at es q))
+      ∙ ap (λ p. if same_name q p then Some value else at (e ∷ es) q) (sym (same-equal name.now e.0.now h))
   inserted-by e es false h more =
       ap (λ c. at (if c then (e.0, value) ∷ es else e ∷ put_in es) q) h
-      ∙ ap (λ o. if bytes_eq q e.0.now then Some e.1 else o) more
-      ∙ if-apart (bytes_eq q e.0.now) (bytes_eq q name.now) (Some e.1) (Some value) (at es q)
-      (λ one other. true≢false (sym (ap (λ p. pointwise eqb p e.0.now) (sym (bytes-equal q name.now other)) ∙ one) ∙ h))
+      ∙ ap (λ o. if same_name q e.0.now then Some e.1 else o) more
+      ∙ if-apart (same_name q e.0.now) (same_name q name.now) (Some e.1) (Some value) (at es q)
+      (λ one other. true≢false (sym (ap (λ p. pointwise eqb p e.0.now) (sym (same-equal q name.now other)) ∙ one) ∙ h))
 
-  inserted : (es : List (Bor (List ℕ) × A)) → at (put_in es) q ≡ (if bytes_eq q name.now then Some value else at es q)
+  inserted : (es : List (Bor (List ℕ) × A)) → at (put_in es) q ≡ (if same_name q name.now then Some value else at es q)
   inserted [] = refl
   inserted (e ∷ es) = inserted-by e es (pointwise eqb name.now e.0.now) refl (inserted es)
 
 pub at-insert : {A : Type 0} (entries new : List (Bor (List ℕ) × A)) (name : Bor (List ℕ)) (value : A)
     → new ≡ insert_entry (λ x y. pointwise eqb x.now y.now) entries name value
-    → (q : List ℕ) → at new q ≡ (if bytes_eq q name.now then Some value else at entries q)
+    → (q : List ℕ) → at new q ≡ (if same_name q name.now then Some value else at entries q)
 at-insert entries new name value n q = ap (λ es. at es q) n ∙ inserted name value q entries

@@ -6,9 +6,10 @@ use Rattle.std.specs.Option.{is_none, is_some, unwrap_or}
 use Rattle.std.proofs.lemmas.List.{map-append, length-append}
 use Rattle.st_semantics.specs.Names.{Name, has_name}
 use Rattle.st_ilcheck.specs.Declarations.{times, IsOnceIn}
-use Rattle.st_ilcheck.specs.inner.Index.{at, has_key, has_pair}
-use Rattle.st_ilcheck.specs.inner.Names.{names_at, is_single, IsCounted, pairs_at, IsKept}
-use Rattle.st_ilcheck.proofs.Insertion.{bytes-equal, any-more}
+use Rattle.st_ilcheck.specs.Index.{at, has_pair}
+use Rattle.st_ilcheck.specs.inner.Names.{names_at, is_single, IsCounted, pairs_at, is_pair, IsKept}
+use Rattle.st_num.specs.Names.{same_name}
+use Rattle.st_ilcheck.proofs.Insertion.{same-equal, any-more}
 
 -- ---- lists from which the last is taken off
 
@@ -50,13 +51,13 @@ single-next (suc zero) = refl
 single-next (suc (suc n)) = refl
 
 pub counted-more : (names longer : List Name) (entries new : List (Bor Name × Bool)) (name : Name) (first : Bool)
-    → IsCounted names entries → is_some (at entries name) ≡ not first → ((q : Name) → at new q ≡ (if bytes_eq q name then Some first else at entries q))
+    → IsCounted names entries → is_some (at entries name) ≡ not first → ((q : Name) → at new q ≡ (if same_name q name then Some first else at entries q))
     → longer ≡ names ++ name ∷ [] → IsCounted longer new
 counted-more names longer entries new name first h f more e = record { counted = λ q. by q (bytes_eq q name) refl ∙ ap (λ ns. is_single (times q ns)) (sym e) }
   where
     by : (q : Name) (b : Bool) → bytes_eq q name ≡ b → at new q ≡ is_single (times q (names ++ name ∷ []))
     by q true is =
-        let one : at entries name ≡ is_single (times q names) = ap (at entries) (sym (bytes-equal q name is)) ∙ h.counted q in
+        let one : at entries name ≡ is_single (times q names) = ap (at entries) (sym (same-equal q name is)) ∙ h.counted q in
         more q ∙ (ap (λ c. if c then Some first else at entries q) is
         ∙ (ap Some (flipped (is_some (at entries name)) first f ∙ ap is_none one)
         ∙ (single-next (times q names)
@@ -106,12 +107,12 @@ pub pairs-more : (xs longer : List (Bor Name × Bor Name)) (x : Bor Name × Bor 
 pairs-more xs longer x e = ap pairs_at e ∙ map-append (λ (pair : Bor Name × Bor Name). (pair.0.now, pair.1.now)) xs (x ∷ [])
 
 pub kept-more : (pairs longer : List (Name × Name)) (keys new : List (Bor Name × Bor Name)) (first second : Name)
-    → IsKept pairs keys → ((p q : Name) → has_key p q new ≡ (has_key p q keys || (bytes_eq p first && bytes_eq q second)))
+    → IsKept pairs keys → ((p q : Name) → has_pair new p q ≡ (has_pair keys p q || (same_name p first && same_name q second)))
     → longer ≡ pairs ++ (first, second) ∷ [] → IsKept longer new
 kept-more pairs longer keys new first second h more e = record {
   kept = λ p q.
       more p q ∙ (ap (λ c. c || (bytes_eq p first && bytes_eq q second)) (h.kept p q)
-      ∙ (sym (any-more (λ (pair : Name × Name). bytes_eq p pair.0 && bytes_eq q pair.1) pairs (first, second)) ∙ ap (has_pair p q) (sym e)));
+      ∙ (sym (any-more (λ (pair : Name × Name). bytes_eq p pair.0 && bytes_eq q pair.1) pairs (first, second)) ∙ ap (is_pair p q) (sym e)));
 }
 
 pub kept-same : (pairs same : List (Name × Name)) (keys new : List (Bor Name × Bor Name)) → IsKept pairs keys → same ≡ pairs → new ≡ keys → IsKept same new

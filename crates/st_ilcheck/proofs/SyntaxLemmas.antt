@@ -19,7 +19,7 @@ use Rattle.st_ilcheck.specs.declared.declaring.Declared.{Declared}
 use Rattle.st_ilcheck.specs.Declarations.{IsDeclared, AreNamed, IsOnceIn, IsTag, rule_names, cited}
 use Rattle.st_ilcheck.specs.inner.Cited.{AreCited, AreCitedOnce, CitesOnce}
 use Rattle.st_ilcheck.specs.inner.Declared.{AreDeclared, IsNew, rule_pairs}
-use Rattle.st_ilcheck.specs.inner.Index.{has_pair}
+use Rattle.st_ilcheck.specs.inner.Names.{is_pair}
 
 -- ---- names of syntaxes
 
@@ -120,11 +120,11 @@ module _ (relation name : Name) where
   by_relation true r rs pairs e = ap (λ z. bytes_eq name r.name || z) e
   by_relation false r rs pairs e = e
 
-  pairs-are : (rs : List RuleDef) → has_name (map (λ (z : RuleDef). z.name) (rules_from relation rs)) name ≡ has_pair relation name (map (λ (r : RuleDef). (r.relation, r.name)) rs)
+  pairs-are : (rs : List RuleDef) → has_name (map (λ (z : RuleDef). z.name) (rules_from relation rs)) name ≡ is_pair relation name (map (λ (r : RuleDef). (r.relation, r.name)) rs)
   pairs-are [] = refl
-  pairs-are (r ∷ rs) = by_relation (bytes_eq relation r.relation) r rs (has_pair relation name (map (λ (z : RuleDef). (z.relation, z.name)) rs)) (pairs-are rs)
+  pairs-are (r ∷ rs) = by_relation (bytes_eq relation r.relation) r rs (is_pair relation name (map (λ (z : RuleDef). (z.relation, z.name)) rs)) (pairs-are rs)
 
-  pub rules-are : (defs : List IlDef) → has_name (rule_names relation defs) name ≡ has_pair relation name (rule_pairs defs)
+  pub rules-are : (defs : List IlDef) → has_name (rule_names relation defs) name ≡ is_pair relation name (rule_pairs defs)
   rules-are defs = pairs-are (rules_in defs)
 
 to_equal : (a b c : Bool) → a ≡ b → (b ≡ c) ↔ (a ≡ c)
@@ -136,7 +136,7 @@ module _ (il : Il) (before : List IlDef) (b : Declared) (h : AreDeclared before 
   new-declared (Var x t) n = to_equal _ _ false (ap (λ names. has_name names x) (sym h.variables))
   new-declared (Relation r) n =
       let e = to_equal _ _ false (ap (λ names. has_name names r.name) (sym h.relations)) in (λ k. (e.0 k.0, k.1), λ k. (e.1 k.0, k.1))
-  new-declared (Rule r) n = to_equal _ _ false (rules-are r.relation r.name before ∙ ap (has_pair r.relation r.name) (sym h.rules))
+  new-declared (Rule r) n = to_equal _ _ false (rules-are r.relation r.name before ∙ ap (is_pair r.relation r.name) (sym h.rules))
   new-declared (Fun f) n = to_equal _ _ false (ap (λ names. has_name names f.name) (sym h.functions))
   new-declared (Clause c) n = (λ k. k, λ k. k)
 

@@ -22,5 +22,7 @@ pub mod Declarations
 pub mod Variables
 -- a language is typed; or the first definition that breaks a rule, and the least that it breaks
 pub mod Typed
+-- names in sets, and what stands under a name
+pub mod Index
 -- what only contracts inside the crate and proofs need
 pub mod inner

@@ -4,8 +4,6 @@ pub mod Counts
 pub mod Clauses
 pub mod Contents
 pub mod Beginnings
--- names in sets and in maps
-pub mod Index
 -- names in order, found by hashes
 pub mod Names
 pub mod Heads

@@ -19,7 +19,10 @@ fn add_function<'a>(
         → FindFunctions (def.now ∷ defs) map.new.entries) }
 {
     match def {
-        IlDef::Fun(fun) => put(map, &fun.name, fun),
+        IlDef::Fun(fun) => {
+            let _later = put(map, &fun.name, fun)?;
+            Ok(())
+        }
         IlDef::Syntax(_) | IlDef::Var(_, _) | IlDef::Relation(_) => Ok(()),
         IlDef::Rule(_) | IlDef::Clause(_) => Ok(()),
     }
@@ -34,7 +37,10 @@ fn add_relation<'a>(
         → FindRelations (def.now ∷ defs) map.new.entries) }
 {
     match def {
-        IlDef::Relation(relation) => put(map, &relation.name, relation),
+        IlDef::Relation(relation) => {
+            let _later = put(map, &relation.name, relation)?;
+            Ok(())
+        }
         IlDef::Syntax(_) | IlDef::Var(_, _) | IlDef::Fun(_) => Ok(()),
         IlDef::Rule(_) | IlDef::Clause(_) => Ok(()),
     }

@@ -19,7 +19,7 @@ mod declaring;
 mod definitions;
 mod found;
 mod heads;
-mod index;
+pub mod index;
 mod keeping;
 mod language;
 mod laws;

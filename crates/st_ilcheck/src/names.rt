@@ -3,7 +3,7 @@
 ghost use Rattle.std.specs.Prelude.{◌≡◌, [], ◌∷◌, ◌++◌, OnOk, OnErr};
 ghost use Rattle.st_ilcheck.specs.inner.Names.{names_at, IsCounted, pairs_at, IsKept};
 
-use crate::index::{add_pair, at, has_key, put};
+use crate::index::{add_pair, at, has_pair, put};
 use indexmap::{IndexMap, IndexSet};
 use st_num::{Name, NoMemory};
 use std::alloc::Global;
@@ -24,7 +24,7 @@ fn count<'a>(
     let is_first = at(single, name).is_none();
     listed.push(name)?;
     match put(single, name, is_first) {
-        Ok(()) => Ok(()),
+        Ok(_) => Ok(()),
         Err(failed) => {
             let _name = listed.pop();
             Err(failed)
@@ -47,7 +47,7 @@ fn keep<'a>(
 {
     listed.push((first, second))?;
     match add_pair(distinct, first, second) {
-        Ok(()) => Ok(()),
+        Ok(_) => Ok(()),
         Err(failed) => {
             let _pair = listed.pop();
             Err(failed)
@@ -138,7 +138,7 @@ impl<'a> Model for Pairs<'a> {
 
 impl<'a> Pairs<'a> {
     ghost use Rattle.std.specs.Prelude.{◌≡◌, [], ◌∷◌, ◌++◌, OnOk};
-    ghost use Rattle.st_ilcheck.specs.inner.Index.{has_pair};
+    ghost use Rattle.st_ilcheck.specs.inner.Names.{is_pair};
 
     /// No pairs.
     pub(crate) fn new(alloc: Global) -> Pairs<'a>
@@ -159,8 +159,8 @@ impl<'a> Pairs<'a> {
 
     /// Whether the pair is one of these.
     pub(crate) fn has(&self, first: &Name, second: &Name) -> bool
-        ensures { result ≡ has_pair first.now second.now self.now }
+        ensures { result ≡ is_pair first.now second.now self.now }
     {
-        has_key(&self.distinct, first, second)
+        has_pair(&self.distinct, first, second)
     }
 }

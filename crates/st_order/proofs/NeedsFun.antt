@@ -119,7 +119,7 @@ module _ (q : Name) where
         any_contains (fun_test q) (Function q) (same_itself q) fun_only (cited_by il (Relation name)) (has_name (called_by_relation name il.defs) q)
         (among_all (fun_test q) cited_by_rule functions_in_rule rule_functions (rules_of il name))
 
-    relation_cites : (has_name (cited_by_relation name il.defs) q ≡ true) ↔ Contains (cited_by il (Relation name)) (Relation q)
+    pub relation_cites : (has_name (cited_by_relation name il.defs) q ≡ true) ↔ Contains (cited_by il (Relation name)) (Relation q)
     relation_cites =
         any_contains (relation_test q) (Relation q) (same_itself q) relation_only (cited_by il (Relation name)) (has_name (cited_by_relation name il.defs) q)
         (among_all (relation_test q) cited_by_rule relations_in_rule rule_relations (rules_of il name))

@@ -36,7 +36,7 @@ module _ (defs : List SyntaxDef) where
       (record { form = Same-up defs x y s v h.0.form; value = h.0.value; numbers = h.0.numbers }, equal_types rest vs h.1)
 
   -- those of some holes
-  some_typed : (holes : List Bool) (ts : List Ty) (vs : List Value) → AreTypedValues defs ts vs → AreTypedValues defs (inputs_by holes ts) (inputs_by holes vs)
+  pub some_typed : (holes : List Bool) (ts : List Ty) (vs : List Value) → AreTypedValues defs ts vs → AreTypedValues defs (inputs_by holes ts) (inputs_by holes vs)
   some_typed [] ts vs h = tt
   some_typed (b ∷ holes) [] [] h = tt
   some_typed (b ∷ holes) [] (v ∷ vs) h = absurd h

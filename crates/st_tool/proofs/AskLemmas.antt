@@ -25,6 +25,7 @@ use Rattle.st_semantics.specs.Goals.{AreInputs}
 use Rattle.st_semantics.specs.Laws.{LawOfTerms, LawOfJudgements}
 use Rattle.st_semantics.specs.Marks.{HasMark}
 use Rattle.st_semantics.specs.Typing.{ResultsAreTyped, ConclusionsAreTyped}
+use Rattle.st_semantics.proofs.TypedTerms.{some_typed}
 use Rattle.st_tool.specs.Searches.{AreInputTypes}
 use Rattle.st_tool.specs.declared.answer.Answer.{Answer}
 use Rattle.st_tool.specs.declared.searches.Asked.{Asked}
@@ -75,15 +76,6 @@ leads_on il relation law results conclusions (HasMark.u0 missing is) = absurd (c
 leads_on il relation law results conclusions (HasMark.searched declared one found unfit is) = absurd (cc)
 leads_on il relation law results conclusions (HasMark.u5 declared found unfit asked not_stepping is) = absurd (cc)
 leads_on il relation law results conclusions (HasMark.none declared found unfit stepping is) = law il results conclusions relation declared found (stepping refl)
-
--- values of some holes have their types
-some_typed : (defs : List SyntaxDef) (holes : List Bool) (ts : List Ty) (vs : List Value) → AreTypedValues defs ts vs → AreTypedValues defs (inputs_by holes ts) (inputs_by holes vs)
-some_typed defs [] ts vs h = tt
-some_typed defs (b ∷ holes) [] [] h = tt
-some_typed defs (b ∷ holes) [] (v ∷ vs) h = absurd h
-some_typed defs (b ∷ holes) (t ∷ ts) [] h = absurd h
-some_typed defs (true ∷ holes) (t ∷ ts) (v ∷ vs) h = (h.0, some_typed defs holes ts vs h.1)
-some_typed defs (false ∷ holes) (t ∷ ts) (v ∷ vs) h = some_typed defs holes ts vs h.1
 
 -- what is derivable has the types of the outputs
 pub gives_typed : (il : Il) (relation : Name) → LawOfJudgements → ResultsAreTyped il → ConclusionsAreTyped il → IsDeclared il relation → GivesTyped il relation

@@ -22,63 +22,10 @@ use Rattle.st_order.specs.inner.Citations.{relations_in_rule}
 use Rattle.st_order.specs.inner.Index.{names_in}
 use Rattle.st_order.specs.inner.Reaching.{Reached, first, next, Grows, unseen}
 use Rattle.st_order.proofs.NamesIn.{has_name_append}
+use Rattle.st_order.proofs.NeedsFun.{relation_cites}
 use Rattle.st_order.proofs.HasWalked.{or_cases, or_left, or_right, same_itself, has_itself, has_one, has_left, has_right, has_cases, grows_more, begins_with, goes_on, ends}
 use Rattle.st_tool.specs.inner.Needing.{cited_in, some_has_otherwise, IsOnWalk}
 use Rattle.st_tool.specs.inner.Relations.{Entries, AreRules, rules_found, rules_at}
-
--- ---- what the rules of a relation cite
-
--- whether a relation of this name is cited
-abbrev is_relation : Name → Citer → Bool
-is_relation q (Relation name) = bytes_eq q name
-is_relation q (Function name) = false
-
-module _ (q : Name) where
-  only : (y : Citer) → is_relation q y ≡ true → y ≡ Relation q
-  only (Relation name) h = ap Relation (sym ((bytes_eq-Decides q name).0 h))
-  only (Function name) h = absurd (true≢false (sym h))
-
-  any_to : (xs : List Citer) → list_any (is_relation q) xs ≡ true → Contains xs (Relation q)
-  any_to [] h = absurd (true≢false (sym h))
-  any_to (y ∷ ys) h = by (or_cases (is_relation q y) (list_any (is_relation q) ys) h) (any_to ys)
-    where
-      by : (is_relation q y ≡ true) ⊎ (list_any (is_relation q) ys ≡ true) → (list_any (is_relation q) ys ≡ true → Contains ys (Relation q)) → Contains (y ∷ ys) (Relation q)
-      by (inl e) more = (0, omega arith, only y e)
-      by (inr e) more =
-          let there : Contains ys (Relation q) = more e in
-          let within : there.0 < length ys = there.1 in
-          (suc there.0, omega arith, there.2)
-
-  any_from : (xs : List Citer) (k : ℕ) → k < length xs → slice_index_or xs k (Relation q) ≡ Relation q → list_any (is_relation q) xs ≡ true
-  any_from [] k within is = absurd (omega arith)
-  any_from (y ∷ ys) zero within is = or_left (is_relation q y) (list_any (is_relation q) ys) (ap (is_relation q) is ∙ same_itself q)
-  any_from (y ∷ ys) (suc k) within is = or_right (is_relation q y) (list_any (is_relation q) ys) (any_from ys k (omega arith) is)
-
-  among_relations : (xs : List Name) → list_any (is_relation q) (map Relation xs) ≡ has_name xs q
-  among_relations [] = refl
-  among_relations (x ∷ xs) = ap (λ z. bytes_eq q x || z) (among_relations xs)
-
-  among_functions : (xs : List Name) → list_any (is_relation q) (map Function xs) ≡ false
-  among_functions [] = refl
-  among_functions (x ∷ xs) = among_functions xs
-
-  in_rule : (r : RuleDef) → list_any (is_relation q) (cited_by_rule r) ≡ has_name (relations_in_rule r) q
-  in_rule r =
-      let funs : List Name = called_in r.conclusion ++ flattened (map prem_called r.premises) in
-      list_any-append (is_relation q) (map Function funs) (map Relation (relations_in_rule r))
-      ∙ ap₂ (λ a b. a || b) (among_functions funs) (among_relations (relations_in_rule r))
-
-  in_rules : (rs : List RuleDef) → list_any (is_relation q) (flattened (map cited_by_rule rs)) ≡ has_name (cited_in rs) q
-  in_rules [] = refl
-  in_rules (r ∷ rs) =
-      list_any-append (is_relation q) (cited_by_rule r) (flattened (map cited_by_rule rs)) ∙ ap₂ (λ a b. a || b) (in_rule r) (in_rules rs)
-      ∙ sym (has_name_append (relations_in_rule r) (cited_in rs) q)
-
-  cites : (il : Il) (p : Name) → has_name (cited_in (rules_of il p)) q ≡ true → Contains (cited_by il (Relation p)) (Relation q)
-  cites il p h = any_to (cited_by il (Relation p)) (in_rules (rules_of il p) ∙ h)
-
-  is_cited : (il : Il) (p : Name) → Contains (cited_by il (Relation p)) (Relation q) → has_name (cited_in (rules_of il p)) q ≡ true
-  is_cited il p c = sym (in_rules (rules_of il p)) ∙ any_from (cited_by il (Relation p)) c.0 c.1 c.2
 
 -- ---- names are added, rule by rule
 
@@ -119,11 +66,11 @@ module _ (il : Il) (relation : Name) where
 
   is_needed : (q : Name) → Reached (relation ∷ []) cited q → (q ≡ relation) ⊎ NeedsRelation il relation q
   is_needed q (first h) = inl (has_one relation q h)
-  is_needed q (next p r h) = inr (needed_behind p q (is_needed p r) (cites q il p h))
+  is_needed q (next p r h) = inr (needed_behind p q (is_needed p r) ((relation_cites q il p).0 h))
 
   is_reached : (q : Name) → NeedsRelation il relation q → Reached (relation ∷ []) cited q
-  is_reached q (NeedsRelation.of_rule c) = next relation (first (has_itself [] relation)) (is_cited q il relation c)
-  is_reached q (NeedsRelation.of_needed p n c) = next p (is_reached p n) (is_cited q il p c)
+  is_reached q (NeedsRelation.of_rule c) = next relation (first (has_itself [] relation)) ((relation_cites q il relation).1 c)
+  is_reached q (NeedsRelation.of_needed p n c) = next p (is_reached p n) ((relation_cites q il p).1 c)
 
 -- ---- rules without an `otherwise`
 

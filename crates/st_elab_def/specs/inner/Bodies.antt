@@ -22,7 +22,7 @@ use Rattle.st_elab_def.specs.Definitions.{Definition}
 use Rattle.st_elab_def.specs.DeclsOf.{alternative_of, declared_by, decls_of}
 use Rattle.st_elab_def.specs.Fragments.{has_fragment}
 use Rattle.st_elab_def.specs.Phases.{Placed, placed, names_in, on_alias_name, on_alternatives, on_fields, on_body, alternatives_before}
-use Rattle.st_elab_def.specs.inner.Index.{at}
+use Rattle.st_ilcheck.specs.Index.{at}
 use Rattle.st_elab_def.specs.inner.Last.{is_past}
 use Rattle.st_elab_def.specs.inner.Walk.{standing, AllPassAt}
 

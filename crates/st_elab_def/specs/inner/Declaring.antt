@@ -7,7 +7,7 @@ use Rattle.st_el.specs.declared.definition.Def.{Def}
 use Rattle.st_el.specs.declared.definition.DefNode.{DefNode}
 use Rattle.st_el.specs.declared.definition.DefNode.TheVariants.{Syntax, Var, Relation, Fun}
 use Rattle.st_elab_def.specs.declared.declarations.Declared.{Declared}
-use Rattle.st_elab_def.specs.inner.Index.{has}
+use Rattle.st_ilcheck.specs.Index.{has}
 
 -- ---- what a definition declares, by name
 

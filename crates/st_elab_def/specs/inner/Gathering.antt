@@ -14,7 +14,7 @@ use Rattle.st_il.specs.declared.definition.SyntaxBody.TheVariants as body
 use Rattle.st_elab_def.specs.DeclsOf.{body_of}
 use Rattle.st_elab_def.specs.Fragments.{has_fragment}
 use Rattle.st_elab_def.specs.Phases.{alternatives_before}
-use Rattle.st_elab_def.specs.inner.Index.{at}
+use Rattle.st_ilcheck.specs.Index.{at}
 
 -- what is kept of each syntax with fragments: their alternatives, or that they were taken
 abbrev pub Entries : Type 0

@@ -11,7 +11,7 @@ use Rattle.st_elab_table.specs.Judgements.{relation_named}
 use Rattle.st_elab_def.specs.declared.heads.Known.{Known}
 use Rattle.st_elab_def.specs.Conditions.{relation, function, new_rule, has_rule}
 use Rattle.st_elab_def.specs.Phases.{Placed, placed}
-use Rattle.st_elab_def.specs.inner.Index.{at, has_pair}
+use Rattle.st_ilcheck.specs.Index.{at, has_pair}
 
 -- The relations and the functions are found by their names.
 pub record Finds (D : Decls) (known : Known) : Type 0 where

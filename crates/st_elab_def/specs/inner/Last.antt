@@ -3,7 +3,7 @@ use Rattle.std.specs.Prelude.{◌≡◌, ◌+◌, ℕ, List, drop, Bool, false, 
 use Rattle.std.specs.Borrow.{Bor}
 use Rattle.st_el.specs.declared.definition.Def.{Def}
 use Rattle.st_elab_def.specs.Fragments.{has_fragment}
-use Rattle.st_elab_def.specs.inner.Index.{at}
+use Rattle.st_ilcheck.specs.Index.{at}
 
 -- the last one, if there is one, stands behind the definition of this number
 abbrev pub is_past : ℕ → Option ℕ → Bool

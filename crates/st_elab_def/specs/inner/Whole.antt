@@ -13,7 +13,7 @@ use Rattle.st_elab_def.specs.Elaboration.{ElabDefs}
 use Rattle.st_elab_def.specs.Fragments.{has_fragment, is_later}
 use Rattle.st_elab_def.specs.Phases.{on_content}
 use Rattle.st_elab_def.specs.inner.Heads.{Finds, KnowsRules}
-use Rattle.st_elab_def.specs.inner.Index.{has}
+use Rattle.st_ilcheck.specs.Index.{has}
 use Rattle.st_elab_def.specs.inner.Joining.{joined_of}
 use Rattle.st_elab_def.specs.inner.Walk.{AllPassAt}
 

@@ -6,7 +6,7 @@ use Rattle.st_il.specs.declared.definition.RuleDef.{RuleDef}
 use Rattle.st_semantics.specs.Names.{Name, has_name}
 use Rattle.st_semantics.specs.Definitions.{rules_in}
 use Rattle.st_ilcheck.specs.declared.declaring.Declared.{Declared}
-use Rattle.st_ilcheck.specs.inner.Index.{has_pair}
+use Rattle.st_ilcheck.specs.inner.Names.{is_pair}
 use Rattle.st_ilcheck.specs.Declarations.{syntax_names, variable_names, relation_names, function_names, IsMode}
 
 -- nothing is declared
@@ -77,6 +77,6 @@ abbrev pub IsNew : Declared → IlDef → Type 0
 IsNew before (Syntax s) = Unit {0}
 IsNew before (Var x t) = has_name before.variables x ≡ false
 IsNew before (Relation r) = (has_name before.relations r.name ≡ false) × IsMode r
-IsNew before (Rule r) = has_pair r.relation r.name before.rules ≡ false
+IsNew before (Rule r) = is_pair r.relation r.name before.rules ≡ false
 IsNew before (Fun f) = has_name before.functions f.name ≡ false
 IsNew before (Clause c) = Unit {0}

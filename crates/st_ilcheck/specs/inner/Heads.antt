@@ -9,7 +9,7 @@ use Rattle.st_il.specs.declared.definition.RelationDef.{RelationDef}
 use Rattle.st_il.specs.declared.definition.SyntaxDef.{SyntaxDef}
 use Rattle.st_semantics.specs.Names.{Name}
 use Rattle.st_semantics.specs.Definitions.{syntaxes}
-use Rattle.st_ilcheck.specs.inner.Index.{at}
+use Rattle.st_ilcheck.specs.Index.{at}
 use Rattle.st_ilcheck.specs.inner.Steps.{function_in, relation_in}
 
 -- under each name stands the first function of this name

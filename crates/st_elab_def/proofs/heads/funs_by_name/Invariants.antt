@@ -1,7 +1,7 @@
 use Rattle.std.proofs.Common.{◌≡◌, ◌-◌, List, ℕ, length, drop}
 use Rattle.std.specs.Option.{option_copied}
 use Rattle.st_elab_table.specs.Inferred.{fun_named}
-use Rattle.st_elab_def.specs.inner.Index.{at}
+use Rattle.st_ilcheck.specs.Index.{at}
 use Rattle.st_elab_def.proofs.heads.funs_by_name.Given as goal
 
 abbrev pub invariant-loop-i : goal.invariant-loop-i
