@@ -1,12 +1,10 @@
 -- A walk from a relation over those that it needs: what is walked over is what it needs, and the walk ends.
-use Rattle.std.proofs.Common.{◌≡◌, refl, sym, ◌∙◌, ap, ap₂, subst, slice_get, ℕ, zero, suc, ◌+◌, ◌-◌, ◌<◌, ◌≤◌, Bool, true, false, true≢false, ◌||◌, if◌then◌else◌, List, [], ◌∷◌, ◌++◌, append_assoc, append-nil, map, length, take, Contains, slice_index_or, ◌⊎◌, inl, inr, bytes_eq, arith, Option, Some}
+use Rattle.std.proofs.Common.{◌≡◌, refl, sym, ◌∙◌, ap, subst, slice_get, ℕ, zero, suc, ◌+◌, ◌-◌, ◌<◌, ◌≤◌, Bool, true, false, true≢false, ◌||◌, if◌then◌else◌, List, [], ◌∷◌, ◌++◌, append_assoc, append-nil, map, length, take, Contains, ◌⊎◌, inl, inr, bytes_eq, arith, Option, Some}
 use Rattle.std.specs.Prelude.{All}
 use Rattle.std.specs.Borrow.{Bor}
 use Rattle.std.specs.List.{list_any}
 use Rattle.std.proofs.lemmas.List.{take_all}
 use Rattle.std.proofs.lemmas.List.Elements.{All-from_recursion, All-head, All-tail}
-use Rattle.std.proofs.lemmas.List.Folds.{list_any-append}
-use Rattle.std.proofs.lemmas.Slice.Eq.{bytes_eq-Decides}
 use Rattle.std.specs.List.{AllByRecursion}
 use Rattle.st_il.specs.declared.definition.Il.{Il}
 use Rattle.st_il.specs.declared.definition.RuleDef.{RuleDef}
@@ -14,16 +12,15 @@ use Rattle.st_il.specs.declared.expression.IlPrem.{IlPrem}
 use Rattle.st_search.specs.Searchable.{HasNoOtherwise}
 use Rattle.st_semantics.specs.Names.{Name, has_name, flattened}
 use Rattle.st_semantics.specs.Definitions.{rules_in, rules_from, rules_of}
-use Rattle.st_semantics.specs.Variables.{called_in, prem_called, relations_cited, have_otherwise}
-use Rattle.st_semantics.specs.ModeRules.{Citer, Relation, Function, cited_by, cited_by_rule}
+use Rattle.st_semantics.specs.Variables.{relations_cited, have_otherwise}
+use Rattle.st_semantics.specs.ModeRules.{Relation, cited_by}
 use Rattle.st_semantics.specs.Marks.{NeedsRelation}
 use Rattle.st_order.specs.Known.{all_now}
 use Rattle.st_order.specs.inner.Citations.{relations_in_rule}
 use Rattle.st_order.specs.inner.Index.{names_in}
 use Rattle.st_order.specs.inner.Reaching.{Reached, first, next, Grows, unseen}
-use Rattle.st_order.proofs.NamesIn.{has_name_append}
 use Rattle.st_order.proofs.NeedsFun.{relation_cites}
-use Rattle.st_order.proofs.HasWalked.{or_cases, or_left, or_right, same_itself, has_itself, has_one, has_left, has_right, has_cases, grows_more, begins_with, goes_on, ends}
+use Rattle.st_order.proofs.HasWalked.{or_left, or_right, same_itself, has_itself, has_one, has_left, has_right, has_cases, grows_more, begins_with, goes_on, ends}
 use Rattle.st_tool.specs.inner.Needing.{cited_in, some_has_otherwise, IsOnWalk}
 use Rattle.st_tool.specs.inner.Relations.{Entries, AreRules, rules_found, rules_at}
 
