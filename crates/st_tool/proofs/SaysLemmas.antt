@@ -31,9 +31,9 @@ use Rattle.st_tool.specs.Checking.{CheckGives}
 use Rattle.st_tool.specs.Commands.{IsUnbuilt}
 use Rattle.st_tool.specs.Searches.{Says, AreInputTypes, RelationSays, marked, unbuilt, refused, searched, SearchGives, unspecified, specified}
 use Rattle.st_tool.specs.Texts.{refused_term_text}
-use Rattle.st_tool.specs.inner.Asking.{asks_steps, asked_says, IsAccepted, TellsTermFault}
+use Rattle.st_tool.specs.inner.Asking.{asks_steps, asked_says, TellsTermFault}
 use Rattle.st_tool.specs.inner.Marking.{IsMarkText}
-use Rattle.st_tool.specs.inner.Specifying.{AreSpecified, RefusesFiles, Specifies}
+use Rattle.st_tool.specs.inner.Specifying.{IsAccepted, AreSpecified, RefusesFiles, Specifies}
 
 -- the text of a mark that was found, or that there is none
 pub mark_at : {T : Type 0} (items : T → List ℕ) (il : Il) (said steps : Bool) (relation : Name) (found : Option T) (mark : T) (text : List ℕ) → found ≡ Some mark → said ≡ steps → text ≡ items mark
@@ -110,8 +110,7 @@ module _ (steps : Bool) (Is : Says) (names : List (List ℕ)) (relation : Name) 
 -- the language of a specification breaks no rule
 pub accepted : (names files : List (List ℕ)) (s : Specification) (count : ℕ) (e : Elaborated) (modes : Modes) → Specifies names files s → s ≡ Accepted count e modes → IsAccepted e.il modes
 accepted names files s count e modes tells is =
-    let has : AreSpecified files count e modes = subst (Specifies names files) is tells in
-    record { typed = has.sound.typed; keeps = has.sound.keeps; few = has.sound.few; modes_are = has.sound.modes_are }
+    let has : AreSpecified files count e modes = subst (Specifies names files) is tells in has.sound
 
 -- the name that was copied is the relation's
 pub of_name : (asked : Asked) (names : List (List ℕ)) (copied relation : Name) (text : List ℕ) (files : List (List ℕ)) (result : Result Answer NoMemory) → copied ≡ relation

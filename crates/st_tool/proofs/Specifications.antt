@@ -27,7 +27,7 @@ use Rattle.st_tool.specs.declared.check.Printed.{Printed}
 use Rattle.st_tool.specs.declared.specification.Specification.{Specification}
 use Rattle.st_tool.specs.declared.specification.Specification.TheVariants.{Accepted, Refused}
 use Rattle.st_tool.specs.declared.status.Status.TheVariants as status
-use Rattle.st_tool.specs.inner.Specifying.{IsSound, RefusesSource, RefusesFiles, AreSound, AreSpecified, SpecifiesSource, Specifies}
+use Rattle.st_tool.specs.inner.Specifying.{IsAccepted, RefusesSource, RefusesFiles, AreSound, AreSpecified, SpecifiesSource, Specifies}
 use Rattle.st_tool.proofs.Checks.{SaysSource, SaysFiles}
 
 -- ---- refusals
@@ -80,7 +80,7 @@ files_print printed names texts count e modes (Ok answer) are is prints =
 
 -- ---- where there are no definitions
 
-nothing_sound : IsSound nothing (record { marks = []; orders = [] })
+nothing_sound : IsAccepted nothing.il (record { marks = []; orders = [] })
 nothing_sound = record {
   typed = tt;
   keeps = All-nil (λ (at : Standing). (m : RuleId) → Breaks nothing.il at m → ⊥);

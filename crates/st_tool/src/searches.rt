@@ -10,7 +10,8 @@ ghost use Rattle.st_semantics.specs.Goals.{AreInputs};
 ghost use Rattle.st_semantics.specs.Marks.{HasMark};
 ghost use Rattle.st_tool.specs.Commands.{source_limit};
 ghost use Rattle.st_tool.specs.Searches.{AreInputTypes, RelationSays, SearchGives, RunGives, NextGives, next_depth};
-ghost use Rattle.st_tool.specs.inner.Asking.{asks_steps, depth_of, asked_says, IsAccepted, IsDeclared, TellsTermFault};
+ghost use Rattle.st_tool.specs.inner.Asking.{asks_steps, depth_of, asked_says, IsDeclared, TellsTermFault};
+ghost use Rattle.st_tool.specs.inner.Specifying.{IsAccepted};
 
 use crate::answer::{Answer, unbuilt};
 use crate::marking::{mark_of, not_runnable, number_of};

@@ -1,13 +1,9 @@
--- What is asked of a relation, over which languages, and how the fault of a term is told.
+-- What is asked of a relation, and how the fault of a term is told.
 use Rattle.std.specs.Prelude.{◌≡◌, ℕ, Bool, true, false, List, Some}
 use Rattle.st_num.specs.declared.fault.Fault.{Fault}
 use Rattle.st_num.specs.declared.fault.Fault.TheVariants.{Refused, Memory}
 use Rattle.st_il.specs.declared.definition.Il.{Il}
 use Rattle.st_il.specs.declared.definition.RelationDef.{RelationDef}
-use Rattle.st_ilcheck.specs.Typed.{Typed}
-use Rattle.st_order.specs.Modes.{HasFew, AreModes}
-use Rattle.st_order.specs.declared.relation_modes.Modes.{Modes}
-use Rattle.st_semantics.specs.Breaches.{KeepModes}
 use Rattle.st_semantics.specs.Definitions.{relation_named}
 use Rattle.st_semantics.specs.Names.{Name}
 use Rattle.st_semantics.specs.Transcript.{Term}
@@ -34,13 +30,6 @@ asked_says (Next depth) relation il term status bytes =
     NextSays il relation depth term status bytes
 asked_says (Run fuel depth) relation il term status bytes =
     RunSays il relation fuel depth term status bytes
-
--- an internal language that breaks no rule, and its modes
-pub record IsAccepted (il : Il) (modes : Modes) : Type 0 where
-  pub typed : Typed il
-  pub keeps : KeepModes il
-  pub few : HasFew il
-  pub modes_are : AreModes il modes
 
 -- a relation of this name is declared
 abbrev pub IsDeclared : Il → Name → Type 0

@@ -1,6 +1,7 @@
 -- What is known of a specification that was read, from its definitions and from its files.
 use Rattle.std.specs.Prelude.{◌≡◌, ℕ, List, length}
 use Rattle.st_el.specs.declared.definition.Def.{Def}
+use Rattle.st_il.specs.declared.definition.Il.{Il}
 use Rattle.st_elab_def.specs.Elaboration.{IsElaborated}
 use Rattle.st_elab_def.specs.Erasing.{ErasesTo}
 use Rattle.st_elab_def.specs.declared.elaborated.Elaborated.{Elaborated}
@@ -17,18 +18,18 @@ use Rattle.st_tool.specs.declared.specification.Specification.TheVariants.{Accep
 use Rattle.st_tool.specs.declared.status.Status.TheVariants as answer
 
 -- an internal language that breaks no rule, and its modes
-pub record IsSound (e : Elaborated) (modes : Modes) : Type 0 where
-  pub typed : Typed e.il
-  pub keeps : KeepModes e.il
-  pub few : HasFew e.il
-  pub modes_are : AreModes e.il modes
+pub record IsAccepted (il : Il) (modes : Modes) : Type 0 where
+  pub typed : Typed il
+  pub keeps : KeepModes il
+  pub few : HasFew il
+  pub modes_are : AreModes il modes
 
 -- so many definitions, which are elaborated to a sound language
 pub record AreSound (defs : List Def) (count : ℕ) (e : Elaborated) (modes : Modes) : Type 0 where
   pub counted : count ≡ length defs
   pub elaborated : IsElaborated defs e
   pub erased : ErasesTo defs e
-  pub sound : IsSound e modes
+  pub sound : IsAccepted e.il modes
 
 -- the answer refuses these definitions, whatever is asked of them
 pub record RefusesSource (names : List (List ℕ)) (defs : List Def) (given : Answer)
@@ -47,7 +48,7 @@ pub record AreSpecified (files : List (List ℕ)) (count : ℕ) (e : Elaborated)
   pub defs : List Def
   pub counted : count ≡ length defs
   pub specification : IsSpecification files defs e
-  pub sound : IsSound e modes
+  pub sound : IsAccepted e.il modes
 
 -- the answer refuses these files, whatever is asked of them
 pub record RefusesFiles (names files : List (List ℕ)) (given : Answer) : Type 0 where
