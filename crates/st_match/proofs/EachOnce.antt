@@ -42,3 +42,8 @@ AreEachOnce-dedup envs sorted each p s is = subst (AreEachOnce envs) (sym is) (r
   );
   once = strictly_apart (dedup (eq_by_cmp env_cmp) sorted) (IsStrictlySortedBy-dedup env_cmp_order.total (λ a b. refl) sorted s);
 })
+
+-- the same of a row that is taken apart, and put together again
+pub AreEachOnce-kept : (envs taken sorted each kept : List Env) → taken ≡ envs → IsPermutation taken sorted → IsSorted env_cmp sorted → each ≡ dedup (eq_by_cmp env_cmp) sorted → kept ≡ each → AreEachOnce envs kept
+AreEachOnce-kept envs taken sorted each kept same p s is put =
+    subst (λ z. AreEachOnce z kept) same (AreEachOnce-dedup taken sorted kept p s (put ∙ is))
