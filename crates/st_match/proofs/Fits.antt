@@ -5,6 +5,7 @@ use Rattle.std.proofs.lemmas.List.{take_at, drop_at}
 use Rattle.st_il.specs.declared.definition.SyntaxDef.{SyntaxDef}
 use Rattle.st_il.specs.declared.expression.IlExp.{IlExp, out-IlExp}
 use Rattle.st_il.specs.declared.expression.IlExp.TheOpen.{IlExp-F, ListItem-F}
+use Rattle.st_il.specs.declared.expression.IlExp.TheVariants as exp
 use Rattle.st_il.specs.declared.expression.Iteration.{Iteration}
 use Rattle.st_il.specs.declared.expression.ListItem.{ListItem, out-ListItem}
 use Rattle.st_il.specs.declared.ty.Ty.{Ty}
@@ -30,6 +31,7 @@ use Rattle.st_semantics.proofs.Values.{two_values}
 use Rattle.st_semantics.proofs.Lengths.{limited_is, made_is, some_one, Chunk, Spliced, splice_parts}
 use Rattle.st_semantics.proofs.Columns.{list_of_elements}
 use Rattle.st_match.specs.inner.Fitting.{Fits, FitAll, FitItems, FitSplit}
+use Rattle.st_match.specs.inner.Covering.{IsVariable}
 
 list_made : (o : Option (List Value)) (v : Value) → option_map value.List o ≡ Some v → (vs : List Value) × (o ≡ Some vs) × (value.List vs ≡ v)
 list_made None v e = cc
@@ -189,3 +191,14 @@ module _ (defs : List SyntaxDef) (s : Env) where
       at : (parts : List Value) → FitAll defs (map item_exp (i ∷ rest)) parts s → spliced (i ∷ rest) parts ≡ Some vs → (n : ℕ) × (n ≤ length vs) × FitSplit defs e rest vs n s
       at [] a k = absurd a
       at (w ∷ parts) a k = cut w parts (splice_parts i rest w parts vs k) a.0 a.1
+
+-- ---- a pattern that is a variable
+
+pub IsVariable-Var : (p : IlExp) (x : Name) → p ≡ exp.Var x → IsVariable p x
+IsVariable-Var p x is = record { value = λ defs s v f. Fits-Var defs s p x v (ap out-IlExp is ∙ exp.outs-Var x) f }
+
+pub IsVariable-Up : (p : IlExp) (t : Ty) (e g : IlExp) (x : Name) → p ≡ exp.Up t e → g ≡ e → g ≡ exp.Var x → IsVariable p x
+IsVariable-Up p t e g x is same there = record {
+  value = λ defs s v f.
+      Fits-Var defs s e x v (ap out-IlExp (sym same ∙ there) ∙ exp.outs-Var x) (Fits-Up defs s p t e v (ap out-IlExp is ∙ exp.outs-Up t e) f);
+}

@@ -1,6 +1,6 @@
 //! Rows of environments, one for each element of an iteration, and the columns of their variables.
 
-ghost use Rattle.std.specs.Prelude.{◌≡◌, ◌++◌, IfOk, OnOk, OnSome, [], ◌∷◌, map};
+ghost use Rattle.std.specs.Prelude.{◌≡◌, ◌++◌, IfOk, IfSome, OnOk, [], ◌∷◌, map};
 ghost use Rattle.st_semantics.specs.Names.{has_name};
 ghost use Rattle.st_semantics.specs.Iterations.{kind_of, index_of};
 ghost use Rattle.st_match.specs.inner.Fitting.{column_value};
@@ -35,7 +35,7 @@ pub(crate) fn is_index(how: &Iteration, name: &Name) -> bool
 
 /// The variable that a pattern is, perhaps as one of a wider type.
 fn variable_of(pattern: &IlExp) -> Option<&Name>
-    ensures { OnSome result (λ x. IsVariable pattern.now x.now) }
+    ensures { IfSome result (λ x. IsVariable pattern.now x.now) }
 {
     match pattern {
         IlExp::Var(name) => Some(name),
@@ -50,7 +50,7 @@ fn variable_of(pattern: &IlExp) -> Option<&Name>
 /// The variable that an iteration goes over, where there is one and its body is that variable by
 /// itself.
 pub(crate) fn column_of<'a>(how: &Iteration, names: &'a [Name], body: &IlExp) -> Option<&'a Name>
-    ensures { OnSome result (λ x. IsColumn how.now names.now body.now x.now) }
+    ensures { IfSome result (λ x. IsColumn how.now names.now body.now x.now) }
 {
     let variable = variable_of(body)?;
     match names {

@@ -238,9 +238,9 @@ tuple_candidates-returns-in_ok-found-in-Tuple t c =
 pub iterated_candidates-returns-in_ok-found-in-Some : goal.iterated_candidates-returns-in_ok-found-in-Some
 iterated_candidates-returns-in_ok-found-in-Some t c =
     candidates-column c.args.how.now c.args.names.now c.args.body.now c.args.value.now c.in-Some.name.now c.args.counted.now c.in_ok-found-in-Some.found
-    _ c.in_ok-found-in-Some.ensures
+    c.in-Some.ensures c.in_ok-found-in-Some.ensures
 
 pub iterated_candidates-returns-in_ok-found-in-None : goal.iterated_candidates-returns-in_ok-found-in-None
 iterated_candidates-returns-in_ok-found-in-None t c =
-    candidates-elements c.args.how.now c.args.names.now c.args.body.now c.args.value.now c.kind_of.result c.in_ok-rows.rows c.as_slice-rows.result.now c.args.counted.now c.in_ok-found.found
-    c.kind_of.ensures c.as_slice-rows.ensures c.in_ok-rows.ensures c.in_ok-found.ensures
+    candidates-elements c.args.how.now c.args.names.now c.args.body.now c.args.value.now c.kind_of.result c.in_ok-rows-in-None.rows c.as_slice.result.now c.args.counted.now c.in_ok-found-in-None.found
+    c.kind_of.ensures c.as_slice.ensures c.in_ok-rows-in-None.ensures c.in_ok-found-in-None.ensures
