@@ -34,8 +34,4 @@ mod Terms
 mod Runnable
 mod Outcomes
 mod WrittenLemmas
-mod ReaderWords
-mod ReaderRows
-mod ReaderLines
-mod ReaderForm
 mod breach_places

@@ -7,7 +7,7 @@ use Rattle.st_num.specs.declared.memory.NoMemory.{NoMemory}
 use Rattle.st_tool.specs.declared.answer.Answer.{Answer}
 use Rattle.st_il.specs.declared.small.Small.{Small}
 use Rattle.st_tool.specs.Commands.{DeriveGives, IsDerivationText, IsRunnable, IsStart, IsTerm, IsUnbuilt}
-use Rattle.st_tool.specs.SmallText.{IsTextOf}
+use Rattle.st_small.specs.SmallText.{IsTextOf}
 use Rattle.st_tool.specs.inner.Starts.{HasNoTerm, HasNoStart}
 
 abbrev NoRun : List ℕ → List ℕ → List ℕ → Type 0

@@ -27,7 +27,7 @@ use Rattle.st_ilcheck.specs.Typed.{Typed}
 use Rattle.st_iltext.specs.IlText.{IlText, il_text}
 use Rattle.st_semantics.specs.Breaches.{KeepModes, IsModeBreach}
 use Rattle.st_tool.specs.OrderTexts.{orders_text}
-use Rattle.st_tool.specs.SmallText.{IsTextOf}
+use Rattle.st_small.specs.SmallText.{IsTextOf}
 use Rattle.st_tool.specs.Texts.{definitions_text, groups_text, definition_words, no_definition, refused_source_text}
 
 -- the tokens of files one behind another; files are numbered, the first by this number

@@ -16,7 +16,7 @@ use Rattle.st_tool.specs.Checking.{CheckGives, IlGives, GroupsGive, OrdersGive}
 use Rattle.st_tool.specs.Derivation.{IsDerivation}
 use Rattle.st_tool.specs.Queries.{EvalGives}
 use Rattle.st_tool.specs.Searches.{RunGives, NextGives}
-use Rattle.st_tool.specs.SmallText.{IsTextOf}
+use Rattle.st_small.specs.SmallText.{IsTextOf}
 use Rattle.st_tool.specs.Texts.{unbuilt_text, refused_il_text, untyped_text}
 use Rattle.st_semantics.specs.declared.verify_rule.VerifyRule.TheVariants.{V1}
 use Rattle.st_semantics.specs.Accepts.{Accepts}

@@ -1,5 +1,4 @@
 -- What only the private steps of `serve` keep, for their proofs alone.
-pub mod SmallForm
 pub mod Step
 pub mod Reaches
 pub mod Starts

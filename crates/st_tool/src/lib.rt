@@ -28,7 +28,6 @@ mod nexts;
 mod ordering;
 mod queries;
 mod query;
-mod reader;
 mod refusal;
 mod relations;
 mod running;

@@ -12,10 +12,10 @@ use crate::Status;
 use crate::answer::{Answer, unbuilt};
 use crate::check::{Printed, answer_files};
 use crate::derivation::derive;
-use crate::reader::read_small;
 use st_il::{Small, il_of_small};
 use st_iltext::print_il;
 use st_num::{Name, NoMemory, Row};
+use st_small::read_small;
 use st_words::CommandWord;
 use std::alloc::Global;
 

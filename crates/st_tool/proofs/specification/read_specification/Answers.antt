@@ -2,7 +2,7 @@ use Rattle.std.proofs.Common.{subst, sym, ◌∙◌}
 use Rattle.std.specs.Prelude.{IfErr}
 use Rattle.st_tool.specs.Checking.{AllTokens, TellsFault}
 use Rattle.st_tool.proofs.Checks.{token_stands}
-use Rattle.st_tool.proofs.ReaderLines.{is_nothing}
+use Rattle.st_small.proofs.ReaderLines.{is_nothing}
 use Rattle.st_tool.proofs.specification.read_specification.Goals as goal
 
 pub of_faulty-requires : goal.of_faulty-requires
