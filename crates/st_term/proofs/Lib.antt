@@ -6,3 +6,4 @@ mod TermOutcomes
 mod Readings
 pub mod PieceTexts
 pub mod ShownLevels
+mod TypedValues

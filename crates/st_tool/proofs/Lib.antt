@@ -27,7 +27,6 @@ mod SaysLemmas
 mod NeededLemmas
 mod MarkLemmas
 mod TypedTables
-mod TermLemmas
 mod AskLemmas
 mod Loading
 mod Terms

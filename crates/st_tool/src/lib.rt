@@ -37,7 +37,6 @@ mod source;
 mod specification;
 mod status;
 mod step;
-mod term;
 mod transcript;
 mod verification;
 

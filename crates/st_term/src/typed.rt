@@ -7,11 +7,11 @@ ghost use Rattle.st_semantics.specs.Directions.{inputs_by};
 ghost use Rattle.st_semantics.specs.Environments.{IsTypedValue, AreTypedValues};
 ghost use Rattle.st_term.specs.Reading.{IsTerm, IsTermBreach};
 
+use crate::read::read_term;
 use st_elab_table::Decls;
 use st_il::{IlExp, Listed, Ty, Value, copy_ty};
 use st_match::all_match;
 use st_num::{Dim, Fault, Name, NoMemory, Row};
-use st_term::read_term;
 use st_type_table::TypeTable;
 use std::alloc::Global;
 use std::slice::from_ref;

@@ -1,8 +1,8 @@
 use Rattle.std.proofs.Common.{refl}
 use Rattle.std.proofs.lemmas.Option.{slice_get_read}
 use Rattle.st_semantics.specs.Directions.{inputs_by}
-use Rattle.st_tool.proofs.TermLemmas.{next_input, all_inputs}
-use Rattle.st_tool.proofs.term.input_types.Goals as goal
+use Rattle.st_term.proofs.TypedValues.{next_input, all_inputs}
+use Rattle.st_term.proofs.typed.input_types.Goals as goal
 
 pub loop-number-preserved : goal.loop-number-preserved
 loop-number-preserved c =

@@ -1,7 +1,7 @@
 use Rattle.std.proofs.Common.{◌≡◌, ◌<◌, ◌≤◌, length, refl, arith}
 use Rattle.std.proofs.lemmas.Option.{slice_get_read}
-use Rattle.st_tool.proofs.TermLemmas.{suffices_more, suffices_all}
-use Rattle.st_tool.proofs.term.all_typed.Goals as goal
+use Rattle.st_term.proofs.TypedValues.{suffices_more, suffices_all}
+use Rattle.st_term.proofs.typed.all_typed.Goals as goal
 
 pub loop-i-preserved : goal.loop-i-preserved
 loop-i-preserved c =

@@ -22,10 +22,9 @@ use Rattle.st_semantics.specs.Patterns.{is_pattern, binds, bound_by, told}
 use Rattle.st_semantics.specs.Patterns as patterns
 use Rattle.st_semantics.specs.Variables.{vars_of}
 use Rattle.st_semantics.proofs.Inverse.{variable_value}
-use Rattle.st_semantics.proofs.Names.{vars-form}
+use Rattle.st_semantics.proofs.Names.{bytes-same, vars-form}
 use Rattle.st_semantics.proofs.PatternForms.{binds-level}
 use Rattle.st_semantics.proofs.PatternParts.{told-level}
-use Rattle.st_order.proofs.HasWalked.{same_itself}
 
 -- ---- a variable as a pattern
 
@@ -45,7 +44,7 @@ bound_var : (x : Name) → bound_by (Var x ∷ []) ≡ x ∷ []
 bound_var x = ap (λ b. flattened (map binds (cond b (Var x ∷ []) []))) (pattern_var x) ∙ ap (λ (ns : List Name). ns ++ []) (binds_var x)
 
 known_itself : (x : Name) → all_known (x ∷ []) (x ∷ []) ≡ true
-known_itself x = ap (λ b. (b || false) && true) (same_itself x)
+known_itself x = ap (λ b. (b || false) && true) (bytes-same x)
 
 -- these patterns can be matched
 pub record CanMatch (defs : List SyntaxDef) (es : List IlExp) : Type 0 where
@@ -68,8 +67,8 @@ can_match defs x pattern es is var = subst (CanMatch defs) (sym (is ∙ ap (λ p
 has_type : (defs : List SyntaxDef) (l : Listed) (v : Value) (more : Env) → l.dim ≡ [] → IsMatchOfAll defs (l ∷ []) (Var l.name ∷ []) (v ∷ []) more → IsTypedValue defs l.ty v
 has_type defs l v more flat m =
     let there : value_in more l.name ≡ Some v = variable_value defs no_answers more (Var l.name) l.name v (form_var defs l.name) m.values.0 in
-    let occurs : has_name (vars_of (Var l.name ∷ [])) l.name ≡ true = ap (λ ns. has_name ns l.name) (vars_var defs l.name) ∙ ap (λ b. b || false) (same_itself l.name) in
-    let listed : listed_as l.name (l ∷ []) ≡ Some l = ap (λ b. if b then Some l else listed_as l.name []) (same_itself l.name) in
+    let occurs : has_name (vars_of (Var l.name ∷ [])) l.name ≡ true = ap (λ ns. has_name ns l.name) (vars_var defs l.name) ∙ ap (λ b. b || false) (bytes-same l.name) in
+    let listed : listed_as l.name (l ∷ []) ≡ Some l = ap (λ b. if b then Some l else listed_as l.name []) (bytes-same l.name) in
     let typed : IsSomeTyped defs (type_of l) (Some v) = subst (IsSomeTyped defs (type_of l)) there (m.typed l.name occurs l listed) in
     subst (λ t. IsTypedValue defs t v) (ap (λ d. wrapped d l.ty) flat) typed
 

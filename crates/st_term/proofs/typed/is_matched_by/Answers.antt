@@ -1,5 +1,5 @@
-use Rattle.st_tool.proofs.TermLemmas.{can_match, by_match}
-use Rattle.st_tool.proofs.term.is_matched_by.Goals as goal
+use Rattle.st_term.proofs.TypedValues.{can_match, by_match}
+use Rattle.st_term.proofs.typed.is_matched_by.Goals as goal
 
 pub all_match-requires : goal.all_match-requires
 all_match-requires c =
