@@ -3,7 +3,7 @@
 
 -- which rule a call orders, what it answers, and that there is no order where it refuses
 pub mod Answers
--- what the call that tells the modes answers
+-- what is kept of the marks and the orders of a language
 pub mod Modes
 -- what is kept of directions, and what stands under names
 pub mod Known

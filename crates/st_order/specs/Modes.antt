@@ -1,5 +1,5 @@
--- What the call that tells the modes of an internal language answers.
-use Rattle.std.specs.Prelude.{◌≡◌, ◌<◌, ◌^◌, ℕ, Bool, List, map, length, All, Option, Result, Ok, Err, option_and_then}
+-- What is kept of the orders and the marks of an internal language.
+use Rattle.std.specs.Prelude.{◌≡◌, ◌<◌, ◌^◌, ℕ, Bool, List, map, length, All, Option, option_and_then}
 use Rattle.std.specs.List.{AllZip}
 use Rattle.std.specs.Result.{result_ok}
 use Rattle.st_il.specs.declared.definition.Il.{Il}
@@ -8,10 +8,7 @@ use Rattle.st_il.specs.declared.definition.RuleDef.{RuleDef}
 use Rattle.st_semantics.specs.Definitions.{relations, rules_in, rules_of}
 use Rattle.st_semantics.specs.Directions.{direction}
 use Rattle.st_semantics.specs.OrderOf.{order_of}
-use Rattle.st_semantics.specs.Breaches.{KeepModes, IsModeBreach}
 use Rattle.st_semantics.specs.Marks.{HasUnfit}
-use Rattle.st_order.specs.declared.fault.ModeFault.{ModeFault}
-use Rattle.st_order.specs.declared.fault.ModeFault.TheVariants as fault
 use Rattle.st_order.specs.declared.relation_modes.Modes.{Modes}
 
 -- fewer than 2^32 definitions, and fewer than 2^32 premises in each rule
@@ -32,10 +29,3 @@ orders_in il relation = map (order_in il relation) (rules_of il relation.name)
 pub record AreModes (il : Il) (modes : Modes) : Type 0 where
   pub marks : AllZip (HasUnfit il) (relations il) modes.marks
   pub orders : modes.orders ≡ map (orders_in il) (relations il)
-
--- The modes, where no definition breaks one of the rules M1 to M7; else the number from 0 of the
--- first that breaks one, and the least that it breaks, unless memory ran out.
-abbrev pub IsModesAnswer : Il → Result Modes ModeFault → Type 0
-IsModesAnswer il (Ok modes) = KeepModes il × AreModes il modes
-IsModesAnswer il (Err (fault.Refused definition rule)) = IsModeBreach il definition rule
-IsModesAnswer il (Err fault.Memory) = Unit {0}

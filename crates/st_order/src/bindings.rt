@@ -121,7 +121,7 @@ pub(crate) fn push_bound<'a>(
 
 /// Adds the variables that several expressions bind.
 #[cycle(bindings)]
-pub(crate) fn push_all_bound<'a>(
+pub fn push_all_bound<'a>(
     alloc: Global,
     exps: &'a [IlExp],
     names: &mut Row<&'a Name>,

@@ -30,7 +30,7 @@ use std::alloc::Global;
 
 /// The class of a premise that can be run.
 #[derive(Clone, Copy, Debug, PartialEq, Eq)]
-pub(crate) enum Class {
+pub enum Class {
     Test,
     Equation,
     Goal,
@@ -311,7 +311,7 @@ pub fn bound_inside<'a>(
 }
 
 /// What is bound inside an iterated premise; none where it cannot be run.
-pub(crate) fn inside_each<'a>(
+pub fn inside_each<'a>(
     alloc: Global,
     bound: &IndexSet<&Name>,
     how: &'a Iteration,
@@ -342,7 +342,7 @@ pub(crate) fn inside_each<'a>(
 }
 
 /// The class in which a premise can be run where these variables are bound; none if it cannot.
-pub(crate) fn class_of<'a>(
+pub fn class_of<'a>(
     alloc: Global,
     directions: &Directions,
     bound: &IndexSet<&'a Name>,

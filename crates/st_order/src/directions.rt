@@ -85,7 +85,7 @@ pub(crate) fn mask_of(alloc: Global, relation: &RelationDef) -> Result<Option<Ro
 }
 
 /// Whether a relation has a direction.
-pub(crate) fn is_directed(alloc: Global, relation: &RelationDef) -> Result<bool, NoMemory>
+pub fn is_directed(alloc: Global, relation: &RelationDef) -> Result<bool, NoMemory>
     ensures { IfOk result (λ is. is ≡ is_some (direction relation.now)) }
 {
     let mask = mask_of(alloc, relation)?;

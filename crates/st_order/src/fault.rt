@@ -1,8 +1,8 @@
-//! Why a rule has no order, and why an internal language has no modes.
+//! Why a rule has no order.
 
 ghost use Rattle.std.specs.Prelude.{◌≡◌};
 
-use st_num::{Name, NoMemory, RuleId};
+use st_num::{Name, NoMemory};
 use thiserror::Error;
 
 /// Why the premises of a rule have no order.
@@ -27,26 +27,5 @@ impl From<NoMemory> for OrderFault {
 
     fn from(_: NoMemory) -> OrderFault {
         OrderFault::Memory
-    }
-}
-
-/// Why an internal language has no modes.
-#[derive(Debug, Drop, Error)]
-pub enum ModeFault {
-    /// The first definition that breaks one of the rules M1 to M7, by its number, counted from 0,
-    /// and the least of them that it breaks.
-    #[error("a definition breaks a rule of directions")]
-    Refused { definition: u32, rule: RuleId },
-    #[error("out of memory")]
-    Memory,
-}
-
-impl From<NoMemory> for ModeFault {
-    ghost use Rattle.st_order.specs.declared.fault.ModeFault.TheVariants.{Memory};
-
-    ghost from_gives = { λ _ fault. fault ≡ Memory };
-
-    fn from(_: NoMemory) -> ModeFault {
-        ModeFault::Memory
     }
 }

@@ -25,7 +25,7 @@ pub fn put<'a, T: Drop>(
 }
 
 /// Puts something under a name, and answers what stood there.
-pub(crate) fn exchange<'a, T: Drop>(
+pub fn exchange<'a, T: Drop>(
     map: &mut IndexMap<&'a Name, T>,
     name: &'a Name,
     value: T,
@@ -45,14 +45,14 @@ pub fn at<'m, T>(map: &'m IndexMap<&Name, T>, name: &'m Name) -> Option<&'m T>
 }
 
 /// Whether the name is one of these.
-pub(crate) fn has(names: &IndexSet<&Name>, name: &Name) -> bool
+pub fn has(names: &IndexSet<&Name>, name: &Name) -> bool
     ensures { result ≡ has_name (names_in names.now.keys) name.now }
 {
     names.contains(&name)
 }
 
 /// The place of a name among these.
-pub(crate) fn number_in(names: &IndexSet<&Name>, name: &Name) -> Option<usize>
+pub fn number_in(names: &IndexSet<&Name>, name: &Name) -> Option<usize>
     ensures number { result ≡ number_in names.now.keys name.now }
     ensures within { IfSome result (λ number. number < length names.now.keys) }
 {
@@ -60,7 +60,7 @@ pub(crate) fn number_in(names: &IndexSet<&Name>, name: &Name) -> Option<usize>
 }
 
 /// Adds a name.
-pub(crate) fn add<'a>(names: &mut IndexSet<&'a Name>, name: &'a Name) -> Result<(), NoMemory>
+pub fn add<'a>(names: &mut IndexSet<&'a Name>, name: &'a Name) -> Result<(), NoMemory>
     ensures { OnOk result
         (SameNames (names_in names.new.keys) (names_in names.old.keys ++ name.now ∷ [])) }
 {
@@ -89,7 +89,7 @@ pub fn set_of<'a>(alloc: Global, names: &[&'a Name]) -> Result<IndexSet<&'a Name
 }
 
 /// Whether all of them are known.
-pub(crate) fn are_known(known: &IndexSet<&Name>, names: &[&Name]) -> bool
+pub fn are_known(known: &IndexSet<&Name>, names: &[&Name]) -> bool
     ensures { result ≡ all_known (names_in known.now.keys) (names_in names.now) }
 {
     for name in names {

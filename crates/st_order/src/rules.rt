@@ -1,8 +1,9 @@
-//! The rules of an internal language, by the numbers of their relations.
+//! The rules of an internal language: by the numbers of their relations, and their full names.
 
 ghost use Rattle.std.specs.Prelude.{◌≡◌, ◌++◌, [], ◌∷◌, IfOk, OnOk};
 ghost use Rattle.std.specs.Option.{option_copied};
 ghost use Rattle.st_semantics.specs.Definitions.{relations, relations_in, rules_of, rules_in, rules_from};
+ghost use Rattle.st_semantics.specs.Marks.{full_name};
 ghost use Rattle.st_order.specs.Answers.{rule_at};
 ghost use Rattle.st_order.specs.Known.{all_now};
 
@@ -95,4 +96,27 @@ pub(crate) fn rule_at(
         }
         None => Ok(None),
     }
+}
+
+/// Adds bytes.
+fn push_bytes(bytes: &[u8], text: &mut Name) -> Result<(), NoMemory>
+    ensures { OnOk result (text.new ≡ text.old ++ bytes.now) }
+{
+    for byte in bytes {
+        text.push(*byte)?;
+    }
+    Ok(())
+}
+
+/// The full name of a rule: that of its relation, and behind a `/` its own, where it is not empty.
+pub fn full_name(alloc: Global, rule: &RuleDef) -> Result<Name, NoMemory>
+    ensures { IfOk result (λ name. name ≡ full_name rule.now) }
+{
+    let mut name = rule.relation.copy(alloc)?;
+    if rule.name.is_empty() {
+        return Ok(name);
+    }
+    name.push(b'/')?;
+    push_bytes(rule.name.as_slice(), &mut name)?;
+    Ok(name)
 }

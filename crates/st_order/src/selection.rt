@@ -135,7 +135,7 @@ fn push_if_other<'a>(
 }
 
 /// Adds the variables of a premise to those that are bound.
-pub(crate) fn add_variables<'a>(
+pub fn add_variables<'a>(
     alloc: Global,
     premise: &'a IlPrem,
     bound: &mut IndexSet<&'a Name>,

@@ -149,7 +149,7 @@ pub(crate) fn push_vars<'a>(
 
 /// Adds the variables of several expressions.
 #[cycle(variables)]
-pub(crate) fn push_all_vars<'a>(
+pub fn push_all_vars<'a>(
     alloc: Global,
     exps: &'a [IlExp],
     names: &mut Row<&'a Name>,
@@ -284,7 +284,7 @@ pub fn push_prem_vars<'a>(
 }
 
 /// Adds the variables of several premises, and the listed names of their iterations.
-pub(crate) fn push_prems_vars<'a>(
+pub fn push_prems_vars<'a>(
     alloc: Global,
     prems: &'a [IlPrem],
     names: &mut Row<&'a Name>,

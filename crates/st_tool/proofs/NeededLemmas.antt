@@ -16,11 +16,11 @@ use Rattle.st_semantics.specs.Variables.{relations_cited, have_otherwise}
 use Rattle.st_semantics.specs.ModeRules.{Relation, cited_by}
 use Rattle.st_semantics.specs.Marks.{NeedsRelation}
 use Rattle.st_order.specs.Known.{all_now}
-use Rattle.st_order.specs.inner.Citations.{relations_in_rule}
+use Rattle.st_modes.specs.inner.Citations.{relations_in_rule}
 use Rattle.st_order.specs.inner.Index.{names_in}
-use Rattle.st_order.specs.inner.Reaching.{Reached, first, next, Grows, unseen}
-use Rattle.st_order.proofs.NeedsFun.{relation_cites}
-use Rattle.st_order.proofs.HasWalked.{or_left, or_right, same_itself, has_itself, has_one, has_left, has_right, has_cases, grows_more, begins_with, goes_on, ends}
+use Rattle.st_modes.specs.inner.Reaching.{Reached, first, next, Grows, unseen}
+use Rattle.st_modes.proofs.NeedsFun.{relation_cites}
+use Rattle.st_modes.proofs.HasWalked.{or_left, or_right, same_itself, has_itself, has_one, has_left, has_right, has_cases, grows_more, begins_with, goes_on, ends}
 use Rattle.st_tool.specs.inner.Needing.{cited_in, some_has_otherwise, IsOnWalk}
 use Rattle.st_tool.specs.inner.Relations.{Entries, AreRules, rules_found, rules_at}
 

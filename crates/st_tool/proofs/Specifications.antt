@@ -12,8 +12,9 @@ use Rattle.st_ilcheck.specs.Typed.{Typed}
 use Rattle.st_num.specs.declared.memory.NoMemory.{NoMemory}
 use Rattle.st_num.specs.declared.rule.RuleId.{RuleId}
 use Rattle.st_num.specs.declared.token.Token.{Token}
-use Rattle.st_order.specs.Modes.{HasFew, IsModesAnswer}
-use Rattle.st_order.specs.declared.fault.ModeFault.{ModeFault}
+use Rattle.st_modes.specs.Modes.{IsModesAnswer}
+use Rattle.st_order.specs.Modes.{HasFew}
+use Rattle.st_modes.specs.declared.fault.ModeFault.{ModeFault}
 use Rattle.st_order.specs.declared.relation_modes.Modes.{Modes}
 use Rattle.st_parse.specs.Source.{IsSource}
 use Rattle.st_semantics.specs.Breaches.{Standing, Breaks}

@@ -11,7 +11,7 @@ use crate::refusal::refused_in;
 use st_el::Def;
 use st_elab_def::Elaborated;
 use st_num::{NoMemory, RuleId};
-use st_order::ModeFault;
+use st_modes::ModeFault;
 use st_words::CommandWord;
 use std::alloc::Global;
 

@@ -6,8 +6,8 @@ ghost use Rattle.std.specs.Prelude.{◌≡◌, ◌<◌, ◌∷◌, [], Some, len
 ghost use Rattle.std.specs.Option.{option_copied};
 ghost use Rattle.st_order.specs.Known.{all_now};
 ghost use Rattle.st_order.specs.inner.Index.{names_in};
-ghost use Rattle.st_order.specs.inner.Reaching.{Grows};
-ghost use Rattle.st_order.specs.inner.Citations.{relations_in_rule};
+ghost use Rattle.st_modes.specs.inner.Reaching.{Grows};
+ghost use Rattle.st_modes.specs.inner.Citations.{relations_in_rule};
 ghost use Rattle.st_search.specs.Searchable.{HasNoOtherwise};
 ghost use Rattle.st_semantics.specs.Variables.{has_otherwise, have_otherwise, relations_cited};
 ghost use Rattle.st_tool.specs.inner.Needing.{cited_in, some_has_otherwise};

@@ -3,8 +3,8 @@ use Rattle.std.specs.Prelude.{◌≡◌, ℕ, Bool, true, false, List, [], ◌�
 use Rattle.std.specs.List.{list_any}
 use Rattle.st_il.specs.declared.definition.Il.{Il}
 use Rattle.st_il.specs.declared.definition.RuleDef.{RuleDef}
-use Rattle.st_order.specs.inner.Citations.{relations_in_rule}
-use Rattle.st_order.specs.inner.Reaching.{HasWalked}
+use Rattle.st_modes.specs.inner.Citations.{relations_in_rule}
+use Rattle.st_modes.specs.inner.Reaching.{HasWalked}
 use Rattle.st_semantics.specs.Definitions.{rules_of}
 use Rattle.st_semantics.specs.Names.{Name, has_name, flattened}
 use Rattle.st_semantics.specs.Variables.{have_otherwise}

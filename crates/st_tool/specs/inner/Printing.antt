@@ -6,8 +6,8 @@ use Rattle.st_elab_def.specs.Breaches.{IsBreach}
 use Rattle.st_il.specs.declared.definition.Il.{Il}
 use Rattle.st_num.specs.declared.fault.Fault.{Fault}
 use Rattle.st_num.specs.declared.fault.Fault.TheVariants.{Refused, Memory}
-use Rattle.st_order.specs.declared.fault.ModeFault.{ModeFault}
-use Rattle.st_order.specs.Modes.{IsModesAnswer}
+use Rattle.st_modes.specs.declared.fault.ModeFault.{ModeFault}
+use Rattle.st_modes.specs.Modes.{IsModesAnswer}
 use Rattle.st_tool.specs.Checking.{IsSourceFault}
 
 -- the fault is the first one of the files, unless memory gave out

@@ -1,6 +1,6 @@
 use Rattle.std.proofs.Common.{map, take}
 use Rattle.st_order.specs.inner.Index.{names_in}
-use Rattle.st_order.specs.inner.Reaching.{Grows}
+use Rattle.st_modes.specs.inner.Reaching.{Grows}
 use Rattle.st_semantics.specs.Names.{flattened}
 use Rattle.st_semantics.specs.Variables.{relations_cited}
 use Rattle.st_tool.proofs.needed.add_cited_by.Given as goal

@@ -1,7 +1,7 @@
 use Rattle.std.proofs.Common.{take}
 use Rattle.st_order.specs.Known.{all_now}
 use Rattle.st_order.specs.inner.Index.{names_in}
-use Rattle.st_order.specs.inner.Reaching.{Grows}
+use Rattle.st_modes.specs.inner.Reaching.{Grows}
 use Rattle.st_tool.specs.inner.Needing.{cited_in}
 use Rattle.st_tool.proofs.needed.add_cited_by_all.Given as goal
 

@@ -1,4 +1,4 @@
-use Rattle.st_order.proofs.HasWalked.{grows_by}
+use Rattle.st_modes.proofs.HasWalked.{grows_by}
 use Rattle.st_tool.proofs.needed.add_name.Goals as goal
 
 pub returns : goal.returns

@@ -1,5 +1,5 @@
 use Rattle.std.proofs.Common.{subst}
-use Rattle.st_order.specs.Modes.{IsModesAnswer}
+use Rattle.st_modes.specs.Modes.{IsModesAnswer}
 use Rattle.st_tool.proofs.specification.with_modes.Goals as goal
 
 pub without_modes-requires-clause-fault : goal.without_modes-requires-clause-fault

@@ -1,0 +1,8 @@
+use Rattle.std.proofs.Common.{◌≡◌, ◌++◌, map, drop}
+use Rattle.st_semantics.specs.Names.{flattened}
+use Rattle.st_semantics.specs.Variables.{relations_cited}
+use Rattle.st_order.specs.inner.Index.{names_in}
+use Rattle.st_modes.proofs.citing.push_relations.Given as goal
+
+abbrev pub invariant-loop-prem : goal.invariant-loop-prem
+invariant-loop-prem l = names_in l.names ++ flattened (map relations_cited (drop l.prem-index l.prems)) ≡ names_in l.initial.names ++ flattened (map relations_cited l.prems)

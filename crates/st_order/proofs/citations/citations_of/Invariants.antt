@@ -1,6 +1,0 @@
-use Rattle.std.proofs.Common.{take}
-use Rattle.st_order.specs.inner.Citations.{HasRead}
-use Rattle.st_order.proofs.citations.citations_of.Given as goal
-
-abbrev pub invariant-loop-definition : goal.invariant-loop-definition
-invariant-loop-definition l = HasRead (take l.definition-index l.defs) l.citations

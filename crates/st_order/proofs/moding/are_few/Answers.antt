@@ -1,5 +1,0 @@
-use Rattle.st_order.proofs.FewParts.{few_test}
-use Rattle.st_order.proofs.moding.are_few.Goals as goal
-
-pub returns : goal.returns
-returns c = few_test c.args.len

@@ -1,6 +1,0 @@
-use Rattle.std.proofs.Common.{subst}
-use Rattle.st_order.specs.inner.Breaches.{IsBreachAnswer}
-use Rattle.st_order.proofs.moding.modes.Goals as goal
-
-pub returns : goal.returns
-returns c = (subst (IsBreachAnswer c.args.il.now) c.in_default.is c.in_ok-breach.ensures, c.in_ok-modes.ensures)
