@@ -6,15 +6,13 @@ use Rattle.std.specs.Cmp.Lexicographic.{pointwise}
 use Rattle.std.proofs.lemmas.Slice.Eq.{bytes_eq-Decides}
 use Rattle.st_num.specs.Names.{same_name}
 use Rattle.st_il.specs.declared.definition.SyntaxDef.{SyntaxDef}
+use Rattle.st_type_table.proofs.InsertionLemmas.{same-equal}
 use Rattle.st_type_table.specs.inner.Graph.{position_of}
 use Rattle.st_type_table.specs.inner.Index.{adding}
 use Rattle.st_type_table.specs.inner.Forms.{Numbers, number_of}
 use Rattle.st_type_table.specs.inner.Numbering.{IsGiven}
 use Rattle.st_type_table.proofs.SearchLemmas.{take-whole}
 use Rattle.st_any_table.specs.inner.Index.{IsIndex}
-
-same-equal : (p q : List ℕ) → same_name p q ≡ true → p ≡ q
-same-equal p q h = (bytes_eq-Decides p q).0 h
 
 pub add-found : (entries : Numbers) (name : List ℕ) (number p : ℕ) → Some p ≡ number_of entries name → (q : List ℕ) → number_of entries q ≡ adding (number_of entries q) (same_name q name) number
 add-found entries name number p found q = by (number_of entries q) (same_name q name) refl refl

@@ -28,7 +28,7 @@ use Rattle.st_elab_def.specs.inner.Places.{name_place, cases_place, fields_place
 use Rattle.st_elab_def.specs.inner.Walk.{standing, AllPassAt, asked_of}
 use Rattle.st_elab_def.proofs.Same.{Same, Same-alias, Same-cases, Same-fields, AreAlternatives, plain_names, names-back}
 use Rattle.st_elab_def.proofs.Gathered.{parts-append, parts-none}
-use Rattle.st_ilcheck.proofs.Insertion.{same-equal}
+use Rattle.st_type_table.proofs.InsertionLemmas.{same-equal}
 use Rattle.st_elab_def.proofs.PartsAsked.{alternatives-append}
 use Rattle.st_elab_def.proofs.AllPass.{AllPass-front, AllPass-back, AllPass-at, AllPassAt-front, AllPassAt-back}
 use Rattle.st_elab_def.proofs.Leaves.{AllPassAt-append}

@@ -32,7 +32,7 @@ use Rattle.st_elab_def.specs.inner.Gathering.{body_with}
 use Rattle.st_ilcheck.specs.Index.{at}
 use Rattle.st_elab_def.proofs.DeclaredLists.{syntaxes-append}
 use Rattle.st_elab_def.proofs.Gathered.{parts-append, has-same, joined-with}
-use Rattle.st_ilcheck.proofs.Insertion.{any-more, same-equal, same-refl}
+use Rattle.st_type_table.proofs.InsertionLemmas.{any-more, same-equal, same-refl}
 
 -- ---- what is asked of a body
 

@@ -61,7 +61,7 @@ use Rattle.st_elab_def.specs.Answers.{HasTemplate, BodyHasTemplates, NodeHasTemp
 use Rattle.st_elab_def.specs.Erasing.{ErasesTo}
 use Rattle.st_elab_def.specs.inner.Places.{IsAlternative}
 use Rattle.st_elab_def.specs.inner.Walk.{standing, AllPassAt, asked_of}
-use Rattle.st_ilcheck.proofs.Insertion.{same-equal, same-refl}
+use Rattle.st_type_table.proofs.InsertionLemmas.{same-equal, same-refl}
 use Rattle.st_elab_def.proofs.Same.{AreAlternatives}
 use Rattle.st_elab_def.proofs.AllHold.{all-alone, fragments-pass}
 use Rattle.st_elab_def.proofs.Declares.{declares_own}

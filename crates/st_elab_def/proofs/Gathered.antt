@@ -21,7 +21,7 @@ use Rattle.st_elab_def.specs.Fragments.{has_fragment}
 use Rattle.st_elab_def.specs.Phases.{alternatives_before}
 use Rattle.st_elab_def.specs.inner.Gathering.{Entries, all_parts, Gathered, Untaken, gathered_in, body_with, declared_fragment}
 use Rattle.st_ilcheck.specs.Index.{at}
-use Rattle.st_ilcheck.proofs.Insertion.{any-more, same-equal, same-refl}
+use Rattle.st_type_table.proofs.InsertionLemmas.{any-more, same-equal, same-refl}
 
 -- ---- the alternatives of the fragments among definitions
 

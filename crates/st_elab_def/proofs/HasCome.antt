@@ -31,7 +31,7 @@ use Rattle.st_elab_def.specs.inner.Joining.{joined_of, AreContents}
 use Rattle.st_elab_def.specs.inner.Walk.{standing, AllPassAt, FirstBreachAt, Checks, numbered}
 use Rattle.st_elab_def.specs.inner.Whole.{KnowsFragments, PlacesOne}
 use Rattle.st_elab_def.proofs.ContentLemmas.{told_both}
-use Rattle.st_ilcheck.proofs.Insertion.{any-more, same-refl}
+use Rattle.st_type_table.proofs.InsertionLemmas.{any-more, same-refl}
 use Rattle.st_elab_def.proofs.PlacesOne.{joined-definitions, sources_in, Continues, Continues-next, sources-next}
 use Rattle.st_elab_def.proofs.Leaves.{left_of, left_of-end, Leaves, Leaves-start, Leaves-end}
 

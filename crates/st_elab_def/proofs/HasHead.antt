@@ -28,7 +28,7 @@ use Rattle.st_elab_def.specs.inner.Contents.{MakesRule, MakesClause}
 use Rattle.st_elab_def.specs.inner.Heads.{KnowsRules, HasHead, on_head, on_function}
 use Rattle.st_ilcheck.specs.Index.{has_pair}
 use Rattle.st_elab_def.specs.inner.Walk.{FirstBreachAt}
-use Rattle.st_ilcheck.proofs.Insertion.{any-more}
+use Rattle.st_type_table.proofs.InsertionLemmas.{any-more}
 
 -- ---- the relation or the function of a name
 

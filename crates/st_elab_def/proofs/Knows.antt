@@ -15,7 +15,7 @@ use Rattle.st_elab_def.specs.declared.declarations.Declared.{Declared}
 use Rattle.st_elab_def.specs.Declarations.{declare_same}
 use Rattle.st_elab_def.specs.inner.Declaring.{is_whole, is_var, is_relation, is_fun, any_def, Knows}
 use Rattle.st_ilcheck.specs.Index.{has}
-use Rattle.st_ilcheck.proofs.Insertion.{any-more}
+use Rattle.st_type_table.proofs.InsertionLemmas.{any-more}
 
 -- ---- tests of definitions
 

@@ -13,7 +13,7 @@ use Rattle.st_elab_def.specs.Fragments.{has_fragment}
 use Rattle.st_elab_def.specs.inner.Gathering.{IsFragmentOf}
 use Rattle.st_ilcheck.specs.Index.{at}
 use Rattle.st_elab_def.specs.inner.Last.{is_past, KnowsLast}
-use Rattle.st_ilcheck.proofs.Insertion.{any-more}
+use Rattle.st_type_table.proofs.InsertionLemmas.{any-more}
 
 -- one more definition, as seen from those that are dropped
 module _ (q : List ℕ) (before : List Def) (def : Def) (number : ℕ) where

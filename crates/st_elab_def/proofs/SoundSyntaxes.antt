@@ -28,7 +28,7 @@ use Rattle.st_elab_def.specs.inner.Walk.{standing, AllPassAt, asked_of}
 use Rattle.st_elab_def.proofs.Knows.{any-same, any-either, and-true, fragment-same}
 use Rattle.st_elab_def.proofs.DeclaredLists.{syntaxes-append}
 use Rattle.st_elab_def.proofs.AllHold.{body-holds, fragments-pass, whole-asked, joined-asked}
-use Rattle.st_ilcheck.proofs.Insertion.{any-more, any-implied, same-refl}
+use Rattle.st_type_table.proofs.InsertionLemmas.{any-more, any-implied, same-refl}
 use Rattle.st_elab_def.proofs.AllPass.{AllPass-front, AllPass-back, AllPass-at}
 
 -- ---- the names of syntaxes

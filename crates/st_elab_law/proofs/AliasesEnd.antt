@@ -10,7 +10,8 @@ use Rattle.st_il.specs.declared.definition.SyntaxBody.TheVariants as body
 use Rattle.st_type_table.specs.Meaning.{body_of, named_at, aliased, alias_of, Means, itself, alias}
 use Rattle.st_type_table.specs.Leads.{Among, names_at, names_in, leads_from, next_of, Leads, here, step}
 use Rattle.st_type_table.specs.Breach.{on_alias, on_body, AllHold, IsSound}
-use Rattle.st_elab_law.proofs.Unpassed.{unpassed, same-equal, unpassed-fewer}
+use Rattle.st_type_table.proofs.InsertionLemmas.{same-equal}
+use Rattle.st_elab_law.proofs.Unpassed.{unpassed, unpassed-fewer}
 
 -- Each type means something.
 abbrev pub AliasesEnd : List SyntaxDef → Type 0

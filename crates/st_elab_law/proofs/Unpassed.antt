@@ -5,6 +5,7 @@ use Rattle.std.proofs.lemmas.Slice.Eq.{bytes_eq-Decides}
 use Rattle.st_num.specs.Names.{same_name, is_among}
 use Rattle.st_il.specs.declared.definition.SyntaxDef.{SyntaxDef}
 use Rattle.st_il.specs.declared.definition.SyntaxBody.{SyntaxBody}
+use Rattle.st_type_table.proofs.InsertionLemmas.{same-equal}
 use Rattle.st_type_table.specs.Meaning.{body_of}
 
 -- how many of these syntaxes have names that are not among the passed ones
@@ -42,9 +43,6 @@ unpassed-less (d ∷ ds) passed v =
     let rest = unpassed-less ds passed v in
     let first : counts (is_among d.name (passed ++ v ∷ [])) ≤ counts (is_among d.name passed) = counts-less (is_among d.name passed) (is_among d.name (passed ++ v ∷ [])) (among-more d.name v passed) in
     omega (arith, rest, first)
-
-pub same-equal : (p q : List ℕ) → same_name p q ≡ true → p ≡ q
-same-equal p q h = (bytes_eq-Decides p q).0 h
 
 same-refl : (p : List ℕ) → same_name p p ≡ true
 same-refl p = (bytes_eq-Decides p p).1 refl

@@ -3,7 +3,7 @@
 ghost use Rattle.std.specs.Prelude.{◌≡◌, IfOk};
 ghost use Rattle.st_elab_table.specs.Records.{passed_on};
 
-use st_num::{Name, NoMemory, Row};
+use st_num::{Name, NoMemory, Row, copy_names};
 use std::alloc::Global;
 
 /// At which variants what fills the holes of a case of this variant is being asked already.
@@ -18,18 +18,7 @@ pub fn passed_on(
     if !whole {
         return Ok(Row::new(alloc));
     }
-    let mut names = copied(alloc, passed)?;
+    let mut names = copy_names(alloc, passed)?;
     names.push(variant.copy(alloc)?)?;
     Ok(names)
-}
-
-/// The same names.
-fn copied(alloc: Global, names: &[Name]) -> Result<Row<Name>, NoMemory>
-    ensures { IfOk result (λ copies. copies ≡ names.now) }
-{
-    let mut copies = Row::new(alloc);
-    for name in names {
-        copies.push(name.copy(alloc)?)?;
-    }
-    Ok(copies)
 }

@@ -6,10 +6,8 @@ use Rattle.std.specs.Option.{option_and_then}
 use Rattle.std.proofs.lemmas.List.{drop_more}
 use Rattle.std.proofs.lemmas.Slice.Eq.{bytes_eq-Decides}
 use Rattle.st_num.specs.Names.{same_name}
+use Rattle.st_type_table.proofs.InsertionLemmas.{same-equal}
 use Rattle.st_elab_table.specs.inner.NameIndex.{IsNameIndex}
-
-same-equal : (p q : List ℕ) → same_name p q ≡ true → p ≡ q
-same-equal p q h = (bytes_eq-Decides p q).0 h
 
 -- it makes no difference which of two names stands first
 same_name-flips : (p q : List ℕ) → same_name p q ≡ same_name q p

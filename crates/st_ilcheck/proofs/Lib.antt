@@ -19,7 +19,6 @@ pub mod Alls
 pub mod Walks
 pub mod CitedLemmas
 pub mod DeclaredLemmas
-pub mod Holes
 pub mod TagLemmas
 pub mod SyntaxLemmas
 pub mod LeastLemmas

@@ -9,7 +9,7 @@ use Rattle.st_ilcheck.specs.Declarations.{times, IsOnceIn}
 use Rattle.st_ilcheck.specs.Index.{at, has_pair}
 use Rattle.st_ilcheck.specs.inner.Names.{names_at, is_single, IsCounted, pairs_at, is_pair, IsKept}
 use Rattle.st_num.specs.Names.{same_name}
-use Rattle.st_ilcheck.proofs.Insertion.{same-equal, any-more}
+use Rattle.st_type_table.proofs.InsertionLemmas.{same-equal, any-more}
 
 -- ---- lists from which the last is taken off
 

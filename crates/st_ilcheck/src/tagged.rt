@@ -1,6 +1,6 @@
 //! Tags as templates with as many holes as operands.
 
-ghost use Rattle.std.specs.Prelude.{◌≡◌, ◌↔◌, ◌++◌, true, map, sum, replicate, IsTrue, IfOk, OnOk, All};
+ghost use Rattle.std.specs.Prelude.{◌≡◌, ◌↔◌, IsTrue, IfOk, All};
 ghost use Rattle.st_il.specs.Template.{holes};
 ghost use Rattle.st_ilcheck.specs.Declarations.{IsTag};
 
@@ -8,43 +8,15 @@ use crate::cited::Tagged;
 use crate::declaring::is_length;
 use st_il::{Template, template_of};
 use st_num::{NoMemory, Row};
+use st_semantics::push_holes;
 use std::alloc::Global;
-
-/// Adds a mark for each hole of a template.
-#[cycle(mark_holes)]
-fn mark_holes(template: &Template, marks: &mut Row<bool>) -> Result<(), NoMemory>
-    ensures { OnOk result (marks.new ≡ marks.old ++ replicate (holes template.now) true) }
-{
-    match template {
-        Template::Atom(_) => Ok(()),
-        Template::Hole => marks.push(true),
-        Template::Seq(parts) => mark_all_holes(parts.as_slice(), marks),
-        Template::Infix(left, _, right) => {
-            mark_holes(left.get(), marks)?;
-            mark_holes(right.get(), marks)?;
-            Ok(())
-        }
-        Template::Bracket(_, inside) => mark_holes(inside.get(), marks),
-    }
-}
-
-/// Adds a mark for each hole of several templates.
-#[cycle(mark_holes)]
-fn mark_all_holes(parts: &[Template], marks: &mut Row<bool>) -> Result<(), NoMemory>
-    ensures { OnOk result (marks.new ≡ marks.old ++ replicate (sum (map holes parts.now)) true) }
-{
-    for part in parts {
-        mark_holes(part, marks)?;
-    }
-    Ok(())
-}
 
 /// How many holes a template has.
 fn holes(alloc: Global, template: &Template) -> Result<usize, NoMemory>
     ensures { IfOk result (λ count. count ≡ holes template.now) }
 {
     let mut marks = Row::new(alloc);
-    mark_holes(template, &mut marks)?;
+    push_holes(template, true, &mut marks)?;
     Ok(marks.len())
 }
 

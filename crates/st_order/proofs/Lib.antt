@@ -1,4 +1,3 @@
-pub mod Holes
 pub mod Following
 pub mod VariableParts
 pub mod ArrowParts

@@ -1,15 +1,13 @@
--- Names in sets and under which things stand, once one is added.
+-- Names in sets, once one is added.
 use Rattle.std.proofs.Common.{◌≡◌, refl, sym, ap, ◌∙◌, ℕ, Bool, true, false, true≢false, eqb, ◌||◌, if◌then◌else◌, Some, List, [], ◌∷◌, ◌++◌, append_assoc, bytes_eq}
 use Rattle.std.specs.Borrow.{Bor}
 use Rattle.std.specs.Cmp.Lexicographic.{pointwise}
 use Rattle.std.specs.List.{list_any}
 use Rattle.std.proofs.lemmas.List.Folds.{list_any-append}
 use Rattle.std.proofs.lemmas.Slice.Eq.{bytes_eq-Decides}
-use Rattle.indexmap.specs.IndexMap.{insert_entry}
 use Rattle.indexmap.specs.IndexSet.{insert_key}
 use Rattle.st_semantics.specs.Names.{Name, has_name}
 use Rattle.st_order.specs.inner.Index.{names_in, SameNames}
-use Rattle.st_order.specs.Known.{at}
 
 same-equal : (p q : Name) → bytes_eq p q ≡ true → p ≡ q
 same-equal p q h = (bytes_eq-Decides p q).0 h
@@ -64,40 +62,3 @@ pub SameNames-next : (old now new : List (Bor (List ℕ))) (before : List (Bor (
 SameNames-next old now new before name s t q =
     t q ∙ SameNames-append (names_in now) (names_in old ++ names_in before) (name.now ∷ []) s q
     ∙ ap (λ z. has_name z q) (append_assoc (names_in old) (names_in before) (name.now ∷ []) ∙ ap (λ z. names_in old ++ z) (sym (names_in_last before name)))
-
--- ---- things under names
-
-if-same : {A : Type 0} (b : Bool) (x y z : A) → (if b then x else (if b then y else z)) ≡ (if b then x else z)
-if-same true x y z = refl
-if-same false x y z = refl
-
-if-apart : {A : Type 0} (a b : Bool) (x y z : A) → (a ≡ true → b ≡ true → ⊥) → (if a then x else (if b then y else z)) ≡ (if b then y else (if a then x else z))
-if-apart true true x y z h = absurd (h refl refl)
-if-apart true false x y z h = refl
-if-apart false b x y z h = refl
-
-module _ {A : Type 0} (name : Bor (List ℕ)) (value : A) (q : Name) where
-  abbrev put_in : List (Bor (List ℕ) × A) → List (Bor (List ℕ) × A)
-  put_in es = insert_entry (λ x y. pointwise eqb x.now y.now) es name value
-
-  inserted-by : (e : Bor (List ℕ) × A) (es : List (Bor (List ℕ) × A)) (b : Bool) → pointwise eqb name.now e.0.now ≡ b
-      → at (put_in es) q ≡ (if bytes_eq q name.now then Some value else at es q)
-      → at (put_in (e ∷ es)) q ≡ (if bytes_eq q name.now then Some value else at (e ∷ es) q)
-  inserted-by e es true h more =
-      ap (λ c. at (if c then (e.0, value) ∷ es else e ∷ put_in es) q) h
-      ∙ sym (if-same (bytes_eq q e.0.now) (Some value) (Some e.1) (at es q))
-      ∙ ap (λ p. if bytes_eq q p then Some value else at (e ∷ es) q) (sym (same-equal name.now e.0.now h))
-  inserted-by e es false h more =
-      ap (λ c. at (if c then (e.0, value) ∷ es else e ∷ put_in es) q) h
-      ∙ ap (λ o. if bytes_eq q e.0.now then Some e.1 else o) more
-      ∙ if-apart (bytes_eq q e.0.now) (bytes_eq q name.now) (Some e.1) (Some value) (at es q)
-      (λ one other. true≢false (sym (ap (λ p. pointwise eqb p e.0.now) (sym (same-equal q name.now other)) ∙ one) ∙ h))
-
-  inserted : (es : List (Bor (List ℕ) × A)) → at (put_in es) q ≡ (if bytes_eq q name.now then Some value else at es q)
-  inserted [] = refl
-  inserted (e ∷ es) = inserted-by e es (pointwise eqb name.now e.0.now) refl (inserted es)
-
-pub at-insert : {A : Type 0} (entries new : List (Bor (List ℕ) × A)) (name : Bor (List ℕ)) (value : A)
-    → new ≡ insert_entry (λ x y. pointwise eqb x.now y.now) entries name value
-    → (q : Name) → at new q ≡ (if bytes_eq q name.now then Some value else at entries q)
-at-insert entries new name value n q = ap (λ es. at es q) n ∙ inserted name value q entries

@@ -1,8 +1,7 @@
 //! Which holes of a relation are inputs.
 
-ghost use Rattle.std.specs.Prelude.{◌≡◌, ◌++◌, true, Some, map, sum, replicate, slice_get, option_map, option_and_then, is_some, IfOk, OnOk};
+ghost use Rattle.std.specs.Prelude.{◌≡◌, ◌++◌, true, Some, replicate, slice_get, option_map, option_and_then, is_some, IfOk};
 ghost use Rattle.st_il.specs.declared.template.Template.{out-Template};
-ghost use Rattle.st_il.specs.Template.{holes};
 ghost use Rattle.st_semantics.specs.Directions.{is_arrow, direction_at, direction, inputs_or_all};
 ghost use Rattle.st_order.specs.Tagged.{IsTagged};
 ghost use Rattle.st_order.specs.inner.Arrow.{told_by};
@@ -11,6 +10,7 @@ ghost use Rattle.st_order.specs.inner.Inputs.{mask_told};
 use crate::arrow::{Sides, sides_of};
 use st_il::{RelationDef, Template, template_of};
 use st_num::{Mark, NoMemory, Row};
+use st_semantics::push_holes;
 use std::alloc::Global;
 
 /// Whether inputs lead to outputs by this sign.
@@ -21,35 +21,6 @@ fn is_arrow(sign: Mark) -> bool
         Mark::SquigglyArrow | Mark::SquigglyArrowStar => true,
         _ => false,
     }
-}
-
-/// Adds, for each hole of a template, whether it is an input.
-#[cycle(push_holes)]
-fn push_holes(template: &Template, input: bool, mask: &mut Row<bool>) -> Result<(), NoMemory>
-    ensures { OnOk result (mask.new ≡ mask.old ++ replicate (holes template.now) input) }
-{
-    match template {
-        Template::Atom(_) => Ok(()),
-        Template::Hole => mask.push(input),
-        Template::Seq(parts) => push_all_holes(parts.as_slice(), input, mask),
-        Template::Infix(left, _, right) => {
-            push_holes(left.get(), input, mask)?;
-            push_holes(right.get(), input, mask)?;
-            Ok(())
-        }
-        Template::Bracket(_, inside) => push_holes(inside.get(), input, mask),
-    }
-}
-
-/// Adds, for each hole of several templates, whether it is an input.
-#[cycle(push_holes)]
-fn push_all_holes(parts: &[Template], input: bool, mask: &mut Row<bool>) -> Result<(), NoMemory>
-    ensures { OnOk result (mask.new ≡ mask.old ++ replicate (sum (map holes parts.now)) input) }
-{
-    for part in parts {
-        push_holes(part, input, mask)?;
-    }
-    Ok(())
 }
 
 /// For each hole of a notation with an arrow at its top, whether it is an input.

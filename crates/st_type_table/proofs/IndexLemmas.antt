@@ -4,56 +4,16 @@ use Rattle.std.specs.Prelude.{slice_get}
 use Rattle.std.specs.Borrow.{Bor}
 use Rattle.std.specs.Option.{option_map}
 use Rattle.std.specs.Cmp.Lexicographic.{pointwise}
-use Rattle.std.proofs.lemmas.Slice.Eq.{bytes_eq-Decides}
 use Rattle.std.proofs.lemmas.Option.{slice_get_within}
-use Rattle.indexmap.specs.IndexMap.{insert_entry}
 use Rattle.st_num.specs.Names.{same_name}
 use Rattle.st_il.specs.declared.definition.SyntaxDef.{SyntaxDef}
 use Rattle.st_type_table.specs.Meaning.{body_of}
 use Rattle.st_type_table.specs.inner.Graph.{position_of}
 use Rattle.st_type_table.specs.inner.Index.{Index, number_of, adding, IsIndex}
+use Rattle.st_type_table.proofs.InsertionLemmas.{same-equal}
 use Rattle.st_type_table.proofs.PositionLemmas.{placed}
 use Rattle.st_type_table.proofs.SearchLemmas.{take-whole}
 use Rattle.st_type_table.proofs.PartLemmas.{same-item}
-
-same-equal : (p q : List ℕ) → same_name p q ≡ true → p ≡ q
-same-equal p q h = (bytes_eq-Decides p q).0 h
-
--- ---- what is put under a name
-
-if-same : {A : Type 0} (b : Bool) (x y z : A) → (if b then x else (if b then y else z)) ≡ (if b then x else z)
-if-same true x y z = refl
-if-same false x y z = refl
-
-if-apart : {A : Type 0} (a b : Bool) (x y z : A) → (a ≡ true → b ≡ true → ⊥) → (if a then x else (if b then y else z)) ≡ (if b then y else (if a then x else z))
-if-apart true true x y z h = absurd (h refl refl)
-if-apart true false x y z h = refl
-if-apart false b x y z h = refl
-
-module _ (name : Bor (List ℕ)) (number : ℕ) (q : List ℕ) where
-  abbrev put_in : Index → Index
-  put_in es = insert_entry (λ x y. pointwise eqb x.now y.now) es name number
-
-  put-by : (e : Bor (List ℕ) × ℕ) (es : Index) (b : Bool) → pointwise eqb name.now e.0.now ≡ b
-      → number_of (put_in es) q ≡ (if same_name q name.now then Some number else number_of es q)
-      → number_of (put_in (e ∷ es)) q ≡ (if same_name q name.now then Some number else number_of (e ∷ es) q)
-  put-by e es true h more =
-      ap (λ c. number_of (if c then (e.0, number) ∷ es else e ∷ put_in es) q) h
-      ∙ sym (if-same (same_name q e.0.now) (Some number) (Some e.1) (number_of es q))
-      ∙ ap (λ p. if same_name q p then Some number else number_of (e ∷ es) q) (sym (same-equal name.now e.0.now h))
-  put-by e es false h more =
-      ap (λ c. number_of (if c then (e.0, number) ∷ es else e ∷ put_in es) q) h
-      ∙ ap (λ o. if same_name q e.0.now then Some e.1 else o) more
-      ∙ if-apart (same_name q e.0.now) (same_name q name.now) (Some e.1) (Some number) (number_of es q)
-      (λ one other. true≢false (sym (ap (λ p. pointwise eqb p e.0.now) (sym (same-equal q name.now other)) ∙ one) ∙ h))
-
-  put-all : (es : Index) → number_of (put_in es) q ≡ (if same_name q name.now then Some number else number_of es q)
-  put-all [] = refl
-  put-all (e ∷ es) = put-by e es (pointwise eqb name.now e.0.now) refl (put-all es)
-
-pub put-is : (entries new : Index) (name : Bor (List ℕ)) (number : ℕ) → new ≡ insert_entry (λ x y. pointwise eqb x.now y.now) entries name number
-    → (q : List ℕ) → number_of new q ≡ (if same_name q name.now then Some number else number_of entries q)
-put-is entries new name number n q = ap (λ es. number_of es q) n ∙ put-all name number q entries
 
 -- ---- what is added under a name
 

@@ -6,6 +6,7 @@ pub mod GraphLemmas
 pub mod BackLemmas
 pub mod RankingLemmas
 pub mod PositionLemmas
+pub mod InsertionLemmas
 pub mod IndexLemmas
 pub mod JoinLemmas
 pub mod KeyLemmas

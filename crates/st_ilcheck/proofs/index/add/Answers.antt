@@ -1,4 +1,4 @@
-use Rattle.st_ilcheck.proofs.Insertion.{has-insert}
+use Rattle.st_type_table.proofs.InsertionLemmas.{has-insert}
 use Rattle.st_ilcheck.proofs.index.add.Goals as goal
 
 pub returns-clause-more : goal.returns-clause-more

@@ -1,5 +1,5 @@
-use Rattle.st_order.proofs.NamesIn.{at-insert}
+use Rattle.st_type_table.proofs.InsertionLemmas.{under-insert}
 use Rattle.st_order.proofs.index.put.Goals as goal
 
 pub returns : goal.returns
-returns g c = at-insert c.args.map.now.entries c.insert.new.self.entries c.args.name c.args.value c.in_ok-insert.ensures.entries
+returns g c = under-insert c.args.map.now.entries c.insert.new.self.entries c.args.name c.args.value c.in_ok-insert.ensures.entries

@@ -1,5 +1,5 @@
-use Rattle.st_type_table.proofs.IndexLemmas.{put-is}
+use Rattle.st_type_table.proofs.InsertionLemmas.{under-insert}
 use Rattle.st_type_table.proofs.definitions.put.Goals as goal
 
 pub returns : goal.returns
-returns c = put-is c.args.index.now.entries c.insert.new.self.entries c.args.name c.args.number c.in_ok-insert.ensures.entries
+returns c = under-insert c.args.index.now.entries c.insert.new.self.entries c.args.name c.args.number c.in_ok-insert.ensures.entries
