@@ -30,5 +30,5 @@ pub use fault::OrderFault;
 pub use masks::{Directions, directions_of};
 pub use order::{has_rule, order_by, order_rule};
 pub use relation_modes::Modes;
-pub use rules::{full_name, relations_of};
+pub use rules::{full_name, relations_of, rules_of};
 pub use step_types::stepping;

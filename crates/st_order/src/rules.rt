@@ -64,7 +64,7 @@ fn push_rule<'a>(
 }
 
 /// The rules of the relation of a name, in order.
-pub(crate) fn rules_of<'a>(
+pub fn rules_of<'a>(
     alloc: Global,
     il: &'a Il,
     name: &Name,

@@ -1,10 +1,10 @@
 //! Relations that are searched: all their rules are run, and what they derive is put in order.
 
-ghost use Rattle.std.specs.Prelude.{◌≡◌, ◌<◌, ◌^◌, ◌++◌, ◌∷◌, [], false, ℕ, Some, All, slice_get, bytes_eq, IfOk, IfErr, OnOk, MatchOption, find};
+ghost use Rattle.std.specs.Prelude.{◌≡◌, false, ℕ, Some, All, slice_get, bytes_eq, IfOk, IfErr, MatchOption, find};
 ghost use Rattle.std.specs.Option.{option_copied};
 ghost use Rattle.st_il.specs.declared.definition.RelationDef.{RelationDef};
 ghost use Rattle.st_semantics.specs.Names.{Name};
-ghost use Rattle.st_semantics.specs.Definitions.{IsRelation, rules_of, rules_in, rules_from};
+ghost use Rattle.st_semantics.specs.Definitions.{IsRelation, rules_of};
 ghost use Rattle.st_semantics.specs.Goals.{Goal};
 ghost use Rattle.st_order.specs.Known.{all_now};
 ghost use Rattle.st_search.specs.Answers.{goal_of, AreSorted};
@@ -21,8 +21,9 @@ use crate::ordered::with_outputs;
 use crate::rule::run_rule;
 use crate::setting::Search;
 use st_algo::{Algorithm, Algos};
-use st_il::{Il, IlDef, RelationDef, RuleDef, Value};
-use st_num::{Name, NoMemory, Row};
+use st_il::{RelationDef, RuleDef, Value};
+use st_num::{Name, Row};
+use st_order::rules_of;
 use std::alloc::Global;
 
 /// The number of the first relation of a name.
@@ -39,41 +40,6 @@ fn number_of(relations: &[&RelationDef], name: &Name) -> Option<usize>
         }
     }
     None
-}
-
-/// Adds a rule if it is one of the relation of this name.
-fn push_rule<'a>(
-    name: &Name,
-    definition: &'a IlDef,
-    rules: &mut Row<&'a RuleDef>,
-) -> Result<(), NoMemory>
-    ensures { OnOk result (all_now rules.new
-        ≡ all_now rules.old ++ rules_from name.now (rules_in (definition.now ∷ []))) }
-{
-    match definition {
-        IlDef::Rule(rule) => {
-            if name.as_slice() == rule.relation.as_slice() {
-                rules.push(rule)?;
-            }
-            Ok(())
-        }
-        IlDef::Syntax(_)
-        | IlDef::Var(_, _)
-        | IlDef::Relation(_)
-        | IlDef::Fun(_)
-        | IlDef::Clause(_) => Ok(()),
-    }
-}
-
-/// The rules of the relation of a name, in order.
-fn rules_of<'a>(alloc: Global, il: &'a Il, name: &Name) -> Result<Row<&'a RuleDef>, NoMemory>
-    ensures { IfOk result (λ row. all_now row ≡ rules_of il.now name.now) }
-{
-    let mut row = Row::new(alloc);
-    for definition in il.defs.as_slice() {
-        push_rule(name, definition, &mut row)?;
-    }
-    Ok(row)
 }
 
 /// The algorithm of a rule, both by their numbers.
