@@ -14,7 +14,7 @@ use Rattle.st_order.specs.inner.HolesOf.{at_holes}
 use Rattle.st_order.specs.inner.Index.{SameNames}
 use Rattle.st_order.specs.inner.Parts.{exps_in}
 use Rattle.st_order.specs.Known.{all_now}
-use Rattle.st_semantics.proofs.Holes.{drop_there}
+use Rattle.st_semantics.proofs.HoleSums.{drop_there}
 use Rattle.st_algo.specs.declared.algorithm.AlgoStep.{AlgoStep}
 use Rattle.st_algo.specs.declared.algorithm.AlgoStep.TheVariants as step
 use Rattle.st_algo.specs.declared.algorithm.Algorithm.{Algorithm}

@@ -3,7 +3,7 @@ use Rattle.std.proofs.Common.{◌≡◌, sym, ◌∙◌, ap, ℕ, ◌+◌, ◌<�
 use Rattle.std.specs.Borrow.{Bor}
 use Rattle.std.specs.List.{enumerate_from}
 use Rattle.st_order.specs.Known.{all_now}
-use Rattle.st_semantics.proofs.Holes.{drop_there}
+use Rattle.st_semantics.proofs.HoleSums.{drop_there}
 
 -- one more is made, of a member with its number
 pub numbered_next : {A B : Type 0} (f : ℕ × A → B) (xs : List (Bor A)) (i : ℕ) (x : Bor A) (y : B) (row new whole : List B) → i < length xs → x ≡ get_or xs i x → y ≡ f (i, x.now)

@@ -25,7 +25,7 @@ use Rattle.st_order.specs.inner.Index.{SameNames}
 use Rattle.st_modes.specs.inner.Circles.{is_circular}
 use Rattle.st_modes.specs.inner.Relations.{is_directed, AreRelations}
 use Rattle.st_modes.specs.inner.Breaches.{least_not_kept, clause_breach, breaks_m1, breaks_m2, breaks_m5, least_broken, rule_breach, is_decided, AreDecided, IsLeast, earlier, AllKeep, IsFound, IsBreachAnswer}
-use Rattle.st_semantics.proofs.Holes.{drop_there}
+use Rattle.st_semantics.proofs.HoleSums.{drop_there}
 use Rattle.st_order.proofs.NamesIn.{has_name_append}
 
 -- ---- the least of the rules

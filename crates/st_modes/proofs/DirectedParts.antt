@@ -9,7 +9,7 @@ use Rattle.st_semantics.specs.Names.{Name}
 use Rattle.st_semantics.specs.Definitions.{relations_in}
 use Rattle.st_semantics.specs.Directions.{direction}
 use Rattle.st_modes.specs.inner.Relations.{directed_among, directed_behind}
-use Rattle.st_semantics.proofs.Holes.{drop_there}
+use Rattle.st_semantics.proofs.HoleSums.{drop_there}
 
 -- a definition that stands before others
 directed_among_behind : (d : IlDef) (ds : List IlDef) (q : Name) → directed_among (d ∷ ds) q ≡ directed_behind d q (directed_among ds q)

@@ -12,7 +12,7 @@ use Rattle.st_semantics.specs.ModeRules.{has_one_open, patterns_have_one_open}
 use Rattle.st_order.specs.declared.class.Class as made
 use Rattle.st_order.specs.inner.Index.{SameNames}
 use Rattle.st_order.specs.inner.Classes.{kind}
-use Rattle.st_semantics.proofs.Holes.{drop_there}
+use Rattle.st_semantics.proofs.HoleSums.{drop_there}
 use Rattle.st_order.proofs.HoleParts.{drop_all}
 use Rattle.st_order.proofs.NamesIn.{SameNames-append}
 use Rattle.st_order.proofs.SameNames.{known_same}

@@ -10,7 +10,7 @@ use Rattle.st_semantics.specs.Definitions.{IsFirst}
 use Rattle.st_order.specs.Known.{all_now}
 use Rattle.st_modes.specs.inner.Sifted.{Sifted, none, kept, left_out}
 use Rattle.st_modes.specs.inner.Targets.{IsLeastOf}
-use Rattle.st_semantics.proofs.Holes.{drop_there}
+use Rattle.st_semantics.proofs.HoleSums.{drop_there}
 
 module _ {A : Type 0} (P : A → Type 0) where
   -- ---- one more member

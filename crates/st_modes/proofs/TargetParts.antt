@@ -10,7 +10,7 @@ use Rattle.st_order.specs.inner.Index.{names_in}
 use Rattle.st_modes.specs.inner.Reaching.{Reached, first, next, Grows, HasWalked}
 use Rattle.st_modes.specs.inner.Targets.{Numbers, IsLeastOf, lesser, least_first, IsClosed, Spreads, or_number, AreFirst, HasFirst}
 use Rattle.st_modes.proofs.HasWalked.{or_cases, or_right, has_itself, has_one, has_left, has_right, has_cases, ends}
-use Rattle.st_semantics.proofs.Holes.{drop_there}
+use Rattle.st_semantics.proofs.HoleSums.{drop_there}
 use Rattle.st_order.proofs.NamesIn.{names_in_last, has_name_append}
 use Rattle.st_modes.proofs.LeastOf.{IsLeastOf-none, IsLeastOf-as, IsLeastOf-or, IsLeastOf-more, lesser-assoc, lesser-none}
 

@@ -10,7 +10,7 @@ use Rattle.st_semantics.specs.Iterations.{index_of}
 use Rattle.st_semantics.specs.Patterns.{Bound, is_pattern, binds, bound_by}
 use Rattle.st_order.specs.inner.Parts.{exps_in, names_bound, bound_in, bound_segment}
 use Rattle.st_order.specs.inner.Index.{names_in, SameNames}
-use Rattle.st_semantics.proofs.Holes.{drop_there}
+use Rattle.st_semantics.proofs.HoleSums.{drop_there}
 use Rattle.st_order.proofs.SameNames.{among_same, names_made, SameNames-made}
 use Rattle.st_order.proofs.VariableParts.{three_parts}
 

@@ -1,6 +1,6 @@
 -- What is told of lists, member by member.
 use Rattle.std.proofs.Common.{◌≡◌, sym, ◌∙◌, ap, ℕ, ◌+◌, ◌<◌, List, [], ◌∷◌, ◌++◌, append_assoc, length, get_or, drop}
-use Rattle.st_semantics.proofs.Holes.{drop_there}
+use Rattle.st_semantics.proofs.HoleSums.{drop_there}
 
 -- the next member is told behind those before it
 pub following : {A B : Type 0} (f : List A → List B) → ((x : A) (xs : List A) → f (x ∷ xs) ≡ f (x ∷ []) ++ f xs) → (xs : List A) (i : ℕ) (x : A) (now new whole : List B)

@@ -2,7 +2,7 @@
 use Rattle.std.proofs.Common.{◌≡◌, refl, sym, ◌∙◌, ap, ℕ, zero, suc, ◌+◌, ◌<◌, ◌≤◌, Bool, true, false, not, List, [], ◌∷◌, ◌++◌, append_assoc, append-nil, length, get_or, drop, slice_get, Option, Some, None, if◌then◌else◌, add-one, arith}
 use Rattle.st_semantics.specs.Directions.{inputs_by, outputs_by}
 use Rattle.st_order.specs.inner.HolesOf.{at_holes, is_hole}
-use Rattle.st_semantics.proofs.Holes.{drop_there}
+use Rattle.st_semantics.proofs.HoleSums.{drop_there}
 
 -- the first of some bits
 abbrev first_of : List Bool → Option Bool

@@ -3,7 +3,7 @@ use Rattle.std.proofs.Common.{◌≡◌, sym, ◌∙◌, ap, ℕ, ◌+◌, ◌<�
 use Rattle.std.specs.Borrow.{Bor}
 use Rattle.st_semantics.specs.Names.{Name, lesser, least}
 use Rattle.st_order.specs.inner.Index.{names_in}
-use Rattle.st_semantics.proofs.Holes.{drop_there}
+use Rattle.st_semantics.proofs.HoleSums.{drop_there}
 
 -- a name before those whose least is known
 pub least_step : (names : List (Bor (List ℕ))) (n m k : ℕ) (name : Bor (List ℕ)) (new old : Option Name) → n < length names → name ≡ get_or names n name → m ≡ n → k ≡ n + 1

@@ -10,7 +10,7 @@ use Rattle.st_semantics.specs.Names.{Name}
 use Rattle.st_semantics.specs.Definitions.{relations_in, relation_named}
 use Rattle.st_semantics.specs.Directions.{inputs_or_all, mask}
 use Rattle.st_order.specs.inner.Masks.{mask_among, behind}
-use Rattle.st_semantics.proofs.Holes.{drop_there}
+use Rattle.st_semantics.proofs.HoleSums.{drop_there}
 
 -- a definition that stands before others
 pub mask_among_behind : (d : IlDef) (ds : List IlDef) (q : Name) → mask_among (d ∷ ds) q ≡ behind d q (mask_among ds q)

@@ -11,7 +11,7 @@ use Rattle.st_order.specs.declared.class.Class.{Class}
 use Rattle.st_order.specs.declared.selection.Numbered.{Numbered}
 use Rattle.st_order.specs.inner.Classes.{kind, is_kind}
 use Rattle.st_order.specs.inner.Selections.{numbered, all_numbered, first_of}
-use Rattle.st_semantics.proofs.Holes.{drop_there}
+use Rattle.st_semantics.proofs.HoleSums.{drop_there}
 
 all_numbered_append : (xs ys : List Numbered) → all_numbered (xs ++ ys) ≡ all_numbered xs ++ all_numbered ys
 all_numbered_append [] ys = refl

@@ -7,7 +7,7 @@ use Rattle.st_il.specs.declared.expression.PathSeg.{PathSeg}
 use Rattle.st_semantics.specs.Names.{Name, flattened}
 use Rattle.st_semantics.specs.Variables.{vars, vars_of}
 use Rattle.st_order.specs.inner.Parts.{segment_vars, exps_in}
-use Rattle.st_semantics.proofs.Holes.{drop_there}
+use Rattle.st_semantics.proofs.HoleSums.{drop_there}
 
 pub flattened_append : (xs ys : List (List Name)) → flattened (xs ++ ys) ≡ flattened xs ++ flattened ys
 flattened_append [] ys = refl

@@ -1,6 +1,6 @@
 use Rattle.std.proofs.Common.{sym, ap, ap₂, ◌∙◌, ◌+◌, ◌++◌, replicate}
 use Rattle.st_il.specs.Template.{holes}
-use Rattle.st_semantics.proofs.Holes.{holes_joined, holes_divided, holes_step}
+use Rattle.st_semantics.proofs.HoleSums.{holes_joined, holes_divided, holes_step}
 use Rattle.st_semantics.proofs.holes.+push_holes.Goals as goal
 
 pub push_all_holes-loop-part-preserved : goal.push_all_holes-loop-part-preserved
