@@ -22,7 +22,7 @@ use Rattle.st_modes.specs.inner.Reaching.{Reached, first, next, Grows, unseen}
 use Rattle.st_modes.proofs.NeedsFun.{relation_cites}
 use Rattle.st_modes.proofs.HasWalked.{or_left, or_right, same_itself, has_itself, has_one, has_left, has_right, has_cases, grows_more, begins_with, goes_on, ends}
 use Rattle.st_tool.specs.inner.Needing.{cited_in, some_has_otherwise, IsOnWalk}
-use Rattle.st_tool.specs.inner.Relations.{Entries, AreRules, rules_found, rules_at}
+use Rattle.st_answers.specs.inner.Relations.{Entries, AreRules, rules_found, rules_at}
 
 -- ---- names are added, rule by rule
 

@@ -11,10 +11,10 @@ ghost use Rattle.st_modes.specs.inner.Citations.{relations_in_rule};
 ghost use Rattle.st_search.specs.Searchable.{HasNoOtherwise};
 ghost use Rattle.st_semantics.specs.Variables.{has_otherwise, have_otherwise, relations_cited};
 ghost use Rattle.st_tool.specs.inner.Needing.{cited_in, some_has_otherwise};
-ghost use Rattle.st_tool.specs.inner.Relations.{rules_found};
+ghost use Rattle.st_answers.specs.inner.Relations.{rules_found};
 
-use crate::relations::{rules_by_name, rules_under};
 use indexmap::IndexSet;
+use st_answers::{rules_by_name, rules_under};
 use st_il::{Il, IlPrem, RuleDef};
 use st_num::{Name, NoMemory, Row};
 use std::alloc::Global;

@@ -13,15 +13,13 @@ ghost use Rattle.st_tool.specs.Searches.{AreInputTypes, RelationSays, SearchGive
 ghost use Rattle.st_tool.specs.inner.Asking.{asks_steps, depth_of, asked_says, IsDeclared, TellsTermFault};
 ghost use Rattle.st_tool.specs.inner.Specifying.{IsAccepted};
 
-use crate::answer::{Answer, unbuilt};
-use crate::marking::{mark_of, not_runnable, number_of};
 use crate::needed::needs_otherwise;
 use crate::nexts::next;
-use crate::refusal::refused_term;
 use crate::running::run;
 use crate::searching::Searching;
 use crate::specification::{Specification, read_specification};
 use st_algo::lower;
+use st_answers::{Answer, mark_of, not_runnable, number_of, refused_term, unbuilt};
 use st_elab_def::decls;
 use st_elab_exp::Decls;
 use st_il::{Il, Ty, Value};

@@ -9,10 +9,10 @@ use Rattle.st_semantics.specs.Names.{Name}
 use Rattle.st_semantics.specs.Transcript.{Term}
 use Rattle.st_tool.specs.declared.searches.Asked.{Asked}
 use Rattle.st_tool.specs.declared.searches.Asked.TheVariants.{Next, Run}
-use Rattle.st_tool.specs.declared.status.Status.{Status}
-use Rattle.st_tool.specs.declared.status.Status.TheVariants as answer
+use Rattle.st_answers.specs.declared.status.Status.{Status}
+use Rattle.st_answers.specs.declared.status.Status.TheVariants as answer
 use Rattle.st_tool.specs.Runs.{RunSays, NextSays}
-use Rattle.st_tool.specs.Texts.{refused_term_text}
+use Rattle.st_answers.specs.RefusalTexts.{refused_term_text}
 
 -- whether the relation is to be run from term to term
 abbrev pub asks_steps : Asked → Bool

@@ -2,7 +2,7 @@ use Rattle.std.proofs.Common.{◌≡◌, ◌∙◌, ap, sym, length, arith}
 use Rattle.std.specs.Option.{option_copied}
 use Rattle.std.proofs.lemmas.List.{length-map}
 use Rattle.st_order.specs.inner.Index.{names_in}
-use Rattle.st_tool.specs.inner.Relations.{rules_found}
+use Rattle.st_answers.specs.inner.Relations.{rules_found}
 use Rattle.st_tool.proofs.NeededLemmas.{met, walk_begins, walk_falls, walk_goes_on, one_has, all_plain}
 use Rattle.st_tool.proofs.needed.needs_otherwise.Goals as goal
 
