@@ -25,6 +25,7 @@ mod NeededLemmas
 mod TypedTables
 mod InputTypes
 mod AskLemmas
+mod CanBeAsked
 mod Loading
 mod Terms
 mod Runnable
