@@ -3,7 +3,6 @@ use Rattle.std.proofs.Common.{◌≡◌, ◌≢◌, refl, sym, ◌∙◌, ap, su
 use Rattle.std.specs.Prelude.{Option, Some, None, Result, Ok, Err, flat_map, option_and_then}
 use Rattle.std.specs.Borrow.{Bor}
 use Rattle.std.specs.List.{AllZip}
-use Rattle.std.specs.Option.{option_copied}
 use Rattle.std.specs.Result.{result_ok}
 use Rattle.std.proofs.Math.Seq.{take-suc}
 use Rattle.std.proofs.lemmas.Grind.{flat_map-append}
@@ -27,7 +26,7 @@ use Rattle.st_semantics.specs.Marks.{rule_name_of, HasOwn, HasUnfit}
 use Rattle.st_semantics.specs.OrderOf.{order_of}
 use Rattle.st_answers.specs.OrderTexts.{rule_line, lines_by, relation_lines}
 use Rattle.st_answers.specs.RefusalTexts.{part_words}
-use Rattle.st_answers.specs.inner.Relations.{HaveFew, order_of_rule, rules_found}
+use Rattle.st_answers.specs.inner.Relations.{HaveFew, order_of_rule}
 
 -- ---- names and orders
 
@@ -177,15 +176,6 @@ pub one_more_now : {A : Type 0} (f : A → List ℕ) (rs : List (Bor A)) (k : �
     → new ≡ now ++ f r.now → new ≡ old ++ flat_map f (take (k + 1) (all_now rs))
 one_more_now f rs k r old now new within is so_far added =
     let there : k < length (all_now rs) = omega (arith, within, now_long rs) in one_more f (all_now rs) k r.now old now new there (now_at rs k r r is) so_far added
-
--- ---- rules that were found
-
-pub found_rules : (found : Option (Bor (List (Bor RuleDef)))) (rules : Bor (List (Bor RuleDef))) (slice : List (Bor RuleDef)) → found ≡ Some rules → slice ≡ rules.now
-    → rules_found (option_copied found) ≡ all_now slice
-found_rules found rules slice is same = ap (λ o. rules_found (option_copied o)) is ∙ ap all_now (sym same)
-
-pub none_found : (f : RuleDef → List ℕ) (found : Option (Bor (List (Bor RuleDef)))) (bytes : List ℕ) → found ≡ None → bytes ≡ bytes ++ flat_map f (rules_found (option_copied found))
-none_found f found bytes is = sym (append-nil bytes) ∙ ap (λ o. bytes ++ flat_map f (rules_found (option_copied o))) (sym is)
 
 -- ---- marks and relations side by side
 

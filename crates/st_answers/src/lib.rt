@@ -23,6 +23,6 @@ pub use grouping::groups_printed;
 pub use marking::{mark_of, not_runnable, number_of};
 pub use ordering::orders_printed;
 pub use refusal::{refused, refused_in, refused_term};
-pub use relations::{rules_by_name, rules_under};
+pub use relations::rules_under;
 pub use status::Status;
 pub use verification::verify_files;

@@ -1,19 +1,19 @@
 //! The text of the orders in which the premises of rules are run.
 
 ghost use Rattle.std.specs.Prelude.{◌≡◌, ◌≢◌, ◌<◌, ◌^◌, ◌++◌, codes, decimal, map, flat_map, length, Some, Err, IfOk, OnOk, MatchBool};
-ghost use Rattle.std.specs.Option.{option_copied};
 ghost use Rattle.st_order.specs.Modes.{HasFew, AreModes, orders_in};
 ghost use Rattle.st_order.specs.Known.{AreDirections, all_now};
 ghost use Rattle.st_semantics.specs.Definitions.{relations, rules_of};
 ghost use Rattle.st_semantics.specs.Marks.{HasUnfit, full_name};
 ghost use Rattle.st_semantics.specs.OrderOf.{order_of};
 ghost use Rattle.st_answers.specs.OrderTexts.{numbers_text, variable_text, order_text, rule_line, relation_lines, orders_text};
-ghost use Rattle.st_answers.specs.inner.Relations.{AreRules, HaveFew, order_of_rule, rules_found};
+ghost use Rattle.st_answers.specs.inner.Relations.{AreRules, HaveFew, order_of_rule};
 
 use crate::refusal::push_rule_part;
-use crate::relations::{Rules, rules_by_name, rules_under};
+use crate::relations::rules_under;
 use itoa::Buffer;
 use st_il::{Il, RelationDef, RuleDef};
+use st_modes::{Rules, citations_of};
 use st_num::{Name, NoMemory, Row};
 use st_order::{Directions, Modes, directions_of, order_by, relations_of};
 use st_semantics::{Unfit, Unordered};
@@ -151,28 +151,6 @@ fn add_rules(
     Ok(())
 }
 
-/// Adds the lines of the rules that were found, which have these orders.
-fn add_found_rules(
-    alloc: Global,
-    directions: &Directions,
-    found: Option<&Row<&RuleDef>>,
-    orders: &[Option<Row<u32>>],
-    bytes: &mut Vec<u8>,
-) -> Result<(), NoMemory>
-    requires directions { AreDirections directions.now }
-    requires few { HaveFew (rules_found (option_copied found)) }
-    requires orders { orders.now
-        ≡ map (order_of_rule directions.now.il.now) (rules_found (option_copied found)) }
-    ensures { OnOk result (bytes.new.items ≡ bytes.old.items
-        ++ flat_map (rule_line directions.now.il.now)
-        (rules_found (option_copied found.entry))) }
-{
-    match found {
-        Some(rules) => add_rules(alloc, directions, rules.as_slice(), orders, bytes),
-        None => Ok(()),
-    }
-}
-
 /// Whether the mark of a relation says that it has no direction.
 fn is_undirected(mark: &Option<Unfit>) -> bool
     ensures { MatchBool result (mark.now ≡ Some Unfit.U1) (mark.now ≢ Some Unfit.U1) }
@@ -183,22 +161,20 @@ fn is_undirected(mark: &Option<Unfit>) -> bool
     }
 }
 
-/// Adds the lines of a relation that has this mark, and the rules that were found with their
-/// orders.
+/// Adds the lines of a relation that has this mark, and these rules with their orders.
 fn add_relation(
     alloc: Global,
     directions: &Directions,
     relation: &RelationDef,
     mark: &Option<Unfit>,
-    found: Option<&Row<&RuleDef>>,
+    rules: &[&RuleDef],
     orders: &[Option<Row<u32>>],
     bytes: &mut Vec<u8>,
 ) -> Result<(), NoMemory>
     requires directions { AreDirections directions.now }
     requires few { HasFew directions.now.il.now }
     requires mark { HasUnfit directions.now.il.now relation.now mark.now }
-    requires rules { rules_found (option_copied found)
-        ≡ rules_of directions.now.il.now relation.now.name }
+    requires rules { all_now rules.now ≡ rules_of directions.now.il.now relation.now.name }
     requires orders { orders.now ≡ orders_in directions.now.il.now relation.now }
     ensures { OnOk result (bytes.new.items
         ≡ bytes.old.items ++ relation_lines directions.now.il.now relation.now) }
@@ -209,7 +185,7 @@ fn add_relation(
         return Ok(());
     }
     bytes.extend_from_slice(b" directed\n")?;
-    add_found_rules(alloc, directions, found, orders, bytes)?;
+    add_rules(alloc, directions, rules, orders, bytes)?;
     Ok(())
 }
 
@@ -233,10 +209,10 @@ fn add_relations(
     let marks = modes.marks.as_slice();
     let orders = modes.orders.as_slice();
     for (number, relation) in declared.iter().enumerate() {
-        let found = rules_under(&*rules, &relation.name);
+        let its = rules_under(&*rules, &relation.name);
         let mark = &marks[number];
         let orders = orders[number].as_slice();
-        add_relation(alloc, directions, *relation, mark, found, orders, bytes)?;
+        add_relation(alloc, directions, *relation, mark, its, orders, bytes)?;
     }
     Ok(())
 }
@@ -249,13 +225,13 @@ pub fn orders_printed(alloc: Global, il: &Il, modes: &Modes) -> Result<Vec<u8>, 
 {
     let directions = directions_of(alloc, il)?;
     let declared = relations_of(alloc, il)?;
-    let rules = rules_by_name(alloc, il)?;
+    let citations = citations_of(alloc, il)?;
     let mut bytes = Vec::new(alloc);
     add_relations(
         alloc,
         &directions,
         declared.as_slice(),
-        &rules,
+        &citations.rules,
         modes,
         &mut bytes,
     )?;
