@@ -48,8 +48,8 @@ use Rattle.st_elab_table.specs.Operands.{compared, beside, equation_row, members
 use Rattle.st_elab_table.specs.Inferred.{fun_named, variable_type, variable_row, call_row, inferred_at}
 use Rattle.st_elab_table.specs.Checked.{sequence_at, form_row, plain_row, tuple_at, checked_row}
 use Rattle.st_elab_table.specs.Elaboration.{row}
-use Rattle.st_tool.proofs.breach_places.ExpStands.{ExpStands, NodeStands, of_seq, of_binary, of_not, of_neg, of_arith, of_paren, of_tuple, of_fields, of_dot, of_at, of_slice, of_update, of_extend, of_len, of_call, of_iter, ExpsStand, exps, FieldsStand, fields, SegsStand, steps, SegStands, at_position, at_slice, CountStands, by_times, by_below, ExpStands-place, ExpStands-parts}
-use Rattle.st_tool.proofs.breach_places.Fits.{FillingStands, FillingsStand, ExpStands-bare, Fits-stands}
+use Rattle.st_elab_law.proofs.ExpStands.{ExpStands, NodeStands, of_seq, of_binary, of_not, of_neg, of_arith, of_paren, of_tuple, of_fields, of_dot, of_at, of_slice, of_update, of_extend, of_len, of_call, of_iter, ExpsStand, exps, FieldsStand, fields, SegsStand, steps, SegStands, at_position, at_slice, CountStands, by_times, by_below, ExpStands-place, ExpStands-parts}
+use Rattle.st_elab_law.proofs.FillingStands.{FillingStands, FillingsStand, ExpStands-bare, Fits-stands}
 
 module _ (D : Decls) (P : Span → Type 0) where
   -- a breach stands at such a place

@@ -15,7 +15,7 @@ use Rattle.st_notation.specs.declared.filled.Shape.{Shape}
 use Rattle.st_notation.specs.declared.filled.Shape.TheVariants as shape
 use Rattle.st_notation.specs.Elements.{opened, inner_at, parentheses, without, bare, elements_at, elements, before}
 use Rattle.st_notation.specs.Fits.{Filling, one, run, missing, Take, one_element, shared_run, run_to, run_up_to, takes, Fits, hole, atom, bracket, sides, sequence, FitInOrder, end, next_atom, next_bracket, next_hole}
-use Rattle.st_tool.proofs.breach_places.ExpStands.{ExpStands, NodeStands, of_seq, of_infix, of_paren, of_bracket, ExpsStand, no_exps, exps, ExpStands-parts, ExpStands-opened}
+use Rattle.st_elab_law.proofs.ExpStands.{ExpStands, NodeStands, of_seq, of_infix, of_paren, of_bracket, ExpsStand, no_exps, exps, ExpStands-parts, ExpStands-opened}
 
 module _ (P : Span → Type 0) where
   -- what fills a hole begins at such places
