@@ -24,3 +24,6 @@ pub mod FillingSizes
 pub mod Unpassed
 pub mod AliasesEnd
 pub mod HasAnswer
+pub mod ExpStands
+pub mod FillingStands
+pub mod StepStands

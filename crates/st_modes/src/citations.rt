@@ -18,17 +18,17 @@ use st_num::{Name, NoMemory, Row};
 use std::alloc::Global;
 
 /// The rules of relations.
-pub(crate) type Rules<'a> = IndexMap<&'a Name, Row<&'a RuleDef>>;
+pub type Rules<'a> = IndexMap<&'a Name, Row<&'a RuleDef>>;
 
 /// What is looked up by name in an internal language.
 #[derive(Drop)]
-pub(crate) struct Citations<'a> {
+pub struct Citations<'a> {
     /// The rules of each relation.
-    pub(crate) rules: Rules<'a>,
+    pub rules: Rules<'a>,
     /// For each relation, the functions that stand in its rules.
     pub(crate) called: Cited<'a>,
     /// For each relation, the relations that stand in its rules.
-    pub(crate) cited: Cited<'a>,
+    pub cited: Cited<'a>,
     /// For each function that has clauses, the functions that stand in them.
     pub(crate) calls: Cited<'a>,
     /// The functions that are declared, in order.
@@ -142,7 +142,7 @@ fn read<'a>(
 }
 
 /// What is looked up by name in an internal language.
-pub(crate) fn citations_of(alloc: Global, il: &Il) -> Result<Citations, NoMemory>
+pub fn citations_of(alloc: Global, il: &Il) -> Result<Citations, NoMemory>
     ensures { IfOk result (λ citations. HasRead il.now.defs citations) }
 {
     let defs = il.defs.as_slice();

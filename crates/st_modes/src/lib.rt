@@ -28,5 +28,8 @@ mod relations;
 mod rule_modes;
 mod targets;
 
+pub use citations::{Citations, Rules, citations_of};
 pub use fault::ModeFault;
 pub use moding::{has_few, modes};
+pub use reaching::{Cited, reached};
+pub use rule_modes::have_otherwise;

@@ -10,7 +10,7 @@ use st_num::{Name, NoMemory, Row};
 use std::alloc::Global;
 
 /// The names that stand under names.
-pub(crate) type Cited<'a> = IndexMap<&'a Name, Row<&'a Name>>;
+pub type Cited<'a> = IndexMap<&'a Name, Row<&'a Name>>;
 
 /// Adds a name behind the others, unless it is there.
 pub(crate) fn grow_by<'a>(found: &mut IndexSet<&'a Name>, name: &'a Name) -> Result<(), NoMemory>
@@ -57,7 +57,7 @@ pub(crate) fn name_at<'a>(found: &IndexSet<&'a Name>, position: usize) -> &'a Na
 
 /// The names that are reached from those that stand first under a name, over what is cited under
 /// each.
-pub(crate) fn reached<'a>(
+pub fn reached<'a>(
     alloc: Global,
     first: &Cited<'a>,
     cited: &Cited<'a>,

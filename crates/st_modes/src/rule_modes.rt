@@ -49,7 +49,7 @@ fn has_otherwise(prem: &IlPrem) -> bool
 }
 
 /// Whether a premise is one.
-pub(crate) fn have_otherwise(prems: &[IlPrem]) -> bool
+pub fn have_otherwise(prems: &[IlPrem]) -> bool
     ensures { result ≡ have_otherwise prems.now }
 {
     for prem in prems {

@@ -26,7 +26,7 @@ use Rattle.st_semantics.specs.Marks.{HasMark}
 use Rattle.st_semantics.specs.Typing.{ResultsAreTyped, ConclusionsAreTyped}
 use Rattle.st_semantics.proofs.TypedTerms.{some_typed}
 use Rattle.st_tool.specs.Searches.{AreInputTypes}
-use Rattle.st_tool.specs.declared.answer.Answer.{Answer}
+use Rattle.st_answers.specs.declared.answer.Answer.{Answer}
 use Rattle.st_tool.specs.declared.searches.Asked.{Asked}
 use Rattle.st_tool.specs.declared.searches.Asked.TheVariants.{Next, Run}
 use Rattle.st_tool.specs.inner.Asking.{IsDeclared, depth_of, asked_says}

@@ -32,14 +32,15 @@ use Rattle.st_num.specs.declared.token.Token.{Token}
 use Rattle.st_scan.specs.Answers.{TellsFirst}
 use Rattle.st_scan.specs.Faults.{FirstFault, of_token, of_utf8}
 use Rattle.st_scan.specs.Tokens.{Tokens}
-use Rattle.st_tool.specs.declared.answer.Answer.{Answer}
-use Rattle.st_tool.specs.declared.status.Status.TheVariants.{Done, Specification}
+use Rattle.st_answers.specs.declared.answer.Answer.{Answer}
+use Rattle.st_answers.specs.declared.status.Status.TheVariants.{Done, Specification}
 use Rattle.st_tool.specs.Checking.{AllTokens, IsSourceFault, TellsFault, nothing, Prints, SourceGives, broken, unmoded, accepted, FilesGive, refused, empty, parsed}
 use Rattle.st_tool.specs.declared.check.Printed.{Printed}
 use Rattle.st_tool.specs.inner.Printing.{TellsSourceFault, BreachesWithin, BeginWithin}
 use Rattle.st_tool.proofs.SourcePlaces.{breach-placed, source-within}
 use Rattle.st_tool.proofs.TokenPlaces.{all_before, place_before}
-use Rattle.st_tool.specs.Texts.{definition_words, no_definition, refused_source_text}
+use Rattle.st_answers.proofs.Refusals.{RefusesIn}
+use Rattle.st_answers.specs.RefusalTexts.{no_definition, refused_source_text}
 
 -- a fault stands in the file that was scanned
 fault_file : (number : ℕ) (file : List ℕ) (at : Span) (rule : RuleId) → FirstFault number file at rule → at.file ≡ number
@@ -120,21 +121,6 @@ pub source_accepted : (printed : Printed) (names : List (List ℕ)) (defs : List
 source_accepted printed names defs e found modes count (Err fault) elaborated erased typed answers is counted status bytes = tt
 source_accepted printed names defs e found modes count (Ok answer) elaborated erased typed answers is counted status bytes =
     subst (λ s. SourceGives printed names defs s answer.bytes.items) (sym status) (accepted e elaborated erased typed (subst (IsModesAnswer e.il) is answers).0 (bytes defs e counted refl))
-
--- the answer names a file, in which a definition is refused
-abbrev pub RefusesIn : List (List ℕ) → Def → Span → RuleId → Answer → Type 0
-RefusesIn names def at rule answer =
-    (name : List ℕ) × (slice_get names at.file ≡ Some name) × (answer.bytes.items ≡ refused_source_text name at (definition_words def.node) rule)
-
-pub refused_in_file : (names : List (List ℕ)) (def : Def) (at : Span) (rule : RuleId) (words name text : List ℕ) (result : Result Answer NoMemory) → at.file < length names
-    → words ≡ definition_words def.node → name ≡ get_or names at.file name → text ≡ name → IfOk result (λ answer. answer.bytes.items ≡ refused_source_text text at words rule)
-    → IfOk result (RefusesIn names def at rule)
-refused_in_file names def at rule words name text (Err fault) within worded named same bytes = tt
-refused_in_file names def at rule words name text (Ok answer) within worded named same bytes = (
-  name,
-  slice_get-get_or names at.file name within ∙ ap Some (sym named),
-  bytes ∙ ap (λ n. refused_source_text n at words rule) same ∙ ap (λ w. refused_source_text name at w rule) worded,
-)
 
 pub source_broken : (printed : Printed) (names : List (List ℕ)) (defs : List Def) (b : Breach) (def : Def) (result : Result Answer NoMemory) → IsBreach defs b
     → def ≡ get_or defs b.definition def → IfOk result (λ answer. answer.status ≡ Specification) → IfOk result (RefusesIn names def b.at b.rule) → SaysSource printed names defs result

@@ -10,7 +10,7 @@ use Rattle.st_il.specs.declared.small.Small.{Small}
 use Rattle.st_il.specs.declared.small.SmallRule.{SmallRule}
 use Rattle.st_il.specs.Small.{il_of, IsSmall, IsSmallRule, IsUpper, IsWordOf}
 use Rattle.st_num.specs.declared.memory.NoMemory.{NoMemory}
-use Rattle.st_tool.specs.declared.answer.Answer.{Answer}
+use Rattle.st_answers.specs.declared.answer.Answer.{Answer}
 use Rattle.st_tool.specs.declared.transcript.Ending.{Ending}
 use Rattle.st_tool.specs.Commands.{IsDerivationText, default_fuel}
 use Rattle.st_tool.specs.Derivation.{IsStepTree, StepLines, begins, goes_on, last_line}

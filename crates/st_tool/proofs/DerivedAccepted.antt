@@ -5,11 +5,10 @@ use Rattle.st_il.specs.declared.definition.Il.{Il}
 use Rattle.st_il.specs.Small.{il_of, IsSmallIl}
 use Rattle.st_semantics.specs.Accepts.{Accepts, AreSound}
 use Rattle.st_semantics.proofs.Sound.{law_of_reading}
-use Rattle.st_tool.specs.declared.status.Status.{Status}
-use Rattle.st_tool.specs.declared.status.Status.TheVariants as answer
-use Rattle.st_tool.specs.Commands.{VerifyGives, malformed, untyped, judged, unjudged}
+use Rattle.st_answers.specs.declared.status.Status.{Status}
+use Rattle.st_answers.specs.declared.status.Status.TheVariants as answer
+use Rattle.st_answers.specs.Verification.{VerifyGives, malformed, untyped, judged, unjudged, AreTexts, Verified, steps_in, accepted, refused, unfinished, endless}
 use Rattle.st_tool.specs.Laws.{DerivedIsAccepted, AcceptedIsSound}
-use Rattle.st_tool.specs.Verification.{AreTexts, Verified, steps_in, accepted, refused, unfinished, endless}
 use Rattle.st_verify.proofs.SmallModes.{small_kinded}
 use Rattle.st_verify.proofs.SmallTyped.{small_typed}
 

@@ -23,10 +23,10 @@ use Rattle.st_order.specs.declared.relation_modes.Modes.{Modes}
 use Rattle.st_tool.specs.Checking.{FilesGive}
 use Rattle.st_tool.specs.Queries.{evaluation_depth, OutcomeGives, QueryGives, refused, evaluated, EvalGives, unspecified, specified}
 use Rattle.st_tool.specs.QueryOutcome.{ComesTo}
-use Rattle.st_tool.specs.Texts.{refused_term_text}
-use Rattle.st_tool.specs.declared.answer.Answer.{Answer}
+use Rattle.st_answers.specs.RefusalTexts.{refused_term_text}
+use Rattle.st_answers.specs.declared.answer.Answer.{Answer}
 use Rattle.st_tool.specs.declared.check.Printed.TheVariants.{Count}
-use Rattle.st_tool.specs.declared.status.Status.TheVariants as status
+use Rattle.st_answers.specs.declared.status.Status.TheVariants as status
 use Rattle.st_tool.specs.inner.Specifying.{RefusesFiles, AreSpecified}
 use Rattle.st_tool.proofs.TypedTables.{syntaxes-same}
 

@@ -7,11 +7,8 @@ mod SmallTexts
 mod LineTexts
 mod LineVerdicts
 mod Derivations
-mod Verifications
 mod TokenPlaces
 mod SourcePlaces
-mod RulesByName
-mod OrderLines
 mod IsNotation
 mod HasTemplates
 mod ParsedPremises
@@ -25,9 +22,10 @@ mod NextLemmas
 mod SearchLemmas
 mod SaysLemmas
 mod NeededLemmas
-mod MarkLemmas
 mod TypedTables
+mod InputTypes
 mod AskLemmas
+mod CanBeAsked
 mod Loading
 mod Terms
 mod Runnable

@@ -11,8 +11,8 @@ use Rattle.st_semantics.specs.Names.{Name}
 use Rattle.st_semantics.specs.Derivation.{Derivable}
 use Rattle.st_semantics.specs.Laws.{LawOfDepthOfTrees}
 use Rattle.st_semantics.specs.Transcript.{Term}
-use Rattle.st_tool.specs.declared.answer.Answer.{Answer}
-use Rattle.st_tool.specs.declared.status.Status.TheVariants as answer
+use Rattle.st_answers.specs.declared.answer.Answer.{Answer}
+use Rattle.st_answers.specs.declared.status.Status.TheVariants as answer
 use Rattle.st_tool.specs.Runs.{IsShallow, AreOutputsOf, NextSays}
 use Rattle.st_tool.specs.RunTexts.{outputs_text, deep_text}
 use Rattle.st_tool.specs.inner.Searching.{GivesTyped}

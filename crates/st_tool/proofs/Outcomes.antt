@@ -6,9 +6,10 @@ use Rattle.std.proofs.lemmas.Option.{slice_get_within}
 use Rattle.st_tool.specs.declared.loads.Loaded.{Loaded}
 use Rattle.st_tool.specs.declared.loads.Loaded.TheVariants.{Given, Failed, TooLong}
 use Rattle.st_num.specs.declared.memory.NoMemory.{NoMemory}
-use Rattle.st_tool.specs.declared.answer.Answer.{Answer}
-use Rattle.st_tool.specs.declared.status.Status.TheVariants.{Usage, TooLarge}
-use Rattle.st_tool.specs.Commands.{Gives, DeriveGives, IsBuilt, IsUnbuilt, limit_of}
+use Rattle.st_answers.specs.declared.answer.Answer.{Answer}
+use Rattle.st_answers.specs.declared.status.Status.TheVariants.{Usage, TooLarge}
+use Rattle.st_tool.specs.Commands.{Gives, DeriveGives, IsBuilt, limit_of}
+use Rattle.st_answers.specs.Unbuilt.{IsUnbuilt}
 use Rattle.st_tool.specs.Queries.{EvalGives}
 use Rattle.st_tool.specs.Searches.{RunGives, NextGives}
 use Rattle.st_tool.specs.Loads.{Held, Counts, AreGiven, LoadsTo, FitsNames}

@@ -9,11 +9,11 @@ use Rattle.st_search.specs.Answers.{goal_of, IsChainOf}
 use Rattle.st_semantics.specs.Names.{Name}
 use Rattle.st_semantics.specs.Goals.{AreInputs}
 use Rattle.st_semantics.specs.Transcript.{Term}
-use Rattle.st_tool.specs.declared.answer.Answer.{Answer}
+use Rattle.st_answers.specs.declared.answer.Answer.{Answer}
 use Rattle.st_tool.specs.declared.searching.Step.{Step}
 use Rattle.st_tool.specs.declared.searching.Step.TheVariants as step
-use Rattle.st_tool.specs.declared.status.Status.{Status}
-use Rattle.st_tool.specs.declared.status.Status.TheVariants as answer
+use Rattle.st_answers.specs.declared.status.Status.{Status}
+use Rattle.st_answers.specs.declared.status.Status.TheVariants as answer
 use Rattle.st_tool.specs.declared.transcript.Ending.{Ending}
 use Rattle.st_tool.specs.declared.transcript.Ending.TheVariants.{Stuck, Fuel}
 use Rattle.st_tool.specs.Runs.{IsShallow, begins, goes_on, RunSays}

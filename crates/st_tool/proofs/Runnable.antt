@@ -4,9 +4,10 @@ use Rattle.std.specs.Prelude.{Result, Ok, Err, IfOk, Option, None, Some, IfSome,
 use Rattle.std.specs.Cmp.Lexicographic.{pointwise, same_text}
 use denote.Ref.{Bor}
 use Rattle.st_num.specs.declared.memory.NoMemory.{NoMemory}
-use Rattle.st_tool.specs.declared.answer.Answer.{Answer}
+use Rattle.st_answers.specs.declared.answer.Answer.{Answer}
 use Rattle.st_il.specs.declared.small.Small.{Small}
-use Rattle.st_tool.specs.Commands.{DeriveGives, IsDerivationText, IsRunnable, IsStart, IsTerm, IsUnbuilt}
+use Rattle.st_tool.specs.Commands.{DeriveGives, IsDerivationText, IsRunnable, IsStart, IsTerm}
+use Rattle.st_answers.specs.Unbuilt.{IsUnbuilt}
 use Rattle.st_small.specs.SmallText.{IsTextOf}
 use Rattle.st_tool.specs.inner.Starts.{HasNoTerm, HasNoStart}
 

@@ -21,18 +21,18 @@ use Rattle.st_semantics.specs.Marks.{HasMark}
 use Rattle.st_semantics.specs.Transcript.{Term}
 use Rattle.st_term.specs.Reading.{IsTerm, IsTermBreach}
 use Rattle.st_elab_def.specs.declared.elaborated.Elaborated.{Elaborated}
-use Rattle.st_tool.specs.declared.answer.Answer.{Answer}
+use Rattle.st_answers.specs.declared.answer.Answer.{Answer}
 use Rattle.st_tool.specs.declared.check.Printed.TheVariants as printed
 use Rattle.st_tool.specs.declared.searches.Asked.{Asked}
 use Rattle.st_tool.specs.declared.specification.Specification.{Specification}
 use Rattle.st_tool.specs.declared.specification.Specification.TheVariants.{Accepted, Refused}
-use Rattle.st_tool.specs.declared.status.Status.TheVariants as answer
+use Rattle.st_answers.specs.declared.status.Status.TheVariants as answer
 use Rattle.st_tool.specs.Checking.{CheckGives}
-use Rattle.st_tool.specs.Commands.{IsUnbuilt}
+use Rattle.st_answers.specs.Unbuilt.{IsUnbuilt}
 use Rattle.st_tool.specs.Searches.{Says, AreInputTypes, RelationSays, marked, unbuilt, refused, searched, SearchGives, unspecified, specified}
-use Rattle.st_tool.specs.Texts.{refused_term_text}
+use Rattle.st_answers.specs.RefusalTexts.{refused_term_text}
 use Rattle.st_tool.specs.inner.Asking.{asks_steps, asked_says, TellsTermFault}
-use Rattle.st_tool.specs.inner.Marking.{IsMarkText}
+use Rattle.st_answers.specs.MarkTexts.{IsMarkText}
 use Rattle.st_tool.specs.inner.Specifying.{IsAccepted, AreSpecified, RefusesFiles, Specifies}
 
 -- the text of a mark that was found, or that there is none

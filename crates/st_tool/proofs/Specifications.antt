@@ -23,11 +23,11 @@ use Rattle.st_tool.specs.Checking.{AllTokens, nothing, Prints, FilesGive, accept
 use Rattle.st_tool.specs.Checking as checked
 use Rattle.st_tool.specs.Specification.{IsSpecification}
 use Rattle.st_tool.specs.Specification as files
-use Rattle.st_tool.specs.declared.answer.Answer.{Answer}
+use Rattle.st_answers.specs.declared.answer.Answer.{Answer}
 use Rattle.st_tool.specs.declared.check.Printed.{Printed}
 use Rattle.st_tool.specs.declared.specification.Specification.{Specification}
 use Rattle.st_tool.specs.declared.specification.Specification.TheVariants.{Accepted, Refused}
-use Rattle.st_tool.specs.declared.status.Status.TheVariants as status
+use Rattle.st_answers.specs.declared.status.Status.TheVariants as status
 use Rattle.st_tool.specs.inner.Specifying.{IsAccepted, RefusesSource, RefusesFiles, AreSound, AreSpecified, SpecifiesSource, Specifies}
 use Rattle.st_tool.proofs.Checks.{SaysSource, SaysFiles}
 

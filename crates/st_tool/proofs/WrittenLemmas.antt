@@ -9,15 +9,16 @@ use Rattle.st_semantics.specs.Names.{Name}
 use Rattle.st_semantics.specs.Transcript.{Term as Start}
 use Rattle.st_tool.specs.declared.loads.Loaded.{Loaded}
 use Rattle.st_tool.specs.declared.loads.Loaded.TheVariants.{Given, Failed, TooLong}
-use Rattle.st_tool.specs.declared.status.Status.{Status}
-use Rattle.st_tool.specs.declared.status.Status.TheVariants.{Done, Usage, Specification, Term, Fuel, Depth, NotRunnable, Verification, Load, Write, Memory, TooLarge, Unbuilt}
+use Rattle.st_answers.specs.declared.status.Status.{Status}
+use Rattle.st_answers.specs.declared.status.Status.TheVariants.{Done, Usage, Specification, Term, Fuel, Depth, NotRunnable, Verification, Load, Write, Memory, TooLarge, Unbuilt}
 use Rattle.st_tool.specs.declared.transcript.Ending.{Ending}
 use Rattle.st_tool.specs.declared.transcript.Ending.TheVariants.{Stuck, Fuel as OutOfFuel}
 use Rattle.st_tool.specs.Causes.{IsLoadFault, FaultIsTold}
 use Rattle.st_tool.specs.Checking.{FilesGive, IlGives, refused as refused_at, empty, parsed, broken, unmoded, accepted as accepted_source}
 use Rattle.st_tool.specs.declared.check.Printed.{Printed}
 use Rattle.st_tool.specs.declared.check.Printed.TheVariants as asked
-use Rattle.st_tool.specs.Commands.{Gives, DeriveGives, VerifyGives, malformed, untyped, judged, unjudged, limit_of}
+use Rattle.st_tool.specs.Commands.{Gives, DeriveGives, limit_of}
+use Rattle.st_answers.specs.Verification.{VerifyGives, malformed, untyped, judged, unjudged, accepted, refused, unfinished, endless}
 use Rattle.st_tool.specs.Queries.{evaluation_depth, OutcomeGives, QueryGives, EvalGives}
 use Rattle.st_tool.specs.Queries as queries
 use Rattle.st_tool.specs.Runs.{RunSays, NextSays}
@@ -26,7 +27,6 @@ use Rattle.st_tool.specs.Searches as searches
 use Rattle.st_tool.specs.Transcript.{status_of}
 use Rattle.st_tool.specs.Loads.{Held, Counts, LoadsTo}
 use Rattle.st_tool.specs.Outcome.{Outcome, HasOutcome, unread, too_many, unbuilt, loads, Written}
-use Rattle.st_tool.specs.Verification.{accepted, refused, unfinished, endless}
 use Rattle.st_words.specs.declared.command.Command.{Command}
 use Rattle.st_words.specs.declared.command.Command.TheVariants.{Check, Il, Groups, Order, Eval, Next, Run, Derive, Verify, Prose, Latex, Make}
 use Rattle.st_words.specs.FileNames.{file_names}

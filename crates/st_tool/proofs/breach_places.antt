@@ -1,11 +1,8 @@
 -- Breaches stand in files where the tokens do: by the grammar's meaning, the table of elaboration and
 -- the phases of definitions.
-pub mod ExpStands
 pub mod Meaning
 pub mod Definitions
 pub mod DefMeaning
-pub mod Fits
-pub mod Rows
 pub mod Mentions
 pub mod Breaches
 pub mod IsBreach

@@ -1,8 +1,8 @@
 -- The causes of a failed load, and what a raised count of faults means.
 use Rattle.std.specs.Prelude.{◌≡◌, ℕ, ◌+◌, ◌<◌, List, Some, slice_get, ◌⊎◌}
 use Rattle.st_outside.specs.Counts.{Rose}
-use Rattle.st_tool.specs.declared.status.Status.{Status}
-use Rattle.st_tool.specs.declared.status.Status.TheVariants as answer
+use Rattle.st_answers.specs.declared.status.Status.{Status}
+use Rattle.st_answers.specs.declared.status.Status.TheVariants as answer
 use Rattle.st_words.specs.declared.command.Command.{Command}
 use Rattle.st_tool.specs.Loads.{Counts, raised}
 use Rattle.st_words.specs.FileNames.{file_names}

@@ -19,16 +19,18 @@ use Rattle.st_scan.specs.Faults.{FirstFault}
 use Rattle.st_scan.specs.Tokens.{Tokens}
 use Rattle.st_tool.specs.declared.check.Printed.{Printed}
 use Rattle.st_tool.specs.declared.check.Printed.TheVariants.{Count, Language, Groups, Orders}
-use Rattle.st_tool.specs.declared.status.Status.{Status}
-use Rattle.st_tool.specs.declared.status.Status.TheVariants as answer
+use Rattle.st_answers.specs.declared.status.Status.{Status}
+use Rattle.st_answers.specs.declared.status.Status.TheVariants as answer
 use Rattle.st_il.specs.declared.small.Small.{Small}
 use Rattle.st_il.specs.Small.{il_of}
 use Rattle.st_ilcheck.specs.Typed.{Typed}
 use Rattle.st_iltext.specs.IlText.{IlText, il_text}
 use Rattle.st_semantics.specs.Breaches.{KeepModes, IsModeBreach}
-use Rattle.st_tool.specs.OrderTexts.{orders_text}
+use Rattle.st_answers.specs.OrderTexts.{orders_text}
 use Rattle.st_small.specs.SmallText.{IsTextOf}
-use Rattle.st_tool.specs.Texts.{definitions_text, groups_text, definition_words, no_definition, refused_source_text}
+use Rattle.st_tool.specs.Texts.{definitions_text}
+use Rattle.st_answers.specs.GroupTexts.{groups_text}
+use Rattle.st_answers.specs.RefusalTexts.{definition_words, no_definition, refused_source_text}
 
 -- the tokens of files one behind another; files are numbered, the first by this number
 abbrev pub AllTokens : ℕ → List (List ℕ) → List Token → Type 0

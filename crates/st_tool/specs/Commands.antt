@@ -1,27 +1,18 @@
 -- What each command gives of the files that it loads.
-use Rattle.std.specs.Prelude.{◌≡◌, ℕ, ◌+◌, false, List, [], ◌∷◌, ◌++◌, Contains, ◌⊎◌}
+use Rattle.std.specs.Prelude.{◌≡◌, ℕ, false, List, [], ◌∷◌, ◌++◌, Contains, ◌⊎◌}
 use Rattle.st_deriv.specs.declared.line.Line.{Line}
 use Rattle.st_deriv.specs.LineText.{LinesText}
-use Rattle.st_il.specs.declared.definition.Il.{Il}
 use Rattle.st_il.specs.declared.small.Small.{Small}
-use Rattle.st_il.specs.declared.type_rule.TypeRule.{TypeRule}
 use Rattle.st_il.specs.Small.{il_of, IsSmallIl}
-use Rattle.st_ilcheck.specs.Typed.{Typed, IsTypeBreach}
-use Rattle.st_ilread.specs.IlReading.{IsNoIl, IsFirstNoLine}
-use Rattle.st_iltext.specs.IlText.{IlText}
-use Rattle.st_tool.specs.declared.status.Status.{Status}
-use Rattle.st_tool.specs.declared.status.Status.TheVariants as answer
+use Rattle.st_answers.specs.declared.status.Status.{Status}
 use Rattle.st_tool.specs.declared.transcript.Ending.{Ending}
 use Rattle.st_tool.specs.Checking.{CheckGives, IlGives, GroupsGive, OrdersGive}
 use Rattle.st_tool.specs.Derivation.{IsDerivation}
 use Rattle.st_tool.specs.Queries.{EvalGives}
 use Rattle.st_tool.specs.Searches.{RunGives, NextGives}
 use Rattle.st_small.specs.SmallText.{IsTextOf}
-use Rattle.st_tool.specs.Texts.{unbuilt_text, refused_il_text, untyped_text}
-use Rattle.st_semantics.specs.declared.verify_rule.VerifyRule.TheVariants.{V1}
 use Rattle.st_semantics.specs.Accepts.{Accepts}
 use Rattle.st_tool.specs.Transcript.{atom_term, status_of}
-use Rattle.st_tool.specs.Verification.{AreLines, AreTexts, Verified}
 use Rattle.st_words.specs.declared.command.Command.{Command}
 use Rattle.st_words.specs.declared.command.Command.TheVariants.{Check, Il as IlOf, Groups, Order, Eval, Next, Run, Derive, Verify, Prose, Latex, Make}
 use Rattle.st_words.specs.Arranged.{has_options}
@@ -29,10 +20,6 @@ use Rattle.st_words.specs.Arranged.{has_options}
 -- the steps of a derivation
 abbrev pub default_fuel : ℕ
 default_fuel = 1000
-
--- nothing of this kind is built
-abbrev pub IsUnbuilt : Status → List ℕ → Type 0
-IsUnbuilt status bytes = (status ≡ answer.Unbuilt) × (bytes ≡ unbuilt_text)
 
 -- ---- derivations
 
@@ -76,37 +63,6 @@ DeriveGives relation term file status bytes =
     ⊎ (((small : Small) (atom : List ℕ) → IsRunnable relation term file small atom → ⊥)
     × IsUnbuilt status bytes)
 
--- ---- verification
-
--- So far no derivation is judged over an internal language that no small specification means, and
--- none whose lines are not all texts of lines.
-abbrev pub IsUnjudged : Il → List ℕ → Type 0
-IsUnjudged il derivation =
-    (IsSmallIl il → ⊥) ⊎ ((lines : List Line) (rest : List ℕ) → AreLines derivation lines rest → ⊥)
-
--- What `verify` answers of the bytes of its two files.
-pub data VerifyGives (il_bytes derivation : List ℕ) : Status → List ℕ → Type 0 where
-  -- the first is the text of no internal language, and this is its first line that is none
-  malformed : {bytes : List ℕ} (line : ℕ) → IsNoIl il_bytes → IsFirstNoLine il_bytes line
-      → bytes ≡ refused_il_text line V1
-      → VerifyGives il_bytes derivation answer.Verification bytes
-  -- it is the text of an internal language, of which this definition, by its number from 0, is the
-  -- first that breaks a rule on types, and this the least that it breaks: its line is named
-  untyped : {bytes : List ℕ} (il : Il) (place : ℕ) (rule : TypeRule) → IlText il il_bytes
-      → IsTypeBreach il place rule → bytes ≡ untyped_text (place + 1) rule
-      → VerifyGives il_bytes derivation answer.Verification bytes
-  -- they are the texts of an internal language that is typed, and of lines: these are accepted, or
-  -- one is refused
-  judged : {status : Status} {bytes : List ℕ} (il : Il) (lines : List Line) (rest : List ℕ)
-      → Typed il → IsSmallIl il → AreTexts il_bytes derivation il lines rest
-      → Verified il lines rest status bytes
-      → VerifyGives il_bytes derivation status bytes
-  -- the first is the text of an internal language that is typed, and the second is not judged
-  -- over it
-  unjudged : {bytes : List ℕ} (il : Il) → IlText il il_bytes → Typed il
-      → IsUnjudged il derivation → bytes ≡ unbuilt_text
-      → VerifyGives il_bytes derivation answer.Unbuilt bytes
-
 -- ---- the commands
 
 -- what a command gives of the bytes of its files
@@ -140,10 +96,6 @@ IsBuilt words command = Unit {0}
 -- the most bytes of a source or a term
 abbrev pub source_limit : ℕ
 source_limit = 1048576
-
--- the most bytes of a text that the program itself prints: of an internal language or a derivation
-abbrev pub text_limit : ℕ
-text_limit = 67108864
 
 -- the most bytes of a file of a command
 abbrev pub limit_of : Command → ℕ

@@ -5,12 +5,12 @@ use Rattle.st_il.specs.declared.definition.Il.{Il}
 use Rattle.st_il.specs.declared.small.Small.{Small}
 use Rattle.st_il.specs.Small.{il_of}
 use Rattle.st_iltext.specs.IlText.{IlText}
-use Rattle.st_tool.specs.declared.status.Status.{Status}
-use Rattle.st_tool.specs.declared.status.Status.TheVariants as answer
-use Rattle.st_tool.specs.Commands.{IsDerivationText, VerifyGives}
+use Rattle.st_answers.specs.declared.status.Status.{Status}
+use Rattle.st_answers.specs.declared.status.Status.TheVariants as answer
+use Rattle.st_tool.specs.Commands.{IsDerivationText}
+use Rattle.st_answers.specs.Verification.{VerifyGives, AreTexts}
 use Rattle.st_semantics.specs.Accepts.{AreSound}
-use Rattle.st_tool.specs.Texts.{accepted_text}
-use Rattle.st_tool.specs.Verification.{AreTexts}
+use Rattle.st_answers.specs.VerdictTexts.{accepted_text}
 
 -- What `derive` prints is accepted by `verify`, with what `il` prints for the same specification.
 abbrev pub DerivedIsAccepted : Type 0

@@ -3,11 +3,12 @@ use Rattle.std.specs.Prelude.{◌≡◌, ℕ, ◌<◌, ◌≤◌, length, take, 
 use Rattle.st_outside.specs.Sink.{Takes}
 use Rattle.st_tool.specs.declared.loads.Loaded.{Loaded}
 use Rattle.st_tool.specs.declared.loads.Loaded.TheVariants.{Given, Failed, TooLong}
-use Rattle.st_tool.specs.declared.status.Status.{Status}
-use Rattle.st_tool.specs.declared.status.Status.TheVariants as answer
+use Rattle.st_answers.specs.declared.status.Status.{Status}
+use Rattle.st_answers.specs.declared.status.Status.TheVariants as answer
 use Rattle.st_tool.specs.Commands.{Gives, IsBuilt, limit_of}
 use Rattle.st_tool.specs.Loads.{Held, Counts, LoadsTo}
-use Rattle.st_tool.specs.Texts.{usage_text, too_many_text, too_large_text, unbuilt_text, load_failed_text}
+use Rattle.st_tool.specs.Texts.{usage_text, too_many_text, too_large_text, load_failed_text}
+use Rattle.st_answers.specs.Unbuilt.{unbuilt_text}
 use Rattle.st_words.specs.declared.command.Command.{Command}
 use Rattle.st_words.specs.FileNames.{file_names}
 use Rattle.st_words.specs.Reads.{Reads, HasNoReading}

@@ -11,9 +11,10 @@ use Rattle.st_term.specs.Reading.{IsQueryBreach}
 use Rattle.st_term.specs.TermText.{term_text}
 use Rattle.st_tool.specs.QueryOutcome.{ComesTo}
 use Rattle.st_tool.specs.Specification.{IsSpecification, AreRefused}
-use Rattle.st_tool.specs.Texts.{refused_term_text, depth_text}
-use Rattle.st_tool.specs.declared.status.Status.{Status}
-use Rattle.st_tool.specs.declared.status.Status.TheVariants as answer
+use Rattle.st_answers.specs.RefusalTexts.{refused_term_text}
+use Rattle.st_tool.specs.Texts.{depth_text}
+use Rattle.st_answers.specs.declared.status.Status.{Status}
+use Rattle.st_answers.specs.declared.status.Status.TheVariants as answer
 
 -- the most calls that are open at once where a query is evaluated
 -- (a name of its own: a proof that reads 200 goes down 200 calls)

@@ -1,17 +1,13 @@
--- The printed texts of runs, of all that is derivable, of chains, and of why a relation is not run.
+-- The printed texts of runs, of all that is derivable, and of chains.
 use Rattle.std.specs.Prelude.{ℕ, ◌+◌, ◌-◌, List, [], ◌∷◌, ◌++◌, Option, Some, None, length, codes, decimal}
 use Rattle.std.specs.List.{flat_map}
 use Rattle.st_il.specs.declared.value.Value.{Value}
 use Rattle.st_search.specs.declared.answer.Chain.{Chain}
-use Rattle.st_semantics.specs.declared.unfit.Unfit.{Unfit}
-use Rattle.st_semantics.specs.declared.unfit.Unfit.TheVariants as unfit
-use Rattle.st_semantics.specs.Marks.{Mark, U0, Unsearchable, U5}
 use Rattle.st_semantics.specs.Names.{Name}
 use Rattle.st_semantics.specs.Transcript.{Term}
 use Rattle.st_term.specs.TermText.{term_text}
 use Rattle.st_tool.specs.declared.transcript.Ending.{Ending}
 use Rattle.st_tool.specs.declared.transcript.Ending.TheVariants.{Stuck, Fuel}
-use Rattle.st_tool.specs.OrderTexts.{variable_text}
 use Rattle.st_tool.specs.Texts.{depth_text}
 
 -- ---- runs
@@ -69,24 +65,3 @@ chain_text chain = flat_map goal_line chain.goals ++ cut_line chain.at
 -- a search came to this depth, by a chain
 abbrev pub deep_text : ℕ → Chain → List ℕ
 deep_text depth chain = depth_text depth ++ chain_text chain
-
--- ---- refusals
-
--- a mark of a declared relation, and its parts
-abbrev pub unfit_text : Unfit → List ℕ
-unfit_text unfit.U1 = codes "U1"
-unfit_text (unfit.U2 rule premise variable) =
-    codes "U2 " ++ rule ++ codes " " ++ decimal premise ++ codes " " ++ variable_text variable
-unfit_text (unfit.U3 fun) = codes "U3 $" ++ fun
-unfit_text (unfit.U4 relation) = codes "U4 " ++ relation
-
--- a mark, and its parts
-abbrev pub mark_text : Mark → List ℕ
-mark_text U0 = codes "U0"
-mark_text (Unsearchable unfit) = unfit_text unfit
-mark_text U5 = codes "U5"
-
--- a relation has a mark, by which it is not run
-abbrev pub not_runnable_text : Name → Mark → List ℕ
-not_runnable_text relation mark =
-    codes "not runnable " ++ relation ++ codes " " ++ mark_text mark ++ codes "\n"

@@ -16,8 +16,8 @@ use Rattle.st_semantics.specs.Chains.{DeepAt}
 use Rattle.st_semantics.specs.Derivation.{Derivable}
 use Rattle.st_semantics.specs.Goals.{AreInputs}
 use Rattle.st_semantics.specs.Transcript.{Term, IsNext, Transcript}
-use Rattle.st_tool.specs.declared.status.Status.{Status}
-use Rattle.st_tool.specs.declared.status.Status.TheVariants as answer
+use Rattle.st_answers.specs.declared.status.Status.{Status}
+use Rattle.st_answers.specs.declared.status.Status.TheVariants as answer
 use Rattle.st_tool.specs.declared.transcript.Ending.{Ending}
 use Rattle.st_tool.specs.RunTexts.{transcript_text, term_lines, deep_text, outputs_text}
 use Rattle.st_tool.specs.Transcript.{ending_of, status_of}

@@ -16,11 +16,12 @@ use Rattle.st_semantics.specs.Marks.{Mark, HasMark}
 use Rattle.st_semantics.specs.Transcript.{Term}
 use Rattle.st_term.specs.Reading.{IsTerm, IsTermBreach}
 use Rattle.st_tool.specs.Runs.{RunSays, NextSays}
-use Rattle.st_tool.specs.RunTexts.{not_runnable_text}
+use Rattle.st_answers.specs.MarkTexts.{not_runnable_text}
 use Rattle.st_tool.specs.Specification.{IsSpecification, AreRefused}
-use Rattle.st_tool.specs.Texts.{unbuilt_text, refused_term_text}
-use Rattle.st_tool.specs.declared.status.Status.{Status}
-use Rattle.st_tool.specs.declared.status.Status.TheVariants as answer
+use Rattle.st_answers.specs.Unbuilt.{unbuilt_text}
+use Rattle.st_answers.specs.RefusalTexts.{refused_term_text}
+use Rattle.st_answers.specs.declared.status.Status.{Status}
+use Rattle.st_answers.specs.declared.status.Status.TheVariants as answer
 
 -- what is said of a relation from a term
 abbrev pub Says : Type 1

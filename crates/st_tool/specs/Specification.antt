@@ -9,7 +9,7 @@ use Rattle.st_num.specs.declared.token.Token.{Token}
 use Rattle.st_parse.specs.Source.{IsSource}
 use Rattle.st_semantics.specs.Breaches.{KeepModes}
 use Rattle.st_tool.specs.Checking.{AllTokens, nothing, CheckGives}
-use Rattle.st_tool.specs.declared.status.Status.TheVariants as answer
+use Rattle.st_answers.specs.declared.status.Status.TheVariants as answer
 
 -- The files are a specification of these definitions, which have no fault and break no rule, and
 -- are elaborated to this.

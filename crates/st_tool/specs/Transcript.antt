@@ -5,8 +5,8 @@ use Rattle.st_il.specs.declared.value.Value.TheVariants.{Case}
 use Rattle.st_semantics.specs.Names.{Name}
 use Rattle.st_semantics.specs.Transcript as run
 use Rattle.st_semantics.specs.Transcript.{Term, Transcript}
-use Rattle.st_tool.specs.declared.status.Status.{Status}
-use Rattle.st_tool.specs.declared.status.Status.TheVariants as answer
+use Rattle.st_answers.specs.declared.status.Status.{Status}
+use Rattle.st_answers.specs.declared.status.Status.TheVariants as answer
 use Rattle.st_tool.specs.declared.transcript.Ending.{Ending}
 use Rattle.st_tool.specs.declared.transcript.Ending.TheVariants.{Stuck, Fuel}
 

@@ -9,12 +9,9 @@ ghost use Rattle.st_el.specs.declared.definition.Def.{Def as Definition};
 ghost use Rattle.st_tool.specs.Commands.{source_limit};
 ghost use Rattle.st_tool.specs.Texts.{definitions_text};
 
-use crate::Status;
-use crate::answer::Answer;
-use crate::grouping::groups_printed;
-use crate::ordering::orders_printed;
 use crate::specification::{Specification, read_specification};
 use itoa::Buffer;
+use st_answers::{Answer, Status, groups_printed, orders_printed};
 use st_il::Il;
 use st_iltext::print_il;
 use st_num::{NoMemory, Row};

@@ -3,9 +3,8 @@
 ghost use Rattle.std.specs.Prelude.{◌≡◌, ◌++◌, flat_map, IfOk, OnOk};
 ghost use Rattle.st_tool.specs.RunTexts.{goal_line, cut_line, chain_text, deep_text};
 
-use crate::Status;
-use crate::answer::Answer;
 use itoa::Buffer;
+use st_answers::{Answer, Status};
 use st_il::Value;
 use st_num::{Name, NoMemory, Row};
 use st_search::Chain;

@@ -8,9 +8,9 @@ ghost use Rattle.st_tool.specs.inner.Nodes.{rule_node};
 ghost use Rattle.st_tool.specs.Commands.{IsDerivationText};
 ghost use Rattle.st_tool.specs.Transcript.{atom_term, status_of};
 
-use crate::Answer;
 use crate::step::next_rule;
 use crate::transcript::{Ending, FUEL};
+use st_answers::Answer;
 use st_deriv::{Ending as LastLine, Line, NodeLine, print_lines};
 use st_il::{Env, Small, SmallRule, Value};
 use st_num::{Name, NoMemory, Row};

@@ -6,12 +6,11 @@ ghost use Rattle.st_semantics.specs.Breaches.{IsModeBreach};
 ghost use Rattle.st_tool.specs.inner.Printing.{TellsModeFault, BeginWithin};
 ghost use Rattle.st_tool.specs.inner.Specifying.{RefusesSource};
 
-use crate::answer::Answer;
-use crate::refusal::refused_in;
+use st_answers::{Answer, refused_in};
 use st_el::Def;
 use st_elab_def::Elaborated;
-use st_num::{NoMemory, RuleId};
 use st_modes::ModeFault;
+use st_num::{NoMemory, RuleId};
 use st_words::CommandWord;
 use std::alloc::Global;
 

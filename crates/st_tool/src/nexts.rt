@@ -7,11 +7,10 @@ ghost use Rattle.st_tool.specs.Runs.{NextSays};
 ghost use Rattle.st_tool.specs.RunTexts.{output_line, outputs_text};
 ghost use Rattle.st_tool.specs.inner.Searching.{CanSearch, GivesTyped};
 
-use crate::Status;
-use crate::answer::Answer;
 use crate::depth::deep;
 use crate::searching::{Searched, Searching, search};
 use itoa::Buffer;
+use st_answers::{Answer, Status};
 use st_il::Value;
 use st_num::NoMemory;
 use st_search::Output;

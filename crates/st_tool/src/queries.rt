@@ -8,12 +8,10 @@ ghost use Rattle.st_tool.specs.Commands.{source_limit};
 ghost use Rattle.st_tool.specs.Queries.{evaluation_depth, OutcomeGives, QueryGives, EvalGives};
 ghost use Rattle.st_tool.specs.Texts.{depth_text};
 
-use crate::Status;
-use crate::answer::Answer;
 use crate::query::eval;
-use crate::refusal::refused_term;
 use crate::specification::{Specification, read_specification};
 use itoa::Buffer;
+use st_answers::{Answer, Status, refused_term};
 use st_il::{Il, Value};
 use st_num::{Fault, NoMemory, Row};
 use st_semantics::Outcome;

@@ -7,11 +7,11 @@ ghost use Rattle.st_tool.specs.RunTexts.{term_line, ending_line};
 ghost use Rattle.st_tool.specs.Transcript.{status_of};
 ghost use Rattle.st_tool.specs.inner.Searching.{CanSearch, LeadsOn, Tells};
 
-use crate::answer::Answer;
 use crate::depth::deep;
 use crate::searching::{Searching, Step, next_step};
 use crate::transcript::Ending;
 use itoa::Buffer;
+use st_answers::Answer;
 use st_il::Value;
 use st_num::{NoMemory, Row};
 use st_term::print_term;

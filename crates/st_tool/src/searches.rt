@@ -1,27 +1,21 @@
 //! What `run` and `next` say of a relation over the files of a specification, and of a term.
 
 ghost use Rattle.std.specs.Prelude.{◌≡◌, ◌≤◌, ◌<◌, ◌^◌, None, length, All, IfOk};
-ghost use Rattle.st_elab_law.specs.Agreement.{decls_in};
 ghost use Rattle.st_order.specs.Modes.{HasFew};
-ghost use Rattle.st_search.specs.Proper.{IsProper};
-ghost use Rattle.st_search.specs.Searchable.{HasNoOtherwise};
-ghost use Rattle.st_semantics.specs.Definitions.{syntaxes};
 ghost use Rattle.st_semantics.specs.Goals.{AreInputs};
 ghost use Rattle.st_semantics.specs.Marks.{HasMark};
 ghost use Rattle.st_tool.specs.Commands.{source_limit};
 ghost use Rattle.st_tool.specs.Searches.{AreInputTypes, RelationSays, SearchGives, RunGives, NextGives, next_depth};
-ghost use Rattle.st_tool.specs.inner.Asking.{asks_steps, depth_of, asked_says, IsDeclared, TellsTermFault};
+ghost use Rattle.st_tool.specs.inner.Asking.{asks_steps, depth_of, asked_says, CanBeAsked, CanBeSearched, IsDeclared, QuestionSays, TellsTermFault};
 ghost use Rattle.st_tool.specs.inner.Specifying.{IsAccepted};
 
-use crate::answer::{Answer, unbuilt};
-use crate::marking::{mark_of, not_runnable, number_of};
 use crate::needed::needs_otherwise;
 use crate::nexts::next;
-use crate::refusal::refused_term;
 use crate::running::run;
 use crate::searching::Searching;
 use crate::specification::{Specification, read_specification};
 use st_algo::lower;
+use st_answers::{Answer, mark_of, not_runnable, number_of, refused_term, unbuilt};
 use st_elab_def::decls;
 use st_elab_exp::Decls;
 use st_il::{Il, Ty, Value};
@@ -42,6 +36,16 @@ pub enum Asked {
     Next(u32),
     /// A run with so many steps at most, at this depth.
     Run(u32, u32),
+}
+
+/// A relation of a language, which has these declarations and modes, and what is asked of it.
+#[derive(Clone, Copy)]
+pub struct Question<'a> {
+    pub il: &'a Il,
+    pub decls: &'a Decls,
+    pub modes: &'a Modes,
+    pub relation: &'a Name,
+    pub asked: Asked,
 }
 
 /// Whether the relation is to be run from term to term.
@@ -80,37 +84,25 @@ fn types_of_inputs(alloc: Global, il: &Il, relation: &Name) -> Result<Row<Ty>, N
     }
 }
 
-/// Searches a relation from a term.
-fn ask_term(
-    alloc: Global,
-    il: &Il,
-    types: &TypeTable,
-    modes: &Modes,
-    relation: &Name,
-    asked: Asked,
-    term: Row<Value>,
-) -> Result<Answer, NoMemory>
-    requires accepted { IsAccepted il.now modes.now }
-    requires proper { IsProper il.now }
-    requires types { types.now ≡ syntaxes il.now }
-    requires mark { HasMark il.now (asks_steps asked) relation.now None }
-    requires plain { HasNoOtherwise il.now relation.now }
-    requires term { AreInputs il.now relation.now term }
-    requires depth { 1 ≤ depth_of asked }
-    ensures { IfOk result (λ answer. asked_says asked relation.now il.now term answer.status
-        answer.bytes.items) }
+/// Searches the relation from a term.
+fn ask_term(alloc: Global, question: &Question, term: Row<Value>) -> Result<Answer, NoMemory>
+    requires can { CanBeAsked question.now }
+    requires searched { CanBeSearched question.now }
+    requires term { AreInputs question.now.il.now question.now.relation.now term }
+    ensures { IfOk result (λ answer. asked_says question.now.asked question.now.relation.now
+        question.now.il.now term answer.status answer.bytes.items) }
 {
     typed_languages_are_searchable();
     meaning_of_rules();
-    let algos = lower(alloc, il, modes)?;
+    let algos = lower(alloc, question.il, question.modes)?;
     let searching = Searching {
-        il,
-        types,
+        il: question.il,
+        types: &question.decls.types,
         algos: &algos,
-        relation,
-        depth: depth_of(asked),
+        relation: question.relation,
+        depth: depth_of(question.asked),
     };
-    match asked {
+    match question.asked {
         Asked::Next(_) => next(alloc, &searching, term.as_slice()),
         Asked::Run(fuel, _) => run(alloc, &searching, fuel, term),
     }
@@ -127,84 +119,59 @@ fn ask_refused(alloc: Global, fault: Fault) -> Result<Answer, NoMemory>
 }
 
 /// Reads a term, and searches the relation from it.
-fn ask_text(
-    alloc: Global,
-    il: &Il,
-    decls: &Decls,
-    modes: &Modes,
-    relation: &Name,
-    asked: Asked,
-    text: &[u8],
-) -> Result<Answer, NoMemory>
-    requires accepted { IsAccepted il.now modes.now }
-    requires proper { IsProper il.now }
-    requires decls { decls.now ≡ decls_in il.now.defs }
-    requires mark { HasMark il.now (asks_steps asked) relation.now None }
-    requires plain { HasNoOtherwise il.now relation.now }
-    requires depth { 1 ≤ depth_of asked }
+fn ask_text(alloc: Global, question: &Question, text: &[u8]) -> Result<Answer, NoMemory>
+    requires can { CanBeAsked question.now }
+    requires searched { CanBeSearched question.now }
     requires few { length text.now < 2 ^ 32 }
-    ensures { IfOk result (λ answer. RelationSays (asks_steps asked) (asked_says asked relation.now)
-        il.now relation.now text.now answer.status answer.bytes.items) }
+    ensures { IfOk result (λ answer. QuestionSays question.now text.now answer.status
+        answer.bytes.items) }
 {
-    let types = types_of_inputs(alloc, il, relation)?;
-    match typed_term(alloc, decls, types.as_slice(), text) {
-        Ok(term) => ask_term(alloc, il, &decls.types, modes, relation, asked, term),
+    let types = types_of_inputs(alloc, question.il, question.relation)?;
+    match typed_term(alloc, question.decls, types.as_slice(), text) {
+        Ok(term) => ask_term(alloc, question, term),
         Err(fault) => ask_refused(alloc, fault),
     }
 }
 
 /// What is said of a relation without a mark, and of the text of a term.
-fn ask_unmarked(
-    alloc: Global,
-    il: &Il,
-    decls: &Decls,
-    modes: &Modes,
-    relation: &Name,
-    asked: Asked,
-    text: &[u8],
-) -> Result<Answer, NoMemory>
-    requires accepted { IsAccepted il.now modes.now }
-    requires proper { IsProper il.now }
-    requires decls { decls.now ≡ decls_in il.now.defs }
-    requires mark { HasMark il.now (asks_steps asked) relation.now None }
-    requires depth { 1 ≤ depth_of asked }
+fn ask_unmarked(alloc: Global, question: &Question, text: &[u8]) -> Result<Answer, NoMemory>
+    requires can { CanBeAsked question.now }
+    requires mark { HasMark question.now.il.now (asks_steps question.now.asked)
+        question.now.relation.now None }
     requires few { length text.now < 2 ^ 32 }
-    ensures { IfOk result (λ answer. RelationSays (asks_steps asked) (asked_says asked relation.now)
-        il.now relation.now text.now answer.status answer.bytes.items) }
+    ensures { IfOk result (λ answer. QuestionSays question.now text.now answer.status
+        answer.bytes.items) }
 {
-    let needs = needs_otherwise(alloc, il, relation)?;
+    let needs = needs_otherwise(alloc, question.il, question.relation)?;
     if needs {
         return unbuilt(alloc);
     }
-    ask_text(alloc, il, decls, modes, relation, asked, text)
+    ask_text(alloc, question, text)
 }
 
-/// What is said of a relation over an internal language, and of the text of a term.
-fn ask_relation(
-    alloc: Global,
-    il: &Il,
-    decls: &Decls,
-    modes: &Modes,
-    relation: &Name,
-    asked: Asked,
-    text: &[u8],
-) -> Result<Answer, NoMemory>
-    requires accepted { IsAccepted il.now modes.now }
-    requires proper { IsProper il.now }
-    requires decls { decls.now ≡ decls_in il.now.defs }
-    requires depth { 1 ≤ depth_of asked }
+/// What is said of a relation, and of the text of a term.
+fn ask_relation(alloc: Global, question: &Question, text: &[u8]) -> Result<Answer, NoMemory>
+    requires can { CanBeAsked question.now }
     requires few { length text.now < 2 ^ 32 }
-    ensures { IfOk result (λ answer. RelationSays (asks_steps asked) (asked_says asked relation.now)
-        il.now relation.now text.now answer.status answer.bytes.items) }
+    ensures { IfOk result (λ answer. QuestionSays question.now text.now answer.status
+        answer.bytes.items) }
 {
-    let mark = mark_of(alloc, il, &decls.types, modes, relation, asks_steps(asked))?;
+    let mark = mark_of(
+        alloc,
+        question.il,
+        &question.decls.types,
+        question.modes,
+        question.relation,
+        asks_steps(question.asked),
+    )?;
     match mark {
-        Some(mark) => not_runnable(alloc, relation, mark.as_slice()),
-        None => ask_unmarked(alloc, il, decls, modes, relation, asked, text),
+        Some(mark) => not_runnable(alloc, question.relation, mark.as_slice()),
+        None => ask_unmarked(alloc, question, text),
     }
 }
 
-/// The same, of a language whose declarations are not told yet.
+/// What is said of a relation of a language whose declarations are not told yet, and of the text of a
+/// term.
 fn ask_language(
     alloc: Global,
     il: &Il,
@@ -221,7 +188,14 @@ fn ask_language(
 {
     proper(alloc, il)?;
     let decls = decls(alloc, il)?;
-    ask_relation(alloc, il, &decls, modes, relation, asked, text)
+    let question = Question {
+        il,
+        decls: &decls,
+        modes,
+        relation,
+        asked,
+    };
+    ask_relation(alloc, &question, text)
 }
 
 /// What is said of a relation over the files of these names, and of the text of a term.

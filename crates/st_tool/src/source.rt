@@ -8,10 +8,9 @@ ghost use Rattle.st_tool.specs.Checking.{IsOneSmall, IlGives};
 ghost use Rattle.st_tool.specs.Commands.{source_limit, DeriveGives, IsDerivationText, IsAtomText, IsTerm, IsStart};
 ghost use Rattle.st_tool.specs.inner.Starts.{HasNoTerm, HasNoStart};
 
-use crate::Status;
-use crate::answer::{Answer, unbuilt};
 use crate::check::{Printed, answer_files};
 use crate::derivation::derive;
+use st_answers::{Answer, Status, unbuilt};
 use st_il::{Small, il_of_small};
 use st_iltext::print_il;
 use st_num::{Name, NoMemory, Row};

@@ -14,19 +14,21 @@ ghost use Rattle.st_tool.specs.Commands.{source_limit};
 ghost use Rattle.st_tool.specs.inner.Printing.{TellsSourceFault, BreachesWithin, BeginWithin};
 ghost use Rattle.st_tool.specs.inner.Specifying.{RefusesSource, RefusesFiles, SpecifiesSource, Specifies};
 
-use crate::answer::Answer;
 use crate::modes::without_modes;
-use crate::refusal::{NO_DEFINITION, refused, refused_in};
+use st_answers::{Answer, refused, refused_in};
 use st_el::Def;
 use st_elab_def::{Breach, DefFault, Elaborated, elaborate};
 use st_il::Il;
-use st_num::{Fault, NoMemory, Row, Token};
 use st_modes::{has_few, modes};
+use st_num::{Fault, NoMemory, Row, Token};
 use st_order::Modes;
 use st_parse::parse;
 use st_scan::{LexFault, scan};
 use st_words::CommandWord;
 use std::alloc::Global;
+
+/// What stands in place of a definition where none is named.
+const NO_DEFINITION: &[u8] = b"-";
 
 /// A specification that was read.
 #[derive(Drop)]

@@ -4,7 +4,7 @@ ghost use Rattle.std.specs.Prelude.{◌≡◌};
 ghost use Rattle.st_tool.specs.RunTexts.{ending_word};
 ghost use Rattle.st_tool.specs.Transcript.{status_of};
 
-use crate::Status;
+use st_answers::Status;
 
 /// How a run ended.
 #[derive(Clone, Copy)]

@@ -33,10 +33,10 @@ use Rattle.st_elab_table.specs.Rules.{RuleBreach}
 use Rattle.st_elab_table.specs.Rules as rules
 use Rattle.st_elab_table.specs.Clauses.{ClauseParts, mentions_of, ClauseBreach}
 use Rattle.st_elab_table.specs.Clauses as clauses
-use Rattle.st_tool.proofs.breach_places.ExpStands.{ExpStands, ExpsStand, no_exps, exps, CountStands, ExpStands-place, ExpsStand-append}
+use Rattle.st_elab_law.proofs.ExpStands.{ExpStands, ExpsStand, no_exps, exps, CountStands, ExpStands-place, ExpsStand-append}
 use Rattle.st_tool.proofs.breach_places.Definitions.{PremStands, PremNodeStands, of_if, of_goal, of_each, PremsStand, prems, PremStands-place, PremStands-opened}
-use Rattle.st_tool.proofs.breach_places.Fits.{ExpStands-bare, Fits-stands}
-use Rattle.st_tool.proofs.breach_places.Rows.{AnswerStands, QuestionStands, StepStands, asked_stands, each_asked_stands, holes_stand, counted_stands, row_stands}
+use Rattle.st_elab_law.proofs.FillingStands.{ExpStands-bare, Fits-stands}
+use Rattle.st_elab_law.proofs.StepStands.{AnswerStands, QuestionStands, StepStands, asked_stands, each_asked_stands, holes_stand, counted_stands, row_stands}
 use Rattle.st_tool.proofs.breach_places.Mentions.{MentionsStand, MentionsStand-in, occurrences_stand, iterations_stand, first_stands}
 
 module _ (P : Span → Type 0) (D : Decls) where

@@ -43,7 +43,7 @@ use Rattle.st_elab_sig.specs.Signatures.{holes_of}
 use Rattle.st_elab_table.specs.Premises.{node_of}
 use Rattle.st_elab_def.specs.declared.names.Named.{Named}
 use Rattle.st_elab_def.specs.Phases.{names_in}
-use Rattle.st_tool.proofs.breach_places.ExpStands.{ExpStands, ExpsStand, no_exps, CountStands}
+use Rattle.st_elab_law.proofs.ExpStands.{ExpStands, ExpsStand, no_exps, CountStands}
 use Rattle.st_tool.proofs.breach_places.Meaning.{mark_stands, count_stands, ExpStands-meaning, ExpsStand-meanings}
 use Rattle.st_tool.proofs.breach_places.Definitions.{TypStands, TypsStand, NotationStands, PremStands, of_if, of_goal, of_otherwise, of_each, PremsStand, no_prems, prems, BodyStands, DefStands, PremStands-parts, PremStands-at, PremsStand-append}
 

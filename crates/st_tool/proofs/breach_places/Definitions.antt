@@ -18,7 +18,7 @@ use Rattle.st_elab_sig.specs.Signatures.{holes_of}
 use Rattle.st_elab_table.specs.Premises.{place_of, node_of}
 use Rattle.st_elab_def.specs.declared.names.Named.{Named}
 use Rattle.st_elab_def.specs.Phases.{names_in}
-use Rattle.st_tool.proofs.breach_places.ExpStands.{ExpStands, ExpsStand, CountStands}
+use Rattle.st_elab_law.proofs.ExpStands.{ExpStands, ExpsStand, CountStands}
 
 -- ---- types and notations
 

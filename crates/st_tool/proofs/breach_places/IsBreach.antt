@@ -25,7 +25,7 @@ use Rattle.st_elab_def.specs.Breaches.{Fails, FirstBreach, IsBreach, part_of}
 use Rattle.st_elab_def.specs.DeclsOf.{decls_of, type_node, not_node, alternative_of, field_of}
 use Rattle.st_elab_def.specs.Definitions.{Definition, definitions_from, definitions}
 use Rattle.st_elab_def.specs.Phases.{Asked, condition, rule, clause, Placed, names_in, all_declared, on_alias_name, on_bare, on_alternative_at, on_alternative, on_alternatives, on_field, on_fields, alternatives_before, on_parts, on_body_at, on_body, on_signature_at, on_signature, on_declaration, on_content_at, on_content, Question, of_definition, phase, questions}
-use Rattle.st_tool.proofs.breach_places.ExpStands.{ExpStands, ExpsStand}
+use Rattle.st_elab_law.proofs.ExpStands.{ExpStands, ExpsStand}
 use Rattle.st_tool.proofs.breach_places.Definitions.{TypStands, TypsStand, NotationStands, PremsStand, BodyStands, DefNodeStands, DefStands}
 use Rattle.st_tool.proofs.breach_places.Breaches.{RuleBreach-stands, ClauseBreach-stands}
 

@@ -28,7 +28,7 @@ use Rattle.st_el.specs.Plain.{nowhere}
 use Rattle.st_parse.proofs.Standing.{Stand, first, last}
 use Rattle.st_parse_builder.specs.Names.{name_of, number_of, literal_node, leaf_node}
 use Rattle.st_parse_builder.specs.Meaning.{exp, place, first_place, nothing, joined, is_tilde, prefixed, opened, is_atom, atom_name, dotted, iterated, is_star, is_plus, mark_count, posted, count_of, only, in_parens, step_at, indexed, is_extension, changed, meaning, led_by, meanings, field_meanings, bracketed, base, steps as steps_of}
-use Rattle.st_tool.proofs.breach_places.ExpStands.{ExpStands, of_name, of_atom, of_bool, of_number, of_text, of_eps, of_seq, of_infix, of_binary, of_not, of_neg, of_arith, of_paren, of_bracket, of_tuple, of_fields, of_dot, of_at, of_slice, of_update, of_extend, of_len, of_call, of_iter, ExpsStand, no_exps, exps, FieldsStand, no_fields, fields, SegsStand, no_steps, steps, SegStands, at_field, at_position, at_slice, CountStands, by_star, by_plus, by_quest, by_times, by_below, ExpStands-place, ExpStands-at, ExpsStand-append, FieldsStand-append, SegsStand-append}
+use Rattle.st_elab_law.proofs.ExpStands.{ExpStands, of_name, of_atom, of_bool, of_number, of_text, of_eps, of_seq, of_infix, of_binary, of_not, of_neg, of_arith, of_paren, of_bracket, of_tuple, of_fields, of_dot, of_at, of_slice, of_update, of_extend, of_len, of_call, of_iter, ExpsStand, no_exps, exps, FieldsStand, no_fields, fields, SegsStand, no_steps, steps, SegStands, at_field, at_position, at_slice, CountStands, by_star, by_plus, by_quest, by_times, by_below, ExpStands-place, ExpStands-at, ExpsStand-append, FieldsStand-append, SegsStand-append}
 
 module _ (P : Span → Type 0) (unplaced : P nowhere) where
   -- ---- nodes

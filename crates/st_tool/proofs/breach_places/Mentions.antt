@@ -24,7 +24,7 @@ use Rattle.st_elab_table.specs.Forms.{place}
 use Rattle.st_notation.specs.Elements.{opened}
 use Rattle.st_elab_table.specs.Premises.{place_of, node_of}
 use Rattle.st_parse.proofs.Standing.{both}
-use Rattle.st_tool.proofs.breach_places.ExpStands.{ExpStands, stands, NodeStands, of_name, of_atom, of_bool, of_number, of_text, of_eps, of_seq, of_infix, of_binary, of_not, of_neg, of_arith, of_paren, of_bracket, of_tuple, of_fields, of_dot, of_at, of_slice, of_update, of_extend, of_len, of_call, of_iter, ExpsStand, no_exps, exps, FieldsStand, no_fields, fields, SegsStand, no_steps, steps, SegStands, at_field, at_position, at_slice, CountStands, by_star, by_plus, by_quest, by_times, by_below}
+use Rattle.st_elab_law.proofs.ExpStands.{ExpStands, stands, NodeStands, of_name, of_atom, of_bool, of_number, of_text, of_eps, of_seq, of_infix, of_binary, of_not, of_neg, of_arith, of_paren, of_bracket, of_tuple, of_fields, of_dot, of_at, of_slice, of_update, of_extend, of_len, of_call, of_iter, ExpsStand, no_exps, exps, FieldsStand, no_fields, fields, SegsStand, no_steps, steps, SegStands, at_field, at_position, at_slice, CountStands, by_star, by_plus, by_quest, by_times, by_below}
 use Rattle.st_tool.proofs.breach_places.Definitions.{PremStands, prem_stands, PremNodeStands, of_if, of_goal, of_otherwise, of_each, PremsStand, no_prems, prems}
 
 -- ---- levels

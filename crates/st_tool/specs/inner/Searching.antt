@@ -13,8 +13,8 @@ use Rattle.st_tool.specs.declared.searching.Searched.TheVariants as searched
 use Rattle.st_tool.specs.declared.searching.Searching.{Searching}
 use Rattle.st_tool.specs.declared.searching.Step.{Step}
 use Rattle.st_tool.specs.declared.searching.Step.TheVariants as step
-use Rattle.st_tool.specs.declared.status.Status.{Status}
-use Rattle.st_tool.specs.declared.status.Status.TheVariants as answer
+use Rattle.st_answers.specs.declared.status.Status.{Status}
+use Rattle.st_answers.specs.declared.status.Status.TheVariants as answer
 use Rattle.st_tool.specs.declared.transcript.Ending.TheVariants.{Stuck, Fuel}
 use Rattle.st_tool.specs.Runs.{IsShallow, Reaches, AreOutputsOf}
 use Rattle.st_tool.specs.RunTexts.{ending_line, term_lines, deep_text}

@@ -11,11 +11,11 @@ use Rattle.st_order.specs.declared.relation_modes.Modes.{Modes}
 use Rattle.st_semantics.specs.Breaches.{KeepModes}
 use Rattle.st_tool.specs.Checking.{SourceGives, FilesGive}
 use Rattle.st_tool.specs.Specification.{IsSpecification}
-use Rattle.st_tool.specs.declared.answer.Answer.{Answer}
+use Rattle.st_answers.specs.declared.answer.Answer.{Answer}
 use Rattle.st_tool.specs.declared.check.Printed.{Printed}
 use Rattle.st_tool.specs.declared.specification.Specification.{Specification}
 use Rattle.st_tool.specs.declared.specification.Specification.TheVariants.{Accepted, Refused}
-use Rattle.st_tool.specs.declared.status.Status.TheVariants as answer
+use Rattle.st_answers.specs.declared.status.Status.TheVariants as answer
 
 -- an internal language that breaks no rule, and its modes
 pub record IsAccepted (il : Il) (modes : Modes) : Type 0 where

@@ -4,7 +4,8 @@ use Rattle.st_il.specs.declared.definition.RelationDef.{RelationDef}
 use Rattle.std.proofs.lemmas.Result.{IfOk-weaker}
 use Rattle.st_order.specs.Known.{all_now}
 use Rattle.st_semantics.specs.Directions.{mask}
-use Rattle.st_tool.proofs.MarkLemmas.{is_within, not_declared, are_types, few_at}
+use Rattle.st_answers.proofs.MarkLemmas.{is_within, few_at}
+use Rattle.st_tool.proofs.InputTypes.{not_declared, are_types}
 use Rattle.st_tool.proofs.searches.types_of_inputs.Goals as goal
 
 pub bounds-relations-number : goal.bounds-relations-number

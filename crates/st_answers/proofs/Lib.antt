@@ -1,0 +1,4 @@
+pub mod Refusals
+pub mod OrderLines
+pub mod MarkLemmas
+pub mod Verifications

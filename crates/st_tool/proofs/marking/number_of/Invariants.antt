@@ -1,5 +1,0 @@
-use Rattle.st_tool.proofs.MarkLemmas.{NoneNamedBefore}
-use Rattle.st_tool.proofs.marking.number_of.Given as goal
-
-abbrev pub invariant-loop-i : goal.invariant-loop-i
-invariant-loop-i l = NoneNamedBefore l.relations l.name l.i

@@ -1,6 +1,0 @@
-use Rattle.std.proofs.Common.{◌≡◌, ◌++◌, take}
-use Rattle.st_tool.specs.OrderTexts.{numbers_text}
-use Rattle.st_tool.proofs.ordering.add_numbers.Given as goal
-
-abbrev pub invariant-loop-number : goal.invariant-loop-number
-invariant-loop-number l = l.bytes.items ≡ l.initial.bytes.items ++ numbers_text (take l.number-index l.numbers)

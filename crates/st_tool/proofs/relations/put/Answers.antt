@@ -1,5 +1,0 @@
-use Rattle.st_type_table.proofs.InsertionLemmas.{under-insert}
-use Rattle.st_tool.proofs.relations.put.Goals as goal
-
-pub returns-clause-more : goal.returns-clause-more
-returns-clause-more g c = under-insert c.args.map.now.entries c.insert.new.self.entries c.args.name c.args.value c.in_ok-insert.ensures.entries
