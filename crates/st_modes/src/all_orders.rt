@@ -9,13 +9,12 @@ ghost use Rattle.st_order.specs.Known.{AreDirections, all_now};
 ghost use Rattle.st_modes.specs.inner.Needs.{IsIndexed};
 ghost use Rattle.st_modes.specs.inner.Orders.{AreOrders, IsOrdered, HasOrders, no_order, first_mark};
 
-use st_order::directions::is_directed;
-use st_order::index::at;
 use crate::indexed::Indexed;
-use st_order::Directions;
-use st_order::{full_name, order_by};
 use st_il::{RelationDef, RuleDef};
 use st_num::{NoMemory, Row};
+use st_order::directions::is_directed;
+use st_order::index::at;
+use st_order::{Directions, full_name, order_by};
 use st_semantics::{Unfit, Unordered};
 use std::alloc::Global;
 

@@ -10,12 +10,12 @@ ghost use Rattle.st_modes.specs.inner.Relations.{AreRelations};
 ghost use Rattle.st_modes.specs.inner.Breaches.{AreDecided, IsLeast, IsFound, IsBreachAnswer, earlier};
 
 use crate::clause_modes::clause_breach;
-use st_order::index::add;
 use crate::relations::{Relations, known_relations};
 use crate::rule_modes::{have_otherwise, rule_breach};
 use indexmap::IndexSet;
 use st_il::{Il, IlDef};
 use st_num::{Name, NoMemory, RuleId};
+use st_order::index::add;
 use std::alloc::Global;
 
 /// A definition that breaks a rule, by its number, and the least that it breaks.

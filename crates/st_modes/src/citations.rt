@@ -10,11 +10,11 @@ ghost use Rattle.st_modes.specs.inner.Reaching.{cited_under};
 ghost use Rattle.st_modes.specs.inner.Citations.{HasRead, rules_under, relations_in_rule};
 
 use crate::citing::{push_clause_functions, push_relations, push_rule_functions};
-use st_order::index::{exchange, put};
 use crate::reaching::Cited;
 use indexmap::IndexMap;
 use st_il::{ClauseDef, FunDef, Il, IlDef, RuleDef};
 use st_num::{Name, NoMemory, Row};
+use st_order::index::{exchange, put};
 use std::alloc::Global;
 
 /// The rules of relations.

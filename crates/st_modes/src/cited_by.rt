@@ -9,11 +9,11 @@ ghost use Rattle.st_modes.specs.inner.CitedBy.{AreCiting, AreCalling};
 
 use crate::citations::row_of;
 use crate::citing::{push_clause_functions, push_relations};
-use st_order::index::{exchange, put};
 use crate::reaching::Cited;
 use indexmap::IndexMap;
 use st_il::IlDef;
 use st_num::{Name, NoMemory, Row};
+use st_order::index::{exchange, put};
 use std::alloc::Global;
 
 /// Adds a name to those under another one.

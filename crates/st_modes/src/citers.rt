@@ -5,10 +5,10 @@ ghost use Rattle.st_il.specs.declared.definition.IlDef.{IlDef};
 ghost use Rattle.st_semantics.specs.ModeRules.{Relation, Function};
 ghost use Rattle.st_modes.specs.inner.Circles.{citer_of, number_of, number_of_owner, count_of, knows, KnowsAll};
 
-use st_order::index::{add, number_in};
 use indexmap::IndexSet;
 use st_il::IlDef;
 use st_num::{Name, NoMemory};
+use st_order::index::{add, number_in};
 use std::alloc::Global;
 
 /// The relations that have rules, and the functions that have clauses.

@@ -13,17 +13,17 @@ ghost use Rattle.st_order.specs.inner.Index.{names_in};
 ghost use Rattle.st_order.specs.Known.{AreDirections};
 ghost use Rattle.st_modes.specs.inner.Breaches.{clause_breach};
 
-use st_order::bindings::push_all_bound;
-use st_order::class::{class_of, is_bound};
-use st_order::index::{are_known, set_of};
-use st_order::Directions;
 use crate::one_open::patterns_have_one_open;
 use crate::open_parts::is_doubly_open;
 use crate::rule_modes::cite_nothing;
-use st_order::selection::add_variables;
-use st_order::variables::{push_all_vars, push_prems_vars};
 use st_il::{ClauseDef, IlExp, IlPrem};
 use st_num::{Name, NoMemory, Row, RuleId};
+use st_order::Directions;
+use st_order::bindings::push_all_bound;
+use st_order::class::{class_of, is_bound};
+use st_order::index::{are_known, set_of};
+use st_order::selection::add_variables;
+use st_order::variables::{push_all_vars, push_prems_vars};
 use st_semantics::is_pattern;
 use std::alloc::Global;
 

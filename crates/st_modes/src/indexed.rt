@@ -13,12 +13,12 @@ ghost use Rattle.st_modes.specs.inner.Targets.{IsLeastOf, least_first};
 
 use crate::citations::{Citations, citations_of};
 use crate::cited_by::calling_functions;
-use st_order::index::at;
-use st_order::{Directions, directions_of};
 use crate::reaching::Cited;
 use crate::targets::{Firsts, first_targets};
 use st_il::{FunDef, Il, IlDef};
 use st_num::{Name, NoMemory, Row};
+use st_order::index::at;
+use st_order::{Directions, directions_of};
 use std::alloc::Global;
 
 /// An internal language, with its directions, what its rules and clauses cite, the functions that

@@ -13,10 +13,9 @@ ghost use Rattle.st_modes.specs.inner.Marking.{IsOwn, HasItsOwn, relations_told,
 use crate::all_orders::{Ordered, orders_of};
 use crate::indexed::{Indexed, index_il};
 use crate::needs::{Marked, mark_by_functions, mark_by_relations, marked_of};
-use st_order::Modes;
-use st_order::relations_of;
 use st_il::{Il, RelationDef};
 use st_num::{Name, NoMemory, Row};
+use st_order::{Modes, relations_of};
 use st_semantics::Unfit;
 use std::alloc::Global;
 

@@ -8,8 +8,8 @@ ghost use Rattle.st_modes.specs.inner.Few.{HasFewPremises};
 use crate::breaches::{ModeBreach, mode_breach};
 use crate::fault::ModeFault;
 use crate::marking::relation_marks;
-use st_order::Modes;
 use st_il::{Il, IlDef};
+use st_order::Modes;
 use std::alloc::Global;
 
 /// Whether there are fewer than 2^32.

@@ -11,13 +11,13 @@ ghost use Rattle.st_modes.specs.inner.Sifted.{Sifted};
 ghost use Rattle.st_modes.specs.inner.Needs.{IsIndexed, LacksFunction, NeedsMarked, AreMarked, is_other_in};
 
 use crate::cited_by::citing_relations;
-use st_order::index::has;
 use crate::indexed::Indexed;
 use crate::reaching::reached;
 use crate::targets::{Firsts, first_targets, first_under};
 use indexmap::IndexSet;
 use st_il::{FunDef, RelationDef};
 use st_num::{Name, NoMemory, Row};
+use st_order::index::has;
 use st_semantics::Unfit;
 use std::alloc::Global;
 

@@ -6,13 +6,13 @@ ghost use Rattle.st_semantics.specs.Executable.{class_of_sides, class_of_conditi
 ghost use Rattle.st_semantics.specs.ModeRules.{has_one_open, patterns_have_one_open};
 ghost use Rattle.st_order.specs.inner.Index.{names_in};
 
-use st_order::class::{inside_each, is_bound, is_matched};
-use st_order::index::set_of;
 use crate::open_parts::is_doubly_open;
-use st_order::selection::add_variables;
 use indexmap::IndexSet;
 use st_il::{IlExp, IlPrem};
 use st_num::{Name, NoMemory};
+use st_order::class::{inside_each, is_bound, is_matched};
+use st_order::index::set_of;
+use st_order::selection::add_variables;
 use std::alloc::Global;
 
 /// Whether an equation of these sides, one of which is unbound, has a pattern like that, or is

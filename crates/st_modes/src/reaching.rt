@@ -4,9 +4,9 @@ ghost use Rattle.std.specs.Prelude.{◌≡◌, ◌<◌, ◌∷◌, [], Some, len
 ghost use Rattle.st_order.specs.inner.Index.{names_in};
 ghost use Rattle.st_modes.specs.inner.Reaching.{cited_under, AreReached, Grows};
 
-use st_order::index::at;
 use indexmap::{IndexMap, IndexSet};
 use st_num::{Name, NoMemory, Row};
+use st_order::index::at;
 use std::alloc::Global;
 
 /// The names that stand under names.

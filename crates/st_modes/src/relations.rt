@@ -6,12 +6,12 @@ ghost use Rattle.st_order.specs.Known.{at};
 ghost use Rattle.st_modes.specs.inner.Relations.{directed_behind, AreDirected, AreRelations, is_directed};
 
 use crate::circles::{Circles, circles_of};
-use st_order::directions::is_directed;
-use st_order::index::{at, put};
-use st_order::{Directions, directions_of};
 use indexmap::IndexMap;
 use st_il::{Il, IlDef};
 use st_num::{Name, NoMemory};
+use st_order::directions::is_directed;
+use st_order::index::{at, put};
+use st_order::{Directions, directions_of};
 use std::alloc::Global;
 
 /// Puts under the name of a relation whether it has a direction.

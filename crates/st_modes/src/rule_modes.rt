@@ -8,11 +8,11 @@ ghost use Rattle.st_order.specs.inner.Index.{names_in};
 ghost use Rattle.st_modes.specs.inner.Breaches.{breaks_m1, breaks_m2, breaks_m5, rule_breach};
 
 use crate::circles::is_circular;
-use st_order::index::has;
 use crate::relations::{Relations, has_direction};
 use indexmap::IndexSet;
 use st_il::{IlPrem, RuleDef};
 use st_num::{Name, RuleId};
+use st_order::index::has;
 
 /// Whether a premise cites a relation.
 fn cites(prem: &IlPrem) -> bool

@@ -11,10 +11,10 @@ ghost use Rattle.st_order.specs.inner.Index.{names_in};
 ghost use Rattle.st_modes.specs.inner.Reaching.{cited_under};
 ghost use Rattle.st_modes.specs.inner.Targets.{IsClosed, Spreads, or_number, HasFirst, AreFirst, lesser, least_first};
 
-use st_order::index::{at, put};
 use crate::reaching::{Cited, grow_by, grow_under, name_at};
 use indexmap::{IndexMap, IndexSet};
 use st_num::{Name, NoMemory};
+use st_order::index::{at, put};
 use std::alloc::Global;
 
 /// For names that lead to targets the number of the first one.

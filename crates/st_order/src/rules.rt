@@ -64,11 +64,7 @@ fn push_rule<'a>(
 }
 
 /// The rules of the relation of a name, in order.
-pub fn rules_of<'a>(
-    alloc: Global,
-    il: &'a Il,
-    name: &Name,
-) -> Result<Row<&'a RuleDef>, NoMemory>
+pub fn rules_of<'a>(alloc: Global, il: &'a Il, name: &Name) -> Result<Row<&'a RuleDef>, NoMemory>
     ensures { IfOk result (λ row. all_now row ≡ rules_of il.now name.now) }
 {
     let defs = il.defs.as_slice();
