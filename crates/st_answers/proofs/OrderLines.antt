@@ -1,8 +1,9 @@
 -- The lines of the orders of rules.
 use Rattle.std.proofs.Common.{◌≡◌, ◌≢◌, refl, sym, ◌∙◌, ap, subst, ℕ, zero, suc, ◌+◌, ◌<◌, ◌≤◌, ◌^◌, Bool, true, false, true≢false, if◌then◌else◌, List, [], ◌∷◌, ◌++◌, length, map, take, get_or, append_assoc, append-nil, add-one, bytes_eq, codes, arith}
-use Rattle.std.specs.Prelude.{Option, Some, None, Result, Ok, Err, flat_map, option_and_then}
+use Rattle.std.specs.Prelude.{Option, Some, None, Result, Ok, Err, flat_map, option_and_then, unwrap_or}
 use Rattle.std.specs.Borrow.{Bor}
 use Rattle.std.specs.List.{AllZip}
+use Rattle.std.specs.Option.{option_copied}
 use Rattle.std.specs.Result.{result_ok}
 use Rattle.std.proofs.Math.Seq.{take-suc}
 use Rattle.std.proofs.lemmas.Grind.{flat_map-append}
@@ -15,7 +16,8 @@ use Rattle.st_il.specs.declared.definition.RelationDef.{RelationDef}
 use Rattle.st_il.specs.declared.definition.RuleDef.{RuleDef}
 use Rattle.st_order.specs.declared.relation_modes.Modes.{Modes}
 use Rattle.st_order.specs.Modes.{HasFew, AreModes, orders_in}
-use Rattle.st_order.specs.Known.{all_now}
+use Rattle.st_modes.specs.inner.Citations.{rules_under}
+use Rattle.st_order.specs.Known.{all_now, at}
 use Rattle.st_semantics.specs.declared.unfit.Unfit.{Unfit}
 use Rattle.st_semantics.specs.declared.unfit.Unfit.TheVariants as unfit
 use Rattle.st_semantics.specs.declared.unfit.Unordered.{Unordered}
@@ -176,6 +178,17 @@ pub one_more_now : {A : Type 0} (f : A → List ℕ) (rs : List (Bor A)) (k : �
     → new ≡ now ++ f r.now → new ≡ old ++ flat_map f (take (k + 1) (all_now rs))
 one_more_now f rs k r old now new within is so_far added =
     let there : k < length (all_now rs) = omega (arith, within, now_long rs) in one_more f (all_now rs) k r.now old now new there (now_at rs k r r is) so_far added
+
+-- ---- rules that stand under a name
+
+pub found_rules : (entries : List (Bor Name × List (Bor RuleDef))) (name : Name) (found : Option (Bor (List (Bor RuleDef)))) (rules : Bor (List (Bor RuleDef))) (slice : List (Bor RuleDef))
+    → option_copied found ≡ at entries name → found ≡ Some rules → slice ≡ rules.now → rules_under entries name ≡ all_now slice
+found_rules entries name found rules slice at_is is same = ap (λ o. all_now (unwrap_or o [])) (sym at_is ∙ ap option_copied is) ∙ ap all_now (sym same)
+
+pub none_found : (f : RuleDef → List ℕ) (entries : List (Bor Name × List (Bor RuleDef))) (name : Name) (found : Option (Bor (List (Bor RuleDef)))) (bytes : List ℕ)
+    → option_copied found ≡ at entries name → found ≡ None → bytes ≡ bytes ++ flat_map f (rules_under entries name)
+none_found f entries name found bytes at_is is =
+    sym (append-nil bytes) ∙ ap (λ o. bytes ++ flat_map f (all_now (unwrap_or o []))) (sym (ap option_copied is) ∙ at_is)
 
 -- ---- marks and relations side by side
 

@@ -14,7 +14,6 @@ mod grouping;
 mod marking;
 mod ordering;
 mod refusal;
-mod relations;
 mod status;
 mod verification;
 
@@ -23,6 +22,5 @@ pub use grouping::groups_printed;
 pub use marking::{mark_of, not_runnable, number_of};
 pub use ordering::orders_printed;
 pub use refusal::{refused, refused_in, refused_term};
-pub use relations::rules_under;
 pub use status::Status;
 pub use verification::verify_files;

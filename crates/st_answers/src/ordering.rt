@@ -1,20 +1,21 @@
 //! The text of the orders in which the premises of rules are run.
 
 ghost use Rattle.std.specs.Prelude.{◌≡◌, ◌≢◌, ◌<◌, ◌^◌, ◌++◌, codes, decimal, map, flat_map, length, Some, Err, IfOk, OnOk, MatchBool};
+ghost use Rattle.st_modes.specs.inner.Citations.{rules_under};
 ghost use Rattle.st_order.specs.Modes.{HasFew, AreModes, orders_in};
 ghost use Rattle.st_order.specs.Known.{AreDirections, all_now};
-ghost use Rattle.st_semantics.specs.Definitions.{relations, rules_of};
+ghost use Rattle.st_semantics.specs.Definitions.{relations};
 ghost use Rattle.st_semantics.specs.Marks.{HasUnfit, full_name};
 ghost use Rattle.st_semantics.specs.OrderOf.{order_of};
 ghost use Rattle.st_answers.specs.OrderTexts.{numbers_text, variable_text, order_text, rule_line, relation_lines, orders_text};
 ghost use Rattle.st_answers.specs.inner.Relations.{AreRules, HaveFew, order_of_rule};
 
 use crate::refusal::push_rule_part;
-use crate::relations::rules_under;
 use itoa::Buffer;
 use st_il::{Il, RelationDef, RuleDef};
 use st_modes::{Rules, citations_of};
 use st_num::{Name, NoMemory, Row};
+use st_order::index::at;
 use st_order::{Directions, Modes, directions_of, order_by, relations_of};
 use st_semantics::{Unfit, Unordered};
 use std::alloc::Global;
@@ -151,6 +152,28 @@ fn add_rules(
     Ok(())
 }
 
+/// Adds the lines of the rules of the relation of this name, which have these orders.
+fn add_rules_under(
+    alloc: Global,
+    directions: &Directions,
+    rules: &Rules,
+    name: &Name,
+    orders: &[Option<Row<u32>>],
+    bytes: &mut Vec<u8>,
+) -> Result<(), NoMemory>
+    requires directions { AreDirections directions.now }
+    requires few { HaveFew (rules_under rules.now.entries name.now) }
+    requires orders { orders.now
+        ≡ map (order_of_rule directions.now.il.now) (rules_under rules.now.entries name.now) }
+    ensures { OnOk result (bytes.new.items ≡ bytes.old.items
+        ++ flat_map (rule_line directions.now.il.now) (rules_under rules.now.entries name.now)) }
+{
+    match at(rules, name) {
+        Some(found) => add_rules(alloc, directions, found.as_slice(), orders, bytes),
+        None => Ok(()),
+    }
+}
+
 /// Whether the mark of a relation says that it has no direction.
 fn is_undirected(mark: &Option<Unfit>) -> bool
     ensures { MatchBool result (mark.now ≡ Some Unfit.U1) (mark.now ≢ Some Unfit.U1) }
@@ -161,20 +184,20 @@ fn is_undirected(mark: &Option<Unfit>) -> bool
     }
 }
 
-/// Adds the lines of a relation that has this mark, and these rules with their orders.
+/// Adds the lines of a relation that has this mark, and whose rules have these orders.
 fn add_relation(
     alloc: Global,
     directions: &Directions,
     relation: &RelationDef,
     mark: &Option<Unfit>,
-    rules: &[&RuleDef],
+    rules: &Rules,
     orders: &[Option<Row<u32>>],
     bytes: &mut Vec<u8>,
 ) -> Result<(), NoMemory>
     requires directions { AreDirections directions.now }
     requires few { HasFew directions.now.il.now }
     requires mark { HasUnfit directions.now.il.now relation.now mark.now }
-    requires rules { all_now rules.now ≡ rules_of directions.now.il.now relation.now.name }
+    requires rules { AreRules directions.now.il.now rules.now.entries }
     requires orders { orders.now ≡ orders_in directions.now.il.now relation.now }
     ensures { OnOk result (bytes.new.items
         ≡ bytes.old.items ++ relation_lines directions.now.il.now relation.now) }
@@ -185,7 +208,7 @@ fn add_relation(
         return Ok(());
     }
     bytes.extend_from_slice(b" directed\n")?;
-    add_rules(alloc, directions, rules, orders, bytes)?;
+    add_rules_under(alloc, directions, rules, &relation.name, orders, bytes)?;
     Ok(())
 }
 
@@ -209,10 +232,9 @@ fn add_relations(
     let marks = modes.marks.as_slice();
     let orders = modes.orders.as_slice();
     for (number, relation) in declared.iter().enumerate() {
-        let its = rules_under(&*rules, &relation.name);
         let mark = &marks[number];
         let orders = orders[number].as_slice();
-        add_relation(alloc, directions, *relation, mark, its, orders, bytes)?;
+        add_relation(alloc, directions, *relation, mark, rules, orders, bytes)?;
     }
     Ok(())
 }

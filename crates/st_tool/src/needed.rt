@@ -7,10 +7,10 @@ ghost use Rattle.st_order.specs.inner.Index.{names_in};
 ghost use Rattle.st_search.specs.Searchable.{HasNoOtherwise};
 ghost use Rattle.st_tool.specs.inner.Needing.{has_otherwise_under, some_has_otherwise};
 
-use st_answers::rules_under;
 use st_il::{Il, RuleDef};
 use st_modes::{Rules, citations_of, have_otherwise, reached};
 use st_num::{Name, NoMemory};
+use st_order::index::at;
 use std::alloc::Global;
 
 /// Whether one of these rules has an `otherwise`.
@@ -29,7 +29,10 @@ fn some_has_otherwise(rules: &[&RuleDef]) -> bool
 fn has_otherwise_under(rules: &Rules, name: &Name) -> bool
     ensures { result ≡ has_otherwise_under rules.now.entries name.now }
 {
-    some_has_otherwise(rules_under(rules, name))
+    match at(rules, name) {
+        Some(found) => some_has_otherwise(found.as_slice()),
+        None => false,
+    }
 }
 
 /// Whether a rule of one of the relations of these names has an `otherwise`.

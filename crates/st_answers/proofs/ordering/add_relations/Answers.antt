@@ -25,7 +25,7 @@ add_relation-requires c = record {
   few = c.requires.few;
   mark = mark_at c.args.directions.now.il.now c.args.declared.now c.args.modes.now c.requires.modes c.requires.declared c.loop-number.number c.loop-number-test.true c.as_slice-marks.result.now
       c.index-declared-number.result c.index-marks-number.result c.as_slice-marks.ensures c.index-declared-number.is c.index-marks-number.is;
-  rules = c.rules_under-its.ensures ∙ c.requires.rules c.index-declared-number.result.now.name;
+  rules = c.requires.rules;
   orders = c.as_slice-orders-in-loop-number.ensures
       ∙ orders_at c.args.directions.now.il.now c.args.declared.now c.args.modes.now c.requires.modes c.requires.declared c.loop-number.number c.loop-number-test.true c.as_slice-orders.result.now
       c.index-declared-number.result c.index-orders-number.result c.as_slice-orders.ensures c.index-declared-number.is c.index-orders-number.is;
