@@ -5,6 +5,8 @@ use Rattle.st_deriv.specs.LineText.{LinesText}
 use Rattle.st_il.specs.declared.small.Small.{Small}
 use Rattle.st_il.specs.Small.{il_of, IsSmallIl}
 use Rattle.st_answers.specs.declared.status.Status.{Status}
+use Rattle.st_answers.specs.Unbuilt.{IsUnbuilt}
+use Rattle.st_answers.specs.Verification.{VerifyGives, text_limit}
 use Rattle.st_tool.specs.declared.transcript.Ending.{Ending}
 use Rattle.st_tool.specs.Checking.{CheckGives, IlGives, GroupsGive, OrdersGive}
 use Rattle.st_tool.specs.Derivation.{IsDerivation}

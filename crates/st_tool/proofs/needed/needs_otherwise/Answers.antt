@@ -13,4 +13,4 @@ pub returns : goal.returns
 returns c =
     needed_have c.args.il.now c.args.relation.now c.in_ok-citations.citations c.in_ok-citations.ensures c.one_has_otherwise.result (names_in c.in_ok-needed.needed.keys)
     (sym c.has_otherwise_under.ensures ∙ c.if-has_otherwise_under.false) c.in_ok-needed.ensures
-    (c.one_has_otherwise.ensures ∙ ap (λ ks. list_any (has_otherwise_under c.in_ok-citations.citations.rules.entries) (names_in ks)) c.as_slice.ensures)
+    (c.one_has_otherwise.ensures ∙ ap (λ ks. list_any (has_otherwise_under c.in_ok-citations.citations.rules.entries) (names_in ks)) c.as_slice.ensures.keys)
