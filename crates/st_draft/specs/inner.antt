@@ -2,5 +2,6 @@
 pub mod Drafts
 pub mod Parts
 pub mod Heights
+pub mod Ready
 pub mod Changes
 pub mod Work

@@ -7,19 +7,18 @@ ghost use Rattle.st_draft.specs.inner.Drafts as drafts;
 ghost use Rattle.st_draft.specs.inner.Heights.{IsLow};
 ghost use Rattle.st_draft.specs.inner.Parts as spec;
 
-use crate::change::{Change, DefinitionEnd};
+use crate::change::Change;
 use crate::definition::turn;
 use crate::draft::Draft;
 use crate::head::{begin_hint, end_hint, put_id, put_name, put_word};
-use crate::listener::Listener;
 use crate::members::{put_dots, put_label};
-use crate::parts::{PartToken, build_patterns, build_types, fill};
+use crate::parts::{build_patterns, build_types};
 use crate::premise::{
     begin_premise, put_each, put_goal, put_if, put_otherwise, put_parenthesis, shape_count,
 };
 use crate::sides::{put_args, put_params};
 use st_num::{NoMemory, Row, Span, Token};
-use st_parse_automaton::{Shape, Slot};
+use st_parse_automaton::Shape;
 use st_parse_builder::{Action, BuildFault};
 use std::alloc::Global;
 
@@ -100,7 +99,7 @@ fn take_args(
 }
 
 /// What a change makes of a draft and the arguments.
-fn redraft(
+pub fn redraft(
     alloc: Global,
     change: Change,
     shape: Shape,
@@ -121,38 +120,5 @@ fn redraft(
             apply(alloc, change, shape, token, draft)?;
             Ok(())
         }
-    }
-}
-
-impl<'a> Listener<'a> for Draft {
-    ghost Draws = { λ kept draft. kept ≡ draft };
-
-    ghost Low = { IsLow };
-
-    fn redraft(
-        &mut self,
-        alloc: Global,
-        change: Change,
-        shape: Shape,
-        token: &'a Token,
-        arguments: &[Row<Action<'a>>],
-    ) -> Result<(), BuildFault> {
-        redraft(alloc, change, shape, token, self, arguments)
-    }
-
-    fn fill(
-        &mut self,
-        alloc: Global,
-        slot: Slot,
-        around: usize,
-        actions: &[Action<'a>],
-        words: &[PartToken<'a>],
-    ) -> Result<(), BuildFault> {
-        fill(alloc, slot, around, actions, words, self)
-    }
-
-    fn end(&mut self, alloc: Global, ending: DefinitionEnd) -> Result<(), BuildFault> {
-        turn(alloc, ending, self, Span::NOWHERE)?;
-        Ok(())
     }
 }

@@ -85,7 +85,7 @@ fn host_ending(host: Host) -> DefinitionEnd
 }
 
 /// What ends where a next definition may begin.
-pub(crate) fn ending_of(position: Position) -> DefinitionEnd
+pub fn ending_of(position: Position) -> DefinitionEnd
     ensures { result ≡ spec.ending_of position }
 {
     match position {
@@ -226,7 +226,7 @@ fn change_into(before: Position, slot: Slot) -> Change
 }
 
 /// What a token changes that leads from this position there.
-pub(crate) fn change_of(before: Position, after: &Progress) -> Change
+pub fn change_of(before: Position, after: &Progress) -> Change
     ensures { result ≡ spec.change_of before (progress_of after.now) }
 {
     match after {

@@ -224,7 +224,7 @@ fn ended(alloc: Global, ending: DefinitionEnd, draft: Draft) -> Result<Row<Def>,
 }
 
 /// The open definition ends so, and a next one begins there.
-pub(crate) fn turn(
+pub fn turn(
     alloc: Global,
     ending: DefinitionEnd,
     draft: &mut Draft,

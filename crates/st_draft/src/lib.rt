@@ -1,10 +1,9 @@
-//! The definitions of tokens, read one token after another, and what is kept of them.
+//! The definition that is read: what is known of it, and what each token and each part makes of it.
 //!
-//! The one idea: what is known of the open definition is a draft, which each token between parts
-//! changes in one small way. Whoever keeps something of the draft, its trees or only what the
-//! limits ask of them, is a listener, and one reader of the tokens serves each.
+//! The one idea: what is known of the open definition is a draft, which a token between parts
+//! changes in one small way, and into which a part goes where it ends.
 //!
-//! Read `listener` and `reader` first, then `step` with `specs/inner/Work.antt`. The rules are in
+//! Read `change` and `apply` first, with `specs/inner/Drafts.antt`, then `parts`. The rules are in
 //! `docs/source-trees.md`.
 #![tactic(auto)]
 
@@ -13,17 +12,13 @@ mod change;
 mod definition;
 mod draft;
 mod head;
-mod listener;
 mod members;
 mod parts;
 mod premise;
-mod reader;
 mod sides;
-mod step;
 
-pub use change::{Change, DefinitionEnd};
-pub use definition::begun;
+pub use apply::redraft;
+pub use change::{Change, DefinitionEnd, change_of, ending_of};
+pub use definition::{begun, turn};
 pub use draft::{Draft, Head, Members, Premises, Sides};
-pub use listener::Listener;
-pub use parts::{PartToken, Parts, index_in};
-pub use reader::read_source;
+pub use parts::{PartToken, Parts, fill, index_in, no_parts};

@@ -43,7 +43,7 @@ pub struct Parts<'a> {
 }
 
 /// Nothing is read of a part yet.
-pub(crate) fn no_parts<'a>(alloc: Global) -> Parts<'a>
+pub fn no_parts<'a>(alloc: Global) -> Parts<'a>
     ensures arguments { result.arguments ≡ [] }
     ensures actions { result.actions ≡ [] }
     ensures marks { result.marks ≡ [] }
@@ -232,7 +232,7 @@ fn fill_count(
 
 /// A part ends, with so many brackets open round it. A count is built where there is a premise that
 /// it iterates, so all that is built stands in the draft.
-pub(crate) fn fill(
+pub fn fill(
     alloc: Global,
     slot: Slot,
     around: usize,

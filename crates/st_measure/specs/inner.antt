@@ -3,5 +3,4 @@ pub mod Noting
 pub mod Steps
 pub mod Counting
 pub mod Parts
-pub mod Aliases
 pub mod Answers

@@ -2,13 +2,11 @@
 
 ghost use Rattle.std.specs.Prelude.{◌≡◌, [], ◌∷◌, ◌++◌, take, drop, reverse, length, List, Some, None, OnOk, IfOk, IfErr};
 ghost use Rattle.st_num.specs.declared.token.Token.{Token};
-ghost use Rattle.st_el.specs.declared.expression.Exp.{Exp};
-ghost use Rattle.st_parse_builder.specs.declared.piece.Piece.TheVariants.{Done};
 ghost use Rattle.st_parse_builder.specs.Names.{name_of};
 ghost use Rattle.st_parse_builder.specs.inner.Building.{Stack, applied, run};
 ghost use Rattle.st_measure.specs.declared.start.Start.{Start};
-ghost use Rattle.st_measure.specs.Variables.{Occurrence, occurrences, variables, without};
-ghost use Rattle.st_measure.specs.inner.Noting.{IsNoted};
+ghost use Rattle.st_measure.specs.Variables.{Occurrence, occurrences, without};
+ghost use Rattle.st_measure.specs.inner.Noting.{IsNoted, stack_variables};
 ghost use Rattle.st_measure.specs.inner.Steps.{Does};
 ghost use Rattle.st_measure.specs.inner.Answers.{OnlyMemory};
 
@@ -159,16 +157,15 @@ fn note<'a>(
     take_step(alloc, step_of(action), starts, seen)
 }
 
-/// Adds the variables that occur in the part that these actions build, in the order of the text.
+/// Adds the variables that occur in what these actions build, in the order of the text.
 pub fn note_variables<'a>(
     alloc: Global,
     actions: &[Action<'a>],
     seen: &mut Row<TokenRef<'a>>,
 ) -> Result<(), BuildFault>
-    ensures ok { (e : Exp) → run actions.now [] ≡ Some (Done e ∷ [])
-        → OnOk result (occurrences seen.new ≡ occurrences seen.old ++ variables e) }
-    ensures err { (e : Exp) → run actions.now [] ≡ Some (Done e ∷ [])
-        → IfErr result OnlyMemory }
+    ensures ok { (s : Stack) → run actions.now [] ≡ Some s
+        → OnOk result (occurrences seen.new ≡ occurrences seen.old ++ stack_variables s) }
+    ensures err { (s : Stack) → run actions.now [] ≡ Some s → IfErr result OnlyMemory }
 {
     let mut starts = Row::new(alloc);
     'actions: for action in actions {

@@ -11,7 +11,7 @@ use st_el::{Count, Exp, Node, NotNode, Notation, Seg, Typ, TypNode};
 use st_num::Name;
 
 /// The larger height.
-fn higher(left: usize, right: usize) -> usize
+pub(crate) fn higher(left: usize, right: usize) -> usize
     ensures { result ≡ max left right }
 {
     if left < right { right } else { left }
@@ -26,7 +26,7 @@ pub(crate) fn above(parts: usize) -> usize
 
 /// The height of an expression, and 101 where it is higher than 100.
 #[cycle(height)]
-pub fn exp_height(exp: &Exp) -> usize
+pub(crate) fn exp_height(exp: &Exp) -> usize
     ensures { result ≡ capped (tall.height exp.now) }
 {
     above(node_height(&exp.node))
@@ -73,7 +73,7 @@ fn node_height(node: &Node) -> usize
 
 /// The height of the highest of these expressions, and 101 where that is higher than 100.
 #[cycle(height)]
-fn exps_height(exps: &[Exp]) -> usize
+pub(crate) fn exps_height(exps: &[Exp]) -> usize
     ensures { result ≡ capped (tall.highest (map tall.height exps.now)) }
 {
     let mut highest = 0;
@@ -121,7 +121,7 @@ fn seg_height(seg: &Seg) -> usize
 
 /// The height of the expression in a count, and 101 where that is higher than 100.
 #[cycle(height)]
-fn count_height(count: &Count) -> usize
+pub(crate) fn count_height(count: &Count) -> usize
     ensures { result ≡ capped (count_height count.now) }
 {
     match count {
@@ -132,7 +132,7 @@ fn count_height(count: &Count) -> usize
 
 /// The height of a type, and 101 where it is higher than 100.
 #[cycle(typ_height)]
-pub fn typ_height(typ: &Typ) -> usize
+pub(crate) fn typ_height(typ: &Typ) -> usize
     ensures { result ≡ capped (tall.typ_height typ.now) }
 {
     above(typ_node_height(&typ.node))
@@ -152,7 +152,7 @@ fn typ_node_height(node: &TypNode) -> usize
 
 /// The height of the highest of these types, and 101 where that is higher than 100.
 #[cycle(typ_height)]
-fn typs_height(typs: &[Typ]) -> usize
+pub(crate) fn typs_height(typs: &[Typ]) -> usize
     ensures { result ≡ capped (tall.highest (map tall.typ_height typs.now)) }
 {
     let mut highest = 0;
@@ -164,7 +164,7 @@ fn typs_height(typs: &[Typ]) -> usize
 
 /// The height of a notation, and 101 where it is higher than 100.
 #[cycle(notation_height)]
-pub fn notation_height(notation: &Notation) -> usize
+pub(crate) fn notation_height(notation: &Notation) -> usize
     ensures { result ≡ capped (tall.notation_height notation.now) }
 {
     above(not_node_height(&notation.node))
@@ -188,7 +188,7 @@ fn not_node_height(node: &NotNode) -> usize
 
 /// The height of the highest of these notations, and 101 where that is higher than 100.
 #[cycle(notation_height)]
-fn notations_height(notations: &[Notation]) -> usize
+pub(crate) fn notations_height(notations: &[Notation]) -> usize
     ensures { result ≡ capped (tall.highest (map tall.notation_height notations.now)) }
 {
     let mut highest = 0;

@@ -9,9 +9,9 @@ use Rattle.st_parse_faults.specs.Judging.{passed, broken}
 use Rattle.st_parse_faults.specs.Faults.{Seen, verdict, Faultless, FirstFault}
 use Rattle.st_parse_faults.specs.Place.{place_at}
 use Rattle.st_el.specs.declared.definition.Def.{Def}
-use Rattle.st_parse_builder.specs.Definitions.{Parse, defs_meaning}
-use Rattle.st_draft.specs.Known.{known}
+use Rattle.st_parse_builder.specs.Definitions.{Parse}
 use Rattle.st_parse.specs.Limits.{variable_past, too_tall, first_that}
+use Rattle.st_parse.specs.Open.{first_past}
 use Rattle.st_num.specs.declared.fault.Fault.{Fault as SyntaxFault}
 use Rattle.st_num.specs.declared.fault.Fault.TheVariants.{Refused, Memory}
 
@@ -40,27 +40,26 @@ pub record Front (tokens : List Token) : Type 0 where
   pub longest : (count ≡ length tokens)
       ⊎ ((r : RuleId) × (count < length tokens) × (verdict tokens (count + 1) ≡ broken r))
 
--- What is asked of the definitions that stand whole in the front is answered so.
-abbrev pub Standing : List Token → (Def → Option Span) → Option Span → Type 0
-Standing tokens f answer =
-    (front : Front tokens) × (first_that f (defs_meaning (known front.seen.state)) ≡ answer)
+-- The first variable that is past the limit, if there is one, is there: in a definition that stands
+-- whole in the front, or in the one that is cut off behind it.
+abbrev pub Past : List Token → Option Span → Type 0
+Past tokens place = (front : Front tokens) × (first_past front.seen.state ≡ place)
 
--- too many variables of a definition that stands whole before any token with a fault
+-- too many variables of a definition, before any token with a fault
 abbrev pub VariableFault : List Token → Span → RuleId → Type 0
-VariableFault tokens at rule = Standing tokens variable_past (Some at) × (rule ≡ S3)
+VariableFault tokens at rule = Past tokens (Some at) × (rule ≡ S3)
 
 -- a fault of a token, or of the end of the tokens, where no definition before it has too many
 -- variables
 abbrev pub FaultyToken : List Token → Span → RuleId → Type 0
 FaultyToken tokens at rule =
-    Standing tokens variable_past None
-    × ((k : ℕ) × FirstFault tokens k rule × (at ≡ place_at tokens k))
+    Past tokens None × ((k : ℕ) × FirstFault tokens k rule × (at ≡ place_at tokens k))
 
 -- a definition with a tree that is too high, where there is no other fault
 abbrev pub HeightFault : List Token → Span → RuleId → Type 0
 HeightFault tokens at rule =
-    Faultless tokens × Standing tokens variable_past None × Standing tokens too_tall (Some at)
-    × (rule ≡ S2)
+    (defs : List Def) × IsParsed tokens defs × (first_that variable_past defs ≡ None)
+    × (first_that too_tall defs ≡ Some at) × (rule ≡ S2)
 
 -- The first fault breaks this rule, and stands there.
 abbrev pub FaultAt : List Token → Span → RuleId → Type 0

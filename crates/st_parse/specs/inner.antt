@@ -1,3 +1,4 @@
--- What is measured of a draft, for the proofs alone.
-pub mod Surveys
+-- What is kept and found, for the proofs alone.
+pub mod Kept
+pub mod Cuts
 pub mod Found

@@ -1,81 +1,85 @@
-//! The definitions of tokens.
+//! The definitions of tokens, and the first fault of tokens that mean none.
 
-ghost use Rattle.std.specs.Prelude.{◌≡◌, [], map, List, None, Some, IfOk, IfErr};
+ghost use Rattle.std.specs.Prelude.{◌≡◌, ◌≤◌, List, None, Some, IfOk};
+ghost use Rattle.st_num.specs.declared.limit.TheConstants.{HIGHEST_TREE};
 ghost use Rattle.st_grammar.specs.Terminals as terminals;
-ghost use Rattle.st_grammar.specs.Terminals.{terminal};
-ghost use Rattle.st_grammar.specs.Positions as positions;
-ghost use Rattle.st_grammar.specs.Definitions.{Defs};
-ghost use Rattle.st_parse_faults.specs.Faults.{Faultless};
-ghost use Rattle.st_el.specs.Plain.{nowhere};
-ghost use Rattle.st_el.specs.declared.definition.Def.{Def};
-ghost use Rattle.st_parse_builder.specs.Definitions.{defs_meaning};
-ghost use Rattle.st_measure.specs.inner.Answers.{OnlyMemory};
-ghost use Rattle.st_draft.specs.inner.Drafts as drafts;
-ghost use Rattle.st_parse.specs.Limits.{too_tall, first_that};
-ghost use Rattle.st_parse.specs.Source.{Answers, IsParsed};
+ghost use Rattle.st_parse_automaton.specs.inner.Readings.{progress_of};
+ghost use Rattle.st_parse_faults.specs.inner.Seen as seen;
+ghost use Rattle.st_measure.specs.Variables.{Occurrence};
+ghost use Rattle.st_draft.specs.inner.Work.{Work, ended_defs, MayClose};
+ghost use Rattle.st_parse.specs.Source.{Answers};
+ghost use Rattle.st_parse.specs.inner.Kept.{Keeps, Tells};
+ghost use Rattle.st_parse.specs.inner.Cuts.{Opens, past_in};
+ghost use Rattle.st_parse.specs.inner.Found.{Found, fault_of};
 
-use crate::limits::limit_faults;
-use st_draft::{Draft, begun, read_source};
+use crate::kept::{Kept, begun_kept};
+use crate::take::{cut_off, finish, take};
+use st_draft::{Parts, no_parts};
 use st_el::Def;
-use st_num::{NoMemory, Row, RuleId, Span, Token};
-use st_parse_automaton::{NameIndex, declared_names};
-use st_parse_builder::BuildFault;
-use st_parse_faults::{SyntaxFault, first_fault, place_at};
+use st_num::{NoMemory, Row, RuleId, Token};
+use st_parse_automaton::{
+    At, NameIndex, Position, Progress, Reading, declared_names, may_end, token_class,
+};
+use st_parse_faults::{
+    Seen, SyntaxFault, TokenFault, TokenVerdict, judge_token, nothing_counted, place_at,
+};
 use std::alloc::Global;
 
-/// Builds the definitions of source.
-fn build_all(
-    alloc: Global,
-    names: &NameIndex<'_>,
-    tokens: &[Token],
-    draft: &mut Draft,
-) -> Result<(), BuildFault>
-    requires fresh { draft.old ≡ drafts.begun [] nowhere }
-    ensures built { (st : positions.State) (ds : Defs)
-        → positions.reading positions.start (map (terminal names.now) tokens.now) ≡ Some st
-        → positions.finish st ≡ Some ds
-        → IfOk result (λ _. draft.new.defs ≡ defs_meaning ds) }
-    ensures low { (st : positions.State) (ds : Defs)
-        → positions.reading positions.start (map (terminal names.now) tokens.now) ≡ Some st
-        → positions.finish st ≡ Some ds → first_that too_tall (defs_meaning ds) ≡ None
-        → IfErr result OnlyMemory }
+/// What is known before the first token.
+fn nothing_seen(alloc: Global) -> Result<Seen, NoMemory>
+    ensures value { IfOk result (λ next. seen.summary_of next ≡ seen.nothing_summarized) }
+    ensures bound { IfOk result (λ next. seen.SeenKept next) }
 {
-    read_source(alloc, names, tokens, draft)
+    let progress = Progress::At(At {
+        position: Position::Between,
+        brackets: Row::new(alloc),
+    });
+    nothing_counted(alloc, progress, 0)
 }
 
-/// The definitions of tokens without a fault, where these names are declared by `var`. Where no
-/// tree is too high, building fails for memory alone.
-fn read_definitions(
-    alloc: Global,
-    names: &NameIndex<'_>,
-    tokens: &[Token],
-) -> Result<Row<Def>, NoMemory>
-    requires names { names.now ≡ terminals.declared_names tokens.now }
-    requires faultless { Faultless tokens.now }
-    requires low { (defs : List Def) → IsParsed tokens.now defs
-        → first_that too_tall defs ≡ None }
-    ensures { IfOk result (IsParsed tokens.now) }
+/// A copy of how far definitions are read.
+fn copy_progress(alloc: Global, progress: &Progress) -> Result<Progress, NoMemory>
+    ensures { IfOk result (λ copy. copy ≡ progress.now) }
 {
-    let mut draft = begun(alloc, Row::new(alloc), Span::NOWHERE);
-    match build_all(alloc, names, tokens, &mut draft) {
-        Ok(()) => Ok(draft.defs),
-        Err(BuildFault::Memory) => Err(NoMemory),
-        Err(BuildFault::Unfit) => unreachable!(),
-        Err(BuildFault::TooHigh) => unreachable!(),
+    match progress {
+        Progress::At(here) => Ok(Progress::At(At {
+            position: here.position,
+            brackets: here.brackets.copy(alloc)?,
+        })),
+        Progress::Inside(slot, reading, brackets) => {
+            let reading = Reading {
+                expected: reading.expected,
+                frames: reading.frames.copy(alloc)?,
+            };
+            Ok(Progress::Inside(*slot, reading, brackets.copy(alloc)?))
+        }
     }
 }
 
-/// The definitions that the tokens mean, or the first fault and its place. Variables are asked of
-/// the definitions that stand whole before a token with a fault, and heights where there is no
-/// other fault.
-pub fn parse(alloc: Global, tokens: &[Token]) -> Result<Row<Def>, SyntaxFault>
+/// The fault of tokens that end here.
+fn end_fault(tokens: &[Token], progress: &Progress) -> Option<TokenFault>
+    ensures { result ≡ fault_of tokens.now (progress_of progress.now) }
+{
+    if may_end(progress) {
+        None
+    } else {
+        Some(TokenFault {
+            token: tokens.len(),
+            rule: RuleId::S1,
+        })
+    }
+}
+
+/// The first of what was found, in the order of the faults, or the definitions.
+fn answer(
+    tokens: &[Token],
+    fault: Option<TokenFault>,
+    kept: Kept<'_>,
+) -> Result<Row<Def>, SyntaxFault>
+    requires { Found tokens.now fault kept }
     ensures { Answers tokens.now result }
 {
-    let fault = first_fault(alloc, tokens)?;
-    let declared = declared_names(alloc, tokens)?;
-    let names = NameIndex::new(alloc, declared.as_slice())?;
-    let limits = limit_faults(alloc, &names, tokens, fault)?;
-    if let Some(at) = limits.past {
+    if let Some(at) = kept.variables.past {
         return Err(SyntaxFault::Refused {
             at,
             rule: RuleId::S3,
@@ -87,12 +91,77 @@ pub fn parse(alloc: Global, tokens: &[Token]) -> Result<Row<Def>, SyntaxFault>
             rule: fault.rule,
         });
     }
-    if let Some(at) = limits.tall {
+    if let Some(at) = kept.tall {
         return Err(SyntaxFault::Refused {
             at,
             rule: RuleId::S2,
         });
     }
-    let defs = read_definitions(alloc, &names, tokens)?;
-    Ok(defs)
+    Ok(kept.draft.defs)
+}
+
+/// Nothing more is read: what is open ends, or this fault cuts it off.
+fn stop<'a>(
+    alloc: Global,
+    fault: Option<TokenFault>,
+    progress: &Progress,
+    kept: &mut Kept<'a>,
+    parts: &mut Parts<'a>,
+) -> Result<(), NoMemory>
+    ensures whole { fault ≡ None → (before : Work) (defs : List Def)
+        → Keeps kept.old parts.old before → MayClose (progress_of progress.now) before
+        → ended_defs (progress_of progress.now) before ≡ Some defs
+        → IfOk result (λ _. Tells kept.new defs) }
+    ensures cut { (f : TokenFault) → fault ≡ Some f → (before : Work) (vs : List Occurrence)
+        → Keeps kept.old parts.old before → Opens (progress_of progress.now) before vs
+        → IfOk result (λ _. kept.new.variables.past ≡ past_in before.draft.defs vs) }
+{
+    match fault {
+        None => finish(alloc, progress, kept, parts),
+        Some(_) => cut_off(alloc, progress, kept, parts),
+    }
+}
+
+/// The definitions that the tokens mean, or the first fault, where these are the names that
+/// directly follow the word `var`.
+fn read_tokens(
+    alloc: Global,
+    names: &NameIndex<'_>,
+    tokens: &[Token],
+) -> Result<Row<Def>, SyntaxFault>
+    requires { names.now ≡ terminals.declared_names tokens.now }
+    ensures { Answers tokens.now result }
+{
+    let mut seen = nothing_seen(alloc)?;
+    let mut kept = begun_kept(alloc);
+    let mut parts = no_parts(alloc);
+    'tokens: for (at, token) in tokens.iter().enumerate() {
+        let class = token_class(names, token);
+        let before = copy_progress(alloc, &seen.progress)?;
+        match judge_token(alloc, seen, &token.kind, class)? {
+            TokenVerdict::Broken(rule) => {
+                let fault = Some(TokenFault { token: at, rule });
+                stop(alloc, fault, &before, &mut kept, &mut parts)?;
+                return answer(tokens, fault, kept);
+            }
+            TokenVerdict::Passed(next) => {
+                let there = &next.progress;
+                take(alloc, &before, there, class, token, &mut kept, &mut parts)?;
+                seen = next;
+            }
+        }
+    }
+    let fault = end_fault(tokens, &seen.progress);
+    stop(alloc, fault, &seen.progress, &mut kept, &mut parts)?;
+    answer(tokens, fault, kept)
+}
+
+/// The definitions that the tokens mean, or the first fault and its place. Variables are asked of
+/// all that stands before a token with a fault, and heights where there is no other fault.
+pub fn parse(alloc: Global, tokens: &[Token]) -> Result<Row<Def>, SyntaxFault>
+    ensures { Answers tokens.now result }
+{
+    let declared = declared_names(alloc, tokens)?;
+    let names = NameIndex::new(alloc, declared.as_slice())?;
+    read_tokens(alloc, &names, tokens)
 }

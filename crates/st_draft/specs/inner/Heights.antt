@@ -1,14 +1,14 @@
--- How high the trees of a draft are, and that only memory is short where they are low.
-use Rattle.std.specs.Prelude.{◌≤◌, ℕ, List, map, Option, Some, None}
+-- How high the trees of an open definition are.
+use Rattle.std.specs.Prelude.{◌≤◌, ℕ, map, Option, Some, None}
 use Rattle.st_el.specs.declared.ty.Typ.{Typ}
 use Rattle.st_el.specs.declared.notation.Notation.{Notation}
-use Rattle.st_el.specs.declared.definition.Def.{Def}
 use Rattle.st_parse_builder.specs.Heights.{highest, height, typ_height, notation_height}
-use Rattle.st_parse_builder.specs.Definitions.{defs_meaning}
-use Rattle.st_grammar.specs.Definitions.{Defs}
 use Rattle.st_measure.specs.inner.Answers.{lone_typ}
-use Rattle.st_measure.specs.DefHeights.{prem_height, field_type_height, def_height}
+use Rattle.st_measure.specs.DefHeights.{prem_height, field_type_height}
 use Rattle.st_draft.specs.declared.draft.Draft.{Draft}
+use Rattle.st_draft.specs.declared.draft.Members.{Members}
+use Rattle.st_draft.specs.declared.draft.Sides.{Sides}
+use Rattle.st_draft.specs.declared.draft.Premises.{Premises}
 
 -- the height of the type where there is one, and else this height
 abbrev pub height_or : ℕ → Option Typ → ℕ
@@ -24,28 +24,25 @@ abbrev pub height_of : {A : Type 0} → (A → ℕ) → Option A → ℕ
 height_of f None = 0
 height_of f (Some a) = f a
 
--- the height of the highest of these definitions
-abbrev pub defs_height : List Def → ℕ
-defs_height defs = highest (map def_height defs)
+-- Each field and alternative is at most 100 high.
+pub record MembersLow (ms : Members) : Type 0 where
+  pub fields : highest (map field_type_height ms.fields) ≤ 100
+  pub notations : highest (map open_height ms.notations) ≤ 100
 
--- Each tree of a draft is at most so high.
-pub record Within (tall : ℕ) (d : Draft) : Type 0 where
-  pub defs : defs_height d.defs ≤ tall
-  pub fields : highest (map field_type_height d.members.fields) ≤ tall
-  pub notations : highest (map open_height d.members.notations) ≤ tall
-  pub params : highest (map typ_height d.sides.params) ≤ tall
-  pub args : highest (map height d.sides.args) ≤ tall
-  pub typ : height_of typ_height d.sides.typ ≤ tall
-  pub exp : height_of height d.sides.exp ≤ tall
-  pub whole : highest (map prem_height d.premises.whole) ≤ tall
-  pub prem : height_of prem_height d.premises.prem ≤ tall
+-- Each parameter, argument, type and expression is at most 100 high.
+pub record SidesLow (s : Sides) : Type 0 where
+  pub params : highest (map typ_height s.params) ≤ 100
+  pub args : highest (map height s.args) ≤ 100
+  pub typ : height_of typ_height s.typ ≤ 100
+  pub exp : height_of height s.exp ≤ 100
 
--- A draft that is built is at most 100 high.
-abbrev pub IsLow : Draft → Type 0
-IsLow = Within 100
+-- Each premise is at most 100 high, and the open one too.
+pub record PremisesLow (p : Premises) : Type 0 where
+  pub whole : highest (map prem_height p.whole) ≤ 100
+  pub prem : height_of prem_height p.prem ≤ 100
 
--- Each draft of a reading is such: all drafts are, or it leads to definitions, and those drafts
--- are which are no higher.
-abbrev pub AllLow : (Draft → Type 0) → Option Defs → Type 0
-AllLow low None = (d : Draft) → low d
-AllLow low (Some ds) = (d : Draft) → Within (defs_height (defs_meaning ds)) d → low d
+-- Each tree of the open definition is at most 100 high.
+pub record IsLow (d : Draft) : Type 0 where
+  pub members : MembersLow d.members
+  pub sides : SidesLow d.sides
+  pub premises : PremisesLow d.premises

@@ -1,18 +1,19 @@
--- What is found before trees are built: the first fault of a token, and what the limits ask.
-use Rattle.std.specs.Prelude.{◌≡◌, ℕ, List, length, Option, Some, None}
+-- What is found of tokens: the first fault of one of them, and what is kept of those before it.
+use Rattle.std.specs.Prelude.{◌≡◌, ℕ, List, length, Option, Some, None, if◌then◌else◌}
+use Rattle.st_num.specs.declared.rule.RuleId.TheVariants.{S1}
 use Rattle.st_num.specs.declared.token.Token.{Token}
+use Rattle.st_parse_automaton.specs.inner.DefinitionAutomaton as definitions
 use Rattle.st_parse_faults.specs.Faults.{Faultless, FirstFault}
 use Rattle.st_parse_faults.specs.declared.fault.TokenFault.{TokenFault}
 use Rattle.st_el.specs.declared.definition.Def.{Def}
-use Rattle.st_parse_builder.specs.Definitions.{defs_meaning}
-use Rattle.st_draft.specs.Known.{known}
+use Rattle.st_parse.specs.declared.kept.Kept.{Kept}
 use Rattle.st_parse.specs.Limits.{variable_past, too_tall, first_that}
-use Rattle.st_parse.specs.declared.limits.LimitFaults.{LimitFaults}
-use Rattle.st_parse.specs.Source.{Front}
+use Rattle.st_parse.specs.Source.{IsParsed, Past}
 
--- the first variable that is past the limit in these definitions, and the first that is too high
-abbrev pub Surveyed : List Def → LimitFaults → Type 0
-Surveyed defs s = (s.past ≡ first_that variable_past defs) × (s.tall ≡ first_that too_tall defs)
+-- the fault of tokens that end in this state, where no token has one
+abbrev pub fault_of : List Token → definitions.State → Option TokenFault
+fault_of tokens st =
+    if definitions.may_end st then None else Some (record { token = length tokens; rule = S1 })
 
 -- what the first fault of a token is
 abbrev pub Judged : List Token → Option TokenFault → Type 0
@@ -24,9 +25,19 @@ abbrev pub end_of : List Token → Option TokenFault → ℕ
 end_of tokens None = length tokens
 end_of tokens (Some f) = f.token
 
--- what is surveyed of the tokens before the first fault of a token, where that is this one
-pub record Found (tokens : List Token) (found : Option TokenFault) (s : LimitFaults) : Type 0 where
+-- The first of these definitions that is too high is known, and where there is none, their trees.
+pub record Built (k : Kept) (defs : List Def) : Type 0 where
+  pub tall : k.tall ≡ first_that too_tall defs
+  pub trees : k.tall ≡ None → k.draft.defs ≡ defs
+
+-- what is built where no token has a fault
+abbrev pub IsBuilt : List Token → Kept → Type 0
+IsBuilt tokens k =
+    (defs : List Def) × IsParsed tokens defs × (first_that variable_past defs ≡ k.variables.past)
+    × Built k defs
+
+-- What is kept of the tokens before the first fault of a token, where that is this one.
+pub record Found (tokens : List Token) (found : Option TokenFault) (k : Kept) : Type 0 where
   pub judged : Judged tokens found
-  pub front : Front tokens
-  pub surveyed : Surveyed (defs_meaning (known front.seen.state)) s
-  pub count : front.count ≡ end_of tokens found
+  pub past : Past tokens k.variables.past
+  pub built : found ≡ None → IsBuilt tokens k

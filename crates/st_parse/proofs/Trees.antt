@@ -1,0 +1,456 @@
+-- The trees that are kept behind parts and changes.
+use Rattle.std.proofs.Common.{◌≡◌, ℕ, ◌+◌, ◌≤◌, List, [], ◌∷◌, ◌++◌, map, Bool, true, false, nat_lt, if◌then◌else◌, ◌⊎◌, inl, inr, Option, Some, None, option_map, option_and_then, refl, sym, ap, subst, ◌∙◌, append-nil, arith}
+use Rattle.std.specs.Prelude.{max}
+use Rattle.std.specs.Option.{option_or}
+use Rattle.st_num.specs.declared.limit.TheConstants.{HIGHEST_TREE}
+use Rattle.st_num.specs.declared.span.Span.{Span}
+use Rattle.st_num.specs.declared.token.Token.{Token}
+use Rattle.st_parse_automaton.specs.declared.part_automaton.Shape.{Shape}
+use Rattle.st_parse_automaton.specs.declared.position.TokenClass.{TokenClass}
+use Rattle.st_parse_automaton.specs.declared.position.Slot.{Slot}
+use Rattle.st_parse_automaton.specs.declared.position.Slot.TheVariants as slot
+use Rattle.st_el.specs.declared.ty.Typ.{Typ}
+use Rattle.st_el.specs.declared.notation.Notation.{Notation}
+use Rattle.st_el.specs.declared.expression.Exp.{Exp}
+use Rattle.st_el.specs.declared.expression.Count.{Count}
+use Rattle.st_el.specs.declared.definition.Def.{Def}
+use Rattle.st_el.specs.declared.definition.DefNode.{DefNode}
+use Rattle.st_el.specs.declared.definition.Prem.{Prem, out-Prem}
+use Rattle.st_el.specs.declared.definition.PremNode.TheVariants as prem
+use Rattle.st_el.specs.Plain.{nowhere}
+use Rattle.st_parse_builder.specs.declared.action.Action.{Action}
+use Rattle.st_parse_builder.specs.Heights.{highest, height, typ_height}
+use Rattle.st_parse_builder.specs.inner.NotationBuilding.{typ_built, notation_built}
+use Rattle.st_parse_builder.specs.Definitions.{prem_at}
+use Rattle.st_measure.specs.DefHeights.{prem_height, field_type_height, def_node_height, def_height}
+use Rattle.st_measure.proofs.Premises.{tall_each}
+use Rattle.st_draft.specs.declared.change.Change.{Change}
+use Rattle.st_draft.specs.declared.change.Change.TheVariants as change
+use Rattle.st_draft.specs.declared.change.DefinitionEnd.{DefinitionEnd}
+use Rattle.st_draft.specs.declared.change.DefinitionEnd.TheVariants as ending
+use Rattle.st_draft.specs.declared.draft.Draft.{Draft}
+use Rattle.st_draft.specs.inner.Parts.{exp_built, all_built, count_with, index_in, redrafted, refilled}
+use Rattle.st_draft.specs.inner.Drafts.{whole_prem, each_of, span_or, shape_count, node_of, def_put, ended, begun, with_sides, params_put, args_put, typ_filled, notation_filled, exp_filled, condition_filled, count_filled}
+use Rattle.st_draft.specs.inner.Heights.{open_height, height_of, IsLow}
+use Rattle.st_draft.specs.inner.Ready.{Ends, MayEnd, Ready, Awaits}
+use Rattle.st_draft.proofs.Low.{front_of, last_of, height_at}
+use Rattle.st_draft.proofs.Endings.{none_in, begun_clear}
+use Rattle.st_parse.specs.Limits.{too_tall, first_that}
+use Rattle.st_parse.specs.inner.Kept.{last_tall, checked, IsHigh, Stands}
+use Rattle.st_parse.proofs.Notes.{mapped, some_is, or_none, first_behind}
+
+-- ---- the last definition
+
+pub last_behind : (ds : List Def) (d : Def) → last_tall (ds ++ d ∷ []) ≡ too_tall d
+last_behind [] d = refl
+last_behind (e ∷ []) d = refl
+last_behind (e ∷ f ∷ ds) d = last_behind (f ∷ ds) d
+
+-- Where none is too high, the last one is not.
+none_last : (ds : List Def) → first_that too_tall ds ≡ None → last_tall ds ≡ None
+none_last [] h = refl
+none_last (d ∷ []) h = sym (or_none (too_tall d)) ∙ h
+none_last (d ∷ e ∷ ds) h = none_last (e ∷ ds) (later (too_tall d) (first_that too_tall (e ∷ ds)) h)
+  where
+    later : (o p : Option Span) → option_or o p ≡ None → p ≡ None
+    later None p k = k
+    later (Some at) p k = absurd (cc)
+
+-- Where none was too high, the first one that is can only be the last.
+ended_tall : (e : DefinitionEnd) (d : Draft) → first_that too_tall d.defs ≡ None → first_that too_tall (ended e d) ≡ last_tall (ended e d)
+ended_tall e d h = go (node_of e d.head d.members d.sides d.premises)
+  where
+    go : (o : Option DefNode) → first_that too_tall (def_put d o) ≡ last_tall (def_put d o)
+    go None = h ∙ sym (none_last d.defs h)
+    go (Some n) =
+        let def : Def = record { at = d.head.at; hints = d.hints; node = n } in
+        first_behind too_tall d.defs def ∙ ap (λ o. option_or o (too_tall def)) h ∙ sym (last_behind d.defs def)
+
+-- ---- a definition that is too high
+
+-- a tree of the open definition is too high, and none is before it
+high_open : (at : Span) (d : Draft) → first_that too_tall d.defs ≡ None → d.head.at ≡ at → (IsLow d → ⊥) → IsHigh at d
+high_open at d h a l = inr (h, a, l)
+
+-- What changes no definition and no place keeps it, where it drops no tree.
+high_same : (at : Span) (d e : Draft) → e.defs ≡ d.defs → e.head.at ≡ d.head.at → (IsLow e → IsLow d) → IsHigh at d → IsHigh at e
+high_same at d e f g back (inl h) = inl (ap (first_that too_tall) f ∙ h)
+high_same at d e f g back (inr (h, a, l)) = inr (ap (first_that too_tall) f ∙ h, g ∙ a, λ low. l (back low))
+
+-- the open definition ends, and is too high where a tree of it is
+high_ended : (at : Span) (e : DefinitionEnd) (d : Draft) → Ends e d → IsHigh at d → first_that too_tall (ended e d) ≡ Some at
+high_ended at e d m (inl h) = go (node_of e d.head d.members d.sides d.premises)
+  where
+    go : (o : Option DefNode) → first_that too_tall (def_put d o) ≡ Some at
+    go None = h
+    go (Some n) = first_behind too_tall d.defs (record { at = d.head.at; hints = d.hints; node = n }) ∙ ap (λ o. option_or o (too_tall (record { at = d.head.at; hints = d.hints; node = n }))) h
+high_ended at e d m (inr (h, a, l)) =
+    let def : Def = record { at = d.head.at; hints = d.hints; node = m.node } in
+    ap (λ o. first_that too_tall (def_put d o)) m.is ∙ first_behind too_tall d.defs def ∙ ap (λ o. option_or o (too_tall def)) h ∙ tall (nat_lt HIGHEST_TREE (def_node_height m.node)) refl
+  where
+    tall : (b : Bool) → nat_lt HIGHEST_TREE (def_node_height m.node) ≡ b → (if b then Some d.head.at else None) ≡ Some at
+    tall true i = ap (λ s. Some s) a
+    tall false i = let low : def_node_height m.node ≤ 100 = grind (arith, i) in absurd (l (m.low low))
+
+high_turn : (at s : Span) (e : DefinitionEnd) (d : Draft) → MayEnd e d → IsHigh at d → IsHigh at (begun (ended e d) s)
+high_turn at s ending.Nothing d m (inl h) = inl h
+high_turn at s ending.Nothing d m (inr (h, a, l)) = absurd (l m.low)
+high_turn at s ending.Fields d m h = inl (high_ended at ending.Fields d m h)
+high_turn at s (ending.Cases b) d m h = inl (high_ended at (ending.Cases b) d m h)
+high_turn at s ending.Var d m h = inl (high_ended at ending.Var d m h)
+high_turn at s ending.Relation d m h = inl (high_ended at ending.Relation d m h)
+high_turn at s ending.Fun d m h = inl (high_ended at ending.Fun d m h)
+high_turn at s ending.Rule d m h = inl (high_ended at ending.Rule d m h)
+high_turn at s ending.Condition d m h = inl (high_ended at ending.Condition d m h)
+
+-- ---- trees that are there already
+
+low_typ : (o : Option Typ) → o ≡ None → height_of typ_height o ≤ 100
+low_typ o h = subst (λ q. height_of typ_height q ≤ 100) (sym h) none_in
+
+low_exp : (o : Option Exp) → o ≡ None → height_of height o ≤ 100
+low_exp o h = subst (λ q. height_of height q ≤ 100) (sym h) none_in
+
+low_prem : (o : Option Prem) → o ≡ None → height_of prem_height o ≤ 100
+low_prem o h = subst (λ q. height_of prem_height q ≤ 100) (sym h) none_in
+
+-- a premise that is iterated is lower than the iteration
+low_each : (at : Span) (c : Count) (o : Option Prem) → height_of prem_height (each_of at c o) ≤ 100 → height_of prem_height o ≤ 100
+low_each at c None h = h
+low_each at c (Some p) h = let same = tall_each at p c in omega (arith, same, h)
+
+-- premises with one more that is open
+low_open : (at : Span) (ps : List Prem) (o : Option Prem) → highest (map prem_height (ps ++ whole_prem at o)) ≤ 100 → (highest (map prem_height ps) ≤ 100) × (height_of prem_height o ≤ 100)
+low_open at ps None h = (subst (λ qs. highest (map prem_height qs) ≤ 100) (append-nil ps) h, none_in)
+low_open at ps (Some q) h =
+    let last = last_of prem_height 100 ps (prem_at at (out-Prem q).node) h in
+    (front_of prem_height 100 ps (prem_at at (out-Prem q).node) h, subst (λ k. k ≤ 100) (height_at at q) last)
+
+-- ---- changes
+
+-- A change that ends no definition keeps those before, and the place of the open one.
+pub record Same (d e : Draft) : Type 0 where
+  pub defs : e.defs ≡ d.defs
+  pub at : e.head.at ≡ d.head.at
+  pub back : IsLow e → IsLow d
+
+same_in : (d e f : Draft) → e ≡ f → Same d e → Same d f
+same_in d e f h s = subst (Same d) h s
+
+-- What a change makes of a draft.
+abbrev Changes : Change → Draft → Draft → Type 0
+Changes (change.Begin e) d f = (at : Span) × (begun (ended e d) at ≡ f)
+Changes (change.End e) d f = (at : Span) × (begun (ended e d) at ≡ f)
+Changes c d f = Same d f
+
+changes : (c : Change) (sh : Shape) (x : Token) (arguments : List (List Action)) (d e : Draft) → Ready c d → redrafted c sh x arguments d ≡ Some e → Changes c d e
+changes (change.Begin f) sh x arguments d e m g = (x.at, some_is g)
+changes (change.End f) sh x arguments d e m g = (nowhere, some_is g)
+changes change.Params sh x arguments d e m g =
+    let a = mapped _ Draft (λ ts. with_sides (params_put ts d.sides) d) (all_built typ_built arguments) e g in
+    same_in d _ e a.2 (record {
+      defs = refl;
+      at = refl;
+      back = λ l. record {
+        members = l.members;
+        sides = record { params = subst (λ ts. highest (map typ_height ts) ≤ 100) (sym m) none_in; args = l.sides.args; typ = l.sides.typ; exp = l.sides.exp };
+        premises = l.premises;
+      };
+    })
+changes change.Args sh x arguments d e m g =
+    let a = mapped _ Draft (λ es. with_sides (args_put es d.sides) d) (all_built exp_built arguments) e g in
+    same_in d _ e a.2 (record {
+      defs = refl;
+      at = refl;
+      back = λ l. record {
+        members = l.members;
+        sides = record { params = l.sides.params; args = subst (λ es. highest (map height es) ≤ 100) (sym m.0) none_in; typ = l.sides.typ; exp = l.sides.exp };
+        premises = l.premises;
+      };
+    })
+changes (change.Premise true) sh x arguments d e m g =
+    same_in d _ e (some_is g) (record {
+      defs = refl;
+      at = refl;
+      back = λ l.
+          let both = low_open d.premises.at d.premises.whole d.premises.prem l.premises.whole in
+          record { members = l.members; sides = l.sides; premises = record { whole = both.0; prem = both.1 } };
+    })
+changes (change.Premise false) sh x arguments d e m g =
+    same_in d _ e (some_is g) (record {
+      defs = refl;
+      at = refl;
+      back = λ l. record {
+        members = l.members;
+        sides = l.sides;
+        premises = record { whole = l.premises.whole; prem = low_prem d.premises.prem m };
+      };
+    })
+changes change.Otherwise sh x arguments d e m g =
+    same_in d _ e (some_is g) (record {
+      defs = refl;
+      at = refl;
+      back = λ l. record {
+        members = l.members;
+        sides = l.sides;
+        premises = record { whole = front_of prem_height 100 d.premises.whole (prem_at d.premises.at prem.Otherwise) l.premises.whole; prem = low_prem d.premises.prem m };
+      };
+    })
+changes (change.Mark n) sh x arguments d e m g =
+    same_in d _ e (some_is g) (record {
+      defs = refl;
+      at = refl;
+      back = λ l. record {
+        members = l.members;
+        sides = l.sides;
+        premises = record { whole = l.premises.whole; prem = low_each _ (shape_count sh) d.premises.prem l.premises.prem };
+      };
+    })
+changes change.Nothing sh x arguments d e m g = same_in d _ e (some_is g) (record { defs = refl; at = refl; back = λ l. l })
+changes change.Name sh x arguments d e m g = same_in d _ e (some_is g) (record { defs = refl; at = refl; back = λ l. record { members = l.members; sides = l.sides; premises = l.premises } })
+changes change.Id sh x arguments d e m g = same_in d _ e (some_is g) (record { defs = refl; at = refl; back = λ l. record { members = l.members; sides = l.sides; premises = l.premises } })
+changes change.HintName sh x arguments d e m g = same_in d _ e (some_is g) (record { defs = refl; at = refl; back = λ l. record { members = l.members; sides = l.sides; premises = l.premises } })
+changes change.HintWord sh x arguments d e m g = same_in d _ e (some_is g) (record { defs = refl; at = refl; back = λ l. record { members = l.members; sides = l.sides; premises = l.premises } })
+changes (change.HintEnd b) sh x arguments d e m g = same_in d _ e (some_is g) (record { defs = refl; at = refl; back = λ l. record { members = l.members; sides = l.sides; premises = l.premises } })
+changes change.Dots sh x arguments d e m g = same_in d _ e (some_is g) (record { defs = refl; at = refl; back = λ l. record { members = record { fields = l.members.fields; notations = l.members.notations }; sides = l.sides; premises = l.premises } })
+changes change.Label sh x arguments d e m g = same_in d _ e (some_is g) (record { defs = refl; at = refl; back = λ l. record { members = record { fields = l.members.fields; notations = l.members.notations }; sides = l.sides; premises = l.premises } })
+changes change.Parenthesis sh x arguments d e m g = same_in d _ e (some_is g) (record { defs = refl; at = refl; back = λ l. record { members = l.members; sides = l.sides; premises = record { whole = l.premises.whole; prem = l.premises.prem } } })
+changes change.If sh x arguments d e m g = same_in d _ e (some_is g) (record { defs = refl; at = refl; back = λ l. record { members = l.members; sides = l.sides; premises = record { whole = l.premises.whole; prem = l.premises.prem } } })
+changes change.Goal sh x arguments d e m g = same_in d _ e (some_is g) (record { defs = refl; at = refl; back = λ l. record { members = l.members; sides = l.sides; premises = record { whole = l.premises.whole; prem = l.premises.prem } } })
+
+same_high : (at : Span) (d e : Draft) → Same d e → IsHigh at d → IsHigh at e
+same_high at d e s h = high_same at d e s.defs s.at s.back h
+
+-- a definition that is too high stays so behind a change
+high_changed : (at : Span) (c : Change) (d e : Draft) → Ready c d → Changes c d e → IsHigh at d → IsHigh at e
+high_changed at (change.Begin f) d e m (s, i) h = subst (IsHigh at) i (high_turn at s f d m h)
+high_changed at (change.End f) d e m (s, i) h = subst (IsHigh at) i (high_turn at s f d m h)
+high_changed at change.Nothing d e m s h = same_high at d e s h
+high_changed at change.Name d e m s h = same_high at d e s h
+high_changed at change.Id d e m s h = same_high at d e s h
+high_changed at change.HintName d e m s h = same_high at d e s h
+high_changed at change.HintWord d e m s h = same_high at d e s h
+high_changed at (change.HintEnd b) d e m s h = same_high at d e s h
+high_changed at change.Dots d e m s h = same_high at d e s h
+high_changed at change.Label d e m s h = same_high at d e s h
+high_changed at change.Params d e m s h = same_high at d e s h
+high_changed at change.Args d e m s h = same_high at d e s h
+high_changed at (change.Premise b) d e m s h = same_high at d e s h
+high_changed at change.Parenthesis d e m s h = same_high at d e s h
+high_changed at change.If d e m s h = same_high at d e s h
+high_changed at change.Goal d e m s h = same_high at d e s h
+high_changed at change.Otherwise d e m s h = same_high at d e s h
+high_changed at (change.Mark n) d e m s h = same_high at d e s h
+
+-- ---- what the code answers
+
+first_stands : (o : Option Span) (defs : List Def) (e : Draft) → e.defs ≡ defs → first_that too_tall defs ≡ o → Stands o e e
+first_stands None defs e f h = (refl, ap (first_that too_tall) f ∙ h)
+first_stands (Some at) defs e f h = inl (ap (first_that too_tall) f ∙ h)
+
+turned_stands : (f : DefinitionEnd) (d e : Draft) (at : Span) → begun (ended f d) at ≡ e → first_that too_tall d.defs ≡ None → Stands (last_tall e.defs) e e
+turned_stands f d e at i h =
+    first_stands (last_tall e.defs) (ended f d) e (ap (λ (q : Draft). q.defs) (sym i))
+    (ended_tall f d h ∙ ap (λ (q : Draft). last_tall q.defs) i)
+
+same_stands : (d e : Draft) → Same d e → first_that too_tall d.defs ≡ None → Stands None e e
+same_stands d e s h = (refl, ap (first_that too_tall) s.defs ∙ h)
+
+-- the trees behind a change, where none was too high
+low_changed : (c : Change) (d e : Draft) → Changes c d e → first_that too_tall d.defs ≡ None → Stands (checked c e None) e e
+low_changed (change.Begin f) d e (at, i) h = turned_stands f d e at i h
+low_changed (change.End f) d e (at, i) h = turned_stands f d e at i h
+low_changed change.Nothing d e s h = same_stands d e s h
+low_changed change.Name d e s h = same_stands d e s h
+low_changed change.Id d e s h = same_stands d e s h
+low_changed change.HintName d e s h = same_stands d e s h
+low_changed change.HintWord d e s h = same_stands d e s h
+low_changed (change.HintEnd b) d e s h = same_stands d e s h
+low_changed change.Dots d e s h = same_stands d e s h
+low_changed change.Label d e s h = same_stands d e s h
+low_changed change.Params d e s h = same_stands d e s h
+low_changed change.Args d e s h = same_stands d e s h
+low_changed (change.Premise b) d e s h = same_stands d e s h
+low_changed change.Parenthesis d e s h = same_stands d e s h
+low_changed change.If d e s h = same_stands d e s h
+low_changed change.Goal d e s h = same_stands d e s h
+low_changed change.Otherwise d e s h = same_stands d e s h
+low_changed (change.Mark n) d e s h = same_stands d e s h
+
+-- the place that is known stays
+checked_some : (c : Change) (e : Draft) (at : Span) → checked c e (Some at) ≡ Some at
+checked_some (change.Begin f) e at = refl
+checked_some (change.End f) e at = refl
+checked_some change.Nothing e at = refl
+checked_some change.Name e at = refl
+checked_some change.Id e at = refl
+checked_some change.HintName e at = refl
+checked_some change.HintWord e at = refl
+checked_some (change.HintEnd b) e at = refl
+checked_some change.Dots e at = refl
+checked_some change.Label e at = refl
+checked_some change.Params e at = refl
+checked_some change.Args e at = refl
+checked_some (change.Premise b) e at = refl
+checked_some change.Parenthesis e at = refl
+checked_some change.If e at = refl
+checked_some change.Goal e at = refl
+checked_some change.Otherwise e at = refl
+checked_some (change.Mark n) e at = refl
+
+pub changed_so : (tall next : Option Span) (c : Change) (sh : Shape) (x : Token) (arguments : List (List Action)) (old new d e : Draft) → Stands tall old d → Ready c d → redrafted c sh x arguments d ≡ Some e
+    → redrafted c sh x arguments old ≡ Some new → next ≡ checked c new tall → Stands next new e
+changed_so None next c sh x arguments old new d e (same, h) m g made is =
+    let both : Some new ≡ Some e = sym made ∙ ap (redrafted c sh x arguments) same ∙ g in
+    let one : new ≡ e = some_is both in
+    subst (λ o. Stands o new e) (sym is) (subst (λ q. Stands (checked c new None) q e) (sym one) (subst (λ q. Stands (checked c q None) e e) (sym one) (low_changed c d e (changes c sh x arguments d e m g) h)))
+changed_so (Some at) next c sh x arguments old new d e h m g made is =
+    subst (λ o. Stands o new e) (sym (is ∙ checked_some c new at)) (high_changed at c d e m (changes c sh x arguments d e m g) h)
+
+-- the open definition has a tree that is too high, which stays out of the draft
+high_changes : (c : Change) (d e : Draft) → Changes c d e → first_that too_tall d.defs ≡ None → (IsLow e → ⊥) → IsHigh d.head.at e
+high_changes (change.Begin f) d e (at, i) h l = absurd (l (subst IsLow i (begun_clear (ended f d) at).low))
+high_changes (change.End f) d e (at, i) h l = absurd (l (subst IsLow i (begun_clear (ended f d) at).low))
+high_changes change.Nothing d e s h l = inr (ap (first_that too_tall) s.defs ∙ h, s.at, l)
+high_changes change.Name d e s h l = inr (ap (first_that too_tall) s.defs ∙ h, s.at, l)
+high_changes change.Id d e s h l = inr (ap (first_that too_tall) s.defs ∙ h, s.at, l)
+high_changes change.HintName d e s h l = inr (ap (first_that too_tall) s.defs ∙ h, s.at, l)
+high_changes change.HintWord d e s h l = inr (ap (first_that too_tall) s.defs ∙ h, s.at, l)
+high_changes (change.HintEnd b) d e s h l = inr (ap (first_that too_tall) s.defs ∙ h, s.at, l)
+high_changes change.Dots d e s h l = inr (ap (first_that too_tall) s.defs ∙ h, s.at, l)
+high_changes change.Label d e s h l = inr (ap (first_that too_tall) s.defs ∙ h, s.at, l)
+high_changes change.Params d e s h l = inr (ap (first_that too_tall) s.defs ∙ h, s.at, l)
+high_changes change.Args d e s h l = inr (ap (first_that too_tall) s.defs ∙ h, s.at, l)
+high_changes (change.Premise b) d e s h l = inr (ap (first_that too_tall) s.defs ∙ h, s.at, l)
+high_changes change.Parenthesis d e s h l = inr (ap (first_that too_tall) s.defs ∙ h, s.at, l)
+high_changes change.If d e s h l = inr (ap (first_that too_tall) s.defs ∙ h, s.at, l)
+high_changes change.Goal d e s h l = inr (ap (first_that too_tall) s.defs ∙ h, s.at, l)
+high_changes change.Otherwise d e s h l = inr (ap (first_that too_tall) s.defs ∙ h, s.at, l)
+high_changes (change.Mark n) d e s h l = inr (ap (first_that too_tall) s.defs ∙ h, s.at, l)
+
+pub changed_high : (tall next : Option Span) (c : Change) (sh : Shape) (x : Token) (arguments : List (List Action)) (old new d e : Draft) → Stands tall old d → Ready c d → redrafted c sh x arguments d ≡ Some e
+    → ((n : Draft) → redrafted c sh x arguments old ≡ Some n → IsLow n → ⊥) → next ≡ option_or tall (Some old.head.at) → Stands next new e
+changed_high None next c sh x arguments old new d e (same, h) m g high is =
+    subst (λ o. Stands o new e) (sym (is ∙ ap (λ (q : Draft). Some q.head.at) same))
+    (high_changes c d e (changes c sh x arguments d e m g) h (high e (ap (redrafted c sh x arguments) same ∙ g)))
+changed_high (Some at) next c sh x arguments old new d e h m g high is =
+    subst (λ o. Stands o new e) (sym is) (high_changed at c d e m (changes c sh x arguments d e m g) h)
+
+-- ---- parts
+
+fills : (s : Slot) (n : ℕ) (actions : List Action) (words : List (TokenClass × Token)) (d e : Draft) → Awaits s d → refilled s n actions words d ≡ Some e → Same d e
+fills slot.Field n actions words d e a g =
+    let m = mapped Typ Draft (λ t. typ_filled slot.Field t d) (typ_built actions) e g in
+    same_in d _ e m.2 (record {
+      defs = refl;
+      at = refl;
+      back = λ l. record {
+        members = record { fields = front_of field_type_height 100 d.members.fields (d.members.label, m.0) l.members.fields; notations = l.members.notations };
+        sides = l.sides;
+        premises = l.premises;
+      };
+    })
+fills (slot.Case c) n actions words d e a g =
+    let m = mapped Notation Draft (λ k. notation_filled k d) (notation_built actions) e g in
+    same_in d _ e m.2 (record {
+      defs = refl;
+      at = refl;
+      back = λ l. record {
+        members = record { fields = l.members.fields; notations = front_of open_height 100 d.members.notations m.0 l.members.notations };
+        sides = l.sides;
+        premises = l.premises;
+      };
+    })
+fills slot.Notation n actions words d e a g =
+    let m = mapped Notation Draft (λ k. notation_filled k d) (notation_built actions) e g in
+    same_in d _ e m.2 (record {
+      defs = refl;
+      at = refl;
+      back = λ l. record {
+        members = record { fields = l.members.fields; notations = front_of open_height 100 d.members.notations m.0 l.members.notations };
+        sides = l.sides;
+        premises = l.premises;
+      };
+    })
+fills slot.Var n actions words d e a g =
+    let m = mapped Typ Draft (λ t. typ_filled slot.Var t d) (typ_built actions) e g in
+    same_in d _ e m.2 (record {
+      defs = refl;
+      at = refl;
+      back = λ l. record {
+        members = l.members;
+        sides = record { params = l.sides.params; args = l.sides.args; typ = low_typ d.sides.typ a; exp = l.sides.exp };
+        premises = l.premises;
+      };
+    })
+fills slot.Fun n actions words d e a g =
+    let m = mapped Typ Draft (λ t. typ_filled slot.Fun t d) (typ_built actions) e g in
+    same_in d _ e m.2 (record {
+      defs = refl;
+      at = refl;
+      back = λ l. record {
+        members = l.members;
+        sides = record { params = l.sides.params; args = l.sides.args; typ = low_typ d.sides.typ a; exp = l.sides.exp };
+        premises = l.premises;
+      };
+    })
+fills (slot.Argument b c) n actions words d e a g = same_in d d e (some_is g) (record { defs = refl; at = refl; back = λ l. l })
+fills slot.Rule n actions words d e a g =
+    let m = mapped Exp Draft (λ x. exp_filled x d) (exp_built actions) e g in
+    same_in d _ e m.2 (record {
+      defs = refl;
+      at = refl;
+      back = λ l. record {
+        members = l.members;
+        sides = record { params = l.sides.params; args = l.sides.args; typ = l.sides.typ; exp = low_exp d.sides.exp a.0 };
+        premises = l.premises;
+      };
+    })
+fills slot.Condition n actions words d e a g =
+    let m = mapped Exp Draft (λ x. condition_filled x d) (exp_built actions) e g in
+    same_in d _ e m.2 (record {
+      defs = refl;
+      at = refl;
+      back = λ l. record {
+        members = l.members;
+        sides = l.sides;
+        premises = record { whole = l.premises.whole; prem = low_prem d.premises.prem a };
+      };
+    })
+fills slot.Count n actions words d e a g =
+    let m = mapped Exp Draft (λ x. count_filled n (count_with (index_in words) x) d) (exp_built actions) e g in
+    same_in d _ e m.2 (record {
+      defs = refl;
+      at = refl;
+      back = λ l. record {
+        members = l.members;
+        sides = l.sides;
+        premises = record { whole = l.premises.whole; prem = low_each _ (count_with (index_in words) m.0) d.premises.prem l.premises.prem };
+      };
+    })
+
+pub filled_so : (tall : Option Span) (s : Slot) (n : ℕ) (actions : List Action) (words : List (TokenClass × Token)) (old new d e : Draft) → Stands tall old d → Awaits s d → refilled s n actions words d ≡ Some e
+    → ((q : Draft) → refilled s n actions words old ≡ Some q → new ≡ q) → Stands tall new e
+filled_so None s n actions words old new d e (same, h) a g made =
+    let one : new ≡ e = made e (ap (refilled s n actions words) same ∙ g) in
+    (one, ap (first_that too_tall) (fills s n actions words d e a g).defs ∙ h)
+filled_so (Some at) s n actions words old new d e h a g made = same_high at d e (fills s n actions words d e a g) h
+
+pub filled_high : (tall next : Option Span) (s : Slot) (n : ℕ) (actions : List Action) (words : List (TokenClass × Token)) (old new d e : Draft) → Stands tall old d → Awaits s d → refilled s n actions words d ≡ Some e
+    → ((q : Draft) → refilled s n actions words old ≡ Some q → IsLow q → ⊥) → next ≡ option_or tall (Some old.head.at) → Stands next new e
+filled_high None next s n actions words old new d e (same, h) a g high is =
+    let f = fills s n actions words d e a g in
+    subst (λ o. Stands o new e) (sym (is ∙ ap (λ (q : Draft). Some q.head.at) same))
+    (inr (ap (first_that too_tall) f.defs ∙ h, f.at, high e (ap (refilled s n actions words) same ∙ g)))
+filled_high (Some at) next s n actions words old new d e h a g high is =
+    subst (λ o. Stands o new e) (sym is) (same_high at d e (fills s n actions words d e a g) h)
+
+-- ---- the end
+
+pub ended_so : (tall next : Option Span) (f : DefinitionEnd) (old new d : Draft) → Stands tall old d → MayEnd f d → new ≡ begun (ended f old) nowhere → next ≡ option_or tall (last_tall new.defs)
+    → Stands next new (begun (ended f d) nowhere)
+ended_so None next f old new d (same, h) m made is =
+    let one : begun (ended f d) nowhere ≡ new = ap (λ q. begun (ended f q) nowhere) (sym same) ∙ sym made in
+    subst (λ o. Stands o new (begun (ended f d) nowhere)) (sym is) (subst (λ q. Stands (last_tall new.defs) new q) (sym one) (turned_stands f d new nowhere one h))
+ended_so (Some at) next f old new d h m made is =
+    subst (λ o. Stands o new (begun (ended f d) nowhere)) (sym is) (high_turn at nowhere f d m h)

@@ -1,0 +1,249 @@
+-- What is kept of a work behind each token.
+use Rattle.std.proofs.Common.{◌≡◌, ℕ, List, [], ◌∷◌, ◌++◌, length, map, reverse, Bool, true, false, Option, Some, None, option_map, option_and_then, Result, Ok, Err, IfOk, refl, sym, ap, subst, ◌∙◌}
+use Rattle.std.specs.Option.{option_or}
+use Rattle.st_num.specs.declared.limit.TheConstants.{MOST_PREMISES}
+use Rattle.st_num.specs.declared.memory.NoMemory.{NoMemory}
+use Rattle.st_num.specs.declared.mark.Mark.{Mark}
+use Rattle.st_num.specs.declared.token.Token.{Token}
+use Rattle.st_grammar.specs.declared.sort.Bracket.{Bracket}
+use Rattle.st_parse_automaton.specs.declared.part_automaton.Expected.TheVariants.{Operand}
+use Rattle.st_parse_automaton.specs.declared.part_automaton.Part.{Part}
+use Rattle.st_parse_automaton.specs.declared.part_automaton.Reading.{Reading}
+use Rattle.st_parse_automaton.specs.declared.position.At.{At}
+use Rattle.st_parse_automaton.specs.declared.position.TokenClass.{TokenClass}
+use Rattle.st_parse_automaton.specs.declared.position.Slot.{Slot}
+use Rattle.st_parse_automaton.specs.declared.position.Position.{Position}
+use Rattle.st_parse_automaton.specs.declared.position.Position.TheVariants as position
+use Rattle.st_parse_automaton.specs.declared.position.Progress.{Progress}
+use Rattle.st_parse_automaton.specs.declared.position.Progress.TheVariants as code
+use Rattle.st_parse_automaton.specs.inner.Readings.{progress_of}
+use Rattle.st_parse_automaton.specs.inner.PartAutomaton as parts
+use Rattle.st_parse_automaton.specs.inner.DefinitionAutomaton as definitions
+use Rattle.st_el.specs.declared.definition.Def.{Def}
+use Rattle.st_parse_builder.specs.declared.action.Action.{Action}
+use Rattle.st_parse_builder.specs.inner.Building.{Stack, run}
+use Rattle.st_measure.specs.Variables.{Occurrence, occurrences}
+use Rattle.st_measure.specs.Limits.{place_past}
+use Rattle.st_parse_actions.specs.inner.Emits.{finishing}
+use Rattle.st_draft.specs.declared.change.DefinitionEnd.{DefinitionEnd}
+use Rattle.st_draft.specs.declared.draft.Draft.{Draft}
+use Rattle.st_draft.specs.declared.parts.Parts.{Parts}
+use Rattle.st_draft.specs.declared.parts.PartToken.{PartToken}
+use Rattle.st_draft.specs.inner.Changes.{change_of, ending_of}
+use Rattle.st_draft.specs.inner.Drafts.{arguments_after, ended}
+use Rattle.st_draft.specs.inner.Parts.{word_of, redrafted, refilled}
+use Rattle.st_draft.specs.inner.Ready.{told, MayEnd, Ready, Awaits}
+use Rattle.st_draft.specs.inner.Work.{Work, work_of, part_work, redrafted_work, position_work, arguments_with, filled_work, goes_on, taken_work, work_after, MayLeave, MayTake, ended_defs, MayClose}
+use Rattle.st_parse.specs.declared.kept.Kept.{Kept}
+use Rattle.st_parse.specs.declared.variables.Variables.{Variables}
+use Rattle.st_parse.specs.inner.Kept.{Notes, Draws, Keeps, Tells}
+use Rattle.st_parse.specs.inner.Cuts.{cut, of_open, past_in, Counts, Parted, Opens}
+use Rattle.st_parse.proofs.Notes.{mapped, some_is}
+
+chained : (A B : Type 0) (f : A → Option B) (o : Option A) (b : B) → option_and_then f o ≡ Some b → (a : A) × (o ≡ Some a) × (f a ≡ Some b)
+chained A B f None b e = absurd (cc)
+chained A B f (Some a) b e = (a, refl, e)
+
+-- a work by its fields
+abbrev work : Draft → List (List Action) → List Action → List Mark → List (TokenClass × Token) → Work
+work d given acts marks words = record { draft = d; arguments = given; actions = acts; marks = marks; words = words }
+
+same_work : (d : Draft) (given given' : List (List Action)) (acts acts' : List Action) (marks marks' : List Mark) (words words' : List (TokenClass × Token)) → given ≡ given' → acts ≡ acts' → marks ≡ marks' → words ≡ words'
+    → work d given acts marks words ≡ work d given' acts' marks' words'
+same_work d given given' acts acts' marks marks' words words' e f g h =
+    ap (λ y. work d y acts marks words) e ∙ ap (λ y. work d given' y marks words) f ∙ ap (λ y. work d given' acts' y words) g ∙ ap (work d given' acts' marks') h
+
+-- ---- a part goes on
+
+pub gone_on : (k : Kept) (slot : Slot) (st : parts.State) (l : TokenClass) (x : Token) (p q : Parts) (b a : Work) → Keeps k p b → part_work slot st l x b ≡ a
+    → ((d : Draft) → work_of d q ≡ part_work slot st l x (work_of d p)) → Keeps k q a
+gone_on k slot st l x p q b a h e made =
+    subst (Keeps k q) e (record { drawn = h.drawn; same = made b.draft ∙ ap (part_work slot st l x) h.same })
+
+-- ---- positions
+
+pub at_is : (n : Progress) (a : At) (p : Position) (l : TokenClass) (x : Token) (b : Work) → n ≡ code.At a → position_work (progress_of n) p l x b ≡ redrafted_work (progress_of n) p l x b
+at_is n a p l x b e = subst (λ m. position_work (progress_of m) p l x b ≡ redrafted_work (progress_of m) p l x b) (sym e) refl
+
+pub entering_is : (n : Progress) (t s : Slot) (r : Reading) (ks : List Bracket) (p : Position) (l : TokenClass) (x : Token) (b a : Work) → n ≡ code.Inside t r ks → p ≡ position.Entering s
+    → position_work (progress_of n) p l x b ≡ Some a → part_work s (Operand, []) l x b ≡ a
+entering_is n t s r ks p l x b a e f h =
+    let is : position_work (progress_of (code.Inside t r ks)) (position.Entering s) l x b ≡ Some a =
+    ap (λ m. position_work (progress_of m) (position.Entering s) l x b) (sym e) ∙ ap (λ q. position_work (progress_of n) q l x b) (sym f) ∙ h in
+    cc
+
+other_position : (st : definitions.State) (p : Position) (l : TokenClass) (x : Token) (b : Work) → ((s : Slot) → p ≡ position.Entering s → ⊥) → position_work st p l x b ≡ redrafted_work st p l x b
+other_position (definitions.at q ks) p l x b h = refl
+other_position (definitions.inside t st ks) (position.Entering s) l x b h = absurd (h s refl)
+other_position (definitions.inside t st ks) position.Between l x b h = refl
+other_position (definitions.inside t st ks) position.SyntaxName l x b h = refl
+other_position (definitions.inside t st ks) position.VarName l x b h = refl
+other_position (definitions.inside t st ks) position.VarColon l x b h = refl
+other_position (definitions.inside t st ks) position.RelationName l x b h = refl
+other_position (definitions.inside t st ks) position.RuleName l x b h = refl
+other_position (definitions.inside t st ks) position.RuleColon l x b h = refl
+other_position (definitions.inside t st ks) position.FunName l x b h = refl
+other_position (definitions.inside t st ks) position.FunNamed l x b h = refl
+other_position (definitions.inside t st ks) (position.Argued c) l x b h = refl
+other_position (definitions.inside t st ks) (position.ArgumentsClosed c) l x b h = refl
+other_position (definitions.inside t st ks) (position.SyntaxId c) l x b h = refl
+other_position (definitions.inside t st ks) (position.RuleId c) l x b h = refl
+other_position (definitions.inside t st ks) (position.Hinted k c) l x b h = refl
+other_position (definitions.inside t st ks) (position.HintOpen k) l x b h = refl
+other_position (definitions.inside t st ks) (position.HintName k) l x b h = refl
+other_position (definitions.inside t st ks) (position.HintWords k) l x b h = refl
+other_position (definitions.inside t st ks) position.Dotted l x b h = refl
+other_position (definitions.inside t st ks) (position.FieldName c) l x b h = refl
+other_position (definitions.inside t st ks) position.Premised l x b h = refl
+other_position (definitions.inside t st ks) position.PremiseOpen l x b h = refl
+other_position (definitions.inside t st ks) position.GoalColon l x b h = refl
+other_position (definitions.inside t st ks) (position.Iterated m) l x b h = refl
+
+pub not_entering : (n : Progress) (p : Position) (l : TokenClass) (x : Token) (b : Work) → ((s : Slot) → p ≡ position.Entering s → ⊥) → position_work (progress_of n) p l x b ≡ redrafted_work (progress_of n) p l x b
+not_entering n p l x b h = other_position (progress_of n) p l x b h
+
+-- what a token between parts makes
+pub redrafted_keeps : (kept new : Kept) (p q : Parts) (b a : Work) (next : definitions.State) (position : Position) (l : TokenClass) (x : Token) (given : List (List Action)) → Keeps kept p b → Ready (change_of position next) b.draft
+    → redrafted_work next position l x b ≡ Some a → given ≡ p.arguments
+    → ((d e : Draft) → Draws kept d → Ready (change_of position next) d → redrafted (change_of position next) l.shape x given d ≡ Some e → Draws new e)
+    → q.arguments ≡ arguments_after (change_of position next) p.arguments → q.actions ≡ p.actions → q.marks ≡ p.marks → q.words ≡ p.words → Keeps new q a
+redrafted_keeps kept new p q b a next position l x given h ready e is changes as acts marks words =
+    let c = change_of position next in
+    let args : p.arguments ≡ b.arguments = ap (λ (w : Work). w.arguments) h.same in
+    let m = mapped Draft Work (λ d. work d (arguments_after c b.arguments) b.actions b.marks b.words) (redrafted c l.shape x b.arguments b.draft) a e in
+    subst (Keeps new q) m.2 (record {
+      drawn = changes b.draft m.0 h.drawn ready (ap (λ g. redrafted c l.shape x g b.draft) (is ∙ args) ∙ m.1);
+      same = same_work m.0 q.arguments (arguments_after c b.arguments) q.actions b.actions (reverse q.marks) b.marks (map word_of q.words) b.words
+          (as ∙ ap (arguments_after c) args)
+          (acts ∙ ap (λ (w : Work). w.actions) h.same)
+          (ap reverse marks ∙ ap (λ (w : Work). w.marks) h.same)
+          (ap (map word_of) words ∙ ap (λ (w : Work). w.words) h.same);
+    })
+
+-- ---- a part ends
+
+pub filled_keeps : (kept new : Kept) (p q : Parts) (b a : Work) (slot : Slot) (n : ℕ) (st : parts.State) (acts : List Action) (words : List PartToken) → Keeps kept p b → Awaits slot b.draft → filled_work slot n st b ≡ Some a
+    → acts ≡ p.actions ++ finishing st → words ≡ p.words
+    → ((d e : Draft) → Draws kept d → Awaits slot d → refilled slot n acts (map word_of words) d ≡ Some e → Draws new e)
+    → q.arguments ≡ arguments_with slot acts p.arguments → q.actions ≡ [] → q.marks ≡ [] → q.words ≡ [] → Keeps new q a
+filled_keeps kept new p q b a slot n st acts words h awaits e acted worded fills as none unmarked unworded =
+    let all : acts ≡ b.actions ++ finishing st = acted ∙ ap (λ (w : Work). w.actions ++ finishing st) h.same in
+    let said : map word_of words ≡ b.words = ap (map word_of) worded ∙ ap (λ (w : Work). w.words) h.same in
+    let given = b.actions ++ finishing st in
+    let m = mapped Draft Work (λ d. work d (arguments_with slot given b.arguments) [] [] []) (refilled slot n given b.words b.draft) a e in
+    subst (Keeps new q) m.2 (record {
+      drawn = fills b.draft m.0 h.drawn awaits (ap (λ y. refilled slot n y (map word_of words) b.draft) all ∙ ap (λ y. refilled slot n given y b.draft) said ∙ m.1);
+      same = same_work m.0 q.arguments (arguments_with slot given b.arguments) q.actions [] (reverse q.marks) [] (map word_of q.words) []
+          (as ∙ ap (λ y. arguments_with slot y p.arguments) all ∙ ap (λ (w : Work). arguments_with slot given w.arguments) h.same)
+          none
+          (ap reverse unmarked)
+          (ap (map word_of) unworded);
+    })
+
+-- ---- each token
+
+pub on_keeps : (from next : definitions.State) (slot : Slot) (st : parts.State) (ks : List Bracket) (l : TokenClass) (x : Token) (b a : Work) → from ≡ definitions.inside slot st ks → goes_on next ≡ true → work_after from next l x b ≡ Some a
+    → part_work slot st l x b ≡ a
+on_keeps from next slot st ks l x b a is on e =
+    some_is (ap (λ o. taken_work o slot st ks next l x b (parts.finish st)) (sym on) ∙ ap (λ f. work_after f next l x b) (sym is) ∙ e)
+
+-- where a part ends, and the token leads on behind it
+pub record Behind (next : definitions.State) (slot : Slot) (st : parts.State) (ks : List Bracket) (l : TokenClass) (x : Token) (part : Part) (b a : Work) : Type 0 where
+  pub mid : Work
+  pub awaits : Awaits slot b.draft
+  pub filled : filled_work slot (length ks) st b ≡ Some mid
+  pub ready : Ready (change_of (definitions.filled slot part) next) mid.draft
+  pub leads : position_work next (definitions.filled slot part) l x mid ≡ Some a
+
+pub behind : (from next : definitions.State) (slot : Slot) (st : parts.State) (ks : List Bracket) (l : TokenClass) (x : Token) (part : Part) (b a : Work) → from ≡ definitions.inside slot st ks → goes_on next ≡ false → parts.finish st ≡ Some part
+    → MayTake from next b → work_after from next l x b ≡ Some a → Behind next slot st ks l x part b a
+behind from next slot st ks l x part b a is off ends may e =
+    let asked : MayLeave false slot st ks next b = subst (λ o. MayLeave o slot st ks next b) off (subst (λ f. MayTake f next b) is may) in
+    let worked : option_and_then (position_work next (definitions.filled slot part) l x) (filled_work slot (length ks) st b) ≡ Some a =
+    ap (λ o. taken_work false slot st ks next l x b o) (sym ends)
+    ∙ ap (λ o. taken_work o slot st ks next l x b (parts.finish st)) (sym off)
+    ∙ ap (λ f. work_after f next l x b) (sym is) ∙ e in
+    let m = chained Work Work (position_work next (definitions.filled slot part) l x) (filled_work slot (length ks) st b) a worked in
+    record { mid = m.0; awaits = asked.0; filled = m.1; ready = asked.1 part m.0 ends m.1; leads = m.2 }
+
+-- a token that leads on ends the part or goes on with it
+pub ends_or : (from next : definitions.State) (slot : Slot) (st : parts.State) (ks : List Bracket) (l : TokenClass) (x : Token) (b a : Work) → from ≡ definitions.inside slot st ks → goes_on next ≡ false → parts.finish st ≡ None
+    → work_after from next l x b ≡ Some a → ⊥
+ends_or from next slot st ks l x b a is off none e =
+    let no : None ≡ Some a =
+    ap (λ o. taken_work false slot st ks next l x b o) (sym none)
+    ∙ ap (λ o. taken_work o slot st ks next l x b (parts.finish st)) (sym off)
+    ∙ ap (λ f. work_after f next l x b) (sym is) ∙ e in
+    absurd (cc)
+
+-- ---- what is cut off
+
+-- what is noted of a draft is all that it has
+noted_counts : (v : Variables) (d : Draft) (vs : List Occurrence) → Notes v d → of_open d ≡ vs → Counts v d.defs vs
+noted_counts v d vs n e = record { past = n.past; all = ap (λ os. os ++ occurrences v.inside) n.before ∙ ap (λ os. told d ++ os) n.inside ∙ e }
+
+pub part_ended : (r : Result (Unit {0}) NoMemory) (k : Kept) (q : Parts) (w : Work) (slot : Slot) (st : parts.State) (n : ℕ) (ks : List Bracket) (part : Part) (o : Option Part) (vs : List Occurrence) → o ≡ Some part → n ≡ length ks → Parted slot st ks w vs o
+    → ((after : Work) → Awaits slot w.draft → filled_work slot n st w ≡ Some after → IfOk r (λ z. Keeps k q after)) → IfOk r (λ z. Counts k.variables w.draft.defs vs)
+part_ended (Err f) k q w slot st n ks part o vs is e h ends = tt
+part_ended (Ok z) k q w slot st n ks part o vs is e h ends =
+    let p : Parted slot st ks w vs (Some part) = subst (Parted slot st ks w vs) is h in
+    let mid = p.1.0 in
+    let keeps = ends mid p.0 (ap (λ m. filled_work slot m st w) e ∙ p.1.1) in
+    subst (λ ds. Counts k.variables ds vs) p.1.2 (noted_counts k.variables mid.draft vs keeps.drawn.noted p.1.3)
+
+pub part_cut : (r : Result (Unit {0}) NoMemory) (old : Kept) (v : Variables) (q : Parts) (w : Work) (slot : Slot) (st : parts.State) (ks : List Bracket) (o : Option Part) (acts : List Action) (vs : List Occurrence) → o ≡ None → Keeps old q w → Parted slot st ks w vs o
+    → acts ≡ q.actions → v.past ≡ old.variables.past
+    → ((u : Stack) → run acts [] ≡ Some u → IfOk r (λ z. occurrences v.before ++ occurrences v.inside ≡ (occurrences old.variables.before ++ occurrences old.variables.inside) ++ cut slot u))
+    → IfOk r (λ z. Counts v w.draft.defs vs)
+part_cut (Err f) old v q w slot st ks o acts vs is h p same past all = tt
+part_cut (Ok z) old v q w slot st ks o acts vs is h p same past all =
+    let c : Parted slot st ks w vs None = subst (Parted slot st ks w vs) is p in
+    let counts = noted_counts old.variables w.draft (of_open w.draft) h.drawn.noted refl in
+    record {
+      past = past ∙ counts.past;
+      all = all c.0 (ap (λ as. run as []) (same ∙ ap (λ (y : Work). y.actions) h.same) ∙ c.1) ∙ ap (λ os. os ++ cut slot c.0) counts.all ∙ c.2;
+    }
+
+-- the variables that are counted are those of these definitions and of the open one
+pub counted_past : (r : Result (Unit {0}) NoMemory) (v w : Variables) (defs : List Def) (vs : List Occurrence) → Counts v defs vs
+    → IfOk r (λ z. w.past ≡ option_or v.past (place_past MOST_PREMISES (occurrences v.before ++ occurrences v.inside))) → IfOk r (λ z. w.past ≡ past_in defs vs)
+counted_past (Err f) v w defs vs c p = tt
+counted_past (Ok z) v w defs vs c p =
+    p ∙ ap (λ o. option_or o (place_past MOST_PREMISES (occurrences v.before ++ occurrences v.inside))) c.past ∙ ap (past_in defs) c.all
+
+pub opened_at : (from : definitions.State) (p : Position) (ks : List Bracket) (k : Kept) (q : Parts) (w : Work) (vs : List Occurrence) → from ≡ definitions.at p ks → Keeps k q w → Opens from w vs → Counts k.variables w.draft.defs vs
+opened_at from p ks k q w vs is h o = noted_counts k.variables w.draft vs h.drawn.noted (subst (λ f. Opens f w vs) is o)
+
+-- ---- the end
+
+pub closed_at : (from : definitions.State) (p : Position) (ks : List Bracket) (kept new : Kept) (q : Parts) (w : Work) (defs : List Def) → from ≡ definitions.at p ks → Keeps kept q w → MayClose from w → ended_defs from w ≡ Some defs
+    → ((d : Draft) → Draws kept d → MayEnd (ending_of p) d → Tells new (ended (ending_of p) d)) → Tells new defs
+closed_at from p ks kept new q w defs is h may e ends =
+    let done : ended (ending_of p) w.draft ≡ defs = some_is (ap (λ f. ended_defs f w) (sym is) ∙ e) in
+    subst (Tells new) done (ends w.draft h.drawn (subst (λ f. MayClose f w) is may))
+
+-- where a part is open at the end
+pub record Closes (slot : Slot) (st : parts.State) (ks : List Bracket) (part : Part) (b : Work) (defs : List Def) : Type 0 where
+  pub mid : Work
+  pub awaits : Awaits slot b.draft
+  pub filled : filled_work slot (length ks) st b ≡ Some mid
+  pub may : MayEnd (ending_of (definitions.filled slot part)) mid.draft
+  pub done : ended (ending_of (definitions.filled slot part)) mid.draft ≡ defs
+
+pub closes : (from : definitions.State) (slot : Slot) (st : parts.State) (ks : List Bracket) (part : Part) (b : Work) (defs : List Def) → from ≡ definitions.inside slot st ks → parts.finish st ≡ Some part → MayClose from b → ended_defs from b ≡ Some defs
+    → Closes slot st ks part b defs
+closes from slot st ks part b defs is ends may e =
+    let asked : MayClose (definitions.inside slot st ks) b = subst (λ f. MayClose f b) is may in
+    let worked : option_map (λ v. ended (ending_of (definitions.filled slot part)) v.draft) (filled_work slot (length ks) st b) ≡ Some defs =
+    ap (option_and_then (λ y. option_map (λ v. ended (ending_of (definitions.filled slot y)) v.draft) (filled_work slot (length ks) st b))) (sym ends)
+    ∙ ap (λ f. ended_defs f b) (sym is) ∙ e in
+    let m = mapped Work (List Def) (λ v. ended (ending_of (definitions.filled slot part)) v.draft) (filled_work slot (length ks) st b) defs worked in
+    record { mid = m.0; awaits = asked.0; filled = m.1; may = asked.1 part m.0 ends m.1; done = m.2 }
+
+-- a part is open, and may end
+pub ends_not : (from : definitions.State) (slot : Slot) (st : parts.State) (ks : List Bracket) (b : Work) (defs : List Def) → from ≡ definitions.inside slot st ks → parts.finish st ≡ None → ended_defs from b ≡ Some defs → ⊥
+ends_not from slot st ks b defs is none e =
+    let no : None ≡ Some defs =
+    ap (option_and_then (λ y. option_map (λ v. ended (ending_of (definitions.filled slot y)) v.draft) (filled_work slot (length ks) st b))) (sym none)
+    ∙ ap (λ f. ended_defs f b) (sym is) ∙ e in
+    absurd (cc)
