@@ -8,9 +8,4 @@ pub mod WorkSteps
 pub mod WorkEnds
 pub mod WorkPositions
 pub mod Loop
-pub mod ListenerLemmas
-pub mod Lowness
-pub mod GoesBack
 pub mod Faults
-pub mod LowSteps
-pub mod LowReading

@@ -1,7 +1,9 @@
-pub mod Surveying
-mod Endings
-mod Whole
-mod Drawn
+pub mod Notes
+pub mod Cut
+pub mod Opens
+pub mod Trees
+pub mod Works
+pub mod Taking
 mod Sources
 mod Fronts
 mod OneAnswer
