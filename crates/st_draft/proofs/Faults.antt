@@ -30,7 +30,7 @@ use Rattle.st_draft.specs.declared.draft.Draft.{Draft}
 use Rattle.st_draft.specs.inner.Drafts.{params_put, args_put, with_sides, condition_node, each_of, span_or, typ_filled, notation_filled, condition_filled, exp_filled, count_filled}
 use Rattle.st_draft.specs.inner.Parts.{the_exp, exp_built, all_built, count_with, index_in, redrafted_params, redrafted_args, refilled}
 use Rattle.st_draft.specs.inner.Heights.{height_or, open_height, height_of, IsLow}
-use Rattle.st_draft.proofs.Lowness.{last_of}
+use Rattle.st_draft.proofs.Low.{last_of}
 
 -- ---- what is built
 

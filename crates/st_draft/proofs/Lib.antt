@@ -1,4 +1,6 @@
 pub mod DraftOf
+pub mod Low
+pub mod Endings
 pub mod DraftSteps
 pub mod DraftEnds
 pub mod DraftFills
@@ -7,5 +9,5 @@ pub mod Arguments
 pub mod WorkSteps
 pub mod WorkEnds
 pub mod WorkPositions
-pub mod Loop
+pub mod KnownLemmas
 pub mod Faults

@@ -38,7 +38,7 @@ use Rattle.st_draft.specs.declared.draft.Draft.{Draft}
 use Rattle.st_draft.specs.inner.Parts.{exp_built, all_built, count_with, index_in, redrafted, refilled}
 use Rattle.st_draft.specs.inner.Drafts.{whole_prem, condition_node, each_of, shape_count, node_of, def_put, ended, begun, with_sides, params_put, args_put, typ_filled, notation_filled, exp_filled, condition_filled, count_filled}
 use Rattle.st_draft.specs.inner.Ready.{in_some, told, asked, Ends, MayEnd, Ready, Awaits}
-use Rattle.st_draft.proofs.Endings.{variables_at}
+use Rattle.st_draft.proofs.Endings.{open_behind}
 use Rattle.st_draft.proofs.Built.{IsBehind, next_built}
 use Rattle.st_draft.proofs.Faults.{exp_run as built_run}
 use Rattle.st_parse.specs.declared.variables.Variables.{Variables}
@@ -236,10 +236,6 @@ turn_change c sh x arguments d e v w (inl f) h m g p b i =
 turn_change c sh x arguments d e v w (inr f) h m g p b i =
     let is : begun (ended f.0 d) nowhere ≡ e = (let j : Some (begun (ended f.0 d) nowhere) ≡ Some e = subst (λ q. redrafted q sh x arguments d ≡ Some e) f.1 g in cc) in
     subst (Notes w) is (turned f.0 d nowhere v w h (subst (λ q. Ready q d) f.1 m) p b i)
-
-open_behind : (at : Span) (ps : List Prem) (o : Option Prem) → flat_map prem_variables (ps ++ whole_prem at o) ≡ flat_map prem_variables ps ++ in_some prem_variables o
-open_behind at ps None = ap (flat_map prem_variables) (append-nil ps) ∙ sym (append-nil (flat_map prem_variables ps))
-open_behind at ps (Some q) = one_behind prem_variables ps (prem_at at (out-Prem q).node) ∙ ap (λ vs. flat_map prem_variables ps ++ vs) (variables_at at q)
 
 -- a premise begins, behind one that is open or not
 pub premise_change : (c : Change) (b : Bool) (sh : Shape) (x : Token) (arguments : List (List Action)) (d e : Draft) (v w : Variables) → c ≡ change.Premise b → Notes v d → Ready c d → redrafted c sh x arguments d ≡ Some e
