@@ -1,6 +1,5 @@
 -- A definition that ends is whole: it has the variables of its draft, and is as high as that.
 use Rattle.std.proofs.Common.{◌≡◌, ℕ, ◌≤◌, List, [], ◌∷◌, ◌++◌, map, flat_map, Bool, true, false, Option, Some, None, refl, sym, ap, subst, ◌∙◌, append_assoc, append-nil, arith, rules}
-use Rattle.std.specs.Prelude.{max}
 use Rattle.st_num.specs.declared.span.Span.{Span}
 use Rattle.st_grammar.specs.Terminals.{Terminal}
 use Rattle.st_grammar.specs.Definitions.{Defs}
@@ -16,18 +15,16 @@ use Rattle.st_el.specs.declared.definition.Hint.{Hint}
 use Rattle.st_el.specs.declared.definition.Body.TheVariants as body
 use Rattle.st_el.specs.declared.definition.Def.{Def}
 use Rattle.st_el.specs.declared.definition.DefNode.TheVariants as def
-use Rattle.st_parse_builder.specs.Heights.{highest, height, typ_height, notation_height}
+use Rattle.st_parse_builder.specs.Heights.{highest, notation_height}
 use Rattle.st_parse_builder.specs.Definitions.{name_in, fragment_name, patterns, prem_at}
 use Rattle.st_measure.specs.Variables.{Seen, variables, prem_node_variables_at, prem_variables}
-use Rattle.st_measure.specs.DefHeights.{prem_height, field_type_height, body_height}
+use Rattle.st_measure.specs.DefHeights.{prem_height, body_height}
 use Rattle.st_measure.specs.inner.Answers.{typ_in}
 use Rattle.st_measure.proofs.Occurring.{one_behind}
 use Rattle.st_draft.specs.declared.change.DefinitionEnd.TheVariants as ending
-use Rattle.st_draft.specs.declared.draft.Members.{Members as Body}
-use Rattle.st_draft.specs.declared.draft.Sides.{Sides}
 use Rattle.st_draft.specs.declared.draft.Premises.{Premises as Prems}
 use Rattle.st_draft.specs.inner.Drafts.{no_members as no_body, no_sides, premises_so_far, begun, whole_prem, alias_or, body_of, or_empty}
-use Rattle.st_draft.specs.inner.Heights.{height_or, open_height, height_of, MembersLow, SidesLow, PremisesLow, IsLow}
+use Rattle.st_draft.specs.inner.Heights.{height_or, open_height, height_of, MembersLow, SidesLow, PremisesLow}
 use Rattle.st_draft.specs.inner.Ready.{in_some, Ends, IsClear}
 use Rattle.st_draft.proofs.DraftOf.{drafted, fields_body, cases_body, typ_sides, rule_draft}
 use Rattle.st_draft.proofs.Low.{front_of, last_of, left_of, right_of, open_in, all_open, height_at}

@@ -9,5 +9,5 @@ pub mod Arguments
 pub mod WorkSteps
 pub mod WorkEnds
 pub mod WorkPositions
-pub mod KnownLemmas
+pub mod BeforeLemmas
 pub mod Faults

@@ -6,7 +6,7 @@ use Rattle.st_grammar.specs.Terminals.{Terminal}
 use Rattle.st_grammar.specs.Trees.{Tree, none, more}
 use Rattle.st_grammar.specs.Reading as part
 use Rattle.st_grammar.specs.Definitions.{token_in, Defs, no_args, args, Args, Members, no_members, member, cases, is_dots, is_bar, opens_brace, closes_round, signed}
-use Rattle.st_grammar.specs.Positions.{Head, Rule, rule_head, clause_head, Slot, field_slot, case_slot, var_slot, notation_slot, fun_slot, arg_slot, rule_slot, cond_slot, count_slot, slot_sort, Position, between, syntax_name, var_name, var_colon, relation_name, rule_name, rule_colon, fun_name, fun_named, argued, args_closed, syntax_id, rule_id, hinted, hint_open, hint_name, hint_words, entering, dotted, field_name, premised, premise_open, goal_colon, iterated, State, at, inside, syntax_whole, when, enter, enter_case, enter_other, first_of_two, whole, filled, step, finish, taken, position_step}
+use Rattle.st_grammar.specs.Positions.{Head, rule_head, clause_head, Slot, field_slot, case_slot, var_slot, notation_slot, fun_slot, arg_slot, rule_slot, cond_slot, count_slot, slot_sort, Position, between, syntax_name, var_name, var_colon, relation_name, rule_name, rule_colon, fun_name, fun_named, argued, args_closed, syntax_id, rule_id, hinted, hint_open, hint_name, hint_words, entering, dotted, field_name, premised, premise_open, goal_colon, iterated, State, at, inside, syntax_whole, when, enter, enter_case, enter_other, first_of_two, whole, filled, step, finish, taken, position_step}
 use Rattle.st_grammar.proofs.PositionTexts.{Holds, PositionHolds}
 use Rattle.st_grammar.proofs.PositionReading.{filled_reached}
 use Rattle.st_grammar.proofs.Sound.{state_base}
@@ -22,7 +22,7 @@ use Rattle.st_parse_automaton.proofs.View as view
 use Rattle.st_parse_automaton.proofs.View.{part_of}
 use Rattle.st_parse_automaton.proofs.Simulation as simulation
 use Rattle.st_parse_automaton.proofs.DefinitionView.{position_of, slot_of, slot_open, definitions_of}
-use Rattle.st_parse_automaton.proofs.DefinitionSimulation.{part_step_is, filled_is}
+use Rattle.st_parse_automaton.proofs.DefinitionSimulation.{filled_is}
 use Rattle.st_parse_faults.specs.Limits.{part_tallies}
 use Rattle.st_parse_faults.specs.inner.Roles.{none_open, part_attachment}
 use Rattle.st_parse_faults.proofs.Tallies.{To}

@@ -1,5 +1,5 @@
 -- The tokens before the first one with a fault, and what is found of them.
-use Rattle.std.proofs.Common.{◌≡◌, ℕ, inl, inr, List, length, Option, Some, None, refl, sym, ap, subst, ◌∙◌}
+use Rattle.std.proofs.Common.{◌≡◌, ℕ, ◌≤◌, inl, inr, List, length, Option, Some, None, refl, sym, ap, subst, ◌∙◌}
 use Rattle.st_num.specs.declared.span.Span.{Span}
 use Rattle.st_num.specs.declared.rule.RuleId.TheVariants.{S2, S3}
 use Rattle.st_num.specs.declared.token.Token.{Token}
@@ -24,17 +24,17 @@ use Rattle.st_draft.specs.inner.Heights.{IsLow}
 use Rattle.st_draft.specs.inner.Work.{Work, ended_defs, MayClose}
 use Rattle.st_draft.proofs.WorkSteps.{state_work}
 use Rattle.st_draft.proofs.WorkPositions.{closes}
-use Rattle.st_draft.proofs.KnownLemmas.{stands_before, ended_is}
+use Rattle.st_draft.proofs.BeforeLemmas.{stands_before, ended_is}
 use Rattle.st_parse.specs.declared.kept.Kept.{Kept}
 use Rattle.st_parse.specs.Limits.{variable_past, too_tall, first_that}
 use Rattle.st_parse.specs.Open.{open_variables, first_past}
 use Rattle.st_parse.specs.Source.{Front, Past, IsParsed, IsSource, FaultAt}
 use Rattle.st_parse.specs.inner.Kept.{Stands, Keeps, Tells}
 use Rattle.st_parse.specs.inner.Cuts.{Opens, past_in}
-use Rattle.st_parse.specs.inner.Found.{Judged, end_of, Built, IsBuilt, Found}
+use Rattle.st_parse.specs.inner.Found.{fault_of, Judged, end_of, Built, IsBuilt, Found}
 use Rattle.st_parse.proofs.Sources.{parsed, meant}
 use Rattle.st_parse.proofs.Opens.{opens, past_whole}
-use Rattle.st_parse.proofs.Taking.{Reads}
+use Rattle.st_parse.proofs.Taking.{Reads, passing, all_read, end_judged}
 
 -- ---- fronts
 
@@ -126,6 +126,19 @@ found_whole tokens found i p old new parts is j e (s, v, o, r) tells =
     let ends : ended_defs (progress_of p.progress) (state_work st) ≡ Some (defs_meaning h.1) =
     ap (λ a. ended_defs a (state_work st)) (sym there) ∙ ended_is st h.1 held whole in
     subst (λ q. Found tokens q new) (sym is) (found_all tokens h new (tells (state_work st) (defs_meaning h.1) r may ends))
+
+-- the end of the tokens, which may end early
+pub found_end : (tokens : List Token) (i : ℕ) (p : CodeSeen) (found : Option TokenFault) (old new : Kept) (parts : Parts) → length tokens ≤ i → Reads tokens i p old parts → found ≡ fault_of tokens (progress_of p.progress)
+    → (found ≡ None → (w : Work) (defs : List Def) → Keeps old parts w → MayClose (progress_of p.progress) w → ended_defs (progress_of p.progress) w ≡ Some defs → Tells new defs)
+    → ((f : TokenFault) → found ≡ Some f → (w : Work) (vs : List Occurrence) → Keeps old parts w → Opens (progress_of p.progress) w vs → new.variables.past ≡ past_in w.draft.defs vs) → Found tokens found new
+found_end tokens i p found old new parts h reads is whole cut =
+    let all = all_read tokens i p old parts h reads in
+    let j = end_judged tokens i p found h (passing tokens i p old parts reads) is in
+    go all j found refl
+  where
+    go : Reads tokens (length tokens) p old parts → Judged tokens found × (length tokens ≡ end_of tokens found) → (o : Option TokenFault) → found ≡ o → Found tokens found new
+    go all j None e = found_whole tokens found (length tokens) p old new parts e j.0 refl all (whole e)
+    go all j (Some f) e = found_cut tokens found f (length tokens) p p.progress old new parts e j.0 j.1 all refl (cut f e)
 
 -- ---- answers
 

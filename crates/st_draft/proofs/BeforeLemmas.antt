@@ -1,5 +1,5 @@
 -- The definitions of a draft: those before the open one, and those that it ends with.
-use Rattle.std.proofs.Common.{◌≡◌, List, [], ◌∷◌, ◌++◌, length, map, reverse, Option, Some, None, option_map, option_and_then, refl, sym, ap, subst, ◌∙◌}
+use Rattle.std.proofs.Common.{◌≡◌, List, [], length, map, reverse, Option, Some, None, option_map, option_and_then, refl, sym, ap, subst, ◌∙◌}
 use Rattle.st_num.specs.declared.mark.Mark.{Mark}
 use Rattle.st_num.specs.declared.token.Token.{Token}
 use Rattle.st_grammar.specs.Trees.{Tree}
@@ -24,7 +24,7 @@ use Rattle.st_draft.specs.declared.draft.Draft.{Draft}
 use Rattle.st_draft.specs.declared.draft.Members.{Members as Body}
 use Rattle.st_draft.specs.declared.draft.Premises.{Premises as Prems}
 use Rattle.st_draft.specs.declared.parts.Parts.{Parts}
-use Rattle.st_draft.specs.Known.{head_before, rule_before, host_before, slot_before, position_before, before}
+use Rattle.st_draft.specs.Before.{head_before, rule_before, host_before, slot_before, position_before, before}
 use Rattle.st_draft.specs.inner.Parts.{word_of}
 use Rattle.st_draft.specs.inner.Changes.{ending_of}
 use Rattle.st_draft.specs.inner.Drafts.{begun, ended}

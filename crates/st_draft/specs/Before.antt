@@ -1,9 +1,6 @@
--- The definitions that stand whole where some tokens are read.
-use Rattle.std.specs.Prelude.{Option, Some, None}
+-- The definitions before the one that is read.
 use Rattle.st_grammar.specs.Definitions.{Defs}
-use Rattle.st_grammar.specs.Positions.{Head, syntax_head, Rule, rule_head, clause_head, Host, of_syntax, of_field, of_case, of_var, of_relation, of_notation, of_fun, Slot, field_slot, case_slot, var_slot, notation_slot, fun_slot, arg_slot, rule_slot, cond_slot, count_slot, Position, between, syntax_name, var_name, var_colon, relation_name, rule_name, rule_colon, fun_name, fun_named, argued, args_closed, syntax_id, rule_id, hinted, hint_open, hint_name, hint_words, entering, dotted, field_name, premised, premise_open, goal_colon, iterated, State, at, inside, finish}
-
--- ---- the definitions before the one that is read
+use Rattle.st_grammar.specs.Positions.{Head, syntax_head, Rule, rule_head, clause_head, Host, of_syntax, of_field, of_case, of_var, of_relation, of_notation, of_fun, Slot, field_slot, case_slot, var_slot, notation_slot, fun_slot, arg_slot, rule_slot, cond_slot, count_slot, Position, between, syntax_name, var_name, var_colon, relation_name, rule_name, rule_colon, fun_name, fun_named, argued, args_closed, syntax_id, rule_id, hinted, hint_open, hint_name, hint_words, entering, dotted, field_name, premised, premise_open, goal_colon, iterated, State, at, inside}
 
 -- the definitions before a syntax that is open
 abbrev pub head_before : Head → Defs
@@ -67,14 +64,3 @@ position_before (iterated r t ps d os ls u i) = rule_before r
 abbrev pub before : State → Defs
 before (at p) = position_before p
 before (inside s st) = slot_before s
-
--- ---- with it, where it may end
-
--- the definitions with the open one, where it is whole, and else those before it
-abbrev pub defs_or : Defs → Option Defs → Defs
-defs_or ds None = ds
-defs_or ds (Some whole) = whole
-
--- the definitions that stand whole: all before the open one, and that too where it may end
-abbrev pub known : State → Defs
-known st = defs_or (before st) (finish st)
