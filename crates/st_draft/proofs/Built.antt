@@ -9,7 +9,6 @@ use Rattle.st_el.specs.declared.expression.Exp.{Exp}
 use Rattle.st_el.specs.declared.ty.Typ.{Typ}
 use Rattle.st_el.specs.declared.notation.Notation.{Notation}
 use Rattle.st_parse_builder.specs.declared.action.Action.{Action}
-use Rattle.st_parse_builder.specs.declared.fault.BuildFault.{BuildFault}
 use Rattle.st_parse_builder.specs.declared.notation_piece.NotationPiece.TheVariants.{Hole as a_type, Whole as whole}
 use Rattle.st_parse_builder.specs.Meaning.{meaning, meanings}
 use Rattle.st_parse_builder.specs.Notations.{typ_start, typ_meaning, typ_meanings, notation_meaning}
@@ -17,14 +16,10 @@ use Rattle.st_parse_builder.specs.declared.piece.Piece.TheVariants.{Done}
 use Rattle.st_parse_builder.specs.inner.Actions.{acts}
 use Rattle.st_parse_builder.specs.inner.Building.{run}
 use Rattle.st_parse_builder.specs.inner.NotationBuilding.{the_typ, the_notation, typ_built, notation_built}
-use Rattle.st_parse_builder.specs.inner.NotationAnswers.{BuildsHole}
 use Rattle.st_parse_builder.proofs.Builds.{builds}
 use Rattle.st_parse_builder.proofs.NotationBuilds.{type_hole, typ_builds, notation_builds}
 use Rattle.st_draft.specs.inner.Parts.{the_exp, exp_built, all_built}
 use Rattle.st_draft.proofs.DraftOf.{arguments_acts}
-
-pub exp_from : (actions : List Action) (e : Exp) → run actions [] ≡ Some (Done e ∷ []) → exp_built actions ≡ Some e
-exp_from actions e h = ap (option_and_then the_exp) h
 
 pub exp_is : (σ : Sort) (t : Tree) → Fits σ t → exp_built (acts t) ≡ Some (meaning t)
 exp_is σ t f = ap (option_and_then the_exp) (builds σ t f [])
@@ -38,11 +33,6 @@ notation_is t f = ap (option_and_then the_notation) (notation_builds t f []) ∙
     go : (b : Bool) → is_type t ≡ b → the_notation ((if b then a_type (typ_start t) (typ_meaning t) else whole (notation_meaning t)) ∷ []) ≡ Some (notation_meaning t)
     go true e = ap (λ n. Some n) (type_hole t e)
     go false e = refl
-
--- A type alone is built as the notation of the actions.
-pub hole_from : (o : Option Typ) (made : Option Notation) (r : Result Notation BuildFault) → BuildsHole o made r → IfOk r (λ n. made ≡ Some n)
-hole_from o made (Ok n) h = h.0
-hole_from o made (Err fault) h = tt
 
 pub all_more : (A : Type 0) (f : List Action → Option A) (xs : List (List Action)) (x : List Action) (ys : List A) (a : A) → all_built f xs ≡ Some ys → f x ≡ Some a → all_built f (xs ++ x ∷ []) ≡ Some (ys ++ a ∷ [])
 all_more A f [] x [] a e g = ap (option_and_then (λ b. Some (b ∷ []))) g

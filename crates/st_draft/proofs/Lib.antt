@@ -10,4 +10,4 @@ pub mod WorkSteps
 pub mod WorkEnds
 pub mod WorkPositions
 pub mod BeforeLemmas
-pub mod Faults
+pub mod LowTrees

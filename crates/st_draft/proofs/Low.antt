@@ -13,9 +13,9 @@ use Rattle.st_parse_builder.specs.Notations.{notation_at, notation_place}
 use Rattle.st_parse_builder.specs.Definitions.{prem_at}
 use Rattle.st_parse_builder.proofs.Tallness.{highest_behind}
 use Rattle.st_parse_builder.proofs.NotationTallness.{rolled}
-use Rattle.st_measure.specs.inner.Answers.{typ_in, lone_typ}
-use Rattle.st_measure.specs.DefHeights.{prem_node_height_at, prem_height_at, prem_height}
-use Rattle.st_draft.specs.inner.Heights.{height_or, open_height}
+use Rattle.st_parse_builder.specs.inner.PieceHeights.{typ_in, lone_typ}
+use Rattle.st_parse_builder.specs.DefHeights.{prem_node_height_at, prem_height_at, prem_height}
+use Rattle.st_parse_builder.specs.inner.PieceHeights.{height_or, open_height}
 
 -- ---- one more
 

@@ -21,4 +21,4 @@ pub use apply::redraft;
 pub use change::{Change, DefinitionEnd, change_of, ending_of};
 pub use definition::{begun, turn};
 pub use draft::{Draft, Head, Members, Premises, Sides};
-pub use parts::{PartToken, Parts, fill, index_in, no_parts};
+pub use parts::{PartToken, PartTree, Parts, fill, index_in, no_parts};

@@ -7,8 +7,8 @@ use Rattle.st_parse_builder.specs.Heights.{highest, height}
 use Rattle.st_parse_builder.specs.inner.PieceHeights.{field_height}
 use Rattle.st_measure.specs.inner.Parts.{node_height}
 use Rattle.st_parse_builder.proofs.Tallness.{highest_behind, heights_of}
-use Rattle.st_measure.specs.inner.Answers.{capped}
-use Rattle.st_measure.proofs.Lists.{next_taken}
+use Rattle.st_parse_builder.specs.inner.Parts.{capped}
+use Rattle.st_parse_builder.proofs.Lists.{next_taken}
 
 pub capped_max : (a b : ℕ) → max (capped a) (capped b) ≡ capped (max a b)
 capped_max a b = omega arith

@@ -1,6 +1,2 @@
--- What is noted while actions are read, for the proofs alone.
-pub mod Noting
-pub mod Steps
-pub mod Counting
+-- The heights of what stands in a tree, for the proofs alone.
 pub mod Parts
-pub mod Answers

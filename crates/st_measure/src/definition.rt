@@ -2,9 +2,9 @@
 
 ghost use Rattle.std.specs.Prelude.{◌≡◌, map};
 ghost use Rattle.st_parse_builder.specs.Heights.{highest};
-ghost use Rattle.st_measure.specs.DefHeights as tall;
+ghost use Rattle.st_parse_builder.specs.DefHeights as tall;
 ghost use Rattle.st_measure.specs.inner.Parts.{prem_node_height};
-ghost use Rattle.st_measure.specs.inner.Answers.{capped};
+ghost use Rattle.st_parse_builder.specs.inner.Parts.{capped};
 
 use crate::tall::{
     above, count_height, exp_height, exps_height, higher, notation_height, notations_height,

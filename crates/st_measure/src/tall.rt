@@ -3,9 +3,9 @@
 ghost use Rattle.std.specs.Prelude.{◌≡◌, ◌+◌, ◌≤◌, max, map};
 ghost use Rattle.st_parse_builder.specs.Heights as tall;
 ghost use Rattle.st_parse_builder.specs.inner.PieceHeights as piece_heights;
-ghost use Rattle.st_measure.specs.DefHeights.{count_height};
+ghost use Rattle.st_parse_builder.specs.DefHeights.{count_height};
 ghost use Rattle.st_measure.specs.inner.Parts.{node_height, typ_node_height, not_node_height};
-ghost use Rattle.st_measure.specs.inner.Answers.{capped};
+ghost use Rattle.st_parse_builder.specs.inner.Parts.{capped};
 
 use st_el::{Count, Exp, Node, NotNode, Notation, Seg, Typ, TypNode};
 use st_num::Name;

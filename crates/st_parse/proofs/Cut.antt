@@ -24,9 +24,9 @@ use Rattle.st_parse_builder.specs.inner.Actions.{label_acts, acts, lead_acts, pa
 use Rattle.st_parse_builder.specs.inner.Building.{Stack, run}
 use Rattle.st_parse_builder.specs.inner.Emission.{index_label, heading_acts, frames_acts, state_acts}
 use Rattle.st_parse_builder.proofs.Builds.{chain, Built, AllBuilt, builds, some_parts, some_items}
-use Rattle.st_measure.specs.Variables.{Occurrence, variables, seg_variables}
-use Rattle.st_measure.specs.inner.Noting.{field_variables, stack_variables}
-use Rattle.st_measure.proofs.Occurring.{one_behind, in_call}
+use Rattle.st_parse_builder.specs.Variables.{Occurrence, variables, seg_variables}
+use Rattle.st_parse_builder.specs.inner.PieceVariables.{field_variables, stack_variables}
+use Rattle.st_parse_builder.proofs.Occurring.{one_behind, in_call}
 use Rattle.st_parse.specs.Open.{trees_variables, path_variables, heading_variables, lead_variables, frames_variables, part_variables}
 
 -- ---- what actions add

@@ -16,7 +16,7 @@ use Rattle.st_parse_faults.specs.Place.{place_at}
 use Rattle.st_parse_faults.proofs.Loop.{passes_holds}
 use Rattle.st_el.specs.declared.definition.Def.{Def}
 use Rattle.st_parse_builder.specs.Definitions.{defs_meaning}
-use Rattle.st_measure.specs.Variables.{Occurrence}
+use Rattle.st_parse_builder.specs.Variables.{Occurrence}
 use Rattle.st_draft.specs.declared.draft.Draft.{Draft}
 use Rattle.st_draft.specs.declared.parts.Parts.{Parts}
 use Rattle.st_draft.specs.inner.Heights.{IsLow}

@@ -1,5 +1,6 @@
 pub mod Notes
 pub mod Trees
+mod TakenTrees
 pub mod Works
 pub mod Cut
 mod Opens

@@ -25,10 +25,10 @@ use Rattle.st_parse_builder.specs.inner.Building.{run}
 use Rattle.st_parse_builder.specs.inner.NotationBuilding.{typ_built, notation_built}
 use Rattle.st_parse_builder.specs.Meaning.{mark_count}
 use Rattle.st_parse_builder.specs.Definitions.{prem_at}
-use Rattle.st_measure.specs.Variables.{Occurrence, Times, occurrences, without, variables, times, iterated, prem_variables, def_node_variables}
-use Rattle.st_measure.specs.Limits.{place_past}
-use Rattle.st_measure.proofs.Occurring.{one_behind, without-none}
-use Rattle.st_measure.proofs.Premises.{in_if, in_goal, in_otherwise, in_each, times_mark, times_times, times_below}
+use Rattle.st_parse_builder.specs.Variables.{Occurrence, Times, occurrences, without, variables, times, iterated, prem_variables, def_node_variables}
+use Rattle.st_parse_builder.specs.Limits.{place_past}
+use Rattle.st_parse_builder.proofs.Occurring.{one_behind, without-none}
+use Rattle.st_parse_builder.proofs.Premises.{in_if, in_goal, in_otherwise, in_each, times_mark, times_times, times_below}
 use Rattle.st_draft.specs.declared.change.Change.{Change}
 use Rattle.st_draft.specs.declared.change.Change.TheVariants as change
 use Rattle.st_draft.specs.declared.change.DefinitionEnd.{DefinitionEnd}
@@ -39,7 +39,7 @@ use Rattle.st_draft.specs.inner.Drafts.{whole_prem, condition_node, each_of, sha
 use Rattle.st_draft.specs.inner.Ready.{in_some, told, asked, Ends, MayEnd, Ready, Awaits}
 use Rattle.st_draft.proofs.Endings.{open_behind}
 use Rattle.st_draft.proofs.Arguments.{next_built}
-use Rattle.st_draft.proofs.Faults.{exp_run as built_run}
+use Rattle.st_draft.proofs.LowTrees.{exp_run as built_run}
 use Rattle.st_parse.specs.declared.variables.Variables.{Variables}
 use Rattle.st_parse.specs.Limits.{variable_past, first_that}
 use Rattle.st_parse.specs.inner.Kept.{Notes}

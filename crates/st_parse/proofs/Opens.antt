@@ -14,8 +14,8 @@ use Rattle.st_el.specs.declared.expression.Exp.{Exp}
 use Rattle.st_parse_builder.specs.Meaning.{meaning}
 use Rattle.st_parse_builder.specs.Definitions.{patterns, defs_meaning}
 use Rattle.st_parse_builder.specs.inner.Building.{Stack}
-use Rattle.st_measure.specs.Variables.{variables, prem_variables}
-use Rattle.st_measure.specs.inner.Noting.{stack_variables}
+use Rattle.st_parse_builder.specs.Variables.{variables, prem_variables}
+use Rattle.st_parse_builder.specs.inner.PieceVariables.{stack_variables}
 use Rattle.st_draft.specs.declared.draft.Members.{Members as Body}
 use Rattle.st_draft.specs.declared.draft.Premises.{Premises as Prems}
 use Rattle.st_draft.specs.Before.{slot_before, position_before}

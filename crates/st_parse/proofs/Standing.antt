@@ -19,10 +19,10 @@ use Rattle.st_el.specs.declared.expression.Seg.TheVariants as seg
 use Rattle.st_el.specs.Plain.{nowhere}
 use Rattle.st_parse_builder.specs.Names.{name_of, number_of, leaf_node}
 use Rattle.st_parse_builder.specs.Meaning.{exp, place, nothing, is_atom, atom_name, opened, iterated, posted, count_of, only, enclosed, label, step_at, indexed, first_place, meaning, led_by, meanings, field_meanings, bracketed, base, steps}
-use Rattle.st_measure.specs.Variables.{Occurrence, without, variables, seg_variables}
+use Rattle.st_parse_builder.specs.Variables.{Occurrence, without, variables, seg_variables}
 use Rattle.st_num.specs.Names.{is_among}
-use Rattle.st_measure.specs.inner.Noting.{field_variables}
-use Rattle.st_measure.proofs.Occurring.{one_behind, in_joined, in_prefixed, in_iterated, in_below, in_marked, in_enclosed, in_length, in_seq, in_call, in_round, in_fields, in_at, in_slice, in_step, in_steps, in_field_step, in_changed, in_name, in_atom, in_dot, in_number, in_literal}
+use Rattle.st_parse_builder.specs.inner.PieceVariables.{field_variables}
+use Rattle.st_parse_builder.proofs.Occurring.{one_behind, in_joined, in_prefixed, in_iterated, in_below, in_marked, in_enclosed, in_length, in_seq, in_call, in_round, in_fields, in_at, in_slice, in_step, in_steps, in_field_step, in_changed, in_name, in_atom, in_dot, in_number, in_literal}
 
 -- ---- lists
 

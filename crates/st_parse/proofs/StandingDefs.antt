@@ -17,11 +17,11 @@ use Rattle.st_parse_builder.specs.Meaning.{meaning, count_of}
 use Rattle.st_parse_builder.specs.Names.{name_of}
 use Rattle.st_parse_builder.specs.Definitions.{name_in, prem_at, condition, opened_at, sign_count, iterated, premise_meaning, premises_meaning, patterns, def_meaning, defs_meaning}
 use Rattle.st_num.specs.Names.{same_name}
-use Rattle.st_measure.specs.Variables.{Occurrence, Times, without, variables, times as times_of, iterated as repeated, prem_variables, def_variables}
-use Rattle.st_measure.specs.Limits.{first_of_each, place_past}
-use Rattle.st_measure.specs.DefHeights.{def_height}
-use Rattle.st_measure.proofs.Occurring.{one_behind}
-use Rattle.st_measure.proofs.Premises.{in_if, in_goal, in_otherwise, in_each, times_mark, times_times, times_below}
+use Rattle.st_parse_builder.specs.Variables.{Occurrence, Times, without, variables, times as times_of, iterated as repeated, prem_variables, def_variables}
+use Rattle.st_parse_builder.specs.Limits.{first_of_each, place_past}
+use Rattle.st_parse_builder.specs.DefHeights.{def_height}
+use Rattle.st_parse_builder.proofs.Occurring.{one_behind}
+use Rattle.st_parse_builder.proofs.Premises.{in_if, in_goal, in_otherwise, in_each, times_mark, times_times, times_below}
 use Rattle.st_draft.proofs.Endings.{variables_at}
 use Rattle.st_parse.proofs.Notes.{first_behind}
 use Rattle.st_parse.specs.Limits.{variable_past, too_tall, first_that}

@@ -15,7 +15,7 @@ use Rattle.st_grammar.proofs.PositionTexts.{rule_text, ruled_text, slot_text, po
 use Rattle.st_grammar.proofs.PositionReading.{inner_finish}
 use Rattle.st_parse_builder.specs.Meaning.{meaning}
 use Rattle.st_parse_builder.specs.Definitions.{condition}
-use Rattle.st_measure.specs.Variables.{Occurrence}
+use Rattle.st_parse_builder.specs.Variables.{Occurrence}
 use Rattle.st_parse.specs.Open.{path_variables, heading_variables, lead_variables, frames_variables, part_variables, head_variables, rule_variables, premise_variables, slot_variables, position_variables, cut_variables, inside_variables, open_variables}
 use Rattle.st_parse.proofs.Standing.{Stand, Occur, first, last, two, tree_occurs, trees_occur, base_occurs, steps_occur}
 use Rattle.st_parse.proofs.StandingDefs.{iterated_occurs, condition_occurs, premises_occur, patterns_occur}

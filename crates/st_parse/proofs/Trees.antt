@@ -21,8 +21,8 @@ use Rattle.st_parse_builder.specs.declared.action.Action.{Action}
 use Rattle.st_parse_builder.specs.Heights.{highest, height, typ_height}
 use Rattle.st_parse_builder.specs.inner.NotationBuilding.{typ_built, notation_built}
 use Rattle.st_parse_builder.specs.Definitions.{prem_at}
-use Rattle.st_measure.specs.DefHeights.{prem_height, field_type_height, def_node_height}
-use Rattle.st_measure.proofs.Premises.{tall_each}
+use Rattle.st_parse_builder.specs.DefHeights.{prem_height, field_type_height, def_node_height}
+use Rattle.st_parse_builder.proofs.Premises.{tall_each}
 use Rattle.st_draft.specs.declared.change.Change.{Change}
 use Rattle.st_draft.specs.declared.change.Change.TheVariants as change
 use Rattle.st_draft.specs.declared.change.DefinitionEnd.{DefinitionEnd}
@@ -30,7 +30,8 @@ use Rattle.st_draft.specs.declared.change.DefinitionEnd.TheVariants as ending
 use Rattle.st_draft.specs.declared.draft.Draft.{Draft}
 use Rattle.st_draft.specs.inner.Parts.{exp_built, all_built, count_with, index_in, redrafted, refilled}
 use Rattle.st_draft.specs.inner.Drafts.{each_of, shape_count, node_of, def_put, ended, begun, with_sides, params_put, args_put, typ_filled, notation_filled, exp_filled, condition_filled, count_filled}
-use Rattle.st_draft.specs.inner.Heights.{open_height, height_of, IsLow}
+use Rattle.st_parse_builder.specs.inner.PieceHeights.{open_height}
+use Rattle.st_draft.specs.inner.Heights.{height_of, IsLow}
 use Rattle.st_draft.specs.inner.Ready.{Ends, MayEnd, Ready, Awaits}
 use Rattle.st_draft.proofs.Low.{front_of}
 use Rattle.st_draft.proofs.Endings.{none_in, begun_clear, low_open}

@@ -4,9 +4,9 @@ use Rattle.std.specs.Option.{option_or}
 use Rattle.st_num.specs.declared.span.Span.{Span}
 use Rattle.st_num.specs.declared.limit.TheConstants.{HIGHEST_TREE, MOST_PREMISES}
 use Rattle.st_el.specs.declared.definition.Def.{Def}
-use Rattle.st_measure.specs.Variables.{def_variables}
-use Rattle.st_measure.specs.Limits.{place_past}
-use Rattle.st_measure.specs.DefHeights.{def_height}
+use Rattle.st_parse_builder.specs.Variables.{def_variables}
+use Rattle.st_parse_builder.specs.Limits.{place_past}
+use Rattle.st_parse_builder.specs.DefHeights.{def_height}
 
 -- the first variable that has as many others before it in its definition as there may be
 abbrev pub variable_past : Def → Option Span

@@ -12,8 +12,8 @@ use Rattle.st_grammar.specs.Positions.{Rule, rule_head, clause_head, Slot, rule_
 use Rattle.st_parse_builder.specs.Meaning.{meaning, meanings, base, steps}
 use Rattle.st_parse_builder.specs.Definitions as meant
 use Rattle.st_parse_builder.specs.Definitions.{condition, premises_meaning, patterns, defs_meaning}
-use Rattle.st_measure.specs.Variables.{Occurrence, variables, seg_variables, prem_variables}
-use Rattle.st_measure.specs.Limits.{place_past}
+use Rattle.st_parse_builder.specs.Variables.{Occurrence, variables, seg_variables, prem_variables}
+use Rattle.st_parse_builder.specs.Limits.{place_past}
 use Rattle.st_draft.specs.Before.{before}
 use Rattle.st_parse.specs.Limits.{variable_past, first_that}
 

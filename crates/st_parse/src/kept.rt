@@ -1,6 +1,8 @@
 //! What is kept of the definitions that are read: their trees, and what the limits ask of them.
 
-ghost use Rattle.std.specs.Prelude.{◌≡◌, [], map, ℕ, None, Some, IfOk};
+ghost use Rattle.std.specs.Prelude.{◌≡◌, [], map, ℕ, List, None, Some, IfOk};
+ghost use Rattle.st_parse_builder.specs.declared.action.Action.{Action};
+ghost use Rattle.st_parse.specs.inner.Taken.{IsPart, AreTaken};
 ghost use Rattle.std.specs.Option.{option_or};
 ghost use Rattle.st_el.specs.Plain.{nowhere};
 ghost use Rattle.st_el.specs.declared.definition.Def.{Def};
@@ -11,13 +13,13 @@ ghost use Rattle.st_draft.specs.inner.Ready.{Ready, Awaits, MayEnd};
 ghost use Rattle.st_parse.specs.Limits as limits;
 ghost use Rattle.st_parse.specs.inner.Kept as spec;
 
-use crate::variables::{Variables, count, no_variables, note_change, note_part};
-use st_draft::{Change, DefinitionEnd, Draft, PartToken, begun, fill, redraft, turn};
-use st_el::Def;
+use crate::variables::{Variables, build_part, change_parts, count, no_variables};
+use st_draft::{Change, DefinitionEnd, Draft, PartToken, PartTree, begun, fill, redraft, turn};
+use st_el::{Def, Exp, Typ};
 use st_measure::def_height;
 use st_num::{HIGHEST_TREE, NoMemory, Row, Span, Token};
 use st_parse_automaton::{Shape, Slot};
-use st_parse_builder::{Action, BuildFault};
+use st_parse_builder::Action;
 use std::alloc::Global;
 
 /// A draft, the first definition with a tree that is too high, and what is noted of variables. The
@@ -71,27 +73,27 @@ fn check_height(change: Change, draft: &Draft, tall: Option<Span>) -> Option<Spa
     }
 }
 
-/// A token between parts changes the draft. Parts that are too high do not go into it.
+/// A token between parts changes the draft. Arguments that are too high do not go into it.
 fn change_trees(
     alloc: Global,
     change: Change,
     shape: Shape,
     token: &Token,
-    arguments: &[Row<Action<'_>>],
+    arguments: Option<(Row<Typ>, Row<Exp>)>,
     draft: &mut Draft,
     tall: Option<Span>,
 ) -> Result<Option<Span>, NoMemory>
-    ensures { (d e : Draft) → spec.Stands tall draft.old d → Ready change d
-        → parts.redrafted change shape token.now arguments.now d ≡ Some e
+    ensures { (given : List (List Action)) (d e : Draft) → spec.Stands tall draft.old d
+        → Ready change d → parts.redrafted change shape token.now given d ≡ Some e
+        → AreTaken change given arguments
         → IfOk result (λ next. spec.Stands next draft.new e) }
 {
     let at = draft.head.at;
-    match redraft(alloc, change, shape, token, draft, arguments) {
-        Ok(()) => Ok(check_height(change, draft, tall)),
-        Err(BuildFault::Memory) => Err(NoMemory),
-        Err(BuildFault::Unfit) => Ok(tall.or(Some(at))),
-        Err(BuildFault::TooHigh) => Ok(tall.or(Some(at))),
-    }
+    let Some((params, args)) = arguments else {
+        return Ok(tall.or(Some(at)));
+    };
+    redraft(alloc, change, shape, token, params, args, draft)?;
+    Ok(check_height(change, draft, tall))
 }
 
 /// A part goes into the draft where it ends. One that is too high does not.
@@ -99,22 +101,22 @@ fn fill_trees(
     alloc: Global,
     slot: Slot,
     around: usize,
-    actions: &[Action<'_>],
+    tree: Option<PartTree>,
     words: &[PartToken<'_>],
     draft: &mut Draft,
     tall: Option<Span>,
 ) -> Result<Option<Span>, NoMemory>
-    ensures { (d e : Draft) → spec.Stands tall draft.old d → Awaits slot d
-        → parts.refilled slot around actions.now (map parts.word_of words.now) d ≡ Some e
+    ensures { (given : List Action) (d e : Draft) → spec.Stands tall draft.old d
+        → Awaits slot d → parts.refilled slot around given (map parts.word_of words.now) d ≡ Some e
+        → IsPart slot given tree
         → IfOk result (λ next. spec.Stands next draft.new e) }
 {
     let at = draft.head.at;
-    match fill(alloc, slot, around, actions, words, draft) {
-        Ok(()) => Ok(tall),
-        Err(BuildFault::Memory) => Err(NoMemory),
-        Err(BuildFault::Unfit) => Ok(tall.or(Some(at))),
-        Err(BuildFault::TooHigh) => Ok(tall.or(Some(at))),
-    }
+    let Some(tree) = tree else {
+        return Ok(tall.or(Some(at)));
+    };
+    fill(alloc, slot, around, tree, words, draft)?;
+    Ok(tall)
 }
 
 /// A token between parts changes what is kept.
@@ -130,17 +132,9 @@ pub(crate) fn change_kept<'a>(
         → parts.redrafted change shape token.now arguments.now d ≡ Some e
         → IfOk result (λ _. spec.Draws kept.new e) }
 {
-    note_change(alloc, change, arguments, &mut kept.variables)?;
+    let built = change_parts(alloc, change, arguments, &mut kept.variables)?;
     let tall = kept.tall;
-    kept.tall = change_trees(
-        alloc,
-        change,
-        shape,
-        token,
-        arguments,
-        &mut kept.draft,
-        tall,
-    )?;
+    kept.tall = change_trees(alloc, change, shape, token, built, &mut kept.draft, tall)?;
     Ok(())
 }
 
@@ -157,9 +151,9 @@ pub(crate) fn fill_kept<'a>(
         → parts.refilled slot around actions.now (map parts.word_of words.now) d ≡ Some e
         → IfOk result (λ _. spec.Draws kept.new e) }
 {
-    note_part(alloc, slot, actions, words, &mut kept.variables)?;
+    let tree = build_part(alloc, slot, actions, words, &mut kept.variables)?;
     let tall = kept.tall;
-    kept.tall = fill_trees(alloc, slot, around, actions, words, &mut kept.draft, tall)?;
+    kept.tall = fill_trees(alloc, slot, around, tree, words, &mut kept.draft, tall)?;
     Ok(())
 }
 

@@ -12,6 +12,7 @@
 mod kept;
 mod laws;
 mod parser;
+mod parts;
 mod take;
 mod variables;
 

@@ -5,7 +5,7 @@ ghost use Rattle.st_num.specs.declared.limit.TheConstants.{HIGHEST_TREE};
 ghost use Rattle.st_grammar.specs.Terminals as terminals;
 ghost use Rattle.st_parse_automaton.specs.inner.Readings.{progress_of};
 ghost use Rattle.st_parse_faults.specs.inner.Seen as seen;
-ghost use Rattle.st_measure.specs.Variables.{Occurrence};
+ghost use Rattle.st_parse_builder.specs.Variables.{Occurrence};
 ghost use Rattle.st_draft.specs.inner.Work.{Work, ended_defs, MayClose};
 ghost use Rattle.st_parse.specs.Source.{Answers};
 ghost use Rattle.st_parse.specs.inner.Kept.{Keeps, Tells};

@@ -5,7 +5,7 @@ ghost use Rattle.st_el.specs.declared.definition.Def.{Def};
 ghost use Rattle.st_grammar.specs.declared.sort.Bracket.{Bracket};
 ghost use Rattle.st_parse_automaton.specs.inner.PartAutomaton as automaton;
 ghost use Rattle.st_parse_automaton.specs.inner.Readings.{progress_of, reading_of};
-ghost use Rattle.st_measure.specs.Variables.{Occurrence};
+ghost use Rattle.st_parse_builder.specs.Variables.{Occurrence};
 ghost use Rattle.st_draft.specs.declared.draft.Draft.{Draft};
 ghost use Rattle.st_draft.specs.inner.Changes.{change_of};
 ghost use Rattle.st_draft.specs.inner.Drafts.{arguments_after};

@@ -1,26 +1,30 @@
 //! The variables of the open rule or clause, and the first that is past the limit.
 
-ghost use Rattle.std.specs.Prelude.{◌≡◌, ◌++◌, [], map, flat_map, ℕ, List, Some, IfOk};
+ghost use Rattle.std.specs.Prelude.{◌≡◌, ◌≢◌, ◌++◌, [], map, flat_map, ℕ, List, Some, IfOk};
 ghost use Rattle.std.specs.Option.{option_or};
 ghost use Rattle.st_num.specs.declared.limit.TheConstants.{MOST_PREMISES};
 ghost use Rattle.st_num.specs.declared.token.Token.{Token};
 ghost use Rattle.st_el.specs.declared.expression.Exp.{Exp};
 ghost use Rattle.st_parse_automaton.specs.declared.part_automaton.Shape.{Shape};
 ghost use Rattle.st_parse_builder.specs.inner.Building.{Stack, run};
-ghost use Rattle.st_measure.specs.inner.Noting.{stack_variables};
-ghost use Rattle.st_measure.specs.Variables.{occurrences, variables, times, iterated, without};
-ghost use Rattle.st_measure.specs.Limits as measured;
+ghost use Rattle.st_parse_builder.specs.inner.PieceVariables.{stack_variables};
+ghost use Rattle.st_parse_builder.specs.Variables.{occurrences, variables, times, iterated, without};
+ghost use Rattle.st_parse_builder.specs.Limits as measured;
+ghost use Rattle.st_draft.specs.declared.change.Change.TheVariants as change;
 ghost use Rattle.st_draft.specs.declared.draft.Draft.{Draft};
+ghost use Rattle.st_parse_builder.specs.declared.action.Action.{Action};
 ghost use Rattle.st_draft.specs.inner.Parts as parts;
 ghost use Rattle.st_draft.specs.inner.Ready.{Ready, Awaits};
 ghost use Rattle.st_parse.specs.inner.Cuts as spec;
 ghost use Rattle.st_parse.specs.inner.Kept.{Notes};
+ghost use Rattle.st_parse.specs.inner.Taken.{IsPart, AreTaken};
 
-use st_draft::{Change, PartToken, index_in};
-use st_measure::{leave_out, note_variables, place_past};
+use crate::parts::{build_arguments, exp_tree, notation_tree, typ_tree};
+use st_draft::{Change, PartToken, PartTree, index_in};
+use st_el::{Exp, Typ};
 use st_num::{MOST_PREMISES, NoMemory, Row, Span};
 use st_parse_automaton::Slot;
-use st_parse_builder::{Action, BuildFault, TokenRef};
+use st_parse_builder::{Action, TokenRef, build, leave_out, place_past};
 use std::alloc::Global;
 use std::mem::replace;
 
@@ -44,39 +48,6 @@ pub(crate) fn no_variables<'a>(alloc: Global) -> Variables<'a>
     }
 }
 
-/// Adds the variables of what these actions build, which may be cut off.
-fn add_variables<'a>(
-    alloc: Global,
-    actions: &[Action<'a>],
-    seen: &mut Row<TokenRef<'a>>,
-) -> Result<(), NoMemory>
-    ensures { (u : Stack) → run actions.now [] ≡ Some u
-        → IfOk result (λ _. occurrences seen.new ≡ occurrences seen.old ++ stack_variables u) }
-{
-    match note_variables(alloc, actions, seen) {
-        Ok(()) => Ok(()),
-        Err(BuildFault::Memory) => Err(NoMemory),
-        Err(BuildFault::Unfit) => Ok(()),
-        Err(BuildFault::TooHigh) => Ok(()),
-    }
-}
-
-/// Adds the variables of several expressions.
-fn add_all<'a>(
-    alloc: Global,
-    arguments: &[Row<Action<'a>>],
-    seen: &mut Row<TokenRef<'a>>,
-) -> Result<(), NoMemory>
-    ensures { (es : List Exp) → parts.all_built parts.exp_built arguments.now ≡ Some es
-        → IfOk result (λ _.
-        occurrences seen.new ≡ occurrences seen.old ++ flat_map variables es) }
-{
-    'arguments: for actions in arguments {
-        add_variables(alloc, actions.as_slice(), seen)?;
-    }
-    Ok(())
-}
-
 /// The index of a count that begins with these tokens is no variable.
 fn leave_index<'a>(
     alloc: Global,
@@ -91,22 +62,6 @@ fn leave_index<'a>(
         return Ok(());
     };
     leave_out(alloc, seen, 0, index.as_slice())
-}
-
-/// A premise is iterated so often.
-fn iterate<'a>(
-    alloc: Global,
-    actions: &[Action<'a>],
-    words: &[PartToken<'_>],
-    seen: &mut Row<TokenRef<'a>>,
-) -> Result<(), NoMemory>
-    ensures { (e : Exp) → parts.exp_built actions.now ≡ Some e
-        → IfOk result (λ _. occurrences seen.new
-        ≡ iterated (occurrences seen.old)
-        (times (parts.count_with (parts.index_in (map parts.word_of words.now)) e))) }
-{
-    leave_index(alloc, words, seen)?;
-    add_variables(alloc, actions, seen)
 }
 
 /// These tokens, and those behind them.
@@ -150,43 +105,64 @@ pub(crate) fn count<'a>(alloc: Global, variables: &mut Variables<'a>) -> Result<
     Ok(())
 }
 
-/// A part ends: what of it belongs to a rule or clause is noted.
-pub(crate) fn note_part<'a>(
+/// A part ends, and is built: what of it belongs to a rule or clause is noted.
+pub(crate) fn build_part<'a>(
     alloc: Global,
     slot: Slot,
     actions: &[Action<'a>],
     words: &[PartToken<'_>],
     variables: &mut Variables<'a>,
-) -> Result<(), NoMemory>
-    ensures { (d e : Draft) (n : ℕ) → Notes variables.old d → Awaits slot d
+) -> Result<Option<PartTree>, NoMemory>
+    ensures notes { (d e : Draft) (n : ℕ) → Notes variables.old d → Awaits slot d
         → parts.refilled slot n actions.now (map parts.word_of words.now) d ≡ Some e
         → IfOk result (λ _. Notes variables.new e) }
+    ensures part { IfOk result (λ made. IsPart slot actions.now made) }
 {
     match slot {
-        Slot::Rule => add_variables(alloc, actions, &mut variables.before),
-        Slot::Condition => add_variables(alloc, actions, &mut variables.inside),
-        Slot::Count => iterate(alloc, actions, words, &mut variables.inside),
-        _ => Ok(()),
+        Slot::Field | Slot::Var | Slot::Fun => typ_tree(alloc, actions),
+        Slot::Case(_) | Slot::Notation => notation_tree(alloc, actions),
+        Slot::Argument(_, _) => Ok(Some(PartTree::Argument)),
+        Slot::Rule => exp_tree(alloc, actions, &mut variables.before),
+        Slot::Condition => exp_tree(alloc, actions, &mut variables.inside),
+        Slot::Count => {
+            leave_index(alloc, words, &mut variables.inside)?;
+            exp_tree(alloc, actions, &mut variables.inside)
+        }
     }
 }
 
-/// A token between parts changes what is noted.
-pub(crate) fn note_change<'a>(
+/// A token between parts ends a definition or a premise, or neither.
+fn note_change<'a>(
     alloc: Global,
     change: Change,
-    arguments: &[Row<Action<'a>>],
     variables: &mut Variables<'a>,
 ) -> Result<(), NoMemory>
-    ensures { (d e : Draft) (sh : Shape) (x : Token) → Notes variables.old d → Ready change d
-        → parts.redrafted change sh x arguments.now d ≡ Some e
-        → IfOk result (λ _. Notes variables.new e) }
+    ensures others { change ≢ change.Args → (given : List (List Action)) (d e : Draft) (sh : Shape)
+        (x : Token) → Notes variables.old d → Ready change d
+        → parts.redrafted change sh x given d ≡ Some e → IfOk result (λ _. Notes variables.new e) }
+    ensures args { change ≡ change.Args → variables.new ≡ variables.old }
 {
     match change {
         Change::Begin(_) | Change::End(_) => count(alloc, variables),
         Change::Premise(_) => end_premise(alloc, variables),
-        Change::Args => add_all(alloc, arguments, &mut variables.before),
         _ => Ok(()),
     }
+}
+
+/// A token between parts changes what is noted, and takes the arguments that it builds.
+pub(crate) fn change_parts<'a>(
+    alloc: Global,
+    change: Change,
+    arguments: &[Row<Action<'a>>],
+    variables: &mut Variables<'a>,
+) -> Result<Option<(Row<Typ>, Row<Exp>)>, NoMemory>
+    ensures notes { (d e : Draft) (sh : Shape) (x : Token) → Notes variables.old d → Ready change d
+        → parts.redrafted change sh x arguments.now d ≡ Some e
+        → IfOk result (λ _. Notes variables.new e) }
+    ensures built { IfOk result (λ made. AreTaken change arguments.now made) }
+{
+    note_change(alloc, change, variables)?;
+    build_arguments(alloc, change, arguments, &mut variables.before)
 }
 
 /// Whether a part belongs to a rule or clause.
@@ -215,8 +191,7 @@ pub(crate) fn note_cut<'a>(
         ++ spec.cut slot u) }
 {
     if in_rule(slot) {
-        add_variables(alloc, actions, &mut variables.inside)
-    } else {
-        Ok(())
+        let _cut = build(alloc, actions, &mut variables.inside)?;
     }
+    Ok(())
 }

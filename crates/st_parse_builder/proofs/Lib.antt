@@ -1,10 +1,20 @@
 pub mod Builds
 pub mod Tallness
-pub mod Growth
-pub mod Stops
 pub mod NotationBuilds
 pub mod NotationTallness
-pub mod NotationGrowth
-pub mod NotationStops
 pub mod EmissionEnds
 pub mod Emission
+pub mod Lists
+pub mod Premises
+pub mod Occurring
+mod Leaving
+mod Limits
+pub mod PartLemmas
+mod Tops
+mod OnTop
+mod Noted
+mod Simulated
+mod NotationTops
+mod NotationSimulated
+mod NotationGiven
+mod Steps

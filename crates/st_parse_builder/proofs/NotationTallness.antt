@@ -1,5 +1,5 @@
 -- Heights of types and notations by their parts.
-use Rattle.std.proofs.Common.{◌≡◌, ℕ, ◌+◌, List, [], ◌∷◌, ◌++◌, map, refl, sym, ap, ◌∙◌, rules}
+use Rattle.std.proofs.Common.{arith, ◌≡◌, ℕ, ◌+◌, ◌≤◌, List, [], ◌∷◌, ◌++◌, map, refl, sym, ap, subst, ◌∙◌, rules}
 use Rattle.std.specs.Prelude.{max}
 use Rattle.st_num.specs.declared.mark.Mark.{Mark}
 use Rattle.st_num.specs.declared.mark.Mark.TheVariants as mark
@@ -11,12 +11,12 @@ use Rattle.st_num.specs.declared.word.Word.TheVariants as word
 use Rattle.st_el.specs.declared.ty.Typ.{Typ, the_lemmas as typ_lemmas}
 use Rattle.st_el.specs.declared.ty.TypNode.TheVariants as typ_node
 use Rattle.st_el.specs.declared.notation.Notation.{Notation, out-Notation, roll-out-Notation, the_lemmas as notation_lemmas}
-use Rattle.st_el.specs.declared.notation.NotNode.{NotNode, out-NotNode, roll-NotNode, roll-out-NotNode}
+use Rattle.st_el.specs.declared.notation.NotNode.{NotNode, fold-NotNode, out-NotNode, roll-NotNode, roll-out-NotNode}
 use Rattle.st_el.specs.declared.notation.NotNode.TheOpen.{NotNode-F}
 use Rattle.st_el.specs.declared.notation.NotNode.TheVariants as not_node
 use Rattle.st_parse_builder.specs.Names.{name_of}
 use Rattle.st_parse_builder.specs.Notations.{typ_at, typ_leaf, marked, marked_node, notation_at, notation_place, hole, spelled_on, atom_on, notation_joined}
-use Rattle.st_parse_builder.specs.Heights.{highest, typ_height, notation_height}
+use Rattle.st_parse_builder.specs.Heights.{height_not_node_at, height_notation_at, highest, typ_height, notation_height}
 
 -- ---- types
 
@@ -97,9 +97,19 @@ tall_sequence at ns = search (rules, notation_lemmas)
 pub tall_notation_joined : (l : Notation) (m : Mark) (r : Notation) → notation_height (notation_joined l m r) ≡ max (notation_height l) (notation_height r) + 1
 tall_notation_joined l m r = search (rules, notation_lemmas)
 
+-- A notation is at least 1 high.
+rolled_tall : (at : Span) (n : NotNode) → 1 ≤ notation_height (notation_at at n)
+rolled_tall at n = let is : notation_height (notation_at at n) ≡ fold-NotNode ℕ ℕ height_not_node_at height_notation_at n + 1 = search (rules, notation_lemmas) in omega (arith, is)
+
+some_height : (n : Notation) → max 1 (notation_height n) ≡ notation_height n
+some_height n = let low : 1 ≤ notation_height n = subst (λ k. 1 ≤ notation_height k) (roll-out-Notation n) (rolled_tall (notation_place n) (out-Notation n).node) in omega (arith, low)
+
+tall_both : (at : Span) (m : Mark) (n : Notation) → notation_height (notation_joined (notation_at at (not_node.Seq [])) m n) ≡ max 1 (notation_height n) + 1
+tall_both at m n = search (rules, notation_lemmas)
+
 -- a sign whose left side is absent
-pub tall_absent : (at : Span) (m : Mark) (n : Notation) → notation_height (notation_joined (notation_at at (not_node.Seq [])) m n) ≡ max 1 (notation_height n) + 1
-tall_absent at m n = search (rules, notation_lemmas)
+pub tall_absent : (at : Span) (m : Mark) (n : Notation) → notation_height (notation_joined (notation_at at (not_node.Seq [])) m n) ≡ notation_height n + 1
+tall_absent at m n = tall_both at m n ∙ ap (λ h. h + 1) (some_height n)
 
 -- the open form decides what an atom with a dot is
 same_height : (at : Span) (n : NotNode-F NotNode Notation) (behind : List ℕ) → notation_height (notation_at at (spelled_on n behind)) ≡ notation_height (notation_at at (roll-NotNode n))

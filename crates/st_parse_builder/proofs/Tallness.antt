@@ -1,10 +1,11 @@
 -- Heights of expressions by their parts.
-use Rattle.std.proofs.Common.{◌≡◌, ℕ, ◌+◌, List, [], ◌∷◌, ◌++◌, map, Bool, true, false, ◌||◌, refl, sym, ap, ◌∙◌, arith, rules, if◌then◌else◌}
+use Rattle.std.proofs.Common.{◌≡◌, ℕ, ◌+◌, ◌≤◌, List, [], ◌∷◌, ◌++◌, map, Bool, true, false, refl, sym, ap, subst, ◌∙◌, arith, rules, if◌then◌else◌}
 use Rattle.std.specs.Prelude.{max}
 use Rattle.std.proofs.Math.Nat.{max-zero, zero-max}
 use Rattle.st_num.specs.declared.mark.Mark.{Mark}
 use Rattle.st_num.specs.declared.span.Span.{Span}
-use Rattle.st_el.specs.declared.expression.Exp.{Exp, the_lemmas}
+use Rattle.st_el.specs.declared.expression.Exp.{Exp, out-Exp, roll-out-Exp, the_lemmas}
+use Rattle.st_el.specs.declared.expression.Node.{Node, fold-Node}
 use Rattle.st_el.specs.declared.expression.Node.TheVariants as node
 use Rattle.st_el.specs.declared.expression.Count.TheVariants as count
 use Rattle.st_el.specs.declared.expression.Seg.{Seg}
@@ -18,10 +19,10 @@ use Rattle.st_grammar.specs.declared.sort.Leaf.TheVariants as leaf
 use Rattle.st_el.specs.declared.expression.Seg.TheVariants as seg
 use Rattle.st_parse_builder.specs.Names.{name_of, number_of, literal_node, leaf_node}
 use Rattle.st_num.specs.Signs.{is_notation}
-use Rattle.st_parse_builder.specs.Meaning.{exp, joined, is_tilde, prefixed, is_star, is_plus, iterated, mark_count, in_parens, enclosed, is_extension, changed}
+use Rattle.st_parse_builder.specs.Meaning.{exp, place, joined, is_tilde, prefixed, is_star, is_plus, iterated, mark_count, in_parens, enclosed, is_extension, changed}
 use Rattle.st_grammar.specs.Definitions.{is_minus}
-use Rattle.st_parse_builder.specs.Heights.{highest, height, seg_height}
-use Rattle.st_parse_builder.specs.inner.PieceHeights.{field_height, prefixed_height}
+use Rattle.st_parse_builder.specs.Heights.{height_count_at, height_node_at, height_seg_at, height_exp_at, highest, height, seg_height}
+use Rattle.st_parse_builder.specs.inner.PieceHeights.{field_height}
 
 tall_sides : (b : Bool) (at : Span) (l : Exp) (m : Mark) (r : Exp) → height (exp at (if b then node.Infix l m r else node.Binary l m r)) ≡ max (height l) (height r) + 1
 tall_sides true at l m r = search (rules, the_lemmas)
@@ -122,13 +123,23 @@ tall_parens at [] = tall_tuple at []
 tall_parens at (e ∷ []) = tall_paren at e ∙ ap (λ h. h + 1) (sym (max-zero (height e)))
 tall_parens at (e ∷ f ∷ es) = tall_tuple at (e ∷ f ∷ es)
 
+tall_absent : (at : Span) (m : Mark) (e : Exp) → height (exp at (node.Infix (exp at (node.Seq [])) m e)) ≡ max 1 (height e) + 1
+tall_absent at m e = search (rules, the_lemmas)
+
+-- An expression is at least 1 high.
+rolled_tall : (at : Span) (n : Node) → 1 ≤ height (exp at n)
+rolled_tall at n = let is : height (exp at n) ≡ fold-Node ℕ ℕ ℕ ℕ height_count_at height_node_at height_seg_at height_exp_at n + 1 = search (rules, the_lemmas) in omega (arith, is)
+
+some_height : (e : Exp) → max 1 (height e) ≡ height e
+some_height e = let low : 1 ≤ height e = subst (λ d. 1 ≤ height d) (roll-out-Exp e) (rolled_tall (place e) (out-Exp e).node) in omega (arith, low)
+
 -- the height of a prefix sign with what is behind it
-tall_prefix : (a b : Bool) (at : Span) (m : Mark) (e : Exp) → height (exp at (if a then node.Not e else if b then node.Neg e else node.Infix (exp at (node.Seq [])) m e)) ≡ (if a || b then height e else max 1 (height e)) + 1
+tall_prefix : (a b : Bool) (at : Span) (m : Mark) (e : Exp) → height (exp at (if a then node.Not e else if b then node.Neg e else node.Infix (exp at (node.Seq [])) m e)) ≡ height e + 1
 tall_prefix true b at m e = tall_negated at e
 tall_prefix false true at m e = search (rules, the_lemmas)
-tall_prefix false false at m e = search (rules, the_lemmas)
+tall_prefix false false at m e = tall_absent at m e ∙ ap (λ n. n + 1) (some_height e)
 
-pub tall_prefixed : (m : Mark) (at : Span) (e : Exp) → height (prefixed m at e) ≡ prefixed_height m (height e)
+pub tall_prefixed : (m : Mark) (at : Span) (e : Exp) → height (prefixed m at e) ≡ height e + 1
 tall_prefixed m at e = tall_prefix (is_tilde m) (is_minus m) at m e
 
 pub tall_step : (e : Exp) → seg_height (seg.At e) ≡ height e

@@ -10,5 +10,11 @@ pub mod Notations
 pub mod Definitions
 -- how high a source tree is
 pub mod Heights
+-- how high premises and definitions are
+pub mod DefHeights
+-- the variables that occur in a part or a definition, in the order of the text
+pub mod Variables
+-- the first variable that has so many others before it
+pub mod Limits
 -- ---- what only proofs need
 pub mod inner

@@ -3,7 +3,9 @@ pub mod Actions
 pub mod Emission
 pub mod Building
 pub mod PieceHeights
-pub mod Pieces
-pub mod Answers
+pub mod PieceVariables
+pub mod Parts
+pub mod Entries
 pub mod NotationBuilding
-pub mod NotationAnswers
+pub mod NotationEntries
+pub mod Counting

@@ -1,126 +1,148 @@
 //! Building: actions one after another.
 
-ghost use Rattle.std.specs.Prelude.{◌≡◌, ◌≤◌, [], ◌∷◌, IfOk, IfErr, OnOk, Some, Err};
+ghost use Rattle.std.specs.Prelude.{◌≡◌, [], ◌∷◌, ◌++◌, List, length, reverse, Some, IfOk, OnSome};
+ghost use Rattle.st_el.specs.declared.expression.Exp.{Exp};
 ghost use Rattle.st_grammar.specs.declared.sort.Sort.{Sort};
 ghost use Rattle.st_grammar.specs.Trees.{Tree};
 ghost use Rattle.st_grammar.specs.Grammar.{Fits};
 ghost use Rattle.st_parse_builder.specs.declared.piece.Piece.TheVariants as piece;
 ghost use Rattle.st_parse_builder.specs.Meaning.{meaning};
-ghost use Rattle.st_parse_builder.specs.inner.PieceHeights as piece_heights;
+ghost use Rattle.st_parse_builder.specs.Variables.{Occurrence, occurrences, variables};
 ghost use Rattle.st_parse_builder.specs.inner.Actions.{acts};
-ghost use Rattle.st_parse_builder.specs.inner.Building.{applied, run};
-ghost use Rattle.st_parse_builder.specs.inner.Pieces.{pieces, Makes};
-ghost use Rattle.st_parse_builder.specs.inner.Answers.{Fails, Overflows, Builds, Means};
+ghost use Rattle.st_parse_builder.specs.inner.Building as pieces;
+ghost use Rattle.st_parse_builder.specs.inner.PieceVariables.{stack_variables};
+ghost use Rattle.st_parse_builder.specs.inner.Parts.{Makes, Gives, made_or, untold};
+ghost use Rattle.st_parse_builder.specs.inner.Entries.{applied, begun, noted, Stands, the_exp, exp_part};
 
-use crate::entry::{Entry, Made};
+use crate::built::{Built, untold};
 use crate::leaf::copy_name;
 use crate::list::{end_call, end_fields, end_parens, end_sequence, field, first, part};
-use crate::make::{below, dot, enclose, join, length, marked, operand, prefix, times};
+use crate::make::{below, dot, enclose, join, length, mark, operand, prefix, times};
 use crate::path::{change, position, slice, step_at, step_field, step_slice};
-use crate::pieces::{pop_done, push};
-use crate::{Action, BuildFault, Piece};
+use crate::pieces::{Entry, Stack, pop_done};
+use crate::{Action, Piece, TokenRef};
 use st_el::Exp;
-use st_num::{HIGHEST_TREE, NoMemory, Row};
+use st_num::{NoMemory, Row};
 use std::alloc::Global;
 
-/// A piece with no expression in it.
-fn begun(piece: Piece) -> Made
-    requires { piece_heights.piece_height piece ≡ 0 }
-    ensures { result.piece ≡ piece }
+/// A piece with no expression in it, before which so many variables are seen.
+fn begun(piece: Piece, from: usize) -> Entry
+    ensures { result ≡ begun from piece }
 {
-    Made { piece, height: 0 }
+    Built {
+        tree: Some(piece),
+        height: 0,
+        from,
+    }
 }
 
 /// What an action makes of what is on top.
-fn make(
+fn make<'a>(
     alloc: Global,
-    stack: &mut Row<Entry>,
-    action: &Action<'_>,
-) -> Result<Option<Made>, NoMemory>
-    ensures { IfOk result (λ made.
-        Makes (applied action.now (pieces stack.old)) (pieces stack.new) made) }
+    stack: &mut Stack,
+    seen: &mut Row<TokenRef<'a>>,
+    action: &Action<'a>,
+) -> Result<Option<Entry>, NoMemory>
+    ensures part { IfOk result (λ made.
+        Makes (applied (length seen.old) action.now (reverse stack.old)) (reverse stack.new) made) }
+    ensures seen { IfOk result (λ made. OnSome made
+        (noted action.now (reverse stack.old) (occurrences seen.old)
+        ≡ Some (occurrences seen.new))) }
 {
     match action {
-        Action::Operand(leaf, token) => Ok(Some(operand(alloc, *leaf, token.get())?)),
+        Action::Operand(leaf, token) => Ok(Some(operand(alloc, *leaf, token, seen)?)),
         Action::Dot(token) => dot(alloc, stack, token.get()),
-        Action::Mark(mark) => marked(alloc, stack, *mark),
+        Action::Mark(sign) => mark(alloc, stack, *sign),
         Action::Times => times(alloc, stack),
-        Action::Below => below(alloc, stack),
+        Action::Below => below(alloc, stack, seen),
         Action::Label(token) => {
             let name = copy_name(alloc, &token.get().kind)?;
-            Ok(Some(begun(Piece::Label(name))))
+            Ok(Some(begun(Piece::Label(name), seen.len())))
         }
-        Action::Here(at) => Ok(Some(begun(Piece::Here(*at)))),
-        Action::Prefix(mark) => prefix(alloc, stack, *mark),
+        Action::Here(at) => Ok(Some(begun(Piece::Here(*at), seen.len()))),
+        Action::Prefix(sign) => prefix(alloc, stack, *sign),
         Action::Enclose(bracket) => enclose(alloc, stack, *bracket),
         Action::Length => length(alloc, stack),
-        Action::Join(mark) => join(alloc, stack, *mark),
-        Action::Open(at) => Ok(Some(begun(Piece::Parts(*at, Row::new(alloc))))),
+        Action::Join(sign) => join(alloc, stack, *sign),
+        Action::Open(at) => Ok(Some(begun(Piece::Parts(*at, Row::new(alloc)), seen.len()))),
         Action::First => first(alloc, stack),
         Action::Part => part(stack),
         Action::EndParens => end_parens(alloc, stack),
         Action::EndCall => end_call(stack),
         Action::EndSequence => end_sequence(stack),
-        Action::OpenFields(at) => Ok(Some(begun(Piece::Fields(*at, Row::new(alloc))))),
+        Action::OpenFields(at) => {
+            Ok(Some(begun(Piece::Fields(*at, Row::new(alloc)), seen.len())))
+        }
         Action::Field => field(stack),
         Action::EndFields => end_fields(stack),
-        Action::OpenPath => Ok(Some(begun(Piece::Path(Row::new(alloc))))),
+        Action::OpenPath => Ok(Some(begun(Piece::Path(Row::new(alloc)), seen.len()))),
         Action::StepField(token) => step_field(alloc, stack, token.get()),
         Action::StepAt => step_at(stack),
         Action::StepSlice => step_slice(stack),
         Action::At => position(alloc, stack),
         Action::Slice => slice(alloc, stack),
-        Action::Change(mark) => change(alloc, stack, *mark),
+        Action::Change(sign) => change(alloc, stack, *sign),
     }
 }
 
-/// Puts what is made on the stack, where it is not too high.
-fn finish(stack: &mut Row<Entry>, made: Made) -> Result<(), BuildFault>
-    ensures ok { OnOk result (pieces stack.new ≡ made.piece ∷ pieces stack.old) }
-    ensures err { IfErr result (λ fault. Overflows made.piece fault) }
+/// What is made goes on the stack; what does not fit is a part without a tree.
+fn finish(stack: &mut Stack, made: Option<Entry>, from: usize) -> Result<(), NoMemory>
+    ensures { IfOk result (λ _. reverse stack.new ≡ made_or made (untold from) ∷ reverse stack.old) }
 {
-    let Made { piece, height } = made;
-    if height > HIGHEST_TREE {
-        return Err(BuildFault::TooHigh);
+    match made {
+        Some(entry) => stack.push(entry),
+        None => stack.push(untold(from)),
     }
-    push(stack, Entry { piece, height })?;
-    Ok(())
 }
 
-/// One step of building.
-fn apply(alloc: Global, stack: &mut Row<Entry>, action: &Action<'_>) -> Result<(), BuildFault>
-    ensures ok { OnOk result (applied action.now (pieces stack.old) ≡ Some (pieces stack.new)) }
-    ensures err { IfErr result (λ fault. Fails (applied action.now (pieces stack.old)) fault) }
+/// One step of building. An action that does not fit makes a part without a tree.
+fn apply<'a>(
+    alloc: Global,
+    stack: &mut Stack,
+    seen: &mut Row<TokenRef<'a>>,
+    action: &Action<'a>,
+) -> Result<(), NoMemory>
+    ensures { (before : List Occurrence) (s u : pieces.Stack)
+        → pieces.applied action.now s ≡ Some u → Stands before s stack.old seen.old
+        → IfOk result (λ _. Stands before u stack.new seen.new) }
 {
-    let Some(made) = make(alloc, stack, action)? else {
-        return Err(BuildFault::Unfit);
-    };
-    finish(stack, made)?;
-    Ok(())
+    let made = make(alloc, stack, seen, action)?;
+    finish(stack, made, seen.len())
 }
 
-/// The one expression on the stack.
-fn only(stack: &mut Row<Entry>) -> Result<Exp, BuildFault>
-    ensures { Builds (Some (pieces stack.old)) result }
+/// The one expression on the stack. Where there is none, or more than one, it has no tree.
+fn only(stack: &mut Stack, from: usize) -> Built<Exp>
+    ensures { Gives (the_exp (reverse stack.old)) result }
 {
     let Some(top) = pop_done(stack) else {
-        return Err(BuildFault::Unfit);
+        return untold(from);
     };
     if !stack.is_empty() {
-        return Err(BuildFault::Unfit);
+        return untold(from);
     }
-    Ok(top.exp)
+    top
 }
 
-/// Builds the expression of these actions. A tree higher than 100 is not built.
-pub fn build(alloc: Global, actions: &[Action<'_>]) -> Result<Exp, BuildFault>
-    ensures exact { Builds (run actions.now []) result }
+/// Builds the expression of these actions, and adds the variables that occur in it to what is seen,
+/// in the order of the text. Actions that are cut off build no expression alone; the variables of
+/// what they build are added all the same.
+pub fn build<'a>(
+    alloc: Global,
+    actions: &[Action<'a>],
+    seen: &mut Row<TokenRef<'a>>,
+) -> Result<Built<Exp>, NoMemory>
+    ensures exact { (e : Exp) → pieces.run actions.now [] ≡ Some (piece.Done e ∷ [])
+        → IfOk result (λ made. made ≡ exp_part (length seen.old) e) }
+    ensures seen { (s : pieces.Stack) → pieces.run actions.now [] ≡ Some s
+        → IfOk result (λ _. occurrences seen.new ≡ occurrences seen.old ++ stack_variables s) }
     ensures tree { (σ : Sort) (t : Tree) → Fits σ t → actions.now ≡ acts t
-        → Means (meaning t) result }
+        → IfOk result (λ made. (made ≡ exp_part (length seen.old) (meaning t))
+        × (occurrences seen.new ≡ occurrences seen.old ++ variables (meaning t))) }
 {
+    let from = seen.len();
     let mut stack = Row::new(alloc);
     'actions: for action in actions {
-        apply(alloc, &mut stack, action)?;
+        apply(alloc, &mut stack, seen, action)?;
     }
-    only(&mut stack)
+    Ok(only(&mut stack, from))
 }

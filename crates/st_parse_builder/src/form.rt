@@ -1,10 +1,12 @@
 //! Expressions from their parts.
 
-ghost use Rattle.std.specs.Prelude.{◌≡◌, [], ◌∷◌, ◌++◌, IfOk};
+ghost use Rattle.std.specs.Prelude.{◌≡◌, ◌∷◌, ◌++◌, IfOk};
+ghost use Rattle.st_el.specs.declared.expression.Count.TheVariants as count;
 ghost use Rattle.st_el.specs.declared.expression.Node.{out-Node};
 ghost use Rattle.st_el.specs.declared.expression.Node.TheVariants as node;
 ghost use Rattle.st_parse_builder.specs.Names.{name_of};
 ghost use Rattle.st_parse_builder.specs.inner.Building.{call_name};
+ghost use Rattle.st_parse_builder.specs.inner.Entries.{goes_on};
 ghost use Rattle.st_parse_builder.specs.Meaning as meaning;
 
 use crate::leaf::{copy_name, name_of};
@@ -68,6 +70,22 @@ pub(crate) fn iterated(alloc: Global, exp: Exp, count: Count) -> Result<Exp, NoM
     })
 }
 
+/// An iteration that goes as often as the bound says.
+pub(crate) fn times_of(alloc: Global, body: Exp, bound: Exp) -> Result<Exp, NoMemory>
+    ensures { IfOk result (λ whole. whole ≡ meaning.iterated body (count.Times bound)) }
+{
+    let bound = Boxed::new(alloc, bound)?;
+    iterated(alloc, body, Count::Times(bound))
+}
+
+/// An iteration whose index runs below the bound.
+pub(crate) fn below_of(alloc: Global, body: Exp, index: Name, bound: Exp) -> Result<Exp, NoMemory>
+    ensures { IfOk result (λ whole. whole ≡ meaning.iterated body (count.Below index bound)) }
+{
+    let bound = Boxed::new(alloc, bound)?;
+    iterated(alloc, body, Count::Below(index, bound))
+}
+
 /// What an iteration sign counts.
 pub fn mark_count(mark: Mark) -> Count
     ensures { result ≡ meaning.mark_count mark }
@@ -91,6 +109,17 @@ pub(crate) fn enclosed(alloc: Global, bracket: Bracket, at: Span, exp: Exp) -> R
         Bracket::Round | Bracket::Square | Bracket::Brace | Bracket::Dollar => Node::Arith(exp),
     };
     Ok(Exp { at, node })
+}
+
+/// One part between the bars of a length.
+pub(crate) fn length_of(alloc: Global, at: Span, exp: Exp) -> Result<Exp, NoMemory>
+    ensures { IfOk result (λ whole. whole ≡ meaning.exp at (node.Len exp)) }
+{
+    let exp = Boxed::new(alloc, exp)?;
+    Ok(Exp {
+        at,
+        node: Node::Len(exp),
+    })
 }
 
 /// One part in parentheses, or a tuple.
@@ -132,9 +161,24 @@ pub(crate) fn changed(
     Ok(Exp { at, node })
 }
 
+/// The element at a position.
+pub(crate) fn element(alloc: Global, whole: Exp, position: Exp) -> Result<Exp, NoMemory>
+    ensures { IfOk result (λ exp. exp
+        ≡ meaning.exp (meaning.place whole) (node.At whole position)) }
+{
+    let at = whole.at;
+    let whole = Boxed::new(alloc, whole)?;
+    let position = Boxed::new(alloc, position)?;
+    Ok(Exp {
+        at,
+        node: Node::At(whole, position),
+    })
+}
+
 /// The elements from a position on.
 pub(crate) fn sliced(alloc: Global, whole: Exp, from: Exp, count: Exp) -> Result<Exp, NoMemory>
-    ensures { IfOk result (λ exp. exp ≡ meaning.indexed whole (from ∷ count ∷ [])) }
+    ensures { IfOk result (λ exp. exp
+        ≡ meaning.exp (meaning.place whole) (node.Slice whole from count)) }
 {
     let at = whole.at;
     let whole = Boxed::new(alloc, whole)?;
@@ -157,10 +201,20 @@ pub(crate) fn with_dot(name: Name, behind: &[u8]) -> Result<Name, NoMemory>
 }
 
 /// Whether an expression is an atom.
-pub(crate) fn is_atom(exp: &Exp) -> bool
+fn is_atom(exp: &Exp) -> bool
     ensures { result ≡ meaning.is_atom (meaning.opened exp.now) }
 {
     matches!(&exp.node, Node::Atom(_))
+}
+
+/// Whether a dot goes on with the name of an atom.
+pub(crate) fn goes_on(token: &Token, exp: &Option<Exp>) -> bool
+    ensures { result ≡ goes_on token.now exp.now }
+{
+    match exp {
+        None => false,
+        Some(exp) => token.touching && is_atom(exp),
+    }
 }
 
 /// The name of an atom, and the empty one for anything else.
@@ -174,7 +228,7 @@ fn atom_name(alloc: Global, node: Node) -> Name
 }
 
 /// An atom that goes on with the name behind a dot.
-pub(crate) fn atom_on(alloc: Global, exp: Exp, token: &Token) -> Result<Exp, NoMemory>
+fn atom_on(alloc: Global, exp: Exp, token: &Token) -> Result<Exp, NoMemory>
     ensures { IfOk result (λ whole. whole ≡ meaning.exp (meaning.place exp)
         (node.Atom (meaning.atom_name (meaning.opened exp) ++ 46 ∷ name_of token.now.kind))) }
 {
@@ -187,7 +241,7 @@ pub(crate) fn atom_on(alloc: Global, exp: Exp, token: &Token) -> Result<Exp, NoM
 }
 
 /// A field of a record.
-pub(crate) fn field_of(alloc: Global, exp: Exp, token: &Token) -> Result<Exp, NoMemory>
+fn field_of(alloc: Global, exp: Exp, token: &Token) -> Result<Exp, NoMemory>
     ensures { IfOk result (λ whole. whole ≡ meaning.exp (meaning.place exp)
         (node.Dot exp (name_of token.now.kind))) }
 {
@@ -198,6 +252,17 @@ pub(crate) fn field_of(alloc: Global, exp: Exp, token: &Token) -> Result<Exp, No
         at,
         node: Node::Dot(exp, name),
     })
+}
+
+/// An expression with a dot and a name behind it.
+pub(crate) fn dotted(alloc: Global, exp: Exp, token: &Token) -> Result<Exp, NoMemory>
+    ensures { IfOk result (λ whole. whole ≡ meaning.dotted exp token.now) }
+{
+    if token.touching && is_atom(&exp) {
+        atom_on(alloc, exp, token)
+    } else {
+        field_of(alloc, exp, token)
+    }
 }
 
 /// The name of a function alone, which takes arguments.

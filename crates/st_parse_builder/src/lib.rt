@@ -9,15 +9,15 @@
 
 mod action;
 mod builder;
-mod entry;
-mod fault;
+mod built;
 mod form;
 mod laws;
 mod leaf;
+mod leave;
+mod limit;
 mod list;
 mod make;
 mod notation_builder;
-mod notation_entry;
 mod notation_form;
 mod notation_make;
 mod notation_piece;
@@ -28,13 +28,15 @@ mod pieces;
 
 pub use action::{Action, TokenRef};
 pub use builder::build;
-pub use fault::BuildFault;
+pub use built::{Built, above, higher, no_parts, with_part};
 pub use form::mark_count;
 pub use laws::{
     emissions_build, notations_are_built, one_source, parts_are_built, readings_emit,
     types_are_built,
 };
 pub use leaf::{copy_name, name_of};
-pub use notation_builder::{build_hole, build_notation, build_typ};
+pub use leave::leave_out;
+pub use limit::place_past;
+pub use notation_builder::{build_notation, build_typ};
 pub use notation_piece::NotationPiece;
 pub use piece::Piece;

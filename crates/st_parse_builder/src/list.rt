@@ -1,41 +1,46 @@
-//! Lists of parts and records.
+//! Lists of parts, records and calls.
 
-ghost use Rattle.std.specs.Prelude.{◌≡◌, IfOk};
+ghost use Rattle.std.specs.Prelude.{◌≡◌, ◌∷◌, [], ◌++◌, IfOk};
 ghost use Rattle.st_parse_builder.specs.declared.action.Action.TheVariants as action;
-ghost use Rattle.st_parse_builder.specs.inner.Building.{applied};
-ghost use Rattle.st_parse_builder.specs.inner.Pieces.{pieces, Makes};
+ghost use Rattle.st_parse_builder.specs.inner.Entries as spec;
+ghost use Rattle.st_parse_builder.specs.inner.Entries.{Forms};
 
 use crate::Piece;
-use crate::entry::{Entry, Made};
+use crate::built::{Built, both, raise};
 use crate::form::{call_name, in_parens};
-use crate::make::{above, done, higher};
-use crate::pieces::{pop_done, pop_fields, pop_label, pop_parts};
+use crate::make::done;
+use crate::pieces::{Entry, Stack, pop_done, pop_fields, pop_label, pop_parts};
 use st_el::{Exp, Node};
-use st_num::{NoMemory, Row};
+use st_num::{NoMemory, Row, Span};
 use std::alloc::Global;
 
+/// A row with one more element.
+pub(crate) fn more<T: Drop>(row: Row<T>, item: T) -> Result<Row<T>, NoMemory>
+    ensures { IfOk result (λ all. all ≡ row ++ item ∷ []) }
+{
+    let mut all = row;
+    all.push(item)?;
+    Ok(all)
+}
+
 /// Begins a sequence with the part on top.
-#[tactic(auto, using(crate::proofs::Tallness::highest_behind))]
-pub(crate) fn first(alloc: Global, stack: &mut Row<Entry>) -> Result<Option<Made>, NoMemory>
-    ensures { IfOk result (λ made.
-        Makes (applied action.First (pieces stack.old)) (pieces stack.new) made) }
+pub(crate) fn first(alloc: Global, stack: &mut Stack) -> Result<Option<Entry>, NoMemory>
+    ensures { IfOk result (λ made. Forms action.First stack.old stack.new made) }
 {
     let Some(top) = pop_done(stack) else {
         return Ok(None);
     };
-    let at = top.exp.at;
-    let height = top.height;
-    let mut parts = Row::new(alloc);
-    parts.push(top.exp)?;
-    let piece = Piece::Parts(at, parts);
-    Ok(Some(Made { piece, height }))
+    let Built { tree, height, from } = top;
+    let tree = match tree {
+        None => None,
+        Some(exp) => Some(Piece::Parts(exp.at, more(Row::new(alloc), exp)?)),
+    };
+    Ok(Some(Built { tree, height, from }))
 }
 
 /// Puts the part on top behind those before it.
-#[tactic(auto, using(crate::proofs::Tallness::highest_behind))]
-pub(crate) fn part(stack: &mut Row<Entry>) -> Result<Option<Made>, NoMemory>
-    ensures { IfOk result (λ made.
-        Makes (applied action.Part (pieces stack.old)) (pieces stack.new) made) }
+pub(crate) fn part(stack: &mut Stack) -> Result<Option<Entry>, NoMemory>
+    ensures { IfOk result (λ made. Forms action.Part stack.old stack.new made) }
 {
     let Some(top) = pop_done(stack) else {
         return Ok(None);
@@ -43,47 +48,50 @@ pub(crate) fn part(stack: &mut Row<Entry>) -> Result<Option<Made>, NoMemory>
     let Some(before) = pop_parts(stack) else {
         return Ok(None);
     };
-    let height = higher(before.height, top.height);
-    let at = before.at;
-    let mut parts = before.parts;
-    parts.push(top.exp)?;
-    let piece = Piece::Parts(at, parts);
-    Ok(Some(Made { piece, height }))
+    let Built { tree, height, from } = both(before, top);
+    let tree = match tree {
+        None => None,
+        Some(((at, parts), exp)) => Some(Piece::Parts(at, more(parts, exp)?)),
+    };
+    Ok(Some(Built { tree, height, from }))
 }
 
 /// Ends parentheses.
-#[tactic(auto, using(crate::proofs::Tallness::tall_parens))]
-pub(crate) fn end_parens(alloc: Global, stack: &mut Row<Entry>) -> Result<Option<Made>, NoMemory>
-    ensures { IfOk result (λ made.
-        Makes (applied action.EndParens (pieces stack.old)) (pieces stack.new) made) }
+pub(crate) fn end_parens(alloc: Global, stack: &mut Stack) -> Result<Option<Entry>, NoMemory>
+    ensures { IfOk result (λ made. Forms action.EndParens stack.old stack.new made) }
 {
     let Some(top) = pop_parts(stack) else {
         return Ok(None);
     };
-    let height = above(top.height);
-    let exp = in_parens(alloc, top.at, top.parts)?;
-    Ok(Some(done(exp, height)))
+    let Built { tree, height, from } = raise(top);
+    let exp = match tree {
+        None => None,
+        Some((at, parts)) => Some(in_parens(alloc, at, parts)?),
+    };
+    Ok(Some(done(exp, height, from)))
 }
 
 /// Ends a sequence.
-#[tactic(auto, using(crate::proofs::Tallness::tall_seq))]
-pub(crate) fn end_sequence(stack: &mut Row<Entry>) -> Result<Option<Made>, NoMemory>
-    ensures { IfOk result (λ made.
-        Makes (applied action.EndSequence (pieces stack.old)) (pieces stack.new) made) }
+pub(crate) fn end_sequence(stack: &mut Stack) -> Result<Option<Entry>, NoMemory>
+    ensures { IfOk result (λ made. Forms action.EndSequence stack.old stack.new made) }
 {
     let Some(top) = pop_parts(stack) else {
         return Ok(None);
     };
-    let height = above(top.height);
-    let node = Node::Seq(top.parts);
-    Ok(Some(done(Exp { at: top.at, node }, height)))
+    let Built { tree, height, from } = raise(top);
+    let exp = match tree {
+        None => None,
+        Some((at, parts)) => Some(Exp {
+            at,
+            node: Node::Seq(parts),
+        }),
+    };
+    Ok(Some(done(exp, height, from)))
 }
 
 /// Puts the part on top behind the fields before it.
-#[tactic(auto, using(crate::proofs::Tallness::highest_behind))]
-pub(crate) fn field(stack: &mut Row<Entry>) -> Result<Option<Made>, NoMemory>
-    ensures { IfOk result (λ made.
-        Makes (applied action.Field (pieces stack.old)) (pieces stack.new) made) }
+pub(crate) fn field(stack: &mut Stack) -> Result<Option<Entry>, NoMemory>
+    ensures { IfOk result (λ made. Forms action.Field stack.old stack.new made) }
 {
     let Some(top) = pop_done(stack) else {
         return Ok(None);
@@ -94,33 +102,54 @@ pub(crate) fn field(stack: &mut Row<Entry>) -> Result<Option<Made>, NoMemory>
     let Some(before) = pop_fields(stack) else {
         return Ok(None);
     };
-    let height = higher(before.height, top.height);
-    let at = before.at;
-    let mut fields = before.fields;
-    fields.push((name, top.exp))?;
-    let piece = Piece::Fields(at, fields);
-    Ok(Some(Made { piece, height }))
+    let Built { tree, height, from } = both(before, top);
+    let tree = match tree {
+        None => None,
+        Some(((at, fields), exp)) => Some(Piece::Fields(at, more(fields, (name, exp))?)),
+    };
+    Ok(Some(Built { tree, height, from }))
 }
 
 /// Ends a record.
-#[tactic(auto, using(crate::proofs::Tallness::tall_fields))]
-pub(crate) fn end_fields(stack: &mut Row<Entry>) -> Result<Option<Made>, NoMemory>
-    ensures { IfOk result (λ made.
-        Makes (applied action.EndFields (pieces stack.old)) (pieces stack.new) made) }
+pub(crate) fn end_fields(stack: &mut Stack) -> Result<Option<Entry>, NoMemory>
+    ensures { IfOk result (λ made. Forms action.EndFields stack.old stack.new made) }
 {
     let Some(top) = pop_fields(stack) else {
         return Ok(None);
     };
-    let height = above(top.height);
-    let node = Node::Fields(top.fields);
-    Ok(Some(done(Exp { at: top.at, node }, height)))
+    let Built { tree, height, from } = raise(top);
+    let exp = match tree {
+        None => None,
+        Some((at, fields)) => Some(Exp {
+            at,
+            node: Node::Fields(fields),
+        }),
+    };
+    Ok(Some(done(exp, height, from)))
+}
+
+/// The call of a function with these arguments, where this is a function alone.
+fn call_of(function: Exp, from: usize, arguments: Built<(Span, Row<Exp>)>) -> Option<Entry>
+    ensures { result ≡ spec.call_of function from arguments }
+{
+    let Exp { at, node } = function;
+    let Some(name) = call_name(node) else {
+        return None;
+    };
+    let Built { tree, height, .. } = raise(arguments);
+    let exp = match tree {
+        None => None,
+        Some((_, args)) => Some(Exp {
+            at,
+            node: Node::Call(name, args),
+        }),
+    };
+    Some(done(exp, height, from))
 }
 
 /// Ends the arguments of a function.
-#[tactic(auto, using(crate::proofs::Tallness::tall_call))]
-pub(crate) fn end_call(stack: &mut Row<Entry>) -> Result<Option<Made>, NoMemory>
-    ensures { IfOk result (λ made.
-        Makes (applied action.EndCall (pieces stack.old)) (pieces stack.new) made) }
+pub(crate) fn end_call(stack: &mut Stack) -> Result<Option<Entry>, NoMemory>
+    ensures { IfOk result (λ made. Forms action.EndCall stack.old stack.new made) }
 {
     let Some(top) = pop_parts(stack) else {
         return Ok(None);
@@ -128,11 +157,9 @@ pub(crate) fn end_call(stack: &mut Row<Entry>) -> Result<Option<Made>, NoMemory>
     let Some(function) = pop_done(stack) else {
         return Ok(None);
     };
-    let at = function.exp.at;
-    let Some(name) = call_name(function.exp.node) else {
+    let from = function.from;
+    let Some(function) = function.tree else {
         return Ok(None);
     };
-    let height = above(top.height);
-    let node = Node::Call(name, top.parts);
-    Ok(Some(done(Exp { at, node }, height)))
+    Ok(call_of(function, from, top))
 }

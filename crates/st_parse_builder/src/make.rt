@@ -1,109 +1,160 @@
 //! What an action makes of the parts on the stack.
 
-ghost use Rattle.std.specs.Prelude.{◌≡◌, ◌+◌, ◌≤◌, max, IfOk};
+ghost use Rattle.std.specs.Prelude.{◌≡◌, ◌++◌, reverse, length, Some, IfOk, OnOk, OnSome};
+ghost use Rattle.std.specs.Option.{option_map};
 ghost use Rattle.st_parse_builder.specs.declared.action.Action.TheVariants as action;
 ghost use Rattle.st_parse_builder.specs.declared.piece.Piece.TheVariants as piece;
-ghost use Rattle.st_parse_builder.specs.Names.{leaf_node};
+ghost use Rattle.st_parse_builder.specs.Variables.{occurrences};
+ghost use Rattle.st_parse_builder.specs.inner.Parts.{over, raised, both};
 ghost use Rattle.st_parse_builder.specs.Meaning as meaning;
-ghost use Rattle.st_parse_builder.specs.Heights as tall;
-ghost use Rattle.st_parse_builder.specs.inner.PieceHeights as piece_heights;
-ghost use Rattle.st_parse_builder.specs.inner.Building.{applied};
-ghost use Rattle.st_parse_builder.specs.inner.Pieces.{pieces, Makes};
+ghost use Rattle.st_el.specs.declared.expression.Count.TheVariants as count;
+ghost use Rattle.st_parse_builder.specs.inner.Entries as spec;
+ghost use Rattle.st_parse_builder.specs.inner.Entries.{Forms};
 
-use crate::Piece;
-use crate::entry::{Entry, Made, Pair, Tall};
-use crate::form::{atom_on, enclosed, field_of, is_atom, iterated, joined, mark_count, prefixed};
+use crate::built::{Built, both, raise};
+use crate::form::{
+    below_of, dotted, enclosed, goes_on, iterated, joined, length_of, mark_count, prefixed,
+    times_of,
+};
 use crate::leaf::leaf_node;
-use crate::pieces::{pop_done, pop_label, pop_pair, pop_place};
-use st_el::{Count, Exp, Node};
+use crate::leave::leave_index;
+use crate::pieces::{Entry, Stack, pop_done, pop_label, pop_pair, pop_place};
+use crate::{Piece, TokenRef};
+use st_el::Exp;
 use st_grammar::{Bracket, Leaf};
-use st_num::{Boxed, Mark, NoMemory, Row, Token};
+use st_num::{Mark, Name, NoMemory, Row, Token};
 use std::alloc::Global;
 
-/// The larger of two heights.
-pub(crate) fn higher(left: u8, right: u8) -> u8
-    ensures { result ≡ max left right }
+/// A finished expression of this height, where it is not too high.
+pub(crate) fn done(exp: Option<Exp>, height: u8, from: usize) -> Entry
+    ensures { result ≡ record { tree = option_map piece.Done exp; height = height; from = from } }
 {
-    if left < right { right } else { left }
+    let tree = match exp {
+        None => None,
+        Some(exp) => Some(Piece::Done(exp)),
+    };
+    Built { tree, height, from }
 }
 
-/// The height of what has parts of this height.
-pub(crate) fn above(parts: u8) -> u8
-    requires { parts ≤ 100 }
-    ensures { result ≡ parts + 1 }
+/// Adds the token of an operand to what is seen, where it is a variable.
+fn see<'a>(leaf: Leaf, token: &TokenRef<'a>, seen: &mut Row<TokenRef<'a>>) -> Result<(), NoMemory>
+    ensures { OnOk result (seen.new ≡ seen.old ++ spec.named leaf token.now) }
 {
-    parts + 1
-}
-
-/// A finished expression of this height.
-pub(crate) fn done(exp: Exp, height: u8) -> Made
-    requires measured { height ≡ tall.height exp }
-    requires low { height ≤ 101 }
-    ensures { result.piece ≡ piece.Done exp }
-{
-    Made {
-        piece: Piece::Done(exp),
-        height,
+    match leaf {
+        Leaf::Low | Leaf::Basic | Leaf::Variable => seen.push(TokenRef::new(token.get())),
+        Leaf::Atom | Leaf::Number | Leaf::Literal | Leaf::Function => Ok(()),
     }
 }
 
-/// Joins the two parts on top.
-#[tactic(auto, using(crate::proofs::Tallness::tall_joined))]
-pub(crate) fn join(
+/// A part of one token.
+pub(crate) fn operand<'a>(
     alloc: Global,
-    stack: &mut Row<Entry>,
-    mark: Mark,
-) -> Result<Option<Made>, NoMemory>
-    ensures { IfOk result (λ made.
-        Makes (applied (action.Join mark) (pieces stack.old)) (pieces stack.new) made) }
+    leaf: Leaf,
+    token: &TokenRef<'a>,
+    seen: &mut Row<TokenRef<'a>>,
+) -> Result<Entry, NoMemory>
+    ensures part { IfOk result (λ made. made ≡ spec.operand (length seen.old) leaf token.now) }
+    ensures seen { IfOk result (λ _. seen.new ≡ seen.old ++ spec.named leaf token.now) }
 {
-    let Some(Pair { left, right }) = pop_pair(stack) else {
-        return Ok(None);
-    };
-    let height = above(higher(left.height, right.height));
-    let exp = joined(alloc, left.exp, mark, right.exp)?;
-    Ok(Some(done(exp, height)))
+    let from = seen.len();
+    see(leaf, token, seen)?;
+    let token = token.get();
+    let node = leaf_node(alloc, leaf, &token.kind)?;
+    let exp = Exp { at: token.at, node };
+    Ok(done(Some(exp), 1, from))
 }
 
-/// Puts an iteration sign behind the part on top.
-#[tactic(auto, using(crate::proofs::Tallness::tall_marked))]
-pub(crate) fn marked(
+/// A part with a dot behind it: an atom stays as high as it is.
+fn behind(part: Built<Exp>, token: &Token) -> Built<Exp>
+    ensures { result ≡ spec.behind token.now part }
+{
+    if goes_on(token, &part.tree) {
+        part
+    } else {
+        raise(part)
+    }
+}
+
+/// Puts a dot with a name behind the part on top.
+pub(crate) fn dot(
     alloc: Global,
-    stack: &mut Row<Entry>,
-    mark: Mark,
-) -> Result<Option<Made>, NoMemory>
-    ensures { IfOk result (λ made.
-        Makes (applied (action.Mark mark) (pieces stack.old)) (pieces stack.new) made) }
+    stack: &mut Stack,
+    token: &Token,
+) -> Result<Option<Entry>, NoMemory>
+    ensures { IfOk result (λ made. Forms (action.Dot token.now) stack.old stack.new made) }
 {
     let Some(top) = pop_done(stack) else {
         return Ok(None);
     };
-    let exp = iterated(alloc, top.exp, mark_count(mark))?;
-    Ok(Some(done(exp, above(top.height))))
+    let Built { tree, height, from } = behind(top, token);
+    let exp = match tree {
+        None => None,
+        Some(exp) => Some(dotted(alloc, exp, token)?),
+    };
+    Ok(Some(done(exp, height, from)))
+}
+
+/// Puts an iteration sign behind the part on top.
+pub(crate) fn mark(alloc: Global, stack: &mut Stack, mark: Mark) -> Result<Option<Entry>, NoMemory>
+    ensures { IfOk result (λ made. Forms (action.Mark mark) stack.old stack.new made) }
+{
+    let Some(top) = pop_done(stack) else {
+        return Ok(None);
+    };
+    let Built { tree, height, from } = raise(top);
+    let exp = match tree {
+        None => None,
+        Some(exp) => Some(iterated(alloc, exp, mark_count(mark))?),
+    };
+    Ok(Some(done(exp, height, from)))
 }
 
 /// Makes the part on top the count of the one below.
-#[tactic(auto, using(crate::proofs::Tallness::tall_iterated))]
-pub(crate) fn times(alloc: Global, stack: &mut Row<Entry>) -> Result<Option<Made>, NoMemory>
-    ensures { IfOk result (λ made.
-        Makes (applied action.Times (pieces stack.old)) (pieces stack.new) made) }
+pub(crate) fn times(alloc: Global, stack: &mut Stack) -> Result<Option<Entry>, NoMemory>
+    ensures { IfOk result (λ made. Forms action.Times stack.old stack.new made) }
 {
-    let Some(Pair { left, right }) = pop_pair(stack) else {
+    let Some(pair) = pop_pair(stack) else {
         return Ok(None);
     };
-    let height = above(higher(left.height, right.height));
-    let count = Count::Times(Boxed::new(alloc, right.exp)?);
-    let exp = iterated(alloc, left.exp, count)?;
-    Ok(Some(done(exp, height)))
+    let Built { tree, height, from } = raise(pair);
+    let exp = match tree {
+        None => None,
+        Some((body, bound)) => Some(times_of(alloc, body, bound)?),
+    };
+    Ok(Some(done(exp, height, from)))
+}
+
+/// A body with a count below which an index runs.
+fn below_part(
+    alloc: Global,
+    body: Built<Exp>,
+    index: Name,
+    bound: Built<Exp>,
+) -> Result<Entry, NoMemory>
+    ensures { IfOk result (λ made. made
+        ≡ over (λ x. piece.Done (meaning.iterated x.0 (count.Below index x.1)))
+        (raised (both body bound))) }
+{
+    let Built { tree, height, from } = raise(both(body, bound));
+    let exp = match tree {
+        None => None,
+        Some((body, bound)) => Some(below_of(alloc, body, index, bound)?),
+    };
+    Ok(done(exp, height, from))
 }
 
 /// Makes the part on top the count of the one below, with an index whose name stands between them.
-#[tactic(auto, using(crate::proofs::Tallness::tall_below))]
-pub(crate) fn below(alloc: Global, stack: &mut Row<Entry>) -> Result<Option<Made>, NoMemory>
-    ensures { IfOk result (λ made.
-        Makes (applied action.Below (pieces stack.old)) (pieces stack.new) made) }
+pub(crate) fn below<'a>(
+    alloc: Global,
+    stack: &mut Stack,
+    seen: &mut Row<TokenRef<'a>>,
+) -> Result<Option<Entry>, NoMemory>
+    ensures part { IfOk result (λ made. Forms action.Below stack.old stack.new made) }
+    ensures seen { IfOk result (λ made. OnSome made
+        (spec.index_left (reverse stack.old) (occurrences seen.old)
+        ≡ Some (occurrences seen.new))) }
 {
-    let Some(count) = pop_done(stack) else {
+    let Some(bound) = pop_done(stack) else {
         return Ok(None);
     };
     let Some(index) = pop_label(stack) else {
@@ -112,33 +163,18 @@ pub(crate) fn below(alloc: Global, stack: &mut Row<Entry>) -> Result<Option<Made
     let Some(body) = pop_done(stack) else {
         return Ok(None);
     };
-    let height = above(higher(body.height, count.height));
-    let count = Count::Below(index, Boxed::new(alloc, count.exp)?);
-    let exp = iterated(alloc, body.exp, count)?;
-    Ok(Some(done(exp, height)))
-}
-
-/// The height of a sign with a part of this height behind it.
-fn prefixed_height(mark: Mark, height: u8) -> u8
-    requires { height ≤ 100 }
-    ensures is { result ≡ piece_heights.prefixed_height mark height }
-    ensures low { result ≤ 101 }
-{
-    match mark {
-        Mark::Tilde | Mark::Minus => above(height),
-        _ => above(higher(1, height)),
-    }
+    leave_index(alloc, seen, body.from, bound.from, index.as_slice())?;
+    let part = below_part(alloc, body, index, bound)?;
+    Ok(Some(part))
 }
 
 /// Puts a sign before the part on top.
-#[tactic(auto, using(crate::proofs::Tallness::tall_prefixed))]
 pub(crate) fn prefix(
     alloc: Global,
-    stack: &mut Row<Entry>,
+    stack: &mut Stack,
     mark: Mark,
-) -> Result<Option<Made>, NoMemory>
-    ensures { IfOk result (λ made.
-        Makes (applied (action.Prefix mark) (pieces stack.old)) (pieces stack.new) made) }
+) -> Result<Option<Entry>, NoMemory>
+    ensures { IfOk result (λ made. Forms (action.Prefix mark) stack.old stack.new made) }
 {
     let Some(top) = pop_done(stack) else {
         return Ok(None);
@@ -146,19 +182,21 @@ pub(crate) fn prefix(
     let Some(at) = pop_place(stack) else {
         return Ok(None);
     };
-    let exp = prefixed(alloc, mark, at, top.exp)?;
-    Ok(Some(done(exp, prefixed_height(mark, top.height))))
+    let Built { tree, height, from } = raise(top);
+    let exp = match tree {
+        None => None,
+        Some(exp) => Some(prefixed(alloc, mark, at, exp)?),
+    };
+    Ok(Some(done(exp, height, from)))
 }
 
 /// Puts a bracket round the part on top.
-#[tactic(auto, using(crate::proofs::Tallness::tall_enclosed))]
 pub(crate) fn enclose(
     alloc: Global,
-    stack: &mut Row<Entry>,
+    stack: &mut Stack,
     bracket: Bracket,
-) -> Result<Option<Made>, NoMemory>
-    ensures { IfOk result (λ made.
-        Makes (applied (action.Enclose bracket) (pieces stack.old)) (pieces stack.new) made) }
+) -> Result<Option<Entry>, NoMemory>
+    ensures { IfOk result (λ made. Forms (action.Enclose bracket) stack.old stack.new made) }
 {
     let Some(top) = pop_done(stack) else {
         return Ok(None);
@@ -166,15 +204,17 @@ pub(crate) fn enclose(
     let Some(at) = pop_place(stack) else {
         return Ok(None);
     };
-    let exp = enclosed(alloc, bracket, at, top.exp)?;
-    Ok(Some(done(exp, above(top.height))))
+    let Built { tree, height, from } = raise(top);
+    let exp = match tree {
+        None => None,
+        Some(exp) => Some(enclosed(alloc, bracket, at, exp)?),
+    };
+    Ok(Some(done(exp, height, from)))
 }
 
 /// Puts the bars of a length round the part on top.
-#[tactic(auto, using(crate::proofs::Tallness::tall_length))]
-pub(crate) fn length(alloc: Global, stack: &mut Row<Entry>) -> Result<Option<Made>, NoMemory>
-    ensures { IfOk result (λ made.
-        Makes (applied action.Length (pieces stack.old)) (pieces stack.new) made) }
+pub(crate) fn length(alloc: Global, stack: &mut Stack) -> Result<Option<Entry>, NoMemory>
+    ensures { IfOk result (λ made. Forms action.Length stack.old stack.new made) }
 {
     let Some(top) = pop_done(stack) else {
         return Ok(None);
@@ -182,46 +222,25 @@ pub(crate) fn length(alloc: Global, stack: &mut Row<Entry>) -> Result<Option<Mad
     let Some(at) = pop_place(stack) else {
         return Ok(None);
     };
-    let node = Node::Len(Boxed::new(alloc, top.exp)?);
-    Ok(Some(done(Exp { at, node }, above(top.height))))
+    let Built { tree, height, from } = raise(top);
+    let exp = match tree {
+        None => None,
+        Some(exp) => Some(length_of(alloc, at, exp)?),
+    };
+    Ok(Some(done(exp, height, from)))
 }
 
-/// A part of one token.
-#[tactic(auto, using(crate::proofs::Tallness::tall_leaf))]
-pub(crate) fn operand(alloc: Global, leaf: Leaf, token: &Token) -> Result<Made, NoMemory>
-    ensures { IfOk result (λ made.
-        made.piece ≡ piece.Done (meaning.exp token.now.at (leaf_node leaf token.now.kind))) }
+/// Joins the two parts on top.
+pub(crate) fn join(alloc: Global, stack: &mut Stack, mark: Mark) -> Result<Option<Entry>, NoMemory>
+    ensures { IfOk result (λ made. Forms (action.Join mark) stack.old stack.new made) }
 {
-    let node = leaf_node(alloc, leaf, &token.kind)?;
-    Ok(done(Exp { at: token.at, node }, 1))
-}
-
-/// A part with a dot and a name behind it.
-#[tactic(auto, using(crate::proofs::Tallness::tall_atom, crate::proofs::Tallness::tall_field_of))]
-fn dotted(alloc: Global, top: Tall, token: &Token) -> Result<Made, NoMemory>
-    ensures { IfOk result (λ made. made.piece ≡ piece.Done (meaning.dotted top.exp token.now)) }
-{
-    if token.touching && is_atom(&top.exp) {
-        let exp = atom_on(alloc, top.exp, token)?;
-        return Ok(done(exp, 1));
-    }
-    let height = above(top.height);
-    let exp = field_of(alloc, top.exp, token)?;
-    Ok(done(exp, height))
-}
-
-/// Puts a dot with a name behind the part on top.
-pub(crate) fn dot(
-    alloc: Global,
-    stack: &mut Row<Entry>,
-    token: &Token,
-) -> Result<Option<Made>, NoMemory>
-    ensures { IfOk result (λ made.
-        Makes (applied (action.Dot token.now) (pieces stack.old)) (pieces stack.new) made) }
-{
-    let Some(top) = pop_done(stack) else {
+    let Some(pair) = pop_pair(stack) else {
         return Ok(None);
     };
-    let made = dotted(alloc, top, token)?;
-    Ok(Some(made))
+    let Built { tree, height, from } = raise(pair);
+    let exp = match tree {
+        None => None,
+        Some((left, right)) => Some(joined(alloc, left, mark, right)?),
+    };
+    Ok(Some(done(exp, height, from)))
 }

@@ -1,58 +1,65 @@
 //! Building types and notations: actions one after another.
 
-ghost use Rattle.std.specs.Prelude.{◌≡◌, [], ◌∷◌, IfOk, IfErr, OnOk, Some, Err};
+ghost use Rattle.std.specs.Prelude.{◌≡◌, [], ◌∷◌, reverse, Some, IfOk};
 ghost use Rattle.st_grammar.specs.declared.sort.Sort.TheVariants.{Typ as typ, Notation as notation};
 ghost use Rattle.st_grammar.specs.Trees.{Tree};
 ghost use Rattle.st_grammar.specs.Grammar.{Fits};
-ghost use Rattle.st_parse_builder.specs.Heights as tall;
-ghost use Rattle.st_parse_builder.specs.inner.PieceHeights as piece_heights;
-ghost use Rattle.st_parse_builder.specs.inner.Actions.{acts};
+ghost use Rattle.st_el.specs.declared.ty.Typ.{Typ};
+ghost use Rattle.st_el.specs.declared.notation.Notation.{Notation};
 ghost use Rattle.st_parse_builder.specs.Notations.{typ_meaning, notation_meaning};
-ghost use Rattle.st_parse_builder.specs.inner.NotationBuilding.{applied, run, the_typ, the_notation, typ_built, notation_built};
-ghost use Rattle.st_parse_builder.specs.inner.NotationAnswers.{pieces, Makes, Fails, Builds, BuildsHole};
+ghost use Rattle.st_parse_builder.specs.inner.Actions.{acts};
+ghost use Rattle.st_parse_builder.specs.inner.NotationBuilding as pieces;
+ghost use Rattle.st_parse_builder.specs.inner.Parts.{Makes, Gives, made_or, untold};
+ghost use Rattle.st_parse_builder.specs.inner.NotationEntries as spec;
+ghost use Rattle.st_parse_builder.specs.inner.NotationEntries.{applied, entries, typ_part, notation_part};
 
-use crate::notation_entry::{NotationEntry, NotationMade};
+use crate::built::{Built, above, untold};
 use crate::notation_form::hole;
 use crate::notation_make::{
-    end_elements, end_types, first_element, leaf_part, next_part, notation_dot, notation_enclose,
+    end_elements, end_types, first_element, leaf_piece, next_part, notation_dot, notation_enclose,
     notation_join, notation_prefix, typ_mark,
 };
-use crate::notation_pieces::{put, take_notation, take_type};
-use crate::{Action, BuildFault, NotationPiece};
+use crate::notation_pieces::{NotationEntry, NotationStack, as_notation, as_type, take};
+use crate::{Action, NotationPiece};
 use st_el::{Notation, Typ};
-use st_num::{HIGHEST_TREE, NoMemory, Row};
+use st_num::{NoMemory, Row};
 use std::alloc::Global;
 
-/// A piece with no type or notation in it.
-fn begun(piece: NotationPiece) -> NotationMade
-    requires { piece_heights.notation_piece_height piece ≡ 0 }
-    ensures { result.piece ≡ piece }
+/// A piece of this height.
+fn begun(piece: NotationPiece, height: u8) -> NotationEntry
+    ensures { result ≡ record { tree = Some piece; height = height; from = 0 } }
 {
-    NotationMade { piece, height: 0 }
+    Built {
+        tree: Some(piece),
+        height,
+        from: 0,
+    }
 }
 
 /// What an action makes of what is on top.
 fn make(
     alloc: Global,
-    stack: &mut Row<NotationEntry>,
+    stack: &mut NotationStack,
     action: &Action<'_>,
-) -> Result<Option<NotationMade>, NoMemory>
+) -> Result<Option<NotationEntry>, NoMemory>
     ensures { IfOk result (λ made.
-        Makes (applied action.now (pieces stack.old)) (pieces stack.new) made) }
+        Makes (applied action.now (reverse stack.old)) (reverse stack.new) made) }
 {
     match action {
-        Action::Operand(leaf, token) => Ok(Some(leaf_part(alloc, *leaf, token.get())?)),
+        Action::Operand(leaf, token) => {
+            Ok(Some(begun(leaf_piece(alloc, *leaf, token.get())?, 1)))
+        }
         Action::Dot(token) => notation_dot(stack, token.get()),
         Action::Mark(mark) => typ_mark(alloc, stack, *mark),
-        Action::Here(at) => Ok(Some(begun(NotationPiece::From(*at)))),
+        Action::Here(at) => Ok(Some(begun(NotationPiece::From(*at), 0))),
         Action::Prefix(mark) => notation_prefix(alloc, stack, *mark),
         Action::Enclose(bracket) => notation_enclose(alloc, stack, *bracket),
         Action::Join(mark) => notation_join(alloc, stack, *mark),
-        Action::Open(at) => Ok(Some(begun(NotationPiece::Types(*at, Row::new(alloc))))),
+        Action::Open(at) => Ok(Some(begun(NotationPiece::Types(*at, Row::new(alloc)), 0))),
         Action::First => first_element(alloc, stack),
         Action::Part => next_part(stack),
-        Action::EndParens => Ok(end_types(stack)),
-        Action::EndSequence => Ok(end_elements(stack)),
+        Action::EndParens => end_types(stack),
+        Action::EndSequence => end_elements(stack),
         Action::Times
         | Action::Below
         | Action::Label(_)
@@ -71,42 +78,29 @@ fn make(
     }
 }
 
-/// Puts what is made on the stack, where it is not too high.
-fn finish(stack: &mut Row<NotationEntry>, made: NotationMade) -> Result<(), BuildFault>
-    ensures ok { OnOk result (pieces stack.new ≡ made.piece ∷ pieces stack.old) }
-    ensures err { IfErr result (λ fault.
-        Fails piece_heights.notation_piece_height (Some made.piece) fault) }
+/// What is made goes on the stack; what does not fit is a part without a tree.
+fn finish(stack: &mut NotationStack, made: Option<NotationEntry>) -> Result<(), NoMemory>
+    ensures { IfOk result (λ _. reverse stack.new ≡ made_or made (untold 0) ∷ reverse stack.old) }
 {
-    let NotationMade { piece, height } = made;
-    if height > HIGHEST_TREE {
-        return Err(BuildFault::TooHigh);
+    match made {
+        Some(entry) => stack.push(entry),
+        None => stack.push(untold(0)),
     }
-    put(stack, NotationEntry { piece, height })?;
-    Ok(())
 }
 
-/// One step of building.
-fn apply(
-    alloc: Global,
-    stack: &mut Row<NotationEntry>,
-    action: &Action<'_>,
-) -> Result<(), BuildFault>
-    ensures ok { OnOk result (applied action.now (pieces stack.old) ≡ Some (pieces stack.new)) }
-    ensures err { IfErr result (λ fault.
-        Fails piece_heights.notation_stack_height (applied action.now (pieces stack.old)) fault) }
+/// One step of building. An action that does not fit makes a part without a tree.
+fn apply(alloc: Global, stack: &mut NotationStack, action: &Action<'_>) -> Result<(), NoMemory>
+    ensures { (s u : pieces.Stack) → pieces.applied action.now s ≡ Some u
+        → reverse stack.old ≡ entries s → IfOk result (λ _. reverse stack.new ≡ entries u) }
 {
-    let Some(made) = make(alloc, stack, action)? else {
-        return Err(BuildFault::Unfit);
-    };
-    finish(stack, made)?;
-    Ok(())
+    let made = make(alloc, stack, action)?;
+    finish(stack, made)
 }
 
 /// All the steps, from an empty stack.
-fn apply_all(alloc: Global, actions: &[Action<'_>]) -> Result<Row<NotationEntry>, BuildFault>
-    ensures ok { IfOk result (λ stack. run actions.now [] ≡ Some (pieces stack)) }
-    ensures err { IfErr result (λ fault.
-        Fails piece_heights.notation_stack_height (run actions.now []) fault) }
+fn apply_all(alloc: Global, actions: &[Action<'_>]) -> Result<NotationStack, NoMemory>
+    ensures { (s : pieces.Stack) → pieces.run actions.now [] ≡ Some s
+        → IfOk result (λ stack. reverse stack ≡ entries s) }
 {
     let mut stack = Row::new(alloc);
     'actions: for action in actions {
@@ -115,73 +109,68 @@ fn apply_all(alloc: Global, actions: &[Action<'_>]) -> Result<Row<NotationEntry>
     Ok(stack)
 }
 
-/// The one type on the stack.
-fn only_typ(stack: &mut Row<NotationEntry>) -> Result<Typ, BuildFault>
-    ensures { Builds tall.typ_height (the_typ (pieces stack.old)) result }
+/// The one part on the stack. Where there is none, or more than one, it has no tree.
+fn only(mut stack: NotationStack) -> NotationEntry
+    ensures { Gives (spec.the_part (reverse stack)) result }
 {
-    let Some(top) = take_type(stack) else {
-        return Err(BuildFault::Unfit);
+    let Some(top) = take(&mut stack) else {
+        return untold(0);
     };
     if !stack.is_empty() {
-        return Err(BuildFault::Unfit);
+        return untold(0);
     }
-    Ok(top.typ)
+    top
 }
 
-/// The one type on the stack, as a notation.
-fn only_hole(stack: &mut Row<NotationEntry>) -> Result<Notation, BuildFault>
-    ensures { BuildsHole (the_typ (pieces stack.old)) (the_notation (pieces stack.old)) result }
+/// The type that a part is. Where it is none, it has no tree.
+fn typ_of(part: NotationEntry) -> Built<Typ>
+    ensures { Gives (spec.typ_in part) result }
 {
-    let Some(top) = take_type(stack) else {
-        return Err(BuildFault::Unfit);
+    let Some(part) = as_type(part) else {
+        return untold(0);
     };
-    if !stack.is_empty() {
-        return Err(BuildFault::Unfit);
-    }
-    Ok(hole(top.at, top.typ))
+    let Built { tree, height, from } = part;
+    let tree = match tree {
+        None => None,
+        Some((_, typ)) => Some(typ),
+    };
+    Built { tree, height, from }
 }
 
-/// The one notation on the stack.
-fn only_notation(stack: &mut Row<NotationEntry>) -> Result<Notation, BuildFault>
-    ensures { Builds tall.notation_height (the_notation (pieces stack.old)) result }
+/// The notation that a part is. A type alone may be an alias, and is kept as high as one may be.
+fn notation_of(part: NotationEntry) -> Built<Notation>
+    ensures { Gives (spec.notation_in part) result }
 {
-    let Some(top) = take_notation(stack) else {
-        return Err(BuildFault::Unfit);
-    };
-    if !stack.is_empty() {
-        return Err(BuildFault::Unfit);
+    let Built { tree, height, from } = part;
+    match tree {
+        Some(NotationPiece::Hole(at, typ)) => Built {
+            tree: Some(hole(at, typ)),
+            height: above(height),
+            from,
+        },
+        tree => as_notation(Built { tree, height, from }).unwrap_or(untold(0)),
     }
-    if top.height > HIGHEST_TREE {
-        return Err(BuildFault::TooHigh);
-    }
-    Ok(top.notation)
 }
 
-/// Builds the type of these actions. One higher than 100 is not built.
-pub fn build_typ(alloc: Global, actions: &[Action<'_>]) -> Result<Typ, BuildFault>
-    ensures exact { Builds tall.typ_height (typ_built actions.now) result }
+/// Builds the type of these actions.
+pub fn build_typ(alloc: Global, actions: &[Action<'_>]) -> Result<Built<Typ>, NoMemory>
+    ensures exact { (t : Typ) → pieces.typ_built actions.now ≡ Some t
+        → IfOk result (λ made. made ≡ typ_part t) }
     ensures tree { (t : Tree) → Fits typ t → actions.now ≡ acts t
-        → Builds tall.typ_height (Some (typ_meaning t)) result }
+        → IfOk result (λ made. made ≡ typ_part (typ_meaning t)) }
 {
-    let mut stack = apply_all(alloc, actions)?;
-    only_typ(&mut stack)
+    let stack = apply_all(alloc, actions)?;
+    Ok(typ_of(only(stack)))
 }
 
-/// Builds the notation of these actions, which are those of a type alone. A type higher than 100 is
-/// not built.
-pub fn build_hole(alloc: Global, actions: &[Action<'_>]) -> Result<Notation, BuildFault>
-    ensures { BuildsHole (typ_built actions.now) (notation_built actions.now) result }
-{
-    let mut stack = apply_all(alloc, actions)?;
-    only_hole(&mut stack)
-}
-
-/// Builds the notation of these actions. One higher than 100 is not built.
-pub fn build_notation(alloc: Global, actions: &[Action<'_>]) -> Result<Notation, BuildFault>
-    ensures exact { Builds tall.notation_height (notation_built actions.now) result }
+/// Builds the notation of these actions. A type alone has a tree where it may be an alias, though as
+/// a notation it may be 101 high.
+pub fn build_notation(alloc: Global, actions: &[Action<'_>]) -> Result<Built<Notation>, NoMemory>
+    ensures exact { (n : Notation) → pieces.notation_built actions.now ≡ Some n
+        → IfOk result (λ made. made ≡ notation_part n) }
     ensures tree { (t : Tree) → Fits notation t → actions.now ≡ acts t
-        → Builds tall.notation_height (Some (notation_meaning t)) result }
+        → IfOk result (λ made. made ≡ notation_part (notation_meaning t)) }
 {
-    let mut stack = apply_all(alloc, actions)?;
-    only_notation(&mut stack)
+    let stack = apply_all(alloc, actions)?;
+    Ok(notation_of(only(stack)))
 }

@@ -69,6 +69,22 @@ pub(crate) fn marked(alloc: Global, at: Span, mark: Mark, typ: Typ) -> Result<Ty
     Ok(Typ { at, node })
 }
 
+/// One type in parentheses, or a tuple.
+pub(crate) fn typ_in_parens(at: Span, types: Row<Typ>) -> Typ
+    ensures { result ≡ notations.typ_in_parens at types }
+{
+    let mut types = types;
+    if types.len() == 1 {
+        if let Some(typ) = types.pop() {
+            return typ;
+        }
+    }
+    Typ {
+        at,
+        node: TypNode::Tuple(types),
+    }
+}
+
 /// The sign that names a backquoted bracket, which is the opening one.
 fn tick(bracket: Bracket) -> Mark
     ensures { result ≡ notations.tick bracket }

@@ -1,115 +1,101 @@
 //! What an action makes of the types and notations on the stack.
 
-ghost use Rattle.std.specs.Prelude.{◌≡◌, ◌+◌, ◌≤◌, [], ◌∷◌, ◌++◌, IfOk};
+ghost use Rattle.std.specs.Prelude.{◌≡◌, [], ◌∷◌, ◌++◌, reverse, IfOk};
+ghost use Rattle.std.specs.Option.{option_map};
 ghost use Rattle.st_parse_builder.specs.declared.action.Action.TheVariants as action;
 ghost use Rattle.st_parse_builder.specs.declared.notation_piece.NotationPiece.TheVariants as piece;
-ghost use Rattle.st_parse_builder.specs.Heights as tall;
-ghost use Rattle.st_parse_builder.specs.Notations as notations;
-ghost use Rattle.st_parse_builder.specs.inner.NotationBuilding.{operand_piece, put_part, applied};
-ghost use Rattle.st_parse_builder.specs.inner.NotationAnswers.{pieces, Makes};
+ghost use Rattle.st_parse_builder.specs.inner.NotationBuilding.{operand_piece};
+ghost use Rattle.st_parse_builder.specs.inner.Parts.{read_tree};
+ghost use Rattle.st_parse_builder.specs.inner.NotationEntries as spec;
+ghost use Rattle.st_parse_builder.specs.inner.NotationEntries.{Forms};
 
 use crate::NotationPiece;
-use crate::make::higher;
-use crate::notation_entry::{
-    NotationEntry, NotationMade, TallElements, TallNotation, TallTyp, TallTypes,
-};
+use crate::built::{Built, both, raise, untold};
+use crate::list::more;
 use crate::notation_form::{
-    absent, atom_of, enclosed, hole, marked, notation_joined, notation_on, typ_of,
+    absent, atom_of, enclosed, marked, notation_joined, notation_on, typ_in_parens, typ_of,
 };
-use crate::notation_pieces::{take, take_notation, take_place, take_type, take_whole};
-use st_el::{NotNode, Notation, Typ, TypNode};
+use crate::notation_pieces::{
+    NotationEntry, NotationStack, as_notation, as_type, take, take_elements, take_notation,
+    take_place, take_type, take_types, take_whole,
+};
+use st_el::{NotNode, Notation, Typ};
 use st_grammar::{Bracket, Leaf};
 use st_num::{Mark, NoMemory, Row, Span, Token};
 use std::alloc::Global;
 
-/// The height of what has parts of this height.
-fn above(parts: u8) -> u8
-    requires { parts ≤ 101 }
-    ensures { result ≡ parts + 1 }
+/// A finished notation of this height, where it is not too high.
+fn whole(notation: Option<Notation>, height: u8, from: usize) -> NotationEntry
+    ensures { result
+        ≡ record { tree = option_map piece.Whole notation; height = height; from = from } }
 {
-    parts + 1
+    let tree = match notation {
+        None => None,
+        Some(notation) => Some(NotationPiece::Whole(notation)),
+    };
+    Built { tree, height, from }
 }
 
-/// A finished type that begins there.
-fn made_typ(at: Span, typ: Typ, height: u8) -> NotationMade
-    requires measured { height ≡ tall.typ_height typ }
-    requires low { height ≤ 101 }
-    ensures { result.piece ≡ piece.Hole at typ }
-{
-    NotationMade {
-        piece: NotationPiece::Hole(at, typ),
-        height,
-    }
-}
-
-/// A finished notation.
-fn made_whole(notation: Notation, height: u8) -> NotationMade
-    requires measured { height ≡ tall.notation_height notation }
-    requires low { height ≤ 102 }
-    ensures { result.piece ≡ piece.Whole notation }
-{
-    NotationMade {
-        piece: NotationPiece::Whole(notation),
-        height,
-    }
-}
-
-/// A part of one token.
-#[tactic(auto, using(crate::proofs::NotationTallness::tall_typ_leaf, crate::proofs::NotationTallness::tall_atom))]
-pub(crate) fn leaf_part(alloc: Global, leaf: Leaf, token: &Token) -> Result<NotationMade, NoMemory>
-    ensures { IfOk result (λ made. made.piece ≡ operand_piece leaf token.now) }
+/// The piece of one token.
+pub(crate) fn leaf_piece(
+    alloc: Global,
+    leaf: Leaf,
+    token: &Token,
+) -> Result<NotationPiece, NoMemory>
+    ensures { IfOk result (λ made. made ≡ operand_piece leaf token.now) }
 {
     match leaf {
-        Leaf::Low | Leaf::Basic => Ok(made_typ(token.at, typ_of(alloc, token)?, 1)),
-        Leaf::Variable | Leaf::Atom | Leaf::Number | Leaf::Literal | Leaf::Function => Ok(
-            made_whole(atom_of(alloc, token)?, 1),
-        ),
+        Leaf::Low | Leaf::Basic => Ok(NotationPiece::Hole(token.at, typ_of(alloc, token)?)),
+        Leaf::Variable | Leaf::Atom | Leaf::Number | Leaf::Literal | Leaf::Function => {
+            Ok(NotationPiece::Whole(atom_of(alloc, token)?))
+        }
     }
 }
 
 /// Puts a name behind a dot to the atom on top.
-#[tactic(auto, using(crate::proofs::NotationTallness::tall_atom_on))]
 pub(crate) fn notation_dot(
-    stack: &mut Row<NotationEntry>,
+    stack: &mut NotationStack,
     token: &Token,
-) -> Result<Option<NotationMade>, NoMemory>
-    ensures { IfOk result (λ made.
-        Makes (applied (action.Dot token.now) (pieces stack.old)) (pieces stack.new) made) }
+) -> Result<Option<NotationEntry>, NoMemory>
+    ensures { IfOk result (λ made. Forms (action.Dot token.now) stack.old stack.new made) }
 {
     let Some(top) = take_whole(stack) else {
         return Ok(None);
     };
-    let height = top.height;
-    let notation = notation_on(top.notation, token)?;
-    Ok(Some(made_whole(notation, height)))
+    let Built { tree, height, from } = top;
+    let notation = match tree {
+        None => None,
+        Some(notation) => Some(notation_on(notation, token)?),
+    };
+    Ok(Some(whole(notation, height, from)))
 }
 
 /// Puts an iteration sign behind the type on top.
-#[tactic(auto, using(crate::proofs::NotationTallness::tall_typ_marked))]
 pub(crate) fn typ_mark(
     alloc: Global,
-    stack: &mut Row<NotationEntry>,
+    stack: &mut NotationStack,
     mark: Mark,
-) -> Result<Option<NotationMade>, NoMemory>
-    ensures { IfOk result (λ made.
-        Makes (applied (action.Mark mark) (pieces stack.old)) (pieces stack.new) made) }
+) -> Result<Option<NotationEntry>, NoMemory>
+    ensures { IfOk result (λ made. Forms (action.Mark mark) stack.old stack.new made) }
 {
     let Some(top) = take_type(stack) else {
         return Ok(None);
     };
-    let typ = marked(alloc, top.at, mark, top.typ)?;
-    Ok(Some(made_typ(top.at, typ, above(top.height))))
+    let Built { tree, height, from } = raise(top);
+    let tree = match tree {
+        None => None,
+        Some((at, typ)) => Some(NotationPiece::Hole(at, marked(alloc, at, mark, typ)?)),
+    };
+    Ok(Some(Built { tree, height, from }))
 }
 
 /// Puts a sign before the part on top.
-#[tactic(auto, using(crate::proofs::NotationTallness::tall_absent))]
 pub(crate) fn notation_prefix(
     alloc: Global,
-    stack: &mut Row<NotationEntry>,
+    stack: &mut NotationStack,
     mark: Mark,
-) -> Result<Option<NotationMade>, NoMemory>
-    ensures { IfOk result (λ made.
-        Makes (applied (action.Prefix mark) (pieces stack.old)) (pieces stack.new) made) }
+) -> Result<Option<NotationEntry>, NoMemory>
+    ensures { IfOk result (λ made. Forms (action.Prefix mark) stack.old stack.new made) }
 {
     let Some(top) = take_notation(stack) else {
         return Ok(None);
@@ -117,20 +103,21 @@ pub(crate) fn notation_prefix(
     let Some(at) = take_place(stack) else {
         return Ok(None);
     };
-    let height = above(higher(1, top.height));
-    let notation = notation_joined(alloc, absent(alloc, at), mark, top.notation)?;
-    Ok(Some(made_whole(notation, height)))
+    let Built { tree, height, from } = raise(top);
+    let notation = match tree {
+        None => None,
+        Some(right) => Some(notation_joined(alloc, absent(alloc, at), mark, right)?),
+    };
+    Ok(Some(whole(notation, height, from)))
 }
 
 /// Puts a bracket round the part on top.
-#[tactic(auto, using(crate::proofs::NotationTallness::tall_bracket))]
 pub(crate) fn notation_enclose(
     alloc: Global,
-    stack: &mut Row<NotationEntry>,
+    stack: &mut NotationStack,
     bracket: Bracket,
-) -> Result<Option<NotationMade>, NoMemory>
-    ensures { IfOk result (λ made.
-        Makes (applied (action.Enclose bracket) (pieces stack.old)) (pieces stack.new) made) }
+) -> Result<Option<NotationEntry>, NoMemory>
+    ensures { IfOk result (λ made. Forms (action.Enclose bracket) stack.old stack.new made) }
 {
     let Some(top) = take_notation(stack) else {
         return Ok(None);
@@ -138,19 +125,21 @@ pub(crate) fn notation_enclose(
     let Some(at) = take_place(stack) else {
         return Ok(None);
     };
-    let notation = enclosed(alloc, bracket, at, top.notation)?;
-    Ok(Some(made_whole(notation, above(top.height))))
+    let Built { tree, height, from } = raise(top);
+    let notation = match tree {
+        None => None,
+        Some(notation) => Some(enclosed(alloc, bracket, at, notation)?),
+    };
+    Ok(Some(whole(notation, height, from)))
 }
 
 /// Joins the two parts on top.
-#[tactic(auto, using(crate::proofs::NotationTallness::tall_notation_joined))]
 pub(crate) fn notation_join(
     alloc: Global,
-    stack: &mut Row<NotationEntry>,
+    stack: &mut NotationStack,
     mark: Mark,
-) -> Result<Option<NotationMade>, NoMemory>
-    ensures { IfOk result (λ made.
-        Makes (applied (action.Join mark) (pieces stack.old)) (pieces stack.new) made) }
+) -> Result<Option<NotationEntry>, NoMemory>
+    ensures { IfOk result (λ made. Forms (action.Join mark) stack.old stack.new made) }
 {
     let Some(right) = take_notation(stack) else {
         return Ok(None);
@@ -158,193 +147,185 @@ pub(crate) fn notation_join(
     let Some(left) = take_notation(stack) else {
         return Ok(None);
     };
-    let height = above(higher(left.height, right.height));
-    let notation = notation_joined(alloc, left.notation, mark, right.notation)?;
-    Ok(Some(made_whole(notation, height)))
+    let Built { tree, height, from } = raise(both(left, right));
+    let notation = match tree {
+        None => None,
+        Some((left, right)) => Some(notation_joined(alloc, left, mark, right)?),
+    };
+    Ok(Some(whole(notation, height, from)))
 }
 
 /// Begins a sequence with the part on top.
 pub(crate) fn first_element(
     alloc: Global,
-    stack: &mut Row<NotationEntry>,
-) -> Result<Option<NotationMade>, NoMemory>
-    ensures { IfOk result (λ made.
-        Makes (applied action.First (pieces stack.old)) (pieces stack.new) made) }
+    stack: &mut NotationStack,
+) -> Result<Option<NotationEntry>, NoMemory>
+    ensures { IfOk result (λ made. Forms action.First stack.old stack.new made) }
 {
     let Some(top) = take_notation(stack) else {
         return Ok(None);
     };
-    let at = top.notation.at;
-    let height = top.height;
-    let mut elements = Row::new(alloc);
-    elements.push(top.notation)?;
-    let piece = NotationPiece::Elements(at, elements);
-    Ok(Some(NotationMade { piece, height }))
+    let Built { tree, height, from } = top;
+    let tree = match tree {
+        None => None,
+        Some(notation) => Some(NotationPiece::Elements(
+            notation.at,
+            more(Row::new(alloc), notation)?,
+        )),
+    };
+    Ok(Some(Built { tree, height, from }))
 }
 
 /// Puts a type behind those before it.
-#[tactic(auto, using(crate::proofs::Tallness::highest_behind))]
-fn more_types(before: TallTypes, top: TallTyp) -> Result<NotationMade, NoMemory>
-    ensures { IfOk result (λ made.
-        made.piece ≡ piece.Types before.at (before.types ++ top.typ ∷ [])) }
+fn more_types(
+    at: Span,
+    before: Built<Row<Typ>>,
+    top: Built<(Span, Typ)>,
+) -> Result<NotationEntry, NoMemory>
+    ensures { IfOk result (λ made. made ≡ spec.more_types at before top) }
 {
-    let height = higher(before.height, top.height);
-    let TallTypes { at, mut types, .. } = before;
-    types.push(top.typ)?;
-    let piece = NotationPiece::Types(at, types);
-    Ok(NotationMade { piece, height })
+    let Built { tree, height, from } = both(before, top);
+    let tree = match tree {
+        None => None,
+        Some((types, (_, typ))) => Some(NotationPiece::Types(at, more(types, typ)?)),
+    };
+    Ok(Built { tree, height, from })
 }
 
 /// Puts an element behind those before it.
-#[tactic(auto, using(crate::proofs::Tallness::highest_behind))]
-fn more_elements(before: TallElements, top: TallNotation) -> Result<NotationMade, NoMemory>
-    ensures { IfOk result (λ made.
-        made.piece ≡ piece.Elements before.at (before.elements ++ top.notation ∷ [])) }
+fn more_elements(
+    at: Span,
+    before: Built<Row<Notation>>,
+    top: Built<Notation>,
+) -> Result<NotationEntry, NoMemory>
+    ensures { IfOk result (λ made. made ≡ spec.more_elements at before top) }
 {
-    let height = higher(before.height, top.height);
-    let TallElements {
-        at,
-        mut elements,
-        ..
-    } = before;
-    elements.push(top.notation)?;
-    let piece = NotationPiece::Elements(at, elements);
-    Ok(NotationMade { piece, height })
-}
-
-/// A type as a notation.
-#[tactic(auto, using(crate::proofs::NotationTallness::tall_hole))]
-fn tall_hole(top: TallTyp) -> TallNotation
-    ensures { result.notation ≡ notations.hole top.at top.typ }
-{
-    let height = above(top.height);
-    let notation = hole(top.at, top.typ);
-    TallNotation { notation, height }
-}
-
-/// Puts a type behind the types or elements on top.
-fn part_type(stack: &mut Row<NotationEntry>, top: TallTyp) -> Result<Option<NotationMade>, NoMemory>
-    ensures { IfOk result (λ made.
-        Makes (put_part (piece.Hole top.at top.typ) (pieces stack.old)) (pieces stack.new) made) }
-{
-    let Some(NotationEntry { piece, height }) = take(stack) else {
-        return Ok(None);
-    };
-    match piece {
-        NotationPiece::Types(at, types) => Ok(Some(more_types(
-            TallTypes { at, types, height },
-            top,
-        )?)),
-        NotationPiece::Elements(at, elements) => {
-            let before = TallElements {
-                at,
-                elements,
-                height,
-            };
-            Ok(Some(more_elements(before, tall_hole(top))?))
+    let Built { tree, height, from } = both(before, top);
+    let tree = match tree {
+        None => None,
+        Some((elements, notation)) => {
+            Some(NotationPiece::Elements(at, more(elements, notation)?))
         }
-        NotationPiece::Hole(_, _) | NotationPiece::Whole(_) | NotationPiece::From(_) => Ok(None),
-    }
+    };
+    Ok(Built { tree, height, from })
 }
 
-/// Puts a notation that is no type behind the elements on top.
-fn part_whole(
-    stack: &mut Row<NotationEntry>,
-    top: TallNotation,
-) -> Result<Option<NotationMade>, NoMemory>
-    ensures { IfOk result (λ made.
-        Makes (put_part (piece.Whole top.notation) (pieces stack.old)) (pieces stack.new) made) }
+/// A type behind these.
+fn type_behind(
+    at: Span,
+    before: Built<Row<Typ>>,
+    top: NotationEntry,
+) -> Result<Option<NotationEntry>, NoMemory>
+    ensures { IfOk result (λ made. made ≡ option_map (spec.more_types at before)
+        (read_tree spec.type_in top.tree top.height top.from)) }
 {
-    let Some(NotationEntry { piece, height }) = take(stack) else {
+    let Some(top) = as_type(top) else {
         return Ok(None);
     };
-    match piece {
-        NotationPiece::Elements(at, elements) => Ok(Some(more_elements(
-            TallElements {
-                at,
-                elements,
-                height,
-            },
-            top,
-        )?)),
-        NotationPiece::Types(_, _)
-        | NotationPiece::Hole(_, _)
-        | NotationPiece::Whole(_)
-        | NotationPiece::From(_) => Ok(None),
-    }
+    let made = more_types(at, before, top)?;
+    Ok(Some(made))
 }
 
-/// Puts the part on top behind those before it.
-pub(crate) fn next_part(stack: &mut Row<NotationEntry>) -> Result<Option<NotationMade>, NoMemory>
-    ensures { IfOk result (λ made.
-        Makes (applied action.Part (pieces stack.old)) (pieces stack.new) made) }
+/// An element behind these.
+fn element_behind(
+    at: Span,
+    before: Built<Row<Notation>>,
+    top: NotationEntry,
+) -> Result<Option<NotationEntry>, NoMemory>
+    ensures { IfOk result (λ made. made ≡ option_map (spec.more_elements at before)
+        (spec.as_notation top.tree top.height top.from)) }
 {
-    let Some(NotationEntry { piece, height }) = take(stack) else {
+    let Some(top) = as_notation(top) else {
         return Ok(None);
     };
-    match piece {
-        NotationPiece::Hole(at, typ) => part_type(stack, TallTyp { at, typ, height }),
-        NotationPiece::Whole(notation) => part_whole(stack, TallNotation { notation, height }),
-        NotationPiece::Types(_, _) | NotationPiece::Elements(_, _) | NotationPiece::From(_) => Ok(
+    let made = more_elements(at, before, top)?;
+    Ok(Some(made))
+}
+
+/// A part behind the types or elements before it, which may be too high.
+fn part_behind(before: NotationEntry, top: NotationEntry) -> Result<Option<NotationEntry>, NoMemory>
+    ensures { IfOk result (λ made. made ≡ spec.part_behind before.tree before top) }
+{
+    let Built { tree, height, from } = before;
+    match tree {
+        None => Ok(Some(untold(0))),
+        Some(NotationPiece::Types(at, types)) => {
+            let tree = Some(types);
+            type_behind(at, Built { tree, height, from }, top)
+        }
+        Some(NotationPiece::Elements(at, elements)) => {
+            let tree = Some(elements);
+            element_behind(at, Built { tree, height, from }, top)
+        }
+        Some(NotationPiece::Hole(_, _) | NotationPiece::Whole(_) | NotationPiece::From(_)) => Ok(
             None,
         ),
     }
 }
 
-/// One type in parentheses, or a tuple.
-#[tactic(auto, using(crate::proofs::NotationTallness::tall_tuple))]
-fn typ_in_parens(top: TallTypes) -> NotationMade
-    ensures { result.piece ≡ piece.Hole top.at (notations.typ_in_parens top.at top.types) }
+/// Puts the part on top behind those before it.
+pub(crate) fn next_part(stack: &mut NotationStack) -> Result<Option<NotationEntry>, NoMemory>
+    ensures { IfOk result (λ made. Forms action.Part stack.old stack.new made) }
 {
-    let TallTypes {
-        at,
-        mut types,
-        height,
-    } = top;
-    if types.len() == 1 {
-        if let Some(typ) = types.pop() {
-            return made_typ(at, typ, height);
-        }
-    }
-    let typ = Typ {
-        at,
-        node: TypNode::Tuple(types),
+    let Some(top) = take(stack) else {
+        return Ok(None);
     };
-    made_typ(at, typ, above(height))
+    let Some(before) = take(stack) else {
+        return Ok(None);
+    };
+    part_behind(before, top)
+}
+
+/// Whether there is one type.
+fn is_one(types: &Option<(Span, Row<Typ>)>) -> bool
+    ensures { result ≡ spec.is_one types.now }
+{
+    match types {
+        None => false,
+        Some((_, types)) => types.len() == 1,
+    }
+}
+
+/// Types in parentheses: one alone is as high as it is without them.
+fn enclosed_types(types: Built<(Span, Row<Typ>)>) -> Built<(Span, Row<Typ>)>
+    ensures { result ≡ spec.enclosed_types types }
+{
+    if is_one(&types.tree) {
+        types
+    } else {
+        raise(types)
+    }
 }
 
 /// Ends types in parentheses.
-pub(crate) fn end_types(stack: &mut Row<NotationEntry>) -> Option<NotationMade>
-    ensures { Makes (applied action.EndParens (pieces stack.old)) (pieces stack.new) result }
+pub(crate) fn end_types(stack: &mut NotationStack) -> Result<Option<NotationEntry>, NoMemory>
+    ensures { IfOk result (λ made. Forms action.EndParens stack.old stack.new made) }
 {
-    let Some(NotationEntry { piece, height }) = take(stack) else {
-        return None;
+    let Some(top) = take_types(stack) else {
+        return Ok(None);
     };
-    match piece {
-        NotationPiece::Types(at, types) => Some(typ_in_parens(TallTypes { at, types, height })),
-        NotationPiece::Elements(_, _)
-        | NotationPiece::Hole(_, _)
-        | NotationPiece::Whole(_)
-        | NotationPiece::From(_) => None,
-    }
+    let Built { tree, height, from } = enclosed_types(top);
+    let tree = match tree {
+        None => None,
+        Some((at, types)) => Some(NotationPiece::Hole(at, typ_in_parens(at, types))),
+    };
+    Ok(Some(Built { tree, height, from }))
 }
 
 /// Ends a sequence.
-#[tactic(auto, using(crate::proofs::NotationTallness::tall_sequence))]
-pub(crate) fn end_elements(stack: &mut Row<NotationEntry>) -> Option<NotationMade>
-    ensures { Makes (applied action.EndSequence (pieces stack.old)) (pieces stack.new) result }
+pub(crate) fn end_elements(stack: &mut NotationStack) -> Result<Option<NotationEntry>, NoMemory>
+    ensures { IfOk result (λ made. Forms action.EndSequence stack.old stack.new made) }
 {
-    let Some(NotationEntry { piece, height }) = take(stack) else {
-        return None;
+    let Some(top) = take_elements(stack) else {
+        return Ok(None);
     };
-    match piece {
-        NotationPiece::Elements(at, elements) => {
-            let node = NotNode::Seq(elements);
-            Some(made_whole(Notation { at, node }, above(height)))
-        }
-        NotationPiece::Types(_, _)
-        | NotationPiece::Hole(_, _)
-        | NotationPiece::Whole(_)
-        | NotationPiece::From(_) => None,
-    }
+    let Built { tree, height, from } = raise(top);
+    let notation = match tree {
+        None => None,
+        Some((at, elements)) => Some(Notation {
+            at,
+            node: NotNode::Seq(elements),
+        }),
+    };
+    Ok(Some(whole(notation, height, from)))
 }

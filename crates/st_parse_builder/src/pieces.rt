@@ -1,107 +1,112 @@
-//! The stack of pieces, the last on top. Contracts see the top first.
+//! The stack of parts, the last on top. Contracts see the top first.
 
-ghost use Rattle.std.specs.Prelude.{◌≡◌, [], ◌∷◌, ◌↔◌, IsTrue, IsFalse, OnOk, MatchOption};
-ghost use Rattle.st_parse_builder.specs.declared.piece.Piece.TheVariants as piece;
-ghost use Rattle.st_parse_builder.specs.Heights as tall;
-ghost use Rattle.st_parse_builder.specs.inner.Building.{top_done, top_parts, top_fields, top_path, top_pair, top_whole, top_label, top_place};
-ghost use Rattle.st_parse_builder.specs.inner.Pieces.{pieces};
+ghost use Rattle.std.specs.Prelude.{◌≡◌, [], ◌∷◌, reverse, MatchOption};
+ghost use Rattle.st_parse_builder.specs.inner.Parts.{Takes};
+ghost use Rattle.st_parse_builder.specs.inner.Entries.{top_done, top_parts, top_fields, top_path, top_label, top_place, top_pair, top_whole, starts};
 
 use crate::Piece;
-use crate::entry::{Entry, Pair, Tall, TallFields, TallParts, TallPath};
-use st_num::{Name, NoMemory, Row, Span};
+use crate::built::{Built, both};
+use st_el::{Exp, Seg};
+use st_num::{Name, Row, Span};
 
-/// Puts a piece on top.
-pub(crate) fn push(stack: &mut Row<Entry>, entry: Entry) -> Result<(), NoMemory>
-    ensures { OnOk result (pieces stack.new ≡ entry.piece ∷ pieces stack.old) }
-{
-    stack.push(entry)
-}
+/// A part with a piece of an expression.
+pub(crate) type Entry = Built<Piece>;
 
-/// Takes the piece on top off.
-fn pop(stack: &mut Row<Entry>) -> Option<Entry>
+/// The parts that are built so far.
+pub(crate) type Stack = Row<Built<Piece>>;
+
+/// Takes the part on top off.
+fn pop(stack: &mut Stack) -> Option<Entry>
     ensures { MatchOption result
-        (pieces stack.old ≡ [])
-        (λ entry. pieces stack.old ≡ entry.piece ∷ pieces stack.new) }
+        (reverse stack.old ≡ [])
+        (λ part. reverse stack.old ≡ part ∷ reverse stack.new) }
 {
     stack.pop()
 }
 
-/// Takes the finished part on top off.
-pub(crate) fn pop_done(stack: &mut Row<Entry>) -> Option<Tall>
-    ensures { MatchOption result
-        (top_done (pieces stack.old) ≡ None)
-        (λ tall. pieces stack.old ≡ piece.Done tall.exp ∷ pieces stack.new) }
+/// Takes the finished expression on top off.
+pub(crate) fn pop_done(stack: &mut Stack) -> Option<Built<Exp>>
+    ensures { Takes (top_done (reverse stack.old)) (reverse stack.new) result }
 {
-    let Some(Entry { piece, height }) = pop(stack) else {
+    let Some(Built { tree, height, from }) = pop(stack) else {
         return None;
     };
-    match piece {
-        Piece::Done(exp) => Some(Tall { exp, height }),
-        Piece::Parts(_, _)
-        | Piece::Fields(_, _)
-        | Piece::Path(_)
-        | Piece::Label(_)
-        | Piece::Here(_) => None,
-    }
+    let tree = match tree {
+        None => None,
+        Some(Piece::Done(exp)) => Some(exp),
+        Some(
+            Piece::Parts(_, _)
+            | Piece::Fields(_, _)
+            | Piece::Path(_)
+            | Piece::Label(_)
+            | Piece::Here(_),
+        ) => return None,
+    };
+    Some(Built { tree, height, from })
 }
 
-/// Takes the parts on top off.
-pub(crate) fn pop_parts(stack: &mut Row<Entry>) -> Option<TallParts>
-    ensures { MatchOption result
-        (top_parts (pieces stack.old) ≡ None)
-        (λ top. pieces stack.old ≡ piece.Parts top.at top.parts ∷ pieces stack.new) }
+/// Takes the parts on top off, with the place where they begin.
+pub(crate) fn pop_parts(stack: &mut Stack) -> Option<Built<(Span, Row<Exp>)>>
+    ensures { Takes (top_parts (reverse stack.old)) (reverse stack.new) result }
 {
-    let Some(Entry { piece, height }) = pop(stack) else {
+    let Some(Built { tree, height, from }) = pop(stack) else {
         return None;
     };
-    match piece {
-        Piece::Parts(at, parts) => Some(TallParts { at, parts, height }),
-        Piece::Done(_) | Piece::Fields(_, _) | Piece::Path(_) | Piece::Label(_) | Piece::Here(_) =>
-            None,
-    }
+    let tree = match tree {
+        None => None,
+        Some(Piece::Parts(at, parts)) => Some((at, parts)),
+        Some(
+            Piece::Done(_)
+            | Piece::Fields(_, _)
+            | Piece::Path(_)
+            | Piece::Label(_)
+            | Piece::Here(_),
+        ) => return None,
+    };
+    Some(Built { tree, height, from })
 }
 
-/// Takes the fields on top off.
-pub(crate) fn pop_fields(stack: &mut Row<Entry>) -> Option<TallFields>
-    ensures { MatchOption result
-        (top_fields (pieces stack.old) ≡ None)
-        (λ top. pieces stack.old ≡ piece.Fields top.at top.fields ∷ pieces stack.new) }
+/// Takes the fields on top off, with the place where they begin.
+pub(crate) fn pop_fields(stack: &mut Stack) -> Option<Built<(Span, Row<(Name, Exp)>)>>
+    ensures { Takes (top_fields (reverse stack.old)) (reverse stack.new) result }
 {
-    let Some(Entry { piece, height }) = pop(stack) else {
+    let Some(Built { tree, height, from }) = pop(stack) else {
         return None;
     };
-    match piece {
-        Piece::Fields(at, fields) => Some(TallFields { at, fields, height }),
-        Piece::Done(_) | Piece::Parts(_, _) | Piece::Path(_) | Piece::Label(_) | Piece::Here(_) =>
-            None,
-    }
+    let tree = match tree {
+        None => None,
+        Some(Piece::Fields(at, fields)) => Some((at, fields)),
+        Some(
+            Piece::Done(_) | Piece::Parts(_, _) | Piece::Path(_) | Piece::Label(_) | Piece::Here(_),
+        ) => return None,
+    };
+    Some(Built { tree, height, from })
 }
 
 /// Takes the path on top off.
-pub(crate) fn pop_path(stack: &mut Row<Entry>) -> Option<TallPath>
-    ensures { MatchOption result
-        (top_path (pieces stack.old) ≡ None)
-        (λ top. pieces stack.old ≡ piece.Path top.path ∷ pieces stack.new) }
+pub(crate) fn pop_path(stack: &mut Stack) -> Option<Built<Row<Seg>>>
+    ensures { Takes (top_path (reverse stack.old)) (reverse stack.new) result }
 {
-    let Some(Entry { piece, height }) = pop(stack) else {
+    let Some(Built { tree, height, from }) = pop(stack) else {
         return None;
     };
-    match piece {
-        Piece::Path(path) => Some(TallPath { path, height }),
-        Piece::Done(_)
-        | Piece::Parts(_, _)
-        | Piece::Fields(_, _)
-        | Piece::Label(_)
-        | Piece::Here(_) => None,
-    }
+    let tree = match tree {
+        None => None,
+        Some(Piece::Path(path)) => Some(path),
+        Some(
+            Piece::Done(_)
+            | Piece::Parts(_, _)
+            | Piece::Fields(_, _)
+            | Piece::Label(_)
+            | Piece::Here(_),
+        ) => return None,
+    };
+    Some(Built { tree, height, from })
 }
 
-/// Takes the two finished parts on top off.
-pub(crate) fn pop_pair(stack: &mut Row<Entry>) -> Option<Pair>
-    ensures { MatchOption result
-        (top_pair (pieces stack.old) ≡ None)
-        (λ pair. pieces stack.old
-        ≡ piece.Done pair.right.exp ∷ piece.Done pair.left.exp ∷ pieces stack.new) }
+/// Takes the two finished expressions on top off.
+pub(crate) fn pop_pair(stack: &mut Stack) -> Option<Built<(Exp, Exp)>>
+    ensures { Takes (top_pair (reverse stack.old)) (reverse stack.new) result }
 {
     let Some(right) = pop_done(stack) else {
         return None;
@@ -109,46 +114,43 @@ pub(crate) fn pop_pair(stack: &mut Row<Entry>) -> Option<Pair>
     let Some(left) = pop_done(stack) else {
         return None;
     };
-    Some(Pair { left, right })
+    Some(both(left, right))
 }
 
-/// Whether a path has no step yet.
-fn is_start(top: &TallPath) -> bool
-    ensures { IsTrue result ↔ (top.now.path ≡ []) }
+/// Whether this is a path without a step.
+fn starts(path: &Option<Row<Seg>>) -> bool
+    ensures { result ≡ starts path.now }
 {
-    top.path.is_empty()
-}
-
-/// Takes a path without a step off.
-fn pop_start(stack: &mut Row<Entry>) -> bool
-    ensures no { IsFalse result → top_whole (pieces stack.old) ≡ None }
-    ensures yes { IsTrue result → pieces stack.old ≡ piece.Path [] ∷ pieces stack.new }
-{
-    match pop_path(stack) {
-        Some(top) => is_start(&top),
+    match path {
         None => false,
+        Some(path) => path.is_empty(),
     }
 }
 
 /// Takes a path without a step and the part before it off.
-pub(crate) fn pop_whole(stack: &mut Row<Entry>) -> Option<Tall>
-    ensures { MatchOption result
-        (top_whole (pieces stack.old) ≡ None)
-        (λ whole. pieces stack.old ≡ piece.Path [] ∷ piece.Done whole.exp ∷ pieces stack.new) }
+pub(crate) fn pop_whole(stack: &mut Stack) -> Option<Built<Exp>>
+    ensures { Takes (top_whole (reverse stack.old)) (reverse stack.new) result }
 {
-    if !pop_start(stack) {
+    let Some(path) = pop_path(stack) else {
+        return None;
+    };
+    if !starts(&path.tree) {
         return None;
     }
     pop_done(stack)
 }
 
 /// Takes the name on top off.
-pub(crate) fn pop_label(stack: &mut Row<Entry>) -> Option<Name>
-    ensures { MatchOption result
-        (top_label (pieces stack.old) ≡ None)
-        (λ name. pieces stack.old ≡ piece.Label name ∷ pieces stack.new) }
+pub(crate) fn pop_label(stack: &mut Stack) -> Option<Name>
+    ensures { Takes (top_label (reverse stack.old)) (reverse stack.new) result }
 {
-    let Some(Entry { piece, .. }) = pop(stack) else {
+    let Some(
+        Built {
+            tree: Some(piece),
+            ..
+        },
+    ) = pop(stack)
+    else {
         return None;
     };
     match piece {
@@ -162,12 +164,16 @@ pub(crate) fn pop_label(stack: &mut Row<Entry>) -> Option<Name>
 }
 
 /// Takes the place on top off.
-pub(crate) fn pop_place(stack: &mut Row<Entry>) -> Option<Span>
-    ensures { MatchOption result
-        (top_place (pieces stack.old) ≡ None)
-        (λ at. pieces stack.old ≡ piece.Here at ∷ pieces stack.new) }
+pub(crate) fn pop_place(stack: &mut Stack) -> Option<Span>
+    ensures { Takes (top_place (reverse stack.old)) (reverse stack.new) result }
 {
-    let Some(Entry { piece, .. }) = pop(stack) else {
+    let Some(
+        Built {
+            tree: Some(piece),
+            ..
+        },
+    ) = pop(stack)
+    else {
         return None;
     };
     match piece {

@@ -18,6 +18,8 @@ use Rattle.st_parse_builder.specs.declared.action.Action.{Action}
 use Rattle.st_parse_builder.specs.Meaning.{meaning, meanings}
 use Rattle.st_parse_builder.specs.Heights.{height}
 use Rattle.st_parse_builder.specs.inner.Actions.{acts}
+use Rattle.st_parse_builder.specs.inner.Entries.{exp_part}
+use Rattle.st_parse_builder.proofs.PartLemmas.{by_tree}
 use Rattle.st_parse_builder.proofs.Tallness.{highest_behind}
 use Rattle.st_parse_automaton.specs.declared.part_automaton.Expected.TheVariants.{Operand}
 use Rattle.st_parse_automaton.specs.inner.PartAutomaton as parts
@@ -41,6 +43,13 @@ one_more_built es e (Some fs) (Some f) a b =
     (ap (λ l. l ++ f ∷ []) a.0 ∙ ap (λ g. es ++ g ∷ []) b.0, omega (arith, highest_behind height es e, a.1, b.1))
 one_more_built es e (Some fs) None a b = omega (arith, highest_behind height es e, b)
 one_more_built es e None o a b = omega (arith, highest_behind height es e, a)
+
+-- the tree of an expression, where it is not too high
+pub built_is : (e : Exp) (from : ℕ) (o : Option Exp) → o ≡ (exp_part from e).tree → IsBuilt e o
+built_is e from o is =
+    by_tree from (height e) e
+    (λ low i. subst (IsBuilt e) (sym (is ∙ i)) (refl, low))
+    (λ tall i. subst (IsBuilt e) (sym (is ∙ i)) tall)
 
 -- ---- an expression that ends
 

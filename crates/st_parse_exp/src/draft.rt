@@ -22,7 +22,7 @@ use st_grammar::Sort;
 use st_num::{Mark, NoMemory, Row, Token};
 use st_parse_actions::{emit, finish};
 use st_parse_automaton::{Progress, Reading, TokenClass};
-use st_parse_builder::{Action, BuildFault, build};
+use st_parse_builder::{Action, build};
 use std::alloc::Global;
 use std::mem::replace;
 
@@ -31,11 +31,9 @@ fn built(alloc: Global, actions: &[Action<'_>]) -> Result<Option<Exp>, NoMemory>
     ensures { (t : Tree) → Fits (expression false) t → actions.now ≡ acts t
         → IfOk result (λ exp. IsBuilt (meaning t) exp) }
 {
-    match build(alloc, actions) {
-        Ok(exp) => Ok(Some(exp)),
-        Err(BuildFault::Unfit) | Err(BuildFault::TooHigh) => Ok(None),
-        Err(BuildFault::Memory) => Err(NoMemory),
-    }
+    let mut seen = Row::new(alloc);
+    let exp = build(alloc, actions, &mut seen)?;
+    Ok(exp.tree)
 }
 
 /// One more expression, where none is too high.

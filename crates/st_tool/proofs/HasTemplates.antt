@@ -44,7 +44,7 @@ use Rattle.st_parse_builder.specs.Notations.{typ_meaning, notation_at, notation_
 use Rattle.st_parse_builder.specs.Definitions.{cases_meaning, variant, body_meaning, def_meaning, defs_meaning}
 use Rattle.st_parse_builder.specs.Heights.{highest, notation_height}
 use Rattle.st_parse_builder.proofs.NotationTallness.{tall_atom, tall_hole, tall_bracket}
-use Rattle.st_measure.specs.DefHeights.{def_node_height, def_height}
+use Rattle.st_parse_builder.specs.DefHeights.{def_node_height, def_height}
 use Rattle.st_elab_sig.specs.Signatures.{template_of}
 use Rattle.st_elab_def.specs.Answers.{HasTemplate, NodeHasTemplates, HasTemplates}
 use Rattle.st_tool.specs.Checking.{AllTokens}

@@ -19,6 +19,8 @@ use Rattle.st_parse_builder.specs.inner.NotationBuilding.{typ_built, notation_bu
 use Rattle.st_draft.specs.declared.change.Change.{Change}
 use Rattle.st_draft.specs.declared.change.Change.TheVariants as change
 use Rattle.st_draft.specs.declared.parts.PartToken.{PartToken}
+use Rattle.st_draft.specs.declared.parts.PartTree.{PartTree}
+use Rattle.st_draft.specs.declared.parts.PartTree.TheVariants as tree
 use Rattle.st_draft.specs.declared.draft.Draft.{Draft}
 use Rattle.st_draft.specs.inner.Drafts.{params_put, args_put, with_sides, applied, typ_filled, notation_filled, condition_filled, exp_filled, count_filled}
 
@@ -89,3 +91,18 @@ refilled slot.Rule n acts words d = option_map (λ e. exp_filled e d) (exp_built
 refilled slot.Condition n acts words d = option_map (λ e. condition_filled e d) (exp_built acts)
 refilled slot.Count n acts words d =
     option_map (λ e. count_filled n (count_with (index_in words) e) d) (exp_built acts)
+
+-- ---- the trees of parts
+
+-- a draft behind an expression, and these tokens where it is a count
+abbrev pub exp_put : Slot → ℕ → Exp → List (TokenClass × Token) → Draft → Draft
+exp_put slot.Condition n e words d = condition_filled e d
+exp_put slot.Count n e words d = count_filled n (count_with (index_in words) e) d
+exp_put s n e words d = exp_filled e d
+
+-- a draft behind a part with this tree
+abbrev pub tree_put : Slot → ℕ → PartTree → List (TokenClass × Token) → Draft → Draft
+tree_put s n (tree.Typ t) words d = typ_filled s t d
+tree_put s n (tree.Notation k) words d = notation_filled k d
+tree_put s n (tree.Exp e) words d = exp_put s n e words d
+tree_put s n tree.Argument words d = d

@@ -3,8 +3,8 @@
 use Rattle.std.specs.Prelude.{◌≡◌, ◌≤◌, List, [], ◌++◌, flat_map, false, Option, Some, None}
 use Rattle.st_el.specs.declared.definition.Prem.{Prem}
 use Rattle.st_el.specs.declared.definition.DefNode.{DefNode}
-use Rattle.st_measure.specs.Variables.{Occurrence, variables, prem_variables, def_node_variables}
-use Rattle.st_measure.specs.DefHeights.{def_node_height}
+use Rattle.st_parse_builder.specs.Variables.{Occurrence, variables, prem_variables, def_node_variables}
+use Rattle.st_parse_builder.specs.DefHeights.{def_node_height}
 use Rattle.st_parse_automaton.specs.declared.position.Slot.{Slot}
 use Rattle.st_parse_automaton.specs.declared.position.Slot.TheVariants as slot
 use Rattle.st_draft.specs.declared.change.Change.{Change}

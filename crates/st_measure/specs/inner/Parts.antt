@@ -5,7 +5,7 @@ use Rattle.st_el.specs.declared.ty.TypNode.{TypNode, fold-TypNode}
 use Rattle.st_el.specs.declared.notation.NotNode.{NotNode, fold-NotNode}
 use Rattle.st_el.specs.declared.definition.PremNode.{PremNode, fold-PremNode}
 use Rattle.st_parse_builder.specs.Heights.{height_count_at, height_node_at, height_seg_at, height_exp_at, height_typ_node_at, height_typ_at, height_not_node_at, height_notation_at}
-use Rattle.st_measure.specs.DefHeights.{prem_node_height_at, prem_height_at}
+use Rattle.st_parse_builder.specs.DefHeights.{prem_node_height_at, prem_height_at}
 
 -- the height of the highest part of an expression
 abbrev pub node_height : Node → ℕ

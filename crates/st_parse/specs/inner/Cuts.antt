@@ -11,9 +11,9 @@ use Rattle.st_parse_automaton.specs.inner.PartAutomaton as parts
 use Rattle.st_parse_automaton.specs.inner.DefinitionAutomaton as definitions
 use Rattle.st_el.specs.declared.definition.Def.{Def}
 use Rattle.st_parse_builder.specs.inner.Building.{Stack, run}
-use Rattle.st_measure.specs.Variables.{Occurrence, occurrences}
-use Rattle.st_measure.specs.Limits.{place_past}
-use Rattle.st_measure.specs.inner.Noting.{stack_variables}
+use Rattle.st_parse_builder.specs.Variables.{Occurrence, occurrences}
+use Rattle.st_parse_builder.specs.Limits.{place_past}
+use Rattle.st_parse_builder.specs.inner.PieceVariables.{stack_variables}
 use Rattle.st_draft.specs.declared.draft.Draft.{Draft}
 use Rattle.st_draft.specs.inner.Ready.{told, asked, Awaits}
 use Rattle.st_draft.specs.inner.Work.{Work, filled_work}

@@ -1,9 +1,10 @@
 -- The heights of the pieces on a stack: that of the highest tree in each.
-use Rattle.std.specs.Prelude.{ℕ, ◌+◌, max, List, map, ◌||◌, if◌then◌else◌}
-use Rattle.st_num.specs.declared.mark.Mark.{Mark}
-use Rattle.st_grammar.specs.Definitions.{is_minus}
+use Rattle.std.specs.Prelude.{ℕ, List, map, Option, Some, None}
 use Rattle.st_el.specs.declared.expression.Exp.{Exp}
-use Rattle.st_parse_builder.specs.Meaning.{is_tilde}
+use Rattle.st_el.specs.declared.ty.Typ.{Typ}
+use Rattle.st_el.specs.declared.notation.Notation.{Notation, out-Notation}
+use Rattle.st_el.specs.declared.notation.NotNode.{NotNode, out-NotNode}
+use Rattle.st_el.specs.declared.notation.NotNode.TheOpen.{NotNode-F}
 use Rattle.st_parse_builder.specs.declared.piece.Piece.{Piece}
 use Rattle.st_parse_builder.specs.declared.piece.Piece.TheVariants.{Done, Parts, Fields, Path, Label, Here}
 use Rattle.st_parse_builder.specs.declared.notation_piece.NotationPiece.{NotationPiece}
@@ -23,15 +24,6 @@ piece_height (Path ps) = highest (map seg_height ps)
 piece_height (Label name) = 0
 piece_height (Here at) = 0
 
--- the height of the highest piece on a stack
-abbrev pub stack_height : List Piece → ℕ
-stack_height s = highest (map piece_height s)
-
--- the height of a sign with a part of this height behind it: where it is no prefix sign, its left
--- side is absent
-abbrev pub prefixed_height : Mark → ℕ → ℕ
-prefixed_height m h = (if is_tilde m || is_minus m then h else max 1 h) + 1
-
 -- the height of the highest type or notation in a piece, and 0 where it holds none
 abbrev pub notation_piece_height : NotationPiece → ℕ
 notation_piece_height (a_type at t) = typ_height t
@@ -40,6 +32,22 @@ notation_piece_height (types at ts) = highest (map typ_height ts)
 notation_piece_height (elements at ns) = highest (map notation_height ns)
 notation_piece_height (from_place at) = 0
 
--- the height of the highest of these pieces on a stack
-abbrev pub notation_stack_height : List NotationPiece → ℕ
-notation_stack_height s = highest (map notation_piece_height s)
+-- ---- a type alone
+
+-- the type that a notation is, where it is a type alone
+abbrev pub typ_in : NotNode-F NotNode Notation → Option Typ
+typ_in (NotNode-F.Hole t) = Some t
+typ_in n = None
+
+-- the same of a notation with its place
+abbrev pub lone_typ : Notation → Option Typ
+lone_typ n = typ_in (out-NotNode (out-Notation n).node)
+
+-- the height of the type where there is one, and else this height
+abbrev pub height_or : ℕ → Option Typ → ℕ
+height_or tall None = tall
+height_or tall (Some t) = typ_height t
+
+-- A notation that is a type alone may be an alias, and is built as high as that type.
+abbrev pub open_height : Notation → ℕ
+open_height n = height_or (notation_height n) (lone_typ n)

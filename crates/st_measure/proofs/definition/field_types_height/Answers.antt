@@ -1,4 +1,4 @@
-use Rattle.st_measure.specs.DefHeights.{field_type_height}
+use Rattle.st_parse_builder.specs.DefHeights.{field_type_height}
 use Rattle.st_measure.proofs.Highest.{highest_next}
 use Rattle.st_measure.proofs.definition.field_types_height.Goals as goal
 

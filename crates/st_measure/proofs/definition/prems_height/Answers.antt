@@ -1,4 +1,4 @@
-use Rattle.st_measure.specs.DefHeights.{prem_height}
+use Rattle.st_parse_builder.specs.DefHeights.{prem_height}
 use Rattle.st_measure.proofs.Highest.{highest_next}
 use Rattle.st_measure.proofs.definition.prems_height.Goals as goal
 

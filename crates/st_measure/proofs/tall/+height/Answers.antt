@@ -1,7 +1,7 @@
 use Rattle.std.proofs.Common.{ap, ◌∙◌}
 use Rattle.st_parse_builder.specs.Heights.{height, seg_height}
 use Rattle.st_parse_builder.specs.inner.PieceHeights.{field_height}
-use Rattle.st_measure.specs.inner.Answers.{capped}
+use Rattle.st_parse_builder.specs.inner.Parts.{capped}
 use Rattle.st_measure.proofs.Highest.{highest_next, fields_highest}
 use Rattle.st_measure.proofs.tall.+height.Goals as goal
 

@@ -1,7 +1,7 @@
 use Rattle.std.proofs.Common.{◌≡◌, map, take}
 use Rattle.st_parse_builder.specs.Heights.{highest, height, seg_height}
 use Rattle.st_parse_builder.specs.inner.PieceHeights.{field_height}
-use Rattle.st_measure.specs.inner.Answers.{capped}
+use Rattle.st_parse_builder.specs.inner.Parts.{capped}
 use Rattle.st_measure.proofs.tall.+height.Given as goal
 
 abbrev pub invariant-exps_height-loop-exp : goal.invariant-exps_height-loop-exp

@@ -1,6 +1,6 @@
 use Rattle.std.proofs.Common.{◌≡◌, map, take}
 use Rattle.st_parse_builder.specs.Heights.{highest, notation_height}
-use Rattle.st_measure.specs.inner.Answers.{capped}
+use Rattle.st_parse_builder.specs.inner.Parts.{capped}
 use Rattle.st_measure.proofs.tall.+notation_height.Given as goal
 
 abbrev pub invariant-notations_height-loop-notation : goal.invariant-notations_height-loop-notation

@@ -1,27 +1,33 @@
-use Rattle.std.proofs.Common.{[], Err, subst, sym, ap, ◌∙◌}
-use Rattle.std.proofs.lemmas.Result.{err_from_is_err_and}
+use Rattle.std.proofs.Common.{arith, ◌≡◌, [], ◌∷◌, Some, length, take, sym, ap, ◌∙◌}
+use Rattle.std.proofs.lemmas.List.{length-map}
+use Rattle.st_parse_builder.specs.declared.piece.Piece.TheVariants.{Done}
+use Rattle.st_parse_builder.specs.Meaning.{meaning}
+use Rattle.st_parse_builder.specs.Variables.{occurrence, occurrences}
 use Rattle.st_parse_builder.specs.inner.Building.{run}
-use Rattle.st_parse_builder.specs.inner.Pieces.{pieces}
-use Rattle.st_parse_builder.specs.inner.Answers.{Builds}
+use Rattle.st_parse_builder.specs.inner.Entries.{the_exp, exp_part}
+use Rattle.st_parse_builder.proofs.Builds.{builds}
+use Rattle.st_parse_builder.proofs.Lists.{next_taken, all_taken}
+use Rattle.st_parse_builder.proofs.Steps.{run_at, exp_given}
 use Rattle.st_parse_builder.proofs.builder.build.Goals as goal
-use Rattle.st_parse_builder.proofs.Stops.{stops, goes_on, ended, means}
-
-pub returns-in_err-apply-clause-exact : goal.returns-in_err-apply-clause-exact
-returns-in_err-apply-clause-exact c =
-    let failed = err_from_is_err_and c.from_residual.result c.from_residual.ensures.1 in
-    subst (Builds (run c.args.actions.now [])) (sym (failed.1 ∙ ap Err failed.2))
-    (stops c.args.actions.now c.actions.action-index c.action-item.result (pieces c.actions.stack) c.in_err-apply.field-0.0
-    c.actions.invariant c.actions-test.true c.action-item.is c.in_err-apply.ensures.err)
-
-pub returns-in_err-apply-clause-tree : goal.returns-in_err-apply-clause-tree
-returns-in_err-apply-clause-tree c =
-    λ σ t f e. means σ t c.args.actions.now c.from_residual.result f e (returns-in_err-apply-clause-exact c)
 
 pub actions-preserved : goal.actions-preserved
-actions-preserved c =
-    goes_on c.args.actions.now c.actions.action-index c.action-item.result (pieces c.actions.stack) (pieces c.apply.new.stack)
-    c.actions.invariant c.actions-test.true c.action-item.is c.in_ok-apply.ensures.ok
+actions-preserved c s h =
+    let next = next_taken c.args.actions.now c.actions.action-index c.action-item.result c.actions-test.true c.action-item.is in
+    run_at (take c.actions.action-index c.args.actions.now) c.action-item.result [] [] s
+    (ap (λ l. run l []) (sym next) ∙ h)
+    (λ v w i j k. c.in_ok-apply.ensures (occurrences c.args.seen.now) v s (j ∙ k) (c.actions.invariant v i))
+
+pub returns-clause-seen : goal.returns-clause-seen
+returns-clause-seen c s h =
+    (c.actions.invariant s (ap (λ l. run l []) (all_taken c.args.actions.now c.actions.action-index (omega (arith, c.actions-test.false))) ∙ h)).1
+
+pub returns-clause-exact : goal.returns-clause-exact
+returns-clause-exact c e h =
+    let stands = c.actions.invariant (Done e ∷ []) (ap (λ l. run l []) (all_taken c.args.actions.now c.actions.action-index (omega (arith, c.actions-test.false))) ∙ h) in
+    c.only.ensures (exp_part (length (occurrences c.args.seen.now)) e) (ap the_exp stands.0 ∙ exp_given (length (occurrences c.args.seen.now)) e)
+    ∙ ap (λ n. exp_part n e) (length-map c.args.seen.now occurrence)
 
 pub returns-clause-tree : goal.returns-clause-tree
-returns-clause-tree c = λ σ t f e. means σ t c.args.actions.now c.only.result f e
-    (ended c.args.actions.now c.actions.action-index (pieces c.actions.stack) c.only.result c.actions.invariant c.actions-test.false c.only.ensures)
+returns-clause-tree c σ t f e =
+    let built : run c.args.actions.now [] ≡ Some (Done (meaning t) ∷ []) = ap (λ l. run l []) e ∙ builds σ t f [] in
+    (returns-clause-exact c (meaning t) built, returns-clause-seen c (Done (meaning t) ∷ []) built)

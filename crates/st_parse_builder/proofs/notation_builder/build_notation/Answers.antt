@@ -1,25 +1,16 @@
-use Rattle.std.proofs.Common.{[], Err, subst, sym, ap, ◌∙◌, option_and_then}
-use Rattle.std.proofs.lemmas.Result.{err_from_is_err_and}
-use Rattle.st_parse_builder.specs.Heights.{notation_height}
-use Rattle.st_parse_builder.specs.inner.NotationBuilding.{run, the_notation, notation_built}
-use Rattle.st_parse_builder.specs.inner.NotationAnswers.{Builds}
-use Rattle.st_parse_builder.proofs.NotationGrowth.{notation_low}
-use Rattle.st_parse_builder.proofs.NotationStops.{unread, notation_means}
+use Rattle.std.proofs.Common.{[], ap, ◌∙◌, option_and_then, reverse}
+use Rattle.st_parse_builder.specs.Notations.{notation_meaning}
+use Rattle.st_parse_builder.specs.inner.NotationBuilding.{run, the_notation}
+use Rattle.st_parse_builder.proofs.NotationBuilds.{notation_builds, one_notation}
+use Rattle.st_parse_builder.proofs.NotationGiven.{notation_given, told_all}
+use Rattle.st_parse_builder.proofs.Tops.{on_some}
 use Rattle.st_parse_builder.proofs.notation_builder.build_notation.Goals as goal
 
-pub returns-in_err-stack-clause-exact : goal.returns-in_err-stack-clause-exact
-returns-in_err-stack-clause-exact c =
-    let failed = err_from_is_err_and c.from_residual.result c.from_residual.ensures.1 in
-    subst (Builds notation_height (notation_built c.args.actions.now)) (sym (failed.1 ∙ ap Err failed.2))
-    (unread notation_height the_notation (run c.args.actions.now []) c.in_err-stack.field-0.0 notation_low c.in_err-stack.ensures.err)
-
-pub returns-in_err-stack-clause-tree : goal.returns-in_err-stack-clause-tree
-returns-in_err-stack-clause-tree c =
-    λ t f e. notation_means t c.args.actions.now c.from_residual.result f e (returns-in_err-stack-clause-exact c)
-
 pub returns-clause-exact : goal.returns-clause-exact
-returns-clause-exact c =
-    subst (λ o. Builds notation_height (option_and_then the_notation o) c.only_notation.result) (sym c.in_ok-stack.ensures.ok) c.only_notation.ensures
+returns-clause-exact c n h =
+    on_some (run c.args.actions.now []) n the_notation h
+    (λ s i j. notation_given s n (reverse c.in_ok-stack.stack) c.only.result c.notation_of.result (told_all c.args.actions.now [] s tt i) j (c.in_ok-stack.ensures s i) c.only.ensures c.notation_of.ensures)
 
 pub returns-clause-tree : goal.returns-clause-tree
-returns-clause-tree c = λ t f e. notation_means t c.args.actions.now c.only_notation.result f e (returns-clause-exact c)
+returns-clause-tree c t f e =
+    returns-clause-exact c (notation_meaning t) (ap (λ l. option_and_then the_notation (run l [])) e ∙ ap (option_and_then the_notation) (notation_builds t f []) ∙ one_notation t)

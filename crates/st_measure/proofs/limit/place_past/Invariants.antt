@@ -1,7 +1,0 @@
-use Rattle.std.proofs.Common.{take}
-use Rattle.st_measure.specs.Variables.{occurrences}
-use Rattle.st_measure.specs.inner.Counting.{Knows}
-use Rattle.st_measure.proofs.limit.place_past.Given as goal
-
-abbrev pub invariant-tokens : goal.invariant-tokens
-invariant-tokens l = Knows l.limit (occurrences (take l.token-index l.seen)) l.names.keys

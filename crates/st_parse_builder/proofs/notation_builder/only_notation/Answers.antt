@@ -1,8 +1,0 @@
-use Rattle.st_parse_builder.specs.inner.NotationAnswers.{pieces}
-use Rattle.st_parse_builder.proofs.NotationStops.{more_than_notation}
-use Rattle.st_parse_builder.proofs.notation_builder.only_notation.Goals as goal
-
-pub returns-then-not-is_empty : goal.returns-then-not-is_empty
-returns-then-not-is_empty c =
-    more_than_notation (pieces c.args.stack.now) c.in-Some.top.notation c.take_notation.new.stack c.in-Some.ensures
-    (λ e. let full = c.is_empty.ensures.1 e in absurd (cc))
