@@ -1,8 +1,6 @@
 //! What is kept of the definitions that are read: their trees, and what the limits ask of them.
 
-ghost use Rattle.std.specs.Prelude.{◌≡◌, [], map, ℕ, List, None, Some, IfOk};
-ghost use Rattle.st_parse_builder.specs.declared.action.Action.{Action};
-ghost use Rattle.st_parse.specs.inner.Taken.{IsPart, AreTaken};
+ghost use Rattle.std.specs.Prelude.{◌≡◌, [], map, ℕ, None, Some, IfOk};
 ghost use Rattle.std.specs.Option.{option_or};
 ghost use Rattle.st_el.specs.Plain.{nowhere};
 ghost use Rattle.st_el.specs.declared.definition.Def.{Def};
@@ -13,13 +11,13 @@ ghost use Rattle.st_draft.specs.inner.Ready.{Ready, Awaits, MayEnd};
 ghost use Rattle.st_parse.specs.Limits as limits;
 ghost use Rattle.st_parse.specs.inner.Kept as spec;
 
-use crate::variables::{Variables, build_part, change_parts, count, no_variables};
-use st_draft::{Change, DefinitionEnd, Draft, PartToken, PartTree, begun, fill, redraft, turn};
-use st_el::{Def, Exp, Typ};
-use st_measure::def_height;
+use crate::parts::{Part, build_arguments};
+use crate::variables::{Variables, build_part, count, no_variables, note_change};
+use st_draft::{Change, DefinitionEnd, Draft, PartToken, begun, fill, redraft, turn};
+use st_el::{Body, Def, DefNode, Exp, Typ};
 use st_num::{HIGHEST_TREE, NoMemory, Row, Span, Token};
 use st_parse_automaton::{Shape, Slot};
-use st_parse_builder::Action;
+use st_parse_builder::{Action, above, higher};
 use std::alloc::Global;
 
 /// A draft, the first definition with a tree that is too high, and what is noted of variables. The
@@ -28,7 +26,26 @@ use std::alloc::Global;
 pub struct Kept<'a> {
     pub draft: Draft,
     pub tall: Option<Span>,
+    pub heights: Heights,
     pub variables: Variables<'a>,
+}
+
+/// The height of the open premise, and whether an alternative is a type alone that is 100 high: only
+/// as an alias is it not too high.
+#[derive(Clone, Copy, Drop)]
+pub struct Heights {
+    pub premise: u8,
+    pub high: bool,
+}
+
+/// Nothing of a definition is read.
+fn no_heights() -> Heights
+    ensures { result ≡ spec.no_heights }
+{
+    Heights {
+        premise: 0,
+        high: false,
+    }
 }
 
 /// What is kept before the first token.
@@ -38,37 +55,84 @@ pub(crate) fn begun_kept<'a>(alloc: Global) -> Kept<'a>
     Kept {
         draft: begun(alloc, Row::new(alloc), Span::NOWHERE),
         tall: None,
+        heights: no_heights(),
         variables: no_variables(alloc),
     }
 }
 
-/// The place of a definition that has a tree higher than a tree may be, if it has one.
-fn too_tall(def: &Def) -> Option<Span>
-    ensures { result ≡ limits.too_tall def.now }
+/// Whether a definition is an alias.
+fn is_alias(def: &Def) -> bool
+    ensures { result ≡ spec.is_alias def.now }
 {
-    if def_height(def) > usize::from(HIGHEST_TREE) {
-        Some(def.at)
-    } else {
-        None
-    }
+    matches!(
+        &def.node,
+        DefNode::Syntax {
+            body: Body::Alias(_),
+            ..
+        },
+    )
 }
 
-/// The place of the last definition, where it is too high.
-fn last_tall(defs: &[Def]) -> Option<Span>
-    ensures { result ≡ spec.last_tall defs.now }
+/// The place of the last definition, where an alternative of it is too high.
+fn last_tall(defs: &[Def], high: bool) -> Option<Span>
+    ensures { result ≡ spec.last_high high defs.now }
 {
     match defs.split_last() {
         None => None,
-        Some((def, _)) => too_tall(def),
+        Some((def, _)) => {
+            if high && !is_alias(def) {
+                Some(def.at)
+            } else {
+                None
+            }
+        }
     }
 }
 
-/// A definition that ends is asked how high it is.
-fn check_height(change: Change, draft: &Draft, tall: Option<Span>) -> Option<Span>
-    ensures { result ≡ spec.checked change draft.now tall }
+/// What a part adds to the heights of the open definition.
+fn with_part(slot: Slot, part: &Part, heights: Heights) -> Heights
+    ensures { result ≡ spec.heights_with slot part.now heights }
+{
+    let Heights { premise, high } = heights;
+    match slot {
+        Slot::Condition => Heights {
+            premise: above(part.height),
+            high,
+        },
+        Slot::Count => Heights {
+            premise: above(higher(premise, part.height)),
+            high,
+        },
+        Slot::Case(_) | Slot::Notation => Heights {
+            premise,
+            high: high || part.height > HIGHEST_TREE,
+        },
+        Slot::Field | Slot::Var | Slot::Fun | Slot::Argument(_, _) | Slot::Rule => heights,
+    }
+}
+
+/// What a token between parts does to the heights of the open definition.
+fn with_change(change: Change, heights: Heights) -> Heights
+    ensures { result ≡ spec.heights_behind change heights }
+{
+    let Heights { premise, high } = heights;
+    match change {
+        Change::Begin(_) | Change::End(_) => no_heights(),
+        Change::Premise(_) | Change::Otherwise => Heights { premise: 0, high },
+        Change::Mark(_) => Heights {
+            premise: above(premise),
+            high,
+        },
+        _ => heights,
+    }
+}
+
+/// A definition that ends is asked whether an alternative is too high.
+fn check_height(change: Change, draft: &Draft, high: bool, tall: Option<Span>) -> Option<Span>
+    ensures { result ≡ spec.checked change draft.now high tall }
 {
     match change {
-        Change::Begin(_) | Change::End(_) => tall.or(last_tall(draft.defs.as_slice())),
+        Change::Begin(_) | Change::End(_) => tall.or(last_tall(draft.defs.as_slice(), high)),
         _ => tall,
     }
 }
@@ -80,20 +144,20 @@ fn change_trees(
     shape: Shape,
     token: &Token,
     arguments: Option<(Row<Typ>, Row<Exp>)>,
-    draft: &mut Draft,
-    tall: Option<Span>,
-) -> Result<Option<Span>, NoMemory>
-    ensures { (given : List (List Action)) (d e : Draft) → spec.Stands tall draft.old d
-        → Ready change d → parts.redrafted change shape token.now given d ≡ Some e
-        → AreTaken change given arguments
-        → IfOk result (λ next. spec.Stands next draft.new e) }
-{
-    let at = draft.head.at;
-    let Some((params, args)) = arguments else {
-        return Ok(tall.or(Some(at)));
-    };
-    redraft(alloc, change, shape, token, params, args, draft)?;
-    Ok(check_height(change, draft, tall))
+    kept: &mut Kept<'_>,
+) -> Result<(), NoMemory> {
+    let at = kept.draft.head.at;
+    let high = kept.heights.high;
+    kept.heights = with_change(change, kept.heights);
+    let tall = kept.tall;
+    match arguments {
+        Some((params, args)) if kept.heights.premise <= HIGHEST_TREE => {
+            redraft(alloc, change, shape, token, params, args, &mut kept.draft)?;
+            kept.tall = check_height(change, &kept.draft, high, tall);
+        }
+        _ => kept.tall = tall.or(Some(at)),
+    }
+    Ok(())
 }
 
 /// A part goes into the draft where it ends. One that is too high does not.
@@ -101,22 +165,22 @@ fn fill_trees(
     alloc: Global,
     slot: Slot,
     around: usize,
-    tree: Option<PartTree>,
+    part: Part,
     words: &[PartToken<'_>],
-    draft: &mut Draft,
-    tall: Option<Span>,
-) -> Result<Option<Span>, NoMemory>
-    ensures { (given : List Action) (d e : Draft) → spec.Stands tall draft.old d
-        → Awaits slot d → parts.refilled slot around given (map parts.word_of words.now) d ≡ Some e
-        → IsPart slot given tree
-        → IfOk result (λ next. spec.Stands next draft.new e) }
-{
-    let at = draft.head.at;
-    let Some(tree) = tree else {
-        return Ok(tall.or(Some(at)));
-    };
-    fill(alloc, slot, around, tree, words, draft)?;
-    Ok(tall)
+    kept: &mut Kept<'_>,
+) -> Result<(), NoMemory> {
+    let at = kept.draft.head.at;
+    kept.heights = with_part(slot, &part, kept.heights);
+    match part.tree {
+        Some(tree) if kept.heights.premise <= HIGHEST_TREE => {
+            fill(alloc, slot, around, tree, words, &mut kept.draft)
+        }
+        _ => {
+            let tall = kept.tall;
+            kept.tall = tall.or(Some(at));
+            Ok(())
+        }
+    }
 }
 
 /// A token between parts changes what is kept.
@@ -132,10 +196,9 @@ pub(crate) fn change_kept<'a>(
         → parts.redrafted change shape token.now arguments.now d ≡ Some e
         → IfOk result (λ _. spec.Draws kept.new e) }
 {
-    let built = change_parts(alloc, change, arguments, &mut kept.variables)?;
-    let tall = kept.tall;
-    kept.tall = change_trees(alloc, change, shape, token, built, &mut kept.draft, tall)?;
-    Ok(())
+    note_change(alloc, change, &mut kept.variables)?;
+    let built = build_arguments(alloc, change, arguments, &mut kept.variables.before)?;
+    change_trees(alloc, change, shape, token, built, kept)
 }
 
 /// A part ends, with so many brackets open round it.
@@ -151,10 +214,8 @@ pub(crate) fn fill_kept<'a>(
         → parts.refilled slot around actions.now (map parts.word_of words.now) d ≡ Some e
         → IfOk result (λ _. spec.Draws kept.new e) }
 {
-    let tree = build_part(alloc, slot, actions, words, &mut kept.variables)?;
-    let tall = kept.tall;
-    kept.tall = fill_trees(alloc, slot, around, tree, words, &mut kept.draft, tall)?;
-    Ok(())
+    let part = build_part(alloc, slot, actions, words, &mut kept.variables)?;
+    fill_trees(alloc, slot, around, part, words, kept)
 }
 
 /// The open definition ends so, and none begins.
@@ -168,6 +229,8 @@ pub(crate) fn end_kept<'a>(
 {
     count(alloc, &mut kept.variables)?;
     turn(alloc, ending, &mut kept.draft, Span::NOWHERE)?;
-    kept.tall = kept.tall.or(last_tall(kept.draft.defs.as_slice()));
+    let high = kept.heights.high;
+    kept.heights = no_heights();
+    kept.tall = kept.tall.or(last_tall(kept.draft.defs.as_slice(), high));
     Ok(())
 }

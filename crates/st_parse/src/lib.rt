@@ -16,7 +16,8 @@ mod parts;
 mod take;
 mod variables;
 
-pub use kept::Kept;
+pub use kept::{Heights, Kept};
 pub use laws::one_answer;
 pub use parser::parse;
+pub use parts::Part;
 pub use variables::Variables;

@@ -1,23 +1,13 @@
 //! Parts that are built where they end.
 
-ghost use Rattle.std.specs.Prelude.{◌≡◌, ◌≢◌, ◌∷◌, [], ◌++◌, List, length, flat_map, Some, IfOk};
-ghost use Rattle.std.specs.Option.{option_map};
+ghost use Rattle.std.specs.Prelude.{◌≡◌, ◌++◌, List, flat_map, IfOk};
 ghost use Rattle.st_el.specs.declared.expression.Exp.{Exp};
 ghost use Rattle.st_el.specs.declared.ty.Typ.{Typ};
-ghost use Rattle.st_el.specs.declared.notation.Notation.{Notation};
-ghost use Rattle.st_parse_builder.specs.declared.piece.Piece.TheVariants.{Done};
-ghost use Rattle.st_parse_builder.specs.Heights.{highest, height, typ_height};
+ghost use Rattle.st_parse_builder.specs.inner.NotationBuilding.{typ_built};
 ghost use Rattle.st_parse_builder.specs.Variables.{occurrences, variables};
-ghost use Rattle.st_parse_builder.specs.inner.Building.{Stack, run};
-ghost use Rattle.st_parse_builder.specs.inner.PieceVariables.{stack_variables};
-ghost use Rattle.st_parse_builder.specs.inner.Parts.{built};
-ghost use Rattle.st_parse_builder.specs.inner.Entries.{exp_part};
-ghost use Rattle.st_parse_builder.specs.inner.NotationBuilding.{typ_built, notation_built};
-ghost use Rattle.st_parse_builder.specs.inner.NotationEntries as spec;
-ghost use Rattle.st_draft.specs.declared.parts.PartTree.TheVariants as tree;
 ghost use Rattle.st_draft.specs.inner.Parts as parts;
-ghost use Rattle.st_draft.specs.declared.change.Change.TheVariants as change;
-ghost use Rattle.st_parse.specs.inner.Taken.{AreTaken, kept_of};
+ghost use Rattle.st_parse.specs.inner.Kept.{AreBuilt};
+ghost use Rattle.st_parse_builder.specs.Heights.{height, typ_height};
 
 use st_draft::{Change, PartTree};
 use st_el::{Exp, Typ};
@@ -27,54 +17,51 @@ use st_parse_builder::{
 };
 use std::alloc::Global;
 
-/// The type of these actions, where it is not too high.
-pub(crate) fn typ_tree(alloc: Global, actions: &[Action<'_>]) -> Result<Option<PartTree>, NoMemory>
-    ensures { (t : Typ) → typ_built actions.now ≡ Some t
-        → IfOk result (λ made. made ≡ option_map tree.Typ (spec.typ_part t).tree) }
-{
-    match build_typ(alloc, actions)?.tree {
-        None => Ok(None),
-        Some(typ) => Ok(Some(PartTree::Typ(typ))),
-    }
+/// A part that ends: its tree, where that is not too high, and its height.
+#[derive(Drop)]
+pub struct Part {
+    pub tree: Option<PartTree>,
+    pub height: u8,
 }
 
-/// The notation of these actions, where it is not too high, or may be an alias.
-pub(crate) fn notation_tree(
-    alloc: Global,
-    actions: &[Action<'_>],
-) -> Result<Option<PartTree>, NoMemory>
-    ensures { (n : Notation) → notation_built actions.now ≡ Some n
-        → IfOk result (λ made. made ≡ option_map tree.Notation (spec.notation_part n).tree) }
-{
-    match build_notation(alloc, actions)?.tree {
-        None => Ok(None),
-        Some(notation) => Ok(Some(PartTree::Notation(notation))),
-    }
+/// The type of these actions.
+pub(crate) fn typ_part(alloc: Global, actions: &[Action<'_>]) -> Result<Part, NoMemory> {
+    let Built { tree, height, .. } = build_typ(alloc, actions)?;
+    let tree = match tree {
+        None => None,
+        Some(typ) => Some(PartTree::Typ(typ)),
+    };
+    Ok(Part { tree, height })
 }
 
-/// The expression of these actions, where it is not too high. Its variables are added to what is
-/// seen.
-pub(crate) fn exp_tree<'a>(
+/// The notation of these actions.
+pub(crate) fn notation_part(alloc: Global, actions: &[Action<'_>]) -> Result<Part, NoMemory> {
+    let Built { tree, height, .. } = build_notation(alloc, actions)?;
+    let tree = match tree {
+        None => None,
+        Some(notation) => Some(PartTree::Notation(notation)),
+    };
+    Ok(Part { tree, height })
+}
+
+/// The expression of these actions, whose variables are added to what is seen.
+pub(crate) fn exp_part<'a>(
     alloc: Global,
     actions: &[Action<'a>],
     seen: &mut Row<TokenRef<'a>>,
-) -> Result<Option<PartTree>, NoMemory>
-    ensures built { (e : Exp) → run actions.now [] ≡ Some (Done e ∷ [])
-        → IfOk result (λ made.
-        made ≡ option_map tree.Exp (exp_part (length seen.old) e).tree) }
-    ensures seen { (s : Stack) → run actions.now [] ≡ Some s
-        → IfOk result (λ _. occurrences seen.new ≡ occurrences seen.old ++ stack_variables s) }
-{
-    match build(alloc, actions, seen)?.tree {
-        None => Ok(None),
-        Some(exp) => Ok(Some(PartTree::Exp(exp))),
-    }
+) -> Result<Part, NoMemory> {
+    let Built { tree, height, .. } = build(alloc, actions, seen)?;
+    let tree = match tree {
+        None => None,
+        Some(exp) => Some(PartTree::Exp(exp)),
+    };
+    Ok(Part { tree, height })
 }
 
 /// The types of these arguments.
 fn build_types(alloc: Global, arguments: &[Row<Action<'_>>]) -> Result<Option<Row<Typ>>, NoMemory>
     ensures { (ts : List Typ) → parts.all_built typ_built arguments.now ≡ Some ts
-        → IfOk result (λ typs. typs ≡ kept_of typ_height ts) }
+        → IfOk result (λ typs. AreBuilt typ_height ts typs) }
 {
     let mut typs = no_parts(alloc);
     'arguments: for actions in arguments {
@@ -91,7 +78,7 @@ fn build_patterns<'a>(
     seen: &mut Row<TokenRef<'a>>,
 ) -> Result<Option<Row<Exp>>, NoMemory>
     ensures built { (es : List Exp) → parts.all_built parts.exp_built arguments.now ≡ Some es
-        → IfOk result (λ exps. exps ≡ kept_of height es) }
+        → IfOk result (λ exps. AreBuilt height es exps) }
     ensures seen { (es : List Exp) → parts.all_built parts.exp_built arguments.now ≡ Some es
         → IfOk result (λ _.
         occurrences seen.new ≡ occurrences seen.old ++ flat_map variables es) }
@@ -110,13 +97,7 @@ pub(crate) fn build_arguments<'a>(
     change: Change,
     arguments: &[Row<Action<'a>>],
     seen: &mut Row<TokenRef<'a>>,
-) -> Result<Option<(Row<Typ>, Row<Exp>)>, NoMemory>
-    ensures built { IfOk result (λ made. AreTaken change arguments.now made) }
-    ensures args { change ≡ change.Args → (es : List Exp)
-        → parts.all_built parts.exp_built arguments.now ≡ Some es → IfOk result (λ _.
-        occurrences seen.new ≡ occurrences seen.old ++ flat_map variables es) }
-    ensures same { change ≢ change.Args → seen.new ≡ seen.old }
-{
+) -> Result<Option<(Row<Typ>, Row<Exp>)>, NoMemory> {
     match change {
         Change::Params => {
             let Some(params) = build_types(alloc, arguments)? else {

@@ -1,6 +1,6 @@
 //! The variables of the open rule or clause, and the first that is past the limit.
 
-ghost use Rattle.std.specs.Prelude.{◌≡◌, ◌≢◌, ◌++◌, [], map, flat_map, ℕ, List, Some, IfOk};
+ghost use Rattle.std.specs.Prelude.{◌≡◌, ◌++◌, [], map, flat_map, ℕ, List, Some, IfOk};
 ghost use Rattle.std.specs.Option.{option_or};
 ghost use Rattle.st_num.specs.declared.limit.TheConstants.{MOST_PREMISES};
 ghost use Rattle.st_num.specs.declared.token.Token.{Token};
@@ -10,18 +10,14 @@ ghost use Rattle.st_parse_builder.specs.inner.Building.{Stack, run};
 ghost use Rattle.st_parse_builder.specs.inner.PieceVariables.{stack_variables};
 ghost use Rattle.st_parse_builder.specs.Variables.{occurrences, variables, times, iterated, without};
 ghost use Rattle.st_parse_builder.specs.Limits as measured;
-ghost use Rattle.st_draft.specs.declared.change.Change.TheVariants as change;
 ghost use Rattle.st_draft.specs.declared.draft.Draft.{Draft};
-ghost use Rattle.st_parse_builder.specs.declared.action.Action.{Action};
 ghost use Rattle.st_draft.specs.inner.Parts as parts;
 ghost use Rattle.st_draft.specs.inner.Ready.{Ready, Awaits};
 ghost use Rattle.st_parse.specs.inner.Cuts as spec;
 ghost use Rattle.st_parse.specs.inner.Kept.{Notes};
-ghost use Rattle.st_parse.specs.inner.Taken.{IsPart, AreTaken};
 
-use crate::parts::{build_arguments, exp_tree, notation_tree, typ_tree};
+use crate::parts::{Part, exp_part, notation_part, typ_part};
 use st_draft::{Change, PartToken, PartTree, index_in};
-use st_el::{Exp, Typ};
 use st_num::{MOST_PREMISES, NoMemory, Row, Span};
 use st_parse_automaton::Slot;
 use st_parse_builder::{Action, TokenRef, build, leave_out, place_past};
@@ -112,57 +108,41 @@ pub(crate) fn build_part<'a>(
     actions: &[Action<'a>],
     words: &[PartToken<'_>],
     variables: &mut Variables<'a>,
-) -> Result<Option<PartTree>, NoMemory>
+) -> Result<Part, NoMemory>
     ensures notes { (d e : Draft) (n : ℕ) → Notes variables.old d → Awaits slot d
         → parts.refilled slot n actions.now (map parts.word_of words.now) d ≡ Some e
         → IfOk result (λ _. Notes variables.new e) }
-    ensures part { IfOk result (λ made. IsPart slot actions.now made) }
+    ensures part { (d e : Draft) (n : ℕ)
+        → parts.refilled slot n actions.now (map parts.word_of words.now) d ≡ Some e
+        → IfOk result (λ part. IsPart slot n (map parts.word_of words.now) d e part) }
 {
     match slot {
-        Slot::Field | Slot::Var | Slot::Fun => typ_tree(alloc, actions),
-        Slot::Case(_) | Slot::Notation => notation_tree(alloc, actions),
-        Slot::Argument(_, _) => Ok(Some(PartTree::Argument)),
-        Slot::Rule => exp_tree(alloc, actions, &mut variables.before),
-        Slot::Condition => exp_tree(alloc, actions, &mut variables.inside),
+        Slot::Field | Slot::Var | Slot::Fun => typ_part(alloc, actions),
+        Slot::Case(_) | Slot::Notation => notation_part(alloc, actions),
+        Slot::Argument(_, _) => Ok(Part {
+            tree: Some(PartTree::Argument),
+            height: 0,
+        }),
+        Slot::Rule => exp_part(alloc, actions, &mut variables.before),
+        Slot::Condition => exp_part(alloc, actions, &mut variables.inside),
         Slot::Count => {
             leave_index(alloc, words, &mut variables.inside)?;
-            exp_tree(alloc, actions, &mut variables.inside)
+            exp_part(alloc, actions, &mut variables.inside)
         }
     }
 }
 
 /// A token between parts ends a definition or a premise, or neither.
-fn note_change<'a>(
+pub(crate) fn note_change<'a>(
     alloc: Global,
     change: Change,
     variables: &mut Variables<'a>,
-) -> Result<(), NoMemory>
-    ensures others { change ≢ change.Args → (given : List (List Action)) (d e : Draft) (sh : Shape)
-        (x : Token) → Notes variables.old d → Ready change d
-        → parts.redrafted change sh x given d ≡ Some e → IfOk result (λ _. Notes variables.new e) }
-    ensures args { change ≡ change.Args → variables.new ≡ variables.old }
-{
+) -> Result<(), NoMemory> {
     match change {
         Change::Begin(_) | Change::End(_) => count(alloc, variables),
         Change::Premise(_) => end_premise(alloc, variables),
         _ => Ok(()),
     }
-}
-
-/// A token between parts changes what is noted, and takes the arguments that it builds.
-pub(crate) fn change_parts<'a>(
-    alloc: Global,
-    change: Change,
-    arguments: &[Row<Action<'a>>],
-    variables: &mut Variables<'a>,
-) -> Result<Option<(Row<Typ>, Row<Exp>)>, NoMemory>
-    ensures notes { (d e : Draft) (sh : Shape) (x : Token) → Notes variables.old d → Ready change d
-        → parts.redrafted change sh x arguments.now d ≡ Some e
-        → IfOk result (λ _. Notes variables.new e) }
-    ensures built { IfOk result (λ made. AreTaken change arguments.now made) }
-{
-    note_change(alloc, change, variables)?;
-    build_arguments(alloc, change, arguments, &mut variables.before)
 }
 
 /// Whether a part belongs to a rule or clause.

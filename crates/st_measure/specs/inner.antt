@@ -1,2 +1,0 @@
--- The heights of what stands in a tree, for the proofs alone.
-pub mod Parts
