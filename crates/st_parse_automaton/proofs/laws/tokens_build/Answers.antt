@@ -4,8 +4,8 @@ use Rattle.st_grammar.specs.Reading.{start}
 use Rattle.st_parse_builder.specs.inner.NotationBuilding as notations
 use Rattle.st_parse_builder.specs.inner.Building.{run}
 use Rattle.st_parse_builder.proofs.Emission.{read_state}
-use Rattle.st_parse_actions.proofs.Whole.{part_emits}
-use Rattle.st_parse_actions.proofs.laws.tokens_build.Goals as goal
+use Rattle.st_parse_automaton.proofs.Emissions.{part_emits}
+use Rattle.st_parse_automaton.proofs.laws.tokens_build.Goals as goal
 
 pub returns-clause-part : goal.returns-clause-part
 returns-clause-part c σ us t s e =
