@@ -168,3 +168,16 @@ pub(crate) fn end_bracket<'a>(
         PartKind::Below => Ok(()),
     }
 }
+
+/// These actions, and those that are added behind them.
+pub fn with_actions<'a>(
+    actions: Row<Action<'a>>,
+    added: Row<Action<'a>>,
+) -> Result<Row<Action<'a>>, NoMemory>
+    ensures { IfOk result (λ all. all ≡ actions.entry ++ added.entry) }
+{
+    let mut all = actions.into_vec();
+    let mut more = added.into_vec();
+    all.append(&mut more)?;
+    Ok(Row::from_vec(all))
+}

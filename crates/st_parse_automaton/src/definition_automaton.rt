@@ -242,7 +242,7 @@ fn turn(
 fn stand<'a>(advance: Advance, actions: Row<Action<'a>>, next: Option<Progress>) -> Option<Step<'a>>
     ensures { (x : Token) → option_map step_of result
         ≡ definitions.advanced x
-        (definitions.stands advance (λ _. actions) (option_map progress_of next)) }
+        (definitions.stands advance (λ _. actions.entry) (option_map progress_of next)) }
 {
     match next {
         Some(progress) => Some(Step {

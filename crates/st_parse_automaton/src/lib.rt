@@ -24,6 +24,7 @@ mod reader;
 mod step;
 mod token;
 
+pub use actions::with_actions;
 pub use class::{declared_names, token_class};
 pub use definition_automaton::{advance, may_end};
 pub use frame::{follows, top};
