@@ -1,7 +1,6 @@
 -- What each token makes of a draft and of the part that is read.
-use Rattle.std.specs.Prelude.{◌≡◌, ℕ, Bool, true, false, not, List, [], ◌∷◌, ◌++◌, length, map, reverse, Option, Some, None, option_and_then}
+use Rattle.std.specs.Prelude.{◌≡◌, ℕ, Bool, true, false, not, List, [], ◌∷◌, ◌++◌, length, map, Option, Some, None, option_and_then}
 use Rattle.std.specs.Option.{option_map}
-use Rattle.st_num.specs.declared.mark.Mark.{Mark}
 use Rattle.st_num.specs.declared.token.Token.{Token}
 use Rattle.st_grammar.specs.declared.sort.Bracket.{Bracket}
 use Rattle.st_parse_automaton.specs.declared.part_automaton.Part.{Part}
@@ -16,7 +15,7 @@ use Rattle.st_parse_automaton.specs.inner.DefinitionAutomaton as definitions
 use Rattle.st_parse_automaton.specs.inner.DefinitionAutomaton.{slot_sort, filled}
 use Rattle.st_el.specs.declared.definition.Def.{Def}
 use Rattle.st_parse_builder.specs.declared.action.Action.{Action}
-use Rattle.st_parse_actions.specs.inner.Emits.{emits, kept, finishing}
+use Rattle.st_parse_automaton.specs.inner.PartAutomaton.{emits, finishing}
 use Rattle.st_draft.specs.declared.parts.Parts.{Parts}
 use Rattle.st_draft.specs.declared.draft.Draft.{Draft}
 use Rattle.st_draft.specs.inner.Changes.{ending_of, change_of}
@@ -25,13 +24,11 @@ use Rattle.st_draft.specs.inner.Parts.{word_of, redrafted, refilled}
 use Rattle.st_draft.specs.inner.Ready.{MayEnd, Ready, Awaits}
 use Rattle.st_parse_faults.specs.inner.Roles.{none_open}
 
--- A draft, the actions of the arguments and of the part that is read, the signs of the changes
--- that are open in it, the innermost first, and the tokens of a count.
+-- A draft, the actions of the arguments and of the part that is read, and the tokens of a count.
 pub record Work : Type 0 where
   pub draft : Draft
   pub arguments : List (List Action)
   pub actions : List Action
-  pub marks : List Mark
   pub words : List (TokenClass × Token)
 
 -- a draft and what the code keeps of a part, as one work
@@ -41,7 +38,6 @@ work_of d p =
       draft = d;
       arguments = p.arguments;
       actions = p.actions;
-      marks = reverse p.marks;
       words = map word_of p.words;
     }
 
@@ -59,8 +55,7 @@ part_work s st l x w =
     record {
       draft = w.draft;
       arguments = w.arguments;
-      actions = w.actions ++ emits (slot_sort s) w.marks st l.shape x;
-      marks = kept (slot_sort s) w.marks st l.shape;
+      actions = w.actions ++ emits (slot_sort s) st l.shape x;
       words = words_after s l x w.words;
     }
 
@@ -74,7 +69,6 @@ redrafted_work after p l x w =
       draft = d;
       arguments = arguments_after (change_of p after) w.arguments;
       actions = w.actions;
-      marks = w.marks;
       words = w.words;
     })
     (redrafted (change_of p after) l.shape x w.arguments w.draft)
@@ -92,18 +86,32 @@ abbrev pub arguments_with : Slot → List Action → List (List Action) → List
 arguments_with (slot.Argument e t) acts arguments = arguments ++ acts ∷ []
 arguments_with s acts arguments = arguments
 
--- the work behind the end of a part, with so many brackets open round it
-abbrev pub filled_work : Slot → ℕ → parts.State → Work → Option Work
-filled_work s n st w =
+-- the work behind the end of a part whose actions are all there, with so many brackets open round
+-- it
+abbrev pub ended_work : Slot → ℕ → Work → Option Work
+ended_work s n w =
     option_map
     (λ d. record {
       draft = d;
-      arguments = arguments_with s (w.actions ++ finishing st) w.arguments;
+      arguments = arguments_with s w.actions w.arguments;
       actions = [];
-      marks = [];
       words = [];
     })
-    (refilled s n (w.actions ++ finishing st) w.words w.draft)
+    (refilled s n w.actions w.words w.draft)
+
+-- the work with these actions behind those of the part
+abbrev pub added_work : List Action → Work → Work
+added_work acts w =
+    record {
+      draft = w.draft;
+      arguments = w.arguments;
+      actions = w.actions ++ acts;
+      words = w.words;
+    }
+
+-- the work behind the end of a part, with so many brackets open round it
+abbrev pub filled_work : Slot → ℕ → parts.State → Work → Option Work
+filled_work s n st w = ended_work s n (added_work (finishing st) w)
 
 -- The part goes on behind the token: it is not one that begins there.
 abbrev pub goes_on : definitions.State → Bool
