@@ -122,11 +122,12 @@ abbrev Fills : List Action → Trees → Type 0
 Fills more ts = (at : Span) (s : Stack) → Adds more (Fields at [] ∷ s) (trees_variables ts)
 
 fields_add : (σ : Sort) (n : ℕ) (ts : Trees) → EachFits σ fields n ts → Fills (field_acts ts) ts
-fields_add σ n ts f at s = (
-  Fields at (field_meanings ts) ∷ s,
-  put_fields σ n ts (each_built σ fields n ts f) f at [] s,
-  ap (λ vs. stack_variables s ++ vs) (field_same ts) ∙ ap (λ vs. vs ++ trees_variables ts) (sym (append-nil (stack_variables s))),
-)
+fields_add σ n ts f at s =
+    (
+      Fields at (field_meanings ts) ∷ s,
+      put_fields σ n ts (each_built σ fields n ts f) f at [] s,
+      ap (λ vs. stack_variables s ++ vs) (field_same ts) ∙ ap (λ vs. vs ++ trees_variables ts) (sym (append-nil (stack_variables s))),
+    )
 
 named_adds : (ts : Trees) (pre : List Terminal) → SetsOff fields ts pre → (s : Stack) → Adds (label_acts pre) s []
 named_adds ts pre f s = (Label (label pre) ∷ s, labels ts pre f s, refl)
@@ -146,7 +147,8 @@ parts_add at ts s b = (Parts at (meanings ts) ∷ s, put_parts ts b at [] s, ref
 
 named_call : (x : Token) (ts : Trees) (at : Span) (s : Stack) → AllBuilt ts → Adds (action.Operand function x ∷ action.Open at ∷ part_acts ts) s (trees_variables ts)
 named_call x ts at s b =
-    let call : Exp = exp x.at (node.Call (name_of x.kind) []) in (
+    let call : Exp = exp x.at (node.Call (name_of x.kind) []) in
+    (
       Parts at (meanings ts) ∷ Done call ∷ s,
       put_parts ts b at [] (Done call ∷ s),
       ap (λ vs. (stack_variables s ++ vs) ++ trees_variables ts) (in_call x.at (name_of x.kind) []) ∙ ap (λ vs. vs ++ trees_variables ts) (append-nil (stack_variables s)),

@@ -145,7 +145,8 @@ filled_defs s st t = stands_before (at (filled s t)) ∙ ap defs_meaning (filled
 parted : (s : Slot) (st : part.State) (q : Option Tree) → Holds (inside s st) → part.finish st ≡ q
     → Parted (slot_of s) (view.state_of st) (slot_open s) (state_work (inside s st)) (inside_variables s st q) (option_map part_of q)
 parted s st None h e =
-    let adds = part_adds st h.1 in (
+    let adds = part_adds st h.1 in
+    (
       adds.0,
       adds.1,
       ap (λ vs. of_open (slot_draft s) ++ vs) (cut_is s adds.0 ∙ ap (cut_variables s) adds.2) ∙ ap (λ vs. vs ++ cut_variables s (part_variables st)) (slot_has s),
