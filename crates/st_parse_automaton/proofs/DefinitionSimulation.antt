@@ -266,41 +266,41 @@ IsPlain (entering s) = ⊥
 IsPlain p = Unit {0}
 
 pub owns_is : (p : spec.Position) (l : terminals.Terminal) → texts.PositionHolds p → IsPlain p → definitions.own (position_of p) (class_of l) (open_of p) ≡ option_map definitions_of (spec.own p l)
-owns_is (between ds) l h n = refl
-owns_is (syntax_name ds w) l h n = same_when _ _ _ _ (low_is l) refl
-owns_is (var_name ds w) l h n = same_when _ _ _ _ (var_is l) refl
-owns_is (var_colon ds w x) l h n = same_when _ _ _ _ (signed_is is_colon l) refl
-owns_is (relation_name ds w) l h n = same_when _ _ _ _ (relation_is l) refl
-owns_is (rule_name ds w) l h n = same_when _ _ _ _ (relation_is l) refl
-owns_is (rule_colon ds w r) l h n =
+owns_is (between ds) l h plain = refl
+owns_is (syntax_name ds w) l h plain = same_when _ _ _ _ (low_is l) refl
+owns_is (var_name ds w) l h plain = same_when _ _ _ _ (var_is l) refl
+owns_is (var_colon ds w x) l h plain = same_when _ _ _ _ (signed_is is_colon l) refl
+owns_is (relation_name ds w) l h plain = same_when _ _ _ _ (relation_is l) refl
+owns_is (rule_name ds w) l h plain = same_when _ _ _ _ (relation_is l) refl
+owns_is (rule_colon ds w r) l h plain =
     same_if _ _ (at (position.RuleId true) []) (spec.at (rule_id ds w r (l ∷ []) true)) (definitions.colon_step (class_of l) []) (spec.colon_step ds w r [] l) (signed_is is_slash l) refl (colon_is ds w r [] l)
-owns_is (fun_name ds w) l h n = same_when _ _ _ _ (fun_is l) refl
-owns_is (fun_named ds w f) l h n =
+owns_is (fun_name ds w) l h plain = same_when _ _ _ _ (fun_is l) refl
+owns_is (fun_named ds w f) l h plain =
     same_if _ _ (at (position.Entering (slot.Argument true true)) []) (spec.at (entering (arg_slot ds w f l none []))) (definitions.result_step true (class_of l) []) (spec.result_step ds w f def.no_args true l)
     (ap (λ b. b && touches l) (open_is l)) refl (result_is ds w f def.no_args true l)
-owns_is (argued ds w f o none) l h n = absurd h
-owns_is (argued ds w f o (more ts q t)) l h n =
+owns_is (argued ds w f o none) l h plain = absurd h
+owns_is (argued ds w f o (more ts q t)) l h plain =
     same_if _ _ (definitions.start_of (slot.Argument false (reads_types (more ts q t))) []) (spec.begun (arg_slot ds w f o (more ts q t) (l ∷ []))) (definitions.when (definitions.closes_round (class_of l)) (at (position.ArgumentsClosed (reads_types (more ts q t))) []))
     (spec.when (def.closes_round l) (spec.at (args_closed ds w f o (more ts q t) l))) (signed_is is_comma l) refl (same_when _ _ _ _ (close_is l) refl)
-owns_is (args_closed ds w f o ts c) l h n = result_is ds w f (def.args o ts c) (reads_types ts) l
-owns_is (syntax_id ds w x [] d) l h n = absurd h.3
-owns_is (syntax_id ds w x (s ∷ ls) d) l h n =
+owns_is (args_closed ds w f o ts c) l h plain = result_is ds w f (def.args o ts c) (reads_types ts) l
+owns_is (syntax_id ds w x [] d) l h plain = absurd h.3
+owns_is (syntax_id ds w x (s ∷ ls) d) l h plain =
     ap (λ q. definitions.id_goes q d (λ e. at (position.SyntaxId e) []) (definitions.hint_or (keyword l) host.Syntax false (class_of l) [])) (id_is d l)
     ∙ id_goes_is (def.id_step d l) d (λ e. at (position.SyntaxId e) []) (λ e. spec.at (syntax_id ds w x ((s ∷ ls) ++ l ∷ []) e)) _ _ (λ e. refl) (hint_or_is (keyword l) (of_syntax ds w x (s ∷ ls)) no_hints l)
-owns_is (rule_id ds w r ls d) l h n =
+owns_is (rule_id ds w r ls d) l h plain =
     ap (λ q. definitions.id_goes q d (λ e. at (position.RuleId e) []) (definitions.colon_step (class_of l) [])) (id_is d l)
     ∙ id_goes_is (def.id_step d l) d (λ e. at (position.RuleId e) []) (λ e. spec.at (rule_id ds w r (ls ++ l ∷ []) e)) _ _ (λ e. refl) (colon_is ds w r ls l)
-owns_is (hinted k hs) l h n = hint_or_is (keyword l) k hs l
-owns_is (hint_open k hs w) l h n = same_when _ _ _ _ (open_is l) refl
-owns_is (hint_name k hs w o) l h n = same_when _ _ _ _ (name_is l) refl
-owns_is (hint_words k hs w o n ws ks) l h n = ap (definitions.hint_step (host_of k) ks (class_of l)) (balance_is ks l) ∙ hint_step_is k hs w o n ws ks l (def.balance_step ks l)
-owns_is (entering s) l h n = absurd n
-owns_is (dotted k d) l h n = same_when _ _ _ _ (bar_is l) refl
-owns_is (field_name k o ms pre) l h n = field_step_is k o ms pre l
-owns_is (premised r t ps) l h n = next_premise_is (keyword l) r t ps l
-owns_is (premise_open r t ps d os) l h n = premise_word_is (keyword l) r t ps d os l
-owns_is (goal_colon r t ps d os n) l h n = same_when _ _ _ _ (signed_is is_colon l) refl
-owns_is (iterated r t ps d os ls u i) l h n = iterate_is r t ps d os ls u i l h.enough
+owns_is (hinted k hs) l h plain = hint_or_is (keyword l) k hs l
+owns_is (hint_open k hs w) l h plain = same_when _ _ _ _ (open_is l) refl
+owns_is (hint_name k hs w o) l h plain = same_when _ _ _ _ (name_is l) refl
+owns_is (hint_words k hs w o n ws ks) l h plain = ap (definitions.hint_step (host_of k) ks (class_of l)) (balance_is ks l) ∙ hint_step_is k hs w o n ws ks l (def.balance_step ks l)
+owns_is (entering s) l h plain = absurd plain
+owns_is (dotted k d) l h plain = same_when _ _ _ _ (bar_is l) refl
+owns_is (field_name k o ms pre) l h plain = field_step_is k o ms pre l
+owns_is (premised r t ps) l h plain = next_premise_is (keyword l) r t ps l
+owns_is (premise_open r t ps d os) l h plain = premise_word_is (keyword l) r t ps d os l
+owns_is (goal_colon r t ps d os n) l h plain = same_when _ _ _ _ (signed_is is_colon l) refl
+owns_is (iterated r t ps d os ls u i) l h plain = iterate_is r t ps d os ls u i l h.enough
 
 -- behind whole definitions a next one begins
 pub turn_is : (p : spec.Position) (l : terminals.Terminal) → texts.PositionHolds p

@@ -169,17 +169,35 @@ plain_is b x fs =
     agree_if _ _ _ _ (opened_by (Plain b) fs) (part.opened b x fs)
     (ap (λ σ. encloses σ b) (top_sort fs)) (ap (λ gs. (parts.kind_expected (Plain b), gs)) (opened_is (tree.plain b x) fs) ∙ plain_begins b x fs) (plain_opens b x)
 
-pub opening_is : (b : Bracket) (x : Token) (fs : part.Frames) → Agree x (emission.beginning_opening b x fs) (parts.begin_opening (base fs) b (frames_of fs)) (part.begin_opening b x fs)
-opening_is bracket.Round x fs =
-    agree_or (is_count (parts.top (base fs) (frames_of fs))) (is_count (part.sort fs)) x [] (opening_acts (tree.plain bracket.Round x)) (Some ((IndexExpected, frames_of fs), parts.adds_nothing)) (parts.begin_plain (base fs) bracket.Round (frames_of fs))
+-- no parenthesis behind `^`
+pub other_opens : (b : Bracket) (x : Token) (fs : part.Frames) → parts.is_round b ≡ false
+    → Agree x (opening_acts (tree.plain b x)) (parts.begin_opening (base fs) b (frames_of fs)) (if encloses (part.sort fs) b then Some (part.opened b x fs) else None)
+other_opens b x fs e =
+    subst (λ c. Agree x (opening_acts (tree.plain b x)) (if is_count (parts.top (base fs) (frames_of fs)) && c then Some ((IndexExpected, frames_of fs), parts.adds_nothing) else parts.begin_plain (base fs) b (frames_of fs)) (if encloses (part.sort fs) b then Some (part.opened b x fs) else None)) (sym e)
+    (go (is_count (parts.top (base fs) (frames_of fs))))
+  where
+    go : (c : Bool) → Agree x (opening_acts (tree.plain b x)) (if c && false then Some ((IndexExpected, frames_of fs), parts.adds_nothing) else parts.begin_plain (base fs) b (frames_of fs)) (if encloses (part.sort fs) b then Some (part.opened b x fs) else None)
+    go true = plain_is b x fs
+    go false = plain_is b x fs
+
+pub round_opens : (x : Token) (fs : part.Frames) → Agree x (emission.beginning_opening bracket.Round x fs) (parts.begin_opening (base fs) bracket.Round (frames_of fs)) (part.begin_opening bracket.Round x fs)
+round_opens x fs =
+    agree_or (is_count (parts.top (base fs) (frames_of fs)) && true) (is_count (part.sort fs)) x [] (opening_acts (tree.plain bracket.Round x)) (Some ((IndexExpected, frames_of fs), parts.adds_nothing)) (parts.begin_plain (base fs) bracket.Round (frames_of fs))
     (Some (part.indexing x fs)) (if encloses (part.sort fs) bracket.Round then Some (part.want (part.within (tree.plain bracket.Round x) none [] fs)) else None)
-    (ap is_count (top_sort fs)) (refl, refl) (plain_is bracket.Round x fs)
-opening_is bracket.Square x fs = plain_is bracket.Square x fs
-opening_is bracket.Brace x fs = plain_is bracket.Brace x fs
-opening_is bracket.TickRound x fs = plain_is bracket.TickRound x fs
-opening_is bracket.TickSquare x fs = plain_is bracket.TickSquare x fs
-opening_is bracket.TickBrace x fs = plain_is bracket.TickBrace x fs
-opening_is bracket.Dollar x fs = plain_is bracket.Dollar x fs
+    (and_yes (is_count (parts.top (base fs) (frames_of fs))) ∙ ap is_count (top_sort fs)) (refl, refl) (plain_is bracket.Round x fs)
+  where
+    and_yes : (b : Bool) → (b && true) ≡ b
+    and_yes true = refl
+    and_yes false = refl
+
+pub opening_is : (b : Bracket) (x : Token) (fs : part.Frames) → Agree x (emission.beginning_opening b x fs) (parts.begin_opening (base fs) b (frames_of fs)) (part.begin_opening b x fs)
+opening_is bracket.Round x fs = round_opens x fs
+opening_is bracket.Square x fs = other_opens bracket.Square x fs refl
+opening_is bracket.Brace x fs = other_opens bracket.Brace x fs refl
+opening_is bracket.TickRound x fs = other_opens bracket.TickRound x fs refl
+opening_is bracket.TickSquare x fs = other_opens bracket.TickSquare x fs refl
+opening_is bracket.TickBrace x fs = other_opens bracket.TickBrace x fs refl
+opening_is bracket.Dollar x fs = other_opens bracket.Dollar x fs refl
 
 pub no_arguments_is : (x : Token) (fs : part.Frames) → Agree x (emission.no_arguments_end x fs) (parts.no_arguments (frames_of fs)) (part.no_arguments x fs)
 no_arguments_is x (part.bottom σ) = tt
@@ -526,7 +544,7 @@ agreed x acts (Some m) (Some last) next h e = let is : last ≡ next = cc in (m,
 pub emits_is : (st : part.State) (l : Terminal) (next : part.State) → Holds st → part.step st l ≡ Some next → parts.emits (state_base st) (state_of st) (shape l) (token_in l) ≡ emission.emitted st l
 emits_is st l next h e =
     let a = agreed (token_in l) (emission.emitted st l) (parts.step (state_base st) (state_of st) (shape l)) (part.step st l) next (moves_are st l h) e in
-    ap (parts.added (token_in l)) a.1 ∙ a.2.1
+    ap (parts.added (token_in l)) a.1 ∙ a.3
 
 pub ended_is : (p : Tree × part.Frames) → parts.ended (low_of p) ≡ option_map part_of (part.ended p)
 ended_is (t, part.bottom σ) = refl

@@ -119,17 +119,6 @@ pub(crate) fn end_part<'a>(kind: PartKind, actions: &mut Row<Action<'a>>) -> Res
     }
 }
 
-/// The action that ends parentheses, a record, or a bracket round one part.
-fn plain_end<'a>(bracket: Bracket) -> Action<'a>
-    ensures { result ≡ parts.plain_end bracket }
-{
-    match bracket {
-        Bracket::Round => Action::EndParens,
-        Bracket::Brace => Action::EndFields,
-        _ => Action::Enclose(bracket),
-    }
-}
-
 /// The action of a position in a part, or of a position and how many elements.
 fn position<'a>(filling: Filling) -> Action<'a>
     ensures { result ≡ parts.at_act filling }
@@ -159,7 +148,9 @@ pub(crate) fn end_bracket<'a>(
     ensures { IfOk result (λ _. actions.new ≡ actions.old ++ parts.kind_end kind filling) }
 {
     match kind {
-        PartKind::Plain(bracket) => actions.push(plain_end(bracket)),
+        PartKind::Plain(Bracket::Round) => actions.push(Action::EndParens),
+        PartKind::Plain(Bracket::Brace) => actions.push(Action::EndFields),
+        PartKind::Plain(bracket) => actions.push(Action::Enclose(bracket)),
         PartKind::Length => actions.push(Action::Length),
         PartKind::Arguments => actions.push(Action::EndCall),
         PartKind::Index => actions.push(position(filling)),

@@ -35,24 +35,6 @@ pub(crate) fn opened<'a>(
     }))
 }
 
-/// Opens such a bracket, where it begins an operand.
-fn begin_plain<'a>(
-    base: Sort,
-    bracket: Bracket,
-    frames: Row<Frame>,
-    token: &Token,
-    actions: &mut Row<Action<'a>>,
-) -> Result<Option<Reading>, NoMemory>
-    ensures { IfOk result (λ next. reached next actions.new
-        ≡ parts.leads actions.old token.now (parts.begin_plain base bracket (reverse frames))) }
-{
-    let sort = top(base, &frames);
-    if !sort.encloses(bracket) {
-        return Ok(None);
-    }
-    opened(PartKind::Plain(bracket), sort, frames, token, actions)
-}
-
 /// What a token that opens a bracket makes where an operand is expected.
 fn begin_opening<'a>(
     base: Sort,
@@ -64,19 +46,17 @@ fn begin_opening<'a>(
     ensures { IfOk result (λ next. reached next actions.new
         ≡ parts.leads actions.old token.now (parts.begin_opening base bracket (reverse frames))) }
 {
-    match bracket {
-        Bracket::Round if top(base, &frames).is_count() => Ok(Some(Reading {
+    let sort = top(base, &frames);
+    if sort.is_count() && matches!(bracket, Bracket::Round) {
+        return Ok(Some(Reading {
             expected: Expected::Index,
             frames,
-        })),
-        Bracket::Round
-        | Bracket::Square
-        | Bracket::Brace
-        | Bracket::TickRound
-        | Bracket::TickSquare
-        | Bracket::TickBrace
-        | Bracket::Dollar => begin_plain(base, bracket, frames, token, actions),
+        }));
     }
+    if !sort.encloses(bracket) {
+        return Ok(None);
+    }
+    opened(PartKind::Plain(bracket), sort, frames, token, actions)
 }
 
 /// `)` closes the arguments of a function, which are none.

@@ -206,6 +206,14 @@ fn separate<'a>(
     }
 }
 
+/// Whether the sign stands between two sides there.
+fn joins(base: Sort, mark: Mark, frames: &Row<Frame>) -> bool
+    ensures { result ≡ parts.is_joined base mark (reverse frames.now) }
+{
+    let level = mark.level();
+    top(base, frames).has_level(level) && least(frames) <= level
+}
+
 /// A sign between two sides, or else before a next part of the innermost bracket.
 pub(crate) fn join<'a>(
     base: Sort,
@@ -216,15 +224,14 @@ pub(crate) fn join<'a>(
     ensures { (x : Token) → IfOk result (λ next. reached next actions.new
         ≡ parts.leads actions.old x (parts.join base mark (lowered_of lowered))) }
 {
-    let sort = top(base, &lowered.frames);
-    let level = mark.level();
-    if !(sort.has_level(level) && least(&lowered.frames) <= level) {
+    if !joins(base, mark, &lowered.frames) {
         return separate(base, mark, lowered, actions);
     }
     if left_of(mark) > lowered.level {
         return Ok(None);
     }
     let mut frames = lowered.frames;
+    let sort = top(base, &frames);
     frames.push(Frame::Over(Lead::Left(mark), sort))?;
     Ok(Some(Reading {
         expected: Expected::Operand,

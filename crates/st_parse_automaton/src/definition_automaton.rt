@@ -279,6 +279,32 @@ fn stand_at<'a>(
     Ok(stand(Advance::At(position), Row::new(alloc), next))
 }
 
+/// A part that is read so far takes the token, if that may stand there.
+fn take<'a>(
+    alloc: Global,
+    slot: Slot,
+    reading: Reading,
+    class: TokenClass,
+    token: &'a Token,
+    brackets: &Row<Bracket>,
+) -> Result<Option<Step<'a>>, NoMemory>
+    ensures { IfOk result (λ step. option_map step_of step
+        ≡ definitions.advanced token.now
+        (definitions.taken slot (reverse brackets.now)
+        (parts.step (definitions.slot_sort slot) (reading_of reading) (class.shape))
+        Prelude.None)) }
+{
+    let mut actions = Row::new(alloc);
+    match step(slot_sort(slot), reading, class.shape, token, &mut actions)? {
+        Some(next) => Ok(Some(Step {
+            advance: Advance::On(slot),
+            progress: Progress::Inside(slot, next, brackets.copy(alloc)?),
+            actions,
+        })),
+        None => Ok(None),
+    }
+}
+
 /// A token at a position where a part is due: the part begins with it, or it stands there.
 fn enter<'a>(
     alloc: Global,
@@ -292,17 +318,12 @@ fn enter<'a>(
         ≡ definitions.advanced token.now
         (definitions.at_position (Prelude.Some slot) position class (reverse brackets.now))) }
 {
-    let mut actions = Row::new(alloc);
-    let reading = Reading {
+    let fresh = Reading {
         expected: Expected::Operand,
         frames: Row::new(alloc),
     };
-    match step(slot_sort(slot), reading, class.shape, token, &mut actions)? {
-        Some(next) => Ok(Some(Step {
-            advance: Advance::On(slot),
-            progress: Progress::Inside(slot, next, brackets.copy(alloc)?),
-            actions,
-        })),
+    match take(alloc, slot, fresh, class, token, brackets)? {
+        Some(step) => Ok(Some(step)),
         None => stand_at(alloc, position, class, brackets),
     }
 }
@@ -345,17 +366,12 @@ fn go_on<'a>(
         (definitions.advance
         (definitions.inside slot (reading_of reading.now) (reverse brackets.now)) class)) }
 {
-    let mut actions = Row::new(alloc);
     let same = Reading {
         expected: reading.expected,
         frames: reading.frames.copy(alloc)?,
     };
-    match step(slot_sort(slot), same, class.shape, token, &mut actions)? {
-        Some(next) => Ok(Some(Step {
-            advance: Advance::On(slot),
-            progress: Progress::Inside(slot, next, brackets.copy(alloc)?),
-            actions,
-        })),
+    match take(alloc, slot, same, class, token, brackets)? {
+        Some(step) => Ok(Some(step)),
         None => leave(alloc, slot, reading, class, brackets),
     }
 }

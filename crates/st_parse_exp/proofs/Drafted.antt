@@ -161,7 +161,7 @@ goes_on st d l next r e =
       acts = λ w.
           ap (emissions σ (Operand, [])) (append_assoc r.now (l ∷ []) w)
           ∙ r.acts (l ∷ w)
-          ∙ ap (λ o. d.actions ++ o) (followed_added (λ later. emissions σ later w) (token_in l) (parts.step σ (state_of st.here) (shape l)) m.0 m.1 ∙ ap (λ v. added ++ emissions σ v w) m.2.0)
+          ∙ ap (λ o. d.actions ++ o) (followed_added (λ later. emissions σ later w) (token_in l) (parts.step σ (state_of st.here) (shape l)) m.0 m.1 ∙ ap (λ v. added ++ emissions σ v w) m.2)
           ∙ sym (append_assoc d.actions added (emissions σ (state_of next) w));
     }
 

@@ -290,15 +290,11 @@ abbrev pub step_act : Filling → Action
 step_act Parts = action.StepSlice
 step_act f = action.StepAt
 
--- the end of parentheses, of a record, or of a bracket round one part
-abbrev pub plain_end : Bracket → Action
-plain_end bracket.Round = action.EndParens
-plain_end bracket.Brace = action.EndFields
-plain_end b = action.Enclose b
-
 -- the end of a bracket of each kind that is filled so
 abbrev pub kind_end : PartKind → Filling → List Action
-kind_end (Plain b) f = plain_end b ∷ []
+kind_end (Plain bracket.Round) f = action.EndParens ∷ []
+kind_end (Plain bracket.Brace) f = action.EndFields ∷ []
+kind_end (Plain b) f = action.Enclose b ∷ []
 kind_end Length f = action.Length ∷ []
 kind_end Arguments f = action.EndCall ∷ []
 kind_end InIndex f = at_act f ∷ []
@@ -367,17 +363,22 @@ begin_closing base closing.ByBar fs =
 begin_closing base closing.ByRound fs = no_arguments fs
 begin_closing base c fs = None
 
+-- the token is `(`
+abbrev pub is_round : Bracket → Bool
+is_round bracket.Round = true
+is_round b = false
+
 -- such a bracket opens, where it begins an operand
 abbrev pub begin_plain : Sort → Bracket → List Frame → Option Move
 begin_plain base b fs =
     if encloses (top base fs) b then Some (opens (Plain b) (top base fs) fs) else None
 
--- what a token that opens a bracket makes where an operand is due
+-- what a token that opens a bracket makes where an operand is due: behind `^` a parenthesis stands
+-- before the name of an index
 abbrev pub begin_opening : Sort → Bracket → List Frame → Option Move
-begin_opening base bracket.Round fs =
-    if is_count (top base fs) then Some ((IndexExpected, fs), adds_nothing)
-    else begin_plain base bracket.Round fs
-begin_opening base b fs = begin_plain base b fs
+begin_opening base b fs =
+    if is_count (top base fs) && is_round b then Some ((IndexExpected, fs), adds_nothing)
+    else begin_plain base b fs
 
 -- a sign without a left side, where it begins an operand
 abbrev pub begin_sign : Sort → Mark → List Frame → Option Move
@@ -432,10 +433,14 @@ separate base m (v, p, Within k f t σ ∷ fs) =
     (Within k Parts (t && reads_type p) σ ∷ fs)
 separate base m q = None
 
+-- The sign stands between two sides there.
+abbrev pub is_joined : Sort → Mark → List Frame → Bool
+is_joined base m fs = has_level (top base fs) (level_of m) && nat_le (least fs) (level_of m)
+
 -- the sign makes what is read its left side, or else sets off a next part
 abbrev pub join : Sort → Mark → Lowered → Option Move
 join base m q =
-    if has_level (top base q.2) (level_of m) && nat_le (least q.2) (level_of m)
+    if is_joined base m q.2
     then if nat_le (left_of m) q.0
     then Some ((Operand, Over (Left m) (top base q.2) ∷ q.2), adds_nothing) else None
     else separate base m q
