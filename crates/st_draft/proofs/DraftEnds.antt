@@ -23,6 +23,7 @@ use Rattle.st_el.specs.declared.notation.NotNode.TheOpen.{NotNode-F}
 use Rattle.st_el.specs.declared.definition.Body.TheVariants as body
 use Rattle.st_el.specs.declared.definition.Def.{Def}
 use Rattle.st_el.specs.declared.definition.DefNode.TheVariants as def
+use Rattle.st_el.specs.Plain.{nowhere}
 use Rattle.st_parse_builder.specs.Names.{name_of}
 use Rattle.st_parse_builder.specs.Meaning.{meaning}
 use Rattle.st_parse_builder.specs.Notations.{typ_meaning, notation_meaning, spelled_on}
@@ -31,8 +32,10 @@ use Rattle.st_draft.specs.declared.change.Change.TheVariants as change
 use Rattle.st_draft.specs.declared.change.DefinitionEnd.TheVariants as ending
 use Rattle.st_draft.specs.inner.Changes.{ending_of, change_at, change_of}
 use Rattle.st_draft.specs.inner.Drafts.{alias_or, body_of, or_empty, begun, ended, applied, arguments_after}
-use Rattle.st_draft.proofs.DraftOf.{place_of, has_dots, position_draft, args_acts, position_args}
+use Rattle.st_draft.specs.inner.Ready.{MayEnd, Ready}
+use Rattle.st_draft.proofs.DraftOf.{place_of, has_dots, iterated_at, position_draft, args_acts, position_args}
 use Rattle.st_draft.proofs.DraftSteps.{FitsAs, Changes, Changed, own_changes, dots_same}
+use Rattle.st_draft.proofs.Endings.{begun_clear, cases_end, var_end, relation_end, fun_end, rule_end, condition_end}
 
 -- ---- bodies
 
@@ -175,6 +178,56 @@ position_ends (field_name k o ms pre) h = tt
 position_ends (premise_open r t ps d os) h = tt
 position_ends (goal_colon r t ps d os n) h = tt
 
+-- ---- definitions that may end
+
+-- The open definition is whole where it may end, or nothing is open.
+abbrev pub WholeAs : Position → Option Defs → Type 0
+WholeAs p None = Unit {0}
+WholeAs p (Some ds) = MayEnd (ending_of (view.position_of p)) (position_draft p)
+
+host_is_whole : (h : Host) (hs : Hints) → WholeAs (hinted h hs) (whole (hinted h hs))
+host_is_whole (of_syntax ds w x ls) hs = tt
+host_is_whole (of_field h o ms pre t) hs = tt
+host_is_whole (of_case (syntax_head ds w x ls js e) ms pre t) hs =
+    cases_end ds w x (fragment_name ls) (hints_meaning js) (has_dots ms pre) (cases_meaning ms ++ notation_meaning t ∷ []) false
+host_is_whole (of_var ds w x c t) hs = var_end ds w x (hints_meaning hs) (typ_meaning t)
+host_is_whole (of_relation ds w r) hs = tt
+host_is_whole (of_notation ds w r hs c t) ks = relation_end ds w r (hints_meaning hs ++ hints_meaning ks) (notation_meaning t)
+host_is_whole (of_fun ds w f a c t) hs = fun_end ds w f (hints_meaning hs) (params a) (typ_meaning t)
+
+position_is_whole : (p : Position) → WholeAs p (whole p)
+position_is_whole (between ds) = begun_clear (defs_meaning ds) nowhere
+position_is_whole (hinted k hs) = host_is_whole k hs
+position_is_whole (premised r t ps) = rule_end r (meaning t) (premises_meaning ps)
+position_is_whole (iterated r t ps d os ls u i) = go (is_whole os i)
+  where
+    go : (b : Bool) → WholeAs (iterated r t ps d os ls u i) (if b then Some (rule_whole r t (more_premises ps (given d os ls u i))) else None)
+    go true = condition_end r (meaning t) (iterated_at ps d os ls u i)
+    go false = tt
+position_is_whole (syntax_name ds w) = tt
+position_is_whole (var_name ds w) = tt
+position_is_whole (var_colon ds w x) = tt
+position_is_whole (relation_name ds w) = tt
+position_is_whole (rule_name ds w) = tt
+position_is_whole (rule_colon ds w r) = tt
+position_is_whole (fun_name ds w) = tt
+position_is_whole (fun_named ds w f) = tt
+position_is_whole (argued ds w f o ts) = tt
+position_is_whole (args_closed ds w f o ts c) = tt
+position_is_whole (syntax_id ds w x ls d) = tt
+position_is_whole (rule_id ds w r ls d) = tt
+position_is_whole (hint_open k hs w) = tt
+position_is_whole (hint_name k hs w o) = tt
+position_is_whole (hint_words k hs w o n ws cs) = tt
+position_is_whole (entering s) = tt
+position_is_whole (dotted k d) = tt
+position_is_whole (field_name k o ms pre) = tt
+position_is_whole (premise_open r t ps d os) = tt
+position_is_whole (goal_colon r t ps d os n) = tt
+
+pub may_end : (p : Position) (ds : Defs) → whole p ≡ Some ds → MayEnd (ending_of (view.position_of p)) (position_draft p)
+may_end p ds e = subst (WholeAs p) e (position_is_whole p)
+
 -- ---- a next definition
 
 -- From this position each first word begins a definition.
@@ -188,27 +241,30 @@ BeginsNext p =
     × (position_args p ≡ no_args)
 
 begins : (p q : Position) (l : Terminal) (ds : Defs) → change_of (view.position_of p) (definitions_of (at q)) ≡ change.Begin (ending_of (view.position_of p)) → position_args p ≡ no_args → position_args q ≡ no_args
-    → position_draft q ≡ begun (defs_meaning ds) (place_of l) → defs_meaning ds ≡ ended (ending_of (view.position_of p)) (position_draft p) → Changes p l (at q)
-begins p q l ds e g k d f = record {
+    → position_draft q ≡ begun (defs_meaning ds) (place_of l) → defs_meaning ds ≡ ended (ending_of (view.position_of p)) (position_draft p)
+    → MayEnd (ending_of (view.position_of p)) (position_draft p) → Changes p l (at q)
+begins p q l ds e g k d f m = record {
   draft =
       d ∙ ap (λ defs. begun defs (place_of l)) f
       ∙ ap (λ a. applied a (shape l) (token_in l) (params (position_args p)) (patterns (position_args p)) (position_draft p)) (sym e);
   arguments = ap args_acts k ∙ ap args_acts (sym g) ∙ ap (λ a. arguments_after a (args_acts (position_args p))) (sym e);
   fresh = tt;
   fits = subst (λ y. FitsAs y (position_args p)) (sym e) tt;
+  ready = subst (λ y. Ready y (position_draft p)) (sym e) m;
 }
 
-word_begins : (p : Position) (l : Terminal) (ds : Defs) (k : Keyword) → BeginsNext p → defs_meaning ds ≡ ended (ending_of (view.position_of p)) (position_draft p) → Changed p l (begin_def ds l k)
-word_begins p l ds key.SyntaxWord b e = begins p (syntax_name ds l) l ds b.0 b.5 refl refl e
-word_begins p l ds key.RelationWord b e = begins p (relation_name ds l) l ds b.1 b.5 refl refl e
-word_begins p l ds key.RuleWord b e = begins p (rule_name ds l) l ds b.2 b.5 refl refl e
-word_begins p l ds key.VarWord b e = begins p (var_name ds l) l ds b.3 b.5 refl refl e
-word_begins p l ds key.DefWord b e = begins p (fun_name ds l) l ds b.4 b.5 refl refl e
-word_begins p l ds key.HintWord b e = tt
-word_begins p l ds key.IfWord b e = tt
-word_begins p l ds key.OtherwiseWord b e = tt
-word_begins p l ds key.Dashes b e = tt
-word_begins p l ds key.NoWord b e = tt
+word_begins : (p : Position) (l : Terminal) (ds : Defs) (k : Keyword) → BeginsNext p → defs_meaning ds ≡ ended (ending_of (view.position_of p)) (position_draft p)
+    → MayEnd (ending_of (view.position_of p)) (position_draft p) → Changed p l (begin_def ds l k)
+word_begins p l ds key.SyntaxWord b e m = begins p (syntax_name ds l) l ds b.0 b.5 refl refl e m
+word_begins p l ds key.RelationWord b e m = begins p (relation_name ds l) l ds b.1 b.5 refl refl e m
+word_begins p l ds key.RuleWord b e m = begins p (rule_name ds l) l ds b.2 b.5 refl refl e m
+word_begins p l ds key.VarWord b e m = begins p (var_name ds l) l ds b.3 b.5 refl refl e m
+word_begins p l ds key.DefWord b e m = begins p (fun_name ds l) l ds b.4 b.5 refl refl e m
+word_begins p l ds key.HintWord b e m = tt
+word_begins p l ds key.IfWord b e m = tt
+word_begins p l ds key.OtherwiseWord b e m = tt
+word_begins p l ds key.Dashes b e m = tt
+word_begins p l ds key.NoWord b e m = tt
 
 -- A next definition begins where one may end, or does not begin.
 abbrev pub MayBegin : Position → Option Defs → Type 0
@@ -252,10 +308,10 @@ may_begin (goal_colon r t ps d os n) = tt
 pub position_changes : (p : Position) (l : Terminal) → PositionHolds p → Changed p l (position_step p l)
 position_changes p l h = go (own p l) (own_changes p l h)
   where
-    next : (o : Option Defs) → MayBegin p o → EndsAs (ended (ending_of (view.position_of p)) (position_draft p)) o → Changed p l (option_and_then (λ ds. begin_def ds l (keyword l)) o)
-    next None b f = tt
-    next (Some ds) b f = word_begins p l ds (keyword l) b f
+    next : (o : Option Defs) → MayBegin p o → EndsAs (ended (ending_of (view.position_of p)) (position_draft p)) o → WholeAs p o → Changed p l (option_and_then (λ ds. begin_def ds l (keyword l)) o)
+    next None b f m = tt
+    next (Some ds) b f m = word_begins p l ds (keyword l) b f m
 
     go : (o : Option State) → Changed p l o → Changed p l (first_of_two o (option_and_then (λ ds. begin_def ds l (keyword l)) (whole p)))
-    go None c = next (whole p) (may_begin p) (position_ends p h)
+    go None c = next (whole p) (may_begin p) (position_ends p h) (position_is_whole p)
     go (Some st) c = c

@@ -28,7 +28,7 @@ use Rattle.st_el.specs.declared.notation.Notation.{Notation}
 use Rattle.st_el.specs.declared.definition.Body.TheVariants as body
 use Rattle.st_el.specs.Plain.{nowhere}
 use Rattle.st_parse_builder.specs.Meaning.{meaning, label}
-use Rattle.st_parse_builder.specs.Notations.{notation_meaning}
+use Rattle.st_parse_builder.specs.Notations.{typ_meaning, notation_meaning}
 use Rattle.st_parse_builder.specs.Definitions.{name_in, place_in, fragment_name, piece_text, hint_meaning, hints_meaning, fields_meaning, opened_at, sign_count, condition, premises_meaning, prem_at, params, patterns, has_dots_before, cases_meaning, body_meaning, def_at, defs_meaning}
 use Rattle.st_draft.specs.inner.Changes.{change_of}
 use Rattle.st_draft.specs.inner.Ready.{Ready}

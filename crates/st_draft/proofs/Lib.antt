@@ -1,4 +1,6 @@
 pub mod DraftOf
+pub mod Low
+pub mod Endings
 pub mod DraftSteps
 pub mod DraftEnds
 pub mod DraftFills
@@ -7,10 +9,5 @@ pub mod Arguments
 pub mod WorkSteps
 pub mod WorkEnds
 pub mod WorkPositions
-pub mod Loop
-pub mod ListenerLemmas
-pub mod Lowness
-pub mod GoesBack
+pub mod BeforeLemmas
 pub mod Faults
-pub mod LowSteps
-pub mod LowReading

@@ -1,6 +1,6 @@
 -- What must be believed of definitions that are read in part.
 
--- the definitions that stand whole, where the tokens so far are read
-pub mod Known
+-- the definitions before the one that is read
+pub mod Before
 -- ---- what only proofs need
 pub mod inner

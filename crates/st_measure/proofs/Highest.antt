@@ -1,5 +1,5 @@
 -- The highest of several, and heights that are told as 101.
-use Rattle.std.proofs.Common.{arith, ◌≡◌, ℕ, ◌+◌, ◌<◌, List, [], ◌∷◌, length, map, take, get_or, max, refl, sym, ap, ◌∙◌, rules}
+use Rattle.std.proofs.Common.{arith, ◌≡◌, ℕ, ◌+◌, ◌<◌, List, length, map, take, get_or, max, sym, ap, ◌∙◌, rules}
 use Rattle.st_el.specs.declared.expression.Exp.{Exp, the_lemmas}
 use Rattle.st_el.specs.declared.expression.Node.{Node}
 use Rattle.st_el.specs.declared.expression.Node.TheVariants as node

@@ -1,4 +1,4 @@
--- Which actions end a type.
+-- A notation that actions build is a type alone where they build a type.
 use Rattle.std.proofs.Common.{◌≡◌, ℕ, List, [], ◌∷◌, ◌++◌, Bool, true, false, Option, Some, None, option_and_then, is_some, refl, sym, ap, subst, ◌∙◌}
 use Rattle.st_num.specs.declared.mark.Mark.{Mark}
 use Rattle.st_num.specs.declared.span.Span.{Span}
@@ -18,7 +18,6 @@ use Rattle.st_parse_builder.specs.Names.{name_of}
 use Rattle.st_parse_builder.specs.Notations.{marked, typ_in_parens, notation_at, notation_place, hole, spelled_on, atom_on, tick, notation_joined}
 use Rattle.st_parse_builder.specs.inner.NotationBuilding.{Stack, operand_piece, put, put_part, top_notation, top_type, top_whole, top_place, applied, run, the_typ, the_notation, typ_built, notation_built}
 use Rattle.st_measure.specs.inner.Answers.{typ_in, lone_typ}
-use Rattle.st_measure.specs.inner.Aliases.{makes_type}
 
 -- ---- notations
 
@@ -49,10 +48,6 @@ spelled_is (NotNode-F.Bracket m n) at behind h = ap (λ k. is_some (typ_in k)) (
 
 -- ---- pieces
 
-abbrev is_a_type : NotationPiece → Bool
-is_a_type (a_type b t) = true
-is_a_type p = false
-
 -- A whole notation is no type.
 abbrev IsTold : NotationPiece → Type 0
 IsTold (whole n) = is_hole n ≡ false
@@ -61,11 +56,6 @@ IsTold p = Unit {0}
 abbrev AreTold : Stack → Type 0
 AreTold [] = Unit {0}
 AreTold (p ∷ s) = IsTold p × AreTold s
-
--- the piece on top is a type where the action makes one
-abbrev Ends : Action → Stack → Type 0
-Ends a [] = ⊥
-Ends a (p ∷ s) = (is_a_type p ≡ makes_type a) × IsTold p × AreTold s
 
 on_type : (s u : Stack) (g : Span × Typ × Stack → Option Stack) {P : Type 0} → AreTold s → option_and_then g (top_type s) ≡ Some u
     → ((b : Span) (t : Typ) (r : Stack) → AreTold r → g (b, t, r) ≡ Some u → P) → P
@@ -103,22 +93,22 @@ on_place (types at ts ∷ s) u g a h k = absurd (cc)
 on_place (elements at ns ∷ s) u g a h k = absurd (cc)
 on_place (from_place at ∷ s) u g a h k = k at s a.1 h
 
-ended : (a : Action) (p : NotationPiece) (r u : Stack) → is_a_type p ≡ makes_type a → IsTold p → AreTold r → put p r ≡ Some u → Ends a u
-ended a p r u is told all h = let e : p ∷ r ≡ u = cc in subst (Ends a) e (is, told, all)
+ended : (p : NotationPiece) (r u : Stack) → IsTold p → AreTold r → put p r ≡ Some u → AreTold u
+ended p r u told all h = let e : p ∷ r ≡ u = cc in subst AreTold e (told, all)
 
-operand_ends : (k : Leaf) (x : Token) (s u : Stack) → AreTold s → put (operand_piece k x) s ≡ Some u → Ends (action.Operand k x) u
-operand_ends leaf.Low x s u all h = ended (action.Operand leaf.Low x) _ s u refl tt all h
-operand_ends leaf.Basic x s u all h = ended (action.Operand leaf.Basic x) _ s u refl tt all h
-operand_ends leaf.Variable x s u all h = ended (action.Operand leaf.Variable x) _ s u refl (atom_is x.at (name_of x.kind)) all h
-operand_ends leaf.Atom x s u all h = ended (action.Operand leaf.Atom x) _ s u refl (atom_is x.at (name_of x.kind)) all h
-operand_ends leaf.Number x s u all h = ended (action.Operand leaf.Number x) _ s u refl (atom_is x.at (name_of x.kind)) all h
-operand_ends leaf.Literal x s u all h = ended (action.Operand leaf.Literal x) _ s u refl (atom_is x.at (name_of x.kind)) all h
-operand_ends leaf.Function x s u all h = ended (action.Operand leaf.Function x) _ s u refl (atom_is x.at (name_of x.kind)) all h
+operand_ends : (k : Leaf) (x : Token) (s u : Stack) → AreTold s → put (operand_piece k x) s ≡ Some u → AreTold u
+operand_ends leaf.Low x s u all h = ended _ s u tt all h
+operand_ends leaf.Basic x s u all h = ended _ s u tt all h
+operand_ends leaf.Variable x s u all h = ended _ s u (atom_is x.at (name_of x.kind)) all h
+operand_ends leaf.Atom x s u all h = ended _ s u (atom_is x.at (name_of x.kind)) all h
+operand_ends leaf.Number x s u all h = ended _ s u (atom_is x.at (name_of x.kind)) all h
+operand_ends leaf.Literal x s u all h = ended _ s u (atom_is x.at (name_of x.kind)) all h
+operand_ends leaf.Function x s u all h = ended _ s u (atom_is x.at (name_of x.kind)) all h
 
-part_ends : (p : NotationPiece) (s u : Stack) → AreTold s → put_part p s ≡ Some u → Ends action.Part u
+part_ends : (p : NotationPiece) (s u : Stack) → AreTold s → put_part p s ≡ Some u → AreTold u
 part_ends p [] u all h = part_none p u h
   where
-    part_none : (p : NotationPiece) (u : Stack) → put_part p [] ≡ Some u → Ends action.Part u
+    part_none : (p : NotationPiece) (u : Stack) → put_part p [] ≡ Some u → AreTold u
     part_none (a_type b t) u h = absurd (cc)
     part_none (whole n) u h = absurd (cc)
     part_none (types at ts) u h = absurd (cc)
@@ -134,13 +124,13 @@ part_ends (whole n) (whole n2 ∷ s) u all h = absurd (cc)
 part_ends (types at ts) (whole n2 ∷ s) u all h = absurd (cc)
 part_ends (elements at ns) (whole n2 ∷ s) u all h = absurd (cc)
 part_ends (from_place at) (whole n2 ∷ s) u all h = absurd (cc)
-part_ends (a_type b t) (types at2 ts2 ∷ s) u all h = ended action.Part (types at2 (ts2 ++ t ∷ [])) s u refl tt all.1 h
+part_ends (a_type b t) (types at2 ts2 ∷ s) u all h = ended (types at2 (ts2 ++ t ∷ [])) s u tt all.1 h
 part_ends (whole n) (types at2 ts2 ∷ s) u all h = absurd (cc)
 part_ends (types at ts) (types at2 ts2 ∷ s) u all h = absurd (cc)
 part_ends (elements at ns) (types at2 ts2 ∷ s) u all h = absurd (cc)
 part_ends (from_place at) (types at2 ts2 ∷ s) u all h = absurd (cc)
-part_ends (a_type b t) (elements at2 ns2 ∷ s) u all h = ended action.Part (elements at2 (ns2 ++ hole b t ∷ [])) s u refl tt all.1 h
-part_ends (whole n) (elements at2 ns2 ∷ s) u all h = ended action.Part (elements at2 (ns2 ++ n ∷ [])) s u refl tt all.1 h
+part_ends (a_type b t) (elements at2 ns2 ∷ s) u all h = ended (elements at2 (ns2 ++ hole b t ∷ [])) s u tt all.1 h
+part_ends (whole n) (elements at2 ns2 ∷ s) u all h = ended (elements at2 (ns2 ++ n ∷ [])) s u tt all.1 h
 part_ends (types at ts) (elements at2 ns2 ∷ s) u all h = absurd (cc)
 part_ends (elements at ns) (elements at2 ns2 ∷ s) u all h = absurd (cc)
 part_ends (from_place at) (elements at2 ns2 ∷ s) u all h = absurd (cc)
@@ -150,34 +140,34 @@ part_ends (types at ts) (from_place at2 ∷ s) u all h = absurd (cc)
 part_ends (elements at ns) (from_place at2 ∷ s) u all h = absurd (cc)
 part_ends (from_place at) (from_place at2 ∷ s) u all h = absurd (cc)
 
-parens_end : (s u : Stack) → AreTold s → applied action.EndParens s ≡ Some u → Ends action.EndParens u
+parens_end : (s u : Stack) → AreTold s → applied action.EndParens s ≡ Some u → AreTold u
 parens_end [] u all h = absurd (cc)
 parens_end (a_type b t ∷ s) u all h = absurd (cc)
 parens_end (whole n ∷ s) u all h = absurd (cc)
-parens_end (types at ts ∷ s) u all h = ended action.EndParens (a_type at (typ_in_parens at ts)) s u refl tt all.1 h
+parens_end (types at ts ∷ s) u all h = ended (a_type at (typ_in_parens at ts)) s u tt all.1 h
 parens_end (elements at ns ∷ s) u all h = absurd (cc)
 parens_end (from_place at ∷ s) u all h = absurd (cc)
 
-sequence_ends : (s u : Stack) → AreTold s → applied action.EndSequence s ≡ Some u → Ends action.EndSequence u
+sequence_ends : (s u : Stack) → AreTold s → applied action.EndSequence s ≡ Some u → AreTold u
 sequence_ends [] u all h = absurd (cc)
 sequence_ends (a_type b t ∷ s) u all h = absurd (cc)
 sequence_ends (whole n ∷ s) u all h = absurd (cc)
 sequence_ends (types at ts ∷ s) u all h = absurd (cc)
-sequence_ends (elements at ns ∷ s) u all h = ended action.EndSequence (whole (notation_at at (not_node.Seq ns))) s u refl (seq_is at ns) all.1 h
+sequence_ends (elements at ns ∷ s) u all h = ended (whole (notation_at at (not_node.Seq ns))) s u (seq_is at ns) all.1 h
 sequence_ends (from_place at ∷ s) u all h = absurd (cc)
 
 -- ---- actions
 
-ends : (a : Action) (s u : Stack) → AreTold s → applied a s ≡ Some u → Ends a u
+ends : (a : Action) (s u : Stack) → AreTold s → applied a s ≡ Some u → AreTold u
 ends (action.Operand k x) s u all h = operand_ends k x s u all h
-ends (action.Dot x) s u all h = on_whole s u _ all h (λ n r no all h. ended (action.Dot x) (whole (atom_on n x)) r u refl (spelled_is (out-NotNode (out-Notation n).node) (notation_place n) (name_of x.kind) no) all h)
-ends (action.Mark m) s u all h = on_type s u _ all h (λ b t r all h. ended (action.Mark m) (a_type b (marked b m t)) r u refl tt all h)
-ends (action.Here at) s u all h = ended (action.Here at) (from_place at) s u refl tt all h
-ends (action.Prefix m) s u all h = on_notation s u _ all h (λ n r all h. on_place r u _ all h (λ at q all h. ended (action.Prefix m) (whole (notation_joined (notation_at at (not_node.Seq [])) m n)) q u refl (infix_is at (notation_at at (not_node.Seq [])) m n) all h))
-ends (action.Enclose b) s u all h = on_notation s u _ all h (λ n r all h. on_place r u _ all h (λ at q all h. ended (action.Enclose b) (whole (notation_at at (not_node.Bracket (tick b) n))) q u refl (bracket_is at (tick b) n) all h))
-ends (action.Join m) s u all h = on_notation s u _ all h (λ r q all h. on_notation q u _ all h (λ l t all h. ended (action.Join m) (whole (notation_joined l m r)) t u refl (infix_is (notation_place l) l m r) all h))
-ends (action.Open at) s u all h = ended (action.Open at) (types at []) s u refl tt all h
-ends action.First s u all h = on_notation s u _ all h (λ n r all h. ended action.First (elements (notation_place n) (n ∷ [])) r u refl tt all h)
+ends (action.Dot x) s u all h = on_whole s u _ all h (λ n r no all h. ended (whole (atom_on n x)) r u (spelled_is (out-NotNode (out-Notation n).node) (notation_place n) (name_of x.kind) no) all h)
+ends (action.Mark m) s u all h = on_type s u _ all h (λ b t r all h. ended (a_type b (marked b m t)) r u tt all h)
+ends (action.Here at) s u all h = ended (from_place at) s u tt all h
+ends (action.Prefix m) s u all h = on_notation s u _ all h (λ n r all h. on_place r u _ all h (λ at q all h. ended (whole (notation_joined (notation_at at (not_node.Seq [])) m n)) q u (infix_is at (notation_at at (not_node.Seq [])) m n) all h))
+ends (action.Enclose b) s u all h = on_notation s u _ all h (λ n r all h. on_place r u _ all h (λ at q all h. ended (whole (notation_at at (not_node.Bracket (tick b) n))) q u (bracket_is at (tick b) n) all h))
+ends (action.Join m) s u all h = on_notation s u _ all h (λ r q all h. on_notation q u _ all h (λ l t all h. ended (whole (notation_joined l m r)) t u (infix_is (notation_place l) l m r) all h))
+ends (action.Open at) s u all h = ended (types at []) s u tt all h
+ends action.First s u all h = on_notation s u _ all h (λ n r all h. ended (elements (notation_place n) (n ∷ [])) r u tt all h)
 ends action.Part [] u all h = absurd (cc)
 ends action.Part (p ∷ s) u all h = part_ends p s u all.1 h
 ends action.EndParens s u all h = parens_end s u all h
@@ -198,47 +188,21 @@ ends action.At s u all h = absurd (cc)
 ends action.Slice s u all h = absurd (cc)
 ends (action.Change m) s u all h = absurd (cc)
 
-told : (a : Action) (s : Stack) → Ends a s → AreTold s
-told a [] e = absurd e
-told a (p ∷ s) e = (e.1, e.2)
-
 on_some : {A : Type 0} (o : Option A) (u : Stack) (g : A → Option Stack) {P : Type 0} → option_and_then g o ≡ Some u → ((x : A) → o ≡ Some x → g x ≡ Some u → P) → P
 on_some None u g h k = absurd (cc)
 on_some (Some x) u g h k = k x refl h
 
-all_end : (front : List Action) (a : Action) (s u : Stack) → AreTold s → run (front ++ a ∷ []) s ≡ Some u → Ends a u
-all_end [] a s u all h = on_some (applied a s) u (run []) h (λ v i j. let e : v ≡ u = cc in subst (Ends a) e (ends a s v all i))
-all_end (b ∷ front) a s u all h = on_some (applied b s) u (run (front ++ a ∷ [])) h (λ v i j. all_end front a v u (told b v (ends b s v all i)) j)
-
 -- ---- what is built
-
-top_is : (a : Action) (u : Stack) (n : Notation) → Ends a u → the_notation u ≡ Some n → makes_type a ≡ is_hole n
-top_is a [] n e h = absurd e
-top_is a (a_type b t ∷ []) n e h = sym e.0 ∙ sym (rolled_hole b t) ∙ ap is_hole (let is : hole b t ≡ n = cc in is)
-top_is a (whole m ∷ []) n e h = sym e.0 ∙ sym e.1 ∙ ap is_hole (let is : m ≡ n = cc in is)
-top_is a (types at ts ∷ []) n e h = absurd (cc)
-top_is a (elements at ns ∷ []) n e h = absurd (cc)
-top_is a (from_place at ∷ []) n e h = absurd (cc)
-top_is a (a_type b t ∷ q ∷ s) n e h = absurd (cc)
-top_is a (whole m ∷ q ∷ s) n e h = absurd (cc)
-top_is a (types at ts ∷ q ∷ s) n e h = absurd (cc)
-top_is a (elements at ns ∷ q ∷ s) n e h = absurd (cc)
-top_is a (from_place at ∷ q ∷ s) n e h = absurd (cc)
 
 on_made : (o : Option Stack) (n : Notation) {P : Type 0} → option_and_then the_notation o ≡ Some n → ((u : Stack) → o ≡ Some u → the_notation u ≡ Some n → P) → P
 on_made None n h k = absurd (cc)
 on_made (Some u) n h k = k u refl h
 
--- the last action tells whether a notation is a type alone
-pub last_tells : (front : List Action) (a : Action) (n : Notation) → notation_built (front ++ a ∷ []) ≡ Some n → makes_type a ≡ is_hole n
-last_tells front a n h =
-    on_made (run (front ++ a ∷ []) []) n h (λ u i j. top_is a u n (all_end front a [] u tt i) j)
-
 -- ---- the type that is built
 
 told_all : (actions : List Action) (s u : Stack) → AreTold s → run actions s ≡ Some u → AreTold u
 told_all [] s u all h = let e : s ≡ u = cc in subst AreTold e all
-told_all (a ∷ later) s u all h = on_some (applied a s) u (run later) h (λ v i j. told_all later v u (told a v (ends a s v all i)) j)
+told_all (a ∷ later) s u all h = on_some (applied a s) u (run later) h (λ v i j. told_all later v u (ends a s v all i) j)
 
 -- the type alone
 pub record BuildsTyp (actions : List Action) (n : Notation) : Type 0 where

@@ -119,7 +119,7 @@ path_adds σ p s f =
 
 -- the actions of fields, and of the name of a next one
 abbrev Fills : List Action → Trees → Type 0
-Fills more ts = (at : Span) (s : Stack) → Adds more (Fields at [] ∷ s) (trees_variables ts)
+Fills filling ts = (at : Span) (s : Stack) → Adds filling (Fields at [] ∷ s) (trees_variables ts)
 
 fields_add : (σ : Sort) (n : ℕ) (ts : Trees) → EachFits σ fields n ts → Fills (field_acts ts) ts
 fields_add σ n ts f at s =
@@ -164,7 +164,7 @@ label_adds i (within h ts pre fs) s = (s, refl, sym (append-nil (stack_variables
 label_adds i (over g fs) s = (s, refl, sym (append-nil (stack_variables s)))
 label_adds i (timing t m x fs) s = (Label (name_of i.kind) ∷ s, refl, refl)
 
-is_brace : Heading → Bool
+abbrev is_brace : Heading → Bool
 is_brace (plain brace o) = true
 is_brace h = false
 
@@ -184,22 +184,22 @@ in_brace σ (segment p o) e = absurd (cc)
 in_brace σ (update p m x) e = absurd (cc)
 in_brace σ (below o i m x) e = absurd (cc)
 
-inner_adds : (σ : Sort) (h : Heading) (ts : Trees) (more : List Action) (fs : Frames) (s : Stack) → HeadingFits σ h → AllBuilt ts → (is_brace h ≡ true → Fills more ts)
-    → Adds (heading_acts h fs ++ inner_acts h (each_acts ts) (part_acts ts) more) s (heading_variables h ++ trees_variables ts)
-inner_adds σ (plain round o) ts more fs s f b g = parts_add o.at ts s b
-inner_adds σ (plain brace o) ts more fs s f b g = let all = g refl o.at s in (all.0, all.1, all.2 ∙ ap (λ vs. vs ++ trees_variables ts) (append-nil (stack_variables s)))
-inner_adds σ (plain square o) ts more fs s f b g = here_adds o.at ts s b
-inner_adds σ (plain tick_round o) ts more fs s f b g = here_adds o.at ts s b
-inner_adds σ (plain tick_square o) ts more fs s f b g = here_adds o.at ts s b
-inner_adds σ (plain tick_brace o) ts more fs s f b g = here_adds o.at ts s b
-inner_adds σ (plain dollar o) ts more fs s f b g = here_adds o.at ts s b
-inner_adds σ (length o) ts more fs s f b g = here_adds o.at ts s b
-inner_adds σ (arguments x o) ts more fs s f b g = named_call x ts o.at s b
-inner_adds σ (index t o) ts more fs s f b g =
+inner_adds : (σ : Sort) (h : Heading) (ts : Trees) (filling : List Action) (fs : Frames) (s : Stack) → HeadingFits σ h → AllBuilt ts → (is_brace h ≡ true → Fills filling ts)
+    → Adds (heading_acts h fs ++ inner_acts h (each_acts ts) (part_acts ts) filling) s (heading_variables h ++ trees_variables ts)
+inner_adds σ (plain round o) ts filling fs s f b g = parts_add o.at ts s b
+inner_adds σ (plain brace o) ts filling fs s f b g = let all = g refl o.at s in (all.0, all.1, all.2 ∙ ap (λ vs. vs ++ trees_variables ts) (append-nil (stack_variables s)))
+inner_adds σ (plain square o) ts filling fs s f b g = here_adds o.at ts s b
+inner_adds σ (plain tick_round o) ts filling fs s f b g = here_adds o.at ts s b
+inner_adds σ (plain tick_square o) ts filling fs s f b g = here_adds o.at ts s b
+inner_adds σ (plain tick_brace o) ts filling fs s f b g = here_adds o.at ts s b
+inner_adds σ (plain dollar o) ts filling fs s f b g = here_adds o.at ts s b
+inner_adds σ (length o) ts filling fs s f b g = here_adds o.at ts s b
+inner_adds σ (arguments x o) ts filling fs s f b g = named_call x ts o.at s b
+inner_adds σ (index t o) ts filling fs s f b g =
     adds_more (acts t ++ action.OpenPath ∷ []) (each_acts ts) s (variables (meaning t)) (trees_variables ts) (opened_adds σ t s f.1) (λ u. each_adds ts u b)
-inner_adds σ (segment p o) ts more fs s f b g = adds_more (path_acts p) (each_acts ts) s (path_variables p) (trees_variables ts) (path_adds σ p s f) (λ u. each_adds ts u b)
-inner_adds σ (update p m x) ts more fs s f b g = adds_more (path_acts p) (each_acts ts) s (path_variables p) (trees_variables ts) (path_adds σ p s f.0) (λ u. each_adds ts u b)
-inner_adds σ (below o i m x) ts more fs s f b g = adds_more (index_label i fs) (each_acts ts) s [] (trees_variables ts) (label_adds i fs s) (λ u. each_adds ts u b)
+inner_adds σ (segment p o) ts filling fs s f b g = adds_more (path_acts p) (each_acts ts) s (path_variables p) (trees_variables ts) (path_adds σ p s f) (λ u. each_adds ts u b)
+inner_adds σ (update p m x) ts filling fs s f b g = adds_more (path_acts p) (each_acts ts) s (path_variables p) (trees_variables ts) (path_adds σ p s f.0) (λ u. each_adds ts u b)
+inner_adds σ (below o i m x) ts filling fs s f b g = adds_more (index_label i fs) (each_acts ts) s [] (trees_variables ts) (label_adds i fs s) (λ u. each_adds ts u b)
 
 -- ---- what is open
 

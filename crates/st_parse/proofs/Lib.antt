@@ -1,10 +1,13 @@
-pub mod Surveying
-mod Endings
-mod Whole
-mod Drawn
+pub mod Notes
+pub mod Trees
+pub mod Works
+pub mod Cut
+mod Opens
+pub mod Taking
 mod Sources
-mod Fronts
+pub mod Fronts
 mod OneAnswer
 pub mod Standing
 pub mod StandingDefs
+mod StandingOpen
 pub mod StandingFaults

@@ -1,5 +1,5 @@
 -- What is noted of variables behind parts and changes.
-use Rattle.std.proofs.Common.{◌≡◌, ℕ, ◌+◌, ◌<◌, List, [], ◌∷◌, ◌++◌, length, get_or, take, drop, map, flat_map, Bool, true, false, ◌⊎◌, inl, inr, Option, Some, None, option_map, option_and_then, Result, Ok, Err, IfOk, refl, sym, ap, subst, ◌∙◌, append_assoc, append-nil}
+use Rattle.std.proofs.Common.{◌≡◌, ℕ, ◌+◌, ◌<◌, List, [], ◌∷◌, ◌++◌, length, get_or, take, drop, map, flat_map, Bool, true, false, ◌⊎◌, inl, inr, Option, Some, None, option_map, option_and_then, Result, Ok, Err, IfOk, OnOk, refl, sym, ap, subst, ◌∙◌, append_assoc, append-nil}
 use Rattle.std.specs.Option.{option_or}
 use Rattle.std.proofs.lemmas.List.{take_more}
 use Rattle.st_num.specs.declared.limit.TheConstants.{MOST_PREMISES}
@@ -38,8 +38,8 @@ use Rattle.st_draft.specs.declared.draft.Draft.{Draft}
 use Rattle.st_draft.specs.inner.Parts.{exp_built, all_built, count_with, index_in, redrafted, refilled}
 use Rattle.st_draft.specs.inner.Drafts.{whole_prem, condition_node, each_of, shape_count, node_of, def_put, ended, begun, with_sides, params_put, args_put, typ_filled, notation_filled, exp_filled, condition_filled, count_filled}
 use Rattle.st_draft.specs.inner.Ready.{in_some, told, asked, Ends, MayEnd, Ready, Awaits}
-use Rattle.st_draft.proofs.Endings.{variables_at}
-use Rattle.st_draft.proofs.Built.{IsBehind, next_built}
+use Rattle.st_draft.proofs.Endings.{open_behind}
+use Rattle.st_draft.proofs.Arguments.{IsBehind, next_built}
 use Rattle.st_draft.proofs.Faults.{exp_run as built_run}
 use Rattle.st_parse.specs.declared.variables.Variables.{Variables}
 use Rattle.st_parse.specs.Limits.{variable_past, first_that}
@@ -80,18 +80,25 @@ pub all_stay : (o : Option (List ℕ)) (e : Exp) (old new : List Token) → o �
 all_stay o e old new is same = ap occurrences same ∙ sym (index_of o e (occurrences old) is)
 
 -- with one all others stay
-pub others_stay : (o : Option (List ℕ)) (name index : List ℕ) (e : Exp) (old new : List Token) → o ≡ Some name → index ≡ name
+others_stay : (o : Option (List ℕ)) (name index : List ℕ) (e : Exp) (old new : List Token) → o ≡ Some name → index ≡ name
     → occurrences new ≡ take 0 (occurrences old) ++ without (index ∷ []) (drop 0 (occurrences old)) → occurrences new ≡ without (times (count_with o e)).index (occurrences old)
 others_stay o name index e old new is same left =
     left ∙ ap (λ i. without (i ∷ []) (occurrences old)) same
     ∙ sym (ap (λ q. without (times (count_with q e)).index (occurrences old)) is ∙ ap (λ (t : Times). without t.index (occurrences old)) (times_below name e))
 
+pub index_left : (r : Result (Unit {0}) NoMemory) (o : Option (List ℕ)) (name index : List ℕ) (e : Exp) (old new : List Token) → o ≡ Some name → index ≡ name
+    → OnOk r (occurrences new ≡ take 0 (occurrences old) ++ without (index ∷ []) (drop 0 (occurrences old))) → IfOk r (λ z. occurrences new ≡ without (times (count_with o e)).index (occurrences old))
+index_left (Err f) o name index e old new is same left = tt
+index_left (Ok z) o name index e old new is same left = others_stay o name index e old new is same left
+
 count_in : (o : Option (List ℕ)) (e : Exp) → (times (count_with o e)).count ≡ variables e
 count_in None e = ap (λ (t : Times). t.count) (times_times e)
 count_in (Some name) e = ap (λ (t : Times). t.count) (times_below name e)
 
-pub counted : (o : Option (List ℕ)) (e : Exp) (old left new : List Occurrence) → left ≡ without (times (count_with o e)).index old → new ≡ left ++ variables e → new ≡ iterated old (times (count_with o e))
-counted o e old left new l n =
+pub counted : (r : Result (Unit {0}) NoMemory) (o : Option (List ℕ)) (e : Exp) (old left new : List Occurrence) → left ≡ without (times (count_with o e)).index old → IfOk r (λ z. new ≡ left ++ variables e)
+    → IfOk r (λ z. new ≡ iterated old (times (count_with o e)))
+counted (Err f) o e old left new l n = tt
+counted (Ok z) o e old left new l n =
     n ∙ ap (λ vs. vs ++ variables e) l ∙ ap (λ vs. without (times (count_with o e)).index old ++ vs) (sym (count_in o e))
 
 -- ---- several arguments
@@ -160,15 +167,17 @@ condition_has : (at : Span) (goal : Option (List ℕ)) (x : Exp) → prem_variab
 condition_has at None x = in_if at x
 condition_has at (Some name) x = in_goal at name x
 
-pub condition_part : (s : Slot) (n : ℕ) (actions : List Action) (words : List (TokenClass × Token)) (d e : Draft) (v w : Variables) (fresh : List Token) (r : Result (Unit {0}) NoMemory) → s ≡ slot.Condition → Notes v d → refilled s n actions words d ≡ Some e
-    → fresh ≡ [] → w.past ≡ v.past → w.before ≡ v.before → ((x : Exp) → exp_built actions ≡ Some x → IfOk r (λ z. occurrences w.inside ≡ occurrences fresh ++ variables x)) → IfOk r (λ z. Notes w e)
-condition_part s n actions words d e v w fresh (Err f) is h g none p b k = tt
-condition_part s n actions words d e v w fresh (Ok z) is h g none p b k =
+pub condition_part : (s : Slot) (n : ℕ) (actions : List Action) (words : List (TokenClass × Token)) (d e : Draft) (v w : Variables) (r : Result (Unit {0}) NoMemory) → s ≡ slot.Condition → Notes v d → Awaits s d → refilled s n actions words d ≡ Some e
+    → w.past ≡ v.past → w.before ≡ v.before → ((x : Exp) → exp_built actions ≡ Some x → IfOk r (λ z. occurrences w.inside ≡ occurrences v.inside ++ variables x)) → IfOk r (λ z. Notes w e)
+condition_part s n actions words d e v w (Err f) is h a g p b k = tt
+condition_part s n actions words d e v w (Ok z) is h a g p b k =
     let m = mapped Exp Draft (λ x. condition_filled x d) (exp_built actions) e (subst (λ q. refilled q n actions words d ≡ Some e) is g) in
+    let free : d.premises.prem ≡ None = subst (λ q. Awaits q d) is a in
+    let none : occurrences v.inside ≡ [] = h.inside ∙ ap (in_some prem_variables) free in
     subst (Notes w) m.2 (record {
       past = p ∙ h.past;
       before = ap occurrences b ∙ h.before;
-      inside = k m.0 m.1 ∙ ap (λ ts. occurrences ts ++ variables m.0) none ∙ sym (condition_has d.premises.start d.premises.goal m.0);
+      inside = k m.0 m.1 ∙ ap (λ vs. vs ++ variables m.0) none ∙ sym (condition_has d.premises.start d.premises.goal m.0);
     })
 
 each_has : (at : Span) (c : Count) (o : Option Prem) (p : Prem) → o ≡ Some p → in_some prem_variables (each_of at c o) ≡ iterated (in_some prem_variables o) (times c)
@@ -227,24 +236,26 @@ turned e d at v w h m p b i = record {
 -- ---- changes
 
 -- a definition ends and a next one begins, or none
-pub turn_change : (c : Change) (sh : Shape) (x : Token) (arguments : List (List Action)) (d e : Draft) (v w : Variables) → ((f : DefinitionEnd) × (c ≡ change.Begin f)) ⊎ ((f : DefinitionEnd) × (c ≡ change.End f))
+turns : (c : Change) (sh : Shape) (x : Token) (arguments : List (List Action)) (d e : Draft) (v w : Variables) → ((f : DefinitionEnd) × (c ≡ change.Begin f)) ⊎ ((f : DefinitionEnd) × (c ≡ change.End f))
     → Notes v d → Ready c d → redrafted c sh x arguments d ≡ Some e
     → w.past ≡ option_or v.past (place_past MOST_PREMISES (occurrences v.before ++ occurrences v.inside)) → w.before ≡ [] → w.inside ≡ [] → Notes w e
-turn_change c sh x arguments d e v w (inl f) h m g p b i =
+turns c sh x arguments d e v w (inl f) h m g p b i =
     let is : begun (ended f.0 d) x.at ≡ e = (let j : Some (begun (ended f.0 d) x.at) ≡ Some e = subst (λ q. redrafted q sh x arguments d ≡ Some e) f.1 g in cc) in
     subst (Notes w) is (turned f.0 d x.at v w h (subst (λ q. Ready q d) f.1 m) p b i)
-turn_change c sh x arguments d e v w (inr f) h m g p b i =
+turns c sh x arguments d e v w (inr f) h m g p b i =
     let is : begun (ended f.0 d) nowhere ≡ e = (let j : Some (begun (ended f.0 d) nowhere) ≡ Some e = subst (λ q. redrafted q sh x arguments d ≡ Some e) f.1 g in cc) in
     subst (Notes w) is (turned f.0 d nowhere v w h (subst (λ q. Ready q d) f.1 m) p b i)
 
-open_behind : (at : Span) (ps : List Prem) (o : Option Prem) → flat_map prem_variables (ps ++ whole_prem at o) ≡ flat_map prem_variables ps ++ in_some prem_variables o
-open_behind at ps None = ap (flat_map prem_variables) (append-nil ps) ∙ sym (append-nil (flat_map prem_variables ps))
-open_behind at ps (Some q) = one_behind prem_variables ps (prem_at at (out-Prem q).node) ∙ ap (λ vs. flat_map prem_variables ps ++ vs) (variables_at at q)
+pub turn_change : (r : Result (Unit {0}) NoMemory) (c : Change) (sh : Shape) (x : Token) (arguments : List (List Action)) (d e : Draft) (v w : Variables) → ((f : DefinitionEnd) × (c ≡ change.Begin f)) ⊎ ((f : DefinitionEnd) × (c ≡ change.End f))
+    → Notes v d → Ready c d → redrafted c sh x arguments d ≡ Some e
+    → IfOk r (λ z. w.past ≡ option_or v.past (place_past MOST_PREMISES (occurrences v.before ++ occurrences v.inside))) → IfOk r (λ z. w.before ≡ []) → IfOk r (λ z. w.inside ≡ []) → IfOk r (λ z. Notes w e)
+turn_change (Err k) c sh x arguments d e v w is h m g p b i = tt
+turn_change (Ok z) c sh x arguments d e v w is h m g p b i = turns c sh x arguments d e v w is h m g p b i
 
 -- a premise begins, behind one that is open or not
-pub premise_change : (c : Change) (b : Bool) (sh : Shape) (x : Token) (arguments : List (List Action)) (d e : Draft) (v w : Variables) → c ≡ change.Premise b → Notes v d → Ready c d → redrafted c sh x arguments d ≡ Some e
+premise_begins : (c : Change) (b : Bool) (sh : Shape) (x : Token) (arguments : List (List Action)) (d e : Draft) (v w : Variables) → c ≡ change.Premise b → Notes v d → Ready c d → redrafted c sh x arguments d ≡ Some e
     → w.past ≡ v.past → occurrences w.before ≡ occurrences v.before ++ occurrences v.inside → w.inside ≡ [] → Notes w e
-premise_change c b sh x arguments d e v w is h m g p k i =
+premise_begins c b sh x arguments d e v w is h m g p k i =
     go b (subst (λ q. Ready q d) is m) (subst (λ q. redrafted q sh x arguments d ≡ Some e) is g)
   where
     given : List Occurrence
@@ -267,16 +278,15 @@ premise_change c b sh x arguments d e v w is h m g p k i =
         let none : asked d ≡ [] = ap (in_some prem_variables) m in
         subst (Notes w) (some_is g) (record { past = p ∙ h.past; before = all ∙ ap (λ vs. told d ++ vs) none ∙ append-nil (told d); inside = ap occurrences i })
 
-pub otherwise_change : (c : Change) (sh : Shape) (x : Token) (arguments : List (List Action)) (d e : Draft) (v w : Variables) → c ≡ change.Otherwise → Notes v d → redrafted c sh x arguments d ≡ Some e
-    → w.past ≡ v.past → w.before ≡ v.before → w.inside ≡ [] → Notes w e
-otherwise_change c sh x arguments d e v w is h g p b i =
-    let same : flat_map prem_variables (d.premises.whole ++ prem_at d.premises.at prem.Otherwise ∷ []) ≡ flat_map prem_variables d.premises.whole =
-    one_behind prem_variables d.premises.whole (prem_at d.premises.at prem.Otherwise) ∙ ap (λ vs. flat_map prem_variables d.premises.whole ++ vs) (in_otherwise d.premises.at) ∙ append-nil (flat_map prem_variables d.premises.whole) in
-    subst (Notes w) (some_is (subst (λ q. redrafted q sh x arguments d ≡ Some e) is g)) (record {
-      past = p ∙ h.past;
-      before = ap occurrences b ∙ h.before ∙ sym (ap (λ vs. flat_map variables d.sides.args ++ (in_some variables d.sides.exp ++ vs)) same);
-      inside = ap occurrences i;
-    })
+pub premise_change : (r : Result (Unit {0}) NoMemory) (c : Change) (b : Bool) (sh : Shape) (x : Token) (arguments : List (List Action)) (d e : Draft) (v w : Variables) → c ≡ change.Premise b → Notes v d → Ready c d → redrafted c sh x arguments d ≡ Some e
+    → w.past ≡ v.past → IfOk r (λ z. occurrences w.before ≡ occurrences v.before ++ occurrences v.inside) → IfOk r (λ z. w.inside ≡ []) → IfOk r (λ z. Notes w e)
+premise_change (Err f) c b sh x arguments d e v w is h m g p k i = tt
+premise_change (Ok z) c b sh x arguments d e v w is h m g p k i = premise_begins c b sh x arguments d e v w is h m g p k i
+
+otherwise_has : (d : Draft) → flat_map prem_variables (d.premises.whole ++ prem_at d.premises.at prem.Otherwise ∷ []) ≡ flat_map prem_variables d.premises.whole
+otherwise_has d =
+    one_behind prem_variables d.premises.whole (prem_at d.premises.at prem.Otherwise) ∙ ap (λ vs. flat_map prem_variables d.premises.whole ++ vs) (in_otherwise d.premises.at)
+    ∙ append-nil (flat_map prem_variables d.premises.whole)
 
 -- the arguments of a clause
 pub args_change : (c : Change) (sh : Shape) (x : Token) (arguments : List (List Action)) (d e : Draft) (v w : Variables) (r : Result (Unit {0}) NoMemory) → c ≡ change.Args → Notes v d → Ready c d → redrafted c sh x arguments d ≡ Some e
@@ -286,7 +296,7 @@ args_change c sh x arguments d e v w (Ok z) is h m g p i k =
     let a = mapped (List Exp) Draft (λ es. with_sides (args_put es d.sides) d) (all_built exp_built arguments) e (subst (λ q. redrafted q sh x arguments d ≡ Some e) is g) in
     let free : (d.sides.args ≡ []) × (d.sides.exp ≡ None) × (d.premises.whole ≡ []) = subst (λ q. Ready q d) is m in
     let none : told d ≡ [] =
-    ap (λ as. flat_map variables as ++ (in_some variables d.sides.exp ++ flat_map prem_variables d.premises.whole)) free.0
+    ap (λ es. flat_map variables es ++ (in_some variables d.sides.exp ++ flat_map prem_variables d.premises.whole)) free.0
     ∙ ap (λ o. in_some variables o ++ flat_map prem_variables d.premises.whole) free.1
     ∙ ap (flat_map prem_variables) free.2 in
     let given = flat_map variables a.0 in
@@ -312,23 +322,24 @@ shape_has at (shape.Close k) (Some p) = mark_has at mark.Question p
 shape_has at shape.Other (Some p) = mark_has at mark.Question p
 
 pub other_change : (c : Change) (sh : Shape) (x : Token) (arguments : List (List Action)) (d e : Draft) (v w : Variables) → ((f : DefinitionEnd) → c ≡ change.Begin f → ⊥) → ((f : DefinitionEnd) → c ≡ change.End f → ⊥)
-    → ((b : Bool) → c ≡ change.Premise b → ⊥) → (c ≡ change.Otherwise → ⊥) → (c ≡ change.Args → ⊥) → w ≡ v → Notes v d → redrafted c sh x arguments d ≡ Some e → Notes w e
-other_change (change.Begin f) sh x arguments d e v w i j k l m same h g = absurd (i f refl)
-other_change (change.End f) sh x arguments d e v w i j k l m same h g = absurd (j f refl)
-other_change (change.Premise b) sh x arguments d e v w i j k l m same h g = absurd (k b refl)
-other_change change.Otherwise sh x arguments d e v w i j k l m same h g = absurd (l refl)
-other_change change.Args sh x arguments d e v w i j k l m same h g = absurd (m refl)
-other_change change.Params sh x arguments d e v w i j k l m same h g =
+    → ((b : Bool) → c ≡ change.Premise b → ⊥) → (c ≡ change.Args → ⊥) → w ≡ v → Notes v d → Ready c d → redrafted c sh x arguments d ≡ Some e → Notes w e
+other_change (change.Begin f) sh x arguments d e v w i j k l same h m g = absurd (i f refl)
+other_change (change.End f) sh x arguments d e v w i j k l same h m g = absurd (j f refl)
+other_change (change.Premise b) sh x arguments d e v w i j k l same h m g = absurd (k b refl)
+other_change change.Otherwise sh x arguments d e v w i j k l same h m g =
+    subst (Notes w) (some_is g) (same_notes v w d _ same refl (ap (λ vs. flat_map variables d.sides.args ++ (in_some variables d.sides.exp ++ vs)) (otherwise_has d)) (sym (ap (in_some prem_variables) m)) h)
+other_change change.Args sh x arguments d e v w i j k l same h m g = absurd (l refl)
+other_change change.Params sh x arguments d e v w i j k l same h m g =
     let a = mapped _ Draft (λ ts. with_sides (params_put ts d.sides) d) (all_built typ_built arguments) e g in subst (Notes w) a.2 (same_notes v w d _ same refl refl refl h)
-other_change (change.Mark n) sh x arguments d e v w i j k l m same h g = subst (Notes w) (some_is g) (same_notes v w d _ same refl refl (shape_has _ sh d.premises.prem) h)
-other_change change.Nothing sh x arguments d e v w i j k l m same h g = subst (Notes w) (some_is g) (same_notes v w d _ same refl refl refl h)
-other_change change.Name sh x arguments d e v w i j k l m same h g = subst (Notes w) (some_is g) (same_notes v w d _ same refl refl refl h)
-other_change change.Id sh x arguments d e v w i j k l m same h g = subst (Notes w) (some_is g) (same_notes v w d _ same refl refl refl h)
-other_change change.HintName sh x arguments d e v w i j k l m same h g = subst (Notes w) (some_is g) (same_notes v w d _ same refl refl refl h)
-other_change change.HintWord sh x arguments d e v w i j k l m same h g = subst (Notes w) (some_is g) (same_notes v w d _ same refl refl refl h)
-other_change (change.HintEnd b) sh x arguments d e v w i j k l m same h g = subst (Notes w) (some_is g) (same_notes v w d _ same refl refl refl h)
-other_change change.Dots sh x arguments d e v w i j k l m same h g = subst (Notes w) (some_is g) (same_notes v w d _ same refl refl refl h)
-other_change change.Label sh x arguments d e v w i j k l m same h g = subst (Notes w) (some_is g) (same_notes v w d _ same refl refl refl h)
-other_change change.Parenthesis sh x arguments d e v w i j k l m same h g = subst (Notes w) (some_is g) (same_notes v w d _ same refl refl refl h)
-other_change change.If sh x arguments d e v w i j k l m same h g = subst (Notes w) (some_is g) (same_notes v w d _ same refl refl refl h)
-other_change change.Goal sh x arguments d e v w i j k l m same h g = subst (Notes w) (some_is g) (same_notes v w d _ same refl refl refl h)
+other_change (change.Mark n) sh x arguments d e v w i j k l same h m g = subst (Notes w) (some_is g) (same_notes v w d _ same refl refl (shape_has _ sh d.premises.prem) h)
+other_change change.Nothing sh x arguments d e v w i j k l same h m g = subst (Notes w) (some_is g) (same_notes v w d _ same refl refl refl h)
+other_change change.Name sh x arguments d e v w i j k l same h m g = subst (Notes w) (some_is g) (same_notes v w d _ same refl refl refl h)
+other_change change.Id sh x arguments d e v w i j k l same h m g = subst (Notes w) (some_is g) (same_notes v w d _ same refl refl refl h)
+other_change change.HintName sh x arguments d e v w i j k l same h m g = subst (Notes w) (some_is g) (same_notes v w d _ same refl refl refl h)
+other_change change.HintWord sh x arguments d e v w i j k l same h m g = subst (Notes w) (some_is g) (same_notes v w d _ same refl refl refl h)
+other_change (change.HintEnd b) sh x arguments d e v w i j k l same h m g = subst (Notes w) (some_is g) (same_notes v w d _ same refl refl refl h)
+other_change change.Dots sh x arguments d e v w i j k l same h m g = subst (Notes w) (some_is g) (same_notes v w d _ same refl refl refl h)
+other_change change.Label sh x arguments d e v w i j k l same h m g = subst (Notes w) (some_is g) (same_notes v w d _ same refl refl refl h)
+other_change change.Parenthesis sh x arguments d e v w i j k l same h m g = subst (Notes w) (some_is g) (same_notes v w d _ same refl refl refl h)
+other_change change.If sh x arguments d e v w i j k l same h m g = subst (Notes w) (some_is g) (same_notes v w d _ same refl refl refl h)
+other_change change.Goal sh x arguments d e v w i j k l same h m g = subst (Notes w) (some_is g) (same_notes v w d _ same refl refl refl h)

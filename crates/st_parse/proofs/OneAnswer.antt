@@ -8,11 +8,11 @@ use Rattle.st_parse_faults.specs.Faults.{Seen, verdict}
 use Rattle.st_parse_faults.specs.Place.{place_at}
 use Rattle.st_parse_faults.proofs.Exact.{front_passes, one_fault, never_both}
 use Rattle.st_el.specs.declared.definition.Def.{Def}
-use Rattle.st_parse_builder.specs.Definitions.{defs_meaning}
-use Rattle.st_draft.specs.Known.{known}
 use Rattle.st_parse.specs.Limits.{variable_past, too_tall, first_that}
-use Rattle.st_parse.specs.Source.{Front, Standing, IsParsed, IsSource, FaultAt}
-use Rattle.st_parse.proofs.Fronts.{all_of, all_known}
+use Rattle.st_parse.specs.Open.{first_past}
+use Rattle.st_parse.specs.Source.{Front, Past, IsParsed, IsSource, FaultAt}
+use Rattle.st_parse.proofs.Sources.{one_meant}
+use Rattle.st_parse.proofs.Fronts.{parsed_past}
 
 -- ---- one front
 
@@ -45,44 +45,51 @@ one_seen : (tokens : List Token) (f g : Front tokens) → f.seen ≡ g.seen
 one_seen tokens f g =
     let both : passed f.seen ≡ passed g.seen = sym f.faultless ∙ ap (verdict tokens) (one_count tokens f g) ∙ g.faultless in cc
 
--- ---- what stands in it
+-- ---- the first variable past the limit
 
-one_standing : (tokens : List Token) (f : Def → Option Span) (a b : Option Span) → Standing tokens f a → Standing tokens f b → a ≡ b
-one_standing tokens f a b h k =
-    sym h.1 ∙ ap (λ (s : Seen). first_that f (defs_meaning (known s.state))) (one_seen tokens h.0 k.0) ∙ k.1
+one_past : (tokens : List Token) (a b : Option Span) → Past tokens a → Past tokens b → a ≡ b
+one_past tokens a b h k = sym h.1 ∙ ap (λ (s : Seen). first_past s.state) (one_seen tokens h.0 k.0) ∙ k.1
 
-never_standing : (tokens : List Token) (f : Def → Option Span) (at : Span) → Standing tokens f (Some at) → Standing tokens f None → ⊥
-never_standing tokens f at h k =
-    let never : Some at ≡ None = one_standing tokens f (Some at) None h k in
+one_place : (tokens : List Token) (at there : Span) → Past tokens (Some at) → Past tokens (Some there) → at ≡ there
+one_place tokens at there h k = let e : Some at ≡ Some there = one_past tokens (Some at) (Some there) h k in cc
+
+never_past : (tokens : List Token) (at : Span) → Past tokens (Some at) → Past tokens None → ⊥
+never_past tokens at h k =
+    let never : Some at ≡ None = one_past tokens (Some at) None h k in
     absurd (cc)
 
-source_stands : (tokens : List Token) (defs : List Def) (f : Def → Option Span) → IsParsed tokens defs → first_that f defs ≡ None → Standing tokens f None
-source_stands tokens defs f p e =
-    let front = all_of tokens p.0 in
-    (front, ap (first_that f) (all_known tokens front defs refl p) ∙ e)
+none_past : (tokens : List Token) (defs : List Def) → IsParsed tokens defs → first_that variable_past defs ≡ None → Past tokens None
+none_past tokens defs p e = let h = parsed_past tokens defs p in (h.0, h.1 ∙ e)
+
+-- ---- the first definition that is too high
+
+one_tall : (tokens : List Token) (a b : List Def) → IsParsed tokens a → IsParsed tokens b → first_that too_tall a ≡ first_that too_tall b
+one_tall tokens a b p q = ap (first_that too_tall) (one_meant tokens a b p q)
+
+never_tall : (tokens : List Token) (a b : List Def) (at : Span) → IsParsed tokens a → IsParsed tokens b → first_that too_tall a ≡ Some at → first_that too_tall b ≡ None → ⊥
+never_tall tokens a b at p q h k =
+    let never : Some at ≡ None = sym h ∙ one_tall tokens a b p q ∙ k in
+    absurd (cc)
 
 -- ---- answers
 
 pub never_source : (tokens : List Token) (defs : List Def) (at : Span) (rule : RuleId) → FaultAt tokens at rule → IsSource tokens defs → ⊥
-never_source tokens defs at rule (inl h) s = never_standing tokens variable_past at h.0 (source_stands tokens defs variable_past s.0 s.1.0)
+never_source tokens defs at rule (inl h) s = never_past tokens at h.0 (none_past tokens defs s.0 s.1.0)
 never_source tokens defs at rule (inr (inl h)) s = never_both tokens h.1.0 rule h.1.1 s.0.0
-never_source tokens defs at rule (inr (inr h)) s = never_standing tokens too_tall at h.2 (source_stands tokens defs too_tall s.0 s.1.1)
+never_source tokens defs at rule (inr (inr h)) s = never_tall tokens h.0 defs at h.1 s.0 h.3 s.1.1
 
 pub one_refusal : (tokens : List Token) (at there : Span) (rule other : RuleId) → FaultAt tokens at rule → FaultAt tokens there other → (at ≡ there) × (rule ≡ other)
-one_refusal tokens at there rule other (inl h) (inl k) =
-    let e : Some at ≡ Some there = one_standing tokens variable_past (Some at) (Some there) h.0 k.0 in
-    let same : at ≡ there = cc in
-    (same, h.1 ∙ sym k.1)
-one_refusal tokens at there rule other (inl h) (inr (inl k)) = absurd (never_standing tokens variable_past at h.0 k.0)
-one_refusal tokens at there rule other (inl h) (inr (inr k)) = absurd (never_standing tokens variable_past at h.0 k.1)
-one_refusal tokens at there rule other (inr (inl h)) (inl k) = absurd (never_standing tokens variable_past there k.0 h.0)
-one_refusal tokens at there rule other (inr (inr h)) (inl k) = absurd (never_standing tokens variable_past there k.0 h.1)
+one_refusal tokens at there rule other (inl h) (inl k) = (one_place tokens at there h.0 k.0, h.1 ∙ sym k.1)
+one_refusal tokens at there rule other (inl h) (inr (inl k)) = absurd (never_past tokens at h.0 k.0)
+one_refusal tokens at there rule other (inl h) (inr (inr k)) = absurd (never_past tokens at h.0 (none_past tokens k.0 k.1 k.2))
+one_refusal tokens at there rule other (inr (inl h)) (inl k) = absurd (never_past tokens there k.0 h.0)
+one_refusal tokens at there rule other (inr (inr h)) (inl k) = absurd (never_past tokens there k.0 (none_past tokens h.0 h.1 h.2))
 one_refusal tokens at there rule other (inr (inl h)) (inr (inl k)) =
     let e = one_fault tokens h.1.0 k.1.0 rule other h.1.1 k.1.1 in
     (h.1.2 ∙ ap (place_at tokens) e.0 ∙ sym k.1.2, e.1)
-one_refusal tokens at there rule other (inr (inl h)) (inr (inr k)) = absurd (never_both tokens h.1.0 rule h.1.1 k.0)
-one_refusal tokens at there rule other (inr (inr h)) (inr (inl k)) = absurd (never_both tokens k.1.0 other k.1.1 h.0)
+one_refusal tokens at there rule other (inr (inl h)) (inr (inr k)) = absurd (never_both tokens h.1.0 rule h.1.1 k.1.0)
+one_refusal tokens at there rule other (inr (inr h)) (inr (inl k)) = absurd (never_both tokens k.1.0 other k.1.1 h.1.0)
 one_refusal tokens at there rule other (inr (inr h)) (inr (inr k)) =
-    let e : Some at ≡ Some there = one_standing tokens too_tall (Some at) (Some there) h.2 k.2 in
+    let e : Some at ≡ Some there = sym h.3 ∙ one_tall tokens h.0 k.0 h.1 k.1 ∙ k.3 in
     let same : at ≡ there = cc in
-    (same, h.3 ∙ sym k.3)
+    (same, h.4 ∙ sym k.4)

@@ -25,7 +25,7 @@ use Rattle.st_measure.specs.Limits.{place_past}
 use Rattle.st_measure.specs.inner.Noting.{stack_variables}
 use Rattle.st_draft.specs.declared.draft.Members.{Members as Body}
 use Rattle.st_draft.specs.declared.draft.Premises.{Premises as Prems}
-use Rattle.st_draft.specs.Known.{slot_before, position_before, before}
+use Rattle.st_draft.specs.Before.{slot_before, position_before, before}
 use Rattle.st_draft.specs.inner.Changes.{ending_of}
 use Rattle.st_draft.specs.inner.Drafts.{premises_so_far, ended}
 use Rattle.st_draft.specs.inner.Ready.{in_some, told, asked, MayEnd}
@@ -34,7 +34,7 @@ use Rattle.st_draft.proofs.DraftOf.{host_draft, head_draft, rule_draft, slot_dra
 use Rattle.st_draft.proofs.WorkSteps.{state_work}
 use Rattle.st_draft.proofs.WorkEnds.{part_ends}
 use Rattle.st_draft.proofs.WorkPositions.{slot_awaits, closes}
-use Rattle.st_draft.proofs.KnownLemmas.{stands_before, ended_is}
+use Rattle.st_draft.proofs.BeforeLemmas.{stands_before, ended_is}
 use Rattle.st_parse.specs.Limits.{variable_past, first_that}
 use Rattle.st_parse.specs.Open.{head_variables, rule_variables, slot_variables, position_variables, cut_variables, inside_variables, open_variables, part_variables, first_past}
 use Rattle.st_parse.specs.inner.Cuts.{cut, of_open, Parted, Opens, past_in}

@@ -1,4 +1,4 @@
--- Tokens without a fault mean the definitions that are built of them.
+-- Tokens without a fault mean the definitions that they are read as.
 use Rattle.std.proofs.Common.{◌≡◌, List, length, map, Some, refl, sym, ap, subst, ◌∙◌, arith}
 use Rattle.std.proofs.lemmas.List.{take_all, length-map}
 use Rattle.st_num.specs.declared.token.Token.{Token}
@@ -6,6 +6,7 @@ use Rattle.st_grammar.specs.Terminals.{terminal, declared_names}
 use Rattle.st_grammar.specs.Definitions.{Defs}
 use Rattle.st_grammar.specs.Positions.{State, reading, start, finish}
 use Rattle.st_grammar.proofs.PositionReading.{sound_defs}
+use Rattle.st_grammar.proofs.PositionComplete.{one_list_of_defs}
 use Rattle.st_parse_automaton.specs.Refusal.{terminals_of}
 use Rattle.st_parse_faults.specs.Faults.{Faultless}
 use Rattle.st_parse_faults.proofs.Verdicts.{verdict_reads}
@@ -21,7 +22,12 @@ reads_all tokens h =
 pub parsed : (tokens : List Token) (h : Faultless tokens) → IsParsed tokens (defs_meaning h.1)
 parsed tokens h = (h, record { trees = h.1; grammar = sound_defs (terminals_of tokens) h.0.state h.1 (reads_all tokens h) h.3; meant = refl })
 
-pub built_source : (tokens : List Token) (built : List Def) → Faultless tokens
-    → ((st : State) (ds : Defs) → reading start (map (terminal (declared_names tokens)) tokens) ≡ Some st → finish st ≡ Some ds → built ≡ defs_meaning ds)
-    → IsParsed tokens built
-built_source tokens built h done = subst (IsParsed tokens) (sym (done h.0.state h.1 (reads_all tokens h) h.3)) (parsed tokens h)
+-- They mean no other definitions.
+pub meant : (tokens : List Token) (defs : List Def) (p : IsParsed tokens defs) → defs_meaning p.0.1 ≡ defs
+meant tokens defs (h, p) =
+    let us = terminals_of tokens in
+    let one : h.1 ≡ p.trees = one_list_of_defs us h.1 p.trees (sound_defs us h.0.state h.1 (reads_all tokens h) h.3) p.grammar in
+    ap defs_meaning one ∙ p.meant
+
+pub one_meant : (tokens : List Token) (a b : List Def) → IsParsed tokens a → IsParsed tokens b → a ≡ b
+one_meant tokens a b (h, p) (k, q) = sym p.meant ∙ ap defs_meaning (one_list_of_defs (terminals_of tokens) p.trees q.trees p.grammar q.grammar) ∙ q.meant

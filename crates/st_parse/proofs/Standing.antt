@@ -188,12 +188,12 @@ module _ (P : Span → Type 0) where
         moved _ _ (in_changed m (base p) (steps p) (only (meanings ts))) (two _ _ (two _ _ (base_occurs p path) (steps_occur p path)) (only_occurs (meanings ts) es))
     bracket_occurs (below o i m x) ts s es fs = only_occurs (meanings ts) es
 
-    base_occurs : (p : Path) → Stand (path_text p) → Occur (variables (base p))
+    pub base_occurs : (p : Path) → Stand (path_text p) → Occur (variables (base p))
     base_occurs (head t o) s = tree_occurs t (first (text t) (opening square o ∷ []) s)
     base_occurs (field p x) s = base_occurs p (first (path_text p) (dot x ∷ []) s)
     base_occurs (part p o ts c) s = base_occurs p (first (path_text p) (opening square o ∷ (texts ts ++ closing by_square c ∷ [])) s)
 
-    steps_occur : (p : Path) → Stand (path_text p) → Occur (flat_map seg_variables (steps p))
+    pub steps_occur : (p : Path) → Stand (path_text p) → Occur (flat_map seg_variables (steps p))
     steps_occur (head t o) s = tt
     steps_occur (field p x) s =
         moved _ _ (one_behind seg_variables (steps p) (seg.Field (name_of x.kind)))

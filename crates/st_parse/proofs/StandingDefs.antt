@@ -18,11 +18,12 @@ use Rattle.st_parse_builder.specs.Names.{name_of}
 use Rattle.st_parse_builder.specs.Definitions.{name_in, prem_at, condition, opened_at, sign_count, iterated, premise_meaning, premises_meaning, patterns, def_meaning, defs_meaning}
 use Rattle.st_num.specs.Names.{same_name}
 use Rattle.st_measure.specs.Variables.{Occurrence, Times, without, variables, times as times_of, iterated as repeated, prem_variables, def_variables}
-use Rattle.st_measure.specs.Limits.{first_of_each}
+use Rattle.st_measure.specs.Limits.{first_of_each, place_past}
 use Rattle.st_measure.specs.DefHeights.{def_height}
 use Rattle.st_measure.proofs.Occurring.{one_behind}
 use Rattle.st_measure.proofs.Premises.{in_if, in_goal, in_otherwise, in_each, times_mark, times_times, times_below}
-use Rattle.st_parse.proofs.Surveying.{first_behind, variables_at}
+use Rattle.st_draft.proofs.Endings.{variables_at}
+use Rattle.st_parse.proofs.Notes.{first_behind}
 use Rattle.st_parse.specs.Limits.{variable_past, too_tall, first_that}
 use Rattle.st_parse.proofs.Standing.{Stand, Occur, first, last, two, moved, filtered, fewer, tree_occurs, trees_occur}
 
@@ -57,7 +58,7 @@ module _ (P : Span → Type 0) where
   marked_occurs at p (closing c x) h = each_occurs at p _ _ (times_mark mark.Question) h tt
   marked_occurs at p (other x) h = each_occurs at p _ _ (times_mark mark.Question) h tt
 
-  iterated_occurs : (os : List Terminal) (p : Prem) (i : Iterations) → Occur P (prem_variables p) → Stand P (iterations_text i) → Occur P (prem_variables (iterated os p i))
+  pub iterated_occurs : (os : List Terminal) (p : Prem) (i : Iterations) → Occur P (prem_variables p) → Stand P (iterations_text i) → Occur P (prem_variables (iterated os p i))
   iterated_occurs os p no_iterations h s = h
   iterated_occurs os p (closed i l) h s = iterated_occurs os p i h (first P (iterations_text i) (l ∷ []) s)
   iterated_occurs os p (marked i l) h s =
@@ -66,7 +67,7 @@ module _ (P : Span → Type 0) where
       timed (opened_at os (closings i)) (iterated os p i) t (meaning t)
       (iterated_occurs os p i h (first P (iterations_text i) (l ∷ text t) s)) (tree_occurs P t (last P (iterations_text i) (l ∷ text t) s).1)
 
-  condition_occurs : (ls : List Terminal) (e : Exp) → Occur P (variables e) → Occur P (prem_variables (condition ls e))
+  pub condition_occurs : (ls : List Terminal) (e : Exp) → Occur P (variables e) → Occur P (prem_variables (condition ls e))
   condition_occurs [] e h = moved P _ _ (in_if _ e) h
   condition_occurs (r ∷ []) e h = moved P _ _ (in_if _ e) h
   condition_occurs (r ∷ c ∷ ls) e h = moved P _ _ (in_goal _ (name_in r) e) h
@@ -79,7 +80,7 @@ module _ (P : Span → Type 0) where
       moved P _ _ (variables_at (token_in d).at (iterated os (condition ls (meaning t)) i))
       (iterated_occurs os (condition ls (meaning t)) i (condition_occurs ls (meaning t) (tree_occurs P t (first P (text t) (iterations_text i) rest))) (last P (text t) (iterations_text i) rest))
 
-  premises_occur : (ps : Premises) → Stand P (premises_text ps) → Occur P (flat_map prem_variables (premises_meaning ps))
+  pub premises_occur : (ps : Premises) → Stand P (premises_text ps) → Occur P (flat_map prem_variables (premises_meaning ps))
   premises_occur no_premises s = tt
   premises_occur (more_premises ps p) s =
       moved P _ _ (one_behind prem_variables (premises_meaning ps) (premise_meaning p))
@@ -87,7 +88,7 @@ module _ (P : Span → Type 0) where
 
   -- ---- definitions
 
-  patterns_occur : (a : Args) → Stand P (args_text a) → Occur P (flat_map variables (patterns a))
+  pub patterns_occur : (a : Args) → Stand P (args_text a) → Occur P (flat_map variables (patterns a))
   patterns_occur no_args s = tt
   patterns_occur (args o ts c) s = trees_occur P ts (first P (texts ts) (c ∷ []) s.1)
 
@@ -123,6 +124,10 @@ module _ (P : Span → Type 0) where
   at_number (o ∷ os) zero at h e = let same : o.1 ≡ at = cc in subst P same h.0
   at_number (o ∷ os) (suc k) at h e = at_number os k at h.1 e
 
+  -- the first of these variables that passes the limit
+  pub place_stands : (os : List Occurrence) (at : Span) → Occur P os → place_past MOST_PREMISES os ≡ Some at → P at
+  place_stands os at h e = at_number (first_of_each os) MOST_PREMISES at (each_once os h) e
+
   tall_stands : (b : Bool) (at place : Span) → P place → (if b then Some place else None) ≡ Some at → P at
   tall_stands true at place h e = let same : place ≡ at = cc in subst P same h
   tall_stands false at place h e = absurd (cc)
@@ -132,12 +137,12 @@ module _ (P : Span → Type 0) where
   Tells f = (d : Tokens) (at : Span) → Stand P (def_text d) → f (def_meaning d) ≡ Some at → P at
 
   pub past_stands : Tells variable_past
-  past_stands d at s e = at_number (first_of_each (def_variables (def_meaning d))) MOST_PREMISES at (each_once (def_variables (def_meaning d)) (def_occurs d s)) e
+  past_stands d at s e = place_stands (def_variables (def_meaning d)) at (def_occurs d s) e
 
   pub tall_is_there : Tells too_tall
   tall_is_there d at s e = tall_stands (nat_lt HIGHEST_TREE (def_height (def_meaning d))) at (def_meaning d).at (def_stands d s) e
 
-  told : (o p : Option Span) (at : Span) → (o ≡ Some at → P at) → (p ≡ Some at → P at) → option_or o p ≡ Some at → P at
+  pub told : (o p : Option Span) (at : Span) → (o ≡ Some at → P at) → (p ≡ Some at → P at) → option_or o p ≡ Some at → P at
   told (Some s) p at h k e = h e
   told None (Some s) at h k e = k e
   told None None at h k e = absurd (cc)

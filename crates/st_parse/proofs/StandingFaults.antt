@@ -1,26 +1,30 @@
 -- A fault stands at a token.
-use Rattle.std.proofs.Common.{◌≡◌, ℕ, List, [], ◌∷◌, ◌++◌, inl, inr, map, take, zero, suc, Option, Some, None, refl, sym, subst}
+use Rattle.std.proofs.Common.{◌≡◌, ℕ, List, [], ◌∷◌, ◌++◌, inl, inr, map, take, zero, suc, Some, sym, ap, subst, ◌∙◌}
 use Rattle.std.specs.List.{AllByRecursion}
+use Rattle.st_num.specs.declared.limit.TheConstants.{MOST_PREMISES}
 use Rattle.st_num.specs.declared.rule.RuleId.{RuleId}
 use Rattle.st_num.specs.declared.span.Span.{Span}
 use Rattle.st_num.specs.declared.token.Token.{Token}
 use Rattle.st_grammar.specs.Terminals.{Terminal, terminal, declared_names}
 use Rattle.st_grammar.specs.Trees.{text, texts}
-use Rattle.st_grammar.specs.Definitions.{hints_text, members_text, args_text, iterations_text, premises_text, Defs, defs_text}
-use Rattle.st_grammar.specs.Positions.{Head, syntax_head, Rule, rule_head, clause_head, Host, of_syntax, of_field, of_case, of_var, of_relation, of_notation, of_fun, Slot, field_slot, case_slot, var_slot, notation_slot, fun_slot, arg_slot, rule_slot, cond_slot, count_slot, Position, between, syntax_name, var_name, var_colon, relation_name, rule_name, rule_colon, fun_name, fun_named, argued, args_closed, syntax_id, rule_id, hinted, hint_open, hint_name, hint_words, entering, dotted, field_name, premised, premise_open, goal_colon, iterated, State, at, inside, start, reading, finish}
+use Rattle.st_grammar.specs.Definitions.{hints_text, members_text, args_text, iterations_text, premises_text, defs_text}
+use Rattle.st_grammar.specs.Positions.{Head, syntax_head, Rule, rule_head, clause_head, Host, of_syntax, of_field, of_case, of_var, of_relation, of_notation, of_fun, Slot, field_slot, case_slot, var_slot, notation_slot, fun_slot, arg_slot, rule_slot, cond_slot, count_slot, Position, between, syntax_name, var_name, var_colon, relation_name, rule_name, rule_colon, fun_name, fun_named, argued, args_closed, syntax_id, rule_id, hinted, hint_open, hint_name, hint_words, entering, dotted, field_name, premised, premise_open, goal_colon, iterated, State, at, inside, start, reading}
 use Rattle.st_grammar.proofs.Sound as sound
 use Rattle.st_grammar.proofs.PositionTexts.{head_text, rule_text, ruled_text, host_text, slot_text, position_text, seen, Reached}
-use Rattle.st_grammar.proofs.PositionReading.{reached_by, finishes}
+use Rattle.st_grammar.proofs.PositionReading.{reached_by}
 use Rattle.st_parse_automaton.specs.Refusal.{terminals_of}
 use Rattle.st_parse_faults.specs.Place.{place_at}
 use Rattle.st_parse_faults.proofs.Verdicts.{verdict_reads}
-use Rattle.st_el.specs.declared.definition.Def.{Def}
-use Rattle.st_draft.specs.Known.{head_before, rule_before, host_before, slot_before, position_before, before, defs_or, known}
+use Rattle.st_parse_builder.specs.Definitions.{defs_meaning}
+use Rattle.st_measure.specs.Limits.{place_past}
+use Rattle.st_draft.specs.Before.{head_before, rule_before, host_before, slot_before, position_before, before}
 use Rattle.st_grammar.proofs.TerminalTokens.{terminal_token}
-use Rattle.st_parse.specs.Limits.{variable_past, too_tall}
-use Rattle.st_parse.specs.Source.{Standing, FaultAt}
+use Rattle.st_parse.specs.Limits.{variable_past, too_tall, first_that}
+use Rattle.st_parse.specs.Open.{open_variables}
+use Rattle.st_parse.specs.Source.{Past, FaultAt}
 use Rattle.st_parse.proofs.Standing.{Stand, first}
-use Rattle.st_parse.proofs.StandingDefs.{Tells, past_stands, tall_is_there, first_stands}
+use Rattle.st_parse.proofs.StandingDefs.{place_stands, past_stands, tall_is_there, told, first_stands}
+use Rattle.st_parse.proofs.StandingOpen.{open_occurs}
 
 module _ (P : Span → Type 0) where
   -- ---- the definitions before the open one
@@ -84,18 +88,6 @@ module _ (P : Span → Type 0) where
   in_state (at p) s = in_position p s
   in_state (inside l st) s = in_slot l (first P (slot_text l) (sound.seen st) s)
 
-  -- ---- the definitions that stand whole
-
-  known_stands : (us : List Terminal) (st : State) → reading start us ≡ Some st → Stand P us → Stand P (defs_text (known st))
-  known_stands us st e s = go (finish st) refl
-    where
-      reached : Reached us st
-      reached = reached_by us st e
-
-      go : (o : Option Defs) → finish st ≡ o → Stand P (defs_text (defs_or (before st) o))
-      go None f = in_state st (subst (Stand P) (sym reached.spelled) s)
-      go (Some ds) f = subst (Stand P) (finishes us st ds reached f).spelled s
-
   -- ---- tokens
 
   abbrev pub TokensStand : List Token → Type 0
@@ -113,15 +105,25 @@ module _ (P : Span → Type 0) where
 
   -- ---- faults
 
-  standing : (tokens : List Token) (f : Def → Option Span) (place : Span) → Tells P f → TokensStand tokens → Standing tokens f (Some place) → P place
-  standing tokens f place h s (front, e) =
-      first_stands P f (known front.seen.state) place h
-      (known_stands (take front.count (terminals_of tokens)) front.seen.state (verdict_reads tokens front.count front.seen front.faultless)
-      (front_stands front.count (terminals_of tokens) (terminals_stand (declared_names tokens) tokens s)))
+  -- the first variable that is past the limit
+  past_place : (tokens : List Token) (place : Span) → TokensStand tokens → Past tokens (Some place) → P place
+  past_place tokens place s (front, e) =
+      let us = take front.count (terminals_of tokens) in
+      let st = front.seen.state in
+      let reached : Reached us st = reached_by us st (verdict_reads tokens front.count front.seen front.faultless) in
+      let stands : Stand P (seen st) =
+      subst (Stand P) (sym reached.spelled) (front_stands front.count (terminals_of tokens) (terminals_stand (declared_names tokens) tokens s)) in
+      told P (first_that variable_past (defs_meaning (before st))) (place_past MOST_PREMISES (open_variables st)) place
+      (first_stands P variable_past (before st) place (past_stands P) (in_state st stands))
+      (place_stands P (open_variables st) place (open_occurs P st reached.holds stands))
       e
 
   -- A fault stands at such a place, where each token does.
   pub fault_stands : (tokens : List Token) (place : Span) (rule : RuleId) → TokensStand tokens → ((k : ℕ) → P (place_at tokens k)) → FaultAt tokens place rule → P place
-  fault_stands tokens place rule s each (inl many) = standing tokens variable_past place (past_stands P) s many.0
+  fault_stands tokens place rule s each (inl many) = past_place tokens place s many.0
   fault_stands tokens place rule s each (inr (inl fault)) = subst P (sym fault.1.2) (each fault.1.0)
-  fault_stands tokens place rule s each (inr (inr tall)) = standing tokens too_tall place (tall_is_there P) s tall.2
+  fault_stands tokens place rule s each (inr (inr tall)) =
+      let parse = tall.1.1 in
+      first_stands P too_tall parse.trees place (tall_is_there P)
+      (subst (Stand P) parse.grammar.spelled (terminals_stand (declared_names tokens) tokens s))
+      (ap (first_that too_tall) parse.meant ∙ tall.3)

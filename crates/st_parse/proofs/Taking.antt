@@ -25,12 +25,15 @@ use Rattle.st_parse_faults.proofs.SeenView.{summary}
 use Rattle.st_parse_faults.proofs.JudgingLemmas as judging
 use Rattle.st_parse_faults.proofs.Verdicts.{verdict_reads}
 use Rattle.st_parse_faults.proofs.Loop.{Passes, passes_holds, token_passes, ends_well, ends_early}
+use Rattle.st_el.specs.Plain.{nowhere}
 use Rattle.st_draft.specs.declared.parts.Parts.{Parts}
 use Rattle.st_draft.specs.inner.Work.{Work, work_after, MayTake}
+use Rattle.st_draft.specs.inner.Drafts.{begun}
+use Rattle.st_draft.proofs.BeforeLemmas.{nothing_kept}
 use Rattle.st_draft.proofs.WorkSteps.{state_work}
 use Rattle.st_draft.proofs.WorkPositions.{works, takes}
 use Rattle.st_parse.specs.declared.kept.Kept.{Kept}
-use Rattle.st_parse.specs.inner.Kept.{Keeps}
+use Rattle.st_parse.specs.inner.Kept.{Draws, Keeps}
 use Rattle.st_parse.specs.inner.Found.{fault_of, Judged, end_of}
 
 -- these tokens passed up to here, and this is kept of them
@@ -47,6 +50,10 @@ stepped tokens i d s next h e f =
     let us = take i (terminals_of tokens) in
     sym (last_step us (terminal (declared_names tokens) (get_or tokens i d)) s.state (verdict_reads tokens i s e))
     ∙ ap (reading start) (sym (one_more tokens i d h)) ∙ verdict_reads tokens (i + 1) next f
+
+-- Before the first token this is kept.
+pub starts : (kept : Kept) (parts : Parts) → Draws kept (begun [] nowhere) → parts.arguments ≡ [] → parts.actions ≡ [] → parts.marks ≡ [] → parts.words ≡ [] → Keeps kept parts (state_work start)
+starts kept parts d e f g h = record { drawn = d; same = sym (nothing_kept (begun [] nowhere) parts refl e f g h) }
 
 -- what is said of a token that is taken
 abbrev pub Taken : Progress → Progress → TokenClass → Token → Kept → Parts → Kept → Parts → Type 0

@@ -33,8 +33,8 @@ use Rattle.st_draft.specs.inner.Parts.{exp_built, all_built, count_with, index_i
 use Rattle.st_draft.specs.inner.Drafts.{whole_prem, each_of, span_or, shape_count, node_of, def_put, ended, begun, with_sides, params_put, args_put, typ_filled, notation_filled, exp_filled, condition_filled, count_filled}
 use Rattle.st_draft.specs.inner.Heights.{open_height, height_of, IsLow}
 use Rattle.st_draft.specs.inner.Ready.{Ends, MayEnd, Ready, Awaits}
-use Rattle.st_draft.proofs.Low.{front_of, last_of, height_at}
-use Rattle.st_draft.proofs.Endings.{none_in, begun_clear}
+use Rattle.st_draft.proofs.Low.{front_of}
+use Rattle.st_draft.proofs.Endings.{none_in, begun_clear, low_open}
 use Rattle.st_parse.specs.Limits.{too_tall, first_that}
 use Rattle.st_parse.specs.inner.Kept.{last_tall, checked, IsHigh, Stands}
 use Rattle.st_parse.proofs.Notes.{mapped, some_is, or_none, first_behind}
@@ -118,13 +118,6 @@ low_prem o h = subst (λ q. height_of prem_height q ≤ 100) (sym h) none_in
 low_each : (at : Span) (c : Count) (o : Option Prem) → height_of prem_height (each_of at c o) ≤ 100 → height_of prem_height o ≤ 100
 low_each at c None h = h
 low_each at c (Some p) h = let same = tall_each at p c in omega (arith, same, h)
-
--- premises with one more that is open
-low_open : (at : Span) (ps : List Prem) (o : Option Prem) → highest (map prem_height (ps ++ whole_prem at o)) ≤ 100 → (highest (map prem_height ps) ≤ 100) × (height_of prem_height o ≤ 100)
-low_open at ps None h = (subst (λ qs. highest (map prem_height qs) ≤ 100) (append-nil ps) h, none_in)
-low_open at ps (Some q) h =
-    let last = last_of prem_height 100 ps (prem_at at (out-Prem q).node) h in
-    (front_of prem_height 100 ps (prem_at at (out-Prem q).node) h, subst (λ k. k ≤ 100) (height_at at q) last)
 
 -- ---- changes
 

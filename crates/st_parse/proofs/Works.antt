@@ -1,12 +1,14 @@
 -- What is kept of a work behind each token.
-use Rattle.std.proofs.Common.{◌≡◌, ℕ, List, [], ◌∷◌, ◌++◌, length, map, reverse, Bool, true, false, Option, Some, None, option_map, option_and_then, Result, Ok, Err, IfOk, refl, sym, ap, subst, ◌∙◌}
+use Rattle.std.proofs.Common.{◌≡◌, ℕ, List, [], ◌∷◌, ◌++◌, length, map, reverse, Bool, true, false, not, IsTrue, if◌then◌else◌, Option, Some, None, option_map, option_and_then, Result, Ok, Err, IfOk, refl, sym, ap, subst, ◌∙◌, append_assoc}
 use Rattle.std.specs.Option.{option_or}
+use Rattle.std.proofs.lemmas.List.{reverse-append}
 use Rattle.st_num.specs.declared.limit.TheConstants.{MOST_PREMISES}
 use Rattle.st_num.specs.declared.memory.NoMemory.{NoMemory}
 use Rattle.st_num.specs.declared.mark.Mark.{Mark}
 use Rattle.st_num.specs.declared.token.Token.{Token}
 use Rattle.st_grammar.specs.declared.sort.Bracket.{Bracket}
 use Rattle.st_parse_automaton.specs.declared.part_automaton.Expected.TheVariants.{Operand}
+use Rattle.st_parse_automaton.specs.declared.part_automaton.Frame.{Frame}
 use Rattle.st_parse_automaton.specs.declared.part_automaton.Part.{Part}
 use Rattle.st_parse_automaton.specs.declared.part_automaton.Reading.{Reading}
 use Rattle.st_parse_automaton.specs.declared.position.At.{At}
@@ -25,6 +27,8 @@ use Rattle.st_parse_builder.specs.inner.Building.{Stack, run}
 use Rattle.st_measure.specs.Variables.{Occurrence, occurrences}
 use Rattle.st_measure.specs.Limits.{place_past}
 use Rattle.st_parse_actions.specs.inner.Emits.{finishing}
+use Rattle.st_parse_faults.specs.inner.Roles.{none_open}
+use Rattle.st_measure.specs.inner.Noting.{stack_variables}
 use Rattle.st_draft.specs.declared.change.DefinitionEnd.{DefinitionEnd}
 use Rattle.st_draft.specs.declared.draft.Draft.{Draft}
 use Rattle.st_draft.specs.declared.parts.Parts.{Parts}
@@ -37,7 +41,7 @@ use Rattle.st_draft.specs.inner.Work.{Work, work_of, part_work, redrafted_work, 
 use Rattle.st_parse.specs.declared.kept.Kept.{Kept}
 use Rattle.st_parse.specs.declared.variables.Variables.{Variables}
 use Rattle.st_parse.specs.inner.Kept.{Notes, Draws, Keeps, Tells}
-use Rattle.st_parse.specs.inner.Cuts.{cut, of_open, past_in, Counts, Parted, Opens}
+use Rattle.st_parse.specs.inner.Cuts.{in_rule, cut, of_open, past_in, Counts, Parted, Opens}
 use Rattle.st_parse.proofs.Notes.{mapped, some_is}
 
 chained : (A B : Type 0) (f : A → Option B) (o : Option A) (b : B) → option_and_then f o ≡ Some b → (a : A) × (o ≡ Some a) × (f a ≡ Some b)
@@ -55,10 +59,29 @@ same_work d given given' acts acts' marks marks' words words' e f g h =
 
 -- ---- a part goes on
 
-pub gone_on : (k : Kept) (slot : Slot) (st : parts.State) (l : TokenClass) (x : Token) (p q : Parts) (b a : Work) → Keeps k p b → part_work slot st l x b ≡ a
+gone_on : (k : Kept) (slot : Slot) (st : parts.State) (l : TokenClass) (x : Token) (p q : Parts) (b a : Work) → Keeps k p b → part_work slot st l x b ≡ a
     → ((d : Draft) → work_of d q ≡ part_work slot st l x (work_of d p)) → Keeps k q a
 gone_on k slot st l x p q b a h e made =
     subst (Keeps k q) e (record { drawn = h.drawn; same = made b.draft ∙ ap (part_work slot st l x) h.same })
+
+pub going_on : (r : Result (Unit {0}) NoMemory) (k : Kept) (slot : Slot) (st : parts.State) (l : TokenClass) (x : Token) (p q : Parts) (b a : Work) → Keeps k p b → part_work slot st l x b ≡ a
+    → ((d : Draft) → IfOk r (λ z. work_of d q ≡ part_work slot st l x (work_of d p))) → IfOk r (λ z. Keeps k q a)
+going_on (Err f) k slot st l x p q b a h e made = tt
+going_on (Ok z) k slot st l x p q b a h e made = gone_on k slot st l x p q b a h e made
+
+-- a part in which something is read goes on
+last_open : (xs : List Frame) (f : Frame) → none_open (Operand, xs ++ f ∷ []) ≡ false
+last_open [] f = refl
+last_open (g ∷ xs) f = refl
+
+frames_open : (fs : List Frame) (b : Bool) → (IsTrue b → fs ≡ []) → (fs ≡ [] → IsTrue b) → not b ≡ not (none_open (Operand, reverse fs))
+frames_open fs true h k = let none : fs ≡ [] = h tt in ap (λ ys. not (none_open (Operand, reverse ys))) (sym none)
+frames_open [] false h k = let never : false ≡ true = k refl in absurd (cc)
+frames_open (f ∷ fs) false h k = ap not (sym (ap (λ ys. none_open (Operand, ys)) (reverse-append (f ∷ []) fs) ∙ last_open (reverse fs) f))
+
+pub goes_on_open : (n : Progress) (s : Slot) (r : Reading) (ks : List Bracket) (b : Bool) → n ≡ code.Inside s r ks → r.expected ≡ Operand → (IsTrue b → r.frames ≡ []) → (r.frames ≡ [] → IsTrue b) → not b ≡ goes_on (progress_of n)
+goes_on_open n s r ks b is due h k =
+    frames_open r.frames b h k ∙ ap (λ e. not (none_open (e, reverse r.frames))) (sym due) ∙ ap (λ m. goes_on (progress_of m)) (sym is)
 
 -- ---- positions
 
@@ -107,14 +130,14 @@ pub redrafted_keeps : (kept new : Kept) (p q : Parts) (b a : Work) (next : defin
     → redrafted_work next position l x b ≡ Some a → given ≡ p.arguments
     → ((d e : Draft) → Draws kept d → Ready (change_of position next) d → redrafted (change_of position next) l.shape x given d ≡ Some e → Draws new e)
     → q.arguments ≡ arguments_after (change_of position next) p.arguments → q.actions ≡ p.actions → q.marks ≡ p.marks → q.words ≡ p.words → Keeps new q a
-redrafted_keeps kept new p q b a next position l x given h ready e is changes as acts marks words =
+redrafted_keeps kept new p q b a next position l x given h ready e is changes given_up acts marks words =
     let c = change_of position next in
     let args : p.arguments ≡ b.arguments = ap (λ (w : Work). w.arguments) h.same in
     let m = mapped Draft Work (λ d. work d (arguments_after c b.arguments) b.actions b.marks b.words) (redrafted c l.shape x b.arguments b.draft) a e in
     subst (Keeps new q) m.2 (record {
       drawn = changes b.draft m.0 h.drawn ready (ap (λ g. redrafted c l.shape x g b.draft) (is ∙ args) ∙ m.1);
       same = same_work m.0 q.arguments (arguments_after c b.arguments) q.actions b.actions (reverse q.marks) b.marks (map word_of q.words) b.words
-          (as ∙ ap (arguments_after c) args)
+          (given_up ∙ ap (arguments_after c) args)
           (acts ∙ ap (λ (w : Work). w.actions) h.same)
           (ap reverse marks ∙ ap (λ (w : Work). w.marks) h.same)
           (ap (map word_of) words ∙ ap (λ (w : Work). w.words) h.same);
@@ -126,7 +149,7 @@ pub filled_keeps : (kept new : Kept) (p q : Parts) (b a : Work) (slot : Slot) (n
     → acts ≡ p.actions ++ finishing st → words ≡ p.words
     → ((d e : Draft) → Draws kept d → Awaits slot d → refilled slot n acts (map word_of words) d ≡ Some e → Draws new e)
     → q.arguments ≡ arguments_with slot acts p.arguments → q.actions ≡ [] → q.marks ≡ [] → q.words ≡ [] → Keeps new q a
-filled_keeps kept new p q b a slot n st acts words h awaits e acted worded fills as none unmarked unworded =
+filled_keeps kept new p q b a slot n st acts words h awaits e acted worded fills given_up none unmarked unworded =
     let all : acts ≡ b.actions ++ finishing st = acted ∙ ap (λ (w : Work). w.actions ++ finishing st) h.same in
     let said : map word_of words ≡ b.words = ap (map word_of) worded ∙ ap (λ (w : Work). w.words) h.same in
     let given = b.actions ++ finishing st in
@@ -134,7 +157,7 @@ filled_keeps kept new p q b a slot n st acts words h awaits e acted worded fills
     subst (Keeps new q) m.2 (record {
       drawn = fills b.draft m.0 h.drawn awaits (ap (λ y. refilled slot n y (map word_of words) b.draft) all ∙ ap (λ y. refilled slot n given y b.draft) said ∙ m.1);
       same = same_work m.0 q.arguments (arguments_with slot given b.arguments) q.actions [] (reverse q.marks) [] (map word_of q.words) []
-          (as ∙ ap (λ y. arguments_with slot y p.arguments) all ∙ ap (λ (w : Work). arguments_with slot given w.arguments) h.same)
+          (given_up ∙ ap (λ y. arguments_with slot y p.arguments) all ∙ ap (λ (w : Work). arguments_with slot given w.arguments) h.same)
           none
           (ap reverse unmarked)
           (ap (map word_of) unworded);
@@ -201,8 +224,13 @@ part_cut (Ok z) old v q w slot st ks o acts vs is h p same past all =
     let counts = noted_counts old.variables w.draft (of_open w.draft) h.drawn.noted refl in
     record {
       past = past ∙ counts.past;
-      all = all c.0 (ap (λ as. run as []) (same ∙ ap (λ (y : Work). y.actions) h.same) ∙ c.1) ∙ ap (λ os. os ++ cut slot c.0) counts.all ∙ c.2;
+      all = all c.0 (ap (λ y. run y []) (same ∙ ap (λ (y : Work). y.actions) h.same) ∙ c.1) ∙ ap (λ os. os ++ cut slot c.0) counts.all ∙ c.2;
     }
+
+pub cut_noted : (r : Result (Unit {0}) NoMemory) (s : Slot) (before inside new : List Occurrence) (u : Stack) → in_rule s ≡ true → IfOk r (λ z. new ≡ inside ++ stack_variables u) → IfOk r (λ z. before ++ new ≡ (before ++ inside) ++ cut s u)
+cut_noted (Err f) s before inside new u is k = tt
+cut_noted (Ok z) s before inside new u is k =
+    ap (λ vs. before ++ vs) k ∙ sym (append_assoc before inside (stack_variables u)) ∙ ap (λ (b : Bool). (before ++ inside) ++ (if b then stack_variables u else [])) (sym is)
 
 -- the variables that are counted are those of these definitions and of the open one
 pub counted_past : (r : Result (Unit {0}) NoMemory) (v w : Variables) (defs : List Def) (vs : List Occurrence) → Counts v defs vs
@@ -211,8 +239,9 @@ counted_past (Err f) v w defs vs c p = tt
 counted_past (Ok z) v w defs vs c p =
     p ∙ ap (λ o. option_or o (place_past MOST_PREMISES (occurrences v.before ++ occurrences v.inside))) c.past ∙ ap (past_in defs) c.all
 
-pub opened_at : (from : definitions.State) (p : Position) (ks : List Bracket) (k : Kept) (q : Parts) (w : Work) (vs : List Occurrence) → from ≡ definitions.at p ks → Keeps k q w → Opens from w vs → Counts k.variables w.draft.defs vs
-opened_at from p ks k q w vs is h o = noted_counts k.variables w.draft vs h.drawn.noted (subst (λ f. Opens f w vs) is o)
+pub opened_or : (n : Progress) (k : Kept) (q : Parts) (w : Work) (vs : List Occurrence) → ((s : Slot) (r : Reading) (ks : List Bracket) → n ≡ code.Inside s r ks → ⊥) → Keeps k q w → Opens (progress_of n) w vs → Counts k.variables w.draft.defs vs
+opened_or (code.At a) k q w vs never h o = noted_counts k.variables w.draft vs h.drawn.noted o
+opened_or (code.Inside s r ks) k q w vs never h o = absurd (never s r ks refl)
 
 -- ---- the end
 

@@ -131,7 +131,7 @@ fn end_premise<'a>(alloc: Global, variables: &mut Variables<'a>) -> Result<(), N
 {
     let before = replace(&mut variables.before, Row::new(alloc));
     let inside = replace(&mut variables.inside, Row::new(alloc));
-    variables.before = joined(before, inside)?;
+    let _none = replace(&mut variables.before, joined(before, inside)?);
     Ok(())
 }
 
@@ -164,10 +164,7 @@ pub(crate) fn note_part<'a>(
 {
     match slot {
         Slot::Rule => add_variables(alloc, actions, &mut variables.before),
-        Slot::Condition => {
-            variables.inside = Row::new(alloc);
-            add_variables(alloc, actions, &mut variables.inside)
-        }
+        Slot::Condition => add_variables(alloc, actions, &mut variables.inside),
         Slot::Count => iterate(alloc, actions, words, &mut variables.inside),
         _ => Ok(()),
     }
@@ -187,10 +184,6 @@ pub(crate) fn note_change<'a>(
     match change {
         Change::Begin(_) | Change::End(_) => count(alloc, variables),
         Change::Premise(_) => end_premise(alloc, variables),
-        Change::Otherwise => {
-            variables.inside = Row::new(alloc);
-            Ok(())
-        }
         Change::Args => add_all(alloc, arguments, &mut variables.before),
         _ => Ok(()),
     }

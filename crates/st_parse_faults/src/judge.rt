@@ -3,7 +3,9 @@
 ghost use Rattle.std.specs.Prelude.{◌≡◌, ◌≤◌, IfOk};
 ghost use Rattle.st_num.specs.declared.limit.TheConstants.{HIGHEST_TREE};
 ghost use Rattle.st_parse_faults.specs.inner.Seen as spec;
-ghost use Rattle.st_parse_automaton.specs.inner.Readings.{progress_of};
+ghost use Rattle.std.specs.Option.{option_map};
+ghost use Rattle.st_parse_automaton.specs.inner.DefinitionAutomaton as definitions;
+ghost use Rattle.st_parse_automaton.specs.inner.Readings.{progress_of, step_of};
 
 use crate::before::{Before, left_out, stands_before};
 use crate::counts::{Counts, counts_after, counts_pass, event_of, member_due};
@@ -11,7 +13,7 @@ use crate::nesting::{bars, may_open, nesting_after};
 use crate::role::attachment_of;
 use crate::tally::{Tally, any_passes, single, tallies_after};
 use st_num::{HIGHEST_TREE, NoMemory, Row, RuleId, Token, TokenKind};
-use st_parse_automaton::{Advance, At, Position, Progress, Shape, TokenClass, advance};
+use st_parse_automaton::{Advance, At, Position, Progress, Shape, Step, TokenClass, advance};
 use st_parse_builder::Action;
 use std::alloc::Global;
 
@@ -86,6 +88,21 @@ pub fn nothing_counted(alloc: Global, progress: Progress, nesting: u8) -> Result
     })
 }
 
+/// What one more token makes of the reading, and where that leads.
+fn next_step<'a>(
+    alloc: Global,
+    progress: &Progress,
+    class: TokenClass,
+    token: &'a Token,
+) -> Result<Option<Step<'a>>, NoMemory>
+    ensures step { IfOk result (λ step. option_map step_of step
+        ≡ definitions.advanced token.now (definitions.advance (progress_of progress.now) class)) }
+    ensures leads { IfOk result (λ step.
+        spec.state_behind step ≡ definitions.step (progress_of progress.now) class) }
+{
+    advance(alloc, progress, class, token)
+}
+
 /// The verdict on one more token.
 pub fn judge_token<'a>(
     alloc: Global,
@@ -106,7 +123,7 @@ pub fn judge_token<'a>(
         counts,
         tallies,
     } = seen;
-    let Some(step) = advance(alloc, &progress, class, token)? else {
+    let Some(step) = next_step(alloc, &progress, class, token)? else {
         let rule = refusal(stands_before(&progress), nesting, &token.kind);
         return Ok(TokenVerdict::Broken(rule, progress));
     };

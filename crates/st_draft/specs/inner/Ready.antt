@@ -1,6 +1,6 @@
 -- What a change and a part ask of the draft before them, so that all trees and variables of a draft
 -- are those of the definition that it becomes.
-use Rattle.std.specs.Prelude.{◌≡◌, ◌≤◌, List, [], ◌++◌, flat_map, true, false, Option, Some, None}
+use Rattle.std.specs.Prelude.{◌≡◌, ◌≤◌, List, [], ◌++◌, flat_map, false, Option, Some, None}
 use Rattle.st_el.specs.declared.definition.Prem.{Prem}
 use Rattle.st_el.specs.declared.definition.DefNode.{DefNode}
 use Rattle.st_measure.specs.Variables.{Occurrence, variables, prem_variables, def_node_variables}

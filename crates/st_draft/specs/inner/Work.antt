@@ -1,5 +1,5 @@
 -- What each token makes of a draft and of the part that is read.
-use Rattle.std.specs.Prelude.{◌≡◌, ℕ, Bool, true, false, not, List, [], ◌∷◌, ◌++◌, length, map, Option, Some, None, option_and_then}
+use Rattle.std.specs.Prelude.{◌≡◌, ℕ, Bool, true, false, not, List, [], ◌∷◌, ◌++◌, length, map, Option, Some, option_and_then}
 use Rattle.std.specs.Option.{option_map}
 use Rattle.st_num.specs.declared.token.Token.{Token}
 use Rattle.st_grammar.specs.declared.sort.Bracket.{Bracket}

@@ -25,6 +25,7 @@ use Rattle.st_parse_automaton.specs.declared.position.Slot.{Slot}
 use Rattle.st_parse_automaton.specs.declared.position.Slot.TheVariants as slot
 use Rattle.st_parse_automaton.specs.declared.position.IterationState.TheVariants as iterations
 use Rattle.st_parse_automaton.specs.declared.position.TokenClass.{TokenClass}
+use Rattle.st_parse_automaton.specs.declared.position.Step.{Step}
 use Rattle.st_parse_automaton.specs.inner.Readings.{progress_of}
 use Rattle.st_parse_automaton.specs.inner.PartAutomaton as parts
 use Rattle.st_parse_automaton.specs.inner.DefinitionAutomaton as definitions
@@ -220,6 +221,11 @@ summary_of s =
 abbrev pub verdict_of : Code → TokenVerdict
 verdict_of (variant.Passed s a acts) = passed (summary_of s)
 verdict_of (variant.Broken r p) = broken r
+
+-- the state behind a step of the code, where it makes one
+abbrev pub state_behind : Option Step → Option definitions.State
+state_behind None = None
+state_behind (Some s) = Some (progress_of s.progress)
 
 -- The code tells how the token stands, where it leads and what it adds; where it breaks a rule, how
 -- far the tokens before it are read.
