@@ -27,8 +27,8 @@ use Rattle.st_measure.specs.DefHeights.{prem_height, field_type_height}
 use Rattle.st_measure.proofs.Holes.{builds_typ}
 use Rattle.st_measure.proofs.Premises.{tall_if, tall_goal, tall_each, tall_times, tall_below}
 use Rattle.st_draft.specs.declared.draft.Draft.{Draft}
-use Rattle.st_draft.specs.inner.Drafts.{params_put, args_put, with_sides, condition_node, each_of, span_or, typ_filled, notation_filled, condition_filled, exp_filled, count_filled}
-use Rattle.st_draft.specs.inner.Parts.{the_exp, exp_built, all_built, count_with, index_in, redrafted_params, redrafted_args, refilled}
+use Rattle.st_draft.specs.inner.Drafts.{condition_node, each_of, span_or, typ_filled, notation_filled, count_filled}
+use Rattle.st_draft.specs.inner.Parts.{the_exp, exp_built, all_built, count_with, index_in, refilled}
 use Rattle.st_draft.specs.inner.Heights.{height_or, open_height, height_of, IsLow}
 use Rattle.st_draft.proofs.Low.{last_of}
 
@@ -102,12 +102,6 @@ pub built_low : {A : Type 0} (put : A → Draft) (P : A → Type 0) (o : Option 
 built_low put P None next f e l = absurd (cc)
 built_low put P (Some a) next f e l = let same : put a ≡ next = cc in (a, refl, f a (subst IsLow (sym same) l))
 
-pub params_low : (arguments : List (List Action)) (d next : Draft) → redrafted_params arguments d ≡ Some next → IsLow next → (ts : List Typ) × (all_built typ_built arguments ≡ Some ts) × (highest (map typ_height ts) ≤ 100)
-params_low arguments d next = built_low (λ ts. with_sides (params_put ts d.sides) d) (λ ts. highest (map typ_height ts) ≤ 100) (all_built typ_built arguments) next (λ ts l. l.sides.params)
-
-pub args_low : (arguments : List (List Action)) (d next : Draft) → redrafted_args arguments d ≡ Some next → IsLow next → (es : List Exp) × (all_built exp_built arguments ≡ Some es) × (highest (map height es) ≤ 100)
-args_low arguments d next = built_low (λ es. with_sides (args_put es d.sides) d) (λ es. highest (map height es) ≤ 100) (all_built exp_built arguments) next (λ es l. l.sides.args)
-
 field_low : (n : ℕ) (acts : List Action) (words : List (TokenClass × Token)) (d next : Draft) → refilled slot.Field n acts words d ≡ Some next → IsLow next → (t : Typ) × (typ_built acts ≡ Some t) × (typ_height t ≤ 100)
 field_low n acts words d next = built_low (λ t. typ_filled slot.Field t d) (λ t. typ_height t ≤ 100) (typ_built acts) next (λ t l. last_of field_type_height 100 d.members.fields (d.members.label, t) l.members.fields)
 
@@ -124,16 +118,6 @@ pub notation_part_low : (s : Slot) (n : ℕ) (acts : List Action) (words : List 
     → (k : Notation) × (notation_built acts ≡ Some k) × (open_height k ≤ 100)
 notation_part_low s n acts words d next (inl h) e = case_low acts d next (subst (λ q. refilled q n acts words d ≡ Some next) h.1 e)
 notation_part_low s n acts words d next (inr h) e = case_low acts d next (subst (λ q. refilled q n acts words d ≡ Some next) h e)
-
-pub rule_low : (s : Slot) (n : ℕ) (acts : List Action) (words : List (TokenClass × Token)) (d next : Draft) → s ≡ slot.Rule → refilled s n acts words d ≡ Some next → IsLow next → (e : Exp) × (exp_built acts ≡ Some e) × (height e ≤ 100)
-rule_low s n acts words d next h e = built_low (λ x. exp_filled x d) (λ x. height x ≤ 100) (exp_built acts) next (λ x l. l.sides.exp) (subst (λ q. refilled q n acts words d ≡ Some next) h e)
-
-condition_in : (at : Span) (goal : Option (List ℕ)) (e : Exp) → prem_height (prem_at at (condition_node goal e)) ≤ 100 → height e ≤ 100
-condition_in at None e l = let same = tall_if at e in omega (arith, same, l)
-condition_in at (Some name) e l = let same = tall_goal at name e in omega (arith, same, l)
-
-pub condition_low : (s : Slot) (n : ℕ) (acts : List Action) (words : List (TokenClass × Token)) (d next : Draft) → s ≡ slot.Condition → refilled s n acts words d ≡ Some next → IsLow next → (e : Exp) × (exp_built acts ≡ Some e) × (height e ≤ 100)
-condition_low s n acts words d next h e = built_low (λ x. condition_filled x d) (λ x. height x ≤ 100) (exp_built acts) next (λ x l. condition_in d.premises.start d.premises.goal x l.premises.prem) (subst (λ q. refilled q n acts words d ≡ Some next) h e)
 
 count_in : (at : Span) (p : Prem) (index : Option (List ℕ)) (e : Exp) (q : Option Prem) → q ≡ Some p → height_of prem_height (each_of at (count_with index e) q) ≤ 100 → height e ≤ 100
 count_in at p None e q is l =

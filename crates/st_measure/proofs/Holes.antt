@@ -24,9 +24,6 @@ use Rattle.st_measure.specs.inner.Answers.{typ_in, lone_typ}
 abbrev pub is_hole : Notation → Bool
 is_hole n = is_some (lone_typ n)
 
-rolled_hole : (at : Span) (t : Typ) → is_hole (hole at t) ≡ true
-rolled_hole at t = ap (λ n. is_some (typ_in n)) (not_node.outs-Hole t)
-
 seq_is : (at : Span) (ns : List Notation) → is_hole (notation_at at (not_node.Seq ns)) ≡ false
 seq_is at ns = ap (λ n. is_some (typ_in n)) (not_node.outs-Seq ns)
 

@@ -52,9 +52,6 @@ tall_if at e = search (rules, prem_lemmas)
 pub tall_goal : (at : Span) (name : List ℕ) (e : Exp) → prem_height (prem_at at (prem.Goal name e)) ≡ height e + 1
 tall_goal at name e = search (rules, prem_lemmas)
 
-pub tall_otherwise : (at : Span) → prem_height (prem_at at prem.Otherwise) ≡ 1
-tall_otherwise at = search (rules, prem_lemmas)
-
 pub tall_each : (at : Span) (p : Prem) (c : Count) → prem_height (prem_at at (prem.Each p c)) ≡ max (prem_height p) (count_height c) + 1
 tall_each at p c = search (rules, prem_lemmas)
 
@@ -62,9 +59,6 @@ mark_tall : (a b : Bool) → count_height (if a then count.Star else if b then c
 mark_tall true b = search (rules, exp_lemmas)
 mark_tall false true = search (rules, exp_lemmas)
 mark_tall false false = search (rules, exp_lemmas)
-
-pub tall_mark : (m : Mark) → count_height (mark_count m) ≡ 0
-tall_mark m = mark_tall (is_star m) (is_plus m)
 
 pub tall_times : (e : Exp) → count_height (count.Times e) ≡ height e
 tall_times e = search (rules, exp_lemmas)

@@ -1,5 +1,5 @@
 -- What the actions of a part that is cut off build has the variables of what is read of it.
-use Rattle.std.proofs.Common.{◌≡◌, ℕ, ◌≤◌, List, [], ◌∷◌, ◌++◌, flat_map, Bool, true, false, Some, refl, sym, ap, subst, ◌∙◌, append_assoc, append-nil}
+use Rattle.std.proofs.Common.{◌≡◌, ℕ, List, [], ◌∷◌, ◌++◌, flat_map, Bool, true, false, Some, refl, sym, ap, subst, ◌∙◌, append_assoc, append-nil}
 use Rattle.st_num.specs.declared.span.Span.{Span}
 use Rattle.st_num.specs.declared.token.Token.{Token}
 use Rattle.st_grammar.specs.declared.sort.Style.{Style}
@@ -17,7 +17,6 @@ use Rattle.st_el.specs.declared.expression.Node.TheVariants as node
 use Rattle.st_el.specs.declared.expression.Seg.{Seg}
 use Rattle.st_parse_builder.specs.declared.action.Action.{Action}
 use Rattle.st_parse_builder.specs.declared.action.Action.TheVariants as action
-use Rattle.st_parse_builder.specs.declared.piece.Piece.{Piece}
 use Rattle.st_parse_builder.specs.declared.piece.Piece.TheVariants.{Done, Parts, Fields, Path as path_piece, Label, Here}
 use Rattle.st_parse_builder.specs.Names.{name_of}
 use Rattle.st_parse_builder.specs.Meaning.{exp, first_place, label, step_at, meaning, meanings, field_meanings, base, steps}
@@ -26,7 +25,7 @@ use Rattle.st_parse_builder.specs.inner.Building.{Stack, run}
 use Rattle.st_parse_builder.specs.inner.Emission.{index_label, heading_acts, frames_acts, state_acts}
 use Rattle.st_parse_builder.proofs.Builds.{chain, Built, AllBuilt, builds, some_parts, some_items}
 use Rattle.st_measure.specs.Variables.{Occurrence, variables, seg_variables}
-use Rattle.st_measure.specs.inner.Noting.{field_variables, piece_variables, stack_variables}
+use Rattle.st_measure.specs.inner.Noting.{field_variables, stack_variables}
 use Rattle.st_measure.proofs.Occurring.{one_behind, in_call}
 use Rattle.st_parse.specs.Open.{trees_variables, path_variables, heading_variables, lead_variables, frames_variables, part_variables}
 
@@ -122,12 +121,11 @@ abbrev Fills : List Action → Trees → Type 0
 Fills filling ts = (at : Span) (s : Stack) → Adds filling (Fields at [] ∷ s) (trees_variables ts)
 
 fields_add : (σ : Sort) (n : ℕ) (ts : Trees) → EachFits σ fields n ts → Fills (field_acts ts) ts
-fields_add σ n ts f at s =
-    (
-      Fields at (field_meanings ts) ∷ s,
-      put_fields σ n ts (each_built σ fields n ts f) f at [] s,
-      ap (λ vs. stack_variables s ++ vs) (field_same ts) ∙ ap (λ vs. vs ++ trees_variables ts) (sym (append-nil (stack_variables s))),
-    )
+fields_add σ n ts f at s = (
+  Fields at (field_meanings ts) ∷ s,
+  put_fields σ n ts (each_built σ fields n ts f) f at [] s,
+  ap (λ vs. stack_variables s ++ vs) (field_same ts) ∙ ap (λ vs. vs ++ trees_variables ts) (sym (append-nil (stack_variables s))),
+)
 
 named_adds : (ts : Trees) (pre : List Terminal) → SetsOff fields ts pre → (s : Stack) → Adds (label_acts pre) s []
 named_adds ts pre f s = (Label (label pre) ∷ s, labels ts pre f s, refl)
@@ -147,8 +145,7 @@ parts_add at ts s b = (Parts at (meanings ts) ∷ s, put_parts ts b at [] s, ref
 
 named_call : (x : Token) (ts : Trees) (at : Span) (s : Stack) → AllBuilt ts → Adds (action.Operand function x ∷ action.Open at ∷ part_acts ts) s (trees_variables ts)
 named_call x ts at s b =
-    let call : Exp = exp x.at (node.Call (name_of x.kind) []) in
-    (
+    let call : Exp = exp x.at (node.Call (name_of x.kind) []) in (
       Parts at (meanings ts) ∷ Done call ∷ s,
       put_parts ts b at [] (Done call ∷ s),
       ap (λ vs. (stack_variables s ++ vs) ++ trees_variables ts) (in_call x.at (name_of x.kind) []) ∙ ap (λ vs. vs ++ trees_variables ts) (append-nil (stack_variables s)),

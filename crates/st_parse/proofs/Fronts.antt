@@ -1,9 +1,8 @@
 -- The tokens before the first one with a fault, and what is found of them.
 use Rattle.std.proofs.Common.{◌≡◌, ℕ, ◌≤◌, inl, inr, List, length, Option, Some, None, refl, sym, ap, subst, ◌∙◌}
 use Rattle.st_num.specs.declared.span.Span.{Span}
-use Rattle.st_num.specs.declared.rule.RuleId.TheVariants.{S2, S3}
+use Rattle.st_num.specs.declared.rule.RuleId.TheVariants.{S3}
 use Rattle.st_num.specs.declared.token.Token.{Token}
-use Rattle.st_grammar.specs.Definitions.{Defs}
 use Rattle.st_grammar.specs.Positions.{State, finish}
 use Rattle.st_grammar.proofs.PositionTexts.{Holds}
 use Rattle.st_parse_automaton.specs.declared.position.Progress.{Progress}
@@ -28,10 +27,10 @@ use Rattle.st_draft.proofs.BeforeLemmas.{stands_before, ended_is}
 use Rattle.st_parse.specs.declared.kept.Kept.{Kept}
 use Rattle.st_parse.specs.Limits.{variable_past, too_tall, first_that}
 use Rattle.st_parse.specs.Open.{open_variables, first_past}
-use Rattle.st_parse.specs.Source.{Front, Past, IsParsed, IsSource, FaultAt}
+use Rattle.st_parse.specs.Source.{Front, Past, IsParsed, FaultAt}
 use Rattle.st_parse.specs.inner.Kept.{Stands, Keeps, Tells}
 use Rattle.st_parse.specs.inner.Cuts.{Opens, past_in}
-use Rattle.st_parse.specs.inner.Found.{fault_of, Judged, end_of, Built, IsBuilt, Found}
+use Rattle.st_parse.specs.inner.Found.{fault_of, Judged, end_of, Found}
 use Rattle.st_parse.proofs.Sources.{parsed, meant}
 use Rattle.st_parse.proofs.Opens.{opens, past_whole}
 use Rattle.st_parse.proofs.Taking.{Reads, passing, all_read, end_judged}
@@ -147,11 +146,3 @@ many tokens found k at h e = inl ((h.past.0, h.past.1 ∙ e), refl)
 
 pub token_fault : (tokens : List Token) (found : Option TokenFault) (k : Kept) (f : TokenFault) → Found tokens found k → k.variables.past ≡ None → found ≡ Some f → FaultAt tokens (place_at tokens f.token) f.rule
 token_fault tokens found k f h e g = inr (inl ((h.past.0, h.past.1 ∙ e), (f.token, subst (Judged tokens) g h.judged, refl)))
-
-pub tall : (tokens : List Token) (found : Option TokenFault) (k : Kept) (at : Span) → Found tokens found k → k.variables.past ≡ None → found ≡ None → k.tall ≡ Some at → FaultAt tokens at S2
-tall tokens found k at h e g t = let b = h.built g in inr (inr (b.0, b.1, b.2 ∙ e, sym b.3.tall ∙ t, refl))
-
-pub source : (tokens : List Token) (found : Option TokenFault) (k : Kept) → Found tokens found k → k.variables.past ≡ None → found ≡ None → k.tall ≡ None → IsSource tokens k.draft.defs
-source tokens found k h e g t =
-    let b = h.built g in
-    subst (IsSource tokens) (sym (b.3.trees t)) (b.1, (b.2 ∙ e, sym b.3.tall ∙ t))

@@ -1,7 +1,6 @@
 -- What is noted of variables behind parts and changes.
-use Rattle.std.proofs.Common.{◌≡◌, ℕ, ◌+◌, ◌<◌, List, [], ◌∷◌, ◌++◌, length, get_or, take, drop, map, flat_map, Bool, true, false, ◌⊎◌, inl, inr, Option, Some, None, option_map, option_and_then, Result, Ok, Err, IfOk, OnOk, refl, sym, ap, subst, ◌∙◌, append_assoc, append-nil}
+use Rattle.std.proofs.Common.{◌≡◌, ℕ, ◌+◌, ◌<◌, List, [], ◌∷◌, ◌++◌, length, get_or, take, drop, flat_map, Bool, true, false, ◌⊎◌, inl, inr, Option, Some, None, option_map, Result, Ok, Err, IfOk, OnOk, refl, sym, ap, subst, ◌∙◌, append_assoc, append-nil}
 use Rattle.std.specs.Option.{option_or}
-use Rattle.std.proofs.lemmas.List.{take_more}
 use Rattle.st_num.specs.declared.limit.TheConstants.{MOST_PREMISES}
 use Rattle.st_num.specs.declared.memory.NoMemory.{NoMemory}
 use Rattle.st_num.specs.declared.mark.Mark.{Mark}
@@ -17,7 +16,7 @@ use Rattle.st_el.specs.declared.expression.Exp.{Exp}
 use Rattle.st_el.specs.declared.expression.Count.{Count}
 use Rattle.st_el.specs.declared.definition.Def.{Def}
 use Rattle.st_el.specs.declared.definition.DefNode.{DefNode}
-use Rattle.st_el.specs.declared.definition.Prem.{Prem, out-Prem}
+use Rattle.st_el.specs.declared.definition.Prem.{Prem}
 use Rattle.st_el.specs.declared.definition.PremNode.TheVariants as prem
 use Rattle.st_el.specs.Plain.{nowhere}
 use Rattle.st_parse_builder.specs.declared.action.Action.{Action}
@@ -39,7 +38,7 @@ use Rattle.st_draft.specs.inner.Parts.{exp_built, all_built, count_with, index_i
 use Rattle.st_draft.specs.inner.Drafts.{whole_prem, condition_node, each_of, shape_count, node_of, def_put, ended, begun, with_sides, params_put, args_put, typ_filled, notation_filled, exp_filled, condition_filled, count_filled}
 use Rattle.st_draft.specs.inner.Ready.{in_some, told, asked, Ends, MayEnd, Ready, Awaits}
 use Rattle.st_draft.proofs.Endings.{open_behind}
-use Rattle.st_draft.proofs.Arguments.{IsBehind, next_built}
+use Rattle.st_draft.proofs.Arguments.{next_built}
 use Rattle.st_draft.proofs.Faults.{exp_run as built_run}
 use Rattle.st_parse.specs.declared.variables.Variables.{Variables}
 use Rattle.st_parse.specs.Limits.{variable_past, first_that}
@@ -102,9 +101,6 @@ counted (Ok z) o e old left new l n =
     n ∙ ap (λ vs. vs ++ variables e) l ∙ ap (λ vs. without (times (count_with o e)).index old ++ vs) (sym (count_in o e))
 
 -- ---- several arguments
-
-pub none_built : (start : List Occurrence) (es : List Exp) → all_built exp_built [] ≡ Some es → start ≡ start ++ flat_map variables es
-none_built start es e = let none : [] ≡ es = some_is e in sym (ap (λ ds. start ++ flat_map variables ds) (sym none) ∙ append-nil start)
 
 pub next_argument : (arguments : List (List Action)) (i : ℕ) (actions : List Action) (es : List Exp) (start old new : List Occurrence) → i < length arguments → actions ≡ get_or arguments i actions
     → all_built exp_built (take (i + 1) arguments) ≡ Some es

@@ -1,42 +1,34 @@
 -- The variables of what stands open are those of the draft and of the part that is read.
-use Rattle.std.proofs.Common.{◌≡◌, List, [], ◌++◌, length, flat_map, Option, Some, None, option_map, option_and_then, refl, sym, ap, subst, ◌∙◌, append-nil}
-use Rattle.std.specs.Option.{option_or}
-use Rattle.st_num.specs.declared.limit.TheConstants.{MOST_PREMISES}
+use Rattle.std.proofs.Common.{◌≡◌, [], ◌++◌, flat_map, Option, Some, None, option_map, option_and_then, refl, sym, ap, subst, ◌∙◌, append-nil}
 use Rattle.st_grammar.specs.Trees.{Tree}
 use Rattle.st_grammar.specs.Reading as part
 use Rattle.st_grammar.specs.Definitions.{Hints, Defs}
 use Rattle.st_grammar.specs.Positions.{Head, syntax_head, Rule, rule_head, clause_head, Host, of_syntax, of_field, of_case, of_var, of_relation, of_notation, of_fun, Slot, field_slot, case_slot, var_slot, notation_slot, fun_slot, arg_slot, rule_slot, cond_slot, count_slot, Position, between, syntax_name, var_name, var_colon, relation_name, rule_name, rule_colon, fun_name, fun_named, argued, args_closed, syntax_id, rule_id, hinted, hint_open, hint_name, hint_words, entering, dotted, field_name, premised, premise_open, goal_colon, iterated, State, at, inside, filled, whole, finish}
-use Rattle.st_grammar.proofs.PositionTexts.{Holds, PositionHolds}
+use Rattle.st_grammar.proofs.PositionTexts.{Holds}
 use Rattle.st_grammar.proofs.PositionReading.{filled_reached}
-use Rattle.st_parse_automaton.specs.declared.part_automaton.Part.{Part}
-use Rattle.st_parse_automaton.specs.inner.DefinitionAutomaton as definitions
 use Rattle.st_parse_automaton.proofs.View as view
 use Rattle.st_parse_automaton.proofs.View.{part_of}
 use Rattle.st_parse_automaton.proofs.Simulation as simulation
 use Rattle.st_parse_automaton.proofs.DefinitionView.{position_of, slot_of, slot_open, definitions_of}
 use Rattle.st_el.specs.declared.expression.Exp.{Exp}
-use Rattle.st_el.specs.declared.definition.Prem.{Prem}
-use Rattle.st_el.specs.declared.definition.Def.{Def}
 use Rattle.st_parse_builder.specs.Meaning.{meaning}
 use Rattle.st_parse_builder.specs.Definitions.{patterns, defs_meaning}
 use Rattle.st_parse_builder.specs.inner.Building.{Stack}
-use Rattle.st_measure.specs.Variables.{Occurrence, variables, prem_variables}
-use Rattle.st_measure.specs.Limits.{place_past}
+use Rattle.st_measure.specs.Variables.{variables, prem_variables}
 use Rattle.st_measure.specs.inner.Noting.{stack_variables}
 use Rattle.st_draft.specs.declared.draft.Members.{Members as Body}
 use Rattle.st_draft.specs.declared.draft.Premises.{Premises as Prems}
-use Rattle.st_draft.specs.Before.{slot_before, position_before, before}
+use Rattle.st_draft.specs.Before.{slot_before, position_before}
 use Rattle.st_draft.specs.inner.Changes.{ending_of}
-use Rattle.st_draft.specs.inner.Drafts.{premises_so_far, ended}
-use Rattle.st_draft.specs.inner.Ready.{in_some, told, asked, MayEnd}
-use Rattle.st_draft.specs.inner.Work.{Work}
+use Rattle.st_draft.specs.inner.Drafts.{premises_so_far}
+use Rattle.st_draft.specs.inner.Ready.{in_some, told, asked}
 use Rattle.st_draft.proofs.DraftOf.{host_draft, head_draft, rule_draft, slot_draft, position_draft}
 use Rattle.st_draft.proofs.WorkSteps.{state_work}
 use Rattle.st_draft.proofs.WorkEnds.{part_ends}
 use Rattle.st_draft.proofs.WorkPositions.{slot_awaits, closes}
 use Rattle.st_draft.proofs.BeforeLemmas.{stands_before, ended_is}
 use Rattle.st_parse.specs.Limits.{variable_past, first_that}
-use Rattle.st_parse.specs.Open.{head_variables, rule_variables, slot_variables, position_variables, cut_variables, inside_variables, open_variables, part_variables, first_past}
+use Rattle.st_parse.specs.Open.{head_variables, slot_variables, position_variables, cut_variables, inside_variables, open_variables, part_variables, first_past}
 use Rattle.st_parse.specs.inner.Cuts.{cut, of_open, Parted, Opens, past_in}
 use Rattle.st_parse.proofs.Notes.{some_is, past_ended}
 use Rattle.st_parse.proofs.Cut.{part_adds}
@@ -145,8 +137,7 @@ filled_defs s st t = stands_before (at (filled s t)) ∙ ap defs_meaning (filled
 parted : (s : Slot) (st : part.State) (q : Option Tree) → Holds (inside s st) → part.finish st ≡ q
     → Parted (slot_of s) (view.state_of st) (slot_open s) (state_work (inside s st)) (inside_variables s st q) (option_map part_of q)
 parted s st None h e =
-    let adds = part_adds st h.1 in
-    (
+    let adds = part_adds st h.1 in (
       adds.0,
       adds.1,
       ap (λ vs. of_open (slot_draft s) ++ vs) (cut_is s adds.0 ∙ ap (cut_variables s) adds.2) ∙ ap (λ vs. vs ++ cut_variables s (part_variables st)) (slot_has s),

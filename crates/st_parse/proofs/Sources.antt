@@ -1,10 +1,9 @@
 -- Tokens without a fault mean the definitions that they are read as.
-use Rattle.std.proofs.Common.{◌≡◌, List, length, map, Some, refl, sym, ap, subst, ◌∙◌, arith}
+use Rattle.std.proofs.Common.{◌≡◌, List, length, map, Some, refl, sym, ap, ◌∙◌, arith}
 use Rattle.std.proofs.lemmas.List.{take_all, length-map}
 use Rattle.st_num.specs.declared.token.Token.{Token}
 use Rattle.st_grammar.specs.Terminals.{terminal, declared_names}
-use Rattle.st_grammar.specs.Definitions.{Defs}
-use Rattle.st_grammar.specs.Positions.{State, reading, start, finish}
+use Rattle.st_grammar.specs.Positions.{reading, start}
 use Rattle.st_grammar.proofs.PositionReading.{sound_defs}
 use Rattle.st_grammar.proofs.PositionComplete.{one_list_of_defs}
 use Rattle.st_parse_automaton.specs.Refusal.{terminals_of}

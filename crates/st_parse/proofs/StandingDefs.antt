@@ -1,5 +1,5 @@
 -- The variables of definitions stand at tokens of their text, and so do the definitions.
-use Rattle.std.proofs.Common.{◌≡◌, ℕ, ◌-◌, List, [], ◌∷◌, ◌++◌, flat_map, map, zero, suc, Bool, true, false, nat_lt, Option, Some, None, sym, ap, ◌∙◌, subst, if◌then◌else◌}
+use Rattle.std.proofs.Common.{◌≡◌, ℕ, List, [], ◌∷◌, ◌++◌, flat_map, map, zero, suc, Bool, true, false, nat_lt, Option, Some, None, sym, ap, ◌∙◌, subst, if◌then◌else◌}
 use Rattle.std.specs.Prelude.{slice_get, not}
 use Rattle.std.specs.Option.{option_or}
 use Rattle.st_num.specs.declared.limit.TheConstants.{HIGHEST_TREE, MOST_PREMISES}

@@ -4,11 +4,11 @@ use Rattle.st_num.specs.declared.span.Span.{Span}
 use Rattle.st_grammar.specs.declared.sort.Leaf.TheVariants.{Low as low}
 use Rattle.st_grammar.specs.declared.sort.Bracket.TheVariants.{Round as round, Square as square}
 use Rattle.st_grammar.specs.Terminals.{Terminal, leaf, sign, opening}
-use Rattle.st_grammar.specs.Trees.{Tree, Lead, left, ahead, items, Trees, Heading, plain, length, arguments, index, segment, update, below, Path, text, lead_text, texts, heading_text, path_text}
+use Rattle.st_grammar.specs.Trees.{Tree, Lead, left, ahead, items, Heading, plain, length, arguments, index, segment, update, below, Path, text, lead_text, texts, heading_text, path_text}
 use Rattle.st_grammar.specs.Definitions.{args_text, Iterations, iterations_text, Premises, premises_text, defs_text}
 use Rattle.st_grammar.specs.Reading as part
 use Rattle.st_grammar.specs.Reading.{Frames, bottom, within, over, timing, want, got, naming, pathed, indexing, comparing}
-use Rattle.st_grammar.specs.Positions.{Head, syntax_head, Rule, rule_head, clause_head, Host, of_syntax, of_field, of_case, of_var, of_relation, of_notation, of_fun, Slot, field_slot, case_slot, var_slot, notation_slot, fun_slot, arg_slot, rule_slot, cond_slot, count_slot, Position, between, syntax_name, var_name, var_colon, relation_name, rule_name, rule_colon, fun_name, fun_named, argued, args_closed, syntax_id, rule_id, hinted, hint_open, hint_name, hint_words, entering, dotted, field_name, premised, premise_open, goal_colon, iterated, State, at, inside, filled}
+use Rattle.st_grammar.specs.Positions.{Rule, rule_head, clause_head, Slot, field_slot, case_slot, var_slot, notation_slot, fun_slot, arg_slot, rule_slot, cond_slot, count_slot, Position, between, syntax_name, var_name, var_colon, relation_name, rule_name, rule_colon, fun_name, fun_named, argued, args_closed, syntax_id, rule_id, hinted, hint_open, hint_name, hint_words, entering, dotted, field_name, premised, premise_open, goal_colon, iterated, State, at, inside, filled}
 use Rattle.st_grammar.proofs.Sound as sound
 use Rattle.st_grammar.proofs.Sound.{frames_text}
 use Rattle.st_grammar.proofs.PositionTexts.{rule_text, ruled_text, slot_text, position_text, seen, Holds, filled_text}

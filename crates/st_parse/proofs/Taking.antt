@@ -1,10 +1,10 @@
 -- The loop over the tokens: each is judged, and then taken.
-use Rattle.std.proofs.Common.{◌≡◌, ℕ, ◌+◌, ◌≤◌, ◌<◌, List, [], ◌∷◌, ◌++◌, length, take, map, get_or, Bool, true, false, if◌then◌else◌, Option, Some, None, refl, sym, ap, subst, ◌∙◌, arith}
+use Rattle.std.proofs.Common.{◌≡◌, ℕ, ◌+◌, ◌≤◌, ◌<◌, List, [], length, take, get_or, Bool, true, false, if◌then◌else◌, Option, Some, None, refl, sym, ap, subst, ◌∙◌}
 use Rattle.st_num.specs.declared.rule.RuleId.TheVariants.{S1}
 use Rattle.st_num.specs.declared.token.Token.{Token}
 use Rattle.st_grammar.specs.Terminals.{Terminal, terminal, declared_names}
 use Rattle.st_grammar.specs.Definitions.{token_in}
-use Rattle.st_grammar.specs.Positions.{State, step, reading, start}
+use Rattle.st_grammar.specs.Positions.{step, reading, start}
 use Rattle.st_grammar.proofs.TerminalTokens.{terminal_token}
 use Rattle.st_parse_automaton.specs.Refusal.{terminals_of}
 use Rattle.st_parse_automaton.specs.declared.position.TokenClass.{TokenClass}
@@ -19,7 +19,7 @@ use Rattle.st_parse_faults.specs.declared.judge.TokenVerdict.{TokenVerdict as Co
 use Rattle.st_parse_faults.specs.declared.judge.TokenVerdict.TheVariants as code
 use Rattle.st_parse_faults.specs.declared.fault.TokenFault.{TokenFault}
 use Rattle.st_parse_faults.specs.Judging.{passed}
-use Rattle.st_parse_faults.specs.Faults.{Seen, judge, verdict, nothing_seen, Faultless}
+use Rattle.st_parse_faults.specs.Faults.{Seen, judge, verdict, nothing_seen}
 use Rattle.st_parse_faults.specs.inner.Seen as seen
 use Rattle.st_parse_faults.proofs.SeenView.{summary}
 use Rattle.st_parse_faults.proofs.JudgingLemmas as judging

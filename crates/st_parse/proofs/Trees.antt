@@ -1,6 +1,5 @@
 -- The trees that are kept behind parts and changes.
-use Rattle.std.proofs.Common.{◌≡◌, ℕ, ◌+◌, ◌≤◌, List, [], ◌∷◌, ◌++◌, map, Bool, true, false, nat_lt, if◌then◌else◌, ◌⊎◌, inl, inr, Option, Some, None, option_map, option_and_then, refl, sym, ap, subst, ◌∙◌, append-nil, arith}
-use Rattle.std.specs.Prelude.{max}
+use Rattle.std.proofs.Common.{◌≡◌, ℕ, ◌≤◌, List, [], ◌∷◌, ◌++◌, map, Bool, true, false, nat_lt, if◌then◌else◌, inl, inr, Option, Some, None, refl, sym, ap, subst, ◌∙◌, arith}
 use Rattle.std.specs.Option.{option_or}
 use Rattle.st_num.specs.declared.limit.TheConstants.{HIGHEST_TREE}
 use Rattle.st_num.specs.declared.span.Span.{Span}
@@ -15,14 +14,14 @@ use Rattle.st_el.specs.declared.expression.Exp.{Exp}
 use Rattle.st_el.specs.declared.expression.Count.{Count}
 use Rattle.st_el.specs.declared.definition.Def.{Def}
 use Rattle.st_el.specs.declared.definition.DefNode.{DefNode}
-use Rattle.st_el.specs.declared.definition.Prem.{Prem, out-Prem}
+use Rattle.st_el.specs.declared.definition.Prem.{Prem}
 use Rattle.st_el.specs.declared.definition.PremNode.TheVariants as prem
 use Rattle.st_el.specs.Plain.{nowhere}
 use Rattle.st_parse_builder.specs.declared.action.Action.{Action}
 use Rattle.st_parse_builder.specs.Heights.{highest, height, typ_height}
 use Rattle.st_parse_builder.specs.inner.NotationBuilding.{typ_built, notation_built}
 use Rattle.st_parse_builder.specs.Definitions.{prem_at}
-use Rattle.st_measure.specs.DefHeights.{prem_height, field_type_height, def_node_height, def_height}
+use Rattle.st_measure.specs.DefHeights.{prem_height, field_type_height, def_node_height}
 use Rattle.st_measure.proofs.Premises.{tall_each}
 use Rattle.st_draft.specs.declared.change.Change.{Change}
 use Rattle.st_draft.specs.declared.change.Change.TheVariants as change
@@ -30,7 +29,7 @@ use Rattle.st_draft.specs.declared.change.DefinitionEnd.{DefinitionEnd}
 use Rattle.st_draft.specs.declared.change.DefinitionEnd.TheVariants as ending
 use Rattle.st_draft.specs.declared.draft.Draft.{Draft}
 use Rattle.st_draft.specs.inner.Parts.{exp_built, all_built, count_with, index_in, redrafted, refilled}
-use Rattle.st_draft.specs.inner.Drafts.{whole_prem, each_of, span_or, shape_count, node_of, def_put, ended, begun, with_sides, params_put, args_put, typ_filled, notation_filled, exp_filled, condition_filled, count_filled}
+use Rattle.st_draft.specs.inner.Drafts.{each_of, shape_count, node_of, def_put, ended, begun, with_sides, params_put, args_put, typ_filled, notation_filled, exp_filled, condition_filled, count_filled}
 use Rattle.st_draft.specs.inner.Heights.{open_height, height_of, IsLow}
 use Rattle.st_draft.specs.inner.Ready.{Ends, MayEnd, Ready, Awaits}
 use Rattle.st_draft.proofs.Low.{front_of}
@@ -67,10 +66,6 @@ ended_tall e d h = go (node_of e d.head d.members d.sides d.premises)
         first_behind too_tall d.defs def ∙ ap (λ o. option_or o (too_tall def)) h ∙ sym (last_behind d.defs def)
 
 -- ---- a definition that is too high
-
--- a tree of the open definition is too high, and none is before it
-high_open : (at : Span) (d : Draft) → first_that too_tall d.defs ≡ None → d.head.at ≡ at → (IsLow d → ⊥) → IsHigh at d
-high_open at d h a l = inr (h, a, l)
 
 -- What changes no definition and no place keeps it, where it drops no tree.
 high_same : (at : Span) (d e : Draft) → e.defs ≡ d.defs → e.head.at ≡ d.head.at → (IsLow e → IsLow d) → IsHigh at d → IsHigh at e

@@ -26,21 +26,18 @@ use Rattle.st_parse_builder.specs.declared.action.Action.{Action}
 use Rattle.st_parse_builder.specs.inner.Building.{Stack, run}
 use Rattle.st_measure.specs.Variables.{Occurrence, occurrences}
 use Rattle.st_measure.specs.Limits.{place_past}
-use Rattle.st_parse_actions.specs.inner.Emits.{finishing}
 use Rattle.st_parse_faults.specs.inner.Roles.{none_open}
 use Rattle.st_measure.specs.inner.Noting.{stack_variables}
-use Rattle.st_draft.specs.declared.change.DefinitionEnd.{DefinitionEnd}
 use Rattle.st_draft.specs.declared.draft.Draft.{Draft}
 use Rattle.st_draft.specs.declared.parts.Parts.{Parts}
-use Rattle.st_draft.specs.declared.parts.PartToken.{PartToken}
 use Rattle.st_draft.specs.inner.Changes.{change_of, ending_of}
 use Rattle.st_draft.specs.inner.Drafts.{arguments_after, ended}
-use Rattle.st_draft.specs.inner.Parts.{word_of, redrafted, refilled}
+use Rattle.st_draft.specs.inner.Parts.{word_of, redrafted}
 use Rattle.st_draft.specs.inner.Ready.{told, MayEnd, Ready, Awaits}
-use Rattle.st_draft.specs.inner.Work.{Work, work_of, part_work, redrafted_work, position_work, arguments_with, filled_work, goes_on, taken_work, work_after, MayLeave, MayTake, ended_defs, MayClose}
+use Rattle.st_draft.specs.inner.Work.{Work, work_of, part_work, redrafted_work, position_work, filled_work, goes_on, taken_work, work_after, MayLeave, MayTake, ended_defs, MayClose}
 use Rattle.st_parse.specs.declared.kept.Kept.{Kept}
 use Rattle.st_parse.specs.declared.variables.Variables.{Variables}
-use Rattle.st_parse.specs.inner.Kept.{Notes, Draws, Keeps, Tells}
+use Rattle.st_parse.specs.inner.Kept.{Notes, Draws, Keeps}
 use Rattle.st_parse.specs.inner.Cuts.{in_rule, cut, of_open, past_in, Counts, Parted, Opens}
 use Rattle.st_parse.proofs.Notes.{mapped, some_is}
 
@@ -75,7 +72,7 @@ last_open [] f = refl
 last_open (g ∷ xs) f = refl
 
 frames_open : (fs : List Frame) (b : Bool) → (IsTrue b → fs ≡ []) → (fs ≡ [] → IsTrue b) → not b ≡ not (none_open (Operand, reverse fs))
-frames_open fs true h k = let none : fs ≡ [] = h tt in ap (λ ys. not (none_open (Operand, reverse ys))) (sym none)
+frames_open fs true h k = let none : fs ≡ [] = h refl in ap (λ ys. not (none_open (Operand, reverse ys))) (sym none)
 frames_open [] false h k = let never : false ≡ true = k refl in absurd (cc)
 frames_open (f ∷ fs) false h k = ap not (sym (ap (λ ys. none_open (Operand, ys)) (reverse-append (f ∷ []) fs) ∙ last_open (reverse fs) f))
 
@@ -145,24 +142,6 @@ redrafted_keeps kept new p q b a next position l x given h ready e is changes gi
 
 -- ---- a part ends
 
-pub filled_keeps : (kept new : Kept) (p q : Parts) (b a : Work) (slot : Slot) (n : ℕ) (st : parts.State) (acts : List Action) (words : List PartToken) → Keeps kept p b → Awaits slot b.draft → filled_work slot n st b ≡ Some a
-    → acts ≡ p.actions ++ finishing st → words ≡ p.words
-    → ((d e : Draft) → Draws kept d → Awaits slot d → refilled slot n acts (map word_of words) d ≡ Some e → Draws new e)
-    → q.arguments ≡ arguments_with slot acts p.arguments → q.actions ≡ [] → q.marks ≡ [] → q.words ≡ [] → Keeps new q a
-filled_keeps kept new p q b a slot n st acts words h awaits e acted worded fills given_up none unmarked unworded =
-    let all : acts ≡ b.actions ++ finishing st = acted ∙ ap (λ (w : Work). w.actions ++ finishing st) h.same in
-    let said : map word_of words ≡ b.words = ap (map word_of) worded ∙ ap (λ (w : Work). w.words) h.same in
-    let given = b.actions ++ finishing st in
-    let m = mapped Draft Work (λ d. work d (arguments_with slot given b.arguments) [] [] []) (refilled slot n given b.words b.draft) a e in
-    subst (Keeps new q) m.2 (record {
-      drawn = fills b.draft m.0 h.drawn awaits (ap (λ y. refilled slot n y (map word_of words) b.draft) all ∙ ap (λ y. refilled slot n given y b.draft) said ∙ m.1);
-      same = same_work m.0 q.arguments (arguments_with slot given b.arguments) q.actions [] (reverse q.marks) [] (map word_of q.words) []
-          (given_up ∙ ap (λ y. arguments_with slot y p.arguments) all ∙ ap (λ (w : Work). arguments_with slot given w.arguments) h.same)
-          none
-          (ap reverse unmarked)
-          (ap (map word_of) unworded);
-    })
-
 -- ---- each token
 
 pub on_keeps : (from next : definitions.State) (slot : Slot) (st : parts.State) (ks : List Bracket) (l : TokenClass) (x : Token) (b a : Work) → from ≡ definitions.inside slot st ks → goes_on next ≡ true → work_after from next l x b ≡ Some a
@@ -188,16 +167,6 @@ behind from next slot st ks l x part b a is off ends may e =
     ∙ ap (λ f. work_after f next l x b) (sym is) ∙ e in
     let m = chained Work Work (position_work next (definitions.filled slot part) l x) (filled_work slot (length ks) st b) a worked in
     record { mid = m.0; awaits = asked.0; filled = m.1; ready = asked.1 part m.0 ends m.1; leads = m.2 }
-
--- a token that leads on ends the part or goes on with it
-pub ends_or : (from next : definitions.State) (slot : Slot) (st : parts.State) (ks : List Bracket) (l : TokenClass) (x : Token) (b a : Work) → from ≡ definitions.inside slot st ks → goes_on next ≡ false → parts.finish st ≡ None
-    → work_after from next l x b ≡ Some a → ⊥
-ends_or from next slot st ks l x b a is off none e =
-    let no : None ≡ Some a =
-    ap (λ o. taken_work false slot st ks next l x b o) (sym none)
-    ∙ ap (λ o. taken_work o slot st ks next l x b (parts.finish st)) (sym off)
-    ∙ ap (λ f. work_after f next l x b) (sym is) ∙ e in
-    absurd (cc)
 
 -- ---- what is cut off
 
@@ -245,12 +214,6 @@ opened_or (code.Inside s r ks) k q w vs never h o = absurd (never s r ks refl)
 
 -- ---- the end
 
-pub closed_at : (from : definitions.State) (p : Position) (ks : List Bracket) (kept new : Kept) (q : Parts) (w : Work) (defs : List Def) → from ≡ definitions.at p ks → Keeps kept q w → MayClose from w → ended_defs from w ≡ Some defs
-    → ((d : Draft) → Draws kept d → MayEnd (ending_of p) d → Tells new (ended (ending_of p) d)) → Tells new defs
-closed_at from p ks kept new q w defs is h may e ends =
-    let done : ended (ending_of p) w.draft ≡ defs = some_is (ap (λ f. ended_defs f w) (sym is) ∙ e) in
-    subst (Tells new) done (ends w.draft h.drawn (subst (λ f. MayClose f w) is may))
-
 -- where a part is open at the end
 pub record Closes (slot : Slot) (st : parts.State) (ks : List Bracket) (part : Part) (b : Work) (defs : List Def) : Type 0 where
   pub mid : Work
@@ -268,11 +231,3 @@ closes from slot st ks part b defs is ends may e =
     ∙ ap (λ f. ended_defs f b) (sym is) ∙ e in
     let m = mapped Work (List Def) (λ v. ended (ending_of (definitions.filled slot part)) v.draft) (filled_work slot (length ks) st b) defs worked in
     record { mid = m.0; awaits = asked.0; filled = m.1; may = asked.1 part m.0 ends m.1; done = m.2 }
-
--- a part is open, and may end
-pub ends_not : (from : definitions.State) (slot : Slot) (st : parts.State) (ks : List Bracket) (b : Work) (defs : List Def) → from ≡ definitions.inside slot st ks → parts.finish st ≡ None → ended_defs from b ≡ Some defs → ⊥
-ends_not from slot st ks b defs is none e =
-    let no : None ≡ Some defs =
-    ap (option_and_then (λ y. option_map (λ v. ended (ending_of (definitions.filled slot y)) v.draft) (filled_work slot (length ks) st b))) (sym none)
-    ∙ ap (λ f. ended_defs f b) (sym is) ∙ e in
-    absurd (cc)
