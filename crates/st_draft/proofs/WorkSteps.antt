@@ -10,16 +10,12 @@ use Rattle.st_grammar.proofs.Sound as sound
 use Rattle.st_grammar.proofs.Steps as inner
 use Rattle.st_grammar.proofs.PositionTexts.{Holds}
 use Rattle.st_parse_automaton.specs.declared.position.TokenClass.{TokenClass}
-use Rattle.st_parse_automaton.specs.inner.Shapes.{shape, class_of}
-use Rattle.st_parse_automaton.specs.inner.DefinitionAutomaton as definitions
-use Rattle.st_parse_automaton.proofs.View as view
-use Rattle.st_parse_automaton.proofs.DefinitionView.{slot_of, slot_sort_is}
+use Rattle.st_parse_automaton.specs.inner.Shapes.{class_of}
+use Rattle.st_parse_automaton.proofs.DefinitionView.{slot_of}
 use Rattle.st_parse_builder.specs.declared.action.Action.{Action}
-use Rattle.st_parse_builder.specs.inner.Emission.{state_acts}
+use Rattle.st_parse_builder.specs.inner.Emission.{state_acts, emitted}
 use Rattle.st_parse_builder.proofs.Emission.{emits_next}
-use Rattle.st_parse_automaton.specs.inner.PartAutomaton.{emits}
-use Rattle.st_parse_automaton.proofs.Simulation.{emits_is}
-use Rattle.st_draft.specs.inner.Work.{Work, words_after, part_work}
+use Rattle.st_draft.specs.inner.Work.{Work, words_after, worded_work, added_work}
 use Rattle.st_draft.proofs.DraftOf.{position_draft, slot_draft, arguments_acts, args_acts, position_args, slot_args}
 
 abbrev pub word : terminals.Terminal → TokenClass × Token
@@ -64,12 +60,10 @@ words_more (count_slot r t ps d os ls u i k) us l = map-append word us (l ∷ []
 reached : (o : Option part.State) (us : List terminals.Terminal) (σ : _) (next : part.State) → o ≡ Some next → sound.ReachedBy σ us o → sound.seen next ≡ us
 reached o us σ next e r = (subst (sound.ReachedBy σ us) e r).spelled
 
-pub goes_on : (s : Slot) (st : part.State) (l : terminals.Terminal) (next : part.State) → Holds (inside s st) → part.step st l ≡ Some next
-    → part_work (slot_of s) (view.state_of st) (class_of l) (token_in l) (state_work (inside s st)) ≡ state_work (inside s next)
-goes_on s st l next h e =
-    let base : definitions.slot_sort (slot_of s) ≡ sound.state_base st = slot_sort_is s ∙ sym h.2 in
-    let acted : state_acts st ++ emits (definitions.slot_sort (slot_of s)) (view.state_of st) (shape l) (token_in l) ≡ state_acts next =
-    ap (λ σ. state_acts st ++ emits σ (view.state_of st) (shape l) (token_in l)) base ∙ ap (λ a. state_acts st ++ a) (emits_is st l next h.1 e) ∙ sym (emits_next st l next e) in
+pub goes_on : (s : Slot) (st : part.State) (l : terminals.Terminal) (next : part.State) (acts : List Action) → Holds (inside s st) → part.step st l ≡ Some next → acts ≡ emitted st l
+    → worded_work (slot_of s) (class_of l) (token_in l) (added_work acts (state_work (inside s st))) ≡ state_work (inside s next)
+goes_on s st l next acts h e i =
+    let acted : state_acts st ++ acts ≡ state_acts next = ap (λ a. state_acts st ++ a) i ∙ sym (emits_next st l next e) in
     let worded : words_after (slot_of s) (class_of l) (token_in l) (slot_words s (sound.seen st)) ≡ slot_words s (sound.seen next) =
     sym (words_more s (sound.seen st) l) ∙ ap (slot_words s) (sym (reached (part.step st l) _ _ next e (inner.steps st l h.1))) in
     ap (λ a. slot_work s a (words_after (slot_of s) (class_of l) (token_in l) (slot_words s (sound.seen st)))) acted

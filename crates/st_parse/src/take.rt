@@ -1,16 +1,14 @@
 //! What a token makes of what is kept, once it is known where it leads.
 
-ghost use Rattle.std.specs.Prelude.{◌≡◌, [], map, length, List, Some, IfOk};
+ghost use Rattle.std.specs.Prelude.{◌≡◌, [], length, List, Some, IfOk};
 ghost use Rattle.st_el.specs.declared.definition.Def.{Def};
 ghost use Rattle.st_grammar.specs.declared.sort.Bracket.{Bracket};
 ghost use Rattle.st_parse_automaton.specs.inner.PartAutomaton as automaton;
-ghost use Rattle.st_parse_automaton.specs.inner.DefinitionAutomaton as definitions;
 ghost use Rattle.st_parse_automaton.specs.inner.Readings.{progress_of, reading_of};
 ghost use Rattle.st_measure.specs.Variables.{Occurrence};
 ghost use Rattle.st_draft.specs.declared.draft.Draft.{Draft};
 ghost use Rattle.st_draft.specs.inner.Changes.{change_of};
 ghost use Rattle.st_draft.specs.inner.Drafts.{arguments_after};
-ghost use Rattle.st_draft.specs.inner.Parts.{word_of};
 ghost use Rattle.st_draft.specs.inner.Ready.{Ready, Awaits};
 ghost use Rattle.st_draft.specs.inner.Work as spec;
 ghost use Rattle.st_draft.specs.inner.Work.{Work};
@@ -33,18 +31,37 @@ fn keep_word<'a>(
     slot: Slot,
     class: TokenClass,
     token: &'a Token,
-    words: &mut Row<PartToken<'a>>,
+    parts: &mut Parts<'a>,
 ) -> Result<(), NoMemory>
-    ensures { IfOk result (λ _. map word_of words.new
-        ≡ spec.words_after slot class token.now (map word_of words.old)) }
+    ensures { (draft : Draft) → IfOk result (λ _. spec.work_of draft parts.new
+        ≡ spec.worded_work slot class token.now (spec.work_of draft parts.old)) }
 {
     match slot {
-        Slot::Count => words.push(PartToken {
+        Slot::Count => parts.words.push(PartToken {
             class,
             token: TokenRef::new(token),
         }),
         _ => Ok(()),
     }
+}
+
+/// Adds these actions to those of the part.
+fn add<'a>(alloc: Global, added: Row<Action<'a>>, parts: &mut Parts<'a>) -> Result<(), NoMemory>
+    ensures { (draft : Draft) → IfOk result (λ _. spec.work_of draft parts.new
+        ≡ spec.added_work added.entry (spec.work_of draft parts.old)) }
+{
+    let actions = replace(&mut parts.actions, Row::new(alloc));
+    parts.actions = with_actions(actions, added)?;
+    Ok(())
+}
+
+/// Adds the actions of the end of the part.
+fn add_end<'a>(reading: &Reading, parts: &mut Parts<'a>) -> Result<(), NoMemory>
+    ensures { (draft : Draft) → IfOk result (λ _. spec.work_of draft parts.new
+        ≡ spec.added_work (automaton.finishing (reading_of reading.now))
+        (spec.work_of draft parts.old)) }
+{
+    end(reading, &mut parts.actions)
 }
 
 /// The arguments are given up where they are built.
@@ -116,7 +133,32 @@ fn end_part<'a>(
     give_up(alloc, slot, parts)
 }
 
-/// Takes a token that stands so before it leads there, and adds these actions.
+/// Takes a token that stands so and leads there, where its actions are there.
+fn turn<'a>(
+    alloc: Global,
+    advance: Advance,
+    next: &Progress,
+    class: TokenClass,
+    token: &'a Token,
+    kept: &mut Kept<'a>,
+    parts: &mut Parts<'a>,
+) -> Result<(), NoMemory>
+    ensures { (before after : Work) → Keeps kept.old parts.old before
+        → spec.MayTurn advance (progress_of next.now) before
+        → spec.turned_work advance (progress_of next.now) class token.now before ≡ Some after
+        → IfOk result (λ _. Keeps kept.new parts.new after) }
+{
+    match advance {
+        Advance::On(slot) => keep_word(slot, class, token, parts),
+        Advance::At(position) => redraft(alloc, position, next, class, token, kept, parts),
+        Advance::Behind(slot, around, position) => {
+            end_part(alloc, slot, around, kept, parts)?;
+            redraft(alloc, position, next, class, token, kept, parts)
+        }
+    }
+}
+
+/// Takes a token that stands so and leads there, and adds these actions.
 pub(crate) fn take<'a>(
     alloc: Global,
     advance: Advance,
@@ -127,23 +169,15 @@ pub(crate) fn take<'a>(
     kept: &mut Kept<'a>,
     parts: &mut Parts<'a>,
 ) -> Result<(), NoMemory>
-    ensures { (from : definitions.State) (old new : Work) → Keeps kept.old parts.old old
-        → definitions.advanced token.now (definitions.advance from class)
-        ≡ Some (advance, progress_of next.now, added.entry)
-        → spec.MayTake from (progress_of next.now) old
-        → spec.work_after from (progress_of next.now) class token.now old ≡ Some new
-        → IfOk result (λ _. Keeps kept.new parts.new new) }
+    ensures { (before after : Work) → Keeps kept.old parts.old before
+        → spec.MayTurn advance (progress_of next.now) (spec.added_work added.entry before)
+        → spec.turned_work advance (progress_of next.now) class token.now
+        (spec.added_work added.entry before)
+        ≡ Some after
+        → IfOk result (λ _. Keeps kept.new parts.new after) }
 {
-    let actions = replace(&mut parts.actions, Row::new(alloc));
-    parts.actions = with_actions(actions, added)?;
-    match advance {
-        Advance::On(slot) => keep_word(slot, class, token, &mut parts.words),
-        Advance::At(position) => redraft(alloc, position, next, class, token, kept, parts),
-        Advance::Behind(slot, around, position) => {
-            end_part(alloc, slot, around, kept, parts)?;
-            redraft(alloc, position, next, class, token, kept, parts)
-        }
-    }
+    add(alloc, added, parts)?;
+    turn(alloc, advance, next, class, token, kept, parts)
 }
 
 /// The tokens end, and the open definition with them.
@@ -164,7 +198,7 @@ pub(crate) fn finish<'a>(
             let Some(part) = part_end(reading) else {
                 return Ok(());
             };
-            end(reading, &mut parts.actions)?;
+            add_end(reading, parts)?;
             end_part(alloc, *slot, brackets.len(), kept, parts)?;
             end_kept(alloc, ending_of(filled(*slot, part)), kept)
         }
@@ -188,7 +222,7 @@ fn part_off<'a>(
 {
     match part_end(reading) {
         Some(_) => {
-            end(reading, &mut parts.actions)?;
+            add_end(reading, parts)?;
             end_part(alloc, slot, around, kept, parts)
         }
         None => note_cut(alloc, slot, parts.actions.as_slice(), &mut kept.variables),
