@@ -52,10 +52,10 @@ fn is_inside(progress: &Progress) -> bool
 
 /// The verdict where no rule goes on behind an expression.
 fn alone(verdict: TokenVerdict<'_>) -> TokenVerdict<'_>
-    ensures value { seen.verdict_of result ≡ spec.alone (seen.verdict_of verdict) }
-    ensures bound { seen.IsBounded verdict → seen.IsBounded result }
+    ensures value { seen.verdict_of result ≡ spec.alone (seen.verdict_of verdict.entry) }
+    ensures bound { seen.IsBounded verdict.entry → seen.IsBounded result }
     ensures step { (st : definitions.State) (l : TokenClass) (x : Token)
-        → seen.Stands st l x verdict → spec.Steps st l x result }
+        → seen.Stands st l x verdict.entry → spec.Steps st l x result }
 {
     match verdict {
         TokenVerdict::Passed(next, advance, actions) => {

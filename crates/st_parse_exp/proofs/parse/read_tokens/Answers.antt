@@ -24,8 +24,8 @@ returns-in-Broken c =
 pub tokens-preserved : goal.tokens-preserved
 tokens-preserved c = (
   token_drafts c.args.tokens.now c.args.variables.now c.tokens.at c.index-tokens-at.result c.token_class-class.result c.tokens.seen c.in_ok-rule.field-0 c.in-Passed.next c.in-Passed.field-1 c.in-Passed.added
-      (draft c.tokens.exps c.tokens.actions) (draft c.in_ok-exps.exps c.turn.new.actions) (draft c.in_ok-exps.exps c.in_ok-actions.actions) c.tokens-test.true c.tokens.invariant.0
-      c.index-tokens-at.is c.token_class-class.ensures c.in_ok-rule.ensures.value c.in_ok-rule.ensures.step c.in-Passed.is c.in_ok-exps.ensures (ap (draft c.in_ok-exps.exps) c.in_ok-actions.ensures),
+      (draft c.tokens.exps c.tokens.actions) (draft c.in_ok-exps.exps c.turn.new.actions) (draft c.in_ok-exps.exps c.in_ok-actions-in-Passed.actions) c.tokens-test.true c.tokens.invariant.0
+      c.index-tokens-at.is c.token_class-class.ensures c.in_ok-rule.ensures.value c.in_ok-rule.ensures.step c.in-Passed.is c.in_ok-exps.ensures (ap (draft c.in_ok-exps.exps) c.in_ok-actions-in-Passed.ensures),
   bounded c.in_ok-rule.field-0 c.in-Passed.next c.in-Passed.field-1 c.in-Passed.added c.in-Passed.is c.in_ok-rule.ensures.bound,
 )
 
