@@ -158,57 +158,57 @@ entering_same (count_slot r t ps d os ls u i k) = refl
 -- a token that begins no part, though one behind it may
 pub placed : (p : Position) (l : Terminal) (next : State) → PositionHolds p → IsPlain p → position_step p l ≡ Some next → Placed p l next
 placed p l (at q) h n e = to_position p q l (changes p l (at q) h e)
-placed (between ds) l (inside s st) h n e = let c = changes (between ds) l (inside s st) h e in to_part (between ds) s st l c c.fresh
-placed (syntax_name ds w) l (inside s st) h n e = let c = changes (syntax_name ds w) l (inside s st) h e in to_part (syntax_name ds w) s st l c c.fresh
-placed (var_name ds w) l (inside s st) h n e = let c = changes (var_name ds w) l (inside s st) h e in to_part (var_name ds w) s st l c c.fresh
-placed (var_colon ds w x) l (inside s st) h n e = let c = changes (var_colon ds w x) l (inside s st) h e in to_part (var_colon ds w x) s st l c c.fresh
-placed (relation_name ds w) l (inside s st) h n e = let c = changes (relation_name ds w) l (inside s st) h e in to_part (relation_name ds w) s st l c c.fresh
-placed (rule_name ds w) l (inside s st) h n e = let c = changes (rule_name ds w) l (inside s st) h e in to_part (rule_name ds w) s st l c c.fresh
-placed (rule_colon ds w r) l (inside s st) h n e = let c = changes (rule_colon ds w r) l (inside s st) h e in to_part (rule_colon ds w r) s st l c c.fresh
-placed (fun_name ds w) l (inside s st) h n e = let c = changes (fun_name ds w) l (inside s st) h e in to_part (fun_name ds w) s st l c c.fresh
-placed (fun_named ds w f) l (inside s st) h n e = let c = changes (fun_named ds w f) l (inside s st) h e in to_part (fun_named ds w f) s st l c c.fresh
-placed (argued ds w f o ts) l (inside s st) h n e = let c = changes (argued ds w f o ts) l (inside s st) h e in to_part (argued ds w f o ts) s st l c c.fresh
-placed (args_closed ds w f o ts k) l (inside s st) h n e = let c = changes (args_closed ds w f o ts k) l (inside s st) h e in to_part (args_closed ds w f o ts k) s st l c c.fresh
-placed (syntax_id ds w x ls d) l (inside s st) h n e = let c = changes (syntax_id ds w x ls d) l (inside s st) h e in to_part (syntax_id ds w x ls d) s st l c c.fresh
-placed (rule_id ds w r ls d) l (inside s st) h n e = let c = changes (rule_id ds w r ls d) l (inside s st) h e in to_part (rule_id ds w r ls d) s st l c c.fresh
-placed (hinted k hs) l (inside s st) h n e = let c = changes (hinted k hs) l (inside s st) h e in to_part (hinted k hs) s st l c c.fresh
-placed (hint_open k hs w) l (inside s st) h n e = let c = changes (hint_open k hs w) l (inside s st) h e in to_part (hint_open k hs w) s st l c c.fresh
-placed (hint_name k hs w o) l (inside s st) h n e = let c = changes (hint_name k hs w o) l (inside s st) h e in to_part (hint_name k hs w o) s st l c c.fresh
-placed (hint_words k hs w o n ws cs) l (inside s st) h n e = let c = changes (hint_words k hs w o n ws cs) l (inside s st) h e in to_part (hint_words k hs w o n ws cs) s st l c c.fresh
-placed (dotted k d) l (inside s st) h n e = let c = changes (dotted k d) l (inside s st) h e in to_part (dotted k d) s st l c c.fresh
-placed (field_name k o ms pre) l (inside s st) h n e = let c = changes (field_name k o ms pre) l (inside s st) h e in to_part (field_name k o ms pre) s st l c c.fresh
-placed (premised r t ps) l (inside s st) h n e = let c = changes (premised r t ps) l (inside s st) h e in to_part (premised r t ps) s st l c c.fresh
-placed (premise_open r t ps d os) l (inside s st) h n e = let c = changes (premise_open r t ps d os) l (inside s st) h e in to_part (premise_open r t ps d os) s st l c c.fresh
-placed (goal_colon r t ps d os n) l (inside s st) h n e = let c = changes (goal_colon r t ps d os n) l (inside s st) h e in to_part (goal_colon r t ps d os n) s st l c c.fresh
-placed (iterated r t ps d os ls u i) l (inside s st) h n e = let c = changes (iterated r t ps d os ls u i) l (inside s st) h e in to_part (iterated r t ps d os ls u i) s st l c c.fresh
-placed (entering r) l (inside s st) h n e = absurd n
+placed (between ds) l (inside s st) h plain e = let c = changes (between ds) l (inside s st) h e in to_part (between ds) s st l c c.fresh
+placed (syntax_name ds w) l (inside s st) h plain e = let c = changes (syntax_name ds w) l (inside s st) h e in to_part (syntax_name ds w) s st l c c.fresh
+placed (var_name ds w) l (inside s st) h plain e = let c = changes (var_name ds w) l (inside s st) h e in to_part (var_name ds w) s st l c c.fresh
+placed (var_colon ds w x) l (inside s st) h plain e = let c = changes (var_colon ds w x) l (inside s st) h e in to_part (var_colon ds w x) s st l c c.fresh
+placed (relation_name ds w) l (inside s st) h plain e = let c = changes (relation_name ds w) l (inside s st) h e in to_part (relation_name ds w) s st l c c.fresh
+placed (rule_name ds w) l (inside s st) h plain e = let c = changes (rule_name ds w) l (inside s st) h e in to_part (rule_name ds w) s st l c c.fresh
+placed (rule_colon ds w r) l (inside s st) h plain e = let c = changes (rule_colon ds w r) l (inside s st) h e in to_part (rule_colon ds w r) s st l c c.fresh
+placed (fun_name ds w) l (inside s st) h plain e = let c = changes (fun_name ds w) l (inside s st) h e in to_part (fun_name ds w) s st l c c.fresh
+placed (fun_named ds w f) l (inside s st) h plain e = let c = changes (fun_named ds w f) l (inside s st) h e in to_part (fun_named ds w f) s st l c c.fresh
+placed (argued ds w f o ts) l (inside s st) h plain e = let c = changes (argued ds w f o ts) l (inside s st) h e in to_part (argued ds w f o ts) s st l c c.fresh
+placed (args_closed ds w f o ts k) l (inside s st) h plain e = let c = changes (args_closed ds w f o ts k) l (inside s st) h e in to_part (args_closed ds w f o ts k) s st l c c.fresh
+placed (syntax_id ds w x ls d) l (inside s st) h plain e = let c = changes (syntax_id ds w x ls d) l (inside s st) h e in to_part (syntax_id ds w x ls d) s st l c c.fresh
+placed (rule_id ds w r ls d) l (inside s st) h plain e = let c = changes (rule_id ds w r ls d) l (inside s st) h e in to_part (rule_id ds w r ls d) s st l c c.fresh
+placed (hinted k hs) l (inside s st) h plain e = let c = changes (hinted k hs) l (inside s st) h e in to_part (hinted k hs) s st l c c.fresh
+placed (hint_open k hs w) l (inside s st) h plain e = let c = changes (hint_open k hs w) l (inside s st) h e in to_part (hint_open k hs w) s st l c c.fresh
+placed (hint_name k hs w o) l (inside s st) h plain e = let c = changes (hint_name k hs w o) l (inside s st) h e in to_part (hint_name k hs w o) s st l c c.fresh
+placed (hint_words k hs w o n ws cs) l (inside s st) h plain e = let c = changes (hint_words k hs w o n ws cs) l (inside s st) h e in to_part (hint_words k hs w o n ws cs) s st l c c.fresh
+placed (dotted k d) l (inside s st) h plain e = let c = changes (dotted k d) l (inside s st) h e in to_part (dotted k d) s st l c c.fresh
+placed (field_name k o ms pre) l (inside s st) h plain e = let c = changes (field_name k o ms pre) l (inside s st) h e in to_part (field_name k o ms pre) s st l c c.fresh
+placed (premised r t ps) l (inside s st) h plain e = let c = changes (premised r t ps) l (inside s st) h e in to_part (premised r t ps) s st l c c.fresh
+placed (premise_open r t ps d os) l (inside s st) h plain e = let c = changes (premise_open r t ps d os) l (inside s st) h e in to_part (premise_open r t ps d os) s st l c c.fresh
+placed (goal_colon r t ps d os n) l (inside s st) h plain e = let c = changes (goal_colon r t ps d os n) l (inside s st) h e in to_part (goal_colon r t ps d os n) s st l c c.fresh
+placed (iterated r t ps d os ls u i) l (inside s st) h plain e = let c = changes (iterated r t ps d os ls u i) l (inside s st) h e in to_part (iterated r t ps d os ls u i) s st l c c.fresh
+placed (entering r) l (inside s st) h plain e = absurd plain
 
 -- no part is due at a position where none is entered
 none_due : (p : Position) → IsPlain p → definitions.entering (position_of p) ≡ None
-none_due (between ds) n = refl
-none_due (syntax_name ds w) n = refl
-none_due (var_name ds w) n = refl
-none_due (var_colon ds w x) n = refl
-none_due (relation_name ds w) n = refl
-none_due (rule_name ds w) n = refl
-none_due (rule_colon ds w r) n = refl
-none_due (fun_name ds w) n = refl
-none_due (fun_named ds w f) n = refl
-none_due (argued ds w f o ts) n = refl
-none_due (args_closed ds w f o ts k) n = refl
-none_due (syntax_id ds w x ls d) n = refl
-none_due (rule_id ds w r ls d) n = refl
-none_due (hinted k hs) n = refl
-none_due (hint_open k hs w) n = refl
-none_due (hint_name k hs w o) n = refl
-none_due (hint_words k hs w o n ws cs) n = refl
-none_due (dotted k d) n = refl
-none_due (field_name k o ms pre) n = refl
-none_due (premised r t ps) n = refl
-none_due (premise_open r t ps d os) n = refl
-none_due (goal_colon r t ps d os n) n = refl
-none_due (iterated r t ps d os ls u i) n = refl
-none_due (entering r) n = absurd n
+none_due (between ds) plain = refl
+none_due (syntax_name ds w) plain = refl
+none_due (var_name ds w) plain = refl
+none_due (var_colon ds w x) plain = refl
+none_due (relation_name ds w) plain = refl
+none_due (rule_name ds w) plain = refl
+none_due (rule_colon ds w r) plain = refl
+none_due (fun_name ds w) plain = refl
+none_due (fun_named ds w f) plain = refl
+none_due (argued ds w f o ts) plain = refl
+none_due (args_closed ds w f o ts k) plain = refl
+none_due (syntax_id ds w x ls d) plain = refl
+none_due (rule_id ds w r ls d) plain = refl
+none_due (hinted k hs) plain = refl
+none_due (hint_open k hs w) plain = refl
+none_due (hint_name k hs w o) plain = refl
+none_due (hint_words k hs w o n ws cs) plain = refl
+none_due (dotted k d) plain = refl
+none_due (field_name k o ms pre) plain = refl
+none_due (premised r t ps) plain = refl
+none_due (premise_open r t ps d os) plain = refl
+none_due (goal_colon r t ps d os n) plain = refl
+none_due (iterated r t ps d os ls u i) plain = refl
+none_due (entering r) plain = absurd plain
 
 -- ---- what a token asks
 
