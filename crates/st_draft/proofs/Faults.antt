@@ -25,9 +25,9 @@ use Rattle.st_parse_builder.specs.inner.NotationBuilding.{typ_built, notation_bu
 use Rattle.st_measure.specs.inner.Answers.{OnlyMemory, lone_typ}
 use Rattle.st_measure.specs.DefHeights.{prem_height, field_type_height}
 use Rattle.st_measure.proofs.Holes.{builds_typ}
-use Rattle.st_measure.proofs.Premises.{tall_if, tall_goal, tall_each, tall_times, tall_below}
+use Rattle.st_measure.proofs.Premises.{tall_each, tall_times, tall_below}
 use Rattle.st_draft.specs.declared.draft.Draft.{Draft}
-use Rattle.st_draft.specs.inner.Drafts.{condition_node, each_of, span_or, typ_filled, notation_filled, count_filled}
+use Rattle.st_draft.specs.inner.Drafts.{each_of, span_or, typ_filled, notation_filled, count_filled}
 use Rattle.st_draft.specs.inner.Parts.{the_exp, exp_built, all_built, count_with, index_in, refilled}
 use Rattle.st_draft.specs.inner.Heights.{height_or, open_height, height_of, IsLow}
 use Rattle.st_draft.proofs.Low.{last_of}
