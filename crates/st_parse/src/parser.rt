@@ -122,14 +122,14 @@ fn read_tokens(
                 stop(alloc, fault, &before, &mut kept, &mut parts)?;
                 return answer(tokens, fault, kept);
             }
-            TokenVerdict::Passed(next, advance, added) => {
+            TokenVerdict::Passed(next, advance, mut added) => {
                 take(
                     alloc,
                     advance,
                     &next.progress,
                     class,
                     token,
-                    added,
+                    &mut added,
                     &mut kept,
                     &mut parts,
                 )?;

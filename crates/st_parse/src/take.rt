@@ -46,12 +46,18 @@ fn keep_word<'a>(
 }
 
 /// Adds these actions to those of the part.
-fn add<'a>(alloc: Global, added: Row<Action<'a>>, parts: &mut Parts<'a>) -> Result<(), NoMemory>
+fn add<'a>(
+    alloc: Global,
+    added: &mut Row<Action<'a>>,
+    parts: &mut Parts<'a>,
+) -> Result<(), NoMemory>
     ensures { (draft : Draft) → IfOk result (λ _. spec.work_of draft parts.new
-        ≡ spec.added_work added.entry (spec.work_of draft parts.old)) }
+        ≡ spec.added_work added.old (spec.work_of draft parts.old)) }
 {
     let actions = replace(&mut parts.actions, Row::new(alloc));
-    parts.actions = with_actions(actions, added)?;
+    let more = replace(added, Row::new(alloc));
+    let joined = with_actions(actions, more)?;
+    let _taken = replace(&mut parts.actions, joined);
     Ok(())
 }
 
@@ -158,21 +164,21 @@ fn turn<'a>(
     }
 }
 
-/// Takes a token that stands so and leads there, and adds these actions.
+/// Takes a token that stands so and leads there, and adds these actions, which are given up.
 pub(crate) fn take<'a>(
     alloc: Global,
     advance: Advance,
     next: &Progress,
     class: TokenClass,
     token: &'a Token,
-    added: Row<Action<'a>>,
+    added: &mut Row<Action<'a>>,
     kept: &mut Kept<'a>,
     parts: &mut Parts<'a>,
 ) -> Result<(), NoMemory>
     ensures { (before after : Work) → Keeps kept.old parts.old before
-        → spec.MayTurn advance (progress_of next.now) (spec.added_work added.entry before)
+        → spec.MayTurn advance (progress_of next.now) (spec.added_work added.old before)
         → spec.turned_work advance (progress_of next.now) class token.now
-        (spec.added_work added.entry before)
+        (spec.added_work added.old before)
         ≡ Some after
         → IfOk result (λ _. Keeps kept.new parts.new after) }
 {

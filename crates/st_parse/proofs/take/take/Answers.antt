@@ -4,4 +4,4 @@ use Rattle.st_parse.proofs.take.take.Goals as goal
 
 pub returns : goal.returns
 returns c before after h may e =
-    c.turn.ensures (added_work c.args.added before) after (added_keeps c.args.kept.now c.args.added c.args.parts.now c.add.new.parts before h c.in_ok-add.ensures) may e
+    c.turn.ensures (added_work c.args.added.now before) after (added_keeps c.args.kept.now c.args.added.now c.args.parts.now c.add.new.parts before h c.in_ok-add.ensures) may e
