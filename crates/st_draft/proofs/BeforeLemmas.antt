@@ -1,6 +1,5 @@
 -- The definitions of a draft: those before the open one, and those that it ends with.
 use Rattle.std.proofs.Common.{◌≡◌, List, [], length, map, reverse, Option, Some, None, option_map, option_and_then, refl, sym, ap, subst, ◌∙◌}
-use Rattle.st_num.specs.declared.mark.Mark.{Mark}
 use Rattle.st_num.specs.declared.token.Token.{Token}
 use Rattle.st_grammar.specs.Trees.{Tree}
 use Rattle.st_grammar.specs.Reading as part
@@ -116,14 +115,13 @@ ended_is (inside s st) ds h e =
 
 -- ---- before the first token
 
-abbrev fresh_work : Draft → List (List Action) → List Action → List Mark → List (TokenClass × Token) → Work
-fresh_work d given acts marks words = record { draft = d; arguments = given; actions = acts; marks = marks; words = words }
+abbrev fresh_work : Draft → List (List Action) → List Action → List (TokenClass × Token) → Work
+fresh_work d given acts words = record { draft = d; arguments = given; actions = acts; words = words }
 
 -- Nothing is kept before the first token.
-pub nothing_kept : (d : Draft) (p : Parts) → d ≡ begun [] nowhere → p.arguments ≡ [] → p.actions ≡ [] → p.marks ≡ [] → p.words ≡ [] → state_work start ≡ work_of d p
-nothing_kept d p e f g h k =
-    ap (λ x. fresh_work x [] [] [] []) (sym e)
-    ∙ ap (λ x. fresh_work d x [] [] []) (sym f)
-    ∙ ap (λ x. fresh_work d p.arguments x [] []) (sym g)
-    ∙ ap (λ x. fresh_work d p.arguments p.actions (reverse x) []) (sym h)
-    ∙ ap (λ x. fresh_work d p.arguments p.actions (reverse p.marks) (map word_of x)) (sym k)
+pub nothing_kept : (d : Draft) (p : Parts) → d ≡ begun [] nowhere → p.arguments ≡ [] → p.actions ≡ [] → p.words ≡ [] → state_work start ≡ work_of d p
+nothing_kept d p e f g k =
+    ap (λ x. fresh_work x [] [] []) (sym e)
+    ∙ ap (λ x. fresh_work d x [] []) (sym f)
+    ∙ ap (λ x. fresh_work d p.arguments x []) (sym g)
+    ∙ ap (λ x. fresh_work d p.arguments p.actions (map word_of x)) (sym k)

@@ -25,8 +25,8 @@ use Rattle.st_parse_builder.specs.Meaning.{meaning, count_of}
 use Rattle.st_parse_builder.specs.inner.Actions.{acts}
 use Rattle.st_parse_builder.specs.inner.Emission.{state_acts}
 use Rattle.st_parse_builder.proofs.Emission.{finish_emits}
-use Rattle.st_parse_actions.specs.inner.Emits.{finishing}
-use Rattle.st_parse_actions.proofs.Emitted.{finishing_is}
+use Rattle.st_parse_automaton.specs.inner.PartAutomaton.{finishing}
+use Rattle.st_parse_automaton.proofs.Simulation.{finishing_is}
 use Rattle.st_draft.specs.declared.draft.Draft.{Draft}
 use Rattle.st_draft.specs.inner.Drafts.{typ_filled, notation_filled, condition_filled, exp_filled, count_filled}
 use Rattle.st_draft.specs.inner.Parts.{index_in, count_with, refilled}
@@ -103,7 +103,7 @@ argues (cond_slot r u ps d os ls) t = refl
 argues (count_slot r u ps d os ls v i l) t = refl
 
 abbrev ended_work : List (List Action) → Draft → Work
-ended_work given d = record { draft = d; arguments = given; actions = []; marks = []; words = [] }
+ended_work given d = record { draft = d; arguments = given; actions = []; words = [] }
 
 pub part_ends : (s : Slot) (st : part.State) (t : Tree) → Holds (inside s st) → part.finish st ≡ Some t
     → filled_work (slot_of s) (length (slot_open s)) (view.state_of st) (state_work (inside s st)) ≡ Some (state_work (at (filled s t)))

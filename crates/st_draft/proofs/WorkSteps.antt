@@ -1,7 +1,6 @@
 -- What each token makes of the work.
 use Rattle.std.proofs.Common.{◌≡◌, List, [], ◌∷◌, ◌++◌, map, Option, Some, refl, sym, ap, subst, ◌∙◌}
 use Rattle.std.proofs.lemmas.List.{map-append}
-use Rattle.st_num.specs.declared.mark.Mark.{Mark}
 use Rattle.st_num.specs.declared.token.Token.{Token}
 use Rattle.st_grammar.specs.Terminals as terminals
 use Rattle.st_grammar.specs.Reading as part
@@ -11,17 +10,12 @@ use Rattle.st_grammar.proofs.Sound as sound
 use Rattle.st_grammar.proofs.Steps as inner
 use Rattle.st_grammar.proofs.PositionTexts.{Holds}
 use Rattle.st_parse_automaton.specs.declared.position.TokenClass.{TokenClass}
-use Rattle.st_parse_automaton.specs.inner.Shapes.{shape, class_of}
-use Rattle.st_parse_automaton.specs.inner.DefinitionAutomaton as definitions
-use Rattle.st_parse_automaton.proofs.View as view
-use Rattle.st_parse_automaton.proofs.DefinitionView.{slot_of, slot_sort_is}
+use Rattle.st_parse_automaton.specs.inner.Shapes.{class_of}
+use Rattle.st_parse_automaton.proofs.DefinitionView.{slot_of}
 use Rattle.st_parse_builder.specs.declared.action.Action.{Action}
-use Rattle.st_parse_builder.specs.inner.Emission.{state_acts}
+use Rattle.st_parse_builder.specs.inner.Emission.{state_acts, emitted}
 use Rattle.st_parse_builder.proofs.Emission.{emits_next}
-use Rattle.st_parse_actions.specs.inner.Emits.{emits, kept}
-use Rattle.st_parse_actions.proofs.Emitted.{state_marks, emits_is}
-use Rattle.st_parse_actions.proofs.Kept.{Keeps, step_keeps}
-use Rattle.st_draft.specs.inner.Work.{Work, words_after, part_work}
+use Rattle.st_draft.specs.inner.Work.{Work, words_after, worded_work, added_work}
 use Rattle.st_draft.proofs.DraftOf.{position_draft, slot_draft, arguments_acts, args_acts, position_args, slot_args}
 
 abbrev pub word : terminals.Terminal → TokenClass × Token
@@ -34,23 +28,21 @@ slot_words s us = []
 
 -- what is kept in a state
 abbrev pub state_work : State → Work
-state_work (at p) = record { draft = position_draft p; arguments = args_acts (position_args p); actions = []; marks = []; words = [] }
+state_work (at p) = record { draft = position_draft p; arguments = args_acts (position_args p); actions = []; words = [] }
 state_work (inside s st) = record {
   draft = slot_draft s;
   arguments = arguments_acts (slot_args s);
   actions = state_acts st;
-  marks = state_marks st;
   words = slot_words s (sound.seen st);
 }
 
 -- ---- a part goes on
 
-abbrev pub slot_work : Slot → List Action → List Mark → List (TokenClass × Token) → Work
-slot_work s actions marks words = record {
+abbrev pub slot_work : Slot → List Action → List (TokenClass × Token) → Work
+slot_work s actions words = record {
   draft = slot_draft s;
   arguments = arguments_acts (slot_args s);
   actions = actions;
-  marks = marks;
   words = words;
 }
 
@@ -68,19 +60,11 @@ words_more (count_slot r t ps d os ls u i k) us l = map-append word us (l ∷ []
 reached : (o : Option part.State) (us : List terminals.Terminal) (σ : _) (next : part.State) → o ≡ Some next → sound.ReachedBy σ us o → sound.seen next ≡ us
 reached o us σ next e r = (subst (sound.ReachedBy σ us) e r).spelled
 
-keeps : (ms : List Mark) (o : Option part.State) (next : part.State) → o ≡ Some next → Keeps ms o → state_marks next ≡ ms
-keeps ms o next e k = subst (Keeps ms) e k
-
-pub goes_on : (s : Slot) (st : part.State) (l : terminals.Terminal) (next : part.State) → Holds (inside s st) → part.step st l ≡ Some next
-    → part_work (slot_of s) (view.state_of st) (class_of l) (token_in l) (state_work (inside s st)) ≡ state_work (inside s next)
-goes_on s st l next h e =
-    let base : definitions.slot_sort (slot_of s) ≡ sound.state_base st = slot_sort_is s ∙ sym h.2 in
-    let acted : state_acts st ++ emits (definitions.slot_sort (slot_of s)) (state_marks st) (view.state_of st) (shape l) (token_in l) ≡ state_acts next =
-    ap (λ σ. state_acts st ++ emits σ (state_marks st) (view.state_of st) (shape l) (token_in l)) base ∙ ap (λ a. state_acts st ++ a) (emits_is st l h.1) ∙ sym (emits_next st l next e) in
-    let marked : kept (definitions.slot_sort (slot_of s)) (state_marks st) (view.state_of st) (shape l) ≡ state_marks next =
-    ap (λ σ. kept σ (state_marks st) (view.state_of st) (shape l)) base ∙ sym (keeps _ (part.step st l) next e (step_keeps st l h.1)) in
+pub goes_on : (s : Slot) (st : part.State) (l : terminals.Terminal) (next : part.State) (acts : List Action) → Holds (inside s st) → part.step st l ≡ Some next → acts ≡ emitted st l
+    → worded_work (slot_of s) (class_of l) (token_in l) (added_work acts (state_work (inside s st))) ≡ state_work (inside s next)
+goes_on s st l next acts h e i =
+    let acted : state_acts st ++ acts ≡ state_acts next = ap (λ a. state_acts st ++ a) i ∙ sym (emits_next st l next e) in
     let worded : words_after (slot_of s) (class_of l) (token_in l) (slot_words s (sound.seen st)) ≡ slot_words s (sound.seen next) =
     sym (words_more s (sound.seen st) l) ∙ ap (slot_words s) (sym (reached (part.step st l) _ _ next e (inner.steps st l h.1))) in
-    ap (λ a. slot_work s a (kept (definitions.slot_sort (slot_of s)) (state_marks st) (view.state_of st) (shape l)) (words_after (slot_of s) (class_of l) (token_in l) (slot_words s (sound.seen st)))) acted
-    ∙ ap (λ m. slot_work s (state_acts next) m (words_after (slot_of s) (class_of l) (token_in l) (slot_words s (sound.seen st)))) marked
-    ∙ ap (λ w. slot_work s (state_acts next) (state_marks next) w) worded
+    ap (λ a. slot_work s a (words_after (slot_of s) (class_of l) (token_in l) (slot_words s (sound.seen st)))) acted
+    ∙ ap (λ w. slot_work s (state_acts next) w) worded

@@ -8,7 +8,7 @@ use crate::members::{put_field, put_notation};
 use crate::premise::{put_condition, put_each};
 use crate::sides::{put_exp, put_typ};
 use st_el::{Count, Exp, Notation, Typ};
-use st_num::{Boxed, Mark, Name, NoMemory, Row};
+use st_num::{Boxed, Name, NoMemory, Row};
 use st_parse_automaton::{Slot, TokenClass, opens_round};
 use st_parse_builder::{Action, TokenRef, copy_name};
 use std::alloc::Global;
@@ -29,13 +29,12 @@ pub enum PartTree {
     Argument,
 }
 
-/// The actions of the part that is read, the signs of the changes that are open in it, its tokens
-/// where it is a count, and the actions of the arguments before it.
+/// The actions of the part that is read, its tokens where it is a count, and the actions of the
+/// arguments before it.
 #[derive(Drop)]
 pub struct Parts<'a> {
     pub arguments: Row<Row<Action<'a>>>,
     pub actions: Row<Action<'a>>,
-    pub marks: Row<Mark>,
     pub words: Row<PartToken<'a>>,
 }
 
@@ -43,13 +42,11 @@ pub struct Parts<'a> {
 pub fn no_parts<'a>(alloc: Global) -> Parts<'a>
     ensures arguments { result.arguments ≡ [] }
     ensures actions { result.actions ≡ [] }
-    ensures marks { result.marks ≡ [] }
     ensures words { result.words ≡ [] }
 {
     Parts {
         arguments: Row::new(alloc),
         actions: Row::new(alloc),
-        marks: Row::new(alloc),
         words: Row::new(alloc),
     }
 }

@@ -64,12 +64,12 @@ parsed_past tokens defs p =
 
 -- ---- what is cut off
 
-pub found_cut : (tokens : List Token) (found : Option TokenFault) (f : TokenFault) (i : ℕ) (p : CodeSeen) (b : Progress) (old new : Kept) (parts : Parts) → found ≡ Some f → Judged tokens found → i ≡ end_of tokens found → Reads tokens i p old parts → b ≡ p.progress
+pub found_cut : (tokens : List Token) (found : Option TokenFault) (f : TokenFault) (i : ℕ) (p : CodeSeen) (b : Progress) (old new : Kept) (parts : Parts) → found ≡ Some f → Judged tokens found → i ≡ end_of tokens found → Reads tokens i p old parts → progress_of b ≡ progress_of p.progress
     → ((w : Work) (vs : List Occurrence) → Keeps old parts w → Opens (progress_of b) w vs → new.variables.past ≡ past_in w.draft.defs vs) → Found tokens found new
 found_cut tokens found f i p b old new parts is j e (s, v, o, r) same cut =
     let st : State = s.state in
     let front = front_of tokens found j in
-    let there : definitions_of st ≡ progress_of b = ap (λ w. w.state) o ∙ ap progress_of (sym same) in
+    let there : definitions_of st ≡ progress_of b = ap (λ w. w.state) o ∙ sym same in
     let opened : Opens (progress_of b) (state_work st) (open_variables st) =
     subst (λ a. Opens a (state_work st) (open_variables st)) there (opens st (passes_holds tokens i s v)) in
     record {

@@ -9,6 +9,8 @@ use Rattle.st_grammar.proofs.TerminalTokens.{terminal_token}
 use Rattle.st_parse_automaton.specs.Refusal.{terminals_of}
 use Rattle.st_parse_automaton.specs.declared.position.TokenClass.{TokenClass}
 use Rattle.st_parse_automaton.specs.declared.position.Progress.{Progress}
+use Rattle.st_parse_automaton.specs.declared.position.Advance.{Advance}
+use Rattle.st_parse_builder.specs.declared.action.Action.{Action}
 use Rattle.st_parse_automaton.specs.inner.DefinitionAutomaton as definitions
 use Rattle.st_parse_automaton.specs.inner.Shapes.{class_of}
 use Rattle.st_parse_automaton.specs.inner.Readings.{progress_of}
@@ -27,11 +29,11 @@ use Rattle.st_parse_faults.proofs.Verdicts.{verdict_reads}
 use Rattle.st_parse_faults.proofs.Loop.{Passes, passes_holds, token_passes, ends_well, ends_early}
 use Rattle.st_el.specs.Plain.{nowhere}
 use Rattle.st_draft.specs.declared.parts.Parts.{Parts}
-use Rattle.st_draft.specs.inner.Work.{Work, work_after, MayTake}
+use Rattle.st_draft.specs.inner.Work.{Work, added_work, turned_work, MayTurn}
 use Rattle.st_draft.specs.inner.Drafts.{begun}
 use Rattle.st_draft.proofs.BeforeLemmas.{nothing_kept}
 use Rattle.st_draft.proofs.WorkSteps.{state_work}
-use Rattle.st_draft.proofs.WorkPositions.{works, takes}
+use Rattle.st_draft.proofs.WorkPositions.{turns}
 use Rattle.st_parse.specs.declared.kept.Kept.{Kept}
 use Rattle.st_parse.specs.inner.Kept.{Draws, Keeps}
 use Rattle.st_parse.specs.inner.Found.{fault_of, Judged, end_of}
@@ -52,37 +54,41 @@ stepped tokens i d s next h e f =
     ∙ ap (reading start) (sym (one_more tokens i d h)) ∙ verdict_reads tokens (i + 1) next f
 
 -- Before the first token this is kept.
-pub starts : (kept : Kept) (parts : Parts) → Draws kept (begun [] nowhere) → parts.arguments ≡ [] → parts.actions ≡ [] → parts.marks ≡ [] → parts.words ≡ [] → Keeps kept parts (state_work start)
-starts kept parts d e f g h = record { drawn = d; same = sym (nothing_kept (begun [] nowhere) parts refl e f g h) }
+pub starts : (kept : Kept) (parts : Parts) → Draws kept (begun [] nowhere) → parts.arguments ≡ [] → parts.actions ≡ [] → parts.words ≡ [] → Keeps kept parts (state_work start)
+starts kept parts d e f g = record { drawn = d; same = sym (nothing_kept (begun [] nowhere) parts refl e f g) }
 
 -- what is said of a token that is taken
-abbrev pub Taken : Progress → Progress → TokenClass → Token → Kept → Parts → Kept → Parts → Type 0
-Taken b q l x kept parts new there =
-    (w u : Work) → Keeps kept parts w → MayTake (progress_of b) (progress_of q) w → work_after (progress_of b) (progress_of q) l x w ≡ Some u → Keeps new there u
+abbrev pub Taken : Advance → Progress → List Action → TokenClass → Token → Kept → Parts → Kept → Parts → Type 0
+Taken a q acts l x kept parts new there =
+    (w u : Work) → Keeps kept parts w → MayTurn a (progress_of q) (added_work acts w) → turned_work a (progress_of q) l x (added_work acts w) ≡ Some u → Keeps new there u
 
-pub token_taken : (tokens : List Token) (names : List (List ℕ)) (i : ℕ) (x : Token) (l : TokenClass) (p : CodeSeen) (v : Code) (q : CodeSeen) (b : Progress) (kept new : Kept) (parts there : Parts)
+pub token_taken : (tokens : List Token) (names : List (List ℕ)) (i : ℕ) (x : Token) (l : TokenClass) (p : CodeSeen) (v : Code) (q : CodeSeen) (a : Advance) (acts : List Action) (kept new : Kept) (parts there : Parts)
     → i < length tokens → Reads tokens i p kept parts → x ≡ get_or tokens i x → names ≡ declared_names tokens → l ≡ class_of (terminal names x)
-    → seen.verdict_of v ≡ seen.judge (seen.summary_of p) x.kind l → v ≡ code.Passed q → b ≡ p.progress → Taken b q.progress l x kept parts new there
+    → seen.verdict_of v ≡ seen.judge (seen.summary_of p) x.kind l → seen.Stands (progress_of p.progress) l x v → v ≡ code.Passed q a acts → Taken a q.progress acts l x kept parts new there
     → Reads tokens (i + 1) q new there
-token_taken tokens names i x l p v q b kept new parts there h (s, e, o, r) t g k f c same taken =
-    let next = token_passes tokens names i x l p v q h (s, e, o) t g k f c in
+token_taken tokens names i x l p v q a acts kept new parts there h (s, e, o, r) t g k f stands c taken =
+    let next = token_passes tokens names i x l p v q a acts h (s, e, o) t g k f c in
     let m : Terminal = terminal (declared_names tokens) (get_or tokens i x) in
     let held = passes_holds tokens i s e in
     let on : step s.state m ≡ Some next.0.state = stepped tokens i x s next.0 h e next.1 in
-    let before : definitions_of s.state ≡ progress_of b = ap (λ w. w.state) o ∙ ap progress_of (sym same) in
+    let before : definitions_of s.state ≡ progress_of p.progress = ap (λ w. w.state) o in
     let after : definitions_of next.0.state ≡ progress_of q.progress = ap (λ w. w.state) next.2 in
     let lex : class_of m ≡ l = ap (λ y. class_of (terminal (declared_names tokens) y)) (sym t) ∙ ap (λ ns. class_of (terminal ns x)) (sym g) ∙ sym k in
     let token : token_in m ≡ x = terminal_token (declared_names tokens) (get_or tokens i x) ∙ sym t in
-    let old = state_work s.state in
-    let worked : work_after (progress_of b) (progress_of q.progress) l x old ≡ Some (state_work next.0.state) =
-    ap (λ a. work_after a (progress_of q.progress) l x old) (sym before)
-    ∙ ap (λ a. work_after (definitions_of s.state) a l x old) (sym after)
-    ∙ ap (λ a. work_after (definitions_of s.state) (definitions_of next.0.state) a x old) (sym lex)
-    ∙ ap (λ a. work_after (definitions_of s.state) (definitions_of next.0.state) (class_of m) a old) (sym token)
-    ∙ works s.state m next.0.state held on in
-    let may : MayTake (progress_of b) (progress_of q.progress) old =
-    subst (λ a. MayTake a (progress_of q.progress) old) before (subst (λ a. MayTake (definitions_of s.state) a old) after (takes s.state m next.0.state held on)) in
-    (next.0, next.1, next.2, taken old (state_work next.0.state) r may worked)
+    let old = added_work acts (state_work s.state) in
+    let told : definitions.advanced x (definitions.advance (progress_of p.progress) l) ≡ Some (a, progress_of q.progress, acts) = subst (seen.Stands (progress_of p.progress) l x) c stands in
+    let led : definitions.advanced (token_in m) (definitions.advance (definitions_of s.state) (class_of m)) ≡ Some (a, progress_of q.progress, acts) =
+    ap (λ y. definitions.advanced y (definitions.advance (definitions_of s.state) (class_of m))) token
+    ∙ ap (λ y. definitions.advanced x (definitions.advance y (class_of m))) before
+    ∙ ap (λ y. definitions.advanced x (definitions.advance (progress_of p.progress) y)) lex ∙ told in
+    let turn = turns s.state m next.0.state a (progress_of q.progress) acts held on led in
+    let worked : turned_work a (progress_of q.progress) l x old ≡ Some (state_work next.0.state) =
+    ap (λ y. turned_work a y l x old) (sym after)
+    ∙ ap (λ y. turned_work a (definitions_of next.0.state) y x old) (sym lex)
+    ∙ ap (λ y. turned_work a (definitions_of next.0.state) (class_of m) y old) (sym token)
+    ∙ turn.works in
+    let may : MayTurn a (progress_of q.progress) old = subst (λ y. MayTurn a y old) after turn.may in
+    (next.0, next.1, next.2, taken (state_work s.state) (state_work next.0.state) r may worked)
 
 -- ---- the end of the tokens
 

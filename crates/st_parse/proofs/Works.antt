@@ -4,7 +4,6 @@ use Rattle.std.specs.Option.{option_or}
 use Rattle.std.proofs.lemmas.List.{reverse-append}
 use Rattle.st_num.specs.declared.limit.TheConstants.{MOST_PREMISES}
 use Rattle.st_num.specs.declared.memory.NoMemory.{NoMemory}
-use Rattle.st_num.specs.declared.mark.Mark.{Mark}
 use Rattle.st_num.specs.declared.token.Token.{Token}
 use Rattle.st_grammar.specs.declared.sort.Bracket.{Bracket}
 use Rattle.st_parse_automaton.specs.declared.part_automaton.Expected.TheVariants.{Operand}
@@ -14,6 +13,8 @@ use Rattle.st_parse_automaton.specs.declared.part_automaton.Reading.{Reading}
 use Rattle.st_parse_automaton.specs.declared.position.At.{At}
 use Rattle.st_parse_automaton.specs.declared.position.TokenClass.{TokenClass}
 use Rattle.st_parse_automaton.specs.declared.position.Slot.{Slot}
+use Rattle.st_parse_automaton.specs.declared.position.Advance.{Advance}
+use Rattle.st_parse_automaton.specs.declared.position.Advance.TheVariants as advance
 use Rattle.st_parse_automaton.specs.declared.position.Position.{Position}
 use Rattle.st_parse_automaton.specs.declared.position.Position.TheVariants as position
 use Rattle.st_parse_automaton.specs.declared.position.Progress.{Progress}
@@ -26,7 +27,6 @@ use Rattle.st_parse_builder.specs.declared.action.Action.{Action}
 use Rattle.st_parse_builder.specs.inner.Building.{Stack, run}
 use Rattle.st_parse_builder.specs.Variables.{Occurrence, occurrences}
 use Rattle.st_parse_builder.specs.Limits.{place_past}
-use Rattle.st_parse_faults.specs.inner.Roles.{none_open}
 use Rattle.st_parse_builder.specs.inner.PieceVariables.{stack_variables}
 use Rattle.st_draft.specs.declared.draft.Draft.{Draft}
 use Rattle.st_draft.specs.declared.parts.Parts.{Parts}
@@ -34,7 +34,7 @@ use Rattle.st_draft.specs.inner.Changes.{change_of, ending_of}
 use Rattle.st_draft.specs.inner.Drafts.{arguments_after, ended}
 use Rattle.st_draft.specs.inner.Parts.{word_of, redrafted}
 use Rattle.st_draft.specs.inner.Ready.{told, MayEnd, Ready, Awaits}
-use Rattle.st_draft.specs.inner.Work.{Work, work_of, part_work, redrafted_work, position_work, filled_work, goes_on, taken_work, work_after, MayLeave, MayTake, ended_defs, MayClose}
+use Rattle.st_draft.specs.inner.Work.{Work, work_of, worded_work, added_work, redrafted_work, ended_work, filled_work, turned_work, MayTurn, ended_defs, MayClose}
 use Rattle.st_parse.specs.declared.kept.Kept.{Kept}
 use Rattle.st_parse.specs.declared.variables.Variables.{Variables}
 use Rattle.st_parse.specs.inner.Kept.{Notes, Draws, Keeps}
@@ -46,97 +46,42 @@ chained A B f None b e = absurd (cc)
 chained A B f (Some a) b e = (a, refl, e)
 
 -- a work by its fields
-abbrev work : Draft → List (List Action) → List Action → List Mark → List (TokenClass × Token) → Work
-work d given acts marks words = record { draft = d; arguments = given; actions = acts; marks = marks; words = words }
+abbrev work : Draft → List (List Action) → List Action → List (TokenClass × Token) → Work
+work d given acts words = record { draft = d; arguments = given; actions = acts; words = words }
 
-same_work : (d : Draft) (given given' : List (List Action)) (acts acts' : List Action) (marks marks' : List Mark) (words words' : List (TokenClass × Token)) → given ≡ given' → acts ≡ acts' → marks ≡ marks' → words ≡ words'
-    → work d given acts marks words ≡ work d given' acts' marks' words'
-same_work d given given' acts acts' marks marks' words words' e f g h =
-    ap (λ y. work d y acts marks words) e ∙ ap (λ y. work d given' y marks words) f ∙ ap (λ y. work d given' acts' y words) g ∙ ap (work d given' acts' marks') h
+same_work : (d : Draft) (given given' : List (List Action)) (acts acts' : List Action) (words words' : List (TokenClass × Token)) → given ≡ given' → acts ≡ acts' → words ≡ words' → work d given acts words ≡ work d given' acts' words'
+same_work d given given' acts acts' words words' e f h = ap (λ y. work d y acts words) e ∙ ap (λ y. work d given' y words) f ∙ ap (work d given' acts') h
 
 -- ---- a part goes on
 
-gone_on : (k : Kept) (slot : Slot) (st : parts.State) (l : TokenClass) (x : Token) (p q : Parts) (b a : Work) → Keeps k p b → part_work slot st l x b ≡ a
-    → ((d : Draft) → work_of d q ≡ part_work slot st l x (work_of d p)) → Keeps k q a
-gone_on k slot st l x p q b a h e made =
-    subst (Keeps k q) e (record { drawn = h.drawn; same = made b.draft ∙ ap (part_work slot st l x) h.same })
+-- the work with more actions is kept
+pub added_keeps : (k : Kept) (acts : List Action) (p q : Parts) (w : Work) → Keeps k p w → ((d : Draft) → work_of d q ≡ added_work acts (work_of d p)) → Keeps k q (added_work acts w)
+added_keeps k acts p q w h made = record { drawn = h.drawn; same = made w.draft ∙ ap (added_work acts) h.same }
 
-pub going_on : (r : Result (Unit {0}) NoMemory) (k : Kept) (slot : Slot) (st : parts.State) (l : TokenClass) (x : Token) (p q : Parts) (b a : Work) → Keeps k p b → part_work slot st l x b ≡ a
-    → ((d : Draft) → IfOk r (λ z. work_of d q ≡ part_work slot st l x (work_of d p))) → IfOk r (λ z. Keeps k q a)
-going_on (Err f) k slot st l x p q b a h e made = tt
-going_on (Ok z) k slot st l x p q b a h e made = gone_on k slot st l x p q b a h e made
+worded : (k : Kept) (slot : Slot) (l : TokenClass) (x : Token) (p q : Parts) (b a : Work) → Keeps k p b → worded_work slot l x b ≡ a → ((d : Draft) → work_of d q ≡ worded_work slot l x (work_of d p)) → Keeps k q a
+worded k slot l x p q b a h e made = subst (Keeps k q) e (record { drawn = h.drawn; same = made b.draft ∙ ap (worded_work slot l x) h.same })
 
--- a part in which something is read goes on
-last_open : (xs : List Frame) (f : Frame) → none_open (Operand, xs ++ f ∷ []) ≡ false
-last_open [] f = refl
-last_open (g ∷ xs) f = refl
-
-frames_open : (fs : List Frame) (b : Bool) → (IsTrue b → fs ≡ []) → (fs ≡ [] → IsTrue b) → not b ≡ not (none_open (Operand, reverse fs))
-frames_open fs true h k = let none : fs ≡ [] = h refl in ap (λ ys. not (none_open (Operand, reverse ys))) (sym none)
-frames_open [] false h k = let never : false ≡ true = k refl in absurd (cc)
-frames_open (f ∷ fs) false h k = ap not (sym (ap (λ ys. none_open (Operand, ys)) (reverse-append (f ∷ []) fs) ∙ last_open (reverse fs) f))
-
-pub goes_on_open : (n : Progress) (s : Slot) (r : Reading) (ks : List Bracket) (b : Bool) → n ≡ code.Inside s r ks → r.expected ≡ Operand → (IsTrue b → r.frames ≡ []) → (r.frames ≡ [] → IsTrue b) → not b ≡ goes_on (progress_of n)
-goes_on_open n s r ks b is due h k =
-    frames_open r.frames b h k ∙ ap (λ e. not (none_open (e, reverse r.frames))) (sym due) ∙ ap (λ m. goes_on (progress_of m)) (sym is)
+pub words_keep : (r : Result (Unit {0}) NoMemory) (k : Kept) (a : Advance) (next : definitions.State) (slot : Slot) (l : TokenClass) (x : Token) (p q : Parts) (b c : Work) → a ≡ advance.On slot → Keeps k p b → turned_work a next l x b ≡ Some c
+    → ((d : Draft) → IfOk r (λ z. work_of d q ≡ worded_work slot l x (work_of d p))) → IfOk r (λ z. Keeps k q c)
+words_keep (Err f) k a next slot l x p q b c is h e made = tt
+words_keep (Ok z) k a next slot l x p q b c is h e made = worded k slot l x p q b c h (some_is (ap (λ v. turned_work v next l x b) (sym is) ∙ e)) made
 
 -- ---- positions
-
-pub at_is : (n : Progress) (a : At) (p : Position) (l : TokenClass) (x : Token) (b : Work) → n ≡ code.At a → position_work (progress_of n) p l x b ≡ redrafted_work (progress_of n) p l x b
-at_is n a p l x b e = subst (λ m. position_work (progress_of m) p l x b ≡ redrafted_work (progress_of m) p l x b) (sym e) refl
-
-pub entering_is : (n : Progress) (t s : Slot) (r : Reading) (ks : List Bracket) (p : Position) (l : TokenClass) (x : Token) (b a : Work) → n ≡ code.Inside t r ks → p ≡ position.Entering s
-    → position_work (progress_of n) p l x b ≡ Some a → part_work s (Operand, []) l x b ≡ a
-entering_is n t s r ks p l x b a e f h =
-    let is : position_work (progress_of (code.Inside t r ks)) (position.Entering s) l x b ≡ Some a =
-    ap (λ m. position_work (progress_of m) (position.Entering s) l x b) (sym e) ∙ ap (λ q. position_work (progress_of n) q l x b) (sym f) ∙ h in
-    cc
-
-other_position : (st : definitions.State) (p : Position) (l : TokenClass) (x : Token) (b : Work) → ((s : Slot) → p ≡ position.Entering s → ⊥) → position_work st p l x b ≡ redrafted_work st p l x b
-other_position (definitions.at q ks) p l x b h = refl
-other_position (definitions.inside t st ks) (position.Entering s) l x b h = absurd (h s refl)
-other_position (definitions.inside t st ks) position.Between l x b h = refl
-other_position (definitions.inside t st ks) position.SyntaxName l x b h = refl
-other_position (definitions.inside t st ks) position.VarName l x b h = refl
-other_position (definitions.inside t st ks) position.VarColon l x b h = refl
-other_position (definitions.inside t st ks) position.RelationName l x b h = refl
-other_position (definitions.inside t st ks) position.RuleName l x b h = refl
-other_position (definitions.inside t st ks) position.RuleColon l x b h = refl
-other_position (definitions.inside t st ks) position.FunName l x b h = refl
-other_position (definitions.inside t st ks) position.FunNamed l x b h = refl
-other_position (definitions.inside t st ks) (position.Argued c) l x b h = refl
-other_position (definitions.inside t st ks) (position.ArgumentsClosed c) l x b h = refl
-other_position (definitions.inside t st ks) (position.SyntaxId c) l x b h = refl
-other_position (definitions.inside t st ks) (position.RuleId c) l x b h = refl
-other_position (definitions.inside t st ks) (position.Hinted k c) l x b h = refl
-other_position (definitions.inside t st ks) (position.HintOpen k) l x b h = refl
-other_position (definitions.inside t st ks) (position.HintName k) l x b h = refl
-other_position (definitions.inside t st ks) (position.HintWords k) l x b h = refl
-other_position (definitions.inside t st ks) position.Dotted l x b h = refl
-other_position (definitions.inside t st ks) (position.FieldName c) l x b h = refl
-other_position (definitions.inside t st ks) position.Premised l x b h = refl
-other_position (definitions.inside t st ks) position.PremiseOpen l x b h = refl
-other_position (definitions.inside t st ks) position.GoalColon l x b h = refl
-other_position (definitions.inside t st ks) (position.Iterated m) l x b h = refl
-
-pub not_entering : (n : Progress) (p : Position) (l : TokenClass) (x : Token) (b : Work) → ((s : Slot) → p ≡ position.Entering s → ⊥) → position_work (progress_of n) p l x b ≡ redrafted_work (progress_of n) p l x b
-not_entering n p l x b h = other_position (progress_of n) p l x b h
 
 -- what a token between parts makes
 pub redrafted_keeps : (kept new : Kept) (p q : Parts) (b a : Work) (next : definitions.State) (position : Position) (l : TokenClass) (x : Token) (given : List (List Action)) → Keeps kept p b → Ready (change_of position next) b.draft
     → redrafted_work next position l x b ≡ Some a → given ≡ p.arguments
     → ((d e : Draft) → Draws kept d → Ready (change_of position next) d → redrafted (change_of position next) l.shape x given d ≡ Some e → Draws new e)
-    → q.arguments ≡ arguments_after (change_of position next) p.arguments → q.actions ≡ p.actions → q.marks ≡ p.marks → q.words ≡ p.words → Keeps new q a
-redrafted_keeps kept new p q b a next position l x given h ready e is changes given_up acts marks words =
+    → q.arguments ≡ arguments_after (change_of position next) p.arguments → q.actions ≡ p.actions → q.words ≡ p.words → Keeps new q a
+redrafted_keeps kept new p q b a next position l x given h ready e is changes given_up acts words =
     let c = change_of position next in
     let args : p.arguments ≡ b.arguments = ap (λ (w : Work). w.arguments) h.same in
-    let m = mapped Draft Work (λ d. work d (arguments_after c b.arguments) b.actions b.marks b.words) (redrafted c l.shape x b.arguments b.draft) a e in
+    let m = mapped Draft Work (λ d. work d (arguments_after c b.arguments) b.actions b.words) (redrafted c l.shape x b.arguments b.draft) a e in
     subst (Keeps new q) m.2 (record {
       drawn = changes b.draft m.0 h.drawn ready (ap (λ g. redrafted c l.shape x g b.draft) (is ∙ args) ∙ m.1);
-      same = same_work m.0 q.arguments (arguments_after c b.arguments) q.actions b.actions (reverse q.marks) b.marks (map word_of q.words) b.words
+      same = same_work m.0 q.arguments (arguments_after c b.arguments) q.actions b.actions (map word_of q.words) b.words
           (given_up ∙ ap (arguments_after c) args)
           (acts ∙ ap (λ (w : Work). w.actions) h.same)
-          (ap reverse marks ∙ ap (λ (w : Work). w.marks) h.same)
           (ap (map word_of) words ∙ ap (λ (w : Work). w.words) h.same);
     })
 
@@ -144,29 +89,19 @@ redrafted_keeps kept new p q b a next position l x given h ready e is changes gi
 
 -- ---- each token
 
-pub on_keeps : (from next : definitions.State) (slot : Slot) (st : parts.State) (ks : List Bracket) (l : TokenClass) (x : Token) (b a : Work) → from ≡ definitions.inside slot st ks → goes_on next ≡ true → work_after from next l x b ≡ Some a
-    → part_work slot st l x b ≡ a
-on_keeps from next slot st ks l x b a is on e =
-    some_is (ap (λ o. taken_work o slot st ks next l x b (parts.finish st)) (sym on) ∙ ap (λ f. work_after f next l x b) (sym is) ∙ e)
-
 -- where a part ends, and the token leads on behind it
-pub record Behind (next : definitions.State) (slot : Slot) (st : parts.State) (ks : List Bracket) (l : TokenClass) (x : Token) (part : Part) (b a : Work) : Type 0 where
+pub record Left (next : definitions.State) (slot : Slot) (n : ℕ) (p : Position) (l : TokenClass) (x : Token) (b a : Work) : Type 0 where
   pub mid : Work
   pub awaits : Awaits slot b.draft
-  pub filled : filled_work slot (length ks) st b ≡ Some mid
-  pub ready : Ready (change_of (definitions.filled slot part) next) mid.draft
-  pub leads : position_work next (definitions.filled slot part) l x mid ≡ Some a
+  pub filled : ended_work slot n b ≡ Some mid
+  pub ready : Ready (change_of p next) mid.draft
+  pub leads : redrafted_work next p l x mid ≡ Some a
 
-pub behind : (from next : definitions.State) (slot : Slot) (st : parts.State) (ks : List Bracket) (l : TokenClass) (x : Token) (part : Part) (b a : Work) → from ≡ definitions.inside slot st ks → goes_on next ≡ false → parts.finish st ≡ Some part
-    → MayTake from next b → work_after from next l x b ≡ Some a → Behind next slot st ks l x part b a
-behind from next slot st ks l x part b a is off ends may e =
-    let asked : MayLeave false slot st ks next b = subst (λ o. MayLeave o slot st ks next b) off (subst (λ f. MayTake f next b) is may) in
-    let worked : option_and_then (position_work next (definitions.filled slot part) l x) (filled_work slot (length ks) st b) ≡ Some a =
-    ap (λ o. taken_work false slot st ks next l x b o) (sym ends)
-    ∙ ap (λ o. taken_work o slot st ks next l x b (parts.finish st)) (sym off)
-    ∙ ap (λ f. work_after f next l x b) (sym is) ∙ e in
-    let m = chained Work Work (position_work next (definitions.filled slot part) l x) (filled_work slot (length ks) st b) a worked in
-    record { mid = m.0; awaits = asked.0; filled = m.1; ready = asked.1 part m.0 ends m.1; leads = m.2 }
+pub left : (how : Advance) (next : definitions.State) (slot : Slot) (n : ℕ) (p : Position) (l : TokenClass) (x : Token) (b a : Work) → how ≡ advance.Behind slot n p → MayTurn how next b → turned_work how next l x b ≡ Some a → Left next slot n p l x b a
+left how next slot n p l x b a is may e =
+    let asked : MayTurn (advance.Behind slot n p) next b = subst (λ h. MayTurn h next b) is may in
+    let m = chained Work Work (redrafted_work next p l x) (ended_work slot n b) a (ap (λ h. turned_work h next l x b) (sym is) ∙ e) in
+    record { mid = m.0; awaits = asked.0; filled = m.1; ready = asked.1 m.0 m.1; leads = m.2 }
 
 -- ---- what is cut off
 

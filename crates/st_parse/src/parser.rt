@@ -17,9 +17,7 @@ use crate::take::{cut_off, finish, take};
 use st_draft::{Parts, no_parts};
 use st_el::Def;
 use st_num::{NoMemory, Row, RuleId, Token};
-use st_parse_automaton::{
-    At, NameIndex, Position, Progress, Reading, declared_names, may_end, token_class,
-};
+use st_parse_automaton::{At, NameIndex, Position, Progress, declared_names, may_end, token_class};
 use st_parse_faults::{
     Seen, SyntaxFault, TokenFault, TokenVerdict, judge_token, nothing_counted, place_at,
 };
@@ -35,25 +33,6 @@ fn nothing_seen(alloc: Global) -> Result<Seen, NoMemory>
         brackets: Row::new(alloc),
     });
     nothing_counted(alloc, progress, 0)
-}
-
-/// A copy of how far definitions are read.
-fn copy_progress(alloc: Global, progress: &Progress) -> Result<Progress, NoMemory>
-    ensures { IfOk result (λ copy. copy ≡ progress.now) }
-{
-    match progress {
-        Progress::At(here) => Ok(Progress::At(At {
-            position: here.position,
-            brackets: here.brackets.copy(alloc)?,
-        })),
-        Progress::Inside(slot, reading, brackets) => {
-            let reading = Reading {
-                expected: reading.expected,
-                frames: reading.frames.copy(alloc)?,
-            };
-            Ok(Progress::Inside(*slot, reading, brackets.copy(alloc)?))
-        }
-    }
 }
 
 /// The fault of tokens that end here.
@@ -137,16 +116,23 @@ fn read_tokens(
     let mut parts = no_parts(alloc);
     'tokens: for (at, token) in tokens.iter().enumerate() {
         let class = token_class(names, token);
-        let before = copy_progress(alloc, &seen.progress)?;
-        match judge_token(alloc, seen, &token.kind, class)? {
-            TokenVerdict::Broken(rule) => {
+        match judge_token(alloc, seen, token, class)? {
+            TokenVerdict::Broken(rule, before) => {
                 let fault = Some(TokenFault { token: at, rule });
                 stop(alloc, fault, &before, &mut kept, &mut parts)?;
                 return answer(tokens, fault, kept);
             }
-            TokenVerdict::Passed(next) => {
-                let there = &next.progress;
-                take(alloc, &before, there, class, token, &mut kept, &mut parts)?;
+            TokenVerdict::Passed(next, advance, mut added) => {
+                take(
+                    alloc,
+                    advance,
+                    &next.progress,
+                    class,
+                    token,
+                    &mut added,
+                    &mut kept,
+                    &mut parts,
+                )?;
                 seen = next;
             }
         }

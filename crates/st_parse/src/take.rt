@@ -1,6 +1,6 @@
 //! What a token makes of what is kept, once it is known where it leads.
 
-ghost use Rattle.std.specs.Prelude.{◌≡◌, [], map, length, List, Some, IfOk};
+ghost use Rattle.std.specs.Prelude.{◌≡◌, [], length, List, Some, IfOk};
 ghost use Rattle.st_el.specs.declared.definition.Def.{Def};
 ghost use Rattle.st_grammar.specs.declared.sort.Bracket.{Bracket};
 ghost use Rattle.st_parse_automaton.specs.inner.PartAutomaton as automaton;
@@ -9,7 +9,6 @@ ghost use Rattle.st_parse_builder.specs.Variables.{Occurrence};
 ghost use Rattle.st_draft.specs.declared.draft.Draft.{Draft};
 ghost use Rattle.st_draft.specs.inner.Changes.{change_of};
 ghost use Rattle.st_draft.specs.inner.Drafts.{arguments_after};
-ghost use Rattle.st_draft.specs.inner.Parts.{word_of};
 ghost use Rattle.st_draft.specs.inner.Ready.{Ready, Awaits};
 ghost use Rattle.st_draft.specs.inner.Work as spec;
 ghost use Rattle.st_draft.specs.inner.Work.{Work};
@@ -20,11 +19,10 @@ use crate::kept::{Kept, change_kept, end_kept, fill_kept};
 use crate::variables::{count, note_cut};
 use st_draft::{Change, PartToken, Parts, change_of, ending_of};
 use st_num::{NoMemory, Row, Token};
-use st_parse_actions::emit;
 use st_parse_automaton::{
-    Expected, Position, Progress, Reading, Slot, TokenClass, filled, part_end, slot_sort,
+    Advance, Position, Progress, Reading, Slot, TokenClass, end, filled, part_end, with_actions,
 };
-use st_parse_builder::TokenRef;
+use st_parse_builder::{Action, TokenRef};
 use std::alloc::Global;
 use std::mem::replace;
 
@@ -33,13 +31,13 @@ fn keep_word<'a>(
     slot: Slot,
     class: TokenClass,
     token: &'a Token,
-    words: &mut Row<PartToken<'a>>,
+    parts: &mut Parts<'a>,
 ) -> Result<(), NoMemory>
-    ensures { IfOk result (λ _. map word_of words.new
-        ≡ spec.words_after slot class token.now (map word_of words.old)) }
+    ensures { (draft : Draft) → IfOk result (λ _. spec.work_of draft parts.new
+        ≡ spec.worded_work slot class token.now (spec.work_of draft parts.old)) }
 {
     match slot {
-        Slot::Count => words.push(PartToken {
+        Slot::Count => parts.words.push(PartToken {
             class,
             token: TokenRef::new(token),
         }),
@@ -47,35 +45,35 @@ fn keep_word<'a>(
     }
 }
 
-/// A token goes on with a part.
-fn go_on<'a>(
-    slot: Slot,
-    reading: &Reading,
-    class: TokenClass,
-    token: &'a Token,
+/// Adds these actions to those of the part.
+fn add<'a>(
+    alloc: Global,
+    added: &mut Row<Action<'a>>,
     parts: &mut Parts<'a>,
 ) -> Result<(), NoMemory>
     ensures { (draft : Draft) → IfOk result (λ _. spec.work_of draft parts.new
-        ≡ spec.part_work slot (reading_of reading.now) class token.now
+        ≡ spec.added_work added.old (spec.work_of draft parts.old)) }
+{
+    let actions = replace(&mut parts.actions, Row::new(alloc));
+    let more = replace(added, Row::new(alloc));
+    let joined = with_actions(actions, more)?;
+    let _taken = replace(&mut parts.actions, joined);
+    Ok(())
+}
+
+/// Adds the actions of the end of the part.
+fn add_end<'a>(reading: &Reading, parts: &mut Parts<'a>) -> Result<(), NoMemory>
+    ensures { (draft : Draft) → IfOk result (λ _. spec.work_of draft parts.new
+        ≡ spec.added_work (automaton.finishing (reading_of reading.now))
         (spec.work_of draft parts.old)) }
 {
-    let shape = class.shape;
-    emit(
-        slot_sort(slot),
-        reading,
-        shape,
-        token,
-        &mut parts.marks,
-        &mut parts.actions,
-    )?;
-    keep_word(slot, class, token, &mut parts.words)
+    end(reading, &mut parts.actions)
 }
 
 /// The arguments are given up where they are built.
 fn drop_arguments<'a>(alloc: Global, change: Change, parts: &mut Parts<'a>)
     ensures arguments { parts.new.arguments ≡ arguments_after change parts.old.arguments }
     ensures actions { parts.new.actions ≡ parts.old.actions }
-    ensures marks { parts.new.marks ≡ parts.old.marks }
     ensures words { parts.new.words ≡ parts.old.words }
 {
     match change {
@@ -108,45 +106,14 @@ fn redraft<'a>(
     Ok(())
 }
 
-/// A token at a position, where it leads on.
-fn step_on<'a>(
-    alloc: Global,
-    position: Position,
-    next: &Progress,
-    class: TokenClass,
-    token: &'a Token,
-    kept: &mut Kept<'a>,
-    parts: &mut Parts<'a>,
-) -> Result<(), NoMemory>
-    ensures { (before after : Work) → Keeps kept.old parts.old before
-        → Ready (change_of position (progress_of next.now)) before.draft
-        → spec.position_work (progress_of next.now) position class token.now before ≡ Some after
-        → IfOk result (λ _. Keeps kept.new parts.new after) }
-{
-    match next {
-        Progress::At(_) => redraft(alloc, position, next, class, token, kept, parts),
-        Progress::Inside(_, _, _) => match position {
-            Position::Entering(slot) => {
-                let fresh = Reading {
-                    expected: Expected::Operand,
-                    frames: Row::new(alloc),
-                };
-                go_on(slot, &fresh, class, token, parts)
-            }
-            _ => redraft(alloc, position, next, class, token, kept, parts),
-        },
-    }
-}
-
 /// The part ends, and what is kept of it is given up, but for the actions of an argument.
 fn give_up<'a>(alloc: Global, slot: Slot, parts: &mut Parts<'a>) -> Result<(), NoMemory>
     ensures arguments { IfOk result (λ _. parts.new.arguments
         ≡ spec.arguments_with slot parts.old.actions parts.old.arguments) }
     ensures rest { IfOk result (λ _.
-        (parts.new.actions ≡ []) × (parts.new.marks ≡ []) × (parts.new.words ≡ [])) }
+        (parts.new.actions ≡ []) × (parts.new.words ≡ [])) }
 {
     let actions = replace(&mut parts.actions, Row::new(alloc));
-    parts.marks = Row::new(alloc);
     let _words = replace(&mut parts.words, Row::new(alloc));
     match slot {
         Slot::Argument(_, _) => parts.arguments.push(actions),
@@ -154,68 +121,69 @@ fn give_up<'a>(alloc: Global, slot: Slot, parts: &mut Parts<'a>) -> Result<(), N
     }
 }
 
-/// A part ends, with so many brackets open round it.
+/// A part ends whose actions are all there, with so many brackets open round it.
 fn end_part<'a>(
     alloc: Global,
     slot: Slot,
     around: usize,
-    reading: &Reading,
     kept: &mut Kept<'a>,
     parts: &mut Parts<'a>,
 ) -> Result<(), NoMemory>
     ensures { (before after : Work) → Keeps kept.old parts.old before
         → Awaits slot before.draft
-        → spec.filled_work slot around (reading_of reading.now) before ≡ Some after
+        → spec.ended_work slot around before ≡ Some after
         → IfOk result (λ _. Keeps kept.new parts.new after) }
 {
-    st_parse_actions::finish(reading, &mut parts.actions)?;
     let actions = parts.actions.as_slice();
     fill_kept(alloc, slot, around, actions, parts.words.as_slice(), kept)?;
     give_up(alloc, slot, parts)
 }
 
-/// Whether the token that leads there goes on with a part: the part does not begin behind it.
-fn goes_on(next: &Progress) -> bool
-    ensures { result ≡ spec.goes_on (progress_of next.now) }
-{
-    match next {
-        Progress::At(_) => false,
-        Progress::Inside(_, reading, _) => match reading.expected {
-            Expected::Operand => !reading.frames.is_empty(),
-            _ => true,
-        },
-    }
-}
-
-/// Takes a token that leads from one progress to the next.
-pub(crate) fn take<'a>(
+/// Takes a token that stands so and leads there, where its actions are there.
+fn turn<'a>(
     alloc: Global,
-    before: &Progress,
+    advance: Advance,
     next: &Progress,
     class: TokenClass,
     token: &'a Token,
     kept: &mut Kept<'a>,
     parts: &mut Parts<'a>,
 ) -> Result<(), NoMemory>
-    ensures { (old new : Work) → Keeps kept.old parts.old old
-        → spec.MayTake (progress_of before.now) (progress_of next.now) old
-        → spec.work_after (progress_of before.now) (progress_of next.now) class token.now old
-        ≡ Some new
-        → IfOk result (λ _. Keeps kept.new parts.new new) }
+    ensures { (before after : Work) → Keeps kept.old parts.old before
+        → spec.MayTurn advance (progress_of next.now) before
+        → spec.turned_work advance (progress_of next.now) class token.now before ≡ Some after
+        → IfOk result (λ _. Keeps kept.new parts.new after) }
 {
-    match before {
-        Progress::At(here) => step_on(alloc, here.position, next, class, token, kept, parts),
-        Progress::Inside(slot, reading, brackets) => {
-            if goes_on(next) {
-                return go_on(*slot, reading, class, token, parts);
-            }
-            let Some(part) = part_end(reading) else {
-                return Ok(());
-            };
-            end_part(alloc, *slot, brackets.len(), reading, kept, parts)?;
-            step_on(alloc, filled(*slot, part), next, class, token, kept, parts)
+    match advance {
+        Advance::On(slot) => keep_word(slot, class, token, parts),
+        Advance::At(position) => redraft(alloc, position, next, class, token, kept, parts),
+        Advance::Behind(slot, around, position) => {
+            end_part(alloc, slot, around, kept, parts)?;
+            redraft(alloc, position, next, class, token, kept, parts)
         }
     }
+}
+
+/// Takes a token that stands so and leads there, and adds these actions, which are given up.
+pub(crate) fn take<'a>(
+    alloc: Global,
+    advance: Advance,
+    next: &Progress,
+    class: TokenClass,
+    token: &'a Token,
+    added: &mut Row<Action<'a>>,
+    kept: &mut Kept<'a>,
+    parts: &mut Parts<'a>,
+) -> Result<(), NoMemory>
+    ensures { (before after : Work) → Keeps kept.old parts.old before
+        → spec.MayTurn advance (progress_of next.now) (spec.added_work added.old before)
+        → spec.turned_work advance (progress_of next.now) class token.now
+        (spec.added_work added.old before)
+        ≡ Some after
+        → IfOk result (λ _. Keeps kept.new parts.new after) }
+{
+    add(alloc, added, parts)?;
+    turn(alloc, advance, next, class, token, kept, parts)
 }
 
 /// The tokens end, and the open definition with them.
@@ -236,7 +204,8 @@ pub(crate) fn finish<'a>(
             let Some(part) = part_end(reading) else {
                 return Ok(());
             };
-            end_part(alloc, *slot, brackets.len(), reading, kept, parts)?;
+            add_end(reading, parts)?;
+            end_part(alloc, *slot, brackets.len(), kept, parts)?;
             end_kept(alloc, ending_of(filled(*slot, part)), kept)
         }
     }
@@ -258,7 +227,10 @@ fn part_off<'a>(
         → IfOk result (λ _. Counts kept.new.variables before.draft.defs vs) }
 {
     match part_end(reading) {
-        Some(_) => end_part(alloc, slot, around, reading, kept, parts),
+        Some(_) => {
+            add_end(reading, parts)?;
+            end_part(alloc, slot, around, kept, parts)
+        }
         None => note_cut(alloc, slot, parts.actions.as_slice(), &mut kept.variables),
     }
 }

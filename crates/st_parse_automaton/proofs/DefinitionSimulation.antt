@@ -1,5 +1,5 @@
 -- The definition automaton takes each step of the reading.
-use Rattle.std.proofs.Common.{◌≡◌, ℕ, suc, ◌-◌, ◌≤◌, List, [], ◌∷◌, ◌++◌, length, Bool, true, false, not, ◌&&◌, ◌==◌, Option, Some, None, option_and_then, option_map, if◌then◌else◌, refl, sym, ap, ◌∙◌, arith}
+use Rattle.std.proofs.Common.{◌≡◌, ℕ, suc, ◌-◌, ◌≤◌, List, [], ◌∷◌, ◌++◌, length, Bool, true, false, not, ◌&&◌, ◌==◌, Option, Some, None, option_and_then, option_map, if◌then◌else◌, refl, sym, ap, subst, ◌∙◌, arith}
 use Rattle.st_grammar.specs.declared.sort.Bracket.{Bracket}
 use Rattle.st_grammar.specs.declared.sort.Bracket.TheVariants as bracket
 use Rattle.st_grammar.specs.declared.keyword.Keyword.{Keyword}
@@ -18,6 +18,11 @@ use Rattle.st_parse_automaton.specs.declared.position.CaseAt.TheVariants as case
 use Rattle.st_parse_automaton.specs.declared.position.Slot.TheVariants as slot
 use Rattle.st_parse_automaton.specs.declared.position.IterationState.TheVariants as iterations
 use Rattle.st_parse_automaton.specs.declared.position.Position.TheVariants as position
+use Rattle.st_parse_automaton.specs.declared.position.Advance.{Advance}
+use Rattle.st_parse_automaton.specs.declared.position.Advance.TheVariants as advance_case
+use Rattle.st_parse_builder.specs.declared.action.Action.{Action}
+use Rattle.st_parse_builder.specs.inner.Emission as emission
+use Rattle.st_num.specs.declared.token.Token.{Token}
 use Rattle.st_parse_automaton.specs.inner.Shapes.{shape, class_of}
 use Rattle.st_parse_automaton.specs.inner.PartAutomaton as parts
 use Rattle.st_parse_automaton.specs.inner.DefinitionAutomaton as definitions
@@ -149,18 +154,14 @@ other_enters (rule_slot r) l = refl
 other_enters (cond_slot r t ps d os ls) l = refl
 other_enters (count_slot r t ps d os ls u i k) l = refl
 
-pub part_step_is : (s : spec.Slot) (st : part.State) (l : terminals.Terminal) → sound.Holds st → sound.state_base st ≡ spec.slot_sort s
-    → parts.step (definitions.slot_sort (slot_of s)) (view.state_of st) (shape l) ≡ option_map view.state_of (part.step st l)
-part_step_is s st l h e = ap (λ σ. parts.step σ (view.state_of st) (shape l)) (slot_sort_is s ∙ sym e) ∙ simulation.step_is st l h
+pub part_moves_are : (s : spec.Slot) (st : part.State) (l : terminals.Terminal) → sound.Holds st → sound.state_base st ≡ spec.slot_sort s
+    → simulation.Agree (def.token_in l) (emission.emitted st l) (parts.step (definitions.slot_sort (slot_of s)) (view.state_of st) (shape l)) (part.step st l)
+part_moves_are s st l h e =
+    subst (λ σ. simulation.Agree (def.token_in l) (emission.emitted st l) (parts.step σ (view.state_of st) (shape l)) (part.step st l)) (sym (slot_sort_is s ∙ sym e)) (simulation.moves_are st l h)
 
-pub enters_is : (s : spec.Slot) (l : terminals.Terminal) → definitions.own (position.Entering (slot_of s)) (class_of l) (slot_open s) ≡ option_map definitions_of (spec.own (entering s) l)
-enters_is s l =
-    ap (λ o. definitions.enter (slot_of s) o (slot_open s) (definitions.enter_other (slot_of s) (class_of l) (slot_open s))) (part_step_is s (part.start (spec.slot_sort s)) l (tt, tt) refl)
-    ∙ go (part.step (part.start (spec.slot_sort s)) l)
-  where
-    go : (o : Option part.State) → definitions.enter (slot_of s) (option_map view.state_of o) (slot_open s) (definitions.enter_other (slot_of s) (class_of l) (slot_open s)) ≡ option_map definitions_of (spec.enter s o (spec.enter_other s l))
-    go (Some st) = refl
-    go None = other_enters s l
+pub part_step_is : (s : spec.Slot) (st : part.State) (l : terminals.Terminal) → sound.Holds st → sound.state_base st ≡ spec.slot_sort s
+    → parts.next (definitions.slot_sort (slot_of s)) (view.state_of st) (shape l) ≡ option_map view.state_of (part.step st l)
+part_step_is s st l h e = ap (λ σ. parts.next σ (view.state_of st) (shape l)) (slot_sort_is s ∙ sym e) ∙ simulation.step_is st l h
 
 pub field_step_is : (h : Head) (o : terminals.Terminal) (ms : Members) (pre : List terminals.Terminal) (l : terminals.Terminal) → definitions.field_step (has_no_member ms) (class_of l) [] ≡ option_map definitions_of (spec.field_step h o ms pre l)
 field_step_is h o no_members pre l =
@@ -259,42 +260,47 @@ iterate_is r t ps d os ls u i l h =
     go true w = ap (definitions.next_premise (keyword l)) (all_closed os i w) ∙ next_premise_is (keyword l) r t (more_premises ps (given d os ls u i)) l
     go false w = refl
 
-pub owns_is : (p : spec.Position) (l : terminals.Terminal) → texts.PositionHolds p → definitions.own (position_of p) (class_of l) (open_of p) ≡ option_map definitions_of (spec.own p l)
-owns_is (between ds) l h = refl
-owns_is (syntax_name ds w) l h = same_when _ _ _ _ (low_is l) refl
-owns_is (var_name ds w) l h = same_when _ _ _ _ (var_is l) refl
-owns_is (var_colon ds w x) l h = same_when _ _ _ _ (signed_is is_colon l) refl
-owns_is (relation_name ds w) l h = same_when _ _ _ _ (relation_is l) refl
-owns_is (rule_name ds w) l h = same_when _ _ _ _ (relation_is l) refl
-owns_is (rule_colon ds w r) l h =
+-- No part is due at the position.
+abbrev pub IsPlain : spec.Position → Type 0
+IsPlain (entering s) = ⊥
+IsPlain p = Unit {0}
+
+pub owns_is : (p : spec.Position) (l : terminals.Terminal) → texts.PositionHolds p → IsPlain p → definitions.own (position_of p) (class_of l) (open_of p) ≡ option_map definitions_of (spec.own p l)
+owns_is (between ds) l h plain = refl
+owns_is (syntax_name ds w) l h plain = same_when _ _ _ _ (low_is l) refl
+owns_is (var_name ds w) l h plain = same_when _ _ _ _ (var_is l) refl
+owns_is (var_colon ds w x) l h plain = same_when _ _ _ _ (signed_is is_colon l) refl
+owns_is (relation_name ds w) l h plain = same_when _ _ _ _ (relation_is l) refl
+owns_is (rule_name ds w) l h plain = same_when _ _ _ _ (relation_is l) refl
+owns_is (rule_colon ds w r) l h plain =
     same_if _ _ (at (position.RuleId true) []) (spec.at (rule_id ds w r (l ∷ []) true)) (definitions.colon_step (class_of l) []) (spec.colon_step ds w r [] l) (signed_is is_slash l) refl (colon_is ds w r [] l)
-owns_is (fun_name ds w) l h = same_when _ _ _ _ (fun_is l) refl
-owns_is (fun_named ds w f) l h =
+owns_is (fun_name ds w) l h plain = same_when _ _ _ _ (fun_is l) refl
+owns_is (fun_named ds w f) l h plain =
     same_if _ _ (at (position.Entering (slot.Argument true true)) []) (spec.at (entering (arg_slot ds w f l none []))) (definitions.result_step true (class_of l) []) (spec.result_step ds w f def.no_args true l)
     (ap (λ b. b && touches l) (open_is l)) refl (result_is ds w f def.no_args true l)
-owns_is (argued ds w f o none) l h = absurd h
-owns_is (argued ds w f o (more ts q t)) l h =
+owns_is (argued ds w f o none) l h plain = absurd h
+owns_is (argued ds w f o (more ts q t)) l h plain =
     same_if _ _ (definitions.start_of (slot.Argument false (reads_types (more ts q t))) []) (spec.begun (arg_slot ds w f o (more ts q t) (l ∷ []))) (definitions.when (definitions.closes_round (class_of l)) (at (position.ArgumentsClosed (reads_types (more ts q t))) []))
     (spec.when (def.closes_round l) (spec.at (args_closed ds w f o (more ts q t) l))) (signed_is is_comma l) refl (same_when _ _ _ _ (close_is l) refl)
-owns_is (args_closed ds w f o ts c) l h = result_is ds w f (def.args o ts c) (reads_types ts) l
-owns_is (syntax_id ds w x [] d) l h = absurd h.3
-owns_is (syntax_id ds w x (s ∷ ls) d) l h =
+owns_is (args_closed ds w f o ts c) l h plain = result_is ds w f (def.args o ts c) (reads_types ts) l
+owns_is (syntax_id ds w x [] d) l h plain = absurd h.3
+owns_is (syntax_id ds w x (s ∷ ls) d) l h plain =
     ap (λ q. definitions.id_goes q d (λ e. at (position.SyntaxId e) []) (definitions.hint_or (keyword l) host.Syntax false (class_of l) [])) (id_is d l)
     ∙ id_goes_is (def.id_step d l) d (λ e. at (position.SyntaxId e) []) (λ e. spec.at (syntax_id ds w x ((s ∷ ls) ++ l ∷ []) e)) _ _ (λ e. refl) (hint_or_is (keyword l) (of_syntax ds w x (s ∷ ls)) no_hints l)
-owns_is (rule_id ds w r ls d) l h =
+owns_is (rule_id ds w r ls d) l h plain =
     ap (λ q. definitions.id_goes q d (λ e. at (position.RuleId e) []) (definitions.colon_step (class_of l) [])) (id_is d l)
     ∙ id_goes_is (def.id_step d l) d (λ e. at (position.RuleId e) []) (λ e. spec.at (rule_id ds w r (ls ++ l ∷ []) e)) _ _ (λ e. refl) (colon_is ds w r ls l)
-owns_is (hinted k hs) l h = hint_or_is (keyword l) k hs l
-owns_is (hint_open k hs w) l h = same_when _ _ _ _ (open_is l) refl
-owns_is (hint_name k hs w o) l h = same_when _ _ _ _ (name_is l) refl
-owns_is (hint_words k hs w o n ws ks) l h = ap (definitions.hint_step (host_of k) ks (class_of l)) (balance_is ks l) ∙ hint_step_is k hs w o n ws ks l (def.balance_step ks l)
-owns_is (entering s) l h = enters_is s l
-owns_is (dotted k d) l h = same_when _ _ _ _ (bar_is l) refl
-owns_is (field_name k o ms pre) l h = field_step_is k o ms pre l
-owns_is (premised r t ps) l h = next_premise_is (keyword l) r t ps l
-owns_is (premise_open r t ps d os) l h = premise_word_is (keyword l) r t ps d os l
-owns_is (goal_colon r t ps d os n) l h = same_when _ _ _ _ (signed_is is_colon l) refl
-owns_is (iterated r t ps d os ls u i) l h = iterate_is r t ps d os ls u i l h.enough
+owns_is (hinted k hs) l h plain = hint_or_is (keyword l) k hs l
+owns_is (hint_open k hs w) l h plain = same_when _ _ _ _ (open_is l) refl
+owns_is (hint_name k hs w o) l h plain = same_when _ _ _ _ (name_is l) refl
+owns_is (hint_words k hs w o n ws ks) l h plain = ap (definitions.hint_step (host_of k) ks (class_of l)) (balance_is ks l) ∙ hint_step_is k hs w o n ws ks l (def.balance_step ks l)
+owns_is (entering s) l h plain = absurd plain
+owns_is (dotted k d) l h plain = same_when _ _ _ _ (bar_is l) refl
+owns_is (field_name k o ms pre) l h plain = field_step_is k o ms pre l
+owns_is (premised r t ps) l h plain = next_premise_is (keyword l) r t ps l
+owns_is (premise_open r t ps d os) l h plain = premise_word_is (keyword l) r t ps d os l
+owns_is (goal_colon r t ps d os n) l h plain = same_when _ _ _ _ (signed_is is_colon l) refl
+owns_is (iterated r t ps d os ls u i) l h plain = iterate_is r t ps d os ls u i l h.enough
 
 -- behind whole definitions a next one begins
 pub turn_is : (p : spec.Position) (l : terminals.Terminal) → texts.PositionHolds p
@@ -335,9 +341,9 @@ turn_is (field_name k o ms pre) l h = refl
 turn_is (premise_open r t ps d os) l h = refl
 turn_is (goal_colon r t ps d os n) l h = refl
 
-pub position_is : (p : spec.Position) (l : terminals.Terminal) → texts.PositionHolds p → definitions.position_step (position_of p) (class_of l) (open_of p) ≡ option_map definitions_of (spec.position_step p l)
-position_is p l h =
-    ap (λ o. definitions.first_of_two o (if definitions.whole (position_of p) (open_of p) then definitions.begin_def (keyword l) (open_of p) else None)) (owns_is p l h) ∙ go (spec.own p l)
+pub position_is : (p : spec.Position) (l : terminals.Terminal) → texts.PositionHolds p → IsPlain p → definitions.position_step (position_of p) (class_of l) (open_of p) ≡ option_map definitions_of (spec.position_step p l)
+position_is p l h n =
+    ap (λ o. definitions.first_of_two o (if definitions.whole (position_of p) (open_of p) then definitions.begin_def (keyword l) (open_of p) else None)) (owns_is p l h n) ∙ go (spec.own p l)
   where
     go : (o : Option spec.State) → definitions.first_of_two (option_map definitions_of o) (if definitions.whole (position_of p) (open_of p) then definitions.begin_def (keyword l) (open_of p) else None)
         ≡ option_map definitions_of (spec.first_of_two o (option_and_then (λ ds. spec.begin_def ds l (keyword l)) (spec.whole p)))
@@ -368,24 +374,106 @@ filled_open (rule_slot r) t = refl
 filled_open (cond_slot r t ps d os ls) u = ap rounds (omega arith)
 filled_open (count_slot r t ps d os ls u i l) c = refl
 
+pub filled_plain : (s : spec.Slot) (t : Tree) → IsPlain (spec.filled s t)
+filled_plain (field_slot h o ms pre) t = tt
+filled_plain (case_slot h ms pre) t = tt
+filled_plain (var_slot ds w x c) t = tt
+filled_plain (notation_slot ds w r hs c) t = tt
+filled_plain (fun_slot ds w f a c) t = tt
+filled_plain (arg_slot ds w f o ts pre) t = tt
+filled_plain (rule_slot r) t = tt
+filled_plain (cond_slot r t ps d os ls) u = tt
+filled_plain (count_slot r t ps d os ls u i l) c = tt
+
+-- ---- steps
+
+-- where a token leads that may stand there
+abbrev pub led : Option definitions.Taken → Option definitions.State
+led o = option_map (λ (t : definitions.Taken). t.1) o
+
+pub stands_leads : (a : Advance) (e : parts.Emits) (o : Option definitions.State) → led (definitions.stands a e o) ≡ o
+stands_leads a e None = refl
+stands_leads a e (Some next) = refl
+
+-- a part takes the token, or else the token leads where that of the trees does
+pub taken_leads : (x : Token) (acts : List Action) (s : spec.Slot) (o : Option parts.Move) (q : Option part.State) (r : Option definitions.Taken) (k : Option spec.State) → simulation.Agree x acts o q → led r ≡ option_map definitions_of k
+    → led (definitions.taken (slot_of s) (slot_open s) o r) ≡ option_map definitions_of (spec.enter s q k)
+taken_leads x acts s None None r k a e = e
+taken_leads x acts s None (Some next) r k a e = absurd a
+taken_leads x acts s (Some m) None r k a e = absurd a
+taken_leads x acts s (Some m) (Some next) r k a e = ap (λ st. Some (inside (slot_of s) st (slot_open s))) a.0
+
+pub enters_is : (s : spec.Slot) (l : terminals.Terminal) → definitions.step (at (position.Entering (slot_of s)) (slot_open s)) (class_of l) ≡ option_map definitions_of (spec.enter s (part.step (part.start (spec.slot_sort s)) l) (spec.enter_other s l))
+enters_is s l =
+    taken_leads (def.token_in l) _ s (parts.step (definitions.slot_sort (slot_of s)) (view.state_of (part.start (spec.slot_sort s))) (shape l)) (part.step (part.start (spec.slot_sort s)) l)
+    (definitions.stands (advance_case.At (position.Entering (slot_of s))) parts.adds_nothing (definitions.position_step (position.Entering (slot_of s)) (class_of l) (slot_open s))) (spec.enter_other s l)
+    (part_moves_are s (part.start (spec.slot_sort s)) l (tt, tt) refl)
+    (stands_leads (advance_case.At (position.Entering (slot_of s))) parts.adds_nothing (definitions.position_step (position.Entering (slot_of s)) (class_of l) (slot_open s))
+    ∙ alone (definitions.enter_other (slot_of s) (class_of l) (slot_open s)) ∙ other_enters s l)
+  where
+    alone : (o : Option definitions.State) → definitions.first_of_two o None ≡ o
+    alone None = refl
+    alone (Some st) = refl
+
+pub first_alone : (o : Option spec.State) → spec.first_of_two o None ≡ o
+first_alone None = refl
+first_alone (Some st) = refl
+
+pub stands_is : (p : spec.Position) (l : terminals.Terminal) → texts.PositionHolds p → IsPlain p → definitions.entering (position_of p) ≡ None → definitions.step (at (position_of p) (open_of p)) (class_of l) ≡ option_map definitions_of (spec.position_step p l)
+stands_is p l h n e =
+    ap (λ q. led (definitions.at_position q (position_of p) (class_of l) (open_of p))) e
+    ∙ stands_leads (advance_case.At (position_of p)) parts.adds_nothing (definitions.position_step (position_of p) (class_of l) (open_of p))
+    ∙ position_is p l h n
+
+pub at_is : (p : spec.Position) (l : terminals.Terminal) → texts.PositionHolds p → definitions.step (at (position_of p) (open_of p)) (class_of l) ≡ option_map definitions_of (spec.position_step p l)
+at_is (entering s) l h = enters_is s l ∙ ap (option_map definitions_of) (sym (first_alone (spec.enter s (part.step (part.start (spec.slot_sort s)) l) (spec.enter_other s l))))
+at_is (between ds) l h = stands_is (between ds) l h tt refl
+at_is (syntax_name ds w) l h = stands_is (syntax_name ds w) l h tt refl
+at_is (var_name ds w) l h = stands_is (var_name ds w) l h tt refl
+at_is (var_colon ds w x) l h = stands_is (var_colon ds w x) l h tt refl
+at_is (relation_name ds w) l h = stands_is (relation_name ds w) l h tt refl
+at_is (rule_name ds w) l h = stands_is (rule_name ds w) l h tt refl
+at_is (rule_colon ds w r) l h = stands_is (rule_colon ds w r) l h tt refl
+at_is (fun_name ds w) l h = stands_is (fun_name ds w) l h tt refl
+at_is (fun_named ds w f) l h = stands_is (fun_named ds w f) l h tt refl
+at_is (argued ds w f o ts) l h = stands_is (argued ds w f o ts) l h tt refl
+at_is (args_closed ds w f o ts c) l h = stands_is (args_closed ds w f o ts c) l h tt refl
+at_is (syntax_id ds w x ls d) l h = stands_is (syntax_id ds w x ls d) l h tt refl
+at_is (rule_id ds w r ls d) l h = stands_is (rule_id ds w r ls d) l h tt refl
+at_is (hinted k hs) l h = stands_is (hinted k hs) l h tt refl
+at_is (hint_open k hs w) l h = stands_is (hint_open k hs w) l h tt refl
+at_is (hint_name k hs w o) l h = stands_is (hint_name k hs w o) l h tt refl
+at_is (hint_words k hs w o n ws ks) l h = stands_is (hint_words k hs w o n ws ks) l h tt refl
+at_is (dotted k d) l h = stands_is (dotted k d) l h tt refl
+at_is (field_name k o ms pre) l h = stands_is (field_name k o ms pre) l h tt refl
+at_is (premised r t ps) l h = stands_is (premised r t ps) l h tt refl
+at_is (premise_open r t ps d os) l h = stands_is (premise_open r t ps d os) l h tt refl
+at_is (goal_colon r t ps d os n) l h = stands_is (goal_colon r t ps d os n) l h tt refl
+at_is (iterated r t ps d os ls u i) l h = stands_is (iterated r t ps d os ls u i) l h tt refl
+
+-- what stands behind a part
+pub behind_is : (s : spec.Slot) (st : part.State) (l : terminals.Terminal) → texts.Holds (spec.inside s st) → (q : Option Tree) → part.finish st ≡ q
+    → led (definitions.behind_part (slot_of s) (class_of l) (slot_open s) (parts.finishing (view.state_of st)) (option_map part_of q)) ≡ option_map definitions_of (option_and_then (λ t. spec.position_step (spec.filled s t) l) q)
+behind_is s st l h None e = refl
+behind_is s st l h (Some t) e =
+    stands_leads _ _ (definitions.position_step (definitions.filled (slot_of s) (part_of t)) (class_of l) (slot_open s))
+    ∙ ap (λ p. definitions.position_step p (class_of l) (slot_open s)) (filled_is s t)
+    ∙ ap (definitions.position_step (position_of (spec.filled s t)) (class_of l)) (filled_open s t)
+    ∙ position_is (spec.filled s t) l (filled_reached s st t h e).holds (filled_plain s t)
+
 -- The automaton takes each step of the reading.
 pub step_is : (st : spec.State) (l : terminals.Terminal) → texts.Holds st → definitions.step (definitions_of st) (class_of l) ≡ option_map definitions_of (spec.step st l)
-step_is (spec.at p) l h = position_is p l h
+step_is (spec.at p) l h = at_is p l h
 step_is (spec.inside s st) l h =
-    ap (λ o. definitions.taken (slot_of s) (class_of l) (slot_open s) o (parts.finish (view.state_of st))) (part_step_is s st l h.1 h.2)
-    ∙ ap (definitions.taken (slot_of s) (class_of l) (slot_open s) (option_map view.state_of (part.step st l))) (simulation.finish_is st h.1)
-    ∙ go (part.step st l)
+    taken_leads (def.token_in l) _ s (parts.step (definitions.slot_sort (slot_of s)) (view.state_of st) (shape l)) (part.step st l)
+    (definitions.behind_part (slot_of s) (class_of l) (slot_open s) (parts.finishing (view.state_of st)) (parts.finish (view.state_of st))) (option_and_then (λ t. spec.position_step (spec.filled s t) l) (part.finish st))
+    (part_moves_are s st l h.1 h.2)
+    (ap (λ q. led (definitions.behind_part (slot_of s) (class_of l) (slot_open s) (parts.finishing (view.state_of st)) q)) (simulation.finish_is st h.1) ∙ behind_is s st l h (part.finish st) refl)
+    ∙ ap (option_map definitions_of) (same (part.step st l))
   where
-    behind : (q : Option Tree) → part.finish st ≡ q → option_and_then (λ p. definitions.position_step (definitions.filled (slot_of s) p) (class_of l) (slot_open s)) (option_map part_of q) ≡ option_map definitions_of (option_and_then (λ t. spec.position_step (spec.filled s t) l) q)
-    behind None e = refl
-    behind (Some t) e =
-        ap (λ p. definitions.position_step p (class_of l) (slot_open s)) (filled_is s t)
-        ∙ ap (definitions.position_step (position_of (spec.filled s t)) (class_of l)) (filled_open s t)
-        ∙ position_is (spec.filled s t) l (filled_reached s st t h e).holds
-
-    go : (o : Option part.State) → definitions.taken (slot_of s) (class_of l) (slot_open s) (option_map view.state_of o) (option_map part_of (part.finish st)) ≡ option_map definitions_of (spec.taken s st l o)
-    go (Some next) = refl
-    go None = behind (part.finish st) refl
+    same : (o : Option part.State) → spec.enter s o (option_and_then (λ t. spec.position_step (spec.filled s t) l) (part.finish st)) ≡ spec.taken s st l o
+    same (Some next) = refl
+    same None = refl
 
 abbrev pub is_some : {T : Type 0} → Option T → Bool
 is_some None = false

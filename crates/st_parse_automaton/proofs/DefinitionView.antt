@@ -167,7 +167,7 @@ fun_is (closing c x) = refl
 fun_is (other x) = refl
 
 pub label_is : (l : terminals.Terminal) → definitions.is_label (class_of l) ≡ grammar.is_label l
-label_is l = simulation.label_is l
+label_is l = simulation.is_label_is l
 
 pub relation_is : (l : terminals.Terminal) → definitions.names_relation (class_of l) ≡ def.names_relation l
 relation_is (leaf k x) = label_is (leaf k x)

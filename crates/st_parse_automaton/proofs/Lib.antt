@@ -1,5 +1,9 @@
 pub mod View
+pub mod EndView
 pub mod Simulation
+pub mod Emissions
+pub mod Lowering
+pub mod Advances
 pub mod DefinitionView
 pub mod DefinitionSimulation
 pub mod Names

@@ -12,12 +12,15 @@ use Rattle.st_grammar.proofs.PositionEnds.{viable}
 use Rattle.st_grammar.proofs.PositionComplete.{reading_append, dead_defs, complete_defs}
 use Rattle.st_parse_automaton.specs.declared.position.TokenClass.{TokenClass}
 use Rattle.st_parse_automaton.specs.declared.position.Progress.{Progress}
+use Rattle.st_parse_automaton.specs.declared.position.Step.{Step}
+use Rattle.st_parse_automaton.specs.declared.position.Advance.{Advance}
+use Rattle.st_parse_builder.specs.declared.action.Action.{Action}
 use Rattle.st_parse_automaton.specs.inner.DefinitionAutomaton as definitions
 use Rattle.st_parse_automaton.specs.inner.Shapes.{class_of}
-use Rattle.st_parse_automaton.specs.inner.Readings.{progress_of}
+use Rattle.st_parse_automaton.specs.inner.Readings.{progress_of, step_of}
 use Rattle.st_parse_automaton.specs.Refusal.{terminals_of, AreDefinitions, RefusedAt}
 use Rattle.st_parse_automaton.proofs.DefinitionView.{definitions_of}
-use Rattle.st_parse_automaton.proofs.DefinitionSimulation.{step_is, may_end_is, is_some}
+use Rattle.st_parse_automaton.proofs.DefinitionSimulation.{led, step_is, may_end_is, is_some}
 
 -- these tokens were read up to here
 abbrev pub Follows : List terminals.Terminal → Progress → Type 0
@@ -75,21 +78,37 @@ stops tokens i d p next h f e n =
     let none = refused (step f.0 l) next same n in
     inl (h, viable (declared_names tokens) us f.0 f.1, λ v. dead_defs (declared_names tokens) (take (i + 1) (terminals_of tokens)) (ap (reading start) (one_more tokens i d h) ∙ last_step us l f.0 f.1 ∙ none) v)
 
+-- how far the parser has read behind a step
+abbrev pub progress_in : Option Step → Option Progress
+progress_in None = None
+progress_in (Some s) = Some s.progress
+
+pub leads_on : (x : Token) (r : Option Step) (o : Option definitions.Taken) → option_map step_of r ≡ definitions.advanced x o → option_map progress_of (progress_in r) ≡ led o
+leads_on x None None e = refl
+leads_on x None (Some t) e = absurd (cc)
+leads_on x (Some s) None e = absurd (cc)
+leads_on x (Some s) (Some t) e = ap (option_map (λ (q : Advance × definitions.State × List Action). q.1)) e
+
+pub step_leads : (r : Option Step) (s : Step) → r ≡ Some s → progress_in r ≡ Some s.progress
+step_leads r s e = ap progress_in e
+
 -- the step of the code at the token of the list
 pub at_token : (tokens : List Token) (names : List (List ℕ)) (i : ℕ) (x : Token) (l : TokenClass) (p : Progress) (next : Option Progress) → x ≡ get_or tokens i x → names ≡ declared_names tokens → l ≡ class_of (terminal names x)
     → option_map progress_of next ≡ definitions.step (progress_of p) l → option_map progress_of next ≡ definitions.step (progress_of p) (class_of (terminal (declared_names tokens) (get_or tokens i x)))
 at_token tokens names i x l p next h n e f =
     f ∙ ap (definitions.step (progress_of p)) (e ∙ ap (λ ns. class_of (terminal ns x)) n ∙ ap (λ y. class_of (terminal (declared_names tokens) y)) h)
 
-pub token_goes_on : (tokens : List Token) (names : List (List ℕ)) (i : ℕ) (x : Token) (l : TokenClass) (p : Progress) (next : Option Progress) (last : Progress) → i < length tokens → Follows (take i (terminals_of tokens)) p
-    → x ≡ get_or tokens i x → names ≡ declared_names tokens → l ≡ class_of (terminal names x) → option_map progress_of next ≡ definitions.step (progress_of p) l → next ≡ Some last
-    → Follows (take (i + 1) (terminals_of tokens)) last
-token_goes_on tokens names i x l p next last h f t n e s k = goes_on tokens i x p next last h f (at_token tokens names i x l p next t n e s) k
+pub token_goes_on : (tokens : List Token) (names : List (List ℕ)) (i : ℕ) (x : Token) (l : TokenClass) (p : Progress) (next : Option Step) (last : Step) → i < length tokens → Follows (take i (terminals_of tokens)) p
+    → x ≡ get_or tokens i x → names ≡ declared_names tokens → l ≡ class_of (terminal names x) → option_map step_of next ≡ definitions.advanced x (definitions.advance (progress_of p) l) → next ≡ Some last
+    → Follows (take (i + 1) (terminals_of tokens)) last.progress
+token_goes_on tokens names i x l p next last h f t n e s k =
+    goes_on tokens i x p (progress_in next) last.progress h f (at_token tokens names i x l p (progress_in next) t n e (leads_on x next (definitions.advance (progress_of p) l) s)) (step_leads next last k)
 
-pub token_stops : (tokens : List Token) (names : List (List ℕ)) (i : ℕ) (x : Token) (l : TokenClass) (p : Progress) (next : Option Progress) → i < length tokens → Follows (take i (terminals_of tokens)) p
-    → x ≡ get_or tokens i x → names ≡ declared_names tokens → l ≡ class_of (terminal names x) → option_map progress_of next ≡ definitions.step (progress_of p) l → next ≡ None
+pub token_stops : (tokens : List Token) (names : List (List ℕ)) (i : ℕ) (x : Token) (l : TokenClass) (p : Progress) (next : Option Step) → i < length tokens → Follows (take i (terminals_of tokens)) p
+    → x ≡ get_or tokens i x → names ≡ declared_names tokens → l ≡ class_of (terminal names x) → option_map step_of next ≡ definitions.advanced x (definitions.advance (progress_of p) l) → next ≡ None
     → RefusedAt tokens i
-token_stops tokens names i x l p next h f t n e s k = stops tokens i x p next h f (at_token tokens names i x l p next t n e s) k
+token_stops tokens names i x l p next h f t n e s k =
+    stops tokens i x p (progress_in next) h f (at_token tokens names i x l p (progress_in next) t n e (leads_on x next (definitions.advance (progress_of p) l) s)) (ap progress_in k)
 
 pub whole_list : (tokens : List Token) (i : ℕ) → length tokens ≤ i → take i (terminals_of tokens) ≡ terminals_of tokens
 whole_list tokens i h = take_all i (terminals_of tokens) (omega (arith, length-map tokens (terminal (declared_names tokens))))

@@ -42,7 +42,7 @@ kind_of (tree.length o) = Length
 kind_of (tree.arguments f o) = Arguments
 kind_of (tree.index t o) = InIndex
 kind_of (tree.segment p o) = Segment
-kind_of (tree.update p m x) = Update
+kind_of (tree.update p m x) = Update m
 kind_of (tree.below o i m x) = Below
 
 abbrev pub lead_of : tree.Lead → Lead

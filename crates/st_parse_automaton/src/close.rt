@@ -1,16 +1,18 @@
 //! What a token closes.
 
-ghost use Rattle.std.specs.Prelude.{◌≡◌, ◌∷◌, IfOk, reverse};
-ghost use Rattle.std.specs.Option.{option_map};
+ghost use Rattle.std.specs.Prelude.{◌≡◌, ◌++◌, ◌∷◌, IfOk, reverse};
+ghost use Rattle.st_num.specs.declared.token.Token.{Token};
 ghost use Rattle.st_parse_automaton.specs.inner.PartAutomaton as parts;
-ghost use Rattle.st_parse_automaton.specs.inner.Readings.{reading_of, lowered_of};
+ghost use Rattle.st_parse_automaton.specs.inner.Readings.{reading_of, reached, lowered_of};
 
+use crate::actions::{count, end_bracket, end_part};
 use crate::frame::{
     TIGHT, agree, kind_closing, kind_part, kind_style, lead_level, least, reach, reads_type, top,
 };
 use crate::part_automaton::{Expected, Filling, Frame, Lead, Part, PartKind, Reading};
 use st_grammar::{Closing, Sort, Style, is_colon, is_comma, left_of};
 use st_num::{Mark, NoMemory, Row};
+use st_parse_builder::Action;
 
 /// A part with its level, and what is open round it.
 #[derive(Drop)]
@@ -20,15 +22,26 @@ pub struct Lowered {
     pub frames: Row<Frame>,
 }
 
-/// A part that is read settles: behind `^` it is the count.
-pub(crate) fn settle(part: Part, mut frames: Row<Frame>) -> Result<Reading, NoMemory>
-    ensures { IfOk result (λ reading. reading_of reading ≡ parts.settle part (reverse frames)) }
+/// A part that is read settles: behind `^` it is the count, with an index or without.
+pub(crate) fn settle<'a>(
+    part: Part,
+    indexed: bool,
+    mut frames: Row<Frame>,
+    actions: &mut Row<Action<'a>>,
+) -> Result<Reading, NoMemory>
+    ensures next { IfOk result (λ reading.
+        reading_of reading ≡ parts.settle part (reverse frames)) }
+    ensures acts { IfOk result (λ _.
+        actions.new ≡ actions.old ++ parts.settling indexed (reverse frames)) }
 {
     match frames.pop() {
-        Some(Frame::Timing) => Ok(Reading {
-            expected: Expected::Next(Part::Whole),
-            frames,
-        }),
+        Some(Frame::Timing) => {
+            actions.push(count(indexed))?;
+            Ok(Reading {
+                expected: Expected::Next(Part::Whole),
+                frames,
+            })
+        }
         Some(frame) => {
             frames.push(frame)?;
             Ok(Reading {
@@ -86,9 +99,13 @@ pub(crate) fn closes(frame: Frame, level: u8) -> Option<Lead>
 }
 
 /// Ends the innermost bracket with a part that is read, where it closes so.
-pub(crate) fn close(closing: Closing, lowered: Lowered) -> Result<Option<Reading>, NoMemory>
-    ensures { IfOk result (λ next.
-        option_map reading_of next ≡ parts.close closing (lowered_of lowered)) }
+pub(crate) fn close<'a>(
+    closing: Closing,
+    lowered: Lowered,
+    actions: &mut Row<Action<'a>>,
+) -> Result<Option<Reading>, NoMemory>
+    ensures { (x : Token) → IfOk result (λ next. reached next actions.new
+        ≡ parts.leads actions.old x (parts.close closing (lowered_of lowered))) }
 {
     let Lowered {
         part,
@@ -96,11 +113,13 @@ pub(crate) fn close(closing: Closing, lowered: Lowered) -> Result<Option<Reading
         ..
     } = lowered;
     match frames.pop() {
-        Some(Frame::Within(kind, _, types, _)) => {
+        Some(Frame::Within(kind, filling, types, _)) => {
             if !agree(kind_closing(kind), closing) {
                 return Ok(None);
             }
-            let shut = shut(kind, types && reads_type(part), frames)?;
+            end_part(kind, actions)?;
+            let types = types && reads_type(part);
+            let shut = shut(kind, filling, types, frames, actions)?;
             Ok(Some(shut))
         }
         Some(Frame::Over(_, _)) | Some(Frame::Timing) | None => Ok(None),
@@ -108,20 +127,30 @@ pub(crate) fn close(closing: Closing, lowered: Lowered) -> Result<Option<Reading
 }
 
 /// A bracket with its parts has closed: it is a step of a path, or a part that is read.
-fn shut(kind: PartKind, types: bool, frames: Row<Frame>) -> Result<Reading, NoMemory>
-    ensures { IfOk result (λ reading. reading_of reading ≡ parts.shut kind types (reverse frames)) }
+fn shut<'a>(
+    kind: PartKind,
+    filling: Filling,
+    types: bool,
+    frames: Row<Frame>,
+    actions: &mut Row<Action<'a>>,
+) -> Result<Reading, NoMemory>
+    ensures next { IfOk result (λ reading.
+        reading_of reading ≡ parts.shut kind types (reverse frames)) }
+    ensures acts { IfOk result (λ _.
+        actions.new ≡ actions.old ++ parts.shutting kind filling (reverse frames)) }
 {
+    end_bracket(kind, filling, actions)?;
     match kind {
         PartKind::Segment => Ok(Reading {
             expected: Expected::Step(true),
             frames,
         }),
+        PartKind::Below => settle(kind_part(kind, types), true, frames, actions),
         PartKind::Plain(_)
         | PartKind::Length
         | PartKind::Arguments
         | PartKind::Index
-        | PartKind::Update
-        | PartKind::Below => settle(kind_part(kind, types), frames),
+        | PartKind::Update(_) => settle(kind_part(kind, types), false, frames, actions),
     }
 }
 
@@ -148,9 +177,14 @@ fn is_first(filling: Filling) -> bool
 }
 
 /// A sign that sets off a next part of the innermost bracket.
-fn separate(base: Sort, mark: Mark, lowered: Lowered) -> Result<Option<Reading>, NoMemory>
-    ensures { IfOk result (λ next.
-        option_map reading_of next ≡ parts.separate base mark (lowered_of lowered)) }
+fn separate<'a>(
+    base: Sort,
+    mark: Mark,
+    lowered: Lowered,
+    actions: &mut Row<Action<'a>>,
+) -> Result<Option<Reading>, NoMemory>
+    ensures { (x : Token) → IfOk result (λ next. reached next actions.new
+        ≡ parts.leads actions.old x (parts.separate base mark (lowered_of lowered))) }
 {
     let Lowered {
         part,
@@ -163,6 +197,7 @@ fn separate(base: Sort, mark: Mark, lowered: Lowered) -> Result<Option<Reading>,
             let Some(expected) = next_expected(style, mark, is_first(filling)) else {
                 return Ok(None);
             };
+            end_part(kind, actions)?;
             let types = types && reads_type(part);
             frames.push(Frame::Within(kind, Filling::Parts, types, sort))?;
             Ok(Some(Reading { expected, frames }))
@@ -171,20 +206,32 @@ fn separate(base: Sort, mark: Mark, lowered: Lowered) -> Result<Option<Reading>,
     }
 }
 
-/// A sign between two sides, or else before a next part of the innermost bracket.
-pub(crate) fn join(base: Sort, mark: Mark, lowered: Lowered) -> Result<Option<Reading>, NoMemory>
-    ensures { IfOk result (λ next.
-        option_map reading_of next ≡ parts.join base mark (lowered_of lowered)) }
+/// Whether the sign stands between two sides there.
+fn joins(base: Sort, mark: Mark, frames: &Row<Frame>) -> bool
+    ensures { result ≡ parts.is_joined base mark (reverse frames.now) }
 {
-    let sort = top(base, &lowered.frames);
     let level = mark.level();
-    if !(sort.has_level(level) && least(&lowered.frames) <= level) {
-        return separate(base, mark, lowered);
+    top(base, frames).has_level(level) && least(frames) <= level
+}
+
+/// A sign between two sides, or else before a next part of the innermost bracket.
+pub(crate) fn join<'a>(
+    base: Sort,
+    mark: Mark,
+    lowered: Lowered,
+    actions: &mut Row<Action<'a>>,
+) -> Result<Option<Reading>, NoMemory>
+    ensures { (x : Token) → IfOk result (λ next. reached next actions.new
+        ≡ parts.leads actions.old x (parts.join base mark (lowered_of lowered))) }
+{
+    if !joins(base, mark, &lowered.frames) {
+        return separate(base, mark, lowered, actions);
     }
     if left_of(mark) > lowered.level {
         return Ok(None);
     }
     let mut frames = lowered.frames;
+    let sort = top(base, &frames);
     frames.push(Frame::Over(Lead::Left(mark), sort))?;
     Ok(Some(Reading {
         expected: Expected::Operand,

@@ -1,23 +1,27 @@
 //! One token of definitions.
 
 ghost use Rattle.std.specs.Prelude.{◌≡◌, IfOk, reverse};
+ghost use Rattle.std.specs.Prelude as Prelude;
 ghost use Rattle.std.specs.Option.{option_map};
 ghost use Rattle.st_parse_automaton.specs.inner.DefinitionAutomaton as definitions;
-ghost use Rattle.st_parse_automaton.specs.inner.Readings.{progress_of};
+ghost use Rattle.st_num.specs.declared.token.Token.{Token};
+ghost use Rattle.st_parse_automaton.specs.inner.PartAutomaton as parts;
+ghost use Rattle.st_parse_automaton.specs.inner.Readings.{progress_of, reading_of, step_of};
 ghost use Rattle.st_parse_automaton.specs.declared.position.Position.TheVariants as position;
 
 use crate::heading::{field_step, hint_or, hint_step, rule_colon, rule_id, syntax_id};
 use crate::part_automaton::{Expected, Reading};
-use crate::position::{At, CaseAt, Host, Position, Progress, Slot, TokenClass};
+use crate::position::{Advance, At, CaseAt, Host, Position, Progress, Slot, Step, TokenClass};
 use crate::premise::{iterate, next_premise, premise_word};
 use crate::progress::{at, begins, filled, slot_sort, start_of, when, whole};
-use crate::step::{finish, is_label, step};
+use crate::step::{end, finish, is_label, step};
 use crate::token::{
     at_colon, at_comma, at_dots, at_equal, closes_round, is_bar, is_fun, is_low, is_name,
     names_relation, opens_brace, opens_round,
 };
 use st_grammar::{Bracket, Keyword};
-use st_num::{NoMemory, Row};
+use st_num::{NoMemory, Row, Token};
+use st_parse_builder::Action;
 use std::alloc::Global;
 
 /// A next definition begins with such a word: its name is due.
@@ -97,27 +101,6 @@ fn result_step(
         return Some(start_of(alloc, Slot::Fun, brackets));
     }
     begins(alloc, at_equal(class), Slot::Rule, brackets)
-}
-
-/// A part begins with the token, or it makes what else it may there.
-fn enter(
-    alloc: Global,
-    slot: Slot,
-    class: TokenClass,
-    brackets: Row<Bracket>,
-) -> Result<Option<Progress>, NoMemory>
-    ensures { IfOk result (λ next.
-        option_map progress_of next
-        ≡ definitions.own (position.Entering slot) class (reverse brackets)) }
-{
-    let reading = Reading {
-        expected: Expected::Operand,
-        frames: Row::new(alloc),
-    };
-    match step(slot_sort(slot), reading, class.shape)? {
-        Some(next) => Ok(Some(Progress::Inside(slot, next, brackets))),
-        None => Ok(enter_other(slot, class, brackets)),
-    }
 }
 
 /// A token behind the name of a function.
@@ -210,7 +193,7 @@ fn own(
         Position::RuleId(due) => Ok(rule_id(alloc, due, class, brackets)),
         Position::Hinted(host, fresh) => Ok(hint_or(alloc, host, fresh, class, brackets)),
         Position::HintWords(host) => hint_step(host, class, brackets),
-        Position::Entering(slot) => enter(alloc, slot, class, brackets),
+        Position::Entering(slot) => Ok(enter_other(slot, class, brackets)),
         Position::FieldName(first) => Ok(field_step(alloc, first, class, brackets)),
         Position::Premised => Ok(next_premise(class.keyword, brackets)),
         Position::PremiseOpen => premise_word(alloc, class, brackets),
@@ -219,8 +202,8 @@ fn own(
     }
 }
 
-/// Takes one more token at a position, if it may stand there.
-pub fn position_step(
+/// Takes one more token at a position where it begins no part, if it may stand there.
+fn position_step(
     alloc: Global,
     position: Position,
     class: TokenClass,
@@ -255,29 +238,161 @@ fn turn(
     }
 }
 
-/// Takes one more token of definitions, if it may stand there.
-pub fn advance(
+/// A token that stands so and adds these actions, where it leads on.
+fn stand<'a>(advance: Advance, actions: Row<Action<'a>>, next: Option<Progress>) -> Option<Step<'a>>
+    ensures { (x : Token) → option_map step_of result
+        ≡ definitions.advanced x
+        (definitions.stands advance (λ _. actions.entry) (option_map progress_of next)) }
+{
+    match next {
+        Some(progress) => Some(Step {
+            advance,
+            progress,
+            actions,
+        }),
+        None => None,
+    }
+}
+
+/// The part that is due at a position.
+fn entering(position: Position) -> Option<Slot>
+    ensures { result ≡ definitions.entering position }
+{
+    match position {
+        Position::Entering(slot) => Some(slot),
+        _ => None,
+    }
+}
+
+/// A token at a position, where it begins no part.
+fn stand_at<'a>(
     alloc: Global,
-    progress: Progress,
+    position: Position,
     class: TokenClass,
-) -> Result<Option<Progress>, NoMemory>
-    ensures { IfOk result (λ next.
-        option_map progress_of next ≡ definitions.step (progress_of progress) class) }
+    brackets: &Row<Bracket>,
+) -> Result<Option<Step<'a>>, NoMemory>
+    ensures { (x : Token) → IfOk result (λ step. option_map step_of step
+        ≡ definitions.advanced x
+        (definitions.at_position Prelude.None position class (reverse brackets.now))) }
+{
+    let next = position_step(alloc, position, class, brackets.copy(alloc)?)?;
+    Ok(stand(Advance::At(position), Row::new(alloc), next))
+}
+
+/// A part that is read so far takes the token, if that may stand there.
+fn take<'a>(
+    alloc: Global,
+    slot: Slot,
+    reading: Reading,
+    class: TokenClass,
+    token: &'a Token,
+    brackets: &Row<Bracket>,
+) -> Result<Option<Step<'a>>, NoMemory>
+    ensures { IfOk result (λ step. option_map step_of step
+        ≡ definitions.advanced token.now
+        (definitions.taken slot (reverse brackets.now)
+        (parts.step (definitions.slot_sort slot) (reading_of reading) (class.shape))
+        Prelude.None)) }
+{
+    let mut actions = Row::new(alloc);
+    match step(slot_sort(slot), reading, class.shape, token, &mut actions)? {
+        Some(next) => Ok(Some(Step {
+            advance: Advance::On(slot),
+            progress: Progress::Inside(slot, next, brackets.copy(alloc)?),
+            actions,
+        })),
+        None => Ok(None),
+    }
+}
+
+/// A token at a position where a part is due: the part begins with it, or it stands there.
+fn enter<'a>(
+    alloc: Global,
+    slot: Slot,
+    position: Position,
+    class: TokenClass,
+    token: &'a Token,
+    brackets: &Row<Bracket>,
+) -> Result<Option<Step<'a>>, NoMemory>
+    ensures { IfOk result (λ step. option_map step_of step
+        ≡ definitions.advanced token.now
+        (definitions.at_position (Prelude.Some slot) position class (reverse brackets.now))) }
+{
+    let fresh = Reading {
+        expected: Expected::Operand,
+        frames: Row::new(alloc),
+    };
+    match take(alloc, slot, fresh, class, token, brackets)? {
+        Some(step) => Ok(Some(step)),
+        None => stand_at(alloc, position, class, brackets),
+    }
+}
+
+/// A token behind a part, which ends before it, where it may.
+fn leave<'a>(
+    alloc: Global,
+    slot: Slot,
+    reading: &Reading,
+    class: TokenClass,
+    brackets: &Row<Bracket>,
+) -> Result<Option<Step<'a>>, NoMemory>
+    ensures { (x : Token) → IfOk result (λ step. option_map step_of step
+        ≡ definitions.advanced x
+        (definitions.behind_part slot class (reverse brackets.now)
+        (parts.finishing (reading_of reading.now)) (parts.finish (reading_of reading.now)))) }
+{
+    let Some(part) = finish(reading) else {
+        return Ok(None);
+    };
+    let position = filled(slot, part);
+    let mut actions = Row::new(alloc);
+    end(reading, &mut actions)?;
+    let next = position_step(alloc, position, class, brackets.copy(alloc)?)?;
+    let advance = Advance::Behind(slot, brackets.len(), position);
+    Ok(stand(advance, actions, next))
+}
+
+/// A token in a part: the part takes it, or ends before it.
+fn go_on<'a>(
+    alloc: Global,
+    slot: Slot,
+    reading: &Reading,
+    class: TokenClass,
+    token: &'a Token,
+    brackets: &Row<Bracket>,
+) -> Result<Option<Step<'a>>, NoMemory>
+    ensures { IfOk result (λ step. option_map step_of step
+        ≡ definitions.advanced token.now
+        (definitions.advance
+        (definitions.inside slot (reading_of reading.now) (reverse brackets.now)) class)) }
+{
+    let same = Reading {
+        expected: reading.expected,
+        frames: reading.frames.copy(alloc)?,
+    };
+    match take(alloc, slot, same, class, token, brackets)? {
+        Some(step) => Ok(Some(step)),
+        None => leave(alloc, slot, reading, class, brackets),
+    }
+}
+
+/// What one more token of definitions makes of the reading, if it may stand there.
+pub fn advance<'a>(
+    alloc: Global,
+    progress: &Progress,
+    class: TokenClass,
+    token: &'a Token,
+) -> Result<Option<Step<'a>>, NoMemory>
+    ensures { IfOk result (λ step. option_map step_of step
+        ≡ definitions.advanced token.now (definitions.advance (progress_of progress.now) class)) }
 {
     match progress {
-        Progress::At(here) => {
-            let At { position, brackets } = here;
-            position_step(alloc, position, class, brackets)
-        }
+        Progress::At(here) => match entering(here.position) {
+            Some(slot) => enter(alloc, slot, here.position, class, token, &here.brackets),
+            None => stand_at(alloc, here.position, class, &here.brackets),
+        },
         Progress::Inside(slot, reading, brackets) => {
-            let part = finish(&reading);
-            match step(slot_sort(slot), reading, class.shape)? {
-                Some(next) => Ok(Some(Progress::Inside(slot, next, brackets))),
-                None => match part {
-                    Some(part) => position_step(alloc, filled(slot, part), class, brackets),
-                    None => Ok(None),
-                },
-            }
+            go_on(alloc, *slot, reading, class, token, brackets)
         }
     }
 }

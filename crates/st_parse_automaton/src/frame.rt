@@ -5,7 +5,7 @@ ghost use Rattle.st_grammar.specs.Grammar as grammar;
 ghost use Rattle.st_grammar.specs.Trees as tree;
 ghost use Rattle.st_parse_automaton.specs.inner.PartAutomaton as parts;
 
-use crate::part_automaton::{Frame, Lead, Part, PartKind, Shape};
+use crate::part_automaton::{Expected, Frame, Lead, Part, PartKind, Shape};
 use st_grammar::{
     Bracket, Closing, Leaf, Sort, Style, is_iteration_sign, is_type_iteration_sign, prefix_right,
     right_of,
@@ -77,7 +77,7 @@ fn kind_least(kind: PartKind) -> u8
         PartKind::Plain(_)
         | PartKind::Length
         | PartKind::Arguments
-        | PartKind::Update
+        | PartKind::Update(_)
         | PartKind::Below => 1,
     }
 }
@@ -122,7 +122,7 @@ pub(crate) fn kind_closing(kind: PartKind) -> Closing
         PartKind::Plain(bracket) => closed_by(bracket),
         PartKind::Length => Closing::ByBar,
         PartKind::Arguments | PartKind::Below => Closing::ByRound,
-        PartKind::Index | PartKind::Segment | PartKind::Update => Closing::BySquare,
+        PartKind::Index | PartKind::Segment | PartKind::Update(_) => Closing::BySquare,
     }
 }
 
@@ -170,7 +170,7 @@ pub(crate) fn kind_style(sort: Sort, kind: PartKind) -> Style
         PartKind::Arguments => Style::Parts,
         PartKind::Index => index_style(sort),
         PartKind::Segment => Style::Ends,
-        PartKind::Length | PartKind::Update | PartKind::Below => Style::Lone,
+        PartKind::Length | PartKind::Update(_) | PartKind::Below => Style::Lone,
     }
 }
 
@@ -182,8 +182,18 @@ pub(crate) fn kind_sort(sort: Sort, kind: PartKind) -> Sort
         PartKind::Plain(bracket) => sort.inside(bracket),
         PartKind::Length => Sort::Expression(true),
         PartKind::Below => Sort::Bound,
-        PartKind::Arguments | PartKind::Index | PartKind::Segment | PartKind::Update =>
+        PartKind::Arguments | PartKind::Index | PartKind::Segment | PartKind::Update(_) =>
             Sort::Expression(false),
+    }
+}
+
+/// What is expected where such a bracket has opened.
+pub(crate) fn kind_expected(kind: PartKind) -> Expected
+    ensures { result ≡ parts.kind_expected kind }
+{
+    match kind {
+        PartKind::Plain(Bracket::Brace) => Expected::Label,
+        _ => Expected::Operand,
     }
 }
 

@@ -7,6 +7,7 @@
 //! `docs/language.md`, "Grammar".
 #![tactic(auto)]
 
+mod actions;
 mod begin;
 mod class;
 mod close;
@@ -23,14 +24,17 @@ mod reader;
 mod step;
 mod token;
 
+pub use actions::with_actions;
 pub use class::{declared_names, token_class};
-pub use definition_automaton::{advance, may_end, position_step};
+pub use definition_automaton::{advance, may_end};
 pub use frame::{follows, top};
-pub use laws::refused_once;
+pub use laws::{refused_once, tokens_build, tokens_emit};
 pub use name_index::NameIndex;
 pub use part_automaton::{Expected, Filling, Frame, Lead, Part, PartKind, Reading, Shape};
-pub use position::{At, CaseAt, Host, IterationState, Position, Progress, Slot, TokenClass};
+pub use position::{
+    Advance, At, CaseAt, Host, IterationState, Position, Progress, Slot, Step, TokenClass,
+};
 pub use progress::{filled, slot_sort};
 pub use reader::first_refused;
-pub use step::{finish as part_end, step as part_step};
+pub use step::{end, finish as part_end};
 pub use token::opens_round;

@@ -36,7 +36,8 @@ pub enum PartKind {
     Arguments,
     Index,
     Segment,
-    Update,
+    /// The new value behind a path and this sign of change.
+    Update(Mark),
     Below,
 }
 

@@ -3,6 +3,7 @@
 use crate::part_automaton::{Reading, Shape};
 use st_grammar::{Bracket, Keyword};
 use st_num::Row;
+use st_parse_builder::Action;
 
 /// What a token can be, in a part of a definition and between parts.
 #[derive(Clone, Copy, Debug, PartialEq, Eq)]
@@ -112,4 +113,25 @@ pub enum Progress {
     At(At),
     /// A part, what it is read for, and what is open round it.
     Inside(Slot, Reading, Row<Bracket>),
+}
+
+/// How a token stands that leads on.
+#[derive(Clone, Copy, Debug, PartialEq, Eq)]
+pub enum Advance {
+    /// In a part that is read for this: it goes on with it, or is the first of it.
+    On(Slot),
+    /// Between parts, at this position.
+    At(Position),
+    /// At this position, behind a part that is read for this and ends before the token, with so
+    /// many brackets open round it.
+    Behind(Slot, usize, Position),
+}
+
+/// What a token makes of a reading: how it stands, where it leads, and what it adds to the actions
+/// of its part. Where a part ends before it, that is what the end adds.
+#[derive(Drop)]
+pub struct Step<'a> {
+    pub advance: Advance,
+    pub progress: Progress,
+    pub actions: Row<Action<'a>>,
 }

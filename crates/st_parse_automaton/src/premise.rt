@@ -68,18 +68,8 @@ pub(crate) fn premise_word(
 pub(crate) fn next_premise(keyword: Keyword, brackets: Row<Bracket>) -> Option<Progress>
     ensures { option_map progress_of result ≡ definitions.next_premise keyword (reverse brackets) }
 {
-    match keyword {
-        Keyword::Dashes => Some(at(Position::PremiseOpen, brackets)),
-        Keyword::SyntaxWord
-        | Keyword::RelationWord
-        | Keyword::RuleWord
-        | Keyword::VarWord
-        | Keyword::DefWord
-        | Keyword::HintWord
-        | Keyword::IfWord
-        | Keyword::OtherwiseWord
-        | Keyword::NoWord => None,
-    }
+    let dashes = matches!(keyword, Keyword::Dashes);
+    when(dashes, Position::PremiseOpen, brackets)
 }
 
 /// The brackets without the innermost.

@@ -39,10 +39,10 @@ fn read_tokens(
         brackets: Row::new(alloc),
     });
     'tokens: for (at, token) in tokens.iter().enumerate() {
-        let Some(next) = advance(alloc, progress, token_class(names, token))? else {
+        let Some(step) = advance(alloc, &progress, token_class(names, token), token)? else {
             return Ok(Some(at));
         };
-        progress = next;
+        progress = step.progress;
     }
     if may_end(&progress) {
         Ok(None)

@@ -9,115 +9,66 @@ use crate::frame::agree;
 use crate::part_automaton::Shape;
 use crate::position::TokenClass;
 use crate::step::is_label;
-use st_grammar::{Bracket, Closing, Leaf, is_caret, is_colon, is_comma, is_iteration_sign};
+use st_grammar::{Bracket, Closing, Leaf};
 use st_num::Mark;
-
-/// Whether it is `/`.
-fn is_slash(mark: Mark) -> bool
-    ensures { result ≡ grammar.is_slash mark }
-{
-    matches!(mark, Mark::Slash)
-}
-
-/// Whether it is `-`.
-fn is_minus(mark: Mark) -> bool
-    ensures { result ≡ grammar.is_minus mark }
-{
-    matches!(mark, Mark::Minus)
-}
-
-/// Whether it is `=`.
-fn is_equal(mark: Mark) -> bool
-    ensures { result ≡ grammar.is_equal mark }
-{
-    matches!(mark, Mark::Equal)
-}
-
-/// Whether it is `...`.
-fn is_dots(mark: Mark) -> bool
-    ensures { result ≡ grammar.is_dots mark }
-{
-    matches!(mark, Mark::Ellipsis)
-}
 
 /// Whether the token is `/`.
 pub(crate) fn at_slash(class: TokenClass) -> bool
     ensures { result ≡ definitions.signed grammar.is_slash class }
 {
-    match class.shape {
-        Shape::Sign(mark) => is_slash(mark),
-        _ => false,
-    }
+    matches!(class.shape, Shape::Sign(Mark::Slash))
 }
 
 /// Whether the token is `-`.
 pub(crate) fn at_minus(class: TokenClass) -> bool
     ensures { result ≡ definitions.signed grammar.is_minus class }
 {
-    match class.shape {
-        Shape::Sign(mark) => is_minus(mark),
-        _ => false,
-    }
+    matches!(class.shape, Shape::Sign(Mark::Minus))
 }
 
 /// Whether the token is `=`.
 pub(crate) fn at_equal(class: TokenClass) -> bool
     ensures { result ≡ definitions.signed grammar.is_equal class }
 {
-    match class.shape {
-        Shape::Sign(mark) => is_equal(mark),
-        _ => false,
-    }
+    matches!(class.shape, Shape::Sign(Mark::Equal))
 }
 
 /// Whether the token is `...`.
 pub(crate) fn at_dots(class: TokenClass) -> bool
     ensures { result ≡ definitions.signed grammar.is_dots class }
 {
-    match class.shape {
-        Shape::Sign(mark) => is_dots(mark),
-        _ => false,
-    }
+    matches!(class.shape, Shape::Sign(Mark::Ellipsis))
 }
 
 /// Whether the token is a comma.
 pub(crate) fn at_comma(class: TokenClass) -> bool
     ensures { result ≡ definitions.signed levels.is_comma class }
 {
-    match class.shape {
-        Shape::Sign(mark) => is_comma(mark),
-        _ => false,
-    }
+    matches!(class.shape, Shape::Sign(Mark::Comma))
 }
 
 /// Whether the token is a colon.
 pub(crate) fn at_colon(class: TokenClass) -> bool
     ensures { result ≡ definitions.signed levels.is_colon class }
 {
-    match class.shape {
-        Shape::Sign(mark) => is_colon(mark),
-        _ => false,
-    }
-}
-
-/// Whether the token iterates an expression.
-pub(crate) fn at_iteration_sign(class: TokenClass) -> bool
-    ensures { result ≡ definitions.signed levels.is_iteration_sign class }
-{
-    match class.shape {
-        Shape::Sign(mark) => is_iteration_sign(mark),
-        _ => false,
-    }
+    matches!(class.shape, Shape::Sign(Mark::Colon))
 }
 
 /// Whether the token is `^`.
 pub(crate) fn at_caret(class: TokenClass) -> bool
     ensures { result ≡ definitions.signed levels.is_caret class }
 {
-    match class.shape {
-        Shape::Sign(mark) => is_caret(mark),
-        _ => false,
-    }
+    matches!(class.shape, Shape::Sign(Mark::Caret))
+}
+
+/// Whether the token iterates an expression.
+pub(crate) fn at_iteration_sign(class: TokenClass) -> bool
+    ensures { result ≡ definitions.signed levels.is_iteration_sign class }
+{
+    matches!(
+        class.shape,
+        Shape::Sign(Mark::Star | Mark::Plus | Mark::Question)
+    )
 }
 
 /// Whether the token is a name that begins with a lower-case letter.

@@ -46,19 +46,8 @@ times_below name e = search (rules, exp_lemmas)
 
 -- ---- heights
 
-pub tall_if : (at : Span) (e : Exp) → prem_height (prem_at at (prem.If e)) ≡ height e + 1
-tall_if at e = search (rules, prem_lemmas)
-
-pub tall_goal : (at : Span) (name : List ℕ) (e : Exp) → prem_height (prem_at at (prem.Goal name e)) ≡ height e + 1
-tall_goal at name e = search (rules, prem_lemmas)
-
 pub tall_each : (at : Span) (p : Prem) (c : Count) → prem_height (prem_at at (prem.Each p c)) ≡ max (prem_height p) (count_height c) + 1
 tall_each at p c = search (rules, prem_lemmas)
-
-mark_tall : (a b : Bool) → count_height (if a then count.Star else if b then count.Plus else count.Quest) ≡ 0
-mark_tall true b = search (rules, exp_lemmas)
-mark_tall false true = search (rules, exp_lemmas)
-mark_tall false false = search (rules, exp_lemmas)
 
 pub tall_times : (e : Exp) → count_height (count.Times e) ≡ height e
 tall_times e = search (rules, exp_lemmas)

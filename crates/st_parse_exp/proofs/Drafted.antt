@@ -1,6 +1,5 @@
 -- What is built while the tokens of expressions are read.
 use Rattle.std.proofs.Common.{◌≡◌, ℕ, List, [], ◌∷◌, ◌++◌, Bool, true, false, ◌&&◌, Option, Some, None, Result, Ok, Err, IfOk, reverse, option_and_then, option_map, if◌then◌else◌, refl, sym, ap, subst, ◌∙◌, append_assoc, append-nil, arith}
-use Rattle.st_num.specs.declared.mark.Mark.{Mark}
 use Rattle.st_num.specs.declared.token.Token.{Token}
 use Rattle.st_grammar.specs.declared.sort.Sort.TheVariants.{Expression as expression}
 use Rattle.st_grammar.specs.Terminals.{Terminal, terminal}
@@ -20,20 +19,35 @@ use Rattle.st_parse_builder.specs.Heights.{height}
 use Rattle.st_parse_builder.specs.inner.Actions.{acts}
 use Rattle.st_parse_builder.specs.inner.Entries.{exp_part}
 use Rattle.st_parse_builder.proofs.PartLemmas.{by_tree}
+use Rattle.st_parse_builder.specs.inner.Emission as emission
 use Rattle.st_parse_builder.proofs.Tallness.{highest_behind}
 use Rattle.st_parse_automaton.specs.declared.part_automaton.Expected.TheVariants.{Operand}
 use Rattle.st_parse_automaton.specs.inner.PartAutomaton as parts
 use Rattle.st_parse_automaton.specs.declared.part_automaton.Shape.{Shape}
+use Rattle.st_parse_automaton.specs.declared.part_automaton.Part.{Part}
+use Rattle.st_parse_automaton.specs.declared.position.Advance.{Advance}
+use Rattle.st_parse_automaton.specs.declared.position.TokenClass.{TokenClass}
+use Rattle.st_parse_automaton.specs.declared.position.Slot.TheVariants as slots
+use Rattle.st_parse_automaton.specs.declared.position.Position.TheVariants as positions
+use Rattle.st_parse_automaton.specs.inner.DefinitionAutomaton as definitions
+use Rattle.st_parse_automaton.specs.inner.Readings.{progress_of}
+use Rattle.st_parse_faults.specs.declared.judge.Seen.{Seen as CodeSeen}
+use Rattle.st_parse_faults.specs.declared.judge.TokenVerdict.{TokenVerdict as Code}
+use Rattle.st_parse_faults.specs.declared.judge.TokenVerdict.TheVariants as code
+use Rattle.st_grammar.specs.declared.sort.Bracket.{Bracket}
+use Rattle.st_grammar.specs.declared.keyword.Keyword.{Keyword}
+use Rattle.st_grammar.specs.declared.keyword.Keyword.TheVariants as key
 use Rattle.st_parse_automaton.specs.inner.Shapes.{shape}
 use Rattle.st_parse_automaton.proofs.View.{state_of}
-use Rattle.st_parse_automaton.proofs.Simulation.{step_is}
+use Rattle.st_parse_automaton.proofs.Simulation.{Agree, moves_are, agreed}
 use Rattle.st_parse_automaton.proofs.DefinitionSimulation.{is_some}
-use Rattle.st_parse_actions.specs.inner.Emits.{kept, emits, finishing, on_next, emissions}
-use Rattle.st_parse_actions.proofs.Whole.{part_emits}
+use Rattle.st_parse_automaton.specs.inner.PartAutomaton.{finishing, followed, emissions}
+use Rattle.st_parse_automaton.proofs.Emissions.{part_emits}
 use Rattle.st_parse_exp.specs.Reading.{State, begun, turn, goes, step, start}
 use Rattle.st_parse_faults.specs.Judging.{passed, limited}
 use Rattle.st_parse_exp.specs.Faults.{Seen, opens_too_many, passes_limit, seen_after, judged, judge}
-use Rattle.st_parse_exp.specs.inner.Drafts.{IsBuilt, AreBuilt, with_exp, Draft, draft, Ends, Takes}
+use Rattle.st_parse_exp.specs.inner.Drafts.{IsBuilt, AreBuilt, with_exp, Draft, draft, Ends, Turns, Takes}
+use Rattle.st_parse_exp.specs.inner.Seen.{is_inside, Steps, AddsNothing, Adds}
 use Rattle.st_parse_exp.proofs.Readings.{at, comma_ends}
 
 -- ---- one more expression
@@ -53,18 +67,67 @@ built_is e from o is =
 
 -- ---- an expression that ends
 
-pub turned : {E : Type 0} (b : Bool) (st now : parts.State) (s : Shape) (x : Token) (es : Option (List Exp)) (before after : List Mark) (old done new : List Action) (r : Result (Option (List Exp)) E)
-    → b ≡ true → now ≡ st → after ≡ [] → new ≡ [] → done ≡ old
+pub turned : {E : Type 0} (b : Bool) (st now : parts.State) (es : Option (List Exp)) (old done new : List Action) (r : Result (Option (List Exp)) E)
+    → b ≡ true → now ≡ st → new ≡ [] → done ≡ old
     → ((t : Tree) (fs : List Exp) → Fits (expression false) t → acts t ≡ done ++ finishing now → AreBuilt fs es → IfOk r (λ all. AreBuilt (fs ++ meaning t ∷ []) all))
-    → IfOk r (λ all. Takes b st s x (draft es (reverse before) old) (draft all (reverse after) new))
-turned b st now s x es before after old done new (Ok all) e f g h i k =
-    subst (λ c. Takes c st s x (draft es (reverse before) old) (draft all (reverse after) new)) (sym e)
+    → IfOk r (λ all. Turns b st (draft es old) (draft all new))
+turned b st now es old done new (Ok all) e f h i k =
+    subst (λ c. Turns c st (draft es old) (draft all new)) (sym e)
     (record {
-      marks = ap reverse g;
       actions = h;
       exps = λ t fs p q a. k t fs p (q ∙ ap (λ l. l ++ finishing st) (sym i) ∙ ap (λ v. done ++ finishing v) (sym f)) a;
     })
-turned b st now s x es before after old done new (Err fault) e f g h i k = tt
+turned b st now es old done new (Err fault) e f h i k = tt
+
+-- ---- what a token adds
+
+abbrev Between : Option definitions.State → Type 0
+Between None = Unit {0}
+Between (Some st) = is_inside st ≡ false
+
+-- no part begins directly behind a conclusion
+behind_rule : (ks : List Bracket) (k : Keyword) → Between (definitions.first_of_two (definitions.next_premise k ks) (definitions.begin_def k ks))
+behind_rule ks key.SyntaxWord = refl
+behind_rule ks key.RelationWord = refl
+behind_rule ks key.RuleWord = refl
+behind_rule ks key.VarWord = refl
+behind_rule ks key.DefWord = refl
+behind_rule ks key.HintWord = tt
+behind_rule ks key.IfWord = tt
+behind_rule ks key.OtherwiseWord = tt
+behind_rule ks key.Dashes = refl
+behind_rule ks key.NoWord = tt
+
+-- a token that goes on with an expression adds what the part says
+pub goes_adds : (st : parts.State) (ks : List Bracket) (l : TokenClass) (x : Token) (a : Advance) (next : definitions.State) (added : List Action)
+    → definitions.advanced x (definitions.advance (definitions.inside slots.Rule st ks) l) ≡ Some (a, next, added) → is_inside next ≡ true
+    → added ≡ parts.emits (expression false) st l.shape x
+goes_adds st ks l x a next added e i = go (parts.step (expression false) st l.shape) (parts.finish st) e
+  where
+    stood : (o : Option definitions.State) (how : Advance) (ends : List Action) → Between o → definitions.advanced x (definitions.stands how (λ y. ends) o) ≡ Some (a, next, added) → ⊥
+    stood None how ends b f = absurd (cc)
+    stood (Some last) how ends b f =
+        let is : Some last ≡ Some next = ap (option_map (λ (q : Advance × definitions.State × List Action). q.1)) f in
+        let same : last ≡ next = cc in
+        let no : is_inside next ≡ false = ap is_inside (sym same) ∙ b in
+        absurd (cc)
+
+    go : (o : Option parts.Move) (q : Option Part) → definitions.advanced x (definitions.taken slots.Rule ks o (definitions.behind_part slots.Rule l ks (parts.finishing st) q)) ≡ Some (a, next, added) → added ≡ parts.added x o
+    go (Some m) q f =
+        let is : Some (m.1 x) ≡ Some added = ap (option_map (λ (r : Advance × definitions.State × List Action). r.2)) f in
+        cc
+    go None None f = absurd (cc)
+    go None (Some p) f = absurd (stood (definitions.position_step positions.Premised l ks) _ (parts.finishing st) (behind_rule ks l.keyword) f)
+
+-- what a token makes of a draft, by what it turns and what it adds
+pub takes : (b : Bool) (st : parts.State) (ks : List Bracket) (l : TokenClass) (x : Token) (v : Code) (q : CodeSeen) (a : Advance) (added : List Action) (d mid e : Draft)
+    → Turns b st d mid → Adds b (definitions.inside slots.Rule st ks) l x v → v ≡ code.Passed q a added → e ≡ draft mid.exps (mid.actions ++ added) → Takes b st l.shape x d e
+takes true st ks l x v q a added d mid e n h f g =
+    let nothing : added ≡ [] = subst AddsNothing f h in
+    subst (Ends st d) (sym g) (record { actions = ap (λ acts. mid.actions ++ acts) nothing ∙ append-nil mid.actions ∙ n.actions; exps = n.exps })
+takes false st ks l x v q a added d mid e n h f g =
+    let went = subst (Steps (definitions.inside slots.Rule st ks) l x) f h in
+    g ∙ ap (λ (m : Draft). draft m.exps (m.actions ++ added)) n ∙ ap (λ acts. draft d.exps (d.actions ++ acts)) (goes_adds st ks l x a (progress_of q.progress) added went.0 went.1)
 
 -- ---- what is built where this much is read
 
@@ -72,28 +135,31 @@ pub record DraftOf (st : State) (d : Draft) : Type 0 where
   pub built : AreBuilt (meanings st.before) d.exps
   pub now : List Terminal
   pub read : part.reading (part.start (expression false)) now ≡ Some st.here
-  pub acts : (w : List Terminal) → emissions (expression false) [] (Operand, []) (now ++ w) ≡ d.actions ++ emissions (expression false) d.marks (state_of st.here) w
+  pub acts : (w : List Terminal) → emissions (expression false) (Operand, []) (now ++ w) ≡ d.actions ++ emissions (expression false) (state_of st.here) w
 
-start_drafted : DraftOf start (draft (Some []) [] [])
+start_drafted : DraftOf start (draft (Some []) [])
 start_drafted = record { built = (refl, omega arith); now = []; read = refl; acts = λ w. refl }
 
-pub starts : (es : List Exp) (ms : List Mark) (done : List Action) → es ≡ [] → ms ≡ [] → done ≡ [] → DraftOf start (draft (Some es) (reverse ms) done)
-starts es ms done e f g =
-    subst (λ l. DraftOf start (draft (Some l) (reverse ms) done)) (sym e)
-    (subst (λ l. DraftOf start (draft (Some []) (reverse l) done)) (sym f) (subst (λ l. DraftOf start (draft (Some []) [] l)) (sym g) start_drafted))
+pub starts : (es : List Exp) (done : List Action) → es ≡ [] → done ≡ [] → DraftOf start (draft (Some es) done)
+starts es done e g =
+    subst (λ l. DraftOf start (draft (Some l) done)) (sym e) (subst (λ l. DraftOf start (draft (Some []) l)) (sym g) start_drafted)
 
-part_steps : (st : State) (d : Draft) (l : Terminal) (next : part.State) → DraftOf st d → part.step st.here l ≡ Some next → parts.step (expression false) (state_of st.here) (shape l) ≡ Some (state_of next)
+part_steps : (st : State) (d : Draft) (l : Terminal) (next : part.State) → DraftOf st d → part.step st.here l ≡ Some next
+    → (m : parts.Move) × (parts.step (expression false) (state_of st.here) (shape l) ≡ Some m) × (m.0 ≡ state_of next) × (m.1 (token_in l) ≡ emission.emitted st.here l)
 part_steps st d l next r e =
     let p = steps.reached_by (expression false) r.now st.here r.read in
-    ap (λ σ. parts.step σ (state_of st.here) (shape l)) (sym p.based) ∙ step_is st.here l p.holds ∙ ap (option_map state_of) e
+    agreed (token_in l) (emission.emitted st.here l) (parts.step (expression false) (state_of st.here) (shape l)) (part.step st.here l) next
+    (subst (λ σ. Agree (token_in l) (emission.emitted st.here l) (parts.step σ (state_of st.here) (shape l)) (part.step st.here l)) p.based (moves_are st.here l p.holds)) e
+
+followed_added : (f : parts.State → List Action) (x : Token) (o : Option parts.Move) (m : parts.Move) → o ≡ Some m → followed f x o ≡ parts.added x o ++ f m.0
+followed_added f x o m e = ap (followed f x) e ∙ ap (λ acts. acts ++ f m.0) (sym (ap (parts.added x) e))
 
 goes_on : (st : State) (d : Draft) (l : Terminal) (next : part.State) → DraftOf st d → part.step st.here l ≡ Some next
-    → DraftOf (at st.before st.apart next)
-    (draft d.exps (kept (expression false) d.marks (state_of st.here) (shape l)) (d.actions ++ emits (expression false) d.marks (state_of st.here) (shape l) (token_in l)))
+    → DraftOf (at st.before st.apart next) (draft d.exps (d.actions ++ parts.emits (expression false) (state_of st.here) (shape l) (token_in l)))
 goes_on st d l next r e =
     let σ = expression false in
-    let ms = kept σ d.marks (state_of st.here) (shape l) in
-    let added = emits σ d.marks (state_of st.here) (shape l) (token_in l) in
+    let added = parts.emits σ (state_of st.here) (shape l) (token_in l) in
+    let m = part_steps st d l next r e in
     record {
       built = r.built;
       now = r.now ++ l ∷ [];
@@ -102,17 +168,17 @@ goes_on st d l next r e =
           ∙ ap (option_and_then (λ s. part.reading s (l ∷ []))) r.read
           ∙ ap (option_and_then (λ s. Some s)) e;
       acts = λ w.
-          ap (emissions σ [] (Operand, [])) (append_assoc r.now (l ∷ []) w)
+          ap (emissions σ (Operand, [])) (append_assoc r.now (l ∷ []) w)
           ∙ r.acts (l ∷ w)
-          ∙ ap (λ o. d.actions ++ (added ++ on_next (λ s. emissions σ ms s w) o)) (part_steps st d l next r e)
-          ∙ sym (append_assoc d.actions added (emissions σ ms (state_of next) w));
+          ∙ ap (λ o. d.actions ++ o) (followed_added (λ later. emissions σ later w) (token_in l) (parts.step σ (state_of st.here) (shape l)) m.0 m.1 ∙ ap (λ v. added ++ emissions σ v w) m.2)
+          ∙ sym (append_assoc d.actions added (emissions σ (state_of next) w));
     }
 
 -- the actions of an expression that ends
 pub end_acts : (st : State) (d : Draft) (t : Tree) → DraftOf st d → part.finish st.here ≡ Some t → acts t ≡ d.actions ++ finishing (state_of st.here)
 end_acts st d t r e =
     part_emits (expression false) r.now t (ap (option_and_then part.finish) r.read ∙ e)
-    ∙ ap (emissions (expression false) [] (Operand, [])) (sym (append-nil r.now))
+    ∙ ap (emissions (expression false) (Operand, [])) (sym (append-nil r.now))
     ∙ r.acts []
 
 turns : (st : State) (d e : Draft) (l : Terminal) (t : Tree) → DraftOf st d → part.finish st.here ≡ Some t → Ends (state_of st.here) d e → DraftOf (begun (more st.before st.apart t) (l ∷ [])) e
@@ -122,9 +188,7 @@ turns st d e l t r f n =
       built = n.exps t (meanings st.before) p.fits (end_acts st d t r f) r.built;
       now = [];
       read = refl;
-      acts = λ w.
-          ap (λ ms. emissions (expression false) ms (Operand, []) w) (sym n.marks)
-          ∙ ap (λ done. done ++ emissions (expression false) e.marks (Operand, []) w) (sym n.actions);
+      acts = λ w. ap (λ done. done ++ emissions (expression false) (Operand, []) w) (sym n.actions);
     }
 
 -- ---- one token

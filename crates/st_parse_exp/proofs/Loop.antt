@@ -8,7 +8,10 @@ use Rattle.st_grammar.specs.Trees.{Tree, Trees}
 use Rattle.st_grammar.specs.Reading as part
 use Rattle.st_grammar.specs.Positions as positions
 use Rattle.st_grammar.proofs.PositionTexts as texts
+use Rattle.st_parse_builder.specs.declared.action.Action.{Action}
 use Rattle.st_parse_automaton.specs.declared.position.TokenClass.{TokenClass}
+use Rattle.st_parse_automaton.specs.declared.position.Advance.{Advance}
+use Rattle.st_parse_automaton.specs.declared.position.Progress.{Progress}
 use Rattle.st_parse_automaton.specs.inner.DefinitionAutomaton as definitions
 use Rattle.st_parse_automaton.specs.inner.Shapes.{class_of}
 use Rattle.st_parse_automaton.specs.inner.Readings.{progress_of}
@@ -57,17 +60,17 @@ at_token tokens names i x l p w h (s, e, o) t k f =
     ∙ ap (λ v. verdict_view (judging.judge_next Seen (judge names) v (get_or tokens i x))) (sym e)
     ∙ ap verdict_view (sym (judging.verdict_more Seen (judge names) nothing_seen tokens i x h))
 
-pub token_passes : (tokens : List Token) (names : List (List ℕ)) (i : ℕ) (x : Token) (l : TokenClass) (p : CodeSeen) (v : Code) (q : CodeSeen) → i < length tokens → Passes names tokens i p
-    → x ≡ get_or tokens i x → l ≡ class_of (terminal names x) → seen.verdict_of v ≡ spec.judge (seen.summary_of p) x.kind l → v ≡ code.Passed q
+pub token_passes : (tokens : List Token) (names : List (List ℕ)) (i : ℕ) (x : Token) (l : TokenClass) (p : CodeSeen) (v : Code) (q : CodeSeen) (ad : Advance) (added : List Action) → i < length tokens → Passes names tokens i p
+    → x ≡ get_or tokens i x → l ≡ class_of (terminal names x) → seen.verdict_of v ≡ spec.judge (seen.summary_of p) x.kind l → v ≡ code.Passed q ad added
     → Passes names tokens (i + 1) q
-token_passes tokens names i x l p v q h a t k f e =
+token_passes tokens names i x l p v q ad added h a t k f e =
     view_passes (verdict names tokens (i + 1)) (seen.summary_of q)
     (sym (at_token tokens names i x l p (seen.verdict_of v) h a t k f) ∙ ap seen.verdict_of e)
 
-pub token_breaks : (tokens : List Token) (names : List (List ℕ)) (i : ℕ) (x : Token) (l : TokenClass) (p : CodeSeen) (v : Code) (r : RuleId) → i < length tokens → Passes names tokens i p
-    → x ≡ get_or tokens i x → l ≡ class_of (terminal names x) → seen.verdict_of v ≡ spec.judge (seen.summary_of p) x.kind l → v ≡ code.Broken r
+pub token_breaks : (tokens : List Token) (names : List (List ℕ)) (i : ℕ) (x : Token) (l : TokenClass) (p : CodeSeen) (v : Code) (r : RuleId) (last : Progress) → i < length tokens → Passes names tokens i p
+    → x ≡ get_or tokens i x → l ≡ class_of (terminal names x) → seen.verdict_of v ≡ spec.judge (seen.summary_of p) x.kind l → v ≡ code.Broken r last
     → FirstFault names tokens i r
-token_breaks tokens names i x l p v r h a t k f e =
+token_breaks tokens names i x l p v r last h a t k f e =
     inl (
       h,
       (a.0, a.1),
@@ -95,5 +98,5 @@ ends_early names tokens i p b h (s, e, o) f t =
     let no : is_some (part.finish s.state.here) ≡ false = sym (may_end_as s (passes_holds names tokens i s e)) ∙ ap (λ v. definitions.may_end v.state) o ∙ sym f ∙ t in
     inr (refl, refl, (s, sym (judging.all_tokens Seen (judge names) nothing_seen tokens i h) ∙ e, whole_none s (part.finish s.state.here) no))
 
-pub bounded : (v : Code) (q : CodeSeen) → v ≡ code.Passed q → seen.IsBounded v → seen.SeenKept q
-bounded v q e b = subst seen.IsBounded e b
+pub bounded : (v : Code) (q : CodeSeen) (ad : Advance) (added : List Action) → v ≡ code.Passed q ad added → seen.IsBounded v → seen.SeenKept q
+bounded v q ad added e b = subst seen.IsBounded e b

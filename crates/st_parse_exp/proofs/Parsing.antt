@@ -18,6 +18,8 @@ use Rattle.st_parse_builder.specs.Heights.{highest, height}
 use Rattle.st_parse_builder.specs.inner.Actions.{acts}
 use Rattle.st_parse_automaton.specs.declared.position.TokenClass.{TokenClass}
 use Rattle.st_parse_automaton.specs.declared.position.Slot.{Slot}
+use Rattle.st_parse_automaton.specs.declared.position.Advance.{Advance}
+use Rattle.st_parse_builder.specs.declared.action.Action.{Action}
 use Rattle.st_parse_automaton.specs.inner.PartAutomaton as parts
 use Rattle.st_parse_automaton.specs.inner.DefinitionAutomaton as definitions
 use Rattle.st_parse_automaton.specs.inner.Shapes.{class_of}
@@ -30,7 +32,7 @@ use Rattle.st_parse_faults.specs.declared.judge.TokenVerdict.{TokenVerdict as Co
 use Rattle.st_parse_faults.specs.declared.judge.TokenVerdict.TheVariants as code
 use Rattle.st_parse_faults.specs.Place.{place_at}
 use Rattle.st_parse_faults.specs.inner.Seen as seen
-use Rattle.st_parse_actions.specs.inner.Emits.{finishing}
+use Rattle.st_parse_automaton.specs.inner.PartAutomaton.{finishing}
 use Rattle.st_num.specs.declared.fault.Fault.{Fault as SyntaxFault}
 use Rattle.st_num.specs.declared.fault.Fault.TheVariants.{Refused, Memory}
 use Rattle.st_parse_exp.specs.Expressions.{ParseExpressions, terminals_of}
@@ -38,7 +40,7 @@ use Rattle.st_parse_exp.specs.Reading.{finish, whole}
 use Rattle.st_parse_faults.specs.Judging.{passed}
 use Rattle.st_parse_exp.specs.Faults.{Seen, judge, verdict, nothing_seen, FirstFault}
 use Rattle.st_parse_exp.specs.inner.Seen as spec
-use Rattle.st_parse_exp.specs.inner.Drafts.{AreBuilt, Draft, Takes}
+use Rattle.st_parse_exp.specs.inner.Drafts.{AreBuilt, Draft, draft, Turns, Takes}
 use Rattle.st_parse_exp.specs.Parse.{ParseExps, IsFile, AreWhole, Answers}
 use Rattle.st_parse_exp.proofs.Readings.{one_list, sound}
 use Rattle.st_parse_exp.proofs.SeenView.{slot, summary_of, separates_is, may_end_as}
@@ -46,7 +48,7 @@ use Rattle.st_parse_faults.proofs.JudgingLemmas.{judge_next, verdict_more, all_t
 use Rattle.st_parse_exp.proofs.Verdicts.{verdict_reads}
 use Rattle.st_parse_exp.proofs.Exact.{whole_list}
 use Rattle.st_parse_exp.proofs.Loop.{Passes, passes_holds, token_passes}
-use Rattle.st_parse_exp.proofs.Drafted.{DraftOf, drafted, end_acts}
+use Rattle.st_parse_exp.proofs.Drafted.{DraftOf, takes, drafted, end_acts}
 
 -- these tokens passed up to here, and this is built of them
 abbrev pub Drafting : List (List ℕ) → List Token → ℕ → CodeSeen → Draft → Type 0
@@ -55,19 +57,19 @@ Drafting names tokens k p d = (s : Seen) × (verdict names tokens k ≡ passed s
 pub passing : (names : List (List ℕ)) (tokens : List Token) (k : ℕ) (p : CodeSeen) (d : Draft) → Drafting names tokens k p d → Passes names tokens k p
 passing names tokens k p d (s, e, o, r) = (s, e, o)
 
--- what a token is said to make of what is built
-abbrev pub Taken : CodeSeen → TokenClass → Token → Draft → Draft → Type 0
-Taken p l x d e =
-    (k : Slot) (st : parts.State) (ks : List Bracket) → progress_of p.progress ≡ definitions.inside k st ks → Takes (spec.separates (progress_of p.progress) l) st l.shape x d e
+-- what is said of a token that may end an expression
+abbrev pub Turned : CodeSeen → TokenClass → Draft → Draft → Type 0
+Turned p l d mid = (k : Slot) (st : parts.State) (ks : List Bracket) → progress_of p.progress ≡ definitions.inside k st ks → Turns (spec.separates (progress_of p.progress) l) st d mid
 
 inside_is : (s : Seen) (p : CodeSeen) → summary_of s ≡ seen.summary_of p → progress_of p.progress ≡ definitions.inside (slot_of slot) (state_of s.state.here) (slot_open slot)
 inside_is s p o = sym (ap (λ v. v.state) o)
 
-pub token_drafts : (tokens : List Token) (names : List (List ℕ)) (i : ℕ) (x : Token) (l : TokenClass) (p : CodeSeen) (v : Code) (q : CodeSeen) (d e : Draft) → i < length tokens → Drafting names tokens i p d
-    → x ≡ get_or tokens i x → l ≡ class_of (terminal names x) → seen.verdict_of v ≡ spec.judge (seen.summary_of p) x.kind l → v ≡ code.Passed q → Taken p l x d e
+pub token_drafts : (tokens : List Token) (names : List (List ℕ)) (i : ℕ) (x : Token) (l : TokenClass) (p : CodeSeen) (v : Code) (q : CodeSeen) (ad : Advance) (added : List Action) (d mid e : Draft) → i < length tokens → Drafting names tokens i p d
+    → x ≡ get_or tokens i x → l ≡ class_of (terminal names x) → seen.verdict_of v ≡ spec.judge (seen.summary_of p) x.kind l → spec.Adds (spec.separates (progress_of p.progress) l) (progress_of p.progress) l x v
+    → v ≡ code.Passed q ad added → Turned p l d mid → e ≡ draft mid.exps (mid.actions ++ added)
     → Drafting names tokens (i + 1) q e
-token_drafts tokens names i x l p v q d e h (s, f, o, r) t k g c n =
-    let next = token_passes tokens names i x l p v q h (s, f, o) t k g c in
+token_drafts tokens names i x l p v q ad added d mid e h (s, f, o, r) t k g w c n b =
+    let next = token_passes tokens names i x l p v q ad added h (s, f, o) t k g c in
     let lx = terminal names x in
     let inside = inside_is s p o in
     let apart : spec.separates (progress_of p.progress) l ≡ (signed is_comma lx && is_some (part.finish s.state.here)) =
@@ -79,7 +81,9 @@ token_drafts tokens names i x l p v q d e h (s, f, o, r) t k g c n =
     ∙ ap (λ w. judge_next Seen (judge names) w (get_or tokens i x)) (sym f)
     ∙ sym (verdict_more Seen (judge names) nothing_seen tokens i x h)
     ∙ next.1 in
-    let taken : Takes (spec.separates (progress_of p.progress) l) (state_of s.state.here) l.shape x d e = n (slot_of slot) (state_of s.state.here) (slot_open slot) inside in (
+    let adds = subst (λ st. spec.Adds (spec.separates (progress_of p.progress) l) st l x v) inside w in
+    let taken : Takes (spec.separates (progress_of p.progress) l) (state_of s.state.here) l.shape x d e =
+    takes (spec.separates (progress_of p.progress) l) (state_of s.state.here) (slot_open slot) l x v q ad added d mid e (n (slot_of slot) (state_of s.state.here) (slot_open slot) inside) adds c b in (
       next.0,
       next.1,
       next.2,

@@ -1,6 +1,6 @@
 //! Expressions that are built while their tokens are read.
 
-ghost use Rattle.std.specs.Prelude.{◌≡◌, [], ◌∷◌, ◌++◌, false, List, Bool, IfOk, reverse};
+ghost use Rattle.std.specs.Prelude.{◌≡◌, [], ◌∷◌, ◌++◌, false, List, IfOk};
 ghost use Rattle.st_grammar.specs.declared.sort.Bracket.{Bracket};
 ghost use Rattle.st_grammar.specs.declared.sort.Sort.TheVariants.{Expression as expression};
 ghost use Rattle.st_grammar.specs.Trees.{Tree};
@@ -12,16 +12,13 @@ ghost use Rattle.st_parse_automaton.specs.declared.position.Slot.{Slot};
 ghost use Rattle.st_parse_automaton.specs.inner.PartAutomaton as parts;
 ghost use Rattle.st_parse_automaton.specs.inner.DefinitionAutomaton as definitions;
 ghost use Rattle.st_parse_automaton.specs.inner.Readings.{progress_of, reading_of};
-ghost use Rattle.st_parse_actions.specs.inner.Emits as emits;
 ghost use Rattle.st_parse_exp.specs.inner.Seen as seen;
-ghost use Rattle.st_parse_exp.specs.inner.Drafts.{IsBuilt, AreBuilt, with_exp, draft, Ends, Takes};
+ghost use Rattle.st_parse_exp.specs.inner.Drafts.{IsBuilt, AreBuilt, with_exp, draft, Turns};
 
 use crate::judge::separates;
 use st_el::Exp;
-use st_grammar::Sort;
-use st_num::{Mark, NoMemory, Row, Token};
-use st_parse_actions::{emit, finish};
-use st_parse_automaton::{Progress, Reading, TokenClass};
+use st_num::{NoMemory, Row};
+use st_parse_automaton::{Progress, Reading, TokenClass, end as end_part};
 use st_parse_builder::{Action, build};
 use std::alloc::Global;
 use std::mem::replace;
@@ -59,46 +56,34 @@ pub(crate) fn end(
     exps: Option<Row<Exp>>,
 ) -> Result<Option<Row<Exp>>, NoMemory>
     ensures { (t : Tree) (es : List Exp) → Fits (expression false) t
-        → acts t ≡ actions.entry ++ emits.finishing (reading_of reading.now) → AreBuilt es exps
+        → acts t ≡ actions.entry ++ parts.finishing (reading_of reading.now) → AreBuilt es exps
         → IfOk result (λ all. AreBuilt (es ++ meaning t ∷ []) all) }
 {
     let mut actions = actions;
-    finish(reading, &mut actions)?;
+    end_part(reading, &mut actions)?;
     let exp = built(alloc, actions.as_slice())?;
     put(exps, exp)
 }
 
-/// What a token makes of what is built: it adds its actions, or ends the expression.
-pub(crate) fn take<'a>(
+/// A comma behind a whole expression ends it.
+pub(crate) fn turn<'a>(
     alloc: Global,
     progress: &Progress,
     class: TokenClass,
-    token: &'a Token,
-    marks: &mut Row<Mark>,
     actions: &mut Row<Action<'a>>,
     exps: Option<Row<Exp>>,
 ) -> Result<Option<Row<Exp>>, NoMemory>
     ensures { (k : Slot) (st : parts.State) (ks : List Bracket)
         → progress_of progress.now ≡ definitions.inside k st ks
-        → IfOk result (λ all. Takes (seen.separates (progress_of progress.now) class) st
-        class.shape token.now (draft exps (reverse marks.old) actions.old)
-        (draft all (reverse marks.new) actions.new)) }
+        → IfOk result (λ all. Turns (seen.separates (progress_of progress.now) class) st
+        (draft exps actions.old) (draft all actions.new)) }
 {
+    if !separates(progress, class) {
+        return Ok(exps);
+    }
     let Progress::Inside(_, reading, _) = progress else {
         return Ok(exps);
     };
-    if separates(progress, class) {
-        *marks = Row::new(alloc);
-        let ended = replace(actions, Row::new(alloc));
-        return end(alloc, reading, ended, exps);
-    }
-    emit(
-        Sort::Expression(false),
-        reading,
-        class.shape,
-        token,
-        marks,
-        actions,
-    )?;
-    Ok(exps)
+    let ended = replace(actions, Row::new(alloc));
+    end(alloc, reading, ended, exps)
 }

@@ -5,11 +5,13 @@ ghost use Rattle.st_num.specs.declared.limit.TheConstants.{HIGHEST_TREE};
 ghost use Rattle.st_parse_faults.specs.inner.Seen as seen;
 ghost use Rattle.st_parse_automaton.specs.inner.DefinitionAutomaton as definitions;
 ghost use Rattle.st_parse_automaton.specs.declared.position.Slot.TheVariants as slot;
+ghost use Rattle.st_num.specs.declared.token.Token.{Token};
+ghost use Rattle.st_parse_automaton.specs.declared.position.TokenClass.{TokenClass};
 ghost use Rattle.st_parse_automaton.specs.inner.Readings.{progress_of};
 ghost use Rattle.st_parse_exp.specs.inner.Seen as spec;
 
-use st_num::{Mark, NoMemory, Row, RuleId, TokenKind};
-use st_parse_automaton::{Expected, Progress, Reading, Shape, Slot, TokenClass, may_end};
+use st_num::{Mark, NoMemory, Row, RuleId, Token};
+use st_parse_automaton::{Advance, Expected, Progress, Reading, Shape, Slot, TokenClass, may_end};
 use st_parse_faults::{Seen, TokenVerdict, judge_token, nothing_counted};
 use std::alloc::Global;
 
@@ -49,38 +51,43 @@ fn is_inside(progress: &Progress) -> bool
 }
 
 /// The verdict where no rule goes on behind an expression.
-fn alone(verdict: TokenVerdict) -> TokenVerdict
-    ensures value { seen.verdict_of result ≡ spec.alone (seen.verdict_of verdict) }
-    ensures bound { seen.IsBounded verdict → seen.IsBounded result }
+fn alone(verdict: TokenVerdict<'_>) -> TokenVerdict<'_>
+    ensures value { seen.verdict_of result ≡ spec.alone (seen.verdict_of verdict.entry) }
+    ensures bound { seen.IsBounded verdict.entry → seen.IsBounded result }
+    ensures step { (st : definitions.State) (l : TokenClass) (x : Token)
+        → seen.Stands st l x verdict.entry → spec.Steps st l x result }
 {
     match verdict {
-        TokenVerdict::Passed(next) => {
+        TokenVerdict::Passed(next, advance, actions) => {
             if is_inside(&next.progress) {
-                TokenVerdict::Passed(next)
+                TokenVerdict::Passed(next, advance, actions)
             } else {
-                TokenVerdict::Broken(RuleId::S1)
+                TokenVerdict::Broken(RuleId::S1, next.progress)
             }
         }
-        TokenVerdict::Broken(rule) => TokenVerdict::Broken(rule),
+        TokenVerdict::Broken(rule, before) => TokenVerdict::Broken(rule, before),
     }
 }
 
-/// The verdict on one more token.
-pub(crate) fn judge_next(
+/// The verdict on one more token, and the actions that it adds.
+pub(crate) fn judge_next<'a>(
     alloc: Global,
     known: Seen,
-    kind: &TokenKind,
+    token: &'a Token,
     class: TokenClass,
-) -> Result<TokenVerdict, NoMemory>
+) -> Result<TokenVerdict<'a>, NoMemory>
     requires { seen.SeenKept known }
     ensures value { IfOk result (λ verdict.
-        seen.verdict_of verdict ≡ spec.judge (seen.summary_of known) kind.now class) }
+        seen.verdict_of verdict ≡ spec.judge (seen.summary_of known) (token.now.kind) class) }
     ensures bound { IfOk result (λ verdict. seen.IsBounded verdict) }
+    ensures step { IfOk result (λ verdict.
+        spec.Adds (spec.separates (progress_of (known.progress)) class)
+        (progress_of (known.progress)) class token.now verdict) }
 {
     if separates(&known.progress, class) {
         let next = begin(alloc, known.nesting)?;
-        return Ok(TokenVerdict::Passed(next));
+        return Ok(TokenVerdict::Passed(next, Advance::On(Slot::Rule), Row::new(alloc)));
     }
-    let verdict = judge_token(alloc, known, kind, class)?;
+    let verdict = judge_token(alloc, known, token, class)?;
     Ok(alone(verdict))
 }

@@ -12,17 +12,16 @@ ghost use Rattle.st_parse_automaton.specs.declared.position.Slot.{Slot};
 ghost use Rattle.st_parse_automaton.specs.inner.PartAutomaton as parts;
 ghost use Rattle.st_parse_automaton.specs.inner.DefinitionAutomaton as definitions;
 ghost use Rattle.st_parse_automaton.specs.inner.Readings.{progress_of};
-ghost use Rattle.st_parse_actions.specs.inner.Emits as emits;
 ghost use Rattle.st_parse_faults.specs.Place as place;
 ghost use Rattle.st_num.specs.declared.fault.Fault.TheVariants as fault;
 ghost use Rattle.st_parse_exp.specs.inner.Drafts.{AreBuilt};
 ghost use Rattle.st_parse_exp.specs.Parse.{AreWhole, Answers};
 
-use crate::draft::{end, take};
+use crate::draft::{end, turn};
 use crate::judge::{begin, judge_next};
 use st_el::Exp;
 use st_num::{Name, Row, RuleId, Token};
-use st_parse_automaton::{NameIndex, Progress, may_end, token_class};
+use st_parse_automaton::{NameIndex, Progress, may_end, token_class, with_actions};
 use st_parse_builder::Action;
 use st_parse_faults::{SyntaxFault, TokenVerdict, place_at};
 use std::alloc::Global;
@@ -57,7 +56,7 @@ fn last(
 ) -> Result<Row<Exp>, SyntaxFault>
     ensures { (k : Slot) (st : parts.State) (ks : List Bracket) (t : Tree) (es : List Exp)
         → progress_of progress.now ≡ definitions.inside k st ks → Fits (expression false) t
-        → acts t ≡ actions.entry ++ emits.finishing st → AreBuilt es exps
+        → acts t ≡ actions.entry ++ parts.finishing st → AreBuilt es exps
         → AreWhole tokens.now (es ++ meaning t ∷ []) result }
 {
     let Progress::Inside(_, reading, _) = progress else {
@@ -78,22 +77,16 @@ fn read_tokens(
 {
     let mut seen = begin(alloc, 0)?;
     let mut exps = Some(Row::new(alloc));
-    let mut marks = Row::new(alloc);
     let mut actions = Row::new(alloc);
     'tokens: for (at, token) in tokens.iter().enumerate() {
         let class = token_class(variables, token);
-        exps = take(
-            alloc,
-            &seen.progress,
-            class,
-            token,
-            &mut marks,
-            &mut actions,
-            exps,
-        )?;
-        match judge_next(alloc, seen, &token.kind, class)? {
-            TokenVerdict::Broken(rule) => return Err(refused(tokens, at, rule)),
-            TokenVerdict::Passed(next) => seen = next,
+        exps = turn(alloc, &seen.progress, class, &mut actions, exps)?;
+        match judge_next(alloc, seen, token, class)? {
+            TokenVerdict::Broken(rule, _) => return Err(refused(tokens, at, rule)),
+            TokenVerdict::Passed(next, _, added) => {
+                actions = with_actions(actions, added)?;
+                seen = next;
+            }
         }
     }
     if !may_end(&seen.progress) {

@@ -8,3 +8,4 @@ pub mod JudgingLemmas
 pub mod Verdicts
 pub mod Loop
 pub mod Exact
+pub mod Stepping

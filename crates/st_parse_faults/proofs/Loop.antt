@@ -6,7 +6,10 @@ use Rattle.st_num.specs.declared.token.Token.{Token}
 use Rattle.st_grammar.specs.Terminals.{terminal, declared_names}
 use Rattle.st_grammar.specs.Positions.{finish}
 use Rattle.st_grammar.proofs.PositionTexts.{Holds}
+use Rattle.st_parse_builder.specs.declared.action.Action.{Action}
 use Rattle.st_parse_automaton.specs.declared.position.TokenClass.{TokenClass}
+use Rattle.st_parse_automaton.specs.declared.position.Advance.{Advance}
+use Rattle.st_parse_automaton.specs.declared.position.Progress.{Progress}
 use Rattle.st_parse_automaton.specs.inner.DefinitionAutomaton as definitions
 use Rattle.st_parse_automaton.specs.inner.Shapes.{class_of}
 use Rattle.st_parse_automaton.specs.inner.Readings.{progress_of}
@@ -52,17 +55,17 @@ at_token tokens names i x l p w h (s, e, o) t g k f =
     ∙ ap (λ v. view (judging.judge_next Seen (judge (declared_names tokens)) v (get_or tokens i x))) (sym e)
     ∙ ap view (sym (judging.verdict_more Seen (judge (declared_names tokens)) nothing_seen tokens i x h))
 
-pub token_passes : (tokens : List Token) (names : List (List ℕ)) (i : ℕ) (x : Token) (l : TokenClass) (p : CodeSeen) (v : Code) (q : CodeSeen) → i < length tokens → Passes tokens i p
-    → x ≡ get_or tokens i x → names ≡ declared_names tokens → l ≡ class_of (terminal names x) → seen.verdict_of v ≡ seen.judge (seen.summary_of p) x.kind l → v ≡ code.Passed q
+pub token_passes : (tokens : List Token) (names : List (List ℕ)) (i : ℕ) (x : Token) (l : TokenClass) (p : CodeSeen) (v : Code) (q : CodeSeen) (a : Advance) (acts : List Action) → i < length tokens → Passes tokens i p
+    → x ≡ get_or tokens i x → names ≡ declared_names tokens → l ≡ class_of (terminal names x) → seen.verdict_of v ≡ seen.judge (seen.summary_of p) x.kind l → v ≡ code.Passed q a acts
     → Passes tokens (i + 1) q
-token_passes tokens names i x l p v q h a t g k f e =
+token_passes tokens names i x l p v q ad acts h a t g k f e =
     view_passes (verdict tokens (i + 1)) (seen.summary_of q)
     (sym (at_token tokens names i x l p (seen.verdict_of v) h a t g k f) ∙ ap seen.verdict_of e)
 
-pub token_breaks : (tokens : List Token) (names : List (List ℕ)) (i : ℕ) (x : Token) (l : TokenClass) (p : CodeSeen) (v : Code) (r : RuleId) → i < length tokens → Passes tokens i p
-    → x ≡ get_or tokens i x → names ≡ declared_names tokens → l ≡ class_of (terminal names x) → seen.verdict_of v ≡ seen.judge (seen.summary_of p) x.kind l → v ≡ code.Broken r
+pub token_breaks : (tokens : List Token) (names : List (List ℕ)) (i : ℕ) (x : Token) (l : TokenClass) (p : CodeSeen) (v : Code) (r : RuleId) (last : Progress) → i < length tokens → Passes tokens i p
+    → x ≡ get_or tokens i x → names ≡ declared_names tokens → l ≡ class_of (terminal names x) → seen.verdict_of v ≡ seen.judge (seen.summary_of p) x.kind l → v ≡ code.Broken r last
     → FirstFault tokens i r
-token_breaks tokens names i x l p v r h a t g k f e =
+token_breaks tokens names i x l p v r last h a t g k f e =
     inl (
       h,
       (a.0, a.1),
@@ -82,5 +85,5 @@ ends_early tokens i p b h (s, e, o) f t =
     let no : is_some (finish s.state) ≡ false = sym (may_end_is s.state (passes_holds tokens i s e)) ∙ ap (λ v. definitions.may_end v.state) o ∙ sym f ∙ t in
     inr (refl, refl, (s, sym (judging.all_tokens Seen (judge (declared_names tokens)) nothing_seen tokens i h) ∙ e, not_found (finish s.state) no))
 
-pub bounded : (v : Code) (q : CodeSeen) → v ≡ code.Passed q → seen.IsBounded v → seen.SeenKept q
-bounded v q e b = subst seen.IsBounded e b
+pub bounded : (v : Code) (q : CodeSeen) (a : Advance) (acts : List Action) → v ≡ code.Passed q a acts → seen.IsBounded v → seen.SeenKept q
+bounded v q a acts e b = subst seen.IsBounded e b

@@ -3,15 +3,18 @@
 ghost use Rattle.std.specs.Prelude.{◌≡◌, ◌≤◌, IfOk};
 ghost use Rattle.st_num.specs.declared.limit.TheConstants.{HIGHEST_TREE};
 ghost use Rattle.st_parse_faults.specs.inner.Seen as spec;
-ghost use Rattle.st_parse_automaton.specs.inner.Readings.{progress_of};
+ghost use Rattle.std.specs.Option.{option_map};
+ghost use Rattle.st_parse_automaton.specs.inner.DefinitionAutomaton as definitions;
+ghost use Rattle.st_parse_automaton.specs.inner.Readings.{progress_of, step_of};
 
 use crate::before::{Before, left_out, stands_before};
 use crate::counts::{Counts, counts_after, counts_pass, event_of, member_due};
 use crate::nesting::{bars, may_open, nesting_after};
 use crate::role::attachment_of;
 use crate::tally::{Tally, any_passes, single, tallies_after};
-use st_num::{HIGHEST_TREE, NoMemory, Row, RuleId, TokenKind};
-use st_parse_automaton::{At, Position, Progress, Shape, TokenClass, advance};
+use st_num::{HIGHEST_TREE, NoMemory, Row, RuleId, Token, TokenKind};
+use st_parse_automaton::{Advance, At, Position, Progress, Shape, Step, TokenClass, advance};
+use st_parse_builder::Action;
 use std::alloc::Global;
 
 /// What is known behind some tokens: how far they are read, how many brackets are open, what is
@@ -26,9 +29,11 @@ pub struct Seen {
 
 /// A token is read, or it breaks a rule.
 #[derive(Drop)]
-pub enum TokenVerdict {
-    Passed(Seen),
-    Broken(RuleId),
+pub enum TokenVerdict<'a> {
+    /// What is known behind it, how it stands, and what it adds to the actions.
+    Passed(Seen, Advance, Row<Action<'a>>),
+    /// The rule, and how far the tokens before it are read.
+    Broken(RuleId, Progress),
 }
 
 /// The rule that a refused token breaks.
@@ -83,17 +88,34 @@ pub fn nothing_counted(alloc: Global, progress: Progress, nesting: u8) -> Result
     })
 }
 
+/// What one more token makes of the reading, and where that leads.
+fn next_step<'a>(
+    alloc: Global,
+    progress: &Progress,
+    class: TokenClass,
+    token: &'a Token,
+) -> Result<Option<Step<'a>>, NoMemory>
+    ensures step { IfOk result (λ step. option_map step_of step
+        ≡ definitions.advanced token.now (definitions.advance (progress_of progress.now) class)) }
+    ensures leads { IfOk result (λ step.
+        spec.state_behind step ≡ definitions.step (progress_of progress.now) class) }
+{
+    advance(alloc, progress, class, token)
+}
+
 /// The verdict on one more token.
-pub fn judge_token(
+pub fn judge_token<'a>(
     alloc: Global,
     seen: Seen,
-    kind: &TokenKind,
+    token: &'a Token,
     class: TokenClass,
-) -> Result<TokenVerdict, NoMemory>
+) -> Result<TokenVerdict<'a>, NoMemory>
     requires { spec.SeenKept seen }
-    ensures value { IfOk result (λ verdict.
-        spec.verdict_of verdict ≡ spec.judge (spec.summary_of seen) kind.now class) }
+    ensures value { IfOk result (λ verdict. spec.verdict_of verdict
+        ≡ spec.judge (spec.summary_of seen) (token.now.kind) class) }
     ensures bound { IfOk result (λ verdict. spec.IsBounded verdict) }
+    ensures step { IfOk result (λ verdict.
+        spec.Stands (progress_of (seen.progress)) class token.now verdict) }
 {
     let Seen {
         progress,
@@ -101,25 +123,26 @@ pub fn judge_token(
         counts,
         tallies,
     } = seen;
-    let before = stands_before(&progress);
-    let due = member_due(&progress);
-    let attachment = attachment_of(&progress, class.shape);
-    let Some(progress) = advance(alloc, progress, class)? else {
-        return Ok(TokenVerdict::Broken(refusal(before, nesting, kind)));
+    let Some(step) = next_step(alloc, &progress, class, token)? else {
+        let rule = refusal(stands_before(&progress), nesting, &token.kind);
+        return Ok(TokenVerdict::Broken(rule, progress));
     };
+    let next = step.progress;
     let nesting = nesting_after(nesting, class.shape);
-    if opens_too_many(&progress, nesting, class.shape) {
-        return Ok(TokenVerdict::Broken(RuleId::S2));
+    if opens_too_many(&next, nesting, class.shape) {
+        return Ok(TokenVerdict::Broken(RuleId::S2, progress));
     }
-    let counts = counts_after(counts, event_of(due, &progress));
-    let tallies = tallies_after(alloc, attachment, class.shape, &progress, tallies)?;
+    let counts = counts_after(counts, event_of(member_due(&progress), &next));
+    let attachment = attachment_of(&progress, class.shape);
+    let tallies = tallies_after(alloc, attachment, class.shape, &next, tallies)?;
     if counts_pass(counts) || any_passes(&tallies) {
-        return Ok(TokenVerdict::Broken(RuleId::S3));
+        return Ok(TokenVerdict::Broken(RuleId::S3, progress));
     }
-    Ok(TokenVerdict::Passed(Seen {
-        progress,
+    let seen = Seen {
+        progress: next,
         nesting,
         counts,
         tallies,
-    }))
+    };
+    Ok(TokenVerdict::Passed(seen, step.advance, step.actions))
 }

@@ -38,9 +38,9 @@ fn read_tokens(
     let mut seen = nothing_seen(alloc)?;
     'tokens: for (at, token) in tokens.iter().enumerate() {
         let class = token_class(names, token);
-        match judge_token(alloc, seen, &token.kind, class)? {
-            TokenVerdict::Broken(rule) => return Ok(Some(TokenFault { token: at, rule })),
-            TokenVerdict::Passed(next) => seen = next,
+        match judge_token(alloc, seen, token, class)? {
+            TokenVerdict::Broken(rule, _) => return Ok(Some(TokenFault { token: at, rule })),
+            TokenVerdict::Passed(next, _, _) => seen = next,
         }
     }
     if may_end(&seen.progress) {

@@ -1,7 +1,10 @@
 -- What the parser keeps of a reading of definitions, and what each token makes of it: the reading
 -- of `st_grammar` without its trees.
-use Rattle.std.specs.Prelude.{List, [], ◌∷◌, Bool, true, false, not, ◌&&◌, ◌||◌, Option, Some, None, option_and_then, if◌then◌else◌}
+use Rattle.std.specs.Prelude.{List, [], ◌∷◌, ◌++◌, length, Bool, true, false, not, ◌&&◌, ◌||◌, Option, Some, None, if◌then◌else◌}
+use Rattle.std.specs.Option.{option_map}
 use Rattle.st_num.specs.declared.mark.Mark.{Mark}
+use Rattle.st_num.specs.declared.token.Token.{Token}
+use Rattle.st_parse_builder.specs.declared.action.Action.{Action}
 use Rattle.st_grammar.specs.declared.sort.Leaf.TheVariants as leaf
 use Rattle.st_grammar.specs.declared.sort.Bracket.{Bracket}
 use Rattle.st_grammar.specs.declared.sort.Bracket.TheVariants as bracket
@@ -29,6 +32,8 @@ use Rattle.st_parse_automaton.specs.declared.position.IterationState.{IterationS
 use Rattle.st_parse_automaton.specs.declared.position.IterationState.TheVariants as iterations
 use Rattle.st_parse_automaton.specs.declared.position.Position.{Position}
 use Rattle.st_parse_automaton.specs.declared.position.Position.TheVariants as position
+use Rattle.st_parse_automaton.specs.declared.position.Advance.{Advance}
+use Rattle.st_parse_automaton.specs.declared.position.Advance.TheVariants as advance_case
 use Rattle.st_parse_automaton.specs.inner.PartAutomaton as parts
 
 -- how far definitions are read: at a position between parts or in a part, and the brackets that
@@ -208,11 +213,6 @@ enter_other (slot.Case c) l ks = enter_case c l ks
 enter_other (slot.Argument true t) l ks = when (closes_round l) (at (position.ArgumentsClosed t) ks)
 enter_other s l ks = None
 
--- a part begins with this token, or else something other does
-abbrev pub enter : Slot → Option parts.State → List Bracket → Option State → Option State
-enter s (Some st) ks o = Some (inside s st ks)
-enter s None ks o = o
-
 -- behind `{` or a comma the name of a field, or `}` where there is no field
 abbrev pub field_step : Bool → TokenClass → List Bracket → Option State
 field_step true l ks =
@@ -334,8 +334,7 @@ own (position.Hinted h b) l ks = hint_or l.keyword h b l ks
 own (position.HintOpen h) l ks = when (opens_round l) (at (position.HintName h) ks)
 own (position.HintName h) l ks = when (is_name l) (at (position.HintWords h) ks)
 own (position.HintWords h) l ks = hint_step h ks l (balance ks l.shape)
-own (position.Entering s) l ks =
-    enter s (parts.step (slot_sort s) (Operand, []) l.shape) ks (enter_other s l ks)
+own (position.Entering s) l ks = enter_other s l ks
 own position.Dotted l ks = when (is_bar l) (at (position.Entering (slot.Case case.Led)) ks)
 own (position.FieldName b) l ks = field_step b l ks
 own position.Premised l ks = next_premise l.keyword ks
@@ -352,7 +351,8 @@ first_of_two None o = o
 abbrev pub turn : Bool → Keyword → List Bracket → Option State
 turn b k ks = if b then begin_def k ks else None
 
--- what a token makes at a position: it goes on, or begins a next definition behind whole ones
+-- what a token makes at a position where it begins no part: it goes on, or begins a next
+-- definition behind whole ones
 abbrev pub position_step : Position → TokenClass → List Bracket → Option State
 position_step p l ks = first_of_two (own p l ks) (turn (whole p ks) l.keyword ks)
 
@@ -368,16 +368,56 @@ filled slot.Rule p = position.Premised
 filled slot.Condition p = position.Iterated iterations.None
 filled slot.Count p = position.Iterated iterations.Complete
 
--- what a token makes in a part: the part takes it, or else it stands behind the part
-abbrev pub taken : Slot → TokenClass → List Bracket → Option parts.State → Option Part
-    → Option State
-taken s l ks (Some next) q = Some (inside s next ks)
-taken s l ks None q = option_and_then (λ p. position_step (filled s p) l ks) q
+-- how a token stands, where it leads, and what it adds to the actions of a part
+abbrev pub Taken : Type 0
+Taken = Advance × State × parts.Emits
+
+-- a token that stands so, where it leads on
+abbrev pub stands : Advance → parts.Emits → Option State → Option Taken
+stands a e None = None
+stands a e (Some next) = Some (a, next, e)
+
+-- a part takes the token, or else something other does
+abbrev pub taken : Slot → List Bracket → Option parts.Move → Option Taken → Option Taken
+taken s ks (Some m) o = Some (advance_case.On s, inside s m.0 ks, m.1)
+taken s ks None o = o
+
+-- the part that is due at the position
+abbrev pub entering : Position → Option Slot
+entering (position.Entering s) = Some s
+entering p = None
+
+-- what a token makes at a position: the part that is due there begins with it, or it stands there
+abbrev pub at_position : Option Slot → Position → TokenClass → List Bracket → Option Taken
+at_position (Some s) p l ks =
+    taken s ks (parts.step (slot_sort s) (Operand, []) l.shape)
+    (stands (advance_case.At p) parts.adds_nothing (position_step p l ks))
+at_position None p l ks =
+    stands (advance_case.At p) parts.adds_nothing (position_step p l ks)
+
+-- what a token makes behind a part that ends before it
+abbrev pub behind_part : Slot → TokenClass → List Bracket → List Action → Option Part
+    → Option Taken
+behind_part s l ks ends None = None
+behind_part s l ks ends (Some p) =
+    stands (advance_case.Behind s (length ks) (filled s p)) (λ x. ends)
+    (position_step (filled s p) l ks)
 
 -- what a token makes of a state, where the grammar allows it there
+abbrev pub advance : State → TokenClass → Option Taken
+advance (at p ks) l = at_position (entering p) p l ks
+advance (inside s st ks) l =
+    taken s ks (parts.step (slot_sort s) st l.shape)
+    (behind_part s l ks (parts.finishing st) (parts.finish st))
+
+-- the same with the actions that this token adds
+abbrev pub advanced : Token → Option Taken → Option (Advance × State × List Action)
+advanced x None = None
+advanced x (Some t) = Some (t.0, t.1, t.2 x)
+
+-- where a token leads
 abbrev pub step : State → TokenClass → Option State
-step (at p ks) l = position_step p l ks
-step (inside s st ks) l = taken s l ks (parts.step (slot_sort s) st l.shape) (parts.finish st)
+step st l = option_map (λ t. t.1) (advance st l)
 
 -- definitions may end behind a part that is read for this, where it may end itself
 abbrev pub part_ends : Slot → List Bracket → Option Part → Bool

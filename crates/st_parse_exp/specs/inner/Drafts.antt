@@ -1,7 +1,6 @@
 -- What is built of expressions while their tokens are read.
 use Rattle.std.specs.Prelude.{◌≡◌, ◌≤◌, ◌<◌, List, [], ◌∷◌, ◌++◌, map, Bool, true, false, Option, Some, None}
 use Rattle.st_num.specs.declared.limit.TheConstants.{HIGHEST_TREE}
-use Rattle.st_num.specs.declared.mark.Mark.{Mark}
 use Rattle.st_num.specs.declared.token.Token.{Token}
 use Rattle.st_grammar.specs.declared.sort.Sort.TheVariants.{Expression as expression}
 use Rattle.st_grammar.specs.Trees.{Tree}
@@ -13,7 +12,6 @@ use Rattle.st_parse_builder.specs.Heights.{highest, height}
 use Rattle.st_parse_builder.specs.inner.Actions.{acts}
 use Rattle.st_parse_automaton.specs.declared.part_automaton.Shape.{Shape}
 use Rattle.st_parse_automaton.specs.inner.PartAutomaton as parts
-use Rattle.st_parse_actions.specs.inner.Emits as emits
 
 -- the expression that is built of one that means this, where it is not too high
 abbrev pub IsBuilt : Exp → Option Exp → Type 0
@@ -30,29 +28,30 @@ abbrev pub with_exp : Option (List Exp) → Option Exp → Option (List Exp)
 with_exp (Some es) (Some e) = Some (es ++ e ∷ [])
 with_exp es e = None
 
--- The expressions that are whole, the signs of the changes that are open in the next one, the
--- innermost first, and its actions.
+-- The expressions that are whole, and the actions of the next one.
 pub record Draft : Type 0 where
   pub exps : Option (List Exp)
-  pub marks : List Mark
   pub actions : List Action
 
--- a draft of these expressions, signs and actions
-abbrev pub draft : Option (List Exp) → List Mark → List Action → Draft
-draft es ms done = record { exps = es; marks = ms; actions = done }
+-- a draft of these expressions and actions
+abbrev pub draft : Option (List Exp) → List Action → Draft
+draft es done = record { exps = es; actions = done }
 
 -- A comma ends an expression, whose actions are all there with those of its end.
 pub record Ends (st : parts.State) (old new : Draft) : Type 0 where
-  pub marks : new.marks ≡ []
   pub actions : new.actions ≡ []
   -- The expression that the actions build is one more of those that are built.
   pub exps : (t : Tree) (es : List Exp) → Fits (expression false) t
-      → acts t ≡ old.actions ++ emits.finishing st → AreBuilt es old.exps
+      → acts t ≡ old.actions ++ parts.finishing st → AreBuilt es old.exps
       → AreBuilt (es ++ meaning t ∷ []) new.exps
+
+-- A comma behind a whole expression ends it, and another token changes nothing yet.
+abbrev pub Turns : Bool → parts.State → Draft → Draft → Type 0
+Turns true st old new = Ends st old new
+Turns false st old new = new ≡ old
 
 -- what a token makes of a draft: a comma behind a whole expression, or another
 abbrev pub Takes : Bool → parts.State → Shape → Token → Draft → Draft → Type 0
 Takes true st s x old new = Ends st old new
 Takes false st s x old new =
-    new ≡ draft old.exps (emits.kept (expression false) old.marks st s)
-    (old.actions ++ emits.emits (expression false) old.marks st s x)
+    new ≡ draft old.exps (old.actions ++ parts.emits (expression false) st s x)

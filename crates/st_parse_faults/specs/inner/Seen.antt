@@ -1,9 +1,10 @@
 -- What is known behind some tokens and how one more is judged, of what the parser keeps of them.
-use Rattle.std.specs.Prelude.{ℕ, ◌+◌, ◌-◌, ◌≤◌, List, [], ◌∷◌, reverse, Bool, true, false, ◌&&◌, ◌||◌, Option, Some, None, nat_lt, if◌then◌else◌}
+use Rattle.std.specs.Prelude.{◌≡◌, ℕ, ◌+◌, ◌-◌, ◌≤◌, List, [], ◌∷◌, reverse, Bool, true, false, ◌&&◌, ◌||◌, Option, Some, None, nat_lt, if◌then◌else◌}
 use Rattle.std.specs.List.{AllByRecursion, list_any}
 use Rattle.st_num.specs.declared.rule.RuleId.{RuleId}
 use Rattle.st_num.specs.declared.rule.RuleId.TheVariants.{S1, S2, S3, S4}
 use Rattle.st_num.specs.declared.limit.TheConstants.{HIGHEST_TREE, MOST_DEFINITIONS, MOST_PREMISES, MOST_PARTS, MOST_SIGNS}
+use Rattle.st_num.specs.declared.token.Token.{Token}
 use Rattle.st_num.specs.declared.token.TokenKind.{TokenKind}
 use Rattle.st_grammar.specs.declared.sort.Closing.TheVariants as closing
 use Rattle.st_grammar.specs.declared.sort.Bracket.{Bracket}
@@ -24,6 +25,7 @@ use Rattle.st_parse_automaton.specs.declared.position.Slot.{Slot}
 use Rattle.st_parse_automaton.specs.declared.position.Slot.TheVariants as slot
 use Rattle.st_parse_automaton.specs.declared.position.IterationState.TheVariants as iterations
 use Rattle.st_parse_automaton.specs.declared.position.TokenClass.{TokenClass}
+use Rattle.st_parse_automaton.specs.declared.position.Step.{Step}
 use Rattle.st_parse_automaton.specs.inner.Readings.{progress_of}
 use Rattle.st_parse_automaton.specs.inner.PartAutomaton as parts
 use Rattle.st_parse_automaton.specs.inner.DefinitionAutomaton as definitions
@@ -217,8 +219,20 @@ summary_of s =
 
 -- the verdict of the code
 abbrev pub verdict_of : Code → TokenVerdict
-verdict_of (variant.Passed s) = passed (summary_of s)
-verdict_of (variant.Broken r) = broken r
+verdict_of (variant.Passed s a acts) = passed (summary_of s)
+verdict_of (variant.Broken r p) = broken r
+
+-- the state behind a step of the code, where it makes one
+abbrev pub state_behind : Option Step → Option definitions.State
+state_behind None = None
+state_behind (Some s) = Some (progress_of s.progress)
+
+-- The code tells how the token stands, where it leads and what it adds; where it breaks a rule, how
+-- far the tokens before it are read.
+abbrev pub Stands : definitions.State → TokenClass → Token → Code → Type 0
+Stands st l x (variant.Passed s a acts) =
+    definitions.advanced x (definitions.advance st l) ≡ Some (a, progress_of s.progress, acts)
+Stands st l x (variant.Broken r p) = progress_of p ≡ st
 
 -- Nothing that is counted between parts passes a limit.
 abbrev pub Kept : Counts → Type 0
@@ -233,5 +247,5 @@ SeenKept s =
 
 -- nothing that the code keeps in its verdict passes a limit
 abbrev pub IsBounded : Code → Type 0
-IsBounded (variant.Passed s) = SeenKept s
-IsBounded (variant.Broken r) = Unit {0}
+IsBounded (variant.Passed s a acts) = SeenKept s
+IsBounded (variant.Broken r p) = Unit {0}

@@ -14,4 +14,4 @@ returns c before after h r e =
     (λ d f k m g. c.in_ok-change_kept.ensures d f k (subst (λ y. Ready y d) (sym is) m)
     (ap (λ y. redrafted y c.args.class.shape c.args.token.now c.as_slice-arguments.result.now d) is ∙ g))
     (c.drop_arguments.ensures.arguments ∙ ap (λ y. arguments_after y c.args.parts.now.arguments) is)
-    c.drop_arguments.ensures.actions c.drop_arguments.ensures.marks c.drop_arguments.ensures.words
+    c.drop_arguments.ensures.actions c.drop_arguments.ensures.words

@@ -10,13 +10,13 @@ tokens-init c = (start, refl, sym (ap (λ ks. definitions.at Between (reverse ks
 
 pub returns-in_default-clause-some : goal.returns-in_default-clause-some
 returns-in_default-clause-some c =
-    token_stops c.args.tokens.now c.args.names.now c.tokens.at c.index-tokens-at.result c.token_class.result c.tokens.progress c.in_ok-next.field-0 c.tokens-test.true c.tokens.invariant
-    c.index-tokens-at.is c.requires c.token_class.ensures c.in_ok-next.ensures c.in_default.is
+    token_stops c.args.tokens.now c.args.names.now c.tokens.at c.index-tokens-at.result c.token_class.result c.tokens.progress c.in_ok-step.field-0 c.tokens-test.true c.tokens.invariant
+    c.index-tokens-at.is c.requires c.token_class.ensures c.in_ok-step.ensures c.in_default.is
 
 pub tokens-preserved : goal.tokens-preserved
 tokens-preserved c =
-    token_goes_on c.args.tokens.now c.args.names.now c.tokens.at c.index-tokens-at.result c.token_class.result c.tokens.progress c.in_ok-next.field-0 c.in-Some.next c.tokens-test.true c.tokens.invariant
-    c.index-tokens-at.is c.requires c.token_class.ensures c.in_ok-next.ensures c.in-Some.is
+    token_goes_on c.args.tokens.now c.args.names.now c.tokens.at c.index-tokens-at.result c.token_class.result c.tokens.progress c.in_ok-step.field-0 c.in-Some.step c.tokens-test.true c.tokens.invariant
+    c.index-tokens-at.is c.requires c.token_class.ensures c.in_ok-step.ensures c.in-Some.is
 
 pub returns-then-may_end-clause-none : goal.returns-then-may_end-clause-none
 returns-then-may_end-clause-none c = ends_well c.args.tokens.now c.tokens.at _ _ (omega arith) c.tokens.invariant c.may_end.ensures c.if-may_end.true

@@ -2,7 +2,7 @@ use Rattle.std.proofs.Common.{◌≡◌, [], ◌∷◌, ◌++◌, reverse, sym, 
 use Rattle.st_parse_automaton.specs.inner.DefinitionAutomaton as definitions
 use Rattle.st_parse_automaton.specs.inner.Readings.{progress_of, reading_of}
 use Rattle.st_parse_builder.specs.Meaning.{meaning}
-use Rattle.st_parse_actions.specs.inner.Emits.{finishing}
+use Rattle.st_parse_automaton.specs.inner.PartAutomaton.{finishing}
 use Rattle.st_parse_exp.proofs.parse.last.Goals as goal
 
 pub returns : goal.returns

@@ -8,14 +8,14 @@ tokens-init c = ((nothing_seen, refl, sym c.in_ok-seen.ensures.value), c.in_ok-s
 
 pub returns-in-Broken-clause-some : goal.returns-in-Broken-clause-some
 returns-in-Broken-clause-some c =
-    token_breaks c.args.tokens.now c.args.names.now c.tokens.at c.index-tokens-at.result c.token_class-class.result c.tokens.seen c.in_ok-rule.field-0 c.in-Broken.rule c.tokens-test.true c.tokens.invariant.0
+    token_breaks c.args.tokens.now c.args.names.now c.tokens.at c.index-tokens-at.result c.token_class-class.result c.tokens.seen c.in_ok-rule.field-0 c.in-Broken.rule c.in-Broken.field-1 c.tokens-test.true c.tokens.invariant.0
     c.index-tokens-at.is c.requires c.token_class-class.ensures c.in_ok-rule.ensures.value c.in-Broken.is
 
 pub tokens-preserved : goal.tokens-preserved
 tokens-preserved c = (
-  token_passes c.args.tokens.now c.args.names.now c.tokens.at c.index-tokens-at.result c.token_class-class.result c.tokens.seen c.in_ok-rule.field-0 c.in-Passed.next c.tokens-test.true c.tokens.invariant.0
+  token_passes c.args.tokens.now c.args.names.now c.tokens.at c.index-tokens-at.result c.token_class-class.result c.tokens.seen c.in_ok-rule.field-0 c.in-Passed.next c.in-Passed.field-1 c.in-Passed.field-2 c.tokens-test.true c.tokens.invariant.0
       c.index-tokens-at.is c.requires c.token_class-class.ensures c.in_ok-rule.ensures.value c.in-Passed.is,
-  bounded c.in_ok-rule.field-0 c.in-Passed.next c.in-Passed.is c.in_ok-rule.ensures.bound,
+  bounded c.in_ok-rule.field-0 c.in-Passed.next c.in-Passed.field-1 c.in-Passed.field-2 c.in-Passed.is c.in_ok-rule.ensures.bound,
 )
 
 pub returns-then-may_end-clause-none : goal.returns-then-may_end-clause-none

@@ -1,4 +1,0 @@
--- Nothing here must be believed: the actions are those of the builder.
-
--- ---- what only proofs need
-pub mod inner

@@ -1,2 +1,0 @@
--- What each token adds to the actions, for the proofs alone.
-pub mod Emits
