@@ -9,7 +9,7 @@ use Rattle.st_parse_automaton.specs.declared.position.Slot.TheVariants as slot
 use Rattle.st_el.specs.declared.ty.Typ.{Typ}
 use Rattle.st_el.specs.declared.notation.Notation.{Notation}
 use Rattle.st_el.specs.declared.expression.Exp.{Exp}
-use Rattle.st_parse_builder.specs.declared.action.Action.{Action}
+use Rattle.st_grammar.specs.declared.action.Action.{Action}
 use Rattle.st_parse_builder.specs.declared.built.Built.{Built}
 use Rattle.st_parse_builder.specs.Heights.{highest, height, typ_height}
 use Rattle.st_parse_builder.specs.inner.PieceHeights.{open_height}

@@ -9,12 +9,11 @@ ghost use Rattle.st_draft.specs.inner.Parts as parts;
 ghost use Rattle.st_parse.specs.inner.Kept.{AreBuilt};
 ghost use Rattle.st_parse_builder.specs.Heights.{height, typ_height};
 
+use st_grammar::{Action, TokenRef};
 use st_draft::{Change, PartTree};
 use st_el::{Exp, Typ};
 use st_num::{NoMemory, Row};
-use st_parse_builder::{
-    Action, Built, TokenRef, build, build_notation, build_typ, no_parts, with_part,
-};
+use st_parse_builder::{Built, build, build_notation, build_typ, no_parts, with_part};
 use std::alloc::Global;
 
 /// A part that ends: its tree, where that is not too high, and its height.

@@ -13,7 +13,7 @@ ghost use Rattle.st_parse_builder.specs.declared.notation_piece.NotationPiece.Th
 ghost use Rattle.st_parse_builder.specs.Meaning.{meaning};
 ghost use Rattle.st_parse_builder.specs.Notations.{typ_start, typ_meaning};
 ghost use Rattle.st_parse_builder.specs.inner.NotationBuilding as notations;
-ghost use Rattle.st_parse_builder.specs.inner.Actions.{acts};
+ghost use Rattle.st_grammar.specs.inner.Actions.{acts};
 ghost use Rattle.st_parse_builder.specs.inner.Building.{Stack, run};
 ghost use Rattle.st_parse_automaton.specs.declared.part_automaton.Expected.TheVariants.{Operand};
 ghost use Rattle.st_parse_automaton.specs.Refusal.{AreDefinitions, RefusedAt};

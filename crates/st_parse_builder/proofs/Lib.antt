@@ -2,8 +2,6 @@ pub mod Builds
 pub mod Tallness
 pub mod NotationBuilds
 pub mod NotationTallness
-pub mod EmissionEnds
-pub mod Emission
 pub mod Lists
 pub mod Premises
 pub mod Occurring

@@ -8,7 +8,7 @@ ghost use Rattle.st_grammar.specs.Grammar.{Fits};
 ghost use Rattle.st_parse_builder.specs.declared.piece.Piece.TheVariants as piece;
 ghost use Rattle.st_parse_builder.specs.Meaning.{meaning};
 ghost use Rattle.st_parse_builder.specs.Variables.{Occurrence, occurrences, variables};
-ghost use Rattle.st_parse_builder.specs.inner.Actions.{acts};
+ghost use Rattle.st_grammar.specs.inner.Actions.{acts};
 ghost use Rattle.st_parse_builder.specs.inner.Building as pieces;
 ghost use Rattle.st_parse_builder.specs.inner.PieceVariables.{stack_variables};
 ghost use Rattle.st_parse_builder.specs.inner.Parts.{Makes, Gives, made_or, untold};
@@ -20,7 +20,8 @@ use crate::list::{end_call, end_fields, end_parens, end_sequence, field, first, 
 use crate::make::{below, dot, enclose, join, length, mark, operand, prefix, times};
 use crate::path::{change, position, slice, step_at, step_field, step_slice};
 use crate::pieces::{Entry, Stack, pop_done};
-use crate::{Action, Piece, TokenRef};
+use crate::Piece;
+use st_grammar::{Action, TokenRef};
 use st_el::Exp;
 use st_num::{NoMemory, Row};
 use std::alloc::Global;

@@ -15,8 +15,8 @@ ghost use Rattle.st_parse_builder.specs.Meaning.{meaning};
 ghost use Rattle.st_parse_builder.specs.Notations.{typ_start, typ_meaning};
 ghost use Rattle.st_parse_builder.specs.inner.NotationBuilding as notations;
 ghost use Rattle.st_parse_builder.specs.Definitions.{Parse};
-ghost use Rattle.st_parse_builder.specs.inner.Actions.{acts};
-ghost use Rattle.st_parse_builder.specs.inner.Emission.{state_acts, emitted, emissions};
+ghost use Rattle.st_grammar.specs.inner.Actions.{acts};
+ghost use Rattle.st_grammar.specs.inner.Emission.{state_acts, emitted, emissions};
 ghost use Rattle.st_parse_builder.specs.inner.Building.{Stack, run};
 
 use st_grammar::{one_list, parts_are_read};

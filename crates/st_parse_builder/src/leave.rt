@@ -6,7 +6,8 @@ ghost use Rattle.st_num.specs.Names.{same_name};
 ghost use Rattle.st_parse_builder.specs.Variables.{occurrences, without};
 ghost use Rattle.st_parse_builder.specs.inner.Entries.{left_out};
 
-use crate::{TokenRef, name_of};
+use crate::name_of;
+use st_grammar::TokenRef;
 use st_num::{NoMemory, Row};
 use std::alloc::Global;
 

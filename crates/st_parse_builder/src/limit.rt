@@ -6,8 +6,9 @@ ghost use Rattle.st_parse_builder.specs.Variables.{Occurrence, occurrence, occur
 ghost use Rattle.st_parse_builder.specs.Limits.{place_past};
 ghost use Rattle.st_parse_builder.specs.inner.Counting.{Knows, Counted};
 
-use crate::{TokenRef, copy_name};
+use crate::copy_name;
 use indexmap::IndexSet;
+use st_grammar::TokenRef;
 use st_num::{Name, NoMemory, Span};
 use std::alloc::Global;
 

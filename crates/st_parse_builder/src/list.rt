@@ -1,7 +1,7 @@
 //! Lists of parts, records and calls.
 
 ghost use Rattle.std.specs.Prelude.{◌≡◌, ◌∷◌, [], ◌++◌, IfOk};
-ghost use Rattle.st_parse_builder.specs.declared.action.Action.TheVariants as action;
+ghost use Rattle.st_grammar.specs.declared.action.Action.TheVariants as action;
 ghost use Rattle.st_parse_builder.specs.inner.Entries as spec;
 ghost use Rattle.st_parse_builder.specs.inner.Entries.{Forms};
 

@@ -2,7 +2,7 @@
 
 ghost use Rattle.std.specs.Prelude.{◌≡◌, ◌++◌, reverse, length, Some, IfOk, OnOk, OnSome};
 ghost use Rattle.std.specs.Option.{option_map};
-ghost use Rattle.st_parse_builder.specs.declared.action.Action.TheVariants as action;
+ghost use Rattle.st_grammar.specs.declared.action.Action.TheVariants as action;
 ghost use Rattle.st_parse_builder.specs.declared.piece.Piece.TheVariants as piece;
 ghost use Rattle.st_parse_builder.specs.Variables.{occurrences};
 ghost use Rattle.st_parse_builder.specs.inner.Parts.{over, raised, both};
@@ -19,9 +19,9 @@ use crate::form::{
 use crate::leaf::leaf_node;
 use crate::leave::leave_index;
 use crate::pieces::{Entry, Stack, pop_done, pop_label, pop_pair, pop_place};
-use crate::{Piece, TokenRef};
+use crate::Piece;
 use st_el::Exp;
-use st_grammar::{Bracket, Leaf};
+use st_grammar::{Bracket, Leaf, TokenRef};
 use st_num::{Mark, Name, NoMemory, Row, Token};
 use std::alloc::Global;
 

@@ -7,7 +7,7 @@ ghost use Rattle.st_grammar.specs.Grammar.{Fits};
 ghost use Rattle.st_el.specs.declared.ty.Typ.{Typ};
 ghost use Rattle.st_el.specs.declared.notation.Notation.{Notation};
 ghost use Rattle.st_parse_builder.specs.Notations.{typ_meaning, notation_meaning};
-ghost use Rattle.st_parse_builder.specs.inner.Actions.{acts};
+ghost use Rattle.st_grammar.specs.inner.Actions.{acts};
 ghost use Rattle.st_parse_builder.specs.inner.NotationBuilding as pieces;
 ghost use Rattle.st_parse_builder.specs.inner.Parts.{Makes, Gives, made_or, untold};
 ghost use Rattle.st_parse_builder.specs.inner.NotationEntries as spec;
@@ -20,7 +20,8 @@ use crate::notation_make::{
     notation_join, notation_prefix, typ_mark,
 };
 use crate::notation_pieces::{NotationEntry, NotationStack, as_notation, as_type, take};
-use crate::{Action, NotationPiece};
+use crate::NotationPiece;
+use st_grammar::Action;
 use st_el::{Notation, Typ};
 use st_num::{NoMemory, Row};
 use std::alloc::Global;

@@ -2,7 +2,7 @@
 
 ghost use Rattle.std.specs.Prelude.{◌≡◌, [], ◌∷◌, ◌++◌, reverse, IfOk};
 ghost use Rattle.std.specs.Option.{option_map};
-ghost use Rattle.st_parse_builder.specs.declared.action.Action.TheVariants as action;
+ghost use Rattle.st_grammar.specs.declared.action.Action.TheVariants as action;
 ghost use Rattle.st_parse_builder.specs.declared.notation_piece.NotationPiece.TheVariants as piece;
 ghost use Rattle.st_parse_builder.specs.inner.NotationBuilding.{operand_piece};
 ghost use Rattle.st_parse_builder.specs.inner.Parts.{read_tree};

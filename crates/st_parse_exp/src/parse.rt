@@ -7,7 +7,7 @@ ghost use Rattle.st_grammar.specs.Trees.{Tree};
 ghost use Rattle.st_grammar.specs.Grammar.{Fits};
 ghost use Rattle.st_el.specs.declared.expression.Exp.{Exp};
 ghost use Rattle.st_parse_builder.specs.Meaning.{meaning};
-ghost use Rattle.st_parse_builder.specs.inner.Actions.{acts};
+ghost use Rattle.st_grammar.specs.inner.Actions.{acts};
 ghost use Rattle.st_parse_automaton.specs.declared.position.Slot.{Slot};
 ghost use Rattle.st_parse_automaton.specs.inner.PartAutomaton as parts;
 ghost use Rattle.st_parse_automaton.specs.inner.DefinitionAutomaton as definitions;
@@ -19,10 +19,10 @@ ghost use Rattle.st_parse_exp.specs.Parse.{AreWhole, Answers};
 
 use crate::draft::{end, turn};
 use crate::judge::{begin, judge_next};
+use st_grammar::Action;
 use st_el::Exp;
 use st_num::{Name, Row, RuleId, Token};
 use st_parse_automaton::{NameIndex, Progress, may_end, token_class, with_actions};
-use st_parse_builder::Action;
 use st_parse_faults::{SyntaxFault, TokenVerdict, place_at};
 use std::alloc::Global;
 

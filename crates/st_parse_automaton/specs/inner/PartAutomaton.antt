@@ -21,8 +21,8 @@ use Rattle.st_grammar.specs.Trees.{closed_by, agree}
 use Rattle.st_grammar.specs.Grammar.{bracket_style, index_style, opens_length}
 use Rattle.st_grammar.specs.Terminals.{Terminal}
 use Rattle.st_grammar.specs.Definitions.{token_in}
-use Rattle.st_parse_builder.specs.declared.action.Action.{Action}
-use Rattle.st_parse_builder.specs.declared.action.Action.TheVariants as action
+use Rattle.st_grammar.specs.declared.action.Action.{Action}
+use Rattle.st_grammar.specs.declared.action.Action.TheVariants as action
 use Rattle.st_parse_automaton.specs.declared.part_automaton.Shape.{Shape}
 use Rattle.st_parse_automaton.specs.declared.part_automaton.Shape.TheVariants.{Single, Dot, Sign, Open, Close, Other}
 use Rattle.st_parse_automaton.specs.declared.part_automaton.Part.{Part}

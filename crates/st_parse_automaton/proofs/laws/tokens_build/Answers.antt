@@ -3,7 +3,7 @@ use Rattle.st_grammar.specs.declared.sort.Sort.TheVariants.{Typ as typ, Notation
 use Rattle.st_grammar.specs.Reading.{start}
 use Rattle.st_parse_builder.specs.inner.NotationBuilding as notations
 use Rattle.st_parse_builder.specs.inner.Building.{run}
-use Rattle.st_parse_builder.proofs.Emission.{read_state}
+use Rattle.st_grammar.proofs.Emission.{read_state}
 use Rattle.st_parse_automaton.proofs.Emissions.{part_emits}
 use Rattle.st_parse_automaton.proofs.laws.tokens_build.Goals as goal
 

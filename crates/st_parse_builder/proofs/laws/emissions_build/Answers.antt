@@ -2,7 +2,7 @@ use Rattle.std.proofs.Common.{sym, ap, ◌∙◌}
 use Rattle.st_grammar.specs.Reading.{start}
 use Rattle.st_parse_builder.specs.inner.Building.{run}
 use Rattle.st_parse_builder.proofs.Builds.{builds}
-use Rattle.st_parse_builder.proofs.Emission.{emits_part, read_state}
+use Rattle.st_grammar.proofs.Emission.{emits_part, read_state}
 use Rattle.st_parse_builder.proofs.laws.emissions_build.Goals as goal
 
 pub returns : goal.returns
