@@ -8,13 +8,13 @@ use Rattle.st_grammar.specs.Grammar.{is_type, Fits, EachFits}
 use Rattle.st_el.specs.declared.expression.Exp.{Exp}
 use Rattle.st_el.specs.declared.ty.Typ.{Typ}
 use Rattle.st_el.specs.declared.notation.Notation.{Notation}
-use Rattle.st_parse_builder.specs.declared.action.Action.{Action}
+use Rattle.st_grammar.specs.declared.action.Action.{Action}
 use Rattle.st_parse_builder.specs.declared.fault.BuildFault.{BuildFault}
 use Rattle.st_parse_builder.specs.declared.notation_piece.NotationPiece.TheVariants.{Hole as a_type, Whole as whole}
 use Rattle.st_parse_builder.specs.Meaning.{meaning, meanings}
 use Rattle.st_parse_builder.specs.Notations.{typ_start, typ_meaning, typ_meanings, notation_meaning}
 use Rattle.st_parse_builder.specs.declared.piece.Piece.TheVariants.{Done}
-use Rattle.st_parse_builder.specs.inner.Actions.{acts}
+use Rattle.st_grammar.specs.inner.Actions.{acts}
 use Rattle.st_parse_builder.specs.inner.Building.{run}
 use Rattle.st_parse_builder.specs.inner.NotationBuilding.{the_typ, the_notation, typ_built, notation_built}
 use Rattle.st_parse_builder.specs.inner.NotationAnswers.{BuildsHole}

@@ -11,10 +11,10 @@ use Rattle.st_el.specs.declared.notation.Notation.{Notation}
 use Rattle.st_el.specs.declared.definition.Prem.{Prem}
 use Rattle.st_el.specs.declared.definition.Hint.{Hint}
 use Rattle.st_el.specs.Plain.{nowhere}
-use Rattle.st_parse_builder.specs.declared.action.Action.{Action}
+use Rattle.st_grammar.specs.declared.action.Action.{Action}
 use Rattle.st_parse_builder.specs.Meaning.{meaning, label}
 use Rattle.st_parse_builder.specs.Notations.{typ_meaning, notation_meaning}
-use Rattle.st_parse_builder.specs.inner.Actions.{acts}
+use Rattle.st_grammar.specs.inner.Actions.{acts}
 use Rattle.st_parse_builder.specs.Definitions as meant
 use Rattle.st_parse_builder.specs.Definitions.{name_in, place_in, fragment_name, hints_meaning, fields_meaning, cases_meaning, has_dots_before, condition, premises_meaning, params, patterns, defs_meaning}
 use Rattle.st_draft.specs.declared.draft.Members.{Members as Body}

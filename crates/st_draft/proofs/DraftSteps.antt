@@ -34,7 +34,7 @@ use Rattle.st_draft.specs.inner.Changes.{change_of}
 use Rattle.st_draft.specs.inner.Ready.{Ready}
 use Rattle.st_draft.specs.declared.draft.Draft.{Draft}
 use Rattle.st_draft.specs.inner.Drafts.{no_hint, no_members as no_body, no_sides, premises_so_far, begun as begun_draft, with_hints, id_with, span_or, shape_count, body_of, applied, arguments_after}
-use Rattle.st_parse_builder.specs.declared.action.Action.{Action}
+use Rattle.st_grammar.specs.declared.action.Action.{Action}
 use Rattle.st_draft.proofs.DraftOf.{place_of, drafted, fields_body, cases_body, head_draft, rule_draft, has_dots, host_draft, premise_at, slot_draft, position_draft, arguments_acts, args_acts, position_args, slot_args}
 use Rattle.st_draft.proofs.Endings.{fields_end, cases_end}
 

@@ -12,7 +12,7 @@ use Rattle.st_el.specs.declared.ty.Typ.{Typ}
 use Rattle.st_el.specs.declared.notation.Notation.{Notation}
 use Rattle.st_el.specs.declared.definition.Prem.{Prem}
 use Rattle.st_el.specs.declared.definition.PremNode.TheVariants as prem
-use Rattle.st_parse_builder.specs.declared.action.Action.{Action}
+use Rattle.st_grammar.specs.declared.action.Action.{Action}
 use Rattle.st_parse_builder.specs.declared.piece.Piece.{Piece}
 use Rattle.st_parse_builder.specs.declared.piece.Piece.TheVariants.{Done, Parts, Fields, Path, Label, Here}
 use Rattle.st_parse_builder.specs.declared.fault.BuildFault.{BuildFault}

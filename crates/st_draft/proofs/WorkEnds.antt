@@ -19,12 +19,12 @@ use Rattle.st_parse_automaton.specs.inner.Shapes.{class_of}
 use Rattle.st_parse_automaton.proofs.View as view
 use Rattle.st_parse_automaton.proofs.DefinitionView.{rounds, slot_of, slot_open}
 use Rattle.st_el.specs.declared.expression.Exp.{Exp}
-use Rattle.st_parse_builder.specs.declared.action.Action.{Action}
+use Rattle.st_grammar.specs.declared.action.Action.{Action}
 use Rattle.st_parse_builder.specs.Names.{name_of}
 use Rattle.st_parse_builder.specs.Meaning.{meaning, count_of}
-use Rattle.st_parse_builder.specs.inner.Actions.{acts}
-use Rattle.st_parse_builder.specs.inner.Emission.{state_acts}
-use Rattle.st_parse_builder.proofs.Emission.{finish_emits}
+use Rattle.st_grammar.specs.inner.Actions.{acts}
+use Rattle.st_grammar.specs.inner.Emission.{state_acts}
+use Rattle.st_grammar.proofs.Emission.{finish_emits}
 use Rattle.st_parse_automaton.specs.inner.PartAutomaton.{finishing}
 use Rattle.st_parse_automaton.proofs.Simulation.{finishing_is}
 use Rattle.st_draft.specs.declared.draft.Draft.{Draft}

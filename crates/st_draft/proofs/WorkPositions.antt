@@ -26,8 +26,8 @@ use Rattle.st_parse_automaton.proofs.DefinitionView.{position_of, open_of, slot_
 use Rattle.st_parse_automaton.proofs.DefinitionSimulation.{IsPlain, part_moves_are, filled_is, filled_plain}
 use Rattle.st_draft.specs.declared.change.Change.{Change}
 use Rattle.st_draft.specs.declared.change.Change.TheVariants as change
-use Rattle.st_parse_builder.specs.declared.action.Action.{Action}
-use Rattle.st_parse_builder.specs.inner.Emission.{emitted}
+use Rattle.st_grammar.specs.declared.action.Action.{Action}
+use Rattle.st_grammar.specs.inner.Emission.{emitted}
 use Rattle.st_parse_builder.specs.Meaning.{meaning}
 use Rattle.st_parse_builder.specs.Definitions.{condition, iterated as iterated_premise, params, patterns}
 use Rattle.st_draft.specs.declared.draft.Draft.{Draft}

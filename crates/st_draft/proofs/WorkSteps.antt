@@ -12,9 +12,9 @@ use Rattle.st_grammar.proofs.PositionTexts.{Holds}
 use Rattle.st_parse_automaton.specs.declared.position.TokenClass.{TokenClass}
 use Rattle.st_parse_automaton.specs.inner.Shapes.{class_of}
 use Rattle.st_parse_automaton.proofs.DefinitionView.{slot_of}
-use Rattle.st_parse_builder.specs.declared.action.Action.{Action}
-use Rattle.st_parse_builder.specs.inner.Emission.{state_acts, emitted}
-use Rattle.st_parse_builder.proofs.Emission.{emits_next}
+use Rattle.st_grammar.specs.declared.action.Action.{Action}
+use Rattle.st_grammar.specs.inner.Emission.{state_acts, emitted}
+use Rattle.st_grammar.proofs.Emission.{emits_next}
 use Rattle.st_draft.specs.inner.Work.{Work, words_after, worded_work, added_work}
 use Rattle.st_draft.proofs.DraftOf.{position_draft, slot_draft, arguments_acts, args_acts, position_args, slot_args}
 

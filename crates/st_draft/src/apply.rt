@@ -17,9 +17,10 @@ use crate::premise::{
     begin_premise, put_each, put_goal, put_if, put_otherwise, put_parenthesis, shape_count,
 };
 use crate::sides::{put_args, put_params};
+use st_grammar::Action;
 use st_num::{NoMemory, Row, Span, Token};
 use st_parse_automaton::Shape;
-use st_parse_builder::{Action, BuildFault};
+use st_parse_builder::BuildFault;
 use std::alloc::Global;
 
 /// What a change makes of a draft, where it takes no arguments.

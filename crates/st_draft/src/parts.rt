@@ -18,11 +18,10 @@ use crate::members::{put_field, put_notation};
 use crate::premise::{put_condition, put_each};
 use crate::sides::{put_exp, put_typ};
 use st_el::{Count, Exp, Notation, Typ};
+use st_grammar::{Action, TokenRef};
 use st_num::{Boxed, Name, NoMemory, Row};
 use st_parse_automaton::{Slot, TokenClass, opens_round};
-use st_parse_builder::{
-    Action, BuildFault, TokenRef, build, build_hole, build_notation, build_typ, copy_name,
-};
+use st_parse_builder::{BuildFault, build, build_hole, build_notation, build_typ, copy_name};
 use std::alloc::Global;
 
 /// A token of a part, as the parser sees it and as it stands in the text.

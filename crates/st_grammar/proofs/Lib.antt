@@ -12,3 +12,5 @@ pub mod PositionParts
 pub mod PositionPremises
 pub mod PositionComplete
 pub mod TerminalTokens
+pub mod EmissionEnds
+pub mod Emission

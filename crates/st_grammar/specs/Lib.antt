@@ -14,3 +14,5 @@ pub mod Definitions
 pub mod Reading
 -- how far the tokens of definitions are read, and which of them stand whole
 pub mod Positions
+-- ---- what only proofs need
+pub mod inner

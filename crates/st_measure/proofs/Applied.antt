@@ -12,8 +12,8 @@ use Rattle.st_el.specs.declared.expression.Count.TheVariants as count
 use Rattle.st_el.specs.declared.expression.Count.TheOpen.{Node-F}
 use Rattle.st_el.specs.declared.expression.Seg.{Seg}
 use Rattle.st_el.specs.declared.expression.Seg.TheVariants as seg
-use Rattle.st_parse_builder.specs.declared.action.Action.{Action}
-use Rattle.st_parse_builder.specs.declared.action.Action.TheVariants as action
+use Rattle.st_grammar.specs.declared.action.Action.{Action}
+use Rattle.st_grammar.specs.declared.action.Action.TheVariants as action
 use Rattle.st_parse_builder.specs.declared.piece.Piece.{Piece}
 use Rattle.st_parse_builder.specs.declared.piece.Piece.TheVariants.{Done, Parts, Fields, Path, Label, Here}
 use Rattle.st_parse_builder.specs.Names.{name_of, number_of, leaf_node}

@@ -10,8 +10,8 @@ use Rattle.st_el.specs.declared.notation.Notation.{Notation, out-Notation}
 use Rattle.st_el.specs.declared.notation.NotNode.{NotNode, out-NotNode, out-roll-NotNode}
 use Rattle.st_el.specs.declared.notation.NotNode.TheOpen.{NotNode-F}
 use Rattle.st_el.specs.declared.notation.NotNode.TheVariants as not_node
-use Rattle.st_parse_builder.specs.declared.action.Action.{Action}
-use Rattle.st_parse_builder.specs.declared.action.Action.TheVariants as action
+use Rattle.st_grammar.specs.declared.action.Action.{Action}
+use Rattle.st_grammar.specs.declared.action.Action.TheVariants as action
 use Rattle.st_parse_builder.specs.declared.notation_piece.NotationPiece.{NotationPiece}
 use Rattle.st_parse_builder.specs.declared.notation_piece.NotationPiece.TheVariants.{Hole as a_type, Whole as whole, Types as types, Elements as elements, From as from_place}
 use Rattle.st_parse_builder.specs.Names.{name_of}

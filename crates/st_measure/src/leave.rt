@@ -5,8 +5,9 @@ ghost use Rattle.st_parse_builder.specs.Names.{name_of};
 ghost use Rattle.st_num.specs.Names.{same_name};
 ghost use Rattle.st_measure.specs.Variables.{occurrences, without};
 
+use st_grammar::TokenRef;
 use st_num::{NoMemory, Row};
-use st_parse_builder::{TokenRef, name_of};
+use st_parse_builder::name_of;
 use std::alloc::Global;
 
 /// Takes off what stands from there on. It comes with the last first.

@@ -7,8 +7,9 @@ ghost use Rattle.st_measure.specs.Limits.{place_past};
 ghost use Rattle.st_measure.specs.inner.Counting.{Knows, Counted};
 
 use indexmap::IndexSet;
+use st_grammar::TokenRef;
 use st_num::{Name, NoMemory, Span};
-use st_parse_builder::{TokenRef, copy_name};
+use st_parse_builder::copy_name;
 use std::alloc::Global;
 
 /// Takes a name down, or gives its place where it is new and as many are known already.

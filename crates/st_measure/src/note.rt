@@ -13,8 +13,9 @@ ghost use Rattle.st_measure.specs.inner.Answers.{OnlyMemory};
 use crate::leave::{leave_out, put_back, take_off};
 use crate::start::Start;
 use crate::step::{Step, step_of};
+use st_grammar::{Action, TokenRef};
 use st_num::{NoMemory, Row};
-use st_parse_builder::{Action, BuildFault, TokenRef, name_of};
+use st_parse_builder::{BuildFault, name_of};
 use std::alloc::Global;
 
 /// The body of an iteration with an index: where its occurrences begin and end, and the index.

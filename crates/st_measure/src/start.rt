@@ -1,6 +1,6 @@
 //! Where pieces begin.
 
-use st_parse_builder::TokenRef;
+use st_grammar::TokenRef;
 
 /// A piece that the actions so far build: where its occurrences begin, and the token of a name.
 #[derive(Drop)]

@@ -3,8 +3,7 @@
 ghost use Rattle.std.specs.Prelude.{◌≡◌};
 ghost use Rattle.st_measure.specs.inner.Noting.{operand_step, step_of};
 
-use st_grammar::Leaf;
-use st_parse_builder::{Action, TokenRef};
+use st_grammar::{Action, Leaf, TokenRef};
 
 /// What an action does to the pieces so far, of which the last is on top.
 #[derive(Drop)]

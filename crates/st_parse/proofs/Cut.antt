@@ -15,14 +15,14 @@ use Rattle.st_grammar.proofs.Sound.{Stand, Holds}
 use Rattle.st_el.specs.declared.expression.Exp.{Exp}
 use Rattle.st_el.specs.declared.expression.Node.TheVariants as node
 use Rattle.st_el.specs.declared.expression.Seg.{Seg}
-use Rattle.st_parse_builder.specs.declared.action.Action.{Action}
-use Rattle.st_parse_builder.specs.declared.action.Action.TheVariants as action
+use Rattle.st_grammar.specs.declared.action.Action.{Action}
+use Rattle.st_grammar.specs.declared.action.Action.TheVariants as action
 use Rattle.st_parse_builder.specs.declared.piece.Piece.TheVariants.{Done, Parts, Fields, Path as path_piece, Label, Here}
 use Rattle.st_parse_builder.specs.Names.{name_of}
 use Rattle.st_parse_builder.specs.Meaning.{exp, first_place, label, step_at, meaning, meanings, field_meanings, base, steps}
-use Rattle.st_parse_builder.specs.inner.Actions.{label_acts, acts, lead_acts, path_acts, step_act, each_acts, part_acts, field_acts, item_acts, inner_acts}
+use Rattle.st_grammar.specs.inner.Actions.{label_acts, acts, lead_acts, path_acts, step_act, each_acts, part_acts, field_acts, item_acts, inner_acts}
 use Rattle.st_parse_builder.specs.inner.Building.{Stack, run}
-use Rattle.st_parse_builder.specs.inner.Emission.{index_label, heading_acts, frames_acts, state_acts}
+use Rattle.st_grammar.specs.inner.Emission.{index_label, heading_acts, frames_acts, state_acts}
 use Rattle.st_parse_builder.proofs.Builds.{chain, Built, AllBuilt, builds, some_parts, some_items}
 use Rattle.st_measure.specs.Variables.{Occurrence, variables, seg_variables}
 use Rattle.st_measure.specs.inner.Noting.{field_variables, stack_variables}

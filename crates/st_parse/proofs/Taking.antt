@@ -10,7 +10,7 @@ use Rattle.st_parse_automaton.specs.Refusal.{terminals_of}
 use Rattle.st_parse_automaton.specs.declared.position.TokenClass.{TokenClass}
 use Rattle.st_parse_automaton.specs.declared.position.Progress.{Progress}
 use Rattle.st_parse_automaton.specs.declared.position.Advance.{Advance}
-use Rattle.st_parse_builder.specs.declared.action.Action.{Action}
+use Rattle.st_grammar.specs.declared.action.Action.{Action}
 use Rattle.st_parse_automaton.specs.inner.DefinitionAutomaton as definitions
 use Rattle.st_parse_automaton.specs.inner.Shapes.{class_of}
 use Rattle.st_parse_automaton.specs.inner.Readings.{progress_of}

@@ -17,7 +17,7 @@ use Rattle.st_el.specs.declared.definition.DefNode.{DefNode}
 use Rattle.st_el.specs.declared.definition.Prem.{Prem}
 use Rattle.st_el.specs.declared.definition.PremNode.TheVariants as prem
 use Rattle.st_el.specs.Plain.{nowhere}
-use Rattle.st_parse_builder.specs.declared.action.Action.{Action}
+use Rattle.st_grammar.specs.declared.action.Action.{Action}
 use Rattle.st_parse_builder.specs.Heights.{highest, height, typ_height}
 use Rattle.st_parse_builder.specs.inner.NotationBuilding.{typ_built, notation_built}
 use Rattle.st_parse_builder.specs.Definitions.{prem_at}

@@ -23,7 +23,7 @@ use Rattle.st_parse_automaton.specs.inner.Readings.{progress_of}
 use Rattle.st_parse_automaton.specs.inner.PartAutomaton as parts
 use Rattle.st_parse_automaton.specs.inner.DefinitionAutomaton as definitions
 use Rattle.st_el.specs.declared.definition.Def.{Def}
-use Rattle.st_parse_builder.specs.declared.action.Action.{Action}
+use Rattle.st_grammar.specs.declared.action.Action.{Action}
 use Rattle.st_parse_builder.specs.inner.Building.{Stack, run}
 use Rattle.st_measure.specs.Variables.{Occurrence, occurrences}
 use Rattle.st_measure.specs.Limits.{place_past}

@@ -14,10 +14,11 @@ ghost use Rattle.st_parse.specs.inner.Kept as spec;
 use crate::variables::{Variables, count, no_variables, note_change, note_part};
 use st_draft::{Change, DefinitionEnd, Draft, PartToken, begun, fill, redraft, turn};
 use st_el::Def;
+use st_grammar::Action;
 use st_measure::def_height;
 use st_num::{HIGHEST_TREE, NoMemory, Row, Span, Token};
 use st_parse_automaton::{Shape, Slot};
-use st_parse_builder::{Action, BuildFault};
+use st_parse_builder::BuildFault;
 use std::alloc::Global;
 
 /// A draft, the first definition with a tree that is too high, and what is noted of variables. The

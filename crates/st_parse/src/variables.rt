@@ -17,10 +17,11 @@ ghost use Rattle.st_parse.specs.inner.Cuts as spec;
 ghost use Rattle.st_parse.specs.inner.Kept.{Notes};
 
 use st_draft::{Change, PartToken, index_in};
+use st_grammar::{Action, TokenRef};
 use st_measure::{leave_out, note_variables, place_past};
 use st_num::{MOST_PREMISES, NoMemory, Row, Span};
 use st_parse_automaton::Slot;
-use st_parse_builder::{Action, BuildFault, TokenRef};
+use st_parse_builder::BuildFault;
 use std::alloc::Global;
 use std::mem::replace;
 

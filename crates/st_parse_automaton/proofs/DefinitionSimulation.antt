@@ -20,8 +20,8 @@ use Rattle.st_parse_automaton.specs.declared.position.IterationState.TheVariants
 use Rattle.st_parse_automaton.specs.declared.position.Position.TheVariants as position
 use Rattle.st_parse_automaton.specs.declared.position.Advance.{Advance}
 use Rattle.st_parse_automaton.specs.declared.position.Advance.TheVariants as advance_case
-use Rattle.st_parse_builder.specs.declared.action.Action.{Action}
-use Rattle.st_parse_builder.specs.inner.Emission as emission
+use Rattle.st_grammar.specs.declared.action.Action.{Action}
+use Rattle.st_grammar.specs.inner.Emission as emission
 use Rattle.st_num.specs.declared.token.Token.{Token}
 use Rattle.st_parse_automaton.specs.inner.Shapes.{shape, class_of}
 use Rattle.st_parse_automaton.specs.inner.PartAutomaton as parts

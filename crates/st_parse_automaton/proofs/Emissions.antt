@@ -15,10 +15,10 @@ use Rattle.st_parse_automaton.specs.inner.PartAutomaton as parts
 use Rattle.st_parse_automaton.specs.inner.PartAutomaton.{followed, emissions}
 use Rattle.st_parse_automaton.proofs.View.{state_of}
 use Rattle.st_parse_automaton.proofs.Simulation.{Agree, moves_are, finishing_is}
-use Rattle.st_parse_builder.specs.declared.action.Action.{Action}
-use Rattle.st_parse_builder.specs.inner.Actions.{acts}
-use Rattle.st_parse_builder.specs.inner.Emission as emission
-use Rattle.st_parse_builder.proofs.Emission.{emits_part}
+use Rattle.st_grammar.specs.declared.action.Action.{Action}
+use Rattle.st_grammar.specs.inner.Actions.{acts}
+use Rattle.st_grammar.specs.inner.Emission as emission
+use Rattle.st_grammar.proofs.Emission.{emits_part}
 
 pub emissions_are : (w : List Terminal) (st : State) (t : Tree) → Holds st → reads st w ≡ Some t → emissions (state_base st) (state_of st) w ≡ emission.emissions st w
 emissions_are [] st t h e = finishing_is st

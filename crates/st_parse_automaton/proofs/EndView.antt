@@ -12,9 +12,9 @@ use Rattle.st_grammar.specs.Definitions.{token_in}
 use Rattle.st_grammar.proofs.Sound.{Stand}
 use Rattle.st_parse_automaton.specs.declared.part_automaton.PartKind.TheVariants.{Plain}
 use Rattle.st_parse_automaton.proofs.View.{kind_of, lead_of, filling, frames_of, lead_reach}
-use Rattle.st_parse_builder.specs.declared.action.Action.{Action}
-use Rattle.st_parse_builder.specs.inner.Actions.{end_acts, closing_acts, opening_acts}
-use Rattle.st_parse_builder.specs.inner.Emission as emission
+use Rattle.st_grammar.specs.declared.action.Action.{Action}
+use Rattle.st_grammar.specs.inner.Actions.{end_acts, closing_acts, opening_acts}
+use Rattle.st_grammar.specs.inner.Emission as emission
 use Rattle.st_parse_automaton.specs.inner.PartAutomaton.{opening, naming, extending, index_label, settling, lead_end, lead_closes, lowering, part_end, kind_end, is_below, shutting}
 
 pub label_is : (i : Token) (fs : part.Frames) → index_label i (frames_of fs) ≡ emission.index_label i fs

@@ -4,7 +4,7 @@ use Rattle.st_parse_automaton.specs.declared.part_automaton.Lead.{Lead}
 use Rattle.st_parse_automaton.specs.declared.part_automaton.Frame.{Frame}
 use Rattle.st_parse_automaton.specs.inner.PartAutomaton as parts
 use Rattle.st_num.specs.declared.token.Token.{Token}
-use Rattle.st_parse_builder.specs.declared.action.Action.{Action}
+use Rattle.st_grammar.specs.declared.action.Action.{Action}
 use Rattle.st_num.specs.declared.mark.Mark.{Mark}
 use Rattle.st_grammar.specs.declared.sort.Sort.{Sort}
 use Rattle.st_grammar.specs.Levels.{left_of}

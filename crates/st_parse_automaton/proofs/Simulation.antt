@@ -39,10 +39,10 @@ use Rattle.st_grammar.proofs.Steps.{extend_base}
 use Rattle.st_parse_automaton.proofs.View.{part_of, kind_of, lead_of, filling, frames_of, state_of, part_function, part_atom, part_type, part_reads, top_sort, lead_reach, lead_levels, least_is, kind_closing, kind_style, opened_is, kind_part}
 use Rattle.st_grammar.specs.Definitions.{token_in}
 use Rattle.st_grammar.proofs.Sound.{Stand}
-use Rattle.st_parse_builder.specs.declared.action.Action.{Action}
-use Rattle.st_parse_builder.specs.declared.action.Action.TheVariants as action
-use Rattle.st_parse_builder.specs.inner.Actions.{post_acts, opening_acts}
-use Rattle.st_parse_builder.specs.inner.Emission as emission
+use Rattle.st_grammar.specs.declared.action.Action.{Action}
+use Rattle.st_grammar.specs.declared.action.Action.TheVariants as action
+use Rattle.st_grammar.specs.inner.Actions.{post_acts, opening_acts}
+use Rattle.st_grammar.specs.inner.Emission as emission
 use Rattle.st_parse_automaton.proofs.EndView.{label_is, operand_settles, bracket_settles, lowering_is, part_end_is, closed_is, plain_opens, extending_is, naming_is}
 
 -- ---- moves

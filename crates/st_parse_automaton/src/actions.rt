@@ -5,9 +5,8 @@ ghost use Rattle.st_parse_automaton.specs.inner.PartAutomaton as parts;
 
 use crate::close::closes;
 use crate::part_automaton::{Filling, Frame, Lead, PartKind};
-use st_grammar::Bracket;
+use st_grammar::{Action, Bracket, TokenRef};
 use st_num::{NoMemory, Row, Token};
-use st_parse_builder::{Action, TokenRef};
 
 /// What stands before the parts of a bracket that opens there.
 pub(crate) fn open<'a>(

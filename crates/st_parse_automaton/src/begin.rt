@@ -10,9 +10,8 @@ use crate::actions::open;
 use crate::close::settle;
 use crate::frame::{kind_expected, kind_sort, leaf_part, least, top};
 use crate::part_automaton::{Expected, Filling, Frame, Lead, Part, PartKind, Reading, Shape};
-use st_grammar::{Bracket, Closing, Sort};
+use st_grammar::{Action, Bracket, Closing, Sort, TokenRef};
 use st_num::{Mark, NoMemory, Row, Token};
-use st_parse_builder::{Action, TokenRef};
 
 /// A bracket opens in a part of this sort.
 pub(crate) fn opened<'a>(

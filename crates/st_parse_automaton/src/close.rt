@@ -10,9 +10,8 @@ use crate::frame::{
     TIGHT, agree, kind_closing, kind_part, kind_style, lead_level, least, reach, reads_type, top,
 };
 use crate::part_automaton::{Expected, Filling, Frame, Lead, Part, PartKind, Reading};
-use st_grammar::{Closing, Sort, Style, is_colon, is_comma, left_of};
+use st_grammar::{Action, Closing, Sort, Style, is_colon, is_comma, left_of};
 use st_num::{Mark, NoMemory, Row};
-use st_parse_builder::Action;
 
 /// A part with its level, and what is open round it.
 #[derive(Drop)]

@@ -19,9 +19,8 @@ use crate::token::{
     at_colon, at_comma, at_dots, at_equal, closes_round, is_bar, is_fun, is_low, is_name,
     names_relation, opens_brace, opens_round,
 };
-use st_grammar::{Bracket, Keyword};
+use st_grammar::{Action, Bracket, Keyword};
 use st_num::{NoMemory, Row, Token};
-use st_parse_builder::Action;
 use std::alloc::Global;
 
 /// A next definition begins with such a word: its name is due.

@@ -1,9 +1,8 @@
 //! What is kept of a reading of definitions.
 
 use crate::part_automaton::{Reading, Shape};
-use st_grammar::{Bracket, Keyword};
+use st_grammar::{Action, Bracket, Keyword};
 use st_num::Row;
-use st_parse_builder::Action;
 
 /// What a token can be, in a part of a definition and between parts.
 #[derive(Clone, Copy, Debug, PartialEq, Eq)]

@@ -12,9 +12,8 @@ use crate::frame::{
     TIGHT, dotted, follows, is_function, lead_level, marked, may_dot, may_iterate, top,
 };
 use crate::part_automaton::{Expected, Filling, Frame, Lead, Part, PartKind, Reading, Shape};
-use st_grammar::{Bracket, Closing, Leaf, Sort, is_caret, is_change, is_less};
+use st_grammar::{Action, Bracket, Closing, Leaf, Sort, TokenRef, is_caret, is_change, is_less};
 use st_num::{Mark, NoMemory, Row, Token};
-use st_parse_builder::{Action, TokenRef};
 
 /// What is open, with one more element of a sequence, which ends.
 fn extend<'a>(

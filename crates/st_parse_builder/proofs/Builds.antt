@@ -12,12 +12,12 @@ use Rattle.st_grammar.specs.Trees.{Tree, operand, post, times, bracket, led, lef
 use Rattle.st_grammar.specs.Grammar.{index_style, size, IsFilled, SetsOff, Fits, EachFits, PathFits}
 use Rattle.st_el.specs.declared.expression.Exp.{Exp}
 use Rattle.st_el.specs.declared.expression.Node.TheVariants as node
-use Rattle.st_parse_builder.specs.declared.action.Action.{Action}
-use Rattle.st_parse_builder.specs.declared.action.Action.TheVariants as action
+use Rattle.st_grammar.specs.declared.action.Action.{Action}
+use Rattle.st_grammar.specs.declared.action.Action.TheVariants as action
 use Rattle.st_parse_builder.specs.declared.piece.Piece.TheVariants.{Done, Parts, Fields, Path as path_piece, Label}
 use Rattle.st_parse_builder.specs.Names.{name_of}
 use Rattle.st_parse_builder.specs.Meaning.{exp, first_place, posted, count_of, iterated, only, step_at, indexed, label, meaning, meanings, field_meanings, base, steps}
-use Rattle.st_parse_builder.specs.inner.Actions.{post_acts, index_acts, count_act, label_acts, at_act, step_act, acts, path_acts, each_acts, part_acts, field_acts, item_acts}
+use Rattle.st_grammar.specs.inner.Actions.{post_acts, index_acts, count_act, label_acts, at_act, step_act, acts, path_acts, each_acts, part_acts, field_acts, item_acts}
 use Rattle.st_parse_builder.specs.inner.Building.{Stack, put, call_name, called, applied, run}
 
 -- ---- one list of actions behind another

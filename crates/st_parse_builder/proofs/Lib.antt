@@ -6,5 +6,3 @@ pub mod NotationBuilds
 pub mod NotationTallness
 pub mod NotationGrowth
 pub mod NotationStops
-pub mod EmissionEnds
-pub mod Emission

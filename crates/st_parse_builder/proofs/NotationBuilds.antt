@@ -13,12 +13,12 @@ use Rattle.st_grammar.specs.Trees.{Tree, operand, post, times, bracket, led, lef
 use Rattle.st_grammar.specs.Grammar.{is_type, is_atom, Fits, EachFits, PathFits}
 use Rattle.st_el.specs.declared.ty.Typ.{Typ}
 use Rattle.st_el.specs.declared.notation.Notation.{Notation}
-use Rattle.st_parse_builder.specs.declared.action.Action.{Action}
-use Rattle.st_parse_builder.specs.declared.action.Action.TheVariants as action
+use Rattle.st_grammar.specs.declared.action.Action.{Action}
+use Rattle.st_grammar.specs.declared.action.Action.TheVariants as action
 use Rattle.st_el.specs.declared.notation.NotNode.TheVariants as not_node
 use Rattle.st_parse_builder.specs.declared.notation_piece.NotationPiece.TheVariants.{Hole as a_type, Whole as whole, Types as types, Elements as elements, From as from_place}
 use Rattle.st_parse_builder.specs.Notations.{hole, tick, notation_at, notation_joined, marked, notation_place, notation_first, typ_start, typ_meaning, typ_meanings, notation_meaning, notation_meanings, only_notation}
-use Rattle.st_parse_builder.specs.inner.Actions.{acts, each_acts, part_acts, item_acts}
+use Rattle.st_grammar.specs.inner.Actions.{acts, each_acts, part_acts, item_acts}
 use Rattle.st_parse_builder.specs.inner.NotationBuilding.{Stack, put, with_place, with_notation, with_type, put_part, the_notation, applied, run, piece_of}
 use Rattle.st_parse_builder.proofs.Builds.{some_parts, filled, some_items}
 

@@ -5,8 +5,8 @@ use Rattle.st_num.specs.declared.span.Span.{Span}
 use Rattle.st_el.specs.declared.ty.Typ.{Typ}
 use Rattle.st_el.specs.declared.notation.Notation.{Notation}
 use Rattle.st_el.specs.declared.notation.NotNode.TheVariants as not_node
-use Rattle.st_parse_builder.specs.declared.action.Action.{Action}
-use Rattle.st_parse_builder.specs.declared.action.Action.TheVariants as action
+use Rattle.st_grammar.specs.declared.action.Action.{Action}
+use Rattle.st_grammar.specs.declared.action.Action.TheVariants as action
 use Rattle.st_parse_builder.specs.declared.notation_piece.NotationPiece.{NotationPiece}
 use Rattle.st_parse_builder.specs.declared.notation_piece.NotationPiece.TheVariants.{Hole as a_type, Whole as whole, Types as types, Elements as elements, From as from_place}
 use Rattle.st_parse_builder.specs.Notations.{hole, marked, tick, notation_at, notation_place, notation_joined, atom_on, typ_in_parens}

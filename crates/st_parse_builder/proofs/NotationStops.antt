@@ -7,7 +7,7 @@ use Rattle.st_grammar.specs.Trees.{Tree}
 use Rattle.st_grammar.specs.Grammar.{Fits}
 use Rattle.st_el.specs.declared.ty.Typ.{Typ}
 use Rattle.st_el.specs.declared.notation.Notation.{Notation}
-use Rattle.st_parse_builder.specs.declared.action.Action.{Action}
+use Rattle.st_grammar.specs.declared.action.Action.{Action}
 use Rattle.st_parse_builder.specs.declared.fault.BuildFault.{BuildFault}
 use Rattle.st_parse_builder.specs.declared.fault.BuildFault.TheVariants.{Unfit, TooHigh, Memory}
 use Rattle.st_parse_builder.specs.declared.notation_entry.NotationEntry.{NotationEntry}
@@ -15,7 +15,7 @@ use Rattle.st_parse_builder.specs.declared.notation_piece.NotationPiece.TheVaria
 use Rattle.st_parse_builder.specs.Notations.{typ_meaning, notation_meaning}
 use Rattle.st_parse_builder.specs.Heights.{typ_height, notation_height}
 use Rattle.st_parse_builder.specs.inner.PieceHeights.{notation_stack_height}
-use Rattle.st_parse_builder.specs.inner.Actions.{acts}
+use Rattle.st_grammar.specs.inner.Actions.{acts}
 use Rattle.st_parse_builder.specs.inner.NotationBuilding.{Stack, top_notation, applied, run, the_typ, the_notation, typ_built, notation_built}
 use Rattle.st_parse_builder.specs.inner.NotationAnswers.{Fails, Builds, pieces}
 use Rattle.st_parse_builder.proofs.NotationBuilds.{chain, typ_builds, notation_builds, one_notation}

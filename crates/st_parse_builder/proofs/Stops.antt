@@ -5,7 +5,7 @@ use Rattle.st_grammar.specs.declared.sort.Sort.{Sort}
 use Rattle.st_grammar.specs.Trees.{Tree}
 use Rattle.st_grammar.specs.Grammar.{Fits}
 use Rattle.st_el.specs.declared.expression.Exp.{Exp}
-use Rattle.st_parse_builder.specs.declared.action.Action.{Action}
+use Rattle.st_grammar.specs.declared.action.Action.{Action}
 use Rattle.st_parse_builder.specs.declared.piece.Piece.TheVariants.{Done}
 use Rattle.st_parse_builder.specs.declared.fault.BuildFault.{BuildFault}
 use Rattle.st_parse_builder.specs.declared.fault.BuildFault.TheVariants.{Unfit, TooHigh, Memory}
@@ -14,7 +14,7 @@ use Rattle.st_parse_builder.specs.inner.Pieces.{pieces}
 use Rattle.st_parse_builder.specs.Meaning.{meaning}
 use Rattle.st_parse_builder.specs.Heights.{height}
 use Rattle.st_parse_builder.specs.inner.PieceHeights.{stack_height}
-use Rattle.st_parse_builder.specs.inner.Actions.{acts}
+use Rattle.st_grammar.specs.inner.Actions.{acts}
 use Rattle.st_parse_builder.specs.inner.Building.{Stack, applied, run}
 use Rattle.st_parse_builder.specs.inner.Answers.{IsUnfit, Fails, Builds, Means}
 use Rattle.st_parse_builder.proofs.Builds.{chain, builds}

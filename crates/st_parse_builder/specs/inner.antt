@@ -1,6 +1,4 @@
 -- What the builder keeps on its stacks, for its proofs alone.
-pub mod Actions
-pub mod Emission
 pub mod Building
 pub mod PieceHeights
 pub mod Pieces

@@ -7,7 +7,7 @@ ghost use Rattle.st_grammar.specs.Grammar.{Fits};
 ghost use Rattle.st_parse_builder.specs.declared.piece.Piece.TheVariants as piece;
 ghost use Rattle.st_parse_builder.specs.Meaning.{meaning};
 ghost use Rattle.st_parse_builder.specs.inner.PieceHeights as piece_heights;
-ghost use Rattle.st_parse_builder.specs.inner.Actions.{acts};
+ghost use Rattle.st_grammar.specs.inner.Actions.{acts};
 ghost use Rattle.st_parse_builder.specs.inner.Building.{applied, run};
 ghost use Rattle.st_parse_builder.specs.inner.Pieces.{pieces, Makes};
 ghost use Rattle.st_parse_builder.specs.inner.Answers.{Fails, Overflows, Builds, Means};
@@ -18,8 +18,9 @@ use crate::list::{end_call, end_fields, end_parens, end_sequence, field, first, 
 use crate::make::{below, dot, enclose, join, length, marked, operand, prefix, times};
 use crate::path::{change, position, slice, step_at, step_field, step_slice};
 use crate::pieces::{pop_done, push};
-use crate::{Action, BuildFault, Piece};
+use crate::{BuildFault, Piece};
 use st_el::Exp;
+use st_grammar::Action;
 use st_num::{HIGHEST_TREE, NoMemory, Row};
 use std::alloc::Global;
 

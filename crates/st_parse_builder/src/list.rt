@@ -1,7 +1,7 @@
 //! Lists of parts and records.
 
 ghost use Rattle.std.specs.Prelude.{◌≡◌, IfOk};
-ghost use Rattle.st_parse_builder.specs.declared.action.Action.TheVariants as action;
+ghost use Rattle.st_grammar.specs.declared.action.Action.TheVariants as action;
 ghost use Rattle.st_parse_builder.specs.inner.Building.{applied};
 ghost use Rattle.st_parse_builder.specs.inner.Pieces.{pieces, Makes};
 

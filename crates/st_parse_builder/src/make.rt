@@ -1,7 +1,7 @@
 //! What an action makes of the parts on the stack.
 
 ghost use Rattle.std.specs.Prelude.{◌≡◌, ◌+◌, ◌≤◌, max, IfOk};
-ghost use Rattle.st_parse_builder.specs.declared.action.Action.TheVariants as action;
+ghost use Rattle.st_grammar.specs.declared.action.Action.TheVariants as action;
 ghost use Rattle.st_parse_builder.specs.declared.piece.Piece.TheVariants as piece;
 ghost use Rattle.st_parse_builder.specs.Names.{leaf_node};
 ghost use Rattle.st_parse_builder.specs.Meaning as meaning;

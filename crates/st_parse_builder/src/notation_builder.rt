@@ -6,7 +6,7 @@ ghost use Rattle.st_grammar.specs.Trees.{Tree};
 ghost use Rattle.st_grammar.specs.Grammar.{Fits};
 ghost use Rattle.st_parse_builder.specs.Heights as tall;
 ghost use Rattle.st_parse_builder.specs.inner.PieceHeights as piece_heights;
-ghost use Rattle.st_parse_builder.specs.inner.Actions.{acts};
+ghost use Rattle.st_grammar.specs.inner.Actions.{acts};
 ghost use Rattle.st_parse_builder.specs.Notations.{typ_meaning, notation_meaning};
 ghost use Rattle.st_parse_builder.specs.inner.NotationBuilding.{applied, run, the_typ, the_notation, typ_built, notation_built};
 ghost use Rattle.st_parse_builder.specs.inner.NotationAnswers.{pieces, Makes, Fails, Builds, BuildsHole};
@@ -18,8 +18,9 @@ use crate::notation_make::{
     notation_join, notation_prefix, typ_mark,
 };
 use crate::notation_pieces::{put, take_notation, take_type};
-use crate::{Action, BuildFault, NotationPiece};
+use crate::{BuildFault, NotationPiece};
 use st_el::{Notation, Typ};
+use st_grammar::Action;
 use st_num::{HIGHEST_TREE, NoMemory, Row};
 use std::alloc::Global;
 

@@ -1,7 +1,7 @@
 //! What an action makes of the types and notations on the stack.
 
 ghost use Rattle.std.specs.Prelude.{◌≡◌, ◌+◌, ◌≤◌, [], ◌∷◌, ◌++◌, IfOk};
-ghost use Rattle.st_parse_builder.specs.declared.action.Action.TheVariants as action;
+ghost use Rattle.st_grammar.specs.declared.action.Action.TheVariants as action;
 ghost use Rattle.st_parse_builder.specs.declared.notation_piece.NotationPiece.TheVariants as piece;
 ghost use Rattle.st_parse_builder.specs.Heights as tall;
 ghost use Rattle.st_parse_builder.specs.Notations as notations;

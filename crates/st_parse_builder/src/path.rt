@@ -1,7 +1,7 @@
 //! Positions and paths.
 
 ghost use Rattle.std.specs.Prelude.{◌≡◌, [], ◌∷◌, IfOk};
-ghost use Rattle.st_parse_builder.specs.declared.action.Action.TheVariants as action;
+ghost use Rattle.st_grammar.specs.declared.action.Action.TheVariants as action;
 ghost use Rattle.st_parse_builder.specs.declared.piece.Piece.TheVariants as piece;
 ghost use Rattle.st_parse_builder.specs.Meaning as meaning;
 ghost use Rattle.st_parse_builder.specs.inner.Building.{applied};

@@ -13,11 +13,11 @@ use Rattle.st_grammar.proofs.Steps as steps
 use Rattle.st_grammar.proofs.Completions as completions
 use Rattle.st_grammar.proofs.PositionSteps.{signed_is}
 use Rattle.st_el.specs.declared.expression.Exp.{Exp}
-use Rattle.st_parse_builder.specs.declared.action.Action.{Action}
+use Rattle.st_grammar.specs.declared.action.Action.{Action}
 use Rattle.st_parse_builder.specs.Meaning.{meaning, meanings}
 use Rattle.st_parse_builder.specs.Heights.{height}
-use Rattle.st_parse_builder.specs.inner.Actions.{acts}
-use Rattle.st_parse_builder.specs.inner.Emission as emission
+use Rattle.st_grammar.specs.inner.Actions.{acts}
+use Rattle.st_grammar.specs.inner.Emission as emission
 use Rattle.st_parse_builder.proofs.Tallness.{highest_behind}
 use Rattle.st_parse_automaton.specs.declared.part_automaton.Expected.TheVariants.{Operand}
 use Rattle.st_parse_automaton.specs.inner.PartAutomaton as parts

@@ -8,7 +8,7 @@ use Rattle.st_grammar.specs.Trees.{Tree, Trees}
 use Rattle.st_grammar.specs.Reading as part
 use Rattle.st_grammar.specs.Positions as positions
 use Rattle.st_grammar.proofs.PositionTexts as texts
-use Rattle.st_parse_builder.specs.declared.action.Action.{Action}
+use Rattle.st_grammar.specs.declared.action.Action.{Action}
 use Rattle.st_parse_automaton.specs.declared.position.TokenClass.{TokenClass}
 use Rattle.st_parse_automaton.specs.declared.position.Advance.{Advance}
 use Rattle.st_parse_automaton.specs.declared.position.Progress.{Progress}

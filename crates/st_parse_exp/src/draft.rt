@@ -7,7 +7,7 @@ ghost use Rattle.st_grammar.specs.Trees.{Tree};
 ghost use Rattle.st_grammar.specs.Grammar.{Fits};
 ghost use Rattle.st_el.specs.declared.expression.Exp.{Exp};
 ghost use Rattle.st_parse_builder.specs.Meaning.{meaning};
-ghost use Rattle.st_parse_builder.specs.inner.Actions.{acts};
+ghost use Rattle.st_grammar.specs.inner.Actions.{acts};
 ghost use Rattle.st_parse_automaton.specs.declared.position.Slot.{Slot};
 ghost use Rattle.st_parse_automaton.specs.inner.PartAutomaton as parts;
 ghost use Rattle.st_parse_automaton.specs.inner.DefinitionAutomaton as definitions;
@@ -17,9 +17,10 @@ ghost use Rattle.st_parse_exp.specs.inner.Drafts.{IsBuilt, AreBuilt, with_exp, d
 
 use crate::judge::separates;
 use st_el::Exp;
+use st_grammar::Action;
 use st_num::{NoMemory, Row};
 use st_parse_automaton::{Progress, Reading, TokenClass, end as end_part};
-use st_parse_builder::{Action, BuildFault, build};
+use st_parse_builder::{BuildFault, build};
 use std::alloc::Global;
 use std::mem::replace;
 

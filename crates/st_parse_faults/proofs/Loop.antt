@@ -6,7 +6,7 @@ use Rattle.st_num.specs.declared.token.Token.{Token}
 use Rattle.st_grammar.specs.Terminals.{terminal, declared_names}
 use Rattle.st_grammar.specs.Positions.{finish}
 use Rattle.st_grammar.proofs.PositionTexts.{Holds}
-use Rattle.st_parse_builder.specs.declared.action.Action.{Action}
+use Rattle.st_grammar.specs.declared.action.Action.{Action}
 use Rattle.st_parse_automaton.specs.declared.position.TokenClass.{TokenClass}
 use Rattle.st_parse_automaton.specs.declared.position.Advance.{Advance}
 use Rattle.st_parse_automaton.specs.declared.position.Progress.{Progress}

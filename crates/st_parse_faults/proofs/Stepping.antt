@@ -1,7 +1,7 @@
 -- Where a step of the code leads.
 use Rattle.std.proofs.Common.{◌≡◌, List, Option, Some, None, Result, Ok, Err, IfOk, option_map, refl, ap}
 use Rattle.st_num.specs.declared.token.Token.{Token}
-use Rattle.st_parse_builder.specs.declared.action.Action.{Action}
+use Rattle.st_grammar.specs.declared.action.Action.{Action}
 use Rattle.st_parse_automaton.specs.declared.position.Advance.{Advance}
 use Rattle.st_parse_automaton.specs.declared.position.Step.{Step}
 use Rattle.st_parse_automaton.specs.inner.DefinitionAutomaton.{State, Taken, advanced}

@@ -12,9 +12,9 @@ use crate::counts::{Counts, counts_after, counts_pass, event_of, member_due};
 use crate::nesting::{bars, may_open, nesting_after};
 use crate::role::attachment_of;
 use crate::tally::{Tally, any_passes, single, tallies_after};
+use st_grammar::Action;
 use st_num::{HIGHEST_TREE, NoMemory, Row, RuleId, Token, TokenKind};
 use st_parse_automaton::{Advance, At, Position, Progress, Shape, Step, TokenClass, advance};
-use st_parse_builder::Action;
 use std::alloc::Global;
 
 /// What is known behind some tokens: how far they are read, how many brackets are open, what is

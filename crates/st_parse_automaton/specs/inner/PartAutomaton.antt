@@ -1,6 +1,5 @@
 -- What the parser keeps of a part: where each token leads, and what it adds to the actions that
--- build the part. It is the reading of `st_grammar`, and the emission of `st_parse_builder`,
--- without their trees.
+-- build the part. It is the reading of `st_grammar` and its emission, without their trees.
 use Rattle.std.specs.Prelude.{ℕ, List, [], ◌∷◌, ◌++◌, Bool, true, false, not, ◌&&◌, Option, Some, None, nat_le, if◌then◌else◌}
 use Rattle.std.specs.Option.{option_map}
 use Rattle.st_num.specs.declared.mark.Mark.{Mark}
@@ -21,8 +20,8 @@ use Rattle.st_grammar.specs.Trees.{closed_by, agree}
 use Rattle.st_grammar.specs.Grammar.{bracket_style, index_style, opens_length}
 use Rattle.st_grammar.specs.Terminals.{Terminal}
 use Rattle.st_grammar.specs.Definitions.{token_in}
-use Rattle.st_parse_builder.specs.declared.action.Action.{Action}
-use Rattle.st_parse_builder.specs.declared.action.Action.TheVariants as action
+use Rattle.st_grammar.specs.declared.action.Action.{Action}
+use Rattle.st_grammar.specs.declared.action.Action.TheVariants as action
 use Rattle.st_parse_automaton.specs.declared.part_automaton.Shape.{Shape}
 use Rattle.st_parse_automaton.specs.declared.part_automaton.Shape.TheVariants.{Single, Dot, Sign, Open, Close, Other}
 use Rattle.st_parse_automaton.specs.declared.part_automaton.Part.{Part}

@@ -1,6 +1,6 @@
 -- The states of the parser as those of the automata: the innermost frame comes first.
 use Rattle.std.specs.Prelude.{List, reverse, Option, Some, None}
-use Rattle.st_parse_builder.specs.declared.action.Action.{Action}
+use Rattle.st_grammar.specs.declared.action.Action.{Action}
 use Rattle.st_parse_automaton.specs.declared.position.Step.{Step}
 use Rattle.st_parse_automaton.specs.declared.position.Advance.{Advance}
 use Rattle.st_parse_automaton.specs.declared.part_automaton.Reading.{Reading}

@@ -9,8 +9,8 @@ use Rattle.st_grammar.specs.Grammar.{is_type}
 use Rattle.st_el.specs.declared.ty.Typ.{Typ}
 use Rattle.st_el.specs.declared.notation.Notation.{Notation}
 use Rattle.st_el.specs.declared.notation.NotNode.TheVariants as not_node
-use Rattle.st_parse_builder.specs.declared.action.Action.{Action}
-use Rattle.st_parse_builder.specs.declared.action.Action.TheVariants as action
+use Rattle.st_grammar.specs.declared.action.Action.{Action}
+use Rattle.st_grammar.specs.declared.action.Action.TheVariants as action
 use Rattle.st_parse_builder.specs.declared.notation_piece.NotationPiece.{NotationPiece}
 use Rattle.st_parse_builder.specs.declared.notation_piece.NotationPiece.TheVariants.{Hole as a_type, Whole as whole, Types as types, Elements as elements, From as from_place}
 use Rattle.st_parse_builder.specs.Notations.{typ_at, typ_leaf, typ_start, marked, typ_in_parens, typ_meaning, notation_at, notation_place, hole, notation_leaf, atom_on, tick, notation_joined, notation_meaning}

@@ -6,10 +6,10 @@ use Rattle.st_grammar.specs.declared.sort.Sort.TheVariants.{Expression as expres
 use Rattle.st_grammar.specs.Trees.{Tree}
 use Rattle.st_grammar.specs.Grammar.{Fits}
 use Rattle.st_el.specs.declared.expression.Exp.{Exp}
-use Rattle.st_parse_builder.specs.declared.action.Action.{Action}
+use Rattle.st_grammar.specs.declared.action.Action.{Action}
 use Rattle.st_parse_builder.specs.Meaning.{meaning}
 use Rattle.st_parse_builder.specs.Heights.{highest, height}
-use Rattle.st_parse_builder.specs.inner.Actions.{acts}
+use Rattle.st_grammar.specs.inner.Actions.{acts}
 use Rattle.st_parse_automaton.specs.declared.part_automaton.Shape.{Shape}
 use Rattle.st_parse_automaton.specs.inner.PartAutomaton as parts
 

@@ -16,11 +16,11 @@ use Rattle.st_grammar.specs.Trees.{Tree, operand, post, times, bracket, led, lef
 use Rattle.st_grammar.specs.Grammar.{is_label, follows, may_post, level, has_step}
 use Rattle.st_grammar.specs.Reading.{Frames, bottom, within, over, timing, State, want, got, naming, pathed, indexing, comparing, sort, least, settle, lower, ended, no_arguments, close, begin_closing, begin_opening, opened, begin, extend, separate, join, pull, behind_sign, behind_square, behind_round, behind_opening, behind, after, in_index, in_path, name_field, name_index, bound_index, step, finish, reading, reads, start}
 use Rattle.st_grammar.specs.Definitions.{token_in}
-use Rattle.st_parse_builder.specs.declared.action.Action.{Action}
-use Rattle.st_parse_builder.specs.declared.action.Action.TheVariants as action
-use Rattle.st_parse_builder.specs.inner.Actions.{post_acts, label_acts, item_act, inner_acts, acts, opening_acts, path_acts, each_acts, part_acts, field_acts, item_acts}
-use Rattle.st_parse_builder.specs.inner.Emission.{index_label, heading_acts, frames_acts, state_acts, settling, lowering, separating, closed, no_arguments_end, beginning_closing, beginning_opening, beginning, extending, joining, behind_sign_acts, behind_opening_acts, behind_acts, after_acts, index_acts_in, path_step_acts, name_acts, name_index_acts, emitted, finishing, on_next, emissions}
-use Rattle.st_parse_builder.proofs.EmissionEnds.{Emits, pair_acts, operand_settles, bracket_settles, lowers, separates, closes_emit}
+use Rattle.st_grammar.specs.declared.action.Action.{Action}
+use Rattle.st_grammar.specs.declared.action.Action.TheVariants as action
+use Rattle.st_grammar.specs.inner.Actions.{post_acts, label_acts, item_act, inner_acts, acts, opening_acts, path_acts, each_acts, part_acts, field_acts, item_acts}
+use Rattle.st_grammar.specs.inner.Emission.{index_label, heading_acts, frames_acts, state_acts, settling, lowering, separating, closed, no_arguments_end, beginning_closing, beginning_opening, beginning, extending, joining, behind_sign_acts, behind_opening_acts, behind_acts, after_acts, index_acts_in, path_step_acts, name_acts, name_index_acts, emitted, finishing, on_next, emissions}
+use Rattle.st_grammar.proofs.EmissionEnds.{Emits, pair_acts, operand_settles, bracket_settles, lowers, separates, closes_emit}
 
 -- ---- what begins
 

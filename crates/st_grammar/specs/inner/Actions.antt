@@ -5,8 +5,8 @@ use Rattle.st_grammar.specs.declared.sort.Leaf.TheVariants.{Function as function
 use Rattle.st_grammar.specs.Terminals.{Terminal, dot, sign}
 use Rattle.st_grammar.specs.Trees.{Tree, operand, post, times, bracket, led, Lead, left, ahead, items, Trees, none, more, Heading, plain, length, arguments, index, segment, update, below, Path, head, field, part}
 use Rattle.st_grammar.specs.Definitions.{token_in}
-use Rattle.st_parse_builder.specs.declared.action.Action.{Action}
-use Rattle.st_parse_builder.specs.declared.action.Action.TheVariants as action
+use Rattle.st_grammar.specs.declared.action.Action.{Action}
+use Rattle.st_grammar.specs.declared.action.Action.TheVariants as action
 
 -- the action of a dot or an iteration sign behind a part
 abbrev pub post_acts : Terminal → List Action

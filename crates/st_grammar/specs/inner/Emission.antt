@@ -16,9 +16,9 @@ use Rattle.st_grammar.specs.Trees.{Tree, operand, bracket, items, Trees, none, m
 use Rattle.st_grammar.specs.Grammar.{follows, may_post, has_step}
 use Rattle.st_grammar.specs.Reading.{Frames, bottom, within, over, timing, State, want, got, naming, pathed, indexing, comparing, sort, least, reach, lower, extend, pull, step}
 use Rattle.st_grammar.specs.Definitions.{token_in}
-use Rattle.st_parse_builder.specs.declared.action.Action.{Action}
-use Rattle.st_parse_builder.specs.declared.action.Action.TheVariants as action
-use Rattle.st_parse_builder.specs.inner.Actions.{post_acts, count_act, label_acts, item_act, end_acts, closing_acts, inner_acts, acts, lead_acts, opening_acts, path_acts, each_acts, part_acts, field_acts}
+use Rattle.st_grammar.specs.declared.action.Action.{Action}
+use Rattle.st_grammar.specs.declared.action.Action.TheVariants as action
+use Rattle.st_grammar.specs.inner.Actions.{post_acts, count_act, label_acts, item_act, end_acts, closing_acts, inner_acts, acts, lead_acts, opening_acts, path_acts, each_acts, part_acts, field_acts}
 
 -- ---- what is read so far
 

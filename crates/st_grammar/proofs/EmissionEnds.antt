@@ -13,10 +13,10 @@ use Rattle.st_grammar.specs.Levels.{is_comma, is_colon}
 use Rattle.st_grammar.specs.Trees.{Tree, operand, bracket, led, Trees, none, more, Heading, plain, length, arguments, index, segment, update, below, closes, agree}
 use Rattle.st_grammar.specs.Grammar.{style}
 use Rattle.st_grammar.specs.Reading.{Frames, bottom, within, over, timing, State, want, naming, sort, settle, reach, lower, shut, close, next_part, separate}
-use Rattle.st_parse_builder.specs.declared.action.Action.{Action}
-use Rattle.st_parse_builder.specs.declared.action.Action.TheVariants as action
-use Rattle.st_parse_builder.specs.inner.Actions.{index_acts, count_act, label_acts, end_acts, closing_acts, inner_acts, acts, lead_acts, opening_acts, each_acts, part_acts, field_acts}
-use Rattle.st_parse_builder.specs.inner.Emission.{index_label, heading_acts, frames_acts, state_acts, settling, lowering, part_end, shutting, closed, separating}
+use Rattle.st_grammar.specs.declared.action.Action.{Action}
+use Rattle.st_grammar.specs.declared.action.Action.TheVariants as action
+use Rattle.st_grammar.specs.inner.Actions.{index_acts, count_act, label_acts, end_acts, closing_acts, inner_acts, acts, lead_acts, opening_acts, each_acts, part_acts, field_acts}
+use Rattle.st_grammar.specs.inner.Emission.{index_label, heading_acts, frames_acts, state_acts, settling, lowering, part_end, shutting, closed, separating}
 
 -- a step, if there is one, adds these actions
 abbrev pub Emits : List Action → List Action → Option State → Type 0
