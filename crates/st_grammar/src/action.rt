@@ -1,8 +1,9 @@
-//! What builds a source tree, one node after another: operands come before their sign.
+//! The actions that put a part together again, one node after another: operands come before their
+//! sign.
 
 ghost use Rattle.std.specs.Prelude.{◌≡◌};
 
-use st_grammar::{Bracket, Leaf};
+use crate::{Bracket, Leaf};
 use st_num::{Mark, Span, Token};
 use std::marker::Model;
 

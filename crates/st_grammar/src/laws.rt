@@ -1,6 +1,6 @@
 //! Laws of the grammar: tokens have one tree, and reading them finds it.
 
-ghost use Rattle.std.specs.Prelude.{◌≡◌, List, ℕ, Some, None};
+ghost use Rattle.std.specs.Prelude.{◌≡◌, ◌++◌, List, ℕ, Some, None};
 ghost use Rattle.st_grammar.specs.Terminals.{Terminal};
 ghost use Rattle.st_grammar.specs.declared.sort.Sort.{Sort};
 ghost use Rattle.st_grammar.specs.Trees.{Tree};
@@ -8,6 +8,8 @@ ghost use Rattle.st_grammar.specs.Grammar.{Parse, Viable};
 ghost use Rattle.st_grammar.specs.Definitions.{Defs, ParseDefs, ViableDefs};
 ghost use Rattle.st_grammar.specs.Reading as part;
 ghost use Rattle.st_grammar.specs.Positions as position;
+ghost use Rattle.st_grammar.specs.inner.Actions.{acts};
+ghost use Rattle.st_grammar.specs.inner.Emission.{state_acts, emitted, emissions};
 
 /// The tokens of a type, a notation, an expression or an arithmetic expression have one tree.
 #[tactic(auto, using(crate::proofs::Completions::one_tree_of))]
@@ -48,4 +50,14 @@ pub fn definitions_are_read()
         → position.reading position.start us ≡ Some st → ViableDefs names us }
     ensures dead { (names : List (List ℕ)) (us : List Terminal)
         → position.reading position.start us ≡ None → ViableDefs names us → ⊥ }
+{}
+
+/// A parser may emit actions while it reads: each token adds its own, and those that are emitted up
+/// to the end are the actions of the part.
+#[tactic(auto, using(crate::proofs::Emission::emits_next, crate::proofs::Emission::emits_part))]
+pub fn readings_emit()
+    ensures each { (st : part.State) (l : Terminal) (next : part.State)
+        → part.step st l ≡ Some next → state_acts next ≡ state_acts st ++ emitted st l }
+    ensures all { (σ : Sort) (us : List Terminal) (t : Tree)
+        → part.reads (part.start σ) us ≡ Some t → acts t ≡ emissions (part.start σ) us }
 {}

@@ -7,13 +7,15 @@
 //! `docs/language.md`, "Grammar".
 #![tactic(auto)]
 
+mod action;
 mod keyword;
 mod laws;
 mod sign;
 mod sort;
 
+pub use action::{Action, TokenRef};
 pub use keyword::Keyword;
-pub use laws::{definitions_are_read, one_list, one_tree, parts_are_read};
+pub use laws::{definitions_are_read, one_list, one_tree, parts_are_read, readings_emit};
 pub use sign::{
     is_caret, is_change, is_colon, is_comma, is_iteration_sign, is_less, is_type_iteration_sign,
     left_of, prefix_right, right_of,

@@ -13,9 +13,9 @@ ghost use Rattle.st_parse.specs.inner.Kept as spec;
 
 use crate::parts::{Part, build_arguments};
 use crate::variables::{Variables, build_part, count, no_variables, note_change};
-use st_grammar::Action;
 use st_draft::{Change, DefinitionEnd, Draft, PartToken, begun, fill, redraft, turn};
 use st_el::{Body, Def, DefNode, Exp, Typ};
+use st_grammar::Action;
 use st_num::{HIGHEST_TREE, NoMemory, Row, Span, Token};
 use st_parse_automaton::{Shape, Slot};
 use st_parse_builder::{above, higher};

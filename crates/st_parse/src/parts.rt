@@ -9,9 +9,9 @@ ghost use Rattle.st_draft.specs.inner.Parts as parts;
 ghost use Rattle.st_parse.specs.inner.Kept.{AreBuilt};
 ghost use Rattle.st_parse_builder.specs.Heights.{height, typ_height};
 
-use st_grammar::{Action, TokenRef};
 use st_draft::{Change, PartTree};
 use st_el::{Exp, Typ};
+use st_grammar::{Action, TokenRef};
 use st_num::{NoMemory, Row};
 use st_parse_builder::{Built, build, build_notation, build_typ, no_parts, with_part};
 use std::alloc::Global;

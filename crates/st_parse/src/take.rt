@@ -17,8 +17,8 @@ ghost use Rattle.st_parse.specs.inner.Kept.{Keeps, Tells};
 
 use crate::kept::{Kept, change_kept, end_kept, fill_kept};
 use crate::variables::{count, note_cut};
-use st_grammar::{Action, TokenRef};
 use st_draft::{Change, PartToken, Parts, change_of, ending_of};
+use st_grammar::{Action, TokenRef};
 use st_num::{NoMemory, Row, Token};
 use st_parse_automaton::{
     Advance, Position, Progress, Reading, Slot, TokenClass, end, filled, part_end, with_actions,

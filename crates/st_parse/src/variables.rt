@@ -17,8 +17,8 @@ ghost use Rattle.st_parse.specs.inner.Cuts as spec;
 ghost use Rattle.st_parse.specs.inner.Kept.{Notes};
 
 use crate::parts::{Part, exp_part, notation_part, typ_part};
-use st_grammar::{Action, TokenRef};
 use st_draft::{Change, PartToken, PartTree, index_in};
+use st_grammar::{Action, TokenRef};
 use st_num::{MOST_PREMISES, NoMemory, Row, Span};
 use st_parse_automaton::Slot;
 use st_parse_builder::{build, leave_out, place_past};

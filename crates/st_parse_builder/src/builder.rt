@@ -14,15 +14,15 @@ ghost use Rattle.st_parse_builder.specs.inner.PieceVariables.{stack_variables};
 ghost use Rattle.st_parse_builder.specs.inner.Parts.{Makes, Gives, made_or, untold};
 ghost use Rattle.st_parse_builder.specs.inner.Entries.{applied, begun, noted, Stands, the_exp, exp_part};
 
+use crate::Piece;
 use crate::built::{Built, untold};
 use crate::leaf::copy_name;
 use crate::list::{end_call, end_fields, end_parens, end_sequence, field, first, part};
 use crate::make::{below, dot, enclose, join, length, mark, operand, prefix, times};
 use crate::path::{change, position, slice, step_at, step_field, step_slice};
 use crate::pieces::{Entry, Stack, pop_done};
-use crate::Piece;
-use st_grammar::{Action, TokenRef};
 use st_el::Exp;
+use st_grammar::{Action, TokenRef};
 use st_num::{NoMemory, Row};
 use std::alloc::Global;
 

@@ -1,25 +1,22 @@
 //! Laws of the meaning of a source.
 
-ghost use Rattle.std.specs.Prelude.{◌≡◌, ◌∷◌, ◌++◌, ℕ, List, Some};
+ghost use Rattle.std.specs.Prelude.{◌≡◌, ◌∷◌, ℕ, List, Some};
 ghost use Rattle.st_num.specs.declared.token.Token.{Token};
 ghost use Rattle.st_el.specs.declared.definition.Def.{Def};
 ghost use Rattle.st_grammar.specs.declared.sort.Sort.{Sort};
 ghost use Rattle.st_grammar.specs.declared.sort.Sort.TheVariants.{Typ as typ, Notation as notation};
 ghost use Rattle.st_grammar.specs.Trees.{Tree};
-ghost use Rattle.st_grammar.specs.Terminals.{Terminal};
 ghost use Rattle.st_grammar.specs.Grammar.{Fits};
-ghost use Rattle.st_grammar.specs.Reading.{State, step, reads, start};
+ghost use Rattle.st_grammar.specs.inner.Actions.{acts};
 ghost use Rattle.st_parse_builder.specs.declared.piece.Piece.TheVariants.{Done};
 ghost use Rattle.st_parse_builder.specs.declared.notation_piece.NotationPiece.TheVariants.{Hole};
 ghost use Rattle.st_parse_builder.specs.Meaning.{meaning};
 ghost use Rattle.st_parse_builder.specs.Notations.{typ_start, typ_meaning};
-ghost use Rattle.st_parse_builder.specs.inner.NotationBuilding as notations;
 ghost use Rattle.st_parse_builder.specs.Definitions.{Parse};
-ghost use Rattle.st_grammar.specs.inner.Actions.{acts};
-ghost use Rattle.st_grammar.specs.inner.Emission.{state_acts, emitted, emissions};
 ghost use Rattle.st_parse_builder.specs.inner.Building.{Stack, run};
+ghost use Rattle.st_parse_builder.specs.inner.NotationBuilding as notations;
 
-use st_grammar::{one_list, parts_are_read};
+use st_grammar::one_list;
 
 /// Tokens mean at most one list of definitions.
 pub fn one_source()
@@ -51,22 +48,3 @@ pub fn notations_are_built()
     ensures { (t : Tree) (s : notations.Stack)
         → Fits notation t → notations.run (acts t) s ≡ Some (notations.piece_of t ∷ s) }
 {}
-
-/// A parser may emit actions while it reads: each token adds its own, and those that are emitted up
-/// to the end are the actions of the part.
-#[tactic(auto, using(crate::proofs::Emission::emits_next, crate::proofs::Emission::emits_part))]
-pub fn readings_emit()
-    ensures each { (st : State) (l : Terminal) (next : State)
-        → step st l ≡ Some next → state_acts next ≡ state_acts st ++ emitted st l }
-    ensures all { (σ : Sort) (us : List Terminal) (t : Tree)
-        → reads (start σ) us ≡ Some t → acts t ≡ emissions (start σ) us }
-{}
-
-/// What is emitted while a part is read builds its meaning.
-pub fn emissions_build()
-    ensures { (σ : Sort) (us : List Terminal) (t : Tree) (s : Stack)
-        → reads (start σ) us ≡ Some t
-        → run (emissions (start σ) us) s ≡ Some (Done (meaning t) ∷ s) }
-{
-    parts_are_read();
-}

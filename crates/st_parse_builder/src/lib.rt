@@ -7,7 +7,6 @@
 //! `docs/source-trees.md`.
 #![tactic(auto)]
 
-mod action;
 mod builder;
 mod built;
 mod form;
@@ -26,14 +25,10 @@ mod path;
 mod piece;
 mod pieces;
 
-pub use action::{Action, TokenRef};
 pub use builder::build;
 pub use built::{Built, above, higher, no_parts, with_part};
 pub use form::mark_count;
-pub use laws::{
-    emissions_build, notations_are_built, one_source, parts_are_built, readings_emit,
-    types_are_built,
-};
+pub use laws::{notations_are_built, one_source, parts_are_built, types_are_built};
 pub use leaf::{copy_name, name_of};
 pub use leave::leave_out;
 pub use limit::place_past;

@@ -11,6 +11,7 @@ ghost use Rattle.st_el.specs.declared.expression.Count.TheVariants as count;
 ghost use Rattle.st_parse_builder.specs.inner.Entries as spec;
 ghost use Rattle.st_parse_builder.specs.inner.Entries.{Forms};
 
+use crate::Piece;
 use crate::built::{Built, both, raise};
 use crate::form::{
     below_of, dotted, enclosed, goes_on, iterated, joined, length_of, mark_count, prefixed,
@@ -19,7 +20,6 @@ use crate::form::{
 use crate::leaf::leaf_node;
 use crate::leave::leave_index;
 use crate::pieces::{Entry, Stack, pop_done, pop_label, pop_pair, pop_place};
-use crate::Piece;
 use st_el::Exp;
 use st_grammar::{Bracket, Leaf, TokenRef};
 use st_num::{Mark, Name, NoMemory, Row, Token};

@@ -13,6 +13,7 @@ ghost use Rattle.st_parse_builder.specs.inner.Parts.{Makes, Gives, made_or, unto
 ghost use Rattle.st_parse_builder.specs.inner.NotationEntries as spec;
 ghost use Rattle.st_parse_builder.specs.inner.NotationEntries.{applied, entries, typ_part, notation_part};
 
+use crate::NotationPiece;
 use crate::built::{Built, above, untold};
 use crate::notation_form::hole;
 use crate::notation_make::{
@@ -20,9 +21,8 @@ use crate::notation_make::{
     notation_join, notation_prefix, typ_mark,
 };
 use crate::notation_pieces::{NotationEntry, NotationStack, as_notation, as_type, take};
-use crate::NotationPiece;
-use st_grammar::Action;
 use st_el::{Notation, Typ};
+use st_grammar::Action;
 use st_num::{NoMemory, Row};
 use std::alloc::Global;
 

@@ -16,8 +16,8 @@ ghost use Rattle.st_parse_exp.specs.inner.Seen as seen;
 ghost use Rattle.st_parse_exp.specs.inner.Drafts.{IsBuilt, AreBuilt, with_exp, draft, Turns};
 
 use crate::judge::separates;
-use st_grammar::Action;
 use st_el::Exp;
+use st_grammar::Action;
 use st_num::{NoMemory, Row};
 use st_parse_automaton::{Progress, Reading, TokenClass, end as end_part};
 use st_parse_builder::build;

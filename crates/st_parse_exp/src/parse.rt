@@ -19,8 +19,8 @@ ghost use Rattle.st_parse_exp.specs.Parse.{AreWhole, Answers};
 
 use crate::draft::{end, turn};
 use crate::judge::{begin, judge_next};
-use st_grammar::Action;
 use st_el::Exp;
+use st_grammar::Action;
 use st_num::{Name, Row, RuleId, Token};
 use st_parse_automaton::{NameIndex, Progress, may_end, token_class, with_actions};
 use st_parse_faults::{SyntaxFault, TokenVerdict, place_at};

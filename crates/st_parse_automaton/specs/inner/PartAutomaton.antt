@@ -1,6 +1,5 @@
 -- What the parser keeps of a part: where each token leads, and what it adds to the actions that
--- build the part. It is the reading of `st_grammar`, and the emission of `st_parse_builder`,
--- without their trees.
+-- build the part. It is the reading of `st_grammar` and its emission, without their trees.
 use Rattle.std.specs.Prelude.{ℕ, List, [], ◌∷◌, ◌++◌, Bool, true, false, not, ◌&&◌, Option, Some, None, nat_le, if◌then◌else◌}
 use Rattle.std.specs.Option.{option_map}
 use Rattle.st_num.specs.declared.mark.Mark.{Mark}
