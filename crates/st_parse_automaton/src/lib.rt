@@ -28,7 +28,7 @@ pub use actions::with_actions;
 pub use class::{declared_names, token_class};
 pub use definition_automaton::{advance, may_end};
 pub use frame::{follows, top};
-pub use laws::{refused_once, tokens_build, tokens_emit};
+pub use laws::{refused_once, tokens_emit};
 pub use name_index::NameIndex;
 pub use part_automaton::{Expected, Filling, Frame, Lead, Part, PartKind, Reading, Shape};
 pub use position::{
