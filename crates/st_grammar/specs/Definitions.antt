@@ -1,4 +1,4 @@
--- The grammar of definitions, over that of their parts.
+-- The grammar of definitions, over that of their parts: each form has its production in front.
 use Rattle.std.specs.Prelude.{◌≡◌, ℕ, ◌+◌, List, [], ◌∷◌, ◌++◌, map, length, Bool, true, false, ◌&&◌, ◌||◌, Option, Some, None, option_and_then, if◌then◌else◌}
 use Rattle.std.specs.List.{AllByRecursion}
 use Rattle.st_num.specs.declared.mark.Mark.{Mark}
@@ -196,7 +196,7 @@ balance_step ks l = Some ks
 
 -- a hint: a name, and tokens in which brackets are balanced
 pub data Hint : Type 0 where
-  -- `hint`, `(`, a name, some tokens and `)`
+  -- hint ::= `hint` `(` name token* `)`
   hint : Terminal → Terminal → Terminal → List Terminal → Terminal → Hint
 
 -- the tokens of a hint
@@ -211,7 +211,9 @@ HintFits (hint w o n ws c) =
 
 -- hints, in a row
 pub data Hints : Type 0 where
+  -- hints ::=
   no_hints : Hints
+  -- hints ::= hints hint
   more_hints : Hints → Hint → Hints
 
 -- the tokens of hints
@@ -228,7 +230,9 @@ HintsFit (more_hints hs h) = HintsFit hs × HintFits h
 
 -- alternatives or fields: what stands before each, its tree and its hints
 pub data Members : Type 0 where
+  -- members ::=
   no_members : Members
+  -- members ::= members token* tree hints
   member : Members → List Terminal → Tree → Hints → Members
 
 -- the tokens of alternatives or fields
@@ -272,9 +276,9 @@ EndsCases ls = ⊥
 
 -- what a syntax is: fields in braces, or alternatives
 pub data Body : Type 0 where
-  -- `{`, fields and `}`
+  -- body ::= `{` members `}`
   fields : Terminal → Members → Terminal → Body
-  -- alternatives, and what ends them
+  -- body ::= members [`|` `...`]
   cases : Members → List Terminal → Body
 
 -- the tokens of a body
@@ -291,12 +295,13 @@ BodyFits (cases ms ls) = CasesFit ms × (has_member ms ≡ true) × EndsCases ls
 
 -- behind a condition each `)` with its iterations
 pub data Iterations : Type 0 where
+  -- iterations ::=
   no_iterations : Iterations
-  -- `)`
+  -- iterations ::= iterations `)`
   closed : Iterations → Terminal → Iterations
-  -- an iteration sign
+  -- iterations ::= iterations (`*` | `+` | `?`)
   marked : Iterations → Terminal → Iterations
-  -- `^` and a count
+  -- iterations ::= iterations `^` tree
   counted : Iterations → Terminal → Tree → Iterations
 
 -- the tokens behind a condition
@@ -340,9 +345,9 @@ CondFits ls = ⊥
 
 -- what must hold where a rule or a clause is used
 pub data Premise : Type 0 where
-  -- `--` and `otherwise`
+  -- premise ::= `--` `otherwise`
   default : Terminal → Terminal → Premise
-  -- `--`, each `(`, what begins a condition, its expression, and the iterations
+  -- premise ::= `--` `(`* (`if` | relation `:`) tree iterations
   given : Terminal → List Terminal → List Terminal → Tree → Iterations → Premise
 
 -- the tokens of a premise
@@ -363,7 +368,9 @@ PremiseFits (given d os ls t i) =
 
 -- premises, in a row
 pub data Premises : Type 0 where
+  -- premises ::=
   no_premises : Premises
+  -- premises ::= premises premise
   more_premises : Premises → Premise → Premises
 
 -- the tokens of premises
@@ -380,8 +387,9 @@ PremisesFit (more_premises ps p) = PremisesFit ps × PremiseFits p
 
 -- what stands behind the name of a function: no arguments, or some in parentheses
 pub data Args : Type 0 where
+  -- args ::=
   no_args : Args
-  -- `(`, the arguments and `)`
+  -- args ::= `(` trees `)`
   args : Terminal → Trees → Terminal → Args
 
 -- the tokens of arguments
@@ -397,17 +405,17 @@ ArgsFit σ (args o ts c) =
 
 -- a definition, with its words, names, signs and parts in their order
 pub data Def : Type 0 where
-  -- `syntax`, its name, that of its fragment, hints, `=` and the body
+  -- def ::= `syntax` name [`/` id] hints `=` body
   syntax_def : Terminal → Terminal → List Terminal → Hints → Terminal → Body → Def
-  -- `var`, its name, `:`, its type and hints
+  -- def ::= `var` name `:` tree hints
   var_def : Terminal → Terminal → Terminal → Tree → Hints → Def
-  -- `relation`, its name, hints, `:`, its notation and hints
+  -- def ::= `relation` name hints `:` tree hints
   relation_def : Terminal → Terminal → Hints → Terminal → Tree → Hints → Def
-  -- `rule`, the name of its relation, its own, `:`, the conclusion and premises
+  -- def ::= `rule` name [`/` id] `:` tree premises
   rule_def : Terminal → Terminal → List Terminal → Terminal → Tree → Premises → Def
-  -- `def`, the name of a function, its arguments, `:`, the type of its result and hints
+  -- def ::= `def` function args `:` tree hints
   fun_def : Terminal → Terminal → Args → Terminal → Tree → Hints → Def
-  -- `def`, the name of a function, its arguments, `=`, its result and premises
+  -- def ::= `def` function args `=` tree premises
   clause_def : Terminal → Terminal → Args → Terminal → Tree → Premises → Def
 
 -- the tokens of a definition
@@ -443,7 +451,9 @@ DefFits (clause_def w f a e t ps) =
 
 -- definitions, in a row
 pub data Defs : Type 0 where
+  -- defs ::=
   no_defs : Defs
+  -- defs ::= defs def
   more_defs : Defs → Def → Defs
 
 -- the tokens of definitions

@@ -1,4 +1,23 @@
--- What may stand in each sort of part, and how tightly its signs hold.
+-- What may stand in each sort of part, and how tightly its signs hold. In short, where a name is
+-- one of a variable or a type, and a bound is what stands behind `^(i <`:
+--
+--                       expression       arithmetic notation   type       count      bound
+--  names                yes              yes        yes        no UP name yes        yes
+--  basic types          yes              yes        yes        yes        yes        yes
+--  numbers              yes              yes        -          -          yes        yes
+--  atoms                yes              -          yes        -          -          -
+--  texts, `true`, `eps` yes              -          -          -          -          -
+--  functions, calls     yes              yes        -          -          -          -
+--  parentheses          expressions      arithmetic types      types      `(i < `    -
+--  backquoted brackets  expression       -          notation   -          -          -
+--  `$( )`               arithmetic       arithmetic -          -          arithmetic arithmetic
+--  braces               fields           -          -          -          -          -
+--  bars                 expression       expression -          -          -          -
+--  behind `[`           end, slice, path expression -          -          -          -
+--  dots                 yes              yes        of an atom -          -          -
+--  iteration signs      `* + ? ^`        -          `* ?`      `* ?`      -          -
+--  sequences            yes              -          yes        -          -          -
+--  signs, by level      1 to 13          15 to 18   7 to 12    -          -          -
 use Rattle.std.specs.Prelude.{ℕ, Bool, true, false, ◌&&◌, nat_le}
 use Rattle.st_num.specs.declared.mark.Mark.{Mark}
 use Rattle.st_num.specs.declared.mark.Mark.TheVariants as mark

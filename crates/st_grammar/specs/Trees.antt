@@ -1,4 +1,5 @@
--- Trees that keep each token, and their tokens.
+-- Trees that keep each token, and their tokens. Each tree has its production in front: of it the
+-- trees of all sorts are told, and `Grammar.antt` says which of them a sort allows.
 use Rattle.std.specs.Prelude.{List, [], ◌∷◌, ◌++◌, Bool, true, false}
 use Rattle.st_num.specs.declared.mark.Mark.{Mark}
 use Rattle.st_num.specs.declared.token.Token.{Token}
@@ -13,51 +14,71 @@ use Rattle.st_grammar.specs.Terminals.{Terminal, leaf, dot, sign, opening, closi
 mutual
   -- a part, or a piece of one, with each of its tokens
   pub data Tree : Type 0 where
+    -- tree ::= name | number | text | function
     -- a token that stands alone
     operand : Leaf → Token → Tree
+    -- tree ::= tree (`*` | `+` | `?`) | tree `.NAME`
     -- an iteration sign or a dot behind a tree
     post : Tree → Terminal → Tree
+    -- tree ::= tree `^` tree
     -- `^` behind a tree, and its count
     times : Tree → Mark → Token → Tree → Tree
+    -- tree ::= heading trees closing
     -- what opens, the parts, and what closes
     bracket : Heading → Trees → Token → Tree
+    -- tree ::= lead tree
     -- a last part behind what leads to it
     led : Lead → Tree → Tree
 
   -- what leads to a last part: a left side and its sign, a sign without one, or elements
   pub data Lead : Type 0 where
+    -- lead ::= tree sign
     -- a left side and its sign
     left : Tree → Mark → Token → Lead
+    -- lead ::= sign
     -- a sign that has no left side
     ahead : Mark → Token → Lead
+    -- lead ::= trees
     -- the elements of a sequence before the last one
     items : Trees → Lead
 
   -- parts in a row, each with the tokens before it that set it off
   pub data Trees : Type 0 where
+    -- trees ::=
     none : Trees
+    -- trees ::= trees token* tree
     more : Trees → List Terminal → Tree → Trees
 
   -- what stands before the parts that a bracket holds
   pub data Heading : Type 0 where
+    -- heading ::= `(` | `[` | `{` | the same backquoted | `$(`
     plain : Bracket → Token → Heading
+    -- heading ::= `|`
     -- the bar of a length
     length : Token → Heading
+    -- heading ::= function `(`
     -- a function and `(`
     arguments : Token → Token → Heading
+    -- heading ::= tree `[`
     -- a tree and `[`
     index : Tree → Token → Heading
+    -- heading ::= path `[`
     -- a path and `[`
     segment : Path → Token → Heading
+    -- heading ::= path (`=` | `=++`)
     -- a path with its sign, `=` or `=++`
     update : Path → Mark → Token → Heading
+    -- heading ::= `(` name `<`
     -- `(`, a name and `<`, in a count
     below : Token → Token → Mark → Token → Heading
 
   -- a tree, `[` and the steps behind it
   pub data Path : Type 0 where
+    -- path ::= tree `[`
     head : Tree → Token → Path
+    -- path ::= path `.NAME`
     field : Path → Token → Path
+    -- path ::= path `[` trees `]`
     part : Path → Token → Trees → Token → Path
 
 -- what closes such a bracket
