@@ -32,9 +32,9 @@ use Rattle.st_draft.specs.declared.draft.Draft.{Draft}
 use Rattle.st_draft.specs.declared.parts.Parts.{Parts}
 use Rattle.st_draft.specs.inner.Changes.{change_of, ending_of}
 use Rattle.st_draft.specs.inner.Drafts.{arguments_after, ended}
-use Rattle.st_draft.specs.inner.Parts.{word_of, redrafted}
+use Rattle.st_draft.specs.inner.Parts.{word_of, redrafted, refilled}
 use Rattle.st_draft.specs.inner.Ready.{told, MayEnd, Ready, Awaits}
-use Rattle.st_draft.specs.inner.Work.{Work, work_of, worded_work, added_work, redrafted_work, ended_work, filled_work, turned_work, MayTurn, ended_defs, MayClose}
+use Rattle.st_draft.specs.inner.Work.{Work, work_of, arguments_with, worded_work, added_work, redrafted_work, ended_work, filled_work, turned_work, MayTurn, ended_defs, MayClose}
 use Rattle.st_parse.specs.declared.kept.Kept.{Kept}
 use Rattle.st_parse.specs.declared.variables.Variables.{Variables}
 use Rattle.st_parse.specs.inner.Kept.{Notes, Draws, Keeps}
@@ -87,6 +87,24 @@ redrafted_keeps kept new p q b a next position l x given h ready e is changes gi
 
 -- ---- a part ends
 
+-- what a part makes that ends
+pub part_keeps : (r : Result (Unit {0}) NoMemory) (kept new : Kept) (p q : Parts) (b a : Work) (slot : Slot) (n : ℕ) (acts : List Action) (words : List (TokenClass × Token)) → Keeps kept p b → Awaits slot b.draft → ended_work slot n b ≡ Some a
+    → acts ≡ p.actions → words ≡ map word_of p.words → ((d e : Draft) → Draws kept d → Awaits slot d → refilled slot n acts words d ≡ Some e → Draws new e)
+    → IfOk r (λ z. q.arguments ≡ arguments_with slot p.actions p.arguments) → IfOk r (λ z. (q.actions ≡ []) × (q.words ≡ [])) → IfOk r (λ z. Keeps new q a)
+part_keeps (Err f) kept new p q b a slot n acts words h awaits e is same fills given rest = tt
+part_keeps (Ok z) kept new p q b a slot n acts words h awaits e is same fills given rest =
+    let actions : p.actions ≡ b.actions = ap (λ (w : Work). w.actions) h.same in
+    let args : p.arguments ≡ b.arguments = ap (λ (w : Work). w.arguments) h.same in
+    let tokens : words ≡ b.words = same ∙ ap (λ (w : Work). w.words) h.same in
+    let m = mapped Draft Work (λ d. work d (arguments_with slot b.actions b.arguments) [] []) (refilled slot n b.actions b.words b.draft) a e in
+    subst (Keeps new q) m.2 (record {
+      drawn = fills b.draft m.0 h.drawn awaits (ap (λ y. refilled slot n y words b.draft) (is ∙ actions) ∙ ap (λ y. refilled slot n b.actions y b.draft) tokens ∙ m.1);
+      same = same_work m.0 q.arguments (arguments_with slot b.actions b.arguments) q.actions [] (map word_of q.words) []
+          (given ∙ ap (λ y. arguments_with slot y p.arguments) actions ∙ ap (arguments_with slot b.actions) args)
+          rest.0
+          (ap (map word_of) rest.1);
+    })
+
 -- ---- each token
 
 -- where a part ends, and the token leads on behind it
@@ -131,9 +149,8 @@ part_cut (Ok z) old v q w slot st ks o acts vs is h p same past all =
       all = all c.0 (ap (λ y. run y []) (same ∙ ap (λ (y : Work). y.actions) h.same) ∙ c.1) ∙ ap (λ os. os ++ cut slot c.0) counts.all ∙ c.2;
     }
 
-pub cut_noted : (r : Result (Unit {0}) NoMemory) (s : Slot) (before inside new : List Occurrence) (u : Stack) → in_rule s ≡ true → IfOk r (λ z. new ≡ inside ++ stack_variables u) → IfOk r (λ z. before ++ new ≡ (before ++ inside) ++ cut s u)
-cut_noted (Err f) s before inside new u is k = tt
-cut_noted (Ok z) s before inside new u is k =
+pub cut_noted : (s : Slot) (before inside new : List Occurrence) (u : Stack) → in_rule s ≡ true → new ≡ inside ++ stack_variables u → before ++ new ≡ (before ++ inside) ++ cut s u
+cut_noted s before inside new u is k =
     ap (λ vs. before ++ vs) k ∙ sym (append_assoc before inside (stack_variables u)) ∙ ap (λ (b : Bool). (before ++ inside) ++ (if b then stack_variables u else [])) (sym is)
 
 -- the variables that are counted are those of these definitions and of the open one
