@@ -22,4 +22,4 @@ returns-in_ok-leave_index-in-Count-clause-notes c d e n h a g =
     (record { past = c.args.variables.now.past; before = c.args.variables.now.before; inside = c.exp_part-in-Count.new.seen })
     c.exp_part-in-Count.result c.in-Count.is h a g refl refl
     (λ x k. counted c.exp_part-in-Count.result (index_in (map word_of c.args.words.now)) x (occurrences c.args.variables.now.inside) (occurrences c.leave_index.new.seen) (occurrences c.exp_part-in-Count.new.seen)
-    (c.in_ok-leave_index.ensures x) (c.exp_part-in-Count.ensures.seen x k))
+    (c.in_ok-leave_index-in-Count.ensures x) (c.exp_part-in-Count.ensures.seen x k))
