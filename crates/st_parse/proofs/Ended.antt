@@ -17,7 +17,7 @@ use Rattle.st_el.specs.declared.definition.DefNode.TheVariants as def
 use Rattle.st_el.specs.declared.definition.Prem.{Prem, out-Prem}
 use Rattle.st_parse_builder.specs.Definitions.{prem_at}
 use Rattle.st_parse_builder.specs.Heights.{highest, height, typ_height, notation_height}
-use Rattle.st_parse_builder.specs.DefHeights.{prem_height, body_height, def_node_height}
+use Rattle.st_parse_builder.specs.DefHeights.{prem_height, def_node_height}
 use Rattle.st_parse_builder.specs.inner.PieceHeights.{typ_in, height_or, open_height}
 use Rattle.st_parse_builder.proofs.Tallness.{highest_behind}
 use Rattle.st_draft.specs.declared.change.DefinitionEnd.{DefinitionEnd}
@@ -28,7 +28,7 @@ use Rattle.st_draft.specs.declared.draft.Members.{Members}
 use Rattle.st_draft.specs.declared.draft.Premises.{Premises}
 use Rattle.st_draft.specs.declared.draft.Sides.{Sides}
 use Rattle.st_draft.specs.inner.Drafts.{whole_prem, prem_whole, alias_or, body_of, or_empty, var_of, relation_of, fun_of, rule_of, node_of, def_put, ended, begun}
-use Rattle.st_draft.specs.inner.Heights.{height_of, MembersLow, SidesLow, PremisesLow, IsLow}
+use Rattle.st_draft.specs.inner.Heights.{height_of, MembersLow, SidesLow, PremisesLow}
 use Rattle.st_draft.specs.inner.Ready.{Ends, MayEnd}
 use Rattle.st_draft.proofs.Low.{left_of, height_at}
 use Rattle.st_draft.proofs.Endings.{begun_clear}

@@ -23,7 +23,7 @@ use Rattle.st_grammar.specs.declared.action.Action.{Action}
 use Rattle.st_parse_builder.specs.declared.piece.Piece.{Piece}
 use Rattle.st_parse_builder.specs.declared.piece.Piece.TheVariants.{Done, Parts, Fields, Path, Label, Here}
 use Rattle.st_parse_builder.specs.inner.Building.{run}
-use Rattle.st_parse_builder.specs.inner.NotationBuilding.{typ_built, notation_built}
+use Rattle.st_parse_builder.specs.inner.NotationBuilding.{typ_built}
 use Rattle.st_parse_builder.specs.Meaning.{mark_count}
 use Rattle.st_parse_builder.specs.Definitions.{prem_at}
 use Rattle.st_parse_builder.specs.Variables.{Occurrence, Times, occurrences, without, variables, times, iterated, prem_variables, def_node_variables}
@@ -36,13 +36,12 @@ use Rattle.st_draft.specs.declared.change.DefinitionEnd.{DefinitionEnd}
 use Rattle.st_draft.specs.declared.change.DefinitionEnd.TheVariants as ending
 use Rattle.st_draft.specs.declared.draft.Draft.{Draft}
 use Rattle.st_draft.specs.inner.Parts.{the_exp, exp_built, all_built, count_with, index_in, redrafted, refilled}
-use Rattle.st_draft.specs.inner.Drafts.{whole_prem, condition_node, each_of, shape_count, node_of, def_put, ended, begun, with_sides, params_put, args_put, typ_filled, notation_filled, exp_filled, condition_filled, count_filled}
+use Rattle.st_draft.specs.inner.Drafts.{whole_prem, condition_node, each_of, shape_count, node_of, def_put, ended, begun, with_sides, params_put, args_put, exp_filled, condition_filled, count_filled}
 use Rattle.st_draft.specs.inner.Ready.{in_some, told, asked, Ends, MayEnd, Ready, Awaits}
 use Rattle.st_draft.proofs.Endings.{open_behind}
 use Rattle.st_draft.proofs.Arguments.{next_built}
 use Rattle.st_parse.specs.declared.variables.Variables.{Variables}
 use Rattle.st_parse.specs.Limits.{variable_past, first_that}
-use Rattle.st_parse.specs.inner.Cuts.{in_rule}
 use Rattle.st_parse.specs.inner.Kept.{Notes}
 
 -- ---- what there is
@@ -134,24 +133,6 @@ same_notes v w d e same f g h n =
     subst (λ u. Notes u e) (sym same) (record { past = n.past ∙ ap (first_that variable_past) (sym f); before = n.before ∙ sym g; inside = n.inside ∙ sym h })
 
 -- ---- parts
-
-pub other_part : (s : Slot) (n : ℕ) (actions : List Action) (words : List (TokenClass × Token)) (d e : Draft) (v w : Variables) → in_rule s ≡ false
-    → w ≡ v → Notes v d → refilled s n actions words d ≡ Some e → Notes w e
-other_part slot.Rule n actions words d e v w i same h f = absurd (cc)
-other_part slot.Condition n actions words d e v w i same h f = absurd (cc)
-other_part slot.Count n actions words d e v w i same h f = absurd (cc)
-other_part slot.Field n actions words d e v w i same h f =
-    let m = mapped _ Draft (λ t. typ_filled slot.Field t d) (typ_built actions) e f in subst (Notes w) m.2 (same_notes v w d _ same refl refl refl h)
-other_part slot.Var n actions words d e v w i same h f =
-    let m = mapped _ Draft (λ t. typ_filled slot.Var t d) (typ_built actions) e f in subst (Notes w) m.2 (same_notes v w d _ same refl refl refl h)
-other_part slot.Fun n actions words d e v w i same h f =
-    let m = mapped _ Draft (λ t. typ_filled slot.Fun t d) (typ_built actions) e f in subst (Notes w) m.2 (same_notes v w d _ same refl refl refl h)
-other_part (slot.Case c) n actions words d e v w i same h f =
-    let m = mapped _ Draft (λ t. notation_filled t d) (notation_built actions) e f in subst (Notes w) m.2 (same_notes v w d _ same refl refl refl h)
-other_part slot.Notation n actions words d e v w i same h f =
-    let m = mapped _ Draft (λ t. notation_filled t d) (notation_built actions) e f in subst (Notes w) m.2 (same_notes v w d _ same refl refl refl h)
-other_part (slot.Argument b c) n actions words d e v w i same h f =
-    let is : d ≡ e = cc in subst (Notes w) is (same_notes v w d d same refl refl refl h)
 
 -- a conclusion, or the result of a clause
 pub rule_part : {A : Type 0} (s : Slot) (n : ℕ) (actions : List Action) (words : List (TokenClass × Token)) (d e : Draft) (v w : Variables) (r : Result A NoMemory) → s ≡ slot.Rule → Notes v d → Awaits s d → refilled s n actions words d ≡ Some e

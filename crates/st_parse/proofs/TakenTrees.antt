@@ -1,10 +1,6 @@
 -- What is built of a part that ends, and of arguments one after another.
-use Rattle.std.proofs.Common.{arith, ◌≡◌, ℕ, ◌≤◌, ◌<◌, ◌+◌, List, [], ◌∷◌, ◌++◌, length, map, take, get_or, max, Option, Some, None, option_map, Result, Ok, Err, IfOk, ◌⊎◌, inl, inr, refl, sym, ap, subst, ◌∙◌}
+use Rattle.std.proofs.Common.{arith, ◌≡◌, ℕ, ◌≤◌, ◌<◌, ◌+◌, List, [], ◌∷◌, ◌++◌, length, map, take, get_or, max, Option, Some, None, option_map, refl, sym, ap, ◌∙◌}
 use Rattle.std.proofs.lemmas.List.{take_all}
-use Rattle.st_num.specs.declared.memory.NoMemory.{NoMemory}
-use Rattle.st_parse_automaton.specs.declared.position.CaseAt.{CaseAt}
-use Rattle.st_parse_automaton.specs.declared.position.Slot.{Slot}
-use Rattle.st_parse_automaton.specs.declared.position.Slot.TheVariants as slot
 use Rattle.st_el.specs.declared.ty.Typ.{Typ}
 use Rattle.st_el.specs.declared.expression.Exp.{Exp}
 use Rattle.st_grammar.specs.declared.action.Action.{Action}
@@ -12,18 +8,15 @@ use Rattle.st_parse_builder.specs.declared.built.Built.{Built}
 use Rattle.st_parse_builder.specs.Heights.{highest, height, typ_height}
 use Rattle.st_parse_builder.specs.inner.Parts.{capped, kept, built, over, both}
 use Rattle.st_parse_builder.specs.inner.Entries.{exp_part}
-use Rattle.st_parse_builder.specs.inner.NotationBuilding.{typ_built, notation_built}
 use Rattle.st_parse_builder.specs.inner.NotationEntries.{typ_part}
 use Rattle.st_parse_builder.proofs.PartLemmas.{begun_built, both_built, over_built, tree_kept}
 use Rattle.st_parse_builder.proofs.Tallness.{highest_behind}
-use Rattle.st_draft.specs.declared.change.Change.{Change}
-use Rattle.st_draft.specs.declared.change.Change.TheVariants as change
 use Rattle.st_draft.specs.declared.parts.PartTree.{PartTree}
 use Rattle.st_draft.specs.declared.parts.PartTree.TheVariants as tree
-use Rattle.st_draft.specs.inner.Parts.{exp_built, all_built}
+use Rattle.st_draft.specs.inner.Parts.{all_built}
 use Rattle.st_draft.proofs.Arguments.{IsBehind, next_built}
 use Rattle.st_parse.specs.declared.parts.Part.{Part}
-use Rattle.st_parse.specs.inner.Taken.{typ_told, exp_told, IsTyp, IsNotation, IsExp, IsPart, kept_of, as_params, as_args, AreTaken}
+use Rattle.st_parse.specs.inner.Taken.{typ_told, exp_told, kept_of}
 
 -- ---- parts
 
@@ -54,21 +47,6 @@ exp_none made from x e i = ap (λ q. told tree.Exp q made.height) (sym i) ∙ ex
 
 pub exp_some : (made : Built Exp) (from : ℕ) (x y : Exp) → made ≡ exp_part from x → made.tree ≡ Some y → record { tree = Some (tree.Exp y); height = made.height } ≡ exp_told x
 exp_some made from x y e i = ap (λ q. told tree.Exp q made.height) (sym i) ∙ exp_of made from x e
-
--- ---- slots
-
--- where such a part ends
-pub in_slot : (r : Result Part NoMemory) (s q : Slot) (acts : List Action) → s ≡ q → IfOk r (IsPart q acts) → IfOk r (IsPart s acts)
-in_slot r s q acts is h = subst (λ x. IfOk r (IsPart x acts)) (sym is) h
-
-pub typ_taken : (r : Result Part NoMemory) (s : Slot) (acts : List Action) → (s ≡ slot.Field) ⊎ ((s ≡ slot.Var) ⊎ (s ≡ slot.Fun)) → IfOk r (IsTyp acts) → IfOk r (IsPart s acts)
-typ_taken r s acts (inl i) h = in_slot r s slot.Field acts i h
-typ_taken r s acts (inr (inl i)) h = in_slot r s slot.Var acts i h
-typ_taken r s acts (inr (inr i)) h = in_slot r s slot.Fun acts i h
-
-pub notation_taken : (r : Result Part NoMemory) (s : Slot) (acts : List Action) → ((c : CaseAt) × (s ≡ slot.Case c)) ⊎ (s ≡ slot.Notation) → IfOk r (IsNotation acts) → IfOk r (IsPart s acts)
-notation_taken r s acts (inl (c, i)) h = in_slot r s (slot.Case c) acts i h
-notation_taken r s acts (inr i) h = in_slot r s slot.Notation acts i h
 
 -- ---- arguments
 
@@ -102,18 +80,3 @@ more_built {A} tall f given i actions all next part from h is before here made x
 pub all_taken : {A : Type 0} (tall : A → ℕ) (f : List Action → Option A) (given : List (List Action)) (i : ℕ) (all : Built (List A)) (xs : List A) → length given ≤ i → SoFar tall f (take i given) all → all_built f given ≡ Some xs
     → all.tree ≡ kept_of tall xs
 all_taken {A} tall f given i all xs h so e = ap (λ (b : Built (List A)). b.tree) (so xs (ap (all_built f) (take_all i given h) ∙ e)) ∙ tree_kept 0 (highest (map tall xs)) xs
-
--- ---- changes
-
-pub params_taken : (c : Change) (given : List (List Action)) (o made : Option (List Typ)) → c ≡ change.Params → ((ts : List Typ) → all_built typ_built given ≡ Some ts → o ≡ kept_of typ_height ts) → o ≡ made
-    → AreTaken c given (option_map as_params made)
-params_taken c given o made i h is = subst (λ q. AreTaken q given (option_map as_params made)) (sym i) (λ ts b. ap (option_map as_params) (sym is ∙ h ts b))
-
-pub args_taken : (c : Change) (given : List (List Action)) (o made : Option (List Exp)) → c ≡ change.Args → ((es : List Exp) → all_built exp_built given ≡ Some es → o ≡ kept_of height es) → o ≡ made
-    → AreTaken c given (option_map as_args made)
-args_taken c given o made i h is = subst (λ q. AreTaken q given (option_map as_args made)) (sym i) (λ es b. ap (option_map as_args) (sym is ∙ h es b))
-
-pub none_taken : (c : Change) (given : List (List Action)) → (c ≡ change.Params → ⊥) → (c ≡ change.Args → ⊥) → AreTaken c given (Some ([], []))
-none_taken change.Params given p a = absurd (p refl)
-none_taken change.Args given p a = absurd (a refl)
-none_taken c given p a = refl

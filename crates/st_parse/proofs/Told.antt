@@ -28,7 +28,7 @@ use Rattle.st_draft.specs.declared.change.Change.TheVariants as change
 use Rattle.st_draft.specs.declared.draft.Draft.{Draft}
 use Rattle.st_draft.specs.declared.parts.PartTree.{PartTree}
 use Rattle.st_draft.specs.declared.parts.PartTree.TheVariants as tree
-use Rattle.st_draft.specs.inner.Drafts.{condition_node, span_or, each_of, shape_count, applied, begun, ended, with_sides, params_put, args_put, typ_filled, notation_filled, exp_filled, condition_filled, count_filled}
+use Rattle.st_draft.specs.inner.Drafts.{condition_node, span_or, each_of, shape_count, applied, ended, with_sides, params_put, args_put, typ_filled, notation_filled, exp_filled, condition_filled, count_filled}
 use Rattle.st_draft.specs.inner.Heights.{height_of, IsLow}
 use Rattle.st_draft.specs.inner.Parts.{exp_built, all_built, count_with, index_in, redrafted, refilled, tree_put}
 use Rattle.st_draft.specs.inner.Ready.{Awaits}

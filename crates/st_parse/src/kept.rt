@@ -103,12 +103,7 @@ fn last_high(defs: &[Def], high: bool) -> Option<Span>
 }
 
 /// The first definition that is too high, where the last one ended so.
-fn ended_high(
-    ending: DefinitionEnd,
-    high: bool,
-    defs: &[Def],
-    tall: Option<Span>,
-) -> Option<Span>
+fn ended_high(ending: DefinitionEnd, high: bool, defs: &[Def], tall: Option<Span>) -> Option<Span>
     ensures { result ≡ spec.ended_high ending high defs.now tall }
 {
     tall.or(last_high(defs, has_notations(ending) && high))

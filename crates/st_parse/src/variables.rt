@@ -8,7 +8,6 @@ ghost use Rattle.st_el.specs.declared.expression.Exp.{Exp};
 ghost use Rattle.st_grammar.specs.declared.action.Action.{Action};
 ghost use Rattle.st_parse_automaton.specs.declared.part_automaton.Shape.{Shape};
 ghost use Rattle.st_parse_builder.specs.inner.Building.{Stack, run};
-ghost use Rattle.st_parse_builder.specs.inner.PieceVariables.{stack_variables};
 ghost use Rattle.st_parse_builder.specs.Variables.{occurrences, times, without};
 ghost use Rattle.st_parse_builder.specs.Limits as measured;
 ghost use Rattle.st_draft.specs.declared.draft.Draft.{Draft};

@@ -1,5 +1,5 @@
 -- What is built of a part that ends, and of the arguments that a change takes.
-use Rattle.std.specs.Prelude.{◌≡◌, ℕ, List, [], map, Option, Some, None}
+use Rattle.std.specs.Prelude.{◌≡◌, ℕ, List, [], map, Option, Some}
 use Rattle.std.specs.Option.{option_map}
 use Rattle.st_parse_automaton.specs.declared.position.Slot.{Slot}
 use Rattle.st_parse_automaton.specs.declared.position.Slot.TheVariants as slot
@@ -13,7 +13,6 @@ use Rattle.st_parse_builder.specs.inner.Parts.{capped, kept}
 use Rattle.st_parse_builder.specs.inner.NotationBuilding.{typ_built, notation_built}
 use Rattle.st_draft.specs.declared.change.Change.{Change}
 use Rattle.st_draft.specs.declared.change.Change.TheVariants as change
-use Rattle.st_draft.specs.declared.parts.PartTree.{PartTree}
 use Rattle.st_draft.specs.declared.parts.PartTree.TheVariants as tree
 use Rattle.st_draft.specs.inner.Parts.{exp_built, all_built}
 use Rattle.st_parse.specs.declared.parts.Part.{Part}
