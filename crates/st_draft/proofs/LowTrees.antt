@@ -1,5 +1,5 @@
 -- What is built for a draft that is low is low.
-use Rattle.std.proofs.Common.{◌≡◌, ℕ, ◌≤◌, List, [], ◌∷◌, true, is_some, slice_get, Option, Some, None, option_map, option_and_then, ◌⊎◌, inl, inr, refl, ap, subst, arith}
+use Rattle.std.proofs.Common.{◌≡◌, ℕ, ◌≤◌, List, [], ◌∷◌, true, is_some, slice_get, Option, Some, None, option_map, option_and_then, ◌⊎◌, inl, inr, refl, sym, ap, subst, arith}
 use Rattle.st_num.specs.declared.span.Span.{Span}
 use Rattle.st_num.specs.declared.token.Token.{Token}
 use Rattle.st_parse_automaton.specs.declared.position.TokenClass.{TokenClass}
@@ -18,13 +18,13 @@ use Rattle.st_parse_builder.specs.Definitions.{prem_at}
 use Rattle.st_parse_builder.specs.Heights.{height, typ_height}
 use Rattle.st_parse_builder.specs.inner.NotationBuilding.{typ_built, notation_built}
 use Rattle.st_parse_builder.specs.DefHeights.{prem_height, field_type_height}
-use Rattle.st_parse_builder.proofs.Premises.{tall_if, tall_goal, tall_each, tall_times, tall_below}
+use Rattle.st_parse_builder.proofs.Premises.{tall_each, tall_times, tall_below}
 use Rattle.st_draft.specs.declared.draft.Draft.{Draft}
 use Rattle.st_draft.specs.inner.Drafts.{condition_node, each_of, span_or, typ_filled, notation_filled, exp_filled, condition_filled, count_filled}
 use Rattle.st_draft.specs.inner.Parts.{the_exp, exp_built, count_with, index_in, refilled}
 use Rattle.st_parse_builder.specs.inner.PieceHeights.{open_height}
 use Rattle.st_draft.specs.inner.Heights.{height_of, IsLow}
-use Rattle.st_draft.proofs.Low.{last_of}
+use Rattle.st_draft.proofs.Low.{last_of, tall_if, tall_goal}
 
 -- ---- what is built
 
