@@ -20,18 +20,18 @@ use Rattle.st_parse_builder.specs.Heights.{highest, height, typ_height, notation
 use Rattle.st_parse_builder.specs.DefHeights.{prem_height, def_node_height}
 use Rattle.st_parse_builder.specs.inner.PieceHeights.{typ_in, height_or, open_height}
 use Rattle.st_parse_builder.proofs.Tallness.{highest_behind}
-use Rattle.st_draft.specs.declared.change.DefinitionEnd.{DefinitionEnd}
-use Rattle.st_draft.specs.declared.change.DefinitionEnd.TheVariants as ending
-use Rattle.st_draft.specs.declared.draft.Draft.{Draft}
-use Rattle.st_draft.specs.declared.draft.Head.{Head}
-use Rattle.st_draft.specs.declared.draft.Members.{Members}
-use Rattle.st_draft.specs.declared.draft.Premises.{Premises}
-use Rattle.st_draft.specs.declared.draft.Sides.{Sides}
-use Rattle.st_draft.specs.inner.Drafts.{whole_prem, prem_whole, alias_or, body_of, or_empty, var_of, relation_of, fun_of, rule_of, node_of, def_put, ended, begun}
-use Rattle.st_draft.specs.inner.Heights.{height_of, MembersLow, SidesLow, PremisesLow}
-use Rattle.st_draft.specs.inner.Ready.{Ends, MayEnd}
-use Rattle.st_draft.proofs.Low.{left_of, height_at}
-use Rattle.st_draft.proofs.Endings.{begun_clear}
+use Rattle.st_parse.specs.declared.change.DefinitionEnd.{DefinitionEnd}
+use Rattle.st_parse.specs.declared.change.DefinitionEnd.TheVariants as ending
+use Rattle.st_parse.specs.declared.draft.Draft.{Draft}
+use Rattle.st_parse.specs.declared.draft.Head.{Head}
+use Rattle.st_parse.specs.declared.draft.Members.{Members}
+use Rattle.st_parse.specs.declared.draft.Premises.{Premises}
+use Rattle.st_parse.specs.declared.draft.Sides.{Sides}
+use Rattle.st_parse.specs.inner.Drafts.{whole_prem, prem_whole, alias_or, body_of, or_empty, var_of, relation_of, fun_of, rule_of, node_of, def_put, ended, begun}
+use Rattle.st_parse.specs.inner.Heights.{height_of, MembersLow, SidesLow, PremisesLow}
+use Rattle.st_parse.specs.inner.Ready.{Ends, MayEnd}
+use Rattle.st_parse.proofs.Low.{left_of, height_at}
+use Rattle.st_parse.proofs.Endings.{begun_clear}
 use Rattle.st_parse.specs.declared.kept.Heights.{Heights}
 use Rattle.st_parse.specs.Limits.{too_tall, first_that}
 use Rattle.st_parse.specs.inner.Kept.{no_heights, Told, alias_in, is_alias, has_notations, high_at, last_high, Stands}

@@ -17,13 +17,13 @@ use Rattle.st_parse_faults.proofs.Loop.{passes_holds}
 use Rattle.st_el.specs.declared.definition.Def.{Def}
 use Rattle.st_parse_builder.specs.Definitions.{defs_meaning}
 use Rattle.st_parse_builder.specs.Variables.{Occurrence}
-use Rattle.st_draft.specs.declared.draft.Draft.{Draft}
-use Rattle.st_draft.specs.declared.parts.Parts.{Parts}
-use Rattle.st_draft.specs.inner.Heights.{IsLow}
-use Rattle.st_draft.specs.inner.Work.{Work, ended_defs, MayClose}
-use Rattle.st_draft.proofs.WorkSteps.{state_work}
-use Rattle.st_draft.proofs.WorkPositions.{closes}
-use Rattle.st_draft.proofs.BeforeLemmas.{stands_before, ended_is}
+use Rattle.st_parse.specs.declared.draft.Draft.{Draft}
+use Rattle.st_parse.specs.declared.parts.Parts.{Parts}
+use Rattle.st_parse.specs.inner.Heights.{IsLow}
+use Rattle.st_parse.specs.inner.Work.{Work, ended_defs, MayClose}
+use Rattle.st_parse.proofs.WorkSteps.{state_work}
+use Rattle.st_parse.proofs.WorkPositions.{closes}
+use Rattle.st_parse.proofs.BeforeLemmas.{stands_before, ended_is}
 use Rattle.st_parse.specs.declared.kept.Kept.{Kept}
 use Rattle.st_parse.specs.Limits.{variable_past, too_tall, first_that}
 use Rattle.st_parse.specs.Open.{open_variables, first_past}

@@ -1,3 +1,16 @@
+pub mod DraftOf
+pub mod Low
+pub mod Endings
+pub mod DraftSteps
+pub mod DraftEnds
+pub mod DraftFills
+pub mod Built
+pub mod Arguments
+pub mod WorkSteps
+pub mod WorkEnds
+pub mod WorkPositions
+pub mod BeforeLemmas
+pub mod LowTrees
 pub mod Notes
 mod PremiseHeights
 mod Ended
@@ -15,3 +28,10 @@ pub mod Standing
 pub mod StandingDefs
 mod StandingOpen
 pub mod StandingFaults
+pub mod ExpressionReadings
+pub mod ExpressionSeenView
+pub mod ExpressionVerdicts
+pub mod ExpressionExact
+pub mod ExpressionLoop
+pub mod ExpressionDrafted
+pub mod ExpressionParsing

@@ -30,16 +30,16 @@ use Rattle.st_parse_builder.specs.Variables.{Occurrence, Times, occurrences, wit
 use Rattle.st_parse_builder.specs.Limits.{place_past}
 use Rattle.st_parse_builder.proofs.Occurring.{one_behind, without-none}
 use Rattle.st_parse_builder.proofs.Premises.{in_if, in_goal, in_otherwise, in_each, times_mark, times_times, times_below}
-use Rattle.st_draft.specs.declared.change.Change.{Change}
-use Rattle.st_draft.specs.declared.change.Change.TheVariants as change
-use Rattle.st_draft.specs.declared.change.DefinitionEnd.{DefinitionEnd}
-use Rattle.st_draft.specs.declared.change.DefinitionEnd.TheVariants as ending
-use Rattle.st_draft.specs.declared.draft.Draft.{Draft}
-use Rattle.st_draft.specs.inner.Parts.{the_exp, exp_built, all_built, count_with, index_in, redrafted, refilled}
-use Rattle.st_draft.specs.inner.Drafts.{whole_prem, condition_node, each_of, shape_count, node_of, def_put, ended, begun, with_sides, params_put, args_put, exp_filled, condition_filled, count_filled}
-use Rattle.st_draft.specs.inner.Ready.{in_some, told, asked, Ends, MayEnd, Ready, Awaits}
-use Rattle.st_draft.proofs.Endings.{open_behind}
-use Rattle.st_draft.proofs.Arguments.{next_built}
+use Rattle.st_parse.specs.declared.change.Change.{Change}
+use Rattle.st_parse.specs.declared.change.Change.TheVariants as change
+use Rattle.st_parse.specs.declared.change.DefinitionEnd.{DefinitionEnd}
+use Rattle.st_parse.specs.declared.change.DefinitionEnd.TheVariants as ending
+use Rattle.st_parse.specs.declared.draft.Draft.{Draft}
+use Rattle.st_parse.specs.inner.Parts.{the_exp, exp_built, all_built, count_with, index_in, redrafted, refilled}
+use Rattle.st_parse.specs.inner.Drafts.{whole_prem, condition_node, each_of, shape_count, node_of, def_put, ended, begun, with_sides, params_put, args_put, exp_filled, condition_filled, count_filled}
+use Rattle.st_parse.specs.inner.Ready.{in_some, told, asked, Ends, MayEnd, Ready, Awaits}
+use Rattle.st_parse.proofs.Endings.{open_behind}
+use Rattle.st_parse.proofs.Arguments.{next_built}
 use Rattle.st_parse.specs.declared.variables.Variables.{Variables}
 use Rattle.st_parse.specs.Limits.{variable_past, first_that}
 use Rattle.st_parse.specs.inner.Kept.{Notes}

@@ -16,17 +16,17 @@ use Rattle.st_parse_builder.specs.Definitions.{patterns, defs_meaning}
 use Rattle.st_parse_builder.specs.inner.Building.{Stack}
 use Rattle.st_parse_builder.specs.Variables.{variables, prem_variables}
 use Rattle.st_parse_builder.specs.inner.PieceVariables.{stack_variables}
-use Rattle.st_draft.specs.declared.draft.Members.{Members as Body}
-use Rattle.st_draft.specs.declared.draft.Premises.{Premises as Prems}
-use Rattle.st_draft.specs.Before.{slot_before, position_before}
-use Rattle.st_draft.specs.inner.Changes.{ending_of}
-use Rattle.st_draft.specs.inner.Drafts.{premises_so_far}
-use Rattle.st_draft.specs.inner.Ready.{in_some, told, asked}
-use Rattle.st_draft.proofs.DraftOf.{host_draft, head_draft, rule_draft, slot_draft, position_draft}
-use Rattle.st_draft.proofs.WorkSteps.{state_work}
-use Rattle.st_draft.proofs.WorkEnds.{part_ends}
-use Rattle.st_draft.proofs.WorkPositions.{slot_awaits, closes}
-use Rattle.st_draft.proofs.BeforeLemmas.{stands_before, ended_is}
+use Rattle.st_parse.specs.declared.draft.Members.{Members as Body}
+use Rattle.st_parse.specs.declared.draft.Premises.{Premises as Prems}
+use Rattle.st_parse.specs.Before.{slot_before, position_before}
+use Rattle.st_parse.specs.inner.Changes.{ending_of}
+use Rattle.st_parse.specs.inner.Drafts.{premises_so_far}
+use Rattle.st_parse.specs.inner.Ready.{in_some, told, asked}
+use Rattle.st_parse.proofs.DraftOf.{host_draft, head_draft, rule_draft, slot_draft, position_draft}
+use Rattle.st_parse.proofs.WorkSteps.{state_work}
+use Rattle.st_parse.proofs.WorkEnds.{part_ends}
+use Rattle.st_parse.proofs.WorkPositions.{slot_awaits, closes}
+use Rattle.st_parse.proofs.BeforeLemmas.{stands_before, ended_is}
 use Rattle.st_parse.specs.Limits.{variable_past, first_that}
 use Rattle.st_parse.specs.Open.{head_variables, slot_variables, position_variables, cut_variables, inside_variables, open_variables, part_variables, first_past}
 use Rattle.st_parse.specs.inner.Cuts.{cut, of_open, Parted, Opens, past_in}

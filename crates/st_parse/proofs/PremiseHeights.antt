@@ -15,8 +15,8 @@ use Rattle.st_parse_builder.specs.Definitions.{prem_at}
 use Rattle.st_parse_builder.specs.Heights.{height}
 use Rattle.st_parse_builder.specs.DefHeights.{count_height, prem_node_height_at, prem_height_at, prem_height}
 use Rattle.st_parse_builder.proofs.Premises.{tall_each, tall_times, tall_below}
-use Rattle.st_draft.specs.inner.Drafts.{condition_node, shape_count}
-use Rattle.st_draft.specs.inner.Parts.{count_with}
+use Rattle.st_parse.specs.inner.Drafts.{condition_node, shape_count}
+use Rattle.st_parse.specs.inner.Parts.{count_with}
 
 pub tall_condition : (at : Span) (goal : Option (List ℕ)) (e : Exp) → prem_height (prem_at at (condition_node goal e)) ≡ height e + 1
 tall_condition at None e = search (rules, prem_lemmas)

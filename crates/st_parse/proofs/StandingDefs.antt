@@ -22,7 +22,7 @@ use Rattle.st_parse_builder.specs.Limits.{first_of_each, place_past}
 use Rattle.st_parse_builder.specs.DefHeights.{def_height}
 use Rattle.st_parse_builder.proofs.Occurring.{one_behind}
 use Rattle.st_parse_builder.proofs.Premises.{in_if, in_goal, in_otherwise, in_each, times_mark, times_times, times_below}
-use Rattle.st_draft.proofs.Endings.{variables_at}
+use Rattle.st_parse.proofs.Endings.{variables_at}
 use Rattle.st_parse.proofs.Notes.{first_behind}
 use Rattle.st_parse.specs.Limits.{variable_past, too_tall, first_that}
 use Rattle.st_parse.proofs.Standing.{Stand, Occur, first, last, two, moved, filtered, fewer, tree_occurs, trees_occur}

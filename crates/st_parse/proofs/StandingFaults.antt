@@ -17,7 +17,7 @@ use Rattle.st_parse_faults.specs.Place.{place_at}
 use Rattle.st_parse_faults.proofs.Verdicts.{verdict_reads}
 use Rattle.st_parse_builder.specs.Definitions.{defs_meaning}
 use Rattle.st_parse_builder.specs.Limits.{place_past}
-use Rattle.st_draft.specs.Before.{head_before, rule_before, host_before, slot_before, position_before, before}
+use Rattle.st_parse.specs.Before.{head_before, rule_before, host_before, slot_before, position_before, before}
 use Rattle.st_grammar.proofs.TerminalTokens.{terminal_token}
 use Rattle.st_parse.specs.Limits.{variable_past, too_tall, first_that}
 use Rattle.st_parse.specs.Open.{open_variables}

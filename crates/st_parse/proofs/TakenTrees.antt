@@ -11,11 +11,11 @@ use Rattle.st_parse_builder.specs.inner.Entries.{exp_part}
 use Rattle.st_parse_builder.specs.inner.NotationEntries.{typ_part}
 use Rattle.st_parse_builder.proofs.PartLemmas.{begun_built, both_built, over_built, tree_kept}
 use Rattle.st_parse_builder.proofs.Tallness.{highest_behind}
-use Rattle.st_draft.specs.declared.parts.PartTree.{PartTree}
-use Rattle.st_draft.specs.declared.parts.PartTree.TheVariants as tree
-use Rattle.st_draft.specs.inner.Parts.{all_built}
-use Rattle.st_draft.proofs.Arguments.{IsBehind, next_built}
-use Rattle.st_parse.specs.declared.parts.Part.{Part}
+use Rattle.st_parse.specs.declared.parts.PartTree.{PartTree}
+use Rattle.st_parse.specs.declared.parts.PartTree.TheVariants as tree
+use Rattle.st_parse.specs.inner.Parts.{all_built}
+use Rattle.st_parse.proofs.Arguments.{IsBehind, next_built}
+use Rattle.st_parse.specs.declared.built_part.Part.{Part}
 use Rattle.st_parse.specs.inner.Taken.{typ_told, exp_told, kept_of}
 
 -- ---- parts

@@ -28,12 +28,12 @@ use Rattle.st_parse_faults.proofs.JudgingLemmas as judging
 use Rattle.st_parse_faults.proofs.Verdicts.{verdict_reads}
 use Rattle.st_parse_faults.proofs.Loop.{Passes, passes_holds, token_passes, ends_well, ends_early}
 use Rattle.st_el.specs.Plain.{nowhere}
-use Rattle.st_draft.specs.declared.parts.Parts.{Parts}
-use Rattle.st_draft.specs.inner.Work.{Work, added_work, turned_work, MayTurn}
-use Rattle.st_draft.specs.inner.Drafts.{begun}
-use Rattle.st_draft.proofs.BeforeLemmas.{nothing_kept}
-use Rattle.st_draft.proofs.WorkSteps.{state_work}
-use Rattle.st_draft.proofs.WorkPositions.{turns}
+use Rattle.st_parse.specs.declared.parts.Parts.{Parts}
+use Rattle.st_parse.specs.inner.Work.{Work, added_work, turned_work, MayTurn}
+use Rattle.st_parse.specs.inner.Drafts.{begun}
+use Rattle.st_parse.proofs.BeforeLemmas.{nothing_kept}
+use Rattle.st_parse.proofs.WorkSteps.{state_work}
+use Rattle.st_parse.proofs.WorkPositions.{turns}
 use Rattle.st_parse.specs.declared.kept.Kept.{Kept}
 use Rattle.st_parse.specs.inner.Kept.{Draws, Keeps}
 use Rattle.st_parse.specs.inner.Found.{fault_of, Judged, end_of}

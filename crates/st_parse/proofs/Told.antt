@@ -23,19 +23,19 @@ use Rattle.st_parse_builder.specs.inner.Parts.{capped, above, kept}
 use Rattle.st_parse_builder.specs.inner.PieceHeights.{open_height}
 use Rattle.st_parse_builder.proofs.PartLemmas.{above_low, above_capped, by_height}
 use Rattle.st_parse_builder.proofs.Tallness.{highest_behind}
-use Rattle.st_draft.specs.declared.change.Change.{Change}
-use Rattle.st_draft.specs.declared.change.Change.TheVariants as change
-use Rattle.st_draft.specs.declared.draft.Draft.{Draft}
-use Rattle.st_draft.specs.declared.parts.PartTree.{PartTree}
-use Rattle.st_draft.specs.declared.parts.PartTree.TheVariants as tree
-use Rattle.st_draft.specs.inner.Drafts.{condition_node, span_or, each_of, shape_count, applied, ended, with_sides, params_put, args_put, typ_filled, notation_filled, exp_filled, condition_filled, count_filled}
-use Rattle.st_draft.specs.inner.Heights.{height_of, IsLow}
-use Rattle.st_draft.specs.inner.Parts.{exp_built, all_built, count_with, index_in, redrafted, refilled, tree_put}
-use Rattle.st_draft.specs.inner.Ready.{Awaits}
-use Rattle.st_draft.proofs.Low.{last_of}
-use Rattle.st_draft.proofs.Endings.{none_in}
+use Rattle.st_parse.specs.declared.change.Change.{Change}
+use Rattle.st_parse.specs.declared.change.Change.TheVariants as change
+use Rattle.st_parse.specs.declared.draft.Draft.{Draft}
+use Rattle.st_parse.specs.declared.parts.PartTree.{PartTree}
+use Rattle.st_parse.specs.declared.parts.PartTree.TheVariants as tree
+use Rattle.st_parse.specs.inner.Drafts.{condition_node, span_or, each_of, shape_count, applied, ended, with_sides, params_put, args_put, typ_filled, notation_filled, exp_filled, condition_filled, count_filled}
+use Rattle.st_parse.specs.inner.Heights.{height_of, IsLow}
+use Rattle.st_parse.specs.inner.Parts.{exp_built, all_built, count_with, index_in, redrafted, refilled, tree_put}
+use Rattle.st_parse.specs.inner.Ready.{Awaits}
+use Rattle.st_parse.proofs.Low.{last_of}
+use Rattle.st_parse.proofs.Endings.{none_in}
 use Rattle.st_parse.specs.declared.kept.Heights.{Heights}
-use Rattle.st_parse.specs.declared.parts.Part.{Part}
+use Rattle.st_parse.specs.declared.built_part.Part.{Part}
 use Rattle.st_parse.specs.inner.Kept.{no_heights, with_notation, heights_with, iterated, heights_behind, Told}
 use Rattle.st_parse.specs.inner.Taken.{typ_told, notation_told, exp_told, IsPart, kept_of, as_params, as_args, AreTaken}
 use Rattle.st_parse.proofs.Notes.{mapped, some_is}

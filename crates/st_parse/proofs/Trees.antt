@@ -24,24 +24,24 @@ use Rattle.st_parse_builder.specs.inner.NotationBuilding.{typ_built, notation_bu
 use Rattle.st_parse_builder.specs.Definitions.{prem_at}
 use Rattle.st_parse_builder.specs.DefHeights.{prem_height, field_type_height, def_node_height}
 use Rattle.st_parse_builder.proofs.Premises.{tall_each}
-use Rattle.st_draft.specs.declared.change.Change.{Change}
-use Rattle.st_draft.specs.declared.change.Change.TheVariants as change
-use Rattle.st_draft.specs.declared.change.DefinitionEnd.{DefinitionEnd}
-use Rattle.st_draft.specs.declared.change.DefinitionEnd.TheVariants as ending
-use Rattle.st_draft.specs.declared.draft.Draft.{Draft}
-use Rattle.st_draft.specs.declared.parts.PartTree.{PartTree}
-use Rattle.st_draft.specs.inner.Parts.{exp_built, all_built, count_with, index_in, redrafted, refilled, tree_put}
-use Rattle.st_draft.specs.inner.Drafts.{each_of, shape_count, node_of, def_put, applied, ended, begun, with_sides, params_put, args_put, typ_filled, notation_filled, exp_filled, condition_filled, count_filled}
+use Rattle.st_parse.specs.declared.change.Change.{Change}
+use Rattle.st_parse.specs.declared.change.Change.TheVariants as change
+use Rattle.st_parse.specs.declared.change.DefinitionEnd.{DefinitionEnd}
+use Rattle.st_parse.specs.declared.change.DefinitionEnd.TheVariants as ending
+use Rattle.st_parse.specs.declared.draft.Draft.{Draft}
+use Rattle.st_parse.specs.declared.parts.PartTree.{PartTree}
+use Rattle.st_parse.specs.inner.Parts.{exp_built, all_built, count_with, index_in, redrafted, refilled, tree_put}
+use Rattle.st_parse.specs.inner.Drafts.{each_of, shape_count, node_of, def_put, applied, ended, begun, with_sides, params_put, args_put, typ_filled, notation_filled, exp_filled, condition_filled, count_filled}
 use Rattle.st_parse_builder.specs.inner.Parts.{kept}
 use Rattle.st_parse_builder.specs.inner.PieceHeights.{open_height}
-use Rattle.st_draft.specs.inner.Heights.{height_of, IsLow}
-use Rattle.st_draft.specs.inner.Ready.{Ends, MayEnd, Ready, Awaits}
-use Rattle.st_draft.proofs.Low.{front_of}
-use Rattle.st_draft.proofs.Endings.{none_in, begun_clear, low_open}
+use Rattle.st_parse.specs.inner.Heights.{height_of, IsLow}
+use Rattle.st_parse.specs.inner.Ready.{Ends, MayEnd, Ready, Awaits}
+use Rattle.st_parse.proofs.Low.{front_of}
+use Rattle.st_parse.proofs.Endings.{none_in, begun_clear, low_open}
 use Rattle.st_parse.specs.Limits.{too_tall, first_that}
 use Rattle.st_parse.specs.declared.kept.Heights.{Heights}
 use Rattle.st_parse.specs.declared.kept.Kept.{Kept}
-use Rattle.st_parse.specs.declared.parts.Part.{Part}
+use Rattle.st_parse.specs.declared.built_part.Part.{Part}
 use Rattle.st_parse.specs.declared.variables.Variables.{Variables}
 use Rattle.st_parse.specs.inner.Kept.{Notes, no_heights, heights_with, heights_behind, Told, ended_high, checked, IsHigh, Stands, Holds, Draws}
 use Rattle.st_parse.specs.inner.Taken.{IsPart, AreTaken}

@@ -22,13 +22,13 @@ use Rattle.st_grammar.specs.declared.action.Action.{Action}
 use Rattle.st_parse_builder.specs.inner.Building.{Stack, run}
 use Rattle.st_parse_builder.specs.Variables.{Occurrence, occurrences}
 use Rattle.st_parse_builder.specs.Limits.{place_past}
-use Rattle.st_draft.specs.declared.draft.Draft.{Draft}
-use Rattle.st_draft.specs.declared.parts.Parts.{Parts}
-use Rattle.st_draft.specs.inner.Changes.{change_of, ending_of}
-use Rattle.st_draft.specs.inner.Drafts.{arguments_after, ended}
-use Rattle.st_draft.specs.inner.Parts.{word_of, redrafted, refilled}
-use Rattle.st_draft.specs.inner.Ready.{told, MayEnd, Ready, Awaits}
-use Rattle.st_draft.specs.inner.Work.{Work, work_of, arguments_with, worded_work, added_work, redrafted_work, ended_work, filled_work, turned_work, MayTurn, ended_defs, MayClose}
+use Rattle.st_parse.specs.declared.draft.Draft.{Draft}
+use Rattle.st_parse.specs.declared.parts.Parts.{Parts}
+use Rattle.st_parse.specs.inner.Changes.{change_of, ending_of}
+use Rattle.st_parse.specs.inner.Drafts.{arguments_after, ended}
+use Rattle.st_parse.specs.inner.Parts.{word_of, redrafted, refilled}
+use Rattle.st_parse.specs.inner.Ready.{told, MayEnd, Ready, Awaits}
+use Rattle.st_parse.specs.inner.Work.{Work, work_of, arguments_with, worded_work, added_work, redrafted_work, ended_work, filled_work, turned_work, MayTurn, ended_defs, MayClose}
 use Rattle.st_parse.specs.declared.kept.Kept.{Kept}
 use Rattle.st_parse.specs.declared.variables.Variables.{Variables}
 use Rattle.st_parse.specs.inner.Kept.{Notes, Draws, Keeps}

@@ -14,7 +14,7 @@ use Rattle.st_parse_builder.specs.Definitions as meant
 use Rattle.st_parse_builder.specs.Definitions.{condition, premises_meaning, patterns, defs_meaning}
 use Rattle.st_parse_builder.specs.Variables.{Occurrence, variables, seg_variables, prem_variables}
 use Rattle.st_parse_builder.specs.Limits.{place_past}
-use Rattle.st_draft.specs.Before.{before}
+use Rattle.st_parse.specs.Before.{before}
 use Rattle.st_parse.specs.Limits.{variable_past, first_that}
 
 -- ---- a part that is cut off

@@ -4,16 +4,20 @@ ghost use Rattle.std.specs.Prelude.{◌≡◌, [], map, ℕ, List, None, Some, I
 ghost use Rattle.st_el.specs.Plain.{nowhere};
 ghost use Rattle.st_grammar.specs.declared.action.Action.{Action};
 ghost use Rattle.st_parse_builder.specs.inner.Parts as built;
-ghost use Rattle.st_draft.specs.declared.draft.Draft.{Draft};
-ghost use Rattle.st_draft.specs.inner.Drafts as drafts;
-ghost use Rattle.st_draft.specs.inner.Parts as parts;
-ghost use Rattle.st_draft.specs.inner.Ready.{Ready, Awaits, MayEnd};
+ghost use Rattle.st_parse.specs.declared.draft.Draft.{Draft};
+ghost use Rattle.st_parse.specs.inner.Drafts as drafts;
+ghost use Rattle.st_parse.specs.inner.Parts as parts;
+ghost use Rattle.st_parse.specs.inner.Ready.{Ready, Awaits, MayEnd};
 ghost use Rattle.st_parse.specs.inner.Kept as spec;
 ghost use Rattle.st_parse.specs.inner.Taken.{IsPart, AreTaken};
 
-use crate::parts::Part;
+use crate::apply::redraft;
+use crate::built_part::Part;
+use crate::change::{Change, DefinitionEnd};
+use crate::definition::{begun, turn};
+use crate::draft::Draft;
+use crate::parts::{PartToken, fill};
 use crate::variables::{Variables, build_part, change_parts, count, no_variables};
-use st_draft::{Change, DefinitionEnd, Draft, PartToken, begun, fill, redraft, turn};
 use st_el::{Body, Def, DefNode, Exp, Typ};
 use st_grammar::Action;
 use st_num::{HIGHEST_TREE, NoMemory, Row, Span, Token};

@@ -6,15 +6,15 @@ ghost use Rattle.st_grammar.specs.Terminals as terminals;
 ghost use Rattle.st_parse_automaton.specs.inner.Readings.{progress_of};
 ghost use Rattle.st_parse_faults.specs.inner.Seen as seen;
 ghost use Rattle.st_parse_builder.specs.Variables.{Occurrence};
-ghost use Rattle.st_draft.specs.inner.Work.{Work, ended_defs, MayClose};
+ghost use Rattle.st_parse.specs.inner.Work.{Work, ended_defs, MayClose};
 ghost use Rattle.st_parse.specs.Source.{Answers};
 ghost use Rattle.st_parse.specs.inner.Kept.{Keeps, Tells};
 ghost use Rattle.st_parse.specs.inner.Cuts.{Opens, past_in};
 ghost use Rattle.st_parse.specs.inner.Found.{Found, fault_of};
 
 use crate::kept::{Kept, begun_kept};
+use crate::parts::{Parts, no_parts};
 use crate::take::{cut_off, finish, take};
-use st_draft::{Parts, no_parts};
 use st_el::Def;
 use st_num::{NoMemory, Row, RuleId, Token};
 use st_parse_automaton::{At, NameIndex, Position, Progress, declared_names, may_end, token_class};

@@ -1,135 +1,135 @@
-//! Parts that are built where they end.
+//! The part of a definition that is read.
 
-ghost use Rattle.std.specs.Prelude.{◌≡◌, ◌≢◌, ◌++◌, List, flat_map, Some, IfOk};
-ghost use Rattle.st_el.specs.declared.expression.Exp.{Exp};
-ghost use Rattle.st_el.specs.declared.ty.Typ.{Typ};
-ghost use Rattle.st_parse_builder.specs.Heights.{height, typ_height};
-ghost use Rattle.st_parse_builder.specs.Variables.{occurrences, variables};
-ghost use Rattle.st_parse_builder.specs.inner.NotationBuilding.{typ_built};
-ghost use Rattle.st_draft.specs.inner.Parts as parts;
-ghost use Rattle.st_parse.specs.inner.Taken.{IsTyp, IsNotation, IsExp, kept_of, AreTaken};
+ghost use Rattle.std.specs.Prelude.{◌≡◌, [], map, Some, IfOk};
+ghost use Rattle.st_parse.specs.inner.Parts as spec;
 
-use st_draft::{Change, PartTree};
-use st_el::{Exp, Typ};
+use crate::draft::Draft;
+use crate::members::{put_field, put_notation};
+use crate::premise::{put_condition, put_each};
+use crate::sides::{put_exp, put_typ};
+use st_el::{Count, Exp, Notation, Typ};
 use st_grammar::{Action, TokenRef};
-use st_num::{NoMemory, Row};
-use st_parse_builder::{Built, build, build_notation, build_typ, no_parts, with_part};
+use st_num::{Boxed, Name, NoMemory, Row};
+use st_parse_automaton::{Slot, TokenClass, opens_round};
+use st_parse_builder::copy_name;
 use std::alloc::Global;
 
-/// A part that ends: its tree, where that is not too high, and its height.
+/// A token of a part, as the parser sees it and as it stands in the text.
 #[derive(Drop)]
-pub struct Part {
-    pub tree: Option<PartTree>,
-    pub height: u8,
+pub struct PartToken<'a> {
+    pub class: TokenClass,
+    pub token: TokenRef<'a>,
 }
 
-/// The type of these actions.
-pub(crate) fn typ_part(alloc: Global, actions: &[Action<'_>]) -> Result<Part, NoMemory>
-    ensures { IfOk result (IsTyp actions.now) }
+/// The tree of a part that ends. An argument is built where it is known what it is.
+#[derive(Drop)]
+pub enum PartTree {
+    Typ(Typ),
+    Notation(Notation),
+    Exp(Exp),
+    Argument,
+}
+
+/// The actions of the part that is read, its tokens where it is a count, and the actions of the
+/// arguments before it.
+#[derive(Drop)]
+pub struct Parts<'a> {
+    pub arguments: Row<Row<Action<'a>>>,
+    pub actions: Row<Action<'a>>,
+    pub words: Row<PartToken<'a>>,
+}
+
+/// Nothing is read of a part yet.
+pub(crate) fn no_parts<'a>(alloc: Global) -> Parts<'a>
+    ensures arguments { result.arguments ≡ [] }
+    ensures actions { result.actions ≡ [] }
+    ensures words { result.words ≡ [] }
 {
-    let Built { tree, height, .. } = build_typ(alloc, actions)?;
-    match tree {
-        None => Ok(Part { tree: None, height }),
-        Some(typ) => Ok(Part {
-            tree: Some(PartTree::Typ(typ)),
-            height,
-        }),
+    Parts {
+        arguments: Row::new(alloc),
+        actions: Row::new(alloc),
+        words: Row::new(alloc),
     }
 }
 
-/// The notation of these actions. A type alone may be an alias, and is higher as a notation.
-pub(crate) fn notation_part(alloc: Global, actions: &[Action<'_>]) -> Result<Part, NoMemory>
-    ensures { IfOk result (IsNotation actions.now) }
+/// The count of a premise, with an index where its tokens begin so.
+fn count_with(alloc: Global, index: Option<Name>, exp: Exp) -> Result<Count, NoMemory>
+    ensures { IfOk result (λ count. count ≡ spec.count_with index exp) }
 {
-    let Built { tree, height, .. } = build_notation(alloc, actions)?;
-    match tree {
-        None => Ok(Part { tree: None, height }),
-        Some(notation) => Ok(Part {
-            tree: Some(PartTree::Notation(notation)),
-            height,
-        }),
+    let bound = Boxed::new(alloc, exp)?;
+    match index {
+        None => Ok(Count::Times(bound)),
+        Some(name) => Ok(Count::Below(name, bound)),
     }
 }
 
-/// The expression of these actions, whose variables are added to what is seen.
-pub(crate) fn exp_part<'a>(
+/// The index of a count that begins with these tokens.
+pub(crate) fn index_in(alloc: Global, words: &[PartToken<'_>]) -> Result<Option<Name>, NoMemory>
+    ensures { IfOk result (λ index. index ≡ spec.index_in (map spec.word_of words.now)) }
+{
+    let Some((first, rest)) = words.split_first() else {
+        return Ok(None);
+    };
+    let Some((second, _)) = rest.split_first() else {
+        return Ok(None);
+    };
+    if opens_round(first.class) {
+        return Ok(Some(copy_name(alloc, &second.token.get().kind)?));
+    }
+    Ok(None)
+}
+
+/// An expression goes into the draft where it ends, with so many parentheses open round it.
+fn fill_exp(
     alloc: Global,
-    actions: &[Action<'a>],
-    seen: &mut Row<TokenRef<'a>>,
-) -> Result<Part, NoMemory>
-    ensures part { IfOk result (IsExp actions.now) }
-    ensures seen { (e : Exp) → parts.exp_built actions.now ≡ Some e
-        → IfOk result (λ _. occurrences seen.new ≡ occurrences seen.old ++ variables e) }
+    slot: Slot,
+    around: usize,
+    exp: Exp,
+    words: &[PartToken<'_>],
+    draft: &mut Draft,
+) -> Result<(), NoMemory>
+    ensures { IfOk result (λ _. draft.new
+        ≡ spec.exp_put slot around exp (map spec.word_of words.now) draft.old) }
 {
-    let Built { tree, height, .. } = build(alloc, actions, seen)?;
-    match tree {
-        None => Ok(Part { tree: None, height }),
-        Some(exp) => Ok(Part {
-            tree: Some(PartTree::Exp(exp)),
-            height,
-        }),
-    }
-}
-
-/// The types of these arguments.
-fn build_types(alloc: Global, arguments: &[Row<Action<'_>>]) -> Result<Option<Row<Typ>>, NoMemory>
-    ensures { (ts : List Typ) → parts.all_built typ_built arguments.now ≡ Some ts
-        → IfOk result (λ typs. typs ≡ kept_of typ_height ts) }
-{
-    let mut typs = no_parts(alloc);
-    'arguments: for actions in arguments {
-        let typ = build_typ(alloc, actions.as_slice())?;
-        typs = with_part(typs, typ)?;
-    }
-    Ok(typs.tree)
-}
-
-/// The patterns of these arguments, whose variables are added to what is seen.
-fn build_patterns<'a>(
-    alloc: Global,
-    arguments: &[Row<Action<'a>>],
-    seen: &mut Row<TokenRef<'a>>,
-) -> Result<Option<Row<Exp>>, NoMemory>
-    ensures built { (es : List Exp) → parts.all_built parts.exp_built arguments.now ≡ Some es
-        → IfOk result (λ exps. exps ≡ kept_of height es) }
-    ensures seen { (es : List Exp) → parts.all_built parts.exp_built arguments.now ≡ Some es
-        → IfOk result (λ _.
-        occurrences seen.new ≡ occurrences seen.old ++ flat_map variables es) }
-{
-    let mut exps = no_parts(alloc);
-    'arguments: for actions in arguments {
-        let exp = build(alloc, actions.as_slice(), seen)?;
-        exps = with_part(exps, exp)?;
-    }
-    Ok(exps.tree)
-}
-
-/// The arguments that a change takes, as parameters or as patterns; none where one is too high.
-pub(crate) fn build_arguments<'a>(
-    alloc: Global,
-    change: Change,
-    arguments: &[Row<Action<'a>>],
-    seen: &mut Row<TokenRef<'a>>,
-) -> Result<Option<(Row<Typ>, Row<Exp>)>, NoMemory>
-    ensures taken { IfOk result (AreTaken change arguments.now) }
-    ensures args { change ≡ Change.Args → (es : List Exp)
-        → parts.all_built parts.exp_built arguments.now ≡ Some es → IfOk result (λ _.
-        occurrences seen.new ≡ occurrences seen.old ++ flat_map variables es) }
-    ensures same { change ≢ Change.Args → seen.new ≡ seen.old }
-{
-    match change {
-        Change::Params => {
-            let Some(params) = build_types(alloc, arguments)? else {
-                return Ok(None);
-            };
-            Ok(Some((params, Row::new(alloc))))
+    match slot {
+        Slot::Condition => {
+            put_condition(draft, exp);
+            Ok(())
         }
-        Change::Args => {
-            let Some(args) = build_patterns(alloc, arguments, seen)? else {
-                return Ok(None);
-            };
-            Ok(Some((Row::new(alloc), args)))
+        Slot::Count => {
+            let index = index_in(alloc, words)?;
+            let count = count_with(alloc, index, exp)?;
+            put_each(alloc, draft, around, count)
         }
-        _ => Ok(Some((Row::new(alloc), Row::new(alloc)))),
+        _ => {
+            put_exp(draft, exp);
+            Ok(())
+        }
+    }
+}
+
+/// A part that ends with this tree, with so many brackets open round it, goes into the draft.
+pub(crate) fn fill(
+    alloc: Global,
+    slot: Slot,
+    around: usize,
+    tree: PartTree,
+    words: &[PartToken<'_>],
+    draft: &mut Draft,
+) -> Result<(), NoMemory>
+    ensures { IfOk result (λ _. draft.new
+        ≡ spec.tree_put slot around tree (map spec.word_of words.now) draft.old) }
+{
+    match tree {
+        PartTree::Typ(typ) => match slot {
+            Slot::Field => put_field(alloc, draft, typ),
+            _ => {
+                put_typ(draft, typ);
+                Ok(())
+            }
+        },
+        PartTree::Notation(notation) => put_notation(draft, notation),
+        PartTree::Exp(exp) => fill_exp(alloc, slot, around, exp, words, draft),
+        PartTree::Argument => Ok(()),
     }
 }

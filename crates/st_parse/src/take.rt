@@ -6,18 +6,19 @@ ghost use Rattle.st_grammar.specs.declared.sort.Bracket.{Bracket};
 ghost use Rattle.st_parse_automaton.specs.inner.PartAutomaton as automaton;
 ghost use Rattle.st_parse_automaton.specs.inner.Readings.{progress_of, reading_of};
 ghost use Rattle.st_parse_builder.specs.Variables.{Occurrence};
-ghost use Rattle.st_draft.specs.declared.draft.Draft.{Draft};
-ghost use Rattle.st_draft.specs.inner.Changes.{change_of};
-ghost use Rattle.st_draft.specs.inner.Drafts.{arguments_after};
-ghost use Rattle.st_draft.specs.inner.Ready.{Ready, Awaits};
-ghost use Rattle.st_draft.specs.inner.Work as spec;
-ghost use Rattle.st_draft.specs.inner.Work.{Work};
+ghost use Rattle.st_parse.specs.declared.draft.Draft.{Draft};
+ghost use Rattle.st_parse.specs.inner.Changes.{change_of};
+ghost use Rattle.st_parse.specs.inner.Drafts.{arguments_after};
+ghost use Rattle.st_parse.specs.inner.Ready.{Ready, Awaits};
+ghost use Rattle.st_parse.specs.inner.Work as spec;
+ghost use Rattle.st_parse.specs.inner.Work.{Work};
 ghost use Rattle.st_parse.specs.inner.Cuts.{Parted, Opens, Counts, past_in};
 ghost use Rattle.st_parse.specs.inner.Kept.{Keeps, Tells};
 
+use crate::change::{Change, change_of, ending_of};
 use crate::kept::{Kept, change_kept, end_kept, fill_kept};
+use crate::parts::{PartToken, Parts};
 use crate::variables::{count, note_cut};
-use st_draft::{Change, PartToken, Parts, change_of, ending_of};
 use st_grammar::{Action, TokenRef};
 use st_num::{NoMemory, Row, Token};
 use st_parse_automaton::{

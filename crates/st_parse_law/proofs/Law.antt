@@ -19,8 +19,8 @@ use Rattle.st_el.specs.declared.context.Around.TheVariants.{Brackets}
 use Rattle.st_el.specs.Contexts.{whole}
 use Rattle.st_el.specs.SourceText.{source_text}
 use Rattle.st_parse_builder.specs.Meaning.{meaning, meanings}
-use Rattle.st_parse_exp.specs.Expressions.{terminals_of}
-use Rattle.st_parse_exp.specs.Parse.{ParseExps}
+use Rattle.st_parse.specs.Expressions.{terminals_of}
+use Rattle.st_parse.specs.ExpressionSource.{ParseExps}
 use Rattle.st_grammar.proofs.TerminalTokens.{terminal_token}
 use Rattle.st_parse_law.specs.Written.{IsAllowed, AreApart}
 use Rattle.st_parse_law.specs.ReadBack.{IsOfFile, AreOfFiles, MeanAgain, ReadBack}

@@ -39,7 +39,7 @@ use Rattle.st_parse_law.proofs.Parts.{part_as}
 use Rattle.st_parse_law.proofs.Wraps.{signed, no_atom_at}
 use Rattle.st_parse_law.proofs.Placed.{Home, sort_of, bare_traits, place_traits, Printable, printable, placed, normal}
 use Rattle.st_parse_law.proofs.Suffixes.{Suffix, suffixed}
-use Rattle.st_parse_exp.proofs.SeenView.{and_false}
+use Rattle.st_parse.proofs.ExpressionSeenView.{and_false}
 
 -- nodes with the same plain parts are the same in plain trees
 pub same_plain :

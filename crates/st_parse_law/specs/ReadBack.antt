@@ -5,7 +5,7 @@ use Rattle.st_scan.specs.Tokens.{Tokens}
 use Rattle.st_el.specs.declared.expression.Exp.{Exp}
 use Rattle.st_el.specs.SourceText.{source_text}
 use Rattle.st_el.specs.Plain.{plain_exp}
-use Rattle.st_parse_exp.specs.Parse.{ParseExps}
+use Rattle.st_parse.specs.ExpressionSource.{ParseExps}
 
 -- the token is one of a file
 pub record IsOfFile (token : Token) : Type 0 where

@@ -6,7 +6,7 @@ ghost use Rattle.st_scan.specs.Tokens.{Tokens};
 ghost use Rattle.st_el.specs.declared.expression.Exp.{Exp};
 ghost use Rattle.st_el.specs.declared.definition.Def.{Def};
 ghost use Rattle.st_parse_builder.specs.Definitions.{Parse};
-ghost use Rattle.st_parse_exp.specs.Parse.{ParseExps};
+ghost use Rattle.st_parse.specs.ExpressionSource.{ParseExps};
 ghost use Rattle.st_parse_law.specs.Written.{Piece, AreApart, bytes_of, shape, shapes};
 ghost use Rattle.st_parse_law.specs.ReadBack.{AreOfFiles, ReadBack};
 ghost use Rattle.st_parse_law.specs.DefExps.{exps_of};

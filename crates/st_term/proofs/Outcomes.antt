@@ -12,10 +12,10 @@ use Rattle.st_scan.proofs.Answers.{only_list, only_fault}
 use Rattle.st_el.specs.declared.expression.Exp.{Exp}
 use Rattle.st_parse_builder.specs.Heights.{highest, height}
 use Rattle.st_parse_faults.specs.Place.{place_at}
-use Rattle.st_parse_exp.specs.Faults as file
-use Rattle.st_parse_exp.specs.Parse.{ParseExps, FaultAt}
-use Rattle.st_parse_exp.proofs.Exact.{one_fault, never_both}
-use Rattle.st_parse_exp.proofs.Parsing.{one_meaning}
+use Rattle.st_parse.specs.ExpressionFaults as file
+use Rattle.st_parse.specs.ExpressionSource.{ParseExps, FaultAt}
+use Rattle.st_parse.proofs.ExpressionExact.{one_fault, never_both}
+use Rattle.st_parse.proofs.ExpressionParsing.{one_meaning}
 use Rattle.st_elab_table.specs.declared.decls.Decls.{Decls}
 use Rattle.st_elab_table.specs.declared.decls.Scope.{Scope}
 use Rattle.st_elab_table.specs.Questions.{Question, Made, Breach, Answer, Gives, Fails}

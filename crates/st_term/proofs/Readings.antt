@@ -8,7 +8,7 @@ use Rattle.st_num.specs.declared.token.Token.{Token}
 use Rattle.st_scan.specs.Answers.{TellsFirst}
 use Rattle.st_scan.specs.Tokens.{Tokens}
 use Rattle.st_el.specs.declared.expression.Exp.{Exp}
-use Rattle.st_parse_exp.specs.Parse.{Answers}
+use Rattle.st_parse.specs.ExpressionSource.{Answers}
 use Rattle.st_dims.specs.declared.within.Within.{Within}
 use Rattle.st_il.specs.declared.ty.Ty.{Ty}
 use Rattle.st_il.specs.declared.expression.IlExp.{IlExp}

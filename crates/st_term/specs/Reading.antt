@@ -9,7 +9,7 @@ use Rattle.st_scan.specs.Tokens.{Tokens}
 use Rattle.st_scan.specs.Faults.{FirstFault}
 use Rattle.st_el.specs.declared.expression.Exp.{Exp}
 use Rattle.st_parse_builder.specs.Heights.{highest, height}
-use Rattle.st_parse_exp.specs.Parse.{IsFile, FaultAt, HeightFault}
+use Rattle.st_parse.specs.ExpressionSource.{IsFile, FaultAt, HeightFault}
 use Rattle.st_il.specs.declared.ty.Ty.{Ty}
 use Rattle.st_il.specs.declared.expression.IlExp.{IlExp}
 use Rattle.st_il.specs.declared.value.Value.{Value}

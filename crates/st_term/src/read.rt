@@ -18,7 +18,7 @@ use st_el::Exp;
 use st_elab_exp::{Decls, Scope, check_parts, infer_exp};
 use st_il::{IlExp, Ty, Value};
 use st_num::{Dim, Fault, Name, NoMemory, Row, RuleId, Span};
-use st_parse_exp::parse_exp;
+use st_parse::parse_exp;
 use st_scan::scan;
 use std::alloc::Global;
 

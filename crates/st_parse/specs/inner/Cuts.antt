@@ -14,9 +14,9 @@ use Rattle.st_parse_builder.specs.inner.Building.{Stack, run}
 use Rattle.st_parse_builder.specs.Variables.{Occurrence, occurrences}
 use Rattle.st_parse_builder.specs.Limits.{place_past}
 use Rattle.st_parse_builder.specs.inner.PieceVariables.{stack_variables}
-use Rattle.st_draft.specs.declared.draft.Draft.{Draft}
-use Rattle.st_draft.specs.inner.Ready.{told, asked, Awaits}
-use Rattle.st_draft.specs.inner.Work.{Work, filled_work}
+use Rattle.st_parse.specs.declared.draft.Draft.{Draft}
+use Rattle.st_parse.specs.inner.Ready.{told, asked, Awaits}
+use Rattle.st_parse.specs.inner.Work.{Work, filled_work}
 use Rattle.st_parse.specs.declared.variables.Variables.{Variables}
 use Rattle.st_parse.specs.Limits.{variable_past, first_that}
 

@@ -13,18 +13,18 @@ use Rattle.st_parse_builder.specs.Heights.{highest, notation_height}
 use Rattle.st_parse_builder.specs.DefHeights.{prem_height}
 use Rattle.st_parse_builder.specs.Variables.{occurrences}
 use Rattle.st_parse_builder.specs.inner.Parts.{above}
-use Rattle.st_draft.specs.declared.change.Change.{Change}
-use Rattle.st_draft.specs.declared.change.Change.TheVariants as change
-use Rattle.st_draft.specs.declared.change.DefinitionEnd.{DefinitionEnd}
-use Rattle.st_draft.specs.declared.change.DefinitionEnd.TheVariants as ending
-use Rattle.st_draft.specs.declared.draft.Draft.{Draft}
-use Rattle.st_draft.specs.declared.parts.Parts.{Parts}
-use Rattle.st_draft.specs.inner.Heights.{height_of, IsLow}
-use Rattle.st_draft.specs.inner.Ready.{told, asked}
-use Rattle.st_draft.specs.inner.Work.{Work, work_of}
+use Rattle.st_parse.specs.declared.change.Change.{Change}
+use Rattle.st_parse.specs.declared.change.Change.TheVariants as change
+use Rattle.st_parse.specs.declared.change.DefinitionEnd.{DefinitionEnd}
+use Rattle.st_parse.specs.declared.change.DefinitionEnd.TheVariants as ending
+use Rattle.st_parse.specs.declared.draft.Draft.{Draft}
+use Rattle.st_parse.specs.declared.parts.Parts.{Parts}
+use Rattle.st_parse.specs.inner.Heights.{height_of, IsLow}
+use Rattle.st_parse.specs.inner.Ready.{told, asked}
+use Rattle.st_parse.specs.inner.Work.{Work, work_of}
 use Rattle.st_parse.specs.declared.kept.Heights.{Heights}
 use Rattle.st_parse.specs.declared.kept.Kept.{Kept}
-use Rattle.st_parse.specs.declared.parts.Part.{Part}
+use Rattle.st_parse.specs.declared.built_part.Part.{Part}
 use Rattle.st_parse.specs.declared.variables.Variables.{Variables}
 use Rattle.st_parse.specs.Limits.{variable_past, too_tall, first_that}
 

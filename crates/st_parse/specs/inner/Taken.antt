@@ -11,11 +11,11 @@ use Rattle.st_parse_builder.specs.Heights.{highest, height, typ_height, notation
 use Rattle.st_parse_builder.specs.inner.PieceHeights.{open_height}
 use Rattle.st_parse_builder.specs.inner.Parts.{capped, kept}
 use Rattle.st_parse_builder.specs.inner.NotationBuilding.{typ_built, notation_built}
-use Rattle.st_draft.specs.declared.change.Change.{Change}
-use Rattle.st_draft.specs.declared.change.Change.TheVariants as change
-use Rattle.st_draft.specs.declared.parts.PartTree.TheVariants as tree
-use Rattle.st_draft.specs.inner.Parts.{exp_built, all_built}
-use Rattle.st_parse.specs.declared.parts.Part.{Part}
+use Rattle.st_parse.specs.declared.change.Change.{Change}
+use Rattle.st_parse.specs.declared.change.Change.TheVariants as change
+use Rattle.st_parse.specs.declared.parts.PartTree.TheVariants as tree
+use Rattle.st_parse.specs.inner.Parts.{exp_built, all_built}
+use Rattle.st_parse.specs.declared.built_part.Part.{Part}
 
 -- ---- parts
 

@@ -1,7 +1,7 @@
 use Rattle.std.proofs.Common.{refl, sym, ap, subst, ◌∙◌}
 use Rattle.st_el.specs.Plain.{nowhere}
-use Rattle.st_draft.specs.inner.Drafts.{begun, ended}
-use Rattle.st_draft.proofs.Endings.{begun_clear}
+use Rattle.st_parse.specs.inner.Drafts.{begun, ended}
+use Rattle.st_parse.proofs.Endings.{begun_clear}
 use Rattle.st_parse.specs.inner.Kept.{ended_high, Stands}
 use Rattle.st_parse.proofs.Notes.{turned}
 use Rattle.st_parse.proofs.Trees.{ended_so}

@@ -1,6 +1,6 @@
 use Rattle.std.proofs.Common.{map, sym, ap, subst, ◌∙◌}
 use Rattle.st_parse_builder.specs.inner.Parts.{kept}
-use Rattle.st_draft.specs.inner.Parts.{word_of}
+use Rattle.st_parse.specs.inner.Parts.{word_of}
 use Rattle.st_parse.specs.declared.kept.Heights.{Heights}
 use Rattle.st_parse.specs.inner.Kept.{Stands}
 use Rattle.st_parse.proofs.Trees.{filled_so, filled_high}

@@ -1,5 +1,5 @@
 use Rattle.std.proofs.Common.{map, ap}
-use Rattle.st_draft.specs.inner.Parts.{word_of}
+use Rattle.st_parse.specs.inner.Parts.{word_of}
 use Rattle.st_parse.proofs.Works.{part_keeps}
 use Rattle.st_parse.proofs.take.end_part.Goals as goal
 

@@ -1,10 +1,10 @@
 use Rattle.std.proofs.Common.{reverse, IfOk, sym, ap, subst, ◌∙◌}
 use Rattle.std.proofs.lemmas.List.{length-reverse}
 use Rattle.st_parse_automaton.specs.inner.Readings.{progress_of, reading_of}
-use Rattle.st_draft.specs.inner.Changes.{ending_of}
-use Rattle.st_draft.specs.inner.Drafts.{ended}
-use Rattle.st_draft.specs.inner.Ready.{MayEnd}
-use Rattle.st_draft.specs.inner.Work.{filled_work, added_work}
+use Rattle.st_parse.specs.inner.Changes.{ending_of}
+use Rattle.st_parse.specs.inner.Drafts.{ended}
+use Rattle.st_parse.specs.inner.Ready.{MayEnd}
+use Rattle.st_parse.specs.inner.Work.{filled_work, added_work}
 use Rattle.st_parse_automaton.specs.inner.PartAutomaton.{finishing}
 use Rattle.st_parse.specs.inner.Kept.{Tells}
 use Rattle.st_parse.proofs.Works.{added_keeps, closes}

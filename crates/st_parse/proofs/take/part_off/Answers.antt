@@ -1,7 +1,7 @@
 use Rattle.std.proofs.Common.{sym, ◌∙◌}
 use Rattle.st_parse_automaton.specs.inner.PartAutomaton as parts
 use Rattle.st_parse_automaton.specs.inner.Readings.{reading_of}
-use Rattle.st_draft.specs.inner.Work.{added_work}
+use Rattle.st_parse.specs.inner.Work.{added_work}
 use Rattle.st_parse.proofs.Works.{added_keeps, part_ended, part_cut}
 use Rattle.st_parse.proofs.take.part_off.Goals as goal
 

@@ -1,8 +1,8 @@
 use Rattle.std.proofs.Common.{sym, ap, subst, ◌∙◌}
 use Rattle.st_parse_automaton.specs.inner.Readings.{progress_of}
-use Rattle.st_draft.specs.inner.Drafts.{arguments_after}
-use Rattle.st_draft.specs.inner.Parts.{redrafted}
-use Rattle.st_draft.specs.inner.Ready.{Ready}
+use Rattle.st_parse.specs.inner.Drafts.{arguments_after}
+use Rattle.st_parse.specs.inner.Parts.{redrafted}
+use Rattle.st_parse.specs.inner.Ready.{Ready}
 use Rattle.st_parse.proofs.Works.{redrafted_keeps}
 use Rattle.st_parse.proofs.take.redraft.Goals as goal
 

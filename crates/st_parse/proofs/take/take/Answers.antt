@@ -1,4 +1,4 @@
-use Rattle.st_draft.specs.inner.Work.{added_work}
+use Rattle.st_parse.specs.inner.Work.{added_work}
 use Rattle.st_parse.proofs.Works.{added_keeps}
 use Rattle.st_parse.proofs.take.take.Goals as goal
 

@@ -1,6 +1,6 @@
 use Rattle.std.proofs.Common.{sym, ap, subst, ◌∙◌}
 use Rattle.st_parse_automaton.specs.inner.Readings.{progress_of}
-use Rattle.st_draft.specs.inner.Work.{turned_work, MayTurn}
+use Rattle.st_parse.specs.inner.Work.{turned_work, MayTurn}
 use Rattle.st_parse.proofs.Works.{words_keep, left}
 use Rattle.st_parse.proofs.take.turn.Goals as goal
 

@@ -1,5 +1,5 @@
 use Rattle.std.proofs.Common.{map, refl}
-use Rattle.st_draft.specs.inner.Parts.{word_of, index_in}
+use Rattle.st_parse.specs.inner.Parts.{word_of, index_in}
 use Rattle.st_parse_builder.specs.Variables.{occurrences}
 use Rattle.st_parse.proofs.Notes.{rule_part, condition_part, counted, count_part}
 use Rattle.st_parse.proofs.variables.build_part.Goals as goal

@@ -1,5 +1,5 @@
 use Rattle.std.proofs.Common.{map, refl, sym, ◌∙◌}
-use Rattle.st_draft.specs.inner.Parts.{word_of, index_in}
+use Rattle.st_parse.specs.inner.Parts.{word_of, index_in}
 use Rattle.st_parse.proofs.Notes.{all_stay, index_left}
 use Rattle.st_parse.proofs.variables.leave_index.Goals as goal
 

@@ -1,3 +1,0 @@
--- What the reader keeps, for its proofs alone.
-pub mod Seen
-pub mod Drafts
