@@ -9,3 +9,4 @@ pub mod Verdicts
 pub mod Loop
 pub mod Exact
 pub mod Stepping
+pub mod NumberFacts

@@ -8,6 +8,10 @@ pub mod Nesting
 pub mod Counts
 -- how many parts, elements and signs stand between the same brackets
 pub mod Limits
+-- what a token begins, with its number
+pub mod Number
+-- what each token of a tree begins
+pub mod Numbers
 -- tokens are judged one after another, up to the first that breaks a rule
 pub mod Judging
 -- the first token that breaks a rule, and the rule

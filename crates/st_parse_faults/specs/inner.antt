@@ -1,3 +1,4 @@
 -- What the parser keeps of what is counted, for its proofs alone.
 pub mod Roles
 pub mod Seen
+pub mod Numbering
