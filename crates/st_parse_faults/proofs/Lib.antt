@@ -10,3 +10,5 @@ pub mod Loop
 pub mod Exact
 pub mod Stepping
 pub mod NumberFacts
+pub mod NumberBegins
+pub mod NumberSteps
