@@ -12,3 +12,4 @@ pub mod Stepping
 pub mod NumberFacts
 pub mod NumberBegins
 pub mod NumberSteps
+pub mod PositionNumberFacts

@@ -12,6 +12,8 @@ pub mod Limits
 pub mod Number
 -- what each token of a tree begins
 pub mod Numbers
+-- what each token of definitions begins
+pub mod DefinitionNumbers
 -- tokens are judged one after another, up to the first that breaks a rule
 pub mod Judging
 -- the first token that breaks a rule, and the rule

@@ -79,6 +79,11 @@ post_entry σ t l = if is_in_name σ t l then [] else number.row (posts σ t + 1
 abbrev pub label_entry : List Number → Terminal → List Number
 label_entry b l = if is_label l then b else []
 
+-- none of these tokens begins anything
+abbrev pub no_entries : List Terminal → List (List Number)
+no_entries [] = []
+no_entries (l ∷ ls) = [] ∷ no_entries ls
+
 -- a bracket or length that opens, so many with it, where this begins too
 abbrev pub open_entry : List Number → ℕ → List Number
 open_entry b n = b ++ number.opened n ∷ []
@@ -134,4 +139,4 @@ abbrev mutual
   pub element_numbers : Context → Trees → List (List Number)
   element_numbers c none = []
   element_numbers c (more ts pre t) =
-      element_numbers c ts ++ (map (label_entry []) pre ++ numbers (next_element c ts) t)
+      element_numbers c ts ++ (no_entries pre ++ numbers (next_element c ts) t)

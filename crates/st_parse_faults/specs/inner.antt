@@ -2,3 +2,4 @@
 pub mod Roles
 pub mod Seen
 pub mod Numbering
+pub mod PositionNumbers
