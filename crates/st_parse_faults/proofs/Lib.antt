@@ -13,3 +13,4 @@ pub mod NumberFacts
 pub mod NumberBegins
 pub mod NumberSteps
 pub mod PositionNumberFacts
+pub mod PositionNumberSteps

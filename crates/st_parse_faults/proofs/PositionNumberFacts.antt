@@ -27,7 +27,7 @@ use Rattle.st_parse_faults.specs.Counts.{member_due, event, counts_after, counts
 use Rattle.st_parse_faults.specs.Number as number
 use Rattle.st_parse_faults.specs.Number.{Number, too_deep, too_many}
 use Rattle.st_parse_faults.specs.Numbers.{Context, label_entry, no_entries, open_entry, numbers}
-use Rattle.st_parse_faults.specs.DefinitionNumbers.{members_size, premises_size, defs_size, iterations_row, word_entry, word_numbers, hints_numbers, alone, next_member, field_numbers, case_numbers, body_numbers, paren_numbers, next_iteration, iteration_numbers, premise_numbers, next_premise, premises_numbers, argument_numbers, args_numbers, next_def, defs_numbers}
+use Rattle.st_parse_faults.specs.DefinitionNumbers.{members_size, premises_size, defs_size, iterations_row, word_entry, word_numbers, hints_numbers, alone, member_begins, field_numbers, case_numbers, body_numbers, paren_numbers, iteration_begins, iteration_numbers, premise_numbers, premise_begins, premises_numbers, argument_numbers, args_numbers, def_begins, defs_numbers}
 use Rattle.st_parse_faults.specs.Nesting.{nesting_after, may_open}
 use Rattle.st_parse_faults.specs.inner.PositionNumbers.{head_numbers, rule_numbers, ruled_numbers, host_depth, host_numbers, slot_numbers, slot_depth, slot_begins, slot_context, position_numbers, read_numbers, brackets_behind, position_brackets, counts, last_row, defs_counts, head_number, rule_counts, host_counts, slot_counts, inner_counts, position_counts, counts_in}
 use Rattle.st_parse_faults.proofs.KeptTallies.{neither}
@@ -377,7 +377,7 @@ host_wholes (of_relation ds w r) hs = tt
 host_wholes (of_notation ds w r hs c t) ks = record { entries = simp append_assoc; counted = refl; closed = refl }
 host_wholes (of_fun ds w f a c t) hs = record { entries = simp append_assoc; counted = refl; closed = refl }
 
-given_numbers : (r : Rule) (t : Tree) (ps : Premises) (d : Terminal) (os ls : List Terminal) (u : Tree) (i : Iterations) → position_numbers (iterated r t ps d os ls u i) ≡ ruled_numbers r t (more_premises ps (given d os ls u i))
+pub given_numbers : (r : Rule) (t : Tree) (ps : Premises) (d : Terminal) (os ls : List Terminal) (u : Tree) (i : Iterations) → position_numbers (iterated r t ps d os ls u i) ≡ ruled_numbers r t (more_premises ps (given d os ls u i))
 given_numbers r t ps d os ls u i = simp append_assoc
 
 pub wholes : (p : Position) → WholeAs p (whole p)

@@ -65,15 +65,15 @@ abbrev pub alone : Sort → ℕ → List Number → Context
 alone σ k b = context σ 0 0 k b
 
 -- a next member begins behind these
-abbrev pub next_member : Members → List Number
-next_member ms = number.member (members_size ms + 1) ∷ []
+abbrev pub member_begins : Members → List Number
+member_begins ms = number.member (members_size ms + 1) ∷ []
 
 -- what each token of fields begins; the name of a field begins it
 abbrev pub field_numbers : Members → List (List Number)
 field_numbers no_members = []
 field_numbers (member ms pre t hs) =
     field_numbers ms
-    ++ (map (label_entry (next_member ms)) pre
+    ++ (map (label_entry (member_begins ms)) pre
     ++ (numbers (alone typ 1 []) t ++ hints_numbers 1 hs))
 
 -- what each token of alternatives begins
@@ -81,7 +81,7 @@ abbrev pub case_numbers : Members → List (List Number)
 case_numbers no_members = []
 case_numbers (member ms pre t hs) =
     case_numbers ms
-    ++ (no_entries pre ++ (numbers (alone notation 0 (next_member ms)) t ++ hints_numbers 0 hs))
+    ++ (no_entries pre ++ (numbers (alone notation 0 (member_begins ms)) t ++ hints_numbers 0 hs))
 
 -- what each token of a body begins
 abbrev pub body_numbers : Body → List (List Number)
@@ -96,16 +96,16 @@ paren_numbers k [] = []
 paren_numbers k (o ∷ os) = open_entry [] (k + 1) ∷ paren_numbers (k + 1) os
 
 -- a next iteration begins behind these
-abbrev pub next_iteration : Iterations → List Number
-next_iteration i = number.iteration (iterations_row i + 1) ∷ []
+abbrev pub iteration_begins : Iterations → List Number
+iteration_begins i = number.iteration (iterations_row i + 1) ∷ []
 
 -- what each token behind a condition begins, where so many `(` stand before it
 abbrev pub iteration_numbers : ℕ → Iterations → List (List Number)
 iteration_numbers k no_iterations = []
 iteration_numbers k (closed i l) = iteration_numbers k i ++ [] ∷ []
-iteration_numbers k (marked i l) = iteration_numbers k i ++ next_iteration i ∷ []
+iteration_numbers k (marked i l) = iteration_numbers k i ++ iteration_begins i ∷ []
 iteration_numbers k (counted i l t) =
-    iteration_numbers k i ++ (next_iteration i ∷ numbers (alone count (k - closings i) []) t)
+    iteration_numbers k i ++ (iteration_begins i ∷ numbers (alone count (k - closings i) []) t)
 
 -- what each token of a premise begins, where its `--` begins this
 abbrev pub premise_numbers : List Number → Premise → List (List Number)
@@ -117,14 +117,14 @@ premise_numbers b (given d os ls t i) =
     ++ (numbers (alone (expression false) (length os) []) t ++ iteration_numbers (length os) i)))
 
 -- a next premise begins behind these
-abbrev pub next_premise : Premises → List Number
-next_premise ps = number.premise (premises_size ps + 1) ∷ []
+abbrev pub premise_begins : Premises → List Number
+premise_begins ps = number.premise (premises_size ps + 1) ∷ []
 
 -- what each token of premises begins
 abbrev pub premises_numbers : Premises → List (List Number)
 premises_numbers no_premises = []
 premises_numbers (more_premises ps p) =
-    premises_numbers ps ++ premise_numbers (next_premise ps) p
+    premises_numbers ps ++ premise_numbers (premise_begins ps) p
 
 -- ---- definitions
 
@@ -164,10 +164,10 @@ def_numbers b (clause_def w f a e t ps) =
     ++ ([] ∷ (numbers (alone (expression false) 0 []) t ++ premises_numbers ps)))
 
 -- a next definition begins behind these
-abbrev pub next_def : Defs → List Number
-next_def ds = number.definition (defs_size ds + 1) ∷ []
+abbrev pub def_begins : Defs → List Number
+def_begins ds = number.definition (defs_size ds + 1) ∷ []
 
 -- what each token of definitions begins
 abbrev pub defs_numbers : Defs → List (List Number)
 defs_numbers no_defs = []
-defs_numbers (more_defs ds d) = defs_numbers ds ++ def_numbers (next_def ds) d
+defs_numbers (more_defs ds d) = defs_numbers ds ++ def_numbers (def_begins ds) d

@@ -12,7 +12,7 @@ use Rattle.st_parse_faults.specs.Nesting.{nesting_after}
 use Rattle.st_parse_faults.specs.Number as number
 use Rattle.st_parse_faults.specs.Number.{Number}
 use Rattle.st_parse_faults.specs.Numbers.{Context, context, label_entry, no_entries, open_entry, numbers}
-use Rattle.st_parse_faults.specs.DefinitionNumbers.{members_size, premises_size, defs_size, iterations_row, word_numbers, hints_numbers, alone, next_member, field_numbers, case_numbers, paren_numbers, next_iteration, iteration_numbers, next_premise, premises_numbers, next_argument, argument_numbers, args_numbers, next_def, defs_numbers}
+use Rattle.st_parse_faults.specs.DefinitionNumbers.{members_size, premises_size, defs_size, iterations_row, word_numbers, hints_numbers, alone, member_begins, field_numbers, case_numbers, paren_numbers, iteration_begins, iteration_numbers, premise_begins, premises_numbers, next_argument, argument_numbers, args_numbers, def_begins, defs_numbers}
 use Rattle.st_parse_faults.specs.Limits.{signs_before}
 use Rattle.st_parse_faults.specs.inner.Numbering.{state_numbers, part_brackets}
 
@@ -22,14 +22,14 @@ use Rattle.st_parse_faults.specs.inner.Numbering.{state_numbers, part_brackets}
 abbrev pub head_numbers : Head → List (List Number)
 head_numbers (syntax_head ds w x ls hs e) =
     defs_numbers ds
-    ++ (next_def ds ∷ [] ∷ (no_entries ls ++ (hints_numbers 0 hs ++ [] ∷ [])))
+    ++ (def_begins ds ∷ [] ∷ (no_entries ls ++ (hints_numbers 0 hs ++ [] ∷ [])))
 
 -- the entries of a rule or a clause up to its conclusion or result
 abbrev pub rule_numbers : Rule → List (List Number)
 rule_numbers (rule_head ds w r ls c) =
-    defs_numbers ds ++ (next_def ds ∷ [] ∷ (no_entries ls ++ [] ∷ []))
+    defs_numbers ds ++ (def_begins ds ∷ [] ∷ (no_entries ls ++ [] ∷ []))
 rule_numbers (clause_head ds w f a e) =
-    defs_numbers ds ++ (next_def ds ∷ [] ∷ (args_numbers a ++ [] ∷ []))
+    defs_numbers ds ++ (def_begins ds ∷ [] ∷ (args_numbers a ++ [] ∷ []))
 
 -- the entries of a rule or a clause up to these premises
 abbrev pub ruled_numbers : Rule → Tree → Premises → List (List Number)
@@ -43,48 +43,48 @@ host_depth h = 0
 
 -- the entries of what hints stand behind
 abbrev pub host_numbers : Host → List (List Number)
-host_numbers (of_syntax ds w x ls) = defs_numbers ds ++ (next_def ds ∷ [] ∷ no_entries ls)
+host_numbers (of_syntax ds w x ls) = defs_numbers ds ++ (def_begins ds ∷ [] ∷ no_entries ls)
 host_numbers (of_field h o ms pre t) =
     head_numbers h
     ++ (open_entry [] 1
     ∷ (field_numbers ms
-    ++ (map (label_entry (next_member ms)) pre ++ numbers (alone typ 1 []) t)))
+    ++ (map (label_entry (member_begins ms)) pre ++ numbers (alone typ 1 []) t)))
 host_numbers (of_case h ms pre t) =
     head_numbers h
-    ++ (case_numbers ms ++ (no_entries pre ++ numbers (alone notation 0 (next_member ms)) t))
+    ++ (case_numbers ms ++ (no_entries pre ++ numbers (alone notation 0 (member_begins ms)) t))
 host_numbers (of_var ds w x c t) =
-    defs_numbers ds ++ (next_def ds ∷ [] ∷ [] ∷ numbers (alone typ 0 []) t)
-host_numbers (of_relation ds w r) = defs_numbers ds ++ (next_def ds ∷ [] ∷ [])
+    defs_numbers ds ++ (def_begins ds ∷ [] ∷ [] ∷ numbers (alone typ 0 []) t)
+host_numbers (of_relation ds w r) = defs_numbers ds ++ (def_begins ds ∷ [] ∷ [])
 host_numbers (of_notation ds w r hs c t) =
     defs_numbers ds
-    ++ (next_def ds ∷ [] ∷ (hints_numbers 0 hs ++ ([] ∷ numbers (alone notation 0 []) t)))
+    ++ (def_begins ds ∷ [] ∷ (hints_numbers 0 hs ++ ([] ∷ numbers (alone notation 0 []) t)))
 host_numbers (of_fun ds w f a c t) =
-    defs_numbers ds ++ (next_def ds ∷ [] ∷ (args_numbers a ++ ([] ∷ numbers (alone typ 0 []) t)))
+    defs_numbers ds ++ (def_begins ds ∷ [] ∷ (args_numbers a ++ ([] ∷ numbers (alone typ 0 []) t)))
 
 -- the entries before a part that is read for this
 abbrev pub slot_numbers : Slot → List (List Number)
 slot_numbers (field_slot h o ms pre) =
     head_numbers h
-    ++ (open_entry [] 1 ∷ (field_numbers ms ++ map (label_entry (next_member ms)) pre))
+    ++ (open_entry [] 1 ∷ (field_numbers ms ++ map (label_entry (member_begins ms)) pre))
 slot_numbers (case_slot h ms pre) = head_numbers h ++ (case_numbers ms ++ no_entries pre)
-slot_numbers (var_slot ds w x c) = defs_numbers ds ++ (next_def ds ∷ [] ∷ [] ∷ [])
+slot_numbers (var_slot ds w x c) = defs_numbers ds ++ (def_begins ds ∷ [] ∷ [] ∷ [])
 slot_numbers (notation_slot ds w r hs c) =
-    defs_numbers ds ++ (next_def ds ∷ [] ∷ (hints_numbers 0 hs ++ [] ∷ []))
+    defs_numbers ds ++ (def_begins ds ∷ [] ∷ (hints_numbers 0 hs ++ [] ∷ []))
 slot_numbers (fun_slot ds w f a c) =
-    defs_numbers ds ++ (next_def ds ∷ [] ∷ (args_numbers a ++ [] ∷ []))
+    defs_numbers ds ++ (def_begins ds ∷ [] ∷ (args_numbers a ++ [] ∷ []))
 slot_numbers (arg_slot ds w f o ts pre) =
     defs_numbers ds
-    ++ (next_def ds ∷ [] ∷ open_entry [] 1 ∷ (argument_numbers ts ++ no_entries pre))
+    ++ (def_begins ds ∷ [] ∷ open_entry [] 1 ∷ (argument_numbers ts ++ no_entries pre))
 slot_numbers (rule_slot r) = rule_numbers r
 slot_numbers (cond_slot r t ps d os ls) =
-    ruled_numbers r t ps ++ (next_premise ps ∷ (paren_numbers 0 os ++ no_entries ls))
+    ruled_numbers r t ps ++ (premise_begins ps ∷ (paren_numbers 0 os ++ no_entries ls))
 slot_numbers (count_slot r t ps d os ls u i l) =
     ruled_numbers r t ps
-    ++ (next_premise ps
+    ++ (premise_begins ps
     ∷ (paren_numbers 0 os
     ++ (no_entries ls
     ++ (numbers (alone (expression false) (length os) []) u
-    ++ (iteration_numbers (length os) i ++ next_iteration i ∷ [])))))
+    ++ (iteration_numbers (length os) i ++ iteration_begins i ∷ [])))))
 
 -- how many brackets are open before a part that is read for this
 abbrev pub slot_depth : Slot → ℕ
@@ -96,7 +96,7 @@ slot_depth s = 0
 
 -- what begins with a part that is read for this
 abbrev pub slot_begins : Slot → List Number
-slot_begins (case_slot h ms pre) = next_member ms
+slot_begins (case_slot h ms pre) = member_begins ms
 slot_begins (arg_slot ds w f o ts pre) = number.member (size ts + 1) ∷ []
 slot_begins s = []
 
@@ -107,22 +107,22 @@ slot_context s = context (slot_sort s) (signs_before s) 0 (slot_depth s) (slot_b
 -- the entries up to a position
 abbrev pub position_numbers : Position → List (List Number)
 position_numbers (between ds) = defs_numbers ds
-position_numbers (syntax_name ds w) = defs_numbers ds ++ next_def ds ∷ []
-position_numbers (var_name ds w) = defs_numbers ds ++ next_def ds ∷ []
-position_numbers (var_colon ds w x) = defs_numbers ds ++ next_def ds ∷ [] ∷ []
-position_numbers (relation_name ds w) = defs_numbers ds ++ next_def ds ∷ []
-position_numbers (rule_name ds w) = defs_numbers ds ++ next_def ds ∷ []
-position_numbers (rule_colon ds w r) = defs_numbers ds ++ next_def ds ∷ [] ∷ []
-position_numbers (fun_name ds w) = defs_numbers ds ++ next_def ds ∷ []
-position_numbers (fun_named ds w f) = defs_numbers ds ++ next_def ds ∷ [] ∷ []
+position_numbers (syntax_name ds w) = defs_numbers ds ++ def_begins ds ∷ []
+position_numbers (var_name ds w) = defs_numbers ds ++ def_begins ds ∷ []
+position_numbers (var_colon ds w x) = defs_numbers ds ++ def_begins ds ∷ [] ∷ []
+position_numbers (relation_name ds w) = defs_numbers ds ++ def_begins ds ∷ []
+position_numbers (rule_name ds w) = defs_numbers ds ++ def_begins ds ∷ []
+position_numbers (rule_colon ds w r) = defs_numbers ds ++ def_begins ds ∷ [] ∷ []
+position_numbers (fun_name ds w) = defs_numbers ds ++ def_begins ds ∷ []
+position_numbers (fun_named ds w f) = defs_numbers ds ++ def_begins ds ∷ [] ∷ []
 position_numbers (argued ds w f o ts) =
-    defs_numbers ds ++ (next_def ds ∷ [] ∷ open_entry [] 1 ∷ argument_numbers ts)
+    defs_numbers ds ++ (def_begins ds ∷ [] ∷ open_entry [] 1 ∷ argument_numbers ts)
 position_numbers (args_closed ds w f o ts c) =
     defs_numbers ds
-    ++ (next_def ds ∷ [] ∷ open_entry [] 1 ∷ (argument_numbers ts ++ [] ∷ []))
+    ++ (def_begins ds ∷ [] ∷ open_entry [] 1 ∷ (argument_numbers ts ++ [] ∷ []))
 position_numbers (syntax_id ds w x ls d) =
-    defs_numbers ds ++ (next_def ds ∷ [] ∷ no_entries ls)
-position_numbers (rule_id ds w r ls d) = defs_numbers ds ++ (next_def ds ∷ [] ∷ no_entries ls)
+    defs_numbers ds ++ (def_begins ds ∷ [] ∷ no_entries ls)
+position_numbers (rule_id ds w r ls d) = defs_numbers ds ++ (def_begins ds ∷ [] ∷ no_entries ls)
 position_numbers (hinted h hs) = host_numbers h ++ hints_numbers (host_depth h) hs
 position_numbers (hint_open h hs w) =
     host_numbers h ++ (hints_numbers (host_depth h) hs ++ [] ∷ [])
@@ -137,15 +137,15 @@ position_numbers (entering s) = slot_numbers s
 position_numbers (dotted h d) = head_numbers h ++ [] ∷ []
 position_numbers (field_name h o ms pre) =
     head_numbers h
-    ++ (open_entry [] 1 ∷ (field_numbers ms ++ map (label_entry (next_member ms)) pre))
+    ++ (open_entry [] 1 ∷ (field_numbers ms ++ map (label_entry (member_begins ms)) pre))
 position_numbers (premised r t ps) = ruled_numbers r t ps
 position_numbers (premise_open r t ps d os) =
-    ruled_numbers r t ps ++ (next_premise ps ∷ paren_numbers 0 os)
+    ruled_numbers r t ps ++ (premise_begins ps ∷ paren_numbers 0 os)
 position_numbers (goal_colon r t ps d os n) =
-    ruled_numbers r t ps ++ (next_premise ps ∷ (paren_numbers 0 os ++ [] ∷ []))
+    ruled_numbers r t ps ++ (premise_begins ps ∷ (paren_numbers 0 os ++ [] ∷ []))
 position_numbers (iterated r t ps d os ls u i) =
     ruled_numbers r t ps
-    ++ (next_premise ps
+    ++ (premise_begins ps
     ∷ (paren_numbers 0 os
     ++ (no_entries ls
     ++ (numbers (alone (expression false) (length os) []) u ++ iteration_numbers (length os) i))))
