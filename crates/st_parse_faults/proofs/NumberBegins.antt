@@ -73,6 +73,7 @@ module _ (c : Context) where
     pub limit : f.passes ≡ false → list_any too_many entry ≡ (list_any too_many f.begins || list_any tally_passes (part_tallies c.before next))
     pub nests : c.depth + part_brackets next ≡ nesting_after (c.depth + f.brackets) l
     pub opens : (c.depth + f.brackets) + f.bars ≤ HIGHEST_TREE → (may_open l && nat_lt HIGHEST_TREE ((c.depth + part_brackets next) + part_bars next)) ≡ list_any too_deep entry
+    pub stays : may_open l ≡ false → part_brackets next + part_bars next ≤ f.brackets + f.bars
 
   abbrev pub StepTo : Front → Terminal → Option State → Type 0
   StepTo f l None = Unit {0}
@@ -95,6 +96,7 @@ module _ (c : Context) where
     limit = λ k. s.limit (i k) ∙ ap (λ v. list_any too_many v || list_any tally_passes (part_tallies c.before next)) (sym j);
     nests = s.nests ∙ ap (λ v. nesting_after (c.depth + v) l) (sym e);
     opens = λ k. s.opens (omega (arith, k, e, h));
+    stays = λ k. omega (arith, s.stays k, e, h);
   }
 
   -- ---- a part that is read
@@ -167,6 +169,7 @@ module _ (c : Context) where
       limit = λ h. begun_limit fs s (settle (operand k x) fs) (settled c.before (operand k x) fs s) h;
       nests = ap (λ v. c.depth + v) (settle_brackets (operand k x) fs);
       opens = λ h. sym (begins_shallow c shallow fs);
+      stays = λ h. omega (arith, settle_brackets (operand k x) fs, settle_bars (operand k x) fs);
     }
 
     sign_step : (m : Mark) (x : Token) (fs : Frames) → Neat fs → NoCount fs → IsNoSequence fs → Step (front_of (want fs)) (sign m x) (want (over (ahead m x) fs))
@@ -176,6 +179,7 @@ module _ (c : Context) where
       limit = λ h. list_any-append too_many (context_in c fs).begins (ahead_number (context_in c fs) m ∷ []) ∙ passes (is_turnstile m) (neither (due_passes fs) (round_passes fs) h).0 (neither (due_passes fs) (round_passes fs) h).1;
       nests = refl;
       opens = λ h. sym (list_any-append too_deep (context_in c fs).begins (ahead_number (context_in c fs) m ∷ []) ∙ ap (λ v. v || (too_deep (ahead_number (context_in c fs) m) || false)) (begins_shallow c shallow fs) ∙ closed (is_turnstile m));
+      stays = λ h. omega arith;
     }
       where
         n : ℕ
@@ -216,6 +220,7 @@ module _ (c : Context) where
       opens = λ h.
           ap (λ b. b && nat_lt HIGHEST_TREE ((c.depth + part_brackets next) + part_bars next)) m
           ∙ opens_there c shallow fs ((c.depth + part_brackets next) + part_bars next) d;
+      stays = λ h. let no : true ≡ false = sym m ∙ h in absurd (cc);
     }
 
     plain_step : (k : Bracket) (x : Token) (fs : Frames) → Neat fs → Step (front_of (want fs)) (opening k x) (opened k x fs)
@@ -257,6 +262,7 @@ module _ (c : Context) where
               ∙ (neither (due_passes (within (arguments f o) none [] fs)) (round_passes (within (arguments f o) none [] fs)) h).1);
       nests = omega (arith, settle_brackets (bracket (arguments f o) none x) fs);
       opens = λ h. refl;
+      stays = λ h. omega (arith, settle_brackets (bracket (arguments f o) none x) fs, settle_bars (bracket (arguments f o) none x) fs);
     }
 
     round_step : (x : Token) (fs : Frames) → Neat fs → StepTo (front_of (want fs)) (closing closings.ByRound x) (begin fs (closing closings.ByRound x))

@@ -142,6 +142,7 @@ module _ (c : Context) where
     limit = λ h. ap (λ σ. list_any too_many (post_entry σ t l)) (sort_is c fs) ∙ passes h (is_in_name (sort fs) t l);
     nests = sym e;
     opens = λ h. ap (λ b. b && nat_lt HIGHEST_TREE ((c.depth + frame_brackets fs) + frame_bars fs)) m ∙ sym (shut_entry (is_in_name (context_in c fs).sort t l));
+    stays = λ h. omega arith;
   }
     where
       shut_entry : (b : Bool) → list_any too_deep (if b then [] else number.row (posts (context_in c fs).sort t + 1) ∷ []) ≡ false
@@ -164,6 +165,7 @@ module _ (c : Context) where
         ∙ ap (λ v. tally_passes v || list_any tally_passes (tallies_round c.before fs)) (held c.before (signs t) (posts (sort fs) t + 1) fs k);
     nests = refl;
     opens = λ h. refl;
+    stays = λ h. omega arith;
   }
 
   pub left_step : (m : Mark) (x : Token) (p : Tree × Frames) → Step c (lowered_front p) (sign m x) (want (over (left p.0 m x) p.1))
@@ -179,6 +181,7 @@ module _ (c : Context) where
         ∙ sym (beside (tally_passes (tally (parts_in p.1 + 1) 0 ((signs p.0 + 1) + signs_in c.before p.1) 0 false)) (list_any tally_passes (tallies_round c.before p.1)) d.1);
     nests = refl;
     opens = λ h. refl;
+    stays = λ h. omega arith;
   }
 
   part_signs : (n : ℕ) (h : Heading) (ts : Trees) (pre q : List Terminal) (t : Tree) (fs : Frames) → signs_in n (within h (more ts pre t) q fs) ≡ signs t + signs_in n (within h ts pre fs)
@@ -224,6 +227,7 @@ module _ (c : Context) where
             ∙ no_test _ _ _ _ f.0 refl (ap (nat_lt MOST_SIGNS) (part_signs c.before h ts pre (sign m x ∷ []) t fs) ∙ f.1) refl);
     nests = ap (λ v. c.depth + v) b;
     opens = λ k. refl;
+    stays = λ k. omega (arith, b, r);
   }
 
   separate_step : (m : Mark) (x : Token) (p : Tree × Frames) → StepTo c (lowered_front p) (sign m x) (separate m x p)
@@ -282,6 +286,7 @@ module _ (c : Context) where
         ∙ sym (ap (list_any tally_passes) f);
     nests = omega (arith, b);
     opens = λ h. ap (nat_lt HIGHEST_TREE) (omega (arith, b, r, depth_is c fs)) ∙ sym (or_false (nat_lt HIGHEST_TREE ((context_in c fs).depth + 1)));
+    stays = λ h. let no : true ≡ false = h in absurd (cc);
   }
 
   square_steps : (t : Tree) (x : Token) (fs : Frames) → NoCount fs → StepTo c (front_of c (got t fs)) (opening bracket_of.Square x) (behind_square x t fs)
@@ -297,6 +302,7 @@ module _ (c : Context) where
     limit = λ h. sym h;
     nests = omega arith;
     opens = λ h. ap (nat_lt HIGHEST_TREE) (omega (arith, depth_is c fs)) ∙ sym (or_false (nat_lt HIGHEST_TREE ((context_in c fs).depth + 1)));
+    stays = λ h. let no : true ≡ false = h in absurd (cc);
   }
 
   round_steps : (t : Tree) (x : Token) (fs : Frames) → NoCount fs → StepTo c (front_of c (got t fs)) (opening bracket_of.Round x) (behind_round x t fs)
@@ -340,8 +346,9 @@ module _ (c : Context) where
   -- a bracket that is no length closes
   shut_step : (h : Heading) (ts : Trees) (pre : List Terminal) (t : Tree) (x : Token) (fs : Frames) (l : Terminal) (next : State) → state_numbers c next ≡ pair_numbers (t, within h ts pre fs) ++ [] ∷ []
       → part_tallies c.before next ≡ tallies_round c.before (within h ts pre fs) → c.depth + part_brackets next ≡ nesting_after (c.depth + (heading_brackets h + frame_brackets fs)) l → may_open l ≡ false
+      → part_brackets next + part_bars next ≤ (heading_brackets h + frame_brackets fs) + (heading_bars h + frame_bars fs)
       → Step c (lowered_front (t, within h ts pre fs)) l next
-  shut_step h ts pre t x fs l next e y n m = record {
+  shut_step h ts pre t x fs l next e y n m z = record {
     entry = [];
     grown = e;
     limit = λ k.
@@ -349,6 +356,7 @@ module _ (c : Context) where
             ∙ (neither (nat_lt MOST_PARTS (size ts + 1) || nat_lt MOST_SIGNS (signs t + signs_in c.before (within h ts pre fs))) (list_any tally_passes (tallies_round c.before (within h ts pre fs))) k).1);
     nests = n;
     opens = λ k. ap (λ b. b && nat_lt HIGHEST_TREE ((c.depth + part_brackets next) + part_bars next)) m;
+    stays = λ k. z;
   }
 
   held_low : (s r q : ℕ) (fs : Frames) → tally_passes (held_tally c.before s r fs) ≡ false → nat_lt MOST_SIGNS (q + signs_in c.before fs) ≡ false → tally_passes (held_tally c.before q 0 fs) ≡ false
@@ -370,6 +378,7 @@ module _ (c : Context) where
             ∙ held_low 0 0 (signs (bracket (length o) (more ts pre t) x)) fs r.0 (ap (nat_lt MOST_SIGNS) (omega arith) ∙ e.1));
     nests = omega (arith, settle_brackets c (bracket (length o) (more ts pre t) x) fs);
     opens = λ k. not_above HIGHEST_TREE _ (omega (arith, k, settle_brackets c (bracket (length o) (more ts pre t) x) fs, settle_bars c (bracket (length o) (more ts pre t) x) fs));
+    stays = λ k. let no : true ≡ false = k in absurd (cc);
   }
 
   bracket_shut : (h : Heading) (ts : Trees) (pre : List Terminal) (t : Tree) (x : Token) (fs : Frames) (d : Closing) → Neat fs → state_numbers c (settle (bracket h (more ts pre t) x) fs) ≡ pair_numbers (t, within h ts pre fs) ++ [] ∷ []
@@ -379,6 +388,7 @@ module _ (c : Context) where
   bracket_shut h ts pre t x fs d s e y n m =
       shut_step h ts pre t x fs (closing d x) (settle (bracket h (more ts pre t) x) fs) e (settled c.before (bracket h (more ts pre t) x) fs s ∙ y)
       (ap (λ v. c.depth + v) (settle_brackets c (bracket h (more ts pre t) x) fs) ∙ n) m
+      (omega (arith, settle_brackets c (bracket h (more ts pre t) x) fs, settle_bars c (bracket h (more ts pre t) x) fs))
 
   -- the innermost bracket closes by its own sign
   own_shut : (h : Heading) (ts : Trees) (pre : List Terminal) (t : Tree) (x : Token) (fs : Frames) → Neat fs → Step c (lowered_front (t, within h ts pre fs)) (closing (closes h) x) (shut h (more ts pre t) x fs)
@@ -392,7 +402,7 @@ module _ (c : Context) where
   own_shut (length o) ts pre t x fs s = length_step o ts pre t x fs s
   own_shut (arguments f o) ts pre t x fs s = bracket_shut (arguments f o) ts pre t x fs closings.ByRound s (shut_numbers (arguments f o) ts pre t x fs) refl (omega arith) refl
   own_shut (index u o) ts pre t x fs s = bracket_shut (index u o) ts pre t x fs closings.BySquare s (shut_numbers (index u o) ts pre t x fs) refl (omega arith) refl
-  own_shut (segment p o) ts pre t x fs s = shut_step (segment p o) ts pre t x fs (closing closings.BySquare x) (shut (segment p o) (more ts pre t) x fs) (shut_numbers (segment p o) ts pre t x fs) refl (omega arith) refl
+  own_shut (segment p o) ts pre t x fs s = shut_step (segment p o) ts pre t x fs (closing closings.BySquare x) (shut (segment p o) (more ts pre t) x fs) (shut_numbers (segment p o) ts pre t x fs) refl (omega arith) refl (omega arith)
   own_shut (update p m y) ts pre t x fs s = bracket_shut (update p m y) ts pre t x fs closings.BySquare s (shut_numbers (update p m y) ts pre t x fs) refl (omega arith) refl
   own_shut (below o i m y) ts pre t x fs s = bracket_shut (below o i m y) ts pre t x fs closings.ByRound s (shut_numbers (below o i m y) ts pre t x fs) refl (omega arith) refl
 
@@ -501,6 +511,7 @@ module _ (c : Context) where
     limit = λ h. sym h;
     nests = omega arith;
     opens = λ h. ap (nat_lt HIGHEST_TREE) (omega (arith, depth_is c fs)) ∙ sym (or_false (nat_lt HIGHEST_TREE ((context_in c fs).depth + 2)));
+    stays = λ h. let no : true ≡ false = h in absurd (cc);
   }
 
   field_step : (p : Path) (x : Token) (fs : Frames) → Step c (front_of c (pathed p fs)) (dot x) (pathed (field p x) fs)
@@ -510,6 +521,7 @@ module _ (c : Context) where
     limit = λ h. sym h;
     nests = refl;
     opens = λ h. refl;
+    stays = λ h. omega arith;
   }
 
   change_step : (p : Path) (m : Mark) (x : Token) (fs : Frames) → Step c (front_of c (pathed p fs)) (sign m x) (want (within (update p m x) none [] fs))
@@ -519,6 +531,7 @@ module _ (c : Context) where
     limit = λ h. sym h;
     nests = refl;
     opens = λ h. refl;
+    stays = λ h. omega arith;
   }
 
   label_is : (pre : List Terminal) (l : Terminal) → ends_with_label (pre ++ l ∷ []) ≡ is_label l
@@ -556,6 +569,7 @@ module _ (c : Context) where
             ∙ first_test (nat_lt MOST_PARTS (size ts + 1)) _ _ _ refl (ap (nat_lt MOST_SIGNS) (same_signs c.before h ts (pre ++ l ∷ []) pre fs) ∙ y.sign) refl);
     nests = sym n;
     opens = λ k. ap (λ b. b && nat_lt HIGHEST_TREE ((c.depth + (heading_brackets h + frame_brackets fs)) + (heading_bars h + frame_bars fs))) m ∙ sym (shut_entry (is_label l));
+    stays = λ k. omega arith;
   }
     where
       shut_entry : (b : Bool) → list_any too_deep (if b then number.part (size ts + 1) ∷ [] else []) ≡ false
@@ -578,6 +592,7 @@ module _ (c : Context) where
     limit = λ h. sym h;
     nests = refl;
     opens = λ h. refl;
+    stays = λ h. omega arith;
   }
 
   index_name_steps : (o : Token) (fs : Frames) (l : Terminal) → StepTo c (front_of c (indexing o fs)) l (name_index o fs l)
@@ -601,6 +616,7 @@ module _ (c : Context) where
     limit = λ h. sym h;
     nests = refl;
     opens = λ h. refl;
+    stays = λ h. omega arith;
   }
 
   bound_steps : (o i : Token) (fs : Frames) (l : Terminal) → StepTo c (front_of c (comparing o i fs)) l (bound_index o i fs l)

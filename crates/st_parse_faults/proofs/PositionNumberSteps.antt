@@ -80,6 +80,7 @@ pub record Step (f : Front) (l : Terminal) (next : State) : Type 0 where
   pub limit : (counts_pass f.count || f.passes) ≡ false → list_any too_many entry ≡ (counts_pass (counts_in next) || part_passes next)
   pub nests : brackets next ≡ nesting_after f.nest l
   pub opens : f.nest + f.bar ≤ HIGHEST_TREE → (may_open l && nat_lt HIGHEST_TREE (brackets next + bars next)) ≡ list_any too_deep entry
+  pub stays : may_open l ≡ false → brackets next + bars next ≤ f.nest + f.bar
   pub ready : Ready next
 
 abbrev pub StepTo : Front → Terminal → Option State → Type 0
@@ -108,6 +109,7 @@ same_step f g l (Some next) d e h i j p s = record {
   limit = λ k. let q = neither (counts_pass f.count) f.passes k in s.limit (ap (λ v. v || g.passes) (ap counts_pass (sym i) ∙ q.0) ∙ p q.1);
   nests = s.nests ∙ ap (λ v. nesting_after v l) (sym e);
   opens = λ k. s.opens (omega (arith, k, e, h));
+  stays = λ k. omega (arith, s.stays k, e, h);
   ready = s.ready;
 }
 
@@ -118,8 +120,8 @@ closed_test false b e = refl
 -- a step by its event
 step_by : (f : Front) (l : Terminal) (next : State) (entry : List Number) (e : Event) → read_numbers next ≡ f.entries ++ entry ∷ [] → event f.due next ≡ e → counts_in next ≡ counts_after f.count e
     → list_any too_many entry ≡ list_any too_many (event_entry e (counts_in next)) → (f.passes ≡ false → part_passes next ≡ false) → brackets next ≡ nesting_after f.nest l
-    → (f.nest + f.bar ≤ HIGHEST_TREE → (may_open l && nat_lt HIGHEST_TREE (brackets next + bars next)) ≡ list_any too_deep entry) → Ready next → Step f l next
-step_by f l next entry e g d k m p n o r = record {
+    → (f.nest + f.bar ≤ HIGHEST_TREE → (may_open l && nat_lt HIGHEST_TREE (brackets next + bars next)) ≡ list_any too_deep entry) → (may_open l ≡ false → brackets next + bars next ≤ f.nest + f.bar) → Ready next → Step f l next
+step_by f l next entry e g d k m p n o y r = record {
   entry = entry;
   grown = g;
   counted = k ∙ ap (counts_after f.count) (sym d);
@@ -132,6 +134,7 @@ step_by f l next entry e g d k m p n o r = record {
       ∙ sym (beside (counts_pass (counts_in next)) (part_passes next) (p q.1));
   nests = n;
   opens = o;
+  stays = y;
   ready = r;
 }
 
@@ -141,7 +144,7 @@ flat : (f : Front) (l : Terminal) (next : State) (entry : List Number) (e : Even
     → brackets next ≡ nesting_after f.nest l → brackets next ≤ f.nest → bars next ≡ 0 → Ready next → Step f l next
 flat f l next entry e g d k m q p n b z r =
     step_by f l next entry e g d k m p n
-    (λ h. closed_test (may_open l) (nat_lt HIGHEST_TREE (brackets next + bars next)) (not_above HIGHEST_TREE (brackets next + bars next) (omega (arith, h, b, z))) ∙ sym q) r
+    (λ h. closed_test (may_open l) (nat_lt HIGHEST_TREE (brackets next + bars next)) (not_above HIGHEST_TREE (brackets next + bars next) (omega (arith, h, b, z))) ∙ sym q) (λ h. omega (arith, b, z)) r
 
 -- a step of a token that is no bracket and begins nothing
 quiet : (f : Front) (l : Terminal) (next : State) → still l ≡ true → read_numbers next ≡ f.entries ++ [] ∷ [] → event f.due next ≡ Nothing → counts_in next ≡ f.count → (f.passes ≡ false → part_passes next ≡ false)
@@ -158,7 +161,7 @@ opener : (f : Front) (l : Terminal) (next : State) (k : ℕ) → Opens l → f.n
     → (f.passes ≡ false → part_passes next ≡ false) → brackets next ≡ k + 1 → bars next ≡ 0 → Ready next → Step f l next
 opener f l next k o i g d c p b z r =
     step_by f l next (open_entry [] (k + 1)) Nothing g d c refl p (b ∙ sym (o.more k) ∙ ap (λ v. nesting_after v l) (sym i))
-    (λ h. ap (λ v. v && nat_lt HIGHEST_TREE (brackets next + bars next)) o.may ∙ ap (nat_lt HIGHEST_TREE) (omega (arith, b, z)) ∙ sym (or_false (nat_lt HIGHEST_TREE (k + 1)))) r
+    (λ h. ap (λ v. v && nat_lt HIGHEST_TREE (brackets next + bars next)) o.may ∙ ap (nat_lt HIGHEST_TREE) (omega (arith, b, z)) ∙ sym (or_false (nat_lt HIGHEST_TREE (k + 1)))) (λ h. let no : true ≡ false = sym o.may ∙ h in absurd (cc)) r
 
 -- ---- definitions begin
 
@@ -329,6 +332,17 @@ word_deep k (closing closings_of.BySquare x) h = refl
 word_deep k (closing closings_of.ByBrace x) h = refl
 word_deep k (other x) h = refl
 
+word_stays : (k : ℕ) (l : Terminal) → may_open l ≡ false → nesting_after k l ≤ k
+word_stays k (leaf j x) e = omega arith
+word_stays k (dot x) e = omega arith
+word_stays k (sign m x) e = omega arith
+word_stays k (opening b x) e = let no : true ≡ false = e in absurd (cc)
+word_stays k (closing closings_of.ByBar x) e = let no : true ≡ false = e in absurd (cc)
+word_stays k (closing closings_of.ByRound x) e = omega arith
+word_stays k (closing closings_of.BySquare x) e = omega arith
+word_stays k (closing closings_of.ByBrace x) e = omega arith
+word_stays k (other x) e = omega arith
+
 hint_more : (a s : List (List Number)) (w o : List Number) (ws : List (List Number)) (e : List Number) → a ++ (s ++ (w ∷ o ∷ [] ∷ (ws ++ e ∷ []))) ≡ (a ++ (s ++ (w ∷ o ∷ [] ∷ ws))) ++ e ∷ []
 hint_more a s w o ws e = simp append_assoc
 
@@ -346,7 +360,8 @@ words_steps h hs w o n ws cs l k = go cs k (balance_step cs l)
         refl refl (word_many (brackets_behind d ws) l) (λ q. refl) (behind_more d ws l)
         (λ b.
             ap (λ v. may_open l && nat_lt HIGHEST_TREE v) (omega (arith, behind_more d ws l))
-            ∙ word_deep (brackets_behind d ws) l (omega (arith, b))) tt
+            ∙ word_deep (brackets_behind d ws) l (omega (arith, b)))
+        (λ b. omega (arith, behind_more d ws l, word_stays (brackets_behind d ws) l b)) tt
 
     go : (bs : List Bracket) → scan balance_step [] ws ≡ Some bs → (b : Option (List Bracket)) → StepTo (front_of (at (hint_words h hs w o n ws bs))) l (hint_step h hs w o n ws bs l b)
     go bs e (Some ds) = on bs ds
@@ -654,6 +669,7 @@ inner_step s st l next p r =
                   ∙ ap counts_pass (sym b.counted));
       nests = r.nests;
       opens = r.opens;
+      stays = λ h. omega (arith, r.stays h);
       ready = started_ready s next q;
     }
 
@@ -701,6 +717,7 @@ entry_step s l next p r =
                   ∙ ap counts_pass (sym (entry_counts s next p q)));
       nests = r.nests ∙ ap (λ v. nesting_after v l) (omega arith);
       opens = λ h. r.opens (omega (arith, h));
+      stays = λ h. omega (arith, r.stays h);
       ready = started_ready s next q;
     }
 
