@@ -14,3 +14,4 @@ pub mod NumberBegins
 pub mod NumberSteps
 pub mod PositionNumberFacts
 pub mod PositionNumberSteps
+pub mod NumberVerdicts

@@ -30,10 +30,10 @@ use Rattle.st_parse_faults.specs.Number as number
 use Rattle.st_parse_faults.specs.Number.{Number, too_deep, too_many}
 use Rattle.st_parse_faults.specs.Numbers.{Context, context, label_entry, no_entries, open_entry, numbers}
 use Rattle.st_parse_faults.specs.DefinitionNumbers.{members_size, premises_size, defs_size, iterations_row, word_entry, word_numbers, hints_numbers, alone, member_begins, field_numbers, case_numbers, paren_numbers, iteration_begins, iteration_numbers, premise_begins, premises_numbers, argument_numbers, args_numbers, def_begins, defs_numbers}
-use Rattle.st_parse_faults.specs.Nesting.{nesting_after, frame_bars, part_bars, bars, may_open}
+use Rattle.st_parse_faults.specs.Nesting.{nesting_after, brackets_behind, frame_bars, part_bars, bars, may_open}
 use Rattle.st_parse_faults.specs.Limits.{signs, all_signs, signs_in, fresh, part_tallies, signs_before, tallies, tally_passes, part_passes}
 use Rattle.st_parse_faults.specs.inner.Numbering.{state_numbers, frame_brackets, part_brackets}
-use Rattle.st_parse_faults.specs.inner.PositionNumbers.{head_numbers, rule_numbers, ruled_numbers, host_depth, host_numbers, slot_numbers, slot_depth, slot_begins, slot_context, position_numbers, read_numbers, brackets_behind, position_brackets, brackets, counts, args_size, last_row, defs_counts, head_number, rule_counts, host_counts, slot_counts, inner_counts, position_counts, counts_in}
+use Rattle.st_parse_faults.specs.inner.PositionNumbers.{head_numbers, rule_numbers, ruled_numbers, host_depth, host_numbers, slot_numbers, slot_depth, slot_begins, slot_context, position_numbers, read_numbers, position_brackets, brackets, counts, args_size, last_row, defs_counts, head_number, rule_counts, host_counts, slot_counts, inner_counts, position_counts, counts_in}
 use Rattle.st_parse_faults.proofs.KeptTallies.{neither}
 use Rattle.st_parse_faults.proofs.NumberFacts.{or_false, beside, no_test, outer}
 use Rattle.st_parse_faults.proofs.NumberBegins as inner

@@ -18,6 +18,10 @@ pub mod DefinitionNumbers
 pub mod Judging
 -- the first token that breaks a rule, and the rule
 pub mod Faults
+-- the tokens that begin a form that is left out, by the tokens before them
+pub mod FormsLeftOut
+-- the first token that breaks a rule, by the text and by trees
+pub mod Breaking
 -- where a token stands in the text
 pub mod Place
 -- ---- what only proofs need

@@ -8,7 +8,7 @@ use Rattle.st_grammar.specs.Definitions.{Hints, Members, Body, fields, cases, It
 use Rattle.st_grammar.specs.Reading as part
 use Rattle.st_grammar.specs.Positions.{Head, syntax_head, Rule, rule_head, clause_head, Host, of_syntax, of_field, of_case, of_var, of_relation, of_notation, of_fun, Slot, field_slot, case_slot, var_slot, notation_slot, fun_slot, arg_slot, rule_slot, cond_slot, count_slot, slot_sort, Position, between, syntax_name, var_name, var_colon, relation_name, rule_name, rule_colon, fun_name, fun_named, argued, args_closed, syntax_id, rule_id, hinted, hint_open, hint_name, hint_words, entering, dotted, field_name, premised, premise_open, goal_colon, iterated, State, at, inside}
 use Rattle.st_parse_faults.specs.declared.counts.Counts.{Counts}
-use Rattle.st_parse_faults.specs.Nesting.{nesting_after}
+use Rattle.st_parse_faults.specs.Nesting.{brackets_behind}
 use Rattle.st_parse_faults.specs.Number as number
 use Rattle.st_parse_faults.specs.Number.{Number}
 use Rattle.st_parse_faults.specs.Numbers.{Context, context, label_entry, no_entries, open_entry, numbers}
@@ -156,11 +156,6 @@ read_numbers (at p) = position_numbers p
 read_numbers (inside s st) = slot_numbers s ++ state_numbers (slot_context s) st
 
 -- ---- brackets
-
--- how many brackets are open behind these tokens, where so many are before them
-abbrev pub brackets_behind : ℕ → List Terminal → ℕ
-brackets_behind k [] = k
-brackets_behind k (l ∷ ls) = brackets_behind (nesting_after k l) ls
 
 -- how many brackets are open at a position
 abbrev pub position_brackets : Position → ℕ
