@@ -15,3 +15,4 @@ pub mod NumberSteps
 pub mod PositionNumberFacts
 pub mod PositionNumberSteps
 pub mod NumberVerdicts
+pub mod LeftOutForms
