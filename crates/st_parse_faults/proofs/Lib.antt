@@ -16,3 +16,4 @@ pub mod PositionNumberFacts
 pub mod PositionNumberSteps
 pub mod NumberVerdicts
 pub mod LeftOutForms
+pub mod BrokenFirst
