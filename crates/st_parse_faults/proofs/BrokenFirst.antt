@@ -1,5 +1,5 @@
 -- The first token that breaks a rule, as the tokens are judged, is the one that trees tell.
-use Rattle.std.proofs.Common.{◌≡◌, ◌⊎◌, inl, inr, ℕ, ◌+◌, ◌≤◌, ◌<◌, List, [], ◌∷◌, ◌++◌, length, map, take, get_or, Bool, true, false, Option, Some, None, slice_get, option_and_then, if◌then◌else◌, refl, sym, ap, subst, ◌∙◌, append-nil, arith}
+use Rattle.std.proofs.Common.{◌≡◌, ◌⊎◌, inl, inr, ℕ, ◌+◌, ◌≤◌, ◌<◌, List, [], ◌++◌, length, take, get_or, Bool, true, false, Option, Some, None, slice_get, option_and_then, if◌then◌else◌, refl, sym, ap, subst, ◌∙◌, append-nil, arith}
 use Rattle.std.specs.List.{list_any}
 use Rattle.std.proofs.lemmas.List.{take_all, length-map}
 use Rattle.std.proofs.lemmas.Option.{slice_get-get_or, slice_get_past}
@@ -12,22 +12,20 @@ use Rattle.st_grammar.specs.Positions.{State, start, step, finish, reading}
 use Rattle.st_grammar.proofs.PositionReading.{sound_defs}
 use Rattle.st_grammar.proofs.PositionEnds.{viable}
 use Rattle.st_grammar.proofs.PositionComplete.{complete_defs}
-use Rattle.st_parse_automaton.specs.Refusal.{terminals_of, AreDefinitions, RefusedAt}
+use Rattle.st_parse_automaton.specs.Refusal.{terminals_of, RefusedAt}
 use Rattle.st_parse_automaton.proofs.Loop.{last_step, one_more, whole_list}
-use Rattle.st_parse_faults.specs.Nesting.{brackets_behind}
 use Rattle.st_parse_faults.specs.LeftOut.{before_next, left_out}
 use Rattle.st_parse_faults.specs.Judging.{passed, broken}
 use Rattle.st_parse_faults.specs.Faults.{Seen, refusal, judged, verdict, Faultless, FirstFault}
 use Rattle.st_parse_faults.specs.Number.{Number}
 use Rattle.st_parse_faults.specs.DefinitionNumbers.{defs_numbers}
 use Rattle.st_parse_faults.specs.FormsLeftOut.{LeftOut}
-use Rattle.st_parse_faults.specs.Breaking.{passes_limit, KeepsLimits, AllKept, BeginWith, FrontKept, PassesLimit, BeginsLeftOut, IsRefused, FirstBroken}
-use Rattle.st_parse_faults.specs.inner.PositionNumbers.{read_numbers}
+use Rattle.st_parse_faults.specs.Breaking.{passes_limit, AllKept, FrontKept, PassesLimit, BeginsLeftOut, IsRefused, FirstBroken}
 use Rattle.st_parse_faults.proofs.JudgingLemmas.{OfGrammar, grammar_s1, grammar_s4, some_token}
 use Rattle.st_parse_faults.proofs.Verdicts.{verdict_reads}
 use Rattle.st_parse_faults.proofs.Exact.{one_fault, never_both, is_refused, not_later}
 use Rattle.st_parse_faults.proofs.PositionNumberSteps.{finishes}
-use Rattle.st_parse_faults.proofs.NumberVerdicts.{Seeing, grown, seeing_front, kept_front, front_passes, next_token, next_verdict, passes_there, breaks_there}
+use Rattle.st_parse_faults.proofs.NumberVerdicts.{grown, seeing_front, kept_front, front_passes, next_token, next_verdict, passes_there, breaks_there}
 use Rattle.st_parse_faults.proofs.LeftOutForms.{Same, left_out_is}
 
 -- ---- an entry for each token
@@ -45,8 +43,7 @@ parallel us ds p = go (reading start us) refl (complete_defs us ds p)
 
 pub all_kept : (tokens : List Token) → Faultless tokens → AllKept tokens
 all_kept tokens h =
-    let i = seeing_front tokens (length tokens) h.0 h.2 in
-    (
+    let i = seeing_front tokens (length tokens) h.0 h.2 in (
       h.1,
       subst (λ us. ParseDefs us h.1) (whole_list tokens (length tokens) (omega arith))
           (sound_defs (take (length tokens) (terminals_of tokens)) h.0.state h.1 (verdict_reads tokens (length tokens) h.0 h.2) h.3),
@@ -58,8 +55,7 @@ all_front : (tokens : List Token) → AllKept tokens → FrontKept tokens (lengt
 all_front tokens (ds, p, k) =
     let us = terminals_of tokens in
     let all : us ≡ take (length tokens) us ++ [] = sym (append-nil (take (length tokens) us) ∙ whole_list tokens (length tokens) (omega arith)) in
-    let long : length (defs_numbers ds) ≤ length tokens = omega (arith, parallel us ds p, length-map tokens (terminal (declared_names tokens))) in
-    (
+    let long : length (defs_numbers ds) ≤ length tokens = omega (arith, parallel us ds p, length-map tokens (terminal (declared_names tokens))) in (
       ds,
       record { rest = []; grammar = subst (λ vs. ParseDefs vs ds) all p },
       ap (list_any passes_limit) (take_all (length tokens) (defs_numbers ds) long) ∙ k,
@@ -167,7 +163,7 @@ refused_token tokens k r front (inl (g, v, never)) rule = go (step seen.state l)
     go : (o : Option State) → step seen.state l ≡ o → FirstFault tokens k r
     go (Some next) h =
         absurd (never (viable (declared_names tokens) (take (k + 1) (terminals_of tokens)) next
-            (ap (reading start) (one_more tokens k d g) ∙ last_step (take k (terminals_of tokens)) l seen.state (verdict_reads tokens k seen s.1) ∙ h)))
+        (ap (reading start) (one_more tokens k d g) ∙ last_step (take k (terminals_of tokens)) l seen.state (verdict_reads tokens k seen s.1) ∙ h)))
     go None h =
         let x = get_or tokens k d in
         let is : refusal seen x ≡ r = one_rule tokens k (refusal seen x) r (rule_told tokens k seen d g (left_out_there tokens k seen x s.1 h)) rule in

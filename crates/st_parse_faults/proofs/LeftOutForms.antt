@@ -1,5 +1,5 @@
 -- Where a token begins a form that is left out is told by the tokens before it.
-use Rattle.std.proofs.Common.{◌≡◌, ◌⊎◌, inl, inr, ℕ, ◌+◌, ◌≤◌, List, [], ◌∷◌, ◌++◌, Bool, true, false, ◌&&◌, ◌==◌, Option, Some, None, option_and_then, nat_le, if◌then◌else◌, refl, sym, ap, subst, ◌∙◌, append_assoc, append-nil, arith}
+use Rattle.std.proofs.Common.{◌≡◌, ◌⊎◌, inl, inr, ℕ, ◌≤◌, List, [], ◌∷◌, ◌++◌, Bool, true, false, ◌&&◌, ◌==◌, Option, Some, None, option_and_then, nat_le, if◌then◌else◌, refl, sym, ap, subst, ◌∙◌, append_assoc, append-nil, arith}
 use Rattle.st_num.specs.declared.mark.Mark.{Mark}
 use Rattle.st_num.specs.declared.mark.Mark.TheVariants as mark
 use Rattle.st_num.specs.declared.word.Word.{Word}
@@ -8,25 +8,22 @@ use Rattle.st_num.specs.declared.span.Span.{Span}
 use Rattle.st_num.specs.declared.token.Token.{Token}
 use Rattle.st_num.specs.declared.token.TokenKind.{TokenKind}
 use Rattle.st_num.specs.declared.token.TokenKind.TheVariants as kind
-use Rattle.st_num.specs.Signs.{level as level_of, prefix_level, grouping_at}
-use Rattle.st_grammar.specs.declared.keyword.Keyword.{Keyword}
+use Rattle.st_num.specs.Signs.{level as level_of, prefix_level}
 use Rattle.st_grammar.specs.declared.keyword.Keyword.TheVariants as key
-use Rattle.st_grammar.specs.declared.sort.Bracket.{Bracket}
 use Rattle.st_grammar.specs.declared.sort.Bracket.TheVariants as bracket_of
-use Rattle.st_grammar.specs.declared.sort.Closing.TheVariants as closings_of
 use Rattle.st_grammar.specs.declared.sort.Leaf.TheVariants as leaves
 use Rattle.st_grammar.specs.declared.sort.Style.{Style}
 use Rattle.st_grammar.specs.declared.sort.Style.TheVariants.{Lone as lone, Parts as listing, Fields as fields_of, Ends as ends, Run as run}
 use Rattle.st_grammar.specs.declared.sort.Sort.{Sort}
 use Rattle.st_grammar.specs.declared.sort.Sort.TheVariants.{Expression as expression, Arithmetic as arithmetic, Notation as notation, Typ as typ, Count as count, Bound as bound}
 use Rattle.st_grammar.specs.Terminals.{Terminal, leaf, dot, sign, opening, closing, other, kind_terminal, terminal}
-use Rattle.st_grammar.specs.Levels.{is_expression, juxtaposes, has_level, left_of, right_of, prefix_right, is_iteration_sign, is_caret, is_comma, is_colon, is_less, is_change}
+use Rattle.st_grammar.specs.Levels.{is_expression, juxtaposes, has_level, left_of, right_of, prefix_right, is_caret, is_comma, is_colon, is_less, is_change}
 use Rattle.st_grammar.specs.Trees.{Tree, post, Lead, left, ahead, items, Trees, none, more, Heading, plain, length, arguments, index, segment, update, below, Path, head, field, part, led}
-use Rattle.st_grammar.specs.Grammar.{style, is_type, may_post, level, lead_level, wanted, has_step, least_in}
-use Rattle.st_grammar.specs.Definitions.{keyword, defs_text, mark_keyword, kind_keyword, is_low, Hints, no_hints, more_hints, Members, no_members, member, Iterations, marked, has_closed, given, Premises, more_premises, ViableDefs}
+use Rattle.st_grammar.specs.Grammar.{style, is_type, may_post, level, lead_level, has_step, least_in}
+use Rattle.st_grammar.specs.Definitions.{keyword, defs_text, mark_keyword, kind_keyword, is_low, no_hints, more_hints, no_members, member, Iterations, marked, has_closed, given, Premises, more_premises}
 use Rattle.st_grammar.specs.Reading as reading_of
 use Rattle.st_grammar.specs.Reading.{Frames, bottom, within, over, timing, want, got, naming, pathed, indexing, comparing, sort, least, reach, lower, next_part, separate, join, pull, behind_sign}
-use Rattle.st_grammar.specs.Positions.{Head, Rule, Host, of_syntax, of_field, of_case, of_var, of_relation, of_notation, of_fun, Slot, field_slot, case_slot, var_slot, notation_slot, fun_slot, arg_slot, rule_slot, cond_slot, count_slot, Position, between, syntax_name, var_name, var_colon, relation_name, rule_name, rule_colon, fun_name, fun_named, argued, args_closed, syntax_id, rule_id, hinted, hint_open, hint_name, hint_words, entering, dotted, field_name, premised, premise_open, goal_colon, iterated, State, at, inside, is_whole, whole, rule_whole, begin_def, begun, id_goes, next_premise, iterate, own, first_of_two, position_step, filled, taken, step, reading, start}
+use Rattle.st_grammar.specs.Positions.{Rule, of_syntax, of_field, of_case, of_var, of_relation, of_notation, of_fun, Slot, field_slot, case_slot, var_slot, notation_slot, fun_slot, arg_slot, rule_slot, cond_slot, count_slot, Position, between, syntax_name, var_name, var_colon, relation_name, rule_name, rule_colon, fun_name, fun_named, argued, args_closed, syntax_id, rule_id, hinted, hint_open, hint_name, hint_words, entering, dotted, field_name, premised, premise_open, goal_colon, iterated, State, at, inside, is_whole, whole, rule_whole, begin_def, begun, id_goes, next_premise, iterate, first_of_two, position_step, filled, taken, step, reading, start}
 use Rattle.st_grammar.proofs.PositionTexts as texts
 use Rattle.st_grammar.proofs.PositionTexts.{Holds}
 use Rattle.st_grammar.proofs.PositionReading.{reached_by}
@@ -752,7 +749,7 @@ module _ (m : Mark) (x : Token) (marks : (r : Rule) (t : Tree) (ps : Premises) (
       go true e = absurd (marks r t ps d os ls u i e (first_none (iterate r t ps d os ls u i (sign m x)) _ g))
       go false e =
           ap (λ b. first_of_two (if b then Some (at (iterated r t ps d os ls u (marked i (sign mark.Star x)))) else if is_whole os i then next_premise (keyword (sign mark.Star x)) r t (more_premises ps (given d os ls u i)) (sign mark.Star x) else None)
-              (option_and_then (λ ds. begin_def ds (sign mark.Star x) (keyword (sign mark.Star x))) (whole (iterated r t ps d os ls u i)))) e
+          (option_and_then (λ ds. begin_def ds (sign mark.Star x) (keyword (sign mark.Star x))) (whole (iterated r t ps d os ls u i)))) e
           ∙ wholes (is_whole os i)
 
 -- the token is not taken by the part, nor behind it

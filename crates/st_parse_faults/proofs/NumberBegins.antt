@@ -14,14 +14,14 @@ use Rattle.st_grammar.specs.Terminals.{Terminal, leaf, dot, sign, opening, closi
 use Rattle.st_num.specs.Signs.{prefix_level}
 use Rattle.st_grammar.specs.Levels.{takes, encloses, computes, is_count, has_level}
 use Rattle.st_grammar.specs.Trees.{Tree, operand, bracket, ahead, none, more, plain, length, arguments, index, segment, update, below}
-use Rattle.st_grammar.specs.Reading.{Frames, bottom, within, over, timing, State, want, got, naming, pathed, indexing, comparing, sort, least, settle, opened, begin_opening, begin}
+use Rattle.st_grammar.specs.Reading.{Frames, bottom, within, over, timing, State, want, indexing, sort, least, settle, opened, begin_opening, begin}
 use Rattle.st_grammar.proofs.Sound.{IsNoSequence}
 use Rattle.st_parse_faults.specs.declared.tally.Tally.{Tally}
 use Rattle.st_parse_faults.specs.Number as number
 use Rattle.st_parse_faults.specs.Number.{Number, too_deep, too_many}
 use Rattle.st_parse_faults.specs.Numbers.{Context, in_count, ahead_number, open_entry, numbers, heading_numbers}
 use Rattle.st_parse_faults.specs.Nesting.{nesting_after, frame_bars, part_bars, may_open}
-use Rattle.st_parse_faults.specs.Limits.{is_turnstile, posts, signs_in, parts_in, elements_with, aheads, tally, fresh, due_tally, held_tally, tallies_round, part_tallies, tally_passes}
+use Rattle.st_parse_faults.specs.Limits.{is_turnstile, posts, signs_in, parts_in, aheads, tally, fresh, due_tally, held_tally, tallies_round, part_tallies, tally_passes}
 use Rattle.st_parse_faults.specs.inner.Numbering.{context_in, frame_numbers, state_numbers, frame_brackets, part_brackets}
 use Rattle.st_parse_faults.proofs.KeptTallies.{neither}
 use Rattle.st_parse_faults.proofs.NumberFacts.{or_false, no_test, first_test, beside, one_part, no_signs, Neat, NoCount, low, settled, held, due_signs, one_element, depth_is, before_is, row_is, outer, begins_pass, begins_shallow, opens_there}
@@ -149,7 +149,7 @@ module _ (c : Context) where
       open_many (context_in c fs).begins v
       ∙ begins_pass c fs s d.0
       ∙ ap (λ v. list_any too_many (outer c fs) || v)
-          (sym (ap (list_any tally_passes) e ∙ ap (λ v. v || (held_passes fs || round_passes fs)) z ∙ beside (held_passes fs) (round_passes fs) d.1))
+      (sym (ap (list_any tally_passes) e ∙ ap (λ v. v || (held_passes fs || round_passes fs)) z ∙ beside (held_passes fs) (round_passes fs) d.1))
 
   pub signs_low : (fs : Frames) → due_passes fs ≡ false → (n : ℕ) → n ≡ signs_in c.before fs → nat_lt MOST_SIGNS n ≡ false
   signs_low fs e n i = ap (nat_lt MOST_SIGNS) (i ∙ sym (due_signs c.before fs)) ∙ (low (due_tally c.before fs) e).sign
@@ -259,7 +259,7 @@ module _ (c : Context) where
       grown = settle_numbers (bracket (arguments f o) none x) fs ∙ sym (append_assoc (frame_numbers c fs) (heading_numbers (context_in c fs) (arguments f o)) ([] ∷ []));
       limit = λ h.
           sym (ap (list_any tally_passes) (settled c.before (bracket (arguments f o) none x) fs s)
-              ∙ (neither (due_passes (within (arguments f o) none [] fs)) (round_passes (within (arguments f o) none [] fs)) h).1);
+          ∙ (neither (due_passes (within (arguments f o) none [] fs)) (round_passes (within (arguments f o) none [] fs)) h).1);
       nests = omega (arith, settle_brackets (bracket (arguments f o) none x) fs);
       opens = λ h. refl;
       stays = λ h. omega (arith, settle_brackets (bracket (arguments f o) none x) fs, settle_bars (bracket (arguments f o) none x) fs);

@@ -1,20 +1,18 @@
 -- What is known of the numbers where a part is read, by what is open.
-use Rattle.std.proofs.Common.{◌≡◌, ℕ, ◌+◌, List, [], ◌∷◌, ◌++◌, Bool, true, false, not, ◌||◌, nat_lt, if◌then◌else◌, refl, sym, ap, ◌∙◌, arith}
+use Rattle.std.proofs.Common.{◌≡◌, ℕ, ◌+◌, List, [], ◌∷◌, Bool, true, false, not, ◌||◌, nat_lt, if◌then◌else◌, refl, sym, ap, ◌∙◌, arith}
 use Rattle.std.specs.List.{list_any}
 use Rattle.std.proofs.lemmas.List.Folds.{list_any-append}
-use Rattle.st_num.specs.declared.mark.Mark.{Mark}
 use Rattle.st_num.specs.declared.limit.TheConstants.{MOST_PARTS, MOST_SIGNS, HIGHEST_TREE}
-use Rattle.st_grammar.specs.Terminals.{Terminal}
-use Rattle.st_grammar.specs.Trees.{Tree, Lead, left, ahead, items, Trees, none, more, Heading, plain, length, arguments, index, segment, update, below}
+use Rattle.st_grammar.specs.Trees.{Tree, left, ahead, items, none, more, Heading, plain, length, arguments, index, segment, update, below}
 use Rattle.st_grammar.specs.Grammar.{size, sort_in}
-use Rattle.st_grammar.specs.Reading.{Frames, bottom, within, over, timing, sort, State, want, got, lower, reach, settle}
+use Rattle.st_grammar.specs.Reading.{Frames, bottom, within, over, timing, sort, settle}
 use Rattle.st_grammar.proofs.Sound.{Stand, IsNoSequence}
 use Rattle.st_parse_faults.specs.declared.tally.Tally.{Tally}
 use Rattle.st_parse_faults.specs.Number as number
 use Rattle.st_parse_faults.specs.Number.{Number, too_deep, too_many}
 use Rattle.st_parse_faults.specs.Numbers.{Context, opened_by, open_entry}
 use Rattle.st_parse_faults.specs.Nesting.{heading_bars, frame_bars}
-use Rattle.st_parse_faults.specs.Limits.{signs, all_signs, is_turnstile, posts, signs_in, parts_in, elements_with, aheads, ends_with_label, with_one, tally, due_tally, held_tally, tallies_round, part_tallies, tally_passes}
+use Rattle.st_parse_faults.specs.Limits.{signs, is_turnstile, posts, signs_in, parts_in, elements_with, aheads, ends_with_label, with_one, tally, due_tally, held_tally, tallies_round, part_tallies, tally_passes}
 use Rattle.st_parse_faults.specs.inner.Numbering.{context_in, heading_brackets, frame_brackets}
 use Rattle.st_parse_faults.proofs.KeptTallies.{neither}
 

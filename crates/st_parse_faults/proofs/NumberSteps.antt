@@ -3,7 +3,6 @@
 use Rattle.std.proofs.Common.{◌≡◌, ℕ, ◌+◌, ◌≤◌, List, [], ◌∷◌, ◌++◌, map, Bool, true, false, ◌&&◌, ◌||◌, Option, Some, None, nat_lt, nat_le, if◌then◌else◌, refl, sym, ap, subst, ◌∙◌, append_assoc, arith}
 use Rattle.std.specs.List.{list_any}
 use Rattle.std.proofs.lemmas.List.{append-nil, map-append}
-use Rattle.std.proofs.lemmas.List.Folds.{list_any-append}
 use Rattle.st_num.specs.declared.mark.Mark.{Mark}
 use Rattle.st_num.specs.declared.token.Token.{Token}
 use Rattle.st_num.specs.declared.limit.TheConstants.{MOST_PARTS, MOST_SIGNS, HIGHEST_TREE}
@@ -14,11 +13,10 @@ use Rattle.st_grammar.specs.declared.sort.Bracket.{Bracket}
 use Rattle.st_grammar.specs.declared.sort.Bracket.TheVariants as bracket_of
 use Rattle.st_grammar.specs.declared.sort.Closing.{Closing}
 use Rattle.st_grammar.specs.declared.sort.Closing.TheVariants as closings
-use Rattle.st_grammar.specs.declared.sort.Sort.{Sort}
 use Rattle.st_grammar.specs.Terminals.{Terminal, leaf, dot, sign, opening, closing, other}
 use Rattle.st_num.specs.Signs.{level as level_of}
 use Rattle.st_grammar.specs.Levels.{computes, is_expression, has_level, left_of, is_caret, is_comma, is_colon, is_less, is_change}
-use Rattle.st_grammar.specs.Trees.{Tree, operand, post, times, bracket, led, Lead, left, ahead, items, Trees, none, more, Heading, plain, length, arguments, index, segment, update, below, Path, head, field, part, closes, agree}
+use Rattle.st_grammar.specs.Trees.{Tree, operand, post, times, bracket, led, left, ahead, items, Trees, none, more, Heading, plain, length, arguments, index, segment, update, below, Path, head, field, part, closes, agree}
 use Rattle.st_grammar.specs.Grammar.{style, is_label, follows, may_post, level, has_step, size}
 use Rattle.st_grammar.specs.Reading.{Frames, bottom, within, over, timing, State, want, got, naming, pathed, indexing, comparing, sort, least, settle, reach, lower, ended, shut, close, next_part, begin, extend, separate, join, pull, behind_sign, behind_square, behind_round, behind, after, in_index, in_path, name_field, name_index, bound_index, step, finish}
 use Rattle.st_grammar.proofs.Sound.{base, state_base, Holds, agree_same}
@@ -26,12 +24,11 @@ use Rattle.st_parse_faults.specs.declared.tally.Tally.{Tally}
 use Rattle.st_parse_faults.specs.Number as number
 use Rattle.st_parse_faults.specs.Number.{Number, too_deep, too_many}
 use Rattle.st_parse_faults.specs.Numbers.{Context, context, in_bracket, post_entry, label_entry, open_entry, numbers, lead_numbers, heading_numbers, path_numbers, part_numbers, element_numbers}
-use Rattle.st_parse_faults.specs.Numbers as entries
 use Rattle.st_parse_faults.specs.Nesting.{nesting_after, heading_bars, frame_bars, part_bars, may_open}
-use Rattle.st_parse_faults.specs.Limits.{is_in_name, unless, posts, path_posts, signs, path_signs, signs_in, parts_in, elements_with, ends_with_label, with_one, tally, fresh, due_tally, held_tally, tallies_round, part_tallies, tally_passes}
+use Rattle.st_parse_faults.specs.Limits.{is_in_name, unless, posts, signs, signs_in, parts_in, elements_with, ends_with_label, with_one, tally, fresh, held_tally, tallies_round, part_tallies, tally_passes}
 use Rattle.st_parse_faults.specs.inner.Numbering.{context_in, frame_numbers, state_numbers, heading_brackets, frame_brackets, part_brackets}
 use Rattle.st_parse_faults.proofs.KeptTallies.{neither}
-use Rattle.st_parse_faults.proofs.NumberFacts.{or_false, no_test, first_test, third_test, fourth_test, beside, one_part, no_signs, Neat, neat, NoCount, Low, low, settled, held, depth_is, before_is, sort_is}
+use Rattle.st_parse_faults.proofs.NumberFacts.{or_false, no_test, first_test, third_test, fourth_test, beside, one_part, Neat, neat, NoCount, low, settled, held, depth_is, before_is, sort_is}
 use Rattle.st_parse_faults.proofs.NumberBegins.{Front, front_of, Step, StepTo, step_if, step_both, same_step, settle_numbers, settle_brackets, settle_bars, begin_steps, SignReady}
 
 pub not_above : (a b : ℕ) → b ≤ a → nat_lt a b ≡ false
@@ -58,8 +55,8 @@ pub row_passes : (n : ℕ) (t : Tree) (fs : Frames) → NoCount fs → list_any 
 row_passes n t fs k h =
     let g = got_low n t fs k h in
     sym (beside (tally_passes (held_tally n (signs t) (posts (sort fs) t + 1) fs)) (list_any tally_passes (tallies_round n fs)) g.round
-        ∙ ap tally_passes (held n (signs t) (posts (sort fs) t + 1) fs k)
-        ∙ fourth_test _ _ _ (nat_lt MOST_SIGNS (posts (sort fs) t + 1)) g.part g.element g.sign)
+    ∙ ap tally_passes (held n (signs t) (posts (sort fs) t + 1) fs k)
+    ∙ fourth_test _ _ _ (nat_lt MOST_SIGNS (posts (sort fs) t + 1)) g.part g.element g.sign)
 
 -- ---- what is closed over a part
 
@@ -123,13 +120,13 @@ module _ (c : Context) where
       let r = lowers m t fs in
       same_step c (front_of c (got t fs)) (lowered_front (lower m t fs)) l o (sym r.entries) (sym r.brackets) (sym r.bars)
       (λ h.
-          let g = got_low c.before t fs k h in
-          ap (λ v. (nat_lt MOST_PARTS (v + 1) || nat_lt MOST_SIGNS (signs (lower m t fs).0 + signs_in c.before (lower m t fs).1)) || list_any tally_passes (tallies_round c.before (lower m t fs).1)) r.part
-          ∙ ap (λ v. (nat_lt MOST_PARTS (parts_in fs + 1) || nat_lt MOST_SIGNS v) || list_any tally_passes (tallies_round c.before (lower m t fs).1)) r.sign
-          ∙ ap (λ v. (nat_lt MOST_PARTS (parts_in fs + 1) || nat_lt MOST_SIGNS (signs t + signs_in c.before fs)) || list_any tally_passes v) r.round
-          ∙ ap (λ v. (v || nat_lt MOST_SIGNS (signs t + signs_in c.before fs)) || list_any tally_passes (tallies_round c.before fs)) g.part
-          ∙ ap (λ v. v || list_any tally_passes (tallies_round c.before fs)) g.sign
-          ∙ g.round)
+      let g = got_low c.before t fs k h in
+      ap (λ v. (nat_lt MOST_PARTS (v + 1) || nat_lt MOST_SIGNS (signs (lower m t fs).0 + signs_in c.before (lower m t fs).1)) || list_any tally_passes (tallies_round c.before (lower m t fs).1)) r.part
+      ∙ ap (λ v. (nat_lt MOST_PARTS (parts_in fs + 1) || nat_lt MOST_SIGNS v) || list_any tally_passes (tallies_round c.before (lower m t fs).1)) r.sign
+      ∙ ap (λ v. (nat_lt MOST_PARTS (parts_in fs + 1) || nat_lt MOST_SIGNS (signs t + signs_in c.before fs)) || list_any tally_passes v) r.round
+      ∙ ap (λ v. (v || nat_lt MOST_SIGNS (signs t + signs_in c.before fs)) || list_any tally_passes (tallies_round c.before fs)) g.part
+      ∙ ap (λ v. v || list_any tally_passes (tallies_round c.before fs)) g.sign
+      ∙ g.round)
       refl s
 
   -- ---- signs
@@ -222,9 +219,9 @@ module _ (c : Context) where
         let d = neither (nat_lt MOST_PARTS (size ts + 1) || nat_lt MOST_SIGNS (signs t + signs_in c.before (within h ts pre fs))) (list_any tally_passes (tallies_round c.before (within h ts pre fs))) k in
         let f = neither (nat_lt MOST_PARTS (size ts + 1)) (nat_lt MOST_SIGNS (signs t + signs_in c.before (within h ts pre fs))) d.0 in
         sym (ap (list_any tally_passes) y
-            ∙ ap (λ v. tally_passes (tally (size ts + 1) 0 (signs_in c.before (within h (more ts pre t) (sign m x ∷ []) fs)) 0 true) || list_any tally_passes v) (round_parts c.before h (more ts pre t) ts (sign m x ∷ []) pre fs)
-            ∙ beside _ (list_any tally_passes (tallies_round c.before (within h ts pre fs))) d.1
-            ∙ no_test _ _ _ _ f.0 refl (ap (nat_lt MOST_SIGNS) (part_signs c.before h ts pre (sign m x ∷ []) t fs) ∙ f.1) refl);
+        ∙ ap (λ v. tally_passes (tally (size ts + 1) 0 (signs_in c.before (within h (more ts pre t) (sign m x ∷ []) fs)) 0 true) || list_any tally_passes v) (round_parts c.before h (more ts pre t) ts (sign m x ∷ []) pre fs)
+        ∙ beside _ (list_any tally_passes (tallies_round c.before (within h ts pre fs))) d.1
+        ∙ no_test _ _ _ _ f.0 refl (ap (nat_lt MOST_SIGNS) (part_signs c.before h ts pre (sign m x ∷ []) t fs) ∙ f.1) refl);
     nests = ap (λ v. c.depth + v) b;
     opens = λ k. refl;
     stays = λ k. omega (arith, b, r);
@@ -266,7 +263,7 @@ module _ (c : Context) where
   sign_steps t m x fs k =
       step_if c (front_of c (got t fs)) (sign m x) (may_post (sort fs) t (sign m x)) (got (post t (sign m x)) fs) _ (λ a. post_step t (sign m x) fs k refl refl)
       (λ a. step_if c (front_of c (got t fs)) (sign m x) (is_expression (sort fs) && is_caret m) (want (timing t m x fs)) (join m x (lower (pull (sort fs) m) t fs)) (λ b. caret_step t m x fs k)
-          (λ b. lowered (pull (sort fs) m) t fs (sign m x) (join m x (lower (pull (sort fs) m) t fs)) k (join_step m x (lower (pull (sort fs) m) t fs))))
+      (λ b. lowered (pull (sort fs) m) t fs (sign m x) (join m x (lower (pull (sort fs) m) t fs)) k (join_step m x (lower (pull (sort fs) m) t fs))))
 
   -- ---- brackets behind a part
 
@@ -293,7 +290,7 @@ module _ (c : Context) where
   square_steps t x fs k =
       step_if c (front_of c (got t fs)) (opening bracket_of.Square x) (is_expression (sort fs)) (pathed (head t x) fs) _ (λ a. index_opens t x fs (pathed (head t x) fs) (fresh 0) k refl refl refl refl refl)
       (λ a. step_if c (front_of c (got t fs)) (opening bracket_of.Square x) (computes (sort fs)) (want (within (index t x) none [] fs)) None
-          (λ b. index_opens t x fs (want (within (index t x) none [] fs)) (fresh 0) k (ap (λ v. frame_numbers c fs ++ v) (append-nil (heading_numbers (context_in c fs) (index t x)))) refl refl refl (omega arith)) (λ b. tt))
+      (λ b. index_opens t x fs (want (within (index t x) none [] fs)) (fresh 0) k (ap (λ v. frame_numbers c fs ++ v) (append-nil (heading_numbers (context_in c fs) (index t x)))) refl refl refl (omega arith)) (λ b. tt))
 
   call_step : (f x : Token) (fs : Frames) → NoCount fs → Step c (front_of c (got (operand leaves.Function f) fs)) (opening bracket_of.Round x) (want (within (arguments f x) none [] fs))
   call_step f x fs k = record {
@@ -353,7 +350,7 @@ module _ (c : Context) where
     grown = e;
     limit = λ k.
         sym (ap (list_any tally_passes) y
-            ∙ (neither (nat_lt MOST_PARTS (size ts + 1) || nat_lt MOST_SIGNS (signs t + signs_in c.before (within h ts pre fs))) (list_any tally_passes (tallies_round c.before (within h ts pre fs))) k).1);
+        ∙ (neither (nat_lt MOST_PARTS (size ts + 1) || nat_lt MOST_SIGNS (signs t + signs_in c.before (within h ts pre fs))) (list_any tally_passes (tallies_round c.before (within h ts pre fs))) k).1);
     nests = n;
     opens = λ k. ap (λ b. b && nat_lt HIGHEST_TREE ((c.depth + part_brackets next) + part_bars next)) m;
     stays = λ k. z;
@@ -374,8 +371,8 @@ module _ (c : Context) where
         let e = neither (nat_lt MOST_PARTS (size ts + 1)) (nat_lt MOST_SIGNS (signs t + signs_in c.before (within (length o) ts pre fs))) d.0 in
         let r = neither (tally_passes (held_tally c.before 0 0 fs)) (list_any tally_passes (tallies_round c.before fs)) d.1 in
         sym (ap (list_any tally_passes) (settled c.before (bracket (length o) (more ts pre t) x) fs s)
-            ∙ beside (tally_passes (held_tally c.before (signs (bracket (length o) (more ts pre t) x)) 0 fs)) (list_any tally_passes (tallies_round c.before fs)) r.1
-            ∙ held_low 0 0 (signs (bracket (length o) (more ts pre t) x)) fs r.0 (ap (nat_lt MOST_SIGNS) (omega arith) ∙ e.1));
+        ∙ beside (tally_passes (held_tally c.before (signs (bracket (length o) (more ts pre t) x)) 0 fs)) (list_any tally_passes (tallies_round c.before fs)) r.1
+        ∙ held_low 0 0 (signs (bracket (length o) (more ts pre t) x)) fs r.0 (ap (nat_lt MOST_SIGNS) (omega arith) ∙ e.1));
     nests = omega (arith, settle_brackets c (bracket (length o) (more ts pre t) x) fs);
     opens = λ k. not_above HIGHEST_TREE _ (omega (arith, k, settle_brackets c (bracket (length o) (more ts pre t) x) fs, settle_bars c (bracket (length o) (more ts pre t) x) fs));
     stays = λ k. let no : true ≡ false = k in absurd (cc);
@@ -448,28 +445,28 @@ module _ (c : Context) where
   element_due t (within h ts pre fs) l o q s =
       same_step c (front_of c (got t (within h ts pre fs))) (front_of c (want (extend t (within h ts pre fs)))) l o refl refl refl
       (λ k.
-          let g = got_low c.before t (within h ts pre fs) q k in
-          ap (λ v. v || list_any tally_passes (tallies_round c.before (within h ts pre fs))) (no_test _ _ _ _ g.part one_part (ap (nat_lt MOST_SIGNS) (omega arith) ∙ g.sign) refl)
-          ∙ g.round) refl s
+      let g = got_low c.before t (within h ts pre fs) q k in
+      ap (λ v. v || list_any tally_passes (tallies_round c.before (within h ts pre fs))) (no_test _ _ _ _ g.part one_part (ap (nat_lt MOST_SIGNS) (omega arith) ∙ g.sign) refl)
+      ∙ g.round) refl s
   element_due t (over (left u m x) fs) l o q s =
       same_step c (front_of c (got t (over (left u m x) fs))) (front_of c (want (extend t (over (left u m x) fs)))) l o refl refl refl
       (λ k.
-          let g = got_low c.before t (over (left u m x) fs) q k in
-          ap (λ v. v || list_any tally_passes (tallies_round c.before fs)) (no_test _ _ _ _ g.part one_part (ap (nat_lt MOST_SIGNS) (omega arith) ∙ g.sign) refl)
-          ∙ g.round) refl s
+      let g = got_low c.before t (over (left u m x) fs) q k in
+      ap (λ v. v || list_any tally_passes (tallies_round c.before fs)) (no_test _ _ _ _ g.part one_part (ap (nat_lt MOST_SIGNS) (omega arith) ∙ g.sign) refl)
+      ∙ g.round) refl s
   element_due t (over (ahead m x) fs) l o q s =
       same_step c (front_of c (got t (over (ahead m x) fs))) (front_of c (want (extend t (over (ahead m x) fs)))) l o refl refl refl
       (λ k.
-          let g = got_low c.before t (over (ahead m x) fs) q k in
-          ap (λ v. v || list_any tally_passes (tallies_round c.before fs)) (no_test _ _ _ _ g.part one_part (ap (nat_lt MOST_SIGNS) (omega arith) ∙ g.sign) refl)
-          ∙ g.round) refl s
+      let g = got_low c.before t (over (ahead m x) fs) q k in
+      ap (λ v. v || list_any tally_passes (tallies_round c.before fs)) (no_test _ _ _ _ g.part one_part (ap (nat_lt MOST_SIGNS) (omega arith) ∙ g.sign) refl)
+      ∙ g.round) refl s
   element_due t (over (items ts) fs) l o q s =
       same_step c (front_of c (got t (over (items ts) fs))) (front_of c (want (extend t (over (items ts) fs)))) l o
       (append_assoc (frame_numbers c fs) (element_numbers (context_in c fs) ts) (numbers (context_in c (over (items ts) fs)) t)) refl refl
       (λ k.
-          let g = got_low c.before t (over (items ts) fs) q k in
-          ap (λ v. v || list_any tally_passes (tallies_round c.before fs)) (no_test _ _ _ _ g.part g.element (ap (nat_lt MOST_SIGNS) (omega arith) ∙ g.sign) refl)
-          ∙ g.round) refl s
+      let g = got_low c.before t (over (items ts) fs) q k in
+      ap (λ v. v || list_any tally_passes (tallies_round c.before fs)) (no_test _ _ _ _ g.part g.element (ap (nat_lt MOST_SIGNS) (omega arith) ∙ g.sign) refl)
+      ∙ g.round) refl s
   element_due t (timing u m x fs) l o q s = absurd q
 
   count_ends : (t u : Tree) (m : Mark) (z : Token) (fs : Frames) (l : Terminal) → after t (timing u m z fs) l ≡ None
@@ -564,9 +561,9 @@ module _ (c : Context) where
         ap (λ b. list_any too_many (if b then number.part (size ts + 1) ∷ [] else [])) e
         ∙ or_false (nat_lt MOST_PARTS (size ts + 1))
         ∙ sym (ap (λ b. tally_passes (tally (with_one b (size ts)) 0 (signs_in c.before (within h ts (pre ++ l ∷ []) fs)) 0 true) || list_any tally_passes (tallies_round c.before (within h ts (pre ++ l ∷ []) fs))) (label_is pre l ∙ e)
-            ∙ ap (λ v. tally_passes (tally (size ts + 1) 0 (signs_in c.before (within h ts (pre ++ l ∷ []) fs)) 0 true) || list_any tally_passes v) (round_parts c.before h ts ts (pre ++ l ∷ []) pre fs)
-            ∙ beside _ (list_any tally_passes (tallies_round c.before (within h ts pre fs))) d.1
-            ∙ first_test (nat_lt MOST_PARTS (size ts + 1)) _ _ _ refl (ap (nat_lt MOST_SIGNS) (same_signs c.before h ts (pre ++ l ∷ []) pre fs) ∙ y.sign) refl);
+        ∙ ap (λ v. tally_passes (tally (size ts + 1) 0 (signs_in c.before (within h ts (pre ++ l ∷ []) fs)) 0 true) || list_any tally_passes v) (round_parts c.before h ts ts (pre ++ l ∷ []) pre fs)
+        ∙ beside _ (list_any tally_passes (tallies_round c.before (within h ts pre fs))) d.1
+        ∙ first_test (nat_lt MOST_PARTS (size ts + 1)) _ _ _ refl (ap (nat_lt MOST_SIGNS) (same_signs c.before h ts (pre ++ l ∷ []) pre fs) ∙ y.sign) refl);
     nests = sym n;
     opens = λ k. ap (λ b. b && nat_lt HIGHEST_TREE ((c.depth + (heading_brackets h + frame_brackets fs)) + (heading_bars h + frame_bars fs))) m ∙ sym (shut_entry (is_label l));
     stays = λ k. omega arith;

@@ -1,5 +1,5 @@
 -- The verdict on tokens is told by the numbers of the definitions that begin with them.
-use Rattle.std.proofs.Common.{◌≡◌, ℕ, ◌+◌, ◌≤◌, ◌<◌, ◌⊎◌, inl, inr, List, [], ◌∷◌, ◌++◌, length, map, take, get_or, Bool, true, false, ◌&&◌, ◌||◌, nat_lt, Option, Some, None, option_and_then, if◌then◌else◌, refl, sym, ap, subst, ◌∙◌, append_assoc, append-nil, arith}
+use Rattle.std.proofs.Common.{◌≡◌, ℕ, ◌+◌, ◌≤◌, ◌<◌, List, [], ◌∷◌, ◌++◌, length, map, take, get_or, Bool, true, false, ◌&&◌, ◌||◌, nat_lt, Option, Some, None, option_and_then, if◌then◌else◌, refl, sym, ap, subst, ◌∙◌, append_assoc, append-nil, arith}
 use Rattle.std.specs.List.{list_any}
 use Rattle.std.proofs.lemmas.List.{take-map, length-map, length-take}
 use Rattle.std.proofs.lemmas.List.Folds.{list_any-append}
@@ -21,16 +21,16 @@ use Rattle.st_parse_automaton.proofs.Loop.{last_step, one_more}
 use Rattle.st_parse_faults.specs.Counts.{member_due, event, counts_after, counts_pass}
 use Rattle.st_parse_faults.specs.Nesting.{nesting_after, brackets_behind, bars, may_open}
 use Rattle.st_parse_faults.specs.Limits.{part_passes}
-use Rattle.st_parse_faults.specs.Judging.{TokenVerdict, passed, broken, limited, judge_all}
+use Rattle.st_parse_faults.specs.Judging.{passed, broken, limited, judge_all}
 use Rattle.st_parse_faults.specs.Faults as faults
 use Rattle.st_parse_faults.specs.Faults.{Seen, opens_too_many, seen_after, refusal, judged, judge, verdict, nothing_seen}
 use Rattle.st_parse_faults.specs.Number.{Number, too_deep, too_many}
 use Rattle.st_parse_faults.specs.DefinitionNumbers.{defs_numbers}
-use Rattle.st_parse_faults.specs.Breaking.{passes_limit, limit_rule, KeepsLimits, BeginWith, FrontKept, PassesLimit}
+use Rattle.st_parse_faults.specs.Breaking.{passes_limit, limit_rule, KeepsLimits, FrontKept, PassesLimit}
 use Rattle.st_parse_faults.specs.inner.PositionNumbers.{read_numbers, brackets, counts_in}
 use Rattle.st_parse_faults.proofs.KeptTallies.{neither}
 use Rattle.st_parse_faults.proofs.NumberFacts.{or_false}
-use Rattle.st_parse_faults.proofs.PositionNumberSteps.{Front, front_of, Ready, Step, StepTo, steps, finishes}
+use Rattle.st_parse_faults.proofs.PositionNumberSteps.{front_of, Ready, Step, StepTo, steps, finishes}
 use Rattle.st_parse_faults.proofs.JudgingLemmas as judging
 use Rattle.st_parse_faults.proofs.JudgingLemmas.{never_passes}
 use Rattle.st_parse_faults.proofs.Verdicts.{verdict_reads}
@@ -226,8 +226,7 @@ kept_front tokens k seen h e =
     let us = take k (terminals_of tokens) in
     let v = viable (declared_names tokens) us seen.state (verdict_reads tokens k seen e) in
     let r = reads_front us (map (terminal (declared_names tokens)) v.0) v.1 v.2 in
-    let same : seen.state ≡ r.0 = let both : Some seen.state ≡ Some r.0 = sym (verdict_reads tokens k seen e) ∙ r.1 in cc in
-    (
+    let same : seen.state ≡ r.0 = let both : Some seen.state ≡ Some r.0 = sym (verdict_reads tokens k seen e) ∙ r.1 in cc in (
       v.1,
       record { rest = v.0; grammar = v.2 },
       ap (list_any passes_limit) (front_entries us r.0 v.1 k r.2 (taken_long tokens k h) ∙ ap read_numbers (sym same))

@@ -1,35 +1,32 @@
 -- What is known of the numbers at a position: what tokens open and close, and what is counted.
-use Rattle.std.proofs.Common.{◌≡◌, ℕ, ◌+◌, ◌-◌, ◌≤◌, List, [], ◌∷◌, ◌++◌, map, length, Bool, true, false, not, ◌&&◌, ◌||◌, ◌==◌, Option, Some, None, option_and_then, nat_lt, if◌then◌else◌, refl, sym, ap, subst, ◌∙◌, append_assoc, append-nil, arith}
+use Rattle.std.proofs.Common.{◌≡◌, ℕ, ◌+◌, ◌-◌, List, [], ◌∷◌, ◌++◌, length, Bool, true, false, ◌&&◌, ◌||◌, Option, Some, None, option_and_then, nat_lt, if◌then◌else◌, refl, sym, ap, ◌∙◌, append_assoc, append-nil, arith}
 use Rattle.std.specs.List.{list_any}
-use Rattle.std.proofs.lemmas.List.{map-append}
 use Rattle.st_num.specs.declared.mark.Mark.{Mark}
 use Rattle.st_num.specs.declared.token.Token.{Token}
-use Rattle.st_num.specs.declared.limit.TheConstants.{MOST_DEFINITIONS, MOST_PREMISES, MOST_PARTS, MOST_SIGNS, HIGHEST_TREE}
+use Rattle.st_num.specs.declared.limit.TheConstants.{MOST_DEFINITIONS, MOST_PREMISES, MOST_PARTS, MOST_SIGNS}
 use Rattle.st_grammar.specs.declared.keyword.Keyword.{Keyword}
 use Rattle.st_grammar.specs.declared.keyword.Keyword.TheVariants as key
 use Rattle.st_grammar.specs.declared.sort.Bracket.{Bracket}
 use Rattle.st_grammar.specs.declared.sort.Bracket.TheVariants as bracket_of
 use Rattle.st_grammar.specs.declared.sort.Closing.TheVariants as closings
 use Rattle.st_grammar.specs.declared.sort.Closing.{Closing}
-use Rattle.st_grammar.specs.declared.sort.Sort.TheVariants.{Expression as expression}
 use Rattle.st_grammar.specs.Terminals.{Terminal, leaf, dot, sign, opening, closing, other}
-use Rattle.st_grammar.specs.Trees.{Tree, Trees, none, more, closed_by, agree}
-use Rattle.st_grammar.specs.Grammar.{is_label, size}
-use Rattle.st_grammar.specs.Definitions.{keyword, touches, signed, is_minus, is_bar, opens_round, closes_round, opens_brace, closes_brace, is_low, is_fun, names_relation, is_name, is_piece, is_dot, id_step, scan, balance_step, Hints, Members, no_members, member, Body, fields, cases, Iterations, no_iterations, counted, closings, default, given, Premises, no_premises, more_premises, Args, syntax_def, var_def, relation_def, rule_def, fun_def, clause_def, Def, Defs, no_defs, more_defs}
-use Rattle.st_grammar.specs.Reading as part
-use Rattle.st_grammar.specs.Positions.{Head, syntax_head, Rule, rule_head, clause_head, Host, of_syntax, of_field, of_case, of_var, of_relation, of_notation, of_fun, Slot, field_slot, case_slot, var_slot, notation_slot, fun_slot, arg_slot, rule_slot, cond_slot, count_slot, slot_sort, Position, between, syntax_name, var_name, var_colon, relation_name, rule_name, rule_colon, fun_name, fun_named, argued, args_closed, syntax_id, rule_id, hinted, hint_open, hint_name, hint_words, entering, dotted, field_name, premised, premise_open, goal_colon, iterated, State, at, inside, syntax_whole, rule_whole, host_whole, is_whole, whole, filled}
+use Rattle.st_grammar.specs.Trees.{Tree, closed_by, agree}
+use Rattle.st_grammar.specs.Grammar.{is_label}
+use Rattle.st_grammar.specs.Definitions.{keyword, signed, is_bar, opens_round, closes_round, opens_brace, closes_brace, is_low, is_fun, names_relation, is_name, id_step, scan, balance_step, Hints, Members, member, Body, fields, cases, Iterations, closings, given, Premises, more_premises, syntax_def, var_def, relation_def, rule_def, fun_def, clause_def, Defs, no_defs, more_defs}
+use Rattle.st_grammar.specs.Positions.{Head, syntax_head, Rule, rule_head, clause_head, Host, of_syntax, of_field, of_case, of_var, of_relation, of_notation, of_fun, Slot, field_slot, case_slot, var_slot, notation_slot, fun_slot, arg_slot, rule_slot, cond_slot, count_slot, Position, between, syntax_name, var_name, var_colon, relation_name, rule_name, rule_colon, fun_name, fun_named, argued, args_closed, syntax_id, rule_id, hinted, hint_open, hint_name, hint_words, entering, dotted, field_name, premised, premise_open, goal_colon, iterated, at, syntax_whole, rule_whole, host_whole, is_whole, whole, filled}
 use Rattle.st_grammar.proofs.PositionSteps.{is_same}
 use Rattle.st_grammar.proofs.Sound.{and_left}
 use Rattle.st_parse_faults.specs.declared.counts.Counts.{Counts}
 use Rattle.st_parse_faults.specs.declared.counts.Event.{Event}
 use Rattle.st_parse_faults.specs.declared.counts.Event.TheVariants.{Definition, Premise, Member, Iteration, Closed, Nothing}
-use Rattle.st_parse_faults.specs.Counts.{member_due, event, counts_after, counts_pass}
+use Rattle.st_parse_faults.specs.Counts.{member_due, counts_after, counts_pass}
 use Rattle.st_parse_faults.specs.Number as number
 use Rattle.st_parse_faults.specs.Number.{Number, too_deep, too_many}
-use Rattle.st_parse_faults.specs.Numbers.{Context, label_entry, no_entries, open_entry, numbers}
-use Rattle.st_parse_faults.specs.DefinitionNumbers.{members_size, premises_size, defs_size, iterations_row, word_entry, word_numbers, hints_numbers, alone, member_begins, field_numbers, case_numbers, body_numbers, paren_numbers, iteration_begins, iteration_numbers, premise_numbers, premise_begins, premises_numbers, argument_numbers, args_numbers, def_begins, defs_numbers}
+use Rattle.st_parse_faults.specs.Numbers.{no_entries, open_entry, numbers}
+use Rattle.st_parse_faults.specs.DefinitionNumbers.{members_size, premises_size, defs_size, word_entry, word_numbers, body_numbers, paren_numbers, defs_numbers}
 use Rattle.st_parse_faults.specs.Nesting.{nesting_after, brackets_behind, may_open}
-use Rattle.st_parse_faults.specs.inner.PositionNumbers.{head_numbers, rule_numbers, ruled_numbers, host_depth, host_numbers, slot_numbers, slot_depth, slot_begins, slot_context, position_numbers, read_numbers, position_brackets, counts, last_row, defs_counts, head_number, rule_counts, host_counts, slot_counts, inner_counts, position_counts, counts_in}
+use Rattle.st_parse_faults.specs.inner.PositionNumbers.{head_numbers, ruled_numbers, slot_numbers, slot_depth, slot_begins, slot_context, position_numbers, position_brackets, counts, last_row, defs_counts, head_number, rule_counts, inner_counts, position_counts}
 use Rattle.st_parse_faults.proofs.KeptTallies.{neither}
 use Rattle.st_parse_faults.proofs.NumberFacts.{or_false, no_test, first_test, second_test, third_test, fourth_test}
 

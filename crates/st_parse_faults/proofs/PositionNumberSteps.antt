@@ -10,18 +10,18 @@ use Rattle.st_grammar.specs.declared.keyword.Keyword.TheVariants as key
 use Rattle.st_grammar.specs.declared.sort.Bracket.{Bracket}
 use Rattle.st_grammar.specs.declared.sort.Closing.TheVariants as closings_of
 use Rattle.st_grammar.specs.declared.sort.Sort.{Sort}
-use Rattle.st_grammar.specs.declared.sort.Sort.TheVariants.{Expression as expression, Notation as notation, Typ as typ}
+use Rattle.st_grammar.specs.declared.sort.Sort.TheVariants.{Expression as expression, Typ as typ}
 use Rattle.st_grammar.specs.Terminals.{Terminal, leaf, dot, sign, opening, closing, other}
 use Rattle.st_grammar.specs.Levels.{is_iteration_sign, is_caret, is_comma, is_colon}
-use Rattle.st_grammar.specs.Trees.{Tree, Trees, none, more}
-use Rattle.st_grammar.specs.Grammar.{is_label, size}
-use Rattle.st_grammar.specs.Definitions.{keyword, touches, signed, is_slash, is_equal, is_dots, is_bar, opens_round, closes_round, opens_brace, closes_brace, is_low, is_fun, names_relation, is_name, id_step, scan, balance_step, hint, Hints, no_hints, more_hints, Members, no_members, member, fields, cases, Iterations, no_iterations, closed, marked, closings, has_closed, default, given, Premises, more_premises, Args, no_args, args, Defs}
+use Rattle.st_grammar.specs.Trees.{Tree, none, more}
+use Rattle.st_grammar.specs.Grammar.{is_label}
+use Rattle.st_grammar.specs.Definitions.{keyword, touches, signed, is_slash, is_equal, is_dots, is_bar, opens_round, closes_round, opens_brace, closes_brace, is_low, is_fun, names_relation, is_name, id_step, scan, balance_step, hint, Hints, no_hints, more_hints, Members, no_members, member, fields, cases, Iterations, closed, marked, closings, has_closed, default, given, Premises, more_premises, Args, no_args, args, Defs}
 use Rattle.st_grammar.specs.Reading as part
 use Rattle.st_grammar.specs.Positions.{Head, syntax_head, Rule, rule_head, clause_head, Host, of_syntax, of_field, of_case, of_var, of_relation, of_notation, of_fun, Slot, field_slot, case_slot, var_slot, notation_slot, fun_slot, arg_slot, rule_slot, cond_slot, count_slot, slot_sort, Position, between, syntax_name, var_name, var_colon, relation_name, rule_name, rule_colon, fun_name, fun_named, argued, args_closed, syntax_id, rule_id, hinted, hint_open, hint_name, hint_words, entering, dotted, field_name, premised, premise_open, goal_colon, iterated, State, at, inside, syntax_whole, is_whole, whole, begin_def, begun, when, enter, enter_case, enter_other, field_step, host_step, hint_or, hint_step, id_goes, colon_step, reads_types, result_step, premise_step, premise_word, next_premise, may_close, iterate, own, first_of_two, position_step, filled, taken, step, finish}
 use Rattle.st_grammar.proofs.PositionSteps.{is_same}
 use Rattle.st_grammar.proofs.PositionTexts.{PositionHolds, Holds}
 use Rattle.st_grammar.proofs.PositionReading.{filled_reached}
-use Rattle.st_grammar.proofs.Sound.{and_left, and_right, state_base}
+use Rattle.st_grammar.proofs.Sound.{and_left, state_base}
 use Rattle.st_parse_faults.specs.declared.counts.Counts.{Counts}
 use Rattle.st_parse_faults.specs.declared.counts.Event.{Event}
 use Rattle.st_parse_faults.specs.declared.counts.Event.TheVariants.{Definition, Premise, Member, Iteration, Closed, Nothing}
@@ -29,16 +29,16 @@ use Rattle.st_parse_faults.specs.Counts.{member_due, event, counts_after, counts
 use Rattle.st_parse_faults.specs.Number as number
 use Rattle.st_parse_faults.specs.Number.{Number, too_deep, too_many}
 use Rattle.st_parse_faults.specs.Numbers.{Context, context, label_entry, no_entries, open_entry, numbers}
-use Rattle.st_parse_faults.specs.DefinitionNumbers.{members_size, premises_size, defs_size, iterations_row, word_entry, word_numbers, hints_numbers, alone, member_begins, field_numbers, case_numbers, paren_numbers, iteration_begins, iteration_numbers, premise_begins, premises_numbers, argument_numbers, args_numbers, def_begins, defs_numbers}
+use Rattle.st_parse_faults.specs.DefinitionNumbers.{members_size, defs_size, word_entry, word_numbers, hints_numbers, alone, member_begins, field_numbers, case_numbers, paren_numbers, iteration_begins, iteration_numbers, premise_begins, args_numbers, def_begins, defs_numbers}
 use Rattle.st_parse_faults.specs.Nesting.{nesting_after, brackets_behind, frame_bars, part_bars, bars, may_open}
-use Rattle.st_parse_faults.specs.Limits.{signs, all_signs, signs_in, fresh, part_tallies, signs_before, tallies, tally_passes, part_passes}
+use Rattle.st_parse_faults.specs.Limits.{signs, all_signs, signs_in, fresh, part_tallies, signs_before, tally_passes, part_passes}
 use Rattle.st_parse_faults.specs.inner.Numbering.{state_numbers, frame_brackets, part_brackets}
-use Rattle.st_parse_faults.specs.inner.PositionNumbers.{head_numbers, rule_numbers, ruled_numbers, host_depth, host_numbers, slot_numbers, slot_depth, slot_begins, slot_context, position_numbers, read_numbers, position_brackets, brackets, counts, args_size, last_row, defs_counts, head_number, rule_counts, host_counts, slot_counts, inner_counts, position_counts, counts_in}
+use Rattle.st_parse_faults.specs.inner.PositionNumbers.{head_numbers, ruled_numbers, host_depth, host_numbers, slot_numbers, slot_depth, slot_begins, slot_context, position_numbers, read_numbers, brackets, counts, args_size, defs_counts, slot_counts, inner_counts, counts_in}
 use Rattle.st_parse_faults.proofs.KeptTallies.{neither}
-use Rattle.st_parse_faults.proofs.NumberFacts.{or_false, beside, no_test, outer}
+use Rattle.st_parse_faults.proofs.NumberFacts.{or_false, beside, no_test}
 use Rattle.st_parse_faults.proofs.NumberBegins as inner
 use Rattle.st_parse_faults.proofs.NumberSteps.{not_above, got_low, lowers, part_steps, part_ends}
-use Rattle.st_parse_faults.proofs.PositionNumberFacts.{no_way, still, still_nests, is_word, Opens, signed_still, low_still, var_still, label_still, fun_still, relation_still, name_still, bar_still, word_still, id_still, round_opens, brace_opens, round_closes, brace_closes, no_more, parens_more, words_more, behind_more, balance_nests, balanced, event_entry, event_passes, syntax_numbers, fields_counts, cases_counts, def_number, Whole, WholeAs, wholes, given_numbers, filled_numbers, filled_brackets, filled_counts, filled_due, slot_shallow}
+use Rattle.st_parse_faults.proofs.PositionNumberFacts.{no_way, still, still_nests, is_word, Opens, signed_still, low_still, var_still, label_still, fun_still, relation_still, name_still, bar_still, word_still, id_still, round_opens, brace_opens, round_closes, brace_closes, no_more, parens_more, words_more, behind_more, balanced, event_entry, event_passes, syntax_numbers, fields_counts, cases_counts, def_number, WholeAs, wholes, given_numbers, filled_numbers, filled_brackets, filled_counts, filled_due, slot_shallow}
 
 -- ---- what stands before a token
 
@@ -195,8 +195,8 @@ case_steps h no_members [] l =
     step_if f l (opens_brace l) (at (field_name h l no_members [])) _
     (λ e. opener f l (at (field_name h l no_members [])) 0 (brace_opens l e) refl (ap (λ v. v ++ open_entry [] 1 ∷ []) (sym (append-nil (head_numbers h)))) refl refl (λ q. refl) refl refl tt)
     (λ e. step_if f l (signed is_dots l) (at (dotted h l)) _
-        (λ i. quiet f l (at (dotted h l)) (signed_still is_dots l i) none_before refl refl (λ q. refl) refl refl tt)
-        (λ i. step_when f l (is_bar l) (at (entering (case_slot h no_members (l ∷ [])))) (λ j. quiet f l (at (entering (case_slot h no_members (l ∷ [])))) (bar_still l j) none_before refl refl (λ q. refl) refl refl tt)))
+    (λ i. quiet f l (at (dotted h l)) (signed_still is_dots l i) none_before refl refl (λ q. refl) refl refl tt)
+    (λ i. step_when f l (is_bar l) (at (entering (case_slot h no_members (l ∷ [])))) (λ j. quiet f l (at (entering (case_slot h no_members (l ∷ [])))) (bar_still l j) none_before refl refl (λ q. refl) refl refl tt)))
   where
     f : Front
     f = front_of (at (entering (case_slot h no_members [])))
@@ -239,7 +239,7 @@ label_begins : (h : Head) (o : Terminal) (ms : Members) (pre : List Terminal) (l
 label_begins h o ms pre l e =
     flat (front_of (at (field_name h o ms pre))) l (begun (field_slot h o ms (pre ++ l ∷ []))) (label_entry (member_begins ms) l) Member
     (ap (λ v. (head_numbers h ++ (open_entry [] 1 ∷ (field_numbers ms ++ v))) ++ []) (map-append (label_entry (member_begins ms)) pre (l ∷ []))
-        ∙ label_numbers (head_numbers h) (field_numbers ms) (map (label_entry (member_begins ms)) pre) (open_entry [] 1) (label_entry (member_begins ms) l))
+    ∙ label_numbers (head_numbers h) (field_numbers ms) (map (label_entry (member_begins ms)) pre) (open_entry [] 1) (label_entry (member_begins ms) l))
     refl refl (ap (λ b. list_any too_many (if b then member_begins ms else [])) e) (label_deep (is_label l) (members_size ms + 1)) (λ q. refl) (sym (still_nests l 1 (label_still l e))) (omega arith) refl tt
 
 fields_more : (a f : List (List Number)) (o : List Number) → a ++ (o ∷ (f ++ [] ∷ [])) ≡ (a ++ (o ∷ (f ++ []))) ++ [] ∷ []
@@ -356,11 +356,11 @@ words_steps h hs w o n ws cs l k = go cs k (balance_step cs l)
     on bs ds =
         step_by (front_of (at (hint_words h hs w o n ws bs))) l (at (hint_words h hs w o n (ws ++ l ∷ []) ds)) (word_entry (brackets_behind d ws) l) Nothing
         (ap (λ v. host_numbers h ++ (hints_numbers (host_depth h) hs ++ ([] ∷ open_entry [] d ∷ [] ∷ v))) (words_more d ws l)
-            ∙ hint_more (host_numbers h) (hints_numbers (host_depth h) hs) [] (open_entry [] d) (word_numbers d ws) (word_entry (brackets_behind d ws) l))
+        ∙ hint_more (host_numbers h) (hints_numbers (host_depth h) hs) [] (open_entry [] d) (word_numbers d ws) (word_entry (brackets_behind d ws) l))
         refl refl (word_many (brackets_behind d ws) l) (λ q. refl) (behind_more d ws l)
         (λ b.
-            ap (λ v. may_open l && nat_lt HIGHEST_TREE v) (omega (arith, behind_more d ws l))
-            ∙ word_deep (brackets_behind d ws) l (omega (arith, b)))
+        ap (λ v. may_open l && nat_lt HIGHEST_TREE v) (omega (arith, behind_more d ws l))
+        ∙ word_deep (brackets_behind d ws) l (omega (arith, b)))
         (λ b. omega (arith, behind_more d ws l, word_stays (brackets_behind d ws) l b)) tt
 
     go : (bs : List Bracket) → scan balance_step [] ws ≡ Some bs → (b : Option (List Bracket)) → StepTo (front_of (at (hint_words h hs w o n ws bs))) l (hint_step h hs w o n ws bs l b)
@@ -369,7 +369,7 @@ words_steps h hs w o n ws cs l k = go cs k (balance_step cs l)
         let same : brackets_behind d ws ≡ d = ap (λ v. brackets_behind v ws) (omega arith) ∙ balanced d ws [] [] e ∙ omega arith in
         step_when (front_of (at (hint_words h hs w o n ws []))) l (closes_round l) (at (hinted h (more_hints hs (hint w o n ws l))))
         (λ i. shuts (front_of (at (hint_words h hs w o n ws []))) l (at (hinted h (more_hints hs (hint w o n ws l))))
-            (hint_more (host_numbers h) (hints_numbers (host_depth h) hs) [] (open_entry [] d) (word_numbers d ws) []) refl refl (λ q. refl) (round_closes l (brackets_behind d ws) i) (omega (arith, same)) refl tt)
+        (hint_more (host_numbers h) (hints_numbers (host_depth h) hs) [] (open_entry [] d) (word_numbers d ws) []) refl refl (λ q. refl) (round_closes l (brackets_behind d ws) i) (omega (arith, same)) refl tt)
     go (c ∷ bs) e None = tt
 
 -- ---- heads of rules and clauses
@@ -395,7 +395,7 @@ result_steps ds w f a b l =
     step_if (named_front ds a) l (signed is_colon l && b) (begun (fun_slot ds w f a l)) (when (signed is_equal l) (begun (rule_slot (clause_head ds w f a l))))
     (λ e. quiet (named_front ds a) l (begun (fun_slot ds w f a l)) (signed_still is_colon l (and_left _ _ e)) (simp (append_assoc, append-nil)) refl refl (λ q. refl) refl refl tt)
     (λ e. step_when (named_front ds a) l (signed is_equal l) (begun (rule_slot (clause_head ds w f a l)))
-        (λ i. quiet (named_front ds a) l (begun (rule_slot (clause_head ds w f a l))) (signed_still is_equal l i) (simp (append_assoc, append-nil)) refl refl (λ q. refl) refl refl tt))
+    (λ i. quiet (named_front ds a) l (begun (rule_slot (clause_head ds w f a l))) (signed_still is_equal l i) (simp (append_assoc, append-nil)) refl refl (λ q. refl) refl refl tt))
 
 id_steps : (f : Front) (l : Terminal) (e : Option Bool) (d : Bool) (next : Bool → State) (o : Option State) → ((b : Bool) → e ≡ Some b → Step f l (next b)) → StepTo f l o → StepTo f l (id_goes e d next o)
 id_steps f l (Some b) d next o g h = g b refl
@@ -415,7 +415,7 @@ premise_steps : (r : Rule) (t : Tree) (ps : Premises) (d : Terminal) (os : List 
 premise_steps r t ps d os l =
     step_if (front_of (at (premise_open r t ps d os))) l (opens_round l) (at (premise_open r t ps d (os ++ l ∷ []))) (when (names_relation l) (at (goal_colon r t ps d os l))) (λ e. premise_opens r t ps d os l e (nothing os))
     (λ e. step_when (front_of (at (premise_open r t ps d os))) l (names_relation l) (at (goal_colon r t ps d os l))
-        (λ i. quiet (front_of (at (premise_open r t ps d os))) l (at (goal_colon r t ps d os l)) (relation_still l i) (simp append_assoc) refl refl (λ q. refl) refl refl tt))
+    (λ i. quiet (front_of (at (premise_open r t ps d os))) l (at (goal_colon r t ps d os l)) (relation_still l i) (simp append_assoc) refl refl (λ q. refl) refl refl tt))
   where
     nothing : (qs : List Terminal) → event false (at (premise_open r t ps d (qs ++ l ∷ []))) ≡ Nothing
     nothing [] = refl
@@ -457,14 +457,14 @@ iterate_steps r t ps d os ls u i l =
     step_if f l (closes_round l && may_close os i) (at (iterated r t ps d os ls u (closed i l))) _
     (λ e. flat f l (at (iterated r t ps d os ls u (closed i l))) [] Closed (one_more []) refl refl refl refl (λ q. refl) (omega (arith, round_closes l (length os - closings i) (and_left _ _ e))) (omega arith) refl tt)
     (λ e. step_if f l (signed is_iteration_sign l && has_closed i) (at (iterated r t ps d os ls u (marked i l))) _
-        (λ j. flat f l (at (iterated r t ps d os ls u (marked i l))) (iteration_begins i) Iteration (one_more (iteration_begins i)) refl refl refl refl (λ q. refl)
-            (sym (still_nests l (length os - closings i) (signed_still is_iteration_sign l (and_left _ _ j)))) (omega arith) refl tt)
-        (λ j. step_if f l (signed is_caret l && has_closed i) (begun (count_slot r t ps d os ls u i l)) _
-            (λ k. flat f l (begun (count_slot r t ps d os ls u i l)) (iteration_begins i) Iteration (append-nil (slot_numbers (count_slot r t ps d os ls u i l)) ∙ one_more (iteration_begins i)) refl refl refl refl (λ q. refl)
-                (omega (arith, still_nests l (length os - closings i) (signed_still is_caret l (and_left _ _ k)))) (omega arith) refl tt)
-            (λ k. step_both f l (is_whole os i) (next_premise (keyword l) r t qs l) None
-                (λ e. same_step f (front_of (at (premised r t qs))) l (next_premise (keyword l) r t qs l) (given_numbers r t ps d os ls u i) (omega (arith, is_same (closings i) (length os) (and_left _ _ e))) refl refl refl (λ q. refl) (next_steps r t qs l (keyword l) refl))
-                (λ e. tt))))
+    (λ j. flat f l (at (iterated r t ps d os ls u (marked i l))) (iteration_begins i) Iteration (one_more (iteration_begins i)) refl refl refl refl (λ q. refl)
+    (sym (still_nests l (length os - closings i) (signed_still is_iteration_sign l (and_left _ _ j)))) (omega arith) refl tt)
+    (λ j. step_if f l (signed is_caret l && has_closed i) (begun (count_slot r t ps d os ls u i l)) _
+    (λ k. flat f l (begun (count_slot r t ps d os ls u i l)) (iteration_begins i) Iteration (append-nil (slot_numbers (count_slot r t ps d os ls u i l)) ∙ one_more (iteration_begins i)) refl refl refl refl (λ q. refl)
+    (omega (arith, still_nests l (length os - closings i) (signed_still is_caret l (and_left _ _ k)))) (omega arith) refl tt)
+    (λ k. step_both f l (is_whole os i) (next_premise (keyword l) r t qs l) None
+    (λ e. same_step f (front_of (at (premised r t qs))) l (next_premise (keyword l) r t qs l) (given_numbers r t ps d os ls u i) (omega (arith, is_same (closings i) (length os) (and_left _ _ e))) refl refl refl (λ q. refl) (next_steps r t qs l (keyword l) refl))
+    (λ e. tt))))
   where
     f : Front
     f = front_of (at (iterated r t ps d os ls u i))
@@ -663,10 +663,10 @@ inner_step s st l next p r =
           let d = neither (counts_pass (counts_in (inside s st))) (part_passes (inside s st)) h in
           r.limit d.1
           ∙ ap (λ v. v || part_passes (inside s next))
-              (b.begins
-                  ∙ ap (λ c. list_any too_many (event_entry (event (member_due (inside s st)) (inside s next)) c)) b.counted
-                  ∙ event_passes (counts_in (inside s st)) (event (member_due (inside s st)) (inside s next)) d.0
-                  ∙ ap counts_pass (sym b.counted));
+          (b.begins
+          ∙ ap (λ c. list_any too_many (event_entry (event (member_due (inside s st)) (inside s next)) c)) b.counted
+          ∙ event_passes (counts_in (inside s st)) (event (member_due (inside s st)) (inside s next)) d.0
+          ∙ ap counts_pass (sym b.counted));
       nests = r.nests;
       opens = r.opens;
       stays = λ h. omega (arith, r.stays h);
@@ -711,10 +711,10 @@ entry_step s l next p r =
           let d = neither (counts_pass (slot_counts s)) (part_passes (at (entering s))) h in
           r.limit d.1
           ∙ ap (λ v. v || part_passes (inside s next))
-              (entry_begins s next p q
-                  ∙ ap (λ c. list_any too_many (event_entry (event true (inside s next)) c)) (entry_counts s next p q)
-                  ∙ event_passes (slot_counts s) (event true (inside s next)) d.0
-                  ∙ ap counts_pass (sym (entry_counts s next p q)));
+          (entry_begins s next p q
+          ∙ ap (λ c. list_any too_many (event_entry (event true (inside s next)) c)) (entry_counts s next p q)
+          ∙ event_passes (slot_counts s) (event true (inside s next)) d.0
+          ∙ ap counts_pass (sym (entry_counts s next p q)));
       nests = r.nests ∙ ap (λ v. nesting_after v l) (omega arith);
       opens = λ h. r.opens (omega (arith, h));
       stays = λ h. omega (arith, r.stays h);
@@ -757,13 +757,13 @@ own_steps (argued ds w f o ts) l h r =
     step_if (front_of (at (argued ds w f o ts))) l (signed is_comma l) (begun (arg_slot ds w f o ts (l ∷ []))) (when (closes_round l) (at (args_closed ds w f o ts l)))
     (λ e. quiet (front_of (at (argued ds w f o ts))) l (begun (arg_slot ds w f o ts (l ∷ []))) (signed_still is_comma l e) (simp (append_assoc, append-nil)) refl refl (λ q. q) refl refl tt)
     (λ e. step_when (front_of (at (argued ds w f o ts))) l (closes_round l) (at (args_closed ds w f o ts l))
-        (λ i. shuts (front_of (at (argued ds w f o ts))) l (at (args_closed ds w f o ts l)) (simp append_assoc) refl refl (λ q. refl) (round_closes l 1 i) refl refl tt))
+    (λ i. shuts (front_of (at (argued ds w f o ts))) l (at (args_closed ds w f o ts l)) (simp append_assoc) refl refl (λ q. refl) (round_closes l 1 i) refl refl tt))
 own_steps (args_closed ds w f o ts c) l h r = result_steps ds w f (args o ts c) (reads_types ts) l
 own_steps (syntax_id ds w x ls d) l h r =
     id_steps (front_of (at (syntax_id ds w x ls d))) l (id_step d l) d (λ e. at (syntax_id ds w x (ls ++ l ∷ []) e)) (hint_or (keyword l) (of_syntax ds w x ls) no_hints l)
     (λ b e. quiet (front_of (at (syntax_id ds w x ls d))) l (at (syntax_id ds w x (ls ++ l ∷ []) b)) (id_still d l b e) (simp (append_assoc, no_more)) refl refl (λ q. refl) refl refl tt)
     (same_step (front_of (at (syntax_id ds w x ls d))) (front_of (at (hinted (of_syntax ds w x ls) no_hints))) l (hint_or (keyword l) (of_syntax ds w x ls) no_hints l) (sym (append-nil (host_numbers (of_syntax ds w x ls)))) refl refl refl refl (λ q. refl)
-        (hints_steps (of_syntax ds w x ls) no_hints l (keyword l) refl))
+    (hints_steps (of_syntax ds w x ls) no_hints l (keyword l) refl))
 own_steps (rule_id ds w x ls d) l h r =
     id_steps (front_of (at (rule_id ds w x ls d))) l (id_step d l) d (λ e. at (rule_id ds w x (ls ++ l ∷ []) e)) (colon_step ds w x ls l)
     (λ b e. quiet (front_of (at (rule_id ds w x ls d))) l (at (rule_id ds w x (ls ++ l ∷ []) b)) (id_still d l b e) (simp (append_assoc, no_more)) refl refl (λ q. refl) refl refl tt)

@@ -37,7 +37,7 @@ AllKept tokens =
 pub record BeginWith (tokens : List Token) (k : ℕ) (ds : Defs) : Type 0 where
   pub rest : List Token
   pub grammar :
-    ParseDefs (take k (terminals_of tokens) ++ map (terminal (declared_names tokens)) rest) ds
+      ParseDefs (take k (terminals_of tokens) ++ map (terminal (declared_names tokens)) rest) ds
 
 -- Definitions begin with the first k tokens, and none of these passes a limit.
 abbrev pub FrontKept : List Token → ℕ → Type 0

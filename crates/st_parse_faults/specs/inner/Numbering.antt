@@ -1,6 +1,6 @@
 -- What each token that is read begins, with its numbers, by what is open.
 use Rattle.std.specs.Prelude.{ℕ, ◌+◌, List, [], ◌∷◌, ◌++◌, map}
-use Rattle.st_grammar.specs.Trees.{Tree, Heading, length, segment}
+use Rattle.st_grammar.specs.Trees.{Heading, length, segment}
 use Rattle.st_grammar.specs.Grammar.{size}
 use Rattle.st_grammar.specs.Reading.{Frames, bottom, within, over, timing, State, want, got, naming, pathed, indexing, comparing}
 use Rattle.st_parse_faults.specs.Number as number

@@ -1,10 +1,9 @@
 -- What each token of definitions that is read begins, with its numbers, by the position.
 use Rattle.std.specs.Prelude.{ℕ, ◌+◌, ◌-◌, List, [], ◌∷◌, ◌++◌, map, length, false}
 use Rattle.st_grammar.specs.declared.sort.Sort.TheVariants.{Expression as expression, Notation as notation, Typ as typ}
-use Rattle.st_grammar.specs.Terminals.{Terminal}
 use Rattle.st_grammar.specs.Trees.{Tree}
 use Rattle.st_grammar.specs.Grammar.{size}
-use Rattle.st_grammar.specs.Definitions.{Hints, Members, Body, fields, cases, Iterations, closings, given, default, Premises, no_premises, more_premises, Args, no_args, args, Def, syntax_def, var_def, relation_def, rule_def, fun_def, clause_def, Defs, no_defs, more_defs}
+use Rattle.st_grammar.specs.Definitions.{fields, cases, closings, given, default, Premises, no_premises, more_premises, Args, no_args, args, Def, syntax_def, var_def, relation_def, rule_def, fun_def, clause_def, Defs, no_defs, more_defs}
 use Rattle.st_grammar.specs.Reading as part
 use Rattle.st_grammar.specs.Positions.{Head, syntax_head, Rule, rule_head, clause_head, Host, of_syntax, of_field, of_case, of_var, of_relation, of_notation, of_fun, Slot, field_slot, case_slot, var_slot, notation_slot, fun_slot, arg_slot, rule_slot, cond_slot, count_slot, slot_sort, Position, between, syntax_name, var_name, var_colon, relation_name, rule_name, rule_colon, fun_name, fun_named, argued, args_closed, syntax_id, rule_id, hinted, hint_open, hint_name, hint_words, entering, dotted, field_name, premised, premise_open, goal_colon, iterated, State, at, inside}
 use Rattle.st_parse_faults.specs.declared.counts.Counts.{Counts}
@@ -12,7 +11,7 @@ use Rattle.st_parse_faults.specs.Nesting.{brackets_behind}
 use Rattle.st_parse_faults.specs.Number as number
 use Rattle.st_parse_faults.specs.Number.{Number}
 use Rattle.st_parse_faults.specs.Numbers.{Context, context, label_entry, no_entries, open_entry, numbers}
-use Rattle.st_parse_faults.specs.DefinitionNumbers.{members_size, premises_size, defs_size, iterations_row, word_numbers, hints_numbers, alone, member_begins, field_numbers, case_numbers, paren_numbers, iteration_begins, iteration_numbers, premise_begins, premises_numbers, next_argument, argument_numbers, args_numbers, def_begins, defs_numbers}
+use Rattle.st_parse_faults.specs.DefinitionNumbers.{members_size, premises_size, defs_size, iterations_row, word_numbers, hints_numbers, alone, member_begins, field_numbers, case_numbers, paren_numbers, iteration_begins, iteration_numbers, premise_begins, premises_numbers, argument_numbers, args_numbers, def_begins, defs_numbers}
 use Rattle.st_parse_faults.specs.Limits.{signs_before}
 use Rattle.st_parse_faults.specs.inner.Numbering.{state_numbers, part_brackets}
 
