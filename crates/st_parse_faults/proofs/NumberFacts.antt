@@ -22,10 +22,6 @@ pub or_false : (a : Bool) → (a || false) ≡ a
 or_false true = refl
 or_false false = refl
 
-pub or_assoc : (a b c : Bool) → ((a || b) || c) ≡ (a || (b || c))
-or_assoc true b c = refl
-or_assoc false b c = refl
-
 four : (a b c d a' b' c' d' : Bool) → a ≡ a' → b ≡ b' → c ≡ c' → d ≡ d' → (((a || b) || c) || d) ≡ (((a' || b') || c') || d')
 four a b c d a' b' c' d' e f g h = ap (λ v. ((v || b) || c) || d) e ∙ ap (λ v. ((a' || v) || c) || d) f ∙ ap (λ v. ((a' || b') || v) || d) g ∙ ap (λ v. ((a' || b') || c') || v) h
 
@@ -49,9 +45,6 @@ pub beside : (a b : Bool) → b ≡ false → (a || b) ≡ a
 beside a b e = ap (λ v. a || v) e ∙ or_false a
 
 -- ---- small numbers
-
-pub no_parts : nat_lt MOST_PARTS 0 ≡ false
-no_parts = refl
 
 pub one_part : nat_lt MOST_PARTS 1 ≡ false
 one_part = refl
