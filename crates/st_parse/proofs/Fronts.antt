@@ -11,7 +11,7 @@ use Rattle.st_parse_automaton.proofs.DefinitionView.{definitions_of}
 use Rattle.st_parse_faults.specs.declared.judge.Seen.{Seen as CodeSeen}
 use Rattle.st_parse_faults.specs.declared.fault.TokenFault.{TokenFault}
 use Rattle.st_parse_faults.specs.Judging.{passed}
-use Rattle.st_parse_faults.specs.Faults.{Seen, verdict, Faultless, FirstFault}
+use Rattle.st_parse_faults.specs.inner.Folding.{Seen, verdict, AllPass as Faultless, FirstBreak as FirstFault}
 use Rattle.st_parse_faults.specs.Place.{place_at}
 use Rattle.st_parse_faults.proofs.Loop.{passes_holds}
 use Rattle.st_el.specs.declared.definition.Def.{Def}

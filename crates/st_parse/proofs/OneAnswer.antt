@@ -4,7 +4,7 @@ use Rattle.st_num.specs.declared.span.Span.{Span}
 use Rattle.st_num.specs.declared.rule.RuleId.{RuleId}
 use Rattle.st_num.specs.declared.token.Token.{Token}
 use Rattle.st_parse_faults.specs.Judging.{passed, broken}
-use Rattle.st_parse_faults.specs.Faults.{Seen, verdict}
+use Rattle.st_parse_faults.specs.inner.Folding.{Seen, verdict}
 use Rattle.st_parse_faults.specs.Place.{place_at}
 use Rattle.st_parse_faults.proofs.Exact.{front_passes, one_fault, never_both}
 use Rattle.st_el.specs.declared.definition.Def.{Def}

@@ -7,7 +7,7 @@ use Rattle.st_grammar.specs.Positions.{reading, start}
 use Rattle.st_grammar.proofs.PositionReading.{sound_defs}
 use Rattle.st_grammar.proofs.PositionComplete.{one_list_of_defs}
 use Rattle.st_parse_automaton.specs.Refusal.{terminals_of}
-use Rattle.st_parse_faults.specs.Faults.{Faultless}
+use Rattle.st_parse_faults.specs.inner.Folding.{AllPass as Faultless}
 use Rattle.st_parse_faults.proofs.Verdicts.{verdict_reads}
 use Rattle.st_el.specs.declared.definition.Def.{Def}
 use Rattle.st_parse_builder.specs.Definitions.{defs_meaning}

@@ -16,11 +16,11 @@ use Rattle.st_parse_automaton.specs.Refusal.{terminals_of, RefusedAt}
 use Rattle.st_parse_automaton.proofs.Loop.{last_step, one_more, whole_list}
 use Rattle.st_parse_faults.specs.LeftOut.{before_next, left_out}
 use Rattle.st_parse_faults.specs.Judging.{passed, broken}
-use Rattle.st_parse_faults.specs.Faults.{Seen, refusal, judged, verdict, Faultless, FirstFault}
+use Rattle.st_parse_faults.specs.inner.Folding.{Seen, refusal, judged, verdict, AllPass, FirstBreak}
 use Rattle.st_parse_faults.specs.Number.{Number}
 use Rattle.st_parse_faults.specs.DefinitionNumbers.{defs_numbers}
 use Rattle.st_parse_faults.specs.FormsLeftOut.{LeftOut}
-use Rattle.st_parse_faults.specs.Breaking.{passes_limit, AllKept, FrontKept, PassesLimit, BeginsLeftOut, IsRefused, FirstBroken}
+use Rattle.st_parse_faults.specs.Faults.{passes_limit, Faultless, FrontKept, PassesLimit, BeginsLeftOut, IsRefused, FirstFault}
 use Rattle.st_parse_faults.proofs.JudgingLemmas.{OfGrammar, grammar_s1, grammar_s4, some_token}
 use Rattle.st_parse_faults.proofs.Verdicts.{verdict_reads}
 use Rattle.st_parse_faults.proofs.Exact.{one_fault, never_both, is_refused, not_later}
@@ -41,7 +41,7 @@ parallel us ds p = go (reading start us) refl (complete_defs us ds p)
 
 -- ---- no fault
 
-pub all_kept : (tokens : List Token) → Faultless tokens → AllKept tokens
+pub all_kept : (tokens : List Token) → AllPass tokens → Faultless tokens
 all_kept tokens h =
     let i = seeing_front tokens (length tokens) h.0 h.2 in (
       h.1,
@@ -51,7 +51,7 @@ all_kept tokens h =
     )
 
 -- definitions begin with all of their tokens
-all_front : (tokens : List Token) → AllKept tokens → FrontKept tokens (length tokens)
+all_front : (tokens : List Token) → Faultless tokens → FrontKept tokens (length tokens)
 all_front tokens (ds, p, k) =
     let us = terminals_of tokens in
     let all : us ≡ take (length tokens) us ++ [] = sym (append-nil (take (length tokens) us) ∙ whole_list tokens (length tokens) (omega arith)) in
@@ -61,7 +61,7 @@ all_front tokens (ds, p, k) =
       ap (list_any passes_limit) (take_all (length tokens) (defs_numbers ds) long) ∙ k,
     )
 
-pub faultless : (tokens : List Token) → AllKept tokens → Faultless tokens
+pub faultless : (tokens : List Token) → Faultless tokens → AllPass tokens
 faultless tokens h =
     let us = terminals_of tokens in
     let s = front_passes tokens (length tokens) (omega arith) (all_front tokens h) in
@@ -138,14 +138,14 @@ token_broken tokens k r seen g e f = go (step seen.state (next_token tokens k d)
           subst (RuleOf tokens k) is (rule_told tokens k seen d g (left_out_there tokens k seen x e h)),
         )
 
-pub first_broken : (tokens : List Token) (k : ℕ) (r : RuleId) → FirstFault tokens k r → FirstBroken tokens k r
+pub first_broken : (tokens : List Token) (k : ℕ) (r : RuleId) → FirstBreak tokens k r → FirstFault tokens k r
 first_broken tokens k r (inl (g, (seen, e), f)) = (kept_front tokens k seen (omega (arith, g)) e, token_broken tokens k r seen g e f)
 first_broken tokens k r (inr (e, i, (seen, f, n))) = (
   kept_front tokens k seen (omega (arith, e)) f,
   inr (is_refused tokens k r (subst OfGrammar (sym i) grammar_s1) (inr (e, i, (seen, f, n))), inr (i, no_token tokens k e)),
 )
 
-refused_token : (tokens : List Token) (k : ℕ) (r : RuleId) → FrontKept tokens k → RefusedAt tokens k → RuleOf tokens k r → FirstFault tokens k r
+refused_token : (tokens : List Token) (k : ℕ) (r : RuleId) → FrontKept tokens k → RefusedAt tokens k → RuleOf tokens k r → FirstBreak tokens k r
 refused_token tokens k r front (inl (g, v, never)) rule = go (step seen.state l) refl
   where
     s : (seen : Seen) × (verdict tokens k ≡ passed seen)
@@ -160,7 +160,7 @@ refused_token tokens k r front (inl (g, v, never)) rule = go (step seen.state l)
     l : Terminal
     l = next_token tokens k d
 
-    go : (o : Option State) → step seen.state l ≡ o → FirstFault tokens k r
+    go : (o : Option State) → step seen.state l ≡ o → FirstBreak tokens k r
     go (Some next) h =
         absurd (never (viable (declared_names tokens) (take (k + 1) (terminals_of tokens)) next
         (ap (reading start) (one_more tokens k d g) ∙ last_step (take k (terminals_of tokens)) l seen.state (verdict_reads tokens k seen s.1) ∙ h)))
@@ -180,12 +180,12 @@ refused_token tokens k r front (inr (e, v, never)) rule = go (finish seen.state)
     last (inl a) = absurd (no_token tokens k e a.1)
     last (inr a) = a.0
 
-    go : (o : Option Defs) → finish seen.state ≡ o → FirstFault tokens k r
+    go : (o : Option Defs) → finish seen.state ≡ o → FirstBreak tokens k r
     go (Some ds) h =
         absurd (never (ds, subst (λ us. ParseDefs us ds) (whole_list tokens k (omega (arith, e))) (sound_defs (take k (terminals_of tokens)) seen.state ds (verdict_reads tokens k seen s.1) h)))
     go None h = inr (e, last rule, (seen, s.1, h))
 
-pub broken_first : (tokens : List Token) (k : ℕ) (r : RuleId) → FirstBroken tokens k r → FirstFault tokens k r
+pub broken_first : (tokens : List Token) (k : ℕ) (r : RuleId) → FirstFault tokens k r → FirstBreak tokens k r
 broken_first tokens k r (front, inl p) =
     let s = front_passes tokens k (omega (arith, p.0)) front in
     inl (p.0, (s.0, s.1), breaks_there tokens k r s.0 (some_token tokens k p.0) s.1 p)
@@ -193,15 +193,15 @@ broken_first tokens k r (front, inr q) = refused_token tokens k r front q.0 q.1
 
 -- ---- there is one, and what those of the grammar say
 
-pub never_kept : (tokens : List Token) (k : ℕ) (r : RuleId) → FirstBroken tokens k r → AllKept tokens → ⊥
+pub never_kept : (tokens : List Token) (k : ℕ) (r : RuleId) → FirstFault tokens k r → Faultless tokens → ⊥
 never_kept tokens k r f h = never_both tokens k r (broken_first tokens k r f) (faultless tokens h)
 
-pub one_broken : (tokens : List Token) (j k : ℕ) (q r : RuleId) → FirstBroken tokens j q → FirstBroken tokens k r → (j ≡ k) × (q ≡ r)
+pub one_broken : (tokens : List Token) (j k : ℕ) (q r : RuleId) → FirstFault tokens j q → FirstFault tokens k r → (j ≡ k) × (q ≡ r)
 one_broken tokens j k q r f g = one_fault tokens j k q r (broken_first tokens j q f) (broken_first tokens k r g)
 
 -- a rule that is no limit is broken by a token that is refused
-pub refused_there : (tokens : List Token) (k : ℕ) (r : RuleId) → OfGrammar r → FirstBroken tokens k r → RefusedAt tokens k
+pub refused_there : (tokens : List Token) (k : ℕ) (r : RuleId) → OfGrammar r → FirstFault tokens k r → RefusedAt tokens k
 refused_there tokens k r h f = is_refused tokens k r h (broken_first tokens k r f)
 
-pub none_later : (tokens : List Token) (j k : ℕ) (r : RuleId) → RefusedAt tokens j → FirstBroken tokens k r → k ≤ j
+pub none_later : (tokens : List Token) (j k : ℕ) (r : RuleId) → RefusedAt tokens j → FirstFault tokens k r → k ≤ j
 none_later tokens j k r f g = not_later tokens j k r f (broken_first tokens k r g)

@@ -18,15 +18,15 @@ use Rattle.st_grammar.proofs.PositionEnds.{viable}
 use Rattle.st_grammar.proofs.PositionComplete.{reading_append, complete_defs}
 use Rattle.st_parse_automaton.specs.Refusal.{terminals_of}
 use Rattle.st_parse_automaton.proofs.Loop.{last_step, one_more}
-use Rattle.st_parse_faults.specs.Counts.{member_due, event, counts_after, counts_pass}
+use Rattle.st_parse_faults.specs.inner.Counts.{member_due, event, counts_after, counts_pass}
 use Rattle.st_parse_faults.specs.Nesting.{nesting_after, brackets_behind, bars, may_open}
 use Rattle.st_parse_faults.specs.Limits.{part_passes}
 use Rattle.st_parse_faults.specs.Judging.{passed, broken, limited, judge_all}
-use Rattle.st_parse_faults.specs.Faults as faults
-use Rattle.st_parse_faults.specs.Faults.{Seen, opens_too_many, seen_after, refusal, judged, judge, verdict, nothing_seen}
+use Rattle.st_parse_faults.specs.inner.Folding as faults
+use Rattle.st_parse_faults.specs.inner.Folding.{Seen, opens_too_many, seen_after, refusal, judged, judge, verdict, nothing_seen}
 use Rattle.st_parse_faults.specs.Number.{Number, too_deep, too_many}
 use Rattle.st_parse_faults.specs.DefinitionNumbers.{defs_numbers}
-use Rattle.st_parse_faults.specs.Breaking.{passes_limit, limit_rule, KeepsLimits, FrontKept, PassesLimit}
+use Rattle.st_parse_faults.specs.Faults.{passes_limit, limit_rule, KeepsLimits, FrontKept, PassesLimit}
 use Rattle.st_parse_faults.specs.inner.PositionNumbers.{read_numbers, brackets, counts_in}
 use Rattle.st_parse_faults.proofs.KeptTallies.{neither}
 use Rattle.st_parse_faults.proofs.NumberFacts.{or_false}

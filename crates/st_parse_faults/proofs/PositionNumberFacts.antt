@@ -20,7 +20,7 @@ use Rattle.st_grammar.proofs.Sound.{and_left}
 use Rattle.st_parse_faults.specs.declared.counts.Counts.{Counts}
 use Rattle.st_parse_faults.specs.declared.counts.Event.{Event}
 use Rattle.st_parse_faults.specs.declared.counts.Event.TheVariants.{Definition, Premise, Member, Iteration, Closed, Nothing}
-use Rattle.st_parse_faults.specs.Counts.{member_due, counts_after, counts_pass}
+use Rattle.st_parse_faults.specs.inner.Counts.{member_due, counts_after, counts_pass}
 use Rattle.st_parse_faults.specs.Number as number
 use Rattle.st_parse_faults.specs.Number.{Number, too_deep, too_many}
 use Rattle.st_parse_faults.specs.Numbers.{no_entries, open_entry, numbers}

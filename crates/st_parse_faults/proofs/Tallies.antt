@@ -17,7 +17,8 @@ use Rattle.st_parse_faults.specs.declared.role.Attachment.{Attachment}
 use Rattle.st_parse_faults.specs.declared.role.Attachment.TheVariants as attachment
 use Rattle.st_parse_faults.specs.declared.role.TokenRole.TheVariants as role
 use Rattle.st_parse_faults.specs.declared.tally.Tally.{Tally}
-use Rattle.st_parse_faults.specs.Limits.{posts, is_turnstile, signs, signs_in, parts_in, elements_with, aheads, tally, fresh, held_tally, tallies_round, part_tallies}
+use Rattle.st_parse_faults.specs.Signs.{posts, is_turnstile, signs}
+use Rattle.st_parse_faults.specs.Limits.{signs_in, parts_in, elements_with, aheads, tally, fresh, held_tally, tallies_round, part_tallies}
 use Rattle.st_parse_faults.specs.inner.Roles.{none_open, begun, counted, moved}
 
 -- Behind the token the tallies are those, and something is read.

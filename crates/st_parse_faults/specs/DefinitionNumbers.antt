@@ -10,7 +10,7 @@ use Rattle.st_parse_faults.specs.Nesting.{nesting_after}
 use Rattle.st_parse_faults.specs.Number as number
 use Rattle.st_parse_faults.specs.Number.{Number}
 use Rattle.st_parse_faults.specs.Numbers.{Context, context, label_entry, no_entries, open_entry, numbers}
-use Rattle.st_parse_faults.specs.Limits.{all_signs}
+use Rattle.st_parse_faults.specs.Signs.{all_signs}
 
 -- ---- how many there are
 

@@ -8,7 +8,7 @@ use Rattle.st_grammar.specs.Trees.{Tree, operand, post, times, bracket, led, Lea
 use Rattle.st_grammar.specs.Grammar.{is_label, size, sort_in}
 use Rattle.st_parse_faults.specs.Number as number
 use Rattle.st_parse_faults.specs.Number.{Number}
-use Rattle.st_parse_faults.specs.Limits.{is_in_name, posts, is_turnstile, in_bars, ahead_signs, signs, lead_signs, all_signs, ends_with_label}
+use Rattle.st_parse_faults.specs.Signs.{is_in_name, posts, is_turnstile, in_bars, ahead_signs, signs, lead_signs, all_signs, ends_with_label}
 
 -- ---- where a tree stands
 

@@ -2,7 +2,7 @@
 
 ghost use Rattle.std.specs.Prelude.{◌≡◌, IfOk, IfSome, IfNone};
 ghost use Rattle.st_grammar.specs.Terminals as terminals;
-ghost use Rattle.st_parse_faults.specs.Breaking.{AllKept, FirstBroken};
+ghost use Rattle.st_parse_faults.specs.Faults.{Faultless, FirstFault};
 
 use crate::fault::TokenFault;
 use crate::judge::{TokenVerdict, judge_token, nothing_seen};
@@ -13,9 +13,9 @@ use std::alloc::Global;
 /// The first token that breaks a rule, or the end where the tokens end too early; none where the
 /// tokens are those of definitions and each keeps the limits.
 pub fn first_fault(alloc: Global, tokens: &[Token]) -> Result<Option<TokenFault>, NoMemory>
-    ensures none { IfOk result (λ found. IfNone found (AllKept tokens.now)) }
+    ensures none { IfOk result (λ found. IfNone found (Faultless tokens.now)) }
     ensures some { IfOk result (λ found.
-        IfSome found (λ fault. FirstBroken tokens.now (fault.token) (fault.rule))) }
+        IfSome found (λ fault. FirstFault tokens.now (fault.token) (fault.rule))) }
 {
     let declared = declared_names(alloc, tokens)?;
     let names = NameIndex::new(alloc, declared.as_slice())?;
@@ -31,9 +31,9 @@ fn read_tokens(
     tokens: &[Token],
 ) -> Result<Option<TokenFault>, NoMemory>
     requires { names.now ≡ terminals.declared_names tokens.now }
-    ensures none { IfOk result (λ found. IfNone found (AllKept tokens.now)) }
+    ensures none { IfOk result (λ found. IfNone found (Faultless tokens.now)) }
     ensures some { IfOk result (λ found.
-        IfSome found (λ fault. FirstBroken tokens.now (fault.token) (fault.rule))) }
+        IfSome found (λ fault. FirstFault tokens.now (fault.token) (fault.rule))) }
 {
     let mut seen = nothing_seen(alloc)?;
     'tokens: for (at, token) in tokens.iter().enumerate() {

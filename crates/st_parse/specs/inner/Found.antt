@@ -3,7 +3,7 @@ use Rattle.std.specs.Prelude.{◌≡◌, ℕ, List, length, Option, Some, None, 
 use Rattle.st_num.specs.declared.rule.RuleId.TheVariants.{S1}
 use Rattle.st_num.specs.declared.token.Token.{Token}
 use Rattle.st_parse_automaton.specs.inner.DefinitionAutomaton as definitions
-use Rattle.st_parse_faults.specs.Faults.{Faultless, FirstFault}
+use Rattle.st_parse_faults.specs.inner.Folding.{AllPass as Faultless, FirstBreak as FirstFault}
 use Rattle.st_parse_faults.specs.declared.fault.TokenFault.{TokenFault}
 use Rattle.st_el.specs.declared.definition.Def.{Def}
 use Rattle.st_parse.specs.declared.kept.Kept.{Kept}

@@ -5,7 +5,7 @@ use Rattle.st_grammar.specs.Grammar.{size}
 use Rattle.st_grammar.specs.Reading.{Frames, bottom, within, over, timing, State, want, got, naming, pathed, indexing, comparing}
 use Rattle.st_parse_faults.specs.Number as number
 use Rattle.st_parse_faults.specs.Number.{Number}
-use Rattle.st_parse_faults.specs.Limits.{posts}
+use Rattle.st_parse_faults.specs.Signs.{posts}
 use Rattle.st_parse_faults.specs.Numbers.{Context, context, in_bracket, next_part, behind, in_count, label_entry, open_entry, numbers, lead_numbers, heading_numbers, path_numbers, part_numbers}
 
 -- ---- parts

@@ -1,6 +1,6 @@
 use Rattle.std.proofs.Common.{length, refl, sym, arith}
 use Rattle.st_num.specs.declared.rule.RuleId.TheVariants.{S1}
-use Rattle.st_parse_faults.specs.Faults.{nothing_seen}
+use Rattle.st_parse_faults.specs.inner.Folding.{nothing_seen}
 use Rattle.st_parse_faults.proofs.BrokenFirst.{all_kept, first_broken}
 use Rattle.st_parse_faults.proofs.Loop.{token_passes, token_breaks, ends_well, ends_early, bounded}
 use Rattle.st_parse_faults.proofs.reader.read_tokens.Goals as goal
