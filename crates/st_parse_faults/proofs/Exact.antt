@@ -1,5 +1,4 @@
--- There is at most one first fault, none in source without one, and a fault of the grammar is a
--- refusal of it.
+-- There is at most one first fault, and a fault of the grammar is a refusal of it.
 use Rattle.std.proofs.Common.{◌≡◌, ℕ, ◌+◌, ◌≤◌, ◌<◌, inl, inr, List, [], ◌∷◌, ◌++◌, length, take, drop, get_or, Bool, true, false, nat_lt, Option, Some, None, option_and_then, refl, sym, ap, subst, ◌∙◌, arith}
 use Rattle.st_num.specs.declared.rule.RuleId.{RuleId}
 use Rattle.st_num.specs.declared.token.Token.{Token}
@@ -34,10 +33,6 @@ pub never_both : (tokens : List Token) (k : ℕ) (r : RuleId) → FirstBreak tok
 never_both tokens = judging.never_both Seen (judge (declared_names tokens)) nothing_seen tokens Defs ended
 
 -- ---- the grammar
-
-pub are_definitions : (tokens : List Token) → AllPass tokens → AreDefinitions tokens
-are_definitions tokens s =
-    (s.1, subst (λ us. ParseDefs us s.1) (whole_list tokens (length tokens) (omega arith)) (sound_defs (take (length tokens) (terminals_of tokens)) s.0.state s.1 (verdict_reads tokens (length tokens) s.0 s.2) s.3))
 
 pub not_read : (seen : Seen) (x : Token) (l : Terminal) (o : Option State) (r : RuleId) → judged seen x l o ≡ broken r → OfGrammar r → o ≡ None
 not_read seen x l None r e h = refl

@@ -1,10 +1,11 @@
 -- What is known of the numbers where a part is read, by what is open.
-use Rattle.std.proofs.Common.{◌≡◌, ℕ, ◌+◌, List, [], ◌∷◌, Bool, true, false, not, ◌||◌, nat_lt, if◌then◌else◌, refl, sym, ap, ◌∙◌, arith}
+use Rattle.std.proofs.Common.{◌≡◌, ℕ, ◌+◌, List, [], ◌∷◌, ◌++◌, Bool, true, false, not, ◌||◌, nat_lt, if◌then◌else◌, refl, sym, ap, ◌∙◌, arith}
 use Rattle.std.specs.List.{list_any}
 use Rattle.std.proofs.lemmas.List.Folds.{list_any-append}
 use Rattle.st_num.specs.declared.limit.TheConstants.{MOST_PARTS, MOST_SIGNS, HIGHEST_TREE}
-use Rattle.st_grammar.specs.Trees.{Tree, left, ahead, items, none, more, Heading, plain, length, arguments, index, segment, update, below}
-use Rattle.st_grammar.specs.Grammar.{size, sort_in}
+use Rattle.st_grammar.specs.Terminals.{Terminal}
+use Rattle.st_grammar.specs.Trees.{Tree, left, ahead, items, Trees, none, more, Heading, plain, length, arguments, index, segment, update, below}
+use Rattle.st_grammar.specs.Grammar.{is_label, size, sort_in}
 use Rattle.st_grammar.specs.Reading.{Frames, bottom, within, over, timing, sort, settle}
 use Rattle.st_grammar.proofs.Sound.{Stand, IsNoSequence}
 use Rattle.st_parse_faults.specs.declared.tally.Tally.{Tally}
@@ -124,6 +125,38 @@ one_element (over (left t m x) fs) c s = refl
 one_element (over (ahead m x) fs) c s = refl
 one_element (over (items ts) fs) c s = absurd s
 one_element (timing t m x fs) c s = absurd c
+
+pub part_signs : (n : ℕ) (h : Heading) (ts : Trees) (pre q : List Terminal) (t : Tree) (fs : Frames) → signs_in n (within h (more ts pre t) q fs) ≡ signs t + signs_in n (within h ts pre fs)
+part_signs n (plain k o) ts pre q t fs = omega arith
+part_signs n (length o) ts pre q t fs = omega arith
+part_signs n (arguments f o) ts pre q t fs = omega arith
+part_signs n (index u o) ts pre q t fs = omega arith
+part_signs n (segment p o) ts pre q t fs = omega arith
+part_signs n (update p m x) ts pre q t fs = omega arith
+part_signs n (below o i m x) ts pre q t fs = omega arith
+
+pub round_parts : (n : ℕ) (h : Heading) (ts us : Trees) (pre q : List Terminal) (fs : Frames) → tallies_round n (within h ts pre fs) ≡ tallies_round n (within h us q fs)
+round_parts n (plain k o) ts us pre q fs = refl
+round_parts n (length o) ts us pre q fs = refl
+round_parts n (arguments f o) ts us pre q fs = refl
+round_parts n (index u o) ts us pre q fs = refl
+round_parts n (segment p o) ts us pre q fs = refl
+round_parts n (update p m x) ts us pre q fs = refl
+round_parts n (below o i m x) ts us pre q fs = refl
+
+pub same_signs : (n : ℕ) (h : Heading) (ts : Trees) (p q : List Terminal) (fs : Frames) → signs_in n (within h ts p fs) ≡ signs_in n (within h ts q fs)
+same_signs n (plain k o) ts p q fs = refl
+same_signs n (length o) ts p q fs = refl
+same_signs n (arguments f o) ts p q fs = refl
+same_signs n (index u o) ts p q fs = refl
+same_signs n (segment g o) ts p q fs = refl
+same_signs n (update g m x) ts p q fs = refl
+same_signs n (below o i m x) ts p q fs = refl
+
+pub last_label : (pre : List Terminal) (l : Terminal) → ends_with_label (pre ++ l ∷ []) ≡ is_label l
+last_label [] l = refl
+last_label (k ∷ []) l = refl
+last_label (k ∷ j ∷ pre) l = last_label (j ∷ pre) l
 
 -- ---- the context of what is read next
 

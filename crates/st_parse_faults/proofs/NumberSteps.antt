@@ -29,7 +29,7 @@ use Rattle.st_parse_faults.specs.Signs.{is_in_name, unless, posts, signs, ends_w
 use Rattle.st_parse_faults.specs.Limits.{signs_in, parts_in, elements_with, tally, fresh, held_tally, tallies_round, part_tallies, tally_passes, with_one}
 use Rattle.st_parse_faults.specs.inner.Numbering.{context_in, frame_numbers, state_numbers, heading_brackets, frame_brackets, part_brackets}
 use Rattle.st_parse_faults.proofs.KeptTallies.{neither}
-use Rattle.st_parse_faults.proofs.NumberFacts.{or_false, no_test, first_test, third_test, fourth_test, beside, one_part, Neat, neat, NoCount, low, settled, held, depth_is, before_is, sort_is}
+use Rattle.st_parse_faults.proofs.NumberFacts.{or_false, no_test, first_test, third_test, fourth_test, beside, one_part, Neat, neat, NoCount, low, settled, held, depth_is, before_is, sort_is, part_signs, round_parts, last_label, same_signs}
 use Rattle.st_parse_faults.proofs.NumberBegins.{Front, front_of, Step, StepTo, step_if, step_both, same_step, settle_numbers, settle_brackets, settle_bars, begin_steps, SignReady}
 
 pub not_above : (a b : ℕ) → b ≤ a → nat_lt a b ≡ false
@@ -181,24 +181,6 @@ module _ (c : Context) where
     opens = λ h. refl;
     stays = λ h. omega arith;
   }
-
-  part_signs : (n : ℕ) (h : Heading) (ts : Trees) (pre q : List Terminal) (t : Tree) (fs : Frames) → signs_in n (within h (more ts pre t) q fs) ≡ signs t + signs_in n (within h ts pre fs)
-  part_signs n (plain k o) ts pre q t fs = omega arith
-  part_signs n (length o) ts pre q t fs = omega arith
-  part_signs n (arguments f o) ts pre q t fs = omega arith
-  part_signs n (index u o) ts pre q t fs = omega arith
-  part_signs n (segment p o) ts pre q t fs = omega arith
-  part_signs n (update p m x) ts pre q t fs = omega arith
-  part_signs n (below o i m x) ts pre q t fs = omega arith
-
-  round_parts : (n : ℕ) (h : Heading) (ts us : Trees) (pre q : List Terminal) (fs : Frames) → tallies_round n (within h ts pre fs) ≡ tallies_round n (within h us q fs)
-  round_parts n (plain k o) ts us pre q fs = refl
-  round_parts n (length o) ts us pre q fs = refl
-  round_parts n (arguments f o) ts us pre q fs = refl
-  round_parts n (index u o) ts us pre q fs = refl
-  round_parts n (segment p o) ts us pre q fs = refl
-  round_parts n (update p m x) ts us pre q fs = refl
-  round_parts n (below o i m x) ts us pre q fs = refl
 
   part_more : (f h p q t r : List (List Number)) → f ++ (h ++ ((p ++ (q ++ t)) ++ r)) ≡ ((f ++ (h ++ (p ++ q))) ++ t) ++ r
   part_more f h p q t r = simp append_assoc
@@ -532,20 +514,6 @@ module _ (c : Context) where
     stays = λ h. omega arith;
   }
 
-  label_is : (pre : List Terminal) (l : Terminal) → ends_with_label (pre ++ l ∷ []) ≡ is_label l
-  label_is [] l = refl
-  label_is (k ∷ []) l = refl
-  label_is (k ∷ j ∷ pre) l = label_is (j ∷ pre) l
-
-  same_signs : (n : ℕ) (h : Heading) (ts : Trees) (p q : List Terminal) (fs : Frames) → signs_in n (within h ts p fs) ≡ signs_in n (within h ts q fs)
-  same_signs n (plain k o) ts p q fs = refl
-  same_signs n (length o) ts p q fs = refl
-  same_signs n (arguments f o) ts p q fs = refl
-  same_signs n (index u o) ts p q fs = refl
-  same_signs n (segment g o) ts p q fs = refl
-  same_signs n (update g m x) ts p q fs = refl
-  same_signs n (below o i m x) ts p q fs = refl
-
   name_more : (f h p q r : List (List Number)) → f ++ (h ++ (p ++ (q ++ r))) ≡ (f ++ (h ++ (p ++ q))) ++ r
   name_more f h p q r = simp append_assoc
 
@@ -561,7 +529,7 @@ module _ (c : Context) where
         let y = low (tally (size ts) 0 (signs_in c.before (within h ts pre fs)) 0 true) d.0 in
         ap (λ b. list_any too_many (if b then number.part (size ts + 1) ∷ [] else [])) e
         ∙ or_false (nat_lt MOST_PARTS (size ts + 1))
-        ∙ sym (ap (λ b. tally_passes (tally (with_one b (size ts)) 0 (signs_in c.before (within h ts (pre ++ l ∷ []) fs)) 0 true) || list_any tally_passes (tallies_round c.before (within h ts (pre ++ l ∷ []) fs))) (label_is pre l ∙ e)
+        ∙ sym (ap (λ b. tally_passes (tally (with_one b (size ts)) 0 (signs_in c.before (within h ts (pre ++ l ∷ []) fs)) 0 true) || list_any tally_passes (tallies_round c.before (within h ts (pre ++ l ∷ []) fs))) (last_label pre l ∙ e)
         ∙ ap (λ v. tally_passes (tally (size ts + 1) 0 (signs_in c.before (within h ts (pre ++ l ∷ []) fs)) 0 true) || list_any tally_passes v) (round_parts c.before h ts ts (pre ++ l ∷ []) pre fs)
         ∙ beside _ (list_any tally_passes (tallies_round c.before (within h ts pre fs))) d.1
         ∙ first_test (nat_lt MOST_PARTS (size ts + 1)) _ _ _ refl (ap (nat_lt MOST_SIGNS) (same_signs c.before h ts (pre ++ l ∷ []) pre fs) ∙ y.sign) refl);
