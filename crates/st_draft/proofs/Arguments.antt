@@ -3,12 +3,6 @@ use Rattle.std.proofs.Common.{◌≡◌, ℕ, ◌+◌, ◌<◌, List, [], ◌∷
 use Rattle.std.proofs.lemmas.List.{take_more}
 use Rattle.st_grammar.specs.declared.action.Action.{Action}
 use Rattle.st_draft.specs.inner.Parts.{all_built}
-use Rattle.st_draft.proofs.Built.{all_more}
-
-pub one_more : (A : Type 0) (f : List Action → Option A) (xs : List (List Action)) (i : ℕ) (x : List Action) (ys : List A) (a : A)
-    → all_built f (take i xs) ≡ Some ys → i < length xs → x ≡ get_or xs i x → f x ≡ Some a → all_built f (take (i + 1) xs) ≡ Some (ys ++ a ∷ [])
-one_more A f xs i x ys a e h is g =
-    ap (all_built f) (take_more xs i x h ∙ ap (λ y. take i xs ++ y ∷ []) (sym is)) ∙ all_more A f (take i xs) x ys a e g
 
 -- how far a loop has come
 next_taken : {A : Type 0} (xs : List A) (i : ℕ) (x : A) → i < length xs → x ≡ get_or xs i x → take (i + 1) xs ≡ take i xs ++ x ∷ []

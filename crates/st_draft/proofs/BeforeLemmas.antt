@@ -1,5 +1,5 @@
 -- The definitions of a draft: those before the open one, and those that it ends with.
-use Rattle.std.proofs.Common.{◌≡◌, List, [], length, map, reverse, Option, Some, None, option_map, option_and_then, refl, sym, ap, subst, ◌∙◌}
+use Rattle.std.proofs.Common.{◌≡◌, List, [], length, map, Option, Some, None, option_map, option_and_then, refl, sym, ap, subst, ◌∙◌}
 use Rattle.st_num.specs.declared.token.Token.{Token}
 use Rattle.st_grammar.specs.Trees.{Tree}
 use Rattle.st_grammar.specs.Reading as part

@@ -1,5 +1,5 @@
 -- What the actions of trees build.
-use Rattle.std.proofs.Common.{◌≡◌, List, [], ◌∷◌, ◌++◌, Bool, true, false, Option, Some, None, Result, Ok, Err, IfOk, option_and_then, option_map, if◌then◌else◌, refl, ap, ◌∙◌}
+use Rattle.std.proofs.Common.{◌≡◌, List, [], ◌∷◌, ◌++◌, Bool, true, false, Option, Some, None, option_and_then, option_map, if◌then◌else◌, refl, ap, ◌∙◌}
 use Rattle.st_grammar.specs.declared.sort.Sort.{Sort}
 use Rattle.st_grammar.specs.declared.sort.Sort.TheVariants.{Expression as expression, Notation as notation, Typ as typ}
 use Rattle.st_grammar.specs.declared.sort.Style.TheVariants.{Parts as parts}
@@ -7,14 +7,11 @@ use Rattle.st_grammar.specs.Trees.{Tree, Trees, none, more}
 use Rattle.st_grammar.specs.Grammar.{is_type, Fits, EachFits}
 use Rattle.st_el.specs.declared.expression.Exp.{Exp}
 use Rattle.st_el.specs.declared.ty.Typ.{Typ}
-use Rattle.st_el.specs.declared.notation.Notation.{Notation}
 use Rattle.st_grammar.specs.declared.action.Action.{Action}
 use Rattle.st_parse_builder.specs.declared.notation_piece.NotationPiece.TheVariants.{Hole as a_type, Whole as whole}
 use Rattle.st_parse_builder.specs.Meaning.{meaning, meanings}
 use Rattle.st_parse_builder.specs.Notations.{typ_start, typ_meaning, typ_meanings, notation_meaning}
-use Rattle.st_parse_builder.specs.declared.piece.Piece.TheVariants.{Done}
 use Rattle.st_grammar.specs.inner.Actions.{acts}
-use Rattle.st_parse_builder.specs.inner.Building.{run}
 use Rattle.st_parse_builder.specs.inner.NotationBuilding.{the_typ, the_notation, typ_built, notation_built}
 use Rattle.st_parse_builder.proofs.Builds.{builds}
 use Rattle.st_parse_builder.proofs.NotationBuilds.{type_hole, typ_builds, notation_builds}
@@ -34,7 +31,7 @@ notation_is t f = ap (option_and_then the_notation) (notation_builds t f []) ∙
     go true e = ap (λ n. Some n) (type_hole t e)
     go false e = refl
 
-pub all_more : (A : Type 0) (f : List Action → Option A) (xs : List (List Action)) (x : List Action) (ys : List A) (a : A) → all_built f xs ≡ Some ys → f x ≡ Some a → all_built f (xs ++ x ∷ []) ≡ Some (ys ++ a ∷ [])
+all_more : (A : Type 0) (f : List Action → Option A) (xs : List (List Action)) (x : List Action) (ys : List A) (a : A) → all_built f xs ≡ Some ys → f x ≡ Some a → all_built f (xs ++ x ∷ []) ≡ Some (ys ++ a ∷ [])
 all_more A f [] x [] a e g = ap (option_and_then (λ b. Some (b ∷ []))) g
 all_more A f [] x (b ∷ ys) a e g = absurd (cc)
 all_more A f (y ∷ xs) x ys a e g = go (f y) (all_built f xs) refl refl e (λ bs k. all_more A f xs x bs a k g)

@@ -19,12 +19,11 @@ use Rattle.st_parse_builder.specs.Heights.{highest, notation_height}
 use Rattle.st_parse_builder.specs.Definitions.{name_in, fragment_name, patterns, prem_at}
 use Rattle.st_parse_builder.specs.Variables.{Seen, variables, prem_node_variables_at, prem_variables}
 use Rattle.st_parse_builder.specs.DefHeights.{prem_height, body_height}
-use Rattle.st_parse_builder.specs.inner.PieceHeights.{typ_in}
+use Rattle.st_parse_builder.specs.inner.PieceHeights.{typ_in, height_or, open_height}
 use Rattle.st_parse_builder.proofs.Occurring.{one_behind}
 use Rattle.st_draft.specs.declared.change.DefinitionEnd.TheVariants as ending
 use Rattle.st_draft.specs.declared.draft.Premises.{Premises as Prems}
 use Rattle.st_draft.specs.inner.Drafts.{no_members as no_body, no_sides, premises_so_far, begun, whole_prem, alias_or, body_of, or_empty}
-use Rattle.st_parse_builder.specs.inner.PieceHeights.{height_or, open_height}
 use Rattle.st_draft.specs.inner.Heights.{height_of, MembersLow, SidesLow, PremisesLow}
 use Rattle.st_draft.specs.inner.Ready.{in_some, Ends, IsClear}
 use Rattle.st_draft.proofs.DraftOf.{drafted, fields_body, cases_body, typ_sides, rule_draft}

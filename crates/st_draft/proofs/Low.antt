@@ -2,20 +2,21 @@
 use Rattle.std.proofs.Common.{◌≡◌, ℕ, ◌+◌, ◌≤◌, List, [], ◌∷◌, ◌++◌, map, sym, ap, subst, ◌∙◌, arith, rules}
 use Rattle.std.specs.Prelude.{max}
 use Rattle.st_num.specs.declared.span.Span.{Span}
+use Rattle.st_el.specs.declared.expression.Exp.{Exp}
 use Rattle.st_el.specs.declared.notation.Notation.{Notation, out-Notation, the_lemmas as notation_lemmas}
 use Rattle.st_el.specs.declared.notation.NotNode.{NotNode, out-NotNode, roll-NotNode}
 use Rattle.st_el.specs.declared.notation.NotNode.TheOpen.{NotNode-F}
 use Rattle.st_el.specs.declared.notation.NotNode.TheVariants as not_node
 use Rattle.st_el.specs.declared.definition.Prem.{Prem, out-Prem, roll-out-Prem, the_lemmas as prem_lemmas}
 use Rattle.st_el.specs.declared.definition.PremNode.{PremNode, fold-PremNode}
-use Rattle.st_parse_builder.specs.Heights.{highest, typ_height, notation_height}
+use Rattle.st_el.specs.declared.definition.PremNode.TheVariants as prem
+use Rattle.st_parse_builder.specs.Heights.{highest, height, typ_height, notation_height}
 use Rattle.st_parse_builder.specs.Notations.{notation_at, notation_place}
 use Rattle.st_parse_builder.specs.Definitions.{prem_at}
 use Rattle.st_parse_builder.proofs.Tallness.{highest_behind}
 use Rattle.st_parse_builder.proofs.NotationTallness.{rolled}
-use Rattle.st_parse_builder.specs.inner.PieceHeights.{typ_in, lone_typ}
+use Rattle.st_parse_builder.specs.inner.PieceHeights.{typ_in, lone_typ, height_or, open_height}
 use Rattle.st_parse_builder.specs.DefHeights.{prem_node_height_at, prem_height_at, prem_height}
-use Rattle.st_parse_builder.specs.inner.PieceHeights.{height_or, open_height}
 
 -- ---- one more
 
@@ -67,3 +68,10 @@ pub height_at : (s : Span) (p : Prem) → prem_height (prem_at s (out-Prem p).no
 height_at s p =
     let n : PremNode = (out-Prem p).node in
     tall_at s n ∙ sym (tall_at (out-Prem p).at n) ∙ ap prem_height (roll-out-Prem p)
+
+-- A condition is one higher than its expression.
+pub tall_if : (at : Span) (e : Exp) → prem_height (prem_at at (prem.If e)) ≡ height e + 1
+tall_if at e = search (rules, prem_lemmas)
+
+pub tall_goal : (at : Span) (name : List ℕ) (e : Exp) → prem_height (prem_at at (prem.Goal name e)) ≡ height e + 1
+tall_goal at name e = search (rules, prem_lemmas)

@@ -1,5 +1,5 @@
 -- What a token between parts makes of the work, and each token.
-use Rattle.std.proofs.Common.{◌≡◌, List, [], ◌∷◌, length, Bool, true, false, not, Option, Some, None, option_and_then, option_map, if◌then◌else◌, refl, sym, ap, subst, ◌∙◌}
+use Rattle.std.proofs.Common.{◌≡◌, List, [], ◌∷◌, length, Bool, true, false, Option, Some, None, option_and_then, option_map, if◌then◌else◌, refl, sym, ap, subst, ◌∙◌}
 use Rattle.st_num.specs.declared.token.Token.{Token}
 use Rattle.st_grammar.specs.Terminals.{Terminal}
 use Rattle.st_grammar.specs.Trees.{Tree, none, more}
@@ -37,7 +37,7 @@ use Rattle.st_draft.specs.inner.Parts.{redrafted}
 use Rattle.st_draft.specs.inner.Ready.{MayEnd, Ready, Awaits}
 use Rattle.st_draft.specs.inner.Work.{Work, redrafted_work, worded_work, added_work, filled_work, turned_work, MayTurn, MayClose}
 use Rattle.st_draft.proofs.DraftOf.{position_draft, slot_draft, arguments_acts, args_acts, position_args, slot_args}
-use Rattle.st_draft.proofs.DraftSteps.{state_draft, Fresh, FitsAs, Changes, Changed}
+use Rattle.st_draft.proofs.DraftSteps.{state_draft, FitsAs, Changes, Changed}
 use Rattle.st_draft.proofs.DraftEnds.{position_changes, may_end}
 use Rattle.st_draft.proofs.Built.{types_are, patterns_are}
 use Rattle.st_draft.proofs.WorkSteps.{slot_words, state_work, goes_on}

@@ -29,6 +29,7 @@ use Rattle.st_parse.specs.declared.kept.Kept.{Kept}
 use Rattle.st_parse.specs.Limits.{variable_past, too_tall, first_that}
 use Rattle.st_parse.specs.Open.{open_variables, first_past}
 use Rattle.st_parse.specs.Source.{Front, Past, IsParsed, FaultAt}
+use Rattle.st_parse.specs.declared.kept.Heights.{Heights}
 use Rattle.st_parse.specs.inner.Kept.{Stands, Keeps, Tells}
 use Rattle.st_parse.specs.inner.Cuts.{Opens, past_in}
 use Rattle.st_parse.specs.inner.Found.{fault_of, Judged, end_of, Found}
@@ -86,14 +87,14 @@ found_cut tokens found f i p b old new parts is j e (s, v, o, r) same cut =
 
 -- ---- what is whole
 
-told_tall : (o : Option Span) (k d : Draft) → Stands o k d → IsLow d → o ≡ first_that too_tall d.defs
-told_tall None k d h low = sym h.1
-told_tall (Some at) k d (inl h) low = sym h
-told_tall (Some at) k d (inr h) low = absurd (h.2 low)
+told_tall : (o : Option Span) (g : Heights) (k d : Draft) → Stands o g k d → IsLow d → o ≡ first_that too_tall d.defs
+told_tall None g k d h low = sym h.1
+told_tall (Some at) g k d (inl h) low = sym h
+told_tall (Some at) g k d (inr h) low = absurd (h.2 low)
 
-told_trees : (o : Option Span) (k d : Draft) → Stands o k d → o ≡ None → k.defs ≡ d.defs
-told_trees None k d h none = ap (λ (q : Draft). q.defs) h.0
-told_trees (Some at) k d h none = absurd (cc)
+told_trees : (o : Option Span) (g : Heights) (k d : Draft) → Stands o g k d → o ≡ None → k.defs ≡ d.defs
+told_trees None g k d h none = ap (λ (q : Draft). q.defs) h.0
+told_trees (Some at) g k d h none = absurd (cc)
 
 found_all : (tokens : List Token) (h : AllPass tokens) (new : Kept) → Tells new (defs_meaning h.1) → Found tokens None new
 found_all tokens h new (d, draws, defs_are, low) =
@@ -107,8 +108,8 @@ found_all tokens h new (d, draws, defs_are, low) =
         parsed tokens h,
         sym past,
         record {
-          tall = told_tall new.tall new.draft d draws.trees low ∙ ap (first_that too_tall) defs_are;
-          trees = λ t. told_trees new.tall new.draft d draws.trees t ∙ defs_are;
+          tall = told_tall new.tall new.heights new.draft d draws.trees low ∙ ap (first_that too_tall) defs_are;
+          trees = λ t. told_trees new.tall new.heights new.draft d draws.trees t ∙ defs_are;
         },
       );
     }

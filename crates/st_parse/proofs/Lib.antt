@@ -1,6 +1,9 @@
 pub mod Notes
+mod PremiseHeights
+mod Ended
+mod Told
 pub mod Trees
-mod TakenTrees
+pub mod TakenTrees
 pub mod Works
 pub mod Cut
 mod Opens

@@ -1,5 +1,5 @@
 -- What is noted of variables behind parts and changes.
-use Rattle.std.proofs.Common.{◌≡◌, ℕ, ◌+◌, ◌<◌, List, [], ◌∷◌, ◌++◌, length, get_or, take, drop, flat_map, Bool, true, false, ◌⊎◌, inl, inr, Option, Some, None, option_map, Result, Ok, Err, IfOk, OnOk, refl, sym, ap, subst, ◌∙◌, append_assoc, append-nil}
+use Rattle.std.proofs.Common.{◌≡◌, ◌≢◌, ℕ, ◌+◌, ◌<◌, List, [], ◌∷◌, ◌++◌, length, get_or, take, drop, flat_map, Bool, true, false, ◌⊎◌, inl, inr, Option, Some, None, option_map, option_and_then, Result, Ok, Err, IfOk, OnOk, refl, sym, ap, subst, ◌∙◌, append_assoc, append-nil}
 use Rattle.std.specs.Option.{option_or}
 use Rattle.st_num.specs.declared.limit.TheConstants.{MOST_PREMISES}
 use Rattle.st_num.specs.declared.memory.NoMemory.{NoMemory}
@@ -20,9 +20,10 @@ use Rattle.st_el.specs.declared.definition.Prem.{Prem}
 use Rattle.st_el.specs.declared.definition.PremNode.TheVariants as prem
 use Rattle.st_el.specs.Plain.{nowhere}
 use Rattle.st_grammar.specs.declared.action.Action.{Action}
-use Rattle.st_parse_builder.specs.declared.piece.Piece.TheVariants.{Done}
+use Rattle.st_parse_builder.specs.declared.piece.Piece.{Piece}
+use Rattle.st_parse_builder.specs.declared.piece.Piece.TheVariants.{Done, Parts, Fields, Path, Label, Here}
 use Rattle.st_parse_builder.specs.inner.Building.{run}
-use Rattle.st_parse_builder.specs.inner.NotationBuilding.{typ_built, notation_built}
+use Rattle.st_parse_builder.specs.inner.NotationBuilding.{typ_built}
 use Rattle.st_parse_builder.specs.Meaning.{mark_count}
 use Rattle.st_parse_builder.specs.Definitions.{prem_at}
 use Rattle.st_parse_builder.specs.Variables.{Occurrence, Times, occurrences, without, variables, times, iterated, prem_variables, def_node_variables}
@@ -34,12 +35,11 @@ use Rattle.st_draft.specs.declared.change.Change.TheVariants as change
 use Rattle.st_draft.specs.declared.change.DefinitionEnd.{DefinitionEnd}
 use Rattle.st_draft.specs.declared.change.DefinitionEnd.TheVariants as ending
 use Rattle.st_draft.specs.declared.draft.Draft.{Draft}
-use Rattle.st_draft.specs.inner.Parts.{exp_built, all_built, count_with, index_in, redrafted, refilled}
-use Rattle.st_draft.specs.inner.Drafts.{whole_prem, condition_node, each_of, shape_count, node_of, def_put, ended, begun, with_sides, params_put, args_put, typ_filled, notation_filled, exp_filled, condition_filled, count_filled}
+use Rattle.st_draft.specs.inner.Parts.{the_exp, exp_built, all_built, count_with, index_in, redrafted, refilled}
+use Rattle.st_draft.specs.inner.Drafts.{whole_prem, condition_node, each_of, shape_count, node_of, def_put, ended, begun, with_sides, params_put, args_put, exp_filled, condition_filled, count_filled}
 use Rattle.st_draft.specs.inner.Ready.{in_some, told, asked, Ends, MayEnd, Ready, Awaits}
 use Rattle.st_draft.proofs.Endings.{open_behind}
 use Rattle.st_draft.proofs.Arguments.{next_built}
-use Rattle.st_draft.proofs.LowTrees.{exp_run as built_run}
 use Rattle.st_parse.specs.declared.variables.Variables.{Variables}
 use Rattle.st_parse.specs.Limits.{variable_past, first_that}
 use Rattle.st_parse.specs.inner.Kept.{Notes}
@@ -65,8 +65,20 @@ first_behind f (e ∷ ds) d = ap (option_or (f e)) (first_behind f ds d) ∙ aga
     again None b c = refl
     again (Some at) b c = refl
 
+one_built : (made : Option (List Piece)) (e : Exp) → option_and_then the_exp made ≡ Some e → made ≡ Some (Done e ∷ [])
+one_built None e h = absurd (cc)
+one_built (Some []) e h = absurd (cc)
+one_built (Some (Done f ∷ [])) e h = let same : f ≡ e = cc in ap (λ g. Some (Done g ∷ [])) same
+one_built (Some (Done f ∷ q ∷ s)) e h = absurd (cc)
+one_built (Some (Parts at es ∷ s)) e h = absurd (cc)
+one_built (Some (Fields at fs ∷ s)) e h = absurd (cc)
+one_built (Some (Path ps ∷ s)) e h = absurd (cc)
+one_built (Some (Label name ∷ s)) e h = absurd (cc)
+one_built (Some (Here at ∷ s)) e h = absurd (cc)
+
+-- the actions of an expression leave it alone on the stack
 pub exp_run : (actions : List Action) (e : Exp) → exp_built actions ≡ Some e → run actions [] ≡ Some (Done e ∷ [])
-exp_run actions e h = built_run (run actions []) e h
+exp_run actions e h = one_built (run actions []) e h
 
 -- ---- counts
 
@@ -94,7 +106,7 @@ count_in : (o : Option (List ℕ)) (e : Exp) → (times (count_with o e)).count 
 count_in None e = ap (λ (t : Times). t.count) (times_times e)
 count_in (Some name) e = ap (λ (t : Times). t.count) (times_below name e)
 
-pub counted : (r : Result (Unit {0}) NoMemory) (o : Option (List ℕ)) (e : Exp) (old left new : List Occurrence) → left ≡ without (times (count_with o e)).index old → IfOk r (λ z. new ≡ left ++ variables e)
+pub counted : {A : Type 0} (r : Result A NoMemory) (o : Option (List ℕ)) (e : Exp) (old left new : List Occurrence) → left ≡ without (times (count_with o e)).index old → IfOk r (λ z. new ≡ left ++ variables e)
     → IfOk r (λ z. new ≡ iterated old (times (count_with o e)))
 counted (Err f) o e old left new l n = tt
 counted (Ok z) o e old left new l n =
@@ -122,26 +134,8 @@ same_notes v w d e same f g h n =
 
 -- ---- parts
 
-pub other_part : (s : Slot) (n : ℕ) (actions : List Action) (words : List (TokenClass × Token)) (d e : Draft) (v w : Variables) → (s ≡ slot.Rule → ⊥) → (s ≡ slot.Condition → ⊥) → (s ≡ slot.Count → ⊥)
-    → w ≡ v → Notes v d → refilled s n actions words d ≡ Some e → Notes w e
-other_part slot.Rule n actions words d e v w i j k same h f = absurd (i refl)
-other_part slot.Condition n actions words d e v w i j k same h f = absurd (j refl)
-other_part slot.Count n actions words d e v w i j k same h f = absurd (k refl)
-other_part slot.Field n actions words d e v w i j k same h f =
-    let m = mapped _ Draft (λ t. typ_filled slot.Field t d) (typ_built actions) e f in subst (Notes w) m.2 (same_notes v w d _ same refl refl refl h)
-other_part slot.Var n actions words d e v w i j k same h f =
-    let m = mapped _ Draft (λ t. typ_filled slot.Var t d) (typ_built actions) e f in subst (Notes w) m.2 (same_notes v w d _ same refl refl refl h)
-other_part slot.Fun n actions words d e v w i j k same h f =
-    let m = mapped _ Draft (λ t. typ_filled slot.Fun t d) (typ_built actions) e f in subst (Notes w) m.2 (same_notes v w d _ same refl refl refl h)
-other_part (slot.Case c) n actions words d e v w i j k same h f =
-    let m = mapped _ Draft (λ t. notation_filled t d) (notation_built actions) e f in subst (Notes w) m.2 (same_notes v w d _ same refl refl refl h)
-other_part slot.Notation n actions words d e v w i j k same h f =
-    let m = mapped _ Draft (λ t. notation_filled t d) (notation_built actions) e f in subst (Notes w) m.2 (same_notes v w d _ same refl refl refl h)
-other_part (slot.Argument b c) n actions words d e v w i j k same h f =
-    let is : d ≡ e = cc in subst (Notes w) is (same_notes v w d d same refl refl refl h)
-
 -- a conclusion, or the result of a clause
-pub rule_part : (s : Slot) (n : ℕ) (actions : List Action) (words : List (TokenClass × Token)) (d e : Draft) (v w : Variables) (r : Result (Unit {0}) NoMemory) → s ≡ slot.Rule → Notes v d → Awaits s d → refilled s n actions words d ≡ Some e
+pub rule_part : {A : Type 0} (s : Slot) (n : ℕ) (actions : List Action) (words : List (TokenClass × Token)) (d e : Draft) (v w : Variables) (r : Result A NoMemory) → s ≡ slot.Rule → Notes v d → Awaits s d → refilled s n actions words d ≡ Some e
     → w.past ≡ v.past → w.inside ≡ v.inside → ((x : Exp) → exp_built actions ≡ Some x → IfOk r (λ z. occurrences w.before ≡ occurrences v.before ++ variables x)) → IfOk r (λ z. Notes w e)
 rule_part s n actions words d e v w (Err f) is h a g p i k = tt
 rule_part s n actions words d e v w (Ok z) is h a g p i k =
@@ -163,7 +157,7 @@ condition_has : (at : Span) (goal : Option (List ℕ)) (x : Exp) → prem_variab
 condition_has at None x = in_if at x
 condition_has at (Some name) x = in_goal at name x
 
-pub condition_part : (s : Slot) (n : ℕ) (actions : List Action) (words : List (TokenClass × Token)) (d e : Draft) (v w : Variables) (r : Result (Unit {0}) NoMemory) → s ≡ slot.Condition → Notes v d → Awaits s d → refilled s n actions words d ≡ Some e
+pub condition_part : {A : Type 0} (s : Slot) (n : ℕ) (actions : List Action) (words : List (TokenClass × Token)) (d e : Draft) (v w : Variables) (r : Result A NoMemory) → s ≡ slot.Condition → Notes v d → Awaits s d → refilled s n actions words d ≡ Some e
     → w.past ≡ v.past → w.before ≡ v.before → ((x : Exp) → exp_built actions ≡ Some x → IfOk r (λ z. occurrences w.inside ≡ occurrences v.inside ++ variables x)) → IfOk r (λ z. Notes w e)
 condition_part s n actions words d e v w (Err f) is h a g p b k = tt
 condition_part s n actions words d e v w (Ok z) is h a g p b k =
@@ -180,7 +174,7 @@ each_has : (at : Span) (c : Count) (o : Option Prem) (p : Prem) → o ≡ Some p
 each_has at c o p is =
     ap (λ q. in_some prem_variables (each_of at c q)) is ∙ in_each at p c ∙ ap (λ q. iterated (in_some prem_variables q) (times c)) (sym is)
 
-pub count_part : (s : Slot) (n : ℕ) (actions : List Action) (words : List (TokenClass × Token)) (d e : Draft) (v w : Variables) (r : Result (Unit {0}) NoMemory) → s ≡ slot.Count → Notes v d → Awaits s d → refilled s n actions words d ≡ Some e
+pub count_part : {A : Type 0} (s : Slot) (n : ℕ) (actions : List Action) (words : List (TokenClass × Token)) (d e : Draft) (v w : Variables) (r : Result A NoMemory) → s ≡ slot.Count → Notes v d → Awaits s d → refilled s n actions words d ≡ Some e
     → w.past ≡ v.past → w.before ≡ v.before
     → ((x : Exp) → exp_built actions ≡ Some x → IfOk r (λ z. occurrences w.inside ≡ iterated (occurrences v.inside) (times (count_with (index_in words) x)))) → IfOk r (λ z. Notes w e)
 count_part s n actions words d e v w (Err f) is h a g p b k = tt
@@ -285,7 +279,7 @@ otherwise_has d =
     ∙ append-nil (flat_map prem_variables d.premises.whole)
 
 -- the arguments of a clause
-pub args_change : (c : Change) (sh : Shape) (x : Token) (arguments : List (List Action)) (d e : Draft) (v w : Variables) (r : Result (Unit {0}) NoMemory) → c ≡ change.Args → Notes v d → Ready c d → redrafted c sh x arguments d ≡ Some e
+pub args_change : {A : Type 0} (c : Change) (sh : Shape) (x : Token) (arguments : List (List Action)) (d e : Draft) (v w : Variables) (r : Result A NoMemory) → c ≡ change.Args → Notes v d → Ready c d → redrafted c sh x arguments d ≡ Some e
     → w.past ≡ v.past → w.inside ≡ v.inside → ((es : List Exp) → all_built exp_built arguments ≡ Some es → IfOk r (λ z. occurrences w.before ≡ occurrences v.before ++ flat_map variables es)) → IfOk r (λ z. Notes w e)
 args_change c sh x arguments d e v w (Err f) is h m g p i k = tt
 args_change c sh x arguments d e v w (Ok z) is h m g p i k =
@@ -339,3 +333,27 @@ other_change change.Label sh x arguments d e v w i j k l same h m g = subst (Not
 other_change change.Parenthesis sh x arguments d e v w i j k l same h m g = subst (Notes w) (some_is g) (same_notes v w d _ same refl refl refl h)
 other_change change.If sh x arguments d e v w i j k l same h m g = subst (Notes w) (some_is g) (same_notes v w d _ same refl refl refl h)
 other_change change.Goal sh x arguments d e v w i j k l same h m g = subst (Notes w) (some_is g) (same_notes v w d _ same refl refl refl h)
+
+-- ---- changes with arguments
+
+args_or_not : (c : Change) → (c ≡ change.Args) ⊎ (c ≢ change.Args)
+args_or_not change.Args = inl refl
+args_or_not c = inr (λ e. absurd (cc))
+
+-- what is noted behind a change, and its arguments where they are patterns
+pub parts_change : {A : Type 0} (r : Result A NoMemory) (c : Change) (sh : Shape) (x : Token) (arguments : List (List Action)) (d e : Draft) (v u : Variables) (seen : List Token) → Notes v d → Ready c d → redrafted c sh x arguments d ≡ Some e
+    → (c ≢ change.Args → Notes u e) → (c ≡ change.Args → u ≡ v)
+    → (c ≡ change.Args → (es : List Exp) → all_built exp_built arguments ≡ Some es → IfOk r (λ z. occurrences seen ≡ occurrences u.before ++ flat_map variables es)) → (c ≢ change.Args → seen ≡ u.before)
+    → IfOk r (λ z. Notes (record { past = u.past; before = seen; inside = u.inside }) e)
+parts_change {A} r c sh x arguments d e v u seen h m g others same args rest = go (args_or_not c)
+  where
+    next : Variables
+    next = record { past = u.past; before = seen; inside = u.inside }
+
+    still : (q : Result A NoMemory) → Notes next e → IfOk q (λ z. Notes next e)
+    still (Err f) n = tt
+    still (Ok z) n = n
+
+    go : (c ≡ change.Args) ⊎ (c ≢ change.Args) → IfOk r (λ z. Notes next e)
+    go (inl is) = args_change c sh x arguments d e u next r is (subst (λ q. Notes q d) (sym (same is)) h) m g refl refl (args is)
+    go (inr not) = still r (subst (λ ts. Notes (record { past = u.past; before = ts; inside = u.inside }) e) (sym (rest not)) (others not))

@@ -1,7 +1,8 @@
 -- The trees that are kept behind parts and changes.
-use Rattle.std.proofs.Common.{◌≡◌, ℕ, ◌≤◌, List, [], ◌∷◌, ◌++◌, map, Bool, true, false, nat_lt, if◌then◌else◌, inl, inr, Option, Some, None, refl, sym, ap, subst, ◌∙◌, arith}
+use Rattle.std.proofs.Common.{◌≡◌, ℕ, ◌≤◌, List, map, Bool, true, false, nat_lt, if◌then◌else◌, inl, inr, Option, Some, None, Result, Ok, Err, IfOk, refl, sym, ap, subst, ◌∙◌, arith}
 use Rattle.std.specs.Option.{option_or}
 use Rattle.st_num.specs.declared.limit.TheConstants.{HIGHEST_TREE}
+use Rattle.st_num.specs.declared.memory.NoMemory.{NoMemory}
 use Rattle.st_num.specs.declared.span.Span.{Span}
 use Rattle.st_num.specs.declared.token.Token.{Token}
 use Rattle.st_parse_automaton.specs.declared.part_automaton.Shape.{Shape}
@@ -28,43 +29,25 @@ use Rattle.st_draft.specs.declared.change.Change.TheVariants as change
 use Rattle.st_draft.specs.declared.change.DefinitionEnd.{DefinitionEnd}
 use Rattle.st_draft.specs.declared.change.DefinitionEnd.TheVariants as ending
 use Rattle.st_draft.specs.declared.draft.Draft.{Draft}
-use Rattle.st_draft.specs.inner.Parts.{exp_built, all_built, count_with, index_in, redrafted, refilled}
-use Rattle.st_draft.specs.inner.Drafts.{each_of, shape_count, node_of, def_put, ended, begun, with_sides, params_put, args_put, typ_filled, notation_filled, exp_filled, condition_filled, count_filled}
+use Rattle.st_draft.specs.declared.parts.PartTree.{PartTree}
+use Rattle.st_draft.specs.inner.Parts.{exp_built, all_built, count_with, index_in, redrafted, refilled, tree_put}
+use Rattle.st_draft.specs.inner.Drafts.{each_of, shape_count, node_of, def_put, applied, ended, begun, with_sides, params_put, args_put, typ_filled, notation_filled, exp_filled, condition_filled, count_filled}
+use Rattle.st_parse_builder.specs.inner.Parts.{kept}
 use Rattle.st_parse_builder.specs.inner.PieceHeights.{open_height}
 use Rattle.st_draft.specs.inner.Heights.{height_of, IsLow}
 use Rattle.st_draft.specs.inner.Ready.{Ends, MayEnd, Ready, Awaits}
 use Rattle.st_draft.proofs.Low.{front_of}
 use Rattle.st_draft.proofs.Endings.{none_in, begun_clear, low_open}
 use Rattle.st_parse.specs.Limits.{too_tall, first_that}
-use Rattle.st_parse.specs.inner.Kept.{last_tall, checked, IsHigh, Stands}
-use Rattle.st_parse.proofs.Notes.{mapped, some_is, or_none, first_behind}
-
--- ---- the last definition
-
-pub last_behind : (ds : List Def) (d : Def) → last_tall (ds ++ d ∷ []) ≡ too_tall d
-last_behind [] d = refl
-last_behind (e ∷ []) d = refl
-last_behind (e ∷ f ∷ ds) d = last_behind (f ∷ ds) d
-
--- Where none is too high, the last one is not.
-none_last : (ds : List Def) → first_that too_tall ds ≡ None → last_tall ds ≡ None
-none_last [] h = refl
-none_last (d ∷ []) h = sym (or_none (too_tall d)) ∙ h
-none_last (d ∷ e ∷ ds) h = none_last (e ∷ ds) (later (too_tall d) (first_that too_tall (e ∷ ds)) h)
-  where
-    later : (o p : Option Span) → option_or o p ≡ None → p ≡ None
-    later None p k = k
-    later (Some at) p k = absurd (cc)
-
--- Where none was too high, the first one that is can only be the last.
-ended_tall : (e : DefinitionEnd) (d : Draft) → first_that too_tall d.defs ≡ None → first_that too_tall (ended e d) ≡ last_tall (ended e d)
-ended_tall e d h = go (node_of e d.head d.members d.sides d.premises)
-  where
-    go : (o : Option DefNode) → first_that too_tall (def_put d o) ≡ last_tall (def_put d o)
-    go None = h ∙ sym (none_last d.defs h)
-    go (Some n) =
-        let def : Def = record { at = d.head.at; hints = d.hints; node = n } in
-        first_behind too_tall d.defs def ∙ ap (λ o. option_or o (too_tall def)) h ∙ sym (last_behind d.defs def)
+use Rattle.st_parse.specs.declared.kept.Heights.{Heights}
+use Rattle.st_parse.specs.declared.kept.Kept.{Kept}
+use Rattle.st_parse.specs.declared.parts.Part.{Part}
+use Rattle.st_parse.specs.declared.variables.Variables.{Variables}
+use Rattle.st_parse.specs.inner.Kept.{Notes, no_heights, heights_with, heights_behind, Told, ended_high, checked, IsHigh, Stands, Holds, Draws}
+use Rattle.st_parse.specs.inner.Taken.{IsPart, AreTaken}
+use Rattle.st_parse.proofs.Notes.{mapped, some_is, first_behind}
+use Rattle.st_parse.proofs.Ended.{turned_stands}
+use Rattle.st_parse.proofs.Told.{Puts, change_put, changed_told, part_put, filled_told}
 
 -- ---- a definition that is too high
 
@@ -233,68 +216,61 @@ high_changed at (change.Mark n) d e m s h = same_high at d e s h
 
 -- ---- what the code answers
 
-first_stands : (o : Option Span) (defs : List Def) (e : Draft) → e.defs ≡ defs → first_that too_tall defs ≡ o → Stands o e e
-first_stands None defs e f h = (refl, ap (first_that too_tall) f ∙ h)
-first_stands (Some at) defs e f h = inl (ap (first_that too_tall) f ∙ h)
-
-turned_stands : (f : DefinitionEnd) (d e : Draft) (at : Span) → begun (ended f d) at ≡ e → first_that too_tall d.defs ≡ None → Stands (last_tall e.defs) e e
-turned_stands f d e at i h =
-    first_stands (last_tall e.defs) (ended f d) e (ap (λ (q : Draft). q.defs) (sym i))
-    (ended_tall f d h ∙ ap (λ (q : Draft). last_tall q.defs) i)
-
-same_stands : (d e : Draft) → Same d e → first_that too_tall d.defs ≡ None → Stands None e e
-same_stands d e s h = (refl, ap (first_that too_tall) s.defs ∙ h)
+same_stands : (h : Heights) (d e : Draft) → Same d e → first_that too_tall d.defs ≡ None → Told h e → Stands None h e e
+same_stands h d e s n t = (refl, ap (first_that too_tall) s.defs ∙ n, t)
 
 -- the trees behind a change, where none was too high
-low_changed : (c : Change) (d e : Draft) → Changes c d e → first_that too_tall d.defs ≡ None → Stands (checked c e None) e e
-low_changed (change.Begin f) d e (at, i) h = turned_stands f d e at i h
-low_changed (change.End f) d e (at, i) h = turned_stands f d e at i h
-low_changed change.Nothing d e s h = same_stands d e s h
-low_changed change.Name d e s h = same_stands d e s h
-low_changed change.Id d e s h = same_stands d e s h
-low_changed change.HintName d e s h = same_stands d e s h
-low_changed change.HintWord d e s h = same_stands d e s h
-low_changed (change.HintEnd b) d e s h = same_stands d e s h
-low_changed change.Dots d e s h = same_stands d e s h
-low_changed change.Label d e s h = same_stands d e s h
-low_changed change.Params d e s h = same_stands d e s h
-low_changed change.Args d e s h = same_stands d e s h
-low_changed (change.Premise b) d e s h = same_stands d e s h
-low_changed change.Parenthesis d e s h = same_stands d e s h
-low_changed change.If d e s h = same_stands d e s h
-low_changed change.Goal d e s h = same_stands d e s h
-low_changed change.Otherwise d e s h = same_stands d e s h
-low_changed (change.Mark n) d e s h = same_stands d e s h
+low_changed : (c : Change) (h : Heights) (d e : Draft) → Changes c d e → Ready c d → first_that too_tall d.defs ≡ None → Told h d → Told (heights_behind c h) e → Stands (checked c e h.high None) (heights_behind c h) e e
+low_changed (change.Begin f) h d e (at, i) m n t b = turned_stands f h d e at i n t m
+low_changed (change.End f) h d e (at, i) m n t b = turned_stands f h d e at i n t m
+low_changed change.Nothing h d e s m n t b = same_stands (heights_behind change.Nothing h) d e s n b
+low_changed change.Name h d e s m n t b = same_stands (heights_behind change.Name h) d e s n b
+low_changed change.Id h d e s m n t b = same_stands (heights_behind change.Id h) d e s n b
+low_changed change.HintName h d e s m n t b = same_stands (heights_behind change.HintName h) d e s n b
+low_changed change.HintWord h d e s m n t b = same_stands (heights_behind change.HintWord h) d e s n b
+low_changed (change.HintEnd k) h d e s m n t b = same_stands (heights_behind (change.HintEnd k) h) d e s n b
+low_changed change.Dots h d e s m n t b = same_stands (heights_behind change.Dots h) d e s n b
+low_changed change.Label h d e s m n t b = same_stands (heights_behind change.Label h) d e s n b
+low_changed change.Params h d e s m n t b = same_stands (heights_behind change.Params h) d e s n b
+low_changed change.Args h d e s m n t b = same_stands (heights_behind change.Args h) d e s n b
+low_changed (change.Premise k) h d e s m n t b = same_stands (heights_behind (change.Premise k) h) d e s n b
+low_changed change.Parenthesis h d e s m n t b = same_stands (heights_behind change.Parenthesis h) d e s n b
+low_changed change.If h d e s m n t b = same_stands (heights_behind change.If h) d e s n b
+low_changed change.Goal h d e s m n t b = same_stands (heights_behind change.Goal h) d e s n b
+low_changed change.Otherwise h d e s m n t b = same_stands (heights_behind change.Otherwise h) d e s n b
+low_changed (change.Mark k) h d e s m n t b = same_stands (heights_behind (change.Mark k) h) d e s n b
 
 -- the place that is known stays
-checked_some : (c : Change) (e : Draft) (at : Span) → checked c e (Some at) ≡ Some at
-checked_some (change.Begin f) e at = refl
-checked_some (change.End f) e at = refl
-checked_some change.Nothing e at = refl
-checked_some change.Name e at = refl
-checked_some change.Id e at = refl
-checked_some change.HintName e at = refl
-checked_some change.HintWord e at = refl
-checked_some (change.HintEnd b) e at = refl
-checked_some change.Dots e at = refl
-checked_some change.Label e at = refl
-checked_some change.Params e at = refl
-checked_some change.Args e at = refl
-checked_some (change.Premise b) e at = refl
-checked_some change.Parenthesis e at = refl
-checked_some change.If e at = refl
-checked_some change.Goal e at = refl
-checked_some change.Otherwise e at = refl
-checked_some (change.Mark n) e at = refl
+checked_some : (c : Change) (e : Draft) (high : Bool) (at : Span) → checked c e high (Some at) ≡ Some at
+checked_some (change.Begin f) e high at = refl
+checked_some (change.End f) e high at = refl
+checked_some change.Nothing e high at = refl
+checked_some change.Name e high at = refl
+checked_some change.Id e high at = refl
+checked_some change.HintName e high at = refl
+checked_some change.HintWord e high at = refl
+checked_some (change.HintEnd b) e high at = refl
+checked_some change.Dots e high at = refl
+checked_some change.Label e high at = refl
+checked_some change.Params e high at = refl
+checked_some change.Args e high at = refl
+checked_some (change.Premise b) e high at = refl
+checked_some change.Parenthesis e high at = refl
+checked_some change.If e high at = refl
+checked_some change.Goal e high at = refl
+checked_some change.Otherwise e high at = refl
+checked_some (change.Mark n) e high at = refl
 
-pub changed_so : (tall next : Option Span) (c : Change) (sh : Shape) (x : Token) (arguments : List (List Action)) (old new d e : Draft) → Stands tall old d → Ready c d → redrafted c sh x arguments d ≡ Some e
-    → redrafted c sh x arguments old ≡ Some new → next ≡ checked c new tall → Stands next new e
-changed_so None next c sh x arguments old new d e (same, h) m g made is =
-    let both : Some new ≡ Some e = sym made ∙ ap (redrafted c sh x arguments) same ∙ g in
-    let one : new ≡ e = some_is both in
-    subst (λ o. Stands o new e) (sym is) (subst (λ q. Stands (checked c new None) q e) (sym one) (subst (λ q. Stands (checked c q None) e e) (sym one) (low_changed c d e (changes c sh x arguments d e m g) h)))
-changed_so (Some at) next c sh x arguments old new d e h m g made is =
-    subst (λ o. Stands o new e) (sym (is ∙ checked_some c new at)) (high_changed at c d e m (changes c sh x arguments d e m g) h)
+pub changed_so : (tall next : Option Span) (h : Heights) (c : Change) (sh : Shape) (x : Token) (given : List (List Action)) (taken : Option (List Typ × List Exp)) (put : List Typ × List Exp) (old new d e : Draft) → Stands tall h old d → Ready c d
+    → redrafted c sh x given d ≡ Some e → AreTaken c given taken → kept (heights_behind c h).premise taken ≡ Some put → new ≡ applied c sh x put.0 put.1 old → next ≡ checked c new h.high tall → Stands next (heights_behind c h) new e
+changed_so None next h c sh x given taken put old new d e (same, n, t) m g k i made is =
+    let puts : (applied c sh x put.0 put.1 d ≡ e) × Told (heights_behind c h) e = subst (Puts (change_put c sh x d) (heights_behind c h) e) i (changed_told c sh x given taken h d e t g k) in
+    let one : new ≡ e = made ∙ ap (applied c sh x put.0 put.1) same ∙ puts.0 in
+    subst (λ o. Stands o (heights_behind c h) new e) (sym is)
+    (subst (λ q. Stands (checked c new h.high None) (heights_behind c h) q e) (sym one)
+    (subst (λ q. Stands (checked c q h.high None) (heights_behind c h) e e) (sym one) (low_changed c h d e (changes c sh x given d e m g) m n t puts.1)))
+changed_so (Some at) next h c sh x given taken put old new d e high m g k i made is =
+    subst (λ o. Stands o (heights_behind c h) new e) (sym (is ∙ checked_some c new h.high at)) (high_changed at c d e m (changes c sh x given d e m g) high)
 
 -- the open definition has a tree that is too high, which stays out of the draft
 high_changes : (c : Change) (d e : Draft) → Changes c d e → first_that too_tall d.defs ≡ None → (IsLow e → ⊥) → IsHigh d.head.at e
@@ -317,13 +293,14 @@ high_changes change.Goal d e s h l = inr (ap (first_that too_tall) s.defs ∙ h,
 high_changes change.Otherwise d e s h l = inr (ap (first_that too_tall) s.defs ∙ h, s.at, l)
 high_changes (change.Mark n) d e s h l = inr (ap (first_that too_tall) s.defs ∙ h, s.at, l)
 
-pub changed_high : (tall next : Option Span) (c : Change) (sh : Shape) (x : Token) (arguments : List (List Action)) (old new d e : Draft) → Stands tall old d → Ready c d → redrafted c sh x arguments d ≡ Some e
-    → ((n : Draft) → redrafted c sh x arguments old ≡ Some n → IsLow n → ⊥) → next ≡ option_or tall (Some old.head.at) → Stands next new e
-changed_high None next c sh x arguments old new d e (same, h) m g high is =
-    subst (λ o. Stands o new e) (sym (is ∙ ap (λ (q : Draft). Some q.head.at) same))
-    (high_changes c d e (changes c sh x arguments d e m g) h (high e (ap (redrafted c sh x arguments) same ∙ g)))
-changed_high (Some at) next c sh x arguments old new d e h m g high is =
-    subst (λ o. Stands o new e) (sym is) (high_changed at c d e m (changes c sh x arguments d e m g) h)
+pub changed_high : (tall next : Option Span) (h : Heights) (c : Change) (sh : Shape) (x : Token) (given : List (List Action)) (taken : Option (List Typ × List Exp)) (old d e : Draft) → Stands tall h old d → Ready c d
+    → redrafted c sh x given d ≡ Some e → AreTaken c given taken → kept (heights_behind c h).premise taken ≡ None → next ≡ option_or tall (Some old.head.at) → Stands next (heights_behind c h) old e
+changed_high None next h c sh x given taken old d e (same, n, t) m g k i is =
+    let never : IsLow e → ⊥ = subst (Puts (change_put c sh x d) (heights_behind c h) e) i (changed_told c sh x given taken h d e t g k) in
+    subst (λ o. Stands o (heights_behind c h) old e) (sym (is ∙ ap (λ (q : Draft). Some q.head.at) same))
+    (high_changes c d e (changes c sh x given d e m g) n never)
+changed_high (Some at) next h c sh x given taken old d e high m g k i is =
+    subst (λ o. Stands o (heights_behind c h) old e) (sym is) (high_changed at c d e m (changes c sh x given d e m g) high)
 
 -- ---- parts
 
@@ -418,28 +395,38 @@ fills slot.Count n actions words d e a g =
       };
     })
 
-pub filled_so : (tall : Option Span) (s : Slot) (n : ℕ) (actions : List Action) (words : List (TokenClass × Token)) (old new d e : Draft) → Stands tall old d → Awaits s d → refilled s n actions words d ≡ Some e
-    → ((q : Draft) → refilled s n actions words old ≡ Some q → new ≡ q) → Stands tall new e
-filled_so None s n actions words old new d e (same, h) a g made =
-    let one : new ≡ e = made e (ap (refilled s n actions words) same ∙ g) in
-    (one, ap (first_that too_tall) (fills s n actions words d e a g).defs ∙ h)
-filled_so (Some at) s n actions words old new d e h a g made = same_high at d e (fills s n actions words d e a g) h
+pub filled_so : (tall : Option Span) (h : Heights) (s : Slot) (n : ℕ) (acts : List Action) (words : List (TokenClass × Token)) (p : Part) (put : PartTree) (old new d e : Draft) → Stands tall h old d → Awaits s d → refilled s n acts words d ≡ Some e
+    → IsPart s acts p → kept (heights_with s p h).premise p.tree ≡ Some put → new ≡ tree_put s n put words old → Stands tall (heights_with s p h) new e
+filled_so None h s n acts words p put old new d e (same, o, t) a g k i made =
+    let puts : (tree_put s n put words d ≡ e) × Told (heights_with s p h) e = subst (Puts (part_put s n words d) (heights_with s p h) e) i (filled_told s n acts words p h d e t a g k) in
+    let one : new ≡ e = made ∙ ap (tree_put s n put words) same ∙ puts.0 in
+    (one, ap (first_that too_tall) (fills s n acts words d e a g).defs ∙ o, puts.1)
+filled_so (Some at) h s n acts words p put old new d e high a g k i made = same_high at d e (fills s n acts words d e a g) high
 
-pub filled_high : (tall next : Option Span) (s : Slot) (n : ℕ) (actions : List Action) (words : List (TokenClass × Token)) (old new d e : Draft) → Stands tall old d → Awaits s d → refilled s n actions words d ≡ Some e
-    → ((q : Draft) → refilled s n actions words old ≡ Some q → IsLow q → ⊥) → next ≡ option_or tall (Some old.head.at) → Stands next new e
-filled_high None next s n actions words old new d e (same, h) a g high is =
-    let f = fills s n actions words d e a g in
-    subst (λ o. Stands o new e) (sym (is ∙ ap (λ (q : Draft). Some q.head.at) same))
-    (inr (ap (first_that too_tall) f.defs ∙ h, f.at, high e (ap (refilled s n actions words) same ∙ g)))
-filled_high (Some at) next s n actions words old new d e h a g high is =
-    subst (λ o. Stands o new e) (sym is) (same_high at d e (fills s n actions words d e a g) h)
+pub filled_high : (tall next : Option Span) (h : Heights) (s : Slot) (n : ℕ) (acts : List Action) (words : List (TokenClass × Token)) (p : Part) (old d e : Draft) → Stands tall h old d → Awaits s d → refilled s n acts words d ≡ Some e
+    → IsPart s acts p → kept (heights_with s p h).premise p.tree ≡ None → next ≡ option_or tall (Some old.head.at) → Stands next (heights_with s p h) old e
+filled_high None next h s n acts words p old d e (same, o, t) a g k i is =
+    let f = fills s n acts words d e a g in
+    let never : IsLow e → ⊥ = subst (Puts (part_put s n words d) (heights_with s p h) e) i (filled_told s n acts words p h d e t a g k) in
+    subst (λ q. Stands q (heights_with s p h) old e) (sym (is ∙ ap (λ (q : Draft). Some q.head.at) same))
+    (inr (ap (first_that too_tall) f.defs ∙ o, f.at, never))
+filled_high (Some at) next h s n acts words p old d e high a g k i is =
+    subst (λ q. Stands q (heights_with s p h) old e) (sym is) (same_high at d e (fills s n acts words d e a g) high)
 
 -- ---- the end
 
-pub ended_so : (tall next : Option Span) (f : DefinitionEnd) (old new d : Draft) → Stands tall old d → MayEnd f d → new ≡ begun (ended f old) nowhere → next ≡ option_or tall (last_tall new.defs)
-    → Stands next new (begun (ended f d) nowhere)
-ended_so None next f old new d (same, h) m made is =
+pub ended_so : (tall next : Option Span) (h : Heights) (f : DefinitionEnd) (old new d : Draft) → Stands tall h old d → MayEnd f d → new ≡ begun (ended f old) nowhere → next ≡ ended_high f h.high new.defs tall
+    → Stands next no_heights new (begun (ended f d) nowhere)
+ended_so None next h f old new d (same, n, t) m made is =
     let one : begun (ended f d) nowhere ≡ new = ap (λ q. begun (ended f q) nowhere) (sym same) ∙ sym made in
-    subst (λ o. Stands o new (begun (ended f d) nowhere)) (sym is) (subst (λ q. Stands (last_tall new.defs) new q) (sym one) (turned_stands f d new nowhere one h))
-ended_so (Some at) next f old new d h m made is =
-    subst (λ o. Stands o new (begun (ended f d) nowhere)) (sym is) (high_turn at nowhere f d m h)
+    subst (λ o. Stands o no_heights new (begun (ended f d) nowhere)) (sym is)
+    (subst (λ q. Stands (ended_high f h.high new.defs None) no_heights new q) (sym one) (turned_stands f h d new nowhere one n t m))
+ended_so (Some at) next h f old new d high m made is =
+    subst (λ o. Stands o no_heights new (begun (ended f d) nowhere)) (sym is) (high_turn at nowhere f d m high)
+
+-- ---- what is kept
+
+-- What is kept of a draft is known of its trees and of its variables.
+pub draws : (r : Result (Unit {0}) NoMemory) (k : Kept) (v : Variables) (e : Draft) → IfOk r (λ z. Holds k e) → k.variables ≡ v → IfOk r (λ z. Notes v e) → IfOk r (λ z. Draws k e)
+draws (Err f) k v e trees is noted = tt
+draws (Ok z) k v e trees is noted = record { trees = trees; noted = subst (λ u. Notes u e) (sym is) noted }

@@ -1,22 +1,17 @@
 -- What is kept of a work behind each token.
-use Rattle.std.proofs.Common.{◌≡◌, ℕ, List, [], ◌∷◌, ◌++◌, length, map, reverse, Bool, true, false, not, IsTrue, if◌then◌else◌, Option, Some, None, option_map, option_and_then, Result, Ok, Err, IfOk, refl, sym, ap, subst, ◌∙◌, append_assoc}
+use Rattle.std.proofs.Common.{◌≡◌, ℕ, List, [], ◌++◌, length, map, Option, Some, None, option_map, option_and_then, Result, Ok, Err, IfOk, refl, sym, ap, subst, ◌∙◌}
 use Rattle.std.specs.Option.{option_or}
-use Rattle.std.proofs.lemmas.List.{reverse-append}
 use Rattle.st_num.specs.declared.limit.TheConstants.{MOST_PREMISES}
 use Rattle.st_num.specs.declared.memory.NoMemory.{NoMemory}
 use Rattle.st_num.specs.declared.token.Token.{Token}
 use Rattle.st_grammar.specs.declared.sort.Bracket.{Bracket}
-use Rattle.st_parse_automaton.specs.declared.part_automaton.Expected.TheVariants.{Operand}
-use Rattle.st_parse_automaton.specs.declared.part_automaton.Frame.{Frame}
 use Rattle.st_parse_automaton.specs.declared.part_automaton.Part.{Part}
 use Rattle.st_parse_automaton.specs.declared.part_automaton.Reading.{Reading}
-use Rattle.st_parse_automaton.specs.declared.position.At.{At}
 use Rattle.st_parse_automaton.specs.declared.position.TokenClass.{TokenClass}
 use Rattle.st_parse_automaton.specs.declared.position.Slot.{Slot}
 use Rattle.st_parse_automaton.specs.declared.position.Advance.{Advance}
 use Rattle.st_parse_automaton.specs.declared.position.Advance.TheVariants as advance
 use Rattle.st_parse_automaton.specs.declared.position.Position.{Position}
-use Rattle.st_parse_automaton.specs.declared.position.Position.TheVariants as position
 use Rattle.st_parse_automaton.specs.declared.position.Progress.{Progress}
 use Rattle.st_parse_automaton.specs.declared.position.Progress.TheVariants as code
 use Rattle.st_parse_automaton.specs.inner.Readings.{progress_of}
@@ -27,18 +22,17 @@ use Rattle.st_grammar.specs.declared.action.Action.{Action}
 use Rattle.st_parse_builder.specs.inner.Building.{Stack, run}
 use Rattle.st_parse_builder.specs.Variables.{Occurrence, occurrences}
 use Rattle.st_parse_builder.specs.Limits.{place_past}
-use Rattle.st_parse_builder.specs.inner.PieceVariables.{stack_variables}
 use Rattle.st_draft.specs.declared.draft.Draft.{Draft}
 use Rattle.st_draft.specs.declared.parts.Parts.{Parts}
 use Rattle.st_draft.specs.inner.Changes.{change_of, ending_of}
 use Rattle.st_draft.specs.inner.Drafts.{arguments_after, ended}
-use Rattle.st_draft.specs.inner.Parts.{word_of, redrafted}
+use Rattle.st_draft.specs.inner.Parts.{word_of, redrafted, refilled}
 use Rattle.st_draft.specs.inner.Ready.{told, MayEnd, Ready, Awaits}
-use Rattle.st_draft.specs.inner.Work.{Work, work_of, worded_work, added_work, redrafted_work, ended_work, filled_work, turned_work, MayTurn, ended_defs, MayClose}
+use Rattle.st_draft.specs.inner.Work.{Work, work_of, arguments_with, worded_work, added_work, redrafted_work, ended_work, filled_work, turned_work, MayTurn, ended_defs, MayClose}
 use Rattle.st_parse.specs.declared.kept.Kept.{Kept}
 use Rattle.st_parse.specs.declared.variables.Variables.{Variables}
 use Rattle.st_parse.specs.inner.Kept.{Notes, Draws, Keeps}
-use Rattle.st_parse.specs.inner.Cuts.{in_rule, cut, of_open, past_in, Counts, Parted, Opens}
+use Rattle.st_parse.specs.inner.Cuts.{cut, of_open, past_in, Counts, Parted, Opens}
 use Rattle.st_parse.proofs.Notes.{mapped, some_is}
 
 chained : (A B : Type 0) (f : A → Option B) (o : Option A) (b : B) → option_and_then f o ≡ Some b → (a : A) × (o ≡ Some a) × (f a ≡ Some b)
@@ -87,6 +81,24 @@ redrafted_keeps kept new p q b a next position l x given h ready e is changes gi
 
 -- ---- a part ends
 
+-- what a part makes that ends
+pub part_keeps : (r : Result (Unit {0}) NoMemory) (kept new : Kept) (p q : Parts) (b a : Work) (slot : Slot) (n : ℕ) (acts : List Action) (words : List (TokenClass × Token)) → Keeps kept p b → Awaits slot b.draft → ended_work slot n b ≡ Some a
+    → acts ≡ p.actions → words ≡ map word_of p.words → ((d e : Draft) → Draws kept d → Awaits slot d → refilled slot n acts words d ≡ Some e → Draws new e)
+    → IfOk r (λ z. q.arguments ≡ arguments_with slot p.actions p.arguments) → IfOk r (λ z. (q.actions ≡ []) × (q.words ≡ [])) → IfOk r (λ z. Keeps new q a)
+part_keeps (Err f) kept new p q b a slot n acts words h awaits e is same fills given rest = tt
+part_keeps (Ok z) kept new p q b a slot n acts words h awaits e is same fills given rest =
+    let actions : p.actions ≡ b.actions = ap (λ (w : Work). w.actions) h.same in
+    let args : p.arguments ≡ b.arguments = ap (λ (w : Work). w.arguments) h.same in
+    let tokens : words ≡ b.words = same ∙ ap (λ (w : Work). w.words) h.same in
+    let m = mapped Draft Work (λ d. work d (arguments_with slot b.actions b.arguments) [] []) (refilled slot n b.actions b.words b.draft) a e in
+    subst (Keeps new q) m.2 (record {
+      drawn = fills b.draft m.0 h.drawn awaits (ap (λ y. refilled slot n y words b.draft) (is ∙ actions) ∙ ap (λ y. refilled slot n b.actions y b.draft) tokens ∙ m.1);
+      same = same_work m.0 q.arguments (arguments_with slot b.actions b.arguments) q.actions [] (map word_of q.words) []
+          (given ∙ ap (λ y. arguments_with slot y p.arguments) actions ∙ ap (arguments_with slot b.actions) args)
+          rest.0
+          (ap (map word_of) rest.1);
+    })
+
 -- ---- each token
 
 -- where a part ends, and the token leads on behind it
@@ -130,11 +142,6 @@ part_cut (Ok z) old v q w slot st ks o acts vs is h p same past all =
       past = past ∙ counts.past;
       all = all c.0 (ap (λ y. run y []) (same ∙ ap (λ (y : Work). y.actions) h.same) ∙ c.1) ∙ ap (λ os. os ++ cut slot c.0) counts.all ∙ c.2;
     }
-
-pub cut_noted : (r : Result (Unit {0}) NoMemory) (s : Slot) (before inside new : List Occurrence) (u : Stack) → in_rule s ≡ true → IfOk r (λ z. new ≡ inside ++ stack_variables u) → IfOk r (λ z. before ++ new ≡ (before ++ inside) ++ cut s u)
-cut_noted (Err f) s before inside new u is k = tt
-cut_noted (Ok z) s before inside new u is k =
-    ap (λ vs. before ++ vs) k ∙ sym (append_assoc before inside (stack_variables u)) ∙ ap (λ (b : Bool). (before ++ inside) ++ (if b then stack_variables u else [])) (sym is)
 
 -- the variables that are counted are those of these definitions and of the open one
 pub counted_past : (r : Result (Unit {0}) NoMemory) (v w : Variables) (defs : List Def) (vs : List Occurrence) → Counts v defs vs

@@ -1,4 +1,5 @@
 -- What is kept and found, for the proofs alone.
+pub mod Taken
 pub mod Kept
 pub mod Cuts
 pub mod Found

@@ -1,18 +1,18 @@
 //! What is kept of the definitions that are read: their trees, and what the limits ask of them.
 
-ghost use Rattle.std.specs.Prelude.{◌≡◌, [], map, ℕ, None, Some, IfOk};
-ghost use Rattle.std.specs.Option.{option_or};
+ghost use Rattle.std.specs.Prelude.{◌≡◌, [], map, ℕ, List, None, Some, IfOk};
 ghost use Rattle.st_el.specs.Plain.{nowhere};
-ghost use Rattle.st_el.specs.declared.definition.Def.{Def};
+ghost use Rattle.st_grammar.specs.declared.action.Action.{Action};
+ghost use Rattle.st_parse_builder.specs.inner.Parts as built;
 ghost use Rattle.st_draft.specs.declared.draft.Draft.{Draft};
 ghost use Rattle.st_draft.specs.inner.Drafts as drafts;
 ghost use Rattle.st_draft.specs.inner.Parts as parts;
 ghost use Rattle.st_draft.specs.inner.Ready.{Ready, Awaits, MayEnd};
-ghost use Rattle.st_parse.specs.Limits as limits;
 ghost use Rattle.st_parse.specs.inner.Kept as spec;
+ghost use Rattle.st_parse.specs.inner.Taken.{IsPart, AreTaken};
 
-use crate::parts::{Part, build_arguments};
-use crate::variables::{Variables, build_part, count, no_variables, note_change};
+use crate::parts::Part;
+use crate::variables::{Variables, build_part, change_parts, count, no_variables};
 use st_draft::{Change, DefinitionEnd, Draft, PartToken, begun, fill, redraft, turn};
 use st_el::{Body, Def, DefNode, Exp, Typ};
 use st_grammar::Action;
@@ -31,8 +31,8 @@ pub struct Kept<'a> {
     pub variables: Variables<'a>,
 }
 
-/// The height of the open premise, and whether an alternative is a type alone that is 100 high: only
-/// as an alias is it not too high.
+/// The height of the open premise, 0 where none is open, and whether an alternative is a type alone
+/// that is 100 high: only as an alias is it not too high.
 #[derive(Clone, Copy, Drop)]
 pub struct Heights {
     pub premise: u8,
@@ -74,20 +74,46 @@ fn is_alias(def: &Def) -> bool
     )
 }
 
-/// The place of the last definition, where an alternative of it is too high.
-fn last_tall(defs: &[Def], high: bool) -> Option<Span>
+/// Whether a definition that ends so has alternatives, or the notation of a relation.
+fn has_notations(ending: DefinitionEnd) -> bool
+    ensures { result ≡ spec.has_notations ending }
+{
+    matches!(ending, DefinitionEnd::Cases(_) | DefinitionEnd::Relation)
+}
+
+/// The place of a definition that is no alias, where an alternative of it is too high.
+fn high_at(def: &Def, high: bool) -> Option<Span>
+    ensures { result ≡ spec.high_at high def.now }
+{
+    if !is_alias(def) && high {
+        Some(def.at)
+    } else {
+        None
+    }
+}
+
+/// The same of the last of these definitions.
+fn last_high(defs: &[Def], high: bool) -> Option<Span>
     ensures { result ≡ spec.last_high high defs.now }
 {
     match defs.split_last() {
         None => None,
-        Some((def, _)) => {
-            if high && !is_alias(def) {
-                Some(def.at)
-            } else {
-                None
-            }
-        }
+        Some((def, _)) => high_at(def, high),
     }
+}
+
+/// The first definition that is too high, where the last one ended so.
+fn ended_high(ending: DefinitionEnd, high: bool, defs: &[Def], tall: Option<Span>) -> Option<Span>
+    ensures { result ≡ spec.ended_high ending high defs.now tall }
+{
+    tall.or(last_high(defs, has_notations(ending) && high))
+}
+
+/// The height of the open premise where a sign iterates it. None is open where that is 0.
+fn iterated(premise: u8) -> u8
+    ensures { result ≡ spec.iterated premise }
+{
+    if premise > 0 { above(premise) } else { 0 }
 }
 
 /// What a part adds to the heights of the open definition.
@@ -121,7 +147,7 @@ fn with_change(change: Change, heights: Heights) -> Heights
         Change::Begin(_) | Change::End(_) => no_heights(),
         Change::Premise(_) | Change::Otherwise => Heights { premise: 0, high },
         Change::Mark(_) => Heights {
-            premise: above(premise),
+            premise: iterated(premise),
             high,
         },
         _ => heights,
@@ -133,12 +159,22 @@ fn check_height(change: Change, draft: &Draft, high: bool, tall: Option<Span>) -
     ensures { result ≡ spec.checked change draft.now high tall }
 {
     match change {
-        Change::Begin(_) | Change::End(_) => tall.or(last_tall(draft.defs.as_slice(), high)),
+        Change::Begin(ending) | Change::End(ending) => {
+            ended_high(ending, high, draft.defs.as_slice(), tall)
+        }
         _ => tall,
     }
 }
 
-/// A token between parts changes the draft. Arguments that are too high do not go into it.
+/// What goes into the draft, where the open premise is not too high with it.
+fn where_low<T: Drop>(premise: u8, taken: Option<T>) -> Option<T>
+    ensures { result ≡ built.kept premise taken }
+{
+    if premise > HIGHEST_TREE { None } else { taken }
+}
+
+/// A token between parts changes the draft. Arguments that are too high do not go into it, nor does
+/// what makes the open premise too high.
 fn change_trees(
     alloc: Global,
     change: Change,
@@ -146,22 +182,27 @@ fn change_trees(
     token: &Token,
     arguments: Option<(Row<Typ>, Row<Exp>)>,
     kept: &mut Kept<'_>,
-) -> Result<(), NoMemory> {
+) -> Result<(), NoMemory>
+    ensures trees { (given : List (List Action)) (d e : Draft) → spec.Holds kept.old d
+        → Ready change d → parts.redrafted change shape token.now given d ≡ Some e
+        → AreTaken change given arguments → IfOk result (λ _. spec.Holds kept.new e) }
+    ensures variables { kept.new.variables ≡ kept.old.variables }
+{
     let at = kept.draft.head.at;
+    let tall = kept.tall;
     let high = kept.heights.high;
     kept.heights = with_change(change, kept.heights);
-    let tall = kept.tall;
-    match arguments {
-        Some((params, args)) if kept.heights.premise <= HIGHEST_TREE => {
-            redraft(alloc, change, shape, token, params, args, &mut kept.draft)?;
-            kept.tall = check_height(change, &kept.draft, high, tall);
-        }
-        _ => kept.tall = tall.or(Some(at)),
-    }
+    let Some((params, args)) = where_low(kept.heights.premise, arguments) else {
+        kept.tall = tall.or(Some(at));
+        return Ok(());
+    };
+    redraft(alloc, change, shape, token, params, args, &mut kept.draft)?;
+    kept.tall = check_height(change, &kept.draft, high, tall);
     Ok(())
 }
 
-/// A part goes into the draft where it ends. One that is too high does not.
+/// A part goes into the draft where it ends. One that is too high does not, nor does what makes the
+/// open premise too high.
 fn fill_trees(
     alloc: Global,
     slot: Slot,
@@ -169,19 +210,21 @@ fn fill_trees(
     part: Part,
     words: &[PartToken<'_>],
     kept: &mut Kept<'_>,
-) -> Result<(), NoMemory> {
+) -> Result<(), NoMemory>
+    ensures trees { (given : List Action) (d e : Draft) → spec.Holds kept.old d → Awaits slot d
+        → parts.refilled slot around given (map parts.word_of words.now) d ≡ Some e
+        → IsPart slot given part → IfOk result (λ _. spec.Holds kept.new e) }
+    ensures variables { kept.new.variables ≡ kept.old.variables }
+{
     let at = kept.draft.head.at;
+    let tall = kept.tall;
     kept.heights = with_part(slot, &part, kept.heights);
-    match part.tree {
-        Some(tree) if kept.heights.premise <= HIGHEST_TREE => {
-            fill(alloc, slot, around, tree, words, &mut kept.draft)
-        }
-        _ => {
-            let tall = kept.tall;
-            kept.tall = tall.or(Some(at));
-            Ok(())
-        }
-    }
+    let Some(tree) = where_low(kept.heights.premise, part.tree) else {
+        kept.tall = tall.or(Some(at));
+        return Ok(());
+    };
+    fill(alloc, slot, around, tree, words, &mut kept.draft)?;
+    Ok(())
 }
 
 /// A token between parts changes what is kept.
@@ -197,9 +240,8 @@ pub(crate) fn change_kept<'a>(
         → parts.redrafted change shape token.now arguments.now d ≡ Some e
         → IfOk result (λ _. spec.Draws kept.new e) }
 {
-    note_change(alloc, change, &mut kept.variables)?;
-    let built = build_arguments(alloc, change, arguments, &mut kept.variables.before)?;
-    change_trees(alloc, change, shape, token, built, kept)
+    let taken = change_parts(alloc, change, arguments, &mut kept.variables)?;
+    change_trees(alloc, change, shape, token, taken, kept)
 }
 
 /// A part ends, with so many brackets open round it.
@@ -232,6 +274,6 @@ pub(crate) fn end_kept<'a>(
     turn(alloc, ending, &mut kept.draft, Span::NOWHERE)?;
     let high = kept.heights.high;
     kept.heights = no_heights();
-    kept.tall = kept.tall.or(last_tall(kept.draft.defs.as_slice(), high));
+    kept.tall = ended_high(ending, high, kept.draft.defs.as_slice(), kept.tall);
     Ok(())
 }

@@ -1,13 +1,13 @@
 //! Parts that are built where they end.
 
-ghost use Rattle.std.specs.Prelude.{◌≡◌, ◌++◌, List, flat_map, IfOk};
+ghost use Rattle.std.specs.Prelude.{◌≡◌, ◌≢◌, ◌++◌, List, flat_map, Some, IfOk};
 ghost use Rattle.st_el.specs.declared.expression.Exp.{Exp};
 ghost use Rattle.st_el.specs.declared.ty.Typ.{Typ};
-ghost use Rattle.st_parse_builder.specs.inner.NotationBuilding.{typ_built};
-ghost use Rattle.st_parse_builder.specs.Variables.{occurrences, variables};
-ghost use Rattle.st_draft.specs.inner.Parts as parts;
-ghost use Rattle.st_parse.specs.inner.Kept.{AreBuilt};
 ghost use Rattle.st_parse_builder.specs.Heights.{height, typ_height};
+ghost use Rattle.st_parse_builder.specs.Variables.{occurrences, variables};
+ghost use Rattle.st_parse_builder.specs.inner.NotationBuilding.{typ_built};
+ghost use Rattle.st_draft.specs.inner.Parts as parts;
+ghost use Rattle.st_parse.specs.inner.Taken.{IsTyp, IsNotation, IsExp, kept_of, AreTaken};
 
 use st_draft::{Change, PartTree};
 use st_el::{Exp, Typ};
@@ -24,23 +24,31 @@ pub struct Part {
 }
 
 /// The type of these actions.
-pub(crate) fn typ_part(alloc: Global, actions: &[Action<'_>]) -> Result<Part, NoMemory> {
+pub(crate) fn typ_part(alloc: Global, actions: &[Action<'_>]) -> Result<Part, NoMemory>
+    ensures { IfOk result (IsTyp actions.now) }
+{
     let Built { tree, height, .. } = build_typ(alloc, actions)?;
-    let tree = match tree {
-        None => None,
-        Some(typ) => Some(PartTree::Typ(typ)),
-    };
-    Ok(Part { tree, height })
+    match tree {
+        None => Ok(Part { tree: None, height }),
+        Some(typ) => Ok(Part {
+            tree: Some(PartTree::Typ(typ)),
+            height,
+        }),
+    }
 }
 
-/// The notation of these actions.
-pub(crate) fn notation_part(alloc: Global, actions: &[Action<'_>]) -> Result<Part, NoMemory> {
+/// The notation of these actions. A type alone may be an alias, and is higher as a notation.
+pub(crate) fn notation_part(alloc: Global, actions: &[Action<'_>]) -> Result<Part, NoMemory>
+    ensures { IfOk result (IsNotation actions.now) }
+{
     let Built { tree, height, .. } = build_notation(alloc, actions)?;
-    let tree = match tree {
-        None => None,
-        Some(notation) => Some(PartTree::Notation(notation)),
-    };
-    Ok(Part { tree, height })
+    match tree {
+        None => Ok(Part { tree: None, height }),
+        Some(notation) => Ok(Part {
+            tree: Some(PartTree::Notation(notation)),
+            height,
+        }),
+    }
 }
 
 /// The expression of these actions, whose variables are added to what is seen.
@@ -48,19 +56,25 @@ pub(crate) fn exp_part<'a>(
     alloc: Global,
     actions: &[Action<'a>],
     seen: &mut Row<TokenRef<'a>>,
-) -> Result<Part, NoMemory> {
+) -> Result<Part, NoMemory>
+    ensures part { IfOk result (IsExp actions.now) }
+    ensures seen { (e : Exp) → parts.exp_built actions.now ≡ Some e
+        → IfOk result (λ _. occurrences seen.new ≡ occurrences seen.old ++ variables e) }
+{
     let Built { tree, height, .. } = build(alloc, actions, seen)?;
-    let tree = match tree {
-        None => None,
-        Some(exp) => Some(PartTree::Exp(exp)),
-    };
-    Ok(Part { tree, height })
+    match tree {
+        None => Ok(Part { tree: None, height }),
+        Some(exp) => Ok(Part {
+            tree: Some(PartTree::Exp(exp)),
+            height,
+        }),
+    }
 }
 
 /// The types of these arguments.
 fn build_types(alloc: Global, arguments: &[Row<Action<'_>>]) -> Result<Option<Row<Typ>>, NoMemory>
     ensures { (ts : List Typ) → parts.all_built typ_built arguments.now ≡ Some ts
-        → IfOk result (λ typs. AreBuilt typ_height ts typs) }
+        → IfOk result (λ typs. typs ≡ kept_of typ_height ts) }
 {
     let mut typs = no_parts(alloc);
     'arguments: for actions in arguments {
@@ -77,7 +91,7 @@ fn build_patterns<'a>(
     seen: &mut Row<TokenRef<'a>>,
 ) -> Result<Option<Row<Exp>>, NoMemory>
     ensures built { (es : List Exp) → parts.all_built parts.exp_built arguments.now ≡ Some es
-        → IfOk result (λ exps. AreBuilt height es exps) }
+        → IfOk result (λ exps. exps ≡ kept_of height es) }
     ensures seen { (es : List Exp) → parts.all_built parts.exp_built arguments.now ≡ Some es
         → IfOk result (λ _.
         occurrences seen.new ≡ occurrences seen.old ++ flat_map variables es) }
@@ -96,7 +110,13 @@ pub(crate) fn build_arguments<'a>(
     change: Change,
     arguments: &[Row<Action<'a>>],
     seen: &mut Row<TokenRef<'a>>,
-) -> Result<Option<(Row<Typ>, Row<Exp>)>, NoMemory> {
+) -> Result<Option<(Row<Typ>, Row<Exp>)>, NoMemory>
+    ensures taken { IfOk result (AreTaken change arguments.now) }
+    ensures args { change ≡ Change.Args → (es : List Exp)
+        → parts.all_built parts.exp_built arguments.now ≡ Some es → IfOk result (λ _.
+        occurrences seen.new ≡ occurrences seen.old ++ flat_map variables es) }
+    ensures same { change ≢ Change.Args → seen.new ≡ seen.old }
+{
     match change {
         Change::Params => {
             let Some(params) = build_types(alloc, arguments)? else {

@@ -1,23 +1,25 @@
 //! The variables of the open rule or clause, and the first that is past the limit.
 
-ghost use Rattle.std.specs.Prelude.{◌≡◌, ◌++◌, [], map, flat_map, ℕ, List, Some, IfOk};
+ghost use Rattle.std.specs.Prelude.{◌≡◌, ◌≢◌, ◌++◌, [], map, ℕ, List, Some, IfOk};
 ghost use Rattle.std.specs.Option.{option_or};
 ghost use Rattle.st_num.specs.declared.limit.TheConstants.{MOST_PREMISES};
 ghost use Rattle.st_num.specs.declared.token.Token.{Token};
 ghost use Rattle.st_el.specs.declared.expression.Exp.{Exp};
+ghost use Rattle.st_grammar.specs.declared.action.Action.{Action};
 ghost use Rattle.st_parse_automaton.specs.declared.part_automaton.Shape.{Shape};
 ghost use Rattle.st_parse_builder.specs.inner.Building.{Stack, run};
-ghost use Rattle.st_parse_builder.specs.inner.PieceVariables.{stack_variables};
-ghost use Rattle.st_parse_builder.specs.Variables.{occurrences, variables, times, iterated, without};
+ghost use Rattle.st_parse_builder.specs.Variables.{occurrences, times, without};
 ghost use Rattle.st_parse_builder.specs.Limits as measured;
 ghost use Rattle.st_draft.specs.declared.draft.Draft.{Draft};
 ghost use Rattle.st_draft.specs.inner.Parts as parts;
 ghost use Rattle.st_draft.specs.inner.Ready.{Ready, Awaits};
 ghost use Rattle.st_parse.specs.inner.Cuts as spec;
 ghost use Rattle.st_parse.specs.inner.Kept.{Notes};
+ghost use Rattle.st_parse.specs.inner.Taken.{IsPart, AreTaken};
 
-use crate::parts::{Part, exp_part, notation_part, typ_part};
+use crate::parts::{Part, build_arguments, exp_part, notation_part, typ_part};
 use st_draft::{Change, PartToken, PartTree, index_in};
+use st_el::{Exp, Typ};
 use st_grammar::{Action, TokenRef};
 use st_num::{MOST_PREMISES, NoMemory, Row, Span};
 use st_parse_automaton::Slot;
@@ -113,9 +115,7 @@ pub(crate) fn build_part<'a>(
     ensures notes { (d e : Draft) (n : ℕ) → Notes variables.old d → Awaits slot d
         → parts.refilled slot n actions.now (map parts.word_of words.now) d ≡ Some e
         → IfOk result (λ _. Notes variables.new e) }
-    ensures part { (d e : Draft) (n : ℕ)
-        → parts.refilled slot n actions.now (map parts.word_of words.now) d ≡ Some e
-        → IfOk result (λ part. IsPart slot n (map parts.word_of words.now) d e part) }
+    ensures part { IfOk result (IsPart slot actions.now) }
 {
     match slot {
         Slot::Field | Slot::Var | Slot::Fun => typ_part(alloc, actions),
@@ -134,16 +134,38 @@ pub(crate) fn build_part<'a>(
 }
 
 /// A token between parts ends a definition or a premise, or neither.
-pub(crate) fn note_change<'a>(
+fn note_change<'a>(
     alloc: Global,
     change: Change,
     variables: &mut Variables<'a>,
-) -> Result<(), NoMemory> {
+) -> Result<(), NoMemory>
+    ensures others { change ≢ Change.Args → (given : List (List Action)) (d e : Draft) (sh : Shape)
+        (x : Token) → Notes variables.old d → Ready change d
+        → parts.redrafted change sh x given d ≡ Some e → IfOk result (λ _. Notes variables.new e) }
+    ensures args { change ≡ Change.Args → variables.new ≡ variables.old }
+{
     match change {
         Change::Begin(_) | Change::End(_) => count(alloc, variables),
         Change::Premise(_) => end_premise(alloc, variables),
         _ => Ok(()),
     }
+}
+
+/// A token between parts changes what is noted, and takes the arguments that are built for it: none
+/// where one is too high.
+pub(crate) fn change_parts<'a>(
+    alloc: Global,
+    change: Change,
+    arguments: &[Row<Action<'a>>],
+    variables: &mut Variables<'a>,
+) -> Result<Option<(Row<Typ>, Row<Exp>)>, NoMemory>
+    ensures notes { (d e : Draft) (sh : Shape) (x : Token) → Notes variables.old d → Ready change d
+        → parts.redrafted change sh x arguments.now d ≡ Some e
+        → IfOk result (λ _. Notes variables.new e) }
+    ensures taken { IfOk result (AreTaken change arguments.now) }
+{
+    note_change(alloc, change, variables)?;
+    build_arguments(alloc, change, arguments, &mut variables.before)
 }
 
 /// Whether a part belongs to a rule or clause.

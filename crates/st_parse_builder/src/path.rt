@@ -2,6 +2,9 @@
 
 ghost use Rattle.std.specs.Prelude.{◌≡◌, IfOk};
 ghost use Rattle.st_grammar.specs.declared.action.Action.TheVariants as action;
+ghost use Rattle.st_parse_builder.specs.declared.piece.Piece.TheVariants as piece;
+ghost use Rattle.st_parse_builder.specs.Meaning as meaning;
+ghost use Rattle.st_parse_builder.specs.inner.Parts.{over, raised};
 ghost use Rattle.st_parse_builder.specs.inner.Entries.{Forms};
 
 use crate::Piece;
@@ -11,8 +14,8 @@ use crate::leaf::copy_name;
 use crate::list::more;
 use crate::make::done;
 use crate::pieces::{Entry, Stack, pop_done, pop_pair, pop_path, pop_whole};
-use st_el::Seg;
-use st_num::{Mark, NoMemory, Token};
+use st_el::{Exp, Seg};
+use st_num::{Mark, NoMemory, Row, Token};
 use std::alloc::Global;
 
 /// Makes a field a step of the path on top.
@@ -107,6 +110,23 @@ pub(crate) fn slice(alloc: Global, stack: &mut Stack) -> Result<Option<Entry>, N
     Ok(Some(done(exp, height, from)))
 }
 
+/// A part with a new value at a path.
+fn change_part(
+    alloc: Global,
+    mark: Mark,
+    parts: Built<(Exp, (Row<Seg>, Exp))>,
+) -> Result<Entry, NoMemory>
+    ensures { IfOk result (λ made. made
+        ≡ over (λ x. piece.Done (meaning.changed mark x.0 x.1.0 x.1.1)) (raised parts)) }
+{
+    let Built { tree, height, from } = raise(parts);
+    let exp = match tree {
+        None => None,
+        Some((whole, (path, value))) => Some(changed(alloc, mark, whole, path, value)?),
+    };
+    Ok(done(exp, height, from))
+}
+
 /// Makes the part on top new at the path below.
 pub(crate) fn change(
     alloc: Global,
@@ -115,7 +135,7 @@ pub(crate) fn change(
 ) -> Result<Option<Entry>, NoMemory>
     ensures { IfOk result (λ made. Forms (action.Change mark) stack.old stack.new made) }
 {
-    let Some(new) = pop_done(stack) else {
+    let Some(value) = pop_done(stack) else {
         return Ok(None);
     };
     let Some(path) = pop_path(stack) else {
@@ -124,10 +144,6 @@ pub(crate) fn change(
     let Some(whole) = pop_done(stack) else {
         return Ok(None);
     };
-    let Built { tree, height, from } = raise(both(whole, both(path, new)));
-    let exp = match tree {
-        None => None,
-        Some((whole, (path, new))) => Some(changed(alloc, mark, whole, path, new)?),
-    };
-    Ok(Some(done(exp, height, from)))
+    let part = change_part(alloc, mark, both(whole, both(path, value)))?;
+    Ok(Some(part))
 }

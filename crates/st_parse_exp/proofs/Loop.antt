@@ -1,10 +1,10 @@
 -- The loop over the tokens of expressions.
-use Rattle.std.proofs.Common.{◌≡◌, ℕ, ◌+◌, ◌≤◌, ◌<◌, inl, inr, List, length, take, get_or, Bool, true, false, Option, Some, None, refl, sym, ap, subst, ◌∙◌, arith}
+use Rattle.std.proofs.Common.{◌≡◌, ℕ, ◌+◌, ◌≤◌, ◌<◌, inl, inr, List, length, take, get_or, Bool, false, Option, Some, None, refl, sym, ap, subst, ◌∙◌}
 use Rattle.st_num.specs.declared.rule.RuleId.{RuleId}
 use Rattle.st_num.specs.declared.rule.RuleId.TheVariants.{S1}
 use Rattle.st_num.specs.declared.token.Token.{Token}
 use Rattle.st_grammar.specs.Terminals.{terminal}
-use Rattle.st_grammar.specs.Trees.{Tree, Trees}
+use Rattle.st_grammar.specs.Trees.{Tree}
 use Rattle.st_grammar.specs.Reading as part
 use Rattle.st_grammar.specs.Positions as positions
 use Rattle.st_grammar.proofs.PositionTexts as texts
@@ -23,7 +23,7 @@ use Rattle.st_parse_faults.specs.inner.Seen as seen
 use Rattle.st_parse_exp.specs.Expressions.{terminals_of}
 use Rattle.st_parse_exp.specs.Reading.{whole}
 use Rattle.st_parse_faults.specs.Judging.{TokenVerdict, passed, broken}
-use Rattle.st_parse_exp.specs.Faults.{Seen, judge, verdict, nothing_seen, Faultless, FirstFault}
+use Rattle.st_parse_exp.specs.Faults.{Seen, judge, verdict, nothing_seen, FirstFault}
 use Rattle.st_parse_exp.specs.inner.Seen as spec
 use Rattle.st_parse_exp.proofs.Readings.{reached}
 use Rattle.st_parse_exp.proofs.SeenView.{slot, rule_holds, summary_of, verdict_view, judge_is, may_end_as}
@@ -78,19 +78,9 @@ token_breaks tokens names i x l p v r last h a t k f e =
           (sym (at_token tokens names i x l p (seen.verdict_of v) h a t k f) ∙ ap seen.verdict_of e),
     )
 
-whole_some : (s : Seen) (q : Option Tree) → is_some q ≡ true → (ts : Trees) × (whole s.state q ≡ Some ts)
-whole_some s None e = absurd (cc)
-whole_some s (Some t) e = (_, refl)
-
 whole_none : (s : Seen) (q : Option Tree) → is_some q ≡ false → whole s.state q ≡ None
 whole_none s None e = refl
 whole_none s (Some t) e = absurd (cc)
-
-pub ends_well : (names : List (List ℕ)) (tokens : List Token) (i : ℕ) (p : CodeSeen) (b : Bool) → length tokens ≤ i → Passes names tokens i p → b ≡ definitions.may_end (progress_of p.progress) → b ≡ true → Faultless names tokens
-ends_well names tokens i p b h (s, e, o) f t =
-    let yes : is_some (part.finish s.state.here) ≡ true = sym (may_end_as s (passes_holds names tokens i s e)) ∙ ap (λ v. definitions.may_end v.state) o ∙ sym f ∙ t in
-    let r = whole_some s (part.finish s.state.here) yes in
-    (s, r.0, sym (judging.all_tokens Seen (judge names) nothing_seen tokens i h) ∙ e, r.1)
 
 pub ends_early : (names : List (List ℕ)) (tokens : List Token) (i : ℕ) (p : CodeSeen) (b : Bool) → length tokens ≤ i → Passes names tokens i p → b ≡ definitions.may_end (progress_of p.progress) → b ≡ false
     → FirstFault names tokens (length tokens) S1

@@ -1,23 +1,12 @@
 -- How high the trees of an open definition are.
 use Rattle.std.specs.Prelude.{◌≤◌, ℕ, map, Option, Some, None}
-use Rattle.st_el.specs.declared.ty.Typ.{Typ}
-use Rattle.st_el.specs.declared.notation.Notation.{Notation}
-use Rattle.st_parse_builder.specs.Heights.{highest, height, typ_height, notation_height}
-use Rattle.st_parse_builder.specs.inner.PieceHeights.{lone_typ}
+use Rattle.st_parse_builder.specs.Heights.{highest, height, typ_height}
+use Rattle.st_parse_builder.specs.inner.PieceHeights.{open_height}
 use Rattle.st_parse_builder.specs.DefHeights.{prem_height, field_type_height}
 use Rattle.st_draft.specs.declared.draft.Draft.{Draft}
 use Rattle.st_draft.specs.declared.draft.Members.{Members}
 use Rattle.st_draft.specs.declared.draft.Sides.{Sides}
 use Rattle.st_draft.specs.declared.draft.Premises.{Premises}
-
--- the height of the type where there is one, and else this height
-abbrev pub height_or : ℕ → Option Typ → ℕ
-height_or tall None = tall
-height_or tall (Some t) = typ_height t
-
--- A notation that is a type alone may be an alias, and is built as high as that type.
-abbrev pub open_height : Notation → ℕ
-open_height n = height_or (notation_height n) (lone_typ n)
 
 -- the height of what there is
 abbrev pub height_of : {A : Type 0} → (A → ℕ) → Option A → ℕ

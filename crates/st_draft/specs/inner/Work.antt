@@ -2,7 +2,6 @@
 use Rattle.std.specs.Prelude.{◌≡◌, ℕ, List, [], ◌∷◌, ◌++◌, length, map, Option, Some, option_and_then}
 use Rattle.std.specs.Option.{option_map}
 use Rattle.st_num.specs.declared.token.Token.{Token}
-use Rattle.st_grammar.specs.declared.sort.Bracket.{Bracket}
 use Rattle.st_parse_automaton.specs.declared.part_automaton.Part.{Part}
 use Rattle.st_parse_automaton.specs.declared.position.Advance.{Advance}
 use Rattle.st_parse_automaton.specs.declared.position.Advance.TheVariants as advance

@@ -3,7 +3,6 @@
 use Rattle.std.specs.Prelude.{ℕ, List, [], ◌∷◌, ◌++◌, map, reverse, Bool, true, false, Option, Some, None, option_and_then, if◌then◌else◌}
 use Rattle.std.specs.Option.{option_map}
 use Rattle.st_num.specs.declared.span.Span.{Span}
-use Rattle.st_num.specs.declared.mark.Mark.{Mark}
 use Rattle.st_el.specs.declared.ty.Typ.{Typ}
 use Rattle.st_el.specs.declared.notation.Notation.{Notation}
 use Rattle.st_el.specs.declared.notation.NotNode.TheVariants as not_node
