@@ -1,14 +1,13 @@
 -- There is at most one first fault, and a fault of the grammar is a refusal of it.
-use Rattle.std.proofs.Common.{◌≡◌, ℕ, ◌+◌, ◌≤◌, ◌<◌, inl, inr, List, [], ◌∷◌, ◌++◌, length, take, drop, get_or, Bool, true, false, nat_lt, Option, Some, None, option_and_then, refl, sym, ap, subst, ◌∙◌, arith}
+use Rattle.std.proofs.Common.{◌≡◌, ℕ, ◌+◌, ◌≤◌, ◌<◌, inl, inr, List, length, take, get_or, Bool, true, false, nat_lt, Option, Some, None, option_and_then, refl, sym, ap, ◌∙◌, arith}
 use Rattle.st_num.specs.declared.rule.RuleId.{RuleId}
 use Rattle.st_num.specs.declared.token.Token.{Token}
 use Rattle.st_grammar.specs.Terminals.{Terminal, terminal, declared_names}
-use Rattle.st_grammar.specs.Definitions.{Defs, ParseDefs}
+use Rattle.st_grammar.specs.Definitions.{Defs}
 use Rattle.st_grammar.specs.Positions.{State, start, step, finish, reading}
-use Rattle.st_grammar.proofs.PositionReading.{sound_defs}
 use Rattle.st_grammar.proofs.PositionEnds.{viable}
 use Rattle.st_grammar.proofs.PositionComplete.{dead_defs, complete_defs}
-use Rattle.st_parse_automaton.specs.Refusal.{terminals_of, AreDefinitions, IsViable, RefusedAt}
+use Rattle.st_parse_automaton.specs.Refusal.{terminals_of, IsViable, RefusedAt}
 use Rattle.st_parse_automaton.proofs.Loop.{last_step, one_more, whole_list}
 use Rattle.st_parse_faults.specs.Judging.{passed, broken}
 use Rattle.st_parse_faults.specs.inner.Folding.{Seen, opens_too_many, passes_limit, seen_after, judged, judge, verdict, nothing_seen, ended, AllPass, FirstBreak}
