@@ -33,9 +33,9 @@ use Rattle.st_parse_automaton.proofs.DefinitionView.{definitions_of}
 use Rattle.st_parse_automaton.proofs.DefinitionSimulation.{may_end_is, is_some}
 use Rattle.st_parse_automaton.proofs.Loop as loop
 use Rattle.st_parse_faults.specs.declared.before.Before.TheVariants as before
-use Rattle.st_parse_faults.specs.Counts.{no_counts}
+use Rattle.st_parse_faults.specs.inner.Counts.{no_counts}
 use Rattle.st_parse_faults.specs.LeftOut.{is_type_in, type_or_other, before_next, left_out}
-use Rattle.st_parse_faults.specs.Faults as defs
+use Rattle.st_parse_faults.specs.inner.Folding as defs
 use Rattle.st_parse_faults.specs.inner.Seen as judging
 use Rattle.st_parse_faults.proofs.SeenView as view
 use Rattle.st_parse.specs.ExpressionReading.{begun, turn, goes, step}

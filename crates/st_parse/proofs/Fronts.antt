@@ -11,9 +11,10 @@ use Rattle.st_parse_automaton.proofs.DefinitionView.{definitions_of}
 use Rattle.st_parse_faults.specs.declared.judge.Seen.{Seen as CodeSeen}
 use Rattle.st_parse_faults.specs.declared.fault.TokenFault.{TokenFault}
 use Rattle.st_parse_faults.specs.Judging.{passed}
-use Rattle.st_parse_faults.specs.Faults.{Seen, verdict, Faultless, FirstFault}
+use Rattle.st_parse_faults.specs.inner.Folding.{Seen, verdict, AllPass, FirstBreak}
 use Rattle.st_parse_faults.specs.Place.{place_at}
 use Rattle.st_parse_faults.proofs.Loop.{passes_holds}
+use Rattle.st_parse_faults.proofs.BrokenFirst.{faultless, first_broken}
 use Rattle.st_el.specs.declared.definition.Def.{Def}
 use Rattle.st_parse_builder.specs.Definitions.{defs_meaning}
 use Rattle.st_parse_builder.specs.Variables.{Occurrence}
@@ -38,10 +39,10 @@ use Rattle.st_parse.proofs.Taking.{Reads, passing, all_read, end_judged}
 
 -- ---- fronts
 
-abbrev pub all_of : (tokens : List Token) → Faultless tokens → Front tokens
+abbrev pub all_of : (tokens : List Token) → AllPass tokens → Front tokens
 all_of tokens h = record { count = length tokens; seen = h.0; faultless = h.2; longest = inl refl }
 
-up_to : (tokens : List Token) (f : TokenFault) → FirstFault tokens f.token f.rule → (front : Front tokens) × (front.count ≡ f.token)
+up_to : (tokens : List Token) (f : TokenFault) → FirstBreak tokens f.token f.rule → (front : Front tokens) × (front.count ≡ f.token)
 up_to tokens f (inl h) = (record { count = f.token; seen = h.1.0; faultless = h.1.1; longest = inr (f.rule, h.0, h.2) }, refl)
 up_to tokens f (inr h) = (record { count = f.token; seen = h.2.0; faultless = h.2.1; longest = inl h.0 }, refl)
 
@@ -54,14 +55,14 @@ same_seen : (tokens : List Token) (front : Front tokens) (i : ℕ) (s : Seen) �
 same_seen tokens front i s e v =
     let both : passed front.seen ≡ passed s = sym front.faultless ∙ ap (verdict tokens) e ∙ v in cc
 
-all_hold : (tokens : List Token) (h : Faultless tokens) → Holds h.0.state
+all_hold : (tokens : List Token) (h : AllPass tokens) → Holds h.0.state
 all_hold tokens h = passes_holds tokens (length tokens) h.0 h.2
 
 -- the first variable past the limit, of the definitions that tokens mean
 pub parsed_past : (tokens : List Token) (defs : List Def) → IsParsed tokens defs → Past tokens (first_that variable_past defs)
 parsed_past tokens defs p =
-    let h = p.0 in
-    (all_of tokens h, past_whole h.0.state h.1 (all_hold tokens h) h.3 ∙ ap (first_that variable_past) (meant tokens defs p))
+    let h = faultless tokens p.0 in
+    (all_of tokens h, past_whole h.0.state h.1 (all_hold tokens h) h.3 ∙ ap (first_that variable_past) (meant tokens defs p h))
 
 -- ---- what is cut off
 
@@ -95,7 +96,7 @@ told_trees : (o : Option Span) (g : Heights) (k d : Draft) → Stands o g k d �
 told_trees None g k d h none = ap (λ (q : Draft). q.defs) h.0
 told_trees (Some at) g k d h none = absurd (cc)
 
-found_all : (tokens : List Token) (h : Faultless tokens) (new : Kept) → Tells new (defs_meaning h.1) → Found tokens None new
+found_all : (tokens : List Token) (h : AllPass tokens) (new : Kept) → Tells new (defs_meaning h.1) → Found tokens None new
 found_all tokens h new (d, draws, defs_are, low) =
     let defs = defs_meaning h.1 in
     let past : new.variables.past ≡ first_that variable_past defs = draws.noted.past ∙ ap (first_that variable_past) defs_are in
@@ -116,7 +117,7 @@ found_all tokens h new (d, draws, defs_are, low) =
 pub found_whole : (tokens : List Token) (found : Option TokenFault) (i : ℕ) (p : CodeSeen) (old new : Kept) (parts : Parts) → found ≡ None → Judged tokens found → i ≡ length tokens → Reads tokens i p old parts
     → ((w : Work) (defs : List Def) → Keeps old parts w → MayClose (progress_of p.progress) w → ended_defs (progress_of p.progress) w ≡ Some defs → Tells new defs) → Found tokens found new
 found_whole tokens found i p old new parts is j e (s, v, o, r) tells =
-    let h : Faultless tokens = subst (Judged tokens) is j in
+    let h : AllPass tokens = subst (Judged tokens) is j in
     let st : State = s.state in
     let same : h.0 ≡ s = same_seen tokens (all_of tokens h) i s (sym e) v in
     let held : Holds st = passes_holds tokens i s v in
@@ -146,4 +147,4 @@ pub many : (tokens : List Token) (found : Option TokenFault) (k : Kept) (at : Sp
 many tokens found k at h e = inl ((h.past.0, h.past.1 ∙ e), refl)
 
 pub token_fault : (tokens : List Token) (found : Option TokenFault) (k : Kept) (f : TokenFault) → Found tokens found k → k.variables.past ≡ None → found ≡ Some f → FaultAt tokens (place_at tokens f.token) f.rule
-token_fault tokens found k f h e g = inr (inl ((h.past.0, h.past.1 ∙ e), (f.token, subst (Judged tokens) g h.judged, refl)))
+token_fault tokens found k f h e g = inr (inl ((h.past.0, h.past.1 ∙ e), (f.token, first_broken tokens f.token f.rule (subst (Judged tokens) g h.judged), refl)))

@@ -4,9 +4,10 @@ use Rattle.st_num.specs.declared.span.Span.{Span}
 use Rattle.st_num.specs.declared.rule.RuleId.{RuleId}
 use Rattle.st_num.specs.declared.token.Token.{Token}
 use Rattle.st_parse_faults.specs.Judging.{passed, broken}
-use Rattle.st_parse_faults.specs.Faults.{Seen, verdict}
+use Rattle.st_parse_faults.specs.inner.Folding.{Seen, verdict}
 use Rattle.st_parse_faults.specs.Place.{place_at}
-use Rattle.st_parse_faults.proofs.Exact.{front_passes, one_fault, never_both}
+use Rattle.st_parse_faults.proofs.Exact.{front_passes}
+use Rattle.st_parse_faults.proofs.BrokenFirst.{one_broken, never_kept}
 use Rattle.st_el.specs.declared.definition.Def.{Def}
 use Rattle.st_parse.specs.Limits.{variable_past, too_tall, first_that}
 use Rattle.st_parse.specs.Open.{first_past}
@@ -75,7 +76,7 @@ never_tall tokens a b at p q h k =
 
 pub never_source : (tokens : List Token) (defs : List Def) (at : Span) (rule : RuleId) → FaultAt tokens at rule → IsSource tokens defs → ⊥
 never_source tokens defs at rule (inl h) s = never_past tokens at h.0 (none_past tokens defs s.0 s.1.0)
-never_source tokens defs at rule (inr (inl h)) s = never_both tokens h.1.0 rule h.1.1 s.0.0
+never_source tokens defs at rule (inr (inl h)) s = never_kept tokens h.1.0 rule h.1.1 s.0.0
 never_source tokens defs at rule (inr (inr h)) s = never_tall tokens h.0 defs at h.1 s.0 h.3 s.1.1
 
 pub one_refusal : (tokens : List Token) (at there : Span) (rule other : RuleId) → FaultAt tokens at rule → FaultAt tokens there other → (at ≡ there) × (rule ≡ other)
@@ -85,10 +86,10 @@ one_refusal tokens at there rule other (inl h) (inr (inr k)) = absurd (never_pas
 one_refusal tokens at there rule other (inr (inl h)) (inl k) = absurd (never_past tokens there k.0 h.0)
 one_refusal tokens at there rule other (inr (inr h)) (inl k) = absurd (never_past tokens there k.0 (none_past tokens h.0 h.1 h.2))
 one_refusal tokens at there rule other (inr (inl h)) (inr (inl k)) =
-    let e = one_fault tokens h.1.0 k.1.0 rule other h.1.1 k.1.1 in
+    let e = one_broken tokens h.1.0 k.1.0 rule other h.1.1 k.1.1 in
     (h.1.2 ∙ ap (place_at tokens) e.0 ∙ sym k.1.2, e.1)
-one_refusal tokens at there rule other (inr (inl h)) (inr (inr k)) = absurd (never_both tokens h.1.0 rule h.1.1 k.1.0)
-one_refusal tokens at there rule other (inr (inr h)) (inr (inl k)) = absurd (never_both tokens k.1.0 other k.1.1 h.1.0)
+one_refusal tokens at there rule other (inr (inl h)) (inr (inr k)) = absurd (never_kept tokens h.1.0 rule h.1.1 k.1.0)
+one_refusal tokens at there rule other (inr (inr h)) (inr (inl k)) = absurd (never_kept tokens k.1.0 other k.1.1 h.1.0)
 one_refusal tokens at there rule other (inr (inr h)) (inr (inr k)) =
     let e : Some at ≡ Some there = sym h.3 ∙ one_tall tokens h.0 k.0 h.1 k.1 ∙ k.3 in
     let same : at ≡ there = cc in

@@ -21,7 +21,7 @@ use Rattle.st_parse_faults.specs.declared.judge.TokenVerdict.{TokenVerdict as Co
 use Rattle.st_parse_faults.specs.declared.judge.TokenVerdict.TheVariants as code
 use Rattle.st_parse_faults.specs.declared.fault.TokenFault.{TokenFault}
 use Rattle.st_parse_faults.specs.Judging.{passed}
-use Rattle.st_parse_faults.specs.Faults.{Seen, judge, verdict, nothing_seen}
+use Rattle.st_parse_faults.specs.inner.Folding.{Seen, judge, verdict, nothing_seen}
 use Rattle.st_parse_faults.specs.inner.Seen as seen
 use Rattle.st_parse_faults.proofs.SeenView.{summary}
 use Rattle.st_parse_faults.proofs.JudgingLemmas as judging

@@ -6,7 +6,8 @@ use Rattle.st_num.specs.declared.rule.RuleId.TheVariants.{S2, S3}
 use Rattle.st_num.specs.declared.token.Token.{Token}
 use Rattle.st_grammar.specs.Terminals.{declared_names}
 use Rattle.st_parse_faults.specs.Judging.{passed, broken}
-use Rattle.st_parse_faults.specs.Faults.{Seen, verdict, Faultless, FirstFault}
+use Rattle.st_parse_faults.specs.Faults.{Faultless, FirstFault}
+use Rattle.st_parse_faults.specs.inner.Folding.{Seen, verdict}
 use Rattle.st_parse_faults.specs.Place.{place_at}
 use Rattle.st_el.specs.declared.definition.Def.{Def}
 use Rattle.st_parse_builder.specs.Definitions.{Parse}

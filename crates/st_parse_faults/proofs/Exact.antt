@@ -1,18 +1,16 @@
--- There is at most one first fault, none in source without one, and a fault of the grammar is a
--- refusal of it.
-use Rattle.std.proofs.Common.{◌≡◌, ℕ, ◌+◌, ◌≤◌, ◌<◌, inl, inr, List, [], ◌∷◌, ◌++◌, length, take, drop, get_or, Bool, true, false, nat_lt, Option, Some, None, option_and_then, refl, sym, ap, subst, ◌∙◌, arith}
+-- There is at most one first fault, and a fault of the grammar is a refusal of it.
+use Rattle.std.proofs.Common.{◌≡◌, ℕ, ◌+◌, ◌≤◌, ◌<◌, inl, inr, List, length, take, get_or, Bool, true, false, nat_lt, Option, Some, None, option_and_then, refl, sym, ap, ◌∙◌, arith}
 use Rattle.st_num.specs.declared.rule.RuleId.{RuleId}
 use Rattle.st_num.specs.declared.token.Token.{Token}
 use Rattle.st_grammar.specs.Terminals.{Terminal, terminal, declared_names}
-use Rattle.st_grammar.specs.Definitions.{Defs, ParseDefs}
+use Rattle.st_grammar.specs.Definitions.{Defs}
 use Rattle.st_grammar.specs.Positions.{State, start, step, finish, reading}
-use Rattle.st_grammar.proofs.PositionReading.{sound_defs}
 use Rattle.st_grammar.proofs.PositionEnds.{viable}
 use Rattle.st_grammar.proofs.PositionComplete.{dead_defs, complete_defs}
-use Rattle.st_parse_automaton.specs.Refusal.{terminals_of, AreDefinitions, IsViable, RefusedAt}
+use Rattle.st_parse_automaton.specs.Refusal.{terminals_of, IsViable, RefusedAt}
 use Rattle.st_parse_automaton.proofs.Loop.{last_step, one_more, whole_list}
 use Rattle.st_parse_faults.specs.Judging.{passed, broken}
-use Rattle.st_parse_faults.specs.Faults.{Seen, opens_too_many, passes_limit, seen_after, judged, judge, verdict, nothing_seen, ended, Faultless, FirstFault}
+use Rattle.st_parse_faults.specs.inner.Folding.{Seen, opens_too_many, passes_limit, seen_after, judged, judge, verdict, nothing_seen, ended, AllPass, FirstBreak}
 use Rattle.st_parse_faults.proofs.JudgingLemmas as judging
 use Rattle.st_parse_faults.proofs.JudgingLemmas.{OfGrammar}
 use Rattle.st_parse_faults.proofs.Verdicts.{verdict_reads}
@@ -27,17 +25,13 @@ passes_viable tokens k seen e = viable (declared_names tokens) (take k (terminal
 
 -- ---- one fault
 
-pub one_fault : (tokens : List Token) (j k : ℕ) (q r : RuleId) → FirstFault tokens j q → FirstFault tokens k r → (j ≡ k) × (q ≡ r)
+pub one_fault : (tokens : List Token) (j k : ℕ) (q r : RuleId) → FirstBreak tokens j q → FirstBreak tokens k r → (j ≡ k) × (q ≡ r)
 one_fault tokens = judging.one_fault Seen (judge (declared_names tokens)) nothing_seen tokens Defs ended
 
-pub never_both : (tokens : List Token) (k : ℕ) (r : RuleId) → FirstFault tokens k r → Faultless tokens → ⊥
+pub never_both : (tokens : List Token) (k : ℕ) (r : RuleId) → FirstBreak tokens k r → AllPass tokens → ⊥
 never_both tokens = judging.never_both Seen (judge (declared_names tokens)) nothing_seen tokens Defs ended
 
 -- ---- the grammar
-
-pub are_definitions : (tokens : List Token) → Faultless tokens → AreDefinitions tokens
-are_definitions tokens s =
-    (s.1, subst (λ us. ParseDefs us s.1) (whole_list tokens (length tokens) (omega arith)) (sound_defs (take (length tokens) (terminals_of tokens)) s.0.state s.1 (verdict_reads tokens (length tokens) s.0 s.2) s.3))
 
 pub not_read : (seen : Seen) (x : Token) (l : Terminal) (o : Option State) (r : RuleId) → judged seen x l o ≡ broken r → OfGrammar r → o ≡ None
 not_read seen x l None r e h = refl
@@ -56,7 +50,7 @@ dead_next tokens k r seen d h g e f v =
     let none = not_read seen x l (step seen.state l) r next h in
     dead_defs (declared_names tokens) (take (k + 1) (terminals_of tokens)) (ap (reading start) (one_more tokens k d g) ∙ last_step us l seen.state read ∙ none) v
 
-pub is_refused : (tokens : List Token) (k : ℕ) (r : RuleId) → OfGrammar r → FirstFault tokens k r → RefusedAt tokens k
+pub is_refused : (tokens : List Token) (k : ℕ) (r : RuleId) → OfGrammar r → FirstBreak tokens k r → RefusedAt tokens k
 is_refused tokens k r h (inl (g, (seen, e), f)) = inl (g, passes_viable tokens k seen e, dead_next tokens k r seen (judging.some_token tokens k g) h g e f)
 is_refused tokens k r h (inr (e, i, (seen, f, n))) =
     let us = take k (terminals_of tokens) in
@@ -71,7 +65,7 @@ is_refused tokens k r h (inr (e, i, (seen, f, n))) =
     )
 
 -- no fault stands behind the refused token
-pub not_later : (tokens : List Token) (j k : ℕ) (r : RuleId) → RefusedAt tokens j → FirstFault tokens k r → k ≤ j
+pub not_later : (tokens : List Token) (j k : ℕ) (r : RuleId) → RefusedAt tokens j → FirstBreak tokens k r → k ≤ j
 not_later tokens j k r f g = go (nat_lt j k) refl
   where
     last : (seen : Seen) × (verdict tokens k ≡ passed seen)

@@ -13,7 +13,7 @@ use Rattle.st_parse_automaton.specs.declared.part_automaton.Part.TheVariants.{Fu
 use Rattle.st_parse_automaton.specs.inner.PartAutomaton as parts
 use Rattle.st_parse_automaton.specs.inner.Shapes.{shape}
 use Rattle.st_parse_automaton.proofs.View.{part_of}
-use Rattle.st_parse_faults.specs.Limits.{is_atom, goes_on, is_in_name}
+use Rattle.st_parse_faults.specs.Signs.{is_atom, goes_on, is_in_name}
 use Rattle.st_parse_faults.specs.inner.Roles as roles
 
 pub dotted_atom : (p : Part) (b : Bool) → roles.is_atom (parts.dotted p b) ≡ (roles.is_atom p && b)

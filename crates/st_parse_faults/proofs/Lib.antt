@@ -9,3 +9,11 @@ pub mod Verdicts
 pub mod Loop
 pub mod Exact
 pub mod Stepping
+pub mod NumberFacts
+pub mod NumberBegins
+pub mod NumberSteps
+pub mod PositionNumberFacts
+pub mod PositionNumberSteps
+pub mod NumberVerdicts
+pub mod LeftOutForms
+pub mod BrokenFirst

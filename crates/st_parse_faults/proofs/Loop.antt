@@ -1,5 +1,5 @@
 -- The loop over the tokens.
-use Rattle.std.proofs.Common.{◌≡◌, ℕ, ◌+◌, ◌≤◌, ◌<◌, inl, inr, List, length, take, get_or, Bool, true, false, refl, sym, ap, subst, ◌∙◌, arith}
+use Rattle.std.proofs.Common.{◌≡◌, ℕ, ◌+◌, ◌≤◌, ◌<◌, inl, inr, List, length, take, get_or, Bool, true, false, refl, sym, ap, subst, ◌∙◌}
 use Rattle.st_num.specs.declared.rule.RuleId.{RuleId}
 use Rattle.st_num.specs.declared.rule.RuleId.TheVariants.{S1}
 use Rattle.st_num.specs.declared.token.Token.{Token}
@@ -20,7 +20,7 @@ use Rattle.st_parse_faults.specs.declared.judge.Seen.{Seen as CodeSeen}
 use Rattle.st_parse_faults.specs.declared.judge.TokenVerdict.{TokenVerdict as Code}
 use Rattle.st_parse_faults.specs.declared.judge.TokenVerdict.TheVariants as code
 use Rattle.st_parse_faults.specs.Judging.{TokenVerdict, passed, broken}
-use Rattle.st_parse_faults.specs.Faults.{Seen, judge, verdict, nothing_seen, Faultless, FirstFault}
+use Rattle.st_parse_faults.specs.inner.Folding.{Seen, judge, verdict, nothing_seen, AllPass, FirstBreak}
 use Rattle.st_parse_faults.specs.inner.Seen as seen
 use Rattle.st_parse_faults.proofs.SeenView.{summary, view, judge_is}
 use Rattle.st_parse_faults.proofs.JudgingLemmas as judging
@@ -64,7 +64,7 @@ token_passes tokens names i x l p v q ad acts h a t g k f e =
 
 pub token_breaks : (tokens : List Token) (names : List (List ℕ)) (i : ℕ) (x : Token) (l : TokenClass) (p : CodeSeen) (v : Code) (r : RuleId) (last : Progress) → i < length tokens → Passes tokens i p
     → x ≡ get_or tokens i x → names ≡ declared_names tokens → l ≡ class_of (terminal names x) → seen.verdict_of v ≡ seen.judge (seen.summary_of p) x.kind l → v ≡ code.Broken r last
-    → FirstFault tokens i r
+    → FirstBreak tokens i r
 token_breaks tokens names i x l p v r last h a t g k f e =
     inl (
       h,
@@ -73,14 +73,14 @@ token_breaks tokens names i x l p v r last h a t g k f e =
           (sym (at_token tokens names i x l p (seen.verdict_of v) h a t g k f) ∙ ap seen.verdict_of e),
     )
 
-pub ends_well : (tokens : List Token) (i : ℕ) (p : CodeSeen) (b : Bool) → length tokens ≤ i → Passes tokens i p → b ≡ definitions.may_end (progress_of p.progress) → b ≡ true → Faultless tokens
+pub ends_well : (tokens : List Token) (i : ℕ) (p : CodeSeen) (b : Bool) → length tokens ≤ i → Passes tokens i p → b ≡ definitions.may_end (progress_of p.progress) → b ≡ true → AllPass tokens
 ends_well tokens i p b h (s, e, o) f t =
     let yes : is_some (finish s.state) ≡ true = sym (may_end_is s.state (passes_holds tokens i s e)) ∙ ap (λ v. definitions.may_end v.state) o ∙ sym f ∙ t in
     let r = found (finish s.state) yes in
     (s, r.0, sym (judging.all_tokens Seen (judge (declared_names tokens)) nothing_seen tokens i h) ∙ e, r.1)
 
 pub ends_early : (tokens : List Token) (i : ℕ) (p : CodeSeen) (b : Bool) → length tokens ≤ i → Passes tokens i p → b ≡ definitions.may_end (progress_of p.progress) → b ≡ false
-    → FirstFault tokens (length tokens) S1
+    → FirstBreak tokens (length tokens) S1
 ends_early tokens i p b h (s, e, o) f t =
     let no : is_some (finish s.state) ≡ false = sym (may_end_is s.state (passes_holds tokens i s e)) ∙ ap (λ v. definitions.may_end v.state) o ∙ sym f ∙ t in
     inr (refl, refl, (s, sym (judging.all_tokens Seen (judge (declared_names tokens)) nothing_seen tokens i h) ∙ e, not_found (finish s.state) no))

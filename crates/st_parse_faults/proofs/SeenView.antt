@@ -21,9 +21,9 @@ use Rattle.st_parse_automaton.proofs.DefinitionView.{definitions_of, slot_sort_i
 use Rattle.st_parse_automaton.proofs.DefinitionSimulation.{step_is}
 use Rattle.st_parse_faults.specs.LeftOut.{is_type_in, type_or_other, before_next}
 use Rattle.st_parse_faults.specs.Nesting as nest
-use Rattle.st_parse_faults.specs.Counts as counts
+use Rattle.st_parse_faults.specs.inner.Counts as counts
 use Rattle.st_parse_faults.specs.Judging as verdicts
-use Rattle.st_parse_faults.specs.Faults as faults
+use Rattle.st_parse_faults.specs.inner.Folding as faults
 use Rattle.st_parse_faults.specs.inner.Seen as seen
 use Rattle.st_parse_faults.specs.declared.counts.Counts.{Counts}
 use Rattle.st_parse_faults.specs.declared.tally.Tally.{Tally}

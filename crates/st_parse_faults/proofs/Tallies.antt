@@ -17,7 +17,10 @@ use Rattle.st_parse_faults.specs.declared.role.Attachment.{Attachment}
 use Rattle.st_parse_faults.specs.declared.role.Attachment.TheVariants as attachment
 use Rattle.st_parse_faults.specs.declared.role.TokenRole.TheVariants as role
 use Rattle.st_parse_faults.specs.declared.tally.Tally.{Tally}
-use Rattle.st_parse_faults.specs.Limits.{posts, is_turnstile, signs, signs_in, parts_in, elements_with, aheads, tally, fresh, held_tally, tallies_round, part_tallies}
+use Rattle.st_parse_faults.specs.Signs.{posts, is_turnstile, signs}
+use Rattle.st_parse_faults.specs.Limits.{signs_in, parts_in, elements_with, aheads, tally, fresh, held_tally, tallies_round, part_tallies}
+use Rattle.st_parse_faults.proofs.NumberFacts as facts
+use Rattle.st_parse_faults.proofs.NumberFacts.{NoCount, held}
 use Rattle.st_parse_faults.specs.inner.Roles.{none_open, begun, counted, moved}
 
 -- Behind the token the tallies are those, and something is read.
@@ -37,26 +40,10 @@ on_both n k l ys false p o f g = g refl
 pub same_tally : (p p' e e' s s' r r' : ℕ) (d : Bool) → p ≡ p' → e ≡ e' → s ≡ s' → r ≡ r' → tally p e s r d ≡ tally p' e' s' r' d
 same_tally p p' e e' s s' r r' d f g h i = ap (λ v. tally v e s r d) f ∙ ap (λ v. tally p' v s r d) g ∙ ap (λ v. tally p' e' v r d) h ∙ ap (λ v. tally p' e' s' v d) i
 
-abbrev pub NoCount : Frames → Type 0
-NoCount (timing t m x fs) = ⊥
-NoCount fs = Unit {0}
-
-pub held : (n s r : ℕ) (fs : Frames) → NoCount fs → held_tally n s r fs ≡ tally (parts_in fs + 1) (elements_with fs) (s + signs_in n fs) r false
-held n s r (bottom σ) c = refl
-held n s r (within h ts pre fs) c = refl
-held n s r (over g fs) c = refl
-held n s r (timing t m x fs) c = absurd c
-
 -- ---- a part that is read
 
 pub settled : (n : ℕ) (t : Tree) (fs : Frames) → Stand fs → part_tallies n (settle t fs) ≡ held_tally n (signs t) (posts (sort fs) t) fs ∷ tallies_round n fs
-settled n t (bottom σ) s = refl
-settled n t (within h ts pre fs) s = refl
-settled n t (over g fs) s = refl
-settled n t (timing u m x (bottom σ)) s = refl
-settled n t (timing u m x (within h ts pre fs)) s = refl
-settled n t (timing u m x (over g fs)) s = refl
-settled n t (timing u m x (timing v k y fs)) s = let no : false ≡ true = s.2 in absurd (cc)
+settled n t fs s = facts.settled n t fs (facts.neat fs s)
 
 pub settled_open : (t : Tree) (fs : Frames) → none_open (state_of (settle t fs)) ≡ false
 settled_open t (bottom σ) = refl

@@ -25,11 +25,13 @@ use Rattle.st_parse_faults.specs.declared.role.Attachment.{Attachment}
 use Rattle.st_parse_faults.specs.declared.role.Attachment.TheVariants as attachment
 use Rattle.st_parse_faults.specs.declared.role.TokenRole.TheVariants as role
 use Rattle.st_parse_faults.specs.declared.tally.Tally.{Tally}
-use Rattle.st_parse_faults.specs.Limits.{goes_on, is_in_name, unless, posts, signs, all_signs, signs_in, parts_in, elements_in, elements_with, aheads, ends_with_label, with_one, tally, fresh, due_tally, held_tally, tallies_round, part_tallies}
+use Rattle.st_parse_faults.specs.Signs.{goes_on, is_in_name, unless, posts, signs, all_signs, ends_with_label}
+use Rattle.st_parse_faults.specs.Limits.{signs_in, parts_in, elements_in, elements_with, aheads, tally, fresh, due_tally, held_tally, tallies_round, part_tallies, with_one}
 use Rattle.st_parse_faults.specs.inner.Roles as roles
 use Rattle.st_parse_faults.specs.inner.Roles.{behind_attachment, part_attachment, counted, moved}
 use Rattle.st_parse_faults.proofs.InName.{in_name_is}
-use Rattle.st_parse_faults.proofs.Tallies.{To, on_if, on_both, same_tally, NoCount, held, settled, settled_open, RowReady, begins}
+use Rattle.st_parse_faults.proofs.NumberFacts.{NoCount, held, part_signs, round_parts, same_signs, last_label}
+use Rattle.st_parse_faults.proofs.Tallies.{To, on_if, on_both, same_tally, settled, settled_open, RowReady, begins}
 
 -- ---- counts
 
@@ -157,24 +159,6 @@ closes_to n y c x (t, within h ts pre fs) s e =
     (λ a. any_shuts n y c h ts pre t x fs s a e) (λ a. tt)
 
 -- ---- signs
-
-pub part_signs : (n : ℕ) (h : Heading) (ts : Trees) (pre q : List Terminal) (t : Tree) (fs : Frames) → signs_in n (within h (more ts pre t) q fs) ≡ signs t + signs_in n (within h ts pre fs)
-part_signs n (plain k o) ts pre q t fs = omega arith
-part_signs n (length o) ts pre q t fs = omega arith
-part_signs n (arguments f o) ts pre q t fs = omega arith
-part_signs n (index u o) ts pre q t fs = omega arith
-part_signs n (segment p o) ts pre q t fs = omega arith
-part_signs n (update p m x) ts pre q t fs = omega arith
-part_signs n (below o i m x) ts pre q t fs = omega arith
-
-pub round_parts : (n : ℕ) (h : Heading) (ts us : Trees) (pre q : List Terminal) (fs : Frames) → tallies_round n (within h ts pre fs) ≡ tallies_round n (within h us q fs)
-round_parts n (plain k o) ts us pre q fs = refl
-round_parts n (length o) ts us pre q fs = refl
-round_parts n (arguments f o) ts us pre q fs = refl
-round_parts n (index u o) ts us pre q fs = refl
-round_parts n (segment p o) ts us pre q fs = refl
-round_parts n (update p m x) ts us pre q fs = refl
-round_parts n (below o i m x) ts us pre q fs = refl
 
 pub part_set_off : (n : ℕ) (y : Tally) (h : Heading) (ts : Trees) (pre q : List Terminal) (t : Tree) (fs : Frames) → y.parts ≡ size ts + 1 → y.signs ≡ signs t + signs_in n (within h ts pre fs)
     → tally (size ts + 1) 0 (signs_in n (within h (more ts pre t) q fs)) 0 true ∷ tallies_round n (within h (more ts pre t) q fs) ≡ tally y.parts 0 y.signs 0 true ∷ tallies_round n (within h ts pre fs)
@@ -417,20 +401,6 @@ part_path_moves n p o ts c fs (opening bracket_of.TickBrace x) = tt
 part_path_moves n p o ts c fs (opening bracket_of.Dollar x) = tt
 part_path_moves n p o ts c fs (closing d x) = tt
 part_path_moves n p o ts c fs (other x) = tt
-
-pub last_label : (pre : List Terminal) (l : Terminal) → ends_with_label (pre ++ l ∷ []) ≡ is_label l
-last_label [] l = refl
-last_label (k ∷ []) l = refl
-last_label (k ∷ j ∷ pre) l = last_label (j ∷ pre) l
-
-pub same_signs : (n : ℕ) (h : Heading) (ts : Trees) (p q : List Terminal) (fs : Frames) → signs_in n (within h ts p fs) ≡ signs_in n (within h ts q fs)
-same_signs n (plain k o) ts p q fs = refl
-same_signs n (length o) ts p q fs = refl
-same_signs n (arguments f o) ts p q fs = refl
-same_signs n (index u o) ts p q fs = refl
-same_signs n (segment g o) ts p q fs = refl
-same_signs n (update g m x) ts p q fs = refl
-same_signs n (below o i m x) ts p q fs = refl
 
 pub names_part : (n : ℕ) (h : Heading) (ts : Trees) (pre : List Terminal) (fs : Frames) (l : Terminal) → is_label l ≡ true
     → part_tallies n (want (within h ts (pre ++ l ∷ []) fs)) ≡ tally (size ts + 1) 0 (signs_in n (within h ts pre fs)) 0 false ∷ tallies_round n (within h ts pre fs)

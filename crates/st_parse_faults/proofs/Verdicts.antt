@@ -1,5 +1,5 @@
 -- What passes is read.
-use Rattle.std.proofs.Common.{◌≡◌, ℕ, List, [], ◌∷◌, take, map, Bool, true, false, Option, Some, None, option_and_then, refl, sym, ap, ◌∙◌}
+use Rattle.std.proofs.Common.{◌≡◌, ℕ, List, [], ◌∷◌, take, map, Bool, true, false, Option, Some, None, option_and_then, ap, ◌∙◌}
 use Rattle.std.proofs.lemmas.List.{take-map}
 use Rattle.st_num.specs.declared.rule.RuleId.TheVariants.{S2, S3}
 use Rattle.st_num.specs.declared.token.Token.{Token}
@@ -8,7 +8,7 @@ use Rattle.st_grammar.specs.Positions.{State, start, step, reading}
 use Rattle.st_parse_automaton.specs.Refusal.{terminals_of}
 use Rattle.st_parse_faults.specs.Judging.{passed, limited, judge_all}
 use Rattle.st_parse_faults.proofs.JudgingLemmas.{never_passes}
-use Rattle.st_parse_faults.specs.Faults.{Seen, opens_too_many, passes_limit, seen_after, refusal, judged, judge, verdict, nothing_seen}
+use Rattle.st_parse_faults.specs.inner.Folding.{Seen, opens_too_many, passes_limit, seen_after, refusal, judged, judge, verdict, nothing_seen}
 
 passes_reads : (names : List (List ℕ)) (seen last : Seen) (xs : List Token) → judge_all (judge names) (passed seen) xs ≡ passed last
     → reading seen.state (map (terminal names) xs) ≡ Some last.state

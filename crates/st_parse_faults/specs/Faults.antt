@@ -1,76 +1,70 @@
--- The first token that breaks a rule, and the rule.
-use Rattle.std.specs.Prelude.{ℕ, ◌+◌, List, Bool, ◌&&◌, ◌||◌, Option, Some, None, nat_lt, if◌then◌else◌}
+-- The first token that breaks a rule, and the rule: told by the text, and by the trees of
+-- definitions that begin with it.
+use Rattle.std.specs.Prelude.{◌≡◌, ℕ, ◌+◌, ◌<◌, ◌⊎◌, List, [], ◌++◌, length, map, take, get_or, Bool, false, ◌||◌, Option, Some, None, slice_get, if◌then◌else◌}
+use Rattle.std.specs.List.{list_any}
 use Rattle.st_num.specs.declared.rule.RuleId.{RuleId}
-use Rattle.st_num.specs.declared.rule.RuleId.TheVariants.{S1, S4}
-use Rattle.st_num.specs.declared.limit.TheConstants.{HIGHEST_TREE}
+use Rattle.st_num.specs.declared.rule.RuleId.TheVariants.{S1, S2, S3, S4}
 use Rattle.st_num.specs.declared.token.Token.{Token}
-use Rattle.st_grammar.specs.Terminals.{Terminal, terminal, declared_names}
-use Rattle.st_grammar.specs.Definitions.{Defs}
-use Rattle.st_grammar.specs.Positions.{State, start, step, finish}
-use Rattle.st_parse_faults.specs.Judging.{TokenVerdict, broken, limited, verdict_on, Pass, BreaksAt}
-use Rattle.st_parse_faults.specs.LeftOut.{before_next, left_out}
-use Rattle.st_parse_faults.specs.Nesting.{nesting_after, bars, may_open}
-use Rattle.st_parse_faults.specs.declared.counts.Counts.{Counts}
-use Rattle.st_parse_faults.specs.Limits.{part_passes}
-use Rattle.st_parse_faults.specs.Counts.{event, member_due, counts_after, counts_pass, no_counts}
+use Rattle.st_grammar.specs.Terminals.{terminal, declared_names}
+use Rattle.st_grammar.specs.Definitions.{Defs, ParseDefs}
+use Rattle.st_parse_automaton.specs.Refusal.{terminals_of, RefusedAt}
+use Rattle.st_parse_faults.specs.Number.{Number, too_deep, too_many}
+use Rattle.st_parse_faults.specs.DefinitionNumbers.{defs_numbers}
+use Rattle.st_parse_faults.specs.FormsLeftOut.{LeftOut}
 
--- what is known behind some tokens: how they are read, how many brackets are open, and what is
--- counted
-pub record Seen : Type 0 where
-  pub state : State
-  pub nesting : ℕ
-  pub counts : Counts
+-- ---- limits
 
--- The token is a bracket or bar behind which more are open than may be.
-abbrev pub opens_too_many : Seen → Terminal → Bool
-opens_too_many seen l = may_open l && nat_lt HIGHEST_TREE (seen.nesting + bars seen.state)
+-- a token that begins this passes a limit
+abbrev pub passes_limit : List Number → Bool
+passes_limit e = list_any too_deep e || list_any too_many e
 
--- the rule that a refused token breaks
-abbrev pub refusal : Seen → Token → RuleId
-refusal seen x = if left_out (before_next seen.state) seen.nesting x.kind then S4 else S1
+-- the rule that a token breaks which begins this, if it passes a limit
+abbrev pub limit_rule : List Number → Option RuleId
+limit_rule e =
+    if list_any too_deep e then Some S2 else if list_any too_many e then Some S3 else None
 
--- Something that is counted passes its limit.
-abbrev pub passes_limit : Seen → Bool
-passes_limit seen = counts_pass seen.counts || part_passes seen.state
+-- No token of these passes a limit.
+abbrev pub KeepsLimits : List (List Number) → Type 0
+KeepsLimits es = list_any passes_limit es ≡ false
 
--- the verdict where a token is read: too many brackets, too much of something else, or no fault
-abbrev pub kept : Seen → Terminal → TokenVerdict Seen
-kept seen l = limited (opens_too_many seen l) (passes_limit seen) seen
-
--- what is known behind a token that is read
-abbrev pub seen_after : Seen → Terminal → State → Seen
-seen_after seen l next =
-    record {
-      state = next;
-      nesting = nesting_after seen.nesting l;
-      counts = counts_after seen.counts (event (member_due seen.state) next);
-    }
-
--- the verdict on a token, by the state behind it: with none, the grammar refuses it there
-abbrev pub judged : Seen → Token → Terminal → Option State → TokenVerdict Seen
-judged seen x l None = broken (refusal seen x)
-judged seen x l (Some next) = kept (seen_after seen l next) l
-
--- the verdict on one token behind what is seen, where these names are declared by `var`
-abbrev pub judge : List (List ℕ) → Seen → Token → TokenVerdict Seen
-judge names seen x = judged seen x (terminal names x) (step seen.state (terminal names x))
-
--- what is known before the first token
-abbrev pub nothing_seen : Seen
-nothing_seen = record { state = start; nesting = 0; counts = no_counts }
-
--- the verdict on the first k of these tokens
-abbrev pub verdict : List Token → ℕ → TokenVerdict Seen
-verdict tokens k = verdict_on (judge (declared_names tokens)) nothing_seen tokens k
-
--- the definitions that are read, where they may end
-abbrev pub ended : Seen → Option Defs
-ended seen = finish seen.state
-
--- The tokens are definitions, and no token has a fault.
+-- No token has a fault: the tokens are definitions, and none passes a limit.
 abbrev pub Faultless : List Token → Type 0
-Faultless tokens = Pass (judge (declared_names tokens)) ended nothing_seen tokens
+Faultless tokens =
+    (ds : Defs) × ParseDefs (terminals_of tokens) ds × KeepsLimits (defs_numbers ds)
 
--- The first fault breaks this rule at token k, or at the end where the tokens end too early.
+-- ---- fronts
+
+-- The definitions begin with the first k tokens.
+pub record BeginWith (tokens : List Token) (k : ℕ) (ds : Defs) : Type 0 where
+  pub rest : List Token
+  pub grammar :
+      ParseDefs (take k (terminals_of tokens) ++ map (terminal (declared_names tokens)) rest) ds
+
+-- Definitions begin with the first k tokens, and none of these passes a limit.
+abbrev pub FrontKept : List Token → ℕ → Type 0
+FrontKept tokens k =
+    (ds : Defs) × BeginWith tokens k ds × KeepsLimits (take k (defs_numbers ds))
+
+-- ---- faults
+
+-- Definitions begin with the tokens up to token k, which passes a limit of this rule.
+abbrev pub PassesLimit : List Token → ℕ → RuleId → Type 0
+PassesLimit tokens k r =
+    (k < length tokens)
+    × ((ds : Defs) × BeginWith tokens (k + 1) ds × (limit_rule (get_or (defs_numbers ds) k []) ≡ Some r))
+
+-- Token k begins a form that is left out of the grammar.
+abbrev pub BeginsLeftOut : List Token → ℕ → Type 0
+BeginsLeftOut tokens k =
+    (x : Token) × (slice_get tokens k ≡ Some x)
+    × LeftOut (declared_names tokens) (take k (terminals_of tokens)) x
+
+-- The grammar refuses token k, or the end there, by this rule.
+abbrev pub IsRefused : List Token → ℕ → RuleId → Type 0
+IsRefused tokens k r =
+    RefusedAt tokens k
+    × (((r ≡ S4) × BeginsLeftOut tokens k) ⊎ ((r ≡ S1) × (BeginsLeftOut tokens k → ⊥)))
+
+-- The first token that breaks a rule is token k, or the end there, and it breaks this one.
 abbrev pub FirstFault : List Token → ℕ → RuleId → Type 0
-FirstFault tokens k r = BreaksAt (judge (declared_names tokens)) ended nothing_seen tokens k r
+FirstFault tokens k r = FrontKept tokens k × (PassesLimit tokens k r ⊎ IsRefused tokens k r)

@@ -1,5 +1,5 @@
 -- How many brackets, and how many bars of lengths, are open.
-use Rattle.std.specs.Prelude.{ℕ, ◌+◌, ◌-◌, Bool, true, false}
+use Rattle.std.specs.Prelude.{ℕ, ◌+◌, ◌-◌, List, [], ◌∷◌, Bool, true, false}
 use Rattle.st_grammar.specs.declared.sort.Closing.TheVariants.{ByBar as by_bar}
 use Rattle.st_grammar.specs.Terminals.{Terminal, opening, closing}
 use Rattle.st_grammar.specs.Trees.{Heading, length}
@@ -12,6 +12,11 @@ nesting_after n (opening k x) = n + 1
 nesting_after n (closing by_bar x) = n
 nesting_after n (closing c x) = n - 1
 nesting_after n l = n
+
+-- the brackets that are open behind these tokens, where so many are open before them
+abbrev pub brackets_behind : ℕ → List Terminal → ℕ
+brackets_behind n [] = n
+brackets_behind n (l ∷ ls) = brackets_behind (nesting_after n l) ls
 
 -- one for the opening bar of a length, and none for another bracket
 abbrev pub heading_bars : Heading → ℕ

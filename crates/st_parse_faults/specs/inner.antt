@@ -1,3 +1,7 @@
 -- What the parser keeps of what is counted, for its proofs alone.
+pub mod Counts
+pub mod Folding
 pub mod Roles
 pub mod Seen
+pub mod Numbering
+pub mod PositionNumbers

@@ -2,7 +2,7 @@
 
 ghost use Rattle.std.specs.Prelude as Prelude;
 ghost use Rattle.std.specs.Prelude.{◌≡◌, reverse};
-ghost use Rattle.st_parse_faults.specs.Counts as spec;
+ghost use Rattle.st_parse_faults.specs.inner.Counts as spec;
 ghost use Rattle.st_parse_faults.specs.inner.Seen as seen;
 ghost use Rattle.st_parse_automaton.specs.inner.Readings.{progress_of, reading_of};
 

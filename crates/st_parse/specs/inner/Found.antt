@@ -3,7 +3,7 @@ use Rattle.std.specs.Prelude.{◌≡◌, ℕ, List, length, Option, Some, None, 
 use Rattle.st_num.specs.declared.rule.RuleId.TheVariants.{S1}
 use Rattle.st_num.specs.declared.token.Token.{Token}
 use Rattle.st_parse_automaton.specs.inner.DefinitionAutomaton as definitions
-use Rattle.st_parse_faults.specs.Faults.{Faultless, FirstFault}
+use Rattle.st_parse_faults.specs.inner.Folding.{AllPass, FirstBreak}
 use Rattle.st_parse_faults.specs.declared.fault.TokenFault.{TokenFault}
 use Rattle.st_el.specs.declared.definition.Def.{Def}
 use Rattle.st_parse.specs.declared.kept.Kept.{Kept}
@@ -17,8 +17,8 @@ fault_of tokens st =
 
 -- what the first fault of a token is
 abbrev pub Judged : List Token → Option TokenFault → Type 0
-Judged tokens None = Faultless tokens
-Judged tokens (Some f) = FirstFault tokens f.token f.rule
+Judged tokens None = AllPass tokens
+Judged tokens (Some f) = FirstBreak tokens f.token f.rule
 
 -- how many tokens stand before this first fault of a token, or all where there is none
 abbrev pub end_of : List Token → Option TokenFault → ℕ

@@ -39,7 +39,7 @@ use Rattle.st_parse_faults.specs.LeftOut.{type_or_other, left_out}
 use Rattle.st_parse_faults.specs.declared.counts.Counts.{Counts}
 use Rattle.st_parse_faults.specs.declared.counts.Event.{Event}
 use Rattle.st_parse_faults.specs.declared.counts.Event.TheVariants.{Definition, Premise, Iteration, Closed, Nothing}
-use Rattle.st_parse_faults.specs.Counts.{member_event, counts_after, counts_pass, no_counts}
+use Rattle.st_parse_faults.specs.inner.Counts.{member_event, counts_after, counts_pass, no_counts}
 use Rattle.st_parse_faults.specs.Limits.{fresh, tally_passes}
 use Rattle.st_parse_faults.specs.inner.Roles.{none_open, attachment_of, tallies_after, TallyKept}
 

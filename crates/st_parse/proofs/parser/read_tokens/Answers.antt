@@ -2,7 +2,7 @@ use Rattle.std.proofs.Common.{Some, refl, sym, subst, arith}
 use Rattle.st_parse_automaton.specs.inner.Readings.{progress_of}
 use Rattle.st_parse_faults.specs.inner.Seen.{Stands}
 use Rattle.st_parse_faults.specs.declared.fault.TokenFault.{TokenFault}
-use Rattle.st_parse_faults.specs.Faults.{nothing_seen}
+use Rattle.st_parse_faults.specs.inner.Folding.{nothing_seen}
 use Rattle.st_parse_faults.proofs.Loop.{token_breaks, bounded}
 use Rattle.st_parse.proofs.Taking.{starts, passing, token_taken}
 use Rattle.st_parse.proofs.Fronts.{found_cut, found_end}

@@ -1,8 +1,8 @@
-use Rattle.st_parse_faults.proofs.Exact.{never_both, one_fault}
+use Rattle.st_parse_faults.proofs.BrokenFirst.{never_kept, one_broken}
 use Rattle.st_parse_faults.proofs.laws.one_fault.Goals as goal
 
 pub returns-clause-never : goal.returns-clause-never
-returns-clause-never c = never_both
+returns-clause-never c = never_kept
 
 pub returns-clause-one : goal.returns-clause-one
-returns-clause-one c = one_fault
+returns-clause-one c = one_broken
