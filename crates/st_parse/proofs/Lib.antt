@@ -10,7 +10,6 @@ pub mod WorkSteps
 pub mod WorkEnds
 pub mod WorkPositions
 pub mod BeforeLemmas
-pub mod LowTrees
 pub mod Notes
 mod PremiseHeights
 mod Ended
