@@ -31,6 +31,7 @@ mod members;
 mod parser;
 mod parts;
 mod premise;
+mod reader;
 mod sides;
 mod take;
 mod variables;
