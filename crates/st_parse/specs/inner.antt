@@ -9,6 +9,7 @@ pub mod Taken
 pub mod Kept
 pub mod Cuts
 pub mod Readers
+pub mod DefinitionReading
 pub mod Found
 pub mod ExpressionSeen
 pub mod ExpressionDrafts

@@ -43,10 +43,13 @@ pub data Runs {R : Type 0} (Judges : Judging) (Takes : Taking R) (names : List (
       → Reads Judges Takes (class_of (terminal names x)) x known next kept new
       → Runs Judges Takes names tokens start old all next new
 
+-- the fault of tokens that end too early
+abbrev pub early_end : List Token → TokenFault
+early_end tokens = record { token = length tokens; rule = S1 }
+
 -- the fault of tokens that end in this state, where no token has one
 abbrev pub fault_of : List Token → definitions.State → Option TokenFault
-fault_of tokens st =
-    if definitions.may_end st then None else Some (record { token = length tokens; rule = S1 })
+fault_of tokens st = if definitions.may_end st then None else Some (early_end tokens)
 
 -- Behind so many tokens no more are read: they end, or the next one breaks a rule.
 pub data Stops (Judges : Judging) (names : List (List ℕ)) (tokens : List Token) (k : ℕ)
