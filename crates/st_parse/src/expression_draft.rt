@@ -11,10 +11,11 @@ ghost use Rattle.st_parse.specs.inner.ExpressionDrafts.{IsBuilt, AreBuilt, with_
 
 use crate::expression_judge::judge_next;
 use crate::reader::Reader;
+use crate::take::add_actions;
 use st_el::Exp;
 use st_grammar::Action;
 use st_num::{NoMemory, Row, Token};
-use st_parse_automaton::{Advance, Progress, TokenClass, with_actions};
+use st_parse_automaton::{Advance, Progress, TokenClass};
 use st_parse_builder::build;
 use st_parse_faults::{Seen, TokenVerdict};
 use std::alloc::Global;
@@ -61,21 +62,6 @@ fn put(exps: Option<Row<Exp>>, exp: Option<Exp>) -> Result<Option<Row<Exp>>, NoM
     Ok(Some(all))
 }
 
-/// Adds these actions to those of the next expression.
-fn add<'a>(
-    alloc: Global,
-    added: &mut Row<Action<'a>>,
-    reader: &mut ExpressionReader<'a>,
-) -> Result<(), NoMemory>
-    ensures { IfOk result (λ _. reader.new ≡ with_actions added.old reader.old) }
-{
-    let actions = replace(&mut reader.actions, Row::new(alloc));
-    let more = replace(added, Row::new(alloc));
-    let joined = with_actions(actions, more)?;
-    let _taken = replace(&mut reader.actions, joined);
-    Ok(())
-}
-
 /// An expression ends whose actions are all there.
 #[tactic(auto, using(crate::proofs::ExpressionDrafted::one_more_built))]
 fn complete(alloc: Global, reader: &mut ExpressionReader<'_>) -> Result<(), NoMemory>
@@ -99,7 +85,7 @@ pub(crate) fn end<'a>(
 ) -> Result<(), NoMemory>
     ensures { IfOk result (λ _. Completes (with_actions added.old reader.old) reader.new) }
 {
-    add(alloc, added, reader)?;
+    add_actions(alloc, added, &mut reader.actions)?;
     complete(alloc, reader)
 }
 
@@ -132,7 +118,7 @@ impl<'a> Reader<'a> for ExpressionReader<'a> {
         added: &mut Row<Action<'a>>,
     ) -> Result<(), NoMemory> {
         match advance {
-            Advance::On(_) | Advance::At(_) => add(alloc, added, self),
+            Advance::On(_) | Advance::At(_) => add_actions(alloc, added, &mut self.actions),
             Advance::Behind(_, _, _) => end(alloc, added, self),
         }
     }

@@ -1,6 +1,6 @@
 //! The verdict on one token of expressions.
 
-ghost use Rattle.std.specs.Prelude.{◌≡◌, ◌≤◌, IfOk, [], reverse};
+ghost use Rattle.std.specs.Prelude.{◌≡◌, ◌≤◌, IfOk, []};
 ghost use Rattle.st_num.specs.declared.limit.TheConstants.{HIGHEST_TREE};
 ghost use Rattle.st_parse_faults.specs.inner.Seen as seen;
 ghost use Rattle.st_parse_automaton.specs.inner.DefinitionAutomaton as definitions;

@@ -14,17 +14,13 @@ ghost use Rattle.st_parse.specs.inner.Found.{Found};
 
 use crate::kept::{Kept, begun_kept};
 use crate::parts::{Parts, no_parts};
-use crate::reader::{Reached, Reader, read_tokens, refused};
+use crate::reader::{Reader, read_tokens, refused};
 use crate::take::{cut_off, finish, take};
 use st_el::Def;
 use st_grammar::Action;
 use st_num::{NoMemory, Row, RuleId, Token};
-use st_parse_automaton::{
-    Advance, At, NameIndex, Position, Progress, TokenClass, declared_names,
-};
-use st_parse_faults::{
-    Seen, SyntaxFault, TokenFault, TokenVerdict, judge_token, nothing_counted,
-};
+use st_parse_automaton::{Advance, At, NameIndex, Position, Progress, TokenClass, declared_names};
+use st_parse_faults::{Seen, SyntaxFault, TokenFault, TokenVerdict, judge_token, nothing_counted};
 use std::alloc::Global;
 
 /// What is known before the first token.

@@ -1,6 +1,6 @@
 //! The one loop over tokens: each is judged, and then taken.
 
-ghost use Rattle.std.specs.Prelude.{◌≡◌, List, IfOk};
+ghost use Rattle.std.specs.Prelude.{◌≡◌, IfOk};
 ghost use Rattle.st_num.specs.declared.fault.Fault.TheVariants as fault;
 ghost use Rattle.st_grammar.specs.declared.action.Action.{Action};
 ghost use Rattle.st_parse_automaton.specs.inner.Readings.{progress_of};
