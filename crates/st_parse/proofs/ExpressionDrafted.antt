@@ -25,13 +25,13 @@ use Rattle.st_parse_automaton.specs.declared.part_automaton.Expected.TheVariants
 use Rattle.st_parse_automaton.specs.inner.PartAutomaton as parts
 use Rattle.st_parse_automaton.specs.declared.part_automaton.Part.{Part}
 use Rattle.st_parse_automaton.specs.declared.position.Advance.{Advance}
+use Rattle.st_parse_automaton.specs.declared.position.Advance.TheVariants as advances
 use Rattle.st_parse_automaton.specs.declared.position.TokenClass.{TokenClass}
 use Rattle.st_parse_automaton.specs.declared.position.Slot.TheVariants as slots
 use Rattle.st_parse_automaton.specs.declared.position.Position.TheVariants as positions
 use Rattle.st_parse_automaton.specs.inner.DefinitionAutomaton as definitions
 use Rattle.st_parse_automaton.specs.inner.Readings.{progress_of}
 use Rattle.st_parse_faults.specs.declared.judge.Seen.{Seen as CodeSeen}
-use Rattle.st_parse_faults.specs.declared.judge.TokenVerdict.{TokenVerdict as Code}
 use Rattle.st_parse_faults.specs.declared.judge.TokenVerdict.TheVariants as code
 use Rattle.st_grammar.specs.declared.sort.Bracket.{Bracket}
 use Rattle.st_grammar.specs.declared.keyword.Keyword.{Keyword}
@@ -45,8 +45,9 @@ use Rattle.st_parse_automaton.proofs.Emissions.{part_emits}
 use Rattle.st_parse.specs.ExpressionReading.{State, begun, turn, goes, step, start}
 use Rattle.st_parse_faults.specs.Judging.{passed, limited}
 use Rattle.st_parse.specs.ExpressionFaults.{Seen, opens_too_many, passes_limit, seen_after, judged, judge}
-use Rattle.st_parse.specs.inner.ExpressionDrafts.{IsBuilt, AreBuilt, with_exp, Draft, draft, Ends, Turns, Takes}
-use Rattle.st_parse.specs.inner.ExpressionSeen.{is_inside, Steps, AddsNothing, Adds}
+use Rattle.st_parse.specs.inner.ExpressionDrafts.{IsBuilt, AreBuilt, with_exp, draft, with_actions, Completes, Ends, Turns, Takes}
+use Rattle.st_parse.specs.declared.expression_draft.ExpressionReader.{ExpressionReader as Draft}
+use Rattle.st_parse.specs.inner.ExpressionSeen.{is_inside, Adds}
 use Rattle.st_parse.proofs.ExpressionReadings.{at, comma_ends}
 
 -- ---- one more expression
@@ -66,17 +67,14 @@ built_is e from o is =
 
 -- ---- an expression that ends
 
-pub turned : {E : Type 0} (b : Bool) (st now : parts.State) (es : Option (List Exp)) (old done new : List Action) (r : Result (Option (List Exp)) E)
-    → b ≡ true → now ≡ st → new ≡ [] → done ≡ old
-    → ((t : Tree) (fs : List Exp) → Fits (expression false) t → acts t ≡ done ++ finishing now → AreBuilt fs es → IfOk r (λ all. AreBuilt (fs ++ meaning t ∷ []) all))
-    → IfOk r (λ all. Turns b st (draft es old) (draft all new))
-turned b st now es old done new (Ok all) e f h i k =
-    subst (λ c. Turns c st (draft es old) (draft all new)) (sym e)
-    (record {
-      actions = h;
-      exps = λ t fs p q a. k t fs p (q ∙ ap (λ l. l ++ finishing st) (sym i) ∙ ap (λ v. done ++ finishing v) (sym f)) a;
-    })
-turned b st now es old done new (Err fault) e f h i k = tt
+pub completes : {A E : Type 0} (r : Result A E) (old mid new : Draft) → mid ≡ old → IfOk r (λ v. new.actions ≡ [])
+    → ((t : Tree) (es : List Exp) → Fits (expression false) t → acts t ≡ mid.actions → AreBuilt es mid.exps → IfOk r (λ v. AreBuilt (es ++ meaning t ∷ []) new.exps))
+    → IfOk r (λ v. Completes old new)
+completes (Ok v) old mid new e p q = record {
+  actions = p;
+  exps = λ t es f h a. q t es f (h ∙ ap (λ (d : Draft). d.actions) (sym e)) (subst (λ (d : Draft). AreBuilt es d.exps) (sym e) a);
+}
+completes (Err fault) old mid new e p q = tt
 
 -- ---- what a token adds
 
@@ -100,7 +98,7 @@ behind_rule ks key.NoWord = tt
 -- a token that goes on with an expression adds what the part says
 pub goes_adds : (st : parts.State) (ks : List Bracket) (l : TokenClass) (x : Token) (a : Advance) (next : definitions.State) (added : List Action)
     → definitions.advanced x (definitions.advance (definitions.inside slots.Rule st ks) l) ≡ Some (a, next, added) → is_inside next ≡ true
-    → added ≡ parts.emits (expression false) st l.shape x
+    → (a ≡ advances.On slots.Rule) × (added ≡ parts.emits (expression false) st l.shape x)
 goes_adds st ks l x a next added e i = go (parts.step (expression false) st l.shape) (parts.finish st) e
   where
     stood : (o : Option definitions.State) (how : Advance) (ends : List Action) → Between o → definitions.advanced x (definitions.stands how (λ y. ends) o) ≡ Some (a, next, added) → ⊥
@@ -111,22 +109,23 @@ goes_adds st ks l x a next added e i = go (parts.step (expression false) st l.sh
         let no : is_inside next ≡ false = ap is_inside (sym same) ∙ b in
         absurd (cc)
 
-    go : (o : Option parts.Move) (q : Option Part) → definitions.advanced x (definitions.taken slots.Rule ks o (definitions.behind_part slots.Rule l ks (parts.finishing st) q)) ≡ Some (a, next, added) → added ≡ parts.added x o
+    go : (o : Option parts.Move) (q : Option Part) → definitions.advanced x (definitions.taken slots.Rule ks o (definitions.behind_part slots.Rule l ks (parts.finishing st) q)) ≡ Some (a, next, added) → (a ≡ advances.On slots.Rule) × (added ≡ parts.added x o)
     go (Some m) q f =
+        let how : Some (advances.On slots.Rule) ≡ Some a = ap (option_map (λ (r : Advance × definitions.State × List Action). r.0)) f in
         let is : Some (m.1 x) ≡ Some added = ap (option_map (λ (r : Advance × definitions.State × List Action). r.2)) f in
-        cc
+        (cc, cc)
     go None None f = absurd (cc)
     go None (Some p) f = absurd (stood (definitions.position_step positions.Premised l ks) _ (parts.finishing st) (behind_rule ks l.keyword) f)
 
--- what a token makes of a draft, by what it turns and what it adds
-pub takes : (b : Bool) (st : parts.State) (ks : List Bracket) (l : TokenClass) (x : Token) (v : Code) (q : CodeSeen) (a : Advance) (added : List Action) (d mid e : Draft)
-    → Turns b st d mid → Adds b (definitions.inside slots.Rule st ks) l x v → v ≡ code.Passed q a added → e ≡ draft mid.exps (mid.actions ++ added) → Takes b st l.shape x d e
-takes true st ks l x v q a added d mid e n h f g =
-    let nothing : added ≡ [] = subst AddsNothing f h in
-    subst (Ends st d) (sym g) (record { actions = ap (λ acts. mid.actions ++ acts) nothing ∙ append-nil mid.actions ∙ n.actions; exps = n.exps })
-takes false st ks l x v q a added d mid e n h f g =
-    let went = subst (Steps (definitions.inside slots.Rule st ks) l x) f h in
-    g ∙ ap (λ (m : Draft). draft m.exps (m.actions ++ added)) n ∙ ap (λ acts. draft d.exps (d.actions ++ acts)) (goes_adds st ks l x a (progress_of q.progress) added went.0 went.1)
+-- what a token makes of a draft, by how it stands and what it adds
+pub takes : (b : Bool) (st : parts.State) (ks : List Bracket) (l : TokenClass) (x : Token) (q : CodeSeen) (a : Advance) (added : List Action) (d e : Draft)
+    → Adds b (definitions.inside slots.Rule st ks) l x (code.Passed q a added) → Turns a (with_actions added d) e → Takes b st l.shape x d e
+takes true st ks l x q a added d e h n =
+    subst (λ acts. Completes (with_actions acts d) e) h.1 (subst (λ how. Turns how (with_actions added d) e) h.0 n)
+takes false st ks l x q a added d e h n =
+    let went = goes_adds st ks l x a (progress_of q.progress) added h.0 h.1 in
+    let same : e ≡ with_actions added d = subst (λ how. Turns how (with_actions added d) e) went.0 n in
+    same ∙ ap (λ acts. with_actions acts d) went.1
 
 -- ---- what is built where this much is read
 
@@ -139,9 +138,8 @@ pub record DraftOf (st : State) (d : Draft) : Type 0 where
 start_drafted : DraftOf start (draft (Some []) [])
 start_drafted = record { built = (refl, omega arith); now = []; read = refl; acts = λ w. refl }
 
-pub starts : (es : List Exp) (done : List Action) → es ≡ [] → done ≡ [] → DraftOf start (draft (Some es) done)
-starts es done e g =
-    subst (λ l. DraftOf start (draft (Some l) done)) (sym e) (subst (λ l. DraftOf start (draft (Some []) l)) (sym g) start_drafted)
+pub starts : (d : Draft) → d ≡ draft (Some []) [] → DraftOf start d
+starts d e = subst (DraftOf start) (sym e) start_drafted
 
 part_steps : (st : State) (d : Draft) (l : Terminal) (next : part.State) → DraftOf st d → part.step st.here l ≡ Some next
     → (m : parts.Move) × (parts.step (expression false) (state_of st.here) (shape l) ≡ Some m) × (m.0 ≡ state_of next) × (m.1 (token_in l) ≡ emission.emitted st.here l)

@@ -1,5 +1,5 @@
 -- The loop over the tokens of expressions.
-use Rattle.std.proofs.Common.{◌≡◌, ℕ, ◌+◌, ◌≤◌, ◌<◌, inl, inr, List, length, take, get_or, Bool, false, Option, Some, None, refl, sym, ap, subst, ◌∙◌}
+use Rattle.std.proofs.Common.{◌≡◌, ℕ, ◌+◌, ◌≤◌, ◌<◌, inl, inr, List, length, take, get_or, Bool, false, Option, Some, None, refl, sym, ap, ◌∙◌}
 use Rattle.st_num.specs.declared.rule.RuleId.{RuleId}
 use Rattle.st_num.specs.declared.rule.RuleId.TheVariants.{S1}
 use Rattle.st_num.specs.declared.token.Token.{Token}
@@ -87,6 +87,3 @@ pub ends_early : (names : List (List ℕ)) (tokens : List Token) (i : ℕ) (p : 
 ends_early names tokens i p b h (s, e, o) f t =
     let no : is_some (part.finish s.state.here) ≡ false = sym (may_end_as s (passes_holds names tokens i s e)) ∙ ap (λ v. definitions.may_end v.state) o ∙ sym f ∙ t in
     inr (refl, refl, (s, sym (judging.all_tokens Seen (judge names) nothing_seen tokens i h) ∙ e, whole_none s (part.finish s.state.here) no))
-
-pub bounded : (v : Code) (q : CodeSeen) (ad : Advance) (added : List Action) → v ≡ code.Passed q ad added → seen.IsBounded v → seen.SeenKept q
-bounded v q ad added e b = subst seen.IsBounded e b

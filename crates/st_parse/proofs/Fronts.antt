@@ -8,13 +8,17 @@ use Rattle.st_grammar.proofs.PositionTexts.{Holds}
 use Rattle.st_parse_automaton.specs.declared.position.Progress.{Progress}
 use Rattle.st_parse_automaton.specs.inner.Readings.{progress_of}
 use Rattle.st_parse_automaton.specs.Refusal.{terminals_of}
+use Rattle.std.proofs.lemmas.Option.{slice_get_within, get_or_from_slice_get}
+use Rattle.st_grammar.specs.Terminals.{terminal, declared_names}
+use Rattle.st_parse_automaton.specs.inner.Shapes.{class_of}
 use Rattle.st_parse_automaton.proofs.DefinitionView.{definitions_of}
 use Rattle.st_parse_faults.specs.declared.judge.Seen.{Seen as CodeSeen}
+use Rattle.st_parse_faults.specs.declared.judge.TokenVerdict.TheVariants as code
 use Rattle.st_parse_faults.specs.declared.fault.TokenFault.{TokenFault}
 use Rattle.st_parse_faults.specs.Judging.{passed}
 use Rattle.st_parse_faults.specs.inner.Folding.{Seen, verdict, AllPass, FirstBreak}
 use Rattle.st_parse_faults.specs.Place.{place_at}
-use Rattle.st_parse_faults.proofs.Loop.{passes_holds}
+use Rattle.st_parse_faults.proofs.Loop.{passes_holds, token_breaks}
 use Rattle.st_parse_faults.proofs.Verdicts.{verdict_reads}
 use Rattle.st_parse_faults.proofs.NumberVerdicts.{kept_front}
 use Rattle.st_parse_faults.proofs.BrokenFirst.{faultless, first_broken}
@@ -22,7 +26,6 @@ use Rattle.st_el.specs.declared.definition.Def.{Def}
 use Rattle.st_parse_builder.specs.Definitions.{defs_meaning}
 use Rattle.st_parse_builder.specs.Variables.{Occurrence}
 use Rattle.st_parse.specs.declared.draft.Draft.{Draft}
-use Rattle.st_parse.specs.declared.parts.Parts.{Parts}
 use Rattle.st_parse.specs.inner.Heights.{IsLow}
 use Rattle.st_parse.specs.inner.Work.{Work, ended_defs, MayClose}
 use Rattle.st_parse.proofs.WorkSteps.{state_work}
@@ -35,10 +38,13 @@ use Rattle.st_parse.specs.Source.{Front, Past, IsParsed, FaultAt}
 use Rattle.st_parse.specs.declared.kept.Heights.{Heights}
 use Rattle.st_parse.specs.inner.Kept.{Stands, Keeps, Tells}
 use Rattle.st_parse.specs.inner.Cuts.{Opens, past_in}
-use Rattle.st_parse.specs.inner.Found.{fault_of, Judged, end_of, Found}
+use Rattle.st_parse.specs.inner.Found.{Judged, end_of, Found}
+use Rattle.st_parse.specs.inner.Readers.{fault_of, Ends, Stops, at_end, at_token}
+use Rattle.st_parse.specs.inner.DefinitionReading.{JudgesToken, TakesToken}
+use Rattle.st_parse.specs.declared.parser.DefinitionReader.{DefinitionReader}
 use Rattle.st_parse.proofs.Sources.{parsed, meant}
 use Rattle.st_parse.proofs.Opens.{opens, past_whole}
-use Rattle.st_parse.proofs.Taking.{Reads, passing, all_read, end_judged}
+use Rattle.st_parse.proofs.Taking.{Reads, passing, all_read, end_judged, taken_all}
 
 -- ---- fronts
 
@@ -93,9 +99,9 @@ parsed_past tokens defs p =
 
 -- ---- what is cut off
 
-pub found_cut : (tokens : List Token) (found : Option TokenFault) (f : TokenFault) (i : ℕ) (p : CodeSeen) (b : Progress) (old new : Kept) (parts : Parts) → found ≡ Some f → Judged tokens found → i ≡ end_of tokens found → Reads tokens i p old parts → progress_of b ≡ progress_of p.progress
-    → ((w : Work) (vs : List Occurrence) → Keeps old parts w → Opens (progress_of b) w vs → new.variables.past ≡ past_in w.draft.defs vs) → Found tokens found new
-found_cut tokens found f i p b old new parts is j e (s, v, o, r) same cut =
+found_cut : (tokens : List Token) (found : Option TokenFault) (f : TokenFault) (i : ℕ) (p : CodeSeen) (b : Progress) (old : DefinitionReader) (new : Kept) → found ≡ Some f → Judged tokens found → i ≡ end_of tokens found → Reads tokens i p old → progress_of b ≡ progress_of p.progress
+    → ((w : Work) (vs : List Occurrence) → Keeps old.kept old.parts w → Opens (progress_of b) w vs → new.variables.past ≡ past_in w.draft.defs vs) → Found tokens found new
+found_cut tokens found f i p b old new is j e (s, v, o, r) same cut =
     let st : State = s.state in
     let front = front_of tokens found j in
     let there : definitions_of st ≡ progress_of b = ap (λ w. w.state) o ∙ sym same in
@@ -141,9 +147,9 @@ found_all tokens h new (d, draws, defs_are, low) =
       );
     }
 
-pub found_whole : (tokens : List Token) (found : Option TokenFault) (i : ℕ) (p : CodeSeen) (old new : Kept) (parts : Parts) → found ≡ None → Judged tokens found → i ≡ length tokens → Reads tokens i p old parts
-    → ((w : Work) (defs : List Def) → Keeps old parts w → MayClose (progress_of p.progress) w → ended_defs (progress_of p.progress) w ≡ Some defs → Tells new defs) → Found tokens found new
-found_whole tokens found i p old new parts is j e (s, v, o, r) tells =
+found_whole : (tokens : List Token) (found : Option TokenFault) (i : ℕ) (p : CodeSeen) (old : DefinitionReader) (new : Kept) → found ≡ None → Judged tokens found → i ≡ length tokens → Reads tokens i p old
+    → ((w : Work) (defs : List Def) → Keeps old.kept old.parts w → MayClose (progress_of p.progress) w → ended_defs (progress_of p.progress) w ≡ Some defs → Tells new defs) → Found tokens found new
+found_whole tokens found i p old new is j e (s, v, o, r) tells =
     let h : AllPass tokens = subst (Judged tokens) is j in
     let st : State = s.state in
     let same : h.0.state ≡ s.state = same_state tokens (all_of tokens h) i s (sym e) v in
@@ -156,17 +162,44 @@ found_whole tokens found i p old new parts is j e (s, v, o, r) tells =
     subst (λ q. Found tokens q new) (sym is) (found_all tokens h new (tells (state_work st) (defs_meaning h.1) r may ends))
 
 -- the end of the tokens, which may end early
-pub found_end : (tokens : List Token) (i : ℕ) (p : CodeSeen) (found : Option TokenFault) (old new : Kept) (parts : Parts) → length tokens ≤ i → Reads tokens i p old parts → found ≡ fault_of tokens (progress_of p.progress)
-    → (found ≡ None → (w : Work) (defs : List Def) → Keeps old parts w → MayClose (progress_of p.progress) w → ended_defs (progress_of p.progress) w ≡ Some defs → Tells new defs)
-    → ((f : TokenFault) → found ≡ Some f → (w : Work) (vs : List Occurrence) → Keeps old parts w → Opens (progress_of p.progress) w vs → new.variables.past ≡ past_in w.draft.defs vs) → Found tokens found new
-found_end tokens i p found old new parts h reads is whole cut =
-    let all = all_read tokens i p old parts h reads in
-    let j = end_judged tokens i p found h (passing tokens i p old parts reads) is in
+found_end : (tokens : List Token) (i : ℕ) (p : CodeSeen) (found : Option TokenFault) (old : DefinitionReader) (new : Kept) → length tokens ≤ i → Reads tokens i p old → found ≡ fault_of tokens (progress_of p.progress)
+    → (found ≡ None → (w : Work) (defs : List Def) → Keeps old.kept old.parts w → MayClose (progress_of p.progress) w → ended_defs (progress_of p.progress) w ≡ Some defs → Tells new defs)
+    → ((f : TokenFault) → found ≡ Some f → (w : Work) (vs : List Occurrence) → Keeps old.kept old.parts w → Opens (progress_of p.progress) w vs → new.variables.past ≡ past_in w.draft.defs vs) → Found tokens found new
+found_end tokens i p found old new h reads is whole cut =
+    let all = all_read tokens i p old h reads in
+    let j = end_judged tokens i p found h (passing tokens i p old reads) is in
     go all j found refl
   where
-    go : Reads tokens (length tokens) p old parts → Judged tokens found × (length tokens ≡ end_of tokens found) → (o : Option TokenFault) → found ≡ o → Found tokens found new
-    go all j None e = found_whole tokens found (length tokens) p old new parts e j.0 refl all (whole e)
-    go all j (Some f) e = found_cut tokens found f (length tokens) p p.progress old new parts e j.0 j.1 all refl (cut f e)
+    go : Reads tokens (length tokens) p old → Judged tokens found × (length tokens ≡ end_of tokens found) → (o : Option TokenFault) → found ≡ o → Found tokens found new
+    go all j None e = found_whole tokens found (length tokens) p old new e j.0 refl all (whole e)
+    go all j (Some f) e = found_cut tokens found f (length tokens) p p.progress old new e j.0 j.1 all refl (cut f e)
+
+-- ---- what is read
+
+abbrev Finishes : Progress → Option TokenFault → DefinitionReader → Kept → Type 0
+Finishes last found old new =
+    found ≡ None → (w : Work) (defs : List Def) → Keeps old.kept old.parts w → MayClose (progress_of last) w → ended_defs (progress_of last) w ≡ Some defs → Tells new defs
+
+abbrev CutsOff : Progress → Option TokenFault → DefinitionReader → Kept → Type 0
+CutsOff last found old new =
+    (f : TokenFault) → found ≡ Some f → (w : Work) (vs : List Occurrence) → Keeps old.kept old.parts w → Opens (progress_of last) w vs → new.variables.past ≡ past_in w.draft.defs vs
+
+-- what is found where the tokens end, or where one breaks a rule
+found_stop : (tokens : List Token) (names : List (List ℕ)) (k : ℕ) (p : CodeSeen) (last : Progress) (found : Option TokenFault) (old : DefinitionReader) (new : Kept) → names ≡ declared_names tokens → Reads tokens k p old → Stops JudgesToken names tokens k p last found
+    → Finishes last found old new → CutsOff last found old new → Found tokens found new
+found_stop tokens names k p last found old new g reads (at_end l q e) whole cut =
+    found_end tokens k p found old new (omega (arith, l)) reads (e ∙ ap (λ r. fault_of tokens (progress_of r)) q)
+    (subst (λ r. Finishes r found old new) q whole) (subst (λ r. CutsOff r found old new) q cut)
+found_stop tokens names k p last found old new g reads (at_token x rule s e j) whole cut =
+    let f : TokenFault = record { token = k; rule = rule } in
+    let breaks = token_breaks tokens names k x (class_of (terminal names x)) p (code.Broken rule last) rule last (slice_get_within tokens k x s) (passing tokens k p old reads) (sym (get_or_from_slice_get tokens k x x s)) g refl j.value refl in
+    found_cut tokens found f k p last old new e (subst (Judged tokens) (sym e) breaks) (ap (end_of tokens) (sym e)) reads j.step (cut f e)
+
+pub found_read : (tokens : List Token) (names : List (List ℕ)) (start : CodeSeen) (begun : DefinitionReader) (last : Progress) (found : Option TokenFault) (old : DefinitionReader) (new : Kept)
+    → names ≡ declared_names tokens → Reads tokens 0 start begun → Ends JudgesToken TakesToken names tokens start begun last found old
+    → Finishes last found old new → CutsOff last found old new → Found tokens found new
+found_read tokens names start begun last found old new g r ends whole cut =
+    found_stop tokens names ends.count ends.known last found old new g (taken_all tokens names start begun g r ends.count ends.known old ends.run) ends.stops whole cut
 
 -- ---- answers
 

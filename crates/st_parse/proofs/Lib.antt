@@ -19,6 +19,7 @@ pub mod TakenTrees
 pub mod Works
 pub mod Cut
 mod Opens
+pub mod Runs
 pub mod Taking
 mod Sources
 pub mod Fronts

@@ -8,6 +8,8 @@ pub mod Work
 pub mod Taken
 pub mod Kept
 pub mod Cuts
+pub mod Readers
+pub mod DefinitionReading
 pub mod Found
 pub mod ExpressionSeen
 pub mod ExpressionDrafts

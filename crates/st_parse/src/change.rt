@@ -1,6 +1,6 @@
 //! What a token between parts changes.
 
-ghost use Rattle.std.specs.Prelude.{◌≡◌, reverse};
+ghost use Rattle.std.specs.Prelude.{◌≡◌};
 ghost use Rattle.st_parse.specs.inner.Changes as spec;
 ghost use Rattle.st_parse_automaton.specs.inner.Readings.{progress_of};
 

@@ -12,7 +12,7 @@ use crate::head::no_hint;
 use crate::members::no_members;
 use crate::premise::{premises_so_far, whole_premises};
 use crate::sides::no_sides;
-use st_el::{Body, Def, DefNode, Exp, NotNode, Notation, Prem, Typ};
+use st_el::{Body, Def, DefNode, NotNode, Notation, Prem, Typ};
 use st_num::{Name, NoMemory, Row, Span};
 use std::alloc::Global;
 

@@ -1,6 +1,6 @@
 //! The verdict on one token of expressions.
 
-ghost use Rattle.std.specs.Prelude.{◌≡◌, ◌≤◌, IfOk, [], reverse};
+ghost use Rattle.std.specs.Prelude.{◌≡◌, ◌≤◌, IfOk, []};
 ghost use Rattle.st_num.specs.declared.limit.TheConstants.{HIGHEST_TREE};
 ghost use Rattle.st_parse_faults.specs.inner.Seen as seen;
 ghost use Rattle.st_parse_automaton.specs.inner.DefinitionAutomaton as definitions;
@@ -10,8 +10,11 @@ ghost use Rattle.st_parse_automaton.specs.declared.position.TokenClass.{TokenCla
 ghost use Rattle.st_parse_automaton.specs.inner.Readings.{progress_of};
 ghost use Rattle.st_parse.specs.inner.ExpressionSeen as spec;
 
+use st_grammar::Action;
 use st_num::{Mark, NoMemory, Row, RuleId, Token};
-use st_parse_automaton::{Advance, Expected, Progress, Reading, Shape, Slot, TokenClass, may_end};
+use st_parse_automaton::{
+    Advance, Expected, Position, Progress, Reading, Shape, Slot, TokenClass, end, may_end,
+};
 use st_parse_faults::{Seen, TokenVerdict, judge_token, nothing_counted};
 use std::alloc::Global;
 
@@ -37,7 +40,7 @@ pub(crate) fn begin(alloc: Global, nesting: u8) -> Result<Seen, NoMemory>
 }
 
 /// Whether a token is a comma behind a whole expression.
-pub(crate) fn separates(progress: &Progress, class: TokenClass) -> bool
+fn separates(progress: &Progress, class: TokenClass) -> bool
     ensures { result ≡ spec.separates (progress_of progress.now) class }
 {
     matches!(class.shape, Shape::Sign(Mark::Comma)) && may_end(progress)
@@ -69,6 +72,20 @@ fn alone(verdict: TokenVerdict<'_>) -> TokenVerdict<'_>
     }
 }
 
+/// The actions of the end of the open expression.
+pub(crate) fn end_actions<'a>(
+    alloc: Global,
+    progress: &Progress,
+) -> Result<Row<Action<'a>>, NoMemory>
+    ensures { IfOk result (λ actions. actions ≡ spec.end_actions (progress_of progress.now)) }
+{
+    let mut actions = Row::new(alloc);
+    if let Progress::Inside(_, reading, _) = progress {
+        end(reading, &mut actions)?;
+    }
+    Ok(actions)
+}
+
 /// The verdict on one more token, and the actions that it adds.
 pub(crate) fn judge_next<'a>(
     alloc: Global,
@@ -85,8 +102,10 @@ pub(crate) fn judge_next<'a>(
         (progress_of (known.progress)) class token.now verdict) }
 {
     if separates(&known.progress, class) {
+        let added = end_actions(alloc, &known.progress)?;
         let next = begin(alloc, known.nesting)?;
-        return Ok(TokenVerdict::Passed(next, Advance::On(Slot::Rule), Row::new(alloc)));
+        let advance = Advance::Behind(Slot::Rule, 0, Position::Premised);
+        return Ok(TokenVerdict::Passed(next, advance, added));
     }
     let verdict = judge_token(alloc, known, token, class)?;
     Ok(alone(verdict))

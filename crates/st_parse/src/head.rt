@@ -1,7 +1,6 @@
 //! Names and hints of the open definition.
 
 ghost use Rattle.std.specs.Prelude.{◌≡◌, ◌++◌, OnOk, IfOk};
-ghost use Rattle.st_parse_builder.specs.Names.{name_of};
 ghost use Rattle.st_parse_builder.specs.Definitions.{piece_text};
 ghost use Rattle.st_parse.specs.inner.Drafts as spec;
 

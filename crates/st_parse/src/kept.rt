@@ -1,6 +1,6 @@
 //! What is kept of the definitions that are read: their trees, and what the limits ask of them.
 
-ghost use Rattle.std.specs.Prelude.{◌≡◌, [], map, ℕ, List, None, Some, IfOk};
+ghost use Rattle.std.specs.Prelude.{◌≡◌, [], map, List, None, Some, IfOk};
 ghost use Rattle.st_el.specs.Plain.{nowhere};
 ghost use Rattle.st_grammar.specs.declared.action.Action.{Action};
 ghost use Rattle.st_parse_builder.specs.inner.Parts as built;

@@ -6,13 +6,13 @@
 //! the first definition with a tree that is too high. From then on no tree is needed, and what was
 //! noted is answered in the order of the faults.
 //!
-//! A file of expressions is read by the same loop: each expression as the conclusion of a rule is,
-//! and a comma behind it begins the next one.
+//! A file of expressions is read by the same loop, over another `Reader`: each expression as the
+//! conclusion of a rule is, and a comma behind it ends it and begins the next one.
 //!
-//! Read `parser` first, with `specs/Source.antt`, then `take` and `kept` with
-//! `specs/inner/Kept.antt`, `change` and `apply` with `specs/inner/Drafts.antt`, and
-//! `expression_parser` with `specs/ExpressionSource.antt`. The rules are in `docs/language.md`,
-//! "Places of refusals" and "Files of expressions".
+//! Read `reader` first, with `specs/inner/Readers.antt`, then `parser` with `specs/Source.antt`,
+//! `take` and `kept` with `specs/inner/Kept.antt`, `change` and `apply` with
+//! `specs/inner/Drafts.antt`, and `expression_parser` with `specs/ExpressionSource.antt`. The rules
+//! are in `docs/language.md`, "Places of refusals" and "Files of expressions".
 #![tactic(auto)]
 
 mod apply;
@@ -31,6 +31,7 @@ mod members;
 mod parser;
 mod parts;
 mod premise;
+mod reader;
 mod sides;
 mod take;
 mod variables;

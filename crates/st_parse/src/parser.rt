@@ -1,7 +1,6 @@
 //! The definitions of tokens, and the first fault of tokens that mean none.
 
-ghost use Rattle.std.specs.Prelude.{◌≡◌, ◌≤◌, List, None, Some, IfOk};
-ghost use Rattle.st_num.specs.declared.limit.TheConstants.{HIGHEST_TREE};
+ghost use Rattle.std.specs.Prelude.{◌≡◌, List, None, Some, IfOk};
 ghost use Rattle.st_grammar.specs.Terminals as terminals;
 ghost use Rattle.st_parse_automaton.specs.inner.Readings.{progress_of};
 ghost use Rattle.st_parse_faults.specs.inner.Seen as seen;
@@ -10,17 +9,18 @@ ghost use Rattle.st_parse.specs.inner.Work.{Work, ended_defs, MayClose};
 ghost use Rattle.st_parse.specs.Source.{Answers};
 ghost use Rattle.st_parse.specs.inner.Kept.{Keeps, Tells};
 ghost use Rattle.st_parse.specs.inner.Cuts.{Opens, past_in};
-ghost use Rattle.st_parse.specs.inner.Found.{Found, fault_of};
+ghost use Rattle.st_parse.specs.inner.DefinitionReading.{Begins};
+ghost use Rattle.st_parse.specs.inner.Found.{Found};
 
 use crate::kept::{Kept, begun_kept};
 use crate::parts::{Parts, no_parts};
+use crate::reader::{Reader, read_tokens, refused};
 use crate::take::{cut_off, finish, take};
 use st_el::Def;
+use st_grammar::Action;
 use st_num::{NoMemory, Row, RuleId, Token};
-use st_parse_automaton::{At, NameIndex, Position, Progress, declared_names, may_end, token_class};
-use st_parse_faults::{
-    Seen, SyntaxFault, TokenFault, TokenVerdict, judge_token, nothing_counted, place_at,
-};
+use st_parse_automaton::{Advance, At, NameIndex, Position, Progress, TokenClass, declared_names};
+use st_parse_faults::{Seen, SyntaxFault, TokenFault, TokenVerdict, judge_token, nothing_counted};
 use std::alloc::Global;
 
 /// What is known before the first token.
@@ -35,17 +35,59 @@ fn nothing_seen(alloc: Global) -> Result<Seen, NoMemory>
     nothing_counted(alloc, progress, 0)
 }
 
-/// The fault of tokens that end here.
-fn end_fault(tokens: &[Token], progress: &Progress) -> Option<TokenFault>
-    ensures { result ≡ fault_of tokens.now (progress_of progress.now) }
+/// The definitions that are read, and the part that is read of the open one.
+#[derive(Drop)]
+pub(crate) struct DefinitionReader<'a> {
+    pub kept: Kept<'a>,
+    pub parts: Parts<'a>,
+}
+
+/// What is kept before the first token.
+fn begun_reader<'a>(alloc: Global) -> DefinitionReader<'a>
+    ensures { Begins result }
 {
-    if may_end(progress) {
-        None
-    } else {
-        Some(TokenFault {
-            token: tokens.len(),
-            rule: RuleId::S1,
-        })
+    DefinitionReader {
+        kept: begun_kept(alloc),
+        parts: no_parts(alloc),
+    }
+}
+
+impl<'a> Reader<'a> for DefinitionReader<'a> {
+    ghost use Rattle.st_parse.specs.inner.DefinitionReading.{JudgesToken, TakesToken};
+
+    ghost Judges = { λ known class token verdict. JudgesToken known class token verdict };
+
+    ghost Takes = { λ advance next class token added old new.
+        TakesToken advance next class token added old new };
+
+    fn judge(
+        alloc: Global,
+        known: Seen,
+        token: &'a Token,
+        class: TokenClass,
+    ) -> Result<TokenVerdict<'a>, NoMemory> {
+        judge_token(alloc, known, token, class)
+    }
+
+    fn take(
+        &mut self,
+        alloc: Global,
+        advance: Advance,
+        next: &Progress,
+        class: TokenClass,
+        token: &'a Token,
+        added: &mut Row<Action<'a>>,
+    ) -> Result<(), NoMemory> {
+        take(
+            alloc,
+            advance,
+            next,
+            class,
+            token,
+            added,
+            &mut self.kept,
+            &mut self.parts,
+        )
     }
 }
 
@@ -65,10 +107,7 @@ fn answer(
         });
     }
     if let Some(fault) = fault {
-        return Err(SyntaxFault::Refused {
-            at: place_at(tokens, fault.token),
-            rule: fault.rule,
-        });
+        return Err(refused(tokens, fault.token, fault.rule));
     }
     if let Some(at) = kept.tall {
         return Err(SyntaxFault::Refused {
@@ -101,9 +140,32 @@ fn stop<'a>(
     }
 }
 
+/// Reads the tokens, and answers the first fault of one of them or of their end, where these are the
+/// names that directly follow the word `var`.
+fn read_all<'a>(
+    alloc: Global,
+    names: &NameIndex<'_>,
+    tokens: &'a [Token],
+    reader: &mut DefinitionReader<'a>,
+) -> Result<Option<TokenFault>, NoMemory>
+    ensures { names.now ≡ terminals.declared_names tokens.now → Begins reader.old
+        → IfOk result (λ fault. Found tokens.now fault reader.new.kept) }
+{
+    let start = nothing_seen(alloc)?;
+    let reached = read_tokens(alloc, names, tokens, start, reader)?;
+    stop(
+        alloc,
+        reached.fault,
+        &reached.progress,
+        &mut reader.kept,
+        &mut reader.parts,
+    )?;
+    Ok(reached.fault)
+}
+
 /// The definitions that the tokens mean, or the first fault, where these are the names that
 /// directly follow the word `var`.
-fn read_tokens(
+fn read_definitions(
     alloc: Global,
     names: &NameIndex<'_>,
     tokens: &[Token],
@@ -111,35 +173,9 @@ fn read_tokens(
     requires { names.now ≡ terminals.declared_names tokens.now }
     ensures { Answers tokens.now result }
 {
-    let mut seen = nothing_seen(alloc)?;
-    let mut kept = begun_kept(alloc);
-    let mut parts = no_parts(alloc);
-    'tokens: for (at, token) in tokens.iter().enumerate() {
-        let class = token_class(names, token);
-        match judge_token(alloc, seen, token, class)? {
-            TokenVerdict::Broken(rule, before) => {
-                let fault = Some(TokenFault { token: at, rule });
-                stop(alloc, fault, &before, &mut kept, &mut parts)?;
-                return answer(tokens, fault, kept);
-            }
-            TokenVerdict::Passed(next, advance, mut added) => {
-                take(
-                    alloc,
-                    advance,
-                    &next.progress,
-                    class,
-                    token,
-                    &mut added,
-                    &mut kept,
-                    &mut parts,
-                )?;
-                seen = next;
-            }
-        }
-    }
-    let fault = end_fault(tokens, &seen.progress);
-    stop(alloc, fault, &seen.progress, &mut kept, &mut parts)?;
-    answer(tokens, fault, kept)
+    let mut reader = begun_reader(alloc);
+    let fault = read_all(alloc, names, tokens, &mut reader)?;
+    answer(tokens, fault, reader.kept)
 }
 
 /// The definitions that the tokens mean, or the first fault and its place. Variables are asked of
@@ -149,5 +185,5 @@ pub fn parse(alloc: Global, tokens: &[Token]) -> Result<Row<Def>, SyntaxFault>
 {
     let declared = declared_names(alloc, tokens)?;
     let names = NameIndex::new(alloc, declared.as_slice())?;
-    read_tokens(alloc, &names, tokens)
+    read_definitions(alloc, &names, tokens)
 }

@@ -1,6 +1,6 @@
 //! What a token makes of what is kept, once it is known where it leads.
 
-ghost use Rattle.std.specs.Prelude.{◌≡◌, [], length, List, Some, IfOk};
+ghost use Rattle.std.specs.Prelude.{◌≡◌, [], ◌++◌, length, List, Some, IfOk};
 ghost use Rattle.st_el.specs.declared.definition.Def.{Def};
 ghost use Rattle.st_grammar.specs.declared.sort.Bracket.{Bracket};
 ghost use Rattle.st_parse_automaton.specs.inner.PartAutomaton as automaton;
@@ -46,6 +46,21 @@ fn keep_word<'a>(
     }
 }
 
+/// Puts these actions behind the others, and gives them up.
+pub(crate) fn add_actions<'a>(
+    alloc: Global,
+    added: &mut Row<Action<'a>>,
+    actions: &mut Row<Action<'a>>,
+) -> Result<(), NoMemory>
+    ensures { IfOk result (λ _. actions.new ≡ actions.old ++ added.old) }
+{
+    let before = replace(actions, Row::new(alloc));
+    let more = replace(added, Row::new(alloc));
+    let joined = with_actions(before, more)?;
+    let _taken = replace(actions, joined);
+    Ok(())
+}
+
 /// Adds these actions to those of the part.
 fn add<'a>(
     alloc: Global,
@@ -55,11 +70,7 @@ fn add<'a>(
     ensures { (draft : Draft) → IfOk result (λ _. spec.work_of draft parts.new
         ≡ spec.added_work added.old (spec.work_of draft parts.old)) }
 {
-    let actions = replace(&mut parts.actions, Row::new(alloc));
-    let more = replace(added, Row::new(alloc));
-    let joined = with_actions(actions, more)?;
-    let _taken = replace(&mut parts.actions, joined);
-    Ok(())
+    add_actions(alloc, added, &mut parts.actions)
 }
 
 /// Adds the actions of the end of the part.

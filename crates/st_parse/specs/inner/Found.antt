@@ -1,19 +1,12 @@
 -- What is found of tokens: the first fault of one of them, and what is kept of those before it.
-use Rattle.std.specs.Prelude.{◌≡◌, ℕ, List, length, Option, Some, None, if◌then◌else◌}
-use Rattle.st_num.specs.declared.rule.RuleId.TheVariants.{S1}
+use Rattle.std.specs.Prelude.{◌≡◌, ℕ, List, length, Option, Some, None}
 use Rattle.st_num.specs.declared.token.Token.{Token}
-use Rattle.st_parse_automaton.specs.inner.DefinitionAutomaton as definitions
 use Rattle.st_parse_faults.specs.inner.Folding.{AllPass, FirstBreak}
 use Rattle.st_parse_faults.specs.declared.fault.TokenFault.{TokenFault}
 use Rattle.st_el.specs.declared.definition.Def.{Def}
 use Rattle.st_parse.specs.declared.kept.Kept.{Kept}
 use Rattle.st_parse.specs.Limits.{variable_past, too_tall, first_that}
 use Rattle.st_parse.specs.Source.{IsParsed, Past}
-
--- the fault of tokens that end in this state, where no token has one
-abbrev pub fault_of : List Token → definitions.State → Option TokenFault
-fault_of tokens st =
-    if definitions.may_end st then None else Some (record { token = length tokens; rule = S1 })
 
 -- what the first fault of a token is
 abbrev pub Judged : List Token → Option TokenFault → Type 0

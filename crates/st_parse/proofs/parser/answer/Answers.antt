@@ -1,5 +1,5 @@
-use Rattle.std.proofs.Common.{sym, subst}
-use Rattle.st_parse.specs.Source.{FaultAt}
+use Rattle.std.proofs.Common.{Err, sym, subst}
+use Rattle.st_parse.specs.Source.{Answers}
 use Rattle.st_parse.proofs.Fronts.{many, token_fault}
 use Rattle.st_parse.proofs.parser.answer.Goals as goal
 
@@ -8,5 +8,5 @@ returns-in-Some c = many c.args.tokens.now c.args.fault c.args.kept c.in-Some.at
 
 pub returns-in-Some-fault : goal.returns-in-Some-fault
 returns-in-Some-fault c =
-    subst (λ p. FaultAt c.args.tokens.now p c.in-Some-fault.fault.rule) (sym c.place_at.ensures)
+    subst (λ e. Answers c.args.tokens.now (Err e)) (sym c.refused.ensures)
     (token_fault c.args.tokens.now c.args.fault c.args.kept c.in-Some-fault.fault c.requires c.in_default.is c.in-Some-fault.is)
