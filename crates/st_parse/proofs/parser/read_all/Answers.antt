@@ -1,5 +1,5 @@
 use Rattle.std.proofs.Common.{refl, sym}
-use Rattle.st_parse_faults.specs.Faults.{nothing_seen}
+use Rattle.st_parse_faults.specs.inner.Folding.{nothing_seen}
 use Rattle.st_parse.proofs.Taking.{starts}
 use Rattle.st_parse.proofs.Fronts.{found_read}
 use Rattle.st_parse.proofs.parser.read_all.Goals as goal
