@@ -1,10 +1,12 @@
 -- The tokens before the first one with a fault, and what is found of them.
-use Rattle.std.proofs.Common.{◌≡◌, ℕ, ◌≤◌, inl, inr, List, length, Option, Some, None, refl, sym, ap, subst, ◌∙◌}
+use Rattle.std.proofs.Common.{◌≡◌, ℕ, ◌≤◌, ◌⊎◌, inl, inr, List, length, take, Option, Some, None, refl, sym, ap, subst, ◌∙◌, arith}
 use Rattle.st_num.specs.declared.span.Span.{Span}
+use Rattle.st_num.specs.declared.rule.RuleId.{RuleId}
 use Rattle.st_num.specs.declared.rule.RuleId.TheVariants.{S3}
 use Rattle.st_num.specs.declared.token.Token.{Token}
-use Rattle.st_grammar.specs.Positions.{State, finish}
+use Rattle.st_grammar.specs.Positions.{State, start, reading, finish}
 use Rattle.st_grammar.proofs.PositionTexts.{Holds}
+use Rattle.st_parse_automaton.specs.Refusal.{terminals_of}
 use Rattle.st_parse_automaton.specs.declared.position.Progress.{Progress}
 use Rattle.st_parse_automaton.specs.inner.Readings.{progress_of}
 use Rattle.st_parse_automaton.proofs.DefinitionView.{definitions_of}
@@ -12,8 +14,11 @@ use Rattle.st_parse_faults.specs.declared.judge.Seen.{Seen as CodeSeen}
 use Rattle.st_parse_faults.specs.declared.fault.TokenFault.{TokenFault}
 use Rattle.st_parse_faults.specs.Judging.{passed}
 use Rattle.st_parse_faults.specs.inner.Folding.{Seen, verdict, AllPass, FirstBreak}
+use Rattle.st_parse_faults.specs.Faults.{FirstFault}
 use Rattle.st_parse_faults.specs.Place.{place_at}
 use Rattle.st_parse_faults.proofs.Loop.{passes_holds}
+use Rattle.st_parse_faults.proofs.Verdicts.{verdict_reads}
+use Rattle.st_parse_faults.proofs.NumberVerdicts.{kept_front}
 use Rattle.st_parse_faults.proofs.BrokenFirst.{faultless, first_broken}
 use Rattle.st_el.specs.declared.definition.Def.{Def}
 use Rattle.st_parse_builder.specs.Definitions.{defs_meaning}
@@ -39,21 +44,28 @@ use Rattle.st_parse.proofs.Taking.{Reads, passing, all_read, end_judged}
 
 -- ---- fronts
 
+-- What passes is a front, where the tokens end behind it or have a fault there.
+abbrev pub passed_front : (tokens : List Token) (k : ℕ) (s : Seen) → k ≤ length tokens → verdict tokens k ≡ passed s → ((k ≡ length tokens) ⊎ ((r : RuleId) × FirstFault tokens k r)) → Front tokens
+passed_front tokens k s h e l = record { count = k; state = s.state; read = verdict_reads tokens k s e; kept = kept_front tokens k s h e; longest = l }
+
 abbrev pub all_of : (tokens : List Token) → AllPass tokens → Front tokens
-all_of tokens h = record { count = length tokens; seen = h.0; faultless = h.2; longest = inl refl }
+all_of tokens h = passed_front tokens (length tokens) h.0 (omega arith) h.2 (inl refl)
 
 up_to : (tokens : List Token) (f : TokenFault) → FirstBreak tokens f.token f.rule → (front : Front tokens) × (front.count ≡ f.token)
-up_to tokens f (inl h) = (record { count = f.token; seen = h.1.0; faultless = h.1.1; longest = inr (f.rule, h.0, h.2) }, refl)
-up_to tokens f (inr h) = (record { count = f.token; seen = h.2.0; faultless = h.2.1; longest = inl h.0 }, refl)
+up_to tokens f (inl h) = (
+  passed_front tokens f.token h.1.0 (omega (arith, h.0)) h.1.1 (inr (f.rule, first_broken tokens f.token f.rule (inl h))),
+  refl,
+)
+up_to tokens f (inr h) = (passed_front tokens f.token h.2.0 (omega (arith, h.0)) h.2.1 (inl h.0), refl)
 
 front_of : (tokens : List Token) (found : Option TokenFault) → Judged tokens found → (front : Front tokens) × (front.count ≡ end_of tokens found)
 front_of tokens None h = (all_of tokens h, refl)
 front_of tokens (Some f) h = up_to tokens f h
 
--- What is seen of the tokens in front is seen of no other tokens.
-same_seen : (tokens : List Token) (front : Front tokens) (i : ℕ) (s : Seen) → front.count ≡ i → verdict tokens i ≡ passed s → front.seen ≡ s
-same_seen tokens front i s e v =
-    let both : passed front.seen ≡ passed s = sym front.faultless ∙ ap (verdict tokens) e ∙ v in cc
+-- As many tokens that pass are read as far as the front is.
+same_state : (tokens : List Token) (front : Front tokens) (i : ℕ) (s : Seen) → front.count ≡ i → verdict tokens i ≡ passed s → front.state ≡ s.state
+same_state tokens front i s e v =
+    let both : Some front.state ≡ Some s.state = sym front.read ∙ ap (λ k. reading start (take k (terminals_of tokens))) e ∙ verdict_reads tokens i s v in cc
 
 all_hold : (tokens : List Token) (h : AllPass tokens) → Holds h.0.state
 all_hold tokens h = passes_holds tokens (length tokens) h.0 h.2
@@ -78,7 +90,7 @@ found_cut tokens found f i p b old new parts is j e (s, v, o, r) same cut =
       judged = j;
       past = (
         front.0,
-        ap (λ (q : Seen). first_past q.state) (same_seen tokens front.0 i s (front.1 ∙ sym e) v)
+        ap first_past (same_state tokens front.0 i s (front.1 ∙ sym e) v)
             ∙ ap (λ defs. past_in defs (open_variables st)) (sym (stands_before st))
             ∙ sym (cut (state_work st) (open_variables st) r opened),
       );
@@ -119,9 +131,9 @@ pub found_whole : (tokens : List Token) (found : Option TokenFault) (i : ℕ) (p
 found_whole tokens found i p old new parts is j e (s, v, o, r) tells =
     let h : AllPass tokens = subst (Judged tokens) is j in
     let st : State = s.state in
-    let same : h.0 ≡ s = same_seen tokens (all_of tokens h) i s (sym e) v in
+    let same : h.0.state ≡ s.state = same_state tokens (all_of tokens h) i s (sym e) v in
     let held : Holds st = passes_holds tokens i s v in
-    let whole : finish st ≡ Some h.1 = ap (λ (q : Seen). finish q.state) (sym same) ∙ h.3 in
+    let whole : finish st ≡ Some h.1 = ap finish (sym same) ∙ h.3 in
     let there : definitions_of st ≡ progress_of p.progress = ap (λ w. w.state) o in
     let may : MayClose (progress_of p.progress) (state_work st) = subst (λ a. MayClose a (state_work st)) there (closes st h.1 held whole) in
     let ends : ended_defs (progress_of p.progress) (state_work st) ≡ Some (defs_meaning h.1) =

@@ -1,13 +1,20 @@
 -- There is at most one answer, want of memory aside.
-use Rattle.std.proofs.Common.{◌≡◌, ℕ, ◌+◌, ◌<◌, ◌≤◌, ◌⊎◌, inl, inr, List, length, Bool, true, false, nat_lt, Option, Some, None, refl, sym, ap, ◌∙◌, arith}
+use Rattle.std.proofs.Common.{◌≡◌, ℕ, ◌+◌, ◌<◌, ◌≤◌, ◌⊎◌, inl, inr, List, length, take, Bool, true, false, nat_lt, Option, Some, None, refl, sym, ap, ◌∙◌, arith}
 use Rattle.st_num.specs.declared.span.Span.{Span}
 use Rattle.st_num.specs.declared.rule.RuleId.{RuleId}
 use Rattle.st_num.specs.declared.token.Token.{Token}
+use Rattle.st_grammar.specs.Terminals.{declared_names}
+use Rattle.st_grammar.specs.Definitions.{Defs}
+use Rattle.st_grammar.specs.Positions.{start, reading}
+use Rattle.st_parse_automaton.specs.Refusal.{terminals_of}
 use Rattle.st_parse_faults.specs.Judging.{passed, broken}
-use Rattle.st_parse_faults.specs.inner.Folding.{Seen, verdict}
+use Rattle.st_parse_faults.specs.inner.Folding.{Seen, judge, nothing_seen, ended, FirstBreak}
+use Rattle.st_parse_faults.specs.Faults.{FrontKept, FirstFault}
 use Rattle.st_parse_faults.specs.Place.{place_at}
+use Rattle.st_parse_faults.proofs.JudgingLemmas as judging
 use Rattle.st_parse_faults.proofs.Exact.{front_passes}
-use Rattle.st_parse_faults.proofs.BrokenFirst.{one_broken, never_kept}
+use Rattle.st_parse_faults.proofs.NumberVerdicts.{front_passes as kept_passes}
+use Rattle.st_parse_faults.proofs.BrokenFirst.{broken_first, one_broken, never_kept}
 use Rattle.st_el.specs.declared.definition.Def.{Def}
 use Rattle.st_parse.specs.Limits.{variable_past, too_tall, first_that}
 use Rattle.st_parse.specs.Open.{first_past}
@@ -18,38 +25,43 @@ use Rattle.st_parse.proofs.Fronts.{parsed_past}
 -- ---- one front
 
 abbrev Longest : List Token → ℕ → Type 0
-Longest tokens n =
-    (n ≡ length tokens) ⊎ ((r : RuleId) × (n < length tokens) × (verdict tokens (n + 1) ≡ broken r))
+Longest tokens n = (n ≡ length tokens) ⊎ ((r : RuleId) × FirstFault tokens n r)
 
 longest_within : (tokens : List Token) (n : ℕ) → Longest tokens n → n ≤ length tokens
 longest_within tokens n (inl e) = omega (arith, e)
-longest_within tokens n (inr l) = omega (arith, l.1)
+longest_within tokens n (inr l) = judging.fault_within Seen (judge (declared_names tokens)) nothing_seen tokens Defs ended n l.0 (broken_first tokens n l.0 l.1)
 
-none_longer : (tokens : List Token) (n k : ℕ) (seen : Seen) → Longest tokens n → verdict tokens k ≡ passed seen → n < k → k ≤ length tokens → ⊥
-none_longer tokens n k seen (inl e) f h g = omega (arith, e)
-none_longer tokens n k seen (inr l) f h g =
-    let front = front_passes tokens (n + 1) k seen (omega arith) (omega (arith, l.1)) f in
-    let never : broken l.0 ≡ passed front.0 = sym l.2 ∙ front.1 in
+-- no front behind which a token has a fault goes on
+none_behind : (tokens : List Token) (n k : ℕ) (r : RuleId) → FirstBreak tokens n r → FrontKept tokens k → n < k → k ≤ length tokens → ⊥
+none_behind tokens n k r (inl l) f h g =
+    let last = kept_passes tokens k g f in
+    let front = front_passes tokens (n + 1) k last.0 (omega arith) (omega (arith, l.0)) last.1 in
+    let never : broken r ≡ passed front.0 = sym l.2 ∙ front.1 in
     absurd (cc)
+none_behind tokens n k r (inr l) f h g = omega (arith, l.0)
+
+none_longer : (tokens : List Token) (n k : ℕ) → Longest tokens n → FrontKept tokens k → n < k → k ≤ length tokens → ⊥
+none_longer tokens n k (inl e) f h g = omega (arith, e)
+none_longer tokens n k (inr l) f h g = none_behind tokens n k l.0 (broken_first tokens n l.0 l.1) f h g
 
 one_count : (tokens : List Token) (f g : Front tokens) → f.count ≡ g.count
 one_count tokens f g = go (nat_lt f.count g.count) refl (nat_lt g.count f.count) refl
   where
     go : (b : Bool) → nat_lt f.count g.count ≡ b → (d : Bool) → nat_lt g.count f.count ≡ d → f.count ≡ g.count
     go true e d i =
-        absurd (none_longer tokens f.count g.count g.seen f.longest g.faultless (grind arith) (longest_within tokens g.count g.longest))
+        absurd (none_longer tokens f.count g.count f.longest g.kept (grind arith) (longest_within tokens g.count g.longest))
     go false e true i =
-        absurd (none_longer tokens g.count f.count f.seen g.longest f.faultless (grind arith) (longest_within tokens f.count f.longest))
+        absurd (none_longer tokens g.count f.count g.longest f.kept (grind arith) (longest_within tokens f.count f.longest))
     go false e false i = grind arith
 
-one_seen : (tokens : List Token) (f g : Front tokens) → f.seen ≡ g.seen
-one_seen tokens f g =
-    let both : passed f.seen ≡ passed g.seen = sym f.faultless ∙ ap (verdict tokens) (one_count tokens f g) ∙ g.faultless in cc
+one_state : (tokens : List Token) (f g : Front tokens) → f.state ≡ g.state
+one_state tokens f g =
+    let both : Some f.state ≡ Some g.state = sym f.read ∙ ap (λ k. reading start (take k (terminals_of tokens))) (one_count tokens f g) ∙ g.read in cc
 
 -- ---- the first variable past the limit
 
 one_past : (tokens : List Token) (a b : Option Span) → Past tokens a → Past tokens b → a ≡ b
-one_past tokens a b h k = sym h.1 ∙ ap (λ (s : Seen). first_past s.state) (one_seen tokens h.0 k.0) ∙ k.1
+one_past tokens a b h k = sym h.1 ∙ ap first_past (one_state tokens h.0 k.0) ∙ k.1
 
 one_place : (tokens : List Token) (at there : Span) → Past tokens (Some at) → Past tokens (Some there) → at ≡ there
 one_place tokens at there h k = let e : Some at ≡ Some there = one_past tokens (Some at) (Some there) h k in cc

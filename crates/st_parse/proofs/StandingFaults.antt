@@ -14,7 +14,6 @@ use Rattle.st_grammar.proofs.PositionTexts.{head_text, rule_text, ruled_text, ho
 use Rattle.st_grammar.proofs.PositionReading.{reached_by}
 use Rattle.st_parse_automaton.specs.Refusal.{terminals_of}
 use Rattle.st_parse_faults.specs.Place.{place_at}
-use Rattle.st_parse_faults.proofs.Verdicts.{verdict_reads}
 use Rattle.st_parse_builder.specs.Definitions.{defs_meaning}
 use Rattle.st_parse_builder.specs.Limits.{place_past}
 use Rattle.st_parse.specs.Before.{head_before, rule_before, host_before, slot_before, position_before, before}
@@ -109,8 +108,8 @@ module _ (P : Span → Type 0) where
   past_place : (tokens : List Token) (place : Span) → TokensStand tokens → Past tokens (Some place) → P place
   past_place tokens place s (front, e) =
       let us = take front.count (terminals_of tokens) in
-      let st = front.seen.state in
-      let reached : Reached us st = reached_by us st (verdict_reads tokens front.count front.seen front.faultless) in
+      let st = front.state in
+      let reached : Reached us st = reached_by us st front.read in
       let stands : Stand P (seen st) =
       subst (Stand P) (sym reached.spelled) (front_stands front.count (terminals_of tokens) (terminals_stand (declared_names tokens) tokens s)) in
       told P (first_that variable_past (defs_meaning (before st))) (place_past MOST_PREMISES (open_variables st)) place

@@ -1,13 +1,13 @@
 -- What the parser answers.
-use Rattle.std.specs.Prelude.{◌≡◌, ℕ, ◌+◌, ◌<◌, ◌⊎◌, List, length, Option, Some, None, Result, Ok, Err, ⊤}
+use Rattle.std.specs.Prelude.{◌≡◌, ℕ, ◌⊎◌, List, length, take, Option, Some, None, Result, Ok, Err, ⊤}
 use Rattle.st_num.specs.declared.span.Span.{Span}
 use Rattle.st_num.specs.declared.rule.RuleId.{RuleId}
 use Rattle.st_num.specs.declared.rule.RuleId.TheVariants.{S2, S3}
 use Rattle.st_num.specs.declared.token.Token.{Token}
 use Rattle.st_grammar.specs.Terminals.{declared_names}
-use Rattle.st_parse_faults.specs.Judging.{passed, broken}
-use Rattle.st_parse_faults.specs.Faults.{Faultless, FirstFault}
-use Rattle.st_parse_faults.specs.inner.Folding.{Seen, verdict}
+use Rattle.st_grammar.specs.Positions.{State, start, reading}
+use Rattle.st_parse_automaton.specs.Refusal.{terminals_of}
+use Rattle.st_parse_faults.specs.Faults.{Faultless, FrontKept, FirstFault}
 use Rattle.st_parse_faults.specs.Place.{place_at}
 use Rattle.st_el.specs.declared.definition.Def.{Def}
 use Rattle.st_parse_builder.specs.Definitions.{Parse}
@@ -32,19 +32,20 @@ IsSource tokens defs = IsParsed tokens defs × KeepsLimits defs
 
 -- ---- faults
 
--- the tokens before the first one with a fault, or all, and what is seen of them
+-- the tokens before the first one with a fault, or all, and how far they are read
 pub record Front (tokens : List Token) : Type 0 where
   pub count : ℕ
-  pub seen : Seen
-  pub faultless : verdict tokens count ≡ passed seen
+  pub state : State
+  pub read : reading start (take count (terminals_of tokens)) ≡ Some state
+  -- None of them passes a limit.
+  pub kept : FrontKept tokens count
   -- Behind them the tokens end, or the next one has a fault.
-  pub longest : (count ≡ length tokens)
-      ⊎ ((r : RuleId) × (count < length tokens) × (verdict tokens (count + 1) ≡ broken r))
+  pub longest : (count ≡ length tokens) ⊎ ((r : RuleId) × FirstFault tokens count r)
 
 -- The first variable that is past the limit, if there is one, is there: in a definition that stands
 -- whole in the front, or in the one that is cut off behind it.
 abbrev pub Past : List Token → Option Span → Type 0
-Past tokens place = (front : Front tokens) × (first_past front.seen.state ≡ place)
+Past tokens place = (front : Front tokens) × (first_past front.state ≡ place)
 
 -- too many variables of a definition, before any token with a fault
 abbrev pub VariableFault : List Token → Span → RuleId → Type 0
