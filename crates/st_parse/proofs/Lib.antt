@@ -34,3 +34,4 @@ pub mod ExpressionExact
 pub mod ExpressionLoop
 pub mod ExpressionDrafted
 pub mod ExpressionParsing
+mod OneExpressionAnswer

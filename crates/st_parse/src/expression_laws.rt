@@ -1,14 +1,16 @@
 //! Laws of expressions and of their faults.
 
-ghost use Rattle.std.specs.Prelude.{◌≡◌, ◌≤◌, List, ℕ, Some, None};
+ghost use Rattle.std.specs.Prelude.{◌≡◌, ◌≤◌, List, ℕ, Some, None, Ok, Err};
+ghost use Rattle.st_num.specs.declared.fault.Fault.TheVariants.{Refused};
 ghost use Rattle.st_num.specs.declared.rule.RuleId.{RuleId};
 ghost use Rattle.st_num.specs.declared.rule.RuleId.TheVariants.{S1, S4};
+ghost use Rattle.st_num.specs.declared.span.Span.{Span};
 ghost use Rattle.st_num.specs.declared.token.Token.{Token};
 ghost use Rattle.st_el.specs.declared.expression.Exp.{Exp};
 ghost use Rattle.st_grammar.specs.Terminals.{Terminal};
 ghost use Rattle.st_grammar.specs.Trees.{Trees};
 ghost use Rattle.st_parse.specs.Expressions.{ParseExpressions, ViableExpressions, AreExpressions, RefusedAt};
-ghost use Rattle.st_parse.specs.ExpressionSource.{ParseExps};
+ghost use Rattle.st_parse.specs.ExpressionSource.{ParseExps, Answers};
 ghost use Rattle.st_parse.specs.ExpressionReading as read;
 ghost use Rattle.st_parse.specs.ExpressionFaults.{Faultless, FirstFault};
 
@@ -55,4 +57,16 @@ pub fn faults_of_expressions()
         → FirstFault names tokens k S4 → RefusedAt names tokens k }
     ensures first { (names : List (List ℕ)) (tokens : List Token) (j k : ℕ) (r : RuleId)
         → RefusedAt names tokens j → FirstFault names tokens k r → k ≤ j }
+{}
+
+/// Tokens have at most one answer, want of memory aside: one list of expressions, or one refusal.
+pub fn one_answer_of_expressions()
+    ensures source { (names : List (List ℕ)) (tokens : List Token) (a b : List Exp)
+        → Answers names tokens (Ok a) → Answers names tokens (Ok b) → a ≡ b }
+    ensures never { (names : List (List ℕ)) (tokens : List Token) (exps : List Exp) (at : Span)
+        (rule : RuleId) → Answers names tokens (Err (Refused at rule))
+        → Answers names tokens (Ok exps) → ⊥ }
+    ensures fault { (names : List (List ℕ)) (tokens : List Token) (at there : Span)
+        (rule other : RuleId) → Answers names tokens (Err (Refused at rule))
+        → Answers names tokens (Err (Refused there other)) → (at ≡ there) × (rule ≡ other) }
 {}
