@@ -38,7 +38,7 @@ use Rattle.st_num.specs.declared.fault.Fault.TheVariants.{Refused, Memory}
 use Rattle.st_parse.specs.Expressions.{ParseExpressions, terminals_of}
 use Rattle.st_parse.specs.ExpressionReading.{finish, whole}
 use Rattle.st_parse_faults.specs.Judging.{passed}
-use Rattle.st_parse.specs.ExpressionFaults.{Seen, judge, verdict, nothing_seen, FirstFault}
+use Rattle.st_parse.specs.inner.ExpressionFolding.{Seen, judge, verdict, nothing_seen, FirstBreak}
 use Rattle.st_parse.specs.inner.ExpressionSeen as spec
 use Rattle.st_parse.specs.inner.ExpressionDrafts.{AreBuilt, Draft, draft, Turns, Takes}
 use Rattle.st_parse.specs.ExpressionSource.{ParseExps, IsFile, AreWhole, Answers}
@@ -48,6 +48,7 @@ use Rattle.st_parse_faults.proofs.JudgingLemmas.{judge_next, verdict_more, all_t
 use Rattle.st_parse.proofs.ExpressionVerdicts.{verdict_reads}
 use Rattle.st_parse.proofs.ExpressionExact.{whole_list}
 use Rattle.st_parse.proofs.ExpressionLoop.{Passes, passes_holds, token_passes}
+use Rattle.st_parse.proofs.ExpressionBroken.{all_kept, first_broken}
 use Rattle.st_parse.proofs.ExpressionDrafted.{DraftOf, takes, drafted, end_acts}
 
 -- these tokens passed up to here, and this is built of them
@@ -93,8 +94,8 @@ token_drafts tokens names i x l p v q ad added d mid e h (s, f, o, r) t k g w c 
     )
 
 -- what is answered where a token breaks a rule, and where the tokens end too early
-pub breaks : (names : List (List ℕ)) (tokens : List Token) (k : ℕ) (r : RuleId) (f : SyntaxFault) → FirstFault names tokens k r → f ≡ Refused (place_at tokens k) r → Answers names tokens (Err f)
-breaks names tokens k r f h e = subst (λ g. Answers names tokens (Err g)) (sym e) (inl (k, h, refl))
+pub breaks : (names : List (List ℕ)) (tokens : List Token) (k : ℕ) (r : RuleId) (f : SyntaxFault) → FirstBreak names tokens k r → f ≡ Refused (place_at tokens k) r → Answers names tokens (Err f)
+breaks names tokens k r f h e = subst (λ g. Answers names tokens (Err g)) (sym e) (inl (k, first_broken names tokens k r h, refl))
 
 whole_answers : (names : List (List ℕ)) (tokens : List Token) (es : List Exp) (result : Result (List Exp) SyntaxFault) → IsFile names tokens es → AreWhole tokens es result → Answers names tokens result
 whole_answers names tokens es (Ok built) f w = (subst (IsFile names tokens) (sym w.0) f, subst (λ l. highest (map height l) ≤ 100) (sym w.0) w.1)
@@ -122,7 +123,7 @@ answers names tokens i p d b result h (s, e, o, r) f t n =
     let trees : finish s.state ≡ Some ts = ap (whole s.state) u.1 in
     let grammar = sound (take (length tokens) (terminals_of names tokens)) s.state ts (verdict_reads names tokens (length tokens) s last) trees in
     whole_answers names tokens (meanings s.state.before ++ meaning u.0 ∷ []) result
-    ((s, ts, last, trees), record { trees = ts; grammar = subst (λ us. ParseExpressions us ts) (whole_list names tokens (length tokens) (omega arith)) grammar; meant = refl })
+    (all_kept names tokens (s, ts, last, trees), record { trees = ts; grammar = subst (λ us. ParseExpressions us ts) (whole_list names tokens (length tokens) (omega arith)) grammar; meant = refl })
     (n (slot_of slot) (state_of s.state.here) (slot_open slot) u.0 (meanings s.state.before) (inside_is s p o) fits (end_acts s.state d u.0 r u.1) r.built)
 
 -- ---- one meaning

@@ -9,5 +9,6 @@ pub mod Taken
 pub mod Kept
 pub mod Cuts
 pub mod Found
+pub mod ExpressionFolding
 pub mod ExpressionSeen
 pub mod ExpressionDrafts

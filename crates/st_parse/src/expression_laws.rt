@@ -1,6 +1,6 @@
 //! Laws of expressions and of their faults.
 
-ghost use Rattle.std.specs.Prelude.{◌≡◌, ◌≤◌, List, ℕ, Some, None, Ok, Err};
+ghost use Rattle.std.specs.Prelude.{◌≡◌, ◌≤◌, List, length, ℕ, Some, None, Ok, Err};
 ghost use Rattle.st_num.specs.declared.fault.Fault.TheVariants.{Refused};
 ghost use Rattle.st_num.specs.declared.rule.RuleId.{RuleId};
 ghost use Rattle.st_num.specs.declared.rule.RuleId.TheVariants.{S1, S4};
@@ -12,7 +12,8 @@ ghost use Rattle.st_grammar.specs.Trees.{Trees};
 ghost use Rattle.st_parse.specs.Expressions.{ParseExpressions, ViableExpressions, AreExpressions, RefusedAt};
 ghost use Rattle.st_parse.specs.ExpressionSource.{ParseExps, Answers};
 ghost use Rattle.st_parse.specs.ExpressionReading as read;
-ghost use Rattle.st_parse.specs.ExpressionFaults.{Faultless, FirstFault};
+ghost use Rattle.st_parse.specs.ExpressionFaults.{Faultless, FirstFault, expressions_numbers};
+ghost use Rattle.st_parse.specs.inner.ExpressionFolding.{AllPass, FirstBreak};
 
 /// The tokens of expressions have one list of trees.
 #[tactic(auto, using(crate::proofs::ExpressionReadings::one_list))]
@@ -57,6 +58,21 @@ pub fn faults_of_expressions()
         → FirstFault names tokens k S4 → RefusedAt names tokens k }
     ensures first { (names : List (List ℕ)) (tokens : List Token) (j k : ℕ) (r : RuleId)
         → RefusedAt names tokens j → FirstFault names tokens k r → k ≤ j }
+{}
+
+/// Trees tell what each token of expressions begins, and so the same faults as a fold over the
+/// tokens, which judges them one after another.
+pub fn judging_of_expressions_agrees()
+    ensures parallel { (us : List Terminal) (ts : Trees) → ParseExpressions us ts
+        → length (expressions_numbers ts) ≡ length us }
+    ensures kept { (names : List (List ℕ)) (tokens : List Token)
+        → AllPass names tokens → Faultless names tokens }
+    ensures faultless { (names : List (List ℕ)) (tokens : List Token)
+        → Faultless names tokens → AllPass names tokens }
+    ensures broken { (names : List (List ℕ)) (tokens : List Token) (k : ℕ) (r : RuleId)
+        → FirstBreak names tokens k r → FirstFault names tokens k r }
+    ensures first { (names : List (List ℕ)) (tokens : List Token) (k : ℕ) (r : RuleId)
+        → FirstFault names tokens k r → FirstBreak names tokens k r }
 {}
 
 /// Tokens have at most one answer, want of memory aside: one list of expressions, or one refusal.

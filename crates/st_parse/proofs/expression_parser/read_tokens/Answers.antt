@@ -1,6 +1,6 @@
 use Rattle.std.proofs.Common.{length, refl, sym, ap, arith}
 use Rattle.st_num.specs.declared.rule.RuleId.TheVariants.{S1}
-use Rattle.st_parse.specs.ExpressionFaults.{nothing_seen}
+use Rattle.st_parse.specs.inner.ExpressionFolding.{nothing_seen}
 use Rattle.st_parse.specs.inner.ExpressionDrafts.{draft}
 use Rattle.st_parse.proofs.ExpressionLoop.{token_breaks, ends_early, bounded}
 use Rattle.st_parse.proofs.ExpressionDrafted.{starts}
