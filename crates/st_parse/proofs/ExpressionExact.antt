@@ -9,7 +9,7 @@ use Rattle.st_grammar.specs.Trees.{Trees}
 use Rattle.st_parse.specs.Expressions.{ParseExpressions, terminals_of, AreExpressions, IsViable, RefusedAt}
 use Rattle.st_parse.specs.ExpressionReading.{State, start, step, finish, reading}
 use Rattle.st_parse_faults.specs.Judging.{passed, broken}
-use Rattle.st_parse.specs.ExpressionFaults.{Seen, opens_too_many, passes_limit, seen_after, judged, judge, verdict, nothing_seen, ended, Faultless, FirstFault}
+use Rattle.st_parse.specs.inner.ExpressionFolding.{Seen, opens_too_many, passes_limit, seen_after, judged, judge, verdict, nothing_seen, ended, AllPass, FirstBreak}
 use Rattle.st_parse.proofs.ExpressionReadings.{reading_append, complete, sound, viable, dead}
 use Rattle.st_parse_faults.proofs.JudgingLemmas as judging
 use Rattle.st_parse_faults.proofs.JudgingLemmas.{OfGrammar}
@@ -17,7 +17,7 @@ use Rattle.st_parse.proofs.ExpressionVerdicts.{verdict_reads}
 
 -- ---- tokens
 
-last_step : (us : List Terminal) (l : Terminal) (st : State) → reading start us ≡ Some st → reading start (us ++ l ∷ []) ≡ step st l
+pub last_step : (us : List Terminal) (l : Terminal) (st : State) → reading start us ≡ Some st → reading start (us ++ l ∷ []) ≡ step st l
 last_step us l st e = reading_append start us (l ∷ []) ∙ ap (option_and_then (λ next. reading next (l ∷ []))) e ∙ go (step st l)
   where
     go : (o : Option State) → option_and_then (λ next. reading next []) o ≡ o
@@ -25,7 +25,7 @@ last_step us l st e = reading_append start us (l ∷ []) ∙ ap (option_and_then
     go (Some next) = refl
 
 -- one more token is that of the list
-one_more : (names : List (List ℕ)) (tokens : List Token) (i : ℕ) (d : Token) → i < length tokens
+pub one_more : (names : List (List ℕ)) (tokens : List Token) (i : ℕ) (d : Token) → i < length tokens
     → take (i + 1) (terminals_of names tokens) ≡ take i (terminals_of names tokens) ++ terminal names (get_or tokens i d) ∷ []
 one_more names tokens i d h =
     let f = terminal names in
@@ -42,17 +42,13 @@ passes_viable names tokens k seen e = viable names (take k (terminals_of names t
 
 -- ---- one fault
 
-pub one_fault : (names : List (List ℕ)) (tokens : List Token) (j k : ℕ) (q r : RuleId) → FirstFault names tokens j q → FirstFault names tokens k r → (j ≡ k) × (q ≡ r)
+pub one_fault : (names : List (List ℕ)) (tokens : List Token) (j k : ℕ) (q r : RuleId) → FirstBreak names tokens j q → FirstBreak names tokens k r → (j ≡ k) × (q ≡ r)
 one_fault names tokens = judging.one_fault Seen (judge names) nothing_seen tokens Trees ended
 
-pub never_both : (names : List (List ℕ)) (tokens : List Token) (k : ℕ) (r : RuleId) → FirstFault names tokens k r → Faultless names tokens → ⊥
+pub never_both : (names : List (List ℕ)) (tokens : List Token) (k : ℕ) (r : RuleId) → FirstBreak names tokens k r → AllPass names tokens → ⊥
 never_both names tokens = judging.never_both Seen (judge names) nothing_seen tokens Trees ended
 
 -- ---- the grammar
-
-pub are_expressions : (names : List (List ℕ)) (tokens : List Token) → Faultless names tokens → AreExpressions names tokens
-are_expressions names tokens s =
-    (s.1, subst (λ us. ParseExpressions us s.1) (whole_list names tokens (length tokens) (omega arith)) (sound (take (length tokens) (terminals_of names tokens)) s.0.state s.1 (verdict_reads names tokens (length tokens) s.0 s.2) s.3))
 
 pub not_read : (seen : Seen) (x : Token) (l : Terminal) (o : Option State) (r : RuleId) → judged seen x l o ≡ broken r → OfGrammar r → o ≡ None
 not_read seen x l None r e h = refl
@@ -71,7 +67,7 @@ dead_next names tokens k r seen d h g e f v =
     let none = not_read seen x l (step seen.state l) r next h in
     dead names (take (k + 1) (terminals_of names tokens)) (ap (reading start) (one_more names tokens k d g) ∙ last_step us l seen.state read ∙ none) v
 
-pub is_refused : (names : List (List ℕ)) (tokens : List Token) (k : ℕ) (r : RuleId) → OfGrammar r → FirstFault names tokens k r → RefusedAt names tokens k
+pub is_refused : (names : List (List ℕ)) (tokens : List Token) (k : ℕ) (r : RuleId) → OfGrammar r → FirstBreak names tokens k r → RefusedAt names tokens k
 is_refused names tokens k r h (inl (g, (seen, e), f)) = inl (g, passes_viable names tokens k seen e, dead_next names tokens k r seen (judging.some_token tokens k g) h g e f)
 is_refused names tokens k r h (inr (e, i, (seen, f, n))) =
     let us = take k (terminals_of names tokens) in
@@ -86,7 +82,7 @@ is_refused names tokens k r h (inr (e, i, (seen, f, n))) =
     )
 
 -- no fault stands behind the refused token
-pub not_later : (names : List (List ℕ)) (tokens : List Token) (j k : ℕ) (r : RuleId) → RefusedAt names tokens j → FirstFault names tokens k r → k ≤ j
+pub not_later : (names : List (List ℕ)) (tokens : List Token) (j k : ℕ) (r : RuleId) → RefusedAt names tokens j → FirstBreak names tokens k r → k ≤ j
 not_later names tokens j k r f g = go (nat_lt j k) refl
   where
     last : (seen : Seen) × (verdict names tokens k ≡ passed seen)

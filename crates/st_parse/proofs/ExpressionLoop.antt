@@ -23,7 +23,7 @@ use Rattle.st_parse_faults.specs.inner.Seen as seen
 use Rattle.st_parse.specs.Expressions.{terminals_of}
 use Rattle.st_parse.specs.ExpressionReading.{whole}
 use Rattle.st_parse_faults.specs.Judging.{TokenVerdict, passed, broken}
-use Rattle.st_parse.specs.ExpressionFaults.{Seen, judge, verdict, nothing_seen, FirstFault}
+use Rattle.st_parse.specs.inner.ExpressionFolding.{Seen, judge, verdict, nothing_seen, FirstBreak}
 use Rattle.st_parse.specs.inner.ExpressionSeen as spec
 use Rattle.st_parse.proofs.ExpressionReadings.{reached}
 use Rattle.st_parse.proofs.ExpressionSeenView.{slot, rule_holds, summary_of, verdict_view, judge_is, may_end_as}
@@ -69,7 +69,7 @@ token_passes tokens names i x l p v q ad added h a t k f e =
 
 pub token_breaks : (tokens : List Token) (names : List (List ℕ)) (i : ℕ) (x : Token) (l : TokenClass) (p : CodeSeen) (v : Code) (r : RuleId) (last : Progress) → i < length tokens → Passes names tokens i p
     → x ≡ get_or tokens i x → l ≡ class_of (terminal names x) → seen.verdict_of v ≡ spec.judge (seen.summary_of p) x.kind l → v ≡ code.Broken r last
-    → FirstFault names tokens i r
+    → FirstBreak names tokens i r
 token_breaks tokens names i x l p v r last h a t k f e =
     inl (
       h,
@@ -83,7 +83,7 @@ whole_none s None e = refl
 whole_none s (Some t) e = absurd (cc)
 
 pub ends_early : (names : List (List ℕ)) (tokens : List Token) (i : ℕ) (p : CodeSeen) (b : Bool) → length tokens ≤ i → Passes names tokens i p → b ≡ definitions.may_end (progress_of p.progress) → b ≡ false
-    → FirstFault names tokens (length tokens) S1
+    → FirstBreak names tokens (length tokens) S1
 ends_early names tokens i p b h (s, e, o) f t =
     let no : is_some (part.finish s.state.here) ≡ false = sym (may_end_as s (passes_holds names tokens i s e)) ∙ ap (λ v. definitions.may_end v.state) o ∙ sym f ∙ t in
     inr (refl, refl, (s, sym (judging.all_tokens Seen (judge names) nothing_seen tokens i h) ∙ e, whole_none s (part.finish s.state.here) no))

@@ -40,7 +40,7 @@ use Rattle.st_num.specs.declared.fault.Fault.TheVariants.{Refused, Memory}
 use Rattle.st_parse.specs.Expressions.{ParseExpressions, terminals_of}
 use Rattle.st_parse.specs.ExpressionReading.{finish, whole}
 use Rattle.st_parse_faults.specs.Judging.{passed}
-use Rattle.st_parse.specs.ExpressionFaults.{Seen, judge, verdict, nothing_seen, FirstFault}
+use Rattle.st_parse.specs.inner.ExpressionFolding.{Seen, judge, verdict, nothing_seen, FirstBreak}
 use Rattle.st_parse.specs.inner.ExpressionSeen as spec
 use Rattle.st_parse.specs.inner.ExpressionSeen.{JudgesToken}
 use Rattle.st_parse.specs.inner.ExpressionDrafts.{AreBuilt, Takes, TakesToken}
@@ -53,6 +53,7 @@ use Rattle.st_parse_faults.proofs.JudgingLemmas.{judge_next, verdict_more, all_t
 use Rattle.st_parse.proofs.ExpressionVerdicts.{verdict_reads}
 use Rattle.st_parse.proofs.ExpressionExact.{whole_list}
 use Rattle.st_parse.proofs.ExpressionLoop.{Passes, passes_holds, token_passes, token_breaks, ends_early}
+use Rattle.st_parse.proofs.ExpressionBroken.{all_kept, first_broken}
 use Rattle.st_parse.proofs.ExpressionDrafted.{DraftOf, takes, drafted, end_acts}
 
 -- these tokens passed up to here, and this is built of them
@@ -109,20 +110,20 @@ same_fault f g e = cc
 
 -- the fault where the tokens stop
 stop_breaks : (names : List (List ℕ)) (tokens : List Token) (k : ℕ) (p : CodeSeen) (last : Progress) (found : Option TokenFault) → Passes names tokens k p → Stops JudgesToken names tokens k p last found
-    → (f : TokenFault) → found ≡ Some f → FirstFault names tokens f.token f.rule
+    → (f : TokenFault) → found ≡ Some f → FirstBreak names tokens f.token f.rule
 stop_breaks names tokens k p last found r (at_end l q e) f is = go (definitions.may_end (progress_of last)) refl
   where
-    go : (b : Bool) → definitions.may_end (progress_of last) ≡ b → FirstFault names tokens f.token f.rule
+    go : (b : Bool) → definitions.may_end (progress_of last) ≡ b → FirstBreak names tokens f.token f.rule
     go true g =
         let never : Some f ≡ None = sym is ∙ e ∙ ap (λ b. if b then None else Some (early_end tokens)) g in
         absurd (cc)
     go false g =
         let early : Some (early_end tokens) ≡ Some f = sym (ap (λ b. if b then None else Some (early_end tokens)) g) ∙ sym e ∙ is in
-        subst (λ (h : TokenFault). FirstFault names tokens h.token h.rule) (same_fault (early_end tokens) f early)
+        subst (λ (h : TokenFault). FirstBreak names tokens h.token h.rule) (same_fault (early_end tokens) f early)
         (ends_early names tokens k p (definitions.may_end (progress_of last)) (omega (arith, l)) r (ap (λ w. definitions.may_end (progress_of w)) q) g)
 stop_breaks names tokens k p last found r (at_token x rule s e j) f is =
     let broken : TokenFault = record { token = k; rule = rule } in
-    subst (λ (h : TokenFault). FirstFault names tokens h.token h.rule) (same_fault broken f (sym e ∙ is))
+    subst (λ (h : TokenFault). FirstBreak names tokens h.token h.rule) (same_fault broken f (sym e ∙ is))
     (token_breaks tokens names k x (class_of (terminal names x)) p (code.Broken rule last) rule last
     (slice_get_within tokens k x s) r (sym (get_or_from_slice_get tokens k x x s)) refl j.value refl)
 
@@ -146,8 +147,8 @@ stop_whole names tokens k p last found (at_token x rule s e j) is =
     absurd (cc)
 
 -- what is answered where a token breaks a rule, and where the tokens end too early
-breaks : (names : List (List ℕ)) (tokens : List Token) (k : ℕ) (r : RuleId) (f : SyntaxFault) → FirstFault names tokens k r → f ≡ Refused (place_at tokens k) r → Answers names tokens (Err f)
-breaks names tokens k r f h e = subst (λ g. Answers names tokens (Err g)) (sym e) (inl (k, h, refl))
+breaks : (names : List (List ℕ)) (tokens : List Token) (k : ℕ) (r : RuleId) (f : SyntaxFault) → FirstBreak names tokens k r → f ≡ Refused (place_at tokens k) r → Answers names tokens (Err f)
+breaks names tokens k r f h e = subst (λ g. Answers names tokens (Err g)) (sym e) (inl (k, first_broken names tokens k r h, refl))
 
 whole_answers : (names : List (List ℕ)) (tokens : List Token) (es : List Exp) (result : Result (List Exp) SyntaxFault) → IsFile names tokens es → AreWhole tokens es result → Answers names tokens result
 whole_answers names tokens es (Ok built) f w = (subst (IsFile names tokens) (sym w.0) f, subst (λ l. highest (map height l) ≤ 100) (sym w.0) w.1)
@@ -175,7 +176,7 @@ answers names tokens i p d b result h (s, e, o, r) f t n =
     let trees : finish s.state ≡ Some ts = ap (whole s.state) u.1 in
     let grammar = sound (take (length tokens) (terminals_of names tokens)) s.state ts (verdict_reads names tokens (length tokens) s last) trees in
     whole_answers names tokens (meanings s.state.before ++ meaning u.0 ∷ []) result
-    ((s, ts, last, trees), record { trees = ts; grammar = subst (λ us. ParseExpressions us ts) (whole_list names tokens (length tokens) (omega arith)) grammar; meant = refl })
+    (all_kept names tokens (s, ts, last, trees), record { trees = ts; grammar = subst (λ us. ParseExpressions us ts) (whole_list names tokens (length tokens) (omega arith)) grammar; meant = refl })
     (n (slot_of slot) (state_of s.state.here) (slot_open slot) u.0 (meanings s.state.before) (inside_is s p o) fits (end_acts s.state d u.0 r u.1) r.built)
 
 -- ---- what is read

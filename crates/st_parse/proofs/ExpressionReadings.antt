@@ -155,11 +155,11 @@ turns us st l t r e c =
       read = refl;
     }
 
-abbrev ReachedBy : List Terminal → Option State → Type 0
+abbrev pub ReachedBy : List Terminal → Option State → Type 0
 ReachedBy us None = Unit {0}
 ReachedBy us (Some st) = Reached us st
 
-stepped : (us : List Terminal) (st : State) (l : Terminal) → Reached us st → ReachedBy (us ++ l ∷ []) (step st l)
+pub stepped : (us : List Terminal) (st : State) (l : Terminal) → Reached us st → ReachedBy (us ++ l ∷ []) (step st l)
 stepped us st l r = go (part.step st.here l) refl
   where
     comma : (t : Tree) (b : Bool) → part.finish st.here ≡ Some t → signed is_comma l ≡ b

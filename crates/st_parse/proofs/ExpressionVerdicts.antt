@@ -8,7 +8,7 @@ use Rattle.st_parse.specs.Expressions.{terminals_of}
 use Rattle.st_parse.specs.ExpressionReading.{State, start, step, reading}
 use Rattle.st_parse_faults.specs.Judging.{passed, limited, judge_all}
 use Rattle.st_parse_faults.proofs.JudgingLemmas.{never_passes}
-use Rattle.st_parse.specs.ExpressionFaults.{Seen, opens_too_many, passes_limit, seen_after, refusal, judged, judge, verdict, nothing_seen}
+use Rattle.st_parse.specs.inner.ExpressionFolding.{Seen, opens_too_many, passes_limit, seen_after, refusal, judged, judge, verdict, nothing_seen}
 
 passes_reads : (names : List (List ℕ)) (seen last : Seen) (xs : List Token) → judge_all (judge names) (passed seen) xs ≡ passed last
     → reading seen.state (map (terminal names) xs) ≡ Some last.state

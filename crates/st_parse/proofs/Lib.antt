@@ -32,6 +32,9 @@ pub mod ExpressionReadings
 pub mod ExpressionSeenView
 pub mod ExpressionVerdicts
 pub mod ExpressionExact
+pub mod ExpressionNumbers
+pub mod ExpressionBroken
 pub mod ExpressionLoop
 pub mod ExpressionDrafted
 pub mod ExpressionParsing
+mod OneExpressionAnswer

@@ -1,70 +1,104 @@
--- The first token of expressions that breaks a rule, and the rule.
-use Rattle.std.specs.Prelude.{ℕ, ◌+◌, List, Bool, ◌&&◌, Option, Some, None, nat_lt, if◌then◌else◌}
-use Rattle.std.specs.List.{list_any}
+-- The first token of expressions that breaks a rule, and the rule: told by the text, and by the
+-- trees of expressions that begin with it.
+use Rattle.std.specs.Prelude.{◌≡◌, ℕ, ◌+◌, ◌<◌, ◌⊎◌, List, [], ◌++◌, length, take, get_or, Some, slice_get, false}
+use Rattle.st_num.specs.declared.mark.Mark.{Mark}
+use Rattle.st_num.specs.declared.mark.Mark.TheVariants as mark
+use Rattle.st_num.specs.declared.word.Word.{Word}
+use Rattle.st_num.specs.declared.word.Word.TheVariants as word
 use Rattle.st_num.specs.declared.rule.RuleId.{RuleId}
 use Rattle.st_num.specs.declared.rule.RuleId.TheVariants.{S1, S4}
 use Rattle.st_num.specs.declared.token.Token.{Token}
-use Rattle.st_grammar.specs.Terminals.{Terminal, terminal}
-use Rattle.st_grammar.specs.Trees.{Trees}
-use Rattle.st_parse_faults.specs.declared.before.Before.TheVariants as before
-use Rattle.st_parse_faults.specs.Judging.{TokenVerdict, broken, limited, verdict_on, Pass, BreaksAt}
-use Rattle.st_parse_faults.specs.LeftOut.{left_out}
-use Rattle.st_parse_faults.specs.Nesting.{nesting_after, part_bars, may_open}
-use Rattle.st_parse_faults.specs.Limits.{tally_passes, part_tallies}
-use Rattle.st_num.specs.declared.limit.TheConstants.{HIGHEST_TREE}
-use Rattle.st_parse.specs.ExpressionReading.{State, start, step, finish}
+use Rattle.st_num.specs.declared.token.TokenKind.{TokenKind}
+use Rattle.st_num.specs.declared.token.TokenKind.TheVariants as kind
+use Rattle.st_grammar.specs.declared.sort.Sort.TheVariants.{Expression as expression}
+use Rattle.st_grammar.specs.Terminals.{Terminal}
+use Rattle.st_grammar.specs.Trees.{Tree, Trees, none, more}
+use Rattle.st_parse_faults.specs.Nesting.{brackets_behind}
+use Rattle.st_parse_faults.specs.Number.{Number}
+use Rattle.st_parse_faults.specs.Numbers.{no_entries, numbers}
+use Rattle.st_parse_faults.specs.DefinitionNumbers.{alone}
+use Rattle.st_parse_faults.specs.Faults.{limit_rule, KeepsLimits}
+use Rattle.st_parse.specs.Expressions.{ParseExpressions, terminals_of, RefusedAt}
 
--- what is known behind some tokens: how they are read, and how many brackets are open
-pub record Seen : Type 0 where
-  pub state : State
-  pub nesting : ℕ
+-- ---- numbers
 
--- The token is a bracket or bar behind which more are open than may be.
-abbrev pub opens_too_many : Seen → Terminal → Bool
-opens_too_many seen l =
-    may_open l && nat_lt HIGHEST_TREE (seen.nesting + part_bars seen.state.here)
+-- what each token of an expression begins: nothing stands before it, and no bracket is open
+abbrev pub expression_numbers : Tree → List (List Number)
+expression_numbers t = numbers (alone (expression false) 0 []) t
 
--- Between some brackets of the open expression, or outside all, there are too many parts or signs.
-abbrev pub passes_limit : Seen → Bool
-passes_limit seen = list_any tally_passes (part_tallies 0 seen.state.here)
+-- what each token of expressions begins; a comma between them begins nothing, and nothing is
+-- counted across it
+abbrev pub expressions_numbers : Trees → List (List Number)
+expressions_numbers none = []
+expressions_numbers (more ts pre t) =
+    expressions_numbers ts ++ (no_entries pre ++ expression_numbers t)
 
--- The rule that a refused token breaks. No syntax, premise or type stands before it.
-abbrev pub refusal : Seen → Token → RuleId
-refusal seen x = if left_out before.Other seen.nesting x.kind then S4 else S1
-
--- what is known behind a token that is read, or the limit that is passed there
-abbrev pub kept : Seen → Terminal → TokenVerdict Seen
-kept seen l = limited (opens_too_many seen l) (passes_limit seen) seen
-
--- what is known behind a token that is read
-abbrev pub seen_after : Seen → Terminal → State → Seen
-seen_after seen l next = record { state = next; nesting = nesting_after seen.nesting l }
-
--- the verdict on a token: it breaks a rule, or leads on to this state of the reading
-abbrev pub judged : Seen → Token → Terminal → Option State → TokenVerdict Seen
-judged seen x l None = broken (refusal seen x)
-judged seen x l (Some next) = kept (seen_after seen l next) l
-
--- the verdict on one token behind what is seen, where these names are declared by `var`
-abbrev pub judge : List (List ℕ) → Seen → Token → TokenVerdict Seen
-judge names seen x = judged seen x (terminal names x) (step seen.state (terminal names x))
-
--- Before the first token nothing is read, and no bracket is open.
-abbrev pub nothing_seen : Seen
-nothing_seen = record { state = start; nesting = 0 }
-
--- the verdict on the first k tokens
-abbrev pub verdict : List (List ℕ) → List Token → ℕ → TokenVerdict Seen
-verdict names tokens k = verdict_on (judge names) nothing_seen tokens k
-
--- the expressions that are read, where they may end here
-abbrev pub ended : Seen → Option Trees
-ended seen = finish seen.state
-
--- The tokens are expressions, and no token has a fault.
+-- No token has a fault: the tokens are expressions, and none passes a limit.
 abbrev pub Faultless : List (List ℕ) → List Token → Type 0
-Faultless names tokens = Pass (judge names) ended nothing_seen tokens
+Faultless names tokens =
+    (ts : Trees) × ParseExpressions (terminals_of names tokens) ts
+    × KeepsLimits (expressions_numbers ts)
 
--- The first fault breaks this rule at token k, or at the end where the tokens end too early.
+-- ---- fronts
+
+-- The expressions begin with the first k tokens.
+pub record BeginWith (names : List (List ℕ)) (tokens : List Token) (k : ℕ) (ts : Trees) : Type 0
+  where
+    pub rest : List Token
+    pub grammar :
+        ParseExpressions (take k (terminals_of names tokens) ++ terminals_of names rest) ts
+
+-- Expressions begin with the first k tokens, and none of these passes a limit.
+abbrev pub FrontKept : List (List ℕ) → List Token → ℕ → Type 0
+FrontKept names tokens k =
+    (ts : Trees) × BeginWith names tokens k ts × KeepsLimits (take k (expressions_numbers ts))
+
+-- ---- forms that are left out of the grammar
+
+-- a sign that is refused behind these tokens begins such a form: `,` where as many brackets are
+-- closed as opened, and `...`
+abbrev pub SignLeftOut : List Terminal → Mark → Type 0
+SignLeftOut us mark.Comma = brackets_behind 0 us ≡ 0
+SignLeftOut us mark.Ellipsis = Unit {0}
+SignLeftOut us m = ⊥
+
+-- a word that is refused does: `grammar`, `rat` or `real`
+abbrev pub WordLeftOut : Word → Type 0
+WordLeftOut word.Grammar = Unit {0}
+WordLeftOut word.Rat = Unit {0}
+WordLeftOut word.Real = Unit {0}
+WordLeftOut w = ⊥
+
+-- A token of this kind that is refused behind these tokens begins a form that is left out. No
+-- syntax, premise or type stands before it.
+abbrev pub LeftOut : List Terminal → TokenKind → Type 0
+LeftOut us (kind.Sign m) = SignLeftOut us m
+LeftOut us (kind.Reserved w) = WordLeftOut w
+LeftOut us k = ⊥
+
+-- ---- faults
+
+-- Expressions begin with the tokens up to token k, which passes a limit of this rule.
+abbrev pub PassesLimit : List (List ℕ) → List Token → ℕ → RuleId → Type 0
+PassesLimit names tokens k r =
+    (k < length tokens)
+    × ((ts : Trees) × BeginWith names tokens (k + 1) ts
+    × (limit_rule (get_or (expressions_numbers ts) k []) ≡ Some r))
+
+-- Token k begins a form that is left out of the grammar.
+abbrev pub BeginsLeftOut : List (List ℕ) → List Token → ℕ → Type 0
+BeginsLeftOut names tokens k =
+    (x : Token) × (slice_get tokens k ≡ Some x)
+    × LeftOut (take k (terminals_of names tokens)) x.kind
+
+-- The grammar refuses token k, or the end there, by this rule.
+abbrev pub IsRefused : List (List ℕ) → List Token → ℕ → RuleId → Type 0
+IsRefused names tokens k r =
+    RefusedAt names tokens k
+    × (((r ≡ S4) × BeginsLeftOut names tokens k)
+    ⊎ ((r ≡ S1) × (BeginsLeftOut names tokens k → ⊥)))
+
+-- The first token that breaks a rule is token k, or the end there, and it breaks this one.
 abbrev pub FirstFault : List (List ℕ) → List Token → ℕ → RuleId → Type 0
-FirstFault names tokens k r = BreaksAt (judge names) ended nothing_seen tokens k r
+FirstFault names tokens k r =
+    FrontKept names tokens k × (PassesLimit names tokens k r ⊎ IsRefused names tokens k r)

@@ -11,5 +11,6 @@ pub mod Cuts
 pub mod Readers
 pub mod DefinitionReading
 pub mod Found
+pub mod ExpressionFolding
 pub mod ExpressionSeen
 pub mod ExpressionDrafts

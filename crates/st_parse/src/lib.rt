@@ -40,7 +40,8 @@ pub use built_part::Part;
 pub use change::{Change, DefinitionEnd};
 pub use draft::{Draft, Head, Members, Premises, Sides};
 pub use expression_laws::{
-    expressions_are_read, faults_of_expressions, one_list_of_expressions, one_meaning,
+    expressions_are_read, faults_of_expressions, judging_of_expressions_agrees,
+    one_answer_of_expressions, one_list_of_expressions, one_meaning,
 };
 pub use expression_parser::parse_exp;
 pub use kept::{Heights, Kept};

@@ -14,7 +14,7 @@ use Rattle.st_parse_builder.specs.Heights.{highest, height}
 use Rattle.st_parse_faults.specs.Place.{place_at}
 use Rattle.st_parse.specs.ExpressionFaults as file
 use Rattle.st_parse.specs.ExpressionSource.{ParseExps, FaultAt}
-use Rattle.st_parse.proofs.ExpressionExact.{one_fault, never_both}
+use Rattle.st_parse.proofs.ExpressionBroken.{one_broken, never_kept}
 use Rattle.st_parse.proofs.ExpressionParsing.{one_meaning}
 use Rattle.st_elab_table.specs.declared.decls.Decls.{Decls}
 use Rattle.st_elab_table.specs.declared.decls.Scope.{Scope}
@@ -120,7 +120,7 @@ module _ (D : Decls) (bytes : List ℕ) where
   text_no_breach exps b h (no_token f) = no_tokens b.at b.rule h.tokens f h.scanned
   text_no_breach exps b h (no_file tokens k f) =
       let same = one_list tokens h.tokens k h.scanned in
-      never_both names h.tokens f.0 b.rule (subst (λ z. file.FirstFault names z f.0 b.rule) same f.1) h.parsed.0
+      never_kept names h.tokens f.0 b.rule (subst (λ z. file.FirstFault names z f.0 b.rule) same f.1) h.parsed.0
   text_no_breach exps b h (too_high tokens k f) =
       let same = one_list tokens h.tokens k h.scanned in
       let is : f.0 ≡ exps = one_meaning names h.tokens f.0 exps (subst (λ z. ParseExps names z f.0) same f.1.1) h.parsed.1 in
@@ -130,7 +130,7 @@ module _ (D : Decls) (bytes : List ℕ) where
   one_fault_at : (tokens others : List Token) (b c : Breach) → others ≡ tokens → FaultAt names tokens b.at b.rule → FaultAt names others c.at c.rule → b ≡ c
   one_fault_at tokens others b c same f g =
       let h = subst (λ z. FaultAt names z c.at c.rule) same g in
-      let e = one_fault names tokens f.0 h.0 b.rule c.rule f.1 h.1 in
+      let e = one_broken names tokens f.0 h.0 b.rule c.rule f.1 h.1 in
       let p : f.0 ≡ h.0 = e.0 in
       let at : b.at ≡ c.at = f.2 ∙ (ap (λ k. place_at tokens k) p ∙ sym h.2) in
       same_breach b c at e.1
@@ -142,10 +142,10 @@ module _ (D : Decls) (bytes : List ℕ) where
   one_text_breach b c (no_file tokens k f) (no_token g) = absurd (no_tokens c.at c.rule tokens g k)
   one_text_breach b c (no_file tokens k f) (no_file others l g) = one_fault_at tokens others b c (one_list others tokens l k) f g
   one_text_breach b c (no_file tokens k f) (too_high others l g) =
-      absurd (never_both names tokens f.0 b.rule f.1 (subst (λ z. file.Faultless names z) (one_list others tokens l k) g.1.0))
+      absurd (never_kept names tokens f.0 b.rule f.1 (subst (λ z. file.Faultless names z) (one_list others tokens l k) g.1.0))
   one_text_breach b c (too_high tokens k f) (no_token g) = absurd (no_tokens c.at c.rule tokens g k)
   one_text_breach b c (too_high tokens k f) (no_file others l g) =
-      absurd (never_both names others g.0 c.rule g.1 (subst (λ z. file.Faultless names z) (one_list tokens others k l) f.1.0))
+      absurd (never_kept names others g.0 c.rule g.1 (subst (λ z. file.Faultless names z) (one_list tokens others k l) f.1.0))
   one_text_breach b c (too_high tokens k f) (too_high others l g) =
       let same = one_list tokens others k l in
       same_breach b c (f.4 ∙ (ap (λ z. place_at z 0) same ∙ sym g.4)) (f.3 ∙ sym g.3)

@@ -1,5 +1,5 @@
 use Rattle.std.proofs.Common.{refl, sym}
-use Rattle.st_parse.specs.ExpressionFaults.{nothing_seen}
+use Rattle.st_parse.specs.inner.ExpressionFolding.{nothing_seen}
 use Rattle.st_parse.proofs.ExpressionDrafted.{starts}
 use Rattle.st_parse.proofs.ExpressionParsing.{read_breaks, read_answers}
 use Rattle.st_parse.proofs.expression_parser.read_expressions.Goals as goal
