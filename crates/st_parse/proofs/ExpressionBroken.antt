@@ -17,9 +17,9 @@ use Rattle.st_grammar.specs.Terminals.{Terminal, terminal}
 use Rattle.st_grammar.specs.Trees.{Trees}
 use Rattle.st_grammar.proofs.PositionSteps.{is_same}
 use Rattle.st_parse_faults.specs.declared.before.Before.TheVariants as before
-use Rattle.st_parse_faults.specs.LeftOut.{left_out, sign_left_out, word_left_out}
+use Rattle.st_parse_faults.specs.inner.LeftOut.{left_out, sign_left_out, word_left_out}
 use Rattle.st_parse_faults.specs.Nesting.{brackets_behind}
-use Rattle.st_parse_faults.specs.Judging.{passed, broken}
+use Rattle.st_parse_faults.specs.inner.Judging.{passed, broken}
 use Rattle.st_parse_faults.specs.Number.{Number}
 use Rattle.st_parse_faults.specs.Faults.{passes_limit}
 use Rattle.st_parse_faults.proofs.JudgingLemmas.{OfGrammar, grammar_s1, grammar_s4, some_token}

@@ -20,8 +20,8 @@ use Rattle.st_grammar.specs.Positions as positions
 use Rattle.st_grammar.proofs.PositionSteps.{signed_is}
 use Rattle.st_grammar.proofs.PositionTexts as texts
 use Rattle.st_parse_faults.specs.Nesting.{nesting_after, brackets_behind, frame_bars, part_bars, may_open}
-use Rattle.st_parse_faults.specs.Limits.{part_tallies, tally_passes}
-use Rattle.st_parse_faults.specs.Judging.{passed, broken, limited, judge_all}
+use Rattle.st_parse_faults.specs.inner.Limits.{part_tallies, tally_passes}
+use Rattle.st_parse_faults.specs.inner.Judging.{passed, broken, limited, judge_all}
 use Rattle.st_parse_faults.specs.Number.{Number, too_deep, too_many}
 use Rattle.st_parse_faults.specs.Numbers.{Context, context, no_entries, numbers}
 use Rattle.st_parse_faults.specs.DefinitionNumbers.{alone}

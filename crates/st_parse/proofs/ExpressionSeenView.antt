@@ -34,12 +34,12 @@ use Rattle.st_parse_automaton.proofs.DefinitionSimulation.{may_end_is, is_some}
 use Rattle.st_parse_automaton.proofs.Loop as loop
 use Rattle.st_parse_faults.specs.declared.before.Before.TheVariants as before
 use Rattle.st_parse_faults.specs.inner.Counts.{no_counts}
-use Rattle.st_parse_faults.specs.LeftOut.{is_type_in, type_or_other, before_next, left_out}
+use Rattle.st_parse_faults.specs.inner.LeftOut.{is_type_in, type_or_other, before_next, left_out}
 use Rattle.st_parse_faults.specs.inner.Folding as defs
 use Rattle.st_parse_faults.specs.inner.Seen as judging
 use Rattle.st_parse_faults.proofs.SeenView as view
 use Rattle.st_parse.specs.ExpressionReading.{begun, turn, goes, step}
-use Rattle.st_parse_faults.specs.Judging.{TokenVerdict, passed, broken, limited}
+use Rattle.st_parse_faults.specs.inner.Judging.{TokenVerdict, passed, broken, limited}
 use Rattle.st_parse.specs.inner.ExpressionFolding.{Seen, opens_too_many, passes_limit, refusal, seen_after, judged, judge}
 use Rattle.st_parse.specs.inner.ExpressionSeen as spec
 use Rattle.st_parse.proofs.ExpressionReadings.{comma_ends}

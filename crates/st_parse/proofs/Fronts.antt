@@ -15,7 +15,7 @@ use Rattle.st_parse_automaton.proofs.DefinitionView.{definitions_of}
 use Rattle.st_parse_faults.specs.declared.judge.Seen.{Seen as CodeSeen}
 use Rattle.st_parse_faults.specs.declared.judge.TokenVerdict.TheVariants as code
 use Rattle.st_parse_faults.specs.declared.fault.TokenFault.{TokenFault}
-use Rattle.st_parse_faults.specs.Judging.{passed}
+use Rattle.st_parse_faults.specs.inner.Judging.{passed}
 use Rattle.st_parse_faults.specs.inner.Folding.{Seen, verdict, AllPass, FirstBreak}
 use Rattle.st_parse_faults.specs.Place.{place_at}
 use Rattle.st_parse_faults.proofs.Loop.{passes_holds, token_breaks}

@@ -3,7 +3,7 @@ use Rattle.std.proofs.Common.{◌≡◌, ℕ, ◌+◌, ◌<◌, ◌≤◌, ◌�
 use Rattle.st_num.specs.declared.span.Span.{Span}
 use Rattle.st_num.specs.declared.rule.RuleId.{RuleId}
 use Rattle.st_num.specs.declared.token.Token.{Token}
-use Rattle.st_parse_faults.specs.Judging.{passed, broken}
+use Rattle.st_parse_faults.specs.inner.Judging.{passed, broken}
 use Rattle.st_grammar.specs.Positions.{start, reading}
 use Rattle.st_parse_automaton.specs.Refusal.{terminals_of}
 use Rattle.st_parse_faults.specs.Faults.{FrontKept, FirstFault}

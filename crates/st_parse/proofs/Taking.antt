@@ -20,7 +20,7 @@ use Rattle.st_parse_faults.specs.declared.judge.Seen.{Seen as CodeSeen}
 use Rattle.st_parse_faults.specs.declared.judge.TokenVerdict.{TokenVerdict as Code}
 use Rattle.st_parse_faults.specs.declared.judge.TokenVerdict.TheVariants as code
 use Rattle.st_parse_faults.specs.declared.fault.TokenFault.{TokenFault}
-use Rattle.st_parse_faults.specs.Judging.{passed}
+use Rattle.st_parse_faults.specs.inner.Judging.{passed}
 use Rattle.st_parse_faults.specs.inner.Folding.{Seen, judge, verdict, nothing_seen}
 use Rattle.st_parse_faults.specs.inner.Seen as seen
 use Rattle.st_parse_faults.proofs.SeenView.{summary}

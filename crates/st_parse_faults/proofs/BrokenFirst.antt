@@ -14,8 +14,8 @@ use Rattle.st_grammar.proofs.PositionEnds.{viable}
 use Rattle.st_grammar.proofs.PositionComplete.{complete_defs}
 use Rattle.st_parse_automaton.specs.Refusal.{terminals_of, RefusedAt}
 use Rattle.st_parse_automaton.proofs.Loop.{last_step, one_more, whole_list}
-use Rattle.st_parse_faults.specs.LeftOut.{before_next, left_out}
-use Rattle.st_parse_faults.specs.Judging.{passed, broken}
+use Rattle.st_parse_faults.specs.inner.LeftOut.{before_next, left_out}
+use Rattle.st_parse_faults.specs.inner.Judging.{passed, broken}
 use Rattle.st_parse_faults.specs.inner.Folding.{Seen, refusal, judged, verdict, AllPass, FirstBreak}
 use Rattle.st_parse_faults.specs.Number.{Number}
 use Rattle.st_parse_faults.specs.DefinitionNumbers.{defs_numbers}

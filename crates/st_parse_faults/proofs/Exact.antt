@@ -9,7 +9,7 @@ use Rattle.st_grammar.proofs.PositionEnds.{viable}
 use Rattle.st_grammar.proofs.PositionComplete.{dead_defs, complete_defs}
 use Rattle.st_parse_automaton.specs.Refusal.{terminals_of, IsViable, RefusedAt}
 use Rattle.st_parse_automaton.proofs.Loop.{last_step, one_more, whole_list}
-use Rattle.st_parse_faults.specs.Judging.{passed, broken}
+use Rattle.st_parse_faults.specs.inner.Judging.{passed, broken}
 use Rattle.st_parse_faults.specs.inner.Folding.{Seen, opens_too_many, passes_limit, seen_after, judged, judge, verdict, nothing_seen, ended, AllPass, FirstBreak}
 use Rattle.st_parse_faults.proofs.JudgingLemmas as judging
 use Rattle.st_parse_faults.proofs.JudgingLemmas.{OfGrammar}

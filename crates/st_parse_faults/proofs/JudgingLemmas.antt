@@ -5,7 +5,7 @@ use Rattle.st_num.specs.declared.rule.RuleId.{RuleId}
 use Rattle.st_num.specs.declared.rule.RuleId.TheVariants.{S1, S2, S3, S4}
 use Rattle.st_num.specs.declared.token.Token.{Token}
 use Rattle.st_parse_automaton.proofs.Exact.{take_shorter}
-use Rattle.st_parse_faults.specs.Judging.{TokenVerdict, passed, broken, limited, judge_all, verdict_on, Pass, BreaksAt}
+use Rattle.st_parse_faults.specs.inner.Judging.{TokenVerdict, passed, broken, limited, judge_all, verdict_on, Pass, BreaksAt}
 
 -- ---- rules
 

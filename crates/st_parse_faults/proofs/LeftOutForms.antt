@@ -35,7 +35,7 @@ use Rattle.st_grammar.proofs.LevelLemmas.{ahead_low}
 use Rattle.st_parse_automaton.proofs.Loop.{last_step}
 use Rattle.st_parse_faults.specs.declared.before.Before.{Before}
 use Rattle.st_parse_faults.specs.declared.before.Before.TheVariants as before
-use Rattle.st_parse_faults.specs.LeftOut.{is_type_in, type_or_other, before_next, is_syntax_name, is_dashes, is_typ, sign_left_out, word_left_out, left_out}
+use Rattle.st_parse_faults.specs.inner.LeftOut.{is_type_in, type_or_other, before_next, is_syntax_name, is_dashes, is_typ, sign_left_out, word_left_out, left_out}
 use Rattle.st_parse_faults.specs.Nesting.{brackets_behind}
 use Rattle.st_parse_faults.specs.FormsLeftOut.{EndWithSyntax, EndWithDashes, StarMayFollow, SignLeftOut, WordLeftOut, KindLeftOut, LeftOut}
 use Rattle.st_parse_faults.proofs.PositionNumberFacts.{no_way}

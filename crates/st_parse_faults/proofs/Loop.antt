@@ -19,7 +19,7 @@ use Rattle.st_parse_automaton.proofs.Loop.{holds, found, not_found}
 use Rattle.st_parse_faults.specs.declared.judge.Seen.{Seen as CodeSeen}
 use Rattle.st_parse_faults.specs.declared.judge.TokenVerdict.{TokenVerdict as Code}
 use Rattle.st_parse_faults.specs.declared.judge.TokenVerdict.TheVariants as code
-use Rattle.st_parse_faults.specs.Judging.{TokenVerdict, passed, broken}
+use Rattle.st_parse_faults.specs.inner.Judging.{TokenVerdict, passed, broken}
 use Rattle.st_parse_faults.specs.inner.Folding.{Seen, judge, verdict, nothing_seen, AllPass, FirstBreak}
 use Rattle.st_parse_faults.specs.inner.Seen as seen
 use Rattle.st_parse_faults.proofs.SeenView.{summary, view, judge_is}

@@ -22,7 +22,7 @@ use Rattle.st_parse_faults.specs.Number.{Number, too_deep, too_many}
 use Rattle.st_parse_faults.specs.Numbers.{Context, in_count, ahead_number, open_entry, numbers, heading_numbers}
 use Rattle.st_parse_faults.specs.Nesting.{nesting_after, frame_bars, part_bars, may_open}
 use Rattle.st_parse_faults.specs.Signs.{is_turnstile, posts}
-use Rattle.st_parse_faults.specs.Limits.{signs_in, parts_in, aheads, tally, fresh, due_tally, held_tally, tallies_round, part_tallies, tally_passes}
+use Rattle.st_parse_faults.specs.inner.Limits.{signs_in, parts_in, aheads, tally, fresh, due_tally, held_tally, tallies_round, part_tallies, tally_passes}
 use Rattle.st_parse_faults.specs.inner.Numbering.{context_in, frame_numbers, state_numbers, frame_brackets, part_brackets}
 use Rattle.st_parse_faults.proofs.KeptTallies.{neither}
 use Rattle.st_parse_faults.proofs.NumberFacts.{or_false, no_test, first_test, beside, one_part, no_signs, Neat, NoCount, low, settled, held, due_signs, one_element, depth_is, before_is, row_is, outer, begins_pass, begins_shallow, opens_there}

@@ -32,7 +32,7 @@ use Rattle.st_parse_faults.specs.Numbers.{Context, context, label_entry, no_entr
 use Rattle.st_parse_faults.specs.DefinitionNumbers.{members_size, defs_size, word_entry, word_numbers, hints_numbers, alone, member_begins, field_numbers, case_numbers, paren_numbers, iteration_begins, iteration_numbers, premise_begins, args_numbers, def_begins, defs_numbers}
 use Rattle.st_parse_faults.specs.Nesting.{nesting_after, brackets_behind, frame_bars, part_bars, bars, may_open}
 use Rattle.st_parse_faults.specs.Signs.{signs, all_signs}
-use Rattle.st_parse_faults.specs.Limits.{signs_in, fresh, part_tallies, signs_before, tally_passes, part_passes}
+use Rattle.st_parse_faults.specs.inner.Limits.{signs_in, fresh, part_tallies, signs_before, tally_passes, part_passes}
 use Rattle.st_parse_faults.specs.inner.Numbering.{state_numbers, frame_brackets, part_brackets}
 use Rattle.st_parse_faults.specs.inner.PositionNumbers.{head_numbers, ruled_numbers, host_depth, host_numbers, slot_numbers, slot_depth, slot_begins, slot_context, position_numbers, read_numbers, brackets, counts, args_size, defs_counts, slot_counts, inner_counts, counts_in}
 use Rattle.st_parse_faults.proofs.KeptTallies.{neither}

@@ -19,7 +19,7 @@ use Rattle.st_parse_faults.specs.declared.role.Attachment.{Attachment}
 use Rattle.st_parse_faults.specs.declared.role.Attachment.TheVariants as attachment
 use Rattle.st_parse_faults.specs.declared.tally.Tally.{Tally}
 use Rattle.st_parse_faults.specs.Signs.{signs, all_signs}
-use Rattle.st_parse_faults.specs.Limits.{signs_in, fresh, part_tallies, signs_before, position_signs, tallies}
+use Rattle.st_parse_faults.specs.inner.Limits.{signs_in, fresh, part_tallies, signs_before, position_signs, tallies}
 use Rattle.st_parse_faults.specs.inner.Roles.{part_attachment, attachment_of, signs_here, moved, part_begins, begun_or, tallies_after}
 use Rattle.st_parse_faults.proofs.Tallies.{To}
 use Rattle.st_parse_faults.proofs.TallyMoves.{lowers, part_moves}

@@ -19,15 +19,15 @@ use Rattle.st_parse_automaton.specs.inner.Shapes.{shape, class_of}
 use Rattle.st_parse_automaton.proofs.View.{part_of, kind_of, frames_of, part_type, top_sort}
 use Rattle.st_parse_automaton.proofs.DefinitionView.{definitions_of, slot_sort_is}
 use Rattle.st_parse_automaton.proofs.DefinitionSimulation.{step_is}
-use Rattle.st_parse_faults.specs.LeftOut.{is_type_in, type_or_other, before_next}
+use Rattle.st_parse_faults.specs.inner.LeftOut.{is_type_in, type_or_other, before_next}
 use Rattle.st_parse_faults.specs.Nesting as nest
 use Rattle.st_parse_faults.specs.inner.Counts as counts
-use Rattle.st_parse_faults.specs.Judging as verdicts
+use Rattle.st_parse_faults.specs.inner.Judging as verdicts
 use Rattle.st_parse_faults.specs.inner.Folding as faults
 use Rattle.st_parse_faults.specs.inner.Seen as seen
 use Rattle.st_parse_faults.specs.declared.counts.Counts.{Counts}
 use Rattle.st_parse_faults.specs.declared.tally.Tally.{Tally}
-use Rattle.st_parse_faults.specs.Limits.{tallies}
+use Rattle.st_parse_faults.specs.inner.Limits.{tallies}
 use Rattle.st_parse_faults.specs.inner.Roles.{attachment_of, tallies_after}
 use Rattle.st_parse_faults.proofs.PositionTallies.{After, tallies_are}
 

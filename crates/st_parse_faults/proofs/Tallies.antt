@@ -18,7 +18,7 @@ use Rattle.st_parse_faults.specs.declared.role.Attachment.TheVariants as attachm
 use Rattle.st_parse_faults.specs.declared.role.TokenRole.TheVariants as role
 use Rattle.st_parse_faults.specs.declared.tally.Tally.{Tally}
 use Rattle.st_parse_faults.specs.Signs.{posts, is_turnstile, signs}
-use Rattle.st_parse_faults.specs.Limits.{signs_in, parts_in, elements_with, aheads, tally, fresh, held_tally, tallies_round, part_tallies}
+use Rattle.st_parse_faults.specs.inner.Limits.{signs_in, parts_in, elements_with, aheads, tally, fresh, held_tally, tallies_round, part_tallies}
 use Rattle.st_parse_faults.proofs.NumberFacts as facts
 use Rattle.st_parse_faults.proofs.NumberFacts.{NoCount, held}
 use Rattle.st_parse_faults.specs.inner.Roles.{none_open, begun, counted, moved}

@@ -26,7 +26,7 @@ use Rattle.st_parse_faults.specs.declared.role.Attachment.TheVariants as attachm
 use Rattle.st_parse_faults.specs.declared.role.TokenRole.TheVariants as role
 use Rattle.st_parse_faults.specs.declared.tally.Tally.{Tally}
 use Rattle.st_parse_faults.specs.Signs.{goes_on, is_in_name, unless, posts, signs, all_signs, ends_with_label}
-use Rattle.st_parse_faults.specs.Limits.{signs_in, parts_in, elements_in, elements_with, aheads, tally, fresh, due_tally, held_tally, tallies_round, part_tallies, with_one}
+use Rattle.st_parse_faults.specs.inner.Limits.{signs_in, parts_in, elements_in, elements_with, aheads, tally, fresh, due_tally, held_tally, tallies_round, part_tallies, with_one}
 use Rattle.st_parse_faults.specs.inner.Roles as roles
 use Rattle.st_parse_faults.specs.inner.Roles.{behind_attachment, part_attachment, counted, moved}
 use Rattle.st_parse_faults.proofs.InName.{in_name_is}

@@ -16,12 +16,5 @@ pub mod FormsLeftOut
 pub mod Faults
 -- where a token stands in the text
 pub mod Place
--- ---- what must be believed of the faults of expressions
--- the tokens that begin a form that is left out, by how those before them are read
-pub mod LeftOut
--- how many parts, elements and signs stand between the same brackets
-pub mod Limits
--- tokens are judged one after another, up to the first that breaks a rule
-pub mod Judging
 -- ---- what only proofs need
 pub mod inner

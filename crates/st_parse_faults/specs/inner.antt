@@ -1,4 +1,7 @@
 -- What the parser keeps of what is counted, for its proofs alone.
+pub mod LeftOut
+pub mod Limits
+pub mod Judging
 pub mod Counts
 pub mod Folding
 pub mod Roles

@@ -1,7 +1,7 @@
 //! What stands before a token, and tokens of forms of SpecTec that are left out.
 
 ghost use Rattle.std.specs.Prelude.{◌≡◌, reverse};
-ghost use Rattle.st_parse_faults.specs.LeftOut as spec;
+ghost use Rattle.st_parse_faults.specs.inner.LeftOut as spec;
 ghost use Rattle.st_parse_faults.specs.inner.Seen as seen;
 ghost use Rattle.st_parse_automaton.specs.inner.Readings.{progress_of, reading_of};
 

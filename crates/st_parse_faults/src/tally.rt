@@ -3,7 +3,7 @@
 ghost use Rattle.std.specs.Prelude as Prelude;
 ghost use Rattle.std.specs.Prelude.{◌≡◌, ◌∷◌, [], IfOk, reverse};
 ghost use Rattle.std.specs.List.{AllByRecursion, list_any};
-ghost use Rattle.st_parse_faults.specs.Limits as limits;
+ghost use Rattle.st_parse_faults.specs.inner.Limits as limits;
 ghost use Rattle.st_parse_faults.specs.inner.Roles as roles;
 ghost use Rattle.st_parse_automaton.specs.inner.Readings.{progress_of, reading_of};
 

@@ -8,10 +8,10 @@ use Rattle.st_num.specs.declared.token.Token.{Token}
 use Rattle.st_grammar.specs.Terminals.{Terminal, terminal}
 use Rattle.st_grammar.specs.Trees.{Trees}
 use Rattle.st_parse_faults.specs.declared.before.Before.TheVariants as before
-use Rattle.st_parse_faults.specs.Judging.{TokenVerdict, broken, limited, verdict_on, Pass, BreaksAt}
-use Rattle.st_parse_faults.specs.LeftOut.{left_out}
+use Rattle.st_parse_faults.specs.inner.Judging.{TokenVerdict, broken, limited, verdict_on, Pass, BreaksAt}
+use Rattle.st_parse_faults.specs.inner.LeftOut.{left_out}
 use Rattle.st_parse_faults.specs.Nesting.{nesting_after, part_bars, may_open}
-use Rattle.st_parse_faults.specs.Limits.{tally_passes, part_tallies}
+use Rattle.st_parse_faults.specs.inner.Limits.{tally_passes, part_tallies}
 use Rattle.st_num.specs.declared.limit.TheConstants.{HIGHEST_TREE}
 use Rattle.st_parse.specs.ExpressionReading.{State, start, step, finish}
 

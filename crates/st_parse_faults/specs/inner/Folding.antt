@@ -8,11 +8,11 @@ use Rattle.st_num.specs.declared.token.Token.{Token}
 use Rattle.st_grammar.specs.Terminals.{Terminal, terminal, declared_names}
 use Rattle.st_grammar.specs.Definitions.{Defs}
 use Rattle.st_grammar.specs.Positions.{State, start, step, finish}
-use Rattle.st_parse_faults.specs.Judging.{TokenVerdict, broken, limited, verdict_on, Pass, BreaksAt}
-use Rattle.st_parse_faults.specs.LeftOut.{before_next, left_out}
+use Rattle.st_parse_faults.specs.inner.Judging.{TokenVerdict, broken, limited, verdict_on, Pass, BreaksAt}
+use Rattle.st_parse_faults.specs.inner.LeftOut.{before_next, left_out}
 use Rattle.st_parse_faults.specs.Nesting.{nesting_after, bars, may_open}
 use Rattle.st_parse_faults.specs.declared.counts.Counts.{Counts}
-use Rattle.st_parse_faults.specs.Limits.{part_passes}
+use Rattle.st_parse_faults.specs.inner.Limits.{part_passes}
 use Rattle.st_parse_faults.specs.inner.Counts.{event, member_due, counts_after, counts_pass, no_counts}
 
 -- what is known behind some tokens: how they are read, how many brackets are open, and what is

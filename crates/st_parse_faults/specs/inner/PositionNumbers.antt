@@ -12,7 +12,7 @@ use Rattle.st_parse_faults.specs.Number as number
 use Rattle.st_parse_faults.specs.Number.{Number}
 use Rattle.st_parse_faults.specs.Numbers.{Context, context, label_entry, no_entries, open_entry, numbers}
 use Rattle.st_parse_faults.specs.DefinitionNumbers.{members_size, premises_size, defs_size, iterations_row, word_numbers, hints_numbers, alone, member_begins, field_numbers, case_numbers, paren_numbers, iteration_begins, iteration_numbers, premise_begins, premises_numbers, argument_numbers, args_numbers, def_begins, defs_numbers}
-use Rattle.st_parse_faults.specs.Limits.{signs_before}
+use Rattle.st_parse_faults.specs.inner.Limits.{signs_before}
 use Rattle.st_parse_faults.specs.inner.Numbering.{state_numbers, part_brackets}
 
 -- ---- entries

@@ -25,7 +25,7 @@ use Rattle.st_parse_faults.specs.declared.role.Shift.{Shift}
 use Rattle.st_parse_faults.specs.declared.role.Shift.TheVariants as shift_case
 use Rattle.st_parse_faults.specs.declared.tally.Tally.{Tally}
 use Rattle.st_parse_faults.specs.Signs.{is_turnstile}
-use Rattle.st_parse_faults.specs.Limits.{tally, fresh, with_one}
+use Rattle.st_parse_faults.specs.inner.Limits.{tally, fresh, with_one}
 
 -- a part begins here, and nothing of it is read yet
 abbrev pub none_open : parts.State → Bool

@@ -35,12 +35,12 @@ use Rattle.st_parse_faults.specs.declared.judge.Seen.{Seen as CodeSeen}
 use Rattle.st_parse_faults.specs.declared.judge.TokenVerdict.{TokenVerdict as Code}
 use Rattle.st_parse_faults.specs.declared.tally.Tally.{Tally}
 use Rattle.st_parse_faults.specs.declared.judge.TokenVerdict.TheVariants as variant
-use Rattle.st_parse_faults.specs.LeftOut.{type_or_other, left_out}
+use Rattle.st_parse_faults.specs.inner.LeftOut.{type_or_other, left_out}
 use Rattle.st_parse_faults.specs.declared.counts.Counts.{Counts}
 use Rattle.st_parse_faults.specs.declared.counts.Event.{Event}
 use Rattle.st_parse_faults.specs.declared.counts.Event.TheVariants.{Definition, Premise, Iteration, Closed, Nothing}
 use Rattle.st_parse_faults.specs.inner.Counts.{member_event, counts_after, counts_pass, no_counts}
-use Rattle.st_parse_faults.specs.Limits.{fresh, tally_passes}
+use Rattle.st_parse_faults.specs.inner.Limits.{fresh, tally_passes}
 use Rattle.st_parse_faults.specs.inner.Roles.{none_open, attachment_of, tallies_after, TallyKept}
 
 -- whether the part that ends so is a type

@@ -1,6 +1,6 @@
 use Rattle.std.proofs.Common.{reverse, sym, ap, ◌∙◌}
 use Rattle.std.specs.List.{list_any}
-use Rattle.st_parse_faults.specs.Limits.{tally_passes}
+use Rattle.st_parse_faults.specs.inner.Limits.{tally_passes}
 use Rattle.st_parse_faults.proofs.KeptTallies.{none_passes}
 use Rattle.st_parse_faults.proofs.tally.any_passes.Goals as goal
 

@@ -1,6 +1,6 @@
 use Rattle.std.proofs.Common.{◌≡◌, length, reverse}
 use Rattle.std.specs.List.{list_any}
-use Rattle.st_parse_faults.specs.Limits.{tally_passes}
+use Rattle.st_parse_faults.specs.inner.Limits.{tally_passes}
 use Rattle.st_parse_faults.proofs.tally.some_pass.Given as goal
 
 abbrev pub invariant-open : goal.invariant-open
