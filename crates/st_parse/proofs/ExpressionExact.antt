@@ -1,16 +1,16 @@
 -- There is at most one first fault, none in expressions without one, and a fault of the grammar is
 -- a refusal of it.
-use Rattle.std.proofs.Common.{◌≡◌, ℕ, ◌+◌, ◌≤◌, ◌<◌, inl, inr, List, [], ◌∷◌, ◌++◌, length, take, get_or, map, Bool, true, false, nat_lt, Option, Some, None, option_and_then, refl, sym, ap, subst, ◌∙◌, arith}
+use Rattle.std.proofs.Common.{◌≡◌, ℕ, ◌+◌, ◌≤◌, ◌<◌, inl, inr, List, [], ◌∷◌, ◌++◌, length, take, get_or, map, Bool, true, false, nat_lt, Option, Some, None, option_and_then, refl, sym, ap, ◌∙◌, arith}
 use Rattle.std.proofs.lemmas.List.{take_more, take_all, get_or-map, length-map}
 use Rattle.st_num.specs.declared.rule.RuleId.{RuleId}
 use Rattle.st_num.specs.declared.token.Token.{Token}
 use Rattle.st_grammar.specs.Terminals.{Terminal, terminal}
 use Rattle.st_grammar.specs.Trees.{Trees}
-use Rattle.st_parse.specs.Expressions.{ParseExpressions, terminals_of, AreExpressions, IsViable, RefusedAt}
+use Rattle.st_parse.specs.Expressions.{terminals_of, IsViable, RefusedAt}
 use Rattle.st_parse.specs.ExpressionReading.{State, start, step, finish, reading}
 use Rattle.st_parse_faults.specs.inner.Judging.{passed, broken}
 use Rattle.st_parse.specs.inner.ExpressionFolding.{Seen, opens_too_many, passes_limit, seen_after, judged, judge, verdict, nothing_seen, ended, AllPass, FirstBreak}
-use Rattle.st_parse.proofs.ExpressionReadings.{reading_append, complete, sound, viable, dead}
+use Rattle.st_parse.proofs.ExpressionReadings.{reading_append, complete, viable, dead}
 use Rattle.st_parse_faults.proofs.JudgingLemmas as judging
 use Rattle.st_parse_faults.proofs.JudgingLemmas.{OfGrammar}
 use Rattle.st_parse.proofs.ExpressionVerdicts.{verdict_reads}

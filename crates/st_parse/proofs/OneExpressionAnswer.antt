@@ -1,5 +1,5 @@
 -- Tokens have at most one answer of expressions, want of memory aside.
-use Rattle.std.proofs.Common.{◌≡◌, ℕ, ◌≤◌, ◌<◌, inl, inr, List, map, Result, Ok, Err, sym, ap, subst, ◌∙◌, arith}
+use Rattle.std.proofs.Common.{◌≡◌, ℕ, ◌≤◌, ◌<◌, inl, inr, List, map, Ok, Err, sym, ap, subst, ◌∙◌, arith}
 use Rattle.st_num.specs.declared.limit.TheConstants.{HIGHEST_TREE}
 use Rattle.st_num.specs.declared.span.Span.{Span}
 use Rattle.st_num.specs.declared.rule.RuleId.{RuleId}
@@ -8,7 +8,7 @@ use Rattle.st_num.specs.declared.fault.Fault.TheVariants.{Refused}
 use Rattle.st_el.specs.declared.expression.Exp.{Exp}
 use Rattle.st_parse_builder.specs.Heights.{highest, height}
 use Rattle.st_parse_faults.specs.Place.{place_at}
-use Rattle.st_parse.specs.ExpressionSource.{IsFile, FaultAt, HeightFault, Answers}
+use Rattle.st_parse.specs.ExpressionSource.{Answers}
 use Rattle.st_parse.proofs.ExpressionBroken.{one_broken, never_kept}
 use Rattle.st_parse.proofs.ExpressionParsing.{one_meaning}
 

@@ -12,11 +12,11 @@ pub mod Source
 
 -- which tokens are expressions, and the first that none have
 pub mod Expressions
--- how far the tokens of expressions are read
-pub mod ExpressionReading
 -- the first token of expressions that breaks a rule, and the rule
 pub mod ExpressionFaults
 -- the expressions that the tokens mean, or the first fault
 pub mod ExpressionSource
+-- how far the tokens of expressions are read, for a law
+pub mod ExpressionReading
 -- ---- what only proofs need
 pub mod inner
