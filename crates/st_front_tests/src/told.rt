@@ -3,9 +3,8 @@
 use crate::places::tell_places;
 use st_el::{Body, Def, DefNode, Exp, Hint, plain, print_el};
 use st_num::{Name, NoMemory, Num, Row, RuleId, Span, Token, TokenKind, print_number};
-use st_parse::parse;
+use st_parse::{parse, parse_exp};
 use st_parse_automaton::first_refused;
-use st_parse::parse_exp;
 use st_parse_faults::SyntaxFault;
 use st_scan::{LexFault, scan};
 use std::alloc::{AllocError, Global};
