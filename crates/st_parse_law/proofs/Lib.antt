@@ -30,3 +30,4 @@ pub mod Printing
 pub mod Law
 pub mod CountLaw
 pub mod DefLaw
+pub mod TextLaw

@@ -6,3 +6,5 @@ pub mod Written
 pub mod ReadBack
 -- the expressions that definitions hold
 pub mod DefExps
+-- the texts and names in tokens and in what they mean
+pub mod SourceTexts
