@@ -31,3 +31,5 @@ pub mod Law
 pub mod CountLaw
 pub mod DefLaw
 pub mod TextLaw
+pub mod DefTexts
+pub mod PlainTexts

@@ -62,7 +62,7 @@ parts_printable (b ∷ bs) e =
 pub parts_text : (name : List ℕ) → list_all is_name_part name ≡ true → IsText name
 parts_text name e = record { utf8 = parts_utf8 name e; printable = parts_printable name e }
 
-word_text : (w : Word) → IsText (word_spelling w)
+pub word_text : (w : Word) → IsText (word_spelling w)
 word_text w = parts_text (word_spelling w) (as_word (word_spelling w) (kind.Reserved w) refl refl)
 
 pub named_on : (name behind : List ℕ) → IsText name → IsText behind → IsText (name ++ 46 ∷ behind)
@@ -163,10 +163,10 @@ file_proper number file xs t = run_proper number file file xs t.left t.run (toke
 
 -- ---- expressions by their parts
 
-abbrev texts_in : Node-F Count Node Seg Exp → Node-F Found Found Found Found
+abbrev pub texts_in : Node-F Count Node Seg Exp → Node-F Found Found Found Found
 texts_in = map-Node Count Node Seg Exp Found Found Found Found count_texts node_texts step_texts exp_texts
 
-texts-of : (e : Exp) → exp_texts e ≡ node_texts_at (texts_in (opened e))
+pub texts-of : (e : Exp) → exp_texts e ≡ node_texts_at (texts_in (opened e))
 texts-of e =
     fold_out-Exp Found Found Found Found count_texts_at node_texts_at step_texts_at exp_texts_at e
     ∙ fold_out-Node Found Found Found Found count_texts_at node_texts_at step_texts_at exp_texts_at (out-Exp e).node
@@ -357,7 +357,7 @@ plain_kept tick_square o es fs h k = enclosed_kept tick_square o.at (only es) (o
 plain_kept tick_brace o es fs h k = enclosed_kept tick_brace o.at (only es) (only_kept es h)
 plain_kept dollar o es fs h k = enclosed_kept dollar o.at (only es) (only_kept es h)
 
-label_kept : (ls : List Terminal) → AreKnown ls → IsText (label ls)
+pub label_kept : (ls : List Terminal) → AreKnown ls → IsText (label ls)
 label_kept [] r = no_text
 label_kept (l ∷ []) r = known_name l r.0
 label_kept (k ∷ l ∷ ls) r = label_kept (l ∷ ls) r.1

@@ -1,6 +1,6 @@
 -- The texts and names that stand in tokens and in what they mean, and which of them are as values
 -- want them.
-use Rattle.std.specs.Prelude.{ℕ, List, [], ◌∷◌, ◌++◌, All, flat_map}
+use Rattle.std.specs.Prelude.{ℕ, List, [], ◌∷◌, ◌++◌, All, flat_map, Option, Some, None}
 use Rattle.st_num.specs.Texts.{IsText}
 use Rattle.st_num.specs.declared.token.Token.{Token}
 use Rattle.st_num.specs.declared.token.TokenKind.{TokenKind}
@@ -11,6 +11,18 @@ use Rattle.st_el.specs.declared.expression.Node.{Node, fold-Node}
 use Rattle.st_el.specs.declared.expression.Count.{Count, fold-Count}
 use Rattle.st_el.specs.declared.expression.Count.TheOpen.{Count-F, Node-F, Seg-F}
 use Rattle.st_el.specs.declared.expression.Seg.{Seg, fold-Seg}
+use Rattle.st_el.specs.declared.ty.Typ.{Typ, Typ-F, fold-Typ}
+use Rattle.st_el.specs.declared.ty.TypNode.TheOpen.{TypNode-F}
+use Rattle.st_el.specs.declared.notation.Notation.{Notation, Notation-F, fold-Notation}
+use Rattle.st_el.specs.declared.notation.NotNode.TheOpen.{NotNode-F}
+use Rattle.st_el.specs.declared.definition.Prem.{Prem, Prem-F, fold-Prem}
+use Rattle.st_el.specs.declared.definition.PremNode.TheOpen.{PremNode-F}
+use Rattle.st_el.specs.declared.definition.Hint.{Hint}
+use Rattle.st_el.specs.declared.definition.Body.{Body}
+use Rattle.st_el.specs.declared.definition.Body.TheVariants.{Alias, Cases, Fields}
+use Rattle.st_el.specs.declared.definition.Def.{Def}
+use Rattle.st_el.specs.declared.definition.DefNode.{DefNode}
+use Rattle.st_el.specs.declared.definition.DefNode.TheVariants.{Syntax, Var, Relation, Rule, Fun, Clause}
 
 -- Each is UTF-8 whose only characters below U+0020 are line feeds and tabs.
 abbrev pub AreTexts : List (List ℕ) → Type 0
@@ -112,3 +124,91 @@ step_texts = fold-Seg Found Found Found Found count_texts_at node_texts_at step_
 -- each text and name in the expression is as values want it
 abbrev pub HasTexts : Exp → Type 0
 HasTexts e = AreTexts (exp_texts e)
+
+-- ---- types and notations
+
+-- those of what a type is: its name, or those of its parts
+abbrev pub typ_node_texts_at : TypNode-F Found Found → Found
+typ_node_texts_at TypNode-F.Bool = []
+typ_node_texts_at TypNode-F.Nat = []
+typ_node_texts_at TypNode-F.Int = []
+typ_node_texts_at TypNode-F.Text = []
+typ_node_texts_at (TypNode-F.Name name) = name ∷ []
+typ_node_texts_at (TypNode-F.Star t) = t
+typ_node_texts_at (TypNode-F.Quest t) = t
+typ_node_texts_at (TypNode-F.Tuple ts) = all_of ts
+
+-- Its place has none.
+abbrev pub typ_texts_at : Typ-F Found Found → Found
+typ_texts_at t = t.node
+
+-- the names that stand in a type
+abbrev pub typ_texts : Typ → Found
+typ_texts = fold-Typ Found Found typ_node_texts_at typ_texts_at
+
+-- those of what a notation is: its own, and those of its parts
+abbrev pub not_node_texts_at : NotNode-F Found Found → Found
+not_node_texts_at (NotNode-F.Atom name) = name ∷ []
+not_node_texts_at (NotNode-F.Hole t) = typ_texts t
+not_node_texts_at (NotNode-F.Seq ns) = all_of ns
+not_node_texts_at (NotNode-F.Infix l m r) = l ++ r
+not_node_texts_at (NotNode-F.Bracket m n) = n
+
+-- Its place has none.
+abbrev pub notation_texts_at : Notation-F Found Found → Found
+notation_texts_at n = n.node
+
+-- the names that stand in a notation
+abbrev pub notation_texts : Notation → Found
+notation_texts = fold-Notation Found Found not_node_texts_at notation_texts_at
+
+-- ---- definitions
+
+-- those of what a premise asks: the name of a relation, and those of its parts
+abbrev pub prem_node_texts_at : PremNode-F Found Found → Found
+prem_node_texts_at (PremNode-F.If e) = exp_texts e
+prem_node_texts_at (PremNode-F.Goal relation e) = relation ∷ exp_texts e
+prem_node_texts_at PremNode-F.Otherwise = []
+prem_node_texts_at (PremNode-F.Each held count) = held ++ count_texts count
+
+-- the texts and names that stand in a premise
+abbrev pub prem_texts : Prem → Found
+prem_texts = fold-Prem Found Found prem_node_texts_at (λ p. p.node)
+
+-- those of a hint: its name, and those of its tokens
+abbrev pub hint_texts : Hint → Found
+hint_texts hint = hint.name ∷ flat_map (λ token. kind_texts token.kind) hint.words
+
+-- the name of a fragment, where there is one
+abbrev pub fragment_texts : Option (List ℕ) → Found
+fragment_texts None = []
+fragment_texts (Some name) = name ∷ []
+
+-- those of a field: its name, and those of its type
+abbrev pub field_texts : List ℕ × Typ → Found
+field_texts field = field.0 ∷ typ_texts field.1
+
+-- those of the body of a syntax
+abbrev pub body_texts : Body → Found
+body_texts (Alias t) = typ_texts t
+body_texts (Cases before cases after) = flat_map notation_texts cases
+body_texts (Fields fields) = flat_map field_texts fields
+
+-- those of what a definition is: its names, and those of its parts
+abbrev pub def_node_texts : DefNode → Found
+def_node_texts (Syntax name fragment body) = name ∷ (fragment_texts fragment ++ body_texts body)
+def_node_texts (Var name t) = name ∷ typ_texts t
+def_node_texts (Relation name notation) = name ∷ notation_texts notation
+def_node_texts (Rule relation name conclusion premises) =
+    relation ∷ name ∷ (exp_texts conclusion ++ flat_map prem_texts premises)
+def_node_texts (Fun name params result) = name ∷ (flat_map typ_texts params ++ typ_texts result)
+def_node_texts (Clause name args result premises) =
+    name ∷ (flat_map exp_texts args ++ (exp_texts result ++ flat_map prem_texts premises))
+
+-- the texts and names that stand in a definition and its hints
+abbrev pub def_texts : Def → Found
+def_texts def = flat_map hint_texts def.hints ++ def_node_texts def.node
+
+-- each text and name in the definition is as values want it
+abbrev pub DefHasTexts : Def → Type 0
+DefHasTexts def = AreTexts (def_texts def)
