@@ -1,5 +1,5 @@
 -- Of tokens with texts that values want, definitions have such texts alone.
-use Rattle.std.proofs.Common.{◌≡◌, ℕ, ◌≤◌, List, [], ◌∷◌, ◌++◌, map, flat_map, codes, decimal, Bool, true, false, Option, All, refl, sym, ap, ◌∙◌, subst, arith, rules, inl, if◌then◌else◌}
+use Rattle.std.proofs.Common.{◌≡◌, ℕ, List, [], ◌∷◌, ◌++◌, map, flat_map, decimal, Bool, true, false, Option, All, sym, ap, ◌∙◌, subst, arith, rules, inl, if◌then◌else◌}
 use Rattle.std.proofs.lemmas.List.Elements.{All-nil, All-cons, All-head, All-tail, All-push, All-append}
 use Rattle.std.proofs.lemmas.Str.{IsUtf8-append, IsUtf8-nil}
 use Rattle.st_num.specs.Texts.{IsText, IsTextByte}
@@ -15,7 +15,6 @@ use Rattle.st_num.specs.declared.token.TokenKind.TheVariants as kind
 use Rattle.st_scan.specs.Tokens.{IsInRange}
 use Rattle.st_grammar.specs.declared.sort.Leaf.{Leaf}
 use Rattle.st_grammar.specs.declared.sort.Leaf.TheVariants.{Low as low, Basic as basic, Variable as variable, Atom as atom, Number as number_leaf, Literal as literal, Function as function}
-use Rattle.st_grammar.specs.declared.sort.Bracket.{Bracket}
 use Rattle.st_grammar.specs.declared.sort.Bracket.TheVariants.{Round as round, Square as square, Brace as brace, TickRound as tick_round, TickSquare as tick_square, TickBrace as tick_brace, Dollar as dollar}
 use Rattle.st_grammar.specs.Terminals.{Terminal, leaf, dot, sign, opening, closing, other}
 use Rattle.st_grammar.specs.Grammar.{is_type}
@@ -40,24 +39,24 @@ use Rattle.st_el.specs.declared.definition.DefNode.{DefNode}
 use Rattle.st_el.specs.declared.definition.DefNode.TheVariants as def
 use Rattle.st_el.specs.Plain.{nowhere}
 use Rattle.st_parse_builder.specs.Names.{name_of}
-use Rattle.st_parse_builder.specs.Meaning.{meaning, label, mark_count, count_of}
+use Rattle.st_parse_builder.specs.Meaning.{meaning, label, count_of}
 use Rattle.st_parse_builder.specs.Notations.{typ_at, no_typ, typ_leaf, marked_node, marked_by, typ_start, typ_in_parens, typ_meaning, typ_meanings, notation_at, notation_place, no_notation, hole, notation_leaf, spelled_on, atom_on, notation_posted, tick, only_notation, notation_bracketed, notation_joined, notation_first, notation_meaning, notation_led, notation_meanings}
 use Rattle.st_parse_builder.specs.Definitions.{name_in, piece_text, id_text, fragment_name, rule_name, hint_meaning, hints_meaning, fields_meaning, cases_meaning, variant, body_meaning, prem_at, condition, opened_at, sign_count, iterated, premise_meaning, premises_meaning, params, patterns, def_at, def_meaning, defs_meaning, Parse}
-use Rattle.st_parse_law.specs.SourceTexts.{AreTexts, kind_texts, AreProper, IsProper, Found, all_of, exp_texts, count_texts, HasTexts, typ_texts, notation_texts, prem_node_texts_at, prem_texts, hint_texts, fragment_texts, field_texts, body_texts, def_node_texts, DefHasTexts}
+use Rattle.st_parse_law.specs.SourceTexts.{AreTexts, kind_texts, AreProper, Found, all_of, exp_texts, count_texts, HasTexts, typ_texts, notation_texts, prem_node_texts_at, prem_texts, hint_texts, fragment_texts, field_texts, body_texts, def_node_texts, DefHasTexts}
 use Rattle.st_parse_law.proofs.Encodings.{behind_ascii}
 use Rattle.st_parse_law.proofs.Longest.{number_parts}
 use Rattle.st_parse_law.proofs.Leaves.{number_written}
-use Rattle.st_parse_law.proofs.TextLaw.{no_text, parts_text, word_text, named_on, nowhere_text, one_text, first_text, both_texts, same_texts, IsKnown, AreKnown, known_left, known_right, all_known, named, known_name, mark_kept, count_kept, label_kept, tree_kept, trees_kept}
+use Rattle.st_parse_law.proofs.TextLaw.{empty_text, parts_text, word_text, named_on, no_texts, one_text, first_text, both_texts, same_texts, IsKnown, AreKnown, known_left, known_right, all_known, named, known_name, mark_kept, count_kept, label_kept, tree_kept, trees_kept}
 
 -- ---- lists
 
 flat_texts : {A : Type 0} (f : A → Found) (xs : List A) → All (λ x. AreTexts (f x)) xs → AreTexts (flat_map f xs)
-flat_texts f [] h = nowhere_text
+flat_texts f [] h = no_texts
 flat_texts f (x ∷ xs) h =
     both_texts (f x) (flat_map f xs) (All-head (λ y. AreTexts (f y)) x xs h) (flat_texts f xs (All-tail (λ y. AreTexts (f y)) x xs h))
 
 all_flat : {A : Type 0} (f : A → Found) (xs : List A) → All (λ x. AreTexts (f x)) xs → AreTexts (all_of (map f xs))
-all_flat f [] h = nowhere_text
+all_flat f [] h = no_texts
 all_flat f (x ∷ xs) h =
     both_texts (f x) (all_of (map f xs)) (All-head (λ y. AreTexts (f y)) x xs h) (all_flat f xs (All-tail (λ y. AreTexts (f y)) x xs h))
 
@@ -94,13 +93,13 @@ typ_name_kept : (at : Span) (name : List ℕ) → IsText name → TypHas (typ_at
 typ_name_kept at name h = same_texts _ (name ∷ []) (in_typ_name at name) (one_text name h)
 
 no_typ_kept : TypHas no_typ
-no_typ_kept = typ_name_kept nowhere [] no_text
+no_typ_kept = typ_name_kept nowhere [] empty_text
 
 typ_word_kept : (at : Span) (w : Word) → TypHas (typ_at at (typ_leaf (kind.Reserved w)))
-typ_word_kept at word.Bool = same_texts _ [] (in_typ_bool at) nowhere_text
-typ_word_kept at word.Nat = same_texts _ [] (in_typ_nat at) nowhere_text
-typ_word_kept at word.Int = same_texts _ [] (in_typ_int at) nowhere_text
-typ_word_kept at word.Text = same_texts _ [] (in_typ_text at) nowhere_text
+typ_word_kept at word.Bool = same_texts _ [] (in_typ_bool at) no_texts
+typ_word_kept at word.Nat = same_texts _ [] (in_typ_nat at) no_texts
+typ_word_kept at word.Int = same_texts _ [] (in_typ_int at) no_texts
+typ_word_kept at word.Text = same_texts _ [] (in_typ_text at) no_texts
 typ_word_kept at w = typ_name_kept at (word_spelling w) (word_text w)
 
 typ_leaf_kept : (at : Span) (k : TokenKind) → AreTexts (kind_texts k) → TypHas (typ_at at (typ_leaf k))
@@ -110,9 +109,9 @@ typ_leaf_kept at (kind.Up name) h = typ_name_kept at name (named (kind.Up name) 
 typ_leaf_kept at (kind.Mix name) h = typ_name_kept at name (named (kind.Mix name) h)
 typ_leaf_kept at (kind.Dot name) h = typ_name_kept at name (named (kind.Dot name) h)
 typ_leaf_kept at (kind.Fun name) h = typ_name_kept at name (named (kind.Fun name) h)
-typ_leaf_kept at (kind.Text content) h = typ_name_kept at [] no_text
-typ_leaf_kept at (kind.Number n) h = typ_name_kept at [] no_text
-typ_leaf_kept at (kind.Sign m) h = typ_name_kept at [] no_text
+typ_leaf_kept at (kind.Text content) h = typ_name_kept at [] empty_text
+typ_leaf_kept at (kind.Number n) h = typ_name_kept at [] empty_text
+typ_leaf_kept at (kind.Sign m) h = typ_name_kept at [] empty_text
 
 typ_star_kept : (at : Span) (t : Typ) → TypHas t → TypHas (typ_at at (typ_node.Star t))
 typ_star_kept at t h = same_texts _ (typ_texts t) (in_typ_star at t) h
@@ -283,29 +282,29 @@ joined_text xs ys h k = record { utf8 = IsUtf8-append xs ys h.utf8 k.utf8; print
 
 sign_piece : (m : Mark) → IsText (piece_text (kind.Sign m))
 sign_piece mark.Minus = record { utf8 = behind_ascii 45 [] (omega arith) IsUtf8-nil; printable = All-cons IsTextByte 45 [] (inl (omega arith)) (All-nil IsTextByte) }
-sign_piece _ = no_text
+sign_piece _ = empty_text
 
 piece_kept : (k : TokenKind) → AreTexts (kind_texts k) → IsInRange k → IsText (piece_text k)
 piece_kept (kind.Number n) h ranged = parts_text (decimal n) (number_parts (decimal n) n (number_written n ranged))
 piece_kept (kind.Sign m) h ranged = sign_piece m
-piece_kept (kind.Dot name) h ranged = named_on [] name no_text (named (kind.Dot name) h)
+piece_kept (kind.Dot name) h ranged = named_on [] name empty_text (named (kind.Dot name) h)
 piece_kept (kind.Low name) h ranged = named (kind.Low name) h
 piece_kept (kind.Up name) h ranged = named (kind.Up name) h
 piece_kept (kind.Mix name) h ranged = named (kind.Mix name) h
 piece_kept (kind.Fun name) h ranged = named (kind.Fun name) h
 piece_kept (kind.Reserved w) h ranged = word_text w
-piece_kept (kind.Text content) h ranged = no_text
+piece_kept (kind.Text content) h ranged = empty_text
 
 id_kept : (ls : List Terminal) → AreKnown ls → IsText (id_text ls)
-id_kept [] r = no_text
+id_kept [] r = empty_text
 id_kept (l ∷ ls) r = joined_text (piece_text (token_in l).kind) (id_text ls) (piece_kept (token_in l).kind r.0.0 r.0.1) (id_kept ls r.1)
 
 fragment_kept : (ls : List Terminal) → AreKnown ls → AreTexts (fragment_texts (fragment_name ls))
-fragment_kept [] r = nowhere_text
+fragment_kept [] r = no_texts
 fragment_kept (s ∷ ls) r = one_text (id_text ls) (id_kept ls r.1)
 
 rule_kept : (ls : List Terminal) → AreKnown ls → IsText (rule_name ls)
-rule_kept [] r = no_text
+rule_kept [] r = empty_text
 rule_kept (s ∷ ls) r = id_kept ls r.1
 
 -- ---- hints
@@ -314,7 +313,7 @@ abbrev HintHas : Hint → Type 0
 HintHas h = AreTexts (hint_texts h)
 
 words_kept : (ws : List Terminal) → AreKnown ws → AreTexts (flat_map (λ (x : Token). kind_texts x.kind) (map token_in ws))
-words_kept [] r = nowhere_text
+words_kept [] r = no_texts
 words_kept (l ∷ ws) r = both_texts (kind_texts (token_in l).kind) (flat_map (λ (x : Token). kind_texts x.kind) (map token_in ws)) r.0.0 (words_kept ws r.1)
 
 hint_kept : (h : HintTokens) → AreKnown (hint_text h) → HintHas (hint_meaning h)
@@ -426,7 +425,7 @@ iterated_kept os p (counted i l t) r h =
     (count_kept t (meaning t) count (tree_kept t count))
 
 premise_kept : (p : Premise) → AreKnown (premise_text p) → PremHas (premise_meaning p)
-premise_kept (default d o) r = same_texts _ [] (in_otherwise _) nowhere_text
+premise_kept (default d o) r = same_texts _ [] (in_otherwise _) no_texts
 premise_kept (given d os ls t i) r =
     let words = known_right os (ls ++ (text t ++ iterations_text i)) r.1 in
     let rest = known_right ls (text t ++ iterations_text i) words in
@@ -445,11 +444,11 @@ all_premises ps r = flat_texts prem_texts (premises_meaning ps) (premises_kept p
 -- ---- definitions
 
 patterns_kept : (a : Args) → AreKnown (args_text a) → AreTexts (flat_map exp_texts (patterns a))
-patterns_kept no_args r = nowhere_text
+patterns_kept no_args r = no_texts
 patterns_kept (args o ts c) r = flat_texts exp_texts (patterns (args o ts c)) (trees_kept ts (known_left (texts ts) (c ∷ []) r.1))
 
 params_kept : (a : Args) → AreKnown (args_text a) → AreTexts (flat_map typ_texts (params a))
-params_kept no_args r = nowhere_text
+params_kept no_args r = no_texts
 params_kept (args o ts c) r = flat_texts typ_texts (typ_meanings ts) (typs_kept ts (known_left (texts ts) (c ∷ []) r.1))
 
 made_kept : (w : Terminal) (hs : List Hint) (n : DefNode) → All HintHas hs → AreTexts (def_node_texts n) → DefHasTexts (def_at w hs n)

@@ -1,11 +1,11 @@
 -- A plain expression has the texts and names of the expression.
 use Rattle.std.proofs.Common.{◌≡◌, ℕ, List, [], ◌∷◌, ◌++◌, map, flat_map, refl, sym, ap, ap₂, ◌∙◌, subst}
-use Rattle.st_el.specs.declared.expression.Exp.{Exp, Exp-F, ind-Exp, out-Exp, roll-Exp, map-Exp, fold_out-Exp, out-roll-Exp}
-use Rattle.st_el.specs.declared.expression.Node.{Node, out-Node, roll-Node, map-Node, fold_out-Node, out-roll-Node}
-use Rattle.st_el.specs.declared.expression.Count.{Count, out-Count, roll-Count, map-Count, fold_out-Count, out-roll-Count}
+use Rattle.st_el.specs.declared.expression.Exp.{Exp, Exp-F, ind-Exp, out-Exp, roll-Exp, fold_out-Exp}
+use Rattle.st_el.specs.declared.expression.Node.{Node, roll-Node, map-Node, fold_out-Node, out-roll-Node}
+use Rattle.st_el.specs.declared.expression.Count.{Count, roll-Count, map-Count, fold_out-Count, out-roll-Count}
 use Rattle.st_el.specs.declared.expression.Count.TheOpen.{Count-F, Node-F, Seg-F}
-use Rattle.st_el.specs.declared.expression.Seg.{Seg, out-Seg, roll-Seg, map-Seg, fold_out-Seg, out-roll-Seg}
-use Rattle.st_el.specs.Plain.{nowhere, plain_exp, plain_node, plain_count, plain_seg, plain_node_at, plain_exp_at}
+use Rattle.st_el.specs.declared.expression.Seg.{Seg, roll-Seg, map-Seg, fold_out-Seg, out-roll-Seg}
+use Rattle.st_el.specs.Plain.{nowhere, plain_exp, plain_node, plain_count, plain_seg, plain_node_at}
 use Rattle.st_parse_builder.specs.Meaning.{exp}
 use Rattle.st_parse_law.specs.SourceTexts.{Found, all_of, count_texts_at, step_texts_at, node_texts_at, exp_texts_at, exp_texts, node_texts, count_texts, step_texts}
 use Rattle.st_parse_law.proofs.Plains.{plain-exp, parts_plain, plain-node, plain-count, plain-step, node-of}

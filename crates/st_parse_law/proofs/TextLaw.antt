@@ -1,5 +1,5 @@
 -- Of tokens with texts that values want, expressions have such texts alone.
-use Rattle.std.proofs.Common.{◌≡◌, ℕ, ◌≤◌, List, [], ◌∷◌, ◌++◌, map, flat_map, Bool, true, false, ◌==◌, ◌&&◌, All, refl, sym, ap, ◌∙◌, subst, arith, rules, inl, inr, nat_le, if◌then◌else◌}
+use Rattle.std.proofs.Common.{◌≡◌, ℕ, List, [], ◌∷◌, ◌++◌, map, flat_map, Bool, true, false, ◌==◌, ◌&&◌, All, refl, sym, ap, ◌∙◌, subst, arith, rules, inl, inr, nat_le, if◌then◌else◌}
 use Rattle.std.specs.List.{list_all}
 use Rattle.std.proofs.lemmas.Bool.{and_parts}
 use Rattle.std.proofs.lemmas.Bool.Decides.{nat_tests}
@@ -17,7 +17,7 @@ use Rattle.st_num.specs.declared.token.TokenKind.{TokenKind}
 use Rattle.st_num.specs.declared.token.TokenKind.TheVariants as kind
 use Rattle.st_scan.specs.Bytes.{is_name_part, is_text_byte}
 use Rattle.st_scan.specs.Answers.{IsText as IsScanned, text_in, HaveTexts}
-use Rattle.st_scan.specs.Tokens.{IsInRange, Run, Tokens}
+use Rattle.st_scan.specs.Tokens.{Run, Tokens}
 use Rattle.st_scan.proofs.Answers.{tokens_texts}
 use Rattle.st_scan.proofs.Spelled.{as_word}
 use Rattle.st_grammar.specs.declared.sort.Leaf.{Leaf}
@@ -38,8 +38,7 @@ use Rattle.st_el.specs.declared.expression.Seg.{Seg}
 use Rattle.st_el.specs.declared.expression.Seg.TheVariants as seg
 use Rattle.st_el.specs.Plain.{nowhere}
 use Rattle.st_parse_builder.specs.Names.{name_of, literal_node, leaf_node}
-use Rattle.st_parse_builder.specs.Meaning.{exp, place, first_place, nothing, joined, is_tilde, prefixed, opened, atom_name, is_atom, posted, is_star, is_plus, mark_count, count_of, only, in_parens, enclosed, label, step_at, indexed_node, is_extension, changed, meaning, led_by, meanings, field_meanings, bracketed, base, steps}
-use Rattle.st_parse.specs.Expressions.{terminals_of}
+use Rattle.st_parse_builder.specs.Meaning.{exp, place, first_place, is_tilde, opened, atom_name, is_atom, posted, is_star, is_plus, mark_count, count_of, only, in_parens, enclosed, label, step_at, indexed_node, is_extension, meaning, led_by, meanings, field_meanings, bracketed, base, steps}
 use Rattle.st_parse.specs.ExpressionSource.{ParseExps}
 use Rattle.st_parse_law.specs.SourceTexts.{AreTexts, kind_texts, IsProper, AreProper, Found, all_of, count_texts_at, step_texts_at, node_texts_at, exp_texts_at, exp_texts, node_texts, count_texts, step_texts, HasTexts}
 use Rattle.st_parse_law.proofs.Encodings.{parts_utf8, behind_ascii}
@@ -47,8 +46,8 @@ use Rattle.st_parse_law.proofs.Plains.{node-of}
 
 -- ---- texts
 
-pub no_text : IsText []
-no_text = record { utf8 = IsUtf8-nil; printable = All-nil IsTextByte }
+pub empty_text : IsText []
+empty_text = record { utf8 = IsUtf8-nil; printable = All-nil IsTextByte }
 
 part_printable : (b : ℕ) → is_name_part b ≡ true → IsTextByte b
 part_printable b e = inl (grind (arith, nat_tests))
@@ -71,11 +70,11 @@ named_on name behind h k = record {
   printable = All-append IsTextByte name (46 ∷ behind) h.printable (All-cons IsTextByte 46 behind (inl (omega arith)) k.printable);
 }
 
-pub nowhere_text : AreTexts []
-nowhere_text = All-nil IsText
+pub no_texts : AreTexts []
+no_texts = All-nil IsText
 
 pub one_text : (name : List ℕ) → IsText name → AreTexts (name ∷ [])
-one_text name h = All-cons IsText name [] h nowhere_text
+one_text name h = All-cons IsText name [] h no_texts
 
 pub first_text : (name : List ℕ) (names : List (List ℕ)) → IsText name → AreTexts names → AreTexts (name ∷ names)
 first_text name names h k = All-cons IsText name names h k
@@ -114,9 +113,9 @@ named (kind.Mix name) h = All-head IsText name [] h
 named (kind.Dot name) h = All-head IsText name [] h
 named (kind.Fun name) h = All-head IsText name [] h
 named (kind.Reserved w) h = word_text w
-named (kind.Text text) h = no_text
-named (kind.Number n) h = no_text
-named (kind.Sign m) h = no_text
+named (kind.Text text) h = empty_text
+named (kind.Number n) h = empty_text
+named (kind.Sign m) h = empty_text
 
 -- the name of a known token
 pub known_name : (l : Terminal) → IsKnown l → IsText (name_of (token_in l).kind)
@@ -148,9 +147,9 @@ scanned_kind (kind.Mix name) h = scanned_text name h
 scanned_kind (kind.Text text) h = scanned_text text h
 scanned_kind (kind.Dot name) h = scanned_text name h
 scanned_kind (kind.Fun name) h = scanned_text name h
-scanned_kind (kind.Reserved w) h = nowhere_text
-scanned_kind (kind.Number n) h = nowhere_text
-scanned_kind (kind.Sign m) h = nowhere_text
+scanned_kind (kind.Reserved w) h = no_texts
+scanned_kind (kind.Number n) h = no_texts
+scanned_kind (kind.Sign m) h = no_texts
 
 run_proper : (number : ℕ) (file rest : List ℕ) (xs : List Token) (behind : List ℕ) → Run number file rest xs behind → HaveTexts xs → AreProper xs
 run_proper number file rest [] behind r t = All-nil IsProper
@@ -177,14 +176,14 @@ kept at n l e h =
     (texts-of (exp at n) ∙ ap (λ m. node_texts_at (texts_in (out-Node m))) (node-of at n) ∙ ap (λ k. node_texts_at (texts_in k)) e) h
 
 all_texts : (es : List Exp) → All HasTexts es → AreTexts (all_of (map exp_texts es))
-all_texts [] h = nowhere_text
+all_texts [] h = no_texts
 all_texts (e ∷ es) h = both_texts (exp_texts e) (all_of (map exp_texts es)) (All-head HasTexts e es h) (all_texts es (All-tail HasTexts e es h))
 
 abbrev FieldHas : List ℕ × Exp → Type 0
 FieldHas f = IsText f.0 × HasTexts f.1
 
 field_texts : (fs : List (List ℕ × Exp)) → All FieldHas fs → AreTexts (flat_map (λ (f : List ℕ × Found). f.0 ∷ f.1) (map (λ (f : List ℕ × Exp). (f.0, exp_texts f.1)) fs))
-field_texts [] h = nowhere_text
+field_texts [] h = no_texts
 field_texts (f ∷ fs) h =
     let own = All-head FieldHas f fs h in
     both_texts (f.0 ∷ exp_texts f.1) (flat_map (λ (g : List ℕ × Found). g.0 ∷ g.1) (map (λ (g : List ℕ × Exp). (g.0, exp_texts g.1)) fs))
@@ -194,20 +193,20 @@ abbrev StepHas : Seg → Type 0
 StepHas s = AreTexts (step_texts s)
 
 all_steps : (ps : List Seg) → All StepHas ps → AreTexts (all_of (map step_texts ps))
-all_steps [] h = nowhere_text
+all_steps [] h = no_texts
 all_steps (s ∷ ps) h = both_texts (step_texts s) (all_of (map step_texts ps)) (All-head StepHas s ps h) (all_steps ps (All-tail StepHas s ps h))
 
 -- ---- forms
 
 eps_kept : (at : Span) → HasTexts (exp at node.Eps)
-eps_kept at = kept at node.Eps Node-F.Eps node.outs-Eps nowhere_text
+eps_kept at = kept at node.Eps Node-F.Eps node.outs-Eps no_texts
 
 seq_kept : (at : Span) (es : List Exp) → All HasTexts es → HasTexts (exp at (node.Seq es))
 seq_kept at es h = kept at (node.Seq es) (Node-F.Seq es) (node.outs-Seq es) (all_texts es h)
 
 word_literal : (at : Span) (w : Word) → HasTexts (exp at (literal_node (kind.Reserved w)))
-word_literal at word.True = kept at (node.Bool true) (Node-F.Bool true) (node.outs-Bool true) nowhere_text
-word_literal at word.False = kept at (node.Bool false) (Node-F.Bool false) (node.outs-Bool false) nowhere_text
+word_literal at word.True = kept at (node.Bool true) (Node-F.Bool true) (node.outs-Bool true) no_texts
+word_literal at word.False = kept at (node.Bool false) (Node-F.Bool false) (node.outs-Bool false) no_texts
 word_literal at _ = eps_kept at
 
 literal_kept : (at : Span) (k : TokenKind) → AreTexts (kind_texts k) → HasTexts (exp at (literal_node k))
@@ -235,7 +234,7 @@ leaf_kept at low kd h = name_kept at (name_of kd) (named kd h)
 leaf_kept at basic kd h = name_kept at (name_of kd) (named kd h)
 leaf_kept at variable kd h = name_kept at (name_of kd) (named kd h)
 leaf_kept at atom kd h = atom_kept at (name_of kd) (named kd h)
-leaf_kept at number_leaf kd h = kept at (node.Number _) (Node-F.Number _) (node.outs-Number _) nowhere_text
+leaf_kept at number_leaf kd h = kept at (node.Number _) (Node-F.Number _) (node.outs-Number _) no_texts
 leaf_kept at literal kd h = literal_kept at kd h
 leaf_kept at function kd h = call_kept at (name_of kd) [] (named kd h) (All-nil HasTexts)
 
@@ -243,7 +242,7 @@ leaf_kept at function kd h = call_kept at (name_of kd) [] (named kd h) (All-nil 
 
 name_in_atom : (l : Node-F Count Node Seg Exp) → AreTexts (node_texts_at (texts_in l)) → IsText (atom_name l)
 name_in_atom (Node-F.Atom name) h = All-head IsText name [] h
-name_in_atom _ h = no_text
+name_in_atom _ h = empty_text
 
 dot_kept : (b : Bool) (at : Span) (e : Exp) (behind : List ℕ) → HasTexts e → IsText behind → HasTexts (exp at (if b then node.Atom (atom_name (opened e) ++ 46 ∷ behind) else node.Dot e behind))
 dot_kept true at e behind h k =
@@ -271,9 +270,9 @@ pub in_below : (name : List ℕ) (e : Exp) → count_texts (count.Below name e) 
 in_below name e = search (rules, the_lemmas)
 
 sign_kept : (a b : Bool) → AreTexts (count_texts (if a then count.Star else if b then count.Plus else count.Quest))
-sign_kept true b = same_texts (count_texts count.Star) [] in_star nowhere_text
-sign_kept false true = same_texts (count_texts count.Plus) [] in_plus nowhere_text
-sign_kept false false = same_texts (count_texts count.Quest) [] in_quest nowhere_text
+sign_kept true b = same_texts (count_texts count.Star) [] in_star no_texts
+sign_kept false true = same_texts (count_texts count.Plus) [] in_plus no_texts
+sign_kept false false = same_texts (count_texts count.Quest) [] in_quest no_texts
 
 pub mark_kept : (m : Mark) → AreTexts (count_texts (mark_count m))
 mark_kept m = sign_kept (is_star m) (is_plus m)
@@ -358,7 +357,7 @@ plain_kept tick_brace o es fs h k = enclosed_kept tick_brace o.at (only es) (onl
 plain_kept dollar o es fs h k = enclosed_kept dollar o.at (only es) (only_kept es h)
 
 pub label_kept : (ls : List Terminal) → AreKnown ls → IsText (label ls)
-label_kept [] r = no_text
+label_kept [] r = empty_text
 label_kept (l ∷ []) r = known_name l r.0
 label_kept (k ∷ l ∷ ls) r = label_kept (l ∷ ls) r.1
 
@@ -388,12 +387,12 @@ field_step : (name : List ℕ) → IsText name → StepHas (seg.Field name)
 field_step name h = same_texts (step_texts (seg.Field name)) (name ∷ []) (in_field name) (one_text name h)
 
 step_kept : (es : List Exp) → All HasTexts es → StepHas (step_at es)
-step_kept [] h = field_step [] no_text
+step_kept [] h = field_step [] empty_text
 step_kept (i ∷ []) h = same_texts (step_texts (seg.At i)) (exp_texts i) (in_position i) (All-head HasTexts i [] h)
 step_kept (i ∷ j ∷ []) h =
     same_texts (step_texts (seg.Slice i j)) (exp_texts i ++ exp_texts j) (in_positions i j)
     (both_texts (exp_texts i) (exp_texts j) (All-head HasTexts i (j ∷ []) h) (All-head HasTexts j [] (All-tail HasTexts i (j ∷ []) h)))
-step_kept (i ∷ j ∷ g ∷ es) h = field_step [] no_text
+step_kept (i ∷ j ∷ g ∷ es) h = field_step [] empty_text
 
 change_texts : (e : Exp) (ps : List Seg) (f : Exp) → HasTexts e → All StepHas ps → HasTexts f → AreTexts ((exp_texts e ++ all_of (map step_texts ps)) ++ exp_texts f)
 change_texts e ps f h k l = both_texts (exp_texts e ++ all_of (map step_texts ps)) (exp_texts f) (both_texts (exp_texts e) (all_of (map step_texts ps)) h (all_steps ps k)) l

@@ -1,4 +1,4 @@
--- What must be believed of what is printed, in reading order.
+-- What must be believed of what is printed and of what is read, in reading order.
 
 -- tokens that are written one behind another, and which of them are apart
 pub mod Written

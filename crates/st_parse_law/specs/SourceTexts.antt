@@ -15,7 +15,7 @@ use Rattle.st_el.specs.declared.ty.Typ.{Typ, Typ-F, fold-Typ}
 use Rattle.st_el.specs.declared.ty.TypNode.TheOpen.{TypNode-F}
 use Rattle.st_el.specs.declared.notation.Notation.{Notation, Notation-F, fold-Notation}
 use Rattle.st_el.specs.declared.notation.NotNode.TheOpen.{NotNode-F}
-use Rattle.st_el.specs.declared.definition.Prem.{Prem, Prem-F, fold-Prem}
+use Rattle.st_el.specs.declared.definition.Prem.{Prem, fold-Prem}
 use Rattle.st_el.specs.declared.definition.PremNode.TheOpen.{PremNode-F}
 use Rattle.st_el.specs.declared.definition.Hint.{Hint}
 use Rattle.st_el.specs.declared.definition.Body.{Body}

@@ -1,5 +1,5 @@
-//! Reading back: what is written of tokens is scanned as these tokens, and what is printed of an
-//! expression is read as this expression.
+//! Reading back: what is written of tokens is scanned as these tokens, what is printed of an
+//! expression is read as this expression, and what is read has the texts and names of its tokens.
 //!
 //! The one idea: a token ends where it is written to end, as long as nothing stands behind it that
 //! would make it longer.
