@@ -44,7 +44,7 @@ parts_ascii (b ∷ bs) e =
     let both = and_parts (is_name_part b) (list_all is_name_part bs) e in
     IsAscii-cons b bs (part_below b both.0) (parts_ascii bs both.1)
 
-parts_utf8 : (name : List ℕ) → list_all is_name_part name ≡ true → IsUtf8 name
+pub parts_utf8 : (name : List ℕ) → list_all is_name_part name ≡ true → IsUtf8 name
 parts_utf8 name e = IsUtf8-from_ascii name (parts_ascii name e)
 
 sign_ascii : (m : Mark) → list_all is_ascii (spelling m) ≡ true
@@ -53,7 +53,7 @@ sign_ascii _ = refl
 
 -- ---- texts in their quotes
 
-behind_ascii : (b : ℕ) (bs : List ℕ) → b < 128 → IsUtf8 bs → IsUtf8 (b ∷ bs)
+pub behind_ascii : (b : ℕ) (bs : List ℕ) → b < 128 → IsUtf8 bs → IsUtf8 (b ∷ bs)
 behind_ascii b bs low u = IsUtf8-append (b ∷ []) bs (IsUtf8-from_ascii (b ∷ []) (IsAscii-cons b [] low IsAscii-nil)) u
 
 -- a byte's escape in its place

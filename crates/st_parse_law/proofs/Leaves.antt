@@ -195,7 +195,7 @@ canonical (kind.Text t) = quoted t
 canonical (kind.Fun n) = 36 ∷ n
 canonical kd = []
 
-number_written : (n : ℕ) → n < 2 ^ 128 → Spells (decimal n) (kind.Number n)
+pub number_written : (n : ℕ) → n < 2 ^ 128 → Spells (decimal n) (kind.Number n)
 number_written n h =
     let is = decimal_is_IsNumeral_wide n (omega (arith, h)) in inl (is.0, sym is.1)
 

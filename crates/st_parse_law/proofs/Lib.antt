@@ -30,3 +30,6 @@ pub mod Printing
 pub mod Law
 pub mod CountLaw
 pub mod DefLaw
+pub mod TextLaw
+pub mod DefTexts
+pub mod PlainTexts

@@ -1,4 +1,4 @@
--- What must be believed of what is printed, in reading order.
+-- What must be believed of what is printed and of what is read, in reading order.
 
 -- tokens that are written one behind another, and which of them are apart
 pub mod Written
@@ -6,3 +6,5 @@ pub mod Written
 pub mod ReadBack
 -- the expressions that definitions hold
 pub mod DefExps
+-- the texts and names in tokens and in what they mean
+pub mod SourceTexts
