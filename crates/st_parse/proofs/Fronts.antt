@@ -44,7 +44,7 @@ use Rattle.st_parse.specs.inner.DefinitionReading.{JudgesToken, TakesToken}
 use Rattle.st_parse.specs.declared.parser.DefinitionReader.{DefinitionReader}
 use Rattle.st_parse.proofs.Sources.{parsed, meant}
 use Rattle.st_parse.proofs.Opens.{opens, past_whole}
-use Rattle.st_parse.proofs.Taking.{Reads, passing, all_read, end_judged, taken_all}
+use Rattle.st_parse.proofs.Taking.{HasRead, passing, all_read, end_judged, taken_all}
 
 -- ---- fronts
 
@@ -99,7 +99,7 @@ parsed_past tokens defs p =
 
 -- ---- what is cut off
 
-found_cut : (tokens : List Token) (found : Option TokenFault) (f : TokenFault) (i : ℕ) (p : CodeSeen) (b : Progress) (old : DefinitionReader) (new : Kept) → found ≡ Some f → Judged tokens found → i ≡ end_of tokens found → Reads tokens i p old → progress_of b ≡ progress_of p.progress
+found_cut : (tokens : List Token) (found : Option TokenFault) (f : TokenFault) (i : ℕ) (p : CodeSeen) (b : Progress) (old : DefinitionReader) (new : Kept) → found ≡ Some f → Judged tokens found → i ≡ end_of tokens found → HasRead tokens i p old → progress_of b ≡ progress_of p.progress
     → ((w : Work) (vs : List Occurrence) → Keeps old.kept old.parts w → Opens (progress_of b) w vs → new.variables.past ≡ past_in w.draft.defs vs) → Found tokens found new
 found_cut tokens found f i p b old new is j e (s, v, o, r) same cut =
     let st : State = s.state in
@@ -147,7 +147,7 @@ found_all tokens h new (d, draws, defs_are, low) =
       );
     }
 
-found_whole : (tokens : List Token) (found : Option TokenFault) (i : ℕ) (p : CodeSeen) (old : DefinitionReader) (new : Kept) → found ≡ None → Judged tokens found → i ≡ length tokens → Reads tokens i p old
+found_whole : (tokens : List Token) (found : Option TokenFault) (i : ℕ) (p : CodeSeen) (old : DefinitionReader) (new : Kept) → found ≡ None → Judged tokens found → i ≡ length tokens → HasRead tokens i p old
     → ((w : Work) (defs : List Def) → Keeps old.kept old.parts w → MayClose (progress_of p.progress) w → ended_defs (progress_of p.progress) w ≡ Some defs → Tells new defs) → Found tokens found new
 found_whole tokens found i p old new is j e (s, v, o, r) tells =
     let h : AllPass tokens = subst (Judged tokens) is j in
@@ -162,7 +162,7 @@ found_whole tokens found i p old new is j e (s, v, o, r) tells =
     subst (λ q. Found tokens q new) (sym is) (found_all tokens h new (tells (state_work st) (defs_meaning h.1) r may ends))
 
 -- the end of the tokens, which may end early
-found_end : (tokens : List Token) (i : ℕ) (p : CodeSeen) (found : Option TokenFault) (old : DefinitionReader) (new : Kept) → length tokens ≤ i → Reads tokens i p old → found ≡ fault_of tokens (progress_of p.progress)
+found_end : (tokens : List Token) (i : ℕ) (p : CodeSeen) (found : Option TokenFault) (old : DefinitionReader) (new : Kept) → length tokens ≤ i → HasRead tokens i p old → found ≡ fault_of tokens (progress_of p.progress)
     → (found ≡ None → (w : Work) (defs : List Def) → Keeps old.kept old.parts w → MayClose (progress_of p.progress) w → ended_defs (progress_of p.progress) w ≡ Some defs → Tells new defs)
     → ((f : TokenFault) → found ≡ Some f → (w : Work) (vs : List Occurrence) → Keeps old.kept old.parts w → Opens (progress_of p.progress) w vs → new.variables.past ≡ past_in w.draft.defs vs) → Found tokens found new
 found_end tokens i p found old new h reads is whole cut =
@@ -170,7 +170,7 @@ found_end tokens i p found old new h reads is whole cut =
     let j = end_judged tokens i p found h (passing tokens i p old reads) is in
     go all j found refl
   where
-    go : Reads tokens (length tokens) p old → Judged tokens found × (length tokens ≡ end_of tokens found) → (o : Option TokenFault) → found ≡ o → Found tokens found new
+    go : HasRead tokens (length tokens) p old → Judged tokens found × (length tokens ≡ end_of tokens found) → (o : Option TokenFault) → found ≡ o → Found tokens found new
     go all j None e = found_whole tokens found (length tokens) p old new e j.0 refl all (whole e)
     go all j (Some f) e = found_cut tokens found f (length tokens) p p.progress old new e j.0 j.1 all refl (cut f e)
 
@@ -185,7 +185,7 @@ CutsOff last found old new =
     (f : TokenFault) → found ≡ Some f → (w : Work) (vs : List Occurrence) → Keeps old.kept old.parts w → Opens (progress_of last) w vs → new.variables.past ≡ past_in w.draft.defs vs
 
 -- what is found where the tokens end, or where one breaks a rule
-found_stop : (tokens : List Token) (names : List (List ℕ)) (k : ℕ) (p : CodeSeen) (last : Progress) (found : Option TokenFault) (old : DefinitionReader) (new : Kept) → names ≡ declared_names tokens → Reads tokens k p old → Stops JudgesToken names tokens k p last found
+found_stop : (tokens : List Token) (names : List (List ℕ)) (k : ℕ) (p : CodeSeen) (last : Progress) (found : Option TokenFault) (old : DefinitionReader) (new : Kept) → names ≡ declared_names tokens → HasRead tokens k p old → Stops JudgesToken names tokens k p last found
     → Finishes last found old new → CutsOff last found old new → Found tokens found new
 found_stop tokens names k p last found old new g reads (at_end l q e) whole cut =
     found_end tokens k p found old new (omega (arith, l)) reads (e ∙ ap (λ r. fault_of tokens (progress_of r)) q)
@@ -196,7 +196,7 @@ found_stop tokens names k p last found old new g reads (at_token x rule s e j) w
     found_cut tokens found f k p last old new e (subst (Judged tokens) (sym e) breaks) (ap (end_of tokens) (sym e)) reads j.step (cut f e)
 
 pub found_read : (tokens : List Token) (names : List (List ℕ)) (start : CodeSeen) (begun : DefinitionReader) (last : Progress) (found : Option TokenFault) (old : DefinitionReader) (new : Kept)
-    → names ≡ declared_names tokens → Reads tokens 0 start begun → Ends JudgesToken TakesToken names tokens start begun last found old
+    → names ≡ declared_names tokens → HasRead tokens 0 start begun → Ends JudgesToken TakesToken names tokens start begun last found old
     → Finishes last found old new → CutsOff last found old new → Found tokens found new
 found_read tokens names start begun last found old new g r ends whole cut =
     found_stop tokens names ends.count ends.known last found old new g (taken_all tokens names start begun g r ends.count ends.known old ends.run) ends.stops whole cut

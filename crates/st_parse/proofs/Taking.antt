@@ -40,10 +40,10 @@ use Rattle.st_parse.specs.inner.DefinitionReading.{Begins, JudgesToken, TakesTok
 use Rattle.st_parse.specs.declared.parser.DefinitionReader.{DefinitionReader}
 
 -- these tokens passed up to here, and this is kept of them
-abbrev pub Reads : List Token → ℕ → CodeSeen → DefinitionReader → Type 0
-Reads tokens k p d = (s : Seen) × (verdict tokens k ≡ passed s) × (summary s ≡ seen.summary_of p) × Keeps d.kept d.parts (state_work s.state)
+abbrev pub HasRead : List Token → ℕ → CodeSeen → DefinitionReader → Type 0
+HasRead tokens k p d = (s : Seen) × (verdict tokens k ≡ passed s) × (summary s ≡ seen.summary_of p) × Keeps d.kept d.parts (state_work s.state)
 
-pub passing : (tokens : List Token) (k : ℕ) (p : CodeSeen) (d : DefinitionReader) → Reads tokens k p d → Passes tokens k p
+pub passing : (tokens : List Token) (k : ℕ) (p : CodeSeen) (d : DefinitionReader) → HasRead tokens k p d → Passes tokens k p
 passing tokens k p d (s, e, o, r) = (s, e, o)
 
 -- the state behind the token
@@ -66,9 +66,9 @@ takes_token (Ok v) a next l x acts old new h = h
 takes_token (Err e) a next l x acts old new h = tt
 
 pub token_taken : (tokens : List Token) (names : List (List ℕ)) (i : ℕ) (x : Token) (l : TokenClass) (p : CodeSeen) (v : Code) (q : CodeSeen) (a : Advance) (acts : List Action) (old new : DefinitionReader)
-    → i < length tokens → Reads tokens i p old → x ≡ get_or tokens i x → names ≡ declared_names tokens → l ≡ class_of (terminal names x)
+    → i < length tokens → HasRead tokens i p old → x ≡ get_or tokens i x → names ≡ declared_names tokens → l ≡ class_of (terminal names x)
     → seen.verdict_of v ≡ seen.judge (seen.summary_of p) x.kind l → seen.Stands (progress_of p.progress) l x v → v ≡ code.Passed q a acts → TakesToken a q.progress l x acts old new
-    → Reads tokens (i + 1) q new
+    → HasRead tokens (i + 1) q new
 token_taken tokens names i x l p v q a acts old new h (s, e, o, r) t g k f stands c taken =
     let next = token_passes tokens names i x l p v q a acts h (s, e, o) t g k f c in
     let m : Terminal = terminal (declared_names tokens) (get_or tokens i x) in
@@ -94,18 +94,18 @@ token_taken tokens names i x l p v q a acts old new h (s, e, o, r) t g k f stand
     (next.0, next.1, next.2, taken (state_work s.state) (state_work next.0.state) r may worked)
 
 -- the tokens that one after another passed and were taken
-pub taken_all : (tokens : List Token) (names : List (List ℕ)) (start : CodeSeen) (old : DefinitionReader) → names ≡ declared_names tokens → Reads tokens 0 start old
-    → (k : ℕ) (known : CodeSeen) (new : DefinitionReader) → Runs JudgesToken TakesToken names tokens start old k known new → Reads tokens k known new
+pub taken_all : (tokens : List Token) (names : List (List ℕ)) (start : CodeSeen) (old : DefinitionReader) → names ≡ declared_names tokens → HasRead tokens 0 start old
+    → (k : ℕ) (known : CodeSeen) (new : DefinitionReader) → Runs JudgesToken TakesToken names tokens start old k known new → HasRead tokens k known new
 taken_all tokens names start old g r k known new (none i e f) =
-    subst (Reads tokens k known) (sym f) (subst (λ s. Reads tokens k s old) (sym e) (subst (λ n. Reads tokens n start old) (sym i) r))
+    subst (HasRead tokens k known) (sym f) (subst (λ s. HasRead tokens k s old) (sym e) (subst (λ n. HasRead tokens n start old) (sym i) r))
 taken_all tokens names start old g r k known new (more {k = j} {known = here} {kept = kept} x run i s n) =
-    subst (λ m. Reads tokens m known new) (sym i)
+    subst (λ m. HasRead tokens m known new) (sym i)
     (token_taken tokens names j x (class_of (terminal names x)) here (code.Passed known n.advance n.added) known n.advance n.added kept new
     (slice_get_within tokens j x s) (taken_all tokens names start old g r j here kept run) (sym (get_or_from_slice_get tokens j x x s)) g refl n.judged.value n.judged.step refl n.taken)
 
 -- ---- the end of the tokens
 
-pub all_read : (tokens : List Token) (i : ℕ) (p : CodeSeen) (d : DefinitionReader) → length tokens ≤ i → Reads tokens i p d → Reads tokens (length tokens) p d
+pub all_read : (tokens : List Token) (i : ℕ) (p : CodeSeen) (d : DefinitionReader) → length tokens ≤ i → HasRead tokens i p d → HasRead tokens (length tokens) p d
 all_read tokens i p d h (s, e, o, r) = (s, sym (judging.all_tokens Seen (judge (declared_names tokens)) nothing_seen tokens i h) ∙ e, o, r)
 
 pub end_judged : (tokens : List Token) (i : ℕ) (p : CodeSeen) (found : Option TokenFault) → length tokens ≤ i → Passes tokens i p → found ≡ fault_of tokens (progress_of p.progress) → Judged tokens found × (length tokens ≡ end_of tokens found)

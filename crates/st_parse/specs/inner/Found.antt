@@ -19,7 +19,7 @@ end_of tokens None = length tokens
 end_of tokens (Some f) = f.token
 
 -- The first of these definitions that is too high is known, and where there is none, their trees.
-pub record Built (k : Kept) (defs : List Def) : Type 0 where
+pub record KeepsDefinitions (k : Kept) (defs : List Def) : Type 0 where
   pub tall : k.tall ≡ first_that too_tall defs
   pub trees : k.tall ≡ None → k.draft.defs ≡ defs
 
@@ -27,7 +27,7 @@ pub record Built (k : Kept) (defs : List Def) : Type 0 where
 abbrev pub IsBuilt : List Token → Kept → Type 0
 IsBuilt tokens k =
     (defs : List Def) × IsParsed tokens defs × (first_that variable_past defs ≡ k.variables.past)
-    × Built k defs
+    × KeepsDefinitions k defs
 
 -- What is kept of the tokens before the first fault of a token, where that is this one.
 pub record Found (tokens : List Token) (found : Option TokenFault) (k : Kept) : Type 0 where

@@ -25,7 +25,7 @@ abbrev pub Taking : Type 0 → Type 1
 Taking R = Advance → Progress → TokenClass → Token → List Action → R → R → Type 0
 
 -- A token passes where this is known, and is taken.
-pub record Reads {R : Type 0} (Judges : Judging) (Takes : Taking R) (l : TokenClass) (x : Token)
+pub record ReadsToken {R : Type 0} (Judges : Judging) (Takes : Taking R) (l : TokenClass) (x : Token)
     (known next : Seen) (old new : R) : Type 0 where
   pub advance : Advance
   pub added : List Action
@@ -40,7 +40,7 @@ pub data Runs {R : Type 0} (Judges : Judging) (Takes : Taking R) (names : List (
   more : {k all : ℕ} {known next : Seen} {kept new : R} (x : Token)
       → Runs Judges Takes names tokens start old k known kept → all ≡ k + 1
       → slice_get tokens k ≡ Some x
-      → Reads Judges Takes (class_of (terminal names x)) x known next kept new
+      → ReadsToken Judges Takes (class_of (terminal names x)) x known next kept new
       → Runs Judges Takes names tokens start old all next new
 
 -- the fault of tokens that end too early
