@@ -1,4 +1,5 @@
 pub mod Tables
+pub mod FirstBytes
 pub mod Texts
 pub mod Spelled
 pub mod Runs

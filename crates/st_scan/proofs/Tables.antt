@@ -1,6 +1,6 @@
 -- The tables of signs and words: each has all of them, and the longest signs come first.
-use Rattle.std.proofs.Common.{◌≡◌, ℕ, ◌≤◌, ◌<◌, List, ◌++◌, length, get_or, drop, Bool, true, refl, sym, ap, ◌∙◌, if◌then◌else◌, arith, ◌⊎◌, inl, inr, ◌==◌}
-use Rattle.std.proofs.lemmas.Bool.{eqb-true, agree_below_at, cases_lt}
+use Rattle.std.proofs.Common.{◌≡◌, ℕ, ◌≤◌, ◌<◌, List, ◌++◌, length, get_or, drop, Bool, true, false, refl, sym, ap, ◌∙◌, if◌then◌else◌, arith, ◌⊎◌, inl, inr, ◌==◌}
+use Rattle.std.proofs.lemmas.Bool.{eqb-true, agree_below_at, cases_lt, false≢true}
 use Rattle.std.proofs.lemmas.Bool.Decides.{nat_tests, Decides-eqb}
 use Rattle.std.proofs.lemmas.Slice.Eq.{starts_is}
 use Rattle.std.proofs.Math.Dec.{ltb, eqb}
@@ -132,3 +132,7 @@ sign_found bytes text i r written is here before = record {
     no_longer : (other : Mark) (more : List ℕ) → bytes ≡ spelling other ++ more → (sign_place other < i) ⊎ (i ≤ sign_place other) → length (spelling other) ≤ length (spelling (get_or SIGNS i Turnstile))
     no_longer other more e (inl h) = absurd (before (sign_place other) more h (e ∙ ap (λ m. spelling m ++ more) (sym (sign_there other))))
     no_longer other more e (inr h) = signs_fall other i h
+
+-- a sign that was looked for and is not there
+pub sign_absent : (bytes text : List ℕ) (m : Mark) (r : Bool) → text ≡ spelling m → r ≡ starts_with eqb bytes text → r ≡ false → (rest : List ℕ) → ¬ (bytes ≡ spelling m ++ rest)
+sign_absent bytes text m r written is gone rest e = false≢true (sym gone ∙ (starts_is Decides-eqb bytes text r is).1 rest (e ∙ ap (λ t. t ++ rest) (sym written)))

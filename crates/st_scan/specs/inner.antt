@@ -3,3 +3,4 @@ pub mod Steps
 pub mod Readings
 pub mod TextPieces
 pub mod NumberFronts
+pub mod FirstBytes

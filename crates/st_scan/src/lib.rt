@@ -7,6 +7,7 @@
 //! `specs/Faults.antt`. The rules are in `docs/language.md`, "Tokens".
 #![tactic(auto)]
 
+mod first_bytes;
 mod gap;
 mod line_column;
 mod name;

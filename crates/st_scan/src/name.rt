@@ -6,6 +6,7 @@ ghost use Rattle.st_scan.specs.Bytes.{is_lower, is_letter, is_name_part};
 ghost use Rattle.st_scan.specs.Spelling.{Spells, is_name, begins_lower, has_lower};
 
 use crate::TokenKind;
+use crate::first_bytes::FirstBytes;
 use crate::word::word_of;
 use st_num::{Name, NoMemory};
 use std::alloc::Global;
@@ -64,11 +65,15 @@ pub(crate) fn name_front(bytes: &[u8]) -> &[u8]
 }
 
 /// The token that a name alone is.
-pub(crate) fn kind_of_name(alloc: Global, name: &[u8]) -> Result<TokenKind, NoMemory>
+pub(crate) fn kind_of_name(
+    alloc: Global,
+    first_bytes: &FirstBytes,
+    name: &[u8],
+) -> Result<TokenKind, NoMemory>
     requires { IsTrue (is_name name.now) }
     ensures { IfOk result (λ kind. Spells name.now kind) }
 {
-    if let Some(word) = word_of(name) {
+    if let Some(word) = word_of(first_bytes, name) {
         return Ok(TokenKind::Reserved(word));
     }
     let copy = Name::from_slice(alloc, name)?;

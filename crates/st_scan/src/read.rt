@@ -6,6 +6,7 @@ ghost use Rattle.st_scan.specs.inner.Readings.{IsReading, Stops, begins_letter, 
 ghost use Rattle.st_scan.specs.declared.read.Stop.TheVariants.{Memory};
 
 use crate::TokenKind;
+use crate::first_bytes::FirstBytes;
 use crate::gap::opens_comment;
 use crate::name::{begins_lower, is_letter, kind_of_name, name_front};
 use crate::number::read_number;
@@ -103,13 +104,13 @@ fn begins_fun(bytes: &[u8]) -> bool
 }
 
 /// The name at the front, which begins with a letter.
-fn read_name(alloc: Global, bytes: &[u8]) -> Result<Reading, NoMemory>
+fn read_name(alloc: Global, first_bytes: &FirstBytes, bytes: &[u8]) -> Result<Reading, NoMemory>
     requires { IsTrue (begins_letter bytes.now) }
     ensures { IfOk result (λ reading. IsReading bytes.now reading) }
 {
     let name = name_front(bytes);
     Ok(Reading {
-        kind: kind_of_name(alloc, name)?,
+        kind: kind_of_name(alloc, first_bytes, name)?,
         length: name.len(),
     })
 }
@@ -139,13 +140,13 @@ fn read_fun(alloc: Global, bytes: &[u8]) -> Result<Reading, NoMemory>
 }
 
 /// The sign at the front, where nothing but a sign can stand.
-fn read_sign(bytes: &[u8]) -> Result<Reading, Stop>
+fn read_sign(first_bytes: &FirstBytes, bytes: &[u8]) -> Result<Reading, Stop>
     requires { BeginsSign bytes.now }
     ensures { MatchResult result
         (λ reading. IsReading bytes.now reading)
         (λ stop. Stops bytes.now stop) }
 {
-    match sign_at(bytes) {
+    match sign_at(first_bytes, bytes) {
         Some(mark) => Ok(Reading {
             kind: TokenKind::Sign(mark),
             length: mark.spelling().len(),
@@ -158,7 +159,11 @@ fn read_sign(bytes: &[u8]) -> Result<Reading, Stop>
 }
 
 /// The token at the front of what stands behind blanks and closed comments.
-pub(crate) fn read_token(alloc: Global, bytes: &[u8]) -> Result<Reading, Stop>
+pub(crate) fn read_token(
+    alloc: Global,
+    first_bytes: &FirstBytes,
+    bytes: &[u8],
+) -> Result<Reading, Stop>
     requires { 0 < length bytes.now }
     ensures { MatchResult result
         (λ reading. IsReading bytes.now reading)
@@ -170,7 +175,7 @@ pub(crate) fn read_token(alloc: Global, bytes: &[u8]) -> Result<Reading, Stop>
             rule: RuleId::L2,
         })
     } else if begins_letter(bytes) {
-        Ok(read_name(alloc, bytes)?)
+        Ok(read_name(alloc, first_bytes, bytes)?)
     } else if begins_digit(bytes) {
         read_number(bytes)
     } else if begins_quote(bytes) {
@@ -180,6 +185,6 @@ pub(crate) fn read_token(alloc: Global, bytes: &[u8]) -> Result<Reading, Stop>
     } else if begins_fun(bytes) {
         Ok(read_fun(alloc, bytes)?)
     } else {
-        read_sign(bytes)
+        read_sign(first_bytes, bytes)
     }
 }

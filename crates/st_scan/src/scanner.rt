@@ -7,6 +7,7 @@ ghost use Rattle.st_scan.specs.Answers.{HaveTexts, IsOnlyList, TellsFirst, Tells
 ghost use Rattle.st_num.specs.declared.fault.Fault.TheVariants.{Refused};
 ghost use Rattle.st_scan.specs.inner.Steps.{IsAt, IsNext, StopsNext, ReadsAll, StopsFile, IsUtf8Length};
 
+use crate::first_bytes::FirstBytes;
 use crate::gap::skip_gap;
 use crate::line_column::LineColumn;
 use crate::read::{Stop, read_token};
@@ -25,6 +26,7 @@ struct Step<'a> {
 /// The next token of what is left of a file, or nothing where only blanks and comments are left.
 fn read_next<'a>(
     alloc: Global,
+    first_bytes: &FirstBytes,
     file: u16,
     rest: &'a [u8],
     place: LineColumn,
@@ -41,7 +43,7 @@ fn read_next<'a>(
     if here.is_empty() {
         return Ok(None);
     }
-    match read_token(alloc, here) {
+    match read_token(alloc, first_bytes, here) {
         Ok(reading) => Ok(Some(Step {
             token: Token {
                 at: place.span(file),
@@ -62,11 +64,12 @@ fn read_tokens(alloc: Global, file: u16, bytes: &[u8]) -> Result<Row<Token>, Sto
         (λ tokens. ReadsAll file bytes.now tokens)
         (λ stop. StopsFile file bytes.now stop) }
 {
+    let first_bytes = FirstBytes::new();
     let mut tokens = Row::new(alloc);
     let mut rest = bytes;
     let mut place = LineColumn::start();
     'tokens: loop {
-        let next = match read_next(alloc, file, rest, place) {
+        let next = match read_next(alloc, &first_bytes, file, rest, place) {
             Ok(next) => next,
             Err(stop) => return Err(stop.farther(bytes.len() - rest.len())),
         };

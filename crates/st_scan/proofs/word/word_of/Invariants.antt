@@ -5,5 +5,5 @@ use Rattle.st_num.specs.declared.word.Word.TheVariants.{Syntax}
 use Rattle.st_scan.proofs.word.word_of.Given as goal
 
 -- no word so far is spelled so
-abbrev pub invariant-loop-word : goal.invariant-loop-word
-invariant-loop-word l = (k : ℕ) → k < l.word-index → ¬ (l.name ≡ word_spelling (get_or WORDS k Syntax))
+abbrev pub invariant-loop-at : goal.invariant-loop-at
+invariant-loop-at l = (k : ℕ) → k < l.at → ¬ (l.name ≡ word_spelling (get_or WORDS k Syntax))
