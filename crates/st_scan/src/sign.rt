@@ -10,10 +10,10 @@ use st_num::Mark;
 pub(crate) fn sign_at(first_bytes: &FirstBytes, bytes: &[u8]) -> Option<Mark>
     ensures { MatchOption result (NoSign bytes.now) (λ mark. LongestSign bytes.now mark) }
 {
-    let first = bytes.first()?;
+    let first = *bytes.first()?;
     for (at, byte) in first_bytes.signs.iter().enumerate() {
         // Few signs begin with the same byte, and to compare bytes is quick.
-        if *byte == *first && bytes.starts_with(Mark::ALL[at].spelling().as_bytes()) {
+        if *byte == first && bytes.starts_with(Mark::ALL[at].spelling().as_bytes()) {
             return Some(Mark::ALL[at]);
         }
     }

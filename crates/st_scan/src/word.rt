@@ -13,10 +13,10 @@ pub(crate) fn word_of(first_bytes: &FirstBytes, name: &[u8]) -> Option<Word>
         (¬ (IsReserved name.now))
         (λ word. name.now ≡ word_spelling word) }
 {
-    let first = name.first()?;
+    let first = *name.first()?;
     for (at, byte) in first_bytes.words.iter().enumerate() {
         // Few words begin with the same byte, and to compare bytes is quick.
-        if *byte == *first && Word::ALL[at].spelling().as_bytes() == name {
+        if *byte == first && Word::ALL[at].spelling().as_bytes() == name {
             return Some(Word::ALL[at]);
         }
     }

@@ -16,7 +16,7 @@ loop-at-preserved c = λ k below.
     let Absent : ℕ → Type 0 = λ j. ¬ (c.args.name.now ≡ word_spelling (get_or WORDS j Syntax)) in
     let here : Absent c.loop-at.at = elim c.else-byte-first.branch [
       | else-byte-first-via-then-byte-first+else-eq w ↦ λ e. false≢true (sym w.if-eq.false ∙ (slice_eq-Decides Decides-eqb w.as_bytes.result.now c.args.name.now _ w.eq.ensures).1 (w.as_bytes.ensures.value ∙ w.spelling.ensures ∙ sym e))
-      | else-byte-first-via-else-byte-first w ↦ word_other c.args.first_bytes.now.words c.args.name.now c.loop-at.at c.in_ok-first.first.now c.args.first_bytes.now.of_words c.loop-at-test.true w.if-byte-first.false (c.in_ok-first.ensures.item.3.1 0)
+      | else-byte-first-via-else-byte-first w ↦ word_other c.args.first_bytes.now.words c.args.name.now c.loop-at.at c.in_ok-first.field-0.now c.args.first_bytes.now.of_words c.loop-at-test.true w.if-byte-first.false (c.in_ok-first.ensures.item.3.1 0)
     ] in
     below_more Absent c.loop-at.at c.loop-at.invariant here k below
 
