@@ -44,9 +44,9 @@ pub sign_elsewhere : (bytes rest : List ℕ) (m : Mark) → first_byte (spelling
 sign_elsewhere bytes rest m other e = other (sym (sign_front m rest) ∙ ap first_byte (sym e))
 
 -- the sign at this place of the table begins with another byte
-pub sign_other : (signs bytes : List ℕ) (i b : ℕ) → signs ≡ sign_bytes → i < 47 → get_or signs i 0 ≢ b → b ≡ first_byte bytes → (rest : List ℕ) → ¬ (bytes ≡ spelling (get_or SIGNS i Turnstile) ++ rest)
-sign_other signs bytes i b are below differs is rest = sign_elsewhere bytes rest (get_or SIGNS i Turnstile) (λ e. differs (ap (λ u. get_or u i 0) are ∙ sign_byte i below ∙ e ∙ sym is))
+pub sign_other : (signs bytes : List ℕ) (i b : ℕ) → signs ≡ sign_bytes → i < 47 → get_or signs i 0 ≢ b → first_byte bytes ≡ b → (rest : List ℕ) → ¬ (bytes ≡ spelling (get_or SIGNS i Turnstile) ++ rest)
+sign_other signs bytes i b are below differs is rest = sign_elsewhere bytes rest (get_or SIGNS i Turnstile) (λ e. differs (ap (λ u. get_or u i 0) are ∙ sign_byte i below ∙ e ∙ is))
 
 -- the word at this place of the table begins with another byte
-pub word_other : (words name : List ℕ) (i b : ℕ) → words ≡ word_bytes → i < 18 → get_or words i 0 ≢ b → b ≡ first_byte name → ¬ (name ≡ word_spelling (get_or WORDS i Syntax))
-word_other words name i b are below differs is e = differs (ap (λ u. get_or u i 0) are ∙ word_byte i below ∙ sym (ap first_byte e) ∙ sym is)
+pub word_other : (words name : List ℕ) (i b : ℕ) → words ≡ word_bytes → i < 18 → get_or words i 0 ≢ b → first_byte name ≡ b → ¬ (name ≡ word_spelling (get_or WORDS i Syntax))
+word_other words name i b are below differs is e = differs (ap (λ u. get_or u i 0) are ∙ word_byte i below ∙ sym (ap first_byte e) ∙ is)

@@ -1,4 +1,5 @@
 use Rattle.std.proofs.Common.{◌≡◌, ◌<◌, ◌++◌, List, ℕ, get_or, sym, ap, ◌∙◌, arith}
+use Rattle.std.proofs.lemmas.Option.{get_or_from_slice_get}
 use borrow.Author.Count.{below_more}
 use Rattle.st_num.specs.Signs.{spelling}
 use Rattle.st_num.specs.declared.mark.Mark.TheVariants.{Turnstile}
@@ -17,7 +18,7 @@ loop-at-preserved c = λ k rest below.
     let Absent : ℕ → Type 0 = λ j. (more : List ℕ) → ¬ (bytes ≡ spelling (get_or SIGNS j Turnstile) ++ more) in
     let here : Absent c.loop-at.at = elim c.else-byte-first.branch [
       | else-byte-first-via-then-byte-first+else-starts_with w ↦ sign_absent bytes w.as_bytes.result.now (get_or SIGNS c.loop-at.at Turnstile) _ (w.as_bytes.ensures.value ∙ w.spelling.ensures) w.starts_with.ensures.value w.if-starts_with.false
-      | else-byte-first-via-else-byte-first w ↦ sign_other c.args.first_bytes.now.signs bytes c.loop-at.at c.in_ok-first.field-0.now c.args.first_bytes.now.of_signs c.loop-at-test.true w.if-byte-first.false (c.in_ok-first.ensures.item.3.1 0)
+      | else-byte-first-via-else-byte-first w ↦ sign_other c.args.first_bytes.now.signs bytes c.loop-at.at c.in_ok-first.field-0.now c.args.first_bytes.now.of_signs c.loop-at-test.true w.if-byte-first.false (get_or_from_slice_get bytes 0 c.in_ok-first.field-0.now 0 (sym c.in_ok-first.ensures.value))
     ] in
     below_more Absent c.loop-at.at (λ j before more. c.loop-at.invariant j more before) here k below rest
 
