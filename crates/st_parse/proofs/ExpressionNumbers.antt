@@ -25,7 +25,7 @@ use Rattle.st_parse_faults.specs.inner.Judging.{passed, broken, limited, judge_a
 use Rattle.st_parse_faults.specs.Number.{Number, too_deep, too_many}
 use Rattle.st_parse_faults.specs.Numbers.{Context, context, no_entries, numbers}
 use Rattle.st_parse_faults.specs.DefinitionNumbers.{alone}
-use Rattle.st_parse_faults.specs.Faults.{passes_limit, limit_rule, KeepsLimits}
+use Rattle.st_parse_faults.specs.Faults.{passes_limit, limit_rule, NonePasses}
 use Rattle.st_parse_faults.specs.inner.Numbering.{state_numbers, frame_brackets, part_brackets}
 use Rattle.st_parse_faults.proofs.KeptTallies.{neither}
 use Rattle.st_parse_faults.proofs.NumberFacts.{or_false}
@@ -191,15 +191,15 @@ finishes st ts h e = go (part.finish st.here) refl e
 below : (a b : ℕ) → nat_lt a b ≡ false → b ≤ a
 below a b e = grind arith
 
-front_clear : (xs ys : List (List Number)) → KeepsLimits (xs ++ ys) → KeepsLimits xs
+front_clear : (xs ys : List (List Number)) → NonePasses (xs ++ ys) → NonePasses xs
 front_clear xs ys e = (neither (list_any passes_limit xs) (list_any passes_limit ys) (sym (list_any-append passes_limit xs ys) ∙ e)).0
 
-entry_clear : (xs : List (List Number)) (e : List Number) → KeepsLimits (xs ++ e ∷ []) → (list_any too_deep e ≡ false) × (list_any too_many e ≡ false)
+entry_clear : (xs : List (List Number)) (e : List Number) → NonePasses (xs ++ e ∷ []) → (list_any too_deep e ≡ false) × (list_any too_many e ≡ false)
 entry_clear xs e f =
     let last = (neither (list_any passes_limit xs) (passes_limit e || false) (sym (list_any-append passes_limit xs (e ∷ [])) ∙ f)).1 in
     neither (list_any too_deep e) (list_any too_many e) (sym (or_false (passes_limit e)) ∙ last)
 
-more_clear : (xs : List (List Number)) (e : List Number) → KeepsLimits xs → list_any too_deep e ≡ false → list_any too_many e ≡ false → KeepsLimits (xs ++ e ∷ [])
+more_clear : (xs : List (List Number)) (e : List Number) → NonePasses xs → list_any too_deep e ≡ false → list_any too_many e ≡ false → NonePasses (xs ++ e ∷ [])
 more_clear xs e f d m =
     list_any-append passes_limit xs (e ∷ [])
     ∙ ap (λ v. v || (passes_limit e || false)) f
@@ -273,7 +273,7 @@ pub record Seeing (seen : Seen) : Type 0 where
   pub nests : seen.nesting ≡ brackets seen.state
   pub low : passes seen.state ≡ false
   pub shallow : brackets seen.state + part_bars seen.state.here ≤ HIGHEST_TREE
-  pub clear : KeepsLimits (read_numbers seen.state)
+  pub clear : NonePasses (read_numbers seen.state)
 
 nothing_is : Seeing nothing_seen
 nothing_is = record { held = start_held; nests = refl; low = refl; shallow = omega arith; clear = refl }
@@ -323,7 +323,7 @@ module _ (names : List (List ℕ)) where
           by false d false m g = later (seen_after seen l next) (seeing_next seen l next q i s d m) g
 
   -- what is read and passes no limit is passed
-  pub passing : (xs : List Token) (seen : Seen) (st : State) → Seeing seen → reading seen.state (map (terminal names) xs) ≡ Some st → KeepsLimits (read_numbers st) → (last : Seen) × (judge_all (judge names) (passed seen) xs ≡ passed last)
+  pub passing : (xs : List Token) (seen : Seen) (st : State) → Seeing seen → reading seen.state (map (terminal names) xs) ≡ Some st → NonePasses (read_numbers st) → (last : Seen) × (judge_all (judge names) (passed seen) xs ≡ passed last)
   passing [] seen st i e c = (seen, refl)
   passing (x ∷ xs) seen st i e c = go (step seen.state (terminal names x)) (steps seen.state (terminal names x) i.held) (held_next seen.state (terminal names x) i.held) e (λ mid j f. passing xs mid st j f c)
     where

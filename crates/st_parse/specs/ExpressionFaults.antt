@@ -17,7 +17,7 @@ use Rattle.st_parse_faults.specs.Nesting.{brackets_behind}
 use Rattle.st_parse_faults.specs.Number.{Number}
 use Rattle.st_parse_faults.specs.Numbers.{no_entries, numbers}
 use Rattle.st_parse_faults.specs.DefinitionNumbers.{alone}
-use Rattle.st_parse_faults.specs.Faults.{limit_rule, KeepsLimits}
+use Rattle.st_parse_faults.specs.Faults.{limit_rule, NonePasses}
 use Rattle.st_parse.specs.Expressions.{ParseExpressions, terminals_of, RefusedAt}
 
 -- ---- numbers
@@ -37,7 +37,7 @@ expressions_numbers (more ts pre t) =
 abbrev pub Faultless : List (List ℕ) → List Token → Type 0
 Faultless names tokens =
     (ts : Trees) × ParseExpressions (terminals_of names tokens) ts
-    × KeepsLimits (expressions_numbers ts)
+    × NonePasses (expressions_numbers ts)
 
 -- ---- fronts
 
@@ -51,7 +51,7 @@ pub record BeginWith (names : List (List ℕ)) (tokens : List Token) (k : ℕ) (
 -- Expressions begin with the first k tokens, and none of these passes a limit.
 abbrev pub FrontKept : List (List ℕ) → List Token → ℕ → Type 0
 FrontKept names tokens k =
-    (ts : Trees) × BeginWith names tokens k ts × KeepsLimits (take k (expressions_numbers ts))
+    (ts : Trees) × BeginWith names tokens k ts × NonePasses (take k (expressions_numbers ts))
 
 -- ---- forms that are left out of the grammar
 

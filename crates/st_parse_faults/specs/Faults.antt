@@ -24,13 +24,13 @@ limit_rule e =
     if list_any too_deep e then Some S2 else if list_any too_many e then Some S3 else None
 
 -- No token of these passes a limit.
-abbrev pub KeepsLimits : List (List Number) → Type 0
-KeepsLimits es = list_any passes_limit es ≡ false
+abbrev pub NonePasses : List (List Number) → Type 0
+NonePasses es = list_any passes_limit es ≡ false
 
 -- No token has a fault: the tokens are definitions, and none passes a limit.
 abbrev pub Faultless : List Token → Type 0
 Faultless tokens =
-    (ds : Defs) × ParseDefs (terminals_of tokens) ds × KeepsLimits (defs_numbers ds)
+    (ds : Defs) × ParseDefs (terminals_of tokens) ds × NonePasses (defs_numbers ds)
 
 -- ---- fronts
 
@@ -43,7 +43,7 @@ pub record BeginWith (tokens : List Token) (k : ℕ) (ds : Defs) : Type 0 where
 -- Definitions begin with the first k tokens, and none of these passes a limit.
 abbrev pub FrontKept : List Token → ℕ → Type 0
 FrontKept tokens k =
-    (ds : Defs) × BeginWith tokens k ds × KeepsLimits (take k (defs_numbers ds))
+    (ds : Defs) × BeginWith tokens k ds × NonePasses (take k (defs_numbers ds))
 
 -- ---- faults
 
