@@ -13,7 +13,15 @@ pub mod NumberFacts
 pub mod NumberBegins
 pub mod NumberSteps
 pub mod PositionNumberFacts
+pub mod NumberedSteps
+pub mod DefinitionNumberSteps
+pub mod PremiseNumberSteps
+pub mod PartNumberSteps
 pub mod PositionNumberSteps
 pub mod NumberVerdicts
+pub mod LeftOutBefore
+pub mod UntakenSigns
+pub mod LeftOutWords
+pub mod LeftOutSigns
 pub mod LeftOutForms
 pub mod BrokenFirst

@@ -30,7 +30,8 @@ use Rattle.st_parse_faults.specs.Faults.{passes_limit, limit_rule, NonePasses, F
 use Rattle.st_parse_faults.specs.inner.PositionNumbers.{read_numbers, brackets, counts_in}
 use Rattle.st_parse_faults.proofs.KeptTallies.{neither}
 use Rattle.st_parse_faults.proofs.NumberFacts.{or_false}
-use Rattle.st_parse_faults.proofs.PositionNumberSteps.{front_of, Ready, Step, StepTo, steps, finishes}
+use Rattle.st_parse_faults.proofs.NumberedSteps.{front_of, Ready, Step, StepTo}
+use Rattle.st_parse_faults.proofs.PositionNumberSteps.{steps, finishes}
 use Rattle.st_parse_faults.proofs.JudgingLemmas as judging
 use Rattle.st_parse_faults.proofs.JudgingLemmas.{never_passes}
 use Rattle.st_parse_faults.proofs.Verdicts.{verdict_reads}
