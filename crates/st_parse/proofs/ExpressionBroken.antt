@@ -26,7 +26,7 @@ use Rattle.st_parse_faults.proofs.JudgingLemmas.{OfGrammar, grammar_s1, grammar_
 use Rattle.st_parse_faults.proofs.LeftOutForms.{Same}
 use Rattle.st_parse_faults.proofs.PositionNumberFacts.{no_way}
 use Rattle.st_parse.specs.Expressions.{ParseExpressions, terminals_of, RefusedAt}
-use Rattle.st_parse.specs.ExpressionReading.{State, start, step, finish, reading}
+use Rattle.st_parse.specs.inner.ExpressionReading.{State, start, step, finish, reading}
 use Rattle.st_parse.specs.ExpressionFaults.{expressions_numbers, Faultless, FrontKept, SignLeftOut, WordLeftOut, LeftOut, PassesLimit, BeginsLeftOut, IsRefused, FirstFault}
 use Rattle.st_parse.specs.inner.ExpressionFolding.{Seen, refusal, judged, verdict, AllPass, FirstBreak}
 use Rattle.st_parse.proofs.ExpressionReadings.{complete, sound, viable}

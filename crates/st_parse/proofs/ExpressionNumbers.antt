@@ -19,7 +19,8 @@ use Rattle.st_grammar.specs.Reading as part
 use Rattle.st_grammar.specs.Positions as positions
 use Rattle.st_grammar.proofs.PositionSteps.{signed_is}
 use Rattle.st_grammar.proofs.PositionTexts as texts
-use Rattle.st_parse_faults.specs.Nesting.{nesting_after, brackets_behind, frame_bars, part_bars, may_open}
+use Rattle.st_parse_faults.specs.Nesting.{nesting_after, brackets_behind}
+use Rattle.st_parse_faults.specs.inner.Bars.{frame_bars, part_bars, may_open}
 use Rattle.st_parse_faults.specs.inner.Limits.{part_tallies, tally_passes}
 use Rattle.st_parse_faults.specs.inner.Judging.{passed, broken, limited, judge_all}
 use Rattle.st_parse_faults.specs.Number.{Number, too_deep, too_many}
@@ -34,7 +35,7 @@ use Rattle.st_parse_faults.proofs.NumberSteps.{lowers, part_steps, part_ends}
 use Rattle.st_parse_faults.proofs.JudgingLemmas as judging
 use Rattle.st_parse_faults.proofs.JudgingLemmas.{never_passes}
 use Rattle.st_parse.specs.Expressions.{ParseExpressions, terminals_of}
-use Rattle.st_parse.specs.ExpressionReading.{State, begun, turn, goes, step, whole, finish, reading, start}
+use Rattle.st_parse.specs.inner.ExpressionReading.{State, begun, turn, goes, step, whole, finish, reading, start}
 use Rattle.st_parse.specs.ExpressionFaults.{expression_numbers, expressions_numbers, FrontKept, PassesLimit}
 use Rattle.st_parse.specs.inner.ExpressionFolding as folding
 use Rattle.st_parse.specs.inner.ExpressionFolding.{Seen, opens_too_many, seen_after, refusal, judged, judge, verdict, nothing_seen}

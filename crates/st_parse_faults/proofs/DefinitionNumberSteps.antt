@@ -25,7 +25,8 @@ use Rattle.st_parse_faults.specs.Number as number
 use Rattle.st_parse_faults.specs.Number.{Number, too_deep, too_many}
 use Rattle.st_parse_faults.specs.Numbers.{label_entry, open_entry, numbers}
 use Rattle.st_parse_faults.specs.DefinitionNumbers.{members_size, defs_size, word_entry, word_numbers, hints_numbers, alone, member_begins, field_numbers, case_numbers, args_numbers, def_begins, defs_numbers}
-use Rattle.st_parse_faults.specs.Nesting.{nesting_after, brackets_behind, bars, may_open}
+use Rattle.st_parse_faults.specs.Nesting.{nesting_after, brackets_behind}
+use Rattle.st_parse_faults.specs.inner.Bars.{bars, may_open}
 use Rattle.st_parse_faults.specs.inner.Limits.{part_passes}
 use Rattle.st_parse_faults.specs.inner.PositionNumbers.{head_numbers, host_depth, host_numbers, read_numbers, brackets, counts, args_size, defs_counts, counts_in}
 use Rattle.st_parse_faults.proofs.NumberFacts.{or_false}

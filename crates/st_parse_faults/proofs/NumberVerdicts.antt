@@ -19,7 +19,8 @@ use Rattle.st_grammar.proofs.PositionComplete.{reading_append, complete_defs}
 use Rattle.st_parse_automaton.specs.Refusal.{terminals_of}
 use Rattle.st_parse_automaton.proofs.Loop.{last_step, one_more}
 use Rattle.st_parse_faults.specs.inner.Counts.{member_due, event, counts_after, counts_pass}
-use Rattle.st_parse_faults.specs.Nesting.{nesting_after, brackets_behind, bars, may_open}
+use Rattle.st_parse_faults.specs.Nesting.{nesting_after, brackets_behind}
+use Rattle.st_parse_faults.specs.inner.Bars.{bars, may_open}
 use Rattle.st_parse_faults.specs.inner.Limits.{part_passes}
 use Rattle.st_parse_faults.specs.inner.Judging.{passed, broken, limited, judge_all}
 use Rattle.st_parse_faults.specs.inner.Folding as faults

@@ -12,7 +12,8 @@ use Rattle.st_parse_faults.specs.declared.counts.Event.TheVariants.{Nothing}
 use Rattle.st_parse_faults.specs.inner.Counts.{member_due, event, counts_after, counts_pass}
 use Rattle.st_parse_faults.specs.Number.{Number, too_deep, too_many}
 use Rattle.st_parse_faults.specs.Numbers.{open_entry}
-use Rattle.st_parse_faults.specs.Nesting.{nesting_after, bars, may_open}
+use Rattle.st_parse_faults.specs.Nesting.{nesting_after}
+use Rattle.st_parse_faults.specs.inner.Bars.{bars, may_open}
 use Rattle.st_parse_faults.specs.inner.Limits.{part_passes}
 use Rattle.st_parse_faults.specs.inner.PositionNumbers.{read_numbers, brackets, counts_in}
 use Rattle.st_parse_faults.proofs.KeptTallies.{neither}

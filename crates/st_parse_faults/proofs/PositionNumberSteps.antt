@@ -15,7 +15,7 @@ use Rattle.st_grammar.proofs.PositionReading.{filled_reached}
 use Rattle.st_grammar.proofs.Sound.{and_left, state_base}
 use Rattle.st_parse_faults.specs.Numbers.{context, numbers}
 use Rattle.st_parse_faults.specs.DefinitionNumbers.{defs_numbers}
-use Rattle.st_parse_faults.specs.Nesting.{frame_bars, part_bars, bars}
+use Rattle.st_parse_faults.specs.inner.Bars.{frame_bars, part_bars, bars}
 use Rattle.st_parse_faults.specs.Signs.{signs, all_signs}
 use Rattle.st_parse_faults.specs.inner.Limits.{signs_in, fresh, part_tallies, signs_before, tally_passes, part_passes}
 use Rattle.st_parse_faults.specs.inner.Numbering.{frame_brackets, part_brackets}

@@ -1,6 +1,6 @@
 -- What must be believed of the faults of tokens, in reading order.
 
--- how many brackets and bars of lengths are open
+-- how many brackets are open
 pub mod Nesting
 -- the signs of a tree
 pub mod Signs
