@@ -12,6 +12,7 @@ use Rattle.st_parse_faults.specs.inner.LeftOut.{is_type_in, type_or_other, befor
 use Rattle.st_parse_faults.specs.FormsLeftOut.{EndWithSyntax, EndWithDashes}
 use Rattle.st_parse_faults.proofs.PositionNumberFacts.{no_way}
 
+-- what stands before the next token, by the tokens that are read
 abbrev pub Told : State → Before → Type 0
 Told st before.SyntaxName = EndWithSyntax (texts.seen st)
 Told st before.Dashes = EndWithDashes (texts.seen st)

@@ -1,5 +1,4 @@
--- What a token between the parts of definitions adds, told of what stands before it: its entry, and
--- what is counted and open behind it.
+-- What a token between the parts of definitions adds, by what stands before it.
 use Rattle.std.proofs.Common.{◌≡◌, ℕ, ◌+◌, ◌-◌, ◌≤◌, List, [], ◌∷◌, ◌++◌, Bool, true, false, ◌&&◌, ◌||◌, Option, Some, None, nat_lt, if◌then◌else◌, refl, sym, ap, ◌∙◌, arith}
 use Rattle.std.specs.List.{list_any}
 use Rattle.st_num.specs.declared.limit.TheConstants.{HIGHEST_TREE}

@@ -1,4 +1,4 @@
--- The tokens of premises between their parts add their entries.
+-- Premises add the entries of their tokens.
 use Rattle.std.proofs.Common.{◌≡◌, ◌+◌, ◌-◌, List, [], ◌∷◌, ◌++◌, length, true, false, ◌&&◌, None, refl, sym, ap, ◌∙◌, append_assoc, append-nil, length-append, arith}
 use Rattle.st_grammar.specs.declared.keyword.Keyword.{Keyword}
 use Rattle.st_grammar.specs.declared.keyword.Keyword.TheVariants as key
@@ -18,8 +18,6 @@ use Rattle.st_parse_faults.specs.DefinitionNumbers.{alone, paren_numbers, iterat
 use Rattle.st_parse_faults.specs.inner.PositionNumbers.{ruled_numbers, slot_numbers}
 use Rattle.st_parse_faults.proofs.PositionNumberFacts.{still_nests, is_word, signed_still, relation_still, word_still, round_opens, round_closes, parens_more, given_numbers}
 use Rattle.st_parse_faults.proofs.NumberedSteps.{Front, front_of, Step, StepTo, step_if, step_both, step_when, same_step, flat, quiet, opener}
-
--- ---- premises
 
 premise_opens : (r : Rule) (t : Tree) (ps : Premises) (d : Terminal) (os : List Terminal) (l : Terminal) → opens_round l ≡ true → event false (at (premise_open r t ps d (os ++ l ∷ []))) ≡ Nothing
     → Step (front_of (at (premise_open r t ps d os))) l (at (premise_open r t ps d (os ++ l ∷ [])))
