@@ -1,5 +1,5 @@
 -- Where a token begins a form that is left out is told by the tokens before it.
-use Rattle.std.proofs.Common.{◌≡◌, ℕ, List, Bool, true, ◌==◌, Some, None, refl, subst, arith}
+use Rattle.std.proofs.Common.{◌≡◌, ℕ, List, Some, None, refl, subst}
 use Rattle.st_num.specs.declared.mark.Mark.{Mark}
 use Rattle.st_num.specs.declared.mark.Mark.TheVariants as mark
 use Rattle.st_num.specs.declared.word.Word.{Word}
@@ -12,7 +12,6 @@ use Rattle.st_grammar.specs.Positions.{State, step, reading, start}
 use Rattle.st_grammar.proofs.PositionTexts as texts
 use Rattle.st_grammar.proofs.PositionTexts.{Holds}
 use Rattle.st_grammar.proofs.PositionReading.{reached_by}
-use Rattle.st_grammar.proofs.PositionSteps.{is_same}
 use Rattle.st_parse_faults.specs.inner.LeftOut.{before_next, sign_left_out, word_left_out, left_out}
 use Rattle.st_parse_faults.specs.Nesting.{brackets_behind}
 use Rattle.st_parse_faults.specs.FormsLeftOut.{EndWithSyntax, EndWithDashes, SignLeftOut, WordLeftOut, KindLeftOut, LeftOut}
@@ -20,13 +19,7 @@ use Rattle.st_parse_faults.proofs.PositionNumberFacts.{no_way}
 use Rattle.st_parse_faults.proofs.LeftOutBefore.{told, syntax_told, dashes_told, typ_told}
 use Rattle.st_parse_faults.proofs.LeftOutWords.{dashes_back, syntax_back}
 use Rattle.st_parse_faults.proofs.LeftOutSigns.{star_follows, plus_marks, caret_marks, typ_back}
-
--- the two tell the same
-abbrev pub Same : Bool → Type 0 → Type 0
-Same b A = (b ≡ true → A) × (A → b ≡ true)
-
-zero_is : (n : ℕ) → Same (n == 0) (n ≡ 0)
-zero_is n = (λ e. is_same n 0 e, λ e. grind arith)
+use Rattle.st_parse_faults.proofs.FaultRules.{Same, zero_is}
 
 module _ (names : List (List ℕ)) (us : List Terminal) (st : State) (x : Token) (read : reading start us ≡ Some st) where
   held : Holds st

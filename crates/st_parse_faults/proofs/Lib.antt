@@ -18,7 +18,9 @@ pub mod DefinitionNumberSteps
 pub mod PremiseNumberSteps
 pub mod PartNumberSteps
 pub mod PositionNumberSteps
+pub mod Entries
 pub mod NumberVerdicts
+pub mod FaultRules
 pub mod LeftOutBefore
 pub mod UntakenSigns
 pub mod LeftOutWords

@@ -12,8 +12,10 @@ pub mod Numbers
 pub mod DefinitionNumbers
 -- the tokens that begin a form that is left out, by the tokens before them
 pub mod FormsLeftOut
--- the first token that breaks a rule, and the rule
+-- the first token of a text that breaks a rule, and the rule
 pub mod Faults
+-- that of definitions
+pub mod DefinitionFaults
 -- where a token stands in the text
 pub mod Place
 -- ---- what only proofs need
