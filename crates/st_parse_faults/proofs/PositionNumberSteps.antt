@@ -15,11 +15,11 @@ use Rattle.st_grammar.proofs.PositionReading.{filled_reached}
 use Rattle.st_grammar.proofs.Sound.{and_left, state_base}
 use Rattle.st_parse_faults.specs.Numbers.{context, numbers}
 use Rattle.st_parse_faults.specs.DefinitionNumbers.{defs_numbers}
-use Rattle.st_parse_faults.specs.inner.Bars.{frame_bars, part_bars, bars}
+use Rattle.st_parse_faults.specs.inner.Bars.{frame_bars, part_bars}
 use Rattle.st_parse_faults.specs.Signs.{signs, all_signs}
 use Rattle.st_parse_faults.specs.inner.Limits.{signs_in, fresh, part_tallies, signs_before, tally_passes, part_passes}
 use Rattle.st_parse_faults.specs.inner.Numbering.{frame_brackets, part_brackets}
-use Rattle.st_parse_faults.specs.inner.PositionNumbers.{host_depth, host_numbers, slot_numbers, slot_depth, slot_begins, slot_context, position_numbers, read_numbers, brackets}
+use Rattle.st_parse_faults.specs.inner.PositionNumbers.{host_depth, host_numbers, slot_numbers, slot_depth, slot_begins, slot_context, position_numbers, read_numbers}
 use Rattle.st_parse_faults.proofs.NumberFacts.{or_false, no_test}
 use Rattle.st_parse_faults.proofs.NumberBegins as inner
 use Rattle.st_parse_faults.proofs.NumberSteps.{got_low, lowers, part_steps, part_ends}
